@@ -1,0 +1,2 @@
+//! Sums, counts and maxima over the numbers below a bound, with their laws.
+#![tactic(auto)]
