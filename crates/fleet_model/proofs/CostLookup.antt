@@ -1,0 +1,107 @@
+-- Which entry of a list of costs `cost_in` finds.
+use Rattle.std.proofs.Common.{◌≡◌, ℕ, zero, suc, ◌+◌, ◌<◌, ◌≤◌, List, [], ◌∷◌, length, Bool, true, false, Option, Some, None, slice_index_or, refl, ap, inl, inr, ◌≢◌, arith}
+use mathlib.Core.Bool.{false≢true}
+use Rattle.std.proofs.Common.{sym, Result, Ok, Err, MatchResult, IsTrue}
+use Rattle.std.specs.List.{IsAllAdjacentAnswer}
+use Rattle.std.specs.List.Sorted.{IsSearchInRange, IsBinarySearchResult, IsNonDecreasingBy}
+use Rattle.std.specs.declared.cmp.Ordering.{Ordering}
+use Rattle.std.specs.declared.cmp.Ordering.TheVariants.{Less, Equal, Greater}
+use Rattle.std.specs.Ordering.{nat_cmp, ordering_then, ordering_index}
+use Rattle.std.proofs.lemmas.List.Sorted.{IsNonDecreasingBy-from_default}
+use Rattle.std.proofs.lemmas.Bool.{cases_lt}
+use Rattle.std.proofs.lemmas.Bool.Decides.{nat_tests}
+use Rattle.fleet_model.specs.declared.parts.Pair.{Pair}
+use Rattle.fleet_model.specs.declared.parts.PairCost.{PairCost}
+use Rattle.fleet_model.specs.Costs.{cost_in, is_of, no_cost, comes_before, Rise}
+
+-- no entry before this place is of the pair
+pub record NoneBefore (entries : List PairCost) (pair : Pair) (place : ℕ) : Type 0 where
+  pub each : (k : ℕ) → k < place → is_of pair (slice_index_or entries k no_cost) ≡ false
+
+none_in_tail : (entry : PairCost) (entries : List PairCost) (pair : Pair) (place : ℕ) → NoneBefore (entry ∷ entries) pair (suc place) → NoneBefore entries pair place
+none_in_tail entry entries pair place none = record { each = λ k below. none.each (suc k) (omega arith) }
+
+-- the first entry of a pair gives its cost
+pub cost_found : (entries : List PairCost) (pair : Pair) (place : ℕ) → place < length entries → is_of pair (slice_index_or entries place no_cost) ≡ true → NoneBefore entries pair place
+    → cost_in entries pair ≡ Some (slice_index_or entries place no_cost).cost
+cost_found [] pair place within found none = absurd (omega arith)
+cost_found (entry ∷ entries) pair zero within found none = rw found refl
+cost_found (entry ∷ entries) pair (suc place) within found none =
+    rw (none.each 0 (omega arith)) (cost_found entries pair place (omega arith) found (none_in_tail entry entries pair place none))
+
+-- a pair of which there is no entry has no cost
+pub cost_missing : (entries : List PairCost) (pair : Pair) → NoneBefore entries pair (length entries) → cost_in entries pair ≡ None
+cost_missing [] pair none = refl
+cost_missing (entry ∷ entries) pair none =
+    rw (none.each 0 (omega arith)) (cost_missing entries pair (none_in_tail entry entries pair _ none))
+
+-- the order of entries by their pairs is transitive
+before_trans : (a b c : PairCost) → comes_before a b ≡ true → comes_before b c ≡ true → comes_before a c ≡ true
+before_trans a b c first second = grind (arith, nat_tests)
+
+-- each entry comes before the next one
+pub record RiseByStep (entries : List PairCost) : Type 0 where
+  pub each : (k next : ℕ) → next ≡ k + 1 → next < length entries → comes_before (slice_index_or entries k no_cost) (slice_index_or entries next no_cost) ≡ true
+
+-- so it comes before all those after it
+pub rise_from_steps : (entries : List PairCost) → RiseByStep entries → Rise entries
+rise_from_steps entries steps i zero earlier within = absurd (omega arith)
+rise_from_steps entries steps i (suc j) earlier within = elim (cases_lt i j) [
+  | inl before ↦ before_trans (slice_index_or entries i no_cost) (slice_index_or entries j no_cost) (slice_index_or entries (suc j) no_cost)
+      (rise_from_steps entries steps i j before (omega arith)) (steps.each j (suc j) (omega arith) within)
+  | inr after ↦ steps.each i (suc j) (omega arith) within
+]
+
+-- an entry of a pair, among entries that rise, is the first of it
+only_before : (entries : List PairCost) (pair : Pair) (place : ℕ) → Rise entries → place < length entries → is_of pair (slice_index_or entries place no_cost) ≡ true → NoneBefore entries pair place
+only_before entries pair place rise within found = record { each = λ k below.
+    let earlier : comes_before (slice_index_or entries k no_cost) (slice_index_or entries place no_cost) ≡ true = rise k place below within in
+    grind (arith, nat_tests) }
+
+pub cost_at : (entries : List PairCost) (pair : Pair) (place : ℕ) → Rise entries → place < length entries → is_of pair (slice_index_or entries place no_cost) ≡ true
+    → cost_in entries pair ≡ Some (slice_index_or entries place no_cost).cost
+cost_at entries pair place rise within found = cost_found entries pair place within found (only_before entries pair place rise within found)
+
+-- what a test of neighbors says
+pub steps_from_answer : (entries : List PairCost) (rising : Bool) → IsAllAdjacentAnswer (λ a b answer. answer ≡ comes_before a b) entries rising → IsTrue rising → RiseByStep entries
+steps_from_answer entries true answer holds = record { each = λ k next follows within.
+    rw follows (sym (answer k no_cost (omega arith))) }
+steps_from_answer entries false answer holds = absurd (false≢true holds)
+
+-- the pair of an entry
+abbrev pub pair_of : PairCost → Pair
+pair_of entry = record { leg = entry.leg; fleet = entry.fleet }
+
+-- how an entry's pair compares with a pair
+abbrev pub order_of : Pair → PairCost → Ordering
+order_of pair entry = ordering_then (nat_cmp entry.leg pair.leg) (nat_cmp entry.fleet pair.fleet)
+
+order_equal : (a : PairCost) (pair : Pair) → order_of pair a ≡ Equal → is_of pair a ≡ true
+order_equal a pair e = grind (arith, nat_tests)
+
+order_less : (a : PairCost) (pair : Pair) → order_of pair a ≡ Less → is_of pair a ≡ false
+order_less a pair e = grind (arith, nat_tests)
+
+order_greater : (a : PairCost) (pair : Pair) → order_of pair a ≡ Greater → is_of pair a ≡ false
+order_greater a pair e = grind (arith, nat_tests)
+
+order_step : (a b : PairCost) (pair : Pair) → comes_before a b ≡ true → ordering_index (order_of pair a) ≤ ordering_index (order_of pair b)
+order_step a b pair before = grind (arith, nat_tests)
+
+-- entries that rise compare with a pair in order
+pub orders_rise : (entries : List PairCost) (pair : Pair) → Rise entries → IsNonDecreasingBy (λ entry. ordering_index (order_of pair entry)) entries
+orders_rise entries pair rise = IsNonDecreasingBy-from_default (λ entry. ordering_index (order_of pair entry)) entries no_cost (λ i j le within. elim (cases_lt i j) [
+  | inl before ↦ order_step (slice_index_or entries i no_cost) (slice_index_or entries j no_cost) pair (rise i j before within)
+  | inr after ↦ let same : i ≡ j = omega arith in rw same (omega arith)
+])
+
+-- what a bisection finds
+pub bisected : (entries : List PairCost) (pair : Pair) → Rise entries → (r : Result ℕ ℕ) → IsSearchInRange r (length entries) → IsBinarySearchResult (order_of pair) entries r
+    → MatchResult r (λ place. cost_in entries pair ≡ Some (slice_index_or entries place no_cost).cost) (λ _. cost_in entries pair ≡ None)
+bisected entries pair rise (Ok place) within equal = cost_at entries pair place rise within (order_equal (slice_index_or entries place no_cost) pair (equal no_cost))
+bisected entries pair rise (Err gap) within parted =
+    let parts = parted (orders_rise entries pair rise) in
+    cost_missing entries pair (record { each = λ k below. elim (cases_lt k gap) [
+      | inl low ↦ order_less (slice_index_or entries k no_cost) pair (parts.0 k no_cost (omega arith) low)
+      | inr high ↦ order_greater (slice_index_or entries k no_cost) pair (parts.1 k no_cost high below)
+    ] })

@@ -1,0 +1,67 @@
+-- What tables keep: their limits, numbers in range, and names that differ.
+use Rattle.std.specs.Prelude.{◌≡◌, ◌≢◌, ℕ, ◌<◌, ◌≤◌, List, length, All, AllPairs, ℤ, pos, neg_ℤ, ◌≤ℤ◌}
+use Rattle.fleet_model.specs.declared.parts.Station.{Station}
+use Rattle.fleet_model.specs.declared.parts.Fleet.{Fleet}
+use Rattle.fleet_model.specs.declared.parts.Leg.{Leg}
+use Rattle.fleet_model.specs.declared.parts.PairCost.{PairCost}
+use Rattle.fleet_model.specs.declared.parts.Through.{Through}
+use Rattle.fleet_model.specs.declared.parts.Settings.{Settings}
+use Rattle.fleet_model.specs.declared.limits.TheConstants.{MINUTES_PER_DAY, MINUTES_PER_PERIOD, MAX_STATIONS, MAX_FLEETS, MAX_LEGS, MAX_THROUGHS, MAX_AIRCRAFT, MAX_GROUND_MINUTES, MAX_COST}
+
+pub record IsStation (station : Station) : Type 0 where
+  pub extra : station.extra ≤ MAX_GROUND_MINUTES
+
+pub record IsFleet (fleet : Fleet) : Type 0 where
+  pub aircraft : fleet.aircraft ≤ MAX_AIRCRAFT
+  pub turn : fleet.turn ≤ MAX_GROUND_MINUTES
+
+-- a leg between two of so many stations
+pub record IsLeg (stations : ℕ) (leg : Leg) : Type 0 where
+  pub from : leg.from < stations
+  pub to : leg.to < stations
+  pub dep : leg.dep < MINUTES_PER_PERIOD
+  pub some_block : 0 < leg.block
+  pub block : leg.block < MINUTES_PER_DAY
+
+-- the cost of a pair of so many legs and fleets
+pub record IsPairCost (legs fleets : ℕ) (entry : PairCost) : Type 0 where
+  pub leg : entry.leg < legs
+  pub fleet : entry.fleet < fleets
+  pub no_less : neg_ℤ MAX_COST ≤ℤ entry.cost
+  pub no_more : entry.cost ≤ℤ MAX_COST
+
+pub record IsThrough (legs : ℕ) (entry : Through) : Type 0 where
+  pub arriving : entry.arriving < legs
+  pub departing : entry.departing < legs
+  pub no_less : pos 0 ≤ℤ entry.value
+  pub no_more : entry.value ≤ℤ MAX_COST
+
+pub record AreSettings (settings : Settings) : Type 0 where
+  pub day_start : settings.day_start < MINUTES_PER_DAY
+  pub through_max : settings.through_max < MINUTES_PER_DAY
+
+-- two entries are of one pair
+pub record SamePair (a b : PairCost) : Type 0 where
+  pub leg : a.leg ≡ b.leg
+  pub fleet : a.fleet ≡ b.fleet
+
+pub record SameThrough (a b : Through) : Type 0 where
+  pub arriving : a.arriving ≡ b.arriving
+  pub departing : a.departing ≡ b.departing
+
+pub record AreTables (stations : List Station) (fleets : List Fleet) (legs : List Leg) (costs : List PairCost) (throughs : List Through) (settings : Settings) : Type 0 where
+  pub few_stations : length stations ≤ MAX_STATIONS
+  pub few_fleets : length fleets ≤ MAX_FLEETS
+  pub few_legs : length legs ≤ MAX_LEGS
+  pub few_throughs : length throughs ≤ MAX_THROUGHS
+  pub stations_fit : All IsStation stations
+  pub fleets_fit : All IsFleet fleets
+  pub legs_fit : All (IsLeg (length stations)) legs
+  pub costs_fit : All (IsPairCost (length legs) (length fleets)) costs
+  pub throughs_fit : All (IsThrough (length legs)) throughs
+  pub settings_fit : AreSettings settings
+  pub codes_differ : AllPairs (λ a b. a.code ≢ b.code) stations
+  pub names_differ : AllPairs (λ a b. a.name ≢ b.name) fleets
+  pub flights_differ : AllPairs (λ a b. a.flight ≢ b.flight) legs
+  pub pairs_differ : AllPairs (λ a b. ¬ (SamePair a b)) costs
+  pub throughs_differ : AllPairs (λ a b. ¬ (SameThrough a b)) throughs

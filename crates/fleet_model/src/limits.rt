@@ -1,0 +1,27 @@
+/// The minutes of a day. Clock times, blocks and nights are reckoned by the day.
+pub const MINUTES_PER_DAY: u16 = 1440;
+
+/// The minutes of the period after which the schedule repeats: one day. Ready minutes, balance and the
+/// minutes at which aircraft are counted are reckoned by the period.
+pub const MINUTES_PER_PERIOD: u16 = MINUTES_PER_DAY;
+
+/// The most stations that tables have.
+pub const MAX_STATIONS: usize = 200;
+
+/// The most fleets that tables have.
+pub const MAX_FLEETS: usize = 20;
+
+/// The most legs that tables have.
+pub const MAX_LEGS: usize = 1000;
+
+/// The most through pairs that tables have.
+pub const MAX_THROUGHS: usize = 2000;
+
+/// The most aircraft of a fleet.
+pub const MAX_AIRCRAFT: u32 = 500;
+
+/// The longest turn of a fleet and the longest extra time of a station, in minutes.
+pub const MAX_GROUND_MINUTES: u16 = 600;
+
+/// The greatest size of a cost, and the greatest value of a through pair, in cost units.
+pub const MAX_COST: i128 = 1_000_000_000_000;

@@ -1,0 +1,73 @@
+use entries::Entries;
+
+/// A station.
+#[derive(Debug, Drop)]
+pub struct Station {
+    /// Three capital letters.
+    pub code: Entries<u8>,
+    /// Minutes that a turn takes here beside the fleet's own.
+    pub extra: u16,
+    /// Whether an aircraft can be maintained here at night.
+    pub maintenance: bool,
+}
+
+/// A fleet: the aircraft of one type.
+#[derive(Debug, Drop)]
+pub struct Fleet {
+    /// One to eight capital letters and digits.
+    pub name: Entries<u8>,
+    /// How many aircraft it has.
+    pub aircraft: u32,
+    /// Minutes from landing until an aircraft of it can depart again.
+    pub turn: u16,
+}
+
+/// A leg: one flight of the schedule, flown once a period.
+#[derive(Debug, Drop)]
+pub struct Leg {
+    /// One to eight capital letters and digits.
+    pub flight: Entries<u8>,
+    /// The station of departure, by its number.
+    pub from: u32,
+    /// The minute of departure, counted from the day start.
+    pub dep: u16,
+    /// The station of arrival, by its number.
+    pub to: u32,
+    /// Minutes from departure to arrival.
+    pub block: u16,
+}
+
+/// A leg flown by a fleet, both by number: what an assignment chooses, a cost is for and a subproblem keeps.
+/// Pairs are ordered by leg, then fleet.
+#[derive(Clone, Copy, Debug, PartialEq, Eq, PartialOrd, Ord)]
+pub struct Pair {
+    pub leg: u32,
+    pub fleet: u32,
+}
+
+/// What it costs to fly a leg with a fleet, in cost units.
+#[derive(Clone, Copy, Debug, PartialEq, Eq)]
+pub struct PairCost {
+    pub leg: u32,
+    pub fleet: u32,
+    pub cost: i128,
+}
+
+/// Two legs that passengers would like to fly in one aircraft, and what that is worth, in cost units.
+#[derive(Clone, Copy, Debug, PartialEq, Eq)]
+pub struct Through {
+    /// The leg that arrives.
+    pub arriving: u32,
+    /// The leg that departs.
+    pub departing: u32,
+    pub value: i128,
+}
+
+/// What the command line says of the tables.
+#[derive(Clone, Copy, Debug, PartialEq, Eq)]
+pub struct Settings {
+    /// The clock minute at which the day starts; minutes of departure are counted from it.
+    pub day_start: u16,
+    /// The longest wait between the two legs of a through pair, in minutes.
+    pub through_max: u16,
+}

@@ -1,0 +1,18 @@
+ghost use Rattle.fleet_model.specs.Limits.{AreTables};
+
+use crate::costs::Costs;
+use crate::parts::{Fleet, Leg, Settings, Station, Through};
+use entries::Entries;
+
+/// A schedule with its stations, fleets, costs and through pairs, all within their limits. Stations, fleets
+/// and legs go by their numbers, which are their places in these lists.
+#[derive(Debug, Drop)]
+pub struct Tables {
+    pub stations: Entries<Station>,
+    pub fleets: Entries<Fleet>,
+    pub legs: Entries<Leg>,
+    pub costs: Costs,
+    pub throughs: Entries<Through>,
+    pub settings: Settings,
+    pub ghost in_range: { AreTables stations fleets legs costs throughs settings },
+}
