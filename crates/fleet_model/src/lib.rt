@@ -1,11 +1,16 @@
 //! Schedules, fleets and assignments, and what they mean: times, counts, need, use, legal and cost.
 #![tactic(auto)]
 
+pub mod access;
+pub mod assignments;
 pub mod costs;
 pub mod limits;
 pub mod parts;
 pub mod tables;
+pub mod times;
 
+pub use assignments::Assignment;
 pub use costs::Costs;
 pub use parts::{Fleet, Leg, Pair, PairCost, Settings, Station, Through};
 pub use tables::Tables;
+pub use times::{busy, nights, ready};

@@ -1,0 +1,39 @@
+-- Departures and arrivals, counted over legs by weights. An assignment weighs its own pairs 1 and all others 0;
+-- a fractional assignment weighs as it says.
+use Rattle.std.specs.Prelude.{◌≡◌, ℕ, Bool, ◌==◌, ◌&&◌, nat_lt, nat_le, if◌then◌else◌, List, slice_index, length}
+use Rattle.sums.specs.Below.{sum_below}
+use Rattle.fleet_model.specs.declared.parts.Pair.{Pair}
+use Rattle.fleet_model.specs.declared.tables.Tables.{Tables}
+use Rattle.fleet_model.specs.Schedule.{leg_of, legs_in}
+use Rattle.fleet_model.specs.Times.{departure, ready_minute}
+
+-- a weight for each pair
+abbrev pub Weights : Type 0
+Weights = Pair → ℕ
+
+-- the fleet of a leg by an assignment, which is a list of fleets, one a leg
+abbrev pub fleet_at : List ℕ → ℕ → ℕ
+fleet_at a l = slice_index a l
+
+-- the pair that an assignment has of a leg
+abbrev pub pair_at : List ℕ → ℕ → Pair
+pair_at a l = record { leg = l; fleet = fleet_at a l }
+
+abbrev pub weights_of : List ℕ → Weights
+weights_of a p = if fleet_at a p.leg == p.fleet then 1 else 0
+
+-- the leg departs from the station by the end of the minute
+abbrev pub has_left : Tables → Pair → ℕ → ℕ → Bool
+has_left t p s m = ((leg_of t p.leg).from == s) && nat_le (departure t p) m
+
+-- the leg lands at the station, and its aircraft is ready by the end of the minute
+abbrev pub has_come : Tables → Pair → ℕ → ℕ → Bool
+has_come t p s m = ((leg_of t p.leg).to == s) && nat_le (ready_minute t p) m
+
+-- a fleet's departures from a station by the end of a minute
+unfoldable pub departed : Tables → Weights → ℕ → ℕ → ℕ → ℕ
+departed t w f s m = sum_below (λ l. if has_left t (record { leg = l; fleet = f }) s m then w (record { leg = l; fleet = f }) else 0) (legs_in t)
+
+-- a fleet's aircraft that have become ready at a station by the end of a minute
+unfoldable pub arrived : Tables → Weights → ℕ → ℕ → ℕ → ℕ
+arrived t w f s m = sum_below (λ l. if has_come t (record { leg = l; fleet = f }) s m then w (record { leg = l; fleet = f }) else 0) (legs_in t)

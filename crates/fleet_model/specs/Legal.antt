@@ -1,0 +1,36 @@
+-- Which assignments are legal, and what they cost.
+use Rattle.std.specs.Prelude.{◌≡◌, ℕ, ◌<◌, ◌≤◌, List, length, Option, IsSome, unwrap_or, ℤ, pos}
+use Rattle.sums.specs.Below.{sum_below_ℤ}
+use Rattle.fleet_model.specs.declared.parts.Pair.{Pair}
+use Rattle.fleet_model.specs.declared.tables.Tables.{Tables}
+use Rattle.fleet_model.specs.Schedule.{fleet_of, fleets_in, legs_in}
+use Rattle.fleet_model.specs.Costs.{cost_in}
+use Rattle.fleet_model.specs.Counts.{fleet_at, pair_at, weights_of}
+use Rattle.fleet_model.specs.Use.{IsBalanced, used_of}
+
+-- what a pair costs, where it may be flown
+abbrev pub cost_of : Tables → Pair → Option ℤ
+cost_of t p = cost_in t.costs p
+
+-- a list of fleets, one a leg
+pub record IsAssignment (t : Tables) (a : List ℕ) : Type 0 where
+  pub each_leg : length a ≡ legs_in t
+  pub known : (l : ℕ) → l < legs_in t → fleet_at a l < fleets_in t
+
+-- each leg may be flown by its fleet
+pub record IsAllowed (t : Tables) (a : List ℕ) : Type 0 where
+  pub each : (l : ℕ) → l < legs_in t → IsSome (cost_of t (pair_at a l))
+
+-- no fleet uses more aircraft than it has
+pub record IsWithinFleets (t : Tables) (a : List ℕ) : Type 0 where
+  pub each : (f : ℕ) → f < fleets_in t → used_of t (weights_of a) f ≤ (fleet_of t f).aircraft
+
+pub record IsLegal (t : Tables) (a : List ℕ) : Type 0 where
+  pub assignment : IsAssignment t a
+  pub allowed : IsAllowed t a
+  pub balanced : IsBalanced t (weights_of a)
+  pub within : IsWithinFleets t a
+
+-- the costs of an assignment's pairs, added up
+unfoldable pub total_cost : Tables → List ℕ → ℤ
+total_cost t a = sum_below_ℤ (λ l. unwrap_or (cost_of t (pair_at a l)) (pos 0)) (legs_in t)
