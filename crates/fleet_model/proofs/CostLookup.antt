@@ -54,9 +54,11 @@ rise_from_steps entries steps i (suc j) earlier within = elim (cases_lt i j) [
 
 -- an entry of a pair, among entries that rise, is the first of it
 only_before : (entries : List PairCost) (pair : Pair) (place : ℕ) → Rise entries → place < length entries → is_of pair (slice_index_or entries place no_cost) ≡ true → NoneBefore entries pair place
-only_before entries pair place rise within found = record { each = λ k below.
-    let earlier : comes_before (slice_index_or entries k no_cost) (slice_index_or entries place no_cost) ≡ true = rise k place below within in
-    grind (arith, nat_tests) }
+only_before entries pair place rise within found = record {
+  each = λ k below.
+      let earlier : comes_before (slice_index_or entries k no_cost) (slice_index_or entries place no_cost) ≡ true = rise k place below within in
+      grind (arith, nat_tests);
+}
 
 pub cost_at : (entries : List PairCost) (pair : Pair) (place : ℕ) → Rise entries → place < length entries → is_of pair (slice_index_or entries place no_cost) ≡ true
     → cost_in entries pair ≡ Some (slice_index_or entries place no_cost).cost
@@ -64,8 +66,10 @@ cost_at entries pair place rise within found = cost_found entries pair place wit
 
 -- what a test of neighbors says
 pub steps_from_answer : (entries : List PairCost) (rising : Bool) → IsAllAdjacentAnswer (λ a b answer. answer ≡ comes_before a b) entries rising → IsTrue rising → RiseByStep entries
-steps_from_answer entries true answer holds = record { each = λ k next follows within.
-    rw follows (sym (answer k no_cost (omega arith))) }
+steps_from_answer entries true answer holds = record {
+  each = λ k next follows within.
+      rw follows (sym (answer k no_cost (omega arith)));
+}
 steps_from_answer entries false answer holds = absurd (false≢true holds)
 
 -- the pair of an entry
@@ -101,7 +105,9 @@ pub bisected : (entries : List PairCost) (pair : Pair) → Rise entries → (r :
 bisected entries pair rise (Ok place) within equal = cost_at entries pair place rise within (order_equal (slice_index_or entries place no_cost) pair (equal no_cost))
 bisected entries pair rise (Err gap) within parted =
     let parts = parted (orders_rise entries pair rise) in
-    cost_missing entries pair (record { each = λ k below. elim (cases_lt k gap) [
-      | inl low ↦ order_less (slice_index_or entries k no_cost) pair (parts.0 k no_cost (omega arith) low)
-      | inr high ↦ order_greater (slice_index_or entries k no_cost) pair (parts.1 k no_cost high below)
-    ] })
+    cost_missing entries pair (record {
+      each = λ k below. elim (cases_lt k gap) [
+        | inl low ↦ order_less (slice_index_or entries k no_cost) pair (parts.0 k no_cost (omega arith) low)
+        | inr high ↦ order_greater (slice_index_or entries k no_cost) pair (parts.1 k no_cost high below)
+      ];
+    })

@@ -1,1 +1,3 @@
 pub mod CostLookup
+pub mod Periods
+pub mod UseLaws

@@ -18,7 +18,7 @@ impl Model for Assignment {
 
     ghost view = { λ assignment. take assignment.legs assignment.fleets };
 
-    ghost invariant = { λ assignment. assignment.legs ≤ 1000 };
+    ghost invariant = { λ assignment. assignment.legs ≤ MAX_LEGS };
 }
 
 impl Assignment {

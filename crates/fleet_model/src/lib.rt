@@ -4,6 +4,7 @@
 pub mod access;
 pub mod assignments;
 pub mod costs;
+pub mod laws;
 pub mod limits;
 pub mod parts;
 pub mod tables;
@@ -13,4 +14,4 @@ pub use assignments::Assignment;
 pub use costs::Costs;
 pub use parts::{Fleet, Leg, Pair, PairCost, Settings, Station, Through};
 pub use tables::Tables;
-pub use times::{busy, nights, ready};
+pub use times::{busy, laps, nights, ready};

@@ -1,6 +1,6 @@
 ghost use Rattle.std.specs.Prelude.{◌≡◌, ◌<◌, ◌≤◌};
 ghost use Rattle.fleet_model.specs.Schedule.{fleets_in, legs_in};
-ghost use Rattle.fleet_model.specs.Times.{busy_minutes, ready_minute, nights_of};
+ghost use Rattle.fleet_model.specs.Times.{busy_minutes, laps_of, nights_of, ready_minute};
 ghost use Rattle.fleet_model.specs.declared.limits.TheConstants.{MINUTES_PER_PERIOD};
 
 use crate::limits::{MINUTES_PER_DAY, MINUTES_PER_PERIOD};
@@ -37,4 +37,15 @@ pub fn nights(tables: &Tables, leg: u32, fleet: u32) -> u32
     ensures few { result ≤ 2 }
 {
     u32::from((tables.leg(leg).dep + busy(tables, leg, fleet)) / MINUTES_PER_DAY)
+}
+
+/// How many period starts lie between a leg's departure and the minute at which its aircraft, of this fleet, can
+/// depart again. A period is a day, so these are the nights. Takes no memory.
+pub fn laps(tables: &Tables, leg: u32, fleet: u32) -> u32
+    requires leg { leg < legs_in tables.now }
+    requires fleet { fleet < fleets_in tables.now }
+    ensures value { result ≡ laps_of tables.now (record { leg = leg; fleet = fleet }) }
+    ensures few { result ≤ 2 }
+{
+    u32::from((tables.leg(leg).dep + busy(tables, leg, fleet)) / MINUTES_PER_PERIOD)
 }

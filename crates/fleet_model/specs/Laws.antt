@@ -1,0 +1,30 @@
+-- The laws of counts, need and use, as statements.
+use Rattle.std.specs.Prelude.{◌≡◌, ℕ, ◌+◌, ◌<◌, ◌≤◌, List, ◌==◌, ◌&&◌}
+use Rattle.sums.specs.Below.{count_below}
+use Rattle.fleet_model.specs.declared.tables.Tables.{Tables}
+use Rattle.fleet_model.specs.declared.limits.TheConstants.{MINUTES_PER_PERIOD}
+use Rattle.fleet_model.specs.Counts.{Weights, weights_of, fleet_at, has_left, has_come, departed, arrived}
+use Rattle.fleet_model.specs.Schedule.{legs_in}
+use Rattle.fleet_model.specs.Use.{need_of, used_of}
+use Rattle.fleet_model.specs.Aloft.{under_way, on_the_ground}
+
+-- with this stock at the day start a fleet never lacks an aircraft at the station
+pub record Suffices (t : Tables) (w : Weights) (f s stock : ℕ) : Type 0 where
+  pub each : (m : ℕ) → m < MINUTES_PER_PERIOD → departed t w f s m ≤ stock + arrived t w f s m
+
+-- need suffices
+abbrev pub NeedSuffices : Type 0
+NeedSuffices = (t : Tables) (w : Weights) (f s : ℕ) → Suffices t w f s (need_of t w f s)
+
+-- a stock that suffices is at least need
+abbrev pub NeedIsLeast : Type 0
+NeedIsLeast = (t : Tables) (w : Weights) (f s stock : ℕ) → Suffices t w f s stock → need_of t w f s ≤ stock
+
+-- at each minute the flights of a fleet under way and its aircraft on the ground sum to those that it uses
+abbrev pub UseIsConstant : Type 0
+UseIsConstant = (t : Tables) (w : Weights) (f m : ℕ) → m < MINUTES_PER_PERIOD → under_way t w f m + on_the_ground t w f m ≡ used_of t w f
+
+-- by the weights of an assignment, departures and arrivals are numbers of its legs
+pub record CountsAreLegs (t : Tables) (a : List ℕ) (f s m : ℕ) : Type 0 where
+  pub departures : departed t (weights_of a) f s m ≡ count_below (λ l. (fleet_at a l == f) && has_left t (record { leg = l; fleet = f }) s m) (legs_in t)
+  pub arrivals : arrived t (weights_of a) f s m ≡ count_below (λ l. (fleet_at a l == f) && has_come t (record { leg = l; fleet = f }) s m) (legs_in t)

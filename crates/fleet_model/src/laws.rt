@@ -1,0 +1,26 @@
+//! The laws of need and use, over all tables and weights. Each function is a law: its contract is the statement,
+//! and it does nothing.
+ghost use Rattle.std.specs.Prelude.{ℕ, List};
+ghost use Rattle.fleet_model.specs.declared.tables.Tables.{Tables};
+ghost use Rattle.fleet_model.specs.Laws.{NeedSuffices, NeedIsLeast, UseIsConstant, CountsAreLegs};
+
+/// With `need` aircraft at the day start a fleet never lacks one at the station.
+pub fn need_suffices()
+    ensures { NeedSuffices }
+{}
+
+/// A stock with which a fleet never lacks an aircraft at the station is at least `need`.
+pub fn need_is_least()
+    ensures { NeedIsLeast }
+{}
+
+/// At each minute the flights of a fleet under way and its aircraft on the ground sum to those that it uses,
+/// balanced or not.
+pub fn use_is_constant()
+    ensures { UseIsConstant }
+{}
+
+/// By the weights of an assignment, departures and arrivals are numbers of its legs.
+pub fn counts_are_legs()
+    ensures { (t : Tables) (a : List ℕ) (f s m : ℕ) → CountsAreLegs t a f s m }
+{}
