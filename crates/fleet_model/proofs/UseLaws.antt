@@ -11,7 +11,7 @@ use Rattle.fleet_model.specs.declared.limits.TheConstants.{MINUTES_PER_PERIOD}
 use Rattle.fleet_model.specs.declared.parts.Pair.{Pair}
 use Rattle.fleet_model.specs.declared.tables.Tables.{Tables}
 use Rattle.fleet_model.specs.Limits.{IsLeg}
-use Rattle.fleet_model.specs.Schedule.{leg_of, no_leg, legs_in, stations_in}
+use Rattle.fleet_model.specs.Schedule.{leg_of, leg_on, no_leg, legs_in, stations_in}
 use Rattle.fleet_model.specs.Times.{departure, busy_minutes, ready_minute, laps_of}
 use Rattle.fleet_model.specs.Counts.{Weights, weights_of, fleet_at, has_left, has_come, departed, arrived}
 use Rattle.fleet_model.specs.Use.{excess, need_of, stand_of, laps_flown, used_of}
@@ -28,17 +28,13 @@ unfolding need_of excess
 need_is_least t w f s stock enough =
     max_below-least (excess t w f s) stock MINUTES_PER_PERIOD (record { each = λ m within. omega (arith, enough.each m within) })
 
--- a fleet's pair with a leg
-abbrev pub pair_on : ℕ → ℕ → Pair
-pair_on f l = record { leg = l; fleet = f }
-
 -- what has become ready by the end of a minute, at any station
 abbrev come_by : Tables → Weights → ℕ → ℕ → ℕ → ℕ
-come_by t w f m l = w (pair_on f l) * if_le (ready_minute t (pair_on f l)) m
+come_by t w f m l = w (leg_on l f) * if_le (ready_minute t (leg_on l f)) m
 
 -- what has left by the end of a minute, at any station
 abbrev gone_by : Tables → Weights → ℕ → ℕ → ℕ → ℕ
-gone_by t w f m l = w (pair_on f l) * if_le (departure t (pair_on f l)) m
+gone_by t w f m l = w (leg_on l f) * if_le (departure t (leg_on l f)) m
 
 -- a value that counts at one station alone
 one_station : (place value stations : ℕ) (b : Bool) → place < stations → sum_below (λ s. if (place == s) && b then value else 0) stations ≡ value * (if b then 1 else 0)
@@ -63,10 +59,10 @@ over_stations place test value stations legs known =
 
 module _ (t : Tables) (w : Weights) (f m : ℕ) (within : m < MINUTES_PER_PERIOD) where
   -- one leg: the flights under way, with what has come, are the laps with what has gone
-  leg_law : (l : ℕ) → l < legs_in t → w (pair_on f l) * aloft t (pair_on f l) m + come_by t w f m l ≡ w (pair_on f l) * laps_of t (pair_on f l) + gone_by t w f m l
+  leg_law : (l : ℕ) → l < legs_in t → w (leg_on l f) * aloft t (leg_on l f) m + come_by t w f m l ≡ w (leg_on l f) * laps_of t (leg_on l f) + gone_by t w f m l
   leg_law l below =
       let fits : IsLeg (stations_in t) (leg_of t l) = t.in_range.legs_fit l no_leg below in
-      let p = pair_on f l in
+      let p = leg_on l f in
       let x = departure t p + busy_minutes t p in
       let split : x ≡ MINUTES_PER_PERIOD * laps_of t p + ready_minute t p = omega arith in
       let law = aloft_at MINUTES_PER_PERIOD (departure t p) m (laps_of t p) (ready_minute t p) x split fits.dep within (omega arith) (omega arith) (omega arith) in
@@ -74,20 +70,20 @@ module _ (t : Tables) (w : Weights) (f m : ℕ) (within : m < MINUTES_PER_PERIOD
 
   all_come : sum_below (λ s. arrived t w f s m) (stations_in t) ≡ sum_below (come_by t w f m) (legs_in t)
   unfolding arrived
-  all_come = over_stations (λ l. (leg_of t l).to) (λ l. nat_le (ready_minute t (pair_on f l)) m) (λ l. w (pair_on f l)) (stations_in t) (legs_in t)
+  all_come = over_stations (λ l. (leg_of t l).to) (λ l. nat_le (ready_minute t (leg_on l f)) m) (λ l. w (leg_on l f)) (stations_in t) (legs_in t)
       (record { each = λ l below. (t.in_range.legs_fit l no_leg below).to })
 
   all_gone : sum_below (λ s. departed t w f s m) (stations_in t) ≡ sum_below (gone_by t w f m) (legs_in t)
   unfolding departed
-  all_gone = over_stations (λ l. (leg_of t l).from) (λ l. nat_le (departure t (pair_on f l)) m) (λ l. w (pair_on f l)) (stations_in t) (legs_in t)
+  all_gone = over_stations (λ l. (leg_of t l).from) (λ l. nat_le (departure t (leg_on l f)) m) (λ l. w (leg_on l f)) (stations_in t) (legs_in t)
       (record { each = λ l below. (t.in_range.legs_fit l no_leg below).from })
 
   -- the same, over all legs
   legs_law : under_way t w f m + sum_below (come_by t w f m) (legs_in t) ≡ laps_flown t w f + sum_below (gone_by t w f m) (legs_in t)
   unfolding laps_flown
   legs_law =
-      let out = λ (l : ℕ). w (pair_on f l) * aloft t (pair_on f l) m in
-      let flown = λ (l : ℕ). w (pair_on f l) * laps_of t (pair_on f l) in
+      let out = λ (l : ℕ). w (leg_on l f) * aloft t (leg_on l f) m in
+      let flown = λ (l : ℕ). w (leg_on l f) * laps_of t (leg_on l f) in
       omega (
         arith,
         sum_below-agree (λ l. out l + come_by t w f m l) (λ l. flown l + gone_by t w f m l) (legs_in t) (record { each = leg_law }),
@@ -122,10 +118,10 @@ as_test false false = refl
 pub counts_are_legs : (t : Tables) (a : List ℕ) (f s m : ℕ) → CountsAreLegs t a f s m
 unfolding departed arrived
 counts_are_legs t a f s m = record {
-  departures = sum_below-agree (λ l. if has_left t (pair_on f l) s m then weights_of a (pair_on f l) else 0)
-      (λ l. if (fleet_at a l == f) && has_left t (pair_on f l) s m then 1 else 0) (legs_in t)
-      (record { each = λ l below. as_test (has_left t (pair_on f l) s m) (fleet_at a l == f) });
-  arrivals = sum_below-agree (λ l. if has_come t (pair_on f l) s m then weights_of a (pair_on f l) else 0)
-      (λ l. if (fleet_at a l == f) && has_come t (pair_on f l) s m then 1 else 0) (legs_in t)
-      (record { each = λ l below. as_test (has_come t (pair_on f l) s m) (fleet_at a l == f) });
+  departures = sum_below-agree (λ l. if has_left t (leg_on l f) s m then weights_of a (leg_on l f) else 0)
+      (λ l. if (fleet_at a l == f) && has_left t (leg_on l f) s m then 1 else 0) (legs_in t)
+      (record { each = λ l below. as_test (has_left t (leg_on l f) s m) (fleet_at a l == f) });
+  arrivals = sum_below-agree (λ l. if has_come t (leg_on l f) s m then weights_of a (leg_on l f) else 0)
+      (λ l. if (fleet_at a l == f) && has_come t (leg_on l f) s m then 1 else 0) (legs_in t)
+      (record { each = λ l below. as_test (has_come t (leg_on l f) s m) (fleet_at a l == f) });
 }

@@ -4,7 +4,7 @@ use Rattle.sums.specs.Below.{sum_below, count_below}
 use Rattle.fleet_model.specs.declared.parts.Pair.{Pair}
 use Rattle.fleet_model.specs.declared.tables.Tables.{Tables}
 use Rattle.fleet_model.specs.declared.limits.TheConstants.{MINUTES_PER_PERIOD}
-use Rattle.fleet_model.specs.Schedule.{stations_in, legs_in}
+use Rattle.fleet_model.specs.Schedule.{stations_in, legs_in, leg_on}
 use Rattle.fleet_model.specs.Times.{departure, busy_minutes}
 use Rattle.fleet_model.specs.Counts.{Weights}
 use Rattle.fleet_model.specs.Use.{stand_of}
@@ -17,7 +17,7 @@ aloft t p m = count_below (λ k. nat_le (departure t p) (m + MINUTES_PER_PERIOD 
 
 -- a fleet's flights under way at a minute
 abbrev pub under_way : Tables → Weights → ℕ → ℕ → ℕ
-under_way t w f m = sum_below (λ l. w (record { leg = l; fleet = f }) * aloft t (record { leg = l; fleet = f }) m) (legs_in t)
+under_way t w f m = sum_below (λ l. w (leg_on l f) * aloft t (leg_on l f) m) (legs_in t)
 
 -- a fleet's aircraft on the ground at all stations at the end of a minute
 abbrev pub on_the_ground : Tables → Weights → ℕ → ℕ → ℕ

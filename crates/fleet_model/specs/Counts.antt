@@ -4,7 +4,7 @@ use Rattle.std.specs.Prelude.{◌≡◌, ℕ, Bool, ◌==◌, ◌&&◌, nat_lt, 
 use Rattle.sums.specs.Below.{sum_below}
 use Rattle.fleet_model.specs.declared.parts.Pair.{Pair}
 use Rattle.fleet_model.specs.declared.tables.Tables.{Tables}
-use Rattle.fleet_model.specs.Schedule.{leg_of, legs_in}
+use Rattle.fleet_model.specs.Schedule.{leg_of, leg_on, legs_in}
 use Rattle.fleet_model.specs.Times.{departure, ready_minute}
 
 -- a weight for each pair
@@ -17,7 +17,7 @@ fleet_at a l = slice_index a l
 
 -- the pair that an assignment has of a leg
 abbrev pub pair_at : List ℕ → ℕ → Pair
-pair_at a l = record { leg = l; fleet = fleet_at a l }
+pair_at a l = leg_on l (fleet_at a l)
 
 abbrev pub weights_of : List ℕ → Weights
 weights_of a p = if fleet_at a p.leg == p.fleet then 1 else 0
@@ -30,10 +30,18 @@ has_left t p s m = ((leg_of t p.leg).from == s) && nat_le (departure t p) m
 abbrev pub has_come : Tables → Pair → ℕ → ℕ → Bool
 has_come t p s m = ((leg_of t p.leg).to == s) && nat_le (ready_minute t p) m
 
+-- what a leg adds to a fleet's departures from a station by the end of a minute
+abbrev pub leaving : Tables → Weights → ℕ → ℕ → ℕ → ℕ → ℕ
+leaving t w f s m l = if has_left t (leg_on l f) s m then w (leg_on l f) else 0
+
+-- what a leg adds to a fleet's aircraft that have become ready at a station by the end of a minute
+abbrev pub coming : Tables → Weights → ℕ → ℕ → ℕ → ℕ → ℕ
+coming t w f s m l = if has_come t (leg_on l f) s m then w (leg_on l f) else 0
+
 -- a fleet's departures from a station by the end of a minute
 unfoldable pub departed : Tables → Weights → ℕ → ℕ → ℕ → ℕ
-departed t w f s m = sum_below (λ l. if has_left t (record { leg = l; fleet = f }) s m then w (record { leg = l; fleet = f }) else 0) (legs_in t)
+departed t w f s m = sum_below (leaving t w f s m) (legs_in t)
 
 -- a fleet's aircraft that have become ready at a station by the end of a minute
 unfoldable pub arrived : Tables → Weights → ℕ → ℕ → ℕ → ℕ
-arrived t w f s m = sum_below (λ l. if has_come t (record { leg = l; fleet = f }) s m then w (record { leg = l; fleet = f }) else 0) (legs_in t)
+arrived t w f s m = sum_below (coming t w f s m) (legs_in t)

@@ -4,7 +4,7 @@ use Rattle.sums.specs.Below.{count_below}
 use Rattle.fleet_model.specs.declared.tables.Tables.{Tables}
 use Rattle.fleet_model.specs.declared.limits.TheConstants.{MINUTES_PER_PERIOD}
 use Rattle.fleet_model.specs.Counts.{Weights, weights_of, fleet_at, has_left, has_come, departed, arrived}
-use Rattle.fleet_model.specs.Schedule.{legs_in}
+use Rattle.fleet_model.specs.Schedule.{legs_in, leg_on}
 use Rattle.fleet_model.specs.Use.{need_of, used_of}
 use Rattle.fleet_model.specs.Aloft.{under_way, on_the_ground}
 
@@ -26,5 +26,5 @@ UseIsConstant = (t : Tables) (w : Weights) (f m : ℕ) → m < MINUTES_PER_PERIO
 
 -- by the weights of an assignment, departures and arrivals are numbers of its legs
 pub record CountsAreLegs (t : Tables) (a : List ℕ) (f s m : ℕ) : Type 0 where
-  pub departures : departed t (weights_of a) f s m ≡ count_below (λ l. (fleet_at a l == f) && has_left t (record { leg = l; fleet = f }) s m) (legs_in t)
-  pub arrivals : arrived t (weights_of a) f s m ≡ count_below (λ l. (fleet_at a l == f) && has_come t (record { leg = l; fleet = f }) s m) (legs_in t)
+  pub departures : departed t (weights_of a) f s m ≡ count_below (λ l. (fleet_at a l == f) && has_left t (leg_on l f) s m) (legs_in t)
+  pub arrivals : arrived t (weights_of a) f s m ≡ count_below (λ l. (fleet_at a l == f) && has_come t (leg_on l f) s m) (legs_in t)

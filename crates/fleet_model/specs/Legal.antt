@@ -31,6 +31,10 @@ pub record IsLegal (t : Tables) (a : List ℕ) : Type 0 where
   pub balanced : IsBalanced t (weights_of a)
   pub within : IsWithinFleets t a
 
+-- the cost of a leg by an assignment
+abbrev pub leg_cost : Tables → List ℕ → ℕ → ℤ
+leg_cost t a l = unwrap_or (cost_of t (pair_at a l)) (pos 0)
+
 -- the costs of an assignment's pairs, added up
 unfoldable pub total_cost : Tables → List ℕ → ℤ
-total_cost t a = sum_below_ℤ (λ l. unwrap_or (cost_of t (pair_at a l)) (pos 0)) (legs_in t)
+total_cost t a = sum_below_ℤ (leg_cost t a) (legs_in t)

@@ -35,6 +35,10 @@ fleets_in t = length t.fleets
 abbrev pub legs_in : Tables → ℕ
 legs_in t = length t.legs
 
+-- the pair of a leg and a fleet
+abbrev pub leg_on : ℕ → ℕ → Pair
+leg_on l f = record { leg = l; fleet = f }
+
 -- a leg of the tables on a fleet of theirs
 pub record IsPair (t : Tables) (p : Pair) : Type 0 where
   pub leg : p.leg < legs_in t

@@ -3,7 +3,7 @@ use Rattle.std.specs.Prelude.{◌≡◌, ℕ, ◌+◌, ◌-◌, ◌*◌, ◌<◌
 use Rattle.sums.specs.Below.{sum_below, max_below}
 use Rattle.fleet_model.specs.declared.tables.Tables.{Tables}
 use Rattle.fleet_model.specs.declared.limits.TheConstants.{MINUTES_PER_PERIOD}
-use Rattle.fleet_model.specs.Schedule.{stations_in, fleets_in, legs_in}
+use Rattle.fleet_model.specs.Schedule.{stations_in, fleets_in, legs_in, leg_on}
 use Rattle.fleet_model.specs.Times.{laps_of}
 use Rattle.fleet_model.specs.Counts.{Weights, departed, arrived}
 
@@ -23,9 +23,12 @@ need_of t w f s = max_below (excess t w f s) MINUTES_PER_PERIOD
 unfoldable pub stand_of : Tables → Weights → ℕ → ℕ → ℕ → ℕ
 stand_of t w f s m = need_of t w f s + arrived t w f s m - departed t w f s m
 
--- a fleet's laps: for each of its legs the period starts between departure and readiness
+-- what a leg adds to a fleet's laps: the period starts between its departure and readiness
+abbrev pub laps_at : Tables → Weights → ℕ → ℕ → ℕ
+laps_at t w f l = w (leg_on l f) * laps_of t (leg_on l f)
+
 unfoldable pub laps_flown : Tables → Weights → ℕ → ℕ
-laps_flown t w f = sum_below (λ l. w (record { leg = l; fleet = f }) * laps_of t (record { leg = l; fleet = f })) (legs_in t)
+laps_flown t w f = sum_below (laps_at t w f) (legs_in t)
 
 -- the aircraft that a fleet uses: those on the ground at the day start, and those aloft or in their turn then
 unfoldable pub used_of : Tables → Weights → ℕ → ℕ

@@ -1,5 +1,5 @@
 ghost use Rattle.std.specs.Prelude.{◌≡◌, ◌<◌, ◌≤◌};
-ghost use Rattle.fleet_model.specs.Schedule.{fleets_in, legs_in};
+ghost use Rattle.fleet_model.specs.Schedule.{fleets_in, leg_on, legs_in};
 ghost use Rattle.fleet_model.specs.Times.{busy_minutes, laps_of, nights_of, ready_minute};
 ghost use Rattle.fleet_model.specs.declared.limits.TheConstants.{MINUTES_PER_PERIOD};
 
@@ -11,7 +11,7 @@ use crate::tables::Tables;
 pub fn busy(tables: &Tables, leg: u32, fleet: u32) -> u16
     requires leg { leg < legs_in tables.now }
     requires fleet { fleet < fleets_in tables.now }
-    ensures { result ≡ busy_minutes tables.now (record { leg = leg; fleet = fleet }) }
+    ensures { result ≡ busy_minutes tables.now (leg_on leg fleet) }
 {
     let flown = tables.leg(leg);
     flown.block + tables.fleet(fleet).turn + tables.station(flown.to).extra
@@ -22,7 +22,7 @@ pub fn busy(tables: &Tables, leg: u32, fleet: u32) -> u16
 pub fn ready(tables: &Tables, leg: u32, fleet: u32) -> u16
     requires leg { leg < legs_in tables.now }
     requires fleet { fleet < fleets_in tables.now }
-    ensures value { result ≡ ready_minute tables.now (record { leg = leg; fleet = fleet }) }
+    ensures value { result ≡ ready_minute tables.now (leg_on leg fleet) }
     ensures within { result < MINUTES_PER_PERIOD }
 {
     (tables.leg(leg).dep + busy(tables, leg, fleet)) % MINUTES_PER_PERIOD
@@ -33,7 +33,7 @@ pub fn ready(tables: &Tables, leg: u32, fleet: u32) -> u16
 pub fn nights(tables: &Tables, leg: u32, fleet: u32) -> u32
     requires leg { leg < legs_in tables.now }
     requires fleet { fleet < fleets_in tables.now }
-    ensures value { result ≡ nights_of tables.now (record { leg = leg; fleet = fleet }) }
+    ensures value { result ≡ nights_of tables.now (leg_on leg fleet) }
     ensures few { result ≤ 2 }
 {
     u32::from((tables.leg(leg).dep + busy(tables, leg, fleet)) / MINUTES_PER_DAY)
@@ -44,7 +44,7 @@ pub fn nights(tables: &Tables, leg: u32, fleet: u32) -> u32
 pub fn laps(tables: &Tables, leg: u32, fleet: u32) -> u32
     requires leg { leg < legs_in tables.now }
     requires fleet { fleet < fleets_in tables.now }
-    ensures value { result ≡ laps_of tables.now (record { leg = leg; fleet = fleet }) }
+    ensures value { result ≡ laps_of tables.now (leg_on leg fleet) }
     ensures few { result ≤ 2 }
 {
     u32::from((tables.leg(leg).dep + busy(tables, leg, fleet)) / MINUTES_PER_PERIOD)

@@ -1,0 +1,10 @@
+use Rattle.std.proofs.Common.{◌≡◌, ◌≤◌}
+use Rattle.sums.specs.Below.{sum_below}
+use Rattle.fleet_model.specs.Counts.{coming, weights_of}
+use Rattle.plan_judge.proofs.counting.arrivals.Given as goal
+
+abbrev pub invariant-loop-leg : goal.invariant-loop-leg
+invariant-loop-leg l = record {
+  counted : l.count ≡ sum_below (coming l.tables (weights_of l.plan) l.fleet l.station l.minute) l.leg;
+  few : l.count ≤ l.leg
+}
