@@ -8,6 +8,9 @@ use Rattle.std.specs.declared.cmp.Ordering.{Ordering}
 use Rattle.std.specs.declared.cmp.Ordering.TheVariants.{Less, Equal, Greater}
 use Rattle.std.specs.Ordering.{nat_cmp, ordering_then, ordering_index}
 use Rattle.std.proofs.lemmas.List.Sorted.{IsNonDecreasingBy-from_default}
+use Rattle.std.proofs.Common.{IfSome, if◌then◌else◌}
+use Rattle.std.specs.List.{AllByRecursion}
+use Rattle.fleet_model.specs.Limits.{IsPairCost, IsCost}
 use Rattle.std.proofs.lemmas.Bool.{cases_lt}
 use Rattle.std.proofs.lemmas.Bool.Decides.{nat_tests}
 use Rattle.fleet_model.specs.declared.parts.Pair.{Pair}
@@ -111,3 +114,11 @@ bisected entries pair rise (Err gap) within parted =
         | inr high ↦ order_greater (slice_index_or entries k no_cost) pair (parts.1 k no_cost high below)
       ];
     })
+
+-- a cost that is found stands in the list, so what all entries keep it keeps
+pub found_fits : (entries : List PairCost) (pair : Pair) (legs fleets : ℕ) → AllByRecursion (IsPairCost legs fleets) entries → IfSome (cost_in entries pair) IsCost
+found_fits [] pair legs fleets fit = tt
+found_fits (entry ∷ entries) pair legs fleets fit = elim (is_of pair entry) as (λ b. IfSome (if b then Some entry.cost else cost_in entries pair) IsCost) [
+  | true ↦ fit.0.cost
+  | false ↦ found_fits entries pair legs fleets fit.1
+]

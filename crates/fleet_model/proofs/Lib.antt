@@ -1,3 +1,4 @@
 pub mod CostLookup
+pub mod NeedAtDepartures
 pub mod Periods
 pub mod UseLaws

@@ -1,11 +1,11 @@
 -- The laws of counts, need and use, as statements.
-use Rattle.std.specs.Prelude.{◌≡◌, ℕ, ◌+◌, ◌<◌, ◌≤◌, List, ◌==◌, ◌&&◌}
-use Rattle.sums.specs.Below.{count_below}
+use Rattle.std.specs.Prelude.{◌≡◌, ◌≢◌, ℕ, ◌+◌, ◌<◌, ◌≤◌, List, Bool, true, ◌==◌, ◌&&◌, if◌then◌else◌}
+use Rattle.sums.specs.Below.{count_below, max_below}
 use Rattle.fleet_model.specs.declared.tables.Tables.{Tables}
 use Rattle.fleet_model.specs.declared.limits.TheConstants.{MINUTES_PER_PERIOD}
 use Rattle.fleet_model.specs.Counts.{Weights, weights_of, fleet_at, has_left, has_come, departed, arrived}
-use Rattle.fleet_model.specs.Schedule.{legs_in, leg_on}
-use Rattle.fleet_model.specs.Use.{need_of, used_of}
+use Rattle.fleet_model.specs.Schedule.{leg_of, leg_on, legs_in}
+use Rattle.fleet_model.specs.Use.{excess, need_of, used_of}
 use Rattle.fleet_model.specs.Aloft.{under_way, on_the_ground}
 
 -- with this stock at the day start a fleet never lacks an aircraft at the station
@@ -28,3 +28,16 @@ UseIsConstant = (t : Tables) (w : Weights) (f m : ℕ) → m < MINUTES_PER_PERIO
 pub record CountsAreLegs (t : Tables) (a : List ℕ) (f s m : ℕ) : Type 0 where
   pub departures : departed t (weights_of a) f s m ≡ count_below (λ l. (fleet_at a l == f) && has_left t (leg_on l f) s m) (legs_in t)
   pub arrivals : arrived t (weights_of a) f s m ≡ count_below (λ l. (fleet_at a l == f) && has_come t (leg_on l f) s m) (legs_in t)
+
+-- the test passes at each leg that the fleet flies from the station
+pub record PassesDepartures (t : Tables) (w : Weights) (f s : ℕ) (test : ℕ → Bool) : Type 0 where
+  pub each : (l : ℕ) → l < legs_in t → (leg_of t l).from ≡ s → w (leg_on l f) ≢ 0 → test l ≡ true
+
+-- the excess at a leg's departure, where the test passes
+abbrev pub excess_at_departure : Tables → Weights → ℕ → ℕ → (ℕ → Bool) → ℕ → ℕ
+excess_at_departure t w f s test l = if test l then excess t w f s (leg_of t l).dep else 0
+
+-- need is the greatest excess at the departures of the fleet from the station
+abbrev pub NeedIsAtDepartures : Type 0
+NeedIsAtDepartures = (t : Tables) (w : Weights) (f s : ℕ) (test : ℕ → Bool) → PassesDepartures t w f s test
+    → need_of t w f s ≡ max_below (excess_at_departure t w f s test) (legs_in t)

@@ -23,12 +23,15 @@ pub record IsLeg (stations : ℕ) (leg : Leg) : Type 0 where
   pub some_block : 0 < leg.block
   pub block : leg.block < MINUTES_PER_DAY
 
+pub record IsCost (cost : ℤ) : Type 0 where
+  pub no_less : neg_ℤ MAX_COST ≤ℤ cost
+  pub no_more : cost ≤ℤ MAX_COST
+
 -- the cost of a pair of so many legs and fleets
 pub record IsPairCost (legs fleets : ℕ) (entry : PairCost) : Type 0 where
   pub leg : entry.leg < legs
   pub fleet : entry.fleet < fleets
-  pub no_less : neg_ℤ MAX_COST ≤ℤ entry.cost
-  pub no_more : entry.cost ≤ℤ MAX_COST
+  pub cost : IsCost entry.cost
 
 pub record IsThrough (legs : ℕ) (entry : Through) : Type 0 where
   pub arriving : entry.arriving < legs

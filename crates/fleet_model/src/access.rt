@@ -1,9 +1,10 @@
 //! Stations, fleets and legs by their numbers.
-ghost use Rattle.std.specs.Prelude.{◌≡◌, ◌<◌};
-ghost use Rattle.fleet_model.specs.Limits.{IsStation, IsFleet, IsLeg};
+ghost use Rattle.std.specs.Prelude.{◌≡◌, ◌<◌, IfSome};
+ghost use Rattle.fleet_model.specs.Legal.{cost_of};
+ghost use Rattle.fleet_model.specs.Limits.{IsCost, IsFleet, IsLeg, IsStation};
 ghost use Rattle.fleet_model.specs.Schedule.{station_of, fleet_of, leg_of, stations_in, fleets_in, legs_in};
 
-use crate::parts::{Fleet, Leg, Station};
+use crate::parts::{Fleet, Leg, Pair, Station};
 use crate::tables::Tables;
 
 impl Tables {
@@ -32,6 +33,14 @@ impl Tables {
         ensures fits { IsLeg (stations_in self.now) result.now }
     {
         &self.legs.as_slice()[leg as usize]
+    }
+
+    /// What it costs to fly a pair, in cost units, and none where it may not be flown.
+    pub fn cost(&self, pair: Pair) -> Option<i128>
+        ensures value { result ≡ cost_of self.now pair }
+        ensures fits { IfSome result IsCost }
+    {
+        self.costs.get(pair)
     }
 
     /// How many stations there are.

@@ -2,7 +2,7 @@
 //! and it does nothing.
 ghost use Rattle.std.specs.Prelude.{ℕ, List};
 ghost use Rattle.fleet_model.specs.declared.tables.Tables.{Tables};
-ghost use Rattle.fleet_model.specs.Laws.{NeedSuffices, NeedIsLeast, UseIsConstant, CountsAreLegs};
+ghost use Rattle.fleet_model.specs.Laws.{CountsAreLegs, NeedIsAtDepartures, NeedIsLeast, NeedSuffices, UseIsConstant};
 
 /// With `need` aircraft at the day start a fleet never lacks one at the station.
 pub fn need_suffices()
@@ -13,6 +13,12 @@ pub fn need_suffices()
 pub fn need_is_least()
     ensures { NeedIsLeast }
 {}
+
+/// Need is the greatest excess of departures over arrivals at those minutes in which the fleet departs.
+pub fn need_is_at_departures()
+    ensures { NeedIsAtDepartures }
+{
+}
 
 /// At each minute the flights of a fleet under way and its aircraft on the ground sum to those that it uses,
 /// balanced or not.

@@ -1,9 +1,11 @@
 //! Judges an assignment: legal with its cost, or the first reason why it is not.
 #![tactic(auto)]
 
-
+mod balance;
+mod cost;
 pub mod counting;
+mod limits;
+pub mod verdicts;
 
-
-
-
+pub use counting::{need, used};
+pub use verdicts::{Verdict, judge};

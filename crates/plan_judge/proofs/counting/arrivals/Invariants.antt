@@ -6,5 +6,5 @@ use Rattle.plan_judge.proofs.counting.arrivals.Given as goal
 abbrev pub invariant-loop-leg : goal.invariant-loop-leg
 invariant-loop-leg l = record {
   counted : l.count ≡ sum_below (coming l.tables (weights_of l.plan) l.fleet l.station l.minute) l.leg;
-  few : l.count ≤ l.leg
+  few : l.count ≤ l.leg;
 }

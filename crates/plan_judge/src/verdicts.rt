@@ -1,0 +1,66 @@
+ghost use Rattle.std.specs.Prelude.{◌≡◌};
+ghost use Rattle.fleet_model.specs.Legal.{IsAssignment, IsLegal, total_cost};
+ghost use Rattle.plan_judge.specs.Verdicts.{IsVerdict};
+
+use crate::balance::first_unbalanced;
+use crate::cost::{cost, first_not_allowed};
+use crate::limits::first_too_many;
+use fleet_model::{Assignment, Tables};
+
+/// What an assignment is worth: legal, or the first reason why it is not.
+#[derive(Clone, Copy, Debug, PartialEq, Eq)]
+pub enum Verdict {
+    /// The first leg that its fleet may not fly.
+    NotAllowed {
+        leg: u32,
+    },
+    /// The first fleet, and there the first station, at which as many aircraft do not come as leave, with both
+    /// numbers.
+    Unbalanced {
+        fleet: u32,
+        station: u32,
+        came: u32,
+        left: u32,
+    },
+    /// The first fleet that uses more aircraft than it has, with both numbers.
+    TooMany {
+        fleet: u32,
+        used: u32,
+        has: u32,
+    },
+    /// Legal, and what it costs, in cost units.
+    Legal {
+        cost: i128,
+    },
+}
+
+/// Judges an assignment, which has a known fleet for each leg. Takes no memory.
+pub fn judge(tables: &Tables, plan: &Assignment) -> Verdict
+    requires { IsAssignment tables.now plan.now }
+
+    // The first refusal in the order of the variants, with its true numbers, or legal with the exact cost.
+    ensures verdict { IsVerdict tables.now plan.now result }
+    ensures legal { IsLegal tables.now plan.now → result ≡ Verdict.Legal (total_cost tables.now plan.now) }
+{
+    if let Some(leg) = first_not_allowed(tables, plan) {
+        return Verdict::NotAllowed { leg };
+    }
+    if let Some(found) = first_unbalanced(tables, plan) {
+        return Verdict::Unbalanced {
+            fleet: found.fleet,
+            station: found.station,
+            came: found.came,
+            left: found.left,
+        };
+    }
+    if let Some(found) = first_too_many(tables, plan) {
+        return Verdict::TooMany {
+            fleet: found.fleet,
+            used: found.used,
+            has: found.has,
+        };
+    }
+    Verdict::Legal {
+        cost: cost(tables, plan),
+    }
+}
