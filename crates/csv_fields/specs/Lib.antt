@@ -1,0 +1,5 @@
+pub mod Fault
+pub mod Name
+pub mod Flag
+pub mod Time
+pub mod Number
