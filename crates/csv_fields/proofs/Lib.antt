@@ -1,2 +1,5 @@
+pub mod AllRecords
 pub mod Digits
+pub mod FieldAt
+pub mod ReadErrors
 pub mod WholeForm

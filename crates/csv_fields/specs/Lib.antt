@@ -3,3 +3,4 @@ pub mod Name
 pub mod Flag
 pub mod Time
 pub mod Number
+pub mod Record
