@@ -7,11 +7,13 @@ pub mod costs;
 pub mod laws;
 pub mod limits;
 pub mod parts;
+pub mod refusals;
 pub mod tables;
 pub mod times;
 
 pub use assignments::Assignment;
 pub use costs::Costs;
 pub use parts::{Fleet, Leg, Pair, PairCost, Settings, Station, Through};
+pub use refusals::{BadInput, LoadError, TableFile};
 pub use tables::Tables;
 pub use times::{busy, laps, nights, ready};

@@ -1,0 +1,11 @@
+-- Names by their places in a list.
+use Rattle.std.specs.Prelude.{ℕ, Bool, List, Option, bytes_eq, position}
+use Rattle.std.specs.List.{list_any}
+
+-- the name is one of the list
+abbrev pub is_among : List ℕ → List (List ℕ) → Bool
+is_among name names = list_any (bytes_eq name) names
+
+-- the place of the name in the list, where it is there
+abbrev pub number_of : List ℕ → List (List ℕ) → Option ℕ
+number_of name names = position (bytes_eq name) names

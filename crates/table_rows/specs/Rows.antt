@@ -1,0 +1,56 @@
+-- The records of a table's file: its header and the records below it, which read as entries one after another.
+use Rattle.std.specs.Prelude.{◌≡◌, ◌≢◌, ◌⊎◌, ◌+◌, ◌<◌, ℕ, List, [], ◌∷◌, length, take, map, slice_index_or, Vec, Result, Ok, Err}
+use Rattle.std.specs.declared.alloc.Global.{Global}
+use Rattle.fleet_model.specs.declared.refusals.TheConstants.{WRONG_HEADER}
+
+-- a record, as the list of its fields
+abbrev pub Fields : Type 0
+Fields = List (List ℕ)
+
+-- the fields that a vector holds
+abbrev pub fields_in : List (Vec ℕ Global) → Fields
+fields_in fields = map (λ field. field.items) fields
+
+-- the records that a vector holds
+abbrev pub rows_in : List (Vec (Vec ℕ Global) Global) → List Fields
+rows_in rows = map (λ row. fields_in row.items) rows
+
+-- the record at a place
+abbrev pub row_at : List Fields → ℕ → Fields
+row_at rows k = slice_index_or rows k []
+
+-- the first record is the header, and the rest stands below it
+abbrev pub IsUnder : Fields → List Fields → List Fields → Type 0
+IsUnder header records rest = records ≡ header ∷ rest
+
+-- there is no record, or the first one isn't the header
+abbrev pub LacksHeader : Fields → List Fields → Type 0
+LacksHeader header records = (rest : List Fields) → records ≢ header ∷ rest
+
+module _ {E K : Type 0} (key : E → K) (read : List K → Fields → Result E ℕ) where
+  -- Each record reads as the entry at its place. What a record reads as, or its fault, depends on the keys of
+  -- the entries before it.
+  pub record ReadAs (rows : List Fields) (entries : List E) : Type 0 where
+    pub same_length : length rows ≡ length entries
+    pub each : (k : ℕ) (d : E) → k < length rows → read (map key (take k entries)) (row_at rows k) ≡ Ok (slice_index_or entries k d)
+
+  -- the records of a file are its header and records that read as these entries
+  pub record TableReads (header : Fields) (records : List Fields) (entries : List E) : Type 0 where
+    pub rest : List Fields
+    pub under : IsUnder header records rest
+    pub reads : ReadAs rest entries
+
+  -- the first record below the header that doesn't read, with its fault: those before it read as some entries
+  pub record BadRecord (header : Fields) (records : List Fields) (row kind : ℕ) : Type 0 where
+    pub rest : List Fields
+    pub under : IsUnder header records rest
+    pub before : List E
+    pub place : ℕ
+    pub within : place < length rest
+    pub reads : ReadAs (take place rest) before
+    pub fault : read (map key before) (row_at rest place) ≡ Err kind
+    pub number : row ≡ place + 2
+
+  -- the first fault of a file, with the number of its record: the header is record 1
+  abbrev pub TableBad : Fields → List Fields → ℕ → ℕ → Type 0
+  TableBad header records row kind = (LacksHeader header records × (row ≡ 1) × (kind ≡ WRONG_HEADER)) ⊎ BadRecord header records row kind

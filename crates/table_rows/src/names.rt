@@ -1,0 +1,48 @@
+ghost use Rattle.std.specs.Prelude.{◌≡◌, ◌++◌, [], ◌∷◌, not, if◌then◌else◌, IfOk};
+ghost use Rattle.table_rows.specs.Names.{is_among, number_of};
+
+use entries::NoMemory;
+use indexmap::IndexSet;
+use std::alloc::Global;
+use std::marker::Model;
+
+/// Names, each once, numbered from 0 in the order in which they were added. Contracts see the list of names.
+#[derive(Drop)]
+pub struct Names {
+    names: IndexSet<String>,
+}
+
+impl Model for Names {
+    ghost use Rattle.std.specs.Prelude.{List, ℕ, map, string_bytes};
+
+    ghost Value = { List (List ℕ) };
+
+    ghost view = { λ names. map string_bytes names.names.keys };
+}
+
+impl Names {
+    /// No name yet.
+    pub fn new(alloc: Global) -> Self
+        ensures { result ≡ [] }
+    {
+        Names {
+            names: IndexSet::new(alloc),
+        }
+    }
+
+    /// Adds a name, where it isn't there yet, and answers whether it was added.
+    pub fn add(&mut self, alloc: Global, name: &str) -> Result<bool, NoMemory>
+        ensures added { IfOk result (λ added. added ≡ not (is_among name.now self.old)) }
+        ensures appended { IfOk result (λ added. self.new ≡ (if added then self.old ++ name.now ∷ [] else self.old)) }
+    {
+        let (_, added) = self.names.insert_full(String::from_str(alloc, name)?)?;
+        Ok(added)
+    }
+
+    /// The number of a name, where it is there.
+    pub fn number(&self, name: &str) -> Option<usize>
+        ensures { result ≡ number_of name.now self.now }
+    {
+        self.names.get_index_of(name)
+    }
+}
