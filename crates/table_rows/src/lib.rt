@@ -2,8 +2,12 @@
 //! numbered in the order in which they are first seen.
 #![tactic(auto)]
 
+pub mod faults;
+pub mod fields;
 pub mod names;
 pub mod rows;
 
+pub use faults::RecordError;
+pub use fields::{five_fields, is_text, text, three_fields, two_fields};
 pub use names::Names;
 pub use rows::below_header;
