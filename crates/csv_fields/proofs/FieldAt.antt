@@ -1,5 +1,5 @@
 -- The fields of a record, one after the other.
-use Rattle.std.proofs.Common.{◌≡◌, ◌∙◌, ◌+◌, ◌++◌, ◌∷◌, [], List, ℕ, zero, suc, Some, None, ap, refl, take, add-one}
+use Rattle.std.proofs.Common.{◌≡◌, ◌+◌, ◌++◌, ◌∷◌, [], List, ℕ, zero, suc, Some, None, ap, refl, take, add-one}
 use Rattle.csv.specs.Records.{field_at}
 
 one_more : (fields : List (List ℕ)) (place : ℕ) (field : List ℕ) → Some field ≡ field_at fields place → take (suc place) fields ≡ take place fields ++ field ∷ []

@@ -1,5 +1,5 @@
 -- What a reader that takes records of any length, and bytes that are no text, may fail of.
-use Rattle.std.proofs.Common.{◌≡◌, ◌≢◌, ℕ, List, Option, Bool, true, false, refl}
+use Rattle.std.proofs.Common.{◌≡◌, ℕ, List, Option, true, false, refl}
 use Rattle.csv.specs.Reading.{ExplainsRead, is_flexible}
 use Rattle.csv.specs.declared.error.ErrorKind.{ErrorKind}
 use Rattle.csv.specs.declared.error.ErrorKind.TheVariants as kind

@@ -1,6 +1,6 @@
 -- A field reads as a whole number exactly where it writes that number.
-use Rattle.std.proofs.Common.{◌≡◌, ◌<◌, ◌≤◌, ◌⊎◌, ◌↔◌, ◌||◌, ℕ, ℤ, pos, neg_ℤ, Bool, List, [], ◌∷◌, true, false, length, drop, get_or, refl, ap, subst, sym, ◌∙◌, arith, rules, inl, inr}
-use Rattle.std.specs.Prelude.{All, Decides, count_by, Result, Ok, Err, ◌≤ℤ◌, int_lt}
+use Rattle.std.proofs.Common.{◌≡◌, ◌≤◌, ◌⊎◌, ◌↔◌, ◌||◌, ℕ, ℤ, pos, neg_ℤ, List, [], ◌∷◌, true, false, length, drop, get_or, refl, ap, subst, sym, ◌∙◌, arith, inl, inr}
+use Rattle.std.specs.Prelude.{All, Decides, Result, Ok, Err, ◌≤ℤ◌, int_lt}
 use Rattle.std.specs.Char.{IsAsciiDigit, is_ascii_digit}
 use Rattle.std.specs.List.{list_all}
 use Rattle.std.specs.Str.Parse.{digits_value, starts_with_minus}
@@ -9,7 +9,7 @@ use Rattle.std.proofs.lemmas.Bool.Decides.{Decides-by_and, nat_tests}
 use Rattle.std.proofs.lemmas.Int.{ints}
 use Rattle.csv_fields.specs.declared.fault.FieldFault.{FieldFault}
 use Rattle.csv_fields.specs.Number.{IsDecimal, WritesWhole, digit_count, magnitude_of, negated, number_of, whole_of, within}
-use Rattle.csv_fields.proofs.Digits.{count-cons, count_all, count_drop}
+use Rattle.csv_fields.proofs.Digits.{count-cons, count_all}
 
 digit_decides : (byte : ℕ) → Decides (is_ascii_digit byte) (IsAsciiDigit byte)
 digit_decides byte = (λ e. grind (arith, nat_tests), λ h. grind (arith, nat_tests))

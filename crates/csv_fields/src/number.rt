@@ -1,4 +1,4 @@
-ghost use Rattle.std.specs.Prelude.{◌≡◌, ◌↔◌, ◌≤◌, ◌≤ℤ◌, ℤ, count_by, length, true};
+ghost use Rattle.std.specs.Prelude.{◌≡◌, ◌↔◌, ◌≤◌, ◌≤ℤ◌, ℤ, IfOk, count_by, length, true};
 ghost use Rattle.std.specs.Char.{is_ascii_digit};
 ghost use Rattle.std.specs.List.{list_all};
 ghost use Rattle.std.specs.Str.Parse.{digits_value};
@@ -16,6 +16,7 @@ const MOST_DIGITS: usize = 20;
 #[tactic(auto, unfolding(crate::specs::Number::whole_of))]
 pub fn whole(field: &[u8], least: i128, greatest: i128) -> Result<i128, FieldFault>
     ensures reads { result ≡ whole_of field.now least greatest }
+    ensures in_range { IfOk result (λ n. (least ≤ℤ n) × (n ≤ℤ greatest)) }
     ensures form { (n : ℤ) → (result ≡ Ok n) ↔ (WritesWhole field.now n × (least ≤ℤ n) × (n ≤ℤ greatest)) }
 {
     let number = number(field)?;
@@ -82,4 +83,60 @@ fn decimal_value(digits: &[u8]) -> u128
         value = value * 10 + u128::from(*digit - b'0');
     }
     value
+}
+
+#[cfg(test)]
+mod tests {
+    use super::*;
+
+    #[test]
+    fn faults_in_their_order(rt: HostRuntime) {
+        let cases = [
+            ("", FieldFault::EMPTY),
+            ("abc", FieldFault::WRONG_LENGTH),
+            ("-", FieldFault::WRONG_LENGTH),
+            ("000000000000000000001", FieldFault::WRONG_LENGTH),
+            ("x000000000000000000001", FieldFault::WRONG_LENGTH),
+            ("1a", FieldFault::FORBIDDEN_BYTE),
+            ("--1", FieldFault::FORBIDDEN_BYTE),
+            ("+5", FieldFault::FORBIDDEN_BYTE),
+            ("1-", FieldFault::FORBIDDEN_BYTE),
+            (" 1", FieldFault::FORBIDDEN_BYTE),
+            ("9999a", FieldFault::FORBIDDEN_BYTE),
+            ("601", FieldFault::OUT_OF_RANGE),
+            ("-11", FieldFault::OUT_OF_RANGE),
+            ("99999999999999999999", FieldFault::OUT_OF_RANGE),
+        ];
+        for (field, fault) in cases {
+            assert_eq!(rt; whole(field.as_bytes(), -10, 600), Err(fault), "{field}");
+        }
+    }
+
+    #[test]
+    fn numbers(rt: HostRuntime) {
+        let cases = [
+            ("0", 0),
+            ("-0", 0),
+            ("7", 7),
+            ("0007", 7),
+            ("-00012", -12),
+            ("1000000000000", 1000000000000),
+            ("-1000000000000", -1000000000000),
+            ("00000000000000000020", 20),
+            ("99999999999999999999", 99999999999999999999),
+            ("-99999999999999999999", -99999999999999999999),
+        ];
+        for (field, number) in cases {
+            assert_eq!(rt;
+                whole(field.as_bytes(), i128::MIN, i128::MAX),
+                Ok(number),
+                "{field}"
+            );
+            assert_eq!(rt;
+                whole(field.as_bytes(), number, number),
+                Ok(number),
+                "{field}"
+            );
+        }
+    }
 }

@@ -46,3 +46,43 @@ fn fields(alloc: Global, record: &ByteRecord) -> Result<Vec<Vec<u8>>, NoMemory>
     }
     Ok(fields)
 }
+
+#[cfg(test)]
+mod tests {
+    use super::*;
+    use std::test::Fail;
+
+    // The records in one text: each field in brackets, each record with a semicolon at its end.
+    fn shown(alloc: Global, rows: &Vec<Vec<Vec<u8>>>) -> Result<Vec<u8>, NoMemory> {
+        let mut text = Vec::new(alloc);
+        for row in rows {
+            for field in row {
+                text.push(b'[')?;
+                text.extend_from_slice(field.as_slice())?;
+                text.push(b']')?;
+            }
+            text.push(b';')?;
+        }
+        Ok(text)
+    }
+
+    #[test]
+    fn reads_the_records_of_a_file(rt: HostRuntime) -> Result<(), Fail> {
+        let cases: [(&[u8], &[u8]); 9] = [
+            (b"", b""),
+            (b"\n\r\n\r\r\n", b""),
+            (b"code,extra\nAAA,0\n", b"[code][extra];[AAA][0];"),
+            (b"a,b\r\n\r\n\nc\nd,e,f", b"[a][b];[c];[d][e][f];"),
+            (b"\"x,\"\"y\r\n\",z\n\"w\"", b"[x,\"y\r\n][z];[w];"),
+            (b" a , b\n,\n\"\"\n", b"[ a ][ b];[][];[];"),
+            (b"\xEF\xBB\xBFa\nb", b"[a];[b];"),
+            (b"\xEF\xBB\xBF\xEF\xBB\xBFa", b"[\xEF\xBB\xBFa];"),
+            (b"a\xFF\n\xEF\xBB\xBF", b"[a\xFF];[\xEF\xBB\xBF];"),
+        ];
+        for (bytes, want) in cases {
+            let rows = records(rt.alloc(), bytes)?;
+            assert_eq!(rt; shown(rt.alloc(), &rows)?.as_slice(), want);
+        }
+        Ok(())
+    }
+}

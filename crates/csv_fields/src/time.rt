@@ -1,4 +1,4 @@
-ghost use Rattle.std.specs.Prelude.{◌≡◌, ◌↔◌, ◌+◌, ◌-◌, ◌*◌, ℕ, SomeIff};
+ghost use Rattle.std.specs.Prelude.{◌≡◌, ◌↔◌, ◌+◌, ◌-◌, ◌*◌, ◌<◌, ℕ, IfOk, SomeIff};
 ghost use Rattle.std.specs.Char.{IsAsciiDigit};
 ghost use Rattle.csv_fields.specs.Time.{IsClockTime, clock_time_of};
 
@@ -13,6 +13,7 @@ const MINUTES: u16 = 60;
 #[tactic(auto, unfolding(crate::specs::Time::clock_time_of))]
 pub fn clock_time(field: &[u8]) -> Result<u16, FieldFault>
     ensures reads { result ≡ clock_time_of field.now }
+    ensures in_day { IfOk result (λ minute. minute < 24 * 60) }
     ensures form { (minute : ℕ) → (result ≡ Ok minute) ↔ IsClockTime field.now minute }
 {
     match field {
@@ -38,5 +39,32 @@ fn two_digits(tens: u8, ones: u8) -> Option<u16>
         Some(u16::from(tens - b'0') * 10 + u16::from(ones - b'0'))
     } else {
         None
+    }
+}
+
+#[cfg(test)]
+mod tests {
+    use super::*;
+
+    #[test]
+    fn times(rt: HostRuntime) {
+        let fault = Err(FieldFault::NOT_A_TIME);
+        let cases = [
+            ("00:00", Ok(0)),
+            ("08:05", Ok(485)),
+            ("23:59", Ok(1439)),
+            ("24:00", fault),
+            ("12:60", fault),
+            ("", fault),
+            ("8:00", fault),
+            ("08:0", fault),
+            ("08:000", fault),
+            ("08.00", fault),
+            ("0a:00", fault),
+            ("08:-1", fault),
+        ];
+        for (field, want) in cases {
+            assert_eq!(rt; clock_time(field.as_bytes()), want, "{field}");
+        }
     }
 }
