@@ -1,6 +1,7 @@
 -- A record by its fields, and what stands in the way of reading it.
-use Rattle.std.specs.Prelude.{ℕ, Bool, true, false, List, [], ◌∷◌, Option, Some, None, option_map, Result, Ok, Err}
+use Rattle.std.specs.Prelude.{ℕ, ℤ, pos, unsigned_abs, Bool, true, false, List, [], ◌∷◌, Option, Some, None, option_map, Result, Ok, Err}
 use Rattle.csv_fields.specs.declared.fault.FieldFault.{FieldFault}
+use Rattle.csv_fields.specs.Number.{whole_of}
 use Rattle.fleet_model.specs.declared.refusals.TheConstants.{BAD_FIELD, WRONG_WIDTH}
 use Rattle.table_rows.specs.Rows.{Fields}
 
@@ -20,6 +21,15 @@ four_of (a ∷ rest) = option_map (λ f. (a, f.0, f.1, f.2)) (three_of rest)
 abbrev pub five_of : Fields → Option (List ℕ × List ℕ × List ℕ × List ℕ × List ℕ)
 five_of [] = None
 five_of (a ∷ rest) = option_map (λ f. (a, f.0, f.1, f.2, f.3)) (four_of rest)
+
+-- the size of a number that was read
+abbrev pub as_natural : Result ℤ FieldFault → Result ℕ FieldFault
+as_natural (Ok n) = Ok (unsigned_abs n)
+as_natural (Err fault) = Err fault
+
+-- a field read as a whole number from 0 to a greatest one
+abbrev pub natural_of : List ℕ → ℕ → Result ℕ FieldFault
+natural_of field greatest = as_natural (whole_of field (pos 0) (pos greatest))
 
 -- a record with the right number of fields goes on
 abbrev pub of_width : {A B : Type 0} → Option A → (A → Result B ℕ) → Result B ℕ

@@ -5,9 +5,11 @@
 pub mod faults;
 pub mod fields;
 pub mod names;
+pub mod naturals;
 pub mod rows;
 
 pub use faults::RecordError;
 pub use fields::{five_fields, is_text, text, three_fields, two_fields};
 pub use names::Names;
+pub use naturals::natural;
 pub use rows::below_header;
