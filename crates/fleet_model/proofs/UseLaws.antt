@@ -61,7 +61,7 @@ module _ (t : Tables) (w : Weights) (f m : ℕ) (within : m < MINUTES_PER_PERIOD
   -- one leg: the flights under way, with what has come, are the laps with what has gone
   leg_law : (l : ℕ) → l < legs_in t → w (leg_on l f) * aloft t (leg_on l f) m + come_by t w f m l ≡ w (leg_on l f) * laps_of t (leg_on l f) + gone_by t w f m l
   leg_law l below =
-      let fits : IsLeg (stations_in t) (leg_of t l) = t.in_range.legs_fit l no_leg below in
+      let fits : IsLeg (stations_in t) (leg_of t l) = t.in_range.legs_fit.each l no_leg below in
       let p = leg_on l f in
       let x = departure t p + busy_minutes t p in
       let split : x ≡ MINUTES_PER_PERIOD * laps_of t p + ready_minute t p = omega arith in
@@ -71,12 +71,12 @@ module _ (t : Tables) (w : Weights) (f m : ℕ) (within : m < MINUTES_PER_PERIOD
   all_come : sum_below (λ s. arrived t w f s m) (stations_in t) ≡ sum_below (come_by t w f m) (legs_in t)
   unfolding arrived
   all_come = over_stations (λ l. (leg_of t l).to) (λ l. nat_le (ready_minute t (leg_on l f)) m) (λ l. w (leg_on l f)) (stations_in t) (legs_in t)
-      (record { each = λ l below. (t.in_range.legs_fit l no_leg below).to })
+      (record { each = λ l below. (t.in_range.legs_fit.each l no_leg below).to })
 
   all_gone : sum_below (λ s. departed t w f s m) (stations_in t) ≡ sum_below (gone_by t w f m) (legs_in t)
   unfolding departed
   all_gone = over_stations (λ l. (leg_of t l).from) (λ l. nat_le (departure t (leg_on l f)) m) (λ l. w (leg_on l f)) (stations_in t) (legs_in t)
-      (record { each = λ l below. (t.in_range.legs_fit l no_leg below).from })
+      (record { each = λ l below. (t.in_range.legs_fit.each l no_leg below).from })
 
   -- the same, over all legs
   legs_law : under_way t w f m + sum_below (come_by t w f m) (legs_in t) ≡ laps_flown t w f + sum_below (gone_by t w f m) (legs_in t)

@@ -43,28 +43,47 @@ pub record AreSettings (settings : Settings) : Type 0 where
   pub day_start : settings.day_start < MINUTES_PER_DAY
   pub through_max : settings.through_max < MINUTES_PER_DAY
 
--- two entries are of one pair
+-- two costs are of one pair
 pub record SamePair (a b : PairCost) : Type 0 where
   pub leg : a.leg ≡ b.leg
   pub fleet : a.fleet ≡ b.fleet
 
+-- two through pairs are of the same legs
 pub record SameThrough (a b : Through) : Type 0 where
   pub arriving : a.arriving ≡ b.arriving
   pub departing : a.departing ≡ b.departing
 
+pub record AreStations (stations : List Station) : Type 0 where
+  pub few : length stations ≤ MAX_STATIONS
+  pub each : All IsStation stations
+  pub differ : AllPairs (λ a b. a.code ≢ b.code) stations
+
+pub record AreFleets (fleets : List Fleet) : Type 0 where
+  pub few : length fleets ≤ MAX_FLEETS
+  pub each : All IsFleet fleets
+  pub differ : AllPairs (λ a b. a.name ≢ b.name) fleets
+
+-- legs between so many stations
+pub record AreLegs (stations : ℕ) (legs : List Leg) : Type 0 where
+  pub few : length legs ≤ MAX_LEGS
+  pub each : All (IsLeg stations) legs
+  pub differ : AllPairs (λ a b. a.flight ≢ b.flight) legs
+
+-- costs of pairs of so many legs and fleets
+pub record AreCosts (legs fleets : ℕ) (costs : List PairCost) : Type 0 where
+  pub each : All (IsPairCost legs fleets) costs
+  pub differ : AllPairs (λ a b. ¬ (SamePair a b)) costs
+
+-- through pairs of so many legs
+pub record AreThroughs (legs : ℕ) (throughs : List Through) : Type 0 where
+  pub few : length throughs ≤ MAX_THROUGHS
+  pub each : All (IsThrough legs) throughs
+  pub differ : AllPairs (λ a b. ¬ (SameThrough a b)) throughs
+
 pub record AreTables (stations : List Station) (fleets : List Fleet) (legs : List Leg) (costs : List PairCost) (throughs : List Through) (settings : Settings) : Type 0 where
-  pub few_stations : length stations ≤ MAX_STATIONS
-  pub few_fleets : length fleets ≤ MAX_FLEETS
-  pub few_legs : length legs ≤ MAX_LEGS
-  pub few_throughs : length throughs ≤ MAX_THROUGHS
-  pub stations_fit : All IsStation stations
-  pub fleets_fit : All IsFleet fleets
-  pub legs_fit : All (IsLeg (length stations)) legs
-  pub costs_fit : All (IsPairCost (length legs) (length fleets)) costs
-  pub throughs_fit : All (IsThrough (length legs)) throughs
+  pub stations_fit : AreStations stations
+  pub fleets_fit : AreFleets fleets
+  pub legs_fit : AreLegs (length stations) legs
+  pub costs_fit : AreCosts (length legs) (length fleets) costs
+  pub throughs_fit : AreThroughs (length legs) throughs
   pub settings_fit : AreSettings settings
-  pub codes_differ : AllPairs (λ a b. a.code ≢ b.code) stations
-  pub names_differ : AllPairs (λ a b. a.name ≢ b.name) fleets
-  pub flights_differ : AllPairs (λ a b. a.flight ≢ b.flight) legs
-  pub pairs_differ : AllPairs (λ a b. ¬ (SamePair a b)) costs
-  pub throughs_differ : AllPairs (λ a b. ¬ (SameThrough a b)) throughs

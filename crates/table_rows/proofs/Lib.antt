@@ -1,2 +1,3 @@
+pub mod FrontReading
 pub mod Places
 pub mod Texts

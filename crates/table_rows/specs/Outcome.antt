@@ -1,5 +1,8 @@
 -- What the reader of a record answers.
 use Rattle.std.specs.Prelude.{◌≡◌, ℕ, Result, Ok, Err, ⊤}
+use Rattle.fleet_model.specs.declared.refusals.LoadError.{LoadError}
+use Rattle.fleet_model.specs.declared.refusals.LoadError.TheVariants as load
+use Rattle.fleet_model.specs.declared.refusals.TableFile.{TableFile}
 use Rattle.table_rows.specs.declared.faults.RecordError.{RecordError}
 use Rattle.table_rows.specs.declared.faults.RecordError.TheVariants as refused
 
@@ -7,3 +10,8 @@ use Rattle.table_rows.specs.declared.faults.RecordError.TheVariants as refused
 abbrev pub IsFaultOf : {E : Type 0} → Result E ℕ → RecordError → Type 0
 IsFaultOf read (refused.Bad kind) = read ≡ Err kind
 IsFaultOf read refused.NoMemory = ⊤
+
+-- the error is the first fault of this file, by what its records show, unless memory ran out
+abbrev pub IsFirstFault : TableFile → (ℕ → ℕ → Type 0) → LoadError → Type 0
+IsFirstFault file bad (load.Bad found) = (found.file ≡ file) × bad found.row found.kind
+IsFirstFault file bad load.NoMemory = ⊤

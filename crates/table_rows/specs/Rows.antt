@@ -28,28 +28,27 @@ abbrev pub LacksHeader : Fields → List Fields → Type 0
 LacksHeader header records = (rest : List Fields) → records ≢ header ∷ rest
 
 module _ {E K : Type 0} (key : E → K) (read : List K → Fields → Result E ℕ) where
-  -- Each record reads as the entry at its place. What a record reads as, or its fault, depends on the keys of
-  -- the entries before it.
-  pub record ReadAs (rows : List Fields) (entries : List E) : Type 0 where
-    pub same_length : length rows ≡ length entries
-    pub each : (k : ℕ) (d : E) → k < length rows → read (map key (take k entries)) (row_at rows k) ≡ Ok (slice_index_or entries k d)
+  -- The first records read as these entries, one each. What a record reads as, or its fault, depends on the keys
+  -- of the entries before it.
+  pub record FrontReads (rows : List Fields) (entries : List E) : Type 0 where
+    pub each : (k : ℕ) (d : E) → k < length entries → read (map key (take k entries)) (row_at rows k) ≡ Ok (slice_index_or entries k d)
 
   -- the records of a file are its header and records that read as these entries
   pub record TableReads (header : Fields) (records : List Fields) (entries : List E) : Type 0 where
     pub rest : List Fields
     pub under : IsUnder header records rest
-    pub reads : ReadAs rest entries
+    pub all : length rest ≡ length entries
+    pub reads : FrontReads rest entries
 
   -- the first record below the header that doesn't read, with its fault: those before it read as some entries
   pub record BadRecord (header : Fields) (records : List Fields) (row kind : ℕ) : Type 0 where
     pub rest : List Fields
     pub under : IsUnder header records rest
     pub before : List E
-    pub place : ℕ
-    pub within : place < length rest
-    pub reads : ReadAs (take place rest) before
-    pub fault : read (map key before) (row_at rest place) ≡ Err kind
-    pub number : row ≡ place + 2
+    pub within : length before < length rest
+    pub reads : FrontReads rest before
+    pub fault : read (map key before) (row_at rest (length before)) ≡ Err kind
+    pub number : row ≡ length before + 2
 
   -- the first fault of a file, with the number of its record: the header is record 1
   abbrev pub TableBad : Fields → List Fields → ℕ → ℕ → Type 0
