@@ -1,3 +1,8 @@
+ghost use Rattle.std.specs.Prelude.{◌≡◌};
+ghost use Rattle.fleet_model.specs.declared.refusals.LoadError.TheVariants as load;
+
+use entries::NoMemory as OutOfMemory;
+use std::alloc::{AllocError, AllocFailed};
 use thiserror::Error;
 
 /// The tables of a schedule, by their files, in the order in which they are read and judged.
@@ -27,6 +32,30 @@ pub enum LoadError {
     Bad(BadInput),
     #[error("out of memory")]
     NoMemory,
+}
+
+impl From<OutOfMemory> for LoadError {
+    ghost from_gives = { λ _ e. e ≡ load.NoMemory };
+
+    fn from(_: OutOfMemory) -> LoadError {
+        LoadError::NoMemory
+    }
+}
+
+impl From<AllocError> for LoadError {
+    ghost from_gives = { λ _ e. e ≡ load.NoMemory };
+
+    fn from(_: AllocError) -> LoadError {
+        LoadError::NoMemory
+    }
+}
+
+impl<T: Drop> From<AllocFailed<T>> for LoadError {
+    ghost from_gives = { λ _ e. e ≡ load.NoMemory };
+
+    fn from(_: AllocFailed<T>) -> LoadError {
+        LoadError::NoMemory
+    }
 }
 
 /// The first record is not the header.

@@ -1,26 +1,69 @@
 //! The table of stations.
 #![tactic(auto)]
 
-ghost use Rattle.std.specs.Prelude.{◌≡◌, ◌++◌, [], ◌∷◌, Ok, MatchResult, map};
+ghost use Rattle.std.specs.Prelude.{◌≡◌, IfOk, MatchResult};
 ghost use Rattle.csv_fields.specs.Record.{records_of};
+ghost use Rattle.fleet_model.specs.Limits.{AreStations};
 ghost use Rattle.fleet_model.specs.declared.refusals.TableFile.TheVariants as file;
-ghost use Rattle.station_table.specs.Stations.{StationsRead, code_of, station_read};
-ghost use Rattle.table_rows.specs.Outcome.{IsFaultOf};
-ghost use Rattle.table_rows.specs.Rows.{fields_in};
+ghost use Rattle.station_table.specs.Stations.{IsNewStation, StationRowsBad, StationRowsRead, StationsBad, StationsRead, station_read};
+ghost use Rattle.table_rows.specs.Outcome.{IsFaultOf, IsFirstFault};
+ghost use Rattle.table_rows.specs.Rows.{fields_in, rows_in};
 
 use csv_fields::{records, station_code, yes_no};
 use entries::Entries;
 use fleet_model::limits::{MAX_GROUND_MINUTES, MAX_STATIONS};
-use fleet_model::refusals::{DUPLICATE, NOT_TEXT, TOO_MANY, WRONG_WIDTH};
-use fleet_model::Station;
+use fleet_model::refusals::{DUPLICATE, NOT_TEXT, TOO_MANY, WRONG_HEADER, WRONG_WIDTH};
+use fleet_model::{BadInput, LoadError, Station, TableFile};
 use std::alloc::Global;
-use table_rows::{Names, RecordError, is_text, natural, text, three_fields};
+use table_rows::{Names, RecordError, below_header, is_text, natural, text, three_fields};
+
+/// The header of `stations.csv`.
+const HEADER: [&[u8]; 3] = [b"code", b"extra", b"maintenance"];
+
+/// The stations of `stations.csv`, in the order of its records, or the first fault of the file.
+pub fn read_stations(alloc: Global, bytes: &[u8]) -> Result<Vec<Station>, LoadError>
+    ensures reads { MatchResult result (λ stations. StationsRead (records_of bytes.now) stations.items)
+        (IsFirstFault file.Stations (StationsBad (records_of bytes.now))) }
+    ensures kept { IfOk result (λ stations. AreStations stations.items) }
+{
+    let records = records(alloc, bytes)?;
+    let Some(rows) = below_header(&records, &HEADER) else {
+        return Err(bad(1, WRONG_HEADER));
+    };
+    stations_of(alloc, rows)
+}
+
+/// The stations of the records below the header.
+fn stations_of(alloc: Global, rows: &[Vec<Vec<u8>>]) -> Result<Vec<Station>, LoadError>
+    ensures { MatchResult result (λ stations. StationRowsRead (rows_in rows.now) stations.items)
+        (IsFirstFault file.Stations (StationRowsBad (rows_in rows.now))) }
+{
+    let mut codes = Names::new(alloc);
+    let mut stations = Vec::new(alloc);
+    for (place, record) in rows.iter().enumerate() {
+        match station_of(alloc, &mut codes, record) {
+            Ok(station) => stations.push(station)?,
+            Err(RecordError::Bad { kind }) => return Err(bad(place as u64 + 2, kind)),
+            Err(RecordError::NoMemory) => return Err(LoadError::NoMemory),
+        }
+    }
+    Ok(stations)
+}
+
+fn bad(row: u64, kind: u8) -> LoadError
+    ensures { result ≡ LoadError.Bad (record { file = file.Stations; row = row; kind = kind }) }
+{
+    LoadError::Bad(BadInput {
+        file: TableFile::Stations,
+        row,
+        kind,
+    })
+}
 
 /// The station of a record, below the stations with these codes.
 #[tactic(auto, unfolding(crate::specs::Stations::station_read))]
 fn station_of(alloc: Global, codes: &mut Names, record: &[Vec<u8>]) -> Result<Station, RecordError>
-    ensures { MatchResult result
-        (λ station. (station_read codes.old (fields_in record.now) ≡ Ok station) × (codes.new ≡ codes.old ++ station.code ∷ []))
+    ensures { MatchResult result (IsNewStation codes.old codes.new (fields_in record.now))
         (IsFaultOf (station_read codes.old (fields_in record.now))) }
 {
     let Some((code, extra, flag)) = three_fields(record) else {

@@ -1,3 +1,4 @@
 pub mod FrontReading
 pub mod Places
+pub mod SoFar
 pub mod Texts

@@ -33,23 +33,32 @@ module _ {E K : Type 0} (key : E → K) (read : List K → Fields → Result E �
   pub record FrontReads (rows : List Fields) (entries : List E) : Type 0 where
     pub each : (k : ℕ) (d : E) → k < length entries → read (map key (take k entries)) (row_at rows k) ≡ Ok (slice_index_or entries k d)
 
+  -- all records read as these entries
+  pub record RowsRead (rows : List Fields) (entries : List E) : Type 0 where
+    pub all : length rows ≡ length entries
+    pub reads : FrontReads rows entries
+
+  -- The first record that doesn't read, with its kind: those before it read as some entries. Its number counts
+  -- the header as record 1.
+  pub record RowsBad (rows : List Fields) (row kind : ℕ) : Type 0 where
+    pub before : List E
+    pub within : length before < length rows
+    pub reads : FrontReads rows before
+    pub fault : read (map key before) (row_at rows (length before)) ≡ Err kind
+    pub number : row ≡ length before + 2
+
   -- the records of a file are its header and records that read as these entries
   pub record TableReads (header : Fields) (records : List Fields) (entries : List E) : Type 0 where
     pub rest : List Fields
     pub under : IsUnder header records rest
-    pub all : length rest ≡ length entries
-    pub reads : FrontReads rest entries
+    pub rows : RowsRead rest entries
 
-  -- the first record below the header that doesn't read, with its fault: those before it read as some entries
-  pub record BadRecord (header : Fields) (records : List Fields) (row kind : ℕ) : Type 0 where
+  -- below the header of a file a record doesn't read
+  pub record BadBelowHeader (header : Fields) (records : List Fields) (row kind : ℕ) : Type 0 where
     pub rest : List Fields
     pub under : IsUnder header records rest
-    pub before : List E
-    pub within : length before < length rest
-    pub reads : FrontReads rest before
-    pub fault : read (map key before) (row_at rest (length before)) ≡ Err kind
-    pub number : row ≡ length before + 2
+    pub rows : RowsBad rest row kind
 
-  -- the first fault of a file, with the number of its record: the header is record 1
+  -- the first fault of a file, with the number of its record
   abbrev pub TableBad : Fields → List Fields → ℕ → ℕ → Type 0
-  TableBad header records row kind = (LacksHeader header records × (row ≡ 1) × (kind ≡ WRONG_HEADER)) ⊎ BadRecord header records row kind
+  TableBad header records row kind = (LacksHeader header records × (row ≡ 1) × (kind ≡ WRONG_HEADER)) ⊎ BadBelowHeader header records row kind
