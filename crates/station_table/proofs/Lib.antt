@@ -1,1 +1,1 @@
-pub mod SoFar
+pub mod Kept

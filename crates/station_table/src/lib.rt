@@ -12,10 +12,12 @@ ghost use Rattle.table_rows.specs.Rows.{fields_in, rows_in};
 use csv_fields::{records, station_code, yes_no};
 use entries::Entries;
 use fleet_model::limits::{MAX_GROUND_MINUTES, MAX_STATIONS};
-use fleet_model::refusals::{DUPLICATE, NOT_TEXT, TOO_MANY, WRONG_HEADER, WRONG_WIDTH};
-use fleet_model::{BadInput, LoadError, Station, TableFile};
+use fleet_model::refusals::{DUPLICATE, NOT_TEXT, TOO_MANY, WRONG_WIDTH};
+use fleet_model::{LoadError, Station, TableFile};
 use std::alloc::Global;
-use table_rows::{Names, RecordError, below_header, is_text, natural, text, three_fields};
+use table_rows::{
+    Names, RecordError, at_record, below_header, is_text, natural, text, three_fields, without_header,
+};
 
 /// The header of `stations.csv`.
 const HEADER: [&[u8]; 3] = [b"code", b"extra", b"maintenance"];
@@ -27,10 +29,10 @@ pub fn read_stations(alloc: Global, bytes: &[u8]) -> Result<Vec<Station>, LoadEr
     ensures kept { IfOk result (λ stations. AreStations stations.items) }
 {
     let records = records(alloc, bytes)?;
-    let Some(rows) = below_header(&records, &HEADER) else {
-        return Err(bad(1, WRONG_HEADER));
-    };
-    stations_of(alloc, rows)
+    match below_header(&records, &HEADER) {
+        Some(rows) => stations_of(alloc, rows),
+        None => Err(without_header(TableFile::Stations)),
+    }
 }
 
 /// The stations of the records below the header.
@@ -43,21 +45,10 @@ fn stations_of(alloc: Global, rows: &[Vec<Vec<u8>>]) -> Result<Vec<Station>, Loa
     for (place, record) in rows.iter().enumerate() {
         match station_of(alloc, &mut codes, record) {
             Ok(station) => stations.push(station)?,
-            Err(RecordError::Bad { kind }) => return Err(bad(place as u64 + 2, kind)),
-            Err(RecordError::NoMemory) => return Err(LoadError::NoMemory),
+            Err(error) => return Err(at_record(TableFile::Stations, place, error)),
         }
     }
     Ok(stations)
-}
-
-fn bad(row: u64, kind: u8) -> LoadError
-    ensures { result ≡ LoadError.Bad (record { file = file.Stations; row = row; kind = kind }) }
-{
-    LoadError::Bad(BadInput {
-        file: TableFile::Stations,
-        row,
-        kind,
-    })
 }
 
 /// The station of a record, below the stations with these codes.

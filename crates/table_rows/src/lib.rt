@@ -8,7 +8,7 @@ pub mod names;
 pub mod naturals;
 pub mod rows;
 
-pub use faults::RecordError;
+pub use faults::{RecordError, at_record, without_header};
 pub use fields::{five_fields, is_text, text, three_fields, two_fields};
 pub use names::Names;
 pub use naturals::natural;
