@@ -16,7 +16,7 @@ use fleet_model::refusals::{DUPLICATE, NOT_TEXT, TOO_MANY, WRONG_WIDTH};
 use fleet_model::{LoadError, Station, TableFile};
 use std::alloc::Global;
 use table_rows::{
-    Names, RecordError, at_record, below_header, is_text, natural, text, three_fields, without_header,
+    Names, RecordError, at_record, below_header, is_text, natural, three_fields, without_header,
 };
 
 /// The header of `stations.csv`.
@@ -67,7 +67,7 @@ fn station_of(alloc: Global, codes: &mut Names, record: &[Vec<u8>]) -> Result<St
     let extra = natural(extra, u32::from(MAX_GROUND_MINUTES))?;
     let maintenance = yes_no(flag)?;
     let earlier = codes.len();
-    if !codes.add(alloc, text(code))? {
+    if !codes.add(alloc, code)? {
         return Err(RecordError::Bad { kind: DUPLICATE });
     }
     if earlier >= MAX_STATIONS {

@@ -1,4 +1,5 @@
 pub mod FrontReading
+pub mod Numbered
 pub mod Places
 pub mod SoFar
 pub mod Texts

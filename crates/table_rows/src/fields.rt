@@ -1,4 +1,4 @@
-ghost use Rattle.std.specs.Prelude.{◌≡◌, IsTrue, option_map};
+ghost use Rattle.std.specs.Prelude.{◌≡◌, option_map};
 ghost use Rattle.std.specs.Str.{is_utf8};
 ghost use Rattle.table_rows.specs.Fields.{five_of, four_of, three_of, two_of};
 ghost use Rattle.table_rows.specs.Rows.{fields_in};
@@ -50,16 +50,5 @@ pub fn is_text(field: &[u8]) -> bool
     match str::from_utf8(field) {
         Ok(_) => true,
         Err(_) => false,
-    }
-}
-
-/// The text of a field that is UTF-8.
-pub fn text(field: &[u8]) -> &str
-    requires { IsTrue (is_utf8 field.now) }
-    ensures { result.now ≡ field.now }
-{
-    match str::from_utf8(field) {
-        Ok(text) => text,
-        Err(_) => unreachable!(),
     }
 }

@@ -4,12 +4,14 @@
 
 pub mod faults;
 pub mod fields;
+pub mod named;
 pub mod names;
 pub mod naturals;
 pub mod rows;
 
 pub use faults::{RecordError, at_record, without_header};
-pub use fields::{five_fields, is_text, text, three_fields, two_fields};
+pub use fields::{five_fields, is_text, three_fields, two_fields};
+pub use named::{Named, numbers_of};
 pub use names::Names;
 pub use naturals::natural;
 pub use rows::below_header;

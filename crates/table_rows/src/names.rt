@@ -9,15 +9,15 @@ use std::marker::Model;
 /// Names, each once, numbered from 0 in the order in which they were added. Contracts see the list of names.
 #[derive(Drop)]
 pub struct Names {
-    names: IndexSet<String>,
+    names: IndexSet<Vec<u8>>,
 }
 
 impl Model for Names {
-    ghost use Rattle.std.specs.Prelude.{List, ℕ, map, string_bytes};
+    ghost use Rattle.std.specs.Prelude.{List, ℕ, map};
 
     ghost Value = { List (List ℕ) };
 
-    ghost view = { λ names. map string_bytes names.names.keys };
+    ghost view = { λ names. map (λ name. name.items) names.names.keys };
 }
 
 impl Names {
@@ -31,11 +31,11 @@ impl Names {
     }
 
     /// Adds a name, where it isn't there yet, and answers whether it was added.
-    pub fn add(&mut self, alloc: Global, name: &str) -> Result<bool, NoMemory>
+    pub fn add(&mut self, alloc: Global, name: &[u8]) -> Result<bool, NoMemory>
         ensures added { IfOk result (λ added. added ≡ not (is_among name.now self.old)) }
         ensures appended { IfOk result (λ added. self.new ≡ (if added then self.old ++ name.now ∷ [] else self.old)) }
     {
-        let (_, added) = self.names.insert_full(String::from_str(alloc, name)?)?;
+        let (_, added) = self.names.insert_full(Vec::from_slice(alloc, name)?)?;
         Ok(added)
     }
 
@@ -54,7 +54,7 @@ impl Names {
     }
 
     /// The number of a name, where it is there.
-    pub fn number(&self, name: &str) -> Option<usize>
+    pub fn number(&self, name: &[u8]) -> Option<usize>
         ensures { result ≡ number_of name.now self.now }
     {
         self.names.get_index_of(name)

@@ -1,8 +1,8 @@
 use Rattle.std.proofs.Common.{◌∙◌, ap, sym, not}
 use Rattle.table_rows.specs.Names.{is_among}
-use Rattle.table_rows.proofs.Places.{among_strings}
+use Rattle.table_rows.proofs.Places.{among_vectors}
 use Rattle.table_rows.proofs.names.Names.add.Goals as goal
 
 pub returns-clause-added : goal.returns-clause-added
 returns-clause-added c =
-    c.in_ok-added.ensures.added ∙ ap not (rw (← c.self.view_is) (among_strings c.self.inside.names.keys c.in_ok-from_str.field-0 _ c.in_ok-from_str.ensures.ok))
+    c.in_ok-added.ensures.added ∙ ap not (rw (← c.self.view_is) (among_vectors c.self.inside.names.keys c.in_ok-from_slice.field-0 _ c.in_ok-from_slice.ensures.items))
