@@ -74,7 +74,7 @@ pub need_is_at_departures : NeedIsAtDepartures
 unfolding need_of
 need_is_at_departures t w f s test passes =
     let no_greater = max_below-least (excess t w f s) (max_below (excess_at_departure t w f s test) (legs_in t)) MINUTES_PER_PERIOD
-        (record { each = λ m within. no_more t w f s test passes m }) in
+    (record { each = λ m within. no_more t w f s test passes m }) in
     let no_less = max_below-least (excess_at_departure t w f s test) (max_below (excess t w f s) MINUTES_PER_PERIOD) (legs_in t)
-        (record { each = λ l below. if_below (test l) _ _ (max_below-upper (excess t w f s) MINUTES_PER_PERIOD (leg_of t l).dep (t.in_range.legs_fit.each l no_leg below).dep) }) in
+    (record { each = λ l below. if_below (test l) _ _ (max_below-upper (excess t w f s) MINUTES_PER_PERIOD (leg_of t l).dep (t.in_range.legs_fit.each l no_leg below).dep) }) in
     omega (arith, no_greater, no_less)

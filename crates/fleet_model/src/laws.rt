@@ -17,8 +17,7 @@ pub fn need_is_least()
 /// Need is the greatest excess of departures over arrivals at those minutes in which the fleet departs.
 pub fn need_is_at_departures()
     ensures { NeedIsAtDepartures }
-{
-}
+{}
 
 /// At each minute the flights of a fleet under way and its aircraft on the ground sum to those that it uses,
 /// balanced or not.

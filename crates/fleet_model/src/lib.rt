@@ -13,7 +13,7 @@ pub mod times;
 
 pub use assignments::Assignment;
 pub use costs::Costs;
-pub use parts::{Fleet, Leg, Pair, PairCost, Settings, Station, Through};
+pub use parts::{Connection, Fleet, Leg, Pair, PairCost, Settings, Station, Through};
 pub use refusals::{BadInput, LoadError, TableFile};
 pub use tables::Tables;
 pub use times::{busy, laps, nights, ready};

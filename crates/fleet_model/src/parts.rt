@@ -39,7 +39,7 @@ pub struct Leg {
 
 /// A leg flown by a fleet, both by number: what an assignment chooses, a cost is for and a subproblem keeps.
 /// Pairs are ordered by leg, then fleet.
-#[derive(Clone, Copy, Debug, PartialEq, Eq, PartialOrd, Ord)]
+#[derive(Clone, Copy, Debug, PartialEq, Eq, PartialOrd, Ord, Hash)]
 pub struct Pair {
     pub leg: u32,
     pub fleet: u32,
@@ -51,6 +51,13 @@ pub struct PairCost {
     pub leg: u32,
     pub fleet: u32,
     pub cost: i128,
+}
+
+/// A leg that arrives and one that departs, by number, in one aircraft.
+#[derive(Clone, Copy, Debug, PartialEq, Eq, Hash)]
+pub struct Connection {
+    pub arriving: u32,
+    pub departing: u32,
 }
 
 /// Two legs that passengers would like to fly in one aircraft, and what that is worth, in cost units.

@@ -8,4 +8,4 @@ pub returns-clause-fits : goal.returns-clause-fits
 returns-clause-fits c =
     let t = c.args.self.now in
     rw c.get.ensures (found_fits t.costs c.args.pair (legs_in t) (fleets_in t)
-        (recursion_from_All (IsPairCost (legs_in t) (fleets_in t)) t.costs t.in_range.costs_fit.each))
+    (recursion_from_All (IsPairCost (legs_in t) (fleets_in t)) t.costs t.in_range.costs_fit.each))

@@ -1,0 +1,2 @@
+pub mod CostsKept
+pub mod FleetsKept

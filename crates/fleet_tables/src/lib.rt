@@ -1,0 +1,9 @@
+//! The tables of fleets and of costs.
+#![tactic(auto)]
+
+
+pub mod costs;
+pub mod fleets;
+
+
+pub use fleets::read_fleets;
