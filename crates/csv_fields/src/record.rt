@@ -36,11 +36,11 @@ pub fn records(alloc: Global, bytes: &[u8]) -> Result<Vec<Vec<Vec<u8>>>, NoMemor
 }
 
 // The fields of a record, each on its own.
-fn fields(alloc: Global, record: &ByteRecord) -> Result<Vec<Vec<u8>>, NoMemory>
-    ensures { IfOk result (λ fields. map (λ field. field.items) fields.items ≡ fields_of record.now) }
+fn fields(alloc: Global, row: &ByteRecord) -> Result<Vec<Vec<u8>>, NoMemory>
+    ensures { IfOk result (λ fields. map (λ field. field.items) fields.items ≡ fields_of row.now) }
 {
-    let mut fields = Vec::with_capacity(alloc, record.len())?;
-    for field in record {
+    let mut fields = Vec::with_capacity(alloc, row.len())?;
+    for field in row {
         let copy = Vec::from_slice(alloc, field)?;
         fields.push(copy)?;
     }

@@ -18,11 +18,11 @@ loop-field-preserved c =
     let items = rw good at c.push.ensures.items in
     record {
       same_row = ap (λ r. r.now) c.next.ensures.steps.0 ∙ inv.same_row;
-      copied = rw (items, map-append, inv.copied, c.in_ok-copy.ensures.items, steps.2) (sym (take_one_more (fields_of c.args.record.now) c.loop-field.field-iterator.at c.in-Some.field.now steps.1));
+      copied = rw (items, map-append, inv.copied, c.in_ok-copy.ensures.items, steps.2) (sym (take_one_more (fields_of c.args.row.now) c.loop-field.field-iterator.at c.in-Some.field.now steps.1));
     }
 
 pub returns : goal.returns
 returns c =
     let inv = c.loop-field.invariant in
     let steps = rw (c.in-None.is, inv.same_row) at c.next.ensures.steps in
-    inv.copied ∙ take_all (fields_of c.args.record.now) c.loop-field.field-iterator.at steps.1
+    inv.copied ∙ take_all (fields_of c.args.row.now) c.loop-field.field-iterator.at steps.1
