@@ -1,6 +1,7 @@
 ghost use Rattle.std.specs.Prelude.{◌≡◌, ◌↔◌, All, IsOk, IsTrue};
 ghost use Rattle.std.specs.List.{list_all};
-ghost use Rattle.csv_fields.specs.Name.{IsName, IsNameByte, IsStationCode, is_name_byte, name_of, station_code_of};
+ghost use Rattle.csv_fields.specs.Name.{name_of, station_code_of};
+ghost use Rattle.entries.specs.Names.{IsName, IsNameByte, IsStationCode, is_name_byte};
 
 use crate::fault::FieldFault;
 

@@ -1,5 +1,6 @@
 -- What tables keep: their limits, numbers in range, and names that differ.
 use Rattle.std.specs.Prelude.{◌≡◌, ◌≢◌, ℕ, ◌<◌, ◌≤◌, List, length, All, AllPairs, ℤ, pos, neg_ℤ, ◌≤ℤ◌}
+use Rattle.entries.specs.Names.{IsName, IsStationCode}
 use Rattle.fleet_model.specs.declared.parts.Station.{Station}
 use Rattle.fleet_model.specs.declared.parts.Fleet.{Fleet}
 use Rattle.fleet_model.specs.declared.parts.Leg.{Leg}
@@ -9,14 +10,17 @@ use Rattle.fleet_model.specs.declared.parts.Settings.{Settings}
 use Rattle.fleet_model.specs.declared.limits.TheConstants.{MINUTES_PER_DAY, MINUTES_PER_PERIOD, MAX_STATIONS, MAX_FLEETS, MAX_LEGS, MAX_THROUGHS, MAX_AIRCRAFT, MAX_GROUND_MINUTES, MAX_COST}
 
 pub record IsStation (station : Station) : Type 0 where
+  pub code : IsStationCode station.code
   pub extra : station.extra ≤ MAX_GROUND_MINUTES
 
 pub record IsFleet (fleet : Fleet) : Type 0 where
+  pub name : IsName fleet.name
   pub aircraft : fleet.aircraft ≤ MAX_AIRCRAFT
   pub turn : fleet.turn ≤ MAX_GROUND_MINUTES
 
 -- a leg between two of so many stations
 pub record IsLeg (stations : ℕ) (leg : Leg) : Type 0 where
+  pub flight : IsName leg.flight
   pub from : leg.from < stations
   pub to : leg.to < stations
   pub dep : leg.dep < MINUTES_PER_PERIOD
