@@ -1,0 +1,6 @@
+pub mod Counts
+pub mod Desk
+pub mod DeskFile
+pub mod Failing
+pub mod Memory
+pub mod Sink

@@ -1,0 +1,37 @@
+ghost use Rattle.std.specs.Prelude.{◌≡◌, ◌≤◌, Some, None};
+ghost use Rattle.plan_desk.specs.Counts.{counted};
+
+use crate::counts::count_up;
+use crate::{DeskError, DeskFile};
+
+/// How many faults a desk has counted, and the file of the last.
+#[derive(Debug, Drop)]
+pub(crate) struct FaultCount {
+    pub(crate) count: u64,
+    pub(crate) blamed: Option<DeskFile>,
+}
+
+impl FaultCount {
+    /// No fault so far.
+    pub(crate) fn new() -> FaultCount
+        ensures count { result.count ≡ 0 }
+        ensures blamed { result.blamed ≡ None }
+    {
+        FaultCount {
+            count: 0,
+            blamed: None,
+        }
+    }
+
+    /// Counts a fault of a call on the file, and gives the answer for it.
+    pub(crate) fn blame(&mut self, file: DeskFile) -> DeskError
+        ensures failed { result ≡ DeskError.Failed }
+        ensures count { self.new.count ≡ counted self.old.count 1 }
+        ensures never_falls { self.old.count ≤ self.new.count }
+        ensures blamed { self.new.blamed ≡ Some file }
+    {
+        count_up(&mut self.count, 1);
+        self.blamed = Some(file);
+        DeskError::Failed
+    }
+}
