@@ -1,5 +1,6 @@
 ghost use Rattle.std.specs.Prelude.{◌≡◌, ◌≤◌, Some, None};
 ghost use Rattle.plan_desk.specs.Counts.{counted};
+ghost use Rattle.plan_desk.specs.Desk.{MatchFailed};
 
 use crate::counts::count_up;
 use crate::{DeskError, DeskFile};
@@ -33,5 +34,22 @@ impl FaultCount {
         count_up(&mut self.count, 1);
         self.blamed = Some(file);
         DeskError::Failed
+    }
+
+    /// Counts a fault of a call on the file where its answer is `Failed`.
+    pub(crate) fn note<T>(
+        &mut self,
+        file: DeskFile,
+        answer: Result<T, DeskError>,
+    ) -> Result<T, DeskError>
+        ensures answer { result ≡ answer }
+        ensures count { MatchFailed result (self.new.count ≡ counted self.old.count 1) (self.new.count ≡ self.old.count) }
+        ensures never_falls { self.old.count ≤ self.new.count }
+        ensures blamed { MatchFailed result (self.new.blamed ≡ Some file) (self.new.blamed ≡ self.old.blamed) }
+    {
+        match answer {
+            Err(DeskError::Failed) => Err(self.blame(file)),
+            answer => answer,
+        }
     }
 }

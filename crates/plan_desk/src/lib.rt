@@ -7,16 +7,21 @@ mod desk;
 mod failing;
 mod faults;
 mod file;
+mod file_desk;
 mod memory_desk;
 mod memory_sink;
 mod sink;
+mod std_sink;
+mod transfer;
 
 pub use desk::{Desk, DeskError};
 pub use failing::FailingCall;
 pub use file::{DeskFile, PROOF_LIMIT, TABLE_LIMIT};
+pub use file_desk::FileDesk;
 pub use memory_desk::MemoryDesk;
 pub use memory_sink::MemorySink;
 pub use sink::{Sink, SinkError};
+pub use std_sink::StdSink;
 
 #[cfg(test)]
 mod tests;

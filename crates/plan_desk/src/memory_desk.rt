@@ -19,7 +19,7 @@ use std::collections::BTreeMap;
 ///
 /// Calls are counted from 1, reads and writes together. A call that is to fail does nothing else, and a read of a
 /// name under which nothing stands is a counted fault.
-#[derive(Drop)]
+#[derive(Debug, Drop)]
 pub struct MemoryDesk {
     files: BTreeMap<String, Vec<u8>>,
     alloc: Global,

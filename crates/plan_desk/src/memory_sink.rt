@@ -11,7 +11,7 @@ use crate::{FailingCall, Sink, SinkError};
 /// A sink that keeps the output in memory. It tells what was put, and puts of its own choice fail, for tests.
 ///
 /// Puts are counted from 1. A put that is to fail appends nothing.
-#[derive(Drop)]
+#[derive(Debug, Drop)]
 pub struct MemorySink {
     output: Vec<u8>,
     plan: CallPlan,

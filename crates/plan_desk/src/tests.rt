@@ -1,8 +1,9 @@
 use crate::{
-    Desk, DeskError, DeskFile, FailingCall, MemoryDesk, MemorySink, PROOF_LIMIT, Sink, SinkError,
-    TABLE_LIMIT,
+    Desk, DeskError, DeskFile, FailingCall, FileDesk, MemoryDesk, MemorySink, PROOF_LIMIT, Sink,
+    SinkError, StdSink, TABLE_LIMIT,
 };
 use std::alloc::Global;
+use std::fs;
 use std::test::Fail;
 
 fn text(alloc: Global, text: &str) -> Result<String, Fail> {
@@ -85,5 +86,59 @@ fn a_sink_in_memory_takes_pieces(rt: HostRuntime) -> Result<(), Fail> {
     assert_eq!(rt; sink.faults(), 1);
     sink.put(b"e")?;
     assert_eq!(rt; sink.put_bytes(), b"abe".as_slice());
+    Ok(())
+}
+
+// The folder in which the test runs. A file that isn't there and a folder in the place of a file are faults.
+#[test]
+fn real_files_are_written_and_read(rt: HostRuntime) -> Result<(), Fail> {
+    let alloc = rt.alloc();
+    let mut desk = FileDesk::new(rt);
+    let long = vec![in alloc; b'x'; 200_000]?;
+    desk.write(alloc, ".", DeskFile::Plan, &long)?;
+    let plan = desk.read(alloc, ".", DeskFile::Plan, TABLE_LIMIT)?;
+    assert_eq!(rt; plan.as_slice(), long.as_slice());
+    assert_eq!(rt;
+        desk.read(alloc, ".", DeskFile::Plan, 199_999).err(),
+        Some(DeskError::TooLong)
+    );
+    desk.write(alloc, ".", DeskFile::Plan, b"short")?;
+    let plan = desk.read(alloc, ".", DeskFile::Plan, 5)?;
+    assert_eq!(rt; plan.as_slice(), b"short".as_slice());
+    assert_eq!(rt;
+        (desk.taken(), desk.faults(), desk.blamed()),
+        (400_005, 0, None)
+    );
+
+    assert_eq!(rt;
+        desk.read(alloc, "nowhere", DeskFile::Legs, 5).err(),
+        Some(DeskError::Failed)
+    );
+    assert_eq!(rt;
+        desk.write(alloc, "nowhere", DeskFile::Proof, b"p"),
+        Err(DeskError::Failed)
+    );
+    assert_eq!(rt; (desk.faults(), desk.blamed()), (2, Some(DeskFile::Proof)));
+    fs::create_dir(&rt, "fleets.csv")?;
+    assert_eq!(rt;
+        desk.read(alloc, ".", DeskFile::Fleets, 5).err(),
+        Some(DeskError::Failed)
+    );
+    assert_eq!(rt;
+        desk.write(alloc, ".", DeskFile::Fleets, b"f"),
+        Err(DeskError::Failed)
+    );
+    assert_eq!(rt; desk.faults(), 4);
+    fs::remove_dir(&rt, "fleets.csv")?;
+    fs::remove_file(&rt, "plan.csv")?;
+    Ok(())
+}
+
+#[test]
+fn the_output_takes_pieces(rt: HostRuntime) -> Result<(), Fail> {
+    let mut sink = StdSink::new(rt);
+    sink.put(b"the output takes pieces\n")?;
+    sink.put(b"")?;
+    assert_eq!(rt; sink.faults(), 0);
     Ok(())
 }
