@@ -1,0 +1,2 @@
+pub mod LegsKept
+pub mod ThroughsKept

@@ -1,0 +1,8 @@
+//! The tables of a schedule, read from the bytes of their five files.
+#![tactic(auto)]
+
+pub mod legs;
+pub mod throughs;
+
+pub use legs::read_legs;
+pub use throughs::read_throughs;
