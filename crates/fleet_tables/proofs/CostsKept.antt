@@ -1,5 +1,5 @@
 -- One cost more keeps what costs keep.
-use Rattle.std.proofs.Common.{◌≡◌, ◌≢◌, ℕ, ◌+◌, ◌<◌, List, [], ◌∷◌, ◌++◌, length, map, slice_index_or, ◌==◌, ◌&&◌, true, AllPairs, refl, ap, arith}
+use Rattle.std.proofs.Common.{◌≡◌, ℕ, List, [], ◌∷◌, ◌++◌, length, map, slice_index_or, true, refl, arith}
 use Rattle.std.proofs.lemmas.Bool.Decides.{nat_tests}
 use Rattle.std.proofs.lemmas.List.Elements.{All-push}
 use Rattle.std.proofs.lemmas.List.Quantifiers.{all_pairs_push}
@@ -23,6 +23,7 @@ pub costs_kept_push : (flights fleets : List (List ℕ)) (pairs new : List Pair)
     → AreCosts (length flights) (length fleets) costs → pairs ≡ map pair_of costs → IsNewCost flights fleets pairs new fields entry → grown ≡ costs ++ entry ∷ []
     → AreCosts (length flights) (length fleets) grown
 costs_kept_push flights fleets pairs new fields costs grown entry kept numbered more added = rw added (record {
-    each = All-push (IsPairCost (length flights) (length fleets)) costs entry kept.each more.fits;
-    differ = all_pairs_push (λ a b. ¬ (SamePair a b)) costs entry kept.differ (λ k d within same.
-        new_key pair_of same_pair same_pair-self costs entry (rw (← numbered) more.fresh) k d within (pairs_equal (slice_index_or costs k d) entry same)) })
+  each = All-push (IsPairCost (length flights) (length fleets)) costs entry kept.each more.fits;
+  differ = all_pairs_push (λ a b. ¬ (SamePair a b)) costs entry kept.differ (λ k d within same.
+      new_key pair_of same_pair same_pair-self costs entry (rw (← numbered) more.fresh) k d within (pairs_equal (slice_index_or costs k d) entry same));
+})

@@ -1,5 +1,5 @@
 -- One fleet more keeps what fleets keep.
-use Rattle.std.proofs.Common.{◌≡◌, ℕ, ◌+◌, ◌<◌, List, [], ◌∷◌, ◌++◌, length, map, bytes_eq, ap, arith}
+use Rattle.std.proofs.Common.{◌≡◌, ℕ, List, [], ◌∷◌, ◌++◌, length, map, bytes_eq, ap, arith}
 use Rattle.std.proofs.lemmas.List.{length-append, length-map}
 use Rattle.std.proofs.lemmas.List.Elements.{All-push}
 use Rattle.fleet_model.specs.declared.parts.Fleet.{Fleet}
@@ -14,6 +14,7 @@ kept_none fleets none = rw none (record { few = omega arith; each = λ k d withi
 pub kept_push : (names new : List (List ℕ)) (fields : Fields) (fleets grown : List Fleet) (fleet : Fleet) → AreFleets fleets
     → names ≡ map fleet_name_of fleets → IsNewFleet names new fields fleet → grown ≡ fleets ++ fleet ∷ [] → AreFleets grown
 kept_push names new fields fleets grown fleet kept numbered more added = rw added (record {
-    few = omega (arith, length-append {A = Fleet}, length-map fleets fleet_name_of, ap length numbered, more.room);
-    each = All-push IsFleet fleets fleet kept.each more.fits;
-    differ = keys_differ_push fleet_name_of bytes_eq bytes_eq-self fleets fleet kept.differ (rw (← numbered) more.fresh) })
+  few = omega (arith, length-append {A = Fleet}, length-map fleets fleet_name_of, ap length numbered, more.room);
+  each = All-push IsFleet fleets fleet kept.each more.fits;
+  differ = keys_differ_push fleet_name_of bytes_eq bytes_eq-self fleets fleet kept.differ (rw (← numbered) more.fresh);
+})

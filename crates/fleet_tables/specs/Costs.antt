@@ -1,5 +1,5 @@
 -- What a file of costs reads as.
-use Rattle.std.specs.Prelude.{◌≡◌, ℕ, Bool, pos, neg_ℤ, ◌++◌, false, not, ◌&&◌, ◌==◌, List, ◌∷◌, [], length, codes, Result, Ok}
+use Rattle.std.specs.Prelude.{◌≡◌, ℕ, Bool, neg_ℤ, ◌++◌, false, not, ◌&&◌, ◌==◌, List, ◌∷◌, [], length, codes, Result, Ok}
 use Rattle.std.specs.List.{list_any}
 use Rattle.std.specs.Str.{is_utf8}
 use Rattle.csv_fields.specs.Name.{name_of}

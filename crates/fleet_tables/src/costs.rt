@@ -31,7 +31,12 @@ struct Known {
 
 /// The costs of `costs.csv`, in the order of its records, by the numbers of legs and fleets, or the first fault
 /// of the file. The legs' flights differ from one another, and so do the fleets' names.
-pub fn read_costs(alloc: Global, bytes: &[u8], legs: &[Leg], fleets: &[Fleet]) -> Result<Vec<PairCost>, LoadError>
+pub fn read_costs(
+    alloc: Global,
+    bytes: &[u8],
+    legs: &[Leg],
+    fleets: &[Fleet],
+) -> Result<Vec<PairCost>, LoadError>
     requires few_legs { length legs.now ≤ MAX_LEGS }
     requires few_fleets { length fleets.now ≤ MAX_FLEETS }
     requires flights { AllPairs (λ a b. a.flight ≢ b.flight) legs.now }
@@ -94,7 +99,11 @@ fn costs_of(alloc: Global, known: &Known, rows: &[Vec<Vec<u8>>]) -> Result<Vec<P
 
 /// The cost of a record, below the costs of these pairs.
 #[tactic(auto, unfolding(crate::specs::Costs::cost_read))]
-fn cost_of(known: &Known, pairs: &mut IndexSet<Pair>, record: &[Vec<u8>]) -> Result<PairCost, RecordError>
+fn cost_of(
+    known: &Known,
+    pairs: &mut IndexSet<Pair>,
+    record: &[Vec<u8>],
+) -> Result<PairCost, RecordError>
     requires flights { length known.now.flights ≤ MAX_LEGS }
     requires fleets { length known.now.fleets ≤ MAX_FLEETS }
     ensures { MatchResult result (IsNewCost known.now.flights known.now.fleets pairs.old.keys pairs.new.keys (fields_in record.now))
@@ -110,10 +119,14 @@ fn cost_of(known: &Known, pairs: &mut IndexSet<Pair>, record: &[Vec<u8>]) -> Res
     fleet_name(fleet)?;
     let cost = whole(cost, -MAX_COST, MAX_COST)?;
     let Some(leg) = known.flights.number(flight) else {
-        return Err(RecordError::Bad { kind: UNKNOWN_FLIGHT });
+        return Err(RecordError::Bad {
+            kind: UNKNOWN_FLIGHT,
+        });
     };
     let Some(fleet) = known.fleets.number(fleet) else {
-        return Err(RecordError::Bad { kind: UNKNOWN_FLEET });
+        return Err(RecordError::Bad {
+            kind: UNKNOWN_FLEET,
+        });
     };
     let leg = leg as u32;
     let fleet = fleet as u32;

@@ -1,2 +1,3 @@
 pub mod LegsKept
+pub mod Refused
 pub mod ThroughsKept

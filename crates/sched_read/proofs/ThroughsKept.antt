@@ -1,5 +1,5 @@
 -- One through pair more keeps what through pairs keep.
-use Rattle.std.proofs.Common.{◌≡◌, ◌≢◌, ℕ, ◌+◌, ◌<◌, List, [], ◌∷◌, ◌++◌, length, map, slice_index_or, ◌==◌, ◌&&◌, true, refl, ap, arith}
+use Rattle.std.proofs.Common.{◌≡◌, ℕ, List, [], ◌∷◌, ◌++◌, length, map, slice_index_or, true, refl, ap, arith}
 use Rattle.std.proofs.lemmas.Bool.Decides.{nat_tests}
 use Rattle.std.proofs.lemmas.List.{length-append, length-map}
 use Rattle.std.proofs.lemmas.List.Elements.{All-push}
@@ -24,7 +24,8 @@ pub throughs_kept_push : (flights : List (List ℕ)) (connections new : List Con
     → AreThroughs (length flights) throughs → connections ≡ map connection_of throughs → IsNewThrough flights connections new fields entry → grown ≡ throughs ++ entry ∷ []
     → AreThroughs (length flights) grown
 throughs_kept_push flights connections new fields throughs grown entry kept numbered more added = rw added (record {
-    few = omega (arith, length-append {A = Through}, length-map throughs connection_of, ap length numbered, more.room);
-    each = All-push (IsThrough (length flights)) throughs entry kept.each more.fits;
-    differ = all_pairs_push (λ a b. ¬ (SameThrough a b)) throughs entry kept.differ (λ k d within same.
-        new_key connection_of same_connection same_connection-self throughs entry (rw (← numbered) more.fresh) k d within (connections_equal (slice_index_or throughs k d) entry same)) })
+  few = omega (arith, length-append {A = Through}, length-map throughs connection_of, ap length numbered, more.room);
+  each = All-push (IsThrough (length flights)) throughs entry kept.each more.fits;
+  differ = all_pairs_push (λ a b. ¬ (SameThrough a b)) throughs entry kept.differ (λ k d within same.
+      new_key connection_of same_connection same_connection-self throughs entry (rw (← numbered) more.fresh) k d within (connections_equal (slice_index_or throughs k d) entry same));
+})

@@ -52,7 +52,12 @@ fn codes_of(alloc: Global, stations: &[Station]) -> Result<Names, NoMemory>
 }
 
 /// The legs of a file between known stations.
-fn legs_known(alloc: Global, bytes: &[u8], codes: &Names, settings: Settings) -> Result<Vec<Leg>, LoadError>
+fn legs_known(
+    alloc: Global,
+    bytes: &[u8],
+    codes: &Names,
+    settings: Settings,
+) -> Result<Vec<Leg>, LoadError>
     requires few { length codes.now ≤ MAX_STATIONS }
     requires settings { AreSettings settings }
     ensures reads { MatchResult result (λ legs. LegsRead codes.now settings (records_of bytes.now) legs.items)
@@ -67,7 +72,12 @@ fn legs_known(alloc: Global, bytes: &[u8], codes: &Names, settings: Settings) ->
 }
 
 /// The legs of the records below the header.
-fn legs_of(alloc: Global, codes: &Names, settings: Settings, rows: &[Vec<Vec<u8>>]) -> Result<Vec<Leg>, LoadError>
+fn legs_of(
+    alloc: Global,
+    codes: &Names,
+    settings: Settings,
+    rows: &[Vec<Vec<u8>>],
+) -> Result<Vec<Leg>, LoadError>
     requires few { length codes.now ≤ MAX_STATIONS }
     requires settings { AreSettings settings }
     ensures { MatchResult result (λ legs. LegRowsRead codes.now settings (rows_in rows.now) legs.items)
@@ -114,10 +124,14 @@ fn leg_of(
         return Err(RecordError::Bad { kind: DUPLICATE });
     }
     let Some(from) = codes.number(from) else {
-        return Err(RecordError::Bad { kind: UNKNOWN_STATION });
+        return Err(RecordError::Bad {
+            kind: UNKNOWN_STATION,
+        });
     };
     let Some(to) = codes.number(to) else {
-        return Err(RecordError::Bad { kind: UNKNOWN_STATION });
+        return Err(RecordError::Bad {
+            kind: UNKNOWN_STATION,
+        });
     };
     let block = block(leaves, lands);
     if block == 0 {

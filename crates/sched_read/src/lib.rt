@@ -2,7 +2,9 @@
 #![tactic(auto)]
 
 pub mod legs;
+pub mod loading;
 pub mod throughs;
 
 pub use legs::read_legs;
+pub use loading::load;
 pub use throughs::read_throughs;

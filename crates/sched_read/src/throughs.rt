@@ -72,7 +72,11 @@ fn table_of(alloc: Global, bytes: &[u8], flights: &Names) -> Result<Vec<Through>
 }
 
 /// The through pairs of the records below the header.
-fn throughs_of(alloc: Global, flights: &Names, rows: &[Vec<Vec<u8>>]) -> Result<Vec<Through>, LoadError>
+fn throughs_of(
+    alloc: Global,
+    flights: &Names,
+    rows: &[Vec<Vec<u8>>],
+) -> Result<Vec<Through>, LoadError>
     requires { length flights.now ≤ MAX_LEGS }
     ensures { MatchResult result (λ throughs. ThroughRowsRead flights.now (rows_in rows.now) throughs.items)
         (IsFirstFault file.Throughs (ThroughRowsBad flights.now (rows_in rows.now))) }
@@ -90,7 +94,11 @@ fn throughs_of(alloc: Global, flights: &Names, rows: &[Vec<Vec<u8>>]) -> Result<
 
 /// The through pair of a record, below the through pairs of these legs.
 #[tactic(auto, unfolding(crate::specs::Throughs::through_read))]
-fn through_of(flights: &Names, connections: &mut IndexSet<Connection>, record: &[Vec<u8>]) -> Result<Through, RecordError>
+fn through_of(
+    flights: &Names,
+    connections: &mut IndexSet<Connection>,
+    record: &[Vec<u8>],
+) -> Result<Through, RecordError>
     requires { length flights.now ≤ MAX_LEGS }
     ensures { MatchResult result (IsNewThrough flights.now connections.old.keys connections.new.keys (fields_in record.now))
         (IsFaultOf (through_read flights.now connections.old.keys (fields_in record.now))) }
@@ -105,15 +113,22 @@ fn through_of(flights: &Names, connections: &mut IndexSet<Connection>, record: &
     flight_name(departing)?;
     let value = whole(value, 0, MAX_COST)?;
     let Some(arriving) = flights.number(arriving) else {
-        return Err(RecordError::Bad { kind: UNKNOWN_FLIGHT });
+        return Err(RecordError::Bad {
+            kind: UNKNOWN_FLIGHT,
+        });
     };
     let Some(departing) = flights.number(departing) else {
-        return Err(RecordError::Bad { kind: UNKNOWN_FLIGHT });
+        return Err(RecordError::Bad {
+            kind: UNKNOWN_FLIGHT,
+        });
     };
     let arriving = arriving as u32;
     let departing = departing as u32;
     let earlier = connections.len();
-    if !connections.insert(Connection { arriving, departing })? {
+    if !connections.insert(Connection {
+        arriving,
+        departing,
+    })? {
         return Err(RecordError::Bad { kind: DUPLICATE });
     }
     if earlier >= MAX_THROUGHS {

@@ -1,5 +1,5 @@
 -- Reading one record more, and that a file reads in one way at most.
-use Rattle.std.proofs.Common.{◌≡◌, ◌≢◌, ℕ, zero, suc, ◌+◌, ◌<◌, ◌≤◌, List, [], ◌∷◌, ◌++◌, length, take, map, slice_index_or, Bool, true, false, Result, Ok, Err, refl, sym, ap, ◌∙◌, inl, inr, bytes_eq, AllPairs, arith}
+use Rattle.std.proofs.Common.{◌≡◌, ◌≢◌, ℕ, ◌<◌, ◌≤◌, List, [], ◌∷◌, ◌++◌, length, map, slice_index_or, Bool, true, false, Result, Ok, refl, sym, ◌∙◌, inl, inr, bytes_eq, AllPairs, arith}
 use Rattle.std.proofs.lemmas.Bool.{cases_lt}
 use mathlib.Core.Bool.{false≢true}
 use Rattle.std.specs.List.{list_any}
@@ -8,7 +8,6 @@ use Rattle.std.proofs.lemmas.List.Folds.{list_any_at}
 use Rattle.std.proofs.lemmas.List.Quantifiers.{all_pairs_push}
 use Rattle.std.proofs.lemmas.Bool.Decides.{nat_tests}
 use Rattle.std.proofs.Math.Seq.{take-append_seam, get_or-append_seam}
-use Rattle.table_rows.specs.Names.{is_among}
 use Rattle.table_rows.specs.Rows.{Fields, FrontReads, row_at}
 
 module _ {E K : Type 0} (key : E → K) (read : List K → Fields → Result E ℕ) where
@@ -17,10 +16,12 @@ module _ {E K : Type 0} (key : E → K) (read : List K → Fields → Result E �
 
   pub front_push : (rows : List Fields) (entries : List E) (entry : E) → FrontReads key read rows entries
       → read (map key entries) (row_at rows (length entries)) ≡ Ok entry → FrontReads key read rows (entries ++ entry ∷ [])
-  front_push rows entries entry reads more = record { each = λ k d within. elim (cases_lt k (length entries)) [
-    | inl before ↦ let whole : k ≤ length entries = omega arith in rw (take-append-le, get_or_append_left entries (entry ∷ []) d k before) (reads.each k d before)
-    | inr past ↦ let last : k ≡ length entries = omega (arith, length-append {A = E}) in rw (last, take-append_seam entries (entry ∷ []), get_or-append_seam entries entry [] d) more
-  ] }
+  front_push rows entries entry reads more = record {
+    each = λ k d within. elim (cases_lt k (length entries)) [
+      | inl before ↦ let whole : k ≤ length entries = omega arith in rw (take-append-le, get_or_append_left entries (entry ∷ []) d k before) (reads.each k d before)
+      | inr past ↦ let last : k ≡ length entries = omega (arith, length-append {A = E}) in rw (last, take-append_seam entries (entry ∷ []), get_or-append_seam entries entry [] d) more
+    ];
+  }
 
 -- a text is equal to itself
 pub bytes_eq-self : (bytes : List ℕ) → bytes_eq bytes bytes ≡ true

@@ -1,8 +1,6 @@
 -- Names that differ are numbered by their places.
-use Rattle.std.proofs.Common.{◌≡◌, ◌≢◌, ℕ, suc, ◌+◌, ◌<◌, ◌≤◌, List, [], ◌∷◌, ◌++◌, length, take, map, slice_index_or, get_or, Bool, true, false, not, if◌then◌else◌, bytes_eq, AllPairs, All, refl, sym, ap, ◌∙◌, arith}
-use Rattle.std.specs.List.{list_any}
-use Rattle.std.proofs.lemmas.List.{get_or-map, get_or-take, get_or_default, length-map, length-take-le, map_push, take_more}
-use Rattle.std.proofs.lemmas.List.Folds.{list_any_none}
+use Rattle.std.proofs.Common.{◌≡◌, ◌≢◌, ℕ, suc, ◌+◌, ◌<◌, List, [], ◌∷◌, ◌++◌, length, take, map, slice_index_or, get_or, Bool, true, false, not, if◌then◌else◌, bytes_eq, AllPairs, refl, sym, ap, ◌∙◌, arith}
+use Rattle.std.proofs.lemmas.List.{get_or-take, get_or_default, length-take-le, map_push, take_more}
 use Rattle.std.proofs.lemmas.Slice.Eq.{bytes_eq-Decides}
 use Rattle.table_rows.specs.Names.{is_among}
 
@@ -28,8 +26,8 @@ pub names_push : {E : Type 0} (name_of : E → List ℕ) (entries : List E) (pla
     → new ≡ map name_of (take (place + 1) entries)
 names_push name_of entries place entry name names new added differ within found is before fresh grown =
     let apart : is_among name names ≡ false = rw (before, is) (none_among name_of (take place entries) (name_of entry) (λ k d below same.
-        let inside : k < place = omega (arith, length-take-le place entries (omega arith)) in
-        differ k place entry inside within (ap name_of (get_or_default entries k entry d (omega arith)) ∙ ap name_of (sym (get_or-take place entries k d inside)) ∙ same ∙ ap name_of found))) in
+    let inside : k < place = omega (arith, length-take-le place entries (omega arith)) in
+    differ k place entry inside within (ap name_of (get_or_default entries k entry d (omega arith)) ∙ ap name_of (sym (get_or-take place entries k d inside)) ∙ same ∙ ap name_of found))) in
     let new_one : added ≡ true = fresh ∙ ap not apart in
     let longer : new ≡ names ++ name ∷ [] = rw new_one at grown in
     longer ∙ ap (λ ns. ns ++ name ∷ []) before ∙ ap (λ n. map name_of (take place entries) ++ n ∷ []) (is ∙ ap name_of found)

@@ -1,6 +1,6 @@
 -- A search among vectors is a search among their items.
-use Rattle.std.proofs.Common.{◌≡◌, ℕ, Bool, List, [], ◌∷◌, map, length, Option, Vec, Global, bytes_eq, not, refl, sym, ap, ◌∙◌}
-use Rattle.std.specs.List.{list_any, position, position_or_len, prefix_len}
+use Rattle.std.proofs.Common.{◌≡◌, ℕ, Bool, List, [], ◌∷◌, map, Vec, Global, bytes_eq, not, refl, sym}
+use Rattle.std.specs.List.{list_any, position, prefix_len}
 use Rattle.std.proofs.lemmas.List.{length-map}
 use Rattle.table_rows.specs.Names.{is_among, number_of}
 

@@ -1,5 +1,5 @@
 -- The loop that reads the records of a table: what the first of them read as.
-use Rattle.std.proofs.Common.{◌≡◌, ℕ, ◌+◌, ◌<◌, ◌≤◌, List, [], ◌∷◌, ◌++◌, length, map, slice_index_or, Vec, Global, Result, Ok, Err, refl, sym, ap, ◌∙◌, inl, inr, arith}
+use Rattle.std.proofs.Common.{◌≡◌, ℕ, ◌+◌, ◌<◌, ◌≤◌, List, [], ◌∷◌, ◌++◌, length, map, slice_index_or, Vec, Global, Result, Ok, Err, refl, sym, ap, ◌∙◌, inl, arith}
 use Rattle.std.proofs.lemmas.List.{get_or-map, length-append, length-map, map-append}
 use Rattle.table_rows.specs.Rows.{Fields, FrontReads, LacksHeader, RowsBad, RowsRead, TableBad, fields_in, row_at, rows_in}
 use Rattle.fleet_model.specs.declared.refusals.LoadError.{LoadError}
@@ -35,18 +35,20 @@ module _ {E K : Type 0} (key : E → K) (read : List K → Fields → Result E �
   pub so_far_push : (rows : List Fields) (place : ℕ) (keys new : List K) (entries grown : List E) (entry : E) (fields : Fields) → ReadSoFar rows place keys entries
       → fields ≡ row_at rows place → read keys fields ≡ Ok entry → new ≡ keys ++ key entry ∷ [] → grown ≡ entries ++ entry ∷ [] → ReadSoFar rows (place + 1) new grown
   so_far_push rows place keys new entries grown entry fields so_far row more numbered added = rw added (record {
-      count = omega (arith, length-append {A = E}, so_far.count);
-      numbered = numbered ∙ ap (λ ks. ks ++ key entry ∷ []) so_far.numbered ∙ sym (map-append key entries (entry ∷ []));
-      reads = front_push key read rows entries entry so_far.reads (rw (← so_far.numbered, ← so_far.count, ← row) more) })
+    count = omega (arith, length-append {A = E}, so_far.count);
+    numbered = numbered ∙ ap (λ ks. ks ++ key entry ∷ []) so_far.numbered ∙ sym (map-append key entries (entry ∷ []));
+    reads = front_push key read rows entries entry so_far.reads (rw (← so_far.numbered, ← so_far.count, ← row) more);
+  })
 
   pub so_far_bad : (rows : List Fields) (place kind : ℕ) (keys : List K) (entries : List E) (fields : Fields) → ReadSoFar rows place keys entries
       → place < length rows → fields ≡ row_at rows place → read keys fields ≡ Err kind → RowsBad key read rows (place + 2) kind
   so_far_bad rows place kind keys entries fields so_far within row fault = record {
-      before = entries;
-      within = omega (arith, so_far.count);
-      reads = so_far.reads;
-      fault = rw (← so_far.numbered, ← so_far.count, ← row) fault;
-      number = omega (arith, so_far.count) }
+    before = entries;
+    within = omega (arith, so_far.count);
+    reads = so_far.reads;
+    fault = rw (← so_far.numbered, ← so_far.count, ← row) fault;
+    number = omega (arith, so_far.count);
+  }
 
   pub so_far_all : (rows : List Fields) (place : ℕ) (keys : List K) (entries : List E) → ReadSoFar rows place keys entries → place ≡ length rows → RowsRead key read rows entries
   so_far_all rows place keys entries so_far end = record { all = omega (arith, so_far.count); reads = so_far.reads }

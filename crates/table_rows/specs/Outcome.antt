@@ -1,5 +1,5 @@
 -- What the reader of a record answers.
-use Rattle.std.specs.Prelude.{◌≡◌, ℕ, ◌+◌, Result, Ok, Err, ⊤}
+use Rattle.std.specs.Prelude.{◌≡◌, ℕ, ◌+◌, Result, Err, ⊤}
 use Rattle.fleet_model.specs.declared.refusals.LoadError.{LoadError}
 use Rattle.fleet_model.specs.declared.refusals.LoadError.TheVariants as load
 use Rattle.fleet_model.specs.declared.refusals.TableFile.{TableFile}

@@ -2,10 +2,7 @@ ghost use Rattle.std.specs.Prelude.{◌≡◌, ◌↔◌, IsTrue, MatchOption, m
 ghost use Rattle.table_rows.specs.Rows.{IsUnder, LacksHeader, fields_in, rows_in};
 
 /// The records below the header, where the first record is the header.
-pub fn below_header<'a>(
-    records: &'a [Vec<Vec<u8>>],
-    header: &[&[u8]],
-) -> Option<&'a [Vec<Vec<u8>>]>
+pub fn below_header<'a>(records: &'a [Vec<Vec<u8>>], header: &[&[u8]]) -> Option<&'a [Vec<Vec<u8>>]>
     ensures { MatchOption result (LacksHeader (map (λ word. word.now) header.now) (rows_in records.now))
         (λ rest. IsUnder (map (λ word. word.now) header.now) (rows_in records.now) (rows_in rest.now)) }
 {

@@ -7,5 +7,5 @@ use Rattle.station_table.proofs.stations_of.Given as goal
 abbrev pub invariant-loop-place : goal.invariant-loop-place
 invariant-loop-place l = record {
   so_far : ReadSoFar code_of station_read (rows_in l.rows) l.place l.codes l.stations.items;
-  kept : AreStations l.stations.items
+  kept : AreStations l.stations.items;
 }

@@ -8,5 +8,5 @@ use Rattle.fleet_tables.proofs.costs.costs_of.Given as goal
 abbrev pub invariant-loop-place : goal.invariant-loop-place
 invariant-loop-place l = record {
   so_far : ReadSoFar pair_of (cost_read l.known.flights l.known.fleets) (rows_in l.rows) l.place l.pairs.keys l.costs.items;
-  kept : AreCosts (length l.known.flights) (length l.known.fleets) l.costs.items
+  kept : AreCosts (length l.known.flights) (length l.known.fleets) l.costs.items;
 }

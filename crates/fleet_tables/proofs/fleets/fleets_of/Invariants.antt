@@ -7,5 +7,5 @@ use Rattle.fleet_tables.proofs.fleets.fleets_of.Given as goal
 abbrev pub invariant-loop-place : goal.invariant-loop-place
 invariant-loop-place l = record {
   so_far : ReadSoFar fleet_name_of fleet_read (rows_in l.rows) l.place l.names l.fleets.items;
-  kept : AreFleets l.fleets.items
+  kept : AreFleets l.fleets.items;
 }

@@ -1,5 +1,4 @@
 use Rattle.std.proofs.Common.{arith}
-use Rattle.table_rows.specs.Rows.{rows_in}
 use Rattle.table_rows.proofs.SoFar.{row_found, rows_end, rows_within, so_far_all, so_far_none, so_far_push, so_far_refused}
 use Rattle.sched_read.specs.Legs.{leg_read, flight_of}
 use Rattle.sched_read.proofs.LegsKept.{legs_kept_none, legs_kept_push}
@@ -8,7 +7,7 @@ use Rattle.sched_read.proofs.legs.legs_of.Goals as goal
 pub loop-place-init : goal.loop-place-init
 loop-place-init c = record {
   so_far = so_far_none flight_of (leg_read _ _) _ _ _ c.new-flights.ensures c.new-legs.ensures.items;
-  kept = legs_kept_none _ _ c.new-legs.ensures.items
+  kept = legs_kept_none _ _ c.new-legs.ensures.items;
 }
 
 pub loop-place-preserved : goal.loop-place-preserved
@@ -18,7 +17,7 @@ loop-place-preserved c =
     let so_far = c.loop-place.invariant.so_far in
     record {
       so_far = so_far_push flight_of (leg_read _ _) _ _ _ _ _ _ c.in-Ok.leg _ so_far row more.reads more.numbered c.in_ok-push-in-Ok.ensures.items;
-      kept = legs_kept_push _ _ _ _ _ _ _ c.in-Ok.leg c.loop-place.invariant.kept so_far.numbered more c.in_ok-push-in-Ok.ensures.items
+      kept = legs_kept_push _ _ _ _ _ _ _ c.in-Ok.leg c.loop-place.invariant.kept so_far.numbered more c.in_ok-push-in-Ok.ensures.items;
     }
 
 pub returns-in-Err : goal.returns-in-Err
@@ -29,5 +28,5 @@ returns-in-Err c =
 pub returns : goal.returns
 returns c = record {
   read = so_far_all flight_of (leg_read _ _) _ _ _ _ c.loop-place.invariant.so_far (rows_end c.args.rows.now c.loop-place.place (omega arith) (omega arith));
-  kept = c.loop-place.invariant.kept
+  kept = c.loop-place.invariant.kept;
 }

@@ -8,5 +8,5 @@ use Rattle.sched_read.proofs.legs.legs_of.Given as goal
 abbrev pub invariant-loop-place : goal.invariant-loop-place
 invariant-loop-place l = record {
   so_far : ReadSoFar flight_of (leg_read l.codes l.settings) (rows_in l.rows) l.place l.flights l.legs.items;
-  kept : AreLegs (length l.codes) l.legs.items
+  kept : AreLegs (length l.codes) l.legs.items;
 }

@@ -8,5 +8,5 @@ use Rattle.sched_read.proofs.throughs.throughs_of.Given as goal
 abbrev pub invariant-loop-place : goal.invariant-loop-place
 invariant-loop-place l = record {
   so_far : ReadSoFar connection_of (through_read l.flights) (rows_in l.rows) l.place l.connections.keys l.throughs.items;
-  kept : AreThroughs (length l.flights) l.throughs.items
+  kept : AreThroughs (length l.flights) l.throughs.items;
 }

@@ -1,5 +1,4 @@
-use Rattle.std.proofs.Common.{◌∙◌, ap, sym, not}
-use Rattle.table_rows.specs.Names.{is_among}
+use Rattle.std.proofs.Common.{◌∙◌, ap, not}
 use Rattle.table_rows.proofs.Places.{among_vectors}
 use Rattle.table_rows.proofs.names.Names.add.Goals as goal
 
