@@ -1,0 +1,76 @@
+//! Reading the files of a command, in their order.
+ghost use Rattle.std.specs.Prelude.{◌≡◌, ◌+◌, ◌<◌, ◌≤◌, ℕ, Some, IfSome, IsSome, IsSomeAnd, length, ⊤};
+ghost use Rattle.fleet_cli.specs.Gathered.{AllHeld, FirstTooLong, MatchStop, StandThere, contents_of};
+ghost use Rattle.fleet_cli.specs.declared.gathering.Stop.TheVariants as stop;
+ghost use Rattle.plan_desk.specs.Counts.{Rose, RoseBy};
+ghost use Rattle.plan_desk.specs.DeskFile.{path_of};
+ghost use Rattle.plan_desk.specs.declared.file.TheConstants.{TABLE_LIMIT};
+
+use plan_desk::{Desk, DeskError, DeskFile, TABLE_LIMIT};
+use std::alloc::{AllocFailed, Global};
+
+/// Why a run ends before it has an answer.
+#[derive(Clone, Copy, Debug, PartialEq, Eq)]
+pub enum Stop {
+    /// The desk failed; it tells which file is to blame.
+    Fault,
+    /// A file is longer than its limit.
+    TooLong { file: DeskFile },
+    NoMemory,
+}
+
+impl<T: Drop> From<AllocFailed<T>> for Stop {
+    ghost from_gives = { λ _ e. e ≡ stop.NoMemory };
+
+    fn from(_: AllocFailed<T>) -> Stop {
+        Stop::NoMemory
+    }
+}
+
+/// What the files of a folder hold, each within the limit of tables, in the order of the list.
+pub fn read_all<D: Desk>(
+    alloc: Global,
+    desk: &mut D,
+    dir: &str,
+    files: &[DeskFile],
+) -> Result<Vec<Vec<u8>>, Stop>
+    ensures told { IfSome (D.holds desk.old) (λ held. MatchStop result
+        (λ contents. AllHeld held dir.now files.now (contents_of contents.items)) ⊤ (FirstTooLong held dir.now files.now) ⊤) }
+    ensures too_long_taken { MatchStop result (λ _. ⊤) ⊤ (λ _. RoseBy (TABLE_LIMIT + 1) (D.taken desk.old) (D.taken desk.new)) ⊤ }
+    ensures holds { D.holds desk.new ≡ D.holds desk.old }
+
+    // The count rises exactly with a fault, and then a file is blamed.
+    ensures faults { MatchStop result (λ _. D.faults desk.new ≡ D.faults desk.old) (Rose (D.faults desk.old) (D.faults desk.new))
+        (λ _. D.faults desk.new ≡ D.faults desk.old) (D.faults desk.new ≡ D.faults desk.old) }
+    ensures blamed { MatchStop result (λ _. ⊤) (IsSome (D.blamed desk.new)) (λ _. ⊤) ⊤ }
+    ensures steady { D.is_steady desk.old → IsSomeAnd (D.holds desk.old) (StandThere dir.now files.now) → MatchStop result (λ _. ⊤) ⊥ (λ _. ⊤) ⊤ }
+{
+    let mut contents = Vec::new(alloc);
+    for file in files {
+        let bytes = read_one(alloc, desk, dir, *file)?;
+        contents.push(bytes)?;
+    }
+    Ok(contents)
+}
+
+/// What one file of a folder holds, within the limit of tables.
+fn read_one<D: Desk>(alloc: Global, desk: &mut D, dir: &str, file: DeskFile) -> Result<Vec<u8>, Stop>
+    ensures told { IfSome (D.holds desk.old) (λ held. MatchStop result (λ bytes. held (path_of dir.now file) ≡ Some bytes.items) ⊤
+        (λ long. IsSomeAnd (held (path_of dir.now file)) (λ bytes. TABLE_LIMIT < length bytes)) ⊤) }
+    ensures within { MatchStop result (λ bytes. length bytes.items ≤ TABLE_LIMIT) ⊤ (λ long. long ≡ file) ⊤ }
+    ensures too_long_taken { MatchStop result (λ _. ⊤) ⊤ (λ _. RoseBy (TABLE_LIMIT + 1) (D.taken desk.old) (D.taken desk.new)) ⊤ }
+    ensures taken { D.taken desk.old ≤ D.taken desk.new }
+    ensures holds { D.holds desk.new ≡ D.holds desk.old }
+    ensures faults { MatchStop result (λ _. D.faults desk.new ≡ D.faults desk.old) (Rose (D.faults desk.old) (D.faults desk.new))
+        (λ _. D.faults desk.new ≡ D.faults desk.old) (D.faults desk.new ≡ D.faults desk.old) }
+    ensures blamed { MatchStop result (λ _. ⊤) (D.blamed desk.new ≡ Some file) (λ _. ⊤) ⊤ }
+    ensures steady { D.is_steady desk.old → IsSomeAnd (D.holds desk.old) (λ held. IsSome (held (path_of dir.now file))) → MatchStop result (λ _. ⊤) ⊥ (λ _. ⊤) ⊤ }
+    ensures stays_steady { D.is_steady desk.old → D.is_steady desk.new }
+{
+    match desk.read(alloc, dir, file, TABLE_LIMIT) {
+        Ok(bytes) => Ok(bytes),
+        Err(DeskError::Failed) => Err(Stop::Fault),
+        Err(DeskError::TooLong) => Err(Stop::TooLong { file }),
+        Err(DeskError::NoMemory) => Err(Stop::NoMemory),
+    }
+}
