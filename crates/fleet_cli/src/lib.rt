@@ -2,4 +2,5 @@
 #![tactic(auto)]
 
 pub mod gathering;
+pub mod texts;
 pub mod words;

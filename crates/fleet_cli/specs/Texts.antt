@@ -1,0 +1,57 @@
+-- What a run prints.
+use Rattle.std.specs.Prelude.{ℕ, zero, suc, List, [], ◌∷◌, ◌++◌, codes}
+use Rattle.std.specs.List.{concat}
+use Rattle.std.specs.Fmt.{decimal, signed_decimal}
+use Rattle.fleet_model.specs.declared.tables.Tables.{Tables}
+use Rattle.fleet_model.specs.declared.refusals.TableFile.{TableFile}
+use Rattle.fleet_model.specs.declared.refusals.TableFile.TheVariants as table
+use Rattle.fleet_model.specs.Counts.{weights_of}
+use Rattle.fleet_model.specs.Schedule.{fleet_of, fleets_in, leg_of, station_of}
+use Rattle.fleet_model.specs.Use.{used_of}
+use Rattle.plan_desk.specs.DeskFile.{file_name}
+use Rattle.plan_desk.specs.declared.file.DeskFile.{DeskFile}
+use Rattle.plan_desk.specs.declared.file.DeskFile.TheVariants as file
+use Rattle.plan_judge.specs.declared.verdicts.Verdict.{Verdict}
+use Rattle.plan_judge.specs.declared.verdicts.Verdict.TheVariants as verdict
+
+-- pieces of a line, joined, and a line feed
+abbrev pub line_of : List (List ℕ) → List ℕ
+line_of pieces = concat pieces ++ 10 ∷ []
+
+-- the file of a table
+abbrev pub desk_file_of : TableFile → DeskFile
+desk_file_of table.Stations = file.Stations
+desk_file_of table.Fleets = file.Fleets
+desk_file_of table.Legs = file.Legs
+desk_file_of table.Costs = file.Costs
+desk_file_of table.Throughs = file.Throughs
+
+abbrev pub usage_text : List ℕ
+usage_text = line_of (codes "usage: fleetplan judge|solve|check|make|tails DIR [options]" ∷ [])
+
+abbrev pub fault_text : DeskFile → List ℕ
+fault_text f = line_of (codes "fault: " ∷ file_name f ∷ [])
+
+abbrev pub bad_input_text : DeskFile → ℕ → ℕ → List ℕ
+bad_input_text f row kind = line_of (codes "bad input: " ∷ file_name f ∷ codes " record " ∷ decimal row ∷ codes " kind " ∷ decimal kind ∷ [])
+
+abbrev pub plan_refused_text : ℕ → ℕ → List ℕ
+plan_refused_text row kind = line_of (codes "plan refused: record " ∷ decimal row ∷ codes " kind " ∷ decimal kind ∷ [])
+
+-- a fleet's aircraft, used and there
+abbrev pub fleet_line : Tables → List ℕ → ℕ → List ℕ
+fleet_line t a f = line_of (codes "fleet " ∷ (fleet_of t f).name ∷ codes ": used " ∷ decimal (used_of t (weights_of a) f) ∷ codes " of " ∷ decimal (fleet_of t f).aircraft ∷ [])
+
+-- such a line for each of the first fleets
+abbrev pub fleet_lines : Tables → List ℕ → ℕ → List ℕ
+fleet_lines t a zero = []
+fleet_lines t a (suc n) = fleet_lines t a n ++ fleet_line t a n
+
+-- what is printed of a verdict
+abbrev pub verdict_text : Tables → List ℕ → Verdict → List ℕ
+verdict_text t a (verdict.NotAllowed leg) = line_of (codes "not allowed: " ∷ (leg_of t leg).flight ∷ [])
+verdict_text t a (verdict.Unbalanced f s came left) =
+    line_of (codes "unbalanced: " ∷ (fleet_of t f).name ∷ codes " at " ∷ (station_of t s).code ∷ codes ", in " ∷ decimal came ∷ codes ", out " ∷ decimal left ∷ [])
+verdict_text t a (verdict.TooMany f used has) =
+    line_of (codes "too many: " ∷ (fleet_of t f).name ∷ codes " used " ∷ decimal used ∷ codes " of " ∷ decimal has ∷ [])
+verdict_text t a (verdict.Legal cost) = line_of (codes "legal: cost " ∷ signed_decimal cost ∷ []) ++ fleet_lines t a (fleets_in t)

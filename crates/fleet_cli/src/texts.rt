@@ -1,0 +1,219 @@
+//! What a run prints.
+ghost use Rattle.std.specs.Prelude.{◌≡◌, ◌++◌, ◌<◌, [], ◌∷◌, IfOk, OnOk, codes, map};
+ghost use Rattle.std.specs.Fmt.{decimal, signed_decimal};
+ghost use Rattle.fleet_cli.specs.Texts.{bad_input_text, fault_text, fleet_line, fleet_lines, line_of, plan_refused_text, verdict_text};
+ghost use Rattle.fleet_model.specs.Legal.{IsAssignment};
+ghost use Rattle.fleet_model.specs.Schedule.{fleet_of, fleets_in, station_of, stations_in};
+ghost use Rattle.plan_judge.specs.Verdicts.{IsVerdict};
+
+use entries::NoMemory;
+use fleet_model::{Assignment, Tables};
+use plan_desk::DeskFile;
+use plan_judge::{Verdict, used};
+use std::alloc::Global;
+
+/// The line of a call whose words match no command.
+pub const USAGE: &[u8] = b"usage: fleetplan judge|solve|check|make|tails DIR [options]\n";
+
+/// Appends pieces and a line feed to a text.
+fn push_line(text: &mut Vec<u8>, pieces: &[&[u8]]) -> Result<(), NoMemory>
+    ensures { OnOk result (text.new.items ≡ text.old.items ++ line_of (map (λ piece. piece.now) pieces.now)) }
+{
+    for piece in pieces {
+        text.extend_from_slice(piece)?;
+    }
+    text.push(b'\n')?;
+    Ok(())
+}
+
+/// The line of pieces.
+fn line(alloc: Global, pieces: &[&[u8]]) -> Result<Vec<u8>, NoMemory>
+    ensures { IfOk result (λ text. text.items ≡ line_of (map (λ piece. piece.now) pieces.now)) }
+{
+    let mut text = Vec::new(alloc);
+    push_line(&mut text, pieces)?;
+    Ok(text)
+}
+
+/// `bad input: FILE record N kind K`.
+pub fn bad_input(alloc: Global, file: DeskFile, row: u64, kind: u8) -> Result<Vec<u8>, NoMemory>
+    ensures { IfOk result (λ text. text.items ≡ bad_input_text file row kind) }
+{
+    let row = row.to_string(alloc)?;
+    let kind = kind.to_string(alloc)?;
+    line(
+        alloc,
+        &[
+            b"bad input: ".as_slice(),
+            file.name().as_bytes(),
+            b" record ".as_slice(),
+            row.as_bytes(),
+            b" kind ".as_slice(),
+            kind.as_bytes(),
+        ],
+    )
+}
+
+/// `plan refused: record N kind K`.
+pub fn plan_refused(alloc: Global, row: u64, kind: u8) -> Result<Vec<u8>, NoMemory>
+    ensures { IfOk result (λ text. text.items ≡ plan_refused_text row kind) }
+{
+    let row = row.to_string(alloc)?;
+    let kind = kind.to_string(alloc)?;
+    line(
+        alloc,
+        &[
+            b"plan refused: record ".as_slice(),
+            row.as_bytes(),
+            b" kind ".as_slice(),
+            kind.as_bytes(),
+        ],
+    )
+}
+
+/// `fault: FILE`. It takes no memory.
+pub fn fault_line(file: DeskFile) -> &'static [u8]
+    ensures { result.now ≡ fault_text file }
+{
+    match file {
+        DeskFile::Stations => b"fault: stations.csv\n",
+        DeskFile::Fleets => b"fault: fleets.csv\n",
+        DeskFile::Legs => b"fault: legs.csv\n",
+        DeskFile::Costs => b"fault: costs.csv\n",
+        DeskFile::Throughs => b"fault: throughs.csv\n",
+        DeskFile::Plan => b"fault: plan.csv\n",
+        DeskFile::Proof => b"fault: proof.txt\n",
+        DeskFile::Rotation => b"fault: rotation.csv\n",
+    }
+}
+
+/// What is printed of a verdict on a plan.
+pub fn verdict_lines(
+    alloc: Global,
+    tables: &Tables,
+    plan: &Assignment,
+    verdict: Verdict,
+) -> Result<Vec<u8>, NoMemory>
+    requires plan { IsAssignment tables.now plan.now }
+    requires verdict { IsVerdict tables.now plan.now verdict }
+    ensures { IfOk result (λ text. text.items ≡ verdict_text tables.now plan.now verdict) }
+{
+    match verdict {
+        Verdict::NotAllowed { leg } => {
+            let flight = tables.leg(leg).flight.as_slice();
+            line(alloc, &[b"not allowed: ".as_slice(), flight])
+        }
+        Verdict::Unbalanced {
+            fleet,
+            station,
+            came,
+            left,
+        } => unbalanced(alloc, tables, fleet, station, came, left),
+        Verdict::TooMany { fleet, used, has } => too_many(alloc, tables, fleet, used, has),
+        Verdict::Legal { cost } => legal(alloc, tables, plan, cost),
+    }
+}
+
+/// `unbalanced: F at S, in A, out B`.
+fn unbalanced(
+    alloc: Global,
+    tables: &Tables,
+    fleet: u32,
+    station: u32,
+    came: u32,
+    left: u32,
+) -> Result<Vec<u8>, NoMemory>
+    requires fleet { fleet < fleets_in tables.now }
+    requires station { station < stations_in tables.now }
+    ensures { IfOk result (λ text. text.items ≡ line_of (codes "unbalanced: " ∷ (fleet_of tables.now fleet).name ∷ codes " at "
+        ∷ (station_of tables.now station).code ∷ codes ", in " ∷ decimal came ∷ codes ", out " ∷ decimal left ∷ [])) }
+{
+    let came = came.to_string(alloc)?;
+    let left = left.to_string(alloc)?;
+    line(
+        alloc,
+        &[
+            b"unbalanced: ".as_slice(),
+            tables.fleet(fleet).name.as_slice(),
+            b" at ".as_slice(),
+            tables.station(station).code.as_slice(),
+            b", in ".as_slice(),
+            came.as_bytes(),
+            b", out ".as_slice(),
+            left.as_bytes(),
+        ],
+    )
+}
+
+/// `too many: F used N of M`.
+fn too_many(
+    alloc: Global,
+    tables: &Tables,
+    fleet: u32,
+    used: u32,
+    has: u32,
+) -> Result<Vec<u8>, NoMemory>
+    requires { fleet < fleets_in tables.now }
+    ensures { IfOk result (λ text. text.items ≡ line_of (codes "too many: " ∷ (fleet_of tables.now fleet).name ∷ codes " used " ∷ decimal used
+        ∷ codes " of " ∷ decimal has ∷ [])) }
+{
+    let used = used.to_string(alloc)?;
+    let has = has.to_string(alloc)?;
+    line(
+        alloc,
+        &[
+            b"too many: ".as_slice(),
+            tables.fleet(fleet).name.as_slice(),
+            b" used ".as_slice(),
+            used.as_bytes(),
+            b" of ".as_slice(),
+            has.as_bytes(),
+        ],
+    )
+}
+
+/// `legal: cost C`, and a line for each fleet.
+fn legal(
+    alloc: Global,
+    tables: &Tables,
+    plan: &Assignment,
+    cost: i128,
+) -> Result<Vec<u8>, NoMemory>
+    requires { IsAssignment tables.now plan.now }
+    ensures { IfOk result (λ text. text.items ≡ line_of (codes "legal: cost " ∷ signed_decimal cost ∷ []) ++ fleet_lines tables.now plan.now (fleets_in tables.now)) }
+{
+    let cost = cost.to_string(alloc)?;
+    let mut text = line(alloc, &[b"legal: cost ".as_slice(), cost.as_bytes()])?;
+    for fleet in 0..tables.fleet_count() {
+        push_fleet(alloc, &mut text, tables, plan, fleet)?;
+    }
+    Ok(text)
+}
+
+/// Appends `fleet F: used N of M`.
+fn push_fleet(
+    alloc: Global,
+    text: &mut Vec<u8>,
+    tables: &Tables,
+    plan: &Assignment,
+    fleet: u32,
+) -> Result<(), NoMemory>
+    requires plan { IsAssignment tables.now plan.now }
+    requires fleet { fleet < fleets_in tables.now }
+    ensures { OnOk result (text.new.items ≡ text.old.items ++ fleet_line tables.now plan.now fleet) }
+{
+    let flown = tables.fleet(fleet);
+    let used = used(tables, plan, fleet).to_string(alloc)?;
+    let has = flown.aircraft.to_string(alloc)?;
+    push_line(
+        text,
+        &[
+            b"fleet ".as_slice(),
+            flown.name.as_slice(),
+            b": used ".as_slice(),
+            used.as_bytes(),
+            b" of ".as_slice(),
+            has.as_bytes(),
+        ],
+    )
+}
