@@ -1,0 +1,5 @@
+pub mod Lines
+pub mod NameText
+pub mod ReadOrNot
+pub mod Records
+pub mod SoFar

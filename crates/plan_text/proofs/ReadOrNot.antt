@@ -1,0 +1,148 @@
+-- Any records are those of one plan or have one first fault, and not both.
+use Rattle.std.proofs.Common.{◌≡◌, ◌≢◌, ℕ, zero, suc, ◌+◌, ◌<◌, ◌≤◌, List, [], ◌∷◌, codes, length, bytes_eq, Bool, true, false, Option, Some, None, Result, Ok, Err, refl, sym, ap, ◌∙◌, inl, inr, add-one, arith}
+use Rattle.std.specs.Prelude.{◌⊎◌, MatchResult}
+use Rattle.std.proofs.lemmas.Bool.{cases_Bool, cases_lt}
+use Rattle.std.proofs.lemmas.List.{get_or_default, same_lists}
+use Rattle.std.proofs.lemmas.Slice.Eq.{bytes_eq-Decides}
+use Rattle.table_rows.proofs.FrontReading.{bytes_eq-self}
+use Rattle.fleet_model.specs.Counts.{fleet_at}
+use Rattle.fleet_model.specs.Legal.{IsAssignment}
+use Rattle.fleet_model.specs.Schedule.{legs_in}
+use Rattle.fleet_model.specs.declared.tables.Tables.{Tables}
+use Rattle.table_rows.specs.Rows.{Fields, IsUnder, LacksHeader, row_at}
+use Rattle.plan_text.specs.Reading.{BadBelowHeader, IsFirstFault, PlanBad, PlanReads, ReadsOrNot, RowsBad, fault_at, fleet_read}
+use Rattle.plan_text.specs.declared.faults.PlanError.{PlanError}
+use Rattle.plan_text.specs.declared.faults.PlanError.TheVariants as plan
+use Rattle.plan_text.specs.declared.faults.TheConstants.{WRONG_COUNT, WRONG_HEADER}
+use Rattle.plan_text.specs.Text.{leg_record, leg_records, plan_header, plan_records}
+use Rattle.plan_text.proofs.Records.{leg_record_at, no_fault, pair_reads}
+use Rattle.plan_text.proofs.SoFar.{AreRead, ReadSoFar, so_far_all, so_far_bad, so_far_missing, so_far_none, so_far_push}
+
+-- a text is another or not
+text_is : (a b : List ℕ) → (a ≡ b) ⊎ (a ≢ b)
+text_is a b = elim (cases_Bool (bytes_eq a b)) [
+  | inl same ↦ inl ((bytes_eq-Decides a b).0 same)
+  | inr differ ↦ inr (λ same. cc (sym differ ∙ ap (bytes_eq a) (sym same) ∙ bytes_eq-self a))
+]
+
+-- the header stands first or not
+Headed : List Fields → Type 0
+Headed records = ((rows : List Fields) × IsUnder plan_header records rows) ⊎ LacksHeader plan_header records
+
+headed : (records : List Fields) → Headed records
+unfolding Headed
+headed [] = inr (λ rest same. cc same)
+headed ([] ∷ rows) = inr (λ rest same. cc same)
+headed ((a ∷ []) ∷ rows) = inr (λ rest same. cc same)
+headed ((a ∷ b ∷ c ∷ more) ∷ rows) = inr (λ rest same. cc same)
+headed ((a ∷ b ∷ []) ∷ rows) = elim (text_is a (codes "flight")) [
+  | inl flight ↦ elim (text_is b (codes "fleet")) [
+    | inl fleet ↦ inl (rows, rw (flight, fleet) refl)
+    | inr other ↦ inr (λ rest same. other (cc same))
+  ]
+  | inr other ↦ inr (λ rest same. other (cc same))
+]
+
+-- the records before a place read, or there is a first fault
+FrontOrBad : Tables → List Fields → ℕ → Type 0
+FrontOrBad t rows place = ((a : List ℕ) × ReadSoFar t rows place a) ⊎ ((row : ℕ) × (kind : ℕ) × RowsBad t rows row kind)
+
+one_more : (t : Tables) (rows : List Fields) (place : ℕ) (a : List ℕ) → ReadSoFar t rows place a → place < length rows
+    → (o : Result ℕ ℕ) → fleet_read t place (row_at rows place) ≡ o → FrontOrBad t rows (place + 1)
+unfolding FrontOrBad
+one_more t rows place a so_far within (Ok f) read = inl (_, so_far_push t rows place a _ (row_at rows place) f so_far within refl read refl)
+one_more t rows place a so_far within (Err kind) read = inr (place + 2, kind, so_far_bad t rows place a (row_at rows place) (place + 2) kind so_far within refl read refl)
+
+front : (t : Tables) (rows : List Fields) (place : ℕ) → place ≤ length rows → FrontOrBad t rows place
+unfolding FrontOrBad
+front t rows zero within = inl ([], so_far_none t rows [] refl)
+front t rows (suc place) within = elim (front t rows place (omega arith)) [
+  | inl some ↦ rw (← add-one) (one_more t rows place some.0 some.1 (omega arith) (fleet_read t place (row_at rows place)) refl)
+  | inr bad ↦ inr bad
+]
+
+RowsOrBad : Tables → List Fields → Type 0
+RowsOrBad t rows = ((a : List ℕ) × AreRead t rows a) ⊎ ((row : ℕ) × (kind : ℕ) × RowsBad t rows row kind)
+
+rows_or_bad : (t : Tables) (rows : List Fields) → RowsOrBad t rows
+unfolding FrontOrBad RowsOrBad
+rows_or_bad t rows = elim (front t rows (length rows) (omega arith)) [
+  | inl some ↦ elim (cases_lt (length rows) (legs_in t)) [
+    | inl missing ↦ inr (length rows + 2, WRONG_COUNT, so_far_missing t rows (length rows) some.0 (length rows + 2) WRONG_COUNT some.1 refl missing refl refl)
+    | inr enough ↦ inl (some.0, so_far_all t rows (length rows) some.0 some.1 refl enough)
+  ]
+  | inr bad ↦ inr bad
+]
+
+EitherReads : Tables → List Fields → Type 0
+EitherReads t records = ((a : List ℕ) × PlanReads t records a) ⊎ ((row : ℕ) × (kind : ℕ) × PlanBad t records row kind)
+
+either_reads : (t : Tables) (records : List Fields) → EitherReads t records
+unfolding EitherReads Headed RowsOrBad
+either_reads t records = elim (headed records) [
+  | inl below ↦ elim (rows_or_bad t below.0) [
+    | inl read ↦ inl (read.0, record { assignment = read.1.assignment; same = below.1 ∙ ap (λ rows. plan_header ∷ rows) read.1.same })
+    | inr bad ↦ inr (bad.0, bad.1, inr (record { rows = below.0; under = below.1; bad = bad.2 }))
+  ]
+  | inr lacks ↦ inr (1, WRONG_HEADER, inl (lacks, refl, refl))
+]
+
+-- the records below the header are determined
+rows_same : (records rows others : List Fields) → IsUnder plan_header records rows → IsUnder plan_header records others → rows ≡ others
+rows_same records rows others under below = let both : plan_header ∷ rows ≡ plan_header ∷ others = sym under ∙ below in cc both
+
+pub not_both : (t : Tables) (records : List Fields) (a : List ℕ) (row kind : ℕ) → PlanReads t records a → ¬ (PlanBad t records row kind)
+not_both t records a row kind reads (inl lacks) = lacks.0 (leg_records t a (legs_in t)) reads.same
+not_both t records a row kind reads (inr below) =
+    let same = rows_same records below.rows (leg_records t a (legs_in t)) below.under reads.same in
+    cc (sym (no_fault t a below.bad.place reads.assignment) ∙ ap (λ rows. fault_at t rows below.bad.place) (sym same) ∙ below.bad.fault)
+
+pub one_plan : (t : Tables) (records : List Fields) (a b : List ℕ) → PlanReads t records a → PlanReads t records b → a ≡ b
+one_plan t records a b reads others =
+    let same = rows_same records (leg_records t a (legs_in t)) (leg_records t b (legs_in t)) reads.same others.same in
+    let count : length a ≡ length b = omega (arith, reads.assignment.each_leg, others.assignment.each_leg) in
+    same_lists a b count (λ k d within.
+    (let leg : k < legs_in t = omega (arith, reads.assignment.each_leg) in
+    let there : k < length b = omega arith in
+    let records_same : leg_record t a k ≡ leg_record t b k =
+    sym (leg_record_at t a k [] leg) ∙ ap (λ rows. row_at rows k) same ∙ leg_record_at t b k [] leg in
+    let left = pair_reads t k (fleet_at a k) leg (reads.assignment.known k leg) in
+    let right = pair_reads t k (fleet_at b k) leg (others.assignment.known k leg) in
+    let fleets : fleet_at a k ≡ fleet_at b k = (let ok = sym left ∙ ap (fleet_read t k) records_same ∙ right in cc ok) in
+    get_or_default a k d 0 within ∙ fleets ∙ get_or_default b k 0 d there))
+
+one_place : (t : Tables) (rows : List Fields) (row kind row' kind' : ℕ) → RowsBad t rows row kind → RowsBad t rows row' kind' → (row ≡ row') × (kind ≡ kind')
+one_place t rows row kind row' kind' bad other = elim (cases_lt bad.place other.place) [
+  | inl before ↦ absurd (cc (sym (other.before bad.place before) ∙ bad.fault))
+  | inr least ↦ elim (cases_lt other.place bad.place) [
+    | inl after ↦ absurd (cc (sym (bad.before other.place after) ∙ other.fault))
+    | inr most ↦
+        (let same : bad.place ≡ other.place = omega arith in
+        let kinds = sym bad.fault ∙ ap (fault_at t rows) same ∙ other.fault in
+        (omega (arith, bad.number, other.number), cc kinds))
+  ]
+]
+
+one_fault : (t : Tables) (records : List Fields) (row kind row' kind' : ℕ) → PlanBad t records row kind → PlanBad t records row' kind' → (row ≡ row') × (kind ≡ kind')
+one_fault t records row kind row' kind' (inl lacks) (inl again) = (lacks.1 ∙ sym again.1, lacks.2 ∙ sym again.2)
+one_fault t records row kind row' kind' (inl lacks) (inr below) = absurd (lacks.0 below.rows below.under)
+one_fault t records row kind row' kind' (inr below) (inl lacks) = absurd (lacks.0 below.rows below.under)
+one_fault t records row kind row' kind' (inr below) (inr again) =
+    let same = rows_same records below.rows again.rows below.under again.under in
+    one_place t again.rows row kind row' kind' (rw same at below.bad) again.bad
+
+pub reads_or_not : (t : Tables) (records : List Fields) → ReadsOrNot t records
+unfolding EitherReads
+reads_or_not t records = record {
+  either = either_reads t records;
+  not_both = not_both t records;
+  one_plan = one_plan t records;
+  one_fault = one_fault t records;
+}
+
+-- an answer by which the records read or are at fault has the plan that they read as
+pub complete : (t : Tables) (records : List Fields) (answer : Result (List ℕ) PlanError) → MatchResult answer (PlanReads t records) (IsFirstFault t records)
+    → (a : List ℕ) → PlanReads t records a → (answer ≡ Ok a) ⊎ (answer ≡ Err plan.NoMemory)
+complete t records (Ok b) reads a is = inl (ap (λ x. Ok x) (one_plan t records b a reads is))
+complete t records (Err (plan.Fault fault)) bad a is = absurd (not_both t records a fault.row fault.kind is bad)
+complete t records (Err plan.NoMemory) free a is = inr refl

@@ -1,0 +1,18 @@
+//! The laws of plan texts, over all tables. Each function is a law: its contract is the statement, and it does
+//! nothing.
+ghost use Rattle.std.specs.Prelude.{ℕ, List};
+ghost use Rattle.csv_fields.specs.Record.{records_of};
+ghost use Rattle.fleet_model.specs.Legal.{IsAssignment};
+ghost use Rattle.fleet_model.specs.declared.tables.Tables.{Tables};
+ghost use Rattle.plan_text.specs.Reading.{PlanReads, ReadsOrNot};
+ghost use Rattle.plan_text.specs.Text.{plan_text};
+
+/// Any records are those of one plan, or they have one first fault, and not both.
+pub fn reads_or_not()
+    ensures { (t : Tables) (records : List (List (List ℕ))) → ReadsOrNot t records }
+{}
+
+/// The text of a plan reads as that plan.
+pub fn reads_what_was_written()
+    ensures { (t : Tables) (a : List ℕ) → IsAssignment t a → PlanReads t (records_of (plan_text t a)) a }
+{}

@@ -1,0 +1,11 @@
+//! The text of a plan, both ways: `plan.csv`.
+#![tactic(auto)]
+
+pub mod faults;
+pub mod laws;
+pub mod reading;
+pub mod writing;
+
+pub use faults::{PlanError, PlanFault};
+pub use reading::read_plan;
+pub use writing::write_plan;
