@@ -1,6 +1,6 @@
 -- The lines of a plan's records read back as those records.
 use Rattle.std.proofs.Common.{◌≡◌, ℕ, zero, suc, ◌+◌, ◌<◌, ◌≤◌, List, [], ◌∷◌, ◌++◌, length, map, codes, Some, true, false, refl, sym, ap, ◌∙◌, append_assoc, add-one, arith}
-use Rattle.std.specs.List.{list_any, range_with_len}
+use Rattle.std.specs.List.{flat_map, list_any, range_with_len}
 use Rattle.std.proofs.lemmas.List.{append-nil, flat_map_more, length-append}
 use Rattle.std.proofs.lemmas.List.FromFn.{map-range_with_len_more}
 use Rattle.csv.specs.Machine.{next_record}
@@ -29,6 +29,12 @@ line_back : (x y tail : List ℕ) → list_any (needs_byte default_writer) x ≡
     → next_record default_config st.StartRecord [] [] (line_of (x ∷ y ∷ []) ++ tail) ≡ Some (x ∷ y ∷ [], st.StartRecord, tail)
 line_back x y tail plain_x plain_y = rw (line_is_text x y plain_x plain_y) (read-write-many x y [] tail)
 
+flight_is_plain : (t : Tables) (l : ℕ) → l < legs_in t → list_any (needs_byte default_writer) (leg_of t l).flight ≡ false
+flight_is_plain t l leg = name_is_plain (leg_of t l).flight (t.in_range.legs_fit.each l no_leg leg).flight
+
+fleet_is_plain : (t : Tables) (f : ℕ) → f < fleets_in t → list_any (needs_byte default_writer) (fleet_of t f).name ≡ false
+fleet_is_plain t f fleet = name_is_plain (fleet_of t f).name (t.in_range.fleets_fit.each f no_fleet fleet).name
+
 -- the records of legs, from some leg on
 abbrev records_past : Tables → List ℕ → ℕ → ℕ → List Fields
 records_past t a first n = map (leg_record t a) (range_with_len first n)
@@ -41,8 +47,8 @@ lines_back t a is zero first (suc turns) within enough = refl
 lines_back t a is (suc n) first zero within enough = absurd (omega arith)
 lines_back t a is (suc n) first (suc turns) within enough =
     let leg : first < legs_in t = omega arith in
-    let flight = name_is_plain (leg_of t first).flight (t.in_range.legs_fit.each first no_leg leg).flight in
-    let name = name_is_plain (fleet_of t (fleet_at a first)).name (t.in_range.fleets_fit.each (fleet_at a first) no_fleet (is.known first leg)).name in
+    let flight = flight_is_plain t first leg in
+    let name = fleet_is_plain t (fleet_at a first) (is.known first leg) in
     rw (line_back (leg_of t first).flight (fleet_of t (fleet_at a first)).name (lines_of (records_past t a (first + 1) n)) flight name)
     (ap (λ rows. leg_record t a first ∷ rows) (lines_back t a is n (first + 1) turns (omega arith) (omega arith)))
 
@@ -69,6 +75,22 @@ reads_what_was_written t a is = record {
       let long = lines_length t a (legs_in t) 0 in
       text_back t a (length (lines_of (plan_records t a)) + 1) is (omega (arith, length-append (line_of plan_header) (lines_of (leg_records t a (legs_in t))), long));
 }
+
+legs_as_csv : (t : Tables) (a : List ℕ) → IsAssignment t a → (n first : ℕ) → first + n ≤ legs_in t
+    → lines_of (records_past t a first n) ≡ flat_map (row_text default_writer) (records_past t a first n)
+legs_as_csv t a is zero first within = refl
+legs_as_csv t a is (suc n) first within =
+    let leg : first < legs_in t = omega arith in
+    let flight = flight_is_plain t first leg in
+    let name = fleet_is_plain t (fleet_at a first) (is.known first leg) in
+    rw (line_is_text (leg_of t first).flight (fleet_of t (fleet_at a first)).name flight name)
+    (ap (λ rest. row_text default_writer (leg_record t a first) ++ rest) (legs_as_csv t a is n (first + 1) (omega arith)))
+
+pub is_written_as_csv : (t : Tables) (a : List ℕ) → IsAssignment t a → plan_text t a ≡ flat_map (row_text default_writer) (plan_records t a)
+unfolding plan_text
+is_written_as_csv t a is =
+    ap (λ line. line ++ lines_of (leg_records t a (legs_in t))) (line_is_text (codes "flight") (codes "fleet") refl refl)
+    ∙ ap (λ rest. row_text default_writer plan_header ++ rest) (legs_as_csv t a is (legs_in t) 0 (omega arith))
 
 -- one line more
 pub lines_push : (t : Tables) (a : List ℕ) (leg : ℕ) (text grown flight fleet : List ℕ) → text ≡ lines_of (plan_header ∷ leg_records t a leg)

@@ -10,7 +10,7 @@ use Rattle.fleet_model.specs.Legal.{IsAssignment}
 use Rattle.fleet_model.specs.Schedule.{legs_in}
 use Rattle.fleet_model.specs.declared.tables.Tables.{Tables}
 use Rattle.table_rows.specs.Rows.{Fields, IsUnder, LacksHeader, row_at}
-use Rattle.plan_text.specs.Reading.{BadBelowHeader, IsFirstFault, PlanBad, PlanReads, ReadsOrNot, RowsBad, fault_at, fleet_read}
+use Rattle.plan_text.specs.Reading.{PlanBadBelowHeader, IsFirstPlanFault, PlanBad, PlanReads, ReadsOrNot, PlanRowsBad, fault_at, fleet_read}
 use Rattle.plan_text.specs.declared.faults.PlanError.{PlanError}
 use Rattle.plan_text.specs.declared.faults.PlanError.TheVariants as plan
 use Rattle.plan_text.specs.declared.faults.TheConstants.{WRONG_COUNT, WRONG_HEADER}
@@ -45,7 +45,7 @@ headed ((a ∷ b ∷ []) ∷ rows) = elim (text_is a (codes "flight")) [
 
 -- the records before a place read, or there is a first fault
 FrontOrBad : Tables → List Fields → ℕ → Type 0
-FrontOrBad t rows place = ((a : List ℕ) × ReadSoFar t rows place a) ⊎ ((row : ℕ) × (kind : ℕ) × RowsBad t rows row kind)
+FrontOrBad t rows place = ((a : List ℕ) × ReadSoFar t rows place a) ⊎ ((row : ℕ) × (kind : ℕ) × PlanRowsBad t rows row kind)
 
 one_more : (t : Tables) (rows : List Fields) (place : ℕ) (a : List ℕ) → ReadSoFar t rows place a → place < length rows
     → (o : Result ℕ ℕ) → fleet_read t place (row_at rows place) ≡ o → FrontOrBad t rows (place + 1)
@@ -62,7 +62,7 @@ front t rows (suc place) within = elim (front t rows place (omega arith)) [
 ]
 
 RowsOrBad : Tables → List Fields → Type 0
-RowsOrBad t rows = ((a : List ℕ) × AreRead t rows a) ⊎ ((row : ℕ) × (kind : ℕ) × RowsBad t rows row kind)
+RowsOrBad t rows = ((a : List ℕ) × AreRead t rows a) ⊎ ((row : ℕ) × (kind : ℕ) × PlanRowsBad t rows row kind)
 
 rows_or_bad : (t : Tables) (rows : List Fields) → RowsOrBad t rows
 unfolding FrontOrBad RowsOrBad
@@ -111,7 +111,7 @@ one_plan t records a b reads others =
     let fleets : fleet_at a k ≡ fleet_at b k = (let ok = sym left ∙ ap (fleet_read t k) records_same ∙ right in cc ok) in
     get_or_default a k d 0 within ∙ fleets ∙ get_or_default b k 0 d there))
 
-one_place : (t : Tables) (rows : List Fields) (row kind row' kind' : ℕ) → RowsBad t rows row kind → RowsBad t rows row' kind' → (row ≡ row') × (kind ≡ kind')
+one_place : (t : Tables) (rows : List Fields) (row kind row' kind' : ℕ) → PlanRowsBad t rows row kind → PlanRowsBad t rows row' kind' → (row ≡ row') × (kind ≡ kind')
 one_place t rows row kind row' kind' bad other = elim (cases_lt bad.place other.place) [
   | inl before ↦ absurd (cc (sym (other.before bad.place before) ∙ bad.fault))
   | inr least ↦ elim (cases_lt other.place bad.place) [
@@ -141,7 +141,7 @@ reads_or_not t records = record {
 }
 
 -- an answer by which the records read or are at fault has the plan that they read as
-pub complete : (t : Tables) (records : List Fields) (answer : Result (List ℕ) PlanError) → MatchResult answer (PlanReads t records) (IsFirstFault t records)
+pub complete : (t : Tables) (records : List Fields) (answer : Result (List ℕ) PlanError) → MatchResult answer (PlanReads t records) (IsFirstPlanFault t records)
     → (a : List ℕ) → PlanReads t records a → (answer ≡ Ok a) ⊎ (answer ≡ Err plan.NoMemory)
 complete t records (Ok b) reads a is = inl (ap (λ x. Ok x) (one_plan t records b a reads is))
 complete t records (Err (plan.Fault fault)) bad a is = absurd (not_both t records a fault.row fault.kind is bad)

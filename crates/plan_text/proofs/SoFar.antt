@@ -11,7 +11,7 @@ use Rattle.fleet_model.specs.Legal.{IsAssignment}
 use Rattle.fleet_model.specs.Schedule.{fleets_in, legs_in}
 use Rattle.fleet_model.specs.declared.tables.Tables.{Tables}
 use Rattle.table_rows.specs.Rows.{Fields, row_at}
-use Rattle.plan_text.specs.Reading.{RowsBad, fault_at, fleet_read}
+use Rattle.plan_text.specs.Reading.{PlanRowsBad, fault_at, fleet_read}
 use Rattle.plan_text.specs.declared.faults.TheConstants.{WRONG_COUNT}
 use Rattle.plan_text.specs.Text.{leg_record, leg_records}
 use Rattle.plan_text.proofs.Records.{leg_record_at, read_at}
@@ -52,7 +52,7 @@ before_place t rows place a so_far l below =
     rw (slice_get-get_or rows l [] there, so_far.each l below) refl
 
 pub so_far_bad : (t : Tables) (rows : List Fields) (place : ℕ) (a : List ℕ) (fields : Fields) (row kind : ℕ) → ReadSoFar t rows place a → place < length rows
-    → fields ≡ row_at rows place → fleet_read t place fields ≡ Err kind → row ≡ place + 2 → RowsBad t rows row kind
+    → fields ≡ row_at rows place → fleet_read t place fields ≡ Err kind → row ≡ place + 2 → PlanRowsBad t rows row kind
 so_far_bad t rows place a fields row kind so_far within is fault number = record {
   place = place;
   before = before_place t rows place a so_far;
@@ -61,7 +61,7 @@ so_far_bad t rows place a fields row kind so_far within is fault number = record
 }
 
 pub so_far_missing : (t : Tables) (rows : List Fields) (place : ℕ) (a : List ℕ) (row kind : ℕ) → ReadSoFar t rows place a → place ≡ length rows → place < legs_in t
-    → row ≡ place + 2 → kind ≡ WRONG_COUNT → RowsBad t rows row kind
+    → row ≡ place + 2 → kind ≡ WRONG_COUNT → PlanRowsBad t rows row kind
 so_far_missing t rows place a row kind so_far end missing number is =
     let past : length rows ≤ place = omega arith in
     record {

@@ -50,25 +50,25 @@ pub record PlanReads (t : Tables) (records : List Fields) (a : List ℕ) : Type 
   pub same : records ≡ plan_records t a
 
 -- the first place below the header at which something is wrong; the header is record 1
-pub record RowsBad (t : Tables) (rows : List Fields) (row kind : ℕ) : Type 0 where
+pub record PlanRowsBad (t : Tables) (rows : List Fields) (row kind : ℕ) : Type 0 where
   pub place : ℕ
   pub before : (l : ℕ) → l < place → fault_at t rows l ≡ None
   pub fault : fault_at t rows place ≡ Some kind
   pub number : row ≡ place + 2
 
-pub record BadBelowHeader (t : Tables) (records : List Fields) (row kind : ℕ) : Type 0 where
+pub record PlanBadBelowHeader (t : Tables) (records : List Fields) (row kind : ℕ) : Type 0 where
   pub rows : List Fields
   pub under : IsUnder plan_header records rows
-  pub bad : RowsBad t rows row kind
+  pub bad : PlanRowsBad t rows row kind
 
 -- the first fault of a plan's records
 abbrev pub PlanBad : Tables → List Fields → ℕ → ℕ → Type 0
-PlanBad t records row kind = (LacksHeader plan_header records × (row ≡ 1) × (kind ≡ WRONG_HEADER)) ⊎ BadBelowHeader t records row kind
+PlanBad t records row kind = (LacksHeader plan_header records × (row ≡ 1) × (kind ≡ WRONG_HEADER)) ⊎ PlanBadBelowHeader t records row kind
 
 -- the error is the first fault of the records, unless memory ran out
-abbrev pub IsFirstFault : Tables → List Fields → PlanError → Type 0
-IsFirstFault t records (plan.Fault fault) = PlanBad t records fault.row fault.kind
-IsFirstFault t records plan.NoMemory = ⊤
+abbrev pub IsFirstPlanFault : Tables → List Fields → PlanError → Type 0
+IsFirstPlanFault t records (plan.Fault fault) = PlanBad t records fault.row fault.kind
+IsFirstPlanFault t records plan.NoMemory = ⊤
 
 -- any records are those of one plan or have one first fault, and not both
 pub record ReadsOrNot (t : Tables) (records : List Fields) : Type 0 where

@@ -1,10 +1,11 @@
 -- The text of a plan: its records, and the bytes of their lines.
 use Rattle.std.specs.Prelude.{ℕ, List, [], ◌∷◌, ◌++◌, codes, map}
 use Rattle.std.specs.List.{flat_map, join_with_byte, range_with_len}
+use Rattle.csv.specs.Machine.{line_feed}
+use Rattle.csv.specs.Writing.{comma}
 use Rattle.fleet_model.specs.Counts.{fleet_at}
 use Rattle.fleet_model.specs.Schedule.{fleet_of, leg_of, legs_in}
 use Rattle.fleet_model.specs.declared.tables.Tables.{Tables}
-use Rattle.plan_text.specs.declared.writing.TheConstants.{COMMA, LINE_FEED}
 use Rattle.table_rows.specs.Rows.{Fields}
 
 -- flight,fleet
@@ -29,7 +30,7 @@ plan_records t a = plan_header ∷ leg_records t a (legs_in t)
 
 -- the line of a record: its fields with commas between them, and a line feed
 abbrev pub line_of : Fields → List ℕ
-line_of fields = join_with_byte COMMA fields ++ LINE_FEED ∷ []
+line_of fields = join_with_byte comma fields ++ line_feed ∷ []
 
 -- the lines of records
 abbrev pub lines_of : List Fields → List ℕ

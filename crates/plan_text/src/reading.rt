@@ -2,7 +2,7 @@ ghost use Rattle.std.specs.Prelude.{◌≡◌, ◌⊎◌, ◌+◌, ◌^◌, ◌<
 ghost use Rattle.csv_fields.specs.Record.{records_of};
 ghost use Rattle.fleet_model.specs.Legal.{IsAssignment};
 ghost use Rattle.fleet_model.specs.Schedule.{fleets_in, legs_in};
-ghost use Rattle.plan_text.specs.Reading.{IsFirstFault, PlanReads, RowsBad, fleet_names, fleet_read, two_texts};
+ghost use Rattle.plan_text.specs.Reading.{IsFirstPlanFault, PlanReads, PlanRowsBad, fleet_names, fleet_read, two_texts};
 ghost use Rattle.plan_text.specs.Text.{leg_records};
 ghost use Rattle.plan_text.specs.declared.faults.PlanError.TheVariants as plan;
 ghost use Rattle.table_rows.specs.Rows.{fields_in, rows_in};
@@ -21,7 +21,7 @@ const HEADER: [&[u8]; 2] = [b"flight", b"fleet"];
 /// The assignment of `plan.csv`, which has the header and one record for each leg, in schedule order: its flight,
 /// and the name of its fleet. Else the first fault of the text.
 pub fn read_plan(alloc: Global, tables: &Tables, bytes: &[u8]) -> Result<Assignment, PlanError>
-    ensures reads { MatchResult result (PlanReads tables.now (records_of bytes.now)) (IsFirstFault tables.now (records_of bytes.now)) }
+    ensures reads { MatchResult result (PlanReads tables.now (records_of bytes.now)) (IsFirstPlanFault tables.now (records_of bytes.now)) }
     ensures assignment { IfOk result (IsAssignment tables.now) }
     ensures complete { (a : List ℕ) → PlanReads tables.now (records_of bytes.now) a → (result ≡ Ok a) ⊎ (result ≡ Err plan.NoMemory) }
 {
@@ -48,7 +48,7 @@ fn fleets_of(
     requires { fleets.now ≡ fleet_names tables.now }
     ensures assignment { IfOk result (IsAssignment tables.now) }
     ensures reads { MatchResult result (λ a. rows_in rows.now ≡ leg_records tables.now a (legs_in tables.now))
-        (λ fault. RowsBad tables.now (rows_in rows.now) fault.row fault.kind) }
+        (λ fault. PlanRowsBad tables.now (rows_in rows.now) fault.row fault.kind) }
 {
     let mut plan = Assignment::empty();
     for (place, row) in rows.iter().enumerate() {

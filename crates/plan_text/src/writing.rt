@@ -6,12 +6,6 @@ use entries::NoMemory;
 use fleet_model::{Assignment, Tables};
 use std::alloc::Global;
 
-/// What stands between two fields.
-const COMMA: u8 = b',';
-
-/// What ends a record.
-const LINE_FEED: u8 = b'\n';
-
 /// The text of a plan, as `plan.csv` holds it: the header and one record for each leg, in schedule order.
 #[tactic(auto, unfolding(crate::specs::Text::plan_text))]
 pub fn write_plan(alloc: Global, tables: &Tables, plan: &Assignment) -> Result<Vec<u8>, NoMemory>
@@ -36,8 +30,8 @@ fn append_record(text: &mut Vec<u8>, flight: &[u8], fleet: &[u8]) -> Result<(), 
     ensures { IfOk result (λ _. text.new.items ≡ text.old.items ++ line_of (flight.now ∷ fleet.now ∷ [])) }
 {
     text.extend_from_slice(flight)?;
-    text.push(COMMA)?;
+    text.push(b',')?;
     text.extend_from_slice(fleet)?;
-    text.push(LINE_FEED)?;
+    text.push(b'\n')?;
     Ok(())
 }
