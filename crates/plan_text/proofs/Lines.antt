@@ -1,5 +1,5 @@
 -- The lines of a plan's records read back as those records.
-use Rattle.std.proofs.Common.{◌≡◌, ℕ, zero, suc, ◌+◌, ◌<◌, ◌≤◌, List, [], ◌∷◌, ◌++◌, length, map, codes, Some, true, false, refl, sym, ap, ◌∙◌, append_assoc, add-one, arith}
+use Rattle.std.proofs.Common.{◌≡◌, ℕ, zero, suc, ◌+◌, ◌<◌, ◌≤◌, List, [], ◌∷◌, ◌++◌, length, map, codes, Some, false, refl, sym, ap, ◌∙◌, arith}
 use Rattle.std.specs.List.{flat_map, list_any, range_with_len}
 use Rattle.std.proofs.lemmas.List.{append-nil, flat_map_more, length-append}
 use Rattle.std.proofs.lemmas.List.FromFn.{map-range_with_len_more}
@@ -15,7 +15,7 @@ use Rattle.fleet_model.specs.Schedule.{fleet_of, fleets_in, leg_of, legs_in, no_
 use Rattle.fleet_model.specs.declared.tables.Tables.{Tables}
 use Rattle.table_rows.specs.Rows.{Fields}
 use Rattle.plan_text.specs.Reading.{PlanReads}
-use Rattle.plan_text.specs.Text.{leg_record, leg_records, line_of, lines_of, pair_record, plan_header, plan_records, plan_text}
+use Rattle.plan_text.specs.Text.{leg_record, leg_records, line_of, lines_of, plan_header, plan_records, plan_text}
 use Rattle.plan_text.proofs.NameText.{name_is_plain}
 
 -- the line of two fields in which nothing calls for quotes is the text that `csv` writes

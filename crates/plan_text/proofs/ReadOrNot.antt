@@ -1,20 +1,19 @@
 -- Any records are those of one plan or have one first fault, and not both.
-use Rattle.std.proofs.Common.{◌≡◌, ◌≢◌, ℕ, zero, suc, ◌+◌, ◌<◌, ◌≤◌, List, [], ◌∷◌, codes, length, bytes_eq, Bool, true, false, Option, Some, None, Result, Ok, Err, refl, sym, ap, ◌∙◌, inl, inr, add-one, arith}
+use Rattle.std.proofs.Common.{◌≡◌, ◌≢◌, ℕ, zero, suc, ◌+◌, ◌<◌, ◌≤◌, List, [], ◌∷◌, codes, length, bytes_eq, Result, Ok, Err, refl, sym, ap, ◌∙◌, inl, inr, add-one, arith}
 use Rattle.std.specs.Prelude.{◌⊎◌, MatchResult}
 use Rattle.std.proofs.lemmas.Bool.{cases_Bool, cases_lt}
 use Rattle.std.proofs.lemmas.List.{get_or_default, same_lists}
 use Rattle.std.proofs.lemmas.Slice.Eq.{bytes_eq-Decides}
 use Rattle.table_rows.proofs.FrontReading.{bytes_eq-self}
 use Rattle.fleet_model.specs.Counts.{fleet_at}
-use Rattle.fleet_model.specs.Legal.{IsAssignment}
 use Rattle.fleet_model.specs.Schedule.{legs_in}
 use Rattle.fleet_model.specs.declared.tables.Tables.{Tables}
 use Rattle.table_rows.specs.Rows.{Fields, IsUnder, LacksHeader, row_at}
-use Rattle.plan_text.specs.Reading.{PlanBadBelowHeader, IsFirstPlanFault, PlanBad, PlanReads, ReadsOrNot, PlanRowsBad, fault_at, fleet_read}
+use Rattle.plan_text.specs.Reading.{IsFirstPlanFault, PlanBad, PlanReads, ReadsOrNot, PlanRowsBad, fault_at, fleet_read}
 use Rattle.plan_text.specs.declared.faults.PlanError.{PlanError}
 use Rattle.plan_text.specs.declared.faults.PlanError.TheVariants as plan
 use Rattle.plan_text.specs.declared.faults.TheConstants.{WRONG_COUNT, WRONG_HEADER}
-use Rattle.plan_text.specs.Text.{leg_record, leg_records, plan_header, plan_records}
+use Rattle.plan_text.specs.Text.{leg_record, leg_records, plan_header}
 use Rattle.plan_text.proofs.Records.{leg_record_at, no_fault, pair_reads}
 use Rattle.plan_text.proofs.SoFar.{AreRead, ReadSoFar, so_far_all, so_far_bad, so_far_missing, so_far_none, so_far_push}
 

@@ -1,10 +1,9 @@
 -- The records of a plan read as its fleets, and no others do.
-use Rattle.std.proofs.Common.{◌≡◌, ◌≢◌, ℕ, zero, ◌+◌, ◌<◌, ◌≤◌, List, [], ◌∷◌, length, map, slice_index, slice_index_or, slice_get, bytes_eq, Bool, true, false, not, Option, Some, None, Result, Ok, Err, refl, sym, ap, ◌∙◌, inl, inr, arith}
-use Rattle.std.specs.Prelude.{nat_le, nat_lt, ◌&&◌, if◌then◌else◌}
-use Rattle.std.specs.List.{position, position_or_len}
+use Rattle.std.proofs.Common.{◌≡◌, ℕ, ◌<◌, ◌≤◌, List, [], ◌∷◌, length, slice_index_or, bytes_eq, true, false, not, Option, Some, None, Result, Ok, refl, sym, ◌∙◌, inl, inr, arith}
+use Rattle.std.specs.Prelude.{nat_le, nat_lt, ◌&&◌}
+use Rattle.std.specs.List.{position_or_len}
 use Rattle.std.specs.Str.{is_utf8}
 use Rattle.std.proofs.lemmas.Bool.{cases_Bool, cases_lt, le-ltb, leb-false, lt-leb, lt-ltb, ltb-true}
-use Rattle.std.proofs.lemmas.Bool.Decides.{nat_tests}
 use Rattle.std.proofs.lemmas.List.{get_or-map, length-map}
 use Rattle.std.proofs.lemmas.List.FromFn.{get_or-map-range_with_len, length-map-range_with_len}
 use Rattle.std.proofs.lemmas.List.Sums.{passes_at_first, position_or_len_is}
@@ -15,12 +14,12 @@ use Rattle.fleet_model.specs.Legal.{IsAssignment}
 use Rattle.fleet_model.specs.Schedule.{fleet_of, fleets_in, leg_of, legs_in, no_fleet, no_leg}
 use Rattle.fleet_model.specs.declared.tables.Tables.{Tables}
 use Rattle.table_rows.specs.Names.{number_of}
-use Rattle.table_rows.specs.Rows.{Fields, row_at}
+use Rattle.table_rows.specs.Rows.{Fields}
 use Rattle.table_rows.specs.Fields.{refused_where}
 use Rattle.table_rows.proofs.FrontReading.{bytes_eq-self}
 use Rattle.table_rows.proofs.Numbered.{bytes_eq-differ}
 use Rattle.plan_text.specs.Reading.{fault_at, fleet_names, fleet_read, present, two_texts}
-use Rattle.plan_text.specs.declared.faults.TheConstants.{UNKNOWN_FLEET, WRONG_COUNT, WRONG_FIELDS, WRONG_FLIGHT}
+use Rattle.plan_text.specs.declared.faults.TheConstants.{UNKNOWN_FLEET, WRONG_FIELDS, WRONG_FLIGHT}
 use Rattle.plan_text.specs.Text.{leg_record, leg_records, pair_record}
 use Rattle.plan_text.proofs.NameText.{name_is_text}
 

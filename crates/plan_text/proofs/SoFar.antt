@@ -1,6 +1,5 @@
 -- The records below the header, read one after another.
-use Rattle.std.proofs.Common.{◌≡◌, ℕ, ◌+◌, ◌<◌, ◌≤◌, List, [], ◌∷◌, ◌++◌, length, slice_index, slice_index_or, slice_get, Option, Some, None, Result, Ok, Err, refl, sym, ap, ◌∙◌, inl, inr, arith}
-use Rattle.std.specs.Prelude.{nat_lt}
+use Rattle.std.proofs.Common.{◌≡◌, ℕ, ◌+◌, ◌<◌, ◌≤◌, List, [], ◌∷◌, ◌++◌, length, None, Ok, Err, refl, sym, ◌∙◌, inl, inr, arith}
 use Rattle.std.proofs.Math.Seq.{get_or-append_seam}
 use Rattle.std.proofs.lemmas.Bool.{cases_lt, lt-ltb}
 use Rattle.std.proofs.lemmas.List.{get_or_append_left, get_or_default, length-append, same_lists}
@@ -8,7 +7,7 @@ use Rattle.std.proofs.lemmas.List.FromFn.{length-map-range_with_len}
 use Rattle.std.proofs.lemmas.Option.{slice_get-get_or, slice_get_past}
 use Rattle.fleet_model.specs.Counts.{fleet_at}
 use Rattle.fleet_model.specs.Legal.{IsAssignment}
-use Rattle.fleet_model.specs.Schedule.{fleets_in, legs_in}
+use Rattle.fleet_model.specs.Schedule.{legs_in}
 use Rattle.fleet_model.specs.declared.tables.Tables.{Tables}
 use Rattle.table_rows.specs.Rows.{Fields, row_at}
 use Rattle.plan_text.specs.Reading.{PlanRowsBad, fault_at, fleet_read}

@@ -1,5 +1,5 @@
 -- What a plan's text reads as.
-use Rattle.std.specs.Prelude.{◌≡◌, ◌⊎◌, ◌+◌, ◌<◌, ◌&&◌, not, nat_le, nat_lt, ℕ, Bool, List, [], ◌∷◌, bytes_eq, map, slice_get, Option, Some, None, Result, Ok, Err, ⊤, if◌then◌else◌}
+use Rattle.std.specs.Prelude.{◌≡◌, ◌⊎◌, ◌+◌, ◌<◌, ◌&&◌, not, nat_le, nat_lt, ℕ, List, [], ◌∷◌, bytes_eq, map, slice_get, Option, Some, None, Result, Ok, Err, ⊤, if◌then◌else◌}
 use Rattle.std.specs.Result.{result_err}
 use Rattle.std.specs.Str.{is_utf8}
 use Rattle.fleet_model.specs.Legal.{IsAssignment}

@@ -1,4 +1,4 @@
-ghost use Rattle.std.specs.Prelude.{◌≡◌, ◌⊎◌, ◌+◌, ◌^◌, ◌<◌, ℕ, List, Ok, Err, IfOk, MatchResult, length, option_map};
+ghost use Rattle.std.specs.Prelude.{◌≡◌, ◌⊎◌, ◌+◌, ◌^◌, ◌<◌, ℕ, List, IfOk, MatchResult, option_map};
 ghost use Rattle.csv_fields.specs.Record.{records_of};
 ghost use Rattle.fleet_model.specs.Legal.{IsAssignment};
 ghost use Rattle.fleet_model.specs.Schedule.{fleets_in, legs_in};
@@ -33,10 +33,7 @@ pub fn read_plan(alloc: Global, tables: &Tables, bytes: &[u8]) -> Result<Assignm
         }));
     };
     let fleets = numbers_of(alloc, tables.fleets.as_slice())?;
-    match fleets_of(tables, &fleets, rows) {
-        Ok(plan) => Ok(plan),
-        Err(fault) => Err(PlanError::Fault(fault)),
-    }
+    Ok(fleets_of(tables, &fleets, rows)?)
 }
 
 /// The fleets of the records below the header, or the first fault there.

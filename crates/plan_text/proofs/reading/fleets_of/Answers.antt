@@ -1,5 +1,4 @@
 use Rattle.std.proofs.Common.{arith}
-use Rattle.table_rows.specs.Rows.{rows_in}
 use Rattle.table_rows.proofs.SoFar.{rows_end}
 use Rattle.plan_text.proofs.SoFar.{so_far_all}
 use Rattle.plan_text.proofs.reading.fleets_of.Goals as goal

@@ -5,8 +5,8 @@ use Rattle.plan_text.proofs.reading.read_plan.Goals as goal
 pub returns-in_default-clause-complete : goal.returns-in_default-clause-complete
 returns-in_default-clause-complete c = complete _ _ _ (search rules)
 
-pub returns-in-Ok-clause-complete : goal.returns-in-Ok-clause-complete
-returns-in-Ok-clause-complete c = complete _ _ _ (search rules)
-
 pub returns-clause-complete : goal.returns-clause-complete
 returns-clause-complete c = complete _ _ _ (search rules)
+
+pub returns-in_err-fleets_of-clause-complete : goal.returns-in_err-fleets_of-clause-complete
+returns-in_err-fleets_of-clause-complete c = complete _ _ _ (search rules)
