@@ -1,5 +1,5 @@
 -- Reading one file more.
-use Rattle.std.proofs.Common.{◌≡◌, ℕ, ◌+◌, ◌<◌, ◌≤◌, List, [], ◌∷◌, ◌++◌, length, slice_index_or, get_or, Vec, Global, Option, Some, None, IfSome, IsSomeAnd, Result, Err, refl, sym, ap, ◌∙◌, inl, inr, arith}
+use Rattle.std.proofs.Common.{◌≡◌, ℕ, ◌<◌, ◌≤◌, List, [], ◌∷◌, ◌++◌, length, get_or, Vec, Global, Option, Some, None, IfSome, IsSomeAnd, Err, ◌∙◌, inl, inr, arith}
 use Rattle.std.proofs.lemmas.Bool.{cases_lt}
 use Rattle.std.proofs.lemmas.List.{get_or_append_left, get_or_default, get_or_push, length-append, length-map, map_push}
 use Rattle.plan_desk.specs.Desk.{Files}
@@ -9,7 +9,7 @@ use Rattle.plan_desk.specs.declared.file.TheConstants.{TABLE_LIMIT}
 use Rattle.std.specs.Prelude.{⊤}
 use Rattle.fleet_cli.specs.declared.gathering.Stop.{Stop}
 use Rattle.fleet_cli.specs.declared.gathering.Stop.TheVariants as stop
-use Rattle.fleet_cli.specs.Gathered.{FirstTooLong, FrontHeld, MatchStop, contents_of, name_at}
+use Rattle.fleet_cli.specs.Gathered.{FirstTooLong, FrontHeld, MatchStop, contents_of}
 
 abbrev items_of : Vec ℕ Global → List ℕ
 items_of vector = vector.items
@@ -18,15 +18,16 @@ module _ (held : Files) (dir : List ℕ) (names : List DeskFile) where
   front_grown : (contents : List (List ℕ)) (bytes : List ℕ) (file : DeskFile) → FrontHeld held dir names contents → file ≡ get_or names (length contents) file → length contents < length names
       → held (path_of dir file) ≡ Some bytes → length bytes ≤ TABLE_LIMIT → FrontHeld held dir names (contents ++ bytes ∷ [])
   front_grown contents bytes file front is place there short = record {
-      bytes = λ k d within. elim (cases_lt k (length contents)) [
-        | inl before ↦ rw (get_or_append_left contents (bytes ∷ []) [] k before) (front.bytes k d before)
-        | inr past ↦ let last : length contents ≡ k = omega (arith, length-append {A = List ℕ}) in
-            rw (get_or_push contents bytes [] k last) (rw (← last) (rw (← (is ∙ get_or_default names (length contents) file d place)) there))
-      ];
-      within = λ k within. elim (cases_lt k (length contents)) [
-        | inl before ↦ rw (get_or_append_left contents (bytes ∷ []) [] k before) (front.within k before)
-        | inr past ↦ let last : length contents ≡ k = omega (arith, length-append {A = List ℕ}) in rw (get_or_push contents bytes [] k last) short
-      ] }
+    bytes = λ k d within. elim (cases_lt k (length contents)) [
+      | inl before ↦ rw (get_or_append_left contents (bytes ∷ []) [] k before) (front.bytes k d before)
+      | inr past ↦ let last : length contents ≡ k = omega (arith, length-append {A = List ℕ}) in
+          rw (get_or_push contents bytes [] k last) (rw (← last) (rw (← (is ∙ get_or_default names (length contents) file d place)) there))
+    ];
+    within = λ k within. elim (cases_lt k (length contents)) [
+      | inl before ↦ rw (get_or_append_left contents (bytes ∷ []) [] k before) (front.within k before)
+      | inr past ↦ let last : length contents ≡ k = omega (arith, length-append {A = List ℕ}) in rw (get_or_push contents bytes [] k last) short
+    ];
+  }
 
   pub front_push : (contents grown : List (Vec ℕ Global)) (bytes : Vec ℕ Global) (place : ℕ) (file : DeskFile) → FrontHeld held dir names (contents_of contents) → length contents ≡ place
       → place < length names → file ≡ get_or names place file → held (path_of dir file) ≡ Some bytes.items → length bytes.items ≤ TABLE_LIMIT → grown ≡ contents ++ bytes ∷ []
@@ -44,7 +45,8 @@ module _ (held : Files) (dir : List ℕ) (names : List DeskFile) where
         place = omega arith;
         front = front;
         is = λ d. rw seen (same ∙ is ∙ get_or_default names place file d within);
-        too_long = rw same too_long }
+        too_long = rw same too_long;
+      }
 
 -- the same of a desk that may not tell
 module _ (told : Option Files) (dir : List ℕ) (names : List DeskFile) where

@@ -1,2 +1,4 @@
+pub mod Contents
 pub mod FrontFacts
+pub mod Parts
 pub mod Pieces

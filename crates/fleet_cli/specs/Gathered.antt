@@ -1,5 +1,5 @@
 -- What a run reads: the files of a command, in their order.
-use Rattle.std.specs.Prelude.{◌≡◌, ◌≢◌, ◌+◌, ◌<◌, ◌≤◌, ℕ, List, [], length, map, slice_index_or, Vec, Option, Some, IsSome, IsSomeAnd, IfSome, Result, Ok, Err, ⊤}
+use Rattle.std.specs.Prelude.{◌≡◌, ◌<◌, ◌≤◌, ℕ, List, [], length, map, slice_index_or, Vec, Some, IsSome, IsSomeAnd, Result, Ok, Err}
 use Rattle.std.specs.declared.alloc.Global.{Global}
 use Rattle.plan_desk.specs.Desk.{Files}
 use Rattle.plan_desk.specs.DeskFile.{path_of}

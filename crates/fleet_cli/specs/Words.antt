@@ -1,7 +1,8 @@
 -- What the words of a call ask for.
-use Rattle.std.specs.Prelude.{ℕ, Bool, true, false, not, ◌==◌, ◌&&◌, if◌then◌else◌, List, [], ◌∷◌, codes, bytes_eq, Option, Some, None, Result, Ok, Err}
+use Rattle.std.specs.Prelude.{ℕ, Bool, false, not, ◌==◌, ◌&&◌, if◌then◌else◌, List, [], ◌∷◌, codes, bytes_eq, Option, Some, None, Result, Ok, Err}
 use Rattle.csv_fields.specs.Time.{clock_time_of}
 use Rattle.csv_fields.specs.declared.fault.FieldFault.{FieldFault}
+use Rattle.fleet_model.specs.Limits.{AreSettings}
 use Rattle.fleet_model.specs.declared.parts.Settings.{Settings}
 use Rattle.table_rows.specs.Fields.{three_of}
 use Rattle.fleet_cli.specs.declared.words.Command.{Command}
@@ -44,3 +45,7 @@ asked (program ∷ rest) = command_asked rest
 -- what a command of the code asks for
 abbrev pub asked_by : Command → Asked
 asked_by (command.Judge dir settings) = judge dir.now settings
+
+-- the settings of a command are within their limits
+abbrev pub HasSettings : Command → Type 0
+HasSettings (command.Judge dir settings) = AreSettings settings

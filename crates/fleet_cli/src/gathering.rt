@@ -36,6 +36,7 @@ pub fn read_all<D: Desk>(
 ) -> Result<Vec<Vec<u8>>, Stop>
     ensures told { IfSome (D.holds desk.old) (λ held. MatchStop result
         (λ contents. AllHeld held dir.now files.now (contents_of contents.items)) ⊤ (FirstTooLong held dir.now files.now) ⊤) }
+    ensures count { MatchStop result (λ contents. length contents.items ≡ length files.now) ⊤ (λ _. ⊤) ⊤ }
     ensures too_long_taken { MatchStop result (λ _. ⊤) ⊤ (λ _. RoseBy (TABLE_LIMIT + 1) (D.taken desk.old) (D.taken desk.new)) ⊤ }
     ensures holds { D.holds desk.new ≡ D.holds desk.old }
 
@@ -54,7 +55,12 @@ pub fn read_all<D: Desk>(
 }
 
 /// What one file of a folder holds, within the limit of tables.
-fn read_one<D: Desk>(alloc: Global, desk: &mut D, dir: &str, file: DeskFile) -> Result<Vec<u8>, Stop>
+fn read_one<D: Desk>(
+    alloc: Global,
+    desk: &mut D,
+    dir: &str,
+    file: DeskFile,
+) -> Result<Vec<u8>, Stop>
     ensures told { IfSome (D.holds desk.old) (λ held. MatchStop result (λ bytes. held (path_of dir.now file) ≡ Some bytes.items) ⊤
         (λ long. IsSomeAnd (held (path_of dir.now file)) (λ bytes. TABLE_LIMIT < length bytes)) ⊤) }
     ensures within { MatchStop result (λ bytes. length bytes.items ≤ TABLE_LIMIT) ⊤ (λ long. long ≡ file) ⊤ }

@@ -13,7 +13,7 @@ use plan_judge::{Verdict, used};
 use std::alloc::Global;
 
 /// The line of a call whose words match no command.
-pub const USAGE: &[u8] = b"usage: fleetplan judge|solve|check|make|tails DIR [options]\n";
+pub const USAGE_LINE: &[u8] = b"usage: fleetplan judge|solve|check|make|tails DIR [options]\n";
 
 /// Appends pieces and a line feed to a text.
 fn push_line(text: &mut Vec<u8>, pieces: &[&[u8]]) -> Result<(), NoMemory>
@@ -173,12 +173,7 @@ fn too_many(
 }
 
 /// `legal: cost C`, and a line for each fleet.
-fn legal(
-    alloc: Global,
-    tables: &Tables,
-    plan: &Assignment,
-    cost: i128,
-) -> Result<Vec<u8>, NoMemory>
+fn legal(alloc: Global, tables: &Tables, plan: &Assignment, cost: i128) -> Result<Vec<u8>, NoMemory>
     requires { IsAssignment tables.now plan.now }
     ensures { IfOk result (λ text. text.items ≡ line_of (codes "legal: cost " ∷ signed_decimal cost ∷ []) ++ fleet_lines tables.now plan.now (fleets_in tables.now)) }
 {

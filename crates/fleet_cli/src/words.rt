@@ -1,5 +1,5 @@
-ghost use Rattle.std.specs.Prelude.{◌≡◌, map, option_map, string_bytes};
-ghost use Rattle.fleet_cli.specs.Words.{asked, asked_by, has_dash, judge_with};
+ghost use Rattle.std.specs.Prelude.{◌≡◌, IfSome, map, option_map, string_bytes};
+ghost use Rattle.fleet_cli.specs.Words.{HasSettings, asked, asked_by, has_dash, judge_with};
 ghost use Rattle.table_rows.specs.Fields.{three_of, two_of};
 
 use csv_fields::clock_time;
@@ -18,7 +18,8 @@ pub enum Command<'a> {
 /// The command that words ask for, the first of them the program's name, or none where they match no command or
 /// a value is out of its range.
 pub fn command_of(words: &[String]) -> Option<Command<'_>>
-    ensures { option_map asked_by result ≡ asked (map string_bytes words.now) }
+    ensures asked { option_map asked_by result ≡ asked (map string_bytes words.now) }
+    ensures settings { IfSome result HasSettings }
 {
     let (_, words) = words.split_first()?;
     let (word, words) = words.split_first()?;
@@ -30,7 +31,8 @@ pub fn command_of(words: &[String]) -> Option<Command<'_>>
 
 /// The words after `judge`: `DIR --day-start HH:MM`.
 fn judge_of(words: &[String]) -> Option<Command<'_>>
-    ensures { option_map asked_by result ≡ judge_with (three_of (map string_bytes words.now)) }
+    ensures asked { option_map asked_by result ≡ judge_with (three_of (map string_bytes words.now)) }
+    ensures settings { IfSome result HasSettings }
 {
     let (dir, option, time) = three_words(words)?;
     if is_option(dir) || option != "--day-start" {

@@ -1,5 +1,4 @@
-use Rattle.std.proofs.Common.{arith, ◌∙◌, sym, rules}
-use Rattle.std.proofs.lemmas.List.{length-append}
+use Rattle.std.proofs.Common.{rules}
 use Rattle.std.proofs.lemmas.Result.{err_from_is_err_and}
 use Rattle.fleet_cli.proofs.FrontFacts.{front_push_if, stopped}
 use Rattle.fleet_cli.proofs.gathering.read_all.Goals as goal
@@ -9,7 +8,7 @@ returns-in_err-bytes-clause-told g c =
     let p = err_from_is_err_and c.from_residual.result c.from_residual.ensures.1 in
     let invariant = c.loop-file.invariant in
     rw (p.1, p.2) (stopped _ _ _ _ _ _ _ _ c.loop-file.contents.items c.loop-file.file-index _ c.in_err-bytes.field-0.0 invariant.front invariant.count c.loop-file-test.true
-      (rw invariant.holds at c.in_err-bytes.ensures.told) c.in_err-bytes.ensures.within)
+    (rw invariant.holds at c.in_err-bytes.ensures.told) c.in_err-bytes.ensures.within)
 
 pub loop-file-preserved : goal.loop-file-preserved
 loop-file-preserved g c = record {
@@ -19,5 +18,5 @@ loop-file-preserved g c = record {
   taken = search rules;
   steady = search rules;
   front = front_push_if _ _ _ _ _ c.in_ok-bytes.bytes _ _ c.loop-file.invariant.front c.loop-file.invariant.count c.loop-file-test.true
-    (rw c.loop-file.invariant.holds at c.in_ok-bytes.ensures.told) c.in_ok-bytes.ensures.within c.in_ok-push.ensures.items
+      (rw c.loop-file.invariant.holds at c.in_ok-bytes.ensures.told) c.in_ok-bytes.ensures.within c.in_ok-push.ensures.items;
 }

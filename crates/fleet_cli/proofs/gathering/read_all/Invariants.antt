@@ -9,5 +9,5 @@ invariant-loop-file g l = record {
   faults : g.D.Desk.faults l.desk ≡ g.D.Desk.faults l.fn.desk;
   taken : g.D.Desk.taken l.fn.desk ≤ g.D.Desk.taken l.desk;
   steady : g.D.Desk.is_steady l.fn.desk → g.D.Desk.is_steady l.desk;
-  front : IfSome (g.D.Desk.holds l.fn.desk) (λ held. FrontHeld held l.dir l.files (contents_of l.contents.items))
+  front : IfSome (g.D.Desk.holds l.fn.desk) (λ held. FrontHeld held l.dir l.files (contents_of l.contents.items));
 }

@@ -1,0 +1,91 @@
+ghost use Rattle.std.specs.Prelude.{◌≡◌, ◌≢◌, ◌⊎◌, ◌+◌, Some, None, IfSome, IsSome, IsSomeAnd, map, string_bytes};
+ghost use Rattle.fleet_cli.specs.Answer.{NamesStand};
+ghost use Rattle.fleet_cli.specs.Run.{AnswersInFull, IsAnswered, PutsFault, PutsPart, SomeInFull};
+ghost use Rattle.fleet_cli.specs.Texts.{fault_text, usage_text};
+ghost use Rattle.fleet_cli.specs.Words.{asked};
+ghost use Rattle.fleet_cli.specs.declared.status.TheConstants.{FAULT, NO_MEMORY, USAGE};
+ghost use Rattle.plan_desk.specs.Counts.{Rose, RoseBy};
+ghost use Rattle.plan_desk.specs.Sink.{AppendsPrefix, output_with};
+ghost use Rattle.plan_desk.specs.declared.file.DeskFile.{DeskFile};
+ghost use Rattle.plan_desk.specs.declared.file.TheConstants.{TABLE_LIMIT};
+
+use crate::answers::{Failure, answer_to};
+use crate::status::{FAULT, NO_MEMORY, Status};
+use crate::texts::fault_line;
+use plan_desk::{Desk, Sink, SinkError};
+use std::alloc::Global;
+
+/// Does all that the program does: reads what the words ask for from the desk, and puts the answer.
+///
+/// The words include the program's name. The order of refusals is: the words (2), each file in turn (7, or 6 with
+/// kind 12, or 8), the tables (6), the plan (9). The output is one put; the line of a desk's fault is one put as
+/// well, and takes no memory.
+pub fn run<D: Desk, S: Sink>(alloc: Global, words: &[String], desk: &mut D, out: &mut S) -> Status
+    // Every status but want of memory and a fault is the answer to the words by what the desk holds, and all of its
+    // text was put.
+    ensures answer { IsAnswered result.code (IfSome (D.holds desk.old) (λ held.
+        AnswersInFull held (asked (map string_bytes words.now)) result.code (S.output out.old) (S.output out.new))) }
+
+    // The same of a desk that tells nothing: the answer is right of some contents, and a file is called too long
+    // only where more than the limit was taken.
+    ensures some_answer { IsAnswered result.code (SomeInFull (RoseBy (TABLE_LIMIT + 1) (D.taken desk.old) (D.taken desk.new))
+        (asked (map string_bytes words.now)) result.code (S.output out.old) (S.output out.new)) }
+
+    // Usage comes exactly where the words ask for nothing, and its line was put.
+    ensures usage { asked (map string_bytes words.now) ≡ None → IsAnswered result.code (result.code ≡ USAGE) }
+    ensures only_usage { result.code ≡ USAGE → asked (map string_bytes words.now) ≡ None }
+    ensures usage_line { result.code ≡ USAGE → S.output out.new ≡ output_with (S.output out.old) usage_text }
+
+    // A fault comes only where a count rose, and every other status only where neither did.
+    ensures fault { result.code ≡ FAULT → Rose (D.faults desk.old) (D.faults desk.new) ⊎ Rose (S.faults out.old) (S.faults out.new) }
+    ensures quiet_desk { result.code ≢ FAULT → D.faults desk.new ≡ D.faults desk.old }
+    ensures quiet_sink { result.code ≢ FAULT → S.faults out.new ≡ S.faults out.old }
+    ensures steady { D.is_steady desk.old → S.is_steady out.old → IsSomeAnd (D.holds desk.old) (NamesStand (asked (map string_bytes words.now))) → result.code ≢ FAULT }
+
+    // After a fault a part of its line was put, where the desk failed, and else a part of the answer; after want of
+    // memory a part of the answer or nothing.
+    ensures fault_line { result.code ≡ FAULT →
+        PutsFault (Rose (D.faults desk.old) (D.faults desk.new)) (D.blamed desk.new) (S.output out.old) (S.output out.new)
+        ⊎ PutsPart (D.holds desk.old) (asked (map string_bytes words.now)) (S.output out.old) (S.output out.new) }
+    ensures no_memory { result.code ≡ NO_MEMORY →
+        (S.output out.new ≡ S.output out.old) ⊎ PutsPart (D.holds desk.old) (asked (map string_bytes words.now)) (S.output out.old) (S.output out.new) }
+
+    // No file is written.
+    ensures files { D.holds desk.new ≡ D.holds desk.old }
+{
+    match answer_to(alloc, words, desk) {
+        Ok(answer) => put_answer(out, answer.text.as_slice(), answer.status),
+        Err(Failure::Fault) => put_fault(desk, out),
+        Err(Failure::NoMemory) => Status { code: NO_MEMORY },
+    }
+}
+
+/// Puts the text of an answer.
+fn put_answer<S: Sink>(out: &mut S, text: &[u8], status: Status) -> Status
+    requires { status.code ≢ FAULT × (status.code ≢ NO_MEMORY) }
+    ensures status { IsAnswered result.code (result ≡ status) }
+    ensures put { IsAnswered result.code (S.output out.new ≡ output_with (S.output out.old) text.now) }
+    ensures part { AppendsPrefix text.now (S.output out.old) (S.output out.new) }
+    ensures fault { result.code ≡ FAULT → Rose (S.faults out.old) (S.faults out.new) }
+    ensures quiet { result.code ≢ FAULT → S.faults out.new ≡ S.faults out.old }
+    ensures steady { S.is_steady out.old → result.code ≢ FAULT }
+{
+    match out.put(text) {
+        Ok(()) => status,
+        Err(SinkError::Failed) => Status { code: FAULT },
+        Err(SinkError::NoMemory) => Status { code: NO_MEMORY },
+    }
+}
+
+/// Puts the line of a desk's fault, as far as the sink takes it.
+fn put_fault<D: Desk, S: Sink>(desk: &D, out: &mut S) -> Status
+    requires { IsSome (D.blamed desk.now) }
+    ensures status { result.code ≡ FAULT }
+    ensures put { (f : DeskFile) × (D.blamed desk.now ≡ Some f) × AppendsPrefix (fault_text f) (S.output out.old) (S.output out.new) }
+{
+    if let Some(file) = desk.blamed() {
+        // The status stands whether the sink takes the line or not.
+        let _ = out.put(fault_line(file));
+    }
+    Status { code: FAULT }
+}

@@ -1,0 +1,24 @@
+/// How a run ended: the exit status of the program.
+#[derive(Clone, Copy, Debug, PartialEq, Eq)]
+pub struct Status {
+    /// One of the numbers below.
+    pub code: u8,
+}
+
+/// Judged legal.
+pub const DONE: u8 = 0;
+
+/// The words match no command, or a value is out of its range.
+pub const USAGE: u8 = 2;
+
+/// A table or a file is refused.
+pub const BAD_INPUT: u8 = 6;
+
+/// A fault of the desk or of the sink was counted.
+pub const FAULT: u8 = 7;
+
+/// Want of memory.
+pub const NO_MEMORY: u8 = 8;
+
+/// A plan is refused.
+pub const REFUSED: u8 = 9;
