@@ -1,5 +1,6 @@
 pub mod AllRecords
 pub mod Digits
 pub mod FieldAt
+pub mod NoBytes
 pub mod ReadErrors
 pub mod WholeForm

@@ -1,2 +1,4 @@
+pub mod CostsFit
 pub mod CostsKept
+pub mod FleetsFit
 pub mod FleetsKept

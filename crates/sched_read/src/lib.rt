@@ -1,6 +1,7 @@
 //! The tables of a schedule, read from the bytes of their five files.
 #![tactic(auto)]
 
+pub mod laws;
 pub mod legs;
 pub mod loading;
 pub mod throughs;
