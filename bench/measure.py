@@ -1,0 +1,70 @@
+"""Times `fleetplan judge` beside a Python process whose csv module merely reads the same six files."""
+import shutil
+import subprocess
+import sys
+import tempfile
+import time
+from pathlib import Path
+
+import make_tables
+
+BENCH = Path(__file__).resolve().parent
+BUILT = BENCH.parent / "crates" / "fleetplan" / "out" / "fleetplan"
+RUNS = 9
+DAY_START = "03:00"
+
+
+def seconds_of(words):
+    start = time.perf_counter()
+    subprocess.run(words, stdin=subprocess.DEVNULL, stdout=subprocess.DEVNULL, check=True)
+    return time.perf_counter() - start
+
+
+def peak_of(words):
+    """The most memory that a run held, in MB: by GNU time, since a child's count of our own begins at our own size."""
+    with tempfile.NamedTemporaryFile() as note:
+        subprocess.run(["time", "-f", "%M", "-o", note.name, *words], stdin=subprocess.DEVNULL, stdout=subprocess.DEVNULL, check=True)
+        return int(note.read()) * 1024 / 1e6
+
+
+def compare(title, program, folder, files):
+    """Prints the best time of several runs, taken in turn, and the peak memory. Answers whether the program's time is no more."""
+    sides = {
+        "fleetplan judge": [str(program), "judge", str(folder), "--day-start", DAY_START],
+        "Python csv": [sys.executable, str(BENCH / "read_csv.py"), *map(str, files)],
+    }
+    best = {name: float("inf") for name in sides}
+    for _ in range(RUNS):
+        for name, words in sides.items():
+            best[name] = min(best[name], seconds_of(words))
+    print(f"{title}, {sum(path.stat().st_size for path in files):,} bytes")
+    for name, words in sides.items():
+        print(f"  {name:16} {best[name] * 1000:8.1f} ms {peak_of(words):8.1f} MB")
+    return best["fleetplan judge"] <= best["Python csv"]
+
+
+def same_answer(program, folder):
+    """Whether the program prints what the reference prints."""
+    ours = subprocess.run([str(program), "judge", str(folder), "--day-start", DAY_START], capture_output=True)
+    reference = [sys.executable, str(BENCH / "judge_reference.py"), str(folder), DAY_START]
+    theirs = subprocess.run(reference, capture_output=True)
+    return (ours.returncode, ours.stdout) == (theirs.returncode, theirs.stdout) and ours.returncode == 0
+
+
+def main(filled):
+    """Measures on the largest tables, in both orders of costs. Its status is 0 where the program took no more time."""
+    program = Path(sys.argv[1] if len(sys.argv) > 1 else BUILT).resolve()
+    if not program.exists():
+        sys.exit(f"{program} is not there: run ./fleetplan first, which builds it")
+    if not shutil.which("time"):
+        sys.exit("GNU time is not on the PATH, by which memory is measured")
+    print(f"best of {RUNS} runs, and the most memory held")
+    no_more = True
+    for title, shuffled in (("costs by leg and fleet", False), ("costs in another order", True)):
+        with tempfile.TemporaryDirectory() as scratch:
+            files = make_tables.write(Path(scratch), shuffled=shuffled, filled=filled)
+            if not same_answer(program, scratch):
+                sys.exit("the program does not print what judge_reference.py prints")
+            no_more = compare(title, program, scratch, files) and no_more
+    print("no more than Python" if no_more else "MORE than Python")
+    sys.exit(0 if no_more else 1)
