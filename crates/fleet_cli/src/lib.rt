@@ -1,12 +1,13 @@
 //! The program: what its words ask for, what it reads, and what it answers.
 #![tactic(auto)]
 
-pub mod answers;
-pub mod gathering;
-pub mod running;
-pub mod status;
-pub mod texts;
-pub mod words;
+mod answers;
+mod gathering;
+mod running;
+mod status;
+mod texts;
+mod words;
 
 pub use running::run;
-pub use status::Status;
+pub use status::{BAD_INPUT, DONE, FAULT, NO_MEMORY, REFUSED, Status, USAGE};
+pub use texts::USAGE_LINE;
