@@ -1,1 +1,2 @@
 pub mod NeedFound
+pub mod OneVerdict
