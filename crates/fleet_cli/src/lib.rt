@@ -3,6 +3,7 @@
 
 mod answers;
 mod gathering;
+pub mod laws;
 mod running;
 mod status;
 mod texts;

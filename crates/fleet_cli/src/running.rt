@@ -1,9 +1,9 @@
 ghost use Rattle.std.specs.Prelude.{◌≡◌, ◌≢◌, ◌⊎◌, ◌+◌, Some, None, IfSome, IsSome, IsSomeAnd, map, string_bytes};
 ghost use Rattle.fleet_cli.specs.Answer.{NamesStand};
-ghost use Rattle.fleet_cli.specs.Run.{AnswersInFull, IsAnswered, PutsFault, PutsPart, SomeInFull};
+ghost use Rattle.fleet_cli.specs.Run.{AnswersExactly, AnswersInFull, HoldsLegal, IsAnswered, PutsFault, PutsPart, SomeInFull};
 ghost use Rattle.fleet_cli.specs.Texts.{fault_text, usage_text};
 ghost use Rattle.fleet_cli.specs.Words.{asked};
-ghost use Rattle.fleet_cli.specs.declared.status.TheConstants.{FAULT, NO_MEMORY, USAGE};
+ghost use Rattle.fleet_cli.specs.declared.status.TheConstants.{DONE, FAULT, NO_MEMORY, USAGE};
 ghost use Rattle.plan_desk.specs.Counts.{Rose, RoseBy};
 ghost use Rattle.plan_desk.specs.Sink.{AppendsPrefix, output_with};
 ghost use Rattle.plan_desk.specs.declared.file.DeskFile.{DeskFile};
@@ -25,6 +25,13 @@ pub fn run<D: Desk, S: Sink>(alloc: Global, words: &[String], desk: &mut D, out:
     // text was put.
     ensures answer { IsAnswered result.code (IfSome (D.holds desk.old) (λ held.
         AnswersInFull held (asked (map string_bytes words.now)) result.code (S.output out.old) (S.output out.new))) }
+
+    // No answer but the definition's is given, so each of these statuses comes exactly by its cause.
+    ensures exactly { IsAnswered result.code (IfSome (D.holds desk.old) (λ held.
+        AnswersExactly held (asked (map string_bytes words.now)) result.code (S.output out.old) (S.output out.new))) }
+
+    // A legal plan on tables that read is judged so.
+    ensures complete { IsAnswered result.code (IfSome (D.holds desk.old) (λ held. HoldsLegal held (asked (map string_bytes words.now)) → result.code ≡ DONE)) }
 
     // The same of a desk that tells nothing: the answer is right of some contents, and a file is called too long
     // only where more than the limit was taken.
