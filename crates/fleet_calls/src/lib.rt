@@ -1,0 +1,14 @@
+//! Calls of the libraries on worked sets of tables: each public call once, with the answer that is wanted. There is
+//! no code here but that of the tests.
+#![tactic(auto)]
+
+#[cfg(test)]
+mod judging;
+#[cfg(test)]
+mod model;
+#[cfg(test)]
+mod plans;
+#[cfg(test)]
+mod reading;
+#[cfg(test)]
+mod schedules;
