@@ -1,0 +1,26 @@
+//! The program's worked runs, as tables of tests over a desk and a sink in memory: the files that lie on the desk,
+//! the words, and the status and output that are wanted. There is no code here but that of the tests.
+#![tactic(auto)]
+
+#[cfg(test)]
+mod costs;
+#[cfg(test)]
+mod faults;
+#[cfg(test)]
+mod fleets;
+#[cfg(test)]
+mod judging;
+#[cfg(test)]
+mod legs;
+#[cfg(test)]
+mod plans;
+#[cfg(test)]
+mod rows;
+#[cfg(test)]
+mod stations;
+#[cfg(test)]
+mod tables;
+#[cfg(test)]
+mod throughs;
+#[cfg(test)]
+mod usage;

@@ -1,0 +1,158 @@
+//! A row of a table of tests, and what runs it.
+use crate::tables::{FILES, LEGAL, first_run};
+use fleet_cli::{DONE, FAULT, run};
+use plan_desk::{Desk, DeskFile, FailingCall, MemoryDesk, MemorySink, Sink};
+use std::alloc::Global;
+use std::process::Abort;
+use std::test::Fail;
+
+/// What lies on the desk in place of a file of the first run.
+#[derive(Clone, Copy)]
+pub enum Laid<'a> {
+    /// The file with these bytes.
+    Bytes(DeskFile, &'a [u8]),
+    /// Nothing.
+    Away(DeskFile),
+}
+
+/// A run, and the status and output that are wanted of it.
+#[derive(Clone, Copy)]
+pub struct Row<'a> {
+    /// What is laid over the files of the first run.
+    pub laid: &'a [Laid<'a>],
+    /// The words, the program's name among them.
+    pub words: &'a [&'a str],
+    pub status: u8,
+    pub text: &'a [u8],
+}
+
+/// The faults that a run counted.
+#[derive(Clone, Copy, Debug, PartialEq, Eq)]
+pub struct Counted {
+    pub desk: u64,
+    pub sink: u64,
+}
+
+/// The words of a judge whose day starts at midnight.
+pub const JUDGE: &[&str] = &["fleetplan", "judge", "d", "--day-start", "00:00"];
+
+/// A row of a judge whose day starts at midnight.
+pub fn judged<'a>(laid: &'a [Laid<'a>], status: u8, text: &'a [u8]) -> Row<'a> {
+    Row {
+        laid,
+        words: JUDGE,
+        status,
+        text,
+    }
+}
+
+/// Runs each row. Only a row that wants a fault may count one.
+pub fn run_rows<R: Abort + Alloc<A = Global>>(rt: &R, rows: &[Row<'_>]) -> Result<(), Fail> {
+    for (number, row) in rows.iter().enumerate() {
+        let counted = run_row(rt, number, row, &[], &[])?;
+        let quiet = counted == Counted { desk: 0, sink: 0 };
+        assert_eq!(rt; quiet, row.status != FAULT, "row {number}");
+    }
+    Ok(())
+}
+
+/// Runs a judge for each text of one file, and wants the line beside it.
+pub fn run_refusals<R: Abort + Alloc<A = Global>>(
+    rt: &R,
+    file: DeskFile,
+    status: u8,
+    cases: &[(&[u8], &[u8])],
+) -> Result<(), Fail> {
+    for (number, (bytes, line)) in cases.iter().enumerate() {
+        let laid = [Laid::Bytes(file, bytes)];
+        let counted = run_row(rt, number, &judged(&laid, status, line), &[], &[])?;
+        assert_eq!(rt; counted, Counted { desk: 0, sink: 0 }, "row {number}");
+    }
+    Ok(())
+}
+
+/// Runs a judge for each text of one file, and wants what the first run prints.
+pub fn run_readings<R: Abort + Alloc<A = Global>>(
+    rt: &R,
+    file: DeskFile,
+    texts: &[&[u8]],
+) -> Result<(), Fail> {
+    for (number, bytes) in texts.iter().enumerate() {
+        let laid = [Laid::Bytes(file, bytes)];
+        let counted = run_row(rt, number, &judged(&laid, DONE, LEGAL), &[], &[])?;
+        assert_eq!(rt; counted, Counted { desk: 0, sink: 0 }, "row {number}");
+    }
+    Ok(())
+}
+
+/// Runs a row over a desk and a sink whose calls of these numbers fail, and compares status, output and files.
+pub fn run_row<R: Abort + Alloc<A = Global>>(
+    rt: &R,
+    number: usize,
+    row: &Row<'_>,
+    failing_calls: &[u64],
+    failing_puts: &[u64],
+) -> Result<Counted, Fail> {
+    let alloc = rt.alloc();
+    let mut desk = MemoryDesk::new(alloc, files(alloc, row)?, failing(alloc, failing_calls)?)?;
+    let mut sink = MemorySink::new(failing(alloc, failing_puts)?);
+    let words = words(alloc, row)?;
+    let status = run(alloc, words.as_slice(), &mut desk, &mut sink);
+    assert_eq!(rt; sink.put_bytes(), row.text, "row {number}");
+    assert_eq!(rt; status.code, row.status, "row {number}");
+    for file in FILES {
+        let name = path(alloc, file)?;
+        assert!(rt;
+            desk.file(name.as_str()) == content(row, file),
+            "row {number}: {name}"
+        );
+    }
+    Ok(Counted {
+        desk: desk.faults(),
+        sink: sink.faults(),
+    })
+}
+
+/// The bytes that a row lays under a file's name.
+fn content<'a>(row: &Row<'a>, file: DeskFile) -> Option<&'a [u8]> {
+    for laid in row.laid {
+        match *laid {
+            Laid::Bytes(name, bytes) if name == file => return Some(bytes),
+            Laid::Away(name) if name == file => return None,
+            _ => {}
+        }
+    }
+    Some(first_run(file))
+}
+
+fn path(alloc: Global, file: DeskFile) -> Result<String, Fail> {
+    let mut path = String::from_str(alloc, "d/")?;
+    path.push_str(file.name())?;
+    Ok(path)
+}
+
+fn files(alloc: Global, row: &Row<'_>) -> Result<Vec<(String, Vec<u8>)>, Fail> {
+    let mut files = Vec::new(alloc);
+    for file in FILES {
+        if let Some(bytes) = content(row, file) {
+            files.push((path(alloc, file)?, bytes.to_vec(alloc)?))?;
+        }
+    }
+    Ok(files)
+}
+
+fn failing(alloc: Global, calls: &[u64]) -> Result<Vec<FailingCall>, Fail> {
+    let mut failing = Vec::new(alloc);
+    for call in calls {
+        failing.push(FailingCall::at(*call))?;
+    }
+    Ok(failing)
+}
+
+fn words(alloc: Global, row: &Row<'_>) -> Result<Vec<String>, Fail> {
+    let mut words = Vec::new(alloc);
+    for word in row.words {
+        words.push(String::from_str(alloc, word)?)?;
+    }
+    Ok(words)
+}

@@ -1,0 +1,46 @@
+//! The files of the first run, over which each row lays its own.
+use plan_desk::DeskFile;
+
+/// The files that `judge` reads.
+pub const FILES: [DeskFile; 6] = [
+    DeskFile::Stations,
+    DeskFile::Fleets,
+    DeskFile::Legs,
+    DeskFile::Costs,
+    DeskFile::Throughs,
+    DeskFile::Plan,
+];
+
+/// Two stations.
+pub const STATIONS: &[u8] = b"code,extra,maintenance\nAAA,0,yes\nBBB,0,no\n";
+
+/// Two fleets of one aircraft each.
+pub const FLEETS: &[u8] = b"fleet,aircraft,turn\nF1,1,30\nF2,1,30\n";
+
+/// A leg there and a leg back.
+pub const LEGS: &[u8] = b"flight,from,dep,to,arr\nX1,AAA,08:00,BBB,09:00\nX2,BBB,10:00,AAA,11:00\n";
+
+/// What each leg costs with each fleet.
+pub const COSTS: &[u8] = b"flight,fleet,cost\nX1,F1,100\nX1,F2,80\nX2,F1,100\nX2,F2,130\n";
+
+/// No through pairs.
+pub const THROUGHS: &[u8] = b"in,out,value\n";
+
+/// Both legs with the first fleet.
+pub const PLAN: &[u8] = b"flight,fleet\nX1,F1\nX2,F1\n";
+
+/// What the first run prints.
+pub const LEGAL: &[u8] = b"legal: cost 200\nfleet F1: used 1 of 1\nfleet F2: used 0 of 1\n";
+
+/// The bytes of a file of the first run.
+pub fn first_run(file: DeskFile) -> &'static [u8] {
+    match file {
+        DeskFile::Stations => STATIONS,
+        DeskFile::Fleets => FLEETS,
+        DeskFile::Legs => LEGS,
+        DeskFile::Costs => COSTS,
+        DeskFile::Throughs => THROUGHS,
+        DeskFile::Plan => PLAN,
+        DeskFile::Proof | DeskFile::Rotation => b"",
+    }
+}
