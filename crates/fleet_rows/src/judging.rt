@@ -139,6 +139,49 @@ fn nights_aloft_are_used(rt: HostRuntime) -> Result<(), Fail> {
                 DONE,
                 b"legal: cost 200\nfleet F1: used 2 of 2\nfleet F2: used 0 of 1\n",
             ),
+            // One aircraft lands past midnight, and one must be there at the day start since the leg back is ready
+            // after the departure.
+            judged(
+                &[Laid::Bytes(
+                    Legs,
+                    b"flight,from,dep,to,arr\nX1,AAA,22:00,BBB,00:15\nX2,BBB,10:00,AAA,22:00\n",
+                )],
+                REFUSED,
+                b"too many: F1 used 2 of 1\n",
+            ),
+            // Ready at the very end of the day: a night, and nothing on the ground at the day start.
+            judged(
+                &[Laid::Bytes(
+                    Legs,
+                    b"flight,from,dep,to,arr\nX1,AAA,08:00,BBB,09:00\nX2,BBB,22:30,AAA,23:30\n",
+                )],
+                DONE,
+                LEGAL,
+            ),
+            // Two nights of one leg.
+            judged(
+                &[
+                    Laid::Bytes(
+                        Legs,
+                        b"flight,from,dep,to,arr\nX1,AAA,23:00,BBB,22:59\nX2,BBB,10:00,AAA,11:00\n",
+                    ),
+                    Laid::Bytes(Fleets, b"fleet,aircraft,turn\nF1,5,61\nF2,1,30\n"),
+                ],
+                DONE,
+                b"legal: cost 200\nfleet F1: used 2 of 5\nfleet F2: used 0 of 1\n",
+            ),
+            // One minute of turn less, and it is one night.
+            judged(
+                &[
+                    Laid::Bytes(
+                        Legs,
+                        b"flight,from,dep,to,arr\nX1,AAA,23:00,BBB,22:59\nX2,BBB,23:59,AAA,00:59\n",
+                    ),
+                    Laid::Bytes(Fleets, b"fleet,aircraft,turn\nF1,5,60\nF2,1,30\n"),
+                ],
+                DONE,
+                b"legal: cost 200\nfleet F1: used 2 of 5\nfleet F2: used 0 of 1\n",
+            ),
         ],
     )
 }
@@ -174,6 +217,118 @@ fn an_aircraft_departs_when_it_is_ready(rt: HostRuntime) -> Result<(), Fail> {
                 &[Laid::Bytes(Stations, b"code,extra,maintenance\nAAA,0,yes\nBBB,31,no\n")],
                 REFUSED,
                 b"too many: F1 used 2 of 1\n",
+            ),
+        ],
+    )
+}
+
+#[test]
+fn plans_of_two_fleets(rt: HostRuntime) -> Result<(), Fail> {
+    let legs: &[u8] = b"flight,from,dep,to,arr\nX1,AAA,08:00,BBB,09:00\nY1,AAA,08:00,BBB,09:00\n\
+        X2,BBB,10:00,AAA,11:00\nY2,BBB,10:00,AAA,11:00\n";
+    let costs: &[u8] =
+        b"flight,fleet,cost\nX1,F1,100\nX2,F1,100\nY1,F2,7\nY2,F2,-9\nX1,F2,1\nX2,F2,1\n";
+    let both: &[u8] = b"flight,fleet\nX1,F1\nY1,F2\nX2,F1\nY2,F2\n";
+    let second: &[u8] = b"flight,fleet\nX1,F2\nY1,F2\nX2,F2\nY2,F2\n";
+    let crossed: &[u8] = b"flight,fleet\nX1,F1\nY1,F2\nX2,F2\nY2,F2\n";
+    let other = Laid::Bytes(Plan, b"flight,fleet\nX1,F2\nX2,F2\n");
+    let lost = Laid::Bytes(
+        Costs,
+        b"flight,fleet,cost\nX1,F2,-1000000000000\nX2,F2,-1000000000000\n",
+    );
+    run_rows(
+        &rt,
+        &[
+            judged(
+                &[
+                    Laid::Bytes(Legs, legs),
+                    Laid::Bytes(Costs, costs),
+                    Laid::Bytes(Plan, both),
+                ],
+                DONE,
+                b"legal: cost 198\nfleet F1: used 1 of 1\nfleet F2: used 1 of 1\n",
+            ),
+            judged(
+                &[
+                    Laid::Bytes(Legs, legs),
+                    Laid::Bytes(Costs, costs),
+                    Laid::Bytes(Plan, second),
+                ],
+                REFUSED,
+                b"too many: F2 used 2 of 1\n",
+            ),
+            judged(
+                &[
+                    Laid::Bytes(Legs, legs),
+                    Laid::Bytes(Costs, costs),
+                    Laid::Bytes(Plan, crossed),
+                ],
+                REFUSED,
+                b"unbalanced: F1 at AAA, in 0, out 1\n",
+            ),
+            judged(
+                &[other],
+                DONE,
+                b"legal: cost 210\nfleet F1: used 0 of 1\nfleet F2: used 1 of 1\n",
+            ),
+            judged(
+                &[other, lost],
+                DONE,
+                b"legal: cost -2000000000000\nfleet F1: used 0 of 1\nfleet F2: used 1 of 1\n",
+            ),
+        ],
+    )
+}
+
+// The first by fleet, then by station.
+#[test]
+fn the_first_unbalanced(rt: HostRuntime) -> Result<(), Fail> {
+    let legs: &[u8] = b"flight,from,dep,to,arr\nX1,AAA,08:00,BBB,09:00\nX2,BBB,10:00,AAA,11:00\n\
+        Y1,BBB,12:00,CCC,13:00\n";
+    let stations = Laid::Bytes(
+        Stations,
+        b"code,extra,maintenance\nCCC,0,no\nAAA,0,yes\nBBB,0,no\n",
+    );
+    let costs = Laid::Bytes(
+        Costs,
+        b"flight,fleet,cost\nX1,F1,1\nX2,F1,1\nY1,F1,1\nY1,F2,1\n",
+    );
+    let legs = Laid::Bytes(Legs, legs);
+    run_rows(
+        &rt,
+        &[
+            judged(
+                &[
+                    stations,
+                    legs,
+                    costs,
+                    Laid::Bytes(Plan, b"flight,fleet\nX1,F1\nX2,F1\nY1,F1\n"),
+                ],
+                REFUSED,
+                b"unbalanced: F1 at CCC, in 1, out 0\n",
+            ),
+            judged(
+                &[
+                    stations,
+                    legs,
+                    costs,
+                    Laid::Bytes(Plan, b"flight,fleet\nX1,F1\nX2,F1\nY1,F2\n"),
+                ],
+                REFUSED,
+                b"unbalanced: F2 at CCC, in 1, out 0\n",
+            ),
+            judged(
+                &[
+                    legs,
+                    costs,
+                    Laid::Bytes(
+                        Stations,
+                        b"code,extra,maintenance\nAAA,0,yes\nBBB,0,no\nCCC,0,no\n",
+                    ),
+                    Laid::Bytes(Plan, b"flight,fleet\nX1,F1\nX2,F1\nY1,F1\n"),
+                ],
+                REFUSED,
+                b"unbalanced: F1 at BBB, in 1, out 2\n",
             ),
         ],
     )

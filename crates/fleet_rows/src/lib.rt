@@ -7,11 +7,15 @@ mod costs;
 #[cfg(test)]
 mod faults;
 #[cfg(test)]
+mod files;
+#[cfg(test)]
 mod fleets;
 #[cfg(test)]
 mod judging;
 #[cfg(test)]
 mod legs;
+#[cfg(test)]
+mod limits;
 #[cfg(test)]
 mod plans;
 #[cfg(test)]
