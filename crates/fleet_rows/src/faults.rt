@@ -7,17 +7,15 @@ use std::test::Fail;
 
 #[test]
 fn each_read_fails(rt: HostRuntime) -> Result<(), Fail> {
-    let lines: [&[u8]; 6] = [
-        b"fault: stations.csv\n",
-        b"fault: fleets.csv\n",
-        b"fault: legs.csv\n",
-        b"fault: costs.csv\n",
-        b"fault: throughs.csv\n",
-        b"fault: plan.csv\n",
+    let lines: [(u64, &[u8]); 6] = [
+        (1, b"fault: stations.csv\n"),
+        (2, b"fault: fleets.csv\n"),
+        (3, b"fault: legs.csv\n"),
+        (4, b"fault: costs.csv\n"),
+        (5, b"fault: throughs.csv\n"),
+        (6, b"fault: plan.csv\n"),
     ];
-    let mut call = 0;
-    for line in lines {
-        call += 1;
+    for (call, line) in lines {
         let counted = run_row(&rt, 0, &judged(&[], FAULT, line), &[call], &[])?;
         assert_eq!(rt; counted, Counted { desk: 1, sink: 0 });
     }

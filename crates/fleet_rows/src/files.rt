@@ -1,51 +1,60 @@
 //! The order in which files are judged, and what reading makes of bytes in any of them.
-use crate::rows::{Laid, Row, judged, run_rows};
-use crate::tables::{COSTS, FLEETS, LEGAL, LEGS, PLAN, STATIONS, THROUGHS};
-use fleet_cli::{BAD_INPUT, DONE};
-use plan_desk::DeskFile::{self, Costs, Fleets, Legs, Plan, Stations, Throughs};
+use crate::rows::{Counted, Laid, Row, judged, run_refusals, run_row, run_rows};
+use crate::tables::{FILES, LEGAL, first_run};
+use fleet_cli::{BAD_INPUT, DONE, REFUSED};
+use plan_desk::DeskFile::{Costs, Fleets, Legs, Plan, Stations, Throughs};
 use std::alloc::Global;
 use std::test::Fail;
+
+// Bad in the last record.
+const BAD_STATIONS: &[u8] = b"code,extra,maintenance\nAAA,0,yes\nAAA,0,yes\n";
+
+const BAD_FLEETS: &[u8] = b"fleet,aircraft,turn\nF1,1,30\nF1,1,30\n";
+
+const BAD_LEGS: &[u8] = b"flight,from,dep,to,arr\nX1,AAA,08:00,AAA,09:00\n";
+
+const BAD_COSTS: &[u8] = b"flight,fleet,cost\nX1,F9,100\n";
+
+const BAD_THROUGHS: &[u8] = b"in,out,value\nX1,X9,1\n";
 
 // A file that is bad late in it, beside a later file that is bad in its first record.
 #[test]
 fn the_first_bad_file_decides(rt: HostRuntime) -> Result<(), Fail> {
-    let stations: &[u8] = b"code,extra,maintenance\nAAA,0,yes\nAAA,0,yes\n";
-    let fleets: &[u8] = b"fleet,aircraft,turn\nF1,1,30\nF1,1,30\n";
-    let legs: &[u8] = b"flight,from,dep,to,arr\nX1,AAA,08:00,AAA,09:00\n";
-    let costs: &[u8] = b"flight,fleet,cost\nX1,F9,100\n";
-    let throughs: &[u8] = b"in,out,value\nX1,X9,1\n";
     run_rows(
         &rt,
         &[
             bad(
-                &[Laid::Bytes(Stations, stations), Laid::Bytes(Fleets, b"")],
+                &[
+                    Laid::Bytes(Stations, BAD_STATIONS),
+                    Laid::Bytes(Fleets, b""),
+                ],
                 b"bad input: stations.csv record 3 kind 5\n",
             ),
             bad(
-                &[Laid::Bytes(Fleets, fleets), Laid::Bytes(Legs, b"")],
+                &[Laid::Bytes(Fleets, BAD_FLEETS), Laid::Bytes(Legs, b"")],
                 b"bad input: fleets.csv record 3 kind 5\n",
             ),
             bad(
-                &[Laid::Bytes(Legs, legs), Laid::Bytes(Costs, b"")],
+                &[Laid::Bytes(Legs, BAD_LEGS), Laid::Bytes(Costs, b"")],
                 b"bad input: legs.csv record 2 kind 10\n",
             ),
             bad(
-                &[Laid::Bytes(Costs, costs), Laid::Bytes(Throughs, b"\n")],
+                &[Laid::Bytes(Costs, BAD_COSTS), Laid::Bytes(Throughs, b"\n")],
                 b"bad input: costs.csv record 2 kind 8\n",
             ),
             bad(
-                &[Laid::Bytes(Throughs, throughs), Laid::Bytes(Plan, b"")],
+                &[Laid::Bytes(Throughs, BAD_THROUGHS), Laid::Bytes(Plan, b"")],
                 b"bad input: throughs.csv record 2 kind 7\n",
             ),
             bad(
-                &[Laid::Bytes(Stations, stations), Laid::Bytes(Plan, b"")],
+                &[Laid::Bytes(Stations, BAD_STATIONS), Laid::Bytes(Plan, b"")],
                 b"bad input: stations.csv record 3 kind 5\n",
             ),
         ],
     )
 }
 
-fn bad<'a>(laid: &'a [Laid<'a>], text: &'a [u8]) -> Row<'a> {
+fn bad<'a, 'b>(laid: &'a [Laid<'b>], text: &'a [u8]) -> Row<'a, 'b> {
     judged(laid, BAD_INPUT, text)
 }
 
@@ -105,21 +114,17 @@ fn tables_of_no_records(rt: HostRuntime) -> Result<(), Fail> {
 fn lines_and_marks(rt: HostRuntime) -> Result<(), Fail> {
     for change in [Change::CarriageReturns, Change::BlankLines, Change::Mark] {
         let alloc = rt.alloc();
-        let stations = changed(alloc, STATIONS, change)?;
-        let fleets = changed(alloc, FLEETS, change)?;
-        let legs = changed(alloc, LEGS, change)?;
-        let costs = changed(alloc, COSTS, change)?;
-        let throughs = changed(alloc, THROUGHS, change)?;
-        let plan = changed(alloc, PLAN, change)?;
-        let laid = [
-            Laid::Bytes(Stations, stations.as_slice()),
-            Laid::Bytes(Fleets, fleets.as_slice()),
-            Laid::Bytes(Legs, legs.as_slice()),
-            Laid::Bytes(Costs, costs.as_slice()),
-            Laid::Bytes(Throughs, throughs.as_slice()),
-            Laid::Bytes(Plan, plan.as_slice()),
-        ];
-        run_rows(&rt, &[judged(&laid, DONE, LEGAL)])?;
+        let mut texts = Vec::new(alloc);
+        for file in FILES {
+            texts.push(changed(alloc, first_run(file), change)?)?;
+        }
+        let mut laid = Vec::new(alloc);
+        for (file, text) in FILES.iter().zip(texts.iter()) {
+            laid.push(Laid::Bytes(*file, text.as_slice()))?;
+        }
+        let row = judged(laid.as_slice(), DONE, LEGAL);
+        let counted = run_row(&rt, 0, &row, &[], &[])?;
+        assert_eq!(rt; counted, Counted { desk: 0, sink: 0 });
     }
     Ok(())
 }
@@ -127,25 +132,19 @@ fn lines_and_marks(rt: HostRuntime) -> Result<(), Fail> {
 // A second mark belongs to the first field, so the header is wrong.
 #[test]
 fn two_marks(rt: HostRuntime) -> Result<(), Fail> {
-    let files: [(DeskFile, &[u8], &[u8]); 5] = [
-        (
-            Stations,
-            STATIONS,
-            b"bad input: stations.csv record 1 kind 1\n",
-        ),
-        (Fleets, FLEETS, b"bad input: fleets.csv record 1 kind 1\n"),
-        (Legs, LEGS, b"bad input: legs.csv record 1 kind 1\n"),
-        (Costs, COSTS, b"bad input: costs.csv record 1 kind 1\n"),
-        (
-            Throughs,
-            THROUGHS,
-            b"bad input: throughs.csv record 1 kind 1\n",
-        ),
+    let lines: [&[u8]; 6] = [
+        b"bad input: stations.csv record 1 kind 1\n",
+        b"bad input: fleets.csv record 1 kind 1\n",
+        b"bad input: legs.csv record 1 kind 1\n",
+        b"bad input: costs.csv record 1 kind 1\n",
+        b"bad input: throughs.csv record 1 kind 1\n",
+        b"plan refused: record 1 kind 1\n",
     ];
-    for (file, bytes, line) in files {
-        let once = changed(rt.alloc(), bytes, Change::Mark)?;
+    for (file, line) in FILES.iter().zip(lines) {
+        let once = changed(rt.alloc(), first_run(*file), Change::Mark)?;
         let twice = changed(rt.alloc(), once.as_slice(), Change::Mark)?;
-        run_rows(&rt, &[bad(&[Laid::Bytes(file, twice.as_slice())], line)])?;
+        let status = if *file == Plan { REFUSED } else { BAD_INPUT };
+        run_refusals(&rt, *file, status, &[(twice.as_slice(), line)])?;
     }
     Ok(())
 }

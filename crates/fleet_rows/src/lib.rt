@@ -28,3 +28,5 @@ mod tables;
 mod throughs;
 #[cfg(test)]
 mod usage;
+#[cfg(test)]
+mod using;

@@ -1,5 +1,5 @@
 //! Tables at their limits, and one record or one byte past them.
-use crate::rows::{Counted, Laid, judged, run_row, run_rows};
+use crate::rows::{Counted, Laid, judged, run_readings, run_refusals, run_row, run_rows};
 use crate::tables::{FLEETS, LEGAL, STATIONS, THROUGHS};
 use fleet_cli::{BAD_INPUT, DONE, FAULT, REFUSED};
 use plan_desk::DeskFile::{self, Costs, Fleets, Legs, Plan, Stations, Throughs};
@@ -38,8 +38,8 @@ fn fleets(alloc: Global, more: u32) -> Result<Vec<u8>, Fail> {
 // Legs X1, X2 and so on.
 fn legs(alloc: Global, count: u32) -> Result<Vec<u8>, Fail> {
     let mut text = b"flight,from,dep,to,arr\n".to_vec(alloc)?;
-    for number in 0..count {
-        let line = format!(in alloc; "X{},AAA,08:00,BBB,09:00\n", number + 1)?;
+    for number in 1..=count {
+        let line = format!(in alloc; "X{number},AAA,08:00,BBB,09:00\n")?;
         text.extend_from_slice(line.as_bytes())?;
     }
     Ok(text)
@@ -48,9 +48,15 @@ fn legs(alloc: Global, count: u32) -> Result<Vec<u8>, Fail> {
 // Different pairs of the legs X1 to X45.
 fn throughs(alloc: Global, count: u32) -> Result<Vec<u8>, Fail> {
     let mut text = THROUGHS.to_vec(alloc)?;
-    for number in 0..count {
-        let line = format!(in alloc; "X{},X{},0\n", number / 45 + 1, number % 45 + 1)?;
-        text.extend_from_slice(line.as_bytes())?;
+    let mut written = 0;
+    for arriving in 1..=45_u32 {
+        for departing in 1..=45_u32 {
+            if written < count {
+                let line = format!(in alloc; "X{arriving},X{departing},0\n")?;
+                text.extend_from_slice(line.as_bytes())?;
+                written += 1;
+            }
+        }
     }
     Ok(text)
 }
@@ -64,95 +70,78 @@ fn stations_at_the_limit(rt: HostRuntime) -> Result<(), Fail> {
     twice.extend_from_slice(b"AAA,0,yes\n")?;
     let mut short = stations(rt.alloc(), 198)?;
     short.extend_from_slice(b"ZZZ\n")?;
-    run_rows(
-        &rt,
-        &[
-            judged(&[Laid::Bytes(Stations, full.as_slice())], DONE, LEGAL),
-            judged(
-                &[Laid::Bytes(Stations, over.as_slice())],
-                BAD_INPUT,
-                b"bad input: stations.csv record 202 kind 11\n",
-            ),
-            judged(
-                &[Laid::Bytes(Stations, twice.as_slice())],
-                BAD_INPUT,
-                b"bad input: stations.csv record 202 kind 5\n",
-            ),
-            judged(
-                &[Laid::Bytes(Stations, short.as_slice())],
-                BAD_INPUT,
-                b"bad input: stations.csv record 202 kind 2\n",
-            ),
-        ],
-    )
+    run_readings(&rt, Stations, &[full.as_slice()])?;
+    let line = b"bad input: stations.csv record 202 kind 11\n";
+    run_refusals(&rt, Stations, BAD_INPUT, &[(over.as_slice(), line)])?;
+    let line = b"bad input: stations.csv record 202 kind 5\n";
+    run_refusals(&rt, Stations, BAD_INPUT, &[(twice.as_slice(), line)])?;
+    let line = b"bad input: stations.csv record 202 kind 2\n";
+    run_refusals(&rt, Stations, BAD_INPUT, &[(short.as_slice(), line)])
 }
 
 #[test]
 fn fleets_at_the_limit(rt: HostRuntime) -> Result<(), Fail> {
     let full = fleets(rt.alloc(), 18)?;
-    let over = fleets(rt.alloc(), 19)?;
-    let no_plan = Laid::Bytes(Plan, b"flight,fleet\n");
+    let laid = [
+        Laid::Bytes(Fleets, full.as_slice()),
+        Laid::Bytes(Plan, b"flight,fleet\n"),
+    ];
     run_rows(
         &rt,
-        &[
-            judged(
-                &[Laid::Bytes(Fleets, full.as_slice()), no_plan],
-                REFUSED,
-                b"plan refused: record 2 kind 5\n",
-            ),
-            judged(
-                &[Laid::Bytes(Fleets, over.as_slice())],
-                BAD_INPUT,
-                b"bad input: fleets.csv record 22 kind 11\n",
-            ),
-        ],
-    )
+        &[judged(&laid, REFUSED, b"plan refused: record 2 kind 5\n")],
+    )?;
+    let over = fleets(rt.alloc(), 19)?;
+    let line = b"bad input: fleets.csv record 22 kind 11\n";
+    run_refusals(&rt, Fleets, BAD_INPUT, &[(over.as_slice(), line)])
 }
 
 #[test]
 fn legs_at_the_limit(rt: HostRuntime) -> Result<(), Fail> {
     let full = legs(rt.alloc(), 1000)?;
+    run_refusals(&rt, Legs, REFUSED, &[(full.as_slice(), THIRD_LEG)])?;
     let over = legs(rt.alloc(), 1001)?;
-    run_rows(
-        &rt,
-        &[
-            judged(&[Laid::Bytes(Legs, full.as_slice())], REFUSED, THIRD_LEG),
-            judged(
-                &[Laid::Bytes(Legs, over.as_slice())],
-                BAD_INPUT,
-                b"bad input: legs.csv record 1002 kind 11\n",
-            ),
-        ],
-    )
+    let line = b"bad input: legs.csv record 1002 kind 11\n";
+    run_refusals(&rt, Legs, BAD_INPUT, &[(over.as_slice(), line)])
+}
+
+/// The texts of legs and of their through pairs.
+#[derive(Drop)]
+struct Paired {
+    legs: Vec<u8>,
+    throughs: Vec<u8>,
+}
+
+impl Paired {
+    fn new(alloc: Global, pairs: u32) -> Result<Paired, Fail> {
+        Ok(Paired {
+            legs: legs(alloc, 45)?,
+            throughs: throughs(alloc, pairs)?,
+        })
+    }
+
+    fn laid(&self) -> [Laid<'_>; 2] {
+        [
+            Laid::Bytes(Legs, self.legs.as_slice()),
+            Laid::Bytes(Throughs, self.throughs.as_slice()),
+        ]
+    }
 }
 
 #[test]
 fn throughs_at_the_limit(rt: HostRuntime) -> Result<(), Fail> {
-    let legs = legs(rt.alloc(), 45)?;
-    let full = throughs(rt.alloc(), 2000)?;
-    let over = throughs(rt.alloc(), 2001)?;
-    let legs = Laid::Bytes(Legs, legs.as_slice());
-    run_rows(
-        &rt,
-        &[
-            judged(
-                &[legs, Laid::Bytes(Throughs, full.as_slice())],
-                REFUSED,
-                THIRD_LEG,
-            ),
-            judged(
-                &[legs, Laid::Bytes(Throughs, over.as_slice())],
-                BAD_INPUT,
-                b"bad input: throughs.csv record 2002 kind 11\n",
-            ),
-        ],
-    )
+    let full = Paired::new(rt.alloc(), 2000)?;
+    let laid = full.laid();
+    run_rows(&rt, &[judged(&laid, REFUSED, THIRD_LEG)])?;
+    let over = Paired::new(rt.alloc(), 2001)?;
+    let laid = over.laid();
+    let line = b"bad input: throughs.csv record 2002 kind 11\n";
+    run_rows(&rt, &[judged(&laid, BAD_INPUT, line)])
 }
 
-// A text, and behind it as many line feeds as make it 4 MiB and some bytes more.
-fn four_mebibytes(alloc: Global, text: &[u8], more: usize) -> Result<Vec<u8>, Fail> {
+// A text, and behind it as many line feeds as make it this long.
+fn filled(alloc: Global, text: &[u8], size: usize) -> Result<Vec<u8>, Fail> {
     let mut text = text.to_vec(alloc)?;
-    let rest = (4_194_304 + more).saturating_sub(text.len());
+    let rest = size.saturating_sub(text.len());
     let line_feeds = vec![in alloc; b'\n'; rest]?;
     text.extend_from_slice(line_feeds.as_slice())?;
     Ok(text)
@@ -160,7 +149,7 @@ fn four_mebibytes(alloc: Global, text: &[u8], more: usize) -> Result<Vec<u8>, Fa
 
 #[test]
 fn a_file_of_4_mebibytes(rt: HostRuntime) -> Result<(), Fail> {
-    let text = four_mebibytes(rt.alloc(), THROUGHS, 0)?;
+    let text = filled(rt.alloc(), THROUGHS, 4_194_304)?;
     assert_eq!(rt; text.len(), 4_194_304);
     let laid = [Laid::Bytes(Throughs, text.as_slice())];
     run_rows(&rt, &[judged(&laid, DONE, LEGAL)])
@@ -168,7 +157,7 @@ fn a_file_of_4_mebibytes(rt: HostRuntime) -> Result<(), Fail> {
 
 #[test]
 fn a_file_of_one_byte_more(rt: HostRuntime) -> Result<(), Fail> {
-    let text = four_mebibytes(rt.alloc(), THROUGHS, 1)?;
+    let text = filled(rt.alloc(), THROUGHS, 4_194_305)?;
     assert_eq!(rt; text.len(), 4_194_305);
     let files: [(DeskFile, &[u8]); 6] = [
         (Stations, b"bad input: stations.csv record 0 kind 12\n"),
@@ -188,7 +177,7 @@ fn a_file_of_one_byte_more(rt: HostRuntime) -> Result<(), Fail> {
 // A file that is too long is refused in the order of the reads, and before any table is judged.
 #[test]
 fn a_long_file_beside_others(rt: HostRuntime) -> Result<(), Fail> {
-    let text = four_mebibytes(rt.alloc(), THROUGHS, 1)?;
+    let text = filled(rt.alloc(), THROUGHS, 4_194_305)?;
     let long = Laid::Bytes(Throughs, text.as_slice());
     let line = b"bad input: throughs.csv record 0 kind 12\n";
     run_rows(

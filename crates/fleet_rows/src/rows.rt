@@ -17,9 +17,9 @@ pub enum Laid<'a> {
 
 /// A run, and the status and output that are wanted of it.
 #[derive(Clone, Copy)]
-pub struct Row<'a> {
+pub struct Row<'a, 'b> {
     /// What is laid over the files of the first run.
-    pub laid: &'a [Laid<'a>],
+    pub laid: &'a [Laid<'b>],
     /// The words, the program's name among them.
     pub words: &'a [&'a str],
     pub status: u8,
@@ -37,7 +37,7 @@ pub struct Counted {
 pub const JUDGE: &[&str] = &["fleetplan", "judge", "d", "--day-start", "00:00"];
 
 /// A row of a judge whose day starts at midnight.
-pub fn judged<'a>(laid: &'a [Laid<'a>], status: u8, text: &'a [u8]) -> Row<'a> {
+pub fn judged<'a, 'b>(laid: &'a [Laid<'b>], status: u8, text: &'a [u8]) -> Row<'a, 'b> {
     Row {
         laid,
         words: JUDGE,
@@ -47,7 +47,7 @@ pub fn judged<'a>(laid: &'a [Laid<'a>], status: u8, text: &'a [u8]) -> Row<'a> {
 }
 
 /// Runs each row. Only a row that wants a fault may count one.
-pub fn run_rows<R: Abort + Alloc<A = Global>>(rt: &R, rows: &[Row<'_>]) -> Result<(), Fail> {
+pub fn run_rows<R: Abort + Alloc<A = Global>>(rt: &R, rows: &[Row<'_, '_>]) -> Result<(), Fail> {
     for (number, row) in rows.iter().enumerate() {
         let counted = run_row(rt, number, row, &[], &[])?;
         let quiet = counted == Counted { desk: 0, sink: 0 };
@@ -89,7 +89,7 @@ pub fn run_readings<R: Abort + Alloc<A = Global>>(
 pub fn run_row<R: Abort + Alloc<A = Global>>(
     rt: &R,
     number: usize,
-    row: &Row<'_>,
+    row: &Row<'_, '_>,
     failing_calls: &[u64],
     failing_puts: &[u64],
 ) -> Result<Counted, Fail> {
@@ -114,7 +114,7 @@ pub fn run_row<R: Abort + Alloc<A = Global>>(
 }
 
 /// The bytes that a row lays under a file's name.
-fn content<'a>(row: &Row<'a>, file: DeskFile) -> Option<&'a [u8]> {
+fn content<'b>(row: &Row<'_, 'b>, file: DeskFile) -> Option<&'b [u8]> {
     for laid in row.laid {
         match *laid {
             Laid::Bytes(name, bytes) if name == file => return Some(bytes),
@@ -131,7 +131,7 @@ fn path(alloc: Global, file: DeskFile) -> Result<String, Fail> {
     Ok(path)
 }
 
-fn files(alloc: Global, row: &Row<'_>) -> Result<Vec<(String, Vec<u8>)>, Fail> {
+fn files(alloc: Global, row: &Row<'_, '_>) -> Result<Vec<(String, Vec<u8>)>, Fail> {
     let mut files = Vec::new(alloc);
     for file in FILES {
         if let Some(bytes) = content(row, file) {
@@ -149,7 +149,7 @@ fn failing(alloc: Global, calls: &[u64]) -> Result<Vec<FailingCall>, Fail> {
     Ok(failing)
 }
 
-fn words(alloc: Global, row: &Row<'_>) -> Result<Vec<String>, Fail> {
+fn words(alloc: Global, row: &Row<'_, '_>) -> Result<Vec<String>, Fail> {
     let mut words = Vec::new(alloc);
     for word in row.words {
         words.push(String::from_str(alloc, word)?)?;

@@ -6,7 +6,7 @@ use std::test::Fail;
 
 const LINE: &[u8] = b"usage: fleetplan judge|solve|check|make|tails DIR [options]\n";
 
-fn asking<'a>(words: &'a [&'a str]) -> Row<'a> {
+fn asking<'a>(words: &'a [&'a str]) -> Row<'a, 'a> {
     Row {
         laid: &[],
         words,
