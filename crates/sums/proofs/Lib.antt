@@ -1,2 +1,4 @@
 pub mod Sums
 pub mod Maxima
+pub mod Divisors
+pub mod Integers

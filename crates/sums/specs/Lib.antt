@@ -1,1 +1,3 @@
 pub mod Below
+pub mod Divisors
+pub mod Places
