@@ -1,0 +1,3 @@
+pub mod Ceilings
+pub mod Ratios
+pub mod Steps

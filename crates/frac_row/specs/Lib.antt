@@ -1,0 +1,2 @@
+pub mod Outgrown
+pub mod Ratio
