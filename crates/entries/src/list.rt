@@ -1,4 +1,4 @@
-ghost use Rattle.std.specs.Prelude.{◌≡◌, ◌≤◌, ◌<◌, ◌↔◌, ℕ, List, [], IsTrue, length, slice_get, option_copied};
+ghost use Rattle.std.specs.Prelude.{◌≡◌, ◌≤◌, ◌<◌, ◌↔◌, ℕ, List, [], IsTrue, length, slice_get, slice_set, option_copied};
 ghost use Rattle.std.specs.Vec.{VecUnchanged};
 
 use std::marker::Model;
@@ -37,6 +37,16 @@ impl<T> Entries<T> {
         ensures { result.now ≡ self.now }
     {
         self.items.as_slice()
+    }
+
+    /// Puts a value in the place of an entry.
+    pub fn set(&mut self, index: usize, value: T)
+    where
+        T: Drop,
+        requires { index < length self.old }
+        ensures { self.new ≡ slice_set self.old index value }
+    {
+        self.items[index] = value;
     }
 
     /// How many entries there are.

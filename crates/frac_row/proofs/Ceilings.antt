@@ -13,6 +13,7 @@ ceiling_above n d q r x above e small more same = record {
   where
     enough_at : (x : ℤ) → x ≡ q +ℤ pos 1 → n ≤ℤ (x *ℤ d)
     enough_at x same = rw same (omega (arith, ints, +ℤ-*ℤ q (pos 1) d, one-*ℤ d))
+
     least_at : (x : ℤ) → x ≡ q +ℤ pos 1 → ((x -ℤ pos 1) *ℤ d) <ℤ n
     least_at x same = let back : x -ℤ pos 1 ≡ q = omega (arith, ints) in rw back (omega (arith, ints))
 

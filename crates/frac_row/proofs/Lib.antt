@@ -1,3 +1,4 @@
 pub mod Ceilings
 pub mod Ratios
+pub mod Rows
 pub mod Steps

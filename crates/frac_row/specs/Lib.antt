@@ -1,2 +1,3 @@
 pub mod Outgrown
 pub mod Ratio
+pub mod Row

@@ -60,7 +60,11 @@ fn compare_sizes(a: u128, b: u128, c: u128, d: u128) -> Ordering
     let left_rest = a % b;
     let right_rest = c % d;
     if right_rest == 0 {
-        return if left_rest == 0 { Ordering::Equal } else { Ordering::Greater };
+        return if left_rest == 0 {
+            Ordering::Equal
+        } else {
+            Ordering::Greater
+        };
     }
     if left_rest == 0 {
         return Ordering::Less;

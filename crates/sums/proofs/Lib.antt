@@ -2,3 +2,4 @@ pub mod Sums
 pub mod Maxima
 pub mod Divisors
 pub mod Integers
+pub mod Places
