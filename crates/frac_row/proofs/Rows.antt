@@ -1,10 +1,10 @@
 -- Laws of rows.
-use Rattle.std.proofs.Common.{◌≡◌, ℕ, zero, suc, ◌+◌, ◌*◌, ◌-◌, ◌^◌, ◌/◌, ◌<◌, ◌≤◌, ℤ, pos, negsuc, ◌<ℤ◌, List, length, get_or, unsigned_abs, int_div, refl, sym, ◌∙◌, ap, subst, arith}
+use Rattle.std.proofs.Common.{◌≡◌, ℕ, zero, suc, ◌-◌, ◌^◌, ◌<◌, ◌≤◌, ℤ, pos, negsuc, ◌<ℤ◌, List, unsigned_abs, int_div, refl, sym, ◌∙◌, ap, arith}
 use Rattle.std.proofs.lemmas.Int.{ints}
 use Rattle.std.proofs.lemmas.List.{ext_get_or}
 use native.Mathlib.Nat.{div-one}
 use Rattle.sums.specs.Places.{list_below}
-use Rattle.sums.specs.Divisors.{gcd, gcd_below}
+use Rattle.sums.specs.Divisors.{gcd_below}
 use Rattle.sums.proofs.Divisors.{gcd_at_most, gcd_positive}
 use Rattle.sums.proofs.Places.{length-list_below, get_or-list_below}
 use Rattle.frac_row.specs.declared.row.FracRow.{FracRow}

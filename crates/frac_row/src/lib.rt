@@ -1,15 +1,19 @@
 //! Rows of whole numbers over one positive number, exact within the limit of computed numbers.
 #![tactic(auto)]
 
-pub mod combine;
+pub mod combining;
 pub mod division;
 pub mod divisor;
+pub mod factors;
+pub mod growth;
 pub mod lowest_terms;
 pub mod ratio;
 pub mod row;
 
-pub use combine::{CombineError, Factors, Growth};
+pub use combining::{CombineError, combine, combine_in_place, is_small};
 pub use divisor::gcd;
+pub use factors::Factors;
+pub use growth::{Growth, growth_by};
 pub use lowest_terms::reduce;
 pub use ratio::{ceil_div, compare_ratio};
 pub use row::FracRow;

@@ -1,4 +1,7 @@
-use entries::Entries;
+ghost use Rattle.std.specs.Prelude.{◌≡◌, IfOk};
+
+use entries::{Entries, NoMemory};
+use std::alloc::Global;
 
 /// Whole numbers over one positive number.
 #[derive(Debug, Drop)]
@@ -7,4 +10,17 @@ pub struct FracRow {
     pub numbers: Entries<i128>,
     /// The denominator of all of them.
     pub den: i128,
+}
+
+impl FracRow {
+    /// A second row with the same numbers.
+    pub fn copy(&self, alloc: Global) -> Result<FracRow, NoMemory>
+        ensures { IfOk result (λ row. row ≡ self.now) }
+    {
+        let numbers = Vec::from_slice(alloc, self.numbers.as_slice())?;
+        Ok(FracRow {
+            numbers: Entries::from_vec(numbers),
+            den: self.den,
+        })
+    }
 }

@@ -1,5 +1,6 @@
 pub mod Sums
 pub mod Maxima
+pub mod Division
 pub mod Divisors
 pub mod Integers
 pub mod Places

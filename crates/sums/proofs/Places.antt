@@ -39,3 +39,43 @@ filled_more {X} d f old new n x h lt e = record {
 
 pub filled_all : {X : Type 0} (d : X) (f : ℕ → X) (old new : List X) (n : ℕ) → IsFilledBelow d f old new n → length old ≤ n → new ≡ list_below f (length old)
 filled_all d f old new n h le = fill_by_all f new (length old) d h.same_length (λ k lt. h.filled k (omega arith))
+
+or_else-some : {X : Type 0} (o other : Option X) (x : X) → o ≡ Some x → or_else o other ≡ Some x
+or_else-some (Some y) other x e = e
+or_else-some None other x e = cc
+
+-- what is first below k is first below any greater bound
+pub first_kept : {X : Type 0} (f : ℕ → Option X) (k n : ℕ) (x : X) → first_below f k ≡ Some x → k ≤ n → first_below f n ≡ Some x
+first_kept f k zero x e le = subst (λ i. first_below f i ≡ Some x) (none k le) e
+  where
+    none : (k : ℕ) → k ≤ 0 → k ≡ 0
+    none k le = omega arith
+first_kept f k (suc n) x e le =
+    elim (cases_lt k (suc n)) [
+        inl lt ↦ or_else-some _ _ x (first_kept f k n x e (omega arith))
+        | inr ge ↦ let same : k ≡ suc n = omega arith in subst (λ i. first_below f i ≡ Some x) same e
+    ]
+
+-- the first place that gives something decides
+pub first_found : {X : Type 0} (f : ℕ → Option X) (k n : ℕ) (x : X) → first_below f k ≡ None → f k ≡ Some x → k < n → first_below f n ≡ Some x
+first_found f k n x none e lt = first_kept f (suc k) n x (ap (λ o. or_else o (f k)) none ∙ e) (omega arith)
+
+-- nothing is first where nothing is given
+pub nothing_at : {X : Type 0} (f : ℕ → Option X) (n k : ℕ) → first_below f n ≡ None → k < n → f k ≡ None
+nothing_at f zero k e lt = absurd (omega arith)
+nothing_at f (suc n) k e lt =
+    elim (cases_lt k n) [
+        inl less ↦ nothing_at f n k (left (first_below f n) (f n) e) less
+        | inr ge ↦ let same : k ≡ n = omega arith in subst (λ i. f i ≡ None) (sym same) (right (first_below f n) (f n) e)
+    ]
+  where
+    left : {X : Type 0} (o p : Option X) → or_else o p ≡ None → o ≡ None
+    left None p e = refl
+    left (Some x) p e = cc
+    right : {X : Type 0} (o p : Option X) → or_else o p ≡ None → p ≡ None
+    right None p e = e
+    right (Some x) p e = cc
+
+pub all_nothing : {X : Type 0} (f : ℕ → Option X) (n : ℕ) → ((k : ℕ) → k < n → f k ≡ None) → first_below f n ≡ None
+all_nothing f zero h = refl
+all_nothing f (suc n) h = ap (λ o. or_else o (f n)) (all_nothing f n (λ k lt. h k (omega arith))) ∙ h n (omega arith)

@@ -1,6 +1,6 @@
-use Rattle.std.proofs.Common.{◌≡◌, ℕ, ◌≤◌, arith, pos, get_or, sym, ◌∙◌, ap, subst}
-use Rattle.std.specs.Prelude.{ℤ, ◌<ℤ◌, length, unsigned_abs}
-use Rattle.std.proofs.lemmas.Int.{ints, to_z-of_z}
+use Rattle.std.proofs.Common.{◌≡◌, ℕ, ◌≤◌, arith, pos, sym, ap, subst}
+use Rattle.std.specs.Prelude.{ℤ, ◌<ℤ◌, length}
+use Rattle.std.proofs.lemmas.Int.{ints}
 use Rattle.sums.specs.Divisors.{gcd_below}
 use Rattle.sums.proofs.Divisors.{gcd_below_one}
 use Rattle.frac_row.specs.Row.{common_divisor, IsRow}

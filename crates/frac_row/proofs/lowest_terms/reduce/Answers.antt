@@ -1,5 +1,4 @@
-use Rattle.std.proofs.Common.{◌≡◌, rules, arith, ℤ, pos, refl, sym, ◌∙◌, ap, to_z, of_z}
-use Rattle.std.specs.Prelude.{int_div}
+use Rattle.std.proofs.Common.{rules, arith, refl, ◌∙◌}
 use Rattle.std.proofs.lemmas.Int.{ints, to_z-of_z}
 use mir.Val.{SFits}
 use mir.Syntax.{w128}
