@@ -1,8 +1,12 @@
 -- Laws of rows.
+use Rattle.std.proofs.Common.{inl, inr}
 use Rattle.std.proofs.Common.{◌≡◌, ℕ, zero, suc, ◌-◌, ◌^◌, ◌<◌, ◌≤◌, ℤ, pos, negsuc, ◌<ℤ◌, List, unsigned_abs, int_div, refl, sym, ◌∙◌, ap, arith}
 use Rattle.std.proofs.lemmas.Int.{ints}
-use Rattle.std.proofs.lemmas.List.{ext_get_or}
+use Rattle.std.proofs.lemmas.List.{ext_get_or, get_or_past, get_or_default}
+use Rattle.std.specs.Prelude.{All}
+use Rattle.std.proofs.lemmas.Bool.{cases_lt}
 use native.Mathlib.Nat.{div-one}
+use Rattle.frac_row.specs.Outgrown.{IsWithin}
 use Rattle.sums.specs.Places.{list_below}
 use Rattle.sums.specs.Divisors.{gcd_below}
 use Rattle.sums.proofs.Divisors.{gcd_at_most, gcd_positive}
@@ -52,3 +56,14 @@ pub reduced-one : (row : FracRow) (x : ℤ) → x ≡ pos (common_divisor row) �
 unfolding reduced
 reduced-one row x is one =
     let same : common_divisor row ≡ 1 = omega (arith, ints) in sym (ap (divided row) same ∙ divided-one row)
+
+-- a row, by its numbers one by one
+pub row_from : (row : FracRow) → All IsWithin row.numbers → IsWithin row.den → pos 0 <ℤ row.den → IsRow row
+row_from row numbers den positive = record {
+  within = λ k. elim (cases_lt k (width_of row)) [ inl lt ↦ numbers k (pos 0) lt | inr ge ↦ rw (get_or_past row.numbers k (pos 0) ge) (omega arith) ];
+  den_within = den;
+  positive = positive;
+}
+
+pub all_within : (row : FracRow) → IsRow row → All IsWithin row.numbers
+all_within row h k d lt = rw (get_or_default row.numbers k d (pos 0) lt) (h.within k)

@@ -92,18 +92,3 @@ fn combined_number(factors: &Factors, number: &i128, pivot_number: &i128) -> i12
 {
     factors.own * *number - factors.pivot * *pivot_number
 }
-
-/// Whether all numbers and the denominator are small, so that nothing of two such rows is outgrown.
-pub fn is_small(row: &FracRow) -> bool
-    ensures { IsTrue result ↔ IsSmall row.now }
-{
-    is_small_number(&row.den) && row.numbers.as_slice().iter().all(is_small_number)
-}
-
-fn is_small_number(number: &i128) -> bool
-    ensures { IsTrue result ↔ (unsigned_abs number.now ≤ 2 ^ 63 - 1) }
-{
-    -SMALL < *number && *number < SMALL
-}
-
-const SMALL: i128 = 1 << 63;

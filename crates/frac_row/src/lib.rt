@@ -9,11 +9,16 @@ pub mod growth;
 pub mod lowest_terms;
 pub mod ratio;
 pub mod row;
+pub mod sizes;
 
-pub use combining::{CombineError, combine, combine_in_place, is_small};
+pub use combining::{CombineError, combine, combine_in_place};
 pub use divisor::gcd;
 pub use factors::Factors;
 pub use growth::{Growth, growth_by};
 pub use lowest_terms::reduce;
 pub use ratio::{ceil_div, compare_ratio};
 pub use row::FracRow;
+pub use sizes::{is_row, is_small};
+
+#[cfg(test)]
+mod tests;
