@@ -1,4 +1,9 @@
 -- Laws of rows.
+use Rattle.std.specs.Prelude.{◌*ℤ◌}
+use Prim.Native.Nat.{◌∣◌}
+use lib.IntN.{*ℤ-zero}
+use Rattle.sums.proofs.Divisors.{gcd_below_first, gcd_below_each}
+use Rattle.sums.proofs.Division.{*ℤ-int_div, size-int_div, positive_factor}
 use Rattle.std.proofs.Common.{inl, inr}
 use Rattle.std.proofs.Common.{◌≡◌, ℕ, zero, suc, ◌-◌, ◌^◌, ◌<◌, ◌≤◌, ℤ, pos, negsuc, ◌<ℤ◌, List, unsigned_abs, int_div, refl, sym, ◌∙◌, ap, arith}
 use Rattle.std.proofs.lemmas.Int.{ints}
@@ -67,3 +72,53 @@ row_from row numbers den positive = record {
 
 pub all_within : (row : FracRow) → IsRow row → All IsWithin row.numbers
 all_within row h k d lt = rw (get_or_default row.numbers k d (pos 0) lt) (h.within k)
+
+-- ---- rows in lowest terms
+divides_den : (row : FracRow) → common_divisor row ∣ unsigned_abs row.den
+unfolding common_divisor
+divides_den row = gcd_below_first (unsigned_abs row.den) (λ column. unsigned_abs (number_of row column)) (width_of row)
+
+divides_number : (row : FracRow) (k : ℕ) → k < width_of row → common_divisor row ∣ unsigned_abs (number_of row k)
+unfolding common_divisor
+divides_number row k lt = gcd_below_each (unsigned_abs row.den) (λ column. unsigned_abs (number_of row column)) (width_of row) k lt
+
+pub width_of-reduced : (row : FracRow) → width_of (reduced row) ≡ width_of row
+unfolding reduced divided
+width_of-reduced row = length-list_below _ (width_of row)
+
+pub number_of-reduced : (row : FracRow) (k : ℕ) → k < width_of row → number_of (reduced row) k ≡ int_div (number_of row k) (pos (common_divisor row))
+unfolding reduced divided
+number_of-reduced row k lt = get_or-list_below _ (width_of row) k (pos 0) lt
+
+number_of-past : (row : FracRow) (k : ℕ) → width_of row ≤ k → number_of row k ≡ pos 0
+number_of-past row k ge = get_or_past row.numbers k (pos 0) ge
+
+-- each number is the common divisor times the number in lowest terms
+pub number_times : (row : FracRow) (k : ℕ) → pos (common_divisor row) *ℤ number_of (reduced row) k ≡ number_of row k
+number_times row k =
+    elim (cases_lt k (width_of row)) [
+        inl lt ↦ ap (λ x. pos (common_divisor row) *ℤ x) (number_of-reduced row k lt) ∙ *ℤ-int_div (number_of row k) (common_divisor row) (divides_number row k lt)
+        | inr ge ↦ ap (λ x. pos (common_divisor row) *ℤ x) (number_of-past (reduced row) k (rw width_of-reduced ge)) ∙ *ℤ-zero (pos (common_divisor row)) ∙ sym (number_of-past row k ge)
+    ]
+
+pub den_times : (row : FracRow) → pos (common_divisor row) *ℤ (reduced row).den ≡ row.den
+unfolding reduced divided
+den_times row = *ℤ-int_div row.den (common_divisor row) (divides_den row)
+
+size-number_of-reduced : (row : FracRow) (k : ℕ) → unsigned_abs (number_of (reduced row) k) ≤ unsigned_abs (number_of row k)
+size-number_of-reduced row k =
+    elim (cases_lt k (width_of row)) [
+        inl lt ↦ rw (number_of-reduced row k lt) (size-int_div (number_of row k) (common_divisor row))
+        | inr ge ↦ rw (number_of-past (reduced row) k (rw width_of-reduced ge)) (omega arith)
+    ]
+
+size-den-reduced : (row : FracRow) → unsigned_abs ((reduced row).den) ≤ unsigned_abs row.den
+unfolding reduced divided
+size-den-reduced row = size-int_div row.den (common_divisor row)
+
+pub reduced_is_row : (row : FracRow) → IsRow row → IsRow (reduced row)
+reduced_is_row row h = record {
+  within = λ k. let le : unsigned_abs (number_of (reduced row) k) ≤ unsigned_abs (number_of row k) = size-number_of-reduced row k in omega (arith, h.within k);
+  den_within = let le : unsigned_abs ((reduced row).den) ≤ unsigned_abs row.den = size-den-reduced row in omega (arith, h.den_within);
+  positive = positive_factor (common_divisor row) ((reduced row).den) (rw (den_times row) h.positive);
+}

@@ -1,4 +1,4 @@
-ghost use Rattle.std.specs.Prelude.{◌≡◌, IfOk};
+ghost use Rattle.std.specs.Prelude.{◌≡◌, ◌<◌, IfOk};
 
 use entries::{Entries, NoMemory};
 use std::alloc::Global;
@@ -13,6 +13,17 @@ pub struct FracRow {
 }
 
 impl FracRow {
+    ghost use Rattle.frac_row.specs.Row.{number_of, width_of};
+
+    /// The number in a column.
+    #[inline]
+    pub fn number(&self, column: u32) -> i128
+        requires { column < width_of self.now }
+        ensures { result ≡ number_of self.now column }
+    {
+        self.numbers.as_slice()[column as usize]
+    }
+
     /// A second row with the same numbers.
     pub fn copy(&self, alloc: Global) -> Result<FracRow, NoMemory>
         ensures { IfOk result (λ row. row ≡ self.now) }

@@ -1,0 +1,3 @@
+pub mod Choices
+pub mod Pivots
+pub mod Tables

@@ -1,0 +1,5 @@
+pub mod Table
+pub mod Problem
+pub mod Pivot
+pub mod Choice
+pub mod PivotAnswers

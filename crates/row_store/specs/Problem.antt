@@ -1,0 +1,45 @@
+-- Lines and costs, and the first table that they make.
+use Rattle.std.specs.Prelude.{ℕ, ℤ, pos, ◌+◌, ◌-◌, ◌^◌, ◌<◌, ◌≤◌, ◌≡◌, ◌==◌, nat_lt, List, [], length, slice_index_or, unsigned_abs, neg_ℤ, if◌then◌else◌}
+use Rattle.sums.specs.Below.{sum_below, sum_below_ℤ}
+use Rattle.sums.specs.Places.{list_below}
+use Rattle.frac_row.specs.Outgrown.{IsWithin}
+use Rattle.frac_row.specs.declared.row.FracRow.{FracRow}
+use Rattle.row_store.specs.declared.problem.Rows.{Rows}
+
+-- the number of a line in a real column, or in the column after them its right side
+abbrev pub entry : Rows → ℕ → ℕ → ℤ
+entry rows line column = slice_index_or (slice_index_or rows.lines line []) column (pos 0)
+
+-- lines of real numbers and a right side, as many costs, and no outgrown number in the first table
+pub record IsProblem (rows : Rows) : Type 0 where
+  pub few : rows.columns + length rows.lines + 2 < 2 ^ 32
+  pub widths : (line : ℕ) → line < length rows.lines → length (slice_index_or rows.lines line []) ≡ rows.columns + 1
+  pub costs : length rows.costs ≡ rows.columns
+  pub costs_within : (column : ℕ) → IsWithin (slice_index_or rows.costs column (pos 0))
+  pub sums_within : (column : ℕ) → column ≤ rows.columns → sum_below (λ line. unsigned_abs (entry rows line column)) (length rows.lines) ≤ 2 ^ 127 - 1
+
+-- the real numbers and the right side of a row: those of a line, in the phase row what the lines sum to
+-- with the other sign, in the cost row the costs and 0
+unfoldable pub first_amount : Rows → ℕ → ℕ → ℤ
+first_amount rows row column =
+    if nat_lt row (length rows.lines) then entry rows row column
+    else if row == length rows.lines then neg_ℤ (sum_below_ℤ (λ line. entry rows line column) (length rows.lines))
+    else slice_index_or rows.costs column (pos 0)
+
+-- the real columns, the identity block, the right side
+unfoldable pub first_number : Rows → ℕ → ℕ → ℤ
+first_number rows row column =
+    if nat_lt column rows.columns then first_amount rows row column
+    else if nat_lt column (rows.columns + length rows.lines)
+        then (if column - rows.columns == row then pos 1 else pos 0)
+    else first_amount rows row rows.columns
+
+abbrev pub first_row : Rows → ℕ → FracRow
+first_row rows row = record {
+  numbers = list_below (first_number rows row) (rows.columns + length rows.lines + 1);
+  den = pos 1;
+}
+
+-- the lines, the phase row, the cost row
+unfoldable pub first_table : Rows → List FracRow
+first_table rows = list_below (first_row rows) (length rows.lines + 2)

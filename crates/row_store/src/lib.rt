@@ -1,0 +1,12 @@
+//! Tables of the simplex method behind one trait, and the first store of them.
+#![tactic(auto)]
+
+pub mod choice;
+pub mod error;
+pub mod pivoting;
+pub mod problem;
+pub mod store;
+
+pub use error::{PivotError, Place};
+pub use problem::Rows;
+pub use store::RowStore;

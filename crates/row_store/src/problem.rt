@@ -1,0 +1,13 @@
+use entries::Entries;
+
+/// Lines with their costs: find numbers of at least 0, one for each real column, that meet all lines at
+/// least cost.
+#[derive(Debug, Drop)]
+pub struct Rows {
+    /// How many real columns there are.
+    pub columns: u32,
+    /// Each line has its real numbers and then its right side.
+    pub lines: Entries<Entries<i128>>,
+    /// The cost of each real column.
+    pub costs: Entries<i128>,
+}
