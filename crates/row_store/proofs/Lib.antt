@@ -1,3 +1,4 @@
 pub mod Choices
+pub mod FirstTables
 pub mod Pivots
 pub mod Tables

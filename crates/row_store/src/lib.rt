@@ -3,6 +3,7 @@
 
 pub mod choice;
 pub mod error;
+pub mod first;
 pub mod pivoting;
 pub mod problem;
 pub mod store;

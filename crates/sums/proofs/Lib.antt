@@ -4,3 +4,4 @@ pub mod Division
 pub mod Divisors
 pub mod Integers
 pub mod Places
+pub mod SumBounds

@@ -1,6 +1,6 @@
 -- Lists that are filled place by place, and first places.
-use Rattle.std.proofs.Common.{◌≡◌, ℕ, zero, suc, ◌+◌, ◌<◌, ◌≤◌, ◌≢◌, List, length, get_or, set, Option, Some, None, refl, sym, ◌∙◌, ap, subst, arith, inl, inr, length-set, get_or-set_same, get_or-set_other}
-use Rattle.std.proofs.lemmas.List.FromFn.{fill_by_all, length-map-range_with_len, get_or-map-range_with_len}
+use Rattle.std.proofs.Common.{◌≡◌, ℕ, zero, suc, ◌+◌, ◌<◌, ◌≤◌, ◌≢◌, List, [], ◌∷◌, ◌++◌, length, get_or, set, Option, Some, None, refl, sym, ◌∙◌, ap, subst, arith, inl, inr, length-set, get_or-set_same, get_or-set_other}
+use Rattle.std.proofs.lemmas.List.FromFn.{fill_by_all, length-map-range_with_len, get_or-map-range_with_len, map-range_with_len_more}
 use Rattle.std.proofs.lemmas.Bool.{cases_lt}
 use Rattle.sums.specs.Places.{list_below, first_below, or_else, IsFilledBelow}
 
@@ -79,3 +79,10 @@ nothing_at f (suc n) k e lt =
 pub all_nothing : {X : Type 0} (f : ℕ → Option X) (n : ℕ) → ((k : ℕ) → k < n → f k ≡ None) → first_below f n ≡ None
 all_nothing f zero h = refl
 all_nothing f (suc n) h = ap (λ o. or_else o (f n)) (all_nothing f n (λ k lt. h k (omega arith))) ∙ h n (omega arith)
+
+-- one place more
+pub list_below-more : {X : Type 0} (f : ℕ → X) (n : ℕ) → list_below f (n + 1) ≡ list_below f n ++ f n ∷ []
+list_below-more f n = map-range_with_len_more f 0 n n (omega arith)
+
+pub list_below-push : {X : Type 0} (f : ℕ → X) (n : ℕ) (xs : List X) (x : X) → xs ≡ list_below f n → x ≡ f n → xs ++ x ∷ [] ≡ list_below f (n + 1)
+list_below-push f n xs x e same = ap (λ ys. ys ++ x ∷ []) e ∙ ap (λ y. list_below f n ++ y ∷ []) same ∙ sym (list_below-more f n)
