@@ -2,12 +2,14 @@
 #![tactic(auto)]
 
 pub mod choice;
+pub mod dense;
 pub mod error;
 pub mod first;
 pub mod pivoting;
 pub mod problem;
 pub mod store;
 
+pub use dense::Dense;
 pub use error::{PivotError, Place};
 pub use problem::Rows;
 pub use store::RowStore;
