@@ -79,12 +79,16 @@ part_within rows column line h le k =
 opposite_within : (z : ℤ) → IsWithin z → IsWithin (neg_ℤ z)
 opposite_within z h = omega (arith, ints)
 
+cost_within : (rows : Rows) (column : ℕ) → IsProblem rows → IsWithin (get_or rows.costs column (pos 0))
+cost_within rows column h =
+    elim (cases_lt column (length rows.costs)) [ inl lt ↦ h.costs_within column (pos 0) lt | inr ge ↦ rw (get_or_past rows.costs column (pos 0) ge) (omega arith) ]
+
 amount_within : (rows : Rows) (row column : ℕ) → IsProblem rows → column ≤ rows.columns → IsWithin (first_amount rows row column)
 amount_within rows row column h le =
     elim (cases_lt row (length rows.lines)) [
         inl lt ↦ rw (amount_line rows row column lt) (entry_within rows row column h lt le)
         | inr ge ↦ elim (cases_lt (length rows.lines) row) [
-            inl above ↦ rw (amount_cost rows row column above) (h.costs_within column)
+            inl above ↦ rw (amount_cost rows row column above) (cost_within rows column h)
             | inr same ↦ rw (amount_phase rows row column (omega arith)) (opposite_within _ (part_within rows column (length rows.lines) h le (omega arith)))
         ]
     ]

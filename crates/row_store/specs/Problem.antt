@@ -1,5 +1,5 @@
 -- Lines and costs, and the first table that they make.
-use Rattle.std.specs.Prelude.{ℕ, ℤ, pos, ◌+◌, ◌-◌, ◌^◌, ◌<◌, ◌≤◌, ◌≡◌, ◌==◌, nat_lt, List, [], length, slice_index_or, unsigned_abs, neg_ℤ, if◌then◌else◌}
+use Rattle.std.specs.Prelude.{ℕ, ℤ, pos, ◌+◌, ◌-◌, ◌^◌, ◌<◌, ◌≤◌, ◌≡◌, ◌==◌, nat_lt, List, [], length, slice_index_or, unsigned_abs, neg_ℤ, All, if◌then◌else◌}
 use Rattle.sums.specs.Below.{sum_below, sum_below_ℤ}
 use Rattle.sums.specs.Places.{list_below}
 use Rattle.frac_row.specs.Outgrown.{IsWithin}
@@ -10,13 +10,17 @@ use Rattle.row_store.specs.declared.problem.Rows.{Rows}
 abbrev pub entry : Rows → ℕ → ℕ → ℤ
 entry rows line column = slice_index_or (slice_index_or rows.lines line []) column (pos 0)
 
+-- the sizes in a column of the lines sum to no outgrown number
+abbrev pub IsColumnWithin : Rows → ℕ → Type 0
+IsColumnWithin rows column = sum_below (λ line. unsigned_abs (entry rows line column)) (length rows.lines) ≤ 2 ^ 127 - 1
+
 -- lines of real numbers and a right side, as many costs, and no outgrown number in the first table
 pub record IsProblem (rows : Rows) : Type 0 where
   pub few : rows.columns + length rows.lines + 2 < 2 ^ 32
-  pub widths : (line : ℕ) → line < length rows.lines → length (slice_index_or rows.lines line []) ≡ rows.columns + 1
+  pub widths : All (λ line. length line ≡ rows.columns + 1) rows.lines
   pub costs : length rows.costs ≡ rows.columns
-  pub costs_within : (column : ℕ) → IsWithin (slice_index_or rows.costs column (pos 0))
-  pub sums_within : (column : ℕ) → column ≤ rows.columns → sum_below (λ line. unsigned_abs (entry rows line column)) (length rows.lines) ≤ 2 ^ 127 - 1
+  pub costs_within : All IsWithin rows.costs
+  pub sums_within : (column : ℕ) → column ≤ rows.columns → IsColumnWithin rows column
 
 -- the real numbers and the right side of a row: those of a line, in the phase row what the lines sum to
 -- with the other sign, in the cost row the costs and 0

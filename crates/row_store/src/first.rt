@@ -1,4 +1,4 @@
-ghost use Rattle.std.specs.Prelude.{◌≡◌, ◌+◌, ◌<◌, ◌≤◌, length, slice_index_or, pos, IfOk};
+ghost use Rattle.std.specs.Prelude.{◌≡◌, ◌+◌, ◌<◌, ◌≤◌, length, slice_index_or, pos, All, IfOk};
 ghost use Rattle.sums.specs.Below.{sum_below_ℤ};
 ghost use Rattle.frac_row.specs.Outgrown.{IsWithin};
 ghost use Rattle.row_store.specs.Problem.{IsProblem, entry, first_amount, first_number, first_row, first_table};
@@ -78,8 +78,9 @@ fn column_sum(rows: &Rows, column: u32) -> i128
     sum
 }
 
-fn entry(rows: &Rows, line: u32, column: u32) -> i128
-    requires problem { IsProblem rows.now }
+/// The number of a line in a real column, or in the column after them its right side.
+pub fn entry(rows: &Rows, line: u32, column: u32) -> i128
+    requires widths { All (λ line. length line ≡ rows.now.columns + 1) rows.now.lines }
     requires line { line < length rows.now.lines }
     requires column { column ≤ rows.now.columns }
     ensures { result ≡ entry rows.now line column }
