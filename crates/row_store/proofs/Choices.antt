@@ -162,3 +162,33 @@ best_more table basis column row right best outcome p q eb ep eq er e =
 pub leaving_from : (table : List FracRow) (basis : List ℕ) (column row : ℕ) (best : Option Candidate) → best ≡ best_below table basis column row → row ≡ height_of table → option_map (λ b. b.row) best ≡ leaving table basis column
 unfolding leaving
 leaving_from table basis column row best e same = ap (option_map (λ b. b.row)) (e ∙ ap (best_below table basis column) same)
+
+-- the entering column is one of the first, and improves
+pub entering_is : (table : List FracRow) (columns column : ℕ) → entering table columns ≡ Some column → (column < columns) × (is_improving table column ≡ true)
+unfolding entering
+entering_is table columns column e = among columns e
+  where
+    one : (b : Bool) (k : ℕ) → cond b (Some k) None ≡ Some column → (k ≡ column) × (b ≡ true)
+    one true k e = (cc, refl)
+    one false k e = absurd (none_some e)
+      where
+        none_some : None ≡ Some column → ⊥
+        none_some e = cc
+    either : (o p : Option ℕ) → or_else o p ≡ Some column → (o ≡ Some column) ⊎ (p ≡ Some column)
+    either (Some k) p e = inl e
+    either None p e = inr e
+    among : (n : ℕ) → first_below (λ j. if is_improving table j then Some j else None) n ≡ Some column → (column < n) × (is_improving table column ≡ true)
+    among zero e = absurd (none_some e)
+      where
+        none_some : None ≡ Some column → ⊥
+        none_some e = cc
+    among (suc n) e =
+        elim (either (first_below (λ j. if is_improving table j then Some j else None) n) (if is_improving table n then Some n else None) e) [
+            inl before ↦ later n (among n before)
+            | inr here ↦ at_last n (one (is_improving table n) n here)
+        ]
+      where
+        later : (n : ℕ) → (column < n) × (is_improving table column ≡ true) → (column < suc n) × (is_improving table column ≡ true)
+        later n (lt, t) = (omega arith, t)
+        at_last : (n : ℕ) → (n ≡ column) × (is_improving table n ≡ true) → (column < suc n) × (is_improving table column ≡ true)
+        at_last n (e, t) = (omega arith, subst (λ k. is_improving table k ≡ true) e t)

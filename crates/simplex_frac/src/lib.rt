@@ -1,0 +1,7 @@
+//! The simplex method in exact fractions, with Bland's rule, over any store of tables.
+#![tactic(auto)]
+
+pub mod outcome;
+pub mod turn;
+
+pub use outcome::Outcome;
