@@ -2,6 +2,8 @@
 #![tactic(auto)]
 
 pub mod outcome;
+pub mod run;
 pub mod turn;
 
 pub use outcome::Outcome;
+pub use run::solve;

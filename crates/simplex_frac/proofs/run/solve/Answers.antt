@@ -1,0 +1,53 @@
+use Rattle.std.proofs.Common.{◌≡◌, ◌+◌, ◌<◌, rules, arith, refl, sym, ◌∙◌, ap}
+use Rattle.std.specs.Prelude.{length, None}
+use Rattle.sums.specs.Places.{list_below}
+use Rattle.sums.proofs.Places.{length-list_below}
+use Rattle.row_store.specs.Table.{height_of, columns_of, IsTable}
+use Rattle.row_store.specs.Pivot.{pivot_growth}
+use Rattle.simplex_frac.specs.Run.{Tableau, HasColumns, turn}
+use Rattle.simplex_frac.proofs.Turns.{IsPivotPlace, pivot_place}
+use Rattle.simplex_frac.proofs.Stages.{reaches_first, reaches_next, columns_next, lines_next}
+use Rattle.simplex_frac.proofs.run.solve.Goals as goal
+
+pub loop-made-init : goal.loop-made-init
+loop-made-init g c = record {
+  reaches = reaches_first (g.R.RowStore.content c.args.store.now) c.args.columns _ c.height.result c.height.ensures c.in-Ok.ensures;
+  shape = c.requires;
+  lines = ap length c.in-Ok.ensures ∙ length-list_below _ c.height.result ∙ omega arith;
+}
+
+pub returns-in_default-clause-stopped : goal.returns-in_default-clause-stopped
+returns-in_default-clause-stopped g c =
+    (0, list_below (λ line. c.args.columns + line) c.height.result, omega arith,
+     reaches_first (g.R.RowStore.content c.args.store.now) c.args.columns (list_below (λ line. c.args.columns + line) c.height.result) c.height.result c.height.ensures refl)
+
+pub pivot-requires-clause-row : goal.pivot-requires-clause-row
+pivot-requires-clause-row g c =
+    let place : IsPivotPlace (record { table = g.R.RowStore.content c.loop-made.store; basis = c.loop-made.basis.items }) c.args.columns c.in-Pivot.row c.in-Pivot.column = pivot_place (record { table = g.R.RowStore.content c.loop-made.store; basis = c.loop-made.basis.items }) c.args.columns c.in-Pivot.row c.in-Pivot.column (sym (c.in-Pivot.ensures ∙ ap (λ b. turn (record { table = g.R.RowStore.content c.loop-made.store; basis = b }) c.args.columns) c.as_slice.ensures.value)) in
+    omega (arith, place.line)
+
+pub pivot-requires-clause-column : goal.pivot-requires-clause-column
+pivot-requires-clause-column g c =
+    let place : IsPivotPlace (record { table = g.R.RowStore.content c.loop-made.store; basis = c.loop-made.basis.items }) c.args.columns c.in-Pivot.row c.in-Pivot.column = pivot_place (record { table = g.R.RowStore.content c.loop-made.store; basis = c.loop-made.basis.items }) c.args.columns c.in-Pivot.row c.in-Pivot.column (sym (c.in-Pivot.ensures ∙ ap (λ b. turn (record { table = g.R.RowStore.content c.loop-made.store; basis = b }) c.args.columns) c.as_slice.ensures.value)) in
+    omega (arith, place.real, c.loop-made.invariant.shape)
+
+pub pivot-requires-clause-positive : goal.pivot-requires-clause-positive
+pivot-requires-clause-positive g c =
+    let place : IsPivotPlace (record { table = g.R.RowStore.content c.loop-made.store; basis = c.loop-made.basis.items }) c.args.columns c.in-Pivot.row c.in-Pivot.column = pivot_place (record { table = g.R.RowStore.content c.loop-made.store; basis = c.loop-made.basis.items }) c.args.columns c.in-Pivot.row c.in-Pivot.column (sym (c.in-Pivot.ensures ∙ ap (λ b. turn (record { table = g.R.RowStore.content c.loop-made.store; basis = b }) c.args.columns) c.as_slice.ensures.value)) in
+    place.positive
+
+pub index_mut-requires : goal.index_mut-requires
+index_mut-requires g c =
+    let place : IsPivotPlace (record { table = g.R.RowStore.content c.loop-made.store; basis = c.loop-made.basis.items }) c.args.columns c.in-Pivot.row c.in-Pivot.column = pivot_place (record { table = g.R.RowStore.content c.loop-made.store; basis = c.loop-made.basis.items }) c.args.columns c.in-Pivot.row c.in-Pivot.column (sym (c.in-Pivot.ensures ∙ ap (λ b. turn (record { table = g.R.RowStore.content c.loop-made.store; basis = b }) c.args.columns) c.as_slice.ensures.value)) in
+    omega (arith, place.line, c.loop-made.invariant.lines)
+
+pub loop-made-preserved : goal.loop-made-preserved
+loop-made-preserved g c =
+    let place : IsPivotPlace (record { table = g.R.RowStore.content c.loop-made.store; basis = c.loop-made.basis.items }) c.args.columns c.in-Pivot.row c.in-Pivot.column = pivot_place (record { table = g.R.RowStore.content c.loop-made.store; basis = c.loop-made.basis.items }) c.args.columns c.in-Pivot.row c.in-Pivot.column (sym (c.in-Pivot.ensures ∙ ap (λ b. turn (record { table = g.R.RowStore.content c.loop-made.store; basis = b }) c.args.columns) c.as_slice.ensures.value)) in
+    let is : IsTable (g.R.RowStore.content c.loop-made.store) = g.met.R.RowStore.is_table c.loop-made.store in
+    let none : pivot_growth (g.R.RowStore.content c.loop-made.store) c.in-Pivot.row c.in-Pivot.column ≡ None = c.in-Ok-pivot.ensures.fits in
+    record {
+      reaches = reaches_next (g.R.RowStore.content c.args.store.now) c.args.columns c.loop-made.made (g.R.RowStore.content c.loop-made.store) _ c.loop-made.basis.items c.in-Pivot.row c.in-Pivot.column c.loop-made.invariant.reaches (c.in-Pivot.ensures ∙ ap (λ b. turn (record { table = g.R.RowStore.content c.loop-made.store; basis = b }) c.args.columns) c.as_slice.ensures.value) none c.in-Ok-pivot.ensures.pivoted;
+      shape = columns_next (g.R.RowStore.content c.loop-made.store) _ c.args.columns c.in-Pivot.row c.in-Pivot.column is (omega (arith, place.line)) c.loop-made.invariant.shape c.in-Ok-pivot.ensures.pivoted;
+      lines = lines_next (g.R.RowStore.content c.loop-made.store) _ c.loop-made.basis.items c.in-Pivot.row c.in-Pivot.column c.loop-made.invariant.lines c.in-Ok-pivot.ensures.pivoted;
+    }

@@ -1,0 +1,74 @@
+ghost use Rattle.std.specs.Prelude.{◌≡◌, ◌+◌, ◌<◌, ◌^◌, IfOk, OnErr};
+ghost use Rattle.sums.specs.Places.{list_below};
+ghost use Rattle.row_store.specs.Table.{height_of};
+ghost use Rattle.simplex_frac.specs.Run.{HasColumns, first_tableau};
+ghost use Rattle.simplex_frac.specs.Outcomes.{IsOutcome, IsStage};
+ghost use Rattle.simplex_frac.specs.Ends.{end_of};
+
+use crate::outcome::Outcome;
+use crate::turn::{Turn, next_turn};
+use entries::{Entries, NoMemory};
+use row_store::{PivotError, RowStore};
+use std::alloc::Global;
+
+/// Runs the simplex method from a first table of so many real columns, with Bland's rule and at most so
+/// many pivots. Columns of the identity block never enter. The store then holds the table that the run
+/// has reached; after want of memory it is some table of the run.
+pub fn solve<R: RowStore>(
+    alloc: Global,
+    store: &mut R,
+    columns: u32,
+    pivots: u64,
+) -> Result<Outcome, NoMemory>
+    requires { HasColumns (R.content store.old) columns }
+    ensures outcome { IfOk result (IsOutcome (R.content store.old) columns pivots (R.content store.new)) }
+    ensures stopped { OnErr result (IsStage (R.content store.old) columns pivots (R.content store.new)) }
+{
+    let Ok(mut basis) = identity_basis(alloc, columns, store.height()) else {
+        return Err(NoMemory);
+    };
+    for made in 0..pivots {
+        let turn = next_turn(store, basis.as_slice(), columns);
+        let Turn::Pivot { row, column } = turn else {
+            return Ok(end(turn, basis, made));
+        };
+        match store.pivot(row, column) {
+            Ok(()) => basis[row as usize] = column,
+            Err(PivotError::Grew { row, column }) => {
+                return Ok(Outcome::Grew {
+                    pivots: made,
+                    row,
+                    column,
+                });
+            }
+            Err(PivotError::NoMemory) => return Err(NoMemory),
+        }
+    }
+    let turn = next_turn(store, basis.as_slice(), columns);
+    Ok(end(turn, basis, pivots))
+}
+
+/// The identity block's columns, line by line.
+fn identity_basis(alloc: Global, columns: u32, height: u32) -> Result<Vec<u32>, NoMemory>
+    requires { columns + height < 2 ^ 32 }
+    ensures { IfOk result (λ basis. basis.items ≡ list_below (λ line. columns + line) height) }
+{
+    let mut basis = Vec::new(alloc);
+    for line in 0..height {
+        basis.push(columns + line)?;
+    }
+    Ok(basis)
+}
+
+/// How the run ends at a turn: a pivot is one more than the budget allows.
+fn end(turn: Turn, basis: Vec<u32>, made: u64) -> Outcome
+    ensures { result ≡ end_of turn basis.items made }
+{
+    let basis = Entries::from_vec(basis);
+    match turn {
+        Turn::Best => Outcome::Best { basis, made },
+        Turn::NoPoint => Outcome::NoPoint { basis, made },
+        Turn::Ray { column } => Outcome::Ray { column },
+        Turn::Pivot { .. } => Outcome::Spent { pivots: made },
+    }
+}
