@@ -13,7 +13,7 @@ use Rattle.frac_row.specs.Outgrown.{IsWithin}
 use Rattle.frac_row.specs.Row.{number_of, width_of, IsRow}
 use Rattle.frac_row.specs.declared.row.FracRow.{FracRow}
 use Rattle.row_store.specs.declared.problem.Rows.{Rows}
-use Rattle.row_store.specs.Table.{no_row, row_at, columns_of, IsTable}
+use Rattle.row_store.specs.Table.{no_row, row_at, columns_of, HasColumns, IsTable}
 use Rattle.row_store.specs.Problem.{entry, IsProblem, first_amount, first_number, first_row, first_table}
 
 when_lt : {X : Type 0} (m n : ℕ) (x y : X) → m < n → cond (ltb m n) x y ≡ x
@@ -146,3 +146,10 @@ first_is_table rows h = record {
     width row lt = ap width_of (row_at-first_table rows row lt) ∙ width_of-first_row rows row ∙ sym (columns_of-first_table rows)
     is_row : (row : ℕ) → row < length rows.lines + 2 → IsRow (row_at (first_table rows) row)
     is_row row lt = rw (row_at-first_table rows row lt) (first_is_row rows row h)
+
+-- its columns are the real ones, the identity block, the right side
+pub first_has_columns : (rows : Rows) (table : List FracRow) → table ≡ first_table rows → HasColumns table rows.columns
+first_has_columns rows table e =
+    let width : columns_of table ≡ rows.columns + length rows.lines + 1 = ap columns_of e ∙ columns_of-first_table rows in
+    let tall : length table ≡ length rows.lines + 2 = ap length e ∙ length-first_table rows in
+    omega arith

@@ -29,6 +29,10 @@ cost_row table = height_of table + 1
 abbrev pub columns_of : List FracRow → ℕ
 columns_of table = width_of (row_at table 0)
 
+-- so many real columns, then the identity block, then the right side
+abbrev pub HasColumns : List FracRow → ℕ → Type 0
+HasColumns table columns = columns_of table ≡ columns + height_of table + 1
+
 abbrev pub right_side : List FracRow → ℕ → ℤ
 right_side table row = number_at table row (columns_of table - 1)
 

@@ -1,6 +1,6 @@
 ghost use Rattle.std.specs.Prelude.{◌≡◌, ◌+◌, ◌<◌, ◌≤◌, ℕ, List, ℤ, pos, ◌<ℤ◌, None, Some, length, IfOk, OnErr, IfErr};
 ghost use Rattle.frac_row.specs.declared.row.FracRow.{FracRow};
-ghost use Rattle.row_store.specs.Table.{IsTable, number_at, row_at, columns_of, height_of};
+ghost use Rattle.row_store.specs.Table.{IsTable, number_at, row_at, columns_of, height_of, HasColumns};
 ghost use Rattle.row_store.specs.Problem.{IsProblem, first_table};
 ghost use Rattle.row_store.specs.Pivot.{pivoted, pivot_growth};
 ghost use Rattle.row_store.specs.PivotAnswers.{IsPivotError};
@@ -21,7 +21,8 @@ pub trait RowStore: Sized {
     /// The first table of the lines.
     fn start(alloc: Global, rows: &Rows) -> Result<Self, NoMemory>
         requires { IsProblem rows.now }
-        ensures { IfOk result (λ store. content store ≡ first_table rows.now) };
+        ensures table { IfOk result (λ store. content store ≡ first_table rows.now) }
+        ensures shape { IfOk result (λ store. HasColumns (content store) rows.now.columns) };
 
     /// How many lines there are: the row of this number is the phase row, and the next the cost row.
     fn height(&self) -> u32

@@ -3,10 +3,10 @@ use Rattle.std.proofs.Common.{◌≡◌, ℕ, zero, suc, ◌+◌, ◌-◌, ◌<�
 use Rattle.std.specs.Prelude.{option_and_then}
 use Rattle.sums.specs.Places.{list_below}
 use Rattle.frac_row.specs.declared.row.FracRow.{FracRow}
-use Rattle.row_store.specs.Table.{height_of, columns_of, IsTable}
+use Rattle.row_store.specs.Table.{HasColumns, height_of, columns_of, IsTable}
 use Rattle.row_store.specs.Pivot.{pivoted, pivot_growth}
 use Rattle.row_store.proofs.Tables.{length-pivoted, columns_of-pivoted}
-use Rattle.simplex_frac.specs.Run.{Tableau, HasColumns, first_tableau, turn, after_turn, unless_outgrown, next_tableau, stage}
+use Rattle.simplex_frac.specs.Run.{Tableau, first_tableau, turn, after_turn, unless_outgrown, next_tableau, stage}
 use Rattle.simplex_frac.specs.Outcomes.{Reaches}
 use Rattle.simplex_frac.specs.declared.turn.Turn.{Turn}
 use Rattle.simplex_frac.specs.declared.turn.Turn.TheVariants.{Best, NoPoint, Ray, Pivot}

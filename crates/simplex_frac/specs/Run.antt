@@ -1,9 +1,9 @@
 -- The run of the simplex method from a first table.
-use Rattle.std.specs.Prelude.{ℕ, zero, suc, ◌+◌, ◌==◌, ◌≡◌, List, slice_set, unsigned_abs, Option, Some, None, option_and_then, if◌then◌else◌}
+use Rattle.std.specs.Prelude.{ℕ, zero, suc, ◌+◌, ◌==◌, List, slice_set, unsigned_abs, Option, Some, None, option_and_then, if◌then◌else◌}
 use Rattle.sums.specs.Places.{list_below}
 use Rattle.frac_row.specs.declared.row.FracRow.{FracRow}
 use Rattle.row_store.specs.declared.error.Place.{Place}
-use Rattle.row_store.specs.Table.{height_of, columns_of, phase_row, right_side}
+use Rattle.row_store.specs.Table.{height_of, phase_row, right_side}
 use Rattle.row_store.specs.Pivot.{pivoted, pivot_growth}
 use Rattle.row_store.specs.Choice.{entering, leaving}
 use Rattle.simplex_frac.specs.declared.turn.Turn.{Turn}
@@ -13,10 +13,6 @@ use Rattle.simplex_frac.specs.declared.turn.Turn.TheVariants.{Best, NoPoint, Ray
 pub record Tableau : Type 0 where
   pub table : List FracRow
   pub basis : List ℕ
-
--- the real columns, then the identity block, then the right side
-abbrev pub HasColumns : List FracRow → ℕ → Type 0
-HasColumns table columns = columns_of table ≡ columns + height_of table + 1
 
 -- the basis is the identity block, line by line
 unfoldable pub first_tableau : List FracRow → ℕ → Tableau

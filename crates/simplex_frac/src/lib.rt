@@ -7,3 +7,6 @@ pub mod turn;
 
 pub use outcome::Outcome;
 pub use run::solve;
+
+#[cfg(test)]
+mod tests;

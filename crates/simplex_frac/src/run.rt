@@ -1,7 +1,7 @@
-ghost use Rattle.std.specs.Prelude.{◌≡◌, ◌+◌, ◌<◌, ◌^◌, IfOk, OnErr};
+ghost use Rattle.std.specs.Prelude.{◌≡◌, ◌+◌, ◌<◌, ◌^◌, length, IfOk, OnErr};
 ghost use Rattle.sums.specs.Places.{list_below};
-ghost use Rattle.row_store.specs.Table.{height_of};
-ghost use Rattle.simplex_frac.specs.Run.{HasColumns, first_tableau};
+ghost use Rattle.row_store.specs.Table.{HasColumns, height_of};
+ghost use Rattle.simplex_frac.specs.Run.{first_tableau};
 ghost use Rattle.simplex_frac.specs.Outcomes.{IsOutcome, IsStage};
 ghost use Rattle.simplex_frac.specs.Ends.{end_of};
 
@@ -22,6 +22,8 @@ pub fn solve<R: RowStore>(
 ) -> Result<Outcome, NoMemory>
     requires { HasColumns (R.content store.old) columns }
     ensures outcome { IfOk result (IsOutcome (R.content store.old) columns pivots (R.content store.new)) }
+    ensures shape { HasColumns (R.content store.new) columns }
+    ensures height { length (R.content store.new) ≡ length (R.content store.old) }
     ensures stopped { OnErr result (IsStage (R.content store.old) columns pivots (R.content store.new)) }
 {
     let Ok(mut basis) = identity_basis(alloc, columns, store.height()) else {

@@ -2,9 +2,10 @@ use Rattle.std.proofs.Common.{◌≡◌, ◌+◌, ◌<◌, rules, arith, refl, s
 use Rattle.std.specs.Prelude.{length, None}
 use Rattle.sums.specs.Places.{list_below}
 use Rattle.sums.proofs.Places.{length-list_below}
-use Rattle.row_store.specs.Table.{height_of, columns_of, IsTable}
+use Rattle.row_store.specs.Table.{HasColumns, height_of, columns_of, IsTable}
 use Rattle.row_store.specs.Pivot.{pivot_growth}
-use Rattle.simplex_frac.specs.Run.{Tableau, HasColumns, turn}
+use Rattle.simplex_frac.specs.Run.{Tableau, turn}
+use Rattle.row_store.proofs.Tables.{length-pivoted}
 use Rattle.simplex_frac.proofs.Turns.{IsPivotPlace, pivot_place}
 use Rattle.simplex_frac.proofs.Stages.{reaches_first, reaches_next, columns_next, lines_next}
 use Rattle.simplex_frac.proofs.run.solve.Goals as goal
@@ -13,6 +14,7 @@ pub loop-made-init : goal.loop-made-init
 loop-made-init g c = record {
   reaches = reaches_first (g.R.RowStore.content c.args.store.now) c.args.columns _ c.height.result c.height.ensures c.in-Ok.ensures;
   shape = c.requires;
+  height = refl;
   lines = ap length c.in-Ok.ensures ∙ length-list_below _ c.height.result ∙ omega arith;
 }
 
@@ -49,5 +51,6 @@ loop-made-preserved g c =
     record {
       reaches = reaches_next (g.R.RowStore.content c.args.store.now) c.args.columns c.loop-made.made (g.R.RowStore.content c.loop-made.store) _ c.loop-made.basis.items c.in-Pivot.row c.in-Pivot.column c.loop-made.invariant.reaches (c.in-Pivot.ensures ∙ ap (λ b. turn (record { table = g.R.RowStore.content c.loop-made.store; basis = b }) c.args.columns) c.as_slice.ensures.value) none c.in-Ok-pivot.ensures.pivoted;
       shape = columns_next (g.R.RowStore.content c.loop-made.store) _ c.args.columns c.in-Pivot.row c.in-Pivot.column is (omega (arith, place.line)) c.loop-made.invariant.shape c.in-Ok-pivot.ensures.pivoted;
+      height = ap length c.in-Ok-pivot.ensures.pivoted ∙ length-pivoted (g.R.RowStore.content c.loop-made.store) c.in-Pivot.row c.in-Pivot.column ∙ c.loop-made.invariant.height;
       lines = lines_next (g.R.RowStore.content c.loop-made.store) _ c.loop-made.basis.items c.in-Pivot.row c.in-Pivot.column c.loop-made.invariant.lines c.in-Ok-pivot.ensures.pivoted;
     }
