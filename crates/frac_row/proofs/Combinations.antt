@@ -144,3 +144,11 @@ small_growth row pivot_row column some h k =
 pub combination_from : (f : Factors) (row pivot_row : FracRow) (numbers : List ℤ) (den : ℤ) → numbers ≡ list_below (λ k. combined_number f (number_of row k) (number_of pivot_row k)) (width_of row) → den ≡ f.own *ℤ row.den → ◌≡◌ {A = FracRow} (record { numbers = numbers; den = den }) (combination f row pivot_row)
 unfolding combination
 combination_from f row pivot_row numbers den p q = same_row numbers _ den _ p q
+
+pub number_of-combination : (f : Factors) (row pivot_row : FracRow) (k : ℕ) → k < width_of row → number_of (combination f row pivot_row) k ≡ combined_number f (number_of row k) (number_of pivot_row k)
+unfolding combination
+number_of-combination f row pivot_row k lt = get_or-list_below _ (width_of row) k (pos 0) lt
+
+pub den-combination : (f : Factors) (row pivot_row : FracRow) → (combination f row pivot_row).den ≡ f.own *ℤ row.den
+unfolding combination
+den-combination f row pivot_row = refl

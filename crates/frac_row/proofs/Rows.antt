@@ -122,3 +122,11 @@ reduced_is_row row h = record {
   den_within = let le : unsigned_abs ((reduced row).den) ≤ unsigned_abs row.den = size-den-reduced row in omega (arith, h.den_within);
   positive = positive_factor (common_divisor row) ((reduced row).den) (rw (den_times row) h.positive);
 }
+
+gcd_below_positive : (d : ℕ) (f : ℕ → ℕ) (n : ℕ) → 0 < d → 0 < gcd_below d f n
+gcd_below_positive d f zero some = some
+gcd_below_positive d f (suc n) some = gcd_positive (gcd_below d f n) (f n) (omega (arith, gcd_below_positive d f n some))
+
+pub common_divisor_positive : (row : FracRow) → pos 0 <ℤ row.den → 0 < common_divisor row
+unfolding common_divisor
+common_divisor_positive row h = gcd_below_positive (unsigned_abs row.den) (λ column. unsigned_abs (number_of row column)) (width_of row) (size_positive row.den h)

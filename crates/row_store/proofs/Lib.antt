@@ -1,4 +1,5 @@
 pub mod Choices
 pub mod FirstTables
 pub mod Pivots
+pub mod Points
 pub mod Tables

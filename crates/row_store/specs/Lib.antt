@@ -3,3 +3,4 @@ pub mod Problem
 pub mod Pivot
 pub mod Choice
 pub mod PivotAnswers
+pub mod Points

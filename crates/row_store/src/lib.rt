@@ -6,6 +6,7 @@ pub mod choice;
 pub mod dense;
 pub mod error;
 pub mod first;
+pub mod laws;
 pub mod pivoting;
 pub mod problem;
 pub mod store;

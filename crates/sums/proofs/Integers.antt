@@ -71,7 +71,7 @@ no_zero_product : (m n : ℕ) → pos 0 ≡ pos (suc m * suc n) → ⊥
 no_zero_product m n e = omega (arith, ints)
 
 -- where a product with a positive number is 0, the other factor is
-zero_factor : (p a : ℤ) → pos 0 <ℤ p → p *ℤ a ≡ pos 0 → a ≡ pos 0
+pub zero_factor : (p a : ℤ) → pos 0 <ℤ p → p *ℤ a ≡ pos 0 → a ≡ pos 0
 zero_factor (pos zero) a above e = absurd (omega (arith, ints))
 zero_factor (negsuc p) a above e = absurd (omega (arith, ints))
 zero_factor (pos (suc p)) (pos zero) above e = refl

@@ -5,3 +5,4 @@ pub mod Divisors
 pub mod Integers
 pub mod Places
 pub mod SumBounds
+pub mod WholeSums

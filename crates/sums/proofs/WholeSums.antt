@@ -1,0 +1,22 @@
+-- Laws of sums of whole numbers below a bound.
+use Rattle.std.proofs.Common.{◌≡◌, ℕ, zero, suc, ◌+◌, ◌<◌, ◌≤◌, ℤ, pos, ◌+ℤ◌, ◌-ℤ◌, ◌*ℤ◌, refl, sym, ◌∙◌, ap, arith}
+use Rattle.std.proofs.lemmas.Int.{ints}
+use lib.IntN.{*ℤ-zero}
+use Rattle.sums.specs.Below.{sum_below_ℤ}
+use Rattle.sums.proofs.Integers.{*ℤ-+ℤ}
+
+-- sums of equal terms
+pub sum_below_ℤ-same : (f g : ℕ → ℤ) (n : ℕ) → ((k : ℕ) → k < n → f k ≡ g k) → sum_below_ℤ f n ≡ sum_below_ℤ g n
+sum_below_ℤ-same f g zero h = refl
+sum_below_ℤ-same f g (suc n) h =
+    ap (λ x. x +ℤ f n) (sum_below_ℤ-same f g n (λ k lt. h k (omega arith))) ∙ ap (λ x. sum_below_ℤ g n +ℤ x) (h n (omega arith))
+
+-- a factor of all terms
+pub *ℤ-sum_below_ℤ : (c : ℤ) (f : ℕ → ℤ) (n : ℕ) → c *ℤ sum_below_ℤ f n ≡ sum_below_ℤ (λ k. c *ℤ f k) n
+*ℤ-sum_below_ℤ c f zero = *ℤ-zero c
+*ℤ-sum_below_ℤ c f (suc n) = *ℤ-+ℤ c (sum_below_ℤ f n) (f n) ∙ ap (λ x. x +ℤ (c *ℤ f n)) (*ℤ-sum_below_ℤ c f n)
+
+-- a sum of differences
+pub sum_below_ℤ--ℤ : (f g : ℕ → ℤ) (n : ℕ) → sum_below_ℤ (λ k. f k -ℤ g k) n ≡ sum_below_ℤ f n -ℤ sum_below_ℤ g n
+sum_below_ℤ--ℤ f g zero = refl
+sum_below_ℤ--ℤ f g (suc n) = omega (arith, ints, sum_below_ℤ--ℤ f g n)
