@@ -1,2 +1,4 @@
+pub mod OneOutcome
+pub mod RunLaws
 pub mod Stages
 pub mod Turns

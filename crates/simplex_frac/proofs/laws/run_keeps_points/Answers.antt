@@ -1,0 +1,5 @@
+use Rattle.simplex_frac.proofs.RunLaws.{run_keeps_points}
+use Rattle.simplex_frac.proofs.laws.run_keeps_points.Goals as goal
+
+pub returns : goal.returns
+returns c = run_keeps_points
