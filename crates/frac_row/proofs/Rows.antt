@@ -97,8 +97,8 @@ number_of-past row k ge = get_or_past row.numbers k (pos 0) ge
 pub number_times : (row : FracRow) (k : ℕ) → pos (common_divisor row) *ℤ number_of (reduced row) k ≡ number_of row k
 number_times row k =
     elim (cases_lt k (width_of row)) [
-        inl lt ↦ ap (λ x. pos (common_divisor row) *ℤ x) (number_of-reduced row k lt) ∙ *ℤ-int_div (number_of row k) (common_divisor row) (divides_number row k lt)
-        | inr ge ↦ ap (λ x. pos (common_divisor row) *ℤ x) (number_of-past (reduced row) k (rw width_of-reduced ge)) ∙ *ℤ-zero (pos (common_divisor row)) ∙ sym (number_of-past row k ge)
+      | inl lt ↦ ap (λ x. pos (common_divisor row) *ℤ x) (number_of-reduced row k lt) ∙ *ℤ-int_div (number_of row k) (common_divisor row) (divides_number row k lt)
+      | inr ge ↦ ap (λ x. pos (common_divisor row) *ℤ x) (number_of-past (reduced row) k (rw width_of-reduced ge)) ∙ *ℤ-zero (pos (common_divisor row)) ∙ sym (number_of-past row k ge)
     ]
 
 pub den_times : (row : FracRow) → pos (common_divisor row) *ℤ (reduced row).den ≡ row.den
@@ -108,8 +108,8 @@ den_times row = *ℤ-int_div row.den (common_divisor row) (divides_den row)
 size-number_of-reduced : (row : FracRow) (k : ℕ) → unsigned_abs (number_of (reduced row) k) ≤ unsigned_abs (number_of row k)
 size-number_of-reduced row k =
     elim (cases_lt k (width_of row)) [
-        inl lt ↦ rw (number_of-reduced row k lt) (size-int_div (number_of row k) (common_divisor row))
-        | inr ge ↦ rw (number_of-past (reduced row) k (rw width_of-reduced ge)) (omega arith)
+      | inl lt ↦ rw (number_of-reduced row k lt) (size-int_div (number_of row k) (common_divisor row))
+      | inr ge ↦ rw (number_of-past (reduced row) k (rw width_of-reduced ge)) (omega arith)
     ]
 
 size-den-reduced : (row : FracRow) → unsigned_abs ((reduced row).den) ≤ unsigned_abs row.den

@@ -86,3 +86,16 @@ list_below-more f n = map-range_with_len_more f 0 n n (omega arith)
 
 pub list_below-push : {X : Type 0} (f : ℕ → X) (n : ℕ) (xs : List X) (x : X) → xs ≡ list_below f n → x ≡ f n → xs ++ x ∷ [] ≡ list_below f (n + 1)
 list_below-push f n xs x e same = ap (λ ys. ys ++ x ∷ []) e ∙ ap (λ y. list_below f n ++ y ∷ []) same ∙ sym (list_below-more f n)
+
+-- a place whose value is there already
+pub filled_kept : {X : Type 0} (d : X) (f : ℕ → X) (old new : List X) (n : ℕ) → IsFilledBelow d f old new n → get_or old n d ≡ f n → IsFilledBelow d f old new (n + 1)
+filled_kept {X} d f old new n h e = record {
+  same_length = h.same_length;
+  filled = λ k below. elim (cases_lt k n) [ inl less ↦ h.filled k less | inr ge ↦ here k (equal k below ge) ];
+  kept = λ k ge. h.kept k (omega arith);
+}
+  where
+    equal : (k : ℕ) → k < n + 1 → n ≤ k → k ≡ n
+    equal k below ge = omega arith
+    here : (k : ℕ) → k ≡ n → get_or new k d ≡ f k
+    here k same = subst (λ i. get_or new i d ≡ f i) (sym same) (h.kept n (omega arith) ∙ e)
