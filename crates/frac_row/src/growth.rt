@@ -89,7 +89,7 @@ fn difference(a: &i128, b: &i128) -> Option<i128>
     ensures { MatchOption result (is_outgrown (a.now -ℤ b.now) ≡ true) (λ x. (x ≡ a.now -ℤ b.now) × (is_outgrown (a.now -ℤ b.now) ≡ false)) }
 {
     match a.checked_sub(*b) {
-        Some(x) if x != i128::MIN => Some(x),
+        Some(rest) if rest != i128::MIN => Some(rest),
         _ => None,
     }
 }

@@ -1,5 +1,5 @@
 -- The steps of a search for the entering column and the leaving row.
-use Rattle.std.proofs.Common.{◌≡◌, ℕ, ◌+◌, ◌<◌, ◌≤◌, Bool, true, false, cond, if◌then◌else◌, zero, suc, ◌&&◌, ℤ, pos, ◌<ℤ◌, ◌≤ℤ◌, get_or, ◌-◌, length, List, Option, Some, None, ◌⊎◌, inl, inr, option_map, refl, sym, ◌∙◌, ap, subst, arith, add-one}
+use Rattle.std.proofs.Common.{◌≡◌, ℕ, ◌+◌, ◌<◌, Bool, true, false, cond, if◌then◌else◌, zero, suc, ◌&&◌, ℤ, pos, ◌<ℤ◌, ◌≤ℤ◌, get_or, ◌-◌, length, List, Option, Some, None, ◌⊎◌, inl, inr, option_map, refl, sym, ◌∙◌, ap, subst, arith, add-one}
 use Rattle.sums.specs.Places.{first_below, or_else}
 use Rattle.sums.proofs.Places.{first_found}
 use Rattle.frac_row.specs.declared.row.FracRow.{FracRow}
@@ -109,20 +109,23 @@ better_is table basis column row None chosen h e =
     split : (b : Bool) → cond b (Some (candidate_at table basis column row)) None ≡ Some chosen → (b ≡ true) × (candidate_at table basis column row ≡ chosen)
     split true e = (refl, cc)
     split false e = cc
+
     same_candidate : chosen ≡ candidate_at table basis column row → pos 0 <ℤ number_at table row column → IsBest table basis column (suc row) chosen
     same_candidate same p = rw same (record { line = omega arith; is = refl; positive = p })
 better_is table basis column row (Some best) chosen h e =
     elim (split (is_positive (number_at table row column)) (goes_first (candidate_at table basis column row) best) e) [
-        inl found ↦ same_candidate (sym found.1) (test_positive (number_at table row column) found.0)
-        | inr same ↦ rw (sym same) (later (h best refl))
+      | inl found ↦ same_candidate (sym found.1) (test_positive (number_at table row column) found.0)
+      | inr same ↦ rw (sym same) (later (h best refl))
     ]
   where
     split : (b d : Bool) → cond (b && d) (Some (candidate_at table basis column row)) (Some best) ≡ Some chosen → ((b ≡ true) × (candidate_at table basis column row ≡ chosen)) ⊎ (best ≡ chosen)
     split true true e = inl (refl, cc)
     split true false e = inr cc
     split false d e = inr cc
+
     same_candidate : chosen ≡ candidate_at table basis column row → pos 0 <ℤ number_at table row column → IsBest table basis column (suc row) chosen
     same_candidate same p = rw same (record { line = omega arith; is = refl; positive = p })
+
     later : IsBest table basis column row best → IsBest table basis column (suc row) best
     later b = record { line = omega (arith, b.line); is = b.is; positive = b.positive }
 
@@ -174,9 +177,11 @@ entering_is table columns column e = among columns e
       where
         none_some : None ≡ Some column → ⊥
         none_some e = cc
+
     either : (o p : Option ℕ) → or_else o p ≡ Some column → (o ≡ Some column) ⊎ (p ≡ Some column)
     either (Some k) p e = inl e
     either None p e = inr e
+
     among : (n : ℕ) → first_below (λ j. if is_improving table j then Some j else None) n ≡ Some column → (column < n) × (is_improving table column ≡ true)
     among zero e = absurd (none_some e)
       where
@@ -184,11 +189,12 @@ entering_is table columns column e = among columns e
         none_some e = cc
     among (suc n) e =
         elim (either (first_below (λ j. if is_improving table j then Some j else None) n) (if is_improving table n then Some n else None) e) [
-            inl before ↦ later n (among n before)
-            | inr here ↦ at_last n (one (is_improving table n) n here)
+          | inl before ↦ later n (among n before)
+          | inr here ↦ at_last n (one (is_improving table n) n here)
         ]
       where
         later : (n : ℕ) → (column < n) × (is_improving table column ≡ true) → (column < suc n) × (is_improving table column ≡ true)
         later n (lt, t) = (omega arith, t)
+
         at_last : (n : ℕ) → (n ≡ column) × (is_improving table n ≡ true) → (column < suc n) × (is_improving table column ≡ true)
         at_last n (e, t) = (omega arith, subst (λ k. is_improving table k ≡ true) e t)

@@ -1,5 +1,5 @@
 -- The numbers of the first table, and that it is a table.
-use Rattle.std.proofs.Common.{◌≡◌, ℕ, zero, suc, ◌+◌, ◌-◌, ◌^◌, ◌<◌, ◌≤◌, ◌≢◌, Bool, true, false, cond, eqb, ltb, ℤ, pos, ◌+ℤ◌, ◌<ℤ◌, List, [], length, get_or, unsigned_abs, refl, sym, ◌∙◌, ap, subst, arith, inl, inr}
+use Rattle.std.proofs.Common.{◌≡◌, ℕ, ◌+◌, ◌-◌, ◌^◌, ◌<◌, ◌≤◌, ◌≢◌, Bool, true, false, cond, eqb, ltb, ℤ, pos, List, length, get_or, unsigned_abs, refl, sym, ◌∙◌, ap, arith, inl, inr}
 use Rattle.std.specs.Prelude.{neg_ℤ}
 use Rattle.std.proofs.lemmas.Int.{ints}
 use Rattle.std.proofs.lemmas.Bool.{cases_lt}
@@ -10,7 +10,7 @@ use Rattle.sums.specs.Places.{list_below}
 use Rattle.sums.proofs.Places.{length-list_below, get_or-list_below}
 use Rattle.sums.proofs.SumBounds.{sum_below-le, term_le, size-sum_below_ℤ}
 use Rattle.frac_row.specs.Outgrown.{IsWithin}
-use Rattle.frac_row.specs.Row.{number_of, width_of, IsRow}
+use Rattle.frac_row.specs.Row.{width_of, IsRow}
 use Rattle.frac_row.specs.declared.row.FracRow.{FracRow}
 use Rattle.row_store.specs.declared.problem.Rows.{Rows}
 use Rattle.row_store.specs.Table.{no_row, row_at, columns_of, HasColumns, IsTable}
@@ -86,21 +86,21 @@ cost_within rows column h =
 amount_within : (rows : Rows) (row column : ℕ) → IsProblem rows → column ≤ rows.columns → IsWithin (first_amount rows row column)
 amount_within rows row column h le =
     elim (cases_lt row (length rows.lines)) [
-        inl lt ↦ rw (amount_line rows row column lt) (entry_within rows row column h lt le)
-        | inr ge ↦ elim (cases_lt (length rows.lines) row) [
-            inl above ↦ rw (amount_cost rows row column above) (cost_within rows column h)
-            | inr same ↦ rw (amount_phase rows row column (omega arith)) (opposite_within _ (part_within rows column (length rows.lines) h le (omega arith)))
-        ]
+      | inl lt ↦ rw (amount_line rows row column lt) (entry_within rows row column h lt le)
+      | inr ge ↦ elim (cases_lt (length rows.lines) row) [
+        | inl above ↦ rw (amount_cost rows row column above) (cost_within rows column h)
+        | inr same ↦ rw (amount_phase rows row column (omega arith)) (opposite_within _ (part_within rows column (length rows.lines) h le (omega arith)))
+      ]
     ]
 
 number_within : (rows : Rows) (row column : ℕ) → IsProblem rows → IsWithin (first_number rows row column)
 number_within rows row column h =
     elim (cases_lt column rows.columns) [
-        inl real ↦ rw (number_real rows row column real) (amount_within rows row column h (omega arith))
-        | inr ge ↦ elim (cases_lt column (rows.columns + length rows.lines)) [
-            inl identity ↦ unit (eqb (column - rows.columns) row) refl ge identity
-            | inr right ↦ rw (number_right rows row column right) (amount_within rows row rows.columns h (omega arith))
-        ]
+      | inl real ↦ rw (number_real rows row column real) (amount_within rows row column h (omega arith))
+      | inr ge ↦ elim (cases_lt column (rows.columns + length rows.lines)) [
+        | inl identity ↦ unit (eqb (column - rows.columns) row) refl ge identity
+        | inr right ↦ rw (number_right rows row column right) (amount_within rows row rows.columns h (omega arith))
+      ]
     ]
   where
     unit : (b : Bool) → b ≡ eqb (column - rows.columns) row → rows.columns ≤ column → column < rows.columns + length rows.lines → IsWithin (first_number rows row column)
@@ -114,8 +114,8 @@ width_of-first_row rows row = length-list_below (first_number rows row) (rows.co
 first_is_row : (rows : Rows) (row : ℕ) → IsProblem rows → IsRow (first_row rows row)
 first_is_row rows row h = record {
   within = λ k. elim (cases_lt k (rows.columns + length rows.lines + 1)) [
-      inl lt ↦ rw (get_or-list_below (first_number rows row) (rows.columns + length rows.lines + 1) k (pos 0) lt) (number_within rows row k h)
-      | inr ge ↦ rw (get_or_past (list_below (first_number rows row) (rows.columns + length rows.lines + 1)) k (pos 0) (rw (length-list_below (first_number rows row) (rows.columns + length rows.lines + 1)) ge)) (omega arith)
+    | inl lt ↦ rw (get_or-list_below (first_number rows row) (rows.columns + length rows.lines + 1) k (pos 0) lt) (number_within rows row k h)
+    | inr ge ↦ rw (get_or_past (list_below (first_number rows row) (rows.columns + length rows.lines + 1)) k (pos 0) (rw (length-list_below (first_number rows row) (rows.columns + length rows.lines + 1)) ge)) (omega arith)
   ];
   den_within = omega arith;
   positive = omega (arith, ints);
@@ -144,6 +144,7 @@ first_is_table rows h = record {
   where
     width : (row : ℕ) → row < length rows.lines + 2 → width_of (row_at (first_table rows) row) ≡ columns_of (first_table rows)
     width row lt = ap width_of (row_at-first_table rows row lt) ∙ width_of-first_row rows row ∙ sym (columns_of-first_table rows)
+
     is_row : (row : ℕ) → row < length rows.lines + 2 → IsRow (row_at (first_table rows) row)
     is_row row lt = rw (row_at-first_table rows row lt) (first_is_row rows row h)
 

@@ -1,9 +1,8 @@
 -- A pivot keeps the points that meet the lines.
-use Rattle.std.proofs.Common.{◌≡◌, ℕ, zero, suc, ◌+◌, ◌-◌, ◌<◌, ◌≤◌, Bool, true, false, cond, eqb, ℤ, pos, ◌+ℤ◌, ◌-ℤ◌, ◌*ℤ◌, ◌<ℤ◌, List, length, unsigned_abs, refl, sym, ◌∙◌, ap, subst, arith}
-use Rattle.std.specs.Prelude.{◌↔◌}
+use Rattle.std.proofs.Common.{◌≡◌, ℕ, ◌-◌, ◌<◌, ◌≤◌, Bool, true, false, cond, eqb, ℤ, pos, ◌-ℤ◌, ◌*ℤ◌, ◌<ℤ◌, List, length, unsigned_abs, refl, sym, ◌∙◌, ap, subst, arith}
 use Rattle.std.proofs.lemmas.Int.{ints}
 use Rattle.std.proofs.lemmas.Bool.Decides.{nat_tests}
-use lib.IntN.{*ℤ-zero, zero-*ℤ, *ℤ_comm}
+use lib.IntN.{*ℤ-zero, zero-*ℤ}
 use Rattle.sums.specs.Below.{sum_below_ℤ}
 use Rattle.sums.proofs.Integers.{*ℤ--ℤ, -ℤ-*ℤ, *ℤ_assoc, *ℤ_left_comm, *ℤ_cancel, zero_factor, positive_product}
 use Rattle.sums.proofs.WholeSums.{sum_below_ℤ-same, *ℤ-sum_below_ℤ, sum_below_ℤ--ℤ}
@@ -45,6 +44,7 @@ surplus_combined f a r b n point scale h =
         ap (λ y. y *ℤ x) (h k le) ∙ -ℤ-*ℤ (f.own *ℤ number_of a k) (f.pivot *ℤ number_of r k) x
         ∙ ap (λ y. y -ℤ ((f.pivot *ℤ number_of r k) *ℤ x)) (*ℤ_assoc f.own (number_of a k) x)
         ∙ ap (λ y. (f.own *ℤ (number_of a k *ℤ x)) -ℤ y) (*ℤ_assoc f.pivot (number_of r k) x)
+
     regroup : (s t u v : ℤ) → (s -ℤ t) -ℤ (u -ℤ v) ≡ (s -ℤ u) -ℤ (t -ℤ v)
     regroup s t u v = omega (arith, ints)
 
@@ -101,9 +101,11 @@ becomes_cleared row pivot_row column n point scale h some lt =
 scaled_surplus : (row : FracRow) (column n : ℕ) (point : ℕ → ℤ) (scale : ℤ) → pos 0 <ℤ number_of row column → (g : ℤ) × (pos 0 <ℤ g) × (g *ℤ surplus (scaled_row row column) n point scale ≡ surplus row n point scale)
 unfolding scaled_row surplus
 scaled_surplus row column n point scale some =
-    let whole : FracRow = record { numbers = row.numbers; den = number_of row column } in
-    (pos (common_divisor whole), positive_pos (common_divisor whole) (common_divisor_positive whole some),
-     surplus_times (pos (common_divisor whole)) (reduced whole) whole n point scale (λ k le. number_times whole k))
+    let whole : FracRow = record { numbers = row.numbers; den = number_of row column } in (
+      pos (common_divisor whole),
+      positive_pos (common_divisor whole) (common_divisor_positive whole some),
+      surplus_times (pos (common_divisor whole)) (reduced whole) whole n point scale (λ k le. number_times whole k),
+    )
 
 -- ---- the consequences for one row
 old_zero : {old new pivot_row : FracRow} {n : ℕ} {point : ℕ → ℤ} {scale : ℤ} → Becomes old new pivot_row n point scale → surplus pivot_row n point scale ≡ pos 0 → surplus new n point scale ≡ pos 0 → surplus old n point scale ≡ pos 0
@@ -171,8 +173,10 @@ pivot_back table row column point scale h is = go (eqb row row) (same row) is
   where
     same : (n : ℕ) → eqb n n ≡ true
     same n = grind (arith, nat_tests)
+
     scaled : (g : ℤ) × (pos 0 <ℤ g) × (g *ℤ surplus (scaled_row (row_at table row) column) (columns_of table - 1) point scale ≡ surplus (row_at table row) (columns_of table - 1) point scale) → surplus (scaled_row (row_at table row) column) (columns_of table - 1) point scale ≡ pos 0 → surplus (row_at table row) (columns_of table - 1) point scale ≡ pos 0
     scaled (g, above, e) s = sym e ∙ ap (λ x. g *ℤ x) s ∙ *ℤ-zero g
+
     go : (b : Bool) → b ≡ true → surplus (cond b (scaled_row (row_at table row) column) (cleared_row (row_at table row) (row_at table row) column)) (columns_of table - 1) point scale ≡ pos 0 → surplus (row_at table row) (columns_of table - 1) point scale ≡ pos 0
     go true e s = scaled (scaled_surplus (row_at table row) column (columns_of table - 1) point scale h.positive) s
     go false e s = absurd (clash e)
@@ -194,12 +198,15 @@ keeps_points table row column point scale is line real positive = (back, forth)
   where
     h : IsPivot table row column
     h = record { is_table = is; line = line; real = real; positive = positive }
+
     at : (other : ℕ) → MeetsLines (pivoted table row column) point scale → other < height_of table → surplus (new_row table row column other) (columns_of table - 1) point scale ≡ pos 0
     at other meets lt =
         sym (new_surplus table row column other point scale h (in_table table other lt)) ∙ meets other (subst (λ n. other < n) (sym (same_height table row column)) lt)
+
     back : MeetsLines (pivoted table row column) point scale → MeetsLines table point scale
     back meets other lt =
         line_back table row column other point scale h (in_table table other lt) (pivot_back table row column point scale h (at row meets line)) (at other meets lt)
+
     forth : MeetsLines table point scale → MeetsLines (pivoted table row column) point scale
     forth meets other lt =
         let lt' : other < height_of table = subst (λ n. other < n) (same_height table row column) lt in
@@ -214,15 +221,19 @@ keeps_surplus table row column other point scale is line real positive meets lt 
   where
     h : IsPivot table row column
     h = record { is_table = is; line = line; real = real; positive = positive }
+
     kept : surplus (new_row table row column other) (columns_of table - 1) point scale *ℤ (row_at table other).den ≡ surplus (row_at table other) (columns_of table - 1) point scale *ℤ (new_row table row column other).den
     kept = go (eqb other row) refl
       where
         same : (m n : ℕ) → eqb m n ≡ true → m ≡ n
         same m n t = grind (arith, nat_tests)
+
         nothing : (x y u v : ℤ) → x ≡ pos 0 → u ≡ pos 0 → x *ℤ y ≡ u *ℤ v
         nothing x y u v p q = ap (λ z. z *ℤ y) p ∙ zero-*ℤ y ∙ sym (zero-*ℤ v) ∙ ap (λ z. z *ℤ v) (sym q)
+
         old_met : other ≡ row → surplus (row_at table other) (columns_of table - 1) point scale ≡ pos 0
         old_met e = subst (λ i. surplus (row_at table i) (columns_of table - 1) point scale ≡ pos 0) (sym e) (meets row line)
+
         go : (b : Bool) → eqb other row ≡ b → surplus (cond b (scaled_row (row_at table row) column) (cleared_row (row_at table other) (row_at table row) column)) (columns_of table - 1) point scale *ℤ (row_at table other).den ≡ surplus (row_at table other) (columns_of table - 1) point scale *ℤ (cond b (scaled_row (row_at table row) column) (cleared_row (row_at table other) (row_at table row) column)).den
         go true e = nothing _ _ _ _ (scaled (scaled_surplus (row_at table row) column (columns_of table - 1) point scale positive)) (old_met (same other row e))
           where

@@ -1,16 +1,13 @@
 -- Laws of tables and of the pivot.
-use Rattle.std.proofs.Common.{◌≡◌, ℕ, zero, suc, ◌+◌, ◌-◌, ◌^◌, ◌<◌, ◌≤◌, ◌≢◌, Bool, true, false, cond, eqb, ℤ, pos, ◌<ℤ◌, List, length, get_or, Option, Some, None, option_map, unsigned_abs, refl, sym, ◌∙◌, ap, subst, arith}
-use Rattle.std.proofs.lemmas.Int.{ints}
-use Rattle.std.proofs.lemmas.Bool.Decides.{nat_tests}
-use Rattle.sums.specs.Places.{list_below, first_below}
-use Rattle.sums.proofs.Places.{length-list_below, get_or-list_below, nothing_at, all_nothing}
+use Rattle.std.proofs.Common.{◌≡◌, ℕ, ◌<◌, Bool, true, false, cond, eqb, pos, ◌<ℤ◌, List, length, Option, Some, None, option_map, unsigned_abs, refl, sym, ◌∙◌, ap, arith}
+use Rattle.sums.proofs.Places.{length-list_below, get_or-list_below, nothing_at}
 use Rattle.frac_row.specs.declared.row.FracRow.{FracRow}
 use Rattle.frac_row.specs.declared.growth.Growth.{Growth}
-use Rattle.frac_row.specs.Row.{number_of, width_of, IsRow, reduced}
-use Rattle.frac_row.specs.Combined.{combined_row, combination, factors_of, growth_by, growth_of}
+use Rattle.frac_row.specs.Row.{number_of, width_of, IsRow}
+use Rattle.frac_row.specs.Combined.{combined_row, combination, factors_of, growth_of}
 use Rattle.frac_row.proofs.Rows.{reduced_is_row, width_of-reduced}
 use Rattle.frac_row.proofs.Combinations.{factors_are, combination_is_row}
-use Rattle.row_store.specs.Table.{no_row, row_at, number_at, height_of, columns_of, IsTable}
+use Rattle.row_store.specs.Table.{no_row, row_at, number_at, columns_of, IsTable}
 use Rattle.row_store.specs.Pivot.{scaled_row, cleared_row, clearing_growth, new_row, pivoted, row_growth, pivot_growth}
 use Rattle.row_store.specs.declared.error.Place.{Place}
 
@@ -113,5 +110,6 @@ pivoted_is_table table row column h r some e = record {
     same_width_at : (other : ℕ) → other < length table → width_of (row_at (pivoted table row column) other) ≡ columns_of (pivoted table row column)
     same_width_at other lt =
         ap width_of (row_at-pivoted table row column other lt) ∙ width_of-new_row table row column other h r lt ∙ sym (columns_of-pivoted table row column h r)
+
     rows_at : (other : ℕ) → other < length table → IsRow (row_at (pivoted table row column) other)
     rows_at other lt = rw (row_at-pivoted table row column other lt) (new_row_is_row table row column other h r some e lt)

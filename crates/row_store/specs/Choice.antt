@@ -1,5 +1,5 @@
 -- Bland's rule: the entering column and the leaving row.
-use Rattle.std.specs.Prelude.{ℕ, ℤ, zero, suc, pos, ◌<◌, ◌<ℤ◌, Bool, true, false, ◌==◌, ◌&&◌, ◌||◌, nat_lt, int_lt, List, slice_index, unsigned_abs, Option, Some, None, option_map, if◌then◌else◌}
+use Rattle.std.specs.Prelude.{ℕ, ℤ, zero, suc, pos, Bool, true, false, ◌==◌, ◌&&◌, ◌||◌, nat_lt, int_lt, List, slice_index, unsigned_abs, Option, Some, None, option_map, if◌then◌else◌}
 use Rattle.std.specs.declared.cmp.Ordering.{Ordering}
 use Rattle.std.specs.declared.cmp.Ordering.TheVariants.{Less, Equal, Greater}
 use Rattle.sums.specs.Places.{first_below}

@@ -4,3 +4,4 @@ pub mod Pivot
 pub mod Choice
 pub mod PivotAnswers
 pub mod Points
+pub mod Small

@@ -1,5 +1,5 @@
 -- The pivot of a table, and the first place where it is outgrown.
-use Rattle.std.specs.Prelude.{ℕ, ◌==◌, List, length, unsigned_abs, Option, Some, None, option_map, if◌then◌else◌}
+use Rattle.std.specs.Prelude.{ℕ, ◌==◌, List, length, unsigned_abs, Option, None, option_map, if◌then◌else◌}
 use Rattle.sums.specs.Places.{list_below, first_below}
 use Rattle.frac_row.specs.declared.row.FracRow.{FracRow}
 use Rattle.frac_row.specs.declared.growth.Growth.{Growth}

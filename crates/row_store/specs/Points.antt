@@ -4,7 +4,7 @@ use Rattle.sums.specs.Below.{sum_below_ℤ}
 use Rattle.frac_row.specs.declared.row.FracRow.{FracRow}
 use Rattle.frac_row.specs.Row.{number_of}
 use Rattle.row_store.specs.Table.{row_at, number_at, height_of, columns_of, IsTable}
-use Rattle.row_store.specs.Pivot.{pivoted, new_row}
+use Rattle.row_store.specs.Pivot.{pivoted}
 
 -- what the first columns of a row come to at a point, less the number after them times the scale
 unfoldable pub surplus : FracRow → ℕ → (ℕ → ℤ) → ℤ → ℤ

@@ -35,7 +35,7 @@ unfoldable pub first_number : Rows → ℕ → ℕ → ℤ
 first_number rows row column =
     if nat_lt column rows.columns then first_amount rows row column
     else if nat_lt column (rows.columns + length rows.lines)
-        then (if column - rows.columns == row then pos 1 else pos 0)
+    then (if column - rows.columns == row then pos 1 else pos 0)
     else first_amount rows row rows.columns
 
 abbrev pub first_row : Rows → ℕ → FracRow

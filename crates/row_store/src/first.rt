@@ -94,5 +94,9 @@ fn cost(rows: &Rows, column: u32) -> i128
 {
     let costs = rows.costs.as_slice();
     let column = column as usize;
-    if column < costs.len() { costs[column] } else { 0 }
+    if column < costs.len() {
+        costs[column]
+    } else {
+        0
+    }
 }

@@ -1,10 +1,13 @@
 ghost use Rattle.std.specs.Prelude.{◌≡◌, ◌<◌, ◌^◌, pos, ◌<ℤ◌, None, length, IsTrue};
 ghost use Rattle.frac_row.specs.Row.{IsRow, IsSmall, number_of, width_of};
+ghost use Rattle.row_store.specs.Small.{IsSmallFor};
 ghost use Rattle.row_store.specs.Table.{IsTable, row_at, number_at, columns_of};
 ghost use Rattle.row_store.specs.Pivot.{scaled_row, cleared_row, clearing_growth, new_row, pivoted, row_growth, pivot_growth};
 
 use crate::error::Place;
-use frac_row::{FracRow, Factors, Growth, combine_in_place, growth_by, is_small, reduce};
+use frac_row::{
+    Factors, FracRow, Growth, combine_in_place, growth_by, is_small, is_small_beside, reduce,
+};
 
 /// The place of the first outgrown product or difference of a pivot.
 pub fn pivot_growth(rows: &[FracRow], row: u32, column: u32) -> Option<Place>
@@ -75,10 +78,24 @@ fn clearing_growth(
     if row.number(column) == 0 {
         return None;
     }
-    if is_pivot_small && is_small(row) {
+    let factors = Factors::between(row, pivot_row, column);
+    if is_pivot_small && is_row_small(&factors, row, pivot_row) {
         return None;
     }
-    growth_by(&Factors::between(row, pivot_row, column), row, pivot_row)
+    growth_by(&factors, row, pivot_row)
+}
+
+/// Whether what matters of a row is small. Mostly its own factor is 1, and then the pivot row's zeros need
+/// no look at the numbers beside them.
+fn is_row_small(factors: &Factors, row: &FracRow, pivot_row: &FracRow) -> bool
+    requires { width_of row.now ≡ width_of pivot_row.now }
+    ensures { IsTrue result → IsSmallFor factors.now row.now pivot_row.now }
+{
+    if factors.own == 1 {
+        is_small_beside(row, pivot_row)
+    } else {
+        is_small(row)
+    }
 }
 
 /// Takes away a row's number in the column. Nothing is outgrown on the way.

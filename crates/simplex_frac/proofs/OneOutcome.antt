@@ -1,5 +1,5 @@
 -- A run within a budget has one outcome.
-use Rattle.std.proofs.Common.{◌≡◌, ℕ, zero, suc, ◌+◌, ◌<◌, ◌≤◌, ◌≢◌, Bool, true, false, cond, eqb, List, Option, Some, None, ◌⊎◌, inl, inr, refl, sym, ◌∙◌, ap, subst, arith}
+use Rattle.std.proofs.Common.{◌≡◌, ℕ, zero, suc, ◌<◌, ◌≤◌, ◌≢◌, cond, eqb, List, Option, Some, None, ◌⊎◌, inl, inr, refl, sym, ◌∙◌, ap, subst, arith}
 use Rattle.std.specs.Prelude.{option_and_then}
 use Rattle.std.proofs.lemmas.Bool.{cases_lt}
 use Rattle.std.proofs.lemmas.Bool.Decides.{nat_tests}
@@ -7,7 +7,7 @@ use Rattle.frac_row.specs.declared.row.FracRow.{FracRow}
 use Rattle.row_store.specs.declared.error.Place.{Place}
 use Rattle.row_store.specs.Pivot.{pivot_growth}
 use Rattle.simplex_frac.specs.Run.{Tableau, turn, after_turn, unless_outgrown, next_tableau, stage}
-use Rattle.simplex_frac.specs.Outcomes.{TurnsAt, IsOutgrownAt, IsOutcome}
+use Rattle.simplex_frac.specs.Outcomes.{IsOutcome}
 use Rattle.simplex_frac.specs.Laws.{HasOneOutcome}
 use Rattle.simplex_frac.specs.declared.turn.Turn.{Turn}
 use Rattle.simplex_frac.specs.declared.turn.Turn.TheVariants as turns
@@ -29,8 +29,8 @@ reached_before first columns early zero now le e = (now, subst (λ k. stage firs
     none k le = omega arith
 reached_before first columns early (suc late) now le e =
     elim (cases_lt early (suc late)) [
-        inl lt ↦ let s : IsStep first columns late now = stage_step first columns late now e in reached_before first columns early late s.before (omega arith) s.reached
-        | inr ge ↦ let same : suc late ≡ early = omega arith in (now, subst (λ k. stage first columns k ≡ Some now) same e)
+      | inl lt ↦ let s : IsStep first columns late now = stage_step first columns late now e in reached_before first columns early late s.before (omega arith) s.reached
+      | inr ge ↦ let same : suc late ≡ early = omega arith in (now, subst (λ k. stage first columns k ≡ Some now) same e)
     ]
 
 none_some : {X : Type 0} {x : X} → None ≡ Some x → ⊥
@@ -39,27 +39,29 @@ none_some e = cc
 not_later : (first : List FracRow) (columns budget early late : ℕ) (one other : Tableau) → EndsAt first columns budget early one → EndsAt first columns budget late other → early < late → ⊥
 not_later first columns budget early late one other h k lt =
     elim h.last [
-        inl none ↦ beyond (reached_before first columns (suc early) late other lt k.reached) none
-        | inr spent ↦ past h.within k.within lt spent
+      | inl none ↦ beyond (reached_before first columns (suc early) late other lt k.reached) none
+      | inr spent ↦ past h.within k.within lt spent
     ]
   where
     past : early ≤ budget → late ≤ budget → early < late → early ≡ budget → ⊥
     past p q r e = omega arith
+
     beyond : (before : Tableau) × (stage first columns (suc early) ≡ Some before) → next_tableau columns one ≡ None → ⊥
     beyond (before, e) none = none_some (sym none ∙ ap (option_and_then (next_tableau columns)) (sym h.reached) ∙ e)
 
 same_end : (first : List FracRow) (columns budget early late : ℕ) (one other : Tableau) → EndsAt first columns budget early one → EndsAt first columns budget late other → (early ≡ late) × (one ≡ other)
 same_end first columns budget early late one other h k =
     elim (cases_lt early late) [
-        inl lt ↦ absurd (not_later first columns budget early late one other h k lt)
-        | inr ge ↦ elim (cases_lt late early) [
-            inl lt ↦ absurd (not_later first columns budget late early other one k h lt)
-            | inr le ↦ at_one (equal early late ge le)
-        ]
+      | inl lt ↦ absurd (not_later first columns budget early late one other h k lt)
+      | inr ge ↦ elim (cases_lt late early) [
+        | inl lt ↦ absurd (not_later first columns budget late early other one k h lt)
+        | inr le ↦ at_one (equal early late ge le)
+      ]
     ]
   where
     equal : (m n : ℕ) → n ≤ m → m ≤ n → m ≡ n
     equal m n p q = omega arith
+
     at_one : early ≡ late → (early ≡ late) × (one ≡ other)
     at_one e = (e, some_is _ _ (sym h.reached ∙ ap (stage first columns) e ∙ k.reached))
       where
@@ -137,6 +139,7 @@ pub has_one_outcome : HasOneOutcome
 has_one_outcome first columns budget table other_table outcome other h k =
     let a : IsEnd first columns budget table outcome = is_end first columns budget table outcome h in
     let b : IsEnd first columns budget other_table other = is_end first columns budget other_table other k in
-    let same : (a.pivots ≡ b.pivots) × (a.now ≡ b.now) = same_end first columns budget a.pivots b.pivots a.now b.now a.ends b.ends in
-    (a.same_outcome ∙ ap (λ n. by_turn budget n a.now (turn a.now columns)) same.0 ∙ ap (λ t. by_turn budget b.pivots t (turn t columns)) same.1 ∙ sym b.same_outcome,
-     a.same_table ∙ ap (λ t. t.table) same.1 ∙ sym b.same_table)
+    let same : (a.pivots ≡ b.pivots) × (a.now ≡ b.now) = same_end first columns budget a.pivots b.pivots a.now b.now a.ends b.ends in (
+      a.same_outcome ∙ ap (λ n. by_turn budget n a.now (turn a.now columns)) same.0 ∙ ap (λ t. by_turn budget b.pivots t (turn t columns)) same.1 ∙ sym b.same_outcome,
+      a.same_table ∙ ap (λ t. t.table) same.1 ∙ sym b.same_table,
+    )

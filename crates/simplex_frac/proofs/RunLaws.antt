@@ -1,9 +1,7 @@
 -- Proofs of the laws of the run.
-use Rattle.std.proofs.Common.{◌≡◌, ℕ, zero, suc, ◌+◌, ◌-◌, ◌<◌, ◌≤◌, ℤ, pos, ◌*ℤ◌, ◌<ℤ◌, List, length, set, Option, Some, None, refl, sym, ◌∙◌, ap, subst, arith, length-set}
+use Rattle.std.proofs.Common.{◌≡◌, ℕ, zero, suc, ◌+◌, ◌-◌, ◌<◌, ℤ, pos, ◌*ℤ◌, ◌<ℤ◌, List, length, set, Option, Some, None, refl, sym, ◌∙◌, ap, subst, arith, length-set}
 use Rattle.std.specs.Prelude.{◌↔◌, option_and_then}
-use Rattle.std.proofs.lemmas.Int.{ints}
 use lib.IntN.{*ℤ_comm}
-use Rattle.sums.specs.Places.{list_below}
 use Rattle.sums.proofs.Places.{length-list_below}
 use Rattle.sums.proofs.Integers.{*ℤ_assoc, *ℤ_left_comm, *ℤ_cancel}
 use Rattle.frac_row.specs.declared.row.FracRow.{FracRow}
@@ -11,7 +9,7 @@ use Rattle.row_store.specs.declared.error.Place.{Place}
 use Rattle.row_store.specs.Table.{row_at, height_of, columns_of, HasColumns, IsTable}
 use Rattle.row_store.specs.Pivot.{pivoted, pivot_growth}
 use Rattle.row_store.specs.Points.{surplus, MeetsLines}
-use Rattle.row_store.proofs.Tables.{pivoted_is_table, length-pivoted, columns_of-pivoted}
+use Rattle.row_store.proofs.Tables.{pivoted_is_table, length-pivoted}
 use Rattle.row_store.proofs.Points.{keeps_points, keeps_surplus}
 use Rattle.simplex_frac.specs.Run.{Tableau, first_tableau, turn, after_turn, unless_outgrown, next_tableau, stage}
 use Rattle.simplex_frac.specs.Laws.{RunKeepsPoints, RunKeepsSurplus, RunKeepsShape, KeepsShape}
@@ -35,14 +33,17 @@ stage_step first columns pivots now e = from_before (stage first columns pivots)
   where
     none_some : {X : Type 0} {x : X} → None ≡ Some x → ⊥
     none_some e = cc
+
     by_growth : (before : Tableau) (row column : ℕ) (o : Option Place) → pivot_growth before.table row column ≡ o → stage first columns pivots ≡ Some before → turn before columns ≡ Pivot row column → unless_outgrown before row column o ≡ Some now → IsStep first columns pivots now
     by_growth before row column None g s t e = record { before = before; row = row; column = column; reached = s; turns = t; fits = g; is = cc }
     by_growth before row column (Some place) g s t e = absurd (none_some e)
+
     by_turn : (before : Tableau) (does : Turn) → turn before columns ≡ does → stage first columns pivots ≡ Some before → after_turn before does ≡ Some now → IsStep first columns pivots now
     by_turn before Best t s e = absurd (none_some e)
     by_turn before NoPoint t s e = absurd (none_some e)
     by_turn before (Ray column) t s e = absurd (none_some e)
     by_turn before (Pivot row column) t s e = by_growth before row column (pivot_growth before.table row column) refl s t e
+
     from_before : (o : Option Tableau) → stage first columns pivots ≡ o → option_and_then (next_tableau columns) o ≡ Some now → IsStep first columns pivots now
     from_before None s e = absurd (none_some e)
     from_before (Some before) s e = by_turn before (turn before columns) refl s e
@@ -60,10 +61,10 @@ step_shape first columns pivots now s k =
     let place : IsPivotPlace s.before columns s.row s.column = pivot_place s.before columns s.row s.column s.turns in
     let lt : s.row < length s.before.table = in_table s.before.table s.row place.line in
     subst (KeepsShape first columns) (sym s.is) (record {
-        is_table = pivoted_is_table s.before.table s.row s.column k.is_table lt place.positive s.fits;
-        shape = columns_next s.before.table (pivoted s.before.table s.row s.column) columns s.row s.column k.is_table lt k.shape refl;
-        height = length-pivoted s.before.table s.row s.column ∙ k.height;
-        basis = length-set s.before.basis s.row s.column ∙ k.basis;
+      is_table = pivoted_is_table s.before.table s.row s.column k.is_table lt place.positive s.fits;
+      shape = columns_next s.before.table (pivoted s.before.table s.row s.column) columns s.row s.column k.is_table lt k.shape refl;
+      height = length-pivoted s.before.table s.row s.column ∙ k.height;
+      basis = length-set s.before.basis s.row s.column ∙ k.basis;
     })
 
 some_is : {X : Type 0} (x y : X) → Some x ≡ Some y → x ≡ y
@@ -121,7 +122,7 @@ run_keeps_surplus first columns (suc pivots) now point scale row is shape e meet
     let one = keeps_surplus s.before.table s.row s.column row point scale k.is_table place.line (real_column s.before.table columns s.column k.shape place.real) place.positive met (subst (λ n. row < n) (sym k.height) lt) in
     let wide : columns_of s.before.table - 1 ≡ columns_of first - 1 = same_columns s.before.table first columns k.shape shape k.height in
     let here : (surplus (row_at now.table row) (columns_of first - 1) point scale *ℤ (row_at s.before.table row).den) ≡ (surplus (row_at s.before.table row) (columns_of first - 1) point scale *ℤ (row_at now.table row).den) =
-        subst (λ t. (surplus (row_at t.table row) (columns_of first - 1) point scale *ℤ (row_at s.before.table row).den) ≡ (surplus (row_at s.before.table row) (columns_of first - 1) point scale *ℤ (row_at t.table row).den)) (sym s.is)
-        (subst (λ n. (surplus (row_at (pivoted s.before.table s.row s.column) row) n point scale *ℤ (row_at s.before.table row).den) ≡ (surplus (row_at s.before.table row) n point scale *ℤ (row_at (pivoted s.before.table s.row s.column) row).den)) wide one) in
+    subst (λ t. (surplus (row_at t.table row) (columns_of first - 1) point scale *ℤ (row_at s.before.table row).den) ≡ (surplus (row_at s.before.table row) (columns_of first - 1) point scale *ℤ (row_at t.table row).den)) (sym s.is)
+    (subst (λ n. (surplus (row_at (pivoted s.before.table s.row s.column) row) n point scale *ℤ (row_at s.before.table row).den) ≡ (surplus (row_at s.before.table row) n point scale *ℤ (row_at (pivoted s.before.table s.row s.column) row).den)) wide one) in
     joined _ _ _ _ _ _ (k.is_table.rows row (subst (λ n. row < n) (sym k.height) lt)).positive here
     (run_keeps_surplus first columns pivots s.before point scale row is shape s.reached meets lt)

@@ -1,15 +1,14 @@
 -- The run, stage by stage.
-use Rattle.std.proofs.Common.{◌≡◌, ℕ, zero, suc, ◌+◌, ◌-◌, ◌<◌, ◌≤◌, ℤ, pos, ◌<ℤ◌, List, length, set, Option, Some, None, refl, sym, ◌∙◌, ap, subst, arith, add-one, length-set}
+use Rattle.std.proofs.Common.{◌≡◌, ℕ, suc, ◌+◌, ◌-◌, ◌<◌, List, length, set, Some, None, sym, ◌∙◌, ap, arith, add-one, length-set}
 use Rattle.std.specs.Prelude.{option_and_then}
 use Rattle.sums.specs.Places.{list_below}
 use Rattle.frac_row.specs.declared.row.FracRow.{FracRow}
-use Rattle.row_store.specs.Table.{HasColumns, height_of, columns_of, IsTable}
+use Rattle.row_store.specs.Table.{HasColumns, height_of, IsTable}
 use Rattle.row_store.specs.Pivot.{pivoted, pivot_growth}
 use Rattle.row_store.proofs.Tables.{length-pivoted, columns_of-pivoted}
 use Rattle.simplex_frac.specs.Run.{Tableau, first_tableau, turn, after_turn, unless_outgrown, next_tableau, stage}
 use Rattle.simplex_frac.specs.Outcomes.{Reaches}
-use Rattle.simplex_frac.specs.declared.turn.Turn.{Turn}
-use Rattle.simplex_frac.specs.declared.turn.Turn.TheVariants.{Best, NoPoint, Ray, Pivot}
+use Rattle.simplex_frac.specs.declared.turn.Turn.TheVariants.{Pivot}
 
 pub reaches_first : (table : List FracRow) (columns : ℕ) (basis : List ℕ) (height : ℕ) → height + 2 ≡ length table → basis ≡ list_below (λ line. columns + line) height → Reaches table columns 0 table basis
 unfolding first_tableau
@@ -25,7 +24,7 @@ pub reaches_next : (first : List FracRow) (columns made : ℕ) (table after : Li
 reaches_next first columns made table after basis row column h t none e =
     let now : Tableau = record { table = table; basis = basis } in
     let step : stage first columns (suc made) ≡ Some (record { table = pivoted table row column; basis = set basis row column }) =
-        ap (option_and_then (next_tableau columns)) h.reached ∙ ap (after_turn now) (sym t) ∙ ap (unless_outgrown now row column) none in
+    ap (option_and_then (next_tableau columns)) h.reached ∙ ap (after_turn now) (sym t) ∙ ap (unless_outgrown now row column) none in
     record { reached = ap (stage first columns) (add-one made) ∙ step ∙ ap (λ x. Some (record { table = x; basis = set basis row column })) (sym e) }
 
 pub columns_next : (table after : List FracRow) (columns row column : ℕ) → IsTable table → row < length table → HasColumns table columns → after ≡ pivoted table row column → HasColumns after columns

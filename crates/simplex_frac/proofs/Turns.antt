@@ -1,5 +1,5 @@
 -- What the run does at a tableau, by the choices there.
-use Rattle.std.proofs.Common.{◌≡◌, ℕ, suc, ◌+◌, ◌-◌, ◌<◌, ◌≤◌, ◌≢◌, Bool, true, false, cond, eqb, ℤ, pos, ◌<ℤ◌, List, length, Option, Some, None, unsigned_abs, refl, sym, ◌∙◌, ap, subst, arith}
+use Rattle.std.proofs.Common.{◌≡◌, ℕ, ◌+◌, ◌-◌, ◌<◌, ◌≢◌, Bool, true, false, cond, eqb, ℤ, pos, ◌<ℤ◌, List, length, Option, Some, None, unsigned_abs, refl, sym, ◌∙◌, ap, subst, arith}
 use Rattle.std.proofs.lemmas.Int.{ints}
 use Rattle.std.proofs.lemmas.Bool.Decides.{nat_tests}
 use Rattle.frac_row.specs.declared.row.FracRow.{FracRow}
@@ -63,9 +63,11 @@ pivot_place now columns row column e = by_entering (entering now.table columns) 
           real = subst (λ c. c < columns) same_column (entering_is now.table columns entered p).0;
           positive = subst (λ c. pos 0 <ℤ number_at now.table row c) same_column (subst (λ r. pos 0 <ℤ number_at now.table r entered) same_row is.1);
         }
+
     by_test : (b : Bool) → cond b Best NoPoint ≡ Pivot row column → ⊥
     by_test true q = cc
     by_test false q = cc
+
     by_entering : (o : Option ℕ) → entering now.table columns ≡ o → turn_by now o ≡ Pivot row column → IsPivotPlace now columns row column
     by_entering None p q = absurd (by_test (eqb (unsigned_abs (right_side now.table (phase_row now.table))) 0) q)
     by_entering (Some entered) p q = by_leaving entered (leaving now.table now.basis entered) refl p q

@@ -2,7 +2,7 @@
 use Rattle.std.specs.Prelude.{ℕ, ◌<◌, ◌≤◌, ◌≡◌, List, Some}
 use Rattle.frac_row.specs.declared.row.FracRow.{FracRow}
 use Rattle.row_store.specs.Pivot.{pivot_growth}
-use Rattle.simplex_frac.specs.Run.{Tableau, turn, stage}
+use Rattle.simplex_frac.specs.Run.{turn, stage}
 use Rattle.simplex_frac.specs.declared.turn.Turn.{Turn}
 use Rattle.simplex_frac.specs.declared.turn.Turn.TheVariants as turns
 use Rattle.simplex_frac.specs.declared.outcome.Outcome.{Outcome}

@@ -6,24 +6,20 @@ ghost use Rattle.simplex_frac.specs.Laws.{HasOneOutcome, RunKeepsPoints, RunKeep
 /// first table.
 pub fn run_keeps_points()
     ensures { RunKeepsPoints }
-{
-}
+{}
 
 /// For a point that meets the lines the surplus of each row over its denominator stays, so that the cost
 /// row of every table tells what the point costs.
 pub fn run_keeps_surplus()
     ensures { RunKeepsSurplus }
-{
-}
+{}
 
 /// Each table of the run has the first one's shape, and its basis a column for each line.
 pub fn run_keeps_shape()
     ensures { RunKeepsShape }
-{
-}
+{}
 
 /// A run within a budget has one outcome, so that `solve` answers each one exactly where its cause holds.
 pub fn has_one_outcome()
     ensures { HasOneOutcome }
-{
-}
+{}

@@ -1,9 +1,9 @@
 -- The greatest common divisor: the search finds the one that Euclid's algorithm finds.
-use Rattle.std.proofs.Common.{◌≡◌, ℕ, zero, suc, ◌+◌, ◌*◌, ◌%◌, ◌<◌, ◌≤◌, ◌&&◌, Bool, true, false, cond, eqb, refl, sym, ◌∙◌, ap, subst, arith, inl, inr, ◌⊎◌}
+use Rattle.std.proofs.Common.{◌≡◌, ℕ, zero, suc, ◌+◌, ◌%◌, ◌<◌, ◌≤◌, ◌&&◌, Bool, true, false, cond, eqb, refl, sym, ◌∙◌, ap, subst, arith, inl, inr}
 use Prim.Native.Nat.{◌∣◌}
 use native.Mathlib.Nat.{eq-zero_of_zero-dvd}
 use Rattle.std.specs.Int.{IsGcd}
-use Rattle.std.proofs.lemmas.Nat.Gcd.{IsGcd-from_zero, IsGcd-from_mod, IsGcd-swap, same_from_IsGcd, le_of_dvd, dvd_refl, dvd-zero, dvd_trans, dvd_antisymm, dvd_of_mod-eq-zero, mod-eq-zero_of_dvd}
+use Rattle.std.proofs.lemmas.Nat.Gcd.{IsGcd-from_zero, IsGcd-from_mod, same_from_IsGcd, le_of_dvd, dvd_refl, dvd_trans, dvd_of_mod-eq-zero, mod-eq-zero_of_dvd}
 use Rattle.std.proofs.lemmas.Nat.{mod_below}
 use Rattle.std.proofs.lemmas.Bool.{cases_lt}
 use Rattle.std.proofs.lemmas.Bool.Decides.{nat_tests}
@@ -36,14 +36,15 @@ found a b g zero h some le = absurd (omega arith)
 found a b g (suc n) h some le =
     by_test (eqb (a % suc n) 0 && eqb (b % suc n) 0) (suc n) (greatest_divisor a b n) g
     (λ t.
-        let zeros : (a % suc n ≡ 0) × (b % suc n ≡ 0) = no_remainders _ _ t in
-        let divides : suc n ∣ g = h.2 (suc n) (dvd_of_mod-eq-zero (suc n) zeros.0) (dvd_of_mod-eq-zero (suc n) zeros.1) in
-        let no_more : suc n ≤ g = le_of_dvd some divides in
-        omega arith)
+    let zeros : (a % suc n ≡ 0) × (b % suc n ≡ 0) = no_remainders _ _ t in
+    let divides : suc n ∣ g = h.2 (suc n) (dvd_of_mod-eq-zero (suc n) zeros.0) (dvd_of_mod-eq-zero (suc n) zeros.1) in
+    let no_more : suc n ≤ g = le_of_dvd some divides in
+    omega arith)
     (λ t. found a b g n h some (less g n (λ e. different t (subst (λ k. (eqb (a % k) 0 && eqb (b % k) 0) ≡ true) e (both_zero (a % g) (b % g) (mod-eq-zero_of_dvd g h.0) (mod-eq-zero_of_dvd g h.1)))) le))
   where
     different : {c : Bool} → c ≡ false → c ≡ true → ⊥
     different p q = cc
+
     less : (g n : ℕ) → (g ≡ suc n → ⊥) → g ≤ suc n → g ≤ n
     less g n ne le = omega arith
 
@@ -121,6 +122,6 @@ gcd_below_one d f k zero e le = subst (λ i. gcd_below d f i ≡ 1) (none k le) 
     none k le = omega arith
 gcd_below_one d f k (suc n) e le =
     elim (cases_lt k (suc n)) [
-        inl lt ↦ ap (λ g. gcd g (f n)) (gcd_below_one d f k n e (omega arith)) ∙ gcd-one (f n)
-        | inr ge ↦ let same : k ≡ suc n = omega arith in subst (λ i. gcd_below d f i ≡ 1) same e
+      | inl lt ↦ ap (λ g. gcd g (f n)) (gcd_below_one d f k n e (omega arith)) ∙ gcd-one (f n)
+      | inr ge ↦ let same : k ≡ suc n = omega arith in subst (λ i. gcd_below d f i ≡ 1) same e
     ]

@@ -20,20 +20,24 @@ pub filled_more : {X : Type 0} (d : X) (f : ℕ → X) (old new : List X) (n : �
 filled_more {X} d f old new n x h lt e = record {
   same_length = length-set new n x ∙ h.same_length;
   filled = λ k below. elim (cases_lt k n) [
-      inl less ↦ get_or-set_other new n k x d (differs_below k less) ∙ h.filled k less
-      | inr ge ↦ here k (equal k below ge)
+    | inl less ↦ get_or-set_other new n k x d (differs_below k less) ∙ h.filled k less
+    | inr ge ↦ here k (equal k below ge)
   ];
   kept = λ k ge. get_or-set_other new n k x d (differs_above k ge) ∙ h.kept k (omega arith);
 }
   where
     differs_below : (k : ℕ) → k < n → k ≢ n
     differs_below k less = omega arith
+
     differs_above : (k : ℕ) → n + 1 ≤ k → k ≢ n
     differs_above k ge = omega arith
+
     equal : (k : ℕ) → k < n + 1 → n ≤ k → k ≡ n
     equal k below ge = omega arith
+
     within : n < length new
     within = rw h.same_length lt
+
     here : (k : ℕ) → k ≡ n → get_or (set new n x) k d ≡ f k
     here k same = subst (λ i. get_or (set new n x) i d ≡ f i) (sym same) (get_or-set_same new n x d within ∙ e)
 
@@ -52,8 +56,8 @@ first_kept f k zero x e le = subst (λ i. first_below f i ≡ Some x) (none k le
     none k le = omega arith
 first_kept f k (suc n) x e le =
     elim (cases_lt k (suc n)) [
-        inl lt ↦ or_else-some _ _ x (first_kept f k n x e (omega arith))
-        | inr ge ↦ let same : k ≡ suc n = omega arith in subst (λ i. first_below f i ≡ Some x) same e
+      | inl lt ↦ or_else-some _ _ x (first_kept f k n x e (omega arith))
+      | inr ge ↦ let same : k ≡ suc n = omega arith in subst (λ i. first_below f i ≡ Some x) same e
     ]
 
 -- the first place that gives something decides
@@ -65,13 +69,14 @@ pub nothing_at : {X : Type 0} (f : ℕ → Option X) (n k : ℕ) → first_below
 nothing_at f zero k e lt = absurd (omega arith)
 nothing_at f (suc n) k e lt =
     elim (cases_lt k n) [
-        inl less ↦ nothing_at f n k (left (first_below f n) (f n) e) less
-        | inr ge ↦ let same : k ≡ n = omega arith in subst (λ i. f i ≡ None) (sym same) (right (first_below f n) (f n) e)
+      | inl less ↦ nothing_at f n k (left (first_below f n) (f n) e) less
+      | inr ge ↦ let same : k ≡ n = omega arith in subst (λ i. f i ≡ None) (sym same) (right (first_below f n) (f n) e)
     ]
   where
     left : {X : Type 0} (o p : Option X) → or_else o p ≡ None → o ≡ None
     left None p e = refl
     left (Some x) p e = cc
+
     right : {X : Type 0} (o p : Option X) → or_else o p ≡ None → p ≡ None
     right None p e = e
     right (Some x) p e = cc
@@ -97,5 +102,6 @@ filled_kept {X} d f old new n h e = record {
   where
     equal : (k : ℕ) → k < n + 1 → n ≤ k → k ≡ n
     equal k below ge = omega arith
+
     here : (k : ℕ) → k ≡ n → get_or new k d ≡ f k
     here k same = subst (λ i. get_or new i d ≡ f i) (sym same) (h.kept n (omega arith) ∙ e)

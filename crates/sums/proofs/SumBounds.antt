@@ -1,5 +1,5 @@
 -- Bounds of sums below a bound.
-use Rattle.std.proofs.Common.{◌≡◌, ℕ, zero, suc, ◌+◌, ◌<◌, ◌≤◌, ℤ, pos, unsigned_abs, refl, sym, subst, arith, inl, inr}
+use Rattle.std.proofs.Common.{◌≡◌, ℕ, zero, suc, ◌<◌, ◌≤◌, ℤ, unsigned_abs, sym, subst, arith, inl, inr}
 use Rattle.std.proofs.lemmas.Int.{ints}
 use Rattle.std.proofs.lemmas.Bool.{cases_lt}
 use Rattle.sums.specs.Below.{sum_below, sum_below_ℤ}
@@ -9,8 +9,8 @@ pub sum_below-le : (f : ℕ → ℕ) (m n : ℕ) → m ≤ n → sum_below f m �
 sum_below-le f m zero le = let e : m ≡ 0 = omega arith in subst (λ k. sum_below f k ≤ 0) (sym e) (omega arith)
 sum_below-le f m (suc n) le =
     elim (cases_lt m (suc n)) [
-        inl lt ↦ let less : sum_below f m ≤ sum_below f n = sum_below-le f m n (omega arith) in omega arith
-        | inr ge ↦ let e : m ≡ suc n = omega arith in subst (λ k. sum_below f k ≤ sum_below f (suc n)) (sym e) (omega arith)
+      | inl lt ↦ let less : sum_below f m ≤ sum_below f n = sum_below-le f m n (omega arith) in omega arith
+      | inr ge ↦ let e : m ≡ suc n = omega arith in subst (λ k. sum_below f k ≤ sum_below f (suc n)) (sym e) (omega arith)
     ]
 
 -- no term is greater than the sum

@@ -1,4 +1,4 @@
-use Rattle.std.proofs.Common.{◌≡◌, ℤ, pos, arith, rules, sym, ◌∙◌, ap, subst, get_or, to_z, of_z}
+use Rattle.std.proofs.Common.{pos, arith, rules, sym, ◌∙◌, ap, subst, get_or}
 use Rattle.std.proofs.lemmas.Int.{to_z-of_z}
 use mir.Val.{SFits}
 use mir.Syntax.{w128}

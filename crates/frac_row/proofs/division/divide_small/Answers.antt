@@ -1,6 +1,5 @@
-use Rattle.std.proofs.Common.{◌≡◌, rules, arith, ℤ, pos, ◌+ℤ◌, ◌*ℤ◌, to_z, of_z, sym, ◌∙◌, ap}
-use Rattle.std.specs.Prelude.{int_div, FitsSigned}
-use Rattle.std.proofs.lemmas.Int.{ints, to_z-of_z, quot_rem_is, quot_fits}
+use Rattle.std.proofs.Common.{◌≡◌, rules, ℤ, ◌+ℤ◌, ◌*ℤ◌, to_z, of_z, ◌∙◌, ap}
+use Rattle.std.proofs.lemmas.Int.{to_z-of_z, quot_rem_is, quot_fits}
 use mir.Val.{SFits}
 use mir.Syntax.{w64, w128}
 use Rattle.frac_row.proofs.division.divide_small.Goals as goal

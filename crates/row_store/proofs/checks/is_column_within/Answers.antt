@@ -1,11 +1,10 @@
-use Rattle.std.proofs.Common.{ℕ, ◌≡◌, ◌+◌, ◌<◌, ◌≤◌, ◌-◌, ◌^◌, ℤ, pos, suc, rules, arith, sym, ◌∙◌, ap, get_or, unsigned_abs, true, false, length}
+use Rattle.std.proofs.Common.{ℕ, ◌≡◌, ◌+◌, ◌<◌, ◌≤◌, ◌-◌, ◌^◌, suc, rules, arith, ◌∙◌, ap, unsigned_abs, true, false, length}
 use Rattle.std.proofs.lemmas.Int.{to_z-of_z}
-use Rattle.std.proofs.lemmas.List.{get_or_read}
 use mir.Val.{SFits}
 use mir.Syntax.{w128}
 use Rattle.sums.specs.Below.{sum_below}
 use Rattle.sums.proofs.SumBounds.{sum_below-le}
-use Rattle.row_store.specs.Problem.{entry, IsColumnWithin}
+use Rattle.row_store.specs.Problem.{entry}
 use Rattle.row_store.proofs.checks.is_column_within.Goals as goal
 
 past : (f : ℕ → ℕ) (k n sum size : ℕ) → sum ≡ sum_below f k → size ≡ f k → k < n → 2 ^ 127 - 1 < sum + size → sum_below f n ≤ 2 ^ 127 - 1 → ⊥

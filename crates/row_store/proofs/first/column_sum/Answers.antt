@@ -1,5 +1,4 @@
 use Rattle.std.proofs.Common.{◌≡◌, ℤ, ◌+ℤ◌, FitsSigned, rules, arith, sym, ◌∙◌, ap, subst, suc, to_z, of_z, add-one}
-use Rattle.std.specs.Prelude.{length}
 use Rattle.std.proofs.lemmas.Int.{ints, to_z-of_z}
 use mir.Val.{SFits}
 use mir.Syntax.{w128}

@@ -1,5 +1,5 @@
-use Rattle.std.proofs.Common.{◌≡◌, ◌≤◌, unsigned_abs}
-use Rattle.sums.specs.Below.{sum_below, sum_below_ℤ}
+use Rattle.std.proofs.Common.{◌≡◌}
+use Rattle.sums.specs.Below.{sum_below_ℤ}
 use Rattle.row_store.specs.Problem.{entry}
 use Rattle.row_store.proofs.first.column_sum.Given as goal
 

@@ -1,4 +1,4 @@
-use Rattle.std.proofs.Common.{◌≡◌, rules, arith, sym, ◌∙◌, ap}
+use Rattle.std.proofs.Common.{rules, ◌∙◌, ap}
 use Rattle.sums.specs.Places.{list_below}
 use Rattle.sums.proofs.Places.{list_below-push}
 use Rattle.row_store.specs.Problem.{first_row, first_table}

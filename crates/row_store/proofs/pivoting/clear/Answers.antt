@@ -1,4 +1,4 @@
-use Rattle.std.proofs.Common.{◌≡◌, ◌≢◌, pos, ℤ, arith, rules, sym, ◌∙◌, ap, of_z}
+use Rattle.std.proofs.Common.{◌≢◌, pos, arith, ◌∙◌, ap, of_z}
 use mir.Syntax.{w128}
 use Rattle.std.proofs.lemmas.Int.{ints}
 use Rattle.frac_row.specs.Row.{number_of, reduced}

@@ -1,4 +1,4 @@
-use Rattle.std.proofs.Common.{◌≡◌, arith, rules, sym, ◌∙◌, ap}
+use Rattle.std.proofs.Common.{arith, sym, ◌∙◌}
 use Rattle.row_store.proofs.Pivots.{pivot_growth_found, pivot_growth_none}
 use Rattle.row_store.proofs.pivoting.pivot_growth.Goals as goal
 

@@ -1,8 +1,8 @@
-use Rattle.std.proofs.Common.{◌≡◌, ℕ, ◌<◌, ◌≢◌, Bool, false, eqb, List, get_or, length, arith, rules, sym, ◌∙◌, ap, set}
+use Rattle.std.proofs.Common.{◌≡◌, ℕ, ◌<◌, ◌≢◌, false, eqb, List, get_or, length, arith, rules, ◌∙◌, ap}
 use Rattle.std.proofs.lemmas.List.{get_or_read}
 use Rattle.sums.proofs.Places.{filled_none, filled_more, filled_all}
 use Rattle.row_store.specs.Table.{no_row, row_at}
-use Rattle.row_store.specs.Pivot.{scaled_row, cleared_row, clearing_growth, pivoted}
+use Rattle.row_store.specs.Pivot.{clearing_growth, pivoted}
 use Rattle.std.proofs.lemmas.Bool.Decides.{nat_tests}
 use Rattle.sums.specs.Places.{IsFilledBelow}
 use Rattle.frac_row.specs.declared.row.FracRow.{FracRow}
@@ -32,10 +32,10 @@ pub loop-other-preserved : goal.loop-other-preserved
 loop-other-preserved c =
     let within : c.loop-other.other < length c.args.rows.now.items = search rules in
     elim c.if-other-row.branch [
-        then-other-row w ↦ rw w.rows-is (filled_more _ _ _ _ _ _ c.loop-other.invariant within
-            (w.scale.ensures ∙ new_row_scaled c.args.rows.now.items c.args.row c.args.column c.loop-other.other _ w.if-other-row.true (still _ _ _ _ _ c.loop-other.invariant within w.index_mut.ensures.value)))
-        | else-other-row w ↦ rw w.rows-is (filled_more _ _ _ _ _ _ c.loop-other.invariant within
-            (w.clear.ensures ∙ new_row_cleared c.args.rows.now.items c.args.row c.args.column c.loop-other.other _ _ w.if-other-row.false (still _ _ _ _ _ c.loop-other.invariant within w.index_mut-else-other-row.ensures.value) c.requires.pivot_row))
+      | then-other-row w ↦ rw w.rows-is (filled_more _ _ _ _ _ _ c.loop-other.invariant within
+          (w.scale.ensures ∙ new_row_scaled c.args.rows.now.items c.args.row c.args.column c.loop-other.other _ w.if-other-row.true (still _ _ _ _ _ c.loop-other.invariant within w.index_mut.ensures.value)))
+      | else-other-row w ↦ rw w.rows-is (filled_more _ _ _ _ _ _ c.loop-other.invariant within
+          (w.clear.ensures ∙ new_row_cleared c.args.rows.now.items c.args.row c.args.column c.loop-other.other _ _ w.if-other-row.false (still _ _ _ _ _ c.loop-other.invariant within w.index_mut-else-other-row.ensures.value) c.requires.pivot_row))
     ]
 
 pub returns : goal.returns

@@ -1,4 +1,4 @@
-use Rattle.std.proofs.Common.{◌≡◌, ◌≢◌, arith, rules, sym, ◌∙◌, ap, option_map}
+use Rattle.std.proofs.Common.{◌≡◌, arith, rules, ◌∙◌, ap, option_map}
 use Rattle.std.proofs.lemmas.List.{get_or_read}
 use Rattle.row_store.specs.Table.{no_row, row_at}
 use Rattle.row_store.specs.Pivot.{clearing_growth}

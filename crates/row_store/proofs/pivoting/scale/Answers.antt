@@ -1,8 +1,8 @@
-use Rattle.std.proofs.Common.{◌≡◌, pos, arith, rules, sym, ◌∙◌, ap}
+use Rattle.std.proofs.Common.{rules, ◌∙◌, ap}
 use Rattle.std.proofs.lemmas.Int.{to_z-of_z}
 use mir.Val.{SFits}
 use mir.Syntax.{w128}
-use Rattle.frac_row.specs.Row.{number_of, reduced}
+use Rattle.frac_row.specs.Row.{reduced}
 use Rattle.row_store.specs.Pivot.{scaled_row}
 use Rattle.row_store.proofs.pivoting.scale.Goals as goal
 

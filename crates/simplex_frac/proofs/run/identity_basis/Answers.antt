@@ -1,4 +1,4 @@
-use Rattle.std.proofs.Common.{◌≡◌, refl, rules, sym, ◌∙◌}
+use Rattle.std.proofs.Common.{refl, ◌∙◌}
 use Rattle.sums.proofs.Places.{list_below-push}
 use Rattle.simplex_frac.proofs.run.identity_basis.Goals as goal
 

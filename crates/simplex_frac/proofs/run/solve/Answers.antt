@@ -1,10 +1,10 @@
-use Rattle.std.proofs.Common.{◌≡◌, ◌+◌, ◌<◌, rules, arith, refl, sym, ◌∙◌, ap}
+use Rattle.std.proofs.Common.{◌≡◌, ◌+◌, arith, refl, sym, ◌∙◌, ap}
 use Rattle.std.specs.Prelude.{length, None}
 use Rattle.sums.specs.Places.{list_below}
 use Rattle.sums.proofs.Places.{length-list_below}
-use Rattle.row_store.specs.Table.{HasColumns, height_of, columns_of, IsTable}
+use Rattle.row_store.specs.Table.{IsTable}
 use Rattle.row_store.specs.Pivot.{pivot_growth}
-use Rattle.simplex_frac.specs.Run.{Tableau, turn}
+use Rattle.simplex_frac.specs.Run.{turn}
 use Rattle.row_store.proofs.Tables.{length-pivoted}
 use Rattle.simplex_frac.proofs.Turns.{IsPivotPlace, pivot_place}
 use Rattle.simplex_frac.proofs.Stages.{reaches_first, reaches_next, columns_next, lines_next}
@@ -19,9 +19,12 @@ loop-made-init g c = record {
 }
 
 pub returns-in_default-clause-stopped : goal.returns-in_default-clause-stopped
-returns-in_default-clause-stopped g c =
-    (0, list_below (λ line. c.args.columns + line) c.height.result, omega arith,
-     reaches_first (g.R.RowStore.content c.args.store.now) c.args.columns (list_below (λ line. c.args.columns + line) c.height.result) c.height.result c.height.ensures refl)
+returns-in_default-clause-stopped g c = (
+  0,
+  list_below (λ line. c.args.columns + line) c.height.result,
+  omega arith,
+  reaches_first (g.R.RowStore.content c.args.store.now) c.args.columns (list_below (λ line. c.args.columns + line) c.height.result) c.height.result c.height.ensures refl,
+)
 
 pub pivot-requires-clause-row : goal.pivot-requires-clause-row
 pivot-requires-clause-row g c =

@@ -1,8 +1,6 @@
-use Rattle.std.proofs.Common.{◌≡◌, ◌≢◌, ◌-◌, pos, rules, arith, sym, ◌∙◌, ap, subst, of_z}
+use Rattle.std.proofs.Common.{arith, sym, ◌∙◌, ap, of_z}
 use Rattle.std.proofs.lemmas.Int.{ints}
 use mir.Syntax.{w128}
-use Rattle.row_store.specs.Table.{number_at, right_side, phase_row, columns_of, height_of}
-use Rattle.simplex_frac.specs.Run.{Tableau}
 use Rattle.simplex_frac.proofs.Turns.{turn_best, turn_no_point, turn_entered, entering_below, same_side}
 use Rattle.simplex_frac.proofs.turn.next_turn.Goals as goal
 

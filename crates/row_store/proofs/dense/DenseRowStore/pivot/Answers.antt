@@ -1,4 +1,4 @@
-use Rattle.std.proofs.Common.{◌≡◌, rules, sym, ◌∙◌}
+use Rattle.std.proofs.Common.{◌≡◌, rules}
 use Rattle.std.specs.Prelude.{None}
 use Rattle.row_store.specs.Pivot.{pivot_growth}
 use Rattle.row_store.proofs.Tables.{pivoted_is_table}

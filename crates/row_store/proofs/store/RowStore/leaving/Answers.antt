@@ -1,8 +1,7 @@
-use Rattle.std.proofs.Common.{◌≡◌, arith, rules, sym, ◌∙◌, ap, to_z, of_z, option_map}
+use Rattle.std.proofs.Common.{◌≡◌, arith, rules, sym, ◌∙◌, option_map}
 use Rattle.std.proofs.lemmas.Int.{to_z-of_z}
 use mir.Val.{SFits}
 use mir.Syntax.{w128}
-use Rattle.row_store.specs.Table.{number_at}
 use Rattle.row_store.proofs.Choices.{best_is, best_more, leaving_from}
 use Rattle.row_store.proofs.store.RowStore.leaving.Goals as goal
 
