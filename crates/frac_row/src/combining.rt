@@ -1,6 +1,6 @@
-ghost use Rattle.std.specs.Prelude.{◌≡◌, ◌<◌, ◌≤◌, ◌-◌, ◌^◌, ◌↔◌, ℕ, ℤ, pos, ◌<ℤ◌, length, slice_index_or, unsigned_abs, None, IfOk, IfErr, IsTrue};
+ghost use Rattle.std.specs.Prelude.{◌≡◌, ◌<◌, ◌^◌, ℕ, ℤ, pos, ◌<ℤ◌, length, slice_index_or, None, IfOk, IfErr, IsTrue};
 ghost use Rattle.sums.specs.Places.{list_below};
-ghost use Rattle.frac_row.specs.Row.{IsRow, IsSmall, number_of, width_of, reduced};
+ghost use Rattle.frac_row.specs.Row.{IsRow, number_of, width_of, reduced};
 ghost use Rattle.frac_row.specs.Combined.{combined_number, combination, combined_row, PlaceFits, growth_by, growth_of};
 ghost use Rattle.frac_row.specs.Combine.{IsCombineError};
 

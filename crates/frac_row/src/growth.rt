@@ -1,5 +1,5 @@
 ghost use Rattle.std.specs.Prelude.{◌≡◌, ◌<◌, ◌^◌, true, false, ◌-ℤ◌, ◌*ℤ◌, MatchOption};
-ghost use Rattle.frac_row.specs.Outgrown.{is_outgrown, IsWithin};
+ghost use Rattle.frac_row.specs.Outgrown.{is_outgrown};
 ghost use Rattle.frac_row.specs.Row.{width_of};
 ghost use Rattle.frac_row.specs.Combined.{place_growth, growth_by};
 

@@ -1,6 +1,6 @@
 ghost use Rattle.std.specs.Prelude.{◌≡◌, ◌<ℤ◌, pos, length, slice_index_or, int_div};
 ghost use Rattle.sums.specs.Places.{list_below};
-ghost use Rattle.frac_row.specs.Row.{IsRow, common_divisor, divided, reduced};
+ghost use Rattle.frac_row.specs.Row.{IsRow, common_divisor, reduced};
 
 use crate::division::divide;
 use crate::divisor::gcd;

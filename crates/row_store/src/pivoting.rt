@@ -2,7 +2,7 @@ ghost use Rattle.std.specs.Prelude.{◌≡◌, ◌<◌, ◌^◌, pos, ◌<ℤ◌
 ghost use Rattle.frac_row.specs.Row.{IsRow, IsSmall, number_of, width_of};
 ghost use Rattle.row_store.specs.Small.{IsSmallFor};
 ghost use Rattle.row_store.specs.Table.{IsTable, row_at, number_at, columns_of};
-ghost use Rattle.row_store.specs.Pivot.{scaled_row, cleared_row, clearing_growth, new_row, pivoted, row_growth, pivot_growth};
+ghost use Rattle.row_store.specs.Pivot.{scaled_row, cleared_row, clearing_growth, pivoted, row_growth, pivot_growth};
 
 use crate::error::Place;
 use frac_row::{

@@ -1,4 +1,4 @@
-ghost use Rattle.std.specs.Prelude.{◌≡◌, ◌+◌, ◌<◌, ◌≤◌, ℕ, List, ℤ, pos, ◌<ℤ◌, None, Some, length, IfOk, OnErr, IfErr};
+ghost use Rattle.std.specs.Prelude.{◌≡◌, ◌+◌, ◌<◌, ◌≤◌, List, ℤ, pos, ◌<ℤ◌, None, Some, length, IfOk, OnErr, IfErr};
 ghost use Rattle.frac_row.specs.declared.row.FracRow.{FracRow};
 ghost use Rattle.row_store.specs.Table.{IsTable, number_at, row_at, columns_of, height_of, HasColumns};
 ghost use Rattle.row_store.specs.Problem.{IsProblem, first_table};

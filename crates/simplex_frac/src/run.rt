@@ -1,7 +1,6 @@
 ghost use Rattle.std.specs.Prelude.{◌≡◌, ◌+◌, ◌<◌, ◌^◌, length, IfOk, OnErr};
 ghost use Rattle.sums.specs.Places.{list_below};
-ghost use Rattle.row_store.specs.Table.{HasColumns, height_of};
-ghost use Rattle.simplex_frac.specs.Run.{first_tableau};
+ghost use Rattle.row_store.specs.Table.{HasColumns};
 ghost use Rattle.simplex_frac.specs.Outcomes.{IsOutcome, IsStage};
 ghost use Rattle.simplex_frac.specs.Ends.{end_of};
 

@@ -1,6 +1,3 @@
-ghost use Rattle.std.specs.Prelude.{IfOk};
-ghost use Rattle.row_store.specs.Table.{HasColumns, IsTable};
-
 use crate::{Outcome, solve};
 use entries::Entries;
 use row_store::{Dense, RowStore, Rows, is_problem};

@@ -1,4 +1,4 @@
-ghost use Rattle.std.specs.Prelude.{◌≡◌, ◌+◌, length};
+ghost use Rattle.std.specs.Prelude.{◌≡◌, length};
 ghost use Rattle.row_store.specs.Table.{HasColumns, height_of};
 ghost use Rattle.simplex_frac.specs.declared.turn.Turn.{Turn};
 ghost use Rattle.simplex_frac.specs.Run.{turn};
