@@ -1,5 +1,5 @@
 -- Records that read as costs keep what costs keep.
-use Rattle.std.proofs.Common.{◌≡◌, ◌<◌, ◌&&◌, ℕ, false, not, neg_ℤ, List, [], ◌∷◌, ◌++◌, length, map, Ok, refl, subst}
+use Rattle.std.proofs.Common.{◌≡◌, ◌&&◌, ℕ, false, not, neg_ℤ, List, [], ◌∷◌, ◌++◌, length, map, Ok, refl, subst}
 use Rattle.std.specs.List.{list_any}
 use Rattle.std.specs.Str.{is_utf8}
 use Rattle.csv_fields.specs.Name.{name_of}

@@ -1,5 +1,5 @@
 -- Records that read as fleets keep what fleets keep.
-use Rattle.std.proofs.Common.{◌≡◌, ◌<◌, ◌&&◌, ℕ, false, not, nat_le, List, [], ◌∷◌, ◌++◌, length, map, Ok, refl, subst}
+use Rattle.std.proofs.Common.{◌≡◌, ◌&&◌, ℕ, false, not, nat_le, List, [], ◌∷◌, ◌++◌, length, map, Ok, refl, subst}
 use Rattle.std.specs.Str.{is_utf8}
 use Rattle.csv_fields.specs.Name.{name_of}
 use Rattle.fleet_model.specs.declared.limits.TheConstants.{MAX_AIRCRAFT, MAX_FLEETS, MAX_GROUND_MINUTES}

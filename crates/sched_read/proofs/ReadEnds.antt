@@ -1,5 +1,5 @@
 -- Five files read as tables, or they have a first fault.
-use Rattle.std.proofs.Common.{◌≡◌, ◌≢◌, ◌⊎◌, ℕ, List, [], ◌∷◌, length, map, refl, ap, subst, inl, inr}
+use Rattle.std.proofs.Common.{◌⊎◌, ℕ, List, [], ◌∷◌, length, map, refl, subst, inl, inr}
 use Rattle.std.proofs.lemmas.List.{length-map}
 use Rattle.csv_fields.specs.Record.{records_of}
 use Rattle.fleet_model.specs.Limits.{AreCosts, AreLegs, AreSettings, AreThroughs}
@@ -10,7 +10,6 @@ use Rattle.fleet_model.specs.declared.parts.Settings.{Settings}
 use Rattle.fleet_model.specs.declared.parts.Station.{Station}
 use Rattle.fleet_model.specs.declared.parts.Through.{Through}
 use Rattle.fleet_model.specs.declared.refusals.TableFile.TheVariants as file
-use Rattle.fleet_model.specs.declared.tables.Tables.{Tables}
 use Rattle.fleet_tables.specs.Costs.{cost_header, cost_read, pair_of}
 use Rattle.fleet_tables.specs.Fleets.{fleet_header, fleet_name_of, fleet_read}
 use Rattle.fleet_tables.proofs.CostsFit.{costs_keep}

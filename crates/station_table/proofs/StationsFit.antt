@@ -1,5 +1,5 @@
 -- Records that read as stations keep what stations keep.
-use Rattle.std.proofs.Common.{◌≡◌, ◌<◌, ◌&&◌, ℕ, false, not, nat_le, List, [], ◌∷◌, ◌++◌, length, map, Ok, refl, subst}
+use Rattle.std.proofs.Common.{◌≡◌, ◌&&◌, ℕ, false, not, nat_le, List, [], ◌∷◌, ◌++◌, length, map, Ok, refl, subst}
 use Rattle.std.specs.Str.{is_utf8}
 use Rattle.csv_fields.specs.Flag.{yes_no_of}
 use Rattle.csv_fields.specs.Name.{station_code_of}

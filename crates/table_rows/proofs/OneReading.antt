@@ -4,7 +4,7 @@ use Rattle.std.proofs.lemmas.Slice.Eq.{bytes_eq-Decides}
 use Rattle.std.proofs.lemmas.Bool.{cases_lt}
 use mathlib.Core.Bool.{false≢true}
 use Rattle.std.proofs.lemmas.List.{length-append, take_all, take_more, take_more_same}
-use Rattle.table_rows.specs.Rows.{BadBelowHeader, Fields, FrontReads, IsUnder, LacksHeader, RowsBad, RowsRead, TableBad, TableReads, row_at}
+use Rattle.table_rows.specs.Rows.{Fields, FrontReads, IsUnder, LacksHeader, RowsBad, RowsRead, TableBad, TableReads, row_at}
 use Rattle.fleet_model.specs.declared.refusals.TheConstants.{WRONG_HEADER}
 use Rattle.table_rows.proofs.FrontReading.{front_none, front_push}
 

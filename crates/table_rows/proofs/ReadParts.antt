@@ -1,15 +1,15 @@
 -- What a record has where it reads: each step of its reading answered.
-use Rattle.std.proofs.Common.{◌≡◌, ◌≤◌, ◌<◌, ◌&&◌, ◌==◌, nat_le, ℕ, ℤ, pos, unsigned_abs, Bool, true, false, not, List, [], ◌∷◌, length, Option, Some, None, Result, Ok, Err, bytes_eq, All, refl, sym, ap, ◌∙◌, arith}
-use Rattle.std.specs.Prelude.{◌≤ℤ◌, ⊤}
+use Rattle.std.proofs.Common.{◌≡◌, ◌≤◌, ◌<◌, ◌==◌, nat_le, ℕ, ℤ, pos, unsigned_abs, Bool, true, false, List, length, Option, Some, None, Result, Ok, Err, refl, arith}
+use Rattle.std.specs.Prelude.{◌≤ℤ◌}
 use Rattle.std.proofs.lemmas.Bool.Decides.{Decides-by_and, nat_tests}
 use Rattle.std.proofs.lemmas.Int.{ints}
 use Rattle.csv_fields.specs.declared.fault.FieldFault.{FieldFault}
 use Rattle.csv_fields.specs.Name.{name_of, station_code_of}
 use Rattle.csv_fields.specs.Number.{number_of as number_written, whole_of, within}
-use Rattle.csv_fields.specs.Time.{clock_time_of, number_at}
+use Rattle.csv_fields.specs.Time.{clock_time_of}
 use Rattle.entries.specs.Names.{IsName, IsNameByte, IsStationCode, is_name_byte}
 use Rattle.std.specs.Char.{IsAsciiUppercase, is_ascii_uppercase}
-use Rattle.std.specs.List.{list_all, position}
+use Rattle.std.specs.List.{list_all}
 use Rattle.std.specs.Bool.{Decides}
 use Rattle.table_rows.specs.Fields.{as_natural, known, natural_of, of_width, refused_where, well_formed}
 use Rattle.table_rows.specs.Names.{number_of}
