@@ -1,4 +1,4 @@
-ghost use Rattle.std.specs.Prelude.{◌≡◌, IfOk, MatchResult};
+ghost use Rattle.std.specs.Prelude.{IfOk, MatchResult};
 ghost use Rattle.csv_fields.specs.Record.{records_of};
 ghost use Rattle.fleet_model.specs.Limits.{AreFleets};
 ghost use Rattle.fleet_model.specs.declared.refusals.TableFile.TheVariants as file;

@@ -1,7 +1,7 @@
 //! The table of stations.
 #![tactic(auto)]
 
-ghost use Rattle.std.specs.Prelude.{◌≡◌, IfOk, MatchResult};
+ghost use Rattle.std.specs.Prelude.{IfOk, MatchResult};
 ghost use Rattle.csv_fields.specs.Record.{records_of};
 ghost use Rattle.fleet_model.specs.Limits.{AreStations};
 ghost use Rattle.fleet_model.specs.declared.refusals.TableFile.TheVariants as file;
