@@ -1,6 +1,7 @@
 pub mod Aloft
 pub mod Costs
 pub mod Counts
+pub mod Kept
 pub mod Laws
 pub mod Legal
 pub mod Limits

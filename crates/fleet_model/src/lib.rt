@@ -4,6 +4,7 @@
 pub mod access;
 pub mod assignments;
 pub mod costs;
+pub mod kept;
 pub mod laws;
 pub mod limits;
 pub mod parts;
@@ -13,6 +14,7 @@ pub mod times;
 
 pub use assignments::Assignment;
 pub use costs::Costs;
+pub use kept::Step;
 pub use parts::{Connection, Fleet, Leg, Pair, PairCost, Settings, Station, Through};
 pub use refusals::{BadInput, LoadError, TableFile};
 pub use tables::Tables;
