@@ -1,0 +1,3 @@
+pub mod Bound
+pub mod Prices
+pub mod Worth

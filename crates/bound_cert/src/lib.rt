@@ -1,0 +1,8 @@
+//! Bounds and their proofs: prices, the bound that they give, trees of subproblems, and the text of a proof.
+#![tactic(auto)]
+
+pub mod prices;
+pub mod trees;
+
+pub use prices::{PriceStep, Prices};
+pub use trees::{Cause, Tree};

@@ -1,0 +1,26 @@
+use entries::Entries;
+
+/// A change of a fleet's price at a station: from this minute on it is `value`, until the next step.
+#[derive(Clone, Copy, Debug, PartialEq, Eq)]
+pub struct PriceStep {
+    /// The fleet, by its number.
+    pub fleet: u32,
+    /// The station, by its number.
+    pub station: u32,
+    /// The minute, counted from the day start.
+    pub minute: u16,
+    /// The price, in cost units over the scale.
+    pub value: i128,
+}
+
+/// Dual prices of a subproblem's constraints: for each fleet what an aircraft at a station is worth, minute by
+/// minute, and what the use of an aircraft costs (Hane and others 1995: balance and count).
+#[derive(Debug, Drop)]
+pub struct Prices {
+    /// What all numbers here are over, 1 or more.
+    pub scale: i128,
+    /// For each fleet, from the first on, the rent of an aircraft; 0 where the list is shorter.
+    pub rents: Entries<i128>,
+    /// The steps of the prices; a price is 0 before the first step of its fleet and station.
+    pub steps: Entries<PriceStep>,
+}
