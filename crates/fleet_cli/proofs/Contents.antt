@@ -6,7 +6,7 @@ use Rattle.fleet_model.specs.declared.tables.Tables.{Tables}
 use Rattle.sched_read.specs.Reading.{Reads}
 use Rattle.fleet_cli.specs.Answer.{Answers, JudgesContents, JudgesPlan, RefusesPlan, judge_files}
 use Rattle.fleet_cli.specs.Words.{judge}
-use Rattle.fleet_cli.specs.declared.answers.Answer.{Answer}
+use Rattle.fleet_cli.specs.declared.answer.Answer.{Answer}
 use Rattle.entries.specs.declared.memory.NoMemory.{NoMemory}
 use Rattle.plan_desk.specs.Desk.{Files}
 use Rattle.fleet_cli.specs.Gathered.{AllHeld, contents_of}
@@ -16,23 +16,23 @@ pub content_at : (contents : List (Vec ℕ Global)) (k : ℕ) (vector : Vec ℕ 
     → slice_index_or (contents_of contents) k [] ≡ slice
 content_at contents k vector slice within found is = rw (is, get_or-map (λ (v : Vec ℕ Global). v.items) contents k vector [] within) (ap (λ (v : Vec ℕ Global). v.items) (sym found))
 
-pub judged : (contents : List (List ℕ)) (settings : Settings) (tables : Tables) (s f l c t p : List ℕ) (code : ℕ) (text : List ℕ)
+pub judged : (contents : List (List ℕ)) (settings : Settings) (tables : Tables) (s f l c t p : List ℕ) (answer : Answer)
     → slice_index_or contents 0 [] ≡ s → slice_index_or contents 1 [] ≡ f → slice_index_or contents 2 [] ≡ l → slice_index_or contents 3 [] ≡ c → slice_index_or contents 4 [] ≡ t → slice_index_or contents 5 [] ≡ p
-    → Reads (record { stations = s; fleets = f; legs = l; costs = c; throughs = t }) settings tables → RefusesPlan tables p code text ⊎ JudgesPlan tables p code text
-    → JudgesContents settings contents code text
-judged contents settings tables s f l c t p code text es ef el ec et ep reads answers =
+    → Reads (record { stations = s; fleets = f; legs = l; costs = c; throughs = t }) settings tables → RefusesPlan tables p answer ⊎ JudgesPlan tables p answer
+    → JudgesContents settings contents answer
+judged contents settings tables s f l c t p answer es ef el ec et ep reads answers =
     inr (record { tables = tables; reads = rw (es, ef, el, ec, et) reads; answers = rw ep answers })
 
 pub judged_if : (r : Result Answer NoMemory) (contents : List (List ℕ)) (settings : Settings) (tables : Tables) (s f l c t p : List ℕ)
     → slice_index_or contents 0 [] ≡ s → slice_index_or contents 1 [] ≡ f → slice_index_or contents 2 [] ≡ l → slice_index_or contents 3 [] ≡ c → slice_index_or contents 4 [] ≡ t → slice_index_or contents 5 [] ≡ p
     → Reads (record { stations = s; fleets = f; legs = l; costs = c; throughs = t }) settings tables
-    → IfOk r (λ answer. RefusesPlan tables p answer.status.code answer.text.items ⊎ JudgesPlan tables p answer.status.code answer.text.items)
-    → IfOk r (λ answer. JudgesContents settings contents answer.status.code answer.text.items)
-judged_if (Ok answer) contents settings tables s f l c t p es ef el ec et ep reads answers = judged contents settings tables s f l c t p _ _ es ef el ec et ep reads answers
+    → IfOk r (λ answer. RefusesPlan tables p answer ⊎ JudgesPlan tables p answer)
+    → IfOk r (λ answer. JudgesContents settings contents answer)
+judged_if (Ok answer) contents settings tables s f l c t p es ef el ec et ep reads answers = judged contents settings tables s f l c t p _ es ef el ec et ep reads answers
 judged_if (Err e) contents settings tables s f l c t p es ef el ec et ep reads answers = tt
 
 -- what a desk that may not tell answers, where the six files were read
-pub told_judged : (told : Option Files) (dir : List ℕ) (settings : Settings) (contents : List (List ℕ)) (code : ℕ) (text : List ℕ) → IfSome told (λ held. AllHeld held dir judge_files contents)
-    → JudgesContents settings contents code text → IfSome told (λ held. Answers held (Some (judge dir settings)) code text)
-told_judged None dir settings contents code text held answers = tt
-told_judged (Some files) dir settings contents code text held answers = inr (record { contents = contents; held = held; answers = answers })
+pub told_judged : (told : Option Files) (dir : List ℕ) (settings : Settings) (contents : List (List ℕ)) (answer : Answer) → IfSome told (λ held. AllHeld held dir judge_files contents)
+    → JudgesContents settings contents answer → IfSome told (λ held. Answers held (Some (judge dir settings)) answer)
+told_judged None dir settings contents answer held answers = tt
+told_judged (Some files) dir settings contents answer held answers = inr (record { contents = contents; held = held; answers = answers })

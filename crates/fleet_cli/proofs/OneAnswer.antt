@@ -7,99 +7,94 @@ use Rattle.fleet_model.specs.declared.tables.Tables.{Tables}
 use Rattle.fleet_model.specs.Legal.{total_cost}
 use Rattle.plan_desk.specs.Desk.{Files}
 use Rattle.plan_desk.specs.Sink.{output_with}
+use Rattle.plan_desk.specs.declared.file.DeskFile.{DeskFile}
 use Rattle.plan_judge.specs.declared.verdicts.Verdict.TheVariants as verdict
 use Rattle.plan_judge.proofs.OneVerdict.{one_verdict}
 use Rattle.plan_text.proofs.ReadOrNot.{reads_or_not}
 use Rattle.sched_read.proofs.ReadLaws as tables
 use Rattle.sched_read.specs.Reading.{TableBytes}
 use Rattle.fleet_cli.proofs.OneGathering.{held_or_too_long, one_holding, one_too_long}
-use Rattle.fleet_cli.specs.Answer.{Answers, AnswersPlan, JudgesContents, JudgesFiles, JudgesPlan, RefusesLength, RefusesPlan, RefusesTables, judge_files, plan_bytes, table_bytes, verdict_status}
+use Rattle.fleet_cli.specs.Answer.{Answers, AnswersContents, AnswersPlan, JudgesContents, JudgesPlan, RefusesLength, RefusesPlan, RefusesTables, judge_files, plan_bytes, says, table_bytes, verdict_status}
 use Rattle.fleet_cli.specs.Gathered.{AllHeld, FirstTooLong}
-use Rattle.fleet_cli.specs.Run.{AnswersExactly, HoldsLegal}
-use Rattle.fleet_cli.specs.declared.status.TheConstants.{DONE}
-use Rattle.fleet_cli.specs.Laws.{SameAnswer}
+use Rattle.fleet_cli.specs.Laws.{IsFixed}
+use Rattle.fleet_cli.specs.Run.{AnswersExactly, IsComplete, LegalThere}
+use Rattle.fleet_cli.specs.declared.answer.Answer.{Answer}
+use Rattle.fleet_cli.specs.declared.status.TheConstants.{BAD_INPUT, DONE}
 use Rattle.fleet_cli.specs.Texts.{bad_input_text, verdict_text}
 use Rattle.fleet_cli.specs.Words.{Asked, judge}
 
-module _ (code other : ℕ) (text other_text : List ℕ) where
+module _ (answer other : Answer) where
   module _ (t : Tables) (bytes : List ℕ) where
-    refuses_plan : RefusesPlan t bytes code text → RefusesPlan t bytes other other_text → SameAnswer code other text other_text
+    refuses_plan : RefusesPlan t bytes answer → RefusesPlan t bytes other → answer ≡ other
     refuses_plan x y =
         let same = (reads_or_not t (records_of bytes)).one_fault x.row x.kind y.row y.kind x.bad y.bad in
-        record { code_is = x.code_is ∙ sym y.code_is; text_is = x.text_is ∙ rw (same.0, same.1) refl ∙ sym y.text_is }
+        x.is ∙ rw (same.0, same.1) refl ∙ sym y.is
 
-    judges_plan : JudgesPlan t bytes code text → JudgesPlan t bytes other other_text → SameAnswer code other text other_text
+    judges_plan : JudgesPlan t bytes answer → JudgesPlan t bytes other → answer ≡ other
     judges_plan x y =
         let plans = (reads_or_not t (records_of bytes)).one_plan x.plan y.plan x.reads y.reads in
         let verdicts = one_verdict t y.plan x.verdict y.verdict (rw plans at x.judged) y.judged in
-        record {
-          code_is = x.code_is ∙ ap verdict_status verdicts ∙ sym y.code_is;
-          text_is = x.text_is ∙ ap (λ plan. verdict_text t plan x.verdict) plans ∙ ap (λ v. verdict_text t y.plan v) verdicts ∙ sym y.text_is;
-        }
+        x.is ∙ ap (λ plan. says (verdict_status x.verdict) (verdict_text t plan x.verdict)) plans ∙ ap (λ v. says (verdict_status v) (verdict_text t y.plan v)) verdicts ∙ sym y.is
 
-    never : {code code' : ℕ} {text text' : List ℕ} → RefusesPlan t bytes code text → JudgesPlan t bytes code' text' → ⊥
+    never : {a b : Answer} → RefusesPlan t bytes a → JudgesPlan t bytes b → ⊥
     never x y = (reads_or_not t (records_of bytes)).not_both y.plan x.row x.kind y.reads x.bad
 
-    plan_answer : RefusesPlan t bytes code text ⊎ JudgesPlan t bytes code text → RefusesPlan t bytes other other_text ⊎ JudgesPlan t bytes other other_text → SameAnswer code other text other_text
+    plan_answer : RefusesPlan t bytes answer ⊎ JudgesPlan t bytes answer → RefusesPlan t bytes other ⊎ JudgesPlan t bytes other → answer ≡ other
     plan_answer (inl x) (inl y) = refuses_plan x y
     plan_answer (inl x) (inr y) = absurd (never x y)
     plan_answer (inr x) (inl y) = absurd (never y x)
     plan_answer (inr x) (inr y) = judges_plan x y
 
   module _ (settings : Settings) where
-    refuses_tables : (bytes : TableBytes) → RefusesTables bytes settings code text → RefusesTables bytes settings other other_text → SameAnswer code other text other_text
+    pub refuses_tables : (bytes : TableBytes) → RefusesTables bytes settings answer → RefusesTables bytes settings other → answer ≡ other
     refuses_tables bytes x y =
         let same = tables.one_first_fault bytes settings x.file y.file x.row y.row x.kind y.kind x.bad y.bad in
-        record {
-          code_is = x.code_is ∙ sym y.code_is;
-          text_is = x.text_is ∙ rw (same.file_is, same.row_is, same.kind_is) refl ∙ sym y.text_is;
-        }
+        x.is ∙ rw (same.file_is, same.row_is, same.kind_is) refl ∙ sym y.is
 
-    answers_plan : (bytes : TableBytes) (plan : List ℕ) → AnswersPlan bytes settings plan code text → AnswersPlan bytes settings plan other other_text → SameAnswer code other text other_text
+    answers_plan : (bytes : TableBytes) (plan : List ℕ) → AnswersPlan bytes settings plan answer → AnswersPlan bytes settings plan other → answer ≡ other
     answers_plan bytes plan x y =
         let same = tables.one_reading bytes settings x.tables y.tables x.reads y.reads in
-        plan_answer y.tables plan (subst (λ t. RefusesPlan t plan code text ⊎ JudgesPlan t plan code text) same x.answers) y.answers
+        plan_answer y.tables plan (subst (λ t. RefusesPlan t plan answer ⊎ JudgesPlan t plan answer) same x.answers) y.answers
 
-    contents_answer : (contents : List (List ℕ)) → JudgesContents settings contents code text → JudgesContents settings contents other other_text → SameAnswer code other text other_text
-    contents_answer contents (inl x) (inl y) = refuses_tables (table_bytes contents) x y
-    contents_answer contents (inl x) (inr y) = absurd (tables.reads_no_fault (table_bytes contents) settings y.tables x.file x.row x.kind y.reads x.bad)
-    contents_answer contents (inr x) (inl y) = absurd (tables.reads_no_fault (table_bytes contents) settings x.tables y.file y.row y.kind x.reads y.bad)
-    contents_answer contents (inr x) (inr y) = answers_plan (table_bytes contents) (plan_bytes contents) x y
+    judges_contents : (contents : List (List ℕ)) → JudgesContents settings contents answer → JudgesContents settings contents other → answer ≡ other
+    judges_contents contents (inl x) (inl y) = refuses_tables (table_bytes contents) x y
+    judges_contents contents (inl x) (inr y) = absurd (tables.reads_no_fault (table_bytes contents) settings y.tables x.file x.row x.kind y.reads x.bad)
+    judges_contents contents (inr x) (inl y) = absurd (tables.reads_no_fault (table_bytes contents) settings x.tables y.file y.row y.kind x.reads y.bad)
+    judges_contents contents (inr x) (inr y) = answers_plan (table_bytes contents) (plan_bytes contents) x y
 
-    module _ (held : Files) (dir : List ℕ) where
-      abbrev TooLong : ℕ → List ℕ → Type 0
-      TooLong code text = RefusesLength (FirstTooLong held dir judge_files) code text
+  -- files that are read are too long or hold one list of contents, so answers by contents are fixed by it
+  module _ (held : Files) (dir : List ℕ) (names : List DeskFile) (by_contents : List (List ℕ) → Answer → Type 0) where
+    abbrev TooLong : Answer → Type 0
+    TooLong a = RefusesLength (FirstTooLong held dir names) a
 
-      abbrev Judged : ℕ → List ℕ → Type 0
-      Judged code text = JudgesFiles (AllHeld held dir judge_files) settings code text
+    abbrev Answered : Answer → Type 0
+    Answered a = AnswersContents (AllHeld held dir names) by_contents a
 
-      files_answer : TooLong code text ⊎ Judged code text → TooLong other other_text ⊎ Judged other other_text → SameAnswer code other text other_text
-      files_answer (inl x) (inl y) =
-          let same = one_too_long held dir judge_files x.file y.file x.longer y.longer in
-          record { code_is = x.code_is ∙ sym y.code_is; text_is = x.text_is ∙ ap (λ f. bad_input_text f 0 TOO_LONG) same ∙ sym y.text_is }
-      files_answer (inl x) (inr y) = absurd (held_or_too_long held dir judge_files x.file y.contents x.longer y.held)
-      files_answer (inr x) (inl y) = absurd (held_or_too_long held dir judge_files y.file x.contents y.longer x.held)
-      files_answer (inr x) (inr y) =
-          let same = one_holding held dir judge_files x.contents y.contents x.held y.held in
-          contents_answer y.contents (subst (λ c. JudgesContents settings c code text) same x.answers) y.answers
+    pub files_answer : ((contents : List (List ℕ)) → by_contents contents answer → by_contents contents other → answer ≡ other) → TooLong answer ⊎ Answered answer → TooLong other ⊎ Answered other → answer ≡ other
+    files_answer fixed (inl x) (inl y) =
+        let same = one_too_long held dir names x.file y.file x.longer y.longer in
+        x.is ∙ ap (λ f. says BAD_INPUT (bad_input_text f 0 TOO_LONG)) same ∙ sym y.is
+    files_answer fixed (inl x) (inr y) = absurd (held_or_too_long held dir names x.file y.contents x.longer y.held)
+    files_answer fixed (inr x) (inl y) = absurd (held_or_too_long held dir names y.file x.contents y.longer x.held)
+    files_answer fixed (inr x) (inr y) =
+        let same = one_holding held dir names x.contents y.contents x.held y.held in
+        fixed y.contents (subst (λ c. by_contents c answer) same x.answers) y.answers
 
-pub one_answer : (held : Files) (asked : Option Asked) (code other : ℕ) (text other_text : List ℕ)
-    → Answers held asked code text → Answers held asked other other_text → SameAnswer code other text other_text
-one_answer held None code other text other_text x y = record { code_is = x.0 ∙ sym y.0; text_is = x.1 ∙ sym y.1 }
-one_answer held (Some (judge dir settings)) code other text other_text x y = files_answer code other text other_text settings held dir x y
+pub one_answer : (held : Files) (asked : Option Asked) (answer other : Answer) → Answers held asked answer → Answers held asked other → IsFixed asked other → answer ≡ other
+one_answer held None answer other x y fixed = x ∙ sym y
+one_answer held (Some (judge dir settings)) answer other x y fixed = files_answer answer other held dir judge_files (JudgesContents settings) (judges_contents answer other settings) x y
 
 -- what was put is the definition's answer
-pub exactly : (told : Option Files) (asked : Option Asked) (code : ℕ) (text : List ℕ) (status : ℕ) (before after : Option (List ℕ)) → IfSome told (λ held. Answers held asked code text)
-    → status ≡ code → after ≡ output_with before text → IfSome told (λ held. AnswersExactly held asked status before after)
-exactly None asked code text status before after answers is put = tt
-exactly (Some held) asked code text status before after answers is put = λ right wanted wants.
-    let same = one_answer held asked code right text wanted answers wants in
-    record { code_is = is ∙ same.code_is; put = put ∙ ap (output_with before) same.text_is }
+pub exactly : (told : Option Files) (asked : Option Asked) (answer : Answer) (code : ℕ) (before after : Option (List ℕ)) → IfSome told (λ held. Answers held asked answer)
+    → code ≡ answer.status.code → after ≡ output_with before answer.text → IfSome told (λ held. AnswersExactly held asked code before after)
+exactly None asked answer code before after answers is put = tt
+exactly (Some held) asked answer code before after answers is put = λ other wanted fixed.
+    let same = one_answer held asked answer other answers wanted fixed in
+    record { code_is = is ∙ ap (λ (a : Answer). a.status.code) same; put = put ∙ ap (λ (a : Answer). output_with before a.text) same }
 
 -- a legal plan is answered as one
-legal_answer : (held : Files) (asked : Option Asked) → HoldsLegal held asked → (text : List ℕ) × Answers held asked DONE text
-legal_answer held None legal = absurd legal
-legal_answer held (Some (judge dir settings)) legal =
+legal_answer : (held : Files) (dir : List ℕ) (settings : Settings) → LegalThere held dir settings → (text : List ℕ) × Answers held (Some (judge dir settings)) (says DONE text)
+legal_answer held dir settings legal =
     let right = verdict.Legal (total_cost legal.tables legal.plan) in (
       verdict_text legal.tables legal.plan right,
       inr (record {
@@ -108,14 +103,18 @@ legal_answer held (Some (judge dir settings)) legal =
         answers = inr (record {
           tables = legal.tables;
           reads = legal.reads;
-          answers = inr (record { plan = legal.plan; verdict = right; reads = legal.plan_reads; judged = (legal.legal, refl); code_is = refl; text_is = refl });
+          answers = inr (record { plan = legal.plan; verdict = right; reads = legal.plan_reads; judged = (legal.legal, refl); is = refl });
         });
       }),
     )
 
-pub complete : (told : Option Files) (asked : Option Asked) (code : ℕ) (text : List ℕ) (status : ℕ) → IfSome told (λ held. Answers held asked code text) → status ≡ code
-    → IfSome told (λ held. HoldsLegal held asked → status ≡ DONE)
-complete None asked code text status answers is = tt
-complete (Some held) asked code text status answers is = λ legal.
-    let right = legal_answer held asked legal in
-    is ∙ (one_answer held asked code DONE text right.0 answers right.1).code_is
+complete_there : (held : Files) (asked : Option Asked) (answer : Answer) → Answers held asked answer → IsComplete held asked answer.status.code
+complete_there held None answer answers = tt
+complete_there held (Some (judge dir settings)) answer answers = λ legal.
+    let right = legal_answer held dir settings legal in
+    ap (λ (a : Answer). a.status.code) (one_answer held (Some (judge dir settings)) answer (says DONE right.0) answers right.1 tt)
+
+pub complete : (told : Option Files) (asked : Option Asked) (answer : Answer) (code : ℕ) → IfSome told (λ held. Answers held asked answer) → code ≡ answer.status.code
+    → IfSome told (λ held. IsComplete held asked code)
+complete None asked answer code answers is = tt
+complete (Some held) asked answer code answers is = rw is (complete_there held asked answer answers)

@@ -1,4 +1,4 @@
--- The program's answer to its words, by what files hold: a status and a text. One case for each command.
+-- The program's answer to its words, by what files hold. One case for each command.
 use Rattle.std.specs.Prelude.{◌≡◌, ◌⊎◌, ℕ, List, [], ◌∷◌, slice_index_or, Option, Some, None, ⊤}
 use Rattle.csv_fields.specs.Record.{records_of}
 use Rattle.fleet_model.specs.declared.parts.Settings.{Settings}
@@ -16,7 +16,12 @@ use Rattle.sched_read.specs.Reading.{BadAt, Reads, TableBytes}
 use Rattle.fleet_cli.specs.Gathered.{AllHeld, FirstTooLong, StandThere}
 use Rattle.fleet_cli.specs.Texts.{bad_input_text, desk_file_of, plan_refused_text, usage_text, verdict_text}
 use Rattle.fleet_cli.specs.Words.{Asked, judge}
+use Rattle.fleet_cli.specs.declared.answer.Answer.{Answer}
 use Rattle.fleet_cli.specs.declared.status.TheConstants.{BAD_INPUT, DONE, REFUSED, USAGE}
+
+-- a status and a text, and no file
+abbrev pub says : ℕ → List ℕ → Answer
+says code text = record { status = record { code = code }; text = text; files = [] }
 
 -- the files that judging reads, in their order
 abbrev pub judge_files : List DeskFile
@@ -42,69 +47,65 @@ verdict_status (verdict.Unbalanced f s came left) = REFUSED
 verdict_status (verdict.TooMany f used has) = REFUSED
 
 -- the plan's text has a first fault
-pub record RefusesPlan (t : Tables) (bytes : List ℕ) (code : ℕ) (text : List ℕ) : Type 0 where
+pub record RefusesPlan (t : Tables) (bytes : List ℕ) (answer : Answer) : Type 0 where
   pub row : ℕ
   pub kind : ℕ
   pub bad : PlanBad t (records_of bytes) row kind
-  pub code_is : code ≡ REFUSED
-  pub text_is : text ≡ plan_refused_text row kind
+  pub is : answer ≡ says REFUSED (plan_refused_text row kind)
 
 -- the plan reads and has its verdict
-pub record JudgesPlan (t : Tables) (bytes : List ℕ) (code : ℕ) (text : List ℕ) : Type 0 where
+pub record JudgesPlan (t : Tables) (bytes : List ℕ) (answer : Answer) : Type 0 where
   pub plan : List ℕ
   pub verdict : Verdict
   pub reads : PlanReads t (records_of bytes) plan
   pub judged : IsVerdict t plan verdict
-  pub code_is : code ≡ verdict_status verdict
-  pub text_is : text ≡ verdict_text t plan verdict
+  pub is : answer ≡ says (verdict_status verdict) (verdict_text t plan verdict)
 
 -- the tables have a first fault
-pub record RefusesTables (bytes : TableBytes) (settings : Settings) (code : ℕ) (text : List ℕ) : Type 0 where
+pub record RefusesTables (bytes : TableBytes) (settings : Settings) (answer : Answer) : Type 0 where
   pub file : TableFile
   pub row : ℕ
   pub kind : ℕ
   pub bad : BadAt bytes settings file row kind
-  pub code_is : code ≡ BAD_INPUT
-  pub text_is : text ≡ bad_input_text (desk_file_of file) row kind
+  pub is : answer ≡ says BAD_INPUT (bad_input_text (desk_file_of file) row kind)
 
 -- the tables read, and the plan is answered on them
-pub record AnswersPlan (bytes : TableBytes) (settings : Settings) (plan : List ℕ) (code : ℕ) (text : List ℕ) : Type 0 where
+pub record AnswersPlan (bytes : TableBytes) (settings : Settings) (plan : List ℕ) (answer : Answer) : Type 0 where
   pub tables : Tables
   pub reads : Reads bytes settings tables
-  pub answers : RefusesPlan tables plan code text ⊎ JudgesPlan tables plan code text
+  pub answers : RefusesPlan tables plan answer ⊎ JudgesPlan tables plan answer
 
 -- judging by the contents of the six files
-abbrev pub JudgesContents : Settings → List (List ℕ) → ℕ → List ℕ → Type 0
-JudgesContents settings contents code text =
-    RefusesTables (table_bytes contents) settings code text ⊎ AnswersPlan (table_bytes contents) settings (plan_bytes contents) code text
+abbrev pub JudgesContents : Settings → List (List ℕ) → Answer → Type 0
+JudgesContents settings contents answer =
+    RefusesTables (table_bytes contents) settings answer ⊎ AnswersPlan (table_bytes contents) settings (plan_bytes contents) answer
 
 -- a file is too long
-pub record RefusesLength (too_long : DeskFile → Type 0) (code : ℕ) (text : List ℕ) : Type 0 where
+pub record RefusesLength (too_long : DeskFile → Type 0) (answer : Answer) : Type 0 where
   pub file : DeskFile
   pub longer : too_long file
-  pub code_is : code ≡ BAD_INPUT
-  pub text_is : text ≡ bad_input_text file 0 TOO_LONG
+  pub is : answer ≡ says BAD_INPUT (bad_input_text file 0 TOO_LONG)
 
--- the files hold contents, and judging is by them
-pub record JudgesFiles (holds : List (List ℕ) → Type 0) (settings : Settings) (code : ℕ) (text : List ℕ) : Type 0 where
+-- the files hold contents, and the answer is by them
+pub record AnswersContents (holds : List (List ℕ) → Type 0) (by_contents : List (List ℕ) → Answer → Type 0) (answer : Answer) : Type 0 where
   pub contents : List (List ℕ)
   pub held : holds contents
-  pub answers : JudgesContents settings contents code text
+  pub answers : by_contents contents answer
 
 -- What the program answers to what its words ask for, by which files are too long and what the others hold.
-abbrev pub AnswersBy : (List ℕ → List DeskFile → DeskFile → Type 0) → (List ℕ → List DeskFile → List (List ℕ) → Type 0) → Option Asked → ℕ → List ℕ → Type 0
-AnswersBy too_long holds None code text = (code ≡ USAGE) × (text ≡ usage_text)
-AnswersBy too_long holds (Some (judge dir settings)) code text =
-    RefusesLength (too_long dir judge_files) code text ⊎ JudgesFiles (holds dir judge_files) settings code text
+abbrev pub AnswersBy : (List ℕ → List DeskFile → DeskFile → Type 0) → (List ℕ → List DeskFile → List (List ℕ) → Type 0) → Option Asked → Answer → Type 0
+AnswersBy too_long holds None answer = answer ≡ says USAGE usage_text
+AnswersBy too_long holds (Some (judge dir settings)) answer =
+    RefusesLength (too_long dir judge_files) answer ⊎ AnswersContents (holds dir judge_files) (JudgesContents settings) answer
 
 -- what the program answers where files are held
-abbrev pub Answers : Files → Option Asked → ℕ → List ℕ → Type 0
-Answers held asked code text = AnswersBy (FirstTooLong held) (AllHeld held) asked code text
+abbrev pub Answers : Files → Option Asked → Answer → Type 0
+Answers held asked answer = AnswersBy (FirstTooLong held) (AllHeld held) asked answer
 
 -- What the program answers where it isn't known what is held: the answer is right of some contents, and a file
 -- is called too long only where this holds.
-abbrev pub AnswersSome : Type 0 → Option Asked → ℕ → List ℕ → Type 0
-AnswersSome longer asked code text = AnswersBy (λ dir names file. longer) (λ dir names contents. ⊤) asked code text
+abbrev pub AnswersSome : Type 0 → Option Asked → Answer → Type 0
+AnswersSome longer asked answer = AnswersBy (λ dir names file. longer) (λ dir names contents. ⊤) asked answer
 
 -- the names that are read for what words ask stand there
 abbrev pub NamesStand : Option Asked → Files → Type 0

@@ -1,7 +1,7 @@
 -- A run that has no answer.
 use Rattle.std.specs.Prelude.{Result, Ok, Err}
-use Rattle.fleet_cli.specs.declared.answers.Failure.{Failure}
-use Rattle.fleet_cli.specs.declared.answers.Failure.TheVariants as failure
+use Rattle.fleet_cli.specs.declared.answer.Failure.{Failure}
+use Rattle.fleet_cli.specs.declared.answer.Failure.TheVariants as failure
 
 -- a fact for each way to end
 abbrev pub MatchFailure : {T : Type 0} → Result T Failure → (T → Type 0) → Type 0 → Type 0 → Type 0

@@ -1,15 +1,15 @@
 -- What is always so of answers.
-use Rattle.std.specs.Prelude.{◌≡◌, ℕ, List, Option}
+use Rattle.std.specs.Prelude.{◌≡◌, Option, Some, None, ⊤}
 use Rattle.plan_desk.specs.Desk.{Files}
 use Rattle.fleet_cli.specs.Answer.{Answers}
-use Rattle.fleet_cli.specs.Words.{Asked}
+use Rattle.fleet_cli.specs.Words.{Asked, judge}
+use Rattle.fleet_cli.specs.declared.answer.Answer.{Answer}
 
--- one status and one text
-pub record SameAnswer (code other : ℕ) (text other_text : List ℕ) : Type 0 where
-  pub code_is : code ≡ other
-  pub text_is : text ≡ other_text
+-- an answer that what is held and what is asked leave no choice of
+abbrev pub IsFixed : Option Asked → Answer → Type 0
+IsFixed None answer = ⊤
+IsFixed (Some (judge dir settings)) answer = ⊤
 
 -- what is held and what is asked fix the answer
 abbrev pub OneAnswer : Type 0
-OneAnswer = (held : Files) (asked : Option Asked) (code other : ℕ) (text other_text : List ℕ)
-    → Answers held asked code text → Answers held asked other other_text → SameAnswer code other text other_text
+OneAnswer = (held : Files) (asked : Option Asked) (answer other : Answer) → Answers held asked answer → Answers held asked other → IsFixed asked other → answer ≡ other

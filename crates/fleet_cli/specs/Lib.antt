@@ -5,3 +5,4 @@ pub mod Laws
 pub mod Run
 pub mod Texts
 pub mod Words
+pub mod Written

@@ -1,5 +1,5 @@
 -- What a run leaves.
-use Rattle.std.specs.Prelude.{◌≡◌, ◌≢◌, ℕ, List, Option, Some, None, IfSome}
+use Rattle.std.specs.Prelude.{◌≡◌, ◌≢◌, ◌⊎◌, ℕ, List, Option, Some, None, IfSome, ⊤}
 use Rattle.csv_fields.specs.Record.{records_of}
 use Rattle.fleet_model.specs.Legal.{IsLegal}
 use Rattle.fleet_model.specs.declared.parts.Settings.{Settings}
@@ -11,27 +11,37 @@ use Rattle.plan_text.specs.Reading.{PlanReads}
 use Rattle.sched_read.specs.Reading.{Reads}
 use Rattle.fleet_cli.specs.Answer.{Answers, AnswersSome, judge_files, plan_bytes, table_bytes}
 use Rattle.fleet_cli.specs.Gathered.{AllHeld}
+use Rattle.fleet_cli.specs.Laws.{IsFixed}
 use Rattle.fleet_cli.specs.Texts.{fault_text}
-use Rattle.fleet_cli.specs.Words.{Asked, judge}
-use Rattle.fleet_cli.specs.declared.status.TheConstants.{FAULT, NO_MEMORY}
+use Rattle.fleet_cli.specs.Words.{Asked, folder_of, judge}
+use Rattle.fleet_cli.specs.Written.{WritesPart, held_with_texts}
+use Rattle.fleet_cli.specs.declared.answer.Answer.{Answer}
+use Rattle.fleet_cli.specs.declared.status.TheConstants.{BAD_INPUT, DONE, FAULT, NO_MEMORY, REFUSED, USAGE}
 
 -- a fact of every status but a fault and want of memory
 abbrev pub IsAnswered : ℕ → Type 0 → Type 0
 IsAnswered code P = code ≢ FAULT → code ≢ NO_MEMORY → P
 
--- the answer where files are held, all of which was put
-pub record AnswersInFull (held : Files) (asked : Option Asked) (code : ℕ) (before after : Option (List ℕ)) : Type 0 where
-  pub text : List ℕ
-  pub answers : Answers held asked code text
-  pub put : after ≡ output_with before text
+-- a status that is neither a fault nor want of memory
+abbrev pub IsEnd : ℕ → Type 0
+IsEnd code = (code ≢ FAULT) × (code ≢ NO_MEMORY)
 
--- a status and what was put are those of the definition's answer, whichever it is
-pub record PutsAnswer (status right : ℕ) (text : List ℕ) (before after : Option (List ℕ)) : Type 0 where
-  pub code_is : status ≡ right
-  pub put : after ≡ output_with before text
+-- the answer where files are held, all of which was written and put
+pub record AnswersInFull (held : Files) (asked : Option Asked) (code : ℕ) (stands : Option Files) (before after : Option (List ℕ)) : Type 0 where
+  pub answer : Answer
+  pub answers : Answers held asked answer
+  pub code_is : code ≡ answer.status.code
+  pub written : stands ≡ held_with_texts (Some held) (folder_of asked) answer.files
+  pub put : after ≡ output_with before answer.text
 
+-- a status and what was put are those of an answer
+pub record PutsAnswer (code : ℕ) (answer : Answer) (before after : Option (List ℕ)) : Type 0 where
+  pub code_is : code ≡ answer.status.code
+  pub put : after ≡ output_with before answer.text
+
+-- they are those of the definition's answer, where that leaves no choice
 abbrev pub AnswersExactly : Files → Option Asked → ℕ → Option (List ℕ) → Option (List ℕ) → Type 0
-AnswersExactly held asked status before after = (right : ℕ) (text : List ℕ) → Answers held asked right text → PutsAnswer status right text before after
+AnswersExactly held asked code before after = (answer : Answer) → Answers held asked answer → IsFixed asked answer → PutsAnswer code answer before after
 
 -- the files of a folder are tables that read, and a plan that reads on them and is legal
 pub record LegalThere (held : Files) (dir : List ℕ) (settings : Settings) : Type 0 where
@@ -43,23 +53,34 @@ pub record LegalThere (held : Files) (dir : List ℕ) (settings : Settings) : Ty
   pub plan_reads : PlanReads tables (records_of (plan_bytes contents)) plan
   pub legal : IsLegal tables plan
 
--- a legal plan is to be judged
-abbrev pub HoldsLegal : Files → Option Asked → Type 0
-HoldsLegal held None = ⊥
-HoldsLegal held (Some (judge dir settings)) = LegalThere held dir settings
+-- what is good is never refused: a legal plan on tables that read is judged so
+abbrev pub IsComplete : Files → Option Asked → ℕ → Type 0
+IsComplete held None code = ⊤
+IsComplete held (Some (judge dir settings)) code = LegalThere held dir settings → code ≡ DONE
 
 -- an answer that is right of some contents, all of which was put
 pub record SomeInFull (longer : Type 0) (asked : Option Asked) (code : ℕ) (before after : Option (List ℕ)) : Type 0 where
-  pub text : List ℕ
-  pub answers : AnswersSome longer asked code text
-  pub put : after ≡ output_with before text
+  pub answer : Answer
+  pub answers : AnswersSome longer asked answer
+  pub code_is : code ≡ answer.status.code
+  pub put : after ≡ output_with before answer.text
 
--- a part of the answer, from its front on, was put
-pub record PutsPart (told : Option Files) (asked : Option Asked) (before after : Option (List ℕ)) : Type 0 where
-  pub code : ℕ
-  pub text : List ℕ
-  pub answers : IfSome told (λ held. Answers held asked code text)
-  pub part : AppendsPrefix text before after
+-- all files of an answer were written, and a part of its text, from its front on, was put
+pub record PutsPart (told : Option Files) (asked : Option Asked) (stands : Option Files) (before after : Option (List ℕ)) : Type 0 where
+  pub answer : Answer
+  pub answers : IfSome told (λ held. Answers held asked answer)
+  pub written : stands ≡ held_with_texts told (folder_of asked) answer.files
+  pub part : AppendsPrefix answer.text before after
+
+-- some first files of an answer were written, and the next may hold anything
+pub record StopsWriting (told : Option Files) (asked : Option Asked) (stands : Option Files) : Type 0 where
+  pub answer : Answer
+  pub answers : IfSome told (λ held. Answers held asked answer)
+  pub part : WritesPart (folder_of asked) answer.files told stands
+
+-- no file was written, or the writing of an answer's files stopped
+abbrev pub LeavesFiles : Option Files → Option Asked → Option Files → Type 0
+LeavesFiles told asked stands = (stands ≡ told) ⊎ StopsWriting told asked stands
 
 -- the desk failed, and a part of the line that tells the file to blame, from its front on, was put
 pub record PutsFault (rose : Type 0) (blamed : Option DeskFile) (before after : Option (List ℕ)) : Type 0 where
@@ -67,3 +88,12 @@ pub record PutsFault (rose : Type 0) (blamed : Option DeskFile) (before after : 
   pub file : DeskFile
   pub blame : blamed ≡ Some file
   pub part : AppendsPrefix (fault_text file) before after
+
+-- a status that refuses what was read, or the words
+abbrev pub IsRefusal : ℕ → Type 0
+IsRefusal code = (code ≡ USAGE) ⊎ (code ≡ BAD_INPUT) ⊎ (code ≡ REFUSED)
+
+-- no name holds anything else than before, but those that what is asked for writes
+abbrev pub KeepsOthers : Option Asked → Option Files → Option Files → Type 0
+KeepsOthers None told stands = stands ≡ told
+KeepsOthers (Some (judge dir settings)) told stands = stands ≡ told

@@ -49,3 +49,8 @@ asked_by (command.Judge dir settings) = judge dir.now settings
 -- the settings of a command are within their limits
 abbrev pub HasSettings : Command → Type 0
 HasSettings (command.Judge dir settings) = AreSettings settings
+
+-- the folder that words ask about
+abbrev pub folder_of : Option Asked → List ℕ
+folder_of None = []
+folder_of (Some (judge dir settings)) = dir

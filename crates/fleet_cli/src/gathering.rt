@@ -45,6 +45,7 @@ pub fn read_all<D: Desk>(
         (λ _. D.faults desk.new ≡ D.faults desk.old) (D.faults desk.new ≡ D.faults desk.old) }
     ensures blamed { MatchStop result (λ _. ⊤) (IsSome (D.blamed desk.new)) (λ _. ⊤) ⊤ }
     ensures steady { D.is_steady desk.old → IsSomeAnd (D.holds desk.old) (StandThere dir.now files.now) → MatchStop result (λ _. ⊤) ⊥ (λ _. ⊤) ⊤ }
+    ensures stays_steady { D.is_steady desk.old → D.is_steady desk.new }
 {
     let mut contents = Vec::new(alloc);
     for file in files {

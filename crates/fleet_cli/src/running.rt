@@ -1,37 +1,41 @@
 ghost use Rattle.std.specs.Prelude.{◌≡◌, ◌≢◌, ◌⊎◌, ◌+◌, Some, None, IfSome, IsSome, IsSomeAnd, map, string_bytes};
 ghost use Rattle.fleet_cli.specs.Answer.{NamesStand};
-ghost use Rattle.fleet_cli.specs.Run.{AnswersExactly, AnswersInFull, HoldsLegal, IsAnswered, PutsFault, PutsPart, SomeInFull};
+ghost use Rattle.fleet_cli.specs.Run.{AnswersExactly, AnswersInFull, IsAnswered, IsComplete, IsEnd, IsRefusal, KeepsOthers, LeavesFiles, PutsFault, PutsPart, SomeInFull};
 ghost use Rattle.fleet_cli.specs.Texts.{fault_text, usage_text};
 ghost use Rattle.fleet_cli.specs.Words.{asked};
-ghost use Rattle.fleet_cli.specs.declared.status.TheConstants.{DONE, FAULT, NO_MEMORY, USAGE};
+ghost use Rattle.fleet_cli.specs.Written.{StandsAfter, WritesPart, held_with_texts};
+ghost use Rattle.fleet_cli.specs.declared.status.TheConstants.{FAULT, NO_MEMORY, USAGE};
 ghost use Rattle.plan_desk.specs.Counts.{Rose, RoseBy};
 ghost use Rattle.plan_desk.specs.Sink.{AppendsPrefix, output_with};
 ghost use Rattle.plan_desk.specs.declared.file.DeskFile.{DeskFile};
 ghost use Rattle.plan_desk.specs.declared.file.TheConstants.{TABLE_LIMIT};
 
-use crate::answers::{Failure, answer_to};
+use crate::answer::{Answer, Failure};
+use crate::answers::reply_to;
 use crate::status::{FAULT, NO_MEMORY, Status};
 use crate::texts::fault_line;
+use crate::writing::write_all;
 use plan_desk::{Desk, Sink, SinkError};
 use std::alloc::Global;
 
-/// Does all that the program does: reads what the words ask for from the desk, and puts the answer.
+/// Does all that the program does: reads what the words ask for from the desk, writes what it makes, and puts the
+/// answer.
 ///
 /// The words include the program's name. The order of refusals is: the words (2), each file in turn (7, or 6 with
-/// kind 12, or 8), the tables (6), the plan (9). The output is one put; the line of a desk's fault is one put as
-/// well, and takes no memory.
+/// kind 12, or 8), the tables (6), the plan (9). All texts are made before the first write. The output is one put;
+/// the line of a desk's fault is one put as well, and takes no memory.
 pub fn run<D: Desk, S: Sink>(alloc: Global, words: &[String], desk: &mut D, out: &mut S) -> Status
-    // Every status but want of memory and a fault is the answer to the words by what the desk holds, and all of its
-    // text was put.
+    // Every status but want of memory and a fault is the answer to the words by what the desk holds; all of its
+    // files were written, in their order, and all of its text was put.
     ensures answer { IsAnswered result.code (IfSome (D.holds desk.old) (λ held.
-        AnswersInFull held (asked (map string_bytes words.now)) result.code (S.output out.old) (S.output out.new))) }
+        AnswersInFull held (asked (map string_bytes words.now)) result.code (D.holds desk.new) (S.output out.old) (S.output out.new))) }
 
     // No answer but the definition's is given, so each of these statuses comes exactly by its cause.
     ensures exactly { IsAnswered result.code (IfSome (D.holds desk.old) (λ held.
         AnswersExactly held (asked (map string_bytes words.now)) result.code (S.output out.old) (S.output out.new))) }
 
-    // A legal plan on tables that read is judged so.
-    ensures complete { IsAnswered result.code (IfSome (D.holds desk.old) (λ held. HoldsLegal held (asked (map string_bytes words.now)) → result.code ≡ DONE)) }
+    // What is good is never refused.
+    ensures complete { IsAnswered result.code (IfSome (D.holds desk.old) (λ held. IsComplete held (asked (map string_bytes words.now)) result.code)) }
 
     // The same of a desk that tells nothing: the answer is right of some contents, and a file is called too long
     // only where more than the limit was taken.
@@ -49,19 +53,54 @@ pub fn run<D: Desk, S: Sink>(alloc: Global, words: &[String], desk: &mut D, out:
     ensures quiet_sink { result.code ≢ FAULT → S.faults out.new ≡ S.faults out.old }
     ensures steady { D.is_steady desk.old → S.is_steady out.old → IsSomeAnd (D.holds desk.old) (NamesStand (asked (map string_bytes words.now))) → result.code ≢ FAULT }
 
-    // After a fault a part of its line was put, where the desk failed, and else a part of the answer; after want of
-    // memory a part of the answer or nothing.
+    // After a fault of the desk a part of its line was put, and some first files of the answer stand; after one of
+    // the sink all of them do, and a part of the answer was put. After want of memory it is so as well, without
+    // a line.
     ensures fault_line { result.code ≡ FAULT →
-        PutsFault (Rose (D.faults desk.old) (D.faults desk.new)) (D.blamed desk.new) (S.output out.old) (S.output out.new)
-        ⊎ PutsPart (D.holds desk.old) (asked (map string_bytes words.now)) (S.output out.old) (S.output out.new) }
+        PutsFault (Rose (D.faults desk.old) (D.faults desk.new)) (D.blamed desk.new) (S.output out.old) (S.output out.new) × LeavesFiles (D.holds desk.old) (asked (map string_bytes words.now)) (D.holds desk.new)
+        ⊎ PutsPart (D.holds desk.old) (asked (map string_bytes words.now)) (D.holds desk.new) (S.output out.old) (S.output out.new) }
     ensures no_memory { result.code ≡ NO_MEMORY →
-        (S.output out.new ≡ S.output out.old) ⊎ PutsPart (D.holds desk.old) (asked (map string_bytes words.now)) (S.output out.old) (S.output out.new) }
+        (S.output out.new ≡ S.output out.old) × LeavesFiles (D.holds desk.old) (asked (map string_bytes words.now)) (D.holds desk.new)
+        ⊎ PutsPart (D.holds desk.old) (asked (map string_bytes words.now)) (D.holds desk.new) (S.output out.old) (S.output out.new) }
 
-    // No file is written.
-    ensures files { D.holds desk.new ≡ D.holds desk.old }
+    // A refusal writes no file, and no name changes but those that what is asked for writes.
+    ensures refusals { IsRefusal result.code → D.holds desk.new ≡ D.holds desk.old }
+    ensures files { KeepsOthers (asked (map string_bytes words.now)) (D.holds desk.old) (D.holds desk.new) }
 {
-    match answer_to(alloc, words, desk) {
-        Ok(answer) => put_answer(out, answer.text.as_slice(), answer.status),
+    match reply_to(alloc, words, desk) {
+        Ok(reply) => give(alloc, desk, out, reply.dir, &reply.answer),
+        Err(Failure::Fault) => put_fault(desk, out),
+        Err(Failure::NoMemory) => Status { code: NO_MEMORY },
+    }
+}
+
+/// Gives an answer: writes its files into a folder, and puts its text.
+fn give<D: Desk, S: Sink>(
+    alloc: Global,
+    desk: &mut D,
+    out: &mut S,
+    dir: &str,
+    answer: &Answer,
+) -> Status
+    requires { IsEnd answer.now.status.code }
+    ensures status { IsAnswered result.code (result ≡ answer.now.status) }
+    ensures written { IsAnswered result.code (D.holds desk.new ≡ held_with_texts (D.holds desk.old) dir.now answer.now.files) }
+    ensures stands { StandsAfter dir.now answer.now.files (D.holds desk.old) (D.holds desk.new) }
+    ensures put { IsAnswered result.code (S.output out.new ≡ output_with (S.output out.old) answer.now.text) }
+    ensures stopped_by_fault { result.code ≡ FAULT →
+        PutsFault (Rose (D.faults desk.old) (D.faults desk.new)) (D.blamed desk.new) (S.output out.old) (S.output out.new) × WritesPart dir.now answer.now.files (D.holds desk.old) (D.holds desk.new)
+        ⊎ (D.holds desk.new ≡ held_with_texts (D.holds desk.old) dir.now answer.now.files) × AppendsPrefix answer.now.text (S.output out.old) (S.output out.new) }
+    ensures stopped_by_memory { result.code ≡ NO_MEMORY →
+        (S.output out.new ≡ S.output out.old) × WritesPart dir.now answer.now.files (D.holds desk.old) (D.holds desk.new)
+        ⊎ (D.holds desk.new ≡ held_with_texts (D.holds desk.old) dir.now answer.now.files) × AppendsPrefix answer.now.text (S.output out.old) (S.output out.new) }
+    ensures fault { result.code ≡ FAULT → Rose (D.faults desk.old) (D.faults desk.new) ⊎ Rose (S.faults out.old) (S.faults out.new) }
+    ensures quiet_desk { result.code ≢ FAULT → D.faults desk.new ≡ D.faults desk.old }
+    ensures quiet_sink { result.code ≢ FAULT → S.faults out.new ≡ S.faults out.old }
+    ensures taken { D.taken desk.new ≡ D.taken desk.old }
+    ensures steady { D.is_steady desk.old → S.is_steady out.old → result.code ≢ FAULT }
+{
+    match write_all(alloc, desk, dir, answer.files.as_slice()) {
+        Ok(()) => put_answer(out, answer.text.as_slice(), answer.status),
         Err(Failure::Fault) => put_fault(desk, out),
         Err(Failure::NoMemory) => Status { code: NO_MEMORY },
     }
@@ -69,7 +108,7 @@ pub fn run<D: Desk, S: Sink>(alloc: Global, words: &[String], desk: &mut D, out:
 
 /// Puts the text of an answer.
 fn put_answer<S: Sink>(out: &mut S, text: &[u8], status: Status) -> Status
-    requires { status.code ≢ FAULT × (status.code ≢ NO_MEMORY) }
+    requires { IsEnd status.code }
     ensures status { IsAnswered result.code (result ≡ status) }
     ensures put { IsAnswered result.code (S.output out.new ≡ output_with (S.output out.old) text.now) }
     ensures part { AppendsPrefix text.now (S.output out.old) (S.output out.new) }

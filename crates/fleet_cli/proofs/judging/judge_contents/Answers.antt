@@ -1,7 +1,7 @@
 use Rattle.std.proofs.Common.{arith}
 use Rattle.fleet_cli.specs.Gathered.{contents_of}
 use Rattle.fleet_cli.proofs.Contents.{content_at, judged_if}
-use Rattle.fleet_cli.proofs.answers.judge_contents.Goals as goal
+use Rattle.fleet_cli.proofs.judging.judge_contents.Goals as goal
 
 pub returns-in-Ok : goal.returns-in-Ok
 returns-in-Ok c =

@@ -1,0 +1,11 @@
+use Rattle.std.proofs.Common.{◌≡◌, take}
+use Rattle.fleet_cli.specs.Written.{held_with_texts}
+use Rattle.fleet_cli.proofs.writing.write_all.Given as goal
+
+abbrev pub invariant-loop-text : goal.invariant-loop-text
+invariant-loop-text g l = record {
+  holds : g.D.Desk.holds l.desk ≡ held_with_texts (g.D.Desk.holds l.fn.desk) l.dir (take l.text-index l.texts);
+  faults : g.D.Desk.faults l.desk ≡ g.D.Desk.faults l.fn.desk;
+  taken : g.D.Desk.taken l.desk ≡ g.D.Desk.taken l.fn.desk;
+  steady : g.D.Desk.is_steady l.fn.desk → g.D.Desk.is_steady l.desk;
+}
