@@ -1,0 +1,55 @@
+-- A match of the command line, and its faults.
+use Rattle.std.proofs.Common.{◌≡◌, ◌≢◌, ◌∙◌, ◌&&◌, Bool, true, List, [], ◌∷◌, Option, Some, None, Result, Ok, Err, refl, sym, subst, ap, inl, inr}
+use Rattle.std.specs.Prelude.{option_and_then}
+use Rattle.std.proofs.lemmas.Bool.{and_parts}
+use Rattle.clap.proofs.OnLiterals.{clap_on_literals}
+use Rattle.clap.specs.Kinds.{FailsBy, HasKind, IsAmong, Kinds}
+use Rattle.clap.specs.Words.{App, HasMatchesOf, Row, Text, fault_of, is_simple, is_simple_and_free, kind_of, subcommand_of, subcommand_rows_of}
+use Rattle.clap.specs.declared.error.Error.{Error}
+use Rattle.clap.specs.declared.error.kind.ErrorKind.{ErrorKind}
+use Rattle.clap.specs.declared.error.kind.ErrorKind.TheVariants as kind
+use Rattle.clap.specs.declared.parser.matches.ArgMatches.{ArgMatches}
+use Rattle.command_words.specs.Program.{our_app}
+use Rattle.command_words.specs.Words.{Asked, asked, command_in, without_fault}
+
+pub exact : is_simple_and_free our_app ≡ true
+unfolding our_app clap_on_literals
+exact = refl
+
+-- no fault was found
+met : (kinds : Kinds) (found named : Option (Text × List Row)) → kinds ≡ [] → found ≡ named
+    → option_and_then command_in found ≡ without_fault kinds (option_and_then command_in named)
+met kinds found named none same = rw (none, same) refl
+
+-- some fault was found
+unmet : (kinds : Kinds) (fault : ErrorKind) (named : Option (Text × List Row)) → IsAmong fault kinds
+    → None ≡ without_fault kinds (option_and_then command_in named)
+unmet [] fault named among = absurd among
+unmet (k ∷ rest) fault named among = refl
+
+met_ours : (words : List Text) (matches : ArgMatches) → FailsBy (fault_of our_app words) (Ok matches) → HasMatchesOf our_app words matches
+    → option_and_then command_in (subcommand_rows_of matches) ≡ asked words
+unfolding asked
+met_ours words matches faults found =
+    met (fault_of our_app words) (subcommand_rows_of matches) (subcommand_of our_app words) faults (found (and_parts _ _ exact).0).1
+
+-- a match of a command that is ours
+pub is_met : (app : App) (words : List Text) (matches : ArgMatches) → app ≡ our_app
+    → (is_simple_and_free app ≡ true → FailsBy (fault_of app words) (Ok matches)) → HasMatchesOf app words matches
+    → option_and_then command_in (subcommand_rows_of matches) ≡ asked words
+is_met app words matches ours faults found =
+    met_ours words matches (subst (λ a. is_simple_and_free a ≡ true → FailsBy (fault_of a words) (Ok matches)) ours faults exact)
+    (subst (λ a. HasMatchesOf a words matches) ours found)
+
+unmet_ours : (words : List Text) (error : Error) → HasKind (fault_of our_app words) error → kind_of error ≢ kind.OutOfMemory → None ≡ asked words
+unfolding asked
+unmet_ours words error fault no_memory = elim fault [
+  | inl memory ↦ absurd (no_memory memory)
+  | inr among ↦ unmet (fault_of our_app words) (kind_of error) (subcommand_of our_app words) among
+]
+
+-- a fault of a command that is ours, and no want of memory
+pub is_unmet : (app : App) (words : List Text) (error : Error) → app ≡ our_app
+    → (is_simple_and_free app ≡ true → HasKind (fault_of app words) error) → kind_of error ≢ kind.OutOfMemory → None ≡ asked words
+is_unmet app words error ours fault no_memory =
+    unmet_ours words error (subst (λ a. is_simple_and_free a ≡ true → HasKind (fault_of a words) error) ours fault exact) no_memory

@@ -1,0 +1,95 @@
+-- The number that an option's text writes.
+use Rattle.std.proofs.Common.{◌≡◌, ◌≤◌, ◌<◌, ◌^◌, to_z, of_z, ◌⊎◌, ◌↔◌, ◌&&◌, ℕ, ℤ, pos, List, [], ◌∷◌, Bool, true, false, length, refl, ap, subst, sym, ◌∙◌, arith, inl, inr}
+use Rattle.std.specs.Prelude.{All, Decides, Option, Some, None, ◌≤ℤ◌, nat_le}
+use Rattle.std.specs.Char.{IsAsciiDigit, is_ascii_digit}
+use Rattle.std.specs.List.{list_all}
+use Rattle.std.specs.Str.Parse.{digits_value, starts_with_minus}
+use Rattle.std.proofs.lemmas.Bool.{and_parts, cases_Bool}
+use Rattle.std.proofs.lemmas.Bool.Decides.{Decides-by_and, nat_tests}
+use Rattle.std.proofs.lemmas.Int.{ints, to_z-of_z}
+use lib.IntN.{nat_abs}
+use mir.Syntax.{w128}
+use mir.Val.{SFits}
+use Rattle.csv_fields.specs.Number.{IsDecimal, WritesWhole}
+use Rattle.command_words.specs.Values.{is_decimal, number_read}
+
+digit_decides : (byte : ℕ) → Decides (is_ascii_digit byte) (IsAsciiDigit byte)
+digit_decides byte = (λ e. grind (arith, nat_tests), λ h. grind (arith, nat_tests))
+
+digits_decide : (text : List ℕ) → Decides (list_all is_ascii_digit text) (All IsAsciiDigit text)
+digits_decide = Decides-by_and is_ascii_digit IsAsciiDigit (list_all is_ascii_digit) digit_decides refl (λ _ _. refl)
+
+-- a text of digits, by the test
+decimal_tests : (text : List ℕ) → IsDecimal text → is_decimal text ≡ true
+decimal_tests text decimal =
+    let all : list_all is_ascii_digit text ≡ true = (digits_decide text).1 decimal.each in
+    let some = decimal.some in
+    let few = decimal.few in
+    grind (arith, nat_tests)
+
+-- and by its form
+tests_decimal : (text : List ℕ) → is_decimal text ≡ true → IsDecimal text
+tests_decimal text test =
+    let parts = and_parts (nat_le 1 (length text) && nat_le (length text) 20) (list_all is_ascii_digit text) test in
+    let ends = and_parts (nat_le 1 (length text)) (nat_le (length text) 20) parts.0 in
+    let some : nat_le 1 (length text) ≡ true = ends.0 in
+    let few : nat_le (length text) 20 ≡ true = ends.1 in
+    record {
+      some = grind (arith, nat_tests);
+      few = grind (arith, nat_tests);
+      each = (digits_decide text).0 parts.1;
+    }
+
+-- a minus is no digit
+signed : (text : List ℕ) → starts_with_minus text ≡ true → list_all is_ascii_digit text ≡ false
+signed [] minus = absurd (grind (arith, nat_tests))
+signed (byte ∷ rest) minus = let first : byte ≡ 45 = grind (arith, nat_tests) in rw first refl
+
+-- a text with a minus is no number
+pub signed_is_none : (text : List ℕ) (greatest : ℕ) → starts_with_minus text ≡ true → None ≡ number_read greatest text
+unfolding number_read
+signed_is_none text greatest minus =
+    let none = signed text minus in
+    grind (arith, nat_tests)
+
+-- a number of 64 bits, kept in 128 bits with a sign
+pub kept : (n : ℤ) (value : ℕ) → n ≡ pos value → value < 2 ^ 64 → to_z w128 (of_z w128 n) ≡ pos value
+kept n value same small =
+    let fits : SFits w128 n = rw same (omega arith) in
+    to_z-of_z w128 n fits ∙ same
+
+reads : (text : List ℕ) (greatest : ℕ) → IsDecimal text → digits_value 10 text ≤ greatest → Some (digits_value 10 text) ≡ number_read greatest text
+unfolding number_read
+reads text greatest decimal small =
+    let test = decimal_tests text decimal in
+    let bounded : nat_le (digits_value 10 text) greatest ≡ true = grind (arith, nat_tests) in
+    rw (test, bounded) refl
+
+-- what a text without a minus writes, where it is no greater than the bound
+pub unsigned_reads : (text : List ℕ) (greatest : ℕ) (n : ℤ) → starts_with_minus text ≡ false → WritesWhole text n → n ≤ℤ pos greatest
+    → greatest < 2 ^ 64 → Some (nat_abs (to_z w128 (of_z w128 n))) ≡ number_read greatest text
+unsigned_reads text greatest n plain writes fits wide = elim writes.value [
+  | inl whole ↦
+      let decimal : IsDecimal text = subst IsDecimal (sym whole.0) writes.decimal in
+      let value : n ≡ pos (digits_value 10 text) = whole.1 ∙ ap (λ ds. pos (digits_value 10 ds)) (sym whole.0) in
+      let small : digits_value 10 text ≤ greatest = (let fit = rw value at fits in omega (arith, ints)) in
+      ap (λ z. Some (nat_abs z)) (kept n (digits_value 10 text) value (omega arith)) ∙ reads text greatest decimal small
+  | inr minus ↦
+      let bad : true ≡ false = rw minus.0 at plain in
+      cc
+]
+
+-- a text that writes no number up to the bound
+pub unread : (text : List ℕ) (greatest : ℕ) → ((n : ℤ) → WritesWhole text n → pos 0 ≤ℤ n → n ≤ℤ pos greatest → ⊥)
+    → None ≡ number_read greatest text
+unfolding number_read
+unread text greatest none = elim (cases_Bool (is_decimal text && nat_le (digits_value 10 text) greatest)) [
+  | inl read ↦
+      let parts = and_parts (is_decimal text) (nat_le (digits_value 10 text) greatest) read in
+      let bounded : nat_le (digits_value 10 text) greatest ≡ true = parts.1 in
+      let decimal = tests_decimal text parts.0 in
+      let small : digits_value 10 text ≤ greatest = grind (arith, nat_tests) in
+      let writes : WritesWhole text (pos (digits_value 10 text)) = record { digits = text; decimal = decimal; value = inl (refl, refl) } in
+      absurd (none (pos (digits_value 10 text)) writes (omega (arith, ints)) (omega (arith, ints)))
+  | inr other ↦ rw other refl
+]

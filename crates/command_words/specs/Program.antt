@@ -1,0 +1,49 @@
+-- The program's command line, as clap's definition of a match reads it.
+use Rattle.std.specs.Prelude.{◌≡◌, true, false, Some, codes}
+use Rattle.clap.specs.Simple.{on_top}
+use Rattle.clap.specs.Words.{App, Rule, Text, app_of, new_app, new_rule, rule_of, with_rule, with_subcommand}
+use Rattle.clap.specs.declared.builder.action.ArgAction.TheVariants.{Set}
+use Rattle.clap.specs.declared.builder.arg.Arg.{Arg}
+use Rattle.clap.specs.declared.builder.command.Command.{Command}
+use Rattle.clap.specs.declared.builder.command.Command.TheViews.{out-Command}
+
+-- a folder, which has to be there
+abbrev pub dir : Rule
+dir = record (new_rule (codes "dir")) { action = Some Set; required = true }
+
+-- `--NAME VALUE`, once at most
+abbrev pub option_named : Text → Rule
+option_named name = record (new_rule name) { long = Some name; action = Some Set }
+
+-- judge DIR [--day-start HH:MM]
+abbrev pub judge_app : App
+judge_app = with_rule (with_rule (new_app (codes "judge")) dir) (option_named (codes "day-start"))
+
+-- solve DIR [--day-start HH:MM] [--nodes N] [--pivots P]
+abbrev pub solve_app : App
+solve_app =
+    with_rule (with_rule (with_rule (with_rule (new_app (codes "solve")) dir)
+    (option_named (codes "day-start"))) (option_named (codes "nodes"))) (option_named (codes "pivots"))
+
+-- a program that does nothing without a command
+abbrev pub bare_app : App
+bare_app = on_top (λ shape. record shape { subcommand_required = true }) (new_app (codes "fleetplan"))
+
+-- fleetplan COMMAND
+unfoldable pub our_app : App
+our_app = with_subcommand (with_subcommand bare_app judge_app.top) solve_app.top
+
+-- the command is read as this one, and none of its arguments holds for other commands too
+pub record Builds (app : App) (command : Command) : Type 0 where
+  pub shape : app_of command ≡ app
+  pub local : (out-Command command).has_globals ≡ false
+
+-- the same with one more rule
+pub record BuildsRule (old : Command) (rule : Rule) (new : Command) : Type 0 where
+  pub shape : app_of new ≡ with_rule (app_of old) rule
+  pub globals : (out-Command new).has_globals ≡ (out-Command old).has_globals
+
+-- the argument is read by this rule, and holds for its command alone
+pub record IsRule (rule : Rule) (argument : Arg) : Type 0 where
+  pub rule_fits : rule_of argument ≡ rule
+  pub local : argument.global ≡ false

@@ -1,0 +1,75 @@
+//! The command line that `specs/Program.antt` writes down, built of clap's parts.
+ghost use Rattle.std.specs.Prelude.{◌≡◌, IfOk, codes, false};
+ghost use Rattle.clap.specs.Words.{app_of, rule_of, shape_of, with_subcommand};
+ghost use Rattle.clap.specs.declared.builder.command.Command.TheViews.{out-Command};
+ghost use Rattle.command_words.specs.Program.{Builds, BuildsRule, IsRule, bare_app, dir, judge_app, option_named, our_app, solve_app};
+
+use clap::{Arg, ArgAction, Command};
+use std::alloc::{AllocError, Global};
+
+/// The program with its commands.
+pub(crate) fn program<'a>(alloc: Global) -> Result<Command<'a>, AllocError>
+    ensures { IfOk result (λ command. app_of command ≡ our_app) }
+{
+    let judge = judge_command(alloc)?;
+    let solve = solve_command(alloc)?;
+    let with_judge = with_command(bare_program(alloc), judge)?;
+    with_command(with_judge, solve)
+}
+
+/// The program without commands. It does nothing where no command is named.
+fn bare_program<'a>(alloc: Global) -> Command<'a>
+    ensures { app_of result ≡ bare_app }
+{
+    Command::new(alloc, "fleetplan").subcommand_required(true)
+}
+
+/// The program with one more command.
+fn with_command<'a>(program: Command<'a>, command: Command<'a>) -> Result<Command<'a>, AllocError>
+    requires { (out-Command command).has_globals ≡ false }
+    ensures { IfOk result (λ more. app_of more ≡ with_subcommand (app_of program.entry) (shape_of command.entry)) }
+{
+    program.subcommand(command)
+}
+
+/// `judge DIR [--day-start HH:MM]`
+fn judge_command<'a>(alloc: Global) -> Result<Command<'a>, AllocError>
+    ensures { IfOk result (Builds judge_app) }
+{
+    let bare = Command::new(alloc, "judge");
+    let with_dir = with_argument(bare, folder(alloc))?;
+    with_argument(with_dir, option(alloc, "day-start"))
+}
+
+/// `solve DIR [--day-start HH:MM] [--nodes N] [--pivots P]`
+fn solve_command<'a>(alloc: Global) -> Result<Command<'a>, AllocError>
+    ensures { IfOk result (Builds solve_app) }
+{
+    let bare = Command::new(alloc, "solve");
+    let with_dir = with_argument(bare, folder(alloc))?;
+    let with_day_start = with_argument(with_dir, option(alloc, "day-start"))?;
+    let with_nodes = with_argument(with_day_start, option(alloc, "nodes"))?;
+    with_argument(with_nodes, option(alloc, "pivots"))
+}
+
+/// The command with one more argument.
+fn with_argument<'a>(command: Command<'a>, argument: Arg<'a>) -> Result<Command<'a>, AllocError>
+    requires { argument.global ≡ false }
+    ensures { IfOk result (BuildsRule command.entry (rule_of argument.entry)) }
+{
+    command.arg(argument)
+}
+
+/// The folder of a command, which has to be there.
+fn folder<'a>(alloc: Global) -> Arg<'a>
+    ensures { IsRule dir result }
+{
+    Arg::new(alloc, "dir").action(ArgAction::Set).required(true)
+}
+
+/// An option of one value. A second use is a fault.
+fn option<'a>(alloc: Global, name: &'a str) -> Arg<'a>
+    ensures { IsRule (option_named name.now) result }
+{
+    Arg::new(alloc, name).long(name).action(ArgAction::Set)
+}
