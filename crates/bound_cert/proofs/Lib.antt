@@ -1,3 +1,5 @@
 pub mod Lines
 pub mod LinesOfWords
 pub mod Words
+pub mod Duality
+pub mod Flows

@@ -1,6 +1,7 @@
 pub mod Bound
 pub mod Leaves
 pub mod OfTables
+pub mod Duality
 pub mod Prices
 pub mod ProofText
 pub mod Words

@@ -1,7 +1,8 @@
-//! The laws of proof texts, over all tables and trees. Each function is a law: its contract is the statement, and it
-//! does nothing.
+//! The laws of proof texts, over all tables and trees, and weak duality: what prices say of legal assignments, over
+//! all tables, subproblems and prices. Each function is a law: its contract is the statement, and it does nothing.
 ghost use Rattle.std.specs.Prelude.{Bool, All};
 ghost use Rattle.fleet_model.specs.declared.tables.Tables.{Tables};
+ghost use Rattle.bound_cert.specs.Duality.{CeilingIsLowerBound, WeakDuality, WorthIsLowerBound, WorthRefutes};
 ghost use Rattle.bound_cert.specs.OfTables.{IsOfTables};
 ghost use Rattle.bound_cert.specs.ProofText.{proof_lines};
 ghost use Rattle.bound_cert.specs.Words.{IsOfWords, IsPlainLine};
@@ -15,4 +16,24 @@ pub fn lines_are_of_words()
 /// Each line of a proof has bytes from 32 to 126 alone before its line feed.
 pub fn lines_are_plain()
     ensures { (t : Tables) (planned : Bool) (tree : Tree) → IsOfTables t tree → All IsPlainLine (proof_lines t planned tree) }
+{}
+
+/// The worth of prices is no more than k times their scale times the cost of any mixed plan in the subproblem.
+pub fn weak_duality()
+    ensures { WeakDuality }
+{}
+
+/// The worth over the scale is no more than the cost of any legal assignment of kept pairs.
+pub fn worth_is_lower_bound()
+    ensures { WorthIsLowerBound }
+{}
+
+/// The worth over the scale, rounded up, is no more than the cost of any legal assignment of kept pairs.
+pub fn ceiling_is_lower_bound()
+    ensures { CeilingIsLowerBound }
+{}
+
+/// Where the worth without costs is above 0, no assignment of kept pairs is legal.
+pub fn worth_refutes()
+    ensures { WorthRefutes }
 {}

@@ -1,8 +1,9 @@
-//! The laws of need and use, over all tables and weights, and of kept pairs. Each function is a law: its contract
-//! is the statement, and it does nothing.
+//! The laws of need, use and mixed plans, over all tables and weights, and of kept pairs. Each function is a law: its
+//! contract is the statement, and it does nothing.
 ghost use Rattle.std.specs.Prelude.{ℕ, List};
 ghost use Rattle.fleet_model.specs.declared.tables.Tables.{Tables};
 ghost use Rattle.fleet_model.specs.Laws.{AllowedIsKept, BareHasNone, CountsAreLegs, KeptIsAllowed, NeedIsAtDepartures, NeedIsLeast, NeedSuffices, SoleIsOne, UseIsConstant};
+ghost use Rattle.fleet_model.specs.Mixed.{LegalIsMixed};
 
 /// With `need` aircraft at the day start a fleet never lacks one at the station.
 pub fn need_suffices()
@@ -48,4 +49,9 @@ pub fn bare_has_none()
 /// Where each leg keeps one fleet, any two assignments of kept pairs are equal.
 pub fn sole_is_one()
     ensures { SoleIsOne }
+{}
+
+/// A legal assignment of kept pairs is a mixed plan of scale 1, of the same cost.
+pub fn legal_is_mixed()
+    ensures { LegalIsMixed }
 {}
