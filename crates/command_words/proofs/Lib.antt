@@ -1,2 +1,3 @@
 pub mod Match
 pub mod Numbers
+pub mod AfterDashes

@@ -1,16 +1,19 @@
 -- A match of the command line, and its faults.
-use Rattle.std.proofs.Common.{◌≡◌, ◌≢◌, ◌∙◌, ◌&&◌, Bool, true, List, [], ◌∷◌, Option, Some, None, Result, Ok, Err, refl, sym, subst, ap, inl, inr}
+use Rattle.std.proofs.Common.{◌≡◌, ◌≢◌, ◌∙◌, true, true≢false, List, [], ◌∷◌, Option, None, Result, Ok, Err, refl, sym, subst, ap, inl, inr}
 use Rattle.std.specs.Prelude.{option_and_then}
 use Rattle.std.proofs.lemmas.Bool.{and_parts}
+use Rattle.std.specs.Prelude.{◌↔◌, IfOk, IsErr, option_map}
+use Rattle.entries.specs.declared.memory.NoMemory.{NoMemory}
+use Rattle.command_words.specs.declared.command.Command.{Command}
 use Rattle.clap.proofs.OnLiterals.{clap_on_literals}
 use Rattle.clap.specs.Kinds.{FailsBy, HasKind, IsAmong, Kinds}
-use Rattle.clap.specs.Words.{App, HasMatchesOf, Row, Text, fault_of, is_simple, is_simple_and_free, kind_of, subcommand_of, subcommand_rows_of}
+use Rattle.clap.specs.Words.{App, HasMatchesOf, Row, Text, fault_of, is_simple_and_free, kind_of, subcommand_of, subcommand_rows_of}
 use Rattle.clap.specs.declared.error.Error.{Error}
 use Rattle.clap.specs.declared.error.kind.ErrorKind.{ErrorKind}
 use Rattle.clap.specs.declared.error.kind.ErrorKind.TheVariants as kind
 use Rattle.clap.specs.declared.parser.matches.ArgMatches.{ArgMatches}
 use Rattle.command_words.specs.Program.{our_app}
-use Rattle.command_words.specs.Words.{Asked, asked, command_in, without_fault}
+use Rattle.command_words.specs.Words.{asked, asked_by, command_in, without_fault}
 
 pub exact : is_simple_and_free our_app ≡ true
 unfolding our_app clap_on_literals
@@ -48,8 +51,12 @@ unmet_ours words error fault no_memory = elim fault [
   | inr among ↦ unmet (fault_of our_app words) (kind_of error) (subcommand_of our_app words) among
 ]
 
--- a fault of a command that is ours, and no want of memory
-pub is_unmet : (app : App) (words : List Text) (error : Error) → app ≡ our_app
-    → (is_simple_and_free app ≡ true → HasKind (fault_of app words) error) → kind_of error ≢ kind.OutOfMemory → None ≡ asked words
-is_unmet app words error ours fault no_memory =
-    unmet_ours words error (subst (λ a. is_simple_and_free a ≡ true → HasKind (fault_of a words) error) ours fault exact) no_memory
+-- what an error of a command that is ours comes to
+pub is_unmet : (app : App) (words : List Text) (error : Error) (seen : ErrorKind) (answer : Result (Option Command) NoMemory) → app ≡ our_app
+    → (is_simple_and_free app ≡ true → HasKind (fault_of app words) error) → seen ≡ kind_of error
+    → (IsErr answer ↔ (seen ≡ kind.OutOfMemory)) → IfOk answer (λ command. command ≡ None)
+    → IfOk answer (λ command. option_map asked_by command ≡ asked words)
+is_unmet app words error seen (Err no_memory) ours fault same memory none = tt
+is_unmet app words error seen (Ok command) ours fault same memory none =
+    let ours_has = subst (λ a. is_simple_and_free a ≡ true → HasKind (fault_of a words) error) ours fault exact in
+    ap (option_map asked_by) none ∙ unmet_ours words error ours_has (λ is. true≢false (sym (memory.1 (same ∙ is))))

@@ -1,6 +1,6 @@
 -- The number that an option's text writes.
-use Rattle.std.proofs.Common.{◌≡◌, ◌≤◌, ◌<◌, ◌^◌, to_z, of_z, ◌⊎◌, ◌↔◌, ◌&&◌, ℕ, ℤ, pos, List, [], ◌∷◌, Bool, true, false, length, refl, ap, subst, sym, ◌∙◌, arith, inl, inr}
-use Rattle.std.specs.Prelude.{All, Decides, Option, Some, None, ◌≤ℤ◌, nat_le}
+use Rattle.std.proofs.Common.{◌≡◌, ◌≤◌, ◌<◌, ◌^◌, to_z, of_z, ◌&&◌, ℕ, ℤ, pos, List, [], ◌∷◌, true, false, length, refl, ap, subst, sym, ◌∙◌, arith, inl, inr}
+use Rattle.std.specs.Prelude.{All, Decides, Some, None, ◌≤ℤ◌, nat_le}
 use Rattle.std.specs.Char.{IsAsciiDigit, is_ascii_digit}
 use Rattle.std.specs.List.{list_all}
 use Rattle.std.specs.Str.Parse.{digits_value, starts_with_minus}

@@ -1,3 +1,4 @@
 pub mod Program
 pub mod Values
 pub mod Words
+pub mod Laws

@@ -15,15 +15,18 @@ dir = record (new_rule (codes "dir")) { action = Some Set; required = true }
 abbrev pub option_named : Text → Rule
 option_named name = record (new_rule name) { long = Some name; action = Some Set }
 
+-- NAME DIR [--day-start HH:MM]
+abbrev pub folder_app : Text → App
+folder_app name = with_rule (with_rule (new_app name) dir) (option_named (codes "day-start"))
+
 -- judge DIR [--day-start HH:MM]
 abbrev pub judge_app : App
-judge_app = with_rule (with_rule (new_app (codes "judge")) dir) (option_named (codes "day-start"))
+judge_app = folder_app (codes "judge")
 
 -- solve DIR [--day-start HH:MM] [--nodes N] [--pivots P]
 abbrev pub solve_app : App
 solve_app =
-    with_rule (with_rule (with_rule (with_rule (new_app (codes "solve")) dir)
-    (option_named (codes "day-start"))) (option_named (codes "nodes"))) (option_named (codes "pivots"))
+    with_rule (with_rule (folder_app (codes "solve")) (option_named (codes "nodes"))) (option_named (codes "pivots"))
 
 -- a program that does nothing without a command
 abbrev pub bare_app : App

@@ -1,10 +1,19 @@
-//! The law of the command line: its contract is the statement, and it does nothing.
+//! The laws of the command line: each contract is the statement, and the functions do nothing.
 ghost use Rattle.std.specs.Prelude.{◌≡◌, true};
 ghost use Rattle.clap.specs.Words.{is_simple_and_free};
+ghost use Rattle.command_words.specs.Laws.{JudgesByDefault, JudgesFrom, SolvesByDefault, SolvesWithin};
 ghost use Rattle.command_words.specs.Program.{our_app};
 
 /// The command line is of the kind for which clap's definition of a match is exact: by it alone clap tells a match
 /// from a fault, and what the words give each argument.
 pub fn match_is_exact()
     ensures { is_simple_and_free our_app ≡ true }
+{}
+
+/// What the definition of a match comes to, for a folder of any name behind `--`, and for any text behind `=`.
+pub fn any_folder_and_values()
+    ensures judges_by_default { JudgesByDefault }
+    ensures judges_from { JudgesFrom }
+    ensures solves_by_default { SolvesByDefault }
+    ensures solves_within { SolvesWithin }
 {}

@@ -2,7 +2,7 @@
 ghost use Rattle.std.specs.Prelude.{◌≡◌, IfOk, codes, false};
 ghost use Rattle.clap.specs.Words.{app_of, rule_of, shape_of, with_subcommand};
 ghost use Rattle.clap.specs.declared.builder.command.Command.TheViews.{out-Command};
-ghost use Rattle.command_words.specs.Program.{Builds, BuildsRule, IsRule, bare_app, dir, judge_app, option_named, our_app, solve_app};
+ghost use Rattle.command_words.specs.Program.{Builds, BuildsRule, IsRule, bare_app, dir, folder_app, judge_app, option_named, our_app, solve_app};
 
 use clap::{Arg, ArgAction, Command};
 use std::alloc::{AllocError, Global};
@@ -36,20 +36,24 @@ fn with_command<'a>(program: Command<'a>, command: Command<'a>) -> Result<Comman
 fn judge_command<'a>(alloc: Global) -> Result<Command<'a>, AllocError>
     ensures { IfOk result (Builds judge_app) }
 {
-    let bare = Command::new(alloc, "judge");
-    let with_dir = with_argument(bare, folder(alloc))?;
-    with_argument(with_dir, option(alloc, "day-start"))
+    folder_command(alloc, "judge")
 }
 
 /// `solve DIR [--day-start HH:MM] [--nodes N] [--pivots P]`
 fn solve_command<'a>(alloc: Global) -> Result<Command<'a>, AllocError>
     ensures { IfOk result (Builds solve_app) }
 {
-    let bare = Command::new(alloc, "solve");
-    let with_dir = with_argument(bare, folder(alloc))?;
-    let with_day_start = with_argument(with_dir, option(alloc, "day-start"))?;
-    let with_nodes = with_argument(with_day_start, option(alloc, "nodes"))?;
+    let bare = folder_command(alloc, "solve")?;
+    let with_nodes = with_argument(bare, option(alloc, "nodes"))?;
     with_argument(with_nodes, option(alloc, "pivots"))
+}
+
+/// `NAME DIR [--day-start HH:MM]`
+fn folder_command<'a>(alloc: Global, name: &'a str) -> Result<Command<'a>, AllocError>
+    ensures { IfOk result (Builds (folder_app name.now)) }
+{
+    let with_folder = with_argument(Command::new(alloc, name), folder(alloc))?;
+    with_argument(with_folder, option(alloc, "day-start"))
 }
 
 /// The command with one more argument.

@@ -1,4 +1,4 @@
-ghost use Rattle.std.specs.Prelude.{◌≡◌, ◌≤◌, IfOk, IfSome, map, option_and_then, option_map, string_bytes};
+ghost use Rattle.std.specs.Prelude.{◌≡◌, ◌≤◌, ◌↔◌, IfOk, IfSome, IsErr, None, map, option_and_then, option_map, string_bytes};
 ghost use Rattle.clap.specs.Words.{first_of, subcommand_rows_of};
 ghost use Rattle.command_words.specs.Values.{number_read, value_or};
 ghost use Rattle.command_words.specs.Words.{AreLimits, HasLimits, HasSettings, asked, asked_by, command_in, judge_in, limits_in, rows_in, settings_in, solve_in};
@@ -16,19 +16,28 @@ use entries::NoMemory;
 use fleet_model::Settings;
 use std::alloc::Global;
 
-/// The command that words ask for, the first of them the program's name. None where they match no command, where
-/// they ask for help, and where a value is out of its range.
+/// The command that words ask for, the first of them the program's name. None where they match no command, as where
+/// they ask for help, and where a value doesn't read or is out of its range. Takes memory for clap's parts, and
+/// gives it back.
 pub fn command_of<'a>(alloc: Global, words: &'a [String]) -> Result<Option<Command<'a>>, NoMemory>
-    ensures asked { IfOk result (λ command. option_map asked_by command ≡ asked (map string_bytes words.entry.now)) }
+    ensures asked { IfOk result (λ command. option_map asked_by command ≡ asked (map string_bytes words.now)) }
     ensures settings { IfOk result (λ command. IfSome command HasSettings) }
     ensures limits { IfOk result (λ command. IfSome command HasLimits) }
 {
     match program(alloc)?.try_get_matches_from(words) {
         Ok(matches) => Ok(command_met(&matches)),
-        Err(error) => match error.kind() {
-            ErrorKind::OutOfMemory => Err(NoMemory),
-            _ => Ok(None),
-        },
+        Err(error) => no_match(error.kind()),
+    }
+}
+
+/// What an error of clap comes to: want of memory, or no command, whatever the fault of the words.
+fn no_match<'a>(kind: ErrorKind) -> Result<Option<Command<'a>>, NoMemory>
+    ensures memory { IsErr result ↔ (kind ≡ ErrorKind.OutOfMemory) }
+    ensures none { IfOk result (λ command. command ≡ None) }
+{
+    match kind {
+        ErrorKind::OutOfMemory => Err(NoMemory),
+        _ => Ok(None),
     }
 }
 
