@@ -1,3 +1,3 @@
+pub mod AfterDashes
 pub mod Match
 pub mod Numbers
-pub mod AfterDashes

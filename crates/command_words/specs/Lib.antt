@@ -1,4 +1,4 @@
+pub mod Laws
 pub mod Program
 pub mod Values
 pub mod Words
-pub mod Laws
