@@ -1,3 +1,4 @@
 pub mod AfterDashes
 pub mod Match
 pub mod Numbers
+pub mod PlainFolder

@@ -1,9 +1,29 @@
--- What words ask for where the folder, of any name, stands after `--`, and each option is one word.
-use Rattle.std.specs.Prelude.{◌≡◌, [], ◌∷◌, ◌++◌, Some, codes, option_map}
+-- What the definition of a match comes to: a plain folder alone, or a folder of any name behind `--` and options of
+-- one word before it.
+use Rattle.std.specs.Prelude.{◌≡◌, ◌==◌, ◌||◌, Bool, true, false, not, [], ◌∷◌, ◌++◌, Some, codes, option_map}
 use Rattle.clap.specs.Words.{Text}
 use Rattle.command_words.specs.Values.{minute_read, number_read}
 use Rattle.command_words.specs.Words.{asked, judge_at, limits_at, settings_at, solve_at}
 use Rattle.command_words.specs.declared.command.TheConstants.{DEFAULT_DAY_START, DEFAULT_NODES, DEFAULT_PIVOTS, MAX_NODES, MAX_PIVOTS}
+
+abbrev pub is_alone : Text → Bool
+is_alone [] = true
+is_alone (byte ∷ more) = false
+
+-- a name that does not begin with a dash, or is a dash alone
+abbrev pub is_plain_name : Text → Bool
+is_plain_name [] = true
+is_plain_name (first ∷ rest) = not (first == 45) || is_alone rest
+
+-- judge DIR
+abbrev pub JudgesPlainly : Type 0
+JudgesPlainly = (program dir : Text) → is_plain_name dir ≡ true → asked (program ∷ codes "judge" ∷ dir ∷ [])
+    ≡ judge_at (Some (settings_at DEFAULT_DAY_START)) dir
+
+-- solve DIR
+abbrev pub SolvesPlainly : Type 0
+SolvesPlainly = (program dir : Text) → is_plain_name dir ≡ true → asked (program ∷ codes "solve" ∷ dir ∷ [])
+    ≡ solve_at (Some (settings_at DEFAULT_DAY_START)) (limits_at (Some DEFAULT_NODES) (Some DEFAULT_PIVOTS)) dir
 
 -- judge -- DIR
 abbrev pub JudgesByDefault : Type 0

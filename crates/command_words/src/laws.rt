@@ -1,7 +1,7 @@
 //! The laws of the command line: each contract is the statement, and the functions do nothing.
 ghost use Rattle.std.specs.Prelude.{◌≡◌, true};
 ghost use Rattle.clap.specs.Words.{is_simple_and_free};
-ghost use Rattle.command_words.specs.Laws.{JudgesByDefault, JudgesFrom, SolvesByDefault, SolvesWithin};
+ghost use Rattle.command_words.specs.Laws.{JudgesByDefault, JudgesFrom, JudgesPlainly, SolvesByDefault, SolvesPlainly, SolvesWithin};
 ghost use Rattle.command_words.specs.Program.{our_app};
 
 /// The command line is of the kind for which clap's definition of a match is exact: by it alone clap tells a match
@@ -10,8 +10,11 @@ pub fn match_is_exact()
     ensures { is_simple_and_free our_app ≡ true }
 {}
 
-/// What the definition of a match comes to, for a folder of any name behind `--`, and for any text behind `=`.
-pub fn any_folder_and_values()
+/// What the definition of a match comes to, for a folder whose name doesn't begin with a dash, or is a dash alone; for
+/// a folder of any name behind `--`; and for any text behind `=`.
+pub fn plain_reading()
+    ensures judges_plainly { JudgesPlainly }
+    ensures solves_plainly { SolvesPlainly }
     ensures judges_by_default { JudgesByDefault }
     ensures judges_from { JudgesFrom }
     ensures solves_by_default { SolvesByDefault }

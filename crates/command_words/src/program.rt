@@ -71,7 +71,7 @@ fn folder<'a>(alloc: Global) -> Arg<'a>
     Arg::new(alloc, "dir").action(ArgAction::Set).required(true)
 }
 
-/// An option of one value. A second use is a fault.
+/// An option of one value, and a second use is a fault. The value stays text, since clap's own integers take `+5`.
 fn option<'a>(alloc: Global, name: &'a str) -> Arg<'a>
     ensures { IsRule (option_named name.now) result }
 {
