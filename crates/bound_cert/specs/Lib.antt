@@ -1,3 +1,4 @@
 pub mod Bound
+pub mod Duality
 pub mod Prices
 pub mod Worth

@@ -1,4 +1,5 @@
 pub mod CostLookup
+pub mod MixedPlans
 pub mod NeedAtDepartures
 pub mod Periods
 pub mod UseLaws

@@ -5,6 +5,7 @@ pub mod Kept
 pub mod Laws
 pub mod Legal
 pub mod Limits
+pub mod Mixed
 pub mod Schedule
 pub mod Times
 pub mod Use

@@ -1,8 +1,9 @@
-//! The laws of need and use, over all tables and weights. Each function is a law: its contract is the statement,
-//! and it does nothing.
+//! The laws of need, use and mixed plans, over all tables and weights. Each function is a law: its contract is the
+//! statement, and it does nothing.
 ghost use Rattle.std.specs.Prelude.{ℕ, List};
 ghost use Rattle.fleet_model.specs.declared.tables.Tables.{Tables};
 ghost use Rattle.fleet_model.specs.Laws.{CountsAreLegs, NeedIsAtDepartures, NeedIsLeast, NeedSuffices, UseIsConstant};
+ghost use Rattle.fleet_model.specs.Mixed.{LegalIsMixed};
 
 /// With `need` aircraft at the day start a fleet never lacks one at the station.
 pub fn need_suffices()
@@ -28,4 +29,9 @@ pub fn use_is_constant()
 /// By the weights of an assignment, departures and arrivals are numbers of its legs.
 pub fn counts_are_legs()
     ensures { (t : Tables) (a : List ℕ) (f s m : ℕ) → CountsAreLegs t a f s m }
+{}
+
+/// A legal assignment of kept pairs is a mixed plan of scale 1, of the same cost.
+pub fn legal_is_mixed()
+    ensures { LegalIsMixed }
 {}

@@ -3,6 +3,9 @@ pub mod Maxima
 pub mod Division
 pub mod Divisors
 pub mod Integers
+pub mod Orders
 pub mod Places
 pub mod SumBounds
+pub mod Summation
 pub mod WholeSums
+pub mod WholeSwaps
