@@ -1,4 +1,7 @@
 pub mod CostLookup
+pub mod KeptLaws
+pub mod KeptRows
 pub mod NeedAtDepartures
 pub mod Periods
+pub mod SoleFleets
 pub mod UseLaws
