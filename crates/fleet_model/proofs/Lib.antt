@@ -1,5 +1,8 @@
 pub mod CostLookup
+pub mod KeptLaws
+pub mod KeptRows
 pub mod MixedPlans
 pub mod NeedAtDepartures
 pub mod Periods
+pub mod SoleFleets
 pub mod UseLaws

@@ -37,6 +37,12 @@ pub record IsKeptAssignment (t : Tables) (keeps : Domains) (a : List ℕ) : Type
 pub record IsSole (t : Tables) (keeps : Domains) : Type 0 where
   pub each : (l : ℕ) → l < legs_in t → kept_on t keeps l ≡ 1
 
+-- the leg keeps this fleet and no other
+pub record IsSoleOn (t : Tables) (keeps : Domains) (leg fleet : ℕ) : Type 0 where
+  pub one : kept_on t keeps leg ≡ 1
+  pub known : fleet < fleets_in t
+  pub kept : IsTrue (keeps (leg_on leg fleet))
+
 -- the leg keeps no fleet
 pub record IsBare (t : Tables) (keeps : Domains) (leg : ℕ) : Type 0 where
   pub within : leg < legs_in t

@@ -1,10 +1,12 @@
--- The laws of counts, need and use, as statements.
+-- The laws of counts, need and use, and of kept pairs, as statements.
 use Rattle.std.specs.Prelude.{◌≡◌, ◌≢◌, ℕ, ◌+◌, ◌<◌, ◌≤◌, List, Bool, true, ◌==◌, ◌&&◌, if◌then◌else◌}
 use Rattle.sums.specs.Below.{count_below, max_below}
 use Rattle.fleet_model.specs.declared.tables.Tables.{Tables}
 use Rattle.fleet_model.specs.declared.limits.TheConstants.{MINUTES_PER_PERIOD}
 use Rattle.fleet_model.specs.Counts.{Weights, weights_of, fleet_at, has_left, has_come, departed, arrived}
 use Rattle.fleet_model.specs.Schedule.{leg_of, leg_on, legs_in}
+use Rattle.fleet_model.specs.Kept.{Domains, IsBare, IsKeptAssignment, IsSole, all_pairs}
+use Rattle.fleet_model.specs.Legal.{IsAllowed, IsAssignment}
 use Rattle.fleet_model.specs.Use.{excess, need_of, used_of}
 use Rattle.fleet_model.specs.Aloft.{under_way, on_the_ground}
 
@@ -41,3 +43,19 @@ excess_at_departure t w f s test l = if test l then excess t w f s (leg_of t l).
 abbrev pub NeedIsAtDepartures : Type 0
 NeedIsAtDepartures = (t : Tables) (w : Weights) (f s : ℕ) (test : ℕ → Bool) → PassesDepartures t w f s test
     → need_of t w f s ≡ max_below (excess_at_departure t w f s test) (legs_in t)
+
+-- an assignment that is allowed, as each legal one is, is of kept pairs where all are kept
+abbrev pub AllowedIsKept : Type 0
+AllowedIsKept = (t : Tables) (a : List ℕ) → IsAssignment t a → IsAllowed t a → IsKeptAssignment t (all_pairs t) a
+
+-- an assignment of kept pairs, where all are kept, is allowed
+abbrev pub KeptIsAllowed : Type 0
+KeptIsAllowed = (t : Tables) (a : List ℕ) → IsKeptAssignment t (all_pairs t) a → IsAllowed t a
+
+-- where a leg is bare, no assignment is of kept pairs
+abbrev pub BareHasNone : Type 0
+BareHasNone = (t : Tables) (keeps : Domains) (leg : ℕ) (a : List ℕ) → IsBare t keeps leg → ¬ (IsKeptAssignment t keeps a)
+
+-- where each leg keeps one fleet, one assignment at most is of kept pairs
+abbrev pub SoleIsOne : Type 0
+SoleIsOne = (t : Tables) (keeps : Domains) (a b : List ℕ) → IsSole t keeps → IsKeptAssignment t keeps a → IsKeptAssignment t keeps b → a ≡ b

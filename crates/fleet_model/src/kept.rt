@@ -1,3 +1,14 @@
+ghost use Rattle.std.specs.Prelude.{◌≡◌, ◌<◌, ℕ, ◌==◌, ◌&&◌, ◌||◌, false, slice_index_or};
+ghost use Rattle.fleet_model.specs.declared.limits.TheConstants.{MAX_FLEETS, MAX_LEGS};
+ghost use Rattle.fleet_model.specs.declared.parts.Pair.{Pair};
+ghost use Rattle.fleet_model.specs.Kept.{all_pairs, kept_by};
+ghost use Rattle.fleet_model.specs.Schedule.{leg_on};
+
+use crate::limits::{MAX_FLEETS, MAX_LEGS};
+use crate::parts::Pair;
+use crate::tables::Tables;
+use std::marker::Model;
+
 /// A step from a subproblem into a part of it: `yes` leaves only this pair on the leg, and no (`yes` is false)
 /// removes it.
 #[derive(Clone, Copy, Debug, PartialEq, Eq)]
@@ -5,4 +16,72 @@ pub struct Step {
     pub leg: u32,
     pub fleet: u32,
     pub yes: bool,
+}
+
+/// The pairs that a subproblem keeps. Contracts see which (`kept_by`), and no more of it.
+///
+/// It lies in rows of fixed size, so that no call on it takes memory.
+#[derive(Clone, Copy, Debug)]
+pub struct Kept {
+    rows: [[bool; MAX_FLEETS]; MAX_LEGS],
+}
+
+impl Model for Kept {
+    ghost use Rattle.std.specs.Prelude.{Bool, List};
+
+    ghost Value = { List (List Bool) };
+
+    ghost view = { λ kept. kept.rows };
+
+    ghost inverse = { λ rows. record { rows = rows } };
+}
+
+impl Kept {
+    /// All pairs of the tables that may be flown. Takes no memory.
+    pub fn all(tables: &Tables) -> Self
+        ensures { kept_by result ≡ all_pairs tables.now }
+    {
+        let mut kept = Kept::none();
+        for entry in tables.costs.as_slice() {
+            kept.keep(entry.pair());
+        }
+        kept
+    }
+
+    /// Whether a pair is kept. Takes constant time and no memory.
+    pub fn kept(&self, leg: u32, fleet: u32) -> bool
+        requires leg { leg < MAX_LEGS }
+        requires fleet { fleet < MAX_FLEETS }
+        ensures { result ≡ kept_by self.now (leg_on leg fleet) }
+    {
+        self.rows[leg as usize][fleet as usize]
+    }
+
+    // No pair.
+    fn none() -> Self
+        ensures { (p : Pair) → kept_by result p ≡ false }
+    {
+        Kept {
+            rows: [[false; MAX_FLEETS]; MAX_LEGS],
+        }
+    }
+
+    // Keeps one more pair.
+    fn keep(&mut self, pair: Pair)
+        requires leg { pair.leg < MAX_LEGS }
+        requires fleet { pair.fleet < MAX_FLEETS }
+        ensures { (p : Pair) → kept_by self.new p ≡ (kept_by self.old p || (p.leg == pair.leg) && (p.fleet == pair.fleet)) }
+    {
+        self.rows[pair.leg as usize] = with_fleet(self.rows[pair.leg as usize], pair.fleet);
+    }
+}
+
+// The row with one more fleet.
+fn with_fleet(row: [bool; MAX_FLEETS], fleet: u32) -> [bool; MAX_FLEETS]
+    requires { fleet < MAX_FLEETS }
+    ensures { (f : ℕ) → slice_index_or result f false ≡ (slice_index_or row f false || (f == fleet)) }
+{
+    let mut more = row;
+    more[fleet as usize] = true;
+    more
 }

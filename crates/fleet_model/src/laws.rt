@@ -1,8 +1,8 @@
-//! The laws of need, use and mixed plans, over all tables and weights. Each function is a law: its contract is the
-//! statement, and it does nothing.
+//! The laws of need and use, over all tables and weights, of kept pairs and of mixed plans. Each function is a law:
+//! its contract is the statement, and it does nothing.
 ghost use Rattle.std.specs.Prelude.{ℕ, List};
 ghost use Rattle.fleet_model.specs.declared.tables.Tables.{Tables};
-ghost use Rattle.fleet_model.specs.Laws.{CountsAreLegs, NeedIsAtDepartures, NeedIsLeast, NeedSuffices, UseIsConstant};
+ghost use Rattle.fleet_model.specs.Laws.{AllowedIsKept, BareHasNone, CountsAreLegs, KeptIsAllowed, NeedIsAtDepartures, NeedIsLeast, NeedSuffices, SoleIsOne, UseIsConstant};
 ghost use Rattle.fleet_model.specs.Mixed.{LegalIsMixed};
 
 /// With `need` aircraft at the day start a fleet never lacks one at the station.
@@ -29,6 +29,26 @@ pub fn use_is_constant()
 /// By the weights of an assignment, departures and arrivals are numbers of its legs.
 pub fn counts_are_legs()
     ensures { (t : Tables) (a : List ℕ) (f s m : ℕ) → CountsAreLegs t a f s m }
+{}
+
+/// An assignment that is allowed, as each legal one is, is of kept pairs where all pairs are kept.
+pub fn allowed_is_kept()
+    ensures { AllowedIsKept }
+{}
+
+/// An assignment of kept pairs is allowed where all pairs are kept.
+pub fn kept_is_allowed()
+    ensures { KeptIsAllowed }
+{}
+
+/// Where a leg keeps no fleet, no assignment is of kept pairs.
+pub fn bare_has_none()
+    ensures { BareHasNone }
+{}
+
+/// Where each leg keeps one fleet, any two assignments of kept pairs are equal.
+pub fn sole_is_one()
+    ensures { SoleIsOne }
 {}
 
 /// A legal assignment of kept pairs is a mixed plan of scale 1, of the same cost.

@@ -9,12 +9,13 @@ pub mod laws;
 pub mod limits;
 pub mod parts;
 pub mod refusals;
+pub mod subproblems;
 pub mod tables;
 pub mod times;
 
 pub use assignments::Assignment;
 pub use costs::Costs;
-pub use kept::Step;
+pub use kept::{Kept, Step};
 pub use parts::{Connection, Fleet, Leg, Pair, PairCost, Settings, Station, Through};
 pub use refusals::{BadInput, LoadError, TableFile};
 pub use tables::Tables;

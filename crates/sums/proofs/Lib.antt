@@ -1,4 +1,5 @@
 pub mod Sums
+pub mod Counts
 pub mod Maxima
 pub mod Division
 pub mod Divisors
