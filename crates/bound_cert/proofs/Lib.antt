@@ -1,2 +1,5 @@
 pub mod Duality
 pub mod Flows
+pub mod LeastWorth
+pub mod Numbers
+pub mod Sizes

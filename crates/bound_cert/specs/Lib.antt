@@ -1,4 +1,5 @@
 pub mod Bound
 pub mod Duality
 pub mod Prices
+pub mod Sizes
 pub mod Worth

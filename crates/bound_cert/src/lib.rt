@@ -4,6 +4,7 @@
 pub mod laws;
 pub mod prices;
 pub mod trees;
+pub mod worth;
 
 pub use prices::{PriceStep, Prices};
 pub use trees::{Cause, Tree};
