@@ -1,3 +1,6 @@
 pub mod Bound
+pub mod Leaves
+pub mod OfTables
 pub mod Prices
+pub mod ProofText
 pub mod Worth

@@ -3,6 +3,8 @@
 
 pub mod prices;
 pub mod trees;
+pub mod writing;
 
 pub use prices::{PriceStep, Prices};
-pub use trees::{Cause, Tree};
+pub use trees::{Cause, Tree, TreeCounts};
+pub use writing::write_proof;

@@ -1,4 +1,8 @@
+ghost use Rattle.std.specs.Prelude.{◌≡◌, [], pos};
+ghost use Rattle.bound_cert.specs.Prices.{rent_of};
+
 use entries::Entries;
+use std::alloc::Global;
 
 /// A change of a fleet's price at a station: from this minute on it is `value`, until the next step.
 #[derive(Clone, Copy, Debug, PartialEq, Eq)]
@@ -23,4 +27,29 @@ pub struct Prices {
     pub rents: Entries<i128>,
     /// The steps of the prices; a price is 0 before the first step of its fleet and station.
     pub steps: Entries<PriceStep>,
+}
+
+impl Prices {
+    /// No price and no rent, over the scale 1. Takes no memory.
+    pub fn zero(alloc: Global) -> Prices
+        ensures scale { result.scale ≡ pos 1 }
+        ensures rents { result.rents ≡ [] }
+        ensures steps { result.steps ≡ [] }
+    {
+        Prices {
+            scale: 1,
+            rents: Entries::from_vec(Vec::new(alloc)),
+            steps: Entries::from_vec(Vec::new(alloc)),
+        }
+    }
+
+    /// The rent of an aircraft of a fleet, in cost units over the scale. Takes no memory.
+    pub fn rent(&self, fleet: u32) -> i128
+        ensures { result ≡ rent_of self.now fleet }
+    {
+        match self.rents.as_slice().get(fleet as usize) {
+            Some(rent) => *rent,
+            None => 0,
+        }
+    }
 }
