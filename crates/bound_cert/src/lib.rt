@@ -1,6 +1,7 @@
 //! Bounds and their proofs: prices, the bound that they give, trees of subproblems, and the text of a proof.
 #![tactic(auto)]
 
+pub mod laws;
 pub mod prices;
 pub mod trees;
 pub mod writing;

@@ -1,5 +1,5 @@
 ghost use Rattle.std.specs.Prelude.{◌≡◌};
-ghost use Rattle.bound_cert.specs.Leaves.{counts_of, has_open};
+ghost use Rattle.bound_cert.specs.Leaves.{by_grew, by_nodes, by_pivots, counts_of, has_open};
 
 use crate::prices::Prices;
 
@@ -37,20 +37,22 @@ pub struct TreeCounts {
     pub open_grew: u64,
 }
 
+/// No splits and no open leaves.
+const NO_COUNTS: TreeCounts = TreeCounts {
+    splits: 0,
+    open_nodes: 0,
+    open_pivots: 0,
+    open_grew: 0,
+};
+
 impl Tree {
     /// The splits and the open leaves. Takes no memory.
     pub fn counts(&self) -> TreeCounts
         ensures { result ≡ counts_of self.now }
     {
-        let open_pivots = match self {
-            Tree::Bare { .. } | Tree::Sole => 0,
-            Tree::Open(_, Cause::Pivots { .. }) => 1,
-        };
-        TreeCounts {
-            splits: 0,
-            open_nodes: 0,
-            open_pivots,
-            open_grew: 0,
+        match self {
+            Tree::Bare { .. } | Tree::Sole => NO_COUNTS,
+            Tree::Open(_, cause) => open_leaf(*cause),
         }
     }
 
@@ -62,5 +64,20 @@ impl Tree {
             Tree::Bare { .. } | Tree::Sole => false,
             Tree::Open(..) => true,
         }
+    }
+}
+
+/// The counts of an open leaf.
+fn open_leaf(cause: Cause) -> TreeCounts
+    ensures splits { result.splits ≡ 0 }
+    ensures nodes { result.open_nodes ≡ by_nodes cause }
+    ensures pivots { result.open_pivots ≡ by_pivots cause }
+    ensures grew { result.open_grew ≡ by_grew cause }
+{
+    match cause {
+        Cause::Pivots { .. } => TreeCounts {
+            open_pivots: 1,
+            ..NO_COUNTS
+        },
     }
 }

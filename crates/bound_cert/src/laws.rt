@@ -1,0 +1,18 @@
+//! The laws of proof texts, over all tables and trees. Each function is a law: its contract is the statement, and it
+//! does nothing.
+ghost use Rattle.std.specs.Prelude.{Bool, All};
+ghost use Rattle.fleet_model.specs.declared.tables.Tables.{Tables};
+ghost use Rattle.bound_cert.specs.OfTables.{IsOfTables};
+ghost use Rattle.bound_cert.specs.ProofText.{proof_lines};
+ghost use Rattle.bound_cert.specs.Words.{IsOfWords, IsPlainLine};
+ghost use Rattle.bound_cert.specs.declared.trees.Tree.{Tree};
+
+/// Each line of a proof is of one or more words, each of one or more bytes from 33 to 126.
+pub fn lines_are_of_words()
+    ensures { (t : Tables) (planned : Bool) (tree : Tree) → IsOfTables t tree → All IsOfWords (proof_lines t planned tree) }
+{}
+
+/// Each line of a proof has bytes from 32 to 126 alone before its line feed.
+pub fn lines_are_plain()
+    ensures { (t : Tables) (planned : Bool) (tree : Tree) → IsOfTables t tree → All IsPlainLine (proof_lines t planned tree) }
+{}
