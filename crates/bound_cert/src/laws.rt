@@ -1,9 +1,9 @@
 //! The laws of proof texts, over all tables and trees. Each function is a law: its contract is the statement, and it
 //! does nothing.
-ghost use Rattle.std.specs.Prelude.{Bool, All};
+ghost use Rattle.std.specs.Prelude.{◌≡◌, Bool, All};
 ghost use Rattle.fleet_model.specs.declared.tables.Tables.{Tables};
 ghost use Rattle.bound_cert.specs.OfTables.{IsOfTables};
-ghost use Rattle.bound_cert.specs.ProofText.{proof_lines};
+ghost use Rattle.bound_cert.specs.ProofText.{proof_lines, proof_text};
 ghost use Rattle.bound_cert.specs.Words.{IsOfWords, IsPlainLine};
 ghost use Rattle.bound_cert.specs.declared.trees.Tree.{Tree};
 
@@ -15,4 +15,10 @@ pub fn lines_are_of_words()
 /// Each line of a proof has bytes from 32 to 126 alone before its line feed.
 pub fn lines_are_plain()
     ensures { (t : Tables) (planned : Bool) (tree : Tree) → IsOfTables t tree → All IsPlainLine (proof_lines t planned tree) }
+{}
+
+/// Proofs of one text have the same lines, word for word.
+pub fn text_tells_lines()
+    ensures { (t u : Tables) (a b : Bool) (x y : Tree) → IsOfTables t x → IsOfTables u y → proof_text t a x ≡ proof_text u b y
+        → proof_lines t a x ≡ proof_lines u b y }
 {}
