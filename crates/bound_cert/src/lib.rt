@@ -2,9 +2,12 @@
 #![tactic(auto)]
 
 pub mod laws;
+pub mod price_at;
 pub mod prices;
 pub mod trees;
 pub mod worth;
+pub mod writing;
 
 pub use prices::{PriceStep, Prices};
-pub use trees::{Cause, Tree};
+pub use trees::{Cause, Tree, TreeCounts};
+pub use writing::write_proof;

@@ -1,7 +1,8 @@
-ghost use Rattle.std.specs.Prelude.{◌≡◌, pos};
-ghost use Rattle.bound_cert.specs.Prices.{price_after, price_of, rent_of};
+ghost use Rattle.std.specs.Prelude.{◌≡◌, [], pos};
+ghost use Rattle.bound_cert.specs.Prices.{rent_of};
 
 use entries::Entries;
+use std::alloc::Global;
 
 /// A change of a fleet's price at a station: from this minute on it is `value`, until the next step.
 #[derive(Clone, Copy, Debug, PartialEq, Eq)]
@@ -29,35 +30,26 @@ pub struct Prices {
 }
 
 impl Prices {
-    /// The price of a fleet at a station at a minute, over the scale. It looks at each step once. Takes no memory.
-    pub fn price(&self, fleet: u32, station: u32, minute: u16) -> i128
-        ensures { result ≡ price_of self.now fleet station minute }
+    /// No price and no rent, over the scale 1. Takes no memory.
+    pub fn zero(alloc: Global) -> Prices
+        ensures scale { result.scale ≡ pos 1 }
+        ensures rents { result.rents ≡ [] }
+        ensures steps { result.steps ≡ [] }
     {
-        last_come(self.steps.as_slice(), fleet, station, minute)
+        Prices {
+            scale: 1,
+            rents: Entries::from_vec(Vec::new(alloc)),
+            steps: Entries::from_vec(Vec::new(alloc)),
+        }
     }
 
-    /// The rent of an aircraft of a fleet, over the scale. Takes no memory.
+    /// The rent of an aircraft of a fleet, in cost units over the scale; 0 where the list is shorter. Takes no memory.
     pub fn rent(&self, fleet: u32) -> i128
         ensures { result ≡ rent_of self.now fleet }
     {
-        self.rents
-            .as_slice()
-            .get(fleet as usize)
-            .copied()
-            .unwrap_or(0)
-    }
-}
-
-// What the last step says of those that have come, and 0 where none has.
-#[tactic(auto, unfolding(crate::specs::Prices::price_after))]
-fn last_come(steps: &[PriceStep], fleet: u32, station: u32, minute: u16) -> i128
-    ensures { result ≡ price_after (pos 0) steps.now fleet station minute }
-{
-    let mut price = 0;
-    for step in steps {
-        if step.fleet == fleet && step.station == station && step.minute <= minute {
-            price = step.value;
+        match self.rents.as_slice().get(fleet as usize) {
+            Some(rent) => *rent,
+            None => 0,
         }
     }
-    price
 }

@@ -1,6 +1,6 @@
 use Rattle.std.proofs.Common.{◌≡◌, drop, pos}
 use Rattle.bound_cert.specs.Prices.{price_after}
-use Rattle.bound_cert.proofs.prices.last_come.Given as goal
+use Rattle.bound_cert.proofs.price_at.last_come.Given as goal
 
 -- the price after the rest, from the value so far, is the price after all
 abbrev pub invariant-loop-step : goal.invariant-loop-step

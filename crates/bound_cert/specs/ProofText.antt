@@ -1,0 +1,100 @@
+-- The text of a proof of a bound: its lines by their kinds, as they are written and read.
+use Rattle.std.specs.Prelude.{ℕ, Bool, if◌then◌else◌, List, [], ◌∷◌, ◌++◌, codes, map, ℤ, pos}
+use Rattle.std.specs.Fmt.{decimal, signed_decimal}
+use Rattle.std.specs.List.{flat_map, join_with_byte, range_with_len}
+use Rattle.std.specs.Ordering.{int_eq}
+use Rattle.fleet_model.specs.Schedule.{fleet_of, fleets_in, leg_of, station_of}
+use Rattle.fleet_model.specs.declared.tables.Tables.{Tables}
+use Rattle.bound_cert.specs.Prices.{rent_of}
+use Rattle.bound_cert.specs.declared.prices.Prices.{Prices}
+use Rattle.bound_cert.specs.declared.prices.PriceStep.{PriceStep}
+use Rattle.bound_cert.specs.declared.trees.Cause.{Cause}
+use Rattle.bound_cert.specs.declared.trees.Cause.TheVariants as cause
+use Rattle.bound_cert.specs.declared.trees.Tree.{Tree}
+use Rattle.bound_cert.specs.declared.trees.Tree.TheVariants as tree
+
+-- a line of the text, as its words
+abbrev pub Line : Type 0
+Line = List (List ℕ)
+
+-- the byte between two words
+abbrev pub space : ℕ
+space = 32
+
+-- the byte that ends a line
+abbrev pub line_feed : ℕ
+line_feed = 10
+
+-- the bytes of a line: its words with a space between each two, and a line feed
+abbrev pub line_of : Line → List ℕ
+line_of words = join_with_byte space words ++ line_feed ∷ []
+
+-- the bytes of lines
+abbrev pub lines_of : List Line → List ℕ
+lines_of = flat_map line_of
+
+-- fleet proof 1
+abbrev pub head_line : Line
+head_line = codes "fleet" ∷ codes "proof" ∷ codes "1" ∷ []
+
+-- plan yes, or plan no
+abbrev pub plan_line : Bool → Line
+plan_line planned = codes "plan" ∷ (if planned then codes "yes" else codes "no") ∷ []
+
+-- bare FLIGHT
+abbrev pub bare_line : Tables → ℕ → Line
+bare_line t l = codes "bare" ∷ (leg_of t l).flight ∷ []
+
+-- sole
+abbrev pub sole_line : Line
+sole_line = codes "sole" ∷ []
+
+-- open and the cause: pivots N
+abbrev pub open_line : Cause → Line
+open_line (cause.Pivots made) = codes "open" ∷ codes "pivots" ∷ decimal made ∷ []
+
+-- scale Q
+abbrev pub scale_line : ℤ → Line
+scale_line scale = codes "scale" ∷ signed_decimal scale ∷ []
+
+-- rent FLEET R
+abbrev pub rent_line : Tables → ℕ → ℤ → Line
+rent_line t f rent = codes "rent" ∷ (fleet_of t f).name ∷ signed_decimal rent ∷ []
+
+-- at FLEET STATION MINUTE VALUE
+abbrev pub at_line : Tables → PriceStep → Line
+at_line t step = codes "at" ∷ (fleet_of t step.fleet).name ∷ (station_of t step.station).code ∷ decimal step.minute ∷ signed_decimal step.value ∷ []
+
+-- end
+abbrev pub end_line : Line
+end_line = codes "end" ∷ []
+
+-- the line of a fleet's rent, and none where it is 0
+abbrev pub rent_lines_at : Tables → Prices → ℕ → List Line
+rent_lines_at t prices f = if int_eq (rent_of prices f) (pos 0) then [] else (rent_line t f (rent_of prices f) ∷ [])
+
+-- the lines of the rents of so many fleets, from the first on
+abbrev pub rent_lines : Tables → Prices → ℕ → List Line
+rent_lines t prices fleets = flat_map (rent_lines_at t prices) (range_with_len 0 fleets)
+
+-- the lines of steps, in their order
+abbrev pub step_lines : Tables → List PriceStep → List Line
+step_lines t = map (at_line t)
+
+-- the lines of prices: the scale, the rents in the order of the fleets, the steps
+abbrev pub price_lines : Tables → Prices → List Line
+price_lines t prices = scale_line prices.scale ∷ (rent_lines t prices (fleets_in t) ++ step_lines t prices.steps)
+
+-- the lines of a tree
+abbrev pub tree_lines : Tables → Tree → List Line
+tree_lines t (tree.Bare leg) = bare_line t leg ∷ []
+tree_lines t tree.Sole = sole_line ∷ []
+tree_lines t (tree.Open prices why) = open_line why ∷ price_lines t prices
+
+-- the lines of a proof: the head, whether a plan comes with it, the tree, the end
+abbrev pub proof_lines : Tables → Bool → Tree → List Line
+proof_lines t planned tree = head_line ∷ plan_line planned ∷ (tree_lines t tree ++ end_line ∷ [])
+
+-- the text of a proof
+unfoldable pub proof_text : Tables → Bool → Tree → List ℕ
+proof_text t planned tree = lines_of (proof_lines t planned tree)

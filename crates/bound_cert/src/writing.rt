@@ -1,0 +1,196 @@
+//! The text of a proof, written.
+ghost use Rattle.std.specs.Prelude.{◌≡◌, ◌++◌, ◌<◌, ◌∷◌, All, IfOk, OnOk, map};
+ghost use Rattle.fleet_model.specs.Schedule.{fleets_in};
+ghost use Rattle.bound_cert.specs.OfTables.{ArePricesOf, IsOfTables, IsStepOf};
+ghost use Rattle.bound_cert.specs.ProofText.{at_line, line_of, lines_of, open_line, plan_line, price_lines, proof_text, rent_lines, rent_lines_at, scale_line, space, step_lines, tree_lines};
+
+use crate::prices::{PriceStep, Prices};
+use crate::trees::{Cause, Tree};
+use entries::NoMemory;
+use fleet_model::Tables;
+use std::alloc::Global;
+
+/// The text of a proof, as `proof.txt` holds it: the head, whether a plan comes with it, the tree, and the end. Its
+/// one error is want of memory.
+pub fn write_proof(
+    alloc: Global,
+    tables: &Tables,
+    planned: bool,
+    tree: &Tree,
+) -> Result<Vec<u8>, NoMemory>
+    requires { IsOfTables tables.now tree.now }
+    ensures { IfOk result (λ text. text.items ≡ proof_text tables.now planned tree.now) }
+{
+    let mut text = Vec::new(alloc);
+    push_line(&mut text, b"fleet", &[b"proof".as_slice(), b"1".as_slice()])?;
+    push_plan(&mut text, planned)?;
+    push_tree(alloc, &mut text, tables, tree)?;
+    push_line(&mut text, b"end", &[])?;
+    Ok(text)
+}
+
+/// Appends a line: a first word and others, with a space between each two, and a line feed.
+fn push_line(text: &mut Vec<u8>, first: &[u8], others: &[&[u8]]) -> Result<(), NoMemory>
+    ensures { OnOk result (text.new.items ≡ text.old.items ++ line_of (first.now ∷ map (λ word. word.now) others.now)) }
+{
+    text.extend_from_slice(first)?;
+    for word in others {
+        push_word(text, word)?;
+    }
+    text.push(b'\n')?;
+    Ok(())
+}
+
+/// Appends a space and a word.
+fn push_word(text: &mut Vec<u8>, word: &[u8]) -> Result<(), NoMemory>
+    ensures { OnOk result (text.new.items ≡ text.old.items ++ space ∷ word.now) }
+{
+    text.push(b' ')?;
+    text.extend_from_slice(word)?;
+    Ok(())
+}
+
+/// Appends `plan yes` or `plan no`.
+fn push_plan(text: &mut Vec<u8>, planned: bool) -> Result<(), NoMemory>
+    ensures { OnOk result (text.new.items ≡ text.old.items ++ line_of (plan_line planned)) }
+{
+    let answer = if planned {
+        b"yes".as_slice()
+    } else {
+        b"no".as_slice()
+    };
+    push_line(text, b"plan", &[answer])
+}
+
+/// Appends the lines of a tree.
+fn push_tree(
+    alloc: Global,
+    text: &mut Vec<u8>,
+    tables: &Tables,
+    tree: &Tree,
+) -> Result<(), NoMemory>
+    requires { IsOfTables tables.now tree.now }
+    ensures { OnOk result (text.new.items ≡ text.old.items ++ lines_of (tree_lines tables.now tree.now)) }
+{
+    match tree {
+        Tree::Bare { leg } => { push_line(text, b"bare", &[tables.leg(*leg).flight.as_slice()]) }
+        Tree::Sole => push_line(text, b"sole", &[]),
+        Tree::Open(prices, cause) => {
+            push_open(alloc, text, cause)?;
+            push_prices(alloc, text, tables, prices)
+        }
+    }
+}
+
+/// Appends `open` and the cause.
+fn push_open(alloc: Global, text: &mut Vec<u8>, cause: &Cause) -> Result<(), NoMemory>
+    ensures { OnOk result (text.new.items ≡ text.old.items ++ line_of (open_line cause.now)) }
+{
+    match cause {
+        Cause::Pivots { made } => {
+            let made = made.to_string(alloc)?;
+            push_line(text, b"open", &[b"pivots".as_slice(), made.as_bytes()])
+        }
+    }
+}
+
+/// Appends the lines of prices.
+fn push_prices(
+    alloc: Global,
+    text: &mut Vec<u8>,
+    tables: &Tables,
+    prices: &Prices,
+) -> Result<(), NoMemory>
+    requires { ArePricesOf tables.now prices.now }
+    ensures { OnOk result (text.new.items ≡ text.old.items ++ lines_of (price_lines tables.now prices.now)) }
+{
+    push_scale(alloc, text, prices)?;
+    push_rents(alloc, text, tables, prices)?;
+    push_steps(alloc, text, tables, prices.steps.as_slice())
+}
+
+/// Appends `scale Q`.
+fn push_scale(alloc: Global, text: &mut Vec<u8>, prices: &Prices) -> Result<(), NoMemory>
+    ensures { OnOk result (text.new.items ≡ text.old.items ++ line_of (scale_line prices.now.scale)) }
+{
+    let scale = prices.scale.to_string(alloc)?;
+    push_line(text, b"scale", &[scale.as_bytes()])
+}
+
+/// Appends the lines of the rents that aren't 0.
+fn push_rents(
+    alloc: Global,
+    text: &mut Vec<u8>,
+    tables: &Tables,
+    prices: &Prices,
+) -> Result<(), NoMemory>
+    ensures { OnOk result (text.new.items ≡ text.old.items ++ lines_of (rent_lines tables.now prices.now (fleets_in tables.now))) }
+{
+    for fleet in 0..tables.fleet_count() {
+        push_rent(alloc, text, tables, prices, fleet)?;
+    }
+    Ok(())
+}
+
+/// Appends `rent FLEET R`, unless the rent is 0.
+fn push_rent(
+    alloc: Global,
+    text: &mut Vec<u8>,
+    tables: &Tables,
+    prices: &Prices,
+    fleet: u32,
+) -> Result<(), NoMemory>
+    requires { fleet < fleets_in tables.now }
+    ensures { OnOk result (text.new.items ≡ text.old.items ++ lines_of (rent_lines_at tables.now prices.now fleet)) }
+{
+    let rent = prices.rent(fleet);
+    if rent == 0 {
+        return Ok(());
+    }
+    let rent = rent.to_string(alloc)?;
+    push_line(
+        text,
+        b"rent",
+        &[tables.fleet(fleet).name.as_slice(), rent.as_bytes()],
+    )
+}
+
+/// Appends the lines of steps.
+fn push_steps(
+    alloc: Global,
+    text: &mut Vec<u8>,
+    tables: &Tables,
+    steps: &[PriceStep],
+) -> Result<(), NoMemory>
+    requires { All (IsStepOf tables.now) steps.now }
+    ensures { OnOk result (text.new.items ≡ text.old.items ++ lines_of (step_lines tables.now steps.now)) }
+{
+    for step in steps {
+        push_step(alloc, text, tables, step)?;
+    }
+    Ok(())
+}
+
+/// Appends `at FLEET STATION MINUTE VALUE`.
+fn push_step(
+    alloc: Global,
+    text: &mut Vec<u8>,
+    tables: &Tables,
+    step: &PriceStep,
+) -> Result<(), NoMemory>
+    requires { IsStepOf tables.now step.now }
+    ensures { OnOk result (text.new.items ≡ text.old.items ++ line_of (at_line tables.now step.now)) }
+{
+    let minute = step.minute.to_string(alloc)?;
+    let value = step.value.to_string(alloc)?;
+    push_line(
+        text,
+        b"at",
+        &[
+            tables.fleet(step.fleet).name.as_slice(),
+            tables.station(step.station).code.as_slice(),
+            minute.as_bytes(),
+            value.as_bytes(),
+        ],
+    )
+}
