@@ -12,3 +12,5 @@ mod plans;
 mod reading;
 #[cfg(test)]
 mod schedules;
+#[cfg(test)]
+mod subproblems;
