@@ -14,3 +14,5 @@ mod proof_texts;
 mod reading;
 #[cfg(test)]
 mod schedules;
+#[cfg(test)]
+mod subproblems;

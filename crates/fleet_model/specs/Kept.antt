@@ -1,8 +1,9 @@
 -- Subproblems: which pairs are kept, of all that may be flown.
-use Rattle.std.specs.Prelude.{◌≡◌, ℕ, ◌<◌, Bool, IsTrue, true, false, not, ◌==◌, ◌&&◌, if◌then◌else◌, List, [], slice_index_or, is_some}
+use Rattle.std.specs.Prelude.{◌≡◌, ℕ, ◌<◌, Bool, IsTrue, true, false, not, ◌==◌, ◌&&◌, if◌then◌else◌, List, [], slice_index_or, slice_set, is_some}
 use Rattle.sums.specs.Below.{count_below}
 use Rattle.fleet_model.specs.declared.parts.Pair.{Pair}
 use Rattle.fleet_model.specs.declared.kept.Step.{Step}
+use Rattle.fleet_model.specs.declared.undoing.Undo.{Undo}
 use Rattle.fleet_model.specs.declared.tables.Tables.{Tables}
 use Rattle.fleet_model.specs.Counts.{pair_at}
 use Rattle.fleet_model.specs.Legal.{IsAssignment, cost_of}
@@ -56,3 +57,7 @@ pub record IsFirstBare (t : Tables) (keeps : Domains) (leg : ℕ) : Type 0 where
 -- the pairs that rows keep: a row for each leg, and in it a place for each fleet
 abbrev pub kept_by : List (List Bool) → Domains
 kept_by rows p = slice_index_or (slice_index_or rows p.leg []) p.fleet false
+
+-- the rows with one leg's as they were before a step
+unfoldable pub put_back : List (List Bool) → Undo → List (List Bool)
+put_back rows undo = slice_set rows undo.leg undo.row

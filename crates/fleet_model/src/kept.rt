@@ -1,12 +1,13 @@
 ghost use Rattle.std.specs.Prelude.{◌≡◌, ◌<◌, ℕ, ◌==◌, ◌&&◌, ◌||◌, false, slice_index_or};
 ghost use Rattle.fleet_model.specs.declared.limits.TheConstants.{MAX_FLEETS, MAX_LEGS};
 ghost use Rattle.fleet_model.specs.declared.parts.Pair.{Pair};
-ghost use Rattle.fleet_model.specs.Kept.{all_pairs, kept_by};
+ghost use Rattle.fleet_model.specs.Kept.{all_pairs, kept_by, leaves, narrowed, put_back};
 ghost use Rattle.fleet_model.specs.Schedule.{leg_on};
 
 use crate::limits::{MAX_FLEETS, MAX_LEGS};
 use crate::parts::Pair;
 use crate::tables::Tables;
+use crate::undoing::Undo;
 use std::marker::Model;
 
 /// A step from a subproblem into a part of it: `yes` leaves only this pair on the leg, and no (`yes` is false)
@@ -57,6 +58,28 @@ impl Kept {
         self.rows[leg as usize][fleet as usize]
     }
 
+    /// Takes a step into a part of the subproblem, and answers how to take it back. Takes no memory.
+    pub fn narrow(&mut self, step: Step) -> Undo
+        requires leg { step.leg < MAX_LEGS }
+        requires fleet { step.fleet < MAX_FLEETS }
+        ensures kept { kept_by self.new ≡ narrowed (kept_by self.old) step }
+        ensures way_back { put_back self.new result ≡ self.old }
+    {
+        let leg = step.leg;
+        let row = self.rows[leg as usize];
+        self.rows[leg as usize] = row_after(row, step);
+        Undo { leg, row }
+    }
+
+    /// Takes a step back: the pairs of its leg are again as `narrow` found them. Takes no memory.
+    #[tactic(auto, unfolding(crate::specs::Kept::put_back))]
+    pub fn undo(&mut self, undo: Undo)
+        ensures { self.new ≡ put_back self.old undo }
+    {
+        let row = undo.row;
+        self.rows[undo.leg as usize] = row;
+    }
+
     // No pair.
     fn none() -> Self
         ensures { (p : Pair) → kept_by result p ≡ false }
@@ -76,6 +99,13 @@ impl Kept {
     }
 }
 
+// The row of no fleet.
+fn no_fleets() -> [bool; MAX_FLEETS]
+    ensures { (f : ℕ) → slice_index_or result f false ≡ false }
+{
+    [false; MAX_FLEETS]
+}
+
 // The row with one more fleet.
 fn with_fleet(row: [bool; MAX_FLEETS], fleet: u32) -> [bool; MAX_FLEETS]
     requires { fleet < MAX_FLEETS }
@@ -84,4 +114,21 @@ fn with_fleet(row: [bool; MAX_FLEETS], fleet: u32) -> [bool; MAX_FLEETS]
     let mut more = row;
     more[fleet as usize] = true;
     more
+}
+
+// The row of a step's leg after the step.
+fn row_after(row: [bool; MAX_FLEETS], step: Step) -> [bool; MAX_FLEETS]
+    requires { step.fleet < MAX_FLEETS }
+    ensures { (f : ℕ) → slice_index_or result f false ≡ (slice_index_or row f false && leaves step (leg_on step.leg f)) }
+{
+    let fleet = step.fleet as usize;
+    if step.yes {
+        let mut only = no_fleets();
+        only[fleet] = row[fleet];
+        only
+    } else {
+        let mut others = row;
+        others[fleet] = false;
+        others
+    }
 }

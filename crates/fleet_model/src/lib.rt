@@ -12,6 +12,7 @@ pub mod refusals;
 pub mod subproblems;
 pub mod tables;
 pub mod times;
+pub mod undoing;
 
 pub use assignments::Assignment;
 pub use costs::Costs;
@@ -20,3 +21,4 @@ pub use parts::{Connection, Fleet, Leg, Pair, PairCost, Settings, Station, Throu
 pub use refusals::{BadInput, LoadError, TableFile};
 pub use tables::Tables;
 pub use times::{busy, laps, nights, ready};
+pub use undoing::Undo;
