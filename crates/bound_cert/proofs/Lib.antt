@@ -1,5 +1,10 @@
-pub mod Lines
-pub mod LinesOfWords
-pub mod Words
+pub mod Cut
 pub mod Duality
 pub mod Flows
+pub mod LeastWorth
+pub mod Lines
+pub mod LinesOfWords
+pub mod Numbers
+pub mod Sizes
+pub mod Words
+pub mod ZeroPrices

@@ -98,7 +98,7 @@ lines_are_of_words t planned tree is =
 plain_word : (word : List ℕ) → All IsVisible word → All IsPlain word
 plain_word word is = All-weaker IsVisible IsPlain (λ byte visible. record { no_less = omega (arith, visible.no_less); no_more = visible.no_more }) word is
 
-joined_plain : (words : List (List ℕ)) → All IsWord words → All IsPlain (join_with_byte space words)
+pub joined_plain : (words : List (List ℕ)) → All IsWord words → All IsPlain (join_with_byte space words)
 joined_plain [] is = All-nil IsPlain
 joined_plain (word ∷ []) is = plain_word word (All-head IsWord word [] is).visible
 joined_plain (word ∷ other ∷ others) is =

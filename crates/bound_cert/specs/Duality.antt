@@ -1,5 +1,5 @@
--- Weak duality in a subproblem: what prices say of each mixed plan, and so of each legal assignment.
-use Rattle.std.specs.Prelude.{ℕ, List, ℤ, pos, ◌*ℤ◌, ◌≤ℤ◌, ◌<ℤ◌}
+-- Weak duality in a subproblem: what proper prices say of each mixed plan, and so of each legal assignment.
+use Rattle.std.specs.Prelude.{◌≡◌, ℕ, List, [], ℤ, pos, ◌*ℤ◌, ◌≤ℤ◌, ◌<ℤ◌}
 use Rattle.frac_row.specs.Ratio.{IsCeiling}
 use Rattle.fleet_model.specs.declared.tables.Tables.{Tables}
 use Rattle.fleet_model.specs.Counts.{Weights}
@@ -29,3 +29,7 @@ CeilingIsLowerBound = (t : Tables) (keeps : Domains) (prices : Prices) (bound : 
 -- where the worth without costs is above 0, no assignment of kept pairs is legal
 abbrev pub WorthRefutes : Type 0
 WorthRefutes = (t : Tables) (keeps : Domains) (prices : Prices) (a : List ℕ) → ArePrices t prices → pos 0 <ℤ worth_of t keeps prices 0 → IsKeptAssignment t keeps a → ¬ (IsLegal t a)
+
+-- prices that are all 0, over the scale 1 and with no rents, are proper
+abbrev pub ZeroIsProper : Type 0
+ZeroIsProper = (t : Tables) (prices : Prices) → prices.scale ≡ pos 1 → prices.rents ≡ [] → prices.steps ≡ [] → ArePrices t prices

@@ -1,8 +1,9 @@
 pub mod Bound
+pub mod Duality
 pub mod Leaves
 pub mod OfTables
-pub mod Duality
 pub mod Prices
 pub mod ProofText
+pub mod Sizes
 pub mod Words
 pub mod Worth

@@ -1,24 +1,20 @@
-//! The laws of proof texts, over all tables and trees, and weak duality: what prices say of legal assignments, over
-//! all tables, subproblems and prices. Each function is a law: its contract is the statement, and it does nothing.
-ghost use Rattle.std.specs.Prelude.{Bool, All};
+//! The laws of bounds and of proof texts, over all tables, subproblems, prices and trees. Each function is a law: its
+//! contract is the statement, and it does nothing.
+ghost use Rattle.std.specs.Prelude.{◌≡◌, Bool, All};
 ghost use Rattle.fleet_model.specs.declared.tables.Tables.{Tables};
-ghost use Rattle.bound_cert.specs.Duality.{CeilingIsLowerBound, WeakDuality, WorthIsLowerBound, WorthRefutes};
+ghost use Rattle.bound_cert.specs.Duality.{CeilingIsLowerBound, WeakDuality, WorthIsLowerBound, WorthRefutes, ZeroIsProper};
 ghost use Rattle.bound_cert.specs.OfTables.{IsOfTables};
-ghost use Rattle.bound_cert.specs.ProofText.{proof_lines};
+ghost use Rattle.bound_cert.specs.ProofText.{proof_lines, proof_text};
 ghost use Rattle.bound_cert.specs.Words.{IsOfWords, IsPlainLine};
 ghost use Rattle.bound_cert.specs.declared.trees.Tree.{Tree};
 
-/// Each line of a proof is of one or more words, each of one or more bytes from 33 to 126.
-pub fn lines_are_of_words()
-    ensures { (t : Tables) (planned : Bool) (tree : Tree) → IsOfTables t tree → All IsOfWords (proof_lines t planned tree) }
+/// Prices that are all 0, over the scale 1 and with no rents, are proper.
+pub fn zero_is_proper()
+    ensures { ZeroIsProper }
 {}
 
-/// Each line of a proof has bytes from 32 to 126 alone before its line feed.
-pub fn lines_are_plain()
-    ensures { (t : Tables) (planned : Bool) (tree : Tree) → IsOfTables t tree → All IsPlainLine (proof_lines t planned tree) }
-{}
-
-/// The worth of prices is no more than k times their scale times the cost of any mixed plan in the subproblem.
+/// Weak duality: the worth of prices is no more than k times their scale times the cost of any mixed plan in the
+/// subproblem.
 pub fn weak_duality()
     ensures { WeakDuality }
 {}
@@ -36,4 +32,20 @@ pub fn ceiling_is_lower_bound()
 /// Where the worth without costs is above 0, no assignment of kept pairs is legal.
 pub fn worth_refutes()
     ensures { WorthRefutes }
+{}
+
+/// Each line of a proof is of one or more words, each of one or more bytes from 33 to 126.
+pub fn lines_are_of_words()
+    ensures { (t : Tables) (planned : Bool) (tree : Tree) → IsOfTables t tree → All IsOfWords (proof_lines t planned tree) }
+{}
+
+/// Each line of a proof has bytes from 32 to 126 alone before its line feed.
+pub fn lines_are_plain()
+    ensures { (t : Tables) (planned : Bool) (tree : Tree) → IsOfTables t tree → All IsPlainLine (proof_lines t planned tree) }
+{}
+
+/// Proofs of one text have the same lines, word for word.
+pub fn text_tells_lines()
+    ensures { (t u : Tables) (a b : Bool) (x y : Tree) → IsOfTables t x → IsOfTables u y → proof_text t a x ≡ proof_text u b y
+        → proof_lines t a x ≡ proof_lines u b y }
 {}

@@ -2,8 +2,10 @@
 #![tactic(auto)]
 
 pub mod laws;
+pub mod price_at;
 pub mod prices;
 pub mod trees;
+pub mod worth;
 pub mod writing;
 
 pub use prices::{PriceStep, Prices};

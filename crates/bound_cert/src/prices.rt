@@ -43,7 +43,7 @@ impl Prices {
         }
     }
 
-    /// The rent of an aircraft of a fleet, in cost units over the scale. Takes no memory.
+    /// The rent of an aircraft of a fleet, in cost units over the scale; 0 where the list is shorter. Takes no memory.
     pub fn rent(&self, fleet: u32) -> i128
         ensures { result ≡ rent_of self.now fleet }
     {

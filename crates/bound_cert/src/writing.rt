@@ -10,7 +10,8 @@ use entries::NoMemory;
 use fleet_model::Tables;
 use std::alloc::Global;
 
-/// The text of a proof, as `proof.txt` holds it: the head, whether a plan comes with it, the tree, and the end.
+/// The text of a proof, as `proof.txt` holds it: the head, whether a plan comes with it, the tree, and the end. Its
+/// one error is want of memory.
 pub fn write_proof(
     alloc: Global,
     tables: &Tables,

@@ -9,6 +9,8 @@ mod model;
 #[cfg(test)]
 mod plans;
 #[cfg(test)]
+mod proof_texts;
+#[cfg(test)]
 mod reading;
 #[cfg(test)]
 mod schedules;

@@ -1,5 +1,5 @@
-//! The laws of need, use and mixed plans, over all tables and weights, and of kept pairs. Each function is a law: its
-//! contract is the statement, and it does nothing.
+//! The laws of need and use, over all tables and weights, of kept pairs and of mixed plans. Each function is a law:
+//! its contract is the statement, and it does nothing.
 ghost use Rattle.std.specs.Prelude.{ℕ, List};
 ghost use Rattle.fleet_model.specs.declared.tables.Tables.{Tables};
 ghost use Rattle.fleet_model.specs.Laws.{AllowedIsKept, BareHasNone, CountsAreLegs, KeptIsAllowed, NeedIsAtDepartures, NeedIsLeast, NeedSuffices, SoleIsOne, UseIsConstant};

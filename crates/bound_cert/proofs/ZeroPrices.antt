@@ -1,0 +1,26 @@
+-- Prices that are all 0 are proper.
+use Rattle.std.proofs.Common.{◌≡◌, ℕ, ◌+◌, [], pos, refl, arith}
+use Rattle.std.proofs.lemmas.Int.{ints}
+use Rattle.fleet_model.specs.Use.{last_minute}
+use Rattle.bound_cert.specs.Duality.{ZeroIsProper}
+use Rattle.bound_cert.specs.Prices.{price_after, price_of, rent_of}
+use Rattle.bound_cert.specs.declared.prices.Prices.{Prices}
+
+price_zero : (prices : Prices) → prices.steps ≡ [] → (f s m : ℕ) → price_of prices f s m ≡ pos 0
+unfolding price_after
+price_zero prices none f s m = rw none refl
+
+rent_zero : (prices : Prices) → prices.rents ≡ [] → (f : ℕ) → rent_of prices f ≡ pos 0
+rent_zero prices none f = rw none refl
+
+pub zero_is_proper : ZeroIsProper
+zero_is_proper t prices one no_rents no_steps = record {
+  some_scale = omega (arith, ints, one);
+  scale_within = omega (arith, ints, one);
+  some_rent = λ f below. omega (arith, ints, rent_zero prices no_rents f);
+  rent_within = λ f below. omega (arith, ints, rent_zero prices no_rents f);
+  no_less = λ f s m known there within. omega (arith, ints, price_zero prices no_steps f s m);
+  no_more = λ f s m known there within. omega (arith, ints, price_zero prices no_steps f s m);
+  never_rise = λ f s m known there within. omega (arith, ints, price_zero prices no_steps f s m, price_zero prices no_steps f s (m + 1));
+  rise_overnight = λ f s known there. omega (arith, ints, price_zero prices no_steps f s 0, price_zero prices no_steps f s last_minute, rent_zero prices no_rents f);
+}
