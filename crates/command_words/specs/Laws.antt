@@ -6,6 +6,7 @@ use Rattle.command_words.specs.Values.{minute_read, number_read}
 use Rattle.command_words.specs.Words.{asked, judge_at, limits_at, settings_at, solve_at}
 use Rattle.command_words.specs.declared.command.TheConstants.{DEFAULT_DAY_START, DEFAULT_NODES, DEFAULT_PIVOTS, MAX_NODES, MAX_PIVOTS}
 
+-- nothing follows
 abbrev pub is_alone : Text → Bool
 is_alone [] = true
 is_alone (byte ∷ more) = false

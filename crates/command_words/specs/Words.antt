@@ -19,28 +19,35 @@ pub data Asked : Type 0 where
 
 -- ---- the values of a command's arguments, by what clap found for them
 
+-- the settings with a day start
 abbrev pub settings_at : ℕ → Settings
 settings_at minute = record { day_start = minute; through_max = THROUGH_MAX }
 
+-- the settings, where the day start reads
 abbrev pub settings_in : List Row → Option Settings
 settings_in found = option_map settings_at (value_or DEFAULT_DAY_START minute_read (first_of (codes "day-start") found))
 
+-- the most splits, where they read
 abbrev pub nodes_in : List Row → Option ℕ
 nodes_in found = value_or DEFAULT_NODES (number_read MAX_NODES) (first_of (codes "nodes") found)
 
+-- the most pivots, where they read
 abbrev pub pivots_in : List Row → Option ℕ
 pivots_in found = value_or DEFAULT_PIVOTS (number_read MAX_PIVOTS) (first_of (codes "pivots") found)
 
+-- the limits of a search, where both are there
 abbrev pub limits_at : Option ℕ → Option ℕ → Option SearchLimits
-limits_at (Some splits) (Some turns) = Some (record { nodes = splits; pivots = turns })
-limits_at (Some splits) None = None
-limits_at None turns = None
+limits_at (Some n) (Some p) = Some (record { nodes = n; pivots = p })
+limits_at (Some n) None = None
+limits_at None p = None
 
+-- the limits of a search, where both read
 abbrev pub limits_in : List Row → Option SearchLimits
 limits_in found = limits_at (nodes_in found) (pivots_in found)
 
 -- ---- the commands
 
+-- judging a folder by settings, where they are there
 abbrev pub judge_at : Option Settings → Text → Option Asked
 judge_at settings dir = option_map (judge dir) settings
 
@@ -48,6 +55,7 @@ judge_at settings dir = option_map (judge dir) settings
 abbrev pub judge_in : List Row → Option Asked
 judge_in found = option_and_then (judge_at (settings_in found)) (first_of (codes "dir") found)
 
+-- solving a folder by settings and limits, where they are there
 abbrev pub solve_at : Option Settings → Option SearchLimits → Text → Option Asked
 solve_at settings limits dir = option_and_then (λ s. option_map (solve dir s) limits) settings
 
