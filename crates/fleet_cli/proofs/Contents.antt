@@ -4,8 +4,9 @@ use Rattle.std.proofs.lemmas.List.{get_or-map}
 use Rattle.fleet_model.specs.declared.parts.Settings.{Settings}
 use Rattle.fleet_model.specs.declared.tables.Tables.{Tables}
 use Rattle.sched_read.specs.Reading.{Reads}
-use Rattle.fleet_cli.specs.Answer.{Answers, JudgesContents, JudgesPlan, RefusesPlan, judge_files}
-use Rattle.fleet_cli.specs.Words.{judge}
+use Rattle.fleet_cli.specs.Answer.{Answers, GivesSolution, JudgesContents, JudgesPlan, RefusesPlan, SolvesContents, judge_files, table_files}
+use Rattle.command_words.specs.Words.{judge, solve}
+use Rattle.command_words.specs.declared.command.SearchLimits.{SearchLimits}
 use Rattle.fleet_cli.specs.declared.answer.Answer.{Answer}
 use Rattle.entries.specs.declared.memory.NoMemory.{NoMemory}
 use Rattle.plan_desk.specs.Desk.{Files}
@@ -36,3 +37,15 @@ pub told_judged : (told : Option Files) (dir : List ℕ) (settings : Settings) (
     → JudgesContents settings contents answer → IfSome told (λ held. Answers held (Some (judge dir settings)) answer)
 told_judged None dir settings contents answer held answers = tt
 told_judged (Some files) dir settings contents answer held answers = inr (record { contents = contents; held = held; answers = answers })
+
+pub solved_if : (r : Result Answer NoMemory) (contents : List (List ℕ)) (settings : Settings) (limits : SearchLimits) (tables : Tables) (s f l c t : List ℕ)
+    → slice_index_or contents 0 [] ≡ s → slice_index_or contents 1 [] ≡ f → slice_index_or contents 2 [] ≡ l → slice_index_or contents 3 [] ≡ c → slice_index_or contents 4 [] ≡ t
+    → Reads (record { stations = s; fleets = f; legs = l; costs = c; throughs = t }) settings tables → IfOk r (GivesSolution tables limits.pivots) → IfOk r (SolvesContents settings limits contents)
+solved_if (Ok answer) contents settings limits tables s f l c t es ef el ec et reads gives = inr (record { tables = tables; reads = rw (es, ef, el, ec, et) reads; gives = gives })
+solved_if (Err e) contents settings limits tables s f l c t es ef el ec et reads gives = tt
+
+-- what a desk that may not tell answers, where the five files were read
+pub told_solved : (told : Option Files) (dir : List ℕ) (settings : Settings) (limits : SearchLimits) (contents : List (List ℕ)) (answer : Answer) → IfSome told (λ held. AllHeld held dir table_files contents)
+    → SolvesContents settings limits contents answer → IfSome told (λ held. Answers held (Some (solve dir settings limits)) answer)
+told_solved None dir settings limits contents answer held answers = tt
+told_solved (Some files) dir settings limits contents answer held answers = inr (record { contents = contents; held = held; answers = answers })

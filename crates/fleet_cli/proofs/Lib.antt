@@ -5,4 +5,5 @@ pub mod OneGathering
 pub mod Others
 pub mod Parts
 pub mod Pieces
+pub mod SolverFacts
 pub mod WrittenFacts

@@ -1,5 +1,5 @@
 -- What is held and what is asked fix the answer.
-use Rattle.std.proofs.Common.{◌≡◌, ◌⊎◌, ℕ, List, Option, Some, None, IfSome, refl, sym, ap, subst, ◌∙◌, inl, inr}
+use Rattle.std.proofs.Common.{◌≡◌, ◌⊎◌, ℕ, List, Option, Some, None, IfSome, refl, sym, ap, subst, ◌∙◌, inl, inr, arith}
 use Rattle.csv_fields.specs.Record.{records_of}
 use Rattle.fleet_model.specs.declared.parts.Settings.{Settings}
 use Rattle.fleet_model.specs.declared.refusals.TheConstants.{TOO_LONG}
@@ -14,14 +14,38 @@ use Rattle.plan_text.proofs.ReadOrNot.{reads_or_not}
 use Rattle.sched_read.proofs.ReadLaws as tables
 use Rattle.sched_read.specs.Reading.{TableBytes}
 use Rattle.fleet_cli.proofs.OneGathering.{held_or_too_long, one_holding, one_too_long}
-use Rattle.fleet_cli.specs.Answer.{Answers, AnswersContents, AnswersPlan, JudgesContents, JudgesPlan, RefusesLength, RefusesPlan, RefusesTables, judge_files, plan_bytes, says, table_bytes, verdict_status}
+use Rattle.fleet_cli.specs.Answer.{Answers, AnswersContents, AnswersPlan, JudgesContents, JudgesPlan, RefusesLength, RefusesPlan, RefusesTables, SolvesContents, judge_files, plan_bytes, says, table_bytes, table_files, verdict_status}
 use Rattle.fleet_cli.specs.Gathered.{AllHeld, FirstTooLong}
 use Rattle.fleet_cli.specs.Laws.{IsFixed}
-use Rattle.fleet_cli.specs.Run.{AnswersExactly, IsComplete, LegalThere}
+use Rattle.fleet_cli.specs.Run.{AnswersExactly, IsComplete, IsSolution, LegalThere, TablesThere}
+use Rattle.fleet_cli.specs.Summary.{solved_status}
+use Rattle.fleet_cli.specs.declared.solver.Solved.{Solved}
+use Rattle.fleet_cli.specs.declared.solver.Solved.TheVariants as solved
 use Rattle.fleet_cli.specs.declared.answer.Answer.{Answer}
 use Rattle.fleet_cli.specs.declared.status.TheConstants.{BAD_INPUT, DONE}
 use Rattle.fleet_cli.specs.Texts.{bad_input_text, verdict_text}
-use Rattle.fleet_cli.specs.Words.{Asked, judge}
+use Rattle.command_words.specs.Words.{Asked, judge, solve}
+use Rattle.command_words.specs.declared.command.SearchLimits.{SearchLimits}
+use Rattle.bound_cert.specs.Leaves.{has_open}
+use Rattle.std.proofs.lemmas.Bool.{cases_Bool}
+
+-- a solution has a status that tells of one
+pub solution_status : (s : Solved) → IsSolution (solved_status s)
+solution_status (solved.Planned plan cost bound tree) = elim (cases_Bool (has_open tree)) [
+  | inl is_open ↦ rw is_open (inr (inl refl))
+  | inr closed ↦ rw closed (inl refl)
+]
+solution_status (solved.Infeasible tree) = inr (inr (inl refl))
+solution_status (solved.Unsettled bound tree) = inr (inr (inr refl))
+
+pub not_refused : (code : ℕ) → IsSolution code → ¬ (code ≡ BAD_INPUT)
+not_refused code (inl is) refused = let bad : ◌≡◌ {A = ℕ} 0 6 = sym is ∙ refused in omega arith
+not_refused code (inr (inl is)) refused = let bad : ◌≡◌ {A = ℕ} 3 6 = sym is ∙ refused in omega arith
+not_refused code (inr (inr (inl is))) refused = let bad : ◌≡◌ {A = ℕ} 4 6 = sym is ∙ refused in omega arith
+not_refused code (inr (inr (inr is))) refused = let bad : ◌≡◌ {A = ℕ} 5 6 = sym is ∙ refused in omega arith
+
+never_refused : (s : Solved) → ¬ (solved_status s ≡ BAD_INPUT)
+never_refused s refused = not_refused (solved_status s) (solution_status s) refused
 
 module _ (answer other : Answer) where
   module _ (t : Tables) (bytes : List ℕ) where
@@ -56,6 +80,12 @@ module _ (answer other : Answer) where
         let same = tables.one_reading bytes settings x.tables y.tables x.reads y.reads in
         plan_answer y.tables plan (subst (λ t. RefusesPlan t plan answer ⊎ JudgesPlan t plan answer) same x.answers) y.answers
 
+    solves_contents : (limits : SearchLimits) → other.status.code ≡ BAD_INPUT → (contents : List (List ℕ)) → SolvesContents settings limits contents answer → SolvesContents settings limits contents other → answer ≡ other
+    solves_contents limits refused contents (inl x) (inl y) = refuses_tables (table_bytes contents) x y
+    solves_contents limits refused contents (inl x) (inr y) = absurd (tables.reads_no_fault (table_bytes contents) settings y.tables x.file x.row x.kind y.reads x.bad)
+    solves_contents limits refused contents (inr x) (inl y) = absurd (tables.reads_no_fault (table_bytes contents) settings x.tables y.file y.row y.kind x.reads y.bad)
+    solves_contents limits refused contents (inr x) (inr y) = absurd (never_refused y.gives.solution (sym (ap (λ (a : Answer). a.status.code) y.gives.is) ∙ refused))
+
     judges_contents : (contents : List (List ℕ)) → JudgesContents settings contents answer → JudgesContents settings contents other → answer ≡ other
     judges_contents contents (inl x) (inl y) = refuses_tables (table_bytes contents) x y
     judges_contents contents (inl x) (inr y) = absurd (tables.reads_no_fault (table_bytes contents) settings y.tables x.file x.row x.kind y.reads x.bad)
@@ -83,6 +113,7 @@ module _ (answer other : Answer) where
 pub one_answer : (held : Files) (asked : Option Asked) (answer other : Answer) → Answers held asked answer → Answers held asked other → IsFixed asked other → answer ≡ other
 one_answer held None answer other x y fixed = x ∙ sym y
 one_answer held (Some (judge dir settings)) answer other x y fixed = files_answer answer other held dir judge_files (JudgesContents settings) (judges_contents answer other settings) x y
+one_answer held (Some (solve dir settings limits)) answer other x y fixed = files_answer answer other held dir table_files (SolvesContents settings limits) (solves_contents answer other settings limits fixed) x y
 
 -- what was put is the definition's answer
 pub exactly : (told : Option Files) (asked : Option Asked) (answer : Answer) (code : ℕ) (before after : Option (List ℕ)) → IfSome told (λ held. Answers held asked answer)
@@ -108,11 +139,23 @@ legal_answer held dir settings legal =
       }),
     )
 
+-- tables that read are solved
+solved_there : (held : Files) (dir : List ℕ) (settings : Settings) (limits : SearchLimits) (answer : Answer) → Answers held (Some (solve dir settings limits)) answer → TablesThere held dir settings → IsSolution answer.status.code
+solved_there held dir settings limits answer (inl x) there = absurd (held_or_too_long held dir table_files x.file there.contents x.longer there.there)
+solved_there held dir settings limits answer (inr x) there =
+    let same = one_holding held dir table_files x.contents there.contents x.held there.there in
+    by_contents (subst (λ c. SolvesContents settings limits c answer) same x.answers)
+  where
+    by_contents : SolvesContents settings limits there.contents answer → IsSolution answer.status.code
+    by_contents (inl refused) = absurd (tables.reads_no_fault (table_bytes there.contents) settings there.tables refused.file refused.row refused.kind there.reads refused.bad)
+    by_contents (inr solves) = rw (ap (λ (a : Answer). a.status.code) solves.gives.is) (solution_status solves.gives.solution)
+
 complete_there : (held : Files) (asked : Option Asked) (answer : Answer) → Answers held asked answer → IsComplete held asked answer.status.code
 complete_there held None answer answers = tt
 complete_there held (Some (judge dir settings)) answer answers = λ legal.
     let right = legal_answer held dir settings legal in
     ap (λ (a : Answer). a.status.code) (one_answer held (Some (judge dir settings)) answer (says DONE right.0) answers right.1 tt)
+complete_there held (Some (solve dir settings limits)) answer answers = solved_there held dir settings limits answer answers
 
 pub complete : (told : Option Files) (asked : Option Asked) (answer : Answer) (code : ℕ) → IfSome told (λ held. Answers held asked answer) → code ≡ answer.status.code
     → IfSome told (λ held. IsComplete held asked code)

@@ -14,14 +14,22 @@ use Rattle.plan_judge.specs.declared.verdicts.Verdict.TheVariants as verdict
 use Rattle.plan_text.specs.Reading.{PlanBad, PlanReads}
 use Rattle.sched_read.specs.Reading.{BadAt, Reads, TableBytes}
 use Rattle.fleet_cli.specs.Gathered.{AllHeld, FirstTooLong, StandThere}
+use Rattle.fleet_cli.specs.Solved.{IsSolved}
+use Rattle.fleet_cli.specs.Summary.{solved_answer}
 use Rattle.fleet_cli.specs.Texts.{bad_input_text, desk_file_of, plan_refused_text, usage_text, verdict_text}
-use Rattle.fleet_cli.specs.Words.{Asked, judge}
+use Rattle.command_words.specs.Words.{Asked, judge, solve}
+use Rattle.command_words.specs.declared.command.SearchLimits.{SearchLimits}
 use Rattle.fleet_cli.specs.declared.answer.Answer.{Answer}
+use Rattle.fleet_cli.specs.declared.solver.Solved.{Solved}
 use Rattle.fleet_cli.specs.declared.status.TheConstants.{BAD_INPUT, DONE, REFUSED, USAGE}
 
 -- a status and a text, and no file
 abbrev pub says : ℕ → List ℕ → Answer
 says code text = record { status = record { code = code }; text = text; files = [] }
+
+-- the files of the tables, in their order
+abbrev pub table_files : List DeskFile
+table_files = file.Stations ∷ file.Fleets ∷ file.Legs ∷ file.Costs ∷ file.Throughs ∷ []
 
 -- the files that judging reads, in their order
 abbrev pub judge_files : List DeskFile
@@ -80,6 +88,23 @@ abbrev pub JudgesContents : Settings → List (List ℕ) → Answer → Type 0
 JudgesContents settings contents answer =
     RefusesTables (table_bytes contents) settings answer ⊎ AnswersPlan (table_bytes contents) settings (plan_bytes contents) answer
 
+-- a solution of the tables is given, found with so many pivots allowed
+pub record GivesSolution (t : Tables) (pivots : ℕ) (answer : Answer) : Type 0 where
+  pub solution : Solved
+  pub solves : IsSolved t pivots solution
+  pub is : answer ≡ solved_answer t solution
+
+-- the tables read, and a solution of them is given
+pub record SolvesTables (bytes : TableBytes) (settings : Settings) (limits : SearchLimits) (answer : Answer) : Type 0 where
+  pub tables : Tables
+  pub reads : Reads bytes settings tables
+  pub gives : GivesSolution tables limits.pivots answer
+
+-- solving by the contents of the five files
+abbrev pub SolvesContents : Settings → SearchLimits → List (List ℕ) → Answer → Type 0
+SolvesContents settings limits contents answer =
+    RefusesTables (table_bytes contents) settings answer ⊎ SolvesTables (table_bytes contents) settings limits answer
+
 -- a file is too long
 pub record RefusesLength (too_long : DeskFile → Type 0) (answer : Answer) : Type 0 where
   pub file : DeskFile
@@ -97,6 +122,8 @@ abbrev pub AnswersBy : (List ℕ → List DeskFile → DeskFile → Type 0) → 
 AnswersBy too_long holds None answer = answer ≡ says USAGE usage_text
 AnswersBy too_long holds (Some (judge dir settings)) answer =
     RefusesLength (too_long dir judge_files) answer ⊎ AnswersContents (holds dir judge_files) (JudgesContents settings) answer
+AnswersBy too_long holds (Some (solve dir settings limits)) answer =
+    RefusesLength (too_long dir table_files) answer ⊎ AnswersContents (holds dir table_files) (SolvesContents settings limits) answer
 
 -- what the program answers where files are held
 abbrev pub Answers : Files → Option Asked → Answer → Type 0
@@ -111,3 +138,4 @@ AnswersSome longer asked answer = AnswersBy (λ dir names file. longer) (λ dir 
 abbrev pub NamesStand : Option Asked → Files → Type 0
 NamesStand None held = ⊤
 NamesStand (Some (judge dir settings)) held = StandThere dir judge_files held
+NamesStand (Some (solve dir settings limits)) held = StandThere dir table_files held

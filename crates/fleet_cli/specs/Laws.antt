@@ -2,13 +2,15 @@
 use Rattle.std.specs.Prelude.{◌≡◌, Option, Some, None, ⊤}
 use Rattle.plan_desk.specs.Desk.{Files}
 use Rattle.fleet_cli.specs.Answer.{Answers}
-use Rattle.fleet_cli.specs.Words.{Asked, judge}
+use Rattle.command_words.specs.Words.{Asked, judge, solve}
 use Rattle.fleet_cli.specs.declared.answer.Answer.{Answer}
+use Rattle.fleet_cli.specs.declared.status.TheConstants.{BAD_INPUT}
 
 -- an answer that what is held and what is asked leave no choice of
 abbrev pub IsFixed : Option Asked → Answer → Type 0
 IsFixed None answer = ⊤
 IsFixed (Some (judge dir settings)) answer = ⊤
+IsFixed (Some (solve dir settings limits)) answer = answer.status.code ≡ BAD_INPUT
 
 -- what is held and what is asked fix the answer
 abbrev pub OneAnswer : Type 0

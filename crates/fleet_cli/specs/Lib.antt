@@ -3,6 +3,7 @@ pub mod Failed
 pub mod Gathered
 pub mod Laws
 pub mod Run
+pub mod Solved
+pub mod Summary
 pub mod Texts
-pub mod Words
 pub mod Written

@@ -1,22 +1,30 @@
 -- What a run leaves.
-use Rattle.std.specs.Prelude.{◌≡◌, ◌≢◌, ◌⊎◌, ℕ, List, Option, Some, None, IfSome, ⊤}
+use Rattle.std.specs.Prelude.{◌≡◌, ◌≢◌, ◌⊎◌, ℕ, List, [], Option, Some, None, IfSome, ⊤}
 use Rattle.csv_fields.specs.Record.{records_of}
 use Rattle.fleet_model.specs.Legal.{IsLegal}
 use Rattle.fleet_model.specs.declared.parts.Settings.{Settings}
 use Rattle.fleet_model.specs.declared.tables.Tables.{Tables}
 use Rattle.plan_desk.specs.Desk.{Files}
 use Rattle.plan_desk.specs.Sink.{AppendsPrefix, output_with}
+use Rattle.plan_desk.specs.DeskFile.{path_of}
 use Rattle.plan_desk.specs.declared.file.DeskFile.{DeskFile}
+use Rattle.plan_desk.specs.declared.file.DeskFile.TheVariants as desk_file
 use Rattle.plan_text.specs.Reading.{PlanReads}
 use Rattle.sched_read.specs.Reading.{Reads}
-use Rattle.fleet_cli.specs.Answer.{Answers, AnswersSome, judge_files, plan_bytes, table_bytes}
+use Rattle.fleet_cli.specs.Answer.{Answers, AnswersSome, judge_files, plan_bytes, table_bytes, table_files}
 use Rattle.fleet_cli.specs.Gathered.{AllHeld}
 use Rattle.fleet_cli.specs.Laws.{IsFixed}
 use Rattle.fleet_cli.specs.Texts.{fault_text}
-use Rattle.fleet_cli.specs.Words.{Asked, folder_of, judge}
-use Rattle.fleet_cli.specs.Written.{WritesPart, held_with_texts}
+use Rattle.command_words.specs.Words.{Asked, judge, solve}
+use Rattle.fleet_cli.specs.Written.{WritesPart, held_with_texts, under}
 use Rattle.fleet_cli.specs.declared.answer.Answer.{Answer}
-use Rattle.fleet_cli.specs.declared.status.TheConstants.{BAD_INPUT, DONE, FAULT, NO_MEMORY, REFUSED, USAGE}
+use Rattle.fleet_cli.specs.declared.status.TheConstants.{BAD_INPUT, DONE, FAULT, GAP, INFEASIBLE, NO_MEMORY, REFUSED, UNSETTLED, USAGE}
+
+-- the folder that words ask about
+abbrev pub folder_of : Option Asked → List ℕ
+folder_of None = []
+folder_of (Some (judge dir settings)) = dir
+folder_of (Some (solve dir settings limits)) = dir
 
 -- a fact of every status but a fault and want of memory
 abbrev pub IsAnswered : ℕ → Type 0 → Type 0
@@ -53,10 +61,22 @@ pub record LegalThere (held : Files) (dir : List ℕ) (settings : Settings) : Ty
   pub plan_reads : PlanReads tables (records_of (plan_bytes contents)) plan
   pub legal : IsLegal tables plan
 
--- what is good is never refused: a legal plan on tables that read is judged so
+-- the files of a folder are tables that read
+pub record TablesThere (held : Files) (dir : List ℕ) (settings : Settings) : Type 0 where
+  pub contents : List (List ℕ)
+  pub tables : Tables
+  pub there : AllHeld held dir table_files contents
+  pub reads : Reads (table_bytes contents) settings tables
+
+-- a status that tells of a solution
+abbrev pub IsSolution : ℕ → Type 0
+IsSolution code = (code ≡ DONE) ⊎ (code ≡ GAP) ⊎ (code ≡ INFEASIBLE) ⊎ (code ≡ UNSETTLED)
+
+-- what is good is never refused: a legal plan on tables that read is judged so, and tables that read are solved
 abbrev pub IsComplete : Files → Option Asked → ℕ → Type 0
 IsComplete held None code = ⊤
 IsComplete held (Some (judge dir settings)) code = LegalThere held dir settings → code ≡ DONE
+IsComplete held (Some (solve dir settings limits)) code = TablesThere held dir settings → IsSolution code
 
 -- an answer that is right of some contents, all of which was put
 pub record SomeInFull (longer : Type 0) (asked : Option Asked) (code : ℕ) (before after : Option (List ℕ)) : Type 0 where
@@ -97,3 +117,5 @@ IsRefusal code = (code ≡ USAGE) ⊎ (code ≡ BAD_INPUT) ⊎ (code ≡ REFUSED
 abbrev pub KeepsOthers : Option Asked → Option Files → Option Files → Type 0
 KeepsOthers None told stands = stands ≡ told
 KeepsOthers (Some (judge dir settings)) told stands = stands ≡ told
+KeepsOthers (Some (solve dir settings limits)) told stands =
+    (name : List ℕ) → name ≢ path_of dir desk_file.Plan → name ≢ path_of dir desk_file.Proof → under stands name ≡ under told name

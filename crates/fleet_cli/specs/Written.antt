@@ -1,5 +1,5 @@
 -- The files that a run writes, and what stands after them.
-use Rattle.std.specs.Prelude.{◌≡◌, ◌⊎◌, ℕ, ◌<◌, List, [], ◌∷◌, length, take, slice_index_or, Option, Some, option_map}
+use Rattle.std.specs.Prelude.{◌≡◌, ◌⊎◌, ℕ, ◌<◌, List, [], ◌∷◌, length, take, slice_index_or, Option, Some, option_and_then, option_map}
 use Rattle.plan_desk.specs.Desk.{ChangesOnly, Files, with_file}
 use Rattle.plan_desk.specs.DeskFile.{path_of}
 use Rattle.plan_desk.specs.declared.file.DeskFile.TheVariants as desk_file
@@ -31,3 +31,7 @@ pub record WritesPart (dir : List ℕ) (texts : List FileText) (told stands : Op
 -- all texts were written, or some first ones and a part of the next
 abbrev pub StandsAfter : List ℕ → List FileText → Option Files → Option Files → Type 0
 StandsAfter dir texts told stands = (stands ≡ held_with_texts told dir texts) ⊎ WritesPart dir texts told stands
+
+-- what stands under a name, where the desk tells
+abbrev pub under : Option Files → List ℕ → Option (List ℕ)
+under told name = option_and_then (λ held. held name) told

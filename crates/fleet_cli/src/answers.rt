@@ -3,17 +3,18 @@ ghost use Rattle.std.specs.Prelude.{◌≡◌, ◌+◌, IfOk, IfSome, IsSome, Is
 ghost use Rattle.fleet_cli.specs.Answer.{Answers, AnswersSome, NamesStand, says};
 ghost use Rattle.fleet_cli.specs.Failed.{MatchFailure};
 ghost use Rattle.fleet_cli.specs.Texts.{bad_input_text, usage_text};
-ghost use Rattle.fleet_cli.specs.Words.{asked, folder_of};
+ghost use Rattle.command_words.specs.Words.{asked};
 ghost use Rattle.plan_desk.specs.Counts.{Rose, RoseBy};
 ghost use Rattle.plan_desk.specs.declared.file.TheConstants.{TABLE_LIMIT};
 ghost use Rattle.fleet_cli.specs.declared.status.TheConstants.{USAGE};
-ghost use Rattle.fleet_cli.specs.Run.{IsEnd};
+ghost use Rattle.fleet_cli.specs.Run.{IsEnd, folder_of};
 
 use crate::answer::{Answer, Failure};
 use crate::judging::judge_folder;
+use crate::solving::solve_folder;
 use crate::status::USAGE;
 use crate::texts::USAGE_LINE;
-use crate::words::{Command, command_of};
+use command_words::{Command, command_of};
 use entries::NoMemory;
 use plan_desk::Desk;
 use std::alloc::Global;
@@ -41,17 +42,30 @@ pub fn reply_to<'a, D: Desk>(
     ensures steady { D.is_steady desk.old → IsSomeAnd (D.holds desk.old) (NamesStand (asked (map string_bytes words.now))) → MatchFailure result (λ _. ⊤) ⊥ ⊤ }
     ensures stays_steady { D.is_steady desk.old → D.is_steady desk.new }
 {
-    match command_of(words) {
-        Some(Command::Judge { dir, settings }) => {
+    match command_of(alloc, words) {
+        Ok(Some(Command::Judge { dir, settings })) => {
             match judge_folder(alloc, desk, dir, settings) {
                 Ok(answer) => Ok(Reply { dir, answer }),
                 Err(failure) => Err(failure),
             }
         }
-        None => Ok(Reply {
+        Ok(
+            Some(
+                Command::Solve {
+                    dir,
+                    settings,
+                    limits,
+                },
+            ),
+        ) => match solve_folder(alloc, desk, dir, settings, limits) {
+            Ok(answer) => Ok(Reply { dir, answer }),
+            Err(failure) => Err(failure),
+        },
+        Ok(None) => Ok(Reply {
             dir: "",
             answer: usage(alloc)?,
         }),
+        Err(NoMemory) => Err(Failure::NoMemory),
     }
 }
 

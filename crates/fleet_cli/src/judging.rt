@@ -4,7 +4,7 @@ ghost use Rattle.fleet_cli.specs.Answer.{Answers, AnswersSome, JudgesContents, J
 ghost use Rattle.fleet_cli.specs.Failed.{MatchFailure};
 ghost use Rattle.fleet_cli.specs.Gathered.{StandThere, contents_of};
 ghost use Rattle.fleet_cli.specs.Run.{IsEnd};
-ghost use Rattle.fleet_cli.specs.Words.{judge};
+ghost use Rattle.command_words.specs.Words.{judge};
 ghost use Rattle.fleet_model.specs.Limits.{AreSettings};
 ghost use Rattle.plan_desk.specs.Counts.{Rose, RoseBy};
 ghost use Rattle.plan_desk.specs.declared.file.TheConstants.{TABLE_LIMIT};

@@ -8,11 +8,15 @@ mod judging;
 pub mod laws;
 mod refusing;
 mod running;
+pub mod solver;
+mod solving;
 mod status;
+mod summary;
 mod texts;
-mod words;
 mod writing;
 
 pub use running::run;
-pub use status::{BAD_INPUT, DONE, FAULT, NO_MEMORY, REFUSED, Status, USAGE};
+pub use status::{
+    BAD_INPUT, DONE, FAULT, GAP, INFEASIBLE, NO_MEMORY, REFUSED, Status, UNSETTLED, USAGE,
+};
 pub use texts::USAGE_LINE;

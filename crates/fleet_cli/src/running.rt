@@ -2,7 +2,7 @@ ghost use Rattle.std.specs.Prelude.{◌≡◌, ◌≢◌, ◌⊎◌, ◌+◌, So
 ghost use Rattle.fleet_cli.specs.Answer.{NamesStand};
 ghost use Rattle.fleet_cli.specs.Run.{AnswersExactly, AnswersInFull, IsAnswered, IsComplete, IsEnd, IsRefusal, KeepsOthers, LeavesFiles, PutsFault, PutsPart, SomeInFull};
 ghost use Rattle.fleet_cli.specs.Texts.{fault_text, usage_text};
-ghost use Rattle.fleet_cli.specs.Words.{asked};
+ghost use Rattle.command_words.specs.Words.{asked};
 ghost use Rattle.fleet_cli.specs.Written.{StandsAfter, WritesPart, held_with_texts};
 ghost use Rattle.fleet_cli.specs.declared.status.TheConstants.{FAULT, NO_MEMORY, USAGE};
 ghost use Rattle.plan_desk.specs.Counts.{Rose, RoseBy};

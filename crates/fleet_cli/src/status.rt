@@ -5,11 +5,20 @@ pub struct Status {
     pub code: u8,
 }
 
-/// Judged legal.
+/// Judged legal, or solved: the plan that is written is optimal.
 pub const DONE: u8 = 0;
 
 /// The words match no command, or a value is out of its range.
 pub const USAGE: u8 = 2;
+
+/// Solved with a gap: a plan is written, and an open subproblem has a bound below its cost.
+pub const GAP: u8 = 3;
+
+/// Infeasible: no assignment is legal.
+pub const INFEASIBLE: u8 = 4;
+
+/// Unsettled: no plan is written, and a subproblem is open.
+pub const UNSETTLED: u8 = 5;
 
 /// A table or a file is refused.
 pub const BAD_INPUT: u8 = 6;

@@ -16,7 +16,7 @@ use std::alloc::Global;
 pub const USAGE_LINE: &[u8] = b"usage: fleetplan judge|solve|check|make|tails DIR [options]\n";
 
 /// Appends pieces and a line feed to a text.
-fn push_line(text: &mut Vec<u8>, pieces: &[&[u8]]) -> Result<(), NoMemory>
+pub fn push_line(text: &mut Vec<u8>, pieces: &[&[u8]]) -> Result<(), NoMemory>
     ensures { OnOk result (text.new.items ≡ text.old.items ++ line_of (map (λ piece. piece.now) pieces.now)) }
 {
     for piece in pieces {
@@ -179,10 +179,24 @@ fn legal(alloc: Global, tables: &Tables, plan: &Assignment, cost: i128) -> Resul
 {
     let cost = cost.to_string(alloc)?;
     let mut text = line(alloc, &[b"legal: cost ".as_slice(), cost.as_bytes()])?;
-    for fleet in 0..tables.fleet_count() {
-        push_fleet(alloc, &mut text, tables, plan, fleet)?;
-    }
+    push_fleets(alloc, &mut text, tables, plan)?;
     Ok(text)
+}
+
+/// Appends a line for each fleet.
+pub fn push_fleets(
+    alloc: Global,
+    text: &mut Vec<u8>,
+    tables: &Tables,
+    plan: &Assignment,
+) -> Result<(), NoMemory>
+    requires { IsAssignment tables.now plan.now }
+    ensures { OnOk result (text.new.items ≡ text.old.items ++ fleet_lines tables.now plan.now (fleets_in tables.now)) }
+{
+    for fleet in 0..tables.fleet_count() {
+        push_fleet(alloc, text, tables, plan, fleet)?;
+    }
+    Ok(())
 }
 
 /// Appends `fleet F: used N of M`.
