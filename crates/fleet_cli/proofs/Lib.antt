@@ -1,5 +1,6 @@
 pub mod Contents
 pub mod FrontFacts
+pub mod HeadlineFacts
 pub mod OneAnswer
 pub mod OneGathering
 pub mod Others

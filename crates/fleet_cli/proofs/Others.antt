@@ -1,5 +1,5 @@
 -- Names that keep what they hold.
-use Rattle.std.proofs.Common.{◌≡◌, ◌≢◌, ◌⊎◌, ℕ, suc, ◌<◌, List, [], ◌∷◌, length, take, get_or, All, Option, Some, None, IfSome, inl, inr, refl, sym, ap, ◌∙◌, arith, true, false}
+use Rattle.std.proofs.Common.{◌≡◌, ◌≢◌, ◌⊎◌, ℕ, suc, List, [], ◌∷◌, take, All, Option, Some, None, IfSome, inl, inr, refl, sym, ap, ◌∙◌, arith}
 use Rattle.std.specs.Str.{bytes_eq}
 use Rattle.std.proofs.lemmas.List.Elements.{All-from_recursion, All-take}
 use Rattle.std.proofs.lemmas.Map.{update_other}
@@ -8,14 +8,14 @@ use Rattle.command_words.specs.Words.{Asked, judge, solve}
 use Rattle.command_words.specs.declared.command.SearchLimits.{SearchLimits}
 use Rattle.fleet_model.specs.declared.parts.Settings.{Settings}
 use Rattle.fleet_model.specs.declared.tables.Tables.{Tables}
-use Rattle.plan_desk.specs.Desk.{ChangesOnly, Files, held_with, with_file}
+use Rattle.plan_desk.specs.Desk.{Files, with_file}
 use Rattle.plan_desk.specs.DeskFile.{path_of}
 use Rattle.plan_desk.specs.declared.file.DeskFile.TheVariants as desk_file
 use Rattle.fleet_cli.proofs.OneAnswer.{solution_status}
 use Rattle.fleet_cli.specs.Answer.{Answers, JudgesContents, JudgesPlan, RefusesPlan, SolvesContents, plan_bytes}
 use Rattle.fleet_cli.specs.Run.{IsRefusal, IsSolution, KeepsOthers, folder_of}
 use Rattle.fleet_cli.specs.Summary.{solved_answer, solved_files}
-use Rattle.fleet_cli.specs.Written.{StandsAfter, WritesPart, held_with_texts, no_text, text_name, under, with_texts}
+use Rattle.fleet_cli.specs.Written.{StandsAfter, no_text, text_name, under, with_texts}
 use Rattle.fleet_cli.specs.declared.answer.Answer.{Answer}
 use Rattle.fleet_cli.specs.declared.answer.FileText.{FileText}
 use Rattle.fleet_cli.specs.declared.status.TheConstants.{FAULT, NO_MEMORY}

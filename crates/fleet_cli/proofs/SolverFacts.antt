@@ -1,5 +1,5 @@
 -- What the solver of one choice may answer.
-use Rattle.std.proofs.Common.{◌≡◌, ◌≢◌, ℕ, List, [], ℤ, pos, ◌≤ℤ◌, Option, Some, None, refl, sym, ap, subst, ◌∙◌, arith, false, true, rules, inl, inr, ◌⊎◌, ◌<ℤ◌}
+use Rattle.std.proofs.Common.{◌≡◌, ℕ, List, [], ℤ, pos, ◌≤ℤ◌, Some, refl, sym, ap, subst, ◌∙◌, false, true, rules, inl, inr, ◌⊎◌}
 use Rattle.std.proofs.lemmas.List.Elements.{All-from_recursion}
 use Rattle.frac_row.specs.Ratio.{IsCeiling}
 use Rattle.fleet_model.proofs.KeptLaws.{allowed_is_kept, bare_has_none, sole_is_one}
@@ -8,13 +8,12 @@ use Rattle.fleet_model.specs.Legal.{IsLegal, total_cost}
 use Rattle.fleet_model.specs.declared.tables.Tables.{Tables}
 use Rattle.bound_cert.proofs.Duality.{ceiling_is_lower_bound}
 use Rattle.bound_cert.proofs.ZeroPrices.{zero_is_proper}
-use Rattle.bound_cert.specs.Bound.{IsInfeasible, IsLowerBound}
 use Rattle.bound_cert.specs.OfTables.{IsStepOf}
 use Rattle.bound_cert.specs.Worth.{worth_of}
 use Rattle.bound_cert.specs.declared.prices.Prices.{Prices}
 use Rattle.bound_cert.specs.declared.trees.Cause.TheVariants as cause
 use Rattle.bound_cert.specs.declared.trees.Tree.TheVariants as tree
-use Rattle.fleet_cli.specs.Solved.{IsPlanned, IsRefuted, IsRight, IsSolved, PlanFits, tree_of}
+use Rattle.fleet_cli.specs.Solved.{IsPlanned, IsRefuted, IsSolved, PlanFits}
 use Rattle.plan_judge.specs.declared.verdicts.Verdict.{Verdict}
 use Rattle.plan_judge.specs.declared.verdicts.Verdict.TheVariants as verdict
 use Rattle.fleet_cli.specs.declared.solver.Solved.{Solved}

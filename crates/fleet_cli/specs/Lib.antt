@@ -1,6 +1,7 @@
 pub mod Answer
 pub mod Failed
 pub mod Gathered
+pub mod Headline
 pub mod Laws
 pub mod Run
 pub mod Solved

@@ -1,6 +1,6 @@
 -- What a solver answers on tables: a plan with a bound, that there is none, or a bound alone; each with the tree of
 -- subproblems that proves it.
-use Rattle.std.specs.Prelude.{◌≡◌, ℕ, List, [], true, false, ℤ, pos, ◌<ℤ◌, Option, Some, None, ⊤}
+use Rattle.std.specs.Prelude.{◌≡◌, ℕ, List, [], true, false, ℤ, pos, ◌<ℤ◌, Some, None, ⊤}
 use Rattle.fleet_model.specs.Kept.{IsBare, IsFirstBare, IsSole, all_pairs}
 use Rattle.fleet_model.specs.Legal.{IsAssignment, IsLegal, total_cost}
 use Rattle.fleet_model.specs.declared.tables.Tables.{Tables}
@@ -8,7 +8,6 @@ use Rattle.bound_cert.specs.Bound.{IsBound, IsInfeasible, IsLowerBound}
 use Rattle.bound_cert.specs.Leaves.{has_open}
 use Rattle.bound_cert.specs.OfTables.{IsOfTables}
 use Rattle.bound_cert.specs.declared.prices.Prices.{Prices}
-use Rattle.bound_cert.specs.declared.trees.Cause.{Cause}
 use Rattle.bound_cert.specs.declared.trees.Cause.TheVariants as cause
 use Rattle.bound_cert.specs.declared.trees.Tree.{Tree}
 use Rattle.bound_cert.specs.declared.trees.Tree.TheVariants as tree

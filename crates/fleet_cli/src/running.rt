@@ -1,5 +1,6 @@
 ghost use Rattle.std.specs.Prelude.{◌≡◌, ◌≢◌, ◌⊎◌, ◌+◌, Some, None, IfSome, IsSome, IsSomeAnd, map, string_bytes};
 ghost use Rattle.fleet_cli.specs.Answer.{NamesStand};
+ghost use Rattle.fleet_cli.specs.Headline.{Headline};
 ghost use Rattle.fleet_cli.specs.Run.{AnswersExactly, AnswersInFull, IsAnswered, IsComplete, IsEnd, IsRefusal, KeepsOthers, LeavesFiles, PutsFault, PutsPart, SomeInFull};
 ghost use Rattle.fleet_cli.specs.Texts.{fault_text, usage_text};
 ghost use Rattle.command_words.specs.Words.{asked};
@@ -29,6 +30,11 @@ pub fn run<D: Desk, S: Sink>(alloc: Global, words: &[String], desk: &mut D, out:
     // files were written, in their order, and all of its text was put.
     ensures answer { IsAnswered result.code (IfSome (D.holds desk.old) (λ held.
         AnswersInFull held (asked (map string_bytes words.now)) result.code (D.holds desk.new) (S.output out.old) (S.output out.new))) }
+
+    // The headline. Solving leaves one legal plan with its exact cost and a bound that no legal assignment undercuts,
+    // or says that none is legal, or gives a bound alone; the texts of plan and proof stand, and the summary was put.
+    ensures headline { IsAnswered result.code (IfSome (D.holds desk.old) (λ held.
+        Headline held (asked (map string_bytes words.now)) result.code (D.holds desk.new) (S.output out.old) (S.output out.new))) }
 
     // No answer but the definition's is given, so each of these statuses comes exactly by its cause.
     ensures exactly { IsAnswered result.code (IfSome (D.holds desk.old) (λ held.

@@ -1,4 +1,5 @@
 use Rattle.std.proofs.Common.{ap, inl, inr}
+use Rattle.fleet_cli.proofs.HeadlineFacts.{headline}
 use Rattle.fleet_cli.proofs.OneAnswer.{complete, exactly}
 use Rattle.fleet_cli.proofs.Others.{keeps_others, refusal_ends, refusal_leaves}
 use Rattle.fleet_cli.proofs.running.run.Goals as goal
@@ -24,3 +25,8 @@ returns-in-Ok-clause-fault_line g c = λ fault. elim (c.give.ensures.stopped_by_
   | inl stopped ↦ inl (rw c.in-Ok.ensures.faults at stopped.0, inr (record { answer = c.in-Ok.reply.answer; answers = c.in-Ok.ensures.told; part = rw (c.in-Ok.ensures.folder, c.in-Ok.ensures.holds) at stopped.1 }))
   | inr put ↦ inr (record { answer = c.in-Ok.reply.answer; answers = c.in-Ok.ensures.told; written = rw (c.in-Ok.ensures.folder, c.in-Ok.ensures.holds) at put.0; part = put.1 })
 ]
+
+pub returns-in-Ok-clause-headline : goal.returns-in-Ok-clause-headline
+returns-in-Ok-clause-headline g c = λ no_fault memory.
+    headline _ _ _ c.in-Ok.reply.answer _ _ _ c.in-Ok.ensures.told (ap (λ status. status.code) (c.give.ensures.status no_fault memory))
+    (rw (c.in-Ok.ensures.folder, c.in-Ok.ensures.holds) at (c.give.ensures.written no_fault memory)) (c.give.ensures.put no_fault memory)

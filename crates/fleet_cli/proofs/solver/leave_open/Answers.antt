@@ -1,4 +1,4 @@
-use Rattle.std.proofs.Common.{◌≡◌, ℤ, rules, refl, to_z, of_z}
+use Rattle.std.proofs.Common.{◌≡◌, rules, refl, to_z, of_z}
 use Rattle.std.specs.Int.{w128}
 use Rattle.bound_cert.proofs.ZeroPrices.{zero_is_proper}
 use Rattle.fleet_cli.proofs.SolverFacts.{open_solved}

@@ -1,4 +1,4 @@
-use Rattle.std.proofs.Common.{◌≡◌, ℤ, rules, refl, to_z, of_z}
+use Rattle.std.proofs.Common.{◌≡◌, rules, refl, to_z, of_z}
 use Rattle.std.specs.Int.{w128}
 use Rattle.fleet_cli.proofs.SolverFacts.{not_legal, sole_planned, sole_refuted}
 use Rattle.fleet_cli.proofs.solver.solve_sole.Goals as goal

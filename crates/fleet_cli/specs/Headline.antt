@@ -1,0 +1,58 @@
+-- What solving leaves: the plan and its cost, the bound, or that nothing is legal, over what the files held and hold.
+use Rattle.std.specs.Prelude.{◌≡◌, ℕ, List, Bool, true, false, Option, Some, None, ⊤}
+use Rattle.command_words.specs.Words.{Asked, judge, solve}
+use Rattle.fleet_model.specs.declared.parts.Settings.{Settings}
+use Rattle.fleet_model.specs.declared.tables.Tables.{Tables}
+use Rattle.bound_cert.specs.ProofText.{proof_text}
+use Rattle.plan_desk.specs.Desk.{Files}
+use Rattle.plan_desk.specs.DeskFile.{path_of}
+use Rattle.plan_desk.specs.Sink.{output_with}
+use Rattle.plan_desk.specs.declared.file.DeskFile.TheVariants as desk_file
+use Rattle.plan_text.specs.Text.{plan_text}
+use Rattle.sched_read.specs.Reading.{Reads}
+use Rattle.fleet_cli.specs.Answer.{table_bytes, table_files}
+use Rattle.fleet_cli.specs.Gathered.{AllHeld}
+use Rattle.fleet_cli.specs.Run.{IsSolution}
+use Rattle.fleet_cli.specs.Solved.{IsRight, tree_of}
+use Rattle.fleet_cli.specs.Summary.{solved_status, summary_text}
+use Rattle.fleet_cli.specs.declared.solver.Solved.{Solved}
+use Rattle.fleet_cli.specs.declared.solver.Solved.TheVariants as solved
+
+-- there is a plan
+abbrev pub is_planned : Solved → Bool
+is_planned (solved.Planned plan cost bound tree) = true
+is_planned (solved.Infeasible tree) = false
+is_planned (solved.Unsettled bound tree) = false
+
+-- what stands under the plan's name: its text, and what stood there before where there is no plan
+abbrev pub plan_there : Tables → Solved → Option (List ℕ) → Option (List ℕ)
+plan_there t (solved.Planned plan cost bound tree) before = Some (plan_text t plan)
+plan_there t (solved.Infeasible tree) before = before
+plan_there t (solved.Unsettled bound tree) before = before
+
+-- The five files read as tables. Under the plan's name stands the text of one legal plan, under the proof's name
+-- the text of one tree, and the summary with the plan's exact cost, the tree's bound and the status was put. No
+-- legal assignment undercuts that bound; where it says infeasible, none is legal.
+pub record LeavesSolution (held stands : Files) (dir : List ℕ) (settings : Settings) (code : ℕ) (before after : Option (List ℕ)) : Type 0 where
+  pub contents : List (List ℕ)
+  pub tables : Tables
+  pub solution : Solved
+  pub there : AllHeld held dir table_files contents
+  pub reads : Reads (table_bytes contents) settings tables
+  pub right : IsRight tables solution
+  pub plan : stands (path_of dir desk_file.Plan) ≡ plan_there tables solution (held (path_of dir desk_file.Plan))
+  pub proof : stands (path_of dir desk_file.Proof) ≡ Some (proof_text tables (is_planned solution) (tree_of solution))
+  pub put : after ≡ output_with before (summary_text tables solution)
+  pub code_is : code ≡ solved_status solution
+
+-- the desk still tells what it holds, and it is what solving leaves
+pub record TellsSolution (held : Files) (told : Option Files) (dir : List ℕ) (settings : Settings) (code : ℕ) (before after : Option (List ℕ)) : Type 0 where
+  pub stands : Files
+  pub tells : told ≡ Some stands
+  pub leaves : LeavesSolution held stands dir settings code before after
+
+-- the headline: a run that solves leaves a solution, where its status tells of one
+abbrev pub Headline : Files → Option Asked → ℕ → Option Files → Option (List ℕ) → Option (List ℕ) → Type 0
+Headline held None code told before after = ⊤
+Headline held (Some (judge dir settings)) code told before after = ⊤
+Headline held (Some (solve dir settings limits)) code told before after = IsSolution code → TellsSolution held told dir settings code before after
