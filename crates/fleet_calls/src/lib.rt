@@ -16,3 +16,5 @@ mod reading;
 mod schedules;
 #[cfg(test)]
 mod subproblems;
+#[cfg(test)]
+mod worths;
