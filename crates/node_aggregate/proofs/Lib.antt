@@ -1,0 +1,6 @@
+pub mod EventsAmong
+pub mod FirstMinutes
+pub mod Links
+pub mod NodeEnds
+pub mod OneList
+pub mod Rising

@@ -1,0 +1,66 @@
+-- Nodes: the minutes of a period, cut where the aircraft on the ground at a station have to be counted.
+use Rattle.std.specs.Prelude.{◌≡◌, ◌≢◌, ℕ, ◌+◌, ◌-◌, ◌<◌, ◌≤◌, Bool, true, false, nat_lt, nat_le, if◌then◌else◌, List, [], Option, Some, None, length, slice_index, Contains}
+use Rattle.fleet_model.specs.declared.tables.Tables.{Tables}
+use Rattle.fleet_model.specs.Kept.{Domains}
+use Rattle.fleet_model.specs.Use.{last_minute}
+use Rattle.timeline_net.specs.declared.timeline.Event.{Event}
+use Rattle.timeline_net.specs.Events.{AreEvents}
+
+-- in this minute an aircraft is ready, or one departs
+pub record HappensAt (events : List Event) (ready : Bool) (minute : ℕ) : Type 0 where
+  pub by : ℕ
+  pub among : Contains events (record { minute = minute; ready = ready; leg = by })
+
+-- the first minute from one on in which it happens
+pub record IsFirstMinute (events : List Event) (ready : Bool) (from minute : ℕ) : Type 0 where
+  pub no_earlier : from ≤ minute
+  pub happens : HappensAt events ready minute
+  pub first : (m : ℕ) → from ≤ m → HappensAt events ready m → minute ≤ m
+
+-- the sooner of a minute, where there is one, and another
+abbrev pub sooner : Option ℕ → ℕ → ℕ
+sooner (Some minute) other = if nat_le minute other then minute else other
+sooner None other = other
+
+-- in this minute an aircraft is ready, later than a departure at or after the start of a node
+pub record MayStart (events : List Event) (start minute : ℕ) : Type 0 where
+  pub departure : ℕ
+  pub since : start ≤ departure
+  pub departs : HappensAt events false departure
+  pub later : departure < minute
+  pub ready : HappensAt events true minute
+
+-- the start of the node after one: the first of these minutes
+pub record IsNextStart (events : List Event) (start minute : ℕ) : Type 0 where
+  pub may : MayStart events start minute
+  pub first : (m : ℕ) → MayStart events start m → minute ≤ m
+
+-- the starts of the nodes of events
+pub record AreNodes (events : List Event) (starts : List ℕ) : Type 0 where
+  pub none : events ≡ [] → starts ≡ []
+  pub some : events ≢ [] → 0 < length starts
+  pub first : slice_index starts 0 ≡ 0
+  pub next : (k : ℕ) → k + 1 < length starts → IsNextStart events (slice_index starts k) (slice_index starts (k + 1))
+  pub last : (m : ℕ) → ¬ (MayStart events (slice_index starts (length starts - 1)) m)
+
+-- the starts of the nodes of a fleet at a station
+pub record AreNodesAt (t : Tables) (keeps : Domains) (f s : ℕ) (starts : List ℕ) : Type 0 where
+  pub events : List Event
+  pub happen : AreEvents t keeps f s events
+  pub nodes : AreNodes events starts
+
+-- one start or more, of which the first is 0 and each is later than those before
+pub record RiseFromZero (starts : List ℕ) : Type 0 where
+  pub some : 0 < length starts
+  pub first : slice_index starts 0 ≡ 0
+  pub rise : (i j : ℕ) → i < j → j < length starts → slice_index starts i < slice_index starts j
+
+-- the place of the last start that is at most the minute
+pub record IsNodeOf (starts : List ℕ) (minute place : ℕ) : Type 0 where
+  pub within : place < length starts
+  pub started : slice_index starts place ≤ minute
+  pub last : (k : ℕ) → place < k → k < length starts → minute < slice_index starts k
+
+-- the last minute of a node: the one before the next start, and of the last node the last of the period
+abbrev pub node_end : List ℕ → ℕ → ℕ
+node_end starts k = if nat_lt (k + 1) (length starts) then slice_index starts (k + 1) - 1 else last_minute

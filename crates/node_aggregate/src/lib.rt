@@ -1,0 +1,10 @@
+//! Nodes of the time-line network: events of a fleet at a station, gathered where the aircraft on the ground need
+//! no count in between.
+#![tactic(auto)]
+
+pub mod aggregation;
+pub mod laws;
+pub mod places;
+
+pub use aggregation::nodes;
+pub use places::node_of;
