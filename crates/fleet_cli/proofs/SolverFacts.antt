@@ -78,7 +78,7 @@ module _ (t : Tables) where
           of_tree = record { least = bound; is = refl; rounded = ceiling };
           lower = record { each = λ a legal. ceiling_is_lower_bound t (all_pairs t) prices bound a (zero_is_proper t prices one no_rents no_steps) ceiling (legal_kept a legal) legal };
         };
-        of_tables = rw no_steps (All-from_recursion (IsStepOf t) [] tt);
+        of_tables = (rw no_steps (All-from_recursion (IsStepOf t) [] tt), tt);
         caused = record { all_made = refl; some_pair = some_pair; some_choice = some_choice; zero = record { one = one; no_rents = no_rents; no_steps = no_steps } };
       }
 

@@ -54,6 +54,7 @@ abbrev pub IsCaused : Tables → ℕ → Tree → Type 0
 IsCaused t pivots (tree.Bare leg) = IsFirstBare t (all_pairs t) leg
 IsCaused t pivots tree.Sole = IsSole t (all_pairs t)
 IsCaused t pivots (tree.Open prices (cause.Pivots made)) = IsOpenByPivots t pivots prices made
+IsCaused t pivots _ = ⊥
 
 -- the tree of a solution
 abbrev pub tree_of : Solved → Tree
