@@ -1,5 +1,4 @@
-ghost use Rattle.std.specs.Prelude.{◌≡◌, ◌≤◌, ◌<◌, ◌↔◌, ℕ, List, [], IsTrue, length, slice_get, slice_set, option_copied};
-ghost use Rattle.std.specs.Vec.{VecUnchanged};
+ghost use Rattle.std.specs.Prelude.{◌≡◌, ◌<◌, ◌↔◌, [], IsTrue, length, slice_set};
 
 use std::marker::Model;
 

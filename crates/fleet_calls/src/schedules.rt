@@ -1,6 +1,7 @@
 //! Sets of tables, as the bytes of their files.
 ghost use Rattle.std.specs.Prelude.{◌<◌};
 ghost use Rattle.fleet_model.specs.Limits.{AreSettings};
+ghost use Rattle.fleet_model.specs.declared.limits.TheConstants.{MINUTES_PER_DAY};
 
 use fleet_model::{LoadError, Settings, Tables};
 use sched_read::load;
@@ -78,7 +79,7 @@ pub const BACK_BY_NIGHT: Files = Files {
 
 /// Settings with this day start.
 pub fn starting(day_start: u16) -> Settings
-    requires { day_start < 1440 }
+    requires { day_start < MINUTES_PER_DAY }
     ensures { AreSettings result }
 {
     Settings {
@@ -94,7 +95,7 @@ pub fn read(alloc: Global, files: &Files) -> Result<Tables, LoadError> {
 
 /// The tables of five files, with this day start.
 pub fn read_from(alloc: Global, files: &Files, day_start: u16) -> Result<Tables, LoadError>
-    requires { day_start < 1440 }
+    requires { day_start < MINUTES_PER_DAY }
 {
     load(
         alloc,

@@ -88,8 +88,8 @@ fn costs_of(alloc: Global, known: &Known, rows: &[Vec<Vec<u8>>]) -> Result<Vec<P
 {
     let mut pairs = IndexSet::new(alloc);
     let mut costs = Vec::new(alloc);
-    for (place, record) in rows.iter().enumerate() {
-        match cost_of(known, &mut pairs, record) {
+    for (place, row) in rows.iter().enumerate() {
+        match cost_of(known, &mut pairs, row) {
             Ok(cost) => costs.push(cost)?,
             Err(error) => return Err(at_record(TableFile::Costs, place, error)),
         }
@@ -102,14 +102,14 @@ fn costs_of(alloc: Global, known: &Known, rows: &[Vec<Vec<u8>>]) -> Result<Vec<P
 fn cost_of(
     known: &Known,
     pairs: &mut IndexSet<Pair>,
-    record: &[Vec<u8>],
+    row: &[Vec<u8>],
 ) -> Result<PairCost, RecordError>
     requires flights { length known.now.flights ≤ MAX_LEGS }
     requires fleets { length known.now.fleets ≤ MAX_FLEETS }
-    ensures { MatchResult result (IsNewCost known.now.flights known.now.fleets pairs.old.keys pairs.new.keys (fields_in record.now))
-        (IsFaultOf (cost_read known.now.flights known.now.fleets pairs.old.keys (fields_in record.now))) }
+    ensures { MatchResult result (IsNewCost known.now.flights known.now.fleets pairs.old.keys pairs.new.keys (fields_in row.now))
+        (IsFaultOf (cost_read known.now.flights known.now.fleets pairs.old.keys (fields_in row.now))) }
 {
-    let Some((flight, fleet, cost)) = three_fields(record) else {
+    let Some((flight, fleet, cost)) = three_fields(row) else {
         return Err(RecordError::Bad { kind: WRONG_WIDTH });
     };
     if !(is_text(flight) && is_text(fleet) && is_text(cost)) {

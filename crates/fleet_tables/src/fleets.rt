@@ -39,8 +39,8 @@ fn fleets_of(alloc: Global, rows: &[Vec<Vec<u8>>]) -> Result<Vec<Fleet>, LoadErr
 {
     let mut names = Names::new(alloc);
     let mut fleets = Vec::new(alloc);
-    for (place, record) in rows.iter().enumerate() {
-        match fleet_of(alloc, &mut names, record) {
+    for (place, row) in rows.iter().enumerate() {
+        match fleet_of(alloc, &mut names, row) {
             Ok(fleet) => fleets.push(fleet)?,
             Err(error) => return Err(at_record(TableFile::Fleets, place, error)),
         }
@@ -50,11 +50,11 @@ fn fleets_of(alloc: Global, rows: &[Vec<Vec<u8>>]) -> Result<Vec<Fleet>, LoadErr
 
 /// The fleet of a record, below the fleets with these names.
 #[tactic(auto, unfolding(crate::specs::Fleets::fleet_read))]
-fn fleet_of(alloc: Global, names: &mut Names, record: &[Vec<u8>]) -> Result<Fleet, RecordError>
-    ensures { MatchResult result (IsNewFleet names.old names.new (fields_in record.now))
-        (IsFaultOf (fleet_read names.old (fields_in record.now))) }
+fn fleet_of(alloc: Global, names: &mut Names, row: &[Vec<u8>]) -> Result<Fleet, RecordError>
+    ensures { MatchResult result (IsNewFleet names.old names.new (fields_in row.now))
+        (IsFaultOf (fleet_read names.old (fields_in row.now))) }
 {
-    let Some((name, aircraft, turn)) = three_fields(record) else {
+    let Some((name, aircraft, turn)) = three_fields(row) else {
         return Err(RecordError::Bad { kind: WRONG_WIDTH });
     };
     if !(is_text(name) && is_text(aircraft) && is_text(turn)) {

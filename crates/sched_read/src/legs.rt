@@ -85,8 +85,8 @@ fn legs_of(
 {
     let mut flights = Names::new(alloc);
     let mut legs = Vec::new(alloc);
-    for (place, record) in rows.iter().enumerate() {
-        match leg_of(alloc, codes, settings, &mut flights, record) {
+    for (place, row) in rows.iter().enumerate() {
+        match leg_of(alloc, codes, settings, &mut flights, row) {
             Ok(leg) => legs.push(leg)?,
             Err(error) => return Err(at_record(TableFile::Legs, place, error)),
         }
@@ -101,14 +101,14 @@ fn leg_of(
     codes: &Names,
     settings: Settings,
     flights: &mut Names,
-    record: &[Vec<u8>],
+    row: &[Vec<u8>],
 ) -> Result<Leg, RecordError>
     requires few { length codes.now ≤ MAX_STATIONS }
     requires settings { AreSettings settings }
-    ensures { MatchResult result (IsNewLeg codes.now settings flights.old flights.new (fields_in record.now))
-        (IsFaultOf (leg_read codes.now settings flights.old (fields_in record.now))) }
+    ensures { MatchResult result (IsNewLeg codes.now settings flights.old flights.new (fields_in row.now))
+        (IsFaultOf (leg_read codes.now settings flights.old (fields_in row.now))) }
 {
-    let Some((flight, from, dep, to, arr)) = five_fields(record) else {
+    let Some((flight, from, dep, to, arr)) = five_fields(row) else {
         return Err(RecordError::Bad { kind: WRONG_WIDTH });
     };
     if !(is_text(flight) && is_text(from) && is_text(dep) && is_text(to) && is_text(arr)) {
@@ -123,12 +123,7 @@ fn leg_of(
     if !flights.add(alloc, flight)? {
         return Err(RecordError::Bad { kind: DUPLICATE });
     }
-    let Some(from) = codes.number(from) else {
-        return Err(RecordError::Bad {
-            kind: UNKNOWN_STATION,
-        });
-    };
-    let Some(to) = codes.number(to) else {
+    let (Some(from), Some(to)) = (codes.number(from), codes.number(to)) else {
         return Err(RecordError::Bad {
             kind: UNKNOWN_STATION,
         });

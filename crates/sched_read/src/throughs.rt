@@ -83,8 +83,8 @@ fn throughs_of(
 {
     let mut connections = IndexSet::new(alloc);
     let mut throughs = Vec::new(alloc);
-    for (place, record) in rows.iter().enumerate() {
-        match through_of(flights, &mut connections, record) {
+    for (place, row) in rows.iter().enumerate() {
+        match through_of(flights, &mut connections, row) {
             Ok(through) => throughs.push(through)?,
             Err(error) => return Err(at_record(TableFile::Throughs, place, error)),
         }
@@ -97,13 +97,13 @@ fn throughs_of(
 fn through_of(
     flights: &Names,
     connections: &mut IndexSet<Connection>,
-    record: &[Vec<u8>],
+    row: &[Vec<u8>],
 ) -> Result<Through, RecordError>
     requires { length flights.now ≤ MAX_LEGS }
-    ensures { MatchResult result (IsNewThrough flights.now connections.old.keys connections.new.keys (fields_in record.now))
-        (IsFaultOf (through_read flights.now connections.old.keys (fields_in record.now))) }
+    ensures { MatchResult result (IsNewThrough flights.now connections.old.keys connections.new.keys (fields_in row.now))
+        (IsFaultOf (through_read flights.now connections.old.keys (fields_in row.now))) }
 {
-    let Some((arriving, departing, value)) = three_fields(record) else {
+    let Some((arriving, departing, value)) = three_fields(row) else {
         return Err(RecordError::Bad { kind: WRONG_WIDTH });
     };
     if !(is_text(arriving) && is_text(departing) && is_text(value)) {

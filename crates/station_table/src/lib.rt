@@ -42,8 +42,8 @@ fn stations_of(alloc: Global, rows: &[Vec<Vec<u8>>]) -> Result<Vec<Station>, Loa
 {
     let mut codes = Names::new(alloc);
     let mut stations = Vec::new(alloc);
-    for (place, record) in rows.iter().enumerate() {
-        match station_of(alloc, &mut codes, record) {
+    for (place, row) in rows.iter().enumerate() {
+        match station_of(alloc, &mut codes, row) {
             Ok(station) => stations.push(station)?,
             Err(error) => return Err(at_record(TableFile::Stations, place, error)),
         }
@@ -53,11 +53,11 @@ fn stations_of(alloc: Global, rows: &[Vec<Vec<u8>>]) -> Result<Vec<Station>, Loa
 
 /// The station of a record, below the stations with these codes.
 #[tactic(auto, unfolding(crate::specs::Stations::station_read))]
-fn station_of(alloc: Global, codes: &mut Names, record: &[Vec<u8>]) -> Result<Station, RecordError>
-    ensures { MatchResult result (IsNewStation codes.old codes.new (fields_in record.now))
-        (IsFaultOf (station_read codes.old (fields_in record.now))) }
+fn station_of(alloc: Global, codes: &mut Names, row: &[Vec<u8>]) -> Result<Station, RecordError>
+    ensures { MatchResult result (IsNewStation codes.old codes.new (fields_in row.now))
+        (IsFaultOf (station_read codes.old (fields_in row.now))) }
 {
-    let Some((code, extra, flag)) = three_fields(record) else {
+    let Some((code, extra, flag)) = three_fields(row) else {
         return Err(RecordError::Bad { kind: WRONG_WIDTH });
     };
     if !(is_text(code) && is_text(extra) && is_text(flag)) {

@@ -7,6 +7,7 @@ use Rattle.csv_fields.specs.declared.fault.FieldFault.{FieldFault}
 use Rattle.csv_fields.specs.Name.{name_of, station_code_of}
 use Rattle.csv_fields.specs.Number.{number_of as number_written, whole_of, within}
 use Rattle.csv_fields.specs.Time.{clock_time_of}
+use Rattle.fleet_model.specs.declared.limits.TheConstants.{MINUTES_PER_DAY}
 use Rattle.entries.specs.Names.{IsName, IsNameByte, IsStationCode, is_name_byte}
 use Rattle.std.specs.Char.{IsAsciiUppercase, is_ascii_uppercase}
 use Rattle.std.specs.List.{list_all}
@@ -80,7 +81,7 @@ natural_within field greatest n ok = by_number (whole_of field (pos 0) (pos grea
     by_number (Err fault) is read = absurd (cc read)
 
 -- a time of the day is before its end
-pub time_within : (field : List ℕ) (minute : ℕ) → clock_time_of field ≡ Ok minute → minute < 1440
+pub time_within : (field : List ℕ) (minute : ℕ) → clock_time_of field ≡ Ok minute → minute < MINUTES_PER_DAY
 unfolding clock_time_of
 time_within field minute ok = grind (arith, nat_tests)
 

@@ -15,10 +15,10 @@ pub fn below_header<'a>(records: &'a [Vec<Vec<u8>>], header: &[&[u8]]) -> Option
 }
 
 /// Whether a record has the words of the header.
-fn is_header(record: &[Vec<u8>], header: &[&[u8]]) -> bool
-    ensures { IsTrue result ↔ (fields_in record.now ≡ map (λ word. word.now) header.now) }
+fn is_header(row: &[Vec<u8>], header: &[&[u8]]) -> bool
+    ensures { IsTrue result ↔ (fields_in row.now ≡ map (λ word. word.now) header.now) }
 {
-    match (record.split_first(), header.split_first()) {
+    match (row.split_first(), header.split_first()) {
         (None, None) => true,
         (Some((field, fields)), Some((word, words))) => {
             field.as_slice() == *word && is_header(fields, words)

@@ -2,4 +2,4 @@ use Rattle.std.proofs.Common.{length}
 use Rattle.table_rows.proofs.rows.+is_header.Given as goal
 
 abbrev pub decreases-is_header : goal.decreases-is_header
-decreases-is_header l = length l.record.now
+decreases-is_header l = length l.row.now
