@@ -1,6 +1,6 @@
 //! The order in which files are judged, and what reading makes of bytes in any of them.
 use crate::rows::{Counted, Laid, Row, judged, run_refusals, run_row, run_rows};
-use crate::tables::{FILES, LEGAL, first_run};
+use crate::tables::{FIRST_RUN, LEGAL};
 use fleet_cli::{BAD_INPUT, DONE, REFUSED};
 use plan_desk::DeskFile::{Costs, Fleets, Legs, Plan, Stations, Throughs};
 use std::alloc::Global;
@@ -115,11 +115,11 @@ fn lines_and_marks(rt: HostRuntime) -> Result<(), Fail> {
     for change in [Change::CarriageReturns, Change::BlankLines, Change::Mark] {
         let alloc = rt.alloc();
         let mut texts = Vec::new(alloc);
-        for file in FILES {
-            texts.push(changed(alloc, first_run(file), change)?)?;
+        for (_, text) in FIRST_RUN {
+            texts.push(changed(alloc, text, change)?)?;
         }
         let mut laid = Vec::new(alloc);
-        for (file, text) in FILES.iter().zip(texts.iter()) {
+        for ((file, _), text) in FIRST_RUN.iter().zip(texts.iter()) {
             laid.push(Laid::Bytes(*file, text.as_slice()))?;
         }
         let row = judged(laid.as_slice(), DONE, LEGAL);
@@ -140,8 +140,8 @@ fn two_marks(rt: HostRuntime) -> Result<(), Fail> {
         b"bad input: throughs.csv record 1 kind 1\n",
         b"plan refused: record 1 kind 1\n",
     ];
-    for (file, line) in FILES.iter().zip(lines) {
-        let once = changed(rt.alloc(), first_run(*file), Change::Mark)?;
+    for ((file, text), line) in FIRST_RUN.iter().zip(lines) {
+        let once = changed(rt.alloc(), text, Change::Mark)?;
         let twice = changed(rt.alloc(), once.as_slice(), Change::Mark)?;
         let status = if *file == Plan { REFUSED } else { BAD_INPUT };
         run_refusals(&rt, *file, status, &[(twice.as_slice(), line)])?;

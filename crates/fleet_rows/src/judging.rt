@@ -11,18 +11,23 @@ fn the_first_run(rt: HostRuntime) -> Result<(), Fail> {
     run_rows(&rt, &[judged(&[], DONE, LEGAL)])
 }
 
+fn legal<'a>(words: &'a [&'static str]) -> Row<'a, 'static> {
+    Row {
+        laid: &[],
+        words,
+        status: DONE,
+        text: LEGAL,
+        left: &[],
+    }
+}
+
 #[test]
 fn the_day_start_moves_nothing(rt: HostRuntime) -> Result<(), Fail> {
     for time in [
         "00:00", "03:00", "08:00", "08:01", "09:30", "10:30", "23:59",
     ] {
-        let row = Row {
-            laid: &[],
-            words: &["fleetplan", "judge", "d", "--day-start", time],
-            status: DONE,
-            text: LEGAL,
-        };
-        run_rows(&rt, &[row])?;
+        let words = ["fleetplan", "judge", "d", "--day-start", time];
+        run_rows(&rt, &[legal(&words)])?;
     }
     Ok(())
 }

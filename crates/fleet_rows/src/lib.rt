@@ -21,6 +21,8 @@ mod plans;
 #[cfg(test)]
 mod rows;
 #[cfg(test)]
+mod solving;
+#[cfg(test)]
 mod stations;
 #[cfg(test)]
 mod tables;

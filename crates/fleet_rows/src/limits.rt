@@ -1,5 +1,5 @@
 //! Tables at their limits, and one record or one byte past them.
-use crate::rows::{Counted, Laid, judged, run_readings, run_refusals, run_row, run_rows};
+use crate::rows::{Counted, Laid, judged, run_readings, run_refusals, run_row, run_rows, solved};
 use crate::tables::{FLEETS, LEGAL, STATIONS, THROUGHS};
 use fleet_cli::{BAD_INPUT, DONE, FAULT, REFUSED};
 use plan_desk::DeskFile::{self, Costs, Fleets, Legs, Plan, Stations, Throughs};
@@ -172,6 +172,14 @@ fn a_file_of_one_byte_more(rt: HostRuntime) -> Result<(), Fail> {
         run_rows(&rt, &[judged(&laid, BAD_INPUT, line)])?;
     }
     Ok(())
+}
+
+#[test]
+fn solving_a_file_of_one_byte_more(rt: HostRuntime) -> Result<(), Fail> {
+    let text = filled(rt.alloc(), THROUGHS, 4_194_305)?;
+    let laid = [Laid::Bytes(Throughs, text.as_slice())];
+    let line = b"bad input: throughs.csv record 0 kind 12\n";
+    run_rows(&rt, &[solved(&laid, BAD_INPUT, line, &[])])
 }
 
 // A file that is too long is refused in the order of the reads, and before any table is judged.

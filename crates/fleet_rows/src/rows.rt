@@ -1,12 +1,12 @@
 //! A row of a table of tests, and what runs it.
-use crate::tables::{FILES, LEGAL, first_run};
+use crate::tables::{FIRST_RUN, LEGAL};
 use fleet_cli::{DONE, FAULT, run};
 use plan_desk::{Desk, DeskFile, FailingCall, MemoryDesk, MemorySink, Sink};
 use std::alloc::Global;
 use std::process::Abort;
 use std::test::Fail;
 
-/// What lies on the desk in place of a file of the first run.
+/// A file on the desk.
 #[derive(Clone, Copy)]
 pub enum Laid<'a> {
     /// The file with these bytes.
@@ -15,15 +15,17 @@ pub enum Laid<'a> {
     Away(DeskFile),
 }
 
-/// A run, and the status and output that are wanted of it.
+/// A run, and what is wanted of it.
 #[derive(Clone, Copy)]
 pub struct Row<'a, 'b> {
     /// What is laid over the files of the first run.
     pub laid: &'a [Laid<'b>],
     /// The words, the program's name among them.
-    pub words: &'a [&'a str],
+    pub words: &'a [&'static str],
     pub status: u8,
     pub text: &'a [u8],
+    /// What stands after the run in place of what lay before it.
+    pub left: &'a [Laid<'b>],
 }
 
 /// The faults that a run counted.
@@ -33,8 +35,23 @@ pub struct Counted {
     pub sink: u64,
 }
 
+/// All files of a folder.
+const FOLDER: [DeskFile; 8] = [
+    DeskFile::Stations,
+    DeskFile::Fleets,
+    DeskFile::Legs,
+    DeskFile::Costs,
+    DeskFile::Throughs,
+    DeskFile::Plan,
+    DeskFile::Proof,
+    DeskFile::Rotation,
+];
+
 /// The words of a judge whose day starts at midnight.
 pub const JUDGE: &[&str] = &["fleetplan", "judge", "d", "--day-start", "00:00"];
+
+/// The words of a solve whose day starts at midnight.
+const SOLVE: &[&str] = &["fleetplan", "solve", "d", "--day-start", "00:00"];
 
 /// A row of a judge whose day starts at midnight.
 pub fn judged<'a, 'b>(laid: &'a [Laid<'b>], status: u8, text: &'a [u8]) -> Row<'a, 'b> {
@@ -43,6 +60,23 @@ pub fn judged<'a, 'b>(laid: &'a [Laid<'b>], status: u8, text: &'a [u8]) -> Row<'
         words: JUDGE,
         status,
         text,
+        left: &[],
+    }
+}
+
+/// A row of a solve whose day starts at midnight.
+pub fn solved<'a, 'b>(
+    laid: &'a [Laid<'b>],
+    status: u8,
+    text: &'a [u8],
+    left: &'a [Laid<'b>],
+) -> Row<'a, 'b> {
+    Row {
+        laid,
+        words: SOLVE,
+        status,
+        text,
+        left,
     }
 }
 
@@ -100,10 +134,10 @@ pub fn run_row<R: Abort + Alloc<A = Global>>(
     let status = run(alloc, words.as_slice(), &mut desk, &mut sink);
     assert_eq!(rt; sink.put_bytes(), row.text, "row {number}");
     assert_eq!(rt; status.code, row.status, "row {number}");
-    for file in FILES {
+    for file in FOLDER {
         let name = path(alloc, file)?;
         assert!(rt;
-            desk.file(name.as_str()) == content(row, file),
+            desk.file(name.as_str()) == after(row, file),
             "row {number}: {name}"
         );
     }
@@ -113,16 +147,36 @@ pub fn run_row<R: Abort + Alloc<A = Global>>(
     })
 }
 
-/// The bytes that a row lays under a file's name.
-fn content<'b>(row: &Row<'_, 'b>, file: DeskFile) -> Option<&'b [u8]> {
-    for laid in row.laid {
-        match *laid {
+/// The bytes of a file before a run.
+fn before<'b>(row: &Row<'_, 'b>, file: DeskFile) -> Option<&'b [u8]> {
+    laid_over(first_run(file), row.laid, file)
+}
+
+/// The bytes of a file that are wanted after a run.
+fn after<'b>(row: &Row<'_, 'b>, file: DeskFile) -> Option<&'b [u8]> {
+    laid_over(before(row, file), row.left, file)
+}
+
+/// The bytes of a file where these are laid over what lay there.
+fn laid_over<'b>(below: Option<&'b [u8]>, laid: &[Laid<'b>], file: DeskFile) -> Option<&'b [u8]> {
+    for one in laid {
+        match *one {
             Laid::Bytes(name, bytes) if name == file => return Some(bytes),
             Laid::Away(name) if name == file => return None,
             _ => {}
         }
     }
-    Some(first_run(file))
+    below
+}
+
+/// The bytes of a file of the first run.
+fn first_run(file: DeskFile) -> Option<&'static [u8]> {
+    for (name, bytes) in FIRST_RUN {
+        if name == file {
+            return Some(bytes);
+        }
+    }
+    None
 }
 
 fn path(alloc: Global, file: DeskFile) -> Result<String, Fail> {
@@ -133,8 +187,8 @@ fn path(alloc: Global, file: DeskFile) -> Result<String, Fail> {
 
 fn files(alloc: Global, row: &Row<'_, '_>) -> Result<Vec<(String, Vec<u8>)>, Fail> {
     let mut files = Vec::new(alloc);
-    for file in FILES {
-        if let Some(bytes) = content(row, file) {
+    for file in FOLDER {
+        if let Some(bytes) = before(row, file) {
             files.push((path(alloc, file)?, bytes.to_vec(alloc)?))?;
         }
     }

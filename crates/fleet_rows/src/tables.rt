@@ -1,16 +1,6 @@
 //! The files of the first run, over which each row lays its own.
 use plan_desk::DeskFile;
 
-/// The files that `judge` reads.
-pub const FILES: [DeskFile; 6] = [
-    DeskFile::Stations,
-    DeskFile::Fleets,
-    DeskFile::Legs,
-    DeskFile::Costs,
-    DeskFile::Throughs,
-    DeskFile::Plan,
-];
-
 /// Two stations.
 pub const STATIONS: &[u8] = b"code,extra,maintenance\nAAA,0,yes\nBBB,0,no\n";
 
@@ -32,15 +22,19 @@ pub const PLAN: &[u8] = b"flight,fleet\nX1,F1\nX2,F1\n";
 /// What the first run prints.
 pub const LEGAL: &[u8] = b"legal: cost 200\nfleet F1: used 1 of 1\nfleet F2: used 0 of 1\n";
 
-/// The bytes of a file of the first run.
-pub fn first_run(file: DeskFile) -> &'static [u8] {
-    match file {
-        DeskFile::Stations => STATIONS,
-        DeskFile::Fleets => FLEETS,
-        DeskFile::Legs => LEGS,
-        DeskFile::Costs => COSTS,
-        DeskFile::Throughs => THROUGHS,
-        DeskFile::Plan => PLAN,
-        DeskFile::Proof | DeskFile::Rotation => b"",
-    }
-}
+/// What a solve of the first run prints.
+pub const OPEN: &[u8] = b"outcome: unsettled\ncost: none\nbound: 180\nsplits: 0\n\
+    open: 0 nodes, 1 pivots, 0 grew\n";
+
+/// The proof that it writes.
+pub const OPEN_PROOF: &[u8] = b"fleet proof 1\nplan no\nopen pivots 0\nscale 1\nend\n";
+
+/// The files of the first run, in the order in which `judge` reads them.
+pub const FIRST_RUN: [(DeskFile, &[u8]); 6] = [
+    (DeskFile::Stations, STATIONS),
+    (DeskFile::Fleets, FLEETS),
+    (DeskFile::Legs, LEGS),
+    (DeskFile::Costs, COSTS),
+    (DeskFile::Throughs, THROUGHS),
+    (DeskFile::Plan, PLAN),
+];

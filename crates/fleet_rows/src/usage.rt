@@ -1,41 +1,140 @@
-//! Words that ask for nothing.
-use crate::rows::{Row, run_rows};
-use crate::tables::LEGAL;
-use fleet_cli::{DONE, USAGE};
+//! Words that ask for nothing, and the forms of words that ask for something.
+use crate::rows::{Laid, Row, run_rows};
+use crate::tables::{LEGAL, OPEN, OPEN_PROOF};
+use fleet_cli::{DONE, FAULT, UNSETTLED, USAGE};
+use plan_desk::DeskFile::Proof;
+use std::alloc::Global;
+use std::process::Abort;
 use std::test::Fail;
 
-const LINE: &[u8] = b"usage: fleetplan judge|solve|check|make|tails DIR [options]\n";
+/// What is wanted of a run on the files of the first run.
+#[derive(Clone, Copy)]
+struct Wanted {
+    status: u8,
+    text: &'static [u8],
+    left: &'static [Laid<'static>],
+}
 
-fn asking<'a>(words: &'a [&'a str]) -> Row<'a, 'a> {
+const REFUSED_WORDS: Wanted = Wanted {
+    status: USAGE,
+    text: b"usage: fleetplan judge|solve|check|make|tails DIR [options]\n",
+    left: &[],
+};
+
+const JUDGED: Wanted = Wanted {
+    status: DONE,
+    text: LEGAL,
+    left: &[],
+};
+
+const SOLVED: Wanted = Wanted {
+    status: UNSETTLED,
+    text: OPEN,
+    left: &[Laid::Bytes(Proof, OPEN_PROOF)],
+};
+
+const NO_SUCH_FOLDER: Wanted = Wanted {
+    status: FAULT,
+    text: b"fault: stations.csv\n",
+    left: &[],
+};
+
+fn wanting<'a>(words: &'a [&'static str], wanted: Wanted) -> Row<'a, 'static> {
     Row {
         laid: &[],
         words,
-        status: USAGE,
-        text: LINE,
+        status: wanted.status,
+        text: wanted.text,
+        left: wanted.left,
     }
 }
 
+// Runs the words of each line, which are apart by single spaces.
+fn run_lines<R: Abort + Alloc<A = Global>>(
+    rt: &R,
+    lines: &[&'static str],
+    wanted: Wanted,
+) -> Result<(), Fail> {
+    for line in lines {
+        let mut words = Vec::new(rt.alloc());
+        for word in line.split(' ') {
+            words.push(word)?;
+        }
+        run_rows(rt, &[wanting(words.as_slice(), wanted)])?;
+    }
+    Ok(())
+}
+
+const NO_COMMAND: &[&str] = &[
+    "fleetplan judges d --day-start 00:00",
+    "fleetplan Judge d --day-start 00:00",
+    "judge d --day-start 00:00",
+    "fleetplan --day-start 00:00 judge d",
+    "fleetplan check d",
+    "fleetplan make d",
+    "fleetplan tails d",
+    "fleetplan help",
+    "fleetplan help judge",
+    "fleetplan --help",
+    "fleetplan -h",
+    "fleetplan --version",
+];
+
+const NOTHING_TO_JUDGE: &[&str] = &[
+    "fleetplan judge",
+    "fleetplan judge --day-start 00:00",
+    "fleetplan judge -d --day-start 00:00",
+    "fleetplan judge d --day-start 00:00 more",
+    "fleetplan judge d more --day-start 00:00",
+    "fleetplan judge d --day-start",
+    "fleetplan judge d --day-starts 00:00",
+    "fleetplan judge d --day-start 00:00 --day-start 00:00",
+    "fleetplan judge d --nodes 1",
+    "fleetplan judge d --json",
+    "fleetplan judge d -- --day-start 00:00",
+    "fleetplan judge d --help",
+    "fleetplan judge d -h",
+];
+
+const NOTHING_TO_SOLVE: &[&str] = &[
+    "fleetplan solve",
+    "fleetplan solve --nodes 1",
+    "fleetplan solve d more",
+    "fleetplan solve d --nodes",
+    "fleetplan solve d --nodes=",
+    "fleetplan solve d --nodes 1000001",
+    "fleetplan solve d --nodes 000000000000000000000",
+    "fleetplan solve d --nodes +5",
+    "fleetplan solve d --nodes -5",
+    "fleetplan solve d --nodes=-0",
+    "fleetplan solve d --nodes 5.0",
+    "fleetplan solve d --nodes 1 --nodes 2",
+    "fleetplan solve d --pivots 1",
+    "fleetplan solve d --pivots",
+    "fleetplan solve d --pivots 0 --pivots 0",
+    "fleetplan solve d --day-start 24:00",
+    "fleetplan solve d --day-start",
+    "fleetplan solve d --days 1",
+    "fleetplan solve d --json",
+    "fleetplan solve d -- --nodes 5",
+    "fleetplan solve --help",
+    "fleetplan solve d -h",
+];
+
 #[test]
-fn words_that_match_no_command(rt: HostRuntime) -> Result<(), Fail> {
+fn words_that_ask_for_nothing(rt: HostRuntime) -> Result<(), Fail> {
     run_rows(
         &rt,
         &[
-            asking(&[]),
-            asking(&["fleetplan"]),
-            asking(&["fleetplan", ""]),
-            asking(&["fleetplan", "judge"]),
-            asking(&["fleetplan", "judges", "d", "--day-start", "00:00"]),
-            asking(&["fleetplan", "Judge", "d", "--day-start", "00:00"]),
-            asking(&["judge", "d", "--day-start", "00:00"]),
-            asking(&["fleetplan", "judge", "--day-start", "00:00"]),
-            asking(&["fleetplan", "judge", "-d", "--day-start", "00:00"]),
-            asking(&["fleetplan", "judge", "d", "--day-start", "00:00", "more"]),
-            asking(&["fleetplan", "judge", "d", "more", "--day-start", "00:00"]),
-            asking(&["fleetplan", "judge", "d", "--day-start"]),
-            asking(&["fleetplan", "judge", "d", "--day-starts", "00:00"]),
-            asking(&["fleetplan", "judge", "d", "--help"]),
+            wanting(&[], REFUSED_WORDS),
+            wanting(&["fleetplan"], REFUSED_WORDS),
+            wanting(&["fleetplan", ""], REFUSED_WORDS),
         ],
-    )
+    )?;
+    for lines in [NO_COMMAND, NOTHING_TO_JUDGE, NOTHING_TO_SOLVE] {
+        run_lines(&rt, lines, REFUSED_WORDS)?;
+    }
+    Ok(())
 }
 
 #[test]
@@ -44,21 +143,49 @@ fn times_of_a_wrong_form(rt: HostRuntime) -> Result<(), Fail> {
         "24:00", "8:00", "08:60", "08:0", "008:00", "08-00", "08:00 ", " 08:00", "0800", "-8:00",
         "08:00:00", "ab:cd", "",
     ] {
-        run_rows(
-            &rt,
-            &[asking(&["fleetplan", "judge", "d", "--day-start", time])],
-        )?;
+        let words = ["fleetplan", "judge", "d", "--day-start", time];
+        run_rows(&rt, &[wanting(&words, REFUSED_WORDS)])?;
     }
     Ok(())
 }
 
+// Options stand before the folder or behind it, and may be left out. `--` ends them.
 #[test]
-fn the_greatest_time(rt: HostRuntime) -> Result<(), Fail> {
-    let last = Row {
-        laid: &[],
-        words: &["fleetplan", "judge", "d", "--day-start", "23:59"],
-        status: DONE,
-        text: LEGAL,
-    };
-    run_rows(&rt, &[last])
+fn words_that_judge(rt: HostRuntime) -> Result<(), Fail> {
+    let lines = [
+        "fleetplan judge d",
+        "fleetplan judge -- d",
+        "fleetplan judge --day-start 00:00 d",
+        "fleetplan judge --day-start 00:00 -- d",
+        "fleetplan judge d --day-start=23:59",
+        "any judge d",
+    ];
+    run_lines(&rt, &lines, JUDGED)
+}
+
+#[test]
+fn words_that_solve(rt: HostRuntime) -> Result<(), Fail> {
+    let lines = [
+        "fleetplan solve d",
+        "fleetplan solve -- d",
+        "fleetplan solve d --nodes 0",
+        "fleetplan solve d --nodes 1000000 --pivots 0",
+        "fleetplan solve d --nodes=0000000000000000005 --day-start 00:00",
+        "fleetplan solve --pivots=00 --day-start=23:59 --nodes 5 -- d",
+    ];
+    run_lines(&rt, &lines, SOLVED)
+}
+
+// These name folders in which no file stands.
+#[test]
+fn folders_that_begin_with_a_dash(rt: HostRuntime) -> Result<(), Fail> {
+    let lines = [
+        "fleetplan judge -",
+        "fleetplan judge -- -d",
+        "fleetplan judge --day-start 00:00 -- --day-start",
+        "fleetplan solve -",
+        "fleetplan solve --nodes 5 -- -d",
+        "fleetplan solve -- --help",
+    ];
+    run_lines(&rt, &lines, NO_SUCH_FOLDER)
 }
