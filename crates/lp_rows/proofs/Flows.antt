@@ -1,0 +1,110 @@
+-- Flows over the network: the numbers of columns that meet all lines, in counts.
+use Rattle.std.proofs.Common.{◌≡◌, ℕ, zero, suc, ◌+◌, ◌-◌, ◌*◌, ◌<◌, ◌≤◌, if◌then◌else◌, ◌==◌, length, ◌∙◌, ap, subst, inl, inr, arith}
+use Rattle.std.proofs.lemmas.Bool.{cases_lt}
+use Rattle.std.proofs.lemmas.Bool.Decides.{nat_tests}
+use Rattle.sums.specs.Below.{sum_below}
+use Rattle.sums.proofs.Maxima.{max_below-least}
+use Rattle.sums.proofs.Sums.{sum_below-agree, sum_below-le}
+use Rattle.fleet_model.specs.declared.tables.Tables.{Tables}
+use Rattle.fleet_model.specs.Counts.{Weights, arrived, departed}
+use Rattle.fleet_model.specs.Kept.{Domains}
+use Rattle.fleet_model.specs.Mixed.{IsMixedPlan, weight_on}
+use Rattle.fleet_model.specs.Schedule.{fleet_of, fleets_in, legs_in, stations_in}
+use Rattle.fleet_model.specs.Use.{excess, last_minute, laps_flown, need_of, used_of}
+use Rattle.node_aggregate.specs.Laws.{WeighKept, excess_at_end}
+use Rattle.node_aggregate.specs.Nodes.{node_end}
+use Rattle.node_aggregate.proofs.NodeEnds.{end_at_last, need_is_at_node_ends}
+use Rattle.lp_rows.specs.declared.kinds.Node.{Node}
+use Rattle.lp_rows.specs.declared.kinds.Column.{Column}
+use Rattle.lp_rows.specs.declared.kinds.Column.TheVariants.{Flight, Ground, Slack}
+use Rattle.lp_rows.specs.Entries.{IsNode}
+use Rattle.lp_rows.specs.Layout.{IsNetwork, Starts, node_at}
+use Rattle.lp_rows.proofs.LineSums.{coming_to, last_arc, leaving_from}
+use Rattle.lp_rows.proofs.NodeCounts.{come_first, come_next, left_first, left_next, no_need, none_move}
+use Rattle.lp_rows.proofs.Picks.{count_at, place_before}
+
+abbrev pub flown : (Column → ℕ) → Weights
+flown v p = v (Flight p)
+
+-- each leg is flown once, what comes to a node leaves it, and each fleet has its aircraft, so many parts each
+pub record IsFlow (t : Tables) (starts : Starts) (q : ℕ) (v : Column → ℕ) : Type 0 where
+  pub cover : (l : ℕ) → l < legs_in t → weight_on t (flown v) l ≡ q
+  pub balance : (n : Node) → IsNode t starts n
+      → sum_below (coming_to t starts (flown v) n) (legs_in t) + v (Ground (node_at n.fleet n.station (place_before (length (starts n.fleet n.station)) n.place)))
+      ≡ sum_below (leaving_from t starts (flown v) n) (legs_in t) + v (Ground n)
+  pub count : (f : ℕ) → f < fleets_in t → laps_flown t (flown v) f + sum_below (last_arc starts v f) (stations_in t) + v (Slack f) ≡ q * (fleet_of t f).aircraft
+
+-- the last arc, where there is a node, and where there is none
+pub last_is : (starts : Starts) (v : Column → ℕ) (f s : ℕ) → 0 < length (starts f s) → last_arc starts v f s ≡ v (Ground (node_at f s (length (starts f s) - 1)))
+last_is starts v f s some =
+    sum_below-agree (λ k. if length (starts f s) == k + 1 then v (Ground (node_at f s k)) else 0) (λ k. if length (starts f s) - 1 == k then v (Ground (node_at f s k)) else 0) (length (starts f s))
+    (record { each = λ k below. ap (λ b. if b then v (Ground (node_at f s k)) else 0) (same_test (length (starts f s)) k some) })
+    ∙ count_at (length (starts f s) - 1) (λ k. v (Ground (node_at f s k))) (length (starts f s)) (omega arith)
+  where
+    same_test : (n k : ℕ) → 0 < n → (n == k + 1) ≡ (n - 1 == k)
+    same_test n k some = grind (arith, nat_tests)
+
+pub no_last : (starts : Starts) (v : Column → ℕ) (f s : ℕ) → length (starts f s) ≡ 0 → last_arc starts v f s ≡ 0
+no_last starts v f s none = ap (sum_below (λ k. if length (starts f s) == k + 1 then v (Ground (node_at f s k)) else 0)) none
+
+pub before_next : (n k : ℕ) → place_before n (k + 1) ≡ k
+before_next n k = grind (arith, nat_tests)
+
+pub add_one : (k : ℕ) → k + 1 ≡ suc k
+add_one k = omega arith
+
+module _ (t : Tables) (keeps : Domains) (starts : Starts) (q : ℕ) (v : Column → ℕ) (network : IsNetwork t keeps starts) (weigh : WeighKept t keeps (flown v)) (flow : IsFlow t starts q v) where
+  -- an arc has what the last one has and what came, less what left
+  abbrev Conserved : ℕ → ℕ → ℕ → Type 0
+  Conserved f s k = v (Ground (node_at f s k)) + departed t (flown v) f s (node_end (starts f s) k) ≡ v (Ground (node_at f s (length (starts f s) - 1))) + arrived t (flown v) f s (node_end (starts f s) k)
+
+  conserved_next : (f s : ℕ) → f < fleets_in t → s < stations_in t → (k : ℕ) → k + 1 < length (starts f s) → Conserved f s k → Conserved f s (k + 1)
+  conserved_next f s known within k next before =
+      let at = network.each f s known within in
+      let law = flow.balance (node_at f s (k + 1)) (record { fleet = known; station = within; place = next }) in
+      let arc = ap (λ j. v (Ground (node_at f s j))) (before_next (length (starts f s)) k) in
+      omega (arith, before, law, arc, left_next t keeps (flown v) f s starts known weigh at k next, come_next t keeps (flown v) f s starts known weigh at k next)
+
+  conserved : (f s : ℕ) → f < fleets_in t → s < stations_in t → (k : ℕ) → k < length (starts f s) → Conserved f s k
+  conserved f s known within zero below =
+      let at = network.each f s known within in
+      omega (
+        arith,
+        flow.balance (node_at f s 0) (record { fleet = known; station = within; place = below }),
+        left_first t keeps (flown v) f s starts known weigh at,
+        come_first t keeps (flown v) f s starts known weigh at,
+      )
+  conserved f s known within (suc k) below =
+      subst (Conserved f s) (add_one k) (conserved_next f s known within k (omega arith) (conserved f s known within k (omega arith)))
+
+  balanced : (f s : ℕ) → f < fleets_in t → s < stations_in t → arrived t (flown v) f s last_minute ≡ departed t (flown v) f s last_minute
+  balanced f s known within = elim (cases_lt 0 (length (starts f s))) [
+    | inl some ↦
+        let law = conserved f s known within (length (starts f s) - 1) (omega arith) in
+        let end = end_at_last (starts f s) (length (starts f s) - 1) (omega arith) in
+        omega (arith, law, ap (arrived t (flown v) f s) end, ap (departed t (flown v) f s) end)
+    | inr none ↦ none_move t keeps (flown v) f s starts known weigh (network.each f s known within) (omega arith)
+  ]
+
+  need_on_arc : (f s : ℕ) → f < fleets_in t → s < stations_in t → need_of t (flown v) f s ≤ last_arc starts v f s
+  unfolding excess
+  need_on_arc f s known within = elim (cases_lt 0 (length (starts f s))) [
+    | inl some ↦
+        let least = max_below-least (excess_at_end t (flown v) f s (starts f s)) (last_arc starts v f s) (length (starts f s))
+        (record { each = λ k below. omega (arith, conserved f s known within k below, last_is starts v f s some) }) in
+        omega (arith, least, need_is_at_node_ends t keeps (flown v) f s (starts f s) known weigh (network.each f s known within))
+    | inr none ↦ omega (arith, no_need t keeps (flown v) f s starts known weigh (network.each f s known within) (omega arith))
+  ]
+
+  within_fleet : (f : ℕ) → f < fleets_in t → used_of t (flown v) f ≤ q * (fleet_of t f).aircraft
+  unfolding used_of
+  within_fleet f known =
+      omega (arith, flow.count f known, sum_below-le (need_of t (flown v) f) (last_arc starts v f) (stations_in t) (record { each = λ s within. need_on_arc f s known within }))
+
+  pub flow_is_plan : IsMixedPlan t keeps q (flown v)
+  flow_is_plan = record {
+    kept = weigh.each;
+    cover = flow.cover;
+    balanced = record { each = balanced };
+    within = within_fleet;
+  }

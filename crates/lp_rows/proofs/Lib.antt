@@ -1,0 +1,11 @@
+pub mod Built
+pub mod ListSums
+pub mod Picks
+pub mod Places
+pub mod Totals
+pub mod LineSums
+pub mod NodeCounts
+pub mod Flows
+pub mod LineNumbers
+pub mod PointsToPlans
+pub mod PlansToPoints

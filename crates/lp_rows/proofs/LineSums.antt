@@ -1,0 +1,142 @@
+-- What each kind of line comes to at a point, in counts.
+use Rattle.std.proofs.Common.{◌≡◌, ℕ, ◌+◌, ◌<◌, if◌then◌else◌, ◌==◌, ◌&&◌, length, ℤ, pos, ◌+ℤ◌, ◌-ℤ◌, ◌*ℤ◌, sym, ◌∙◌, ap, arith}
+use Rattle.std.proofs.lemmas.Int.{ints}
+use lib.IntN.{zero-*ℤ, *ℤ_comm, *ℤ-zero}
+use Rattle.sums.specs.Below.{sum_below, sum_below_ℤ}
+use Rattle.sums.proofs.WholeSums.{sum_below_ℤ-same}
+use Rattle.sums.proofs.WholeSwaps.{sum_below_ℤ-one, where_true}
+use Rattle.fleet_model.specs.declared.tables.Tables.{Tables}
+use Rattle.fleet_model.specs.Counts.{Weights}
+use Rattle.fleet_model.specs.Kept.{Domains}
+use Rattle.fleet_model.specs.Mixed.{weight_on}
+use Rattle.fleet_model.specs.Schedule.{fleets_in, leg_of, leg_on, legs_in, stations_in}
+use Rattle.fleet_model.specs.Times.{departure, laps_of, ready_minute}
+use Rattle.fleet_model.specs.Use.{laps_at, laps_flown}
+use Rattle.node_aggregate.specs.Laws.{WeighKept}
+use Rattle.lp_rows.specs.declared.kinds.Node.{Node}
+use Rattle.lp_rows.specs.declared.kinds.Column.{Column}
+use Rattle.lp_rows.specs.declared.kinds.Column.TheVariants.{Flight, Ground, Slack}
+use Rattle.lp_rows.specs.Entries.{IsNode, balance_entry, count_entry, cover_entry, is_in, one_if, place_after}
+use Rattle.lp_rows.specs.Layout.{Starts, node_at}
+use Rattle.lp_rows.proofs.ListSums.{of_counts, one_if-times, test_out}
+use Rattle.lp_rows.proofs.Picks.{count_at, count_before, inner_tests, of_differences, one_test, pick_fleet, pick_nodes, place_before, times_test, two_tests}
+use Rattle.lp_rows.proofs.Places.{by_test, no_grounds, no_slacks}
+use Rattle.lp_rows.proofs.Totals.{flights, grounds, slacks}
+
+-- what a leg's weight adds to the aircraft that come to a node
+abbrev pub coming_to : Tables → Starts → Weights → Node → ℕ → ℕ
+coming_to t starts w n l = if ((leg_of t l).to == n.station) && is_in (starts n.fleet n.station) n.place (ready_minute t (leg_on l n.fleet)) then w (leg_on l n.fleet) else 0
+
+-- and to those that leave it
+abbrev pub leaving_from : Tables → Starts → Weights → Node → ℕ → ℕ
+leaving_from t starts w n l = if ((leg_of t l).from == n.station) && is_in (starts n.fleet n.station) n.place (departure t (leg_on l n.fleet)) then w (leg_on l n.fleet) else 0
+
+-- what stands on the last arc of a fleet at a station
+abbrev pub last_arc : Starts → (Column → ℕ) → ℕ → ℕ → ℕ
+last_arc starts v f s = sum_below (λ k. if length (starts f s) == k + 1 then v (Ground (node_at f s k)) else 0) (length (starts f s))
+
+-- all columns by a line's numbers
+abbrev pub line_sum : Tables → Domains → Starts → (Column → ℕ) → (Column → ℤ) → ℤ
+line_sum t keeps starts v e = flights t keeps (λ k. e k *ℤ pos (v k)) +ℤ grounds t starts (λ k. e k *ℤ pos (v k)) +ℤ slacks t (λ k. e k *ℤ pos (v k))
+
+module _ (t : Tables) (keeps : Domains) (starts : Starts) (v : Column → ℕ) (weigh : WeighKept t keeps (λ p. v (Flight p))) where
+  abbrev w : Weights
+  w p = v (Flight p)
+
+  -- what isn't kept weighs nothing
+  unmasked : (e : ℤ) (l f : ℕ) → l < legs_in t → f < fleets_in t → where_true (keeps (leg_on l f)) (e *ℤ pos (w (leg_on l f))) ≡ e *ℤ pos (w (leg_on l f))
+  unmasked e l f below known = by_test (keeps (leg_on l f))
+      (λ kept. ap (λ b. where_true b (e *ℤ pos (w (leg_on l f)))) kept)
+      (λ not_kept. ap (λ b. where_true b (e *ℤ pos (w (leg_on l f)))) not_kept
+      ∙ sym (ap (λ n. e *ℤ pos n) (weigh.each (leg_on l f) (record { leg = below; fleet = known }) not_kept) ∙ *ℤ-zero e))
+
+  pub over_flights : (e : Column → ℤ) (u : ℕ → ℕ → ℤ) → ((l f : ℕ) → e (Flight (leg_on l f)) *ℤ pos (w (leg_on l f)) ≡ u l f)
+      → flights t keeps (λ k. e k *ℤ pos (v k)) ≡ sum_below_ℤ (λ l. sum_below_ℤ (u l) (fleets_in t)) (legs_in t)
+  over_flights e u same =
+      sum_below_ℤ-same (λ l. sum_below_ℤ (λ f. where_true (keeps (leg_on l f)) (e (Flight (leg_on l f)) *ℤ pos (w (leg_on l f)))) (fleets_in t)) (λ l. sum_below_ℤ (u l) (fleets_in t)) (legs_in t)
+      (λ l below. sum_below_ℤ-same (λ f. where_true (keeps (leg_on l f)) (e (Flight (leg_on l f)) *ℤ pos (w (leg_on l f)))) (u l) (fleets_in t)
+      (λ f known. unmasked (e (Flight (leg_on l f))) l f below known ∙ same l f))
+
+  over_grounds : (e : Column → ℤ) (u : ℕ → ℕ → ℕ → ℤ) → ((f s k : ℕ) → e (Ground (node_at f s k)) *ℤ pos (v (Ground (node_at f s k))) ≡ u f s k)
+      → grounds t starts (λ k. e k *ℤ pos (v k)) ≡ sum_below_ℤ (λ f. sum_below_ℤ (λ s. sum_below_ℤ (u f s) (length (starts f s))) (stations_in t)) (fleets_in t)
+  over_grounds e u same =
+      sum_below_ℤ-same (λ f. sum_below_ℤ (λ s. sum_below_ℤ (λ k. e (Ground (node_at f s k)) *ℤ pos (v (Ground (node_at f s k)))) (length (starts f s))) (stations_in t))
+      (λ f. sum_below_ℤ (λ s. sum_below_ℤ (u f s) (length (starts f s))) (stations_in t)) (fleets_in t)
+      (λ f known. sum_below_ℤ-same (λ s. sum_below_ℤ (λ k. e (Ground (node_at f s k)) *ℤ pos (v (Ground (node_at f s k)))) (length (starts f s))) (λ s. sum_below_ℤ (u f s) (length (starts f s))) (stations_in t)
+      (λ s within. sum_below_ℤ-same (λ k. e (Ground (node_at f s k)) *ℤ pos (v (Ground (node_at f s k)))) (u f s) (length (starts f s)) (λ k below. same f s k)))
+
+  -- ---- cover
+  pub cover_sum : (l0 : ℕ) → l0 < legs_in t → line_sum t keeps starts v (cover_entry l0) ≡ pos (weight_on t w l0)
+  cover_sum l0 here =
+      let pairs = over_flights (cover_entry l0) (λ l f. where_true (l0 == l) (pos (w (leg_on l f)))) (λ l f. one_if-times (l0 == l) (pos (w (leg_on l f))))
+      ∙ sum_below_ℤ-same (λ l. sum_below_ℤ (λ f. where_true (l0 == l) (pos (w (leg_on l f)))) (fleets_in t)) (λ l. where_true (l0 == l) (pos (weight_on t w l))) (legs_in t)
+      (λ l below. test_out (l0 == l) (λ f. pos (w (leg_on l f))) (fleets_in t) ∙ ap (where_true (l0 == l)) (of_counts (λ f. w (leg_on l f)) (fleets_in t)))
+      ∙ sum_below_ℤ-one l0 (λ l. pos (weight_on t w l)) (legs_in t) here in
+      let arcs = no_grounds t keeps starts (λ k. cover_entry l0 k *ℤ pos (v k)) (λ n. zero-*ℤ (pos (v (Ground n)))) in
+      let spare = no_slacks t keeps starts (λ k. cover_entry l0 k *ℤ pos (v k)) (λ f. zero-*ℤ (pos (v (Slack f)))) in
+      omega (arith, ints, pairs, arcs, spare)
+
+  -- ---- balance
+  abbrev into : Node → ℕ
+  into n = sum_below (coming_to t starts w n) (legs_in t)
+
+  abbrev out_of : Node → ℕ
+  out_of n = sum_below (leaving_from t starts w n) (legs_in t)
+
+  balance_flights : (n : Node) → n.fleet < fleets_in t → flights t keeps (λ k. balance_entry t starts n k *ℤ pos (v k)) ≡ pos (into n) -ℤ pos (out_of n)
+  balance_flights n known =
+      let part = λ (l f : ℕ).
+      pos (if ((leg_of t l).to == n.station) && is_in (starts n.fleet n.station) n.place (ready_minute t (leg_on l f)) then w (leg_on l f) else 0)
+      -ℤ pos (if ((leg_of t l).from == n.station) && is_in (starts n.fleet n.station) n.place (departure t (leg_on l f)) then w (leg_on l f) else 0) in
+      over_flights (balance_entry t starts n) (λ l f. where_true (n.fleet == f) (part l f))
+      (λ l f. two_tests (n.fleet == f) (((leg_of t l).to == n.station) && is_in (starts n.fleet n.station) n.place (ready_minute t (leg_on l f)))
+      (((leg_of t l).from == n.station) && is_in (starts n.fleet n.station) n.place (departure t (leg_on l f))) (w (leg_on l f)))
+      ∙ sum_below_ℤ-same (λ l. sum_below_ℤ (λ f. where_true (n.fleet == f) (part l f)) (fleets_in t)) (λ l. part l n.fleet) (legs_in t) (λ l below. sum_below_ℤ-one n.fleet (part l) (fleets_in t) known)
+      ∙ of_differences (coming_to t starts w n) (leaving_from t starts w n) (legs_in t)
+
+  -- the arc into a node, and that from it
+  abbrev before : Node → ℕ
+  before n = v (Ground (node_at n.fleet n.station (place_before (length (starts n.fleet n.station)) n.place)))
+
+  balance_grounds : (n : Node) → IsNode t starts n → grounds t starts (λ k. balance_entry t starts n k *ℤ pos (v k)) ≡ pos (before n) -ℤ pos (v (Ground n))
+  balance_grounds n node =
+      let nodes = length (starts n.fleet n.station) in
+      let arc = λ (f s k : ℕ). v (Ground (node_at f s k)) in
+      let part = λ (f s k : ℕ). pos (if n.place == place_after nodes k then arc f s k else 0) -ℤ pos (if n.place == k then arc f s k else 0) in
+      over_grounds (balance_entry t starts n) (λ f s k. where_true (n.fleet == f) (where_true (n.station == s) (part f s k)))
+      (λ f s k. two_tests (n.fleet == f) ((n.station == s) && (n.place == place_after nodes k)) ((n.station == s) && (n.place == k)) (arc f s k)
+      ∙ ap (where_true (n.fleet == f)) (inner_tests (n.station == s) (n.place == place_after nodes k) (n.place == k) (arc f s k)))
+      ∙ pick_nodes (fleets_in t) (stations_in t) n.fleet n.station (λ f s. length (starts f s)) part node.fleet node.station
+      ∙ of_differences (λ k. if n.place == place_after nodes k then arc n.fleet n.station k else 0) (λ k. if n.place == k then arc n.fleet n.station k else 0) nodes
+      ∙ omega (arith, ints, count_before nodes n.place (arc n.fleet n.station) node.place, count_at n.place (arc n.fleet n.station) nodes node.place)
+
+  pub balance_sum : (n : Node) → IsNode t starts n → line_sum t keeps starts v (balance_entry t starts n) ≡ (pos (into n) -ℤ pos (out_of n)) +ℤ (pos (before n) -ℤ pos (v (Ground n)))
+  balance_sum n node =
+      let spare = no_slacks t keeps starts (λ k. balance_entry t starts n k *ℤ pos (v k)) (λ f. zero-*ℤ (pos (v (Slack f)))) in
+      omega (arith, ints, balance_flights n node.fleet, balance_grounds n node, spare)
+
+  -- ---- count
+  count_flights : (f0 : ℕ) → f0 < fleets_in t → flights t keeps (λ k. count_entry t starts f0 k *ℤ pos (v k)) ≡ pos (laps_flown t w f0)
+  unfolding laps_flown
+  count_flights f0 known =
+      over_flights (count_entry t starts f0) (λ l f. where_true (f0 == f) (pos (laps_of t (leg_on l f)) *ℤ pos (w (leg_on l f)))) (λ l f. times_test (f0 == f) (laps_of t (leg_on l f)) (w (leg_on l f)))
+      ∙ sum_below_ℤ-same (λ l. sum_below_ℤ (λ f. where_true (f0 == f) (pos (laps_of t (leg_on l f)) *ℤ pos (w (leg_on l f)))) (fleets_in t)) (λ l. pos (laps_at t w f0 l)) (legs_in t)
+      (λ l below. sum_below_ℤ-one f0 (λ f. pos (laps_of t (leg_on l f)) *ℤ pos (w (leg_on l f))) (fleets_in t) known ∙ *ℤ_comm (pos (laps_of t (leg_on l f0))) (pos (w (leg_on l f0))))
+      ∙ of_counts (laps_at t w f0) (legs_in t)
+
+  count_grounds : (f0 : ℕ) → f0 < fleets_in t → grounds t starts (λ k. count_entry t starts f0 k *ℤ pos (v k)) ≡ pos (sum_below (last_arc starts v f0) (stations_in t))
+  count_grounds f0 known =
+      let part = λ (f s k : ℕ). pos (if length (starts f0 s) == k + 1 then v (Ground (node_at f s k)) else 0) in
+      over_grounds (count_entry t starts f0) (λ f s k. where_true (f0 == f) (part f s k)) (λ f s k. one_test (f0 == f) (length (starts f0 s) == k + 1) (v (Ground (node_at f s k))))
+      ∙ pick_fleet (fleets_in t) (stations_in t) f0 (λ f s. length (starts f s)) part known
+      ∙ sum_below_ℤ-same (λ s. sum_below_ℤ (part f0 s) (length (starts f0 s))) (λ s. pos (last_arc starts v f0 s)) (stations_in t)
+      (λ s within. of_counts (λ k. if length (starts f0 s) == k + 1 then v (Ground (node_at f0 s k)) else 0) (length (starts f0 s)))
+      ∙ of_counts (last_arc starts v f0) (stations_in t)
+
+  count_slacks : (f0 : ℕ) → f0 < fleets_in t → slacks t (λ k. count_entry t starts f0 k *ℤ pos (v k)) ≡ pos (v (Slack f0))
+  count_slacks f0 known =
+      sum_below_ℤ-same (λ f. one_if (f0 == f) *ℤ pos (v (Slack f))) (λ f. where_true (f0 == f) (pos (v (Slack f)))) (fleets_in t) (λ f lt. one_if-times (f0 == f) (pos (v (Slack f))))
+      ∙ sum_below_ℤ-one f0 (λ f. pos (v (Slack f))) (fleets_in t) known
+
+  pub count_sum : (f0 : ℕ) → f0 < fleets_in t → line_sum t keeps starts v (count_entry t starts f0) ≡ pos (laps_flown t w f0 + sum_below (last_arc starts v f0) (stations_in t) + v (Slack f0))
+  count_sum f0 known = omega (arith, ints, count_flights f0 known, count_grounds f0 known, count_slacks f0 known)

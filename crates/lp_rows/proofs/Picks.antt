@@ -1,0 +1,87 @@
+-- Sums in which tests leave one term of many.
+use Rattle.std.proofs.Common.{◌≡◌, ℕ, ◌-◌, ◌<◌, Bool, true, false, if◌then◌else◌, ◌==◌, ◌&&◌, ℤ, pos, ◌-ℤ◌, ◌*ℤ◌, refl, ◌∙◌, ap, arith}
+use Rattle.std.proofs.lemmas.Bool.Decides.{nat_tests}
+use Rattle.std.proofs.lemmas.Int.{ints}
+use lib.IntN.{zero-*ℤ}
+use Rattle.sums.specs.Below.{sum_below, sum_below_ℤ}
+use Rattle.sums.proofs.Integers.{one-*ℤ, -ℤ-*ℤ}
+use Rattle.sums.proofs.Sums.{sum_below-agree, sum_below-one}
+use Rattle.sums.proofs.WholeSums.{sum_below_ℤ-same, sum_below_ℤ--ℤ}
+use Rattle.sums.proofs.WholeSwaps.{sum_below_ℤ-one, where_true}
+use Rattle.lp_rows.specs.Entries.{one_if, place_after}
+use Rattle.lp_rows.proofs.ListSums.{of_counts, test_out}
+
+-- one of two numbers, twice
+pub pick_pair : (m n a b : ℕ) (v : ℕ → ℕ → ℤ) → a < m → b < n → sum_below_ℤ (λ l. sum_below_ℤ (λ f. where_true (a == l) (where_true (b == f) (v l f))) n) m ≡ v a b
+pick_pair m n a b v here there =
+    sum_below_ℤ-same (λ l. sum_below_ℤ (λ f. where_true (a == l) (where_true (b == f) (v l f))) n) (λ l. where_true (a == l) (v l b)) m
+    (λ l below. test_out (a == l) (λ f. where_true (b == f) (v l f)) n ∙ ap (where_true (a == l)) (sum_below_ℤ-one b (v l) n there))
+    ∙ sum_below_ℤ-one a (λ l. v l b) m here
+
+-- of the nodes of all fleets at all stations, those of one fleet at one station
+pub pick_nodes : (fleets stations a b : ℕ) (len : ℕ → ℕ → ℕ) (u : ℕ → ℕ → ℕ → ℤ) → a < fleets → b < stations
+    → sum_below_ℤ (λ f. sum_below_ℤ (λ s. sum_below_ℤ (λ k. where_true (a == f) (where_true (b == s) (u f s k))) (len f s)) stations) fleets ≡ sum_below_ℤ (u a b) (len a b)
+pick_nodes fleets stations a b len u here there =
+    sum_below_ℤ-same (λ f. sum_below_ℤ (λ s. sum_below_ℤ (λ k. where_true (a == f) (where_true (b == s) (u f s k))) (len f s)) stations)
+    (λ f. sum_below_ℤ (λ s. where_true (a == f) (where_true (b == s) (sum_below_ℤ (u f s) (len f s)))) stations) fleets
+    (λ f below. sum_below_ℤ-same (λ s. sum_below_ℤ (λ k. where_true (a == f) (where_true (b == s) (u f s k))) (len f s)) (λ s. where_true (a == f) (where_true (b == s) (sum_below_ℤ (u f s) (len f s)))) stations
+    (λ s lt. test_out (a == f) (λ k. where_true (b == s) (u f s k)) (len f s) ∙ ap (where_true (a == f)) (test_out (b == s) (u f s) (len f s))))
+    ∙ pick_pair fleets stations a b (λ f s. sum_below_ℤ (u f s) (len f s)) here there
+
+-- of the nodes of all fleets, those of one fleet
+pub pick_fleet : (fleets stations a : ℕ) (len : ℕ → ℕ → ℕ) (u : ℕ → ℕ → ℕ → ℤ) → a < fleets
+    → sum_below_ℤ (λ f. sum_below_ℤ (λ s. sum_below_ℤ (λ k. where_true (a == f) (u f s k)) (len f s)) stations) fleets ≡ sum_below_ℤ (λ s. sum_below_ℤ (u a s) (len a s)) stations
+pick_fleet fleets stations a len u here =
+    sum_below_ℤ-same (λ f. sum_below_ℤ (λ s. sum_below_ℤ (λ k. where_true (a == f) (u f s k)) (len f s)) stations) (λ f. where_true (a == f) (sum_below_ℤ (λ s. sum_below_ℤ (u f s) (len f s)) stations)) fleets
+    (λ f below. sum_below_ℤ-same (λ s. sum_below_ℤ (λ k. where_true (a == f) (u f s k)) (len f s)) (λ s. where_true (a == f) (sum_below_ℤ (u f s) (len f s))) stations (λ s lt. test_out (a == f) (u f s) (len f s))
+    ∙ test_out (a == f) (λ s. sum_below_ℤ (u f s) (len f s)) stations)
+    ∙ sum_below_ℤ-one a (λ f. sum_below_ℤ (λ s. sum_below_ℤ (u f s) (len f s)) stations) fleets here
+
+if_at : (a k : ℕ) (v : ℕ → ℕ) → ◌≡◌ {A = ℕ} (if a == k then v k else 0) (if a == k then v a else 0)
+if_at a k v = by_test (a == k) (λ e. let same : a ≡ k = grind (arith, nat_tests) in rw same refl) (λ e. rw e refl)
+  where
+    by_test : {X : Type 0} (b : Bool) → (b ≡ true → X) → (b ≡ false → X) → X
+    by_test true p q = p refl
+    by_test false p q = q refl
+
+-- a count at one place
+pub count_at : (a : ℕ) (v : ℕ → ℕ) (n : ℕ) → a < n → sum_below (λ k. if a == k then v k else 0) n ≡ v a
+count_at a v n here = sum_below-agree (λ k. if a == k then v k else 0) (λ k. if a == k then v a else 0) n (record { each = λ k below. if_at a k v }) ∙ sum_below-one a (v a) n here
+
+-- the place of the node before one
+abbrev pub place_before : ℕ → ℕ → ℕ
+place_before nodes place = if place == 0 then nodes - 1 else place - 1
+
+before_or_after : (n a k : ℕ) → a < n → k < n → (a == place_after n k) ≡ (place_before n a == k)
+before_or_after n a k here there = grind (arith, nat_tests)
+
+pub count_before : (n a : ℕ) (v : ℕ → ℕ) → a < n → sum_below (λ k. if a == place_after n k then v k else 0) n ≡ v (place_before n a)
+count_before n a v here =
+    sum_below-agree (λ k. if a == place_after n k then v k else 0) (λ k. if place_before n a == k then v k else 0) n
+    (record { each = λ k below. ap (λ b. if b then v k else 0) (before_or_after n a k here below) })
+    ∙ count_at (place_before n a) v n (grind (arith, nat_tests))
+
+-- ---- products with tests
+pub one_count : (b : Bool) (v : ℕ) → one_if b *ℤ pos v ≡ pos (if b then v else 0)
+one_count true v = one-*ℤ (pos v)
+one_count false v = zero-*ℤ (pos v)
+
+pub two_tests : (e a b : Bool) (v : ℕ) → (one_if (e && a) -ℤ one_if (e && b)) *ℤ pos v ≡ where_true e (pos (if a then v else 0) -ℤ pos (if b then v else 0))
+two_tests true a b v = omega (arith, ints, -ℤ-*ℤ (one_if a) (one_if b) (pos v), one_count a v, one_count b v)
+two_tests false a b v = zero-*ℤ (pos v)
+
+pub inner_tests : (e a b : Bool) (v : ℕ) → pos (if e && a then v else 0) -ℤ pos (if e && b then v else 0) ≡ where_true e (pos (if a then v else 0) -ℤ pos (if b then v else 0))
+inner_tests true a b v = refl
+inner_tests false a b v = refl
+
+pub one_test : (e a : Bool) (v : ℕ) → one_if (e && a) *ℤ pos v ≡ where_true e (pos (if a then v else 0))
+one_test true a v = one_count a v
+one_test false a v = zero-*ℤ (pos v)
+
+pub times_test : (e : Bool) (n v : ℕ) → (if e then pos n else pos 0) *ℤ pos v ≡ where_true e (pos n *ℤ pos v)
+times_test true n v = refl
+times_test false n v = zero-*ℤ (pos v)
+
+-- a difference of counts
+pub of_differences : (f g : ℕ → ℕ) (n : ℕ) → sum_below_ℤ (λ k. pos (f k) -ℤ pos (g k)) n ≡ pos (sum_below f n) -ℤ pos (sum_below g n)
+of_differences f g n = sum_below_ℤ--ℤ (λ k. pos (f k)) (λ k. pos (g k)) n ∙ omega (arith, ints, of_counts f n, of_counts g n)

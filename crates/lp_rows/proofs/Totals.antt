@@ -1,0 +1,129 @@
+-- Sums over the columns, by their kinds.
+use Rattle.std.proofs.Common.{◌≡◌, ℕ, zero, suc, ◌*◌, ◌^◌, ◌<◌, ◌≤◌, Bool, true, false, if◌then◌else◌, List, [], ◌∷◌, ◌++◌, length, get_or, map, All, ℤ, ◌+ℤ◌, refl, ◌∙◌, ap, arith, length-append}
+use Rattle.std.proofs.lemmas.List.{length-map}
+use Rattle.std.proofs.lemmas.List.Elements.{All-append, All-cons, All-map, All-nil}
+use Rattle.fleet_model.specs.declared.limits.TheConstants.{MINUTES_PER_PERIOD}
+use Rattle.sums.specs.Below.{sum_below_ℤ}
+use Rattle.sums.proofs.WholeSums.{sum_below_ℤ-same}
+use Rattle.sums.proofs.WholeSwaps.{where_true}
+use Rattle.fleet_model.specs.declared.tables.Tables.{Tables}
+use Rattle.fleet_model.specs.Kept.{Domains}
+use Rattle.fleet_model.specs.Schedule.{fleets_in, leg_on, legs_in, stations_in}
+use Rattle.lp_rows.specs.declared.kinds.Node.{Node}
+use Rattle.lp_rows.specs.declared.kinds.Column.{Column}
+use Rattle.lp_rows.specs.declared.kinds.Column.TheVariants.{Flight, Ground, Slack}
+use Rattle.lp_rows.specs.declared.kinds.Line.TheVariants.{Cover, Balance, Count}
+use Rattle.lp_rows.specs.Entries.{IsColumn, IsLine, IsNode}
+use Rattle.lp_rows.specs.Layout.{Starts, all_kept, all_nodes, columns_of, concat_below, lines_of, list_to, node_at, nodes_at, nodes_of, pair_of, pairs_of}
+use Rattle.lp_rows.proofs.ListSums.{by_places, of_append, of_concat, of_list, of_map, of_one, sum_list}
+
+-- over the kept pairs
+abbrev pub flights : Tables → Domains → (Column → ℤ) → ℤ
+flights t keeps h = sum_below_ℤ (λ l. sum_below_ℤ (λ f. where_true (keeps (leg_on l f)) (h (Flight (leg_on l f)))) (fleets_in t)) (legs_in t)
+
+-- over the arcs
+abbrev pub grounds : Tables → Starts → (Column → ℤ) → ℤ
+grounds t starts h = sum_below_ℤ (λ f. sum_below_ℤ (λ s. sum_below_ℤ (λ k. h (Ground (node_at f s k))) (length (starts f s))) (stations_in t)) (fleets_in t)
+
+-- over the slacks
+abbrev pub slacks : Tables → (Column → ℤ) → ℤ
+slacks t h = sum_below_ℤ (λ f. h (Slack f)) (fleets_in t)
+
+module _ (t : Tables) (keeps : Domains) (starts : Starts) (h : Column → ℤ) where
+  over_pairs : sum_list (λ p. h (Flight p)) (all_kept t keeps) ≡ flights t keeps h
+  over_pairs =
+      of_concat (λ p. h (Flight p)) (pairs_of t keeps) (legs_in t)
+      ∙ sum_below_ℤ-same (λ l. sum_list (λ p. h (Flight p)) (pairs_of t keeps l)) (λ l. sum_below_ℤ (λ f. where_true (keeps (leg_on l f)) (h (Flight (leg_on l f)))) (fleets_in t)) (legs_in t)
+      (λ l below. of_concat (λ p. h (Flight p)) (pair_of keeps l) (fleets_in t)
+      ∙ sum_below_ℤ-same (λ f. sum_list (λ p. h (Flight p)) (pair_of keeps l f)) (λ f. where_true (keeps (leg_on l f)) (h (Flight (leg_on l f)))) (fleets_in t)
+      (λ f lt. of_one (λ p. h (Flight p)) (keeps (leg_on l f)) (leg_on l f)))
+
+  over_nodes : sum_list (λ n. h (Ground n)) (all_nodes t starts) ≡ grounds t starts h
+  over_nodes =
+      of_concat (λ n. h (Ground n)) (nodes_of t starts) (fleets_in t)
+      ∙ sum_below_ℤ-same (λ f. sum_list (λ n. h (Ground n)) (nodes_of t starts f)) (λ f. sum_below_ℤ (λ s. sum_below_ℤ (λ k. h (Ground (node_at f s k))) (length (starts f s))) (stations_in t)) (fleets_in t)
+      (λ f below. of_concat (λ n. h (Ground n)) (nodes_at starts f) (stations_in t)
+      ∙ sum_below_ℤ-same (λ s. sum_list (λ n. h (Ground n)) (nodes_at starts f s)) (λ s. sum_below_ℤ (λ k. h (Ground (node_at f s k))) (length (starts f s))) (stations_in t)
+      (λ s lt. of_list (λ n. h (Ground n)) (node_at f s) (length (starts f s))))
+
+  -- over all columns by their places
+  pub over_columns : sum_below_ℤ (λ c. h (get_or (columns_of t keeps starts) c (Slack 0))) (length (columns_of t keeps starts)) ≡ flights t keeps h +ℤ grounds t starts h +ℤ slacks t h
+  over_columns =
+      let split = of_append h (map Flight (all_kept t keeps) ++ map Ground (all_nodes t starts)) (list_to Slack (fleets_in t)) in
+      let front = of_append h (map Flight (all_kept t keeps)) (map Ground (all_nodes t starts)) in
+      let pairs = of_map h Flight (all_kept t keeps) ∙ over_pairs in
+      let nodes = of_map h Ground (all_nodes t starts) ∙ over_nodes in
+      by_places h (columns_of t keeps starts) (Slack 0) ∙ split ∙ ap (λ z. z +ℤ sum_list h (list_to Slack (fleets_in t))) (front ∙ ap (λ z. z +ℤ sum_list h (map Ground (all_nodes t starts))) pairs ∙ ap (λ z. flights t keeps h +ℤ z) nodes)
+      ∙ ap (λ z. flights t keeps h +ℤ grounds t starts h +ℤ z) (of_list h Slack (fleets_in t))
+
+-- what holds of each entry of lists one behind another
+all_concat : {X : Type 0} (P : X → Type 0) (g : ℕ → List X) (n : ℕ) → ((k : ℕ) → k < n → All P (g k)) → All P (concat_below g n)
+all_concat P g zero each = All-nil P
+all_concat P g (suc n) each = All-append P _ _ (all_concat P g n (λ k below. each k (omega arith))) (each n (omega arith))
+
+all_list : {X : Type 0} (P : X → Type 0) (f : ℕ → X) (n : ℕ) → ((k : ℕ) → k < n → P (f k)) → All P (list_to f n)
+all_list P f zero each = All-nil P
+all_list P f (suc n) each = All-append P _ _ (all_list P f n (λ k below. each k (omega arith))) (All-cons P (f n) [] (each n (omega arith)) (All-nil P))
+
+all_one : {X : Type 0} (P : X → Type 0) (b : Bool) (x : X) → (b ≡ true → P x) → All P (if b then x ∷ [] else [])
+all_one P true x here = All-cons P x [] (here refl) (All-nil P)
+all_one P false x here = All-nil P
+
+all_of_nodes : (t : Tables) (starts : Starts) (P : Node → Type 0) → ((n : Node) → IsNode t starts n → P n) → All P (all_nodes t starts)
+all_of_nodes t starts P each =
+    all_concat P (nodes_of t starts) (fleets_in t) (λ f known. all_concat P (nodes_at starts f) (stations_in t) (λ s within. all_list P (node_at f s) (length (starts f s)) (λ k below.
+    each (node_at f s k) (record { fleet = known; station = within; place = below }))))
+
+-- what holds of kept pairs, arcs and slacks holds of all columns
+pub all_columns : (t : Tables) (keeps : Domains) (starts : Starts) (P : Column → Type 0)
+    → ((l f : ℕ) → l < legs_in t → f < fleets_in t → keeps (leg_on l f) ≡ true → P (Flight (leg_on l f))) → ((n : Node) → IsNode t starts n → P (Ground n)) → ((f : ℕ) → f < fleets_in t → P (Slack f))
+    → All P (columns_of t keeps starts)
+all_columns t keeps starts P of_pairs of_nodes of_fleets =
+    All-append P _ _
+    (All-append P _ _
+    (All-map P Flight (all_kept t keeps) (all_concat (λ p. P (Flight p)) (pairs_of t keeps) (legs_in t) (λ l below. all_concat (λ p. P (Flight p)) (pair_of keeps l) (fleets_in t) (λ f known.
+    all_one (λ p. P (Flight p)) (keeps (leg_on l f)) (leg_on l f) (of_pairs l f below known)))))
+    (All-map P Ground (all_nodes t starts) (all_of_nodes t starts (λ n. P (Ground n)) of_nodes)))
+    (all_list P Slack (fleets_in t) of_fleets)
+
+pub columns_are_known : (t : Tables) (keeps : Domains) (starts : Starts) → All (IsColumn t starts) (columns_of t keeps starts)
+columns_are_known t keeps starts = all_columns t keeps starts (IsColumn t starts) (λ l f below known kept. record { leg = below; fleet = known }) (λ n fits. fits) (λ f known. known)
+
+pub lines_are_known : (t : Tables) (starts : Starts) → All (IsLine t starts) (lines_of t starts)
+lines_are_known t starts =
+    All-append (IsLine t starts) _ _
+    (All-append (IsLine t starts) _ _ (all_list (IsLine t starts) Cover (legs_in t) (λ l below. below)) (All-map (IsLine t starts) Balance (all_nodes t starts) (all_of_nodes t starts (λ n. IsLine t starts (Balance n)) (λ n fits. fits))))
+    (all_list (IsLine t starts) Count (fleets_in t) (λ f known. known))
+
+-- how many columns there are, at most
+few_concat : {X : Type 0} (g : ℕ → List X) (n most : ℕ) → ((k : ℕ) → k < n → length (g k) ≤ most) → length (concat_below g n) ≤ n * most
+few_concat g zero most each = omega arith
+few_concat g (suc n) most each = omega (arith, length-append (concat_below g n) (g n), few_concat g n most (λ k below. each k (omega arith)), each n (omega arith))
+
+length-list_to : {X : Type 0} (f : ℕ → X) (n : ℕ) → length (list_to f n) ≡ n
+length-list_to f zero = refl
+length-list_to f (suc n) = omega (arith, length-append (list_to f n) (f n ∷ []), length-list_to f n)
+
+few_one : {X : Type 0} (b : Bool) (x : X) → length (if b then x ∷ [] else []) ≤ 1
+few_one true x = omega arith
+few_one false x = omega arith
+
+pub few_columns : (t : Tables) (keeps : Domains) (starts : Starts) → ((f s : ℕ) → f < fleets_in t → s < stations_in t → length (starts f s) ≤ MINUTES_PER_PERIOD) → length (columns_of t keeps starts) < 2 ^ 32
+few_columns t keeps starts few =
+    let pairs = few_concat (pairs_of t keeps) (legs_in t) 20 (λ l below.
+    let row = few_concat (pair_of keeps l) (fleets_in t) 1 (λ f known. few_one (keeps (leg_on l f)) (leg_on l f)) in omega (arith, row, t.in_range.fleets_fit.few)) in
+    let nodes = few_concat (nodes_of t starts) (fleets_in t) (200 * MINUTES_PER_PERIOD) (λ f known.
+    let row = few_concat (nodes_at starts f) (stations_in t) MINUTES_PER_PERIOD (λ s within. omega (arith, length-list_to (node_at f s) (length (starts f s)), few f s known within)) in
+    omega (arith, row, t.in_range.stations_fit.few)) in
+    omega (
+      arith,
+      pairs,
+      nodes,
+      t.in_range.legs_fit.few,
+      t.in_range.fleets_fit.few,
+      length-append (map Flight (all_kept t keeps) ++ map Ground (all_nodes t starts)) (list_to Slack (fleets_in t)),
+      length-append (map Flight (all_kept t keeps)) (map Ground (all_nodes t starts)),
+      length-map (all_kept t keeps) Flight,
+      length-map (all_nodes t starts) Ground,
+      length-list_to Slack (fleets_in t),
+    )

@@ -1,0 +1,6 @@
+use Rattle.std.proofs.Common.{◌≡◌, ◌++◌}
+use Rattle.lp_rows.specs.Layout.{list_to, node_at}
+use Rattle.lp_rows.proofs.layout.push_station.Given as goal
+
+abbrev pub invariant-loop-place : goal.invariant-loop-place
+invariant-loop-place l = l.nodes.items ≡ l.fn.nodes.items ++ list_to (node_at l.fleet l.station) l.place

@@ -1,0 +1,81 @@
+-- The order of columns and of lines: the one place that says where each stands.
+use Rattle.std.specs.Prelude.{◌≡◌, ℕ, zero, suc, ◌<◌, ◌≤◌, if◌then◌else◌, List, [], ◌∷◌, ◌++◌, map, length, slice_index_or}
+use Rattle.fleet_model.specs.declared.limits.TheConstants.{MINUTES_PER_PERIOD}
+use Rattle.fleet_model.specs.declared.parts.Pair.{Pair}
+use Rattle.fleet_model.specs.declared.tables.Tables.{Tables}
+use Rattle.fleet_model.specs.Kept.{Domains}
+use Rattle.fleet_model.specs.Schedule.{fleets_in, leg_on, legs_in, stations_in}
+use Rattle.node_aggregate.specs.Nodes.{AreNodesAt}
+use Rattle.lp_rows.specs.declared.kinds.Node.{Node}
+use Rattle.lp_rows.specs.declared.kinds.Column.{Column}
+use Rattle.lp_rows.specs.declared.kinds.Column.TheVariants.{Flight, Ground, Slack}
+use Rattle.lp_rows.specs.declared.kinds.Line.{Line}
+use Rattle.lp_rows.specs.declared.kinds.Line.TheVariants.{Cover, Balance, Count}
+
+-- the starts of the nodes, by fleet and station
+abbrev pub Starts : Type 0
+Starts = ℕ → ℕ → List ℕ
+
+-- those that lists of lists have
+abbrev pub starts_in : List (List (List ℕ)) → Starts
+starts_in lists f s = slice_index_or (slice_index_or lists f []) s []
+
+-- the network of a subproblem: the nodes of each fleet at each station
+pub record IsNetwork (t : Tables) (keeps : Domains) (starts : Starts) : Type 0 where
+  pub each : (f s : ℕ) → f < fleets_in t → s < stations_in t → AreNodesAt t keeps f s (starts f s)
+
+-- the nodes of one fleet, station by station
+pub record HaveNodes (t : Tables) (keeps : Domains) (f : ℕ) (stations : List (List ℕ)) : Type 0 where
+  pub all : length stations ≡ stations_in t
+  pub each : (s : ℕ) → s < stations_in t → AreNodesAt t keeps f s (slice_index_or stations s [])
+
+-- a list for each fleet, and in it one for each station, of no more starts than there are minutes
+pub record AreByStation (t : Tables) (lists : List (List (List ℕ))) : Type 0 where
+  pub fleets : length lists ≡ fleets_in t
+  pub stations : (f : ℕ) → f < fleets_in t → length (slice_index_or lists f []) ≡ stations_in t
+  pub few : (f s : ℕ) → f < fleets_in t → s < stations_in t → length (starts_in lists f s) ≤ MINUTES_PER_PERIOD
+
+-- g 0, g 1, .. up to and without g n, one behind another
+abbrev pub concat_below : {X : Type 0} → (ℕ → List X) → ℕ → List X
+concat_below g zero = []
+concat_below g (suc n) = concat_below g n ++ g n
+
+-- f 0, f 1, .. up to and without f n
+abbrev pub list_to : {X : Type 0} → (ℕ → X) → ℕ → List X
+list_to f zero = []
+list_to f (suc n) = list_to f n ++ f n ∷ []
+
+abbrev pub node_at : ℕ → ℕ → ℕ → Node
+node_at f s k = record { fleet = f; station = s; place = k }
+
+-- the nodes of a fleet at a station
+abbrev pub nodes_at : Starts → ℕ → ℕ → List Node
+nodes_at starts f s = list_to (node_at f s) (length (starts f s))
+
+-- the nodes of a fleet, by station
+abbrev pub nodes_of : Tables → Starts → ℕ → List Node
+nodes_of t starts f = concat_below (nodes_at starts f) (stations_in t)
+
+-- all nodes, by fleet
+abbrev pub all_nodes : Tables → Starts → List Node
+all_nodes t starts = concat_below (nodes_of t starts) (fleets_in t)
+
+-- the pair of a leg and a fleet, where it is kept
+abbrev pub pair_of : Domains → ℕ → ℕ → List Pair
+pair_of keeps l f = if keeps (leg_on l f) then leg_on l f ∷ [] else []
+
+-- the kept pairs of a leg, by fleet
+abbrev pub pairs_of : Tables → Domains → ℕ → List Pair
+pairs_of t keeps l = concat_below (pair_of keeps l) (fleets_in t)
+
+-- all kept pairs, by leg
+abbrev pub all_kept : Tables → Domains → List Pair
+all_kept t keeps = concat_below (pairs_of t keeps) (legs_in t)
+
+-- the kept pairs, the ground arcs, the slacks
+abbrev pub columns_of : Tables → Domains → Starts → List Column
+columns_of t keeps starts = map Flight (all_kept t keeps) ++ map Ground (all_nodes t starts) ++ list_to Slack (fleets_in t)
+
+-- the cover lines, the balance lines, the count lines
+abbrev pub lines_of : Tables → Starts → List Line
+lines_of t starts = list_to Cover (legs_in t) ++ map Balance (all_nodes t starts) ++ list_to Count (fleets_in t)

@@ -1,0 +1,64 @@
+-- Points of the lines of a subproblem, and the mixed plans that they stand for.
+use Rattle.std.specs.Prelude.{◌≡◌, ℕ, ◌<◌, Bool, false, ◌==◌, ◌&&◌, if◌then◌else◌, List, length, slice_index_or, ℤ, pos, ◌*ℤ◌}
+use Rattle.sums.specs.Below.{sum_below, sum_below_ℤ}
+use Rattle.fleet_model.specs.declared.parts.Pair.{Pair}
+use Rattle.fleet_model.specs.declared.tables.Tables.{Tables}
+use Rattle.fleet_model.specs.Counts.{Weights}
+use Rattle.fleet_model.specs.Kept.{Domains}
+use Rattle.fleet_model.specs.Mixed.{IsMixedPlan, mixed_cost}
+use Rattle.fleet_model.specs.Schedule.{IsPair}
+use Rattle.row_store.specs.Problem.{entry}
+use Rattle.row_store.specs.declared.problem.Rows.{Rows}
+use Rattle.lp_rows.specs.declared.kinds.Column.{Column}
+use Rattle.lp_rows.specs.declared.kinds.Column.TheVariants.{Flight, Ground, Slack}
+use Rattle.lp_rows.specs.Entries.{same_node}
+use Rattle.lp_rows.specs.Layout.{Starts, columns_of}
+use Rattle.lp_rows.specs.Program.{AreRows}
+
+abbrev pub same_column : Column → Column → Bool
+same_column (Flight p) (Flight q) = (p.leg == q.leg) && (p.fleet == q.fleet)
+same_column (Ground a) (Ground b) = same_node a b
+same_column (Slack f) (Slack g) = f == g
+same_column a b = false
+
+-- the column at a place
+abbrev pub column_at : List Column → ℕ → Column
+column_at columns c = slice_index_or columns c (Slack 0)
+
+-- what a point gives to a column: the number at its place, and 0 where it has none
+abbrev pub value_of : List Column → (ℕ → ℕ) → Column → ℕ
+value_of columns x column = sum_below (λ c. if same_column column (column_at columns c) then x c else 0) (length columns)
+
+-- the pair part of a point
+abbrev pub pair_part : List Column → (ℕ → ℕ) → Weights
+pair_part columns x p = value_of columns x (Flight p)
+
+-- a point of the lines, over a scale: numbers of at least 0, one for each column, by which each line comes to its
+-- right side, so many parts each
+pub record MeetsRows (rows : Rows) (scale : ℕ) (x : ℕ → ℕ) : Type 0 where
+  pub each : (line : ℕ) → line < length rows.lines
+      → sum_below_ℤ (λ c. entry rows line c *ℤ pos (x c)) rows.columns ≡ entry rows line rows.columns *ℤ pos scale
+
+-- the pair part of each point is a mixed plan of its scale
+abbrev pub PointsArePlans : Type 0
+PointsArePlans = (t : Tables) (keeps : Domains) (starts : Starts) (rows : Rows) (scale : ℕ) (x : ℕ → ℕ) → AreRows t keeps starts rows
+    → MeetsRows rows scale x → IsMixedPlan t keeps scale (pair_part (columns_of t keeps starts) x)
+
+-- a point whose pair part is a mixed plan
+pub record IsPointOf (t : Tables) (columns : List Column) (rows : Rows) (scale : ℕ) (w : Weights) (x : ℕ → ℕ) : Type 0 where
+  pub meets : MeetsRows rows scale x
+  pub pairs : (p : Pair) → IsPair t p → pair_part columns x p ≡ w p
+
+-- each mixed plan is the pair part of a point
+abbrev pub PlansArePoints : Type 0
+PlansArePoints = (t : Tables) (keeps : Domains) (starts : Starts) (rows : Rows) (scale : ℕ) (w : Weights) → AreRows t keeps starts rows
+    → IsMixedPlan t keeps scale w → (x : ℕ → ℕ) × IsPointOf t (columns_of t keeps starts) rows scale w x
+
+-- what a point costs, times its scale
+abbrev pub point_cost : Rows → (ℕ → ℕ) → ℤ
+point_cost rows x = sum_below_ℤ (λ c. slice_index_or rows.costs c (pos 0) *ℤ pos (x c)) rows.columns
+
+-- a point costs what its pair part does
+abbrev pub PointsCostAsPlans : Type 0
+PointsCostAsPlans = (t : Tables) (keeps : Domains) (starts : Starts) (rows : Rows) (x : ℕ → ℕ) → AreRows t keeps starts rows
+    → point_cost rows x ≡ mixed_cost t (pair_part (columns_of t keeps starts) x)

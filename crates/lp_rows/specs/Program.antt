@@ -1,0 +1,20 @@
+-- The lines of a subproblem, as a list of numbers each.
+use Rattle.std.specs.Prelude.{◌≡◌, List, [], ◌∷◌, ◌++◌, map, length, ℤ}
+use Rattle.fleet_model.specs.declared.tables.Tables.{Tables}
+use Rattle.fleet_model.specs.Kept.{Domains}
+use Rattle.row_store.specs.declared.problem.Rows.{Rows}
+use Rattle.lp_rows.specs.declared.kinds.Column.{Column}
+use Rattle.lp_rows.specs.declared.kinds.Line.{Line}
+use Rattle.lp_rows.specs.Entries.{column_cost, entry_of, right_side_of}
+use Rattle.lp_rows.specs.Layout.{IsNetwork, Starts, columns_of, lines_of}
+
+-- a line's numbers, and then its right side
+abbrev pub numbers_of : Tables → Starts → List Column → Line → List ℤ
+numbers_of t starts columns line = map (entry_of t starts line) columns ++ right_side_of t line ∷ []
+
+-- the lines and costs of a subproblem over its network
+pub record AreRows (t : Tables) (keeps : Domains) (starts : Starts) (rows : Rows) : Type 0 where
+  pub network : IsNetwork t keeps starts
+  pub columns : rows.columns ≡ length (columns_of t keeps starts)
+  pub lines : rows.lines ≡ map (numbers_of t starts (columns_of t keeps starts)) (lines_of t starts)
+  pub costs : rows.costs ≡ map (column_cost t) (columns_of t keeps starts)

@@ -1,0 +1,32 @@
+use fleet_model::Pair;
+
+/// A node of the time-line network: of a fleet at a station, all by number, in the order of the minutes. The arc
+/// from it to the next node goes by the same numbers.
+#[derive(Clone, Copy, Debug, PartialEq, Eq)]
+pub struct Node {
+    pub fleet: u32,
+    pub station: u32,
+    pub place: u32,
+}
+
+/// What a column stands for.
+#[derive(Clone, Copy, Debug, PartialEq, Eq)]
+pub enum Column {
+    /// How much of a leg a fleet flies.
+    Flight(Pair),
+    /// The aircraft on the ground from the end of a node to the next one.
+    Ground(Node),
+    /// The aircraft of a fleet that are not used.
+    Slack { fleet: u32 },
+}
+
+/// What a line asks for.
+#[derive(Clone, Copy, Debug, PartialEq, Eq)]
+pub enum Line {
+    /// Each leg is flown once.
+    Cover { leg: u32 },
+    /// As many aircraft come to a node as leave it.
+    Balance(Node),
+    /// A fleet's aircraft at the day start are those that it has.
+    Count { fleet: u32 },
+}

@@ -1,0 +1,186 @@
+//! The order of columns and of lines.
+ghost use Rattle.std.specs.Prelude.{◌≡◌, ◌<◌, ◌++◌, map, IfOk, OnOk};
+ghost use Rattle.fleet_model.specs.declared.limits.TheConstants.{MAX_FLEETS, MAX_LEGS};
+ghost use Rattle.fleet_model.specs.Kept.{kept_by};
+ghost use Rattle.fleet_model.specs.Schedule.{fleets_in, legs_in, stations_in};
+ghost use Rattle.lp_rows.specs.Layout.{AreByStation, all_kept, all_nodes, columns_of, lines_of, list_to, nodes_at, nodes_of, pair_of, pairs_of, starts_in};
+ghost use Rattle.lp_rows.specs.declared.kinds.Column.TheVariants.{Flight, Ground, Slack};
+ghost use Rattle.lp_rows.specs.declared.kinds.Line.TheVariants.{Balance, Count, Cover};
+
+use crate::kinds::{Column, Line, Node};
+use crate::network::Network;
+use entries::NoMemory;
+use fleet_model::{Kept, Pair, Tables};
+use std::alloc::Global;
+
+/// The columns: the kept pairs by leg, then fleet; the ground arcs by fleet, station and node; a slack for each
+/// fleet.
+pub fn columns(
+    alloc: Global,
+    tables: &Tables,
+    kept: &Kept,
+    network: &Network,
+) -> Result<Vec<Column>, NoMemory>
+    requires { AreByStation tables.now network.now }
+    ensures { IfOk result (λ columns. columns.items ≡ columns_of tables.now (kept_by kept.now) (starts_in network.now)) }
+{
+    let mut columns = Vec::new(alloc);
+    push_flights(&mut columns, &kept_pairs(alloc, tables, kept)?)?;
+    push_grounds(&mut columns, &network_nodes(alloc, tables, network)?)?;
+    push_slacks(&mut columns, tables)?;
+    Ok(columns)
+}
+
+/// The lines: a cover line for each leg; a balance line for each node, by fleet, station and node; a count line for
+/// each fleet.
+pub fn lines(alloc: Global, tables: &Tables, network: &Network) -> Result<Vec<Line>, NoMemory>
+    requires { AreByStation tables.now network.now }
+    ensures { IfOk result (λ lines. lines.items ≡ lines_of tables.now (starts_in network.now)) }
+{
+    let mut lines = Vec::new(alloc);
+    push_covers(&mut lines, tables)?;
+    push_balances(&mut lines, &network_nodes(alloc, tables, network)?)?;
+    push_counts(&mut lines, tables)?;
+    Ok(lines)
+}
+
+fn push_flights(columns: &mut Vec<Column>, pairs: &[Pair]) -> Result<(), NoMemory>
+    ensures { OnOk result (columns.new.items ≡ columns.old.items ++ map Flight pairs.now) }
+{
+    for pair in pairs {
+        columns.push(Column::Flight(*pair))?;
+    }
+    Ok(())
+}
+
+fn push_grounds(columns: &mut Vec<Column>, nodes: &[Node]) -> Result<(), NoMemory>
+    ensures { OnOk result (columns.new.items ≡ columns.old.items ++ map Ground nodes.now) }
+{
+    for node in nodes {
+        columns.push(Column::Ground(*node))?;
+    }
+    Ok(())
+}
+
+fn push_slacks(columns: &mut Vec<Column>, tables: &Tables) -> Result<(), NoMemory>
+    ensures { OnOk result (columns.new.items ≡ columns.old.items ++ list_to Slack (fleets_in tables.now)) }
+{
+    for fleet in 0..tables.fleet_count() {
+        columns.push(Column::Slack { fleet })?;
+    }
+    Ok(())
+}
+
+fn push_covers(lines: &mut Vec<Line>, tables: &Tables) -> Result<(), NoMemory>
+    ensures { OnOk result (lines.new.items ≡ lines.old.items ++ list_to Cover (legs_in tables.now)) }
+{
+    for leg in 0..tables.leg_count() {
+        lines.push(Line::Cover { leg })?;
+    }
+    Ok(())
+}
+
+fn push_balances(lines: &mut Vec<Line>, nodes: &[Node]) -> Result<(), NoMemory>
+    ensures { OnOk result (lines.new.items ≡ lines.old.items ++ map Balance nodes.now) }
+{
+    for node in nodes {
+        lines.push(Line::Balance(*node))?;
+    }
+    Ok(())
+}
+
+fn push_counts(lines: &mut Vec<Line>, tables: &Tables) -> Result<(), NoMemory>
+    ensures { OnOk result (lines.new.items ≡ lines.old.items ++ list_to Count (fleets_in tables.now)) }
+{
+    for fleet in 0..tables.fleet_count() {
+        lines.push(Line::Count { fleet })?;
+    }
+    Ok(())
+}
+
+// The kept pairs, by leg, then fleet.
+fn kept_pairs(alloc: Global, tables: &Tables, kept: &Kept) -> Result<Vec<Pair>, NoMemory>
+    ensures { IfOk result (λ pairs. pairs.items ≡ all_kept tables.now (kept_by kept.now)) }
+{
+    let mut pairs = Vec::new(alloc);
+    for leg in 0..tables.leg_count() {
+        push_pairs(&mut pairs, tables, kept, leg)?;
+    }
+    Ok(pairs)
+}
+
+// Puts the kept pairs of a leg behind those so far.
+fn push_pairs(pairs: &mut Vec<Pair>, tables: &Tables, kept: &Kept, leg: u32) -> Result<(), NoMemory>
+    requires { leg < legs_in tables.now }
+    ensures { OnOk result (pairs.new.items ≡ pairs.old.items ++ pairs_of tables.now (kept_by kept.now) leg) }
+{
+    for fleet in 0..tables.fleet_count() {
+        push_pair(pairs, kept, Pair { leg, fleet })?;
+    }
+    Ok(())
+}
+
+// Puts a pair behind those so far, where it is kept.
+fn push_pair(pairs: &mut Vec<Pair>, kept: &Kept, pair: Pair) -> Result<(), NoMemory>
+    requires leg { pair.leg < MAX_LEGS }
+    requires fleet { pair.fleet < MAX_FLEETS }
+    ensures { OnOk result (pairs.new.items ≡ pairs.old.items ++ pair_of (kept_by kept.now) pair.leg pair.fleet) }
+{
+    if !kept.kept(pair.leg, pair.fleet) {
+        return Ok(());
+    }
+    pairs.push(pair)?;
+    Ok(())
+}
+
+// The nodes, by fleet, station and place.
+fn network_nodes(alloc: Global, tables: &Tables, network: &Network) -> Result<Vec<Node>, NoMemory>
+    requires { AreByStation tables.now network.now }
+    ensures { IfOk result (λ nodes. nodes.items ≡ all_nodes tables.now (starts_in network.now)) }
+{
+    let mut nodes = Vec::new(alloc);
+    for fleet in 0..tables.fleet_count() {
+        push_fleet(&mut nodes, tables, network, fleet)?;
+    }
+    Ok(nodes)
+}
+
+// Puts the nodes of a fleet behind those so far.
+fn push_fleet(
+    nodes: &mut Vec<Node>,
+    tables: &Tables,
+    network: &Network,
+    fleet: u32,
+) -> Result<(), NoMemory>
+    requires shape { AreByStation tables.now network.now }
+    requires fleet { fleet < fleets_in tables.now }
+    ensures { OnOk result (nodes.new.items ≡ nodes.old.items ++ nodes_of tables.now (starts_in network.now) fleet) }
+{
+    for station in 0..tables.station_count() {
+        push_station(nodes, tables, network, fleet, station)?;
+    }
+    Ok(())
+}
+
+// Puts the nodes of a fleet at a station behind those so far.
+fn push_station(
+    nodes: &mut Vec<Node>,
+    tables: &Tables,
+    network: &Network,
+    fleet: u32,
+    station: u32,
+) -> Result<(), NoMemory>
+    requires shape { AreByStation tables.now network.now }
+    requires fleet { fleet < fleets_in tables.now }
+    requires station { station < stations_in tables.now }
+    ensures { OnOk result (nodes.new.items ≡ nodes.old.items ++ nodes_at (starts_in network.now) fleet station) }
+{
+    for place in 0..network.starts(tables, fleet, station).len() as u32 {
+        nodes.push(Node {
+            fleet,
+            station,
+            place,
+        })?;
+    }
+    Ok(())
+}

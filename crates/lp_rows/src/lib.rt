@@ -1,0 +1,14 @@
+//! The linear program of a subproblem over its time-line network: cover, balance and count lines.
+#![tactic(auto)]
+
+pub mod entry;
+pub mod kinds;
+pub mod laws;
+pub mod layout;
+pub mod network;
+pub mod program;
+
+pub use kinds::{Column, Line, Node};
+pub use layout::{columns, lines};
+pub use network::Network;
+pub use program::rows;
