@@ -5,12 +5,14 @@ use Rattle.std.specs.Fmt.{decimal, signed_decimal}
 use Rattle.std.specs.List.{flat_map, join_with_byte, range_with_len}
 use Rattle.std.specs.Ordering.{int_eq}
 use Rattle.std.proofs.lemmas.List.Elements.{All-append, All-cons, All-from_recursion, All-head, All-map, All-nil, All-tail, All-weaker}
-use Rattle.fleet_model.specs.Schedule.{fleet_of, fleets_in, leg_of, legs_in, station_of}
+use Rattle.fleet_model.specs.Schedule.{IsPair, fleet_of, fleets_in, leg_of, leg_on, legs_in, station_of}
 use Rattle.fleet_model.specs.declared.tables.Tables.{Tables}
-use Rattle.bound_cert.specs.OfTables.{ArePricesOf, IsOfTables, IsStepOf}
+use Rattle.bound_cert.specs.OfTables.{ArePricesOf, IsCauseOf, IsMixedOf, IsOfTables, IsStepOf, IsWeightOf}
 use Rattle.bound_cert.specs.Prices.{rent_of}
-use Rattle.bound_cert.specs.ProofText.{Line, at_line, bare_line, end_line, head_line, open_line, plan_line, price_lines, proof_lines, rent_line, rent_lines, rent_lines_at, scale_line, sole_line, space, step_lines, tree_lines}
+use Rattle.bound_cert.specs.ProofText.{Line, at_line, bare_line, cause_lines, end_line, head_line, mixed_lines, node_lines, open_line, plan_line, price_lines, priced_line, proof_lines, refuted_line, rent_line, rent_lines, rent_lines_at, scale_line, sole_line, space, split_line, step_lines, tree_lines, trim_line, weight_line, weight_lines}
 use Rattle.bound_cert.specs.Words.{IsOfWords, IsPlain, IsPlainLine, IsVisible, IsWord}
+use Rattle.bound_cert.specs.declared.mixed.Mixed.{Mixed}
+use Rattle.bound_cert.specs.declared.mixed.Weight.{Weight}
 use Rattle.bound_cert.specs.declared.prices.Prices.{Prices}
 use Rattle.bound_cert.specs.declared.prices.PriceStep.{PriceStep}
 use Rattle.bound_cert.specs.declared.trees.Cause.{Cause}
@@ -35,9 +37,39 @@ bare_is t l leg = of_words _ _ (written _ _ refl) (All-from_recursion IsWord ((l
 sole_is : IsOfWords sole_line
 sole_is = of_words _ _ (written _ _ refl) (All-nil IsWord)
 
+refuted_is : IsOfWords refuted_line
+refuted_is = of_words _ _ (written _ _ refl) (All-nil IsWord)
+
+priced_is : IsOfWords priced_line
+priced_is = of_words _ _ (written _ _ refl) (All-nil IsWord)
+
 open_is : (why : Cause) → IsOfWords (open_line why)
+open_is (cause.Nodes mixed) = of_words _ _ (written _ _ refl) (All-from_recursion IsWord (codes "nodes" ∷ []) (written _ _ refl, tt))
 open_is (cause.Pivots made) =
     of_words _ _ (written _ _ refl) (All-from_recursion IsWord (codes "pivots" ∷ decimal made ∷ []) (written _ _ refl, (number_word made, tt)))
+open_is (cause.Grew pivots row column) =
+    of_words _ _ (written _ _ refl)
+    (All-from_recursion IsWord (codes "grew" ∷ decimal pivots ∷ decimal row ∷ decimal column ∷ [])
+    (written _ _ refl, (number_word pivots, (number_word row, (number_word column, tt)))))
+open_is (cause.Lift step at) =
+    of_words _ _ (written _ _ refl)
+    (All-from_recursion IsWord (codes "lift" ∷ decimal step ∷ decimal at ∷ []) (written _ _ refl, (number_word step, (number_word at, tt))))
+
+trim_is : (t : Tables) (l f : ℕ) → IsPair t (leg_on l f) → IsOfWords (trim_line t l f)
+trim_is t l f is =
+    of_words _ _ (written _ _ refl)
+    (All-from_recursion IsWord ((leg_of t l).flight ∷ (fleet_of t f).name ∷ []) (flight_word t l is.leg, (fleet_word t f is.fleet, tt)))
+
+split_is : (t : Tables) (l f : ℕ) → IsPair t (leg_on l f) → IsOfWords (split_line t l f)
+split_is t l f is =
+    of_words _ _ (written _ _ refl)
+    (All-from_recursion IsWord ((leg_of t l).flight ∷ (fleet_of t f).name ∷ []) (flight_word t l is.leg, (fleet_word t f is.fleet, tt)))
+
+weight_is : (t : Tables) (entry : Weight) → IsWeightOf t entry → IsOfWords (weight_line t entry)
+weight_is t entry is =
+    of_words _ _ (written _ _ refl)
+    (All-from_recursion IsWord ((leg_of t entry.leg).flight ∷ (fleet_of t entry.fleet).name ∷ signed_decimal entry.weight ∷ [])
+    (flight_word t entry.leg is.leg, (fleet_word t entry.fleet is.fleet, (signed_word entry.weight, tt))))
 
 scale_is : (scale : ℤ) → IsOfWords (scale_line scale)
 scale_is scale = of_words _ _ (written _ _ refl) (All-from_recursion IsWord (signed_decimal scale ∷ []) (signed_word scale, tt))
@@ -81,10 +113,45 @@ prices_are t prices is =
     (All-append IsOfWords (rent_lines t prices (fleets_in t)) (step_lines t prices.steps) (rents_are t prices (fleets_in t) 0 (omega arith))
     (All-map IsOfWords (at_line t) prices.steps (All-weaker (IsStepOf t) (λ step. IsOfWords (at_line t step)) (at_is t) prices.steps is)))
 
+mixed_are : (t : Tables) (mixed : Mixed) → IsMixedOf t mixed → All IsOfWords (mixed_lines t mixed)
+mixed_are t mixed is =
+    All-cons IsOfWords (scale_line mixed.scale) (weight_lines t mixed.weights) (scale_is mixed.scale)
+    (All-map IsOfWords (weight_line t) mixed.weights (All-weaker (IsWeightOf t) (λ entry. IsOfWords (weight_line t entry)) (weight_is t) mixed.weights is))
+
+cause_are : (t : Tables) (why : Cause) → IsCauseOf t why → All IsOfWords (cause_lines t why)
+cause_are t (cause.Nodes mixed) is = mixed_are t mixed is
+cause_are t (cause.Pivots made) is = All-nil IsOfWords
+cause_are t (cause.Grew pivots row column) is = All-nil IsOfWords
+cause_are t (cause.Lift step at) is = All-nil IsOfWords
+
+node_is : (t : Tables) (tree : Tree) → IsOfTables t tree → All IsOfWords (node_lines t tree)
+node_is t (tree.Bare leg) is = one_line (bare_line t leg) (bare_is t leg is)
+node_is t tree.Sole is = one_line sole_line sole_is
+node_is t (tree.Refuted prices) is = All-cons IsOfWords refuted_line (price_lines t prices) refuted_is (prices_are t prices is)
+node_is t (tree.Priced prices) is = All-cons IsOfWords priced_line (price_lines t prices) priced_is (prices_are t prices is)
+node_is t (tree.Open prices why) is =
+    All-cons IsOfWords (open_line why) (price_lines t prices ++ cause_lines t why) (open_is why)
+    (All-append IsOfWords (price_lines t prices) (cause_lines t why) (prices_are t prices is.0) (cause_are t why is.1))
+node_is t (tree.Trim' leg fleet p with_pair q without) is = one_line (trim_line t leg fleet) (trim_is t leg fleet is.0)
+node_is t (tree.Split' leg fleet prices mixed p with_pair q without) is =
+    All-cons IsOfWords (split_line t leg fleet) (price_lines t prices ++ mixed_lines t mixed) (split_is t leg fleet is.0)
+    (All-append IsOfWords (price_lines t prices) (mixed_lines t mixed) (prices_are t prices is.1) (mixed_are t mixed is.2))
+
+three : (xs ys zs : List Line) → All IsOfWords xs → All IsOfWords ys → All IsOfWords zs → All IsOfWords (xs ++ (ys ++ zs))
+three xs ys zs first second third = All-append IsOfWords xs (ys ++ zs) first (All-append IsOfWords ys zs second third)
+
 tree_is : (t : Tables) (tree : Tree) → IsOfTables t tree → All IsOfWords (tree_lines t tree)
-tree_is t (tree.Bare leg) is = one_line (bare_line t leg) (bare_is t leg is)
-tree_is t tree.Sole is = one_line sole_line sole_is
-tree_is t (tree.Open prices why) is = All-cons IsOfWords (open_line why) (price_lines t prices) (open_is why) (prices_are t prices is)
+tree_is t (tree.Bare leg) is = node_is t (tree.Bare leg) is
+tree_is t tree.Sole is = node_is t tree.Sole is
+tree_is t (tree.Refuted prices) is = node_is t (tree.Refuted prices) is
+tree_is t (tree.Priced prices) is = node_is t (tree.Priced prices) is
+tree_is t (tree.Open prices why) is = node_is t (tree.Open prices why) is
+tree_is t (tree.Trim' leg fleet p with_pair q without) is =
+    three (node_lines t (tree.Trim' leg fleet p with_pair q without)) (tree_lines t with_pair) (tree_lines t without)
+    (node_is t (tree.Trim' leg fleet p with_pair q without) is) (tree_is t with_pair is.1) (tree_is t without is.2)
+tree_is t (tree.Split' leg fleet prices mixed p with_pair q without) is =
+    three (node_lines t (tree.Split' leg fleet prices mixed p with_pair q without)) (tree_lines t with_pair) (tree_lines t without)
+    (node_is t (tree.Split' leg fleet prices mixed p with_pair q without) is) (tree_is t with_pair is.3) (tree_is t without is.4)
 
 pub lines_are_of_words : (t : Tables) (planned : Bool) (tree : Tree) → IsOfTables t tree → All IsOfWords (proof_lines t planned tree)
 lines_are_of_words t planned tree is =

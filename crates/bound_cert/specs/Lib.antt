@@ -1,6 +1,7 @@
 pub mod Bound
 pub mod Duality
 pub mod Leaves
+pub mod Mixed
 pub mod OfTables
 pub mod Prices
 pub mod ProofText

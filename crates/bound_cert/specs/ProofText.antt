@@ -6,6 +6,8 @@ use Rattle.std.specs.Ordering.{int_eq}
 use Rattle.fleet_model.specs.Schedule.{fleet_of, fleets_in, leg_of, station_of}
 use Rattle.fleet_model.specs.declared.tables.Tables.{Tables}
 use Rattle.bound_cert.specs.Prices.{rent_of}
+use Rattle.bound_cert.specs.declared.mixed.Mixed.{Mixed}
+use Rattle.bound_cert.specs.declared.mixed.Weight.{Weight}
 use Rattle.bound_cert.specs.declared.prices.Prices.{Prices}
 use Rattle.bound_cert.specs.declared.prices.PriceStep.{PriceStep}
 use Rattle.bound_cert.specs.declared.trees.Cause.{Cause}
@@ -49,9 +51,28 @@ bare_line t l = codes "bare" ∷ (leg_of t l).flight ∷ []
 abbrev pub sole_line : Line
 sole_line = codes "sole" ∷ []
 
--- open and the cause: pivots N
+-- refuted
+abbrev pub refuted_line : Line
+refuted_line = codes "refuted" ∷ []
+
+-- priced
+abbrev pub priced_line : Line
+priced_line = codes "priced" ∷ []
+
+-- open and the cause: nodes, pivots N, grew N R C, or lift S A
 abbrev pub open_line : Cause → Line
+open_line (cause.Nodes mixed) = codes "open" ∷ codes "nodes" ∷ []
 open_line (cause.Pivots made) = codes "open" ∷ codes "pivots" ∷ decimal made ∷ []
+open_line (cause.Grew pivots row column) = codes "open" ∷ codes "grew" ∷ decimal pivots ∷ decimal row ∷ decimal column ∷ []
+open_line (cause.Lift step at) = codes "open" ∷ codes "lift" ∷ decimal step ∷ decimal at ∷ []
+
+-- trim FLIGHT FLEET
+abbrev pub trim_line : Tables → ℕ → ℕ → Line
+trim_line t l f = codes "trim" ∷ (leg_of t l).flight ∷ (fleet_of t f).name ∷ []
+
+-- split FLIGHT FLEET
+abbrev pub split_line : Tables → ℕ → ℕ → Line
+split_line t l f = codes "split" ∷ (leg_of t l).flight ∷ (fleet_of t f).name ∷ []
 
 -- scale Q
 abbrev pub scale_line : ℤ → Line
@@ -64,6 +85,10 @@ rent_line t f rent = codes "rent" ∷ (fleet_of t f).name ∷ signed_decimal ren
 -- at FLEET STATION MINUTE VALUE
 abbrev pub at_line : Tables → PriceStep → Line
 at_line t step = codes "at" ∷ (fleet_of t step.fleet).name ∷ (station_of t step.station).code ∷ decimal step.minute ∷ signed_decimal step.value ∷ []
+
+-- weight FLIGHT FLEET W
+abbrev pub weight_line : Tables → Weight → Line
+weight_line t entry = codes "weight" ∷ (leg_of t entry.leg).flight ∷ (fleet_of t entry.fleet).name ∷ signed_decimal entry.weight ∷ []
 
 -- end
 abbrev pub end_line : Line
@@ -85,11 +110,42 @@ step_lines t = map (at_line t)
 abbrev pub price_lines : Tables → Prices → List Line
 price_lines t prices = scale_line prices.scale ∷ (rent_lines t prices (fleets_in t) ++ step_lines t prices.steps)
 
--- the lines of a tree
+-- the lines of weights, in their order
+abbrev pub weight_lines : Tables → List Weight → List Line
+weight_lines t = map (weight_line t)
+
+-- the lines of a fractional assignment: the scale, the weights
+abbrev pub mixed_lines : Tables → Mixed → List Line
+mixed_lines t mixed = scale_line mixed.scale ∷ weight_lines t mixed.weights
+
+-- the lines of a cause behind the prices of its leaf
+abbrev pub cause_lines : Tables → Cause → List Line
+cause_lines t (cause.Nodes mixed) = mixed_lines t mixed
+cause_lines t (cause.Pivots made) = []
+cause_lines t (cause.Grew pivots row column) = []
+cause_lines t (cause.Lift step at) = []
+
+-- the lines of a node itself, without those of its children
+abbrev pub node_lines : Tables → Tree → List Line
+node_lines t (tree.Bare leg) = bare_line t leg ∷ []
+node_lines t tree.Sole = sole_line ∷ []
+node_lines t (tree.Refuted prices) = refuted_line ∷ price_lines t prices
+node_lines t (tree.Priced prices) = priced_line ∷ price_lines t prices
+node_lines t (tree.Open prices why) = open_line why ∷ (price_lines t prices ++ cause_lines t why)
+node_lines t (tree.Trim' leg fleet p with_pair q without) = trim_line t leg fleet ∷ []
+node_lines t (tree.Split' leg fleet prices mixed p with_pair q without) = split_line t leg fleet ∷ (price_lines t prices ++ mixed_lines t mixed)
+
+-- the lines of a tree: each node's before those of its children, and of these those of `yes` first
 abbrev pub tree_lines : Tables → Tree → List Line
-tree_lines t (tree.Bare leg) = bare_line t leg ∷ []
-tree_lines t tree.Sole = sole_line ∷ []
-tree_lines t (tree.Open prices why) = open_line why ∷ price_lines t prices
+tree_lines t (tree.Bare leg) = node_lines t (tree.Bare leg)
+tree_lines t tree.Sole = node_lines t tree.Sole
+tree_lines t (tree.Refuted prices) = node_lines t (tree.Refuted prices)
+tree_lines t (tree.Priced prices) = node_lines t (tree.Priced prices)
+tree_lines t (tree.Open prices why) = node_lines t (tree.Open prices why)
+tree_lines t (tree.Trim' leg fleet p with_pair q without) =
+    node_lines t (tree.Trim' leg fleet p with_pair q without) ++ (tree_lines t with_pair ++ tree_lines t without)
+tree_lines t (tree.Split' leg fleet prices mixed p with_pair q without) =
+    node_lines t (tree.Split' leg fleet prices mixed p with_pair q without) ++ (tree_lines t with_pair ++ tree_lines t without)
 
 -- the lines of a proof: the head, whether a plan comes with it, the tree, the end
 abbrev pub proof_lines : Tables → Bool → Tree → List Line

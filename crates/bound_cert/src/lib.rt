@@ -1,13 +1,16 @@
 //! Bounds and their proofs: prices, the bound that they give, trees of subproblems, and the text of a proof.
 #![tactic(auto)]
 
+pub mod counting;
 pub mod laws;
+pub mod mixed;
 pub mod price_at;
 pub mod prices;
 pub mod trees;
 pub mod worth;
 pub mod writing;
 
+pub use mixed::{Mixed, Weight};
 pub use prices::{PriceStep, Prices};
 pub use trees::{Cause, Tree, TreeCounts};
 pub use writing::write_proof;

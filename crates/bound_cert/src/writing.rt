@@ -1,9 +1,11 @@
 //! The text of a proof, written.
-ghost use Rattle.std.specs.Prelude.{◌≡◌, ◌++◌, ◌<◌, ◌∷◌, All, IfOk, OnOk, map};
-ghost use Rattle.fleet_model.specs.Schedule.{fleets_in};
-ghost use Rattle.bound_cert.specs.OfTables.{ArePricesOf, IsOfTables, IsStepOf};
-ghost use Rattle.bound_cert.specs.ProofText.{at_line, line_of, lines_of, open_line, plan_line, price_lines, proof_text, rent_lines, rent_lines_at, scale_line, space, step_lines, tree_lines};
+ghost use Rattle.std.specs.Prelude.{◌≡◌, ◌++◌, ◌<◌, ◌∷◌, [], All, IfOk, OnOk, map};
+ghost use Rattle.fleet_model.specs.Schedule.{IsPair, fleet_of, fleets_in, leg_of, leg_on};
+ghost use Rattle.bound_cert.specs.OfTables.{ArePricesOf, IsCauseOf, IsMixedOf, IsOfTables, IsStepOf, IsWeightOf};
+ghost use Rattle.bound_cert.specs.ProofText.{at_line, cause_lines, line_of, lines_of, mixed_lines, node_lines, open_line, plan_line, price_lines, proof_text, rent_lines, rent_lines_at, scale_line, space, step_lines, tree_lines, weight_line, weight_lines};
+ghost use Rattle.bound_cert.specs.declared.trees.Cause.TheVariants.{Grew, Lift};
 
+use crate::mixed::{Mixed, Weight};
 use crate::prices::{PriceStep, Prices};
 use crate::trees::{Cause, Tree};
 use entries::NoMemory;
@@ -62,7 +64,7 @@ fn push_plan(text: &mut Vec<u8>, planned: bool) -> Result<(), NoMemory>
     push_line(text, b"plan", &[answer])
 }
 
-/// Appends the lines of a tree.
+/// Appends the lines of a tree. What it takes of the stack for a level is small, since a tree may be deep.
 fn push_tree(
     alloc: Global,
     text: &mut Vec<u8>,
@@ -72,14 +74,76 @@ fn push_tree(
     requires { IsOfTables tables.now tree.now }
     ensures { OnOk result (text.new.items ≡ text.old.items ++ lines_of (tree_lines tables.now tree.now)) }
 {
+    push_node(alloc, text, tables, tree)?;
     match tree {
-        Tree::Bare { leg } => { push_line(text, b"bare", &[tables.leg(*leg).flight.as_slice()]) }
+        Tree::Trim { yes, no, .. } | Tree::Split { yes, no, .. } => {
+            push_tree(alloc, text, tables, yes)?;
+            push_tree(alloc, text, tables, no)
+        }
+        _ => Ok(()),
+    }
+}
+
+/// Appends the lines of a node itself, without those of its children.
+fn push_node(
+    alloc: Global,
+    text: &mut Vec<u8>,
+    tables: &Tables,
+    tree: &Tree,
+) -> Result<(), NoMemory>
+    requires { IsOfTables tables.now tree.now }
+    ensures { OnOk result (text.new.items ≡ text.old.items ++ lines_of (node_lines tables.now tree.now)) }
+{
+    match tree {
+        Tree::Bare { leg } => push_line(text, b"bare", &[tables.leg(*leg).flight.as_slice()]),
         Tree::Sole => push_line(text, b"sole", &[]),
-        Tree::Open(prices, cause) => {
-            push_open(alloc, text, cause)?;
+        Tree::Refuted(prices) => {
+            push_line(text, b"refuted", &[])?;
             push_prices(alloc, text, tables, prices)
         }
+        Tree::Priced(prices) => {
+            push_line(text, b"priced", &[])?;
+            push_prices(alloc, text, tables, prices)
+        }
+        Tree::Open(prices, cause) => {
+            push_open(alloc, text, cause)?;
+            push_prices(alloc, text, tables, prices)?;
+            push_cause(alloc, text, tables, cause)
+        }
+        Tree::Trim { leg, fleet, .. } => push_pair(text, tables, b"trim", *leg, *fleet),
+        Tree::Split {
+            leg,
+            fleet,
+            prices,
+            mixed,
+            ..
+        } => {
+            push_pair(text, tables, b"split", *leg, *fleet)?;
+            push_prices(alloc, text, tables, prices)?;
+            push_mixed(alloc, text, tables, mixed)
+        }
     }
+}
+
+/// Appends a first word, a leg and a fleet.
+fn push_pair(
+    text: &mut Vec<u8>,
+    tables: &Tables,
+    first: &[u8],
+    leg: u32,
+    fleet: u32,
+) -> Result<(), NoMemory>
+    requires { IsPair tables.now (leg_on leg fleet) }
+    ensures { OnOk result (text.new.items ≡ text.old.items ++ line_of (first.now ∷ (leg_of tables.now leg).flight ∷ (fleet_of tables.now fleet).name ∷ [])) }
+{
+    push_line(
+        text,
+        first,
+        &[
+            tables.leg(leg).flight.as_slice(),
+            tables.fleet(fleet).name.as_slice(),
+        ],
+    )
 }
 
 /// Appends `open` and the cause.
@@ -87,11 +151,124 @@ fn push_open(alloc: Global, text: &mut Vec<u8>, cause: &Cause) -> Result<(), NoM
     ensures { OnOk result (text.new.items ≡ text.old.items ++ line_of (open_line cause.now)) }
 {
     match cause {
+        Cause::Nodes(_) => push_line(text, b"open", &[b"nodes".as_slice()]),
         Cause::Pivots { made } => {
             let made = made.to_string(alloc)?;
             push_line(text, b"open", &[b"pivots".as_slice(), made.as_bytes()])
         }
+        Cause::Grew {
+            pivots,
+            row,
+            column,
+        } => push_grew(alloc, text, *pivots, *row, *column),
+        Cause::Lift { step, at } => push_lift(alloc, text, *step, *at),
     }
+}
+
+/// Appends `open grew N R C`.
+fn push_grew(
+    alloc: Global,
+    text: &mut Vec<u8>,
+    pivots: u64,
+    row: u64,
+    column: u64,
+) -> Result<(), NoMemory>
+    ensures { OnOk result (text.new.items ≡ text.old.items ++ line_of (open_line (Grew pivots row column))) }
+{
+    let pivots = pivots.to_string(alloc)?;
+    let row = row.to_string(alloc)?;
+    let column = column.to_string(alloc)?;
+    push_line(
+        text,
+        b"open",
+        &[
+            b"grew".as_slice(),
+            pivots.as_bytes(),
+            row.as_bytes(),
+            column.as_bytes(),
+        ],
+    )
+}
+
+/// Appends `open lift S A`.
+fn push_lift(alloc: Global, text: &mut Vec<u8>, step: u64, at: u64) -> Result<(), NoMemory>
+    ensures { OnOk result (text.new.items ≡ text.old.items ++ line_of (open_line (Lift step at))) }
+{
+    let step = step.to_string(alloc)?;
+    let at = at.to_string(alloc)?;
+    push_line(
+        text,
+        b"open",
+        &[b"lift".as_slice(), step.as_bytes(), at.as_bytes()],
+    )
+}
+
+/// Appends the lines of a cause behind the prices of its leaf.
+fn push_cause(
+    alloc: Global,
+    text: &mut Vec<u8>,
+    tables: &Tables,
+    cause: &Cause,
+) -> Result<(), NoMemory>
+    requires { IsCauseOf tables.now cause.now }
+    ensures { OnOk result (text.new.items ≡ text.old.items ++ lines_of (cause_lines tables.now cause.now)) }
+{
+    match cause {
+        Cause::Nodes(mixed) => push_mixed(alloc, text, tables, mixed),
+        Cause::Pivots { .. } | Cause::Grew { .. } | Cause::Lift { .. } => Ok(()),
+    }
+}
+
+/// Appends the lines of a fractional assignment.
+fn push_mixed(
+    alloc: Global,
+    text: &mut Vec<u8>,
+    tables: &Tables,
+    mixed: &Mixed,
+) -> Result<(), NoMemory>
+    requires { IsMixedOf tables.now mixed.now }
+    ensures { OnOk result (text.new.items ≡ text.old.items ++ lines_of (mixed_lines tables.now mixed.now)) }
+{
+    push_scale(alloc, text, mixed.scale)?;
+    push_weights(alloc, text, tables, mixed.weights.as_slice())
+}
+
+/// Appends the lines of weights.
+fn push_weights(
+    alloc: Global,
+    text: &mut Vec<u8>,
+    tables: &Tables,
+    weights: &[Weight],
+) -> Result<(), NoMemory>
+    requires { All (IsWeightOf tables.now) weights.now }
+    ensures { OnOk result (text.new.items ≡ text.old.items ++ lines_of (weight_lines tables.now weights.now)) }
+{
+    for weight in weights {
+        push_weight(alloc, text, tables, weight)?;
+    }
+    Ok(())
+}
+
+/// Appends `weight FLIGHT FLEET W`.
+fn push_weight(
+    alloc: Global,
+    text: &mut Vec<u8>,
+    tables: &Tables,
+    weight: &Weight,
+) -> Result<(), NoMemory>
+    requires { IsWeightOf tables.now weight.now }
+    ensures { OnOk result (text.new.items ≡ text.old.items ++ line_of (weight_line tables.now weight.now)) }
+{
+    let parts = weight.weight.to_string(alloc)?;
+    push_line(
+        text,
+        b"weight",
+        &[
+            tables.leg(weight.leg).flight.as_slice(),
+            tables.fleet(weight.fleet).name.as_slice(),
+            parts.as_bytes(),
+        ],
+    )
 }
 
 /// Appends the lines of prices.
@@ -104,16 +281,16 @@ fn push_prices(
     requires { ArePricesOf tables.now prices.now }
     ensures { OnOk result (text.new.items ≡ text.old.items ++ lines_of (price_lines tables.now prices.now)) }
 {
-    push_scale(alloc, text, prices)?;
+    push_scale(alloc, text, prices.scale)?;
     push_rents(alloc, text, tables, prices)?;
     push_steps(alloc, text, tables, prices.steps.as_slice())
 }
 
 /// Appends `scale Q`.
-fn push_scale(alloc: Global, text: &mut Vec<u8>, prices: &Prices) -> Result<(), NoMemory>
-    ensures { OnOk result (text.new.items ≡ text.old.items ++ line_of (scale_line prices.now.scale)) }
+fn push_scale(alloc: Global, text: &mut Vec<u8>, scale: i128) -> Result<(), NoMemory>
+    ensures { OnOk result (text.new.items ≡ text.old.items ++ line_of (scale_line scale)) }
 {
-    let scale = prices.scale.to_string(alloc)?;
+    let scale = scale.to_string(alloc)?;
     push_line(text, b"scale", &[scale.as_bytes()])
 }
 
