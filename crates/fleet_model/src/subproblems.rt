@@ -36,8 +36,8 @@ impl Kept {
         Some(plan)
     }
 
-    // How many fleets a leg keeps.
-    fn count_on(&self, tables: &Tables, leg: u32) -> u32
+    /// How many fleets a leg keeps. Takes no memory.
+    pub fn count_on(&self, tables: &Tables, leg: u32) -> u32
         requires { leg < legs_in tables.now }
         ensures { result ≡ kept_on tables.now (kept_by self.now) leg }
     {

@@ -1,0 +1,129 @@
+-- Weak duality over a tree whose nodes keep all rules: its bound is no more than the cost of any legal assignment.
+use Rattle.std.proofs.Common.{◌≡◌, ◌≢◌, ℕ, suc, ◌+◌, ◌<◌, Bool, true, false, not, ◌==◌, ◌&&◌, if◌then◌else◌, IsTrue, List, [], ◌∷◌, ◌++◌, All, length, length-append, Option, Some, None, MatchOption, ℤ, ◌≤ℤ◌, refl, sym, ◌∙◌, ap, subst, arith}
+use Rattle.std.proofs.lemmas.Int.{ints}
+use Rattle.std.proofs.lemmas.Bool.Decides.{nat_tests}
+use Rattle.std.proofs.lemmas.List.Elements.{All-head, All-tail}
+use Rattle.std.proofs.lemmas.List.{get_or_append_left}
+use Rattle.std.specs.Prelude.{int_le}
+use Rattle.fleet_model.specs.Counts.{fleet_at, pair_at}
+use Rattle.fleet_model.specs.Kept.{Domains, IsBare, IsKeptAssignment, IsSole, all_pairs, leaves}
+use Rattle.fleet_model.specs.Legal.{IsLegal, total_cost}
+use Rattle.fleet_model.specs.Schedule.{leg_on, legs_in}
+use Rattle.fleet_model.specs.declared.tables.Tables.{Tables}
+use Rattle.fleet_model.proofs.KeptLaws.{allowed_is_kept, bare_has_none}
+use Rattle.bound_cert.specs.Bound.{IsBoundIn, IsInfeasible, IsLesserBound, IsLowerBound, IsPriceBound, lesser_bound, part}
+use Rattle.bound_cert.specs.Prices.{ArePrices}
+use Rattle.bound_cert.specs.Worth.{lesser}
+use Rattle.bound_cert.specs.declared.prices.Prices.{Prices}
+use Rattle.bound_cert.specs.declared.trees.Tree.{Tree}
+use Rattle.bound_cert.specs.declared.trees.Tree.TheVariants as tree
+use Rattle.bound_cert.proofs.Duality.{ceiling_is_lower_bound, worth_refutes}
+use Rattle.cert_check.specs.Nodes.{Node, nodes_in, prices_at}
+use Rattle.cert_check.specs.Rules.{IsSound}
+use Rattle.cert_check.specs.Verdicts.{AreSound, BoundsAll}
+use Rattle.cert_check.specs.declared.rules.Rule.TheVariants as rule
+use Rattle.cert_check.proofs.NodeRules.{prices_known}
+use Rattle.cert_check.proofs.Walks.{node}
+
+-- a bound is there, and it is no more than a cost
+abbrev IsBelow : Option ℤ → ℤ → Type 0
+IsBelow bound cost = MatchOption bound ⊥ (λ least. least ≤ℤ cost)
+
+-- the lesser of two bounds is below where one of them is
+below_first : (first second : Option ℤ) (cost : ℤ) → IsBelow first cost → IsBelow (lesser_bound first second) cost
+below_first (Some x) None cost below = below
+below_first (Some x) (Some y) cost below = by_test (int_le x y) (λ e. grind (arith, ints))
+  where
+    by_test : (b : Bool) → (b ≡ false → y ≤ℤ x) → (if b then x else y) ≤ℤ cost
+    by_test true le = below
+    by_test false le = omega (arith, ints, le refl)
+below_first None second cost below = absurd below
+
+below_second : (first second : Option ℤ) (cost : ℤ) → IsBelow second cost → IsBelow (lesser_bound first second) cost
+below_second first None cost below = absurd below
+below_second None (Some y) cost below = below
+below_second (Some x) (Some y) cost below = by_test (int_le x y) (λ e. grind (arith, ints))
+  where
+    by_test : (b : Bool) → (b ≡ true → x ≤ℤ y) → (if b then x else y) ≤ℤ cost
+    by_test true le = omega (arith, ints, le refl)
+    by_test false le = below
+
+-- an assignment of kept pairs is of the part with a pair where it flies that, else of the part without
+module _ (t : Tables) (a : List ℕ) where
+  in_part : (keeps : Domains) (leg fleet : ℕ) (taken : Bool) → taken ≡ (fleet_at a leg == fleet) → IsKeptAssignment t keeps a → IsKeptAssignment t (part keeps leg fleet taken) a
+  in_part keeps leg fleet taken e is = record {
+    assignment = is.assignment;
+    kept = λ l below. kept_and (keeps (pair_at a l)) _ (is.kept l below) (stays l);
+  }
+    where
+      kept_and : (b c : Bool) → b ≡ true → c ≡ true → (b && c) ≡ true
+      kept_and b c p q = rw (p, q) refl
+
+      by_taken : (b c : Bool) → b ≡ c → (if b then c else not c) ≡ true
+      by_taken true c same = sym same
+      by_taken false c same = ap not (sym same)
+
+      by_leg : (l : ℕ) (b : Bool) → (b ≡ true → l ≡ leg) → (if b then (if taken then (fleet_at a l == fleet) else not (fleet_at a l == fleet)) else true) ≡ true
+      by_leg l true same = by_taken taken (fleet_at a l == fleet) (e ∙ ap (λ m. fleet_at a m == fleet) (sym (same refl)))
+      by_leg l false same = refl
+
+      stays : (l : ℕ) → leaves (record { leg = leg; fleet = fleet; yes = taken }) (pair_at a l) ≡ true
+      stays l = by_leg l (l == leg) (λ same. grind (arith, nat_tests))
+
+-- each of two lists
+first_all : (P : Node → Type 0) (xs ys : List Node) → All P (xs ++ ys) → All P xs
+first_all P xs ys all k d below = subst P (get_or_append_left xs ys d k below) (all k d (omega (arith, length-append xs ys)))
+
+second_all : (P : Node → Type 0) (xs ys : List Node) → All P (xs ++ ys) → All P ys
+second_all P [] ys all = all
+second_all P (x ∷ xs) ys all = second_all P xs ys (All-tail P x (xs ++ ys) all)
+
+module _ (t : Tables) (cost : Option ℤ) (a : List ℕ) (legal : IsLegal t a) where
+  -- a leaf with prices
+  by_prices : (keeps : Domains) (prices : Prices) (bound : Option ℤ) → ArePrices t prices → IsPriceBound t keeps prices bound → IsKeptAssignment t keeps a → IsBelow bound (total_cost t a)
+  by_prices keeps prices bound proper is kept =
+      subst (λ b. IsBelow b (total_cost t a)) (sym is.is) (ceiling_is_lower_bound t keeps prices is.least a proper is.rounded kept legal)
+
+  -- a trim or a split
+  by_parts : (keeps : Domains) (leg fleet : ℕ) (with_pair without : Option ℤ → Type 0) (bound : Option ℤ) → IsLesserBound with_pair without bound
+      → ((b : Option ℤ) → with_pair b → IsKeptAssignment t (part keeps leg fleet true) a → IsBelow b (total_cost t a))
+      → ((b : Option ℤ) → without b → IsKeptAssignment t (part keeps leg fleet false) a → IsBelow b (total_cost t a))
+      → IsKeptAssignment t keeps a → IsBelow bound (total_cost t a)
+  by_parts keeps leg fleet with_pair without bound is first second kept = by_taken (fleet_at a leg == fleet) refl
+    where
+      by_taken : (taken : Bool) → (fleet_at a leg == fleet) ≡ taken → IsBelow bound (total_cost t a)
+      by_taken true e = subst (λ b. IsBelow b (total_cost t a)) (sym is.lesser) (below_first is.with_pair is.without (total_cost t a) (first is.with_pair is.yes_is (in_part t a keeps leg fleet true (sym e) kept)))
+      by_taken false e = subst (λ b. IsBelow b (total_cost t a)) (sym is.lesser) (below_second is.with_pair is.without (total_cost t a) (second is.without is.no_is (in_part t a keeps leg fleet false (sym e) kept)))
+
+  -- the node's own rules, of all nodes' rules
+  own : (keeps : Domains) (whole : Tree) (rest : List Node) → All (IsSound t cost) (node keeps whole ∷ rest) → IsSound t cost (node keeps whole)
+  own keeps whole rest all = All-head (IsSound t cost) (node keeps whole) rest all
+
+  proper : (keeps : Domains) (whole : Tree) (rest : List Node) (prices : Prices) → All (IsSound t cost) (node keeps whole ∷ rest) → prices_at whole ≡ Some prices → ArePrices t prices
+  proper keeps whole rest prices all e = prices_known t cost (node keeps whole) prices (own keeps whole rest all) e
+
+  pub tree_bound : (keeps : Domains) (whole : Tree) (bound : Option ℤ) → AreSound t cost keeps whole → IsBoundIn t keeps whole bound → IsKeptAssignment t keeps a → IsBelow bound (total_cost t a)
+  tree_bound keeps (tree.Bare leg) bound sound is kept = absurd (bare_has_none t keeps leg a ((own keeps (tree.Bare leg) [] sound).each rule.Pairs) kept)
+  tree_bound keeps tree.Sole bound sound is kept = rw (is.legal a kept legal) (omega (arith, ints))
+  tree_bound keeps (tree.Refuted prices) bound sound is kept =
+      absurd (worth_refutes t keeps prices a (proper keeps (tree.Refuted prices) [] prices sound refl) ((own keeps (tree.Refuted prices) [] sound).each rule.Refuted) kept legal)
+  tree_bound keeps (tree.Priced prices) bound sound is kept = by_prices keeps prices bound (proper keeps (tree.Priced prices) [] prices sound refl) is kept
+  tree_bound keeps (tree.Open prices why) bound sound is kept = by_prices keeps prices bound (proper keeps (tree.Open prices why) [] prices sound refl) is kept
+  tree_bound keeps (tree.Trim' leg fleet p with_pair q without) bound sound is kept =
+      let below = All-tail (IsSound t cost) _ _ sound in
+      by_parts keeps leg fleet _ _ bound is
+      (λ b has here. tree_bound (part keeps leg fleet true) with_pair b (first_all (IsSound t cost) _ _ below) has here)
+      (λ b has here. tree_bound (part keeps leg fleet false) without b (second_all (IsSound t cost) (nodes_in (part keeps leg fleet true) with_pair) _ below) has here) kept
+  tree_bound keeps (tree.Split' leg fleet prices mixed p with_pair q without) bound sound is kept =
+      let below = All-tail (IsSound t cost) _ _ sound in
+      by_parts keeps leg fleet _ _ bound is
+      (λ b has here. tree_bound (part keeps leg fleet true) with_pair b (first_all (IsSound t cost) _ _ below) has here)
+      (λ b has here. tree_bound (part keeps leg fleet false) without b (second_all (IsSound t cost) (nodes_in (part keeps leg fleet true) with_pair) _ below) has here) kept
+
+-- over all pairs that may be flown
+pub bounds_all : (t : Tables) (cost : Option ℤ) (keeps : Domains) (whole : Tree) (bound : Option ℤ) → keeps ≡ all_pairs t → AreSound t cost keeps whole → IsBoundIn t keeps whole bound → BoundsAll t bound
+bounds_all t cost keeps whole bound e sound is = by_bound bound (λ a legal. tree_bound t cost a legal keeps whole bound sound is (rw e (allowed_is_kept t a legal.assignment legal.allowed)))
+  where
+    by_bound : (b : Option ℤ) → ((a : List ℕ) → IsLegal t a → IsBelow b (total_cost t a)) → BoundsAll t b
+    by_bound None below = record { none = λ a legal. below a legal }
+    by_bound (Some least) below = record { each = below }

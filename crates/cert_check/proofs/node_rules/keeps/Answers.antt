@@ -1,0 +1,14 @@
+use Rattle.std.proofs.Common.{ap, arith}
+use Rattle.cert_check.specs.Rules.{number_of}
+use Rattle.cert_check.specs.declared.rules.Rule.TheVariants as rule
+use Rattle.cert_check.proofs.NodeRules.{prices_proper}
+use Rattle.cert_check.proofs.node_rules.keeps.Goals as goal
+
+pub has_rents-requires-clause-within : goal.has_rents-requires-clause-within
+has_rents-requires-clause-within c = c.requires.before.each rule.Limits (omega (arith, ap number_of c.in-Rent.is))
+
+pub is_refuted-requires : goal.is_refuted-requires
+is_refuted-requires c = prices_proper _ _ _ _ c.requires.before (omega (arith, ap number_of c.in-Refuted.is))
+
+pub is_priced-requires : goal.is_priced-requires
+is_priced-requires c = prices_proper _ _ _ _ c.requires.before (omega (arith, ap number_of c.in-Priced.is))

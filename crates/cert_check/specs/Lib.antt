@@ -1,0 +1,4 @@
+pub mod Nodes
+pub mod PriceRules
+pub mod Rules
+pub mod Verdicts

@@ -1,0 +1,41 @@
+-- The nodes of a tree, each with the pairs that its subproblem keeps.
+use Rattle.std.specs.Prelude.{Bool, true, false, List, [], ◌∷◌, ◌++◌, Option, Some, None}
+use Rattle.fleet_model.specs.Kept.{Domains, all_pairs, kept_by}
+use Rattle.fleet_model.specs.declared.tables.Tables.{Tables}
+use Rattle.bound_cert.specs.Bound.{part}
+use Rattle.bound_cert.specs.declared.prices.Prices.{Prices}
+use Rattle.bound_cert.specs.declared.trees.Tree.{Tree}
+use Rattle.bound_cert.specs.declared.trees.Tree.TheVariants as tree
+
+-- a node: the pairs that its subproblem keeps, and the tree below
+pub record Node : Type 0 where
+  pub keeps : Domains
+  pub tree : Tree
+
+-- the nodes of a tree in preorder: first itself, then those of its part with the pair, then those of the other
+abbrev pub nodes_in : Domains → Tree → List Node
+nodes_in keeps (tree.Trim' leg fleet p with_pair q without) =
+    record { keeps = keeps; tree = tree.Trim' leg fleet p with_pair q without }
+    ∷ (nodes_in (part keeps leg fleet true) with_pair ++ nodes_in (part keeps leg fleet false) without)
+nodes_in keeps (tree.Split' leg fleet prices mixed p with_pair q without) =
+    record { keeps = keeps; tree = tree.Split' leg fleet prices mixed p with_pair q without }
+    ∷ (nodes_in (part keeps leg fleet true) with_pair ++ nodes_in (part keeps leg fleet false) without)
+nodes_in keeps leaf = record { keeps = keeps; tree = leaf } ∷ []
+
+-- the nodes of a tree over all pairs that may be flown
+abbrev pub nodes_of : Tables → Tree → List Node
+nodes_of t tree = nodes_in (all_pairs t) tree
+
+-- the prices of a node that has them
+abbrev pub prices_at : Tree → Option Prices
+prices_at (tree.Refuted prices) = Some prices
+prices_at (tree.Priced prices) = Some prices
+prices_at (tree.Open prices why) = Some prices
+prices_at (tree.Split' leg fleet prices mixed p with_pair q without) = Some prices
+prices_at (tree.Bare leg) = None
+prices_at tree.Sole = None
+prices_at (tree.Trim' leg fleet p with_pair q without) = None
+
+-- the node of a tree in the subproblem that rows keep
+abbrev pub node_at : List (List Bool) → Tree → Node
+node_at rows tree = record { keeps = kept_by rows; tree = tree }

@@ -1,0 +1,132 @@
+-- What holds at each node of a tree that proves its bound, rule by rule.
+use Rattle.std.specs.Prelude.{◌≡◌, ◌≢◌, ℕ, ◌<◌, List, ◌∷◌, ◌++◌, All, length, ⊤, ◌⊎◌, Bool, IsTrue, true, false, Option, Some, None, IfSome, IsSomeAnd, ℤ, pos, ◌≤ℤ◌, ◌<ℤ◌}
+use Rattle.frac_row.specs.Ratio.{IsCeiling}
+use Rattle.fleet_model.specs.Kept.{Domains, IsBare, IsKeptAssignment, IsSole, kept_on}
+use Rattle.fleet_model.specs.Legal.{IsLegal, total_cost}
+use Rattle.fleet_model.specs.Schedule.{leg_on}
+use Rattle.fleet_model.specs.declared.tables.Tables.{Tables}
+use Rattle.bound_cert.specs.Bound.{part}
+use Rattle.bound_cert.specs.Worth.{worth_of}
+use Rattle.bound_cert.specs.declared.prices.Prices.{Prices}
+use Rattle.bound_cert.specs.declared.trees.Tree.{Tree}
+use Rattle.bound_cert.specs.declared.trees.Tree.TheVariants as tree
+use Rattle.cert_check.specs.Nodes.{Node, prices_at}
+use Rattle.cert_check.specs.PriceRules.{AreWithin, IsScale, NeverRise, RiseByRent}
+use Rattle.cert_check.specs.declared.rules.Rule.{Rule}
+use Rattle.cert_check.specs.declared.rules.Rule.TheVariants as rule
+
+-- a scale within its limit
+abbrev pub HasScale : Prices → Type 0
+HasScale prices = IsScale prices.scale
+
+-- each leg keeps a pair
+abbrev pub HaveAllPairs : Tables → Domains → Type 0
+HaveAllPairs t keeps = (l : ℕ) → ¬ (IsBare t keeps l)
+
+-- a bare leg keeps no pair, at a sole assignment each leg keeps one, and where there are prices each keeps some
+abbrev pub HasItsPairs : Tables → Domains → Tree → Type 0
+HasItsPairs t keeps (tree.Bare leg) = IsBare t keeps leg
+HasItsPairs t keeps tree.Sole = IsSole t keeps
+HasItsPairs t keeps (tree.Refuted prices) = HaveAllPairs t keeps
+HasItsPairs t keeps (tree.Priced prices) = HaveAllPairs t keeps
+HasItsPairs t keeps (tree.Open prices why) = HaveAllPairs t keeps
+HasItsPairs t keeps (tree.Trim' leg fleet p with_pair q without) = ⊤
+HasItsPairs t keeps (tree.Split' leg fleet prices mixed p with_pair q without) = HaveAllPairs t keeps
+
+-- a refuted leaf is refuted: by its prices, no cost put in, it is worth more than 0
+abbrev pub IsRefutedAt : Tables → Domains → Tree → Type 0
+IsRefutedAt t keeps (tree.Refuted prices) = pos 0 <ℤ worth_of t keeps prices 0
+IsRefutedAt t keeps other = ⊤
+
+-- the rounded worth of prices reaches a cost
+pub record Reaches (t : Tables) (keeps : Domains) (prices : Prices) (cost : ℤ) : Type 0 where
+  pub least : ℤ
+  pub rounded : IsCeiling (worth_of t keeps prices 1) prices.scale least
+  pub reaches : cost ≤ℤ least
+
+-- at a priced leaf there is a plan, and the rounded worth of the prices reaches its cost
+abbrev pub IsPricedAt : Tables → Option ℤ → Domains → Tree → Type 0
+IsPricedAt t cost keeps (tree.Priced prices) = IsSomeAnd cost (Reaches t keeps prices)
+IsPricedAt t cost keeps other = ⊤
+
+-- an assignment is legal, and costs this
+pub record IsLegalAt (t : Tables) (plan : List ℕ) (cost : ℤ) : Type 0 where
+  pub legal : IsLegal t plan
+  pub costs : cost ≡ total_cost t plan
+
+-- each leg keeps one fleet, and that assignment is legal
+pub record IsSoleLegal (t : Tables) (keeps : Domains) : Type 0 where
+  pub sole : IsSole t keeps
+  pub plan : List ℕ
+  pub kept : IsKeptAssignment t keeps plan
+  pub legal : IsLegal t plan
+
+-- a child of a trim that ends at once, with nothing legal or nothing cheaper than the plan
+abbrev pub EndsAtOnce : Tables → Domains → Tree → Type 0
+EndsAtOnce t keeps (tree.Bare leg) = ⊤
+EndsAtOnce t keeps tree.Sole = ¬ (IsSoleLegal t keeps)
+EndsAtOnce t keeps (tree.Refuted prices) = ⊤
+EndsAtOnce t keeps (tree.Priced prices) = ⊤
+EndsAtOnce t keeps (tree.Open prices why) = ⊥
+EndsAtOnce t keeps (tree.Trim' leg fleet p with_pair q without) = ⊥
+EndsAtOnce t keeps (tree.Split' leg fleet prices mixed p with_pair q without) = ⊥
+
+-- one of the two children of a trim ends at once
+abbrev pub OneEnds : Tables → Domains → ℕ → ℕ → Tree → Tree → Type 0
+OneEnds t keeps leg fleet with_pair without = EndsAtOnce t (part keeps leg fleet true) with_pair ⊎ EndsAtOnce t (part keeps leg fleet false) without
+
+-- the pair is kept
+abbrev pub IsKeptPair : Domains → ℕ → ℕ → Type 0
+IsKeptPair keeps leg fleet = IsTrue (keeps (leg_on leg fleet))
+
+-- a trim and a split name a kept pair; a child of a trim ends at once, and a split's leg keeps other pairs too
+abbrev pub HasParts : Tables → Domains → Tree → Type 0
+HasParts t keeps (tree.Trim' leg fleet p with_pair q without) =
+    IsKeptPair keeps leg fleet × OneEnds t keeps leg fleet with_pair without
+HasParts t keeps (tree.Split' leg fleet prices mixed p with_pair q without) = IsKeptPair keeps leg fleet × (kept_on t keeps leg ≢ 1)
+HasParts t keeps other = ⊤
+
+-- a node keeps a rule, where the plan that comes with the tree, if any, has this cost
+abbrev pub Keeps : Tables → Option ℤ → Node → Rule → Type 0
+Keeps t cost node rule.Scale = IfSome (prices_at node.tree) HasScale
+Keeps t cost node rule.Limits = IfSome (prices_at node.tree) (AreWithin t)
+Keeps t cost node rule.Fall = IfSome (prices_at node.tree) (NeverRise t)
+Keeps t cost node rule.Rent = IfSome (prices_at node.tree) (RiseByRent t)
+Keeps t cost node rule.Pairs = HasItsPairs t node.keeps node.tree
+Keeps t cost node rule.Refuted = IsRefutedAt t node.keeps node.tree
+Keeps t cost node rule.Priced = IsPricedAt t cost node.keeps node.tree
+Keeps t cost node rule.Parts = HasParts t node.keeps node.tree
+
+-- the number of a rule
+abbrev pub number_of : Rule → ℕ
+number_of rule.Scale = 1
+number_of rule.Limits = 2
+number_of rule.Fall = 3
+number_of rule.Rent = 4
+number_of rule.Pairs = 5
+number_of rule.Refuted = 6
+number_of rule.Priced = 7
+number_of rule.Parts = 8
+
+-- a node keeps all rules before one
+pub record KeepsBefore (t : Tables) (cost : Option ℤ) (node : Node) (bound : ℕ) : Type 0 where
+  pub each : (other : Rule) → number_of other < bound → Keeps t cost node other
+
+-- a node keeps all rules
+pub record IsSound (t : Tables) (cost : Option ℤ) (node : Node) : Type 0 where
+  pub each : (rule : Rule) → Keeps t cost node rule
+
+-- the first rule that a node breaks
+pub record IsFirstFault (t : Tables) (cost : Option ℤ) (node : Node) (rule : Rule) : Type 0 where
+  pub before : KeepsBefore t cost node (number_of rule)
+  pub broken : ¬ (Keeps t cost node rule)
+
+-- the first of some nodes that breaks a rule, by its place from 0, and the first rule that it breaks
+pub record IsFirstBroken (t : Tables) (cost : Option ℤ) (nodes : List Node) (place : ℕ) (rule : Rule) : Type 0 where
+  pub before : List Node
+  pub node : Node
+  pub after : List Node
+  pub order : nodes ≡ before ++ node ∷ after
+  pub sound : All (IsSound t cost) before
+  pub there : place ≡ length before
+  pub fault : IsFirstFault t cost node rule

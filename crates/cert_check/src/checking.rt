@@ -1,0 +1,46 @@
+//! The checker.
+ghost use Rattle.std.specs.Prelude.{◌≡◌, IfSome, Option, ℤ, option_map};
+ghost use Rattle.fleet_model.specs.Legal.{IsLegal, total_cost};
+ghost use Rattle.bound_cert.specs.OfTables.{IsOfTables};
+ghost use Rattle.cert_check.specs.Verdicts.{IsChecked, IsProof};
+
+use crate::checked::Checked;
+use crate::walking::{Walked, walk};
+use bound_cert::Tree;
+use fleet_model::{Assignment, Kept, Tables};
+use plan_judge::{Verdict, judge};
+
+/// Checks a tree: whether each of its nodes keeps each rule, and what bound it then proves. The plan is the one that
+/// the tree comes with, if any; priced leaves are judged by its cost. No order or form is asked of the tree's lists,
+/// and each number may be any. Takes no memory.
+pub fn check(tables: &Tables, plan: Option<&Assignment>, tree: &Tree) -> Checked
+    requires plan { IfSome plan (λ legal. IsLegal tables.now legal.now) }
+    requires tree { IsOfTables tables.now tree.now }
+
+    // The tree's bound where all nodes keep all rules, else the first node that does not, and there the first rule.
+    ensures verdict { IsChecked tables.now (option_map (λ legal. total_cost tables.now legal.now) plan.entry) tree.now result }
+
+    // Where it holds, each legal assignment costs at least the bound, and with no bound there is none.
+    ensures proof { IsProof tables.now result }
+{
+    let cost = plan_cost(tables, plan);
+    let mut kept = Kept::all(tables);
+    match walk(tables, &mut kept, &cost, tree, 1) {
+        Walked::Fine { bound, .. } => Checked::Holds { bound },
+        Walked::Broken { node, rule } => Checked::Broken {
+            node,
+            rule: rule.number(),
+        },
+    }
+}
+
+/// The cost of the plan, where there is one.
+fn plan_cost(tables: &Tables, plan: Option<&Assignment>) -> Option<i128>
+    requires { IfSome plan (λ legal. IsLegal tables.now legal.now) }
+    ensures { result ≡ option_map (λ legal. total_cost tables.now legal.now) plan.entry }
+{
+    match judge(tables, plan?) {
+        Verdict::Legal { cost } => Some(cost),
+        _ => None,
+    }
+}

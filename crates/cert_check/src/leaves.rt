@@ -1,0 +1,76 @@
+//! Leaves of a tree: what they keep and the bounds that they give.
+ghost use Rattle.std.specs.Prelude.{◌≡◌, ◌<◌, MatchBool, MatchOption};
+ghost use Rattle.frac_row.specs.Ratio.{IsCeiling};
+ghost use Rattle.fleet_model.specs.Kept.{IsBare, IsSole, kept_by};
+ghost use Rattle.fleet_model.specs.Schedule.{legs_in};
+ghost use Rattle.bound_cert.specs.Bound.{IsSoleBound};
+ghost use Rattle.bound_cert.specs.Prices.{ArePrices};
+ghost use Rattle.bound_cert.specs.Worth.{worth_of};
+ghost use Rattle.fleet_model.specs.Legal.{IsAssignment, IsLegal};
+ghost use Rattle.cert_check.specs.Rules.{HaveAllPairs, IsLegalAt, IsSoleLegal};
+
+use bound_cert::Prices;
+use bound_cert::worth::worth;
+use fleet_model::{Assignment, Kept, Tables};
+use frac_row::ceil_div;
+use plan_judge::{Verdict, judge};
+
+/// Whether a leg keeps no fleet. Takes no memory.
+pub(crate) fn is_bare(tables: &Tables, kept: &Kept, leg: u32) -> bool
+    requires { leg < legs_in tables.now }
+    ensures { MatchBool result (IsBare tables.now (kept_by kept.now) leg) (¬ (IsBare tables.now (kept_by kept.now) leg)) }
+{
+    kept.count_on(tables, leg) == 0
+}
+
+/// Whether each leg keeps a fleet. Takes no memory.
+pub(crate) fn have_all_pairs(tables: &Tables, kept: &Kept) -> bool
+    ensures { MatchBool result (HaveAllPairs tables.now (kept_by kept.now)) (¬ (HaveAllPairs tables.now (kept_by kept.now))) }
+{
+    kept.bare_leg(tables).is_none()
+}
+
+/// Whether each leg keeps one fleet. Takes no memory.
+pub(crate) fn is_sole(tables: &Tables, kept: &Kept) -> bool
+    ensures { MatchBool result (IsSole tables.now (kept_by kept.now)) (¬ (IsSole tables.now (kept_by kept.now))) }
+{
+    for leg in 0..tables.leg_count() {
+        if kept.count_on(tables, leg) != 1 {
+            return false;
+        }
+    }
+    true
+}
+
+/// What the one assignment that is left costs, where each leg keeps one fleet and it is legal. Takes no memory.
+///
+/// It has an assignment on the stack, and so is kept out of the walk's own frames.
+#[inline(never)]
+pub(crate) fn sole_cost(tables: &Tables, kept: &Kept) -> Option<i128>
+    ensures legal { MatchOption result (¬ (IsSoleLegal tables.now (kept_by kept.now))) (λ cost. IsSoleLegal tables.now (kept_by kept.now)) }
+    ensures bound { IsSole tables.now (kept_by kept.now) → IsSoleBound tables.now (kept_by kept.now) result }
+{
+    match kept.sole(tables) {
+        Some(plan) => legal_cost(tables, &plan),
+        None => None,
+    }
+}
+
+// What an assignment costs, where it is legal.
+fn legal_cost(tables: &Tables, plan: &Assignment) -> Option<i128>
+    requires { IsAssignment tables.now plan.now }
+    ensures { MatchOption result (¬ (IsLegal tables.now plan.now)) (IsLegalAt tables.now plan.now) }
+{
+    match judge(tables, plan) {
+        Verdict::Legal { cost } => Some(cost),
+        _ => None,
+    }
+}
+
+/// The worth of proper prices over their scale, rounded up. Takes no memory.
+pub(crate) fn price_bound(tables: &Tables, kept: &Kept, prices: &Prices) -> i128
+    requires { ArePrices tables.now prices.now }
+    ensures { IsCeiling (worth_of tables.now (kept_by kept.now) prices.now 1) prices.now.scale result }
+{
+    ceil_div(worth(tables, kept, prices, 1), prices.scale)
+}

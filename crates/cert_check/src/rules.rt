@@ -1,0 +1,53 @@
+ghost use Rattle.std.specs.Prelude.{◌≡◌};
+ghost use Rattle.cert_check.specs.Rules.{number_of};
+
+/// What is asked of a node of a tree, in the order in which it is judged.
+#[derive(Clone, Copy, Debug, PartialEq, Eq)]
+pub enum Rule {
+    /// The scale of prices is 1 or more and within its limit.
+    Scale,
+    /// Rents are 0 or more; rents and prices are within their limits.
+    Limits,
+    /// No price rises from one minute to the next.
+    Fall,
+    /// Over the end of the period no price rises by more than the rent.
+    Rent,
+    /// A bare leg keeps no pair, at a sole assignment each leg keeps one, and where there are prices each keeps some.
+    Pairs,
+    /// By the prices of a refuted leaf, with no costs put in, it is worth more than 0.
+    Refuted,
+    /// At a priced leaf there is a plan, and the rounded worth reaches its cost.
+    Priced,
+    /// A trim or a split names a kept pair; a child of a trim ends at once; a split's leg keeps other pairs too.
+    Parts,
+}
+
+/// All rules, in their order.
+pub(crate) const RULES: [Rule; 8] = [
+    Rule::Scale,
+    Rule::Limits,
+    Rule::Fall,
+    Rule::Rent,
+    Rule::Pairs,
+    Rule::Refuted,
+    Rule::Priced,
+    Rule::Parts,
+];
+
+impl Rule {
+    /// The number of the rule, from 1.
+    pub fn number(self) -> u8
+        ensures { result ≡ number_of self }
+    {
+        match self {
+            Rule::Scale => 1,
+            Rule::Limits => 2,
+            Rule::Fall => 3,
+            Rule::Rent => 4,
+            Rule::Pairs => 5,
+            Rule::Refuted => 6,
+            Rule::Priced => 7,
+            Rule::Parts => 8,
+        }
+    }
+}
