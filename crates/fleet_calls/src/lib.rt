@@ -7,6 +7,8 @@ mod judging;
 #[cfg(test)]
 mod model;
 #[cfg(test)]
+mod network;
+#[cfg(test)]
 mod plans;
 #[cfg(test)]
 mod proof_texts;

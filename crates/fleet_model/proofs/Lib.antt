@@ -6,3 +6,4 @@ pub mod NeedAtDepartures
 pub mod Periods
 pub mod SoleFleets
 pub mod UseLaws
+pub mod WholePlans

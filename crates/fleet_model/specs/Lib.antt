@@ -9,3 +9,4 @@ pub mod Mixed
 pub mod Schedule
 pub mod Times
 pub mod Use
+pub mod Whole

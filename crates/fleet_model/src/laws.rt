@@ -4,6 +4,7 @@ ghost use Rattle.std.specs.Prelude.{ℕ, List};
 ghost use Rattle.fleet_model.specs.declared.tables.Tables.{Tables};
 ghost use Rattle.fleet_model.specs.Laws.{AllowedIsKept, BareHasNone, CountsAreLegs, KeptIsAllowed, NeedIsAtDepartures, NeedIsLeast, NeedSuffices, SoleIsOne, UseIsConstant};
 ghost use Rattle.fleet_model.specs.Mixed.{LegalIsMixed};
+ghost use Rattle.fleet_model.specs.Whole.{WholeIsLegal};
 
 /// With `need` aircraft at the day start a fleet never lacks one at the station.
 pub fn need_suffices()
@@ -54,4 +55,9 @@ pub fn sole_is_one()
 /// A legal assignment of kept pairs is a mixed plan of scale 1, of the same cost.
 pub fn legal_is_mixed()
     ensures { LegalIsMixed }
+{}
+
+/// A mixed plan in which each pair has all of its leg or nothing is a legal assignment of kept pairs.
+pub fn whole_is_legal()
+    ensures { WholeIsLegal }
 {}

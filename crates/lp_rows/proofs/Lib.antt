@@ -9,3 +9,5 @@ pub mod Flows
 pub mod LineNumbers
 pub mod PointsToPlans
 pub mod PlansToPoints
+pub mod Counted
+pub mod Problems

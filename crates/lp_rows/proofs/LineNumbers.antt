@@ -61,7 +61,7 @@ module _ (t : Tables) (keeps : Domains) (starts : Starts) (rows : Rows) (are : A
   numbers_at : (i : ℕ) → i < length (lines_of t starts) → get_or rows.lines i [] ≡ numbers_of t starts cols (get_or (lines_of t starts) i (Cover 0))
   numbers_at i within = ap (λ ls. get_or ls i []) are.lines ∙ get_or-map (numbers_of t starts cols) (lines_of t starts) i (Cover 0) [] within
 
-  number_at_column : (i c : ℕ) → i < length (lines_of t starts) → c < length cols → entry rows i c ≡ entry_of t starts (get_or (lines_of t starts) i (Cover 0)) (column_at cols c)
+  pub number_at_column : (i c : ℕ) → i < length (lines_of t starts) → c < length cols → entry rows i c ≡ entry_of t starts (get_or (lines_of t starts) i (Cover 0)) (column_at cols c)
   number_at_column i c within below =
       let line = get_or (lines_of t starts) i (Cover 0) in
       ap (λ ns. get_or ns c (pos 0)) (numbers_at i within)

@@ -100,7 +100,7 @@ few_concat : {X : Type 0} (g : ℕ → List X) (n most : ℕ) → ((k : ℕ) →
 few_concat g zero most each = omega arith
 few_concat g (suc n) most each = omega (arith, length-append (concat_below g n) (g n), few_concat g n most (λ k below. each k (omega arith)), each n (omega arith))
 
-length-list_to : {X : Type 0} (f : ℕ → X) (n : ℕ) → length (list_to f n) ≡ n
+pub length-list_to : {X : Type 0} (f : ℕ → X) (n : ℕ) → length (list_to f n) ≡ n
 length-list_to f zero = refl
 length-list_to f (suc n) = omega (arith, length-append (list_to f n) (f n ∷ []), length-list_to f n)
 
@@ -108,17 +108,22 @@ few_one : {X : Type 0} (b : Bool) (x : X) → length (if b then x ∷ [] else []
 few_one true x = omega arith
 few_one false x = omega arith
 
-pub few_columns : (t : Tables) (keeps : Domains) (starts : Starts) → ((f s : ℕ) → f < fleets_in t → s < stations_in t → length (starts f s) ≤ MINUTES_PER_PERIOD) → length (columns_of t keeps starts) < 2 ^ 32
-few_columns t keeps starts few =
-    let pairs = few_concat (pairs_of t keeps) (legs_in t) 20 (λ l below.
-    let row = few_concat (pair_of keeps l) (fleets_in t) 1 (λ f known. few_one (keeps (leg_on l f)) (leg_on l f)) in omega (arith, row, t.in_range.fleets_fit.few)) in
+few_nodes : (t : Tables) (starts : Starts) → ((f s : ℕ) → f < fleets_in t → s < stations_in t → length (starts f s) ≤ MINUTES_PER_PERIOD) → length (all_nodes t starts) ≤ 5760000
+few_nodes t starts few =
     let nodes = few_concat (nodes_of t starts) (fleets_in t) (200 * MINUTES_PER_PERIOD) (λ f known.
     let row = few_concat (nodes_at starts f) (stations_in t) MINUTES_PER_PERIOD (λ s within. omega (arith, length-list_to (node_at f s) (length (starts f s)), few f s known within)) in
     omega (arith, row, t.in_range.stations_fit.few)) in
+    omega (arith, nodes, t.in_range.fleets_fit.few)
+
+-- ten million at most
+pub few_columns : (t : Tables) (keeps : Domains) (starts : Starts) → ((f s : ℕ) → f < fleets_in t → s < stations_in t → length (starts f s) ≤ MINUTES_PER_PERIOD) → length (columns_of t keeps starts) ≤ 10 ^ 7
+few_columns t keeps starts few =
+    let pairs = few_concat (pairs_of t keeps) (legs_in t) 20 (λ l below.
+    let row = few_concat (pair_of keeps l) (fleets_in t) 1 (λ f known. few_one (keeps (leg_on l f)) (leg_on l f)) in omega (arith, row, t.in_range.fleets_fit.few)) in
     omega (
       arith,
       pairs,
-      nodes,
+      few_nodes t starts few,
       t.in_range.legs_fit.few,
       t.in_range.fleets_fit.few,
       length-append (map Flight (all_kept t keeps) ++ map Ground (all_nodes t starts)) (list_to Slack (fleets_in t)),
@@ -126,4 +131,18 @@ few_columns t keeps starts few =
       length-map (all_kept t keeps) Flight,
       length-map (all_nodes t starts) Ground,
       length-list_to Slack (fleets_in t),
+    )
+
+pub few_lines : (t : Tables) (starts : Starts) → ((f s : ℕ) → f < fleets_in t → s < stations_in t → length (starts f s) ≤ MINUTES_PER_PERIOD) → length (lines_of t starts) ≤ 10 ^ 7
+few_lines t starts few =
+    omega (
+      arith,
+      few_nodes t starts few,
+      t.in_range.legs_fit.few,
+      t.in_range.fleets_fit.few,
+      length-append (list_to Cover (legs_in t) ++ map Balance (all_nodes t starts)) (list_to Count (fleets_in t)),
+      length-append (list_to Cover (legs_in t)) (map Balance (all_nodes t starts)),
+      length-map (all_nodes t starts) Balance,
+      length-list_to Cover (legs_in t),
+      length-list_to Count (fleets_in t),
     )

@@ -1,12 +1,12 @@
 -- Points of the lines of a subproblem, and the mixed plans that they stand for.
-use Rattle.std.specs.Prelude.{◌≡◌, ℕ, ◌<◌, Bool, false, ◌==◌, ◌&&◌, if◌then◌else◌, List, length, slice_index_or, ℤ, pos, ◌*ℤ◌}
+use Rattle.std.specs.Prelude.{◌≡◌, ℕ, ◌+◌, ◌<◌, Bool, false, ◌==◌, ◌&&◌, if◌then◌else◌, List, length, slice_index_or, ℤ, pos, ◌*ℤ◌}
 use Rattle.sums.specs.Below.{sum_below, sum_below_ℤ}
 use Rattle.fleet_model.specs.declared.parts.Pair.{Pair}
 use Rattle.fleet_model.specs.declared.tables.Tables.{Tables}
 use Rattle.fleet_model.specs.Counts.{Weights}
-use Rattle.fleet_model.specs.Kept.{Domains}
+use Rattle.fleet_model.specs.Kept.{Domains, kept_on}
 use Rattle.fleet_model.specs.Mixed.{IsMixedPlan, mixed_cost}
-use Rattle.fleet_model.specs.Schedule.{IsPair}
+use Rattle.fleet_model.specs.Schedule.{IsPair, fleets_in, legs_in, stations_in}
 use Rattle.row_store.specs.Problem.{entry}
 use Rattle.row_store.specs.declared.problem.Rows.{Rows}
 use Rattle.lp_rows.specs.declared.kinds.Column.{Column}
@@ -62,3 +62,19 @@ point_cost rows x = sum_below_ℤ (λ c. slice_index_or rows.costs c (pos 0) *�
 abbrev pub PointsCostAsPlans : Type 0
 PointsCostAsPlans = (t : Tables) (keeps : Domains) (starts : Starts) (rows : Rows) (x : ℕ → ℕ) → AreRows t keeps starts rows
     → point_cost rows x ≡ mixed_cost t (pair_part (columns_of t keeps starts) x)
+
+-- how many pairs are kept
+abbrev pub pairs_kept : Tables → Domains → ℕ
+pairs_kept t keeps = sum_below (kept_on t keeps) (legs_in t)
+
+-- how many arcs there are: one for each node
+abbrev pub arcs_in : Tables → Starts → ℕ
+arcs_in t starts = sum_below (λ f. sum_below (λ s. length (starts f s)) (stations_in t)) (fleets_in t)
+
+-- as many columns and lines as there are of each kind
+pub record AreCounted (t : Tables) (keeps : Domains) (starts : Starts) (rows : Rows) : Type 0 where
+  pub columns : rows.columns ≡ pairs_kept t keeps + arcs_in t starts + fleets_in t
+  pub lines : length rows.lines ≡ legs_in t + arcs_in t starts + fleets_in t
+
+abbrev pub RowsAreCounted : Type 0
+RowsAreCounted = (t : Tables) (keeps : Domains) (starts : Starts) (rows : Rows) → AreRows t keeps starts rows → AreCounted t keeps starts rows

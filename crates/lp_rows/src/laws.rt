@@ -1,6 +1,6 @@
 //! The laws of the lines, over all tables, kept pairs and points. Each function is a law: its contract is the
 //! statement, and it does nothing.
-ghost use Rattle.lp_rows.specs.Points.{PlansArePoints, PointsArePlans, PointsCostAsPlans};
+ghost use Rattle.lp_rows.specs.Points.{PlansArePoints, PointsArePlans, PointsCostAsPlans, RowsAreCounted};
 
 /// The pair part of each point of the lines is a mixed plan of its scale.
 pub fn points_are_plans()
@@ -15,4 +15,9 @@ pub fn plans_are_points()
 /// A point costs what its pair part does.
 pub fn points_cost_as_plans()
     ensures { PointsCostAsPlans }
+{}
+
+/// There are as many columns as kept pairs, ground arcs and fleets, and as many lines as legs, nodes and fleets.
+pub fn rows_are_counted()
+    ensures { RowsAreCounted }
 {}

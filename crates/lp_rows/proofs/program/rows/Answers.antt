@@ -1,7 +1,8 @@
-use Rattle.std.proofs.Common.{◌∙◌, All, subst, sym, ap, length, arith}
+use Rattle.std.proofs.Common.{◌∙◌, All, subst, sym, ap, length, arith, rules}
 use Rattle.fleet_model.specs.Kept.{kept_by}
 use Rattle.lp_rows.specs.Entries.{IsColumn, IsLine}
 use Rattle.lp_rows.specs.Layout.{starts_in}
+use Rattle.lp_rows.proofs.Problems.{is_problem}
 use Rattle.lp_rows.proofs.Totals.{columns_are_known, few_columns, lines_are_known}
 use Rattle.lp_rows.proofs.program.rows.Goals as goal
 
@@ -18,3 +19,8 @@ all_numbers-requires-clause-lines c =
 pub overflow_cast-result : goal.overflow_cast-result
 overflow_cast-result c =
     omega (arith, c.len.ensures, ap length c.in_ok-columns.ensures, few_columns c.args.tables.now (kept_by c.args.kept.now) (starts_in c.in_ok-network.network) c.in_ok-network.ensures.shape.few)
+
+pub returns-clause-problem : goal.returns-clause-problem
+returns-clause-problem c =
+    is_problem c.args.tables.now (kept_by c.args.kept.now) (starts_in c.in_ok-network.network) _
+    (record { network = c.in_ok-network.ensures.nodes; columns = search rules; lines = search rules; costs = search rules }) c.in_ok-network.ensures.shape.few

@@ -1,0 +1,172 @@
+//! The time-line network of a subproblem, and its lines.
+use crate::schedules::{Files, OVERLAPPING_TRIPS, ROUND_TRIP, read};
+use fleet_model::{Kept, LoadError, Step, Tables};
+use lp_rows::rows;
+use node_aggregate::{node_of, nodes};
+use row_store::{Rows, is_problem};
+use std::alloc::Global;
+use std::test::Fail;
+use timeline_net::{Event, events};
+
+/// Three round trips from a hub, of which each two overlap, and two fleets with one aircraft each.
+const TWO_FLEETS: Files = Files {
+    fleets: b"fleet,aircraft,turn\nF1,1,0\nF2,1,0\n",
+    costs: b"flight,fleet,cost\nA1,F1,10\nA1,F2,10\nA2,F1,10\nA2,F2,10\nB1,F1,10\nB1,F2,10\nB2,F1,10\nB2,F2,10\nC1,F1,10\nC1,F2,10\nC2,F1,10\nC2,F2,10\n",
+    ..OVERLAPPING_TRIPS
+};
+
+/// The events of a fleet at a station, of all pairs; nothing where there is no such fleet.
+fn events_at(
+    alloc: Global,
+    tables: &Tables,
+    fleet: u32,
+    station: u32,
+) -> Result<Option<Vec<Event>>, LoadError> {
+    if fleet >= tables.fleet_count() {
+        return Ok(None);
+    }
+    let happening = events(alloc, tables, &Kept::all(tables), fleet, station)?;
+    Ok(Some(happening))
+}
+
+/// The starts of the nodes of a fleet at a station, of all pairs; nothing where there is no such fleet.
+fn starts_at(
+    alloc: Global,
+    files: &Files,
+    fleet: u32,
+    station: u32,
+) -> Result<Option<Vec<u16>>, LoadError> {
+    let tables = read(alloc, files)?;
+    match events_at(alloc, &tables, fleet, station)? {
+        Some(happening) => Ok(Some(nodes(alloc, &happening)?)),
+        None => Ok(None),
+    }
+}
+
+/// The places of the nodes in which minutes lie, at the first fleet's nodes at the first station.
+fn places_of(alloc: Global, files: &Files, minutes: &[u16]) -> Result<Vec<u32>, LoadError> {
+    let tables = read(alloc, files)?;
+    let mut places = Vec::new(alloc);
+    if tables.fleet_count() == 0 {
+        return Ok(places);
+    }
+    let happening = events(alloc, &tables, &Kept::all(&tables), 0, 0)?;
+    let starts = nodes(alloc, &happening)?;
+    if starts.is_empty() {
+        return Ok(places);
+    }
+    for minute in minutes {
+        if places.push(node_of(&starts, *minute)).is_err() {
+            return Err(LoadError::NoMemory);
+        }
+    }
+    Ok(places)
+}
+
+/// The lines of all pairs.
+fn all_rows(alloc: Global, files: &Files) -> Result<Rows, LoadError> {
+    let tables = read(alloc, files)?;
+    Ok(rows(alloc, &tables, &Kept::all(&tables))?)
+}
+
+#[test]
+fn events_stand_by_minute_readies_first(rt: HostRuntime) -> Result<(), Fail> {
+    let tables = read(rt.alloc(), &TWO_FLEETS)?;
+    let want = [
+        (0, true, 3),
+        (0, false, 0),
+        (480, true, 5),
+        (480, false, 2),
+        (960, true, 1),
+        (960, false, 4),
+    ]
+    .map(|(minute, ready, leg)| Event { minute, ready, leg });
+    let seen = events_at(rt.alloc(), &tables, 0, 0)?;
+    assert_eq!(rt; seen.as_deref(), Some(want.as_slice()));
+    Ok(())
+}
+
+#[test]
+fn nodes_start_at_readies_after_departures(rt: HostRuntime) -> Result<(), Fail> {
+    let cases: [(Files, u32, u32, &[u16]); 6] = [
+        (ROUND_TRIP, 0, 0, &[0, 690]),
+        (ROUND_TRIP, 1, 0, &[0, 690]),
+        (ROUND_TRIP, 0, 1, &[0]),
+        (ROUND_TRIP, 1, 1, &[0]),
+        (TWO_FLEETS, 0, 0, &[0, 480, 960]),
+        (TWO_FLEETS, 1, 3, &[0]),
+    ];
+    for (files, fleet, station, want) in cases {
+        let starts = starts_at(rt.alloc(), &files, fleet, station)?;
+        assert_eq!(rt; starts.as_deref(), Some(want));
+    }
+    Ok(())
+}
+
+#[test]
+fn without_events_there_is_no_node(rt: HostRuntime) -> Result<(), Fail> {
+    let files = Files {
+        costs: b"flight,fleet,cost\nX1,F1,100\nX2,F1,100\n",
+        ..ROUND_TRIP
+    };
+    let none: &[u16] = &[];
+    assert_eq!(rt; starts_at(rt.alloc(), &files, 1, 0)?.as_deref(), Some(none));
+    Ok(())
+}
+
+#[test]
+fn minutes_lie_in_the_last_node_that_has_started(rt: HostRuntime) -> Result<(), Fail> {
+    let places = places_of(rt.alloc(), &TWO_FLEETS, &[0, 479, 480, 959, 960, 1439])?;
+    assert_eq!(rt; places.as_slice(), [0, 0, 1, 1, 2, 2].as_slice());
+    Ok(())
+}
+
+#[test]
+fn lines_of_a_round_trip(rt: HostRuntime) -> Result<(), Fail> {
+    let want: [[i128; 13]; 10] = [
+        [1, 1, 0, 0, 0, 0, 0, 0, 0, 0, 0, 0, 1],
+        [0, 0, 1, 1, 0, 0, 0, 0, 0, 0, 0, 0, 1],
+        [-1, 0, 0, 0, -1, 1, 0, 0, 0, 0, 0, 0, 0],
+        [0, 0, 1, 0, 1, -1, 0, 0, 0, 0, 0, 0, 0],
+        [1, 0, -1, 0, 0, 0, 0, 0, 0, 0, 0, 0, 0],
+        [0, -1, 0, 0, 0, 0, 0, -1, 1, 0, 0, 0, 0],
+        [0, 0, 0, 1, 0, 0, 0, 1, -1, 0, 0, 0, 0],
+        [0, 1, 0, -1, 0, 0, 0, 0, 0, 0, 0, 0, 0],
+        [0, 0, 0, 0, 0, 1, 1, 0, 0, 0, 1, 0, 1],
+        [0, 0, 0, 0, 0, 0, 0, 0, 1, 1, 0, 1, 1],
+    ];
+    let costs: [i128; 12] = [100, 80, 100, 130, 0, 0, 0, 0, 0, 0, 0, 0];
+    let seen = all_rows(rt.alloc(), &ROUND_TRIP)?;
+    assert_eq!(rt; (seen.columns, seen.lines.len()), (12, 10));
+    for (line, numbers) in seen.lines.as_slice().iter().zip(want.iter()) {
+        assert_eq!(rt; line.as_slice(), numbers.as_slice());
+    }
+    assert_eq!(rt; seen.costs.as_slice(), costs.as_slice());
+    assert!(rt; is_problem(&seen));
+    Ok(())
+}
+
+#[test]
+fn lines_of_overlapping_trips(rt: HostRuntime) -> Result<(), Fail> {
+    let seen = all_rows(rt.alloc(), &TWO_FLEETS)?;
+    assert_eq!(rt;
+        (seen.columns, seen.lines.len(), seen.costs.len()),
+        (26, 20, 26)
+    );
+    assert!(rt; is_problem(&seen));
+    Ok(())
+}
+
+#[test]
+fn lines_of_fewer_pairs(rt: HostRuntime) -> Result<(), Fail> {
+    let tables = read(rt.alloc(), &ROUND_TRIP)?;
+    let mut kept = Kept::all(&tables);
+    kept.narrow(Step {
+        leg: 0,
+        fleet: 0,
+        yes: true,
+    });
+    let seen = rows(rt.alloc(), &tables, &kept)?;
+    assert_eq!(rt; (seen.columns, seen.lines.len()), (10, 9));
+    Ok(())
+}

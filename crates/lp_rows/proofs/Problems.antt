@@ -1,0 +1,121 @@
+-- The rows are a problem for the simplex method: no number of theirs and no sum of a column is outgrown.
+use Rattle.std.proofs.Common.{◌≡◌, ℕ, ◌+◌, ◌<◌, ◌≤◌, Bool, true, false, if◌then◌else◌, ◌==◌, length, get_or, map, All, Option, Some, None, IfSome, ℤ, pos, ◌-ℤ◌, unsigned_abs, sym, ◌∙◌, ap, subst, inl, inr, arith}
+use Rattle.std.specs.Prelude.{unwrap_or}
+use Rattle.std.proofs.lemmas.Bool.{cases_lt}
+use Rattle.std.proofs.lemmas.Int.{ints}
+use Rattle.std.proofs.lemmas.List.{length-map, length_push}
+use Rattle.std.proofs.lemmas.List.Elements.{All-map, recursion_from_All}
+use Rattle.sums.proofs.Sums.{sum_below-bound}
+use Rattle.frac_row.specs.Outgrown.{IsWithin}
+use Rattle.fleet_model.specs.declared.limits.TheConstants.{MINUTES_PER_PERIOD}
+use Rattle.fleet_model.specs.declared.parts.Pair.{Pair}
+use Rattle.fleet_model.specs.declared.tables.Tables.{Tables}
+use Rattle.fleet_model.specs.Kept.{Domains}
+use Rattle.fleet_model.specs.Legal.{cost_of}
+use Rattle.fleet_model.specs.Limits.{IsCost, IsFleet, IsLeg, IsPairCost, IsStation}
+use Rattle.fleet_model.specs.Schedule.{IsPair, fleet_of, fleets_in, leg_of, legs_in, no_fleet, no_leg, no_station, station_of, stations_in}
+use Rattle.fleet_model.specs.Times.{laps_of}
+use Rattle.fleet_model.proofs.CostLookup.{found_fits}
+use Rattle.row_store.specs.Problem.{IsProblem, entry}
+use Rattle.row_store.specs.declared.problem.Rows.{Rows}
+use Rattle.lp_rows.specs.declared.kinds.Column.{Column}
+use Rattle.lp_rows.specs.declared.kinds.Column.TheVariants.{Flight, Ground, Slack}
+use Rattle.lp_rows.specs.declared.kinds.Line.{Line}
+use Rattle.lp_rows.specs.declared.kinds.Line.TheVariants.{Cover, Balance, Count}
+use Rattle.lp_rows.specs.Entries.{IsColumn, IsLine, column_cost, comes_to_node, entry_of, gets_arc, leaves_node, one_if, passes_day_start, right_side_of, same_node}
+use Rattle.lp_rows.specs.Layout.{Starts, columns_of, lines_of}
+use Rattle.lp_rows.specs.Points.{column_at}
+use Rattle.lp_rows.specs.Program.{AreRows, numbers_of}
+use Rattle.lp_rows.proofs.LineNumbers.{line_count, number_at_column, right_side_at}
+use Rattle.lp_rows.proofs.Totals.{columns_are_known, few_columns, few_lines, lines_are_known}
+
+small_one : (b : Bool) → unsigned_abs (one_if b) ≤ 2
+small_one true = omega arith
+small_one false = omega arith
+
+small_two : (a b : Bool) → unsigned_abs (one_if a -ℤ one_if b) ≤ 2
+small_two true true = omega arith
+small_two true false = omega arith
+small_two false true = omega arith
+small_two false false = omega arith
+
+small_laps : (b : Bool) (n : ℕ) → n ≤ 2 → unsigned_abs (if b then pos n else pos 0) ≤ 2
+small_laps true n few = few
+small_laps false n few = omega arith
+
+-- a flight with its turn takes less than three periods
+few_laps : (t : Tables) (p : Pair) → IsPair t p → laps_of t p ≤ 2
+few_laps t p known =
+    let leg : IsLeg (stations_in t) (leg_of t p.leg) = t.in_range.legs_fit.each p.leg no_leg known.leg in
+    let fleet : IsFleet (fleet_of t p.fleet) = t.in_range.fleets_fit.each p.fleet no_fleet known.fleet in
+    let station : IsStation (station_of t (leg_of t p.leg).to) = t.in_range.stations_fit.each (leg_of t p.leg).to no_station leg.to in
+    omega (arith, leg.dep, leg.block, fleet.turn, station.extra)
+
+small_entry : (t : Tables) (starts : Starts) (line : Line) (column : Column) → IsColumn t starts column → unsigned_abs (entry_of t starts line column) ≤ 2
+small_entry t starts (Cover l) (Flight p) known = small_one (l == p.leg)
+small_entry t starts (Cover l) (Ground a) known = omega arith
+small_entry t starts (Cover l) (Slack f) known = omega arith
+small_entry t starts (Balance n) (Flight p) known = small_two (comes_to_node t starts n p) (leaves_node t starts n p)
+small_entry t starts (Balance n) (Ground a) known = small_two (gets_arc starts n a) (same_node n a)
+small_entry t starts (Balance n) (Slack f) known = omega arith
+small_entry t starts (Count f) (Flight p) known = small_laps (f == p.fleet) (laps_of t p) (few_laps t p known)
+small_entry t starts (Count f) (Ground a) known = small_one (passes_day_start starts f a)
+small_entry t starts (Count f) (Slack g) known = small_one (f == g)
+
+small_side : (t : Tables) (starts : Starts) (line : Line) → IsLine t starts line → unsigned_abs (right_side_of t line) ≤ 500
+small_side t starts (Cover l) known = omega arith
+small_side t starts (Balance n) known = omega arith
+small_side t starts (Count f) known = let fits : IsFleet (fleet_of t f) = t.in_range.fleets_fit.each f no_fleet known in omega (arith, fits.aircraft)
+
+within_of : (c : ℤ) → IsCost c → IsWithin c
+within_of c fits = omega (arith, ints, fits.no_less, fits.no_more)
+
+cost_within : (o : Option ℤ) → IfSome o IsCost → IsWithin (unwrap_or o (pos 0))
+cost_within (Some c) fits = within_of c fits
+cost_within None fits = omega arith
+
+small_cost : (t : Tables) (column : Column) → IsWithin (column_cost t column)
+small_cost t (Flight p) =
+    cost_within (cost_of t p) (found_fits t.costs p (legs_in t) (fleets_in t) (recursion_from_All (IsPairCost (legs_in t) (fleets_in t)) t.costs t.in_range.costs_fit.each))
+small_cost t (Ground a) = omega arith
+small_cost t (Slack f) = omega arith
+
+module _ (t : Tables) (keeps : Domains) (starts : Starts) (rows : Rows) (are : AreRows t keeps starts rows) (few : (f s : ℕ) → f < fleets_in t → s < stations_in t → length (starts f s) ≤ MINUTES_PER_PERIOD) where
+  small_number : (i c : ℕ) → i < length rows.lines → c ≤ rows.columns → unsigned_abs (entry rows i c) ≤ 500
+  small_number i c within order =
+      let place : i < length (lines_of t starts) = omega (arith, line_count t keeps starts rows are) in
+      let line = get_or (lines_of t starts) i (Cover 0) in
+      elim (cases_lt c rows.columns) [
+        | inl below ↦
+            let column : c < length (columns_of t keeps starts) = omega (arith, are.columns) in
+            let small = small_entry t starts line (column_at (columns_of t keeps starts) c) (columns_are_known t keeps starts c (Slack 0) column) in
+            rw (number_at_column t keeps starts rows are i c place column) (omega (arith, small))
+        | inr last ↦
+            let same : c ≡ rows.columns = omega arith in
+            let side = small_side t starts line (lines_are_known t starts i (Cover 0) place) in
+            rw (same, right_side_at t keeps starts rows are i place) side
+      ]
+
+  widths : All (λ line. length line ≡ rows.columns + 1) rows.lines
+  widths = subst (All (λ line. length line ≡ rows.columns + 1)) (sym are.lines)
+      (All-map (λ line. length line ≡ rows.columns + 1) (numbers_of t starts (columns_of t keeps starts)) (lines_of t starts)
+      (λ k d below. omega (
+        arith,
+        length_push (map (entry_of t starts (get_or (lines_of t starts) k d)) (columns_of t keeps starts)) (right_side_of t (get_or (lines_of t starts) k d)),
+        length-map (columns_of t keeps starts) (entry_of t starts (get_or (lines_of t starts) k d)),
+        are.columns,
+      )))
+
+  pub is_problem : IsProblem rows
+  is_problem = record {
+    few = omega (arith, are.columns, line_count t keeps starts rows are, few_columns t keeps starts few, few_lines t starts few);
+    widths = widths;
+    costs = ap length are.costs ∙ length-map (columns_of t keeps starts) (column_cost t) ∙ sym are.columns;
+    costs_within = subst (All IsWithin) (sym are.costs) (All-map IsWithin (column_cost t) (columns_of t keeps starts) (λ k d below. small_cost t (get_or (columns_of t keeps starts) k d)));
+    sums_within = λ c order. omega (
+      arith,
+      sum_below-bound (λ i. unsigned_abs (entry rows i c)) 500 (length rows.lines) (record { each = λ i below. small_number i c below order }),
+      line_count t keeps starts rows are,
+      few_lines t starts few,
+    );
+  }
