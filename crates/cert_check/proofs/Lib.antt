@@ -1,3 +1,5 @@
+pub mod MixedCosts
+pub mod MixedNeed
 pub mod NodeRules
 pub mod PriceSteps
 pub mod TreeBounds

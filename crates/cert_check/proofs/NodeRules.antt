@@ -1,21 +1,22 @@
 -- What is known at a node once it keeps the rules before one.
-use Rattle.std.proofs.Common.{◌≡◌, ◌≢◌, ℕ, zero, suc, ◌+◌, ◌<◌, ◌≤◌, Bool, true, false, MatchBool, MatchOption, List, Option, Some, None, IfSome, ℤ, pos, ◌-ℤ◌, ◌*ℤ◌, ◌≤ℤ◌, ◌<ℤ◌, refl, sym, ◌∙◌, ap, subst, arith}
+use Rattle.std.proofs.Common.{◌≡◌, ℕ, ◌+◌, ◌<◌, Bool, true, false, MatchBool, MatchOption, List, Option, Some, None, IfSome, ℤ, pos, ◌-ℤ◌, ◌*ℤ◌, ◌≤ℤ◌, ◌<ℤ◌, refl, ◌∙◌, ap, subst, arith}
 use Rattle.std.proofs.lemmas.Int.{by_lt_z, ints}
 use lib.IntN.{*ℤ_comm}
 use Rattle.sums.proofs.Orders.{factor_le}
 use Rattle.frac_row.specs.Ratio.{IsCeiling}
-use Rattle.fleet_model.specs.Kept.{Domains, IsKeptAssignment, IsSole, kept_on}
+use Rattle.fleet_model.specs.Kept.{Domains, IsKeptAssignment, IsSole}
 use Rattle.fleet_model.specs.Legal.{IsLegal, total_cost}
 use Rattle.fleet_model.specs.declared.tables.Tables.{Tables}
 use Rattle.fleet_model.proofs.KeptLaws.{sole_is_one}
 use Rattle.bound_cert.specs.Bound.{IsSoleBound}
 use Rattle.bound_cert.specs.Prices.{ArePrices}
 use Rattle.bound_cert.specs.Worth.{worth_of}
+use Rattle.bound_cert.specs.declared.mixed.Mixed.{Mixed}
 use Rattle.bound_cert.specs.declared.prices.Prices.{Prices}
+use Rattle.cert_check.specs.MixedRules.{AreParts, IsMixedAt}
 use Rattle.cert_check.specs.Nodes.{Node, prices_at}
 use Rattle.cert_check.specs.PriceRules.{AreWithin, NeverRise, RiseByRent}
-use Rattle.cert_check.specs.Rules.{HasScale, IsLegalAt, IsSoleLegal, IsSound, Keeps, KeepsBefore, Reaches, number_of}
-use Rattle.cert_check.specs.declared.rules.Rule.{Rule}
+use Rattle.cert_check.specs.Rules.{HasScale, IsLegalAt, IsSoleLegal, IsSound, KeepsBefore, Reaches}
 use Rattle.cert_check.specs.declared.rules.Rule.TheVariants as rule
 
 -- prices are proper where they keep the first four rules
@@ -80,7 +81,12 @@ module _ (t : Tables) (keeps : Domains) (plan : List ℕ) (sole : IsSole t keeps
 
 -- the prices of a node that keeps all rules
 pub sound_proper : (t : Tables) (cost : Option ℤ) (node : Node) → IsSound t cost node → IfSome (prices_at node.tree) (ArePrices t)
-sound_proper t cost node sound = prices_proper t cost node 9 (record { each = λ rule below. sound.each rule }) (omega arith)
+sound_proper t cost node sound = prices_proper t cost node 11 (record { each = λ rule below. sound.each rule }) (omega arith)
 
 pub prices_known : (t : Tables) (cost : Option ℤ) (node : Node) (prices : Prices) → IsSound t cost node → prices_at node.tree ≡ Some prices → ArePrices t prices
 prices_known t cost node prices sound e = rw e at (sound_proper t cost node sound)
+
+-- a fractional assignment of a subproblem has its parts within their limits
+pub parts_within : (t : Tables) (keeps : Domains) (o : Option Mixed) → IfSome o (IsMixedAt t keeps) → IfSome o (AreParts t)
+parts_within t keeps None is = tt
+parts_within t keeps (Some mixed) is = is.parts

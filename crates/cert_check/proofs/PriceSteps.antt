@@ -1,14 +1,14 @@
 -- Between two steps prices stay, so what holds where steps stand holds at every minute.
-use Rattle.std.proofs.Common.{◌≡◌, ℕ, zero, suc, ◌+◌, ◌<◌, Bool, true, false, ◌&&◌, ◌==◌, nat_le, if◌then◌else◌, List, [], ◌∷◌, All, MatchBool, length, take, take_all, get_or, ◌≤◌, ◌⊎◌, inl, inr, ℤ, pos, ◌+ℤ◌, ◌≤ℤ◌, ◌<ℤ◌, refl, sym, ◌∙◌, ap, subst, add-one, arith}
+use Rattle.std.proofs.Common.{◌≡◌, ℕ, zero, suc, ◌+◌, ◌<◌, Bool, true, false, ◌&&◌, ◌==◌, nat_le, if◌then◌else◌, List, [], ◌∷◌, All, MatchBool, length, take, take_all, get_or, ◌≤◌, ◌⊎◌, inl, inr, ℤ, pos, ◌+ℤ◌, ◌≤ℤ◌, ◌<ℤ◌, refl, ap, add-one, arith}
 use Rattle.std.proofs.lemmas.Int.{ints}
 use Rattle.std.proofs.lemmas.Bool.Decides.{nat_tests}
 use Rattle.std.proofs.lemmas.List.Elements.{All-head, All-more, All-tail}
-use Rattle.fleet_model.specs.Schedule.{fleets_in, stations_in}
+use Rattle.fleet_model.specs.Schedule.{fleets_in}
 use Rattle.fleet_model.specs.Use.{last_minute}
 use Rattle.fleet_model.specs.declared.limits.TheConstants.{MINUTES_PER_PERIOD}
 use Rattle.fleet_model.specs.declared.tables.Tables.{Tables}
 use Rattle.bound_cert.specs.OfTables.{ArePricesOf}
-use Rattle.bound_cert.specs.Prices.{has_come, max_price, price_after, price_of, rent_of}
+use Rattle.bound_cert.specs.Prices.{has_come, price_after, price_of, rent_of}
 use Rattle.bound_cert.specs.declared.prices.Prices.{Prices}
 use Rattle.bound_cert.specs.declared.prices.PriceStep.{PriceStep}
 use Rattle.bound_cert.proofs.Numbers.{held, is_held}

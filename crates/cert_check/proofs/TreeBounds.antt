@@ -1,19 +1,17 @@
 -- Weak duality over a tree whose nodes keep all rules: its bound is no more than the cost of any legal assignment.
-use Rattle.std.proofs.Common.{◌≡◌, ◌≢◌, ℕ, suc, ◌+◌, ◌<◌, Bool, true, false, not, ◌==◌, ◌&&◌, if◌then◌else◌, IsTrue, List, [], ◌∷◌, ◌++◌, All, length, length-append, Option, Some, None, MatchOption, ℤ, ◌≤ℤ◌, refl, sym, ◌∙◌, ap, subst, arith}
+use Rattle.std.proofs.Common.{◌≡◌, ℕ, Bool, true, false, not, ◌==◌, ◌&&◌, if◌then◌else◌, List, [], ◌∷◌, ◌++◌, All, length-append, Option, Some, None, MatchOption, ℤ, ◌≤ℤ◌, refl, sym, ◌∙◌, ap, subst, arith}
 use Rattle.std.proofs.lemmas.Int.{ints}
 use Rattle.std.proofs.lemmas.Bool.Decides.{nat_tests}
 use Rattle.std.proofs.lemmas.List.Elements.{All-head, All-tail}
 use Rattle.std.proofs.lemmas.List.{get_or_append_left}
 use Rattle.std.specs.Prelude.{int_le}
 use Rattle.fleet_model.specs.Counts.{fleet_at, pair_at}
-use Rattle.fleet_model.specs.Kept.{Domains, IsBare, IsKeptAssignment, IsSole, all_pairs, leaves}
+use Rattle.fleet_model.specs.Kept.{Domains, IsKeptAssignment, all_pairs, leaves}
 use Rattle.fleet_model.specs.Legal.{IsLegal, total_cost}
-use Rattle.fleet_model.specs.Schedule.{leg_on, legs_in}
 use Rattle.fleet_model.specs.declared.tables.Tables.{Tables}
 use Rattle.fleet_model.proofs.KeptLaws.{allowed_is_kept, bare_has_none}
-use Rattle.bound_cert.specs.Bound.{IsBoundIn, IsInfeasible, IsLesserBound, IsLowerBound, IsPriceBound, lesser_bound, part}
+use Rattle.bound_cert.specs.Bound.{IsBoundIn, IsLesserBound, IsPriceBound, lesser_bound, part}
 use Rattle.bound_cert.specs.Prices.{ArePrices}
-use Rattle.bound_cert.specs.Worth.{lesser}
 use Rattle.bound_cert.specs.declared.prices.Prices.{Prices}
 use Rattle.bound_cert.specs.declared.trees.Tree.{Tree}
 use Rattle.bound_cert.specs.declared.trees.Tree.TheVariants as tree

@@ -1,3 +1,4 @@
+pub mod MixedRules
 pub mod Nodes
 pub mod PriceRules
 pub mod Rules

@@ -3,7 +3,10 @@ use Rattle.std.specs.Prelude.{Bool, true, false, List, [], ◌∷◌, ◌++◌, 
 use Rattle.fleet_model.specs.Kept.{Domains, all_pairs, kept_by}
 use Rattle.fleet_model.specs.declared.tables.Tables.{Tables}
 use Rattle.bound_cert.specs.Bound.{part}
+use Rattle.bound_cert.specs.declared.mixed.Mixed.{Mixed}
 use Rattle.bound_cert.specs.declared.prices.Prices.{Prices}
+use Rattle.bound_cert.specs.declared.trees.Cause.{Cause}
+use Rattle.bound_cert.specs.declared.trees.Cause.TheVariants as cause
 use Rattle.bound_cert.specs.declared.trees.Tree.{Tree}
 use Rattle.bound_cert.specs.declared.trees.Tree.TheVariants as tree
 
@@ -35,6 +38,23 @@ prices_at (tree.Split' leg fleet prices mixed p with_pair q without) = Some pric
 prices_at (tree.Bare leg) = None
 prices_at tree.Sole = None
 prices_at (tree.Trim' leg fleet p with_pair q without) = None
+
+-- the fractional assignment of a cause that has one
+abbrev pub mixed_of : Cause → Option Mixed
+mixed_of (cause.Nodes mixed) = Some mixed
+mixed_of (cause.Pivots made) = None
+mixed_of (cause.Grew pivots row column) = None
+mixed_of (cause.Lift step at) = None
+
+-- the fractional assignment of a node that has one
+abbrev pub mixed_at : Tree → Option Mixed
+mixed_at (tree.Open prices why) = mixed_of why
+mixed_at (tree.Split' leg fleet prices mixed p with_pair q without) = Some mixed
+mixed_at (tree.Bare leg) = None
+mixed_at tree.Sole = None
+mixed_at (tree.Refuted prices) = None
+mixed_at (tree.Priced prices) = None
+mixed_at (tree.Trim' leg fleet p with_pair q without) = None
 
 -- the node of a tree in the subproblem that rows keep
 abbrev pub node_at : List (List Bool) → Tree → Node

@@ -1,5 +1,5 @@
 -- What holds at each node of a tree that proves its bound, rule by rule.
-use Rattle.std.specs.Prelude.{◌≡◌, ◌≢◌, ℕ, ◌<◌, List, ◌∷◌, ◌++◌, All, length, ⊤, ◌⊎◌, Bool, IsTrue, true, false, Option, Some, None, IfSome, IsSomeAnd, ℤ, pos, ◌≤ℤ◌, ◌<ℤ◌}
+use Rattle.std.specs.Prelude.{◌≡◌, ◌≢◌, ℕ, ◌<◌, List, ◌∷◌, ◌++◌, All, length, ⊤, ◌⊎◌, IsTrue, true, false, Option, IfSome, IsSomeAnd, ℤ, pos, ◌≤ℤ◌, ◌<ℤ◌}
 use Rattle.frac_row.specs.Ratio.{IsCeiling}
 use Rattle.fleet_model.specs.Kept.{Domains, IsBare, IsKeptAssignment, IsSole, kept_on}
 use Rattle.fleet_model.specs.Legal.{IsLegal, total_cost}
@@ -10,7 +10,8 @@ use Rattle.bound_cert.specs.Worth.{worth_of}
 use Rattle.bound_cert.specs.declared.prices.Prices.{Prices}
 use Rattle.bound_cert.specs.declared.trees.Tree.{Tree}
 use Rattle.bound_cert.specs.declared.trees.Tree.TheVariants as tree
-use Rattle.cert_check.specs.Nodes.{Node, prices_at}
+use Rattle.cert_check.specs.MixedRules.{IsFraction, IsMixedAt, IsWholePair}
+use Rattle.cert_check.specs.Nodes.{Node, mixed_at, mixed_of, prices_at}
 use Rattle.cert_check.specs.PriceRules.{AreWithin, IsScale, NeverRise, RiseByRent}
 use Rattle.cert_check.specs.declared.rules.Rule.{Rule}
 use Rattle.cert_check.specs.declared.rules.Rule.TheVariants as rule
@@ -86,6 +87,13 @@ HasParts t keeps (tree.Trim' leg fleet p with_pair q without) =
 HasParts t keeps (tree.Split' leg fleet prices mixed p with_pair q without) = IsKeptPair keeps leg fleet × (kept_on t keeps leg ≢ 1)
 HasParts t keeps other = ⊤
 
+-- an open leaf's fractional assignment, where it has one, is a best one and not whole; so is a split's, which flies
+-- the split's pair in part
+abbrev pub HasFraction : Tables → Domains → Tree → Type 0
+HasFraction t keeps (tree.Open prices why) = IfSome (mixed_of why) (IsFraction t keeps prices)
+HasFraction t keeps (tree.Split' leg fleet prices mixed p with_pair q without) = IsFraction t keeps prices mixed × (¬ (IsWholePair mixed leg fleet))
+HasFraction t keeps other = ⊤
+
 -- a node keeps a rule, where the plan that comes with the tree, if any, has this cost
 abbrev pub Keeps : Tables → Option ℤ → Node → Rule → Type 0
 Keeps t cost node rule.Scale = IfSome (prices_at node.tree) HasScale
@@ -96,6 +104,8 @@ Keeps t cost node rule.Pairs = HasItsPairs t node.keeps node.tree
 Keeps t cost node rule.Refuted = IsRefutedAt t node.keeps node.tree
 Keeps t cost node rule.Priced = IsPricedAt t cost node.keeps node.tree
 Keeps t cost node rule.Parts = HasParts t node.keeps node.tree
+Keeps t cost node rule.Mixed = IfSome (mixed_at node.tree) (IsMixedAt t node.keeps)
+Keeps t cost node rule.Fraction = HasFraction t node.keeps node.tree
 
 -- the number of a rule
 abbrev pub number_of : Rule → ℕ
@@ -107,6 +117,8 @@ number_of rule.Pairs = 5
 number_of rule.Refuted = 6
 number_of rule.Priced = 7
 number_of rule.Parts = 8
+number_of rule.Mixed = 9
+number_of rule.Fraction = 10
 
 -- a node keeps all rules before one
 pub record KeepsBefore (t : Tables) (cost : Option ℤ) (node : Node) (bound : ℕ) : Type 0 where

@@ -1,11 +1,12 @@
 //! The checker of proofs: whether a tree of subproblems proves the bound that it claims, whoever made it.
-//!
-//! Fractional assignments of splits and open leaves are not judged yet.
 #![tactic(auto)]
 
 pub mod checked;
 pub mod checking;
+mod fraction_rules;
 mod leaves;
+mod mixed_counts;
+mod mixed_rules;
 mod node_rules;
 mod price_rules;
 pub mod rules;

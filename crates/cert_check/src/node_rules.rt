@@ -4,15 +4,18 @@ ghost use Rattle.fleet_model.specs.Kept.{kept_by, narrowed};
 ghost use Rattle.fleet_model.specs.Schedule.{IsPair, leg_on};
 ghost use Rattle.bound_cert.specs.OfTables.{ArePricesOf, IsOfTables};
 ghost use Rattle.bound_cert.specs.Prices.{ArePrices};
-ghost use Rattle.cert_check.specs.Nodes.{node_at, prices_at};
+ghost use Rattle.cert_check.specs.MixedRules.{AreParts, IsFraction, IsMixedAt};
+ghost use Rattle.cert_check.specs.Nodes.{mixed_at, mixed_of, node_at, prices_at};
 ghost use Rattle.cert_check.specs.PriceRules.{AreWithin, NeverRise, RiseByRent};
-ghost use Rattle.cert_check.specs.Rules.{EndsAtOnce, HasItsPairs, HasParts, HasScale, IsFirstFault, IsPricedAt, IsRefutedAt, IsSound, Keeps, IsSoleLegal, KeepsBefore, OneEnds, Reaches, number_of};
+ghost use Rattle.cert_check.specs.Rules.{EndsAtOnce, HasFraction, HasItsPairs, HasParts, HasScale, IsFirstFault, IsPricedAt, IsRefutedAt, IsSound, Keeps, IsSoleLegal, KeepsBefore, OneEnds, Reaches, number_of};
 
+use crate::fraction_rules::{is_fraction, is_whole_pair};
 use crate::leaves::{have_all_pairs, is_bare, is_sole, price_bound, sole_cost};
+use crate::mixed_rules::is_mixed;
 use crate::price_rules::{are_within, is_no_more, is_scale, never_rise, rise_by_rent};
 use crate::rules::{RULES, Rule};
 use bound_cert::worth::worth;
-use bound_cert::{Prices, Tree};
+use bound_cert::{Cause, Mixed, Prices, Tree};
 use fleet_model::{Kept, Step, Tables};
 
 /// The first rule that a node breaks. Takes no memory.
@@ -48,6 +51,8 @@ fn keeps(tables: &Tables, kept: &Kept, cost: &Option<i128>, node: &Tree, rule: R
         Rule::Refuted => is_refuted(tables, kept, node),
         Rule::Priced => is_priced(tables, kept, cost, node),
         Rule::Parts => has_parts(tables, kept, node),
+        Rule::Mixed => has_mixed(tables, kept, node),
+        Rule::Fraction => has_fraction(tables, kept, node),
     }
 }
 
@@ -63,6 +68,17 @@ fn prices_of<'a>(tables: &Tables, node: &'a Tree) -> Option<&'a Prices>
         | Tree::Open(prices, _)
         | Tree::Split { prices, .. } => Some(prices),
         Tree::Bare { .. } | Tree::Sole | Tree::Trim { .. } => None,
+    }
+}
+
+// The fractional assignment of a node that has one.
+fn mixed_in(node: &Tree) -> Option<&Mixed>
+    ensures { MatchOption result (mixed_at node.now ≡ None) (λ mixed. mixed_at node.now ≡ Some mixed.now) }
+{
+    match node {
+        Tree::Open(_, Cause::Nodes(mixed)) => Some(mixed),
+        Tree::Split { mixed, .. } => Some(mixed),
+        _ => None,
     }
 }
 
@@ -242,4 +258,45 @@ fn is_sole_legal(tables: &Tables, kept: &Kept, step: Step) -> bool
     let mut part = *kept;
     part.narrow(step);
     sole_cost(tables, &part).is_some()
+}
+
+// Whether a node's fractional assignment is one of its subproblem.
+fn has_mixed(tables: &Tables, kept: &Kept, node: &Tree) -> bool
+    ensures { MatchBool result (IfSome (mixed_at node.now) (IsMixedAt tables.now (kept_by kept.now))) (¬ (IfSome (mixed_at node.now) (IsMixedAt tables.now (kept_by kept.now)))) }
+{
+    match mixed_in(node) {
+        Some(mixed) => is_mixed(tables, kept, mixed),
+        None => true,
+    }
+}
+
+// Whether a node's fractional assignment is a best one and not whole, and flies a split's pair in part.
+fn has_fraction(tables: &Tables, kept: &Kept, node: &Tree) -> bool
+    requires proper { IfSome (prices_at node.now) (ArePrices tables.now) }
+    requires parts { IfSome (mixed_at node.now) (AreParts tables.now) }
+    ensures { MatchBool result (HasFraction tables.now (kept_by kept.now) node.now) (¬ (HasFraction tables.now (kept_by kept.now) node.now)) }
+{
+    match node {
+        Tree::Open(prices, cause) => open_fraction(tables, kept, prices, cause),
+        Tree::Split {
+            leg,
+            fleet,
+            prices,
+            mixed,
+            ..
+        } => { is_fraction(tables, kept, prices, mixed) && !is_whole_pair(mixed, *leg, *fleet) }
+        _ => true,
+    }
+}
+
+// Whether the fractional assignment of an open leaf's cause, where it has one, is a best one and not whole.
+fn open_fraction(tables: &Tables, kept: &Kept, prices: &Prices, cause: &Cause) -> bool
+    requires proper { ArePrices tables.now prices.now }
+    requires parts { IfSome (mixed_of cause.now) (AreParts tables.now) }
+    ensures { MatchBool result (IfSome (mixed_of cause.now) (IsFraction tables.now (kept_by kept.now) prices.now)) (¬ (IfSome (mixed_of cause.now) (IsFraction tables.now (kept_by kept.now) prices.now))) }
+{
+    match cause {
+        Cause::Nodes(mixed) => is_fraction(tables, kept, prices, mixed),
+        Cause::Pivots { .. } | Cause::Grew { .. } | Cause::Lift { .. } => true,
+    }
 }

@@ -20,10 +20,14 @@ pub enum Rule {
     Priced,
     /// A trim or a split names a kept pair; a child of a trim ends at once; a split's leg keeps other pairs too.
     Parts,
+    /// A fractional assignment is one of the subproblem.
+    Mixed,
+    /// A fractional assignment is not whole and costs what the prices are worth; a split's flies the pair in part.
+    Fraction,
 }
 
 /// All rules, in their order.
-pub(crate) const RULES: [Rule; 8] = [
+pub(crate) const RULES: [Rule; 10] = [
     Rule::Scale,
     Rule::Limits,
     Rule::Fall,
@@ -32,6 +36,8 @@ pub(crate) const RULES: [Rule; 8] = [
     Rule::Refuted,
     Rule::Priced,
     Rule::Parts,
+    Rule::Mixed,
+    Rule::Fraction,
 ];
 
 impl Rule {
@@ -48,6 +54,8 @@ impl Rule {
             Rule::Refuted => 6,
             Rule::Priced => 7,
             Rule::Parts => 8,
+            Rule::Mixed => 9,
+            Rule::Fraction => 10,
         }
     }
 }

@@ -1,7 +1,7 @@
 use Rattle.std.proofs.Common.{ap, arith}
 use Rattle.cert_check.specs.Rules.{number_of}
 use Rattle.cert_check.specs.declared.rules.Rule.TheVariants as rule
-use Rattle.cert_check.proofs.NodeRules.{prices_proper}
+use Rattle.cert_check.proofs.NodeRules.{parts_within, prices_proper}
 use Rattle.cert_check.proofs.node_rules.keeps.Goals as goal
 
 pub has_rents-requires-clause-within : goal.has_rents-requires-clause-within
@@ -12,3 +12,9 @@ is_refuted-requires c = prices_proper _ _ _ _ c.requires.before (omega (arith, a
 
 pub is_priced-requires : goal.is_priced-requires
 is_priced-requires c = prices_proper _ _ _ _ c.requires.before (omega (arith, ap number_of c.in-Priced.is))
+
+pub has_fraction-requires-clause-proper : goal.has_fraction-requires-clause-proper
+has_fraction-requires-clause-proper c = prices_proper _ _ _ _ c.requires.before (omega (arith, ap number_of c.in-Fraction.is))
+
+pub has_fraction-requires-clause-parts : goal.has_fraction-requires-clause-parts
+has_fraction-requires-clause-parts c = parts_within _ _ _ (c.requires.before.each rule.Mixed (omega (arith, ap number_of c.in-Fraction.is)))

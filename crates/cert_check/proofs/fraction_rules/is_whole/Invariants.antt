@@ -1,0 +1,6 @@
+use Rattle.std.proofs.Common.{ℕ, ◌<◌}
+use Rattle.cert_check.specs.MixedRules.{IsWholeLeg}
+use Rattle.cert_check.proofs.fraction_rules.is_whole.Given as goal
+
+abbrev pub invariant-loop-leg : goal.invariant-loop-leg
+invariant-loop-leg l = (m : ℕ) → m < l.leg → IsWholeLeg l.tables l.mixed m

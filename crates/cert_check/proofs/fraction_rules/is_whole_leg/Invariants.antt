@@ -1,0 +1,6 @@
+use Rattle.std.proofs.Common.{ℕ, ◌<◌}
+use Rattle.cert_check.specs.MixedRules.{IsWholePair}
+use Rattle.cert_check.proofs.fraction_rules.is_whole_leg.Given as goal
+
+abbrev pub invariant-loop-fleet : goal.invariant-loop-fleet
+invariant-loop-fleet l = (f : ℕ) → f < l.fleet → IsWholePair l.mixed l.leg f

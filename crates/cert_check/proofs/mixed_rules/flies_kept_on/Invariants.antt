@@ -1,0 +1,8 @@
+use Rattle.std.proofs.Common.{◌≡◌, ◌<◌, ℕ, false}
+use Rattle.fleet_model.specs.Kept.{kept_by}
+use Rattle.fleet_model.specs.Schedule.{leg_on}
+use Rattle.cert_check.specs.MixedRules.{parts_in}
+use Rattle.cert_check.proofs.mixed_rules.flies_kept_on.Given as goal
+
+abbrev pub invariant-loop-fleet : goal.invariant-loop-fleet
+invariant-loop-fleet l = (f : ℕ) → f < l.fleet → kept_by l.kept (leg_on l.leg f) ≡ false → parts_in l.mixed (leg_on l.leg f) ≡ 0

@@ -1,0 +1,136 @@
+//! Whether the fractional assignment of a node is the best of its subproblem, and not whole.
+ghost use Rattle.std.specs.Prelude.{◌≡◌, ◌*◌, ◌<◌, MatchBool};
+ghost use Rattle.sums.specs.Below.{sum_below_ℤ};
+ghost use Rattle.fleet_model.specs.Kept.{kept_by};
+ghost use Rattle.fleet_model.specs.Limits.{IsCost};
+ghost use Rattle.fleet_model.specs.Mixed.{mixed_cost, weighted_cost};
+ghost use Rattle.fleet_model.specs.Schedule.{IsPair, fleets_in, leg_on, legs_in};
+ghost use Rattle.fleet_model.specs.declared.limits.TheConstants.{MAX_FLEETS};
+ghost use Rattle.bound_cert.specs.Mixed.{weight_in};
+ghost use Rattle.bound_cert.specs.Prices.{ArePrices};
+ghost use Rattle.bound_cert.specs.Sizes.{IsUpTo};
+ghost use Rattle.bound_cert.specs.Worth.{cost_units};
+ghost use Rattle.cert_check.specs.MixedRules.{AreParts, IsFraction, IsWhole, IsWholeLeg, IsWholePair, IsEnd, IsSmallWeight, IsWorth, parts_in};
+
+use bound_cert::worth::worth;
+use bound_cert::{Mixed, Prices};
+use fleet_model::{Kept, Pair, Tables};
+use frac_row::compare_ratio;
+use std::cmp::Ordering;
+
+/// Whether a fractional assignment is not whole, and costs what the prices are worth. Takes no memory.
+pub(crate) fn is_fraction(tables: &Tables, kept: &Kept, prices: &Prices, mixed: &Mixed) -> bool
+    requires proper { ArePrices tables.now prices.now }
+    requires parts { AreParts tables.now mixed.now }
+    ensures { MatchBool result (IsFraction tables.now (kept_by kept.now) prices.now mixed.now) (¬ (IsFraction tables.now (kept_by kept.now) prices.now mixed.now)) }
+{
+    !is_whole(tables, mixed) && is_worth(tables, kept, prices, mixed)
+}
+
+/// Whether a pair is flown wholly or not at all. Takes no memory.
+pub(crate) fn is_whole_pair(mixed: &Mixed, leg: u32, fleet: u32) -> bool
+    ensures { MatchBool result (IsWholePair mixed.now leg fleet) (¬ (IsWholePair mixed.now leg fleet)) }
+{
+    is_end(&mixed.scale, &mixed.weight(Pair { leg, fleet }))
+}
+
+// Whether a weight is 0 or the scale.
+fn is_end(scale: &i128, weight: &i128) -> bool
+    ensures { MatchBool result (IsEnd scale.now weight.now) (¬ (IsEnd scale.now weight.now)) }
+{
+    *weight == 0 || *weight == *scale
+}
+
+// Whether each pair is flown wholly or not at all.
+fn is_whole(tables: &Tables, mixed: &Mixed) -> bool
+    ensures { MatchBool result (IsWhole tables.now mixed.now) (¬ (IsWhole tables.now mixed.now)) }
+{
+    for leg in 0..tables.leg_count() {
+        if !is_whole_leg(tables, mixed, leg) {
+            return false;
+        }
+    }
+    true
+}
+
+// Whether each pair of a leg is.
+fn is_whole_leg(tables: &Tables, mixed: &Mixed, leg: u32) -> bool
+    ensures { MatchBool result (IsWholeLeg tables.now mixed.now leg) (¬ (IsWholeLeg tables.now mixed.now leg)) }
+{
+    for fleet in 0..tables.fleet_count() {
+        if !is_whole_pair(mixed, leg, fleet) {
+            return false;
+        }
+    }
+    true
+}
+
+// Whether a fractional assignment costs what the prices are worth, each over its scale. The products are too great
+// for 128 bits, and so are not formed.
+fn is_worth(tables: &Tables, kept: &Kept, prices: &Prices, mixed: &Mixed) -> bool
+    requires proper { ArePrices tables.now prices.now }
+    requires parts { AreParts tables.now mixed.now }
+    ensures { MatchBool result (IsWorth tables.now (kept_by kept.now) prices.now mixed.now) (¬ (IsWorth tables.now (kept_by kept.now) prices.now mixed.now)) }
+{
+    let cost = cost_of(tables, mixed);
+    let bound = worth(tables, kept, prices, 1);
+    match compare_ratio(cost, mixed.scale, bound, prices.scale) {
+        Ordering::Equal => true,
+        Ordering::Less | Ordering::Greater => false,
+    }
+}
+
+// What a fractional assignment costs, times its scale.
+#[tactic(auto, unfolding(fleet_model::specs::Mixed::mixed_cost))]
+fn cost_of(tables: &Tables, mixed: &Mixed) -> i128
+    requires { AreParts tables.now mixed.now }
+    ensures { result ≡ mixed_cost tables.now (parts_in mixed.now) }
+{
+    let mut sum = 0;
+    for leg in 0..tables.leg_count() {
+        sum += leg_cost(tables, mixed, leg);
+    }
+    sum
+}
+
+// What a leg costs by the weights of its pairs.
+fn leg_cost(tables: &Tables, mixed: &Mixed, leg: u32) -> i128
+    requires parts { AreParts tables.now mixed.now }
+    requires leg { leg < legs_in tables.now }
+    ensures value { result ≡ sum_below_ℤ (weighted_cost tables.now (parts_in mixed.now) leg) (fleets_in tables.now) }
+    ensures size { IsUpTo MAX_FLEETS result }
+{
+    let mut sum = 0;
+    for fleet in 0..tables.fleet_count() {
+        sum += weighted_cost(tables, mixed, Pair { leg, fleet });
+    }
+    sum
+}
+
+// What a pair costs by its weight.
+fn weighted_cost(tables: &Tables, mixed: &Mixed, pair: Pair) -> i128
+    requires parts { AreParts tables.now mixed.now }
+    requires pair { IsPair tables.now pair }
+    ensures value { result ≡ weighted_cost tables.now (parts_in mixed.now) pair.leg pair.fleet }
+    ensures size { IsUpTo 1 result }
+{
+    weight(tables, mixed, pair) * units(tables, pair)
+}
+
+// The weight of a pair, which is within its limits.
+fn weight(tables: &Tables, mixed: &Mixed, pair: Pair) -> i128
+    requires parts { AreParts tables.now mixed.now }
+    requires pair { IsPair tables.now pair }
+    ensures value { result ≡ weight_in mixed.now pair }
+    ensures size { IsSmallWeight result }
+{
+    mixed.weight(pair)
+}
+
+// The cost of a pair, and 0 where it may not be flown.
+fn units(tables: &Tables, pair: Pair) -> i128
+    ensures value { result ≡ cost_units tables.now pair }
+    ensures fits { IsCost result }
+{
+    tables.cost(pair).unwrap_or(0)
+}

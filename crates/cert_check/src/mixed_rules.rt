@@ -1,0 +1,167 @@
+//! Whether the fractional assignment of a node is one of its subproblem.
+//!
+//! With so many entries in its list, the most is taken by need: for each fleet and each two legs from one station a
+//! look at each entry.
+ghost use Rattle.std.specs.Prelude.{◌≡◌, ◌*◌, ◌<◌, ◌≤◌, MatchBool};
+ghost use Rattle.fleet_model.specs.Kept.{kept_by};
+ghost use Rattle.fleet_model.specs.Schedule.{fleet_of, fleets_in, legs_in};
+ghost use Rattle.fleet_model.specs.Use.{IsBalanced};
+ghost use Rattle.bound_cert.specs.Prices.{max_scale};
+ghost use Rattle.cert_check.specs.MixedRules.{AreParts, BalancesFleet, Covers, FliesKept, FliesKeptOn, HasAllWeights, HasWeights, IsMixedAt, IsWeight, UsesNoMore, parts_in, parts_of_leg};
+
+use crate::mixed_counts::{arrivals, departures, parts, used, weight_on};
+use crate::price_rules::is_scale;
+use bound_cert::Mixed;
+use fleet_model::limits::MINUTES_PER_PERIOD;
+use fleet_model::{Kept, Pair, Tables};
+
+/// Whether a fractional assignment is one of a subproblem: scale and weights within their limits, weights on kept
+/// pairs alone, which sum to the scale for each leg, balanced, and within the fleets. Takes no memory.
+pub(crate) fn is_mixed(tables: &Tables, kept: &Kept, mixed: &Mixed) -> bool
+    ensures { MatchBool result (IsMixedAt tables.now (kept_by kept.now) mixed.now) (¬ (IsMixedAt tables.now (kept_by kept.now) mixed.now)) }
+{
+    are_parts(tables, mixed)
+        && flies_kept(tables, kept, mixed)
+        && covers(tables, mixed)
+        && is_balanced(tables, mixed)
+        && uses_no_more(tables, mixed)
+}
+
+// Whether the scale and all weights are within their limits.
+fn are_parts(tables: &Tables, mixed: &Mixed) -> bool
+    ensures { MatchBool result (AreParts tables.now mixed.now) (¬ (AreParts tables.now mixed.now)) }
+{
+    is_scale(&mixed.scale) && have_weights(tables, mixed)
+}
+
+// Whether all weights are 0 or more, and the scale at most.
+fn have_weights(tables: &Tables, mixed: &Mixed) -> bool
+    ensures { MatchBool result (HasAllWeights tables.now mixed.now) (¬ (HasAllWeights tables.now mixed.now)) }
+{
+    for leg in 0..tables.leg_count() {
+        if !has_weights(tables, mixed, leg) {
+            return false;
+        }
+    }
+    true
+}
+
+// Whether the weights of a leg's pairs are.
+fn has_weights(tables: &Tables, mixed: &Mixed, leg: u32) -> bool
+    ensures { MatchBool result (HasWeights tables.now mixed.now leg) (¬ (HasWeights tables.now mixed.now leg)) }
+{
+    for fleet in 0..tables.fleet_count() {
+        if !is_weight(&mixed.scale, &mixed.weight(Pair { leg, fleet })) {
+            return false;
+        }
+    }
+    true
+}
+
+// Whether a weight is.
+fn is_weight(scale: &i128, weight: &i128) -> bool
+    ensures { MatchBool result (IsWeight scale.now weight.now) (¬ (IsWeight scale.now weight.now)) }
+{
+    0 <= *weight && *weight <= *scale
+}
+
+// Whether no part is flown of pairs that are not kept.
+fn flies_kept(tables: &Tables, kept: &Kept, mixed: &Mixed) -> bool
+    requires { AreParts tables.now mixed.now }
+    ensures { MatchBool result (FliesKept tables.now (kept_by kept.now) mixed.now) (¬ (FliesKept tables.now (kept_by kept.now) mixed.now)) }
+{
+    for leg in 0..tables.leg_count() {
+        if !flies_kept_on(tables, kept, mixed, leg) {
+            return false;
+        }
+    }
+    true
+}
+
+// Whether no part is flown of a leg's pairs that are not kept.
+fn flies_kept_on(tables: &Tables, kept: &Kept, mixed: &Mixed, leg: u32) -> bool
+    requires parts { AreParts tables.now mixed.now }
+    requires leg { leg < legs_in tables.now }
+    ensures { MatchBool result (FliesKeptOn tables.now (kept_by kept.now) mixed.now leg) (¬ (FliesKeptOn tables.now (kept_by kept.now) mixed.now leg)) }
+{
+    for fleet in 0..tables.fleet_count() {
+        if !kept.kept(leg, fleet) && parts(tables, mixed, Pair { leg, fleet }) != 0 {
+            return false;
+        }
+    }
+    true
+}
+
+// Whether each leg is flown in all its parts.
+fn covers(tables: &Tables, mixed: &Mixed) -> bool
+    requires { AreParts tables.now mixed.now }
+    ensures { MatchBool result (Covers tables.now mixed.now) (¬ (Covers tables.now mixed.now)) }
+{
+    let scale = leg_parts(tables, mixed);
+    for leg in 0..tables.leg_count() {
+        if weight_on(tables, mixed, leg) != scale {
+            return false;
+        }
+    }
+    true
+}
+
+// Whether each fleet balances at each station.
+fn is_balanced(tables: &Tables, mixed: &Mixed) -> bool
+    requires { AreParts tables.now mixed.now }
+    ensures { MatchBool result (IsBalanced tables.now (parts_in mixed.now)) (¬ (IsBalanced tables.now (parts_in mixed.now))) }
+{
+    for fleet in 0..tables.fleet_count() {
+        if !balances(tables, mixed, fleet) {
+            return false;
+        }
+    }
+    true
+}
+
+// Whether a fleet balances at each station.
+fn balances(tables: &Tables, mixed: &Mixed, fleet: u32) -> bool
+    requires parts { AreParts tables.now mixed.now }
+    requires fleet { fleet < fleets_in tables.now }
+    ensures { MatchBool result (BalancesFleet tables.now mixed.now fleet) (¬ (BalancesFleet tables.now mixed.now fleet)) }
+{
+    let last = MINUTES_PER_PERIOD - 1;
+    for station in 0..tables.station_count() {
+        let came = arrivals(tables, mixed, fleet, station, last);
+        if came != departures(tables, mixed, fleet, station, last) {
+            return false;
+        }
+    }
+    true
+}
+
+// Whether no fleet uses more aircraft than it has, so many parts each.
+fn uses_no_more(tables: &Tables, mixed: &Mixed) -> bool
+    requires { AreParts tables.now mixed.now }
+    ensures { MatchBool result (UsesNoMore tables.now mixed.now) (¬ (UsesNoMore tables.now mixed.now)) }
+{
+    for fleet in 0..tables.fleet_count() {
+        if used(tables, mixed, fleet) > aircraft_parts(tables, mixed, fleet) {
+            return false;
+        }
+    }
+    true
+}
+
+// The aircraft of a fleet, in parts.
+fn aircraft_parts(tables: &Tables, mixed: &Mixed, fleet: u32) -> u128
+    requires parts { AreParts tables.now mixed.now }
+    requires fleet { fleet < fleets_in tables.now }
+    ensures { result ≡ parts_of_leg mixed.now * (fleet_of tables.now fleet).aircraft }
+{
+    leg_parts(tables, mixed) * u128::from(tables.fleet(fleet).aircraft)
+}
+
+// How many parts a leg has.
+fn leg_parts(tables: &Tables, mixed: &Mixed) -> u128
+    requires { AreParts tables.now mixed.now }
+    ensures value { result ≡ parts_of_leg mixed.now }
+    ensures few { result ≤ max_scale }
+{
+    mixed.scale.unsigned_abs()
+}
