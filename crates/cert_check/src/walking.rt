@@ -11,7 +11,7 @@ use crate::leaves::{price_bound, sole_cost};
 use crate::node_rules::first_fault;
 use crate::rules::Rule;
 use bound_cert::Tree;
-use fleet_model::{Kept, Pair, Step, Tables};
+use fleet_model::{Kept, Step, Tables};
 
 /// What a walk over a part of a tree finds.
 #[derive(Clone, Copy, Debug, PartialEq, Eq)]
@@ -60,49 +60,23 @@ pub(crate) fn walk(
             next,
             bound: Some(price_bound(tables, kept, prices)),
         },
-        Tree::Open(prices, _) => Walked::Fine {
+        Tree::Open(open, _) => Walked::Fine {
             next,
-            bound: Some(price_bound(tables, kept, prices)),
+            bound: Some(price_bound(tables, kept, open)),
         },
         Tree::Trim {
             leg,
             fleet,
             yes,
             no,
-        } => {
-            walk_both(
-                tables,
-                kept,
-                cost,
-                Pair {
-                    leg: *leg,
-                    fleet: *fleet,
-                },
-                yes,
-                no,
-                next,
-            )
-        }
+        } => walk_both(tables, kept, cost, *leg, *fleet, yes, no, next),
         Tree::Split {
             leg,
             fleet,
             yes,
             no,
             ..
-        } => {
-            walk_both(
-                tables,
-                kept,
-                cost,
-                Pair {
-                    leg: *leg,
-                    fleet: *fleet,
-                },
-                yes,
-                no,
-                next,
-            )
-        }
+        } => walk_both(tables, kept, cost, *leg, *fleet, yes, no, next),
     }
 }
 
@@ -112,18 +86,18 @@ fn walk_both(
     tables: &Tables,
     kept: &mut Kept,
     cost: &Option<i128>,
-    pair: Pair,
+    leg: u32,
+    fleet: u32,
     with_pair: &Tree,
     without: &Tree,
     number: u64,
 ) -> Walked
     requires first { IsOfTables tables.now with_pair.now }
     requires second { IsOfTables tables.now without.now }
-    requires pair { IsPair tables.now pair }
+    requires pair { IsPair tables.now (leg_on leg fleet) }
     ensures same { kept.new ≡ kept.old }
-    ensures walked { AreBothWalked tables.now cost.now (kept_by kept.old) pair with_pair.now without.now number result }
+    ensures walked { AreBothWalked tables.now cost.now (kept_by kept.old) (leg_on leg fleet) with_pair.now without.now number result }
 {
-    let Pair { leg, fleet } = pair;
     match walk_part(
         tables,
         kept,

@@ -41,4 +41,4 @@ walk-returns-in-Split-clause-walked t c =
 
 pub walk_both-returns-in-Fine-clause-walked : goal.walk_both-returns-in-Fine-clause-walked
 walk_both-returns-in-Fine-clause-walked t c =
-    joined _ _ _ _ _ _ _ _ _ c.in-Fine.ensures.walked _ _ (in_same _ _ c.walk_part.new.kept c.args.kept.now (record { leg = c.args.pair.leg; fleet = c.args.pair.fleet; yes = false }) _ c.in-Fine.next _ c.in-Fine.ensures.same c.walk_part-second.ensures.walked) c.with_bound.ensures
+    joined _ _ _ _ _ _ _ _ _ c.in-Fine.ensures.walked _ _ (in_same _ _ c.walk_part.new.kept c.args.kept.now (record { leg = c.args.leg; fleet = c.args.fleet; yes = false }) _ c.in-Fine.next _ c.in-Fine.ensures.same c.walk_part-second.ensures.walked) c.with_bound.ensures
