@@ -1,5 +1,6 @@
 pub mod Cut
 pub mod Duality
+pub mod FigureWords
 pub mod Flows
 pub mod LeastWorth
 pub mod Lines

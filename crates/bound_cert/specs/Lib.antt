@@ -1,6 +1,9 @@
 pub mod Bound
 pub mod Duality
+pub mod Figures
+pub mod Known
 pub mod Leaves
+pub mod Lines
 pub mod Mixed
 pub mod OfTables
 pub mod Prices

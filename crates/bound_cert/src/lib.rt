@@ -2,7 +2,11 @@
 #![tactic(auto)]
 
 pub mod counting;
+pub mod faults;
+pub mod figures;
+pub mod known;
 pub mod laws;
+pub mod reading_lines;
 pub mod mixed;
 pub mod price_at;
 pub mod prices;
