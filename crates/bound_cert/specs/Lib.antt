@@ -8,6 +8,7 @@ pub mod Mixed
 pub mod OfTables
 pub mod Prices
 pub mod ProofText
+pub mod Reading
 pub mod Sizes
 pub mod Words
 pub mod Worth
