@@ -6,6 +6,7 @@ pub mod LeastWorth
 pub mod Lines
 pub mod LinesOfWords
 pub mod Numbers
+pub mod ReadOn
 pub mod Sizes
 pub mod Words
 pub mod ZeroPrices

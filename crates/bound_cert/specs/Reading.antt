@@ -185,14 +185,27 @@ mixed_at t left = do
 abbrev pub count_at : List (List ℕ) → ℕ → Left → Reading ℕ
 count_at words k left = present (natural_in 18446744073709551615 (word_at words k)) left WRONG_NUMBER
 
+-- the numbers of `open grew`, and of `open lift`
+unfoldable pub grew_by : List (List ℕ) → Left → Reading Head
+grew_by words left = do
+  pivots ← count_at words 2 left
+  row ← count_at words 3 left
+  column ← count_at words 4 left
+  Ok (head.Grew pivots row column)
+
+unfoldable pub lift_by : List (List ℕ) → Left → Reading Head
+lift_by words left = do
+  step ← count_at words 2 left
+  at ← count_at words 3 left
+  Ok (head.Lift step at)
+
 -- the line of an open leaf, by its cause
 unfoldable pub open_head : List (List ℕ) → Left → Reading Head
 open_head words left =
     if stands words 1 (codes "nodes") then Ok head.Nodes
     else if stands words 1 (codes "pivots") then (count_at words 2 left >>= λ made. Ok (head.Pivots made))
-    else if stands words 1 (codes "grew")
-    then (count_at words 2 left >>= λ pivots. count_at words 3 left >>= λ row. count_at words 4 left >>= λ column. Ok (head.Grew pivots row column))
-    else (count_at words 2 left >>= λ step. count_at words 3 left >>= λ at. Ok (head.Lift step at))
+    else if stands words 1 (codes "grew") then grew_by words left
+    else lift_by words left
 
 -- the first line of a node, by its words
 unfoldable pub head_of : Tables → List (List ℕ) → Left → Reading Head
@@ -205,12 +218,16 @@ head_of t words left =
     else if stands words 0 (codes "trim") then (pair_at t words left >>= λ pair. Ok (head.Trim pair.0 pair.1))
     else (pair_at t words left >>= λ pair. Ok (head.Split pair.0 pair.1))
 
+-- a node goes on where no more trims and splits stand above it than may
+abbrev pub deep_at : ℕ → Head → Left → Reading Head
+deep_at above head left = if nat_le above MAX_DEPTH then Ok head else stopped left TOO_DEEP
+
 -- the first line of a node below so many trims and splits
 unfoldable pub head_at : Tables → ℕ → Left → Reading Head
 head_at t above left = do
   words ← line_due due.Node left
   head ← head_of t words left
-  if nat_le above MAX_DEPTH then Ok head else stopped left TOO_DEEP
+  deep_at above head left
 
 -- a node, from what its first line says and the lines behind it
 unfoldable pub body_at : Tables → Head → Left → Reading (Node × Left)
