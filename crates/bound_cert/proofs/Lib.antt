@@ -7,6 +7,7 @@ pub mod Lines
 pub mod LinesOfWords
 pub mod Numbers
 pub mod ReadOn
+pub mod ReadTree
 pub mod Sizes
 pub mod Words
 pub mod ZeroPrices

@@ -17,18 +17,18 @@ pub some_left : (left : Left) (byte : ℕ) (bytes : List ℕ) → begins left (b
 some_left [] byte bytes is = absurd (cc is)
 some_left (line ∷ rest) byte bytes is = omega arith
 
-chosen : {A : Type 0} (b : Bool) (x y : A) → b ≡ true → cond b x y ≡ x
+pub chosen : {A : Type 0} (b : Bool) (x y : A) → b ≡ true → cond b x y ≡ x
 chosen true x y is = refl
 chosen false x y is = absurd (cc is)
 
-refused : {A : Type 0} (b : Bool) (x y : A) → b ≡ false → cond b x y ≡ y
+pub refused : {A : Type 0} (b : Bool) (x y : A) → b ≡ false → cond b x y ≡ y
 refused true x y is = absurd (cc is)
 refused false x y is = refl
 
-bound : {A B : Type 0} (r : Reading A) (x : A) (f : A → Reading B) → r ≡ Ok x → (r >>= f) ≡ f x
+pub bound : {A B : Type 0} (r : Reading A) (x : A) (f : A → Reading B) → r ≡ Ok x → (r >>= f) ≡ f x
 bound r x f is = ap (λ r. r >>= f) is
 
-failed : {A B : Type 0} (r : Reading A) (e : Stopped) (f : A → Reading B) → r ≡ Err e → (r >>= f) ≡ Err e
+pub failed : {A B : Type 0} (r : Reading A) (e : Stopped) (f : A → Reading B) → r ≡ Err e → (r >>= f) ≡ Err e
 failed r e f is = ap (λ r. r >>= f) is
 
 -- what fails where another reading does

@@ -1,6 +1,6 @@
 use crate::mixed::Mixed;
 use crate::prices::Prices;
-use crate::trees::Cause;
+use crate::trees::{Cause, Tree};
 
 /// What the first line of a node says.
 #[derive(Clone, Copy, Debug, PartialEq, Eq)]
@@ -31,7 +31,9 @@ pub enum Head {
 #[derive(Debug, Drop)]
 pub enum Node {
     /// A leaf: this leg keeps no fleet.
-    Bare { leg: u32 },
+    Bare {
+        leg: u32,
+    },
     /// A leaf: each leg keeps one fleet.
     Sole,
     /// A leaf that prices refute.
@@ -41,7 +43,10 @@ pub enum Node {
     /// A leaf that stayed open.
     Open(Prices, Cause),
     /// A pair is set aside.
-    Trim { leg: u32, fleet: u32 },
+    Trim {
+        leg: u32,
+        fleet: u32,
+    },
     /// The subproblem is split by a pair.
     Split {
         leg: u32,
@@ -49,4 +54,39 @@ pub enum Node {
         prices: Prices,
         mixed: Mixed,
     },
+}
+
+/// A trim or a split without its children.
+#[derive(Debug, Drop)]
+pub enum Inner {
+    /// A pair is set aside.
+    Trim {
+        leg: u32,
+        fleet: u32,
+    },
+    /// The subproblem is split by a pair.
+    Split {
+        leg: u32,
+        fleet: u32,
+        prices: Prices,
+        mixed: Mixed,
+    },
+}
+
+/// A trim or a split that waits for children.
+#[derive(Debug, Drop)]
+pub struct Parent {
+    /// What it says itself.
+    pub inner: Inner,
+    /// Its first child, once that is complete.
+    pub yes: Option<Tree>,
+}
+
+/// A node as a leaf, which is a tree, or as one that waits for children.
+#[derive(Debug, Drop)]
+pub enum Place {
+    /// A tree of its own.
+    Leaf(Tree),
+    /// A trim or a split.
+    Inner(Inner),
 }

@@ -119,7 +119,7 @@ fn words_of<'a>(alloc: Global, parts: &[&'a [u8]]) -> Result<Vec<&'a [u8]>, NoMe
 }
 
 /// Whether all bytes of a line are plain text.
-fn is_plain(line: &[u8]) -> bool
+pub fn is_plain(line: &[u8]) -> bool
     ensures { result ≡ is_plain line.now }
 {
     line.iter().all(|byte| 32 <= *byte && *byte <= 126)

@@ -16,12 +16,7 @@ use fleet_model::limits::MINUTES_PER_PERIOD;
 use std::alloc::Global;
 
 /// A number by a word.
-pub fn number_at(
-    alloc: Global,
-    words: &[&[u8]],
-    place: usize,
-    left: &[&[u8]],
-) -> Result<i128, Stop>
+pub fn number_at(alloc: Global, words: &[&[u8]], place: usize, left: &[&[u8]]) -> Result<i128, Stop>
     ensures { Gives (λ n. n) result (present (number_in (word_at (seen words.now) place)) (seen left.now) WRONG_NUMBER) }
 {
     match number(alloc, word_at(words, place))? {
@@ -31,12 +26,7 @@ pub fn number_at(
 }
 
 /// A number of 64 bits by a word.
-pub fn count_at(
-    alloc: Global,
-    words: &[&[u8]],
-    place: usize,
-    left: &[&[u8]],
-) -> Result<u64, Stop>
+pub fn count_at(alloc: Global, words: &[&[u8]], place: usize, left: &[&[u8]]) -> Result<u64, Stop>
     ensures { Gives (λ n. n) result (count_at (seen words.now) place (seen left.now)) }
 {
     match natural(alloc, 18_446_744_073_709_551_615, word_at(words, place))? {
@@ -46,15 +36,14 @@ pub fn count_at(
 }
 
 /// A minute of the period by a word.
-pub fn minute_at(
-    alloc: Global,
-    words: &[&[u8]],
-    place: usize,
-    left: &[&[u8]],
-) -> Result<u16, Stop>
+pub fn minute_at(alloc: Global, words: &[&[u8]], place: usize, left: &[&[u8]]) -> Result<u16, Stop>
     ensures { Gives (λ n. n) result (present (natural_in last_minute (word_at (seen words.now) place)) (seen left.now) WRONG_NUMBER) }
 {
-    match natural(alloc, u128::from(MINUTES_PER_PERIOD) - 1, word_at(words, place))? {
+    match natural(
+        alloc,
+        u128::from(MINUTES_PER_PERIOD) - 1,
+        word_at(words, place),
+    )? {
         Some(n) => Ok(n as u16),
         None => stopped(left, WRONG_NUMBER),
     }
