@@ -9,6 +9,7 @@ mod model;
 #[cfg(test)]
 mod plans;
 #[cfg(test)]
+mod proof_reading;
 mod proof_texts;
 #[cfg(test)]
 mod reading;
