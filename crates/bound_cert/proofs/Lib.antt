@@ -1,10 +1,13 @@
 pub mod Cut
 pub mod Duality
+pub mod FigureWords
 pub mod Flows
 pub mod LeastWorth
 pub mod Lines
 pub mod LinesOfWords
 pub mod Numbers
+pub mod ReadOn
+pub mod ReadTree
 pub mod Sizes
 pub mod Words
 pub mod ZeroPrices

@@ -1,10 +1,17 @@
 pub mod Bound
 pub mod Duality
+pub mod Figures
+pub mod Known
 pub mod Leaves
+pub mod Lines
 pub mod Mixed
+pub mod Nodes
 pub mod OfTables
 pub mod Prices
 pub mod ProofText
+pub mod ReadProof
+pub mod ReadTree
+pub mod Reading
 pub mod Sizes
 pub mod Words
 pub mod Worth

@@ -1,0 +1,199 @@
+//! Nodes, read from the lines of a proof.
+ghost use Rattle.std.specs.Prelude.{◌≡◌, drop};
+ghost use Rattle.bound_cert.specs.Known.{IsKnownOf};
+ghost use Rattle.bound_cert.specs.Lines.{Gives, seen};
+ghost use Rattle.bound_cert.specs.Reading.{body_at, deep_at, grew_by, head_at, head_of, lift_by, node_at, open_head};
+ghost use Rattle.bound_cert.specs.declared.nodes.Head.{Head};
+
+use crate::faults::{MAX_DEPTH, Stop, TOO_DEEP, UNKNOWN_NAME};
+use crate::known::Known;
+use crate::line_reading::pair_at;
+use crate::nodes::{Head, Node};
+use crate::price_reading::{behind, mixed_at, prices_at};
+use crate::reading_lines::{Due, line_due, stands, stopped};
+use crate::reading_words::{count_at, leg_at};
+use crate::trees::Cause;
+use fleet_model::Tables;
+use std::alloc::Global;
+
+/// The next node, below so many trims and splits, and what is left behind it.
+#[tactic(auto, unfolding(crate::specs::Reading::node_at))]
+pub fn node_at<'a, 'b>(
+    alloc: Global,
+    tables: &Tables,
+    known: &Known,
+    above: usize,
+    left: &'b [&'a [u8]],
+) -> Result<(Node, &'b [&'a [u8]]), Stop>
+    requires { IsKnownOf tables.now known.now }
+    ensures { Gives (λ r. (r.0, seen r.1.now)) result (node_at tables.now above (seen left.now)) }
+{
+    let head = head_at(alloc, tables, known, above, left)?;
+    Ok(body_at(alloc, tables, known, head, behind(left))?)
+}
+
+/// What the first line of a node says, below so many trims and splits.
+#[tactic(auto, unfolding(crate::specs::Reading::head_at))]
+fn head_at(
+    alloc: Global,
+    tables: &Tables,
+    known: &Known,
+    above: usize,
+    left: &[&[u8]],
+) -> Result<Head, Stop>
+    requires { IsKnownOf tables.now known.now }
+    ensures { Gives (λ head. head) result (head_at tables.now above (seen left.now)) }
+{
+    let words = line_due(alloc, Due::Node, left)?;
+    let head = head_of(alloc, tables, known, words.as_slice(), left)?;
+    Ok(deep_at(above, head, left)?)
+}
+
+/// Goes on where a node isn't too deep.
+fn deep_at(above: usize, head: Head, left: &[&[u8]]) -> Result<Head, Stop>
+    ensures { Gives (λ head. head) result (deep_at above head (seen left.now)) }
+{
+    if above <= MAX_DEPTH {
+        Ok(head)
+    } else {
+        stopped(left, TOO_DEEP)
+    }
+}
+
+/// What the first line of a node says, by its words.
+#[tactic(auto, unfolding(crate::specs::Reading::head_of))]
+fn head_of(
+    alloc: Global,
+    tables: &Tables,
+    known: &Known,
+    words: &[&[u8]],
+    left: &[&[u8]],
+) -> Result<Head, Stop>
+    requires { IsKnownOf tables.now known.now }
+    ensures { Gives (λ head. head) result (head_of tables.now (seen words.now) (seen left.now)) }
+{
+    if stands(words, 0, b"bare") {
+        let leg = leg_at(tables, known, words, 1, left)?;
+        Ok(Head::Bare { leg })
+    } else if stands(words, 0, b"sole") {
+        Ok(Head::Sole)
+    } else if stands(words, 0, b"refuted") {
+        Ok(Head::Refuted)
+    } else if stands(words, 0, b"priced") {
+        Ok(Head::Priced)
+    } else if stands(words, 0, b"open") {
+        Ok(open_head(alloc, words, left)?)
+    } else if stands(words, 0, b"trim") {
+        let (leg, fleet) = pair_at(tables, known, words, left)?;
+        Ok(Head::Trim { leg, fleet })
+    } else {
+        let (leg, fleet) = pair_at(tables, known, words, left)?;
+        Ok(Head::Split { leg, fleet })
+    }
+}
+
+/// What the line of an open leaf says, by its words.
+#[tactic(auto, unfolding(crate::specs::Reading::open_head))]
+fn open_head(alloc: Global, words: &[&[u8]], left: &[&[u8]]) -> Result<Head, Stop>
+    ensures { Gives (λ head. head) result (open_head (seen words.now) (seen left.now)) }
+{
+    if stands(words, 1, b"nodes") {
+        Ok(Head::Nodes)
+    } else if stands(words, 1, b"pivots") {
+        let made = count_at(alloc, words, 2, left)?;
+        Ok(Head::Pivots { made })
+    } else if stands(words, 1, b"grew") {
+        Ok(grew_by(alloc, words, left)?)
+    } else {
+        Ok(lift_by(alloc, words, left)?)
+    }
+}
+
+/// The numbers of `open grew`.
+#[tactic(auto, unfolding(crate::specs::Reading::grew_by))]
+fn grew_by(alloc: Global, words: &[&[u8]], left: &[&[u8]]) -> Result<Head, Stop>
+    ensures { Gives (λ head. head) result (grew_by (seen words.now) (seen left.now)) }
+{
+    let pivots = count_at(alloc, words, 2, left)?;
+    let row = count_at(alloc, words, 3, left)?;
+    let column = count_at(alloc, words, 4, left)?;
+    Ok(Head::Grew {
+        pivots,
+        row,
+        column,
+    })
+}
+
+/// The numbers of `open lift`.
+#[tactic(auto, unfolding(crate::specs::Reading::lift_by))]
+fn lift_by(alloc: Global, words: &[&[u8]], left: &[&[u8]]) -> Result<Head, Stop>
+    ensures { Gives (λ head. head) result (lift_by (seen words.now) (seen left.now)) }
+{
+    let step = count_at(alloc, words, 2, left)?;
+    let at = count_at(alloc, words, 3, left)?;
+    Ok(Head::Lift { step, at })
+}
+
+/// A node, from what its first line says and the lines behind it.
+#[tactic(auto, unfolding(crate::specs::Reading::body_at))]
+fn body_at<'a, 'b>(
+    alloc: Global,
+    tables: &Tables,
+    known: &Known,
+    head: Head,
+    rest: &'b [&'a [u8]],
+) -> Result<(Node, &'b [&'a [u8]]), Stop>
+    requires { IsKnownOf tables.now known.now }
+    ensures { Gives (λ r. (r.0, seen r.1.now)) result (body_at tables.now head (seen rest.now)) }
+{
+    match head {
+        Head::Bare { leg } => Ok((Node::Bare { leg }, rest)),
+        Head::Sole => Ok((Node::Sole, rest)),
+        Head::Refuted => {
+            let (prices, rest) = prices_at(alloc, tables, known, rest)?;
+            Ok((Node::Refuted(prices), rest))
+        }
+        Head::Priced => {
+            let (prices, rest) = prices_at(alloc, tables, known, rest)?;
+            Ok((Node::Priced(prices), rest))
+        }
+        Head::Nodes => {
+            let (prices, rest) = prices_at(alloc, tables, known, rest)?;
+            let (mixed, rest) = mixed_at(alloc, tables, known, rest)?;
+            Ok((Node::Open(prices, Cause::Nodes(mixed)), rest))
+        }
+        Head::Pivots { made } => {
+            let (prices, rest) = prices_at(alloc, tables, known, rest)?;
+            Ok((Node::Open(prices, Cause::Pivots { made }), rest))
+        }
+        Head::Grew {
+            pivots,
+            row,
+            column,
+        } => {
+            let (prices, rest) = prices_at(alloc, tables, known, rest)?;
+            let cause = Cause::Grew {
+                pivots,
+                row,
+                column,
+            };
+            Ok((Node::Open(prices, cause), rest))
+        }
+        Head::Lift { step, at } => {
+            let (prices, rest) = prices_at(alloc, tables, known, rest)?;
+            Ok((Node::Open(prices, Cause::Lift { step, at }), rest))
+        }
+        Head::Trim { leg, fleet } => Ok((Node::Trim { leg, fleet }, rest)),
+        Head::Split { leg, fleet } => {
+            let (prices, rest) = prices_at(alloc, tables, known, rest)?;
+            let (mixed, rest) = mixed_at(alloc, tables, known, rest)?;
+            let node = Node::Split {
+                leg,
+                fleet,
+                prices,
+                mixed,
+            };
+            Ok((node, rest))
+        }
+    }
+}

@@ -1,0 +1,129 @@
+//! The text of a proof, read.
+ghost use Rattle.std.specs.Prelude.{◌≡◌, drop, MatchResult};
+ghost use Rattle.bound_cert.specs.Known.{IsKnownOf};
+ghost use Rattle.bound_cert.specs.Lines.{Gives, left_of, seen};
+ghost use Rattle.bound_cert.specs.Nodes.{end_at, head_is, nodes_of, nothing, plan_at, proof_at, rest_at, tree_at};
+ghost use Rattle.bound_cert.specs.ReadProof.{FaultOf, ReadsAs};
+
+use crate::faults::{BAD_LINE, CertError, CertFault, Stop, WRONG_HEAD, WRONG_WORD};
+use crate::known::Known;
+use crate::price_reading::behind;
+use crate::reading_lines::{Due, is_plain, left_of, line_due, stands, stopped};
+use crate::tree_reading::tree_from;
+use crate::trees::Tree;
+use fleet_model::Tables;
+use std::alloc::Global;
+
+/// A proof of a bound.
+#[derive(Debug, Drop)]
+pub struct Proof {
+    /// Whether a plan comes with it.
+    pub planned: bool,
+    /// The tree of subproblems.
+    pub tree: Tree,
+}
+
+/// The proof that a text says, else the first fault of the text: its first bad line, and there the least kind.
+pub fn read_proof(alloc: Global, tables: &Tables, bytes: &[u8]) -> Result<Proof, CertError>
+    ensures { MatchResult result (ReadsAs tables.now bytes.now) (FaultOf tables.now bytes.now) }
+{
+    let lines = left_of(alloc, bytes)?;
+    let known = Known::of(alloc, tables)?;
+    match proof_at(alloc, tables, &known, lines.as_slice()) {
+        Ok(proof) => Ok(proof),
+        Err(Stop::NoMemory) => Err(CertError::NoMemory),
+        Err(Stop::Fault { left, kind }) => {
+            let before = (lines.len() as u64).saturating_sub(left as u64);
+            Err(CertError::Fault(CertFault {
+                line: before + 1,
+                kind,
+            }))
+        }
+    }
+}
+
+/// What all of a text reads as.
+#[tactic(auto, unfolding(crate::specs::Nodes::proof_at))]
+fn proof_at(alloc: Global, tables: &Tables, known: &Known, left: &[&[u8]]) -> Result<Proof, Stop>
+    requires { IsKnownOf tables.now known.now }
+    ensures { Gives (λ proof. (proof.planned, nodes_of proof.tree)) result (proof_at tables.now (seen left.now)) }
+{
+    head_is(left)?;
+    Ok(rest_at(alloc, tables, known, behind(left))?)
+}
+
+/// Goes on where the first line is the head.
+#[tactic(auto, unfolding(crate::specs::Nodes::head_is))]
+fn head_is(left: &[&[u8]]) -> Result<(), Stop>
+    ensures { Gives (λ _. tt) result (head_is (seen left.now)) }
+{
+    let Some((line, rest)) = left.split_first() else {
+        return stopped(left, WRONG_HEAD);
+    };
+    if rest.is_empty() {
+        return stopped(left, WRONG_HEAD);
+    }
+    if *line == b"fleet proof 1".as_slice() {
+        Ok(())
+    } else {
+        stopped(left, WRONG_HEAD)
+    }
+}
+
+/// Whether a plan comes, and the tree.
+#[tactic(auto, unfolding(crate::specs::Nodes::rest_at))]
+fn rest_at(alloc: Global, tables: &Tables, known: &Known, left: &[&[u8]]) -> Result<Proof, Stop>
+    requires { IsKnownOf tables.now known.now }
+    ensures { Gives (λ proof. (proof.planned, nodes_of proof.tree)) result (rest_at tables.now (seen left.now)) }
+{
+    let planned = plan_at(alloc, left)?;
+    let tree = tree_at(alloc, tables, known, behind(left))?;
+    Ok(Proof { planned, tree })
+}
+
+/// Whether a plan comes with the proof.
+#[tactic(auto, unfolding(crate::specs::Nodes::plan_at))]
+fn plan_at(alloc: Global, left: &[&[u8]]) -> Result<bool, Stop>
+    ensures { Gives (λ planned. planned) result (plan_at (seen left.now)) }
+{
+    let words = line_due(alloc, Due::Plan, left)?;
+    Ok(stands(words.as_slice(), 1, b"yes"))
+}
+
+/// The tree, and the end behind it.
+#[tactic(auto, unfolding(crate::specs::Nodes::tree_at))]
+fn tree_at(alloc: Global, tables: &Tables, known: &Known, left: &[&[u8]]) -> Result<Tree, Stop>
+    requires { IsKnownOf tables.now known.now }
+    ensures { Gives (λ tree. nodes_of tree) result (tree_at tables.now (seen left.now)) }
+{
+    let (tree, rest) = tree_from(alloc, tables, known, left)?;
+    end_at(alloc, rest)?;
+    Ok(tree)
+}
+
+/// Goes on where the first line is the end and nothing stands behind it.
+#[tactic(auto, unfolding(crate::specs::Nodes::end_at))]
+fn end_at(alloc: Global, left: &[&[u8]]) -> Result<(), Stop>
+    ensures { Gives (λ _. tt) result (end_at (seen left.now)) }
+{
+    line_due(alloc, Due::End, left)?;
+    Ok(nothing(behind(left))?)
+}
+
+/// Goes on where nothing is left.
+#[tactic(auto, unfolding(crate::specs::Nodes::nothing))]
+fn nothing(left: &[&[u8]]) -> Result<(), Stop>
+    ensures { Gives (λ _. tt) result (nothing (seen left.now)) }
+{
+    let Some((line, rest)) = left.split_first() else {
+        return Ok(());
+    };
+    if rest.is_empty() {
+        return if line.is_empty() {
+            Ok(())
+        } else {
+            stopped(left, BAD_LINE)
+        };
+    }
+    stopped(left, if is_plain(line) { WRONG_WORD } else { BAD_LINE })
+}
