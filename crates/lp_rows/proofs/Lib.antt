@@ -11,3 +11,4 @@ pub mod PointsToPlans
 pub mod PlansToPoints
 pub mod Counted
 pub mod Problems
+pub mod Together

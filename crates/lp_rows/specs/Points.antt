@@ -78,3 +78,13 @@ pub record AreCounted (t : Tables) (keeps : Domains) (starts : Starts) (rows : R
 
 abbrev pub RowsAreCounted : Type 0
 RowsAreCounted = (t : Tables) (keeps : Domains) (starts : Starts) (rows : Rows) → AreRows t keeps starts rows → AreCounted t keeps starts rows
+
+-- The lines of a subproblem over its network, counted, and what their points are: the mixed plans, both ways, at the
+-- same cost.
+pub record AreLinesOf (t : Tables) (keeps : Domains) (rows : Rows) : Type 0 where
+  pub starts : Starts
+  pub lines : AreRows t keeps starts rows
+  pub counted : AreCounted t keeps starts rows
+  pub points_are_plans : (scale : ℕ) (x : ℕ → ℕ) → MeetsRows rows scale x → IsMixedPlan t keeps scale (pair_part (columns_of t keeps starts) x)
+  pub plans_are_points : (scale : ℕ) (w : Weights) → IsMixedPlan t keeps scale w → (x : ℕ → ℕ) × IsPointOf t (columns_of t keeps starts) rows scale w x
+  pub costs_are_same : (x : ℕ → ℕ) → point_cost rows x ≡ mixed_cost t (pair_part (columns_of t keeps starts) x)

@@ -2,8 +2,9 @@ ghost use Rattle.std.specs.Prelude.{◌≡◌, All, map, IfOk};
 ghost use Rattle.fleet_model.specs.Kept.{kept_by};
 ghost use Rattle.row_store.specs.Problem.{IsProblem};
 ghost use Rattle.lp_rows.specs.Entries.{IsColumn, IsLine, column_cost};
-ghost use Rattle.lp_rows.specs.Layout.{AreByStation, Starts, starts_in};
-ghost use Rattle.lp_rows.specs.Program.{AreRows, numbers_of};
+ghost use Rattle.lp_rows.specs.Layout.{AreByStation, starts_in};
+ghost use Rattle.lp_rows.specs.Points.{AreLinesOf};
+ghost use Rattle.lp_rows.specs.Program.{numbers_of};
 
 use crate::entry::{column_cost, entry, right_side};
 use crate::kinds::{Column, Line};
@@ -17,10 +18,11 @@ use std::alloc::Global;
 /// The linear program of a subproblem: the lines over its kept pairs, the ground arcs of its network and a slack
 /// for each fleet, with their right sides, and what the columns cost.
 ///
-/// They meet what a store of tables asks for (`IsProblem`). The lines have all their numbers, zeros too. With 1,000 legs and 20 fleets, all of whose pairs are kept, that
-/// would take more than 10 GB, and want of memory is then the right answer.
+/// Their points are the mixed plans of the subproblem, both ways, at the same cost, and they meet what a store of
+/// tables asks for (`IsProblem`). The lines have all their numbers, zeros too. With 1,000 legs and 20 fleets, all of
+/// whose pairs are kept, that would take more than 10 GB, and want of memory is then the right answer.
 pub fn rows(alloc: Global, tables: &Tables, kept: &Kept) -> Result<Rows, NoMemory>
-    ensures lines { IfOk result (λ rows. (starts : Starts) × AreRows tables.now (kept_by kept.now) starts rows) }
+    ensures lines { IfOk result (AreLinesOf tables.now (kept_by kept.now)) }
     ensures problem { IfOk result IsProblem }
 {
     let network = Network::new(alloc, tables, kept)?;
