@@ -1,1 +1,2 @@
 pub mod StepPrices
+pub mod EachTested

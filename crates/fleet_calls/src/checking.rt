@@ -1,6 +1,6 @@
 //! Trees, checked.
 ghost use Rattle.std.specs.Prelude.{◌<◌, MatchBool, ⊤};
-ghost use Rattle.bound_cert.specs.OfTables.{ArePricesOf, IsCauseOf, IsMixedOf, IsOfTables};
+ghost use Rattle.bound_cert.specs.OfTables.{ArePricesOf, IsCauseOf, IsMixedOf, IsOfTables, IsStepOf, IsWeightOf};
 
 use crate::plans::assignment;
 use crate::schedules::{Files, OVERLAPPING_TRIPS, ROUND_TRIP, read};
@@ -85,11 +85,18 @@ fn are_prices_of(tables: &Tables, prices: &Prices) -> bool
     ensures { MatchBool result (ArePricesOf tables.now prices.now) ⊤ }
 {
     for step in prices.steps.as_slice() {
-        if step.fleet >= tables.fleet_count() || step.station >= tables.station_count() {
+        if !is_step_of(tables, step) {
             return false;
         }
     }
     true
+}
+
+/// Whether a step is of the tables.
+fn is_step_of(tables: &Tables, step: &PriceStep) -> bool
+    ensures { MatchBool result (IsStepOf tables.now step.now) (¬ (IsStepOf tables.now step.now)) }
+{
+    step.fleet < tables.fleet_count() && step.station < tables.station_count()
 }
 
 /// Whether all weights of a fractional assignment are of the tables.
@@ -97,11 +104,18 @@ fn is_mixed_of(tables: &Tables, mixed: &Mixed) -> bool
     ensures { MatchBool result (IsMixedOf tables.now mixed.now) ⊤ }
 {
     for weight in mixed.weights.as_slice() {
-        if weight.leg >= tables.leg_count() || weight.fleet >= tables.fleet_count() {
+        if !is_weight_of(tables, weight) {
             return false;
         }
     }
     true
+}
+
+/// Whether a weight is of the tables.
+fn is_weight_of(tables: &Tables, weight: &Weight) -> bool
+    ensures { MatchBool result (IsWeightOf tables.now weight.now) (¬ (IsWeightOf tables.now weight.now)) }
+{
+    weight.leg < tables.leg_count() && weight.fleet < tables.fleet_count()
 }
 
 /// Whether all that a cause names is of the tables.
@@ -292,22 +306,32 @@ fn trim(alloc: Global, yes: Tree, no: Tree) -> Result<Tree, NoMemory> {
 #[test]
 fn a_split_of_halves(rt: HostRuntime) -> Result<(), Fail> {
     let open = Tree::Open(Prices::zero(rt.alloc()), Cause::Pivots { made: 0 });
-    let holds = split(rt.alloc(), open, Cause::Pivots { made: 7 })?;
+    let tree = split(rt.alloc(), open, Cause::Pivots { made: 7 })?;
     assert_eq!(rt;
-        checked(rt.alloc(), &TWO_FLEETS, None, &holds)?,
+        checked(rt.alloc(), &TWO_FLEETS, None, &tree)?,
         Some(Checked::Holds { bound: Some(60) })
     );
+    Ok(())
+}
+
+#[test]
+fn the_first_child_is_judged_first(rt: HostRuntime) -> Result<(), Fail> {
     let halves = mixed(rt.alloc(), 2, 6, [1, 1])?;
-    let broken = split(rt.alloc(), Tree::Sole, Cause::Nodes(halves))?;
+    let tree = split(rt.alloc(), Tree::Sole, Cause::Nodes(halves))?;
     assert_eq!(rt;
-        checked(rt.alloc(), &TWO_FLEETS, None, &broken)?,
+        checked(rt.alloc(), &TWO_FLEETS, None, &tree)?,
         Some(Checked::Broken { node: 2, rule: 5 })
     );
+    Ok(())
+}
+
+#[test]
+fn halves_of_a_pair_that_is_not_kept(rt: HostRuntime) -> Result<(), Fail> {
     let open = Tree::Open(Prices::zero(rt.alloc()), Cause::Pivots { made: 0 });
     let halves = mixed(rt.alloc(), 2, 6, [1, 1])?;
-    let in_the_other = split(rt.alloc(), open, Cause::Nodes(halves))?;
+    let tree = split(rt.alloc(), open, Cause::Nodes(halves))?;
     assert_eq!(rt;
-        checked(rt.alloc(), &TWO_FLEETS, None, &in_the_other)?,
+        checked(rt.alloc(), &TWO_FLEETS, None, &tree)?,
         Some(Checked::Broken { node: 3, rule: 9 })
     );
     Ok(())
