@@ -13,10 +13,9 @@ use Rattle.bound_cert.specs.Worth.{worth_of}
 use Rattle.bound_cert.specs.declared.prices.Prices.{Prices}
 use Rattle.bound_cert.specs.declared.trees.Cause.TheVariants as cause
 use Rattle.bound_cert.specs.declared.trees.Tree.TheVariants as tree
-use Rattle.fleet_cli.specs.Solved.{IsPlanned, IsRefuted, IsSolved, PlanFits}
+use Rattle.fleet_cli.specs.Solved.{IsPlanned, IsRefuted, IsSolved}
 use Rattle.plan_judge.specs.declared.verdicts.Verdict.{Verdict}
 use Rattle.plan_judge.specs.declared.verdicts.Verdict.TheVariants as verdict
-use Rattle.fleet_cli.specs.declared.solver.Solved.{Solved}
 use Rattle.fleet_cli.specs.declared.solver.Solved.TheVariants as solved
 
 module _ (t : Tables) where
@@ -81,12 +80,6 @@ module _ (t : Tables) where
         of_tables = (rw no_steps (All-from_recursion (IsStepOf t) [] tt), tt);
         caused = record { all_made = refl; some_pair = some_pair; some_choice = some_choice; zero = record { one = one; no_rents = no_rents; no_steps = no_steps } };
       }
-
--- the plan of a solution has a fleet for each leg
-pub plan_fits : (t : Tables) (pivots : ℕ) (s : Solved) → IsSolved t pivots s → PlanFits t s
-plan_fits t pivots (solved.Planned plan cost bound tree) is = is.right.legal.assignment
-plan_fits t pivots (solved.Infeasible tree) is = tt
-plan_fits t pivots (solved.Unsettled bound tree) is = tt
 
 -- a verdict other than legal is of an assignment that isn't
 pub not_legal : (t : Tables) (a : List ℕ) (v : Verdict) → (IsLegal t a → v ≡ verdict.Legal (total_cost t a))
