@@ -104,7 +104,7 @@ module _ (t : Tables) where
   prices_are : (left : Left) (read : Prices × Left) → prices_at t left ≡ Ok read → ArePricesOf t read.0
   unfolding prices_at
   prices_are left read e =
-      let scale = goes (scale_at left) _ read e in
+      let scale = goes (scale_at due.Scale left) _ read e in
       let rents = goes (rents_from t [] (drop 1 left)) _ read scale.on in
       let steps = goes (steps_from t [] None rents.value.1) _ read rents.on in
       subst (λ r. ArePricesOf t r.0) (ok_same _ read steps.on) (steps_are [] None rents.value.1 steps.value steps.is (All-nil (IsStepOf t)))
@@ -134,7 +134,7 @@ module _ (t : Tables) where
   mixed_is : (left : Left) (read : Mixed × Left) → mixed_at t left ≡ Ok read → IsMixedOf t read.0
   unfolding mixed_at
   mixed_is left read e =
-      let scale = goes (scale_at left) _ read e in
+      let scale = goes (scale_at due.Mixed left) _ read e in
       let weights = goes (weights_from t [] None (drop 1 left)) _ read scale.on in
       subst (λ r. IsMixedOf t r.0) (ok_same _ read weights.on) (weights_are [] None (drop 1 left) weights.value weights.is (All-nil (IsWeightOf t)))
 
