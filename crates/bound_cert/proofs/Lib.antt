@@ -12,4 +12,8 @@ pub mod ReadOn
 pub mod ReadTree
 pub mod Sizes
 pub mod Words
+pub mod WrittenLines
+pub mod WrittenNames
+pub mod WrittenNumbers
+pub mod WrittenPrices
 pub mod ZeroPrices
