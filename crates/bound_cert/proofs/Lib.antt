@@ -14,6 +14,8 @@ pub mod Sizes
 pub mod Words
 pub mod WrittenLines
 pub mod WrittenNames
+pub mod WrittenNodes
 pub mod WrittenNumbers
 pub mod WrittenPrices
+pub mod WrittenTrees
 pub mod ZeroPrices

@@ -44,7 +44,7 @@ IsHeadOf t (head.Trim leg fleet) = IsPair t (leg_on leg fleet)
 IsHeadOf t (head.Split leg fleet) = IsPair t (leg_on leg fleet)
 IsHeadOf t _ = ⊤
 
-abbrev IsNodeOf : Tables → Node → Type 0
+abbrev pub IsNodeOf : Tables → Node → Type 0
 IsNodeOf t (node.Bare leg) = leg < legs_in t
 IsNodeOf t node.Sole = ⊤
 IsNodeOf t (node.Refuted prices) = ArePricesOf t prices
@@ -258,15 +258,15 @@ module _ (t : Tables) where
       (nodes_are (length (drop 1 (drop 1 left))) [] [] (drop 1 (drop 1 left)) all.value all.is (All-nil (IsNodeOf t)))
 
 -- a tree whose nodes are of the tables is
-left_part : {X : Type 0} (P : X → Type 0) (xs ys : List X) → All P (xs ++ ys) → All P xs
+pub left_part : {X : Type 0} (P : X → Type 0) (xs ys : List X) → All P (xs ++ ys) → All P xs
 left_part P [] ys all = All-nil P
 left_part P (x ∷ xs) ys all = All-cons P x xs (All-head P x (xs ++ ys) all) (left_part P xs ys (All-tail P x (xs ++ ys) all))
 
-right_part : {X : Type 0} (P : X → Type 0) (xs ys : List X) → All P (xs ++ ys) → All P ys
+pub right_part : {X : Type 0} (P : X → Type 0) (xs ys : List X) → All P (xs ++ ys) → All P ys
 right_part P [] ys all = all
 right_part P (x ∷ xs) ys all = right_part P xs ys (All-tail P x (xs ++ ys) all)
 
-tree_of : (t : Tables) (whole : Tree) → All (IsNodeOf t) (nodes_of whole) → IsOfTables t whole
+pub tree_of : (t : Tables) (whole : Tree) → All (IsNodeOf t) (nodes_of whole) → IsOfTables t whole
 tree_of t (tree.Bare leg) are = All-head (IsNodeOf t) (node.Bare leg) [] are
 tree_of t tree.Sole are = tt
 tree_of t (tree.Refuted prices) are = All-head (IsNodeOf t) (node.Refuted prices) [] are

@@ -215,7 +215,7 @@ module _ (t : Tables) where
   of_step : (step : PriceStep) → IsStepInOrder t step → IsStepOf t step
   of_step step is = record { fleet = is.fleet; station = is.station }
 
-  steps_of : (steps : List PriceStep) → All (IsStepInOrder t) steps → All (IsStepOf t) steps
+  pub steps_of : (steps : List PriceStep) → All (IsStepInOrder t) steps → All (IsStepOf t) steps
   steps_of steps are = All-weaker (IsStepInOrder t) (IsStepOf t) of_step steps are
 
   steps_begin : (steps : List PriceStep) (behind : Left) (word : List ℕ) → All (IsStepOf t) steps → stands (codes "at" ∷ []) 0 word ≡ false → begins behind word ≡ false
@@ -243,7 +243,7 @@ module _ (t : Tables) where
 
   -- weights
 
-  pair_read : (leg fleet : ℕ) (words : List (List ℕ)) (left : Left) → IsPair t (leg_on leg fleet) → word_at words 1 ≡ (leg_of t leg).flight → word_at words 2 ≡ (fleet_of t fleet).name
+  pub pair_read : (leg fleet : ℕ) (words : List (List ℕ)) (left : Left) → IsPair t (leg_on leg fleet) → word_at words 1 ≡ (leg_of t leg).flight → word_at words 2 ≡ (fleet_of t fleet).name
       → pair_at t words left ≡ Ok (leg, fleet)
   unfolding pair_at
   pair_read leg fleet words left is first second =
