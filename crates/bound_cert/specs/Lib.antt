@@ -1,4 +1,5 @@
 pub mod Bound
+pub mod Dropping
 pub mod Duality
 pub mod Figures
 pub mod Known

@@ -1,5 +1,9 @@
+ghost use Rattle.std.specs.Prelude.{◌+◌, ◌≤◌};
+ghost use Rattle.bound_cert.specs.Dropping.{Exchanged, IsLeaf, load_of};
+
 use crate::mixed::Mixed;
 use crate::prices::Prices;
+use std::mem;
 
 /// Why a subproblem stayed open.
 #[derive(Debug, Drop)]
@@ -30,7 +34,7 @@ pub enum Cause {
 }
 
 /// A proof of a bound: subproblems, each with the reason why no legal assignment in it is cheaper.
-#[derive(Debug, Drop)]
+#[derive(Debug)]
 pub enum Tree {
     /// This leg keeps no fleet, so nothing in the subproblem is legal.
     Bare {
@@ -70,6 +74,101 @@ pub enum Tree {
         /// The part in which it doesn't.
         no: Box<Tree>,
     },
+}
+
+// A loop, so that a deep tree takes none of the stack.
+impl Drop for Tree {
+    fn drop(mut self) {
+        loop {
+            match self {
+                Tree::Bare { leg: _ } => return,
+                Tree::Sole => return,
+                Tree::Refuted(_) => return,
+                Tree::Priced(_) => return,
+                Tree::Open(_, _) => return,
+                Tree::Trim {
+                    leg: _,
+                    fleet: _,
+                    yes,
+                    no,
+                } => self = without_parent(yes, no),
+                Tree::Split {
+                    leg: _,
+                    fleet: _,
+                    prices: _,
+                    mixed: _,
+                    yes,
+                    no,
+                } => self = without_parent(yes, no),
+            }
+        }
+    }
+}
+
+/// What is left to be dropped of two trees, as one tree: the second, or one that has the parts of both, of which
+/// fewer stand below `yes`. It takes no memory.
+fn without_parent(yes: Box<Tree>, no: Box<Tree>) -> Tree
+    ensures { load_of result ≤ load_of yes.value + load_of yes.value + load_of no.value }
+{
+    let mut first = yes;
+    let mut second = no;
+    if exchange(&mut first, &mut second) {
+        Tree::Trim {
+            leg: 0,
+            fleet: 0,
+            yes: second,
+            no: first,
+        }
+    } else {
+        Box::into_inner(first).end_leaf();
+        Box::into_inner(second)
+    }
+}
+
+/// Exchanges the second child of a tree with another tree, and answers whether it has one.
+fn exchange(tree: &mut Tree, other: &mut Box<Tree>) -> bool
+    ensures { Exchanged tree.old other.old.value tree.new other.new.value result }
+{
+    match tree {
+        Tree::Trim { no, .. } => {
+            mem::swap(no, other);
+            true
+        }
+        Tree::Split { no, .. } => {
+            mem::swap(no, other);
+            true
+        }
+        _ => false,
+    }
+}
+
+impl Tree {
+    /// Drops a leaf.
+    fn end_leaf(self)
+        requires { IsLeaf self }
+    {
+        match self {
+            Tree::Bare { leg: _ } => {}
+            Tree::Sole => {}
+            Tree::Refuted(_) => {}
+            Tree::Priced(_) => {}
+            Tree::Open(_, _) => {}
+            Tree::Trim {
+                leg: _,
+                fleet: _,
+                yes: _yes,
+                no: _no,
+            } => unreachable!(),
+            Tree::Split {
+                leg: _,
+                fleet: _,
+                prices: _,
+                mixed: _,
+                yes: _yes,
+                no: _no,
+            } => unreachable!(),
+        }
+    }
 }
 
 /// How many subproblems of a tree were split, and how many of its leaves are open, by cause. A count stays at its
