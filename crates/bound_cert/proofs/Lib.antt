@@ -6,6 +6,8 @@ pub mod LeastWorth
 pub mod Lines
 pub mod LinesOfWords
 pub mod Numbers
+pub mod ReadBack
+pub mod ReadOfTables
 pub mod ReadOn
 pub mod ReadTree
 pub mod Sizes
