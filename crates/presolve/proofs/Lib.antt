@@ -4,6 +4,7 @@ pub mod KeptParts
 pub mod LeastBounds
 pub mod OneFewer
 pub mod OneList
+pub mod ReasonOrder
 pub mod ReasonPrices
 pub mod ReasonWorth
 pub mod ReasonsProper
