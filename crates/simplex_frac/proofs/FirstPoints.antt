@@ -65,7 +65,7 @@ rest_sum rows point = sum_below_ℤ (λ line. point (rows.columns + line)) (leng
 pub record MeetsFirst (rows : Rows) (point : ℕ → ℤ) (scale : ℤ) : Type 0 where
   pub each : (line : ℕ) → line < length rows.lines → line_sum rows point line +ℤ point (rows.columns + line) ≡ entry rows line rows.columns *ℤ scale
 
-number_first : (rows : Rows) (row column : ℕ) → row < length rows.lines + 2 → column < rows.columns + length rows.lines + 1 → number_at (first_table rows) row column ≡ first_number rows row column
+pub number_first : (rows : Rows) (row column : ℕ) → row < length rows.lines + 2 → column < rows.columns + length rows.lines + 1 → number_at (first_table rows) row column ≡ first_number rows row column
 number_first rows row column lt le =
     ap (λ r. number_of r column) (row_at-first_table rows row lt) ∙ get_or-list_below (first_number rows row) (rows.columns + length rows.lines + 1) column (pos 0) le
 
@@ -103,7 +103,7 @@ identity_below rows row point ge lt =
     other : (row line m : ℕ) → m ≤ row → line < m → row ≡ line → ⊥
     other row line m p q e = omega arith
 
-right_first : (rows : Rows) (row : ℕ) → row < length rows.lines + 2 → number_at (first_table rows) row (rows.columns + length rows.lines) ≡ first_amount rows row rows.columns
+pub right_first : (rows : Rows) (row : ℕ) → row < length rows.lines + 2 → number_at (first_table rows) row (rows.columns + length rows.lines) ≡ first_amount rows row rows.columns
 right_first rows row lt = number_first rows row (rows.columns + length rows.lines) lt (omega arith) ∙ number_right rows row (rows.columns + length rows.lines) (omega arith)
 
 pub surplus_line : (rows : Rows) (row : ℕ) (point : ℕ → ℤ) (scale : ℤ) → row < length rows.lines → surplus (row_at (first_table rows) row) (rows.columns + length rows.lines) point scale ≡ (line_sum rows point row +ℤ point (rows.columns + row)) -ℤ (entry rows row rows.columns *ℤ scale)

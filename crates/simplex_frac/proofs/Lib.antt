@@ -5,3 +5,10 @@ pub mod Turns
 pub mod FirstPoints
 pub mod RunPoints
 pub mod ReadOff
+pub mod UnitColumns
+pub mod TurnCauses
+pub mod RightSides
+pub mod BasicSums
+pub mod BestPoints
+pub mod MetPoints
+pub mod RayPoints

@@ -57,7 +57,7 @@ first_last rows = less_one (columns_of (first_table rows)) (rows.columns + lengt
     less_one : (w k : ℕ) → w ≡ k + 1 → w - 1 ≡ k
     less_one w k e = omega arith
 
-first_height : (rows : Rows) → height_of (first_table rows) ≡ length rows.lines
+pub first_height : (rows : Rows) → height_of (first_table rows) ≡ length rows.lines
 first_height rows = less_two (length (first_table rows)) (length rows.lines) (length-first_table rows)
 
 -- ---- points of the first table
