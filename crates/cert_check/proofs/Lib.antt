@@ -1,7 +1,10 @@
 pub mod MixedCosts
 pub mod MixedNeed
 pub mod NodeRules
+pub mod OneVerdict
 pub mod PriceSteps
+pub mod SameTrees
+pub mod SoleAssignments
 pub mod TreeBounds
 pub mod TreeSizes
 pub mod Walks

@@ -49,7 +49,7 @@ one_on_more count n before here m below = grind arith
 lesser_multiple : (d x y : ℤ) → pos 1 ≤ℤ d → (x *ℤ d) <ℤ (y *ℤ d) → x <ℤ y
 lesser_multiple d x y some h = by_lt_z x y (λ lt. lt) (λ ge. absurd (omega (arith, ints, factor_le d y x (omega (arith, ints)) ge, *ℤ_comm x d, *ℤ_comm y d)))
 
-same_ceiling : (n d x y : ℤ) → pos 1 ≤ℤ d → IsCeiling n d x → IsCeiling n d y → x ≤ℤ y
+pub same_ceiling : (n d x y : ℤ) → pos 1 ≤ℤ d → IsCeiling n d x → IsCeiling n d y → x ≤ℤ y
 same_ceiling n d x y some first second =
     let below : (x -ℤ pos 1) <ℤ y = lesser_multiple d (x -ℤ pos 1) y some (omega (arith, ints, first.least, second.enough)) in
     omega (arith, ints, below)

@@ -69,10 +69,10 @@ module _ (t : Tables) (a : List ℕ) where
       stays l = by_leg l (l == leg) (λ same. grind (arith, nat_tests))
 
 -- each of two lists
-first_all : (P : Node → Type 0) (xs ys : List Node) → All P (xs ++ ys) → All P xs
+pub first_all : (P : Node → Type 0) (xs ys : List Node) → All P (xs ++ ys) → All P xs
 first_all P xs ys all k d below = subst P (get_or_append_left xs ys d k below) (all k d (omega (arith, length-append xs ys)))
 
-second_all : (P : Node → Type 0) (xs ys : List Node) → All P (xs ++ ys) → All P ys
+pub second_all : (P : Node → Type 0) (xs ys : List Node) → All P (xs ++ ys) → All P ys
 second_all P [] ys all = all
 second_all P (x ∷ xs) ys all = second_all P xs ys (All-tail P x (xs ++ ys) all)
 

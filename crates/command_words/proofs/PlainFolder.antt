@@ -10,9 +10,9 @@ use Rattle.clap.specs.Kinds.{Kinds, or_else}
 use Rattle.clap.specs.Lexer.{long_of, short_of}
 use Rattle.clap.specs.Simple.{App, Shape, built_leaf, inherited, marked_built, on_top, with_leaf_noted}
 use Rattle.clap.specs.Walk.{Held, Row, Rule, Step, Text, Walk, after_step, finished, idle, long_or_other, nothing_held, settled, short_or_plain, trailing, value, walk_from, walked, word_met}
-use Rattle.command_words.specs.Laws.{JudgesPlainly, SolvesPlainly, is_alone, is_plain_name}
-use Rattle.command_words.specs.Program.{judge_app, our_app, solve_app}
-use Rattle.command_words.specs.Words.{Asked, asked, command_in, judge_at, limits_at, settings_at, solve_at, without_fault}
+use Rattle.command_words.specs.Laws.{ChecksPlainly, JudgesPlainly, SolvesPlainly, is_alone, is_plain_name}
+use Rattle.command_words.specs.Program.{check_app, judge_app, our_app, solve_app}
+use Rattle.command_words.specs.Words.{Asked, asked, check_at, command_in, judge_at, limits_at, settings_at, solve_at, without_fault}
 use Rattle.command_words.specs.declared.command.TheConstants.{DEFAULT_DAY_START, DEFAULT_NODES, DEFAULT_PIVOTS}
 
 -- no option, by clap's reading of a word
@@ -139,3 +139,29 @@ solves_plainly program word folder =
     solve_parts program word
     ∙ ap₂ answer (level (built_command solve_app) word solve_stays (solve_ends word) plain) (ap (rows_by (built_command solve_app)) (walks (built_command solve_app) word plain))
     ∙ solve_answer word
+
+-- ---- check
+
+check_stays : step_at (built_command check_app) (nothing_held, value) ≡ []
+unfolding our_app clap_on_literals
+check_stays = refl
+
+check_ends : (word : Text) → after_walk (built_command check_app) [] (at_end (built_command check_app) word) ≡ []
+unfolding our_app clap_on_literals
+check_ends word = refl
+
+check_parts : (program word : Text) → asked (program ∷ codes "check" ∷ word ∷ [])
+    ≡ answer (level_fault (built_command check_app) [] nothing_held (word ∷ []) false []) (rows_by (built_command check_app) (walked (built_command check_app).rules [] at_start word))
+unfolding asked our_app clap_on_literals
+check_parts program word = refl
+
+check_answer : (word : Text) → answer [] (rows_by (built_command check_app) (at_end (built_command check_app) word)) ≡ check_at (Some (settings_at DEFAULT_DAY_START)) word
+unfolding our_app clap_on_literals
+check_answer word = refl
+
+pub checks_plainly : ChecksPlainly
+checks_plainly program word folder =
+    let plain = is_plain word folder in
+    check_parts program word
+    ∙ ap₂ answer (level (built_command check_app) word check_stays (check_ends word) plain) (ap (rows_by (built_command check_app)) (walks (built_command check_app) word plain))
+    ∙ check_answer word

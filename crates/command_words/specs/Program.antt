@@ -28,13 +28,17 @@ abbrev pub solve_app : App
 solve_app =
     with_rule (with_rule (folder_app (codes "solve")) (option_named (codes "nodes"))) (option_named (codes "pivots"))
 
+-- check DIR [--day-start HH:MM]
+abbrev pub check_app : App
+check_app = folder_app (codes "check")
+
 -- a program that does nothing without a command
 abbrev pub bare_app : App
 bare_app = on_top (λ shape. record shape { subcommand_required = true }) (new_app (codes "fleetplan"))
 
 -- fleetplan COMMAND
 unfoldable pub our_app : App
-our_app = with_subcommand (with_subcommand bare_app judge_app.top) solve_app.top
+our_app = with_subcommand (with_subcommand (with_subcommand bare_app judge_app.top) solve_app.top) check_app.top
 
 -- the command is read as this one, and none of its arguments holds for other commands too
 pub record Builds (app : App) (command : Command) : Type 0 where

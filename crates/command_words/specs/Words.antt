@@ -16,6 +16,7 @@ use Rattle.command_words.specs.declared.command.TheConstants.{DEFAULT_DAY_START,
 pub data Asked : Type 0 where
   judge : List ℕ → Settings → Asked
   solve : List ℕ → Settings → SearchLimits → Asked
+  check : List ℕ → Settings → Asked
 
 -- ---- the values of a command's arguments, by what clap found for them
 
@@ -63,11 +64,20 @@ solve_at settings limits dir = option_and_then (λ s. option_map (solve dir s) l
 abbrev pub solve_in : List Row → Option Asked
 solve_in found = option_and_then (solve_at (settings_in found) (limits_in found)) (first_of (codes "dir") found)
 
+-- checking the proof of a folder by settings, where they are there
+abbrev pub check_at : Option Settings → Text → Option Asked
+check_at settings dir = option_map (check dir) settings
+
+-- checking, where all values read
+abbrev pub check_in : List Row → Option Asked
+check_in found = option_and_then (check_at (settings_in found)) (first_of (codes "dir") found)
+
 -- the command of a subcommand's name and what was found for its arguments
 abbrev pub command_in : Text × List Row → Option Asked
 command_in (name, found) =
     if bytes_eq name (codes "judge") then judge_in found
     else if bytes_eq name (codes "solve") then solve_in found
+    else if bytes_eq name (codes "check") then check_in found
     else None
 
 -- nothing where there is a fault
@@ -90,11 +100,13 @@ rows_in matches = rows_of (found_of matches)
 abbrev pub asked_by : Command → Asked
 asked_by (command.Judge dir settings) = judge dir.now settings
 asked_by (command.Solve dir settings limits) = solve dir.now settings limits
+asked_by (command.Check dir settings) = check dir.now settings
 
 -- the settings of a command are within their limits
 abbrev pub HasSettings : Command → Type 0
 HasSettings (command.Judge dir settings) = AreSettings settings
 HasSettings (command.Solve dir settings limits) = AreSettings settings
+HasSettings (command.Check dir settings) = AreSettings settings
 
 -- a search of so many splits and pivots may be asked for
 pub record AreLimits (limits : SearchLimits) : Type 0 where
@@ -105,3 +117,4 @@ pub record AreLimits (limits : SearchLimits) : Type 0 where
 abbrev pub HasLimits : Command → Type 0
 HasLimits (command.Judge dir settings) = ⊤
 HasLimits (command.Solve dir settings limits) = AreLimits limits
+HasLimits (command.Check dir settings) = ⊤

@@ -41,4 +41,9 @@ pub enum Command<'a> {
         settings: Settings,
         limits: SearchLimits,
     },
+    /// Check the proof of a folder, and its plan where the proof says that one comes with it.
+    Check {
+        dir: &'a str,
+        settings: Settings,
+    },
 }

@@ -2,7 +2,7 @@
 ghost use Rattle.std.specs.Prelude.{◌≡◌, IfOk, codes, false};
 ghost use Rattle.clap.specs.Words.{app_of, rule_of, shape_of, with_subcommand};
 ghost use Rattle.clap.specs.declared.builder.command.Command.TheViews.{out-Command};
-ghost use Rattle.command_words.specs.Program.{Builds, BuildsRule, IsRule, bare_app, dir, folder_app, judge_app, option_named, our_app, solve_app};
+ghost use Rattle.command_words.specs.Program.{Builds, BuildsRule, IsRule, bare_app, check_app, dir, folder_app, judge_app, option_named, our_app, solve_app};
 
 use clap::{Arg, ArgAction, Command};
 use std::alloc::{AllocError, Global};
@@ -13,8 +13,10 @@ pub(crate) fn program<'a>(alloc: Global) -> Result<Command<'a>, AllocError>
 {
     let judge = judge_command(alloc)?;
     let solve = solve_command(alloc)?;
+    let check = check_command(alloc)?;
     let with_judge = with_command(bare_program(alloc), judge)?;
-    with_command(with_judge, solve)
+    let with_solve = with_command(with_judge, solve)?;
+    with_command(with_solve, check)
 }
 
 /// The program without commands. It does nothing where no command is named.
@@ -46,6 +48,13 @@ fn solve_command<'a>(alloc: Global) -> Result<Command<'a>, AllocError>
     let bare = folder_command(alloc, "solve")?;
     let with_nodes = with_argument(bare, option(alloc, "nodes"))?;
     with_argument(with_nodes, option(alloc, "pivots"))
+}
+
+/// `check DIR [--day-start HH:MM]`
+fn check_command<'a>(alloc: Global) -> Result<Command<'a>, AllocError>
+    ensures { IfOk result (Builds check_app) }
+{
+    folder_command(alloc, "check")
 }
 
 /// `NAME DIR [--day-start HH:MM]`

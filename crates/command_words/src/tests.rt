@@ -25,6 +25,13 @@ fn solve(dir: &str, day_start: u16, nodes: u64) -> Option<Command<'_>> {
     })
 }
 
+fn check(dir: &str, day_start: u16) -> Option<Command<'_>> {
+    Some(Command::Check {
+        dir,
+        settings: settings(day_start),
+    })
+}
+
 // The words of a line are apart by single spaces.
 fn words_of(alloc: Global, line: &str) -> Result<Vec<String>, Fail> {
     let mut words = Vec::new(alloc);
@@ -53,6 +60,12 @@ fn commands(rt: HostRuntime) -> Result<(), Fail> {
             solve("d", 180, 1_000_000),
         ),
         ("fleetplan solve --pivots 0 d --nodes 0", solve("d", 180, 0)),
+        ("fleetplan check d", check("d", 180)),
+        ("fleetplan check --day-start=00:00 -- -d", check("-d", 0)),
+        (
+            "fleetplan check judge --day-start 23:59",
+            check("judge", 1439),
+        ),
     ];
     for (line, wanted) in cases {
         let words = words_of(rt.alloc(), line)?;
@@ -86,7 +99,12 @@ fn no_commands(rt: HostRuntime) -> Result<(), Fail> {
         "fleetplan solve --help",
         "fleetplan help",
         "fleetplan -h",
-        "fleetplan check d",
+        "fleetplan check",
+        "fleetplan check d e",
+        "fleetplan check d --nodes 1",
+        "fleetplan check d --day-start 24:00",
+        "fleetplan check --help",
+        "fleetplan make d 1 2",
     ];
     for line in lines {
         let words = words_of(rt.alloc(), line)?;

@@ -1,7 +1,7 @@
 ghost use Rattle.std.specs.Prelude.{◌≡◌, ◌≤◌, ◌↔◌, IfOk, IfSome, IsErr, None, map, option_and_then, option_map, string_bytes};
 ghost use Rattle.clap.specs.Words.{first_of, subcommand_rows_of};
 ghost use Rattle.command_words.specs.Values.{number_read, value_or};
-ghost use Rattle.command_words.specs.Words.{AreLimits, HasLimits, HasSettings, asked, asked_by, command_in, judge_in, limits_in, rows_in, settings_in, solve_in};
+ghost use Rattle.command_words.specs.Words.{AreLimits, HasLimits, HasSettings, asked, asked_by, check_in, command_in, judge_in, limits_in, rows_in, settings_in, solve_in};
 ghost use Rattle.fleet_model.specs.Limits.{AreSettings};
 
 use crate::command::{
@@ -51,6 +51,7 @@ fn command_met<'a>(matches: &ArgMatches<'a>) -> Option<Command<'a>>
     match name {
         "judge" => judge_of(found),
         "solve" => solve_of(found),
+        "check" => check_of(found),
         _ => None,
     }
 }
@@ -80,6 +81,17 @@ fn solve_of<'a>(found: &ArgMatches<'a>) -> Option<Command<'a>>
         settings,
         limits,
     })
+}
+
+/// Checking, with what was found for it.
+fn check_of<'a>(found: &ArgMatches<'a>) -> Option<Command<'a>>
+    ensures asked { option_map asked_by result ≡ check_in (rows_in found.now) }
+    ensures settings { IfSome result HasSettings }
+    ensures limits { IfSome result HasLimits }
+{
+    let dir = value_of(found, "dir")?;
+    let settings = settings_of(found)?;
+    Some(Command::Check { dir, settings })
 }
 
 /// The settings that the options give.

@@ -1,5 +1,5 @@
-use Rattle.command_words.proofs.AfterDashes.{judges_by_default, judges_from, solves_by_default, solves_within}
-use Rattle.command_words.proofs.PlainFolder.{judges_plainly, solves_plainly}
+use Rattle.command_words.proofs.AfterDashes.{checks_by_default, checks_from, judges_by_default, judges_from, solves_by_default, solves_within}
+use Rattle.command_words.proofs.PlainFolder.{checks_plainly, judges_plainly, solves_plainly}
 use Rattle.command_words.proofs.laws.plain_reading.Goals as goal
 
 -- src/laws.rt:14:1
@@ -7,8 +7,11 @@ pub returns : goal.returns
 returns c = record {
   judges_plainly = judges_plainly;
   solves_plainly = solves_plainly;
+  checks_plainly = checks_plainly;
   judges_by_default = judges_by_default;
   judges_from = judges_from;
   solves_by_default = solves_by_default;
   solves_within = solves_within;
+  checks_by_default = checks_by_default;
+  checks_from = checks_from;
 }

@@ -10,5 +10,7 @@ unfolding our_app
 returns c =
     let judge_is = ap (λ (a : App). a.top) c.in_ok-judge.ensures.shape in
     let solve_is = ap (λ (a : App). a.top) c.in_ok-solve.ensures.shape in
+    let check_is = ap (λ (a : App). a.top) c.in_ok-check.ensures.shape in
     let first_is = c.in_ok-with_judge.ensures ∙ ap₂ with_subcommand c.bare_program.ensures judge_is in
-    IfOk-weaker c.with_command-2.result _ _ (λ more made. made ∙ ap₂ with_subcommand first_is solve_is) c.with_command-2.ensures
+    let second_is = c.in_ok-with_solve.ensures ∙ ap₂ with_subcommand first_is solve_is in
+    IfOk-weaker c.with_command-3.result _ _ (λ more made. made ∙ ap₂ with_subcommand second_is check_is) c.with_command-3.ensures
