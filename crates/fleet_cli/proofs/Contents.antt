@@ -1,10 +1,10 @@
--- The contents of the six files, by their places.
-use Rattle.std.proofs.Common.{◌≡◌, ℕ, ◌<◌, List, [], length, get_or, slice_index_or, Vec, Global, Option, Some, None, IfSome, IfOk, Result, Ok, Err, sym, ap, inr, ◌⊎◌}
+-- The contents of files, by their places.
+use Rattle.std.proofs.Common.{◌≡◌, ℕ, ◌<◌, List, [], length, get_or, slice_index_or, Vec, Global, Option, Some, None, IfSome, IfOk, Result, Ok, Err, refl, sym, ap, inr, ◌⊎◌}
 use Rattle.std.proofs.lemmas.List.{get_or-map}
 use Rattle.fleet_model.specs.declared.parts.Settings.{Settings}
 use Rattle.fleet_model.specs.declared.tables.Tables.{Tables}
 use Rattle.sched_read.specs.Reading.{Reads}
-use Rattle.fleet_cli.specs.Answer.{Answers, GivesSolution, JudgesContents, JudgesPlan, RefusesPlan, SolvesContents, judge_files, table_files}
+use Rattle.fleet_cli.specs.Answer.{Answers, GivesSolution, JudgesContents, JudgesPlan, RefusesPlan, SolvesContents, judge_files, table_bytes, table_files}
 use Rattle.command_words.specs.Words.{judge, solve}
 use Rattle.command_words.specs.declared.command.SearchLimits.{SearchLimits}
 use Rattle.fleet_cli.specs.declared.answer.Answer.{Answer}
@@ -16,6 +16,12 @@ use Rattle.fleet_cli.specs.Gathered.{AllHeld, contents_of}
 pub content_at : (contents : List (Vec ℕ Global)) (k : ℕ) (vector : Vec ℕ Global) (slice : List ℕ) → k < length contents → vector ≡ get_or contents k vector → slice ≡ vector.items
     → slice_index_or (contents_of contents) k [] ≡ slice
 content_at contents k vector slice within found is = rw (is, get_or-map (λ (v : Vec ℕ Global). v.items) contents k vector [] within) (ap (λ (v : Vec ℕ Global). v.items) (sym found))
+
+-- the tables are the five that come first
+pub tables_at : (contents : List (List ℕ)) (s f l c t : List ℕ)
+    → slice_index_or contents 0 [] ≡ s → slice_index_or contents 1 [] ≡ f → slice_index_or contents 2 [] ≡ l → slice_index_or contents 3 [] ≡ c → slice_index_or contents 4 [] ≡ t
+    → table_bytes contents ≡ record { stations = s; fleets = f; legs = l; costs = c; throughs = t }
+tables_at contents s f l c t es ef el ec et = rw (es, ef, el, ec, et) refl
 
 pub judged : (contents : List (List ℕ)) (settings : Settings) (tables : Tables) (s f l c t p : List ℕ) (answer : Answer)
     → slice_index_or contents 0 [] ≡ s → slice_index_or contents 1 [] ≡ f → slice_index_or contents 2 [] ≡ l → slice_index_or contents 3 [] ≡ c → slice_index_or contents 4 [] ≡ t → slice_index_or contents 5 [] ≡ p

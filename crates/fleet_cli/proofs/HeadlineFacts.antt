@@ -1,11 +1,11 @@
 -- What solving leaves, from the answer that was given.
-use Rattle.std.proofs.Common.{◌≡◌, ◌≢◌, ℕ, List, ◌++◌, codes, Option, Some, None, IfSome, inl, inr, ap, ◌∙◌, rules}
+use Rattle.std.proofs.Common.{◌≡◌, ◌≢◌, ℕ, List, ◌++◌, codes, Option, Some, None, IfSome, inl, inr, sym, ap, ◌∙◌, rules}
 use Rattle.std.specs.Str.{bytes_eq}
 use Rattle.std.proofs.lemmas.List.{append_cancel_left}
 use Rattle.std.proofs.lemmas.Map.{update_other, update_same}
 use Rattle.table_rows.proofs.FrontReading.{bytes_eq-self}
 use Rattle.table_rows.proofs.Numbered.{bytes_eq-differ}
-use Rattle.command_words.specs.Words.{Asked, judge, solve}
+use Rattle.command_words.specs.Words.{Asked, check, judge, solve}
 use Rattle.command_words.specs.declared.command.SearchLimits.{SearchLimits}
 use Rattle.fleet_model.specs.declared.parts.Settings.{Settings}
 use Rattle.fleet_model.specs.declared.tables.Tables.{Tables}
@@ -15,6 +15,7 @@ use Rattle.plan_desk.specs.DeskFile.{path_of}
 use Rattle.plan_desk.specs.Sink.{output_with}
 use Rattle.plan_text.specs.Text.{plan_text}
 use Rattle.plan_desk.specs.declared.file.DeskFile.TheVariants as desk_file
+use Rattle.fleet_cli.proofs.BoundFacts.{checked_tells}
 use Rattle.fleet_cli.proofs.OneAnswer.{not_refused}
 use Rattle.fleet_cli.specs.Answer.{Answers, SolvesContents}
 use Rattle.fleet_cli.specs.Headline.{Headline, TellsSolution, is_planned, plan_there}
@@ -83,3 +84,4 @@ headline None stands asked answer code before after answers is written put = tt
 headline (Some held) stands None answer code before after answers is written put = tt
 headline (Some held) stands (Some (judge dir settings)) answer code before after answers is written put = tt
 headline (Some held) stands (Some (solve dir settings limits)) answer code before after answers is written put = solved_leaves held dir settings limits answer code stands before after answers is written put
+headline (Some held) stands (Some (check dir settings)) answer code before after answers is written put = λ done. checked_tells answer (sym is ∙ done) held dir settings before after answers put

@@ -1,8 +1,12 @@
+pub mod BoundFacts
+pub mod CheckedFacts
 pub mod Contents
 pub mod FrontFacts
 pub mod HeadlineFacts
 pub mod OneAnswer
+pub mod OneChecking
 pub mod OneGathering
+pub mod OneJudging
 pub mod Others
 pub mod Parts
 pub mod Pieces

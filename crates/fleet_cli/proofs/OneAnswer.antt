@@ -1,21 +1,15 @@
 -- What is held and what is asked fix the answer.
-use Rattle.std.proofs.Common.{◌≡◌, ◌⊎◌, ℕ, List, Option, Some, None, IfSome, refl, sym, ap, subst, ◌∙◌, inl, inr, arith}
-use Rattle.csv_fields.specs.Record.{records_of}
+use Rattle.std.proofs.Common.{◌≡◌, ℕ, List, Option, Some, None, IfSome, refl, sym, ap, subst, ◌∙◌, inl, inr, arith}
 use Rattle.fleet_model.specs.declared.parts.Settings.{Settings}
-use Rattle.fleet_model.specs.declared.refusals.TheConstants.{TOO_LONG}
-use Rattle.fleet_model.specs.declared.tables.Tables.{Tables}
 use Rattle.fleet_model.specs.Legal.{total_cost}
 use Rattle.plan_desk.specs.Desk.{Files}
 use Rattle.plan_desk.specs.Sink.{output_with}
-use Rattle.plan_desk.specs.declared.file.DeskFile.{DeskFile}
 use Rattle.plan_judge.specs.declared.verdicts.Verdict.TheVariants as verdict
-use Rattle.plan_judge.proofs.OneVerdict.{one_verdict}
-use Rattle.plan_text.proofs.ReadOrNot.{reads_or_not}
 use Rattle.sched_read.proofs.ReadLaws as tables
-use Rattle.sched_read.specs.Reading.{TableBytes}
-use Rattle.fleet_cli.proofs.OneGathering.{held_or_too_long, one_holding, one_too_long}
-use Rattle.fleet_cli.specs.Answer.{Answers, AnswersContents, AnswersPlan, JudgesContents, JudgesPlan, RefusesLength, RefusesPlan, RefusesTables, SolvesContents, judge_files, plan_bytes, says, table_bytes, table_files, verdict_status}
-use Rattle.fleet_cli.specs.Gathered.{AllHeld, FirstTooLong}
+use Rattle.fleet_cli.proofs.OneChecking.{one_check, proof_answer}
+use Rattle.fleet_cli.proofs.OneGathering.{held_or_too_long, one_holding}
+use Rattle.fleet_cli.proofs.OneJudging.{files_answer, judges_contents, refuses_tables}
+use Rattle.fleet_cli.specs.Answer.{Answers, JudgesContents, SolvesContents, judge_files, says, table_bytes, table_files}
 use Rattle.fleet_cli.specs.Laws.{IsFixed}
 use Rattle.fleet_cli.specs.Run.{AnswersExactly, IsComplete, IsSolution, LegalThere, TablesThere}
 use Rattle.fleet_cli.specs.Summary.{solved_status}
@@ -23,8 +17,8 @@ use Rattle.fleet_cli.specs.declared.solver.Solved.{Solved}
 use Rattle.fleet_cli.specs.declared.solver.Solved.TheVariants as solved
 use Rattle.fleet_cli.specs.declared.answer.Answer.{Answer}
 use Rattle.fleet_cli.specs.declared.status.TheConstants.{BAD_INPUT, DONE}
-use Rattle.fleet_cli.specs.Texts.{bad_input_text, verdict_text}
-use Rattle.command_words.specs.Words.{Asked, judge, solve}
+use Rattle.fleet_cli.specs.Texts.{verdict_text}
+use Rattle.command_words.specs.Words.{Asked, check, judge, solve}
 use Rattle.command_words.specs.declared.command.SearchLimits.{SearchLimits}
 use Rattle.bound_cert.specs.Leaves.{has_open}
 use Rattle.std.proofs.lemmas.Bool.{cases_Bool}
@@ -47,73 +41,19 @@ not_refused code (inr (inr (inr is))) refused = let bad : ◌≡◌ {A = ℕ} 5 
 never_refused : (s : Solved) → ¬ (solved_status s ≡ BAD_INPUT)
 never_refused s refused = not_refused (solved_status s) (solution_status s) refused
 
-module _ (answer other : Answer) where
-  module _ (t : Tables) (bytes : List ℕ) where
-    refuses_plan : RefusesPlan t bytes answer → RefusesPlan t bytes other → answer ≡ other
-    refuses_plan x y =
-        let same = (reads_or_not t (records_of bytes)).one_fault x.row x.kind y.row y.kind x.bad y.bad in
-        x.is ∙ rw (same.0, same.1) refl ∙ sym y.is
-
-    judges_plan : JudgesPlan t bytes answer → JudgesPlan t bytes other → answer ≡ other
-    judges_plan x y =
-        let plans = (reads_or_not t (records_of bytes)).one_plan x.plan y.plan x.reads y.reads in
-        let verdicts = one_verdict t y.plan x.verdict y.verdict (rw plans at x.judged) y.judged in
-        x.is ∙ ap (λ plan. says (verdict_status x.verdict) (verdict_text t plan x.verdict)) plans ∙ ap (λ v. says (verdict_status v) (verdict_text t y.plan v)) verdicts ∙ sym y.is
-
-    never : {a b : Answer} → RefusesPlan t bytes a → JudgesPlan t bytes b → ⊥
-    never x y = (reads_or_not t (records_of bytes)).not_both y.plan x.row x.kind y.reads x.bad
-
-    plan_answer : RefusesPlan t bytes answer ⊎ JudgesPlan t bytes answer → RefusesPlan t bytes other ⊎ JudgesPlan t bytes other → answer ≡ other
-    plan_answer (inl x) (inl y) = refuses_plan x y
-    plan_answer (inl x) (inr y) = absurd (never x y)
-    plan_answer (inr x) (inl y) = absurd (never y x)
-    plan_answer (inr x) (inr y) = judges_plan x y
-
-  module _ (settings : Settings) where
-    pub refuses_tables : (bytes : TableBytes) → RefusesTables bytes settings answer → RefusesTables bytes settings other → answer ≡ other
-    refuses_tables bytes x y =
-        let same = tables.one_first_fault bytes settings x.file y.file x.row y.row x.kind y.kind x.bad y.bad in
-        x.is ∙ rw (same.file_is, same.row_is, same.kind_is) refl ∙ sym y.is
-
-    answers_plan : (bytes : TableBytes) (plan : List ℕ) → AnswersPlan bytes settings plan answer → AnswersPlan bytes settings plan other → answer ≡ other
-    answers_plan bytes plan x y =
-        let same = tables.one_reading bytes settings x.tables y.tables x.reads y.reads in
-        plan_answer y.tables plan (subst (λ t. RefusesPlan t plan answer ⊎ JudgesPlan t plan answer) same x.answers) y.answers
-
-    solves_contents : (limits : SearchLimits) → other.status.code ≡ BAD_INPUT → (contents : List (List ℕ)) → SolvesContents settings limits contents answer → SolvesContents settings limits contents other → answer ≡ other
-    solves_contents limits refused contents (inl x) (inl y) = refuses_tables (table_bytes contents) x y
-    solves_contents limits refused contents (inl x) (inr y) = absurd (tables.reads_no_fault (table_bytes contents) settings y.tables x.file x.row x.kind y.reads x.bad)
-    solves_contents limits refused contents (inr x) (inl y) = absurd (tables.reads_no_fault (table_bytes contents) settings x.tables y.file y.row y.kind x.reads y.bad)
-    solves_contents limits refused contents (inr x) (inr y) = absurd (never_refused y.gives.solution (sym (ap (λ (a : Answer). a.status.code) y.gives.is) ∙ refused))
-
-    judges_contents : (contents : List (List ℕ)) → JudgesContents settings contents answer → JudgesContents settings contents other → answer ≡ other
-    judges_contents contents (inl x) (inl y) = refuses_tables (table_bytes contents) x y
-    judges_contents contents (inl x) (inr y) = absurd (tables.reads_no_fault (table_bytes contents) settings y.tables x.file x.row x.kind y.reads x.bad)
-    judges_contents contents (inr x) (inl y) = absurd (tables.reads_no_fault (table_bytes contents) settings x.tables y.file y.row y.kind x.reads y.bad)
-    judges_contents contents (inr x) (inr y) = answers_plan (table_bytes contents) (plan_bytes contents) x y
-
-  -- files that are read are too long or hold one list of contents, so answers by contents are fixed by it
-  module _ (held : Files) (dir : List ℕ) (names : List DeskFile) (by_contents : List (List ℕ) → Answer → Type 0) where
-    abbrev TooLong : Answer → Type 0
-    TooLong a = RefusesLength (FirstTooLong held dir names) a
-
-    abbrev Answered : Answer → Type 0
-    Answered a = AnswersContents (AllHeld held dir names) by_contents a
-
-    pub files_answer : ((contents : List (List ℕ)) → by_contents contents answer → by_contents contents other → answer ≡ other) → TooLong answer ⊎ Answered answer → TooLong other ⊎ Answered other → answer ≡ other
-    files_answer fixed (inl x) (inl y) =
-        let same = one_too_long held dir names x.file y.file x.longer y.longer in
-        x.is ∙ ap (λ f. says BAD_INPUT (bad_input_text f 0 TOO_LONG)) same ∙ sym y.is
-    files_answer fixed (inl x) (inr y) = absurd (held_or_too_long held dir names x.file y.contents x.longer y.held)
-    files_answer fixed (inr x) (inl y) = absurd (held_or_too_long held dir names y.file x.contents y.longer x.held)
-    files_answer fixed (inr x) (inr y) =
-        let same = one_holding held dir names x.contents y.contents x.held y.held in
-        fixed y.contents (subst (λ c. by_contents c answer) same x.answers) y.answers
+module _ (answer other : Answer) (settings : Settings) where
+  solves_contents : (limits : SearchLimits) → other.status.code ≡ BAD_INPUT → (contents : List (List ℕ)) → SolvesContents settings limits contents answer → SolvesContents settings limits contents other → answer ≡ other
+  solves_contents limits refused contents (inl x) (inl y) = refuses_tables answer other settings (table_bytes contents) x y
+  solves_contents limits refused contents (inl x) (inr y) = absurd (tables.reads_no_fault (table_bytes contents) settings y.tables x.file x.row x.kind y.reads x.bad)
+  solves_contents limits refused contents (inr x) (inl y) = absurd (tables.reads_no_fault (table_bytes contents) settings x.tables y.file y.row y.kind x.reads y.bad)
+  solves_contents limits refused contents (inr x) (inr y) = absurd (never_refused y.gives.solution (sym (ap (λ (a : Answer). a.status.code) y.gives.is) ∙ refused))
 
 pub one_answer : (held : Files) (asked : Option Asked) (answer other : Answer) → Answers held asked answer → Answers held asked other → IsFixed asked other → answer ≡ other
 one_answer held None answer other x y fixed = x ∙ sym y
-one_answer held (Some (judge dir settings)) answer other x y fixed = files_answer answer other held dir judge_files (JudgesContents settings) (judges_contents answer other settings) x y
-one_answer held (Some (solve dir settings limits)) answer other x y fixed = files_answer answer other held dir table_files (SolvesContents settings limits) (solves_contents answer other settings limits fixed) x y
+one_answer held (Some (judge dir settings)) answer other x y fixed = files_answer answer other held dir judge_files (JudgesContents settings) (JudgesContents settings) (judges_contents answer other settings) x y
+one_answer held (Some (solve dir settings limits)) answer other x y fixed =
+    files_answer answer other held dir table_files (SolvesContents settings limits) (SolvesContents settings limits) (solves_contents answer other settings limits fixed) x y
+one_answer held (Some (check dir settings)) answer other x y fixed = one_check held dir settings answer other x y
 
 -- what was put is the definition's answer
 pub exactly : (told : Option Files) (asked : Option Asked) (answer : Answer) (code : ℕ) (before after : Option (List ℕ)) → IfSome told (λ held. Answers held asked answer)
@@ -156,6 +96,9 @@ complete_there held (Some (judge dir settings)) answer answers = λ legal.
     let right = legal_answer held dir settings legal in
     ap (λ (a : Answer). a.status.code) (one_answer held (Some (judge dir settings)) answer (says DONE right.0) answers right.1 tt)
 complete_there held (Some (solve dir settings limits)) answer answers = solved_there held dir settings limits answer answers
+complete_there held (Some (check dir settings)) answer answers = λ proof.
+    let right = proof_answer held dir settings proof in
+    ap (λ (a : Answer). a.status.code) (one_answer held (Some (check dir settings)) answer (says DONE right.0) answers right.1 tt)
 
 pub complete : (told : Option Files) (asked : Option Asked) (answer : Answer) (code : ℕ) → IfSome told (λ held. Answers held asked answer) → code ≡ answer.status.code
     → IfSome told (λ held. IsComplete held asked code)

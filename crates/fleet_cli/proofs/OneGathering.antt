@@ -1,5 +1,5 @@
 -- Files hold one list of contents at most, or have one first that is too long, and not both.
-use Rattle.std.proofs.Common.{◌≡◌, ℕ, ◌<◌, List, [], length, get_or, Some, IsSomeAnd, sym, ap, subst, ◌∙◌, inl, inr, arith}
+use Rattle.std.proofs.Common.{◌≡◌, ℕ, ◌<◌, ◌≤◌, List, [], length, get_or, Some, IsSomeAnd, sym, ap, subst, ◌∙◌, inl, inr, arith}
 use Rattle.std.proofs.lemmas.Bool.{cases_order}
 use Rattle.std.proofs.lemmas.List.{get_or_default, same_lists}
 use Rattle.std.proofs.lemmas.Option.{same_Some}
@@ -7,8 +7,7 @@ use Rattle.plan_desk.specs.Desk.{Files}
 use Rattle.plan_desk.specs.DeskFile.{path_of}
 use Rattle.plan_desk.specs.declared.file.DeskFile.{DeskFile}
 use Rattle.plan_desk.specs.declared.file.DeskFile.TheVariants as file
-use Rattle.plan_desk.specs.declared.file.TheConstants.{TABLE_LIMIT}
-use Rattle.fleet_cli.specs.Gathered.{AllHeld, FirstTooLong, FrontHeld}
+use Rattle.fleet_cli.specs.Gathered.{AllHeld, FirstTooLong, FrontHeld, limit_of}
 
 module _ (held : Files) (dir : List ℕ) (names : List DeskFile) where
   same_bytes : (a b : List (List ℕ)) → FrontHeld held dir names a → FrontHeld held dir names b → (k : ℕ) → k < length a → k < length b → get_or a k [] ≡ get_or b k []
@@ -23,8 +22,8 @@ module _ (held : Files) (dir : List ℕ) (names : List DeskFile) where
   no_longer : (long : DeskFile) (x : FirstTooLong held dir names long) (contents : List (List ℕ)) → FrontHeld held dir names contents → ¬ (length x.before < length contents)
   no_longer long x contents front within =
       let there : held (path_of dir long) ≡ Some (get_or contents (length x.before) []) = ap (λ f. held (path_of dir f)) (x.is long) ∙ front.bytes (length x.before) long within in
-      let longer : TABLE_LIMIT < length (get_or contents (length x.before) []) = subst (λ o. IsSomeAnd o (λ bytes. TABLE_LIMIT < length bytes)) there x.too_long in
-      let short = front.within (length x.before) within in
+      let longer : limit_of long < length (get_or contents (length x.before) []) = subst (λ o. IsSomeAnd o (λ bytes. limit_of long < length bytes)) there x.too_long in
+      let short : length (get_or contents (length x.before) []) ≤ limit_of long = rw (x.is long) (front.within (length x.before) long within) in
       omega arith
 
   pub held_or_too_long : (long : DeskFile) (contents : List (List ℕ)) → FirstTooLong held dir names long → ¬ (AllHeld held dir names contents)

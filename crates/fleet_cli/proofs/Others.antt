@@ -1,18 +1,20 @@
 -- Names that keep what they hold.
-use Rattle.std.proofs.Common.{◌≡◌, ◌≢◌, ◌⊎◌, ℕ, suc, List, [], ◌∷◌, take, All, Option, Some, None, IfSome, inl, inr, refl, sym, ap, ◌∙◌, arith}
+use Rattle.std.proofs.Common.{◌≡◌, ◌≢◌, ◌⊎◌, ℕ, suc, Bool, true, false, List, [], ◌∷◌, take, All, Option, Some, None, IfSome, inl, inr, refl, sym, ap, ◌∙◌, arith}
 use Rattle.std.specs.Str.{bytes_eq}
 use Rattle.std.proofs.lemmas.List.Elements.{All-from_recursion, All-take}
 use Rattle.std.proofs.lemmas.Map.{update_other}
 use Rattle.table_rows.proofs.Numbered.{bytes_eq-differ}
-use Rattle.command_words.specs.Words.{Asked, judge, solve}
+use Rattle.command_words.specs.Words.{Asked, check, judge, solve}
 use Rattle.command_words.specs.declared.command.SearchLimits.{SearchLimits}
+use Rattle.bound_cert.specs.declared.trees.Tree.{Tree}
 use Rattle.fleet_model.specs.declared.parts.Settings.{Settings}
 use Rattle.fleet_model.specs.declared.tables.Tables.{Tables}
 use Rattle.plan_desk.specs.Desk.{Files, with_file}
 use Rattle.plan_desk.specs.DeskFile.{path_of}
 use Rattle.plan_desk.specs.declared.file.DeskFile.TheVariants as desk_file
 use Rattle.fleet_cli.proofs.OneAnswer.{solution_status}
-use Rattle.fleet_cli.specs.Answer.{Answers, JudgesContents, JudgesPlan, RefusesPlan, SolvesContents, plan_bytes}
+use Rattle.fleet_cli.specs.Answer.{Answers, ChecksContents, ChecksProof, ChecksWithPlan, JudgesContents, JudgesPlan, ReadsProof, RefusesPlan, RefusesProof, SolvesContents, plan_bytes, plan_files, proof_bytes}
+use Rattle.fleet_cli.specs.Gathered.{AllHeld, FirstTooLong}
 use Rattle.fleet_cli.specs.Run.{IsRefusal, IsSolution, KeepsOthers, folder_of}
 use Rattle.fleet_cli.specs.Summary.{solved_answer, solved_files}
 use Rattle.fleet_cli.specs.Written.{StandsAfter, no_text, text_name, under, with_texts}
@@ -79,6 +81,30 @@ judged_none held dir settings answer (inr read) = by_contents read.contents read
     by_contents contents (inl refused) = ap (λ (a : Answer). a.files) refused.is
     by_contents contents (inr there) = by_plan there.tables (plan_bytes contents) there.answers
 
+checked_none : (held : Files) (dir : List ℕ) (settings : Settings) (answer : Answer) → Answers held (Some (check dir settings)) answer → answer.files ≡ []
+checked_none held dir settings answer (inl long) = ap (λ (a : Answer). a.files) long.is
+checked_none held dir settings answer (inr read) = by_contents read.contents read.answers
+  where
+    by_plan : (t : Tables) (whole : Tree) (contents : List (List ℕ)) → ChecksWithPlan t whole contents answer → answer.files ≡ []
+    by_plan t whole contents (inl refused) = ap (λ (a : Answer). a.files) refused.is
+    by_plan t whole contents (inr plan) = elim plan.answers [
+      | inl refused ↦ ap (λ (a : Answer). a.files) refused.is
+      | inr legal ↦ ap (λ (a : Answer). a.files) legal.checks.is
+    ]
+
+    by_tree : (t : Tables) (planned : Bool) (whole : Tree) → ChecksProof (FirstTooLong held dir plan_files) (AllHeld held dir plan_files) t planned whole answer → answer.files ≡ []
+    by_tree t false whole checks = ap (λ (a : Answer). a.files) checks.is
+    by_tree t true whole (inl long) = ap (λ (a : Answer). a.files) long.is
+    by_tree t true whole (inr there) = by_plan t whole there.contents there.answers
+
+    by_proof : (t : Tables) (bytes : List ℕ) → RefusesProof t bytes answer ⊎ ReadsProof (FirstTooLong held dir plan_files) (AllHeld held dir plan_files) t bytes answer → answer.files ≡ []
+    by_proof t bytes (inl refused) = ap (λ (a : Answer). a.files) refused.is
+    by_proof t bytes (inr proof) = by_tree t proof.proof.planned proof.proof.tree proof.checks
+
+    by_contents : (contents : List (List ℕ)) → ChecksContents (FirstTooLong held dir plan_files) (AllHeld held dir plan_files) settings contents answer → answer.files ≡ []
+    by_contents contents (inl refused) = ap (λ (a : Answer). a.files) refused.is
+    by_contents contents (inr there) = by_proof there.tables (proof_bytes contents) there.answers
+
 -- an answer of `solve` writes nothing, or it is that of a solution
 solved_or_none : (held : Files) (dir : List ℕ) (settings : Settings) (limits : SearchLimits) (answer : Answer) → Answers held (Some (solve dir settings limits)) answer
     → (answer.files ≡ []) ⊎ ((t : Tables) × (s : Solved) × (answer ≡ solved_answer t s))
@@ -96,8 +122,10 @@ pub keeps_others : (told : Option Files) (asked : Option Asked) (answer : Answer
 keeps_others None None answer stands answers after = untold _ _ stands after
 keeps_others None (Some (judge dir settings)) answer stands answers after = untold _ _ stands after
 keeps_others None (Some (solve dir settings limits)) answer stands answers after = λ name plan proof. rw (untold _ _ stands after) refl
+keeps_others None (Some (check dir settings)) answer stands answers after = untold _ _ stands after
 keeps_others (Some held) None answer stands answers after = nothing_by [] answer.files (Some held) stands (ap (λ (a : Answer). a.files) answers) after
 keeps_others (Some held) (Some (judge dir settings)) answer stands answers after = nothing_by dir answer.files (Some held) stands (judged_none held dir settings answer answers) after
+keeps_others (Some held) (Some (check dir settings)) answer stands answers after = nothing_by dir answer.files (Some held) stands (checked_none held dir settings answer answers) after
 keeps_others (Some held) (Some (solve dir settings limits)) answer stands answers after = λ name plan proof. elim (solved_or_none held dir settings limits answer answers) [
   | inl none ↦ rw (nothing_by dir answer.files (Some held) stands none after) refl
   | inr given ↦ keeps_after dir name held answer.files stands (rw given.2 (solved_others given.0 given.1 dir name plan proof)) after
@@ -124,6 +152,7 @@ pub refusal_leaves : (told : Option Files) (asked : Option Asked) (answer : Answ
 refusal_leaves None asked answer code stands answers is refused after = untold _ _ stands after
 refusal_leaves (Some held) None answer code stands answers is refused after = keeps_others (Some held) None answer stands answers after
 refusal_leaves (Some held) (Some (judge dir settings)) answer code stands answers is refused after = keeps_others (Some held) (Some (judge dir settings)) answer stands answers after
+refusal_leaves (Some held) (Some (check dir settings)) answer code stands answers is refused after = keeps_others (Some held) (Some (check dir settings)) answer stands answers after
 refusal_leaves (Some held) (Some (solve dir settings limits)) answer code stands answers is refused after = elim (solved_or_none held dir settings limits answer answers) [
   | inl none ↦ nothing_by dir answer.files (Some held) stands none after
   | inr given ↦ absurd (not_both code (rw (is ∙ ap (λ (a : Answer). a.status.code) given.2) (solution_status given.1)) refused)

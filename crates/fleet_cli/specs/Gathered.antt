@@ -4,7 +4,8 @@ use Rattle.std.specs.declared.alloc.Global.{Global}
 use Rattle.plan_desk.specs.Desk.{Files}
 use Rattle.plan_desk.specs.DeskFile.{path_of}
 use Rattle.plan_desk.specs.declared.file.DeskFile.{DeskFile}
-use Rattle.plan_desk.specs.declared.file.TheConstants.{TABLE_LIMIT}
+use Rattle.plan_desk.specs.declared.file.DeskFile.TheVariants as desk_file
+use Rattle.plan_desk.specs.declared.file.TheConstants.{PROOF_LIMIT, TABLE_LIMIT}
 use Rattle.fleet_cli.specs.declared.gathering.Stop.{Stop}
 use Rattle.fleet_cli.specs.declared.gathering.Stop.TheVariants as stop
 
@@ -16,23 +17,28 @@ contents_of vectors = map (λ vector. vector.items) vectors
 abbrev pub name_at : List ℕ → List DeskFile → ℕ → DeskFile → List ℕ
 name_at dir names k d = path_of dir (slice_index_or names k d)
 
--- the first of these files hold these contents, one each, each within the limit
+-- the most bytes of a file that are read
+unfoldable pub limit_of : DeskFile → ℕ
+limit_of desk_file.Proof = PROOF_LIMIT
+limit_of other = TABLE_LIMIT
+
+-- the first of these files hold these contents, one each, each within its limit
 pub record FrontHeld (held : Files) (dir : List ℕ) (names : List DeskFile) (contents : List (List ℕ)) : Type 0 where
   pub bytes : (k : ℕ) (d : DeskFile) → k < length contents → held (name_at dir names k d) ≡ Some (slice_index_or contents k [])
-  pub within : (k : ℕ) → k < length contents → length (slice_index_or contents k []) ≤ TABLE_LIMIT
+  pub within : (k : ℕ) (d : DeskFile) → k < length contents → length (slice_index_or contents k []) ≤ limit_of (slice_index_or names k d)
 
--- these files hold these contents, each within the limit
+-- these files hold these contents, each within its limit
 pub record AllHeld (held : Files) (dir : List ℕ) (names : List DeskFile) (contents : List (List ℕ)) : Type 0 where
   pub all : length contents ≡ length names
   pub front : FrontHeld held dir names contents
 
--- the first of these files that is longer than the limit: those before it stand there within the limit
+-- the first of these files that is longer than its limit: those before it stand there within theirs
 pub record FirstTooLong (held : Files) (dir : List ℕ) (names : List DeskFile) (file : DeskFile) : Type 0 where
   pub before : List (List ℕ)
   pub place : length before < length names
   pub front : FrontHeld held dir names before
   pub is : (d : DeskFile) → file ≡ slice_index_or names (length before) d
-  pub too_long : IsSomeAnd (held (path_of dir file)) (λ bytes. TABLE_LIMIT < length bytes)
+  pub too_long : IsSomeAnd (held (path_of dir file)) (λ bytes. limit_of file < length bytes)
 
 -- each of these files stands in the folder
 abbrev pub StandThere : List ℕ → List DeskFile → Files → Type 0

@@ -1,6 +1,9 @@
--- What solving leaves: the plan and its cost, the bound, or that nothing is legal, over what the files held and hold.
-use Rattle.std.specs.Prelude.{◌≡◌, ℕ, List, Bool, true, false, Option, Some, None, ⊤}
-use Rattle.command_words.specs.Words.{Asked, judge, solve}
+-- What solving leaves: the plan and its cost, the bound, or that nothing is legal, over what the files held and hold. And
+-- what it means where checking says that a proof holds.
+use Rattle.std.specs.Prelude.{◌≡◌, ℕ, List, Bool, true, false, Option, Some, None, IfSome, IsSomeAnd, ⊤, ℤ, ◌≤ℤ◌}
+use Rattle.cert_check.specs.Verdicts.{BoundsAll}
+use Rattle.cert_check.specs.declared.checked.Checked.TheVariants as checked
+use Rattle.command_words.specs.Words.{Asked, check, judge, solve}
 use Rattle.fleet_model.specs.declared.parts.Settings.{Settings}
 use Rattle.fleet_model.specs.declared.tables.Tables.{Tables}
 use Rattle.bound_cert.specs.ProofText.{proof_text}
@@ -10,13 +13,15 @@ use Rattle.plan_desk.specs.Sink.{output_with}
 use Rattle.plan_desk.specs.declared.file.DeskFile.TheVariants as desk_file
 use Rattle.plan_text.specs.Text.{plan_text}
 use Rattle.sched_read.specs.Reading.{Reads}
-use Rattle.fleet_cli.specs.Answer.{table_bytes, table_files}
+use Rattle.fleet_cli.specs.Answer.{proof_files, table_bytes, table_files}
 use Rattle.fleet_cli.specs.Gathered.{AllHeld}
-use Rattle.fleet_cli.specs.Run.{IsSolution}
+use Rattle.fleet_cli.specs.Run.{IsSolution, PlanThere}
 use Rattle.fleet_cli.specs.Solved.{IsRight, tree_of}
 use Rattle.fleet_cli.specs.Summary.{solved_status, summary_text}
+use Rattle.fleet_cli.specs.Texts.{checked_text}
 use Rattle.fleet_cli.specs.declared.solver.Solved.{Solved}
 use Rattle.fleet_cli.specs.declared.solver.Solved.TheVariants as solved
+use Rattle.fleet_cli.specs.declared.status.TheConstants.{DONE}
 
 -- there is a plan
 abbrev pub is_planned : Solved → Bool
@@ -51,8 +56,29 @@ pub record TellsSolution (held : Files) (told : Option Files) (dir : List ℕ) (
   pub tells : told ≡ Some stands
   pub leaves : LeavesSolution held stands dir settings code before after
 
--- the headline: a run that solves leaves a solution, where its status tells of one
+-- a bound is there, and it is no more than a cost
+abbrev pub IsUnder : Option ℤ → ℤ → Type 0
+IsUnder bound cost = IsSomeAnd bound (λ least. least ≤ℤ cost)
+
+-- The five files read as tables. What was put is the line of a tree that holds: its bound, with the cost of the legal plan
+-- that stands there where one comes with it. No legal assignment undercuts the bound, and with no bound none is legal; so
+-- where there is a cost, there is a bound, and it is no more.
+pub record TellsBound (held : Files) (dir : List ℕ) (settings : Settings) (before after : Option (List ℕ)) : Type 0 where
+  pub contents : List (List ℕ)
+  pub tables : Tables
+  pub cost : Option ℤ
+  pub bound : Option ℤ
+  pub there : AllHeld held dir proof_files contents
+  pub reads : Reads (table_bytes contents) settings tables
+  pub plan : IfSome cost (PlanThere held dir tables)
+  pub proven : BoundsAll tables bound
+  pub under : IfSome cost (IsUnder bound)
+  pub put : after ≡ output_with before (checked_text cost (checked.Holds bound))
+
+-- the headline: a run that solves leaves a solution, where its status tells of one, and one that checks tells a bound that
+-- is proved, where it says that a proof holds
 abbrev pub Headline : Files → Option Asked → ℕ → Option Files → Option (List ℕ) → Option (List ℕ) → Type 0
 Headline held None code told before after = ⊤
 Headline held (Some (judge dir settings)) code told before after = ⊤
+Headline held (Some (check dir settings)) code told before after = code ≡ DONE → TellsBound held dir settings before after
 Headline held (Some (solve dir settings limits)) code told before after = IsSolution code → TellsSolution held told dir settings code before after

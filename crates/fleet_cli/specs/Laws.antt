@@ -2,7 +2,7 @@
 use Rattle.std.specs.Prelude.{◌≡◌, Option, Some, None, ⊤}
 use Rattle.plan_desk.specs.Desk.{Files}
 use Rattle.fleet_cli.specs.Answer.{Answers}
-use Rattle.command_words.specs.Words.{Asked, judge, solve}
+use Rattle.command_words.specs.Words.{Asked, check, judge, solve}
 use Rattle.fleet_cli.specs.declared.answer.Answer.{Answer}
 use Rattle.fleet_cli.specs.declared.status.TheConstants.{BAD_INPUT}
 
@@ -11,6 +11,7 @@ abbrev pub IsFixed : Option Asked → Answer → Type 0
 IsFixed None answer = ⊤
 IsFixed (Some (judge dir settings)) answer = ⊤
 IsFixed (Some (solve dir settings limits)) answer = answer.status.code ≡ BAD_INPUT
+IsFixed (Some (check dir settings)) answer = ⊤
 
 -- what is held and what is asked fix the answer
 abbrev pub OneAnswer : Type 0

@@ -3,6 +3,7 @@ pub mod Failed
 pub mod Gathered
 pub mod Headline
 pub mod Laws
+pub mod Opened
 pub mod Run
 pub mod Solved
 pub mod Summary

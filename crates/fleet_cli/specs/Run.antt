@@ -1,7 +1,10 @@
 -- What a run leaves.
-use Rattle.std.specs.Prelude.{◌≡◌, ◌≢◌, ◌⊎◌, ℕ, List, [], Option, Some, None, IfSome, ⊤}
+use Rattle.std.specs.Prelude.{◌≡◌, ◌≢◌, ◌⊎◌, ℕ, Bool, true, false, List, [], slice_index_or, ℤ, Option, Some, None, IfSome, ⊤}
+use Rattle.bound_cert.specs.ReadProof.{ReadsAs}
+use Rattle.bound_cert.specs.declared.reading.Proof.{Proof}
+use Rattle.cert_check.specs.Verdicts.{HoldsWith}
 use Rattle.csv_fields.specs.Record.{records_of}
-use Rattle.fleet_model.specs.Legal.{IsLegal}
+use Rattle.fleet_model.specs.Legal.{IsLegal, total_cost}
 use Rattle.fleet_model.specs.declared.parts.Settings.{Settings}
 use Rattle.fleet_model.specs.declared.tables.Tables.{Tables}
 use Rattle.plan_desk.specs.Desk.{Files}
@@ -11,11 +14,11 @@ use Rattle.plan_desk.specs.declared.file.DeskFile.{DeskFile}
 use Rattle.plan_desk.specs.declared.file.DeskFile.TheVariants as desk_file
 use Rattle.plan_text.specs.Reading.{PlanReads}
 use Rattle.sched_read.specs.Reading.{Reads}
-use Rattle.fleet_cli.specs.Answer.{Answers, AnswersSome, judge_files, plan_bytes, table_bytes, table_files}
+use Rattle.fleet_cli.specs.Answer.{Answers, AnswersSome, judge_files, plan_bytes, plan_files, proof_bytes, proof_files, table_bytes, table_files}
 use Rattle.fleet_cli.specs.Gathered.{AllHeld}
 use Rattle.fleet_cli.specs.Laws.{IsFixed}
 use Rattle.fleet_cli.specs.Texts.{fault_text}
-use Rattle.command_words.specs.Words.{Asked, judge, solve}
+use Rattle.command_words.specs.Words.{Asked, check, judge, solve}
 use Rattle.fleet_cli.specs.Written.{WritesPart, held_with_texts, under}
 use Rattle.fleet_cli.specs.declared.answer.Answer.{Answer}
 use Rattle.fleet_cli.specs.declared.status.TheConstants.{BAD_INPUT, DONE, FAULT, GAP, INFEASIBLE, NO_MEMORY, REFUSED, UNSETTLED, USAGE}
@@ -25,6 +28,7 @@ abbrev pub folder_of : Option Asked → List ℕ
 folder_of None = []
 folder_of (Some (judge dir settings)) = dir
 folder_of (Some (solve dir settings limits)) = dir
+folder_of (Some (check dir settings)) = dir
 
 -- a fact of every status but a fault and want of memory
 abbrev pub IsAnswered : ℕ → Type 0 → Type 0
@@ -68,15 +72,45 @@ pub record TablesThere (held : Files) (dir : List ℕ) (settings : Settings) : T
   pub there : AllHeld held dir table_files contents
   pub reads : Reads (table_bytes contents) settings tables
 
+-- a plan stands in the folder that reads on the tables and is legal
+pub record PlanThere (held : Files) (dir : List ℕ) (t : Tables) (cost : ℤ) : Type 0 where
+  pub contents : List (List ℕ)
+  pub plan : List ℕ
+  pub there : AllHeld held dir plan_files contents
+  pub reads : PlanReads t (records_of (slice_index_or contents 0 [])) plan
+  pub legal : IsLegal t plan
+  pub costs : cost ≡ total_cost t plan
+
+-- the cost of the plan that comes with a proof, where one does
+abbrev pub IsCostThere : Files → List ℕ → Tables → Bool → Option ℤ → Type 0
+IsCostThere held dir t planned None = planned ≡ false
+IsCostThere held dir t planned (Some cost) = (planned ≡ true) × PlanThere held dir t cost
+
+-- the files of a folder are tables that read, and a proof that reads on them and whose tree holds, with a legal plan
+-- where it says that one comes with it
+pub record ProofThere (held : Files) (dir : List ℕ) (settings : Settings) : Type 0 where
+  pub contents : List (List ℕ)
+  pub tables : Tables
+  pub proof : Proof
+  pub cost : Option ℤ
+  pub bound : Option ℤ
+  pub there : AllHeld held dir proof_files contents
+  pub reads : Reads (table_bytes contents) settings tables
+  pub proof_reads : ReadsAs tables (proof_bytes contents) proof
+  pub plan : IsCostThere held dir tables proof.planned cost
+  pub holds : HoldsWith tables cost proof.tree bound
+
 -- a status that tells of a solution
 abbrev pub IsSolution : ℕ → Type 0
 IsSolution code = (code ≡ DONE) ⊎ (code ≡ GAP) ⊎ (code ≡ INFEASIBLE) ⊎ (code ≡ UNSETTLED)
 
--- what is good is never refused: a legal plan on tables that read is judged so, and tables that read are solved
+-- what is good is never refused: a legal plan on tables that read is judged so, tables that read are solved, and a
+-- proof that holds is said to hold
 abbrev pub IsComplete : Files → Option Asked → ℕ → Type 0
 IsComplete held None code = ⊤
 IsComplete held (Some (judge dir settings)) code = LegalThere held dir settings → code ≡ DONE
 IsComplete held (Some (solve dir settings limits)) code = TablesThere held dir settings → IsSolution code
+IsComplete held (Some (check dir settings)) code = ProofThere held dir settings → code ≡ DONE
 
 -- an answer that is right of some contents, all of which was put
 pub record SomeInFull (longer : Type 0) (asked : Option Asked) (code : ℕ) (before after : Option (List ℕ)) : Type 0 where
@@ -117,5 +151,6 @@ IsRefusal code = (code ≡ USAGE) ⊎ (code ≡ BAD_INPUT) ⊎ (code ≡ REFUSED
 abbrev pub KeepsOthers : Option Asked → Option Files → Option Files → Type 0
 KeepsOthers None told stands = stands ≡ told
 KeepsOthers (Some (judge dir settings)) told stands = stands ≡ told
+KeepsOthers (Some (check dir settings)) told stands = stands ≡ told
 KeepsOthers (Some (solve dir settings limits)) told stands =
     (name : List ℕ) → name ≢ path_of dir desk_file.Plan → name ≢ path_of dir desk_file.Proof → under stands name ≡ under told name

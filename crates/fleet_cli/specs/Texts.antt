@@ -1,7 +1,9 @@
 -- What a run prints.
-use Rattle.std.specs.Prelude.{ℕ, zero, suc, List, [], ◌∷◌, ◌++◌, codes}
+use Rattle.std.specs.Prelude.{ℕ, zero, suc, List, [], ◌∷◌, ◌++◌, codes, ℤ, Option, Some, None}
 use Rattle.std.specs.List.{concat}
 use Rattle.std.specs.Fmt.{decimal, signed_decimal}
+use Rattle.cert_check.specs.declared.checked.Checked.{Checked}
+use Rattle.cert_check.specs.declared.checked.Checked.TheVariants as checked
 use Rattle.fleet_model.specs.declared.tables.Tables.{Tables}
 use Rattle.fleet_model.specs.declared.refusals.TableFile.{TableFile}
 use Rattle.fleet_model.specs.declared.refusals.TableFile.TheVariants as table
@@ -38,6 +40,9 @@ bad_input_text f row kind = line_of (codes "bad input: " ∷ file_name f ∷ cod
 abbrev pub plan_refused_text : ℕ → ℕ → List ℕ
 plan_refused_text row kind = line_of (codes "plan refused: record " ∷ decimal row ∷ codes " kind " ∷ decimal kind ∷ [])
 
+abbrev pub proof_refused_text : ℕ → ℕ → List ℕ
+proof_refused_text line kind = line_of (codes "proof refused: line " ∷ decimal line ∷ codes " kind " ∷ decimal kind ∷ [])
+
 -- a fleet's aircraft, used and there
 abbrev pub fleet_line : Tables → List ℕ → ℕ → List ℕ
 fleet_line t a f = line_of (codes "fleet " ∷ (fleet_of t f).name ∷ codes ": used " ∷ decimal (used_of t (weights_of a) f) ∷ codes " of " ∷ decimal (fleet_of t f).aircraft ∷ [])
@@ -55,3 +60,15 @@ verdict_text t a (verdict.Unbalanced f s came left) =
 verdict_text t a (verdict.TooMany f used has) =
     line_of (codes "too many: " ∷ (fleet_of t f).name ∷ codes " used " ∷ decimal used ∷ codes " of " ∷ decimal has ∷ [])
 verdict_text t a (verdict.Legal cost) = line_of (codes "legal: cost " ∷ signed_decimal cost ∷ []) ++ fleet_lines t a (fleets_in t)
+
+-- the bound of a tree that holds, with the plan's cost where one comes with it
+abbrev pub bound_text : Option ℤ → ℤ → List ℕ
+bound_text (Some cost) bound = line_of (codes "holds: cost " ∷ signed_decimal cost ∷ codes " bound " ∷ signed_decimal bound ∷ [])
+bound_text None bound = line_of (codes "holds: bound " ∷ signed_decimal bound ∷ [])
+
+-- what is printed of a tree that comes with a plan of this cost, or with none; where it holds without a bound, no plan
+-- can come with it, for nothing is legal
+abbrev pub checked_text : Option ℤ → Checked → List ℕ
+checked_text cost (checked.Holds (Some bound)) = bound_text cost bound
+checked_text cost (checked.Holds None) = line_of (codes "holds: infeasible" ∷ [])
+checked_text cost (checked.Broken node rule) = line_of (codes "broken: node " ∷ decimal node ∷ codes " rule " ∷ decimal rule ∷ [])

@@ -10,6 +10,7 @@ ghost use Rattle.fleet_cli.specs.declared.status.TheConstants.{USAGE};
 ghost use Rattle.fleet_cli.specs.Run.{IsEnd, folder_of};
 
 use crate::answer::{Answer, Failure};
+use crate::checking::check_folder;
 use crate::judging::judge_folder;
 use crate::solving::solve_folder;
 use crate::status::USAGE;
@@ -61,6 +62,12 @@ pub fn reply_to<'a, D: Desk>(
             Ok(answer) => Ok(Reply { dir, answer }),
             Err(failure) => Err(failure),
         },
+        Ok(Some(Command::Check { dir, settings })) => {
+            match check_folder(alloc, desk, dir, settings) {
+                Ok(answer) => Ok(Reply { dir, answer }),
+                Err(failure) => Err(failure),
+            }
+        }
         Ok(None) => Ok(Reply {
             dir: "",
             answer: usage(alloc)?,

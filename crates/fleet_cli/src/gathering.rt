@@ -1,12 +1,12 @@
 //! Reading the files of a command, in their order.
 ghost use Rattle.std.specs.Prelude.{◌≡◌, ◌+◌, ◌<◌, ◌≤◌, ℕ, Some, IfSome, IsSome, IsSomeAnd, length, ⊤};
-ghost use Rattle.fleet_cli.specs.Gathered.{AllHeld, FirstTooLong, MatchStop, StandThere, contents_of};
+ghost use Rattle.fleet_cli.specs.Gathered.{AllHeld, FirstTooLong, MatchStop, StandThere, contents_of, limit_of};
 ghost use Rattle.fleet_cli.specs.declared.gathering.Stop.TheVariants as stop;
 ghost use Rattle.plan_desk.specs.Counts.{Rose, RoseBy};
 ghost use Rattle.plan_desk.specs.DeskFile.{path_of};
-ghost use Rattle.plan_desk.specs.declared.file.TheConstants.{TABLE_LIMIT};
+ghost use Rattle.plan_desk.specs.declared.file.TheConstants.{PROOF_LIMIT, TABLE_LIMIT};
 
-use plan_desk::{Desk, DeskError, DeskFile, TABLE_LIMIT};
+use plan_desk::{Desk, DeskError, DeskFile, PROOF_LIMIT, TABLE_LIMIT};
 use std::alloc::{AllocFailed, Global};
 
 /// Why a run ends before it has an answer.
@@ -27,7 +27,7 @@ impl<T: Drop> From<AllocFailed<T>> for Stop {
     }
 }
 
-/// What the files of a folder hold, each within the limit of tables, in the order of the list.
+/// What the files of a folder hold, each within its limit, in the order of the list.
 pub fn read_all<D: Desk>(
     alloc: Global,
     desk: &mut D,
@@ -38,6 +38,7 @@ pub fn read_all<D: Desk>(
         (λ contents. AllHeld held dir.now files.now (contents_of contents.items)) ⊤ (FirstTooLong held dir.now files.now) ⊤) }
     ensures count { MatchStop result (λ contents. length contents.items ≡ length files.now) ⊤ (λ _. ⊤) ⊤ }
     ensures too_long_taken { MatchStop result (λ _. ⊤) ⊤ (λ _. RoseBy (TABLE_LIMIT + 1) (D.taken desk.old) (D.taken desk.new)) ⊤ }
+    ensures taken { D.taken desk.old ≤ D.taken desk.new }
     ensures holds { D.holds desk.new ≡ D.holds desk.old }
 
     // The count rises exactly with a fault, and then a file is blamed.
@@ -55,7 +56,7 @@ pub fn read_all<D: Desk>(
     Ok(contents)
 }
 
-/// What one file of a folder holds, within the limit of tables.
+/// What one file of a folder holds, within its limit.
 fn read_one<D: Desk>(
     alloc: Global,
     desk: &mut D,
@@ -63,8 +64,8 @@ fn read_one<D: Desk>(
     file: DeskFile,
 ) -> Result<Vec<u8>, Stop>
     ensures told { IfSome (D.holds desk.old) (λ held. MatchStop result (λ bytes. held (path_of dir.now file) ≡ Some bytes.items) ⊤
-        (λ long. IsSomeAnd (held (path_of dir.now file)) (λ bytes. TABLE_LIMIT < length bytes)) ⊤) }
-    ensures within { MatchStop result (λ bytes. length bytes.items ≤ TABLE_LIMIT) ⊤ (λ long. long ≡ file) ⊤ }
+        (λ long. IsSomeAnd (held (path_of dir.now file)) (λ bytes. limit_of file < length bytes)) ⊤) }
+    ensures within { MatchStop result (λ bytes. length bytes.items ≤ limit_of file) ⊤ (λ long. long ≡ file) ⊤ }
     ensures too_long_taken { MatchStop result (λ _. ⊤) ⊤ (λ _. RoseBy (TABLE_LIMIT + 1) (D.taken desk.old) (D.taken desk.new)) ⊤ }
     ensures taken { D.taken desk.old ≤ D.taken desk.new }
     ensures holds { D.holds desk.new ≡ D.holds desk.old }
@@ -74,10 +75,28 @@ fn read_one<D: Desk>(
     ensures steady { D.is_steady desk.old → IsSomeAnd (D.holds desk.old) (λ held. IsSome (held (path_of dir.now file))) → MatchStop result (λ _. ⊤) ⊥ (λ _. ⊤) ⊤ }
     ensures stays_steady { D.is_steady desk.old → D.is_steady desk.new }
 {
-    match desk.read(alloc, dir, file, TABLE_LIMIT) {
+    match desk.read(alloc, dir, file, limit_of(file)) {
         Ok(bytes) => Ok(bytes),
         Err(DeskError::Failed) => Err(Stop::Fault),
         Err(DeskError::TooLong) => Err(Stop::TooLong { file }),
         Err(DeskError::NoMemory) => Err(Stop::NoMemory),
+    }
+}
+
+/// The most bytes of a file that are read.
+#[tactic(auto, unfolding(crate::specs::Gathered::limit_of))]
+fn limit_of(file: DeskFile) -> u64
+    ensures limit { result ≡ limit_of file }
+    ensures table { result < PROOF_LIMIT → result ≡ TABLE_LIMIT }
+{
+    match file {
+        DeskFile::Proof => PROOF_LIMIT,
+        DeskFile::Stations
+        | DeskFile::Fleets
+        | DeskFile::Legs
+        | DeskFile::Costs
+        | DeskFile::Throughs
+        | DeskFile::Plan
+        | DeskFile::Rotation => TABLE_LIMIT,
     }
 }

@@ -1,21 +1,24 @@
 //! The command `judge`: the verdict on the plan of a folder.
 ghost use Rattle.std.specs.Prelude.{◌≡◌, ◌⊎◌, ◌+◌, Some, IfOk, IfSome, IsSome, IsSomeAnd, length, ⊤};
-ghost use Rattle.fleet_cli.specs.Answer.{Answers, AnswersSome, JudgesContents, JudgesPlan, RefusesPlan, judge_files, verdict_status};
+ghost use Rattle.fleet_cli.specs.Answer.{Answers, AnswersSome, JudgesContents, JudgesPlan, RefusesPlan, judge_files, says, verdict_status};
 ghost use Rattle.fleet_cli.specs.Failed.{MatchFailure};
 ghost use Rattle.fleet_cli.specs.Gathered.{StandThere, contents_of};
 ghost use Rattle.fleet_cli.specs.Run.{IsEnd};
+ghost use Rattle.fleet_cli.specs.Texts.{verdict_text};
 ghost use Rattle.command_words.specs.Words.{judge};
+ghost use Rattle.fleet_model.specs.Legal.{IsAssignment};
 ghost use Rattle.fleet_model.specs.Limits.{AreSettings};
 ghost use Rattle.plan_desk.specs.Counts.{Rose, RoseBy};
 ghost use Rattle.plan_desk.specs.declared.file.TheConstants.{TABLE_LIMIT};
+ghost use Rattle.plan_judge.specs.Verdicts.{IsVerdict};
 
 use crate::answer::{Answer, Failure};
 use crate::gathering::{Stop, read_all};
-use crate::refusing::{tables_refused, too_long};
+use crate::refusing::{plan_fault, tables_refused, too_long};
 use crate::status::{DONE, REFUSED};
-use crate::texts::{plan_refused, verdict_lines};
+use crate::texts::verdict_lines;
 use entries::NoMemory;
-use fleet_model::{LoadError, Settings, Tables};
+use fleet_model::{Assignment, LoadError, Settings, Tables};
 use plan_desk::{Desk, DeskFile};
 use plan_judge::{Verdict, judge};
 use plan_text::{PlanError, read_plan};
@@ -88,17 +91,25 @@ fn judge_plan(alloc: Global, tables: &Tables, bytes: &[u8]) -> Result<Answer, No
     ensures { IfOk result (λ answer. RefusesPlan tables.now bytes.now answer ⊎ JudgesPlan tables.now bytes.now answer) }
 {
     match read_plan(alloc, tables, bytes) {
-        Ok(plan) => {
-            let verdict = judge(tables, &plan);
-            let text = verdict_lines(alloc, tables, &plan, verdict)?;
-            Ok(Answer::says(alloc, status_of(verdict), text))
-        }
-        Err(PlanError::Fault(fault)) => {
-            let text = plan_refused(alloc, fault.row, fault.kind)?;
-            Ok(Answer::says(alloc, REFUSED, text))
-        }
+        Ok(plan) => tell_verdict(alloc, tables, &plan, judge(tables, &plan)),
+        Err(PlanError::Fault(fault)) => plan_fault(alloc, fault),
         Err(PlanError::NoMemory) => Err(NoMemory),
     }
+}
+
+/// Tells the verdict on a plan.
+pub fn tell_verdict(
+    alloc: Global,
+    tables: &Tables,
+    plan: &Assignment,
+    verdict: Verdict,
+) -> Result<Answer, NoMemory>
+    requires plan { IsAssignment tables.now plan.now }
+    requires verdict { IsVerdict tables.now plan.now verdict }
+    ensures { IfOk result (λ answer. answer ≡ says (verdict_status verdict) (verdict_text tables.now plan.now verdict)) }
+{
+    let text = verdict_lines(alloc, tables, plan, verdict)?;
+    Ok(Answer::says(alloc, status_of(verdict), text))
 }
 
 /// The status of a verdict.

@@ -3,6 +3,7 @@
 
 pub mod answer;
 mod answers;
+mod checking;
 mod gathering;
 mod judging;
 pub mod laws;

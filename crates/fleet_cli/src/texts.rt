@@ -1,11 +1,12 @@
 //! What a run prints.
 ghost use Rattle.std.specs.Prelude.{◌≡◌, ◌++◌, ◌<◌, [], ◌∷◌, IfOk, OnOk, codes, map};
 ghost use Rattle.std.specs.Fmt.{decimal, signed_decimal};
-ghost use Rattle.fleet_cli.specs.Texts.{bad_input_text, fault_text, fleet_line, fleet_lines, line_of, plan_refused_text, verdict_text};
+ghost use Rattle.fleet_cli.specs.Texts.{bad_input_text, bound_text, checked_text, fault_text, fleet_line, fleet_lines, line_of, plan_refused_text, proof_refused_text, verdict_text};
 ghost use Rattle.fleet_model.specs.Legal.{IsAssignment};
 ghost use Rattle.fleet_model.specs.Schedule.{fleet_of, fleets_in, station_of, stations_in};
 ghost use Rattle.plan_judge.specs.Verdicts.{IsVerdict};
 
+use cert_check::Checked;
 use entries::NoMemory;
 use fleet_model::{Assignment, Tables};
 use plan_desk::DeskFile;
@@ -65,6 +66,23 @@ pub fn plan_refused(alloc: Global, row: u64, kind: u8) -> Result<Vec<u8>, NoMemo
         &[
             b"plan refused: record ".as_slice(),
             row.as_bytes(),
+            b" kind ".as_slice(),
+            kind.as_bytes(),
+        ],
+    )
+}
+
+/// `proof refused: line N kind K`.
+pub fn proof_refused(alloc: Global, number: u64, kind: u8) -> Result<Vec<u8>, NoMemory>
+    ensures { IfOk result (λ text. text.items ≡ proof_refused_text number kind) }
+{
+    let number = number.to_string(alloc)?;
+    let kind = kind.to_string(alloc)?;
+    line(
+        alloc,
+        &[
+            b"proof refused: line ".as_slice(),
+            number.as_bytes(),
             b" kind ".as_slice(),
             kind.as_bytes(),
         ],
@@ -223,6 +241,60 @@ fn push_fleet(
             used.as_bytes(),
             b" of ".as_slice(),
             has.as_bytes(),
+        ],
+    )
+}
+
+/// What is printed of a tree, with the cost of the plan that comes with it, if any.
+pub fn checked_line(
+    alloc: Global,
+    cost: Option<i128>,
+    checked: Checked,
+) -> Result<Vec<u8>, NoMemory>
+    ensures { IfOk result (λ text. text.items ≡ checked_text cost checked) }
+{
+    match checked {
+        Checked::Holds { bound: Some(bound) } => bound_line(alloc, cost, bound),
+        Checked::Holds { bound: None } => line(alloc, &[b"holds: infeasible".as_slice()]),
+        Checked::Broken { node, rule } => broken(alloc, node, rule),
+    }
+}
+
+/// `holds: cost C bound B`, or `holds: bound B` without a plan.
+fn bound_line(alloc: Global, cost: Option<i128>, bound: i128) -> Result<Vec<u8>, NoMemory>
+    ensures { IfOk result (λ text. text.items ≡ bound_text cost bound) }
+{
+    let bound = bound.to_string(alloc)?;
+    match cost {
+        Some(cost) => {
+            let cost = cost.to_string(alloc)?;
+            line(
+                alloc,
+                &[
+                    b"holds: cost ".as_slice(),
+                    cost.as_bytes(),
+                    b" bound ".as_slice(),
+                    bound.as_bytes(),
+                ],
+            )
+        }
+        None => line(alloc, &[b"holds: bound ".as_slice(), bound.as_bytes()]),
+    }
+}
+
+/// `broken: node N rule R`.
+fn broken(alloc: Global, node: u64, rule: u8) -> Result<Vec<u8>, NoMemory>
+    ensures { IfOk result (λ text. text.items ≡ line_of (codes "broken: node " ∷ decimal node ∷ codes " rule " ∷ decimal rule ∷ [])) }
+{
+    let node = node.to_string(alloc)?;
+    let rule = rule.to_string(alloc)?;
+    line(
+        alloc,
+        &[
+            b"broken: node ".as_slice(),
+            node.as_bytes(),
+            b" rule ".as_slice(),
+            rule.as_bytes(),
         ],
     )
 }

@@ -1,0 +1,103 @@
+-- What it means where checking says that a proof holds.
+use Rattle.std.proofs.Common.{◌≡◌, ◌⊎◌, ℕ, Bool, true, false, List, [], slice_index_or, Option, Some, None, ℤ, refl, sym, ap, ◌∙◌, inl, inr, arith}
+use Rattle.bound_cert.specs.declared.trees.Tree.{Tree}
+use Rattle.cert_check.proofs.TreeBounds.{bounds_all}
+use Rattle.cert_check.specs.Verdicts.{BoundsAll, IsChecked}
+use Rattle.cert_check.specs.declared.checked.Checked.{Checked}
+use Rattle.cert_check.specs.declared.checked.Checked.TheVariants as checked
+use Rattle.command_words.specs.Words.{check}
+use Rattle.fleet_model.specs.Kept.{all_pairs}
+use Rattle.fleet_model.specs.Legal.{IsLegal, total_cost}
+use Rattle.fleet_model.specs.declared.parts.Settings.{Settings}
+use Rattle.fleet_model.specs.declared.tables.Tables.{Tables}
+use Rattle.plan_desk.specs.Desk.{Files}
+use Rattle.plan_desk.specs.Sink.{output_with}
+use Rattle.sched_read.specs.Reading.{Reads}
+use Rattle.fleet_cli.specs.Answer.{Answers, ChecksContents, ChecksPlan, ChecksProof, ChecksTree, ChecksWithPlan, RefusesProof, ReadsProof, checked_status, plan_files, proof_files, says, table_bytes}
+use Rattle.fleet_cli.specs.Gathered.{AllHeld, FirstTooLong}
+use Rattle.fleet_cli.specs.Headline.{IsUnder, TellsBound}
+use Rattle.fleet_cli.specs.Texts.{checked_text}
+use Rattle.fleet_cli.specs.declared.answer.Answer.{Answer}
+use Rattle.fleet_cli.specs.declared.status.TheConstants.{DONE}
+
+-- a bound that is proved is no more than the cost of a legal plan
+under_cost : (t : Tables) (plan : List ℕ) (bound : Option ℤ) → IsLegal t plan → BoundsAll t bound → IsUnder bound (total_cost t plan)
+under_cost t plan None legal proven = absurd (proven.none plan legal)
+under_cost t plan (Some least) legal proven = proven.each plan legal
+
+-- a tree that is answered with status 0 holds
+record HoldsAs (t : Tables) (cost : Option ℤ) (answer : Answer) : Type 0 where
+  bound : Option ℤ
+  proven : BoundsAll t bound
+  text_is : answer.text ≡ checked_text cost (checked.Holds bound)
+
+module _ (answer : Answer) (done : answer.status.code ≡ DONE) where
+  -- another status
+  other : (code : ℕ) (text : List ℕ) → answer ≡ says code text → ¬ (code ≡ 0) → ⊥
+  other code text is differs = differs (sym (ap (λ (a : Answer). a.status.code) is) ∙ done)
+
+  tree_holds : (t : Tables) (cost : Option ℤ) (whole : Tree) → ChecksTree t cost whole answer → HoldsAs t cost answer
+  tree_holds t cost whole x = by_verdict x.verdict x.checked x.is
+    where
+      by_verdict : (v : Checked) → IsChecked t cost whole v → answer ≡ says (checked_status v) (checked_text cost v) → HoldsAs t cost answer
+      by_verdict (checked.Holds bound) holds is =
+          record { bound = bound; proven = bounds_all t cost (all_pairs t) whole bound refl holds.sound holds.bounded; text_is = ap (λ (a : Answer). a.text) is }
+      by_verdict (checked.Broken node rule) breaks is = absurd (other 9 _ is (λ e. omega arith))
+
+  module _ (held : Files) (dir : List ℕ) (settings : Settings) (before after : Option (List ℕ)) (put : after ≡ output_with before answer.text)
+      (contents : List (List ℕ)) (there : AllHeld held dir proof_files contents) (t : Tables) (reads : Reads (table_bytes contents) settings t) where
+    alone : HoldsAs t None answer → TellsBound held dir settings before after
+    alone holds = record {
+      contents = contents;
+      tables = t;
+      cost = None;
+      bound = holds.bound;
+      there = there;
+      reads = reads;
+      plan = tt;
+      proven = holds.proven;
+      under = tt;
+      put = put ∙ ap (output_with before) holds.text_is;
+    }
+
+    with_plan : (whole : Tree) (files : List (List ℕ)) → AllHeld held dir plan_files files → (plan : ChecksPlan t whole (slice_index_or files 0 []) answer)
+        → TellsBound held dir settings before after
+    with_plan whole files stands plan = elim plan.answers [
+      | inl refused ↦ absurd (other _ _ refused.is (λ e. let bad : ◌≡◌ {A = ℕ} 9 0 = sym refused.refused ∙ e in omega arith))
+      | inr checks ↦ let holds = tree_holds t (Some (total_cost t plan.plan)) whole checks.checks in record {
+        contents = contents;
+        tables = t;
+        cost = Some (total_cost t plan.plan);
+        bound = holds.bound;
+        there = there;
+        reads = reads;
+        plan = record { contents = files; plan = plan.plan; there = stands; reads = plan.reads; legal = checks.legal; costs = refl };
+        proven = holds.proven;
+        under = under_cost t plan.plan holds.bound checks.legal holds.proven;
+        put = put ∙ ap (output_with before) holds.text_is;
+      }
+    ]
+
+    by_plan : (planned : Bool) (whole : Tree) → ChecksProof (FirstTooLong held dir plan_files) (AllHeld held dir plan_files) t planned whole answer → TellsBound held dir settings before after
+    by_plan false whole checks = alone (tree_holds t None whole checks)
+    by_plan true whole (inl long) = absurd (other 6 _ long.is (λ e. omega arith))
+    by_plan true whole (inr read) = by_bytes read.contents read.held read.answers
+      where
+        by_bytes : (files : List (List ℕ)) → AllHeld held dir plan_files files → ChecksWithPlan t whole files answer → TellsBound held dir settings before after
+        by_bytes files stands (inl refused) = absurd (other 9 _ refused.is (λ e. omega arith))
+        by_bytes files stands (inr plan) = with_plan whole files stands plan
+
+  pub checked_tells : (held : Files) (dir : List ℕ) (settings : Settings) (before after : Option (List ℕ)) → Answers held (Some (check dir settings)) answer → after ≡ output_with before answer.text
+      → TellsBound held dir settings before after
+  checked_tells held dir settings before after (inl long) put = absurd (other 6 _ long.is (λ e. omega arith))
+  checked_tells held dir settings before after (inr read) put = by_contents read.contents read.held read.answers
+    where
+      by_proof : (contents : List (List ℕ)) → AllHeld held dir proof_files contents → (t : Tables) → Reads (table_bytes contents) settings t → (bytes : List ℕ)
+          → RefusesProof t bytes answer ⊎ ReadsProof (FirstTooLong held dir plan_files) (AllHeld held dir plan_files) t bytes answer → TellsBound held dir settings before after
+      by_proof contents there t reads bytes (inl refused) = absurd (other 9 _ refused.is (λ e. omega arith))
+      by_proof contents there t reads bytes (inr proof) = by_plan held dir settings before after put contents there t reads proof.proof.planned proof.proof.tree proof.checks
+
+      by_contents : (contents : List (List ℕ)) → AllHeld held dir proof_files contents
+          → ChecksContents (FirstTooLong held dir plan_files) (AllHeld held dir plan_files) settings contents answer → TellsBound held dir settings before after
+      by_contents contents there (inl refused) = absurd (other 6 _ refused.is (λ e. omega arith))
+      by_contents contents there (inr x) = by_proof contents there x.tables x.reads _ x.answers
