@@ -38,8 +38,8 @@ pub fn run_reads_off()
     ensures { RunReadsOff }
 {}
 
-/// Each basic column is a unit column: it has its own row's denominator there, and 0 in all other rows, the phase
-/// row and the cost row among them.
+/// Each basic column is a unit column: it has its own row's denominator there, and 0 in all other rows, the
+/// phase row and the cost row among them.
 pub fn run_has_unit_columns()
     ensures { RunHasUnitColumns }
 {}
@@ -49,13 +49,13 @@ pub fn run_keeps_right_sides()
     ensures { RunKeepsRightSides }
 {}
 
-/// At the best the phase row and, where that is 0, the cost row are nowhere below 0, and the right side of the
-/// phase row is 0.
+/// At the best the phase row and, where that is 0, the cost row are below 0 in no real column, and the right
+/// side of the phase row is 0.
 pub fn best_tells()
     ensures { BestTells }
 {}
 
-/// Where the run ends at no point, the phase row is nowhere below 0, and its right side is.
+/// Where the run ends at no point, the phase row is below 0 in no real column, but at its right side.
 pub fn no_point_tells()
     ensures { NoPointTells }
 {}
