@@ -5,7 +5,7 @@ use Rattle.fleet_model.specs.declared.tables.Tables.{Tables}
 use Rattle.bound_cert.specs.Lines.{left_of}
 use Rattle.bound_cert.specs.Nodes.{nodes_of, proof_at}
 use Rattle.bound_cert.specs.OfTables.{IsOfTables}
-use Rattle.bound_cert.specs.ReadProof.{FaultOf, IsProof, IsTextOf, ReadsAs}
+use Rattle.bound_cert.specs.ReadProof.{FaultOf, AnswersProof, IsTextOf, ReadsAs}
 use Rattle.bound_cert.specs.declared.faults.CertError.{CertError}
 use Rattle.bound_cert.specs.declared.faults.CertError.TheVariants as cert
 use Rattle.bound_cert.specs.declared.reading.Proof.{Proof}
@@ -26,7 +26,7 @@ exactly t text (Ok proof) reads =
 exactly t text (Err error) reads = tt
 
 pub complete : (t : Tables) (text : List ℕ) (result : Result Proof CertError) → MatchResult result (ReadsAs t text) (FaultOf t text) → (planned : Bool) (whole : Tree) → IsTextOf t text planned whole
-    → IsProof planned whole result
+    → AnswersProof planned whole result
 complete t text (Ok proof) reads planned whole is =
     let one : (proof.planned, nodes_of proof.tree) ≡ (planned, nodes_of whole) =
     ok_same (proof.planned, nodes_of proof.tree) (planned, nodes_of whole)

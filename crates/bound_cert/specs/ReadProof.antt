@@ -33,7 +33,7 @@ pub record IsTextOf (t : Tables) (text : List ℕ) (planned : Bool) (tree : Tree
   pub shallow : IsShallow tree
 
 -- the answer is this proof, node by node, unless memory ran out
-abbrev pub IsProof : Bool → Tree → Result Proof CertError → Type 0
-IsProof planned tree (Ok proof) = (proof.planned ≡ planned) × (nodes_of proof.tree ≡ nodes_of tree)
-IsProof planned tree (Err (cert.Fault fault)) = ⊥
-IsProof planned tree (Err cert.NoMemory) = ⊤
+abbrev pub AnswersProof : Bool → Tree → Result Proof CertError → Type 0
+AnswersProof planned tree (Ok proof) = (proof.planned ≡ planned) × (nodes_of proof.tree ≡ nodes_of tree)
+AnswersProof planned tree (Err (cert.Fault fault)) = ⊥
+AnswersProof planned tree (Err cert.NoMemory) = ⊤

@@ -4,7 +4,7 @@ ghost use Rattle.bound_cert.specs.Known.{IsKnownOf};
 ghost use Rattle.bound_cert.specs.Lines.{Gives, left_of, seen};
 ghost use Rattle.bound_cert.specs.Nodes.{end_at, head_is, nodes_of, nothing, plan_at, proof_at, rest_at, tree_at};
 ghost use Rattle.bound_cert.specs.OfTables.{IsOfTables};
-ghost use Rattle.bound_cert.specs.ReadProof.{FaultOf, IsProof, IsTextOf, ReadsAs};
+ghost use Rattle.bound_cert.specs.ReadProof.{FaultOf, AnswersProof, IsTextOf, ReadsAs};
 ghost use Rattle.bound_cert.specs.declared.trees.Tree.{Tree};
 
 use crate::faults::{BAD_LINE, CertError, CertFault, Stop, WRONG_HEAD, WRONG_WORD};
@@ -32,7 +32,7 @@ pub fn read_proof(alloc: Global, tables: &Tables, bytes: &[u8]) -> Result<Proof,
     ensures reads { MatchResult result (ReadsAs tables.now bytes.now) (FaultOf tables.now bytes.now) }
     ensures of_tables { IfOk result (λ proof. IsOfTables tables.now proof.tree) }
     ensures exactly { IfOk result (λ proof. IsTextOf tables.now bytes.now proof.planned proof.tree) }
-    ensures complete { (planned : Bool) (tree : Tree) → IsTextOf tables.now bytes.now planned tree → IsProof planned tree result }
+    ensures complete { (planned : Bool) (tree : Tree) → IsTextOf tables.now bytes.now planned tree → AnswersProof planned tree result }
 {
     read(alloc, tables, bytes)
 }
