@@ -9,8 +9,14 @@ pub mod Numbers
 pub mod ReadBack
 pub mod ReadOfTables
 pub mod ReadOn
+pub mod ReadProof
 pub mod ReadTree
 pub mod Sizes
+pub mod TextLines
+pub mod TextLists
+pub mod TextNodes
+pub mod TextPrices
+pub mod TextTrees
 pub mod Words
 pub mod WrittenLines
 pub mod WrittenNames

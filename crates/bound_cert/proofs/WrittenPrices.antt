@@ -89,20 +89,20 @@ module _ (t : Tables) where
       let missing : first + 1 - length done ≡ first - length done + 1 = omega (arith, few) in
       ap (λ k. done ++ replicate k (pos 0)) missing ∙ sym (padded_more done (padded done first) (padded done first ++ pos 0 ∷ []) (first - length done) refl refl)
 
-  pad_none : (done : List ℤ) (n : ℕ) → length done ≡ n → padded done n ≡ done
+  pub pad_none : (done : List ℤ) (n : ℕ) → length done ≡ n → padded done n ≡ done
   pad_none done n all =
       let missing : n - length done ≡ 0 = omega (arith, all) in
       ap (λ k. done ++ replicate k (pos 0)) missing ∙ append-nil done
 
   -- the lines of the rents of so many fleets, from a first one on
-  lines_from : Prices → ℕ → ℕ → List Line
+  unfoldable pub lines_from : Prices → ℕ → ℕ → List Line
   lines_from prices first n = flat_map (rent_lines_at t prices) (range_with_len first n)
 
-  lines_without : (prices : Prices) (first n : ℕ) → int_eq (rent_of prices first) (pos 0) ≡ true → lines_from prices first (suc n) ≡ lines_from prices (first + 1) n
+  pub lines_without : (prices : Prices) (first n : ℕ) → int_eq (rent_of prices first) (pos 0) ≡ true → lines_from prices first (suc n) ≡ lines_from prices (first + 1) n
   unfolding lines_from
   lines_without prices first n is_0 = ap (λ lines. lines ++ flat_map (rent_lines_at t prices) (range_with_len (first + 1) n)) (chosen (int_eq (rent_of prices first) (pos 0)) _ _ is_0)
 
-  lines_with : (prices : Prices) (first n : ℕ) → int_eq (rent_of prices first) (pos 0) ≡ false → lines_from prices first (suc n) ≡ rent_line t first (rent_of prices first) ∷ lines_from prices (first + 1) n
+  pub lines_with : (prices : Prices) (first n : ℕ) → int_eq (rent_of prices first) (pos 0) ≡ false → lines_from prices first (suc n) ≡ rent_line t first (rent_of prices first) ∷ lines_from prices (first + 1) n
   unfolding lines_from
   lines_with prices first n not_0 = ap (λ lines. lines ++ flat_map (rent_lines_at t prices) (range_with_len (first + 1) n)) (refused (int_eq (rent_of prices first) (pos 0)) _ _ not_0)
 
@@ -183,7 +183,7 @@ module _ (t : Tables) where
       ∙ bound (in_order (step_follows before step && not (is_needless step (at_line t step) rest)) left) tt _ (ap (λ b. in_order b left) fits)
 
   -- a step that isn't the one step of its place has another behind it, in the text too
-  needed_by : (a b c d : Bool) → (a && b && not c) ≡ false → (c ≡ true → d ≡ true) → (a && b && not d) ≡ false
+  pub needed_by : (a b c d : Bool) → (a && b && not c) ≡ false → (c ≡ true → d ≡ true) → (a && b && not d) ≡ false
   needed_by false b c d e leads = refl
   needed_by true false c d e leads = refl
   needed_by true true false d e leads = absurd (cc e)
@@ -212,7 +212,7 @@ module _ (t : Tables) where
       ∙ steps_read steps (done ++ step ∷ []) (Some step) behind (All-tail (IsStepInOrder t) step steps are) (All-tail (IsStepOf t) step steps of) follow.1 no_lone.1 some ends
       ∙ ap (λ steps. Ok (steps, behind)) (append_assoc done (step ∷ []) steps)
 
-  of_step : (step : PriceStep) → IsStepInOrder t step → IsStepOf t step
+  pub of_step : (step : PriceStep) → IsStepInOrder t step → IsStepOf t step
   of_step step is = record { fleet = is.fleet; station = is.station }
 
   pub steps_of : (steps : List PriceStep) → All (IsStepInOrder t) steps → All (IsStepOf t) steps

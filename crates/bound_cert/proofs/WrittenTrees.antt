@@ -87,7 +87,7 @@ onward t most nodes above left = cond (length above == 0) (Ok (nodes, left)) (no
 goes_on : (t : Tables) (most : ℕ) (nodes : List Node) (first : Bool) (above : Above) (left : Left) → onward t most nodes (first ∷ above) left ≡ nodes_from t most nodes (first ∷ above) left
 goes_on t most nodes first above left = refused (length (first ∷ above) == 0) _ _ (grind (arith, nat_tests))
 
-parts : (xs ys : List Line) (behind : Left) → texts (xs ++ ys) ++ behind ≡ texts xs ++ (texts ys ++ behind)
+pub parts : (xs ys : List Line) (behind : Left) → texts (xs ++ ys) ++ behind ≡ texts xs ++ (texts ys ++ behind)
 parts xs ys behind = ap (λ lines. lines ++ behind) (map-append joined xs ys) ∙ append_assoc (texts xs) (texts ys) behind
 
 one_node : (t : Tables) (most : ℕ) (nodes : List Node) (above : Above) (n : Node) (behind : Left) → IsNodeInOrder t n → length above ≤ MAX_DEPTH → IsBehind behind

@@ -1,12 +1,15 @@
 -- The proof that a text reads as, or its first fault by its line.
-use Rattle.std.specs.Prelude.{◌≡◌, ℕ, ◌+◌, ◌-◌, List, length, Ok, Err, ⊤}
+use Rattle.std.specs.Prelude.{◌≡◌, ℕ, ◌+◌, ◌-◌, Bool, List, length, Result, Ok, Err, ⊤}
 use Rattle.fleet_model.specs.declared.tables.Tables.{Tables}
 use Rattle.bound_cert.specs.Lines.{Left, left_of}
 use Rattle.bound_cert.specs.Nodes.{nodes_of, proof_at}
+use Rattle.bound_cert.specs.ProofText.{proof_text}
+use Rattle.bound_cert.specs.WrittenOrder.{InWrittenOrder, IsShallow}
 use Rattle.bound_cert.specs.declared.faults.CertError.{CertError}
 use Rattle.bound_cert.specs.declared.faults.CertError.TheVariants as cert
 use Rattle.bound_cert.specs.declared.faults.CertFault.{CertFault}
 use Rattle.bound_cert.specs.declared.reading.Proof.{Proof}
+use Rattle.bound_cert.specs.declared.trees.Tree.{Tree}
 
 -- the fault comes where reading stops: its line is the first that is left there
 pub record IsFirstFault (t : Tables) (all : Left) (fault : CertFault) : Type 0 where
@@ -22,3 +25,15 @@ FaultOf t text cert.NoMemory = ⊤
 -- the text reads as this proof
 abbrev pub ReadsAs : Tables → List ℕ → Proof → Type 0
 ReadsAs t text proof = proof_at t (left_of text) ≡ Ok (proof.planned, nodes_of proof.tree)
+
+-- the text is that of a proof whose tree is in written order and no deeper than a reader takes
+pub record IsTextOf (t : Tables) (text : List ℕ) (planned : Bool) (tree : Tree) : Type 0 where
+  pub is : text ≡ proof_text t planned tree
+  pub order : InWrittenOrder t tree
+  pub shallow : IsShallow tree
+
+-- the answer is this proof, node by node, unless memory ran out
+abbrev pub AnswersProof : Bool → Tree → Result Proof CertError → Type 0
+AnswersProof planned tree (Ok proof) = (proof.planned ≡ planned) × (nodes_of proof.tree ≡ nodes_of tree)
+AnswersProof planned tree (Err (cert.Fault fault)) = ⊥
+AnswersProof planned tree (Err cert.NoMemory) = ⊤

@@ -1,6 +1,6 @@
 //! The laws of bounds and of proof texts, over all tables, subproblems, prices and trees. Each function is a law: its
 //! contract is the statement, and it does nothing.
-ghost use Rattle.std.specs.Prelude.{◌≡◌, Bool, All, Ok};
+ghost use Rattle.std.specs.Prelude.{◌≡◌, ℕ, Bool, List, All, Ok};
 ghost use Rattle.fleet_model.specs.declared.tables.Tables.{Tables};
 ghost use Rattle.bound_cert.specs.Duality.{CeilingIsLowerBound, WeakDuality, WorthIsLowerBound, WorthRefutes, ZeroIsProper};
 ghost use Rattle.bound_cert.specs.Lines.{left_of};
@@ -63,4 +63,11 @@ pub fn reads_what_was_written()
 pub fn one_text()
     ensures { (t : Tables) (a b : Bool) (x y : Tree) → InWrittenOrder t x → IsShallow x → InWrittenOrder t y → IsShallow y → proof_text t a x ≡ proof_text t b y
         → (a ≡ b) × (nodes_of x ≡ nodes_of y) }
+{}
+
+/// A text that reads as a proof is the text of that proof, whose tree is in written order and no deeper than a reader
+/// takes.
+pub fn text_of_reading()
+    ensures { (t : Tables) (bytes : List ℕ) (planned : Bool) (tree : Tree) → proof_at t (left_of bytes) ≡ Ok (planned, nodes_of tree)
+        → (bytes ≡ proof_text t planned tree) × InWrittenOrder t tree × IsShallow tree }
 {}

@@ -1,10 +1,11 @@
 //! The text of a proof, read.
-ghost use Rattle.std.specs.Prelude.{◌≡◌, drop, IfOk, MatchResult};
+ghost use Rattle.std.specs.Prelude.{◌≡◌, Bool, drop, IfOk, MatchResult};
 ghost use Rattle.bound_cert.specs.Known.{IsKnownOf};
 ghost use Rattle.bound_cert.specs.Lines.{Gives, left_of, seen};
 ghost use Rattle.bound_cert.specs.Nodes.{end_at, head_is, nodes_of, nothing, plan_at, proof_at, rest_at, tree_at};
 ghost use Rattle.bound_cert.specs.OfTables.{IsOfTables};
-ghost use Rattle.bound_cert.specs.ReadProof.{FaultOf, ReadsAs};
+ghost use Rattle.bound_cert.specs.ReadProof.{FaultOf, AnswersProof, IsTextOf, ReadsAs};
+ghost use Rattle.bound_cert.specs.declared.trees.Tree.{Tree};
 
 use crate::faults::{BAD_LINE, CertError, CertFault, Stop, WRONG_HEAD, WRONG_WORD};
 use crate::known::Known;
@@ -24,11 +25,21 @@ pub struct Proof {
     pub tree: Tree,
 }
 
-/// The proof that a text says, else the first fault of the text: its first bad line, and there the least kind.
-/// All that its tree names is of the tables.
+/// The proof that a text says, else the first fault of the text: its first bad line, and there the least kind. So it
+/// answers a proof just where the text is that of a proof whose tree is in written order and no deeper than
+/// `MAX_DEPTH`, and that proof.
 pub fn read_proof(alloc: Global, tables: &Tables, bytes: &[u8]) -> Result<Proof, CertError>
     ensures reads { MatchResult result (ReadsAs tables.now bytes.now) (FaultOf tables.now bytes.now) }
     ensures of_tables { IfOk result (λ proof. IsOfTables tables.now proof.tree) }
+    ensures exactly { IfOk result (λ proof. IsTextOf tables.now bytes.now proof.planned proof.tree) }
+    ensures complete { (planned : Bool) (tree : Tree) → IsTextOf tables.now bytes.now planned tree → AnswersProof planned tree result }
+{
+    read(alloc, tables, bytes)
+}
+
+/// The same, line by line.
+fn read(alloc: Global, tables: &Tables, bytes: &[u8]) -> Result<Proof, CertError>
+    ensures { MatchResult result (ReadsAs tables.now bytes.now) (FaultOf tables.now bytes.now) }
 {
     let lines = left_of(alloc, bytes)?;
     let known = Known::of(alloc, tables)?;

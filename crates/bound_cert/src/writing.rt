@@ -84,7 +84,9 @@ fn push_tree(
     }
 }
 
-/// Appends the lines of a node itself, without those of its children.
+/// Appends the lines of a node itself, without those of its children. It stays a call of its own, so that what it takes
+/// of the stack isn't taken once for each level of a tree.
+#[inline(never)]
 fn push_node(
     alloc: Global,
     text: &mut Vec<u8>,

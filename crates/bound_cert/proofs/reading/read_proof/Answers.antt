@@ -1,7 +1,11 @@
-use Rattle.std.proofs.Common.{rules}
-use Rattle.bound_cert.specs.Lines.{left_of}
-use Rattle.bound_cert.proofs.ReadOfTables.{reads_of_tables}
+use Rattle.bound_cert.proofs.ReadProof as lemmas
 use Rattle.bound_cert.proofs.reading.read_proof.Goals as goal
 
-pub returns-in-Ok-clause-of_tables : goal.returns-in-Ok-clause-of_tables
-returns-in-Ok-clause-of_tables c = reads_of_tables c.args.tables.now (left_of c.args.bytes.now) c.in-Ok.proof.planned c.in-Ok.proof.tree (search rules)
+pub returns-clause-of_tables : goal.returns-clause-of_tables
+returns-clause-of_tables c = lemmas.of_tables c.args.tables.now c.args.bytes.now c.read.result c.read.ensures
+
+pub returns-clause-exactly : goal.returns-clause-exactly
+returns-clause-exactly c = lemmas.exactly c.args.tables.now c.args.bytes.now c.read.result c.read.ensures
+
+pub returns-clause-complete : goal.returns-clause-complete
+returns-clause-complete c = lemmas.complete c.args.tables.now c.args.bytes.now c.read.result c.read.ensures

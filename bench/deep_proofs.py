@@ -1,0 +1,37 @@
+#!/usr/bin/env python3
+"""Writes texts of proofs that are as deep as a reader takes: deep_proofs.py FOLDER [LEVELS].
+
+They are of the tables S with two fleets F1, F2 and the flights X1, X2. `right.txt` goes on below `no` alone, `left.txt`
+below `yes` alone, and `zigzag.txt` below each in turn, with prices and a fractional assignment at each node.
+"""
+
+import pathlib
+import sys
+
+HEAD = "fleet proof 1\nplan no\n"
+SPLIT = "split X1 F1\nscale 1\nmixed 1\nweight X1 F1 1\n"
+
+
+def right(levels: int) -> str:
+    return "trim X1 F1\nsole\n" * levels + "sole\n"
+
+
+def left(levels: int) -> str:
+    return "trim X1 F1\n" * levels + "sole\n" * (levels + 1)
+
+
+def zigzag(levels: int) -> str:
+    down = "".join(SPLIT + ("sole\n" if level % 2 == 0 else "") for level in range(levels))
+    return down + "sole\n" + "sole\n" * (levels // 2)
+
+
+def main() -> None:
+    folder = pathlib.Path(sys.argv[1])
+    levels = int(sys.argv[2]) if len(sys.argv) > 2 else 20_000
+    folder.mkdir(parents=True, exist_ok=True)
+    for make in (right, left, zigzag):
+        (folder / f"{make.__name__}.txt").write_text(HEAD + make(levels) + "end\n")
+
+
+if __name__ == "__main__":
+    main()

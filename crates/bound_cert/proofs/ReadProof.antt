@@ -1,0 +1,38 @@
+-- What reading by the definition says of the answer.
+use Rattle.std.proofs.Common.{◌≡◌, ℕ, Bool, List, Result, Ok, Err, sym, ap, ◌∙◌}
+use Rattle.std.specs.Prelude.{IfOk, MatchResult}
+use Rattle.fleet_model.specs.declared.tables.Tables.{Tables}
+use Rattle.bound_cert.specs.Lines.{left_of}
+use Rattle.bound_cert.specs.Nodes.{nodes_of, proof_at}
+use Rattle.bound_cert.specs.OfTables.{IsOfTables}
+use Rattle.bound_cert.specs.ReadProof.{FaultOf, AnswersProof, IsTextOf, ReadsAs}
+use Rattle.bound_cert.specs.declared.faults.CertError.{CertError}
+use Rattle.bound_cert.specs.declared.faults.CertError.TheVariants as cert
+use Rattle.bound_cert.specs.declared.reading.Proof.{Proof}
+use Rattle.bound_cert.specs.declared.trees.Tree.{Tree}
+use Rattle.bound_cert.proofs.ReadBack.{ok_same}
+use Rattle.bound_cert.proofs.ReadOfTables.{reads_of_tables}
+use Rattle.bound_cert.proofs.TextTrees.{text_of_reading}
+use Rattle.bound_cert.proofs.WrittenTrees.{reads_what_was_written}
+
+pub of_tables : (t : Tables) (text : List ℕ) (result : Result Proof CertError) → MatchResult result (ReadsAs t text) (FaultOf t text) → IfOk result (λ proof. IsOfTables t proof.tree)
+of_tables t text (Ok proof) reads = reads_of_tables t (left_of text) proof.planned proof.tree reads
+of_tables t text (Err error) reads = tt
+
+pub exactly : (t : Tables) (text : List ℕ) (result : Result Proof CertError) → MatchResult result (ReadsAs t text) (FaultOf t text) → IfOk result (λ proof. IsTextOf t text proof.planned proof.tree)
+exactly t text (Ok proof) reads =
+    let told = text_of_reading t text proof.planned proof.tree reads in
+    record { is = told.0; order = told.1; shallow = told.2 }
+exactly t text (Err error) reads = tt
+
+pub complete : (t : Tables) (text : List ℕ) (result : Result Proof CertError) → MatchResult result (ReadsAs t text) (FaultOf t text) → (planned : Bool) (whole : Tree) → IsTextOf t text planned whole
+    → AnswersProof planned whole result
+complete t text (Ok proof) reads planned whole is =
+    let one : (proof.planned, nodes_of proof.tree) ≡ (planned, nodes_of whole) =
+    ok_same (proof.planned, nodes_of proof.tree) (planned, nodes_of whole)
+    (sym reads ∙ ap (λ text. proof_at t (left_of text)) is.is ∙ reads_what_was_written t planned whole is.order is.shallow) in
+    (ap (λ p. p.0) one, ap (λ p. p.1) one)
+complete t text (Err (cert.Fault fault)) reads planned whole is =
+    let stopped = sym reads.stops ∙ ap (λ text. proof_at t (left_of text)) is.is ∙ reads_what_was_written t planned whole is.order is.shallow in
+    absurd (cc stopped)
+complete t text (Err cert.NoMemory) reads planned whole is = tt

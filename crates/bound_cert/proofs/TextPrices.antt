@@ -1,0 +1,213 @@
+-- Prices and fractional assignments that are read are in written order, and their lines are those that are read.
+use Rattle.std.proofs.Common.{◌≡◌, ℕ, ◌<◌, ◌≤◌, ◌&&◌, Bool, true, false, not, List, [], ◌∷◌, drop, codes, ℤ, pos, nat_le, Option, Ok, refl, sym, ap, subst, ◌∙◌, arith}
+use Rattle.std.specs.Prelude.{IsTrue}
+use Rattle.std.specs.Fmt.{decimal}
+use Rattle.std.specs.Ordering.{int_eq}
+use Rattle.std.proofs.lemmas.Bool.Decides.{nat_tests}
+use Rattle.fleet_model.specs.Schedule.{IsPair, fleet_of, fleets_in, leg_of, leg_on, station_of}
+use Rattle.fleet_model.specs.Use.{last_minute}
+use Rattle.fleet_model.specs.declared.tables.Tables.{Tables}
+use Rattle.bound_cert.specs.Figures.{natural_in, number_in}
+use Rattle.bound_cert.specs.Known.{fleet_named, leg_named, station_named}
+use Rattle.bound_cert.specs.Lines.{Left, line_due, present, width_of, word_at}
+use Rattle.bound_cert.specs.ProofText.{Line, at_line, mixed_line, rent_line, scale_line, weight_line}
+use Rattle.bound_cert.specs.Reading.{figures_by, goes_on_at, in_order, is_needless, mixed_at, padded, pair_at, place_by, prices_at, rent_at, rent_by, rent_follows, rents_from, same_place, scale_at, step_at, step_by, step_follows, step_of, steps_from, weight_at, weight_by, weight_follows, weight_of, weights_from}
+use Rattle.bound_cert.specs.Reading as reading
+use Rattle.bound_cert.specs.WrittenOrder.{IsFigure, IsStepInOrder, IsWeightInOrder}
+use Rattle.bound_cert.specs.declared.faults.TheConstants.{UNKNOWN_NAME, WRONG_NUMBER}
+use Rattle.bound_cert.specs.declared.mixed.Weight.{Weight}
+use Rattle.bound_cert.specs.declared.prices.PriceStep.{PriceStep}
+use Rattle.bound_cert.specs.declared.reading_lines.Due.TheVariants as due
+use Rattle.bound_cert.proofs.ReadBack.{goes, ok_same, ordered, there}
+use Rattle.bound_cert.proofs.ReadOfTables.{fleet_known, leg_known, station_known}
+use Rattle.bound_cert.proofs.TextLines.{LineIs, five_words, four_words, line_by, line_was, three_words, two_words, width_was}
+use Rattle.bound_cert.proofs.WrittenNames.{fleet_read, leg_read, station_read}
+use Rattle.bound_cert.proofs.WrittenNumbers.{natural_read, number_read}
+
+-- a scale
+
+pub record ScaleWas (left : Left) (line : Line) (z : ℤ) : Type 0 where
+  pub line_is : LineIs left line
+  pub figure : IsFigure z
+
+pub scale_was : (left : Left) (z : ℤ) → scale_at due.Scale left ≡ Ok z → ScaleWas left (scale_line z) z
+unfolding scale_at width_of
+scale_was left z e =
+    let words = goes (line_due due.Scale left) _ z e in
+    let line = line_was due.Scale left words.value words.is in
+    let shape = width_was (codes "scale") 2 words.value line.width in
+    let number = number_read z (word_at words.value 1) (there (number_in (word_at words.value 1)) left WRONG_NUMBER z words.on) in
+    record {
+      line_is = line_by left words.value (scale_line z) line.line (two_words words.value shape.count ∙ ap (λ w. w ∷ word_at words.value 1 ∷ []) shape.first ∙ ap (λ w. codes "scale" ∷ w ∷ []) number.word_is);
+      figure = number.figure;
+    }
+
+pub mixed_scale_was : (left : Left) (z : ℤ) → scale_at due.Mixed left ≡ Ok z → ScaleWas left (mixed_line z) z
+unfolding scale_at width_of
+mixed_scale_was left z e =
+    let words = goes (line_due due.Mixed left) _ z e in
+    let line = line_was due.Mixed left words.value words.is in
+    let shape = width_was (codes "mixed") 2 words.value line.width in
+    let number = number_read z (word_at words.value 1) (there (number_in (word_at words.value 1)) left WRONG_NUMBER z words.on) in
+    record {
+      line_is = line_by left words.value (mixed_line z) line.line (two_words words.value shape.count ∙ ap (λ w. w ∷ word_at words.value 1 ∷ []) shape.first ∙ ap (λ w. codes "mixed" ∷ w ∷ []) number.word_is);
+      figure = number.figure;
+    }
+
+pub true_is : (b : Bool) → b ≡ true → IsTrue b
+true_is true e = refl
+true_is false e = absurd (cc e)
+
+not_true : (b : Bool) → not b ≡ true → b ≡ false
+not_true true e = absurd (cc e)
+not_true false e = refl
+
+first_test : (a b : Bool) → (a && b) ≡ true → a ≡ true
+first_test true b e = refl
+first_test false b e = absurd (cc e)
+
+second_test : (a b : Bool) → (a && b) ≡ true → b ≡ true
+second_test true b e = e
+second_test false b e = absurd (cc e)
+
+module _ (t : Tables) where
+  -- a rent
+
+  pub record RentWas (least : ℕ) (left : Left) (f : ℕ) (z : ℤ) : Type 0 where
+    pub line_is : LineIs left (rent_line t f z)
+    pub fleet : f < fleets_in t
+    pub later : least ≤ f
+    pub figure : IsFigure z
+    pub not_0 : int_eq z (pos 0) ≡ false
+
+  pub rent_was : (least : ℕ) (left : Left) (entry : ℕ × ℤ) → rent_at t least left ≡ Ok entry → RentWas least left entry.0 entry.1
+  unfolding rent_at reading.rent_of rent_by width_of
+  rent_was least left entry e =
+      let words = goes (line_due due.Rent left) _ entry e in
+      let line = line_was due.Rent left words.value words.is in
+      let shape = width_was (codes "rent") 3 words.value line.width in
+      let made = goes (rent_by t words.value left) _ entry words.on in
+      let fits = goes (in_order (rent_follows least made.value.0 made.value.1) left) _ entry made.on in
+      let rent = goes (present (number_in (word_at words.value 2)) left WRONG_NUMBER) _ made.value made.is in
+      let fleet = goes (present (fleet_named t (word_at words.value 1)) left UNKNOWN_NAME) _ made.value rent.on in
+      let follows = ordered (rent_follows least made.value.0 made.value.1) left fits.value fits.is in
+      let same : (fleet.value, rent.value) ≡ entry = ok_same (fleet.value, rent.value) made.value fleet.on ∙ ok_same made.value entry fits.on in
+      let back : made.value ≡ entry = ok_same made.value entry fits.on in
+      let number = number_read rent.value (word_at words.value 2) (there (number_in (word_at words.value 2)) left WRONG_NUMBER rent.value rent.is) in
+      let named = there (fleet_named t (word_at words.value 1)) left UNKNOWN_NAME fleet.value fleet.is in
+      let follows_now : rent_follows least entry.0 entry.1 ≡ true = ap (λ p. rent_follows least p.0 p.1) (sym back) ∙ follows in
+      record {
+        line_is = line_by left words.value (rent_line t entry.0 entry.1) line.line
+            (three_words words.value shape.count ∙ ap (λ w. w ∷ word_at words.value 1 ∷ word_at words.value 2 ∷ []) shape.first
+            ∙ ap (λ w. codes "rent" ∷ w ∷ word_at words.value 2 ∷ []) (fleet_read t (word_at words.value 1) fleet.value named)
+            ∙ ap (λ w. codes "rent" ∷ (fleet_of t fleet.value).name ∷ w ∷ []) number.word_is ∙ ap (λ p. rent_line t p.0 p.1) same);
+        fleet = subst (λ p. p.0 < fleets_in t) same (fleet_known t (word_at words.value 1) fleet.value named);
+        later = grind (arith, nat_tests, first_test (nat_le least entry.0) (not (int_eq entry.1 (pos 0))) follows_now);
+        figure = subst (λ p. IsFigure p.1) same number.figure;
+        not_0 = not_true (int_eq entry.1 (pos 0)) (second_test (nat_le least entry.0) (not (int_eq entry.1 (pos 0))) follows_now);
+      }
+
+  -- a step
+
+  pub record StepWas (before : Option PriceStep) (left : Left) (step : PriceStep) : Type 0 where
+    pub line_is : LineIs left (at_line t step)
+    pub order : IsStepInOrder t step
+    pub follows : step_follows before step ≡ true
+    pub needed : is_needless step (at_line t step) (drop 1 left) ≡ false
+
+  pub step_was : (before : Option PriceStep) (left : Left) (step : PriceStep) → step_at t before left ≡ Ok step → StepWas before left step
+  unfolding step_at step_of step_by figures_by place_by width_of
+  step_was before left step e =
+      let words = goes (line_due due.Step left) _ step e in
+      let line = line_was due.Step left words.value words.is in
+      let shape = width_was (codes "at") 5 words.value line.width in
+      let made = goes (step_by t words.value left) _ step words.on in
+      let test = step_follows before made.value && not (is_needless made.value words.value (drop 1 left)) in
+      let fits = goes (in_order test left) _ step made.on in
+      let passes = ordered test left fits.value fits.is in
+      let back : made.value ≡ step = ok_same made.value step fits.on in
+      let figures = goes (figures_by words.value left) _ made.value made.is in
+      let minute = goes (present (natural_in last_minute (word_at words.value 3)) left WRONG_NUMBER) _ figures.value figures.is in
+      let value = goes (present (number_in (word_at words.value 4)) left WRONG_NUMBER) _ figures.value minute.on in
+      let place = goes (place_by t words.value left) _ made.value figures.on in
+      let fleet = goes (present (fleet_named t (word_at words.value 1)) left UNKNOWN_NAME) _ place.value place.is in
+      let station = goes (present (station_named t (word_at words.value 2)) left UNKNOWN_NAME) _ place.value fleet.on in
+      let figures_are : (minute.value, value.value) ≡ figures.value = ok_same (minute.value, value.value) figures.value value.on in
+      let place_is : (fleet.value, station.value) ≡ place.value = ok_same (fleet.value, station.value) place.value station.on in
+      let put : PriceStep = record { fleet = fleet.value; station = station.value; minute = minute.value; value = value.value } in
+      let put_is : put ≡ step =
+      ap (λ p. record { fleet = p.0; station = p.1; minute = minute.value; value = value.value }) place_is
+      ∙ ap (λ g. record { fleet = place.value.0; station = place.value.1; minute = g.0; value = g.1 }) figures_are ∙ ok_same _ made.value place.on ∙ back in
+      let named_fleet = there (fleet_named t (word_at words.value 1)) left UNKNOWN_NAME fleet.value fleet.is in
+      let named_station = there (station_named t (word_at words.value 2)) left UNKNOWN_NAME station.value station.is in
+      let small = natural_read last_minute minute.value (word_at words.value 3) (there (natural_in last_minute (word_at words.value 3)) left WRONG_NUMBER minute.value minute.is) in
+      let number = number_read value.value (word_at words.value 4) (there (number_in (word_at words.value 4)) left WRONG_NUMBER value.value value.is) in
+      let words_are : words.value ≡ at_line t step =
+      five_words words.value shape.count ∙ ap (λ w. w ∷ word_at words.value 1 ∷ word_at words.value 2 ∷ word_at words.value 3 ∷ word_at words.value 4 ∷ []) shape.first
+      ∙ ap (λ w. codes "at" ∷ w ∷ word_at words.value 2 ∷ word_at words.value 3 ∷ word_at words.value 4 ∷ []) (fleet_read t (word_at words.value 1) fleet.value named_fleet)
+      ∙ ap (λ w. codes "at" ∷ (fleet_of t fleet.value).name ∷ w ∷ word_at words.value 3 ∷ word_at words.value 4 ∷ []) (station_read t (word_at words.value 2) station.value named_station)
+      ∙ ap (λ w. codes "at" ∷ (fleet_of t fleet.value).name ∷ (station_of t station.value).code ∷ w ∷ word_at words.value 4 ∷ []) small.word_is
+      ∙ ap (λ w. codes "at" ∷ (fleet_of t fleet.value).name ∷ (station_of t station.value).code ∷ decimal minute.value ∷ w ∷ []) number.word_is
+      ∙ ap (at_line t) put_is in
+      let passes_now : (step_follows before step && not (is_needless step (at_line t step) (drop 1 left))) ≡ true =
+      ap (λ s. step_follows before s && not (is_needless s (at_line t step) (drop 1 left))) (sym back)
+      ∙ ap (λ w. step_follows before made.value && not (is_needless made.value w (drop 1 left))) (sym words_are) ∙ passes in
+      record {
+        line_is = line_by left words.value (at_line t step) line.line words_are;
+        order = subst (λ s. IsStepInOrder t s) put_is
+            (record { fleet = fleet_known t (word_at words.value 1) fleet.value named_fleet; station = station_known t (word_at words.value 2) station.value named_station; minute = small.within; value = number.figure });
+        follows = first_test (step_follows before step) (not (is_needless step (at_line t step) (drop 1 left))) passes_now;
+        needed = not_true (is_needless step (at_line t step) (drop 1 left)) (second_test (step_follows before step) (not (is_needless step (at_line t step) (drop 1 left))) passes_now);
+      }
+
+  -- a weight
+
+  pub record WeightWas (before : Option Weight) (left : Left) (entry : Weight) : Type 0 where
+    pub line_is : LineIs left (weight_line t entry)
+    pub order : IsWeightInOrder t entry
+    pub follows : weight_follows before entry ≡ true
+
+  -- a pair, of a line whose second and third words are its names
+  pub record PairWas (words : List (List ℕ)) (pair : ℕ × ℕ) : Type 0 where
+    pub is : IsPair t (leg_on pair.0 pair.1)
+    pub flight : word_at words 1 ≡ (leg_of t pair.0).flight
+    pub name : word_at words 2 ≡ (fleet_of t pair.1).name
+
+  pub pair_was : (words : List (List ℕ)) (left : Left) (pair : ℕ × ℕ) → pair_at t words left ≡ Ok pair → PairWas words pair
+  unfolding pair_at
+  pair_was words left pair e =
+      let leg = goes (present (leg_named t (word_at words 1)) left UNKNOWN_NAME) _ pair e in
+      let fleet = goes (present (fleet_named t (word_at words 2)) left UNKNOWN_NAME) _ pair leg.on in
+      let named_leg = there (leg_named t (word_at words 1)) left UNKNOWN_NAME leg.value leg.is in
+      let named_fleet = there (fleet_named t (word_at words 2)) left UNKNOWN_NAME fleet.value fleet.is in
+      subst (λ p. PairWas words p) (ok_same (leg.value, fleet.value) pair fleet.on)
+      (record {
+        is = record { leg = leg_known t (word_at words 1) leg.value named_leg; fleet = fleet_known t (word_at words 2) fleet.value named_fleet };
+        flight = leg_read t (word_at words 1) leg.value named_leg;
+        name = fleet_read t (word_at words 2) fleet.value named_fleet;
+      })
+
+  pub weight_was : (before : Option Weight) (left : Left) (entry : Weight) → weight_at t before left ≡ Ok entry → WeightWas before left entry
+  unfolding weight_at weight_of weight_by width_of
+  weight_was before left entry e =
+      let words = goes (line_due due.Weight left) _ entry e in
+      let line = line_was due.Weight left words.value words.is in
+      let shape = width_was (codes "weight") 4 words.value line.width in
+      let made = goes (weight_by t words.value left) _ entry words.on in
+      let fits = goes (in_order (weight_follows before made.value) left) _ entry made.on in
+      let back : made.value ≡ entry = ok_same made.value entry fits.on in
+      let weight = goes (present (number_in (word_at words.value 3)) left WRONG_NUMBER) _ made.value made.is in
+      let pair = goes (pair_at t words.value left) _ made.value weight.on in
+      let was = pair_was words.value left pair.value pair.is in
+      let number = number_read weight.value (word_at words.value 3) (there (number_in (word_at words.value 3)) left WRONG_NUMBER weight.value weight.is) in
+      let put : Weight = record { leg = pair.value.0; fleet = pair.value.1; weight = weight.value } in
+      let put_is : put ≡ entry = ok_same put made.value pair.on ∙ back in
+      record {
+        line_is = line_by left words.value (weight_line t entry) line.line
+            (four_words words.value shape.count ∙ ap (λ w. w ∷ word_at words.value 1 ∷ word_at words.value 2 ∷ word_at words.value 3 ∷ []) shape.first
+            ∙ ap (λ w. codes "weight" ∷ w ∷ word_at words.value 2 ∷ word_at words.value 3 ∷ []) was.flight
+            ∙ ap (λ w. codes "weight" ∷ (leg_of t pair.value.0).flight ∷ w ∷ word_at words.value 3 ∷ []) was.name
+            ∙ ap (λ w. codes "weight" ∷ (leg_of t pair.value.0).flight ∷ (fleet_of t pair.value.1).name ∷ w ∷ []) number.word_is ∙ ap (weight_line t) put_is);
+        order = subst (λ w. IsWeightInOrder t w) put_is (record { pair = was.is; weight = number.figure });
+        follows = ap (weight_follows before) (sym back) ∙ ordered (weight_follows before made.value) left fits.value fits.is;
+      }
