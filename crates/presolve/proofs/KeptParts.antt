@@ -9,7 +9,7 @@ use Rattle.fleet_model.specs.declared.parts.Pair.{Pair}
 use Rattle.fleet_model.specs.declared.tables.Tables.{Tables}
 use Rattle.bound_cert.specs.Bound.{part}
 use Rattle.presolve.specs.Removals.{NoneBare, pairs_kept}
-use Rattle.presolve.proofs.OneFewer.{count_below-fewer, sum_below-fewer}
+use Rattle.presolve.proofs.OneChanged.{count_below-fewer, sum_below-more}
 
 -- of another leg all is kept as it was
 pub on_others : (keeps : Domains) (leg fleet : ℕ) (kept : Bool) (q : Pair) → q.leg ≢ leg → part keeps leg fleet kept q ≡ keeps q
@@ -83,7 +83,7 @@ module _ (t : Tables) (keeps : Domains) (leg fleet : ℕ) where
   fewer : leg < legs_in t → fleet < fleets_in t → keeps (leg_on leg fleet) ≡ true → pairs_kept t keeps ≡ pairs_kept t (part keeps leg fleet false) + 1
   unfolding pairs_kept
   fewer within known kept =
-      sum_below-fewer (kept_on t keeps) (kept_on t (part keeps leg fleet false)) (legs_in t) leg within (own_leg known kept)
+      sum_below-more (kept_on t keeps) (kept_on t (part keeps leg fleet false)) (legs_in t) leg 1 within (own_leg known kept)
       (record { each = λ l below other. sym (other_leg false l other) })
 
   -- where a kept pair is flown, each leg keeps a pair, as it did before

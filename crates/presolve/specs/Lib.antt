@@ -1,3 +1,4 @@
+pub mod Cells
 pub mod Choices
 pub mod Laws
 pub mod Reasons

@@ -1,33 +1,51 @@
-//! The kept pairs, with the number of each leg's.
-ghost use Rattle.std.specs.Prelude.{◌≡◌, ◌<◌, ◌==◌, MatchBool, IsTrue, false};
+//! The kept pairs, with what is counted of them, so that a rule is looked up and not counted anew.
+ghost use Rattle.std.specs.Prelude.{◌≡◌, ◌<◌, ◌==◌, MatchBool, IfOk, IsTrue, false};
 ghost use Rattle.fleet_model.specs.Kept.{all_pairs, kept_by, kept_on};
 ghost use Rattle.fleet_model.specs.Schedule.{IsPair, legs_in};
 ghost use Rattle.bound_cert.specs.Bound.{part};
 ghost use Rattle.presolve.specs.Choices.{AreChoices};
 ghost use Rattle.presolve.specs.Removals.{NoneBare};
 
+use crate::alone::{add_alone, all_alone};
+use crate::cells::take_one;
+use crate::counting::{all_departures, all_landings, counts_of};
+use entries::NoMemory;
 use fleet_model::limits::MAX_LEGS;
 use fleet_model::{Kept, Pair, Step, Tables};
+use std::alloc::Global;
 
-/// The pairs that are kept so far, with the number of each leg's, so that a leg without a choice is known at once.
+/// The pairs that are kept so far, with what the rules ask for.
 #[derive(Drop)]
 pub(crate) struct Choices {
     pub kept: Kept,
+    /// How many pairs each leg keeps.
     pub counts: [u32; MAX_LEGS],
+    /// How many kept pairs of each fleet land at each station.
+    pub landings: Vec<u32>,
+    /// How many kept pairs of each fleet depart from each station.
+    pub departures: Vec<u32>,
+    /// The aircraft of each fleet that legs which keep no other keep busy, by minutes.
+    pub busy: Vec<u32>,
 }
 
 impl Choices {
     /// All pairs that may be flown.
-    pub(crate) fn all(tables: &Tables) -> Choices
-        ensures choices { AreChoices tables.now result }
-        ensures all { kept_by result.kept ≡ all_pairs tables.now }
+    pub(crate) fn all(alloc: Global, tables: &Tables) -> Result<Choices, NoMemory>
+        ensures choices { IfOk result (AreChoices tables.now) }
+        ensures all { IfOk result (λ choices. kept_by choices.kept ≡ all_pairs tables.now) }
     {
         let kept = Kept::all(tables);
-        let mut counts = [0; MAX_LEGS];
-        for leg in 0..tables.leg_count() {
-            counts[leg as usize] = kept.count_on(tables, leg);
-        }
-        Choices { kept, counts }
+        let counts = counts_of(tables, &kept);
+        let landings = all_landings(alloc, tables, &kept)?;
+        let departures = all_departures(alloc, tables, &kept)?;
+        let busy = all_alone(alloc, tables, &kept, &counts)?;
+        Ok(Choices {
+            kept,
+            counts,
+            landings,
+            departures,
+            busy,
+        })
     }
 
     /// Whether each leg keeps a pair.
@@ -55,16 +73,23 @@ impl Choices {
     /// Keeps a pair no longer.
     pub(crate) fn remove(&mut self, tables: &Tables, pair: Pair)
         requires choices { AreChoices tables.now self.old }
+        requires none_bare { NoneBare tables.now (kept_by self.old.kept) }
         requires pair { IsPair tables.now pair }
         requires kept { IsTrue (kept_by self.old.kept pair) }
         ensures choices { AreChoices tables.now self.new }
         ensures removed { kept_by self.new.kept ≡ part (kept_by self.old.kept) pair.leg pair.fleet false }
     {
+        let flown = tables.leg(pair.leg);
         self.kept.narrow(Step {
             leg: pair.leg,
             fleet: pair.fleet,
             yes: false,
         });
         self.counts[pair.leg as usize] -= 1;
+        take_one(&mut self.landings, pair.fleet, flown.to);
+        take_one(&mut self.departures, pair.fleet, flown.from);
+        if self.counts[pair.leg as usize] == 1 {
+            add_alone(&mut self.busy, tables, &self.kept, pair.leg);
+        }
     }
 }

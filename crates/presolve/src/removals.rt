@@ -13,7 +13,8 @@ use std::alloc::Global;
 /// The pairs that can be removed before the search, in order: passes go over the kept pairs, by leg, then fleet, and
 /// remove those that meet a rule, until a whole pass removes none or some leg keeps no pair.
 ///
-/// Each test looks at each leg up to three times (Hane and others 1995 remove pairs so before they solve).
+/// A pass takes constant time for each pair, and a removal looks once at each leg and at most once at each minute
+/// (Hane and others 1995 remove pairs so before they solve).
 pub fn trim(alloc: Global, tables: &Tables) -> Result<Entries<Trim>, NoMemory>
     // These pairs and no others, in this order, each with the reason by the first rule that it meets.
     ensures removals { IfOk result (AreRemovals tables.now (all_pairs tables.now) first_place) }
@@ -28,7 +29,7 @@ pub fn trim(alloc: Global, tables: &Tables) -> Result<Entries<Trim>, NoMemory>
     ensures fewer { IfOk result (λ trims. length trims + pairs_kept tables.now (kept_after (all_pairs tables.now) trims)
         ≡ pairs_kept tables.now (all_pairs tables.now)) }
 {
-    let mut choices = Choices::all(tables);
+    let mut choices = Choices::all(alloc, tables)?;
     let mut trims = Vec::new(alloc);
     let mut place = Pair { leg: 0, fleet: 0 };
     while let Some(found) = next_removal(tables, &choices, place) {

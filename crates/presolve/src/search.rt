@@ -3,12 +3,12 @@ ghost use Rattle.std.specs.Prelude.{◌≡◌, ◌<◌, MatchOption};
 ghost use Rattle.fleet_model.specs.Kept.{kept_by};
 ghost use Rattle.fleet_model.specs.Schedule.{legs_in};
 ghost use Rattle.presolve.specs.Choices.{AreChoices};
-ghost use Rattle.presolve.specs.Removals.{IsDone};
+ghost use Rattle.presolve.specs.Removals.{IsDone, NoneBare};
 ghost use Rattle.presolve.specs.Search.{IsFirstFrom, IsFirstOn, IsNextPair, NoneFrom, NoneOn};
 
 use crate::choices::Choices;
+use crate::first_rule::removed_by;
 use crate::rule::Rule;
-use crate::tests_of_rules::removed_by;
 use fleet_model::{Pair, Tables};
 
 /// A pair to be removed, and the first rule that it meets.
@@ -34,7 +34,8 @@ pub(crate) fn next_removal(tables: &Tables, choices: &Choices, place: Pair) -> O
 
 // The first pair from a place on that may be removed.
 fn first_from(tables: &Tables, choices: &Choices, place: Pair) -> Option<Removable>
-    requires { AreChoices tables.now choices.now }
+    requires choices { AreChoices tables.now choices.now }
+    requires none_bare { NoneBare tables.now (kept_by choices.now.kept) }
     ensures { MatchOption result (NoneFrom tables.now (kept_by choices.now.kept) place) (IsFirstFrom tables.now (kept_by choices.now.kept) place) }
 {
     for leg in place.leg..tables.leg_count() {
@@ -49,6 +50,7 @@ fn first_from(tables: &Tables, choices: &Choices, place: Pair) -> Option<Removab
 // The first pair of a leg, from a fleet on, that may be removed.
 fn first_on(tables: &Tables, choices: &Choices, leg: u32, start: u32) -> Option<Removable>
     requires choices { AreChoices tables.now choices.now }
+    requires none_bare { NoneBare tables.now (kept_by choices.now.kept) }
     requires leg { leg < legs_in tables.now }
     ensures { MatchOption result (NoneOn tables.now (kept_by choices.now.kept) leg start) (IsFirstOn tables.now (kept_by choices.now.kept) leg start) }
 {

@@ -6,8 +6,8 @@ use Rattle.presolve.proofs.removals.trim.Goals as goal
 
 pub loop-found-init : goal.loop-found-init
 loop-found-init c = record {
-  choices_are = c.all-choices.ensures.choices;
-  so_far = λ rest removals. rw (c.new-trims.ensures.items, ← c.all-choices.ensures.all) removals;
+  choices_are = c.in_ok-choices.ensures.choices;
+  so_far = λ rest removals. rw (c.new-trims.ensures.items, ← c.in_ok-choices.ensures.all) removals;
 }
 
 pub loop-found-smaller : goal.loop-found-smaller
@@ -22,7 +22,7 @@ loop-found-preserved c = record {
       c.remove.ensures.removed after;
 }
 
-removals : (c : goal.After-from_vec) → AreRemovals c.args.tables.now (all_pairs c.args.tables.now) first_place c.from_vec.result
+removals : (c : goal.After-drop-choices-4) → AreRemovals c.args.tables.now (all_pairs c.args.tables.now) first_place c.from_vec.result
 removals c = all_removals c.args.tables.now (kept_by c.loop-found.choices.kept) c.loop-found.place c.loop-found.trims.items c.from_vec.result c.from_vec.ensures c.loop-found.invariant.so_far c.in_default.ensures
 
 pub returns-clause-removals : goal.returns-clause-removals

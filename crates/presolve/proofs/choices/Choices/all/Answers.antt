@@ -1,12 +1,14 @@
-use Rattle.std.proofs.Common.{length-set, ◌∙◌, arith}
-use Rattle.fleet_model.specs.Kept.{kept_by, kept_on}
-use Rattle.presolve.proofs.Counted.{one_more}
+use Rattle.fleet_model.specs.Kept.{kept_by}
+use Rattle.presolve.specs.Choices.{busy_alone_at}
+use Rattle.presolve.proofs.AllCounted.{all_busy, all_departed, all_landed}
+use Rattle.presolve.proofs.CellLaws.{filled_width}
 use Rattle.presolve.proofs.choices.Choices.all.Goals as goal
 
-pub loop-leg-preserved : goal.loop-leg-preserved
-loop-leg-preserved c =
-    let fits = c.args.tables.now.in_range.legs_fit.few in
-    record {
-      width = length-set c.loop-leg.counts c.loop-leg.leg c.count_on.result ∙ c.loop-leg.invariant.width;
-      counted = one_more c.loop-leg.counts (kept_on c.args.tables.now (kept_by c.all-kept.result)) c.loop-leg.leg c.count_on.result (omega (arith, fits)) c.loop-leg.invariant.counted c.count_on.ensures;
-    }
+pub returns-clause-choices : goal.returns-clause-choices
+returns-clause-choices c = record {
+  counted = c.counts_of-counts.ensures;
+  landed = all_landed c.args.tables.now (kept_by c.all-kept.result) c.in_ok-landings.landings.items c.in_ok-landings.ensures;
+  departed = all_departed c.args.tables.now (kept_by c.all-kept.result) c.in_ok-departures.departures.items c.in_ok-departures.ensures;
+  busy_width = filled_width c.in_ok-busy.busy.items (busy_alone_at c.args.tables.now (kept_by c.all-kept.result)) _ c.in_ok-busy.ensures;
+  busy = λ none. all_busy c.args.tables.now (kept_by c.all-kept.result) c.in_ok-busy.busy.items c.in_ok-busy.ensures;
+}

@@ -1,0 +1,8 @@
+use Rattle.std.proofs.Common.{◌≡◌}
+use Rattle.sums.specs.Places.{list_below}
+use Rattle.fleet_model.specs.Kept.{kept_by}
+use Rattle.presolve.specs.Choices.{busy_alone_at}
+use Rattle.presolve.proofs.alone.all_alone.Given as goal
+
+abbrev pub invariant-loop-place : goal.invariant-loop-place
+invariant-loop-place l = l.cells.items ≡ list_below (busy_alone_at l.tables (kept_by l.kept)) l.place
