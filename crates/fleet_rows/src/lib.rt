@@ -3,6 +3,8 @@
 #![tactic(auto)]
 
 #[cfg(test)]
+mod checking;
+#[cfg(test)]
 mod costs;
 #[cfg(test)]
 mod faults;
@@ -18,6 +20,8 @@ mod legs;
 mod limits;
 #[cfg(test)]
 mod plans;
+#[cfg(test)]
+mod proofs;
 #[cfg(test)]
 mod rows;
 #[cfg(test)]

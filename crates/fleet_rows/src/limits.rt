@@ -1,8 +1,10 @@
 //! Tables at their limits, and one record or one byte past them.
-use crate::rows::{Counted, Laid, judged, run_readings, run_refusals, run_row, run_rows, solved};
-use crate::tables::{FLEETS, LEGAL, STATIONS, THROUGHS};
+use crate::rows::{
+    Counted, Laid, checked, judged, run_readings, run_refusals, run_row, run_rows, solved,
+};
+use crate::tables::{FLEETS, LEGAL, OPEN_PROOF, PRICED_PROOF, STATIONS, THROUGHS};
 use fleet_cli::{BAD_INPUT, DONE, FAULT, REFUSED};
-use plan_desk::DeskFile::{self, Costs, Fleets, Legs, Plan, Stations, Throughs};
+use plan_desk::DeskFile::{self, Costs, Fleets, Legs, Plan, Proof, Stations, Throughs};
 use std::alloc::Global;
 use std::test::Fail;
 
@@ -180,6 +182,29 @@ fn solving_a_file_of_one_byte_more(rt: HostRuntime) -> Result<(), Fail> {
     let laid = [Laid::Bytes(Throughs, text.as_slice())];
     let line = b"bad input: throughs.csv record 0 kind 12\n";
     run_rows(&rt, &[solved(&laid, BAD_INPUT, line, &[])])
+}
+
+// The plan is read only where the proof says that one comes with it.
+#[test]
+fn checking_a_file_of_one_byte_more(rt: HostRuntime) -> Result<(), Fail> {
+    let text = filled(rt.alloc(), THROUGHS, 4_194_305)?;
+    let priced = Laid::Bytes(Proof, PRICED_PROOF);
+    let open = Laid::Bytes(Proof, OPEN_PROOF);
+    let throughs = [Laid::Bytes(Throughs, text.as_slice()), priced];
+    let plan = [Laid::Bytes(Plan, text.as_slice()), priced];
+    let unread = [Laid::Bytes(Plan, text.as_slice()), open];
+    run_rows(
+        &rt,
+        &[
+            checked(
+                &throughs,
+                BAD_INPUT,
+                b"bad input: throughs.csv record 0 kind 12\n",
+            ),
+            checked(&plan, BAD_INPUT, b"bad input: plan.csv record 0 kind 12\n"),
+            checked(&unread, DONE, b"holds: bound 180\n"),
+        ],
+    )
 }
 
 // A file that is too long is refused in the order of the reads, and before any table is judged.

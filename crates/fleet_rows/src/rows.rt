@@ -53,6 +53,9 @@ pub const JUDGE: &[&str] = &["fleetplan", "judge", "d", "--day-start", "00:00"];
 /// The words of a solve whose day starts at midnight.
 const SOLVE: &[&str] = &["fleetplan", "solve", "d", "--day-start", "00:00"];
 
+/// The words of a check whose day starts at midnight.
+const CHECK: &[&str] = &["fleetplan", "check", "d", "--day-start", "00:00"];
+
 /// A row of a judge whose day starts at midnight.
 pub fn judged<'a, 'b>(laid: &'a [Laid<'b>], status: u8, text: &'a [u8]) -> Row<'a, 'b> {
     Row {
@@ -80,6 +83,17 @@ pub fn solved<'a, 'b>(
     }
 }
 
+/// A row of a check whose day starts at midnight.
+pub fn checked<'a, 'b>(laid: &'a [Laid<'b>], status: u8, text: &'a [u8]) -> Row<'a, 'b> {
+    Row {
+        laid,
+        words: CHECK,
+        status,
+        text,
+        left: &[],
+    }
+}
+
 /// Runs each row. Only a row that wants a fault may count one.
 pub fn run_rows<R: Abort + Alloc<A = Global>>(rt: &R, rows: &[Row<'_, '_>]) -> Result<(), Fail> {
     for (number, row) in rows.iter().enumerate() {
@@ -100,6 +114,33 @@ pub fn run_refusals<R: Abort + Alloc<A = Global>>(
     for (number, (bytes, line)) in cases.iter().enumerate() {
         let laid = [Laid::Bytes(file, bytes)];
         let counted = run_row(rt, number, &judged(&laid, status, line), &[], &[])?;
+        assert_eq!(rt; counted, Counted { desk: 0, sink: 0 }, "row {number}");
+    }
+    Ok(())
+}
+
+/// Runs a check for each set of files that is laid over those of the first run, and wants the line beside it.
+pub fn run_checks<R: Abort + Alloc<A = Global>>(
+    rt: &R,
+    status: u8,
+    cases: &[(&[Laid<'static>], &[u8])],
+) -> Result<(), Fail> {
+    for (number, (laid, line)) in cases.iter().enumerate() {
+        let counted = run_row(rt, number, &checked(laid, status, line), &[], &[])?;
+        assert_eq!(rt; counted, Counted { desk: 0, sink: 0 }, "row {number}");
+    }
+    Ok(())
+}
+
+/// Runs a check for each text of the proof, over the files of the first run, and wants the line beside it.
+pub fn run_proofs<R: Abort + Alloc<A = Global>>(
+    rt: &R,
+    status: u8,
+    cases: &[(&[u8], &[u8])],
+) -> Result<(), Fail> {
+    for (number, (bytes, line)) in cases.iter().enumerate() {
+        let laid = [Laid::Bytes(DeskFile::Proof, bytes)];
+        let counted = run_row(rt, number, &checked(&laid, status, line), &[], &[])?;
         assert_eq!(rt; counted, Counted { desk: 0, sink: 0 }, "row {number}");
     }
     Ok(())

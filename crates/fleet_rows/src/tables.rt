@@ -29,6 +29,9 @@ pub const OPEN: &[u8] = b"outcome: unsettled\ncost: none\nbound: 180\nsplits: 0\
 /// The proof that it writes.
 pub const OPEN_PROOF: &[u8] = b"fleet proof 1\nplan no\nopen pivots 0\nscale 1\nend\n";
 
+/// A proof that comes with the plan of the first run: its prices bound each assignment by the plan's cost.
+pub const PRICED_PROOF: &[u8] = b"fleet proof 1\nplan yes\npriced\nscale 1\nat F2 AAA 0 20\nend\n";
+
 /// The files of the first run, in the order in which `judge` reads them.
 pub const FIRST_RUN: [(DeskFile, &[u8]); 6] = [
     (DeskFile::Stations, STATIONS),

@@ -70,7 +70,6 @@ const NO_COMMAND: &[&str] = &[
     "fleetplan Judge d --day-start 00:00",
     "judge d --day-start 00:00",
     "fleetplan --day-start 00:00 judge d",
-    "fleetplan check d",
     "fleetplan make d",
     "fleetplan tails d",
     "fleetplan help",
@@ -94,6 +93,21 @@ const NOTHING_TO_JUDGE: &[&str] = &[
     "fleetplan judge d -- --day-start 00:00",
     "fleetplan judge d --help",
     "fleetplan judge d -h",
+];
+
+const NOTHING_TO_CHECK: &[&str] = &[
+    "fleetplan check",
+    "fleetplan check --day-start 00:00",
+    "fleetplan check d more",
+    "fleetplan check -d",
+    "fleetplan check d --day-start",
+    "fleetplan check d --day-start 24:00",
+    "fleetplan check d --day-start 00:00 --day-start 00:00",
+    "fleetplan check d --nodes 1",
+    "fleetplan check d --pivots 0",
+    "fleetplan check d --json",
+    "fleetplan check d -- --day-start 00:00",
+    "fleetplan check --help",
 ];
 
 const NOTHING_TO_SOLVE: &[&str] = &[
@@ -131,7 +145,12 @@ fn words_that_ask_for_nothing(rt: HostRuntime) -> Result<(), Fail> {
             wanting(&["fleetplan", ""], REFUSED_WORDS),
         ],
     )?;
-    for lines in [NO_COMMAND, NOTHING_TO_JUDGE, NOTHING_TO_SOLVE] {
+    for lines in [
+        NO_COMMAND,
+        NOTHING_TO_JUDGE,
+        NOTHING_TO_CHECK,
+        NOTHING_TO_SOLVE,
+    ] {
         run_lines(&rt, lines, REFUSED_WORDS)?;
     }
     Ok(())
@@ -183,6 +202,8 @@ fn folders_that_begin_with_a_dash(rt: HostRuntime) -> Result<(), Fail> {
         "fleetplan judge -",
         "fleetplan judge -- -d",
         "fleetplan judge --day-start 00:00 -- --day-start",
+        "fleetplan check -",
+        "fleetplan check -- -d",
         "fleetplan solve -",
         "fleetplan solve --nodes 5 -- -d",
         "fleetplan solve -- --help",
