@@ -8,7 +8,7 @@ use Rattle.sums.proofs.WholeSums.{sum_below_ℤ-same}
 use Rattle.fleet_model.specs.declared.tables.Tables.{Tables}
 use Rattle.fleet_model.specs.Kept.{Domains}
 use Rattle.fleet_model.specs.Schedule.{fleets_in, legs_in, stations_in}
-use Rattle.row_store.specs.Problem.{entry}
+use Rattle.row_store.specs.Problem.{MeetsRows, entry, point_cost}
 use Rattle.row_store.specs.declared.problem.Rows.{Rows}
 use Rattle.lp_rows.specs.declared.kinds.Node.{Node}
 use Rattle.lp_rows.specs.declared.kinds.Column.{Column}
@@ -17,7 +17,7 @@ use Rattle.lp_rows.specs.declared.kinds.Line.{Line}
 use Rattle.lp_rows.specs.declared.kinds.Line.TheVariants.{Cover, Balance, Count}
 use Rattle.lp_rows.specs.Entries.{IsLine, IsNode, column_cost, entry_of, right_side_of}
 use Rattle.lp_rows.specs.Layout.{Starts, all_nodes, columns_of, concat_below, lines_of, list_to, node_at, nodes_at, nodes_of}
-use Rattle.lp_rows.specs.Points.{MeetsRows, column_at, point_cost}
+use Rattle.lp_rows.specs.Points.{column_at}
 use Rattle.lp_rows.specs.Program.{AreRows, numbers_of}
 use Rattle.lp_rows.proofs.LineSums.{line_sum}
 use Rattle.lp_rows.proofs.Totals.{over_columns}

@@ -1,13 +1,13 @@
 -- Points of the lines of a subproblem, and the mixed plans that they stand for.
-use Rattle.std.specs.Prelude.{◌≡◌, ℕ, ◌+◌, ◌<◌, Bool, false, ◌==◌, ◌&&◌, if◌then◌else◌, List, length, slice_index_or, ℤ, pos, ◌*ℤ◌}
-use Rattle.sums.specs.Below.{sum_below, sum_below_ℤ}
+use Rattle.std.specs.Prelude.{◌≡◌, ℕ, ◌+◌, Bool, false, ◌==◌, ◌&&◌, if◌then◌else◌, List, length, slice_index_or}
+use Rattle.sums.specs.Below.{sum_below}
 use Rattle.fleet_model.specs.declared.parts.Pair.{Pair}
 use Rattle.fleet_model.specs.declared.tables.Tables.{Tables}
 use Rattle.fleet_model.specs.Counts.{Weights}
 use Rattle.fleet_model.specs.Kept.{Domains, kept_on}
 use Rattle.fleet_model.specs.Mixed.{IsMixedPlan, mixed_cost}
 use Rattle.fleet_model.specs.Schedule.{IsPair, fleets_in, legs_in, stations_in}
-use Rattle.row_store.specs.Problem.{entry}
+use Rattle.row_store.specs.Problem.{MeetsRows, point_cost}
 use Rattle.row_store.specs.declared.problem.Rows.{Rows}
 use Rattle.lp_rows.specs.declared.kinds.Column.{Column}
 use Rattle.lp_rows.specs.declared.kinds.Column.TheVariants.{Flight, Ground, Slack}
@@ -33,12 +33,6 @@ value_of columns x column = sum_below (λ c. if same_column column (column_at co
 abbrev pub pair_part : List Column → (ℕ → ℕ) → Weights
 pair_part columns x p = value_of columns x (Flight p)
 
--- a point of the lines, over a scale: numbers of at least 0, one for each column, by which each line comes to its
--- right side, so many parts each
-pub record MeetsRows (rows : Rows) (scale : ℕ) (x : ℕ → ℕ) : Type 0 where
-  pub each : (line : ℕ) → line < length rows.lines
-      → sum_below_ℤ (λ c. entry rows line c *ℤ pos (x c)) rows.columns ≡ entry rows line rows.columns *ℤ pos scale
-
 -- the pair part of each point is a mixed plan of its scale
 abbrev pub PointsArePlans : Type 0
 PointsArePlans = (t : Tables) (keeps : Domains) (starts : Starts) (rows : Rows) (scale : ℕ) (x : ℕ → ℕ) → AreRows t keeps starts rows
@@ -53,10 +47,6 @@ pub record IsPointOf (t : Tables) (columns : List Column) (rows : Rows) (scale :
 abbrev pub PlansArePoints : Type 0
 PlansArePoints = (t : Tables) (keeps : Domains) (starts : Starts) (rows : Rows) (scale : ℕ) (w : Weights) → AreRows t keeps starts rows
     → IsMixedPlan t keeps scale w → (x : ℕ → ℕ) × IsPointOf t (columns_of t keeps starts) rows scale w x
-
--- what a point costs, times its scale
-abbrev pub point_cost : Rows → (ℕ → ℕ) → ℤ
-point_cost rows x = sum_below_ℤ (λ c. slice_index_or rows.costs c (pos 0) *ℤ pos (x c)) rows.columns
 
 -- a point costs what its pair part does
 abbrev pub PointsCostAsPlans : Type 0

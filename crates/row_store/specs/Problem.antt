@@ -1,5 +1,5 @@
--- Lines and costs, and the first table that they make.
-use Rattle.std.specs.Prelude.{ℕ, ℤ, pos, ◌+◌, ◌-◌, ◌^◌, ◌<◌, ◌≤◌, ◌≡◌, ◌==◌, nat_lt, List, [], length, slice_index_or, unsigned_abs, neg_ℤ, All, if◌then◌else◌}
+-- Lines and costs, the first table that they make, and the points of the lines.
+use Rattle.std.specs.Prelude.{ℕ, ℤ, pos, ◌+◌, ◌-◌, ◌*ℤ◌, ◌^◌, ◌<◌, ◌≤◌, ◌≡◌, ◌==◌, nat_lt, List, [], length, slice_index_or, unsigned_abs, neg_ℤ, All, if◌then◌else◌}
 use Rattle.sums.specs.Below.{sum_below, sum_below_ℤ}
 use Rattle.sums.specs.Places.{list_below}
 use Rattle.frac_row.specs.Outgrown.{IsWithin}
@@ -47,3 +47,13 @@ first_row rows row = record {
 -- the lines, the phase row, the cost row
 unfoldable pub first_table : Rows → List FracRow
 first_table rows = list_below (first_row rows) (length rows.lines + 2)
+
+-- a point of the lines, over a scale: numbers of at least 0, one for each column, by which each line comes to its
+-- right side, so many parts each
+pub record MeetsRows (rows : Rows) (scale : ℕ) (x : ℕ → ℕ) : Type 0 where
+  pub each : (line : ℕ) → line < length rows.lines
+      → sum_below_ℤ (λ c. entry rows line c *ℤ pos (x c)) rows.columns ≡ entry rows line rows.columns *ℤ pos scale
+
+-- what a point costs, times its scale
+abbrev pub point_cost : Rows → (ℕ → ℕ) → ℤ
+point_cost rows x = sum_below_ℤ (λ c. slice_index_or rows.costs c (pos 0) *ℤ pos (x c)) rows.columns

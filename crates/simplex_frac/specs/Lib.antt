@@ -2,3 +2,5 @@ pub mod Run
 pub mod Outcomes
 pub mod Ends
 pub mod Laws
+pub mod Duality
+pub mod LastTables

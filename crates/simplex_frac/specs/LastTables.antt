@@ -1,0 +1,62 @@
+-- What the last table of the run tells: at the best, where there is no point, and at a ray.
+use Rattle.std.specs.Prelude.{ℕ, pos, neg_ℤ, ◌*ℤ◌, ◌<◌, ◌≡◌, ◌≢◌, ◌<ℤ◌, ◌≤ℤ◌, List, length, slice_index}
+use Rattle.frac_row.specs.declared.row.FracRow.{FracRow}
+use Rattle.row_store.specs.declared.problem.Rows.{Rows}
+use Rattle.row_store.specs.Table.{number_at, phase_row, cost_row, right_side}
+use Rattle.row_store.specs.Problem.{IsProblem, first_table, MeetsRows, point_cost}
+use Rattle.simplex_frac.specs.Outcomes.{TurnsAt}
+use Rattle.simplex_frac.specs.Duality.{den_at, AreRightSidesAtLeast0}
+use Rattle.simplex_frac.specs.declared.turn.Turn.{Turn}
+use Rattle.simplex_frac.specs.declared.turn.Turn.TheVariants.{Best, NoPoint, Ray}
+
+-- a problem, and what its run does after so many pivots
+pub record IsTurn (rows : Rows) (made : ℕ) (table : List FracRow) (basis : List ℕ) (does : Turn) : Type 0 where
+  pub problem : IsProblem rows
+  pub turns : TurnsAt (first_table rows) rows.columns made table basis does
+
+-- no real column improves: the phase row is nowhere below 0, and where it is 0, nor is the cost row
+pub record NoneImproves (rows : Rows) (table : List FracRow) : Type 0 where
+  pub phase : (column : ℕ) → column < rows.columns → pos 0 ≤ℤ number_at table (phase_row table) column
+  pub cost : (column : ℕ) → column < rows.columns → number_at table (phase_row table) column ≡ pos 0 → pos 0 ≤ℤ number_at table (cost_row table) column
+  pub above : (column : ℕ) → column < rows.columns → number_at table (cost_row table) column <ℤ pos 0 → pos 0 <ℤ number_at table (phase_row table) column
+
+-- the lines are met, and no real column improves
+pub record IsBestTable (rows : Rows) (table : List FracRow) : Type 0 where
+  pub none : NoneImproves rows table
+  pub met : right_side table (phase_row table) ≡ pos 0
+
+abbrev pub BestTells : Type 0
+BestTells = (rows : Rows) (made : ℕ) (table : List FracRow) (basis : List ℕ) → IsTurn rows made table basis Best → IsBestTable rows table
+
+-- the lines are not met, though the phase row is nowhere below 0 before its right side
+pub record IsNoPointTable (rows : Rows) (table : List FracRow) : Type 0 where
+  pub phase : (column : ℕ) → column < rows.columns → pos 0 ≤ℤ number_at table (phase_row table) column
+  pub unmet : right_side table (phase_row table) <ℤ pos 0
+
+abbrev pub NoPointTells : Type 0
+NoPointTells = (rows : Rows) (made : ℕ) (table : List FracRow) (basis : List ℕ) → IsTurn rows made table basis NoPoint → AreRightSidesAtLeast0 rows → IsNoPointTable rows table
+
+-- a point over a scale that has in each basic real column the right side of its line over the denominator, and 0 in
+-- all other real columns
+pub record IsBasicPoint (rows : Rows) (table : List FracRow) (basis : List ℕ) (scale : ℕ) (x : ℕ → ℕ) : Type 0 where
+  pub basic : (line : ℕ) → line < length rows.lines → slice_index basis line < rows.columns
+      → pos (x (slice_index basis line)) *ℤ den_at table line ≡ right_side table line *ℤ pos scale
+  pub others : (column : ℕ) → column < rows.columns → ((line : ℕ) → line < length rows.lines → slice_index basis line ≢ column) → x column ≡ 0
+
+-- it meets the lines, and costs what the right side of the cost row says with the other sign
+pub record MeetsAtCost (rows : Rows) (table : List FracRow) (scale : ℕ) (x : ℕ → ℕ) : Type 0 where
+  pub meets : MeetsRows rows scale x
+  pub cost : point_cost rows x *ℤ den_at table (cost_row table) ≡ neg_ℤ (right_side table (cost_row table)) *ℤ pos scale
+
+abbrev pub BasicPointMeets : Type 0
+BasicPointMeets =
+    (rows : Rows) (made : ℕ) (table : List FracRow) (basis : List ℕ) (scale : ℕ) (x : ℕ → ℕ) → IsTurn rows made table basis Best → AreRightSidesAtLeast0 rows → IsBasicPoint rows table basis scale x → MeetsAtCost rows table scale x
+
+-- a direction in which a column rises, the lines stay met, and the cost falls
+pub record IsDirection (rows : Rows) (column : ℕ) (x : ℕ → ℕ) : Type 0 where
+  pub rises : 0 < x column
+  pub meets : MeetsRows rows 0 x
+  pub falls : point_cost rows x <ℤ pos 0
+
+abbrev pub RayIsDirection : Type 0
+RayIsDirection = (rows : Rows) (made : ℕ) (table : List FracRow) (basis : List ℕ) (column : ℕ) → IsTurn rows made table basis (Ray column) → (x : ℕ → ℕ) × IsDirection rows column x
