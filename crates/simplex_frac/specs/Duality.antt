@@ -7,6 +7,7 @@ use Rattle.row_store.specs.Table.{row_at, number_at, phase_row, cost_row, column
 use Rattle.row_store.specs.Problem.{entry, IsProblem, first_table}
 use Rattle.simplex_frac.specs.Outcomes.{Reaches}
 
+-- the denominator of a row
 abbrev pub den_at : List FracRow → ℕ → ℤ
 den_at table row = (row_at table row).den
 
@@ -36,11 +37,12 @@ pub record IsTableOf (rows : Rows) (table : List FracRow) (basis : List ℕ) : T
   pub dens : (row : ℕ) → row < length rows.lines + 2 → pos 0 <ℤ den_at table row
   pub basis_in : length basis ≡ length rows.lines
 
+-- the run of a problem has such tables
 abbrev pub RunHasTables : Type 0
 RunHasTables = (rows : Rows) (made : ℕ) (table : List FracRow) (basis : List ℕ) → IsReached rows made table basis → IsTableOf rows table basis
 
--- the first table's numbers of a line tell how much of each line a row of the table has taken: each row is the lines
--- by its numbers in the identity block, and in the phase row and the cost row what they began with beside that
+-- each row read off the identity block: the lines, each times the row's number there; in the phase row less its
+-- denominator, and in the cost row with the costs beside them
 pub record ReadsOff (rows : Rows) (table : List FracRow) : Type 0 where
   pub lines : (row column : ℕ) → row < length rows.lines → column ≤ rows.columns
       → amount_at table rows.columns row column ≡ weighed rows (identity_at table rows.columns row) column
@@ -49,6 +51,7 @@ pub record ReadsOff (rows : Rows) (table : List FracRow) : Type 0 where
   pub cost : (column : ℕ) → column ≤ rows.columns
       → amount_at table rows.columns (cost_row table) column ≡ weighed rows (identity_at table rows.columns (cost_row table)) column +ℤ (den_at table (cost_row table) *ℤ slice_index_or rows.costs column (pos 0))
 
+-- .. for every table of the run
 abbrev pub RunReadsOff : Type 0
 RunReadsOff = (rows : Rows) (made : ℕ) (table : List FracRow) (basis : List ℕ) → IsReached rows made table basis → ReadsOff rows table
 
@@ -58,6 +61,7 @@ pub record HasUnitColumns (rows : Rows) (table : List FracRow) (basis : List ℕ
   pub own : (line : ℕ) → line < length rows.lines → number_at table line (slice_index basis line) ≡ den_at table line
   pub others : (line row : ℕ) → line < length rows.lines → row < length rows.lines + 2 → row ≢ line → number_at table row (slice_index basis line) ≡ pos 0
 
+-- .. in every table of the run
 abbrev pub RunHasUnitColumns : Type 0
 RunHasUnitColumns = (rows : Rows) (made : ℕ) (table : List FracRow) (basis : List ℕ) → IsReached rows made table basis → HasUnitColumns rows table basis
 
@@ -65,6 +69,7 @@ RunHasUnitColumns = (rows : Rows) (made : ℕ) (table : List FracRow) (basis : L
 pub record AreRightSidesAtLeast0 (rows : Rows) : Type 0 where
   pub each : (line : ℕ) → line < length rows.lines → pos 0 ≤ℤ entry rows line rows.columns
 
+-- .. nor of any table of the run
 abbrev pub RunKeepsRightSides : Type 0
 RunKeepsRightSides =
     (rows : Rows) (made : ℕ) (table : List FracRow) (basis : List ℕ) (line : ℕ) → IsReached rows made table basis → AreRightSidesAtLeast0 rows → line < length rows.lines → pos 0 ≤ℤ right_side table line

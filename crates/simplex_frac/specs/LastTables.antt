@@ -14,7 +14,7 @@ pub record IsTurn (rows : Rows) (made : ℕ) (table : List FracRow) (basis : Lis
   pub problem : IsProblem rows
   pub turns : TurnsAt (first_table rows) rows.columns made table basis does
 
--- no real column improves: the phase row is nowhere below 0, and where it is 0, nor is the cost row
+-- no real column improves: the phase row is below 0 in none, nor, where it is 0, is the cost row
 pub record NoneImproves (rows : Rows) (table : List FracRow) : Type 0 where
   pub phase : (column : ℕ) → column < rows.columns → pos 0 ≤ℤ number_at table (phase_row table) column
   pub cost : (column : ℕ) → column < rows.columns → number_at table (phase_row table) column ≡ pos 0 → pos 0 ≤ℤ number_at table (cost_row table) column
@@ -25,14 +25,16 @@ pub record IsBestTable (rows : Rows) (table : List FracRow) : Type 0 where
   pub none : NoneImproves rows table
   pub met : right_side table (phase_row table) ≡ pos 0
 
+-- .. where the run ends at the best
 abbrev pub BestTells : Type 0
 BestTells = (rows : Rows) (made : ℕ) (table : List FracRow) (basis : List ℕ) → IsTurn rows made table basis Best → IsBestTable rows table
 
--- the lines are not met, though the phase row is nowhere below 0 before its right side
+-- the phase row is below 0 in no real column, but at its right side
 pub record IsNoPointTable (rows : Rows) (table : List FracRow) : Type 0 where
   pub phase : (column : ℕ) → column < rows.columns → pos 0 ≤ℤ number_at table (phase_row table) column
   pub unmet : right_side table (phase_row table) <ℤ pos 0
 
+-- .. where the run ends at no point, from right sides of at least 0
 abbrev pub NoPointTells : Type 0
 NoPointTells = (rows : Rows) (made : ℕ) (table : List FracRow) (basis : List ℕ) → IsTurn rows made table basis NoPoint → AreRightSidesAtLeast0 rows → IsNoPointTable rows table
 
@@ -48,6 +50,7 @@ pub record MeetsAtCost (rows : Rows) (table : List FracRow) (scale : ℕ) (x : �
   pub meets : MeetsRows rows scale x
   pub cost : point_cost rows x *ℤ den_at table (cost_row table) ≡ neg_ℤ (right_side table (cost_row table)) *ℤ pos scale
 
+-- .. at the best, from right sides of at least 0
 abbrev pub BasicPointMeets : Type 0
 BasicPointMeets =
     (rows : Rows) (made : ℕ) (table : List FracRow) (basis : List ℕ) (scale : ℕ) (x : ℕ → ℕ) → IsTurn rows made table basis Best → AreRightSidesAtLeast0 rows → IsBasicPoint rows table basis scale x → MeetsAtCost rows table scale x
@@ -58,5 +61,6 @@ pub record IsDirection (rows : Rows) (column : ℕ) (x : ℕ → ℕ) : Type 0 w
   pub meets : MeetsRows rows 0 x
   pub falls : point_cost rows x <ℤ pos 0
 
+-- .. at a ray
 abbrev pub RayIsDirection : Type 0
 RayIsDirection = (rows : Rows) (made : ℕ) (table : List FracRow) (basis : List ℕ) (column : ℕ) → IsTurn rows made table basis (Ray column) → (x : ℕ → ℕ) × IsDirection rows column x

@@ -1,5 +1,7 @@
 //! Laws of the run, each a function whose contract is the law.
 
+ghost use Rattle.simplex_frac.specs.Duality.{RunHasTables, RunHasUnitColumns, RunKeepsRightSides, RunReadsOff};
+ghost use Rattle.simplex_frac.specs.LastTables.{BasicPointMeets, BestTells, NoPointTells, RayIsDirection};
 ghost use Rattle.simplex_frac.specs.Laws.{HasOneOutcome, RunKeepsPoints, RunKeepsShape, RunKeepsSurplus};
 
 /// A point meets the lines of the run's table after so many pivots exactly where it meets those of the
@@ -22,4 +24,48 @@ pub fn run_keeps_shape()
 /// A run within a budget has one outcome, so that `solve` answers each one exactly where its cause holds.
 pub fn has_one_outcome()
     ensures { HasOneOutcome }
+{}
+
+/// Each table of the run of a problem has a row for each line and two more, a column for each real one and
+/// each line and one more, positive denominators, and a basic column for each line.
+pub fn run_has_tables()
+    ensures { RunHasTables }
+{}
+
+/// Each row of each table of the run is the lines, as many times each as its numbers in the identity block
+/// say, so that prices can be read off there.
+pub fn run_reads_off()
+    ensures { RunReadsOff }
+{}
+
+/// Each basic column is a unit column: it has its own row's denominator there, and 0 in all other rows, the
+/// phase row and the cost row among them.
+pub fn run_has_unit_columns()
+    ensures { RunHasUnitColumns }
+{}
+
+/// Where no right side of the lines is below 0, none of any table of the run is.
+pub fn run_keeps_right_sides()
+    ensures { RunKeepsRightSides }
+{}
+
+/// At the best the phase row and, where that is 0, the cost row are below 0 in no real column, and the right
+/// side of the phase row is 0.
+pub fn best_tells()
+    ensures { BestTells }
+{}
+
+/// Where the run ends at no point, the phase row is below 0 in no real column, but at its right side.
+pub fn no_point_tells()
+    ensures { NoPointTells }
+{}
+
+/// The basic point of the best table meets the lines, at the cost that the cost row tells.
+pub fn basic_point_meets()
+    ensures { BasicPointMeets }
+{}
+
+/// At a ray there is a direction in which its column rises, the lines stay met, and the cost falls.
+pub fn ray_is_direction()
+    ensures { RayIsDirection }
 {}

@@ -10,3 +10,6 @@ pub mod SumBounds
 pub mod Summation
 pub mod WholeSums
 pub mod WholeSwaps
+pub mod Products
+pub mod WholeTerms
+pub mod Signs
