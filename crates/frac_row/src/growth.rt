@@ -75,7 +75,7 @@ fn place_growth(
 }
 
 /// A product, unless it is outgrown.
-fn product(a: &i128, b: &i128) -> Option<i128>
+pub fn product(a: &i128, b: &i128) -> Option<i128>
     ensures { MatchOption result (is_outgrown (a.now *ℤ b.now) ≡ true) (λ x. (x ≡ a.now *ℤ b.now) × (is_outgrown (a.now *ℤ b.now) ≡ false)) }
 {
     match a.checked_mul(*b) {
@@ -85,7 +85,7 @@ fn product(a: &i128, b: &i128) -> Option<i128>
 }
 
 /// A difference, unless it is outgrown.
-fn difference(a: &i128, b: &i128) -> Option<i128>
+pub fn difference(a: &i128, b: &i128) -> Option<i128>
     ensures { MatchOption result (is_outgrown (a.now -ℤ b.now) ≡ true) (λ x. (x ≡ a.now -ℤ b.now) × (is_outgrown (a.now -ℤ b.now) ≡ false)) }
 {
     match a.checked_sub(*b) {

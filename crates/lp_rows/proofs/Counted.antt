@@ -12,7 +12,7 @@ use Rattle.lp_rows.specs.Points.{RowsAreCounted, arcs_in, pairs_kept}
 use Rattle.lp_rows.proofs.LineNumbers.{line_count}
 use Rattle.lp_rows.proofs.Totals.{length-list_to}
 
-length-concat : {X : Type 0} (g : ℕ → List X) (count : ℕ → ℕ) (n : ℕ) → ((k : ℕ) → k < n → length (g k) ≡ count k) → length (concat_below g n) ≡ sum_below count n
+pub length-concat : {X : Type 0} (g : ℕ → List X) (count : ℕ → ℕ) (n : ℕ) → ((k : ℕ) → k < n → length (g k) ≡ count k) → length (concat_below g n) ≡ sum_below count n
 length-concat g count zero each = refl
 length-concat g count (suc n) each = omega (arith, length-append (concat_below g n) (g n), length-concat g count n (λ k below. each k (omega arith)), each n (omega arith))
 
@@ -20,12 +20,12 @@ length-one : {X : Type 0} (b : Bool) (x : X) → length (if b then x ∷ [] else
 length-one true x = refl
 length-one false x = refl
 
-pairs_are : (t : Tables) (keeps : Domains) → length (all_kept t keeps) ≡ pairs_kept t keeps
+pub pairs_are : (t : Tables) (keeps : Domains) → length (all_kept t keeps) ≡ pairs_kept t keeps
 pairs_are t keeps =
     length-concat (pairs_of t keeps) (kept_on t keeps) (legs_in t)
     (λ l below. length-concat (pair_of keeps l) (λ f. if keeps (leg_on l f) then 1 else 0) (fleets_in t) (λ f known. length-one (keeps (leg_on l f)) (leg_on l f)))
 
-nodes_are : (t : Tables) (starts : Starts) → length (all_nodes t starts) ≡ arcs_in t starts
+pub nodes_are : (t : Tables) (starts : Starts) → length (all_nodes t starts) ≡ arcs_in t starts
 nodes_are t starts =
     length-concat (nodes_of t starts) (λ f. sum_below (λ s. length (starts f s)) (stations_in t)) (fleets_in t)
     (λ f known. length-concat (nodes_at starts f) (λ s. length (starts f s)) (stations_in t) (λ s within. length-list_to (node_at f s) (length (starts f s))))

@@ -98,8 +98,8 @@ fn push_counts(lines: &mut Vec<Line>, tables: &Tables) -> Result<(), NoMemory>
     Ok(())
 }
 
-// The kept pairs, by leg, then fleet.
-fn kept_pairs(alloc: Global, tables: &Tables, kept: &Kept) -> Result<Vec<Pair>, NoMemory>
+/// The kept pairs, by leg, then fleet: the columns begin with them.
+pub fn kept_pairs(alloc: Global, tables: &Tables, kept: &Kept) -> Result<Vec<Pair>, NoMemory>
     ensures { IfOk result (λ pairs. pairs.items ≡ all_kept tables.now (kept_by kept.now)) }
 {
     let mut pairs = Vec::new(alloc);
@@ -133,8 +133,8 @@ fn push_pair(pairs: &mut Vec<Pair>, kept: &Kept, pair: Pair) -> Result<(), NoMem
     Ok(())
 }
 
-// The nodes, by fleet, station and place.
-fn network_nodes(alloc: Global, tables: &Tables, network: &Network) -> Result<Vec<Node>, NoMemory>
+/// The nodes, by fleet, station and place: the order of the ground arcs and of the balance lines.
+pub fn network_nodes(alloc: Global, tables: &Tables, network: &Network) -> Result<Vec<Node>, NoMemory>
     requires { AreByStation tables.now network.now }
     ensures { IfOk result (λ nodes. nodes.items ≡ all_nodes tables.now (starts_in network.now)) }
 {

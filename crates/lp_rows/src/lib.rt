@@ -9,6 +9,6 @@ pub mod network;
 pub mod program;
 
 pub use kinds::{Column, Line, Node};
-pub use layout::{columns, lines};
+pub use layout::{columns, kept_pairs, lines, network_nodes};
 pub use network::Network;
 pub use program::rows;

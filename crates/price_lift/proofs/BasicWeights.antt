@@ -1,0 +1,218 @@
+-- The weights that a list of them gives to pairs.
+use Rattle.std.proofs.Common.{◌≡◌, ◌≢◌, ℕ, zero, suc, ◌<◌, ◌≤◌, Bool, true, false, cond, ◌==◌, ◌&&◌, if◌then◌else◌, List, [], ◌∷◌, ◌++◌, length, get_or, map, ℤ, pos, ◌*ℤ◌, ◌≤ℤ◌, unsigned_abs, refl, sym, ◌∙◌, ap, subst, ◌⊎◌, inl, inr, arith, append_assoc, length-append}
+use mathlib.Core.Bool.{false≢true}
+use Rattle.std.proofs.lemmas.Bool.{cases_lt}
+use Rattle.std.proofs.lemmas.Bool.Decides.{nat_tests}
+use Rattle.std.proofs.lemmas.Int.{ints}
+use Rattle.std.proofs.lemmas.List.{get_or-map, get_or_append_left, length-map}
+use Rattle.frac_row.specs.declared.row.FracRow.{FracRow}
+use Rattle.fleet_model.specs.declared.parts.Pair.{Pair}
+use Rattle.fleet_model.specs.declared.tables.Tables.{Tables}
+use Rattle.fleet_model.specs.Kept.{Domains}
+use Rattle.fleet_model.specs.Schedule.{leg_on}
+use Rattle.row_store.specs.Table.{height_of, right_side, row_at}
+use Rattle.lp_rows.specs.declared.kinds.Column.{Column}
+use Rattle.lp_rows.specs.declared.kinds.Column.TheVariants.{Flight, Ground, Slack}
+use Rattle.lp_rows.specs.Layout.{Starts, all_kept, all_nodes, columns_of, concat_below, list_to}
+use Rattle.lp_rows.specs.Points.{column_at, pairs_kept, value_of}
+use Rattle.lp_rows.proofs.Counted.{pairs_are}
+use Rattle.lp_rows.proofs.Places.{value_there}
+use Rattle.bound_cert.specs.Mixed.{is_weight_of, weight_after, weight_in}
+use Rattle.bound_cert.specs.declared.mixed.Mixed.{Mixed}
+use Rattle.bound_cert.specs.declared.mixed.Weight.{Weight}
+use Rattle.price_lift.specs.Parts.{AreParts, part_below, part_of, weight_where, weights_at}
+use Rattle.price_lift.specs.Weights.{AreBasicWeights, IsBasicIn, pair_at_column, scale_below}
+use Rattle.price_lift.proofs.LeastScales.{HaveDens, part_is, scale_has, signed_part}
+use Rattle.fleet_model.specs.Schedule.{fleets_in}
+
+-- ---- the columns of pairs
+module _ (t : Tables) (keeps : Domains) (starts : Starts) where
+  abbrev cols : List Column
+  cols = columns_of t keeps starts
+
+  pub in_parts : cols ≡ map Flight (all_kept t keeps) ++ (map Ground (all_nodes t starts) ++ list_to Slack (fleets_in t))
+  in_parts = append_assoc (map Flight (all_kept t keeps)) (map Ground (all_nodes t starts)) (list_to Slack (fleets_in t))
+
+  pub flights_long : length (map Flight (all_kept t keeps)) ≡ pairs_kept t keeps
+  flights_long = length-map (all_kept t keeps) Flight ∙ pairs_are t keeps
+
+  pub flight_there : (c : ℕ) → c < pairs_kept t keeps → column_at cols c ≡ Flight (pair_at_column t keeps c)
+  flight_there c below =
+      ap (λ cs. get_or cs c (Slack 0)) in_parts
+      ∙ get_or_append_left (map Flight (all_kept t keeps)) (map Ground (all_nodes t starts) ++ list_to Slack (fleets_in t)) (Slack 0) c (omega (arith, below, flights_long))
+      ∙ get_or-map Flight (all_kept t keeps) c (leg_on 0 0) (Slack 0) (omega (arith, below, pairs_are t keeps))
+
+  -- each pair stands once
+  pub once : (c d : ℕ) → c < length cols → d < length cols → column_at cols c ≡ column_at cols d → c ≡ d
+  once c d here there same =
+      let x = λ (k : ℕ). cond (k == c) 1 0 in
+      let one : x c ≡ x d = sym (value_there t keeps starts x c here) ∙ ap (value_of cols x) same ∙ value_there t keeps starts x d there in
+      equal c d one
+    where
+      equal : (c d : ℕ) → ◌≡◌ {A = ℕ} (cond (c == c) 1 0) (cond (d == c) 1 0) → c ≡ d
+      equal c d e = grind (arith, nat_tests)
+
+  pub pairs_within : pairs_kept t keeps ≤ length cols
+  pairs_within = omega (arith, ap length in_parts, length-append (map Flight (all_kept t keeps)) (map Ground (all_nodes t starts) ++ list_to Slack (fleets_in t)), flights_long)
+
+  pub pair_once : (c d : ℕ) → c < pairs_kept t keeps → d < pairs_kept t keeps → pair_at_column t keeps c ≡ pair_at_column t keeps d → c ≡ d
+  pair_once c d here there same =
+      once c d (omega (arith, here, pairs_within)) (omega (arith, there, pairs_within)) (flight_there c here ∙ ap Flight same ∙ sym (flight_there d there))
+
+-- ---- the weight after entries
+after_append : (w : ℤ) (xs ys : List Weight) (p : Pair) → weight_after w (xs ++ ys) p ≡ weight_after (weight_after w xs p) ys p
+unfolding weight_after
+after_append w [] ys p = refl
+after_append w (x ∷ xs) ys p = after_append (if is_weight_of p x then x.weight else w) xs ys p
+
+by_test : {X : Type 0} (b : Bool) → (b ≡ true → X) → (b ≡ false → X) → X
+by_test true p q = p refl
+by_test false p q = q refl
+
+same_pair : (q p : Pair) → ((q.leg == p.leg) && (q.fleet == p.fleet)) ≡ true → q ≡ p
+same_pair q p e =
+    let leg : q.leg ≡ p.leg = grind (arith, nat_tests) in
+    let fleet : q.fleet ≡ p.fleet = grind (arith, nat_tests) in
+    ap (λ l. leg_on l q.fleet) leg ∙ ap (λ f. leg_on p.leg f) fleet
+
+at_itself : (p : Pair) → ((p.leg == p.leg) && (p.fleet == p.fleet)) ≡ true
+at_itself p = grind (arith, nat_tests)
+
+zero_size : (z : ℤ) → (unsigned_abs z == 0) ≡ true → z ≡ pos 0
+zero_size z e = let none : unsigned_abs z ≡ 0 = grind (arith, nat_tests) in omega (arith, ints)
+
+another : (q p : Pair) (z w : ℤ) → ((q.leg == p.leg) && (q.fleet == p.fleet)) ≡ false → weight_after w (weight_where q z) p ≡ w
+unfolding weight_after
+another q p z w other = by_zero (unsigned_abs z == 0)
+  where
+    by_zero : (b : Bool) → weight_after w (if b then [] else record { leg = q.leg; fleet = q.fleet; weight = z } ∷ []) p ≡ w
+    by_zero true = refl
+    by_zero false = ap (λ b. cond b z w) other
+
+itself : (q p : Pair) (z : ℤ) → ((q.leg == p.leg) && (q.fleet == p.fleet)) ≡ true → weight_after (pos 0) (weight_where q z) p ≡ z
+unfolding weight_after
+itself q p z same = by_test (unsigned_abs z == 0)
+    (λ e. ap (λ b. weight_after (pos 0) (if b then [] else record { leg = q.leg; fleet = q.fleet; weight = z } ∷ []) p) e ∙ sym (zero_size z e))
+    (λ e. ap (λ b. weight_after (pos 0) (if b then [] else record { leg = q.leg; fleet = q.fleet; weight = z } ∷ []) p) e ∙ ap (λ b. cond b z (pos 0)) same)
+
+-- the pair of a column has the weight there, and any other pair 0
+module _ (pairs : List Pair) (parts : List ℤ) (p : Pair) where
+  abbrev pair : ℕ → Pair
+  pair c = get_or pairs c (leg_on 0 0)
+
+  abbrev weight_below : ℕ → ℤ
+  weight_below n = weight_after (pos 0) (concat_below (weights_at pairs parts) n) p
+
+  abbrev pub IsFound : ℕ → Type 0
+  IsFound n = (c : ℕ) × (c < n) × (pair c ≡ p) × (weight_below n ≡ get_or parts c (pos 0))
+
+  abbrev pub IsMissing : ℕ → Type 0
+  IsMissing n = ((c : ℕ) → c < n → pair c ≢ p) × (weight_below n ≡ pos 0)
+
+  none : weight_below 0 ≡ pos 0
+  unfolding weight_after
+  none = refl
+
+  more : (n : ℕ) → weight_below (suc n) ≡ weight_after (weight_below n) (weight_where (pair n) (get_or parts n (pos 0))) p
+  more n = after_append (pos 0) (concat_below (weights_at pairs parts) n) (weights_at pairs parts n) p
+
+  here : (n : ℕ) → ((pair n).leg == p.leg && ((pair n).fleet == p.fleet)) ≡ true → weight_below n ≡ pos 0 → IsFound (suc n)
+  here n same before =
+      (n, omega arith, same_pair (pair n) p same, more n ∙ ap (λ w. weight_after w (weight_where (pair n) (get_or parts n (pos 0))) p) before ∙ itself (pair n) p (get_or parts n (pos 0)) same)
+
+  pub find : (n : ℕ) → ((c d : ℕ) → c < n → d < n → pair c ≡ pair d → c ≡ d) → IsFound n ⊎ IsMissing n
+  find zero once = inr (λ c below. absurd (omega arith), none)
+  find (suc n) once = elim (find n (λ c d less there. once c d (omega arith) (omega arith))) [
+    | inl found ↦ by_test ((pair n).leg == p.leg && ((pair n).fleet == p.fleet))
+        (λ e.
+        let twice : found.0 ≡ n = once found.0 n (omega (arith, found.1)) (omega arith) (found.2 ∙ sym (same_pair (pair n) p e)) in
+        absurd (omega (arith, found.1, twice)))
+        (λ e. inl (found.0, omega (arith, found.1), found.2, more n ∙ another (pair n) p (get_or parts n (pos 0)) (weight_below n) e ∙ found.3))
+    | inr missing ↦ by_test ((pair n).leg == p.leg && ((pair n).fleet == p.fleet))
+        (λ e. inl (here n e missing.1))
+        (λ e. inr (
+          λ c below same. elim (cases_lt c n) [
+            | inl before ↦ missing.0 c before same
+            | inr last ↦
+                let at : c ≡ n = omega arith in
+                absurd (false≢true (sym e ∙ subst (λ q. (q.leg == p.leg && (q.fleet == p.fleet)) ≡ true) (sym (ap pair (sym at) ∙ same)) (at_itself p)))
+          ],
+          more n ∙ another (pair n) p (get_or parts n (pos 0)) (weight_below n) e ∙ missing.1,
+        ))
+  ]
+
+-- ---- the parts of a column
+-- each line has a basic column of its own
+pub record HaveColumns (basis : List ℕ) (n : ℕ) : Type 0 where
+  pub differ : (i j : ℕ) → i < n → j < n → get_or basis i 0 ≡ get_or basis j 0 → i ≡ j
+
+pub part_there : (table : List FracRow) (basis : List ℕ) (scale n line : ℕ) → HaveColumns basis n → line < n → part_below table basis scale n (get_or basis line 0) ≡ part_of table scale line
+part_there table basis scale zero line own below = absurd (omega arith)
+part_there table basis scale (suc n) line own below = by_test (get_or basis n 0 == get_or basis line 0)
+    (λ e.
+    let same : get_or basis n 0 ≡ get_or basis line 0 = grind (arith, nat_tests) in
+    let at : n ≡ line = own.differ n line (omega arith) below same in
+    ap (λ b. cond b (part_of table scale n) (part_below table basis scale n (get_or basis line 0))) e ∙ ap (part_of table scale) at)
+    (λ e.
+    ap (λ b. cond b (part_of table scale n) (part_below table basis scale n (get_or basis line 0))) e
+    ∙ part_there table basis scale n line (record { differ = λ i j less there. own.differ i j (omega arith) (omega arith) })
+    (elim (cases_lt line n) [ inl before ↦ before | inr last ↦ let at : n ≡ line = omega arith in absurd (false≢true (sym e ∙ ap (λ l. get_or basis l 0 == get_or basis line 0) at ∙ equal (get_or basis line 0))) ]))
+  where
+    equal : (m : ℕ) → (m == m) ≡ true
+    equal m = grind (arith, nat_tests)
+
+no_part : (table : List FracRow) (basis : List ℕ) (scale n column : ℕ) → ((line : ℕ) → line < n → get_or basis line 0 ≢ column) → part_below table basis scale n column ≡ 0
+no_part table basis scale zero column other = refl
+no_part table basis scale (suc n) column other = by_test (get_or basis n 0 == column)
+    (λ e. let same : get_or basis n 0 ≡ column = grind (arith, nat_tests) in absurd (other n (omega arith) same))
+    (λ e. ap (λ b. cond b (part_of table scale n) (part_below table basis scale n column)) e ∙ no_part table basis scale n column (λ line below. other line (omega arith)))
+
+-- ---- the weights
+module _ (t : Tables) (keeps : Domains) (starts : Starts) (table : List FracRow) (basis : List ℕ) (mixed : Mixed) (parts : List ℤ)
+    (own : HaveColumns basis (height_of table)) (dens : HaveDens table (height_of table)) (sides : (line : ℕ) → line < height_of table → pos 0 ≤ℤ right_side table line) where
+  abbrev scale : ℕ
+  scale = scale_below table basis (pairs_kept t keeps) (height_of table)
+
+  module _ (is_scale : mixed.scale ≡ pos scale) (are : AreParts (part_below table basis scale (height_of table)) (pairs_kept t keeps) parts)
+      (list : mixed.weights ≡ concat_below (weights_at (all_kept t keeps) parts) (pairs_kept t keeps)) where
+    weight_is : (p : Pair) → weight_in mixed p ≡ weight_after (pos 0) (concat_below (weights_at (all_kept t keeps) parts) (pairs_kept t keeps)) p
+    weight_is p = ap (λ ws. weight_after (pos 0) ws p) list
+
+    found : (p : Pair) → IsFound (all_kept t keeps) parts p (pairs_kept t keeps) ⊎ IsMissing (all_kept t keeps) parts p (pairs_kept t keeps)
+    found p = find (all_kept t keeps) parts p (pairs_kept t keeps) (pair_once t keeps starts)
+
+    -- the weight of a pair: at its column, or 0 where it has none
+    pub by_column : (p : Pair) (P : ℤ → Type 0) → ((c : ℕ) → c < pairs_kept t keeps → pair_at_column t keeps c ≡ p → P (pos (part_below table basis scale (height_of table) c)))
+        → (((c : ℕ) → c < pairs_kept t keeps → pair_at_column t keeps c ≢ p) → P (pos 0)) → P (weight_in mixed p)
+    by_column p P there missing = elim (found p) [
+      | inl here ↦ subst P (sym (weight_is p ∙ here.3 ∙ are.each here.0 here.1)) (there here.0 here.1 here.2)
+      | inr none ↦ subst P (sym (weight_is p ∙ none.1)) (missing none.0)
+    ]
+
+    -- the weight of a line's basic pair
+    pub basic_weight : (line : ℕ) (p : Pair) → line < height_of table → IsBasicIn t keeps basis line p → weight_in mixed p ≡ pos (part_of table scale line)
+    basic_weight line p below basic = weight_is p ∙ elim (found p) [
+      | inl there ↦
+          let same : there.0 ≡ get_or basis line 0 = pair_once t keeps starts there.0 (get_or basis line 0) there.1 basic.of_pair (there.2 ∙ sym basic.same) in
+          there.3 ∙ are.each there.0 there.1 ∙ ap (λ c. pos (part_below table basis scale (height_of table) c)) same ∙ ap pos (part_there table basis scale (height_of table) line own below)
+      | inr missing ↦ absurd (missing.0 (get_or basis line 0) basic.of_pair basic.same)
+    ]
+
+    no_weight : (p : Pair) → ((line : ℕ) → line < height_of table → ¬ (IsBasicIn t keeps basis line p)) → weight_in mixed p ≡ pos 0
+    no_weight p other = weight_is p ∙ elim (found p) [
+      | inl there ↦
+          there.3 ∙ are.each there.0 there.1 ∙ ap pos (no_part table basis scale (height_of table) there.0 (λ line below same.
+          other line below (record { of_pair = subst (λ c. c < pairs_kept t keeps) (sym same) there.1; same = ap (pair_at_column t keeps) same ∙ there.2 })))
+      | inr missing ↦ missing.1
+    ]
+
+    pub are_basic : AreBasicWeights t keeps table basis mixed
+    are_basic = record {
+      scale = is_scale;
+      basic = λ line p below basic.
+          ap (λ w. w *ℤ (row_at table line).den) (basic_weight line p below basic)
+          ∙ signed_part (part_of table scale line) scale (row_at table line).den (right_side table line)
+          (part_is table scale line (dens.each line below) (scale_has table basis (pairs_kept t keeps) (height_of table) line below basic.of_pair)) (dens.each line below) (sides line below)
+          ∙ ap (λ s. right_side table line *ℤ s) (sym is_scale);
+      others = λ p pair other. no_weight p other;
+    }

@@ -1,0 +1,269 @@
+-- Prices whose lines weigh no column above its cost are proper, and worth what the right sides come to.
+use Rattle.std.proofs.Common.{◌≡◌, ◌≢◌, ℕ, zero, suc, ◌+◌, ◌-◌, ◌<◌, ◌≤◌, Bool, true, false, ◌==◌, List, [], ◌∷◌, length, ℤ, pos, neg_ℤ, ◌+ℤ◌, ◌-ℤ◌, ◌*ℤ◌, ◌<ℤ◌, ◌≤ℤ◌, unsigned_abs, refl, sym, ◌∙◌, ap, subst, inl, inr, arith}
+use Rattle.std.proofs.lemmas.Bool.{cases_lt}
+use Rattle.std.proofs.lemmas.Bool.Decides.{nat_tests}
+use Rattle.std.proofs.lemmas.Int.{ints}
+use lib.IntN.{*ℤ-zero}
+use Rattle.sums.specs.Below.{sum_below_ℤ}
+use Rattle.sums.proofs.Integers.{*ℤ-+ℤ, *ℤ--ℤ, *ℤ-neg_ℤ, *ℤ_assoc, neg_ℤ-*ℤ}
+use Rattle.sums.proofs.WholeSums.{*ℤ-sum_below_ℤ, sum_below_ℤ-same}
+use Rattle.sums.proofs.WholeSwaps.{sum_below_ℤ-one, where_true}
+use Rattle.fleet_model.specs.declared.tables.Tables.{Tables}
+use Rattle.fleet_model.specs.Kept.{Domains, IsBare, kept_on}
+use Rattle.fleet_model.specs.Schedule.{fleet_of, fleets_in, leg_of, leg_on, legs_in, no_leg, stations_in}
+use Rattle.fleet_model.specs.Times.{departure, laps_of, ready_minute}
+use Rattle.fleet_model.specs.Use.{last_minute}
+use Rattle.node_aggregate.specs.Nodes.{HappensAt}
+use Rattle.node_aggregate.proofs.EventsAmong.{departs_at, happens_within, ready_at}
+use Rattle.lp_rows.specs.declared.kinds.Column.{Column}
+use Rattle.lp_rows.specs.declared.kinds.Column.TheVariants.{Flight, Ground, Slack}
+use Rattle.lp_rows.specs.declared.kinds.Line.TheVariants.{Balance}
+use Rattle.lp_rows.specs.Entries.{IsNode, column_cost, entry_of, is_in, place_after, right_side_of}
+use Rattle.lp_rows.specs.Layout.{IsNetwork, Starts, node_at}
+use Rattle.lp_rows.specs.Points.{arcs_in}
+use Rattle.lp_rows.proofs.Places.{IsKept}
+use Rattle.bound_cert.specs.Prices.{ArePrices, max_price, max_scale, price_of, rent_of}
+use Rattle.bound_cert.specs.Worth.{cost_units, leg_worth, pair_worth, rents_of, worth_of}
+use Rattle.bound_cert.specs.declared.prices.Prices.{Prices}
+use Rattle.price_lift.specs.Prices.{AreByLines}
+use Rattle.price_lift.proofs.DownColumns.{at_minute, down, down_flight, down_ground, down_sides, down_slack, of_fleet, of_node}
+use Rattle.price_lift.proofs.LeastBounds.{below_unwrapped}
+use Rattle.price_lift.proofs.LinePlaces.{balance_there, before, count_there, node_there, node_within}
+use Rattle.price_lift.proofs.Signs.{cancel_le, product_at_least}
+use Rattle.price_lift.proofs.Minutes.{IsAtPlace, Rise, at_place, in_node, later, nodes_rise, one_place, some_place}
+
+empty : (xs : List ℕ) → length xs ≡ 0 → xs ≡ []
+empty [] e = refl
+empty (x ∷ xs) e = absurd (omega arith)
+
+-- terms that are no more have no greater sum
+pub sum_le : (f g : ℕ → ℤ) (n : ℕ) → ((k : ℕ) → k < n → f k ≤ℤ g k) → sum_below_ℤ f n ≤ℤ sum_below_ℤ g n
+sum_le f g zero less = omega (arith, ints)
+sum_le f g (suc n) less = omega (arith, ints, sum_le f g n (λ k below. less k (omega arith)), less n (omega arith))
+
+times_zero : (h q : ℤ) (k : ℕ) → h *ℤ (pos k *ℤ q *ℤ pos 0) ≡ pos 0
+times_zero h q k = ap (λ z. h *ℤ z) (*ℤ-zero (pos k *ℤ q)) ∙ *ℤ-zero h
+
+by_test : {X : Type 0} (b : Bool) → (b ≡ true → X) → (b ≡ false → X) → X
+by_test true p q = p refl
+by_test false p q = q refl
+
+same_tests : (a b : Bool) → (a ≡ true → b ≡ true) → (b ≡ true → a ≡ true) → a ≡ b
+same_tests true b p q = sym (p refl)
+same_tests false true p q = q refl
+same_tests false false p q = refl
+
+equal_number : (m n : ℕ) → m ≡ n → (m == n) ≡ true
+equal_number m n e = grind (arith, nat_tests)
+
+number_equal : (m n : ℕ) → (m == n) ≡ true → m ≡ n
+number_equal m n e = grind (arith, nat_tests)
+
+unequal_number : (m n : ℕ) → m ≢ n → (m == n) ≡ false
+unequal_number m n e = grind (arith, nat_tests)
+
+-- what a pair is worth by h times its prices
+gather : (h c a b r l : ℤ) (y s : ℤ) → s ≡ y +ℤ (((h *ℤ b) -ℤ (h *ℤ a)) +ℤ (neg_ℤ (h *ℤ r) *ℤ l)) → s ≤ℤ (h *ℤ c) → y ≤ℤ (h *ℤ (c +ℤ (a -ℤ b) +ℤ (r *ℤ l)))
+gather h c a b r l y s e le =
+    let all = *ℤ-+ℤ h (c +ℤ (a -ℤ b)) (r *ℤ l) in
+    let front = *ℤ-+ℤ h c (a -ℤ b) in
+    let fall = *ℤ--ℤ h a b in
+    let rent = neg_ℤ-*ℤ (h *ℤ r) l ∙ ap neg_ℤ (*ℤ_assoc h r l) in
+    omega (arith, ints, e, le, all, front, fall, rent)
+
+module _ (t : Tables) (keeps : Domains) (starts : Starts) (network : IsNetwork t keeps starts) (prices : Prices) (value : ℕ → ℤ) (by : AreByLines t starts value prices)
+    (h : ℤ) (above : pos 0 <ℤ h) (y : ℕ → ℤ) (scaled : (j : ℕ) → j < arcs_in t starts + fleets_in t → y (legs_in t + j) ≡ h *ℤ value (legs_in t + j)) where
+  rise : (f s : ℕ) → f < fleets_in t → s < stations_in t → Rise (starts f s)
+  rise f s known within = let at = network.each f s known within in nodes_rise at.events (starts f s) at.nodes
+
+  rent_is : (f : ℕ) → f < fleets_in t → rent_of prices f ≡ neg_ℤ (value (legs_in t + (arcs_in t starts + f)))
+  rent_is f known = by.count (legs_in t + (arcs_in t starts + f)) f (count_there t starts f known)
+
+  fleet_is : (f : ℕ) → f < fleets_in t → of_fleet t starts y f ≡ neg_ℤ (h *ℤ rent_of prices f)
+  fleet_is f known =
+      let rent = ap (λ z. h *ℤ z) (rent_is f known) ∙ *ℤ-neg_ℤ h (value (legs_in t + (arcs_in t starts + f))) in
+      omega (arith, ints, rent, scaled (arcs_in t starts + f) (omega arith))
+
+  -- the price through a node
+  price_is : (f s m p : ℕ) → f < fleets_in t → s < stations_in t → m ≤ last_minute → IsAtPlace (starts f s) m p → price_of prices f s m ≡ value (legs_in t + (before t starts f s + p))
+  price_is f s m p known within period at =
+      by.balance (legs_in t + (before t starts f s + p)) m (node_at f s p)
+      (balance_there t starts (before t starts f s + p) (node_within t starts f s p known within at.within) ∙ ap Balance (node_there t starts f s p (node_at 0 0 0) known within at.within))
+      (in_node (starts f s) m p period at)
+
+  node_is : (f s k : ℕ) → f < fleets_in t → s < stations_in t → k < length (starts f s) → of_node t starts y f s k ≡ h *ℤ value (legs_in t + (before t starts f s + k))
+  node_is f s k known within below = scaled (before t starts f s + k) (omega (arith, node_within t starts f s k known within below))
+
+  minute_is : (f s m : ℕ) → f < fleets_in t → s < stations_in t → m ≤ last_minute → 0 < length (starts f s) → at_minute t starts y f s m ≡ h *ℤ price_of prices f s m
+  minute_is f s m known within period some =
+      let p = some_place (starts f s) m (rise f s known within) some in
+      sum_below_ℤ-same (λ k. where_true (is_in (starts f s) k m) (of_node t starts y f s k)) (λ k. where_true (p.0 == k) (of_node t starts y f s k)) (length (starts f s))
+      (λ k below. ap (λ b. where_true b (of_node t starts y f s k)) (same_tests (is_in (starts f s) k m) (p.0 == k)
+      (λ e. equal_number p.0 k (one_place (starts f s) m p.0 k p.1 (at_place (starts f s) m k (rise f s known within) below e)))
+      (λ e. subst (λ j. is_in (starts f s) j m ≡ true) (number_equal p.0 k e) (in_node (starts f s) m p.0 period p.1))))
+      ∙ sum_below_ℤ-one p.0 (of_node t starts y f s) (length (starts f s)) p.1.within
+      ∙ node_is f s p.0 known within p.1.within
+      ∙ ap (λ z. h *ℤ z) (sym (price_is f s m p.0 known within period p.1))
+
+  -- ---- where lines weigh no column above its cost
+  module _ (k : ℕ) (dual : (c : Column) → IsKept t keeps starts c → down t starts y (λ line. entry_of t starts line c) ≤ℤ (h *ℤ (pos k *ℤ prices.scale *ℤ column_cost t c))) where
+    -- a kept pair's fleet has nodes where it departs and where it is ready
+    some_nodes : (f s : ℕ) (ready : Bool) (m : ℕ) (known : f < fleets_in t) (within : s < stations_in t) → HappensAt (network.each f s known within).events ready m → 0 < length (starts f s)
+    some_nodes f s ready m known within happens = (network.each f s known within).nodes.some (λ none. let empty : length (network.each f s known within).events ≡ 0 = ap length none in omega (arith, happens.among.1))
+
+    pair_reaches : (l f : ℕ) → l < legs_in t → f < fleets_in t → keeps (leg_on l f) ≡ true → y l ≤ℤ (h *ℤ pair_worth t prices k (leg_on l f))
+    pair_reaches l f below known kept =
+        let p = leg_on l f in
+        let leg = t.in_range.legs_fit.each l no_leg below in
+        let from = (leg_of t l).from in
+        let to = (leg_of t l).to in
+        let departs = (network.each f from known leg.from) in
+        let lands = (network.each f to known leg.to) in
+        let out = departs_at t keeps f from departs.events departs.happen l below kept refl in
+        let back = ready_at t keeps f to lands.events lands.happen l below kept refl in
+        let ready_in : ready_minute t p ≤ last_minute = omega (arith, happens_within t keeps f to lands.events lands.happen true (ready_minute t p) back) in
+        let departs_in : departure t p ≤ last_minute = omega (arith, leg.dep) in
+        let one = minute_is f to (ready_minute t p) known leg.to ready_in (some_nodes f to true (ready_minute t p) known leg.to back) in
+        let two = minute_is f from (departure t p) known leg.from departs_in (some_nodes f from false (departure t p) known leg.from out) in
+        let sum = down_flight t starts y p (record { leg = below; fleet = known }) leg.from leg.to
+        ∙ ap (λ z. y l +ℤ ((z -ℤ at_minute t starts y f from (departure t p)) +ℤ (of_fleet t starts y f *ℤ pos (laps_of t p)))) one
+        ∙ ap (λ z. y l +ℤ (((h *ℤ price_of prices f to (ready_minute t p)) -ℤ z) +ℤ (of_fleet t starts y f *ℤ pos (laps_of t p)))) two
+        ∙ ap (λ z. y l +ℤ (((h *ℤ price_of prices f to (ready_minute t p)) -ℤ (h *ℤ price_of prices f from (departure t p))) +ℤ (z *ℤ pos (laps_of t p)))) (fleet_is f known) in
+        gather h (pos k *ℤ prices.scale *ℤ cost_units t p) (price_of prices f from (departure t p)) (price_of prices f to (ready_minute t p)) (rent_of prices f) (pos (laps_of t p)) (y l)
+        (down t starts y (λ line. entry_of t starts line (Flight p))) sum (dual (Flight p) (record { leg = below; fleet = known }, kept))
+
+    leg_reaches : (l : ℕ) → l < legs_in t → ¬ (IsBare t keeps l) → y l ≤ℤ (h *ℤ leg_worth t keeps prices k l)
+    unfolding leg_worth
+    leg_reaches l below some =
+        below_unwrapped h (y l) (λ f. keeps (leg_on l f)) (λ f. pair_worth t prices k (leg_on l f)) (fleets_in t) (λ f known kept. pair_reaches l f below known kept)
+        (positive (kept_on t keeps l) (λ none. some (record { within = below; none = none })))
+      where
+        positive : (n : ℕ) → n ≢ 0 → 0 < n
+        positive n some = omega arith
+
+    -- what the right sides come to is no more than the worth
+    pub worth_reaches : ((l : ℕ) → ¬ (IsBare t keeps l)) → down t starts y (λ line. right_side_of t line) ≤ℤ (h *ℤ worth_of t keeps prices k)
+    unfolding worth_of
+    worth_reaches some =
+        let legs = sum_le y (λ l. h *ℤ leg_worth t keeps prices k l) (legs_in t) (λ l below. leg_reaches l below (some l)) in
+        let all_legs = *ℤ-sum_below_ℤ h (leg_worth t keeps prices k) (legs_in t) in
+        let rents = sum_below_ℤ-same (λ f. of_fleet t starts y f *ℤ pos (fleet_of t f).aircraft) (λ f. neg_ℤ h *ℤ rents_of t prices f) (fleets_in t)
+        (λ f known. ap (λ z. z *ℤ pos (fleet_of t f).aircraft) (fleet_is f known) ∙ moved (rent_of prices f) (pos (fleet_of t f).aircraft)) in
+        let all_rents = *ℤ-sum_below_ℤ (neg_ℤ h) (rents_of t prices) (fleets_in t) in
+        let sign = neg_ℤ-*ℤ h (sum_below_ℤ (rents_of t prices) (fleets_in t)) in
+        let apart = *ℤ--ℤ h (sum_below_ℤ (leg_worth t keeps prices k) (legs_in t)) (sum_below_ℤ (rents_of t prices) (fleets_in t)) in
+        omega (arith, ints, down_sides t starts y, legs, all_legs, rents, all_rents, sign, apart)
+      where
+        moved : (r a : ℤ) → neg_ℤ (h *ℤ r) *ℤ a ≡ neg_ℤ h *ℤ (r *ℤ a)
+        moved r a = neg_ℤ-*ℤ (h *ℤ r) a ∙ ap neg_ℤ (*ℤ_assoc h r a) ∙ sym (neg_ℤ-*ℤ h (r *ℤ a))
+
+    -- ---- rents and falls
+    rent_some : (f : ℕ) → f < fleets_in t → pos 0 ≤ℤ rent_of prices f
+    rent_some f known =
+        let weigh = dual (Slack f) known in
+        let sum = down_slack t starts y f known in
+        product_at_least h (rent_of prices f) above (omega (arith, ints, weigh, sum, times_zero h prices.scale k, fleet_is f known))
+
+    arc_falls : (f s j : ℕ) → f < fleets_in t → s < stations_in t → j < length (starts f s)
+        → ((of_node t starts y f s (place_after (length (starts f s)) j) -ℤ of_node t starts y f s j) +ℤ where_true (length (starts f s) == j + 1) (of_fleet t starts y f)) ≤ℤ pos 0
+    arc_falls f s j known within below =
+        let node : IsNode t starts (node_at f s j) = record { fleet = known; station = within; place = below } in
+        omega (arith, ints, dual (Ground (node_at f s j)) node, down_ground t starts y (node_at f s j) node, times_zero h prices.scale k)
+
+    falls_next : (f s j : ℕ) → f < fleets_in t → s < stations_in t → j + 1 < length (starts f s) → value (legs_in t + (before t starts f s + (j + 1))) ≤ℤ value (legs_in t + (before t starts f s + j))
+    falls_next f s j known within below =
+        let law = arc_falls f s j known within (omega arith) in
+        let next : place_after (length (starts f s)) j ≡ j + 1 = after (length (starts f s)) j below in
+        let no_start = ap (λ b. where_true b (of_fleet t starts y f)) (unequal_number (length (starts f s)) (j + 1) (not_last (length (starts f s)) j below)) in
+        let there = ap (of_node t starts y f s) next in
+        cancel_le h (value (legs_in t + (before t starts f s + (j + 1)))) (value (legs_in t + (before t starts f s + j))) above
+        (omega (arith, ints, law, no_start, there, node_is f s j known within (omega arith), node_is f s (j + 1) known within below))
+      where
+        after : (n j : ℕ) → j + 1 < n → place_after n j ≡ j + 1
+        after n j less = grind (arith, nat_tests)
+
+        not_last : (n j : ℕ) → j + 1 < n → n ≢ j + 1
+        not_last n j less = omega arith
+
+    falls : (f s i j : ℕ) → f < fleets_in t → s < stations_in t → i ≤ j → j < length (starts f s) → value (legs_in t + (before t starts f s + j)) ≤ℤ value (legs_in t + (before t starts f s + i))
+    falls f s i zero known within order below = let same : i ≡ 0 = omega arith in rw same (omega (arith, ints))
+    falls f s i (suc j) known within order below = elim (cases_lt i (suc j)) [
+      | inl less ↦
+          let next : j + 1 ≡ suc j = omega arith in
+          let step = subst (λ n. value (legs_in t + (before t starts f s + n)) ≤ℤ value (legs_in t + (before t starts f s + j))) next (falls_next f s j known within (omega arith)) in
+          omega (arith, ints, step, falls f s i j known within (omega arith) (omega arith))
+      | inr same ↦ let at : i ≡ suc j = omega arith in rw at (omega (arith, ints))
+    ]
+
+    over_end : (f s : ℕ) → f < fleets_in t → s < stations_in t → 0 < length (starts f s)
+        → value (legs_in t + (before t starts f s + 0)) ≤ℤ (value (legs_in t + (before t starts f s + (length (starts f s) - 1))) +ℤ rent_of prices f)
+    over_end f s known within some =
+        let last = length (starts f s) - 1 in
+        let law = arc_falls f s last known within (omega arith) in
+        let next : place_after (length (starts f s)) last ≡ 0 = first (length (starts f s)) some in
+        let start = ap (λ b. where_true b (of_fleet t starts y f)) (equal_number (length (starts f s)) (last + 1) (omega arith)) in
+        let there = ap (of_node t starts y f s) next in
+        let sum = *ℤ-+ℤ h (value (legs_in t + (before t starts f s + last))) (rent_of prices f) in
+        cancel_le h (value (legs_in t + (before t starts f s + 0))) (value (legs_in t + (before t starts f s + last)) +ℤ rent_of prices f) above
+        (omega (arith, ints, law, start, there, sum, fleet_is f known, node_is f s 0 known within some, node_is f s last known within (omega arith)))
+      where
+        first : (n : ℕ) → 0 < n → place_after n (n - 1) ≡ 0
+        first n some = grind (arith, nat_tests)
+
+    -- ---- proper prices
+    module _ (low : pos 1 ≤ℤ prices.scale) (high : prices.scale ≤ℤ pos max_scale) (small : (j : ℕ) → j < arcs_in t starts + fleets_in t → unsigned_abs (value (legs_in t + j)) ≤ max_price) where
+      bounds : (z : ℤ) (n : ℕ) → unsigned_abs z ≤ n → (neg_ℤ (pos n) ≤ℤ z) × (z ≤ℤ pos n)
+      bounds z n le = (omega (arith, ints), omega (arith, ints))
+
+      price_bounds : (f s m : ℕ) → f < fleets_in t → s < stations_in t → m ≤ last_minute → (neg_ℤ (pos max_price) ≤ℤ price_of prices f s m) × (price_of prices f s m ≤ℤ pos max_price)
+      price_bounds f s m known within period = elim (cases_lt 0 (length (starts f s))) [
+        | inl some ↦
+            let p = some_place (starts f s) m (rise f s known within) some in
+            subst (λ z. (neg_ℤ (pos max_price) ≤ℤ z) × (z ≤ℤ pos max_price)) (sym (price_is f s m p.0 known within period p.1))
+            (bounds (value (legs_in t + (before t starts f s + p.0))) max_price (small (before t starts f s + p.0) (omega (arith, node_within t starts f s p.0 known within p.1.within))))
+        | inr none ↦ subst (λ z. (neg_ℤ (pos max_price) ≤ℤ z) × (z ≤ℤ pos max_price)) (sym (by.nowhere f s m known within (empty (starts f s) (omega arith)))) (omega (arith, ints), omega (arith, ints))
+      ]
+
+      falls_minute : (f s m : ℕ) → f < fleets_in t → s < stations_in t → m + 1 ≤ last_minute → price_of prices f s (m + 1) ≤ℤ price_of prices f s m
+      falls_minute f s m known within period = elim (cases_lt 0 (length (starts f s))) [
+        | inl some ↦
+            let p = some_place (starts f s) m (rise f s known within) some in
+            let q = some_place (starts f s) (m + 1) (rise f s known within) some in
+            let order : p.0 ≤ q.0 = elim (cases_lt q.0 p.0) [ inl back ↦ absurd (omega (arith, q.1.last p.0 back p.1.within, p.1.begun)) | inr on ↦ omega arith ] in
+            omega (arith, ints, price_is f s m p.0 known within (omega arith) p.1, price_is f s (m + 1) q.0 known within period q.1, falls f s p.0 q.0 known within order q.1.within)
+        | inr none ↦ omega (arith, ints, by.nowhere f s m known within (empty (starts f s) (omega arith)), by.nowhere f s (m + 1) known within (empty (starts f s) (omega arith)))
+      ]
+
+      over_night : (f s : ℕ) → f < fleets_in t → s < stations_in t → price_of prices f s 0 ≤ℤ (price_of prices f s last_minute +ℤ rent_of prices f)
+      over_night f s known within = elim (cases_lt 0 (length (starts f s))) [
+        | inl some ↦
+            let p = some_place (starts f s) last_minute (rise f s known within) some in
+            let zero_at : IsAtPlace (starts f s) 0 0 = record {
+              within = some;
+              begun = omega (arith, (rise f s known within).first);
+              last = λ k later_one below. omega (arith, later (starts f s) (rise f s known within) 0 k later_one below, (rise f s known within).first);
+            } in
+            omega (
+              arith,
+              ints,
+              price_is f s 0 0 known within (omega arith) zero_at,
+              price_is f s last_minute p.0 known within (omega arith) p.1,
+              over_end f s known within some,
+              falls f s p.0 (length (starts f s) - 1) known within (omega (arith, p.1.within)) (omega arith),
+            )
+        | inr none ↦ omega (arith, ints, by.nowhere f s 0 known within (empty (starts f s) (omega arith)), by.nowhere f s last_minute known within (empty (starts f s) (omega arith)), rent_some f known)
+      ]
+
+      pub are_prices : ArePrices t prices
+      are_prices = record {
+        some_scale = low;
+        scale_within = high;
+        some_rent = rent_some;
+        rent_within = λ f known.
+            let size = bounds (value (legs_in t + (arcs_in t starts + f))) max_price (small (arcs_in t starts + f) (omega arith)) in
+            omega (arith, ints, rent_is f known, size.0, size.1);
+        no_less = λ f s m known within period. (price_bounds f s m known within (omega arith)).0;
+        no_more = λ f s m known within period. (price_bounds f s m known within (omega arith)).1;
+        never_rise = λ f s m known within period. falls_minute f s m known within (omega arith);
+        rise_overnight = over_night;
+      }

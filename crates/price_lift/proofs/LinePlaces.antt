@@ -1,0 +1,203 @@
+-- At which number each line stands.
+use Rattle.std.proofs.Common.{◌≡◌, ℕ, zero, suc, ◌+◌, ◌-◌, ◌<◌, ◌≤◌, List, [], ◌∷◌, ◌++◌, length, get_or, map, ℤ, ◌+ℤ◌, refl, sym, ◌∙◌, ap, subst, inl, inr, append_assoc, arith}
+use Rattle.std.proofs.lemmas.Bool.{cases_lt}
+use Rattle.std.proofs.lemmas.Int.{ints}
+use Rattle.std.proofs.lemmas.List.{get_or-map, get_or_append_left, get_or_past, length-map}
+use Rattle.sums.specs.Below.{sum_below, sum_below_ℤ}
+use Rattle.sums.proofs.WholeSums.{sum_below_ℤ-same}
+use Rattle.fleet_model.specs.declared.tables.Tables.{Tables}
+use Rattle.fleet_model.specs.Schedule.{fleets_in, legs_in, stations_in}
+use Rattle.lp_rows.specs.declared.kinds.Node.{Node}
+use Rattle.lp_rows.specs.declared.kinds.Line.TheVariants.{Balance, Count, Cover}
+use Rattle.lp_rows.specs.Entries.{IsNode}
+use Rattle.lp_rows.specs.Layout.{Starts, all_nodes, concat_below, lines_of, list_to, node_at, nodes_at, nodes_of}
+use Rattle.lp_rows.specs.Points.{arcs_in}
+use Rattle.lp_rows.proofs.Counted.{length-concat, nodes_are}
+use Rattle.lp_rows.proofs.Totals.{length-list_to}
+use Rattle.price_lift.specs.Prices.{line_at}
+use Rattle.price_lift.specs.Steps.{node_of_number}
+
+-- ---- entries of lists one behind another
+pub at_right : {X : Type 0} (xs ys : List X) (d : X) (k : ℕ) → get_or (xs ++ ys) (length xs + k) d ≡ get_or ys k d
+at_right [] ys d k = ap (λ n. get_or ys n d) (omega arith)
+at_right (x ∷ xs) ys d k = subst (λ n. get_or (x ∷ (xs ++ ys)) n d ≡ get_or ys k d) (sym next) (at_right xs ys d k)
+  where
+    next : length (x ∷ xs) + k ≡ suc (length xs + k)
+    next = omega arith
+
+pub at_right_of : {X : Type 0} (xs ys : List X) (d : X) (n k : ℕ) → length xs ≡ n → get_or (xs ++ ys) (n + k) d ≡ get_or ys k d
+at_right_of xs ys d n k long = ap (λ m. get_or (xs ++ ys) (m + k) d) (sym long) ∙ at_right xs ys d k
+
+pub at_list : {X : Type 0} (f : ℕ → X) (n k : ℕ) (d : X) → k < n → get_or (list_to f n) k d ≡ f k
+at_list f zero k d below = absurd (omega arith)
+at_list f (suc n) k d below = elim (cases_lt k n) [
+  | inl before ↦ get_or_append_left (list_to f n) (f n ∷ []) d k (omega (arith, before, length-list_to f n)) ∙ at_list f n k d before
+  | inr last ↦
+      let same : k ≡ n + 0 = omega arith in
+      ap (λ j. get_or (list_to f n ++ f n ∷ []) j d) same ∙ at_right_of (list_to f n) (f n ∷ []) d n 0 (length-list_to f n) ∙ ap f (omega (arith, same))
+]
+
+-- .. and before the end of all
+pub within_sum : (count : ℕ → ℕ) (n i k : ℕ) → i < n → k < count i → sum_below count i + k < sum_below count n
+within_sum count zero i k less below = absurd (omega arith)
+within_sum count (suc n) i k less below = elim (cases_lt i n) [
+  | inl before ↦ omega (arith, within_sum count n i k before below)
+  | inr last ↦ let same : i ≡ n = omega arith in omega (arith, ap (sum_below count) same, ap count same)
+]
+
+-- an entry of the list of a number stands behind all lists before
+pub at_concat : {X : Type 0} (g : ℕ → List X) (count : ℕ → ℕ) (d : X) (n i k : ℕ) → ((j : ℕ) → j < n → length (g j) ≡ count j) → i < n → k < count i
+    → get_or (concat_below g n) (sum_below count i + k) d ≡ get_or (g i) k d
+at_concat g count d zero i k long here below = absurd (omega arith)
+at_concat g count d (suc n) i k long here below = elim (cases_lt i n) [
+  | inl before ↦
+      get_or_append_left (concat_below g n) (g n) d (sum_below count i + k) (omega (arith, length-concat g count n (λ j less. long j (omega arith)), within_sum count n i k before below))
+      ∙ at_concat g count d n i k (λ j less. long j (omega arith)) before below
+  | inr last ↦
+      let same : i ≡ n = omega arith in
+      ap (λ j. get_or (concat_below g n ++ g n) (sum_below count j + k) d) same
+      ∙ at_right_of (concat_below g n) (g n) d (sum_below count n) k (length-concat g count n (λ j less. long j (omega arith)))
+      ∙ ap (λ j. get_or (g j) k d) (sym same)
+]
+
+-- ---- a number among those of lists one behind another
+pub record IsSplit (count : ℕ → ℕ) (n place : ℕ) : Type 0 where
+  pub list : ℕ
+  pub rest : ℕ
+  pub known : list < n
+  pub within : rest < count list
+  pub is : place ≡ sum_below count list + rest
+
+pub split : (count : ℕ → ℕ) (n place : ℕ) → place < sum_below count n → IsSplit count n place
+split count zero place below = absurd (omega arith)
+split count (suc n) place below = elim (cases_lt place (sum_below count n)) [
+  | inl before ↦
+      let s = split count n place before in
+      record { list = s.list; rest = s.rest; known = omega (arith, s.known); within = s.within; is = s.is }
+  | inr after ↦ record { list = n; rest = place - sum_below count n; known = omega arith; within = omega arith; is = omega arith }
+]
+
+-- ---- sums by parts
+pub sum_behind : (h : ℕ → ℤ) (a b : ℕ) → sum_below_ℤ h (a + b) ≡ sum_below_ℤ h a +ℤ sum_below_ℤ (λ k. h (a + k)) b
+sum_behind h a zero = ap (sum_below_ℤ h) (none a) ∙ omega (arith, ints)
+  where
+    none : (a : ℕ) → a + 0 ≡ a
+    none a = omega arith
+sum_behind h a (suc b) = ap (sum_below_ℤ h) (next a b) ∙ omega (arith, ints, sum_behind h a b)
+  where
+    next : (a b : ℕ) → a + suc b ≡ suc (a + b)
+    next a b = omega arith
+
+pub sum_parts : (h : ℕ → ℤ) (count : ℕ → ℕ) (n : ℕ) → sum_below_ℤ h (sum_below count n) ≡ sum_below_ℤ (λ i. sum_below_ℤ (λ k. h (sum_below count i + k)) (count i)) n
+sum_parts h count zero = refl
+sum_parts h count (suc n) = sum_behind h (sum_below count n) (count n) ∙ ap (λ z. z +ℤ sum_below_ℤ (λ k. h (sum_below count n + k)) (count n)) (sum_parts h count n)
+
+-- ---- the lines
+module _ (t : Tables) (starts : Starts) where
+  -- the nodes of a fleet, and those before a fleet's and a station's
+  abbrev pub nodes_in : ℕ → ℕ
+  nodes_in f = sum_below (λ s. length (starts f s)) (stations_in t)
+
+  abbrev pub before : ℕ → ℕ → ℕ
+  before f s = sum_below nodes_in f + sum_below (λ r. length (starts f r)) s
+
+  long_at : (f s : ℕ) → length (nodes_at starts f s) ≡ length (starts f s)
+  long_at f s = length-list_to (node_at f s) (length (starts f s))
+
+  long_of : (f : ℕ) → length (nodes_of t starts f) ≡ nodes_in f
+  long_of f = length-concat (nodes_at starts f) (λ s. length (starts f s)) (stations_in t) (λ s within. long_at f s)
+
+  -- the place of a node
+  pub node_there : (f s k : ℕ) (d : Node) → f < fleets_in t → s < stations_in t → k < length (starts f s) → get_or (all_nodes t starts) (before f s + k) d ≡ node_at f s k
+  node_there f s k d known within below =
+      let place : before f s + k ≡ sum_below nodes_in f + (sum_below (λ r. length (starts f r)) s + k) = omega arith in
+      ap (λ n. get_or (all_nodes t starts) n d) place
+      ∙ at_concat (nodes_of t starts) nodes_in d (fleets_in t) f (sum_below (λ r. length (starts f r)) s + k) (λ g less. long_of g) known (within_sum (λ r. length (starts f r)) (stations_in t) s k within below)
+      ∙ at_concat (nodes_at starts f) (λ r. length (starts f r)) d (stations_in t) s k (λ r less. long_at f r) within below
+      ∙ at_list (node_at f s) (length (starts f s)) k d below
+
+  pub node_within : (f s k : ℕ) → f < fleets_in t → s < stations_in t → k < length (starts f s) → before f s + k < arcs_in t starts
+  node_within f s k known within below =
+      omega (arith, within_sum nodes_in (fleets_in t) f (sum_below (λ r. length (starts f r)) s + k) known (within_sum (λ r. length (starts f r)) (stations_in t) s k within below))
+
+  -- each number of a node is that of a fleet, a station and a place
+  pub record IsNodeNumber (number : ℕ) : Type 0 where
+    pub fleet : ℕ
+    pub station : ℕ
+    pub place : ℕ
+    pub known : fleet < fleets_in t
+    pub within : station < stations_in t
+    pub below : place < length (starts fleet station)
+    pub is : number ≡ before fleet station + place
+
+  pub node_number : (number : ℕ) → number < arcs_in t starts → IsNodeNumber number
+  node_number number below =
+      let f = split nodes_in (fleets_in t) number below in
+      let s = split (λ r. length (starts f.list r)) (stations_in t) f.rest f.within in
+      record { fleet = f.list; station = s.list; place = s.rest; known = f.known; within = s.known; below = s.within; is = omega (arith, f.is, s.is) }
+
+  pub node_is : (k : ℕ) → k < arcs_in t starts → IsNode t starts (node_of_number t starts k)
+  node_is k below =
+      let number = node_number k below in
+      let same : node_of_number t starts k ≡ node_at number.fleet number.station number.place =
+      ap (λ j. get_or (all_nodes t starts) j (node_at 0 0 0)) number.is ∙ node_there number.fleet number.station number.place (node_at 0 0 0) number.known number.within number.below in
+      subst (IsNode t starts) (sym same) (record { fleet = number.known; station = number.within; place = number.below })
+
+  -- ---- the lines by their numbers
+  covers_long : length (list_to Cover (legs_in t)) ≡ legs_in t
+  covers_long = length-list_to Cover (legs_in t)
+
+  balances_long : length (map Balance (all_nodes t starts)) ≡ arcs_in t starts
+  balances_long = length-map (all_nodes t starts) Balance ∙ nodes_are t starts
+
+  in_parts : lines_of t starts ≡ list_to Cover (legs_in t) ++ (map Balance (all_nodes t starts) ++ list_to Count (fleets_in t))
+  in_parts = append_assoc (list_to Cover (legs_in t)) (map Balance (all_nodes t starts)) (list_to Count (fleets_in t))
+
+  -- the lines behind the cover lines
+  behind_covers : (k : ℕ) → line_at t starts (legs_in t + k) ≡ get_or (map Balance (all_nodes t starts) ++ list_to Count (fleets_in t)) k (Cover 0)
+  behind_covers k = ap (λ ls. get_or ls (legs_in t + k) (Cover 0)) in_parts ∙ at_right_of (list_to Cover (legs_in t)) (map Balance (all_nodes t starts) ++ list_to Count (fleets_in t)) (Cover 0) (legs_in t) k covers_long
+
+  pub cover_there : (l : ℕ) → l < legs_in t → line_at t starts l ≡ Cover l
+  cover_there l below =
+      ap (λ ls. get_or ls l (Cover 0)) in_parts
+      ∙ get_or_append_left (list_to Cover (legs_in t)) (map Balance (all_nodes t starts) ++ list_to Count (fleets_in t)) (Cover 0) l (omega (arith, below, covers_long))
+      ∙ at_list Cover (legs_in t) l (Cover 0) below
+
+  pub balance_there : (k : ℕ) → k < arcs_in t starts → line_at t starts (legs_in t + k) ≡ Balance (node_of_number t starts k)
+  balance_there k below =
+      behind_covers k
+      ∙ get_or_append_left (map Balance (all_nodes t starts)) (list_to Count (fleets_in t)) (Cover 0) k (omega (arith, below, balances_long))
+      ∙ get_or-map Balance (all_nodes t starts) k (node_at 0 0 0) (Cover 0) (omega (arith, below, nodes_are t starts))
+
+  pub count_there : (f : ℕ) → f < fleets_in t → line_at t starts (legs_in t + (arcs_in t starts + f)) ≡ Count f
+  count_there f known =
+      behind_covers (arcs_in t starts + f)
+      ∙ at_right_of (map Balance (all_nodes t starts)) (list_to Count (fleets_in t)) (Cover 0) (arcs_in t starts) f balances_long
+      ∙ at_list Count (fleets_in t) f (Cover 0) known
+
+  -- behind the last there is none
+  pub none_behind : (k : ℕ) → fleets_in t ≤ k → line_at t starts (legs_in t + (arcs_in t starts + k)) ≡ Cover 0
+  none_behind k past =
+      behind_covers (arcs_in t starts + k)
+      ∙ at_right_of (map Balance (all_nodes t starts)) (list_to Count (fleets_in t)) (Cover 0) (arcs_in t starts) k balances_long
+      ∙ get_or_past (list_to Count (fleets_in t)) k (Cover 0) (omega (arith, past, length-list_to Count (fleets_in t)))
+
+  -- a sum over all lines, by their kinds
+  pub over_lines : (h : ℕ → ℤ) → sum_below_ℤ h (legs_in t + (arcs_in t starts + fleets_in t))
+      ≡ sum_below_ℤ h (legs_in t)
+      +ℤ (sum_below_ℤ (λ f. sum_below_ℤ (λ s. sum_below_ℤ (λ k. h (legs_in t + (before f s + k))) (length (starts f s))) (stations_in t)) (fleets_in t)
+      +ℤ sum_below_ℤ (λ f. h (legs_in t + (arcs_in t starts + f))) (fleets_in t))
+  over_lines h =
+      sum_behind h (legs_in t) (arcs_in t starts + fleets_in t)
+      ∙ ap (λ z. sum_below_ℤ h (legs_in t) +ℤ z)
+      (sum_behind (λ k. h (legs_in t + k)) (arcs_in t starts) (fleets_in t)
+      ∙ ap (λ z. z +ℤ sum_below_ℤ (λ f. h (legs_in t + (arcs_in t starts + f))) (fleets_in t))
+      (sum_parts (λ k. h (legs_in t + k)) nodes_in (fleets_in t)
+      ∙ sum_below_ℤ-same (λ f. sum_below_ℤ (λ k. h (legs_in t + (sum_below nodes_in f + k))) (nodes_in f)) (λ f. sum_below_ℤ (λ s. sum_below_ℤ (λ k. h (legs_in t + (before f s + k))) (length (starts f s))) (stations_in t)) (fleets_in t)
+      (λ f known. sum_parts (λ k. h (legs_in t + (sum_below nodes_in f + k))) (λ s. length (starts f s)) (stations_in t)
+      ∙ sum_below_ℤ-same (λ s. sum_below_ℤ (λ k. h (legs_in t + (sum_below nodes_in f + (sum_below (λ r. length (starts f r)) s + k)))) (length (starts f s))) (λ s. sum_below_ℤ (λ k. h (legs_in t + (before f s + k))) (length (starts f s))) (stations_in t)
+      (λ s within. sum_below_ℤ-same (λ k. h (legs_in t + (sum_below nodes_in f + (sum_below (λ r. length (starts f r)) s + k)))) (λ k. h (legs_in t + (before f s + k))) (length (starts f s))
+      (λ k below. ap (λ n. h (legs_in t + n)) (joined f s k))))))
+    where
+      joined : (f s k : ℕ) → sum_below nodes_in f + (sum_below (λ r. length (starts f r)) s + k) ≡ before f s + k
+      joined f s k = omega arith

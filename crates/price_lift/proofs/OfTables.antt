@@ -1,0 +1,39 @@
+-- Steps and weights are of the tables.
+use Rattle.std.proofs.Common.{ℕ, zero, suc, ◌<◌, Bool, true, false, if◌then◌else◌, List, [], ◌∷◌, length, get_or, All, ℤ, pos, unsigned_abs, ◌==◌, arith}
+use Rattle.std.proofs.lemmas.List.Elements.{All-append, All-cons, All-nil}
+use Rattle.fleet_model.specs.declared.tables.Tables.{Tables}
+use Rattle.fleet_model.specs.Kept.{Domains}
+use Rattle.fleet_model.specs.Schedule.{leg_on}
+use Rattle.lp_rows.specs.Layout.{Starts, all_kept, all_nodes, concat_below}
+use Rattle.lp_rows.specs.Points.{pairs_kept}
+use Rattle.lp_rows.proofs.Counted.{nodes_are}
+use Rattle.bound_cert.specs.OfTables.{IsStepOf, IsWeightOf}
+use Rattle.price_lift.specs.Parts.{weights_at}
+use Rattle.price_lift.specs.Steps.{all_steps, is_step, node_of_number, step_of, steps_at}
+use Rattle.price_lift.proofs.BasicPoints.{is_pair}
+use Rattle.price_lift.proofs.LinePlaces.{node_is}
+
+-- what holds of each entry of lists one behind another
+pub all_concat : {X : Type 0} (P : X → Type 0) (g : ℕ → List X) (n : ℕ) → ((k : ℕ) → k < n → All P (g k)) → All P (concat_below g n)
+all_concat P g zero each = All-nil P
+all_concat P g (suc n) each = All-append P _ _ (all_concat P g n (λ k below. each k (omega arith))) (each n (omega arith))
+
+all_one : {X : Type 0} (P : X → Type 0) (b : Bool) (x : X) → P x → All P (if b then x ∷ [] else [])
+all_one P true x holds = All-cons P x [] holds (All-nil P)
+all_one P false x holds = All-nil P
+
+all_other : {X : Type 0} (P : X → Type 0) (b : Bool) (x : X) → P x → All P (if b then [] else x ∷ [])
+all_other P true x holds = All-nil P
+all_other P false x holds = All-cons P x [] holds (All-nil P)
+
+pub steps_known : (t : Tables) (starts : Starts) (value : ℕ → ℤ) → All (IsStepOf t) (all_steps t starts value)
+steps_known t starts value = all_concat (IsStepOf t) (steps_at t starts value) (length (all_nodes t starts)) (λ k below.
+    let n = node_of_number t starts k in
+    let node = node_is t starts k (omega (arith, below, nodes_are t starts)) in
+    all_one (IsStepOf t) (is_step (length (starts n.fleet n.station)) value k n) (step_of (starts n.fleet n.station) (value k) n) (record { fleet = node.fleet; station = node.station }))
+
+pub weights_known : (t : Tables) (keeps : Domains) (starts : Starts) (parts : List ℤ) → All (IsWeightOf t) (concat_below (weights_at (all_kept t keeps) parts) (pairs_kept t keeps))
+weights_known t keeps starts parts = all_concat (IsWeightOf t) (weights_at (all_kept t keeps) parts) (pairs_kept t keeps) (λ c below.
+    let p = get_or (all_kept t keeps) c (leg_on 0 0) in
+    let w = get_or parts c (pos 0) in
+    all_other (IsWeightOf t) (unsigned_abs w == 0) (record { leg = p.leg; fleet = p.fleet; weight = w }) (is_pair t keeps starts c below))
