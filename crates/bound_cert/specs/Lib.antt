@@ -1,6 +1,7 @@
 pub mod Bound
 pub mod Duality
 pub mod Figures
+pub mod Fractions
 pub mod Known
 pub mod Leaves
 pub mod Lines

@@ -4,6 +4,12 @@ ghost use Rattle.bound_cert.specs.Prices.{rent_of};
 use entries::Entries;
 use std::alloc::Global;
 
+/// The greatest scale of prices and of fractional assignments.
+pub const MAX_SCALE: i128 = 1_000_000_000_000_000_000;
+
+/// The greatest rent, and the greatest size of a price.
+pub const MAX_PRICE: i128 = 1_000_000_000_000_000_000_000_000_000_000;
+
 /// A change of a fleet's price at a station: from this minute on it is `value`, until the next step.
 #[derive(Clone, Copy, Debug, PartialEq, Eq)]
 pub struct PriceStep {

@@ -8,7 +8,7 @@ use Rattle.fleet_model.specs.Use.{need_of}
 use Rattle.fleet_model.specs.declared.tables.Tables.{Tables}
 use Rattle.fleet_model.proofs.NeedAtDepartures.{need_is_at_departures}
 use Rattle.bound_cert.specs.declared.mixed.Mixed.{Mixed}
-use Rattle.cert_check.specs.MixedRules.{parts_in}
+use Rattle.bound_cert.specs.Fractions.{parts_in}
 
 -- the fleet flies some of the leg, and from the station
 abbrev pub flies_from : Tables → Mixed → ℕ → ℕ → ℕ → Bool

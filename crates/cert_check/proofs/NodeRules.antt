@@ -13,7 +13,7 @@ use Rattle.bound_cert.specs.Prices.{ArePrices}
 use Rattle.bound_cert.specs.Worth.{worth_of}
 use Rattle.bound_cert.specs.declared.mixed.Mixed.{Mixed}
 use Rattle.bound_cert.specs.declared.prices.Prices.{Prices}
-use Rattle.cert_check.specs.MixedRules.{AreParts, IsMixedAt}
+use Rattle.bound_cert.specs.Fractions.{AreParts, IsMixedAt}
 use Rattle.cert_check.specs.Nodes.{Node, prices_at}
 use Rattle.cert_check.specs.PriceRules.{AreWithin, NeverRise, RiseByRent}
 use Rattle.cert_check.specs.Rules.{HasScale, IsLegalAt, IsSoleLegal, IsSound, KeepsBefore, Reaches}

@@ -4,14 +4,9 @@ use Rattle.fleet_model.specs.Schedule.{fleets_in, stations_in}
 use Rattle.fleet_model.specs.Use.{last_minute}
 use Rattle.fleet_model.specs.declared.limits.TheConstants.{MINUTES_PER_PERIOD}
 use Rattle.fleet_model.specs.declared.tables.Tables.{Tables}
-use Rattle.bound_cert.specs.Prices.{max_price, max_scale, price_of, rent_of}
+use Rattle.bound_cert.specs.Prices.{max_price, price_of, rent_of}
 use Rattle.bound_cert.specs.declared.prices.Prices.{Prices}
 use Rattle.bound_cert.specs.declared.prices.PriceStep.{PriceStep}
-
--- a scale is 1 or more, and within its limit
-pub record IsScale (scale : ℤ) : Type 0 where
-  pub some : pos 1 ≤ℤ scale
-  pub within : scale ≤ℤ pos max_scale
 
 -- a rent is 0 or more, and within its limit
 pub record IsRent (rent : ℤ) : Type 0 where

@@ -10,7 +10,8 @@ ghost use Rattle.bound_cert.specs.Mixed.{weight_in};
 ghost use Rattle.bound_cert.specs.Prices.{ArePrices};
 ghost use Rattle.bound_cert.specs.Sizes.{IsUpTo};
 ghost use Rattle.bound_cert.specs.Worth.{cost_units};
-ghost use Rattle.cert_check.specs.MixedRules.{AreParts, IsFraction, IsWhole, IsWholeLeg, IsWholePair, IsEnd, IsSmallWeight, IsWorth, parts_in};
+ghost use Rattle.bound_cert.specs.Fractions.{AreParts, IsFraction, IsWhole, IsWholeLeg, IsWholePair, IsEnd, IsWorth, parts_in};
+ghost use Rattle.cert_check.specs.MixedRules.{IsSmallWeight};
 
 use bound_cert::worth::worth;
 use bound_cert::{Mixed, Prices};

@@ -8,7 +8,7 @@ ghost use Rattle.fleet_model.specs.Times.{laps_of};
 ghost use Rattle.fleet_model.specs.Use.{excess, laps_flown, need_of, used_of};
 ghost use Rattle.fleet_model.specs.declared.limits.TheConstants.{MAX_LEGS, MAX_STATIONS};
 ghost use Rattle.bound_cert.specs.Prices.{max_scale};
-ghost use Rattle.cert_check.specs.MixedRules.{AreParts, parts_in};
+ghost use Rattle.bound_cert.specs.Fractions.{AreParts, parts_in};
 
 use bound_cert::Mixed;
 use fleet_model::{Pair, Tables, laps, ready};

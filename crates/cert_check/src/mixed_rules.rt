@@ -7,7 +7,8 @@ ghost use Rattle.fleet_model.specs.Kept.{kept_by};
 ghost use Rattle.fleet_model.specs.Schedule.{fleet_of, fleets_in, legs_in};
 ghost use Rattle.fleet_model.specs.Use.{IsBalanced};
 ghost use Rattle.bound_cert.specs.Prices.{max_scale};
-ghost use Rattle.cert_check.specs.MixedRules.{AreParts, BalancesFleet, Covers, FliesKept, FliesKeptOn, HasAllWeights, HasWeights, IsMixedAt, IsWeight, UsesNoMore, parts_in, parts_of_leg};
+ghost use Rattle.bound_cert.specs.Fractions.{AreParts, HasAllWeights, HasWeights, IsMixedAt, IsWeight, parts_in, parts_of_leg};
+ghost use Rattle.cert_check.specs.MixedRules.{BalancesFleet, Covers, FliesKept, FliesKeptOn, UsesNoMore};
 
 use crate::mixed_counts::{arrivals, departures, parts, used, weight_on};
 use crate::price_rules::is_scale;

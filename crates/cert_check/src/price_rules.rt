@@ -7,17 +7,13 @@ ghost use Rattle.fleet_model.specs.Schedule.{fleets_in};
 ghost use Rattle.fleet_model.specs.declared.limits.TheConstants.{MINUTES_PER_PERIOD};
 ghost use Rattle.bound_cert.specs.OfTables.{ArePricesOf, IsStepOf};
 ghost use Rattle.bound_cert.specs.Prices.{price_of, rent_of};
-ghost use Rattle.cert_check.specs.PriceRules.{AreRents, AreWithin, FallsAt, IsPrice, IsRent, IsScale, IsWithinAt, NeverRise, RiseByRent, RisesByRentAt};
+ghost use Rattle.bound_cert.specs.Fractions.{IsScale};
+ghost use Rattle.cert_check.specs.PriceRules.{AreRents, AreWithin, FallsAt, IsPrice, IsRent, IsWithinAt, NeverRise, RiseByRent, RisesByRentAt};
 
+use bound_cert::prices::{MAX_PRICE, MAX_SCALE};
 use bound_cert::{PriceStep, Prices};
 use fleet_model::Tables;
 use fleet_model::limits::MINUTES_PER_PERIOD;
-
-/// The greatest scale of prices and of fractional assignments.
-const MAX_SCALE: i128 = 1_000_000_000_000_000_000;
-
-/// The greatest rent, and the greatest size of a price.
-const MAX_PRICE: i128 = 1_000_000_000_000_000_000_000_000_000_000;
 
 /// Whether a scale is 1 or more and within its limit. Takes no memory.
 pub(crate) fn is_scale(scale: &i128) -> bool

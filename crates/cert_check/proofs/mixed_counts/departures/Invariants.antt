@@ -2,7 +2,7 @@ use Rattle.std.proofs.Common.{◌≡◌, ◌≤◌, ◌*◌}
 use Rattle.sums.specs.Below.{sum_below}
 use Rattle.fleet_model.specs.Counts.{leaving}
 use Rattle.bound_cert.specs.Prices.{max_scale}
-use Rattle.cert_check.specs.MixedRules.{parts_in}
+use Rattle.bound_cert.specs.Fractions.{parts_in}
 use Rattle.cert_check.proofs.mixed_counts.departures.Given as goal
 
 abbrev pub invariant-loop-leg : goal.invariant-loop-leg

@@ -3,7 +3,7 @@ use Rattle.sums.specs.Below.{sum_below}
 use Rattle.fleet_model.specs.Use.{need_of}
 use Rattle.fleet_model.specs.declared.limits.TheConstants.{MAX_LEGS}
 use Rattle.bound_cert.specs.Prices.{max_scale}
-use Rattle.cert_check.specs.MixedRules.{parts_in}
+use Rattle.bound_cert.specs.Fractions.{parts_in}
 use Rattle.cert_check.proofs.mixed_counts.needed.Given as goal
 
 abbrev pub invariant-loop-station : goal.invariant-loop-station

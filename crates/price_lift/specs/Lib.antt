@@ -1,0 +1,9 @@
+pub mod Duals
+pub mod Ends
+pub mod Laws
+pub mod Mixture
+pub mod Parts
+pub mod Prices
+pub mod Steps
+pub mod TooLarge
+pub mod Weights

@@ -1,0 +1,23 @@
+-- What prices say that are read off dual values.
+use Rattle.std.specs.Prelude.{◌≡◌, ℕ, ◌<◌, true, List, [], slice_index_or, ℤ, pos, neg_ℤ}
+use Rattle.fleet_model.specs.Schedule.{fleets_in, stations_in}
+use Rattle.fleet_model.specs.declared.tables.Tables.{Tables}
+use Rattle.lp_rows.specs.Entries.{is_in}
+use Rattle.lp_rows.specs.Layout.{Starts, lines_of}
+use Rattle.lp_rows.specs.declared.kinds.Line.{Line}
+use Rattle.lp_rows.specs.declared.kinds.Line.TheVariants.{Balance, Count, Cover}
+use Rattle.lp_rows.specs.declared.kinds.Node.{Node}
+use Rattle.bound_cert.specs.Prices.{price_of, rent_of}
+use Rattle.bound_cert.specs.declared.prices.Prices.{Prices}
+
+-- the line of a number
+abbrev pub line_at : Tables → Starts → ℕ → Line
+line_at t starts line = slice_index_or (lines_of t starts) line (Cover 0)
+
+-- through a node the price is the value of its balance line, and 0 where a fleet has no node at a station; a rent is
+-- the value of the fleet's count line with the other sign
+pub record AreByLines (t : Tables) (starts : Starts) (value : ℕ → ℤ) (prices : Prices) : Type 0 where
+  pub balance : (line minute : ℕ) (n : Node) → line_at t starts line ≡ Balance n → is_in (starts n.fleet n.station) n.place minute ≡ true
+      → price_of prices n.fleet n.station minute ≡ value line
+  pub nowhere : (f s minute : ℕ) → f < fleets_in t → s < stations_in t → starts f s ≡ [] → price_of prices f s minute ≡ pos 0
+  pub count : (line f : ℕ) → line_at t starts line ≡ Count f → rent_of prices f ≡ neg_ℤ (value line)

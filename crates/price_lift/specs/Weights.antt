@@ -1,0 +1,46 @@
+-- The weights of pairs at a table's basic point, over the least scale that makes them whole.
+use Rattle.std.specs.Prelude.{◌≡◌, ◌≢◌, ℕ, zero, suc, ◌*◌, ◌/◌, ◌<◌, nat_lt, if◌then◌else◌, List, slice_index, slice_index_or, ℤ, pos, ◌*ℤ◌, unsigned_abs}
+use Rattle.sums.specs.Divisors.{gcd}
+use Rattle.frac_row.specs.declared.row.FracRow.{FracRow}
+use Rattle.fleet_model.specs.Kept.{Domains}
+use Rattle.fleet_model.specs.Schedule.{IsPair, leg_on}
+use Rattle.fleet_model.specs.declared.parts.Pair.{Pair}
+use Rattle.fleet_model.specs.declared.tables.Tables.{Tables}
+use Rattle.row_store.specs.Table.{height_of, right_side, row_at}
+use Rattle.lp_rows.specs.Layout.{all_kept}
+use Rattle.lp_rows.specs.Points.{pairs_kept}
+use Rattle.bound_cert.specs.Mixed.{weight_in}
+use Rattle.bound_cert.specs.declared.mixed.Mixed.{Mixed}
+
+-- the least common multiple of two numbers above 0
+unfoldable pub lcm : ℕ → ℕ → ℕ
+lcm a b = (a / gcd a b) * b
+
+-- the denominator of a line's right side, in lowest terms
+unfoldable pub lowest_den : List FracRow → ℕ → ℕ
+lowest_den table line =
+    unsigned_abs (row_at table line).den / gcd (unsigned_abs (right_side table line)) (unsigned_abs (row_at table line).den)
+
+-- the least scale that makes the right sides of the first lines whole, of those whose basic column is a pair's; the
+-- columns of pairs come first
+abbrev pub scale_below : List FracRow → List ℕ → ℕ → ℕ → ℕ
+scale_below table basis pairs zero = 1
+scale_below table basis pairs (suc line) =
+    if nat_lt (slice_index basis line) pairs then lcm (scale_below table basis pairs line) (lowest_den table line)
+    else scale_below table basis pairs line
+
+-- the pair of a column
+abbrev pub pair_at_column : Tables → Domains → ℕ → Pair
+pair_at_column t keeps column = slice_index_or (all_kept t keeps) column (leg_on 0 0)
+
+-- the pair is that of a line's basic column
+pub record IsBasicIn (t : Tables) (keeps : Domains) (basis : List ℕ) (line : ℕ) (p : Pair) : Type 0 where
+  pub of_pair : slice_index basis line < pairs_kept t keeps
+  pub same : pair_at_column t keeps (slice_index basis line) ≡ p
+
+-- a line's basic pair has its right side as weight, both over their scales; any other pair weighs nothing
+pub record AreBasicWeights (t : Tables) (keeps : Domains) (table : List FracRow) (basis : List ℕ) (mixed : Mixed) : Type 0 where
+  pub scale : mixed.scale ≡ pos (scale_below table basis (pairs_kept t keeps) (height_of table))
+  pub basic : (line : ℕ) (p : Pair) → line < height_of table → IsBasicIn t keeps basis line p
+      → (weight_in mixed p *ℤ (row_at table line).den) ≡ (right_side table line *ℤ mixed.scale)
+  pub others : (p : Pair) → IsPair t p → ((line : ℕ) → line < height_of table → ¬ (IsBasicIn t keeps basis line p)) → weight_in mixed p ≡ pos 0

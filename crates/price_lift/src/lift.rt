@@ -1,0 +1,80 @@
+ghost use Rattle.std.specs.Prelude.{◌≡◌, ◌<◌, ℕ, None, pos, ◌<ℤ◌, IfOk, IfErr, IsSomeAnd};
+ghost use Rattle.frac_row.specs.Row.{reduced};
+ghost use Rattle.fleet_model.specs.Kept.{IsBare, kept_by};
+ghost use Rattle.simplex_frac.specs.declared.turn.Turn.TheVariants as turns;
+ghost use Rattle.lp_rows.specs.Layout.{IsNetwork, Starts};
+ghost use Rattle.bound_cert.specs.Fractions.{IsMixedAt, IsWorth};
+ghost use Rattle.bound_cert.specs.OfTables.{ArePricesOf, IsMixedOf};
+ghost use Rattle.bound_cert.specs.Prices.{ArePrices};
+ghost use Rattle.bound_cert.specs.Worth.{worth_of};
+ghost use Rattle.price_lift.specs.Duals.{best_duals, refusal_duals, value_in};
+ghost use Rattle.price_lift.specs.Ends.{Ends};
+ghost use Rattle.price_lift.specs.Prices.{AreByLines};
+ghost use Rattle.price_lift.specs.TooLarge.{IsLiftError, best_excess, refusal_excess};
+ghost use Rattle.price_lift.specs.Weights.{AreBasicWeights};
+
+use crate::error::LiftError;
+use bound_cert::{Mixed, Prices};
+use fleet_model::{Kept, Tables};
+use row_store::RowStore;
+use std::alloc::Global;
+
+/// What the last table of a run says of its subproblem.
+#[derive(Debug, Drop)]
+pub struct Lifted {
+    /// Proper prices.
+    pub prices: Prices,
+    /// A fractional assignment that costs what the prices are worth; none where no point meets the lines.
+    pub mixed: Option<Mixed>,
+}
+
+/// Prices and a cheapest fractional assignment from the table and the basis with which the run over a subproblem's
+/// lines ended at a cheapest point. The prices are the dual values of balance and count lines in lowest terms, and
+/// their worth is the cost of the fractional assignment, both over their scales (linear duality).
+///
+/// It looks at each number of the phase row and of the cost row a few times, and at each line's right side.
+pub fn lift_best<R: RowStore>(
+    alloc: Global,
+    table: &R,
+    basis: &[u32],
+    tables: &Tables,
+    kept: &Kept,
+) -> Result<Lifted, LiftError>
+    requires { Ends tables.now (kept_by kept.now) turns.Best (R.content table.now) basis.now }
+    ensures scale { IfOk result (λ lifted. lifted.prices.scale ≡ (reduced (best_duals tables.now (R.content table.now))).den) }
+    ensures prices { IfOk result (λ lifted. (starts : Starts) → IsNetwork tables.now (kept_by kept.now) starts
+        → AreByLines tables.now starts (value_in tables.now (reduced (best_duals tables.now (R.content table.now)))) lifted.prices) }
+    ensures of_tables { IfOk result (λ lifted. ArePricesOf tables.now lifted.prices) }
+    ensures proper { IfOk result (λ lifted. ArePrices tables.now lifted.prices) }
+    ensures weights { IfOk result (λ lifted. IsSomeAnd lifted.mixed (AreBasicWeights tables.now (kept_by kept.now) (R.content table.now) basis.now)) }
+    ensures known { IfOk result (λ lifted. IsSomeAnd lifted.mixed (IsMixedOf tables.now)) }
+    ensures plan { IfOk result (λ lifted. IsSomeAnd lifted.mixed (IsMixedAt tables.now (kept_by kept.now))) }
+    ensures value { IfOk result (λ lifted. IsSomeAnd lifted.mixed (IsWorth tables.now (kept_by kept.now) lifted.prices)) }
+    ensures fits { IfOk result (λ _. best_excess tables.now (kept_by kept.now) (R.content table.now) basis.now ≡ None) }
+    ensures too_large { IfErr result (IsLiftError (best_excess tables.now (kept_by kept.now) (R.content table.now) basis.now)) }
+{
+    Err(LiftError::NoMemory)
+}
+
+/// Prices that show that nothing in a subproblem is legal, from the table and the basis with which the run over its
+/// lines ended where no point meets them. Their worth without costs is above 0 where each leg keeps a pair.
+pub fn lift_refusal<R: RowStore>(
+    alloc: Global,
+    table: &R,
+    basis: &[u32],
+    tables: &Tables,
+    kept: &Kept,
+) -> Result<Lifted, LiftError>
+    requires { Ends tables.now (kept_by kept.now) turns.NoPoint (R.content table.now) basis.now }
+    ensures scale { IfOk result (λ lifted. lifted.prices.scale ≡ (reduced (refusal_duals tables.now (R.content table.now))).den) }
+    ensures prices { IfOk result (λ lifted. (starts : Starts) → IsNetwork tables.now (kept_by kept.now) starts
+        → AreByLines tables.now starts (value_in tables.now (reduced (refusal_duals tables.now (R.content table.now)))) lifted.prices) }
+    ensures of_tables { IfOk result (λ lifted. ArePricesOf tables.now lifted.prices) }
+    ensures proper { IfOk result (λ lifted. ArePrices tables.now lifted.prices) }
+    ensures no_plan { IfOk result (λ lifted. lifted.mixed ≡ None) }
+    ensures refutes { IfOk result (λ lifted. ((l : ℕ) → ¬ (IsBare tables.now (kept_by kept.now) l)) → pos 0 <ℤ worth_of tables.now (kept_by kept.now) lifted.prices 0) }
+    ensures fits { IfOk result (λ _. refusal_excess tables.now (R.content table.now) ≡ None) }
+    ensures too_large { IfErr result (IsLiftError (refusal_excess tables.now (R.content table.now))) }
+{
+    Err(LiftError::NoMemory)
+}
