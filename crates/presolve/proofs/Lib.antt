@@ -1,0 +1,10 @@
+pub mod AircraftRule
+pub mod KeptParts
+pub mod LeastBounds
+pub mod OneFewer
+pub mod ReasonPrices
+pub mod ReasonWorth
+pub mod ReasonsProper
+pub mod RemovalLaws
+pub mod SoFar
+pub mod StationRules

@@ -1,0 +1,100 @@
+-- What removals show, and how many there are.
+use Rattle.std.proofs.Common.{◌≡◌, ℕ, ◌+◌, ◌<◌, Bool, true, false, if◌then◌else◌, ◌==◌, nat_lt, IsTrue, Option, Some, None, List, [], ◌∷◌, ◌++◌, length, pos, ◌<ℤ◌, refl, arith}
+use Rattle.std.proofs.lemmas.Bool.Decides.{nat_tests}
+use Rattle.fleet_model.specs.Kept.{Domains}
+use Rattle.fleet_model.specs.Schedule.{IsPair, fleet_of, leg_of}
+use Rattle.fleet_model.specs.Times.{departure}
+use Rattle.fleet_model.specs.declared.parts.Pair.{Pair}
+use Rattle.fleet_model.specs.declared.tables.Tables.{Tables}
+use Rattle.bound_cert.specs.Bound.{part}
+use Rattle.bound_cert.specs.Worth.{worth_of}
+use Rattle.bound_cert.specs.declared.prices.Prices.{Prices}
+use Rattle.presolve.specs.Reasons.{IsReason}
+use Rattle.presolve.specs.Removals.{AreRefuted, AreRemovals, IsDone, IsNext, IsRefuted, kept_after, pair_of, pairs_kept, without}
+use Rattle.presolve.specs.Rules.{departures, landings, removed_by, rule_of, surely_busy}
+use Rattle.presolve.specs.declared.trims.Trim.{Trim}
+use Rattle.presolve.specs.declared.rule.Rule.{Rule}
+use Rattle.presolve.specs.declared.rule.Rule.TheVariants as rule
+use Rattle.presolve.proofs.AircraftRule.{too_few_refutes}
+use Rattle.presolve.proofs.KeptParts.{flown_none_bare, one_fewer}
+use Rattle.presolve.proofs.ReasonsProper.{reason_is_proper}
+use Rattle.presolve.proofs.StationRules.{no_arrival_refutes, no_departure_refutes}
+
+-- which of three tests passes first
+by_three : Bool → Bool → Bool → Option Rule
+by_three a b c = if a then Some rule.NoArrival else if b then Some rule.NoDeparture else if c then Some rule.TooFewAircraft else None
+
+abbrev PassesAs : Bool → Bool → Bool → Rule → Type 0
+PassesAs a b c rule.NoArrival = a ≡ true
+PassesAs a b c rule.NoDeparture = b ≡ true
+PassesAs a b c rule.TooFewAircraft = c ≡ true
+
+passes : (a b c : Bool) (why : Rule) → by_three a b c ≡ Some why → PassesAs a b c why
+unfolding by_three
+passes true b c rule.NoArrival e = refl
+passes true b c rule.NoDeparture e = cc
+passes true b c rule.TooFewAircraft e = cc
+passes false true c rule.NoDeparture e = refl
+passes false true c rule.NoArrival e = cc
+passes false true c rule.TooFewAircraft e = cc
+passes false false true rule.TooFewAircraft e = refl
+passes false false true rule.NoArrival e = cc
+passes false false true rule.NoDeparture e = cc
+passes false false false why e = cc
+
+-- a rule of a kept pair
+kept_rule : (b : Bool) (o : Option Rule) (why : Rule) → (if b then o else None) ≡ Some why → (b ≡ true) × (o ≡ Some why)
+kept_rule true o why e = (refl, e)
+kept_rule false o why e = cc
+
+pub is_kept : (t : Tables) (keeps : Domains) (p : Pair) (why : Rule) → removed_by t keeps p ≡ Some why → keeps p ≡ true
+is_kept t keeps p why e = (kept_rule (keeps p) (rule_of t keeps p) why e).0
+
+no_number : (n : ℕ) → (n == 0) ≡ true → n ≡ 0
+no_number n e = grind (arith, nat_tests)
+
+less : (m n : ℕ) → nat_lt m n ≡ true → m < n
+less m n e = grind (arith, nat_tests)
+
+-- by the first rule that a pair meets, its reason shows that nothing legal is left where it is flown
+by_rule : (t : Tables) (keeps : Domains) (p : Pair) (why : Rule) (prices : Prices) → IsPair t p → keeps p ≡ true → IsReason t why p prices
+    → PassesAs (landings t keeps p.fleet (leg_of t p.leg).from == 0) (departures t keeps p.fleet (leg_of t p.leg).to == 0) (nat_lt (fleet_of t p.fleet).aircraft (surely_busy t keeps p (departure t p))) why
+    → pos 0 <ℤ worth_of t (part keeps p.leg p.fleet true) prices 0
+by_rule t keeps p rule.NoArrival prices pair kept reason test = no_arrival_refutes t keeps p prices pair kept (no_number (landings t keeps p.fleet (leg_of t p.leg).from) test) reason
+by_rule t keeps p rule.NoDeparture prices pair kept reason test = no_departure_refutes t keeps p prices pair kept (no_number (departures t keeps p.fleet (leg_of t p.leg).to) test) reason
+by_rule t keeps p rule.TooFewAircraft prices pair kept reason test = too_few_refutes t keeps p prices pair kept (less (fleet_of t p.fleet).aircraft (surely_busy t keeps p (departure t p)) test) reason
+
+rule_refutes : (t : Tables) (keeps : Domains) (p : Pair) (why : Rule) (prices : Prices) → IsPair t p → removed_by t keeps p ≡ Some why → IsReason t why p prices
+    → pos 0 <ℤ worth_of t (part keeps p.leg p.fleet true) prices 0
+unfolding rule_of by_three
+rule_refutes t keeps p why prices pair e reason =
+    let parts = kept_rule (keeps p) (rule_of t keeps p) why e in
+    by_rule t keeps p why prices pair parts.0 reason (passes _ _ _ why parts.1)
+
+next_is_refuted : (t : Tables) (keeps : Domains) (place : Pair) (trim : Trim) → IsNext t keeps place trim → IsRefuted t keeps trim
+next_is_refuted t keeps place trim next = record {
+  pair = next.pair;
+  kept = is_kept t keeps (pair_of trim) next.why next.first_rule;
+  none_bare = flown_none_bare t keeps (pair_of trim) next.pair (is_kept t keeps (pair_of trim) next.why next.first_rule) next.none_bare;
+  proper = reason_is_proper t next.why (pair_of trim) trim.reason next.reason;
+  of_tables = next.reason.of_tables;
+  above = rule_refutes t keeps (pair_of trim) next.why trim.reason next.pair next.first_rule next.reason;
+}
+
+-- the reasons of removals refute
+pub are_refuted : (t : Tables) (keeps : Domains) (place : Pair) (trims : List Trim) → AreRemovals t keeps place trims → AreRefuted t keeps trims
+are_refuted t keeps place [] removals = tt
+are_refuted t keeps place (trim ∷ trims) removals = (next_is_refuted t keeps place trim removals.0, are_refuted t (without keeps trim) (pair_of trim) trims removals.1)
+
+-- nothing is left to remove behind them
+pub are_done : (t : Tables) (keeps : Domains) (place : Pair) (trims : List Trim) → AreRemovals t keeps place trims → IsDone t (kept_after keeps trims)
+are_done t keeps place [] removals = removals
+are_done t keeps place (trim ∷ trims) removals = are_done t (without keeps trim) (pair_of trim) trims removals.1
+
+-- each takes one kept pair away
+pub are_fewer : (t : Tables) (keeps : Domains) (place : Pair) (trims : List Trim) → AreRemovals t keeps place trims → length trims + pairs_kept t (kept_after keeps trims) ≡ pairs_kept t keeps
+are_fewer t keeps place [] removals = omega arith
+are_fewer t keeps place (trim ∷ trims) removals =
+    let next = removals.0 in
+    let fewer = one_fewer t keeps (pair_of trim) next.pair (is_kept t keeps (pair_of trim) next.why next.first_rule) in
+    omega (arith, fewer, are_fewer t (without keeps trim) (pair_of trim) trims removals.1)

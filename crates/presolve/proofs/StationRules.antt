@@ -1,0 +1,146 @@
+-- Where no kept pair of a fleet lands where a leg departs, or departs where it lands, the fleet can't fly the leg.
+use Rattle.std.proofs.Common.{◌≡◌, ℕ, ◌<◌, Bool, true, false, if◌then◌else◌, ◌==◌, ◌&&◌, IsTrue, ℤ, pos, negsuc, ◌+ℤ◌, ◌-ℤ◌, ◌*ℤ◌, ◌≤ℤ◌, ◌<ℤ◌, refl, sym, ◌∙◌, ap, arith}
+use Rattle.std.proofs.lemmas.Bool.Decides.{nat_tests}
+use Rattle.std.proofs.lemmas.Int.{ints}
+use lib.IntN.{zero-*ℤ}
+use Rattle.sums.specs.Below.{sum_below_ℤ}
+use Rattle.sums.proofs.Counts.{count_below-some}
+use Rattle.sums.proofs.Orders.{sum_below_ℤ-le}
+use Rattle.sums.proofs.WholeSums.{sum_below_ℤ-same}
+use Rattle.sums.proofs.WholeSwaps.{sum_below_ℤ-one, sum_below_ℤ-zero, where_true}
+use Rattle.fleet_model.specs.Kept.{Domains}
+use Rattle.fleet_model.specs.Schedule.{IsPair, fleet_of, fleets_in, leg_of, leg_on, legs_in}
+use Rattle.fleet_model.specs.Times.{laps_of}
+use Rattle.fleet_model.specs.declared.parts.Pair.{Pair}
+use Rattle.fleet_model.specs.declared.tables.Tables.{Tables}
+use Rattle.bound_cert.specs.Bound.{part}
+use Rattle.bound_cert.specs.Worth.{leg_worth, worth_of}
+use Rattle.bound_cert.specs.declared.prices.Prices.{Prices}
+use Rattle.presolve.specs.Reasons.{IsReason, reason_rent}
+use Rattle.presolve.specs.Rules.{departs, departures, landings, lands}
+use Rattle.presolve.specs.declared.rule.Rule.{Rule}
+use Rattle.presolve.specs.declared.rule.Rule.TheVariants as rule
+use Rattle.presolve.proofs.KeptParts.{is_flown, is_own_fleet, was_kept}
+use Rattle.presolve.proofs.ReasonWorth.{NoneAddsLess, above_zero, leg_low, leg_of_kept, reason_flow, reason_rents, rents_are}
+
+-- no kept pair of the fleet lands there
+not_there : (t : Tables) (keeps : Domains) (f s l : ℕ) → landings t keeps f s ≡ 0 → l < legs_in t → keeps (leg_on l f) ≡ true → ((leg_of t l).to == s) ≡ false
+unfolding landings
+not_there t keeps f s l none within kept = by_test ((leg_of t l).to == s)
+    (λ e. let some = count_below-some (lands t keeps f s) (legs_in t) l within (both (keeps (leg_on l f)) ((leg_of t l).to == s) kept e) in omega (arith, some, none))
+  where
+    both : (a b : Bool) → a ≡ true → b ≡ true → (a && b) ≡ true
+    both true true e h = refl
+    both false b e h = cc
+    both true false e h = cc
+
+    by_test : (b : Bool) → (b ≡ true → ⊥) → b ≡ false
+    by_test true never = absurd (never refl)
+    by_test false never = refl
+
+-- no kept pair of the fleet departs from there
+not_from_there : (t : Tables) (keeps : Domains) (f s l : ℕ) → departures t keeps f s ≡ 0 → l < legs_in t → keeps (leg_on l f) ≡ true → ((leg_of t l).from == s) ≡ false
+unfolding departures
+not_from_there t keeps f s l none within kept = by_test ((leg_of t l).from == s)
+    (λ e. let some = count_below-some (departs t keeps f s) (legs_in t) l within (both (keeps (leg_on l f)) ((leg_of t l).from == s) kept e) in omega (arith, some, none))
+  where
+    both : (a b : Bool) → a ≡ true → b ≡ true → (a && b) ≡ true
+    both true true e h = refl
+    both false b e h = cc
+    both true false e h = cc
+
+    by_test : (b : Bool) → (b ≡ true → ⊥) → b ≡ false
+    by_test true never = absurd (never refl)
+    by_test false never = refl
+
+-- what a pair adds: of the fleet itself something where it departs and nothing where it lands, or the other way round
+of_arrival : (own here there : Bool) (laps : ℕ) → (own ≡ true → there ≡ false)
+    → pos 0 ≤ℤ (((if own && here then pos 1 else pos 0) -ℤ (if own && there then pos 1 else pos 0)) +ℤ (pos 0 *ℤ pos laps))
+of_arrival true here true laps away = cc (away refl)
+of_arrival true true false laps away = omega (arith, ints)
+of_arrival true false false laps away = omega (arith, ints)
+of_arrival false here there laps away = omega (arith, ints)
+
+of_departure : (own here there : Bool) (laps : ℕ) → (own ≡ true → here ≡ false)
+    → pos 0 ≤ℤ (((if own && here then negsuc 0 else pos 0) -ℤ (if own && there then negsuc 0 else pos 0)) +ℤ (pos 0 *ℤ pos laps))
+of_departure true true there laps away = cc (away refl)
+of_departure true false true laps away = omega (arith, ints)
+of_departure true false false laps away = omega (arith, ints)
+of_departure false here there laps away = omega (arith, ints)
+
+own_arrival : (own here there : Bool) (laps : ℕ) → own ≡ true → here ≡ true → there ≡ false
+    → pos 1 ≤ℤ (((if own && here then pos 1 else pos 0) -ℤ (if own && there then pos 1 else pos 0)) +ℤ (pos 0 *ℤ pos laps))
+own_arrival true true false laps e f g = omega (arith, ints)
+own_arrival false here there laps e f g = cc
+own_arrival true false there laps e f g = cc
+own_arrival true true true laps e f g = cc
+
+own_departure : (own here there : Bool) (laps : ℕ) → own ≡ true → here ≡ false → there ≡ true
+    → pos 1 ≤ℤ (((if own && here then negsuc 0 else pos 0) -ℤ (if own && there then negsuc 0 else pos 0)) +ℤ (pos 0 *ℤ pos laps))
+own_departure true false true laps e f g = omega (arith, ints)
+own_departure false here there laps e f g = cc
+own_departure true true there laps e f g = cc
+own_departure true false false laps e f g = cc
+
+itself : (n : ℕ) → (n == n) ≡ true
+itself n = grind (arith, nat_tests)
+
+same_fleet : (keeps : Domains) (l f g : ℕ) → keeps (leg_on l f) ≡ true → (f == g) ≡ true → keeps (leg_on l g) ≡ true
+same_fleet keeps l f g kept same = let e : f ≡ g = grind (arith, nat_tests) in rw e at kept
+
+module _ (t : Tables) (keeps : Domains) (p : Pair) (pair : IsPair t p) where
+  -- by the first rule
+  abbrev flown : Domains
+  flown = part keeps p.leg p.fleet true
+
+  arrival_adds : landings t keeps p.fleet (leg_of t p.leg).from ≡ 0 → (l : ℕ) → l < legs_in t → NoneAddsLess t flown rule.NoArrival p l (pos 0)
+  arrival_adds none l within = record {
+    each = λ f known kept. of_arrival (f == p.fleet) ((leg_of t l).from == (leg_of t p.leg).from) ((leg_of t l).to == (leg_of t p.leg).from) (laps_of t (leg_on l f))
+        (λ own. not_there t keeps p.fleet (leg_of t p.leg).from l none within (same_fleet keeps l f p.fleet (was_kept keeps p.leg p.fleet true (leg_on l f) kept) own));
+  }
+
+  own_arrival_adds : keeps p ≡ true → landings t keeps p.fleet (leg_of t p.leg).from ≡ 0 → NoneAddsLess t flown rule.NoArrival p p.leg (pos 1)
+  own_arrival_adds is_kept none = record {
+    each = λ f known kept. own_arrival (f == p.fleet) ((leg_of t p.leg).from == (leg_of t p.leg).from) ((leg_of t p.leg).to == (leg_of t p.leg).from) (laps_of t (leg_on p.leg f))
+        (rw (is_own_fleet keeps p.leg p.fleet f kept) (itself p.fleet)) (itself (leg_of t p.leg).from)
+        (not_there t keeps p.fleet (leg_of t p.leg).from p.leg none pair.leg is_kept);
+  }
+
+  -- by the second
+  departure_adds : departures t keeps p.fleet (leg_of t p.leg).to ≡ 0 → (l : ℕ) → l < legs_in t → NoneAddsLess t flown rule.NoDeparture p l (pos 0)
+  departure_adds none l within = record {
+    each = λ f known kept. of_departure (f == p.fleet) ((leg_of t l).from == (leg_of t p.leg).to) ((leg_of t l).to == (leg_of t p.leg).to) (laps_of t (leg_on l f))
+        (λ own. not_from_there t keeps p.fleet (leg_of t p.leg).to l none within (same_fleet keeps l f p.fleet (was_kept keeps p.leg p.fleet true (leg_on l f) kept) own));
+  }
+
+  own_departure_adds : keeps p ≡ true → departures t keeps p.fleet (leg_of t p.leg).to ≡ 0 → NoneAddsLess t flown rule.NoDeparture p p.leg (pos 1)
+  own_departure_adds is_kept none = record {
+    each = λ f known kept. own_departure (f == p.fleet) ((leg_of t p.leg).from == (leg_of t p.leg).to) ((leg_of t p.leg).to == (leg_of t p.leg).to) (laps_of t (leg_on p.leg f))
+        (rw (is_own_fleet keeps p.leg p.fleet f kept) (itself p.fleet))
+        (not_from_there t keeps p.fleet (leg_of t p.leg).to p.leg none pair.leg is_kept) (itself (leg_of t p.leg).to);
+  }
+
+  -- where each leg adds 0 or more, and the pair's own adds 1 or more, and no rent is taken off
+  refuted : (why : Rule) (prices : Prices) → ((f : ℕ) → reason_rent why p f ≡ pos 0) → IsReason t why p prices → keeps p ≡ true
+      → ((l : ℕ) → l < legs_in t → NoneAddsLess t flown why p l (pos 0)) → NoneAddsLess t flown why p p.leg (pos 1) → pos 0 <ℤ worth_of t flown prices 0
+  refuted why prices free reason is_kept others own =
+      let own_worth = leg_of_kept t flown why p prices p.leg p.fleet (pos 1) reason pair.leg own pair.fleet (is_flown keeps p.leg p.fleet is_kept) in
+      let each = sum_below_ℤ-le (λ l. where_true (p.leg == l) (pos 1)) (leg_worth t flown prices 0) (legs_in t)
+      (λ l within. at_leg l (p.leg == l) (leg_low t flown why p prices l reason within (others l within)) (λ e. let same : l ≡ p.leg = grind (arith, nat_tests) in rw same own_worth)) in
+      let one = sum_below_ℤ-one p.leg (λ l. pos 1) (legs_in t) pair.leg in
+      let nothing = sum_below_ℤ-same (reason_rents t why p) (λ f. pos 0) (fleets_in t) (λ f known. ap (λ z. z *ℤ pos (fleet_of t f).aircraft) (free f) ∙ zero-*ℤ (pos (fleet_of t f).aircraft)) in
+      above_zero t flown prices (omega (arith, ints, each, one, nothing, rents_are t why p prices reason, sum_below_ℤ-zero (fleets_in t)))
+    where
+      at_leg : (l : ℕ) (b : Bool) → pos 0 ≤ℤ leg_worth t flown prices 0 l → (b ≡ true → pos 1 ≤ℤ leg_worth t flown prices 0 l) → where_true b (pos 1) ≤ℤ leg_worth t flown prices 0 l
+      at_leg l true low high = high refl
+      at_leg l false low high = low
+
+pub no_arrival_refutes : (t : Tables) (keeps : Domains) (p : Pair) (prices : Prices) → IsPair t p → keeps p ≡ true → landings t keeps p.fleet (leg_of t p.leg).from ≡ 0
+    → IsReason t rule.NoArrival p prices → pos 0 <ℤ worth_of t (part keeps p.leg p.fleet true) prices 0
+no_arrival_refutes t keeps p prices pair kept none reason =
+    refuted t keeps p pair rule.NoArrival prices (λ f. refl) reason kept (arrival_adds t keeps p pair none) (own_arrival_adds t keeps p pair kept none)
+
+pub no_departure_refutes : (t : Tables) (keeps : Domains) (p : Pair) (prices : Prices) → IsPair t p → keeps p ≡ true → departures t keeps p.fleet (leg_of t p.leg).to ≡ 0
+    → IsReason t rule.NoDeparture p prices → pos 0 <ℤ worth_of t (part keeps p.leg p.fleet true) prices 0
+no_departure_refutes t keeps p prices pair kept none reason =
+    refuted t keeps p pair rule.NoDeparture prices (λ f. refl) reason kept (departure_adds t keeps p pair none) (own_departure_adds t keeps p pair kept none)

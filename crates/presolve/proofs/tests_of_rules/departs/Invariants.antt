@@ -1,0 +1,8 @@
+use Rattle.std.proofs.Common.{◌≡◌}
+use Rattle.sums.specs.Below.{count_below}
+use Rattle.fleet_model.specs.Kept.{kept_by}
+use Rattle.presolve.specs.Rules.{departs}
+use Rattle.presolve.proofs.tests_of_rules.departs.Given as goal
+
+abbrev pub invariant-loop-leg : goal.invariant-loop-leg
+invariant-loop-leg l = count_below (departs l.tables (kept_by l.kept) l.fleet l.station) l.leg ≡ 0

@@ -1,0 +1,5 @@
+pub mod Choices
+pub mod Reasons
+pub mod Removals
+pub mod Rules
+pub mod Search

@@ -1,0 +1,83 @@
+-- Which pairs presolve removes, in which order, and what their reasons show.
+use Rattle.std.specs.Prelude.{◌≡◌, ℕ, ◌==◌, ◌&&◌, ◌||◌, nat_lt, if◌then◌else◌, Bool, IsTrue, true, false, ⊤, List, [], ◌∷◌, Some, None, pos, ◌<ℤ◌}
+use Rattle.sums.specs.Below.{sum_below}
+use Rattle.fleet_model.specs.Kept.{Domains, IsBare, kept_on}
+use Rattle.fleet_model.specs.Schedule.{IsPair, leg_on, legs_in}
+use Rattle.fleet_model.specs.declared.parts.Pair.{Pair}
+use Rattle.fleet_model.specs.declared.tables.Tables.{Tables}
+use Rattle.bound_cert.specs.Bound.{part}
+use Rattle.bound_cert.specs.OfTables.{ArePricesOf}
+use Rattle.bound_cert.specs.Prices.{ArePrices}
+use Rattle.bound_cert.specs.Worth.{worth_of}
+use Rattle.presolve.specs.Reasons.{IsReason}
+use Rattle.presolve.specs.Rules.{removed_by}
+use Rattle.presolve.specs.declared.trims.Trim.{Trim}
+use Rattle.presolve.specs.declared.rule.Rule.{Rule}
+
+-- a pair comes before another, by leg, then fleet
+abbrev pub before : Pair → Pair → Bool
+before p q = nat_lt p.leg q.leg || ((p.leg == q.leg) && nat_lt p.fleet q.fleet)
+
+-- of two pairs the first is met sooner, going over the pairs from a place to the last, and then over those before it
+abbrev pub is_sooner : Pair → Pair → Pair → Bool
+is_sooner place p q = if before p place then before q place && before p q else before q place || before p q
+
+-- where a pass begins
+abbrev pub first_place : Pair
+first_place = leg_on 0 0
+
+-- the pair that is removed
+abbrev pub pair_of : Trim → Pair
+pair_of trim = leg_on trim.leg trim.fleet
+
+-- the pairs that are kept after it
+abbrev pub without : Domains → Trim → Domains
+without keeps trim = part keeps trim.leg trim.fleet false
+
+-- each leg keeps a pair
+abbrev pub NoneBare : Tables → Domains → Type 0
+NoneBare t keeps = (l : ℕ) → ¬ (IsBare t keeps l)
+
+-- nothing more is removed: no kept pair meets a rule, or some leg keeps no pair
+pub record IsDone (t : Tables) (keeps : Domains) : Type 0 where
+  pub each : NoneBare t keeps → (p : Pair) → IsPair t p → removed_by t keeps p ≡ None
+
+-- The next removal, going on from a place: the first kept pair that meets a rule, with the reason by its first rule.
+-- Each leg keeps a pair before it.
+pub record IsNext (t : Tables) (keeps : Domains) (place : Pair) (trim : Trim) : Type 0 where
+  pub none_bare : NoneBare t keeps
+  pub pair : IsPair t (pair_of trim)
+  pub why : Rule
+  pub first_rule : removed_by t keeps (pair_of trim) ≡ Some why
+  pub reason : IsReason t why (pair_of trim) trim.reason
+  pub first_pair : (p : Pair) → IsPair t p → IsTrue (is_sooner place p (pair_of trim)) → removed_by t keeps p ≡ None
+
+-- The removals, going on from a place. A pass goes over the pairs by leg, then fleet; what comes behind the last pair
+-- is the next pass, and one that removes none is the last.
+abbrev pub AreRemovals : Tables → Domains → Pair → List Trim → Type 0
+AreRemovals t keeps place [] = IsDone t keeps
+AreRemovals t keeps place (trim ∷ trims) = IsNext t keeps place trim × AreRemovals t (without keeps trim) (pair_of trim) trims
+
+-- the pairs that are kept after removals
+abbrev pub kept_after : Domains → List Trim → Domains
+kept_after keeps [] = keeps
+kept_after keeps (trim ∷ trims) = kept_after (without keeps trim) trims
+
+-- A removal's reason refutes the part in which the pair is flown: the pair is kept, each leg keeps a pair there, and by
+-- proper prices that part is worth more than 0, no cost put in.
+pub record IsRefuted (t : Tables) (keeps : Domains) (trim : Trim) : Type 0 where
+  pub pair : IsPair t (pair_of trim)
+  pub kept : IsTrue (keeps (pair_of trim))
+  pub none_bare : NoneBare t (part keeps trim.leg trim.fleet true)
+  pub proper : ArePrices t trim.reason
+  pub of_tables : ArePricesOf t trim.reason
+  pub above : pos 0 <ℤ worth_of t (part keeps trim.leg trim.fleet true) trim.reason 0
+
+-- and so does each, among the pairs that are kept by then
+abbrev pub AreRefuted : Tables → Domains → List Trim → Type 0
+AreRefuted t keeps [] = ⊤
+AreRefuted t keeps (trim ∷ trims) = IsRefuted t keeps trim × AreRefuted t (without keeps trim) trims
+
+-- how many pairs are kept
+unfoldable pub pairs_kept : Tables → Domains → ℕ
+pairs_kept t keeps = sum_below (kept_on t keeps) (legs_in t)

@@ -1,0 +1,12 @@
+use bound_cert::Prices;
+
+/// A pair that presolve removes (variable fixing), and why.
+#[derive(Debug, Drop)]
+pub struct Trim {
+    /// The leg, by its number.
+    pub leg: u32,
+    /// The fleet, by its number.
+    pub fleet: u32,
+    /// Prices which show that nothing legal is left where the fleet flies the leg, among the pairs kept before.
+    pub reason: Prices,
+}
