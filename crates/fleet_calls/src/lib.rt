@@ -13,6 +13,8 @@ mod network;
 #[cfg(test)]
 mod plans;
 #[cfg(test)]
+mod presolving;
+#[cfg(test)]
 mod proof_reading;
 #[cfg(test)]
 mod proof_texts;

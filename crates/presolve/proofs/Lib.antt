@@ -1,10 +1,14 @@
 pub mod AircraftRule
+pub mod Counted
 pub mod KeptParts
 pub mod LeastBounds
 pub mod OneFewer
+pub mod OneList
+pub mod ReasonOrder
 pub mod ReasonPrices
 pub mod ReasonWorth
 pub mod ReasonsProper
 pub mod RemovalLaws
 pub mod SoFar
 pub mod StationRules
+pub mod UnderWay

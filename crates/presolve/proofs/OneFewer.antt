@@ -2,7 +2,7 @@
 use Rattle.std.proofs.Common.{◌≡◌, ◌≢◌, ℕ, zero, suc, ◌+◌, ◌<◌, Bool, true, false, if◌then◌else◌, refl, inl, inr, arith}
 use Rattle.std.proofs.lemmas.Bool.{cases_lt}
 use Rattle.sums.specs.Below.{sum_below, count_below}
-use Rattle.sums.proofs.Sums.{AgreeBelow, sum_below-agree}
+use Rattle.sums.proofs.Sums.{sum_below-agree}
 
 -- two functions agree below a bound but for one place
 pub record AgreeBut (f g : ℕ → ℕ) (place n : ℕ) : Type 0 where

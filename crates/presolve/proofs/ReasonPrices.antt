@@ -16,6 +16,7 @@ use Rattle.bound_cert.specs.declared.prices.PriceStep.{PriceStep}
 use Rattle.presolve.specs.Reasons.{IsReason, reason_price, reason_rent, reason_steps, steps_at, steps_until}
 use Rattle.presolve.specs.declared.rule.Rule.{Rule}
 use Rattle.presolve.specs.declared.rule.Rule.TheVariants as rule
+use Rattle.presolve.proofs.ReasonOrder.{reason_in_order}
 
 -- the price after more steps
 price_append : (v : ℤ) (xs ys : List PriceStep) (f s m : ℕ) → price_after v (xs ++ ys) f s m ≡ price_after (price_after v xs f s m) ys f s m
@@ -94,4 +95,5 @@ reason_is t why p prices pair one rents steps = record {
   rents = rents;
   each_price = λ f s m known there within. rw steps (steps_say t why p f s m there within);
   of_tables = rw steps (steps_of_tables t why p pair);
+  in_order = reason_in_order t why p prices pair one rents steps;
 }

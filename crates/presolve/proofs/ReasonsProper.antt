@@ -1,15 +1,14 @@
 -- The prices of a reason are proper.
-use Rattle.std.proofs.Common.{◌≡◌, ℕ, suc, ◌+◌, ◌<◌, ◌≤◌, Bool, true, false, if◌then◌else◌, ◌==◌, ◌&&◌, nat_le, ℤ, pos, negsuc, ◌+ℤ◌, ◌≤ℤ◌, refl, ap, ◌∙◌, arith}
+use Rattle.std.proofs.Common.{◌≡◌, ℕ, ◌+◌, ◌<◌, Bool, true, false, if◌then◌else◌, ◌==◌, ◌&&◌, nat_le, pos, negsuc, ◌+ℤ◌, ◌≤ℤ◌, refl, arith}
 use Rattle.std.proofs.lemmas.Bool.Decides.{nat_tests}
 use Rattle.std.proofs.lemmas.Int.{ints}
 use Rattle.sums.proofs.Places.{get_or-list_below}
-use Rattle.fleet_model.specs.Schedule.{IsPair, fleets_in, leg_of, stations_in}
+use Rattle.fleet_model.specs.Schedule.{fleets_in, leg_of}
 use Rattle.fleet_model.specs.Times.{departure}
 use Rattle.fleet_model.specs.Use.{last_minute}
-use Rattle.fleet_model.specs.declared.limits.TheConstants.{MINUTES_PER_PERIOD}
 use Rattle.fleet_model.specs.declared.parts.Pair.{Pair}
 use Rattle.fleet_model.specs.declared.tables.Tables.{Tables}
-use Rattle.bound_cert.specs.Prices.{ArePrices, price_of, rent_of}
+use Rattle.bound_cert.specs.Prices.{ArePrices, rent_of}
 use Rattle.bound_cert.specs.declared.prices.Prices.{Prices}
 use Rattle.presolve.specs.Reasons.{IsReason, reason_price, reason_rent}
 use Rattle.presolve.specs.declared.rule.Rule.{Rule}

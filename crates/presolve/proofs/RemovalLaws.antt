@@ -1,5 +1,5 @@
 -- What removals show, and how many there are.
-use Rattle.std.proofs.Common.{◌≡◌, ℕ, ◌+◌, ◌<◌, Bool, true, false, if◌then◌else◌, ◌==◌, nat_lt, IsTrue, Option, Some, None, List, [], ◌∷◌, ◌++◌, length, pos, ◌<ℤ◌, refl, arith}
+use Rattle.std.proofs.Common.{◌≡◌, ℕ, ◌+◌, ◌<◌, Bool, true, false, if◌then◌else◌, ◌==◌, nat_lt, Option, Some, None, List, [], ◌∷◌, length, pos, ◌<ℤ◌, refl, arith}
 use Rattle.std.proofs.lemmas.Bool.Decides.{nat_tests}
 use Rattle.fleet_model.specs.Kept.{Domains}
 use Rattle.fleet_model.specs.Schedule.{IsPair, fleet_of, leg_of}
@@ -78,6 +78,7 @@ next_is_refuted t keeps place trim next = record {
   none_bare = flown_none_bare t keeps (pair_of trim) next.pair (is_kept t keeps (pair_of trim) next.why next.first_rule) next.none_bare;
   proper = reason_is_proper t next.why (pair_of trim) trim.reason next.reason;
   of_tables = next.reason.of_tables;
+  in_order = next.reason.in_order;
   above = rule_refutes t keeps (pair_of trim) next.why trim.reason next.pair next.first_rule next.reason;
 }
 

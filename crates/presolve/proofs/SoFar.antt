@@ -1,31 +1,53 @@
 -- Removals that are found one after the other.
-use Rattle.std.proofs.Common.{◌≡◌, List, [], ◌∷◌, ◌++◌, IsTrue, Some, None, append_assoc, subst, sym}
-use Rattle.fleet_model.specs.Kept.{Domains}
-use Rattle.fleet_model.specs.Schedule.{IsPair}
+use Rattle.std.proofs.Common.{◌≡◌, ◌<◌, false, List, [], ◌∷◌, ◌++◌, append_assoc, append-nil, subst, sym, ◌∙◌, ap, arith}
+use Rattle.fleet_model.specs.Kept.{Domains, all_pairs}
 use Rattle.fleet_model.specs.declared.parts.Pair.{Pair}
 use Rattle.fleet_model.specs.declared.tables.Tables.{Tables}
+use Rattle.bound_cert.specs.Bound.{part}
+use Rattle.bound_cert.specs.declared.prices.Prices.{Prices}
 use Rattle.presolve.specs.Reasons.{IsReason}
-use Rattle.presolve.specs.Removals.{AreRemovals, IsNext, is_sooner, pair_of, without}
-use Rattle.presolve.specs.Rules.{removed_by}
+use Rattle.presolve.specs.Removals.{AreRemovals, IsDone, IsNext, first_place, pairs_kept}
 use Rattle.presolve.specs.Search.{IsNextPair}
 use Rattle.presolve.specs.declared.trims.Trim.{Trim}
 use Rattle.presolve.specs.declared.search.Removable.{Removable}
+use Rattle.presolve.proofs.KeptParts.{one_fewer}
+use Rattle.presolve.proofs.RemovalLaws.{is_kept}
+
+-- the removal of a pair that was found, with its reason
+abbrev pub trim_of : Removable → Prices → Trim
+trim_of found prices = record { leg = found.pair.leg; fleet = found.pair.fleet; reason = prices }
 
 -- a pair that is next, with its reason, is the next removal
-pub is_next : (t : Tables) (keeps : Domains) (place : Pair) (found : Removable) (trim : Trim) → pair_of trim ≡ found.pair → IsNextPair t keeps place found
-    → IsReason t found.rule found.pair trim.reason → IsNext t keeps place trim
-is_next t keeps place found trim same next reason = record {
+is_next : (t : Tables) (keeps : Domains) (place : Pair) (found : Removable) (prices : Prices) → IsNextPair t keeps place found → IsReason t found.rule found.pair prices
+    → IsNext t keeps place (trim_of found prices)
+is_next t keeps place found prices next reason = record {
   none_bare = next.none_bare;
-  pair = subst (λ p. IsPair t p) (sym same) next.pair;
+  pair = next.pair;
   why = found.rule;
-  first_rule = subst (λ p. removed_by t keeps p ≡ Some found.rule) (sym same) next.by_rule;
-  reason = subst (λ p. IsReason t found.rule p trim.reason) (sym same) reason;
-  first_pair = subst (λ q. (p : Pair) → IsPair t p → IsTrue (is_sooner place p q) → removed_by t keeps p ≡ None) (sym same) next.first;
+  first_rule = next.by_rule;
+  reason = reason;
+  first_pair = next.first;
 }
 
 -- one more behind those so far
-pub one_more : (t : Tables) (start keeps : Domains) (from place : Pair) (trim : Trim) (so_far grown rest : List Trim) → grown ≡ so_far ++ trim ∷ []
-    → ((others : List Trim) → AreRemovals t keeps place others → AreRemovals t start from (so_far ++ others)) → IsNext t keeps place trim
-    → AreRemovals t (without keeps trim) (pair_of trim) rest → AreRemovals t start from (grown ++ rest)
-one_more t start keeps from place trim so_far grown rest is before next after =
-    rw is (rw append_assoc (before (trim ∷ rest) (next, after)))
+pub one_more : (t : Tables) (start keeps after : Domains) (from place : Pair) (found : Removable) (prices : Prices) (so_far grown rest : List Trim) → grown ≡ so_far ++ trim_of found prices ∷ []
+    → ((others : List Trim) → AreRemovals t keeps place others → AreRemovals t start from (so_far ++ others))
+    → IsNextPair t keeps place found → IsReason t found.rule found.pair prices → after ≡ part keeps found.pair.leg found.pair.fleet false
+    → AreRemovals t after found.pair rest → AreRemovals t start from (grown ++ rest)
+one_more t start keeps after from place found prices so_far grown rest is before next reason same removals =
+    let behind : AreRemovals t (part keeps found.pair.leg found.pair.fleet false) found.pair rest = subst (λ k. AreRemovals t k found.pair rest) same removals in
+    let all = before (trim_of found prices ∷ rest) (is_next t keeps place found prices next reason, behind) in
+    subst (λ xs. AreRemovals t start from xs) (sym (ap (λ xs. xs ++ rest) is ∙ append_assoc so_far (trim_of found prices ∷ []) rest)) all
+
+-- and then one pair fewer is kept
+pub smaller : (t : Tables) (keeps after : Domains) (place : Pair) (found : Removable) → IsNextPair t keeps place found → after ≡ part keeps found.pair.leg found.pair.fleet false
+    → pairs_kept t after < pairs_kept t keeps
+smaller t keeps after place found next same =
+    let fewer = one_fewer t keeps found.pair next.pair (is_kept t keeps found.pair found.rule next.by_rule) in
+    rw same (omega (arith, fewer))
+
+-- all, once nothing is left to remove
+pub all_removals : (t : Tables) (keeps : Domains) (place : Pair) (so_far all : List Trim) → all ≡ so_far
+    → ((others : List Trim) → AreRemovals t keeps place others → AreRemovals t (all_pairs t) first_place (so_far ++ others)) → IsDone t keeps
+    → AreRemovals t (all_pairs t) first_place all
+all_removals t keeps place so_far all is before done = rw is (subst (λ xs. AreRemovals t (all_pairs t) first_place xs) (append-nil so_far) (before [] done))

@@ -1,9 +1,8 @@
 -- Where no kept pair of a fleet lands where a leg departs, or departs where it lands, the fleet can't fly the leg.
-use Rattle.std.proofs.Common.{◌≡◌, ℕ, ◌<◌, Bool, true, false, if◌then◌else◌, ◌==◌, ◌&&◌, IsTrue, ℤ, pos, negsuc, ◌+ℤ◌, ◌-ℤ◌, ◌*ℤ◌, ◌≤ℤ◌, ◌<ℤ◌, refl, sym, ◌∙◌, ap, arith}
+use Rattle.std.proofs.Common.{◌≡◌, ℕ, ◌<◌, Bool, true, false, if◌then◌else◌, ◌==◌, ◌&&◌, pos, negsuc, ◌+ℤ◌, ◌-ℤ◌, ◌*ℤ◌, ◌≤ℤ◌, ◌<ℤ◌, refl, ◌∙◌, ap, arith}
 use Rattle.std.proofs.lemmas.Bool.Decides.{nat_tests}
 use Rattle.std.proofs.lemmas.Int.{ints}
 use lib.IntN.{zero-*ℤ}
-use Rattle.sums.specs.Below.{sum_below_ℤ}
 use Rattle.sums.proofs.Counts.{count_below-some}
 use Rattle.sums.proofs.Orders.{sum_below_ℤ-le}
 use Rattle.sums.proofs.WholeSums.{sum_below_ℤ-same}
@@ -21,7 +20,7 @@ use Rattle.presolve.specs.Rules.{departs, departures, landings, lands}
 use Rattle.presolve.specs.declared.rule.Rule.{Rule}
 use Rattle.presolve.specs.declared.rule.Rule.TheVariants as rule
 use Rattle.presolve.proofs.KeptParts.{is_flown, is_own_fleet, was_kept}
-use Rattle.presolve.proofs.ReasonWorth.{NoneAddsLess, above_zero, leg_low, leg_of_kept, reason_flow, reason_rents, rents_are}
+use Rattle.presolve.proofs.ReasonWorth.{NoneAddsLess, above_zero, leg_low, leg_of_kept, reason_rents, rents_are}
 
 -- no kept pair of the fleet lands there
 not_there : (t : Tables) (keeps : Domains) (f s l : ℕ) → landings t keeps f s ≡ 0 → l < legs_in t → keeps (leg_on l f) ≡ true → ((leg_of t l).to == s) ≡ false

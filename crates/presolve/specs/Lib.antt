@@ -1,4 +1,5 @@
 pub mod Choices
+pub mod Laws
 pub mod Reasons
 pub mod Removals
 pub mod Rules

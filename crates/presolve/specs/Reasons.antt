@@ -9,6 +9,7 @@ use Rattle.fleet_model.specs.declared.parts.Pair.{Pair}
 use Rattle.fleet_model.specs.declared.tables.Tables.{Tables}
 use Rattle.bound_cert.specs.OfTables.{ArePricesOf}
 use Rattle.bound_cert.specs.Prices.{price_of}
+use Rattle.bound_cert.specs.WrittenOrder.{ArePricesInOrder}
 use Rattle.bound_cert.specs.declared.prices.Prices.{Prices}
 use Rattle.bound_cert.specs.declared.prices.PriceStep.{PriceStep}
 use Rattle.presolve.specs.declared.rule.Rule.{Rule}
@@ -27,12 +28,13 @@ reason_price t rule.NoArrival p f s m = if (f == p.fleet) && (s == (leg_of t p.l
 reason_price t rule.NoDeparture p f s m = if (f == p.fleet) && (s == (leg_of t p.leg).to) then negsuc 0 else pos 0
 reason_price t rule.TooFewAircraft p f s m = if (f == p.fleet) && nat_le m (departure t p) then pos 1 else pos 0
 
--- prices are the reason by which a rule removes a pair: these rents and prices, over the scale 1
+-- prices are the reason by which a rule removes a pair: these rents and prices over the scale 1, written in order
 pub record IsReason (t : Tables) (why : Rule) (p : Pair) (prices : Prices) : Type 0 where
   pub scale : prices.scale ≡ pos 1
   pub rents : prices.rents ≡ list_below (reason_rent why p) (fleets_in t)
   pub each_price : (f s m : ℕ) → f < fleets_in t → s < stations_in t → m < MINUTES_PER_PERIOD → price_of prices f s m ≡ reason_price t why p f s m
   pub of_tables : ArePricesOf t prices
+  pub in_order : ArePricesInOrder t prices
 
 -- the steps at a station of a price that is 1 until a minute
 abbrev pub steps_at : ℕ → ℕ → ℕ → List PriceStep

@@ -9,6 +9,7 @@ use Rattle.bound_cert.specs.Bound.{part}
 use Rattle.bound_cert.specs.OfTables.{ArePricesOf}
 use Rattle.bound_cert.specs.Prices.{ArePrices}
 use Rattle.bound_cert.specs.Worth.{worth_of}
+use Rattle.bound_cert.specs.WrittenOrder.{ArePricesInOrder}
 use Rattle.presolve.specs.Reasons.{IsReason}
 use Rattle.presolve.specs.Rules.{removed_by}
 use Rattle.presolve.specs.declared.trims.Trim.{Trim}
@@ -71,6 +72,7 @@ pub record IsRefuted (t : Tables) (keeps : Domains) (trim : Trim) : Type 0 where
   pub none_bare : NoneBare t (part keeps trim.leg trim.fleet true)
   pub proper : ArePrices t trim.reason
   pub of_tables : ArePricesOf t trim.reason
+  pub in_order : ArePricesInOrder t trim.reason
   pub above : pos 0 <ℤ worth_of t (part keeps trim.leg trim.fleet true) trim.reason 0
 
 -- and so does each, among the pairs that are kept by then

@@ -2,6 +2,7 @@
 #![tactic(auto)]
 
 mod choices;
+pub mod laws;
 mod reasons;
 pub mod removals;
 pub mod rule;

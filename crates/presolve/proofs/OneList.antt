@@ -1,0 +1,55 @@
+-- There is one list of removals.
+use Rattle.std.proofs.Common.{◌≡◌, Bool, true, false, List, [], ◌∷◌, map, Some, None, Option, refl, sym, ◌∙◌, ap, subst, arith}
+use Rattle.std.proofs.lemmas.Bool.Decides.{nat_tests}
+use Rattle.fleet_model.specs.Kept.{Domains}
+use Rattle.fleet_model.specs.Schedule.{leg_on}
+use Rattle.fleet_model.specs.declared.parts.Pair.{Pair}
+use Rattle.fleet_model.specs.declared.tables.Tables.{Tables}
+use Rattle.bound_cert.specs.Bound.{part}
+use Rattle.presolve.specs.Laws.{RemovalsAreOne}
+use Rattle.presolve.specs.Removals.{AreRemovals, IsDone, IsNext, is_sooner, pair_of, without}
+use Rattle.presolve.specs.declared.trims.Trim.{Trim}
+
+-- of two pairs one is met sooner, or they are the same
+same_leg : (place p q : Pair) → is_sooner place p q ≡ false → is_sooner place q p ≡ false → p.leg ≡ q.leg
+same_leg place p q e f = grind (arith, nat_tests)
+
+same_fleet : (place p q : Pair) → is_sooner place p q ≡ false → is_sooner place q p ≡ false → p.fleet ≡ q.fleet
+same_fleet place p q e f = grind (arith, nat_tests)
+
+-- what is removed isn't met sooner than what is removed first
+not_sooner : (t : Tables) (keeps : Domains) (place : Pair) (x y : Trim) → IsNext t keeps place x → IsNext t keeps place y → is_sooner place (pair_of x) (pair_of y) ≡ false
+not_sooner t keeps place x y first other = by_test (is_sooner place (pair_of x) (pair_of y)) (λ e. different first.first_rule (other.first_pair (pair_of x) first.pair e))
+  where
+    different : {X : Type 0} {o : Option X} {x : X} → o ≡ Some x → o ≡ None → ⊥
+    different e f = cc
+
+    by_test : (b : Bool) → (b ≡ true → ⊥) → b ≡ false
+    by_test true never = absurd (never refl)
+    by_test false never = refl
+
+one_pair : (t : Tables) (keeps : Domains) (place : Pair) (x y : Trim) → IsNext t keeps place x → IsNext t keeps place y → pair_of y ≡ pair_of x
+one_pair t keeps place x y first other =
+    let ahead = not_sooner t keeps place x y first other in
+    let behind = not_sooner t keeps place y x other first in
+    ap (λ l. leg_on l y.fleet) (same_leg place (pair_of y) (pair_of x) behind ahead) ∙ ap (λ f. leg_on x.leg f) (same_fleet place (pair_of y) (pair_of x) behind ahead)
+
+-- a list that ends has no next removal
+ended : (t : Tables) (keeps : Domains) (place : Pair) (trim : Trim) → IsDone t keeps → IsNext t keeps place trim → ⊥
+ended t keeps place trim done next = different next.first_rule (done.each next.none_bare (pair_of trim) next.pair)
+  where
+    different : {X : Type 0} {o : Option X} {x : X} → o ≡ Some x → o ≡ None → ⊥
+    different e f = cc
+
+-- what is kept after a removal, and the place behind it, are those of its pair
+abbrev After : Tables → Domains → Pair → List Trim → Type 0
+After t keeps p trims = AreRemovals t (part keeps p.leg p.fleet false) p trims
+
+pub removals_are_one : RemovalsAreOne
+removals_are_one t keeps place [] [] left right = refl
+removals_are_one t keeps place [] (y ∷ ys) left right = absurd (ended t keeps place y left right.0)
+removals_are_one t keeps place (x ∷ xs) [] left right = absurd (ended t keeps place x right left.0)
+removals_are_one t keeps place (x ∷ xs) (y ∷ ys) left right =
+    let same = one_pair t keeps place x y left.0 right.0 in
+    let behind : After t keeps (pair_of x) ys = subst (λ p. After t keeps p ys) same right.1 in
+    ap (λ p. p ∷ map pair_of xs) (sym same) ∙ ap (λ ps. pair_of y ∷ ps) (removals_are_one t (without keeps x) (pair_of x) xs ys left.1 behind)

@@ -1,0 +1,19 @@
+-- The laws of presolve, as statements.
+use Rattle.std.specs.Prelude.{◌≡◌, ℕ, ◌<◌, List, map}
+use Rattle.fleet_model.specs.Aloft.{aloft}
+use Rattle.fleet_model.specs.Kept.{Domains}
+use Rattle.fleet_model.specs.Schedule.{IsPair}
+use Rattle.fleet_model.specs.declared.limits.TheConstants.{MINUTES_PER_PERIOD}
+use Rattle.fleet_model.specs.declared.parts.Pair.{Pair}
+use Rattle.fleet_model.specs.declared.tables.Tables.{Tables}
+use Rattle.presolve.specs.Removals.{AreRemovals, pair_of}
+use Rattle.presolve.specs.Rules.{busy_at}
+use Rattle.presolve.specs.declared.trims.Trim.{Trim}
+
+-- the aircraft that a pair keeps busy at the end of a minute are its flights under way
+abbrev pub BusyIsUnderWay : Type 0
+BusyIsUnderWay = (t : Tables) (p : Pair) (m : ℕ) → IsPair t p → m < MINUTES_PER_PERIOD → busy_at t p m ≡ aloft t p m
+
+-- from a place on, the same pairs are removed in the same order
+abbrev pub RemovalsAreOne : Type 0
+RemovalsAreOne = (t : Tables) (keeps : Domains) (place : Pair) (xs ys : List Trim) → AreRemovals t keeps place xs → AreRemovals t keeps place ys → map pair_of xs ≡ map pair_of ys
