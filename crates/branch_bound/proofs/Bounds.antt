@@ -143,7 +143,7 @@ module _ (t : Tables) (final : Option ℤ) where
       by_cost None never = unless_legal never
       by_cost (Some c) no_more = by_lt_z b c
           (λ less. unless_legal (λ legal. let same : Some b ≡ Some (total_cost t (sole_fleets t keeps sole)) = is.legal (sole_fleets t keeps sole) (sole_kept t keeps sole) legal in
-              let there : b ≡ total_cost t (sole_fleets t keeps sole) = cc in omega (arith, ints, no_more legal, there, less)))
+          let there : b ≡ total_cost t (sole_fleets t keeps sole) = cc in omega (arith, ints, no_more legal, there, less)))
           (λ fine. fine)
 
   pub closed_bound : (keeps : Domains) (whole : Tree) (bound : Option ℤ) → AreSound t final keeps whole → All (AnswersSole t final) (nodes_in keeps whole) → has_open whole ≡ false
@@ -158,17 +158,17 @@ module _ (t : Tables) (final : Option ℤ) where
       let answers = All-tail (AnswersSole t final) _ _ soles in
       let both = neither (has_open with_pair) (has_open without) shut in
       rw is.lesser (of_lesser IsReached is.with_pair is.without
-          (closed_bound (part keeps leg fleet true) with_pair is.with_pair (first_all (IsSound t final) _ _ below) (first_all (AnswersSole t final) _ _ answers) both.0 is.yes_is)
-          (closed_bound (part keeps leg fleet false) without is.without (second_all (IsSound t final) (nodes_in (part keeps leg fleet true) with_pair) _ below)
-              (second_all (AnswersSole t final) (nodes_in (part keeps leg fleet true) with_pair) _ answers) both.1 is.no_is))
+      (closed_bound (part keeps leg fleet true) with_pair is.with_pair (first_all (IsSound t final) _ _ below) (first_all (AnswersSole t final) _ _ answers) both.0 is.yes_is)
+      (closed_bound (part keeps leg fleet false) without is.without (second_all (IsSound t final) (nodes_in (part keeps leg fleet true) with_pair) _ below)
+      (second_all (AnswersSole t final) (nodes_in (part keeps leg fleet true) with_pair) _ answers) both.1 is.no_is))
   closed_bound keeps (tree.Split' leg fleet prices mixed p with_pair q without) bound sound soles shut is =
       let below = All-tail (IsSound t final) _ _ sound in
       let answers = All-tail (AnswersSole t final) _ _ soles in
       let both = neither (has_open with_pair) (has_open without) shut in
       rw is.lesser (of_lesser IsReached is.with_pair is.without
-          (closed_bound (part keeps leg fleet true) with_pair is.with_pair (first_all (IsSound t final) _ _ below) (first_all (AnswersSole t final) _ _ answers) both.0 is.yes_is)
-          (closed_bound (part keeps leg fleet false) without is.without (second_all (IsSound t final) (nodes_in (part keeps leg fleet true) with_pair) _ below)
-              (second_all (AnswersSole t final) (nodes_in (part keeps leg fleet true) with_pair) _ answers) both.1 is.no_is))
+      (closed_bound (part keeps leg fleet true) with_pair is.with_pair (first_all (IsSound t final) _ _ below) (first_all (AnswersSole t final) _ _ answers) both.0 is.yes_is)
+      (closed_bound (part keeps leg fleet false) without is.without (second_all (IsSound t final) (nodes_in (part keeps leg fleet true) with_pair) _ below)
+      (second_all (AnswersSole t final) (nodes_in (part keeps leg fleet true) with_pair) _ answers) both.1 is.no_is))
 
 -- ---- a tree with an open leaf
 module _ (t : Tables) (final : Option ℤ) where
@@ -192,13 +192,13 @@ module _ (t : Tables) (final : Option ℤ) where
       let below = All-tail (IsSound t final) _ _ sound in
       let short = All-tail (LeavesGap t final) _ _ gaps in
       rw is.lesser (by_either (has_open with_pair) (has_open without) some
-          (λ e. below_first is.with_pair is.without final (open_bound (part keeps leg fleet true) with_pair is.with_pair (first_all (IsSound t final) _ _ below) (first_all (LeavesGap t final) _ _ short) e is.yes_is))
-          (λ e. below_second is.with_pair is.without final (open_bound (part keeps leg fleet false) without is.without (second_all (IsSound t final) (nodes_in (part keeps leg fleet true) with_pair) _ below)
-              (second_all (LeavesGap t final) (nodes_in (part keeps leg fleet true) with_pair) _ short) e is.no_is)))
+      (λ e. below_first is.with_pair is.without final (open_bound (part keeps leg fleet true) with_pair is.with_pair (first_all (IsSound t final) _ _ below) (first_all (LeavesGap t final) _ _ short) e is.yes_is))
+      (λ e. below_second is.with_pair is.without final (open_bound (part keeps leg fleet false) without is.without (second_all (IsSound t final) (nodes_in (part keeps leg fleet true) with_pair) _ below)
+      (second_all (LeavesGap t final) (nodes_in (part keeps leg fleet true) with_pair) _ short) e is.no_is)))
   open_bound keeps (tree.Split' leg fleet prices mixed p with_pair q without) bound sound gaps some is =
       let below = All-tail (IsSound t final) _ _ sound in
       let short = All-tail (LeavesGap t final) _ _ gaps in
       rw is.lesser (by_either (has_open with_pair) (has_open without) some
-          (λ e. below_first is.with_pair is.without final (open_bound (part keeps leg fleet true) with_pair is.with_pair (first_all (IsSound t final) _ _ below) (first_all (LeavesGap t final) _ _ short) e is.yes_is))
-          (λ e. below_second is.with_pair is.without final (open_bound (part keeps leg fleet false) without is.without (second_all (IsSound t final) (nodes_in (part keeps leg fleet true) with_pair) _ below)
-              (second_all (LeavesGap t final) (nodes_in (part keeps leg fleet true) with_pair) _ short) e is.no_is)))
+      (λ e. below_first is.with_pair is.without final (open_bound (part keeps leg fleet true) with_pair is.with_pair (first_all (IsSound t final) _ _ below) (first_all (LeavesGap t final) _ _ short) e is.yes_is))
+      (λ e. below_second is.with_pair is.without final (open_bound (part keeps leg fleet false) without is.without (second_all (IsSound t final) (nodes_in (part keeps leg fleet true) with_pair) _ below)
+      (second_all (LeavesGap t final) (nodes_in (part keeps leg fleet true) with_pair) _ short) e is.no_is)))

@@ -10,7 +10,7 @@ use Rattle.bound_cert.specs.Bound.{part}
 use Rattle.bound_cert.specs.Leaves.{depth_of, open_nodes, splits_in}
 use Rattle.bound_cert.specs.OfTables.{ArePricesOf, IsOfTables}
 use Rattle.bound_cert.specs.Prices.{ArePrices}
-use Rattle.bound_cert.specs.WrittenOrder.{ArePricesInOrder, InWrittenOrder, IsNodeInOrder}
+use Rattle.bound_cert.specs.WrittenOrder.{InWrittenOrder, IsNodeInOrder}
 use Rattle.bound_cert.specs.declared.nodes.Node.TheVariants as ordered
 use Rattle.bound_cert.specs.declared.mixed.Mixed.{Mixed}
 use Rattle.bound_cert.specs.declared.prices.Prices.{Prices}
@@ -60,11 +60,14 @@ module _ (t : Tables) (before begun between after : Search) (keeps : Domains) (a
     shallow = omega (arith, with_pair.shallow, without.shallow, fewer_with t keeps leg fleet is.pair.leg is.other, fewer_without t keeps leg fleet is.pair is.kept);
     sound = λ final less. all_more (IsSound t final) _ _ _ (split_sound t final keeps leg fleet yes no prices mixed is) (with_pair.sound final (in_the_end final less)) (without.sound final less);
     soles = λ final less. all_more (AnswersSole t final) _ _ _ (answers_none t final keeps (Split leg fleet prices mixed yes no) (λ e. cc)) (with_pair.soles final (in_the_end final less)) (without.soles final less);
-    caused = (is.first, subst (λ p. AreCaused t p (part keeps leg fleet true) prices yes.value) more.follows.pivots with_pair.caused,
-        subst (λ p. AreCaused t p (part keeps leg fleet false) prices no.value) (first.pivots ∙ more.follows.pivots) without.caused);
+    caused = (
+      is.first,
+      subst (λ p. AreCaused t p (part keeps leg fleet true) prices yes.value) more.follows.pivots with_pair.caused,
+      subst (λ p. AreCaused t p (part keeps leg fleet false) prices no.value) (first.pivots ∙ more.follows.pivots) without.caused,
+    );
     counted = omega (arith, more.splits, with_pair.counted, without.counted);
     all_spent = λ some. spent some;
-    found = subst (λ old. (after.best ≡ old) ⊎ IsFoundIn t _ after.best) more.best (found_both t begun between after (node keeps (Split leg fleet prices mixed yes no)) _ _ with_pair.found without.found);
+    found = subst (λ old. (after.best ≡ old) ⊎ IsFoundIn t (nodes_in keeps (Split leg fleet prices mixed yes no)) after.best) more.best (found_both t begun between after (node keeps (Split leg fleet prices mixed yes no)) _ _ with_pair.found without.found);
   }
     where
       spent : 0 < open_nodes yes.value + open_nodes no.value → after.splits ≡ after.nodes
@@ -75,7 +78,7 @@ module _ (t : Tables) (before begun between after : Search) (keeps : Domains) (a
 
 -- a trim whose part with the pair is refuted, of the other part
 module _ (t : Tables) (before after : Search) (keeps : Domains) (above : Prices) (trim : Trimmed) (yes no : Box Tree Global)
-    (refuted : IsRefuted t keeps trim) (in_order : ArePricesInOrder t trim.reason) (is : yes.value ≡ tree.Refuted trim.reason)
+    (refuted : IsRefuted t keeps trim) (is : yes.value ≡ tree.Refuted trim.reason)
     (without : IsBranch t before after (part keeps trim.leg trim.fleet false) above no.value) where
   abbrev whole : Tree
   whole = Trim trim.leg trim.fleet yes no
@@ -89,7 +92,7 @@ module _ (t : Tables) (before after : Search) (keeps : Domains) (above : Prices)
   pub trim_branch : IsBranch t before after keeps above whole
   trim_branch = record {
     of_tables = (refuted.pair, subst (IsOfTables t) (sym is) refuted.of_tables, without.of_tables);
-    in_order = all_more (IsNodeInOrder t) _ _ _ refuted.pair (subst (InWrittenOrder t) (sym is) (all_one (IsNodeInOrder t) (ordered.Refuted trim.reason) in_order)) without.in_order;
+    in_order = all_more (IsNodeInOrder t) _ _ _ refuted.pair (subst (InWrittenOrder t) (sym is) (all_one (IsNodeInOrder t) (ordered.Refuted trim.reason) refuted.in_order)) without.in_order;
     shallow = omega (arith, ap depth_of is, without.shallow, fewer_without t keeps trim.leg trim.fleet refuted.pair refuted.kept);
     sound = λ final less. at_all (IsSound t final) (trim_sound t final keeps trim.leg trim.fleet yes no trim.reason is refuted.kept)
         (refuted_sound t final (part keeps trim.leg trim.fleet true) trim.reason refuted.proper refuted.none_bare refuted.above) (without.sound final less);

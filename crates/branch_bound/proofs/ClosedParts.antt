@@ -1,5 +1,5 @@
 -- The parts of a tree whose open leaves are closed.
-use Rattle.std.proofs.Common.{Box, Global, ◌≡◌, ℕ, suc, ◌+◌, ◌*◌, ◌<◌, ◌≤◌, Bool, true, false, List, Option, ℤ, refl, sym, ◌∙◌, ap, subst, arith}
+use Rattle.std.proofs.Common.{Box, Global, ◌≡◌, ℕ, suc, ◌+◌, ◌*◌, ◌<◌, ◌≤◌, Bool, true, false, List, [], Option, ℤ, refl, sym, ◌∙◌, ap, subst, arith}
 use Rattle.std.proofs.lemmas.List.Elements.{All-head, All-tail}
 use Rattle.fleet_model.specs.Kept.{Domains, kept_by, narrowed}
 use Rattle.fleet_model.specs.Schedule.{IsPair, leg_on}
@@ -32,7 +32,7 @@ node_count (tree.Split' leg fleet prices mixed p with_pair q without) = suc (nod
 -- the prices of an open leaf are proper
 pub open_proper : (t : Tables) (cost : Option ℤ) (keeps : Domains) (whole : Tree) (prices : Prices) (why : Cause) → whole ≡ tree.Open prices why → AreSound t cost keeps whole → ArePrices t prices
 open_proper t cost keeps whole prices why e sound =
-    prices_known t cost (node keeps (tree.Open prices why)) prices (All-head (IsSound t cost) (node keeps (tree.Open prices why)) _ (subst (AreSound t cost keeps) e sound)) refl
+    prices_known t cost (node keeps (tree.Open prices why)) prices (All-head (IsSound t cost) (node keeps (tree.Open prices why)) [] (subst (AreSound t cost keeps) e sound)) refl
 
 abbrev step_of : ℕ → ℕ → Bool → Step
 step_of leg fleet taken = record { leg = leg; fleet = fleet; yes = taken }

@@ -22,13 +22,15 @@ use Rattle.bound_cert.specs.declared.nodes.Node.TheVariants as ordered
 use Rattle.cert_check.specs.Nodes.{mixed_of}
 use Rattle.cert_check.specs.Rules.{HaveAllPairs, Reaches}
 use Rattle.branch_bound.specs.Causes.{IsOpenBy}
-use Rattle.branch_bound.specs.Examined.{IsLeafAt, IsWholeOffered}
+use Rattle.branch_bound.specs.Examined.{IsExamined, IsLeafAt, IsOneSplitMore, IsWholeOffered}
 use Rattle.branch_bound.specs.Found.{AnswersSole, IsFoundAt}
-use Rattle.branch_bound.specs.Offers.{IsOffered, IsOldOrTaken, IsPlanOf, IsSoleOffered}
-use Rattle.branch_bound.specs.Relaxed.{AreBest, AreGood, AreRefuting, IsWhyStopped}
+use Rattle.branch_bound.specs.Offers.{IsNoSole, IsOffered, IsOldOrTaken, IsPlanOf, IsSoleOffered}
+use Rattle.branch_bound.specs.Relaxed.{AreBest, AreGood, AreRefuting, IsRelaxed, IsWhyStopped}
 use Rattle.branch_bound.specs.Runs.{IsSearched}
 use Rattle.branch_bound.specs.Search.{Follows, IsBranch, IsFoundIn, IsFoundOrOld, IsNoMore, IsSearch, best_cost}
 use Rattle.branch_bound.specs.Wholes.{FliesParts}
+use Rattle.branch_bound.specs.declared.examining.Examined.{Examined}
+use Rattle.branch_bound.specs.declared.relaxing.Relaxed.{Relaxed}
 use Rattle.branch_bound.specs.declared.search.Plan.{Plan}
 use Rattle.branch_bound.specs.declared.search.Search.{Search}
 use Rattle.branch_bound.proofs.Branches.{leaf_branch}
@@ -137,3 +139,22 @@ whole_offered t keeps prices mixed a before after allowed best whole flies offer
   worth = whole_worth t keeps mixed a allowed best.mixed_at whole flies prices best.good.proper.some_scale best.value;
   offered = offered;
 }
+
+-- one split more
+pub one_more : (t : Tables) (s : Search) → IsSearch t s → s.splits < s.nodes → IsOneSplitMore t s (record s { splits = s.splits + 1 })
+one_more t s search less = record {
+  search = record { plan = search.plan; within = omega (arith, less) };
+  follows = record { nodes = refl; pivots = refl; cheaper = no_more_same (best_cost s) };
+  best = refl;
+  splits = omega arith;
+}
+
+-- where nothing was offered, the search stands as it stood
+pub after_no_sole : (t : Tables) (before after : Search) (keeps : Domains) (above : Prices) (leaf : Tree) → IsNoSole t keeps before after → IsLeafAt t before before keeps above leaf → IsLeafAt t before after keeps above leaf
+after_no_sole t before after keeps above leaf none at = subst (λ s. IsLeafAt t before s keeps above leaf) (sym none.same) at
+
+pub relaxed_before : (t : Tables) (before after : Search) (keeps : Domains) (found : Relaxed) → IsNoSole t keeps before after → IsRelaxed t keeps after.pivots found → IsRelaxed t keeps before.pivots found
+relaxed_before t before after keeps found none is = subst (λ s. IsRelaxed t keeps s.pivots found) none.same is
+
+pub examined_before : (t : Tables) (before between after : Search) (keeps : Domains) (above : Prices) (found : Examined) → IsNoSole t keeps before between → IsExamined t between after keeps above found → IsExamined t before after keeps above found
+examined_before t before between after keeps above found none is = subst (λ s. IsExamined t s after keeps above found) none.same is

@@ -5,6 +5,7 @@ pub mod Closings
 pub mod Examined
 pub mod FlownParts
 pub mod Leaves
+pub mod Lifts
 pub mod Nodes
 pub mod Orders
 pub mod PairsKept

@@ -1,7 +1,8 @@
 -- The tree of all pairs, from that of the pairs which presolve keeps; and prices of 0.
-use Rattle.std.proofs.Common.{Box, Global, ◌≡◌, ℕ, ◌+◌, ◌<◌, ◌≤◌, true, false, List, [], ◌∷◌, ◌++◌, All, length, IsTrue, pos, refl, sym, ◌∙◌, subst, append_assoc, arith}
+use Rattle.std.proofs.Common.{Box, Global, ◌≡◌, ℕ, ◌+◌, ◌<◌, ◌≤◌, true, false, List, [], ◌∷◌, ◌++◌, All, length, IsTrue, Result, Ok, Err, IfOk, pos, refl, sym, ap, ◌∙◌, subst, append_assoc, arith}
 use Rattle.std.proofs.lemmas.Int.{ints}
 use Rattle.std.proofs.lemmas.List.Elements.{All-cons, All-nil}
+use Rattle.entries.specs.declared.memory.NoMemory.{NoMemory}
 use Rattle.sums.specs.Places.{list_below}
 use Rattle.sums.proofs.Places.{get_or-list_below, length-list_below}
 use Rattle.fleet_model.specs.Kept.{Domains, all_pairs, kept_by}
@@ -46,8 +47,17 @@ pub below_branch : (t : Tables) (before after : Search) (keeps : Domains) (above
 below_branch t before after keeps above [] rest whole refuted same branch = subst (IsBranch t before after keeps above) (sym same) branch
 below_branch t before after keeps above (removal ∷ removals) rest whole refuted (inner, below, is) branch =
     subst (IsBranch t before after keeps above) (sym is.is)
-    (trim_branch t before after keeps above removal is.with_pair is.without refuted.0 ? is.yes_is
+    (trim_branch t before after keeps above removal is.with_pair is.without refuted.0 is.yes_is
     (subst (IsBranch t before after (without keeps removal) above) (sym is.no_is) (below_branch t before after (without keeps removal) above removals rest inner refuted.1 below branch)))
+
+-- the tree of all pairs, once the search is done with those that presolve keeps
+pub all_branch : (t : Tables) (before after : Search) (start keeps : Domains) (above : Prices) (removals slice : List Removal) (rest : Tree) (r : Result Tree NoMemory) → start ≡ all_pairs t → slice ≡ removals
+    → keeps ≡ kept_after start slice → above ≡ zero_prices t → AreRefuted t (all_pairs t) removals → IfOk r (AreBelow removals rest) → IsBranch t before after keeps above rest → IfOk r (IsBranch t before after (all_pairs t) (zero_prices t))
+all_branch t before after start keeps above removals slice rest (Ok whole) start_is slice_is keeps_is above_is refuted below branch =
+    let same : keeps ≡ kept_after (all_pairs t) removals = keeps_is ∙ ap (λ k. kept_after k slice) start_is ∙ ap (kept_after (all_pairs t)) slice_is in
+    below_branch t before after (all_pairs t) (zero_prices t) removals rest whole refuted below
+    (subst (λ p. IsBranch t before after (kept_after (all_pairs t) removals) p rest) above_is (subst (λ k. IsBranch t before after k above rest) same branch))
+all_branch t before after start keeps above removals slice rest (Err e) start_is slice_is keeps_is above_is refuted below branch = tt
 
 -- one removal more was taken from the end of those that wait
 pub taken_more : (all waiting rest taken : List Removal) (removal : Removal) (tree inner whole : Tree) → all ≡ waiting ++ taken → waiting ≡ rest ++ removal ∷ [] → AreBelow taken tree inner → IsBelow removal inner whole
@@ -85,7 +95,7 @@ zero_good t = record {
   in_order = record {
     scale = record { no_less = omega (arith, ints); no_more = omega (arith, ints) };
     one_each = length-list_below (λ f. pos 0) (fleets_in t);
-    rents = λ k d within. ?;
+    rents = λ k d within. rw (get_or-list_below (λ f. pos 0) (fleets_in t) k d (omega (arith, within, length-list_below (λ f. pos 0) (fleets_in t)))) zero_figure;
     steps = record { each = All-nil (IsStepInOrder t); follow = tt; no_lone_zero = tt };
   };
 }

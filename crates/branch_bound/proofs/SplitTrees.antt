@@ -1,6 +1,8 @@
 -- A search through a split, and through a step into a part.
-use Rattle.std.proofs.Common.{◌≡◌, ℕ, suc, ◌+◌, ◌*◌, ◌<◌, ◌≤◌, Bool, true, false, ◌&&◌, List, IsSome, refl, sym, ◌∙◌, subst, arith}
+use Rattle.std.proofs.Common.{◌≡◌, ℕ, suc, ◌+◌, ◌*◌, ◌<◌, ◌≤◌, Bool, true, false, ◌&&◌, List, IsSome, Result, Ok, Err, IfOk, OnOk, refl, sym, ◌∙◌, subst, arith}
+use Rattle.entries.specs.declared.memory.NoMemory.{NoMemory}
 use Rattle.fleet_model.specs.Kept.{Domains, all_pairs, kept_by, narrowed}
+use Rattle.fleet_model.specs.Schedule.{IsPair, leg_on}
 use Rattle.fleet_model.specs.Whole.{KeepAllowed}
 use Rattle.fleet_model.specs.declared.kept.Step.{Step}
 use Rattle.fleet_model.specs.declared.tables.Tables.{Tables}
@@ -29,6 +31,15 @@ pub split_tree : (t : Tables) (before begun after : Search) (keeps : Domains) (a
 split_tree t before begun after keeps above leg fleet prices mixed whole is more search into =
     subst (IsBranch t before after keeps above) (sym into.is)
     (split_branch t before begun into.between after keeps above leg fleet prices mixed into.with_pair into.without is more into.yes_is into.no_is into.first into.second search)
+
+pub split_result : (t : Tables) (before begun after : Search) (keeps : Domains) (above : Prices) (leg fleet : ℕ) (prices : Prices) (mixed : Mixed) (r : Result Tree NoMemory) → IsOneSplitMore t before begun × IsSplit t keeps leg fleet prices mixed
+    → OnOk r (IsSearch t after) → IfOk r (IsSplitInto t begun after keeps leg fleet prices mixed) → IfOk r (IsBranch t before after keeps above)
+split_result t before begun after keeps above leg fleet prices mixed (Ok whole) is search into = split_tree t before begun after keeps above leg fleet prices mixed whole is.1 is.0 search into
+split_result t before begun after keeps above leg fleet prices mixed (Err e) is search into = tt
+
+-- the pair of a step
+pub pair_of_step : (t : Tables) (step : Step) (leg fleet : ℕ) (taken : Bool) → step ≡ record { leg = leg; fleet = fleet; yes = taken } → IsPair t (leg_on leg fleet) → IsPair t (leg_on step.leg step.fleet)
+pair_of_step t step leg fleet taken e pair = subst (λ s. IsPair t (leg_on s.leg s.fleet)) (sym e) pair
 
 -- only pairs that may be flown are kept in a part, and of all
 kept_and : (b c : Bool) → (b && c) ≡ true → b ≡ true

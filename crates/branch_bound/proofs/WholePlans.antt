@@ -4,7 +4,7 @@ use Rattle.std.specs.Prelude.{unsigned_abs, unwrap_or}
 use Rattle.std.proofs.lemmas.Bool.Decides.{nat_tests}
 use Rattle.std.proofs.lemmas.Int.{ints}
 use Rattle.std.proofs.lemmas.Grind.{same_number_lists}
-use lib.IntN.{*ℤ_comm}
+use lib.IntN.{*ℤ_comm, pos-*ℤ-pos}
 use Rattle.sums.specs.Below.{sum_below, sum_below_ℤ}
 use Rattle.sums.proofs.Integers.{*ℤ_assoc, *ℤ_cancel}
 use Rattle.sums.proofs.Sums.{sum_below-zero}
@@ -31,15 +31,15 @@ use Rattle.branch_bound.proofs.Orders.{ceiling_exact}
 
 -- ---- weights that are so many times others
 regroup : (c w : ℕ) (z : ℤ) → pos (c * w) *ℤ z ≡ pos c *ℤ (pos w *ℤ z)
-regroup c w z = ap (λ n. n *ℤ z) (omega (arith, ints)) ∙ *ℤ_assoc (pos c) (pos w) z
+regroup c w z = ap (λ n. n *ℤ z) (sym (pos-*ℤ-pos c w)) ∙ *ℤ_assoc (pos c) (pos w) z
 
 times_cost : (t : Tables) (c : ℕ) (w u : Weights) → ((p : Pair) → IsPair t p → w p ≡ c * u p) → mixed_cost t w ≡ pos c *ℤ mixed_cost t u
 unfolding mixed_cost
 times_cost t c w u same =
     sum_below_ℤ-same _ _ (legs_in t) (λ l leg.
-        sum_below_ℤ-same _ _ (fleets_in t) (λ f fleet. ap (λ n. pos n *ℤ unwrap_or (cost_of t (leg_on l f)) (pos 0)) (same (leg_on l f) (record { leg = leg; fleet = fleet }))
-            ∙ regroup c (u (leg_on l f)) (unwrap_or (cost_of t (leg_on l f)) (pos 0)))
-        ∙ sym (*ℤ-sum_below_ℤ (pos c) (weighted_cost t u l) (fleets_in t)))
+    sum_below_ℤ-same _ _ (fleets_in t) (λ f fleet. ap (λ n. pos n *ℤ unwrap_or (cost_of t (leg_on l f)) (pos 0)) (same (leg_on l f) (record { leg = leg; fleet = fleet }))
+    ∙ regroup c (u (leg_on l f)) (unwrap_or (cost_of t (leg_on l f)) (pos 0)))
+    ∙ sym (*ℤ-sum_below_ℤ (pos c) (weighted_cost t u l) (fleets_in t)))
     ∙ sym (*ℤ-sum_below_ℤ (pos c) (λ l. sum_below_ℤ (weighted_cost t u l) (fleets_in t)) (legs_in t))
 
 -- ---- a fractional assignment

@@ -5,7 +5,7 @@ use Rattle.fleet_model.specs.declared.tables.Tables.{Tables}
 use Rattle.bound_cert.specs.OfTables.{ArePricesOf, IsMixedOf}
 use Rattle.bound_cert.specs.Prices.{ArePrices}
 use Rattle.bound_cert.specs.Worth.{worth_of}
-use Rattle.bound_cert.specs.WrittenOrder.{ArePricesInOrder, IsCauseInOrder, IsMixedInOrder}
+use Rattle.bound_cert.specs.WrittenOrder.{ArePricesInOrder, IsCauseInOrder, IsCount, IsMixedInOrder}
 use Rattle.bound_cert.specs.declared.mixed.Mixed.{Mixed}
 use Rattle.bound_cert.specs.declared.prices.Prices.{Prices}
 use Rattle.bound_cert.specs.Fractions.{IsMixedAt, IsWorth}
@@ -49,14 +49,20 @@ IsRelaxed t keeps pivots (relaxed.Refuted prices) = AreRefuting t keeps prices
 IsRelaxed t keeps pivots (relaxed.Bounded prices mixed) = AreBest t keeps prices mixed
 IsRelaxed t keeps pivots (relaxed.Stopped why) = IsWhyStopped t keeps pivots why
 
+-- there are no prices, since a number was too large for the lift
+pub record IsLiftStopped (step at : ℕ) (found : Relaxed) : Type 0 where
+  pub stopped : found ≡ relaxed.Stopped (cause.Lift step at)
+  pub step_held : IsCount step
+  pub at_held : IsCount at
+
 -- what a lift from a cheapest point comes to
 abbrev pub IsAtBest : Result Lifted LiftError → Relaxed → Type 0
 IsAtBest (Ok lifted) found = IsSomeAnd lifted.mixed (λ mixed. found ≡ relaxed.Bounded lifted.prices mixed)
-IsAtBest (Err (lift.TooLarge step at)) found = found ≡ relaxed.Stopped (cause.Lift step at)
+IsAtBest (Err (lift.TooLarge step at)) found = IsLiftStopped step at found
 IsAtBest (Err lift.NoMemory) found = ⊥
 
 -- what a lift comes to where no point meets the lines
 abbrev pub IsAtNoPoint : Result Lifted LiftError → Relaxed → Type 0
 IsAtNoPoint (Ok lifted) found = found ≡ relaxed.Refuted lifted.prices
-IsAtNoPoint (Err (lift.TooLarge step at)) found = found ≡ relaxed.Stopped (cause.Lift step at)
+IsAtNoPoint (Err (lift.TooLarge step at)) found = IsLiftStopped step at found
 IsAtNoPoint (Err lift.NoMemory) found = ⊥

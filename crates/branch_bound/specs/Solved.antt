@@ -62,9 +62,10 @@ IsFound t (solved.Planned plan cost bound tree) = Any (IsFoundAt t plan cost) (n
 IsFound t (solved.Infeasible tree) = ⊤
 IsFound t (solved.Unsettled bound tree) = ⊤
 
--- A tree of a search, whose plan, if any, has this cost: it is of the tables, in written order and no deeper than
--- a reader takes; its nodes keep all rules, and its leaves and splits have their causes, with at most so many splits, all of them made
--- where a leaf is open for them, and so many pivots for each subproblem.
+-- A tree whose plan, if any, has this cost. It is of the tables, in written order and no deeper than a reader takes,
+-- and its nodes keep all rules. It has at most so many splits, and just so many where a leaf is open for them. Leaves
+-- and splits have their causes, with so many pivots allowed for each subproblem. Where the one assignment of a leaf is
+-- legal, there is a plan that costs no more. The rounded worth of each open leaf is below the plan's cost.
 pub record IsTreeOf (t : Tables) (nodes pivots : ℕ) (cost : Option ℤ) (tree : Tree) : Type 0 where
   pub of_tables : IsOfTables t tree
   pub in_order : InWrittenOrder t tree

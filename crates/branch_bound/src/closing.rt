@@ -83,7 +83,10 @@ fn does_reach(tables: &Tables, kept: &Kept, prices: &Prices, cost: &i128) -> boo
     requires { ArePrices tables.now prices.now }
     ensures { result ≡ does_reach tables.now (kept_by kept.now) prices.now cost.now }
 {
-    is_no_more(cost, &ceil_div(worth(tables, kept, prices, 1), prices.scale))
+    is_no_more(
+        cost,
+        &ceil_div(worth(tables, kept, prices, 1), prices.scale),
+    )
 }
 
 // Whether a number is no more than another.

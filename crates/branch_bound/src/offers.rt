@@ -1,10 +1,10 @@
 //! Assignments that are offered to a search.
-ghost use Rattle.std.specs.Prelude.{◌≤ℤ◌, Some, IsSomeAnd, MatchBool, MatchOption};
+ghost use Rattle.std.specs.Prelude.{◌≤ℤ◌, ◌<ℤ◌, IfSome, IsSomeAnd, MatchBool, MatchOption};
 ghost use Rattle.fleet_model.specs.Kept.{kept_by};
 ghost use Rattle.fleet_model.specs.Legal.{IsAssignment, IsLegal};
 ghost use Rattle.cert_check.specs.Rules.{IsLegalAt};
 ghost use Rattle.branch_bound.specs.Offers.{IsNoSole, IsOffered, IsSoleOffered};
-ghost use Rattle.branch_bound.specs.Search.{IsNoMore, IsSearch, cost_of};
+ghost use Rattle.branch_bound.specs.Search.{IsSearch, cost_of};
 
 use crate::search::{Plan, Search};
 use fleet_model::{Assignment, Kept, Tables};
@@ -57,7 +57,7 @@ fn legal_cost(tables: &Tables, plan: &Assignment) -> Option<i128>
 
 // Whether a cost is below that of the cheapest plan so far.
 fn is_cheaper(cost: &i128, best: &Option<Plan>) -> bool
-    ensures { MatchBool result (IsNoMore (cost_of best.now) (Some cost.now)) (IsNoMore (Some cost.now) (cost_of best.now)) }
+    ensures { MatchBool result (IfSome (cost_of best.now) (λ c. cost.now <ℤ c)) (IsSomeAnd (cost_of best.now) (λ c. c ≤ℤ cost.now)) }
 {
     match best {
         None => true,

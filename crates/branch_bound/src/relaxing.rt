@@ -18,10 +18,7 @@ pub(crate) enum Relaxed {
     /// The prices refute the subproblem.
     Refuted(Prices),
     /// The best fractional assignment, and prices that are worth what it costs.
-    Bounded {
-        prices: Prices,
-        mixed: Mixed,
-    },
+    Bounded { prices: Prices, mixed: Mixed },
     /// There are no prices.
     Stopped(Cause),
 }
@@ -82,11 +79,10 @@ fn at_best(lifted: Result<Lifted, LiftError>) -> Result<Relaxed, NoMemory>
     ensures { IfOk result (IsAtBest lifted) }
 {
     match lifted {
-        Ok(Lifted {
-            prices,
-            mixed: Some(mixed),
-        }) => Ok(Relaxed::Bounded { prices, mixed }),
-        Ok(Lifted { mixed: None, .. }) => unreachable!(),
+        Ok(Lifted { prices, mixed }) => match mixed {
+            Some(mixed) => Ok(Relaxed::Bounded { prices, mixed }),
+            None => unreachable!(),
+        },
         Err(LiftError::TooLarge { step, at }) => Ok(Relaxed::Stopped(Cause::Lift { step, at })),
         Err(LiftError::NoMemory) => Err(NoMemory),
     }

@@ -22,11 +22,7 @@ pub(crate) fn remove(kept: &mut Kept, removals: &[Trim])
 }
 
 /// Puts a tree below the removals, the first of them topmost.
-pub(crate) fn below(
-    alloc: Global,
-    removals: Entries<Trim>,
-    rest: Tree,
-) -> Result<Tree, NoMemory>
+pub(crate) fn below(alloc: Global, removals: Entries<Trim>, rest: Tree) -> Result<Tree, NoMemory>
     ensures { IfOk result (AreBelow removals rest) }
 {
     let mut waiting = removals.into_vec();

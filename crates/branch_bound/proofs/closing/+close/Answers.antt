@@ -24,7 +24,10 @@ close-close_part-requires-in-Split t c = (
 )
 
 pub close-close_part-requires-in-Split-2 : goal.close-close_part-requires-in-Split-2
-close-close_part-requires-in-Split-2 t c = ?
+close-close_part-requires-in-Split-2 t c = (
+  split_second_less _ _ _ _ _ _ _ (omega (arith, c.decreases)) _ _ c.in-Split.is c.deref_mut-in-Split-2.ensures.value,
+  split_without _ _ _ _ c.close_part-in-Split.ensures.same _ _ _ _ _ _ _ c.requires.known c.requires.sound _ _ c.in-Split.is c.without-in-Split.ensures c.deref_mut-in-Split-2.ensures.value,
+)
 
 pub close_part-close-requires : goal.close_part-close-requires
-close_part-close-requires t c = ?
+close_part-close-requires t c = (omega (arith, c.decreases), (c.requires.known, in_part _ _ _ _ _ c.narrow-undo.ensures.kept c.requires.sound))

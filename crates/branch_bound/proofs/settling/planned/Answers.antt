@@ -1,7 +1,8 @@
 use Rattle.std.proofs.Common.{◌≡◌, All, Some, rules, subst, to_z, of_z}
 use Rattle.std.specs.Int.{w128}
 use Rattle.fleet_model.specs.Kept.{all_pairs}
-use Rattle.cert_check.specs.Verdicts.{AreSound}
+use Rattle.bound_cert.specs.Bound.{IsBound}
+use Rattle.cert_check.specs.Verdicts.{AreSound, BoundsAll}
 use Rattle.branch_bound.proofs.Settled.{never_broken, planned, some_bound}
 use Rattle.branch_bound.proofs.settling.planned.Goals as goal
 
@@ -13,4 +14,5 @@ pub returns-clause-right : goal.returns-clause-right
 returns-clause-right c =
     let cost : to_z w128 (of_z w128 c.args.plan.cost) ≡ c.args.plan.cost = search rules in
     let bound : to_z w128 (of_z w128 c.in-Holds-Some.bound) ≡ c.in-Holds-Some.bound = search rules in
-    rw (cost, bound) (planned _ _ _ c.requires _ c.in-Holds-Some.ensures.verdict.bounded c.in-Holds-Some.ensures.proof)
+    rw (cost, bound) (planned _ _ _ c.requires _ (subst (IsBound c.args.tables.now c.args.tree) c.in-Holds-Some.bound-is c.in-Holds-Some.ensures.verdict.bounded)
+    (subst (BoundsAll c.args.tables.now) c.in-Holds-Some.bound-is c.in-Holds-Some.ensures.proof))
