@@ -1,15 +1,12 @@
 -- The tree of a part of a search, of the trees of its own parts.
-use Rattle.std.proofs.Common.{Box, Global, ◌≡◌, ◌≢◌, ℕ, suc, ◌+◌, ◌<◌, ◌≤◌, max, true, false, List, [], ◌∷◌, ◌++◌, All, IsTrue, Option, Some, None, IfSome, IsSomeAnd, ℤ, pos, ◌<ℤ◌, ◌⊎◌, inl, inr, refl, sym, ◌∙◌, ap, subst, arith}
+use Rattle.std.proofs.Common.{Box, Global, ◌≡◌, ℕ, ◌+◌, ◌<◌, true, false, List, [], ◌∷◌, ◌++◌, All, Option, Some, None, ℤ, ◌⊎◌, inl, inr, sym, ◌∙◌, ap, subst, arith}
 use Rattle.std.specs.List.{Any}
 use Rattle.std.proofs.lemmas.Bool.{cases_lt}
 use Rattle.fleet_model.specs.Kept.{Domains}
-use Rattle.fleet_model.specs.Schedule.{IsPair, leg_on}
 use Rattle.fleet_model.specs.declared.tables.Tables.{Tables}
-use Rattle.lp_rows.specs.Points.{pairs_kept}
 use Rattle.bound_cert.specs.Bound.{part}
 use Rattle.bound_cert.specs.Leaves.{depth_of, open_nodes, splits_in}
-use Rattle.bound_cert.specs.OfTables.{ArePricesOf, IsOfTables}
-use Rattle.bound_cert.specs.Prices.{ArePrices}
+use Rattle.bound_cert.specs.OfTables.{IsOfTables}
 use Rattle.bound_cert.specs.WrittenOrder.{InWrittenOrder, IsNodeInOrder}
 use Rattle.bound_cert.specs.declared.nodes.Node.TheVariants as ordered
 use Rattle.bound_cert.specs.declared.mixed.Mixed.{Mixed}

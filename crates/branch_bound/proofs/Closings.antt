@@ -1,5 +1,5 @@
 -- A tree whose open leaves are closed by their prices where these reach the cost of the plan.
-use Rattle.std.proofs.Common.{◌≡◌, ◌≢◌, ℕ, suc, ◌+◌, ◌<◌, ◌≤◌, max, Bool, true, false, if◌then◌else◌, List, [], ◌∷◌, ◌++◌, All, length, get_or, length-append, Option, Some, None, IfSome, IsSomeAnd, ℤ, pos, ◌⊎◌, inl, inr, refl, sym, ◌∙◌, ap, subst, arith}
+use Rattle.std.proofs.Common.{◌≡◌, ◌≢◌, ℕ, ◌≤◌, Bool, true, false, if◌then◌else◌, List, [], All, Some, IfSome, ℤ, inl, inr, refl, subst, arith}
 use Rattle.std.specs.List.{Any}
 use Rattle.std.proofs.lemmas.List.Elements.{All-head, All-tail}
 use Rattle.fleet_model.specs.Kept.{Domains}
@@ -16,7 +16,7 @@ use Rattle.bound_cert.specs.declared.prices.Prices.{Prices}
 use Rattle.bound_cert.specs.declared.trees.Cause.{Cause}
 use Rattle.bound_cert.specs.declared.trees.Tree.{Tree}
 use Rattle.bound_cert.specs.declared.trees.Tree.TheVariants as tree
-use Rattle.cert_check.specs.Nodes.{Node, nodes_in}
+use Rattle.cert_check.specs.Nodes.{nodes_in}
 use Rattle.cert_check.specs.Rules.{EndsAtOnce, IsSound, Keeps, OneEnds}
 use Rattle.cert_check.specs.Verdicts.{AreSound}
 use Rattle.cert_check.specs.declared.rules.Rule.{Rule}

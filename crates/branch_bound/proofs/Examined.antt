@@ -1,11 +1,9 @@
 -- What becomes of a subproblem, case by case.
-use Rattle.std.proofs.Common.{◌≡◌, ◌≢◌, ℕ, suc, ◌+◌, ◌<◌, ◌≤◌, List, [], ◌∷◌, Option, Some, None, IfSome, IsSomeAnd, ℤ, pos, ◌≤ℤ◌, ◌<ℤ◌, ◌⊎◌, inl, inr, refl, sym, ◌∙◌, ap, subst, arith}
-use Rattle.std.specs.List.{Any}
+use Rattle.std.proofs.Common.{◌≡◌, ℕ, ◌+◌, ◌<◌, List, [], ◌∷◌, Option, Some, None, IfSome, IsSomeAnd, ℤ, inl, inr, refl, sym, subst, arith}
 use Rattle.std.proofs.lemmas.Int.{ints}
-use Rattle.fleet_model.specs.Kept.{Domains, IsFirstBare, IsKeptAssignment, IsSole}
+use Rattle.fleet_model.specs.Kept.{Domains, IsFirstBare, IsKeptAssignment}
 use Rattle.fleet_model.specs.Legal.{IsLegal, total_cost}
 use Rattle.fleet_model.specs.Whole.{KeepAllowed}
-use Rattle.fleet_model.specs.declared.parts.Pair.{Pair}
 use Rattle.fleet_model.specs.declared.tables.Tables.{Tables}
 use Rattle.fleet_model.proofs.KeptLaws.{sole_is_one}
 use Rattle.bound_cert.specs.Leaves.{by_nodes}
@@ -23,7 +21,7 @@ use Rattle.cert_check.specs.Nodes.{mixed_of}
 use Rattle.cert_check.specs.Rules.{HaveAllPairs, Reaches}
 use Rattle.branch_bound.specs.Causes.{IsOpenBy}
 use Rattle.branch_bound.specs.Examined.{IsExamined, IsLeafAt, IsOneSplitMore, IsWholeOffered}
-use Rattle.branch_bound.specs.Found.{AnswersSole, IsFoundAt}
+use Rattle.branch_bound.specs.Found.{IsFoundAt}
 use Rattle.branch_bound.specs.Offers.{IsNoSole, IsOffered, IsOldOrTaken, IsPlanOf, IsSoleOffered}
 use Rattle.branch_bound.specs.Relaxed.{AreBest, AreGood, AreRefuting, IsRelaxed, IsWhyStopped}
 use Rattle.branch_bound.specs.Runs.{IsSearched}

@@ -1,6 +1,6 @@
 -- An assignment that flies each of its legs by a fleet that flies a part of it, leg by leg; and the first pair of all
 -- that is flown in part.
-use Rattle.std.proofs.Common.{◌≡◌, ℕ, ◌<◌, ◌++◌, List, [], ◌∷◌, length, length-append, ◌⊎◌, inl, inr, arith}
+use Rattle.std.proofs.Common.{◌≡◌, ℕ, ◌<◌, ◌++◌, List, [], ◌∷◌, length, length-append, inl, inr, arith}
 use Rattle.std.proofs.lemmas.Bool.{cases_lt}
 use Rattle.std.proofs.lemmas.Grind.{common_steps}
 use Rattle.fleet_model.specs.Counts.{fleet_at}
@@ -9,7 +9,7 @@ use Rattle.fleet_model.specs.declared.tables.Tables.{Tables}
 use Rattle.bound_cert.specs.Fractions.{IsWholeLeg, IsWholePair}
 use Rattle.bound_cert.specs.declared.mixed.Mixed.{Mixed}
 use Rattle.branch_bound.specs.Causes.{ComesBefore}
-use Rattle.branch_bound.specs.Wholes.{FliesPart, FliesParts, IsFirstPartialOn, IsSplitPair}
+use Rattle.branch_bound.specs.Wholes.{FliesPart, IsFirstPartialOn, IsSplitPair}
 
 pub record FliesSoFar (t : Tables) (mixed : Mixed) (a : List ℕ) : Type 0 where
   pub each : (l : ℕ) → l < length a → FliesPart t mixed l (fleet_at a l)

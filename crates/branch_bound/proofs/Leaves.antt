@@ -1,8 +1,7 @@
 -- Leaves and splits whose own node keeps all rules, whatever plan comes in the end.
-use Rattle.std.proofs.Common.{Box, Global, ◌≡◌, ◌≢◌, ℕ, ◌<◌, IsTrue, Option, Some, None, IfSome, IsSomeAnd, ℤ, pos, ◌<ℤ◌, ◌⊎◌, inl, inr, refl, sym, subst, arith}
+use Rattle.std.proofs.Common.{Box, Global, ◌≡◌, ◌≢◌, ℕ, Option, IfSome, IsSomeAnd, ℤ, pos, ◌<ℤ◌, inl, inr, arith}
 use Rattle.std.proofs.lemmas.Int.{ints}
 use Rattle.fleet_model.specs.Kept.{Domains, IsBare, IsSole}
-use Rattle.fleet_model.specs.Schedule.{IsPair, leg_on}
 use Rattle.fleet_model.specs.declared.tables.Tables.{Tables}
 use Rattle.bound_cert.specs.Prices.{ArePrices}
 use Rattle.bound_cert.specs.Worth.{worth_of}
@@ -12,13 +11,13 @@ use Rattle.bound_cert.specs.declared.trees.Cause.{Cause}
 use Rattle.bound_cert.specs.declared.trees.Tree.{Split, Tree, Trim}
 use Rattle.bound_cert.specs.declared.trees.Tree.TheVariants as tree
 use Rattle.bound_cert.specs.Fractions.{IsFraction, IsMixedAt, IsWholePair}
-use Rattle.cert_check.specs.Nodes.{Node, mixed_of}
+use Rattle.cert_check.specs.Nodes.{mixed_of}
 use Rattle.cert_check.specs.PriceRules.{AreWithin, NeverRise, RiseByRent}
 use Rattle.cert_check.specs.Rules.{HasScale, HaveAllPairs, IsKeptPair, IsSound, Keeps, Reaches}
 use Rattle.cert_check.specs.declared.rules.Rule.{Rule}
 use Rattle.cert_check.specs.declared.rules.Rule.TheVariants as rule
 use Rattle.branch_bound.specs.Causes.{IsFirstPartial}
-use Rattle.branch_bound.specs.Examined.{IsSplit, KeepsOther}
+use Rattle.branch_bound.specs.Examined.{IsSplit}
 use Rattle.branch_bound.specs.Found.{AnswersSole}
 use Rattle.branch_bound.proofs.Nodes.{node}
 use Rattle.branch_bound.proofs.PairsKept.{not_one}

@@ -1,5 +1,5 @@
 -- What the run over the lines of a subproblem, and the lift of its last table, say of the relaxation.
-use Rattle.std.proofs.Common.{◌≡◌, ℕ, ◌≤◌, List, Option, Some, None, Result, Ok, Err, IfOk, IfErr, IsSomeAnd, IsSome, ℤ, pos, ◌<ℤ◌, inl, inr, refl, sym, subst}
+use Rattle.std.proofs.Common.{◌≡◌, ℕ, List, Option, Some, None, Result, Ok, Err, IfOk, IfErr, IsSomeAnd, pos, ◌<ℤ◌, inl, inr, sym, subst}
 use Rattle.entries.specs.declared.memory.NoMemory.{NoMemory}
 use Rattle.frac_row.specs.declared.row.FracRow.{FracRow}
 use Rattle.fleet_model.specs.Kept.{Domains, IsBare}
@@ -18,7 +18,6 @@ use Rattle.bound_cert.specs.Worth.{worth_of}
 use Rattle.bound_cert.specs.WrittenOrder.{ArePricesInOrder, IsMixedInOrder}
 use Rattle.bound_cert.specs.declared.mixed.Mixed.{Mixed}
 use Rattle.bound_cert.specs.declared.prices.Prices.{Prices}
-use Rattle.bound_cert.specs.declared.trees.Cause.TheVariants as cause
 use Rattle.price_lift.specs.Laws.{NoRays}
 use Rattle.price_lift.specs.TooLarge.{IsLiftError, best_excess, refusal_excess}
 use Rattle.price_lift.specs.declared.error.LiftError.{LiftError}

@@ -1,14 +1,11 @@
 -- What holds at all nodes of a tree, or at some node.
-use Rattle.std.proofs.Common.{Box, Global, ◌≡◌, ℕ, zero, suc, ◌+◌, ◌<◌, true, false, List, [], ◌∷◌, ◌++◌, All, get_or, length, length-append, refl, sym, ◌∙◌, ap, subst, arith}
+use Rattle.std.proofs.Common.{ℕ, zero, suc, true, false, List, [], ◌∷◌, ◌++◌, All, length-append, refl, sym, ◌∙◌, subst, arith}
 use Rattle.std.specs.List.{Any}
 use Rattle.std.proofs.lemmas.List.{get_or_append_left}
-use Rattle.std.proofs.lemmas.List.Elements.{All-append, All-cons, All-head, All-nil, All-tail}
+use Rattle.std.proofs.lemmas.List.Elements.{All-append, All-cons, All-nil, All-tail}
 use Rattle.fleet_model.specs.Kept.{Domains}
 use Rattle.bound_cert.specs.Bound.{part}
-use Rattle.bound_cert.specs.declared.mixed.Mixed.{Mixed}
-use Rattle.bound_cert.specs.declared.prices.Prices.{Prices}
-use Rattle.bound_cert.specs.declared.trees.Tree.{Split, Tree, Trim}
-use Rattle.bound_cert.specs.declared.trees.Tree.TheVariants as tree
+use Rattle.bound_cert.specs.declared.trees.Tree.{Tree}
 use Rattle.cert_check.specs.Nodes.{Node, nodes_in}
 
 abbrev pub node : Domains → Tree → Node

@@ -1,6 +1,6 @@
 -- Costs that may not be there, and rounded worths.
-use Rattle.std.proofs.Common.{◌≡◌, ℕ, Bool, true, false, Option, Some, None, MatchBool, IfSome, IsSomeAnd, ℤ, pos, ◌+ℤ◌, ◌-ℤ◌, ◌*ℤ◌, ◌≤ℤ◌, ◌<ℤ◌, refl, sym, ◌∙◌, subst, arith}
-use Rattle.std.specs.Prelude.{int_div, int_le, int_lt, int_rem, unsigned_abs}
+use Rattle.std.proofs.Common.{◌≡◌, Bool, true, false, Option, Some, None, IsSomeAnd, ℤ, pos, ◌+ℤ◌, ◌-ℤ◌, ◌*ℤ◌, ◌≤ℤ◌, ◌<ℤ◌, refl, ◌∙◌, arith}
+use Rattle.std.specs.Prelude.{int_div, int_le, int_lt, int_rem}
 use Rattle.std.proofs.lemmas.Int.{by_lt_z, ints, quot-rem, rem_below}
 use lib.IntN.{*ℤ_comm}
 use Rattle.sums.proofs.Integers.{one-*ℤ, -ℤ-*ℤ}

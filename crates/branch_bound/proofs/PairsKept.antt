@@ -1,14 +1,14 @@
 -- How many pairs are kept falls with each step into a part of a subproblem.
-use Rattle.std.proofs.Common.{◌≡◌, ◌≢◌, ℕ, zero, suc, ◌+◌, ◌*◌, ◌<◌, ◌≤◌, Bool, true, false, not, ◌&&◌, ◌==◌, if◌then◌else◌, IsTrue, refl, sym, ◌∙◌, ap, subst, inl, inr, arith}
+use Rattle.std.proofs.Common.{◌≡◌, ◌≢◌, ℕ, zero, suc, ◌<◌, ◌≤◌, Bool, true, false, ◌&&◌, if◌then◌else◌, IsTrue, sym, subst, inl, inr, arith}
 use Rattle.std.proofs.lemmas.Bool.{cases_lt}
 use Rattle.std.proofs.lemmas.Bool.Decides.{nat_tests}
-use Rattle.sums.specs.Below.{count_below, sum_below}
+use Rattle.sums.specs.Below.{sum_below}
 use Rattle.sums.proofs.Counts.{count_below-one}
 use Rattle.sums.proofs.Sums.{count_below-le, sum_below-bound, sum_below-le}
 use Rattle.fleet_model.specs.Kept.{Domains, kept_on, leaves, narrowed}
 use Rattle.fleet_model.specs.Schedule.{IsPair, fleets_in, leg_on, legs_in}
 use Rattle.fleet_model.specs.declared.kept.Step.{Step}
-use Rattle.fleet_model.specs.declared.limits.TheConstants.{MAX_FLEETS, MAX_LEGS}
+use Rattle.fleet_model.specs.declared.limits.TheConstants.{MAX_FLEETS}
 use Rattle.fleet_model.specs.declared.tables.Tables.{Tables}
 use Rattle.lp_rows.specs.Points.{pairs_kept}
 use Rattle.bound_cert.specs.Bound.{part}

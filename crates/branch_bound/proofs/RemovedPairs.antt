@@ -1,22 +1,20 @@
 -- The tree of all pairs, from that of the pairs which presolve keeps; and prices of 0.
-use Rattle.std.proofs.Common.{Box, Global, ◌≡◌, ℕ, ◌+◌, ◌<◌, ◌≤◌, true, false, List, [], ◌∷◌, ◌++◌, All, length, IsTrue, Result, Ok, Err, IfOk, pos, refl, sym, ap, ◌∙◌, subst, append_assoc, arith}
+use Rattle.std.proofs.Common.{◌≡◌, ℕ, ◌+◌, ◌<◌, false, List, [], ◌∷◌, ◌++◌, All, Result, Ok, Err, IfOk, pos, refl, sym, ap, ◌∙◌, subst, append_assoc, arith}
 use Rattle.std.proofs.lemmas.Int.{ints}
 use Rattle.std.proofs.lemmas.List.Elements.{All-cons, All-nil}
 use Rattle.entries.specs.declared.memory.NoMemory.{NoMemory}
-use Rattle.sums.specs.Places.{list_below}
 use Rattle.sums.proofs.Places.{get_or-list_below, length-list_below}
-use Rattle.fleet_model.specs.Kept.{Domains, all_pairs, kept_by}
+use Rattle.fleet_model.specs.Kept.{Domains, all_pairs}
 use Rattle.fleet_model.specs.Schedule.{fleets_in}
 use Rattle.fleet_model.specs.Use.{last_minute}
 use Rattle.fleet_model.specs.Whole.{KeepAllowed}
-use Rattle.fleet_model.specs.declared.limits.TheConstants.{MAX_FLEETS, MAX_LEGS}
 use Rattle.fleet_model.specs.declared.tables.Tables.{Tables}
 use Rattle.bound_cert.specs.OfTables.{IsStepOf}
 use Rattle.bound_cert.specs.Prices.{ArePrices, price_after, price_of, rent_of}
-use Rattle.bound_cert.specs.WrittenOrder.{AreStepsInOrder, ArePricesInOrder, IsFigure, IsStepInOrder}
+use Rattle.bound_cert.specs.WrittenOrder.{IsFigure, IsStepInOrder}
 use Rattle.bound_cert.specs.declared.prices.Prices.{Prices}
-use Rattle.bound_cert.specs.declared.trees.Tree.{Tree, Trim}
-use Rattle.presolve.specs.Removals.{AreRefuted, IsRefuted, kept_after, without}
+use Rattle.bound_cert.specs.declared.trees.Tree.{Tree}
+use Rattle.presolve.specs.Removals.{AreRefuted, kept_after, without}
 use Rattle.presolve.specs.declared.trims.Trim.{Trim as Removal}
 use Rattle.branch_bound.specs.Causes.{zero_prices}
 use Rattle.branch_bound.specs.Relaxed.{AreGood}

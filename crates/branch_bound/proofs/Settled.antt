@@ -1,17 +1,14 @@
 -- What a tree proves that comes with the cheapest plan found, or with none.
-use Rattle.std.proofs.Common.{◌≡◌, ℕ, Bool, true, false, List, ◌∷◌, ◌++◌, All, Option, Some, None, IfSome, IsSomeAnd, ℤ, ◌≤ℤ◌, ◌<ℤ◌, refl, sym, ◌∙◌, ap, subst, arith}
+use Rattle.std.proofs.Common.{◌≡◌, ℕ, Bool, true, false, All, Option, Some, None, ℤ, refl, subst, arith}
 use Rattle.std.proofs.lemmas.Int.{ints}
 use Rattle.std.proofs.lemmas.List.Elements.{All-head}
 use Rattle.fleet_model.specs.Kept.{all_pairs}
-use Rattle.fleet_model.specs.Legal.{IsLegal, total_cost}
 use Rattle.fleet_model.specs.declared.tables.Tables.{Tables}
 use Rattle.bound_cert.specs.Bound.{IsBound, IsInfeasible, IsLowerBound}
 use Rattle.bound_cert.specs.Leaves.{has_open}
 use Rattle.bound_cert.specs.declared.trees.Tree.{Tree}
-use Rattle.cert_check.specs.Nodes.{Node, nodes_of}
-use Rattle.cert_check.specs.Rules.{IsFirstBroken, IsSound}
+use Rattle.cert_check.specs.Rules.{IsSound}
 use Rattle.cert_check.specs.Verdicts.{AreSound, BreaksAt}
-use Rattle.branch_bound.specs.Search.{IsPlan, cost_of}
 use Rattle.branch_bound.specs.Settled.{IsProvedBy}
 use Rattle.branch_bound.specs.Solved.{IsPlanned, IsRefuted, IsUnsettled}
 use Rattle.branch_bound.specs.declared.search.Plan.{Plan}

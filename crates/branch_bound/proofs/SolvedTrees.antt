@@ -1,5 +1,5 @@
 -- The tree of all pairs when the search is over, closed by the cheapest plan.
-use Rattle.std.proofs.Common.{◌≡◌, ◌≢◌, ℕ, suc, ◌+◌, ◌<◌, ◌≤◌, List, [], All, Option, Some, None, IfSome, IsSomeAnd, ℤ, ◌⊎◌, inl, inr, refl, sym, ◌∙◌, ap, subst, arith}
+use Rattle.std.proofs.Common.{◌≡◌, ℕ, ◌<◌, ◌≤◌, List, All, Option, Some, None, IfSome, inl, inr, sym, ◌∙◌, ap, subst, arith}
 use Rattle.std.specs.List.{Any}
 use Rattle.fleet_model.specs.Kept.{all_pairs}
 use Rattle.fleet_model.specs.declared.tables.Tables.{Tables}
@@ -13,7 +13,7 @@ use Rattle.branch_bound.specs.Closing.{closed, closed_by}
 use Rattle.branch_bound.specs.Found.{IsFoundAt, LeavesGap}
 use Rattle.branch_bound.specs.Search.{Follows, IsBranch, IsFoundIn, IsFoundOrOld, IsNoMore, IsPlan, IsSearch, best_cost, cost_of}
 use Rattle.branch_bound.specs.Settled.{IsProvedBy, plan_of}
-use Rattle.branch_bound.specs.Solved.{IsFound, IsRight, IsSolved, IsTreeOf, plan_cost, tree_of}
+use Rattle.branch_bound.specs.Solved.{IsRight, IsSolved, IsTreeOf, tree_of}
 use Rattle.branch_bound.specs.declared.search.Plan.{Plan}
 use Rattle.branch_bound.specs.declared.search.Search.{Search}
 use Rattle.branch_bound.specs.declared.solved.Solved.{Solved}

@@ -1,17 +1,16 @@
 -- A pair that is flown in part is kept, and its leg keeps another fleet, which flies the rest.
-use Rattle.std.proofs.Common.{◌≡◌, ◌≢◌, ℕ, zero, suc, ◌+◌, ◌<◌, ◌≤◌, Bool, true, false, IsTrue, ℤ, pos, ◌≤ℤ◌, ◌<ℤ◌, ◌⊎◌, inl, inr, refl, sym, ap, subst, arith}
-use Rattle.std.specs.Prelude.{unsigned_abs}
+use Rattle.std.proofs.Common.{◌≡◌, ◌≢◌, ℕ, zero, suc, ◌<◌, ◌≤◌, Bool, true, false, IsTrue, pos, ◌⊎◌, inl, inr, refl, sym, ap, arith}
 use Rattle.std.proofs.lemmas.Bool.{cases_lt}
 use Rattle.std.proofs.lemmas.Int.{ints}
 use Rattle.sums.specs.Below.{sum_below}
 use Rattle.fleet_model.specs.Kept.{Domains}
-use Rattle.fleet_model.specs.Schedule.{IsPair, fleets_in, leg_on, legs_in}
+use Rattle.fleet_model.specs.Schedule.{IsPair, fleets_in, leg_on}
 use Rattle.fleet_model.specs.declared.parts.Pair.{Pair}
 use Rattle.fleet_model.specs.declared.tables.Tables.{Tables}
 use Rattle.bound_cert.specs.Mixed.{weight_in}
 use Rattle.bound_cert.specs.declared.mixed.Mixed.{Mixed}
 use Rattle.bound_cert.specs.declared.prices.Prices.{Prices}
-use Rattle.bound_cert.specs.Fractions.{IsFraction, IsMixedAt, IsWhole, parts_in, parts_of_leg}
+use Rattle.bound_cert.specs.Fractions.{IsMixedAt, parts_in, parts_of_leg}
 use Rattle.cert_check.specs.Rules.{HaveAllPairs, IsKeptPair}
 use Rattle.branch_bound.specs.Causes.{IsFirstPartial}
 use Rattle.branch_bound.specs.Examined.{IsSplit, KeepsOther}

@@ -1,5 +1,5 @@
 -- A whole fractional assignment is a legal assignment, and costs what its prices are worth.
-use Rattle.std.proofs.Common.{◌≡◌, ◌≢◌, ℕ, zero, suc, ◌+◌, ◌*◌, ◌<◌, ◌≤◌, Bool, true, false, ◌==◌, if◌then◌else◌, List, length, IsTrue, ℤ, pos, negsuc, ◌*ℤ◌, ◌≤ℤ◌, ◌<ℤ◌, ◌⊎◌, inl, inr, refl, sym, ◌∙◌, ap, subst, arith}
+use Rattle.std.proofs.Common.{◌≡◌, ◌≢◌, ℕ, zero, suc, ◌*◌, ◌<◌, Bool, true, false, ◌==◌, List, length, ℤ, pos, ◌*ℤ◌, ◌≤ℤ◌, inl, inr, refl, sym, ◌∙◌, ap, subst, arith}
 use Rattle.std.specs.Prelude.{unsigned_abs, unwrap_or}
 use Rattle.std.proofs.lemmas.Bool.Decides.{nat_tests}
 use Rattle.std.proofs.lemmas.Int.{ints}
@@ -7,13 +7,12 @@ use Rattle.std.proofs.lemmas.Grind.{same_number_lists}
 use lib.IntN.{*ℤ_comm, pos-*ℤ-pos}
 use Rattle.sums.specs.Below.{sum_below, sum_below_ℤ}
 use Rattle.sums.proofs.Integers.{*ℤ_assoc, *ℤ_cancel}
-use Rattle.sums.proofs.Sums.{sum_below-zero}
 use Rattle.sums.proofs.WholeSums.{*ℤ-sum_below_ℤ, sum_below_ℤ-same}
 use Rattle.frac_row.specs.Ratio.{IsCeiling}
 use Rattle.fleet_model.specs.Counts.{Weights, fleet_at, weights_of}
 use Rattle.fleet_model.specs.Kept.{Domains, IsKeptAssignment}
-use Rattle.fleet_model.specs.Legal.{IsAssignment, IsLegal, cost_of, total_cost}
-use Rattle.fleet_model.specs.Mixed.{IsMixedPlan, mixed_cost, weight_on, weighted_cost}
+use Rattle.fleet_model.specs.Legal.{IsLegal, cost_of, total_cost}
+use Rattle.fleet_model.specs.Mixed.{mixed_cost, weighted_cost}
 use Rattle.fleet_model.specs.Schedule.{IsPair, fleets_in, leg_on, legs_in}
 use Rattle.fleet_model.specs.Whole.{IsLegalBy, KeepAllowed}
 use Rattle.fleet_model.specs.Whole as whole

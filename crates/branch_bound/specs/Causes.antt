@@ -1,5 +1,5 @@
 -- Why the leaves of a tree are open, and why its subproblems were split.
-use Rattle.std.specs.Prelude.{◌≡◌, ℕ, ◌<◌, ◌⊎◌, ⊤, true, false, List, [], ℤ, pos, ◌<ℤ◌}
+use Rattle.std.specs.Prelude.{◌≡◌, ℕ, ◌<◌, ◌⊎◌, ⊤, true, false, [], pos, ◌<ℤ◌}
 use Rattle.sums.specs.Places.{list_below}
 use Rattle.fleet_model.specs.Kept.{Domains, IsFirstBare}
 use Rattle.fleet_model.specs.Schedule.{fleets_in, leg_on}

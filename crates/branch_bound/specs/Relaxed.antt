@@ -1,5 +1,5 @@
 -- What the linear relaxation of a subproblem comes to.
-use Rattle.std.specs.Prelude.{◌≡◌, ℕ, IsSomeAnd, Result, Ok, Err, ℤ, pos, ◌<ℤ◌}
+use Rattle.std.specs.Prelude.{◌≡◌, ℕ, IsSomeAnd, Result, Ok, Err, pos, ◌<ℤ◌}
 use Rattle.fleet_model.specs.Kept.{Domains}
 use Rattle.fleet_model.specs.declared.tables.Tables.{Tables}
 use Rattle.bound_cert.specs.OfTables.{ArePricesOf, IsMixedOf}

@@ -1,5 +1,5 @@
 -- What is known of a closed tree and of the cheapest plan, when the search is over.
-use Rattle.std.specs.Prelude.{◌≡◌, All, Option, Some, None, IfSome}
+use Rattle.std.specs.Prelude.{All, Option, Some, None, IfSome}
 use Rattle.fleet_model.specs.Kept.{all_pairs}
 use Rattle.fleet_model.specs.declared.tables.Tables.{Tables}
 use Rattle.bound_cert.specs.OfTables.{IsOfTables}

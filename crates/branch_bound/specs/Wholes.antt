@@ -1,5 +1,5 @@
 -- Whole fractional assignments as assignments, and the first pair of one that is not whole.
-use Rattle.std.specs.Prelude.{◌≡◌, ◌≢◌, ℕ, ◌<◌, List, length, ℤ, pos, ◌<ℤ◌}
+use Rattle.std.specs.Prelude.{◌≡◌, ◌≢◌, ℕ, ◌<◌, List, length, pos, ◌<ℤ◌}
 use Rattle.fleet_model.specs.Counts.{fleet_at}
 use Rattle.fleet_model.specs.Schedule.{IsPair, fleets_in, leg_on, legs_in}
 use Rattle.fleet_model.specs.declared.parts.Pair.{Pair}

@@ -1,9 +1,9 @@
-use Rattle.std.proofs.Common.{◌≡◌, All, Some, rules, subst, to_z, of_z}
+use Rattle.std.proofs.Common.{◌≡◌, Some, rules, subst, to_z, of_z}
 use Rattle.std.specs.Int.{w128}
 use Rattle.fleet_model.specs.Kept.{all_pairs}
 use Rattle.bound_cert.specs.Bound.{IsBound}
 use Rattle.cert_check.specs.Verdicts.{AreSound, BoundsAll}
-use Rattle.branch_bound.proofs.Settled.{never_broken, planned, some_bound}
+use Rattle.branch_bound.proofs.Settled.{never_broken, planned}
 use Rattle.branch_bound.proofs.settling.planned.Goals as goal
 
 pub unreachable-requires-in-Broken : goal.unreachable-requires-in-Broken
