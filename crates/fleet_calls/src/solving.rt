@@ -48,13 +48,13 @@ struct Answer {
     splits: u64,
 }
 
-fn solved(alloc: Global, files: &Files, nodes: u64, pivots: u64) -> Result<Solved, LoadError> {
+fn solution(alloc: Global, files: &Files, nodes: u64, pivots: u64) -> Result<Solved, LoadError> {
     let tables = read(alloc, files)?;
     Ok(solve(alloc, &tables, nodes, pivots)?)
 }
 
-fn answer(alloc: Global, files: &Files, nodes: u64) -> Result<Answer, LoadError> {
-    let solved = solved(alloc, files, nodes, ENOUGH)?;
+fn answer_of(alloc: Global, files: &Files, nodes: u64) -> Result<Answer, LoadError> {
+    let solved = solution(alloc, files, nodes, ENOUGH)?;
     let splits = solved.tree().counts().splits;
     Ok(match solved {
         Solved::Planned { cost, bound, .. } => Answer {
@@ -101,18 +101,27 @@ const fn unsettled(bound: i128, splits: u64) -> Answer {
 
 #[test]
 fn the_relaxation_alone_gives_a_plan(rt: HostRuntime) -> Result<(), Fail> {
-    assert_eq!(rt; answer(rt.alloc(), &ROUND_TRIP, ENOUGH)?, planned(200, 200, 0));
-    assert_eq!(rt; answer(rt.alloc(), &BACK_AT_ONCE, ENOUGH)?, planned(200, 200, 0));
-    assert_eq!(rt; answer(rt.alloc(), &ONE_CHOICE, ENOUGH)?, planned(200, 200, 0));
+    assert_eq!(rt;
+        answer_of(rt.alloc(), &ROUND_TRIP, ENOUGH)?,
+        planned(200, 200, 0)
+    );
+    assert_eq!(rt;
+        answer_of(rt.alloc(), &BACK_AT_ONCE, ENOUGH)?,
+        planned(200, 200, 0)
+    );
+    assert_eq!(rt;
+        answer_of(rt.alloc(), &ONE_CHOICE, ENOUGH)?,
+        planned(200, 200, 0)
+    );
     Ok(())
 }
 
 #[test]
 fn presolve_alone_shows_that_there_is_none(rt: HostRuntime) -> Result<(), Fail> {
-    assert_eq!(rt; answer(rt.alloc(), &NO_AIRCRAFT, ENOUGH)?, infeasible(0));
-    let solved = solved(rt.alloc(), &NO_AIRCRAFT, ENOUGH, ENOUGH)?;
+    assert_eq!(rt; answer_of(rt.alloc(), &NO_AIRCRAFT, ENOUGH)?, infeasible(0));
+    let solved = solution(rt.alloc(), &NO_AIRCRAFT, ENOUGH, ENOUGH)?;
     assert_eq!(rt; bare_below(solved.tree()), Some(0));
-    assert_eq!(rt; answer(rt.alloc(), &NO_WAY_BACK, ENOUGH)?, infeasible(0));
+    assert_eq!(rt; answer_of(rt.alloc(), &NO_WAY_BACK, ENOUGH)?, infeasible(0));
     Ok(())
 }
 
@@ -132,7 +141,7 @@ fn bare_below(tree: &Tree) -> Option<u32> {
 
 #[test]
 fn without_pivots_the_least_costs_are_the_bound(rt: HostRuntime) -> Result<(), Fail> {
-    let solved = solved(rt.alloc(), &ROUND_TRIP, ENOUGH, 0)?;
+    let solved = solution(rt.alloc(), &ROUND_TRIP, ENOUGH, 0)?;
     match &solved {
         Solved::Unsettled { bound, tree } => {
             assert_eq!(rt; *bound, 180);
@@ -145,15 +154,15 @@ fn without_pivots_the_least_costs_are_the_bound(rt: HostRuntime) -> Result<(), F
 
 #[test]
 fn halves_of_two_fleets_are_no_plan(rt: HostRuntime) -> Result<(), Fail> {
-    assert_eq!(rt; answer(rt.alloc(), &TWO_FLEETS, ENOUGH)?, infeasible(1));
-    assert_eq!(rt; answer(rt.alloc(), &TWO_FLEETS, 0)?, unsettled(60, 0));
-    assert_eq!(rt; answer(rt.alloc(), &EARNING, 0)?, unsettled(-6, 0));
+    assert_eq!(rt; answer_of(rt.alloc(), &TWO_FLEETS, ENOUGH)?, infeasible(1));
+    assert_eq!(rt; answer_of(rt.alloc(), &TWO_FLEETS, 0)?, unsettled(60, 0));
+    assert_eq!(rt; answer_of(rt.alloc(), &EARNING, 0)?, unsettled(-6, 0));
     Ok(())
 }
 
 #[test]
 fn the_halves_have_scale_2(rt: HostRuntime) -> Result<(), Fail> {
-    let solved = solved(rt.alloc(), &TWO_FLEETS, 0, ENOUGH)?;
+    let solved = solution(rt.alloc(), &TWO_FLEETS, 0, ENOUGH)?;
     match solved.tree() {
         Tree::Open(_, Cause::Nodes(mixed)) => {
             assert_eq!(rt; mixed.scale, 2);
@@ -169,8 +178,17 @@ fn the_halves_have_scale_2(rt: HostRuntime) -> Result<(), Fail> {
 
 #[test]
 fn a_third_fleet_flies_what_is_left(rt: HostRuntime) -> Result<(), Fail> {
-    assert_eq!(rt; answer(rt.alloc(), &OVERLAPPING_TRIPS, ENOUGH)?, planned(140, 140, 2));
-    assert_eq!(rt; answer(rt.alloc(), &OVERLAPPING_TRIPS, 1)?, planned(140, 100, 1));
-    assert_eq!(rt; answer(rt.alloc(), &OVERLAPPING_TRIPS, 0)?, unsettled(60, 0));
+    assert_eq!(rt;
+        answer_of(rt.alloc(), &OVERLAPPING_TRIPS, ENOUGH)?,
+        planned(140, 140, 2)
+    );
+    assert_eq!(rt;
+        answer_of(rt.alloc(), &OVERLAPPING_TRIPS, 1)?,
+        planned(140, 100, 1)
+    );
+    assert_eq!(rt;
+        answer_of(rt.alloc(), &OVERLAPPING_TRIPS, 0)?,
+        unsettled(60, 0)
+    );
     Ok(())
 }
