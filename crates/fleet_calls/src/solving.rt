@@ -37,6 +37,24 @@ const EARNING: Files = Files {
     ..TWO_FLEETS
 };
 
+/// Two round trips from a hub with made costs: one split settles them.
+const TWO_TRIPS: Files = Files {
+    stations: b"code,extra,maintenance\nHUB,0,yes\nSAA,0,yes\n",
+    fleets: b"fleet,aircraft,turn\nF1,2,30\nF2,1,45\n",
+    legs: b"flight,from,dep,to,arr\nO0,HUB,10:00,SAA,12:45\nR0,SAA,14:05,HUB,16:50\nO1,HUB,14:25,SAA,16:45\nR1,SAA,18:05,HUB,20:25\n",
+    costs: b"flight,fleet,cost\nO0,F1,1172\nO0,F2,1202\nR0,F1,1127\nR0,F2,1270\nO1,F1,1315\nO1,F2,1033\nR1,F1,1033\nR1,F2,1338\n",
+    throughs: b"in,out,value\nR0,O1,45\n",
+};
+
+/// Three such round trips: two splits settle them.
+const THREE_TRIPS: Files = Files {
+    stations: b"code,extra,maintenance\nHUB,0,yes\nSAA,0,yes\n",
+    fleets: b"fleet,aircraft,turn\nF1,3,30\nF2,1,45\n",
+    legs: b"flight,from,dep,to,arr\nO0,HUB,07:00,SAA,08:05\nR0,SAA,09:25,HUB,10:30\nO1,HUB,11:00,SAA,12:55\nR1,SAA,14:10,HUB,16:05\nO2,HUB,11:25,SAA,12:35\nR2,SAA,13:35,HUB,14:45\n",
+    costs: b"flight,fleet,cost\nO0,F1,1324\nO0,F2,1456\nR0,F1,1184\nR0,F2,1146\nO1,F1,1383\nO1,F2,1166\nR1,F1,1136\nR1,F2,1388\nO2,F1,1151\nO2,F2,1184\nR2,F1,1147\nR2,F2,1350\n",
+    throughs: b"in,out,value\nR0,O1,9\nR1,O2,20\n",
+};
+
 /// No more splits than this many are ever needed here, and no more pivots.
 const ENOUGH: u64 = 1000;
 
@@ -189,6 +207,19 @@ fn a_third_fleet_flies_what_is_left(rt: HostRuntime) -> Result<(), Fail> {
     assert_eq!(rt;
         answer_of(rt.alloc(), &OVERLAPPING_TRIPS, 0)?,
         unsettled(60, 0)
+    );
+    Ok(())
+}
+
+#[test]
+fn made_trips_are_split(rt: HostRuntime) -> Result<(), Fail> {
+    assert_eq!(rt;
+        answer_of(rt.alloc(), &TWO_TRIPS, ENOUGH)?,
+        planned(4647, 4647, 1)
+    );
+    assert_eq!(rt;
+        answer_of(rt.alloc(), &THREE_TRIPS, ENOUGH)?,
+        planned(7320, 7320, 2)
     );
     Ok(())
 }
