@@ -23,6 +23,8 @@ mod reading;
 #[cfg(test)]
 mod schedules;
 #[cfg(test)]
+mod solving;
+#[cfg(test)]
 mod subproblems;
 #[cfg(test)]
 mod worths;

@@ -1,0 +1,159 @@
+-- Leaves and splits whose own node keeps all rules, whatever plan comes in the end.
+use Rattle.std.proofs.Common.{Box, Global, ◌≡◌, ◌≢◌, ℕ, Option, IfSome, IsSomeAnd, ℤ, pos, ◌<ℤ◌, inl, inr, arith}
+use Rattle.std.proofs.lemmas.Int.{ints}
+use Rattle.fleet_model.specs.Kept.{Domains, IsBare, IsSole}
+use Rattle.fleet_model.specs.declared.tables.Tables.{Tables}
+use Rattle.bound_cert.specs.Prices.{ArePrices}
+use Rattle.bound_cert.specs.Worth.{worth_of}
+use Rattle.bound_cert.specs.declared.mixed.Mixed.{Mixed}
+use Rattle.bound_cert.specs.declared.prices.Prices.{Prices}
+use Rattle.bound_cert.specs.declared.trees.Cause.{Cause}
+use Rattle.bound_cert.specs.declared.trees.Tree.{Split, Tree, Trim}
+use Rattle.bound_cert.specs.declared.trees.Tree.TheVariants as tree
+use Rattle.bound_cert.specs.Fractions.{IsFraction, IsMixedAt, IsWholePair}
+use Rattle.cert_check.specs.Nodes.{mixed_of}
+use Rattle.cert_check.specs.PriceRules.{AreWithin, NeverRise, RiseByRent}
+use Rattle.cert_check.specs.Rules.{HasScale, HaveAllPairs, IsKeptPair, IsSound, Keeps, Reaches}
+use Rattle.cert_check.specs.declared.rules.Rule.{Rule}
+use Rattle.cert_check.specs.declared.rules.Rule.TheVariants as rule
+use Rattle.branch_bound.specs.Causes.{IsFirstPartial}
+use Rattle.branch_bound.specs.Examined.{IsSplit}
+use Rattle.branch_bound.specs.Found.{AnswersSole}
+use Rattle.branch_bound.proofs.Nodes.{node}
+use Rattle.branch_bound.proofs.PairsKept.{not_one}
+
+-- a node that is no leaf of one assignment answers nothing
+pub answers_none : (t : Tables) (cost : Option ℤ) (keeps : Domains) (whole : Tree) → whole ≢ tree.Sole → AnswersSole t cost (node keeps whole)
+answers_none t cost keeps whole other = record { answers = λ e. absurd (other e) }
+
+-- what the rules say of proper prices
+module _ (t : Tables) (prices : Prices) (proper : ArePrices t prices) where
+  scale_rule : HasScale prices
+  scale_rule = record { some = proper.some_scale; within = proper.scale_within }
+
+  limits_rule : AreWithin t prices
+  limits_rule = record {
+    rents = λ f below. record { some = proper.some_rent f below; within = proper.rent_within f below };
+    each = λ f s m fleet station minute. record { no_less = proper.no_less f s m fleet station minute; no_more = proper.no_more f s m fleet station minute };
+  }
+
+  fall_rule : NeverRise t prices
+  fall_rule = record { each = proper.never_rise }
+
+  rent_rule : RiseByRent t prices
+  rent_rule = record { each = proper.rise_overnight }
+
+-- ---- leaves
+module _ (t : Tables) (cost : Option ℤ) (keeps : Domains) where
+  pub bare_sound : (leg : ℕ) → IsBare t keeps leg → IsSound t cost (node keeps (tree.Bare leg))
+  bare_sound leg bare = record { each = each }
+    where
+      each : (r : Rule) → Keeps t cost (node keeps (tree.Bare leg)) r
+      each rule.Scale = tt
+      each rule.Limits = tt
+      each rule.Fall = tt
+      each rule.Rent = tt
+      each rule.Pairs = bare
+      each rule.Refuted = tt
+      each rule.Priced = tt
+      each rule.Parts = tt
+      each rule.Mixed = tt
+      each rule.Fraction = tt
+
+  pub sole_sound : IsSole t keeps → IsSound t cost (node keeps tree.Sole)
+  sole_sound sole = record { each = each }
+    where
+      each : (r : Rule) → Keeps t cost (node keeps tree.Sole) r
+      each rule.Scale = tt
+      each rule.Limits = tt
+      each rule.Fall = tt
+      each rule.Rent = tt
+      each rule.Pairs = sole
+      each rule.Refuted = tt
+      each rule.Priced = tt
+      each rule.Parts = tt
+      each rule.Mixed = tt
+      each rule.Fraction = tt
+
+  pub refuted_sound : (prices : Prices) → ArePrices t prices → HaveAllPairs t keeps → pos 0 <ℤ worth_of t keeps prices 0 → IsSound t cost (node keeps (tree.Refuted prices))
+  refuted_sound prices proper pairs above = record { each = each }
+    where
+      each : (r : Rule) → Keeps t cost (node keeps (tree.Refuted prices)) r
+      each rule.Scale = scale_rule t prices proper
+      each rule.Limits = limits_rule t prices proper
+      each rule.Fall = fall_rule t prices proper
+      each rule.Rent = rent_rule t prices proper
+      each rule.Pairs = pairs
+      each rule.Refuted = above
+      each rule.Priced = tt
+      each rule.Parts = tt
+      each rule.Mixed = tt
+      each rule.Fraction = tt
+
+  pub priced_sound : (prices : Prices) → ArePrices t prices → HaveAllPairs t keeps → IsSomeAnd cost (Reaches t keeps prices) → IsSound t cost (node keeps (tree.Priced prices))
+  priced_sound prices proper pairs reaches = record { each = each }
+    where
+      each : (r : Rule) → Keeps t cost (node keeps (tree.Priced prices)) r
+      each rule.Scale = scale_rule t prices proper
+      each rule.Limits = limits_rule t prices proper
+      each rule.Fall = fall_rule t prices proper
+      each rule.Rent = rent_rule t prices proper
+      each rule.Pairs = pairs
+      each rule.Refuted = tt
+      each rule.Priced = reaches
+      each rule.Parts = tt
+      each rule.Mixed = tt
+      each rule.Fraction = tt
+
+  pub open_sound : (prices : Prices) (why : Cause) → ArePrices t prices → HaveAllPairs t keeps → IfSome (mixed_of why) (IsMixedAt t keeps) → IfSome (mixed_of why) (IsFraction t keeps prices)
+      → IsSound t cost (node keeps (tree.Open prices why))
+  open_sound prices why proper pairs mixed fraction = record { each = each }
+    where
+      each : (r : Rule) → Keeps t cost (node keeps (tree.Open prices why)) r
+      each rule.Scale = scale_rule t prices proper
+      each rule.Limits = limits_rule t prices proper
+      each rule.Fall = fall_rule t prices proper
+      each rule.Rent = rent_rule t prices proper
+      each rule.Pairs = pairs
+      each rule.Refuted = tt
+      each rule.Priced = tt
+      each rule.Parts = tt
+      each rule.Mixed = mixed
+      each rule.Fraction = fraction
+
+-- ---- a trim whose part with the pair is refuted, and a split
+module _ (t : Tables) (cost : Option ℤ) (keeps : Domains) (leg fleet : ℕ) (yes no : Box Tree Global) where
+  pub trim_sound : (prices : Prices) → yes.value ≡ tree.Refuted prices → IsKeptPair keeps leg fleet → IsSound t cost (node keeps (Trim leg fleet yes no))
+  trim_sound prices e kept = record { each = each }
+    where
+      each : (r : Rule) → Keeps t cost (node keeps (Trim leg fleet yes no)) r
+      each rule.Scale = tt
+      each rule.Limits = tt
+      each rule.Fall = tt
+      each rule.Rent = tt
+      each rule.Pairs = tt
+      each rule.Refuted = tt
+      each rule.Priced = tt
+      each rule.Parts = (kept, inl (rw e tt))
+      each rule.Mixed = tt
+      each rule.Fraction = tt
+
+  -- the first pair that is flown in part is not flown wholly
+  is_partial : (mixed : Mixed) → IsFirstPartial t mixed leg fleet → ¬ (IsWholePair mixed leg fleet)
+  is_partial mixed first (inl none) = absurd (omega (arith, ints, first.some, none))
+  is_partial mixed first (inr all) = absurd (omega (arith, ints, first.not_all, all))
+
+  pub split_sound : (prices : Prices) (mixed : Mixed) → IsSplit t keeps leg fleet prices mixed → IsSound t cost (node keeps (Split leg fleet prices mixed yes no))
+  split_sound prices mixed is = record { each = each }
+    where
+      each : (r : Rule) → Keeps t cost (node keeps (Split leg fleet prices mixed yes no)) r
+      each rule.Scale = scale_rule t prices is.best.good.proper
+      each rule.Limits = limits_rule t prices is.best.good.proper
+      each rule.Fall = fall_rule t prices is.best.good.proper
+      each rule.Rent = rent_rule t prices is.best.good.proper
+      each rule.Pairs = is.all_pairs
+      each rule.Refuted = tt
+      each rule.Priced = tt
+      each rule.Parts = (is.kept, not_one t keeps leg fleet is.pair.fleet is.kept is.other)
+      each rule.Mixed = is.best.mixed_at
+      each rule.Fraction = (is.fraction, is_partial mixed is.first)

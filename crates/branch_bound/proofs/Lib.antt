@@ -1,0 +1,17 @@
+pub mod Bounds
+pub mod Branches
+pub mod ClosedParts
+pub mod Closings
+pub mod Examined
+pub mod FlownParts
+pub mod Leaves
+pub mod Lifts
+pub mod Nodes
+pub mod Orders
+pub mod PairsKept
+pub mod RemovedPairs
+pub mod Settled
+pub mod SolvedTrees
+pub mod SplitPairs
+pub mod SplitTrees
+pub mod WholePlans

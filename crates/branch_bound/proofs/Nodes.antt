@@ -1,0 +1,60 @@
+-- What holds at all nodes of a tree, or at some node.
+use Rattle.std.proofs.Common.{ℕ, zero, suc, true, false, List, [], ◌∷◌, ◌++◌, All, length-append, refl, sym, ◌∙◌, subst, arith}
+use Rattle.std.specs.List.{Any}
+use Rattle.std.proofs.lemmas.List.{get_or_append_left}
+use Rattle.std.proofs.lemmas.List.Elements.{All-append, All-cons, All-nil, All-tail}
+use Rattle.fleet_model.specs.Kept.{Domains}
+use Rattle.bound_cert.specs.Bound.{part}
+use Rattle.bound_cert.specs.declared.trees.Tree.{Tree}
+use Rattle.cert_check.specs.Nodes.{Node, nodes_in}
+
+abbrev pub node : Domains → Tree → Node
+node keeps whole = record { keeps = keeps; tree = whole }
+
+-- the nodes of two lists
+abbrev pub nodes_below : Domains → ℕ → ℕ → Tree → Tree → List Node
+nodes_below keeps leg fleet with_pair without = nodes_in (part keeps leg fleet true) with_pair ++ nodes_in (part keeps leg fleet false) without
+
+-- ---- at all
+pub all_one : {N : Type 0} (P : N → Type 0) (one : N) → P one → All P (one ∷ [])
+all_one P one here = All-cons P one [] here (All-nil P)
+
+pub all_more : {N : Type 0} (P : N → Type 0) (one : N) (first second : List N) → P one → All P first → All P second → All P (one ∷ (first ++ second))
+all_more P one first second here all other = All-cons P one (first ++ second) here (All-append P first second all other)
+
+-- each of two lists
+pub first_all : {N : Type 0} (P : N → Type 0) (xs ys : List N) → All P (xs ++ ys) → All P xs
+first_all P xs ys all k d below = subst P (get_or_append_left xs ys d k below) (all k d (omega (arith, length-append xs ys)))
+
+pub second_all : {N : Type 0} (P : N → Type 0) (xs ys : List N) → All P (xs ++ ys) → All P ys
+second_all P [] ys all = all
+second_all P (x ∷ xs) ys all = second_all P xs ys (All-tail P x (xs ++ ys) all)
+
+-- ---- at some
+pub any_here : {N : Type 0} (P : N → Type 0) (one : N) (rest : List N) → P one → Any P (one ∷ rest)
+any_here P one rest here = (0, one, omega arith, refl, here)
+
+pub any_after : {N : Type 0} (P : N → Type 0) (one : N) (rest : List N) → Any P rest → Any P (one ∷ rest)
+any_after P one rest (k, x, below, is, holds) = (suc k, x, omega (arith, below), is, holds)
+
+pub any_first : {N : Type 0} (P : N → Type 0) (xs ys : List N) → Any P xs → Any P (xs ++ ys)
+any_first P xs ys (k, x, below, is, holds) = (k, x, omega (arith, below, length-append xs ys), get_or_append_left xs ys x k below ∙ is, holds)
+
+pub any_second : {N : Type 0} (P : N → Type 0) (xs ys : List N) → Any P ys → Any P (xs ++ ys)
+any_second P [] ys any = any
+any_second P (x ∷ xs) ys any = any_after P x (xs ++ ys) (any_second P xs ys any)
+
+-- where it is
+pub only : {N : Type 0} (P : N → Type 0) (one : N) → Any P (one ∷ []) → P one
+only P one (zero, x, below, is, holds) = subst P (sym is) holds
+only P one (suc k, x, below, is, holds) = absurd (omega (arith, below))
+
+by_list : {N : Type 0} {X : Type 0} (P : N → Type 0) (xs ys : List N) → Any P (xs ++ ys) → (Any P xs → X) → (Any P ys → X) → X
+by_list P [] ys any p q = q any
+by_list P (x ∷ xs) ys (zero, y, below, is, holds) p q = p (any_here P x xs (subst P (sym is) holds))
+by_list P (x ∷ xs) ys (suc k, y, below, is, holds) p q =
+    by_list P xs ys (k, y, omega (arith, below), is, holds) (λ any. p (any_after P x xs any)) q
+
+pub by_place : {N : Type 0} {X : Type 0} (P : N → Type 0) (one : N) (first second : List N) → Any P (one ∷ (first ++ second)) → (P one → X) → (Any P first → X) → (Any P second → X) → X
+by_place P one first second (zero, x, below, is, holds) here p q = here (subst P (sym is) holds)
+by_place P one first second (suc k, x, below, is, holds) here p q = by_list P first second (k, x, omega (arith, below), is, holds) p q

@@ -1,0 +1,99 @@
+-- The tree of all pairs, from that of the pairs which presolve keeps; and prices of 0.
+use Rattle.std.proofs.Common.{◌≡◌, ℕ, ◌+◌, ◌<◌, false, List, [], ◌∷◌, ◌++◌, All, Result, Ok, Err, IfOk, pos, refl, sym, ap, ◌∙◌, subst, append_assoc, arith}
+use Rattle.std.proofs.lemmas.Int.{ints}
+use Rattle.std.proofs.lemmas.List.Elements.{All-cons, All-nil}
+use Rattle.entries.specs.declared.memory.NoMemory.{NoMemory}
+use Rattle.sums.proofs.Places.{get_or-list_below, length-list_below}
+use Rattle.fleet_model.specs.Kept.{Domains, all_pairs}
+use Rattle.fleet_model.specs.Schedule.{fleets_in}
+use Rattle.fleet_model.specs.Use.{last_minute}
+use Rattle.fleet_model.specs.Whole.{KeepAllowed}
+use Rattle.fleet_model.specs.declared.tables.Tables.{Tables}
+use Rattle.bound_cert.specs.OfTables.{IsStepOf}
+use Rattle.bound_cert.specs.Prices.{ArePrices, price_after, price_of, rent_of}
+use Rattle.bound_cert.specs.WrittenOrder.{IsFigure, IsStepInOrder}
+use Rattle.bound_cert.specs.declared.prices.Prices.{Prices}
+use Rattle.bound_cert.specs.declared.trees.Tree.{Tree}
+use Rattle.presolve.specs.Removals.{AreRefuted, kept_after, without}
+use Rattle.presolve.specs.declared.trims.Trim.{Trim as Removal}
+use Rattle.branch_bound.specs.Causes.{zero_prices}
+use Rattle.branch_bound.specs.Relaxed.{AreGood}
+use Rattle.branch_bound.specs.Search.{IsBranch}
+use Rattle.branch_bound.specs.Trims.{AreBelow, IsBelow, IsWithin}
+use Rattle.branch_bound.specs.declared.search.Search.{Search}
+use Rattle.branch_bound.proofs.Branches.{trim_branch}
+use Rattle.branch_bound.proofs.SplitTrees.{allowed_part}
+
+-- ---- removals
+pub removals_within : (t : Tables) (keeps : Domains) (removals : List Removal) → AreRefuted t keeps removals → All IsWithin removals
+removals_within t keeps [] refuted = All-nil IsWithin
+removals_within t keeps (removal ∷ removals) refuted =
+    All-cons IsWithin removal removals
+    (record { leg = omega (arith, refuted.0.pair.leg, t.in_range.legs_fit.few); fleet = omega (arith, refuted.0.pair.fleet, t.in_range.fleets_fit.few) })
+    (removals_within t (without keeps removal) removals refuted.1)
+
+pub allowed_after : (t : Tables) (keeps : Domains) (removals : List Removal) → KeepAllowed t keeps → KeepAllowed t (kept_after keeps removals)
+allowed_after t keeps [] allowed = allowed
+allowed_after t keeps (removal ∷ removals) allowed = allowed_after t (without keeps removal) removals (allowed_part t keeps (record { leg = removal.leg; fleet = removal.fleet; yes = false }) allowed)
+
+pub allowed_all : (t : Tables) → KeepAllowed t (all_pairs t)
+allowed_all t = record { each = λ p pair kept. kept }
+
+-- the tree of a subproblem, of that of the pairs that are kept after removals
+pub below_branch : (t : Tables) (before after : Search) (keeps : Domains) (above : Prices) (removals : List Removal) (rest whole : Tree) → AreRefuted t keeps removals → AreBelow removals rest whole
+    → IsBranch t before after (kept_after keeps removals) above rest → IsBranch t before after keeps above whole
+below_branch t before after keeps above [] rest whole refuted same branch = subst (IsBranch t before after keeps above) (sym same) branch
+below_branch t before after keeps above (removal ∷ removals) rest whole refuted (inner, below, is) branch =
+    subst (IsBranch t before after keeps above) (sym is.is)
+    (trim_branch t before after keeps above removal is.with_pair is.without refuted.0 is.yes_is
+    (subst (IsBranch t before after (without keeps removal) above) (sym is.no_is) (below_branch t before after (without keeps removal) above removals rest inner refuted.1 below branch)))
+
+-- the tree of all pairs, once the search is done with those that presolve keeps
+pub all_branch : (t : Tables) (before after : Search) (start keeps : Domains) (above : Prices) (removals slice : List Removal) (rest : Tree) (r : Result Tree NoMemory) → start ≡ all_pairs t → slice ≡ removals
+    → keeps ≡ kept_after start slice → above ≡ zero_prices t → AreRefuted t (all_pairs t) removals → IfOk r (AreBelow removals rest) → IsBranch t before after keeps above rest → IfOk r (IsBranch t before after (all_pairs t) (zero_prices t))
+all_branch t before after start keeps above removals slice rest (Ok whole) start_is slice_is keeps_is above_is refuted below branch =
+    let same : keeps ≡ kept_after (all_pairs t) removals = keeps_is ∙ ap (λ k. kept_after k slice) start_is ∙ ap (kept_after (all_pairs t)) slice_is in
+    below_branch t before after (all_pairs t) (zero_prices t) removals rest whole refuted below
+    (subst (λ p. IsBranch t before after (kept_after (all_pairs t) removals) p rest) above_is (subst (λ k. IsBranch t before after k above rest) same branch))
+all_branch t before after start keeps above removals slice rest (Err e) start_is slice_is keeps_is above_is refuted below branch = tt
+
+-- one removal more was taken from the end of those that wait
+pub taken_more : (all waiting rest taken : List Removal) (removal : Removal) (tree inner whole : Tree) → all ≡ waiting ++ taken → waiting ≡ rest ++ removal ∷ [] → AreBelow taken tree inner → IsBelow removal inner whole
+    → (more : List Removal) × (all ≡ rest ++ more) × AreBelow more tree whole
+taken_more all waiting rest taken removal tree inner whole all_is waiting_is below is =
+    (removal ∷ taken, all_is ∙ subst (λ w. w ++ taken ≡ rest ++ removal ∷ taken) (sym waiting_is) (append_assoc rest (removal ∷ []) taken), (inner, below, is))
+
+-- ---- prices of 0
+zero_rent : (t : Tables) (f : ℕ) → f < fleets_in t → rent_of (zero_prices t) f ≡ pos 0
+zero_rent t f known = get_or-list_below (λ k. pos 0) (fleets_in t) f (pos 0) known
+
+zero_price : (t : Tables) (f s m : ℕ) → price_of (zero_prices t) f s m ≡ pos 0
+unfolding price_after
+zero_price t f s m = refl
+
+zero_proper : (t : Tables) → ArePrices t (zero_prices t)
+zero_proper t = record {
+  some_scale = omega (arith, ints);
+  scale_within = omega (arith, ints);
+  some_rent = λ f known. omega (arith, ints, zero_rent t f known);
+  rent_within = λ f known. omega (arith, ints, zero_rent t f known);
+  no_less = λ f s m known there within. omega (arith, ints, zero_price t f s m);
+  no_more = λ f s m known there within. omega (arith, ints, zero_price t f s m);
+  never_rise = λ f s m known there within. omega (arith, ints, zero_price t f s m, zero_price t f s (m + 1));
+  rise_overnight = λ f s known there. omega (arith, ints, zero_price t f s 0, zero_price t f s last_minute, zero_rent t f known);
+}
+
+zero_figure : IsFigure (pos 0)
+zero_figure = record { no_less = omega (arith, ints); no_more = omega (arith, ints) }
+
+pub zero_good : (t : Tables) → AreGood t (zero_prices t)
+zero_good t = record {
+  proper = zero_proper t;
+  known = All-nil (IsStepOf t);
+  in_order = record {
+    scale = record { no_less = omega (arith, ints); no_more = omega (arith, ints) };
+    one_each = length-list_below (λ f. pos 0) (fleets_in t);
+    rents = λ k d within. rw (get_or-list_below (λ f. pos 0) (fleets_in t) k d (omega (arith, within, length-list_below (λ f. pos 0) (fleets_in t)))) zero_figure;
+    steps = record { each = All-nil (IsStepInOrder t); follow = tt; no_lone_zero = tt };
+  };
+}

@@ -1,0 +1,6 @@
+use Rattle.std.proofs.Common.{ℕ, ◌<◌}
+use Rattle.bound_cert.specs.Fractions.{IsWholeLeg}
+use Rattle.branch_bound.proofs.wholes.first_partial.Given as goal
+
+abbrev pub invariant-loop-leg : goal.invariant-loop-leg
+invariant-loop-leg l = (k : ℕ) → k < l.leg → IsWholeLeg l.tables l.mixed k

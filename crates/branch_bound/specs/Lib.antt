@@ -1,0 +1,12 @@
+pub mod Causes
+pub mod Closing
+pub mod Examined
+pub mod Found
+pub mod Offers
+pub mod Relaxed
+pub mod Runs
+pub mod Search
+pub mod Settled
+pub mod Solved
+pub mod Trims
+pub mod Wholes

@@ -1,0 +1,90 @@
+-- What the solver answers on tables: a plan with a bound, that there is none, or a bound alone; each with the tree of
+-- subproblems that proves it.
+use Rattle.std.specs.Prelude.{◌≡◌, ℕ, ◌<◌, ◌≤◌, List, true, false, All, Any, Option, Some, None, ℤ, ◌<ℤ◌, ⊤}
+use Rattle.fleet_model.specs.Kept.{all_pairs}
+use Rattle.fleet_model.specs.Legal.{IsAssignment, IsLegal, total_cost}
+use Rattle.fleet_model.specs.declared.tables.Tables.{Tables}
+use Rattle.bound_cert.specs.Bound.{IsBound, IsInfeasible, IsLowerBound}
+use Rattle.bound_cert.specs.Leaves.{has_open, open_nodes, splits_in}
+use Rattle.bound_cert.specs.OfTables.{IsOfTables}
+use Rattle.bound_cert.specs.WrittenOrder.{InWrittenOrder, IsShallow}
+use Rattle.bound_cert.specs.declared.trees.Tree.{Tree}
+use Rattle.cert_check.specs.Nodes.{nodes_of}
+use Rattle.cert_check.specs.Verdicts.{AreSound}
+use Rattle.branch_bound.specs.Causes.{AreCaused, zero_prices}
+use Rattle.branch_bound.specs.Found.{AnswersSole, IsFoundAt, LeavesGap}
+use Rattle.branch_bound.specs.declared.solved.Solved.{Solved}
+use Rattle.branch_bound.specs.declared.solved.Solved.TheVariants as solved
+
+-- The plan is legal and its cost exact. The bound is the tree's, and no legal assignment undercuts it. It is the
+-- cost where no leaf is open, and less where one is.
+pub record IsPlanned (t : Tables) (plan : List ℕ) (cost bound : ℤ) (tree : Tree) : Type 0 where
+  pub legal : IsLegal t plan
+  pub exact : cost ≡ total_cost t plan
+  pub of_tree : IsBound t tree (Some bound)
+  pub lower : IsLowerBound t bound
+  pub closed : has_open tree ≡ false → bound ≡ cost
+  pub gap : has_open tree ≡ true → bound <ℤ cost
+
+-- no assignment is legal, no leaf is open, and no leaf has a bound
+pub record IsRefuted (t : Tables) (tree : Tree) : Type 0 where
+  pub none : IsInfeasible t
+  pub closed : has_open tree ≡ false
+  pub no_bound : IsBound t tree None
+
+-- a leaf is open; the bound is the tree's, and no legal assignment undercuts it
+pub record IsUnsettled (t : Tables) (bound : ℤ) (tree : Tree) : Type 0 where
+  pub is_open : has_open tree ≡ true
+  pub of_tree : IsBound t tree (Some bound)
+  pub lower : IsLowerBound t bound
+
+-- the tree of a solution
+abbrev pub tree_of : Solved → Tree
+tree_of (solved.Planned plan cost bound tree) = tree
+tree_of (solved.Infeasible tree) = tree
+tree_of (solved.Unsettled bound tree) = tree
+
+-- the cost of a solution's plan, where it has one
+abbrev pub plan_cost : Solved → Option ℤ
+plan_cost (solved.Planned plan cost bound tree) = Some cost
+plan_cost (solved.Infeasible tree) = None
+plan_cost (solved.Unsettled bound tree) = None
+
+-- what a solution says of the tables
+abbrev pub IsRight : Tables → Solved → Type 0
+IsRight t (solved.Planned plan cost bound tree) = IsPlanned t plan cost bound tree
+IsRight t (solved.Infeasible tree) = IsRefuted t tree
+IsRight t (solved.Unsettled bound tree) = IsUnsettled t bound tree
+
+-- the plan of a solution is found at a leaf of its tree
+abbrev pub IsFound : Tables → Solved → Type 0
+IsFound t (solved.Planned plan cost bound tree) = Any (IsFoundAt t plan cost) (nodes_of t tree)
+IsFound t (solved.Infeasible tree) = ⊤
+IsFound t (solved.Unsettled bound tree) = ⊤
+
+-- A tree whose plan, if any, has this cost. It is of the tables, in written order and no deeper than a reader takes,
+-- and its nodes keep all rules. It has at most so many splits, and just so many where a leaf is open for them. Leaves
+-- and splits have their causes, with so many pivots allowed for each subproblem. Where the one assignment of a leaf is
+-- legal, there is a plan that costs no more. The rounded worth of each open leaf is below the plan's cost.
+pub record IsTreeOf (t : Tables) (nodes pivots : ℕ) (cost : Option ℤ) (tree : Tree) : Type 0 where
+  pub of_tables : IsOfTables t tree
+  pub in_order : InWrittenOrder t tree
+  pub shallow : IsShallow tree
+  pub sound : AreSound t cost (all_pairs t) tree
+  pub few_splits : splits_in tree ≤ nodes
+  pub all_spent : 0 < open_nodes tree → splits_in tree ≡ nodes
+  pub caused : AreCaused t pivots (all_pairs t) (zero_prices t) tree
+  pub soles : All (AnswersSole t cost) (nodes_of t tree)
+  pub gaps : All (LeavesGap t cost) (nodes_of t tree)
+
+-- a solution of tables, found with at most so many splits, and so many pivots for each subproblem
+pub record IsSolved (t : Tables) (nodes pivots : ℕ) (s : Solved) : Type 0 where
+  pub right : IsRight t s
+  pub proved : IsTreeOf t nodes pivots (plan_cost s) (tree_of s)
+  pub found : IsFound t s
+
+-- a plan of the solution has a known fleet for each leg
+abbrev pub PlanFits : Tables → Solved → Type 0
+PlanFits t (solved.Planned plan cost bound tree) = IsAssignment t plan
+PlanFits t (solved.Infeasible tree) = ⊤
+PlanFits t (solved.Unsettled bound tree) = ⊤

@@ -1,0 +1,66 @@
+//! Assignments that are offered to a search.
+ghost use Rattle.std.specs.Prelude.{◌≤ℤ◌, ◌<ℤ◌, IfSome, IsSomeAnd, MatchBool, MatchOption};
+ghost use Rattle.fleet_model.specs.Kept.{kept_by};
+ghost use Rattle.fleet_model.specs.Legal.{IsAssignment, IsLegal};
+ghost use Rattle.cert_check.specs.Rules.{IsLegalAt};
+ghost use Rattle.branch_bound.specs.Offers.{IsNoSole, IsOffered, IsSoleOffered};
+ghost use Rattle.branch_bound.specs.Search.{IsSearch, cost_of};
+
+use crate::search::{Plan, Search};
+use fleet_model::{Assignment, Kept, Tables};
+use plan_judge::{Verdict, judge};
+
+/// Whether each leg keeps one fleet; then the assignment that is left is offered. Takes no memory.
+///
+/// It has an assignment on the stack, and so is kept out of the frames of the search.
+#[inline(never)]
+pub(crate) fn offer_sole(tables: &Tables, kept: &Kept, search: &mut Search) -> bool
+    requires { IsSearch tables.now search.old }
+    ensures { MatchBool result (IsSoleOffered tables.now (kept_by kept.now) search.old search.new) (IsNoSole tables.now (kept_by kept.now) search.old search.new) }
+{
+    match kept.sole(tables) {
+        Some(assignment) => {
+            offer(tables, search, assignment);
+            true
+        }
+        None => false,
+    }
+}
+
+/// Offers an assignment: where it is legal and cheaper than the cheapest plan so far, it takes its place. Takes no
+/// memory.
+pub(crate) fn offer(tables: &Tables, search: &mut Search, assignment: Assignment)
+    requires known { IsAssignment tables.now assignment }
+    requires search { IsSearch tables.now search.old }
+    ensures { IsOffered tables.now assignment search.old search.new }
+{
+    match legal_cost(tables, &assignment) {
+        None => {}
+        Some(cost) => {
+            if is_cheaper(&cost, &search.best) {
+                search.best = Some(Plan { assignment, cost });
+            }
+        }
+    }
+}
+
+// What an assignment costs, where it is legal.
+fn legal_cost(tables: &Tables, plan: &Assignment) -> Option<i128>
+    requires { IsAssignment tables.now plan.now }
+    ensures { MatchOption result (¬ (IsLegal tables.now plan.now)) (IsLegalAt tables.now plan.now) }
+{
+    match judge(tables, plan) {
+        Verdict::Legal { cost } => Some(cost),
+        _ => None,
+    }
+}
+
+// Whether a cost is below that of the cheapest plan so far.
+fn is_cheaper(cost: &i128, best: &Option<Plan>) -> bool
+    ensures { MatchBool result (IfSome (cost_of best.now) (λ c. cost.now <ℤ c)) (IsSomeAnd (cost_of best.now) (λ c. c ≤ℤ cost.now)) }
+{
+    match best {
+        None => true,
+        Some(plan) => *cost < plan.cost,
+    }
+}

@@ -1,0 +1,100 @@
+//! The linear relaxation of a subproblem.
+ghost use Rattle.std.specs.Prelude.{◌≡◌, ℕ, IfOk, IsSome};
+ghost use Rattle.fleet_model.specs.Kept.{IsBare, kept_by};
+ghost use Rattle.branch_bound.specs.Relaxed.{IsAtBest, IsAtNoPoint, IsRelaxed};
+
+use bound_cert::{Cause, Mixed, Prices};
+use entries::NoMemory;
+use fleet_model::{Kept, Tables};
+use lp_rows::rows;
+use price_lift::{LiftError, Lifted, lift_best, lift_refusal};
+use row_store::{Dense, RowStore};
+use simplex_frac::{Outcome, solve};
+use std::alloc::Global;
+
+/// What the linear relaxation of a subproblem comes to.
+#[derive(Debug, Drop)]
+pub(crate) enum Relaxed {
+    /// The prices refute the subproblem.
+    Refuted(Prices),
+    /// The best fractional assignment, and prices that are worth what it costs.
+    Bounded { prices: Prices, mixed: Mixed },
+    /// There are no prices.
+    Stopped(Cause),
+}
+
+/// Solves the linear relaxation of a subproblem, with at most so many pivots.
+pub(crate) fn relax(
+    alloc: Global,
+    tables: &Tables,
+    kept: &Kept,
+    pivots: u64,
+) -> Result<Relaxed, NoMemory>
+    requires { (leg : ℕ) → ¬ (IsBare tables.now (kept_by kept.now) leg) }
+    ensures { IfOk result (IsRelaxed tables.now (kept_by kept.now) pivots) }
+{
+    relax_by::<Dense>(alloc, tables, kept, pivots)
+}
+
+// The same over any store of tables.
+fn relax_by<R: RowStore + Drop>(
+    alloc: Global,
+    tables: &Tables,
+    kept: &Kept,
+    pivots: u64,
+) -> Result<Relaxed, NoMemory>
+    requires { (leg : ℕ) → ¬ (IsBare tables.now (kept_by kept.now) leg) }
+    ensures { IfOk result (IsRelaxed tables.now (kept_by kept.now) pivots) }
+{
+    let rows = rows(alloc, tables, kept)?;
+    let columns = rows.columns;
+    let mut table = R::start(alloc, &rows)?;
+    drop(rows);
+    match solve(alloc, &mut table, columns, pivots)? {
+        Outcome::Best { basis, .. } => {
+            let lifted = lift_best(alloc, &table, basis.as_slice(), tables, kept);
+            at_best(lifted)
+        }
+        Outcome::NoPoint { basis, .. } => {
+            let lifted = lift_refusal(alloc, &table, basis.as_slice(), tables, kept);
+            at_no_point(lifted)
+        }
+        Outcome::Ray { .. } => unreachable!(),
+        Outcome::Spent { pivots } => Ok(Relaxed::Stopped(Cause::Pivots { made: pivots })),
+        Outcome::Grew {
+            pivots,
+            row,
+            column,
+        } => Ok(Relaxed::Stopped(Cause::Grew {
+            pivots,
+            row: u64::from(row),
+            column: u64::from(column),
+        })),
+    }
+}
+
+// Prices and a fractional assignment, or why there are none.
+fn at_best(lifted: Result<Lifted, LiftError>) -> Result<Relaxed, NoMemory>
+    requires { IfOk lifted (λ l. IsSome l.mixed) }
+    ensures { IfOk result (IsAtBest lifted) }
+{
+    match lifted {
+        Ok(Lifted { prices, mixed }) => match mixed {
+            Some(mixed) => Ok(Relaxed::Bounded { prices, mixed }),
+            None => unreachable!(),
+        },
+        Err(LiftError::TooLarge { step, at }) => Ok(Relaxed::Stopped(Cause::Lift { step, at })),
+        Err(LiftError::NoMemory) => Err(NoMemory),
+    }
+}
+
+// Prices that refute the subproblem, or why there are none.
+fn at_no_point(lifted: Result<Lifted, LiftError>) -> Result<Relaxed, NoMemory>
+    ensures { IfOk result (IsAtNoPoint lifted) }
+{
+    match lifted {
+        Ok(Lifted { prices, .. }) => Ok(Relaxed::Refuted(prices)),
+        Err(LiftError::TooLarge { step, at }) => Ok(Relaxed::Stopped(Cause::Lift { step, at })),
+        Err(LiftError::NoMemory) => Err(NoMemory),
+    }
+}

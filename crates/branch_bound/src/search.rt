@@ -1,0 +1,21 @@
+use fleet_model::Assignment;
+
+/// A legal assignment, and what it costs, in cost units.
+#[derive(Debug, Drop)]
+pub(crate) struct Plan {
+    pub(crate) assignment: Assignment,
+    pub(crate) cost: i128,
+}
+
+/// Where a search stands.
+#[derive(Debug, Drop)]
+pub(crate) struct Search {
+    /// How many splits are allowed.
+    pub(crate) nodes: u64,
+    /// How many pivots are allowed in each subproblem.
+    pub(crate) pivots: u64,
+    /// How many splits were made.
+    pub(crate) splits: u64,
+    /// The cheapest plan so far.
+    pub(crate) best: Option<Plan>,
+}

@@ -1,0 +1,60 @@
+//! What the tree of a search proves.
+ghost use Rattle.std.specs.Prelude.{◌≡◌, All, Some, None, Option};
+ghost use Rattle.fleet_model.specs.Kept.{all_pairs};
+ghost use Rattle.bound_cert.specs.OfTables.{IsOfTables};
+ghost use Rattle.cert_check.specs.Verdicts.{AreSound};
+ghost use Rattle.branch_bound.specs.Search.{IsPlan};
+ghost use Rattle.branch_bound.specs.Settled.{IsProvedBy, plan_of};
+ghost use Rattle.branch_bound.specs.Solved.{IsRight, tree_of};
+
+use crate::search::Plan;
+use crate::solved::Solved;
+use bound_cert::Tree;
+use cert_check::{Checked, check};
+use fleet_model::Tables;
+
+/// What the tree of a search proves, whose plan, if any, is the cheapest. Takes no memory.
+pub(crate) fn settle(tables: &Tables, best: Option<Plan>, tree: Tree) -> Solved
+    requires { IsProvedBy tables.now best tree }
+    ensures right { IsRight tables.now result }
+    ensures plan { plan_of result ≡ best }
+    ensures tree { tree_of result ≡ tree }
+{
+    match best {
+        Some(plan) => planned(tables, plan, tree),
+        None => unplanned(tables, tree),
+    }
+}
+
+// A plan with its bound.
+fn planned(tables: &Tables, plan: Plan, tree: Tree) -> Solved
+    requires { IsProvedBy tables.now (Some plan) tree }
+    ensures right { IsRight tables.now result }
+    ensures plan { plan_of result ≡ Some plan }
+    ensures tree { tree_of result ≡ tree }
+{
+    match check(tables, Some(&plan.assignment), &tree) {
+        Checked::Holds { bound: Some(bound) } => Solved::Planned {
+            assignment: plan.assignment,
+            cost: plan.cost,
+            bound,
+            tree,
+        },
+        Checked::Holds { bound: None } => unreachable!(),
+        Checked::Broken { .. } => unreachable!(),
+    }
+}
+
+// That there is no plan, or a bound alone.
+fn unplanned(tables: &Tables, tree: Tree) -> Solved
+    requires { IsProvedBy tables.now None tree }
+    ensures right { IsRight tables.now result }
+    ensures plan { plan_of result ≡ None }
+    ensures tree { tree_of result ≡ tree }
+{
+    match check(tables, None, &tree) {
+        Checked::Holds { bound: Some(bound) } => Solved::Unsettled { bound, tree },
+        Checked::Holds { bound: None } => Solved::Infeasible { tree },
+        Checked::Broken { .. } => unreachable!(),
+    }
+}

@@ -1,0 +1,225 @@
+//! Tables, solved.
+use crate::schedules::{BACK_AT_ONCE, Files, OVERLAPPING_TRIPS, ROUND_TRIP, read};
+use bound_cert::{Cause, Tree};
+use branch_bound::{Solved, solve};
+use fleet_model::LoadError;
+use std::alloc::Global;
+use std::test::Fail;
+
+/// The round trip without any aircraft.
+const NO_AIRCRAFT: Files = Files {
+    fleets: b"fleet,aircraft,turn\nF1,0,30\nF2,0,30\n",
+    ..ROUND_TRIP
+};
+
+/// The round trip, with a way back that neither fleet may fly.
+const NO_WAY_BACK: Files = Files {
+    costs: b"flight,fleet,cost\nX1,F1,100\nX1,F2,80\n",
+    ..ROUND_TRIP
+};
+
+/// The round trip, which the first fleet alone may fly.
+const ONE_CHOICE: Files = Files {
+    costs: b"flight,fleet,cost\nX1,F1,100\nX2,F1,100\n",
+    ..ROUND_TRIP
+};
+
+/// The overlapping trips with the first two fleets alone.
+const TWO_FLEETS: Files = Files {
+    fleets: b"fleet,aircraft,turn\nF1,1,0\nF2,1,0\n",
+    costs: b"flight,fleet,cost\nA1,F1,10\nA1,F2,10\nA2,F1,10\nA2,F2,10\nB1,F1,10\nB1,F2,10\nB2,F1,10\nB2,F2,10\nC1,F1,10\nC1,F2,10\nC2,F1,10\nC2,F2,10\n",
+    ..OVERLAPPING_TRIPS
+};
+
+/// The same at no cost, but for the first leg, which earns 7 on one fleet and 6 on the other.
+const EARNING: Files = Files {
+    costs: b"flight,fleet,cost\nA1,F1,-7\nA1,F2,-6\nA2,F1,0\nA2,F2,0\nB1,F1,0\nB1,F2,0\nB2,F1,0\nB2,F2,0\nC1,F1,0\nC1,F2,0\nC2,F1,0\nC2,F2,0\n",
+    ..TWO_FLEETS
+};
+
+/// Two round trips from a hub with made costs: one split settles them.
+const TWO_TRIPS: Files = Files {
+    stations: b"code,extra,maintenance\nHUB,0,yes\nSAA,0,yes\n",
+    fleets: b"fleet,aircraft,turn\nF1,2,30\nF2,1,45\n",
+    legs: b"flight,from,dep,to,arr\nO0,HUB,10:00,SAA,12:45\nR0,SAA,14:05,HUB,16:50\nO1,HUB,14:25,SAA,16:45\nR1,SAA,18:05,HUB,20:25\n",
+    costs: b"flight,fleet,cost\nO0,F1,1172\nO0,F2,1202\nR0,F1,1127\nR0,F2,1270\nO1,F1,1315\nO1,F2,1033\nR1,F1,1033\nR1,F2,1338\n",
+    throughs: b"in,out,value\nR0,O1,45\n",
+};
+
+/// Three such round trips: two splits settle them.
+const THREE_TRIPS: Files = Files {
+    stations: b"code,extra,maintenance\nHUB,0,yes\nSAA,0,yes\n",
+    fleets: b"fleet,aircraft,turn\nF1,3,30\nF2,1,45\n",
+    legs: b"flight,from,dep,to,arr\nO0,HUB,07:00,SAA,08:05\nR0,SAA,09:25,HUB,10:30\nO1,HUB,11:00,SAA,12:55\nR1,SAA,14:10,HUB,16:05\nO2,HUB,11:25,SAA,12:35\nR2,SAA,13:35,HUB,14:45\n",
+    costs: b"flight,fleet,cost\nO0,F1,1324\nO0,F2,1456\nR0,F1,1184\nR0,F2,1146\nO1,F1,1383\nO1,F2,1166\nR1,F1,1136\nR1,F2,1388\nO2,F1,1151\nO2,F2,1184\nR2,F1,1147\nR2,F2,1350\n",
+    throughs: b"in,out,value\nR0,O1,9\nR1,O2,20\n",
+};
+
+/// No more splits than this many are ever needed here, and no more pivots.
+const ENOUGH: u64 = 1000;
+
+/// What the solver says of tables: the cost of its plan, its bound, and how many subproblems were split.
+#[derive(Clone, Copy, Debug, PartialEq, Eq)]
+struct Answer {
+    cost: Option<i128>,
+    bound: Option<i128>,
+    splits: u64,
+}
+
+fn solution(alloc: Global, files: &Files, nodes: u64, pivots: u64) -> Result<Solved, LoadError> {
+    let tables = read(alloc, files)?;
+    Ok(solve(alloc, &tables, nodes, pivots)?)
+}
+
+fn answer_of(alloc: Global, files: &Files, nodes: u64) -> Result<Answer, LoadError> {
+    let solved = solution(alloc, files, nodes, ENOUGH)?;
+    let splits = solved.tree().counts().splits;
+    Ok(match solved {
+        Solved::Planned { cost, bound, .. } => Answer {
+            cost: Some(cost),
+            bound: Some(bound),
+            splits,
+        },
+        Solved::Infeasible { .. } => Answer {
+            cost: None,
+            bound: None,
+            splits,
+        },
+        Solved::Unsettled { bound, .. } => Answer {
+            cost: None,
+            bound: Some(bound),
+            splits,
+        },
+    })
+}
+
+const fn planned(cost: i128, bound: i128, splits: u64) -> Answer {
+    Answer {
+        cost: Some(cost),
+        bound: Some(bound),
+        splits,
+    }
+}
+
+const fn infeasible(splits: u64) -> Answer {
+    Answer {
+        cost: None,
+        bound: None,
+        splits,
+    }
+}
+
+const fn unsettled(bound: i128, splits: u64) -> Answer {
+    Answer {
+        cost: None,
+        bound: Some(bound),
+        splits,
+    }
+}
+
+#[test]
+fn the_relaxation_alone_gives_a_plan(rt: HostRuntime) -> Result<(), Fail> {
+    assert_eq!(rt;
+        answer_of(rt.alloc(), &ROUND_TRIP, ENOUGH)?,
+        planned(200, 200, 0)
+    );
+    assert_eq!(rt;
+        answer_of(rt.alloc(), &BACK_AT_ONCE, ENOUGH)?,
+        planned(200, 200, 0)
+    );
+    assert_eq!(rt;
+        answer_of(rt.alloc(), &ONE_CHOICE, ENOUGH)?,
+        planned(200, 200, 0)
+    );
+    Ok(())
+}
+
+#[test]
+fn presolve_alone_shows_that_there_is_none(rt: HostRuntime) -> Result<(), Fail> {
+    assert_eq!(rt; answer_of(rt.alloc(), &NO_AIRCRAFT, ENOUGH)?, infeasible(0));
+    let solved = solution(rt.alloc(), &NO_AIRCRAFT, ENOUGH, ENOUGH)?;
+    assert_eq!(rt; bare_below(solved.tree()), Some(0));
+    assert_eq!(rt; answer_of(rt.alloc(), &NO_WAY_BACK, ENOUGH)?, infeasible(0));
+    Ok(())
+}
+
+/// The leg of the bare leaf below two removals.
+fn bare_below(tree: &Tree) -> Option<u32> {
+    let Tree::Trim { no: first, .. } = tree else {
+        return None;
+    };
+    let Tree::Trim { no: second, .. } = &**first else {
+        return None;
+    };
+    match &**second {
+        Tree::Bare { leg } => Some(*leg),
+        _ => None,
+    }
+}
+
+#[test]
+fn without_pivots_the_least_costs_are_the_bound(rt: HostRuntime) -> Result<(), Fail> {
+    let solved = solution(rt.alloc(), &ROUND_TRIP, ENOUGH, 0)?;
+    match &solved {
+        Solved::Unsettled { bound, tree } => {
+            assert_eq!(rt; *bound, 180);
+            assert_eq!(rt; tree.counts().open_pivots, 1);
+        }
+        _ => panic!(rt; "{solved:?}"),
+    }
+    Ok(())
+}
+
+#[test]
+fn halves_of_two_fleets_are_no_plan(rt: HostRuntime) -> Result<(), Fail> {
+    assert_eq!(rt; answer_of(rt.alloc(), &TWO_FLEETS, ENOUGH)?, infeasible(1));
+    assert_eq!(rt; answer_of(rt.alloc(), &TWO_FLEETS, 0)?, unsettled(60, 0));
+    assert_eq!(rt; answer_of(rt.alloc(), &EARNING, 0)?, unsettled(-6, 0));
+    Ok(())
+}
+
+#[test]
+fn the_halves_have_scale_2(rt: HostRuntime) -> Result<(), Fail> {
+    let solved = solution(rt.alloc(), &TWO_FLEETS, 0, ENOUGH)?;
+    match solved.tree() {
+        Tree::Open(_, Cause::Nodes(mixed)) => {
+            assert_eq!(rt; mixed.scale, 2);
+            assert_eq!(rt; mixed.weights.len(), 12);
+            for weight in mixed.weights.as_slice() {
+                assert_eq!(rt; weight.weight, 1);
+            }
+        }
+        tree => panic!(rt; "{tree:?}"),
+    }
+    Ok(())
+}
+
+#[test]
+fn a_third_fleet_flies_what_is_left(rt: HostRuntime) -> Result<(), Fail> {
+    assert_eq!(rt;
+        answer_of(rt.alloc(), &OVERLAPPING_TRIPS, ENOUGH)?,
+        planned(140, 140, 2)
+    );
+    assert_eq!(rt;
+        answer_of(rt.alloc(), &OVERLAPPING_TRIPS, 1)?,
+        planned(140, 100, 1)
+    );
+    assert_eq!(rt;
+        answer_of(rt.alloc(), &OVERLAPPING_TRIPS, 0)?,
+        unsettled(60, 0)
+    );
+    Ok(())
+}
+
+#[test]
+fn made_trips_are_split(rt: HostRuntime) -> Result<(), Fail> {
+    assert_eq!(rt;
+        answer_of(rt.alloc(), &TWO_TRIPS, ENOUGH)?,
+        planned(4647, 4647, 1)
+    );
+    assert_eq!(rt;
+        answer_of(rt.alloc(), &THREE_TRIPS, ENOUGH)?,
+        planned(7320, 7320, 2)
+    );
+    Ok(())
+}
