@@ -13,10 +13,10 @@ pub const DEFAULT_NODES: u64 = 1000;
 pub const MAX_NODES: u64 = 1_000_000;
 
 /// How many pivots a subproblem may take where no option sets it.
-pub const DEFAULT_PIVOTS: u64 = 0;
+pub const DEFAULT_PIVOTS: u64 = 20_000;
 
 /// The most pivots of a subproblem that an option may set.
-pub const MAX_PIVOTS: u64 = 0;
+pub const MAX_PIVOTS: u64 = 1_000_000;
 
 /// How much a search may do.
 #[derive(Clone, Copy, Debug, PartialEq, Eq)]

@@ -17,11 +17,11 @@ fn judge(dir: &str, day_start: u16) -> Option<Command<'_>> {
     })
 }
 
-fn solve(dir: &str, day_start: u16, nodes: u64) -> Option<Command<'_>> {
+fn solve(dir: &str, day_start: u16, nodes: u64, pivots: u64) -> Option<Command<'_>> {
     Some(Command::Solve {
         dir,
         settings: settings(day_start),
-        limits: SearchLimits { nodes, pivots: 0 },
+        limits: SearchLimits { nodes, pivots },
     })
 }
 
@@ -50,16 +50,23 @@ fn commands(rt: HostRuntime) -> Result<(), Fail> {
         ("fleetplan judge --day-start 00:00 -- -d", judge("-d", 0)),
         ("fleetplan judge -", judge("-", 180)),
         ("fleetplan judge help", judge("help", 180)),
-        ("fleetplan solve d", solve("d", 180, 1000)),
+        ("fleetplan solve d", solve("d", 180, 1000, 20_000)),
         (
             "fleetplan solve d --nodes=0000000000000000005 --day-start 00:00",
-            solve("d", 0, 5),
+            solve("d", 0, 5, 20_000),
         ),
         (
             "fleetplan solve d --nodes 1000000",
-            solve("d", 180, 1_000_000),
+            solve("d", 180, 1_000_000, 20_000),
         ),
-        ("fleetplan solve --pivots 0 d --nodes 0", solve("d", 180, 0)),
+        (
+            "fleetplan solve --pivots 0 d --nodes 0",
+            solve("d", 180, 0, 0),
+        ),
+        (
+            "fleetplan solve d --pivots 1000000",
+            solve("d", 180, 1000, 1_000_000),
+        ),
         ("fleetplan check d", check("d", 180)),
         ("fleetplan check --day-start=00:00 -- -d", check("-d", 0)),
         (
@@ -93,7 +100,7 @@ fn no_commands(rt: HostRuntime) -> Result<(), Fail> {
         "fleetplan solve d --nodes=",
         "fleetplan solve d --nodes",
         "fleetplan solve d --nodes 1 --nodes 2",
-        "fleetplan solve d --pivots 1",
+        "fleetplan solve d --pivots 1000001",
         "fleetplan solve d -- --nodes 5",
         "fleetplan solve d --day-start 24:00",
         "fleetplan solve --help",

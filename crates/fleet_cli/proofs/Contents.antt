@@ -46,7 +46,7 @@ told_judged (Some files) dir settings contents answer held answers = inr (record
 
 pub solved_if : (r : Result Answer NoMemory) (contents : List (List ℕ)) (settings : Settings) (limits : SearchLimits) (tables : Tables) (s f l c t : List ℕ)
     → slice_index_or contents 0 [] ≡ s → slice_index_or contents 1 [] ≡ f → slice_index_or contents 2 [] ≡ l → slice_index_or contents 3 [] ≡ c → slice_index_or contents 4 [] ≡ t
-    → Reads (record { stations = s; fleets = f; legs = l; costs = c; throughs = t }) settings tables → IfOk r (GivesSolution tables limits.pivots) → IfOk r (SolvesContents settings limits contents)
+    → Reads (record { stations = s; fleets = f; legs = l; costs = c; throughs = t }) settings tables → IfOk r (GivesSolution tables limits) → IfOk r (SolvesContents settings limits contents)
 solved_if (Ok answer) contents settings limits tables s f l c t es ef el ec et reads gives = inr (record { tables = tables; reads = rw (es, ef, el, ec, et) reads; gives = gives })
 solved_if (Err e) contents settings limits tables s f l c t es ef el ec et reads gives = tt
 

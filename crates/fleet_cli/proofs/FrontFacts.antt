@@ -14,7 +14,7 @@ abbrev items_of : Vec ℕ Global → List ℕ
 items_of vector = vector.items
 
 module _ (held : Files) (dir : List ℕ) (names : List DeskFile) where
-  front_grown : (contents : List (List ℕ)) (bytes : List ℕ) (file : DeskFile) → FrontHeld held dir names contents → file ≡ get_or names (length contents) file → length contents < length names
+  pub front_grown : (contents : List (List ℕ)) (bytes : List ℕ) (file : DeskFile) → FrontHeld held dir names contents → file ≡ get_or names (length contents) file → length contents < length names
       → held (path_of dir file) ≡ Some bytes → length bytes ≤ limit_of file → FrontHeld held dir names (contents ++ bytes ∷ [])
   front_grown contents bytes file front is place there short = record {
     bytes = λ k d within. elim (cases_lt k (length contents)) [

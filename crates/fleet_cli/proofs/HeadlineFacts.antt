@@ -20,12 +20,12 @@ use Rattle.fleet_cli.proofs.OneAnswer.{not_refused}
 use Rattle.fleet_cli.specs.Answer.{Answers, SolvesContents}
 use Rattle.fleet_cli.specs.Headline.{Headline, TellsSolution, is_planned, plan_there}
 use Rattle.fleet_cli.specs.Run.{IsSolution, folder_of}
-use Rattle.fleet_cli.specs.Solved.{tree_of}
+use Rattle.branch_bound.specs.Solved.{tree_of}
 use Rattle.fleet_cli.specs.Summary.{solved_files}
 use Rattle.fleet_cli.specs.Written.{held_with_texts, with_texts}
 use Rattle.fleet_cli.specs.declared.answer.Answer.{Answer}
-use Rattle.fleet_cli.specs.declared.solver.Solved.{Solved}
-use Rattle.fleet_cli.specs.declared.solver.Solved.TheVariants as solved
+use Rattle.branch_bound.specs.declared.solved.Solved.{Solved}
+use Rattle.branch_bound.specs.declared.solved.Solved.TheVariants as solved
 
 -- the proof's name isn't the plan's
 names_differ : (dir : List ℕ) → path_of dir desk_file.Proof ≢ path_of dir desk_file.Plan
@@ -41,13 +41,13 @@ other : (held : Files) (name written : List ℕ) (bytes : Option (List ℕ)) →
 other held name written bytes differ = update_other bytes_eq held written bytes name (bytes_eq-differ written name differ)
 
 module _ (held : Files) (dir : List ℕ) (t : Tables) where
-  plan_stands : (s : Solved) → with_texts held dir (solved_files t s) (path_of dir desk_file.Plan) ≡ plan_there t s (held (path_of dir desk_file.Plan))
+  pub plan_stands : (s : Solved) → with_texts held dir (solved_files t s) (path_of dir desk_file.Plan) ≡ plan_there t s (held (path_of dir desk_file.Plan))
   unfolding solved_files
   plan_stands (solved.Planned plan cost bound tree) = other (with_file held (path_of dir desk_file.Plan) (Some (plan_text t plan))) (path_of dir desk_file.Plan) (path_of dir desk_file.Proof) _ (names_differ dir) ∙ here held (path_of dir desk_file.Plan) _
   plan_stands (solved.Infeasible tree) = other held (path_of dir desk_file.Plan) (path_of dir desk_file.Proof) _ (names_differ dir)
   plan_stands (solved.Unsettled bound tree) = other held (path_of dir desk_file.Plan) (path_of dir desk_file.Proof) _ (names_differ dir)
 
-  proof_stands : (s : Solved) → with_texts held dir (solved_files t s) (path_of dir desk_file.Proof) ≡ Some (proof_text t (is_planned s) (tree_of s))
+  pub proof_stands : (s : Solved) → with_texts held dir (solved_files t s) (path_of dir desk_file.Proof) ≡ Some (proof_text t (is_planned s) (tree_of s))
   unfolding solved_files
   proof_stands (solved.Planned plan cost bound tree) = here (with_file held (path_of dir desk_file.Plan) (Some (plan_text t plan))) (path_of dir desk_file.Proof) _
   proof_stands (solved.Infeasible tree) = here held (path_of dir desk_file.Proof) _
@@ -55,11 +55,11 @@ module _ (held : Files) (dir : List ℕ) (t : Tables) where
 
 module _ (held : Files) (dir : List ℕ) (settings : Settings) (limits : SearchLimits) (answer : Answer) (code : ℕ) (told : Option Files) (before after : Option (List ℕ)) where
   solved_leaves : Answers held (Some (solve dir settings limits)) answer → code ≡ answer.status.code → told ≡ held_with_texts (Some held) dir answer.files → after ≡ output_with before answer.text → IsSolution code
-      → TellsSolution held told dir settings code before after
+      → TellsSolution held told dir settings limits code before after
   solved_leaves (inl long) is written put solution = absurd (not_refused code solution (is ∙ ap (λ (a : Answer). a.status.code) long.is))
   solved_leaves (inr read) is written put solution = by_contents read.answers
     where
-      by_contents : SolvesContents settings limits read.contents answer → TellsSolution held told dir settings code before after
+      by_contents : SolvesContents settings limits read.contents answer → TellsSolution held told dir settings limits code before after
       by_contents (inl refused) = absurd (not_refused code solution (is ∙ ap (λ (a : Answer). a.status.code) refused.is))
       by_contents (inr solves) = let given = solves.gives in record {
         stands = with_texts held dir (solved_files solves.tables given.solution);
@@ -70,7 +70,7 @@ module _ (held : Files) (dir : List ℕ) (settings : Settings) (limits : SearchL
           solution = given.solution;
           there = read.held;
           reads = solves.reads;
-          right = given.solves.right;
+          solves = given.solves;
           plan = plan_stands held dir solves.tables given.solution;
           proof = proof_stands held dir solves.tables given.solution;
           put = put ∙ ap (λ (a : Answer). output_with before a.text) given.is;

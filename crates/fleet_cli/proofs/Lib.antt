@@ -10,5 +10,6 @@ pub mod OneJudging
 pub mod Others
 pub mod Parts
 pub mod Pieces
-pub mod SolverFacts
+pub mod SolvedFiles
+pub mod SolvedHolds
 pub mod WrittenFacts

@@ -13,8 +13,8 @@ use Rattle.fleet_cli.specs.Answer.{Answers, JudgesContents, SolvesContents, judg
 use Rattle.fleet_cli.specs.Laws.{IsFixed}
 use Rattle.fleet_cli.specs.Run.{AnswersExactly, IsComplete, IsSolution, LegalThere, TablesThere}
 use Rattle.fleet_cli.specs.Summary.{solved_status}
-use Rattle.fleet_cli.specs.declared.solver.Solved.{Solved}
-use Rattle.fleet_cli.specs.declared.solver.Solved.TheVariants as solved
+use Rattle.branch_bound.specs.declared.solved.Solved.{Solved}
+use Rattle.branch_bound.specs.declared.solved.Solved.TheVariants as solved
 use Rattle.fleet_cli.specs.declared.answer.Answer.{Answer}
 use Rattle.fleet_cli.specs.declared.status.TheConstants.{BAD_INPUT, DONE}
 use Rattle.fleet_cli.specs.Texts.{verdict_text}
@@ -90,7 +90,7 @@ solved_there held dir settings limits answer (inr x) there =
     by_contents (inl refused) = absurd (tables.reads_no_fault (table_bytes there.contents) settings there.tables refused.file refused.row refused.kind there.reads refused.bad)
     by_contents (inr solves) = rw (ap (λ (a : Answer). a.status.code) solves.gives.is) (solution_status solves.gives.solution)
 
-complete_there : (held : Files) (asked : Option Asked) (answer : Answer) → Answers held asked answer → IsComplete held asked answer.status.code
+pub complete_there : (held : Files) (asked : Option Asked) (answer : Answer) → Answers held asked answer → IsComplete held asked answer.status.code
 complete_there held None answer answers = tt
 complete_there held (Some (judge dir settings)) answer answers = λ legal.
     let right = legal_answer held dir settings legal in

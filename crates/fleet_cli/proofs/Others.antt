@@ -21,8 +21,8 @@ use Rattle.fleet_cli.specs.Written.{StandsAfter, no_text, text_name, under, with
 use Rattle.fleet_cli.specs.declared.answer.Answer.{Answer}
 use Rattle.fleet_cli.specs.declared.answer.FileText.{FileText}
 use Rattle.fleet_cli.specs.declared.status.TheConstants.{FAULT, NO_MEMORY}
-use Rattle.fleet_cli.specs.declared.solver.Solved.{Solved}
-use Rattle.fleet_cli.specs.declared.solver.Solved.TheVariants as solved
+use Rattle.branch_bound.specs.declared.solved.Solved.{Solved}
+use Rattle.branch_bound.specs.declared.solved.Solved.TheVariants as solved
 
 -- ---- where nothing is written, all stands as it was
 
@@ -42,13 +42,13 @@ untold dir texts stands (inr part) = part.part.1
 -- ---- texts under other names
 
 module _ (dir name : List ℕ) where
-  abbrev IsOther : FileText → Type 0
+  abbrev pub IsOther : FileText → Type 0
   IsOther text = name ≢ path_of dir text.file
 
   file_keeps : (held : Files) (other : List ℕ) (bytes : Option (List ℕ)) → name ≢ other → with_file held other bytes name ≡ held name
   file_keeps held other bytes differ = update_other bytes_eq held other bytes name (bytes_eq-differ other name (λ same. differ (sym same)))
 
-  texts_keep : (held : Files) (texts : List FileText) → All IsOther texts → with_texts held dir texts name ≡ held name
+  pub texts_keep : (held : Files) (texts : List FileText) → All IsOther texts → with_texts held dir texts name ≡ held name
   texts_keep held [] others = refl
   texts_keep held (text ∷ texts) others =
       texts_keep (with_file held (path_of dir text.file) (Some text.bytes)) texts (λ k d within. others (suc k) d (omega arith)) ∙ file_keeps held (path_of dir text.file) (Some text.bytes) (others 0 text (omega arith))
@@ -62,7 +62,7 @@ module _ (dir name : List ℕ) where
 -- ---- the files of answers
 
 -- the files of a solution are the plan and the proof
-solved_others : (t : Tables) (s : Solved) (dir name : List ℕ) → name ≢ path_of dir desk_file.Plan → name ≢ path_of dir desk_file.Proof → All (IsOther dir name) (solved_files t s)
+pub solved_others : (t : Tables) (s : Solved) (dir name : List ℕ) → name ≢ path_of dir desk_file.Plan → name ≢ path_of dir desk_file.Proof → All (IsOther dir name) (solved_files t s)
 unfolding solved_files
 solved_others t (solved.Planned plan cost bound tree) dir name plan_differs proof_differs =
     All-from_recursion (IsOther dir name) (solved_files t (solved.Planned plan cost bound tree)) (plan_differs, (proof_differs, tt))

@@ -23,13 +23,13 @@ use Rattle.plan_judge.specs.declared.verdicts.Verdict.TheVariants as verdict
 use Rattle.plan_text.specs.Reading.{PlanBad, PlanReads}
 use Rattle.sched_read.specs.Reading.{BadAt, Reads, TableBytes}
 use Rattle.fleet_cli.specs.Gathered.{AllHeld, FirstTooLong, StandThere}
-use Rattle.fleet_cli.specs.Solved.{IsSolved}
+use Rattle.branch_bound.specs.Solved.{IsSolved}
 use Rattle.fleet_cli.specs.Summary.{solved_answer}
 use Rattle.fleet_cli.specs.Texts.{bad_input_text, checked_text, desk_file_of, plan_refused_text, proof_refused_text, usage_text, verdict_text}
 use Rattle.command_words.specs.Words.{Asked, check, judge, solve}
 use Rattle.command_words.specs.declared.command.SearchLimits.{SearchLimits}
 use Rattle.fleet_cli.specs.declared.answer.Answer.{Answer}
-use Rattle.fleet_cli.specs.declared.solver.Solved.{Solved}
+use Rattle.branch_bound.specs.declared.solved.Solved.{Solved}
 use Rattle.fleet_cli.specs.declared.status.TheConstants.{BAD_INPUT, DONE, REFUSED, USAGE}
 
 -- a status and a text, and no file
@@ -146,17 +146,17 @@ abbrev pub JudgesContents : Settings → List (List ℕ) → Answer → Type 0
 JudgesContents settings contents answer =
     RefusesTables (table_bytes contents) settings answer ⊎ AnswersPlan (table_bytes contents) settings (plan_bytes contents) answer
 
--- a solution of the tables is given, found with so many pivots allowed
-pub record GivesSolution (t : Tables) (pivots : ℕ) (answer : Answer) : Type 0 where
+-- a solution of the tables is given, found within the limits of the search
+pub record GivesSolution (t : Tables) (limits : SearchLimits) (answer : Answer) : Type 0 where
   pub solution : Solved
-  pub solves : IsSolved t pivots solution
+  pub solves : IsSolved t limits.nodes limits.pivots solution
   pub is : answer ≡ solved_answer t solution
 
 -- the tables read, and a solution of them is given
 pub record SolvesTables (bytes : TableBytes) (settings : Settings) (limits : SearchLimits) (answer : Answer) : Type 0 where
   pub tables : Tables
   pub reads : Reads bytes settings tables
-  pub gives : GivesSolution tables limits.pivots answer
+  pub gives : GivesSolution tables limits answer
 
 -- solving by the contents of the five files
 abbrev pub SolvesContents : Settings → SearchLimits → List (List ℕ) → Answer → Type 0

@@ -4,6 +4,7 @@ use Rattle.std.specs.Prelude.{◌≡◌, ℕ, List, Bool, true, false, Option, S
 use Rattle.cert_check.specs.Verdicts.{BoundsAll}
 use Rattle.cert_check.specs.declared.checked.Checked.TheVariants as checked
 use Rattle.command_words.specs.Words.{Asked, check, judge, solve}
+use Rattle.command_words.specs.declared.command.SearchLimits.{SearchLimits}
 use Rattle.fleet_model.specs.declared.parts.Settings.{Settings}
 use Rattle.fleet_model.specs.declared.tables.Tables.{Tables}
 use Rattle.bound_cert.specs.ProofText.{proof_text}
@@ -16,11 +17,11 @@ use Rattle.sched_read.specs.Reading.{Reads}
 use Rattle.fleet_cli.specs.Answer.{proof_files, table_bytes, table_files}
 use Rattle.fleet_cli.specs.Gathered.{AllHeld}
 use Rattle.fleet_cli.specs.Run.{IsSolution, PlanThere}
-use Rattle.fleet_cli.specs.Solved.{IsRight, tree_of}
+use Rattle.branch_bound.specs.Solved.{IsSolved, tree_of}
 use Rattle.fleet_cli.specs.Summary.{solved_status, summary_text}
 use Rattle.fleet_cli.specs.Texts.{checked_text}
-use Rattle.fleet_cli.specs.declared.solver.Solved.{Solved}
-use Rattle.fleet_cli.specs.declared.solver.Solved.TheVariants as solved
+use Rattle.branch_bound.specs.declared.solved.Solved.{Solved}
+use Rattle.branch_bound.specs.declared.solved.Solved.TheVariants as solved
 use Rattle.fleet_cli.specs.declared.status.TheConstants.{DONE}
 
 -- there is a plan
@@ -37,24 +38,25 @@ plan_there t (solved.Unsettled bound tree) before = before
 
 -- The five files read as tables. Under the plan's name stands the text of one legal plan, under the proof's name
 -- the text of one tree, and the summary with the plan's exact cost, the tree's bound and the status was put. No
--- legal assignment undercuts that bound; where it says infeasible, none is legal.
-pub record LeavesSolution (held stands : Files) (dir : List ℕ) (settings : Settings) (code : ℕ) (before after : Option (List ℕ)) : Type 0 where
+-- legal assignment undercuts that bound; it is the cost where no leaf is open, each open leaf has its cause, and where
+-- it says infeasible, none is legal.
+pub record LeavesSolution (held stands : Files) (dir : List ℕ) (settings : Settings) (limits : SearchLimits) (code : ℕ) (before after : Option (List ℕ)) : Type 0 where
   pub contents : List (List ℕ)
   pub tables : Tables
   pub solution : Solved
   pub there : AllHeld held dir table_files contents
   pub reads : Reads (table_bytes contents) settings tables
-  pub right : IsRight tables solution
+  pub solves : IsSolved tables limits.nodes limits.pivots solution
   pub plan : stands (path_of dir desk_file.Plan) ≡ plan_there tables solution (held (path_of dir desk_file.Plan))
   pub proof : stands (path_of dir desk_file.Proof) ≡ Some (proof_text tables (is_planned solution) (tree_of solution))
   pub put : after ≡ output_with before (summary_text tables solution)
   pub code_is : code ≡ solved_status solution
 
 -- the desk still tells what it holds, and it is what solving leaves
-pub record TellsSolution (held : Files) (told : Option Files) (dir : List ℕ) (settings : Settings) (code : ℕ) (before after : Option (List ℕ)) : Type 0 where
+pub record TellsSolution (held : Files) (told : Option Files) (dir : List ℕ) (settings : Settings) (limits : SearchLimits) (code : ℕ) (before after : Option (List ℕ)) : Type 0 where
   pub stands : Files
   pub tells : told ≡ Some stands
-  pub leaves : LeavesSolution held stands dir settings code before after
+  pub leaves : LeavesSolution held stands dir settings limits code before after
 
 -- a bound is there, and it is no more than a cost
 abbrev pub IsUnder : Option ℤ → ℤ → Type 0
@@ -81,4 +83,4 @@ abbrev pub Headline : Files → Option Asked → ℕ → Option Files → Option
 Headline held None code told before after = ⊤
 Headline held (Some (judge dir settings)) code told before after = ⊤
 Headline held (Some (check dir settings)) code told before after = code ≡ DONE → TellsBound held dir settings before after
-Headline held (Some (solve dir settings limits)) code told before after = IsSolution code → TellsSolution held told dir settings code before after
+Headline held (Some (solve dir settings limits)) code told before after = IsSolution code → TellsSolution held told dir settings limits code before after

@@ -5,7 +5,7 @@ pub mod Headline
 pub mod Laws
 pub mod Opened
 pub mod Run
-pub mod Solved
+pub mod SolvedChecked
 pub mod Summary
 pub mod Texts
 pub mod Written

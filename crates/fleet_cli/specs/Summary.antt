@@ -9,12 +9,12 @@ use Rattle.bound_cert.specs.declared.trees.Tree.{Tree}
 use Rattle.bound_cert.specs.declared.trees.TreeCounts.{TreeCounts}
 use Rattle.plan_desk.specs.declared.file.DeskFile.TheVariants as desk_file
 use Rattle.plan_text.specs.Text.{plan_text}
-use Rattle.fleet_cli.specs.Solved.{tree_of}
+use Rattle.branch_bound.specs.Solved.{tree_of}
 use Rattle.fleet_cli.specs.Texts.{fleet_lines, line_of}
 use Rattle.fleet_cli.specs.declared.answer.Answer.{Answer}
 use Rattle.fleet_cli.specs.declared.answer.FileText.{FileText}
-use Rattle.fleet_cli.specs.declared.solver.Solved.{Solved}
-use Rattle.fleet_cli.specs.declared.solver.Solved.TheVariants as solved
+use Rattle.branch_bound.specs.declared.solved.Solved.{Solved}
+use Rattle.branch_bound.specs.declared.solved.Solved.TheVariants as solved
 use Rattle.fleet_cli.specs.declared.status.TheConstants.{DONE, GAP, INFEASIBLE, UNSETTLED}
 
 -- how the search ended

@@ -9,7 +9,6 @@ mod judging;
 pub mod laws;
 mod refusing;
 mod running;
-pub mod solver;
 mod solving;
 mod status;
 mod summary;

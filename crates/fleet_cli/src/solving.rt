@@ -12,7 +12,7 @@ ghost use Rattle.plan_desk.specs.declared.file.TheConstants.{TABLE_LIMIT};
 use crate::answer::{Answer, Failure};
 use crate::gathering::{Stop, read_all};
 use crate::refusing::{tables_refused, too_long};
-use crate::solver::solve;
+use branch_bound::solve;
 use crate::status::Status;
 use crate::summary::{solved_files, status_of, summary};
 use command_words::SearchLimits;
@@ -87,7 +87,7 @@ fn solve_contents(
 
 /// Solves tables.
 fn solve_tables(alloc: Global, tables: &Tables, limits: SearchLimits) -> Result<Answer, NoMemory>
-    ensures answer { IfOk result (GivesSolution tables.now limits.pivots) }
+    ensures answer { IfOk result (GivesSolution tables.now limits) }
     ensures ends { IfOk result (λ answer. IsEnd answer.status.code) }
 {
     let solved = solve(alloc, tables, limits.nodes, limits.pivots)?;

@@ -2,13 +2,13 @@
 ghost use Rattle.std.specs.Prelude.{◌≡◌, ◌++◌, [], ◌∷◌, IfOk, OnOk, codes};
 ghost use Rattle.bound_cert.specs.OfTables.{IsOfTables};
 ghost use Rattle.fleet_cli.specs.Run.{IsEnd};
-ghost use Rattle.fleet_cli.specs.Solved.{PlanFits, tree_of};
+ghost use Rattle.branch_bound.specs.Solved.{PlanFits, tree_of};
 ghost use Rattle.fleet_cli.specs.Summary.{count_lines, number_word, outcome_word, plan_file, printed_bound, printed_cost, proof_file, result_lines, solved_files, solved_status, summary_text};
 ghost use Rattle.fleet_cli.specs.Texts.{line_of};
 ghost use Rattle.fleet_model.specs.Legal.{IsAssignment};
 
 use crate::answer::FileText;
-use crate::solver::Solved;
+use branch_bound::Solved;
 use crate::status::{DONE, GAP, INFEASIBLE, UNSETTLED};
 use crate::texts::{push_fleets, push_line};
 use bound_cert::{Tree, TreeCounts, write_proof};

@@ -1,0 +1,40 @@
+-- What solving leaves is checked, and holds.
+use Rattle.std.specs.Prelude.{◌≡◌, ℕ, ◌≤◌, List, length, All, Some}
+use Rattle.bound_cert.specs.ProofText.{proof_text}
+use Rattle.bound_cert.specs.ReadProof.{ReadsAs}
+use Rattle.bound_cert.specs.declared.reading.Proof.{Proof}
+use Rattle.cert_check.specs.Verdicts.{HoldsWith}
+use Rattle.command_words.specs.Words.{check, solve}
+use Rattle.command_words.specs.declared.command.SearchLimits.{SearchLimits}
+use Rattle.fleet_model.specs.declared.parts.Settings.{Settings}
+use Rattle.fleet_model.specs.declared.tables.Tables.{Tables}
+use Rattle.plan_desk.specs.Desk.{Files}
+use Rattle.fleet_cli.specs.Answer.{Answers}
+use Rattle.fleet_cli.specs.Gathered.{limit_of}
+use Rattle.fleet_cli.specs.Headline.{is_planned}
+use Rattle.fleet_cli.specs.Run.{IsSolution}
+use Rattle.branch_bound.specs.Solved.{tree_of}
+use Rattle.fleet_cli.specs.Summary.{printed_bound, printed_cost}
+use Rattle.fleet_cli.specs.Written.{with_texts}
+use Rattle.fleet_cli.specs.declared.answer.Answer.{Answer}
+use Rattle.fleet_cli.specs.declared.answer.FileText.{FileText}
+use Rattle.branch_bound.specs.declared.solved.Solved.{Solved}
+use Rattle.fleet_cli.specs.declared.status.TheConstants.{DONE}
+
+-- The text of a solution's proof reads; it says whether a plan comes with it as the solution has one, and its tree holds
+-- by that plan's cost and with the solution's bound.
+pub record ReadsAndHolds (t : Tables) (s : Solved) : Type 0 where
+  pub proof : Proof
+  pub reads : ReadsAs t (proof_text t (is_planned s) (tree_of s)) proof
+  pub says : proof.planned ≡ is_planned s
+  pub holds : HoldsWith t (printed_cost s) proof.tree (printed_bound s)
+
+-- each text is within the limit under which its file is read
+abbrev pub AreShort : List FileText → Type 0
+AreShort texts = All (λ text. length text.bytes ≤ limit_of text.file) texts
+
+-- where a solution was given and its files were written, checking answers that the proof holds
+abbrev pub SolvedIsChecked : Type 0
+SolvedIsChecked = (held : Files) (dir : List ℕ) (settings : Settings) (limits : SearchLimits) (solving checking : Answer)
+    → Answers held (Some (solve dir settings limits)) solving → IsSolution solving.status.code → AreShort solving.files
+    → Answers (with_texts held dir solving.files) (Some (check dir settings)) checking → checking.status.code ≡ DONE

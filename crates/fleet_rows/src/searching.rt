@@ -1,0 +1,286 @@
+//! What `solve` answers where it has to search, and what `check` says of the files that it leaves.
+use crate::rows::{CHECK, Laid, Row, failing, files, words};
+use fleet_cli::{DONE, GAP, INFEASIBLE, UNSETTLED, run};
+use plan_desk::DeskFile::{Costs, Fleets, Legs, Plan, Stations};
+use plan_desk::{MemoryDesk, MemorySink};
+use std::alloc::Global;
+use std::process::Abort;
+use std::test::Fail;
+
+/// A solve and then a check of what it leaves, and what is wanted of both.
+#[derive(Clone, Copy)]
+struct Search<'a> {
+    /// What is laid over the files of the first run.
+    laid: &'a [Laid<'static>],
+    /// The options of the solve.
+    options: &'a [&'static str],
+    status: u8,
+    /// What the solve prints.
+    text: &'a [u8],
+    /// The plan that stands then, where it is the only one that may.
+    plan: Option<&'a [u8]>,
+    /// How the proof ends.
+    proof_end: &'a [u8],
+    /// What the check prints.
+    checked: &'a [u8],
+}
+
+const SOLVE: [&str; 5] = ["fleetplan", "solve", "d", "--day-start", "00:00"];
+
+const NO_OPTIONS: &[&str] = &[];
+
+const NO_NODES: &[&str] = &["--nodes", "0"];
+
+// A plan of an earlier run, which is no plan of these tables.
+const OLD_PLAN: &[u8] = b"flight,fleet\nX1,F9\n";
+
+const OLD: Laid<'static> = Laid::Bytes(Plan, OLD_PLAN);
+
+// Three round trips of which each two overlap, over the first run.
+const TRIPS: Laid<'static> = Laid::Bytes(
+    Legs,
+    b"flight,from,dep,to,arr\nA1,HUB,00:00,SAA,07:00\nA2,SAA,07:00,HUB,16:00\n\
+        B1,HUB,08:00,SBB,15:00\nB2,SBB,16:00,HUB,00:00\n\
+        C1,HUB,16:00,SCC,22:00\nC2,SCC,23:00,HUB,08:00\n",
+);
+
+const HUB: Laid<'static> = Laid::Bytes(
+    Stations,
+    b"code,extra,maintenance\nHUB,0,yes\nSAA,0,yes\nSBB,0,yes\nSCC,0,yes\n",
+);
+
+const TWO_FLEETS: Laid<'static> = Laid::Bytes(Fleets, b"fleet,aircraft,turn\nF1,1,0\nF2,1,0\n");
+
+const THREE_FLEETS: Laid<'static> = Laid::Bytes(
+    Fleets,
+    b"fleet,aircraft,turn\nF1,1,0\nF2,1,0\nF3,1,0\n",
+);
+
+const TENS: Laid<'static> = Laid::Bytes(
+    Costs,
+    b"flight,fleet,cost\nA1,F1,10\nA1,F2,10\nA2,F1,10\nA2,F2,10\nB1,F1,10\nB1,F2,10\n\
+        B2,F1,10\nB2,F2,10\nC1,F1,10\nC1,F2,10\nC2,F1,10\nC2,F2,10\n",
+);
+
+const TENS_AND_FIFTIES: Laid<'static> = Laid::Bytes(
+    Costs,
+    b"flight,fleet,cost\nA1,F1,10\nA1,F2,10\nA1,F3,50\nA2,F1,10\nA2,F2,10\nA2,F3,50\n\
+        B1,F1,10\nB1,F2,10\nB1,F3,50\nB2,F1,10\nB2,F2,10\nB2,F3,50\n\
+        C1,F1,10\nC1,F2,10\nC1,F3,50\nC2,F1,10\nC2,F2,10\nC2,F3,50\n",
+);
+
+const BELOW_0: Laid<'static> = Laid::Bytes(
+    Costs,
+    b"flight,fleet,cost\nA1,F1,-7\nA1,F2,-6\nA2,F1,0\nA2,F2,0\nB1,F1,0\nB1,F2,0\n\
+        B2,F1,0\nB2,F2,0\nC1,F1,0\nC1,F2,0\nC2,F1,0\nC2,F2,0\n",
+);
+
+const TWO: &[Laid<'static>] = &[OLD, HUB, TWO_FLEETS, TRIPS, TENS];
+
+const THREE: &[Laid<'static>] = &[OLD, HUB, THREE_FLEETS, TRIPS, TENS_AND_FIFTIES];
+
+const EARNING: &[Laid<'static>] = &[OLD, HUB, TWO_FLEETS, TRIPS, BELOW_0];
+
+const OPTIMAL: &[u8] = b"outcome: optimal\ncost: 200\nbound: 200\nsplits: 0\n\
+    open: 0 nodes, 0 pivots, 0 grew\nfleet F1: used 1 of 1\nfleet F2: used 0 of 1\n";
+
+// Two legs that one fleet flies at least cost, though each leg alone is cheaper with another.
+const ROUND_TRIP: Search<'static> = Search {
+    laid: &[OLD],
+    options: NO_OPTIONS,
+    status: DONE,
+    text: OPTIMAL,
+    plan: Some(b"flight,fleet\nX1,F1\nX2,F1\n"),
+    proof_end: b"end\n",
+    checked: b"holds: cost 200 bound 200\n",
+};
+
+// Readiness and departure share a minute.
+const BACK_AT_ONCE: Search<'static> = Search {
+    laid: &[
+        OLD,
+        Laid::Bytes(
+            Legs,
+            b"flight,from,dep,to,arr\nX1,AAA,08:00,BBB,09:00\nX2,BBB,09:30,AAA,10:30\n",
+        ),
+    ],
+    ..ROUND_TRIP
+};
+
+// Without pivots the run stops at its first table, and the bound is the sum of the least costs.
+const NO_PIVOTS: Search<'static> = Search {
+    laid: &[OLD],
+    options: &["--pivots", "0"],
+    status: UNSETTLED,
+    text: b"outcome: unsettled\ncost: none\nbound: 180\nsplits: 0\n\
+        open: 0 nodes, 1 pivots, 0 grew\n",
+    plan: Some(OLD_PLAN),
+    proof_end: b"plan no\nopen pivots 0\nscale 1\nend\n",
+    checked: b"holds: bound 180\n",
+};
+
+// No aircraft: both fleets are removed from the first leg, each for want of aircraft.
+const NO_AIRCRAFT: Search<'static> = Search {
+    laid: &[
+        OLD,
+        Laid::Bytes(Fleets, b"fleet,aircraft,turn\nF1,0,30\nF2,0,30\n"),
+    ],
+    options: NO_OPTIONS,
+    status: INFEASIBLE,
+    text: b"outcome: infeasible\ncost: none\nbound: none\nsplits: 0\n\
+        open: 0 nodes, 0 pivots, 0 grew\n",
+    plan: Some(OLD_PLAN),
+    proof_end: b"plan no\n\
+        trim X1 F1\nrefuted\nscale 1\nrent F1 1\n\
+        at F1 AAA 0 1\nat F1 AAA 481 0\nat F1 BBB 0 1\nat F1 BBB 481 0\n\
+        trim X1 F2\nrefuted\nscale 1\nrent F2 1\n\
+        at F2 AAA 0 1\nat F2 AAA 481 0\nat F2 BBB 0 1\nat F2 BBB 481 0\n\
+        bare X1\nend\n",
+    checked: b"holds: infeasible\n",
+};
+
+#[test]
+fn round_trips(rt: HostRuntime) -> Result<(), Fail> {
+    run_search(&rt, &ROUND_TRIP)?;
+    run_search(&rt, &BACK_AT_ONCE)?;
+    run_search(&rt, &NO_PIVOTS)?;
+    run_search(&rt, &NO_AIRCRAFT)
+}
+
+// Half of each pair fits, and no legal assignment does.
+const TWO_AIRCRAFT: Search<'static> = Search {
+    laid: TWO,
+    options: NO_OPTIONS,
+    status: INFEASIBLE,
+    text: b"outcome: infeasible\ncost: none\nbound: none\nsplits: 1\n\
+        open: 0 nodes, 0 pivots, 0 grew\n",
+    plan: Some(OLD_PLAN),
+    proof_end: b"end\n",
+    checked: b"holds: infeasible\n",
+};
+
+const TWO_UNSPLIT: Search<'static> = Search {
+    options: NO_NODES,
+    status: UNSETTLED,
+    text: b"outcome: unsettled\ncost: none\nbound: 60\nsplits: 0\n\
+        open: 1 nodes, 0 pivots, 0 grew\n",
+    proof_end: b"mixed 2\nweight A1 F1 1\nweight A1 F2 1\nweight A2 F1 1\nweight A2 F2 1\n\
+        weight B1 F1 1\nweight B1 F2 1\nweight B2 F1 1\nweight B2 F2 1\n\
+        weight C1 F1 1\nweight C1 F2 1\nweight C2 F1 1\nweight C2 F2 1\nend\n",
+    checked: b"holds: bound 60\n",
+    ..TWO_AIRCRAFT
+};
+
+// Each leg costs 0, but for one that earns 6 or 7: the bound -13/2 is rounded towards the greater number.
+const EARNING_UNSPLIT: Search<'static> = Search {
+    laid: EARNING,
+    options: NO_NODES,
+    status: UNSETTLED,
+    text: b"outcome: unsettled\ncost: none\nbound: -6\nsplits: 0\n\
+        open: 1 nodes, 0 pivots, 0 grew\n",
+    plan: Some(OLD_PLAN),
+    proof_end: b"end\n",
+    checked: b"holds: bound -6\n",
+};
+
+#[test]
+fn half_of_each_pair(rt: HostRuntime) -> Result<(), Fail> {
+    run_search(&rt, &TWO_AIRCRAFT)?;
+    run_search(&rt, &TWO_UNSPLIT)?;
+    run_search(&rt, &EARNING_UNSPLIT)
+}
+
+// One round trip flies with the third fleet; whichever that is, each fleet uses its aircraft.
+const THREE_AIRCRAFT: Search<'static> = Search {
+    laid: THREE,
+    options: NO_OPTIONS,
+    status: DONE,
+    text: b"outcome: optimal\ncost: 140\nbound: 140\nsplits: 2\n\
+        open: 0 nodes, 0 pivots, 0 grew\nfleet F1: used 1 of 1\nfleet F2: used 1 of 1\n\
+        fleet F3: used 1 of 1\n",
+    plan: None,
+    proof_end: b"end\n",
+    checked: b"holds: cost 140 bound 140\n",
+};
+
+const THREE_SPLIT_ONCE: Search<'static> = Search {
+    options: &["--nodes", "1"],
+    status: GAP,
+    text: b"outcome: gap\ncost: 140\nbound: 100\nsplits: 1\n\
+        open: 1 nodes, 0 pivots, 0 grew\nfleet F1: used 1 of 1\nfleet F2: used 1 of 1\n\
+        fleet F3: used 1 of 1\n",
+    checked: b"holds: cost 140 bound 100\n",
+    ..THREE_AIRCRAFT
+};
+
+const THREE_UNSPLIT: Search<'static> = Search {
+    options: NO_NODES,
+    status: UNSETTLED,
+    text: b"outcome: unsettled\ncost: none\nbound: 60\nsplits: 0\n\
+        open: 1 nodes, 0 pivots, 0 grew\n",
+    plan: Some(OLD_PLAN),
+    checked: b"holds: bound 60\n",
+    ..THREE_AIRCRAFT
+};
+
+#[test]
+fn a_third_fleet(rt: HostRuntime) -> Result<(), Fail> {
+    run_search(&rt, &THREE_AIRCRAFT)?;
+    run_search(&rt, &THREE_SPLIT_ONCE)?;
+    run_search(&rt, &THREE_UNSPLIT)
+}
+
+/// Solves, compares what was put and what stands, and then checks it.
+fn run_search<R: Abort + Alloc<A = Global>>(rt: &R, search: &Search<'_>) -> Result<(), Fail> {
+    let alloc = rt.alloc();
+    let row = Row {
+        laid: search.laid,
+        words: CHECK,
+        status: DONE,
+        text: search.checked,
+        left: &[],
+    };
+    let mut desk = MemoryDesk::new(alloc, files(alloc, &row)?, failing(alloc, &[])?)?;
+    let mut sink = MemorySink::new(failing(alloc, &[])?);
+    let words = solve_words(alloc, search.options)?;
+    let status = run(alloc, words.as_slice(), &mut desk, &mut sink);
+    assert_eq!(rt; sink.put_bytes(), search.text);
+    assert_eq!(rt; status.code, search.status);
+    assert!(rt; search.plan.is_none() || desk.file("d/plan.csv") == search.plan);
+    assert!(rt; ends_with(desk.file("d/proof.txt"), search.proof_end));
+    run_check(rt, &row, &mut desk)
+}
+
+/// Checks what stands on a desk.
+fn run_check<R: Abort + Alloc<A = Global>>(
+    rt: &R,
+    row: &Row<'_, '_>,
+    desk: &mut MemoryDesk,
+) -> Result<(), Fail> {
+    let alloc = rt.alloc();
+    let mut sink = MemorySink::new(failing(alloc, &[])?);
+    let words = words(alloc, row)?;
+    let status = run(alloc, words.as_slice(), desk, &mut sink);
+    assert_eq!(rt; sink.put_bytes(), row.text);
+    assert_eq!(rt; status.code, row.status);
+    Ok(())
+}
+
+/// The words of a solve with options.
+fn solve_words(alloc: Global, options: &[&'static str]) -> Result<Vec<String>, Fail> {
+    let mut words = Vec::new(alloc);
+    for word in SOLVE {
+        words.push(String::from_str(alloc, word)?)?;
+    }
+    for option in options {
+        words.push(String::from_str(alloc, option)?)?;
+    }
+    Ok(words)
+}
+
+fn ends_with(bytes: Option<&[u8]>, end: &[u8]) -> bool {
+    match bytes {
+        Some(bytes) => bytes.ends_with(end),
+        None => false,
+    }
+}
