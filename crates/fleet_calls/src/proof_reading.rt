@@ -1,6 +1,6 @@
 //! Texts of proofs, read, and the first fault of each text that isn't one.
 use crate::schedules::{ROUND_TRIP, read};
-use bound_cert::{CertError, CertFault, Proof, Tree, read_proof};
+use bound_cert::{CertError, CertFault, Proof, Tree, read_proof, write_proof};
 use fleet_model::LoadError;
 use std::alloc::Global;
 use std::test::Fail;
@@ -18,6 +18,24 @@ fn fault_of(alloc: Global, text: &[u8]) -> Result<Option<(u64, u8)>, LoadError> 
         Err(CertError::Fault(CertFault { line, kind })) => Ok(Some((line, kind))),
         Err(CertError::NoMemory) => Err(LoadError::NoMemory),
     }
+}
+
+/// The text that what a text reads as is written as.
+fn written_again(alloc: Global, text: &[u8]) -> Result<Option<Vec<u8>>, LoadError> {
+    let tables = read(alloc, &ROUND_TRIP)?;
+    match read_proof(alloc, &tables, text) {
+        Ok(proof) => Ok(Some(write_proof(alloc, &tables, proof.planned, &proof.tree)?)),
+        Err(_) => Ok(None),
+    }
+}
+
+#[test]
+fn a_split_is_written_as_it_was_read(rt: HostRuntime) -> Result<(), Fail> {
+    let text: &[u8] =
+        b"fleet proof 1\nplan no\nsplit X1 F1\nscale 3\nmixed 2\nweight X1 F1 1\nweight X1 F2 1\nsole\nbare X2\nend\n";
+    let again = written_again(rt.alloc(), text)?;
+    assert_eq!(rt; again.as_deref(), Some(text));
+    Ok(())
 }
 
 #[test]
