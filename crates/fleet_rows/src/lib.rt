@@ -25,6 +25,8 @@ mod proofs;
 #[cfg(test)]
 mod rows;
 #[cfg(test)]
+mod searching;
+#[cfg(test)]
 mod solving;
 #[cfg(test)]
 mod stations;

@@ -54,7 +54,7 @@ pub const JUDGE: &[&str] = &["fleetplan", "judge", "d", "--day-start", "00:00"];
 const SOLVE: &[&str] = &["fleetplan", "solve", "d", "--day-start", "00:00"];
 
 /// The words of a check whose day starts at midnight.
-const CHECK: &[&str] = &["fleetplan", "check", "d", "--day-start", "00:00"];
+pub const CHECK: &[&str] = &["fleetplan", "check", "d", "--day-start", "00:00"];
 
 /// A row of a judge whose day starts at midnight.
 pub fn judged<'a, 'b>(laid: &'a [Laid<'b>], status: u8, text: &'a [u8]) -> Row<'a, 'b> {
@@ -226,7 +226,8 @@ fn path(alloc: Global, file: DeskFile) -> Result<String, Fail> {
     Ok(path)
 }
 
-fn files(alloc: Global, row: &Row<'_, '_>) -> Result<Vec<(String, Vec<u8>)>, Fail> {
+/// The files that lie on the desk before a run.
+pub fn files(alloc: Global, row: &Row<'_, '_>) -> Result<Vec<(String, Vec<u8>)>, Fail> {
     let mut files = Vec::new(alloc);
     for file in FOLDER {
         if let Some(bytes) = before(row, file) {
@@ -236,7 +237,8 @@ fn files(alloc: Global, row: &Row<'_, '_>) -> Result<Vec<(String, Vec<u8>)>, Fai
     Ok(files)
 }
 
-fn failing(alloc: Global, calls: &[u64]) -> Result<Vec<FailingCall>, Fail> {
+/// The calls that are to fail, by their numbers.
+pub fn failing(alloc: Global, calls: &[u64]) -> Result<Vec<FailingCall>, Fail> {
     let mut failing = Vec::new(alloc);
     for call in calls {
         failing.push(FailingCall::at(*call))?;
@@ -244,7 +246,8 @@ fn failing(alloc: Global, calls: &[u64]) -> Result<Vec<FailingCall>, Fail> {
     Ok(failing)
 }
 
-fn words(alloc: Global, row: &Row<'_, '_>) -> Result<Vec<String>, Fail> {
+/// The words of a row.
+pub fn words(alloc: Global, row: &Row<'_, '_>) -> Result<Vec<String>, Fail> {
     let mut words = Vec::new(alloc);
     for word in row.words {
         words.push(String::from_str(alloc, word)?)?;
