@@ -77,7 +77,10 @@ const SOLVED: &[(&[Laid<'static>], &[u8])] = &[
     (
         &[
             Laid::Bytes(Costs, b"flight,fleet,cost\nX1,F1,100\nX2,F2,130\n"),
-            Laid::Bytes(Proof, b"fleet proof 1\nplan no\nsole\nend\n"),
+            Laid::Bytes(
+                Proof,
+                b"fleet proof 1\nplan no\ntrim X1 F1\nrefuted\nscale 1\nat F1 AAA 0 1\nbare X1\nend\n",
+            ),
         ],
         INFEASIBLE,
     ),

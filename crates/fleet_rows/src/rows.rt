@@ -53,6 +53,17 @@ pub const JUDGE: &[&str] = &["fleetplan", "judge", "d", "--day-start", "00:00"];
 /// The words of a solve whose day starts at midnight.
 const SOLVE: &[&str] = &["fleetplan", "solve", "d", "--day-start", "00:00"];
 
+/// The words of a solve without pivots whose day starts at midnight.
+const SOLVE_AT_ONCE: &[&str] = &[
+    "fleetplan",
+    "solve",
+    "d",
+    "--day-start",
+    "00:00",
+    "--pivots",
+    "0",
+];
+
 /// The words of a check whose day starts at midnight.
 pub const CHECK: &[&str] = &["fleetplan", "check", "d", "--day-start", "00:00"];
 
@@ -80,6 +91,19 @@ pub fn solved<'a, 'b>(
         status,
         text,
         left,
+    }
+}
+
+/// A row of a solve without pivots whose day starts at midnight.
+pub fn solved_at_once<'a, 'b>(
+    laid: &'a [Laid<'b>],
+    status: u8,
+    text: &'a [u8],
+    left: &'a [Laid<'b>],
+) -> Row<'a, 'b> {
+    Row {
+        words: SOLVE_AT_ONCE,
+        ..solved(laid, status, text, left)
     }
 }
 

@@ -1,7 +1,7 @@
 //! What `solve` answers where it has to search, and what `check` says of the files that it leaves.
 use crate::rows::{CHECK, Laid, Row, failing, files, words};
 use fleet_cli::{DONE, GAP, INFEASIBLE, UNSETTLED, run};
-use plan_desk::DeskFile::{Costs, Fleets, Legs, Plan, Stations};
+use plan_desk::DeskFile::{Costs, Fleets, Legs, Plan, Stations, Throughs};
 use plan_desk::{MemoryDesk, MemorySink};
 use std::alloc::Global;
 use std::process::Abort;
@@ -107,6 +107,12 @@ const BACK_AT_ONCE: Search<'static> = Search {
     ..ROUND_TRIP
 };
 
+// No through pairs in a file of no bytes.
+const NO_THROUGHS: Search<'static> = Search {
+    laid: &[OLD, Laid::Bytes(Throughs, b"")],
+    ..ROUND_TRIP
+};
+
 // Without pivots the run stops at its first table, and the bound is the sum of the least costs.
 const NO_PIVOTS: Search<'static> = Search {
     laid: &[OLD],
@@ -143,6 +149,7 @@ const NO_AIRCRAFT: Search<'static> = Search {
 fn round_trips(rt: HostRuntime) -> Result<(), Fail> {
     run_search(&rt, &ROUND_TRIP)?;
     run_search(&rt, &BACK_AT_ONCE)?;
+    run_search(&rt, &NO_THROUGHS)?;
     run_search(&rt, &NO_PIVOTS)?;
     run_search(&rt, &NO_AIRCRAFT)
 }

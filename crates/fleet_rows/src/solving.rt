@@ -1,5 +1,5 @@
 //! What `solve` answers of tables, and the files that it writes.
-use crate::rows::{Counted, Laid, run_row, run_rows, solved};
+use crate::rows::{Counted, Laid, run_row, run_rows, solved, solved_at_once};
 use crate::tables::{OPEN, OPEN_PROOF};
 use fleet_cli::{BAD_INPUT, DONE, FAULT, INFEASIBLE, UNSETTLED};
 use plan_desk::DeskFile::{Costs, Fleets, Legs, Plan, Proof};
@@ -55,10 +55,10 @@ fn no_legs(rt: HostRuntime) -> Result<(), Fail> {
     run_rows(&rt, &[solved(&laid, DONE, text, &written)])
 }
 
-// The bound is the sum of the least costs, and the old plan stays.
+// Without pivots the bound is the sum of the least costs, and the old plan stays.
 #[test]
 fn two_choices(rt: HostRuntime) -> Result<(), Fail> {
-    run_rows(&rt, &[solved(TWO_CHOICES, UNSETTLED, OPEN, &[LEFT_OPEN])])
+    run_rows(&rt, &[solved_at_once(TWO_CHOICES, UNSETTLED, OPEN, &[LEFT_OPEN])])
 }
 
 // The leg without a fleet that comes first is told, and the old plan stays.
@@ -86,24 +86,32 @@ fn a_leg_without_a_fleet(rt: HostRuntime) -> Result<(), Fail> {
     Ok(())
 }
 
-// Unbalanced, and one aircraft too many.
+// Unbalanced, and one aircraft too many: the first leg's one fleet is removed, and the leg is bare.
 #[test]
 fn one_choice_that_is_not_legal(rt: HostRuntime) -> Result<(), Fail> {
     let crossed = [
         OLD,
         Laid::Bytes(Costs, b"flight,fleet,cost\nX1,F1,100\nX2,F2,130\n"),
     ];
+    let never_comes = [Laid::Bytes(
+        Proof,
+        b"fleet proof 1\nplan no\ntrim X1 F1\nrefuted\nscale 1\nat F1 AAA 0 1\nbare X1\nend\n",
+    )];
     let no_aircraft = [
         OLD,
         FIRST_FLEET,
         Laid::Bytes(Fleets, b"fleet,aircraft,turn\nF1,0,30\nF2,1,30\n"),
     ];
-    let written = [Laid::Bytes(Proof, b"fleet proof 1\nplan no\nsole\nend\n")];
+    let too_few = [Laid::Bytes(
+        Proof,
+        b"fleet proof 1\nplan no\ntrim X1 F1\nrefuted\nscale 1\nrent F1 1\nat F1 AAA 0 1\n\
+            at F1 AAA 481 0\nat F1 BBB 0 1\nat F1 BBB 481 0\nbare X1\nend\n",
+    )];
     run_rows(
         &rt,
         &[
-            solved(&crossed, INFEASIBLE, NONE_LEGAL, &written),
-            solved(&no_aircraft, INFEASIBLE, NONE_LEGAL, &written),
+            solved(&crossed, INFEASIBLE, NONE_LEGAL, &never_comes),
+            solved(&no_aircraft, INFEASIBLE, NONE_LEGAL, &too_few),
         ],
     )
 }
@@ -143,7 +151,7 @@ fn each_call_of_the_desk_fails(rt: HostRuntime) -> Result<(), Fail> {
     let row = solved(ONE_CHOICE, FAULT, b"fault: proof.txt\n", &[NEW_PLAN]);
     let counted = run_row(&rt, 1, &row, &[7], &[])?;
     assert_eq!(rt; counted, Counted { desk: 1, sink: 0 });
-    let row = solved(TWO_CHOICES, FAULT, b"fault: proof.txt\n", &[]);
+    let row = solved_at_once(TWO_CHOICES, FAULT, b"fault: proof.txt\n", &[]);
     let counted = run_row(&rt, 2, &row, &[6], &[])?;
     assert_eq!(rt; counted, Counted { desk: 1, sink: 0 });
     Ok(())
@@ -156,7 +164,7 @@ fn calls_that_are_not_made(rt: HostRuntime) -> Result<(), Fail> {
     let row = solved(ONE_CHOICE, DONE, OPTIMAL, &written);
     let counted = run_row(&rt, 0, &row, &[8, 9], &[2])?;
     assert_eq!(rt; counted, Counted { desk: 0, sink: 0 });
-    let row = solved(TWO_CHOICES, UNSETTLED, OPEN, &[LEFT_OPEN]);
+    let row = solved_at_once(TWO_CHOICES, UNSETTLED, OPEN, &[LEFT_OPEN]);
     let counted = run_row(&rt, 1, &row, &[7, 8], &[2])?;
     assert_eq!(rt; counted, Counted { desk: 0, sink: 0 });
     Ok(())
@@ -169,7 +177,7 @@ fn the_put_fails(rt: HostRuntime) -> Result<(), Fail> {
     let row = solved(ONE_CHOICE, FAULT, b"", &written);
     let counted = run_row(&rt, 0, &row, &[], &[1])?;
     assert_eq!(rt; counted, Counted { desk: 0, sink: 1 });
-    let row = solved(TWO_CHOICES, FAULT, b"", &[LEFT_OPEN]);
+    let row = solved_at_once(TWO_CHOICES, FAULT, b"", &[LEFT_OPEN]);
     let counted = run_row(&rt, 1, &row, &[], &[1])?;
     assert_eq!(rt; counted, Counted { desk: 0, sink: 1 });
     let row = solved(ONE_CHOICE, FAULT, b"", &[NEW_PLAN]);

@@ -22,7 +22,7 @@ pub const PLAN: &[u8] = b"flight,fleet\nX1,F1\nX2,F1\n";
 /// What the first run prints.
 pub const LEGAL: &[u8] = b"legal: cost 200\nfleet F1: used 1 of 1\nfleet F2: used 0 of 1\n";
 
-/// What a solve of the first run prints.
+/// What a solve of the first run without pivots prints.
 pub const OPEN: &[u8] = b"outcome: unsettled\ncost: none\nbound: 180\nsplits: 0\n\
     open: 0 nodes, 1 pivots, 0 grew\n";
 

@@ -1,8 +1,7 @@
 //! Texts of `throughs.csv`.
-use crate::rows::{Laid, run_readings, run_refusals, run_rows, solved};
-use crate::tables::{OPEN, OPEN_PROOF};
-use fleet_cli::{BAD_INPUT, UNSETTLED};
-use plan_desk::DeskFile::{Proof, Throughs};
+use crate::rows::{run_readings, run_refusals};
+use fleet_cli::BAD_INPUT;
+use plan_desk::DeskFile::Throughs;
 use std::test::Fail;
 
 // The text, and the line that is wanted.
@@ -136,11 +135,4 @@ fn throughs_that_are_refused(rt: HostRuntime) -> Result<(), Fail> {
 #[test]
 fn throughs_that_read(rt: HostRuntime) -> Result<(), Fail> {
     run_readings(&rt, Throughs, READ)
-}
-
-#[test]
-fn solving_no_throughs(rt: HostRuntime) -> Result<(), Fail> {
-    let laid = [Laid::Bytes(Throughs, b"")];
-    let written = [Laid::Bytes(Proof, OPEN_PROOF)];
-    run_rows(&rt, &[solved(&laid, UNSETTLED, OPEN, &written)])
 }

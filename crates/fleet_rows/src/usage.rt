@@ -123,7 +123,7 @@ const NOTHING_TO_SOLVE: &[&str] = &[
     "fleetplan solve d --nodes=-0",
     "fleetplan solve d --nodes 5.0",
     "fleetplan solve d --nodes 1 --nodes 2",
-    "fleetplan solve d --pivots 1",
+    "fleetplan solve d --pivots 1000001",
     "fleetplan solve d --pivots",
     "fleetplan solve d --pivots 0 --pivots 0",
     "fleetplan solve d --day-start 24:00",
@@ -185,11 +185,11 @@ fn words_that_judge(rt: HostRuntime) -> Result<(), Fail> {
 #[test]
 fn words_that_solve(rt: HostRuntime) -> Result<(), Fail> {
     let lines = [
-        "fleetplan solve d",
-        "fleetplan solve -- d",
-        "fleetplan solve d --nodes 0",
+        "fleetplan solve d --pivots 0",
+        "fleetplan solve --pivots 0 -- d",
+        "fleetplan solve d --nodes 0 --pivots 0",
         "fleetplan solve d --nodes 1000000 --pivots 0",
-        "fleetplan solve d --nodes=0000000000000000005 --day-start 00:00",
+        "fleetplan solve d --nodes=0000000000000000005 --pivots 0 --day-start 00:00",
         "fleetplan solve --pivots=00 --day-start=23:59 --nodes 5 -- d",
     ];
     run_lines(&rt, &lines, SOLVED)
