@@ -22,7 +22,7 @@ is_line_feed byte = eqb byte line_feed
 no_space : (word : List ℕ) → IsWord word → All (λ byte. is_space byte ≡ false) word
 no_space word is = All-weaker IsVisible (λ byte. is_space byte ≡ false) (λ byte visible. grind (arith, nat_tests, visible.no_less)) word is.visible
 
-no_line_feed : (bytes : List ℕ) → All IsPlain bytes → All (λ byte. is_line_feed byte ≡ false) bytes
+pub no_line_feed : (bytes : List ℕ) → All IsPlain bytes → All (λ byte. is_line_feed byte ≡ false) bytes
 no_line_feed bytes is = All-weaker IsPlain (λ byte. is_line_feed byte ≡ false) (λ byte plain. grind (arith, nat_tests, plain.no_less)) bytes is
 
 -- a line, cut at its spaces
@@ -32,7 +32,7 @@ words_back word (other ∷ others) are =
     slice_split_at is_space word space (join_with_byte space (other ∷ others)) (no_space word (All-head IsWord word (other ∷ others) are)) refl
     ∙ ap (λ rest. word ∷ rest) (words_back other others (All-tail IsWord word (other ∷ others) are))
 
-line_back : (line : Line) → IsOfWords line → slice_split is_space (join_with_byte space line) ≡ line
+pub line_back : (line : Line) → IsOfWords line → slice_split is_space (join_with_byte space line) ≡ line
 line_back [] is = absurd (omega (arith, is.some))
 line_back (word ∷ others) is = words_back word others is.words
 

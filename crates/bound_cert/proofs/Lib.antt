@@ -6,8 +6,16 @@ pub mod LeastWorth
 pub mod Lines
 pub mod LinesOfWords
 pub mod Numbers
+pub mod ReadBack
+pub mod ReadOfTables
 pub mod ReadOn
 pub mod ReadTree
 pub mod Sizes
 pub mod Words
+pub mod WrittenLines
+pub mod WrittenNames
+pub mod WrittenNodes
+pub mod WrittenNumbers
+pub mod WrittenPrices
+pub mod WrittenTrees
 pub mod ZeroPrices

@@ -9,7 +9,7 @@ use Rattle.fleet_model.specs.Schedule.{IsPair, fleet_of, fleets_in, leg_of, leg_
 use Rattle.fleet_model.specs.declared.tables.Tables.{Tables}
 use Rattle.bound_cert.specs.OfTables.{ArePricesOf, IsCauseOf, IsMixedOf, IsOfTables, IsStepOf, IsWeightOf}
 use Rattle.bound_cert.specs.Prices.{rent_of}
-use Rattle.bound_cert.specs.ProofText.{Line, at_line, bare_line, cause_lines, end_line, head_line, mixed_lines, node_lines, open_line, plan_line, price_lines, priced_line, proof_lines, refuted_line, rent_line, rent_lines, rent_lines_at, scale_line, sole_line, space, split_line, step_lines, tree_lines, trim_line, weight_line, weight_lines}
+use Rattle.bound_cert.specs.ProofText.{Line, at_line, bare_line, cause_lines, end_line, head_line, mixed_line, mixed_lines, node_lines, open_line, plan_line, price_lines, priced_line, proof_lines, refuted_line, rent_line, rent_lines, rent_lines_at, scale_line, sole_line, space, split_line, step_lines, tree_lines, trim_line, weight_line, weight_lines}
 use Rattle.bound_cert.specs.Words.{IsOfWords, IsPlain, IsPlainLine, IsVisible, IsWord}
 use Rattle.bound_cert.specs.declared.mixed.Mixed.{Mixed}
 use Rattle.bound_cert.specs.declared.mixed.Weight.{Weight}
@@ -24,26 +24,26 @@ use Rattle.bound_cert.proofs.Words.{fleet_word, flight_word, number_word, signed
 of_words : (word : List ℕ) (others : List (List ℕ)) → IsWord word → All IsWord others → IsOfWords (word ∷ others)
 of_words word others one more = record { some = omega arith; words = All-cons IsWord word others one more }
 
-head_is : IsOfWords head_line
+pub head_is : IsOfWords head_line
 head_is = of_words _ _ (written _ _ refl) (All-from_recursion IsWord (codes "proof" ∷ codes "1" ∷ []) (written _ _ refl, (written _ _ refl, tt)))
 
-plan_is : (planned : Bool) → IsOfWords (plan_line planned)
+pub plan_is : (planned : Bool) → IsOfWords (plan_line planned)
 plan_is true = of_words _ _ (written _ _ refl) (All-from_recursion IsWord (codes "yes" ∷ []) (written _ _ refl, tt))
 plan_is false = of_words _ _ (written _ _ refl) (All-from_recursion IsWord (codes "no" ∷ []) (written _ _ refl, tt))
 
-bare_is : (t : Tables) (l : ℕ) → l < legs_in t → IsOfWords (bare_line t l)
+pub bare_is : (t : Tables) (l : ℕ) → l < legs_in t → IsOfWords (bare_line t l)
 bare_is t l leg = of_words _ _ (written _ _ refl) (All-from_recursion IsWord ((leg_of t l).flight ∷ []) (flight_word t l leg, tt))
 
-sole_is : IsOfWords sole_line
+pub sole_is : IsOfWords sole_line
 sole_is = of_words _ _ (written _ _ refl) (All-nil IsWord)
 
-refuted_is : IsOfWords refuted_line
+pub refuted_is : IsOfWords refuted_line
 refuted_is = of_words _ _ (written _ _ refl) (All-nil IsWord)
 
-priced_is : IsOfWords priced_line
+pub priced_is : IsOfWords priced_line
 priced_is = of_words _ _ (written _ _ refl) (All-nil IsWord)
 
-open_is : (why : Cause) → IsOfWords (open_line why)
+pub open_is : (why : Cause) → IsOfWords (open_line why)
 open_is (cause.Nodes mixed) = of_words _ _ (written _ _ refl) (All-from_recursion IsWord (codes "nodes" ∷ []) (written _ _ refl, tt))
 open_is (cause.Pivots made) =
     of_words _ _ (written _ _ refl) (All-from_recursion IsWord (codes "pivots" ∷ decimal made ∷ []) (written _ _ refl, (number_word made, tt)))
@@ -55,37 +55,40 @@ open_is (cause.Lift step at) =
     of_words _ _ (written _ _ refl)
     (All-from_recursion IsWord (codes "lift" ∷ decimal step ∷ decimal at ∷ []) (written _ _ refl, (number_word step, (number_word at, tt))))
 
-trim_is : (t : Tables) (l f : ℕ) → IsPair t (leg_on l f) → IsOfWords (trim_line t l f)
+pub trim_is : (t : Tables) (l f : ℕ) → IsPair t (leg_on l f) → IsOfWords (trim_line t l f)
 trim_is t l f is =
     of_words _ _ (written _ _ refl)
     (All-from_recursion IsWord ((leg_of t l).flight ∷ (fleet_of t f).name ∷ []) (flight_word t l is.leg, (fleet_word t f is.fleet, tt)))
 
-split_is : (t : Tables) (l f : ℕ) → IsPair t (leg_on l f) → IsOfWords (split_line t l f)
+pub split_is : (t : Tables) (l f : ℕ) → IsPair t (leg_on l f) → IsOfWords (split_line t l f)
 split_is t l f is =
     of_words _ _ (written _ _ refl)
     (All-from_recursion IsWord ((leg_of t l).flight ∷ (fleet_of t f).name ∷ []) (flight_word t l is.leg, (fleet_word t f is.fleet, tt)))
 
-weight_is : (t : Tables) (entry : Weight) → IsWeightOf t entry → IsOfWords (weight_line t entry)
+pub weight_is : (t : Tables) (entry : Weight) → IsWeightOf t entry → IsOfWords (weight_line t entry)
 weight_is t entry is =
     of_words _ _ (written _ _ refl)
     (All-from_recursion IsWord ((leg_of t entry.leg).flight ∷ (fleet_of t entry.fleet).name ∷ signed_decimal entry.weight ∷ [])
     (flight_word t entry.leg is.leg, (fleet_word t entry.fleet is.fleet, (signed_word entry.weight, tt))))
 
-scale_is : (scale : ℤ) → IsOfWords (scale_line scale)
+pub scale_is : (scale : ℤ) → IsOfWords (scale_line scale)
 scale_is scale = of_words _ _ (written _ _ refl) (All-from_recursion IsWord (signed_decimal scale ∷ []) (signed_word scale, tt))
 
-rent_is : (t : Tables) (f : ℕ) (rent : ℤ) → f < fleets_in t → IsOfWords (rent_line t f rent)
+pub mixed_line_is : (scale : ℤ) → IsOfWords (mixed_line scale)
+mixed_line_is scale = of_words _ _ (written _ _ refl) (All-from_recursion IsWord (signed_decimal scale ∷ []) (signed_word scale, tt))
+
+pub rent_is : (t : Tables) (f : ℕ) (rent : ℤ) → f < fleets_in t → IsOfWords (rent_line t f rent)
 rent_is t f rent fleet =
     of_words _ _ (written _ _ refl)
     (All-from_recursion IsWord ((fleet_of t f).name ∷ signed_decimal rent ∷ []) (fleet_word t f fleet, (signed_word rent, tt)))
 
-at_is : (t : Tables) (step : PriceStep) → IsStepOf t step → IsOfWords (at_line t step)
+pub at_is : (t : Tables) (step : PriceStep) → IsStepOf t step → IsOfWords (at_line t step)
 at_is t step is =
     of_words _ _ (written _ _ refl)
     (All-from_recursion IsWord ((fleet_of t step.fleet).name ∷ (station_of t step.station).code ∷ decimal step.minute ∷ signed_decimal step.value ∷ [])
     (fleet_word t step.fleet is.fleet, (station_word t step.station is.station, (number_word step.minute, (signed_word step.value, tt)))))
 
-end_is : IsOfWords end_line
+pub end_is : IsOfWords end_line
 end_is = of_words _ _ (written _ _ refl) (All-nil IsWord)
 
 -- the lines of a proof
@@ -102,23 +105,23 @@ rents_at_are t prices f fleet =
     let line = rent_line t f (rent_of prices f) in
     either_lines (int_eq (rent_of prices f) (pos 0)) [] (line ∷ []) (All-nil IsOfWords) (one_line line (rent_is t f (rent_of prices f) fleet))
 
-rents_are : (t : Tables) (prices : Prices) (n first : ℕ) → first + n ≤ fleets_in t → All IsOfWords (flat_map (rent_lines_at t prices) (range_with_len first n))
+pub rents_are : (t : Tables) (prices : Prices) (n first : ℕ) → first + n ≤ fleets_in t → All IsOfWords (flat_map (rent_lines_at t prices) (range_with_len first n))
 rents_are t prices zero first within = All-nil IsOfWords
 rents_are t prices (suc n) first within =
     All-append IsOfWords (rent_lines_at t prices first) _ (rents_at_are t prices first (omega arith)) (rents_are t prices n (first + 1) (omega arith))
 
-prices_are : (t : Tables) (prices : Prices) → ArePricesOf t prices → All IsOfWords (price_lines t prices)
+pub prices_are : (t : Tables) (prices : Prices) → ArePricesOf t prices → All IsOfWords (price_lines t prices)
 prices_are t prices is =
     All-cons IsOfWords (scale_line prices.scale) _ (scale_is prices.scale)
     (All-append IsOfWords (rent_lines t prices (fleets_in t)) (step_lines t prices.steps) (rents_are t prices (fleets_in t) 0 (omega arith))
     (All-map IsOfWords (at_line t) prices.steps (All-weaker (IsStepOf t) (λ step. IsOfWords (at_line t step)) (at_is t) prices.steps is)))
 
-mixed_are : (t : Tables) (mixed : Mixed) → IsMixedOf t mixed → All IsOfWords (mixed_lines t mixed)
+pub mixed_are : (t : Tables) (mixed : Mixed) → IsMixedOf t mixed → All IsOfWords (mixed_lines t mixed)
 mixed_are t mixed is =
-    All-cons IsOfWords (scale_line mixed.scale) (weight_lines t mixed.weights) (scale_is mixed.scale)
+    All-cons IsOfWords (mixed_line mixed.scale) (weight_lines t mixed.weights) (mixed_line_is mixed.scale)
     (All-map IsOfWords (weight_line t) mixed.weights (All-weaker (IsWeightOf t) (λ entry. IsOfWords (weight_line t entry)) (weight_is t) mixed.weights is))
 
-cause_are : (t : Tables) (why : Cause) → IsCauseOf t why → All IsOfWords (cause_lines t why)
+pub cause_are : (t : Tables) (why : Cause) → IsCauseOf t why → All IsOfWords (cause_lines t why)
 cause_are t (cause.Nodes mixed) is = mixed_are t mixed is
 cause_are t (cause.Pivots made) is = All-nil IsOfWords
 cause_are t (cause.Grew pivots row column) is = All-nil IsOfWords

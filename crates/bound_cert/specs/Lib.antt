@@ -16,3 +16,4 @@ pub mod Reading
 pub mod Sizes
 pub mod Words
 pub mod Worth
+pub mod WrittenOrder

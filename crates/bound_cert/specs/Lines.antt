@@ -76,6 +76,7 @@ unfoldable pub width_of : Due → List (List ℕ) → Option ℕ
 width_of due.Plan words = if stands words 0 (codes "plan") && (stands words 1 (codes "yes") || stands words 1 (codes "no")) then Some 2 else None
 width_of due.Node words = node_width words
 width_of due.Scale words = width_after (codes "scale") 2 words
+width_of due.Mixed words = width_after (codes "mixed") 2 words
 width_of due.Rent words = width_after (codes "rent") 3 words
 width_of due.Step words = width_after (codes "at") 5 words
 width_of due.Weight words = width_after (codes "weight") 4 words

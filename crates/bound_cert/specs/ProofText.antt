@@ -78,6 +78,10 @@ split_line t l f = codes "split" ∷ (leg_of t l).flight ∷ (fleet_of t f).name
 abbrev pub scale_line : ℤ → Line
 scale_line scale = codes "scale" ∷ signed_decimal scale ∷ []
 
+-- mixed Q
+abbrev pub mixed_line : ℤ → Line
+mixed_line scale = codes "mixed" ∷ signed_decimal scale ∷ []
+
 -- rent FLEET R
 abbrev pub rent_line : Tables → ℕ → ℤ → Line
 rent_line t f rent = codes "rent" ∷ (fleet_of t f).name ∷ signed_decimal rent ∷ []
@@ -116,7 +120,7 @@ weight_lines t = map (weight_line t)
 
 -- the lines of a fractional assignment: the scale, the weights
 abbrev pub mixed_lines : Tables → Mixed → List Line
-mixed_lines t mixed = scale_line mixed.scale ∷ weight_lines t mixed.weights
+mixed_lines t mixed = mixed_line mixed.scale ∷ weight_lines t mixed.weights
 
 -- the lines of a cause behind the prices of its leaf
 abbrev pub cause_lines : Tables → Cause → List Line

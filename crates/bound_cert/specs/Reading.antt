@@ -16,6 +16,7 @@ use Rattle.bound_cert.specs.declared.nodes.Node.{Node}
 use Rattle.bound_cert.specs.declared.nodes.Node.TheVariants as node
 use Rattle.bound_cert.specs.declared.prices.Prices.{Prices}
 use Rattle.bound_cert.specs.declared.prices.PriceStep.{PriceStep}
+use Rattle.bound_cert.specs.declared.reading_lines.Due.{Due}
 use Rattle.bound_cert.specs.declared.reading_lines.Due.TheVariants as due
 use Rattle.bound_cert.specs.declared.trees.Cause.TheVariants as cause
 
@@ -28,10 +29,10 @@ in_order false left = stopped left WRONG_ORDER
 abbrev pub rent_follows : ℕ → ℕ → ℤ → Bool
 rent_follows least fleet rent = nat_le least fleet && not (int_eq rent (pos 0))
 
--- the scale that the first line says
-unfoldable pub scale_at : Left → Reading ℤ
-scale_at left = do
-  words ← line_due due.Scale left
+-- the scale that the first line says, which is due to be of this kind
+unfoldable pub scale_at : Due → Left → Reading ℤ
+scale_at kind left = do
+  words ← line_due kind left
   present (number_in (word_at words 1)) left WRONG_NUMBER
 
 -- a rent by the words of its line, with its fleet
@@ -130,7 +131,7 @@ steps_from t steps before (line ∷ rest) =
 -- the prices that the next lines say, and what is left behind them
 unfoldable pub prices_at : Tables → Left → Reading (Prices × Left)
 prices_at t left = do
-  scale ← scale_at left
+  scale ← scale_at due.Scale left
   rents ← rents_from t [] (drop 1 left)
   steps ← steps_from t [] None rents.1
   Ok (record { scale = scale; rents = rents.0; steps = steps.0 }, steps.1)
@@ -177,7 +178,7 @@ weights_from t weights before (line ∷ rest) =
 -- the fractional assignment that the next lines say, and what is left behind them
 unfoldable pub mixed_at : Tables → Left → Reading (Mixed × Left)
 mixed_at t left = do
-  scale ← scale_at left
+  scale ← scale_at due.Mixed left
   weights ← weights_from t [] None (drop 1 left)
   Ok (record { scale = scale; weights = weights.0 }, weights.1)
 

@@ -1,11 +1,14 @@
 //! The laws of bounds and of proof texts, over all tables, subproblems, prices and trees. Each function is a law: its
 //! contract is the statement, and it does nothing.
-ghost use Rattle.std.specs.Prelude.{◌≡◌, Bool, All};
+ghost use Rattle.std.specs.Prelude.{◌≡◌, Bool, All, Ok};
 ghost use Rattle.fleet_model.specs.declared.tables.Tables.{Tables};
 ghost use Rattle.bound_cert.specs.Duality.{CeilingIsLowerBound, WeakDuality, WorthIsLowerBound, WorthRefutes, ZeroIsProper};
+ghost use Rattle.bound_cert.specs.Lines.{left_of};
+ghost use Rattle.bound_cert.specs.Nodes.{nodes_of, proof_at};
 ghost use Rattle.bound_cert.specs.OfTables.{IsOfTables};
 ghost use Rattle.bound_cert.specs.ProofText.{proof_lines, proof_text};
 ghost use Rattle.bound_cert.specs.Words.{IsOfWords, IsPlainLine};
+ghost use Rattle.bound_cert.specs.WrittenOrder.{InWrittenOrder, IsShallow};
 ghost use Rattle.bound_cert.specs.declared.trees.Tree.{Tree};
 
 /// Prices that are all 0, over the scale 1 and with no rents, are proper.
@@ -48,4 +51,16 @@ pub fn lines_are_plain()
 pub fn text_tells_lines()
     ensures { (t u : Tables) (a b : Bool) (x y : Tree) → IsOfTables t x → IsOfTables u y → proof_text t a x ≡ proof_text u b y
         → proof_lines t a x ≡ proof_lines u b y }
+{}
+
+/// The text of a proof whose tree is in written order, and no deeper than a reader takes, reads as that proof.
+pub fn reads_what_was_written()
+    ensures { (t : Tables) (planned : Bool) (tree : Tree) → InWrittenOrder t tree → IsShallow tree
+        → proof_at t (left_of (proof_text t planned tree)) ≡ Ok (planned, nodes_of tree) }
+{}
+
+/// Proofs of one text are one, where their trees are in written order and no deeper than a reader takes.
+pub fn one_text()
+    ensures { (t : Tables) (a b : Bool) (x y : Tree) → InWrittenOrder t x → IsShallow x → InWrittenOrder t y → IsShallow y → proof_text t a x ≡ proof_text t b y
+        → (a ≡ b) × (nodes_of x ≡ nodes_of y) }
 {}

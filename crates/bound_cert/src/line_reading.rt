@@ -14,12 +14,12 @@ use entries::NoMemory;
 use fleet_model::Tables;
 use std::alloc::Global;
 
-/// The scale that the first line says.
+/// The scale that the first line says, which is due to be of a kind.
 #[tactic(auto, unfolding(crate::specs::Reading::scale_at))]
-pub fn scale_at(alloc: Global, left: &[&[u8]]) -> Result<i128, Stop>
-    ensures { Gives (λ scale. scale) result (scale_at (seen left.now)) }
+pub fn scale_at(alloc: Global, due: Due, left: &[&[u8]]) -> Result<i128, Stop>
+    ensures { Gives (λ scale. scale) result (scale_at due (seen left.now)) }
 {
-    let words = line_due(alloc, Due::Scale, left)?;
+    let words = line_due(alloc, due, left)?;
     Ok(number_at(alloc, words.as_slice(), 1, left)?)
 }
 

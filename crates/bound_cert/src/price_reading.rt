@@ -9,7 +9,7 @@ use crate::known::Known;
 use crate::line_reading::{rent_at, scale_at, step_at, weight_at};
 use crate::mixed::{Mixed, Weight};
 use crate::prices::{PriceStep, Prices};
-use crate::reading_lines::{first_words, stands};
+use crate::reading_lines::{Due, first_words, stands};
 use entries::{Entries, NoMemory};
 use fleet_model::Tables;
 use std::alloc::Global;
@@ -25,7 +25,7 @@ pub fn prices_at<'a, 'b>(
     requires { IsKnownOf tables.now known.now }
     ensures { Gives (λ r. (r.0, seen r.1.now)) result (prices_at tables.now (seen left.now)) }
 {
-    let scale = scale_at(alloc, left)?;
+    let scale = scale_at(alloc, Due::Scale, left)?;
     let (rents, rest) = rents_from(alloc, tables, known, behind(left))?;
     let (steps, rest) = steps_from(alloc, tables, known, rest)?;
     let prices = Prices {
@@ -47,7 +47,7 @@ pub fn mixed_at<'a, 'b>(
     requires { IsKnownOf tables.now known.now }
     ensures { Gives (λ r. (r.0, seen r.1.now)) result (mixed_at tables.now (seen left.now)) }
 {
-    let scale = scale_at(alloc, left)?;
+    let scale = scale_at(alloc, Due::Mixed, left)?;
     let (weights, rest) = weights_from(alloc, tables, known, behind(left))?;
     Ok((Mixed { scale, weights }, rest))
 }

@@ -1,8 +1,9 @@
 //! The text of a proof, read.
-ghost use Rattle.std.specs.Prelude.{◌≡◌, drop, MatchResult};
+ghost use Rattle.std.specs.Prelude.{◌≡◌, drop, IfOk, MatchResult};
 ghost use Rattle.bound_cert.specs.Known.{IsKnownOf};
 ghost use Rattle.bound_cert.specs.Lines.{Gives, left_of, seen};
 ghost use Rattle.bound_cert.specs.Nodes.{end_at, head_is, nodes_of, nothing, plan_at, proof_at, rest_at, tree_at};
+ghost use Rattle.bound_cert.specs.OfTables.{IsOfTables};
 ghost use Rattle.bound_cert.specs.ReadProof.{FaultOf, ReadsAs};
 
 use crate::faults::{BAD_LINE, CertError, CertFault, Stop, WRONG_HEAD, WRONG_WORD};
@@ -24,8 +25,10 @@ pub struct Proof {
 }
 
 /// The proof that a text says, else the first fault of the text: its first bad line, and there the least kind.
+/// All that its tree names is of the tables.
 pub fn read_proof(alloc: Global, tables: &Tables, bytes: &[u8]) -> Result<Proof, CertError>
-    ensures { MatchResult result (ReadsAs tables.now bytes.now) (FaultOf tables.now bytes.now) }
+    ensures reads { MatchResult result (ReadsAs tables.now bytes.now) (FaultOf tables.now bytes.now) }
+    ensures of_tables { IfOk result (λ proof. IsOfTables tables.now proof.tree) }
 {
     let lines = left_of(alloc, bytes)?;
     let known = Known::of(alloc, tables)?;

@@ -15,8 +15,10 @@ pub enum Due {
     Plan,
     /// The first line of a node.
     Node,
-    /// A scale.
+    /// The scale of prices.
     Scale,
+    /// The scale of a fractional assignment.
+    Mixed,
     /// A rent.
     Rent,
     /// A step of a price.
@@ -144,6 +146,7 @@ fn width_of(due: Due, words: &[&[u8]]) -> Option<usize>
         Due::Plan => plan_width(words),
         Due::Node => node_width(words),
         Due::Scale => width_after(b"scale", 2, words),
+        Due::Mixed => width_after(b"mixed", 2, words),
         Due::Rent => width_after(b"rent", 3, words),
         Due::Step => width_after(b"at", 5, words),
         Due::Weight => width_after(b"weight", 4, words),

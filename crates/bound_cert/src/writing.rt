@@ -2,7 +2,7 @@
 ghost use Rattle.std.specs.Prelude.{◌≡◌, ◌++◌, ◌<◌, ◌∷◌, [], All, IfOk, OnOk, map};
 ghost use Rattle.fleet_model.specs.Schedule.{IsPair, fleet_of, fleets_in, leg_of, leg_on};
 ghost use Rattle.bound_cert.specs.OfTables.{ArePricesOf, IsCauseOf, IsMixedOf, IsOfTables, IsStepOf, IsWeightOf};
-ghost use Rattle.bound_cert.specs.ProofText.{at_line, cause_lines, line_of, lines_of, mixed_lines, node_lines, open_line, plan_line, price_lines, proof_text, rent_lines, rent_lines_at, scale_line, space, step_lines, tree_lines, weight_line, weight_lines};
+ghost use Rattle.bound_cert.specs.ProofText.{at_line, cause_lines, line_of, lines_of, mixed_line, mixed_lines, node_lines, open_line, plan_line, price_lines, proof_text, rent_lines, rent_lines_at, scale_line, space, step_lines, tree_lines, weight_line, weight_lines};
 ghost use Rattle.bound_cert.specs.declared.trees.Cause.TheVariants.{Grew, Lift};
 
 use crate::mixed::{Mixed, Weight};
@@ -229,8 +229,16 @@ fn push_mixed(
     requires { IsMixedOf tables.now mixed.now }
     ensures { OnOk result (text.new.items ≡ text.old.items ++ lines_of (mixed_lines tables.now mixed.now)) }
 {
-    push_scale(alloc, text, mixed.scale)?;
+    push_mixed_scale(alloc, text, mixed.scale)?;
     push_weights(alloc, text, tables, mixed.weights.as_slice())
+}
+
+/// Appends `mixed Q`.
+fn push_mixed_scale(alloc: Global, text: &mut Vec<u8>, scale: i128) -> Result<(), NoMemory>
+    ensures { OnOk result (text.new.items ≡ text.old.items ++ line_of (mixed_line scale)) }
+{
+    let scale = scale.to_string(alloc)?;
+    push_line(text, b"mixed", &[scale.as_bytes()])
 }
 
 /// Appends the lines of weights.

@@ -58,7 +58,7 @@ fn a_leaf_that_prices_refute(rt: HostRuntime) -> Result<(), Fail> {
 #[test]
 fn trees_of_all_nodes(rt: HostRuntime) -> Result<(), Fail> {
     let text: &[u8] =
-        b"fleet proof 1\nplan yes\ntrim X1 F2\nbare X1\nsplit X2 F1\nscale 3\nscale 2\nweight X1 F1 2\nweight X2 F1 1\nweight X2 F2 1\ntrim X2 F2\nopen grew 1 2 3\nscale 1\nopen lift 4 5\nscale 1\ntrim X2 F1\nopen nodes\nscale 1\nscale 1\nopen pivots 18446744073709551615\nscale -170141183460469231731687303715884105727\nend\n";
+        b"fleet proof 1\nplan yes\ntrim X1 F2\nbare X1\nsplit X2 F1\nscale 3\nmixed 2\nweight X1 F1 2\nweight X2 F1 1\nweight X2 F2 1\ntrim X2 F2\nopen grew 1 2 3\nscale 1\nopen lift 4 5\nscale 1\ntrim X2 F1\nopen nodes\nscale 1\nmixed 1\nopen pivots 18446744073709551615\nscale -170141183460469231731687303715884105727\nend\n";
     let proof = proof_of(rt.alloc(), text)?.expect(&rt, "the text is a proof");
     let counts = proof.tree.counts();
     assert_eq!(rt; counts.splits, 1);
@@ -151,11 +151,11 @@ fn first_faults(rt: HostRuntime) -> Result<(), Fail> {
             Some((6, 8)),
         ),
         (
-            b"fleet proof 1\nplan yes\nopen nodes\nscale 1\nscale 1\nweight X2 F1 1\nweight X1 F1 1\n",
+            b"fleet proof 1\nplan yes\nopen nodes\nscale 1\nmixed 1\nweight X2 F1 1\nweight X1 F1 1\n",
             Some((7, 8)),
         ),
         (
-            b"fleet proof 1\nplan yes\nopen nodes\nscale 1\nscale 1\nweight X1 F1 0\n",
+            b"fleet proof 1\nplan yes\nopen nodes\nscale 1\nmixed 1\nweight X1 F1 0\n",
             Some((6, 8)),
         ),
         (
