@@ -1,6 +1,6 @@
 -- What is lifted, from the parts that the calls give.
 use Rattle.std.proofs.Common.{◌≡◌, ℕ, ◌+◌, ◌≤◌, List, length, All, None, pos, ◌<ℤ◌, sym, ◌∙◌, ap, subst}
-use Rattle.frac_row.specs.Row.{reduced}
+use Rattle.frac_row.specs.Row.{IsRow, reduced}
 use Rattle.frac_row.specs.declared.row.FracRow.{FracRow}
 use Rattle.fleet_model.specs.declared.parts.Pair.{Pair}
 use Rattle.fleet_model.specs.declared.tables.Tables.{Tables}
@@ -16,6 +16,7 @@ use Rattle.bound_cert.specs.Fractions.{IsMixedAt, IsWorth}
 use Rattle.bound_cert.specs.OfTables.{ArePricesOf, IsMixedOf, IsStepOf, IsWeightOf}
 use Rattle.bound_cert.specs.Prices.{ArePrices, max_scale}
 use Rattle.bound_cert.specs.Worth.{worth_of}
+use Rattle.bound_cert.specs.WrittenOrder.{ArePricesInOrder, IsMixedInOrder}
 use Rattle.bound_cert.specs.declared.mixed.Mixed.{Mixed}
 use Rattle.bound_cert.specs.declared.prices.Prices.{Prices}
 use Rattle.bound_cert.proofs.Duality.{weak_duality}
@@ -30,6 +31,7 @@ use Rattle.price_lift.specs.Weights.{AreBasicWeights, scale_below}
 use Rattle.price_lift.proofs.BasicWeights.{are_basic}
 use Rattle.price_lift.proofs.BestEnds.{best_proper, have_parts, is_mixed, is_worth, phases}
 use Rattle.price_lift.proofs.ByLines.{by_each_network}
+use Rattle.price_lift.proofs.InOrder.{mixed_in_order, prices_in_order}
 use Rattle.price_lift.proofs.LastTables.{basis_long, has_columns, have_dens, lines_priced, own_columns, sides_some}
 use Rattle.price_lift.proofs.OfTables.{steps_known, weights_known}
 use Rattle.price_lift.proofs.OtherEnds.{refusal_proper, refuted}
@@ -55,6 +57,10 @@ module _ (t : Tables) (keeps : Domains) (does : Turn) (table : List FracRow) (ba
 
   pub lines_are : (starts : Starts) → IsNetwork t keeps starts → priced_lines t table ≡ length (all_nodes t starts) + fleets_in t
   lines_are = lines_priced laws t keeps does table basis ends
+
+-- prices are in written order
+pub in_order : (t : Tables) (keeps : Domains) (duals : FracRow) (prices : Prices) → IsRow duals → ArePricesBy t keeps duals prices → ArePricesInOrder t prices
+in_order t keeps duals prices row by = prices_in_order t keeps duals prices row by
 
 -- ---- at a cheapest point
 module _ (t : Tables) (keeps : Domains) (table : List FracRow) (basis : List ℕ) (ends : Ends t keeps turns.Best table basis) where
@@ -94,6 +100,9 @@ module _ (t : Tables) (keeps : Domains) (table : List FracRow) (basis : List ℕ
 
       pub weights_of_tables : IsMixedOf t mixed
       weights_of_tables = subst (All (IsWeightOf t)) (sym list_is) (weights_known t keeps ends.lines.starts kept_basic.parts)
+
+      pub weights_in_order : IsMixedInOrder t mixed
+      weights_in_order = mixed_in_order t keeps ends.lines.starts table basis (scale_below table basis (pairs_kept t keeps) (height_of table)) mixed kept_basic.parts (have_parts laws t keeps table basis ends within) within scale_is parts_there list_is
 
       pub mixed_is : IsMixedAt t keeps mixed
       mixed_is = is_mixed laws t keeps table basis ends mixed kept_basic.parts scale_is within parts_there list_is

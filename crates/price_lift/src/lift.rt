@@ -7,6 +7,7 @@ ghost use Rattle.bound_cert.specs.Fractions.{IsMixedAt, IsWorth};
 ghost use Rattle.bound_cert.specs.OfTables.{ArePricesOf, IsMixedOf};
 ghost use Rattle.bound_cert.specs.Prices.{ArePrices};
 ghost use Rattle.bound_cert.specs.Worth.{worth_of};
+ghost use Rattle.bound_cert.specs.WrittenOrder.{ArePricesInOrder, IsMixedInOrder};
 ghost use Rattle.price_lift.specs.Duals.{best_duals, refusal_duals, value_in};
 ghost use Rattle.price_lift.specs.Ends.{Ends};
 ghost use Rattle.price_lift.specs.Prices.{AreByLines};
@@ -52,8 +53,10 @@ pub fn lift_best<R: RowStore>(
         → AreByLines tables.now starts (value_in tables.now (reduced (best_duals tables.now (R.content table.now)))) lifted.prices) }
     ensures of_tables { IfOk result (λ lifted. ArePricesOf tables.now lifted.prices) }
     ensures proper { IfOk result (λ lifted. ArePrices tables.now lifted.prices) }
+    ensures in_order { IfOk result (λ lifted. ArePricesInOrder tables.now lifted.prices) }
     ensures weights { IfOk result (λ lifted. IsSomeAnd lifted.mixed (AreBasicWeights tables.now (kept_by kept.now) (R.content table.now) basis.now)) }
     ensures known { IfOk result (λ lifted. IsSomeAnd lifted.mixed (IsMixedOf tables.now)) }
+    ensures weights_in_order { IfOk result (λ lifted. IsSomeAnd lifted.mixed (IsMixedInOrder tables.now)) }
     ensures plan { IfOk result (λ lifted. IsSomeAnd lifted.mixed (IsMixedAt tables.now (kept_by kept.now))) }
     ensures value { IfOk result (λ lifted. IsSomeAnd lifted.mixed (IsWorth tables.now (kept_by kept.now) lifted.prices)) }
     ensures fits { IfOk result (λ _. best_excess tables.now (kept_by kept.now) (R.content table.now) basis.now ≡ None) }
@@ -85,6 +88,7 @@ pub fn lift_refusal<R: RowStore>(
         → AreByLines tables.now starts (value_in tables.now (reduced (refusal_duals tables.now (R.content table.now)))) lifted.prices) }
     ensures of_tables { IfOk result (λ lifted. ArePricesOf tables.now lifted.prices) }
     ensures proper { IfOk result (λ lifted. ArePrices tables.now lifted.prices) }
+    ensures in_order { IfOk result (λ lifted. ArePricesInOrder tables.now lifted.prices) }
     ensures no_plan { IfOk result (λ lifted. lifted.mixed ≡ None) }
     ensures refutes { IfOk result (λ lifted. ((l : ℕ) → ¬ (IsBare tables.now (kept_by kept.now) l)) → pos 0 <ℤ worth_of tables.now (kept_by kept.now) lifted.prices 0) }
     ensures fits { IfOk result (λ _. refusal_excess tables.now (R.content table.now) ≡ None) }

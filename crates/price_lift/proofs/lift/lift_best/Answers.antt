@@ -8,7 +8,7 @@ use Rattle.price_lift.specs.Steps.{ArePricesBy}
 use Rattle.price_lift.specs.TooLarge.{IsLiftError, best_excess, prices_excess, weights_excess}
 use Rattle.price_lift.proofs.DualRows.{best_few, best_wide}
 use Rattle.price_lift.proofs.Excesses.{both_well, first_fails, then_fails}
-use Rattle.price_lift.proofs.Lifts.{basis_is, by_lines, columns_are, lines_are, mixed_is, of_tables, pairs_long, parts_are, phases_are, proper, weights_are, weights_of_tables, worth_is}
+use Rattle.price_lift.proofs.Lifts.{basis_is, by_lines, columns_are, in_order, lines_are, mixed_is, of_tables, pairs_long, parts_are, phases_are, proper, weights_are, weights_in_order, weights_of_tables, worth_is}
 use Rattle.price_lift.proofs.lift.lift_best.Goals as goal
 
 -- ---- what the calls require
@@ -70,6 +70,14 @@ pub returns-clause-proper : goal.returns-clause-proper
 returns-clause-proper g c =
     proper _ _ _ _ c.requires _ (subst (λ d. ArePricesBy c.args.tables.now (kept_by c.args.kept.now) d c.in_ok-prices.prices) c.in_ok-duals.ensures.duals.1 c.in_ok-prices.ensures.1)
     (subst (λ d. prices_excess c.args.tables.now d ≡ None) c.in_ok-duals.ensures.duals.1 c.in_ok-prices.ensures.0)
+
+pub returns-clause-in_order : goal.returns-clause-in_order
+returns-clause-in_order g c = in_order _ _ _ _ c.in_ok-duals.ensures.row c.in_ok-prices.ensures.1
+
+pub returns-clause-weights_in_order : goal.returns-clause-weights_in_order
+returns-clause-weights_in_order g c =
+    weights_in_order _ _ _ _ c.requires _ (subst (λ d. ArePricesBy c.args.tables.now (kept_by c.args.kept.now) d c.in_ok-prices.prices) c.in_ok-duals.ensures.duals.1 c.in_ok-prices.ensures.1)
+    (subst (λ d. prices_excess c.args.tables.now d ≡ None) c.in_ok-duals.ensures.duals.1 c.in_ok-prices.ensures.0) _ (c.deref.ensures.value ∙ c.in_ok-pairs.ensures) _ c.in_ok-mixed.ensures.1
 
 pub returns-clause-weights : goal.returns-clause-weights
 returns-clause-weights g c =

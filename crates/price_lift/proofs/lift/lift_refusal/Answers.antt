@@ -6,7 +6,7 @@ use Rattle.price_lift.specs.Steps.{ArePricesBy}
 use Rattle.price_lift.specs.TooLarge.{IsLiftError, prices_excess, refusal_excess}
 use Rattle.price_lift.proofs.DualRows.{refusal_few, refusal_wide}
 use Rattle.price_lift.proofs.Excesses.{both_well, first_fails, then_fails}
-use Rattle.price_lift.proofs.Lifts.{by_lines, columns_are, lines_are, of_tables, refusal_is_proper, refutes}
+use Rattle.price_lift.proofs.Lifts.{by_lines, columns_are, in_order, lines_are, of_tables, refusal_is_proper, refutes}
 use Rattle.price_lift.proofs.lift.lift_refusal.Goals as goal
 
 -- ---- what the calls require
@@ -50,6 +50,9 @@ pub returns-clause-proper : goal.returns-clause-proper
 returns-clause-proper g c =
     refusal_is_proper _ _ _ _ c.requires _ (subst (λ d. ArePricesBy c.args.tables.now (kept_by c.args.kept.now) d c.in_ok-prices.prices) c.in_ok-duals.ensures.duals.1 c.in_ok-prices.ensures.1)
     (subst (λ d. prices_excess c.args.tables.now d ≡ None) c.in_ok-duals.ensures.duals.1 c.in_ok-prices.ensures.0)
+
+pub returns-clause-in_order : goal.returns-clause-in_order
+returns-clause-in_order g c = in_order _ _ _ _ c.in_ok-duals.ensures.row c.in_ok-prices.ensures.1
 
 pub returns-clause-refutes : goal.returns-clause-refutes
 returns-clause-refutes g c =

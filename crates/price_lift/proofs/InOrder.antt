@@ -1,0 +1,90 @@
+-- Prices and weights are in written order.
+use Rattle.std.proofs.Common.{◌≡◌, ℕ, zero, suc, ◌+◌, ◌<◌, ◌≤◌, true, cond, ◌==◌, List, length, get_or, All, None, ℤ, pos, neg_ℤ, sym, subst, arith}
+use Rattle.std.proofs.lemmas.Bool.Decides.{nat_tests}
+use Rattle.std.proofs.lemmas.Int.{ints}
+use Rattle.sums.proofs.Places.{get_or-list_below, length-list_below}
+use Rattle.frac_row.specs.Outgrown.{IsWithin}
+use Rattle.frac_row.specs.Row.{IsRow, number_of, reduced}
+use Rattle.frac_row.specs.declared.row.FracRow.{FracRow}
+use Rattle.frac_row.proofs.Rows.{reduced_is_row}
+use Rattle.fleet_model.specs.declared.tables.Tables.{Tables}
+use Rattle.fleet_model.specs.Kept.{Domains}
+use Rattle.fleet_model.specs.Schedule.{fleets_in}
+use Rattle.fleet_model.specs.Use.{last_minute}
+use Rattle.node_aggregate.specs.Nodes.{AreNodesAt}
+use Rattle.node_aggregate.proofs.EventsAmong.{happens_within}
+use Rattle.lp_rows.specs.Layout.{Starts, all_kept, all_nodes, concat_below}
+use Rattle.lp_rows.specs.Points.{pairs_kept}
+use Rattle.bound_cert.specs.Prices.{max_scale}
+use Rattle.bound_cert.specs.WrittenOrder.{ArePricesInOrder, IsFigure, IsMixedInOrder, IsWeightInOrder, WeightsFollow}
+use Rattle.bound_cert.specs.declared.mixed.Mixed.{Mixed}
+use Rattle.bound_cert.specs.declared.prices.Prices.{Prices}
+use Rattle.price_lift.specs.Parts.{AreParts, HaveParts, part_below, part_of, weights_at}
+use Rattle.price_lift.specs.Steps.{ArePricesBy, prices_by}
+use Rattle.price_lift.proofs.Minutes.{nodes_rise}
+use Rattle.price_lift.proofs.Orders.{by_test}
+use Rattle.price_lift.proofs.StepOrder.{steps_in_order}
+use Rattle.price_lift.proofs.WeightOrder.{weights_follow, weights_in_order}
+use Rattle.row_store.specs.Table.{height_of}
+
+-- ---- numbers that a text may hold
+figure : (z : ℤ) → IsWithin z → IsFigure z
+figure z within = record { no_less = omega (arith, ints); no_more = omega (arith, ints) }
+
+opposite_within : (z : ℤ) → IsWithin z → IsWithin (neg_ℤ z)
+opposite_within z within = omega (arith, ints)
+
+small_figure : (n : ℕ) → n ≤ max_scale → IsFigure (pos n)
+small_figure n small = figure (pos n) (omega (arith, ints))
+
+-- ---- prices
+early : (t : Tables) (keeps : Domains) (f s : ℕ) (starts : List ℕ) → AreNodesAt t keeps f s starts → (p : ℕ) → p < length starts → get_or starts p 0 ≤ last_minute
+early t keeps f s starts nodes zero below = omega (arith, nodes.nodes.first)
+early t keeps f s starts nodes (suc p) below =
+    let next : p + 1 ≡ suc p = omega arith in
+    let may = (nodes.nodes.next p (omega arith)).may in
+    let within = happens_within t keeps f s nodes.events nodes.happen true _ may.ready in
+    subst (λ k. get_or starts k 0 ≤ last_minute) next (omega (arith, within))
+
+pub prices_in_order : (t : Tables) (keeps : Domains) (duals : FracRow) (prices : Prices) → IsRow duals → ArePricesBy t keeps duals prices → ArePricesInOrder t prices
+prices_in_order t keeps duals prices row by = subst (ArePricesInOrder t) (sym by.is) in_order
+  where
+    is_row : IsRow (reduced duals)
+    is_row = reduced_is_row duals row
+
+    value : ℕ → ℤ
+    value k = number_of (reduced duals) k
+
+    rent : ℕ → ℤ
+    rent f = neg_ℤ (number_of (reduced duals) (length (all_nodes t by.starts) + f))
+
+    in_order : ArePricesInOrder t (prices_by t by.starts (reduced duals))
+    in_order = record {
+      scale = figure (reduced duals).den is_row.den_within;
+      one_each = length-list_below (λ f. neg_ℤ (number_of (reduced duals) (length (all_nodes t by.starts) + f))) (fleets_in t);
+      rents = λ k d below.
+          subst IsFigure (sym (get_or-list_below (λ f. neg_ℤ (number_of (reduced duals) (length (all_nodes t by.starts) + f))) (fleets_in t) k d (omega (arith, below, length-list_below (λ f. neg_ℤ (number_of (reduced duals) (length (all_nodes t by.starts) + f))) (fleets_in t)))))
+          (figure (neg_ℤ (number_of (reduced duals) (length (all_nodes t by.starts) + k))) (opposite_within (number_of (reduced duals) (length (all_nodes t by.starts) + k)) (is_row.within (length (all_nodes t by.starts) + k))));
+      steps = steps_in_order t by.starts (number_of (reduced duals))
+          (λ f s known within some. let nodes = by.network.each f s known within in nodes_rise nodes.events (by.starts f s) nodes.nodes)
+          (λ f s p known within below. early t keeps f s (by.starts f s) (by.network.each f s known within) p below)
+          (λ k. figure (number_of (reduced duals) k) (is_row.within k));
+    }
+
+-- ---- weights
+few_parts : (table : List FracRow) (basis : List ℕ) (columns scale : ℕ) → HaveParts table basis columns scale → (n column : ℕ) → n ≤ height_of table → column < columns → part_below table basis scale n column ≤ max_scale
+few_parts table basis columns scale parts zero column within below = omega arith
+few_parts table basis columns scale parts (suc n) column within below = by_test (get_or basis n 0 == column)
+    (λ e. let same : get_or basis n 0 ≡ column = grind (arith, nat_tests) in
+    subst (λ c. cond c (part_of table scale n) (part_below table basis scale n column) ≤ max_scale) (sym e) (parts.few n (omega arith) (omega (arith, same, below))))
+    (λ e. subst (λ c. cond c (part_of table scale n) (part_below table basis scale n column) ≤ max_scale) (sym e) (few_parts table basis columns scale parts n column (omega arith) below))
+
+pub mixed_in_order : (t : Tables) (keeps : Domains) (starts : Starts) (table : List FracRow) (basis : List ℕ) (scale : ℕ) (mixed : Mixed) (parts : List ℤ)
+    → HaveParts table basis (pairs_kept t keeps) scale → scale ≤ max_scale → mixed.scale ≡ pos scale → AreParts (part_below table basis scale (height_of table)) (pairs_kept t keeps) parts
+    → mixed.weights ≡ concat_below (weights_at (all_kept t keeps) parts) (pairs_kept t keeps) → IsMixedInOrder t mixed
+mixed_in_order t keeps starts table basis scale mixed parts have within is_scale are list = record {
+  scale = subst IsFigure (sym is_scale) (small_figure scale within);
+  each = subst (λ ws. All (IsWeightInOrder t) ws) (sym list) (weights_in_order t keeps starts parts (λ c below.
+      subst IsFigure (sym (are.each c below)) (small_figure (part_below table basis scale (height_of table) c) (few_parts table basis (pairs_kept t keeps) scale have (height_of table) c (omega arith) below))));
+  follow = subst (λ ws. WeightsFollow None ws) (sym list) (weights_follow t keeps parts);
+}
