@@ -13,7 +13,7 @@ use Rattle.presolve.proofs.AloneLaws.{alone_in_cell}
 use Rattle.presolve.proofs.CellLaws.{filled}
 use Rattle.presolve.proofs.Landed.{departures_in_cell, landings_in_cell}
 
-few_stations : (t : Tables) → stations_in t ≤ CELL_WIDTH
+pub few_stations : (t : Tables) → stations_in t ≤ CELL_WIDTH
 few_stations t = let few = t.in_range.stations_fit.few in omega (arith, few)
 
 pub all_landed : (t : Tables) (keeps : Domains) (cells : List ℕ) → cells ≡ list_below (landings_at t keeps) (fleets_in t * CELL_WIDTH) → AreCells cells (landings t keeps) (fleets_in t) (stations_in t)

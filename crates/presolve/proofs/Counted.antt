@@ -1,15 +1,12 @@
 -- The numbers of legs' kept pairs, kept in a row.
-use Rattle.std.proofs.Common.{◌≡◌, ◌≢◌, ℕ, ◌+◌, ◌-◌, ◌<◌, ◌≤◌, false, true, ◌==◌, ◌&&◌, Bool, List, length, set, get_or-set_same, get_or-set_other, sym, ◌∙◌, subst, inl, inr, arith}
+use Rattle.std.proofs.Common.{◌≡◌, ◌≢◌, ℕ, ◌+◌, ◌-◌, ◌<◌, ◌≤◌, false, true, List, length, set, get_or-set_same, get_or-set_other, sym, ◌∙◌, subst, inl, inr, arith}
 use Rattle.std.specs.Prelude.{slice_index}
 use Rattle.std.proofs.lemmas.Bool.{cases_lt, cases_order}
-use Rattle.std.proofs.lemmas.Bool.Decides.{nat_tests}
-use Rattle.sums.proofs.Counts.{count_below-some}
 use Rattle.fleet_model.specs.Kept.{Domains, kept_on}
-use Rattle.fleet_model.specs.Schedule.{IsPair, leg_of, leg_on, legs_in}
+use Rattle.fleet_model.specs.Schedule.{IsPair, legs_in}
 use Rattle.fleet_model.specs.declared.parts.Pair.{Pair}
 use Rattle.fleet_model.specs.declared.tables.Tables.{Tables}
 use Rattle.bound_cert.specs.Bound.{part}
-use Rattle.presolve.specs.Rules.{departs, departures, landings, lands}
 use Rattle.presolve.proofs.KeptParts.{other_leg_same, own_leg_fewer}
 
 -- one place more
@@ -43,18 +40,3 @@ counted_without t keeps after p counts pair kept is within counted l below =
 
     others : l ≢ p.leg → slice_index (set counts p.leg (slice_index counts p.leg - 1)) l ≡ kept_on t (part keeps p.leg p.fleet false) l
     others other = get_or-set_other counts p.leg l (slice_index counts p.leg - 1) 0 other ∙ counted l below ∙ sym (other_leg_same t keeps p false l other)
-
-both : (a : Bool) (m n : ℕ) → a ≡ true → m ≡ n → (a && (m == n)) ≡ true
-both a m n e h = grind (arith, nat_tests)
-
--- a kept pair that lands at a station is counted there
-pub some_landing : (t : Tables) (keeps : Domains) (f s l : ℕ) → l < legs_in t → keeps (leg_on l f) ≡ true → (leg_of t l).to ≡ s → landings t keeps f s ≢ 0
-unfolding landings
-some_landing t keeps f s l within kept there none =
-    let some = count_below-some (lands t keeps f s) (legs_in t) l within (both (keeps (leg_on l f)) (leg_of t l).to s kept there) in omega (arith, some, none)
-
--- and one that departs from it
-pub some_departure : (t : Tables) (keeps : Domains) (f s l : ℕ) → l < legs_in t → keeps (leg_on l f) ≡ true → (leg_of t l).from ≡ s → departures t keeps f s ≢ 0
-unfolding departures
-some_departure t keeps f s l within kept there none =
-    let some = count_below-some (departs t keeps f s) (legs_in t) l within (both (keeps (leg_on l f)) (leg_of t l).from s kept there) in omega (arith, some, none)

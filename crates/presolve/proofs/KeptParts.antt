@@ -2,12 +2,14 @@
 use Rattle.std.proofs.Common.{◌≡◌, ◌≢◌, ℕ, ◌+◌, ◌<◌, Bool, true, false, not, ◌==◌, ◌&&◌, if◌then◌else◌, refl, ap, sym, ◌∙◌, arith}
 use Rattle.std.proofs.lemmas.Bool.Decides.{nat_tests}
 use Rattle.sums.proofs.Counts.{count_below-some}
-use Rattle.sums.proofs.Sums.{sum_below-agree}
+use Rattle.sums.proofs.Sums.{count_below-le, sum_below-agree, sum_below-bound}
 use Rattle.fleet_model.specs.Kept.{Domains, kept_on}
 use Rattle.fleet_model.specs.Schedule.{IsPair, fleets_in, leg_on, legs_in}
+use Rattle.fleet_model.specs.declared.limits.TheConstants.{MAX_FLEETS}
 use Rattle.fleet_model.specs.declared.parts.Pair.{Pair}
 use Rattle.fleet_model.specs.declared.tables.Tables.{Tables}
 use Rattle.bound_cert.specs.Bound.{part}
+use Rattle.presolve.specs.Laws.{PairsAreFew}
 use Rattle.presolve.specs.Removals.{NoneBare, pairs_kept}
 use Rattle.presolve.proofs.OneChanged.{count_below-fewer, sum_below-more}
 
@@ -111,3 +113,12 @@ one_fewer t keeps p pair kept = fewer t keeps p.leg p.fleet pair.leg pair.fleet 
 
 pub flown_none_bare : (t : Tables) (keeps : Domains) (p : Pair) → IsPair t p → keeps p ≡ true → NoneBare t keeps → NoneBare t (part keeps p.leg p.fleet true)
 flown_none_bare t keeps p pair kept none = still_none_bare t keeps p.leg p.fleet pair.fleet kept none
+
+-- there are as many kept pairs as legs times fleets at most
+pub pairs_are_few : PairsAreFew
+unfolding pairs_kept
+pairs_are_few t keeps =
+    let fleets = t.in_range.fleets_fit.few in
+    let legs = t.in_range.legs_fit.few in
+    let each = sum_below-bound (kept_on t keeps) MAX_FLEETS (legs_in t) (record { each = λ l below. omega (arith, count_below-le (λ f. keeps (leg_on l f)) (fleets_in t), fleets) }) in
+    omega (arith, each, legs)

@@ -11,12 +11,10 @@ use Rattle.presolve.specs.Choices.{all_busy_alone, busy_alone}
 use Rattle.presolve.specs.Removals.{NoneBare}
 use Rattle.presolve.specs.Rules.{departures, landings}
 use Rattle.presolve.specs.declared.cells.TheConstants.{CELL_WIDTH}
+use Rattle.presolve.proofs.AllCounted.{few_stations}
 use Rattle.presolve.proofs.AloneLaws.{few_alone, more_alone, same_alone}
 use Rattle.presolve.proofs.CellLaws.{more_there, one_less, same_there}
 use Rattle.presolve.proofs.Landed.{departure_fewer, departure_same, landing_fewer, landing_same}
-
-few_stations : (t : Tables) → stations_in t ≤ CELL_WIDTH
-few_stations t = let few = t.in_range.stations_fit.few in omega (arith, few)
 
 module _ (t : Tables) (keeps after : Domains) (p : Pair) (pair : IsPair t p) (kept : keeps p ≡ true) (is : after ≡ part keeps p.leg p.fleet false) where
   -- landings: one fewer where the leg lands

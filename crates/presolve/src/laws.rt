@@ -1,6 +1,6 @@
 //! The laws of presolve, over all tables, kept pairs and removals. Each function is a law: its contract is the
 //! statement, and it does nothing.
-ghost use Rattle.presolve.specs.Laws.{BusyIsUnderWay, RemovalsAreOne};
+ghost use Rattle.presolve.specs.Laws.{BusyIsUnderWay, PairsAreFew, RemovalsAreOne};
 
 /// The aircraft that a pair keeps busy at the end of a minute are its flights under way then.
 pub fn busy_is_under_way()
@@ -10,4 +10,9 @@ pub fn busy_is_under_way()
 /// Any two lists of removals are of the same pairs in the same order.
 pub fn removals_are_one()
     ensures { RemovalsAreOne }
+{}
+
+/// No more pairs are kept than tables may have, so there are no more removals.
+pub fn pairs_are_few()
+    ensures { PairsAreFew }
 {}
