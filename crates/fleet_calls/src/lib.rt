@@ -7,6 +7,8 @@ mod checking;
 #[cfg(test)]
 mod judging;
 #[cfg(test)]
+mod lifting;
+#[cfg(test)]
 mod model;
 #[cfg(test)]
 mod network;

@@ -1,5 +1,5 @@
 //! The time-line network of a subproblem, and its lines.
-use crate::schedules::{Files, OVERLAPPING_TRIPS, ROUND_TRIP, read};
+use crate::schedules::{Files, ROUND_TRIP, TWO_FLEETS, read};
 use fleet_model::{Kept, LoadError, Step, Tables};
 use lp_rows::rows;
 use node_aggregate::{node_of, nodes};
@@ -7,13 +7,6 @@ use row_store::{Rows, is_problem};
 use std::alloc::Global;
 use std::test::Fail;
 use timeline_net::{Event, events};
-
-/// Three round trips from a hub, of which each two overlap, and two fleets with one aircraft each.
-const TWO_FLEETS: Files = Files {
-    fleets: b"fleet,aircraft,turn\nF1,1,0\nF2,1,0\n",
-    costs: b"flight,fleet,cost\nA1,F1,10\nA1,F2,10\nA2,F1,10\nA2,F2,10\nB1,F1,10\nB1,F2,10\nB2,F1,10\nB2,F2,10\nC1,F1,10\nC1,F2,10\nC2,F1,10\nC2,F2,10\n",
-    ..OVERLAPPING_TRIPS
-};
 
 /// The events of a fleet at a station, of all pairs; nothing where there is no such fleet.
 fn events_at(

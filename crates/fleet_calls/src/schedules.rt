@@ -38,6 +38,13 @@ pub const OVERLAPPING_TRIPS: Files = Files {
     throughs: NO_THROUGHS,
 };
 
+/// Three round trips from a hub, of which each two overlap, and two fleets with one aircraft each.
+pub const TWO_FLEETS: Files = Files {
+    fleets: b"fleet,aircraft,turn\nF1,1,0\nF2,1,0\n",
+    costs: b"flight,fleet,cost\nA1,F1,10\nA1,F2,10\nA2,F1,10\nA2,F2,10\nB1,F1,10\nB1,F2,10\nB2,F1,10\nB2,F2,10\nC1,F1,10\nC1,F2,10\nC2,F1,10\nC2,F2,10\n",
+    ..OVERLAPPING_TRIPS
+};
+
 /// Six legs of one fleet that uses four aircraft, two at AAA and two at BBB at the day start.
 pub const FOUR_AIRCRAFT: Files = Files {
     stations: b"code,extra,maintenance\nAAA,0,yes\nBBB,0,no\nCCC,0,no\nDDD,0,no\n",

@@ -1,5 +1,5 @@
 //! Tables, solved.
-use crate::schedules::{BACK_AT_ONCE, Files, OVERLAPPING_TRIPS, ROUND_TRIP, read};
+use crate::schedules::{BACK_AT_ONCE, Files, OVERLAPPING_TRIPS, ROUND_TRIP, TWO_FLEETS, read};
 use bound_cert::{Cause, Tree};
 use branch_bound::{Solved, solve};
 use fleet_model::LoadError;
@@ -22,13 +22,6 @@ const NO_WAY_BACK: Files = Files {
 const ONE_CHOICE: Files = Files {
     costs: b"flight,fleet,cost\nX1,F1,100\nX2,F1,100\n",
     ..ROUND_TRIP
-};
-
-/// The overlapping trips with the first two fleets alone.
-const TWO_FLEETS: Files = Files {
-    fleets: b"fleet,aircraft,turn\nF1,1,0\nF2,1,0\n",
-    costs: b"flight,fleet,cost\nA1,F1,10\nA1,F2,10\nA2,F1,10\nA2,F2,10\nB1,F1,10\nB1,F2,10\nB2,F1,10\nB2,F2,10\nC1,F1,10\nC1,F2,10\nC2,F1,10\nC2,F2,10\n",
-    ..OVERLAPPING_TRIPS
 };
 
 /// The same at no cost, but for the first leg, which earns 7 on one fleet and 6 on the other.
