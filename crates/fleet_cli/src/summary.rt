@@ -8,10 +8,10 @@ ghost use Rattle.fleet_cli.specs.Texts.{line_of};
 ghost use Rattle.fleet_model.specs.Legal.{IsAssignment};
 
 use crate::answer::FileText;
-use branch_bound::Solved;
 use crate::status::{DONE, GAP, INFEASIBLE, UNSETTLED};
 use crate::texts::{push_fleets, push_line};
 use bound_cert::{Tree, TreeCounts, write_proof};
+use branch_bound::Solved;
 use entries::{Entries, NoMemory};
 use fleet_model::{Assignment, Tables};
 use plan_desk::DeskFile;

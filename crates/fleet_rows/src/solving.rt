@@ -58,7 +58,10 @@ fn no_legs(rt: HostRuntime) -> Result<(), Fail> {
 // Without pivots the bound is the sum of the least costs, and the old plan stays.
 #[test]
 fn two_choices(rt: HostRuntime) -> Result<(), Fail> {
-    run_rows(&rt, &[solved_at_once(TWO_CHOICES, UNSETTLED, OPEN, &[LEFT_OPEN])])
+    run_rows(
+        &rt,
+        &[solved_at_once(TWO_CHOICES, UNSETTLED, OPEN, &[LEFT_OPEN])],
+    )
 }
 
 // The leg without a fleet that comes first is told, and the old plan stays.

@@ -134,7 +134,11 @@ fn push_pair(pairs: &mut Vec<Pair>, kept: &Kept, pair: Pair) -> Result<(), NoMem
 }
 
 /// The nodes, by fleet, station and place: the order of the ground arcs and of the balance lines.
-pub fn network_nodes(alloc: Global, tables: &Tables, network: &Network) -> Result<Vec<Node>, NoMemory>
+pub fn network_nodes(
+    alloc: Global,
+    tables: &Tables,
+    network: &Network,
+) -> Result<Vec<Node>, NoMemory>
     requires { AreByStation tables.now network.now }
     ensures { IfOk result (λ nodes. nodes.items ≡ all_nodes tables.now (starts_in network.now)) }
 {
