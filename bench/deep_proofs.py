@@ -1,7 +1,7 @@
 #!/usr/bin/env python3
 """Writes texts of proofs that are as deep as a reader takes: deep_proofs.py FOLDER [LEVELS].
 
-They are of the tables S with two fleets F1, F2 and the flights X1, X2. `right.txt` goes on below `no` alone, `left.txt`
+They are of tables with two fleets F1 and F2 and the flights X1 and X2. `right.txt` goes on below `no` alone, `left.txt`
 below `yes` alone, and `zigzag.txt` below each in turn, with prices and a fractional assignment at each node.
 """
 

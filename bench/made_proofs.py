@@ -1,0 +1,75 @@
+"""Makes tables of round trips that one fleet can fly, with a proof that trims the pairs of all other fleets.
+
+The first fleet has an aircraft for each round trip, the others have none. Each pair of another fleet is set aside by
+a trim, whose `yes` child is refuted by prices: a rent of 1, and at all stations a price of 1 up to the leg's departure
+and of 0 after it. What is left is one assignment, that of the first fleet. No turn passes the day start.
+"""
+from pathlib import Path
+
+TURN = 30
+BLOCK = 60
+
+
+def clock(minute):
+    return f"{minute // 60:02}:{minute % 60:02}"
+
+
+def code(station):
+    return "S" + chr(65 + station // 26) + chr(65 + station % 26)
+
+
+def legs_of(trips, stations):
+    """Two legs a round trip: flight, from, departure, to."""
+    for trip in range(trips):
+        out = 300 + 7 * trip % 400
+        home = 2 * trip % stations
+        away = (home + 1) % stations
+        yield f"A{trip}", home, out, away
+        yield f"B{trip}", away, out + 200, home
+
+
+def cost_of(leg, fleet):
+    return 1000 + (leg * 37 + fleet * 101) % 500
+
+
+def refuted(fleet, departure, stations):
+    yield "refuted"
+    yield "scale 1"
+    yield f"rent F{fleet + 1} 1"
+    for station in range(stations):
+        yield f"at F{fleet + 1} {code(station)} 0 1"
+        yield f"at F{fleet + 1} {code(station)} {departure + 1} 0"
+
+
+def proof_of(legs, fleets, stations):
+    yield "fleet proof 1"
+    yield "plan yes"
+    for flight, _, departure, _ in legs:
+        for fleet in range(1, fleets):
+            yield f"trim {flight} F{fleet + 1}"
+            yield from refuted(fleet, departure, stations)
+    yield "sole"
+    yield "end"
+
+
+def write(folder, trips, fleets, stations):
+    """Writes tables, plan and proof, and answers the nodes of the tree and the plan's cost."""
+    legs = list(legs_of(trips, stations))
+    texts = {
+        "stations.csv": ["code,extra,maintenance", *(f"{code(s)},0,yes" for s in range(stations))],
+        "fleets.csv": ["fleet,aircraft,turn", *(f"F{f + 1},{0 if f else trips},{TURN}" for f in range(fleets))],
+        "legs.csv": [
+            "flight,from,dep,to,arr",
+            *(f"{n},{code(a)},{clock(d)},{code(b)},{clock(d + BLOCK)}" for n, a, d, b in legs),
+        ],
+        "costs.csv": [
+            "flight,fleet,cost",
+            *(f"{leg[0]},F{f + 1},{cost_of(l, f)}" for l, leg in enumerate(legs) for f in range(fleets)),
+        ],
+        "throughs.csv": ["in,out,value"],
+        "plan.csv": ["flight,fleet", *(f"{leg[0]},F1" for leg in legs)],
+        "proof.txt": proof_of(legs, fleets, stations),
+    }
+    for name, lines in texts.items():
+        Path(folder, name).write_text("".join(line + "\n" for line in lines))
+    return 2 * len(legs) * (fleets - 1) + 1, sum(cost_of(l, 0) for l in range(len(legs)))
