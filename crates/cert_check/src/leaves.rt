@@ -68,6 +68,7 @@ fn legal_cost(tables: &Tables, plan: &Assignment) -> Option<i128>
 }
 
 /// The worth of proper prices over their scale, rounded up. Takes no memory.
+#[inline(never)]
 pub(crate) fn price_bound(tables: &Tables, kept: &Kept, prices: &Prices) -> i128
     requires { ArePrices tables.now prices.now }
     ensures { IsCeiling (worth_of tables.now (kept_by kept.now) prices.now 1) prices.now.scale result }

@@ -19,6 +19,9 @@ use bound_cert::{Cause, Mixed, Prices, Tree};
 use fleet_model::{Kept, Step, Tables};
 
 /// The first rule that a node breaks. Takes no memory.
+///
+/// It stands apart from the walk, so that a level of the tree takes little of the stack.
+#[inline(never)]
 pub(crate) fn first_fault(
     tables: &Tables,
     kept: &Kept,

@@ -151,6 +151,7 @@ fn walk_part(
 }
 
 /// What is found of both children, where the first is fine and has this bound.
+#[inline(never)]
 fn with_bound(first: &Option<i128>, second: Walked) -> Walked
     ensures { IsJoined first.now second result }
 {
