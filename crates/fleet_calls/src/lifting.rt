@@ -37,25 +37,20 @@ fn lifted(alloc: Global, tables: &Tables, kept: &Kept) -> Result<Option<Lifted>,
 fn a_round_trip_is_worth_what_it_costs(rt: HostRuntime) -> Result<(), Fail> {
     let tables = read(rt.alloc(), &ROUND_TRIP)?;
     let kept = Kept::all(&tables);
-    match lifted(rt.alloc(), &tables, &kept)? {
-        Some(
-            Lifted {
-                prices,
-                mixed: Some(mixed),
-            },
-        ) => {
-            assert_eq!(rt; prices.scale, 1);
-            assert_eq!(rt; worth(&tables, &kept, &prices, 1), 200);
-            assert_eq!(rt; mixed.scale, 1);
-            let flown = [0, 1].map(|leg| Weight {
-                leg,
-                fleet: 0,
-                weight: 1,
-            });
-            assert_eq!(rt; mixed.weights.as_slice(), flown.as_slice());
-        }
-        other => panic!(rt; "{other:?}"),
-    }
+    let Some(Lifted { prices, mixed }) = lifted(rt.alloc(), &tables, &kept)? else {
+        panic!(rt; "no end");
+    };
+    assert_eq!(rt; worth(&tables, &kept, &prices, 1), 200 * prices.scale);
+    let flown = [0, 1].map(|leg| Weight {
+        leg,
+        fleet: 0,
+        weight: 1,
+    });
+    let Some(mixed) = mixed else {
+        panic!(rt; "no weights");
+    };
+    assert_eq!(rt; mixed.scale, 1);
+    assert_eq!(rt; mixed.weights.as_slice(), flown.as_slice());
     Ok(())
 }
 
@@ -64,32 +59,23 @@ fn a_round_trip_is_worth_what_it_costs(rt: HostRuntime) -> Result<(), Fail> {
 fn half_weights_fly_overlapping_trips(rt: HostRuntime) -> Result<(), Fail> {
     let tables = read(rt.alloc(), &TWO_FLEETS)?;
     let kept = Kept::all(&tables);
-    match lifted(rt.alloc(), &tables, &kept)? {
-        Some(
-            Lifted {
-                prices,
-                mixed: Some(mixed),
-            },
-        ) => {
-            assert_eq!(rt; worth(&tables, &kept, &prices, 1), 60 * prices.scale);
-            assert_eq!(rt; mixed.scale, 2);
-            assert_eq!(rt; mixed.weights.len(), 12);
-            assert!(rt;
-                mixed
-                    .weights
-                    .as_slice()
-                    .iter()
-                    .all(|entry| entry.weight == 1)
-            );
-        }
-        other => panic!(rt; "{other:?}"),
+    let Some(Lifted { prices, mixed }) = lifted(rt.alloc(), &tables, &kept)? else {
+        panic!(rt; "no end");
+    };
+    assert_eq!(rt; worth(&tables, &kept, &prices, 1), 60 * prices.scale);
+    let Some(mixed) = mixed else {
+        panic!(rt; "no weights");
+    };
+    assert_eq!(rt; (mixed.scale, mixed.weights.len()), (2, 12));
+    for entry in mixed.weights.as_slice() {
+        assert_eq!(rt; entry.weight, 1);
     }
     Ok(())
 }
 
 /// With the first leg on the first fleet, the other two trips would want the second fleet at once.
 #[test]
-fn a_split_is_refuted(rt: HostRuntime) -> Result<(), Fail> {
+fn a_part_of_a_split_is_refuted(rt: HostRuntime) -> Result<(), Fail> {
     let tables = read(rt.alloc(), &TWO_FLEETS)?;
     let mut kept = Kept::all(&tables);
     let undo = kept.narrow(Step {
@@ -97,18 +83,11 @@ fn a_split_is_refuted(rt: HostRuntime) -> Result<(), Fail> {
         fleet: 0,
         yes: true,
     });
-    match lifted(rt.alloc(), &tables, &kept)? {
-        Some(
-            Lifted {
-                prices,
-                mixed: None,
-            },
-        ) => {
-            assert!(rt; prices.scale >= 1);
-            assert!(rt; worth(&tables, &kept, &prices, 0) > 0);
-        }
-        other => panic!(rt; "{other:?}"),
-    }
+    let Some(Lifted { prices, mixed }) = lifted(rt.alloc(), &tables, &kept)? else {
+        panic!(rt; "no end");
+    };
+    assert!(rt; worth(&tables, &kept, &prices, 0) > 0);
+    assert!(rt; mixed.is_none());
     kept.undo(undo);
     Ok(())
 }
