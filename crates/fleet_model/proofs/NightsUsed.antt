@@ -1,8 +1,7 @@
 -- A period of one day: the aircraft that a fleet uses by its needs and its legs' nights.
-use Rattle.std.proofs.Common.{◌≡◌, ℕ, ◌+◌, ◌*◌, Bool, true, false, if◌then◌else◌, ◌==◌, List, refl, ap, arith}
+use Rattle.std.proofs.Common.{◌≡◌, ℕ, ◌+◌, ◌*◌, Bool, true, false, if◌then◌else◌, ◌==◌, refl, ap, arith}
 use Rattle.sums.specs.Below.{sum_below}
 use Rattle.sums.proofs.Sums.{sum_below-agree}
-use Rattle.fleet_model.specs.declared.tables.Tables.{Tables}
 use Rattle.fleet_model.specs.Counts.{fleet_at, weights_of}
 use Rattle.fleet_model.specs.Laws.{LapsAreNights, UseIsNeedAndNights, night_of_fleet}
 use Rattle.fleet_model.specs.Schedule.{leg_on, legs_in, stations_in}
