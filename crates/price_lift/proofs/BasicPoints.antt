@@ -16,7 +16,7 @@ use Rattle.frac_row.specs.declared.row.FracRow.{FracRow}
 use Rattle.fleet_model.specs.declared.parts.Pair.{Pair}
 use Rattle.fleet_model.specs.declared.tables.Tables.{Tables}
 use Rattle.fleet_model.specs.Counts.{Weights}
-use Rattle.fleet_model.specs.Kept.{Domains}
+use Rattle.fleet_model.specs.Kept.{Domains, pairs_kept}
 use Rattle.fleet_model.specs.Legal.{cost_of}
 use Rattle.fleet_model.specs.Mixed.{IsMixedPlan, mixed_cost, weighted_cost}
 use Rattle.fleet_model.specs.Schedule.{IsPair, fleets_in, leg_on, legs_in}
@@ -24,16 +24,16 @@ use Rattle.row_store.specs.Table.{right_side, row_at}
 use Rattle.lp_rows.specs.declared.kinds.Node.{Node}
 use Rattle.lp_rows.specs.declared.kinds.Column.{Column}
 use Rattle.lp_rows.specs.declared.kinds.Column.TheVariants.{Flight, Ground, Slack}
-use Rattle.lp_rows.specs.Layout.{Starts, all_nodes, columns_of, list_to}
-use Rattle.lp_rows.specs.Points.{column_at, pair_part, pairs_kept, same_column, value_of}
+use Rattle.sums.specs.Places.{list_below}
+use Rattle.lp_rows.specs.Layout.{Starts, all_nodes, columns_of}
+use Rattle.lp_rows.specs.Points.{column_at, pair_part, same_column, value_of}
 use Rattle.lp_rows.proofs.Places.{IsKept, columns_are_kept, value_there}
-use Rattle.lp_rows.proofs.Totals.{length-list_to}
+use Rattle.sums.proofs.Places.{get_or-list_below, length-list_below}
 use Rattle.price_lift.specs.Parts.{part_below, part_of}
 use Rattle.price_lift.specs.Weights.{lowest_den, pair_at_column}
 use Rattle.price_lift.proofs.BasicWeights.{HaveColumns, flight_there, pairs_within}
 use Rattle.price_lift.proofs.Columns.{behind_pairs}
 use Rattle.price_lift.proofs.LeastScales.{HaveDens, fewer_dens, part_is}
-use Rattle.price_lift.proofs.LinePlaces.{at_list}
 use Rattle.price_lift.proofs.Multiples.{of_sum, of_test}
 
 by_test : {X : Type 0} (b : Bool) → (b ≡ true → X) → (b ≡ false → X) → X
@@ -133,10 +133,10 @@ point_parts table basis pairs scale dens m (suc n) column some has divides real 
     ∙ ap (λ b. dens * cond b (part_of table scale n) (part_below table basis scale n column)) (sym e))
 
 -- ---- pairs alone
-no_flight_behind : (p : Pair) (ns : List Node) (n k : ℕ) → same_column (Flight p) (get_or (map Ground ns ++ list_to Slack n) k (Slack 0)) ≡ false
+no_flight_behind : (p : Pair) (ns : List Node) (n k : ℕ) → same_column (Flight p) (get_or (map Ground ns ++ list_below Slack n) k (Slack 0)) ≡ false
 no_flight_behind p [] n k = elim (cases_lt k n) [
-  | inl below ↦ ap (same_column (Flight p)) (at_list Slack n k (Slack 0) below)
-  | inr past ↦ ap (same_column (Flight p)) (get_or_past (list_to Slack n) k (Slack 0) (omega (arith, past, length-list_to Slack n)))
+  | inl below ↦ ap (same_column (Flight p)) (get_or-list_below Slack n k (Slack 0) below)
+  | inr past ↦ ap (same_column (Flight p)) (get_or_past (list_below Slack n) k (Slack 0) (omega (arith, past, length-list_below Slack n)))
 ]
 no_flight_behind p (a ∷ ns) n zero = refl
 no_flight_behind p (a ∷ ns) n (suc k) = no_flight_behind p ns n k

@@ -8,13 +8,14 @@ use Rattle.std.proofs.lemmas.List.{get_or-map, get_or_append_left, length-map}
 use Rattle.frac_row.specs.declared.row.FracRow.{FracRow}
 use Rattle.fleet_model.specs.declared.parts.Pair.{Pair}
 use Rattle.fleet_model.specs.declared.tables.Tables.{Tables}
-use Rattle.fleet_model.specs.Kept.{Domains}
+use Rattle.fleet_model.specs.Kept.{Domains, pairs_kept}
 use Rattle.fleet_model.specs.Schedule.{leg_on}
 use Rattle.row_store.specs.Table.{height_of, right_side, row_at}
 use Rattle.lp_rows.specs.declared.kinds.Column.{Column}
 use Rattle.lp_rows.specs.declared.kinds.Column.TheVariants.{Flight, Ground, Slack}
-use Rattle.lp_rows.specs.Layout.{Starts, all_kept, all_nodes, columns_of, concat_below, list_to}
-use Rattle.lp_rows.specs.Points.{column_at, pairs_kept, value_of}
+use Rattle.sums.specs.Places.{list_below}
+use Rattle.lp_rows.specs.Layout.{Starts, all_kept, all_nodes, columns_of, concat_below}
+use Rattle.lp_rows.specs.Points.{column_at, value_of}
 use Rattle.lp_rows.proofs.Counted.{pairs_are}
 use Rattle.lp_rows.proofs.Places.{value_there}
 use Rattle.bound_cert.specs.Mixed.{is_weight_of, weight_after, weight_in}
@@ -30,8 +31,8 @@ module _ (t : Tables) (keeps : Domains) (starts : Starts) where
   abbrev cols : List Column
   cols = columns_of t keeps starts
 
-  pub in_parts : cols ≡ map Flight (all_kept t keeps) ++ (map Ground (all_nodes t starts) ++ list_to Slack (fleets_in t))
-  in_parts = append_assoc (map Flight (all_kept t keeps)) (map Ground (all_nodes t starts)) (list_to Slack (fleets_in t))
+  pub in_parts : cols ≡ map Flight (all_kept t keeps) ++ (map Ground (all_nodes t starts) ++ list_below Slack (fleets_in t))
+  in_parts = append_assoc (map Flight (all_kept t keeps)) (map Ground (all_nodes t starts)) (list_below Slack (fleets_in t))
 
   pub flights_long : length (map Flight (all_kept t keeps)) ≡ pairs_kept t keeps
   flights_long = length-map (all_kept t keeps) Flight ∙ pairs_are t keeps
@@ -39,7 +40,7 @@ module _ (t : Tables) (keeps : Domains) (starts : Starts) where
   pub flight_there : (c : ℕ) → c < pairs_kept t keeps → column_at cols c ≡ Flight (pair_at_column t keeps c)
   flight_there c below =
       ap (λ cs. get_or cs c (Slack 0)) in_parts
-      ∙ get_or_append_left (map Flight (all_kept t keeps)) (map Ground (all_nodes t starts) ++ list_to Slack (fleets_in t)) (Slack 0) c (omega (arith, below, flights_long))
+      ∙ get_or_append_left (map Flight (all_kept t keeps)) (map Ground (all_nodes t starts) ++ list_below Slack (fleets_in t)) (Slack 0) c (omega (arith, below, flights_long))
       ∙ get_or-map Flight (all_kept t keeps) c (leg_on 0 0) (Slack 0) (omega (arith, below, pairs_are t keeps))
 
   -- each pair stands once
@@ -53,7 +54,7 @@ module _ (t : Tables) (keeps : Domains) (starts : Starts) where
       equal c d e = grind (arith, nat_tests)
 
   pub pairs_within : pairs_kept t keeps ≤ length cols
-  pairs_within = omega (arith, ap length in_parts, length-append (map Flight (all_kept t keeps)) (map Ground (all_nodes t starts) ++ list_to Slack (fleets_in t)), flights_long)
+  pairs_within = omega (arith, ap length in_parts, length-append (map Flight (all_kept t keeps)) (map Ground (all_nodes t starts) ++ list_below Slack (fleets_in t)), flights_long)
 
   pub pair_once : (c d : ℕ) → c < pairs_kept t keeps → d < pairs_kept t keeps → pair_at_column t keeps c ≡ pair_at_column t keeps d → c ≡ d
   pair_once c d here there same =

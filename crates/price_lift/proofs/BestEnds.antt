@@ -11,7 +11,7 @@ use Rattle.frac_row.specs.declared.row.FracRow.{FracRow}
 use Rattle.fleet_model.specs.declared.parts.Pair.{Pair}
 use Rattle.fleet_model.specs.declared.tables.Tables.{Tables}
 use Rattle.fleet_model.specs.Counts.{Weights}
-use Rattle.fleet_model.specs.Kept.{Domains, IsBare}
+use Rattle.fleet_model.specs.Kept.{Domains, IsBare, pairs_kept}
 use Rattle.fleet_model.specs.Mixed.{IsMixedPlan, mixed_cost, weight_on}
 use Rattle.fleet_model.specs.Schedule.{IsPair, fleets_in, leg_on, legs_in}
 use Rattle.row_store.specs.Table.{cost_row, height_of, right_side, row_at}
@@ -20,7 +20,7 @@ use Rattle.simplex_frac.specs.LastTables.{IsBasicPoint, IsBestTable, MeetsAtCost
 use Rattle.simplex_frac.specs.declared.turn.Turn.TheVariants as turns
 use Rattle.lp_rows.specs.declared.kinds.Column.{Column}
 use Rattle.lp_rows.specs.Layout.{IsNetwork, Starts, all_kept, columns_of, concat_below}
-use Rattle.lp_rows.specs.Points.{pair_part, pairs_kept}
+use Rattle.lp_rows.specs.Points.{pair_part}
 use Rattle.lp_rows.proofs.Places.{nothing_there}
 use Rattle.bound_cert.specs.Duality.{WeakDuality}
 use Rattle.bound_cert.specs.Fractions.{IsMixedAt, IsScale, IsWeight, IsWorth, parts_in}

@@ -8,13 +8,12 @@ use Rattle.frac_row.specs.Row.{IsRow, number_of, reduced}
 use Rattle.frac_row.specs.declared.row.FracRow.{FracRow}
 use Rattle.frac_row.proofs.Rows.{reduced_is_row}
 use Rattle.fleet_model.specs.declared.tables.Tables.{Tables}
-use Rattle.fleet_model.specs.Kept.{Domains}
+use Rattle.fleet_model.specs.Kept.{Domains, pairs_kept}
 use Rattle.fleet_model.specs.Schedule.{fleets_in}
 use Rattle.fleet_model.specs.Use.{last_minute}
 use Rattle.node_aggregate.specs.Nodes.{AreNodesAt}
 use Rattle.node_aggregate.proofs.EventsAmong.{happens_within}
 use Rattle.lp_rows.specs.Layout.{Starts, all_kept, all_nodes, concat_below}
-use Rattle.lp_rows.specs.Points.{pairs_kept}
 use Rattle.bound_cert.specs.Prices.{max_scale}
 use Rattle.bound_cert.specs.WrittenOrder.{ArePricesInOrder, IsFigure, IsMixedInOrder, IsWeightInOrder, WeightsFollow}
 use Rattle.bound_cert.specs.declared.mixed.Mixed.{Mixed}

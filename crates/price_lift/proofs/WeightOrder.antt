@@ -5,10 +5,9 @@ use Rattle.std.proofs.lemmas.Bool.Decides.{Decides-int_eq, nat_tests}
 use Rattle.std.proofs.lemmas.Int.{ints}
 use Rattle.fleet_model.specs.declared.parts.Pair.{Pair}
 use Rattle.fleet_model.specs.declared.tables.Tables.{Tables}
-use Rattle.fleet_model.specs.Kept.{Domains}
+use Rattle.fleet_model.specs.Kept.{Domains, pairs_kept}
 use Rattle.fleet_model.specs.Schedule.{fleets_in, leg_on, legs_in}
 use Rattle.lp_rows.specs.Layout.{all_kept, concat_below, pair_of, pairs_of, Starts}
-use Rattle.lp_rows.specs.Points.{pairs_kept}
 use Rattle.lp_rows.proofs.Counted.{pairs_are}
 use Rattle.bound_cert.specs.Reading.{weight_follows}
 use Rattle.bound_cert.specs.WrittenOrder.{IsFigure, IsWeightInOrder, WeightsFollow}
