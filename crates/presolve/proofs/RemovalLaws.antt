@@ -1,7 +1,7 @@
 -- What removals show, and how many there are.
 use Rattle.std.proofs.Common.{◌≡◌, ℕ, ◌+◌, ◌<◌, Bool, true, false, if◌then◌else◌, ◌==◌, nat_lt, Option, Some, None, List, [], ◌∷◌, length, pos, ◌<ℤ◌, refl, arith}
 use Rattle.std.proofs.lemmas.Bool.Decides.{nat_tests}
-use Rattle.fleet_model.specs.Kept.{Domains}
+use Rattle.fleet_model.specs.Kept.{Domains, pairs_kept}
 use Rattle.fleet_model.specs.Schedule.{IsPair, fleet_of, leg_of}
 use Rattle.fleet_model.specs.Times.{departure}
 use Rattle.fleet_model.specs.declared.parts.Pair.{Pair}
@@ -10,7 +10,7 @@ use Rattle.bound_cert.specs.Bound.{part}
 use Rattle.bound_cert.specs.Worth.{worth_of}
 use Rattle.bound_cert.specs.declared.prices.Prices.{Prices}
 use Rattle.presolve.specs.Reasons.{IsReason}
-use Rattle.presolve.specs.Removals.{AreRefuted, AreRemovals, IsDone, IsNext, IsRefuted, kept_after, pair_of, pairs_kept, without}
+use Rattle.presolve.specs.Removals.{AreRefuted, AreRemovals, IsDone, IsNext, IsRefuted, kept_after, pair_of, without}
 use Rattle.presolve.specs.Rules.{departures, landings, removed_by, rule_of, surely_busy}
 use Rattle.presolve.specs.declared.trims.Trim.{Trim}
 use Rattle.presolve.specs.declared.rule.Rule.{Rule}
