@@ -1,0 +1,3 @@
+pub mod Regroup
+pub mod Rounds
+pub mod Waits

@@ -1,4 +1,5 @@
 pub mod FirstOut
+pub mod Laws
 pub mod Maps
 pub mod Nights
 pub mod Throughs
