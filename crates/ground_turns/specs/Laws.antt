@@ -1,12 +1,12 @@
 -- The laws of turns and successor maps, as statements.
-use Rattle.std.specs.Prelude.{◌≡◌, ℕ, ◌+◌, ◌-◌, ◌<◌, List}
+use Rattle.std.specs.Prelude.{◌≡◌, ℕ, ◌+◌, ◌-◌, ◌<◌, ◌↔◌, List}
 use Rattle.sums.specs.Below.{sum_below}
 use Rattle.fleet_model.specs.declared.parts.Connection.{Connection}
 use Rattle.fleet_model.specs.declared.tables.Tables.{Tables}
 use Rattle.fleet_model.specs.Counts.{weights_of}
 use Rattle.fleet_model.specs.Schedule.{stations_in}
 use Rattle.fleet_model.specs.Use.{need_of, stand_of, used_of}
-use Rattle.ground_turns.specs.Maps.{IsSuccessorMap, crossings_at, periods_of, waiting_at}
+use Rattle.ground_turns.specs.Maps.{AreClean, IsFitting, IsSuccessorMap, crossings_at, periods_of, waiting_at}
 use Rattle.ground_turns.specs.Turns.{period_of}
 
 -- by how many the turns at a station that cross the period's start pass its need
@@ -26,3 +26,13 @@ WaitingLaw = (t : Tables) (a : List ℕ) (f : ℕ) (turns : List Connection) (s 
 abbrev pub PeriodsBeyondUse : Type 0
 PeriodsBeyondUse = (t : Tables) (a : List ℕ) (f : ℕ) (turns : List Connection) → IsSuccessorMap t a f turns
     → periods_of t a f turns ≡ used_of t (weights_of a) f + sum_below (surplus_at t a f turns) (stations_in t)
+
+-- a map fits exactly where all its turns are clean
+abbrev pub FitsWhereClean : Type 0
+FitsWhereClean = (t : Tables) (a : List ℕ) (f : ℕ) (turns : List Connection) → IsSuccessorMap t a f turns
+    → (IsFitting t a f turns ↔ AreClean t a f turns)
+
+-- in a fitting map the aircraft that wait at a station at a moment number those that stand there
+abbrev pub WaitingIsStand : Type 0
+WaitingIsStand = (t : Tables) (a : List ℕ) (f : ℕ) (turns : List Connection) (s m : ℕ) → IsFitting t a f turns → s < stations_in t → m < period_of t
+    → waiting_at t f turns s m ≡ stand_of t (weights_of a) f s m
