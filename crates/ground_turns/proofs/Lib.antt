@@ -1,0 +1,5 @@
+pub mod Fits
+pub mod Regroup
+pub mod Rounds
+pub mod Totals
+pub mod Waits
