@@ -1,4 +1,6 @@
+pub mod DayStarts
 pub mod Fits
+pub mod NightCounts
 pub mod Regroup
 pub mod Rounds
 pub mod Totals
