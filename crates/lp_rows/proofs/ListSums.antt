@@ -5,7 +5,7 @@ use lib.IntN.{zero-*ℤ, +ℤ_idl}
 use Rattle.sums.specs.Below.{sum_below, sum_below_ℤ, count_below}
 use Rattle.sums.proofs.Integers.{one-*ℤ}
 use Rattle.sums.proofs.Places.{get_or-list_below, length-list_below, list_below-push}
-use Rattle.sums.proofs.WholeSums.{sum_below_ℤ-same}
+use Rattle.sums.proofs.WholeSums.{sum_below_ℤ-same, sum_below_ℤ-pos}
 use Rattle.sums.proofs.WholeSwaps.{sum_below_ℤ-zero, where_true}
 use Rattle.lp_rows.specs.Entries.{one_if}
 use Rattle.sums.specs.Places.{list_below}
@@ -60,17 +60,12 @@ test_out false g n = sum_below_ℤ-zero n
 pub all_zero : (g : ℕ → ℤ) (n : ℕ) → ((k : ℕ) → k < n → g k ≡ pos 0) → sum_below_ℤ g n ≡ pos 0
 all_zero g n none = sum_below_ℤ-same g (λ k. pos 0) n none ∙ sum_below_ℤ-zero n
 
--- sums of counts
-pub of_counts : (f : ℕ → ℕ) (n : ℕ) → sum_below_ℤ (λ k. pos (f k)) n ≡ pos (sum_below f n)
-of_counts f zero = refl
-of_counts f (suc n) = omega (arith, ints, of_counts f n)
-
 pub one_if-times : (b : Bool) (z : ℤ) → one_if b *ℤ z ≡ where_true b z
 one_if-times true z = one-*ℤ z
 one_if-times false z = zero-*ℤ z
 
 pub of_tests : (p : ℕ → Bool) (n : ℕ) → sum_below_ℤ (λ k. one_if (p k)) n ≡ pos (count_below p n)
-of_tests p n = sum_below_ℤ-same (λ k. one_if (p k)) (λ k. pos (if p k then 1 else 0)) n (λ k below. as_count (p k)) ∙ of_counts (λ k. if p k then 1 else 0) n
+of_tests p n = sum_below_ℤ-same (λ k. one_if (p k)) (λ k. pos (if p k then 1 else 0)) n (λ k below. as_count (p k)) ∙ sum_below_ℤ-pos (λ k. if p k then 1 else 0) n
   where
     as_count : (b : Bool) → one_if b ≡ pos (if b then 1 else 0)
     as_count true = refl

@@ -3,6 +3,7 @@ use Rattle.std.proofs.Common.{◌≡◌, ◌≢◌, ℕ, ◌+◌, ◌<◌, Bool,
 use Rattle.std.proofs.lemmas.Bool.Decides.{nat_tests}
 use Rattle.sums.proofs.Counts.{count_below-some}
 use Rattle.sums.proofs.Sums.{count_below-le, sum_below-agree, sum_below-bound}
+use Rattle.sums.proofs.Tests.{first_true}
 use Rattle.fleet_model.specs.Kept.{Domains, kept_on, pairs_kept}
 use Rattle.fleet_model.specs.Schedule.{IsPair, fleets_in, leg_on, legs_in}
 use Rattle.fleet_model.specs.declared.limits.TheConstants.{MAX_FLEETS}
@@ -63,11 +64,7 @@ is_own_fleet keeps leg fleet f kept = by_test (keeps (leg_on leg f)) (leg == leg
 
 -- nothing is kept that wasn't
 pub was_kept : (keeps : Domains) (leg fleet : ℕ) (kept : Bool) (q : Pair) → part keeps leg fleet kept q ≡ true → keeps q ≡ true
-was_kept keeps leg fleet kept q h = left (keeps q) _ h
-  where
-    left : (a b : Bool) → (a && b) ≡ true → a ≡ true
-    left true b e = refl
-    left false b e = cc
+was_kept keeps leg fleet kept q h = first_true (keeps q) _ h
 
 module _ (t : Tables) (keeps : Domains) (leg fleet : ℕ) where
   other_leg : (kept : Bool) (l : ℕ) → l ≢ leg → kept_on t (part keeps leg fleet kept) l ≡ kept_on t keeps l

@@ -5,6 +5,8 @@ use Rattle.std.proofs.lemmas.Bool.{cases_lt}
 use Rattle.std.proofs.lemmas.Bool.Decides.{nat_tests}
 use Rattle.std.proofs.lemmas.Int.{ints}
 use Rattle.std.proofs.lemmas.List.{get_or-map, get_or_append_left, length-map}
+use Rattle.sums.proofs.Naturals.{same_number}
+use Rattle.sums.proofs.Tests.{by_test}
 use Rattle.frac_row.specs.declared.row.FracRow.{FracRow}
 use Rattle.fleet_model.specs.declared.parts.Pair.{Pair}
 use Rattle.fleet_model.specs.declared.tables.Tables.{Tables}
@@ -65,10 +67,6 @@ after_append : (w : ℤ) (xs ys : List Weight) (p : Pair) → weight_after w (xs
 unfolding weight_after
 after_append w [] ys p = refl
 after_append w (x ∷ xs) ys p = after_append (if is_weight_of p x then x.weight else w) xs ys p
-
-by_test : {X : Type 0} (b : Bool) → (b ≡ true → X) → (b ≡ false → X) → X
-by_test true p q = p refl
-by_test false p q = q refl
 
 same_pair : (q p : Pair) → ((q.leg == p.leg) && (q.fleet == p.fleet)) ≡ true → q ≡ p
 same_pair q p e =
@@ -157,10 +155,7 @@ part_there table basis scale (suc n) line own below = by_test (get_or basis n 0 
     (λ e.
     ap (λ b. cond b (part_of table scale n) (part_below table basis scale n (get_or basis line 0))) e
     ∙ part_there table basis scale n line (record { differ = λ i j less there. own.differ i j (omega arith) (omega arith) })
-    (elim (cases_lt line n) [ inl before ↦ before | inr last ↦ let at : n ≡ line = omega arith in absurd (false≢true (sym e ∙ ap (λ l. get_or basis l 0 == get_or basis line 0) at ∙ equal (get_or basis line 0))) ]))
-  where
-    equal : (m : ℕ) → (m == m) ≡ true
-    equal m = grind (arith, nat_tests)
+    (elim (cases_lt line n) [ inl before ↦ before | inr last ↦ let at : n ≡ line = omega arith in absurd (false≢true (sym e ∙ ap (λ l. get_or basis l 0 == get_or basis line 0) at ∙ same_number (get_or basis line 0))) ]))
 
 no_part : (table : List FracRow) (basis : List ℕ) (scale n column : ℕ) → ((line : ℕ) → line < n → get_or basis line 0 ≢ column) → part_below table basis scale n column ≡ 0
 no_part table basis scale zero column other = refl

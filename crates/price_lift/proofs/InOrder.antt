@@ -3,6 +3,7 @@ use Rattle.std.proofs.Common.{◌≡◌, ℕ, zero, suc, ◌+◌, ◌<◌, ◌�
 use Rattle.std.proofs.lemmas.Bool.Decides.{nat_tests}
 use Rattle.std.proofs.lemmas.Int.{ints}
 use Rattle.sums.proofs.Places.{get_or-list_below, length-list_below}
+use Rattle.sums.proofs.Tests.{by_test}
 use Rattle.frac_row.specs.Outgrown.{IsWithin}
 use Rattle.frac_row.specs.Row.{IsRow, number_of, reduced}
 use Rattle.frac_row.specs.declared.row.FracRow.{FracRow}
@@ -21,7 +22,6 @@ use Rattle.bound_cert.specs.declared.prices.Prices.{Prices}
 use Rattle.price_lift.specs.Parts.{AreParts, HaveParts, part_below, part_of, weights_at}
 use Rattle.price_lift.specs.Steps.{ArePricesBy, prices_by}
 use Rattle.price_lift.proofs.Minutes.{nodes_rise}
-use Rattle.price_lift.proofs.Orders.{by_test}
 use Rattle.price_lift.proofs.StepOrder.{steps_in_order}
 use Rattle.price_lift.proofs.WeightOrder.{weights_follow, weights_in_order}
 use Rattle.row_store.specs.Table.{height_of}

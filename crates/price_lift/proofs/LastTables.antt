@@ -7,6 +7,7 @@ use Rattle.std.proofs.lemmas.Int.{ints}
 use Rattle.sums.proofs.Division.{positive_factor}
 use Rattle.sums.proofs.Integers.{*ℤ_assoc, *ℤ_left_comm}
 use Rattle.sums.proofs.Places.{nothing_at}
+use Rattle.sums.proofs.Sizes.{pos_above}
 use Rattle.frac_row.specs.Row.{common_divisor, number_of, reduced, width_of}
 use Rattle.frac_row.specs.declared.row.FracRow.{FracRow}
 use Rattle.frac_row.proofs.Rows.{common_divisor_positive, den_times, number_times}
@@ -120,10 +121,7 @@ module _ (t : Tables) (duals : FracRow) (some : pos 0 <ℤ duals.den) (fits : pr
   divisor = pos (common_divisor duals)
 
   pub divisor_above : pos 0 <ℤ divisor
-  divisor_above = above (common_divisor duals) (common_divisor_positive duals some)
-    where
-      above : (n : ℕ) → 0 < n → pos 0 <ℤ pos n
-      above n some = omega (arith, ints)
+  divisor_above = pos_above (common_divisor duals) (common_divisor_positive duals some)
 
   pub scale_times : divisor *ℤ (reduced duals).den ≡ duals.den
   scale_times = den_times duals

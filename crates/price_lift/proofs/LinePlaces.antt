@@ -5,6 +5,7 @@ use Rattle.std.proofs.lemmas.Int.{ints}
 use Rattle.std.proofs.lemmas.List.{get_or-map, get_or_append_left, get_or_past, length-map}
 use Rattle.sums.specs.Below.{sum_below, sum_below_ℤ}
 use Rattle.sums.proofs.WholeSums.{sum_below_ℤ-same}
+use Rattle.sums.proofs.WholeTerms.{sum_below_ℤ-stretches}
 use Rattle.fleet_model.specs.declared.tables.Tables.{Tables}
 use Rattle.fleet_model.specs.Schedule.{fleets_in, legs_in, stations_in}
 use Rattle.lp_rows.specs.declared.kinds.Node.{Node}
@@ -70,19 +71,10 @@ split count (suc n) place below = elim (cases_lt place (sum_below count n)) [
 ]
 
 -- ---- sums by parts
-pub sum_behind : (h : ℕ → ℤ) (a b : ℕ) → sum_below_ℤ h (a + b) ≡ sum_below_ℤ h a +ℤ sum_below_ℤ (λ k. h (a + k)) b
-sum_behind h a zero = ap (sum_below_ℤ h) (none a) ∙ omega (arith, ints)
-  where
-    none : (a : ℕ) → a + 0 ≡ a
-    none a = omega arith
-sum_behind h a (suc b) = ap (sum_below_ℤ h) (next a b) ∙ omega (arith, ints, sum_behind h a b)
-  where
-    next : (a b : ℕ) → a + suc b ≡ suc (a + b)
-    next a b = omega arith
 
 pub sum_parts : (h : ℕ → ℤ) (count : ℕ → ℕ) (n : ℕ) → sum_below_ℤ h (sum_below count n) ≡ sum_below_ℤ (λ i. sum_below_ℤ (λ k. h (sum_below count i + k)) (count i)) n
 sum_parts h count zero = refl
-sum_parts h count (suc n) = sum_behind h (sum_below count n) (count n) ∙ ap (λ z. z +ℤ sum_below_ℤ (λ k. h (sum_below count n + k)) (count n)) (sum_parts h count n)
+sum_parts h count (suc n) = sum_below_ℤ-stretches h (sum_below count n) (count n) ∙ ap (λ z. z +ℤ sum_below_ℤ (λ k. h (sum_below count n + k)) (count n)) (sum_parts h count n)
 
 -- ---- the lines
 module _ (t : Tables) (starts : Starts) where
@@ -180,9 +172,9 @@ module _ (t : Tables) (starts : Starts) where
       +ℤ (sum_below_ℤ (λ f. sum_below_ℤ (λ s. sum_below_ℤ (λ k. h (legs_in t + (before f s + k))) (length (starts f s))) (stations_in t)) (fleets_in t)
       +ℤ sum_below_ℤ (λ f. h (legs_in t + (arcs_in t starts + f))) (fleets_in t))
   over_lines h =
-      sum_behind h (legs_in t) (arcs_in t starts + fleets_in t)
+      sum_below_ℤ-stretches h (legs_in t) (arcs_in t starts + fleets_in t)
       ∙ ap (λ z. sum_below_ℤ h (legs_in t) +ℤ z)
-      (sum_behind (λ k. h (legs_in t + k)) (arcs_in t starts) (fleets_in t)
+      (sum_below_ℤ-stretches (λ k. h (legs_in t + k)) (arcs_in t starts) (fleets_in t)
       ∙ ap (λ z. z +ℤ sum_below_ℤ (λ f. h (legs_in t + (arcs_in t starts + f))) (fleets_in t))
       (sum_parts (λ k. h (legs_in t + k)) nodes_in (fleets_in t)
       ∙ sum_below_ℤ-same (λ f. sum_below_ℤ (λ k. h (legs_in t + (sum_below nodes_in f + k))) (nodes_in f)) (λ f. sum_below_ℤ (λ s. sum_below_ℤ (λ k. h (legs_in t + (before f s + k))) (length (starts f s))) (stations_in t)) (fleets_in t)
