@@ -2,10 +2,9 @@
 use Rattle.std.proofs.Common.{ℕ, zero, suc, ◌<◌, Bool, true, false, if◌then◌else◌, List, [], ◌∷◌, length, get_or, All, ℤ, pos, unsigned_abs, ◌==◌, arith}
 use Rattle.std.proofs.lemmas.List.Elements.{All-append, All-cons, All-nil}
 use Rattle.fleet_model.specs.declared.tables.Tables.{Tables}
-use Rattle.fleet_model.specs.Kept.{Domains}
+use Rattle.fleet_model.specs.Kept.{Domains, pairs_kept}
 use Rattle.fleet_model.specs.Schedule.{leg_on}
 use Rattle.lp_rows.specs.Layout.{Starts, all_kept, all_nodes, concat_below}
-use Rattle.lp_rows.specs.Points.{pairs_kept}
 use Rattle.lp_rows.proofs.Counted.{nodes_are}
 use Rattle.bound_cert.specs.OfTables.{IsStepOf, IsWeightOf}
 use Rattle.price_lift.specs.Parts.{weights_at}
