@@ -7,6 +7,7 @@ use Rattle.sums.specs.Below.{count_below}
 use Rattle.sums.specs.Places.{list_below}
 use Rattle.sums.proofs.Places.{get_or-list_below, length-list_below}
 use Rattle.sums.proofs.Tests.{by_either}
+use Rattle.frac_row.proofs.Ceilings.{same_ceiling}
 use Rattle.fleet_model.specs.Counts.{fleet_at}
 use Rattle.fleet_model.specs.Kept.{Domains, IsKeptAssignment, IsSole}
 use Rattle.fleet_model.specs.Legal.{IsLegal, total_cost}
@@ -25,7 +26,6 @@ use Rattle.cert_check.specs.declared.rules.Rule.TheVariants as rule
 use Rattle.cert_check.proofs.NodeRules.{prices_known}
 use Rattle.branch_bound.specs.Found.{AnswersSole, FallsShort, LeavesGap}
 use Rattle.branch_bound.proofs.Nodes.{first_all, node, second_all}
-use Rattle.branch_bound.proofs.Orders.{same_ceiling}
 
 -- ---- the one assignment that is left
 -- the last number below n that passes

@@ -3,8 +3,8 @@ use Rattle.std.proofs.Common.{◌≡◌, ℕ, ◌+◌, ◌<◌, Bool, true, fals
 use Rattle.std.proofs.lemmas.Int.{by_lt_z, ints}
 use lib.IntN.{*ℤ_comm}
 use Rattle.sums.proofs.Orders.{factor_le}
-use Rattle.sums.proofs.Signs.{lesser_multiple}
 use Rattle.frac_row.specs.Ratio.{IsCeiling}
+use Rattle.frac_row.proofs.Ceilings.{same_ceiling}
 use Rattle.fleet_model.specs.Kept.{Domains, IsKeptAssignment, IsSole}
 use Rattle.fleet_model.specs.Legal.{IsLegal, total_cost}
 use Rattle.fleet_model.specs.declared.tables.Tables.{Tables}
@@ -45,11 +45,6 @@ prices_proper t cost node bound before below =
 -- each leg before a place keeps one fleet, and so does that at the place
 pub one_on_more : (count : ℕ → ℕ) (n : ℕ) → ((m : ℕ) → m < n → count m ≡ 1) → count n ≡ 1 → (m : ℕ) → m < n + 1 → count m ≡ 1
 one_on_more count n before here m below = grind arith
-
-pub same_ceiling : (n d x y : ℤ) → pos 1 ≤ℤ d → IsCeiling n d x → IsCeiling n d y → x ≤ℤ y
-same_ceiling n d x y some first second =
-    let below : (x -ℤ pos 1) <ℤ y = lesser_multiple d (x -ℤ pos 1) y some (omega (arith, ints, first.least, second.enough)) in
-    omega (arith, ints, below)
 
 pub reached : (t : Tables) (keeps : Domains) (prices : Prices) (cost least : ℤ) (b : Bool) → pos 1 ≤ℤ prices.scale → IsCeiling (worth_of t keeps prices 1) prices.scale least
     → MatchBool b (cost ≤ℤ least) (least <ℤ cost) → MatchBool b (Reaches t keeps prices cost) (¬ (Reaches t keeps prices cost))
