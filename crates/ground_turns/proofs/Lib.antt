@@ -1,4 +1,5 @@
 pub mod DayStarts
+pub mod Exchanges
 pub mod Fits
 pub mod NightCounts
 pub mod Regroup
