@@ -1,7 +1,11 @@
 pub mod DayStarts
 pub mod Exchanges
+pub mod FirstOuts
 pub mod Fits
+pub mod FreeTurns
 pub mod NightCounts
+pub mod Places
+pub mod Ranks
 pub mod Regroup
 pub mod Rounds
 pub mod Totals

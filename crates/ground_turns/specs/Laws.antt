@@ -7,7 +7,8 @@ use Rattle.fleet_model.specs.declared.tables.Tables.{Tables}
 use Rattle.fleet_model.specs.Counts.{weights_of}
 use Rattle.fleet_model.specs.Schedule.{stations_in}
 use Rattle.fleet_model.specs.Use.{need_of, stand_of, used_of}
-use Rattle.ground_turns.specs.Maps.{AreClean, AreExchanged, IsFitting, IsSuccessorMap, crossings_at, periods_of, turn_at, waiting_at}
+use Rattle.ground_turns.specs.FirstOut.{AreFirstOut}
+use Rattle.ground_turns.specs.Maps.{AreClean, AreExchanged, Holds, IsFitting, IsHeld, IsSuccessorMap, crossings_at, periods_of, turn_at, waiting_at}
 use Rattle.ground_turns.specs.Turns.{days_in, nights_waited, period_of, station_at, touches}
 
 -- by how many the turns at a station that cross the period's start pass its need
@@ -76,3 +77,8 @@ pub record Touch (t : Tables) (f : ℕ) (turns : List Connection) (i j m : ℕ) 
 abbrev pub ExchangedFits : Type 0
 ExchangedFits = (t : Tables) (a : List ℕ) (f : ℕ) (old new : List Connection) (i j m : ℕ) → IsFitting t a f old → Touch t f old i j m
     → AreExchanged old new i j → IsFitting t a f new
+
+-- where some fitting map holds given pairs, a map that holds them fits if aircraft depart first in, first out beside them
+abbrev pub FirstOutFits : Type 0
+FirstOutFits = (t : Tables) (a : List ℕ) (f : ℕ) (given turns : List Connection) → IsHeld t a f given → IsSuccessorMap t a f turns → Holds turns given
+    → AreFirstOut t a f given turns → IsFitting t a f turns

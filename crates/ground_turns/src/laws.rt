@@ -1,5 +1,5 @@
 //! The laws of turns and successor maps. Each function is a law: its contract is the statement, and it does nothing.
-ghost use Rattle.ground_turns.specs.Laws.{ExchangedFits, FitsWhereClean, NightsAreNeed, NightsAreStands, PeriodsBeyondUse, WaitingIsStand, WaitingLaw};
+ghost use Rattle.ground_turns.specs.Laws.{ExchangedFits, FirstOutFits, FitsWhereClean, NightsAreNeed, NightsAreStands, PeriodsBeyondUse, WaitingIsStand, WaitingLaw};
 
 /// In a successor map the aircraft that wait at a station are, at each moment, those that stand there and one number
 /// more: by which the turns that cross the period's start pass the need.
@@ -36,4 +36,10 @@ pub fn nights_are_need()
 /// Where two turns at a station touch one minute, a fitting map with their departures exchanged fits too.
 pub fn exchanged_fits()
     ensures { ExchangedFits }
+{}
+
+/// Where some fitting map holds given pairs, a successor map that holds them fits if beside them aircraft depart from
+/// each station in the order in which they became ready there.
+pub fn first_out_fits()
+    ensures { FirstOutFits }
 {}
