@@ -71,14 +71,14 @@ where_given true false x y h = ap bit (h refl)
 where_given false c x y h = refl
 
 -- a given pair of the leg crosses
-abbrev given_crosses : Tables → ℕ → List Connection → ℕ → ℕ → Bool
+abbrev pub given_crosses : Tables → ℕ → List Connection → ℕ → ℕ → Bool
 given_crosses t f given l g = ((turn_at given g).arriving == l) && crosses t f (turn_at given g)
 
-abbrev crosses_by_given : Tables → ℕ → List Connection → ℕ → Bool
+abbrev pub crosses_by_given : Tables → ℕ → List Connection → ℕ → Bool
 crosses_by_given t f given l = not (count_below (given_crosses t f given l) (length given) == 0)
 
 -- a leg that lands at the station with a given pair that crosses
-abbrev given_at : Tables → ℕ → List Connection → ℕ → ℕ → Bool
+abbrev pub given_at : Tables → ℕ → List Connection → ℕ → ℕ → Bool
 given_at t f given s l = (((leg_of t l).to == s) && not (arrivals_of given l == 0)) && crosses_by_given t f given l
 
 module _ (t : Tables) (a : List ℕ) (f : ℕ) (given turns : List Connection) (map : IsSuccessorMap t a f turns) (holds : Holds turns given) where

@@ -97,6 +97,13 @@ keyed_all p key n x = sum_below-le (λ q. bit (p q && nat_lt (key q) x)) (λ q. 
     one : (b c : Bool) → bit (b && c) ≤ bit b
     one b c = grind (arith, nat_tests)
 
+past_counts : (p : ℕ → Bool) (key : ℕ → ℕ) (n : ℕ) → keyed_below p key n (past_all p key n) ≡ count_below p n
+unfolding keyed_below
+past_counts p key n = sum_below-agree (λ q. bit (p q && nat_lt (key q) (past_all p key n))) (λ q. bit (p q)) n (record { each = λ q lt. one (p q) (key q) (past_all p key n) (under_past p key n q lt) })
+  where
+    one : (b : Bool) (k x : ℕ) → k < x → bit (b && nat_lt k x) ≡ bit b
+    one b k x less = grind (arith, nat_tests)
+
 module _ (p : ℕ → Bool) (key : ℕ → ℕ) (n : ℕ) (differ : Differ p key n) where
   keyed_once : (x : ℕ) → count_below (λ q. p q && (key q == x)) n ≤ 1
   keyed_once x = at_most_one (λ q. p q && (key q == x)) n (λ j k lt less e g.
@@ -148,3 +155,7 @@ module _ (p : ℕ → Bool) (key : ℕ → ℕ) (n : ℕ) (differ : Differ p key
   place_within q lt passes =
       let some = count_below-some (λ k. p k && (key k == key q)) n q lt (and_from (p q) (key q == key q) passes (eq-eqb (key q) (key q) refl)) in
       omega (arith, keyed_more p key n (key q), some, keyed_all p key n (suc (key q)))
+
+  -- each place below their number is taken
+  pub place_taken : (j : ℕ) → j < count_below p n → (q : ℕ) × (q < n) × (p q ≡ true) × (keyed_below p key n (key q) ≡ j)
+  place_taken j h = at_place (past_all p key n) j (omega (arith, past_counts p key n, h))

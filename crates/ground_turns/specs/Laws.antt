@@ -1,12 +1,12 @@
 -- The laws of turns and successor maps, as statements.
-use Rattle.std.specs.Prelude.{◌≡◌, ◌≢◌, ℕ, suc, ◌+◌, ◌-◌, ◌*◌, ◌<◌, ◌==◌, ◌↔◌, if◌then◌else◌, IsTrue, List, length}
+use Rattle.std.specs.Prelude.{◌≡◌, ◌≢◌, ℕ, suc, ◌+◌, ◌-◌, ◌*◌, ◌<◌, ◌==◌, ◌↔◌, if◌then◌else◌, IsTrue, List, [], length}
 use Rattle.sums.specs.Below.{sum_below}
 use Rattle.fleet_model.specs.declared.limits.TheConstants.{MINUTES_PER_DAY}
 use Rattle.fleet_model.specs.declared.parts.Connection.{Connection}
 use Rattle.fleet_model.specs.declared.tables.Tables.{Tables}
 use Rattle.fleet_model.specs.Counts.{weights_of}
-use Rattle.fleet_model.specs.Schedule.{stations_in}
-use Rattle.fleet_model.specs.Use.{need_of, stand_of, used_of}
+use Rattle.fleet_model.specs.Schedule.{fleets_in, stations_in}
+use Rattle.fleet_model.specs.Use.{IsBalanced, need_of, stand_of, used_of}
 use Rattle.ground_turns.specs.FirstOut.{AreFirstOut}
 use Rattle.ground_turns.specs.Maps.{AreClean, AreExchanged, Holds, IsFitting, IsHeld, IsSuccessorMap, crossings_at, periods_of, turn_at, waiting_at}
 use Rattle.ground_turns.specs.Turns.{days_in, nights_waited, period_of, station_at, touches}
@@ -82,3 +82,7 @@ ExchangedFits = (t : Tables) (a : List ℕ) (f : ℕ) (old new : List Connection
 abbrev pub FirstOutFits : Type 0
 FirstOutFits = (t : Tables) (a : List ℕ) (f : ℕ) (given turns : List Connection) → IsHeld t a f given → IsSuccessorMap t a f turns → Holds turns given
     → AreFirstOut t a f given turns → IsFitting t a f turns
+
+-- where as many aircraft of a fleet come to each station as leave it, some map fits
+abbrev pub SomeFits : Type 0
+SomeFits = (t : Tables) (a : List ℕ) (f : ℕ) → IsBalanced t (weights_of a) → f < fleets_in t → IsHeld t a f []

@@ -1,5 +1,5 @@
 //! The laws of turns and successor maps. Each function is a law: its contract is the statement, and it does nothing.
-ghost use Rattle.ground_turns.specs.Laws.{ExchangedFits, FirstOutFits, FitsWhereClean, NightsAreNeed, NightsAreStands, PeriodsBeyondUse, WaitingIsStand, WaitingLaw};
+ghost use Rattle.ground_turns.specs.Laws.{ExchangedFits, FirstOutFits, FitsWhereClean, NightsAreNeed, NightsAreStands, PeriodsBeyondUse, SomeFits, WaitingIsStand, WaitingLaw};
 
 /// In a successor map the aircraft that wait at a station are, at each moment, those that stand there and one number
 /// more: by which the turns that cross the period's start pass the need.
@@ -42,4 +42,9 @@ pub fn exchanged_fits()
 /// each station in the order in which they became ready there.
 pub fn first_out_fits()
     ensures { FirstOutFits }
+{}
+
+/// Some map fits for each fleet of a balanced assignment, as each legal one is: the one that goes first in, first out.
+pub fn some_fits()
+    ensures { SomeFits }
 {}
