@@ -58,12 +58,6 @@ ceiling_of n d some =
 more_times : (d x y : ℤ) → pos 1 ≤ℤ d → (x *ℤ d) <ℤ (y *ℤ d) → x <ℤ y
 more_times d x y some h = by_lt_z x y (λ lt. lt) (λ ge. absurd (omega (arith, ints, h, factor_le d y x (omega (arith, ints, some)) ge, *ℤ_comm x d, *ℤ_comm y d)))
 
--- a ratio is rounded up to one number
-pub same_ceiling : (n d x y : ℤ) → pos 1 ≤ℤ d → IsCeiling n d x → IsCeiling n d y → x ≤ℤ y
-same_ceiling n d x y some first second =
-    let below : (x -ℤ pos 1) <ℤ y = more_times d (x -ℤ pos 1) y some (omega (arith, ints, first.least, second.enough)) in
-    omega (arith, ints, below)
-
 module _ (t : Tables) (keeps : Domains) (prices : Prices) (cost : ℤ) (some : pos 1 ≤ℤ prices.scale) where
   abbrev worth : ℤ
   worth = worth_of t keeps prices 1
