@@ -8,6 +8,7 @@ pub mod LineTwins
 pub mod Lines
 pub mod LinesOfWords
 pub mod Numbers
+pub mod PriceLists
 pub mod ReadBack
 pub mod ReadOfTables
 pub mod ReadOn

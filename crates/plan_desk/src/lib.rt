@@ -8,11 +8,12 @@ mod failing;
 mod faults;
 mod file;
 mod file_desk;
+pub mod laws;
 mod memory_desk;
 mod memory_sink;
 mod sink;
-mod std_sink;
 mod transfer;
+mod writer_sink;
 
 pub use desk::{Desk, DeskError};
 pub use failing::FailingCall;
@@ -21,7 +22,7 @@ pub use file_desk::FileDesk;
 pub use memory_desk::MemoryDesk;
 pub use memory_sink::MemorySink;
 pub use sink::{Sink, SinkError};
-pub use std_sink::StdSink;
+pub use writer_sink::{StdSink, WriterSink};
 
 #[cfg(test)]
 mod tests;

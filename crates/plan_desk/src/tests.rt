@@ -136,7 +136,7 @@ fn real_files_are_written_and_read(rt: HostRuntime) -> Result<(), Fail> {
 
 #[test]
 fn the_output_takes_pieces(rt: HostRuntime) -> Result<(), Fail> {
-    let mut sink = StdSink::new(rt);
+    let mut sink = StdSink::new(&rt);
     sink.put(b"the output takes pieces\n")?;
     sink.put(b"")?;
     assert_eq!(rt; sink.faults(), 0);
