@@ -22,6 +22,3 @@ pub use memory_desk::MemoryDesk;
 pub use memory_sink::MemorySink;
 pub use sink::{Sink, SinkError};
 pub use std_sink::StdSink;
-
-#[cfg(test)]
-mod tests;
