@@ -6,6 +6,7 @@ pub mod LeastWorth
 pub mod Lines
 pub mod LinesOfWords
 pub mod Numbers
+pub mod PriceLists
 pub mod ReadBack
 pub mod ReadOfTables
 pub mod ReadOn

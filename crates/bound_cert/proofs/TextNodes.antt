@@ -4,6 +4,7 @@ use Rattle.std.specs.Prelude.{⊤}
 use Rattle.std.specs.Fmt.{decimal}
 use Rattle.std.proofs.lemmas.Bool.Decides.{nat_tests}
 use Rattle.std.proofs.lemmas.List.{map-append}
+use Rattle.sums.proofs.Tests.{other_true}
 use Rattle.fleet_model.specs.Schedule.{IsPair, leg_of, leg_on, legs_in}
 use Rattle.fleet_model.specs.declared.tables.Tables.{Tables}
 use Rattle.bound_cert.specs.Figures.{natural_in}
@@ -66,10 +67,6 @@ record HeadWas (t : Tables) (words : Line) (h : Head) : Type 0 where
 -- so many words, of which the first is known
 width_is : (m n : ℕ) → ◌≡◌ {A = Option ℕ} (Some m) (Some n) → n ≡ m
 width_is m n e = sym (cc e)
-
-either_test : (a b : Bool) → (a || b) ≡ true → a ≡ false → b ≡ true
-either_test true b e off = absurd (cc off)
-either_test false b e off = e
 
 record CountWas (words : Line) (k n : ℕ) : Type 0 where
   count : IsCount n
@@ -242,7 +239,7 @@ module _ (t : Tables) (words : Line) (left : Left) where
       (λ no_open e.
       let last = last_is (trim || split) 3 (length words) (sym (refused open_leaf _ _ no_open) ∙ width) in
       either_way trim _ _ h e (λ is e. trim_was h (same_bytes (word_at words 0) (codes "trim") is) last.1 e)
-      (λ no_trim e. split_was h (same_bytes (word_at words 0) (codes "split") (either_test trim split last.0 no_trim)) last.1 e))))))
+      (λ no_trim e. split_was h (same_bytes (word_at words 0) (codes "split") (other_true trim split last.0 no_trim)) last.1 e))))))
 
 -- a node that was read: it is in order, its lines are those that are read, and it isn't too deep
 pub record NodeWas (t : Tables) (above : ℕ) (left : Left) (read : Node × Left) : Type 0 where

@@ -4,6 +4,7 @@ use Rattle.std.specs.Prelude.{IsTrue}
 use Rattle.std.specs.Fmt.{decimal}
 use Rattle.std.specs.Ordering.{int_eq}
 use Rattle.std.proofs.lemmas.Bool.Decides.{nat_tests}
+use Rattle.sums.proofs.Tests.{first_true, not_true, second_true}
 use Rattle.fleet_model.specs.Schedule.{IsPair, fleet_of, fleets_in, leg_of, leg_on, station_of}
 use Rattle.fleet_model.specs.Use.{last_minute}
 use Rattle.fleet_model.specs.declared.tables.Tables.{Tables}
@@ -58,18 +59,6 @@ pub true_is : (b : Bool) → b ≡ true → IsTrue b
 true_is true e = refl
 true_is false e = absurd (cc e)
 
-not_true : (b : Bool) → not b ≡ true → b ≡ false
-not_true true e = absurd (cc e)
-not_true false e = refl
-
-first_test : (a b : Bool) → (a && b) ≡ true → a ≡ true
-first_test true b e = refl
-first_test false b e = absurd (cc e)
-
-second_test : (a b : Bool) → (a && b) ≡ true → b ≡ true
-second_test true b e = e
-second_test false b e = absurd (cc e)
-
 module _ (t : Tables) where
   -- a rent
 
@@ -102,9 +91,9 @@ module _ (t : Tables) where
             ∙ ap (λ w. codes "rent" ∷ w ∷ word_at words.value 2 ∷ []) (fleet_read t (word_at words.value 1) fleet.value named)
             ∙ ap (λ w. codes "rent" ∷ (fleet_of t fleet.value).name ∷ w ∷ []) number.word_is ∙ ap (λ p. rent_line t p.0 p.1) same);
         fleet = subst (λ p. p.0 < fleets_in t) same (fleet_known t (word_at words.value 1) fleet.value named);
-        later = grind (arith, nat_tests, first_test (nat_le least entry.0) (not (int_eq entry.1 (pos 0))) follows_now);
+        later = grind (arith, nat_tests, first_true (nat_le least entry.0) (not (int_eq entry.1 (pos 0))) follows_now);
         figure = subst (λ p. IsFigure p.1) same number.figure;
-        not_0 = not_true (int_eq entry.1 (pos 0)) (second_test (nat_le least entry.0) (not (int_eq entry.1 (pos 0))) follows_now);
+        not_0 = not_true (int_eq entry.1 (pos 0)) (second_true (nat_le least entry.0) (not (int_eq entry.1 (pos 0))) follows_now);
       }
 
   -- a step
@@ -156,8 +145,8 @@ module _ (t : Tables) where
         line_is = line_by left words.value (at_line t step) line.line words_are;
         order = subst (λ s. IsStepInOrder t s) put_is
             (record { fleet = fleet_known t (word_at words.value 1) fleet.value named_fleet; station = station_known t (word_at words.value 2) station.value named_station; minute = small.within; value = number.figure });
-        follows = first_test (step_follows before step) (not (is_needless step (at_line t step) (drop 1 left))) passes_now;
-        needed = not_true (is_needless step (at_line t step) (drop 1 left)) (second_test (step_follows before step) (not (is_needless step (at_line t step) (drop 1 left))) passes_now);
+        follows = first_true (step_follows before step) (not (is_needless step (at_line t step) (drop 1 left))) passes_now;
+        needed = not_true (is_needless step (at_line t step) (drop 1 left)) (second_true (step_follows before step) (not (is_needless step (at_line t step) (drop 1 left))) passes_now);
       }
 
   -- a weight

@@ -5,6 +5,7 @@ use Rattle.std.specs.List.{flat_map, join_with_byte}
 use Rattle.std.proofs.lemmas.Bool.Decides.{nat_tests}
 use Rattle.std.proofs.lemmas.List.Elements.{All-cons, All-nil}
 use Rattle.std.proofs.lemmas.List.Splits.{join_with_byte-slice_split}
+use Rattle.sums.proofs.Tests.{other_true}
 use Rattle.fleet_model.specs.declared.tables.Tables.{Tables}
 use Rattle.bound_cert.specs.Leaves.{depth_of}
 use Rattle.bound_cert.specs.Lines.{Left, Reading, is_word, left_of, line_due, stands, width_of, word_at}
@@ -115,11 +116,7 @@ plan_words false b words first answer e = absurd (cc e)
 
 plan_answer : (words : Line) (planned : Bool) → PlanWords words → stands words 1 (codes "yes") ≡ planned → word_at words 1 ≡ cond planned (codes "yes") (codes "no")
 plan_answer words true are is = same_bytes (word_at words 1) (codes "yes") is
-plan_answer words false are is = same_bytes (word_at words 1) (codes "no") (other (stands words 1 (codes "yes")) (stands words 1 (codes "no")) are.answer is)
-  where
-    other : (a b : Bool) → (a || b) ≡ true → a ≡ false → b ≡ true
-    other true b e off = absurd (cc off)
-    other false b e off = e
+plan_answer words false are is = same_bytes (word_at words 1) (codes "no") (other_true (stands words 1 (codes "yes")) (stands words 1 (codes "no")) are.answer is)
 
 plan_was : (left : Left) (planned : Bool) → plan_at left ≡ Ok planned → LineIs left (plan_line planned)
 unfolding plan_at width_of

@@ -6,6 +6,8 @@ use Rattle.std.proofs.lemmas.List.Elements.{All-head, All-tail}
 use Rattle.sums.specs.Below.{count_below}
 use Rattle.sums.specs.Places.{list_below}
 use Rattle.sums.proofs.Places.{get_or-list_below, length-list_below}
+use Rattle.sums.proofs.Tests.{by_either}
+use Rattle.frac_row.proofs.Ceilings.{same_ceiling}
 use Rattle.fleet_model.specs.Counts.{fleet_at}
 use Rattle.fleet_model.specs.Kept.{Domains, IsKeptAssignment, IsSole}
 use Rattle.fleet_model.specs.Legal.{IsLegal, total_cost}
@@ -24,7 +26,6 @@ use Rattle.cert_check.specs.declared.rules.Rule.TheVariants as rule
 use Rattle.cert_check.proofs.NodeRules.{prices_known}
 use Rattle.branch_bound.specs.Found.{AnswersSole, FallsShort, LeavesGap}
 use Rattle.branch_bound.proofs.Nodes.{first_all, node, second_all}
-use Rattle.branch_bound.proofs.Orders.{same_ceiling}
 
 -- ---- the one assignment that is left
 -- the last number below n that passes
@@ -105,10 +106,6 @@ below_second (Some x) (Some y) final below = by_test (int_le x y) (λ e. grind (
 neither : (b c : Bool) → (b || c) ≡ false → (b ≡ false) × (c ≡ false)
 neither true c e = absurd (cc)
 neither false c e = (refl, e)
-
-by_either : {X : Type 0} (b c : Bool) → (b || c) ≡ true → (b ≡ true → X) → (c ≡ true → X) → X
-by_either true c e p q = p refl
-by_either false c e p q = q e
 
 -- ---- a tree without an open leaf
 module _ (t : Tables) (final : Option ℤ) where

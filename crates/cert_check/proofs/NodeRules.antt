@@ -4,6 +4,7 @@ use Rattle.std.proofs.lemmas.Int.{by_lt_z, ints}
 use lib.IntN.{*ℤ_comm}
 use Rattle.sums.proofs.Orders.{factor_le}
 use Rattle.frac_row.specs.Ratio.{IsCeiling}
+use Rattle.frac_row.proofs.Ceilings.{same_ceiling}
 use Rattle.fleet_model.specs.Kept.{Domains, IsKeptAssignment, IsSole}
 use Rattle.fleet_model.specs.Legal.{IsLegal, total_cost}
 use Rattle.fleet_model.specs.declared.tables.Tables.{Tables}
@@ -44,15 +45,6 @@ prices_proper t cost node bound before below =
 -- each leg before a place keeps one fleet, and so does that at the place
 pub one_on_more : (count : ℕ → ℕ) (n : ℕ) → ((m : ℕ) → m < n → count m ≡ 1) → count n ≡ 1 → (m : ℕ) → m < n + 1 → count m ≡ 1
 one_on_more count n before here m below = grind arith
-
--- a number that is no more than a rounded worth, and one that is
-lesser_multiple : (d x y : ℤ) → pos 1 ≤ℤ d → (x *ℤ d) <ℤ (y *ℤ d) → x <ℤ y
-lesser_multiple d x y some h = by_lt_z x y (λ lt. lt) (λ ge. absurd (omega (arith, ints, factor_le d y x (omega (arith, ints)) ge, *ℤ_comm x d, *ℤ_comm y d)))
-
-pub same_ceiling : (n d x y : ℤ) → pos 1 ≤ℤ d → IsCeiling n d x → IsCeiling n d y → x ≤ℤ y
-same_ceiling n d x y some first second =
-    let below : (x -ℤ pos 1) <ℤ y = lesser_multiple d (x -ℤ pos 1) y some (omega (arith, ints, first.least, second.enough)) in
-    omega (arith, ints, below)
 
 pub reached : (t : Tables) (keeps : Domains) (prices : Prices) (cost least : ℤ) (b : Bool) → pos 1 ≤ℤ prices.scale → IsCeiling (worth_of t keeps prices 1) prices.scale least
     → MatchBool b (cost ≤ℤ least) (least <ℤ cost) → MatchBool b (Reaches t keeps prices cost) (¬ (Reaches t keeps prices cost))

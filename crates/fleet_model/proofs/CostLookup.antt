@@ -1,5 +1,5 @@
 -- Which entry of a list of costs `cost_in` finds.
-use Rattle.std.proofs.Common.{◌≡◌, ℕ, zero, suc, ◌+◌, ◌<◌, ◌≤◌, List, [], ◌∷◌, length, Bool, true, false, Option, Some, None, slice_index_or, refl, ap, inl, inr, ◌≢◌, arith}
+use Rattle.std.proofs.Common.{◌≡◌, ℕ, zero, suc, ◌+◌, ◌<◌, ◌≤◌, List, [], ◌∷◌, length, Bool, true, false, Some, None, slice_index_or, refl, inl, inr, arith}
 use mathlib.Core.Bool.{false≢true}
 use Rattle.std.proofs.Common.{sym, Result, Ok, Err, MatchResult, IsTrue}
 use Rattle.std.specs.List.{IsAllAdjacentAnswer}

@@ -3,6 +3,7 @@ pub mod KeptLaws
 pub mod KeptRows
 pub mod MixedPlans
 pub mod NeedAtDepartures
+pub mod NightsUsed
 pub mod Periods
 pub mod SoleFleets
 pub mod UseLaws

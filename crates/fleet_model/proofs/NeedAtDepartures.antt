@@ -1,10 +1,9 @@
 -- Need is the greatest excess at a departure: between two departures the excess doesn't grow.
-use Rattle.std.proofs.Common.{◌≡◌, ◌≢◌, ℕ, zero, suc, ◌+◌, ◌-◌, ◌<◌, ◌≤◌, ◌⊎◌, inl, inr, Bool, true, false, not, if◌then◌else◌, ◌==◌, ◌&&◌, nat_le, refl, sym, ap, ◌∙◌, arith}
-use mathlib.Core.Bool.{false≢true}
-use Rattle.std.proofs.lemmas.Bool.{cases_lt, cases_eq}
+use Rattle.std.proofs.Common.{◌≡◌, ℕ, zero, suc, ◌<◌, ◌≤◌, ◌⊎◌, inl, inr, Bool, true, false, not, if◌then◌else◌, ◌==◌, ◌&&◌, refl, ◌∙◌, arith}
+use Rattle.std.proofs.lemmas.Bool.{cases_lt}
 use Rattle.std.proofs.lemmas.Bool.Decides.{nat_tests}
-use Rattle.sums.specs.Below.{sum_below, max_below}
-use Rattle.sums.proofs.Sums.{sum_below-agree, sum_below-le, sum_below-zero, AgreeBelow, NoMoreBelow}
+use Rattle.sums.specs.Below.{max_below}
+use Rattle.sums.proofs.Sums.{sum_below-agree, sum_below-le, sum_below-zero}
 use Rattle.sums.proofs.Maxima.{max_below-upper, max_below-least}
 use Rattle.fleet_model.specs.declared.limits.TheConstants.{MINUTES_PER_PERIOD}
 use Rattle.fleet_model.specs.declared.tables.Tables.{Tables}

@@ -1,14 +1,10 @@
 -- Need is the least stock that suffices, and use is the same at each minute.
-use Rattle.std.proofs.Common.{◌≡◌, ℕ, zero, suc, ◌+◌, ◌-◌, ◌*◌, ◌/◌, ◌%◌, ◌<◌, ◌≤◌, Bool, true, false, if◌then◌else◌, ◌==◌, ◌&&◌, nat_lt, nat_le, List, refl, sym, ap, ◌∙◌, inl, inr, arith}
-use Rattle.std.proofs.lemmas.Nat.{div-add-mod'}
-use Rattle.std.proofs.Math.Nat.{mul_comm}
-use Rattle.std.proofs.lemmas.Bool.{cases_lt}
+use Rattle.std.proofs.Common.{◌≡◌, ℕ, ◌+◌, ◌*◌, ◌<◌, Bool, true, false, if◌then◌else◌, ◌==◌, ◌&&◌, nat_le, List, refl, ap, ◌∙◌, arith}
 use Rattle.std.proofs.lemmas.Bool.Decides.{nat_tests}
-use Rattle.sums.specs.Below.{sum_below, count_below, max_below}
-use Rattle.sums.proofs.Sums.{sum_below-agree, sum_below-add, sum_below-swap, sum_below-one, sum_below-zero, AgreeBelow, NoMoreBelow}
+use Rattle.sums.specs.Below.{sum_below}
+use Rattle.sums.proofs.Sums.{sum_below-agree, sum_below-add, sum_below-swap, sum_below-one, sum_below-zero}
 use Rattle.sums.proofs.Maxima.{max_below-upper, max_below-least}
 use Rattle.fleet_model.specs.declared.limits.TheConstants.{MINUTES_PER_PERIOD}
-use Rattle.fleet_model.specs.declared.parts.Pair.{Pair}
 use Rattle.fleet_model.specs.declared.tables.Tables.{Tables}
 use Rattle.fleet_model.specs.Limits.{IsLeg}
 use Rattle.fleet_model.specs.Schedule.{leg_of, leg_on, no_leg, legs_in, stations_in}
@@ -16,7 +12,7 @@ use Rattle.fleet_model.specs.Times.{departure, busy_minutes, ready_minute, laps_
 use Rattle.fleet_model.specs.Counts.{Weights, weights_of, fleet_at, has_left, has_come, departed, arrived}
 use Rattle.fleet_model.specs.Use.{excess, need_of, stand_of, laps_flown, used_of}
 use Rattle.fleet_model.specs.Aloft.{aloft, under_way, on_the_ground}
-use Rattle.fleet_model.specs.Laws.{Suffices, NeedSuffices, NeedIsLeast, UseIsConstant, CountsAreLegs}
+use Rattle.fleet_model.specs.Laws.{NeedSuffices, NeedIsLeast, UseIsConstant, CountsAreLegs}
 use Rattle.fleet_model.proofs.Periods.{if_le, aloft_at}
 
 pub need_suffices : NeedSuffices

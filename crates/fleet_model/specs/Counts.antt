@@ -1,6 +1,6 @@
 -- Departures and arrivals, counted over legs by weights. An assignment weighs its own pairs 1 and all others 0;
 -- a fractional assignment weighs as it says.
-use Rattle.std.specs.Prelude.{◌≡◌, ℕ, Bool, ◌==◌, ◌&&◌, nat_lt, nat_le, if◌then◌else◌, List, slice_index, length}
+use Rattle.std.specs.Prelude.{ℕ, Bool, ◌==◌, ◌&&◌, nat_le, if◌then◌else◌, List, slice_index}
 use Rattle.sums.specs.Below.{sum_below}
 use Rattle.fleet_model.specs.declared.parts.Pair.{Pair}
 use Rattle.fleet_model.specs.declared.tables.Tables.{Tables}

@@ -1,12 +1,14 @@
 -- The laws of counts, need and use, and of kept pairs, as statements.
 use Rattle.std.specs.Prelude.{◌≡◌, ◌≢◌, ℕ, ◌+◌, ◌<◌, ◌≤◌, List, Bool, true, ◌==◌, ◌&&◌, if◌then◌else◌}
-use Rattle.sums.specs.Below.{count_below, max_below}
+use Rattle.sums.specs.Below.{count_below, max_below, sum_below}
+use Rattle.fleet_model.specs.declared.parts.Pair.{Pair}
 use Rattle.fleet_model.specs.declared.tables.Tables.{Tables}
 use Rattle.fleet_model.specs.declared.limits.TheConstants.{MINUTES_PER_PERIOD}
 use Rattle.fleet_model.specs.Counts.{Weights, weights_of, fleet_at, has_left, has_come, departed, arrived}
-use Rattle.fleet_model.specs.Schedule.{leg_of, leg_on, legs_in}
+use Rattle.fleet_model.specs.Schedule.{leg_of, leg_on, legs_in, stations_in}
 use Rattle.fleet_model.specs.Kept.{Domains, IsBare, IsKeptAssignment, IsSole, all_pairs}
 use Rattle.fleet_model.specs.Legal.{IsAllowed, IsAssignment}
+use Rattle.fleet_model.specs.Times.{laps_of, nights_of}
 use Rattle.fleet_model.specs.Use.{excess, need_of, used_of}
 use Rattle.fleet_model.specs.Aloft.{under_way, on_the_ground}
 
@@ -25,6 +27,19 @@ NeedIsLeast = (t : Tables) (w : Weights) (f s stock : ℕ) → Suffices t w f s 
 -- at each minute the flights of a fleet under way and its aircraft on the ground sum to those that it uses
 abbrev pub UseIsConstant : Type 0
 UseIsConstant = (t : Tables) (w : Weights) (f m : ℕ) → m < MINUTES_PER_PERIOD → under_way t w f m + on_the_ground t w f m ≡ used_of t w f
+
+-- the period is one day, so laps are nights
+abbrev pub LapsAreNights : Type 0
+LapsAreNights = (t : Tables) (p : Pair) → laps_of t p ≡ nights_of t p
+
+-- the nights of a leg, where the fleet flies it
+abbrev pub night_of_fleet : Tables → List ℕ → ℕ → ℕ → ℕ
+night_of_fleet t a f l = if fleet_at a l == f then nights_of t (leg_on l f) else 0
+
+-- by an assignment a fleet uses the aircraft that it needs at all stations and those of its legs' nights
+abbrev pub UseIsNeedAndNights : Type 0
+UseIsNeedAndNights = (t : Tables) (a : List ℕ) (f : ℕ)
+    → used_of t (weights_of a) f ≡ sum_below (need_of t (weights_of a) f) (stations_in t) + sum_below (night_of_fleet t a f) (legs_in t)
 
 -- by the weights of an assignment, departures and arrivals are numbers of its legs
 pub record CountsAreLegs (t : Tables) (a : List ℕ) (f s m : ℕ) : Type 0 where

@@ -63,6 +63,7 @@ impl Kept {
         requires leg { step.leg < MAX_LEGS }
         requires fleet { step.fleet < MAX_FLEETS }
         ensures kept { kept_by self.new ≡ narrowed (kept_by self.old) step }
+        ensures leg { result.leg ≡ step.leg }
         ensures way_back { put_back self.new result ≡ self.old }
     {
         let leg = step.leg;

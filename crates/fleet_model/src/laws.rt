@@ -1,8 +1,10 @@
 //! The laws of need and use, over all tables and weights, of kept pairs and of mixed plans. Each function is a law:
 //! its contract is the statement, and it does nothing.
-ghost use Rattle.std.specs.Prelude.{ℕ, List};
+ghost use Rattle.std.specs.Prelude.{◌≡◌, ℕ, List, pos};
+ghost use Rattle.fleet_model.specs.declared.limits.TheConstants.{MAX_AIRCRAFT, MAX_COST, MAX_FLEETS, MAX_GROUND_MINUTES, MAX_LEGS, MAX_STATIONS, MAX_THROUGHS, MINUTES_PER_DAY, MINUTES_PER_PERIOD};
+ghost use Rattle.fleet_model.specs.declared.refusals.TheConstants.{BAD_FIELD, DUPLICATE, NOT_TEXT, TOO_LONG, TOO_MANY, TO_ITSELF, UNKNOWN_FLEET, UNKNOWN_FLIGHT, UNKNOWN_STATION, WRONG_HEADER, WRONG_WIDTH, ZERO_BLOCK};
 ghost use Rattle.fleet_model.specs.declared.tables.Tables.{Tables};
-ghost use Rattle.fleet_model.specs.Laws.{AllowedIsKept, BareHasNone, CountsAreLegs, KeptIsAllowed, NeedIsAtDepartures, NeedIsLeast, NeedSuffices, SoleIsOne, UseIsConstant};
+ghost use Rattle.fleet_model.specs.Laws.{AllowedIsKept, BareHasNone, CountsAreLegs, KeptIsAllowed, NeedIsAtDepartures, NeedIsLeast, NeedSuffices, LapsAreNights, SoleIsOne, UseIsConstant, UseIsNeedAndNights};
 ghost use Rattle.fleet_model.specs.Mixed.{LegalIsMixed};
 ghost use Rattle.fleet_model.specs.Whole.{WholeIsLegal};
 
@@ -25,6 +27,17 @@ pub fn need_is_at_departures()
 /// balanced or not.
 pub fn use_is_constant()
     ensures { UseIsConstant }
+{}
+
+/// A period is one day, so laps are nights.
+pub fn laps_are_nights()
+    ensures { LapsAreNights }
+{}
+
+/// By an assignment a fleet uses the aircraft that it needs at all stations at the day start, and one for each night
+/// of its legs.
+pub fn use_is_need_and_nights()
+    ensures { UseIsNeedAndNights }
 {}
 
 /// By the weights of an assignment, departures and arrivals are numbers of its legs.
@@ -60,4 +73,33 @@ pub fn legal_is_mixed()
 /// A mixed plan in which each pair has all of its leg or nothing is a legal assignment of kept pairs.
 pub fn whole_is_legal()
     ensures { WholeIsLegal }
+{}
+
+/// The limits of tables in numbers, and how long the day and the period are.
+pub fn limits_in_numbers()
+    ensures stations { MAX_STATIONS ≡ 200 }
+    ensures fleets { MAX_FLEETS ≡ 20 }
+    ensures legs { MAX_LEGS ≡ 1000 }
+    ensures throughs { MAX_THROUGHS ≡ 2000 }
+    ensures aircraft { MAX_AIRCRAFT ≡ 500 }
+    ensures ground_minutes { MAX_GROUND_MINUTES ≡ 600 }
+    ensures cost { MAX_COST ≡ pos 1000000000000 }
+    ensures day { MINUTES_PER_DAY ≡ 1440 }
+    ensures period { MINUTES_PER_PERIOD ≡ 1440 }
+{}
+
+/// The kinds of faults of tables in numbers.
+pub fn kinds_in_numbers()
+    ensures wrong_header { WRONG_HEADER ≡ 1 }
+    ensures wrong_width { WRONG_WIDTH ≡ 2 }
+    ensures not_text { NOT_TEXT ≡ 3 }
+    ensures bad_field { BAD_FIELD ≡ 4 }
+    ensures duplicate { DUPLICATE ≡ 5 }
+    ensures unknown_station { UNKNOWN_STATION ≡ 6 }
+    ensures unknown_flight { UNKNOWN_FLIGHT ≡ 7 }
+    ensures unknown_fleet { UNKNOWN_FLEET ≡ 8 }
+    ensures zero_block { ZERO_BLOCK ≡ 9 }
+    ensures to_itself { TO_ITSELF ≡ 10 }
+    ensures too_many { TOO_MANY ≡ 11 }
+    ensures too_long { TOO_LONG ≡ 12 }
 {}

@@ -223,7 +223,7 @@ fn files_that_are_refused(rt: HostRuntime) -> Result<(), Fail> {
 
 #[test]
 fn the_real_output(rt: HostRuntime) -> Result<(), Fail> {
-    let mut sink = StdSink::new(rt);
+    let mut sink = StdSink::new(&rt);
     sink.put(b"the output takes pieces\n")?;
     sink.put(b"")?;
     assert_eq!(rt; sink.faults(), 0);

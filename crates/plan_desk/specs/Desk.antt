@@ -32,6 +32,13 @@ MatchFailed (Err Failed) P Q = P
 MatchFailed (Err TooLong) P Q = Q
 MatchFailed (Err NoMemory) P Q = Q
 
+-- a fact for each answer
+abbrev pub MatchAnswer : {T : Type 0} → Result T DeskError → (T → Type 0) → Type 0 → Type 0 → Type 0 → Type 0
+MatchAnswer (Ok x) done failed too_long memory = done x
+MatchAnswer (Err Failed) done failed too_long memory = failed
+MatchAnswer (Err TooLong) done failed too_long memory = too_long
+MatchAnswer (Err NoMemory) done failed too_long memory = memory
+
 -- P where the answer is `TooLong`
 abbrev pub OnTooLong : {T : Type 0} → Result T DeskError → Type 0 → Type 0
 OnTooLong (Ok _) P = Unit {0}

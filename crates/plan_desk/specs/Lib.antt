@@ -4,3 +4,4 @@ pub mod DeskFile
 pub mod Failing
 pub mod Memory
 pub mod Sink
+pub mod Writer

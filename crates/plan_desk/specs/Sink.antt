@@ -1,5 +1,7 @@
 -- How a put changes the output, and facts by a sink's answer.
 use Rattle.std.specs.Prelude.{◌≡◌, ℕ, List, ◌++◌, take, Option, option_map, Result, Ok, Err}
+use Rattle.std.specs.Io.KnownBytes.{Appends}
+use Rattle.plan_desk.specs.Counts.{counted}
 use Rattle.plan_desk.specs.declared.sink.SinkError.{SinkError}
 use Rattle.plan_desk.specs.declared.sink.SinkError.TheVariants.{Failed, NoMemory}
 
@@ -10,6 +12,14 @@ output_with output piece = option_map (λ put. put ++ piece) output
 -- some first bytes of the piece were appended, and no others
 abbrev pub AppendsPrefix : List ℕ → Option (List ℕ) → Option (List ℕ) → Type 0
 AppendsPrefix piece old new = (n : ℕ) × (new ≡ output_with old (take n piece))
+
+-- one put more than before, where the sink counts them
+abbrev pub once_more : Option ℕ → Option ℕ
+once_more puts = option_map (λ n. counted n 1) puts
+
+-- what a writer of std holds, where that is known, grew by some first bytes of the piece, and by no others
+abbrev pub TakesFront : Option (List ℕ) → Option (List ℕ) → List ℕ → Type 0
+TakesFront old new piece = (n : ℕ) × Appends old new (take n piece)
 
 -- P where the answer is `Failed`, and Q where it is any other
 abbrev pub MatchPutFailed : {T : Type 0} → Result T SinkError → Type 0 → Type 0 → Type 0

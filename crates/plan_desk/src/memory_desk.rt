@@ -1,8 +1,8 @@
-ghost use Rattle.std.specs.Prelude.{◌≡◌, ◌+◌, ◌-◌, ◌<◌, ◌≤◌, ◌^◌, ◌⊎◌, ◌↔◌, ℕ, List, [], Option, Some, None, length, option_copied, string_bytes, IsSome, IsNone, IfSome, IsSomeAnd, IfOk, OnOk, OnErr};
+ghost use Rattle.std.specs.Prelude.{◌≡◌, ◌+◌, ◌-◌, ◌<◌, ◌≤◌, ◌^◌, ◌⊎◌, ◌↔◌, ℕ, List, [], Option, Some, None, length, option_copied, string_bytes, IsSome, IsNone, IfSome, IsSomeAnd, IfOk, OnOk, OnErr, ⊤};
 ghost use Rattle.std.proofs.Common.{rules};
 ghost use Rattle.plan_desk.specs.DeskFile.{path_of};
 ghost use Rattle.plan_desk.specs.Counts.{counted, Rose, RoseBy};
-ghost use Rattle.plan_desk.specs.Desk.{Files, with_file, held_with, ChangesOnly, MatchFailed, OnFailed, OnTooLong, IsFailed, IsNotFailed};
+ghost use Rattle.plan_desk.specs.Desk.{Files, with_file, held_with, ChangesOnly, MatchAnswer, MatchFailed, OnFailed, OnTooLong, IsFailed, IsNotFailed};
 ghost use Rattle.plan_desk.specs.Failing.{IsListed};
 ghost use Rattle.plan_desk.specs.Memory.{files_in, laid_down, files_of, calls_of, failing_of, faults_of, blamed_of, taken_of, IsToFail};
 
@@ -97,7 +97,8 @@ impl Desk for MemoryDesk {
 
     ghost steady_tells = { λ desk steady. Prim.search rules };
 
-    /// Also says that `Failed` comes only of a listed call or a missing name, and counts one fault.
+    /// Also says that `Failed` comes only of a listed call or a missing name, and counts one fault; and how many bytes each
+    /// answer takes.
     fn read(
         &mut self,
         alloc: Global,
@@ -114,6 +115,9 @@ impl Desk for MemoryDesk {
         ensures too_long_limit { OnTooLong result (limit < 2 ^ 63 - 1) }
 
         ensures taken { IfOk result (λ bytes. taken_of self.new ≡ counted (taken_of self.old) (length bytes.items)) }
+        ensures taken_else { MatchAnswer result (λ bytes. ⊤) (taken_of self.new ≡ taken_of self.old)
+            (IsSomeAnd (files_of self.old (path_of dir.now file)) (λ bytes. taken_of self.new ≡ counted (taken_of self.old) (length bytes)))
+            (taken_of self.new ≡ taken_of self.old) }
         ensures taken_never_falls { taken_of self.old ≤ taken_of self.new }
 
         ensures faults { MatchFailed result (faults_of self.new ≡ counted (faults_of self.old) 1) (faults_of self.new ≡ faults_of self.old) }

@@ -24,6 +24,7 @@ impl MemorySink {
         ensures output { put_bytes_of result ≡ [] }
         ensures failing { failing_puts_of result ≡ failing.items }
         ensures puts { puts_of result ≡ 0 }
+        ensures counts { ⟦<MemorySink as Sink>⟧.puts result ≡ Some 0 }
         ensures tells { ⟦<MemorySink as Sink>⟧.output result ≡ Some [] }
         ensures faults { ⟦<MemorySink as Sink>⟧.faults result ≡ 0 }
         ensures fails_next { ⟦<MemorySink as Sink>⟧.fails_next result ↔ IsListed 1 failing.items }
@@ -46,6 +47,8 @@ impl MemorySink {
 
 impl Sink for MemorySink {
     ghost output = { λ sink. Some (put_bytes_of sink) };
+
+    ghost puts = { λ sink. Some (puts_of sink) };
 
     ghost faults = { put_faults_of };
 

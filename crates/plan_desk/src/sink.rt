@@ -1,7 +1,7 @@
 ghost use Rattle.std.specs.Prelude.{◌≡◌, ◌≤◌, ℕ, List, Option, OnOk, OnErr};
 ghost use Rattle.plan_desk.specs.declared.sink.SinkError.TheVariants.{NoMemory};
 ghost use Rattle.plan_desk.specs.Counts.{Rose};
-ghost use Rattle.plan_desk.specs.Sink.{output_with, AppendsPrefix, MatchPutFailed, IsPutFailed, IsPutNotFailed};
+ghost use Rattle.plan_desk.specs.Sink.{output_with, once_more, AppendsPrefix, MatchPutFailed, IsPutFailed, IsPutNotFailed};
 
 use std::alloc::AllocError;
 use thiserror::Error;
@@ -33,6 +33,9 @@ pub trait Sink {
     /// The bytes that were put, where the sink tells.
     ghost output: { Self → Option (List ℕ) };
 
+    /// How many puts were made, where the sink counts them. The count stays at 2^64 - 1 once there.
+    ghost puts: { Self → Option ℕ };
+
     /// How many faults were counted.
     ghost faults: { Self → ℕ };
 
@@ -46,6 +49,7 @@ pub trait Sink {
     fn put(&mut self, bytes: &[u8]) -> Result<(), SinkError>
         ensures put { OnOk result (output self.new ≡ output_with (output self.old) bytes.now) }
         ensures prefix { OnErr result (AppendsPrefix bytes.now (output self.old) (output self.new)) }
+        ensures puts { puts self.new ≡ once_more (puts self.old) }
 
         ensures faults { MatchPutFailed result (Rose (faults self.old) (faults self.new)) (faults self.new ≡ faults self.old) }
         ensures faults_never_fall { faults self.old ≤ faults self.new }

@@ -1,8 +1,9 @@
-ghost use Rattle.std.specs.Prelude.{◌≡◌, ◌+◌, ◌-◌, ◌<◌, ◌≤◌, ◌^◌, length, IfOk, IfSome, OnOk};
+ghost use Rattle.std.specs.Prelude.{◌≡◌, ◌+◌, ◌-◌, ◌<◌, ◌≤◌, ◌^◌, length, IfOk, IfSome, OnErr, OnOk};
 ghost use Rattle.std.specs.Io.KnownBytes.{Appends, ReadConsumes, WriteAppends};
 ghost use Rattle.std.specs.Io.{ReadsAtMost, WritesAtMost};
 ghost use Rattle.plan_desk.specs.Counts.{counted, RoseBy};
 ghost use Rattle.plan_desk.specs.Desk.{OnTooLong};
+ghost use Rattle.plan_desk.specs.Sink.{TakesFront};
 
 use crate::DeskError;
 use std::alloc::Global;
@@ -47,9 +48,10 @@ pub(crate) fn read_whole<S: Read>(
     unreachable!()
 }
 
-/// Writes all the bytes. A write that takes nothing of what is left is a fault.
+/// Writes all the bytes. A write that takes nothing of what is left is a fault, and some first bytes were taken then.
 pub(crate) fn write_whole<W: Write>(target: &mut W, bytes: &[u8]) -> io::Result<()>
-    ensures { OnOk result (Appends (W.contents target.old) (W.contents target.new) bytes.now) }
+    ensures whole { OnOk result (Appends (W.contents target.old) (W.contents target.new) bytes.now) }
+    ensures part { OnErr result (TakesFront (W.contents target.old) (W.contents target.new) bytes.now) }
 {
     let mut rest = bytes;
     while !rest.is_empty() {

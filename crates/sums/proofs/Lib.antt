@@ -13,3 +13,6 @@ pub mod WholeSwaps
 pub mod Products
 pub mod WholeTerms
 pub mod Signs
+pub mod Tests
+pub mod Naturals
+pub mod Sizes

@@ -1,4 +1,4 @@
-use Rattle.std.proofs.Common.{◌≡◌, rules, arith, sym, Ok, Err}
+use Rattle.std.proofs.Common.{rules, arith, sym, Ok, Err}
 use Rattle.std.proofs.lemmas.Int.{to_z-of_z}
 use Rattle.std.proofs.lemmas.List.Sorted.{answers_always}
 use Rattle.fleet_model.proofs.CostLookup.{pair_of, bisected}
