@@ -9,17 +9,13 @@ use Rattle.std.proofs.lemmas.Fmt.{IsAscii-decimal_wide, decimal_is_IsNumeral_wid
 use Rattle.std.proofs.lemmas.Str.{IsUtf8-from_ascii}
 use Rattle.std.proofs.lemmas.Slice.Eq.{bytes_eq-Decides}
 use Rattle.std.specs.Str.{IsAscii}
+use Rattle.sums.proofs.Tests.{parts_true}
 use Rattle.bound_cert.specs.Figures.{natural_in}
 use Rattle.bound_cert.specs.declared.figures.TheConstants.{MAX_SIZE}
 
 -- no number up to this one has the word as its decimal form
 abbrev pub IsNone : ℕ → List ℕ → Type 0
 IsNone most word = (n : ℕ) → n ≤ most → word ≡ decimal n → ⊥
-
-both : (b c : Bool) → (b && c) ≡ true → (b ≡ true) × (c ≡ true)
-both true true e = (refl, refl)
-both true false e = absurd (cc e)
-both false c e = absurd (cc e)
 
 pub same_bytes : (a b : List ℕ) → bytes_eq a b ≡ true → a ≡ b
 same_bytes a b e = (bytes_eq-Decides a b).0 e
@@ -41,7 +37,7 @@ unfolding natural_in
 none_written most word none =
     let d = digits_value 10 word in
     chosen (nat_le d most && bytes_eq (decimal d) word) d
-    (λ e. let parts = both (nat_le d most) (bytes_eq (decimal d) word) e in none d (grind (arith, nat_tests, parts.0)) (sym (same_bytes (decimal d) word parts.1)))
+    (λ e. let parts = parts_true (nat_le d most) (bytes_eq (decimal d) word) e in none d (grind (arith, nat_tests, parts.0)) (sym (same_bytes (decimal d) word parts.1)))
 
 pub one_written : (most n : ℕ) (word : List ℕ) → most ≤ MAX_SIZE → n ≤ most → word ≡ decimal n → natural_in most word ≡ Some n
 unfolding natural_in

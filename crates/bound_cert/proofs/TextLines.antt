@@ -4,6 +4,7 @@ use Rattle.std.specs.Prelude.{filter}
 use Rattle.std.specs.List.{join_with_byte}
 use Rattle.std.proofs.lemmas.Bool.Decides.{nat_tests}
 use Rattle.std.proofs.lemmas.List.Splits.{join_with_byte-slice_split}
+use Rattle.sums.proofs.Tests.{first_true, second_true}
 use Rattle.bound_cert.specs.Lines.{Left, is_plain, is_spaced, is_word, line_due, of_width, parts_of, stands, width_after, width_of, word_at, words_of}
 use Rattle.bound_cert.specs.ProofText.{Line, space}
 use Rattle.bound_cert.specs.declared.reading_lines.Due.{Due}
@@ -40,14 +41,6 @@ keeps_all (part ∷ parts) e = by_test (is_word part) (keeps_all parts) e
     by_test true on e = ap (λ ps. part ∷ ps) (on (omega (arith, e)))
     by_test false on e = absurd (omega (arith, e, keeps_few parts))
 
-first_test : (a b : Bool) → (a && b) ≡ true → a ≡ true
-first_test true b e = refl
-first_test false b e = absurd (cc e)
-
-second_test : (a b : Bool) → (a && b) ≡ true → b ≡ true
-second_test true b e = e
-second_test false b e = absurd (cc e)
-
 line_back : (line : List ℕ) → is_spaced line ≡ true → line ≡ joined (words_of line)
 line_back line e =
     sym (join_with_byte-slice_split space line)
@@ -62,8 +55,8 @@ line_was kind (line ∷ next ∷ rest) words e =
   where
     of_words : (width : ℕ) → width_of kind (words_of line) ≡ Some width → (is_spaced line && (length (words_of line) == width)) ≡ true → words_of line ≡ words → IsLineRead kind (line ∷ next ∷ rest) words
     of_words width w fits same =
-        let spaced = first_test (is_spaced line) (length (words_of line) == width) fits in
-        let long : width ≡ length words = grind (arith, nat_tests, second_test (is_spaced line) (length (words_of line) == width) fits, ap length same) in
+        let spaced = first_true (is_spaced line) (length (words_of line) == width) fits in
+        let long : width ≡ length words = grind (arith, nat_tests, second_true (is_spaced line) (length (words_of line) == width) fits, ap length same) in
         record {
           line = record { is = ap (λ l. l ∷ next ∷ rest) (line_back line spaced ∙ ap joined same) };
           some = omega arith;

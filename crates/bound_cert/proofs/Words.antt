@@ -6,6 +6,7 @@ use Rattle.std.specs.Fmt.{decimal, digit_glyph, digits, digits_onto, signed_deci
 use Rattle.std.specs.List.{list_all}
 use Rattle.std.proofs.lemmas.Bool.Decides.{nat_tests}
 use Rattle.std.proofs.lemmas.List.Elements.{All-cons, All-nil, All-weaker}
+use Rattle.sums.proofs.Tests.{first_true, second_true}
 use Rattle.entries.specs.Names.{IsName, IsNameByte, IsStationCode}
 use Rattle.fleet_model.specs.Schedule.{fleet_of, fleets_in, leg_of, legs_in, no_fleet, no_leg, no_station, station_of, stations_in}
 use Rattle.fleet_model.specs.declared.tables.Tables.{Tables}
@@ -19,19 +20,11 @@ visible byte = nat_le 33 byte && nat_le byte 126
 visible_is : (byte : ℕ) → visible byte ≡ true → IsVisible byte
 visible_is byte is = record { no_less = grind (arith, nat_tests); no_more = grind (arith, nat_tests) }
 
-first_passes : (a b : Bool) → (a && b) ≡ true → a ≡ true
-first_passes true b both = refl
-first_passes false b both = cc
-
-second_passes : (a b : Bool) → (a && b) ≡ true → b ≡ true
-second_passes true b both = both
-second_passes false b both = cc
-
 all_visible : (word : List ℕ) → list_all visible word ≡ true → All IsVisible word
 all_visible [] passes = All-nil IsVisible
 all_visible (byte ∷ bytes) passes =
-    All-cons IsVisible byte bytes (visible_is byte (first_passes (visible byte) (list_all visible bytes) passes))
-    (all_visible bytes (second_passes (visible byte) (list_all visible bytes) passes))
+    All-cons IsVisible byte bytes (visible_is byte (first_true (visible byte) (list_all visible bytes) passes))
+    (all_visible bytes (second_true (visible byte) (list_all visible bytes) passes))
 
 pub written : (byte : ℕ) (bytes : List ℕ) → list_all visible (byte ∷ bytes) ≡ true → IsWord (byte ∷ bytes)
 written byte bytes passes = record { some = omega arith; visible = all_visible (byte ∷ bytes) passes }

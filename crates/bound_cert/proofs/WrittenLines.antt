@@ -3,8 +3,10 @@ use Rattle.std.proofs.Common.{◌≡◌, ℕ, ◌<◌, ◌==◌, ◌&&◌, Bool,
 use Rattle.std.specs.Prelude.{All, filter}
 use Rattle.std.specs.List.{join_with_byte}
 use Rattle.std.proofs.lemmas.Bool.Decides.{nat_tests}
+use Rattle.std.proofs.lemmas.List.{map-append}
 use Rattle.std.proofs.lemmas.List.Elements.{All-head, All-tail}
 use Rattle.std.proofs.lemmas.List.Splits.{slice_split_at}
+use Rattle.sums.proofs.Tests.{both_true}
 use Rattle.bound_cert.specs.Lines.{Left, is_plain, is_spaced, is_word, left_of, line_due, of_width, parts_of, stands, width_of, words_of}
 use Rattle.bound_cert.specs.ProofText.{Line, line_feed, lines_of, space}
 use Rattle.bound_cert.specs.Words.{IsOfWords, IsPlain, IsWord}
@@ -19,6 +21,9 @@ joined line = join_with_byte space line
 
 abbrev pub texts : List Line → Left
 texts = map joined
+
+pub texts_append : (xs ys : List Line) (behind : Left) → texts (xs ++ ys) ++ behind ≡ texts xs ++ (texts ys ++ behind)
+texts_append xs ys behind = ap (λ lines. lines ++ behind) (map-append joined xs ys) ∙ append_assoc (texts xs) (texts ys) behind
 
 -- the lines of a text, and behind them nothing
 pub left_of_lines : (lines : List Line) → All IsOfWords lines → left_of (lines_of lines) ≡ texts lines ++ [] ∷ []
@@ -41,10 +46,6 @@ parts_back line is = line_back line is
 
 pub words_back : (line : Line) → IsOfWords line → words_of (joined line) ≡ line
 words_back line is = ap (filter is_word) (line_back line is) ∙ filter_all line is.words
-
-both_true : (a b : Bool) → a ≡ true → b ≡ true → (a && b) ≡ true
-both_true true b p q = q
-both_true false b p q = absurd (cc p)
 
 plain_byte : (byte : ℕ) → IsPlain byte → (nat_le 32 byte && nat_le byte 126) ≡ true
 plain_byte byte is = both_true (nat_le 32 byte) (nat_le byte 126) (grind (arith, nat_tests, is.no_less)) (grind (arith, nat_tests, is.no_more))

@@ -5,6 +5,7 @@ use Rattle.std.proofs.lemmas.Int.{by_lt_z, ints, quot-rem, rem_below}
 use lib.IntN.{*ℤ_comm}
 use Rattle.sums.proofs.Integers.{one-*ℤ, -ℤ-*ℤ}
 use Rattle.sums.proofs.Orders.{factor_le}
+use Rattle.sums.proofs.Signs.{lesser_multiple}
 use Rattle.frac_row.specs.Ratio.{IsCeiling}
 use Rattle.frac_row.proofs.Ceilings.{ceiling_above, ceiling_here}
 use Rattle.fleet_model.specs.Kept.{Domains}
@@ -54,16 +55,6 @@ ceiling_of n d some =
     (λ more. (int_div n d +ℤ pos 1, ceiling_above n d (int_div n d) (int_rem n d) (int_div n d +ℤ pos 1) (omega (arith, ints, some)) (quot-rem n d) rest more refl))
     (λ none. (int_div n d, ceiling_here n d (int_div n d) (int_rem n d) (int_div n d) (omega (arith, ints, some)) (quot-rem n d) rest none refl))
 
--- a product that passes another one with the same positive factor
-more_times : (d x y : ℤ) → pos 1 ≤ℤ d → (x *ℤ d) <ℤ (y *ℤ d) → x <ℤ y
-more_times d x y some h = by_lt_z x y (λ lt. lt) (λ ge. absurd (omega (arith, ints, h, factor_le d y x (omega (arith, ints, some)) ge, *ℤ_comm x d, *ℤ_comm y d)))
-
--- a ratio is rounded up to one number
-pub same_ceiling : (n d x y : ℤ) → pos 1 ≤ℤ d → IsCeiling n d x → IsCeiling n d y → x ≤ℤ y
-same_ceiling n d x y some first second =
-    let below : (x -ℤ pos 1) <ℤ y = more_times d (x -ℤ pos 1) y some (omega (arith, ints, first.least, second.enough)) in
-    omega (arith, ints, below)
-
 module _ (t : Tables) (keeps : Domains) (prices : Prices) (cost : ℤ) (some : pos 1 ≤ℤ prices.scale) where
   abbrev worth : ℤ
   worth = worth_of t keeps prices 1
@@ -79,13 +70,13 @@ module _ (t : Tables) (keeps : Domains) (prices : Prices) (cost : ℤ) (some : p
   pub does_reach_is : does_reach t keeps prices cost ≡ true → Reaches t keeps prices cost
   does_reach_is e =
       let more : ((cost -ℤ pos 1) *ℤ prices.scale) <ℤ worth = grind (arith, ints, e) in
-      let passes : (cost -ℤ pos 1) <ℤ least = more_times prices.scale (cost -ℤ pos 1) least some (omega (arith, ints, more, rounded.enough)) in
+      let passes : (cost -ℤ pos 1) <ℤ least = lesser_multiple prices.scale (cost -ℤ pos 1) least some (omega (arith, ints, more, rounded.enough)) in
       record { least = least; rounded = rounded; reaches = omega (arith, ints, passes) }
 
   pub falls_short_is : does_reach t keeps prices cost ≡ false → FallsShort t keeps prices cost
   falls_short_is e =
       let less : worth ≤ℤ ((cost -ℤ pos 1) *ℤ prices.scale) = grind (arith, ints, e) in
-      let below : (least -ℤ pos 1) <ℤ (cost -ℤ pos 1) = more_times prices.scale (least -ℤ pos 1) (cost -ℤ pos 1) some (omega (arith, ints, less, rounded.least)) in
+      let below : (least -ℤ pos 1) <ℤ (cost -ℤ pos 1) = lesser_multiple prices.scale (least -ℤ pos 1) (cost -ℤ pos 1) some (omega (arith, ints, less, rounded.least)) in
       record { least = least; rounded = rounded; short = omega (arith, ints, below) }
 
 -- the test of a rounded worth

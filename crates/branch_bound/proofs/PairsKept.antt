@@ -5,12 +5,11 @@ use Rattle.std.proofs.lemmas.Bool.Decides.{nat_tests}
 use Rattle.sums.specs.Below.{sum_below}
 use Rattle.sums.proofs.Counts.{count_below-one}
 use Rattle.sums.proofs.Sums.{count_below-le, sum_below-bound, sum_below-le}
-use Rattle.fleet_model.specs.Kept.{Domains, kept_on, leaves, narrowed}
+use Rattle.fleet_model.specs.Kept.{Domains, kept_on, leaves, narrowed, pairs_kept}
 use Rattle.fleet_model.specs.Schedule.{IsPair, fleets_in, leg_on, legs_in}
 use Rattle.fleet_model.specs.declared.kept.Step.{Step}
 use Rattle.fleet_model.specs.declared.limits.TheConstants.{MAX_FLEETS}
 use Rattle.fleet_model.specs.declared.tables.Tables.{Tables}
-use Rattle.lp_rows.specs.Points.{pairs_kept}
 use Rattle.bound_cert.specs.Bound.{part}
 use Rattle.bound_cert.specs.declared.faults.TheConstants.{MAX_DEPTH}
 use Rattle.branch_bound.specs.Examined.{KeepsOther}

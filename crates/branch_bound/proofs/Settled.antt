@@ -2,6 +2,7 @@
 use Rattle.std.proofs.Common.{◌≡◌, ℕ, Bool, true, false, All, Option, Some, None, ℤ, refl, subst, arith}
 use Rattle.std.proofs.lemmas.Int.{ints}
 use Rattle.std.proofs.lemmas.List.Elements.{All-head}
+use Rattle.sums.proofs.Tests.{by_test}
 use Rattle.fleet_model.specs.Kept.{all_pairs}
 use Rattle.fleet_model.specs.declared.tables.Tables.{Tables}
 use Rattle.bound_cert.specs.Bound.{IsBound, IsInfeasible, IsLowerBound}
@@ -19,10 +20,6 @@ use Rattle.branch_bound.proofs.Nodes.{second_all}
 pub never_broken : (t : Tables) (cost : Option ℤ) (whole : Tree) (node number : ℕ) → AreSound t cost (all_pairs t) whole → ¬ (BreaksAt t cost whole node number)
 never_broken t cost whole node number sound broken =
     broken.first.fault.broken ((All-head (IsSound t cost) broken.first.node broken.first.after (second_all (IsSound t cost) broken.first.before _ (subst (All (IsSound t cost)) broken.first.order sound))).each broken.rule)
-
-by_test : {X : Type 0} (b : Bool) → (b ≡ true → X) → (b ≡ false → X) → X
-by_test true p q = p refl
-by_test false p q = q refl
 
 -- with a plan
 module _ (t : Tables) (plan : Plan) (whole : Tree) (is : IsProvedBy t (Some plan) whole) where

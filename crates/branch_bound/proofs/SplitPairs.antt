@@ -3,6 +3,8 @@ use Rattle.std.proofs.Common.{◌≡◌, ◌≢◌, ℕ, zero, suc, ◌<◌, ◌
 use Rattle.std.proofs.lemmas.Bool.{cases_lt}
 use Rattle.std.proofs.lemmas.Int.{ints}
 use Rattle.sums.specs.Below.{sum_below}
+use Rattle.sums.proofs.Naturals.{by_number}
+use Rattle.sums.proofs.Tests.{by_test}
 use Rattle.fleet_model.specs.Kept.{Domains}
 use Rattle.fleet_model.specs.Schedule.{IsPair, fleets_in, leg_on}
 use Rattle.fleet_model.specs.declared.parts.Pair.{Pair}
@@ -23,10 +25,6 @@ record IsOtherTerm (g : ℕ → ℕ) (n k : ℕ) : Type 0 where
   within : place < n
   differs : place ≢ k
   some : g place ≢ 0
-
-by_number : {X : Type 0} (m : ℕ) → (m ≡ 0 → X) → (m ≢ 0 → X) → X
-by_number zero p q = p refl
-by_number (suc m) p q = q (λ e. cc)
 
 -- a sum that passes a term has another one
 other_term : (g : ℕ → ℕ) (n k : ℕ) → (n ≤ k → 0 < sum_below g n) → (k < n → g k < sum_below g n) → IsOtherTerm g n k
@@ -52,10 +50,6 @@ other_term g (suc n) k before after = by_number (g n)
       | inl at ↦ let is : n ≡ k = omega (arith, at, less) in let here : g k ≡ g n = ap g (sym is) in omega (arith, after at, here, none)
       | inr past ↦ omega (arith, before (omega (arith, past)), none)
     ]
-
-by_test : {X : Type 0} (b : Bool) → (b ≡ true → X) → (b ≡ false → X) → X
-by_test true p q = p refl
-by_test false p q = q refl
 
 module _ (t : Tables) (keeps : Domains) (mixed : Mixed) (is : IsMixedAt t keeps mixed) where
   -- what is flown is kept

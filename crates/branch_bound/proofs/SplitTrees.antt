@@ -1,12 +1,12 @@
 -- A search through a split, and through a step into a part.
 use Rattle.std.proofs.Common.{◌≡◌, ℕ, ◌+◌, ◌*◌, ◌<◌, ◌≤◌, Bool, true, false, ◌&&◌, List, Result, Ok, Err, IfOk, OnOk, refl, sym, ◌∙◌, subst, arith}
+use Rattle.sums.proofs.Tests.{first_true}
 use Rattle.entries.specs.declared.memory.NoMemory.{NoMemory}
-use Rattle.fleet_model.specs.Kept.{Domains, kept_by, narrowed}
+use Rattle.fleet_model.specs.Kept.{Domains, kept_by, narrowed, pairs_kept}
 use Rattle.fleet_model.specs.Schedule.{IsPair, leg_on}
 use Rattle.fleet_model.specs.Whole.{KeepAllowed}
 use Rattle.fleet_model.specs.declared.kept.Step.{Step}
 use Rattle.fleet_model.specs.declared.tables.Tables.{Tables}
-use Rattle.lp_rows.specs.Points.{pairs_kept}
 use Rattle.bound_cert.specs.declared.mixed.Mixed.{Mixed}
 use Rattle.bound_cert.specs.declared.prices.Prices.{Prices}
 use Rattle.bound_cert.specs.declared.trees.Tree.{Tree}
@@ -40,13 +40,8 @@ split_result t before begun after keeps above leg fleet prices mixed (Err e) is 
 pub pair_of_step : (t : Tables) (step : Step) (leg fleet : ℕ) (taken : Bool) → step ≡ record { leg = leg; fleet = fleet; yes = taken } → IsPair t (leg_on leg fleet) → IsPair t (leg_on step.leg step.fleet)
 pair_of_step t step leg fleet taken e pair = subst (λ s. IsPair t (leg_on s.leg s.fleet)) (sym e) pair
 
--- only pairs that may be flown are kept in a part, and of all
-kept_and : (b c : Bool) → (b && c) ≡ true → b ≡ true
-kept_and true c e = refl
-kept_and false c e = e
-
 pub allowed_part : (t : Tables) (keeps : Domains) (step : Step) → KeepAllowed t keeps → KeepAllowed t (narrowed keeps step)
-allowed_part t keeps step allowed = record { each = λ p pair kept. allowed.each p pair (kept_and (keeps p) _ kept) }
+allowed_part t keeps step allowed = record { each = λ p pair kept. allowed.each p pair (first_true (keeps p) _ kept) }
 
 pub allowed_rows : (t : Tables) (rows : List (List Bool)) (keeps : Domains) → kept_by rows ≡ keeps → KeepAllowed t keeps → KeepAllowed t (kept_by rows)
 allowed_rows t rows keeps e allowed = subst (KeepAllowed t) (sym e) allowed

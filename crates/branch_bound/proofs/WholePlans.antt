@@ -8,6 +8,7 @@ use lib.IntN.{*ℤ_comm, pos-*ℤ-pos}
 use Rattle.sums.specs.Below.{sum_below, sum_below_ℤ}
 use Rattle.sums.proofs.Integers.{*ℤ_assoc, *ℤ_cancel}
 use Rattle.sums.proofs.WholeSums.{*ℤ-sum_below_ℤ, sum_below_ℤ-same}
+use Rattle.sums.proofs.Sizes.{size_of_zero, zero_size}
 use Rattle.frac_row.specs.Ratio.{IsCeiling}
 use Rattle.fleet_model.specs.Counts.{Weights, fleet_at, weights_of}
 use Rattle.fleet_model.specs.Kept.{Domains, IsKeptAssignment}
@@ -42,8 +43,6 @@ times_cost t c w u same =
     ∙ sym (*ℤ-sum_below_ℤ (pos c) (λ l. sum_below_ℤ (weighted_cost t u l) (fleets_in t)) (legs_in t))
 
 -- ---- a fractional assignment
-zero_parts : (z : ℤ) → z ≡ pos 0 → unsigned_abs z ≡ 0
-zero_parts z e = rw e refl
 
 -- a leg that is covered has a fleet
 module _ (t : Tables) (keeps : Domains) (mixed : Mixed) (is : IsMixedAt t keeps mixed) where
@@ -53,7 +52,7 @@ module _ (t : Tables) (keeps : Domains) (mixed : Mixed) (is : IsMixedAt t keeps 
   pub has_fleets : HasFleets t mixed
   has_fleets = record {
     each = λ l below none.
-        let all : sum_below (λ f. parts_in mixed (leg_on l f)) (fleets_in t) ≡ 0 = no_parts (λ f. parts_in mixed (leg_on l f)) (fleets_in t) (λ f known. zero_parts (weight_in mixed (leg_on l f)) (none f known)) in
+        let all : sum_below (λ f. parts_in mixed (leg_on l f)) (fleets_in t) ≡ 0 = no_parts (λ f. parts_in mixed (leg_on l f)) (fleets_in t) (λ f known. size_of_zero (weight_in mixed (leg_on l f)) (none f known)) in
         absurd (omega (arith, all, is.plan.cover l below, some_parts));
   }
     where
@@ -67,7 +66,7 @@ module _ (t : Tables) (keeps : Domains) (mixed : Mixed) (a : List ℕ) (allowed 
   all_or_none = record { each = λ p pair some. by_end p some (ends p.leg pair.leg p.fleet pair.fleet) }
     where
       by_end : (p : Pair) → parts_in mixed p ≢ 0 → IsEnd mixed.scale (weight_in mixed p) → parts_in mixed p ≡ parts_of_leg mixed
-      by_end p some (inl none) = absurd (some (zero_parts (weight_in mixed p) none))
+      by_end p some (inl none) = absurd (some (size_of_zero (weight_in mixed p) none))
       by_end p some (inr all) = ap unsigned_abs all
 
   legal_by : (b : List ℕ) × IsLegalBy t keeps (parts_of_leg mixed) (parts_in mixed) b
@@ -87,14 +86,11 @@ module _ (t : Tables) (keeps : Domains) (mixed : Mixed) (a : List ℕ) (allowed 
       there : parts_in mixed (leg_on l (fleet_at a l)) ≡ parts_of_leg mixed * weights_of other (leg_on l (fleet_at a l))
       there = legal_by.1.weights (leg_on l (fleet_at a l)) (record { leg = below; fleet = (flies.parts l within).known })
 
-      size_none : (z : ℤ) → unsigned_abs z ≡ 0 → z ≡ pos 0
-      size_none z e = omega (arith, ints, e)
-
       by_test : (b : Bool) → (fleet_at other l == fleet_at a l) ≡ b → fleet_at a l ≡ fleet_at other l
       by_test true e = grind (arith, nat_tests)
       by_test false e =
           let none : weights_of other (leg_on l (fleet_at a l)) ≡ 0 = rw e refl in
-          absurd ((flies.parts l within).some (size_none (weight_in mixed (leg_on l (fleet_at a l))) (there ∙ ap (λ n. parts_of_leg mixed * n) none ∙ omega arith)))
+          absurd ((flies.parts l within).some (zero_size (weight_in mixed (leg_on l (fleet_at a l))) (there ∙ ap (λ n. parts_of_leg mixed * n) none ∙ omega arith)))
 
   same_plan : a ≡ other
   same_plan = same_number_lists a other (flies.each_leg ∙ sym legal_by.1.legal.assignment.each_leg) (λ l within. same_fleet l (omega (arith, within, flies.each_leg)))

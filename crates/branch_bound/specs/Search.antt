@@ -1,10 +1,9 @@
 -- Where a search stands before and after a part of it, and the tree that the part makes.
 use Rattle.std.specs.Prelude.{Box, ◌≡◌, ℕ, ◌+◌, ◌<◌, ◌≤◌, ◌⊎◌, true, false, List, All, Any, ⊤, Option, Some, None, IfSome, IsSomeAnd, ℤ, ◌≤ℤ◌}
 use Rattle.std.specs.declared.alloc.Global.{Global}
-use Rattle.fleet_model.specs.Kept.{Domains}
+use Rattle.fleet_model.specs.Kept.{Domains, pairs_kept}
 use Rattle.fleet_model.specs.Legal.{IsLegal, total_cost}
 use Rattle.fleet_model.specs.declared.tables.Tables.{Tables}
-use Rattle.lp_rows.specs.Points.{pairs_kept}
 use Rattle.bound_cert.specs.Bound.{part}
 use Rattle.bound_cert.specs.Leaves.{depth_of, open_nodes, splits_in}
 use Rattle.bound_cert.specs.OfTables.{IsOfTables}

@@ -4,6 +4,7 @@ use Rattle.std.proofs.lemmas.Int.{ints}
 use Rattle.std.proofs.Math.Nat.{mul-le-mul_right}
 use Rattle.sums.proofs.Integers.{*ℤ-neg_ℤ}
 use Rattle.sums.proofs.Orders.{times_le}
+use Rattle.sums.proofs.Sizes.{size_is}
 use Rattle.fleet_model.specs.Limits.{IsCost}
 use Rattle.bound_cert.specs.Prices.{max_scale}
 use Rattle.bound_cert.specs.Sizes.{IsUpTo}
@@ -29,10 +30,6 @@ small_up_to w small = record { no_less = omega (arith, ints, small.some, small.s
 cost_up_to : (c : ℤ) → IsCost c → IsUpTo 1 c
 cost_up_to c cost = record { no_less = omega (arith, ints, cost.no_less, cost.no_more); no_more = omega (arith, ints, cost.no_less, cost.no_more) }
 
-pos_size : (z : ℤ) → pos 0 ≤ℤ z → pos (unsigned_abs z) ≡ z
-pos_size (pos n) some = refl
-pos_size (negsuc n) some = absurd (omega (arith, ints))
-
 is_product : (w c : ℤ) → IsSmallWeight w → IsCost c → held (held w *ℤ held c) ≡ w *ℤ c
 is_product w c small cost =
     ap (λ z. held (z *ℤ held c)) (is_held 1 w (small_up_to w small) (omega arith)) ∙ ap (λ z. held (w *ℤ z)) (is_held 1 c (cost_up_to c cost) (omega arith))
@@ -40,7 +37,7 @@ is_product w c small cost =
 
 pub weighed : (w weight c units : ℤ) → w ≡ weight → IsSmallWeight w → c ≡ units → IsCost c → held (held w *ℤ held c) ≡ pos (unsigned_abs weight) *ℤ units
 weighed w weight c units p small q cost =
-    is_product w c small cost ∙ ap (λ z. z *ℤ c) (sym (pos_size w small.some)) ∙ ap (λ z. pos (unsigned_abs z) *ℤ c) p ∙ ap (λ z. pos (unsigned_abs weight) *ℤ z) q
+    is_product w c small cost ∙ ap (λ z. z *ℤ c) (sym (size_is w small.some)) ∙ ap (λ z. pos (unsigned_abs z) *ℤ c) p ∙ ap (λ z. pos (unsigned_abs weight) *ℤ z) q
 
 pub weighed_small : (w c : ℤ) → IsSmallWeight w → IsCost c → IsUpTo 1 (held (held w *ℤ held c))
 weighed_small w c small cost = subst (λ z. IsUpTo 1 z) (sym (is_product w c small cost)) (weight_times w c small cost)

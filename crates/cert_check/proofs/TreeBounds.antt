@@ -5,6 +5,7 @@ use Rattle.std.proofs.lemmas.Bool.Decides.{nat_tests}
 use Rattle.std.proofs.lemmas.List.Elements.{All-head, All-tail}
 use Rattle.std.proofs.lemmas.List.{get_or_append_left}
 use Rattle.std.specs.Prelude.{int_le}
+use Rattle.sums.proofs.Tests.{both_true}
 use Rattle.fleet_model.specs.Counts.{fleet_at, pair_at}
 use Rattle.fleet_model.specs.Kept.{Domains, IsKeptAssignment, all_pairs, leaves}
 use Rattle.fleet_model.specs.Legal.{IsLegal, total_cost}
@@ -51,12 +52,9 @@ module _ (t : Tables) (a : List ℕ) where
   in_part : (keeps : Domains) (leg fleet : ℕ) (taken : Bool) → taken ≡ (fleet_at a leg == fleet) → IsKeptAssignment t keeps a → IsKeptAssignment t (part keeps leg fleet taken) a
   in_part keeps leg fleet taken e is = record {
     assignment = is.assignment;
-    kept = λ l below. kept_and (keeps (pair_at a l)) _ (is.kept l below) (stays l);
+    kept = λ l below. both_true (keeps (pair_at a l)) _ (is.kept l below) (stays l);
   }
     where
-      kept_and : (b c : Bool) → b ≡ true → c ≡ true → (b && c) ≡ true
-      kept_and b c p q = rw (p, q) refl
-
       by_taken : (b c : Bool) → b ≡ c → (if b then c else not c) ≡ true
       by_taken true c same = sym same
       by_taken false c same = ap not (sym same)

@@ -1,6 +1,6 @@
 -- A whole mixed plan is a legal assignment of kept pairs.
-use Rattle.std.proofs.Common.{◌≡◌, ◌≢◌, ℕ, zero, suc, ◌+◌, ◌*◌, ◌<◌, ◌≤◌, max, Bool, true, false, not, if◌then◌else◌, ◌==◌, List, refl, sym, ◌∙◌, ap, subst, inl, inr, arith}
-use Rattle.std.proofs.Math.Nat.{mul-le-mul_left, mul-suc, mul-sub}
+use Rattle.std.proofs.Common.{◌≡◌, ◌≢◌, ℕ, zero, suc, ◌+◌, ◌*◌, ◌<◌, max, Bool, true, false, not, if◌then◌else◌, ◌==◌, List, sym, ◌∙◌, ap, subst, inl, inr, arith}
+use Rattle.std.proofs.Math.Nat.{mul-suc, mul-sub}
 use Rattle.std.proofs.lemmas.Bool.{cases_lt}
 use Rattle.std.proofs.lemmas.Bool.Decides.{nat_tests}
 use Rattle.sums.specs.Below.{sum_below, max_below}
@@ -8,6 +8,8 @@ use Rattle.sums.specs.Places.{list_below}
 use Rattle.sums.proofs.Maxima.{max_below-suc, max_below-zero}
 use Rattle.sums.proofs.Places.{get_or-list_below, length-list_below}
 use Rattle.sums.proofs.SumBounds.{term_le}
+use Rattle.sums.proofs.Naturals.{by_number, cancel_le, cancel_same, times_below, times_max}
+use Rattle.sums.proofs.Tests.{by_test}
 use Rattle.fleet_model.specs.declared.limits.TheConstants.{MINUTES_PER_PERIOD}
 use Rattle.fleet_model.specs.declared.parts.Pair.{Pair}
 use Rattle.fleet_model.specs.declared.tables.Tables.{Tables}
@@ -24,25 +26,6 @@ use Rattle.fleet_model.specs.Whole.{IsLegalBy, IsWhole, KeepAllowed, WholeIsLega
 times_sum : (c a b : ℕ) → c * (a + b) ≡ c * a + c * b
 times_sum c a zero = let none : a + 0 ≡ a = omega arith in rw none (omega arith)
 times_sum c a (suc b) = let out : a + suc b ≡ suc (a + b) = omega arith in ap (λ n. c * n) out ∙ mul-suc c (a + b) ∙ omega (arith, times_sum c a b, mul-suc c b)
-
-cancel_le : (c a b : ℕ) → 0 < c → c * a ≤ c * b → a ≤ b
-cancel_le c a b some order = elim (cases_lt b a) [
-  | inl more ↦ let next : c * suc b ≤ c * a = mul-le-mul_left c more in absurd (omega (arith, next, mul-suc c b, order))
-  | inr fine ↦ fine
-]
-
-cancel : (c a b : ℕ) → 0 < c → c * a ≡ c * b → a ≡ b
-cancel c a b some e = let less : a ≤ b = cancel_le c a b some (omega arith) in let more : b ≤ a = cancel_le c b a some (omega arith) in omega arith
-
-times_max : (c a b : ℕ) → max (c * a) (c * b) ≡ c * max a b
-times_max c a b = elim (cases_lt a b) [
-  | inl less ↦ let order : c * a ≤ c * b = mul-le-mul_left c (omega arith) in let is : max a b ≡ b = omega arith in rw is (omega arith)
-  | inr more ↦ let order : c * b ≤ c * a = mul-le-mul_left c more in let is : max a b ≡ a = omega arith in rw is (omega arith)
-]
-
-times_below : (c : ℕ) (f g : ℕ → ℕ) (n : ℕ) → ((k : ℕ) → k < n → f k ≡ c * g k) → sum_below f n ≡ c * sum_below g n
-times_below c f g zero each = omega arith
-times_below c f g (suc n) each = omega (arith, times_below c f g n (λ k below. each k (omega arith)), each n (omega arith), times_sum c (sum_below g n) (g n))
 
 times_most : (c : ℕ) (f g : ℕ → ℕ) (n : ℕ) → ((k : ℕ) → k < n → f k ≡ c * g k) → max_below f n ≡ c * max_below g n
 times_most c f g zero each = omega (arith, max_below-zero f, max_below-zero g, ap (λ m. c * m) (max_below-zero g))
@@ -100,10 +83,6 @@ at_other scale place k differ = let off : ◌≡◌ {A = ℕ} (if place == k the
 at_itself : (scale k : ℕ) → scale * (if k == k then 1 else 0) ≡ scale
 at_itself scale k = let on : ◌≡◌ {A = ℕ} (if k == k then 1 else 0) 1 = grind (arith, nat_tests) in rw on (omega arith)
 
-by_number : {X : Type 0} (m : ℕ) → (m ≡ 0 → X) → (m ≢ 0 → X) → X
-by_number zero p q = p refl
-by_number (suc m) p q = q (λ e. cc)
-
 skips : (m n k : ℕ) → m ≡ 0 → ◌≡◌ {A = ℕ} (if not (m == 0) then n else k) k
 skips m n k e = grind (arith, nat_tests)
 
@@ -138,10 +117,6 @@ one_of g scale (suc n) some whole sum = by_number (g n)
         | inr last ↦ let same : k ≡ n = omega arith in rw same (here ∙ sym (at_itself scale n))
       ];
     }))
-
-by_test : {X : Type 0} (b : Bool) → (b ≡ true → X) → (b ≡ false → X) → X
-by_test true p q = p refl
-by_test false p q = q refl
 
 module _ (t : Tables) (keeps : Domains) (scale : ℕ) (w : Weights) (some : 0 < scale) (allowed : KeepAllowed t keeps) (plan : IsMixedPlan t keeps scale w) (whole : IsWhole t scale w) where
   abbrev fleet_for : ℕ → ℕ
@@ -179,7 +154,7 @@ module _ (t : Tables) (keeps : Domains) (scale : ℕ) (w : Weights) (some : 0 < 
     assignment = is_assignment;
     allowed = record { each = λ l below. allowed.each (pair_at fleets l) (record { leg = below; fleet = known_there l below }) (kept_there l below) };
     balanced = record {
-      each = λ f s known within. cancel scale (arrived t (weights_of fleets) f s last_minute) (departed t (weights_of fleets) f s last_minute) some
+      each = λ f s known within. cancel_same scale (arrived t (weights_of fleets) f s last_minute) (departed t (weights_of fleets) f s last_minute) some
           (sym (times_arrived t scale w (weights_of fleets) f (λ l. same_weights f l known) s last_minute) ∙ plan.balanced.each f s known within
           ∙ times_departed t scale w (weights_of fleets) f (λ l. same_weights f l known) s last_minute);
     };

@@ -1,6 +1,6 @@
 -- Subproblems: which pairs are kept, of all that may be flown.
 use Rattle.std.specs.Prelude.{◌≡◌, ℕ, ◌<◌, Bool, IsTrue, true, false, not, ◌==◌, ◌&&◌, if◌then◌else◌, List, [], slice_index_or, slice_set, is_some}
-use Rattle.sums.specs.Below.{count_below}
+use Rattle.sums.specs.Below.{count_below, sum_below}
 use Rattle.fleet_model.specs.declared.parts.Pair.{Pair}
 use Rattle.fleet_model.specs.declared.kept.Step.{Step}
 use Rattle.fleet_model.specs.declared.undoing.Undo.{Undo}
@@ -28,6 +28,10 @@ narrowed keeps step p = keeps p && leaves step p
 -- how many fleets a leg keeps
 abbrev pub kept_on : Tables → Domains → ℕ → ℕ
 kept_on t keeps l = count_below (λ f. keeps (leg_on l f)) (fleets_in t)
+
+-- how many pairs are kept
+abbrev pub pairs_kept : Tables → Domains → ℕ
+pairs_kept t keeps = sum_below (kept_on t keeps) (legs_in t)
 
 -- an assignment of kept pairs
 pub record IsKeptAssignment (t : Tables) (keeps : Domains) (a : List ℕ) : Type 0 where

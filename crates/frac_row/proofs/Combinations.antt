@@ -14,6 +14,7 @@ use Rattle.sums.proofs.Division.{*ℤ-int_div, size-int_div, positive_factor}
 use lib.IntN.{*ℤ-zero}
 use Rattle.sums.proofs.Integers.{positive_product, one-*ℤ}
 use Rattle.sums.proofs.Places.{length-list_below, get_or-list_below, nothing_at, all_nothing}
+use Rattle.sums.proofs.Sizes.{size_above, zero_size}
 use Rattle.frac_row.specs.Outgrown.{is_outgrown, IsWithin}
 use Rattle.frac_row.specs.Row.{number_of, width_of, IsRow, IsSmall, IsSmallBeside}
 use Rattle.frac_row.specs.Combined.{combined_number, PlaceFits, combination, factors_of, place_growth, growth_by}
@@ -169,9 +170,6 @@ zero_place f column n r one beside within =
     no_growth _ _ _ _ _ _ (not_outgrown (f.own *ℤ n) (rw own within)) (not_outgrown (f.pivot *ℤ r) (rw other (omega arith)))
     (not_outgrown (combined_number f n r) (rw (stays_beside f n r beside (inl one)) within))
 
-zero_size : (z : ℤ) → unsigned_abs z ≡ 0 → z ≡ pos 0
-zero_size z e = omega (arith, ints)
-
 some_size : (z : ℤ) → 0 < unsigned_abs z → z ≢ pos 0
 some_size z h e = absurd (no_size (subst (λ x. 0 < unsigned_abs x) e h))
   where
@@ -191,9 +189,6 @@ small_growth_beside row pivot_row column lt some one is h k =
     no_den_growth _ _ _ (all_nothing (λ c. place_growth f c (number_of row c) (number_of pivot_row c)) (width_of row) (λ c here. place c here own pivot))
     (not_outgrown (f.own *ℤ row.den) (rw den is.den_within))
   where
-    size_above : (z : ℤ) → pos 0 <ℤ z → 0 < unsigned_abs z
-    size_above z h = omega (arith, ints)
-
     place : (c : ℕ) → c < width_of row → unsigned_abs ((factors_of row pivot_row column).own) ≤ 2 ^ 63 - 1 → unsigned_abs ((factors_of row pivot_row column).pivot) ≤ 2 ^ 63 - 1 → place_growth (factors_of row pivot_row column) c (number_of row c) (number_of pivot_row c) ≡ None
     place c here own pivot =
         elim (cases_lt 0 (unsigned_abs (number_of pivot_row c))) [

@@ -3,18 +3,13 @@ use Rattle.std.proofs.Common.{◌≡◌, ℕ, ◌<◌, ℤ, ◌-ℤ◌, ◌*ℤ�
 use Rattle.std.specs.Prelude.{is_some}
 use Rattle.sums.specs.Places.{first_below, or_else}
 use Rattle.sums.proofs.Places.{first_found}
+use Rattle.sums.proofs.Tests.{unlike}
 use Rattle.frac_row.specs.Outgrown.{is_outgrown}
 use Rattle.frac_row.specs.Row.{number_of, width_of}
 use Rattle.frac_row.specs.Combined.{place_growth, growth_by}
 use Rattle.frac_row.specs.declared.row.FracRow.{FracRow}
 use Rattle.frac_row.specs.declared.growth.Growth.{Growth}
 use Rattle.frac_row.specs.declared.factors.Factors.{Factors}
-
-unlike : {X : Type 0} → true ≡ false → X
-unlike e = absurd (clash e)
-  where
-    clash : true ≡ false → ⊥
-    clash e = cc
 
 -- the first of three that pass their tests
 pick_first : {X : Type 0} (a b c : Bool) (x y z g : X) → a ≡ true → g ≡ x → Some g ≡ or_else (cond a (Some x) None) (or_else (cond b (Some y) None) (cond c (Some z) None))

@@ -11,6 +11,7 @@ use Rattle.std.proofs.lemmas.List.{ext_get_or, get_or_past, get_or_default}
 use Rattle.std.specs.Prelude.{All}
 use Rattle.std.proofs.lemmas.Bool.{cases_lt}
 use native.Mathlib.Nat.{div-one}
+use Rattle.sums.proofs.Sizes.{size_above}
 use Rattle.frac_row.specs.Outgrown.{IsWithin}
 use Rattle.sums.specs.Places.{list_below}
 use Rattle.sums.specs.Divisors.{gcd_below}
@@ -25,14 +26,11 @@ gcd_below_range m d f (suc n) le some small =
     let before : (gcd_below d f n ≤ m) × (0 < gcd_below d f n) = gcd_below_range m d f n le some small in
     (gcd_at_most (gcd_below d f n) (f n) m before.0 (small n), gcd_positive (gcd_below d f n) (f n) (omega (arith, before.1)))
 
-size_positive : (z : ℤ) → pos 0 <ℤ z → 0 < unsigned_abs z
-size_positive z h = omega (arith, ints)
-
 -- the common divisor of a row is above 0 and within the limit
 pub common_divisor_range : (row : FracRow) → IsRow row → (common_divisor row ≤ 2 ^ 127 - 1) × (0 < common_divisor row)
 unfolding common_divisor
 common_divisor_range row h =
-    gcd_below_range (2 ^ 127 - 1) (unsigned_abs row.den) (λ column. unsigned_abs (number_of row column)) (width_of row) h.den_within (size_positive row.den h.positive) h.within
+    gcd_below_range (2 ^ 127 - 1) (unsigned_abs row.den) (λ column. unsigned_abs (number_of row column)) (width_of row) h.den_within (size_above row.den h.positive) h.within
 
 int_div-one : (n : ℤ) → int_div n (pos 1) ≡ n
 int_div-one (pos n) = ap pos (div-one n)
@@ -129,4 +127,4 @@ gcd_below_positive d f (suc n) some = gcd_positive (gcd_below d f n) (f n) (omeg
 
 pub common_divisor_positive : (row : FracRow) → pos 0 <ℤ row.den → 0 < common_divisor row
 unfolding common_divisor
-common_divisor_positive row h = gcd_below_positive (unsigned_abs row.den) (λ column. unsigned_abs (number_of row column)) (width_of row) (size_positive row.den h)
+common_divisor_positive row h = gcd_below_positive (unsigned_abs row.den) (λ column. unsigned_abs (number_of row column)) (width_of row) (size_above row.den h)

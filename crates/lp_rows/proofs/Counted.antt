@@ -3,14 +3,15 @@ use Rattle.std.proofs.Common.{◌≡◌, ℕ, zero, suc, ◌<◌, Bool, true, fa
 use Rattle.std.proofs.lemmas.List.{length-map}
 use Rattle.sums.specs.Below.{sum_below}
 use Rattle.fleet_model.specs.declared.tables.Tables.{Tables}
-use Rattle.fleet_model.specs.Kept.{Domains, kept_on}
+use Rattle.fleet_model.specs.Kept.{Domains, kept_on, pairs_kept}
 use Rattle.fleet_model.specs.Schedule.{fleets_in, leg_on, legs_in, stations_in}
 use Rattle.lp_rows.specs.declared.kinds.Column.TheVariants.{Flight, Ground, Slack}
 use Rattle.lp_rows.specs.declared.kinds.Line.TheVariants.{Cover, Balance, Count}
-use Rattle.lp_rows.specs.Layout.{Starts, all_kept, all_nodes, concat_below, list_to, node_at, nodes_at, nodes_of, pair_of, pairs_of}
-use Rattle.lp_rows.specs.Points.{RowsAreCounted, arcs_in, pairs_kept}
+use Rattle.sums.specs.Places.{list_below}
+use Rattle.lp_rows.specs.Layout.{Starts, all_kept, all_nodes, concat_below, node_at, nodes_at, nodes_of, pair_of, pairs_of}
+use Rattle.lp_rows.specs.Points.{RowsAreCounted, arcs_in}
 use Rattle.lp_rows.proofs.LineNumbers.{line_count}
-use Rattle.lp_rows.proofs.Totals.{length-list_to}
+use Rattle.sums.proofs.Places.{length-list_below}
 
 pub length-concat : {X : Type 0} (g : ℕ → List X) (count : ℕ → ℕ) (n : ℕ) → ((k : ℕ) → k < n → length (g k) ≡ count k) → length (concat_below g n) ≡ sum_below count n
 length-concat g count zero each = refl
@@ -28,27 +29,27 @@ pairs_are t keeps =
 pub nodes_are : (t : Tables) (starts : Starts) → length (all_nodes t starts) ≡ arcs_in t starts
 nodes_are t starts =
     length-concat (nodes_of t starts) (λ f. sum_below (λ s. length (starts f s)) (stations_in t)) (fleets_in t)
-    (λ f known. length-concat (nodes_at starts f) (λ s. length (starts f s)) (stations_in t) (λ s within. length-list_to (node_at f s) (length (starts f s))))
+    (λ f known. length-concat (nodes_at starts f) (λ s. length (starts f s)) (stations_in t) (λ s within. length-list_below (node_at f s) (length (starts f s))))
 
 pub rows_are_counted : RowsAreCounted
 rows_are_counted t keeps starts rows are = record {
   columns = are.columns ∙ omega (
     arith,
-    length-append (map Flight (all_kept t keeps) ++ map Ground (all_nodes t starts)) (list_to Slack (fleets_in t)),
+    length-append (map Flight (all_kept t keeps) ++ map Ground (all_nodes t starts)) (list_below Slack (fleets_in t)),
     length-append (map Flight (all_kept t keeps)) (map Ground (all_nodes t starts)),
     length-map (all_kept t keeps) Flight,
     length-map (all_nodes t starts) Ground,
-    length-list_to Slack (fleets_in t),
+    length-list_below Slack (fleets_in t),
     pairs_are t keeps,
     nodes_are t starts,
   );
   lines = line_count t keeps starts rows are ∙ omega (
     arith,
-    length-append (list_to Cover (legs_in t) ++ map Balance (all_nodes t starts)) (list_to Count (fleets_in t)),
-    length-append (list_to Cover (legs_in t)) (map Balance (all_nodes t starts)),
+    length-append (list_below Cover (legs_in t) ++ map Balance (all_nodes t starts)) (list_below Count (fleets_in t)),
+    length-append (list_below Cover (legs_in t)) (map Balance (all_nodes t starts)),
     length-map (all_nodes t starts) Balance,
-    length-list_to Cover (legs_in t),
-    length-list_to Count (fleets_in t),
+    length-list_below Cover (legs_in t),
+    length-list_below Count (fleets_in t),
     nodes_are t starts,
   );
 }

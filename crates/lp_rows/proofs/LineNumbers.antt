@@ -16,7 +16,9 @@ use Rattle.lp_rows.specs.declared.kinds.Column.TheVariants.{Slack}
 use Rattle.lp_rows.specs.declared.kinds.Line.{Line}
 use Rattle.lp_rows.specs.declared.kinds.Line.TheVariants.{Cover, Balance, Count}
 use Rattle.lp_rows.specs.Entries.{IsLine, IsNode, column_cost, entry_of, right_side_of}
-use Rattle.lp_rows.specs.Layout.{Starts, all_nodes, columns_of, concat_below, lines_of, list_to, node_at, nodes_at, nodes_of}
+use Rattle.sums.specs.Places.{list_below}
+use Rattle.sums.proofs.Places.{get_or-list_below, length-list_below}
+use Rattle.lp_rows.specs.Layout.{Starts, all_nodes, columns_of, concat_below, lines_of, node_at, nodes_at, nodes_of}
 use Rattle.lp_rows.specs.Points.{column_at}
 use Rattle.lp_rows.specs.Program.{AreRows, numbers_of}
 use Rattle.lp_rows.proofs.LineSums.{line_sum}
@@ -30,12 +32,8 @@ among_concat g x (suc n) k below here = elim (cases_lt k n) [
   | inr last ↦ let same : k ≡ n = omega arith in Contains-append_right (concat_below g n) (g n) x (subst (λ j. Contains (g j) x) same here)
 ]
 
-among_list : {X : Type 0} (f : ℕ → X) (n k : ℕ) → k < n → Contains (list_to f n) (f k)
-among_list f zero k below = absurd (omega arith)
-among_list f (suc n) k below = elim (cases_lt k n) [
-  | inl before ↦ Contains-append_left _ _ _ (among_list f n k before)
-  | inr last ↦ let same : k ≡ n = omega arith in subst (λ j. Contains (list_to f n ++ f n ∷ []) (f j)) (sym same) (Contains-push (list_to f n) (f n))
-]
+among_list : {X : Type 0} (f : ℕ → X) (n k : ℕ) → k < n → Contains (list_below f n) (f k)
+among_list f n k below = (k, omega (arith, below, length-list_below f n), get_or-list_below f n k (f k) below)
 
 among_map : {X Y : Type 0} (f : X → Y) (xs : List X) (x : X) → Contains xs x → Contains (map f xs) (f x)
 among_map f xs x here = (here.0, omega (arith, here.1, length-map xs f), get_or-map f xs here.0 x (f x) here.1 ∙ ap f here.2)
@@ -47,8 +45,8 @@ node_among t starts n node =
 
 pub line_among : (t : Tables) (starts : Starts) (line : Line) → IsLine t starts line → Contains (lines_of t starts) line
 line_among t starts (Cover l) below = Contains-append_left _ _ _ (Contains-append_left _ _ _ (among_list Cover (legs_in t) l below))
-line_among t starts (Balance n) node = Contains-append_left _ _ _ (Contains-append_right (list_to Cover (legs_in t)) (map Balance (all_nodes t starts)) (Balance n) (among_map Balance (all_nodes t starts) n (node_among t starts n node)))
-line_among t starts (Count f) known = Contains-append_right (list_to Cover (legs_in t) ++ map Balance (all_nodes t starts)) (list_to Count (fleets_in t)) (Count f) (among_list Count (fleets_in t) f known)
+line_among t starts (Balance n) node = Contains-append_left _ _ _ (Contains-append_right (list_below Cover (legs_in t)) (map Balance (all_nodes t starts)) (Balance n) (among_map Balance (all_nodes t starts) n (node_among t starts n node)))
+line_among t starts (Count f) known = Contains-append_right (list_below Cover (legs_in t) ++ map Balance (all_nodes t starts)) (list_below Count (fleets_in t)) (Count f) (among_list Count (fleets_in t) f known)
 
 -- ---- the numbers
 module _ (t : Tables) (keeps : Domains) (starts : Starts) (rows : Rows) (are : AreRows t keeps starts rows) where

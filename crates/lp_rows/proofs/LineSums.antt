@@ -3,8 +3,9 @@ use Rattle.std.proofs.Common.{◌≡◌, ℕ, ◌+◌, ◌<◌, if◌then◌else
 use Rattle.std.proofs.lemmas.Int.{ints}
 use lib.IntN.{zero-*ℤ, *ℤ_comm, *ℤ-zero}
 use Rattle.sums.specs.Below.{sum_below, sum_below_ℤ}
-use Rattle.sums.proofs.WholeSums.{sum_below_ℤ-same}
+use Rattle.sums.proofs.WholeSums.{sum_below_ℤ-same, sum_below_ℤ-pos}
 use Rattle.sums.proofs.WholeSwaps.{sum_below_ℤ-one, where_true}
+use Rattle.sums.proofs.Tests.{by_test}
 use Rattle.fleet_model.specs.declared.tables.Tables.{Tables}
 use Rattle.fleet_model.specs.Counts.{Weights}
 use Rattle.fleet_model.specs.Kept.{Domains}
@@ -18,9 +19,9 @@ use Rattle.lp_rows.specs.declared.kinds.Column.{Column}
 use Rattle.lp_rows.specs.declared.kinds.Column.TheVariants.{Flight, Ground, Slack}
 use Rattle.lp_rows.specs.Entries.{IsNode, balance_entry, count_entry, cover_entry, is_in, one_if, place_after}
 use Rattle.lp_rows.specs.Layout.{Starts, node_at}
-use Rattle.lp_rows.proofs.ListSums.{of_counts, one_if-times, test_out}
+use Rattle.lp_rows.proofs.ListSums.{one_if-times, test_out}
 use Rattle.lp_rows.proofs.Picks.{count_at, count_before, inner_tests, of_differences, one_test, pick_fleet, pick_nodes, place_before, times_test, two_tests}
-use Rattle.lp_rows.proofs.Places.{by_test, no_grounds, no_slacks}
+use Rattle.lp_rows.proofs.Places.{no_grounds, no_slacks}
 use Rattle.lp_rows.proofs.Totals.{flights, grounds, slacks}
 
 -- what a leg's weight adds to the aircraft that come to a node
@@ -70,7 +71,7 @@ module _ (t : Tables) (keeps : Domains) (starts : Starts) (v : Column → ℕ) (
   cover_sum l0 here =
       let pairs = over_flights (cover_entry l0) (λ l f. where_true (l0 == l) (pos (w (leg_on l f)))) (λ l f. one_if-times (l0 == l) (pos (w (leg_on l f))))
       ∙ sum_below_ℤ-same (λ l. sum_below_ℤ (λ f. where_true (l0 == l) (pos (w (leg_on l f)))) (fleets_in t)) (λ l. where_true (l0 == l) (pos (weight_on t w l))) (legs_in t)
-      (λ l below. test_out (l0 == l) (λ f. pos (w (leg_on l f))) (fleets_in t) ∙ ap (where_true (l0 == l)) (of_counts (λ f. w (leg_on l f)) (fleets_in t)))
+      (λ l below. test_out (l0 == l) (λ f. pos (w (leg_on l f))) (fleets_in t) ∙ ap (where_true (l0 == l)) (sum_below_ℤ-pos (λ f. w (leg_on l f)) (fleets_in t)))
       ∙ sum_below_ℤ-one l0 (λ l. pos (weight_on t w l)) (legs_in t) here in
       let arcs = no_grounds t keeps starts (λ k. cover_entry l0 k *ℤ pos (v k)) (λ n. zero-*ℤ (pos (v (Ground n)))) in
       let spare = no_slacks t keeps starts (λ k. cover_entry l0 k *ℤ pos (v k)) (λ f. zero-*ℤ (pos (v (Slack f)))) in
@@ -122,7 +123,7 @@ module _ (t : Tables) (keeps : Domains) (starts : Starts) (v : Column → ℕ) (
       over_flights (count_entry t starts f0) (λ l f. where_true (f0 == f) (pos (laps_of t (leg_on l f)) *ℤ pos (w (leg_on l f)))) (λ l f. times_test (f0 == f) (laps_of t (leg_on l f)) (w (leg_on l f)))
       ∙ sum_below_ℤ-same (λ l. sum_below_ℤ (λ f. where_true (f0 == f) (pos (laps_of t (leg_on l f)) *ℤ pos (w (leg_on l f)))) (fleets_in t)) (λ l. pos (laps_at t w f0 l)) (legs_in t)
       (λ l below. sum_below_ℤ-one f0 (λ f. pos (laps_of t (leg_on l f)) *ℤ pos (w (leg_on l f))) (fleets_in t) known ∙ *ℤ_comm (pos (laps_of t (leg_on l f0))) (pos (w (leg_on l f0))))
-      ∙ of_counts (laps_at t w f0) (legs_in t)
+      ∙ sum_below_ℤ-pos (laps_at t w f0) (legs_in t)
 
   count_grounds : (f0 : ℕ) → f0 < fleets_in t → grounds t starts (λ k. count_entry t starts f0 k *ℤ pos (v k)) ≡ pos (sum_below (last_arc starts v f0) (stations_in t))
   count_grounds f0 known =
@@ -130,8 +131,8 @@ module _ (t : Tables) (keeps : Domains) (starts : Starts) (v : Column → ℕ) (
       over_grounds (count_entry t starts f0) (λ f s k. where_true (f0 == f) (part f s k)) (λ f s k. one_test (f0 == f) (length (starts f0 s) == k + 1) (v (Ground (node_at f s k))))
       ∙ pick_fleet (fleets_in t) (stations_in t) f0 (λ f s. length (starts f s)) part known
       ∙ sum_below_ℤ-same (λ s. sum_below_ℤ (part f0 s) (length (starts f0 s))) (λ s. pos (last_arc starts v f0 s)) (stations_in t)
-      (λ s within. of_counts (λ k. if length (starts f0 s) == k + 1 then v (Ground (node_at f0 s k)) else 0) (length (starts f0 s)))
-      ∙ of_counts (last_arc starts v f0) (stations_in t)
+      (λ s within. sum_below_ℤ-pos (λ k. if length (starts f0 s) == k + 1 then v (Ground (node_at f0 s k)) else 0) (length (starts f0 s)))
+      ∙ sum_below_ℤ-pos (last_arc starts v f0) (stations_in t)
 
   count_slacks : (f0 : ℕ) → f0 < fleets_in t → slacks t (λ k. count_entry t starts f0 k *ℤ pos (v k)) ≡ pos (v (Slack f0))
   count_slacks f0 known =

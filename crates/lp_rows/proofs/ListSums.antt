@@ -1,13 +1,15 @@
 -- Sums over the entries of lists.
-use Rattle.std.proofs.Common.{◌≡◌, ℕ, zero, suc, ◌<◌, Bool, true, false, if◌then◌else◌, List, [], ◌∷◌, ◌++◌, length, get_or, map, ℤ, pos, ◌+ℤ◌, ◌*ℤ◌, refl, sym, ◌∙◌, ap, arith}
+use Rattle.std.proofs.Common.{◌≡◌, ℕ, zero, suc, ◌+◌, ◌<◌, Bool, true, false, if◌then◌else◌, List, [], ◌∷◌, ◌++◌, length, get_or, map, ℤ, pos, ◌+ℤ◌, ◌*ℤ◌, refl, sym, ◌∙◌, ap, append_assoc, arith}
 use Rattle.std.proofs.lemmas.Int.{ints}
 use lib.IntN.{zero-*ℤ, +ℤ_idl}
 use Rattle.sums.specs.Below.{sum_below, sum_below_ℤ, count_below}
 use Rattle.sums.proofs.Integers.{one-*ℤ}
-use Rattle.sums.proofs.WholeSums.{sum_below_ℤ-same}
+use Rattle.sums.proofs.Places.{get_or-list_below, length-list_below, list_below-push}
+use Rattle.sums.proofs.WholeSums.{sum_below_ℤ-same, sum_below_ℤ-pos}
 use Rattle.sums.proofs.WholeSwaps.{sum_below_ℤ-zero, where_true}
 use Rattle.lp_rows.specs.Entries.{one_if}
-use Rattle.lp_rows.specs.Layout.{concat_below, list_to}
+use Rattle.sums.specs.Places.{list_below}
+use Rattle.lp_rows.specs.Layout.{concat_below}
 
 -- the values of a list's entries, added up
 abbrev pub sum_list : {X : Type 0} → (X → ℤ) → List X → ℤ
@@ -36,9 +38,15 @@ pub of_concat : {X : Type 0} (h : X → ℤ) (g : ℕ → List X) (n : ℕ) → 
 of_concat h g zero = refl
 of_concat h g (suc n) = of_append h (concat_below g n) (g n) ∙ ap (λ z. z +ℤ sum_list h (g n)) (of_concat h g n)
 
-pub of_list : {X : Type 0} (h : X → ℤ) (f : ℕ → X) (n : ℕ) → sum_list h (list_to f n) ≡ sum_below_ℤ (λ i. h (f i)) n
-of_list h f zero = refl
-of_list h f (suc n) = of_append h (list_to f n) (f n ∷ []) ∙ ap (λ z. z +ℤ (h (f n) +ℤ pos 0)) (of_list h f n) ∙ omega (arith, ints)
+pub of_list : {X : Type 0} (h : X → ℤ) (f : ℕ → X) (n : ℕ) → sum_list h (list_below f n) ≡ sum_below_ℤ (λ i. h (f i)) n
+of_list h f n =
+    sym (by_places h (list_below f n) (f 0)) ∙ ap (sum_below_ℤ (λ k. h (get_or (list_below f n) k (f 0)))) (length-list_below f n)
+    ∙ sum_below_ℤ-same (λ k. h (get_or (list_below f n) k (f 0))) (λ k. h (f k)) n (λ k below. ap h (get_or-list_below f n k (f 0) below))
+
+-- one entry more behind a list
+pub one_behind : {X : Type 0} (old now more : List X) (f : ℕ → X) (n : ℕ) (x : X) → now ≡ old ++ list_below f n → more ≡ now ++ x ∷ [] → x ≡ f n → more ≡ old ++ list_below f (n + 1)
+one_behind old now more f n x is pushed same =
+    pushed ∙ ap (λ xs. xs ++ x ∷ []) is ∙ append_assoc old (list_below f n) (x ∷ []) ∙ ap (λ xs. old ++ xs) (list_below-push f n (list_below f n) x refl same)
 
 pub of_one : {X : Type 0} (h : X → ℤ) (b : Bool) (x : X) → sum_list h (if b then x ∷ [] else []) ≡ where_true b (h x)
 of_one h true x = omega (arith, ints)
@@ -52,17 +60,12 @@ test_out false g n = sum_below_ℤ-zero n
 pub all_zero : (g : ℕ → ℤ) (n : ℕ) → ((k : ℕ) → k < n → g k ≡ pos 0) → sum_below_ℤ g n ≡ pos 0
 all_zero g n none = sum_below_ℤ-same g (λ k. pos 0) n none ∙ sum_below_ℤ-zero n
 
--- sums of counts
-pub of_counts : (f : ℕ → ℕ) (n : ℕ) → sum_below_ℤ (λ k. pos (f k)) n ≡ pos (sum_below f n)
-of_counts f zero = refl
-of_counts f (suc n) = omega (arith, ints, of_counts f n)
-
 pub one_if-times : (b : Bool) (z : ℤ) → one_if b *ℤ z ≡ where_true b z
 one_if-times true z = one-*ℤ z
 one_if-times false z = zero-*ℤ z
 
 pub of_tests : (p : ℕ → Bool) (n : ℕ) → sum_below_ℤ (λ k. one_if (p k)) n ≡ pos (count_below p n)
-of_tests p n = sum_below_ℤ-same (λ k. one_if (p k)) (λ k. pos (if p k then 1 else 0)) n (λ k below. as_count (p k)) ∙ of_counts (λ k. if p k then 1 else 0) n
+of_tests p n = sum_below_ℤ-same (λ k. one_if (p k)) (λ k. pos (if p k then 1 else 0)) n (λ k below. as_count (p k)) ∙ sum_below_ℤ-pos (λ k. if p k then 1 else 0) n
   where
     as_count : (b : Bool) → one_if b ≡ pos (if b then 1 else 0)
     as_count true = refl

@@ -5,6 +5,7 @@ use Rattle.std.proofs.lemmas.Bool.Decides.{nat_tests}
 use Rattle.sums.specs.Below.{sum_below, max_below}
 use Rattle.sums.proofs.Maxima.{max_below-zero}
 use Rattle.sums.proofs.Sums.{sum_below-add, sum_below-agree, sum_below-zero}
+use Rattle.sums.proofs.Tests.{by_test}
 use Rattle.fleet_model.specs.declared.tables.Tables.{Tables}
 use Rattle.fleet_model.specs.Counts.{Weights, arrived, coming, departed, leaving}
 use Rattle.fleet_model.specs.Kept.{Domains}
@@ -18,7 +19,6 @@ use Rattle.node_aggregate.proofs.EventsAmong.{happens_within, ready_at}
 use Rattle.node_aggregate.proofs.NodeEnds.{end_at_last, end_before, need_is_at_node_ends}
 use Rattle.lp_rows.specs.Layout.{Starts, node_at}
 use Rattle.lp_rows.proofs.LineSums.{coming_to, leaving_from}
-use Rattle.lp_rows.proofs.Places.{by_test}
 
 -- by a later minute: what came by an earlier one, and what came since
 one_split : (b : Bool) (m low high before w : ℕ) → before + 1 ≡ low → before ≤ high

@@ -6,10 +6,11 @@ use lib.IntN.{zero-*ℤ}
 use Rattle.sums.specs.Below.{sum_below, sum_below_ℤ}
 use Rattle.sums.proofs.Integers.{one-*ℤ, -ℤ-*ℤ}
 use Rattle.sums.proofs.Sums.{sum_below-agree, sum_below-one}
-use Rattle.sums.proofs.WholeSums.{sum_below_ℤ-same, sum_below_ℤ--ℤ}
+use Rattle.sums.proofs.WholeSums.{sum_below_ℤ-same, sum_below_ℤ--ℤ, sum_below_ℤ-pos}
 use Rattle.sums.proofs.WholeSwaps.{sum_below_ℤ-one, where_true}
+use Rattle.sums.proofs.Tests.{by_test}
 use Rattle.lp_rows.specs.Entries.{one_if, place_after}
-use Rattle.lp_rows.proofs.ListSums.{of_counts, test_out}
+use Rattle.lp_rows.proofs.ListSums.{test_out}
 
 -- one of two numbers, twice
 pub pick_pair : (m n a b : ℕ) (v : ℕ → ℕ → ℤ) → a < m → b < n → sum_below_ℤ (λ l. sum_below_ℤ (λ f. where_true (a == l) (where_true (b == f) (v l f))) n) m ≡ v a b
@@ -39,10 +40,6 @@ pick_fleet fleets stations a len u here =
 
 if_at : (a k : ℕ) (v : ℕ → ℕ) → ◌≡◌ {A = ℕ} (if a == k then v k else 0) (if a == k then v a else 0)
 if_at a k v = by_test (a == k) (λ e. let same : a ≡ k = grind (arith, nat_tests) in rw same refl) (λ e. rw e refl)
-  where
-    by_test : {X : Type 0} (b : Bool) → (b ≡ true → X) → (b ≡ false → X) → X
-    by_test true p q = p refl
-    by_test false p q = q refl
 
 -- a count at one place
 pub count_at : (a : ℕ) (v : ℕ → ℕ) (n : ℕ) → a < n → sum_below (λ k. if a == k then v k else 0) n ≡ v a
@@ -84,4 +81,4 @@ times_test false n v = zero-*ℤ (pos v)
 
 -- a difference of counts
 pub of_differences : (f g : ℕ → ℕ) (n : ℕ) → sum_below_ℤ (λ k. pos (f k) -ℤ pos (g k)) n ≡ pos (sum_below f n) -ℤ pos (sum_below g n)
-of_differences f g n = sum_below_ℤ--ℤ (λ k. pos (f k)) (λ k. pos (g k)) n ∙ omega (arith, ints, of_counts f n, of_counts g n)
+of_differences f g n = sum_below_ℤ--ℤ (λ k. pos (f k)) (λ k. pos (g k)) n ∙ omega (arith, ints, sum_below_ℤ-pos f n, sum_below_ℤ-pos g n)

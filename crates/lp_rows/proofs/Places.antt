@@ -8,6 +8,7 @@ use Rattle.sums.proofs.Counts.{count_below-one}
 use Rattle.sums.proofs.Sums.{sum_below-agree, sum_below-one, sum_below-zero}
 use Rattle.sums.proofs.WholeSums.{sum_below_ℤ-same}
 use Rattle.sums.proofs.WholeSwaps.{sum_below_ℤ-one, where_true}
+use Rattle.sums.proofs.Tests.{by_test}
 use Rattle.fleet_model.specs.declared.parts.Pair.{Pair}
 use Rattle.fleet_model.specs.declared.tables.Tables.{Tables}
 use Rattle.fleet_model.specs.Kept.{Domains}
@@ -21,10 +22,6 @@ use Rattle.lp_rows.specs.Points.{column_at, same_column, value_of}
 use Rattle.lp_rows.proofs.ListSums.{all_zero, of_tests}
 use Rattle.lp_rows.proofs.Picks.{pick_nodes, pick_pair}
 use Rattle.lp_rows.proofs.Totals.{all_columns, flights, grounds, over_columns, slacks}
-
-pub by_test : {X : Type 0} (b : Bool) → (b ≡ true → X) → (b ≡ false → X) → X
-by_test true p q = p refl
-by_test false p q = q refl
 
 -- a column of the tables, and kept where it is of a pair
 abbrev pub IsKept : Tables → Domains → Starts → Column → Type 0

@@ -7,8 +7,9 @@ use lib.IntN.{zero-*ℤ}
 use Rattle.sums.specs.Below.{sum_below, sum_below_ℤ}
 use Rattle.sums.proofs.Integers.{one-*ℤ}
 use Rattle.sums.proofs.Sums.{sum_below-agree}
-use Rattle.sums.proofs.WholeSums.{sum_below_ℤ-same}
+use Rattle.sums.proofs.WholeSums.{sum_below_ℤ-same, sum_below_ℤ-pos}
 use Rattle.sums.proofs.WholeSwaps.{where_true}
+use Rattle.sums.proofs.Tests.{by_test}
 use Rattle.fleet_model.specs.declared.limits.TheConstants.{MINUTES_PER_PERIOD}
 use Rattle.fleet_model.specs.declared.parts.Pair.{Pair}
 use Rattle.fleet_model.specs.declared.tables.Tables.{Tables}
@@ -31,10 +32,9 @@ use Rattle.lp_rows.specs.Points.{PlansArePoints, column_at, same_column, value_o
 use Rattle.lp_rows.proofs.Flows.{IsFlow, add_one, before_next, flown, last_is, no_last}
 use Rattle.lp_rows.proofs.LineNumbers.{line_count, right_side_at, sum_at}
 use Rattle.lp_rows.proofs.LineSums.{balance_sum, coming_to, count_sum, cover_sum, last_arc, leaving_from, line_sum}
-use Rattle.lp_rows.proofs.ListSums.{of_counts}
 use Rattle.lp_rows.proofs.NodeCounts.{come_first, come_next, left_first, left_next, no_need}
 use Rattle.lp_rows.proofs.Picks.{pick_pair, place_before}
-use Rattle.lp_rows.proofs.Places.{by_test, no_grounds, no_slacks, nothing_there}
+use Rattle.lp_rows.proofs.Places.{no_grounds, no_slacks, nothing_there}
 use Rattle.lp_rows.proofs.Totals.{lines_are_known, over_columns}
 
 -- what a mixed plan gives to each column
@@ -157,7 +157,7 @@ value_of_pair t keeps starts v p known kept =
     (λ f lt. masked_tests (keeps (leg_on l f)) (p.leg == l) (p.fleet == f) (v (Flight (leg_on l f)))))
     ∙ pick_pair (legs_in t) (fleets_in t) p.leg p.fleet (λ l f. where_true (keeps (leg_on l f)) (pos (v (Flight (leg_on l f))))) known.leg known.fleet
     ∙ ap (λ b. where_true b (pos (v (Flight p)))) kept in
-    let all = sym (of_counts (λ c. if same_column (Flight p) (column_at columns c) then v (column_at columns c) else 0) (length columns)) ∙ over_columns t keeps starts here in
+    let all = sym (sum_below_ℤ-pos (λ c. if same_column (Flight p) (column_at columns c) then v (column_at columns c) else 0) (length columns)) ∙ over_columns t keeps starts here in
     omega (arith, ints, all, pairs, no_grounds t keeps starts here (λ n. refl), no_slacks t keeps starts here (λ f. refl))
 
 pub plans_are_points : PlansArePoints

@@ -4,6 +4,7 @@ use Rattle.std.proofs.lemmas.List.{length-map}
 use Rattle.std.proofs.lemmas.List.Elements.{All-append, All-cons, All-map, All-nil}
 use Rattle.fleet_model.specs.declared.limits.TheConstants.{MINUTES_PER_PERIOD}
 use Rattle.sums.specs.Below.{sum_below_ℤ}
+use Rattle.sums.proofs.Places.{get_or-list_below, length-list_below}
 use Rattle.sums.proofs.WholeSums.{sum_below_ℤ-same}
 use Rattle.sums.proofs.WholeSwaps.{where_true}
 use Rattle.fleet_model.specs.declared.tables.Tables.{Tables}
@@ -14,7 +15,8 @@ use Rattle.lp_rows.specs.declared.kinds.Column.{Column}
 use Rattle.lp_rows.specs.declared.kinds.Column.TheVariants.{Flight, Ground, Slack}
 use Rattle.lp_rows.specs.declared.kinds.Line.TheVariants.{Cover, Balance, Count}
 use Rattle.lp_rows.specs.Entries.{IsColumn, IsLine, IsNode}
-use Rattle.lp_rows.specs.Layout.{Starts, all_kept, all_nodes, columns_of, concat_below, lines_of, list_to, node_at, nodes_at, nodes_of, pair_of, pairs_of}
+use Rattle.sums.specs.Places.{list_below}
+use Rattle.lp_rows.specs.Layout.{Starts, all_kept, all_nodes, columns_of, concat_below, lines_of, node_at, nodes_at, nodes_of, pair_of, pairs_of}
 use Rattle.lp_rows.proofs.ListSums.{by_places, of_append, of_concat, of_list, of_map, of_one, sum_list}
 
 -- over the kept pairs
@@ -49,21 +51,22 @@ module _ (t : Tables) (keeps : Domains) (starts : Starts) (h : Column → ℤ) w
   -- over all columns by their places
   pub over_columns : sum_below_ℤ (λ c. h (get_or (columns_of t keeps starts) c (Slack 0))) (length (columns_of t keeps starts)) ≡ flights t keeps h +ℤ grounds t starts h +ℤ slacks t h
   over_columns =
-      let split = of_append h (map Flight (all_kept t keeps) ++ map Ground (all_nodes t starts)) (list_to Slack (fleets_in t)) in
+      let split = of_append h (map Flight (all_kept t keeps) ++ map Ground (all_nodes t starts)) (list_below Slack (fleets_in t)) in
       let front = of_append h (map Flight (all_kept t keeps)) (map Ground (all_nodes t starts)) in
       let pairs = of_map h Flight (all_kept t keeps) ∙ over_pairs in
       let nodes = of_map h Ground (all_nodes t starts) ∙ over_nodes in
-      by_places h (columns_of t keeps starts) (Slack 0) ∙ split ∙ ap (λ z. z +ℤ sum_list h (list_to Slack (fleets_in t))) (front ∙ ap (λ z. z +ℤ sum_list h (map Ground (all_nodes t starts))) pairs ∙ ap (λ z. flights t keeps h +ℤ z) nodes)
+      by_places h (columns_of t keeps starts) (Slack 0) ∙ split ∙ ap (λ z. z +ℤ sum_list h (list_below Slack (fleets_in t))) (front ∙ ap (λ z. z +ℤ sum_list h (map Ground (all_nodes t starts))) pairs ∙ ap (λ z. flights t keeps h +ℤ z) nodes)
       ∙ ap (λ z. flights t keeps h +ℤ grounds t starts h +ℤ z) (of_list h Slack (fleets_in t))
 
 -- what holds of each entry of lists one behind another
-all_concat : {X : Type 0} (P : X → Type 0) (g : ℕ → List X) (n : ℕ) → ((k : ℕ) → k < n → All P (g k)) → All P (concat_below g n)
+pub all_concat : {X : Type 0} (P : X → Type 0) (g : ℕ → List X) (n : ℕ) → ((k : ℕ) → k < n → All P (g k)) → All P (concat_below g n)
 all_concat P g zero each = All-nil P
 all_concat P g (suc n) each = All-append P _ _ (all_concat P g n (λ k below. each k (omega arith))) (each n (omega arith))
 
-all_list : {X : Type 0} (P : X → Type 0) (f : ℕ → X) (n : ℕ) → ((k : ℕ) → k < n → P (f k)) → All P (list_to f n)
-all_list P f zero each = All-nil P
-all_list P f (suc n) each = All-append P _ _ (all_list P f n (λ k below. each k (omega arith))) (All-cons P (f n) [] (each n (omega arith)) (All-nil P))
+all_list : {X : Type 0} (P : X → Type 0) (f : ℕ → X) (n : ℕ) → ((k : ℕ) → k < n → P (f k)) → All P (list_below f n)
+all_list P f n each k d within =
+    let below : k < n = omega (arith, within, length-list_below f n) in
+    rw (get_or-list_below f n k d below) (each k below)
 
 all_one : {X : Type 0} (P : X → Type 0) (b : Bool) (x : X) → (b ≡ true → P x) → All P (if b then x ∷ [] else [])
 all_one P true x here = All-cons P x [] (here refl) (All-nil P)
@@ -100,10 +103,6 @@ few_concat : {X : Type 0} (g : ℕ → List X) (n most : ℕ) → ((k : ℕ) →
 few_concat g zero most each = omega arith
 few_concat g (suc n) most each = omega (arith, length-append (concat_below g n) (g n), few_concat g n most (λ k below. each k (omega arith)), each n (omega arith))
 
-pub length-list_to : {X : Type 0} (f : ℕ → X) (n : ℕ) → length (list_to f n) ≡ n
-length-list_to f zero = refl
-length-list_to f (suc n) = omega (arith, length-append (list_to f n) (f n ∷ []), length-list_to f n)
-
 few_one : {X : Type 0} (b : Bool) (x : X) → length (if b then x ∷ [] else []) ≤ 1
 few_one true x = omega arith
 few_one false x = omega arith
@@ -111,7 +110,7 @@ few_one false x = omega arith
 few_nodes : (t : Tables) (starts : Starts) → ((f s : ℕ) → f < fleets_in t → s < stations_in t → length (starts f s) ≤ MINUTES_PER_PERIOD) → length (all_nodes t starts) ≤ 5760000
 few_nodes t starts few =
     let nodes = few_concat (nodes_of t starts) (fleets_in t) (200 * MINUTES_PER_PERIOD) (λ f known.
-    let row = few_concat (nodes_at starts f) (stations_in t) MINUTES_PER_PERIOD (λ s within. omega (arith, length-list_to (node_at f s) (length (starts f s)), few f s known within)) in
+    let row = few_concat (nodes_at starts f) (stations_in t) MINUTES_PER_PERIOD (λ s within. omega (arith, length-list_below (node_at f s) (length (starts f s)), few f s known within)) in
     omega (arith, row, t.in_range.stations_fit.few)) in
     omega (arith, nodes, t.in_range.fleets_fit.few)
 
@@ -126,11 +125,11 @@ few_columns t keeps starts few =
       few_nodes t starts few,
       t.in_range.legs_fit.few,
       t.in_range.fleets_fit.few,
-      length-append (map Flight (all_kept t keeps) ++ map Ground (all_nodes t starts)) (list_to Slack (fleets_in t)),
+      length-append (map Flight (all_kept t keeps) ++ map Ground (all_nodes t starts)) (list_below Slack (fleets_in t)),
       length-append (map Flight (all_kept t keeps)) (map Ground (all_nodes t starts)),
       length-map (all_kept t keeps) Flight,
       length-map (all_nodes t starts) Ground,
-      length-list_to Slack (fleets_in t),
+      length-list_below Slack (fleets_in t),
     )
 
 pub few_lines : (t : Tables) (starts : Starts) → ((f s : ℕ) → f < fleets_in t → s < stations_in t → length (starts f s) ≤ MINUTES_PER_PERIOD) → length (lines_of t starts) ≤ 10 ^ 7
@@ -140,9 +139,9 @@ few_lines t starts few =
       few_nodes t starts few,
       t.in_range.legs_fit.few,
       t.in_range.fleets_fit.few,
-      length-append (list_to Cover (legs_in t) ++ map Balance (all_nodes t starts)) (list_to Count (fleets_in t)),
-      length-append (list_to Cover (legs_in t)) (map Balance (all_nodes t starts)),
+      length-append (list_below Cover (legs_in t) ++ map Balance (all_nodes t starts)) (list_below Count (fleets_in t)),
+      length-append (list_below Cover (legs_in t)) (map Balance (all_nodes t starts)),
       length-map (all_nodes t starts) Balance,
-      length-list_to Cover (legs_in t),
-      length-list_to Count (fleets_in t),
+      length-list_below Cover (legs_in t),
+      length-list_below Count (fleets_in t),
     )

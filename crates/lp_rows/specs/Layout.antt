@@ -1,5 +1,6 @@
 -- The order of columns and of lines: the one place that says where each stands.
 use Rattle.std.specs.Prelude.{◌≡◌, ℕ, zero, suc, ◌<◌, ◌≤◌, if◌then◌else◌, List, [], ◌∷◌, ◌++◌, map, length, slice_index_or}
+use Rattle.sums.specs.Places.{list_below}
 use Rattle.fleet_model.specs.declared.limits.TheConstants.{MINUTES_PER_PERIOD}
 use Rattle.fleet_model.specs.declared.parts.Pair.{Pair}
 use Rattle.fleet_model.specs.declared.tables.Tables.{Tables}
@@ -40,17 +41,12 @@ abbrev pub concat_below : {X : Type 0} → (ℕ → List X) → ℕ → List X
 concat_below g zero = []
 concat_below g (suc n) = concat_below g n ++ g n
 
--- f 0, f 1, .. up to and without f n
-abbrev pub list_to : {X : Type 0} → (ℕ → X) → ℕ → List X
-list_to f zero = []
-list_to f (suc n) = list_to f n ++ f n ∷ []
-
 abbrev pub node_at : ℕ → ℕ → ℕ → Node
 node_at f s k = record { fleet = f; station = s; place = k }
 
 -- the nodes of a fleet at a station
 abbrev pub nodes_at : Starts → ℕ → ℕ → List Node
-nodes_at starts f s = list_to (node_at f s) (length (starts f s))
+nodes_at starts f s = list_below (node_at f s) (length (starts f s))
 
 -- the nodes of a fleet, by station
 abbrev pub nodes_of : Tables → Starts → ℕ → List Node
@@ -74,8 +70,8 @@ all_kept t keeps = concat_below (pairs_of t keeps) (legs_in t)
 
 -- the kept pairs, the ground arcs, the slacks
 abbrev pub columns_of : Tables → Domains → Starts → List Column
-columns_of t keeps starts = map Flight (all_kept t keeps) ++ map Ground (all_nodes t starts) ++ list_to Slack (fleets_in t)
+columns_of t keeps starts = map Flight (all_kept t keeps) ++ map Ground (all_nodes t starts) ++ list_below Slack (fleets_in t)
 
 -- the cover lines, the balance lines, the count lines
 abbrev pub lines_of : Tables → Starts → List Line
-lines_of t starts = list_to Cover (legs_in t) ++ map Balance (all_nodes t starts) ++ list_to Count (fleets_in t)
+lines_of t starts = list_below Cover (legs_in t) ++ map Balance (all_nodes t starts) ++ list_below Count (fleets_in t)

@@ -4,7 +4,7 @@ use Rattle.sums.specs.Below.{sum_below}
 use Rattle.fleet_model.specs.declared.parts.Pair.{Pair}
 use Rattle.fleet_model.specs.declared.tables.Tables.{Tables}
 use Rattle.fleet_model.specs.Counts.{Weights}
-use Rattle.fleet_model.specs.Kept.{Domains, kept_on}
+use Rattle.fleet_model.specs.Kept.{Domains, pairs_kept}
 use Rattle.fleet_model.specs.Mixed.{IsMixedPlan, mixed_cost}
 use Rattle.fleet_model.specs.Schedule.{IsPair, fleets_in, legs_in, stations_in}
 use Rattle.row_store.specs.Problem.{MeetsRows, point_cost}
@@ -52,10 +52,6 @@ PlansArePoints = (t : Tables) (keeps : Domains) (starts : Starts) (rows : Rows) 
 abbrev pub PointsCostAsPlans : Type 0
 PointsCostAsPlans = (t : Tables) (keeps : Domains) (starts : Starts) (rows : Rows) (x : ℕ → ℕ) → AreRows t keeps starts rows
     → point_cost rows x ≡ mixed_cost t (pair_part (columns_of t keeps starts) x)
-
--- how many pairs are kept
-abbrev pub pairs_kept : Tables → Domains → ℕ
-pairs_kept t keeps = sum_below (kept_on t keeps) (legs_in t)
 
 -- how many arcs there are: one for each node
 abbrev pub arcs_in : Tables → Starts → ℕ

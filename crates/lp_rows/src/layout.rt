@@ -3,7 +3,8 @@ ghost use Rattle.std.specs.Prelude.{◌≡◌, ◌<◌, ◌++◌, map, IfOk, OnO
 ghost use Rattle.fleet_model.specs.declared.limits.TheConstants.{MAX_FLEETS, MAX_LEGS};
 ghost use Rattle.fleet_model.specs.Kept.{kept_by};
 ghost use Rattle.fleet_model.specs.Schedule.{fleets_in, legs_in, stations_in};
-ghost use Rattle.lp_rows.specs.Layout.{AreByStation, all_kept, all_nodes, columns_of, lines_of, list_to, nodes_at, nodes_of, pair_of, pairs_of, starts_in};
+ghost use Rattle.sums.specs.Places.{list_below};
+ghost use Rattle.lp_rows.specs.Layout.{AreByStation, all_kept, all_nodes, columns_of, lines_of, nodes_at, nodes_of, pair_of, pairs_of, starts_in};
 ghost use Rattle.lp_rows.specs.declared.kinds.Column.TheVariants.{Flight, Ground, Slack};
 ghost use Rattle.lp_rows.specs.declared.kinds.Line.TheVariants.{Balance, Count, Cover};
 
@@ -63,7 +64,7 @@ fn push_grounds(columns: &mut Vec<Column>, nodes: &[Node]) -> Result<(), NoMemor
 }
 
 fn push_slacks(columns: &mut Vec<Column>, tables: &Tables) -> Result<(), NoMemory>
-    ensures { OnOk result (columns.new.items ≡ columns.old.items ++ list_to Slack (fleets_in tables.now)) }
+    ensures { OnOk result (columns.new.items ≡ columns.old.items ++ list_below Slack (fleets_in tables.now)) }
 {
     for fleet in 0..tables.fleet_count() {
         columns.push(Column::Slack { fleet })?;
@@ -72,7 +73,7 @@ fn push_slacks(columns: &mut Vec<Column>, tables: &Tables) -> Result<(), NoMemor
 }
 
 fn push_covers(lines: &mut Vec<Line>, tables: &Tables) -> Result<(), NoMemory>
-    ensures { OnOk result (lines.new.items ≡ lines.old.items ++ list_to Cover (legs_in tables.now)) }
+    ensures { OnOk result (lines.new.items ≡ lines.old.items ++ list_below Cover (legs_in tables.now)) }
 {
     for leg in 0..tables.leg_count() {
         lines.push(Line::Cover { leg })?;
@@ -90,7 +91,7 @@ fn push_balances(lines: &mut Vec<Line>, nodes: &[Node]) -> Result<(), NoMemory>
 }
 
 fn push_counts(lines: &mut Vec<Line>, tables: &Tables) -> Result<(), NoMemory>
-    ensures { OnOk result (lines.new.items ≡ lines.old.items ++ list_to Count (fleets_in tables.now)) }
+    ensures { OnOk result (lines.new.items ≡ lines.old.items ++ list_below Count (fleets_in tables.now)) }
 {
     for fleet in 0..tables.fleet_count() {
         lines.push(Line::Count { fleet })?;

@@ -1,10 +1,11 @@
 -- Which events a fleet has at a station.
 use Rattle.std.proofs.Common.{◌≡◌, ℕ, zero, suc, ◌+◌, ◌<◌, Bool, true, false, if◌then◌else◌, ◌==◌, ◌&&◌, List, [], ◌∷◌, ◌++◌, All, Contains, refl, inl, inr, arith}
 use Rattle.std.proofs.lemmas.Bool.{cases_lt}
-use Rattle.std.proofs.lemmas.Bool.Decides.{nat_tests}
 use Rattle.std.proofs.lemmas.Nat.{mod_below}
 use Rattle.std.proofs.lemmas.List.Elements.{All-append, All-contains, All-nil, All-cons, Contains-append_left, Contains-append_right}
 use Rattle.std.proofs.lemmas.List.Sorted.{All-permutation, Contains-permutation}
+use Rattle.sums.proofs.Naturals.{equal_number}
+use Rattle.sums.proofs.Tests.{both_true}
 use Rattle.fleet_model.specs.declared.limits.TheConstants.{MINUTES_PER_PERIOD}
 use Rattle.fleet_model.specs.declared.tables.Tables.{Tables}
 use Rattle.fleet_model.specs.Kept.{Domains}
@@ -23,13 +24,6 @@ all_where : (b : Bool) (e : Event) (P : Event → Type 0) → P e → All P (if 
 all_where true e P holds = All-cons P e [] holds (All-nil P)
 all_where false e P holds = All-nil P
 
-both : (a b : Bool) → a ≡ true → b ≡ true → (a && b) ≡ true
-both true b p q = q
-both false b p q = p
-
-same_number : (m n : ℕ) → m ≡ n → (m == n) ≡ true
-same_number m n e = grind (arith, nat_tests)
-
 module _ (t : Tables) (keeps : Domains) (f s : ℕ) where
   departs_below : (l n : ℕ) → l < n → keeps (leg_on l f) ≡ true → (leg_of t l).from ≡ s → Contains (events_below t keeps f s n) (departure_event t (leg_on l f))
   departs_below l zero below kept from = absurd (omega arith)
@@ -38,7 +32,7 @@ module _ (t : Tables) (keeps : Domains) (f s : ℕ) where
     | inr last ↦
         let same : l ≡ n = omega arith in
         rw (← same) (Contains-append_left _ _ _ (Contains-append_right (events_below t keeps f s l) (departures_of t keeps s (leg_on l f)) _
-        (one_where (keeps (leg_on l f) && ((leg_of t l).from == s)) _ (both _ _ kept (same_number _ _ from)))))
+        (one_where (keeps (leg_on l f) && ((leg_of t l).from == s)) _ (both_true _ _ kept (equal_number _ _ from)))))
   ]
 
   ready_below : (l n : ℕ) → l < n → keeps (leg_on l f) ≡ true → (leg_of t l).to ≡ s → Contains (events_below t keeps f s n) (ready_event t (leg_on l f))
@@ -48,7 +42,7 @@ module _ (t : Tables) (keeps : Domains) (f s : ℕ) where
     | inr last ↦
         let same : l ≡ n = omega arith in
         rw (← same) (Contains-append_right (events_below t keeps f s l ++ departures_of t keeps s (leg_on l f)) (readies_of t keeps s (leg_on l f)) _
-        (one_where (keeps (leg_on l f) && ((leg_of t l).to == s)) _ (both _ _ kept (same_number _ _ to))))
+        (one_where (keeps (leg_on l f) && ((leg_of t l).to == s)) _ (both_true _ _ kept (equal_number _ _ to))))
   ]
 
   within_period : (n : ℕ) → n < suc (legs_in t) → All (λ e. e.minute < MINUTES_PER_PERIOD) (events_below t keeps f s n)

@@ -4,6 +4,7 @@ use mathlib.Core.Bool.{false≢true}
 use Rattle.std.proofs.lemmas.Bool.{cases_lt}
 use Rattle.std.proofs.lemmas.Bool.Decides.{nat_tests}
 use Rattle.std.proofs.lemmas.List.{get_or_default}
+use Rattle.sums.proofs.Tests.{parts_true}
 use Rattle.timeline_net.specs.declared.timeline.Event.{Event}
 use Rattle.node_aggregate.specs.Nodes.{HappensAt, IsFirstMinute, sooner}
 
@@ -102,11 +103,6 @@ passes_there : (ready : Bool) (from minute by : ℕ) → from ≤ minute → pas
 passes_there true from minute by later = grind (arith, nat_tests)
 passes_there false from minute by later = grind (arith, nat_tests)
 
--- and what passes is of the kind and no earlier
-parts : (a b : Bool) → (a && b) ≡ true → (a ≡ true) × (b ≡ true)
-parts true b e = (refl, e)
-parts false b e = cc
-
 -- the event at a place, where it happens
 at_place : (events : List Event) (ready : Bool) (minute : ℕ) → (h : HappensAt events ready minute) → get_or events h.among.0 no_event ≡ record { minute = minute; ready = ready; leg = h.by }
 at_place events ready minute h = get_or_default events h.among.0 no_event _ h.among.1 ∙ h.among.2
@@ -123,7 +119,7 @@ in_words events ready from n None all no_more none = λ m later h.
     let passing : passes ready from (get_or events h.among.0 no_event) ≡ true = rw (at_place events ready m h) (passes_there ready from m h.by later) in
     absurd (false≢true (sym (none h.among.0 (omega (arith, h.among.1))) ∙ passing))
 in_words events ready from n (Some minute) all no_more found =
-    let both = parts (same_kind (get_or events found.place no_event).ready ready) (nat_le from (get_or events found.place no_event).minute) found.passing in
+    let both = parts_true (same_kind (get_or events found.place no_event).ready ready) (nat_le from (get_or events found.place no_event).minute) found.passing in
     record {
       no_earlier = let late = both.1 in let is = found.is in grind (arith, nat_tests);
       happens = happens_at events ready minute found.place (omega (arith, found.within)) (same_kind_true _ _ both.0) found.is;

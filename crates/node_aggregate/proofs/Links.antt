@@ -43,10 +43,6 @@ link_more events starts grown start next e links after = rw e (record {
   is_last = sym (ap (λ i. get_or (starts ++ next ∷ []) i 0) (omega (arith, length_push starts next)) ∙ get_or_push starts next 0 (length starts) refl);
 })
 
-pub none_is : (starts : List ℕ) → length starts ≡ 0 → starts ≡ []
-none_is [] e = refl
-none_is (s ∷ starts) e = absurd (omega arith)
-
 pub linked_are_nodes : (events : List Event) (starts : List ℕ) (start : ℕ) → events ≢ [] → AreLinked events starts start → ((m : ℕ) → ¬ (MayStart events start m)) → AreNodes events starts
 linked_are_nodes events starts start some links none = record {
   none = λ e. absurd (some e);

@@ -6,6 +6,7 @@ use Rattle.std.proofs.lemmas.Bool.Decides.{nat_tests}
 use Rattle.sums.specs.Below.{max_below}
 use Rattle.sums.proofs.Sums.{sum_below-le}
 use Rattle.sums.proofs.Maxima.{max_below-upper, max_below-least}
+use Rattle.sums.proofs.Tests.{by_test}
 use Rattle.fleet_model.specs.declared.limits.TheConstants.{MINUTES_PER_PERIOD}
 use Rattle.fleet_model.specs.declared.tables.Tables.{Tables}
 use Rattle.fleet_model.specs.Counts.{Weights, arrived, coming, departed, leaving}
@@ -55,10 +56,6 @@ if_same : (a b : Bool) (w : ℕ) → (a ≡ true → b ≡ false → w ≡ 0) �
 if_same true true w h = omega arith
 if_same true false w h = omega (arith, h refl refl)
 if_same false b w h = omega arith
-
-by_test : {X : Type 0} (b : Bool) → (b ≡ true → X) → (b ≡ false → X) → X
-by_test true p q = p refl
-by_test false p q = q refl
 
 module _ (t : Tables) (keeps : Domains) (w : Weights) (f s : ℕ) (starts : List ℕ) (known : f < fleets_in t) (weigh : WeighKept t keeps w) (at : AreNodesAt t keeps f s starts) where
   -- in the node of a departure no aircraft gets ready later

@@ -7,8 +7,10 @@ use Rattle.sums.specs.Below.{sum_below_ℤ}
 use Rattle.sums.proofs.Counts.{count_below-one}
 use Rattle.sums.proofs.Integers.{one-*ℤ}
 use Rattle.sums.proofs.Orders.{sum_below_ℤ-le}
-use Rattle.sums.proofs.WholeSums.{sum_below_ℤ-same}
+use Rattle.sums.proofs.WholeSums.{sum_below_ℤ-same, sum_below_ℤ-pos}
 use Rattle.sums.proofs.WholeSwaps.{sum_below_ℤ-one, where_true}
+use Rattle.sums.proofs.Naturals.{same_number}
+use Rattle.sums.proofs.Tests.{by_either, first_true, parts_true}
 use Rattle.fleet_model.specs.Kept.{Domains, kept_on}
 use Rattle.fleet_model.specs.Schedule.{IsPair, fleet_of, fleets_in, leg_on, legs_in}
 use Rattle.fleet_model.specs.Times.{busy_minutes, departure, laps_of, ready_minute}
@@ -22,7 +24,6 @@ use Rattle.presolve.specs.Reasons.{IsReason}
 use Rattle.presolve.specs.Rules.{busy_at, busy_on, come_by, has_only, surely_busy, surely_flies}
 use Rattle.presolve.specs.declared.rule.Rule.TheVariants as rule
 use Rattle.presolve.proofs.KeptParts.{is_flown, is_own_fleet, on_others, was_kept}
-use Rattle.presolve.proofs.LeastBounds.{of_counts}
 use Rattle.presolve.proofs.ReasonWorth.{NoneAddsLess, above_zero, leg_low, leg_of_kept, reason_flow, reason_rents, rents_are}
 
 -- what is ready by the end of a minute has left by then, or passed a period start
@@ -50,9 +51,6 @@ by_fleet false a b laps some = omega (arith, ints, zero-*ℤ (pos laps))
 some_count : (n : ℕ) → pos 0 ≤ℤ pos n
 some_count n = omega (arith, ints)
 
-itself : (n : ℕ) → (n == n) ≡ true
-itself n = grind (arith, nat_tests)
-
 module _ (t : Tables) (keeps : Domains) (p : Pair) (pair : IsPair t p) (is_kept : keeps p ≡ true) where
   abbrev flown : Domains
   flown = part keeps p.leg p.fleet true
@@ -69,23 +67,13 @@ module _ (t : Tables) (keeps : Domains) (p : Pair) (pair : IsPair t p) (is_kept 
 
   -- on a leg that the fleet surely flies it is the only one that is kept
   only_fleet : (l f : ℕ) → l < legs_in t → f < fleets_in t → surely_flies t keeps p l ≡ true → flown (leg_on l f) ≡ true → f ≡ p.fleet
-  only_fleet l f within known sure kept = by_test (l == p.leg) (has_only t keeps l p.fleet) sure
+  only_fleet l f within known sure kept = by_either (l == p.leg) (has_only t keeps l p.fleet) sure
       (λ e. let same : l ≡ p.leg = grind (arith, nat_tests) in is_own_fleet keeps p.leg p.fleet f (rw same at kept))
       (λ e.
-      let parts = both (keeps (leg_on l p.fleet)) (kept_on t keeps l == 1) e in
+      let parts = parts_true (keeps (leg_on l p.fleet)) (kept_on t keeps l == 1) e in
       let one : kept_on t keeps l ≡ 1 = counted (kept_on t keeps l) parts.1 in
       count_below-one (λ g. keeps (leg_on l g)) (fleets_in t) f p.fleet one known pair.fleet (was_kept keeps p.leg p.fleet true (leg_on l f) kept) parts.0)
     where
-      by_test : {X : Type 0} (a b : Bool) → (a || b) ≡ true → (a ≡ true → X) → (b ≡ true → X) → X
-      by_test true b e x y = x refl
-      by_test false true e x y = y refl
-      by_test false false e x y = absurd (cc)
-
-      both : (a b : Bool) → (a && b) ≡ true → (a ≡ true) × (b ≡ true)
-      both true true e = (refl, refl)
-      both true false e = cc
-      both false b e = cc
-
       counted : (n : ℕ) → (n == 1) ≡ true → n ≡ 1
       counted n e = grind (arith, nat_tests)
 
@@ -93,23 +81,19 @@ module _ (t : Tables) (keeps : Domains) (p : Pair) (pair : IsPair t p) (is_kept 
   surely_adds l within sure = record {
     each = λ f known kept.
         let own : f ≡ p.fleet = only_fleet l f within known sure kept in
-        rw (own, flow (leg_on l p.fleet)) (rw (itself p.fleet) (omega (arith, ints)));
+        rw (own, flow (leg_on l p.fleet)) (rw (same_number p.fleet) (omega (arith, ints)));
   }
 
   -- and it keeps it
   surely_kept : (l : ℕ) → surely_flies t keeps p l ≡ true → flown (leg_on l p.fleet) ≡ true
   surely_kept l sure = by_test (l == p.leg) (has_only t keeps l p.fleet) sure
       (λ e. let same : l ≡ p.leg = grind (arith, nat_tests) in rw same (is_flown keeps p.leg p.fleet is_kept))
-      (λ e f. let other : l ≢ p.leg = grind (arith, nat_tests) in on_others keeps p.leg p.fleet true (leg_on l p.fleet) other ∙ left (keeps (leg_on l p.fleet)) _ f)
+      (λ e f. let other : l ≢ p.leg = grind (arith, nat_tests) in on_others keeps p.leg p.fleet true (leg_on l p.fleet) other ∙ first_true (keeps (leg_on l p.fleet)) _ f)
     where
       by_test : {X : Type 0} (a b : Bool) → (a || b) ≡ true → (a ≡ true → X) → (a ≡ false → b ≡ true → X) → X
       by_test true b e x y = x refl
       by_test false true e x y = y refl refl
       by_test false false e x y = absurd (cc)
-
-      left : (a b : Bool) → (a && b) ≡ true → a ≡ true
-      left true b e = refl
-      left false b e = cc
 
   -- so each leg is worth what it surely keeps busy, or more
   leg_bound : (prices : Prices) → IsReason t rule.TooFewAircraft p prices → (l : ℕ) → l < legs_in t → pos (busy_on t keeps p minute l) ≤ℤ leg_worth t flown prices 0 l
@@ -140,7 +124,7 @@ module _ (t : Tables) (keeps : Domains) (p : Pair) (pair : IsPair t p) (is_kept 
   unfolding surely_busy
   refuted prices reason too_few =
       let each = sum_below_ℤ-le (λ l. pos (busy_on t keeps p minute l)) (leg_worth t flown prices 0) (legs_in t) (leg_bound prices reason) in
-      above_zero t flown prices (omega (arith, ints, each, of_counts (busy_on t keeps p minute) (legs_in t), rents_are t rule.TooFewAircraft p prices reason, all_rents, too_few))
+      above_zero t flown prices (omega (arith, ints, each, sum_below_ℤ-pos (busy_on t keeps p minute) (legs_in t), rents_are t rule.TooFewAircraft p prices reason, all_rents, too_few))
 
 pub too_few_refutes : (t : Tables) (keeps : Domains) (p : Pair) (prices : Prices) → IsPair t p → keeps p ≡ true → (fleet_of t p.fleet).aircraft < surely_busy t keeps p (departure t p)
     → IsReason t rule.TooFewAircraft p prices → pos 0 <ℤ worth_of t (part keeps p.leg p.fleet true) prices 0

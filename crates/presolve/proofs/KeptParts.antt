@@ -3,15 +3,16 @@ use Rattle.std.proofs.Common.{◌≡◌, ◌≢◌, ℕ, ◌+◌, ◌<◌, Bool,
 use Rattle.std.proofs.lemmas.Bool.Decides.{nat_tests}
 use Rattle.sums.proofs.Counts.{count_below-some}
 use Rattle.sums.proofs.Sums.{count_below-le, sum_below-agree, sum_below-bound}
-use Rattle.fleet_model.specs.Kept.{Domains, kept_on}
+use Rattle.sums.proofs.Tests.{first_true}
+use Rattle.fleet_model.specs.Kept.{Domains, kept_on, pairs_kept}
 use Rattle.fleet_model.specs.Schedule.{IsPair, fleets_in, leg_on, legs_in}
 use Rattle.fleet_model.specs.declared.limits.TheConstants.{MAX_FLEETS}
 use Rattle.fleet_model.specs.declared.parts.Pair.{Pair}
 use Rattle.fleet_model.specs.declared.tables.Tables.{Tables}
 use Rattle.bound_cert.specs.Bound.{part}
 use Rattle.presolve.specs.Laws.{PairsAreFew}
-use Rattle.presolve.specs.Removals.{NoneBare, pairs_kept}
-use Rattle.presolve.proofs.OneChanged.{count_below-fewer, sum_below-more}
+use Rattle.presolve.specs.Removals.{NoneBare}
+use Rattle.sums.proofs.OneChanged.{count_below-fewer, sum_below-more}
 
 -- of another leg all is kept as it was
 pub on_others : (keeps : Domains) (leg fleet : ℕ) (kept : Bool) (q : Pair) → q.leg ≢ leg → part keeps leg fleet kept q ≡ keeps q
@@ -63,11 +64,7 @@ is_own_fleet keeps leg fleet f kept = by_test (keeps (leg_on leg f)) (leg == leg
 
 -- nothing is kept that wasn't
 pub was_kept : (keeps : Domains) (leg fleet : ℕ) (kept : Bool) (q : Pair) → part keeps leg fleet kept q ≡ true → keeps q ≡ true
-was_kept keeps leg fleet kept q h = left (keeps q) _ h
-  where
-    left : (a b : Bool) → (a && b) ≡ true → a ≡ true
-    left true b e = refl
-    left false b e = cc
+was_kept keeps leg fleet kept q h = first_true (keeps q) _ h
 
 module _ (t : Tables) (keeps : Domains) (leg fleet : ℕ) where
   other_leg : (kept : Bool) (l : ℕ) → l ≢ leg → kept_on t (part keeps leg fleet kept) l ≡ kept_on t keeps l
@@ -83,7 +80,6 @@ module _ (t : Tables) (keeps : Domains) (leg fleet : ℕ) where
 
   -- and so do all
   fewer : leg < legs_in t → fleet < fleets_in t → keeps (leg_on leg fleet) ≡ true → pairs_kept t keeps ≡ pairs_kept t (part keeps leg fleet false) + 1
-  unfolding pairs_kept
   fewer within known kept =
       sum_below-more (kept_on t keeps) (kept_on t (part keeps leg fleet false)) (legs_in t) leg 1 within (own_leg known kept)
       (record { each = λ l below other. sym (other_leg false l other) })
@@ -116,7 +112,6 @@ flown_none_bare t keeps p pair kept none = still_none_bare t keeps p.leg p.fleet
 
 -- there are as many kept pairs as legs times fleets at most
 pub pairs_are_few : PairsAreFew
-unfolding pairs_kept
 pairs_are_few t keeps =
     let fleets = t.in_range.fleets_fit.few in
     let legs = t.in_range.legs_fit.few in

@@ -3,6 +3,7 @@ use Rattle.std.proofs.Common.{◌≡◌, ◌≢◌, ℕ, ◌+◌, ◌*◌, ◌<�
 use Rattle.std.proofs.lemmas.Bool.Decides.{nat_tests}
 use Rattle.sums.specs.Below.{count_below}
 use Rattle.sums.proofs.Sums.{sum_below-agree}
+use Rattle.sums.proofs.Tests.{never_passes}
 use Rattle.fleet_model.specs.Kept.{Domains}
 use Rattle.fleet_model.specs.Schedule.{IsPair, leg_of, leg_on, legs_in, stations_in}
 use Rattle.fleet_model.specs.declared.parts.Pair.{Pair}
@@ -13,7 +14,7 @@ use Rattle.presolve.specs.Rules.{departures, landings}
 use Rattle.presolve.specs.declared.cells.TheConstants.{CELL_WIDTH}
 use Rattle.presolve.proofs.CellLaws.{fleet_of_cell, place_of_cell}
 use Rattle.presolve.proofs.KeptParts.{is_removed, on_other_fleets, on_others}
-use Rattle.presolve.proofs.OneChanged.{count_below-fewer}
+use Rattle.sums.proofs.OneChanged.{count_below-fewer}
 
 module _ (keeps : Domains) (p : Pair) (place : ℕ → ℕ) where
   abbrev counts : Domains → ℕ → ℕ → ℕ → Bool
@@ -50,12 +51,8 @@ module _ (keeps : Domains) (p : Pair) (place : ℕ → ℕ) where
       by_fleet : (b : Bool) → (f == p.fleet) ≡ b → counts keeps f s p.leg ≡ counts after f s p.leg
       by_fleet true e =
           let same : f ≡ p.fleet = grind (arith, nat_tests) in
-          let elsewhere : (place p.leg == s) ≡ false = by_test (place p.leg == s) (λ h. other same (grind (arith, nat_tests))) in
+          let elsewhere : (place p.leg == s) ≡ false = never_passes (place p.leg == s) (λ h. other same (grind (arith, nat_tests))) in
           no_place (keeps (leg_on p.leg f)) (after (leg_on p.leg f)) (place p.leg) elsewhere
-        where
-          by_test : (b : Bool) → (b ≡ true → ⊥) → b ≡ false
-          by_test true never = absurd (never refl)
-          by_test false never = refl
       by_fleet false e = let another : f ≢ p.fleet = grind (arith, nat_tests) in ap (λ b. b && (place p.leg == s)) (sym (on_other_fleets keeps p.leg p.fleet f another))
 
   same : (f s n : ℕ) → (f ≡ p.fleet → s ≡ place p.leg → ⊥) → count_below (counts keeps f s) n ≡ count_below (counts after f s) n

@@ -4,6 +4,7 @@ use Rattle.std.specs.Prelude.{unwrap_or, int_le}
 use Rattle.std.proofs.lemmas.Bool.{cases_lt}
 use Rattle.std.proofs.lemmas.Int.{ints}
 use Rattle.sums.specs.Below.{sum_below, sum_below_ℤ}
+use Rattle.sums.proofs.WholeSums.{sum_below_ℤ-pos}
 use Rattle.bound_cert.specs.Worth.{least_below, lesser}
 
 -- each kept number is no less than a bound
@@ -52,8 +53,3 @@ least_of_kept keeps value low (suc n) k z none below kept =
         → low ≤ℤ unwrap_or (if b then Some (lesser o v) else o) z
     by_test true o v p q r = low_lesser o v low (p refl) (q refl)
     by_test false o v p q r = r refl
-
--- sums of counts
-pub of_counts : (f : ℕ → ℕ) (n : ℕ) → sum_below_ℤ (λ k. pos (f k)) n ≡ pos (sum_below f n)
-of_counts f zero = refl
-of_counts f (suc n) = omega (arith, ints, of_counts f n)

@@ -1,6 +1,7 @@
 -- There is one list of removals.
 use Rattle.std.proofs.Common.{◌≡◌, Bool, true, false, List, [], ◌∷◌, map, Some, None, Option, refl, sym, ◌∙◌, ap, subst, arith}
 use Rattle.std.proofs.lemmas.Bool.Decides.{nat_tests}
+use Rattle.sums.proofs.Tests.{never_passes}
 use Rattle.fleet_model.specs.Kept.{Domains}
 use Rattle.fleet_model.specs.Schedule.{leg_on}
 use Rattle.fleet_model.specs.declared.parts.Pair.{Pair}
@@ -19,14 +20,10 @@ same_fleet place p q e f = grind (arith, nat_tests)
 
 -- what is removed isn't met sooner than what is removed first
 not_sooner : (t : Tables) (keeps : Domains) (place : Pair) (x y : Trim) → IsNext t keeps place x → IsNext t keeps place y → is_sooner place (pair_of x) (pair_of y) ≡ false
-not_sooner t keeps place x y first other = by_test (is_sooner place (pair_of x) (pair_of y)) (λ e. different first.first_rule (other.first_pair (pair_of x) first.pair e))
+not_sooner t keeps place x y first other = never_passes (is_sooner place (pair_of x) (pair_of y)) (λ e. different first.first_rule (other.first_pair (pair_of x) first.pair e))
   where
     different : {X : Type 0} {o : Option X} {x : X} → o ≡ Some x → o ≡ None → ⊥
     different e f = cc
-
-    by_test : (b : Bool) → (b ≡ true → ⊥) → b ≡ false
-    by_test true never = absurd (never refl)
-    by_test false never = refl
 
 one_pair : (t : Tables) (keeps : Domains) (place : Pair) (x y : Trim) → IsNext t keeps place x → IsNext t keeps place y → pair_of y ≡ pair_of x
 one_pair t keeps place x y first other =

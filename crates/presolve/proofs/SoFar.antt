@@ -1,12 +1,12 @@
 -- Removals that are found one after the other.
 use Rattle.std.proofs.Common.{◌≡◌, ◌<◌, false, List, [], ◌∷◌, ◌++◌, append_assoc, append-nil, subst, sym, ◌∙◌, ap, arith}
-use Rattle.fleet_model.specs.Kept.{Domains, all_pairs}
+use Rattle.fleet_model.specs.Kept.{Domains, all_pairs, pairs_kept}
 use Rattle.fleet_model.specs.declared.parts.Pair.{Pair}
 use Rattle.fleet_model.specs.declared.tables.Tables.{Tables}
 use Rattle.bound_cert.specs.Bound.{part}
 use Rattle.bound_cert.specs.declared.prices.Prices.{Prices}
 use Rattle.presolve.specs.Reasons.{IsReason}
-use Rattle.presolve.specs.Removals.{AreRemovals, IsDone, IsNext, first_place, pairs_kept}
+use Rattle.presolve.specs.Removals.{AreRemovals, IsDone, IsNext, first_place}
 use Rattle.presolve.specs.Search.{IsNextPair}
 use Rattle.presolve.specs.declared.trims.Trim.{Trim}
 use Rattle.presolve.specs.declared.search.Removable.{Removable}

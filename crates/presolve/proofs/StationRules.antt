@@ -7,6 +7,8 @@ use Rattle.sums.proofs.Counts.{count_below-some}
 use Rattle.sums.proofs.Orders.{sum_below_ℤ-le}
 use Rattle.sums.proofs.WholeSums.{sum_below_ℤ-same}
 use Rattle.sums.proofs.WholeSwaps.{sum_below_ℤ-one, sum_below_ℤ-zero, where_true}
+use Rattle.sums.proofs.Naturals.{same_number}
+use Rattle.sums.proofs.Tests.{both_true, never_passes}
 use Rattle.fleet_model.specs.Kept.{Domains}
 use Rattle.fleet_model.specs.Schedule.{IsPair, fleet_of, fleets_in, leg_of, leg_on, legs_in}
 use Rattle.fleet_model.specs.Times.{laps_of}
@@ -25,34 +27,16 @@ use Rattle.presolve.proofs.ReasonWorth.{NoneAddsLess, above_zero, leg_low, leg_o
 -- no kept pair of the fleet lands there
 not_there : (t : Tables) (keeps : Domains) (f s l : ℕ) → landings t keeps f s ≡ 0 → l < legs_in t → keeps (leg_on l f) ≡ true → ((leg_of t l).to == s) ≡ false
 unfolding landings
-not_there t keeps f s l none within kept = by_test ((leg_of t l).to == s)
-    (λ e. let some = count_below-some (lands t keeps f s) (legs_in t) l within (both (keeps (leg_on l f)) ((leg_of t l).to == s) kept e) in omega (arith, some, none))
-  where
-    both : (a b : Bool) → a ≡ true → b ≡ true → (a && b) ≡ true
-    both true true e h = refl
-    both false b e h = cc
-    both true false e h = cc
-
-    by_test : (b : Bool) → (b ≡ true → ⊥) → b ≡ false
-    by_test true never = absurd (never refl)
-    by_test false never = refl
+not_there t keeps f s l none within kept = never_passes ((leg_of t l).to == s)
+    (λ e. let some = count_below-some (lands t keeps f s) (legs_in t) l within (both_true (keeps (leg_on l f)) ((leg_of t l).to == s) kept e) in omega (arith, some, none))
 
 -- no kept pair of the fleet departs from there
 not_from_there : (t : Tables) (keeps : Domains) (f s l : ℕ) → departures t keeps f s ≡ 0 → l < legs_in t → keeps (leg_on l f) ≡ true → ((leg_of t l).from == s) ≡ false
 unfolding departures
-not_from_there t keeps f s l none within kept = by_test ((leg_of t l).from == s)
-    (λ e. let some = count_below-some (departs t keeps f s) (legs_in t) l within (both (keeps (leg_on l f)) ((leg_of t l).from == s) kept e) in omega (arith, some, none))
-  where
-    both : (a b : Bool) → a ≡ true → b ≡ true → (a && b) ≡ true
-    both true true e h = refl
-    both false b e h = cc
-    both true false e h = cc
+not_from_there t keeps f s l none within kept = never_passes ((leg_of t l).from == s)
+    (λ e. let some = count_below-some (departs t keeps f s) (legs_in t) l within (both_true (keeps (leg_on l f)) ((leg_of t l).from == s) kept e) in omega (arith, some, none))
 
-    by_test : (b : Bool) → (b ≡ true → ⊥) → b ≡ false
-    by_test true never = absurd (never refl)
-    by_test false never = refl
-
--- what a pair adds: of the fleet itself something where it departs and nothing where it lands, or the other way round
+-- what a pair adds: of the fleet same_number something where it departs and nothing where it lands, or the other way round
 of_arrival : (own here there : Bool) (laps : ℕ) → (own ≡ true → there ≡ false)
     → pos 0 ≤ℤ (((if own && here then pos 1 else pos 0) -ℤ (if own && there then pos 1 else pos 0)) +ℤ (pos 0 *ℤ pos laps))
 of_arrival true here true laps away = cc (away refl)
@@ -81,9 +65,6 @@ own_departure false here there laps e f g = cc
 own_departure true true there laps e f g = cc
 own_departure true false false laps e f g = cc
 
-itself : (n : ℕ) → (n == n) ≡ true
-itself n = grind (arith, nat_tests)
-
 same_fleet : (keeps : Domains) (l f g : ℕ) → keeps (leg_on l f) ≡ true → (f == g) ≡ true → keeps (leg_on l g) ≡ true
 same_fleet keeps l f g kept same = let e : f ≡ g = grind (arith, nat_tests) in rw e at kept
 
@@ -101,7 +82,7 @@ module _ (t : Tables) (keeps : Domains) (p : Pair) (pair : IsPair t p) where
   own_arrival_adds : keeps p ≡ true → landings t keeps p.fleet (leg_of t p.leg).from ≡ 0 → NoneAddsLess t flown rule.NoArrival p p.leg (pos 1)
   own_arrival_adds is_kept none = record {
     each = λ f known kept. own_arrival (f == p.fleet) ((leg_of t p.leg).from == (leg_of t p.leg).from) ((leg_of t p.leg).to == (leg_of t p.leg).from) (laps_of t (leg_on p.leg f))
-        (rw (is_own_fleet keeps p.leg p.fleet f kept) (itself p.fleet)) (itself (leg_of t p.leg).from)
+        (rw (is_own_fleet keeps p.leg p.fleet f kept) (same_number p.fleet)) (same_number (leg_of t p.leg).from)
         (not_there t keeps p.fleet (leg_of t p.leg).from p.leg none pair.leg is_kept);
   }
 
@@ -115,8 +96,8 @@ module _ (t : Tables) (keeps : Domains) (p : Pair) (pair : IsPair t p) where
   own_departure_adds : keeps p ≡ true → departures t keeps p.fleet (leg_of t p.leg).to ≡ 0 → NoneAddsLess t flown rule.NoDeparture p p.leg (pos 1)
   own_departure_adds is_kept none = record {
     each = λ f known kept. own_departure (f == p.fleet) ((leg_of t p.leg).from == (leg_of t p.leg).to) ((leg_of t p.leg).to == (leg_of t p.leg).to) (laps_of t (leg_on p.leg f))
-        (rw (is_own_fleet keeps p.leg p.fleet f kept) (itself p.fleet))
-        (not_from_there t keeps p.fleet (leg_of t p.leg).to p.leg none pair.leg is_kept) (itself (leg_of t p.leg).to);
+        (rw (is_own_fleet keeps p.leg p.fleet f kept) (same_number p.fleet))
+        (not_from_there t keeps p.fleet (leg_of t p.leg).to p.leg none pair.leg is_kept) (same_number (leg_of t p.leg).to);
   }
 
   -- where each leg adds 0 or more, and the pair's own adds 1 or more, and no rent is taken off

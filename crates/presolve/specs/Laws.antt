@@ -1,12 +1,12 @@
 -- The laws of presolve, as statements.
 use Rattle.std.specs.Prelude.{◌≡◌, ℕ, ◌*◌, ◌<◌, ◌≤◌, List, map}
 use Rattle.fleet_model.specs.Aloft.{aloft}
-use Rattle.fleet_model.specs.Kept.{Domains}
+use Rattle.fleet_model.specs.Kept.{Domains, pairs_kept}
 use Rattle.fleet_model.specs.Schedule.{IsPair}
 use Rattle.fleet_model.specs.declared.limits.TheConstants.{MAX_FLEETS, MAX_LEGS, MINUTES_PER_PERIOD}
 use Rattle.fleet_model.specs.declared.parts.Pair.{Pair}
 use Rattle.fleet_model.specs.declared.tables.Tables.{Tables}
-use Rattle.presolve.specs.Removals.{AreRemovals, pair_of, pairs_kept}
+use Rattle.presolve.specs.Removals.{AreRemovals, pair_of}
 use Rattle.presolve.specs.Rules.{busy_at}
 use Rattle.presolve.specs.declared.trims.Trim.{Trim}
 

@@ -1,7 +1,6 @@
 -- Which pairs presolve removes, in which order, and what their reasons show.
 use Rattle.std.specs.Prelude.{◌≡◌, ℕ, ◌==◌, ◌&&◌, ◌||◌, nat_lt, if◌then◌else◌, Bool, IsTrue, true, false, ⊤, List, [], ◌∷◌, Some, None, pos, ◌<ℤ◌}
-use Rattle.sums.specs.Below.{sum_below}
-use Rattle.fleet_model.specs.Kept.{Domains, IsBare, kept_on}
+use Rattle.fleet_model.specs.Kept.{Domains, IsBare}
 use Rattle.fleet_model.specs.Schedule.{IsPair, leg_on, legs_in}
 use Rattle.fleet_model.specs.declared.parts.Pair.{Pair}
 use Rattle.fleet_model.specs.declared.tables.Tables.{Tables}
@@ -79,7 +78,3 @@ pub record IsRefuted (t : Tables) (keeps : Domains) (trim : Trim) : Type 0 where
 abbrev pub AreRefuted : Tables → Domains → List Trim → Type 0
 AreRefuted t keeps [] = ⊤
 AreRefuted t keeps (trim ∷ trims) = IsRefuted t keeps trim × AreRefuted t (without keeps trim) trims
-
--- how many pairs are kept
-unfoldable pub pairs_kept : Tables → Domains → ℕ
-pairs_kept t keeps = sum_below (kept_on t keeps) (legs_in t)

@@ -1,6 +1,6 @@
 ghost use Rattle.std.specs.Prelude.{◌≡◌, ◌+◌, IfOk, length};
-ghost use Rattle.fleet_model.specs.Kept.{all_pairs};
-ghost use Rattle.presolve.specs.Removals.{AreRefuted, AreRemovals, IsDone, first_place, kept_after, pairs_kept};
+ghost use Rattle.fleet_model.specs.Kept.{all_pairs, pairs_kept};
+ghost use Rattle.presolve.specs.Removals.{AreRefuted, AreRemovals, IsDone, first_place, kept_after};
 
 use crate::choices::Choices;
 use crate::reasons::reason;

@@ -12,11 +12,14 @@ use Rattle.sums.specs.Below.{sum_below_ℤ}
 use Rattle.sums.proofs.SumBounds.{term_le}
 use Rattle.sums.proofs.Integers.{*ℤ_assoc}
 use Rattle.sums.proofs.WholeSums.{*ℤ-sum_below_ℤ, sum_below_ℤ-same}
+use Rattle.sums.proofs.Naturals.{as_a_sum, positive_times, same_number, times_below}
+use Rattle.sums.proofs.Sizes.{size_above}
+use Rattle.sums.proofs.Tests.{by_test}
 use Rattle.frac_row.specs.declared.row.FracRow.{FracRow}
 use Rattle.fleet_model.specs.declared.parts.Pair.{Pair}
 use Rattle.fleet_model.specs.declared.tables.Tables.{Tables}
 use Rattle.fleet_model.specs.Counts.{Weights}
-use Rattle.fleet_model.specs.Kept.{Domains}
+use Rattle.fleet_model.specs.Kept.{Domains, pairs_kept}
 use Rattle.fleet_model.specs.Legal.{cost_of}
 use Rattle.fleet_model.specs.Mixed.{IsMixedPlan, mixed_cost, weighted_cost}
 use Rattle.fleet_model.specs.Schedule.{IsPair, fleets_in, leg_on, legs_in}
@@ -24,39 +27,27 @@ use Rattle.row_store.specs.Table.{right_side, row_at}
 use Rattle.lp_rows.specs.declared.kinds.Node.{Node}
 use Rattle.lp_rows.specs.declared.kinds.Column.{Column}
 use Rattle.lp_rows.specs.declared.kinds.Column.TheVariants.{Flight, Ground, Slack}
-use Rattle.lp_rows.specs.Layout.{Starts, all_nodes, columns_of, list_to}
-use Rattle.lp_rows.specs.Points.{column_at, pair_part, pairs_kept, same_column, value_of}
+use Rattle.sums.specs.Places.{list_below}
+use Rattle.lp_rows.specs.Layout.{Starts, all_nodes, columns_of}
+use Rattle.lp_rows.specs.Points.{column_at, pair_part, same_column, value_of}
 use Rattle.lp_rows.proofs.Places.{IsKept, columns_are_kept, value_there}
-use Rattle.lp_rows.proofs.Totals.{length-list_to}
+use Rattle.sums.proofs.Places.{get_or-list_below, length-list_below}
 use Rattle.price_lift.specs.Parts.{part_below, part_of}
 use Rattle.price_lift.specs.Weights.{lowest_den, pair_at_column}
 use Rattle.price_lift.proofs.BasicWeights.{HaveColumns, flight_there, pairs_within}
 use Rattle.price_lift.proofs.Columns.{behind_pairs}
 use Rattle.price_lift.proofs.LeastScales.{HaveDens, fewer_dens, part_is}
-use Rattle.price_lift.proofs.LinePlaces.{at_list}
-use Rattle.price_lift.proofs.Multiples.{of_sum, of_test}
-
-by_test : {X : Type 0} (b : Bool) → (b ≡ true → X) → (b ≡ false → X) → X
-by_test true p q = p refl
-by_test false p q = q refl
+use Rattle.price_lift.proofs.Multiples.{of_test}
 
 -- ---- a multiple of all denominators
 pub dens_below : List FracRow → ℕ → ℕ
 dens_below table zero = 1
 dens_below table (suc n) = dens_below table n * unsigned_abs (row_at table n).den
 
-size_pos : (z : ℤ) → pos 0 <ℤ z → 0 < unsigned_abs z
-size_pos z some = omega (arith, ints)
-
-positive_times : (a b : ℕ) → 0 < a → 0 < b → 0 < a * b
-positive_times (suc a) (suc b) p q = omega arith
-positive_times zero b p q = absurd (omega arith)
-positive_times (suc a) zero p q = absurd (omega arith)
-
 pub dens_positive : (table : List FracRow) (n : ℕ) → HaveDens table n → 0 < dens_below table n
 unfolding dens_below
 dens_positive table zero dens = omega arith
-dens_positive table (suc n) dens = positive_times (dens_below table n) (unsigned_abs (row_at table n).den) (dens_positive table n (fewer_dens table n dens)) (size_pos (row_at table n).den (dens.each n (omega arith)))
+dens_positive table (suc n) dens = positive_times (dens_below table n) (unsigned_abs (row_at table n).den) (dens_positive table n (fewer_dens table n dens)) (size_above (row_at table n).den (dens.each n (omega arith)))
 
 pub den_divides : (table : List FracRow) (n line : ℕ) → line < n → unsigned_abs (row_at table line).den ∣ dens_below table n
 unfolding dens_below
@@ -88,10 +79,7 @@ point_there table basis scale dens (suc n) line own below = by_test (get_or basi
     (λ e.
     ap (λ b. cond b (raw_of table scale dens n) (point_below table basis scale dens n (get_or basis line 0))) e
     ∙ point_there table basis scale dens n line (record { differ = λ i j less there. own.differ i j (omega arith) (omega arith) })
-    (elim (cases_lt line n) [ inl before ↦ before | inr last ↦ let at : n ≡ line = omega arith in absurd (false≢true (sym e ∙ ap (λ l. get_or basis l 0 == get_or basis line 0) at ∙ equal (get_or basis line 0))) ]))
-  where
-    equal : (m : ℕ) → (m == m) ≡ true
-    equal m = grind (arith, nat_tests)
+    (elim (cases_lt line n) [ inl before ↦ before | inr last ↦ let at : n ≡ line = omega arith in absurd (false≢true (sym e ∙ ap (λ l. get_or basis l 0 == get_or basis line 0) at ∙ same_number (get_or basis line 0))) ]))
 
 pub no_point : (table : List FracRow) (basis : List ℕ) (scale dens n column : ℕ) → ((line : ℕ) → line < n → get_or basis line 0 ≢ column) → point_below table basis scale dens n column ≡ 0
 unfolding point_below
@@ -133,10 +121,10 @@ point_parts table basis pairs scale dens m (suc n) column some has divides real 
     ∙ ap (λ b. dens * cond b (part_of table scale n) (part_below table basis scale n column)) (sym e))
 
 -- ---- pairs alone
-no_flight_behind : (p : Pair) (ns : List Node) (n k : ℕ) → same_column (Flight p) (get_or (map Ground ns ++ list_to Slack n) k (Slack 0)) ≡ false
+no_flight_behind : (p : Pair) (ns : List Node) (n k : ℕ) → same_column (Flight p) (get_or (map Ground ns ++ list_below Slack n) k (Slack 0)) ≡ false
 no_flight_behind p [] n k = elim (cases_lt k n) [
-  | inl below ↦ ap (same_column (Flight p)) (at_list Slack n k (Slack 0) below)
-  | inr past ↦ ap (same_column (Flight p)) (get_or_past (list_to Slack n) k (Slack 0) (omega (arith, past, length-list_to Slack n)))
+  | inl below ↦ ap (same_column (Flight p)) (get_or-list_below Slack n k (Slack 0) below)
+  | inr past ↦ ap (same_column (Flight p)) (get_or_past (list_below Slack n) k (Slack 0) (omega (arith, past, length-list_below Slack n)))
 ]
 no_flight_behind p (a ∷ ns) n zero = refl
 no_flight_behind p (a ∷ ns) n (suc k) = no_flight_behind p ns n k
@@ -148,16 +136,13 @@ module _ (t : Tables) (keeps : Domains) (starts : Starts) where
   -- where two points agree on pairs but for a factor, so do their pair parts
   pub same_parts : (k : ℕ) (x y : ℕ → ℕ) → ((c : ℕ) → c < pairs_kept t keeps → x c ≡ k * y c) → (p : Pair) → pair_part cols x p ≡ k * pair_part cols y p
   same_parts k x y same p =
-      of_sum k (λ c. if same_column (Flight p) (column_at cols c) then x c else 0) (λ c. if same_column (Flight p) (column_at cols c) then y c else 0) (length cols)
+      times_below k (λ c. if same_column (Flight p) (column_at cols c) then x c else 0) (λ c. if same_column (Flight p) (column_at cols c) then y c else 0) (length cols)
       (λ c within. elim (cases_lt c (pairs_kept t keeps)) [
         | inl pair ↦ of_test k (same_column (Flight p) (column_at cols c)) (x c) (y c) (same c pair)
         | inr behind ↦ none (same_column (Flight p) (column_at cols c)) (x c) (y c)
-            (ap (λ j. same_column (Flight p) (column_at cols j)) (split c (pairs_kept t keeps) behind) ∙ ap (same_column (Flight p)) (behind_pairs t keeps starts (c - pairs_kept t keeps)) ∙ no_flight_behind p (all_nodes t starts) (fleets_in t) (c - pairs_kept t keeps))
+            (ap (λ j. same_column (Flight p) (column_at cols j)) (as_a_sum c (pairs_kept t keeps) behind) ∙ ap (same_column (Flight p)) (behind_pairs t keeps starts (c - pairs_kept t keeps)) ∙ no_flight_behind p (all_nodes t starts) (fleets_in t) (c - pairs_kept t keeps))
       ])
     where
-      split : (c n : ℕ) → n ≤ c → c ≡ n + (c - n)
-      split c n past = omega arith
-
       none : (b : Bool) (x y : ℕ) → b ≡ false → ◌≡◌ {A = ℕ} (if b then x else 0) (k * (if b then y else 0))
       none false x y e = omega arith
       none true x y e = cc

@@ -5,16 +5,19 @@ use Rattle.std.proofs.lemmas.Bool.{cases_lt}
 use Rattle.std.proofs.lemmas.Bool.Decides.{nat_tests}
 use Rattle.std.proofs.lemmas.Int.{ints}
 use Rattle.std.proofs.lemmas.List.{get_or-map, get_or_append_left, length-map}
+use Rattle.sums.proofs.Naturals.{same_number}
+use Rattle.sums.proofs.Tests.{by_test}
 use Rattle.frac_row.specs.declared.row.FracRow.{FracRow}
 use Rattle.fleet_model.specs.declared.parts.Pair.{Pair}
 use Rattle.fleet_model.specs.declared.tables.Tables.{Tables}
-use Rattle.fleet_model.specs.Kept.{Domains}
+use Rattle.fleet_model.specs.Kept.{Domains, pairs_kept}
 use Rattle.fleet_model.specs.Schedule.{leg_on}
 use Rattle.row_store.specs.Table.{height_of, right_side, row_at}
 use Rattle.lp_rows.specs.declared.kinds.Column.{Column}
 use Rattle.lp_rows.specs.declared.kinds.Column.TheVariants.{Flight, Ground, Slack}
-use Rattle.lp_rows.specs.Layout.{Starts, all_kept, all_nodes, columns_of, concat_below, list_to}
-use Rattle.lp_rows.specs.Points.{column_at, pairs_kept, value_of}
+use Rattle.sums.specs.Places.{list_below}
+use Rattle.lp_rows.specs.Layout.{Starts, all_kept, all_nodes, columns_of, concat_below}
+use Rattle.lp_rows.specs.Points.{column_at, value_of}
 use Rattle.lp_rows.proofs.Counted.{pairs_are}
 use Rattle.lp_rows.proofs.Places.{value_there}
 use Rattle.bound_cert.specs.Mixed.{is_weight_of, weight_after, weight_in}
@@ -30,8 +33,8 @@ module _ (t : Tables) (keeps : Domains) (starts : Starts) where
   abbrev cols : List Column
   cols = columns_of t keeps starts
 
-  pub in_parts : cols ≡ map Flight (all_kept t keeps) ++ (map Ground (all_nodes t starts) ++ list_to Slack (fleets_in t))
-  in_parts = append_assoc (map Flight (all_kept t keeps)) (map Ground (all_nodes t starts)) (list_to Slack (fleets_in t))
+  pub in_parts : cols ≡ map Flight (all_kept t keeps) ++ (map Ground (all_nodes t starts) ++ list_below Slack (fleets_in t))
+  in_parts = append_assoc (map Flight (all_kept t keeps)) (map Ground (all_nodes t starts)) (list_below Slack (fleets_in t))
 
   pub flights_long : length (map Flight (all_kept t keeps)) ≡ pairs_kept t keeps
   flights_long = length-map (all_kept t keeps) Flight ∙ pairs_are t keeps
@@ -39,7 +42,7 @@ module _ (t : Tables) (keeps : Domains) (starts : Starts) where
   pub flight_there : (c : ℕ) → c < pairs_kept t keeps → column_at cols c ≡ Flight (pair_at_column t keeps c)
   flight_there c below =
       ap (λ cs. get_or cs c (Slack 0)) in_parts
-      ∙ get_or_append_left (map Flight (all_kept t keeps)) (map Ground (all_nodes t starts) ++ list_to Slack (fleets_in t)) (Slack 0) c (omega (arith, below, flights_long))
+      ∙ get_or_append_left (map Flight (all_kept t keeps)) (map Ground (all_nodes t starts) ++ list_below Slack (fleets_in t)) (Slack 0) c (omega (arith, below, flights_long))
       ∙ get_or-map Flight (all_kept t keeps) c (leg_on 0 0) (Slack 0) (omega (arith, below, pairs_are t keeps))
 
   -- each pair stands once
@@ -53,7 +56,7 @@ module _ (t : Tables) (keeps : Domains) (starts : Starts) where
       equal c d e = grind (arith, nat_tests)
 
   pub pairs_within : pairs_kept t keeps ≤ length cols
-  pairs_within = omega (arith, ap length in_parts, length-append (map Flight (all_kept t keeps)) (map Ground (all_nodes t starts) ++ list_to Slack (fleets_in t)), flights_long)
+  pairs_within = omega (arith, ap length in_parts, length-append (map Flight (all_kept t keeps)) (map Ground (all_nodes t starts) ++ list_below Slack (fleets_in t)), flights_long)
 
   pub pair_once : (c d : ℕ) → c < pairs_kept t keeps → d < pairs_kept t keeps → pair_at_column t keeps c ≡ pair_at_column t keeps d → c ≡ d
   pair_once c d here there same =
@@ -64,10 +67,6 @@ after_append : (w : ℤ) (xs ys : List Weight) (p : Pair) → weight_after w (xs
 unfolding weight_after
 after_append w [] ys p = refl
 after_append w (x ∷ xs) ys p = after_append (if is_weight_of p x then x.weight else w) xs ys p
-
-by_test : {X : Type 0} (b : Bool) → (b ≡ true → X) → (b ≡ false → X) → X
-by_test true p q = p refl
-by_test false p q = q refl
 
 same_pair : (q p : Pair) → ((q.leg == p.leg) && (q.fleet == p.fleet)) ≡ true → q ≡ p
 same_pair q p e =
@@ -156,10 +155,7 @@ part_there table basis scale (suc n) line own below = by_test (get_or basis n 0 
     (λ e.
     ap (λ b. cond b (part_of table scale n) (part_below table basis scale n (get_or basis line 0))) e
     ∙ part_there table basis scale n line (record { differ = λ i j less there. own.differ i j (omega arith) (omega arith) })
-    (elim (cases_lt line n) [ inl before ↦ before | inr last ↦ let at : n ≡ line = omega arith in absurd (false≢true (sym e ∙ ap (λ l. get_or basis l 0 == get_or basis line 0) at ∙ equal (get_or basis line 0))) ]))
-  where
-    equal : (m : ℕ) → (m == m) ≡ true
-    equal m = grind (arith, nat_tests)
+    (elim (cases_lt line n) [ inl before ↦ before | inr last ↦ let at : n ≡ line = omega arith in absurd (false≢true (sym e ∙ ap (λ l. get_or basis l 0 == get_or basis line 0) at ∙ same_number (get_or basis line 0))) ]))
 
 no_part : (table : List FracRow) (basis : List ℕ) (scale n column : ℕ) → ((line : ℕ) → line < n → get_or basis line 0 ≢ column) → part_below table basis scale n column ≡ 0
 no_part table basis scale zero column other = refl

@@ -12,6 +12,8 @@ use Rattle.sums.proofs.Integers.{*ℤ-+ℤ, *ℤ--ℤ, -ℤ-*ℤ, *ℤ-neg_ℤ, 
 use Rattle.sums.proofs.Maxima.{max_below-upper}
 use Rattle.sums.proofs.WholeSums.{*ℤ-sum_below_ℤ, sum_below_ℤ-same}
 use Rattle.sums.proofs.WholeSwaps.{sum_below_ℤ-+ℤ}
+use Rattle.sums.proofs.Signs.{product_at_least_0, factor_at_least_0}
+use Rattle.sums.proofs.Sizes.{above_is_some, pos_above, size_above}
 use Rattle.frac_row.specs.declared.row.FracRow.{FracRow}
 use Rattle.row_store.specs.Problem.{entry}
 use Rattle.row_store.specs.declared.problem.Rows.{Rows}
@@ -20,7 +22,6 @@ use Rattle.simplex_frac.specs.Duality.{IsTableOf, ReadsOff, amount_at, den_at, i
 use Rattle.simplex_frac.specs.LastTables.{IsBestTable, IsNoPointTable}
 use Rattle.price_lift.specs.Duals.{best_scale, best_value, cost_den, cost_number, cost_part, den_divisor, identity_column, phase_den, phase_number, phase_part, phase_value, phases_added, phases_wanted, real_columns}
 use Rattle.price_lift.proofs.Ceilings.{phases_enough}
-use Rattle.price_lift.proofs.Signs.{product_at_least, some_product}
 
 when_lt : (m n : ℕ) (x y : ℤ) → m < n → cond (nat_lt m n) x y ≡ x
 when_lt m n x y h = grind (arith, nat_tests)
@@ -29,8 +30,6 @@ when_ge : (m n : ℕ) (x y : ℤ) → n ≤ m → cond (nat_lt m n) x y ≡ y
 when_ge m n x y h = grind (arith, nat_tests)
 
 -- ---- the parts of the denominators
-size_pos : (z : ℤ) → pos 0 <ℤ z → 0 < unsigned_abs z
-size_pos z some = omega (arith, ints)
 
 module _ (table : List FracRow) (phase_some : pos 0 <ℤ phase_den table) (cost_some : pos 0 <ℤ cost_den table) where
   abbrev divisor : ℕ
@@ -45,10 +44,7 @@ module _ (table : List FracRow) (phase_some : pos 0 <ℤ phase_den table) (cost_
   cost_part_times = *ℤ-int_div (cost_den table) divisor (gcd_is (unsigned_abs (phase_den table)) (unsigned_abs (cost_den table))).1
 
   pub divisor_some : pos 0 <ℤ den_divisor table
-  divisor_some = above (gcd (unsigned_abs (phase_den table)) (unsigned_abs (cost_den table))) (gcd_positive (unsigned_abs (phase_den table)) (unsigned_abs (cost_den table)) (omega (arith, size_pos (phase_den table) phase_some)))
-    where
-      above : (n : ℕ) → 0 < n → pos 0 <ℤ pos n
-      above n some = omega (arith, ints)
+  divisor_some = pos_above (gcd (unsigned_abs (phase_den table)) (unsigned_abs (cost_den table))) (gcd_positive (unsigned_abs (phase_den table)) (unsigned_abs (cost_den table)) (omega (arith, size_above (phase_den table) phase_some)))
 
   pub phase_part_some : pos 0 <ℤ phase_part table
   phase_part_some = positive_factor divisor (phase_part table) (subst (λ z. pos 0 <ℤ z) (sym phase_part_times) phase_some)
@@ -62,7 +58,7 @@ module _ (table : List FracRow) (phase_some : pos 0 <ℤ phase_den table) (cost_
 -- ---- the two rows added up
 -- in a column, with the common divisor left out
 pub no_column_negative : (c C p P g Pg Cg m : ℤ) → pos 0 <ℤ g → g *ℤ Pg ≡ P → g *ℤ Cg ≡ C → pos 0 ≤ℤ ((m *ℤ (p *ℤ C)) +ℤ (c *ℤ P)) → pos 0 ≤ℤ (((m *ℤ Cg) *ℤ p) +ℤ (Pg *ℤ c))
-no_column_negative c C p P g Pg Cg m some e f le = product_at_least g (((m *ℤ Cg) *ℤ p) +ℤ (Pg *ℤ c)) some (subst (λ z. pos 0 ≤ℤ z) (sym whole) le)
+no_column_negative c C p P g Pg Cg m some e f le = factor_at_least_0 g (((m *ℤ Cg) *ℤ p) +ℤ (Pg *ℤ c)) some (subst (λ z. pos 0 ≤ℤ z) (sym whole) le)
   where
     first : g *ℤ ((m *ℤ Cg) *ℤ p) ≡ m *ℤ (p *ℤ C)
     first =
@@ -194,14 +190,11 @@ module _ (rows : Rows) (table : List FracRow) (basis : List ℕ) (is : IsTableOf
         (phases_enough (cost_number table column) (cost_den table) (phase_number table column) (phase_den table) (phases_added table) negative cost_some (best.none.above column real negative) phase_some
         (wanted column (omega (arith, real_is, real))))
     | inr not_negative ↦
-        let one = some_product (pos (phases_added table) *ℤ cost_part table) (phase_number table column) (some_product (pos (phases_added table)) (cost_part table) (omega (arith, ints)) (at_least (cost_part table) (cost_part_some table phase_some cost_some))) (best.none.phase column real) in
-        let two = some_product (phase_part table) (cost_number table column) (at_least (phase_part table) (phase_part_some table phase_some cost_some)) not_negative in
+        let one = product_at_least_0 (pos (phases_added table) *ℤ cost_part table) (phase_number table column) (product_at_least_0 (pos (phases_added table)) (cost_part table) (omega (arith, ints)) (above_is_some (cost_part table) (cost_part_some table phase_some cost_some))) (best.none.phase column real) in
+        let two = product_at_least_0 (phase_part table) (cost_number table column) (above_is_some (phase_part table) (phase_part_some table phase_some cost_some)) not_negative in
         omega (arith, ints, one, two)
   ]
     where
-      at_least : (z : ℤ) → pos 0 <ℤ z → pos 0 ≤ℤ z
-      at_least z some = omega (arith, ints)
-
       cases_lt_ℤ : (z : ℤ) → (z <ℤ pos 0) ⊎ (pos 0 ≤ℤ z)
       cases_lt_ℤ (pos n) = inr (omega (arith, ints))
       cases_lt_ℤ (negsuc n) = inl (omega (arith, ints))

@@ -6,12 +6,16 @@ use Rattle.sums.proofs.Counts.{count_below-some}
 use Rattle.sums.proofs.Integers.{*ℤ_assoc, *ℤ_cancel, *ℤ_left_comm, *ℤ-neg_ℤ, one-*ℤ}
 use Rattle.sums.proofs.Places.{get_or-list_below, length-list_below}
 use Rattle.sums.proofs.Sums.{sum_below-agree, sum_below-zero}
+use Rattle.sums.proofs.Orders.{factor_le}
+use Rattle.sums.proofs.Signs.{factor_le_cancel}
+use Rattle.sums.proofs.Sizes.{pos_above}
+use Rattle.sums.proofs.Tests.{by_test, never_passes}
 use Rattle.frac_row.specs.Row.{number_of, reduced, width_of}
 use Rattle.frac_row.specs.declared.row.FracRow.{FracRow}
 use Rattle.fleet_model.specs.declared.parts.Pair.{Pair}
 use Rattle.fleet_model.specs.declared.tables.Tables.{Tables}
 use Rattle.fleet_model.specs.Counts.{Weights}
-use Rattle.fleet_model.specs.Kept.{Domains, IsBare}
+use Rattle.fleet_model.specs.Kept.{Domains, IsBare, pairs_kept}
 use Rattle.fleet_model.specs.Mixed.{IsMixedPlan, mixed_cost, weight_on}
 use Rattle.fleet_model.specs.Schedule.{IsPair, fleets_in, leg_on, legs_in}
 use Rattle.row_store.specs.Table.{cost_row, height_of, right_side, row_at}
@@ -20,12 +24,12 @@ use Rattle.simplex_frac.specs.LastTables.{IsBasicPoint, IsBestTable, MeetsAtCost
 use Rattle.simplex_frac.specs.declared.turn.Turn.TheVariants as turns
 use Rattle.lp_rows.specs.declared.kinds.Column.{Column}
 use Rattle.lp_rows.specs.Layout.{IsNetwork, Starts, all_kept, columns_of, concat_below}
-use Rattle.lp_rows.specs.Points.{pair_part, pairs_kept}
+use Rattle.lp_rows.specs.Points.{pair_part}
 use Rattle.lp_rows.proofs.Places.{nothing_there}
 use Rattle.bound_cert.specs.Duality.{WeakDuality}
-use Rattle.bound_cert.specs.Fractions.{IsMixedAt, IsScale, IsWeight, IsWorth, parts_in}
+use Rattle.bound_cert.specs.Fractions.{IsMixedAt, IsWeight, IsWorth, parts_in}
 use Rattle.bound_cert.specs.Mixed.{weight_in}
-use Rattle.bound_cert.specs.Prices.{ArePrices, max_scale}
+use Rattle.bound_cert.specs.Prices.{ArePrices, IsScale, max_scale}
 use Rattle.bound_cert.specs.Worth.{worth_of}
 use Rattle.bound_cert.specs.declared.mixed.Mixed.{Mixed}
 use Rattle.bound_cert.specs.declared.prices.Prices.{Prices}
@@ -43,7 +47,6 @@ use Rattle.price_lift.proofs.Columns.{pair_column, sides_at_least}
 use Rattle.price_lift.proofs.LastTables.{Laws, divisor, divisor_above, have_dens, height_is, is_table, own_columns, proper, reaches, reads, scale_times, sides_some}
 use Rattle.price_lift.proofs.LeastScales.{scale_has, scale_positive, signed_part}
 use Rattle.price_lift.proofs.ScaledPlans.{of_smaller_scale}
-use Rattle.price_lift.proofs.Signs.{cancel_le, times_le}
 
 -- ---- numbers
 from_both : (a b : ℤ) → a ≤ℤ b → b ≤ℤ a → a ≡ b
@@ -53,7 +56,7 @@ from_both a b p q = omega (arith, ints)
 pub value_is_worth : (m s w q h D Pg C c : ℤ) → pos 0 <ℤ h → pos 0 <ℤ D → pos 0 ≤ℤ q → h *ℤ s ≡ Pg *ℤ C → neg_ℤ (Pg *ℤ c) ≤ℤ (h *ℤ w) → (D *ℤ m) *ℤ C ≡ neg_ℤ c *ℤ (D *ℤ q) → (q *ℤ w) ≤ℤ (s *ℤ m)
     → m *ℤ s ≡ w *ℤ q
 value_is_worth m s w q h D Pg C c above many some scale reach cost weak =
-    *ℤ_comm m s ∙ from_both (s *ℤ m) (q *ℤ w) (cancel_le h (s *ℤ m) (q *ℤ w) above (subst (λ z. z ≤ℤ (h *ℤ (q *ℤ w))) (sym paid) (subst (λ z. (q *ℤ neg_ℤ (Pg *ℤ c)) ≤ℤ z) (*ℤ_left_comm q h w) (times_le q (neg_ℤ (Pg *ℤ c)) (h *ℤ w) some reach)))) weak ∙ *ℤ_comm q w
+    *ℤ_comm m s ∙ from_both (s *ℤ m) (q *ℤ w) (factor_le_cancel h (s *ℤ m) (q *ℤ w) above (subst (λ z. z ≤ℤ (h *ℤ (q *ℤ w))) (sym paid) (subst (λ z. (q *ℤ neg_ℤ (Pg *ℤ c)) ≤ℤ z) (*ℤ_left_comm q h w) (factor_le q (neg_ℤ (Pg *ℤ c)) (h *ℤ w) some reach)))) weak ∙ *ℤ_comm q w
   where
     -- the cost without the common factor
     once : m *ℤ C ≡ neg_ℤ c *ℤ q
@@ -68,12 +71,8 @@ value_is_worth m s w q h D Pg C c above many some scale reach cost weak =
 pub no_bare : (t : Tables) (keeps : Domains) (scale : ℕ) (w : Weights) → 0 < scale → IsMixedPlan t keeps scale w → (l : ℕ) → ¬ (IsBare t keeps l)
 no_bare t keeps scale w some plan l bare = omega (arith, some, plan.cover l bare.within, nothing)
   where
-    by_test : (b : Bool) → (b ≡ true → ⊥) → b ≡ false
-    by_test true p = absurd (p refl)
-    by_test false p = refl
-
     not_kept : (f : ℕ) → f < fleets_in t → keeps (leg_on l f) ≡ false
-    not_kept f known = by_test (keeps (leg_on l f)) (λ kept. omega (arith, bare.none, count_below-some (λ g. keeps (leg_on l g)) (fleets_in t) f known kept))
+    not_kept f known = never_passes (keeps (leg_on l f)) (λ kept. omega (arith, bare.none, count_below-some (λ g. keeps (leg_on l g)) (fleets_in t) f known kept))
 
     nothing : weight_on t w l ≡ 0
     nothing = sum_below-agree (λ f. w (leg_on l f)) (λ f. 0) (fleets_in t) (record { each = λ f known. plan.kept (leg_on l f) (record { leg = bare.within; fleet = known }) (not_kept f known) }) ∙ sum_below-zero (fleets_in t)
@@ -196,10 +195,6 @@ module _ (laws : Laws) (t : Tables) (keeps : Domains) (table : List FracRow) (ba
         (λ missing. ap pos (sym (by_test (keeps p)
         (λ kept. let pair = pair_column t keeps net p known kept in absurd (missing pair.0 pair.1 pair.2))
         (λ not_kept. nothing_there t keeps net parts p not_kept))))
-      where
-        by_test : {X : Type 0} (b : Bool) → (b ≡ true → X) → (b ≡ false → X) → X
-        by_test true p q = p refl
-        by_test false p q = q refl
 
     shares_are : (p : Pair) → IsPair t p → share p ≡ 1 * parts_in mixed p
     shares_are p known = let size : parts_in mixed p ≡ share p = ap unsigned_abs (weight_is p known) in omega (arith, size)
@@ -234,12 +229,9 @@ module _ (laws : Laws) (t : Tables) (keeps : Domains) (table : List FracRow) (ba
     pub is_worth : WeakDuality → (fits : prices_excess t (best_duals t table) ≡ None) (prices : Prices) (starts : Starts) (network : IsNetwork t keeps starts) (by : prices ≡ prices_by t starts (reduced (best_duals t table))) → IsWorth t keeps prices mixed
     is_worth weak fits prices starts network by =
         value_is_worth (mixed_cost t (parts_in mixed)) prices.scale (worth_of t keeps prices 1) mixed.scale (divisor t (best_duals t table) duals_some fits) (pos dens) (phase_part table) (cost_den table) (right_side table (cost_row table))
-        (divisor_above t (best_duals t table) duals_some fits) (above dens some_dens) (subst (λ z. pos 0 ≤ℤ z) (sym is_scale) (omega (arith, ints)))
+        (divisor_above t (best_duals t table) duals_some fits) (pos_above dens some_dens) (subst (λ z. pos 0 ≤ℤ z) (sym is_scale) (omega (arith, ints)))
         (scales fits prices starts network by) (reach fits prices starts network by) cost bound
       where
-        above : (n : ℕ) → 0 < n → pos 0 <ℤ pos n
-        above n some = omega (arith, ints)
-
         cost : (pos dens *ℤ mixed_cost t (parts_in mixed)) *ℤ cost_den table ≡ neg_ℤ (right_side table (cost_row table)) *ℤ (pos dens *ℤ mixed.scale)
         cost =
             ap (λ z. z *ℤ cost_den table) (sym (multiple_costs t dens (pair_part cols point) (parts_in mixed) (λ p known. shares p ∙ ap (λ n. dens * n) (shares_are p known ∙ one (parts_in mixed p)))) ∙ sym (ends.lines.costs_are_same point))

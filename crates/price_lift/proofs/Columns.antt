@@ -6,7 +6,7 @@ use Rattle.sums.specs.Below.{sum_below, sum_below_ℤ}
 use Rattle.sums.proofs.WholeSums.{sum_below_ℤ-same}
 use Rattle.fleet_model.specs.declared.parts.Pair.{Pair}
 use Rattle.fleet_model.specs.declared.tables.Tables.{Tables}
-use Rattle.fleet_model.specs.Kept.{Domains, kept_on}
+use Rattle.fleet_model.specs.Kept.{Domains, kept_on, pairs_kept}
 use Rattle.fleet_model.specs.Schedule.{IsPair, fleets_in, leg_on, legs_in}
 use Rattle.row_store.specs.Problem.{entry}
 use Rattle.row_store.specs.declared.problem.Rows.{Rows}
@@ -16,18 +16,19 @@ use Rattle.lp_rows.specs.declared.kinds.Column.TheVariants.{Flight, Ground, Slac
 use Rattle.lp_rows.specs.declared.kinds.Line.{Line}
 use Rattle.lp_rows.specs.declared.kinds.Line.TheVariants.{Balance, Count, Cover}
 use Rattle.lp_rows.specs.Entries.{column_cost, entry_of, right_side_of}
-use Rattle.lp_rows.specs.Layout.{Starts, all_kept, all_nodes, columns_of, list_to, node_at, pair_of, pairs_of}
-use Rattle.lp_rows.specs.Points.{AreCounted, arcs_in, column_at, pairs_kept}
+use Rattle.sums.specs.Places.{list_below}
+use Rattle.lp_rows.specs.Layout.{Starts, all_kept, all_nodes, columns_of, node_at, pair_of, pairs_of}
+use Rattle.lp_rows.specs.Points.{AreCounted, arcs_in, column_at}
 use Rattle.lp_rows.specs.Program.{AreRows}
 use Rattle.lp_rows.proofs.Counted.{length-concat, nodes_are}
 use Rattle.lp_rows.proofs.LineNumbers.{line_count, number_at_column, right_side_at}
 use Rattle.lp_rows.proofs.Places.{IsKept}
-use Rattle.lp_rows.proofs.Totals.{length-list_to}
+use Rattle.sums.proofs.Places.{get_or-list_below, length-list_below}
 use Rattle.price_lift.specs.Prices.{line_at}
 use Rattle.price_lift.specs.Weights.{pair_at_column}
 use Rattle.price_lift.proofs.BasicWeights.{flight_there, flights_long, in_parts, pairs_within}
 use Rattle.price_lift.proofs.DownColumns.{down}
-use Rattle.price_lift.proofs.LinePlaces.{at_concat, at_list, at_right_of, before, node_there, node_within, within_sum}
+use Rattle.price_lift.proofs.LinePlaces.{at_concat, at_right_of, before, node_there, node_within, within_sum}
 
 -- ---- the numbers of columns
 module _ (t : Tables) (keeps : Domains) (starts : Starts) where
@@ -67,16 +68,16 @@ module _ (t : Tables) (keeps : Domains) (starts : Starts) where
   all_long : length cols ≡ pairs_kept t keeps + (arcs_in t starts + fleets_in t)
   all_long = ap length (in_parts t keeps starts) ∙ omega (
     arith,
-    length-append (map Flight (all_kept t keeps)) (map Ground (all_nodes t starts) ++ list_to Slack (fleets_in t)),
-    length-append (map Ground (all_nodes t starts)) (list_to Slack (fleets_in t)),
+    length-append (map Flight (all_kept t keeps)) (map Ground (all_nodes t starts) ++ list_below Slack (fleets_in t)),
+    length-append (map Ground (all_nodes t starts)) (list_below Slack (fleets_in t)),
     flights_long t keeps starts,
     arcs_long,
-    length-list_to Slack (fleets_in t),
+    length-list_below Slack (fleets_in t),
   )
 
-  pub behind_pairs : (k : ℕ) → column_at cols (pairs_kept t keeps + k) ≡ get_or (map Ground (all_nodes t starts) ++ list_to Slack (fleets_in t)) k (Slack 0)
+  pub behind_pairs : (k : ℕ) → column_at cols (pairs_kept t keeps + k) ≡ get_or (map Ground (all_nodes t starts) ++ list_below Slack (fleets_in t)) k (Slack 0)
   behind_pairs k = ap (λ cs. get_or cs (pairs_kept t keeps + k) (Slack 0)) (in_parts t keeps starts)
-      ∙ at_right_of (map Flight (all_kept t keeps)) (map Ground (all_nodes t starts) ++ list_to Slack (fleets_in t)) (Slack 0) (pairs_kept t keeps) k (flights_long t keeps starts)
+      ∙ at_right_of (map Flight (all_kept t keeps)) (map Ground (all_nodes t starts) ++ list_below Slack (fleets_in t)) (Slack 0) (pairs_kept t keeps) k (flights_long t keeps starts)
 
   abbrev pub HasColumn : Column → Type 0
   HasColumn column = (c : ℕ) × (c < length cols) × (column_at cols c ≡ column)
@@ -91,7 +92,7 @@ module _ (t : Tables) (keeps : Domains) (starts : Starts) where
         pairs_kept t keeps + k,
         omega (arith, all_long, below),
         behind_pairs k
-            ∙ get_or_append_left (map Ground (all_nodes t starts)) (list_to Slack (fleets_in t)) (Slack 0) k (omega (arith, below, arcs_long))
+            ∙ get_or_append_left (map Ground (all_nodes t starts)) (list_below Slack (fleets_in t)) (Slack 0) k (omega (arith, below, arcs_long))
             ∙ get_or-map Ground (all_nodes t starts) k (node_at 0 0 0) (Slack 0) (omega (arith, below, nodes_are t starts))
             ∙ ap Ground (node_there t starts n.fleet n.station n.place (node_at 0 0 0) node.fleet node.station node.place),
       )
@@ -99,7 +100,7 @@ module _ (t : Tables) (keeps : Domains) (starts : Starts) where
     pairs_kept t keeps + (arcs_in t starts + f),
     omega (arith, all_long, known),
     behind_pairs (arcs_in t starts + f)
-        ∙ at_right_of (map Ground (all_nodes t starts)) (list_to Slack (fleets_in t)) (Slack 0) (arcs_in t starts) f arcs_long ∙ at_list Slack (fleets_in t) f (Slack 0) known,
+        ∙ at_right_of (map Ground (all_nodes t starts)) (list_below Slack (fleets_in t)) (Slack 0) (arcs_in t starts) f arcs_long ∙ get_or-list_below Slack (fleets_in t) f (Slack 0) known,
   )
 
 -- ---- columns by their numbers

@@ -7,6 +7,7 @@ use Rattle.sums.specs.Below.{sum_below_ℤ}
 use Rattle.sums.proofs.Integers.{*ℤ--ℤ, one-*ℤ}
 use Rattle.sums.proofs.WholeSums.{sum_below_ℤ-same, sum_below_ℤ--ℤ}
 use Rattle.sums.proofs.WholeSwaps.{sum_below_ℤ-one, where_true}
+use Rattle.sums.proofs.Integers.{times_one}
 use Rattle.fleet_model.specs.declared.parts.Pair.{Pair}
 use Rattle.fleet_model.specs.declared.tables.Tables.{Tables}
 use Rattle.fleet_model.specs.Schedule.{IsPair, fleet_of, fleets_in, leg_of, legs_in, stations_in}
@@ -26,9 +27,6 @@ use Rattle.price_lift.proofs.LinePlaces.{balance_there, before, count_there, cov
 -- ---- tests
 flip : (a b : ℕ) → (a == b) ≡ (b == a)
 flip a b = grind (arith, nat_tests)
-
-times_one : (z : ℤ) → z *ℤ pos 1 ≡ z
-times_one z = *ℤ_comm z (pos 1) ∙ one-*ℤ z
 
 times_one_if : (b : Bool) (z : ℤ) → z *ℤ one_if b ≡ where_true b z
 times_one_if true z = times_one z

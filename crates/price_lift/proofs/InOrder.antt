@@ -3,18 +3,18 @@ use Rattle.std.proofs.Common.{◌≡◌, ℕ, zero, suc, ◌+◌, ◌<◌, ◌�
 use Rattle.std.proofs.lemmas.Bool.Decides.{nat_tests}
 use Rattle.std.proofs.lemmas.Int.{ints}
 use Rattle.sums.proofs.Places.{get_or-list_below, length-list_below}
+use Rattle.sums.proofs.Tests.{by_test}
 use Rattle.frac_row.specs.Outgrown.{IsWithin}
 use Rattle.frac_row.specs.Row.{IsRow, number_of, reduced}
 use Rattle.frac_row.specs.declared.row.FracRow.{FracRow}
 use Rattle.frac_row.proofs.Rows.{reduced_is_row}
 use Rattle.fleet_model.specs.declared.tables.Tables.{Tables}
-use Rattle.fleet_model.specs.Kept.{Domains}
+use Rattle.fleet_model.specs.Kept.{Domains, pairs_kept}
 use Rattle.fleet_model.specs.Schedule.{fleets_in}
 use Rattle.fleet_model.specs.Use.{last_minute}
 use Rattle.node_aggregate.specs.Nodes.{AreNodesAt}
 use Rattle.node_aggregate.proofs.EventsAmong.{happens_within}
 use Rattle.lp_rows.specs.Layout.{Starts, all_kept, all_nodes, concat_below}
-use Rattle.lp_rows.specs.Points.{pairs_kept}
 use Rattle.bound_cert.specs.Prices.{max_scale}
 use Rattle.bound_cert.specs.WrittenOrder.{ArePricesInOrder, IsFigure, IsMixedInOrder, IsWeightInOrder, WeightsFollow}
 use Rattle.bound_cert.specs.declared.mixed.Mixed.{Mixed}
@@ -22,7 +22,6 @@ use Rattle.bound_cert.specs.declared.prices.Prices.{Prices}
 use Rattle.price_lift.specs.Parts.{AreParts, HaveParts, part_below, part_of, weights_at}
 use Rattle.price_lift.specs.Steps.{ArePricesBy, prices_by}
 use Rattle.price_lift.proofs.Minutes.{nodes_rise}
-use Rattle.price_lift.proofs.Orders.{by_test}
 use Rattle.price_lift.proofs.StepOrder.{steps_in_order}
 use Rattle.price_lift.proofs.WeightOrder.{weights_follow, weights_in_order}
 use Rattle.row_store.specs.Table.{height_of}

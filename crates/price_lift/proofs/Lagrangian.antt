@@ -8,6 +8,10 @@ use Rattle.sums.specs.Below.{sum_below_ℤ}
 use Rattle.sums.proofs.Integers.{*ℤ-+ℤ, *ℤ--ℤ, *ℤ-neg_ℤ, *ℤ_assoc, neg_ℤ-*ℤ}
 use Rattle.sums.proofs.WholeSums.{*ℤ-sum_below_ℤ, sum_below_ℤ-same}
 use Rattle.sums.proofs.WholeSwaps.{sum_below_ℤ-one, where_true}
+use Rattle.sums.proofs.Orders.{sum_below_ℤ-le}
+use Rattle.sums.proofs.Signs.{factor_le_cancel, factor_at_least_0}
+use Rattle.sums.proofs.Naturals.{empty_is, equal_number}
+use Rattle.sums.proofs.Tests.{by_test}
 use Rattle.fleet_model.specs.declared.tables.Tables.{Tables}
 use Rattle.fleet_model.specs.Kept.{Domains, IsBare, kept_on}
 use Rattle.fleet_model.specs.Schedule.{fleet_of, fleets_in, leg_of, leg_on, legs_in, no_leg, stations_in}
@@ -29,32 +33,15 @@ use Rattle.price_lift.specs.Prices.{AreByLines}
 use Rattle.price_lift.proofs.DownColumns.{at_minute, down, down_flight, down_ground, down_sides, down_slack, of_fleet, of_node}
 use Rattle.price_lift.proofs.LeastBounds.{below_unwrapped}
 use Rattle.price_lift.proofs.LinePlaces.{balance_there, before, count_there, node_there, node_within}
-use Rattle.price_lift.proofs.Signs.{cancel_le, product_at_least}
 use Rattle.price_lift.proofs.Minutes.{IsAtPlace, Rise, at_place, in_node, later, nodes_rise, one_place, some_place}
-
-empty : (xs : List ℕ) → length xs ≡ 0 → xs ≡ []
-empty [] e = refl
-empty (x ∷ xs) e = absurd (omega arith)
-
--- terms that are no more have no greater sum
-pub sum_le : (f g : ℕ → ℤ) (n : ℕ) → ((k : ℕ) → k < n → f k ≤ℤ g k) → sum_below_ℤ f n ≤ℤ sum_below_ℤ g n
-sum_le f g zero less = omega (arith, ints)
-sum_le f g (suc n) less = omega (arith, ints, sum_le f g n (λ k below. less k (omega arith)), less n (omega arith))
 
 times_zero : (h q : ℤ) (k : ℕ) → h *ℤ (pos k *ℤ q *ℤ pos 0) ≡ pos 0
 times_zero h q k = ap (λ z. h *ℤ z) (*ℤ-zero (pos k *ℤ q)) ∙ *ℤ-zero h
-
-by_test : {X : Type 0} (b : Bool) → (b ≡ true → X) → (b ≡ false → X) → X
-by_test true p q = p refl
-by_test false p q = q refl
 
 same_tests : (a b : Bool) → (a ≡ true → b ≡ true) → (b ≡ true → a ≡ true) → a ≡ b
 same_tests true b p q = sym (p refl)
 same_tests false true p q = q refl
 same_tests false false p q = refl
-
-equal_number : (m n : ℕ) → m ≡ n → (m == n) ≡ true
-equal_number m n e = grind (arith, nat_tests)
 
 number_equal : (m n : ℕ) → (m == n) ≡ true → m ≡ n
 number_equal m n e = grind (arith, nat_tests)
@@ -109,7 +96,7 @@ module _ (t : Tables) (keeps : Domains) (starts : Starts) (network : IsNetwork t
   module _ (k : ℕ) (dual : (c : Column) → IsKept t keeps starts c → down t starts y (λ line. entry_of t starts line c) ≤ℤ (h *ℤ (pos k *ℤ prices.scale *ℤ column_cost t c))) where
     -- a kept pair's fleet has nodes where it departs and where it is ready
     some_nodes : (f s : ℕ) (ready : Bool) (m : ℕ) (known : f < fleets_in t) (within : s < stations_in t) → HappensAt (network.each f s known within).events ready m → 0 < length (starts f s)
-    some_nodes f s ready m known within happens = (network.each f s known within).nodes.some (λ none. let empty : length (network.each f s known within).events ≡ 0 = ap length none in omega (arith, happens.among.1))
+    some_nodes f s ready m known within happens = (network.each f s known within).nodes.some (λ none. let empty_is : length (network.each f s known within).events ≡ 0 = ap length none in omega (arith, happens.among.1))
 
     pair_reaches : (l f : ℕ) → l < legs_in t → f < fleets_in t → keeps (leg_on l f) ≡ true → y l ≤ℤ (h *ℤ pair_worth t prices k (leg_on l f))
     pair_reaches l f below known kept =
@@ -145,7 +132,7 @@ module _ (t : Tables) (keeps : Domains) (starts : Starts) (network : IsNetwork t
     pub worth_reaches : ((l : ℕ) → ¬ (IsBare t keeps l)) → down t starts y (λ line. right_side_of t line) ≤ℤ (h *ℤ worth_of t keeps prices k)
     unfolding worth_of
     worth_reaches some =
-        let legs = sum_le y (λ l. h *ℤ leg_worth t keeps prices k l) (legs_in t) (λ l below. leg_reaches l below (some l)) in
+        let legs = sum_below_ℤ-le y (λ l. h *ℤ leg_worth t keeps prices k l) (legs_in t) (λ l below. leg_reaches l below (some l)) in
         let all_legs = *ℤ-sum_below_ℤ h (leg_worth t keeps prices k) (legs_in t) in
         let rents = sum_below_ℤ-same (λ f. of_fleet t starts y f *ℤ pos (fleet_of t f).aircraft) (λ f. neg_ℤ h *ℤ rents_of t prices f) (fleets_in t)
         (λ f known. ap (λ z. z *ℤ pos (fleet_of t f).aircraft) (fleet_is f known) ∙ moved (rent_of prices f) (pos (fleet_of t f).aircraft)) in
@@ -162,7 +149,7 @@ module _ (t : Tables) (keeps : Domains) (starts : Starts) (network : IsNetwork t
     rent_some f known =
         let weigh = dual (Slack f) known in
         let sum = down_slack t starts y f known in
-        product_at_least h (rent_of prices f) above (omega (arith, ints, weigh, sum, times_zero h prices.scale k, fleet_is f known))
+        factor_at_least_0 h (rent_of prices f) above (omega (arith, ints, weigh, sum, times_zero h prices.scale k, fleet_is f known))
 
     arc_falls : (f s j : ℕ) → f < fleets_in t → s < stations_in t → j < length (starts f s)
         → ((of_node t starts y f s (place_after (length (starts f s)) j) -ℤ of_node t starts y f s j) +ℤ where_true (length (starts f s) == j + 1) (of_fleet t starts y f)) ≤ℤ pos 0
@@ -176,7 +163,7 @@ module _ (t : Tables) (keeps : Domains) (starts : Starts) (network : IsNetwork t
         let next : place_after (length (starts f s)) j ≡ j + 1 = after (length (starts f s)) j below in
         let no_start = ap (λ b. where_true b (of_fleet t starts y f)) (unequal_number (length (starts f s)) (j + 1) (not_last (length (starts f s)) j below)) in
         let there = ap (of_node t starts y f s) next in
-        cancel_le h (value (legs_in t + (before t starts f s + (j + 1)))) (value (legs_in t + (before t starts f s + j))) above
+        factor_le_cancel h (value (legs_in t + (before t starts f s + (j + 1)))) (value (legs_in t + (before t starts f s + j))) above
         (omega (arith, ints, law, no_start, there, node_is f s j known within (omega arith), node_is f s (j + 1) known within below))
       where
         after : (n j : ℕ) → j + 1 < n → place_after n j ≡ j + 1
@@ -204,7 +191,7 @@ module _ (t : Tables) (keeps : Domains) (starts : Starts) (network : IsNetwork t
         let start = ap (λ b. where_true b (of_fleet t starts y f)) (equal_number (length (starts f s)) (last + 1) (omega arith)) in
         let there = ap (of_node t starts y f s) next in
         let sum = *ℤ-+ℤ h (value (legs_in t + (before t starts f s + last))) (rent_of prices f) in
-        cancel_le h (value (legs_in t + (before t starts f s + 0))) (value (legs_in t + (before t starts f s + last)) +ℤ rent_of prices f) above
+        factor_le_cancel h (value (legs_in t + (before t starts f s + 0))) (value (legs_in t + (before t starts f s + last)) +ℤ rent_of prices f) above
         (omega (arith, ints, law, start, there, sum, fleet_is f known, node_is f s 0 known within some, node_is f s last known within (omega arith)))
       where
         first : (n : ℕ) → 0 < n → place_after n (n - 1) ≡ 0
@@ -221,7 +208,7 @@ module _ (t : Tables) (keeps : Domains) (starts : Starts) (network : IsNetwork t
             let p = some_place (starts f s) m (rise f s known within) some in
             subst (λ z. (neg_ℤ (pos max_price) ≤ℤ z) × (z ≤ℤ pos max_price)) (sym (price_is f s m p.0 known within period p.1))
             (bounds (value (legs_in t + (before t starts f s + p.0))) max_price (small (before t starts f s + p.0) (omega (arith, node_within t starts f s p.0 known within p.1.within))))
-        | inr none ↦ subst (λ z. (neg_ℤ (pos max_price) ≤ℤ z) × (z ≤ℤ pos max_price)) (sym (by.nowhere f s m known within (empty (starts f s) (omega arith)))) (omega (arith, ints), omega (arith, ints))
+        | inr none ↦ subst (λ z. (neg_ℤ (pos max_price) ≤ℤ z) × (z ≤ℤ pos max_price)) (sym (by.nowhere f s m known within (empty_is (starts f s) (omega arith)))) (omega (arith, ints), omega (arith, ints))
       ]
 
       falls_minute : (f s m : ℕ) → f < fleets_in t → s < stations_in t → m + 1 ≤ last_minute → price_of prices f s (m + 1) ≤ℤ price_of prices f s m
@@ -231,7 +218,7 @@ module _ (t : Tables) (keeps : Domains) (starts : Starts) (network : IsNetwork t
             let q = some_place (starts f s) (m + 1) (rise f s known within) some in
             let order : p.0 ≤ q.0 = elim (cases_lt q.0 p.0) [ inl back ↦ absurd (omega (arith, q.1.last p.0 back p.1.within, p.1.begun)) | inr on ↦ omega arith ] in
             omega (arith, ints, price_is f s m p.0 known within (omega arith) p.1, price_is f s (m + 1) q.0 known within period q.1, falls f s p.0 q.0 known within order q.1.within)
-        | inr none ↦ omega (arith, ints, by.nowhere f s m known within (empty (starts f s) (omega arith)), by.nowhere f s (m + 1) known within (empty (starts f s) (omega arith)))
+        | inr none ↦ omega (arith, ints, by.nowhere f s m known within (empty_is (starts f s) (omega arith)), by.nowhere f s (m + 1) known within (empty_is (starts f s) (omega arith)))
       ]
 
       over_night : (f s : ℕ) → f < fleets_in t → s < stations_in t → price_of prices f s 0 ≤ℤ (price_of prices f s last_minute +ℤ rent_of prices f)
@@ -251,19 +238,18 @@ module _ (t : Tables) (keeps : Domains) (starts : Starts) (network : IsNetwork t
               over_end f s known within some,
               falls f s p.0 (length (starts f s) - 1) known within (omega (arith, p.1.within)) (omega arith),
             )
-        | inr none ↦ omega (arith, ints, by.nowhere f s 0 known within (empty (starts f s) (omega arith)), by.nowhere f s last_minute known within (empty (starts f s) (omega arith)), rent_some f known)
+        | inr none ↦ omega (arith, ints, by.nowhere f s 0 known within (empty_is (starts f s) (omega arith)), by.nowhere f s last_minute known within (empty_is (starts f s) (omega arith)), rent_some f known)
       ]
 
       pub are_prices : ArePrices t prices
       are_prices = record {
-        some_scale = low;
-        scale_within = high;
-        some_rent = rent_some;
-        rent_within = λ f known.
-            let size = bounds (value (legs_in t + (arcs_in t starts + f))) max_price (small (arcs_in t starts + f) (omega arith)) in
-            omega (arith, ints, rent_is f known, size.0, size.1);
-        no_less = λ f s m known within period. (price_bounds f s m known within (omega arith)).0;
-        no_more = λ f s m known within period. (price_bounds f s m known within (omega arith)).1;
-        never_rise = λ f s m known within period. falls_minute f s m known within (omega arith);
-        rise_overnight = over_night;
+        scale = record { some = low; within = high };
+        within = record {
+          rents = λ f known.
+              let size = bounds (value (legs_in t + (arcs_in t starts + f))) max_price (small (arcs_in t starts + f) (omega arith)) in
+              record { some = rent_some f known; within = omega (arith, ints, rent_is f known, size.0, size.1) };
+          each = λ f s m known within period. let ends = price_bounds f s m known within (omega arith) in record { no_less = ends.0; no_more = ends.1 };
+        };
+        fall = record { each = λ f s m known within period. falls_minute f s m known within (omega arith) };
+        rise = record { each = over_night };
       }

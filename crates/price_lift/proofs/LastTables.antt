@@ -7,11 +7,12 @@ use Rattle.std.proofs.lemmas.Int.{ints}
 use Rattle.sums.proofs.Division.{positive_factor}
 use Rattle.sums.proofs.Integers.{*ℤ_assoc, *ℤ_left_comm}
 use Rattle.sums.proofs.Places.{nothing_at}
+use Rattle.sums.proofs.Sizes.{pos_above}
 use Rattle.frac_row.specs.Row.{common_divisor, number_of, reduced, width_of}
 use Rattle.frac_row.specs.declared.row.FracRow.{FracRow}
 use Rattle.frac_row.proofs.Rows.{common_divisor_positive, den_times, number_times}
 use Rattle.fleet_model.specs.declared.tables.Tables.{Tables}
-use Rattle.fleet_model.specs.Kept.{Domains, IsBare}
+use Rattle.fleet_model.specs.Kept.{Domains, IsBare, pairs_kept}
 use Rattle.fleet_model.specs.Schedule.{fleets_in, legs_in}
 use Rattle.row_store.specs.Table.{HasColumns, height_of, right_side, row_at}
 use Rattle.row_store.specs.declared.problem.Rows.{Rows}
@@ -21,7 +22,7 @@ use Rattle.simplex_frac.specs.declared.turn.Turn.{Turn}
 use Rattle.lp_rows.specs.declared.kinds.Column.{Column}
 use Rattle.lp_rows.specs.Entries.{column_cost, entry_of}
 use Rattle.lp_rows.specs.Layout.{IsNetwork, Starts, all_nodes}
-use Rattle.lp_rows.specs.Points.{arcs_in, pairs_kept}
+use Rattle.lp_rows.specs.Points.{arcs_in}
 use Rattle.lp_rows.proofs.Counted.{nodes_are}
 use Rattle.lp_rows.proofs.Places.{IsKept}
 use Rattle.bound_cert.specs.Prices.{ArePrices, max_price, max_scale}
@@ -120,10 +121,7 @@ module _ (t : Tables) (duals : FracRow) (some : pos 0 <ℤ duals.den) (fits : pr
   divisor = pos (common_divisor duals)
 
   pub divisor_above : pos 0 <ℤ divisor
-  divisor_above = above (common_divisor duals) (common_divisor_positive duals some)
-    where
-      above : (n : ℕ) → 0 < n → pos 0 <ℤ pos n
-      above n some = omega (arith, ints)
+  divisor_above = pos_above (common_divisor duals) (common_divisor_positive duals some)
 
   pub scale_times : divisor *ℤ (reduced duals).den ≡ duals.den
   scale_times = den_times duals

@@ -7,6 +7,8 @@ use Rattle.std.proofs.lemmas.Bool.Decides.{nat_tests}
 use Rattle.std.proofs.lemmas.Int.{ints}
 use Rattle.sums.specs.Divisors.{gcd}
 use Rattle.sums.proofs.Divisors.{gcd_is}
+use Rattle.sums.proofs.Naturals.{positive_times, zero_at_most}
+use Rattle.sums.proofs.Sizes.{size_above}
 use Rattle.frac_row.specs.declared.row.FracRow.{FracRow}
 use Rattle.row_store.specs.Table.{right_side, row_at}
 use Rattle.price_lift.specs.Parts.{part_of}
@@ -23,12 +25,7 @@ positive_quotient a d some h = from_product d (a / d) a (mul-div_cancel' d h) so
 
 pub lcm_positive : (a b : ℕ) → 0 < a → 0 < b → 0 < lcm a b
 unfolding lcm
-lcm_positive a b p q = positive_product (a / gcd a b) b (positive_quotient a (gcd a b) p (gcd_is a b).0) q
-  where
-    positive_product : (a b : ℕ) → 0 < a → 0 < b → 0 < a * b
-    positive_product (suc a) (suc b) p q = omega arith
-    positive_product zero b p q = absurd (omega arith)
-    positive_product (suc a) zero p q = absurd (omega arith)
+lcm_positive a b p q = positive_times (a / gcd a b) b (positive_quotient a (gcd a b) p (gcd_is a b).0) q
 
 pub lcm_second : (a b : ℕ) → b ∣ lcm a b
 unfolding lcm
@@ -46,14 +43,12 @@ lcm_first a b =
     product x g y a b e f = ap (λ n. y * n) (sym e) ∙ omega arith ∙ ap (λ n. x * n) f
 
 -- ---- the denominator of a line
-pub den_size : (z : ℤ) → pos 0 <ℤ z → 0 < unsigned_abs z
-den_size z some = omega (arith, ints)
 
 pub lowest_den_positive : (table : List FracRow) (line : ℕ) → pos 0 <ℤ (row_at table line).den → 0 < lowest_den table line
 unfolding lowest_den
 lowest_den_positive table line some =
     positive_quotient (unsigned_abs (row_at table line).den) (gcd (unsigned_abs (right_side table line)) (unsigned_abs (row_at table line).den))
-    (den_size (row_at table line).den some) (gcd_is (unsigned_abs (right_side table line)) (unsigned_abs (row_at table line).den)).1
+    (size_above (row_at table line).den some) (gcd_is (unsigned_abs (right_side table line)) (unsigned_abs (row_at table line).den)).1
 
 -- the denominators of so many lines are above 0
 pub record HaveDens (table : List FracRow) (n : ℕ) : Type 0 where
@@ -75,10 +70,7 @@ scale_positive table basis pairs (suc n) dens =
 
 -- the scale of fewer lines divides that of more
 pub scale_grows : (table : List FracRow) (basis : List ℕ) (pairs k n : ℕ) → k ≤ n → scale_below table basis pairs k ∣ scale_below table basis pairs n
-scale_grows table basis pairs k zero order = subst (λ j. scale_below table basis pairs j ∣ 1) (none k order) (dvd_refl 1)
-  where
-    none : (k : ℕ) → k ≤ 0 → 0 ≡ k
-    none k order = omega arith
+scale_grows table basis pairs k zero order = subst (λ j. scale_below table basis pairs j ∣ 1) (zero_at_most k order) (dvd_refl 1)
 scale_grows table basis pairs k (suc n) order = elim (cases_lt k (suc n)) [
   | inl less ↦
       pick (ltb (get_or basis n 0) pairs) (λ x. scale_below table basis pairs k ∣ x) (lcm (scale_below table basis pairs n) (lowest_den table n)) (scale_below table basis pairs n)

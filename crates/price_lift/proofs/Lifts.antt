@@ -4,13 +4,12 @@ use Rattle.frac_row.specs.Row.{IsRow, reduced}
 use Rattle.frac_row.specs.declared.row.FracRow.{FracRow}
 use Rattle.fleet_model.specs.declared.parts.Pair.{Pair}
 use Rattle.fleet_model.specs.declared.tables.Tables.{Tables}
-use Rattle.fleet_model.specs.Kept.{Domains, IsBare}
+use Rattle.fleet_model.specs.Kept.{Domains, IsBare, pairs_kept}
 use Rattle.fleet_model.specs.Schedule.{fleets_in}
 use Rattle.row_store.specs.Table.{HasColumns, height_of}
 use Rattle.simplex_frac.specs.declared.turn.Turn.{Turn}
 use Rattle.simplex_frac.specs.declared.turn.Turn.TheVariants as turns
 use Rattle.lp_rows.specs.Layout.{IsNetwork, Starts, all_kept, all_nodes, concat_below}
-use Rattle.lp_rows.specs.Points.{pairs_kept}
 use Rattle.lp_rows.proofs.Counted.{pairs_are}
 use Rattle.bound_cert.specs.Fractions.{IsMixedAt, IsWorth}
 use Rattle.bound_cert.specs.OfTables.{ArePricesOf, IsMixedOf, IsStepOf, IsWeightOf}

@@ -5,15 +5,17 @@ use Rattle.std.proofs.lemmas.Int.{ints}
 use Rattle.std.proofs.lemmas.List.{get_or-map, get_or_append_left, get_or_past, length-map}
 use Rattle.sums.specs.Below.{sum_below, sum_below_ℤ}
 use Rattle.sums.proofs.WholeSums.{sum_below_ℤ-same}
+use Rattle.sums.proofs.WholeTerms.{sum_below_ℤ-stretches}
 use Rattle.fleet_model.specs.declared.tables.Tables.{Tables}
 use Rattle.fleet_model.specs.Schedule.{fleets_in, legs_in, stations_in}
 use Rattle.lp_rows.specs.declared.kinds.Node.{Node}
 use Rattle.lp_rows.specs.declared.kinds.Line.TheVariants.{Balance, Count, Cover}
 use Rattle.lp_rows.specs.Entries.{IsNode}
-use Rattle.lp_rows.specs.Layout.{Starts, all_nodes, concat_below, lines_of, list_to, node_at, nodes_at, nodes_of}
+use Rattle.sums.specs.Places.{list_below}
+use Rattle.lp_rows.specs.Layout.{Starts, all_nodes, concat_below, lines_of, node_at, nodes_at, nodes_of}
 use Rattle.lp_rows.specs.Points.{arcs_in}
 use Rattle.lp_rows.proofs.Counted.{length-concat, nodes_are}
-use Rattle.lp_rows.proofs.Totals.{length-list_to}
+use Rattle.sums.proofs.Places.{get_or-list_below, length-list_below}
 use Rattle.price_lift.specs.Prices.{line_at}
 use Rattle.price_lift.specs.Steps.{node_of_number}
 
@@ -27,15 +29,6 @@ at_right (x ∷ xs) ys d k = subst (λ n. get_or (x ∷ (xs ++ ys)) n d ≡ get_
 
 pub at_right_of : {X : Type 0} (xs ys : List X) (d : X) (n k : ℕ) → length xs ≡ n → get_or (xs ++ ys) (n + k) d ≡ get_or ys k d
 at_right_of xs ys d n k long = ap (λ m. get_or (xs ++ ys) (m + k) d) (sym long) ∙ at_right xs ys d k
-
-pub at_list : {X : Type 0} (f : ℕ → X) (n k : ℕ) (d : X) → k < n → get_or (list_to f n) k d ≡ f k
-at_list f zero k d below = absurd (omega arith)
-at_list f (suc n) k d below = elim (cases_lt k n) [
-  | inl before ↦ get_or_append_left (list_to f n) (f n ∷ []) d k (omega (arith, before, length-list_to f n)) ∙ at_list f n k d before
-  | inr last ↦
-      let same : k ≡ n + 0 = omega arith in
-      ap (λ j. get_or (list_to f n ++ f n ∷ []) j d) same ∙ at_right_of (list_to f n) (f n ∷ []) d n 0 (length-list_to f n) ∙ ap f (omega (arith, same))
-]
 
 -- .. and before the end of all
 pub within_sum : (count : ℕ → ℕ) (n i k : ℕ) → i < n → k < count i → sum_below count i + k < sum_below count n
@@ -78,19 +71,10 @@ split count (suc n) place below = elim (cases_lt place (sum_below count n)) [
 ]
 
 -- ---- sums by parts
-pub sum_behind : (h : ℕ → ℤ) (a b : ℕ) → sum_below_ℤ h (a + b) ≡ sum_below_ℤ h a +ℤ sum_below_ℤ (λ k. h (a + k)) b
-sum_behind h a zero = ap (sum_below_ℤ h) (none a) ∙ omega (arith, ints)
-  where
-    none : (a : ℕ) → a + 0 ≡ a
-    none a = omega arith
-sum_behind h a (suc b) = ap (sum_below_ℤ h) (next a b) ∙ omega (arith, ints, sum_behind h a b)
-  where
-    next : (a b : ℕ) → a + suc b ≡ suc (a + b)
-    next a b = omega arith
 
 pub sum_parts : (h : ℕ → ℤ) (count : ℕ → ℕ) (n : ℕ) → sum_below_ℤ h (sum_below count n) ≡ sum_below_ℤ (λ i. sum_below_ℤ (λ k. h (sum_below count i + k)) (count i)) n
 sum_parts h count zero = refl
-sum_parts h count (suc n) = sum_behind h (sum_below count n) (count n) ∙ ap (λ z. z +ℤ sum_below_ℤ (λ k. h (sum_below count n + k)) (count n)) (sum_parts h count n)
+sum_parts h count (suc n) = sum_below_ℤ-stretches h (sum_below count n) (count n) ∙ ap (λ z. z +ℤ sum_below_ℤ (λ k. h (sum_below count n + k)) (count n)) (sum_parts h count n)
 
 -- ---- the lines
 module _ (t : Tables) (starts : Starts) where
@@ -102,7 +86,7 @@ module _ (t : Tables) (starts : Starts) where
   before f s = sum_below nodes_in f + sum_below (λ r. length (starts f r)) s
 
   long_at : (f s : ℕ) → length (nodes_at starts f s) ≡ length (starts f s)
-  long_at f s = length-list_to (node_at f s) (length (starts f s))
+  long_at f s = length-list_below (node_at f s) (length (starts f s))
 
   long_of : (f : ℕ) → length (nodes_of t starts f) ≡ nodes_in f
   long_of f = length-concat (nodes_at starts f) (λ s. length (starts f s)) (stations_in t) (λ s within. long_at f s)
@@ -114,7 +98,7 @@ module _ (t : Tables) (starts : Starts) where
       ap (λ n. get_or (all_nodes t starts) n d) place
       ∙ at_concat (nodes_of t starts) nodes_in d (fleets_in t) f (sum_below (λ r. length (starts f r)) s + k) (λ g less. long_of g) known (within_sum (λ r. length (starts f r)) (stations_in t) s k within below)
       ∙ at_concat (nodes_at starts f) (λ r. length (starts f r)) d (stations_in t) s k (λ r less. long_at f r) within below
-      ∙ at_list (node_at f s) (length (starts f s)) k d below
+      ∙ get_or-list_below (node_at f s) (length (starts f s)) k d below
 
   pub node_within : (f s k : ℕ) → f < fleets_in t → s < stations_in t → k < length (starts f s) → before f s + k < arcs_in t starts
   node_within f s k known within below =
@@ -144,43 +128,43 @@ module _ (t : Tables) (starts : Starts) where
       subst (IsNode t starts) (sym same) (record { fleet = number.known; station = number.within; place = number.below })
 
   -- ---- the lines by their numbers
-  covers_long : length (list_to Cover (legs_in t)) ≡ legs_in t
-  covers_long = length-list_to Cover (legs_in t)
+  covers_long : length (list_below Cover (legs_in t)) ≡ legs_in t
+  covers_long = length-list_below Cover (legs_in t)
 
   balances_long : length (map Balance (all_nodes t starts)) ≡ arcs_in t starts
   balances_long = length-map (all_nodes t starts) Balance ∙ nodes_are t starts
 
-  in_parts : lines_of t starts ≡ list_to Cover (legs_in t) ++ (map Balance (all_nodes t starts) ++ list_to Count (fleets_in t))
-  in_parts = append_assoc (list_to Cover (legs_in t)) (map Balance (all_nodes t starts)) (list_to Count (fleets_in t))
+  in_parts : lines_of t starts ≡ list_below Cover (legs_in t) ++ (map Balance (all_nodes t starts) ++ list_below Count (fleets_in t))
+  in_parts = append_assoc (list_below Cover (legs_in t)) (map Balance (all_nodes t starts)) (list_below Count (fleets_in t))
 
   -- the lines behind the cover lines
-  behind_covers : (k : ℕ) → line_at t starts (legs_in t + k) ≡ get_or (map Balance (all_nodes t starts) ++ list_to Count (fleets_in t)) k (Cover 0)
-  behind_covers k = ap (λ ls. get_or ls (legs_in t + k) (Cover 0)) in_parts ∙ at_right_of (list_to Cover (legs_in t)) (map Balance (all_nodes t starts) ++ list_to Count (fleets_in t)) (Cover 0) (legs_in t) k covers_long
+  behind_covers : (k : ℕ) → line_at t starts (legs_in t + k) ≡ get_or (map Balance (all_nodes t starts) ++ list_below Count (fleets_in t)) k (Cover 0)
+  behind_covers k = ap (λ ls. get_or ls (legs_in t + k) (Cover 0)) in_parts ∙ at_right_of (list_below Cover (legs_in t)) (map Balance (all_nodes t starts) ++ list_below Count (fleets_in t)) (Cover 0) (legs_in t) k covers_long
 
   pub cover_there : (l : ℕ) → l < legs_in t → line_at t starts l ≡ Cover l
   cover_there l below =
       ap (λ ls. get_or ls l (Cover 0)) in_parts
-      ∙ get_or_append_left (list_to Cover (legs_in t)) (map Balance (all_nodes t starts) ++ list_to Count (fleets_in t)) (Cover 0) l (omega (arith, below, covers_long))
-      ∙ at_list Cover (legs_in t) l (Cover 0) below
+      ∙ get_or_append_left (list_below Cover (legs_in t)) (map Balance (all_nodes t starts) ++ list_below Count (fleets_in t)) (Cover 0) l (omega (arith, below, covers_long))
+      ∙ get_or-list_below Cover (legs_in t) l (Cover 0) below
 
   pub balance_there : (k : ℕ) → k < arcs_in t starts → line_at t starts (legs_in t + k) ≡ Balance (node_of_number t starts k)
   balance_there k below =
       behind_covers k
-      ∙ get_or_append_left (map Balance (all_nodes t starts)) (list_to Count (fleets_in t)) (Cover 0) k (omega (arith, below, balances_long))
+      ∙ get_or_append_left (map Balance (all_nodes t starts)) (list_below Count (fleets_in t)) (Cover 0) k (omega (arith, below, balances_long))
       ∙ get_or-map Balance (all_nodes t starts) k (node_at 0 0 0) (Cover 0) (omega (arith, below, nodes_are t starts))
 
   pub count_there : (f : ℕ) → f < fleets_in t → line_at t starts (legs_in t + (arcs_in t starts + f)) ≡ Count f
   count_there f known =
       behind_covers (arcs_in t starts + f)
-      ∙ at_right_of (map Balance (all_nodes t starts)) (list_to Count (fleets_in t)) (Cover 0) (arcs_in t starts) f balances_long
-      ∙ at_list Count (fleets_in t) f (Cover 0) known
+      ∙ at_right_of (map Balance (all_nodes t starts)) (list_below Count (fleets_in t)) (Cover 0) (arcs_in t starts) f balances_long
+      ∙ get_or-list_below Count (fleets_in t) f (Cover 0) known
 
   -- behind the last there is none
   pub none_behind : (k : ℕ) → fleets_in t ≤ k → line_at t starts (legs_in t + (arcs_in t starts + k)) ≡ Cover 0
   none_behind k past =
       behind_covers (arcs_in t starts + k)
-      ∙ at_right_of (map Balance (all_nodes t starts)) (list_to Count (fleets_in t)) (Cover 0) (arcs_in t starts) k balances_long
-      ∙ get_or_past (list_to Count (fleets_in t)) k (Cover 0) (omega (arith, past, length-list_to Count (fleets_in t)))
+      ∙ at_right_of (map Balance (all_nodes t starts)) (list_below Count (fleets_in t)) (Cover 0) (arcs_in t starts) k balances_long
+      ∙ get_or_past (list_below Count (fleets_in t)) k (Cover 0) (omega (arith, past, length-list_below Count (fleets_in t)))
 
   -- a sum over all lines, by their kinds
   pub over_lines : (h : ℕ → ℤ) → sum_below_ℤ h (legs_in t + (arcs_in t starts + fleets_in t))
@@ -188,9 +172,9 @@ module _ (t : Tables) (starts : Starts) where
       +ℤ (sum_below_ℤ (λ f. sum_below_ℤ (λ s. sum_below_ℤ (λ k. h (legs_in t + (before f s + k))) (length (starts f s))) (stations_in t)) (fleets_in t)
       +ℤ sum_below_ℤ (λ f. h (legs_in t + (arcs_in t starts + f))) (fleets_in t))
   over_lines h =
-      sum_behind h (legs_in t) (arcs_in t starts + fleets_in t)
+      sum_below_ℤ-stretches h (legs_in t) (arcs_in t starts + fleets_in t)
       ∙ ap (λ z. sum_below_ℤ h (legs_in t) +ℤ z)
-      (sum_behind (λ k. h (legs_in t + k)) (arcs_in t starts) (fleets_in t)
+      (sum_below_ℤ-stretches (λ k. h (legs_in t + k)) (arcs_in t starts) (fleets_in t)
       ∙ ap (λ z. z +ℤ sum_below_ℤ (λ f. h (legs_in t + (arcs_in t starts + f))) (fleets_in t))
       (sum_parts (λ k. h (legs_in t + k)) nodes_in (fleets_in t)
       ∙ sum_below_ℤ-same (λ f. sum_below_ℤ (λ k. h (legs_in t + (sum_below nodes_in f + k))) (nodes_in f)) (λ f. sum_below_ℤ (λ s. sum_below_ℤ (λ k. h (legs_in t + (before f s + k))) (length (starts f s))) (stations_in t)) (fleets_in t)

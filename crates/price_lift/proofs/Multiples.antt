@@ -3,15 +3,7 @@ use Rattle.std.proofs.Common.{◌≡◌, ℕ, zero, suc, ◌+◌, ◌-◌, ◌*�
 use Rattle.std.proofs.lemmas.Bool.{cases_lt}
 use Rattle.std.proofs.Math.Nat.{mul-le-mul_left}
 use Rattle.sums.specs.Below.{sum_below, max_below}
-
-pub cancel_le : (k a b : ℕ) → 0 < k → k * a ≤ k * b → a ≤ b
-cancel_le k a b some order = elim (cases_lt b a) [
-  | inl less ↦ let more : suc b ≤ a = omega arith in absurd (omega (arith, mul-le-mul_left k more))
-  | inr not_less ↦ omega arith
-]
-
-pub cancel_same : (k a b : ℕ) → 0 < k → k * a ≡ k * b → a ≡ b
-cancel_same k a b some same = omega (arith, cancel_le k a b some (omega arith), cancel_le k b a some (omega arith))
+use Rattle.sums.proofs.Naturals.{cancel_le, cancel_same, times_below, times_max}
 
 pub of_difference : (k a b : ℕ) → k * a - k * b ≡ k * (a - b)
 of_difference k a b = elim (cases_lt a b) [
@@ -22,27 +14,11 @@ of_difference k a b = elim (cases_lt a b) [
   | inr not_less ↦ let whole : a ≡ (a - b) + b = omega arith in omega (arith, ap (λ n. k * n) whole)
 ]
 
-pub of_max : (k a b : ℕ) → max (k * a) (k * b) ≡ k * max a b
-of_max k a b = elim (cases_lt a b) [
-  | inl less ↦
-      let order : a ≤ b = omega arith in
-      let most : max a b ≡ b = omega arith in
-      omega (arith, mul-le-mul_left k order, ap (λ n. k * n) most)
-  | inr not_less ↦
-      let order : b ≤ a = omega arith in
-      let most : max a b ≡ a = omega arith in
-      omega (arith, mul-le-mul_left k order, ap (λ n. k * n) most)
-]
-
 pub of_test : (k : ℕ) (b : Bool) (x w : ℕ) → x ≡ k * w → ◌≡◌ {A = ℕ} (if b then x else 0) (k * (if b then w else 0))
 of_test k true x w same = same
 of_test k false x w same = omega arith
 
-pub of_sum : (k : ℕ) (f g : ℕ → ℕ) (n : ℕ) → ((i : ℕ) → i < n → f i ≡ k * g i) → sum_below f n ≡ k * sum_below g n
-of_sum k f g zero same = omega arith
-of_sum k f g (suc n) same = omega (arith, of_sum k f g n (λ i below. same i (omega arith)), same n (omega arith))
-
 pub of_maximum : (k : ℕ) (f g : ℕ → ℕ) (n : ℕ) → ((i : ℕ) → i < n → f i ≡ k * g i) → max_below f n ≡ k * max_below g n
 unfolding max_below
 of_maximum k f g zero same = omega arith
-of_maximum k f g (suc n) same = ap (λ m. max m (f n)) (of_maximum k f g n (λ i below. same i (omega arith))) ∙ ap (λ m. max (k * max_below g n) m) (same n (omega arith)) ∙ of_max k (max_below g n) (g n)
+of_maximum k f g (suc n) same = ap (λ m. max m (f n)) (of_maximum k f g n (λ i below. same i (omega arith))) ∙ ap (λ m. max (k * max_below g n) m) (same n (omega arith)) ∙ times_max k (max_below g n) (g n)

@@ -9,7 +9,8 @@ use Rattle.timeline_net.specs.Events.{events_below}
 use Rattle.node_aggregate.specs.Nodes.{AreNodes, AreNodesAt, HappensAt, IsNextStart, MayStart}
 use Rattle.node_aggregate.proofs.OneList.{nodes_are_one}
 use Rattle.lp_rows.specs.declared.kinds.Line.TheVariants.{Balance, Count, Cover}
-use Rattle.lp_rows.specs.Layout.{IsNetwork, Starts, all_nodes, concat_below, lines_of, list_to, node_at, nodes_at, nodes_of}
+use Rattle.sums.specs.Places.{list_below}
+use Rattle.lp_rows.specs.Layout.{IsNetwork, Starts, all_nodes, concat_below, lines_of, node_at, nodes_at, nodes_of}
 
 -- the same events happen in both lists
 pub record HaveSame (one other : List Event) : Type 0 where
@@ -74,7 +75,7 @@ module _ (t : Tables) (keeps : Domains) (starts other : Starts) (network : IsNet
   pub same_nodes : all_nodes t starts ≡ all_nodes t other
   same_nodes =
       concat_same (nodes_of t starts) (nodes_of t other) (fleets_in t)
-      (λ f known. concat_same (nodes_at starts f) (nodes_at other f) (stations_in t) (λ s within. ap (λ xs. list_to (node_at f s) (length xs)) (same_starts f s known within)))
+      (λ f known. concat_same (nodes_at starts f) (nodes_at other f) (stations_in t) (λ s within. ap (λ xs. list_below (node_at f s) (length xs)) (same_starts f s known within)))
 
   pub same_lines : lines_of t starts ≡ lines_of t other
-  same_lines = ap (λ ns. list_to Cover (legs_in t) ++ map Balance ns ++ list_to Count (fleets_in t)) same_nodes
+  same_lines = ap (λ ns. list_below Cover (legs_in t) ++ map Balance ns ++ list_below Count (fleets_in t)) same_nodes

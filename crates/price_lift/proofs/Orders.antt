@@ -4,12 +4,9 @@ use Rattle.std.specs.Prelude.{IsTrue, ⊤}
 use Rattle.std.proofs.lemmas.Bool.{cases_lt}
 use Rattle.std.proofs.lemmas.List.{get_or_append_left}
 use Rattle.std.proofs.lemmas.List.Quantifiers.{all_pairs_push}
+use Rattle.sums.proofs.Tests.{by_test}
 use Rattle.lp_rows.specs.Layout.{concat_below}
 use Rattle.price_lift.proofs.LinePlaces.{at_right}
-
-pub by_test : {X : Type 0} (b : Bool) → (b ≡ true → X) → (b ≡ false → X) → X
-by_test true p q = p refl
-by_test false p q = q refl
 
 pub truth : (b : Bool) → b ≡ true → IsTrue b
 truth b e = e

@@ -3,12 +3,10 @@ use Rattle.std.proofs.Common.{◌≡◌, ◌≢◌, ℕ, ◌+◌, ◌<◌, ◌�
 use Rattle.std.proofs.lemmas.Bool.{cases_lt}
 use Rattle.std.proofs.lemmas.Bool.Decides.{nat_tests}
 use Rattle.std.proofs.lemmas.List.{get_or_append_left, get_or_push, length_push}
+use Rattle.sums.proofs.Naturals.{equal_number}
+use Rattle.sums.proofs.Tests.{by_test, no_both}
 use Rattle.frac_row.specs.declared.row.FracRow.{FracRow}
 use Rattle.price_lift.specs.Parts.{AreParts, part_below, part_of}
-
-by_test : {X : Type 0} (b : Bool) → (b ≡ true → X) → (b ≡ false → X) → X
-by_test true p q = p refl
-by_test false p q = q refl
 
 pub none_yet : (xs : List ℤ) → xs ≡ [] → AreParts (λ column. 0) 0 xs
 none_yet xs e = record { all = ap length e; each = λ column below. absurd (omega arith) }
@@ -43,13 +41,7 @@ part_set table basis scale line pairs column xs ys w are at below is e = subst (
       ap (λ j. get_or (set xs column w) j (pos 0)) (sym same) ∙ get_or-set_same xs column w (pos 0) (omega (arith, below, are.all)) ∙ is
       ∙ ap (λ b. pos (cond b (part_of table scale line) (part_below table basis scale line other))) (sym (ap (λ c. c == other) (sym at) ∙ t)))
       (λ t.
-      let apart : other ≢ column = λ s. clash t (equal column other (sym s)) in
+      let apart : other ≢ column = λ s. no_both t (equal_number column other (sym s)) in
       get_or-set_other xs column other w (pos 0) apart ∙ are.each other within
       ∙ ap (λ b. pos (cond b (part_of table scale line) (part_below table basis scale line other))) (sym (ap (λ c. c == other) (sym at) ∙ t)));
 })
-  where
-    equal : (m n : ℕ) → m ≡ n → (m == n) ≡ true
-    equal m n same = grind (arith, nat_tests)
-
-    clash : {b : Bool} → b ≡ false → b ≡ true → ⊥
-    clash p q = cc

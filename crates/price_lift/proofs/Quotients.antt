@@ -9,6 +9,7 @@ use Rattle.std.proofs.lemmas.Int.{ints}
 use native.Mathlib.Nat.{div-le_self}
 use Rattle.sums.specs.Divisors.{gcd}
 use Rattle.sums.proofs.Divisors.{gcd_positive}
+use Rattle.sums.proofs.Sizes.{pos_above}
 use Rattle.frac_row.specs.Outgrown.{IsWithin, is_outgrown}
 use Rattle.frac_row.specs.Ratio.{IsCeiling}
 use Rattle.frac_row.specs.declared.row.FracRow.{FracRow}
@@ -87,9 +88,6 @@ lowest_den_few table line = div-le_self (unsigned_abs (row_at table line).den) (
 
 pub lowest_den_within : (table : List FracRow) (line : ℕ) → IsWithin (row_at table line).den → IsWithin (pos (lowest_den table line))
 lowest_den_within table line within = omega (arith, within, lowest_den_few table line)
-
-pub above_zero : (n : ℕ) → 0 < n → pos 0 <ℤ pos n
-above_zero n some = omega (arith, ints)
 
 pub same_product : (a b x y : ℤ) → a ≡ x → b ≡ y → a *ℤ b ≡ x *ℤ y
 same_product a b x y e f = ap (λ z. z *ℤ b) e ∙ ap (λ z. x *ℤ z) f

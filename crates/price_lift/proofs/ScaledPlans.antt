@@ -1,5 +1,6 @@
 -- A mixed plan of a multiple of a scale, by the same multiple of weights, is one of the scale.
 use Rattle.std.proofs.Common.{◌≡◌, ℕ, ◌-◌, ◌*◌, ◌<◌, ◌∙◌, ap, arith}
+use Rattle.sums.proofs.Naturals.{times_below, cancel_same, cancel_le}
 use Rattle.fleet_model.specs.declared.parts.Pair.{Pair}
 use Rattle.fleet_model.specs.declared.tables.Tables.{Tables}
 use Rattle.fleet_model.specs.declared.limits.TheConstants.{MINUTES_PER_PERIOD}
@@ -9,22 +10,22 @@ use Rattle.fleet_model.specs.Mixed.{IsMixedPlan, weight_on}
 use Rattle.fleet_model.specs.Schedule.{IsPair, fleet_of, fleets_in, leg_on, legs_in, stations_in}
 use Rattle.fleet_model.specs.Times.{laps_of}
 use Rattle.fleet_model.specs.Use.{excess, laps_at, laps_flown, last_minute, need_of, used_of}
-use Rattle.price_lift.proofs.Multiples.{cancel_le, cancel_same, of_difference, of_maximum, of_sum, of_test}
+use Rattle.price_lift.proofs.Multiples.{of_difference, of_maximum, of_test}
 
 module _ (t : Tables) (k : ℕ) (x w : Weights) (same : (p : Pair) → IsPair t p → x p ≡ k * w p) where
   of_pair : (l f : ℕ) → l < legs_in t → f < fleets_in t → x (leg_on l f) ≡ k * w (leg_on l f)
   of_pair l f below known = same (leg_on l f) (record { leg = below; fleet = known })
 
   of_weights : (l : ℕ) → l < legs_in t → weight_on t x l ≡ k * weight_on t w l
-  of_weights l below = of_sum k (λ f. x (leg_on l f)) (λ f. w (leg_on l f)) (fleets_in t) (λ f known. of_pair l f below known)
+  of_weights l below = times_below k (λ f. x (leg_on l f)) (λ f. w (leg_on l f)) (fleets_in t) (λ f known. of_pair l f below known)
 
   of_arrived : (f s m : ℕ) → f < fleets_in t → arrived t x f s m ≡ k * arrived t w f s m
   unfolding arrived
-  of_arrived f s m known = of_sum k (coming t x f s m) (coming t w f s m) (legs_in t) (λ l below. of_test k (has_come t (leg_on l f) s m) (x (leg_on l f)) (w (leg_on l f)) (of_pair l f below known))
+  of_arrived f s m known = times_below k (coming t x f s m) (coming t w f s m) (legs_in t) (λ l below. of_test k (has_come t (leg_on l f) s m) (x (leg_on l f)) (w (leg_on l f)) (of_pair l f below known))
 
   of_departed : (f s m : ℕ) → f < fleets_in t → departed t x f s m ≡ k * departed t w f s m
   unfolding departed
-  of_departed f s m known = of_sum k (leaving t x f s m) (leaving t w f s m) (legs_in t) (λ l below. of_test k (has_left t (leg_on l f) s m) (x (leg_on l f)) (w (leg_on l f)) (of_pair l f below known))
+  of_departed f s m known = times_below k (leaving t x f s m) (leaving t w f s m) (legs_in t) (λ l below. of_test k (has_left t (leg_on l f) s m) (x (leg_on l f)) (w (leg_on l f)) (of_pair l f below known))
 
   of_excess : (f s m : ℕ) → f < fleets_in t → excess t x f s m ≡ k * excess t w f s m
   unfolding excess
@@ -36,11 +37,11 @@ module _ (t : Tables) (k : ℕ) (x w : Weights) (same : (p : Pair) → IsPair t 
 
   of_laps : (f : ℕ) → f < fleets_in t → laps_flown t x f ≡ k * laps_flown t w f
   unfolding laps_flown
-  of_laps f known = of_sum k (laps_at t x f) (laps_at t w f) (legs_in t) (λ l below. omega (arith, ap (λ n. n * laps_of t (leg_on l f)) (of_pair l f below known)))
+  of_laps f known = times_below k (laps_at t x f) (laps_at t w f) (legs_in t) (λ l below. omega (arith, ap (λ n. n * laps_of t (leg_on l f)) (of_pair l f below known)))
 
   of_used : (f : ℕ) → f < fleets_in t → used_of t x f ≡ k * used_of t w f
   unfolding used_of
-  of_used f known = omega (arith, of_laps f known, of_sum k (need_of t x f) (need_of t w f) (stations_in t) (λ s within. of_need f s known))
+  of_used f known = omega (arith, of_laps f known, times_below k (need_of t x f) (need_of t w f) (stations_in t) (λ s within. of_need f s known))
 
   pub of_smaller_scale : (keeps : Domains) (q : ℕ) → 0 < k → IsMixedPlan t keeps (k * q) x → IsMixedPlan t keeps q w
   of_smaller_scale keeps q some plan = record {

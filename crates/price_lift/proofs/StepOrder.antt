@@ -6,6 +6,9 @@ use Rattle.std.proofs.lemmas.Bool.{cases_lt, cases_order}
 use Rattle.std.proofs.lemmas.Bool.Decides.{Decides-int_eq, nat_tests}
 use Rattle.std.proofs.lemmas.Int.{ints}
 use Rattle.sums.specs.Below.{sum_below}
+use Rattle.sums.proofs.Naturals.{above_zero_tested, plus_0, same_number, zero_number}
+use Rattle.sums.proofs.Sizes.{size_of_zero, zero_size}
+use Rattle.sums.proofs.Tests.{both_true, first_true, not_false, not_true, second_true, by_test}
 use Rattle.fleet_model.specs.declared.tables.Tables.{Tables}
 use Rattle.fleet_model.specs.Schedule.{fleets_in, stations_in}
 use Rattle.fleet_model.specs.Use.{last_minute}
@@ -13,52 +16,30 @@ use Rattle.lp_rows.specs.declared.kinds.Node.{Node}
 use Rattle.lp_rows.specs.Layout.{Starts, all_nodes, concat_below, node_at}
 use Rattle.lp_rows.specs.Points.{arcs_in}
 use Rattle.lp_rows.proofs.Counted.{nodes_are}
+use Rattle.lp_rows.proofs.Totals.{all_concat}
 use Rattle.bound_cert.specs.Reading.{place_before, same_place, step_follows}
 use Rattle.bound_cert.specs.WrittenOrder.{AreStepsInOrder, IsFigure, IsStepInOrder, NoLoneZero, StepsFollow, goes_on, is_lone_zero}
 use Rattle.bound_cert.specs.declared.prices.PriceStep.{PriceStep}
 use Rattle.price_lift.specs.Steps.{all_steps, are_zero, is_step, node_of_number, step_of, steps_at}
 use Rattle.price_lift.proofs.LinePlaces.{before, node_is, node_number, node_there, node_within, nodes_in, within_sum}
 use Rattle.price_lift.proofs.Minutes.{Rise, later}
-use Rattle.price_lift.proofs.OfTables.{all_concat}
-use Rattle.price_lift.proofs.Orders.{Follow, MayFollow, by_test, follow_all, from_first, list_from}
+use Rattle.price_lift.proofs.Orders.{Follow, MayFollow, follow_all, from_first, list_from}
 use Rattle.price_lift.proofs.StepPrices.{all_zero, no_later_step}
 
 -- ---- tests
-same_number : (n : ℕ) → (n == n) ≡ true
-same_number n = grind (arith, nat_tests)
 
 is_zero : (n : ℕ) → n ≡ 0 → (n == 0) ≡ true
 is_zero n e = grind (arith, nat_tests)
 
-zero_is : (n : ℕ) → (n == 0) ≡ true → n ≡ 0
-zero_is n e = grind (arith, nat_tests)
-
-not_true : (b : Bool) → not b ≡ true → b ≡ false
-not_true false e = refl
-not_true true e = absurd (false≢true e)
-
-not_false : (b : Bool) → not b ≡ false → b ≡ true
-not_false true e = refl
-not_false false e = absurd (false≢true (sym e))
-
 -- ---- where there is a step
-zero_size : (z : ℤ) → unsigned_abs z ≡ 0 → z ≡ pos 0
-zero_size z e = omega (arith, ints)
 
 -- some value is another than 0
 some_value : (value : ℕ → ℤ) (from n : ℕ) → are_zero value from n ≡ false → (q : ℕ) × (q < n) × (value (from + q) ≢ pos 0)
 unfolding are_zero
 some_value value from zero none = absurd (false≢true (sym none))
 some_value value from (suc n) none = by_test (are_zero value from n)
-    (λ e. (n, omega arith, λ zero. absurd (false≢true (sym none ∙ both (are_zero value from n) (unsigned_abs (value (from + n)) == 0) e (is_zero (unsigned_abs (value (from + n))) (size (value (from + n)) zero))))))
+    (λ e. (n, omega arith, λ zero. absurd (false≢true (sym none ∙ both_true (are_zero value from n) (unsigned_abs (value (from + n)) == 0) e (is_zero (unsigned_abs (value (from + n))) (size_of_zero (value (from + n)) zero))))))
     (λ e. let at = some_value value from n e in (at.0, omega (arith, at.1), at.2))
-  where
-    both : (a b : Bool) → a ≡ true → b ≡ true → (a && b) ≡ true
-    both true b e f = f
-    both false b e f = cc
-
-    size : (z : ℤ) → z ≡ pos 0 → unsigned_abs z ≡ 0
-    size z e = omega (arith, ints)
 
 first_step : (nodes : ℕ) (value : ℕ → ℤ) (k : ℕ) (n : Node) → n.place ≡ 0 → is_step nodes value k n ≡ true → are_zero value k nodes ≡ false
 unfolding is_step
@@ -73,10 +54,7 @@ no_first nodes value k n first none =
 later_step : (nodes : ℕ) (value : ℕ → ℤ) (k : ℕ) (n : Node) → 0 < n.place → is_step nodes value k n ≡ true → value k ≢ value (k - 1)
 unfolding is_step
 later_step nodes value k n later here same =
-    false≢true (sym (not_true (int_eq (value k) (value (k - 1))) (sym (other n.place (not (are_zero value k nodes)) (not (int_eq (value k) (value (k - 1)))) later) ∙ here)) ∙ (Decides-int_eq (value k) (value (k - 1))).1 same)
-  where
-    other : (p : ℕ) (x y : Bool) → 0 < p → cond (p == 0) x y ≡ y
-    other p x y some = grind (arith, nat_tests)
+    false≢true (sym (not_true (int_eq (value k) (value (k - 1))) (sym (above_zero_tested n.place (not (are_zero value k nodes)) (not (int_eq (value k) (value (k - 1)))) later) ∙ here)) ∙ (Decides-int_eq (value k) (value (k - 1))).1 same)
 
 -- ---- steps one behind another
 follows_same : (a b : PriceStep) → a.fleet ≡ b.fleet → a.station ≡ b.station → a.minute < b.minute → a.value ≢ b.value → step_follows (Some a) b ≡ true
@@ -92,12 +70,8 @@ follows_same a b fleet station minute value = by_same (same_place a b) here
     differ true e = absurd (value ((Decides-int_eq a.value b.value).0 e))
     differ false e = refl
 
-    both : (c d : Bool) → c ≡ true → d ≡ true → (c && d) ≡ true
-    both true d e f = f
-    both false d e f = cc
-
     by_same : (c : Bool) → c ≡ true → (if c then nat_lt a.minute b.minute && not (int_eq a.value b.value) else place_before a b && (b.minute == 0)) ≡ true
-    by_same true e = both (nat_lt a.minute b.minute) (not (int_eq a.value b.value)) less (differ (int_eq a.value b.value) refl)
+    by_same true e = both_true (nat_lt a.minute b.minute) (not (int_eq a.value b.value)) less (differ (int_eq a.value b.value) refl)
     by_same false e = cc
 
 abbrev PlaceBefore : ℕ → ℕ → ℕ → ℕ → Type 0
@@ -114,13 +88,9 @@ follows_other a b order first = by_same (same_place a b) (apart order)
     placed (inl less) = grind (arith, nat_tests)
     placed (inr same) = let fleet = same.0 in let station = same.1 in grind (arith, nat_tests)
 
-    both : (c d : Bool) → c ≡ true → d ≡ true → (c && d) ≡ true
-    both true d e f = f
-    both false d e f = cc
-
     by_same : (c : Bool) → c ≡ false → (if c then nat_lt a.minute b.minute && not (int_eq a.value b.value) else place_before a b && (b.minute == 0)) ≡ true
     by_same true e = cc
-    by_same false e = both (place_before a b) (b.minute == 0) (placed order) (is_zero b.minute first)
+    by_same false e = both_true (place_before a b) (b.minute == 0) (placed order) (is_zero b.minute first)
 
 of_follow : (before : Option PriceStep) (steps : List PriceStep) → Follow step_follows before steps → StepsFollow before steps
 of_follow before [] all = tt
@@ -171,10 +141,7 @@ module _ (t : Tables) (starts : Starts) (value : ℕ → ℤ) (rise : (f s : ℕ
   module _ (f s : ℕ) (known : f < fleets_in t) (within : s < stations_in t) where
     -- values stay where there is no step
     constant : (p d : ℕ) → p + d < length (starts f s) → ((i : ℕ) → p < i → i ≤ p + d → there (before t starts f s + i) ≡ false) → value (before t starts f s + (p + d)) ≡ value (before t starts f s + p)
-    constant p zero below none = ap (λ n. value (before t starts f s + n)) (same p)
-      where
-        same : (p : ℕ) → p + 0 ≡ p
-        same p = omega arith
+    constant p zero below none = ap (λ n. value (before t starts f s + n)) (plus_0 p)
     constant p (suc d) below none =
         no_later_step (length (starts f s)) value (before t starts f s + (p + suc d)) (node_at f s (p + suc d)) (omega arith)
         (sym (there_is f s (p + suc d) known within below) ∙ none (p + suc d) (omega arith) (omega arith))
@@ -297,7 +264,7 @@ module _ (t : Tables) (starts : Starts) (value : ℕ → ℤ) (rise : (f s : ℕ
       → (((entry (before t starts f s + p)).minute == 0) && int_eq (entry (before t starts f s + p)).value (pos 0)) ≡ true
       → goes_on (entry (before t starts f s + p)) (list_from there entry (suc (before t starts f s + p)) d) ≡ true
   lone_at f s zero d known within below here all zero_there =
-      let zero_value = (Decides-int_eq (value (before t starts f s + 0)) (pos 0)).0 (right ((entry (before t starts f s + 0)).minute == 0) (int_eq (value (before t starts f s + 0)) (pos 0)) zero_there) in
+      let zero_value = (Decides-int_eq (value (before t starts f s + 0)) (pos 0)).0 (second_true ((entry (before t starts f s + 0)).minute == 0) (int_eq (value (before t starts f s + 0)) (pos 0)) zero_there) in
       let some = some_value value (before t starts f s + 0) (length (starts f s)) (first_step (length (starts f s)) value (before t starts f s + 0) (node_at f s 0) refl (sym (there_is f s 0 known within below) ∙ here)) in
       let other : value (before t starts f s + some.0) ≢ pos 0 = λ e. some.2 (ap value (moved some.0) ∙ e) in
       let later_one : 0 < some.0 = elim (cases_lt 0 some.0) [ inl later ↦ later | inr none ↦ let at : some.0 ≡ 0 = omega arith in absurd (other (ap (λ i. value (before t starts f s + i)) at ∙ zero_value)) ] in
@@ -305,22 +272,14 @@ module _ (t : Tables) (starts : Starts) (value : ℕ → ℤ) (rise : (f s : ℕ
       ∙ goes_to f s known within (entry (before t starts f s + 0)) some.0 (ap (λ x. x.fleet) (entry_is f s 0 known within below)) (ap (λ x. x.station) (entry_is f s 0 known within below)) some.1 other 0 d later_one zero_value
       (omega (arith, all, node_within t starts f s some.0 known within some.1))
     where
-      right : (a b : Bool) → (a && b) ≡ true → b ≡ true
-      right true b e = e
-      right false b e = absurd (false≢true e)
-
       moved : (i : ℕ) → before t starts f s + 0 + i ≡ before t starts f s + i
       moved i = omega arith
 
       next : (n : ℕ) → suc (n + 0) ≡ n + suc 0
       next n = omega arith
   lone_at f s (suc p) d known within below here all zero_there =
-      let none = zero_is (get_or (starts f s) (suc p) 0) (sym (ap (λ x. x.minute == 0) (entry_is f s (suc p) known within below)) ∙ left ((entry (before t starts f s + suc p)).minute == 0) (int_eq (value (before t starts f s + suc p)) (pos 0)) zero_there) in
+      let none = zero_number (get_or (starts f s) (suc p) 0) (sym (ap (λ x. x.minute == 0) (entry_is f s (suc p) known within below)) ∙ first_true ((entry (before t starts f s + suc p)).minute == 0) (int_eq (value (before t starts f s + suc p)) (pos 0)) zero_there) in
       absurd (omega (arith, none, later (starts f s) (rise f s known within (omega arith)) 0 (suc p) (omega arith) below))
-    where
-      left : (a b : Bool) → (a && b) ≡ true → a ≡ true
-      left true b e = refl
-      left false b e = e
 
   lone : (m d : ℕ) → m + suc d ≡ arcs_in t starts → there m ≡ true → is_lone_zero (entry m) (list_from there entry (suc m) d) ≡ false
   lone m d all here = lone_false ((entry m).minute == 0) (int_eq (entry m).value (pos 0)) (goes_on (entry m) (list_from there entry (suc m) d)) (λ zero_there.

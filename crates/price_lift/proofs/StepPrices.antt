@@ -5,6 +5,9 @@ use Rattle.std.specs.Ordering.{int_eq}
 use Rattle.std.proofs.lemmas.Bool.{cases_lt}
 use Rattle.std.proofs.lemmas.Bool.Decides.{Decides-int_eq, nat_tests}
 use Rattle.std.proofs.lemmas.Int.{ints}
+use Rattle.sums.proofs.Naturals.{above_zero_tested, as_a_sum, plus_0, zero_number}
+use Rattle.sums.proofs.Sizes.{zero_size}
+use Rattle.sums.proofs.Tests.{by_test, first_true, not_false, second_true}
 use Rattle.fleet_model.specs.declared.tables.Tables.{Tables}
 use Rattle.fleet_model.specs.Schedule.{fleets_in, stations_in}
 use Rattle.lp_rows.specs.declared.kinds.Node.{Node}
@@ -13,20 +16,12 @@ use Rattle.lp_rows.specs.Points.{arcs_in}
 use Rattle.lp_rows.proofs.Counted.{nodes_are}
 use Rattle.bound_cert.specs.Prices.{has_come, price_after}
 use Rattle.bound_cert.specs.declared.prices.PriceStep.{PriceStep}
+use Rattle.bound_cert.proofs.PriceLists.{price_after-append}
 use Rattle.price_lift.specs.Steps.{all_steps, are_zero, is_step, node_of_number, step_at_node, step_of, steps_at}
 use Rattle.price_lift.proofs.LinePlaces.{before, node_number, node_there, node_within}
 use Rattle.price_lift.proofs.Minutes.{IsAtPlace, Rise, later}
 
-pub by_test : {X : Type 0} (b : Bool) → (b ≡ true → X) → (b ≡ false → X) → X
-by_test true p q = p refl
-by_test false p q = q refl
-
 -- ---- the price after steps
-pub after_append : (v : ℤ) (xs ys : List PriceStep) (f s m : ℕ) → price_after v (xs ++ ys) f s m ≡ price_after (price_after v xs f s m) ys f s m
-unfolding price_after
-after_append v [] ys f s m = refl
-after_append v (x ∷ xs) ys f s m = after_append (if has_come x f s m then x.value else v) xs ys f s m
-
 -- .. of the nodes below a number
 abbrev pub price_below : Tables → Starts → (ℕ → ℤ) → ℕ → ℕ → ℕ → ℕ → ℤ
 price_below t starts value f s m n = price_after (pos 0) (concat_below (steps_at t starts value) n) f s m
@@ -37,7 +32,7 @@ none_below t starts value f s m = refl
 
 one_more : (t : Tables) (starts : Starts) (value : ℕ → ℤ) (f s m n : ℕ)
     → price_below t starts value f s m (suc n) ≡ price_after (price_below t starts value f s m n) (steps_at t starts value n) f s m
-one_more t starts value f s m n = after_append (pos 0) (concat_below (steps_at t starts value) n) (steps_at t starts value n) f s m
+one_more t starts value f s m n = price_after-append (pos 0) (concat_below (steps_at t starts value) n) (steps_at t starts value n) f s m
 
 -- the step of another fleet or station says nothing
 elsewhere : (starts : Starts) (value : ℕ → ℤ) (k : ℕ) (n : Node) (v : ℤ) (f s m : ℕ) → ((n.fleet == f) && (n.station == s)) ≡ false → price_after v (step_at_node starts value k n) f s m ≡ v
@@ -79,49 +74,29 @@ not_begun starts value k place v f s m later = by_step (is_step (length (starts 
     by_step false = refl
 
 -- ---- where there is a step
-zero_size : (z : ℤ) → unsigned_abs z ≡ 0 → z ≡ pos 0
-zero_size z e = omega (arith, ints)
 
 pub all_zero : (value : ℕ → ℤ) (from n : ℕ) → are_zero value from n ≡ true → (k : ℕ) → k < n → value (from + k) ≡ pos 0
 unfolding are_zero
 all_zero value from zero all k below = absurd (omega arith)
 all_zero value from (suc n) all k below = elim (cases_lt k n) [
-  | inl before ↦ all_zero value from n (left (are_zero value from n) (unsigned_abs (value (from + n)) == 0) all) k before
+  | inl before ↦ all_zero value from n (first_true (are_zero value from n) (unsigned_abs (value (from + n)) == 0) all) k before
   | inr last ↦
       let same : k ≡ n = omega arith in
-      subst (λ j. value (from + j) ≡ pos 0) (sym same) (zero_size (value (from + n)) (none (unsigned_abs (value (from + n))) (right (are_zero value from n) (unsigned_abs (value (from + n)) == 0) all)))
+      subst (λ j. value (from + j) ≡ pos 0) (sym same) (zero_size (value (from + n)) (zero_number (unsigned_abs (value (from + n))) (second_true (are_zero value from n) (unsigned_abs (value (from + n)) == 0) all)))
 ]
-  where
-    left : (a b : Bool) → (a && b) ≡ true → a ≡ true
-    left true b e = refl
-    left false b e = e
-
-    right : (a b : Bool) → (a && b) ≡ true → b ≡ true
-    right true b e = e
-    right false b e = absurd (false≢true e)
-
-    none : (n : ℕ) → (n == 0) ≡ true → n ≡ 0
-    none n e = grind (arith, nat_tests)
-
-not_not : (b : Bool) → not b ≡ false → b ≡ true
-not_not true e = refl
-not_not false e = absurd (false≢true (sym e))
 
 -- a first node without a step has the value 0, and a later one that of the node before
 pub no_first_step : (nodes : ℕ) (value : ℕ → ℤ) (k : ℕ) (n : Node) → n.place ≡ 0 → 0 < nodes → is_step nodes value k n ≡ false → value k ≡ pos 0
 unfolding is_step
 no_first_step nodes value k n first some none =
-    let all : are_zero value k nodes ≡ true = not_not (are_zero value k nodes) (sym (ap (λ p. cond (p == 0) (not (are_zero value k nodes)) (not (int_eq (value k) (value (k - 1))))) first) ∙ none) in
+    let all : are_zero value k nodes ≡ true = not_false (are_zero value k nodes) (sym (ap (λ p. cond (p == 0) (not (are_zero value k nodes)) (not (int_eq (value k) (value (k - 1))))) first) ∙ none) in
     ap value (omega arith) ∙ all_zero value k nodes all 0 some
 
 pub no_later_step : (nodes : ℕ) (value : ℕ → ℤ) (k : ℕ) (n : Node) → 0 < n.place → is_step nodes value k n ≡ false → value k ≡ value (k - 1)
 unfolding is_step
 no_later_step nodes value k n later none =
-    from_test (value k) (value (k - 1)) (not_not (int_eq (value k) (value (k - 1))) (sym (other n.place (not (are_zero value k nodes)) (not (int_eq (value k) (value (k - 1)))) later) ∙ none))
+    from_test (value k) (value (k - 1)) (not_false (int_eq (value k) (value (k - 1))) (sym (above_zero_tested n.place (not (are_zero value k nodes)) (not (int_eq (value k) (value (k - 1)))) later) ∙ none))
   where
-    other : (p : ℕ) (x y : Bool) → 0 < p → cond (p == 0) x y ≡ y
-    other p x y some = grind (arith, nat_tests)
-
     from_test : (x y : ℤ) → int_eq x y ≡ true → x ≡ y
     from_test x y e = (Decides-int_eq x y).0 e
 
@@ -196,10 +171,7 @@ module _ (t : Tables) (starts : Starts) (value : ℕ → ℤ) (f s m : ℕ) (kno
 
     -- and then that one's
     since : (d : ℕ) → p + d < length (starts f s) → at (suc (before t starts f s + (p + d))) ≡ value (before t starts f s + p)
-    since zero below = ap (λ j. at (suc (before t starts f s + j))) (none p) ∙ up_to p (omega arith)
-      where
-        none : (p : ℕ) → p + 0 ≡ p
-        none p = omega arith
+    since zero below = ap (λ j. at (suc (before t starts f s + j))) (plus_0 p) ∙ up_to p (omega arith)
     since (suc d) below =
         at_node (p + suc d) below
         ∙ not_begun starts value (before t starts f s + (p + suc d)) (p + suc d) (at (before t starts f s + (p + suc d))) f s m (place.last (p + suc d) (omega arith) below)
@@ -223,8 +195,5 @@ module _ (t : Tables) (starts : Starts) (value : ℕ → ℤ) (f s m : ℕ) (kno
     pub through_node : price_after (pos 0) (all_steps t starts value) f s m ≡ value (before t starts f s + p)
     through_node =
         let enough = node_within t starts f s (length (starts f s) - 1) known within (omega (arith, place.within)) in
-        ap at (nodes_are t starts ∙ whole (arcs_in t starts) (before t starts f s + length (starts f s)) (omega (arith, enough, place.within)))
+        ap at (nodes_are t starts ∙ as_a_sum (arcs_in t starts) (before t starts f s + length (starts f s)) (omega (arith, enough, place.within)))
         ∙ behind (arcs_in t starts - (before t starts f s + length (starts f s))) (omega (arith, enough, place.within))
-      where
-        whole : (n a : ℕ) → a ≤ n → n ≡ a + (n - a)
-        whole n a order = omega arith

@@ -3,19 +3,20 @@ use Rattle.std.proofs.Common.{◌≡◌, ℕ, ◌<◌, Bool, true, false, not, �
 use Rattle.std.specs.Ordering.{int_eq}
 use Rattle.std.proofs.lemmas.Bool.Decides.{Decides-int_eq, nat_tests}
 use Rattle.std.proofs.lemmas.Int.{ints}
+use Rattle.sums.proofs.Sizes.{size_of_zero}
+use Rattle.sums.proofs.Tests.{both_true}
 use Rattle.fleet_model.specs.declared.parts.Pair.{Pair}
 use Rattle.fleet_model.specs.declared.tables.Tables.{Tables}
-use Rattle.fleet_model.specs.Kept.{Domains}
+use Rattle.fleet_model.specs.Kept.{Domains, pairs_kept}
 use Rattle.fleet_model.specs.Schedule.{fleets_in, leg_on, legs_in}
 use Rattle.lp_rows.specs.Layout.{all_kept, concat_below, pair_of, pairs_of, Starts}
-use Rattle.lp_rows.specs.Points.{pairs_kept}
 use Rattle.lp_rows.proofs.Counted.{pairs_are}
+use Rattle.lp_rows.proofs.Totals.{all_concat}
 use Rattle.bound_cert.specs.Reading.{weight_follows}
 use Rattle.bound_cert.specs.WrittenOrder.{IsFigure, IsWeightInOrder, WeightsFollow}
 use Rattle.bound_cert.specs.declared.mixed.Weight.{Weight}
 use Rattle.price_lift.specs.Parts.{weights_at}
 use Rattle.price_lift.proofs.BasicPoints.{is_pair}
-use Rattle.price_lift.proofs.OfTables.{all_concat}
 use Rattle.price_lift.proofs.Orders.{Follow, at_number, concat_same, follow_all, pairs_concat}
 
 -- ---- pairs by leg, then fleet
@@ -62,24 +63,17 @@ turned false x = refl
 not_zero : (z : ℤ) → not (unsigned_abs z == 0) ≡ true → not (int_eq z (pos 0)) ≡ true
 not_zero z e = by (int_eq z (pos 0)) refl
   where
-    size : (z : ℤ) → z ≡ pos 0 → unsigned_abs z ≡ 0
-    size z e = omega (arith, ints)
-
     clash : (n : ℕ) → n ≡ 0 → not (n == 0) ≡ true → ⊥
     clash n is e = grind (arith, nat_tests)
 
     by : (b : Bool) → int_eq z (pos 0) ≡ b → not b ≡ true
-    by true same = absurd (clash (unsigned_abs z) (size z ((Decides-int_eq z (pos 0)).0 same)) e)
+    by true same = absurd (clash (unsigned_abs z) (size_of_zero z ((Decides-int_eq z (pos 0)).0 same)) e)
     by false same = refl
 
 follows : (p q : Pair) (w z : ℤ) → PairBefore p q → not (int_eq z (pos 0)) ≡ true
     → weight_follows (Some (record { leg = p.leg; fleet = p.fleet; weight = w })) (record { leg = q.leg; fleet = q.fleet; weight = z }) ≡ true
-follows p q w z before some = both (nat_lt p.leg q.leg || ((p.leg == q.leg) && nat_lt p.fleet q.fleet)) (not (int_eq z (pos 0))) (order before) some
+follows p q w z before some = both_true (nat_lt p.leg q.leg || ((p.leg == q.leg) && nat_lt p.fleet q.fleet)) (not (int_eq z (pos 0))) (order before) some
   where
-    both : (a b : Bool) → a ≡ true → b ≡ true → (a && b) ≡ true
-    both true b e f = f
-    both false b e f = cc
-
     order : PairBefore p q → (nat_lt p.leg q.leg || ((p.leg == q.leg) && nat_lt p.fleet q.fleet)) ≡ true
     order (inl less) = grind (arith, nat_tests)
     order (inr same) = let leg = same.0 in let fleet = same.1 in grind (arith, nat_tests)

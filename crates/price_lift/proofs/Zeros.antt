@@ -3,13 +3,11 @@ use Rattle.std.proofs.Common.{◌≡◌, ◌≢◌, ℕ, zero, suc, ◌+◌, ◌
 use Rattle.std.proofs.lemmas.Bool.{cases_lt}
 use Rattle.std.proofs.lemmas.Bool.Decides.{nat_tests}
 use Rattle.std.proofs.lemmas.Int.{ints}
+use Rattle.sums.proofs.Sizes.{zero_size}
 use Rattle.price_lift.specs.Steps.{are_zero}
 
 not_zero : (z : ℤ) → z ≢ pos 0 → (unsigned_abs z == 0) ≡ false
-not_zero z differ = let some : unsigned_abs z ≢ 0 = λ e. differ (none z e) in grind (arith, nat_tests)
-  where
-    none : (z : ℤ) → unsigned_abs z ≡ 0 → z ≡ pos 0
-    none z e = omega (arith, ints)
+not_zero z differ = let some : unsigned_abs z ≢ 0 = λ e. differ (zero_size z e) in grind (arith, nat_tests)
 
 right_false : (b c : Bool) → c ≡ false → (b && c) ≡ false
 right_false true c e = e

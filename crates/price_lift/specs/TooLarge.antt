@@ -4,13 +4,12 @@ use Rattle.sums.specs.Places.{first_below, or_else}
 use Rattle.frac_row.specs.Outgrown.{is_outgrown}
 use Rattle.frac_row.specs.Row.{number_of, reduced, width_of}
 use Rattle.frac_row.specs.declared.row.FracRow.{FracRow}
-use Rattle.fleet_model.specs.Kept.{Domains}
+use Rattle.fleet_model.specs.Kept.{Domains, pairs_kept}
 use Rattle.fleet_model.specs.Schedule.{legs_in}
 use Rattle.fleet_model.specs.declared.tables.Tables.{Tables}
 use Rattle.row_store.specs.Choice.{is_negative}
 use Rattle.row_store.specs.Table.{height_of}
 use Rattle.bound_cert.specs.Prices.{max_price, max_scale}
-use Rattle.lp_rows.specs.Points.{pairs_kept}
 use Rattle.price_lift.specs.Duals.{best_duals, best_scale, best_value, cost_den, cost_number, cost_value, phase_den, phase_number, phase_value, phases_added, phases_value, priced_lines, real_columns, refusal_duals}
 use Rattle.price_lift.specs.Weights.{scale_below}
 use Rattle.price_lift.specs.declared.error.LiftError.{LiftError}

@@ -2,13 +2,12 @@
 use Rattle.std.specs.Prelude.{◌≡◌, ℕ, zero, suc, ◌*◌, ◌/◌, ◌<◌, nat_lt, if◌then◌else◌, List, slice_index, slice_index_or, pos, ◌*ℤ◌, unsigned_abs}
 use Rattle.sums.specs.Divisors.{gcd}
 use Rattle.frac_row.specs.declared.row.FracRow.{FracRow}
-use Rattle.fleet_model.specs.Kept.{Domains}
+use Rattle.fleet_model.specs.Kept.{Domains, pairs_kept}
 use Rattle.fleet_model.specs.Schedule.{IsPair, leg_on}
 use Rattle.fleet_model.specs.declared.parts.Pair.{Pair}
 use Rattle.fleet_model.specs.declared.tables.Tables.{Tables}
 use Rattle.row_store.specs.Table.{height_of, right_side, row_at}
 use Rattle.lp_rows.specs.Layout.{all_kept}
-use Rattle.lp_rows.specs.Points.{pairs_kept}
 use Rattle.bound_cert.specs.Mixed.{weight_in}
 use Rattle.bound_cert.specs.declared.mixed.Mixed.{Mixed}
 

@@ -2,6 +2,7 @@
 use Rattle.std.proofs.Common.{◌≡◌, ℕ, ◌+◌, ◌<◌, Bool, true, false, cond, if◌then◌else◌, zero, suc, ◌&&◌, ℤ, pos, ◌<ℤ◌, ◌≤ℤ◌, get_or, ◌-◌, length, List, Option, Some, None, ◌⊎◌, inl, inr, option_map, refl, sym, ◌∙◌, ap, subst, arith, add-one}
 use Rattle.sums.specs.Places.{first_below, or_else}
 use Rattle.sums.proofs.Places.{first_found}
+use Rattle.sums.proofs.Tests.{passed_over, picked, unlike}
 use Rattle.frac_row.specs.declared.row.FracRow.{FracRow}
 use Rattle.row_store.specs.Choice.{entering, is_improving, improves, is_positive, goes_first, better, candidate_at, best_below, leaving}
 use Rattle.row_store.specs.declared.choice.Candidate.{Candidate}
@@ -49,12 +50,6 @@ other_test z h = grind (arith, ints)
 test_positive : (z : ℤ) → is_positive z ≡ true → pos 0 <ℤ z
 test_positive z h = grind (arith, ints)
 
-unlike : {X : Type 0} → true ≡ false → X
-unlike e = absurd (clash e)
-  where
-    clash : true ≡ false → ⊥
-    clash e = cc
-
 pick_other : {X : Type 0} (b c : Bool) (x y : X) → b ≡ false → y ≡ cond (b && c) x y
 pick_other false c x y e = refl
 pick_other true c x y e = unlike e
@@ -69,22 +64,14 @@ pick_first true true x y p q = refl
 pick_first false c x y p q = unlike (sym p)
 pick_first true false x y p q = unlike (sym q)
 
-pick : {X : Type 0} (b : Bool) (x y : X) → b ≡ true → x ≡ cond b x y
-pick true x y p = refl
-pick false x y p = unlike (sym p)
-
-leave : {X : Type 0} (b : Bool) (x y : X) → b ≡ false → y ≡ cond b x y
-leave false x y p = refl
-leave true x y p = unlike p
-
 pub better_stays : (best : Option Candidate) (next : Candidate) → next.entry ≤ℤ pos 0 → best ≡ better best next
 unfolding better
-better_stays None next h = leave (is_positive next.entry) (Some next) None (other_test next.entry h)
+better_stays None next h = passed_over (is_positive next.entry) (Some next) None (other_test next.entry h)
 better_stays (Some best) next h = pick_other (is_positive next.entry) (goes_first next best) (Some next) (Some best) (other_test next.entry h)
 
 pub better_alone : (best : Option Candidate) (next : Candidate) → best ≡ None → pos 0 <ℤ next.entry → Some next ≡ better best next
 unfolding better
-better_alone best next e h = rw e (pick (is_positive next.entry) (Some next) None (positive_test next.entry h))
+better_alone best next e h = rw e (picked (is_positive next.entry) (Some next) None (positive_test next.entry h))
 
 pub better_next : (best : Option Candidate) (next other : Candidate) → best ≡ Some other → pos 0 <ℤ next.entry → goes_first next other ≡ true → Some next ≡ better best next
 unfolding better

@@ -9,6 +9,8 @@ use lib.IntN.{*ℤ_comm}
 use Rattle.sums.proofs.Integers.{*ℤ_left_comm}
 use Rattle.sums.proofs.Orders.{factor_le}
 use Rattle.sums.proofs.Signs.{factor_le_cancel}
+use Rattle.sums.proofs.Naturals.{none_below_0}
+use Rattle.sums.proofs.Sizes.{above_is_some}
 use Rattle.frac_row.specs.Ratio.{ratio_cmp}
 use Rattle.frac_row.specs.declared.row.FracRow.{FracRow}
 use Rattle.row_store.specs.Table.{number_at, height_of, right_side}
@@ -53,13 +55,10 @@ goes_after one other t = other_is_no_less (ratio_cmp one.right_side one.entry ot
 -- ratios in order: a over p, then b over q, then c over r
 ratios_chain : (a p b q c r : ℤ) → pos 0 <ℤ p → pos 0 <ℤ q → pos 0 <ℤ r → (a *ℤ q) ≤ℤ (b *ℤ p) → (b *ℤ r) ≤ℤ (c *ℤ q) → (a *ℤ r) ≤ℤ (c *ℤ p)
 ratios_chain a p b q c r hp hq hr ab bc =
-    let left : (r *ℤ (a *ℤ q)) ≤ℤ (r *ℤ (b *ℤ p)) = factor_le r (a *ℤ q) (b *ℤ p) (some r hr) ab in
-    let right : (p *ℤ (b *ℤ r)) ≤ℤ (p *ℤ (c *ℤ q)) = factor_le p (b *ℤ r) (c *ℤ q) (some p hp) bc in
+    let left : (r *ℤ (a *ℤ q)) ≤ℤ (r *ℤ (b *ℤ p)) = factor_le r (a *ℤ q) (b *ℤ p) (above_is_some r hr) ab in
+    let right : (p *ℤ (b *ℤ r)) ≤ℤ (p *ℤ (c *ℤ q)) = factor_le p (b *ℤ r) (c *ℤ q) (above_is_some p hp) bc in
     factor_le_cancel q (a *ℤ r) (c *ℤ p) hq (joined _ _ _ _ _ _ left right (turn r a q ∙ ap (λ x. q *ℤ x) (*ℤ_comm r a)) (turn r b p ∙ ap (λ x. p *ℤ x) (*ℤ_comm r b)) (turn p c q ∙ ap (λ x. q *ℤ x) (*ℤ_comm p c)))
   where
-    some : (x : ℤ) → pos 0 <ℤ x → pos 0 ≤ℤ x
-    some x h = omega (arith, ints)
-
     turn : (x y z : ℤ) → x *ℤ (y *ℤ z) ≡ z *ℤ (x *ℤ y)
     turn x y z = ap (λ w. x *ℤ w) (*ℤ_comm y z) ∙ *ℤ_left_comm x z y
 
@@ -120,10 +119,7 @@ best_step table basis column row (Some best) h =
     by_tests false c t f = stays (λ some. absurd (clash _ some (test_other _ t)))
 
 best_below_is : (table : List FracRow) (basis : List ℕ) (column bound : ℕ) → AreBest table column bound (best_below table basis column bound)
-best_below_is table basis column zero = λ line lt. absurd (none line lt)
-  where
-    none : (line : ℕ) → line < 0 → ⊥
-    none line lt = omega arith
+best_below_is table basis column zero = λ line lt. absurd (none_below_0 line lt)
 best_below_is table basis column (suc row) = best_step table basis column row (best_below table basis column row) (best_below_is table basis column row)
 
 -- no line has a positive entry where none leaves

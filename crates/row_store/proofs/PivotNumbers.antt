@@ -7,6 +7,7 @@ use Rattle.sums.specs.Divisors.{gcd}
 use Rattle.sums.proofs.Divisors.{gcd_is, gcd_positive}
 use Rattle.sums.proofs.Division.{*ℤ-int_div}
 use Rattle.sums.proofs.Integers.{*ℤ_left_comm, positive_product}
+use Rattle.sums.proofs.Sizes.{pos_above}
 use Rattle.frac_row.specs.declared.row.FracRow.{FracRow}
 use Rattle.frac_row.specs.declared.factors.Factors.{Factors}
 use Rattle.frac_row.specs.Row.{number_of, width_of, IsRow, common_divisor}
@@ -35,9 +36,6 @@ pub record IsScaled (old new : FracRow) (column : ℕ) : Type 0 where
   pub numbers : (k : ℕ) → by *ℤ number_of new k ≡ number_of old k
   pub den : by *ℤ new.den ≡ number_of old column
 
-positive_pos : (n : ℕ) → 0 < n → pos 0 <ℤ pos n
-positive_pos n h = omega (arith, ints)
-
 -- each factor times the other number is one product
 factors_clear : (row pivot_row : FracRow) (column : ℕ) → pos 0 <ℤ number_of pivot_row column → (factors_of row pivot_row column).own *ℤ number_of row column ≡ (factors_of row pivot_row column).pivot *ℤ number_of pivot_row column
 unfolding factors_of
@@ -45,7 +43,7 @@ factors_clear row pivot_row column some =
     let p : ℤ = number_of pivot_row column in
     let q : ℤ = number_of row column in
     let g : ℕ = gcd (unsigned_abs p) (unsigned_abs q) in
-    crossed (pos g) p q _ _ (positive_pos g (gcd_positive (unsigned_abs p) (unsigned_abs q) (not_both p q some)))
+    crossed (pos g) p q _ _ (pos_above g (gcd_positive (unsigned_abs p) (unsigned_abs q) (not_both p q some)))
     (*ℤ-int_div p g (gcd_is (unsigned_abs p) (unsigned_abs q)).0) (*ℤ-int_div q g (gcd_is (unsigned_abs p) (unsigned_abs q)).1)
   where
     not_both : (p q : ℤ) → pos 0 <ℤ p → 0 < unsigned_abs p + unsigned_abs q
@@ -78,7 +76,7 @@ cleared_combined row pivot_row column h some =
       by = pos (common_divisor whole);
       own = f.own;
       other = f.pivot;
-      by_positive = positive_pos (common_divisor whole) (common_divisor_positive whole den);
+      by_positive = pos_above (common_divisor whole) (common_divisor_positive whole den);
       own_positive = own;
       numbers = λ k lt. number_times whole k ∙ number_of-combination f row pivot_row k lt;
       den = den_times whole ∙ den-combination f row pivot_row;
@@ -100,7 +98,7 @@ is_scaled row column some =
     let whole : FracRow = record { numbers = row.numbers; den = number_of row column } in
     record {
       by = pos (common_divisor whole);
-      by_positive = positive_pos (common_divisor whole) (common_divisor_positive whole some);
+      by_positive = pos_above (common_divisor whole) (common_divisor_positive whole some);
       numbers = λ k. number_times whole k;
       den = den_times whole;
     }

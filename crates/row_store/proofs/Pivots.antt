@@ -1,10 +1,11 @@
 -- The steps of a pivot.
-use Rattle.std.proofs.Common.{◌≡◌, ℕ, ◌<◌, ◌≢◌, Bool, true, false, cond, eqb, ℤ, pos, ◌<ℤ◌, List, length, Option, Some, None, option_map, unsigned_abs, refl, sym, ◌∙◌, ap, arith}
+use Rattle.std.proofs.Common.{◌≡◌, ℕ, ◌<◌, ◌≢◌, true, false, eqb, ℤ, pos, ◌<ℤ◌, List, length, Option, Some, None, option_map, unsigned_abs, refl, sym, ◌∙◌, ap, arith}
 use Rattle.std.specs.Prelude.{is_some}
-use Rattle.std.proofs.lemmas.Int.{ints}
 use Rattle.std.proofs.lemmas.Bool.Decides.{nat_tests}
 use Rattle.sums.specs.Places.{first_below}
 use Rattle.sums.proofs.Places.{first_found}
+use Rattle.sums.proofs.Sizes.{zero_size}
+use Rattle.sums.proofs.Tests.{passed_over, picked, unlike}
 use Rattle.frac_row.specs.declared.row.FracRow.{FracRow}
 use Rattle.frac_row.specs.declared.growth.Growth.{Growth}
 use Rattle.frac_row.specs.Row.{number_of, width_of, IsRow, IsSmall}
@@ -16,52 +17,35 @@ use Rattle.row_store.specs.Table.{row_at}
 use Rattle.row_store.specs.Pivot.{scaled_row, cleared_row, clearing_growth, new_row, row_growth, pivot_growth}
 use Rattle.row_store.specs.declared.error.Place.{Place}
 
-unlike : {X : Type 0} → true ≡ false → X
-unlike e = absurd (clash e)
-  where
-    clash : true ≡ false → ⊥
-    clash e = cc
-
-chosen : {X : Type 0} (b : Bool) (x y : X) → b ≡ true → x ≡ cond b x y
-chosen true x y e = refl
-chosen false x y e = unlike (sym e)
-
-other : {X : Type 0} (b : Bool) (x y : X) → b ≡ false → y ≡ cond b x y
-other false x y e = refl
-other true x y e = unlike e
-
 zero_test : (q : ℤ) → q ≡ pos 0 → eqb (unsigned_abs q) 0 ≡ true
 zero_test q e = rw e refl
-
-no_size : (q : ℤ) → unsigned_abs q ≡ 0 → q ≡ pos 0
-no_size q e = omega (arith, ints)
 
 nonzero_size : (n : ℕ) → n ≢ 0 → eqb n 0 ≡ false
 nonzero_size n ne = grind (arith, nat_tests)
 
 nonzero_test : (q : ℤ) → q ≢ pos 0 → eqb (unsigned_abs q) 0 ≡ false
-nonzero_test q ne = nonzero_size (unsigned_abs q) (λ e. ne (no_size q e))
+nonzero_test q ne = nonzero_size (unsigned_abs q) (λ e. ne (zero_size q e))
 
 -- ---- one row
 pub cleared_same : (row pivot_row : FracRow) (column : ℕ) → number_of row column ≡ pos 0 → row ≡ cleared_row row pivot_row column
 unfolding cleared_row
 cleared_same row pivot_row column e =
-    chosen (eqb (unsigned_abs (number_of row column)) 0) row (combined_row row pivot_row column) (zero_test (number_of row column) e)
+    picked (eqb (unsigned_abs (number_of row column)) 0) row (combined_row row pivot_row column) (zero_test (number_of row column) e)
 
 pub cleared_combined : (row pivot_row : FracRow) (column : ℕ) → number_of row column ≢ pos 0 → combined_row row pivot_row column ≡ cleared_row row pivot_row column
 unfolding cleared_row
 cleared_combined row pivot_row column ne =
-    other (eqb (unsigned_abs (number_of row column)) 0) row (combined_row row pivot_row column) (nonzero_test (number_of row column) ne)
+    passed_over (eqb (unsigned_abs (number_of row column)) 0) row (combined_row row pivot_row column) (nonzero_test (number_of row column) ne)
 
 pub growth_zero : (row pivot_row : FracRow) (column : ℕ) → number_of row column ≡ pos 0 → None ≡ clearing_growth row pivot_row column
 unfolding clearing_growth
 growth_zero row pivot_row column e =
-    chosen (eqb (unsigned_abs (number_of row column)) 0) None (growth_of row pivot_row column) (zero_test (number_of row column) e)
+    picked (eqb (unsigned_abs (number_of row column)) 0) None (growth_of row pivot_row column) (zero_test (number_of row column) e)
 
 pub growth_other : (row pivot_row : FracRow) (column : ℕ) → number_of row column ≢ pos 0 → growth_of row pivot_row column ≡ clearing_growth row pivot_row column
 unfolding clearing_growth
 growth_other row pivot_row column ne =
-    other (eqb (unsigned_abs (number_of row column)) 0) None (growth_of row pivot_row column) (nonzero_test (number_of row column) ne)
+    passed_over (eqb (unsigned_abs (number_of row column)) 0) None (growth_of row pivot_row column) (nonzero_test (number_of row column) ne)
 
 pub growth_small : (row pivot_row : FracRow) (column : ℕ) → number_of row column ≢ pos 0 → column < width_of row → pos 0 <ℤ number_of pivot_row column → IsRow row → IsSmallFor (factors_of row pivot_row column) row pivot_row → IsSmall pivot_row → None ≡ clearing_growth row pivot_row column
 growth_small row pivot_row column ne lt some is h k =
@@ -75,7 +59,7 @@ growth_small row pivot_row column ne lt some is h k =
 pub row_growth_self : (table : List FracRow) (row column place : ℕ) → place ≡ row → None ≡ row_growth table row column place
 unfolding row_growth
 row_growth_self table row column place e =
-    chosen (eqb place row) None (option_map (λ growth. record { row = place; column = growth.column }) (clearing_growth (row_at table place) (row_at table row) column)) (same_test place row e)
+    picked (eqb place row) None (option_map (λ growth. record { row = place; column = growth.column }) (clearing_growth (row_at table place) (row_at table row) column)) (same_test place row e)
   where
     same_test : (m n : ℕ) → m ≡ n → eqb m n ≡ true
     same_test m n e = grind (arith, nat_tests)
@@ -84,7 +68,7 @@ pub row_growth_other : (table : List FracRow) (row column place : ℕ) (growth :
 unfolding row_growth
 row_growth_other table row column place growth ne e =
     ap (option_map (λ g. record { row = place; column = g.column })) e
-    ∙ other (eqb place row) None (option_map (λ growth. record { row = place; column = growth.column }) (clearing_growth (row_at table place) (row_at table row) column)) (apart_test place row ne)
+    ∙ passed_over (eqb place row) None (option_map (λ growth. record { row = place; column = growth.column }) (clearing_growth (row_at table place) (row_at table row) column)) (apart_test place row ne)
   where
     apart_test : (m n : ℕ) → m ≢ n → eqb m n ≡ false
     apart_test m n ne = grind (arith, nat_tests)
@@ -103,7 +87,7 @@ pub new_row_scaled : (table : List FracRow) (row column place : ℕ) (pivot_row 
 unfolding new_row
 new_row_scaled table row column place pivot_row e same =
     ap (λ r. scaled_row r column) (same ∙ ap (row_at table) e)
-    ∙ chosen (eqb place row) (scaled_row (row_at table row) column) (cleared_row (row_at table place) (row_at table row) column) (same_test place row e)
+    ∙ picked (eqb place row) (scaled_row (row_at table row) column) (cleared_row (row_at table place) (row_at table row) column) (same_test place row e)
   where
     same_test : (m n : ℕ) → m ≡ n → eqb m n ≡ true
     same_test m n e = grind (arith, nat_tests)
@@ -112,7 +96,7 @@ pub new_row_cleared : (table : List FracRow) (row column place : ℕ) (old_row p
 unfolding new_row
 new_row_cleared table row column place old_row pivot_row ne e p =
     ap (λ r. cleared_row r pivot_row column) e ∙ ap (λ r. cleared_row (row_at table place) r column) p
-    ∙ other (eqb place row) (scaled_row (row_at table row) column) (cleared_row (row_at table place) (row_at table row) column) (apart_test place row ne)
+    ∙ passed_over (eqb place row) (scaled_row (row_at table row) column) (cleared_row (row_at table place) (row_at table row) column) (apart_test place row ne)
   where
     apart_test : (m n : ℕ) → m ≢ n → eqb m n ≡ false
     apart_test m n ne = grind (arith, nat_tests)

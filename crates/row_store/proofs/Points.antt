@@ -6,6 +6,7 @@ use lib.IntN.{*ℤ-zero, zero-*ℤ}
 use Rattle.sums.specs.Below.{sum_below_ℤ}
 use Rattle.sums.proofs.Integers.{*ℤ--ℤ, -ℤ-*ℤ, *ℤ_assoc, *ℤ_left_comm, *ℤ_cancel, zero_factor, positive_product}
 use Rattle.sums.proofs.WholeSums.{sum_below_ℤ-same, *ℤ-sum_below_ℤ, sum_below_ℤ--ℤ}
+use Rattle.sums.proofs.Sizes.{pos_above}
 use Rattle.frac_row.specs.declared.row.FracRow.{FracRow}
 use Rattle.frac_row.specs.declared.factors.Factors.{Factors}
 use Rattle.frac_row.specs.Row.{number_of, width_of, IsRow, common_divisor, reduced}
@@ -59,9 +60,6 @@ record Becomes (old new pivot_row : FracRow) (n : ℕ) (point : ℕ → ℤ) (sc
   surpluses : by *ℤ surplus new n point scale ≡ (own *ℤ surplus old n point scale) -ℤ (other *ℤ surplus pivot_row n point scale)
   dens : by *ℤ new.den ≡ own *ℤ old.den
 
-positive_pos : (n : ℕ) → 0 < n → pos 0 <ℤ pos n
-positive_pos n h = omega (arith, ints)
-
 becomes_same : (row pivot_row : FracRow) (n : ℕ) (point : ℕ → ℤ) (scale : ℤ) → Becomes row row pivot_row n point scale
 becomes_same row pivot_row n point scale = record {
   by = pos 1;
@@ -84,7 +82,7 @@ becomes_combined row pivot_row column n point scale h some lt =
       by = pos (common_divisor whole);
       own = f.own;
       other = f.pivot;
-      by_positive = positive_pos (common_divisor whole) (common_divisor_positive whole den);
+      by_positive = pos_above (common_divisor whole) (common_divisor_positive whole den);
       own_positive = own;
       surpluses = surplus_times (pos (common_divisor whole)) (reduced whole) whole n point scale (λ k le. number_times whole k)
           ∙ surplus_combined f row pivot_row whole n point scale (λ k le. number_of-combination f row pivot_row k (omega arith));
@@ -103,7 +101,7 @@ unfolding scaled_row surplus
 scaled_surplus row column n point scale some =
     let whole : FracRow = record { numbers = row.numbers; den = number_of row column } in (
       pos (common_divisor whole),
-      positive_pos (common_divisor whole) (common_divisor_positive whole some),
+      pos_above (common_divisor whole) (common_divisor_positive whole some),
       surplus_times (pos (common_divisor whole)) (reduced whole) whole n point scale (λ k le. number_times whole k),
     )
 

@@ -1,6 +1,7 @@
 -- Laws of tables and of the pivot.
 use Rattle.std.proofs.Common.{◌≡◌, ℕ, ◌<◌, Bool, true, false, cond, eqb, pos, ◌<ℤ◌, List, length, Option, Some, None, option_map, unsigned_abs, refl, sym, ◌∙◌, ap, arith}
 use Rattle.sums.proofs.Places.{length-list_below, get_or-list_below, nothing_at}
+use Rattle.sums.proofs.Tests.{unlike}
 use Rattle.frac_row.specs.declared.row.FracRow.{FracRow}
 use Rattle.frac_row.specs.declared.growth.Growth.{Growth}
 use Rattle.frac_row.specs.Row.{number_of, width_of, IsRow}
@@ -15,12 +16,6 @@ use Rattle.row_store.specs.declared.error.Place.{Place}
 pub by_test : {X : Type 0} (P : X → Type 0) (b : Bool) (x y : X) → (b ≡ true → P x) → (b ≡ false → P y) → P (cond b x y)
 by_test P true x y p q = p refl
 by_test P false x y p q = q refl
-
-unlike : {X : Type 0} → true ≡ false → X
-unlike e = absurd (clash e)
-  where
-    clash : true ≡ false → ⊥
-    clash e = cc
 
 -- ---- single rows
 pub width_of-combination : (row pivot_row : FracRow) (column : ℕ) → width_of (combined_row row pivot_row column) ≡ width_of row

@@ -9,6 +9,7 @@ use Rattle.sums.proofs.Products.{product_below, product_beside, product_positive
 use Rattle.sums.proofs.WholeSums.{sum_below_ℤ-same}
 use Rattle.sums.proofs.WholeSwaps.{where_true, sum_below_ℤ-one, sum_below_ℤ-zero}
 use Rattle.sums.proofs.WholeTerms.{at_place, over_each}
+use Rattle.sums.proofs.Naturals.{past_is_other}
 use Rattle.frac_row.specs.declared.row.FracRow.{FracRow}
 use Rattle.row_store.specs.declared.problem.Rows.{Rows}
 use Rattle.row_store.specs.Table.{row_at, number_at}
@@ -60,11 +61,8 @@ pub sum_below_lines : (rows : Rows) (table : List FracRow) (basis : List ℕ) (v
 sum_below_lines rows table basis value row h ge lt =
     basic_sum rows table basis value row h
     ∙ sum_below_ℤ-same (λ line. number_at table row (basic basis line) *ℤ value line) (λ line. pos 0) (length rows.lines)
-    (λ line below. ap (λ x. x *ℤ value line) (h.units.others line row below lt (λ e. other row line (length rows.lines) ge below e)) ∙ zero-*ℤ (value line))
+    (λ line below. ap (λ x. x *ℤ value line) (h.units.others line row below lt (λ e. past_is_other row line (length rows.lines) ge below e)) ∙ zero-*ℤ (value line))
     ∙ sum_below_ℤ-zero (length rows.lines)
-  where
-    other : (row line m : ℕ) → m ≤ row → line < m → row ≡ line → ⊥
-    other row line m p q e = omega arith
 
 -- ---- the basic point
 pub surplus_of_line : (rows : Rows) (table : List FracRow) (basis : List ℕ) (value : ℕ → ℤ) (scale : ℤ) (row : ℕ) → IsBasicTable rows table basis → row < length rows.lines

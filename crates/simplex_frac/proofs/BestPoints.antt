@@ -8,6 +8,7 @@ use Rattle.sums.proofs.Integers.{zero_factor, *ℤ-neg_ℤ}
 use Rattle.sums.proofs.Signs.{product_at_least_0, factor_at_least_0}
 use Rattle.sums.proofs.WholeSwaps.{where_true}
 use Rattle.sums.proofs.WholeTerms.{at_least_0, each_is_0, at_place, at_place-at_least_0, where_true-at_least_0}
+use Rattle.sums.proofs.Sizes.{above_is_some, no_difference}
 use Rattle.frac_row.specs.declared.row.FracRow.{FracRow}
 use Rattle.row_store.specs.declared.problem.Rows.{Rows}
 use Rattle.row_store.specs.Table.{number_at, phase_row, right_side}
@@ -63,20 +64,14 @@ unfolding whole_point basic_value
 whole_meets rows made table basis h =
     point_of_first rows made table basis _ _ h
     (λ line lt. surplus_of_line rows table basis (λ l. number_at table l (rows.columns + length rows.lines) *ℤ scale_over table (length rows.lines) l) (common_scale table (length rows.lines)) line (basic_table rows made table basis h) lt
-    ∙ none _ _ (over_scale rows table line (number_at table line (rows.columns + length rows.lines)) lt))
-  where
-    none : (a b : ℤ) → a ≡ b → a -ℤ b ≡ pos 0
-    none a b e = omega (arith, ints)
+    ∙ no_difference _ _ (over_scale rows table line (number_at table line (rows.columns + length rows.lines)) lt))
 
 value_at_least_0 : (rows : Rows) (made : ℕ) (table : List FracRow) (basis : List ℕ) → IsReached rows made table basis → AreRightSidesAtLeast0 rows → (line : ℕ) → line < length rows.lines → pos 0 ≤ℤ basic_value rows table line
 unfolding basic_value
 value_at_least_0 rows made table basis h sides line lt =
     product_at_least_0 (number_at table line (rows.columns + length rows.lines)) (scale_over table (length rows.lines) line)
     (subst (λ c. pos 0 ≤ℤ number_at table line c) (last_is (basic_table rows made table basis h).is) (run_keeps_right_sides rows made table basis line h sides lt))
-    (some _ (scale_over_positive rows table basis line (basic_table rows made table basis h)))
-  where
-    some : (x : ℤ) → pos 0 <ℤ x → pos 0 ≤ℤ x
-    some x h = omega (arith, ints)
+    (above_is_some _ (scale_over_positive rows table basis line (basic_table rows made table basis h)))
 
 whole_at_least_0 : (rows : Rows) (made : ℕ) (table : List FracRow) (basis : List ℕ) → IsReached rows made table basis → AreRightSidesAtLeast0 rows → (column : ℕ) → pos 0 ≤ℤ whole_point rows table basis column
 unfolding whole_point basic_point
@@ -108,15 +103,12 @@ no_point_tells rows made table basis h sides =
     let now : IsReached rows made table basis = reached_of h in
     let ends : EndsNoPoint (record { table = table; basis = basis }) rows.columns = no_point_ends (record { table = table; basis = basis }) rows.columns h.turns.turns in
     let rest : pos 0 ≤ℤ (rest_sum rows (whole_point rows table basis) *ℤ den_at table (phase_row table)) =
-    product_at_least_0 _ _ (rest_at_least_0 rows made table basis now sides) (some _ (phase_den rows made table basis now)) in
+    product_at_least_0 _ _ (rest_at_least_0 rows made table basis now sides) (above_is_some _ (phase_den rows made table basis now)) in
     record {
       phase = λ column lt. (none_improves table rows.columns column ends.none lt).phase;
       unmet = below (right_side table (phase_row table)) (common_scale table (length rows.lines)) _ (scale_positive rows table basis (basic_table rows made table basis now)) (phase_side rows made table basis now) rest ends.unmet;
     }
   where
-    some : (x : ℤ) → pos 0 <ℤ x → pos 0 ≤ℤ x
-    some x h = omega (arith, ints)
-
     less : (r : ℤ) → pos 0 ≤ℤ neg_ℤ r → (r ≡ pos 0 → ⊥) → r <ℤ pos 0
     less (pos zero) h ne = absurd (ne refl)
     less (pos (suc n)) h ne = absurd (omega (arith, ints))

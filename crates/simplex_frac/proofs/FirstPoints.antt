@@ -11,6 +11,7 @@ use Rattle.sums.proofs.Places.{get_or-list_below}
 use Rattle.sums.proofs.WholeSums.{sum_below_ℤ-same, sum_below_ℤ--ℤ}
 use Rattle.sums.proofs.WholeSwaps.{where_true, sum_below_ℤ-one, sum_below_ℤ-swap, sum_below_ℤ-zero}
 use Rattle.sums.proofs.WholeTerms.{sum_below_ℤ-stretches, sum_below_ℤ-*ℤ, sum_below_ℤ-neg}
+use Rattle.sums.proofs.Naturals.{past_is_other, place_behind, sum_less_first}
 use Rattle.frac_row.specs.declared.row.FracRow.{FracRow}
 use Rattle.frac_row.specs.Row.{number_of}
 use Rattle.row_store.specs.declared.problem.Rows.{Rows}
@@ -31,10 +32,7 @@ pub joined-identity : (columns : ℕ) (real identity : ℕ → ℤ) (line : ℕ)
 unfolding joined
 joined-identity columns real identity line =
     cond-false (ltb (columns + line) columns) (real (columns + line)) (identity (columns + line - columns)) (le-ltb (columns + line) columns (omega arith))
-    ∙ ap identity (back columns line)
-  where
-    back : (m n : ℕ) → m + n - m ≡ n
-    back m n = omega arith
+    ∙ ap identity (sum_less_first columns line)
 
 -- what the real columns of a row come to, and its identity columns
 unfoldable pub real_sum : FracRow → ℕ → (ℕ → ℤ) → ℤ
@@ -78,15 +76,12 @@ identity_number : (rows : Rows) (row line : ℕ) (z : ℤ) → row < length rows
 identity_number rows row line z lt below = elim (cases_eq row line) [
   | inl same ↦ ap (λ x. x *ℤ z) (number_first rows row (rows.columns + line) lt (omega arith) ∙ number_one rows row (rows.columns + line) (omega arith) (omega arith) (back rows.columns line row same)) ∙ one-*ℤ z
       ∙ sym (cond-true (row == line) z (pos 0) (eq-eqb row line same))
-  | inr apart ↦ ap (λ x. x *ℤ z) (number_first rows row (rows.columns + line) lt (omega arith) ∙ number_zero rows row (rows.columns + line) (omega arith) (omega arith) (λ e. apart (forth rows.columns line row e))) ∙ zero-*ℤ z
+  | inr apart ↦ ap (λ x. x *ℤ z) (number_first rows row (rows.columns + line) lt (omega arith) ∙ number_zero rows row (rows.columns + line) (omega arith) (omega arith) (λ e. apart (place_behind rows.columns line row e))) ∙ zero-*ℤ z
       ∙ sym (cond-false (row == line) z (pos 0) (ne_eqb row line apart))
 ]
   where
     back : (n line row : ℕ) → row ≡ line → n + line - n ≡ row
     back n line row e = omega arith
-
-    forth : (n line row : ℕ) → n + line - n ≡ row → row ≡ line
-    forth n line row e = omega arith
 
 identity_line : (rows : Rows) (row : ℕ) (point : ℕ → ℤ) → row < length rows.lines → identity_sum (row_at (first_table rows) row) rows.columns (length rows.lines) point ≡ point (rows.columns + row)
 unfolding identity_sum
@@ -97,11 +92,8 @@ identity_line rows row point lt =
 identity_below : (rows : Rows) (row : ℕ) (point : ℕ → ℤ) → length rows.lines ≤ row → row < length rows.lines + 2 → identity_sum (row_at (first_table rows) row) rows.columns (length rows.lines) point ≡ pos 0
 unfolding identity_sum
 identity_below rows row point ge lt =
-    sum_below_ℤ-same _ (λ line. pos 0) (length rows.lines) (λ line below. identity_number rows row line (point (rows.columns + line)) lt below ∙ cond-false (row == line) (point (rows.columns + line)) (pos 0) (ne_eqb row line (λ e. other row line (length rows.lines) ge below e)))
+    sum_below_ℤ-same _ (λ line. pos 0) (length rows.lines) (λ line below. identity_number rows row line (point (rows.columns + line)) lt below ∙ cond-false (row == line) (point (rows.columns + line)) (pos 0) (ne_eqb row line (λ e. past_is_other row line (length rows.lines) ge below e)))
     ∙ sum_below_ℤ-zero (length rows.lines)
-  where
-    other : (row line m : ℕ) → m ≤ row → line < m → row ≡ line → ⊥
-    other row line m p q e = omega arith
 
 pub right_first : (rows : Rows) (row : ℕ) → row < length rows.lines + 2 → number_at (first_table rows) row (rows.columns + length rows.lines) ≡ first_amount rows row rows.columns
 right_first rows row lt = number_first rows row (rows.columns + length rows.lines) lt (omega arith) ∙ number_right rows row (rows.columns + length rows.lines) (omega arith)

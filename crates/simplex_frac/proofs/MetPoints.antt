@@ -1,5 +1,5 @@
 -- The basic point of the best table meets the lines.
-use Rattle.std.proofs.Common.{◌≡◌, ℕ, zero, suc, ◌+◌, ◌<◌, ◌≤◌, ◌≢◌, ◌==◌, ltb, length, get_or, List, ℤ, pos, ◌+ℤ◌, ◌-ℤ◌, ◌*ℤ◌, ◌⊎◌, sym, ◌∙◌, ap, subst, inl, inr, arith}
+use Rattle.std.proofs.Common.{◌≡◌, ℕ, zero, suc, ◌+◌, ◌<◌, ◌≤◌, ◌≢◌, ◌==◌, ltb, length, get_or, List, ℤ, pos, ◌-ℤ◌, ◌*ℤ◌, ◌⊎◌, sym, ◌∙◌, ap, subst, inl, inr, arith}
 use Rattle.std.specs.Prelude.{neg_ℤ}
 use Rattle.std.proofs.lemmas.Int.{ints}
 use Rattle.std.proofs.lemmas.Bool.{cases_eq, cases_lt, eq-eqb, ne_eqb, lt-ltb, le-ltb, cond-true, cond-false}
@@ -9,6 +9,8 @@ use Rattle.sums.proofs.Integers.{neg_ℤ-*ℤ}
 use Rattle.sums.proofs.WholeSums.{sum_below_ℤ-same}
 use Rattle.sums.proofs.WholeSwaps.{where_true, sum_below_ℤ-one, sum_below_ℤ-zero}
 use Rattle.sums.proofs.WholeTerms.{at_place}
+use Rattle.sums.proofs.Naturals.{none_below_0}
+use Rattle.sums.proofs.Sizes.{no_difference, nothing_added}
 use Rattle.frac_row.specs.declared.row.FracRow.{FracRow}
 use Rattle.row_store.specs.declared.problem.Rows.{Rows}
 use Rattle.row_store.specs.Table.{number_at, cost_row, right_side}
@@ -63,10 +65,7 @@ one_at_place place value lines line below apart =
 
 -- some line's place, or none's
 pub find : (place : ℕ → ℕ) (column lines : ℕ) → ((line : ℕ) × (line < lines) × (place line ≡ column)) ⊎ ((line : ℕ) → line < lines → place line ≢ column)
-find place column zero = inr (λ line lt. absurd (none line lt))
-  where
-    none : (line : ℕ) → line < 0 → ⊥
-    none line lt = omega arith
+find place column zero = inr (λ line lt. absurd (none_below_0 line lt))
 find place column (suc lines) = elim (cases_eq (place lines) column) [
   | inl same ↦ inl (lines, omega arith, same)
   | inr apart ↦ elim (find place column lines) [
@@ -109,11 +108,8 @@ real_meets rows made table basis scale x h sides p =
     t : IsBasicTable rows table basis
     t = basic_table rows made table basis (reached_of h)
 
-    none : (a b : ℤ) → a ≡ b → a -ℤ b ≡ pos 0
-    none a b e = omega (arith, ints)
-
     met : (line : ℕ) → line < length rows.lines → (den_at table line *ℤ real_value rows basis x line) -ℤ (number_at table line (rows.columns + length rows.lines) *ℤ pos scale) ≡ pos 0
-    met line lt = none _ _ (elim (cases_lt (basic basis line) rows.columns) [
+    met line lt = no_difference _ _ (elim (cases_lt (basic basis line) rows.columns) [
       | inl real ↦ ap (λ v. den_at table line *ℤ v) (value_of_real rows basis x line real) ∙ *ℤ_comm (den_at table line) (pos (x (basic basis line))) ∙ p.basic line lt real
           ∙ ap (λ c. number_at table line c *ℤ pos scale) (last_is t.is)
       | inr ge ↦ ap (λ v. den_at table line *ℤ v) (value_of_identity rows basis x line ge) ∙ *ℤ-zero (den_at table line)
@@ -136,10 +132,7 @@ basic_point_meets rows made table basis scale x h sides p = record {
     each : (line : ℕ) → line < length rows.lines → sum_below_ℤ (λ c. entry rows line c *ℤ pos (x c)) rows.columns ≡ entry rows line rows.columns *ℤ pos scale
     each line lt =
         sum_below_ℤ-same _ (λ c. entry rows line c *ℤ real_point rows basis x c) rows.columns (λ c real. ap (λ v. entry rows line c *ℤ v) (sym (at_real rows table basis scale x c t p real)))
-        ∙ nothing _ _ (at_identity rows basis x line) ∙ met.each line lt
-      where
-        nothing : (a b : ℤ) → b ≡ pos 0 → a ≡ a +ℤ b
-        nothing a b e = omega (arith, ints)
+        ∙ nothing_added _ _ (at_identity rows basis x line) ∙ met.each line lt
 
     same_cost : cost_sum rows (real_point rows basis x) ≡ point_cost rows x
     same_cost = sum_below_ℤ-same _ _ rows.columns (λ c real. ap (λ v. get_or rows.costs c (pos 0) *ℤ v) (at_real rows table basis scale x c t p real))

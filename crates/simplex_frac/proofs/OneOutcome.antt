@@ -3,6 +3,8 @@ use Rattle.std.proofs.Common.{◌≡◌, ℕ, zero, suc, ◌<◌, ◌≤◌, ◌
 use Rattle.std.specs.Prelude.{option_and_then}
 use Rattle.std.proofs.lemmas.Bool.{cases_lt}
 use Rattle.std.proofs.lemmas.Bool.Decides.{nat_tests}
+use Rattle.sums.proofs.Naturals.{zero_at_most}
+use Rattle.sums.proofs.Tests.{none_some}
 use Rattle.frac_row.specs.declared.row.FracRow.{FracRow}
 use Rattle.row_store.specs.declared.error.Place.{Place}
 use Rattle.row_store.specs.Pivot.{pivot_growth}
@@ -23,18 +25,12 @@ record EndsAt (first : List FracRow) (columns budget pivots : ℕ) (now : Tablea
 
 -- a stage comes after all before it
 reached_before : (first : List FracRow) (columns early late : ℕ) (now : Tableau) → early ≤ late → stage first columns late ≡ Some now → (before : Tableau) × (stage first columns early ≡ Some before)
-reached_before first columns early zero now le e = (now, subst (λ k. stage first columns k ≡ Some now) (none early le) e)
-  where
-    none : (k : ℕ) → k ≤ 0 → 0 ≡ k
-    none k le = omega arith
+reached_before first columns early zero now le e = (now, subst (λ k. stage first columns k ≡ Some now) (zero_at_most early le) e)
 reached_before first columns early (suc late) now le e =
     elim (cases_lt early (suc late)) [
       | inl lt ↦ let s : IsStep first columns late now = stage_step first columns late now e in reached_before first columns early late s.before (omega arith) s.reached
       | inr ge ↦ let same : suc late ≡ early = omega arith in (now, subst (λ k. stage first columns k ≡ Some now) same e)
     ]
-
-none_some : {X : Type 0} {x : X} → None ≡ Some x → ⊥
-none_some e = cc
 
 not_later : (first : List FracRow) (columns budget early late : ℕ) (one other : Tableau) → EndsAt first columns budget early one → EndsAt first columns budget late other → early < late → ⊥
 not_later first columns budget early late one other h k lt =

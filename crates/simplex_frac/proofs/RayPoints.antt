@@ -10,6 +10,7 @@ use Rattle.sums.proofs.Signs.{product_at_least_0, product_below_0, factor_at_lea
 use Rattle.sums.proofs.WholeSums.{sum_below_ℤ-same}
 use Rattle.sums.proofs.WholeSwaps.{where_true, sum_below_ℤ-one, sum_below_ℤ-+ℤ}
 use Rattle.sums.proofs.WholeTerms.{*ℤ-where_true, where_true-at_least_0, at_least_0, each_is_0, at_place-at_least_0}
+use Rattle.sums.proofs.Sizes.{above_is_some, nothing_added, opposite_some, size_is}
 use Rattle.frac_row.specs.declared.row.FracRow.{FracRow}
 use Rattle.row_store.specs.declared.problem.Rows.{Rows}
 use Rattle.row_store.specs.Table.{row_at, number_at, phase_row, cost_row}
@@ -95,22 +96,17 @@ ray_meets rows made table basis column r =
     point_of_first rows made table basis (ray_point rows table basis column) (pos 0) r.reached (λ line lt. ray_line rows made table basis column line r lt)
 
 -- ---- nothing falls below 0
-some_at_least : (x : ℤ) → pos 0 <ℤ x → pos 0 ≤ℤ x
-some_at_least x h = omega (arith, ints)
 
 basic_at_least_0 : (rows : Rows) (made : ℕ) (table : List FracRow) (basis : List ℕ) (column : ℕ) → IsRay rows made table basis column → (c : ℕ) → pos 0 ≤ℤ basic_point basis (rise_value rows table column) (length rows.lines) c
 unfolding basic_point rise_value
 basic_at_least_0 rows made table basis column r c =
     at_place-at_least_0 (basic basis) (rise_value rows table column) (length rows.lines) c
-    (λ line lt. product_at_least_0 (neg_ℤ (number_at table line column)) (scale_over table (length rows.lines) line) (opposite _ (r.falls line lt)) (some_at_least _ (scale_over_positive rows table basis line r.is)))
-  where
-    opposite : (x : ℤ) → x ≤ℤ pos 0 → pos 0 ≤ℤ neg_ℤ x
-    opposite x h = omega (arith, ints)
+    (λ line lt. product_at_least_0 (neg_ℤ (number_at table line column)) (scale_over table (length rows.lines) line) (opposite_some _ (r.falls line lt)) (above_is_some _ (scale_over_positive rows table basis line r.is)))
 
 ray_at_least_0 : (rows : Rows) (made : ℕ) (table : List FracRow) (basis : List ℕ) (column : ℕ) → IsRay rows made table basis column → (c : ℕ) → pos 0 ≤ℤ ray_point rows table basis column c
 unfolding ray_point
 ray_at_least_0 rows made table basis column r c =
-    both _ _ (basic_at_least_0 rows made table basis column r c) (where_true-at_least_0 (column == c) (common_scale table (length rows.lines)) (some_at_least _ (scale_positive rows table basis r.is)))
+    both _ _ (basic_at_least_0 rows made table basis column r c) (where_true-at_least_0 (column == c) (common_scale table (length rows.lines)) (above_is_some _ (scale_positive rows table basis r.is)))
   where
     both : (a b : ℤ) → pos 0 ≤ℤ a → pos 0 ≤ℤ b → pos 0 ≤ℤ (a +ℤ b)
     both a b p q = omega (arith, ints)
@@ -143,7 +139,7 @@ phase_is_0 : (rows : Rows) (made : ℕ) (table : List FracRow) (basis : List ℕ
 phase_is_0 rows made table basis column r =
     between _ r.improves.phase
     (factor_at_least_0 (common_scale table (length rows.lines)) (number_at table (phase_row table) column) (scale_positive rows table basis r.is)
-    (subst (λ x. pos 0 ≤ℤ x) (sym (phase_rise rows made table basis column r)) (product_at_least_0 _ _ (rest_at_least_0 rows made table basis column r) (some_at_least _ (phase_den rows made table basis column r)))))
+    (subst (λ x. pos 0 ≤ℤ x) (sym (phase_rise rows made table basis column r)) (product_at_least_0 _ _ (rest_at_least_0 rows made table basis column r) (above_is_some _ (phase_den rows made table basis column r)))))
   where
     between : (x : ℤ) → x ≤ℤ pos 0 → pos 0 ≤ℤ x → x ≡ pos 0
     between x p q = omega (arith, ints)
@@ -172,10 +168,7 @@ direction rows table basis column c = unsigned_abs (ray_point rows table basis c
 
 same_direction : (rows : Rows) (made : ℕ) (table : List FracRow) (basis : List ℕ) (column : ℕ) → IsRay rows made table basis column → (c : ℕ) → pos (direction rows table basis column c) ≡ ray_point rows table basis column c
 unfolding direction
-same_direction rows made table basis column r c = same _ (ray_at_least_0 rows made table basis column r c)
-  where
-    same : (x : ℤ) → pos 0 ≤ℤ x → pos (unsigned_abs x) ≡ x
-    same x h = omega (arith, ints)
+same_direction rows made table basis column r c = size_is _ (ray_at_least_0 rows made table basis column r c)
 
 direction_is : (rows : Rows) (made : ℕ) (table : List FracRow) (basis : List ℕ) (column : ℕ) → IsRay rows made table basis column → IsDirection rows column (direction rows table basis column)
 unfolding line_sum cost_sum
@@ -191,10 +184,7 @@ direction_is rows made table basis column r = record {
     each : (line : ℕ) → line < length rows.lines → sum_below_ℤ (λ c. entry rows line c *ℤ pos (direction rows table basis column c)) rows.columns ≡ entry rows line rows.columns *ℤ pos 0
     each line lt =
         sum_below_ℤ-same _ (λ c. entry rows line c *ℤ ray_point rows table basis column c) rows.columns (λ c real. ap (λ v. entry rows line c *ℤ v) (same_direction rows made table basis column r c))
-        ∙ nothing _ _ (identity_is_0 rows made table basis column line r lt) ∙ (ray_meets rows made table basis column r).each line lt
-      where
-        nothing : (a b : ℤ) → b ≡ pos 0 → a ≡ a +ℤ b
-        nothing a b e = omega (arith, ints)
+        ∙ nothing_added _ _ (identity_is_0 rows made table basis column line r lt) ∙ (ray_meets rows made table basis column r).each line lt
 
     same_cost : point_cost rows (direction rows table basis column) ≡ cost_sum rows (ray_point rows table basis column)
     same_cost = sum_below_ℤ-same _ _ rows.columns (λ c real. ap (λ v. get_or rows.costs c (pos 0) *ℤ v) (same_direction rows made table basis column r c))

@@ -10,6 +10,8 @@ use Rattle.sums.proofs.Integers.{one-*ℤ, neg_ℤ-*ℤ, *ℤ-neg_ℤ, -ℤ-*ℤ
 use Rattle.sums.proofs.WholeSums.{sum_below_ℤ-same, sum_below_ℤ--ℤ, *ℤ-sum_below_ℤ}
 use Rattle.sums.proofs.WholeSwaps.{where_true, sum_below_ℤ-one, sum_below_ℤ-zero}
 use Rattle.sums.proofs.WholeTerms.{*ℤ-where_true, sum_below_ℤ-neg}
+use Rattle.sums.proofs.Naturals.{past_is_other}
+use Rattle.sums.proofs.Sizes.{from_no_difference}
 use Rattle.frac_row.specs.declared.row.FracRow.{FracRow}
 use Rattle.frac_row.specs.Row.{number_of}
 use Rattle.row_store.specs.declared.problem.Rows.{Rows}
@@ -42,11 +44,8 @@ real_total f rows column lt =
 
 no_total : (f : ℕ → ℤ) (rows : Rows) (column : ℕ) → rows.columns ≤ column → sum_below_ℤ (λ c. f c *ℤ column_point rows column c) rows.columns ≡ pos 0
 no_total f rows column ge =
-    sum_below_ℤ-same _ (λ c. pos 0) rows.columns (λ c less. real_term f rows column c less ∙ cond-false (column == c) (f c) (pos 0) (ne_eqb column c (λ e. apart column c rows.columns ge less e)))
+    sum_below_ℤ-same _ (λ c. pos 0) rows.columns (λ c less. real_term f rows column c less ∙ cond-false (column == c) (f c) (pos 0) (ne_eqb column c (λ e. past_is_other column c rows.columns ge less e)))
     ∙ sum_below_ℤ-zero rows.columns
-  where
-    apart : (m c n : ℕ) → n ≤ m → c < n → m ≡ c → ⊥
-    apart m c n p q e = omega arith
 
 identity_point : (rows : Rows) (column line : ℕ) → column_point rows column (rows.columns + line) ≡ neg_ℤ (entry rows line column)
 unfolding column_point
@@ -142,10 +141,7 @@ run_reads_off rows made table basis h = record { lines = λ row column lt le. at
 
     at_line : (row column : ℕ) → row < length rows.lines → column ≤ rows.columns → amount_at table rows.columns row column ≡ weighed rows (identity_at table rows.columns row) column
     at_line row column lt le =
-        equal _ _ (sym (column_surplus rows table basis row column t le) ∙ line_kept rows made table basis (column_point rows column) (column_scale rows.columns column) row h (column_meets rows column le) lt)
-      where
-        equal : (a b : ℤ) → a -ℤ b ≡ pos 0 → a ≡ b
-        equal a b e = omega (arith, ints)
+        from_no_difference _ _ (sym (column_surplus rows table basis row column t le) ∙ line_kept rows made table basis (column_point rows column) (column_scale rows.columns column) row h (column_meets rows column le) lt)
 
     at_phase : (column : ℕ) → column ≤ rows.columns → amount_at table rows.columns (phase_row table) column ≡ weighed rows (λ line. identity_at table rows.columns (phase_row table) line -ℤ den_at table (phase_row table)) column
     at_phase column le =

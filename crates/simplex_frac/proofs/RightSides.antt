@@ -6,6 +6,8 @@ use Rattle.std.proofs.lemmas.Bool.{cases_eq}
 use lib.IntN.{*ℤ_comm}
 use Rattle.sums.proofs.Integers.{*ℤ_assoc, *ℤ_left_comm, *ℤ--ℤ, *ℤ-neg_ℤ}
 use Rattle.sums.proofs.Signs.{product_at_least_0, factor_at_least_0}
+use Rattle.sums.proofs.Sizes.{above_is_some, opposite_some}
+use Rattle.sums.proofs.Tests.{some_is}
 use Rattle.frac_row.specs.declared.row.FracRow.{FracRow}
 use Rattle.frac_row.specs.Row.{width_of}
 use Rattle.row_store.specs.declared.problem.Rows.{Rows}
@@ -32,11 +34,8 @@ record AreKept (rows : Rows) (table : List FracRow) : Type 0 where
 side_stays : (by own other p q side pivot_side new : ℤ) → pos 0 <ℤ by → pos 0 <ℤ own → pos 0 <ℤ p → by *ℤ new ≡ (own *ℤ side) -ℤ (other *ℤ pivot_side) → own *ℤ q ≡ other *ℤ p
     → (pivot_side *ℤ q) ≤ℤ (side *ℤ p) → pos 0 ≤ℤ new
 side_stays by own other p q side pivot_side new by_positive own_positive some e clears le =
-    factor_at_least_0 by new by_positive (factor_at_least_0 p (by *ℤ new) some (moved _ _ multiple (product_at_least_0 own ((side *ℤ p) -ℤ (pivot_side *ℤ q)) (at_least own own_positive) (difference _ _ le))))
+    factor_at_least_0 by new by_positive (factor_at_least_0 p (by *ℤ new) some (moved _ _ multiple (product_at_least_0 own ((side *ℤ p) -ℤ (pivot_side *ℤ q)) (above_is_some own own_positive) (difference _ _ le))))
   where
-    at_least : (x : ℤ) → pos 0 <ℤ x → pos 0 ≤ℤ x
-    at_least x h = omega (arith, ints)
-
     difference : (x y : ℤ) → x ≤ℤ y → pos 0 ≤ℤ (y -ℤ x)
     difference x y h = omega (arith, ints)
 
@@ -59,15 +58,9 @@ side_stays by own other p q side pivot_side new by_positive own_positive some e 
 -- a number of at most 0 in the column is never a bound
 no_bound : (p q side pivot_side : ℤ) → pos 0 <ℤ p → q ≤ℤ pos 0 → pos 0 ≤ℤ side → pos 0 ≤ℤ pivot_side → (pivot_side *ℤ q) ≤ℤ (side *ℤ p)
 no_bound p q side pivot_side some none s t =
-    let below : pos 0 ≤ℤ (pivot_side *ℤ neg_ℤ q) = product_at_least_0 pivot_side (neg_ℤ q) t (opposite q none) in
-    let above : pos 0 ≤ℤ (side *ℤ p) = product_at_least_0 side p s (at_least p some) in
+    let below : pos 0 ≤ℤ (pivot_side *ℤ neg_ℤ q) = product_at_least_0 pivot_side (neg_ℤ q) t (opposite_some q none) in
+    let above : pos 0 ≤ℤ (side *ℤ p) = product_at_least_0 side p s (above_is_some p some) in
     omega (arith, ints, below, above, *ℤ-neg_ℤ pivot_side q)
-  where
-    opposite : (x : ℤ) → x ≤ℤ pos 0 → pos 0 ≤ℤ neg_ℤ x
-    opposite x h = omega (arith, ints)
-
-    at_least : (x : ℤ) → pos 0 <ℤ x → pos 0 ≤ℤ x
-    at_least x h = omega (arith, ints)
 
 -- ---- one pivot more
 record IsLeaving (rows : Rows) (table : List FracRow) (basis : List ℕ) (row column : ℕ) : Type 0 where
@@ -108,9 +101,6 @@ sides_next rows table basis row column l k = record { each = λ line lt. elim (c
 first_sides : (rows : Rows) → AreRightSidesAtLeast0 rows → AreKept rows (first_tableau (first_table rows) rows.columns).table
 unfolding first_tableau
 first_sides rows h = record { each = λ line lt. subst (λ x. pos 0 ≤ℤ x) (sym (right_first rows line (omega arith) ∙ amount_line rows line rows.columns lt)) (h.each line lt) }
-
-some_is : {X : Type 0} (x y : X) → Some x ≡ Some y → x ≡ y
-some_is x y e = cc
 
 sides_at : (rows : Rows) (made : ℕ) (now : Tableau) → IsProblem rows → AreRightSidesAtLeast0 rows → stage (first_table rows) rows.columns made ≡ Some now → AreKept rows now.table
 sides_at rows zero now p h e = subst (λ t. AreKept rows t.table) (some_is _ _ e) (first_sides rows h)

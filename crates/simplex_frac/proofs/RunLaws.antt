@@ -4,6 +4,7 @@ use Rattle.std.specs.Prelude.{◌↔◌, option_and_then}
 use lib.IntN.{*ℤ_comm}
 use Rattle.sums.proofs.Places.{length-list_below}
 use Rattle.sums.proofs.Integers.{*ℤ_assoc, *ℤ_left_comm, *ℤ_cancel}
+use Rattle.sums.proofs.Tests.{none_some, some_is}
 use Rattle.frac_row.specs.declared.row.FracRow.{FracRow}
 use Rattle.row_store.specs.declared.error.Place.{Place}
 use Rattle.row_store.specs.Table.{row_at, height_of, columns_of, HasColumns, IsTable}
@@ -31,9 +32,6 @@ pub record IsStep (first : List FracRow) (columns pivots : ℕ) (now : Tableau) 
 pub stage_step : (first : List FracRow) (columns pivots : ℕ) (now : Tableau) → stage first columns (suc pivots) ≡ Some now → IsStep first columns pivots now
 stage_step first columns pivots now e = from_before (stage first columns pivots) refl e
   where
-    none_some : {X : Type 0} {x : X} → None ≡ Some x → ⊥
-    none_some e = cc
-
     by_growth : (before : Tableau) (row column : ℕ) (o : Option Place) → pivot_growth before.table row column ≡ o → stage first columns pivots ≡ Some before → turn before columns ≡ Pivot row column → unless_outgrown before row column o ≡ Some now → IsStep first columns pivots now
     by_growth before row column None g s t e = record { before = before; row = row; column = column; reached = s; turns = t; fits = g; is = cc }
     by_growth before row column (Some place) g s t e = absurd (none_some e)
@@ -66,9 +64,6 @@ step_shape first columns pivots now s k =
       height = length-pivoted s.before.table s.row s.column ∙ k.height;
       basis = length-set s.before.basis s.row s.column ∙ k.basis;
     })
-
-some_is : {X : Type 0} (x y : X) → Some x ≡ Some y → x ≡ y
-some_is x y e = cc
 
 pub run_keeps_shape : RunKeepsShape
 run_keeps_shape first columns zero now is shape e = first_shape first columns now is shape (some_is _ _ e)

@@ -1,9 +1,9 @@
 -- What the rows of each table of the run come to at a point.
-use Rattle.std.proofs.Common.{◌≡◌, ℕ, ◌+◌, ◌-◌, ◌<◌, length, List, ℤ, pos, ◌+ℤ◌, ◌-ℤ◌, ◌*ℤ◌, refl, sym, ◌∙◌, ap, subst, arith}
+use Rattle.std.proofs.Common.{◌≡◌, ℕ, ◌+◌, ◌-◌, ◌<◌, length, List, ℤ, pos, ◌+ℤ◌, ◌*ℤ◌, refl, sym, ◌∙◌, ap, subst, arith}
 use Rattle.std.specs.Prelude.{◌↔◌}
-use Rattle.std.proofs.lemmas.Int.{ints}
-use lib.IntN.{*ℤ_comm, zero-*ℤ}
-use Rattle.sums.proofs.Integers.{one-*ℤ}
+use lib.IntN.{zero-*ℤ}
+use Rattle.sums.proofs.Integers.{times_one}
+use Rattle.sums.proofs.Sizes.{from_no_difference, no_difference}
 use Rattle.frac_row.specs.declared.row.FracRow.{FracRow}
 use Rattle.row_store.specs.declared.problem.Rows.{Rows}
 use Rattle.row_store.specs.Table.{row_at, height_of, columns_of, phase_row, cost_row}
@@ -66,19 +66,13 @@ meets_lines rows point scale h line lt =
     let below : line < length rows.lines = subst (λ n. line < n) (first_height rows) lt in
     ap (λ k. surplus (row_at (first_table rows) line) k point scale) (first_last rows) ∙ surplus_line rows line point scale below
     ∙ no_difference _ _ (h.each line below)
-  where
-    no_difference : (a b : ℤ) → a ≡ b → a -ℤ b ≡ pos 0
-    no_difference a b e = omega (arith, ints)
 
 meets_first : (rows : Rows) (point : ℕ → ℤ) (scale : ℤ) → MeetsLines (first_table rows) point scale → MeetsFirst rows point scale
 meets_first rows point scale h = record { each = λ line lt. met line lt }
   where
-    equal : (a b : ℤ) → a -ℤ b ≡ pos 0 → a ≡ b
-    equal a b e = omega (arith, ints)
-
     met : (line : ℕ) → line < length rows.lines → line_sum rows point line +ℤ point (rows.columns + line) ≡ entry rows line rows.columns *ℤ scale
     met line lt =
-        equal (line_sum rows point line +ℤ point (rows.columns + line)) (entry rows line rows.columns *ℤ scale)
+        from_no_difference (line_sum rows point line +ℤ point (rows.columns + line)) (entry rows line rows.columns *ℤ scale)
         (sym (surplus_line rows line point scale lt) ∙ ap (λ k. surplus (row_at (first_table rows) line) k point scale) (sym (first_last rows)) ∙ h line (subst (λ n. line < n) (sym (first_height rows)) lt))
 
 -- ---- .. and of the table that the run has
@@ -103,9 +97,6 @@ kept rows made table basis point scale row h met lt =
     (subst (λ n. row < n) (sym (length-first_table rows)) lt) in
     sym (times_one (surplus (row_at table row) (rows.columns + length rows.lines) point scale)) ∙ ap (λ x. surplus (row_at table row) (rows.columns + length rows.lines) point scale *ℤ x) (sym one)
     ∙ subst (λ k. (surplus (row_at table row) k point scale *ℤ (row_at first row).den) ≡ (surplus (row_at first row) k point scale *ℤ den_at table row)) (first_last rows) same
-  where
-    times_one : (a : ℤ) → a *ℤ pos 1 ≡ a
-    times_one a = *ℤ_comm a (pos 1) ∙ one-*ℤ a
 
 pub line_kept : (rows : Rows) (made : ℕ) (table : List FracRow) (basis : List ℕ) (point : ℕ → ℤ) (scale : ℤ) (row : ℕ) → IsReached rows made table basis → MeetsFirst rows point scale → row < length rows.lines
     → surplus (row_at table row) (rows.columns + length rows.lines) point scale ≡ pos 0

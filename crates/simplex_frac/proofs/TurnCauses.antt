@@ -3,6 +3,7 @@ use Rattle.std.proofs.Common.{◌≡◌, ℕ, ◌<◌, Bool, true, false, ◌&&�
 use Rattle.std.proofs.lemmas.Int.{ints}
 use Rattle.std.proofs.lemmas.Bool.{eqb-true, or_cases, or_parts, and_parts, both_ways}
 use Rattle.sums.proofs.Places.{nothing_at}
+use Rattle.sums.proofs.Sizes.{zero_size}
 use Rattle.frac_row.specs.declared.row.FracRow.{FracRow}
 use Rattle.row_store.specs.Table.{number_at, phase_row, cost_row, right_side}
 use Rattle.row_store.specs.Choice.{is_negative, improves, is_improving, entering, leaving}
@@ -47,15 +48,12 @@ best_ends now columns e = by_entering (entering now.table columns) refl e
     by_leaving entered None q = cc
     by_leaving entered (Some left) q = cc
 
-    size_zero : (q : ℤ) → unsigned_abs q ≡ 0 → q ≡ pos 0
-    size_zero q e = omega (arith, ints)
-
     by_test : (b : Bool) → cond b Best NoPoint ≡ Best → b ≡ true
     by_test true q = refl
     by_test false q = cc
 
     by_entering : (o : Option ℕ) → entering now.table columns ≡ o → turn_by now o ≡ Best → EndsBest now columns
-    by_entering None p q = record { none = p; met = size_zero _ (eqb-true _ 0 (by_test _ q)) }
+    by_entering None p q = record { none = p; met = zero_size _ (eqb-true _ 0 (by_test _ q)) }
     by_entering (Some entered) p q = absurd (by_leaving entered (leaving now.table now.basis entered) q)
 
 -- no column enters, and it is not

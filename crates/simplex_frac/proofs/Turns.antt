@@ -1,7 +1,7 @@
 -- What the run does at a tableau, by the choices there.
 use Rattle.std.proofs.Common.{◌≡◌, ℕ, ◌+◌, ◌-◌, ◌<◌, ◌≢◌, Bool, true, false, cond, eqb, ℤ, pos, ◌<ℤ◌, List, length, Option, Some, None, unsigned_abs, refl, sym, ◌∙◌, ap, subst, arith}
-use Rattle.std.proofs.lemmas.Int.{ints}
 use Rattle.std.proofs.lemmas.Bool.Decides.{nat_tests}
+use Rattle.sums.proofs.Sizes.{zero_size}
 use Rattle.frac_row.specs.declared.row.FracRow.{FracRow}
 use Rattle.row_store.specs.Table.{HasColumns, number_at, height_of, columns_of, phase_row, right_side}
 use Rattle.row_store.specs.Choice.{entering, leaving}
@@ -13,14 +13,11 @@ use Rattle.simplex_frac.specs.declared.turn.Turn.TheVariants.{Best, NoPoint, Ray
 when_zero : (q : ℤ) (x y : Turn) → q ≡ pos 0 → cond (eqb (unsigned_abs q) 0) x y ≡ x
 when_zero q x y e = rw e refl
 
-size_zero : (q : ℤ) → unsigned_abs q ≡ 0 → q ≡ pos 0
-size_zero q e = omega (arith, ints)
-
 when_nonzero_size : (n : ℕ) (x y : Turn) → n ≢ 0 → cond (eqb n 0) x y ≡ y
 when_nonzero_size n x y ne = grind (arith, nat_tests)
 
 when_nonzero : (q : ℤ) (x y : Turn) → q ≢ pos 0 → cond (eqb (unsigned_abs q) 0) x y ≡ y
-when_nonzero q x y ne = when_nonzero_size (unsigned_abs q) x y (λ e. ne (size_zero q e))
+when_nonzero q x y ne = when_nonzero_size (unsigned_abs q) x y (λ e. ne (zero_size q e))
 
 pub turn_best : (now : Tableau) (columns : ℕ) → None ≡ entering now.table columns → right_side now.table (phase_row now.table) ≡ pos 0 → Best ≡ turn now columns
 unfolding turn

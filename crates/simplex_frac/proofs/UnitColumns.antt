@@ -1,10 +1,12 @@
 -- The basic columns of each table of the run are unit columns.
-use Rattle.std.proofs.Common.{◌≡◌, ℕ, zero, suc, ◌+◌, ◌-◌, ◌<◌, ◌≢◌, length, get_or, set, List, Some, pos, ◌*ℤ◌, ◌<ℤ◌, sym, ◌∙◌, ap, subst, inl, inr, arith, get_or-set_same, get_or-set_other}
+use Rattle.std.proofs.Common.{◌≡◌, ℕ, zero, suc, ◌+◌, ◌<◌, ◌≢◌, length, get_or, set, List, Some, pos, ◌*ℤ◌, ◌<ℤ◌, sym, ◌∙◌, ap, subst, inl, inr, arith, get_or-set_same, get_or-set_other}
 use Rattle.std.proofs.lemmas.Int.{ints}
 use Rattle.std.proofs.lemmas.Bool.{cases_eq}
 use lib.IntN.{*ℤ-zero}
 use Rattle.sums.proofs.Integers.{*ℤ_cancel, zero_factor}
 use Rattle.sums.proofs.Places.{get_or-list_below}
+use Rattle.sums.proofs.Naturals.{place_behind, sum_less_first}
+use Rattle.sums.proofs.Tests.{some_is}
 use Rattle.frac_row.specs.declared.row.FracRow.{FracRow}
 use Rattle.frac_row.specs.Row.{number_of, width_of}
 use Rattle.row_store.specs.declared.problem.Rows.{Rows}
@@ -55,18 +57,12 @@ first_units rows = record { within = λ line lt. within line lt; own = λ line l
     own : (line : ℕ) → line < length rows.lines → number_at (first_table rows) line (get_or (first_tableau (first_table rows) rows.columns).basis line 0) ≡ den_at (first_table rows) line
     own line lt =
         ap (number_at (first_table rows) line) (basic line lt) ∙ number_first rows line (rows.columns + line) (omega arith) (omega arith)
-        ∙ number_one rows line (rows.columns + line) (omega arith) (omega arith) (back rows.columns line) ∙ sym (ap (λ r. r.den) (row_at-first_table rows line (omega arith)))
-      where
-        back : (m n : ℕ) → m + n - m ≡ n
-        back m n = omega arith
+        ∙ number_one rows line (rows.columns + line) (omega arith) (omega arith) (sum_less_first rows.columns line) ∙ sym (ap (λ r. r.den) (row_at-first_table rows line (omega arith)))
 
     others : (line row : ℕ) → line < length rows.lines → row < length rows.lines + 2 → row ≢ line → number_at (first_table rows) row (get_or (first_tableau (first_table rows) rows.columns).basis line 0) ≡ pos 0
     others line row lt below apart =
         ap (number_at (first_table rows) row) (basic line lt) ∙ number_first rows row (rows.columns + line) below (omega arith)
-        ∙ number_zero rows row (rows.columns + line) (omega arith) (omega arith) (λ e. apart (forth rows.columns line row e))
-      where
-        forth : (m n k : ℕ) → m + n - m ≡ k → k ≡ n
-        forth m n k e = omega arith
+        ∙ number_zero rows row (rows.columns + line) (omega arith) (omega arith) (λ e. apart (place_behind rows.columns line row e))
 
 -- ---- one pivot more
 -- what a pivot needs
@@ -133,8 +129,6 @@ units_next rows table basis row column p = record { within = λ line lt. within 
     ]
 
 -- ---- every stage
-some_is : {X : Type 0} (x y : X) → Some x ≡ Some y → x ≡ y
-some_is x y e = cc
 
 units_at : (rows : Rows) (made : ℕ) (now : Tableau) → IsProblem rows → stage (first_table rows) rows.columns made ≡ Some now → HasUnitColumns rows now.table now.basis
 units_at rows zero now h e = subst (λ t. HasUnitColumns rows t.table t.basis) (some_is _ _ e) (first_units rows)

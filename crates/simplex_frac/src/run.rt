@@ -2,7 +2,7 @@ ghost use Rattle.std.specs.Prelude.{◌≡◌, ◌+◌, ◌<◌, ◌^◌, length
 ghost use Rattle.sums.specs.Places.{list_below};
 ghost use Rattle.row_store.specs.Table.{HasColumns};
 ghost use Rattle.simplex_frac.specs.Outcomes.{IsOutcome, IsStage};
-ghost use Rattle.simplex_frac.specs.Ends.{end_of};
+ghost use Rattle.simplex_frac.specs.Ends.{IsRefused, end_of};
 
 use crate::outcome::Outcome;
 use crate::turn::{Turn, next_turn};
@@ -35,14 +35,7 @@ pub fn solve<R: RowStore>(
         };
         match store.pivot(row, column) {
             Ok(()) => basis[row as usize] = column,
-            Err(PivotError::Grew { row, column }) => {
-                return Ok(Outcome::Grew {
-                    pivots: made,
-                    row,
-                    column,
-                });
-            }
-            Err(PivotError::NoMemory) => return Err(NoMemory),
+            Err(error) => return refused(error, made),
         }
     }
     let turn = next_turn(store, basis.as_slice(), columns);
@@ -71,5 +64,19 @@ fn end(turn: Turn, basis: Vec<u32>, made: u64) -> Outcome
         Turn::NoPoint => Outcome::NoPoint { basis, made },
         Turn::Ray { column } => Outcome::Ray { column },
         Turn::Pivot { .. } => Outcome::Spent { pivots: made },
+    }
+}
+
+/// What comes of a pivot that is refused.
+fn refused(error: PivotError, made: u64) -> Result<Outcome, NoMemory>
+    ensures { IsRefused error made result }
+{
+    match error {
+        PivotError::Grew { row, column } => Ok(Outcome::Grew {
+            pivots: made,
+            row,
+            column,
+        }),
+        PivotError::NoMemory => Err(NoMemory),
     }
 }

@@ -8,6 +8,8 @@ use Rattle.std.proofs.lemmas.Nat.{mod_below}
 use Rattle.std.proofs.lemmas.Bool.{cases_lt}
 use Rattle.std.proofs.lemmas.Bool.Decides.{nat_tests}
 use Rattle.sums.specs.Divisors.{gcd, greatest_divisor, gcd_below}
+use Rattle.sums.proofs.Naturals.{at_most_0}
+use Rattle.sums.proofs.Tests.{no_both}
 
 -- some number is the greatest common divisor
 euclid : (fuel a b : ℕ) → b ≤ fuel → (g : ℕ) × IsGcd a b g
@@ -40,11 +42,8 @@ found a b g (suc n) h some le =
     let divides : suc n ∣ g = h.2 (suc n) (dvd_of_mod-eq-zero (suc n) zeros.0) (dvd_of_mod-eq-zero (suc n) zeros.1) in
     let no_more : suc n ≤ g = le_of_dvd some divides in
     omega arith)
-    (λ t. found a b g n h some (less g n (λ e. different t (subst (λ k. (eqb (a % k) 0 && eqb (b % k) 0) ≡ true) e (both_zero (a % g) (b % g) (mod-eq-zero_of_dvd g h.0) (mod-eq-zero_of_dvd g h.1)))) le))
+    (λ t. found a b g n h some (less g n (λ e. no_both t (subst (λ k. (eqb (a % k) 0 && eqb (b % k) 0) ≡ true) e (both_zero (a % g) (b % g) (mod-eq-zero_of_dvd g h.0) (mod-eq-zero_of_dvd g h.1)))) le))
   where
-    different : {c : Bool} → c ≡ false → c ≡ true → ⊥
-    different p q = cc
-
     less : (g n : ℕ) → (g ≡ suc n → ⊥) → g ≤ suc n → g ≤ n
     less g n ne le = omega arith
 
@@ -116,10 +115,7 @@ gcd_below_each d f (suc n) k h =
 
 -- once it is 1 it stays 1
 pub gcd_below_one : (d : ℕ) (f : ℕ → ℕ) (k n : ℕ) → gcd_below d f k ≡ 1 → k ≤ n → gcd_below d f n ≡ 1
-gcd_below_one d f k zero e le = subst (λ i. gcd_below d f i ≡ 1) (none k le) e
-  where
-    none : (k : ℕ) → k ≤ 0 → k ≡ 0
-    none k le = omega arith
+gcd_below_one d f k zero e le = subst (λ i. gcd_below d f i ≡ 1) (at_most_0 k le) e
 gcd_below_one d f k (suc n) e le =
     elim (cases_lt k (suc n)) [
       | inl lt ↦ ap (λ g. gcd g (f n)) (gcd_below_one d f k n e (omega arith)) ∙ gcd-one (f n)

@@ -1,7 +1,9 @@
 -- Laws of the product of whole numbers that std does not have.
-use Rattle.std.proofs.Common.{◌≡◌, ℕ, zero, suc, ◌*◌, ◌<◌, refl, sym, ◌∙◌, ap, arith}
+use Rattle.std.proofs.Common.{◌≡◌, ℕ, zero, suc, ◌*◌, refl, sym, ◌∙◌, ap, arith}
 use Rattle.std.specs.Prelude.{ℤ, pos, negsuc, ◌+ℤ◌, ◌-ℤ◌, ◌*ℤ◌, ◌<ℤ◌}
 use Rattle.std.proofs.lemmas.Int.{ints}
+use Rattle.sums.proofs.Naturals.{positive_times}
+use Rattle.sums.proofs.Sizes.{from_no_difference, pos_above}
 use lib.IntN.{pred_ℤ, neg_ℤ, suc_ℤ-*ℤ, pred_ℤ-*ℤ, suc_ℤ-+ℤ, pred_ℤ-+ℤ, +ℤ_idl, zero-*ℤ, *ℤ_comm, +ℤ_invr}
 
 -- the sum of two numbers times a third
@@ -50,22 +52,14 @@ one-*ℤ a = suc_ℤ-*ℤ (pos zero) a ∙ omega (arith, ints, zero-*ℤ a)
 pub *ℤ_left_comm : (a b c : ℤ) → a *ℤ (b *ℤ c) ≡ b *ℤ (a *ℤ c)
 *ℤ_left_comm a b c = sym (*ℤ_assoc a b c) ∙ ap (λ x. x *ℤ c) (*ℤ_comm a b) ∙ *ℤ_assoc b a c
 
-mul_pos : (a b : ℕ) → 0 < a → 0 < b → 0 < a * b
-mul_pos (suc a) (suc b) p q = omega arith
-mul_pos zero b p q = absurd (omega arith)
-mul_pos (suc a) zero p q = absurd (omega arith)
-
-lt_ℤ_pos : (n : ℕ) → 0 < n → pos 0 <ℤ pos n
-lt_ℤ_pos n h = omega (arith, ints)
+pub times_one : (a : ℤ) → a *ℤ pos 1 ≡ a
+times_one a = *ℤ_comm a (pos 1) ∙ one-*ℤ a
 
 -- a product of numbers above 0 is above 0
 pub positive_product : (a b : ℤ) → pos 0 <ℤ a → pos 0 <ℤ b → pos 0 <ℤ (a *ℤ b)
-positive_product (pos a) (pos b) p q = lt_ℤ_pos (a * b) (mul_pos a b (omega (arith, ints)) (omega (arith, ints)))
+positive_product (pos a) (pos b) p q = pos_above (a * b) (positive_times a b (omega (arith, ints)) (omega (arith, ints)))
 positive_product (pos a) (negsuc b) p q = absurd (omega (arith, ints))
 positive_product (negsuc a) b p q = absurd (omega (arith, ints))
-
-from_no_difference : (a b : ℤ) → a -ℤ b ≡ pos 0 → a ≡ b
-from_no_difference a b e = omega (arith, ints)
 
 no_zero_product : (m n : ℕ) → pos 0 ≡ pos (suc m * suc n) → ⊥
 no_zero_product m n e = omega (arith, ints)

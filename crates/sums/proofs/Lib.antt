@@ -1,5 +1,6 @@
 pub mod Sums
 pub mod Counts
+pub mod OneChanged
 pub mod Maxima
 pub mod Division
 pub mod Divisors
@@ -13,3 +14,6 @@ pub mod WholeSwaps
 pub mod Products
 pub mod WholeTerms
 pub mod Signs
+pub mod Tests
+pub mod Naturals
+pub mod Sizes

@@ -2,6 +2,7 @@
 use Rattle.std.proofs.Common.{◌≡◌, ℕ, zero, suc, ◌+◌, ◌<◌, ◌≤◌, ◌≢◌, List, [], ◌∷◌, ◌++◌, length, get_or, set, Option, Some, None, refl, sym, ◌∙◌, ap, subst, arith, inl, inr, length-set, get_or-set_same, get_or-set_other}
 use Rattle.std.proofs.lemmas.List.FromFn.{fill_by_all, length-map-range_with_len, get_or-map-range_with_len, map-range_with_len_more}
 use Rattle.std.proofs.lemmas.Bool.{cases_lt}
+use Rattle.sums.proofs.Naturals.{at_most_0, none_below_0}
 use Rattle.sums.specs.Places.{list_below, first_below, or_else, IsFilledBelow}
 
 pub length-list_below : {X : Type 0} (f : ℕ → X) (n : ℕ) → length (list_below f n) ≡ n
@@ -11,10 +12,7 @@ pub get_or-list_below : {X : Type 0} (f : ℕ → X) (n k : ℕ) (d : X) → k <
 get_or-list_below f n k d h = get_or-map-range_with_len f 0 n k k d h (omega arith)
 
 pub filled_none : {X : Type 0} (d : X) (f : ℕ → X) (old : List X) → IsFilledBelow d f old old 0
-filled_none d f old = record { same_length = refl; filled = λ k h. absurd (none k h); kept = λ k h. refl }
-  where
-    none : (k : ℕ) → k < 0 → ⊥
-    none k h = omega arith
+filled_none d f old = record { same_length = refl; filled = λ k h. absurd (none_below_0 k h); kept = λ k h. refl }
 
 pub filled_more : {X : Type 0} (d : X) (f : ℕ → X) (old new : List X) (n : ℕ) (x : X) → IsFilledBelow d f old new n → n < length old → x ≡ f n → IsFilledBelow d f old (set new n x) (n + 1)
 filled_more {X} d f old new n x h lt e = record {
@@ -50,10 +48,7 @@ or_else-some None other x e = cc
 
 -- what is first below k is first below any greater bound
 pub first_kept : {X : Type 0} (f : ℕ → Option X) (k n : ℕ) (x : X) → first_below f k ≡ Some x → k ≤ n → first_below f n ≡ Some x
-first_kept f k zero x e le = subst (λ i. first_below f i ≡ Some x) (none k le) e
-  where
-    none : (k : ℕ) → k ≤ 0 → k ≡ 0
-    none k le = omega arith
+first_kept f k zero x e le = subst (λ i. first_below f i ≡ Some x) (at_most_0 k le) e
 first_kept f k (suc n) x e le =
     elim (cases_lt k (suc n)) [
       | inl lt ↦ or_else-some _ _ x (first_kept f k n x e (omega arith))

@@ -1,5 +1,6 @@
 -- Summation by parts (Abel): counts that grow through the minutes, priced at the minutes in which they grow.
 use Rattle.std.proofs.Common.{◌≡◌, ℕ, zero, suc, ◌+◌, ◌-◌, ◌<◌, ◌≤◌, Bool, true, false, if◌then◌else◌, ◌&&◌, nat_le, ℤ, pos, ◌+ℤ◌, ◌*ℤ◌, ◌≤ℤ◌, refl, sym, ◌∙◌, ap, arith}
+use mathlib.Core.Bool.{false≢true}
 use Rattle.std.proofs.lemmas.Bool.Decides.{nat_tests}
 use Rattle.std.proofs.lemmas.Int.{ints}
 use lib.IntN.{zero-*ℤ}
@@ -31,10 +32,7 @@ share_next : (before now : Bool) (minute m weight : ℕ) (price : ℕ → ℤ) �
     → where_true now (pos weight *ℤ price minute) +ℤ (pos (if before then weight else 0) *ℤ price (suc m))
     ≡ where_true before (pos weight *ℤ price minute) +ℤ (pos (if now then weight else 0) *ℤ price (suc m))
 share_next true true minute m weight price stays at = refl
-share_next true false minute m weight price stays at = absurd (never (stays refl))
-  where
-    never : false ≡ true → ⊥
-    never e = cc
+share_next true false minute m weight price stays at = absurd (false≢true (stays refl))
 share_next false true minute m weight price stays at = rw (at refl refl) (omega (arith, ints, zero-*ℤ (price (suc m))))
 share_next false false minute m weight price stays at = refl
 

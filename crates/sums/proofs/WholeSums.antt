@@ -1,8 +1,8 @@
 -- Laws of sums of whole numbers below a bound.
-use Rattle.std.proofs.Common.{◌≡◌, ℕ, zero, suc, ◌<◌, ℤ, ◌+ℤ◌, ◌-ℤ◌, ◌*ℤ◌, refl, ◌∙◌, ap, arith}
+use Rattle.std.proofs.Common.{◌≡◌, ℕ, zero, suc, ◌<◌, ℤ, pos, ◌+ℤ◌, ◌-ℤ◌, ◌*ℤ◌, refl, ◌∙◌, ap, arith}
 use Rattle.std.proofs.lemmas.Int.{ints}
 use lib.IntN.{*ℤ-zero}
-use Rattle.sums.specs.Below.{sum_below_ℤ}
+use Rattle.sums.specs.Below.{sum_below, sum_below_ℤ}
 use Rattle.sums.proofs.Integers.{*ℤ-+ℤ}
 
 -- sums of equal terms
@@ -15,6 +15,11 @@ sum_below_ℤ-same f g (suc n) h =
 pub *ℤ-sum_below_ℤ : (c : ℤ) (f : ℕ → ℤ) (n : ℕ) → c *ℤ sum_below_ℤ f n ≡ sum_below_ℤ (λ k. c *ℤ f k) n
 *ℤ-sum_below_ℤ c f zero = *ℤ-zero c
 *ℤ-sum_below_ℤ c f (suc n) = *ℤ-+ℤ c (sum_below_ℤ f n) (f n) ∙ ap (λ x. x +ℤ (c *ℤ f n)) (*ℤ-sum_below_ℤ c f n)
+
+-- a sum of numbers from 0 up
+pub sum_below_ℤ-pos : (f : ℕ → ℕ) (n : ℕ) → sum_below_ℤ (λ k. pos (f k)) n ≡ pos (sum_below f n)
+sum_below_ℤ-pos f zero = refl
+sum_below_ℤ-pos f (suc n) = omega (arith, ints, sum_below_ℤ-pos f n)
 
 -- a sum of differences
 pub sum_below_ℤ--ℤ : (f g : ℕ → ℤ) (n : ℕ) → sum_below_ℤ (λ k. f k -ℤ g k) n ≡ sum_below_ℤ f n -ℤ sum_below_ℤ g n

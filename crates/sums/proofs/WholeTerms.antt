@@ -4,19 +4,14 @@ use Rattle.std.proofs.lemmas.Bool.{cases_lt}
 use Rattle.std.proofs.lemmas.Int.{ints}
 use lib.IntN.{neg_ℤ, *ℤ-zero, *ℤ_comm}
 use Rattle.sums.specs.Below.{sum_below_ℤ}
+use Rattle.sums.proofs.Naturals.{plus_0, plus_suc}
 use Rattle.sums.proofs.WholeSums.{sum_below_ℤ-same, *ℤ-sum_below_ℤ}
 use Rattle.sums.proofs.WholeSwaps.{where_true, sum_below_ℤ-one, sum_below_ℤ-swap}
 
 -- a sum over one stretch and then another
 pub sum_below_ℤ-stretches : (f : ℕ → ℤ) (m n : ℕ) → sum_below_ℤ f (m + n) ≡ sum_below_ℤ f m +ℤ sum_below_ℤ (λ k. f (m + k)) n
-sum_below_ℤ-stretches f m zero = ap (sum_below_ℤ f) (none m) ∙ omega (arith, ints)
-  where
-    none : (m : ℕ) → m + 0 ≡ m
-    none m = omega arith
-sum_below_ℤ-stretches f m (suc n) = ap (sum_below_ℤ f) (one_more m n) ∙ omega (arith, ints, sum_below_ℤ-stretches f m n)
-  where
-    one_more : (m n : ℕ) → m + suc n ≡ suc (m + n)
-    one_more m n = omega arith
+sum_below_ℤ-stretches f m zero = ap (sum_below_ℤ f) (plus_0 m) ∙ omega (arith, ints)
+sum_below_ℤ-stretches f m (suc n) = ap (sum_below_ℤ f) (plus_suc m n) ∙ omega (arith, ints, sum_below_ℤ-stretches f m n)
 
 -- a sum of terms of at least 0
 pub at_least_0 : (f : ℕ → ℤ) (n : ℕ) → ((k : ℕ) → k < n → pos 0 ≤ℤ f k) → pos 0 ≤ℤ sum_below_ℤ f n

@@ -1,7 +1,6 @@
 use Rattle.std.proofs.Common.{◌+◌, ◌*◌, ◌<◌, ap, subst, sym, arith}
-use Rattle.fleet_model.specs.Kept.{kept_by, narrowed}
+use Rattle.fleet_model.specs.Kept.{kept_by, narrowed, pairs_kept}
 use Rattle.fleet_model.specs.Whole.{KeepAllowed}
-use Rattle.lp_rows.specs.Points.{pairs_kept}
 use Rattle.branch_bound.specs.Examined.{IsExamined}
 use Rattle.branch_bound.proofs.SplitTrees.{allowed_part, allowed_rows, first_falls, pair_of_step, second_falls, split_result}
 use Rattle.branch_bound.proofs.branching.+branch.Goals as goal

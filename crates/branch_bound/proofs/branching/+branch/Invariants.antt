@@ -1,6 +1,5 @@
 use Rattle.std.proofs.Common.{◌+◌, ◌*◌}
-use Rattle.fleet_model.specs.Kept.{kept_by, narrowed}
-use Rattle.lp_rows.specs.Points.{pairs_kept}
+use Rattle.fleet_model.specs.Kept.{kept_by, narrowed, pairs_kept}
 use Rattle.branch_bound.proofs.branching.+branch.Given as goal
 
 -- each call is of fewer kept pairs: a subproblem, its split, a part

@@ -1,7 +1,7 @@
 use Rattle.std.proofs.Common.{List, ◌++◌}
-use Rattle.fleet_model.specs.Kept.{all_pairs, kept_by}
+use Rattle.fleet_model.specs.Kept.{all_pairs, kept_by, pairs_kept}
 use Rattle.presolve.specs.Choices.{AreChoices}
-use Rattle.presolve.specs.Removals.{AreRemovals, first_place, pairs_kept}
+use Rattle.presolve.specs.Removals.{AreRemovals, first_place}
 use Rattle.presolve.specs.declared.trims.Trim.{Trim}
 use Rattle.presolve.proofs.removals.trim.Given as goal
 

@@ -2,10 +2,11 @@ use Rattle.std.proofs.Common.{rules, pos, ◌∙◌, sym, subst, ◌<ℤ◌}
 use Rattle.std.proofs.lemmas.Int.{to_z-of_z}
 use mir.Val.{SFits}
 use mir.Syntax.{w128}
+use Rattle.sums.proofs.Sizes.{pos_above}
 use Rattle.frac_row.specs.Outgrown.{IsWithin}
 use Rattle.price_lift.specs.Weights.{lowest_den}
 use Rattle.price_lift.proofs.LeastScales.{lowest_den_positive}
-use Rattle.price_lift.proofs.Quotients.{above_zero, lowest_den_is, lowest_den_within}
+use Rattle.price_lift.proofs.Quotients.{lowest_den_is, lowest_den_within}
 use Rattle.price_lift.proofs.weighing.lowest_den.Goals as goal
 
 pub returns-clause-value : goal.returns-clause-value
@@ -21,7 +22,7 @@ returns-clause-value g c =
 pub returns-clause-positive : goal.returns-clause-positive
 returns-clause-positive g c =
     let table = g.R.RowStore.content c.args.table.now in
-    subst (λ z. pos 0 <ℤ z) (sym (returns-clause-value g c)) (above_zero (lowest_den table c.args.line) (lowest_den_positive table c.args.line (subst (λ z. pos 0 <ℤ z) c.line_den-den.ensures.value c.line_den-den.ensures.positive)))
+    subst (λ z. pos 0 <ℤ z) (sym (returns-clause-value g c)) (pos_above (lowest_den table c.args.line) (lowest_den_positive table c.args.line (subst (λ z. pos 0 <ℤ z) c.line_den-den.ensures.value c.line_den-den.ensures.positive)))
 
 pub returns-clause-within : goal.returns-clause-within
 returns-clause-within g c =

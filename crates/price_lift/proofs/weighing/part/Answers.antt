@@ -4,10 +4,11 @@ use mir.Val.{SFits}
 use mir.Syntax.{w128}
 use Rattle.std.specs.Prelude.{int_div}
 use Rattle.sums.specs.Divisors.{gcd}
+use Rattle.sums.proofs.Sizes.{pos_above}
 use Rattle.price_lift.specs.Parts.{part_of}
 use Rattle.price_lift.specs.Weights.{lowest_den}
 use Rattle.price_lift.proofs.LeastScales.{lowest_den_positive}
-use Rattle.price_lift.proofs.Quotients.{above_zero, lowest_den_is, part_value, same_product, small_product}
+use Rattle.price_lift.proofs.Quotients.{lowest_den_is, part_value, same_product, small_product}
 use Rattle.price_lift.proofs.weighing.part.Given.{Over}
 use Rattle.price_lift.proofs.weighing.part.Goals as goal
 
@@ -22,7 +23,7 @@ quotient-times-requires g c =
     let divided = rw divisor at (simp to_z-of_z at c.quotient.ensures) in
     let is = divided ∙ lowest_den_is table c.args.line c.line_den-den.result c.right_side-number.result c.line_den-den.ensures.value c.right_side-number.ensures.value c.line_den-den.ensures.positive in
     subst (λ z. pos 0 <ℤ z) (sym (to_z-of_z w128 c.quotient.result fq ∙ is))
-    (above_zero (lowest_den table c.args.line) (lowest_den_positive table c.args.line (subst (λ z. pos 0 <ℤ z) c.line_den-den.ensures.value c.line_den-den.ensures.positive)))
+    (pos_above (lowest_den table c.args.line) (lowest_den_positive table c.args.line (subst (λ z. pos 0 <ℤ z) c.line_den-den.ensures.value c.line_den-den.ensures.positive)))
 
 -- the product of the two quotients
 product_is : (g : Over) (c : goal.After-quotient-2 g) → to_z w128 (of_z w128 c.quotient-2.result) *ℤ to_z w128 (of_z w128 c.quotient-times.result) ≡ pos (part_of (g.R.RowStore.content c.args.table.now) (unsigned_abs c.args.scale.now) c.args.line)

@@ -1,0 +1,55 @@
+-- The nights of the turns at a station.
+use Rattle.std.proofs.Common.{◌≡◌, ℕ, ◌<◌, Bool, true, false, if◌then◌else◌, ◌==◌, ◌&&◌, List, length, refl, sym, ◌∙◌, ap, arith}
+use Rattle.sums.specs.Below.{sum_below, count_below}
+use Rattle.sums.proofs.Sums.{sum_below-agree, sum_below-swap, sum_below-zero}
+use Rattle.fleet_model.specs.declared.limits.TheConstants.{MINUTES_PER_DAY, MINUTES_PER_PERIOD}
+use Rattle.fleet_model.specs.declared.parts.Connection.{Connection}
+use Rattle.fleet_model.specs.declared.tables.Tables.{Tables}
+use Rattle.fleet_model.specs.Schedule.{stations_in}
+use Rattle.fleet_model.specs.Use.{stand_of}
+use Rattle.ground_turns.specs.Laws.{NightsAreNeed, NightsAreStands, nights_at, nights_there, stand_by_day, stands_by_day}
+use Rattle.ground_turns.specs.Maps.{IsFitting, turn_at, waiting_at, waits_there}
+use Rattle.ground_turns.specs.Turns.{days_in, departs_at, period_of, ready_at, station_at, waits_at}
+use Rattle.ground_turns.proofs.DayStarts.{day_end, day_starts}
+use Rattle.ground_turns.proofs.Fits.{balances, waiting_is_stand}
+use Rattle.ground_turns.proofs.Rounds.{bit}
+use Rattle.ground_turns.proofs.Waits.{departs_within, ready_within}
+
+-- counts where a test passes
+count_where : (b : Bool) (p : ℕ → Bool) (n : ℕ) → (if b then count_below p n else 0) ≡ count_below (λ j. b && p j) n
+count_where true p n = refl
+count_where false p n = sym (sum_below-zero n)
+
+module _ (t : Tables) (a : List ℕ) (f : ℕ) (turns : List Connection) (s : ℕ) (h : IsFitting t a f turns) where
+  -- the nights of one turn at the station
+  one_turn : (k : ℕ) → k < length turns → nights_there t f turns s k ≡ count_below (λ j. waits_there t f turns s (day_end MINUTES_PER_DAY j) k) (days_in t)
+  one_turn k lt =
+      ap (λ n. if station_at t (turn_at turns k) == s then n else 0)
+      (day_starts MINUTES_PER_DAY (days_in t) MINUTES_PER_PERIOD (ready_at t f (turn_at turns k)) (departs_at t f (turn_at turns k)) (omega arith) refl
+      (ready_within t a f turns h.map k) (departs_within t a f turns h.map k lt))
+      ∙ count_where (station_at t (turn_at turns k) == s) (λ j. waits_at t f (turn_at turns k) (day_end MINUTES_PER_DAY j)) (days_in t)
+
+  nights_wait : nights_at t f turns s ≡ sum_below (λ j. waiting_at t f turns s (day_end MINUTES_PER_DAY j)) (days_in t)
+  nights_wait =
+      sum_below-agree (nights_there t f turns s) (λ k. count_below (λ j. waits_there t f turns s (day_end MINUTES_PER_DAY j) k) (days_in t)) (length turns)
+      (record { each = λ k lt. one_turn k lt })
+      ∙ sum_below-swap (λ k j. bit (waits_there t f turns s (day_end MINUTES_PER_DAY j) k)) (days_in t) (length turns)
+
+  pub nights_stand : s < stations_in t → nights_at t f turns s ≡ stands_by_day t a f s
+  nights_stand below =
+      nights_wait
+      ∙ sum_below-agree (λ j. waiting_at t f turns s (day_end MINUTES_PER_DAY j)) (stand_by_day t a f s) (days_in t)
+      (record { each = λ j lt. waiting_is_stand t a f turns s (day_end MINUTES_PER_DAY j) h below (within j lt) })
+    where
+      within : (j : ℕ) → j < days_in t → day_end MINUTES_PER_DAY j < period_of t
+      within j lt = omega arith
+
+pub nights_are_stands : NightsAreStands
+nights_are_stands t a f turns s h below = nights_stand t a f turns s h below
+
+pub nights_are_need : NightsAreNeed
+unfolding stand_of
+nights_are_need t a f turns s h below one =
+    let law = nights_stand t a f turns s h below in
+    let even = balances t a f turns h.map s in
+    omega (arith, law, even)

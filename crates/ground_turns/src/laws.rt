@@ -1,0 +1,50 @@
+//! The laws of turns and successor maps. Each function is a law: its contract is the statement, and it does nothing.
+ghost use Rattle.ground_turns.specs.Laws.{ExchangedFits, FirstOutFits, FitsWhereClean, NightsAreNeed, NightsAreStands, PeriodsBeyondUse, SomeFits, WaitingIsStand, WaitingLaw};
+
+/// In a successor map the aircraft that wait at a station are, at each moment, those that stand there and one number
+/// more: by which the turns that cross the period's start pass the need.
+pub fn waiting_law()
+    ensures { WaitingLaw }
+{}
+
+/// A successor map takes as many periods as the fleet uses aircraft, and what the waiting law has more at each station.
+pub fn periods_beyond_use()
+    ensures { PeriodsBeyondUse }
+{}
+
+/// A successor map fits exactly where all its turns are clean.
+pub fn fits_where_clean()
+    ensures { FitsWhereClean }
+{}
+
+/// In a fitting map the aircraft that wait at a station at a moment number those that stand there.
+pub fn waiting_is_stand()
+    ensures { WaitingIsStand }
+{}
+
+/// In a fitting map the nights of the turns at a station number the aircraft that stand there at the ends of the
+/// period's days, added up.
+pub fn nights_are_stands()
+    ensures { NightsAreStands }
+{}
+
+/// Where the period is a day, the nights of the turns at a station number its need in a fitting map.
+pub fn nights_are_need()
+    ensures { NightsAreNeed }
+{}
+
+/// Where two turns at a station touch one minute, a fitting map with their departures exchanged fits too.
+pub fn exchanged_fits()
+    ensures { ExchangedFits }
+{}
+
+/// Where some fitting map holds given pairs, a successor map that holds them fits if beside them aircraft depart from
+/// each station in the order in which they became ready there.
+pub fn first_out_fits()
+    ensures { FirstOutFits }
+{}
+
+/// Some map fits for each fleet of a balanced assignment, as each legal one is: the one that goes first in, first out.
+pub fn some_fits()
+    ensures { SomeFits }
+{}

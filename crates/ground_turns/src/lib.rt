@@ -1,0 +1,7 @@
+//! Turns of a fleet's aircraft on the ground, successor maps, tours and through sets: what they are, and their laws.
+#![tactic(auto)]
+
+pub mod laws;
+pub mod nights;
+
+pub use nights::Night;
