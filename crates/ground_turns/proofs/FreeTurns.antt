@@ -95,13 +95,13 @@ module _ (t : Tables) (a : List ℕ) (f : ℕ) (given turns : List Connection) (
       first second (eq-eqb _ _ e) (eq-eqb _ _ refl)
 
   -- the turn of a leg that a given pair has is that pair
-  by_arriving : (g k : ℕ) → g < length given → k < length turns → (turn_at given g).arriving ≡ (turn_at turns k).arriving → turn_at turns k ≡ turn_at given g
+  pub by_arriving : (g k : ℕ) → g < length given → k < length turns → (turn_at given g).arriving ≡ (turn_at turns k).arriving → turn_at turns k ≡ turn_at given g
   by_arriving g k within lt e =
       let held = holds.each g within in
       let same : held.place ≡ k = one_arriving held.place k held.within lt (ap (λ turn. turn.arriving) held.there ∙ e) in
       subst (λ q. turn_at turns q ≡ turn_at given g) same held.there
 
-  by_departing : (g k : ℕ) → g < length given → k < length turns → (turn_at given g).departing ≡ (turn_at turns k).departing → turn_at turns k ≡ turn_at given g
+  pub by_departing : (g k : ℕ) → g < length given → k < length turns → (turn_at given g).departing ≡ (turn_at turns k).departing → turn_at turns k ≡ turn_at given g
   by_departing g k within lt e =
       let held = holds.each g within in
       let same : held.place ≡ k = one_departing held.place k held.within lt (ap (λ turn. turn.departing) held.there ∙ e) in

@@ -28,7 +28,7 @@ use Rattle.ground_turns.proofs.Rounds.{bit}
 use Rattle.ground_turns.proofs.Totals.{some_counted, term_below}
 
 -- terms that are no more, and no less in sum, are equal
-equal_terms : (f g : ℕ → ℕ) (n k : ℕ) → ((k : ℕ) → k < n → f k ≤ g k) → sum_below f n ≡ sum_below g n → k < n → f k ≡ g k
+pub equal_terms : (f g : ℕ → ℕ) (n k : ℕ) → ((k : ℕ) → k < n → f k ≤ g k) → sum_below f n ≡ sum_below g n → k < n → f k ≡ g k
 equal_terms f g n k less same lt =
     let parts = sum_below-agree g (λ j. f j + (g j - f j)) n (record { each = λ j below. let le = less j below in omega arith }) in
     let sum = sum_below-add f (λ j. g j - f j) n in
@@ -36,7 +36,7 @@ equal_terms f g n k less same lt =
     omega (arith, parts, sum, same, term, less k lt)
 
 -- numbers that go round to one are one
-same_round : (x y f n : ℕ) → x < n → y < n → f ≤ n → (x + f) % n ≡ (y + f) % n → x ≡ y
+pub same_round : (x y f n : ℕ) → x < n → y < n → f ≤ n → (x + f) % n ≡ (y + f) % n → x ≡ y
 same_round x y f n below within few e = by_cases (mod_cases (x + f) n (omega arith)) (mod_cases (y + f) n (omega arith))
   where
     by_cases : (((x + f) % n ≡ x + f) × (x + f < n)) ⊎ (((x + f) % n ≡ x + f - n) × (n ≤ x + f))
@@ -58,7 +58,7 @@ none_part w true c = omega arith
 none_part w false c = omega arith
 
 -- a leg's share at one leg
-one_leg : (b c : Bool) (k l : ℕ) → (k ≡ l → b ≡ c) → bit b * bit (k == l) ≡ (if l == k then bit c else 0)
+pub one_leg : (b c : Bool) (k l : ℕ) → (k ≡ l → b ≡ c) → bit b * bit (k == l) ≡ (if l == k then bit c else 0)
 one_leg b c k l h = elim (cases_eq k l) [
   | inl same ↦ let equal = h same in here b c k l equal same
   | inr other ↦ apart b c k l other
@@ -70,7 +70,7 @@ one_leg b c k l h = elim (cases_eq k l) [
     apart : (b c : Bool) (k l : ℕ) → (k ≡ l → ⊥) → bit b * bit (k == l) ≡ (if l == k then bit c else 0)
     apart b c k l g = grind (arith, nat_tests)
 
-both : (b c : Bool) → bit b * bit c ≡ bit (b && c)
+pub both : (b c : Bool) → bit b * bit c ≡ bit (b && c)
 both true c = omega arith
 both false c = omega arith
 
