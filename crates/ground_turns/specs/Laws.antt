@@ -9,7 +9,8 @@ use Rattle.fleet_model.specs.Schedule.{fleets_in, stations_in}
 use Rattle.fleet_model.specs.Use.{IsBalanced, need_of, stand_of, used_of}
 use Rattle.ground_turns.specs.FirstOut.{AreFirstOut}
 use Rattle.ground_turns.specs.Maps.{AreClean, AreExchanged, Holds, IsFitting, IsHeld, IsSuccessorMap, crossings_at, periods_of, turn_at, waiting_at}
-use Rattle.ground_turns.specs.Turns.{days_in, nights_waited, period_of, station_at, touches}
+use Rattle.ground_turns.specs.Segments.{EndAt, NoneEnds, is_among, minutes_of}
+use Rattle.ground_turns.specs.Turns.{IsClean, days_in, departs_at, nights_waited, period_of, ready_at, station_at, touches}
 
 -- by how many the turns at a station that cross the period's start pass its need
 abbrev pub surplus_at : Tables → List ℕ → ℕ → List Connection → ℕ → ℕ
@@ -86,3 +87,12 @@ FirstOutFits = (t : Tables) (a : List ℕ) (f : ℕ) (given turns : List Connect
 -- where as many aircraft of a fleet come to each station as leave it, some map fits
 abbrev pub SomeFits : Type 0
 SomeFits = (t : Tables) (a : List ℕ) (f : ℕ) → IsBalanced t (weights_of a) → f < fleets_in t → IsHeld t a f []
+
+-- the list has those minutes at whose end none of the fleet's aircraft stands at the station
+pub record AreBareMinutes (t : Tables) (a : List ℕ) (f s : ℕ) (minutes : List ℕ) : Type 0 where
+  pub each : (m : ℕ) → m < period_of t → is_among minutes m ≡ (stand_of t (weights_of a) f s m == 0)
+
+-- segments that end with these minutes tell whether a turn at the station is clean
+abbrev pub SegmentsTellClean : Type 0
+SegmentsTellClean = (t : Tables) (a : List ℕ) (f : ℕ) (turn : Connection) (minutes numbers : List ℕ) → AreBareMinutes t a f (station_at t turn) minutes
+    → minutes_of numbers ≡ period_of t → EndAt minutes numbers → (NoneEnds numbers (ready_at t f turn) (departs_at t f turn) ↔ IsClean t a f turn)

@@ -1,5 +1,5 @@
 //! The laws of turns and successor maps. Each function is a law: its contract is the statement, and it does nothing.
-ghost use Rattle.ground_turns.specs.Laws.{ExchangedFits, FirstOutFits, FitsWhereClean, NightsAreNeed, NightsAreStands, PeriodsBeyondUse, SomeFits, WaitingIsStand, WaitingLaw};
+ghost use Rattle.ground_turns.specs.Laws.{ExchangedFits, FirstOutFits, FitsWhereClean, NightsAreNeed, NightsAreStands, PeriodsBeyondUse, SegmentsTellClean, SomeFits, WaitingIsStand, WaitingLaw};
 
 /// In a successor map the aircraft that wait at a station are, at each moment, those that stand there and one number
 /// more: by which the turns that cross the period's start pass the need.
@@ -47,4 +47,10 @@ pub fn first_out_fits()
 /// Some map fits for each fleet of a balanced assignment, as each legal one is: the one that goes first in, first out.
 pub fn some_fits()
     ensures { SomeFits }
+{}
+
+/// Segments that end with the minutes at whose end no aircraft of a fleet stands at a station tell whether a turn there
+/// is clean.
+pub fn segments_tell_clean()
+    ensures { SegmentsTellClean }
 {}
