@@ -5,10 +5,10 @@ use Rattle.fleet_model.specs.declared.limits.TheConstants.{MINUTES_PER_DAY}
 use Rattle.fleet_model.specs.declared.parts.Connection.{Connection}
 use Rattle.fleet_model.specs.declared.tables.Tables.{Tables}
 use Rattle.fleet_model.specs.Counts.{weights_of}
-use Rattle.fleet_model.specs.Schedule.{fleets_in, stations_in}
+use Rattle.fleet_model.specs.Schedule.{fleets_in, legs_in, stations_in}
 use Rattle.fleet_model.specs.Use.{IsBalanced, need_of, stand_of, used_of}
 use Rattle.ground_turns.specs.FirstOut.{AreFirstOut}
-use Rattle.ground_turns.specs.Maps.{AreClean, AreExchanged, Holds, IsFitting, IsHeld, IsSuccessorMap, crossings_at, periods_of, turn_at, waiting_at}
+use Rattle.ground_turns.specs.Maps.{AreClean, AreExchanged, Holds, IsFitting, IsHeld, IsNext, IsSuccessorMap, crossings_at, periods_of, turn_at, turns_by, waiting_at}
 use Rattle.ground_turns.specs.Segments.{EndAt, NoneEnds, is_among, minutes_of}
 use Rattle.ground_turns.specs.Turns.{IsClean, days_in, departs_at, nights_waited, period_of, ready_at, station_at, touches}
 
@@ -96,3 +96,7 @@ pub record AreBareMinutes (t : Tables) (a : List ℕ) (f s : ℕ) (minutes : Lis
 abbrev pub SegmentsTellClean : Type 0
 SegmentsTellClean = (t : Tables) (a : List ℕ) (f : ℕ) (turn : Connection) (minutes numbers : List ℕ) → AreBareMinutes t a f (station_at t turn) minutes
     → minutes_of numbers ≡ period_of t → EndAt minutes numbers → (NoneEnds numbers (ready_at t f turn) (departs_at t f turn) ↔ IsClean t a f turn)
+
+-- where the next of each leg makes a turn with it and no two have the same, these turns are a successor map
+abbrev pub NextIsMap : Type 0
+NextIsMap = (t : Tables) (a : List ℕ) (f : ℕ) (next : ℕ → ℕ) → IsNext t a f next → IsSuccessorMap t a f (turns_by a f next (legs_in t))

@@ -1,5 +1,5 @@
 //! The laws of turns and successor maps. Each function is a law: its contract is the statement, and it does nothing.
-ghost use Rattle.ground_turns.specs.Laws.{ExchangedFits, FirstOutFits, FitsWhereClean, NightsAreNeed, NightsAreStands, PeriodsBeyondUse, SegmentsTellClean, SomeFits, WaitingIsStand, WaitingLaw};
+ghost use Rattle.ground_turns.specs.Laws.{ExchangedFits, FirstOutFits, FitsWhereClean, NextIsMap, NightsAreNeed, NightsAreStands, PeriodsBeyondUse, SegmentsTellClean, SomeFits, WaitingIsStand, WaitingLaw};
 
 /// In a successor map the aircraft that wait at a station are, at each moment, those that stand there and one number
 /// more: by which the turns that cross the period's start pass the need.
@@ -53,4 +53,10 @@ pub fn some_fits()
 /// is clean.
 pub fn segments_tell_clean()
     ensures { SegmentsTellClean }
+{}
+
+/// Where the next of each of the fleet's legs makes a turn with it and no two have the same, these turns are a
+/// successor map.
+pub fn next_is_map()
+    ensures { NextIsMap }
 {}
