@@ -7,6 +7,7 @@ use Rattle.sums.specs.Below.{count_below}
 use Rattle.sums.specs.Places.{list_below}
 use Rattle.sums.proofs.Places.{get_or-list_below, length-list_below}
 use Rattle.sums.proofs.Tests.{by_either}
+use Rattle.frac_row.proofs.Ceilings.{same_ceiling}
 use Rattle.fleet_model.specs.Counts.{fleet_at}
 use Rattle.fleet_model.specs.Kept.{Domains, IsKeptAssignment, IsSole}
 use Rattle.fleet_model.specs.Legal.{IsLegal, total_cost}
@@ -25,7 +26,6 @@ use Rattle.cert_check.specs.declared.rules.Rule.TheVariants as rule
 use Rattle.cert_check.proofs.NodeRules.{prices_known}
 use Rattle.branch_bound.specs.Found.{AnswersSole, FallsShort, LeavesGap}
 use Rattle.branch_bound.proofs.Nodes.{first_all, node, second_all}
-use Rattle.branch_bound.proofs.Orders.{same_ceiling}
 
 -- ---- the one assignment that is left
 -- the last number below n that passes
@@ -125,7 +125,7 @@ module _ (t : Tables) (final : Option ℤ) where
 
       by_cost : (f : Option ℤ) → IsSomeAnd f (Reaches t keeps prices) → IsSomeAnd f (λ c. c ≤ℤ is.least)
       by_cost None reaches = reaches
-      by_cost (Some c) reaches = omega (arith, ints, reaches.reaches, same_ceiling _ _ reaches.least is.least proper.some_scale reaches.rounded is.rounded)
+      by_cost (Some c) reaches = omega (arith, ints, reaches.reaches, same_ceiling _ _ reaches.least is.least proper.scale.some reaches.rounded is.rounded)
 
   -- a sole leaf
   by_sole : (keeps : Domains) (bound : Option ℤ) → IsSole t keeps → AnswersSole t final (node keeps tree.Sole) → IsSoleBound t keeps bound → IfSome bound IsReached
@@ -183,7 +183,7 @@ module _ (t : Tables) (final : Option ℤ) where
   open_bound keeps (tree.Priced prices) bound sound gaps some is = absurd (cc)
   open_bound keeps (tree.Open prices why) bound sound gaps some is =
       by_gap keeps prices bound ((All-head (LeavesGap t final) (node keeps (tree.Open prices why)) [] gaps).gap prices why refl)
-      (prices_known t final (node keeps (tree.Open prices why)) prices (All-head (IsSound t final) (node keeps (tree.Open prices why)) [] sound) refl).some_scale is
+      (prices_known t final (node keeps (tree.Open prices why)) prices (All-head (IsSound t final) (node keeps (tree.Open prices why)) [] sound) refl).scale.some is
   open_bound keeps (tree.Trim' leg fleet p with_pair q without) bound sound gaps some is =
       let below = All-tail (IsSound t final) _ _ sound in
       let short = All-tail (LeavesGap t final) _ _ gaps in

@@ -2,10 +2,10 @@
 -- that is flown in part.
 use Rattle.std.proofs.Common.{◌≡◌, ℕ, ◌<◌, ◌++◌, List, [], ◌∷◌, length, length-append, inl, inr, arith}
 use Rattle.std.proofs.lemmas.Bool.{cases_lt}
-use Rattle.std.proofs.lemmas.Grind.{common_steps}
 use Rattle.fleet_model.specs.Counts.{fleet_at}
 use Rattle.fleet_model.specs.Schedule.{fleets_in, legs_in}
 use Rattle.fleet_model.specs.declared.tables.Tables.{Tables}
+use Rattle.fleet_model.proofs.SoleFleets.{earlier_fleet, last_fleet}
 use Rattle.bound_cert.specs.Fractions.{IsWholeLeg, IsWholePair}
 use Rattle.bound_cert.specs.declared.mixed.Mixed.{Mixed}
 use Rattle.branch_bound.specs.Causes.{ComesBefore}
@@ -13,14 +13,6 @@ use Rattle.branch_bound.specs.Wholes.{FliesPart, IsFirstPartialOn, IsSplitPair}
 
 pub record FliesSoFar (t : Tables) (mixed : Mixed) (a : List ℕ) : Type 0 where
   pub each : (l : ℕ) → l < length a → FliesPart t mixed l (fleet_at a l)
-
--- the fleet of the leg that was added last
-last_fleet : (a : List ℕ) (fleet : ℕ) → fleet_at (a ++ fleet ∷ []) (length a) ≡ fleet
-last_fleet a fleet = grind (arith, common_steps)
-
--- legs that stood before keep their fleet
-earlier_fleet : (a : List ℕ) (fleet l : ℕ) → l < length a → fleet_at (a ++ fleet ∷ []) l ≡ fleet_at a l
-earlier_fleet a fleet l before = grind (arith, common_steps)
 
 -- one leg more
 pub flies_more : (t : Tables) (mixed : Mixed) (a : List ℕ) (fleet : ℕ) → FliesSoFar t mixed a → FliesPart t mixed (length a) fleet → FliesSoFar t mixed (a ++ fleet ∷ [])

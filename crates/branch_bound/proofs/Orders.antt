@@ -55,12 +55,6 @@ ceiling_of n d some =
     (λ more. (int_div n d +ℤ pos 1, ceiling_above n d (int_div n d) (int_rem n d) (int_div n d +ℤ pos 1) (omega (arith, ints, some)) (quot-rem n d) rest more refl))
     (λ none. (int_div n d, ceiling_here n d (int_div n d) (int_rem n d) (int_div n d) (omega (arith, ints, some)) (quot-rem n d) rest none refl))
 
--- a ratio is rounded up to one number
-pub same_ceiling : (n d x y : ℤ) → pos 1 ≤ℤ d → IsCeiling n d x → IsCeiling n d y → x ≤ℤ y
-same_ceiling n d x y some first second =
-    let below : (x -ℤ pos 1) <ℤ y = lesser_multiple d (x -ℤ pos 1) y some (omega (arith, ints, first.least, second.enough)) in
-    omega (arith, ints, below)
-
 module _ (t : Tables) (keeps : Domains) (prices : Prices) (cost : ℤ) (some : pos 1 ≤ℤ prices.scale) where
   abbrev worth : ℤ
   worth = worth_of t keeps prices 1

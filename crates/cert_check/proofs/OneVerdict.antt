@@ -5,6 +5,7 @@ use Rattle.std.specs.List.{AllZip}
 use Rattle.std.proofs.lemmas.Bool.{cases_order}
 use Rattle.std.proofs.lemmas.Int.{by_lt_z, ints}
 use Rattle.std.proofs.lemmas.List.Elements.{All-head, All-tail}
+use Rattle.frac_row.proofs.Ceilings.{same_ceiling}
 use Rattle.fleet_model.specs.Kept.{Domains, IsKeptAssignment, all_pairs}
 use Rattle.fleet_model.specs.Legal.{IsLegal}
 use Rattle.fleet_model.specs.declared.tables.Tables.{Tables}
@@ -15,14 +16,13 @@ use Rattle.bound_cert.specs.declared.prices.Prices.{Prices}
 use Rattle.bound_cert.specs.declared.trees.Tree.{Tree}
 use Rattle.bound_cert.specs.declared.trees.Tree.TheVariants as tree
 use Rattle.cert_check.specs.Nodes.{Node, nodes_in}
-use Rattle.bound_cert.specs.Fractions.{IsScale}
+use Rattle.bound_cert.specs.Prices.{IsScale}
 use Rattle.cert_check.specs.Rules.{IsFirstBroken, IsFirstFault, IsSound, number_of}
 use Rattle.cert_check.specs.Verdicts.{AreSound, BreaksAt, HoldsWith, IsChecked}
 use Rattle.cert_check.specs.declared.checked.Checked.{Checked}
 use Rattle.cert_check.specs.declared.checked.Checked.TheVariants as checked
 use Rattle.cert_check.specs.declared.rules.Rule.{Rule}
 use Rattle.cert_check.specs.declared.rules.Rule.TheVariants as rule
-use Rattle.cert_check.proofs.NodeRules.{same_ceiling}
 use Rattle.cert_check.proofs.SameTrees.{Same, SameNode, bound_too, same_by_nodes, same_keeps, same_node_back, same_nodes, same_sound, sound_too}
 use Rattle.cert_check.proofs.SoleAssignments.{sole_has_one}
 use Rattle.cert_check.proofs.TreeBounds.{first_all, second_all}

@@ -11,11 +11,11 @@ pub record FliesSole (t : Tables) (keeps : Domains) (a : List ℕ) : Type 0 wher
   pub each : (l : ℕ) → l < length a → IsSoleOn t keeps l (fleet_at a l)
 
 -- the fleet of the leg that was added last
-last_fleet : (a : List ℕ) (fleet : ℕ) → fleet_at (a ++ fleet ∷ []) (length a) ≡ fleet
+pub last_fleet : (a : List ℕ) (fleet : ℕ) → fleet_at (a ++ fleet ∷ []) (length a) ≡ fleet
 last_fleet a fleet = grind (arith, common_steps)
 
 -- legs that stood before keep their fleet
-earlier_fleet : (a : List ℕ) (fleet l : ℕ) → l < length a → fleet_at (a ++ fleet ∷ []) l ≡ fleet_at a l
+pub earlier_fleet : (a : List ℕ) (fleet l : ℕ) → l < length a → fleet_at (a ++ fleet ∷ []) l ≡ fleet_at a l
 earlier_fleet a fleet l before = grind (arith, common_steps)
 
 -- one leg more

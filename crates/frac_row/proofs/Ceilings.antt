@@ -2,6 +2,7 @@
 use Rattle.std.proofs.Common.{◌≡◌, ◌<◌, ◌^◌, zero, suc, ℤ, pos, negsuc, ◌+ℤ◌, ◌-ℤ◌, ◌*ℤ◌, ◌<ℤ◌, ◌≤ℤ◌, unsigned_abs, arith}
 use Rattle.std.proofs.lemmas.Int.{ints}
 use Rattle.sums.proofs.Integers.{+ℤ-*ℤ, -ℤ-*ℤ, one-*ℤ}
+use Rattle.sums.proofs.Signs.{lesser_multiple}
 use Rattle.frac_row.specs.Ratio.{IsCeiling}
 
 -- one more than a quotient rounded towards 0, where there is a positive rest
@@ -23,6 +24,12 @@ ceiling_here n d q r x above e small none same = record {
   enough = rw same (omega (arith, ints));
   least = rw same (omega (arith, ints, -ℤ-*ℤ q (pos 1) d, one-*ℤ d));
 }
+
+-- a ratio is rounded up to one number
+pub same_ceiling : (n d x y : ℤ) → pos 1 ≤ℤ d → IsCeiling n d x → IsCeiling n d y → x ≤ℤ y
+same_ceiling n d x y some first second =
+    let below : (x -ℤ pos 1) <ℤ y = lesser_multiple d (x -ℤ pos 1) y some (omega (arith, ints, first.least, second.enough)) in
+    omega (arith, ints, below)
 
 -- a quotient that leaves a positive rest is at most half of the number
 pub half_at_most : (n d q r : ℤ) → pos 0 <ℤ d → (q *ℤ d) +ℤ r ≡ n → unsigned_abs r < unsigned_abs d → pos 0 <ℤ r → n ≤ℤ pos (2 ^ 127) → q ≤ℤ pos (2 ^ 126)

@@ -64,7 +64,7 @@ pub periods_beyond_use : PeriodsBeyondUse
 unfolding used_of
 periods_beyond_use t a f turns map = omega (arith, periods_are t a f turns map)
 
-no_surplus : (t : Tables) (a : List ℕ) (f : ℕ) (turns : List Connection) (s : ℕ) → IsFitting t a f turns → s < stations_in t → surplus_at t a f turns s ≡ 0
+pub no_surplus : (t : Tables) (a : List ℕ) (f : ℕ) (turns : List Connection) (s : ℕ) → IsFitting t a f turns → s < stations_in t → surplus_at t a f turns s ≡ 0
 no_surplus t a f turns s h below =
     let law = periods_beyond_use t a f turns h.map in
     let term = term_below (surplus_at t a f turns) (stations_in t) s below in

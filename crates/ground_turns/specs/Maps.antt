@@ -1,5 +1,5 @@
 -- Successor maps, which send each leg of a fleet to the one that its aircraft flies next, and tours.
-use Rattle.std.specs.Prelude.{◌≡◌, ℕ, suc, ◌+◌, ◌%◌, ◌<◌, Bool, ◌==◌, ◌&&◌, List, length, slice_index, slice_index_or}
+use Rattle.std.specs.Prelude.{◌≡◌, ◌≢◌, ℕ, suc, ◌+◌, ◌%◌, ◌<◌, Bool, ◌==◌, ◌&&◌, List, length, slice_index, slice_index_or}
 use Rattle.sums.specs.Below.{count_below}
 use Rattle.sums.specs.Places.{list_below}
 use Rattle.fleet_model.specs.declared.parts.Connection.{Connection}
@@ -73,6 +73,16 @@ pub record IsHeld (t : Tables) (a : List ℕ) (f : ℕ) (pairs : List Connection
   pub turns : List Connection
   pub fitting : IsFitting t a f turns
   pub holds : Holds turns pairs
+
+-- two turns of a list with their departures exchanged, and all others as they were
+abbrev pub exchanged : Connection → Connection → Connection
+exchanged turn other = record { arriving = turn.arriving; departing = other.departing }
+
+pub record AreExchanged (old new : List Connection) (i j : ℕ) : Type 0 where
+  pub same_length : length new ≡ length old
+  pub first : turn_at new i ≡ exchanged (turn_at old i) (turn_at old j)
+  pub second : turn_at new j ≡ exchanged (turn_at old j) (turn_at old i)
+  pub others : (k : ℕ) → k < length old → k ≢ i → k ≢ j → turn_at new k ≡ turn_at old k
 
 -- the turns from each leg of a list to the next, and from the last to the first
 abbrev pub turn_after : List ℕ → ℕ → Connection

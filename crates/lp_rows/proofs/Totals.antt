@@ -59,7 +59,7 @@ module _ (t : Tables) (keeps : Domains) (starts : Starts) (h : Column → ℤ) w
       ∙ ap (λ z. flights t keeps h +ℤ grounds t starts h +ℤ z) (of_list h Slack (fleets_in t))
 
 -- what holds of each entry of lists one behind another
-all_concat : {X : Type 0} (P : X → Type 0) (g : ℕ → List X) (n : ℕ) → ((k : ℕ) → k < n → All P (g k)) → All P (concat_below g n)
+pub all_concat : {X : Type 0} (P : X → Type 0) (g : ℕ → List X) (n : ℕ) → ((k : ℕ) → k < n → All P (g k)) → All P (concat_below g n)
 all_concat P g zero each = All-nil P
 all_concat P g (suc n) each = All-append P _ _ (all_concat P g n (λ k below. each k (omega arith))) (each n (omega arith))
 

@@ -13,16 +13,11 @@ use Rattle.bound_cert.specs.OfTables.{IsStepOf}
 use Rattle.bound_cert.specs.Prices.{has_come, price_after}
 use Rattle.bound_cert.specs.declared.prices.Prices.{Prices}
 use Rattle.bound_cert.specs.declared.prices.PriceStep.{PriceStep}
+use Rattle.bound_cert.proofs.PriceLists.{price_after-append}
 use Rattle.presolve.specs.Reasons.{IsReason, reason_price, reason_rent, reason_steps, steps_at, steps_until}
 use Rattle.presolve.specs.declared.rule.Rule.{Rule}
 use Rattle.presolve.specs.declared.rule.Rule.TheVariants as rule
 use Rattle.presolve.proofs.ReasonOrder.{reason_in_order}
-
--- the price after more steps
-price_append : (v : ℤ) (xs ys : List PriceStep) (f s m : ℕ) → price_after v (xs ++ ys) f s m ≡ price_after (price_after v xs f s m) ys f s m
-unfolding price_after
-price_append v [] ys f s m = refl
-price_append v (x ∷ xs) ys f s m = price_append (if has_come x f s m then x.value else v) xs ys f s m
 
 -- one step at the first minute
 abbrev step_of : ℕ → ℕ → ℤ → PriceStep
@@ -50,7 +45,7 @@ price_until : (fleet minute n f s m : ℕ) → m < MINUTES_PER_PERIOD
 unfolding price_after steps_until
 price_until fleet minute zero f s m within = grind (arith, nat_tests)
 price_until fleet minute (suc n) f s m within =
-    price_append (pos 0) (steps_until fleet minute n) (steps_at fleet minute n) f s m
+    price_after-append (pos 0) (steps_until fleet minute n) (steps_at fleet minute n) f s m
     ∙ ap (λ v. price_after v (steps_at fleet minute n) f s m) (price_until fleet minute n f s m within)
     ∙ price_there _ fleet minute n f s m within
     ∙ grind (arith, nat_tests)

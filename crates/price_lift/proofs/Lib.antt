@@ -28,7 +28,6 @@ pub mod Quotients
 pub mod RunLaws
 pub mod ScaledPlans
 pub mod Scales
-pub mod Signs
 pub mod StepOrder
 pub mod StepPrices
 pub mod WeightOrder

@@ -5,6 +5,7 @@ use Rattle.std.proofs.lemmas.Bool.Decides.{nat_tests}
 use Rattle.fleet_model.specs.Use.{last_minute}
 use Rattle.timeline_net.specs.declared.timeline.Event.{Event}
 use Rattle.node_aggregate.specs.Nodes.{AreNodes, node_end}
+use Rattle.node_aggregate.proofs.NodeEnds.{end_at_last, end_before}
 use Rattle.lp_rows.specs.Entries.{is_in}
 
 -- each start is later than those before, and the first is 0
@@ -64,12 +65,6 @@ test_parts a m b h = (grind (arith, nat_tests), grind (arith, nat_tests))
 test_of : (a m b : ℕ) → a ≤ m → m ≤ b → (nat_le a m && nat_le m b) ≡ true
 test_of a m b low high = grind (arith, nat_tests)
 
-end_before_next : (starts : List ℕ) (k : ℕ) → k + 1 < length starts → node_end starts k ≡ get_or starts (k + 1) 0 - 1
-end_before_next starts k next = grind (arith, nat_tests)
-
-end_of_last : (starts : List ℕ) (k : ℕ) → length starts ≤ k + 1 → node_end starts k ≡ last_minute
-end_of_last starts k last = grind (arith, nat_tests)
-
 pub at_place : (starts : List ℕ) (minute place : ℕ) → Rise starts → place < length starts → is_in starts place minute ≡ true → IsAtPlace starts minute place
 at_place starts minute place rise within test =
     let parts = test_parts (get_or starts place 0) minute (node_end starts place) test in
@@ -78,7 +73,7 @@ at_place starts minute place rise within test =
       begun = parts.0;
       last = λ k above below.
           let next : place + 1 < length starts = omega arith in
-          let end = end_before_next starts place next in
+          let end = end_before starts place next in
           let step = rise.next place next in
           elim (cases_lt (place + 1) k) [
             | inl more ↦ omega (arith, parts.1, end, step, later starts rise (place + 1) k more below)
@@ -88,8 +83,8 @@ at_place starts minute place rise within test =
 
 pub in_node : (starts : List ℕ) (minute place : ℕ) → minute ≤ last_minute → IsAtPlace starts minute place → is_in starts place minute ≡ true
 in_node starts minute place period at = test_of (get_or starts place 0) minute (node_end starts place) at.begun (elim (cases_lt (place + 1) (length starts)) [
-  | inl more ↦ omega (arith, end_before_next starts place more, at.last (place + 1) (omega arith) more)
-  | inr none ↦ omega (arith, end_of_last starts place none)
+  | inl more ↦ omega (arith, end_before starts place more, at.last (place + 1) (omega arith) more)
+  | inr none ↦ omega (arith, end_at_last starts place none)
 ])
 
 pub one_place : (starts : List ℕ) (minute p q : ℕ) → IsAtPlace starts minute p → IsAtPlace starts minute q → p ≡ q

@@ -6,16 +6,12 @@ use Rattle.fleet_model.specs.Kept.{Domains, pairs_kept}
 use Rattle.fleet_model.specs.Schedule.{leg_on}
 use Rattle.lp_rows.specs.Layout.{Starts, all_kept, all_nodes, concat_below}
 use Rattle.lp_rows.proofs.Counted.{nodes_are}
+use Rattle.lp_rows.proofs.Totals.{all_concat}
 use Rattle.bound_cert.specs.OfTables.{IsStepOf, IsWeightOf}
 use Rattle.price_lift.specs.Parts.{weights_at}
 use Rattle.price_lift.specs.Steps.{all_steps, is_step, node_of_number, step_of, steps_at}
 use Rattle.price_lift.proofs.BasicPoints.{is_pair}
 use Rattle.price_lift.proofs.LinePlaces.{node_is}
-
--- what holds of each entry of lists one behind another
-pub all_concat : {X : Type 0} (P : X → Type 0) (g : ℕ → List X) (n : ℕ) → ((k : ℕ) → k < n → All P (g k)) → All P (concat_below g n)
-all_concat P g zero each = All-nil P
-all_concat P g (suc n) each = All-append P _ _ (all_concat P g n (λ k below. each k (omega arith))) (each n (omega arith))
 
 all_one : {X : Type 0} (P : X → Type 0) (b : Bool) (x : X) → P x → All P (if b then x ∷ [] else [])
 all_one P true x holds = All-cons P x [] holds (All-nil P)

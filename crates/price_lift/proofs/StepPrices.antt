@@ -16,16 +16,12 @@ use Rattle.lp_rows.specs.Points.{arcs_in}
 use Rattle.lp_rows.proofs.Counted.{nodes_are}
 use Rattle.bound_cert.specs.Prices.{has_come, price_after}
 use Rattle.bound_cert.specs.declared.prices.PriceStep.{PriceStep}
+use Rattle.bound_cert.proofs.PriceLists.{price_after-append}
 use Rattle.price_lift.specs.Steps.{all_steps, are_zero, is_step, node_of_number, step_at_node, step_of, steps_at}
 use Rattle.price_lift.proofs.LinePlaces.{before, node_number, node_there, node_within}
 use Rattle.price_lift.proofs.Minutes.{IsAtPlace, Rise, later}
 
 -- ---- the price after steps
-pub after_append : (v : ℤ) (xs ys : List PriceStep) (f s m : ℕ) → price_after v (xs ++ ys) f s m ≡ price_after (price_after v xs f s m) ys f s m
-unfolding price_after
-after_append v [] ys f s m = refl
-after_append v (x ∷ xs) ys f s m = after_append (if has_come x f s m then x.value else v) xs ys f s m
-
 -- .. of the nodes below a number
 abbrev pub price_below : Tables → Starts → (ℕ → ℤ) → ℕ → ℕ → ℕ → ℕ → ℤ
 price_below t starts value f s m n = price_after (pos 0) (concat_below (steps_at t starts value) n) f s m
@@ -36,7 +32,7 @@ none_below t starts value f s m = refl
 
 one_more : (t : Tables) (starts : Starts) (value : ℕ → ℤ) (f s m n : ℕ)
     → price_below t starts value f s m (suc n) ≡ price_after (price_below t starts value f s m n) (steps_at t starts value n) f s m
-one_more t starts value f s m n = after_append (pos 0) (concat_below (steps_at t starts value) n) (steps_at t starts value n) f s m
+one_more t starts value f s m n = price_after-append (pos 0) (concat_below (steps_at t starts value) n) (steps_at t starts value n) f s m
 
 -- the step of another fleet or station says nothing
 elsewhere : (starts : Starts) (value : ℕ → ℤ) (k : ℕ) (n : Node) (v : ℤ) (f s m : ℕ) → ((n.fleet == f) && (n.station == s)) ≡ false → price_after v (step_at_node starts value k n) f s m ≡ v
