@@ -1,8 +1,10 @@
 pub mod Cut
 pub mod Duality
 pub mod FigureWords
+pub mod FixedFaults
 pub mod Flows
 pub mod LeastWorth
+pub mod LineTwins
 pub mod Lines
 pub mod LinesOfWords
 pub mod Numbers
@@ -12,6 +14,7 @@ pub mod ReadOfTables
 pub mod ReadOn
 pub mod ReadProof
 pub mod ReadTree
+pub mod Shrinking
 pub mod Sizes
 pub mod TextLines
 pub mod TextLists

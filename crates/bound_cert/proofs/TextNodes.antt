@@ -1,9 +1,8 @@
 -- Nodes that are read are in written order, and their lines are those that are read.
-use Rattle.std.proofs.Common.{◌≡◌, ℕ, ◌<◌, ◌≤◌, ◌||◌, Bool, true, false, cond, List, [], ◌∷◌, ◌++◌, length, drop, codes, nat_le, Option, Some, None, Ok, refl, sym, ap, subst, ◌∙◌, append_assoc, append-nil, arith}
+use Rattle.std.proofs.Common.{◌≡◌, ℕ, ◌<◌, ◌≤◌, ◌||◌, Bool, true, false, cond, List, [], ◌∷◌, ◌++◌, length, drop, codes, nat_le, Option, Some, None, Ok, refl, sym, ap, subst, ◌∙◌, append-nil, arith}
 use Rattle.std.specs.Prelude.{⊤}
 use Rattle.std.specs.Fmt.{decimal}
 use Rattle.std.proofs.lemmas.Bool.Decides.{nat_tests}
-use Rattle.std.proofs.lemmas.List.{map-append}
 use Rattle.sums.proofs.Tests.{other_true}
 use Rattle.fleet_model.specs.Schedule.{IsPair, leg_of, leg_on, legs_in}
 use Rattle.fleet_model.specs.declared.tables.Tables.{Tables}
@@ -29,7 +28,7 @@ use Rattle.bound_cert.proofs.ReadOn.{chosen, refused}
 use Rattle.bound_cert.proofs.TextLines.{five_words, four_words, line_by, line_was, one_word, three_words, two_words}
 use Rattle.bound_cert.proofs.TextLists.{mixed_was, prices_were}
 use Rattle.bound_cert.proofs.TextPrices.{pair_was}
-use Rattle.bound_cert.proofs.WrittenLines.{joined, texts}
+use Rattle.bound_cert.proofs.WrittenLines.{joined, texts, texts_append}
 use Rattle.bound_cert.proofs.WrittenNames.{leg_read}
 use Rattle.bound_cert.proofs.WrittenNodes.{lines_at}
 use Rattle.bound_cert.proofs.WrittenNumbers.{natural_read}
@@ -251,9 +250,6 @@ record BodyWas (t : Tables) (h : Head) (rest : Left) (read : Node × Left) : Typ
   order : IsNodeInOrder t read.0
   text : joined (first_line t h) ∷ rest ≡ texts (lines_at t read.0) ++ read.1
 
-parts : (xs ys : List Line) (behind : Left) → texts (xs ++ ys) ++ behind ≡ texts xs ++ (texts ys ++ behind)
-parts xs ys behind = ap (λ lines. lines ++ behind) (map-append joined xs ys) ∙ append_assoc (texts xs) (texts ys) behind
-
 module _ (t : Tables) where
   -- prices behind a first line, alone and with a fractional assignment
   prices_alone : (line : Line) (prices : Prices) (rest behind : Left) → rest ≡ texts (price_lines t prices) ++ behind → joined line ∷ rest ≡ texts (line ∷ (price_lines t prices ++ [])) ++ behind
@@ -263,7 +259,7 @@ module _ (t : Tables) where
   prices_and_mixed : (line : Line) (prices : Prices) (mixed : Mixed) (rest middle behind : Left) → rest ≡ texts (price_lines t prices) ++ middle → middle ≡ texts (mixed_lines t mixed) ++ behind
       → joined line ∷ rest ≡ texts (line ∷ (price_lines t prices ++ mixed_lines t mixed)) ++ behind
   prices_and_mixed line prices mixed rest middle behind e f =
-      ap (λ rest. joined line ∷ rest) (e ∙ ap (λ rest. texts (price_lines t prices) ++ rest) f ∙ sym (parts (price_lines t prices) (mixed_lines t mixed) behind))
+      ap (λ rest. joined line ∷ rest) (e ∙ ap (λ rest. texts (price_lines t prices) ++ rest) f ∙ sym (texts_append (price_lines t prices) (mixed_lines t mixed) behind))
 
   body_was : (h : Head) (rest : Left) (read : Node × Left) → body_at t h rest ≡ Ok read → IsHeadInOrder t h → BodyWas t h rest read
   unfolding body_at

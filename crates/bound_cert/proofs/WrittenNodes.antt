@@ -1,8 +1,7 @@
 -- A node in written order is what its lines read as.
-use Rattle.std.proofs.Common.{◌≡◌, ℕ, ◌<◌, ◌≤◌, false, List, [], ◌∷◌, ◌++◌, length, codes, nat_le, Some, Ok, refl, sym, ap, subst, ◌∙◌, append_assoc, append-nil, arith}
+use Rattle.std.proofs.Common.{◌≡◌, ℕ, ◌≤◌, false, List, [], ◌∷◌, ◌++◌, length, codes, nat_le, Some, Ok, refl, sym, ap, subst, ◌∙◌, append-nil, arith}
 use Rattle.std.specs.Fmt.{decimal}
 use Rattle.std.proofs.lemmas.Bool.Decides.{nat_tests}
-use Rattle.std.proofs.lemmas.List.{map-append}
 use Rattle.fleet_model.specs.Schedule.{leg_of}
 use Rattle.fleet_model.specs.declared.tables.Tables.{Tables}
 use Rattle.bound_cert.specs.Figures.{natural_in}
@@ -24,10 +23,10 @@ use Rattle.bound_cert.specs.declared.trees.Cause.{Cause}
 use Rattle.bound_cert.specs.declared.trees.Cause.TheVariants as cause
 use Rattle.bound_cert.proofs.LinesOfWords.{bare_is, mixed_line_is, open_is, priced_is, refuted_is, sole_is, split_is, trim_is}
 use Rattle.bound_cert.proofs.ReadOn.{bound, chosen}
-use Rattle.bound_cert.proofs.WrittenLines.{first_word, joined, line_read, texts}
+use Rattle.bound_cert.proofs.WrittenLines.{first_word, joined, line_read, texts, texts_append}
 use Rattle.bound_cert.proofs.WrittenNames.{leg_written}
 use Rattle.bound_cert.proofs.WrittenNumbers.{natural_written}
-use Rattle.bound_cert.proofs.WrittenPrices.{IsBehind, here, mixed_read, pair_read, prices_read}
+use Rattle.bound_cert.proofs.WrittenPrices.{IsBehind, here, mixed_read, pair_read, prices_read, some_behind}
 
 -- the lines of a node without its children
 abbrev pub lines_at : Tables → Node → List Line
@@ -62,9 +61,6 @@ behind_line line rest words no_rent no_step no_weight = record {
   no_weight = first_word line rest (codes "weight") false words no_weight;
 }
 
-parts : (xs ys : List Line) (behind : Left) → texts (xs ++ ys) ++ behind ≡ texts xs ++ (texts ys ++ behind)
-parts xs ys behind = ap (λ lines. lines ++ behind) (map-append joined xs ys) ∙ append_assoc (texts xs) (texts ys) behind
-
 count_read : (words : List (List ℕ)) (k n : ℕ) (left : Left) → IsCount n → word_at words k ≡ decimal n → count_at words k left ≡ Ok n
 count_read words k n left is word =
     here (natural_in 18446744073709551615 (word_at words k)) n left WRONG_NUMBER
@@ -84,7 +80,7 @@ module _ (t : Tables) where
   prices_then : (prices : Prices) (mixed : Mixed) (behind : Left) → ArePricesInOrder t prices
       → prices_at t (texts (price_lines t prices ++ mixed_lines t mixed) ++ behind) ≡ Ok (prices, texts (mixed_lines t mixed) ++ behind)
   prices_then prices mixed behind are =
-      ap (prices_at t) (parts (price_lines t prices) (mixed_lines t mixed) behind)
+      ap (prices_at t) (texts_append (price_lines t prices) (mixed_lines t mixed) behind)
       ∙ prices_read t prices (texts (mixed_lines t mixed) ++ behind) are (before_mixed mixed behind)
 
   open_reads : (prices : Prices) (why : Cause) → ArePricesInOrder t prices → IsCauseInOrder t why → NodeReads t (node.Open prices why)
@@ -238,10 +234,6 @@ module _ (t : Tables) where
         ∙ bound (mixed_at t (texts (mixed_lines t mixed) ++ behind)) (mixed, behind) _ (mixed_read t mixed behind is.2 ends);
   }
 
-  rest_some : (lines : List Line) (behind : Left) → 0 < length behind → 0 < length (texts lines ++ behind)
-  rest_some [] behind some = some
-  rest_some (line ∷ lines) behind some = omega arith
-
   pub node_read : (above : ℕ) (n : Node) (behind : Left) → IsNodeInOrder t n → above ≤ MAX_DEPTH → IsBehind behind → node_at t above (texts (lines_at t n) ++ behind) ≡ Ok (n, behind)
   unfolding node_at head_at
   node_read above n behind is shallow ends =
@@ -251,7 +243,7 @@ module _ (t : Tables) where
       let whole : texts (lines_at t n) ++ behind ≡ left = ap (λ lines. texts lines ++ behind) reads.lines in
       let deep : deep_at above reads.first left ≡ Ok reads.first = chosen (nat_le above MAX_DEPTH) _ _ (grind (arith, nat_tests, shallow)) in
       let first : head_at t above left ≡ Ok reads.first =
-      bound (line_due due.Node left) reads.line _ (line_read due.Node reads.line rest reads.words reads.width (rest_some reads.others behind ends.some))
+      bound (line_due due.Node left) reads.line _ (line_read due.Node reads.line rest reads.words reads.width (some_behind reads.others behind ends.some))
       ∙ bound (head_of t reads.line left) reads.first _ (reads.said left) ∙ deep in
       ap (node_at t above) whole ∙ bound (head_at t above left) reads.first _ first ∙ reads.body behind ends
 

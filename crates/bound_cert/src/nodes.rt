@@ -3,7 +3,7 @@ use crate::prices::Prices;
 use crate::trees::{Cause, Tree};
 
 /// What the first line of a node says.
-#[derive(Clone, Copy, Debug, PartialEq, Eq)]
+#[derive(Clone, Copy)]
 pub enum Head {
     /// `bare`, of this leg.
     Bare { leg: u32 },
@@ -28,7 +28,7 @@ pub enum Head {
 }
 
 /// A node of a tree without its children.
-#[derive(Debug, Drop)]
+#[derive(Drop)]
 pub enum Node {
     /// A leaf: this leg keeps no fleet.
     Bare {
@@ -57,7 +57,7 @@ pub enum Node {
 }
 
 /// A trim or a split without its children.
-#[derive(Debug, Drop)]
+#[derive(Drop)]
 pub enum Inner {
     /// A pair is set aside.
     Trim {
@@ -74,7 +74,7 @@ pub enum Inner {
 }
 
 /// A trim or a split that waits for children.
-#[derive(Debug, Drop)]
+#[derive(Drop)]
 pub struct Parent {
     /// What it says itself.
     pub inner: Inner,
@@ -83,7 +83,7 @@ pub struct Parent {
 }
 
 /// A node as a leaf, which is a tree, or as one that waits for children.
-#[derive(Debug, Drop)]
+#[derive(Drop)]
 pub enum Place {
     /// A tree of its own.
     Leaf(Tree),

@@ -27,9 +27,9 @@ use Rattle.lp_rows.specs.Layout.{IsNetwork, Starts, all_kept, columns_of, concat
 use Rattle.lp_rows.specs.Points.{pair_part}
 use Rattle.lp_rows.proofs.Places.{nothing_there}
 use Rattle.bound_cert.specs.Duality.{WeakDuality}
-use Rattle.bound_cert.specs.Fractions.{IsMixedAt, IsScale, IsWeight, IsWorth, parts_in}
+use Rattle.bound_cert.specs.Fractions.{IsMixedAt, IsWeight, IsWorth, parts_in}
 use Rattle.bound_cert.specs.Mixed.{weight_in}
-use Rattle.bound_cert.specs.Prices.{ArePrices, max_scale}
+use Rattle.bound_cert.specs.Prices.{ArePrices, IsScale, max_scale}
 use Rattle.bound_cert.specs.Worth.{worth_of}
 use Rattle.bound_cert.specs.declared.mixed.Mixed.{Mixed}
 use Rattle.bound_cert.specs.declared.prices.Prices.{Prices}

@@ -243,14 +243,13 @@ module _ (t : Tables) (keeps : Domains) (starts : Starts) (network : IsNetwork t
 
       pub are_prices : ArePrices t prices
       are_prices = record {
-        some_scale = low;
-        scale_within = high;
-        some_rent = rent_some;
-        rent_within = λ f known.
-            let size = bounds (value (legs_in t + (arcs_in t starts + f))) max_price (small (arcs_in t starts + f) (omega arith)) in
-            omega (arith, ints, rent_is f known, size.0, size.1);
-        no_less = λ f s m known within period. (price_bounds f s m known within (omega arith)).0;
-        no_more = λ f s m known within period. (price_bounds f s m known within (omega arith)).1;
-        never_rise = λ f s m known within period. falls_minute f s m known within (omega arith);
-        rise_overnight = over_night;
+        scale = record { some = low; within = high };
+        within = record {
+          rents = λ f known.
+              let size = bounds (value (legs_in t + (arcs_in t starts + f))) max_price (small (arcs_in t starts + f) (omega arith)) in
+              record { some = rent_some f known; within = omega (arith, ints, rent_is f known, size.0, size.1) };
+          each = λ f s m known within period. let ends = price_bounds f s m known within (omega arith) in record { no_less = ends.0; no_more = ends.1 };
+        };
+        fall = record { each = λ f s m known within period. falls_minute f s m known within (omega arith) };
+        rise = record { each = over_night };
       }
