@@ -37,10 +37,12 @@ segments_tell_clean t a f turn minutes numbers bare whole ends = (
     below : (m : ℕ) → m < minutes_of numbers → m < period_of t
     below m lt = subst (λ n. m < n) whole lt
 
-    turned : (m : ℕ) → IsTrue (waits_at t f turn m) → IsTrue (nat_lt (minutes_round (minutes_of numbers) (ready_at t f turn) m) (minutes_round (minutes_of numbers) (ready_at t f turn) (departs_at t f turn)))
+    turned : (m : ℕ) → IsTrue (waits_at t f turn m)
+        → IsTrue (nat_lt (minutes_round (minutes_of numbers) (ready_at t f turn) m) (minutes_round (minutes_of numbers) (ready_at t f turn) (departs_at t f turn)))
     turned m waits = subst (λ n. IsTrue (nat_lt (minutes_round n (ready_at t f turn) m) (minutes_round n (ready_at t f turn) (departs_at t f turn)))) (sym whole) waits
 
-    back : (m : ℕ) → IsTrue (nat_lt (minutes_round (minutes_of numbers) (ready_at t f turn) m) (minutes_round (minutes_of numbers) (ready_at t f turn) (departs_at t f turn))) → IsTrue (waits_at t f turn m)
+    back : (m : ℕ) → IsTrue (nat_lt (minutes_round (minutes_of numbers) (ready_at t f turn) m) (minutes_round (minutes_of numbers) (ready_at t f turn) (departs_at t f turn)))
+        → IsTrue (waits_at t f turn m)
     back m waits = subst (λ n. IsTrue (nat_lt (minutes_round n (ready_at t f turn) m) (minutes_round n (ready_at t f turn) (departs_at t f turn)))) whole waits
 
 -- what one number more brings

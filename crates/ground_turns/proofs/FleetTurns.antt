@@ -22,7 +22,8 @@ use Rattle.ground_turns.proofs.Totals.{some_counted, term_below}
 with_one : (g : Connection → ℕ) (xs : List Connection) (x : Connection) → sum_below (λ k. g (turn_at (xs ++ x ∷ []) k)) (length (xs ++ x ∷ [])) ≡ sum_below (λ k. g (turn_at xs k)) (length xs) + g x
 with_one g xs x =
     ap (sum_below (λ k. g (turn_at (xs ++ x ∷ []) k))) (longer xs x)
-    ∙ ap (λ n. n + g (turn_at (xs ++ x ∷ []) (length xs))) (sum_below-agree (λ k. g (turn_at (xs ++ x ∷ []) k)) (λ k. g (turn_at xs k)) (length xs) (record { each = λ k lt. ap g (get_or-append xs (x ∷ []) no_turn k lt) }))
+    ∙ ap (λ n. n + g (turn_at (xs ++ x ∷ []) (length xs)))
+    (sum_below-agree (λ k. g (turn_at (xs ++ x ∷ []) k)) (λ k. g (turn_at xs k)) (length xs) (record { each = λ k lt. ap g (get_or-append xs (x ∷ []) no_turn k lt) }))
     ∙ ap (λ turn. sum_below (λ k. g (turn_at xs k)) (length xs) + g turn) (get_or_push xs x no_turn (length xs) refl)
   where
     longer : (xs : List Connection) (x : Connection) → length (xs ++ x ∷ []) ≡ suc (length xs)
@@ -70,7 +71,7 @@ module _ (a : List ℕ) (f : ℕ) (next : ℕ → ℕ) where
       by_last false rest = omega (arith, ap (λ xs. sum_below (λ k. g (turn_at xs k)) (length xs)) (without_more (turns_by a f next n)), rest)
 
 -- terms that are no more, and no less in sum, are equal
-equal_terms : (f g : ℕ → ℕ) (n k : ℕ) → ((k : ℕ) → k < n → f k ≤ g k) → sum_below f n ≡ sum_below g n → k < n → f k ≡ g k
+pub equal_terms : (f g : ℕ → ℕ) (n k : ℕ) → ((k : ℕ) → k < n → f k ≤ g k) → sum_below f n ≡ sum_below g n → k < n → f k ≡ g k
 equal_terms f g n k less same lt =
     let parts = sum_below-agree g (λ j. f j + (g j - f j)) n (record { each = λ j below. let le = less j below in omega arith }) in
     let sum = sum_below-add f (λ j. g j - f j) n in
@@ -78,7 +79,7 @@ equal_terms f g n k less same lt =
     omega (arith, parts, sum, same, term, less k lt)
 
 -- a leg's share at one leg
-one_leg : (b c : Bool) (k l : ℕ) → (k ≡ l → b ≡ c) → bit b * bit (k == l) ≡ (if l == k then bit c else 0)
+pub one_leg : (b c : Bool) (k l : ℕ) → (k ≡ l → b ≡ c) → bit b * bit (k == l) ≡ (if l == k then bit c else 0)
 one_leg b c k l h = elim (cases_eq k l) [
   | inl same ↦ let equal = h same in here b c k l equal same
   | inr other ↦ apart b c k l other
@@ -90,7 +91,7 @@ one_leg b c k l h = elim (cases_eq k l) [
     apart : (b c : Bool) (k l : ℕ) → (k ≡ l → ⊥) → bit b * bit (k == l) ≡ (if l == k then bit c else 0)
     apart b c k l g = grind (arith, nat_tests)
 
-both : (b c : Bool) → bit b * bit c ≡ bit (b && c)
+pub both : (b c : Bool) → bit b * bit c ≡ bit (b && c)
 both true c = omega arith
 both false c = omega arith
 

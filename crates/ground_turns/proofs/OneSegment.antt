@@ -127,7 +127,8 @@ pub read_between : (items now : List ℕ) (from to i j x y : ℕ) → AreNumbers
     → from ≤ to → to ≤ minutes_of now → IsTrue (nat_eq x y) ↔ NoneBetween now from to
 read_between items now from to i j x y h view at_from at_to first second order within =
     let size : length items ≡ length now = ap length view in
-    let left : x ≡ slice_index now from = first ∙ get_or_default items i x 0 (omega (arith, at_from, order, within, size, h.some)) ∙ ap (slice_index items) at_from ∙ ap (λ xs. slice_index xs from) view in
+    let left : x ≡ slice_index now from =
+    first ∙ get_or_default items i x 0 (omega (arith, at_from, order, within, size, h.some)) ∙ ap (slice_index items) at_from ∙ ap (λ xs. slice_index xs from) view in
     let right : y ≡ slice_index now to = second ∙ get_or_default items j y 0 (omega (arith, at_to, within, size, h.some)) ∙ ap (slice_index items) at_to ∙ ap (λ xs. slice_index xs to) view in
     subst (λ n. IsTrue (nat_eq n y) ↔ NoneBetween now from to) (sym left)
     (subst (λ n. IsTrue (nat_eq (slice_index now from) n) ↔ NoneBetween now from to) (sym right) (none_between now from to (subst AreNumbers view h) order within))

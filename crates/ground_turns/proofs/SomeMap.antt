@@ -26,7 +26,7 @@ use Rattle.ground_turns.proofs.Ranks.{one_place, place_taken, place_within}
 use Rattle.ground_turns.proofs.Rounds.{bit}
 
 -- numbers that go round to one are one
-same_round : (x y f n : ℕ) → x < n → y < n → f ≤ n → (x + f) % n ≡ (y + f) % n → x ≡ y
+pub same_round : (x y f n : ℕ) → x < n → y < n → f ≤ n → (x + f) % n ≡ (y + f) % n → x ≡ y
 same_round x y f n below within few e = by_cases (mod_cases (x + f) n (omega arith)) (mod_cases (y + f) n (omega arith))
   where
     by_cases : (((x + f) % n ≡ x + f) × (x + f < n)) ⊎ (((x + f) % n ≡ x + f - n) × (n ≤ x + f))
@@ -62,14 +62,22 @@ module _ (t : Tables) (a : List ℕ) (f : ℕ) (s : ℕ) where
 
   landings_all : free_landings t a f [] s ≡ arrived t (weights_of a) f s last_minute
   unfolding free_landings arrived
-  landings_all = sum_below-agree _ _ (legs_in t) (record { each = λ l below. all_part (fleet_at a l == f) ((leg_of t l).to == s) (nat_le (ready_minute t (leg_on l f)) last_minute) (by_last _ (mod_below _ MINUTES_PER_PERIOD (omega arith))) })
+  landings_all = sum_below-agree _ _ (legs_in t) (record {
+    each = λ l below.
+        all_part (fleet_at a l == f) ((leg_of t l).to == s) (nat_le (ready_minute t (leg_on l f)) last_minute)
+        (by_last _ (mod_below _ MINUTES_PER_PERIOD (omega arith)));
+  })
     where
       by_last : (r : ℕ) → r < MINUTES_PER_PERIOD → nat_le r last_minute ≡ true
       by_last r lt = grind (arith, nat_tests)
 
   departures_all : count_below (is_free_departure t a f [] s) (legs_in t) ≡ departed t (weights_of a) f s last_minute
   unfolding departed
-  departures_all = sum_below-agree _ _ (legs_in t) (record { each = λ l below. all_part (fleet_at a l == f) ((leg_of t l).from == s) (nat_le (departure t (leg_on l f)) last_minute) (by_last _ (t.in_range.legs_fit.each l no_leg below).dep) })
+  departures_all = sum_below-agree _ _ (legs_in t) (record {
+    each = λ l below.
+        all_part (fleet_at a l == f) ((leg_of t l).from == s) (nat_le (departure t (leg_on l f)) last_minute)
+        (by_last _ (t.in_range.legs_fit.each l no_leg below).dep);
+  })
     where
       by_last : (r : ℕ) → r < MINUTES_PER_PERIOD → nat_le r last_minute ≡ true
       by_last r lt = grind (arith, nat_tests)
