@@ -13,4 +13,5 @@ pub mod Regroup
 pub mod Rounds
 pub mod SomeMap
 pub mod Totals
+pub mod TourNights
 pub mod Waits

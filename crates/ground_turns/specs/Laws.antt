@@ -9,6 +9,7 @@ use Rattle.fleet_model.specs.Schedule.{fleets_in, legs_in, stations_in}
 use Rattle.fleet_model.specs.Use.{IsBalanced, need_of, stand_of, used_of}
 use Rattle.ground_turns.specs.FirstOut.{AreFirstOut}
 use Rattle.ground_turns.specs.Maps.{AreClean, AreExchanged, Holds, IsFitting, IsHeld, IsNext, IsSuccessorMap, crossings_at, periods_of, turn_at, turns_by, waiting_at}
+use Rattle.ground_turns.specs.Nights.{nights_in_turns}
 use Rattle.ground_turns.specs.Segments.{EndAt, NoneEnds, is_among, minutes_of}
 use Rattle.ground_turns.specs.Turns.{IsClean, days_in, departs_at, nights_waited, period_of, ready_at, station_at, touches}
 
@@ -63,6 +64,11 @@ NightsAreStands = (t : Tables) (a : List ℕ) (f : ℕ) (turns : List Connection
 abbrev pub NightsAreNeed : Type 0
 NightsAreNeed = (t : Tables) (a : List ℕ) (f : ℕ) (turns : List Connection) (s : ℕ) → IsFitting t a f turns → s < stations_in t
     → period_of t ≡ MINUTES_PER_DAY → nights_at t f turns s ≡ need_of t (weights_of a) f s
+
+-- the nights of a fitting map, so of a tour, are the aircraft that the fleet uses times the days of the period
+abbrev pub NightsAreUse : Type 0
+NightsAreUse = (t : Tables) (a : List ℕ) (f : ℕ) (turns : List Connection) → IsFitting t a f turns
+    → length (nights_in_turns t f turns) ≡ used_of t (weights_of a) f * days_in t
 
 -- two turns of a list at one station that touch one minute
 pub record Touch (t : Tables) (f : ℕ) (turns : List Connection) (i j m : ℕ) : Type 0 where

@@ -1,5 +1,5 @@
 //! The laws of turns and successor maps. Each function is a law: its contract is the statement, and it does nothing.
-ghost use Rattle.ground_turns.specs.Laws.{ExchangedFits, FirstOutFits, FitsWhereClean, NextIsMap, NightsAreNeed, NightsAreStands, PeriodsBeyondUse, SegmentsTellClean, SomeFits, WaitingIsStand, WaitingLaw};
+ghost use Rattle.ground_turns.specs.Laws.{ExchangedFits, FirstOutFits, FitsWhereClean, NextIsMap, NightsAreNeed, NightsAreStands, NightsAreUse, PeriodsBeyondUse, SegmentsTellClean, SomeFits, WaitingIsStand, WaitingLaw};
 
 /// In a successor map the aircraft that wait at a station are, at each moment, those that stand there and one number
 /// more: by which the turns that cross the period's start pass the need.
@@ -31,6 +31,11 @@ pub fn nights_are_stands()
 /// Where the period is a day, the nights of the turns at a station number its need in a fitting map.
 pub fn nights_are_need()
     ensures { NightsAreNeed }
+{}
+
+/// The nights of a fitting map, so of a tour, number the aircraft that the fleet uses times the days of the period.
+pub fn nights_are_use()
+    ensures { NightsAreUse }
 {}
 
 /// Where two turns at a station touch one minute, a fitting map with their departures exchanged fits too.
