@@ -20,7 +20,7 @@ use Rattle.ground_turns.proofs.Totals.{some_counted}
 use Rattle.ground_turns.proofs.Waits.{at_station, departs_within, over_arrivals, over_departures, ready_within}
 
 -- two that pass are one where at most one is counted
-once : (p : ℕ → Bool) (n j k : ℕ) → count_below p n ≤ 1 → j < n → k < n → p j ≡ true → p k ≡ true → j ≡ k
+pub once : (p : ℕ → Bool) (n j k : ℕ) → count_below p n ≤ 1 → j < n → k < n → p j ≡ true → p k ≡ true → j ≡ k
 once p n j k few first second h g = elim (cases_order j k) [
   | inl same ↦ same
   | inr other ↦ elim other [

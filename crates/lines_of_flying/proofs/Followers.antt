@@ -14,7 +14,7 @@ use Rattle.fleet_model.specs.Counts.{fleet_at}
 use Rattle.fleet_model.specs.Schedule.{leg_of, leg_on, legs_in}
 use Rattle.fleet_model.specs.Times.{departure}
 use Rattle.ground_turns.specs.FirstOut.{departure_place, free_departed, free_excess, free_landings, free_need, is_free_departure, is_free_landing, landing_place}
-use Rattle.ground_turns.specs.Maps.{HasTurn, IsHeld, IsSuccessorMap, arrivals_of, departures_of, turn_at}
+use Rattle.ground_turns.specs.Maps.{IsNext, HasTurn, IsHeld, IsSuccessorMap, arrivals_of, departures_of, turn_at}
 use Rattle.ground_turns.specs.Turns.{IsTurn, period_of}
 use Rattle.ground_turns.proofs.FleetTurns.{pick, picked}
 use Rattle.ground_turns.proofs.FreeTurns.{all_there, by_arriving, by_departing, there, there_is}
@@ -25,7 +25,6 @@ use Rattle.ground_turns.proofs.SomeMap.{same_round}
 use Rattle.ground_turns.proofs.Totals.{some_counted}
 use Rattle.ground_turns.proofs.Waits.{over_departures}
 use Rattle.lines_of_flying.specs.Following.{Follows, IsFirstOutNext, landing_at, next_place}
-use Rattle.lines_of_flying.proofs.NextMaps.{AreNexts, in_fleet}
 
 departing_part : (w b c : Bool) → bit w * bit (b && c) ≡ bit ((w && b) && c)
 departing_part true b c = omega arith
@@ -45,22 +44,22 @@ above_none n h = elim (cases_lt 0 n) [ inl some ↦ some | inr none ↦ absurd (
 
 module _ (t : Tables) (a : List ℕ) (f : ℕ) (given : List Connection) where
   -- the departure is free, and its place is the one that follows the leg
-  unfoldable pub is_next : ℕ → ℕ → Bool
-  is_next l q = is_free_departure t a f given (landing_at t l) q && (departure_place t a f given (landing_at t l) q == next_place t a f given l)
+  unfoldable pub goes_next : ℕ → ℕ → Bool
+  goes_next l q = is_free_departure t a f given (landing_at t l) q && (departure_place t a f given (landing_at t l) q == next_place t a f given l)
 
   unfoldable pub partner_of : ℕ → ℕ
   partner_of l = (turn_at given (pick (λ g. (turn_at given g).arriving == l) (length given))).departing
 
   -- the leg that follows, as a function of the leg
   unfoldable pub next : ℕ → ℕ
-  next l = if arrivals_of given l == 0 then pick (is_next l) (legs_in t) else partner_of l
+  next l = if arrivals_of given l == 0 then pick (goes_next l) (legs_in t) else partner_of l
 
 module _ (t : Tables) (a : List ℕ) (f : ℕ) (given : List Connection) (held : IsHeld t a f given) where
   abbrev map : IsSuccessorMap t a f held.turns
   map = held.fitting.map
 
   abbrev flies : ℕ → Bool
-  flies = in_fleet a f
+  flies l = fleet_at a l == f
 
   -- as many departures are free at a station as landings
   free_departures : (s : ℕ) → count_below (is_free_departure t a f given s) (legs_in t) ≡ free_landings t a f given s
@@ -205,7 +204,7 @@ module _ (t : Tables) (a : List ℕ) (f : ℕ) (given : List Connection) (held :
 
   -- the leg that the function gives follows
   pub next_follows : (l : ℕ) → l < legs_in t → flies l ≡ true → Follows t a f given l (next t a f given l)
-  unfolding next is_next partner_of
+  unfolding next goes_next partner_of
   next_follows l below on = by_test (arrivals_of given l == 0) refl
     where
       not_none : (n : ℕ) → (n == 0) ≡ false → 0 < n
@@ -214,12 +213,12 @@ module _ (t : Tables) (a : List ℕ) (f : ℕ) (given : List Connection) (held :
       clash : {n : ℕ} → n ≡ 0 → 0 < n → ⊥
       clash e h = omega arith
 
-      by_test : (b : Bool) → (arrivals_of given l == 0) ≡ b → Follows t a f given l (if b then pick (is_next t a f given l) (legs_in t) else partner_of t a f given l)
+      by_test : (b : Bool) → (arrivals_of given l == 0) ≡ b → Follows t a f given l (if b then pick (goes_next t a f given l) (legs_in t) else partner_of t a f given l)
       by_test true e =
           let none = no_test _ e in
           let found = next_found l below on none in
           let x = found.1 in
-          let chosen = picked (is_next t a f given l) (legs_in t) found.0 x.known (and_from _ _ x.free (eq-eqb _ _ x.place)) in
+          let chosen = picked (goes_next t a f given l) (legs_in t) found.0 x.known (and_from _ _ x.free (eq-eqb _ _ x.place)) in
           let parts = and_parts _ _ chosen.1 in
           record {
             partner = λ some. absurd (some none);
@@ -238,11 +237,12 @@ module _ (t : Tables) (a : List ℕ) (f : ℕ) (given : List Connection) (held :
             first_out = λ free. absurd (clash free some);
           }
 
-  pub nexts : AreNexts t a f (next t a f given)
-  nexts = record {
-    turns = λ l below on. follows_turn l (next t a f given l) below on (next_follows l below on);
+  pub is_next : IsNext t a f (next t a f given)
+  is_next = record {
+    turn = λ l below on. follows_turn l (next t a f given l) below (eq-eqb _ _ on) (next_follows l below (eq-eqb _ _ on));
     once = λ l k below within on on' same.
-        one_before l k (next t a f given k) below within on on' (subst (Follows t a f given l) same (next_follows l below on)) (next_follows k within on');
+        one_before l k (next t a f given k) below within (eq-eqb _ _ on) (eq-eqb _ _ on')
+        (subst (Follows t a f given l) same (next_follows l below (eq-eqb _ _ on))) (next_follows k within (eq-eqb _ _ on'));
   }
 
   -- a free landing is one of some

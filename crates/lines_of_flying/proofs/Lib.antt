@@ -1,5 +1,4 @@
 pub mod Listed
-pub mod NextMaps
 pub mod Followers
 pub mod FreeNeed
 pub mod AllSuccessors
