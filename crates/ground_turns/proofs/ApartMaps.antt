@@ -23,7 +23,8 @@ use Rattle.ground_turns.proofs.Totals.{some_counted}
 use Rattle.ground_turns.proofs.WalkRound.{next_step, touches_last, touches_next, touches_ready, waits_touch, walk_end, walked}
 use Rattle.ground_turns.proofs.Waits.{crossings_suffice, departs_within, ready_within}
 
-module _ (t : Tables) (a : List ℕ) (f : ℕ) (given turns other : List Connection) (fitting : IsFitting t a f turns) (holds : Holds turns given) (fitting' : IsFitting t a f other) (holds' : Holds other given) where
+module _ (t : Tables) (a : List ℕ) (f : ℕ) (given turns other : List Connection) (fitting : IsFitting t a f turns)
+    (holds : Holds turns given) (fitting' : IsFitting t a f other) (holds' : Holds other given) where
   -- as many free turns wait in one map as in the other
   same_waiting : (s m : ℕ) → s < stations_in t → m < period_of t → free_waiting t a f given turns fitting.map holds s m ≡ free_waiting t a f given other fitting'.map holds' s m
   same_waiting s m below moment =
@@ -97,7 +98,8 @@ module _ (t : Tables) (a : List ℕ) (f : ℕ) (given turns other : List Connect
             within = found.1;
             free = ap (arrivals_of given) found.2 ∙ eqb-true _ _ free;
             there = ap (λ q. (leg_of t q).to) found.2;
-            touching = subst (λ m. touches t f (turn_at turns found.0) m ≡ true) here (touches_ready MINUTES_PER_PERIOD (ready_at t f (turn_at turns found.0)) (wait_of t f (turn_at turns found.0)) ready);
+            touching = subst (λ m. touches t f (turn_at turns found.0) m ≡ true) here
+                (touches_ready MINUTES_PER_PERIOD (ready_at t f (turn_at turns found.0)) (wait_of t f (turn_at turns found.0)) ready);
           },
           ap inside found.2,
         )
@@ -109,7 +111,8 @@ module _ (t : Tables) (a : List ℕ) (f : ℕ) (given turns other : List Connect
         let few = wait_within (turn_at other k) in
         let ready = ready_within t a f other fitting'.map k in
         let waits : waits_at t f (turn_at other k) (minute_at k j) ≡ true =
-        ap (λ n. nat_lt n (wait_of t f (turn_at other k))) (walked MINUTES_PER_PERIOD (ready_at t f (turn_at other k)) j ready (omega (arith, few, steps))) ∙ lt-ltb j (wait_of t f (turn_at other k)) steps in
+        ap (λ n. nat_lt n (wait_of t f (turn_at other k))) (walked MINUTES_PER_PERIOD (ready_at t f (turn_at other k)) j ready (omega (arith, few, steps)))
+        ∙ lt-ltb j (wait_of t f (turn_at other k)) steps in
         let found = one_waits k (minute_at k j) lt free (minute_within k j) waits in
         let parts = and_parts _ _ (opened k found.0 found.2) in
         let here : station_at t (turn_at turns found.0) ≡ station_at t (turn_at other k) = eqb-true _ _ parts.0 in
@@ -139,7 +142,8 @@ module _ (t : Tables) (a : List ℕ) (f : ℕ) (given turns other : List Connect
         let found = departs_in (turn_at other k).departing (fitting'.map.each k lt).departing (fitting'.map.each k lt).leaves_on in
         let second : Touching s d found.0 = record {
           within = found.1;
-          free = eqb-true _ _ (free_both t a f given turns fitting.map holds found.0 found.1 ∙ ap (λ q. departures_of given q == 0) found.2 ∙ sym (free_both t a f given other fitting'.map holds' k lt) ∙ free);
+          free = eqb-true _ _ (free_both t a f given turns fitting.map holds found.0 found.1 ∙ ap (λ q. departures_of given q == 0) found.2
+              ∙ sym (free_both t a f given other fitting'.map holds' k lt) ∙ free);
           there = (fitting.map.each found.0 found.1).meets ∙ ap (λ q. (leg_of t q).from) found.2 ∙ sym (fitting'.map.each k lt).meets;
           touching = subst (λ m. touches t f (turn_at turns found.0) m ≡ true) (ap (λ q. departure t (leg_on q f)) found.2) (touches_last (wait_of t f (turn_at turns found.0)));
         } in
