@@ -1,22 +1,22 @@
 -- The chosen pairs are a through set.
-use Rattle.std.proofs.Common.{◌≡◌, ◌≢◌, ℕ, ◌+◌, ◌-◌, ◌<◌, ◌≤◌, nat_lt, Bool, true, false, List, [], length, slice_index, ℤ, pos, ◌<ℤ◌, ◌≤ℤ◌, unwrap_or, unsigned_abs, refl, sym, ◌∙◌, ap, subst, arith}
+use Rattle.std.proofs.Common.{◌≡◌, ℕ, ◌+◌, ◌-◌, ◌<◌, nat_lt, true, false, List, [], length, slice_index, ℤ, pos, ◌<ℤ◌, ◌≤ℤ◌, unwrap_or, unsigned_abs, refl, sym, ◌∙◌, ap, subst, arith}
 use Rattle.std.proofs.lemmas.Bool.Decides.{nat_tests}
 use Rattle.std.proofs.lemmas.Int.{ints}
 use Rattle.sums.specs.Below.{sum_below}
-use Rattle.best_matching.specs.Worths.{AreDuals, AreTight, IsOneToOne, worth_at as matrix_at}
+use Rattle.best_matching.specs.Worths.{AreDuals, AreTight, IsOneToOne}
 use Rattle.fleet_model.specs.declared.parts.Connection.{Connection}
 use Rattle.fleet_model.specs.declared.tables.Tables.{Tables}
-use Rattle.fleet_model.specs.Counts.{fleet_at, weights_of}
+use Rattle.fleet_model.specs.Counts.{weights_of}
 use Rattle.fleet_model.specs.Schedule.{fleets_in, legs_in}
 use Rattle.fleet_model.specs.Use.{IsBalanced}
-use Rattle.ground_turns.specs.Maps.{AreClean, HasTurn, IsFitting, IsHeld, turn_at}
-use Rattle.ground_turns.specs.Throughs.{IsThroughSet, IsThroughTurn, value_of, value_of_set, worth_at}
+use Rattle.ground_turns.specs.Maps.{AreClean, HasTurn, IsHeld, turn_at}
+use Rattle.ground_turns.specs.Throughs.{IsThroughSet, IsThroughTurn, value_of, value_of_set}
 use Rattle.ground_turns.proofs.Fits.{fits_where_clean}
 use Rattle.ground_turns.proofs.SomeMap.{some_fits}
 use Rattle.through_flights.specs.declared.worths.TheConstants.{CLEAN_WORTH}
 use Rattle.through_flights.specs.Choice.{AreListed, turns_below}
 use Rattle.through_flights.specs.Chosen.{chosen_value, is_chosen}
-use Rattle.through_flights.specs.Worths.{AreTurnWorths, listed_value, pair_of}
+use Rattle.through_flights.specs.Worths.{AreTurnWorths, pair_of}
 use Rattle.through_flights.proofs.CleanMatchings.{all_clean, goes_on}
 use Rattle.through_flights.proofs.FittingMaps.{fitting, has, turns}
 use Rattle.through_flights.proofs.Followers.{AreFollowers, are_followers, follower}

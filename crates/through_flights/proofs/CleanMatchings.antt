@@ -1,17 +1,17 @@
 -- A matching of the legs that is worth most has none but clean turns.
-use Rattle.std.proofs.Common.{◌≡◌, ◌≢◌, ℕ, zero, suc, ◌+◌, ◌*◌, ◌<◌, ◌≤◌, ◌==◌, ◌⊎◌, Bool, true, false, if◌then◌else◌, List, length, refl, sym, ◌∙◌, ap, subst, inl, inr, arith}
+use Rattle.std.proofs.Common.{◌≡◌, ◌≢◌, ℕ, zero, suc, ◌+◌, ◌*◌, ◌<◌, ◌≤◌, ◌==◌, if◌then◌else◌, List, length, sym, ◌∙◌, ap, subst, inl, inr, arith}
 use Rattle.std.proofs.lemmas.Bool.{cases_eq}
 use Rattle.std.proofs.lemmas.Bool.Decides.{nat_tests}
 use Rattle.sums.specs.Below.{sum_below}
 use Rattle.sums.proofs.Sums.{sum_below-add, sum_below-bound, sum_below-le, sum_below-one}
-use Rattle.best_matching.specs.Worths.{AreDuals, AreTight, IsOneToOne, map_worth, worth_at}
+use Rattle.best_matching.specs.Worths.{AreDuals, AreTight, IsOneToOne, worth_at}
 use Rattle.best_matching.proofs.DualLaws.{none_more}
 use Rattle.fleet_model.specs.declared.limits.TheConstants.{MAX_LEGS}
 use Rattle.fleet_model.specs.declared.tables.Tables.{Tables}
 use Rattle.fleet_model.specs.Counts.{fleet_at}
 use Rattle.fleet_model.specs.Schedule.{legs_in}
 use Rattle.through_flights.specs.declared.worths.TheConstants.{CLEAN_WORTH, MAX_VALUE}
-use Rattle.through_flights.specs.Worths.{AreTurnWorths, IsCleanTurn, IsIdle, IsTurnWorth, pair_of}
+use Rattle.through_flights.specs.Worths.{AreTurnWorths, IsTurnWorth, pair_of}
 use Rattle.through_flights.proofs.Followers.{AreFollowers, GoesOn}
 
 constant : (c n : ℕ) → sum_below (λ k. c) n ≡ n * c

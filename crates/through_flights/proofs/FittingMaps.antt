@@ -1,6 +1,6 @@
 -- Legs that go on in clean turns make a fitting map.
-use Rattle.std.proofs.Common.{◌≡◌, ◌≢◌, ℕ, zero, suc, ◌+◌, ◌*◌, ◌<◌, ◌≤◌, ◌==◌, Bool, true, false, if◌then◌else◌, List, [], ◌∷◌, length, refl, sym, ◌∙◌, ap, subst, inl, inr, arith}
-use Rattle.std.proofs.lemmas.Bool.{cases_eq, cases_lt, eq-eqb, eqb-true}
+use Rattle.std.proofs.Common.{◌≡◌, ◌≢◌, ℕ, ◌*◌, ◌<◌, ◌==◌, Bool, true, if◌then◌else◌, List, length, refl, sym, ◌∙◌, ap, inl, inr, arith}
+use Rattle.std.proofs.lemmas.Bool.{cases_eq, eq-eqb, eqb-true}
 use Rattle.std.proofs.lemmas.Bool.Decides.{nat_tests}
 use Rattle.sums.specs.Below.{sum_below}
 use Rattle.sums.proofs.Sums.{sum_below-agree, sum_below-one}
@@ -12,7 +12,7 @@ use Rattle.fleet_model.specs.Schedule.{leg_on, legs_in}
 use Rattle.ground_turns.specs.Maps.{AreClean, HasTurn, IsFitting, IsSuccessorMap, arrivals_of, departures_of, turn_at}
 use Rattle.ground_turns.specs.Turns.{IsClean, IsTurn}
 use Rattle.ground_turns.proofs.Fits.{fits_where_clean}
-use Rattle.ground_turns.proofs.FleetTurns.{each_turn, over_turns, turn_of, turns_up_to}
+use Rattle.ground_turns.proofs.FleetTurns.{each_turn, over_turns, turns_up_to}
 use Rattle.ground_turns.proofs.Rounds.{bit}
 use Rattle.through_flights.specs.Worths.{pair_of}
 use Rattle.ground_turns.proofs.Totals.{some_counted}

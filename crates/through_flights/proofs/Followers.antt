@@ -1,20 +1,17 @@
 -- The leg that follows each leg in a fitting map of the fleet, as a function of all legs.
-use Rattle.std.proofs.Common.{◌≡◌, ◌≢◌, ℕ, ◌+◌, ◌<◌, ◌≤◌, ◌==◌, Bool, true, false, if◌then◌else◌, List, [], length, refl, sym, ◌∙◌, ap, subst, inl, inr, arith}
+use Rattle.std.proofs.Common.{◌≡◌, ◌≢◌, ℕ, ◌<◌, ◌==◌, Bool, true, false, if◌then◌else◌, List, length, sym, ◌∙◌, ap, subst, inl, inr, arith}
 use Rattle.std.proofs.lemmas.Bool.{cases_eq, eq-eqb, eqb-true}
 use Rattle.std.proofs.lemmas.Bool.Decides.{nat_tests}
-use Rattle.sums.specs.Below.{count_below}
 use Rattle.sums.proofs.Counts.{count_below-one}
-use Rattle.sums.proofs.Tests.{by_test, no_both}
 use Rattle.best_matching.specs.Worths.{IsOneToOne}
 use Rattle.fleet_model.specs.declared.parts.Connection.{Connection}
 use Rattle.fleet_model.specs.declared.tables.Tables.{Tables}
-use Rattle.fleet_model.specs.Counts.{fleet_at, weights_of}
-use Rattle.fleet_model.specs.Schedule.{leg_on, legs_in}
+use Rattle.fleet_model.specs.Counts.{fleet_at}
+use Rattle.fleet_model.specs.Schedule.{legs_in}
 use Rattle.ground_turns.specs.Maps.{AreClean, IsSuccessorMap, arrivals_of, departures_of, turn_at}
-use Rattle.ground_turns.specs.Turns.{IsClean, IsTurn}
 use Rattle.ground_turns.proofs.FleetTurns.{pick, picked}
 use Rattle.ground_turns.proofs.Totals.{some_counted}
-use Rattle.through_flights.specs.Worths.{IsCleanTurn, IsIdle, pair_of}
+use Rattle.through_flights.specs.Worths.{IsCleanTurn, pair_of}
 
 -- a leg of the fleet goes on in a clean turn, and another one stands at itself
 pub record GoesOn (t : Tables) (a : List ℕ) (f leg next : ℕ) : Type 0 where

@@ -9,3 +9,4 @@ pub mod FittingMaps
 pub mod ListedTurns
 pub mod Numbers
 pub mod Choices
+pub mod NoneMore

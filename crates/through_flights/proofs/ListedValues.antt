@@ -1,5 +1,5 @@
 -- The values of through pairs, entry by entry from the last.
-use Rattle.std.proofs.Common.{◌≡◌, ◌≢◌, ℕ, suc, ◌+◌, ◌-◌, ◌<◌, ◌≤◌, ◌==◌, ◌&&◌, Bool, true, false, if◌then◌else◌, List, [], ◌∷◌, length, slice_index, slice_set, drop, Some, None, Option, unwrap_or, unsigned_abs, ℤ, pos, refl, sym, ◌∙◌, ap, subst, inl, inr, arith, drop-cons, get_or, get_or-set_same, get_or-set_other}
+use Rattle.std.proofs.Common.{◌≡◌, ◌≢◌, ℕ, suc, ◌-◌, ◌<◌, ◌≤◌, ◌==◌, ◌&&◌, Bool, true, false, if◌then◌else◌, List, ◌∷◌, length, slice_index, slice_set, drop, Some, unwrap_or, unsigned_abs, pos, refl, sym, ◌∙◌, ap, subst, inl, inr, arith, drop-cons, get_or, get_or-set_same, get_or-set_other}
 use Rattle.std.proofs.lemmas.Bool.{cases_eq}
 use Rattle.std.proofs.lemmas.Bool.Decides.{nat_tests}
 use Rattle.std.proofs.Math.Seq.{drop-length}

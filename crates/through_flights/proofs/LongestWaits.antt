@@ -1,5 +1,5 @@
 -- The longest wait of a clean turn is the least time until no aircraft stands at the station.
-use Rattle.std.proofs.Common.{◌≡◌, ◌≢◌, ℕ, ◌+◌, ◌-◌, ◌%◌, ◌<◌, ◌≤◌, ◌==◌, nat_lt, Bool, true, false, IsTrue, List, length, slice_index, refl, sym, ◌∙◌, ap, subst, inl, inr, arith}
+use Rattle.std.proofs.Common.{◌≡◌, ℕ, ◌+◌, ◌-◌, ◌%◌, ◌<◌, ◌≤◌, ◌==◌, nat_lt, true, IsTrue, List, length, slice_index, sym, ◌∙◌, ap, subst, inl, inr, arith}
 use Rattle.std.proofs.lemmas.Bool.{cases_lt}
 use Rattle.std.proofs.lemmas.Bool.Decides.{nat_tests}
 use Rattle.std.proofs.lemmas.Nat.{mod_below}
@@ -11,7 +11,7 @@ use Rattle.fleet_model.specs.Schedule.{leg_of, leg_on}
 use Rattle.fleet_model.specs.Times.{ready_minute}
 use Rattle.fleet_model.specs.Use.{stand_of}
 use Rattle.island_cut.specs.Zeros.{none_stands, zeros_of}
-use Rattle.ground_turns.specs.Turns.{IsClean, minutes_until, ready_at, station_at, wait_of, waits_at}
+use Rattle.ground_turns.specs.Turns.{minutes_until, ready_at, station_at, wait_of}
 use Rattle.through_flights.specs.Waits.{IsLongestWait}
 use Rattle.through_flights.proofs.ZeroMinutes.{StandsAt, each_stands, stands_in}
 

@@ -1,5 +1,5 @@
 -- The numbers of the legs that a matching gives.
-use Rattle.std.proofs.Common.{◌≡◌, ◌≢◌, ℕ, zero, suc, ◌+◌, ◌-◌, ◌<◌, ◌≤◌, ◌==◌, Bool, true, false, if◌then◌else◌, List, length, slice_index, ℤ, pos, ◌+ℤ◌, ◌-ℤ◌, ◌≤ℤ◌, Option, Some, None, unwrap_or, unsigned_abs, refl, sym, ◌∙◌, ap, subst, inl, inr, arith}
+use Rattle.std.proofs.Common.{◌≡◌, ◌≢◌, ℕ, zero, suc, ◌+◌, ◌-◌, ◌<◌, ◌≤◌, ◌==◌, Bool, true, false, if◌then◌else◌, List, length, slice_index, ℤ, pos, ◌+ℤ◌, ◌-ℤ◌, ◌≤ℤ◌, unwrap_or, unsigned_abs, refl, sym, ◌∙◌, ap, subst, inl, inr, arith}
 use Rattle.std.proofs.lemmas.Bool.{cases_eq, eq-eqb}
 use Rattle.std.proofs.lemmas.Bool.Decides.{nat_tests}
 use Rattle.std.proofs.lemmas.Int.{ints}
@@ -14,12 +14,11 @@ use Rattle.fleet_model.specs.declared.parts.Connection.{Connection}
 use Rattle.fleet_model.specs.declared.tables.Tables.{Tables}
 use Rattle.fleet_model.specs.Counts.{fleet_at}
 use Rattle.fleet_model.specs.Schedule.{legs_in}
-use Rattle.ground_turns.specs.Throughs.{IsThroughTurn, value_of}
-use Rattle.ground_turns.specs.Turns.{IsClean, IsTurn}
+use Rattle.ground_turns.specs.Turns.{IsTurn}
 use Rattle.through_flights.specs.declared.worths.TheConstants.{CLEAN_WORTH}
 use Rattle.through_flights.specs.Choice.{ReachTurns, number_at, sum_of}
 use Rattle.through_flights.specs.Chosen.{chosen_value, own_number}
-use Rattle.through_flights.specs.Worths.{AreTurnWorths, IsCleanTurn, IsIdle, IsTurnWorth, listed_value, pair_of}
+use Rattle.through_flights.specs.Worths.{AreTurnWorths}
 use Rattle.through_flights.proofs.Followers.{AreFollowers}
 
 unequal : (x y : ℕ) → x ≢ y → (x == y) ≡ false

@@ -1,14 +1,13 @@
 -- What a through pair that can be flown is worth.
-use Rattle.std.proofs.Common.{◌≡◌, ◌≢◌, ℕ, suc, ◌+◌, ◌<◌, ◌≤◌, ◌⊎◌, Bool, true, false, if◌then◌else◌, IsTrue, List, [], ◌∷◌, length, slice_index_or, Option, Some, None, IsSome, unwrap_or, unsigned_abs, ℤ, pos, ◌≤ℤ◌, refl, sym, ◌∙◌, ap, subst, inl, inr, arith}
+use Rattle.std.proofs.Common.{◌≡◌, ℕ, suc, ◌+◌, ◌<◌, ◌≤◌, Bool, true, false, if◌then◌else◌, List, [], ◌∷◌, length, slice_index_or, Option, Some, None, IsSome, unwrap_or, unsigned_abs, ℤ, pos, ◌≤ℤ◌, refl, ap, inr, arith}
 use Rattle.std.proofs.lemmas.Int.{ints}
 use Rattle.fleet_model.specs.declared.limits.TheConstants.{MAX_COST}
 use Rattle.fleet_model.specs.declared.parts.Connection.{Connection}
 use Rattle.fleet_model.specs.declared.parts.Through.{Through}
 use Rattle.fleet_model.specs.declared.tables.Tables.{Tables}
-use Rattle.fleet_model.specs.Limits.{IsThrough}
-use Rattle.ground_turns.specs.Throughs.{IsThroughTurn, is_of, value_in, value_of}
+use Rattle.ground_turns.specs.Throughs.{is_of, value_in, value_of}
 use Rattle.through_flights.specs.declared.worths.TheConstants.{CLEAN_WORTH, MAX_VALUE}
-use Rattle.through_flights.specs.Worths.{IsCleanTurn, IsIdle, IsShort, IsTurnWorth, listed_value}
+use Rattle.through_flights.specs.Worths.{IsCleanTurn, IsShort, IsTurnWorth, listed_value}
 
 -- a value that is found is that of an entry
 value_found : (P : ℤ → Type 0) (entries : List Through) (pair : Connection) → P (pos 0) → ((k : ℕ) (d : Through) → k < length entries → P (slice_index_or entries k d).value)

@@ -2,6 +2,7 @@
 #![tactic(auto)]
 
 pub mod choosing;
+pub mod laws;
 pub mod values;
 pub mod waits;
 pub mod worths;

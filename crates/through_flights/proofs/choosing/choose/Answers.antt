@@ -1,4 +1,4 @@
-use Rattle.std.proofs.Common.{◌≡◌, ℕ, ℤ, ◌+ℤ◌, pos, List, subst, length, slice_index, to_z, of_z, rules, sym, ◌∙◌, ap}
+use Rattle.std.proofs.Common.{◌≡◌, ℕ, pos, List, subst, rules, sym, ◌∙◌, ap}
 use Rattle.std.proofs.lemmas.Int.{to_z-of_z}
 use mir.Val.{SFits}
 use mir.Syntax.{w128}
@@ -6,7 +6,7 @@ use Rattle.sums.specs.Below.{sum_below}
 use Rattle.sums.specs.Places.{list_below}
 use Rattle.fleet_model.specs.declared.tables.Tables.{Tables}
 use Rattle.through_flights.specs.Worths.{AreTurnWorths}
-use Rattle.through_flights.specs.Chosen.{chosen_value, own_number}
+use Rattle.through_flights.specs.Chosen.{chosen_value}
 use Rattle.through_flights.proofs.Choices.{are_listed, matched_followers, set_value, through_set}
 use Rattle.through_flights.proofs.Numbers.{numbers_reach, numbers_sum}
 use Rattle.through_flights.proofs.choosing.choose.Goals as goal

@@ -1,5 +1,5 @@
 use Rattle.std.proofs.Common.{◌≡◌, ◌+◌, ◌≤◌, Fits, ℕ, refl, arith, w64}
-use Rattle.through_flights.specs.declared.worths.TheConstants.{CLEAN_WORTH, MAX_VALUE}
+use Rattle.through_flights.specs.declared.worths.TheConstants.{MAX_VALUE}
 use Rattle.through_flights.proofs.TurnWorths.{listed_small, through_worth}
 use Rattle.through_flights.proofs.worths.turn_worth.Goals as goal
 

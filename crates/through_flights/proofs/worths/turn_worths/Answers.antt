@@ -1,4 +1,4 @@
-use Rattle.std.proofs.Common.{◌≡◌, ◌<◌, ℕ, [], List, length, slice_index}
+use Rattle.std.proofs.Common.{◌≡◌, ◌<◌, ℕ, [], length, slice_index}
 use Rattle.fleet_model.specs.Schedule.{legs_in}
 use Rattle.through_flights.specs.Worths.{IsTurnWorth, pair_of}
 use Rattle.through_flights.proofs.Pushing.{one_longer, pushed}

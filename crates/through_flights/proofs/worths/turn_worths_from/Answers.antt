@@ -1,4 +1,3 @@
-use Rattle.std.proofs.Common.{length, slice_index}
 use Rattle.through_flights.specs.Worths.{IsTurnWorth, pair_of}
 use Rattle.through_flights.proofs.Pushing.{one_longer, pushed}
 use Rattle.through_flights.proofs.worths.turn_worths_from.Goals as goal
