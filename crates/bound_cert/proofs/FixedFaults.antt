@@ -163,19 +163,9 @@ module _ (t : Tables) (line next other : List ℕ) (rest others : Left) (look : 
 
   body_follows : (h : Head) (p : Left) → Follows end other_end (body_at t h (p ++ end)) (body_at t h (p ++ other_end))
   unfolding body_at
-  body_follows (head.Bare leg) p = same_end end other_end _ p
-  body_follows head.Sole p = same_end end other_end _ p
-  body_follows head.Refuted p = follows_bind end other_end (prices_at t (p ++ end)) (prices_at t (p ++ other_end)) _ (prices_follow p) (λ prices. same_end end other_end _) (λ prices a. omega arith)
-  body_follows head.Priced p = follows_bind end other_end (prices_at t (p ++ end)) (prices_at t (p ++ other_end)) _ (prices_follow p) (λ prices. same_end end other_end _) (λ prices a. omega arith)
-  body_follows head.Nodes p =
-      follows_bind end other_end (prices_at t (p ++ end)) (prices_at t (p ++ other_end)) _ (prices_follow p)
-      (λ prices q. follows_bind end other_end (mixed_at t (q ++ end)) (mixed_at t (q ++ other_end)) _ (mixed_follows q) (λ mixed. same_end end other_end _) (λ mixed a. omega arith))
-      (λ prices a. shrinks_bind (length a) (mixed_at t a) _ (mixed_shrinks t a) (λ mixed b. omega arith))
-  body_follows (head.Pivots made) p = follows_bind end other_end (prices_at t (p ++ end)) (prices_at t (p ++ other_end)) _ (prices_follow p) (λ prices. same_end end other_end _) (λ prices a. omega arith)
-  body_follows (head.Grew pivots row column) p = follows_bind end other_end (prices_at t (p ++ end)) (prices_at t (p ++ other_end)) _ (prices_follow p) (λ prices. same_end end other_end _) (λ prices a. omega arith)
-  body_follows (head.Lift step at) p = follows_bind end other_end (prices_at t (p ++ end)) (prices_at t (p ++ other_end)) _ (prices_follow p) (λ prices. same_end end other_end _) (λ prices a. omega arith)
-  body_follows (head.Trim leg fleet) p = same_end end other_end _ p
-  body_follows (head.Split leg fleet) p =
+  body_follows (head.Alone h) p = same_end end other_end _ p
+  body_follows (head.Priced h) p = follows_bind end other_end (prices_at t (p ++ end)) (prices_at t (p ++ other_end)) _ (prices_follow p) (λ prices. same_end end other_end _) (λ prices a. omega arith)
+  body_follows (head.Mixed h) p =
       follows_bind end other_end (prices_at t (p ++ end)) (prices_at t (p ++ other_end)) _ (prices_follow p)
       (λ prices q. follows_bind end other_end (mixed_at t (q ++ end)) (mixed_at t (q ++ other_end)) _ (mixed_follows q) (λ mixed. same_end end other_end _) (λ mixed a. omega arith))
       (λ prices a. shrinks_bind (length a) (mixed_at t a) _ (mixed_shrinks t a) (λ mixed b. omega arith))

@@ -7,10 +7,10 @@ pub mod LeastWorth
 pub mod LineTwins
 pub mod Lines
 pub mod LinesOfWords
+pub mod NodesOfTables
 pub mod Numbers
 pub mod PriceLists
 pub mod ReadBack
-pub mod ReadOfTables
 pub mod ReadOn
 pub mod ReadProof
 pub mod ReadTree

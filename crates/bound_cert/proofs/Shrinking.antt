@@ -85,17 +85,9 @@ module _ (t : Tables) where
 
   pub body_shrinks : (h : Head) (a : Left) → Shrinks (length a) (body_at t h a)
   unfolding body_at
-  body_shrinks (head.Bare leg) a = omega arith
-  body_shrinks head.Sole a = omega arith
-  body_shrinks head.Refuted a = shrinks_bind (length a) (prices_at t a) _ (prices_shrink a) (λ prices b. omega arith)
-  body_shrinks head.Priced a = shrinks_bind (length a) (prices_at t a) _ (prices_shrink a) (λ prices b. omega arith)
-  body_shrinks head.Nodes a =
-      shrinks_bind (length a) (prices_at t a) _ (prices_shrink a) (λ prices b. shrinks_bind (length b) (mixed_at t b) _ (mixed_shrinks b) (λ mixed c. omega arith))
-  body_shrinks (head.Pivots made) a = shrinks_bind (length a) (prices_at t a) _ (prices_shrink a) (λ prices b. omega arith)
-  body_shrinks (head.Grew pivots row column) a = shrinks_bind (length a) (prices_at t a) _ (prices_shrink a) (λ prices b. omega arith)
-  body_shrinks (head.Lift step at) a = shrinks_bind (length a) (prices_at t a) _ (prices_shrink a) (λ prices b. omega arith)
-  body_shrinks (head.Trim leg fleet) a = omega arith
-  body_shrinks (head.Split leg fleet) a =
+  body_shrinks (head.Alone h) a = omega arith
+  body_shrinks (head.Priced h) a = shrinks_bind (length a) (prices_at t a) _ (prices_shrink a) (λ prices b. omega arith)
+  body_shrinks (head.Mixed h) a =
       shrinks_bind (length a) (prices_at t a) _ (prices_shrink a) (λ prices b. shrinks_bind (length b) (mixed_at t b) _ (mixed_shrinks b) (λ mixed c. omega arith))
 
   pub node_shrinks : (above : ℕ) (a : Left) → Shrinks (length a) (node_at t above a)

@@ -24,7 +24,7 @@ use Rattle.bound_cert.specs.declared.trees.Tree.{Tree}
 use Rattle.bound_cert.specs.declared.trees.Tree.TheVariants as tree
 use Rattle.bound_cert.proofs.LinesOfWords.{end_is, lines_are_of_words, plan_is}
 use Rattle.bound_cert.proofs.ReadBack.{ok_same}
-use Rattle.bound_cert.proofs.ReadOfTables.{IsNodeOf, left_part, right_part, tree_of}
+use Rattle.bound_cert.proofs.NodesOfTables.{IsNodeOf, left_part, right_part, tree_of}
 use Rattle.bound_cert.proofs.ReadOn.{bound, refused}
 use Rattle.bound_cert.proofs.WrittenLines.{joined, left_of_lines, line_read, texts, texts_append}
 use Rattle.bound_cert.proofs.WrittenNodes.{before_node, behind_line, lines_at, node_read}

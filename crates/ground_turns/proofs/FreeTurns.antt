@@ -20,7 +20,7 @@ use Rattle.ground_turns.proofs.Totals.{some_counted}
 use Rattle.ground_turns.proofs.Waits.{at_station, departs_within, over_arrivals, over_departures, ready_within}
 
 -- two that pass are one where at most one is counted
-once : (p : ℕ → Bool) (n j k : ℕ) → count_below p n ≤ 1 → j < n → k < n → p j ≡ true → p k ≡ true → j ≡ k
+pub once : (p : ℕ → Bool) (n j k : ℕ) → count_below p n ≤ 1 → j < n → k < n → p j ≡ true → p k ≡ true → j ≡ k
 once p n j k few first second h g = elim (cases_order j k) [
   | inl same ↦ same
   | inr other ↦ elim other [
@@ -95,13 +95,13 @@ module _ (t : Tables) (a : List ℕ) (f : ℕ) (given turns : List Connection) (
       first second (eq-eqb _ _ e) (eq-eqb _ _ refl)
 
   -- the turn of a leg that a given pair has is that pair
-  by_arriving : (g k : ℕ) → g < length given → k < length turns → (turn_at given g).arriving ≡ (turn_at turns k).arriving → turn_at turns k ≡ turn_at given g
+  pub by_arriving : (g k : ℕ) → g < length given → k < length turns → (turn_at given g).arriving ≡ (turn_at turns k).arriving → turn_at turns k ≡ turn_at given g
   by_arriving g k within lt e =
       let held = holds.each g within in
       let same : held.place ≡ k = one_arriving held.place k held.within lt (ap (λ turn. turn.arriving) held.there ∙ e) in
       subst (λ q. turn_at turns q ≡ turn_at given g) same held.there
 
-  by_departing : (g k : ℕ) → g < length given → k < length turns → (turn_at given g).departing ≡ (turn_at turns k).departing → turn_at turns k ≡ turn_at given g
+  pub by_departing : (g k : ℕ) → g < length given → k < length turns → (turn_at given g).departing ≡ (turn_at turns k).departing → turn_at turns k ≡ turn_at given g
   by_departing g k within lt e =
       let held = holds.each g within in
       let same : held.place ≡ k = one_departing held.place k held.within lt (ap (λ turn. turn.departing) held.there ∙ e) in

@@ -24,7 +24,8 @@ pub all_reach : (x : ℕ → ℕ) (n mark most : ℕ) → ((k : ℕ) → k < n �
 all_reach x n mark most small few reached k lt none =
     let parts = sum_below-add x (λ j. if k == j then mark + most else 0) n in
     let one = sum_below-one k (mark + most) n lt in
-    let bound = sum_below-bound (λ j. x j + (if k == j then mark + most else 0)) (mark + most) n (record { each = λ j j_lt. at_place k j (x j) (mark + most) (λ same. ap x (sym same) ∙ none) (small j j_lt) }) in
+    let bound = sum_below-bound (λ j. x j + (if k == j then mark + most else 0)) (mark + most) n
+    (record { each = λ j j_lt. at_place k j (x j) (mark + most) (λ same. ap x (sym same) ∙ none) (small j j_lt) }) in
     clash (sum_below x n) n mark most _ _ parts one bound reached few
   where
     at_place : (k j x most : ℕ) → (k ≡ j → x ≡ 0) → x ≤ most → x + (if k == j then most else 0) ≤ most

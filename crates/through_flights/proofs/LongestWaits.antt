@@ -43,7 +43,8 @@ longest_is t a f leg longest ready zeros listed at no_more all = record {
         zero_is _ (ap (λ l. stand_of t (weights_of a) f (leg_of t l).to m) (sym same) ∙ none) in
         let entry : StandsAt zeros m = subst (λ xs. StandsAt xs m) (sym listed) (stands_in t (weights_of a) f (leg_of t leg).to MINUTES_PER_PERIOD m lt here) in
         let until : longest ≤ minutes_until t (ready_at t f pair) m =
-        subst (λ z. longest ≤ minutes_until t (ready_at t f pair) z) entry.there (subst (λ r. longest ≤ minutes_until t r (slice_index zeros entry.place)) (ready_same pair same) (no_more entry.place entry.within)) in
+        subst (λ z. longest ≤ minutes_until t (ready_at t f pair) z) entry.there
+        (subst (λ r. longest ≤ minutes_until t r (slice_index zeros entry.place)) (ready_same pair same) (no_more entry.place entry.within)) in
         clash _ _ _ (lies_in _ _ waits) short until;
   };
   no_more = λ pair same clean. all (wait_of t f pair) (mod_below _ MINUTES_PER_PERIOD some_minutes) (λ k lt.

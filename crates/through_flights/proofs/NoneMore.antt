@@ -37,7 +37,8 @@ by_place : (f : ℕ → ℤ) (place : ℕ → ℕ) (places count : ℕ) → ((k 
 by_place f place places count within =
     sum_below_ℤ-same (λ k. f (place k)) (λ k. sum_below_ℤ (λ s. where_true (place k == s) (f s)) places) count (λ k lt. sym (sum_below_ℤ-one (place k) f places (within k lt)))
     ∙ sum_below_ℤ-swap (λ k s. where_true (place k == s) (f s)) places count
-    ∙ sum_below_ℤ-same (λ s. sum_below_ℤ (λ k. where_true (place k == s) (f s)) count) (λ s. pos (count_below (λ k. place k == s) count) *ℤ f s) places (λ s lt. as_often (λ k. place k == s) (f s) count)
+    ∙ sum_below_ℤ-same (λ s. sum_below_ℤ (λ k. where_true (place k == s) (f s)) count) (λ s. pos (count_below (λ k. place k == s) count) *ℤ f s) places
+    (λ s lt. as_often (λ k. place k == s) (f s) count)
 
 -- numbers of the fleet's legs, each as often as the leg stands in the map, sum to all numbers
 own_sum : (a : List ℕ) (f n : ℕ) (numbers : List ℤ) (times : ℕ → ℕ) → ((l : ℕ) → l < n → times l ≡ weights_of a (leg_on l f)) → ((l : ℕ) → l < n → fleet_at a l ≢ f → number_at numbers l ≡ pos 0)

@@ -39,7 +39,8 @@ pub returns-clause-reach : goal.returns-clause-reach
 returns-clause-reach c =
     let m = c.in_ok-matching.ensures in
     let w = worths_of c.args.tables.now c.args.plan.now c.args.fleet _ _ c.as_slice-worths.ensures.value c.in_ok-table.ensures in
-    numbers_reach _ _ _ _ _ _ _ _ w m.reach (c.in_ok-own_numbers.ensures ∙ ap (list_below _) c.requires.plan.assignment.each_leg) (c.in_ok-own_numbers-2.ensures ∙ ap (list_below _) c.requires.plan.assignment.each_leg)
+    numbers_reach _ _ _ _ _ _ _ _ w m.reach (c.in_ok-own_numbers.ensures ∙ ap (list_below _) c.requires.plan.assignment.each_leg)
+    (c.in_ok-own_numbers-2.ensures ∙ ap (list_below _) c.requires.plan.assignment.each_leg)
 
 pub returns-clause-sums : goal.returns-clause-sums
 returns-clause-sums c =
@@ -47,6 +48,7 @@ returns-clause-sums c =
     let w = worths_of c.args.tables.now c.args.plan.now c.args.fleet _ _ c.as_slice-worths.ensures.value c.in_ok-table.ensures in
     let known = matched_followers _ _ _ _ _ _ _ c.requires.plan.balanced c.requires.fleet w m.one_to_one m.reach m.meet in
     let fits : SFits w128 c.chosen_value.result = search rules in
-    numbers_sum _ _ _ _ _ _ _ w m.meet known _ _ (c.in_ok-own_numbers.ensures ∙ ap (list_below _) c.requires.plan.assignment.each_leg) (c.in_ok-own_numbers-2.ensures ∙ ap (list_below _) c.requires.plan.assignment.each_leg)
+    numbers_sum _ _ _ _ _ _ _ w m.meet known _ _ (c.in_ok-own_numbers.ensures ∙ ap (list_below _) c.requires.plan.assignment.each_leg)
+    (c.in_ok-own_numbers-2.ensures ∙ ap (list_below _) c.requires.plan.assignment.each_leg)
     ∙ sym (c.chosen_value.ensures ∙ ap (λ n. pos (sum_below (chosen_value c.as_slice-worths.result.now c.in_ok-matching.matching.columns) n)) w.size)
     ∙ sym (to_z-of_z w128 c.chosen_value.result fits)

@@ -11,5 +11,6 @@ loop-arriving-preserved c = record {
       c.in_ok-push.ensures.items c.loop-arriving.invariant.size c.loop-arriving.invariant.square c.in_ok-turn_worths_from.ensures.size;
   each = λ arriving departing lt departing_lt. pushed (λ k row. (j : ℕ) → j < legs_in c.args.turns.now.tables.now
       → IsTurnWorth c.args.turns.now.tables.now c.args.turns.now.plan.now c.args.turns.now.fleet (pair_of k j) (slice_index row j)) [] _ _ _ _
-      c.in_ok-push.ensures.items c.loop-arriving.invariant.size (λ k less j j_lt. c.loop-arriving.invariant.each k j less j_lt) c.in_ok-turn_worths_from.ensures.each arriving lt departing departing_lt;
+      c.in_ok-push.ensures.items c.loop-arriving.invariant.size (λ k less j j_lt. c.loop-arriving.invariant.each k j less j_lt)
+      c.in_ok-turn_worths_from.ensures.each arriving lt departing departing_lt;
 }
