@@ -151,7 +151,7 @@ module _ (t : Tables) (cost : Option ℤ) (keeps : Domains) (leg fleet : ℕ) (y
       each rule.Limits = limits_rule t prices is.best.good.proper
       each rule.Fall = fall_rule t prices is.best.good.proper
       each rule.Rent = rent_rule t prices is.best.good.proper
-      each rule.Pairs = is.all_pairs
+      each rule.Pairs = is.searched.some_pair
       each rule.Refuted = tt
       each rule.Priced = tt
       each rule.Parts = (is.kept, not_one t keeps leg fleet is.pair.fleet is.kept is.other)
