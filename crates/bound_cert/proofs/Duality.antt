@@ -134,7 +134,7 @@ worth_is_lower_bound t keeps prices a proper kept legal =
 pub ceiling_is_lower_bound : CeilingIsLowerBound
 ceiling_is_lower_bound t keeps prices bound a proper ceiling kept legal =
     let worth = worth_is_lower_bound t keeps prices a proper kept legal in
-    let below : (bound -ℤ pos 1) <ℤ total_cost t a = lesser_factor prices.scale (bound -ℤ pos 1) (total_cost t a) proper.some_scale (omega (arith, ints, ceiling.least, worth)) in
+    let below : (bound -ℤ pos 1) <ℤ total_cost t a = lesser_factor prices.scale (bound -ℤ pos 1) (total_cost t a) proper.scale.some (omega (arith, ints, ceiling.least, worth)) in
     omega (arith, ints, below)
 
 pub worth_refutes : WorthRefutes

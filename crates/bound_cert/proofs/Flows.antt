@@ -59,7 +59,7 @@ module _ (t : Tables) (prices : Prices) (proper : ArePrices t prices) (w : Weigh
   falls : (s m : ℕ) → s < stations_in t → suc m < MINUTES_PER_PERIOD → price_of prices f s (suc m) ≤ℤ price_of prices f s m
   falls s m within below =
       let next : m + 1 ≡ suc m = omega arith in
-      subst (λ n. price_of prices f s n ≤ℤ price_of prices f s m) next (proper.never_rise f s m known within (omega arith))
+      subst (λ n. price_of prices f s n ≤ℤ price_of prices f s m) next (proper.fall.each f s m known within (omega arith))
 
   -- at a station departures are worth no more than arrivals and the rent of the need
   at_station : (s : ℕ) → s < stations_in t → out_of s last_minute ≤ℤ (back_to s last_minute +ℤ (pos (need_of t w f s) *ℤ rent_of prices f))
@@ -69,7 +69,7 @@ module _ (t : Tables) (prices : Prices) (proper : ArePrices t prices) (w : Weigh
       (legs_priced (leaves s) departs_at weight (price_of prices f s) (legs_in t)) (legs_priced (lands s) ready_at weight (price_of prices f s) (legs_in t))
       (need_suffices t w f s).each (λ m below. falls s m within below) last_minute (omega arith) in
       at_the_end (need_of t w f s) (departed t w f s last_minute) (out_of s last_minute) (back_to s last_minute) (price_of prices f s 0) (price_of prices f s last_minute) (rent_of prices f)
-      (proper.rise_overnight f s known within) (rw (balanced.each f s known within) at bound)
+      (proper.rise.each f s known within) (rw (balanced.each f s known within) at bound)
 
   departing : ℕ → ℤ
   departing l = pos (w (leg_on l f)) *ℤ price_of prices f (leg_of t l).from (departure t (leg_on l f))
@@ -131,4 +131,4 @@ module _ (t : Tables) (prices : Prices) (proper : ArePrices t prices) (w : Weigh
 pub fleet_bound : (t : Tables) (prices : Prices) → ArePrices t prices → (w : Weights) → IsBalanced t w → (f most : ℕ) → f < fleets_in t → used_of t w f ≤ most
     → sum_below_ℤ (λ l. pos (w (leg_on l f)) *ℤ flow_worth t prices (leg_on l f)) (legs_in t) ≤ℤ (pos most *ℤ rent_of prices f)
 fleet_bound t prices proper w balanced f most known enough =
-    omega (arith, ints, rent_of_use t prices proper w balanced f known, more_times (used_of t w f) most (rent_of prices f) enough (proper.some_rent f known))
+    omega (arith, ints, rent_of_use t prices proper w balanced f known, more_times (used_of t w f) most (rent_of prices f) enough (proper.within.rents f known).some)

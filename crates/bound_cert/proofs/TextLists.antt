@@ -4,14 +4,14 @@ use Rattle.std.specs.Prelude.{All}
 use Rattle.std.specs.Ordering.{int_eq}
 use Rattle.std.proofs.lemmas.Bool.Decides.{Decides-int_eq, nat_tests}
 use Rattle.std.proofs.lemmas.Int.{ints}
-use Rattle.std.proofs.lemmas.List.{length-append, map-append}
+use Rattle.std.proofs.lemmas.List.{length-append}
 use Rattle.std.proofs.lemmas.List.Elements.{All-append, All-cons, All-head, All-nil}
 use Rattle.fleet_model.specs.Schedule.{fleet_of, fleets_in, station_of}
 use Rattle.fleet_model.specs.declared.tables.Tables.{Tables}
 use Rattle.bound_cert.specs.Known.{fleet_named, station_named}
 use Rattle.bound_cert.specs.Lines.{Left, first_words, stands, words_of}
 use Rattle.bound_cert.specs.Prices.{rent_of}
-use Rattle.bound_cert.specs.ProofText.{Line, at_line, mixed_line, mixed_lines, price_lines, rent_line, rent_lines, scale_line, step_lines, weight_line, weight_lines}
+use Rattle.bound_cert.specs.ProofText.{at_line, mixed_line, mixed_lines, price_lines, rent_line, rent_lines, scale_line, step_lines, weight_line, weight_lines}
 use Rattle.bound_cert.specs.Reading.{goes_on_at, mixed_at, padded, prices_at, rent_at, rents_from, same_place, scale_at, step_at, steps_from, weight_at, weights_from}
 use Rattle.bound_cert.specs.WrittenOrder.{ArePricesInOrder, IsFigure, IsMixedInOrder, IsStepInOrder, IsWeightInOrder, NoLoneZero, StepsFollow, WeightsFollow, goes_on}
 use Rattle.bound_cert.specs.declared.mixed.Mixed.{Mixed}
@@ -25,7 +25,7 @@ use Rattle.bound_cert.proofs.ReadBack.{either_way, goes, ok_same}
 use Rattle.bound_cert.proofs.ReadOn.{begins}
 use Rattle.bound_cert.proofs.TextLines.{LineIs}
 use Rattle.bound_cert.proofs.TextPrices.{mixed_scale_was, rent_was, scale_was, step_was, true_is, weight_was}
-use Rattle.bound_cert.proofs.WrittenLines.{joined, texts, words_back}
+use Rattle.bound_cert.proofs.WrittenLines.{joined, texts, texts_append, words_back}
 use Rattle.bound_cert.proofs.WrittenNames.{fleet_written, station_written}
 use Rattle.bound_cert.proofs.WrittenPrices.{lines_from, lines_with, lines_without, needed_by, of_step}
 
@@ -266,9 +266,6 @@ module _ (t : Tables) where
       (rents_were rest grown read entry.on figures (omega (arith, grown_len, was.fleet))))
       (λ at e. subst (λ r. RentsWere done (line ∷ rest) r) (ok_same (padded done (fleets_in t), line ∷ rest) read e) (none_more done (line ∷ rest) are few))
 
-  parts : (xs ys : List Line) (behind : Left) → texts (xs ++ ys) ++ behind ≡ texts xs ++ (texts ys ++ behind)
-  parts xs ys behind = ap (λ lines. lines ++ behind) (map-append joined xs ys) ∙ append_assoc (texts xs) (texts ys) behind
-
   -- prices, and a fractional assignment
 
   pub record PricesWere (left : Left) (read : Prices × Left) : Type 0 where
@@ -283,7 +280,7 @@ module _ (t : Tables) where
       first.is
       ∙ ap (λ rest. joined (scale_line prices.scale) ∷ rest)
       (rents ∙ ap (λ n. texts (lines_from t prices 0 n) ++ middle) all ∙ ap (λ rest. texts (rent_lines t prices (fleets_in t)) ++ rest) steps
-      ∙ sym (parts (rent_lines t prices (fleets_in t)) (step_lines t prices.steps) behind))
+      ∙ sym (texts_append (rent_lines t prices (fleets_in t)) (step_lines t prices.steps) behind))
 
   pub prices_were : (left : Left) (read : Prices × Left) → prices_at t left ≡ Ok read → PricesWere left read
   unfolding prices_at

@@ -1,11 +1,11 @@
 -- Prices and fractional assignments that are read are in written order, and their lines are those that are read.
-use Rattle.std.proofs.Common.{◌≡◌, ℕ, ◌<◌, ◌≤◌, ◌&&◌, Bool, true, false, not, List, [], ◌∷◌, drop, codes, ℤ, pos, nat_le, Option, Ok, refl, sym, ap, subst, ◌∙◌, arith}
+use Rattle.std.proofs.Common.{◌≡◌, ℕ, ◌<◌, ◌≤◌, ◌&&◌, Bool, true, false, not, List, [], ◌∷◌, drop, length, codes, ℤ, pos, nat_le, Option, Ok, refl, sym, ap, subst, ◌∙◌, arith}
 use Rattle.std.specs.Prelude.{IsTrue}
-use Rattle.std.specs.Fmt.{decimal}
+use Rattle.std.specs.Fmt.{decimal, signed_decimal}
 use Rattle.std.specs.Ordering.{int_eq}
 use Rattle.std.proofs.lemmas.Bool.Decides.{nat_tests}
 use Rattle.sums.proofs.Tests.{first_true, not_true, second_true}
-use Rattle.fleet_model.specs.Schedule.{IsPair, fleet_of, fleets_in, leg_of, leg_on, station_of}
+use Rattle.fleet_model.specs.Schedule.{IsPair, fleet_of, fleets_in, leg_of, leg_on, station_of, stations_in}
 use Rattle.fleet_model.specs.Use.{last_minute}
 use Rattle.fleet_model.specs.declared.tables.Tables.{Tables}
 use Rattle.bound_cert.specs.Figures.{natural_in, number_in}
@@ -20,7 +20,7 @@ use Rattle.bound_cert.specs.declared.mixed.Weight.{Weight}
 use Rattle.bound_cert.specs.declared.prices.PriceStep.{PriceStep}
 use Rattle.bound_cert.specs.declared.reading_lines.Due.TheVariants as due
 use Rattle.bound_cert.proofs.ReadBack.{goes, ok_same, ordered, there}
-use Rattle.bound_cert.proofs.ReadOfTables.{fleet_known, leg_known, station_known}
+use Rattle.bound_cert.proofs.NodesOfTables.{fleet_known, leg_known, station_known}
 use Rattle.bound_cert.proofs.TextLines.{LineIs, five_words, four_words, line_by, line_was, three_words, two_words, width_was}
 use Rattle.bound_cert.proofs.WrittenNames.{fleet_read, leg_read, station_read}
 use Rattle.bound_cert.proofs.WrittenNumbers.{natural_read, number_read}
@@ -104,50 +104,92 @@ module _ (t : Tables) where
     pub follows : step_follows before step ≡ true
     pub needed : is_needless step (at_line t step) (drop 1 left) ≡ false
 
+  -- what the words of a step's line say
+  record FiguresWere (words : List (List ℕ)) (figures : ℕ × ℤ) : Type 0 where
+    early : figures.0 ≤ last_minute
+    figure : IsFigure figures.1
+    minute_is : word_at words 3 ≡ decimal figures.0
+    value_is : word_at words 4 ≡ signed_decimal figures.1
+
+  figures_were : (words : List (List ℕ)) (left : Left) (figures : ℕ × ℤ) → figures_by words left ≡ Ok figures → FiguresWere words figures
+  unfolding figures_by
+  figures_were words left figures e =
+      let minute = goes (present (natural_in last_minute (word_at words 3)) left WRONG_NUMBER) _ figures e in
+      let value = goes (present (number_in (word_at words 4)) left WRONG_NUMBER) _ figures minute.on in
+      let small = natural_read last_minute minute.value (word_at words 3) (there (natural_in last_minute (word_at words 3)) left WRONG_NUMBER minute.value minute.is) in
+      let number = number_read value.value (word_at words 4) (there (number_in (word_at words 4)) left WRONG_NUMBER value.value value.is) in
+      subst (λ f. FiguresWere words f) (ok_same (minute.value, value.value) figures value.on)
+      (record { early = small.within; figure = number.figure; minute_is = small.word_is; value_is = number.word_is })
+
+  record PlaceWas (words : List (List ℕ)) (place : ℕ × ℕ) : Type 0 where
+    fleet : place.0 < fleets_in t
+    station : place.1 < stations_in t
+    name : word_at words 1 ≡ (fleet_of t place.0).name
+    code : word_at words 2 ≡ (station_of t place.1).code
+
+  place_was : (words : List (List ℕ)) (left : Left) (place : ℕ × ℕ) → place_by t words left ≡ Ok place → PlaceWas words place
+  unfolding place_by
+  place_was words left place e =
+      let fleet = goes (present (fleet_named t (word_at words 1)) left UNKNOWN_NAME) _ place e in
+      let station = goes (present (station_named t (word_at words 2)) left UNKNOWN_NAME) _ place fleet.on in
+      let named_fleet = there (fleet_named t (word_at words 1)) left UNKNOWN_NAME fleet.value fleet.is in
+      let named_station = there (station_named t (word_at words 2)) left UNKNOWN_NAME station.value station.is in
+      subst (λ p. PlaceWas words p) (ok_same (fleet.value, station.value) place station.on)
+      (record {
+        fleet = fleet_known t (word_at words 1) fleet.value named_fleet;
+        station = station_known t (word_at words 2) station.value named_station;
+        name = fleet_read t (word_at words 1) fleet.value named_fleet;
+        code = station_read t (word_at words 2) station.value named_station;
+      })
+
+  pub record StepWords (words : List (List ℕ)) (step : PriceStep) : Type 0 where
+    pub order : IsStepInOrder t step
+    pub name : word_at words 1 ≡ (fleet_of t step.fleet).name
+    pub code : word_at words 2 ≡ (station_of t step.station).code
+    pub minute_is : word_at words 3 ≡ decimal step.minute
+    pub value_is : word_at words 4 ≡ signed_decimal step.value
+
+  pub step_words : (words : List (List ℕ)) (left : Left) (step : PriceStep) → step_by t words left ≡ Ok step → StepWords words step
+  unfolding step_by
+  step_words words left step e =
+      let figures = goes (figures_by words left) _ step e in
+      let place = goes (place_by t words left) _ step figures.on in
+      let said = figures_were words left figures.value figures.is in
+      let where_is = place_was words left place.value place.is in
+      subst (λ s. StepWords words s) (ok_same _ step place.on)
+      (record {
+        order = record { fleet = where_is.fleet; station = where_is.station; minute = said.early; value = said.figure };
+        name = where_is.name;
+        code = where_is.code;
+        minute_is = said.minute_is;
+        value_is = said.value_is;
+      })
+
+  -- five words that are known
+  five_known : (words : List (List ℕ)) (a b c d e : List ℕ) → length words ≡ 5 → word_at words 0 ≡ a → word_at words 1 ≡ b → word_at words 2 ≡ c → word_at words 3 ≡ d → word_at words 4 ≡ e
+      → words ≡ a ∷ b ∷ c ∷ d ∷ e ∷ []
+  five_known words a b c d e count p q r s u = five_words words count ∙ rw (p, q, r, s, u) refl
+
   pub step_was : (before : Option PriceStep) (left : Left) (step : PriceStep) → step_at t before left ≡ Ok step → StepWas before left step
-  unfolding step_at step_of step_by figures_by place_by width_of
+  unfolding step_at step_of width_of
   step_was before left step e =
       let words = goes (line_due due.Step left) _ step e in
       let line = line_was due.Step left words.value words.is in
       let shape = width_was (codes "at") 5 words.value line.width in
       let made = goes (step_by t words.value left) _ step words.on in
-      let test = step_follows before made.value && not (is_needless made.value words.value (drop 1 left)) in
-      let fits = goes (in_order test left) _ step made.on in
-      let passes = ordered test left fits.value fits.is in
-      let back : made.value ≡ step = ok_same made.value step fits.on in
-      let figures = goes (figures_by words.value left) _ made.value made.is in
-      let minute = goes (present (natural_in last_minute (word_at words.value 3)) left WRONG_NUMBER) _ figures.value figures.is in
-      let value = goes (present (number_in (word_at words.value 4)) left WRONG_NUMBER) _ figures.value minute.on in
-      let place = goes (place_by t words.value left) _ made.value figures.on in
-      let fleet = goes (present (fleet_named t (word_at words.value 1)) left UNKNOWN_NAME) _ place.value place.is in
-      let station = goes (present (station_named t (word_at words.value 2)) left UNKNOWN_NAME) _ place.value fleet.on in
-      let figures_are : (minute.value, value.value) ≡ figures.value = ok_same (minute.value, value.value) figures.value value.on in
-      let place_is : (fleet.value, station.value) ≡ place.value = ok_same (fleet.value, station.value) place.value station.on in
-      let put : PriceStep = record { fleet = fleet.value; station = station.value; minute = minute.value; value = value.value } in
-      let put_is : put ≡ step =
-      ap (λ p. record { fleet = p.0; station = p.1; minute = minute.value; value = value.value }) place_is
-      ∙ ap (λ g. record { fleet = place.value.0; station = place.value.1; minute = g.0; value = g.1 }) figures_are ∙ ok_same _ made.value place.on ∙ back in
-      let named_fleet = there (fleet_named t (word_at words.value 1)) left UNKNOWN_NAME fleet.value fleet.is in
-      let named_station = there (station_named t (word_at words.value 2)) left UNKNOWN_NAME station.value station.is in
-      let small = natural_read last_minute minute.value (word_at words.value 3) (there (natural_in last_minute (word_at words.value 3)) left WRONG_NUMBER minute.value minute.is) in
-      let number = number_read value.value (word_at words.value 4) (there (number_in (word_at words.value 4)) left WRONG_NUMBER value.value value.is) in
-      let words_are : words.value ≡ at_line t step =
-      five_words words.value shape.count ∙ ap (λ w. w ∷ word_at words.value 1 ∷ word_at words.value 2 ∷ word_at words.value 3 ∷ word_at words.value 4 ∷ []) shape.first
-      ∙ ap (λ w. codes "at" ∷ w ∷ word_at words.value 2 ∷ word_at words.value 3 ∷ word_at words.value 4 ∷ []) (fleet_read t (word_at words.value 1) fleet.value named_fleet)
-      ∙ ap (λ w. codes "at" ∷ (fleet_of t fleet.value).name ∷ w ∷ word_at words.value 3 ∷ word_at words.value 4 ∷ []) (station_read t (word_at words.value 2) station.value named_station)
-      ∙ ap (λ w. codes "at" ∷ (fleet_of t fleet.value).name ∷ (station_of t station.value).code ∷ w ∷ word_at words.value 4 ∷ []) small.word_is
-      ∙ ap (λ w. codes "at" ∷ (fleet_of t fleet.value).name ∷ (station_of t station.value).code ∷ decimal minute.value ∷ w ∷ []) number.word_is
-      ∙ ap (at_line t) put_is in
-      let passes_now : (step_follows before step && not (is_needless step (at_line t step) (drop 1 left))) ≡ true =
-      ap (λ s. step_follows before s && not (is_needless s (at_line t step) (drop 1 left))) (sym back)
-      ∙ ap (λ w. step_follows before made.value && not (is_needless made.value w (drop 1 left))) (sym words_are) ∙ passes in
-      record {
-        line_is = line_by left words.value (at_line t step) line.line words_are;
-        order = subst (λ s. IsStepInOrder t s) put_is
-            (record { fleet = fleet_known t (word_at words.value 1) fleet.value named_fleet; station = station_known t (word_at words.value 2) station.value named_station; minute = small.within; value = number.figure });
-        follows = first_true (step_follows before step) (not (is_needless step (at_line t step) (drop 1 left))) passes_now;
-        needed = not_true (is_needless step (at_line t step) (drop 1 left)) (second_true (step_follows before step) (not (is_needless step (at_line t step) (drop 1 left))) passes_now);
-      }
+      let fits = goes (in_order (step_follows before made.value && not (is_needless made.value words.value (drop 1 left))) left) _ step made.on in
+      let said = step_words words.value left made.value made.is in
+      let words_are : words.value ≡ at_line t made.value = five_known words.value _ _ _ _ _ shape.count shape.first said.name said.code said.minute_is said.value_is in
+      let passes : (step_follows before made.value && not (is_needless made.value (at_line t made.value) (drop 1 left))) ≡ true =
+      ap (λ w. step_follows before made.value && not (is_needless made.value w (drop 1 left))) (sym words_are)
+      ∙ ordered (step_follows before made.value && not (is_needless made.value words.value (drop 1 left))) left fits.value fits.is in
+      subst (λ s. StepWas before left s) (ok_same made.value step fits.on)
+      (record {
+        line_is = line_by left words.value (at_line t made.value) line.line words_are;
+        order = said.order;
+        follows = first_true (step_follows before made.value) (not (is_needless made.value (at_line t made.value) (drop 1 left))) passes;
+        needed = not_true (is_needless made.value (at_line t made.value) (drop 1 left)) (second_true (step_follows before made.value) (not (is_needless made.value (at_line t made.value) (drop 1 left))) passes);
+      })
 
   -- a weight
 

@@ -22,9 +22,9 @@ use Rattle.bound_cert.proofs.FigureWords.{same_bytes}
 use Rattle.bound_cert.proofs.ReadBack.{either_way, goes, ok_same}
 use Rattle.bound_cert.proofs.TextLines.{LineIs, line_by, line_was, one_word, two_words, width_was}
 use Rattle.bound_cert.proofs.TextNodes.{node_was}
-use Rattle.bound_cert.proofs.WrittenLines.{joined, texts}
+use Rattle.bound_cert.proofs.WrittenLines.{joined, texts, texts_append}
 use Rattle.bound_cert.proofs.WrittenNodes.{lines_at}
-use Rattle.bound_cert.proofs.WrittenTrees.{last, lines_of_nodes, parts}
+use Rattle.bound_cert.proofs.WrittenTrees.{last, lines_of_nodes}
 
 -- no node is too deep below what stands above it
 abbrev Within : Above → List Node → Type 0
@@ -60,7 +60,7 @@ nodes_were t (suc most) nodes above left read e =
     record {
       new = n ∷ more.new;
       list = more.list ∙ append_assoc nodes (n ∷ []) more.new;
-      text = was.text ∙ ap (λ rest. texts (lines_at t n) ++ rest) more.text ∙ sym (parts (lines_at t n) (flat_map (lines_at t) more.new) read.1);
+      text = was.text ∙ ap (λ rest. texts (lines_at t n) ++ rest) more.text ∙ sym (texts_append (lines_at t n) (flat_map (lines_at t) more.new) read.1);
       each = All-cons (IsNodeInOrder t) n more.new was.order more.each;
       deep = (was.deep, more.deep);
     })
@@ -188,7 +188,7 @@ text_of_reading t bytes planned whole e =
     head_line_is.is
     ∙ ap (λ rest. joined head_line ∷ rest)
     (plan_line_is.is ∙ ap (λ p. joined (plan_line p) ∷ third) (ap (λ p. p.0) same)
-    ∙ ap (λ rest. joined (plan_line planned) ∷ rest) (tree_text ∙ sym (parts (tree_lines t whole) (end_line ∷ []) ([] ∷ [])))) in (
+    ∙ ap (λ rest. joined (plan_line planned) ∷ rest) (tree_text ∙ sym (texts_append (tree_lines t whole) (end_line ∷ []) ([] ∷ [])))) in (
       sym (join_with_byte-slice_split line_feed bytes) ∙ ap (join_with_byte line_feed) lines ∙ join_lines (proof_lines t planned whole),
       subst (λ nodes. All (IsNodeInOrder t) nodes) nodes_are were.each,
       omega (arith, deep.depth),

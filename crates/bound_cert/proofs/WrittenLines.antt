@@ -1,8 +1,9 @@
 -- A line that was written, cut and read again.
-use Rattle.std.proofs.Common.{◌≡◌, ℕ, ◌<◌, ◌==◌, ◌&&◌, Bool, true, false, List, [], ◌∷◌, ◌++◌, length, map, nat_le, Some, Ok, refl, ap, ◌∙◌, append_assoc, arith}
+use Rattle.std.proofs.Common.{◌≡◌, ℕ, ◌<◌, ◌==◌, ◌&&◌, Bool, true, List, [], ◌∷◌, ◌++◌, length, map, nat_le, Some, Ok, refl, ap, ◌∙◌, append_assoc, arith}
 use Rattle.std.specs.Prelude.{All, filter}
 use Rattle.std.specs.List.{join_with_byte}
 use Rattle.std.proofs.lemmas.Bool.Decides.{nat_tests}
+use Rattle.std.proofs.lemmas.List.{map-append}
 use Rattle.std.proofs.lemmas.List.Elements.{All-head, All-tail}
 use Rattle.std.proofs.lemmas.List.Splits.{slice_split_at}
 use Rattle.sums.proofs.Tests.{both_true}
@@ -20,6 +21,9 @@ joined line = join_with_byte space line
 
 abbrev pub texts : List Line → Left
 texts = map joined
+
+pub texts_append : (xs ys : List Line) (behind : Left) → texts (xs ++ ys) ++ behind ≡ texts xs ++ (texts ys ++ behind)
+texts_append xs ys behind = ap (λ lines. lines ++ behind) (map-append joined xs ys) ∙ append_assoc (texts xs) (texts ys) behind
 
 -- the lines of a text, and behind them nothing
 pub left_of_lines : (lines : List Line) → All IsOfWords lines → left_of (lines_of lines) ≡ texts lines ++ [] ∷ []

@@ -1,8 +1,7 @@
 -- A node in written order is what its lines read as.
-use Rattle.std.proofs.Common.{◌≡◌, ℕ, ◌<◌, ◌≤◌, false, List, [], ◌∷◌, ◌++◌, length, codes, nat_le, Some, Ok, refl, sym, ap, subst, ◌∙◌, append_assoc, append-nil, arith}
+use Rattle.std.proofs.Common.{◌≡◌, ℕ, ◌≤◌, false, List, [], ◌∷◌, ◌++◌, length, codes, nat_le, Some, Ok, refl, sym, ap, subst, ◌∙◌, append-nil, arith}
 use Rattle.std.specs.Fmt.{decimal}
 use Rattle.std.proofs.lemmas.Bool.Decides.{nat_tests}
-use Rattle.std.proofs.lemmas.List.{map-append}
 use Rattle.fleet_model.specs.Schedule.{leg_of}
 use Rattle.fleet_model.specs.declared.tables.Tables.{Tables}
 use Rattle.bound_cert.specs.Figures.{natural_in}
@@ -14,20 +13,23 @@ use Rattle.bound_cert.specs.Words.{IsOfWords}
 use Rattle.bound_cert.specs.WrittenOrder.{ArePricesInOrder, IsCauseInOrder, IsCount, IsNodeInOrder}
 use Rattle.bound_cert.specs.declared.faults.TheConstants.{MAX_DEPTH, UNKNOWN_NAME, WRONG_NUMBER}
 use Rattle.bound_cert.specs.declared.mixed.Mixed.{Mixed}
+use Rattle.bound_cert.specs.declared.nodes.Alone.TheVariants as alone
+use Rattle.bound_cert.specs.declared.nodes.Fraction.TheVariants as fraction
 use Rattle.bound_cert.specs.declared.nodes.Head.{Head}
 use Rattle.bound_cert.specs.declared.nodes.Head.TheVariants as head
 use Rattle.bound_cert.specs.declared.nodes.Node.{Node}
 use Rattle.bound_cert.specs.declared.nodes.Node.TheVariants as node
+use Rattle.bound_cert.specs.declared.nodes.Priced.TheVariants as priced
 use Rattle.bound_cert.specs.declared.prices.Prices.{Prices}
 use Rattle.bound_cert.specs.declared.reading_lines.Due.TheVariants as due
 use Rattle.bound_cert.specs.declared.trees.Cause.{Cause}
 use Rattle.bound_cert.specs.declared.trees.Cause.TheVariants as cause
 use Rattle.bound_cert.proofs.LinesOfWords.{bare_is, mixed_line_is, open_is, priced_is, refuted_is, sole_is, split_is, trim_is}
 use Rattle.bound_cert.proofs.ReadOn.{bound, chosen}
-use Rattle.bound_cert.proofs.WrittenLines.{first_word, joined, line_read, texts}
+use Rattle.bound_cert.proofs.WrittenLines.{first_word, joined, line_read, texts, texts_append}
 use Rattle.bound_cert.proofs.WrittenNames.{leg_written}
 use Rattle.bound_cert.proofs.WrittenNumbers.{natural_written}
-use Rattle.bound_cert.proofs.WrittenPrices.{IsBehind, here, mixed_read, pair_read, prices_read}
+use Rattle.bound_cert.proofs.WrittenPrices.{IsBehind, here, mixed_read, pair_read, prices_read, some_behind}
 
 -- the lines of a node without its children
 abbrev pub lines_at : Tables → Node → List Line
@@ -62,9 +64,6 @@ behind_line line rest words no_rent no_step no_weight = record {
   no_weight = first_word line rest (codes "weight") false words no_weight;
 }
 
-parts : (xs ys : List Line) (behind : Left) → texts (xs ++ ys) ++ behind ≡ texts xs ++ (texts ys ++ behind)
-parts xs ys behind = ap (λ lines. lines ++ behind) (map-append joined xs ys) ∙ append_assoc (texts xs) (texts ys) behind
-
 count_read : (words : List (List ℕ)) (k n : ℕ) (left : Left) → IsCount n → word_at words k ≡ decimal n → count_at words k left ≡ Ok n
 count_read words k n left is word =
     here (natural_in 18446744073709551615 (word_at words k)) n left WRONG_NUMBER
@@ -75,8 +74,8 @@ module _ (t : Tables) where
   priced_body prices behind are ends = prices_read t prices behind are ends
 
   -- prices that nothing of a cause follows
-  alone : (prices : Prices) (behind : Left) → ArePricesInOrder t prices → IsBehind behind → prices_at t (texts (price_lines t prices ++ []) ++ behind) ≡ Ok (prices, behind)
-  alone prices behind are ends = ap (λ lines. prices_at t (texts lines ++ behind)) (append-nil (price_lines t prices)) ∙ prices_read t prices behind are ends
+  prices_alone : (prices : Prices) (behind : Left) → ArePricesInOrder t prices → IsBehind behind → prices_at t (texts (price_lines t prices ++ []) ++ behind) ≡ Ok (prices, behind)
+  prices_alone prices behind are ends = ap (λ lines. prices_at t (texts lines ++ behind)) (append-nil (price_lines t prices)) ∙ prices_read t prices behind are ends
 
   before_mixed : (mixed : Mixed) (behind : Left) → IsBehind (texts (mixed_lines t mixed) ++ behind)
   before_mixed mixed behind = behind_line (mixed_line mixed.scale) (texts (weight_lines t mixed.weights) ++ behind) (mixed_line_is mixed.scale) refl refl refl
@@ -84,7 +83,7 @@ module _ (t : Tables) where
   prices_then : (prices : Prices) (mixed : Mixed) (behind : Left) → ArePricesInOrder t prices
       → prices_at t (texts (price_lines t prices ++ mixed_lines t mixed) ++ behind) ≡ Ok (prices, texts (mixed_lines t mixed) ++ behind)
   prices_then prices mixed behind are =
-      ap (prices_at t) (parts (price_lines t prices) (mixed_lines t mixed) behind)
+      ap (prices_at t) (texts_append (price_lines t prices) (mixed_lines t mixed) behind)
       ∙ prices_read t prices (texts (mixed_lines t mixed) ++ behind) are (before_mixed mixed behind)
 
   open_reads : (prices : Prices) (why : Cause) → ArePricesInOrder t prices → IsCauseInOrder t why → NodeReads t (node.Open prices why)
@@ -98,7 +97,7 @@ module _ (t : Tables) where
     no_rent = refl;
     no_step = refl;
     no_weight = refl;
-    first = head.Nodes;
+    first = head.Mixed fraction.Nodes;
     said = λ left. refl;
     body = λ behind ends.
         bound (prices_at t (texts (price_lines t prices ++ mixed_lines t mixed) ++ behind)) (prices, texts (mixed_lines t mixed) ++ behind) _ (prices_then prices mixed behind are)
@@ -113,9 +112,9 @@ module _ (t : Tables) where
     no_rent = refl;
     no_step = refl;
     no_weight = refl;
-    first = head.Pivots made;
+    first = head.Priced (priced.Pivots made);
     said = λ left. bound (count_at (open_line (cause.Pivots made)) 2 left) made _ (count_read (open_line (cause.Pivots made)) 2 made left is refl);
-    body = λ behind ends. bound (prices_at t (texts (price_lines t prices ++ []) ++ behind)) (prices, behind) _ (alone prices behind are ends);
+    body = λ behind ends. bound (prices_at t (texts (price_lines t prices ++ []) ++ behind)) (prices, behind) _ (prices_alone prices behind are ends);
   }
   open_reads prices (cause.Grew pivots row column) are is =
       let line = open_line (cause.Grew pivots row column) in
@@ -128,12 +127,12 @@ module _ (t : Tables) where
         no_rent = refl;
         no_step = refl;
         no_weight = refl;
-        first = head.Grew pivots row column;
+        first = head.Priced (priced.Grew pivots row column);
         said = λ left.
             bound (count_at line 2 left) pivots _ (count_read line 2 pivots left is.0 refl)
             ∙ bound (count_at line 3 left) row _ (count_read line 3 row left is.1 refl)
             ∙ bound (count_at line 4 left) column _ (count_read line 4 column left is.2 refl);
-        body = λ behind ends. bound (prices_at t (texts (price_lines t prices ++ []) ++ behind)) (prices, behind) _ (alone prices behind are ends);
+        body = λ behind ends. bound (prices_at t (texts (price_lines t prices ++ []) ++ behind)) (prices, behind) _ (prices_alone prices behind are ends);
       }
   open_reads prices (cause.Lift step at) are is =
       let line = open_line (cause.Lift step at) in
@@ -146,11 +145,11 @@ module _ (t : Tables) where
         no_rent = refl;
         no_step = refl;
         no_weight = refl;
-        first = head.Lift step at;
+        first = head.Priced (priced.Lift step at);
         said = λ left.
             bound (count_at line 2 left) step _ (count_read line 2 step left is.0 refl)
             ∙ bound (count_at line 3 left) at _ (count_read line 3 at left is.1 refl);
-        body = λ behind ends. bound (prices_at t (texts (price_lines t prices ++ []) ++ behind)) (prices, behind) _ (alone prices behind are ends);
+        body = λ behind ends. bound (prices_at t (texts (price_lines t prices ++ []) ++ behind)) (prices, behind) _ (prices_alone prices behind are ends);
       }
 
   pub node_reads : (n : Node) → IsNodeInOrder t n → NodeReads t n
@@ -164,7 +163,7 @@ module _ (t : Tables) where
     no_rent = refl;
     no_step = refl;
     no_weight = refl;
-    first = head.Bare leg;
+    first = head.Alone (alone.Bare leg);
     said = λ left.
         bound (present (leg_named t (leg_of t leg).flight) left UNKNOWN_NAME) leg _ (here (leg_named t (leg_of t leg).flight) leg left UNKNOWN_NAME (leg_written t leg is));
     body = λ behind ends. refl;
@@ -178,7 +177,7 @@ module _ (t : Tables) where
     no_rent = refl;
     no_step = refl;
     no_weight = refl;
-    first = head.Sole;
+    first = head.Alone alone.Sole;
     said = λ left. refl;
     body = λ behind ends. refl;
   }
@@ -191,7 +190,7 @@ module _ (t : Tables) where
     no_rent = refl;
     no_step = refl;
     no_weight = refl;
-    first = head.Refuted;
+    first = head.Priced priced.Refuted;
     said = λ left. refl;
     body = λ behind ends. bound (prices_at t (texts (price_lines t prices) ++ behind)) (prices, behind) _ (priced_body prices behind is ends);
   }
@@ -204,7 +203,7 @@ module _ (t : Tables) where
     no_rent = refl;
     no_step = refl;
     no_weight = refl;
-    first = head.Priced;
+    first = head.Priced priced.Closed;
     said = λ left. refl;
     body = λ behind ends. bound (prices_at t (texts (price_lines t prices) ++ behind)) (prices, behind) _ (priced_body prices behind is ends);
   }
@@ -218,7 +217,7 @@ module _ (t : Tables) where
     no_rent = refl;
     no_step = refl;
     no_weight = refl;
-    first = head.Trim leg fleet;
+    first = head.Alone (alone.Trim leg fleet);
     said = λ left. bound (pair_at t (trim_line t leg fleet) left) (leg, fleet) _ (pair_read t leg fleet (trim_line t leg fleet) left is refl refl);
     body = λ behind ends. refl;
   }
@@ -231,16 +230,12 @@ module _ (t : Tables) where
     no_rent = refl;
     no_step = refl;
     no_weight = refl;
-    first = head.Split leg fleet;
+    first = head.Mixed (fraction.Split leg fleet);
     said = λ left. bound (pair_at t (split_line t leg fleet) left) (leg, fleet) _ (pair_read t leg fleet (split_line t leg fleet) left is.0 refl refl);
     body = λ behind ends.
         bound (prices_at t (texts (price_lines t prices ++ mixed_lines t mixed) ++ behind)) (prices, texts (mixed_lines t mixed) ++ behind) _ (prices_then prices mixed behind is.1)
         ∙ bound (mixed_at t (texts (mixed_lines t mixed) ++ behind)) (mixed, behind) _ (mixed_read t mixed behind is.2 ends);
   }
-
-  rest_some : (lines : List Line) (behind : Left) → 0 < length behind → 0 < length (texts lines ++ behind)
-  rest_some [] behind some = some
-  rest_some (line ∷ lines) behind some = omega arith
 
   pub node_read : (above : ℕ) (n : Node) (behind : Left) → IsNodeInOrder t n → above ≤ MAX_DEPTH → IsBehind behind → node_at t above (texts (lines_at t n) ++ behind) ≡ Ok (n, behind)
   unfolding node_at head_at
@@ -251,7 +246,7 @@ module _ (t : Tables) where
       let whole : texts (lines_at t n) ++ behind ≡ left = ap (λ lines. texts lines ++ behind) reads.lines in
       let deep : deep_at above reads.first left ≡ Ok reads.first = chosen (nat_le above MAX_DEPTH) _ _ (grind (arith, nat_tests, shallow)) in
       let first : head_at t above left ≡ Ok reads.first =
-      bound (line_due due.Node left) reads.line _ (line_read due.Node reads.line rest reads.words reads.width (rest_some reads.others behind ends.some))
+      bound (line_due due.Node left) reads.line _ (line_read due.Node reads.line rest reads.words reads.width (some_behind reads.others behind ends.some))
       ∙ bound (head_of t reads.line left) reads.first _ (reads.said left) ∙ deep in
       ap (node_at t above) whole ∙ bound (head_at t above left) reads.first _ first ∙ reads.body behind ends
 

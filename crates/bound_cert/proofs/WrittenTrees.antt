@@ -4,7 +4,7 @@ use Rattle.std.specs.Prelude.{All, max}
 use Rattle.std.specs.List.{flat_map}
 use Rattle.std.proofs.lemmas.Bool.Decides.{nat_tests}
 use Rattle.std.proofs.lemmas.Grind.{flat_map-append}
-use Rattle.std.proofs.lemmas.List.{length-append, length-map, map-append}
+use Rattle.std.proofs.lemmas.List.{length-append, length-map}
 use Rattle.std.proofs.lemmas.List.Elements.{All-head, All-tail, All-weaker}
 use Rattle.fleet_model.specs.declared.tables.Tables.{Tables}
 use Rattle.bound_cert.specs.Leaves.{depth_of}
@@ -24,9 +24,9 @@ use Rattle.bound_cert.specs.declared.trees.Tree.{Tree}
 use Rattle.bound_cert.specs.declared.trees.Tree.TheVariants as tree
 use Rattle.bound_cert.proofs.LinesOfWords.{end_is, lines_are_of_words, plan_is}
 use Rattle.bound_cert.proofs.ReadBack.{ok_same}
-use Rattle.bound_cert.proofs.ReadOfTables.{IsNodeOf, left_part, right_part, tree_of}
+use Rattle.bound_cert.proofs.NodesOfTables.{IsNodeOf, left_part, right_part, tree_of}
 use Rattle.bound_cert.proofs.ReadOn.{bound, refused}
-use Rattle.bound_cert.proofs.WrittenLines.{joined, left_of_lines, line_read, texts}
+use Rattle.bound_cert.proofs.WrittenLines.{joined, left_of_lines, line_read, texts, texts_append}
 use Rattle.bound_cert.proofs.WrittenNodes.{before_node, behind_line, lines_at, node_read}
 use Rattle.bound_cert.proofs.WrittenPrices.{IsBehind, steps_of}
 
@@ -87,9 +87,6 @@ onward t most nodes above left = cond (length above == 0) (Ok (nodes, left)) (no
 goes_on : (t : Tables) (most : ℕ) (nodes : List Node) (first : Bool) (above : Above) (left : Left) → onward t most nodes (first ∷ above) left ≡ nodes_from t most nodes (first ∷ above) left
 goes_on t most nodes first above left = refused (length (first ∷ above) == 0) _ _ (grind (arith, nat_tests))
 
-pub parts : (xs ys : List Line) (behind : Left) → texts (xs ++ ys) ++ behind ≡ texts xs ++ (texts ys ++ behind)
-parts xs ys behind = ap (λ lines. lines ++ behind) (map-append joined xs ys) ∙ append_assoc (texts xs) (texts ys) behind
-
 one_node : (t : Tables) (most : ℕ) (nodes : List Node) (above : Above) (n : Node) (behind : Left) → IsNodeInOrder t n → length above ≤ MAX_DEPTH → IsBehind behind
     → nodes_from t (suc most) nodes above (texts (lines_at t n) ++ behind) ≡ onward t most (nodes ++ n ∷ []) (after_node n above) behind
 unfolding nodes_from
@@ -125,7 +122,7 @@ inner_read : (t : Tables) (most middle first : ℕ) (nodes xs ys : List Node) (a
     → nodes_from t (suc first) nodes above (texts (lines_at t n ++ (us ++ vs)) ++ behind) ≡ onward t most (nodes ++ (n ∷ (xs ++ ys))) (after_tree above) behind
 inner_read t most middle first nodes xs ys above n us vs behind is after shallow ends with_pair without =
     let all : texts (lines_at t n ++ (us ++ vs)) ++ behind ≡ texts (lines_at t n) ++ (texts us ++ (texts vs ++ behind)) =
-    parts (lines_at t n) (us ++ vs) behind ∙ ap (λ rest. texts (lines_at t n) ++ rest) (parts us vs behind) in
+    texts_append (lines_at t n) (us ++ vs) behind ∙ ap (λ rest. texts (lines_at t n) ++ rest) (texts_append us vs behind) in
     let begun : List Node = nodes ++ n ∷ [] in
     ap (nodes_from t (suc first) nodes above) all
     ∙ one_node t first nodes above n (texts us ++ (texts vs ++ behind)) is shallow ends
@@ -238,7 +235,7 @@ reads_what_was_written t planned whole are shallow =
     let rest : Left = texts (tree_lines t whole) ++ last in
     let all : left_of (proof_text t planned whole) ≡ joined head_line ∷ joined (plan_line planned) ∷ rest =
     left_of_lines (proof_lines t planned whole) (lines_are_of_words t planned whole (in_order_of_tables t whole are))
-    ∙ ap (λ rest. joined head_line ∷ joined (plan_line planned) ∷ rest) (parts (tree_lines t whole) (end_line ∷ []) ([] ∷ [])) in
+    ∙ ap (λ rest. joined head_line ∷ joined (plan_line planned) ∷ rest) (texts_append (tree_lines t whole) (end_line ∷ []) ([] ∷ [])) in
     let some : 0 < length rest = (first_is t whole last are).some in
     ap (proof_at t) all
     ∙ bound (plan_at (joined (plan_line planned) ∷ rest)) planned _ (plan_read planned rest some)

@@ -15,12 +15,11 @@ rent_zero prices none f = rw none refl
 
 pub zero_is_proper : ZeroIsProper
 zero_is_proper t prices one no_rents no_steps = record {
-  some_scale = omega (arith, ints, one);
-  scale_within = omega (arith, ints, one);
-  some_rent = λ f below. omega (arith, ints, rent_zero prices no_rents f);
-  rent_within = λ f below. omega (arith, ints, rent_zero prices no_rents f);
-  no_less = λ f s m known there within. omega (arith, ints, price_zero prices no_steps f s m);
-  no_more = λ f s m known there within. omega (arith, ints, price_zero prices no_steps f s m);
-  never_rise = λ f s m known there within. omega (arith, ints, price_zero prices no_steps f s m, price_zero prices no_steps f s (m + 1));
-  rise_overnight = λ f s known there. omega (arith, ints, price_zero prices no_steps f s 0, price_zero prices no_steps f s last_minute, rent_zero prices no_rents f);
+  scale = record { some = omega (arith, ints, one); within = omega (arith, ints, one) };
+  within = record {
+    rents = λ f below. record { some = omega (arith, ints, rent_zero prices no_rents f); within = omega (arith, ints, rent_zero prices no_rents f) };
+    each = λ f s m known there early. record { no_less = omega (arith, ints, price_zero prices no_steps f s m); no_more = omega (arith, ints, price_zero prices no_steps f s m) };
+  };
+  fall = record { each = λ f s m known there early. omega (arith, ints, price_zero prices no_steps f s m, price_zero prices no_steps f s (m + 1)) };
+  rise = record { each = λ f s known there. omega (arith, ints, price_zero prices no_steps f s 0, price_zero prices no_steps f s last_minute, rent_zero prices no_rents f) };
 }

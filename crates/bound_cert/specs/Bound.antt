@@ -15,10 +15,11 @@ pub record IsPriceBound (t : Tables) (keeps : Domains) (prices : Prices) (bound 
   pub is : bound ≡ Some least
   pub rounded : IsCeiling (worth_of t keeps prices 1) prices.scale least
 
--- the cost of the assignment of kept pairs where it is legal, and nothing where it is not
+-- the cost of the assignment of kept pairs where it is legal, and nothing where it is not, or where there is none
 pub record IsSoleBound (t : Tables) (keeps : Domains) (bound : Option ℤ) : Type 0 where
   pub legal : (a : List ℕ) → IsKeptAssignment t keeps a → IsLegal t a → bound ≡ Some (total_cost t a)
   pub illegal : (a : List ℕ) → IsKeptAssignment t keeps a → ¬ (IsLegal t a) → bound ≡ None
+  pub none : ((a : List ℕ) → ¬ (IsKeptAssignment t keeps a)) → bound ≡ None
 
 -- the lesser of two bounds, of which neither need be there
 abbrev pub lesser_bound : Option ℤ → Option ℤ → Option ℤ

@@ -6,15 +6,10 @@ use Rattle.fleet_model.specs.Mixed.{IsMixedPlan, mixed_cost}
 use Rattle.fleet_model.specs.Schedule.{fleets_in, leg_on, legs_in}
 use Rattle.fleet_model.specs.declared.tables.Tables.{Tables}
 use Rattle.bound_cert.specs.Mixed.{weight_in}
-use Rattle.bound_cert.specs.Prices.{max_scale}
+use Rattle.bound_cert.specs.Prices.{IsScale}
 use Rattle.bound_cert.specs.Worth.{worth_of}
 use Rattle.bound_cert.specs.declared.mixed.Mixed.{Mixed}
 use Rattle.bound_cert.specs.declared.prices.Prices.{Prices}
-
--- a scale is 1 or more, and within its limit
-pub record IsScale (scale : ℤ) : Type 0 where
-  pub some : pos 1 ≤ℤ scale
-  pub within : scale ≤ℤ pos max_scale
 
 -- how many parts of a leg a fleet flies
 abbrev pub parts_in : Mixed → Weights

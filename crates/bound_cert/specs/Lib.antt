@@ -2,6 +2,7 @@ pub mod Bound
 pub mod Dropping
 pub mod Duality
 pub mod Figures
+pub mod FirstFault
 pub mod Fractions
 pub mod Known
 pub mod Leaves

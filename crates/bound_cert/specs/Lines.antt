@@ -71,9 +71,13 @@ node_width words =
 abbrev pub width_after : List ℕ → ℕ → List (List ℕ) → Option ℕ
 width_after word width words = if stands words 0 word then Some width else None
 
+-- how many words the line has that says whether a plan comes
+abbrev pub plan_width : List (List ℕ) → Option ℕ
+plan_width words = if stands words 0 (codes "plan") && (stands words 1 (codes "yes") || stands words 1 (codes "no")) then Some 2 else None
+
 -- how many words a line has that is due here, where its first words may stand here
 unfoldable pub width_of : Due → List (List ℕ) → Option ℕ
-width_of due.Plan words = if stands words 0 (codes "plan") && (stands words 1 (codes "yes") || stands words 1 (codes "no")) then Some 2 else None
+width_of due.Plan words = plan_width words
 width_of due.Node words = node_width words
 width_of due.Scale words = width_after (codes "scale") 2 words
 width_of due.Mixed words = width_after (codes "mixed") 2 words

@@ -31,13 +31,45 @@ max_scale = 10 ^ 18
 abbrev pub max_price : ℕ
 max_price = 10 ^ 30
 
+-- a scale is 1 or more, and within its limit
+pub record IsScale (scale : ℤ) : Type 0 where
+  pub some : pos 1 ≤ℤ scale
+  pub within : scale ≤ℤ pos max_scale
+
+-- a rent is 0 or more, and within its limit
+pub record IsRent (rent : ℤ) : Type 0 where
+  pub some : pos 0 ≤ℤ rent
+  pub within : rent ≤ℤ pos max_price
+
+-- a price is within its limits
+pub record IsPrice (price : ℤ) : Type 0 where
+  pub no_less : neg_ℤ (pos max_price) ≤ℤ price
+  pub no_more : price ≤ℤ pos max_price
+
+-- the rents of all fleets are within their limits
+abbrev pub AreRents : Tables → Prices → Type 0
+AreRents t prices = (f : ℕ) → f < fleets_in t → IsRent (rent_of prices f)
+
+-- rents and prices are within their limits
+pub record AreWithin (t : Tables) (prices : Prices) : Type 0 where
+  pub rents : AreRents t prices
+  pub each : (f s m : ℕ) → f < fleets_in t → s < stations_in t → m < MINUTES_PER_PERIOD → IsPrice (price_of prices f s m)
+
+-- from one minute to the next no price rises
+pub record NeverRise (t : Tables) (prices : Prices) : Type 0 where
+  pub each : (f s m : ℕ) → f < fleets_in t → s < stations_in t → m + 1 < MINUTES_PER_PERIOD → price_of prices f s (m + 1) ≤ℤ price_of prices f s m
+
+-- over the end of the period a price rises by the rent at most
+abbrev pub RisesByRent : Prices → ℕ → ℕ → Type 0
+RisesByRent prices f s = price_of prices f s 0 ≤ℤ (price_of prices f s last_minute +ℤ rent_of prices f)
+
+-- and so does each
+pub record RiseByRent (t : Tables) (prices : Prices) : Type 0 where
+  pub each : (f s : ℕ) → f < fleets_in t → s < stations_in t → RisesByRent prices f s
+
 -- prices within their limits, which never rise through the period, and rise over its end by the rent at most
 pub record ArePrices (t : Tables) (prices : Prices) : Type 0 where
-  pub some_scale : pos 1 ≤ℤ prices.scale
-  pub scale_within : prices.scale ≤ℤ pos max_scale
-  pub some_rent : (f : ℕ) → f < fleets_in t → pos 0 ≤ℤ rent_of prices f
-  pub rent_within : (f : ℕ) → f < fleets_in t → rent_of prices f ≤ℤ pos max_price
-  pub no_less : (f s m : ℕ) → f < fleets_in t → s < stations_in t → m < MINUTES_PER_PERIOD → neg_ℤ (pos max_price) ≤ℤ price_of prices f s m
-  pub no_more : (f s m : ℕ) → f < fleets_in t → s < stations_in t → m < MINUTES_PER_PERIOD → price_of prices f s m ≤ℤ pos max_price
-  pub never_rise : (f s m : ℕ) → f < fleets_in t → s < stations_in t → m + 1 < MINUTES_PER_PERIOD → price_of prices f s (m + 1) ≤ℤ price_of prices f s m
-  pub rise_overnight : (f s : ℕ) → f < fleets_in t → s < stations_in t → price_of prices f s 0 ≤ℤ (price_of prices f s last_minute +ℤ rent_of prices f)
+  pub scale : IsScale prices.scale
+  pub within : AreWithin t prices
+  pub fall : NeverRise t prices
+  pub rise : RiseByRent t prices

@@ -71,7 +71,7 @@ pub const TOO_DEEP: u8 = 9;
 pub const MAX_DEPTH: usize = 20_000;
 
 /// Where reading stopped.
-#[derive(Clone, Copy, Debug, PartialEq, Eq)]
+#[derive(Clone, Copy)]
 pub enum Stop {
     /// At a fault.
     Fault {

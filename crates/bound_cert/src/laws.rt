@@ -1,14 +1,18 @@
 //! The laws of bounds and of proof texts, over all tables, subproblems, prices and trees. Each function is a law: its
 //! contract is the statement, and it does nothing.
-ghost use Rattle.std.specs.Prelude.{◌≡◌, ℕ, Bool, List, All, Ok};
+ghost use Rattle.std.specs.Prelude.{◌≡◌, ◌^◌, ◌-◌, ℕ, Bool, List, All, Ok, pos};
 ghost use Rattle.fleet_model.specs.declared.tables.Tables.{Tables};
 ghost use Rattle.bound_cert.specs.Duality.{CeilingIsLowerBound, WeakDuality, WorthIsLowerBound, WorthRefutes, ZeroIsProper};
+ghost use Rattle.bound_cert.specs.FirstFault.{FirstFaultIsFixed};
 ghost use Rattle.bound_cert.specs.Lines.{left_of};
 ghost use Rattle.bound_cert.specs.Nodes.{nodes_of, proof_at};
 ghost use Rattle.bound_cert.specs.OfTables.{IsOfTables};
 ghost use Rattle.bound_cert.specs.ProofText.{proof_lines, proof_text};
 ghost use Rattle.bound_cert.specs.Words.{IsOfWords, IsPlainLine};
 ghost use Rattle.bound_cert.specs.WrittenOrder.{InWrittenOrder, IsShallow};
+ghost use Rattle.bound_cert.specs.declared.faults.TheConstants.{BAD_LINE, MAX_DEPTH, TEXT_ENDS, TOO_DEEP, UNKNOWN_NAME, WRONG_HEAD, WRONG_NUMBER, WRONG_ORDER, WRONG_WIDTH, WRONG_WORD};
+ghost use Rattle.bound_cert.specs.declared.figures.TheConstants.{MAX_SIZE};
+ghost use Rattle.bound_cert.specs.declared.prices.TheConstants.{MAX_PRICE, MAX_SCALE};
 ghost use Rattle.bound_cert.specs.declared.trees.Tree.{Tree};
 
 /// Prices that are all 0, over the scale 1 and with no rents, are proper.
@@ -70,4 +74,31 @@ pub fn one_text()
 pub fn text_of_reading()
     ensures { (t : Tables) (bytes : List ℕ) (planned : Bool) (tree : Tree) → proof_at t (left_of bytes) ≡ Ok (planned, nodes_of tree)
         → (bytes ≡ proof_text t planned tree) × InWrittenOrder t tree × IsShallow tree }
+{}
+
+/// The first fault of a text rests on the lines up to and with its own, and behind a step of value 0 at minute 0 on the
+/// next one too: texts that have these in common have their first fault in common.
+pub fn first_fault_is_fixed()
+    ensures { FirstFaultIsFixed }
+{}
+
+/// The limits of proofs in numbers: of levels, of the numbers of a text, of scales, and of rents and prices.
+pub fn limits_in_numbers()
+    ensures depth { MAX_DEPTH ≡ 20000 }
+    ensures size { MAX_SIZE ≡ 2 ^ 127 - 1 }
+    ensures scale { MAX_SCALE ≡ pos (10 ^ 18) }
+    ensures price { MAX_PRICE ≡ pos (10 ^ 30) }
+{}
+
+/// The kinds of faults of a proof's text in numbers.
+pub fn kinds_in_numbers()
+    ensures wrong_head { WRONG_HEAD ≡ 1 }
+    ensures bad_line { BAD_LINE ≡ 2 }
+    ensures text_ends { TEXT_ENDS ≡ 3 }
+    ensures wrong_word { WRONG_WORD ≡ 4 }
+    ensures wrong_width { WRONG_WIDTH ≡ 5 }
+    ensures wrong_number { WRONG_NUMBER ≡ 6 }
+    ensures unknown_name { UNKNOWN_NAME ≡ 7 }
+    ensures wrong_order { WRONG_ORDER ≡ 8 }
+    ensures too_deep { TOO_DEEP ≡ 9 }
 {}

@@ -158,6 +158,8 @@ fn begins(alloc: Global, left: &[&[u8]], word: &[u8]) -> Result<bool, NoMemory>
 pub fn behind<'a, 'b>(left: &'b [&'a [u8]]) -> &'b [&'a [u8]]
     ensures { result.now ≡ drop 1 left.now }
 {
-    let lines = if left.is_empty() { 0 } else { 1 };
-    &left[lines..]
+    let Some((_, rest)) = left.split_first() else {
+        return left;
+    };
+    rest
 }

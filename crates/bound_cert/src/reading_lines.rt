@@ -1,6 +1,6 @@
 //! What is left of a text, line by line, and the words of a line.
 ghost use Rattle.std.specs.Prelude.{◌≡◌, filter, length, Err, IfOk};
-ghost use Rattle.bound_cert.specs.Lines.{Gives, first_words, is_plain, is_word, left_of, line_due, node_width, of_width, open_width, parts_of, seen, stands, width_after, width_of, word_at, words_of};
+ghost use Rattle.bound_cert.specs.Lines.{Gives, first_words, is_plain, is_word, left_of, line_due, node_width, of_width, open_width, parts_of, plan_width, seen, stands, width_after, width_of, word_at, words_of};
 ghost use Rattle.bound_cert.specs.declared.faults.Stop.TheVariants as stop;
 ghost use Rattle.bound_cert.specs.declared.reading_lines.Due.TheVariants as due;
 
@@ -9,7 +9,7 @@ use entries::NoMemory;
 use std::alloc::{AllocError, Global};
 
 /// What kind of line is due.
-#[derive(Clone, Copy, Debug, PartialEq, Eq)]
+#[derive(Clone, Copy)]
 pub enum Due {
     /// Whether a plan comes with the proof.
     Plan,
@@ -173,9 +173,8 @@ fn width_after(word: &[u8], width: usize, words: &[&[u8]]) -> Option<usize>
 }
 
 /// How many words the line has that says whether a plan comes.
-#[tactic(auto, unfolding(crate::specs::Lines::width_of))]
 fn plan_width(words: &[&[u8]]) -> Option<usize>
-    ensures { result ≡ width_of due.Plan (seen words.now) }
+    ensures { result ≡ plan_width (seen words.now) }
 {
     if stands(words, 0, b"plan") && (stands(words, 1, b"yes") || stands(words, 1, b"no")) {
         Some(2)

@@ -6,7 +6,7 @@ ghost use Rattle.fleet_model.specs.Kept.{kept_by};
 ghost use Rattle.fleet_model.specs.Limits.{IsCost};
 ghost use Rattle.fleet_model.specs.Schedule.{IsPair, fleets_in, leg_of, legs_in, stations_in};
 ghost use Rattle.fleet_model.specs.Times.{departure, laps_of, ready_minute};
-ghost use Rattle.bound_cert.specs.Prices.{ArePrices, price_of, rent_of};
+ghost use Rattle.bound_cert.specs.Prices.{AreWithin, IsScale, price_of, rent_of};
 ghost use Rattle.bound_cert.specs.Sizes.{IsUpTo};
 ghost use Rattle.bound_cert.specs.Worth.{cost_units, leg_worth, lesser, pair_worth, rents_of, worth_of};
 
@@ -16,10 +16,12 @@ use fleet_model::{Kept, Pair, Tables, laps, ready};
 /// The worth of prices in a subproblem, over their scale: with `k` = 1 a bound on what each legal assignment of
 /// kept pairs costs; with `k` = 0, where it is above 0, a proof that there is none. A leg that keeps no pair adds 0.
 ///
-/// It looks at each kept pair, and there twice at each step of the prices. Takes no memory.
+/// It asks for the limits of the scale, the rents and the prices alone. It looks at each kept pair, and there twice at
+/// each step of the prices. Takes no memory.
 #[tactic(auto, unfolding(crate::specs::Worth::worth_of))]
 pub fn worth(tables: &Tables, kept: &Kept, prices: &Prices, k: u8) -> i128
-    requires proper { ArePrices tables.now prices.now }
+    requires scale { IsScale prices.now.scale }
+    requires within { AreWithin tables.now prices.now }
     requires k { k ≤ 1 }
     ensures { result ≡ worth_of tables.now (kept_by kept.now) prices.now k }
 {
@@ -28,7 +30,8 @@ pub fn worth(tables: &Tables, kept: &Kept, prices: &Prices, k: u8) -> i128
 
 // What the legs are worth, added up.
 fn legs_worth(tables: &Tables, kept: &Kept, prices: &Prices, k: u8) -> i128
-    requires proper { ArePrices tables.now prices.now }
+    requires scale { IsScale prices.now.scale }
+    requires within { AreWithin tables.now prices.now }
     requires k { k ≤ 1 }
     ensures value { result ≡ sum_below_ℤ (leg_worth tables.now (kept_by kept.now) prices.now k) (legs_in tables.now) }
     ensures size { IsUpTo (5 * legs_in tables.now) result }
@@ -43,7 +46,8 @@ fn legs_worth(tables: &Tables, kept: &Kept, prices: &Prices, k: u8) -> i128
 // The least worth of a leg's kept pairs.
 #[tactic(auto, unfolding(crate::specs::Worth::leg_worth, crate::specs::Worth::least_below))]
 fn leg_worth(tables: &Tables, kept: &Kept, prices: &Prices, k: u8, leg: u32) -> i128
-    requires proper { ArePrices tables.now prices.now }
+    requires scale { IsScale prices.now.scale }
+    requires within { AreWithin tables.now prices.now }
     requires k { k ≤ 1 }
     requires leg { leg < legs_in tables.now }
     ensures value { result ≡ leg_worth tables.now (kept_by kept.now) prices.now k leg }
@@ -71,7 +75,8 @@ fn lesser(first: &Option<i128>, second: &i128) -> i128
 
 // What a pair costs by prices.
 fn pair_worth(tables: &Tables, prices: &Prices, k: u8, pair: Pair) -> i128
-    requires proper { ArePrices tables.now prices.now }
+    requires scale { IsScale prices.now.scale }
+    requires within { AreWithin tables.now prices.now }
     requires k { k ≤ 1 }
     requires pair { IsPair tables.now pair }
     ensures value { result ≡ pair_worth tables.now prices.now k pair }
@@ -84,7 +89,7 @@ fn pair_worth(tables: &Tables, prices: &Prices, k: u8, pair: Pair) -> i128
 
 // k times the cost of a pair, over the scale; 0 where it may not be flown.
 fn scaled_cost(tables: &Tables, prices: &Prices, k: u8, pair: Pair) -> i128
-    requires proper { ArePrices tables.now prices.now }
+    requires scale { IsScale prices.now.scale }
     requires k { k ≤ 1 }
     ensures value { result ≡ pos k *ℤ prices.now.scale *ℤ cost_units tables.now pair }
     ensures size { IsUpTo 1 result }
@@ -102,7 +107,7 @@ fn cost_units(tables: &Tables, pair: Pair) -> i128
 
 // What an aircraft is worth where and when it departs, less what it is worth where and when it is ready.
 fn price_fall(tables: &Tables, prices: &Prices, pair: Pair) -> i128
-    requires proper { ArePrices tables.now prices.now }
+    requires within { AreWithin tables.now prices.now }
     requires pair { IsPair tables.now pair }
     ensures value { result ≡ price_of prices.now pair.fleet (leg_of tables.now pair.leg).from (departure tables.now pair)
         -ℤ price_of prices.now pair.fleet (leg_of tables.now pair.leg).to (ready_minute tables.now pair) }
@@ -116,7 +121,7 @@ fn price_fall(tables: &Tables, prices: &Prices, pair: Pair) -> i128
 
 // A price, with its size.
 fn price(tables: &Tables, prices: &Prices, fleet: u32, station: u32, minute: u16) -> i128
-    requires proper { ArePrices tables.now prices.now }
+    requires within { AreWithin tables.now prices.now }
     requires fleet { fleet < fleets_in tables.now }
     requires station { station < stations_in tables.now }
     requires minute { minute < MINUTES_PER_PERIOD }
@@ -128,7 +133,7 @@ fn price(tables: &Tables, prices: &Prices, fleet: u32, station: u32, minute: u16
 
 // The rent of an aircraft of a fleet, with its size.
 fn rent(tables: &Tables, prices: &Prices, fleet: u32) -> i128
-    requires proper { ArePrices tables.now prices.now }
+    requires within { AreWithin tables.now prices.now }
     requires fleet { fleet < fleets_in tables.now }
     ensures value { result ≡ rent_of prices.now fleet }
     ensures size { IsUpTo 1 result }
@@ -138,7 +143,7 @@ fn rent(tables: &Tables, prices: &Prices, fleet: u32) -> i128
 
 // The rent of a pair's aircraft for each period start between departure and readiness.
 fn lap_rents(tables: &Tables, prices: &Prices, pair: Pair) -> i128
-    requires proper { ArePrices tables.now prices.now }
+    requires within { AreWithin tables.now prices.now }
     requires pair { IsPair tables.now pair }
     ensures value { result ≡ rent_of prices.now pair.fleet *ℤ pos (laps_of tables.now pair) }
     ensures size { IsUpTo 2 result }
@@ -148,7 +153,7 @@ fn lap_rents(tables: &Tables, prices: &Prices, pair: Pair) -> i128
 
 // The rents of all aircraft.
 fn all_rents(tables: &Tables, prices: &Prices) -> i128
-    requires { ArePrices tables.now prices.now }
+    requires { AreWithin tables.now prices.now }
     ensures value { result ≡ sum_below_ℤ (rents_of tables.now prices.now) (fleets_in tables.now) }
     ensures size { IsUpTo (MAX_AIRCRAFT * fleets_in tables.now) result }
 {
@@ -161,7 +166,7 @@ fn all_rents(tables: &Tables, prices: &Prices) -> i128
 
 // The rents of a fleet's aircraft.
 fn fleet_rents(tables: &Tables, prices: &Prices, fleet: u32) -> i128
-    requires proper { ArePrices tables.now prices.now }
+    requires within { AreWithin tables.now prices.now }
     requires fleet { fleet < fleets_in tables.now }
     ensures value { result ≡ rents_of tables.now prices.now fleet }
     ensures size { IsUpTo MAX_AIRCRAFT result }

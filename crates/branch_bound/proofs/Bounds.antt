@@ -125,7 +125,7 @@ module _ (t : Tables) (final : Option ℤ) where
 
       by_cost : (f : Option ℤ) → IsSomeAnd f (Reaches t keeps prices) → IsSomeAnd f (λ c. c ≤ℤ is.least)
       by_cost None reaches = reaches
-      by_cost (Some c) reaches = omega (arith, ints, reaches.reaches, same_ceiling _ _ reaches.least is.least proper.some_scale reaches.rounded is.rounded)
+      by_cost (Some c) reaches = omega (arith, ints, reaches.reaches, same_ceiling _ _ reaches.least is.least proper.scale.some reaches.rounded is.rounded)
 
   -- a sole leaf
   by_sole : (keeps : Domains) (bound : Option ℤ) → IsSole t keeps → AnswersSole t final (node keeps tree.Sole) → IsSoleBound t keeps bound → IfSome bound IsReached
@@ -183,7 +183,7 @@ module _ (t : Tables) (final : Option ℤ) where
   open_bound keeps (tree.Priced prices) bound sound gaps some is = absurd (cc)
   open_bound keeps (tree.Open prices why) bound sound gaps some is =
       by_gap keeps prices bound ((All-head (LeavesGap t final) (node keeps (tree.Open prices why)) [] gaps).gap prices why refl)
-      (prices_known t final (node keeps (tree.Open prices why)) prices (All-head (IsSound t final) (node keeps (tree.Open prices why)) [] sound) refl).some_scale is
+      (prices_known t final (node keeps (tree.Open prices why)) prices (All-head (IsSound t final) (node keeps (tree.Open prices why)) [] sound) refl).scale.some is
   open_bound keeps (tree.Trim' leg fleet p with_pair q without) bound sound gaps some is =
       let below = All-tail (IsSound t final) _ _ sound in
       let short = All-tail (LeavesGap t final) _ _ gaps in

@@ -189,7 +189,7 @@ module _ (t : Tables) (cost : ℤ) where
       let here = All-head (IsSound t (Some cost)) (node keeps (tree.Open prices why)) [] sound in
       let proper : ArePrices t prices = prices_known t (Some cost) (node keeps (tree.Open prices why)) prices here refl in
       by_reach (AreSound t (Some cost) keeps) keeps prices why
-      (λ e. all_one (IsSound t (Some cost)) (node keeps (tree.Priced prices)) (priced_sound t (Some cost) keeps prices proper (here.each rule.Pairs) (does_reach_is t keeps prices cost proper.some_scale e)))
+      (λ e. all_one (IsSound t (Some cost)) (node keeps (tree.Priced prices)) (priced_sound t (Some cost) keeps prices proper (here.each rule.Pairs) (does_reach_is t keeps prices cost proper.scale.some e)))
       (λ e. sound)
   closed_sound keeps (tree.Trim' leg fleet p with_pair q without) sound =
       let below = All-tail (IsSound t (Some cost)) _ _ sound in
@@ -229,7 +229,7 @@ module _ (t : Tables) (cost : ℤ) where
   open_gap keeps prices why proper e = record {
     gap = λ own cause same.
         let is : prices ≡ own = cc in
-        subst (λ x. IfSome (Some cost) (FallsShort t keeps x)) is (falls_short_is t keeps prices cost proper.some_scale e);
+        subst (λ x. IfSome (Some cost) (FallsShort t keeps x)) is (falls_short_is t keeps prices cost proper.scale.some e);
   }
 
   pub closed_gaps : (keeps : Domains) (whole : Tree) → AreSound t (Some cost) keeps whole → All (LeavesGap t (Some cost)) (nodes_in keeps (closed t cost keeps whole))

@@ -139,7 +139,7 @@ whole_offered t keeps prices mixed a before after allowed best whole flies offer
   plan = a;
   kept = whole_kept t keeps mixed a allowed best.mixed_at whole flies;
   legal = whole_legal t keeps mixed a allowed best.mixed_at whole flies;
-  worth = whole_worth t keeps mixed a allowed best.mixed_at whole flies prices best.good.proper.some_scale best.value;
+  worth = whole_worth t keeps mixed a allowed best.mixed_at whole flies prices best.good.proper.scale.some best.value;
   offered = offered;
 }
 

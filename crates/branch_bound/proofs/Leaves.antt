@@ -12,8 +12,7 @@ use Rattle.bound_cert.specs.declared.trees.Tree.{Split, Tree, Trim}
 use Rattle.bound_cert.specs.declared.trees.Tree.TheVariants as tree
 use Rattle.bound_cert.specs.Fractions.{IsFraction, IsMixedAt, IsWholePair}
 use Rattle.cert_check.specs.Nodes.{mixed_of}
-use Rattle.cert_check.specs.PriceRules.{AreWithin, NeverRise, RiseByRent}
-use Rattle.cert_check.specs.Rules.{HasScale, HaveAllPairs, IsKeptPair, IsSound, Keeps, Reaches}
+use Rattle.cert_check.specs.Rules.{HaveAllPairs, IsKeptPair, IsSound, Keeps, Reaches}
 use Rattle.cert_check.specs.declared.rules.Rule.{Rule}
 use Rattle.cert_check.specs.declared.rules.Rule.TheVariants as rule
 use Rattle.branch_bound.specs.Causes.{IsFirstPartial}
@@ -25,23 +24,6 @@ use Rattle.branch_bound.proofs.PairsKept.{not_one}
 -- a node that is no leaf of one assignment answers nothing
 pub answers_none : (t : Tables) (cost : Option ℤ) (keeps : Domains) (whole : Tree) → whole ≢ tree.Sole → AnswersSole t cost (node keeps whole)
 answers_none t cost keeps whole other = record { answers = λ e. absurd (other e) }
-
--- what the rules say of proper prices
-module _ (t : Tables) (prices : Prices) (proper : ArePrices t prices) where
-  scale_rule : HasScale prices
-  scale_rule = record { some = proper.some_scale; within = proper.scale_within }
-
-  limits_rule : AreWithin t prices
-  limits_rule = record {
-    rents = λ f below. record { some = proper.some_rent f below; within = proper.rent_within f below };
-    each = λ f s m fleet station minute. record { no_less = proper.no_less f s m fleet station minute; no_more = proper.no_more f s m fleet station minute };
-  }
-
-  fall_rule : NeverRise t prices
-  fall_rule = record { each = proper.never_rise }
-
-  rent_rule : RiseByRent t prices
-  rent_rule = record { each = proper.rise_overnight }
 
 -- ---- leaves
 module _ (t : Tables) (cost : Option ℤ) (keeps : Domains) where
@@ -79,10 +61,10 @@ module _ (t : Tables) (cost : Option ℤ) (keeps : Domains) where
   refuted_sound prices proper pairs above = record { each = each }
     where
       each : (r : Rule) → Keeps t cost (node keeps (tree.Refuted prices)) r
-      each rule.Scale = scale_rule t prices proper
-      each rule.Limits = limits_rule t prices proper
-      each rule.Fall = fall_rule t prices proper
-      each rule.Rent = rent_rule t prices proper
+      each rule.Scale = proper.scale
+      each rule.Limits = proper.within
+      each rule.Fall = proper.fall
+      each rule.Rent = proper.rise
       each rule.Pairs = pairs
       each rule.Refuted = above
       each rule.Priced = tt
@@ -94,10 +76,10 @@ module _ (t : Tables) (cost : Option ℤ) (keeps : Domains) where
   priced_sound prices proper pairs reaches = record { each = each }
     where
       each : (r : Rule) → Keeps t cost (node keeps (tree.Priced prices)) r
-      each rule.Scale = scale_rule t prices proper
-      each rule.Limits = limits_rule t prices proper
-      each rule.Fall = fall_rule t prices proper
-      each rule.Rent = rent_rule t prices proper
+      each rule.Scale = proper.scale
+      each rule.Limits = proper.within
+      each rule.Fall = proper.fall
+      each rule.Rent = proper.rise
       each rule.Pairs = pairs
       each rule.Refuted = tt
       each rule.Priced = reaches
@@ -110,10 +92,10 @@ module _ (t : Tables) (cost : Option ℤ) (keeps : Domains) where
   open_sound prices why proper pairs mixed fraction = record { each = each }
     where
       each : (r : Rule) → Keeps t cost (node keeps (tree.Open prices why)) r
-      each rule.Scale = scale_rule t prices proper
-      each rule.Limits = limits_rule t prices proper
-      each rule.Fall = fall_rule t prices proper
-      each rule.Rent = rent_rule t prices proper
+      each rule.Scale = proper.scale
+      each rule.Limits = proper.within
+      each rule.Fall = proper.fall
+      each rule.Rent = proper.rise
       each rule.Pairs = pairs
       each rule.Refuted = tt
       each rule.Priced = tt
@@ -147,10 +129,10 @@ module _ (t : Tables) (cost : Option ℤ) (keeps : Domains) (leg fleet : ℕ) (y
   split_sound prices mixed is = record { each = each }
     where
       each : (r : Rule) → Keeps t cost (node keeps (Split leg fleet prices mixed yes no)) r
-      each rule.Scale = scale_rule t prices is.best.good.proper
-      each rule.Limits = limits_rule t prices is.best.good.proper
-      each rule.Fall = fall_rule t prices is.best.good.proper
-      each rule.Rent = rent_rule t prices is.best.good.proper
+      each rule.Scale = is.best.good.proper.scale
+      each rule.Limits = is.best.good.proper.within
+      each rule.Fall = is.best.good.proper.fall
+      each rule.Rent = is.best.good.proper.rise
       each rule.Pairs = is.searched.some_pair
       each rule.Refuted = tt
       each rule.Priced = tt

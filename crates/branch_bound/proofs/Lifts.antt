@@ -9,7 +9,7 @@ use Rattle.fleet_model.specs.declared.tables.Tables.{Tables}
 use Rattle.row_store.specs.Problem.{IsProblem, first_table}
 use Rattle.row_store.specs.declared.problem.Rows.{Rows}
 use Rattle.lp_rows.specs.Points.{AreLinesOf}
-use Rattle.simplex_frac.specs.Outcomes.{IsOutcome, TurnsAt}
+use Rattle.simplex_frac.specs.Outcomes.{IsOutcome}
 use Rattle.simplex_frac.specs.declared.outcome.Outcome.{Outcome}
 use Rattle.simplex_frac.specs.declared.outcome.Outcome.TheVariants as outcome
 use Rattle.simplex_frac.specs.declared.turn.Turn.TheVariants as turns

@@ -87,14 +87,13 @@ zero_price t f s m = refl
 
 zero_proper : (t : Tables) → ArePrices t (zero_prices t)
 zero_proper t = record {
-  some_scale = omega (arith, ints);
-  scale_within = omega (arith, ints);
-  some_rent = λ f known. omega (arith, ints, zero_rent t f known);
-  rent_within = λ f known. omega (arith, ints, zero_rent t f known);
-  no_less = λ f s m known there within. omega (arith, ints, zero_price t f s m);
-  no_more = λ f s m known there within. omega (arith, ints, zero_price t f s m);
-  never_rise = λ f s m known there within. omega (arith, ints, zero_price t f s m, zero_price t f s (m + 1));
-  rise_overnight = λ f s known there. omega (arith, ints, zero_price t f s 0, zero_price t f s last_minute, zero_rent t f known);
+  scale = record { some = omega (arith, ints); within = omega (arith, ints) };
+  within = record {
+    rents = λ f known. record { some = omega (arith, ints, zero_rent t f known); within = omega (arith, ints, zero_rent t f known) };
+    each = λ f s m known there early. record { no_less = omega (arith, ints, zero_price t f s m); no_more = omega (arith, ints, zero_price t f s m) };
+  };
+  fall = record { each = λ f s m known there early. omega (arith, ints, zero_price t f s m, zero_price t f s (m + 1)) };
+  rise = record { each = λ f s known there. omega (arith, ints, zero_price t f s 0, zero_price t f s last_minute, zero_rent t f known) };
 }
 
 zero_figure : IsFigure (pos 0)

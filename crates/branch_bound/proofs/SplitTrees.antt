@@ -1,5 +1,5 @@
 -- A search through a split, and through a step into a part.
-use Rattle.std.proofs.Common.{◌≡◌, ℕ, ◌+◌, ◌*◌, ◌<◌, ◌≤◌, Bool, true, false, ◌&&◌, List, Result, Ok, Err, IfOk, OnOk, refl, sym, ◌∙◌, subst, arith}
+use Rattle.std.proofs.Common.{◌≡◌, ℕ, ◌+◌, ◌*◌, ◌<◌, ◌≤◌, Bool, true, false, List, Result, Ok, Err, IfOk, OnOk, sym, ◌∙◌, subst, arith}
 use Rattle.sums.proofs.Tests.{first_true}
 use Rattle.entries.specs.declared.memory.NoMemory.{NoMemory}
 use Rattle.fleet_model.specs.Kept.{Domains, kept_by, narrowed, pairs_kept}

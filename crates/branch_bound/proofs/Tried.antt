@@ -1,5 +1,5 @@
 -- What the cheapest plan costs once an assignment was tried.
-use Rattle.std.proofs.Common.{◌≡◌, true, false, cond, List, ℕ, Option, Some, None, IfSome, IsSomeAnd, ℤ, ◌≤ℤ◌, ◌<ℤ◌, refl, sym, ◌∙◌, ap, subst}
+use Rattle.std.proofs.Common.{◌≡◌, true, false, cond, List, ℕ, Option, Some, None, IfSome, IsSomeAnd, ℤ, ◌≤ℤ◌, ◌<ℤ◌, refl, sym, ◌∙◌, ap}
 use Rattle.std.specs.Prelude.{int_lt}
 use Rattle.std.proofs.Common.{arith}
 use Rattle.std.proofs.lemmas.Int.{ints}

@@ -1,5 +1,4 @@
 pub mod MixedCosts
-pub mod MixedNeed
 pub mod NodeRules
 pub mod OneVerdict
 pub mod PriceSteps

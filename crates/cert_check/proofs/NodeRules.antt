@@ -10,28 +10,18 @@ use Rattle.fleet_model.specs.Legal.{IsLegal, total_cost}
 use Rattle.fleet_model.specs.declared.tables.Tables.{Tables}
 use Rattle.fleet_model.proofs.KeptLaws.{sole_is_one}
 use Rattle.bound_cert.specs.Bound.{IsSoleBound}
-use Rattle.bound_cert.specs.Prices.{ArePrices}
+use Rattle.bound_cert.specs.Prices.{ArePrices, AreWithin, NeverRise, RiseByRent}
 use Rattle.bound_cert.specs.Worth.{worth_of}
 use Rattle.bound_cert.specs.declared.mixed.Mixed.{Mixed}
 use Rattle.bound_cert.specs.declared.prices.Prices.{Prices}
 use Rattle.bound_cert.specs.Fractions.{AreParts, IsMixedAt}
 use Rattle.cert_check.specs.Nodes.{Node, prices_at}
-use Rattle.cert_check.specs.PriceRules.{AreWithin, NeverRise, RiseByRent}
 use Rattle.cert_check.specs.Rules.{HasScale, IsLegalAt, IsSoleLegal, IsSound, KeepsBefore, Reaches}
 use Rattle.cert_check.specs.declared.rules.Rule.TheVariants as rule
 
 -- prices are proper where they keep the first four rules
 pub are_prices : (t : Tables) (prices : Prices) → HasScale prices → AreWithin t prices → NeverRise t prices → RiseByRent t prices → ArePrices t prices
-are_prices t prices scale within fall rent = record {
-  some_scale = scale.some;
-  scale_within = scale.within;
-  some_rent = λ f below. (within.rents f below).some;
-  rent_within = λ f below. (within.rents f below).within;
-  no_less = λ f s m fleet station minute. (within.each f s m fleet station minute).no_less;
-  no_more = λ f s m fleet station minute. (within.each f s m fleet station minute).no_more;
-  never_rise = fall.each;
-  rise_overnight = rent.each;
-}
+are_prices t prices scale within fall rent = record { scale = scale; within = within; fall = fall; rise = rent }
 
 -- the prices of a node that keeps them
 pub prices_proper : (t : Tables) (cost : Option ℤ) (node : Node) (bound : ℕ) → KeepsBefore t cost node bound → 4 < bound → IfSome (prices_at node.tree) (ArePrices t)
@@ -65,10 +55,12 @@ module _ (t : Tables) (keeps : Domains) (plan : List ℕ) (sole : IsSole t keeps
   sole_bound None illegal = record {
     legal = λ a is legal. absurd (illegal (same_legal a is legal));
     illegal = λ a is other. refl;
+    none = λ other. refl;
   }
   sole_bound (Some c) legal = record {
     legal = λ a is other. ap Some (legal.costs ∙ ap (total_cost t) (sole_is_one t keeps plan a sole kept is));
     illegal = λ a is other. absurd (other (subst (IsLegal t) (sole_is_one t keeps plan a sole kept is) legal.legal));
+    none = λ other. absurd (other plan kept);
   }
 
 -- the prices of a node that keeps all rules

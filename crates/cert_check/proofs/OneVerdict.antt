@@ -16,7 +16,7 @@ use Rattle.bound_cert.specs.declared.prices.Prices.{Prices}
 use Rattle.bound_cert.specs.declared.trees.Tree.{Tree}
 use Rattle.bound_cert.specs.declared.trees.Tree.TheVariants as tree
 use Rattle.cert_check.specs.Nodes.{Node, nodes_in}
-use Rattle.bound_cert.specs.Fractions.{IsScale}
+use Rattle.bound_cert.specs.Prices.{IsScale}
 use Rattle.cert_check.specs.Rules.{IsFirstBroken, IsFirstFault, IsSound, number_of}
 use Rattle.cert_check.specs.Verdicts.{AreSound, BreaksAt, HoldsWith, IsChecked}
 use Rattle.cert_check.specs.declared.checked.Checked.{Checked}

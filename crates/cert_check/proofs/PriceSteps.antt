@@ -8,11 +8,11 @@ use Rattle.fleet_model.specs.Use.{last_minute}
 use Rattle.fleet_model.specs.declared.limits.TheConstants.{MINUTES_PER_PERIOD}
 use Rattle.fleet_model.specs.declared.tables.Tables.{Tables}
 use Rattle.bound_cert.specs.OfTables.{ArePricesOf}
-use Rattle.bound_cert.specs.Prices.{has_come, price_after, price_of, rent_of}
+use Rattle.bound_cert.specs.Prices.{AreRents, AreWithin, IsPrice, IsRent, NeverRise, RiseByRent, RisesByRent, has_come, price_after, price_of, rent_of}
 use Rattle.bound_cert.specs.declared.prices.Prices.{Prices}
 use Rattle.bound_cert.specs.declared.prices.PriceStep.{PriceStep}
 use Rattle.bound_cert.proofs.Numbers.{held, is_held}
-use Rattle.cert_check.specs.PriceRules.{AreRents, AreWithin, FallsAt, IsPrice, IsRent, IsWithinAt, NeverRise, RiseByRent, RisesByRent, RisesByRentAt}
+use Rattle.cert_check.specs.PriceRules.{FallsAt, IsWithinAt, RisesByRentAt}
 
 -- a step of a fleet at a station, with what is known of it
 record IsAt (P : PriceStep → Type 0) (f s : ℕ) (step : PriceStep) : Type 0 where

@@ -6,14 +6,13 @@ use Rattle.fleet_model.specs.Legal.{IsLegal, total_cost}
 use Rattle.fleet_model.specs.Schedule.{leg_on}
 use Rattle.fleet_model.specs.declared.tables.Tables.{Tables}
 use Rattle.bound_cert.specs.Bound.{part}
+use Rattle.bound_cert.specs.Prices.{AreWithin, IsScale, NeverRise, RiseByRent}
 use Rattle.bound_cert.specs.Worth.{worth_of}
 use Rattle.bound_cert.specs.declared.prices.Prices.{Prices}
 use Rattle.bound_cert.specs.declared.trees.Tree.{Tree}
 use Rattle.bound_cert.specs.declared.trees.Tree.TheVariants as tree
 use Rattle.bound_cert.specs.Fractions.{IsFraction, IsMixedAt, IsWholePair}
 use Rattle.cert_check.specs.Nodes.{Node, mixed_at, mixed_of, prices_at}
-use Rattle.bound_cert.specs.Fractions.{IsScale}
-use Rattle.cert_check.specs.PriceRules.{AreWithin, NeverRise, RiseByRent}
 use Rattle.cert_check.specs.declared.rules.Rule.{Rule}
 use Rattle.cert_check.specs.declared.rules.Rule.TheVariants as rule
 

@@ -10,11 +10,12 @@ ghost use Rattle.bound_cert.specs.Prices.{max_scale};
 ghost use Rattle.bound_cert.specs.Fractions.{AreParts, HasAllWeights, HasWeights, IsMixedAt, IsWeight, parts_in, parts_of_leg};
 ghost use Rattle.cert_check.specs.MixedRules.{BalancesFleet, Covers, FliesKept, FliesKeptOn, UsesNoMore};
 
-use crate::mixed_counts::{arrivals, departures, parts, used, weight_on};
+use crate::mixed_counts::{Parted, parts, weight_on};
 use crate::price_rules::is_scale;
 use bound_cert::Mixed;
 use fleet_model::limits::MINUTES_PER_PERIOD;
 use fleet_model::{Kept, Pair, Tables};
+use stand_counts::{arrivals, departures, used};
 
 /// Whether a fractional assignment is one of a subproblem: scale and weights within their limits, weights on kept
 /// pairs alone, which sum to the scale for each leg, balanced, and within the fleets. Takes no memory.
@@ -121,15 +122,17 @@ fn is_balanced(tables: &Tables, mixed: &Mixed) -> bool
 }
 
 // Whether a fleet balances at each station.
+#[tactic(auto, using(stand_counts::proofs::FleetCounts::arrivals_of_fleet, stand_counts::proofs::FleetCounts::departures_of_fleet))]
 fn balances(tables: &Tables, mixed: &Mixed, fleet: u32) -> bool
     requires parts { AreParts tables.now mixed.now }
     requires fleet { fleet < fleets_in tables.now }
     ensures { MatchBool result (BalancesFleet tables.now mixed.now fleet) (¬ (BalancesFleet tables.now mixed.now fleet)) }
 {
+    let flights = Parted { mixed, fleet };
     let last = MINUTES_PER_PERIOD - 1;
     for station in 0..tables.station_count() {
-        let came = arrivals(tables, mixed, fleet, station, last);
-        if came != departures(tables, mixed, fleet, station, last) {
+        let came = arrivals(tables, &flights, station, last);
+        if came != departures(tables, &flights, station, last) {
             return false;
         }
     }
@@ -137,12 +140,13 @@ fn balances(tables: &Tables, mixed: &Mixed, fleet: u32) -> bool
 }
 
 // Whether no fleet uses more aircraft than it has, so many parts each.
+#[tactic(auto, using(stand_counts::proofs::FleetCounts::use_of_fleet))]
 fn uses_no_more(tables: &Tables, mixed: &Mixed) -> bool
     requires { AreParts tables.now mixed.now }
     ensures { MatchBool result (UsesNoMore tables.now mixed.now) (¬ (UsesNoMore tables.now mixed.now)) }
 {
     for fleet in 0..tables.fleet_count() {
-        if used(tables, mixed, fleet) > aircraft_parts(tables, mixed, fleet) {
+        if used(tables, &Parted { mixed, fleet }) > aircraft_parts(tables, mixed, fleet) {
             return false;
         }
     }

@@ -3,10 +3,9 @@ ghost use Rattle.std.specs.Prelude.{◌≡◌, Some, None, IfSome, IsSomeAnd, Ma
 ghost use Rattle.fleet_model.specs.Kept.{kept_by, narrowed};
 ghost use Rattle.fleet_model.specs.Schedule.{IsPair, leg_on};
 ghost use Rattle.bound_cert.specs.OfTables.{ArePricesOf, IsOfTables};
-ghost use Rattle.bound_cert.specs.Prices.{ArePrices};
+ghost use Rattle.bound_cert.specs.Prices.{ArePrices, AreWithin, NeverRise, RiseByRent};
 ghost use Rattle.bound_cert.specs.Fractions.{AreParts, IsFraction, IsMixedAt};
 ghost use Rattle.cert_check.specs.Nodes.{mixed_at, mixed_of, node_at, prices_at};
-ghost use Rattle.cert_check.specs.PriceRules.{AreWithin, NeverRise, RiseByRent};
 ghost use Rattle.cert_check.specs.Rules.{EndsAtOnce, HasFraction, HasItsPairs, HasParts, HasScale, IsFirstFault, IsPricedAt, IsRefutedAt, IsSound, Keeps, IsSoleLegal, KeepsBefore, OneEnds, Reaches, number_of};
 
 use crate::fraction_rules::{is_fraction, is_whole_pair};

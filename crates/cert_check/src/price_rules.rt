@@ -6,9 +6,8 @@ ghost use Rattle.std.specs.Prelude.{◌≡◌, ◌<◌, All, MatchBool, ◌≤�
 ghost use Rattle.fleet_model.specs.Schedule.{fleets_in};
 ghost use Rattle.fleet_model.specs.declared.limits.TheConstants.{MINUTES_PER_PERIOD};
 ghost use Rattle.bound_cert.specs.OfTables.{ArePricesOf, IsStepOf};
-ghost use Rattle.bound_cert.specs.Prices.{price_of, rent_of};
-ghost use Rattle.bound_cert.specs.Fractions.{IsScale};
-ghost use Rattle.cert_check.specs.PriceRules.{AreRents, AreWithin, FallsAt, IsPrice, IsRent, IsWithinAt, NeverRise, RiseByRent, RisesByRentAt};
+ghost use Rattle.bound_cert.specs.Prices.{AreRents, AreWithin, IsPrice, IsRent, IsScale, NeverRise, RiseByRent, price_of, rent_of};
+ghost use Rattle.cert_check.specs.PriceRules.{FallsAt, IsWithinAt, RisesByRentAt};
 
 use bound_cert::prices::{MAX_PRICE, MAX_SCALE};
 use bound_cert::{PriceStep, Prices};

@@ -3,6 +3,7 @@ ghost use Rattle.std.specs.Prelude.{◌≡◌, true};
 ghost use Rattle.clap.specs.Words.{is_simple_and_free};
 ghost use Rattle.command_words.specs.Laws.{ChecksByDefault, ChecksFrom, ChecksPlainly, JudgesByDefault, JudgesFrom, JudgesPlainly, SolvesByDefault, SolvesPlainly, SolvesWithin};
 ghost use Rattle.command_words.specs.Program.{our_app};
+ghost use Rattle.command_words.specs.declared.command.TheConstants.{DEFAULT_DAY_START, DEFAULT_NODES, DEFAULT_PIVOTS, MAX_NODES, MAX_PIVOTS, THROUGH_MAX};
 
 /// The command line is of the kind for which clap's definition of a match is exact: by it alone clap tells a match
 /// from a fault, and what the words give each argument.
@@ -22,4 +23,14 @@ pub fn plain_reading()
     ensures solves_within { SolvesWithin }
     ensures checks_by_default { ChecksByDefault }
     ensures checks_from { ChecksFrom }
+{}
+
+/// The defaults of the options, and the greatest values that they take, in numbers.
+pub fn values_in_numbers()
+    ensures day_start { DEFAULT_DAY_START ≡ 180 }
+    ensures through_max { THROUGH_MAX ≡ 60 }
+    ensures nodes { DEFAULT_NODES ≡ 1000 }
+    ensures most_nodes { MAX_NODES ≡ 1000000 }
+    ensures pivots { DEFAULT_PIVOTS ≡ 20000 }
+    ensures most_pivots { MAX_PIVOTS ≡ 1000000 }
 {}

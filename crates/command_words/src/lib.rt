@@ -12,6 +12,3 @@ pub use command::{
     THROUGH_MAX,
 };
 pub use words::command_of;
-
-#[cfg(test)]
-mod tests;

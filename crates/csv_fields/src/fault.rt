@@ -35,38 +35,3 @@ fn reason(kind: &u8) -> &'static str {
         _ => "the field is not of its form",
     }
 }
-
-#[cfg(test)]
-mod tests {
-    use super::*;
-    use std::test::Fail;
-
-    #[test]
-    fn faults_say_what_is_wrong(rt: HostRuntime) -> Result<(), Fail> {
-        let cases = [
-            (FieldFault::EMPTY, 1, "the field is empty"),
-            (
-                FieldFault::WRONG_LENGTH,
-                2,
-                "the field has the wrong length",
-            ),
-            (
-                FieldFault::FORBIDDEN_BYTE,
-                3,
-                "the field has a byte that may not stand there",
-            ),
-            (
-                FieldFault::OUT_OF_RANGE,
-                4,
-                "the number is outside its range",
-            ),
-            (FieldFault::NOT_A_TIME, 5, "the field is no time HH:MM"),
-            (FieldFault::NOT_A_FLAG, 6, "the field is neither yes nor no"),
-        ];
-        for (fault, kind, text) in cases {
-            assert_eq!(rt; fault.kind, kind);
-            assert_eq!(rt; fault.to_string(rt.alloc())?.as_str(), text);
-        }
-        Ok(())
-    }
-}

@@ -15,25 +15,3 @@ pub fn yes_no(field: &[u8]) -> Result<bool, FieldFault>
         _ => Err(FieldFault::NOT_A_FLAG),
     }
 }
-
-#[cfg(test)]
-mod tests {
-    use super::*;
-
-    #[test]
-    fn flags(rt: HostRuntime) {
-        let fault = Err(FieldFault::NOT_A_FLAG);
-        let cases = [
-            ("yes", Ok(true)),
-            ("no", Ok(false)),
-            ("", fault),
-            ("Yes", fault),
-            ("ye", fault),
-            ("yess", fault),
-            ("no ", fault),
-        ];
-        for (field, want) in cases {
-            assert_eq!(rt; yes_no(field.as_bytes()), want, "{field}");
-        }
-    }
-}

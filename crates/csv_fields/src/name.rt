@@ -73,37 +73,3 @@ fn has_name_bytes(field: &[u8]) -> bool
         .iter()
         .all(|byte| byte.is_ascii_uppercase() || byte.is_ascii_digit())
 }
-
-#[cfg(test)]
-mod tests {
-    use super::*;
-
-    #[test]
-    fn codes_and_names(rt: HostRuntime) {
-        let empty = Err(FieldFault::EMPTY);
-        let length = Err(FieldFault::WRONG_LENGTH);
-        let byte = Err(FieldFault::FORBIDDEN_BYTE);
-        let cases = [
-            ("", empty, empty),
-            ("AAA", Ok(()), Ok(())),
-            ("AZM", Ok(()), Ok(())),
-            ("AB", length, Ok(())),
-            ("ABCD", length, Ok(())),
-            ("A1B", byte, Ok(())),
-            ("AbC", byte, byte),
-            ("A@[", byte, byte),
-            ("ab", length, byte),
-            ("0", length, Ok(())),
-            ("FL123456", length, Ok(())),
-            ("FL1234567", length, length),
-            ("a23456789", length, length),
-            ("A B", byte, byte),
-            ("F/:", byte, byte),
-        ];
-        for (field, code, name) in cases {
-            assert_eq!(rt; station_code(field.as_bytes()), code, "code {field}");
-            assert_eq!(rt; flight_name(field.as_bytes()), name, "flight {field}");
-            assert_eq!(rt; fleet_name(field.as_bytes()), name, "fleet {field}");
-        }
-    }
-}

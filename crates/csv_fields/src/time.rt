@@ -41,30 +41,3 @@ fn two_digits(tens: u8, ones: u8) -> Option<u16>
         None
     }
 }
-
-#[cfg(test)]
-mod tests {
-    use super::*;
-
-    #[test]
-    fn times(rt: HostRuntime) {
-        let fault = Err(FieldFault::NOT_A_TIME);
-        let cases = [
-            ("00:00", Ok(0)),
-            ("08:05", Ok(485)),
-            ("23:59", Ok(1439)),
-            ("24:00", fault),
-            ("12:60", fault),
-            ("", fault),
-            ("8:00", fault),
-            ("08:0", fault),
-            ("08:000", fault),
-            ("08.00", fault),
-            ("0a:00", fault),
-            ("08:-1", fault),
-        ];
-        for (field, want) in cases {
-            assert_eq!(rt; clock_time(field.as_bytes()), want, "{field}");
-        }
-    }
-}

@@ -26,14 +26,16 @@ no_rent prices none f = rw none refl
 
 pub proper_all_day : (t : Tables) (prices : Prices) → prices.scale ≡ pos 1 → prices.rents ≡ [] → prices.steps ≡ step_at 1 0 (pos 20) ∷ [] → ArePrices t prices
 proper_all_day t prices one none e = record {
-  some_scale = omega (arith, ints, one);
-  scale_within = omega (arith, ints, one);
-  some_rent = λ f below. omega (arith, ints, no_rent prices none f);
-  rent_within = λ f below. omega (arith, ints, no_rent prices none f);
-  no_less = λ f s m known there within. rw (all_day prices e f s m) (omega (arith, ints, between ((1 == f) && (0 == s))));
-  no_more = λ f s m known there within. rw (all_day prices e f s m) (omega (arith, ints, between ((1 == f) && (0 == s))));
-  never_rise = λ f s m known there within. rw (all_day prices e f s m, all_day prices e f s (m + 1)) (omega (arith, ints));
-  rise_overnight = λ f s known there. rw (all_day prices e f s 0, all_day prices e f s last_minute) (omega (arith, ints, no_rent prices none f));
+  scale = record { some = omega (arith, ints, one); within = omega (arith, ints, one) };
+  within = record {
+    rents = λ f below. record { some = omega (arith, ints, no_rent prices none f); within = omega (arith, ints, no_rent prices none f) };
+    each = λ f s m known there early. record {
+      no_less = rw (all_day prices e f s m) (omega (arith, ints, between ((1 == f) && (0 == s))));
+      no_more = rw (all_day prices e f s m) (omega (arith, ints, between ((1 == f) && (0 == s))));
+    };
+  };
+  fall = record { each = λ f s m known there early. rw (all_day prices e f s m, all_day prices e f s (m + 1)) (omega (arith, ints)) };
+  rise = record { each = λ f s known there. rw (all_day prices e f s 0, all_day prices e f s last_minute) (omega (arith, ints, no_rent prices none f)) };
 }
 
 -- what four steps of 1, 0, 1 and 0 say, of which some have come
@@ -112,12 +114,13 @@ some_rent prices e (suc (suc f)) = rw e (omega (arith, ints), omega (arith, ints
 
 pub proper_until_departure : (t : Tables) (prices : Prices) → prices.scale ≡ pos 1 → prices.rents ≡ pos 1 ∷ pos 1 ∷ [] → prices.steps ≡ until_departure → ArePrices t prices
 proper_until_departure t prices one rents e = record {
-  some_scale = omega (arith, ints, one);
-  scale_within = omega (arith, ints, one);
-  some_rent = λ f below. (some_rent prices rents f).0;
-  rent_within = λ f below. omega (arith, ints, (some_rent prices rents f).1);
-  no_less = λ f s m known there within. omega (arith, ints, low prices e f s m);
-  no_more = λ f s m known there within. omega (arith, ints, high prices e f s m);
-  never_rise = λ f s m known there within. rw (price_is prices e f s m, price_is prices e f s (m + 1)) (falls (is_at 0 f s) _ (is_at 1 f s) _ _ _ (stays (is_at 0 f s) m) (stays (is_at 1 f s) m));
-  rise_overnight = λ f s known there. omega (arith, ints, covered prices rents e f s 0, low prices e f s last_minute);
+  scale = record { some = omega (arith, ints, one); within = omega (arith, ints, one) };
+  within = record {
+    rents = λ f below. record { some = (some_rent prices rents f).0; within = omega (arith, ints, (some_rent prices rents f).1) };
+    each = λ f s m known there early. record { no_less = omega (arith, ints, low prices e f s m); no_more = omega (arith, ints, high prices e f s m) };
+  };
+  fall = record {
+    each = λ f s m known there early. rw (price_is prices e f s m, price_is prices e f s (m + 1)) (falls (is_at 0 f s) _ (is_at 1 f s) _ _ _ (stays (is_at 0 f s) m) (stays (is_at 1 f s) m));
+  };
+  rise = record { each = λ f s known there. omega (arith, ints, covered prices rents e f s 0, low prices e f s last_minute) };
 }

@@ -5,6 +5,12 @@
 #[cfg(test)]
 mod checking;
 #[cfg(test)]
+mod commands;
+#[cfg(test)]
+mod fields;
+#[cfg(test)]
+mod fractions;
+#[cfg(test)]
 mod judging;
 #[cfg(test)]
 mod lifting;
@@ -12,6 +18,10 @@ mod lifting;
 mod model;
 #[cfg(test)]
 mod network;
+#[cfg(test)]
+mod pivoting;
+#[cfg(test)]
+mod plan_texts;
 #[cfg(test)]
 mod plans;
 #[cfg(test)]

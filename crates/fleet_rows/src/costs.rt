@@ -1,11 +1,8 @@
 //! Texts of `costs.csv`.
-use crate::rows::{run_readings, run_refusals};
-use fleet_cli::BAD_INPUT;
-use plan_desk::DeskFile::Costs;
-use std::test::Fail;
+use crate::rows::Text;
 
-// The text, and the line that is wanted.
-const REFUSALS: &[(&[u8], &[u8])] = &[
+/// Texts that are refused.
+pub const REFUSALS: &[Text] = &[
     // The first record isn't the header.
     (b"", b"bad input: costs.csv record 1 kind 1\n"),
     (b"\n", b"bad input: costs.csv record 1 kind 1\n"),
@@ -145,7 +142,8 @@ const REFUSALS: &[(&[u8], &[u8])] = &[
     ),
 ];
 
-const READ: &[&[u8]] = &[
+/// Texts that read.
+pub const READ: &[&[u8]] = &[
     // Some pairs may be missing, and the order is free.
     b"flight,fleet,cost\nX1,F1,100\nX2,F1,100\n",
     b"flight,fleet,cost\nX2,F1,100\nX2,F2,130\nX1,F1,100\n",
@@ -158,13 +156,3 @@ const READ: &[&[u8]] = &[
     b"flight,fleet,cost\nX1,F1,100\nX2,F1,100",
     b"flight,\"fleet\",cost\n\"X1\",F1,\"100\"\nX2,\"F1\",100\n",
 ];
-
-#[test]
-fn costs_that_are_refused(rt: HostRuntime) -> Result<(), Fail> {
-    run_refusals(&rt, Costs, BAD_INPUT, REFUSALS)
-}
-
-#[test]
-fn costs_that_read(rt: HostRuntime) -> Result<(), Fail> {
-    run_readings(&rt, Costs, READ)
-}

@@ -1,11 +1,8 @@
 //! Texts of `fleets.csv`.
-use crate::rows::{run_readings, run_refusals};
-use fleet_cli::BAD_INPUT;
-use plan_desk::DeskFile::Fleets;
-use std::test::Fail;
+use crate::rows::Text;
 
-// The text, and the line that is wanted.
-const REFUSALS: &[(&[u8], &[u8])] = &[
+/// Texts that are refused.
+pub const REFUSALS: &[Text] = &[
     // The first record isn't the header.
     (b"", b"bad input: fleets.csv record 1 kind 1\n"),
     (b"\n", b"bad input: fleets.csv record 1 kind 1\n"),
@@ -128,7 +125,8 @@ const REFUSALS: &[(&[u8], &[u8])] = &[
     ),
 ];
 
-const READ: &[&[u8]] = &[
+/// Texts that read.
+pub const READ: &[&[u8]] = &[
     b"\xEF\xBB\xBFfleet,aircraft,turn\nF1,1,30\nF2,1,30\n",
     b"fleet,aircraft,turn\r\nF1,1,30\r\nF2,1,30\r\n",
     b"\nfleet,aircraft,turn\n\nF1,1,30\n\nF2,1,30\n\n\n",
@@ -138,13 +136,3 @@ const READ: &[&[u8]] = &[
     b"fleet,aircraft,turn\nF1,1,0\nF2,1,600\n",
     b"fleet,aircraft,turn\nF1,01,-0\nF2,1,30\n",
 ];
-
-#[test]
-fn fleets_that_are_refused(rt: HostRuntime) -> Result<(), Fail> {
-    run_refusals(&rt, Fleets, BAD_INPUT, REFUSALS)
-}
-
-#[test]
-fn fleets_that_read(rt: HostRuntime) -> Result<(), Fail> {
-    run_readings(&rt, Fleets, READ)
-}

@@ -1,11 +1,8 @@
 //! Texts of `legs.csv`.
-use crate::rows::{run_readings, run_refusals};
-use fleet_cli::BAD_INPUT;
-use plan_desk::DeskFile::Legs;
-use std::test::Fail;
+use crate::rows::Text;
 
-// The text, and the line that is wanted.
-const REFUSALS: &[(&[u8], &[u8])] = &[
+/// Texts that are refused.
+pub const REFUSALS: &[Text] = &[
     // The first record isn't the header.
     (b"", b"bad input: legs.csv record 1 kind 1\n"),
     (b"\n", b"bad input: legs.csv record 1 kind 1\n"),
@@ -170,20 +167,11 @@ const REFUSALS: &[(&[u8], &[u8])] = &[
     ),
 ];
 
-const READ: &[&[u8]] = &[
+/// Texts that read.
+pub const READ: &[&[u8]] = &[
     b"\xEF\xBB\xBFflight,from,dep,to,arr\nX1,AAA,08:00,BBB,09:00\nX2,BBB,10:00,AAA,11:00\n",
     b"flight,from,dep,to,arr\r\nX1,AAA,08:00,BBB,09:00\r\nX2,BBB,10:00,AAA,11:00\r\n",
     b"\nflight,from,dep,to,arr\n\n\nX1,AAA,08:00,BBB,09:00\n\nX2,BBB,10:00,AAA,11:00\n\n",
     b"flight,from,dep,to,arr\nX1,AAA,08:00,BBB,09:00\nX2,BBB,10:00,AAA,11:00",
     b"\"flight\",from,dep,to,arr\n\"X1\",\"AAA\",\"08:00\",BBB,09:00\nX2,BBB,10:00,\"AAA\",\"11:00\"\n",
 ];
-
-#[test]
-fn legs_that_are_refused(rt: HostRuntime) -> Result<(), Fail> {
-    run_refusals(&rt, Legs, BAD_INPUT, REFUSALS)
-}
-
-#[test]
-fn legs_that_read(rt: HostRuntime) -> Result<(), Fail> {
-    run_readings(&rt, Legs, READ)
-}

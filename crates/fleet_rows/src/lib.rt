@@ -7,6 +7,8 @@ mod checking;
 #[cfg(test)]
 mod costs;
 #[cfg(test)]
+mod desk;
+#[cfg(test)]
 mod faults;
 #[cfg(test)]
 mod files;
@@ -19,11 +21,15 @@ mod legs;
 #[cfg(test)]
 mod limits;
 #[cfg(test)]
+mod made;
+#[cfg(test)]
 mod plans;
 #[cfg(test)]
 mod proofs;
 #[cfg(test)]
 mod rows;
+#[cfg(test)]
+mod runs;
 #[cfg(test)]
 mod searching;
 #[cfg(test)]
@@ -31,7 +37,11 @@ mod solving;
 #[cfg(test)]
 mod stations;
 #[cfg(test)]
+mod statuses;
+#[cfg(test)]
 mod tables;
+#[cfg(test)]
+mod texts;
 #[cfg(test)]
 mod throughs;
 #[cfg(test)]

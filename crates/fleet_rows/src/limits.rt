@@ -1,11 +1,10 @@
 //! Tables at their limits, and one record or one byte past them.
-use crate::rows::{
-    Counted, Laid, checked, judged, run_readings, run_refusals, run_row, run_rows, solved,
-};
+use crate::rows::{CHECK, JUDGE, Laid, SOLVE, run_case, run_texts};
+use crate::statuses::{BAD_INPUT, DONE, FAULT, REFUSED};
 use crate::tables::{FLEETS, LEGAL, OPEN_PROOF, PRICED_PROOF, STATIONS, THROUGHS};
-use fleet_cli::{BAD_INPUT, DONE, FAULT, REFUSED};
 use plan_desk::DeskFile::{self, Costs, Fleets, Legs, Plan, Proof, Stations, Throughs};
 use std::alloc::Global;
+use std::process::Abort;
 use std::test::Fail;
 
 // Both legs have a plan, and a third one has none.
@@ -66,19 +65,29 @@ fn throughs(alloc: Global, count: u32) -> Result<Vec<u8>, Fail> {
 #[test]
 fn stations_at_the_limit(rt: HostRuntime) -> Result<(), Fail> {
     let full = stations(rt.alloc(), 198)?;
+    run_texts(&rt, JUDGE, Stations, DONE, &[(full.as_slice(), LEGAL)])?;
     let over = stations(rt.alloc(), 199)?;
-    // The record past the limit has a lesser kind.
-    let mut twice = stations(rt.alloc(), 198)?;
-    twice.extend_from_slice(b"AAA,0,yes\n")?;
-    let mut short = stations(rt.alloc(), 198)?;
-    short.extend_from_slice(b"ZZZ\n")?;
-    run_readings(&rt, Stations, &[full.as_slice()])?;
     let line = b"bad input: stations.csv record 202 kind 11\n";
-    run_refusals(&rt, Stations, BAD_INPUT, &[(over.as_slice(), line)])?;
-    let line = b"bad input: stations.csv record 202 kind 5\n";
-    run_refusals(&rt, Stations, BAD_INPUT, &[(twice.as_slice(), line)])?;
-    let line = b"bad input: stations.csv record 202 kind 2\n";
-    run_refusals(&rt, Stations, BAD_INPUT, &[(short.as_slice(), line)])
+    run_texts(&rt, JUDGE, Stations, BAD_INPUT, &[(over.as_slice(), line)])
+}
+
+/// A record past the limit that has a lesser kind, and what is said of it.
+const LESSER_KINDS: &[(&[u8], &[u8])] = &[
+    (
+        b"AAA,0,yes\n",
+        b"bad input: stations.csv record 202 kind 5\n",
+    ),
+    (b"ZZZ\n", b"bad input: stations.csv record 202 kind 2\n"),
+];
+
+#[test]
+fn stations_past_the_limit(rt: HostRuntime) -> Result<(), Fail> {
+    for (record, line) in LESSER_KINDS {
+        let mut text = stations(rt.alloc(), 198)?;
+        text.extend_from_slice(record)?;
+        run_texts(&rt, JUDGE, Stations, BAD_INPUT, &[(text.as_slice(), line)])?;
+    }
+    Ok(())
 }
 
 #[test]
@@ -88,56 +97,44 @@ fn fleets_at_the_limit(rt: HostRuntime) -> Result<(), Fail> {
         Laid::Bytes(Fleets, full.as_slice()),
         Laid::Bytes(Plan, b"flight,fleet\n"),
     ];
-    run_rows(
-        &rt,
-        &[judged(&laid, REFUSED, b"plan refused: record 2 kind 5\n")],
-    )?;
+    let line = b"plan refused: record 2 kind 5\n";
+    run_case(&rt, 0, JUDGE, &laid, REFUSED, line)?;
     let over = fleets(rt.alloc(), 19)?;
     let line = b"bad input: fleets.csv record 22 kind 11\n";
-    run_refusals(&rt, Fleets, BAD_INPUT, &[(over.as_slice(), line)])
+    run_texts(&rt, JUDGE, Fleets, BAD_INPUT, &[(over.as_slice(), line)])
 }
 
 #[test]
 fn legs_at_the_limit(rt: HostRuntime) -> Result<(), Fail> {
     let full = legs(rt.alloc(), 1000)?;
-    run_refusals(&rt, Legs, REFUSED, &[(full.as_slice(), THIRD_LEG)])?;
+    run_texts(&rt, JUDGE, Legs, REFUSED, &[(full.as_slice(), THIRD_LEG)])?;
     let over = legs(rt.alloc(), 1001)?;
     let line = b"bad input: legs.csv record 1002 kind 11\n";
-    run_refusals(&rt, Legs, BAD_INPUT, &[(over.as_slice(), line)])
+    run_texts(&rt, JUDGE, Legs, BAD_INPUT, &[(over.as_slice(), line)])
 }
 
-/// The texts of legs and of their through pairs.
-#[derive(Drop)]
-struct Paired {
-    legs: Vec<u8>,
-    throughs: Vec<u8>,
-}
-
-impl Paired {
-    fn new(alloc: Global, pairs: u32) -> Result<Paired, Fail> {
-        Ok(Paired {
-            legs: legs(alloc, 45)?,
-            throughs: throughs(alloc, pairs)?,
-        })
-    }
-
-    fn laid(&self) -> [Laid<'_>; 2] {
-        [
-            Laid::Bytes(Legs, self.legs.as_slice()),
-            Laid::Bytes(Throughs, self.throughs.as_slice()),
-        ]
-    }
-}
+/// How many through pairs, the status, and the line.
+const PAIRS: &[(u32, u8, &[u8])] = &[
+    (2000, REFUSED, THIRD_LEG),
+    (
+        2001,
+        BAD_INPUT,
+        b"bad input: throughs.csv record 2002 kind 11\n",
+    ),
+];
 
 #[test]
 fn throughs_at_the_limit(rt: HostRuntime) -> Result<(), Fail> {
-    let full = Paired::new(rt.alloc(), 2000)?;
-    let laid = full.laid();
-    run_rows(&rt, &[judged(&laid, REFUSED, THIRD_LEG)])?;
-    let over = Paired::new(rt.alloc(), 2001)?;
-    let laid = over.laid();
-    let line = b"bad input: throughs.csv record 2002 kind 11\n";
-    run_rows(&rt, &[judged(&laid, BAD_INPUT, line)])
+    let legs = legs(rt.alloc(), 45)?;
+    for (pairs, status, line) in PAIRS {
+        let throughs = throughs(rt.alloc(), *pairs)?;
+        let laid = [
+            Laid::Bytes(Legs, legs.as_slice()),
+            Laid::Bytes(Throughs, throughs.as_slice()),
+        ];
+        run_case(&rt, 0, JUDGE, &laid, *status, line)?;
+    }
+    Ok(())
 }
 
 // A text, and behind it as many line feeds as make it this long.
@@ -152,82 +149,124 @@ fn filled(alloc: Global, text: &[u8], size: usize) -> Result<Vec<u8>, Fail> {
 #[test]
 fn a_file_of_4_mebibytes(rt: HostRuntime) -> Result<(), Fail> {
     let text = filled(rt.alloc(), THROUGHS, 4_194_304)?;
-    assert_eq!(rt; text.len(), 4_194_304);
-    let laid = [Laid::Bytes(Throughs, text.as_slice())];
-    run_rows(&rt, &[judged(&laid, DONE, LEGAL)])
+    run_texts(&rt, JUDGE, Throughs, DONE, &[(text.as_slice(), LEGAL)])
 }
 
-#[test]
-fn a_file_of_one_byte_more(rt: HostRuntime) -> Result<(), Fail> {
+const SHORT_PRICED: Laid<'static> = Laid::Bytes(Proof, PRICED_PROOF);
+
+const SHORT_OPEN: Laid<'static> = Laid::Bytes(Proof, OPEN_PROOF);
+
+const TOO_LONG: &[u8] = b"bad input: throughs.csv record 0 kind 12\n";
+
+/// The words, the file that is one byte too long, what lies beside it, the status, and the line.
+type Long = (
+    &'static [&'static str],
+    DeskFile,
+    &'static [Laid<'static>],
+    u8,
+    &'static [u8],
+);
+
+const LONG: &[Long] = &[
+    (
+        JUDGE,
+        Stations,
+        &[],
+        BAD_INPUT,
+        b"bad input: stations.csv record 0 kind 12\n",
+    ),
+    (
+        JUDGE,
+        Fleets,
+        &[],
+        BAD_INPUT,
+        b"bad input: fleets.csv record 0 kind 12\n",
+    ),
+    (
+        JUDGE,
+        Legs,
+        &[],
+        BAD_INPUT,
+        b"bad input: legs.csv record 0 kind 12\n",
+    ),
+    (
+        JUDGE,
+        Costs,
+        &[],
+        BAD_INPUT,
+        b"bad input: costs.csv record 0 kind 12\n",
+    ),
+    (JUDGE, Throughs, &[], BAD_INPUT, TOO_LONG),
+    (
+        JUDGE,
+        Plan,
+        &[],
+        BAD_INPUT,
+        b"bad input: plan.csv record 0 kind 12\n",
+    ),
+];
+
+/// A file that is too long is refused in the order of the reads, and before any table is judged. A proof may be longer,
+/// and a plan is read only where the proof says that one comes with it.
+const LONG_BESIDE: &[Long] = &[
+    (SOLVE, Throughs, &[], BAD_INPUT, TOO_LONG),
+    (CHECK, Throughs, &[SHORT_PRICED], BAD_INPUT, TOO_LONG),
+    (
+        CHECK,
+        Plan,
+        &[SHORT_PRICED],
+        BAD_INPUT,
+        b"bad input: plan.csv record 0 kind 12\n",
+    ),
+    (CHECK, Plan, &[SHORT_OPEN], DONE, b"holds: bound 180\n"),
+    (
+        JUDGE,
+        Throughs,
+        &[Laid::Bytes(Stations, b"")],
+        BAD_INPUT,
+        TOO_LONG,
+    ),
+    (JUDGE, Throughs, &[Laid::Away(Plan)], BAD_INPUT, TOO_LONG),
+    (
+        JUDGE,
+        Throughs,
+        &[Laid::Away(Legs)],
+        FAULT,
+        b"fault: legs.csv\n",
+    ),
+];
+
+fn run_long<R: Abort + Alloc<A = Global>>(rt: &R, cases: &[Long]) -> Result<(), Fail> {
     let text = filled(rt.alloc(), THROUGHS, 4_194_305)?;
-    assert_eq!(rt; text.len(), 4_194_305);
-    let files: [(DeskFile, &[u8]); 6] = [
-        (Stations, b"bad input: stations.csv record 0 kind 12\n"),
-        (Fleets, b"bad input: fleets.csv record 0 kind 12\n"),
-        (Legs, b"bad input: legs.csv record 0 kind 12\n"),
-        (Costs, b"bad input: costs.csv record 0 kind 12\n"),
-        (Throughs, b"bad input: throughs.csv record 0 kind 12\n"),
-        (Plan, b"bad input: plan.csv record 0 kind 12\n"),
-    ];
-    for (file, line) in files {
-        let laid = [Laid::Bytes(file, text.as_slice())];
-        run_rows(&rt, &[judged(&laid, BAD_INPUT, line)])?;
+    for (number, (words, file, beside, status, line)) in cases.iter().enumerate() {
+        let mut laid = Vec::new(rt.alloc());
+        laid.push(Laid::Bytes(*file, text.as_slice()))?;
+        for one in *beside {
+            laid.push(*one)?;
+        }
+        run_case(rt, number, words, laid.as_slice(), *status, line)?;
     }
     Ok(())
 }
 
 #[test]
-fn solving_a_file_of_one_byte_more(rt: HostRuntime) -> Result<(), Fail> {
-    let text = filled(rt.alloc(), THROUGHS, 4_194_305)?;
-    let laid = [Laid::Bytes(Throughs, text.as_slice())];
-    let line = b"bad input: throughs.csv record 0 kind 12\n";
-    run_rows(&rt, &[solved(&laid, BAD_INPUT, line, &[])])
+fn a_file_of_one_byte_more(rt: HostRuntime) -> Result<(), Fail> {
+    run_long(&rt, LONG)
 }
 
-// The plan is read only where the proof says that one comes with it.
-#[test]
-fn checking_a_file_of_one_byte_more(rt: HostRuntime) -> Result<(), Fail> {
-    let text = filled(rt.alloc(), THROUGHS, 4_194_305)?;
-    let priced = Laid::Bytes(Proof, PRICED_PROOF);
-    let open = Laid::Bytes(Proof, OPEN_PROOF);
-    let throughs = [Laid::Bytes(Throughs, text.as_slice()), priced];
-    let plan = [Laid::Bytes(Plan, text.as_slice()), priced];
-    let unread = [Laid::Bytes(Plan, text.as_slice()), open];
-    run_rows(
-        &rt,
-        &[
-            checked(
-                &throughs,
-                BAD_INPUT,
-                b"bad input: throughs.csv record 0 kind 12\n",
-            ),
-            checked(&plan, BAD_INPUT, b"bad input: plan.csv record 0 kind 12\n"),
-            checked(&unread, DONE, b"holds: bound 180\n"),
-        ],
-    )
-}
-
-// A file that is too long is refused in the order of the reads, and before any table is judged.
 #[test]
 fn a_long_file_beside_others(rt: HostRuntime) -> Result<(), Fail> {
+    run_long(&rt, LONG_BESIDE)
+}
+
+// Of two files that are too long the one that is read first is told.
+#[test]
+fn two_files_of_one_byte_more(rt: HostRuntime) -> Result<(), Fail> {
     let text = filled(rt.alloc(), THROUGHS, 4_194_305)?;
-    let long = Laid::Bytes(Throughs, text.as_slice());
-    let line = b"bad input: throughs.csv record 0 kind 12\n";
-    run_rows(
-        &rt,
-        &[
-            judged(&[long, Laid::Bytes(Stations, b"")], BAD_INPUT, line),
-            judged(&[long, Laid::Away(Plan)], BAD_INPUT, line),
-            judged(
-                &[long, Laid::Bytes(Costs, text.as_slice())],
-                BAD_INPUT,
-                b"bad input: costs.csv record 0 kind 12\n",
-            ),
-        ],
-    )?;
-    let missing = [long, Laid::Away(Legs)];
-    let row = judged(&missing, FAULT, b"fault: legs.csv\n");
-    let counted = run_row(&rt, 3, &row, &[], &[])?;
-    assert_eq!(rt; counted, Counted { desk: 1, sink: 0 });
-    Ok(())
+    let laid = [
+        Laid::Bytes(Throughs, text.as_slice()),
+        Laid::Bytes(Costs, text.as_slice()),
+    ];
+    let line = b"bad input: costs.csv record 0 kind 12\n";
+    run_case(&rt, 0, JUDGE, &laid, BAD_INPUT, line)
 }

@@ -1,11 +1,8 @@
 //! Plan texts that read, and those that are refused.
-use crate::rows::{run_readings, run_refusals};
-use fleet_cli::REFUSED;
-use plan_desk::DeskFile::Plan;
-use std::test::Fail;
+use crate::rows::Text;
 
-// The text, and the line that is wanted.
-const REFUSALS: &[(&[u8], &[u8])] = &[
+/// Texts that are refused.
+pub const REFUSALS: &[Text] = &[
     (b"", b"plan refused: record 1 kind 1\n"),
     (b"\n\r\n", b"plan refused: record 1 kind 1\n"),
     (
@@ -84,6 +81,38 @@ const REFUSALS: &[(&[u8], &[u8])] = &[
         b"flight,fleet\nX1,F1\nX2,F1\n\xFF\n",
         b"plan refused: record 4 kind 5\n",
     ),
+    (
+        b"flight,fleet,shift\nX1,F1\nX2,F1\n",
+        b"plan refused: record 1 kind 1\n",
+    ),
+    (
+        b"flight,fleet\nX1,F1,\nX2,F1\n",
+        b"plan refused: record 2 kind 2\n",
+    ),
+    (
+        b"flight,fleet\n\xFFX,F1\nX2,F1\n",
+        b"plan refused: record 2 kind 2\n",
+    ),
+    (
+        b"flight,fleet\nX1,F1\n X2,F1\n",
+        b"plan refused: record 3 kind 3\n",
+    ),
+    (
+        b"flight,fleet\nx1,F9\nX2,F1\n",
+        b"plan refused: record 2 kind 3\n",
+    ),
+    (
+        b"flight,fleet\nX1,F3\nX2\n",
+        b"plan refused: record 2 kind 4\n",
+    ),
+    (
+        b"flight,fleet\nX1,F1\nX2,\n",
+        b"plan refused: record 3 kind 4\n",
+    ),
+    (
+        b"flight,fleet\n\nX1,F1\n\nX2,F1\n\n,,\n",
+        b"plan refused: record 4 kind 5\n",
+    ),
     // A row counts records, and blank lines are none.
     (
         b"\n\nflight,fleet\n\n\nX1,F1\n\nX2,F9\n",
@@ -91,20 +120,11 @@ const REFUSALS: &[(&[u8], &[u8])] = &[
     ),
 ];
 
-const READ: &[&[u8]] = &[
+/// Texts that read.
+pub const READ: &[&[u8]] = &[
     b"flight,fleet\nX1,F1\nX2,F1",
     b"flight,fleet\r\nX1,F1\r\nX2,F1\r\n",
     b"\xEF\xBB\xBFflight,fleet\nX1,F1\nX2,F1\n",
     b"\"flight\",\"fleet\"\n\"X1\",F1\nX2,\"F1\"\n",
     b"\nflight,fleet\n\nX1,F1\n\r\nX2,F1\n\n\n",
 ];
-
-#[test]
-fn plans_that_are_refused(rt: HostRuntime) -> Result<(), Fail> {
-    run_refusals(&rt, Plan, REFUSED, REFUSALS)
-}
-
-#[test]
-fn plans_that_read(rt: HostRuntime) -> Result<(), Fail> {
-    run_readings(&rt, Plan, READ)
-}

@@ -1,12 +1,13 @@
 //! Proofs that anyone may write: texts that are refused, and trees that break a rule.
-use crate::rows::run_proofs;
+use crate::rows::{CHECK, Text, run_texts};
+use crate::statuses::REFUSED;
 use crate::tables::PRICED_PROOF;
-use fleet_cli::REFUSED;
+use plan_desk::DeskFile::Proof;
 use std::alloc::Global;
 use std::test::Fail;
 
-// The text, and the line that is wanted.
-const REFUSED_TEXTS: &[(&[u8], &[u8])] = &[
+/// Texts that are refused.
+pub const REFUSALS: &[Text] = &[
     (b"", b"proof refused: line 1 kind 1\n"),
     (b"fleet proof 1", b"proof refused: line 1 kind 1\n"),
     (
@@ -77,13 +78,8 @@ const REFUSED_TEXTS: &[(&[u8], &[u8])] = &[
     ),
 ];
 
-#[test]
-fn texts_that_are_refused(rt: HostRuntime) -> Result<(), Fail> {
-    run_proofs(&rt, REFUSED, REFUSED_TEXTS)
-}
-
-// The text, and the line that is wanted. The plan, where one comes, is that of the first run.
-const BROKEN: &[(&[u8], &[u8])] = &[
+/// Trees that break a rule. The plan, where one comes, is that of the first run.
+pub const BROKEN: &[Text] = &[
     (
         b"fleet proof 1\nplan yes\npriced\nscale 0\nat F2 AAA 0 20\nend\n",
         b"broken: node 1 rule 1\n",
@@ -146,11 +142,6 @@ const BROKEN: &[(&[u8], &[u8])] = &[
     ),
 ];
 
-#[test]
-fn trees_that_break_a_rule(rt: HostRuntime) -> Result<(), Fail> {
-    run_proofs(&rt, REFUSED, BROKEN)
-}
-
 // One trim more than may stand above a node. Only the depth is wrong there, so it is told before the tree is judged.
 #[test]
 fn a_tree_that_is_too_deep(rt: HostRuntime) -> Result<(), Fail> {
@@ -160,7 +151,7 @@ fn a_tree_that_is_too_deep(rt: HostRuntime) -> Result<(), Fail> {
     }
     text.extend_from_slice(b"sole\n")?;
     let line = b"proof refused: line 20004 kind 9\n";
-    run_proofs(&rt, REFUSED, &[(text.as_slice(), line)])
+    run_texts(&rt, CHECK, Proof, REFUSED, &[(text.as_slice(), line)])
 }
 
 // A proof may be longer than a table.
@@ -168,7 +159,7 @@ fn a_tree_that_is_too_deep(rt: HostRuntime) -> Result<(), Fail> {
 fn a_long_proof(rt: HostRuntime) -> Result<(), Fail> {
     let line = b"proof refused: line 7 kind 2\n";
     let text = long_proof(rt.alloc())?;
-    run_proofs(&rt, REFUSED, &[(text.as_slice(), line)])
+    run_texts(&rt, CHECK, Proof, REFUSED, &[(text.as_slice(), line)])
 }
 
 // A proof that holds, and behind it one line of 4 MiB without its line feed.

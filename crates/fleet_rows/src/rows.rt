@@ -1,6 +1,7 @@
-//! A row of a table of tests, and what runs it.
+//! Rows of tables of tests, and what runs them.
+use crate::statuses::{DONE, FAULT};
 use crate::tables::{FIRST_RUN, LEGAL};
-use fleet_cli::{DONE, FAULT, run};
+use fleet_cli::run;
 use plan_desk::{Desk, DeskFile, FailingCall, MemoryDesk, MemorySink, Sink};
 use std::alloc::Global;
 use std::process::Abort;
@@ -26,14 +27,28 @@ pub struct Row<'a, 'b> {
     pub text: &'a [u8],
     /// What stands after the run in place of what lay before it.
     pub left: &'a [Laid<'b>],
+    /// The calls of the desk and of the sink that fail, by their numbers.
+    pub failing: (&'a [u64], &'a [u64]),
+    /// The faults of the desk and of the sink that are counted.
+    pub faults: (u64, u64),
 }
 
-/// The faults that a run counted.
-#[derive(Clone, Copy, Debug, PartialEq, Eq)]
-pub struct Counted {
-    pub desk: u64,
-    pub sink: u64,
-}
+/// What is laid over the files of the first run, the status, and the text.
+pub type Case = (&'static [Laid<'static>], u8, &'static [u8]);
+
+/// The same, and what stands after the run in place of what lay before it.
+pub type Writing = (
+    &'static [Laid<'static>],
+    u8,
+    &'static [u8],
+    &'static [Laid<'static>],
+);
+
+/// A case with the calls of the desk and of the sink that fail, and the faults of both that are counted.
+pub type Failing = (Writing, &'static [u64], &'static [u64], u64, u64);
+
+/// A text of one file, and the line that is wanted.
+pub type Text = (&'static [u8], &'static [u8]);
 
 /// All files of a folder.
 const FOLDER: [DeskFile; 8] = [
@@ -51,10 +66,10 @@ const FOLDER: [DeskFile; 8] = [
 pub const JUDGE: &[&str] = &["fleetplan", "judge", "d", "--day-start", "00:00"];
 
 /// The words of a solve whose day starts at midnight.
-const SOLVE: &[&str] = &["fleetplan", "solve", "d", "--day-start", "00:00"];
+pub const SOLVE: &[&str] = &["fleetplan", "solve", "d", "--day-start", "00:00"];
 
 /// The words of a solve without pivots whose day starts at midnight.
-const SOLVE_AT_ONCE: &[&str] = &[
+pub const SOLVE_AT_ONCE: &[&str] = &[
     "fleetplan",
     "solve",
     "d",
@@ -67,105 +82,93 @@ const SOLVE_AT_ONCE: &[&str] = &[
 /// The words of a check whose day starts at midnight.
 pub const CHECK: &[&str] = &["fleetplan", "check", "d", "--day-start", "00:00"];
 
-/// A row of a judge whose day starts at midnight.
-pub fn judged<'a, 'b>(laid: &'a [Laid<'b>], status: u8, text: &'a [u8]) -> Row<'a, 'b> {
-    Row {
-        laid,
-        words: JUDGE,
-        status,
-        text,
-        left: &[],
-    }
-}
-
-/// A row of a solve whose day starts at midnight.
-pub fn solved<'a, 'b>(
-    laid: &'a [Laid<'b>],
-    status: u8,
-    text: &'a [u8],
-    left: &'a [Laid<'b>],
-) -> Row<'a, 'b> {
-    Row {
-        laid,
-        words: SOLVE,
-        status,
-        text,
-        left,
-    }
-}
-
-/// A row of a solve without pivots whose day starts at midnight.
-pub fn solved_at_once<'a, 'b>(
-    laid: &'a [Laid<'b>],
-    status: u8,
-    text: &'a [u8],
-    left: &'a [Laid<'b>],
-) -> Row<'a, 'b> {
-    Row {
-        words: SOLVE_AT_ONCE,
-        ..solved(laid, status, text, left)
-    }
-}
-
-/// A row of a check whose day starts at midnight.
-pub fn checked<'a, 'b>(laid: &'a [Laid<'b>], status: u8, text: &'a [u8]) -> Row<'a, 'b> {
-    Row {
-        laid,
-        words: CHECK,
-        status,
-        text,
-        left: &[],
-    }
-}
-
-/// Runs each row. Only a row that wants a fault may count one.
-pub fn run_rows<R: Abort + Alloc<A = Global>>(rt: &R, rows: &[Row<'_, '_>]) -> Result<(), Fail> {
-    for (number, row) in rows.iter().enumerate() {
-        let counted = run_row(rt, number, row, &[], &[])?;
-        let quiet = counted == Counted { desk: 0, sink: 0 };
-        assert_eq!(rt; quiet, row.status != FAULT, "row {number}");
+/// Runs each case. One that wants a fault counts one of the desk, and the others count none.
+pub fn run_cases<R: Abort + Alloc<A = Global>>(
+    rt: &R,
+    words: &'static [&'static str],
+    cases: &[Case],
+) -> Result<(), Fail> {
+    for (number, (laid, status, text)) in cases.iter().enumerate() {
+        run_case(rt, number, words, laid, *status, text)?;
     }
     Ok(())
 }
 
-/// Runs a judge for each text of one file, and wants the line beside it.
-pub fn run_refusals<R: Abort + Alloc<A = Global>>(
+/// Runs one case.
+pub fn run_case<R: Abort + Alloc<A = Global>>(
     rt: &R,
+    number: usize,
+    words: &'static [&'static str],
+    laid: &[Laid<'_>],
+    status: u8,
+    text: &[u8],
+) -> Result<(), Fail> {
+    let row = Row {
+        laid,
+        words,
+        status,
+        text,
+        left: &[],
+        failing: (&[], &[]),
+        faults: (u64::from(status == FAULT), 0),
+    };
+    run_row(rt, number, &row)
+}
+
+/// Runs each case of a command that writes.
+pub fn run_writing<R: Abort + Alloc<A = Global>>(
+    rt: &R,
+    words: &'static [&'static str],
+    cases: &[Writing],
+) -> Result<(), Fail> {
+    for (number, (laid, status, text, left)) in cases.iter().enumerate() {
+        let row = Row {
+            laid,
+            words,
+            status: *status,
+            text,
+            left,
+            failing: (&[], &[]),
+            faults: (u64::from(*status == FAULT), 0),
+        };
+        run_row(rt, number, &row)?;
+    }
+    Ok(())
+}
+
+/// Runs each case with its calls that fail.
+pub fn run_failing<R: Abort + Alloc<A = Global>>(
+    rt: &R,
+    words: &'static [&'static str],
+    cases: &[Failing],
+) -> Result<(), Fail> {
+    for (number, (case, calls, puts, desk, sink)) in cases.iter().enumerate() {
+        let (laid, status, text, left) = *case;
+        let row = Row {
+            laid,
+            words,
+            status,
+            text,
+            left,
+            failing: (calls, puts),
+            faults: (*desk, *sink),
+        };
+        run_row(rt, number, &row)?;
+    }
+    Ok(())
+}
+
+/// Runs the words for each text of one file.
+pub fn run_texts<R: Abort + Alloc<A = Global>>(
+    rt: &R,
+    words: &'static [&'static str],
     file: DeskFile,
     status: u8,
-    cases: &[(&[u8], &[u8])],
+    texts: &[(&[u8], &[u8])],
 ) -> Result<(), Fail> {
-    for (number, (bytes, line)) in cases.iter().enumerate() {
+    for (number, (bytes, line)) in texts.iter().enumerate() {
         let laid = [Laid::Bytes(file, bytes)];
-        let counted = run_row(rt, number, &judged(&laid, status, line), &[], &[])?;
-        assert_eq!(rt; counted, Counted { desk: 0, sink: 0 }, "row {number}");
-    }
-    Ok(())
-}
-
-/// Runs a check for each set of files that is laid over those of the first run, and wants the line beside it.
-pub fn run_checks<R: Abort + Alloc<A = Global>>(
-    rt: &R,
-    status: u8,
-    cases: &[(&[Laid<'static>], &[u8])],
-) -> Result<(), Fail> {
-    for (number, (laid, line)) in cases.iter().enumerate() {
-        let counted = run_row(rt, number, &checked(laid, status, line), &[], &[])?;
-        assert_eq!(rt; counted, Counted { desk: 0, sink: 0 }, "row {number}");
-    }
-    Ok(())
-}
-
-/// Runs a check for each text of the proof, over the files of the first run, and wants the line beside it.
-pub fn run_proofs<R: Abort + Alloc<A = Global>>(
-    rt: &R,
-    status: u8,
-    cases: &[(&[u8], &[u8])],
-) -> Result<(), Fail> {
-    for (number, (bytes, line)) in cases.iter().enumerate() {
-        let laid = [Laid::Bytes(DeskFile::Proof, bytes)];
-        let counted = run_row(rt, number, &checked(&laid, status, line), &[], &[])?;
-        assert_eq!(rt; counted, Counted { desk: 0, sink: 0 }, "row {number}");
+        run_case(rt, number, words, &laid, status, line)?;
     }
     Ok(())
 }
@@ -178,27 +181,26 @@ pub fn run_readings<R: Abort + Alloc<A = Global>>(
 ) -> Result<(), Fail> {
     for (number, bytes) in texts.iter().enumerate() {
         let laid = [Laid::Bytes(file, bytes)];
-        let counted = run_row(rt, number, &judged(&laid, DONE, LEGAL), &[], &[])?;
-        assert_eq!(rt; counted, Counted { desk: 0, sink: 0 }, "row {number}");
+        run_case(rt, number, JUDGE, &laid, DONE, LEGAL)?;
     }
     Ok(())
 }
 
-/// Runs a row over a desk and a sink whose calls of these numbers fail, and compares status, output and files.
+/// Runs a row over a desk and a sink in memory, and compares status, output, files and faults.
 pub fn run_row<R: Abort + Alloc<A = Global>>(
     rt: &R,
     number: usize,
     row: &Row<'_, '_>,
-    failing_calls: &[u64],
-    failing_puts: &[u64],
-) -> Result<Counted, Fail> {
+) -> Result<(), Fail> {
     let alloc = rt.alloc();
-    let mut desk = MemoryDesk::new(alloc, files(alloc, row)?, failing(alloc, failing_calls)?)?;
-    let mut sink = MemorySink::new(failing(alloc, failing_puts)?);
-    let words = words(alloc, row)?;
+    let (calls, puts) = row.failing;
+    let mut desk = MemoryDesk::new(alloc, files(alloc, row.laid)?, failing(alloc, calls)?)?;
+    let mut sink = MemorySink::new(failing(alloc, puts)?);
+    let words = words(alloc, row.words)?;
     let status = run(alloc, words.as_slice(), &mut desk, &mut sink);
     assert_eq!(rt; sink.put_bytes(), row.text, "row {number}");
     assert_eq!(rt; status.code, row.status, "row {number}");
+    assert_eq!(rt; (desk.faults(), sink.faults()), row.faults, "row {number}");
     for file in FOLDER {
         let name = path(alloc, file)?;
         assert!(rt;
@@ -206,20 +208,12 @@ pub fn run_row<R: Abort + Alloc<A = Global>>(
             "row {number}: {name}"
         );
     }
-    Ok(Counted {
-        desk: desk.faults(),
-        sink: sink.faults(),
-    })
-}
-
-/// The bytes of a file before a run.
-fn before<'b>(row: &Row<'_, 'b>, file: DeskFile) -> Option<&'b [u8]> {
-    laid_over(first_run(file), row.laid, file)
+    Ok(())
 }
 
 /// The bytes of a file that are wanted after a run.
 fn after<'b>(row: &Row<'_, 'b>, file: DeskFile) -> Option<&'b [u8]> {
-    laid_over(before(row, file), row.left, file)
+    laid_over(laid_over(first_run(file), row.laid, file), row.left, file)
 }
 
 /// The bytes of a file where these are laid over what lay there.
@@ -250,11 +244,11 @@ fn path(alloc: Global, file: DeskFile) -> Result<String, Fail> {
     Ok(path)
 }
 
-/// The files that lie on the desk before a run.
-pub fn files(alloc: Global, row: &Row<'_, '_>) -> Result<Vec<(String, Vec<u8>)>, Fail> {
+/// The files of the first run, and these laid over them.
+pub fn files(alloc: Global, laid: &[Laid<'_>]) -> Result<Vec<(String, Vec<u8>)>, Fail> {
     let mut files = Vec::new(alloc);
     for file in FOLDER {
-        if let Some(bytes) = before(row, file) {
+        if let Some(bytes) = laid_over(first_run(file), laid, file) {
             files.push((path(alloc, file)?, bytes.to_vec(alloc)?))?;
         }
     }
@@ -262,7 +256,7 @@ pub fn files(alloc: Global, row: &Row<'_, '_>) -> Result<Vec<(String, Vec<u8>)>,
 }
 
 /// The calls that are to fail, by their numbers.
-pub fn failing(alloc: Global, calls: &[u64]) -> Result<Vec<FailingCall>, Fail> {
+fn failing(alloc: Global, calls: &[u64]) -> Result<Vec<FailingCall>, Fail> {
     let mut failing = Vec::new(alloc);
     for call in calls {
         failing.push(FailingCall::at(*call))?;
@@ -270,11 +264,11 @@ pub fn failing(alloc: Global, calls: &[u64]) -> Result<Vec<FailingCall>, Fail> {
     Ok(failing)
 }
 
-/// The words of a row.
-pub fn words(alloc: Global, row: &Row<'_, '_>) -> Result<Vec<String>, Fail> {
-    let mut words = Vec::new(alloc);
-    for word in row.words {
-        words.push(String::from_str(alloc, word)?)?;
+/// Words on their own.
+pub fn words(alloc: Global, words: &[&'static str]) -> Result<Vec<String>, Fail> {
+    let mut owned = Vec::new(alloc);
+    for word in words {
+        owned.push(String::from_str(alloc, word)?)?;
     }
-    Ok(words)
+    Ok(owned)
 }

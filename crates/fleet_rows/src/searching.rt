@@ -1,6 +1,8 @@
 //! What `solve` answers where it has to search, and what `check` says of the files that it leaves.
-use crate::rows::{CHECK, Laid, Row, failing, files, words};
-use fleet_cli::{DONE, GAP, INFEASIBLE, UNSETTLED, run};
+use crate::made::MADE;
+use crate::rows::{CHECK, Laid, SOLVE, files, words};
+use crate::statuses::{DONE, GAP, INFEASIBLE, UNSETTLED};
+use fleet_cli::run;
 use plan_desk::DeskFile::{Costs, Fleets, Legs, Plan, Stations, Throughs};
 use plan_desk::{MemoryDesk, MemorySink};
 use std::alloc::Global;
@@ -9,27 +11,51 @@ use std::test::Fail;
 
 /// A solve and then a check of what it leaves, and what is wanted of both.
 #[derive(Clone, Copy)]
-struct Search<'a> {
+pub struct Search {
     /// What is laid over the files of the first run.
-    laid: &'a [Laid<'static>],
-    /// The options of the solve.
-    options: &'a [&'static str],
-    status: u8,
+    pub laid: &'static [Laid<'static>],
+    /// The words of the solve.
+    pub words: &'static [&'static str],
+    pub status: u8,
     /// What the solve prints.
-    text: &'a [u8],
+    pub text: &'static [u8],
     /// The plan that stands then, where it is the only one that may.
-    plan: Option<&'a [u8]>,
+    pub plan: Option<&'static [u8]>,
     /// How the proof ends.
-    proof_end: &'a [u8],
+    pub proof_end: &'static [u8],
     /// What the check prints.
-    checked: &'a [u8],
+    pub checked: &'static [u8],
 }
 
-const SOLVE: [&str; 5] = ["fleetplan", "solve", "d", "--day-start", "00:00"];
+const AT_ONCE: &[&str] = &[
+    "fleetplan",
+    "solve",
+    "d",
+    "--day-start",
+    "00:00",
+    "--pivots",
+    "0",
+];
 
-const NO_OPTIONS: &[&str] = &[];
+const NO_NODES: &[&str] = &[
+    "fleetplan",
+    "solve",
+    "d",
+    "--day-start",
+    "00:00",
+    "--nodes",
+    "0",
+];
 
-const NO_NODES: &[&str] = &["--nodes", "0"];
+const ONE_NODE: &[&str] = &[
+    "fleetplan",
+    "solve",
+    "d",
+    "--day-start",
+    "00:00",
+    "--nodes",
+    "1",
+];
 
 // A plan of an earlier run, which is no plan of these tables.
 const OLD_PLAN: &[u8] = b"flight,fleet\nX1,F9\n";
@@ -85,9 +111,9 @@ const OPTIMAL: &[u8] = b"outcome: optimal\ncost: 200\nbound: 200\nsplits: 0\n\
     open: 0 nodes, 0 pivots, 0 grew\nfleet F1: used 1 of 1\nfleet F2: used 0 of 1\n";
 
 // Two legs that one fleet flies at least cost, though each leg alone is cheaper with another.
-const ROUND_TRIP: Search<'static> = Search {
+const ROUND_TRIP: Search = Search {
     laid: &[OLD],
-    options: NO_OPTIONS,
+    words: SOLVE,
     status: DONE,
     text: OPTIMAL,
     plan: Some(b"flight,fleet\nX1,F1\nX2,F1\n"),
@@ -96,7 +122,7 @@ const ROUND_TRIP: Search<'static> = Search {
 };
 
 // Readiness and departure share a minute.
-const BACK_AT_ONCE: Search<'static> = Search {
+const BACK_AT_ONCE: Search = Search {
     laid: &[
         OLD,
         Laid::Bytes(
@@ -108,15 +134,15 @@ const BACK_AT_ONCE: Search<'static> = Search {
 };
 
 // No through pairs in a file of no bytes.
-const NO_THROUGHS: Search<'static> = Search {
+const NO_THROUGHS: Search = Search {
     laid: &[OLD, Laid::Bytes(Throughs, b"")],
     ..ROUND_TRIP
 };
 
 // Without pivots the run stops at its first table, and the bound is the sum of the least costs.
-const NO_PIVOTS: Search<'static> = Search {
+const NO_PIVOTS: Search = Search {
     laid: &[OLD],
-    options: &["--pivots", "0"],
+    words: AT_ONCE,
     status: UNSETTLED,
     text: b"outcome: unsettled\ncost: none\nbound: 180\nsplits: 0\n\
         open: 0 nodes, 1 pivots, 0 grew\n",
@@ -126,12 +152,12 @@ const NO_PIVOTS: Search<'static> = Search {
 };
 
 // No aircraft: both fleets are removed from the first leg, each for want of aircraft.
-const NO_AIRCRAFT: Search<'static> = Search {
+const NO_AIRCRAFT: Search = Search {
     laid: &[
         OLD,
         Laid::Bytes(Fleets, b"fleet,aircraft,turn\nF1,0,30\nF2,0,30\n"),
     ],
-    options: NO_OPTIONS,
+    words: SOLVE,
     status: INFEASIBLE,
     text: b"outcome: infeasible\ncost: none\nbound: none\nsplits: 0\n\
         open: 0 nodes, 0 pivots, 0 grew\n",
@@ -145,19 +171,10 @@ const NO_AIRCRAFT: Search<'static> = Search {
     checked: b"holds: infeasible\n",
 };
 
-#[test]
-fn round_trips(rt: HostRuntime) -> Result<(), Fail> {
-    run_search(&rt, &ROUND_TRIP)?;
-    run_search(&rt, &BACK_AT_ONCE)?;
-    run_search(&rt, &NO_THROUGHS)?;
-    run_search(&rt, &NO_PIVOTS)?;
-    run_search(&rt, &NO_AIRCRAFT)
-}
-
 // Half of each pair fits, and no legal assignment does.
-const TWO_AIRCRAFT: Search<'static> = Search {
+const TWO_AIRCRAFT: Search = Search {
     laid: TWO,
-    options: NO_OPTIONS,
+    words: SOLVE,
     status: INFEASIBLE,
     text: b"outcome: infeasible\ncost: none\nbound: none\nsplits: 1\n\
         open: 0 nodes, 0 pivots, 0 grew\n",
@@ -166,8 +183,8 @@ const TWO_AIRCRAFT: Search<'static> = Search {
     checked: b"holds: infeasible\n",
 };
 
-const TWO_UNSPLIT: Search<'static> = Search {
-    options: NO_NODES,
+const TWO_UNSPLIT: Search = Search {
+    words: NO_NODES,
     status: UNSETTLED,
     text: b"outcome: unsettled\ncost: none\nbound: 60\nsplits: 0\n\
         open: 1 nodes, 0 pivots, 0 grew\n",
@@ -179,9 +196,9 @@ const TWO_UNSPLIT: Search<'static> = Search {
 };
 
 // Each leg costs 0, but for one that earns 6 or 7: the bound -13/2 is rounded towards the greater number.
-const EARNING_UNSPLIT: Search<'static> = Search {
+const EARNING_UNSPLIT: Search = Search {
     laid: EARNING,
-    options: NO_NODES,
+    words: NO_NODES,
     status: UNSETTLED,
     text: b"outcome: unsettled\ncost: none\nbound: -6\nsplits: 0\n\
         open: 1 nodes, 0 pivots, 0 grew\n",
@@ -190,17 +207,10 @@ const EARNING_UNSPLIT: Search<'static> = Search {
     checked: b"holds: bound -6\n",
 };
 
-#[test]
-fn half_of_each_pair(rt: HostRuntime) -> Result<(), Fail> {
-    run_search(&rt, &TWO_AIRCRAFT)?;
-    run_search(&rt, &TWO_UNSPLIT)?;
-    run_search(&rt, &EARNING_UNSPLIT)
-}
-
 // One round trip flies with the third fleet; whichever that is, each fleet uses its aircraft.
-const THREE_AIRCRAFT: Search<'static> = Search {
+const THREE_AIRCRAFT: Search = Search {
     laid: THREE,
-    options: NO_OPTIONS,
+    words: SOLVE,
     status: DONE,
     text: b"outcome: optimal\ncost: 140\nbound: 140\nsplits: 2\n\
         open: 0 nodes, 0 pivots, 0 grew\nfleet F1: used 1 of 1\nfleet F2: used 1 of 1\n\
@@ -210,8 +220,8 @@ const THREE_AIRCRAFT: Search<'static> = Search {
     checked: b"holds: cost 140 bound 140\n",
 };
 
-const THREE_SPLIT_ONCE: Search<'static> = Search {
-    options: &["--nodes", "1"],
+const THREE_SPLIT_ONCE: Search = Search {
+    words: ONE_NODE,
     status: GAP,
     text: b"outcome: gap\ncost: 140\nbound: 100\nsplits: 1\n\
         open: 1 nodes, 0 pivots, 0 grew\nfleet F1: used 1 of 1\nfleet F2: used 1 of 1\n\
@@ -220,8 +230,8 @@ const THREE_SPLIT_ONCE: Search<'static> = Search {
     ..THREE_AIRCRAFT
 };
 
-const THREE_UNSPLIT: Search<'static> = Search {
-    options: NO_NODES,
+const THREE_UNSPLIT: Search = Search {
+    words: NO_NODES,
     status: UNSETTLED,
     text: b"outcome: unsettled\ncost: none\nbound: 60\nsplits: 0\n\
         open: 1 nodes, 0 pivots, 0 grew\n",
@@ -230,59 +240,100 @@ const THREE_UNSPLIT: Search<'static> = Search {
     ..THREE_AIRCRAFT
 };
 
+// The third fleet costs 1 more on the first round trip, 2 on the second, 1 on the third.
+const PRUNING_COSTS: Laid<'static> = Laid::Bytes(
+    Costs,
+    b"flight,fleet,cost\n\
+        A1,F1,1000000000\nA1,F2,1000000000\nA1,F3,1000000001\n\
+        A2,F1,1000000000\nA2,F2,1000000000\nA2,F3,1000000000\n\
+        B1,F1,1000000000\nB1,F2,1000000000\nB1,F3,1000000001\n\
+        B2,F1,1000000000\nB2,F2,1000000000\nB2,F3,1000000001\n\
+        C1,F1,1000000000\nC1,F2,1000000000\nC1,F3,1000000001\n\
+        C2,F1,1000000000\nC2,F2,1000000000\nC2,F3,1000000000\n",
+);
+
+// Halves of the first two fleets cost least. With the first trip on the first fleet, the only cheapest mix is whole:
+// the second trip on the second fleet and the third on the third, for 1 more. Without that pair the cheapest mix has
+// half of the first trip on the third fleet, for half of 1 more, and its rounded worth is the cost of that plan, so
+// it isn't split.
+const PRUNED: Search = Search {
+    laid: &[OLD, HUB, THREE_FLEETS, TRIPS, PRUNING_COSTS],
+    words: SOLVE,
+    status: DONE,
+    text: b"outcome: optimal\ncost: 6000000001\nbound: 6000000001\nsplits: 1\n\
+        open: 0 nodes, 0 pivots, 0 grew\nfleet F1: used 1 of 1\nfleet F2: used 1 of 1\n\
+        fleet F3: used 1 of 1\n",
+    plan: Some(b"flight,fleet\nA1,F1\nA2,F1\nB1,F2\nB2,F2\nC1,F3\nC2,F3\n"),
+    proof_end: b"end\n",
+    checked: b"holds: cost 6000000001 bound 6000000001\n",
+};
+
+const SEARCHES: &[Search] = &[
+    ROUND_TRIP,
+    BACK_AT_ONCE,
+    NO_THROUGHS,
+    NO_PIVOTS,
+    NO_AIRCRAFT,
+    TWO_AIRCRAFT,
+    TWO_UNSPLIT,
+    EARNING_UNSPLIT,
+    THREE_AIRCRAFT,
+    THREE_SPLIT_ONCE,
+    THREE_UNSPLIT,
+    PRUNED,
+    MADE,
+];
+
 #[test]
-fn a_third_fleet(rt: HostRuntime) -> Result<(), Fail> {
-    run_search(&rt, &THREE_AIRCRAFT)?;
-    run_search(&rt, &THREE_SPLIT_ONCE)?;
-    run_search(&rt, &THREE_UNSPLIT)
-}
-
-/// Solves, compares what was put and what stands, and then checks it.
-fn run_search<R: Abort + Alloc<A = Global>>(rt: &R, search: &Search<'_>) -> Result<(), Fail> {
-    let alloc = rt.alloc();
-    let row = Row {
-        laid: search.laid,
-        words: CHECK,
-        status: DONE,
-        text: search.checked,
-        left: &[],
-    };
-    let mut desk = MemoryDesk::new(alloc, files(alloc, &row)?, failing(alloc, &[])?)?;
-    let mut sink = MemorySink::new(failing(alloc, &[])?);
-    let words = solve_words(alloc, search.options)?;
-    let status = run(alloc, words.as_slice(), &mut desk, &mut sink);
-    assert_eq!(rt; sink.put_bytes(), search.text);
-    assert_eq!(rt; status.code, search.status);
-    assert!(rt; search.plan.is_none() || desk.file("d/plan.csv") == search.plan);
-    assert!(rt; ends_with(desk.file("d/proof.txt"), search.proof_end));
-    run_check(rt, &row, &mut desk)
-}
-
-/// Checks what stands on a desk.
-fn run_check<R: Abort + Alloc<A = Global>>(
-    rt: &R,
-    row: &Row<'_, '_>,
-    desk: &mut MemoryDesk,
-) -> Result<(), Fail> {
-    let alloc = rt.alloc();
-    let mut sink = MemorySink::new(failing(alloc, &[])?);
-    let words = words(alloc, row)?;
-    let status = run(alloc, words.as_slice(), desk, &mut sink);
-    assert_eq!(rt; sink.put_bytes(), row.text);
-    assert_eq!(rt; status.code, row.status);
+fn searches_and_their_proofs(rt: HostRuntime) -> Result<(), Fail> {
+    for (number, search) in SEARCHES.iter().enumerate() {
+        run_search(&rt, number, search)?;
+    }
     Ok(())
 }
 
-/// The words of a solve with options.
-fn solve_words(alloc: Global, options: &[&'static str]) -> Result<Vec<String>, Fail> {
-    let mut words = Vec::new(alloc);
-    for word in SOLVE {
-        words.push(String::from_str(alloc, word)?)?;
-    }
-    for option in options {
-        words.push(String::from_str(alloc, option)?)?;
-    }
-    Ok(words)
+/// Solves, compares what was put and what stands, and then checks it.
+fn run_search<R: Abort + Alloc<A = Global>>(
+    rt: &R,
+    number: usize,
+    search: &Search,
+) -> Result<(), Fail> {
+    let alloc = rt.alloc();
+    let mut desk = MemoryDesk::new(alloc, files(alloc, search.laid)?, Vec::new(alloc))?;
+    run_quietly(
+        rt,
+        number,
+        &mut desk,
+        search.words,
+        search.status,
+        search.text,
+    )?;
+    let plan = desk.file("d/plan.csv");
+    assert!(rt;
+        search.plan.is_none() || plan == search.plan,
+        "search {number}"
+    );
+    let proof = desk.file("d/proof.txt");
+    assert!(rt; ends_with(proof, search.proof_end), "search {number}");
+    run_quietly(rt, number, &mut desk, CHECK, DONE, search.checked)
+}
+
+/// Runs words over what stands on a desk, and compares status and output.
+fn run_quietly<R: Abort + Alloc<A = Global>>(
+    rt: &R,
+    number: usize,
+    desk: &mut MemoryDesk,
+    asked: &[&'static str],
+    status: u8,
+    text: &[u8],
+) -> Result<(), Fail> {
+    let alloc = rt.alloc();
+    let mut sink = MemorySink::new(Vec::new(alloc));
+    let words = words(alloc, asked)?;
+    let ended = run(alloc, words.as_slice(), desk, &mut sink);
+    assert_eq!(rt; sink.put_bytes(), text, "search {number}");
+    assert_eq!(rt; ended.code, status, "search {number}");
+    Ok(())
 }
 
 fn ends_with(bytes: Option<&[u8]>, end: &[u8]) -> bool {

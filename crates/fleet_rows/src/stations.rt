@@ -1,11 +1,8 @@
 //! Texts of `stations.csv`.
-use crate::rows::{run_readings, run_refusals};
-use fleet_cli::BAD_INPUT;
-use plan_desk::DeskFile::Stations;
-use std::test::Fail;
+use crate::rows::Text;
 
-// The text, and the line that is wanted.
-const REFUSALS: &[(&[u8], &[u8])] = &[
+/// Texts that are refused.
+pub const REFUSALS: &[Text] = &[
     // The first record isn't the header.
     (b"", b"bad input: stations.csv record 1 kind 1\n"),
     (b"\n\r\n", b"bad input: stations.csv record 1 kind 1\n"),
@@ -214,7 +211,8 @@ const REFUSALS: &[(&[u8], &[u8])] = &[
     ),
 ];
 
-const READ: &[&[u8]] = &[
+/// Texts that read.
+pub const READ: &[&[u8]] = &[
     // The order of the stations is free, and some may be unused.
     b"code,extra,maintenance\nBBB,0,no\nAAA,0,yes\n",
     b"code,extra,maintenance\nZZZ,5,yes\nAAA,0,yes\nBBB,0,no\n",
@@ -227,13 +225,3 @@ const READ: &[&[u8]] = &[
     b"code,extra,maintenance\nAAA,600,no\nBBB,-0,yes\n",
     b"code,extra,maintenance\nAAA,00000000000000000600,yes\nBBB,00000000000000000000,no\n",
 ];
-
-#[test]
-fn stations_that_are_refused(rt: HostRuntime) -> Result<(), Fail> {
-    run_refusals(&rt, Stations, BAD_INPUT, REFUSALS)
-}
-
-#[test]
-fn stations_that_read(rt: HostRuntime) -> Result<(), Fail> {
-    run_readings(&rt, Stations, READ)
-}

@@ -1,11 +1,8 @@
 //! Texts of `throughs.csv`.
-use crate::rows::{run_readings, run_refusals};
-use fleet_cli::BAD_INPUT;
-use plan_desk::DeskFile::Throughs;
-use std::test::Fail;
+use crate::rows::Text;
 
-// The text, and the line that is wanted.
-const REFUSALS: &[(&[u8], &[u8])] = &[
+/// Texts that are refused.
+pub const REFUSALS: &[Text] = &[
     // The first record isn't the header. A file without a record that isn't empty has none.
     (b"\n", b"bad input: throughs.csv record 1 kind 1\n"),
     (
@@ -114,7 +111,8 @@ const REFUSALS: &[(&[u8], &[u8])] = &[
     ),
 ];
 
-const READ: &[&[u8]] = &[
+/// Texts that read.
+pub const READ: &[&[u8]] = &[
     // Of zero bytes it holds no pairs.
     b"",
     b"in,out,value",
@@ -126,13 +124,3 @@ const READ: &[&[u8]] = &[
     // Pairs of legs that do not meet are read.
     b"in,out,value\nX1,X1,5\nX2,X2,5\n",
 ];
-
-#[test]
-fn throughs_that_are_refused(rt: HostRuntime) -> Result<(), Fail> {
-    run_refusals(&rt, Throughs, BAD_INPUT, REFUSALS)
-}
-
-#[test]
-fn throughs_that_read(rt: HostRuntime) -> Result<(), Fail> {
-    run_readings(&rt, Throughs, READ)
-}

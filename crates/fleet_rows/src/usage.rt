@@ -1,13 +1,13 @@
 //! Words that ask for nothing, and the forms of words that ask for something.
-use crate::rows::{Laid, Row, run_rows};
+use crate::rows::{Laid, Row, run_row};
+use crate::statuses::{DONE, FAULT, UNSETTLED, USAGE};
 use crate::tables::{LEGAL, OPEN, OPEN_PROOF};
-use fleet_cli::{DONE, FAULT, UNSETTLED, USAGE};
 use plan_desk::DeskFile::Proof;
 use std::alloc::Global;
 use std::process::Abort;
 use std::test::Fail;
 
-/// What is wanted of a run on the files of the first run.
+/// What is wanted of a run on the files of the first run: the status, the text, and the proof that stands then.
 #[derive(Clone, Copy)]
 struct Wanted {
     status: u8,
@@ -39,30 +39,23 @@ const NO_SUCH_FOLDER: Wanted = Wanted {
     left: &[],
 };
 
-fn wanting<'a>(words: &'a [&'static str], wanted: Wanted) -> Row<'a, 'static> {
-    Row {
+/// Runs words.
+fn run_words<R: Abort + Alloc<A = Global>>(
+    rt: &R,
+    number: usize,
+    words: &[&'static str],
+    wanted: &Wanted,
+) -> Result<(), Fail> {
+    let row = Row {
         laid: &[],
         words,
         status: wanted.status,
         text: wanted.text,
         left: wanted.left,
-    }
-}
-
-// Runs the words of each line, which are apart by single spaces.
-fn run_lines<R: Abort + Alloc<A = Global>>(
-    rt: &R,
-    lines: &[&'static str],
-    wanted: Wanted,
-) -> Result<(), Fail> {
-    for line in lines {
-        let mut words = Vec::new(rt.alloc());
-        for word in line.split(' ') {
-            words.push(word)?;
-        }
-        run_rows(rt, &[wanting(words.as_slice(), wanted)])?;
-    }
-    Ok(())
+        failing: (&[], &[]),
+        faults: (u64::from(wanted.status == FAULT), 0),
+    };
+    run_row(rt, number, &row)
 }
 
 const NO_COMMAND: &[&str] = &[
@@ -71,6 +64,7 @@ const NO_COMMAND: &[&str] = &[
     "judge d --day-start 00:00",
     "fleetplan --day-start 00:00 judge d",
     "fleetplan make d",
+    "fleetplan make d 1 2",
     "fleetplan tails d",
     "fleetplan help",
     "fleetplan help judge",
@@ -85,6 +79,8 @@ const NOTHING_TO_JUDGE: &[&str] = &[
     "fleetplan judge -d --day-start 00:00",
     "fleetplan judge d --day-start 00:00 more",
     "fleetplan judge d more --day-start 00:00",
+    "fleetplan judge d e",
+    "fleetplan judge d --day-start=3:00",
     "fleetplan judge d --day-start",
     "fleetplan judge d --day-starts 00:00",
     "fleetplan judge d --day-start 00:00 --day-start 00:00",
@@ -135,78 +131,103 @@ const NOTHING_TO_SOLVE: &[&str] = &[
     "fleetplan solve d -h",
 ];
 
-#[test]
-fn words_that_ask_for_nothing(rt: HostRuntime) -> Result<(), Fail> {
-    run_rows(
-        &rt,
-        &[
-            wanting(&[], REFUSED_WORDS),
-            wanting(&["fleetplan"], REFUSED_WORDS),
-            wanting(&["fleetplan", ""], REFUSED_WORDS),
-        ],
-    )?;
-    for lines in [
-        NO_COMMAND,
-        NOTHING_TO_JUDGE,
-        NOTHING_TO_CHECK,
-        NOTHING_TO_SOLVE,
-    ] {
-        run_lines(&rt, lines, REFUSED_WORDS)?;
-    }
-    Ok(())
-}
-
-#[test]
-fn times_of_a_wrong_form(rt: HostRuntime) -> Result<(), Fail> {
-    for time in [
-        "24:00", "8:00", "08:60", "08:0", "008:00", "08-00", "08:00 ", " 08:00", "0800", "-8:00",
-        "08:00:00", "ab:cd", "",
-    ] {
-        let words = ["fleetplan", "judge", "d", "--day-start", time];
-        run_rows(&rt, &[wanting(&words, REFUSED_WORDS)])?;
-    }
-    Ok(())
-}
-
 // Options stand before the folder or behind it, and may be left out. `--` ends them.
-#[test]
-fn words_that_judge(rt: HostRuntime) -> Result<(), Fail> {
-    let lines = [
-        "fleetplan judge d",
-        "fleetplan judge -- d",
-        "fleetplan judge --day-start 00:00 d",
-        "fleetplan judge --day-start 00:00 -- d",
-        "fleetplan judge d --day-start=23:59",
-        "any judge d",
-    ];
-    run_lines(&rt, &lines, JUDGED)
-}
+const WORDS_THAT_JUDGE: &[&str] = &[
+    "fleetplan judge d",
+    "fleetplan judge -- d",
+    "fleetplan judge --day-start 00:00 d",
+    "fleetplan judge --day-start 00:00 -- d",
+    "fleetplan judge d --day-start=23:59",
+    "any judge d",
+    // The day start moves nothing in the first run.
+    "fleetplan judge d --day-start 00:00",
+    "fleetplan judge d --day-start 03:00",
+    "fleetplan judge d --day-start 08:00",
+    "fleetplan judge d --day-start 08:01",
+    "fleetplan judge d --day-start 09:30",
+    "fleetplan judge d --day-start 10:30",
+    "fleetplan judge d --day-start 23:59",
+];
 
-#[test]
-fn words_that_solve(rt: HostRuntime) -> Result<(), Fail> {
-    let lines = [
-        "fleetplan solve d --pivots 0",
-        "fleetplan solve --pivots 0 -- d",
-        "fleetplan solve d --nodes 0 --pivots 0",
-        "fleetplan solve d --nodes 1000000 --pivots 0",
-        "fleetplan solve d --nodes=0000000000000000005 --pivots 0 --day-start 00:00",
-        "fleetplan solve --pivots=00 --day-start=23:59 --nodes 5 -- d",
-    ];
-    run_lines(&rt, &lines, SOLVED)
-}
+const WORDS_THAT_SOLVE: &[&str] = &[
+    "fleetplan solve d --pivots 0",
+    "fleetplan solve --pivots 0 -- d",
+    "fleetplan solve d --nodes 0 --pivots 0",
+    "fleetplan solve d --nodes 1000000 --pivots 0",
+    "fleetplan solve d --nodes=0000000000000000005 --pivots 0 --day-start 00:00",
+    "fleetplan solve --pivots=00 --day-start=23:59 --nodes 5 -- d",
+];
 
 // These name folders in which no file stands.
+const FOLDERS_WITH_A_DASH: &[&str] = &[
+    "fleetplan judge -",
+    "fleetplan judge -- -d",
+    "fleetplan judge --day-start 00:00 -- --day-start",
+    "fleetplan check -",
+    "fleetplan check -- -d",
+    "fleetplan solve -",
+    "fleetplan solve --nodes 5 -- -d",
+    "fleetplan solve -- --help",
+];
+
+const LINES: &[(&[&str], Wanted)] = &[
+    (NO_COMMAND, REFUSED_WORDS),
+    (NOTHING_TO_JUDGE, REFUSED_WORDS),
+    (NOTHING_TO_CHECK, REFUSED_WORDS),
+    (NOTHING_TO_SOLVE, REFUSED_WORDS),
+    (WORDS_THAT_JUDGE, JUDGED),
+    (WORDS_THAT_SOLVE, SOLVED),
+    (FOLDERS_WITH_A_DASH, NO_SUCH_FOLDER),
+];
+
+// Runs the words of each line, which are apart by single spaces.
+fn run_lines<R: Abort + Alloc<A = Global>>(
+    rt: &R,
+    lines: &[&'static str],
+    wanted: &Wanted,
+) -> Result<(), Fail> {
+    for (number, line) in lines.iter().enumerate() {
+        let mut words = Vec::new(rt.alloc());
+        for word in line.split(' ') {
+            words.push(word)?;
+        }
+        run_words(rt, number, words.as_slice(), wanted)?;
+    }
+    Ok(())
+}
+
 #[test]
-fn folders_that_begin_with_a_dash(rt: HostRuntime) -> Result<(), Fail> {
-    let lines = [
-        "fleetplan judge -",
-        "fleetplan judge -- -d",
-        "fleetplan judge --day-start 00:00 -- --day-start",
-        "fleetplan check -",
-        "fleetplan check -- -d",
-        "fleetplan solve -",
-        "fleetplan solve --nodes 5 -- -d",
-        "fleetplan solve -- --help",
-    ];
-    run_lines(&rt, &lines, NO_SUCH_FOLDER)
+fn lines_of_words(rt: HostRuntime) -> Result<(), Fail> {
+    for (lines, wanted) in LINES {
+        run_lines(&rt, lines, wanted)?;
+    }
+    Ok(())
+}
+
+// Words that no line of words is, and times of a wrong form.
+const WORDS: &[&[&str]] = &[
+    &[],
+    &["fleetplan"],
+    &["fleetplan", ""],
+    &["fleetplan", "judge", "d", "--day-start", "24:00"],
+    &["fleetplan", "judge", "d", "--day-start", "8:00"],
+    &["fleetplan", "judge", "d", "--day-start", "08:60"],
+    &["fleetplan", "judge", "d", "--day-start", "08:0"],
+    &["fleetplan", "judge", "d", "--day-start", "008:00"],
+    &["fleetplan", "judge", "d", "--day-start", "08-00"],
+    &["fleetplan", "judge", "d", "--day-start", "08:00 "],
+    &["fleetplan", "judge", "d", "--day-start", " 08:00"],
+    &["fleetplan", "judge", "d", "--day-start", "0800"],
+    &["fleetplan", "judge", "d", "--day-start", "-8:00"],
+    &["fleetplan", "judge", "d", "--day-start", "08:00:00"],
+    &["fleetplan", "judge", "d", "--day-start", "ab:cd"],
+    &["fleetplan", "judge", "d", "--day-start", ""],
+];
+
+#[test]
+fn words_that_ask_for_nothing(rt: HostRuntime) -> Result<(), Fail> {
+    for (number, words) in WORDS.iter().enumerate() {
+        run_words(&rt, number, words, &REFUSED_WORDS)?;
+    }
+    Ok(())
 }

@@ -19,6 +19,3 @@ pub use lowest_terms::reduce;
 pub use ratio::{ceil_div, compare_ratio};
 pub use row::FracRow;
 pub use sizes::{is_row, is_small, is_small_beside};
-
-#[cfg(test)]
-mod tests;

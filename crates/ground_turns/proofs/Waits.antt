@@ -25,7 +25,7 @@ times_bit w true = omega arith
 times_bit w false = omega arith
 
 -- the same counts, of turns at the station
-at_station : (c x y z u : Bool) → bit x + bit y ≡ bit z + bit u → bit (c && x) + bit (c && y) ≡ bit (c && z) + bit (c && u)
+pub at_station : (c x y z u : Bool) → bit x + bit y ≡ bit z + bit u → bit (c && x) + bit (c && y) ≡ bit (c && z) + bit (c && u)
 at_station true x y z u e = e
 at_station false x y z u e = refl
 

@@ -2,5 +2,6 @@ pub mod FirstOut
 pub mod Laws
 pub mod Maps
 pub mod Nights
+pub mod Segments
 pub mod Throughs
 pub mod Turns

@@ -1,6 +1,6 @@
 -- Turns of a fleet's aircraft at a station: from a leg that lands there to one that departs. Minutes are those of the
 -- period, and time goes round from its last minute to its first.
-use Rattle.std.specs.Prelude.{◌≡◌, ◌≢◌, ℕ, ◌+◌, ◌-◌, ◌/◌, ◌%◌, ◌<◌, Bool, IsTrue, nat_lt, List}
+use Rattle.std.specs.Prelude.{◌≡◌, ◌≢◌, ℕ, ◌+◌, ◌-◌, ◌/◌, ◌%◌, ◌<◌, Bool, IsTrue, nat_lt, nat_le, List}
 use Rattle.fleet_model.specs.declared.limits.TheConstants.{MINUTES_PER_DAY, MINUTES_PER_PERIOD}
 use Rattle.fleet_model.specs.declared.parts.Connection.{Connection}
 use Rattle.fleet_model.specs.declared.tables.Tables.{Tables}
@@ -16,9 +16,12 @@ period_of t = MINUTES_PER_PERIOD
 abbrev pub days_in : Tables → ℕ
 days_in t = period_of t / MINUTES_PER_DAY
 
--- how many minutes after one minute another comes, going round
+-- how many minutes after one minute another comes, going round in so many minutes
+abbrev pub minutes_round : ℕ → ℕ → ℕ → ℕ
+minutes_round minutes from to = (to + minutes - from) % minutes
+
 abbrev pub minutes_until : Tables → ℕ → ℕ → ℕ
-minutes_until t from to = (to + period_of t - from) % period_of t
+minutes_until t from to = minutes_round (period_of t) from to
 
 -- the station of a turn
 abbrev pub station_at : Tables → Connection → ℕ
@@ -39,6 +42,10 @@ wait_of t f turn = minutes_until t (ready_at t f turn) (departs_at t f turn)
 -- minute to that of the minute before departure.
 abbrev pub waits_at : Tables → ℕ → Connection → ℕ → Bool
 waits_at t f turn m = nat_lt (minutes_until t (ready_at t f turn) m) (wait_of t f turn)
+
+-- the turn touches a minute: one from the ready minute to that of departure, both included
+abbrev pub touches : Tables → ℕ → Connection → ℕ → Bool
+touches t f turn m = nat_le (minutes_until t (ready_at t f turn) m) (wait_of t f turn)
 
 -- the turn crosses the period's start
 abbrev pub crosses : Tables → ℕ → Connection → Bool

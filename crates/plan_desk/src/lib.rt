@@ -23,6 +23,3 @@ pub use memory_desk::MemoryDesk;
 pub use memory_sink::MemorySink;
 pub use sink::{Sink, SinkError};
 pub use writer_sink::{StdSink, WriterSink};
-
-#[cfg(test)]
-mod tests;

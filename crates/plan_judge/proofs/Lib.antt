@@ -1,2 +1,1 @@
-pub mod NeedFound
 pub mod OneVerdict

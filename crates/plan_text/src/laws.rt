@@ -8,6 +8,7 @@ ghost use Rattle.fleet_model.specs.Legal.{IsAssignment};
 ghost use Rattle.fleet_model.specs.declared.tables.Tables.{Tables};
 ghost use Rattle.plan_text.specs.Reading.{PlanReads, ReadsOrNot};
 ghost use Rattle.plan_text.specs.Text.{plan_records, plan_text};
+ghost use Rattle.plan_text.specs.declared.faults.TheConstants.{UNKNOWN_FLEET, WRONG_COUNT, WRONG_FIELDS, WRONG_FLIGHT, WRONG_HEADER};
 
 /// Any records are those of one plan, or they have one first fault, and not both.
 pub fn reads_or_not()
@@ -22,4 +23,13 @@ pub fn reads_what_was_written()
 /// The text of a plan is what the default writer of `csv` writes of its records: no name calls for quotes.
 pub fn is_written_as_csv()
     ensures { (t : Tables) (a : List ℕ) → IsAssignment t a → plan_text t a ≡ flat_map (row_text default_writer) (plan_records t a) }
+{}
+
+/// The kinds of faults of a plan's text in numbers.
+pub fn kinds_in_numbers()
+    ensures wrong_header { WRONG_HEADER ≡ 1 }
+    ensures wrong_fields { WRONG_FIELDS ≡ 2 }
+    ensures wrong_flight { WRONG_FLIGHT ≡ 3 }
+    ensures unknown_fleet { UNKNOWN_FLEET ≡ 4 }
+    ensures wrong_count { WRONG_COUNT ≡ 5 }
 {}

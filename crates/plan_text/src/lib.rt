@@ -9,6 +9,3 @@ pub mod writing;
 pub use faults::{PlanError, PlanFault};
 pub use reading::read_plan;
 pub use writing::write_plan;
-
-#[cfg(test)]
-mod tests;

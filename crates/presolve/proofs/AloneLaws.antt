@@ -16,7 +16,7 @@ use Rattle.presolve.specs.Rules.{busy_at, busy_on, come_by, has_only, surely_bus
 use Rattle.presolve.specs.declared.cells.TheConstants.{CELL_WIDTH}
 use Rattle.presolve.proofs.CellLaws.{fleet_of_cell, place_of_cell}
 use Rattle.presolve.proofs.KeptParts.{on_others, other_leg_same, own_leg_fewer}
-use Rattle.presolve.proofs.OneChanged.{sum_below-more}
+use Rattle.sums.proofs.OneChanged.{sum_below-more}
 
 -- a pair keeps three aircraft busy at most
 few_laps : (t : Tables) (p : Pair) → IsPair t p → laps_of t p ≤ 2

@@ -12,7 +12,7 @@ use Rattle.fleet_model.specs.declared.tables.Tables.{Tables}
 use Rattle.bound_cert.specs.Bound.{part}
 use Rattle.presolve.specs.Laws.{PairsAreFew}
 use Rattle.presolve.specs.Removals.{NoneBare}
-use Rattle.presolve.proofs.OneChanged.{count_below-fewer, sum_below-more}
+use Rattle.sums.proofs.OneChanged.{count_below-fewer, sum_below-more}
 
 -- of another leg all is kept as it was
 pub on_others : (keeps : Domains) (leg fleet : ℕ) (kept : Bool) (q : Pair) → q.leg ≢ leg → part keeps leg fleet kept q ≡ keeps q

@@ -14,7 +14,7 @@ use Rattle.presolve.specs.Rules.{departures, landings}
 use Rattle.presolve.specs.declared.cells.TheConstants.{CELL_WIDTH}
 use Rattle.presolve.proofs.CellLaws.{fleet_of_cell, place_of_cell}
 use Rattle.presolve.proofs.KeptParts.{is_removed, on_other_fleets, on_others}
-use Rattle.presolve.proofs.OneChanged.{count_below-fewer}
+use Rattle.sums.proofs.OneChanged.{count_below-fewer}
 
 module _ (keeps : Domains) (p : Pair) (place : ℕ → ℕ) where
   abbrev counts : Domains → ℕ → ℕ → ℕ → Bool

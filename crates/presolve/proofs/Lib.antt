@@ -6,7 +6,6 @@ pub mod Counted
 pub mod KeptParts
 pub mod Landed
 pub mod LeastBounds
-pub mod OneChanged
 pub mod OneList
 pub mod ReasonOrder
 pub mod ReasonPrices

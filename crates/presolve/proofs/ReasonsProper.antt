@@ -67,14 +67,23 @@ overnight t rule.TooFewAircraft p f s = rises_by_rent (f == p.fleet) (nat_le 0 (
 
 pub reason_is_proper : (t : Tables) (why : Rule) (p : Pair) (prices : Prices) → IsReason t why p prices → ArePrices t prices
 reason_is_proper t why p prices reason = record {
-  some_scale = omega (arith, ints, reason.scale);
-  scale_within = omega (arith, ints, reason.scale);
-  some_rent = λ f known. omega (arith, ints, rent_is t why p prices reason f known, (rent_small why p f).0);
-  rent_within = λ f known. omega (arith, ints, rent_is t why p prices reason f known, (rent_small why p f).1);
-  no_less = λ f s m known there within. omega (arith, ints, reason.each_price f s m known there within, (price_small t why p f s m).0);
-  no_more = λ f s m known there within. omega (arith, ints, reason.each_price f s m known there within, (price_small t why p f s m).1);
-  never_rise = λ f s m known there within.
-      omega (arith, ints, reason.each_price f s (m + 1) known there within, reason.each_price f s m known there (omega arith), never_rises t why p f s m);
-  rise_overnight = λ f s known there.
-      omega (arith, ints, reason.each_price f s 0 known there (omega arith), reason.each_price f s last_minute known there (omega arith), rent_is t why p prices reason f known, overnight t why p f s);
+  scale = record { some = omega (arith, ints, reason.scale); within = omega (arith, ints, reason.scale) };
+  within = record {
+    rents = λ f known. record {
+      some = omega (arith, ints, rent_is t why p prices reason f known, (rent_small why p f).0);
+      within = omega (arith, ints, rent_is t why p prices reason f known, (rent_small why p f).1);
+    };
+    each = λ f s m known there early. record {
+      no_less = omega (arith, ints, reason.each_price f s m known there early, (price_small t why p f s m).0);
+      no_more = omega (arith, ints, reason.each_price f s m known there early, (price_small t why p f s m).1);
+    };
+  };
+  fall = record {
+    each = λ f s m known there early.
+        omega (arith, ints, reason.each_price f s (m + 1) known there early, reason.each_price f s m known there (omega arith), never_rises t why p f s m);
+  };
+  rise = record {
+    each = λ f s known there.
+        omega (arith, ints, reason.each_price f s 0 known there (omega arith), reason.each_price f s last_minute known there (omega arith), rent_is t why p prices reason f known, overnight t why p f s);
+  };
 }

@@ -1,5 +1,5 @@
 -- What a last table at a cheapest point says: prices, and a fractional assignment of the same value.
-use Rattle.std.proofs.Common.{◌≡◌, ℕ, ◌+◌, ◌*◌, ◌<◌, ◌≤◌, Bool, true, false, List, get_or, None, ℤ, pos, neg_ℤ, ◌*ℤ◌, ◌<ℤ◌, ◌≤ℤ◌, unsigned_abs, refl, sym, ◌∙◌, ap, subst, arith}
+use Rattle.std.proofs.Common.{◌≡◌, ℕ, ◌+◌, ◌*◌, ◌<◌, ◌≤◌, false, List, get_or, None, ℤ, pos, neg_ℤ, ◌*ℤ◌, ◌<ℤ◌, ◌≤ℤ◌, unsigned_abs, refl, sym, ◌∙◌, ap, subst, arith}
 use Rattle.std.proofs.lemmas.Int.{ints}
 use lib.IntN.{*ℤ_comm}
 use Rattle.sums.proofs.Counts.{count_below-some}
@@ -27,9 +27,9 @@ use Rattle.lp_rows.specs.Layout.{IsNetwork, Starts, all_kept, columns_of, concat
 use Rattle.lp_rows.specs.Points.{pair_part}
 use Rattle.lp_rows.proofs.Places.{nothing_there}
 use Rattle.bound_cert.specs.Duality.{WeakDuality}
-use Rattle.bound_cert.specs.Fractions.{IsMixedAt, IsScale, IsWeight, IsWorth, parts_in}
+use Rattle.bound_cert.specs.Fractions.{IsMixedAt, IsWeight, IsWorth, parts_in}
 use Rattle.bound_cert.specs.Mixed.{weight_in}
-use Rattle.bound_cert.specs.Prices.{ArePrices, max_scale}
+use Rattle.bound_cert.specs.Prices.{ArePrices, IsScale, max_scale}
 use Rattle.bound_cert.specs.Worth.{worth_of}
 use Rattle.bound_cert.specs.declared.mixed.Mixed.{Mixed}
 use Rattle.bound_cert.specs.declared.prices.Prices.{Prices}

@@ -1,5 +1,5 @@
 -- Prices whose lines weigh no column above its cost are proper, and worth what the right sides come to.
-use Rattle.std.proofs.Common.{◌≡◌, ◌≢◌, ℕ, zero, suc, ◌+◌, ◌-◌, ◌<◌, ◌≤◌, Bool, true, false, ◌==◌, List, [], ◌∷◌, length, ℤ, pos, neg_ℤ, ◌+ℤ◌, ◌-ℤ◌, ◌*ℤ◌, ◌<ℤ◌, ◌≤ℤ◌, unsigned_abs, refl, sym, ◌∙◌, ap, subst, inl, inr, arith}
+use Rattle.std.proofs.Common.{◌≡◌, ◌≢◌, ℕ, zero, suc, ◌+◌, ◌-◌, ◌<◌, ◌≤◌, Bool, true, false, ◌==◌, length, ℤ, pos, neg_ℤ, ◌+ℤ◌, ◌-ℤ◌, ◌*ℤ◌, ◌<ℤ◌, ◌≤ℤ◌, unsigned_abs, refl, sym, ◌∙◌, ap, subst, inl, inr, arith}
 use Rattle.std.proofs.lemmas.Bool.{cases_lt}
 use Rattle.std.proofs.lemmas.Bool.Decides.{nat_tests}
 use Rattle.std.proofs.lemmas.Int.{ints}
@@ -11,7 +11,6 @@ use Rattle.sums.proofs.WholeSwaps.{sum_below_ℤ-one, where_true}
 use Rattle.sums.proofs.Orders.{sum_below_ℤ-le}
 use Rattle.sums.proofs.Signs.{factor_le_cancel, factor_at_least_0}
 use Rattle.sums.proofs.Naturals.{empty_is, equal_number}
-use Rattle.sums.proofs.Tests.{by_test}
 use Rattle.fleet_model.specs.declared.tables.Tables.{Tables}
 use Rattle.fleet_model.specs.Kept.{Domains, IsBare, kept_on}
 use Rattle.fleet_model.specs.Schedule.{fleet_of, fleets_in, leg_of, leg_on, legs_in, no_leg, stations_in}
@@ -243,14 +242,13 @@ module _ (t : Tables) (keeps : Domains) (starts : Starts) (network : IsNetwork t
 
       pub are_prices : ArePrices t prices
       are_prices = record {
-        some_scale = low;
-        scale_within = high;
-        some_rent = rent_some;
-        rent_within = λ f known.
-            let size = bounds (value (legs_in t + (arcs_in t starts + f))) max_price (small (arcs_in t starts + f) (omega arith)) in
-            omega (arith, ints, rent_is f known, size.0, size.1);
-        no_less = λ f s m known within period. (price_bounds f s m known within (omega arith)).0;
-        no_more = λ f s m known within period. (price_bounds f s m known within (omega arith)).1;
-        never_rise = λ f s m known within period. falls_minute f s m known within (omega arith);
-        rise_overnight = over_night;
+        scale = record { some = low; within = high };
+        within = record {
+          rents = λ f known.
+              let size = bounds (value (legs_in t + (arcs_in t starts + f))) max_price (small (arcs_in t starts + f) (omega arith)) in
+              record { some = rent_some f known; within = omega (arith, ints, rent_is f known, size.0, size.1) };
+          each = λ f s m known within period. let ends = price_bounds f s m known within (omega arith) in record { no_less = ends.0; no_more = ends.1 };
+        };
+        fall = record { each = λ f s m known within period. falls_minute f s m known within (omega arith) };
+        rise = record { each = over_night };
       }

@@ -4,7 +4,7 @@ use Rattle.std.proofs.lemmas.Bool.Decides.{nat_tests}
 use Rattle.std.proofs.lemmas.Int.{ints}
 use Rattle.sums.specs.Places.{first_below}
 use Rattle.frac_row.specs.declared.row.FracRow.{FracRow}
-use Rattle.bound_cert.specs.Fractions.{IsScale}
+use Rattle.bound_cert.specs.Prices.{IsScale}
 use Rattle.bound_cert.specs.Prices.{max_scale}
 use Rattle.price_lift.specs.TooLarge.{weights_excess}
 use Rattle.price_lift.specs.Weights.{lcm, lowest_den, scale_below}

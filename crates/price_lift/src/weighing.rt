@@ -4,7 +4,7 @@ ghost use Rattle.sums.specs.Places.{first_below};
 ghost use Rattle.frac_row.specs.Outgrown.{IsWithin};
 ghost use Rattle.row_store.specs.Table.{HasColumns, height_of, right_side};
 ghost use Rattle.lp_rows.specs.Layout.{concat_below};
-ghost use Rattle.bound_cert.specs.Fractions.{IsScale};
+ghost use Rattle.bound_cert.specs.Prices.{IsScale};
 ghost use Rattle.bound_cert.specs.Prices.{max_scale};
 ghost use Rattle.price_lift.specs.Parts.{AreParts, HaveParts, IsBasicMixed, part_below, part_of, weight_where, weights_at};
 ghost use Rattle.price_lift.specs.TooLarge.{IsLiftError, weights_excess};

@@ -8,6 +8,3 @@ pub mod turn;
 
 pub use outcome::Outcome;
 pub use run::solve;
-
-#[cfg(test)]
-mod tests;

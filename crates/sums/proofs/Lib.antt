@@ -1,5 +1,6 @@
 pub mod Sums
 pub mod Counts
+pub mod OneChanged
 pub mod Maxima
 pub mod Division
 pub mod Divisors

@@ -1,6 +1,5 @@
-use Rattle.std.proofs.Common.{◌≡◌, ◌+◌, arith, refl, sym, ◌∙◌, ap, inl}
+use Rattle.std.proofs.Common.{◌≡◌, arith, refl, sym, ◌∙◌, ap, inl}
 use Rattle.std.specs.Prelude.{length, None}
-use Rattle.sums.specs.Places.{list_below}
 use Rattle.sums.proofs.Places.{length-list_below}
 use Rattle.row_store.specs.Table.{IsTable}
 use Rattle.row_store.specs.Pivot.{pivot_growth}

@@ -1,0 +1,11 @@
+pub mod FirstDrafts
+pub mod WideningSteps
+pub mod Widening
+pub mod WideningTree
+pub mod Relaxing
+pub mod Exchanging
+pub mod Walking
+pub mod Planting
+pub mod Turns
+pub mod OneToOneMaps
+pub mod DualLaws

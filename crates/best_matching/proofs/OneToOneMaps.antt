@@ -1,0 +1,94 @@
+-- Sums along a one-to-one map.
+use Rattle.std.proofs.Common.{◌≡◌, ℕ, zero, suc, ◌+◌, ◌*◌, ◌<◌, ◌≤◌, ◌==◌, Bool, true, false, if◌then◌else◌, refl, sym, ◌∙◌, ap, subst, inl, inr, arith}
+use Rattle.std.proofs.lemmas.Bool.{cases_lt}
+use Rattle.std.proofs.lemmas.Bool.Decides.{nat_tests}
+use Rattle.sums.specs.Below.{count_below, sum_below}
+use Rattle.sums.proofs.Sums.{sum_below-agree, sum_below-bound, sum_below-one, sum_below-swap}
+use Rattle.best_matching.specs.Worths.{IsOneToOne}
+use Rattle.best_matching.proofs.Planting.{none_passes}
+
+-- a value at one place alone
+at_place : (f : ℕ → ℕ) (place n : ℕ) → place < n → sum_below (λ j. if place == j then f j else 0) n ≡ f place
+at_place f place n lt =
+    sum_below-agree (λ j. if place == j then f j else 0) (λ j. if place == j then f place else 0) n (record { each = λ j _. here place j (f j) (f place) (λ same. ap f (sym same)) })
+    ∙ sum_below-one place (f place) n lt
+  where
+    here : (place j x y : ℕ) → (place ≡ j → x ≡ y) → ◌≡◌ {A = ℕ} (if place == j then x else 0) (if place == j then y else 0)
+    here place j x y e = grind (arith, nat_tests)
+
+-- one value as often as a test passes
+as_often : (p : ℕ → Bool) (value n : ℕ) → sum_below (λ k. if p k then value else 0) n ≡ value * count_below p n
+as_often p value zero = omega arith
+as_often p value (suc n) = ap (λ x. x + (if p n then value else 0)) (as_often p value n) ∙ last (p n) value (count_below p n)
+  where
+    last : (b : Bool) (value count : ℕ) → value * count + (if b then value else 0) ≡ value * (count + (if b then 1 else 0))
+    last true value count = omega arith
+    last false value count = omega arith
+
+-- each value as often as the map gives its place
+pub over_map : (f map : ℕ → ℕ) (n : ℕ) → ((k : ℕ) → k < n → map k < n) → sum_below (λ k. f (map k)) n ≡ sum_below (λ j. f j * count_below (λ k. map k == j) n) n
+over_map f map n within =
+    sum_below-agree (λ k. f (map k)) (λ k. sum_below (λ j. if map k == j then f j else 0) n) n (record { each = λ k lt. sym (at_place f (map k) n (within k lt)) })
+    ∙ sum_below-swap (λ k j. if map k == j then f j else 0) n n
+    ∙ sum_below-agree (λ j. sum_below (λ k. if map k == j then f j else 0) n) (λ j. f j * count_below (λ k. map k == j) n) n (record { each = λ j _. as_often (λ k. map k == j) (f j) n })
+
+-- where no two numbers pass, at most one does
+pub count_below-no_two : (p : ℕ → Bool) (n : ℕ) → ((j k : ℕ) → j < n → k < n → p j ≡ true → p k ≡ true → j ≡ k) → count_below p n ≤ 1
+count_below-no_two p zero alone = omega arith
+count_below-no_two p (suc n) alone = either (p n) refl (count_below-no_two p n (λ j k j_lt k_lt. alone j k (omega arith) (omega arith)))
+  where
+    fails : p n ≡ true → (k : ℕ) → k < n → (b : Bool) → b ≡ p k → p k ≡ false
+    fails last k lt true e = let same : k ≡ n = alone k n (omega arith) (omega arith) (sym e) last in absurd (omega arith)
+    fails last k lt false e = sym e
+
+    one : (b : Bool) (count : ℕ) → b ≡ true → count ≡ 0 → count + (if b then 1 else 0) ≤ 1
+    one true count e f = omega arith
+    one false count e f = cc
+
+    none : (b : Bool) (count : ℕ) → b ≡ false → count ≤ 1 → count + (if b then 1 else 0) ≤ 1
+    none false count e le = omega arith
+    none true count e le = cc
+
+    either : (b : Bool) → b ≡ p n → count_below p n ≤ 1 → count_below p n + (if p n then 1 else 0) ≤ 1
+    either true e before = one (p n) (count_below p n) (sym e) (none_passes p n (λ k lt. fails (sym e) k lt (p k) refl))
+    either false e before = none (p n) (count_below p n) (sym e) before
+
+given_once : (map : ℕ → ℕ) (n j : ℕ) → IsOneToOne map n → count_below (λ k. map k == j) n ≤ 1
+given_once map n j m = count_below-no_two (λ k. map k == j) n (λ i k i_lt k_lt p q. m.distinct i k i_lt k_lt (is _ _ p ∙ sym (is _ _ q)))
+  where
+    is : (a b : ℕ) → (a == b) ≡ true → a ≡ b
+    is a b e = grind (arith, nat_tests)
+
+-- numbers of at most 1 that sum to as many as there are
+all_one : (c : ℕ → ℕ) (n k : ℕ) → ((j : ℕ) → c j ≤ 1) → sum_below c n ≡ n → k < n → c k ≡ 1
+all_one c zero k most e lt = absurd (omega arith)
+all_one c (suc n) k most e lt =
+    let before : sum_below c n ≤ n * 1 = sum_below-bound c 1 n (record { each = λ j _. most j }) in
+    let last : c n ≤ 1 = most n in
+    elim (cases_lt k n) [
+      | inl less ↦ all_one c n k most (exact _ _ _ e before last) less
+      | inr ge ↦ let same : k ≡ n = omega arith in subst (λ i. c i ≡ 1) (sym same) (one _ _ _ e before last)
+    ]
+  where
+    exact : (sum last n : ℕ) → sum + last ≡ suc n → sum ≤ n * 1 → last ≤ 1 → sum ≡ n
+    exact sum last n e le most = omega arith
+
+    one : (sum last n : ℕ) → sum + last ≡ suc n → sum ≤ n * 1 → last ≤ 1 → last ≡ 1
+    one sum last n e le most = omega arith
+
+ones : (n : ℕ) → sum_below (λ k. 1) n ≡ n
+ones zero = refl
+ones (suc n) = omega (arith, ones n)
+
+-- a sum along a one-to-one map is the sum
+pub along : (f map : ℕ → ℕ) (n : ℕ) → IsOneToOne map n → sum_below (λ k. f (map k)) n ≡ sum_below f n
+along f map n m =
+    over_map f map n m.within
+    ∙ sum_below-agree (λ j. f j * count_below (λ k. map k == j) n) f n (record { each = λ j lt. once (f j) _ (all_one (λ i. count_below (λ k. map k == i) n) n j (λ i. given_once map n i m) all lt) })
+  where
+    once : (x c : ℕ) → c ≡ 1 → x * c ≡ x
+    once x c e = ap (λ y. x * y) e ∙ omega arith
+
+    all : sum_below (λ j. count_below (λ k. map k == j) n) n ≡ n
+    all = sum_below-agree (λ j. count_below (λ k. map k == j) n) (λ j. 1 * count_below (λ k. map k == j) n) n (record { each = λ j _. omega arith })
+        ∙ sym (over_map (λ _. 1) map n m.within) ∙ ones n

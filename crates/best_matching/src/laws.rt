@@ -1,0 +1,17 @@
+//! The laws of dual numbers. Each function is a law: its contract is the statement, and it does nothing.
+ghost use Rattle.best_matching.specs.Worths.{DualsBound, DualsSumToWorth, NoneIsWorthMore};
+
+/// Where dual numbers meet the worths that a one-to-one map has, they sum to what it is worth.
+pub fn duals_sum_to_worth()
+    ensures { DualsSumToWorth }
+{}
+
+/// No one-to-one map is worth more than dual numbers sum to.
+pub fn duals_bound()
+    ensures { DualsBound }
+{}
+
+/// So a one-to-one map at which they are met is worth most.
+pub fn none_is_worth_more()
+    ensures { NoneIsWorthMore }
+{}

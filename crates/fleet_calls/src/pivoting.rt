@@ -1,0 +1,95 @@
+//! Runs of the simplex method.
+use entries::Entries;
+use row_store::{Dense, RowStore, Rows, is_problem};
+use simplex_frac::{Outcome, solve};
+use std::alloc::Global;
+use std::test::Fail;
+
+/// Lines, a budget of pivots, and the end that is wanted.
+#[derive(Clone, Copy)]
+struct Run {
+    /// Each line with its right side last.
+    lines: &'static [&'static [i128]],
+    costs: &'static [i128],
+    pivots: u64,
+    end: End,
+}
+
+/// The end of a run: its kind, the basis, how many pivots were made, and a row and a column.
+type End = (&'static str, &'static [u32], u64, u32, u32);
+
+const LARGE: i128 = 1 << 126;
+
+const RUNS: &[Run] = &[
+    Run {
+        lines: &[&[1, 1, 1]],
+        costs: &[3, 2],
+        pivots: 2,
+        end: ("best", &[1], 2, 0, 0),
+    },
+    Run {
+        lines: &[&[1, 1, 1]],
+        costs: &[3, 2],
+        pivots: 1,
+        end: ("spent", &[], 1, 0, 0),
+    },
+    Run {
+        lines: &[&[1, -1, 0]],
+        costs: &[0, -1],
+        pivots: 5,
+        end: ("ray", &[], 0, 0, 1),
+    },
+    Run {
+        lines: &[&[0, 1]],
+        costs: &[1],
+        pivots: 5,
+        end: ("no point", &[1], 0, 0, 0),
+    },
+    // The product 5 * 2 ^ 126 is outgrown.
+    Run {
+        lines: &[&[3, LARGE, 1], &[5, 1, 2]],
+        costs: &[0, 0],
+        pivots: 10,
+        end: ("grew", &[], 0, 1, 1),
+    },
+];
+
+fn rows(alloc: Global, run: &Run) -> Result<Rows, Fail> {
+    let mut lines = Vec::new(alloc);
+    for line in run.lines {
+        lines.push(Entries::from_vec(Vec::from_slice(alloc, line)?))?;
+    }
+    Ok(Rows {
+        columns: run.costs.len().try_into()?,
+        lines: Entries::from_vec(lines),
+        costs: Entries::from_vec(Vec::from_slice(alloc, run.costs)?),
+    })
+}
+
+/// The end of a run, with its numbers in their order.
+fn told(outcome: &Outcome) -> (&'static str, &[u32], u64, u32, u32) {
+    match outcome {
+        Outcome::Best { basis, made } => ("best", basis.as_slice(), *made, 0, 0),
+        Outcome::NoPoint { basis, made } => ("no point", basis.as_slice(), *made, 0, 0),
+        Outcome::Ray { column } => ("ray", &[], 0, 0, *column),
+        Outcome::Spent { pivots } => ("spent", &[], *pivots, 0, 0),
+        Outcome::Grew {
+            pivots,
+            row,
+            column,
+        } => ("grew", &[], *pivots, *row, *column),
+    }
+}
+
+#[test]
+fn runs_and_their_ends(rt: HostRuntime) -> Result<(), Fail> {
+    for run in RUNS {
+        let rows = rows(rt.alloc(), run)?;
+        assert!(rt; is_problem(&rows));
+        let mut store = Dense::start(rt.alloc(), &rows)?;
+        let outcome = solve(rt.alloc(), &mut store, rows.columns, run.pivots)?;
+        let end = told(&outcome);
+        assert_eq!(rt; end, run.end);
+    }
+    Ok(())
+}

@@ -1,0 +1,32 @@
+//! Texts of each file that are refused, and those that read.
+use crate::rows::{CHECK, JUDGE, run_readings, run_texts};
+use crate::statuses::{BAD_INPUT, REFUSED};
+use crate::{costs, fleets, legs, plans, proofs, stations, throughs};
+use plan_desk::DeskFile::{Costs, Fleets, Legs, Plan, Proof, Stations, Throughs};
+use std::test::Fail;
+
+#[test]
+fn tables_that_are_refused(rt: HostRuntime) -> Result<(), Fail> {
+    run_texts(&rt, JUDGE, Stations, BAD_INPUT, stations::REFUSALS)?;
+    run_texts(&rt, JUDGE, Fleets, BAD_INPUT, fleets::REFUSALS)?;
+    run_texts(&rt, JUDGE, Legs, BAD_INPUT, legs::REFUSALS)?;
+    run_texts(&rt, JUDGE, Costs, BAD_INPUT, costs::REFUSALS)?;
+    run_texts(&rt, JUDGE, Throughs, BAD_INPUT, throughs::REFUSALS)
+}
+
+#[test]
+fn plans_and_proofs_that_are_refused(rt: HostRuntime) -> Result<(), Fail> {
+    run_texts(&rt, JUDGE, Plan, REFUSED, plans::REFUSALS)?;
+    run_texts(&rt, CHECK, Proof, REFUSED, proofs::REFUSALS)?;
+    run_texts(&rt, CHECK, Proof, REFUSED, proofs::BROKEN)
+}
+
+#[test]
+fn texts_that_read(rt: HostRuntime) -> Result<(), Fail> {
+    run_readings(&rt, Stations, stations::READ)?;
+    run_readings(&rt, Fleets, fleets::READ)?;
+    run_readings(&rt, Legs, legs::READ)?;
+    run_readings(&rt, Costs, costs::READ)?;
+    run_readings(&rt, Throughs, throughs::READ)?;
+    run_readings(&rt, Plan, plans::READ)
+}

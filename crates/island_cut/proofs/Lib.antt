@@ -1,0 +1,2 @@
+pub mod SameUse
+pub mod Passing

@@ -1,0 +1,4 @@
+pub mod Listed
+pub mod Followers
+pub mod FreeNeed
+pub mod AllSuccessors

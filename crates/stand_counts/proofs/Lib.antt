@@ -1,0 +1,3 @@
+pub mod FleetCounts
+pub mod NeedFound
+pub mod Peaks

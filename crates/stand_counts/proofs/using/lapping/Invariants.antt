@@ -1,0 +1,12 @@
+use Rattle.std.proofs.Common.{◌≡◌, ◌≤◌, ◌*◌}
+use Rattle.sums.specs.Below.{sum_below}
+use Rattle.stand_counts.specs.Flights.{laps_at_by}
+use Rattle.stand_counts.specs.declared.flights.TheConstants.{MAX_WEIGHT}
+use Rattle.stand_counts.proofs.using.lapping.Given as goal
+
+abbrev pub invariant-loop-leg : goal.invariant-loop-leg
+invariant-loop-leg g l = record {
+  added : l.sum ≡ sum_below (laps_at_by l.tables (g.F.Flights.flights l.flights)) l.leg;
+  few : l.sum ≤ g.F.Flights.most * 2 * l.leg;
+  small : l.sum ≤ MAX_WEIGHT * 2 * l.leg;
+}
