@@ -14,5 +14,4 @@ pub mod Settled
 pub mod SolvedTrees
 pub mod SplitPairs
 pub mod SplitTrees
-pub mod Tried
 pub mod WholePlans
