@@ -2,6 +2,7 @@
 use Rattle.std.proofs.Common.{◌≡◌, ℕ, zero, suc, ◌+◌, ◌≤◌, ℤ, pos, negsuc, ◌+ℤ◌, ◌-ℤ◌, ◌*ℤ◌, ◌≤ℤ◌, to_z, of_z, add-one, refl, sym, ◌∙◌, ap, subst, arith}
 use Rattle.std.proofs.lemmas.Int.{ints, to_z-of_z}
 use mir.Syntax.{w128}
+use mir.Val.{SFits}
 use lib.IntN.{zero-*ℤ}
 use Rattle.sums.specs.Below.{sum_below_ℤ}
 use Rattle.sums.proofs.Integers.{one-*ℤ}
@@ -15,9 +16,12 @@ abbrev pub held : ℤ → ℤ
 held z = to_z w128 (of_z w128 z)
 
 -- what is small enough is held
+pub fits : (n : ℕ) (z : ℤ) → IsUpTo n z → n ≤ 20000 → SFits w128 z
+fits n (pos z) small few = record { sfits = omega (arith, ints, small.no_more) }
+fits n (negsuc z) small few = record { sfits = omega (arith, ints, small.no_less) }
+
 pub is_held : (n : ℕ) (z : ℤ) → IsUpTo n z → n ≤ 20000 → held z ≡ z
-is_held n (pos z) small few = to_z-of_z w128 (pos z) (record { sfits = omega (arith, ints, small.no_more) })
-is_held n (negsuc z) small few = to_z-of_z w128 (negsuc z) (record { sfits = omega (arith, ints, small.no_less) })
+is_held n z small few = to_z-of_z w128 z (fits n z small few)
 
 up_to_sum : (m n : ℕ) (a b : ℤ) → IsUpTo m a → IsUpTo n b → IsUpTo (m + n) (a +ℤ b)
 up_to_sum m n a b p q = record { no_less = omega (arith, ints); no_more = omega (arith, ints) }
@@ -49,20 +53,33 @@ multiplied most n a b x small p q le few =
     ∙ is_held most (a *ℤ pos n) (up_to_times a n most small le) few ∙ ap (λ z. z *ℤ pos n) p
 
 -- a cost over the scale, where it counts and where it does not
-pub cost_scaled : (k : ℕ) (a s b c : ℤ) → a ≡ pos k → k ≤ 1 → pos 1 ≤ℤ s → s ≤ℤ pos max_scale → IsCost b → b ≡ c → held (held (held a *ℤ held s) *ℤ held b) ≡ pos k *ℤ s *ℤ c
-cost_scaled k a s b c counts few some within small same =
-    ap (λ z. held (held (held z *ℤ held s) *ℤ held b)) counts
-    ∙ ap (λ z. held (held (z *ℤ held s) *ℤ held b)) (to_z-of_z w128 (pos k) (record { sfits = omega arith }))
-    ∙ ap (λ z. held (held (pos k *ℤ z) *ℤ held b)) (is_held 1 s (record { no_less = omega (arith, ints); no_more = omega (arith, ints) }) (omega arith))
-    ∙ ap (λ z. held (z *ℤ held b)) (is_held 1 (pos k *ℤ s) (scale_small k few) (omega arith))
-    ∙ ap (λ z. held (pos k *ℤ s *ℤ z)) (is_held 1 b (record { no_less = omega (arith, ints, small.no_less); no_more = omega (arith, ints, small.no_more) }) (omega arith))
-    ∙ is_held 1 (pos k *ℤ s *ℤ b) (up_to_scaled k s b few some within small) (omega arith)
-    ∙ ap (λ z. pos k *ℤ s *ℤ z) same
-  where
-    scale_small : (k : ℕ) → k ≤ 1 → IsUpTo 1 (pos k *ℤ s)
-    scale_small zero le = subst (λ z. IsUpTo 1 z) (sym (zero-*ℤ s)) (record { no_less = omega (arith, ints); no_more = omega (arith, ints) })
-    scale_small (suc zero) le = subst (λ z. IsUpTo 1 z) (sym (one-*ℤ s)) (record { no_less = omega (arith, ints); no_more = omega (arith, ints) })
-    scale_small (suc (suc k)) le = absurd (omega arith)
+module _ (k : ℕ) (a s : ℤ) (counts : a ≡ pos k) (few : k ≤ 1) (some : pos 1 ≤ℤ s) (within : s ≤ℤ pos max_scale) where
+  scale_small : (k : ℕ) → k ≤ 1 → IsUpTo 1 (pos k *ℤ s)
+  scale_small zero le = subst (λ z. IsUpTo 1 z) (sym (zero-*ℤ s)) (record { no_less = omega (arith, ints); no_more = omega (arith, ints) })
+  scale_small (suc zero) le = subst (λ z. IsUpTo 1 z) (sym (one-*ℤ s)) (record { no_less = omega (arith, ints); no_more = omega (arith, ints) })
+  scale_small (suc (suc k)) le = absurd (omega arith)
+
+  scale_counted : held a *ℤ held s ≡ pos k *ℤ s
+  scale_counted =
+      ap (λ z. held z *ℤ held s) counts
+      ∙ ap (λ z. z *ℤ held s) (to_z-of_z w128 (pos k) (record { sfits = omega arith }))
+      ∙ ap (λ z. pos k *ℤ z) (is_held 1 s (record { no_less = omega (arith, ints); no_more = omega (arith, ints) }) (omega arith))
+
+  pub scale_fits : SFits w128 (held a *ℤ held s)
+  scale_fits = subst (λ z. SFits w128 z) (sym scale_counted) (fits 1 (pos k *ℤ s) (scale_small k few) (omega arith))
+
+  module _ (b : ℤ) (small : IsCost b) where
+    cost_counted : held (held a *ℤ held s) *ℤ held b ≡ pos k *ℤ s *ℤ b
+    cost_counted =
+        ap (λ z. held z *ℤ held b) scale_counted
+        ∙ ap (λ z. z *ℤ held b) (is_held 1 (pos k *ℤ s) (scale_small k few) (omega arith))
+        ∙ ap (λ z. pos k *ℤ s *ℤ z) (is_held 1 b (record { no_less = omega (arith, ints, small.no_less); no_more = omega (arith, ints, small.no_more) }) (omega arith))
+
+    pub cost_fits : SFits w128 (held (held a *ℤ held s) *ℤ held b)
+    cost_fits = subst (λ z. SFits w128 z) (sym cost_counted) (fits 1 (pos k *ℤ s *ℤ b) (up_to_scaled k s b few some within small) (omega arith))
+
+    pub cost_scaled : (c : ℤ) → b ≡ c → held (held (held a *ℤ held s) *ℤ held b) ≡ pos k *ℤ s *ℤ c
+    cost_scaled c same = ap held cost_counted ∙ is_held 1 (pos k *ℤ s *ℤ b) (up_to_scaled k s b few some within small) (omega arith) ∙ ap (λ z. pos k *ℤ s *ℤ z) same
 
 -- a sum of one term more
 pub one_more : (f : ℕ → ℤ) (n : ℕ) → sum_below_ℤ f n +ℤ f n ≡ sum_below_ℤ f (n + 1)

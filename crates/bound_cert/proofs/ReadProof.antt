@@ -1,22 +1,35 @@
 -- What reading by the definition says of the answer.
-use Rattle.std.proofs.Common.{◌≡◌, ℕ, Bool, List, Result, Ok, Err, sym, ap, ◌∙◌}
+use Rattle.std.proofs.Common.{◌≡◌, ℕ, ◌+◌, ◌-◌, Bool, Bor, List, length, Result, Ok, Err, sym, ap, subst, ◌∙◌}
+use Rattle.std.proofs.lemmas.List.{length-map}
 use Rattle.std.specs.Prelude.{IfOk, MatchResult}
 use Rattle.fleet_model.specs.declared.tables.Tables.{Tables}
-use Rattle.bound_cert.specs.Lines.{left_of}
+use Rattle.bound_cert.specs.Lines.{Gives, left_of, seen}
 use Rattle.bound_cert.specs.Nodes.{nodes_of, proof_at}
 use Rattle.bound_cert.specs.OfTables.{IsOfTables}
-use Rattle.bound_cert.specs.ReadProof.{FaultOf, AnswersProof, IsTextOf, ReadsAs}
+use Rattle.bound_cert.specs.ReadProof.{AnswersProof, FaultIn, FaultOf, IsTextOf, LinesRead, ReadsAs, answer_of}
 use Rattle.bound_cert.specs.declared.faults.CertError.{CertError}
 use Rattle.bound_cert.specs.declared.faults.CertError.TheVariants as cert
+use Rattle.bound_cert.specs.declared.faults.Stop.{Stop}
+use Rattle.bound_cert.specs.declared.faults.Stop.TheVariants as stop
 use Rattle.bound_cert.specs.declared.reading.Proof.{Proof}
 use Rattle.bound_cert.specs.declared.trees.Tree.{Tree}
 use Rattle.bound_cert.proofs.ReadBack.{ok_same}
-use Rattle.bound_cert.proofs.ReadOfTables.{reads_of_tables}
 use Rattle.bound_cert.proofs.TextTrees.{text_of_reading}
-use Rattle.bound_cert.proofs.WrittenTrees.{reads_what_was_written}
+use Rattle.bound_cert.proofs.WrittenTrees.{in_order_of_tables, reads_what_was_written}
+
+-- the answer to what was read of lines
+pub answered : (t : Tables) (lines : List (Bor (List ℕ))) (read : Result Proof Stop) (result : Result Proof CertError) → Gives (λ proof. (proof.planned, nodes_of proof.tree)) read (proof_at t (seen lines))
+    → result ≡ answer_of (length lines) read → MatchResult result (LinesRead t (seen lines)) (FaultIn t (seen lines))
+answered t lines read result gives is = subst (λ r. MatchResult r (LinesRead t (seen lines)) (FaultIn t (seen lines))) (sym is) (by_read read gives)
+  where
+    by_read : (read : Result Proof Stop) → Gives (λ proof. (proof.planned, nodes_of proof.tree)) read (proof_at t (seen lines))
+        → MatchResult (answer_of (length lines) read) (LinesRead t (seen lines)) (FaultIn t (seen lines))
+    by_read (Ok proof) gives = gives
+    by_read (Err stop.NoMemory) gives = tt
+    by_read (Err (stop.Fault left kind)) gives = record { left = left; stops = gives; line = ap (λ n. n - left + 1) (sym (length-map lines (λ (slice : Bor (List ℕ)). slice.now))) }
 
 pub of_tables : (t : Tables) (text : List ℕ) (result : Result Proof CertError) → MatchResult result (ReadsAs t text) (FaultOf t text) → IfOk result (λ proof. IsOfTables t proof.tree)
-of_tables t text (Ok proof) reads = reads_of_tables t (left_of text) proof.planned proof.tree reads
+of_tables t text (Ok proof) reads = in_order_of_tables t proof.tree (text_of_reading t text proof.planned proof.tree reads).1
 of_tables t text (Err error) reads = tt
 
 pub exactly : (t : Tables) (text : List ℕ) (result : Result Proof CertError) → MatchResult result (ReadsAs t text) (FaultOf t text) → IfOk result (λ proof. IsTextOf t text proof.planned proof.tree)

@@ -10,20 +10,24 @@ use Rattle.bound_cert.specs.Figures.{natural_in}
 use Rattle.bound_cert.specs.Known.{leg_named}
 use Rattle.bound_cert.specs.Lines.{Left, Reading, ◌>>=◌, line_due, node_width, open_width, present, stands, width_of, word_at}
 use Rattle.bound_cert.specs.ProofText.{Line, bare_line, mixed_lines, price_lines, priced_line, refuted_line, sole_line, split_line, trim_line}
-use Rattle.bound_cert.specs.Reading.{body_at, count_at, grew_by, head_at, head_of, lift_by, mixed_at, node_at, open_head, pair_at, prices_at}
-use Rattle.bound_cert.specs.WrittenOrder.{IsCount, IsNodeInOrder}
+use Rattle.bound_cert.specs.Reading.{body_at, count_at, grew_by, head_at, head_of, lift_by, mixed_at, mixed_node, node_at, open_head, pair_at, priced_node, prices_at}
+use Rattle.bound_cert.specs.WrittenOrder.{ArePricesInOrder, IsCount, IsMixedInOrder, IsNodeInOrder}
 use Rattle.bound_cert.specs.declared.faults.TheConstants.{MAX_DEPTH, UNKNOWN_NAME, WRONG_NUMBER}
 use Rattle.bound_cert.specs.declared.mixed.Mixed.{Mixed}
+use Rattle.bound_cert.specs.declared.nodes.Alone.TheVariants as alone
+use Rattle.bound_cert.specs.declared.nodes.Fraction.{Fraction}
+use Rattle.bound_cert.specs.declared.nodes.Fraction.TheVariants as fraction
 use Rattle.bound_cert.specs.declared.nodes.Head.{Head}
 use Rattle.bound_cert.specs.declared.nodes.Head.TheVariants as head
 use Rattle.bound_cert.specs.declared.nodes.Node.{Node}
 use Rattle.bound_cert.specs.declared.nodes.Node.TheVariants as node
+use Rattle.bound_cert.specs.declared.nodes.Priced.{Priced}
+use Rattle.bound_cert.specs.declared.nodes.Priced.TheVariants as priced
 use Rattle.bound_cert.specs.declared.prices.Prices.{Prices}
 use Rattle.bound_cert.specs.declared.reading_lines.Due.TheVariants as due
-use Rattle.bound_cert.specs.declared.trees.Cause.TheVariants as cause
 use Rattle.bound_cert.proofs.FigureWords.{same_bytes}
 use Rattle.bound_cert.proofs.ReadBack.{either_way, goes, ok_same, there}
-use Rattle.bound_cert.proofs.ReadOfTables.{leg_known}
+use Rattle.bound_cert.proofs.NodesOfTables.{leg_known}
 use Rattle.bound_cert.proofs.ReadOn.{chosen, refused}
 use Rattle.bound_cert.proofs.TextLines.{five_words, four_words, line_by, line_was, one_word, three_words, two_words}
 use Rattle.bound_cert.proofs.TextLists.{mixed_was, prices_were}
@@ -35,29 +39,29 @@ use Rattle.bound_cert.proofs.WrittenNumbers.{natural_read}
 
 -- the first line of a node, by what it says
 abbrev first_line : Tables → Head → Line
-first_line t (head.Bare leg) = bare_line t leg
-first_line t head.Sole = sole_line
-first_line t head.Refuted = refuted_line
-first_line t head.Priced = priced_line
-first_line t head.Nodes = codes "open" ∷ codes "nodes" ∷ []
-first_line t (head.Pivots made) = codes "open" ∷ codes "pivots" ∷ decimal made ∷ []
-first_line t (head.Grew pivots row column) = codes "open" ∷ codes "grew" ∷ decimal pivots ∷ decimal row ∷ decimal column ∷ []
-first_line t (head.Lift step at) = codes "open" ∷ codes "lift" ∷ decimal step ∷ decimal at ∷ []
-first_line t (head.Trim leg fleet) = trim_line t leg fleet
-first_line t (head.Split leg fleet) = split_line t leg fleet
+first_line t (head.Alone (alone.Bare leg)) = bare_line t leg
+first_line t (head.Alone alone.Sole) = sole_line
+first_line t (head.Priced priced.Refuted) = refuted_line
+first_line t (head.Priced priced.Closed) = priced_line
+first_line t (head.Mixed fraction.Nodes) = codes "open" ∷ codes "nodes" ∷ []
+first_line t (head.Priced (priced.Pivots made)) = codes "open" ∷ codes "pivots" ∷ decimal made ∷ []
+first_line t (head.Priced (priced.Grew pivots row column)) = codes "open" ∷ codes "grew" ∷ decimal pivots ∷ decimal row ∷ decimal column ∷ []
+first_line t (head.Priced (priced.Lift step at)) = codes "open" ∷ codes "lift" ∷ decimal step ∷ decimal at ∷ []
+first_line t (head.Alone (alone.Trim leg fleet)) = trim_line t leg fleet
+first_line t (head.Mixed (fraction.Split leg fleet)) = split_line t leg fleet
 
 -- what it says is of the tables, and its counts are of 64 bits
 abbrev IsHeadInOrder : Tables → Head → Type 0
-IsHeadInOrder t (head.Bare leg) = leg < legs_in t
-IsHeadInOrder t head.Sole = ⊤
-IsHeadInOrder t head.Refuted = ⊤
-IsHeadInOrder t head.Priced = ⊤
-IsHeadInOrder t head.Nodes = ⊤
-IsHeadInOrder t (head.Pivots made) = IsCount made
-IsHeadInOrder t (head.Grew pivots row column) = IsCount pivots × IsCount row × IsCount column
-IsHeadInOrder t (head.Lift step at) = IsCount step × IsCount at
-IsHeadInOrder t (head.Trim leg fleet) = IsPair t (leg_on leg fleet)
-IsHeadInOrder t (head.Split leg fleet) = IsPair t (leg_on leg fleet)
+IsHeadInOrder t (head.Alone (alone.Bare leg)) = leg < legs_in t
+IsHeadInOrder t (head.Alone alone.Sole) = ⊤
+IsHeadInOrder t (head.Priced priced.Refuted) = ⊤
+IsHeadInOrder t (head.Priced priced.Closed) = ⊤
+IsHeadInOrder t (head.Mixed fraction.Nodes) = ⊤
+IsHeadInOrder t (head.Priced (priced.Pivots made)) = IsCount made
+IsHeadInOrder t (head.Priced (priced.Grew pivots row column)) = IsCount pivots × IsCount row × IsCount column
+IsHeadInOrder t (head.Priced (priced.Lift step at)) = IsCount step × IsCount at
+IsHeadInOrder t (head.Alone (alone.Trim leg fleet)) = IsPair t (leg_on leg fleet)
+IsHeadInOrder t (head.Mixed (fraction.Split leg fleet)) = IsPair t (leg_on leg fleet)
 
 record HeadWas (t : Tables) (words : Line) (h : Head) : Type 0 where
   words_are : words ≡ first_line t h
@@ -87,7 +91,7 @@ module _ (t : Tables) (words : Line) (left : Left) where
       let pivots_was = count_was words 2 pivots.value left pivots.is in
       let row_was = count_was words 3 row.value left row.is in
       let column_was = count_was words 4 column.value left column.is in
-      subst (λ h. HeadWas t words h) (ok_same (head.Grew pivots.value row.value column.value) h column.on)
+      subst (λ h. HeadWas t words h) (ok_same (head.Priced (priced.Grew pivots.value row.value column.value)) h column.on)
       (record {
         words_are = five_words words count ∙ ap (λ w. w ∷ word_at words 1 ∷ word_at words 2 ∷ word_at words 3 ∷ word_at words 4 ∷ []) first
             ∙ ap (λ w. codes "open" ∷ w ∷ word_at words 2 ∷ word_at words 3 ∷ word_at words 4 ∷ []) second
@@ -104,7 +108,7 @@ module _ (t : Tables) (words : Line) (left : Left) where
       let at = goes (count_at words 3 left) _ h step.on in
       let step_was = count_was words 2 step.value left step.is in
       let at_was = count_was words 3 at.value left at.is in
-      subst (λ h. HeadWas t words h) (ok_same (head.Lift step.value at.value) h at.on)
+      subst (λ h. HeadWas t words h) (ok_same (head.Priced (priced.Lift step.value at.value)) h at.on)
       (record {
         words_are = four_words words count ∙ ap (λ w. w ∷ word_at words 1 ∷ word_at words 2 ∷ word_at words 3 ∷ []) first
             ∙ ap (λ w. codes "open" ∷ w ∷ word_at words 2 ∷ word_at words 3 ∷ []) second
@@ -113,20 +117,20 @@ module _ (t : Tables) (words : Line) (left : Left) where
         order = (step_was.count, at_was.count);
       })
 
-  pivots_was : (h : Head) → word_at words 0 ≡ codes "open" → word_at words 1 ≡ codes "pivots" → length words ≡ 3 → (count_at words 2 left >>= λ made. Ok (head.Pivots made)) ≡ Ok h → HeadWas t words h
+  pivots_was : (h : Head) → word_at words 0 ≡ codes "open" → word_at words 1 ≡ codes "pivots" → length words ≡ 3 → (count_at words 2 left >>= λ made. Ok (head.Priced (priced.Pivots made))) ≡ Ok h → HeadWas t words h
   pivots_was h first second count e =
       let made = goes (count_at words 2 left) _ h e in
       let made_was = count_was words 2 made.value left made.is in
-      subst (λ h. HeadWas t words h) (ok_same (head.Pivots made.value) h made.on)
+      subst (λ h. HeadWas t words h) (ok_same (head.Priced (priced.Pivots made.value)) h made.on)
       (record {
         words_are = three_words words count ∙ ap (λ w. w ∷ word_at words 1 ∷ word_at words 2 ∷ []) first ∙ ap (λ w. codes "open" ∷ w ∷ word_at words 2 ∷ []) second
             ∙ ap (λ w. codes "open" ∷ codes "pivots" ∷ w ∷ []) made_was.word;
         order = made_was.count;
       })
 
-  nodes_was : (h : Head) → word_at words 0 ≡ codes "open" → word_at words 1 ≡ codes "nodes" → length words ≡ 2 → ◌≡◌ {A = Reading Head} (Ok head.Nodes) (Ok h) → HeadWas t words h
+  nodes_was : (h : Head) → word_at words 0 ≡ codes "open" → word_at words 1 ≡ codes "nodes" → length words ≡ 2 → ◌≡◌ {A = Reading Head} (Ok (head.Mixed fraction.Nodes)) (Ok h) → HeadWas t words h
   nodes_was h first second count e =
-      subst (λ h. HeadWas t words h) (ok_same head.Nodes h e)
+      subst (λ h. HeadWas t words h) (ok_same (head.Mixed fraction.Nodes) h e)
       (record { words_are = two_words words count ∙ ap (λ w. w ∷ word_at words 1 ∷ []) first ∙ ap (λ w. codes "open" ∷ w ∷ []) second; order = tt })
 
   -- the width of an open leaf's line, by the tests of its second word
@@ -155,32 +159,32 @@ module _ (t : Tables) (words : Line) (left : Left) where
       let last = last_is lift 4 (length words) (sym (refused grew _ _ no_grew) ∙ width) in
       lift_was h first (same_bytes (word_at words 1) (codes "lift") last.0) last.1 e)))
 
-  bare_was : (h : Head) → word_at words 0 ≡ codes "bare" → length words ≡ 2 → (present (leg_named t (word_at words 1)) left UNKNOWN_NAME >>= λ leg. Ok (head.Bare leg)) ≡ Ok h → HeadWas t words h
+  bare_was : (h : Head) → word_at words 0 ≡ codes "bare" → length words ≡ 2 → (present (leg_named t (word_at words 1)) left UNKNOWN_NAME >>= λ leg. Ok (head.Alone (alone.Bare leg))) ≡ Ok h → HeadWas t words h
   bare_was h first count e =
       let leg = goes (present (leg_named t (word_at words 1)) left UNKNOWN_NAME) _ h e in
       let named = there (leg_named t (word_at words 1)) left UNKNOWN_NAME leg.value leg.is in
-      subst (λ h. HeadWas t words h) (ok_same (head.Bare leg.value) h leg.on)
+      subst (λ h. HeadWas t words h) (ok_same (head.Alone (alone.Bare leg.value)) h leg.on)
       (record {
         words_are = two_words words count ∙ ap (λ w. w ∷ word_at words 1 ∷ []) first ∙ ap (λ w. codes "bare" ∷ w ∷ []) (leg_read t (word_at words 1) leg.value named);
         order = leg_known t (word_at words 1) leg.value named;
       })
 
-  trim_was : (h : Head) → word_at words 0 ≡ codes "trim" → length words ≡ 3 → (pair_at t words left >>= λ pair. Ok (head.Trim pair.0 pair.1)) ≡ Ok h → HeadWas t words h
+  trim_was : (h : Head) → word_at words 0 ≡ codes "trim" → length words ≡ 3 → (pair_at t words left >>= λ pair. Ok (head.Alone (alone.Trim pair.0 pair.1))) ≡ Ok h → HeadWas t words h
   trim_was h first count e =
       let pair = goes (pair_at t words left) _ h e in
       let was = pair_was t words left pair.value pair.is in
-      subst (λ h. HeadWas t words h) (ok_same (head.Trim pair.value.0 pair.value.1) h pair.on)
+      subst (λ h. HeadWas t words h) (ok_same (head.Alone (alone.Trim pair.value.0 pair.value.1)) h pair.on)
       (record {
         words_are = three_words words count ∙ ap (λ w. w ∷ word_at words 1 ∷ word_at words 2 ∷ []) first ∙ ap (λ w. codes "trim" ∷ w ∷ word_at words 2 ∷ []) was.flight
             ∙ ap (λ w. codes "trim" ∷ (leg_of t pair.value.0).flight ∷ w ∷ []) was.name;
         order = was.is;
       })
 
-  split_was : (h : Head) → word_at words 0 ≡ codes "split" → length words ≡ 3 → (pair_at t words left >>= λ pair. Ok (head.Split pair.0 pair.1)) ≡ Ok h → HeadWas t words h
+  split_was : (h : Head) → word_at words 0 ≡ codes "split" → length words ≡ 3 → (pair_at t words left >>= λ pair. Ok (head.Mixed (fraction.Split pair.0 pair.1))) ≡ Ok h → HeadWas t words h
   split_was h first count e =
       let pair = goes (pair_at t words left) _ h e in
       let was = pair_was t words left pair.value pair.is in
-      subst (λ h. HeadWas t words h) (ok_same (head.Split pair.value.0 pair.value.1) h pair.on)
+      subst (λ h. HeadWas t words h) (ok_same (head.Mixed (fraction.Split pair.value.0 pair.value.1)) h pair.on)
       (record {
         words_are = three_words words count ∙ ap (λ w. w ∷ word_at words 1 ∷ word_at words 2 ∷ []) first ∙ ap (λ w. codes "split" ∷ w ∷ word_at words 2 ∷ []) was.flight
             ∙ ap (λ w. codes "split" ∷ (leg_of t pair.value.0).flight ∷ w ∷ []) was.name;
@@ -214,7 +218,7 @@ module _ (t : Tables) (words : Line) (left : Left) where
       let bare = stands words 0 (codes "bare") in
       let sole = stands words 0 (codes "sole") in
       let refuted = stands words 0 (codes "refuted") in
-      let priced = stands words 0 (codes "priced") in
+      let closed = stands words 0 (codes "priced") in
       let open_leaf = stands words 0 (codes "open") in
       let trim = stands words 0 (codes "trim") in
       let split = stands words 0 (codes "split") in
@@ -224,15 +228,15 @@ module _ (t : Tables) (words : Line) (left : Left) where
       let width = sym (refused bare _ _ no_bare) ∙ width in
       either_way sole _ _ h e
       (λ is e.
-      alone_was (codes "sole") head.Sole h refl tt (same_bytes (word_at words 0) (codes "sole") is) (width_is 1 (length words) (sym (chosen (sole || refuted || priced) _ _ (first_three sole refuted priced is)) ∙ width)) e)
+      alone_was (codes "sole") (head.Alone alone.Sole) h refl tt (same_bytes (word_at words 0) (codes "sole") is) (width_is 1 (length words) (sym (chosen (sole || refuted || closed) _ _ (first_three sole refuted closed is)) ∙ width)) e)
       (λ no_sole e. either_way refuted _ _ h e
       (λ is e.
-      alone_was (codes "refuted") head.Refuted h refl tt (same_bytes (word_at words 0) (codes "refuted") is) (width_is 1 (length words) (sym (chosen (sole || refuted || priced) _ _ (second_three sole refuted priced is)) ∙ width)) e)
-      (λ no_refuted e. either_way priced _ _ h e
+      alone_was (codes "refuted") (head.Priced priced.Refuted) h refl tt (same_bytes (word_at words 0) (codes "refuted") is) (width_is 1 (length words) (sym (chosen (sole || refuted || closed) _ _ (second_three sole refuted closed is)) ∙ width)) e)
+      (λ no_refuted e. either_way closed _ _ h e
       (λ is e.
-      alone_was (codes "priced") head.Priced h refl tt (same_bytes (word_at words 0) (codes "priced") is) (width_is 1 (length words) (sym (chosen (sole || refuted || priced) _ _ (third_three sole refuted priced is)) ∙ width)) e)
-      (λ no_priced e.
-      let width = sym (refused (sole || refuted || priced) _ _ (none_three sole refuted priced no_sole no_refuted no_priced)) ∙ width in
+      alone_was (codes "priced") (head.Priced priced.Closed) h refl tt (same_bytes (word_at words 0) (codes "priced") is) (width_is 1 (length words) (sym (chosen (sole || refuted || closed) _ _ (third_three sole refuted closed is)) ∙ width)) e)
+      (λ no_closed e.
+      let width = sym (refused (sole || refuted || closed) _ _ (none_three sole refuted closed no_sole no_refuted no_closed)) ∙ width in
       either_way open_leaf _ _ h e
       (λ is e. open_was h (same_bytes (word_at words 0) (codes "open") is) (sym (chosen open_leaf _ _ is) ∙ width) e)
       (λ no_open e.
@@ -261,54 +265,42 @@ module _ (t : Tables) where
   prices_and_mixed line prices mixed rest middle behind e f =
       ap (λ rest. joined line ∷ rest) (e ∙ ap (λ rest. texts (price_lines t prices) ++ rest) f ∙ sym (texts_append (price_lines t prices) (mixed_lines t mixed) behind))
 
+  -- a leaf of which prices were read
+  priced_was : (h : Priced) (prices : Prices) (rest behind : Left) → ArePricesInOrder t prices → rest ≡ texts (price_lines t prices) ++ behind → IsHeadInOrder t (head.Priced h)
+      → BodyWas t (head.Priced h) rest (priced_node h prices, behind)
+  priced_was priced.Refuted prices rest behind order e is = record { order = order; text = ap (λ rest. joined refuted_line ∷ rest) e }
+  priced_was priced.Closed prices rest behind order e is = record { order = order; text = ap (λ rest. joined priced_line ∷ rest) e }
+  priced_was (priced.Pivots made) prices rest behind order e is = record { order = (order, is); text = prices_alone (first_line t (head.Priced (priced.Pivots made))) prices rest behind e }
+  priced_was (priced.Grew pivots row column) prices rest behind order e is =
+      record { order = (order, is); text = prices_alone (first_line t (head.Priced (priced.Grew pivots row column))) prices rest behind e }
+  priced_was (priced.Lift step at) prices rest behind order e is = record { order = (order, is); text = prices_alone (first_line t (head.Priced (priced.Lift step at))) prices rest behind e }
+
+  -- a node of which prices and a fractional assignment were read
+  mixed_node_was : (h : Fraction) (prices : Prices) (mixed : Mixed) (rest middle behind : Left) → ArePricesInOrder t prices → IsMixedInOrder t mixed → rest ≡ texts (price_lines t prices) ++ middle
+      → middle ≡ texts (mixed_lines t mixed) ++ behind → IsHeadInOrder t (head.Mixed h) → BodyWas t (head.Mixed h) rest (mixed_node h prices mixed, behind)
+  mixed_node_was fraction.Nodes prices mixed rest middle behind order other e f is =
+      record { order = (order, other); text = prices_and_mixed (first_line t (head.Mixed fraction.Nodes)) prices mixed rest middle behind e f }
+  mixed_node_was (fraction.Split leg fleet) prices mixed rest middle behind order other e f is =
+      record { order = (is, order, other); text = prices_and_mixed (split_line t leg fleet) prices mixed rest middle behind e f }
+
   body_was : (h : Head) (rest : Left) (read : Node × Left) → body_at t h rest ≡ Ok read → IsHeadInOrder t h → BodyWas t h rest read
   unfolding body_at
-  body_was (head.Bare leg) rest read e is = subst (λ r. BodyWas t (head.Bare leg) rest r) (ok_same (node.Bare leg, rest) read e) (record { order = is; text = refl })
-  body_was head.Sole rest read e is = subst (λ r. BodyWas t head.Sole rest r) (ok_same (node.Sole, rest) read e) (record { order = tt; text = refl })
-  body_was head.Refuted rest read e is =
+  body_was (head.Alone (alone.Bare leg)) rest read e is = subst (λ r. BodyWas t (head.Alone (alone.Bare leg)) rest r) (ok_same (node.Bare leg, rest) read e) (record { order = is; text = refl })
+  body_was (head.Alone alone.Sole) rest read e is = subst (λ r. BodyWas t (head.Alone alone.Sole) rest r) (ok_same (node.Sole, rest) read e) (record { order = tt; text = refl })
+  body_was (head.Alone (alone.Trim leg fleet)) rest read e is =
+      subst (λ r. BodyWas t (head.Alone (alone.Trim leg fleet)) rest r) (ok_same (node.Trim leg fleet, rest) read e) (record { order = is; text = refl })
+  body_was (head.Priced h) rest read e is =
       let prices = goes (prices_at t rest) _ read e in
       let was = prices_were t rest prices.value prices.is in
-      subst (λ r. BodyWas t head.Refuted rest r) (ok_same (node.Refuted prices.value.0, prices.value.1) read prices.on)
-      (record { order = was.order; text = ap (λ rest. joined refuted_line ∷ rest) was.text })
-  body_was head.Priced rest read e is =
-      let prices = goes (prices_at t rest) _ read e in
-      let was = prices_were t rest prices.value prices.is in
-      subst (λ r. BodyWas t head.Priced rest r) (ok_same (node.Priced prices.value.0, prices.value.1) read prices.on)
-      (record { order = was.order; text = ap (λ rest. joined priced_line ∷ rest) was.text })
-  body_was head.Nodes rest read e is =
+      subst (λ r. BodyWas t (head.Priced h) rest r) (ok_same (priced_node h prices.value.0, prices.value.1) read prices.on)
+      (priced_was h prices.value.0 rest prices.value.1 was.order was.text is)
+  body_was (head.Mixed h) rest read e is =
       let prices = goes (prices_at t rest) _ read e in
       let mixed = goes (mixed_at t prices.value.1) _ read prices.on in
       let was = prices_were t rest prices.value prices.is in
       let other = mixed_was t prices.value.1 mixed.value mixed.is in
-      subst (λ r. BodyWas t head.Nodes rest r) (ok_same (node.Open prices.value.0 (cause.Nodes mixed.value.0), mixed.value.1) read mixed.on)
-      (record { order = (was.order, other.order); text = prices_and_mixed (first_line t head.Nodes) prices.value.0 mixed.value.0 rest prices.value.1 mixed.value.1 was.text other.text })
-  body_was (head.Pivots made) rest read e is =
-      let prices = goes (prices_at t rest) _ read e in
-      let was = prices_were t rest prices.value prices.is in
-      subst (λ r. BodyWas t (head.Pivots made) rest r) (ok_same (node.Open prices.value.0 (cause.Pivots made), prices.value.1) read prices.on)
-      (record { order = (was.order, is); text = prices_alone (first_line t (head.Pivots made)) prices.value.0 rest prices.value.1 was.text })
-  body_was (head.Grew pivots row column) rest read e is =
-      let prices = goes (prices_at t rest) _ read e in
-      let was = prices_were t rest prices.value prices.is in
-      subst (λ r. BodyWas t (head.Grew pivots row column) rest r) (ok_same (node.Open prices.value.0 (cause.Grew pivots row column), prices.value.1) read prices.on)
-      (record { order = (was.order, is); text = prices_alone (first_line t (head.Grew pivots row column)) prices.value.0 rest prices.value.1 was.text })
-  body_was (head.Lift step at) rest read e is =
-      let prices = goes (prices_at t rest) _ read e in
-      let was = prices_were t rest prices.value prices.is in
-      subst (λ r. BodyWas t (head.Lift step at) rest r) (ok_same (node.Open prices.value.0 (cause.Lift step at), prices.value.1) read prices.on)
-      (record { order = (was.order, is); text = prices_alone (first_line t (head.Lift step at)) prices.value.0 rest prices.value.1 was.text })
-  body_was (head.Trim leg fleet) rest read e is =
-      subst (λ r. BodyWas t (head.Trim leg fleet) rest r) (ok_same (node.Trim leg fleet, rest) read e) (record { order = is; text = refl })
-  body_was (head.Split leg fleet) rest read e is =
-      let prices = goes (prices_at t rest) _ read e in
-      let mixed = goes (mixed_at t prices.value.1) _ read prices.on in
-      let was = prices_were t rest prices.value prices.is in
-      let other = mixed_was t prices.value.1 mixed.value mixed.is in
-      subst (λ r. BodyWas t (head.Split leg fleet) rest r) (ok_same (node.Split leg fleet prices.value.0 mixed.value.0, mixed.value.1) read mixed.on)
-      (record {
-        order = (is, was.order, other.order);
-        text = prices_and_mixed (split_line t leg fleet) prices.value.0 mixed.value.0 rest prices.value.1 mixed.value.1 was.text other.text;
-      })
+      subst (λ r. BodyWas t (head.Mixed h) rest r) (ok_same (mixed_node h prices.value.0 mixed.value.0, mixed.value.1) read mixed.on)
+      (mixed_node_was h prices.value.0 mixed.value.0 rest prices.value.1 mixed.value.1 was.order other.order was.text other.text is)
 
   pub node_was : (above : ℕ) (left : Left) (read : Node × Left) → node_at t above left ≡ Ok read → NodeWas t above left read
   unfolding node_at head_at width_of

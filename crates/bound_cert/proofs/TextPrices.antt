@@ -20,7 +20,7 @@ use Rattle.bound_cert.specs.declared.mixed.Weight.{Weight}
 use Rattle.bound_cert.specs.declared.prices.PriceStep.{PriceStep}
 use Rattle.bound_cert.specs.declared.reading_lines.Due.TheVariants as due
 use Rattle.bound_cert.proofs.ReadBack.{goes, ok_same, ordered, there}
-use Rattle.bound_cert.proofs.ReadOfTables.{fleet_known, leg_known, station_known}
+use Rattle.bound_cert.proofs.NodesOfTables.{fleet_known, leg_known, station_known}
 use Rattle.bound_cert.proofs.TextLines.{LineIs, five_words, four_words, line_by, line_was, three_words, two_words, width_was}
 use Rattle.bound_cert.proofs.WrittenNames.{fleet_read, leg_read, station_read}
 use Rattle.bound_cert.proofs.WrittenNumbers.{natural_read, number_read}

@@ -8,7 +8,7 @@ use Rattle.fleet_model.specs.Schedule.{fleet_of, fleets_in, leg_of, legs_in, no_
 use Rattle.fleet_model.specs.declared.tables.Tables.{Tables}
 use Rattle.bound_cert.specs.Known.{fleet_named, leg_named, station_named}
 use Rattle.bound_cert.proofs.FigureWords.{bytes_same, same_bytes}
-use Rattle.bound_cert.proofs.ReadOfTables.{fleet_known, leg_known, station_known}
+use Rattle.bound_cert.proofs.NodesOfTables.{fleet_known, leg_known, station_known}
 
 -- texts that differ are told apart
 differ : (a b : List ℕ) → a ≢ b → bytes_eq a b ≡ false

@@ -13,10 +13,13 @@ use Rattle.bound_cert.specs.Words.{IsOfWords}
 use Rattle.bound_cert.specs.WrittenOrder.{ArePricesInOrder, IsCauseInOrder, IsCount, IsNodeInOrder}
 use Rattle.bound_cert.specs.declared.faults.TheConstants.{MAX_DEPTH, UNKNOWN_NAME, WRONG_NUMBER}
 use Rattle.bound_cert.specs.declared.mixed.Mixed.{Mixed}
+use Rattle.bound_cert.specs.declared.nodes.Alone.TheVariants as alone
+use Rattle.bound_cert.specs.declared.nodes.Fraction.TheVariants as fraction
 use Rattle.bound_cert.specs.declared.nodes.Head.{Head}
 use Rattle.bound_cert.specs.declared.nodes.Head.TheVariants as head
 use Rattle.bound_cert.specs.declared.nodes.Node.{Node}
 use Rattle.bound_cert.specs.declared.nodes.Node.TheVariants as node
+use Rattle.bound_cert.specs.declared.nodes.Priced.TheVariants as priced
 use Rattle.bound_cert.specs.declared.prices.Prices.{Prices}
 use Rattle.bound_cert.specs.declared.reading_lines.Due.TheVariants as due
 use Rattle.bound_cert.specs.declared.trees.Cause.{Cause}
@@ -71,8 +74,8 @@ module _ (t : Tables) where
   priced_body prices behind are ends = prices_read t prices behind are ends
 
   -- prices that nothing of a cause follows
-  alone : (prices : Prices) (behind : Left) → ArePricesInOrder t prices → IsBehind behind → prices_at t (texts (price_lines t prices ++ []) ++ behind) ≡ Ok (prices, behind)
-  alone prices behind are ends = ap (λ lines. prices_at t (texts lines ++ behind)) (append-nil (price_lines t prices)) ∙ prices_read t prices behind are ends
+  prices_alone : (prices : Prices) (behind : Left) → ArePricesInOrder t prices → IsBehind behind → prices_at t (texts (price_lines t prices ++ []) ++ behind) ≡ Ok (prices, behind)
+  prices_alone prices behind are ends = ap (λ lines. prices_at t (texts lines ++ behind)) (append-nil (price_lines t prices)) ∙ prices_read t prices behind are ends
 
   before_mixed : (mixed : Mixed) (behind : Left) → IsBehind (texts (mixed_lines t mixed) ++ behind)
   before_mixed mixed behind = behind_line (mixed_line mixed.scale) (texts (weight_lines t mixed.weights) ++ behind) (mixed_line_is mixed.scale) refl refl refl
@@ -94,7 +97,7 @@ module _ (t : Tables) where
     no_rent = refl;
     no_step = refl;
     no_weight = refl;
-    first = head.Nodes;
+    first = head.Mixed fraction.Nodes;
     said = λ left. refl;
     body = λ behind ends.
         bound (prices_at t (texts (price_lines t prices ++ mixed_lines t mixed) ++ behind)) (prices, texts (mixed_lines t mixed) ++ behind) _ (prices_then prices mixed behind are)
@@ -109,9 +112,9 @@ module _ (t : Tables) where
     no_rent = refl;
     no_step = refl;
     no_weight = refl;
-    first = head.Pivots made;
+    first = head.Priced (priced.Pivots made);
     said = λ left. bound (count_at (open_line (cause.Pivots made)) 2 left) made _ (count_read (open_line (cause.Pivots made)) 2 made left is refl);
-    body = λ behind ends. bound (prices_at t (texts (price_lines t prices ++ []) ++ behind)) (prices, behind) _ (alone prices behind are ends);
+    body = λ behind ends. bound (prices_at t (texts (price_lines t prices ++ []) ++ behind)) (prices, behind) _ (prices_alone prices behind are ends);
   }
   open_reads prices (cause.Grew pivots row column) are is =
       let line = open_line (cause.Grew pivots row column) in
@@ -124,12 +127,12 @@ module _ (t : Tables) where
         no_rent = refl;
         no_step = refl;
         no_weight = refl;
-        first = head.Grew pivots row column;
+        first = head.Priced (priced.Grew pivots row column);
         said = λ left.
             bound (count_at line 2 left) pivots _ (count_read line 2 pivots left is.0 refl)
             ∙ bound (count_at line 3 left) row _ (count_read line 3 row left is.1 refl)
             ∙ bound (count_at line 4 left) column _ (count_read line 4 column left is.2 refl);
-        body = λ behind ends. bound (prices_at t (texts (price_lines t prices ++ []) ++ behind)) (prices, behind) _ (alone prices behind are ends);
+        body = λ behind ends. bound (prices_at t (texts (price_lines t prices ++ []) ++ behind)) (prices, behind) _ (prices_alone prices behind are ends);
       }
   open_reads prices (cause.Lift step at) are is =
       let line = open_line (cause.Lift step at) in
@@ -142,11 +145,11 @@ module _ (t : Tables) where
         no_rent = refl;
         no_step = refl;
         no_weight = refl;
-        first = head.Lift step at;
+        first = head.Priced (priced.Lift step at);
         said = λ left.
             bound (count_at line 2 left) step _ (count_read line 2 step left is.0 refl)
             ∙ bound (count_at line 3 left) at _ (count_read line 3 at left is.1 refl);
-        body = λ behind ends. bound (prices_at t (texts (price_lines t prices ++ []) ++ behind)) (prices, behind) _ (alone prices behind are ends);
+        body = λ behind ends. bound (prices_at t (texts (price_lines t prices ++ []) ++ behind)) (prices, behind) _ (prices_alone prices behind are ends);
       }
 
   pub node_reads : (n : Node) → IsNodeInOrder t n → NodeReads t n
@@ -160,7 +163,7 @@ module _ (t : Tables) where
     no_rent = refl;
     no_step = refl;
     no_weight = refl;
-    first = head.Bare leg;
+    first = head.Alone (alone.Bare leg);
     said = λ left.
         bound (present (leg_named t (leg_of t leg).flight) left UNKNOWN_NAME) leg _ (here (leg_named t (leg_of t leg).flight) leg left UNKNOWN_NAME (leg_written t leg is));
     body = λ behind ends. refl;
@@ -174,7 +177,7 @@ module _ (t : Tables) where
     no_rent = refl;
     no_step = refl;
     no_weight = refl;
-    first = head.Sole;
+    first = head.Alone alone.Sole;
     said = λ left. refl;
     body = λ behind ends. refl;
   }
@@ -187,7 +190,7 @@ module _ (t : Tables) where
     no_rent = refl;
     no_step = refl;
     no_weight = refl;
-    first = head.Refuted;
+    first = head.Priced priced.Refuted;
     said = λ left. refl;
     body = λ behind ends. bound (prices_at t (texts (price_lines t prices) ++ behind)) (prices, behind) _ (priced_body prices behind is ends);
   }
@@ -200,7 +203,7 @@ module _ (t : Tables) where
     no_rent = refl;
     no_step = refl;
     no_weight = refl;
-    first = head.Priced;
+    first = head.Priced priced.Closed;
     said = λ left. refl;
     body = λ behind ends. bound (prices_at t (texts (price_lines t prices) ++ behind)) (prices, behind) _ (priced_body prices behind is ends);
   }
@@ -214,7 +217,7 @@ module _ (t : Tables) where
     no_rent = refl;
     no_step = refl;
     no_weight = refl;
-    first = head.Trim leg fleet;
+    first = head.Alone (alone.Trim leg fleet);
     said = λ left. bound (pair_at t (trim_line t leg fleet) left) (leg, fleet) _ (pair_read t leg fleet (trim_line t leg fleet) left is refl refl);
     body = λ behind ends. refl;
   }
@@ -227,7 +230,7 @@ module _ (t : Tables) where
     no_rent = refl;
     no_step = refl;
     no_weight = refl;
-    first = head.Split leg fleet;
+    first = head.Mixed (fraction.Split leg fleet);
     said = λ left. bound (pair_at t (split_line t leg fleet) left) (leg, fleet) _ (pair_read t leg fleet (split_line t leg fleet) left is.0 refl refl);
     body = λ behind ends.
         bound (prices_at t (texts (price_lines t prices ++ mixed_lines t mixed) ++ behind)) (prices, texts (mixed_lines t mixed) ++ behind) _ (prices_then prices mixed behind is.1)

@@ -8,6 +8,8 @@ use Rattle.bound_cert.specs.WrittenOrder.{InWrittenOrder, IsShallow}
 use Rattle.bound_cert.specs.declared.faults.CertError.{CertError}
 use Rattle.bound_cert.specs.declared.faults.CertError.TheVariants as cert
 use Rattle.bound_cert.specs.declared.faults.CertFault.{CertFault}
+use Rattle.bound_cert.specs.declared.faults.Stop.{Stop}
+use Rattle.bound_cert.specs.declared.faults.Stop.TheVariants as stop
 use Rattle.bound_cert.specs.declared.reading.Proof.{Proof}
 use Rattle.bound_cert.specs.declared.trees.Tree.{Tree}
 
@@ -17,14 +19,28 @@ pub record IsFirstFault (t : Tables) (all : Left) (fault : CertFault) : Type 0 w
   pub stops : proof_at t all ≡ Err (record { left = left; kind = fault.kind })
   pub line : fault.line ≡ length all - left + 1
 
+-- the error is the first fault of lines, unless memory ran out
+abbrev pub FaultIn : Tables → Left → CertError → Type 0
+FaultIn t all (cert.Fault fault) = IsFirstFault t all fault
+FaultIn t all cert.NoMemory = ⊤
+
 -- the error is the first fault of the text, unless memory ran out
 abbrev pub FaultOf : Tables → List ℕ → CertError → Type 0
-FaultOf t text (cert.Fault fault) = IsFirstFault t (left_of text) fault
-FaultOf t text cert.NoMemory = ⊤
+FaultOf t text = FaultIn t (left_of text)
+
+-- the lines read as this proof
+abbrev pub LinesRead : Tables → Left → Proof → Type 0
+LinesRead t all proof = proof_at t all ≡ Ok (proof.planned, nodes_of proof.tree)
 
 -- the text reads as this proof
 abbrev pub ReadsAs : Tables → List ℕ → Proof → Type 0
-ReadsAs t text proof = proof_at t (left_of text) ≡ Ok (proof.planned, nodes_of proof.tree)
+ReadsAs t text = LinesRead t (left_of text)
+
+-- what was read of so many lines, with the number of the line at which it stopped
+abbrev pub answer_of : ℕ → Result Proof Stop → Result Proof CertError
+answer_of lines (Ok proof) = Ok proof
+answer_of lines (Err stop.NoMemory) = Err cert.NoMemory
+answer_of lines (Err (stop.Fault left kind)) = Err (cert.Fault (record { line = lines - left + 1; kind = kind }))
 
 -- the text is that of a proof whose tree is in written order and no deeper than a reader takes
 pub record IsTextOf (t : Tables) (text : List ℕ) (planned : Bool) (tree : Tree) : Type 0 where

@@ -10,10 +10,16 @@ use Rattle.bound_cert.specs.Lines.{Left, Reading, ◌>>=◌, first_words, line_d
 use Rattle.bound_cert.specs.declared.faults.TheConstants.{MAX_DEPTH, TOO_DEEP, UNKNOWN_NAME, WRONG_NUMBER, WRONG_ORDER}
 use Rattle.bound_cert.specs.declared.mixed.Mixed.{Mixed}
 use Rattle.bound_cert.specs.declared.mixed.Weight.{Weight}
+use Rattle.bound_cert.specs.declared.nodes.Alone.{Alone}
+use Rattle.bound_cert.specs.declared.nodes.Alone.TheVariants as alone
+use Rattle.bound_cert.specs.declared.nodes.Fraction.{Fraction}
+use Rattle.bound_cert.specs.declared.nodes.Fraction.TheVariants as fraction
 use Rattle.bound_cert.specs.declared.nodes.Head.{Head}
 use Rattle.bound_cert.specs.declared.nodes.Head.TheVariants as head
 use Rattle.bound_cert.specs.declared.nodes.Node.{Node}
 use Rattle.bound_cert.specs.declared.nodes.Node.TheVariants as node
+use Rattle.bound_cert.specs.declared.nodes.Priced.{Priced}
+use Rattle.bound_cert.specs.declared.nodes.Priced.TheVariants as priced
 use Rattle.bound_cert.specs.declared.prices.Prices.{Prices}
 use Rattle.bound_cert.specs.declared.prices.PriceStep.{PriceStep}
 use Rattle.bound_cert.specs.declared.reading_lines.Due.{Due}
@@ -192,32 +198,32 @@ grew_by words left = do
   pivots ← count_at words 2 left
   row ← count_at words 3 left
   column ← count_at words 4 left
-  Ok (head.Grew pivots row column)
+  Ok (head.Priced (priced.Grew pivots row column))
 
 unfoldable pub lift_by : List (List ℕ) → Left → Reading Head
 lift_by words left = do
   step ← count_at words 2 left
   at ← count_at words 3 left
-  Ok (head.Lift step at)
+  Ok (head.Priced (priced.Lift step at))
 
 -- the line of an open leaf, by its cause
 unfoldable pub open_head : List (List ℕ) → Left → Reading Head
 open_head words left =
-    if stands words 1 (codes "nodes") then Ok head.Nodes
-    else if stands words 1 (codes "pivots") then (count_at words 2 left >>= λ made. Ok (head.Pivots made))
+    if stands words 1 (codes "nodes") then Ok (head.Mixed fraction.Nodes)
+    else if stands words 1 (codes "pivots") then (count_at words 2 left >>= λ made. Ok (head.Priced (priced.Pivots made)))
     else if stands words 1 (codes "grew") then grew_by words left
     else lift_by words left
 
 -- the first line of a node, by its words
 unfoldable pub head_of : Tables → List (List ℕ) → Left → Reading Head
 head_of t words left =
-    if stands words 0 (codes "bare") then (present (leg_named t (word_at words 1)) left UNKNOWN_NAME >>= λ leg. Ok (head.Bare leg))
-    else if stands words 0 (codes "sole") then Ok head.Sole
-    else if stands words 0 (codes "refuted") then Ok head.Refuted
-    else if stands words 0 (codes "priced") then Ok head.Priced
+    if stands words 0 (codes "bare") then (present (leg_named t (word_at words 1)) left UNKNOWN_NAME >>= λ leg. Ok (head.Alone (alone.Bare leg)))
+    else if stands words 0 (codes "sole") then Ok (head.Alone alone.Sole)
+    else if stands words 0 (codes "refuted") then Ok (head.Priced priced.Refuted)
+    else if stands words 0 (codes "priced") then Ok (head.Priced priced.Closed)
     else if stands words 0 (codes "open") then open_head words left
-    else if stands words 0 (codes "trim") then (pair_at t words left >>= λ pair. Ok (head.Trim pair.0 pair.1))
-    else (pair_at t words left >>= λ pair. Ok (head.Split pair.0 pair.1))
+    else if stands words 0 (codes "trim") then (pair_at t words left >>= λ pair. Ok (head.Alone (alone.Trim pair.0 pair.1)))
+    else (pair_at t words left >>= λ pair. Ok (head.Mixed (fraction.Split pair.0 pair.1)))
 
 -- a node goes on where no more trims and splits stand above it than may
 abbrev pub deep_at : ℕ → Head → Left → Reading Head
@@ -230,18 +236,30 @@ head_at t above left = do
   head ← head_of t words left
   deep_at above head left
 
+-- a node by its one line
+abbrev pub alone_node : Alone → Node
+alone_node (alone.Bare leg) = node.Bare leg
+alone_node alone.Sole = node.Sole
+alone_node (alone.Trim leg fleet) = node.Trim leg fleet
+
+-- a leaf by its first line and its prices
+abbrev pub priced_node : Priced → Prices → Node
+priced_node priced.Refuted prices = node.Refuted prices
+priced_node priced.Closed prices = node.Priced prices
+priced_node (priced.Pivots made) prices = node.Open prices (cause.Pivots made)
+priced_node (priced.Grew pivots row column) prices = node.Open prices (cause.Grew pivots row column)
+priced_node (priced.Lift step at) prices = node.Open prices (cause.Lift step at)
+
+-- a node by its first line, its prices and its fractional assignment
+abbrev pub mixed_node : Fraction → Prices → Mixed → Node
+mixed_node fraction.Nodes prices mixed = node.Open prices (cause.Nodes mixed)
+mixed_node (fraction.Split leg fleet) prices mixed = node.Split leg fleet prices mixed
+
 -- a node, from what its first line says and the lines behind it
 unfoldable pub body_at : Tables → Head → Left → Reading (Node × Left)
-body_at t (head.Bare leg) rest = Ok (node.Bare leg, rest)
-body_at t head.Sole rest = Ok (node.Sole, rest)
-body_at t head.Refuted rest = prices_at t rest >>= λ prices. Ok (node.Refuted prices.0, prices.1)
-body_at t head.Priced rest = prices_at t rest >>= λ prices. Ok (node.Priced prices.0, prices.1)
-body_at t head.Nodes rest = prices_at t rest >>= λ prices. mixed_at t prices.1 >>= λ mixed. Ok (node.Open prices.0 (cause.Nodes mixed.0), mixed.1)
-body_at t (head.Pivots made) rest = prices_at t rest >>= λ prices. Ok (node.Open prices.0 (cause.Pivots made), prices.1)
-body_at t (head.Grew pivots row column) rest = prices_at t rest >>= λ prices. Ok (node.Open prices.0 (cause.Grew pivots row column), prices.1)
-body_at t (head.Lift step at) rest = prices_at t rest >>= λ prices. Ok (node.Open prices.0 (cause.Lift step at), prices.1)
-body_at t (head.Trim leg fleet) rest = Ok (node.Trim leg fleet, rest)
-body_at t (head.Split leg fleet) rest = prices_at t rest >>= λ prices. mixed_at t prices.1 >>= λ mixed. Ok (node.Split leg fleet prices.0 mixed.0, mixed.1)
+body_at t (head.Alone said) rest = Ok (alone_node said, rest)
+body_at t (head.Priced said) rest = prices_at t rest >>= λ prices. Ok (priced_node said prices.0, prices.1)
+body_at t (head.Mixed said) rest = prices_at t rest >>= λ prices. mixed_at t prices.1 >>= λ mixed. Ok (mixed_node said prices.0 mixed.0, mixed.1)
 
 -- the next node, below so many trims and splits, and what is left behind it
 unfoldable pub node_at : Tables → ℕ → Left → Reading (Node × Left)

@@ -1,7 +1,7 @@
 //! The names of tables, found by their bytes.
 ghost use Rattle.std.specs.Prelude.{◌≡◌, ◌<◌, IfOk, IfSome};
 ghost use Rattle.fleet_model.specs.Schedule.{fleets_in, legs_in, stations_in};
-ghost use Rattle.bound_cert.specs.Known.{IsKnownOf, fleet_named, leg_named, station_named};
+ghost use Rattle.bound_cert.specs.Known.{IsKnownOf, codes_of, fleet_named, fleet_names, flights_of, leg_named, station_named};
 
 use entries::NoMemory;
 use fleet_model::Tables;
@@ -24,10 +24,13 @@ impl Known {
     pub fn of(alloc: Global, tables: &Tables) -> Result<Known, NoMemory>
         ensures { IfOk result (IsKnownOf tables.now) }
     {
+        let legs = flights(alloc, tables)?;
+        let fleets = fleets(alloc, tables)?;
+        let stations = stations(alloc, tables)?;
         Ok(Known {
-            legs: numbers_of(alloc, tables.legs.as_slice())?,
-            fleets: numbers_of(alloc, tables.fleets.as_slice())?,
-            stations: numbers_of(alloc, tables.stations.as_slice())?,
+            legs,
+            fleets,
+            stations,
         })
     }
 
@@ -60,4 +63,25 @@ impl Known {
         let number = self.stations.number(code)?;
         Some(number as u32)
     }
+}
+
+/// The flights of the legs.
+fn flights(alloc: Global, tables: &Tables) -> Result<Names, NoMemory>
+    ensures { IfOk result (λ names. names ≡ flights_of tables.now) }
+{
+    numbers_of(alloc, tables.legs.as_slice())
+}
+
+/// The names of the fleets.
+fn fleets(alloc: Global, tables: &Tables) -> Result<Names, NoMemory>
+    ensures { IfOk result (λ names. names ≡ fleet_names tables.now) }
+{
+    numbers_of(alloc, tables.fleets.as_slice())
+}
+
+/// The codes of the stations.
+fn stations(alloc: Global, tables: &Tables) -> Result<Names, NoMemory>
+    ensures { IfOk result (λ names. names ≡ codes_of tables.now) }
+{
+    numbers_of(alloc, tables.stations.as_slice())
 }

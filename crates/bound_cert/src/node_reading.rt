@@ -2,14 +2,16 @@
 ghost use Rattle.std.specs.Prelude.{◌≡◌, drop};
 ghost use Rattle.bound_cert.specs.Known.{IsKnownOf};
 ghost use Rattle.bound_cert.specs.Lines.{Gives, seen};
-ghost use Rattle.bound_cert.specs.Reading.{body_at, deep_at, grew_by, head_at, head_of, lift_by, node_at, open_head};
+ghost use Rattle.bound_cert.specs.Reading.{alone_node, body_at, deep_at, grew_by, head_at, head_of, lift_by, mixed_node, node_at, open_head, priced_node};
 ghost use Rattle.bound_cert.specs.declared.nodes.Head.{Head};
 
 use crate::faults::{MAX_DEPTH, Stop, TOO_DEEP, UNKNOWN_NAME};
 use crate::known::Known;
 use crate::line_reading::pair_at;
-use crate::nodes::{Head, Node};
+use crate::mixed::Mixed;
+use crate::nodes::{Alone, Fraction, Head, Node, Priced};
 use crate::price_reading::{behind, mixed_at, prices_at};
+use crate::prices::Prices;
 use crate::reading_lines::{Due, line_due, stands, stopped};
 use crate::reading_words::{count_at, leg_at};
 use crate::trees::Cause;
@@ -74,21 +76,21 @@ fn head_of(
 {
     if stands(words, 0, b"bare") {
         let leg = leg_at(tables, known, words, 1, left)?;
-        Ok(Head::Bare { leg })
+        Ok(Head::Alone(Alone::Bare { leg }))
     } else if stands(words, 0, b"sole") {
-        Ok(Head::Sole)
+        Ok(Head::Alone(Alone::Sole))
     } else if stands(words, 0, b"refuted") {
-        Ok(Head::Refuted)
+        Ok(Head::Priced(Priced::Refuted))
     } else if stands(words, 0, b"priced") {
-        Ok(Head::Priced)
+        Ok(Head::Priced(Priced::Closed))
     } else if stands(words, 0, b"open") {
         Ok(open_head(alloc, words, left)?)
     } else if stands(words, 0, b"trim") {
         let (leg, fleet) = pair_at(tables, known, words, left)?;
-        Ok(Head::Trim { leg, fleet })
+        Ok(Head::Alone(Alone::Trim { leg, fleet }))
     } else {
         let (leg, fleet) = pair_at(tables, known, words, left)?;
-        Ok(Head::Split { leg, fleet })
+        Ok(Head::Mixed(Fraction::Split { leg, fleet }))
     }
 }
 
@@ -98,10 +100,10 @@ fn open_head(alloc: Global, words: &[&[u8]], left: &[&[u8]]) -> Result<Head, Sto
     ensures { Gives (λ head. head) result (open_head (seen words.now) (seen left.now)) }
 {
     if stands(words, 1, b"nodes") {
-        Ok(Head::Nodes)
+        Ok(Head::Mixed(Fraction::Nodes))
     } else if stands(words, 1, b"pivots") {
         let made = count_at(alloc, words, 2, left)?;
-        Ok(Head::Pivots { made })
+        Ok(Head::Priced(Priced::Pivots { made }))
     } else if stands(words, 1, b"grew") {
         Ok(grew_by(alloc, words, left)?)
     } else {
@@ -117,11 +119,11 @@ fn grew_by(alloc: Global, words: &[&[u8]], left: &[&[u8]]) -> Result<Head, Stop>
     let pivots = count_at(alloc, words, 2, left)?;
     let row = count_at(alloc, words, 3, left)?;
     let column = count_at(alloc, words, 4, left)?;
-    Ok(Head::Grew {
+    Ok(Head::Priced(Priced::Grew {
         pivots,
         row,
         column,
-    })
+    }))
 }
 
 /// The numbers of `open lift`.
@@ -131,7 +133,7 @@ fn lift_by(alloc: Global, words: &[&[u8]], left: &[&[u8]]) -> Result<Head, Stop>
 {
     let step = count_at(alloc, words, 2, left)?;
     let at = count_at(alloc, words, 3, left)?;
-    Ok(Head::Lift { step, at })
+    Ok(Head::Priced(Priced::Lift { step, at }))
 }
 
 /// A node, from what its first line says and the lines behind it.
@@ -147,53 +149,65 @@ fn body_at<'a, 'b>(
     ensures { Gives (λ r. (r.0, seen r.1.now)) result (body_at tables.now head (seen rest.now)) }
 {
     match head {
-        Head::Bare { leg } => Ok((Node::Bare { leg }, rest)),
-        Head::Sole => Ok((Node::Sole, rest)),
-        Head::Refuted => {
+        Head::Alone(alone) => Ok((alone_node(alone), rest)),
+        Head::Priced(priced) => {
             let (prices, rest) = prices_at(alloc, tables, known, rest)?;
-            Ok((Node::Refuted(prices), rest))
+            Ok((priced_node(priced, prices), rest))
         }
-        Head::Priced => {
-            let (prices, rest) = prices_at(alloc, tables, known, rest)?;
-            Ok((Node::Priced(prices), rest))
-        }
-        Head::Nodes => {
+        Head::Mixed(fraction) => {
             let (prices, rest) = prices_at(alloc, tables, known, rest)?;
             let (mixed, rest) = mixed_at(alloc, tables, known, rest)?;
-            Ok((Node::Open(prices, Cause::Nodes(mixed)), rest))
+            Ok((mixed_node(fraction, prices, mixed), rest))
         }
-        Head::Pivots { made } => {
-            let (prices, rest) = prices_at(alloc, tables, known, rest)?;
-            Ok((Node::Open(prices, Cause::Pivots { made }), rest))
-        }
-        Head::Grew {
+    }
+}
+
+/// A node by its one line.
+fn alone_node(alone: Alone) -> Node
+    ensures { result ≡ alone_node alone }
+{
+    match alone {
+        Alone::Bare { leg } => Node::Bare { leg },
+        Alone::Sole => Node::Sole,
+        Alone::Trim { leg, fleet } => Node::Trim { leg, fleet },
+    }
+}
+
+/// A leaf by its first line and its prices.
+fn priced_node(priced: Priced, prices: Prices) -> Node
+    ensures { result ≡ priced_node priced prices }
+{
+    match priced {
+        Priced::Refuted => Node::Refuted(prices),
+        Priced::Closed => Node::Priced(prices),
+        Priced::Pivots { made } => Node::Open(prices, Cause::Pivots { made }),
+        Priced::Grew {
             pivots,
             row,
             column,
         } => {
-            let (prices, rest) = prices_at(alloc, tables, known, rest)?;
             let cause = Cause::Grew {
                 pivots,
                 row,
                 column,
             };
-            Ok((Node::Open(prices, cause), rest))
+            Node::Open(prices, cause)
         }
-        Head::Lift { step, at } => {
-            let (prices, rest) = prices_at(alloc, tables, known, rest)?;
-            Ok((Node::Open(prices, Cause::Lift { step, at }), rest))
-        }
-        Head::Trim { leg, fleet } => Ok((Node::Trim { leg, fleet }, rest)),
-        Head::Split { leg, fleet } => {
-            let (prices, rest) = prices_at(alloc, tables, known, rest)?;
-            let (mixed, rest) = mixed_at(alloc, tables, known, rest)?;
-            let node = Node::Split {
-                leg,
-                fleet,
-                prices,
-                mixed,
-            };
-            Ok((node, rest))
-        }
+        Priced::Lift { step, at } => Node::Open(prices, Cause::Lift { step, at }),
+    }
+}
+
+/// A node by its first line, its prices and its fractional assignment.
+fn mixed_node(fraction: Fraction, prices: Prices, mixed: Mixed) -> Node
+    ensures { result ≡ mixed_node fraction prices mixed }
+{
+    match fraction {
+        Fraction::Nodes => Node::Open(prices, Cause::Nodes(mixed)),
+        Fraction::Split { leg, fleet } => Node::Split {
+            leg,
+            fleet,
+            prices,
+            mixed,
+        },
     }
 }

@@ -2,28 +2,49 @@ use crate::mixed::Mixed;
 use crate::prices::Prices;
 use crate::trees::{Cause, Tree};
 
-/// What the first line of a node says.
+/// What the first line of a node says, by what follows it.
 #[derive(Clone, Copy)]
 pub enum Head {
+    /// Nothing of the node follows.
+    Alone(Alone),
+    /// Prices follow.
+    Priced(Priced),
+    /// Prices and a fractional assignment follow.
+    Mixed(Fraction),
+}
+
+/// The first line of a node that has no other.
+#[derive(Clone, Copy)]
+pub enum Alone {
     /// `bare`, of this leg.
     Bare { leg: u32 },
     /// `sole`.
     Sole,
-    /// `refuted`; prices follow.
-    Refuted,
-    /// `priced`; prices follow.
-    Priced,
-    /// `open nodes`; prices and a fractional assignment follow.
-    Nodes,
-    /// `open pivots`; prices follow.
-    Pivots { made: u64 },
-    /// `open grew`; prices follow.
-    Grew { pivots: u64, row: u64, column: u64 },
-    /// `open lift`; prices follow.
-    Lift { step: u64, at: u64 },
     /// `trim`, of this pair.
     Trim { leg: u32, fleet: u32 },
-    /// `split`, of this pair; prices and a fractional assignment follow.
+}
+
+/// The first line of a leaf of which prices follow.
+#[derive(Clone, Copy)]
+pub enum Priced {
+    /// `refuted`.
+    Refuted,
+    /// `priced`.
+    Closed,
+    /// `open pivots`.
+    Pivots { made: u64 },
+    /// `open grew`.
+    Grew { pivots: u64, row: u64, column: u64 },
+    /// `open lift`.
+    Lift { step: u64, at: u64 },
+}
+
+/// The first line of a node of which prices and a fractional assignment follow.
+#[derive(Clone, Copy)]
+pub enum Fraction {
+    /// `open nodes`.
+    Nodes,
+    /// `split`, of this pair.
     Split { leg: u32, fleet: u32 },
 }
 

@@ -1,10 +1,10 @@
 //! The text of a proof, read.
-ghost use Rattle.std.specs.Prelude.{◌≡◌, Bool, drop, IfOk, MatchResult};
+ghost use Rattle.std.specs.Prelude.{◌≡◌, Bool, drop, length, IfOk, MatchResult};
 ghost use Rattle.bound_cert.specs.Known.{IsKnownOf};
 ghost use Rattle.bound_cert.specs.Lines.{Gives, left_of, seen};
 ghost use Rattle.bound_cert.specs.Nodes.{end_at, head_is, nodes_of, nothing, plan_at, proof_at, rest_at, tree_at};
 ghost use Rattle.bound_cert.specs.OfTables.{IsOfTables};
-ghost use Rattle.bound_cert.specs.ReadProof.{FaultOf, AnswersProof, IsTextOf, ReadsAs};
+ghost use Rattle.bound_cert.specs.ReadProof.{AnswersProof, FaultIn, FaultOf, IsTextOf, LinesRead, ReadsAs, answer_of};
 ghost use Rattle.bound_cert.specs.declared.trees.Tree.{Tree};
 
 use crate::faults::{BAD_LINE, CertError, CertFault, Stop, WRONG_HEAD, WRONG_WORD};
@@ -42,8 +42,22 @@ fn read(alloc: Global, tables: &Tables, bytes: &[u8]) -> Result<Proof, CertError
     ensures { MatchResult result (ReadsAs tables.now bytes.now) (FaultOf tables.now bytes.now) }
 {
     let lines = left_of(alloc, bytes)?;
+    of_lines(alloc, tables, lines.as_slice())
+}
+
+/// The proof that the lines of a text say, else their first fault.
+fn of_lines(alloc: Global, tables: &Tables, lines: &[&[u8]]) -> Result<Proof, CertError>
+    ensures { MatchResult result (LinesRead tables.now (seen lines.now)) (FaultIn tables.now (seen lines.now)) }
+{
     let known = Known::of(alloc, tables)?;
-    match proof_at(alloc, tables, &known, lines.as_slice()) {
+    answer(lines, proof_at(alloc, tables, &known, lines))
+}
+
+/// What was read of a text's lines, with the number of the line at which it stopped.
+fn answer(lines: &[&[u8]], read: Result<Proof, Stop>) -> Result<Proof, CertError>
+    ensures { result ≡ answer_of (length lines.now) read }
+{
+    match read {
         Ok(proof) => Ok(proof),
         Err(Stop::NoMemory) => Err(CertError::NoMemory),
         Err(Stop::Fault { left, kind }) => {

@@ -20,7 +20,8 @@ use Rattle.presolve.specs.Removals.{IsRefuted}
 use Rattle.presolve.specs.declared.trims.Trim.{Trim as Trimmed}
 use Rattle.branch_bound.specs.Examined.{IsOneSplitMore, IsSplit}
 use Rattle.branch_bound.specs.Found.{AnswersSole, IsFoundAt}
-use Rattle.branch_bound.specs.Search.{Follows, IsBranch, IsFoundIn, IsFoundOrOld, IsNoMore, IsSearch, best_cost}
+use Rattle.branch_bound.specs.Search.{Follows, IsBranch, IsFoundIn, IsFoundOrOld, IsNoMore, IsSearch, best_cost, cost_of}
+use Rattle.branch_bound.specs.Walks.{IsBelowBest, IsWalk}
 use Rattle.branch_bound.specs.declared.search.Plan.{Plan}
 use Rattle.branch_bound.specs.declared.search.Search.{Search}
 use Rattle.branch_bound.proofs.Leaves.{answers_none, refuted_sound, split_sound, trim_sound}
@@ -44,7 +45,7 @@ found_both t before between after one first second old (inr found) =
 
 -- a split, of its two parts
 module _ (t : Tables) (before begun between after : Search) (keeps : Domains) (above : Prices) (leg fleet : ℕ) (prices : Prices) (mixed : Mixed) (yes no : Box Tree Global)
-    (is : IsSplit t keeps leg fleet prices mixed) (more : IsOneSplitMore t before begun)
+    (is : IsSplit t keeps leg fleet prices mixed) (below : IsBelowBest t keeps prices (best_cost before)) (more : IsOneSplitMore t before begun)
     (with_pair : IsBranch t begun between (part keeps leg fleet true) prices yes.value) (without : IsBranch t between after (part keeps leg fleet false) prices no.value)
     (first : Follows begun between) (second : Follows between after) (search : IsSearch t after) where
   in_the_end : (final : Option ℤ) → IsNoMore (best_cost after) final → IsNoMore (best_cost between) final
@@ -64,6 +65,7 @@ module _ (t : Tables) (before begun between after : Search) (keeps : Domains) (a
     );
     counted = omega (arith, more.splits, with_pair.counted, without.counted);
     all_spent = λ some. spent some;
+    walk = (below, (best_cost between, subst (λ b. IsWalk t (part keeps leg fleet true) (cost_of b) yes.value (best_cost between)) more.best with_pair.walk, without.walk));
     found = subst (λ old. (after.best ≡ old) ⊎ IsFoundIn t (nodes_in keeps (Split leg fleet prices mixed yes no)) after.best) more.best (found_both t begun between after (node keeps (Split leg fleet prices mixed yes no)) _ _ with_pair.found without.found);
   }
     where
@@ -98,6 +100,7 @@ module _ (t : Tables) (before after : Search) (keeps : Domains) (above : Prices)
     counted = omega (arith, ap splits_in is, without.counted);
     all_spent = λ some. without.all_spent (omega (arith, some, ap open_nodes is));
     found = found_after without.found;
+    walk = without.walk;
   }
     where
       found_after : IsFoundOrOld t before after (nodes_in (part keeps trim.leg trim.fleet false) no.value) → IsFoundOrOld t before after (nodes_in keeps whole)
@@ -109,9 +112,9 @@ module _ (t : Tables) (before after : Search) (keeps : Domains) (above : Prices)
   pub leaf_branch : nodes_in keeps leaf ≡ node keeps leaf ∷ [] → depth_of leaf ≡ 0 → splits_in leaf ≡ 0 → after.splits ≡ before.splits → IsOfTables t leaf → InWrittenOrder t leaf
       → ((final : Option ℤ) → IsNoMore (best_cost after) final → IsSound t final (node keeps leaf))
       → ((final : Option ℤ) → IsNoMore (best_cost after) final → AnswersSole t final (node keeps leaf))
-      → AreCaused t before.pivots keeps above leaf → (0 < open_nodes leaf → after.splits ≡ after.nodes) → IsFoundOrOld t before after (node keeps leaf ∷ [])
+      → AreCaused t before.pivots keeps above leaf → (0 < open_nodes leaf → after.splits ≡ after.nodes) → IsFoundOrOld t before after (node keeps leaf ∷ []) → IsWalk t keeps (best_cost before) leaf (best_cost after)
       → IsBranch t before after keeps above leaf
-  leaf_branch one flat none same known in_order sound answers caused spent found = record {
+  leaf_branch one flat none same known in_order sound answers caused spent found walk = record {
     of_tables = known;
     in_order = in_order;
     shallow = omega (arith, flat);
@@ -121,4 +124,5 @@ module _ (t : Tables) (before after : Search) (keeps : Domains) (above : Prices)
     counted = omega (arith, none, same);
     all_spent = spent;
     found = rw one found;
+    walk = walk;
   }

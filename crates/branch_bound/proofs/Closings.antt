@@ -1,8 +1,8 @@
 -- A tree whose open leaves are closed by their prices where these reach the cost of the plan.
-use Rattle.std.proofs.Common.{◌≡◌, ◌≢◌, ℕ, ◌≤◌, Bool, true, false, if◌then◌else◌, List, [], All, Some, IfSome, ℤ, inl, inr, refl, subst, arith}
+use Rattle.std.proofs.Common.{◌≡◌, ◌≢◌, ℕ, ◌≤◌, Bool, true, false, if◌then◌else◌, List, [], ◌∷◌, All, Some, IfSome, ℤ, inl, inr, refl, ap, subst, arith}
 use Rattle.std.specs.List.{Any}
 use Rattle.std.proofs.lemmas.List.Elements.{All-head, All-tail}
-use Rattle.fleet_model.specs.Kept.{Domains}
+use Rattle.fleet_model.specs.Kept.{Domains, all_pairs}
 use Rattle.fleet_model.specs.declared.tables.Tables.{Tables}
 use Rattle.bound_cert.specs.Bound.{part}
 use Rattle.bound_cert.specs.Leaves.{by_nodes, depth_of, open_nodes, splits_in}
@@ -25,6 +25,8 @@ use Rattle.cert_check.proofs.NodeRules.{prices_known}
 use Rattle.branch_bound.specs.Causes.{AreCaused}
 use Rattle.branch_bound.specs.Closing.{closed, does_reach}
 use Rattle.branch_bound.specs.Found.{AnswersSole, FallsShort, IsFoundAt, LeavesGap}
+use Rattle.branch_bound.specs.Trims.{AreOnTop, AreSearched, IsTrimmed}
+use Rattle.presolve.specs.declared.trims.Trim.{Trim as Removal}
 use Rattle.branch_bound.proofs.Leaves.{answers_none, priced_sound}
 use Rattle.branch_bound.proofs.Nodes.{all_more, all_one, any_after, any_first, any_second, by_place, first_all, node, only, second_all}
 use Rattle.branch_bound.proofs.Orders.{does_reach_is, falls_short_is}
@@ -99,6 +101,30 @@ module _ (t : Tables) (cost : ℤ) where
       omega (arith, closed_open (part keeps leg fleet true) with_pair, closed_open (part keeps leg fleet false) without)
   closed_open keeps (tree.Split' leg fleet prices mixed p with_pair q without) =
       omega (arith, closed_open (part keeps leg fleet true) with_pair, closed_open (part keeps leg fleet false) without)
+
+  pub closed_searched : (keeps : Domains) (whole : Tree) → AreSearched t keeps whole → AreSearched t keeps (closed t cost keeps whole)
+  closed_searched keeps (tree.Bare leg) is = is
+  closed_searched keeps tree.Sole is = is
+  closed_searched keeps (tree.Refuted prices) is = is
+  closed_searched keeps (tree.Priced prices) is = is
+  closed_searched keeps (tree.Open prices why) is = by_reach (AreSearched t keeps) keeps prices why (λ e. is) (λ e. is)
+  closed_searched keeps (tree.Trim' leg fleet p with_pair q without) is = absurd is
+  closed_searched keeps (tree.Split' leg fleet prices mixed p with_pair q without) is =
+      (is.0, closed_searched (part keeps leg fleet true) with_pair is.1, closed_searched (part keeps leg fleet false) without is.2)
+
+  closed_top : (keeps : Domains) (removals : List Removal) (whole : Tree) → AreOnTop t keeps removals whole → AreOnTop t keeps removals (closed t cost keeps whole)
+  closed_top keeps [] whole is = closed_searched keeps whole is
+  closed_top keeps (removal ∷ removals) (tree.Trim' leg fleet p with_pair q without) is =
+      (is.0, is.1, ap (closed t cost (part keeps leg fleet true)) is.2, closed_top (part keeps leg fleet false) removals without is.3)
+  closed_top keeps (removal ∷ removals) (tree.Bare leg) is = absurd is
+  closed_top keeps (removal ∷ removals) tree.Sole is = absurd is
+  closed_top keeps (removal ∷ removals) (tree.Refuted prices) is = absurd is
+  closed_top keeps (removal ∷ removals) (tree.Priced prices) is = absurd is
+  closed_top keeps (removal ∷ removals) (tree.Open prices why) is = absurd is
+  closed_top keeps (removal ∷ removals) (tree.Split' leg fleet prices mixed p with_pair q without) is = absurd is
+
+  pub closed_trimmed : (whole : Tree) → IsTrimmed t whole → IsTrimmed t (closed t cost (all_pairs t) whole)
+  closed_trimmed whole is = record { removals = is.removals; given = is.given; on_top = closed_top (all_pairs t) is.removals whole is.on_top }
 
   pub closed_caused : (pivots : ℕ) (keeps : Domains) (above : Prices) (whole : Tree) → AreCaused t pivots keeps above whole → AreCaused t pivots keeps above (closed t cost keeps whole)
   closed_caused pivots keeps above (tree.Bare leg) is = is

@@ -18,7 +18,7 @@ use Rattle.bound_cert.specs.OfTables.{IsCauseOf}
 use Rattle.bound_cert.specs.WrittenOrder.{IsCauseInOrder, IsNodeInOrder}
 use Rattle.bound_cert.specs.declared.nodes.Node.TheVariants as ordered
 use Rattle.cert_check.specs.Nodes.{mixed_of}
-use Rattle.cert_check.specs.Rules.{HaveAllPairs, Reaches}
+use Rattle.cert_check.specs.Rules.{Reaches}
 use Rattle.branch_bound.specs.Causes.{IsOpenBy}
 use Rattle.branch_bound.specs.Examined.{IsExamined, IsLeafAt, IsOneSplitMore, IsWholeOffered}
 use Rattle.branch_bound.specs.Found.{IsFoundAt}
@@ -27,6 +27,8 @@ use Rattle.branch_bound.specs.Relaxed.{AreBest, AreGood, AreRefuting, IsRelaxed,
 use Rattle.branch_bound.specs.Runs.{IsSearched}
 use Rattle.branch_bound.specs.Search.{Follows, IsBranch, IsFoundIn, IsFoundOrOld, IsNoMore, IsSearch, best_cost}
 use Rattle.branch_bound.specs.Wholes.{FliesParts}
+use Rattle.branch_bound.specs.Trims.{AreSearched}
+use Rattle.branch_bound.specs.Walks.{CouldBeSplit, IsBelowBest}
 use Rattle.branch_bound.specs.declared.examining.Examined.{Examined}
 use Rattle.branch_bound.specs.declared.relaxing.Relaxed.{Relaxed}
 use Rattle.branch_bound.specs.declared.search.Plan.{Plan}
@@ -49,46 +51,46 @@ taken_there t keeps leaf a (Some plan) kept found taken =
 
 -- the search stands as it stood
 module _ (t : Tables) (s : Search) (search : IsSearch t s) (keeps : Domains) (above : Prices) where
-  leaf_at : (leaf : Tree) → IsBranch t s s keeps above leaf → IsLeafAt t s s keeps above leaf
-  leaf_at leaf branch = record { search = search; follows = follows_itself s; branch = branch }
+  leaf_at : (leaf : Tree) → AreSearched t keeps leaf → IsBranch t s s keeps above leaf → IsLeafAt t s s keeps above leaf
+  leaf_at leaf searched branch = record { search = search; follows = follows_itself s; branch = branch; searched = searched }
 
   pub bare_leaf : (leg : ℕ) → IsFirstBare t keeps leg → IsLeafAt t s s keeps above (tree.Bare leg)
-  bare_leaf leg first = leaf_at (tree.Bare leg)
+  bare_leaf leg first = leaf_at (tree.Bare leg) tt
       (leaf_branch t s s keeps above (tree.Bare leg) refl refl refl refl first.bare.within (all_one (IsNodeInOrder t) (ordered.Bare leg) first.bare.within)
-      (λ final less. bare_sound t final keeps leg first.bare) (λ final less. answers_none t final keeps (tree.Bare leg) (λ e. cc)) first (λ some. absurd (omega (arith, some))) (inl refl))
+      (λ final less. bare_sound t final keeps leg first.bare) (λ final less. answers_none t final keeps (tree.Bare leg) (λ e. cc)) first (λ some. absurd (omega (arith, some))) (inl refl) refl)
 
-  pub refuted_leaf : (prices : Prices) → HaveAllPairs t keeps → AreRefuting t keeps prices → IsLeafAt t s s keeps above (tree.Refuted prices)
-  refuted_leaf prices pairs refuting = leaf_at (tree.Refuted prices)
+  pub refuted_leaf : (prices : Prices) → IsSearched t keeps → AreRefuting t keeps prices → IsLeafAt t s s keeps above (tree.Refuted prices)
+  refuted_leaf prices searched refuting = leaf_at (tree.Refuted prices) searched
       (leaf_branch t s s keeps above (tree.Refuted prices) refl refl refl refl refuting.good.known (all_one (IsNodeInOrder t) (ordered.Refuted prices) refuting.good.in_order)
-      (λ final less. refuted_sound t final keeps prices refuting.good.proper pairs refuting.refute) (λ final less. answers_none t final keeps (tree.Refuted prices) (λ e. cc)) tt
-      (λ some. absurd (omega (arith, some))) (inl refl))
+      (λ final less. refuted_sound t final keeps prices refuting.good.proper searched.some_pair refuting.refute) (λ final less. answers_none t final keeps (tree.Refuted prices) (λ e. cc)) tt
+      (λ some. absurd (omega (arith, some))) (inl refl) refl)
 
-  pub priced_leaf : (prices : Prices) (mixed : Mixed) → HaveAllPairs t keeps → AreBest t keeps prices mixed → IsSomeAnd (best_cost s) (Reaches t keeps prices) → IsLeafAt t s s keeps above (tree.Priced prices)
-  priced_leaf prices mixed pairs best reached = leaf_at (tree.Priced prices)
+  pub priced_leaf : (prices : Prices) (mixed : Mixed) → IsSearched t keeps → AreBest t keeps prices mixed → IsSomeAnd (best_cost s) (Reaches t keeps prices) → IsLeafAt t s s keeps above (tree.Priced prices)
+  priced_leaf prices mixed searched best reached = leaf_at (tree.Priced prices) searched
       (leaf_branch t s s keeps above (tree.Priced prices) refl refl refl refl best.good.known (all_one (IsNodeInOrder t) (ordered.Priced prices) best.good.in_order)
-      (λ final less. priced_sound t final keeps prices best.good.proper pairs (reaches_on t keeps prices (best_cost s) final reached less)) (λ final less. answers_none t final keeps (tree.Priced prices) (λ e. cc)) tt
-      (λ some. absurd (omega (arith, some))) (inl refl))
+      (λ final less. priced_sound t final keeps prices best.good.proper searched.some_pair (reaches_on t keeps prices (best_cost s) final reached less)) (λ final less. answers_none t final keeps (tree.Priced prices) (λ e. cc)) tt
+      (λ some. absurd (omega (arith, some))) (inl refl) (inl (record { reaches = reached; same = refl })))
 
   -- a leaf that is open: its cause is of the tables and in order, and where it has a fractional assignment, that is one
-  module _ (prices : Prices) (why : Cause) (good : AreGood t prices) (pairs : HaveAllPairs t keeps) where
+  module _ (prices : Prices) (why : Cause) (good : AreGood t prices) (searched : IsSearched t keeps) where
     open_leaf : IsCauseOf t why → IsCauseInOrder t why → IfSome (mixed_of why) (IsMixedAt t keeps) → IfSome (mixed_of why) (IsFraction t keeps prices) → IsOpenBy t keeps s.pivots above prices why
-        → (0 < by_nodes why → s.splits ≡ s.nodes) → IsLeafAt t s s keeps above (tree.Open prices why)
-    open_leaf known in_order mixed fraction caused spent = leaf_at (tree.Open prices why)
+        → (0 < by_nodes why → s.splits ≡ s.nodes) → CouldBeSplit t keeps prices why (best_cost s) → IsLeafAt t s s keeps above (tree.Open prices why)
+    open_leaf known in_order mixed fraction caused spent could = leaf_at (tree.Open prices why) searched
         (leaf_branch t s s keeps above (tree.Open prices why) refl refl refl refl (good.known, known) (all_one (IsNodeInOrder t) (ordered.Open prices why) (good.in_order, in_order))
-        (λ final less. open_sound t final keeps prices why good.proper pairs mixed fraction) (λ final less. answers_none t final keeps (tree.Open prices why) (λ e. cc)) caused spent (inl refl))
+        (λ final less. open_sound t final keeps prices why good.proper searched.some_pair mixed fraction) (λ final less. answers_none t final keeps (tree.Open prices why) (λ e. cc)) caused spent (inl refl) (could, refl))
 
-  pub nodes_leaf : (prices : Prices) (mixed : Mixed) → HaveAllPairs t keeps → AreBest t keeps prices mixed → ¬ (IsWhole t mixed) → s.splits ≡ s.nodes → IsLeafAt t s s keeps above (tree.Open prices (cause.Nodes mixed))
-  nodes_leaf prices mixed pairs best partial spent =
-      open_leaf prices (cause.Nodes mixed) best.good pairs best.known best.in_order best.mixed_at (record { partial = partial; value = best.value }) tt (λ some. spent)
+  pub nodes_leaf : (prices : Prices) (mixed : Mixed) → IsSearched t keeps → AreBest t keeps prices mixed → ¬ (IsWhole t mixed) → s.splits ≡ s.nodes → IsBelowBest t keeps prices (best_cost s) → IsLeafAt t s s keeps above (tree.Open prices (cause.Nodes mixed))
+  nodes_leaf prices mixed searched best partial spent below =
+      open_leaf prices (cause.Nodes mixed) best.good searched best.known best.in_order best.mixed_at (record { partial = partial; value = best.value }) tt (λ some. spent) below
 
   pub stopped_leaf : (prices : Prices) (why : Cause) → IsSearched t keeps → AreGood t above → prices ≡ above → IsWhyStopped t keeps s.pivots why → IsLeafAt t s s keeps above (tree.Open prices why)
   stopped_leaf prices (cause.Nodes mixed) searched good same why = absurd why.stopped
   stopped_leaf prices (cause.Pivots made) searched good same why =
-      open_leaf prices (cause.Pivots made) (subst (AreGood t) (sym same) good) searched.some_pair tt why.in_order tt tt (record { searched = searched; stopped = why.stopped; nearest = same }) (λ some. absurd (omega (arith, some)))
+      open_leaf prices (cause.Pivots made) (subst (AreGood t) (sym same) good) searched tt why.in_order tt tt (record { searched = searched; stopped = why.stopped; nearest = same }) (λ some. absurd (omega (arith, some))) tt
   stopped_leaf prices (cause.Grew made row column) searched good same why =
-      open_leaf prices (cause.Grew made row column) (subst (AreGood t) (sym same) good) searched.some_pair tt why.in_order tt tt (record { searched = searched; stopped = why.stopped; nearest = same }) (λ some. absurd (omega (arith, some)))
+      open_leaf prices (cause.Grew made row column) (subst (AreGood t) (sym same) good) searched tt why.in_order tt tt (record { searched = searched; stopped = why.stopped; nearest = same }) (λ some. absurd (omega (arith, some))) tt
   stopped_leaf prices (cause.Lift step at) searched good same why =
-      open_leaf prices (cause.Lift step at) (subst (AreGood t) (sym same) good) searched.some_pair tt why.in_order tt tt (record { searched = searched; stopped = why.stopped; nearest = same }) (λ some. absurd (omega (arith, some)))
+      open_leaf prices (cause.Lift step at) (subst (AreGood t) (sym same) good) searched tt why.in_order tt tt (record { searched = searched; stopped = why.stopped; nearest = same }) (λ some. absurd (omega (arith, some))) tt
 
 -- an assignment was offered
 module _ (t : Tables) (before after : Search) (keeps : Domains) (above : Prices) where
@@ -98,7 +100,7 @@ module _ (t : Tables) (before after : Search) (keeps : Domains) (above : Prices)
     where
       by_case : IsOldOrTaken t a before after → IsFoundOrOld t before after (node keeps leaf ∷ [])
       by_case (inl old) = inl old
-      by_case (inr taken) = inr (taken_there t keeps leaf a after.best kept found taken)
+      by_case (inr taken) = inr (taken_there t keeps leaf a after.best kept found taken.plan)
 
   pub sole_leaf : IsSoleOffered t keeps before after → IsLeafAt t before after keeps above tree.Sole
   sole_leaf sole = record {
@@ -106,7 +108,8 @@ module _ (t : Tables) (before after : Search) (keeps : Domains) (above : Prices)
     follows = sole.offered.follows;
     branch = leaf_branch t before after keeps above tree.Sole refl refl refl sole.offered.splits tt (all_one (IsNodeInOrder t) ordered.Sole tt)
         (λ final less. sole_sound t final keeps sole.sole) (λ final less. record { answers = λ e a kept legal. answer final less a kept legal }) tt (λ some. absurd (omega (arith, some)))
-        (found_at sole.plan tree.Sole sole.kept (record { kept = sole.kept; ends = tt }) sole.offered);
+        (found_at sole.plan tree.Sole sole.kept (record { kept = sole.kept; ends = tt }) sole.offered) (record { plan = sole.plan; kept = sole.kept; tried = sole.offered.tried });
+    searched = tt;
   }
     where
       answer : (final : Option ℤ) → IsNoMore (best_cost after) final → (a : List ℕ) → IsKeptAssignment t keeps a → IsLegal t a → IsNoMore (Some (total_cost t a)) final
@@ -114,14 +117,16 @@ module _ (t : Tables) (before after : Search) (keeps : Domains) (above : Prices)
           let same : a ≡ sole.plan = sole_is_one t keeps a sole.plan sole.sole kept sole.kept in
           no_more_on (Some (total_cost t a)) (best_cost after) final (subst (λ b. IsNoMore (Some (total_cost t b)) (best_cost after)) (sym same) (sole.offered.answers (subst (IsLegal t) same legal))) less
 
-  pub whole_leaf : (prices : Prices) (mixed : Mixed) → HaveAllPairs t keeps → AreBest t keeps prices mixed → IsWholeOffered t keeps prices before after → IsLeafAt t before after keeps above (tree.Priced prices)
-  whole_leaf prices mixed pairs best whole = record {
+  pub whole_leaf : (prices : Prices) (mixed : Mixed) → IsSearched t keeps → AreBest t keeps prices mixed → IsWholeOffered t keeps prices before after → IsLeafAt t before after keeps above (tree.Priced prices)
+  whole_leaf prices mixed searched best whole = record {
     search = whole.offered.search;
     follows = whole.offered.follows;
     branch = leaf_branch t before after keeps above (tree.Priced prices) refl refl refl whole.offered.splits best.good.known (all_one (IsNodeInOrder t) (ordered.Priced prices) best.good.in_order)
-        (λ final less. priced_sound t final keeps prices best.good.proper pairs (reaches_less t keeps prices (total_cost t whole.plan) final reaches (no_more_on (Some (total_cost t whole.plan)) (best_cost after) final (whole.offered.answers whole.legal) less)))
+        (λ final less. priced_sound t final keeps prices best.good.proper searched.some_pair (reaches_less t keeps prices (total_cost t whole.plan) final reaches (no_more_on (Some (total_cost t whole.plan)) (best_cost after) final (whole.offered.answers whole.legal) less)))
         (λ final less. answers_none t final keeps (tree.Priced prices) (λ e. cc)) tt (λ some. absurd (omega (arith, some)))
-        (found_at whole.plan (tree.Priced prices) whole.kept (record { kept = whole.kept; ends = whole.worth }) whole.offered);
+        (found_at whole.plan (tree.Priced prices) whole.kept (record { kept = whole.kept; ends = whole.worth }) whole.offered)
+        (inr (record { plan = whole.plan; kept = whole.kept; legal = whole.legal; worth = whole.worth; found = whole.offered.tried.legal whole.legal }));
+    searched = searched;
   }
     where
       reaches : Reaches t keeps prices (total_cost t whole.plan)

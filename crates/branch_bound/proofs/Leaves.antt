@@ -133,7 +133,7 @@ module _ (t : Tables) (cost : Option ℤ) (keeps : Domains) (leg fleet : ℕ) (y
       each rule.Limits = is.best.good.proper.within
       each rule.Fall = is.best.good.proper.fall
       each rule.Rent = is.best.good.proper.rise
-      each rule.Pairs = is.all_pairs
+      each rule.Pairs = is.searched.some_pair
       each rule.Refuted = tt
       each rule.Priced = tt
       each rule.Parts = (is.kept, not_one t keeps leg fleet is.pair.fleet is.kept is.other)

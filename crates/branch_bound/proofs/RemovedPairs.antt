@@ -14,12 +14,12 @@ use Rattle.bound_cert.specs.Prices.{ArePrices, price_after, price_of, rent_of}
 use Rattle.bound_cert.specs.WrittenOrder.{IsFigure, IsStepInOrder}
 use Rattle.bound_cert.specs.declared.prices.Prices.{Prices}
 use Rattle.bound_cert.specs.declared.trees.Tree.{Tree}
-use Rattle.presolve.specs.Removals.{AreRefuted, kept_after, without}
+use Rattle.presolve.specs.Removals.{AreRefuted, AreRemovals, first_place, kept_after, without}
 use Rattle.presolve.specs.declared.trims.Trim.{Trim as Removal}
 use Rattle.branch_bound.specs.Causes.{zero_prices}
 use Rattle.branch_bound.specs.Relaxed.{AreGood}
 use Rattle.branch_bound.specs.Search.{IsBranch}
-use Rattle.branch_bound.specs.Trims.{AreBelow, IsBelow, IsWithin}
+use Rattle.branch_bound.specs.Trims.{AreBelow, AreOnTop, AreSearched, IsBelow, IsTrimmed, IsWithin}
 use Rattle.branch_bound.specs.declared.search.Search.{Search}
 use Rattle.branch_bound.proofs.Branches.{trim_branch}
 use Rattle.branch_bound.proofs.SplitTrees.{allowed_part}
@@ -56,6 +56,20 @@ all_branch t before after start keeps above removals slice rest (Ok whole) start
     below_branch t before after (all_pairs t) (zero_prices t) removals rest whole refuted below
     (subst (λ p. IsBranch t before after (kept_after (all_pairs t) removals) p rest) above_is (subst (λ k. IsBranch t before after k above rest) same branch))
 all_branch t before after start keeps above removals slice rest (Err e) start_is slice_is keeps_is above_is refuted below branch = tt
+
+-- the removals stand on top of a tree in which nothing more is removed
+pub on_top : (t : Tables) (keeps : Domains) (removals : List Removal) (rest whole : Tree) → AreBelow removals rest whole → AreSearched t (kept_after keeps removals) rest → AreOnTop t keeps removals whole
+on_top t keeps [] rest whole same searched = subst (AreSearched t keeps) (sym same) searched
+on_top t keeps (removal ∷ removals) rest whole (inner, below, is) searched =
+    subst (AreOnTop t keeps (removal ∷ removals)) (sym is.is)
+    (refl, refl, is.yes_is, subst (AreOnTop t (without keeps removal) removals) (sym is.no_is) (on_top t (without keeps removal) removals rest inner below searched))
+
+pub all_trimmed : (t : Tables) (start keeps : Domains) (removals slice : List Removal) (rest : Tree) (r : Result Tree NoMemory) → start ≡ all_pairs t → slice ≡ removals → keeps ≡ kept_after start slice
+    → AreRemovals t (all_pairs t) first_place removals → IfOk r (AreBelow removals rest) → AreSearched t keeps rest → IfOk r (IsTrimmed t)
+all_trimmed t start keeps removals slice rest (Ok whole) start_is slice_is keeps_is given below searched =
+    let same : keeps ≡ kept_after (all_pairs t) removals = keeps_is ∙ ap (λ k. kept_after k slice) start_is ∙ ap (kept_after (all_pairs t)) slice_is in
+    record { removals = removals; given = given; on_top = on_top t (all_pairs t) removals rest whole below (subst (λ k. AreSearched t k rest) same searched) }
+all_trimmed t start keeps removals slice rest (Err e) start_is slice_is keeps_is given below searched = tt
 
 -- one removal more was taken from the end of those that wait
 pub taken_more : (all waiting rest taken : List Removal) (removal : Removal) (tree inner whole : Tree) → all ≡ waiting ++ taken → waiting ≡ rest ++ removal ∷ [] → AreBelow taken tree inner → IsBelow removal inner whole

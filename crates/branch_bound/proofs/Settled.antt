@@ -1,5 +1,5 @@
 -- What a tree proves that comes with the cheapest plan found, or with none.
-use Rattle.std.proofs.Common.{◌≡◌, ℕ, Bool, true, false, All, Option, Some, None, ℤ, refl, subst, arith}
+use Rattle.std.proofs.Common.{ℕ, All, Option, Some, None, ℤ, subst, arith}
 use Rattle.std.proofs.lemmas.Int.{ints}
 use Rattle.std.proofs.lemmas.List.Elements.{All-head}
 use Rattle.sums.proofs.Tests.{by_test}

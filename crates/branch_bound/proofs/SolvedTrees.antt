@@ -1,5 +1,5 @@
 -- The tree of all pairs when the search is over, closed by the cheapest plan.
-use Rattle.std.proofs.Common.{◌≡◌, ℕ, ◌<◌, ◌≤◌, List, All, Option, Some, None, IfSome, inl, inr, sym, ◌∙◌, ap, subst, arith}
+use Rattle.std.proofs.Common.{◌≡◌, ℕ, ◌<◌, ◌≤◌, List, All, Option, Some, None, IfSome, inl, inr, refl, sym, ◌∙◌, ap, subst, arith}
 use Rattle.std.specs.List.{Any}
 use Rattle.fleet_model.specs.Kept.{all_pairs}
 use Rattle.fleet_model.specs.declared.tables.Tables.{Tables}
@@ -13,12 +13,14 @@ use Rattle.branch_bound.specs.Closing.{closed, closed_by}
 use Rattle.branch_bound.specs.Found.{IsFoundAt, LeavesGap}
 use Rattle.branch_bound.specs.Search.{Follows, IsBranch, IsFoundIn, IsFoundOrOld, IsNoMore, IsPlan, IsSearch, best_cost, cost_of}
 use Rattle.branch_bound.specs.Settled.{IsProvedBy, plan_of}
-use Rattle.branch_bound.specs.Solved.{IsRight, IsSolved, IsTreeOf, tree_of}
+use Rattle.branch_bound.specs.Solved.{IsRight, IsSolved, IsTreeOf, IsWalked, tree_of}
+use Rattle.branch_bound.specs.Trims.{IsTrimmed}
+use Rattle.branch_bound.specs.Walks.{IsWalk}
 use Rattle.branch_bound.specs.declared.search.Plan.{Plan}
 use Rattle.branch_bound.specs.declared.search.Search.{Search}
 use Rattle.branch_bound.specs.declared.solved.Solved.{Solved}
 use Rattle.branch_bound.specs.declared.solved.Solved.TheVariants as solved
-use Rattle.branch_bound.proofs.Closings.{closed_caused, closed_depth, closed_gaps, closed_known, closed_open, closed_order, closed_soles, closed_sound, closed_splits, found_closed}
+use Rattle.branch_bound.proofs.Closings.{closed_caused, closed_depth, closed_gaps, closed_known, closed_open, closed_order, closed_soles, closed_sound, closed_splits, closed_trimmed, found_closed}
 use Rattle.branch_bound.proofs.Orders.{no_more_same}
 use Rattle.branch_bound.proofs.PairsKept.{few_pairs}
 
@@ -34,7 +36,7 @@ no_gaps : (t : Tables) (nodes : List Node) → All (LeavesGap t None) nodes
 no_gaps t nodes k d below = record { gap = λ prices why e. tt }
 
 module _ (t : Tables) (nodes pivots : ℕ) (after : Search) (whole : Tree) (search : IsSearch t after) (follows : Follows (beginning nodes pivots) after)
-    (branch : IsBranch t (beginning nodes pivots) after (all_pairs t) (zero_prices t) whole) where
+    (branch : IsBranch t (beginning nodes pivots) after (all_pairs t) (zero_prices t) whole) (trimmed : IsTrimmed t whole) where
   shallow : depth_of whole ≤ MAX_DEPTH
   shallow = omega (arith, branch.shallow, few_pairs t (all_pairs t))
 
@@ -51,6 +53,14 @@ module _ (t : Tables) (nodes pivots : ℕ) (after : Search) (whole : Tree) (sear
   pub sound_by : (best : Option Plan) → after.best ≡ best → AreSound t (cost_of best) (all_pairs t) whole
   sound_by best same = branch.sound (cost_of best) (less best same)
 
+  walked_by : (best : Option Plan) → after.best ≡ best → IsWalked t pivots (cost_of best) (closed_by t (cost_of best) whole)
+  walked_by best same = record {
+    left = whole;
+    caused = branch.caused;
+    walk = subst (λ b. IsWalk t (all_pairs t) None whole (cost_of b)) same branch.walk;
+    closed = refl;
+  }
+
   pub tree_by : (best : Option Plan) → after.best ≡ best → IsTreeOf t nodes pivots (cost_of best) (closed_by t (cost_of best) whole)
   tree_by None same = record {
     of_tables = branch.of_tables;
@@ -62,6 +72,8 @@ module _ (t : Tables) (nodes pivots : ℕ) (after : Search) (whole : Tree) (sear
     caused = branch.caused;
     soles = branch.soles None (less None same);
     gaps = no_gaps t (nodes_of t whole);
+    trimmed = trimmed;
+    walked = walked_by None same;
   }
   tree_by (Some plan) same =
       let sound = sound_by (Some plan) same in
@@ -76,6 +88,8 @@ module _ (t : Tables) (nodes pivots : ℕ) (after : Search) (whole : Tree) (sear
         caused = closed_caused t plan.cost pivots (all_pairs t) (zero_prices t) whole branch.caused;
         soles = closed_soles t plan.cost (all_pairs t) whole (branch.soles (Some plan.cost) (less (Some plan) same));
         gaps = closed_gaps t plan.cost (all_pairs t) whole sound;
+        trimmed = closed_trimmed t plan.cost whole trimmed;
+        walked = walked_by (Some plan) same;
       }
 
   pub proved_by : (best : Option Plan) → after.best ≡ best → IsProvedBy t best (closed_by t (cost_of best) whole)

@@ -1,5 +1,5 @@
 -- A pair that is flown in part is kept, and its leg keeps another fleet, which flies the rest.
-use Rattle.std.proofs.Common.{◌≡◌, ◌≢◌, ℕ, zero, suc, ◌<◌, ◌≤◌, Bool, true, false, IsTrue, pos, ◌⊎◌, inl, inr, refl, sym, ap, arith}
+use Rattle.std.proofs.Common.{◌≡◌, ◌≢◌, ℕ, zero, suc, ◌<◌, ◌≤◌, IsTrue, pos, ◌⊎◌, inl, inr, sym, ap, arith}
 use Rattle.std.proofs.lemmas.Bool.{cases_lt}
 use Rattle.std.proofs.lemmas.Int.{ints}
 use Rattle.sums.specs.Below.{sum_below}
@@ -13,10 +13,11 @@ use Rattle.bound_cert.specs.Mixed.{weight_in}
 use Rattle.bound_cert.specs.declared.mixed.Mixed.{Mixed}
 use Rattle.bound_cert.specs.declared.prices.Prices.{Prices}
 use Rattle.bound_cert.specs.Fractions.{IsMixedAt, parts_in, parts_of_leg}
-use Rattle.cert_check.specs.Rules.{HaveAllPairs, IsKeptPair}
+use Rattle.cert_check.specs.Rules.{IsKeptPair}
 use Rattle.branch_bound.specs.Causes.{IsFirstPartial}
 use Rattle.branch_bound.specs.Examined.{IsSplit, KeepsOther}
 use Rattle.branch_bound.specs.Relaxed.{AreBest}
+use Rattle.branch_bound.specs.Runs.{IsSearched}
 use Rattle.branch_bound.specs.Wholes.{IsSplitPair}
 
 -- a number below n, other than k, at which g is not 0
@@ -72,9 +73,9 @@ module _ (t : Tables) (keeps : Domains) (mixed : Mixed) (is : IsMixedAt t keeps 
         }
 
 -- a subproblem whose best fractional assignment flies a pair in part may be split by it
-pub may_split : (t : Tables) (keeps : Domains) (prices : Prices) (mixed : Mixed) (pair : Pair) → HaveAllPairs t keeps → AreBest t keeps prices mixed → IsSplitPair t mixed pair → IsSplit t keeps pair.leg pair.fleet prices mixed
-may_split t keeps prices mixed pair pairs best split = record {
-  all_pairs = pairs;
+pub may_split : (t : Tables) (keeps : Domains) (prices : Prices) (mixed : Mixed) (pair : Pair) → IsSearched t keeps → AreBest t keeps prices mixed → IsSplitPair t mixed pair → IsSplit t keeps pair.leg pair.fleet prices mixed
+may_split t keeps prices mixed pair searched best split = record {
+  searched = searched;
   best = best;
   fraction = record { partial = λ whole. not_whole (whole pair.leg split.known.leg pair.fleet split.known.fleet); value = best.value };
   first = split.first;

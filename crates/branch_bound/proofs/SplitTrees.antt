@@ -1,5 +1,5 @@
 -- A search through a split, and through a step into a part.
-use Rattle.std.proofs.Common.{◌≡◌, ℕ, ◌+◌, ◌*◌, ◌<◌, ◌≤◌, Bool, true, false, ◌&&◌, List, Result, Ok, Err, IfOk, OnOk, refl, sym, ◌∙◌, subst, arith}
+use Rattle.std.proofs.Common.{◌≡◌, ℕ, ◌+◌, ◌*◌, ◌<◌, ◌≤◌, Bool, true, false, List, Result, Ok, Err, IfOk, OnOk, sym, ◌∙◌, subst, arith}
 use Rattle.sums.proofs.Tests.{first_true}
 use Rattle.entries.specs.declared.memory.NoMemory.{NoMemory}
 use Rattle.fleet_model.specs.Kept.{Domains, kept_by, narrowed, pairs_kept}
@@ -12,6 +12,7 @@ use Rattle.bound_cert.specs.declared.prices.Prices.{Prices}
 use Rattle.bound_cert.specs.declared.trees.Tree.{Tree}
 use Rattle.branch_bound.specs.Examined.{IsOneSplitMore, IsSplit}
 use Rattle.branch_bound.specs.Search.{Follows, IsBranch, IsSearch, IsSplitInto, best_cost}
+use Rattle.branch_bound.specs.Walks.{IsBelowBest}
 use Rattle.branch_bound.specs.declared.search.Search.{Search}
 use Rattle.branch_bound.proofs.Branches.{split_branch}
 use Rattle.branch_bound.proofs.Orders.{no_more_on}
@@ -25,15 +26,15 @@ follows_on a b c first second = record {
 }
 
 -- the tree of a split
-pub split_tree : (t : Tables) (before begun after : Search) (keeps : Domains) (above : Prices) (leg fleet : ℕ) (prices : Prices) (mixed : Mixed) (whole : Tree) → IsSplit t keeps leg fleet prices mixed → IsOneSplitMore t before begun
+pub split_tree : (t : Tables) (before begun after : Search) (keeps : Domains) (above : Prices) (leg fleet : ℕ) (prices : Prices) (mixed : Mixed) (whole : Tree) → IsSplit t keeps leg fleet prices mixed → IsBelowBest t keeps prices (best_cost before) → IsOneSplitMore t before begun
     → IsSearch t after → IsSplitInto t begun after keeps leg fleet prices mixed whole → IsBranch t before after keeps above whole
-split_tree t before begun after keeps above leg fleet prices mixed whole is more search into =
+split_tree t before begun after keeps above leg fleet prices mixed whole is below more search into =
     subst (IsBranch t before after keeps above) (sym into.is)
-    (split_branch t before begun into.between after keeps above leg fleet prices mixed into.with_pair into.without is more into.yes_is into.no_is into.first into.second search)
+    (split_branch t before begun into.between after keeps above leg fleet prices mixed into.with_pair into.without is below more into.yes_is into.no_is into.first into.second search)
 
-pub split_result : (t : Tables) (before begun after : Search) (keeps : Domains) (above : Prices) (leg fleet : ℕ) (prices : Prices) (mixed : Mixed) (r : Result Tree NoMemory) → IsOneSplitMore t before begun × IsSplit t keeps leg fleet prices mixed
+pub split_result : (t : Tables) (before begun after : Search) (keeps : Domains) (above : Prices) (leg fleet : ℕ) (prices : Prices) (mixed : Mixed) (r : Result Tree NoMemory) → IsOneSplitMore t before begun × IsSplit t keeps leg fleet prices mixed × IsBelowBest t keeps prices (best_cost before)
     → OnOk r (IsSearch t after) → IfOk r (IsSplitInto t begun after keeps leg fleet prices mixed) → IfOk r (IsBranch t before after keeps above)
-split_result t before begun after keeps above leg fleet prices mixed (Ok whole) is search into = split_tree t before begun after keeps above leg fleet prices mixed whole is.1 is.0 search into
+split_result t before begun after keeps above leg fleet prices mixed (Ok whole) is search into = split_tree t before begun after keeps above leg fleet prices mixed whole is.1 is.2 is.0 search into
 split_result t before begun after keeps above leg fleet prices mixed (Err e) is search into = tt
 
 -- the pair of a step

@@ -10,11 +10,14 @@ use Rattle.bound_cert.specs.declared.mixed.Mixed.{Mixed}
 use Rattle.bound_cert.specs.declared.prices.Prices.{Prices}
 use Rattle.bound_cert.specs.declared.trees.Tree.{Tree}
 use Rattle.bound_cert.specs.Fractions.{IsFraction}
-use Rattle.cert_check.specs.Rules.{HaveAllPairs, IsKeptPair}
+use Rattle.cert_check.specs.Rules.{IsKeptPair}
 use Rattle.branch_bound.specs.Causes.{IsFirstPartial}
 use Rattle.branch_bound.specs.Offers.{IsOffered}
 use Rattle.branch_bound.specs.Relaxed.{AreBest}
-use Rattle.branch_bound.specs.Search.{Follows, IsBranch, IsSearch}
+use Rattle.branch_bound.specs.Runs.{IsSearched}
+use Rattle.branch_bound.specs.Search.{Follows, IsBranch, IsSearch, best_cost}
+use Rattle.branch_bound.specs.Trims.{AreSearched}
+use Rattle.branch_bound.specs.Walks.{IsBelowBest}
 use Rattle.branch_bound.specs.declared.examining.Examined.{Examined}
 use Rattle.branch_bound.specs.declared.examining.Examined.TheVariants as examined
 use Rattle.branch_bound.specs.declared.search.Search.{Search}
@@ -35,7 +38,7 @@ pub record KeepsOther (t : Tables) (keeps : Domains) (leg fleet : ℕ) : Type 0 
 
 -- a subproblem that may be split by a pair
 pub record IsSplit (t : Tables) (keeps : Domains) (leg fleet : ℕ) (prices : Prices) (mixed : Mixed) : Type 0 where
-  pub all_pairs : HaveAllPairs t keeps
+  pub searched : IsSearched t keeps
   pub best : AreBest t keeps prices mixed
   pub fraction : IsFraction t keeps prices mixed
   pub first : IsFirstPartial t mixed leg fleet
@@ -48,11 +51,13 @@ pub record IsLeafAt (t : Tables) (before after : Search) (keeps : Domains) (abov
   pub search : IsSearch t after
   pub follows : Follows before after
   pub branch : IsBranch t before after keeps above leaf
+  pub searched : AreSearched t keeps leaf
 
 -- what becomes of a subproblem
 abbrev pub IsExamined : Tables → Search → Search → Domains → Prices → Examined → Type 0
 IsExamined t before after keeps above (examined.Leaf leaf) = IsLeafAt t before after keeps above leaf
-IsExamined t before after keeps above (examined.Split leg fleet prices mixed) = IsOneSplitMore t before after × IsSplit t keeps leg fleet prices mixed
+IsExamined t before after keeps above (examined.Split leg fleet prices mixed) =
+    IsOneSplitMore t before after × IsSplit t keeps leg fleet prices mixed × IsBelowBest t keeps prices (best_cost before)
 
 -- what becomes of a subproblem whose best fractional assignment is known, whatever the prices above
 abbrev pub IsBounded : Tables → Search → Search → Domains → Examined → Type 0

@@ -9,4 +9,5 @@ pub mod Search
 pub mod Settled
 pub mod Solved
 pub mod Trims
+pub mod Walks
 pub mod Wholes

@@ -1,5 +1,6 @@
 -- What the linear relaxation of a subproblem comes to.
-use Rattle.std.specs.Prelude.{◌≡◌, ℕ, IsSomeAnd, Result, Ok, Err, pos, ◌<ℤ◌}
+use Rattle.std.specs.Prelude.{◌≡◌, ℕ, IsSomeAnd, Result, Ok, Err, IsOkAnd, IsErr, pos, ◌<ℤ◌, ⊤}
+use Rattle.entries.specs.declared.memory.NoMemory.{NoMemory}
 use Rattle.fleet_model.specs.Kept.{Domains}
 use Rattle.fleet_model.specs.declared.tables.Tables.{Tables}
 use Rattle.bound_cert.specs.OfTables.{ArePricesOf, IsMixedOf}
@@ -14,6 +15,8 @@ use Rattle.bound_cert.specs.declared.trees.Cause.TheVariants as cause
 use Rattle.price_lift.specs.declared.error.LiftError.{LiftError}
 use Rattle.price_lift.specs.declared.error.LiftError.TheVariants as lift
 use Rattle.price_lift.specs.declared.lift.Lifted.{Lifted}
+use Rattle.simplex_frac.specs.declared.outcome.Outcome.{Outcome}
+use Rattle.simplex_frac.specs.declared.outcome.Outcome.TheVariants as outcome
 use Rattle.branch_bound.specs.Causes.{IsStopped}
 use Rattle.branch_bound.specs.declared.relaxing.Relaxed.{Relaxed}
 use Rattle.branch_bound.specs.declared.relaxing.Relaxed.TheVariants as relaxed
@@ -55,14 +58,22 @@ pub record IsLiftStopped (step at : ℕ) (found : Relaxed) : Type 0 where
   pub step_held : IsCount step
   pub at_held : IsCount at
 
--- what a lift from a cheapest point comes to
-abbrev pub IsAtBest : Result Lifted LiftError → Relaxed → Type 0
-IsAtBest (Ok lifted) found = IsSomeAnd lifted.mixed (λ mixed. found ≡ relaxed.Bounded lifted.prices mixed)
-IsAtBest (Err (lift.TooLarge step at)) found = IsLiftStopped step at found
-IsAtBest (Err lift.NoMemory) found = ⊥
+-- what a lift from a cheapest point comes to; memory is wanting only where the lift wanted it
+abbrev pub IsAtBest : Result Lifted LiftError → Result Relaxed NoMemory → Type 0
+IsAtBest (Ok lifted) found = IsSomeAnd lifted.mixed (λ mixed. found ≡ Ok (relaxed.Bounded lifted.prices mixed))
+IsAtBest (Err (lift.TooLarge step at)) found = IsOkAnd found (IsLiftStopped step at)
+IsAtBest (Err lift.NoMemory) found = IsErr found
 
--- what a lift comes to where no point meets the lines
-abbrev pub IsAtNoPoint : Result Lifted LiftError → Relaxed → Type 0
-IsAtNoPoint (Ok lifted) found = found ≡ relaxed.Refuted lifted.prices
-IsAtNoPoint (Err (lift.TooLarge step at)) found = IsLiftStopped step at found
-IsAtNoPoint (Err lift.NoMemory) found = ⊥
+-- what a lift comes to where no point meets the lines; memory is wanting only where the lift wanted it
+abbrev pub IsAtNoPoint : Result Lifted LiftError → Result Relaxed NoMemory → Type 0
+IsAtNoPoint (Ok lifted) found = found ≡ Ok (relaxed.Refuted lifted.prices)
+IsAtNoPoint (Err (lift.TooLarge step at)) found = IsOkAnd found (IsLiftStopped step at)
+IsAtNoPoint (Err lift.NoMemory) found = IsErr found
+
+-- a run that has spent its pivots, or whose next pivot is outgrown, stops the subproblem for that: memory isn't wanting
+abbrev pub IsTold : Outcome → Result Relaxed NoMemory → Type 0
+IsTold (outcome.Best basis made) found = ⊤
+IsTold (outcome.NoPoint basis made) found = ⊤
+IsTold (outcome.Ray column) found = ⊤
+IsTold (outcome.Spent made) found = found ≡ Ok (relaxed.Stopped (cause.Pivots made))
+IsTold (outcome.Grew made row column) found = found ≡ Ok (relaxed.Stopped (cause.Grew made row column))

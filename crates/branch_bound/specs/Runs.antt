@@ -3,13 +3,14 @@ use Rattle.std.specs.Prelude.{◌≡◌, ℕ, ◌⊎◌, List, Some}
 use Rattle.fleet_model.specs.Kept.{Domains, IsBare, IsSole}
 use Rattle.fleet_model.specs.declared.tables.Tables.{Tables}
 use Rattle.frac_row.specs.declared.row.FracRow.{FracRow}
-use Rattle.row_store.specs.Problem.{first_table}
+use Rattle.row_store.specs.Problem.{IsProblem, first_table}
 use Rattle.row_store.specs.declared.problem.Rows.{Rows}
 use Rattle.lp_rows.specs.Points.{AreLinesOf}
 use Rattle.simplex_frac.specs.Outcomes.{IsOutcome}
 use Rattle.simplex_frac.specs.declared.outcome.Outcome.{Outcome}
 use Rattle.simplex_frac.specs.declared.outcome.Outcome.TheVariants as outcome
-use Rattle.price_lift.specs.TooLarge.{Excess, best_excess, refusal_excess}
+use Rattle.price_lift.specs.TooLarge.{best_excess, refusal_excess}
+use Rattle.price_lift.specs.declared.error.Excess.{Excess}
 
 -- a subproblem that is searched: each leg keeps a pair, and some leg two or more
 pub record IsSearched (t : Tables) (keeps : Domains) : Type 0 where
@@ -20,6 +21,12 @@ pub record IsSearched (t : Tables) (keeps : Domains) : Type 0 where
 pub record RunEnds (t : Tables) (keeps : Domains) (pivots : ℕ) (rows : Rows) (table : List FracRow) (outcome : Outcome) : Type 0 where
   pub lines : AreLinesOf t keeps rows
   pub ends : IsOutcome (first_table rows) rows.columns pivots table outcome
+
+-- so it ends, over some lines of the subproblem
+pub record HasEnded (t : Tables) (keeps : Domains) (pivots : ℕ) (table : List FracRow) (outcome : Outcome) : Type 0 where
+  pub rows : Rows
+  pub problem : IsProblem rows
+  pub run : RunEnds t keeps pivots rows table outcome
 
 -- the run of the subproblem spends all its pivots
 pub record SpendsPivots (t : Tables) (keeps : Domains) (pivots made : ℕ) : Type 0 where

@@ -15,6 +15,7 @@ use Rattle.cert_check.specs.Nodes.{Node, nodes_in}
 use Rattle.cert_check.specs.Verdicts.{AreSound}
 use Rattle.branch_bound.specs.Causes.{AreCaused}
 use Rattle.branch_bound.specs.Found.{AnswersSole, IsFoundAt}
+use Rattle.branch_bound.specs.Walks.{IsWalk}
 use Rattle.branch_bound.specs.declared.search.Plan.{Plan}
 use Rattle.branch_bound.specs.declared.search.Search.{Search}
 
@@ -67,6 +68,7 @@ pub record IsBranch (t : Tables) (before after : Search) (keeps : Domains) (abov
   pub counted : after.splits ≡ before.splits + splits_in tree
   pub all_spent : 0 < open_nodes tree → after.splits ≡ after.nodes
   pub found : IsFoundOrOld t before after (nodes_in keeps tree)
+  pub walk : IsWalk t keeps (best_cost before) tree (best_cost after)
 
 -- the tree of a subproblem that was split by a pair, once the split was counted: the trees of both parts
 pub record IsSplitInto (t : Tables) (before after : Search) (keeps : Domains) (leg fleet : ℕ) (prices : Prices) (mixed : Mixed) (tree : Tree) : Type 0 where

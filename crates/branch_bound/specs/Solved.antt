@@ -12,7 +12,10 @@ use Rattle.bound_cert.specs.declared.trees.Tree.{Tree}
 use Rattle.cert_check.specs.Nodes.{nodes_of}
 use Rattle.cert_check.specs.Verdicts.{AreSound}
 use Rattle.branch_bound.specs.Causes.{AreCaused, zero_prices}
+use Rattle.branch_bound.specs.Closing.{closed_by}
 use Rattle.branch_bound.specs.Found.{AnswersSole, IsFoundAt, LeavesGap}
+use Rattle.branch_bound.specs.Trims.{IsTrimmed}
+use Rattle.branch_bound.specs.Walks.{IsWalk}
 use Rattle.branch_bound.specs.declared.solved.Solved.{Solved}
 use Rattle.branch_bound.specs.declared.solved.Solved.TheVariants as solved
 
@@ -62,10 +65,19 @@ IsFound t (solved.Planned plan cost bound tree) = Any (IsFoundAt t plan cost) (n
 IsFound t (solved.Infeasible tree) = ⊤
 IsFound t (solved.Unsettled bound tree) = ⊤
 
+-- The tree as the walk over the subproblems left it, with so many pivots allowed for each, whose cheapest plan has this
+-- cost: its leaves and splits have their causes, and in the end open leaves were closed whose rounded worth reaches it.
+pub record IsWalked (t : Tables) (pivots : ℕ) (cost : Option ℤ) (tree : Tree) : Type 0 where
+  pub left : Tree
+  pub caused : AreCaused t pivots (all_pairs t) (zero_prices t) left
+  pub walk : IsWalk t (all_pairs t) None left cost
+  pub closed : tree ≡ closed_by t cost left
+
 -- A tree whose plan, if any, has this cost. It is of the tables, in written order and no deeper than a reader takes,
 -- and its nodes keep all rules. It has at most so many splits, and just so many where a leaf is open for them. Leaves
 -- and splits have their causes, with so many pivots allowed for each subproblem. Where the one assignment of a leaf is
--- legal, there is a plan that costs no more. The rounded worth of each open leaf is below the plan's cost.
+-- legal, there is a plan that costs no more. The rounded worth of each open leaf is below the plan's cost. The trims are
+-- presolve's removals, and below them the subproblems are worked depth first.
 pub record IsTreeOf (t : Tables) (nodes pivots : ℕ) (cost : Option ℤ) (tree : Tree) : Type 0 where
   pub of_tables : IsOfTables t tree
   pub in_order : InWrittenOrder t tree
@@ -76,6 +88,8 @@ pub record IsTreeOf (t : Tables) (nodes pivots : ℕ) (cost : Option ℤ) (tree 
   pub caused : AreCaused t pivots (all_pairs t) (zero_prices t) tree
   pub soles : All (AnswersSole t cost) (nodes_of t tree)
   pub gaps : All (LeavesGap t cost) (nodes_of t tree)
+  pub trimmed : IsTrimmed t tree
+  pub walked : IsWalked t pivots cost tree
 
 -- a solution of tables, found with at most so many splits, and so many pivots for each subproblem
 pub record IsSolved (t : Tables) (nodes pivots : ℕ) (s : Solved) : Type 0 where

@@ -6,6 +6,7 @@ ghost use Rattle.fleet_model.specs.Whole.{KeepAllowed};
 ghost use Rattle.branch_bound.specs.Examined.{IsSplit};
 ghost use Rattle.branch_bound.specs.Relaxed.{AreGood};
 ghost use Rattle.branch_bound.specs.Search.{Follows, IsBranch, IsSearch, IsSplitInto};
+ghost use Rattle.branch_bound.specs.Trims.{AreSearched};
 
 use crate::examining::{Examined, examine};
 use crate::search::Search;
@@ -32,6 +33,7 @@ pub(crate) fn branch(
     ensures search { OnOk result (IsSearch tables.now search.new) }
     ensures follows { OnOk result (Follows search.old search.new) }
     ensures tree { IfOk result (IsBranch tables.now search.old search.new (kept_by kept.old) above.now) }
+    ensures searched { IfOk result (AreSearched tables.now (kept_by kept.old)) }
 {
     match examine(alloc, tables, search, kept, above)? {
         Examined::Leaf(leaf) => Ok(leaf),
@@ -63,6 +65,7 @@ fn split(
     ensures search { OnOk result (IsSearch tables.now search.new) }
     ensures follows { OnOk result (Follows search.old search.new) }
     ensures tree { IfOk result (IsSplitInto tables.now search.old search.new (kept_by kept.old) leg fleet prices mixed) }
+    ensures searched { IfOk result (AreSearched tables.now (kept_by kept.old)) }
 {
     let yes = part(alloc, tables, search, kept, with(leg, fleet), &prices)?;
     let no = part(alloc, tables, search, kept, without(leg, fleet), &prices)?;
@@ -94,6 +97,7 @@ fn part(
     ensures search { OnOk result (IsSearch tables.now search.new) }
     ensures follows { OnOk result (Follows search.old search.new) }
     ensures tree { IfOk result (IsBranch tables.now search.old search.new (narrowed (kept_by kept.old) step) above.now) }
+    ensures searched { IfOk result (AreSearched tables.now (narrowed (kept_by kept.old) step)) }
 {
     let undo = kept.narrow(step);
     let tree = branch(alloc, tables, search, kept, above)?;

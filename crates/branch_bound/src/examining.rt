@@ -1,14 +1,16 @@
 //! What becomes of a subproblem: a leaf of the tree, or a split.
-ghost use Rattle.std.specs.Prelude.{◌≡◌, ℕ, IfOk, IsSomeAnd, MatchBool, ⊤};
+ghost use Rattle.std.specs.Prelude.{◌≡◌, ℕ, IfOk, IsSomeAnd, MatchBool};
 ghost use Rattle.fleet_model.specs.Kept.{IsBare, kept_by};
 ghost use Rattle.fleet_model.specs.Whole.{KeepAllowed};
 ghost use Rattle.bound_cert.specs.Fractions.{IsMixedAt, IsWhole};
 ghost use Rattle.bound_cert.specs.Prices.{ArePrices};
 ghost use Rattle.bound_cert.specs.declared.prices.Prices.{Prices};
-ghost use Rattle.cert_check.specs.Rules.{HaveAllPairs, Reaches};
+ghost use Rattle.cert_check.specs.Rules.{Reaches};
 ghost use Rattle.branch_bound.specs.Examined.{IsBounded, IsExamined, IsLeafAt, IsWholeOffered};
 ghost use Rattle.branch_bound.specs.Relaxed.{AreBest, AreGood};
+ghost use Rattle.branch_bound.specs.Runs.{IsSearched};
 ghost use Rattle.branch_bound.specs.Search.{IsSearch, cost_of};
+ghost use Rattle.branch_bound.specs.Walks.{IsBelowBest};
 ghost use Rattle.branch_bound.specs.Wholes.{IsSplitPair};
 
 use crate::made_prices::copied;
@@ -74,7 +76,7 @@ fn bounded(
 ) -> Examined
     requires search { IsSearch tables.now search.old }
     requires allowed { KeepAllowed tables.now (kept_by kept.now) }
-    requires pairs { HaveAllPairs tables.now (kept_by kept.now) }
+    requires searched { IsSearched tables.now (kept_by kept.now) }
     requires best { AreBest tables.now (kept_by kept.now) prices mixed }
     ensures { IsBounded tables.now search.old search.new (kept_by kept.now) result }
 {
@@ -97,7 +99,7 @@ fn divided(
     pair: Pair,
 ) -> Examined
     requires search { IsSearch tables.now search.old }
-    requires pairs { HaveAllPairs tables.now (kept_by kept.now) }
+    requires searched { IsSearched tables.now (kept_by kept.now) }
     requires best { AreBest tables.now (kept_by kept.now) prices mixed }
     requires pair { IsSplitPair tables.now mixed pair }
     ensures { IsBounded tables.now search.old search.new (kept_by kept.now) result }
@@ -135,7 +137,7 @@ fn offer_whole(tables: &Tables, search: &mut Search, kept: &Kept, prices: &Price
 // Whether there is a plan, and the rounded worth of prices reaches its cost.
 fn is_reached(tables: &Tables, kept: &Kept, prices: &Prices, best: &Option<Plan>) -> bool
     requires { ArePrices tables.now prices.now }
-    ensures { MatchBool result (IsSomeAnd (cost_of best.now) (Reaches tables.now (kept_by kept.now) prices.now)) ⊤ }
+    ensures { MatchBool result (IsSomeAnd (cost_of best.now) (Reaches tables.now (kept_by kept.now) prices.now)) (IsBelowBest tables.now (kept_by kept.now) prices.now (cost_of best.now)) }
 {
     match best {
         None => false,

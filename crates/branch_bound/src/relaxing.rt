@@ -1,7 +1,8 @@
 //! The linear relaxation of a subproblem.
 ghost use Rattle.std.specs.Prelude.{◌≡◌, ℕ, IfOk, IsSome};
 ghost use Rattle.fleet_model.specs.Kept.{IsBare, kept_by};
-ghost use Rattle.branch_bound.specs.Relaxed.{IsAtBest, IsAtNoPoint, IsRelaxed};
+ghost use Rattle.branch_bound.specs.Relaxed.{IsAtBest, IsAtNoPoint, IsRelaxed, IsTold};
+ghost use Rattle.branch_bound.specs.Runs.{HasEnded};
 
 use bound_cert::{Cause, Mixed, Prices};
 use entries::NoMemory;
@@ -50,13 +51,30 @@ fn relax_by<R: RowStore + Drop>(
     let columns = rows.columns;
     let mut table = R::start(alloc, &rows)?;
     drop(rows);
-    match solve(alloc, &mut table, columns, pivots)? {
+    let outcome = solve(alloc, &mut table, columns, pivots)?;
+    ended(alloc, &table, outcome, tables, kept)
+}
+
+// What the end of a run comes to.
+fn ended<R: RowStore>(
+    alloc: Global,
+    table: &R,
+    outcome: Outcome,
+    tables: &Tables,
+    kept: &Kept,
+) -> Result<Relaxed, NoMemory>
+    requires pairs { (leg : ℕ) → ¬ (IsBare tables.now (kept_by kept.now) leg) }
+    requires ended { (pivots : ℕ) × HasEnded tables.now (kept_by kept.now) pivots (R.content table.now) outcome }
+    ensures relaxed { (pivots : ℕ) → HasEnded tables.now (kept_by kept.now) pivots (R.content table.now) outcome → IfOk result (IsRelaxed tables.now (kept_by kept.now) pivots) }
+    ensures told { IsTold outcome result }
+{
+    match outcome {
         Outcome::Best { basis, .. } => {
-            let lifted = lift_best(alloc, &table, basis.as_slice(), tables, kept);
+            let lifted = lift_best(alloc, table, basis.as_slice(), tables, kept);
             at_best(lifted)
         }
         Outcome::NoPoint { basis, .. } => {
-            let lifted = lift_refusal(alloc, &table, basis.as_slice(), tables, kept);
+            let lifted = lift_refusal(alloc, table, basis.as_slice(), tables, kept);
             at_no_point(lifted)
         }
         Outcome::Ray { .. } => unreachable!(),
@@ -76,7 +94,7 @@ fn relax_by<R: RowStore + Drop>(
 // Prices and a fractional assignment, or why there are none.
 fn at_best(lifted: Result<Lifted, LiftError>) -> Result<Relaxed, NoMemory>
     requires { IfOk lifted (λ l. IsSome l.mixed) }
-    ensures { IfOk result (IsAtBest lifted) }
+    ensures { IsAtBest lifted result }
 {
     match lifted {
         Ok(Lifted { prices, mixed }) => match mixed {
@@ -90,7 +108,7 @@ fn at_best(lifted: Result<Lifted, LiftError>) -> Result<Relaxed, NoMemory>
 
 // Prices that refute the subproblem, or why there are none.
 fn at_no_point(lifted: Result<Lifted, LiftError>) -> Result<Relaxed, NoMemory>
-    ensures { IfOk result (IsAtNoPoint lifted) }
+    ensures { IsAtNoPoint lifted result }
 {
     match lifted {
         Ok(Lifted { prices, .. }) => Ok(Relaxed::Refuted(prices)),

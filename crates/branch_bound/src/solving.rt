@@ -7,6 +7,7 @@ ghost use Rattle.branch_bound.specs.Causes.{zero_prices};
 ghost use Rattle.branch_bound.specs.Closing.{closed_by};
 ghost use Rattle.branch_bound.specs.Search.{Follows, IsBranch, IsSearch, cost_of};
 ghost use Rattle.branch_bound.specs.Solved.{IsSolved};
+ghost use Rattle.branch_bound.specs.Trims.{IsTrimmed};
 
 use crate::branching::branch;
 use crate::closing::close;
@@ -47,6 +48,7 @@ fn searched(alloc: Global, tables: &Tables, search: &mut Search) -> Result<Tree,
     ensures search { OnOk result (IsSearch tables.now search.new) }
     ensures follows { OnOk result (Follows search.old search.new) }
     ensures tree { IfOk result (IsBranch tables.now search.old search.new (all_pairs tables.now) (zero_prices tables.now)) }
+    ensures trimmed { IfOk result (IsTrimmed tables.now) }
 {
     let removals = trim(alloc, tables)?;
     let mut kept = Kept::all(tables);

@@ -61,7 +61,7 @@ repeated b (suc n) = let before = repeated b n in let one : suc n * bit b ≡ n 
     more n k = grind arith
 
 -- the wait ends so many periods and so many minutes after its period's start
-wait_end : (w r d : ℕ) → r < w → d < w → r + (d + w - r) % w ≡ d + bit (nat_lt d r) * w
+pub wait_end : (w r d : ℕ) → r < w → d < w → r + (d + w - r) % w ≡ d + bit (nat_lt d r) * w
 wait_end w r d ready departs = elim (cases_lt d r) [
   | inl next ↦ rw (until_next w r d next ready) (grind (arith, nat_tests))
   | inr later ↦ rw (until_later w r d later departs) (grind (arith, nat_tests))

@@ -93,7 +93,8 @@ module _ (t : Tables) (a : List ℕ) (f : ℕ) (given turns : List Connection) (
       let m = (turn_at turns k).departing in
       let parts = sum_below-add (λ q. bit (departs_before t a f given s m q)) (λ q. bit (m == q)) (legs_in t) in
       let one = sum_below-one m 1 (legs_in t) (map.each k lt).departing in
-      let less = sum_below-le (λ q. bit (departs_before t a f given s m q) + bit (m == q)) (λ q. bit (is_free_departure t a f given s q && nat_le (departure t (leg_on q f)) (departs_at t f (turn_at turns k)))) (legs_in t)
+      let less = sum_below-le (λ q. bit (departs_before t a f given s m q) + bit (m == q))
+      (λ q. bit (is_free_departure t a f given s q && nat_le (departure t (leg_on q f)) (departs_at t f (turn_at turns k)))) (legs_in t)
       (record {
         each = λ q below. last_before (is_free_departure t a f given s q) (departure t (leg_on q f)) q (departs_at t f (turn_at turns k)) m (λ same.
             (subst (λ l. is_free_departure t a f given s l ≡ true) same (departs_free k lt free), ap (λ l. departure t (leg_on l f)) (sym same)));
@@ -105,7 +106,8 @@ module _ (t : Tables) (a : List ℕ) (f : ℕ) (given turns : List Connection) (
   unfolding free_landed landing_place
   come_then k crossing = sum_below-le _ (λ q. bit (lands_before t a f given (station_at t (turn_at turns k)) (turn_at turns k).arriving q)) (legs_in t)
       (record {
-        each = λ q lt. all_before (is_free_landing t a f given (station_at t (turn_at turns k)) q) (ready_minute t (leg_on q f)) q (departs_at t f (turn_at turns k)) (ready_at t f (turn_at turns k)) (turn_at turns k).arriving
+        each = λ q lt. all_before (is_free_landing t a f given (station_at t (turn_at turns k)) q) (ready_minute t (leg_on q f)) q
+            (departs_at t f (turn_at turns k)) (ready_at t f (turn_at turns k)) (turn_at turns k).arriving
             (ltb-true _ _ crossing);
       })
 
@@ -146,10 +148,12 @@ module _ (t : Tables) (a : List ℕ) (f : ℕ) (given turns : List Connection) (
       never place landing need gone come e p q r = omega arith
 
   low_turn : AreFirstOut t a f given turns → (s k : ℕ) → k < length turns → bit (there t a f given turns map holds s k && crosses t f (turn_at turns k))
-      ≤ bit ((((leg_of t (turn_at turns k).departing).from == s) && (departures_of given (turn_at turns k).departing == 0)) && nat_lt (departure_place t a f given s (turn_at turns k).departing) (free_need t a f given s))
+      ≤ bit ((((leg_of t (turn_at turns k).departing).from == s) && (departures_of given (turn_at turns k).departing == 0))
+      && nat_lt (departure_place t a f given s (turn_at turns k).departing) (free_need t a f given s))
   unfolding there
   low_turn first s k lt =
-      subst (λ b. bit (there t a f given turns map holds s k && crosses t f (turn_at turns k)) ≤ bit (b && nat_lt (departure_place t a f given s (turn_at turns k).departing) (free_need t a f given s)))
+      subst (λ b. bit (there t a f given turns map holds s k && crosses t f (turn_at turns k))
+      ≤ bit (b && nat_lt (departure_place t a f given s (turn_at turns k).departing) (free_need t a f given s)))
       (there_is t a f given turns map holds s k lt)
       (and_le (there t a f given turns map holds s k) (crosses t f (turn_at turns k)) _ (λ e crossing.
       let parts = and_parts _ _ e in
@@ -159,7 +163,8 @@ module _ (t : Tables) (a : List ℕ) (f : ℕ) (given turns : List Connection) (
   few_low : (s : ℕ) → count_below (λ l. is_free_departure t a f given s l && nat_lt (departure_place t a f given s l) (free_need t a f given s)) (legs_in t) ≤ free_need t a f given s
   few_low s =
       let same = sum_below-agree (λ l. bit (is_free_departure t a f given s l && nat_lt (departure_place t a f given s l) (free_need t a f given s)))
-      (λ l. bit (is_free_departure t a f given s l && nat_lt (keyed_below (is_free_departure t a f given s) (departure_key t a f given s) (legs_in t) (departure_key t a f given s l)) (free_need t a f given s))) (legs_in t)
+      (λ l. bit (is_free_departure t a f given s l
+      && nat_lt (keyed_below (is_free_departure t a f given s) (departure_key t a f given s) (legs_in t) (departure_key t a f given s l)) (free_need t a f given s))) (legs_in t)
       (record { each = λ l below. ap (λ n. bit (is_free_departure t a f given s l && nat_lt n (free_need t a f given s))) (departure_is t a f given s l below) }) in
       omega (arith, same, few_places (is_free_departure t a f given s) (departure_key t a f given s) (legs_in t) (departures_differ t a f given s) (free_need t a f given s))
 

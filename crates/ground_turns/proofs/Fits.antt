@@ -35,7 +35,8 @@ module _ (t : Tables) (a : List ℕ) (f : ℕ) (turns : List Connection) (map : 
   all_cross : (s k : ℕ) → k < length turns → bit (waits_there t f turns s last_minute k) ≡ bit (crosses_there t f turns s k)
   all_cross s k lt = by_station (station_at t (turn_at turns k) == s) (waits_at t f (turn_at turns k) last_minute) (crosses t f (turn_at turns k))
       (at_last (ready_at t f (turn_at turns k)) (departs_at t f (turn_at turns k)) _ (ready_within t a f turns map k) (departs_within t a f turns map k lt)
-      (moment_law MINUTES_PER_PERIOD (ready_at t f (turn_at turns k)) (departs_at t f (turn_at turns k)) last_minute (ready_within t a f turns map k) (departs_within t a f turns map k lt) (omega arith)))
+      (moment_law MINUTES_PER_PERIOD (ready_at t f (turn_at turns k)) (departs_at t f (turn_at turns k)) last_minute
+      (ready_within t a f turns map k) (departs_within t a f turns map k lt) (omega arith)))
     where
       by_station : (c x y : Bool) → bit x ≡ bit y → bit (c && x) ≡ bit (c && y)
       by_station true x y e = e

@@ -20,7 +20,7 @@ use Rattle.ground_turns.proofs.Totals.{some_counted}
 use Rattle.ground_turns.proofs.Waits.{at_station, departs_within, over_arrivals, over_departures, ready_within}
 
 -- two that pass are one where at most one is counted
-once : (p : ℕ → Bool) (n j k : ℕ) → count_below p n ≤ 1 → j < n → k < n → p j ≡ true → p k ≡ true → j ≡ k
+pub once : (p : ℕ → Bool) (n j k : ℕ) → count_below p n ≤ 1 → j < n → k < n → p j ≡ true → p k ≡ true → j ≡ k
 once p n j k few first second h g = elim (cases_order j k) [
   | inl same ↦ same
   | inr other ↦ elim other [
@@ -39,7 +39,7 @@ same_test true false h g = sym (h refl)
 same_test false true h g = g refl
 same_test false false h g = refl
 
-not_none : (n : ℕ) → (n == 0) ≡ false → 0 < n
+pub not_none : (n : ℕ) → (n == 0) ≡ false → 0 < n
 not_none n e = grind (arith, nat_tests)
 
 some_test : (n : ℕ) → 0 < n → (n == 0) ≡ false
@@ -95,13 +95,13 @@ module _ (t : Tables) (a : List ℕ) (f : ℕ) (given turns : List Connection) (
       first second (eq-eqb _ _ e) (eq-eqb _ _ refl)
 
   -- the turn of a leg that a given pair has is that pair
-  by_arriving : (g k : ℕ) → g < length given → k < length turns → (turn_at given g).arriving ≡ (turn_at turns k).arriving → turn_at turns k ≡ turn_at given g
+  pub by_arriving : (g k : ℕ) → g < length given → k < length turns → (turn_at given g).arriving ≡ (turn_at turns k).arriving → turn_at turns k ≡ turn_at given g
   by_arriving g k within lt e =
       let held = holds.each g within in
       let same : held.place ≡ k = one_arriving held.place k held.within lt (ap (λ turn. turn.arriving) held.there ∙ e) in
       subst (λ q. turn_at turns q ≡ turn_at given g) same held.there
 
-  by_departing : (g k : ℕ) → g < length given → k < length turns → (turn_at given g).departing ≡ (turn_at turns k).departing → turn_at turns k ≡ turn_at given g
+  pub by_departing : (g k : ℕ) → g < length given → k < length turns → (turn_at given g).departing ≡ (turn_at turns k).departing → turn_at turns k ≡ turn_at given g
   by_departing g k within lt e =
       let held = holds.each g within in
       let same : held.place ≡ k = one_departing held.place k held.within lt (ap (λ turn. turn.departing) held.there ∙ e) in
@@ -159,10 +159,14 @@ module _ (t : Tables) (a : List ℕ) (f : ℕ) (given turns : List Connection) (
       ∙ over_departures t a f turns map (λ l. bit ((((leg_of t l).from == s) && (departures_of given l == 0)) && nat_le (departure t (leg_on l f)) m))
       ∙ sum_below-agree _ _ (legs_in t) (record { each = λ l below. landed_part (fleet_at a l == f) ((leg_of t l).from == s) (nat_le (departure t (leg_on l f)) m) (departures_of given l == 0) })
 
-  -- free departures by a moment are at most the free landings by then and the free turns that cross
-  free_law : (s m : ℕ) → m < period_of t → free_departed t a f given s m ≤ free_landed t a f given s m + free_crossings s
-  unfolding free_crossings
-  free_law s m moment =
+  -- how many free turns wait at a station at a moment
+  unfoldable pub free_waiting : ℕ → ℕ → ℕ
+  free_waiting s m = count_below (λ k. there s k && waits_at t f (turn_at turns k) m) (length turns)
+
+  -- with free departures by then they are the free landings by then and the free turns that cross
+  pub free_turns_law : (s m : ℕ) → m < period_of t → free_waiting s m + free_departed t a f given s m ≡ free_landed t a f given s m + free_crossings s
+  unfolding free_crossings free_waiting
+  free_turns_law s m moment =
       let same = sum_below-agree (λ k. bit (there s k && waits_at t f (turn_at turns k) m) + bit (there s k && nat_le (departs_at t f (turn_at turns k)) m))
       (λ k. bit (there s k && nat_le (ready_at t f (turn_at turns k)) m) + bit (there s k && crosses t f (turn_at turns k))) (length turns)
       (record {
@@ -177,7 +181,7 @@ module _ (t : Tables) (a : List ℕ) (f : ℕ) (given turns : List Connection) (
   -- the free need is at most the free turns that cross
   pub need_crosses : (s : ℕ) → free_need t a f given s ≤ free_crossings s
   unfolding free_need
-  need_crosses s = max_below-least (free_excess t a f given s) (free_crossings s) (period_of t) (record { each = λ m moment. omega (arith, free_law s m moment) })
+  need_crosses s = max_below-least (free_excess t a f given s) (free_crossings s) (period_of t) (record { each = λ m moment. omega (arith, free_turns_law s m moment) })
 
   -- a turn that is given crosses as the given pairs say
   as_given : (k : ℕ) → k < length turns → is_free k ≡ false → crosses t f (turn_at turns k) ≡ crosses_by_given t f given (turn_at turns k).arriving

@@ -1,3 +1,5 @@
+pub mod ApartMaps
+pub mod CleanTurns
 pub mod DayStarts
 pub mod Exchanges
 pub mod FirstOuts
@@ -5,10 +7,13 @@ pub mod Fits
 pub mod FleetTurns
 pub mod FreeTurns
 pub mod NightCounts
+pub mod OneSegment
 pub mod Places
 pub mod Ranks
 pub mod Regroup
 pub mod Rounds
 pub mod SomeMap
 pub mod Totals
+pub mod TourNights
 pub mod Waits
+pub mod WalkRound

@@ -99,7 +99,9 @@ keyed_all p key n x = sum_below-le (λ q. bit (p q && nat_lt (key q) x)) (λ q. 
 
 past_counts : (p : ℕ → Bool) (key : ℕ → ℕ) (n : ℕ) → keyed_below p key n (past_all p key n) ≡ count_below p n
 unfolding keyed_below
-past_counts p key n = sum_below-agree (λ q. bit (p q && nat_lt (key q) (past_all p key n))) (λ q. bit (p q)) n (record { each = λ q lt. one (p q) (key q) (past_all p key n) (under_past p key n q lt) })
+past_counts p key n =
+    sum_below-agree (λ q. bit (p q && nat_lt (key q) (past_all p key n))) (λ q. bit (p q)) n
+    (record { each = λ q lt. one (p q) (key q) (past_all p key n) (under_past p key n q lt) })
   where
     one : (b : Bool) (k x : ℕ) → k < x → bit (b && nat_lt k x) ≡ bit b
     one b k x less = grind (arith, nat_tests)

@@ -1,11 +1,11 @@
 -- The map of a fleet that goes first in, first out at each station; it fits.
-use Rattle.std.proofs.Common.{◌≡◌, ℕ, ◌+◌, ◌-◌, ◌*◌, ◌%◌, ◌<◌, ◌≤◌, ◌⊎◌, inl, inr, Bool, true, false, if◌then◌else◌, ◌==◌, ◌&&◌, nat_le, List, [], length, refl, sym, ◌∙◌, ap, subst, arith}
+use Rattle.std.proofs.Common.{◌≡◌, ℕ, ◌+◌, ◌-◌, ◌*◌, ◌%◌, ◌<◌, ◌≤◌, ◌⊎◌, inl, inr, Bool, true, false, if◌then◌else◌, ◌==◌, ◌&&◌, nat_le, List, [], refl, sym, ◌∙◌, ap, subst, arith}
 use Rattle.std.proofs.lemmas.Nat.{mod_below}
-use Rattle.std.proofs.lemmas.Bool.{cases_eq, cases_lt, and_from, and_parts, eqb-true, eq-eqb}
+use Rattle.std.proofs.lemmas.Bool.{and_from, and_parts, eqb-true, eq-eqb}
 use Rattle.std.proofs.lemmas.Bool.Decides.{nat_tests}
-use Rattle.sums.specs.Below.{sum_below, count_below}
+use Rattle.sums.specs.Below.{count_below}
 use Rattle.sums.proofs.Maxima.{max_below-agree, max_below-least}
-use Rattle.sums.proofs.Sums.{sum_below-agree, sum_below-add, sum_below-le, sum_below-one, sum_below-zero}
+use Rattle.sums.proofs.Sums.{sum_below-agree, sum_below-le, sum_below-zero}
 use Rattle.fleet_model.specs.declared.limits.TheConstants.{MINUTES_PER_PERIOD}
 use Rattle.fleet_model.specs.declared.parts.Connection.{Connection}
 use Rattle.fleet_model.specs.declared.tables.Tables.{Tables}
@@ -15,28 +15,18 @@ use Rattle.fleet_model.specs.Times.{departure, ready_minute}
 use Rattle.fleet_model.specs.Use.{IsBalanced, excess, last_minute, need_of}
 use Rattle.ground_turns.specs.FirstOut.{AreFirstOut, IsFirstOut, departure_place, free_departed, free_excess, free_landed, free_landings, free_need, is_free_departure, is_free_landing, landing_place}
 use Rattle.ground_turns.specs.Laws.{SomeFits, surplus_at}
-use Rattle.ground_turns.specs.Maps.{Holds, IsFitting, IsHeld, IsSuccessorMap, arrivals_of, crossings_at, departures_of, turn_at}
+use Rattle.ground_turns.specs.Maps.{Holds, IsFitting, IsHeld, IsNext, IsSuccessorMap, crossings_at, turn_by, turns_by}
 use Rattle.ground_turns.specs.Turns.{IsTurn, period_of}
 use Rattle.ground_turns.proofs.Fits.{periods_beyond_use}
 use Rattle.ground_turns.proofs.FirstOuts.{mod_cases, no_more_cross}
-use Rattle.ground_turns.proofs.FleetTurns.{each_turn, over_turns, pick, picked, turn_of, turns_up_to}
+use Rattle.ground_turns.proofs.FleetTurns.{each_turn, is_map, pick, picked}
 use Rattle.ground_turns.proofs.FreeTurns.{crosses_by_given, crossings_are, given_at}
 use Rattle.ground_turns.proofs.Places.{departure_is, departure_key, departures_differ, landing_is, landing_key, landings_differ}
-use Rattle.ground_turns.proofs.Ranks.{at_most_one, one_place, place_taken, place_within}
-use Rattle.ground_turns.proofs.Regroup.{by_places}
+use Rattle.ground_turns.proofs.Ranks.{one_place, place_taken, place_within}
 use Rattle.ground_turns.proofs.Rounds.{bit}
-use Rattle.ground_turns.proofs.Totals.{some_counted, term_below}
-
--- terms that are no more, and no less in sum, are equal
-equal_terms : (f g : ℕ → ℕ) (n k : ℕ) → ((k : ℕ) → k < n → f k ≤ g k) → sum_below f n ≡ sum_below g n → k < n → f k ≡ g k
-equal_terms f g n k less same lt =
-    let parts = sum_below-agree g (λ j. f j + (g j - f j)) n (record { each = λ j below. let le = less j below in omega arith }) in
-    let sum = sum_below-add f (λ j. g j - f j) n in
-    let term = term_below (λ j. g j - f j) n k lt in
-    omega (arith, parts, sum, same, term, less k lt)
 
 -- numbers that go round to one are one
-same_round : (x y f n : ℕ) → x < n → y < n → f ≤ n → (x + f) % n ≡ (y + f) % n → x ≡ y
+pub same_round : (x y f n : ℕ) → x < n → y < n → f ≤ n → (x + f) % n ≡ (y + f) % n → x ≡ y
 same_round x y f n below within few e = by_cases (mod_cases (x + f) n (omega arith)) (mod_cases (y + f) n (omega arith))
   where
     by_cases : (((x + f) % n ≡ x + f) × (x + f < n)) ⊎ (((x + f) % n ≡ x + f - n) × (n ≤ x + f))
@@ -57,23 +47,6 @@ none_part : (w : ℕ) (b c : Bool) → w * bit ((b && false) && c) ≡ 0
 none_part w true c = omega arith
 none_part w false c = omega arith
 
--- a leg's share at one leg
-one_leg : (b c : Bool) (k l : ℕ) → (k ≡ l → b ≡ c) → bit b * bit (k == l) ≡ (if l == k then bit c else 0)
-one_leg b c k l h = elim (cases_eq k l) [
-  | inl same ↦ let equal = h same in here b c k l equal same
-  | inr other ↦ apart b c k l other
-]
-  where
-    here : (b c : Bool) (k l : ℕ) → b ≡ c → k ≡ l → bit b * bit (k == l) ≡ (if l == k then bit c else 0)
-    here b c k l e g = grind (arith, nat_tests)
-
-    apart : (b c : Bool) (k l : ℕ) → (k ≡ l → ⊥) → bit b * bit (k == l) ≡ (if l == k then bit c else 0)
-    apart b c k l g = grind (arith, nat_tests)
-
-both : (b c : Bool) → bit b * bit c ≡ bit (b && c)
-both true c = omega arith
-both false c = omega arith
-
 module _ (t : Tables) (a : List ℕ) (f : ℕ) (s : ℕ) where
   landed_all : (m : ℕ) → free_landed t a f [] s m ≡ arrived t (weights_of a) f s m
   unfolding free_landed arrived
@@ -89,14 +62,22 @@ module _ (t : Tables) (a : List ℕ) (f : ℕ) (s : ℕ) where
 
   landings_all : free_landings t a f [] s ≡ arrived t (weights_of a) f s last_minute
   unfolding free_landings arrived
-  landings_all = sum_below-agree _ _ (legs_in t) (record { each = λ l below. all_part (fleet_at a l == f) ((leg_of t l).to == s) (nat_le (ready_minute t (leg_on l f)) last_minute) (by_last _ (mod_below _ MINUTES_PER_PERIOD (omega arith))) })
+  landings_all = sum_below-agree _ _ (legs_in t) (record {
+    each = λ l below.
+        all_part (fleet_at a l == f) ((leg_of t l).to == s) (nat_le (ready_minute t (leg_on l f)) last_minute)
+        (by_last _ (mod_below _ MINUTES_PER_PERIOD (omega arith)));
+  })
     where
       by_last : (r : ℕ) → r < MINUTES_PER_PERIOD → nat_le r last_minute ≡ true
       by_last r lt = grind (arith, nat_tests)
 
   departures_all : count_below (is_free_departure t a f [] s) (legs_in t) ≡ departed t (weights_of a) f s last_minute
   unfolding departed
-  departures_all = sum_below-agree _ _ (legs_in t) (record { each = λ l below. all_part (fleet_at a l == f) ((leg_of t l).from == s) (nat_le (departure t (leg_on l f)) last_minute) (by_last _ (t.in_range.legs_fit.each l no_leg below).dep) })
+  departures_all = sum_below-agree _ _ (legs_in t) (record {
+    each = λ l below.
+        all_part (fleet_at a l == f) ((leg_of t l).from == s) (nat_le (departure t (leg_on l f)) last_minute)
+        (by_last _ (t.in_range.legs_fit.each l no_leg below).dep);
+  })
     where
       by_last : (r : ℕ) → r < MINUTES_PER_PERIOD → nat_le r last_minute ≡ true
       by_last r lt = grind (arith, nat_tests)
@@ -185,10 +166,7 @@ module _ (t : Tables) (a : List ℕ) (f : ℕ) (balanced : IsBalanced t (weights
       (lands l flies) (subst (λ at. is_free_landing t a f [] at k ≡ true) same (lands k flies'))
       (sym (landing_is t a f [] s l below) ∙ places ∙ landing_is t a f [] s k within)
 
-  turns : List Connection
-  turns = turns_up_to in_fleet next (legs_in t)
-
-  a_turn : (l : ℕ) → l < legs_in t → in_fleet l ≡ true → IsTurn t a f (turn_of in_fleet next l)
+  a_turn : (l : ℕ) → l < legs_in t → in_fleet l ≡ true → IsTurn t a f (turn_by next l)
   a_turn l below flies = record {
     arriving = below;
     departing = (next_is l below flies).0;
@@ -197,55 +175,22 @@ module _ (t : Tables) (a : List ℕ) (f : ℕ) (balanced : IsBalanced t (weights
     meets = sym (next_leaves l below flies);
   }
 
-  arrivals : (l : ℕ) → l < legs_in t → arrivals_of turns l ≡ weights_of a (leg_on l f)
-  unfolding turns
-  arrivals l below =
-      over_turns in_fleet next (λ turn. bit (turn.arriving == l)) (legs_in t)
-      ∙ sum_below-agree (λ k. bit (in_fleet k) * bit (k == l)) (λ k. if l == k then bit (in_fleet l) else 0) (legs_in t) (record { each = λ k lt. one_leg (in_fleet k) (in_fleet l) k l (ap in_fleet) })
-      ∙ sum_below-one l (bit (in_fleet l)) (legs_in t) below
+  leads : IsNext t a f next
+  leads = record {
+    turn = λ l below flies. a_turn l below (eq-eqb _ _ flies);
+    once = λ l k below within flies flies' e. next_once l k below within (eq-eqb _ _ flies) (eq-eqb _ _ flies') e;
+  }
 
-  departs_at_most : (m : ℕ) → departures_of turns m ≤ bit (in_fleet m)
-  unfolding turns
-  departs_at_most m =
-      let over = over_turns in_fleet next (λ turn. bit (turn.departing == m)) (legs_in t) in
-      let same = sum_below-agree (λ l. bit (in_fleet l) * bit (next l == m)) (λ l. bit (in_fleet l && (next l == m))) (legs_in t) (record { each = λ l below. both (in_fleet l) (next l == m) }) in
-      let few = at_most_one (λ l. in_fleet l && (next l == m)) (legs_in t) (λ j k first second e g.
-      let left = and_parts _ _ e in
-      let right = and_parts _ _ g in
-      next_once j k first second left.0 right.0 (eqb-true _ _ left.1 ∙ sym (eqb-true _ _ right.1))) in
-      by_fleet (in_fleet m) refl (count_below (λ l. in_fleet l && (next l == m)) (legs_in t)) few (λ some.
-      let found = some_counted (λ l. in_fleet l && (next l == m)) (legs_in t) some in
-      let parts = and_parts _ _ found.2 in
-      subst (λ q. in_fleet q ≡ true) (eqb-true _ _ parts.1) (next_flies found.0 found.1 parts.0)) (over ∙ same)
-    where
-      clash : false ≡ true → ⊥
-      clash e = cc
-
-      by_fleet : (b : Bool) → in_fleet m ≡ b → (n : ℕ) → n ≤ 1 → (0 < n → in_fleet m ≡ true) → departures_of turns m ≡ n → departures_of turns m ≤ bit b
-      by_fleet true e n few h same = omega (arith, few, same)
-      by_fleet false e n few h same = elim (cases_lt 0 n) [ inl some ↦ absurd (clash (sym e ∙ h some)) | inr none ↦ omega (arith, none, same) ]
-
-  departures : (m : ℕ) → m < legs_in t → departures_of turns m ≡ weights_of a (leg_on m f)
-  unfolding turns
-  departures m below =
-      let counted = by_places (λ k. (turn_at turns k).departing) (λ q. 1) (legs_in t) (length turns)
-      (each_turn in_fleet next (λ turn. turn.departing < legs_in t) (legs_in t) (λ l known flies. (next_is l known flies).0)) in
-      let listed = over_turns in_fleet next (λ turn. 1) (legs_in t) in
-      let left = sum_below-agree (departures_of turns) (λ q. departures_of turns q * 1) (legs_in t) (record { each = λ q lt. omega arith }) in
-      let right = sum_below-agree (λ l. bit (in_fleet l) * 1) (λ l. bit (in_fleet l)) (legs_in t) (record { each = λ q lt. omega arith }) in
-      equal_terms (departures_of turns) (λ l. bit (in_fleet l)) (legs_in t) m (λ k lt. departs_at_most k) (left ∙ sym counted ∙ listed ∙ right) below
+  turns : List Connection
+  turns = turns_by a f next (legs_in t)
 
   map : IsSuccessorMap t a f turns
   unfolding turns
-  map = record {
-    each = each_turn in_fleet next (IsTurn t a f) (legs_in t) a_turn;
-    arrives = arrivals;
-    departs = departures;
-  }
+  map = is_map t a f next leads
 
   first_out : AreFirstOut t a f [] turns
   unfolding turns next_place
-  first_out = record { each = λ k lt none. each_turn in_fleet next (IsFirstOut t a f []) (legs_in t) (λ l below flies. record { place = next_at l below flies }) k lt }
+  first_out = record { each = λ k lt none. each_turn a f next (IsFirstOut t a f []) (legs_in t) (λ l below flies. record { place = next_at l below (eq-eqb _ _ flies) }) k lt }
 
   holds : Holds turns []
   holds = record { each = λ k lt. absurd (none lt) }

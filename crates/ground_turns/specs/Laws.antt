@@ -1,15 +1,18 @@
 -- The laws of turns and successor maps, as statements.
-use Rattle.std.specs.Prelude.{◌≡◌, ◌≢◌, ℕ, suc, ◌+◌, ◌-◌, ◌*◌, ◌<◌, ◌==◌, ◌↔◌, if◌then◌else◌, IsTrue, List, [], length}
+use Rattle.std.specs.Prelude.{◌≡◌, ◌≢◌, ℕ, suc, ◌+◌, ◌-◌, ◌*◌, ◌<◌, ◌==◌, ◌↔◌, if◌then◌else◌, Bool, IsTrue, List, [], length, slice_index}
 use Rattle.sums.specs.Below.{sum_below}
 use Rattle.fleet_model.specs.declared.limits.TheConstants.{MINUTES_PER_DAY}
 use Rattle.fleet_model.specs.declared.parts.Connection.{Connection}
 use Rattle.fleet_model.specs.declared.tables.Tables.{Tables}
 use Rattle.fleet_model.specs.Counts.{weights_of}
-use Rattle.fleet_model.specs.Schedule.{fleets_in, stations_in}
+use Rattle.fleet_model.specs.Schedule.{fleets_in, legs_in, stations_in}
 use Rattle.fleet_model.specs.Use.{IsBalanced, need_of, stand_of, used_of}
 use Rattle.ground_turns.specs.FirstOut.{AreFirstOut}
-use Rattle.ground_turns.specs.Maps.{AreClean, AreExchanged, Holds, IsFitting, IsHeld, IsSuccessorMap, crossings_at, periods_of, turn_at, waiting_at}
-use Rattle.ground_turns.specs.Turns.{days_in, nights_waited, period_of, station_at, touches}
+use Rattle.ground_turns.specs.Maps.{AreClean, AreExchanged, Holds, IsFitting, IsHeld, IsNext, IsSuccessorMap, IsTour, crossings_at, periods_of, turn_at, turns_by, turns_round, waiting_at}
+use Rattle.ground_turns.specs.Nights.{nights_in_turns}
+use Rattle.ground_turns.specs.Parts.{KeepsPart, NeverTouches}
+use Rattle.ground_turns.specs.Segments.{EndAt, NoneEnds, is_among, minutes_of}
+use Rattle.ground_turns.specs.Turns.{IsClean, days_in, departs_at, nights_waited, period_of, ready_at, station_at, touches}
 
 -- by how many the turns at a station that cross the period's start pass its need
 abbrev pub surplus_at : Tables → List ℕ → ℕ → List Connection → ℕ → ℕ
@@ -63,6 +66,11 @@ abbrev pub NightsAreNeed : Type 0
 NightsAreNeed = (t : Tables) (a : List ℕ) (f : ℕ) (turns : List Connection) (s : ℕ) → IsFitting t a f turns → s < stations_in t
     → period_of t ≡ MINUTES_PER_DAY → nights_at t f turns s ≡ need_of t (weights_of a) f s
 
+-- the nights of a fitting map, so of a tour, are the aircraft that the fleet uses times the days of the period
+abbrev pub NightsAreUse : Type 0
+NightsAreUse = (t : Tables) (a : List ℕ) (f : ℕ) (turns : List Connection) → IsFitting t a f turns
+    → length (nights_in_turns t f turns) ≡ used_of t (weights_of a) f * days_in t
+
 -- two turns of a list at one station that touch one minute
 pub record Touch (t : Tables) (f : ℕ) (turns : List Connection) (i j m : ℕ) : Type 0 where
   pub first : i < length turns
@@ -83,6 +91,29 @@ abbrev pub FirstOutFits : Type 0
 FirstOutFits = (t : Tables) (a : List ℕ) (f : ℕ) (given turns : List Connection) → IsHeld t a f given → IsSuccessorMap t a f turns → Holds turns given
     → AreFirstOut t a f given turns → IsFitting t a f turns
 
+-- where beside given pairs no turn of a part touches one outside, each fitting map that holds the pairs keeps the part
+abbrev pub ApartForAll : Type 0
+ApartForAll = (t : Tables) (a : List ℕ) (f : ℕ) (given turns other : List Connection) (inside : ℕ → Bool) → IsFitting t a f turns → Holds turns given
+    → KeepsPart turns inside → NeverTouches t f given turns inside → IsFitting t a f other → Holds other given → KeepsPart other inside
+
+-- a tour that keeps a part has all its legs in the part, or none
+abbrev pub TourIsWhole : Type 0
+TourIsWhole = (t : Tables) (a : List ℕ) (f : ℕ) (legs : List ℕ) (inside : ℕ → Bool) → IsTour t a f legs → KeepsPart (turns_round legs) inside
+    → (j k : ℕ) → j < length legs → k < length legs → inside (slice_index legs j) ≡ inside (slice_index legs k)
+
 -- where as many aircraft of a fleet come to each station as leave it, some map fits
 abbrev pub SomeFits : Type 0
 SomeFits = (t : Tables) (a : List ℕ) (f : ℕ) → IsBalanced t (weights_of a) → f < fleets_in t → IsHeld t a f []
+
+-- the list has those minutes at whose end none of the fleet's aircraft stands at the station
+pub record AreBareMinutes (t : Tables) (a : List ℕ) (f s : ℕ) (minutes : List ℕ) : Type 0 where
+  pub each : (m : ℕ) → m < period_of t → is_among minutes m ≡ (stand_of t (weights_of a) f s m == 0)
+
+-- segments that end with these minutes tell whether a turn at the station is clean
+abbrev pub SegmentsTellClean : Type 0
+SegmentsTellClean = (t : Tables) (a : List ℕ) (f : ℕ) (turn : Connection) (minutes numbers : List ℕ) → AreBareMinutes t a f (station_at t turn) minutes
+    → minutes_of numbers ≡ period_of t → EndAt minutes numbers → (NoneEnds numbers (ready_at t f turn) (departs_at t f turn) ↔ IsClean t a f turn)
+
+-- where the next of each leg makes a turn with it and no two have the same, these turns are a successor map
+abbrev pub NextIsMap : Type 0
+NextIsMap = (t : Tables) (a : List ℕ) (f : ℕ) (next : ℕ → ℕ) → IsNext t a f next → IsSuccessorMap t a f (turns_by a f next (legs_in t))

@@ -1,10 +1,10 @@
 -- Successor maps, which send each leg of a fleet to the one that its aircraft flies next, and tours.
-use Rattle.std.specs.Prelude.{◌≡◌, ◌≢◌, ℕ, suc, ◌+◌, ◌%◌, ◌<◌, Bool, ◌==◌, ◌&&◌, List, length, slice_index, slice_index_or}
+use Rattle.std.specs.Prelude.{◌≡◌, ◌≢◌, ℕ, zero, suc, ◌+◌, ◌%◌, ◌<◌, Bool, ◌==◌, ◌&&◌, if◌then◌else◌, List, [], ◌∷◌, ◌++◌, length, slice_index, slice_index_or}
 use Rattle.sums.specs.Below.{count_below}
 use Rattle.sums.specs.Places.{list_below}
 use Rattle.fleet_model.specs.declared.parts.Connection.{Connection}
 use Rattle.fleet_model.specs.declared.tables.Tables.{Tables}
-use Rattle.fleet_model.specs.Counts.{weights_of}
+use Rattle.fleet_model.specs.Counts.{fleet_at, weights_of}
 use Rattle.fleet_model.specs.Schedule.{leg_on, legs_in}
 use Rattle.fleet_model.specs.Use.{laps_flown, used_of}
 use Rattle.ground_turns.specs.Turns.{IsClean, IsTurn, crosses, station_at, waits_at}
@@ -28,6 +28,19 @@ pub record IsSuccessorMap (t : Tables) (a : List ℕ) (f : ℕ) (turns : List Co
   pub each : (k : ℕ) → k < length turns → IsTurn t a f (turn_at turns k)
   pub arrives : (l : ℕ) → l < legs_in t → arrivals_of turns l ≡ weights_of a (leg_on l f)
   pub departs : (l : ℕ) → l < legs_in t → departures_of turns l ≡ weights_of a (leg_on l f)
+
+-- the turns of the fleet's first legs, in the order of those that arrive, where for each of them the next is given
+abbrev pub turn_by : (ℕ → ℕ) → ℕ → Connection
+turn_by next l = record { arriving = l; departing = next l }
+
+abbrev pub turns_by : List ℕ → ℕ → (ℕ → ℕ) → ℕ → List Connection
+turns_by a f next zero = []
+turns_by a f next (suc n) = turns_by a f next n ++ (if fleet_at a n == f then turn_by next n ∷ [] else [])
+
+-- the next of each of the fleet's legs makes a turn with it, and no two have the same
+pub record IsNext (t : Tables) (a : List ℕ) (f : ℕ) (next : ℕ → ℕ) : Type 0 where
+  pub turn : (l : ℕ) → l < legs_in t → fleet_at a l ≡ f → IsTurn t a f (turn_by next l)
+  pub once : (l k : ℕ) → l < legs_in t → k < legs_in t → fleet_at a l ≡ f → fleet_at a k ≡ f → next l ≡ next k → l ≡ k
 
 -- all turns are clean
 pub record AreClean (t : Tables) (a : List ℕ) (f : ℕ) (turns : List Connection) : Type 0 where

@@ -16,9 +16,12 @@ period_of t = MINUTES_PER_PERIOD
 abbrev pub days_in : Tables → ℕ
 days_in t = period_of t / MINUTES_PER_DAY
 
--- how many minutes after one minute another comes, going round
+-- how many minutes after one minute another comes, going round in so many minutes
+abbrev pub minutes_round : ℕ → ℕ → ℕ → ℕ
+minutes_round minutes from to = (to + minutes - from) % minutes
+
 abbrev pub minutes_until : Tables → ℕ → ℕ → ℕ
-minutes_until t from to = (to + period_of t - from) % period_of t
+minutes_until t from to = minutes_round (period_of t) from to
 
 -- the station of a turn
 abbrev pub station_at : Tables → Connection → ℕ

@@ -1,5 +1,5 @@
 //! The laws of turns and successor maps. Each function is a law: its contract is the statement, and it does nothing.
-ghost use Rattle.ground_turns.specs.Laws.{ExchangedFits, FirstOutFits, FitsWhereClean, NightsAreNeed, NightsAreStands, PeriodsBeyondUse, SomeFits, WaitingIsStand, WaitingLaw};
+ghost use Rattle.ground_turns.specs.Laws.{ApartForAll, ExchangedFits, FirstOutFits, FitsWhereClean, NextIsMap, NightsAreNeed, NightsAreStands, NightsAreUse, PeriodsBeyondUse, SegmentsTellClean, SomeFits, TourIsWhole, WaitingIsStand, WaitingLaw};
 
 /// In a successor map the aircraft that wait at a station are, at each moment, those that stand there and one number
 /// more: by which the turns that cross the period's start pass the need.
@@ -33,6 +33,11 @@ pub fn nights_are_need()
     ensures { NightsAreNeed }
 {}
 
+/// The nights of a fitting map, so of a tour, number the aircraft that the fleet uses times the days of the period.
+pub fn nights_are_use()
+    ensures { NightsAreUse }
+{}
+
 /// Where two turns at a station touch one minute, a fitting map with their departures exchanged fits too.
 pub fn exchanged_fits()
     ensures { ExchangedFits }
@@ -44,7 +49,31 @@ pub fn first_out_fits()
     ensures { FirstOutFits }
 {}
 
+/// Where beside given pairs no turn of a part of a fitting map touches one outside, each fitting map that holds the pairs
+/// keeps the part.
+pub fn apart_for_all()
+    ensures { ApartForAll }
+{}
+
+/// A tour that keeps a part has all its legs in the part, or none. So no tour holds pairs beside which two parts never
+/// touch.
+pub fn tour_is_whole()
+    ensures { TourIsWhole }
+{}
+
 /// Some map fits for each fleet of a balanced assignment, as each legal one is: the one that goes first in, first out.
 pub fn some_fits()
     ensures { SomeFits }
+{}
+
+/// Segments that end with the minutes at whose end no aircraft of a fleet stands at a station tell whether a turn there
+/// is clean.
+pub fn segments_tell_clean()
+    ensures { SegmentsTellClean }
+{}
+
+/// Where the next of each of the fleet's legs makes a turn with it and no two have the same, these turns are a
+/// successor map.
+pub fn next_is_map()
+    ensures { NextIsMap }
 {}

@@ -3,5 +3,7 @@
 
 pub mod laws;
 pub mod nights;
+pub mod segments;
 
 pub use nights::Night;
+pub use segments::Segments;

@@ -2,7 +2,7 @@
 use Rattle.std.proofs.Common.{◌≡◌, ℕ, zero, suc, ◌+◌, ◌<◌, Bool, true, false, if◌then◌else◌, List, [], ◌∷◌, ◌++◌, length, get_or, map, ℤ, pos, ◌+ℤ◌, ◌*ℤ◌, refl, sym, ◌∙◌, ap, append_assoc, arith}
 use Rattle.std.proofs.lemmas.Int.{ints}
 use lib.IntN.{zero-*ℤ, +ℤ_idl}
-use Rattle.sums.specs.Below.{sum_below, sum_below_ℤ, count_below}
+use Rattle.sums.specs.Below.{sum_below_ℤ, count_below}
 use Rattle.sums.proofs.Integers.{one-*ℤ}
 use Rattle.sums.proofs.Places.{get_or-list_below, length-list_below, list_below-push}
 use Rattle.sums.proofs.WholeSums.{sum_below_ℤ-same, sum_below_ℤ-pos}

@@ -1,10 +1,7 @@
 -- Bounds of the least worth of a leg's kept pairs.
-use Rattle.std.proofs.Common.{◌≡◌, ℕ, zero, suc, ◌<◌, Bool, true, false, if◌then◌else◌, Option, Some, None, ℤ, pos, ◌≤ℤ◌, refl, inl, inr, arith}
+use Rattle.std.proofs.Common.{◌≡◌, ℕ, zero, suc, ◌<◌, Bool, true, false, if◌then◌else◌, Option, Some, None, ℤ, ◌≤ℤ◌, refl, inl, inr, arith}
 use Rattle.std.specs.Prelude.{unwrap_or, int_le}
 use Rattle.std.proofs.lemmas.Bool.{cases_lt}
-use Rattle.std.proofs.lemmas.Int.{ints}
-use Rattle.sums.specs.Below.{sum_below, sum_below_ℤ}
-use Rattle.sums.proofs.WholeSums.{sum_below_ℤ-pos}
 use Rattle.bound_cert.specs.Worth.{least_below, lesser}
 
 -- each kept number is no less than a bound

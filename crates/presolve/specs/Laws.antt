@@ -1,9 +1,9 @@
 -- The laws of presolve, as statements.
-use Rattle.std.specs.Prelude.{◌≡◌, ℕ, ◌*◌, ◌<◌, ◌≤◌, List, map}
+use Rattle.std.specs.Prelude.{◌≡◌, ℕ, ◌<◌, ◌≤◌, List, map}
 use Rattle.fleet_model.specs.Aloft.{aloft}
 use Rattle.fleet_model.specs.Kept.{Domains, pairs_kept}
 use Rattle.fleet_model.specs.Schedule.{IsPair}
-use Rattle.fleet_model.specs.declared.limits.TheConstants.{MAX_FLEETS, MAX_LEGS, MINUTES_PER_PERIOD}
+use Rattle.fleet_model.specs.declared.limits.TheConstants.{MINUTES_PER_PERIOD}
 use Rattle.fleet_model.specs.declared.parts.Pair.{Pair}
 use Rattle.fleet_model.specs.declared.tables.Tables.{Tables}
 use Rattle.presolve.specs.Removals.{AreRemovals, pair_of}
@@ -18,6 +18,6 @@ BusyIsUnderWay = (t : Tables) (p : Pair) (m : ℕ) → IsPair t p → m < MINUTE
 abbrev pub RemovalsAreOne : Type 0
 RemovalsAreOne = (t : Tables) (keeps : Domains) (place : Pair) (xs ys : List Trim) → AreRemovals t keeps place xs → AreRemovals t keeps place ys → map pair_of xs ≡ map pair_of ys
 
--- no more pairs are kept than tables may have
+-- no more pairs are kept than tables may have: those of 1,000 legs and 20 fleets
 abbrev pub PairsAreFew : Type 0
-PairsAreFew = (t : Tables) (keeps : Domains) → pairs_kept t keeps ≤ MAX_LEGS * MAX_FLEETS
+PairsAreFew = (t : Tables) (keeps : Domains) → pairs_kept t keeps ≤ 20000

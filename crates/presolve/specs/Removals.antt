@@ -1,7 +1,7 @@
 -- Which pairs presolve removes, in which order, and what their reasons show.
 use Rattle.std.specs.Prelude.{◌≡◌, ℕ, ◌==◌, ◌&&◌, ◌||◌, nat_lt, if◌then◌else◌, Bool, IsTrue, true, false, ⊤, List, [], ◌∷◌, Some, None, pos, ◌<ℤ◌}
 use Rattle.fleet_model.specs.Kept.{Domains, IsBare}
-use Rattle.fleet_model.specs.Schedule.{IsPair, leg_on, legs_in}
+use Rattle.fleet_model.specs.Schedule.{IsPair, leg_on}
 use Rattle.fleet_model.specs.declared.parts.Pair.{Pair}
 use Rattle.fleet_model.specs.declared.tables.Tables.{Tables}
 use Rattle.bound_cert.specs.Bound.{part}

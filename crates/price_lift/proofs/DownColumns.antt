@@ -2,9 +2,9 @@
 use Rattle.std.proofs.Common.{◌≡◌, ℕ, ◌+◌, ◌<◌, Bool, true, false, if◌then◌else◌, ◌==◌, ◌&&◌, length, ℤ, pos, ◌+ℤ◌, ◌-ℤ◌, ◌*ℤ◌, refl, ◌∙◌, ap, arith}
 use Rattle.std.proofs.lemmas.Bool.Decides.{nat_tests}
 use Rattle.std.proofs.lemmas.Int.{ints}
-use lib.IntN.{*ℤ_comm, *ℤ-zero}
+use lib.IntN.{*ℤ-zero}
 use Rattle.sums.specs.Below.{sum_below_ℤ}
-use Rattle.sums.proofs.Integers.{*ℤ--ℤ, one-*ℤ}
+use Rattle.sums.proofs.Integers.{*ℤ--ℤ}
 use Rattle.sums.proofs.WholeSums.{sum_below_ℤ-same, sum_below_ℤ--ℤ}
 use Rattle.sums.proofs.WholeSwaps.{sum_below_ℤ-one, where_true}
 use Rattle.sums.proofs.Integers.{times_one}

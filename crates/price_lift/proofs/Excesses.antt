@@ -2,7 +2,8 @@
 use Rattle.std.proofs.Common.{◌≡◌, ℕ, ◌+◌, ◌<◌, Bool, true, false, Option, Some, None, refl, sym, ap, subst, add-one}
 use Rattle.sums.specs.Places.{first_below, or_else}
 use Rattle.sums.proofs.Places.{first_found}
-use Rattle.price_lift.specs.TooLarge.{Excess, IsLiftError, excess_if}
+use Rattle.price_lift.specs.TooLarge.{IsLiftError, excess_if}
+use Rattle.price_lift.specs.declared.error.Excess.{Excess}
 use Rattle.price_lift.specs.declared.error.LiftError.{LiftError}
 use Rattle.price_lift.specs.declared.error.LiftError.TheVariants.{TooLarge, NoMemory}
 
@@ -28,6 +29,10 @@ place_fails f k n NoMemory before below is = tt
 -- one place more is well
 pub place_well : (f : ℕ → Option Excess) (k : ℕ) → first_below f k ≡ None → f k ≡ None → first_below f (k + 1) ≡ None
 place_well f k before here = subst (λ n. first_below f n ≡ None) (sym (add-one k)) (rw before here)
+
+-- .. by an excess
+pub place_found : (f : ℕ → Option Excess) (k n : ℕ) (e : Excess) → first_below f k ≡ None → k < n → f k ≡ Some e → first_below f n ≡ Some e
+place_found f k n e before below is = first_found f k n e before is below
 
 -- a test that passes is too large, and one that does not is well
 pub too_large : (b : Bool) (step at : ℕ) → b ≡ true → IsLiftError (excess_if b step at) (TooLarge step at)

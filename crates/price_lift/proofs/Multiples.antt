@@ -2,8 +2,8 @@
 use Rattle.std.proofs.Common.{◌≡◌, ℕ, zero, suc, ◌+◌, ◌-◌, ◌*◌, ◌<◌, ◌≤◌, max, Bool, true, false, if◌then◌else◌, ◌∙◌, ap, inl, inr, arith}
 use Rattle.std.proofs.lemmas.Bool.{cases_lt}
 use Rattle.std.proofs.Math.Nat.{mul-le-mul_left}
-use Rattle.sums.specs.Below.{sum_below, max_below}
-use Rattle.sums.proofs.Naturals.{cancel_le, cancel_same, times_below, times_max}
+use Rattle.sums.specs.Below.{max_below}
+use Rattle.sums.proofs.Naturals.{times_max}
 
 pub of_difference : (k a b : ℕ) → k * a - k * b ≡ k * (a - b)
 of_difference k a b = elim (cases_lt a b) [

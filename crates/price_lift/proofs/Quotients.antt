@@ -9,7 +9,6 @@ use Rattle.std.proofs.lemmas.Int.{ints}
 use native.Mathlib.Nat.{div-le_self}
 use Rattle.sums.specs.Divisors.{gcd}
 use Rattle.sums.proofs.Divisors.{gcd_positive}
-use Rattle.sums.proofs.Sizes.{pos_above}
 use Rattle.frac_row.specs.Outgrown.{IsWithin, is_outgrown}
 use Rattle.frac_row.specs.Ratio.{IsCeiling}
 use Rattle.frac_row.specs.declared.row.FracRow.{FracRow}

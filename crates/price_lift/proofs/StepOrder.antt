@@ -4,10 +4,9 @@ use Rattle.std.specs.Ordering.{int_eq}
 use mathlib.Core.Bool.{false≢true}
 use Rattle.std.proofs.lemmas.Bool.{cases_lt, cases_order}
 use Rattle.std.proofs.lemmas.Bool.Decides.{Decides-int_eq, nat_tests}
-use Rattle.std.proofs.lemmas.Int.{ints}
 use Rattle.sums.specs.Below.{sum_below}
-use Rattle.sums.proofs.Naturals.{above_zero_tested, plus_0, same_number, zero_number}
-use Rattle.sums.proofs.Sizes.{size_of_zero, zero_size}
+use Rattle.sums.proofs.Naturals.{above_zero_tested, plus_0, zero_number}
+use Rattle.sums.proofs.Sizes.{size_of_zero}
 use Rattle.sums.proofs.Tests.{both_true, first_true, not_false, not_true, second_true, by_test}
 use Rattle.fleet_model.specs.declared.tables.Tables.{Tables}
 use Rattle.fleet_model.specs.Schedule.{fleets_in, stations_in}

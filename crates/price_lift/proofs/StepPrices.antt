@@ -1,10 +1,8 @@
 -- What prices say that are written as steps of nodes.
-use Rattle.std.proofs.Common.{◌≡◌, ◌≢◌, ℕ, zero, suc, ◌+◌, ◌-◌, ◌<◌, ◌≤◌, Bool, true, false, cond, not, ◌==◌, ◌&&◌, nat_le, if◌then◌else◌, List, [], ◌∷◌, ◌++◌, length, get_or, ℤ, pos, unsigned_abs, refl, sym, ◌∙◌, ap, subst, inl, inr, arith}
-use mathlib.Core.Bool.{false≢true}
+use Rattle.std.proofs.Common.{◌≡◌, ◌≢◌, ℕ, zero, suc, ◌+◌, ◌-◌, ◌<◌, ◌≤◌, Bool, true, false, cond, not, ◌==◌, ◌&&◌, nat_le, if◌then◌else◌, [], ◌∷◌, length, get_or, ℤ, pos, unsigned_abs, refl, sym, ◌∙◌, ap, subst, inl, inr, arith}
 use Rattle.std.specs.Ordering.{int_eq}
 use Rattle.std.proofs.lemmas.Bool.{cases_lt}
 use Rattle.std.proofs.lemmas.Bool.Decides.{Decides-int_eq, nat_tests}
-use Rattle.std.proofs.lemmas.Int.{ints}
 use Rattle.sums.proofs.Naturals.{above_zero_tested, as_a_sum, plus_0, zero_number}
 use Rattle.sums.proofs.Sizes.{zero_size}
 use Rattle.sums.proofs.Tests.{by_test, first_true, not_false, second_true}
@@ -14,8 +12,7 @@ use Rattle.lp_rows.specs.declared.kinds.Node.{Node}
 use Rattle.lp_rows.specs.Layout.{Starts, all_nodes, concat_below, node_at}
 use Rattle.lp_rows.specs.Points.{arcs_in}
 use Rattle.lp_rows.proofs.Counted.{nodes_are}
-use Rattle.bound_cert.specs.Prices.{has_come, price_after}
-use Rattle.bound_cert.specs.declared.prices.PriceStep.{PriceStep}
+use Rattle.bound_cert.specs.Prices.{price_after}
 use Rattle.bound_cert.proofs.PriceLists.{price_after-append}
 use Rattle.price_lift.specs.Steps.{all_steps, are_zero, is_step, node_of_number, step_at_node, step_of, steps_at}
 use Rattle.price_lift.proofs.LinePlaces.{before, node_number, node_there, node_within}

@@ -2,7 +2,6 @@
 use Rattle.std.proofs.Common.{◌≡◌, ℕ, ◌<◌, Bool, true, false, not, ◌==◌, ◌&&◌, ◌||◌, nat_lt, if◌then◌else◌, List, [], ◌∷◌, get_or, All, AllPairs, Option, Some, None, ℤ, pos, unsigned_abs, refl, sym, subst, ◌⊎◌, inl, inr, arith}
 use Rattle.std.specs.Ordering.{int_eq}
 use Rattle.std.proofs.lemmas.Bool.Decides.{Decides-int_eq, nat_tests}
-use Rattle.std.proofs.lemmas.Int.{ints}
 use Rattle.sums.proofs.Sizes.{size_of_zero}
 use Rattle.sums.proofs.Tests.{both_true}
 use Rattle.fleet_model.specs.declared.parts.Pair.{Pair}

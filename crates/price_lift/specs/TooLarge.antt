@@ -12,13 +12,9 @@ use Rattle.row_store.specs.Table.{height_of}
 use Rattle.bound_cert.specs.Prices.{max_price, max_scale}
 use Rattle.price_lift.specs.Duals.{best_duals, best_scale, best_value, cost_den, cost_number, cost_value, phase_den, phase_number, phase_value, phases_added, phases_value, priced_lines, real_columns, refusal_duals}
 use Rattle.price_lift.specs.Weights.{scale_below}
+use Rattle.price_lift.specs.declared.error.Excess.{Excess}
 use Rattle.price_lift.specs.declared.error.LiftError.{LiftError}
 use Rattle.price_lift.specs.declared.error.LiftError.TheVariants.{TooLarge, NoMemory}
-
--- a step, and a place in it
-pub record Excess : Type 0 where
-  pub step : ℕ
-  pub at : ℕ
 
 -- the place, where it is too large
 abbrev pub excess_if : Bool → ℕ → ℕ → Option Excess

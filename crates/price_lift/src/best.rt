@@ -1,5 +1,5 @@
 //! Dual values at a cheapest point.
-ghost use Rattle.std.specs.Prelude.{◌≡◌, ◌+◌, ◌<◌, None, MatchOption, MatchResult, IfOk, true, false};
+ghost use Rattle.std.specs.Prelude.{◌≡◌, ◌+◌, ◌<◌, None, Some, MatchOption, MatchResult, IfOk, true, false};
 ghost use Rattle.sums.specs.Places.{list_below};
 ghost use Rattle.frac_row.specs.Outgrown.{is_outgrown};
 ghost use Rattle.frac_row.specs.Row.{IsRow};
@@ -9,7 +9,7 @@ ghost use Rattle.price_lift.specs.Duals.{best_duals, best_value, phase_value, ph
 ghost use Rattle.price_lift.specs.Mixture.{HasPhases, IsMixture};
 ghost use Rattle.price_lift.specs.TooLarge.{IsLiftError, best_duals_excess, best_value_excess, best_value_outgrown, first_priced, phases_outgrown};
 
-use crate::error::{LiftError, VALUES_STEP};
+use crate::error::{Excess, LiftError, VALUES_STEP};
 use crate::mixture::{Mixture, best_scale};
 use crate::reading::{cost_number, identity_column, phase_den, phase_number, priced_lines};
 use entries::Entries;
@@ -62,17 +62,32 @@ fn best_values<R: RowStore>(
     let mut numbers = Vec::new(alloc);
     for priced in 0..priced_lines(tables, table) {
         let line = legs + priced;
-        match best_value(table, mixture, columns, line) {
-            Some(value) => numbers.push(value)?,
-            None => {
-                return Err(LiftError::TooLarge {
-                    step: VALUES_STEP,
-                    at: line.into(),
-                });
-            }
-        }
+        numbers.push(value_at(table, mixture, columns, line)?)?;
     }
     Ok(Entries::from_vec(numbers))
+}
+
+// The dual value of a line, or that it is too large.
+fn value_at<R: RowStore>(
+    table: &R,
+    mixture: &Mixture,
+    columns: u32,
+    line: u32,
+) -> Result<i128, Excess>
+    requires columns { HasColumns (R.content table.now) columns }
+    requires mixture { IsMixture (R.content table.now) mixture.now }
+    requires line { line < height_of (R.content table.now) }
+    ensures { MatchResult result
+        (λ value. (best_value_excess (R.content table.now) line ≡ None) × (value ≡ best_value (R.content table.now) line))
+        (λ excess. best_value_excess (R.content table.now) line ≡ Some excess) }
+{
+    match best_value(table, mixture, columns, line) {
+        Some(value) => Ok(value),
+        None => Err(Excess {
+            step: VALUES_STEP,
+            at: line.into(),
+        }),
+    }
 }
 
 // The dual value of a line, unless a number on the way to it is outgrown.

@@ -5,15 +5,34 @@ use entries::NoMemory as OutOfMemory;
 use std::alloc::{AllocError, AllocFailed};
 use thiserror::Error;
 
+/// A number that outgrew its limit, or passed that of scales or prices: first in this step, and there at this place.
+/// The steps, by their numbers, are below.
+#[derive(Clone, Copy, Debug, PartialEq, Eq, Error)]
+#[error("too large in step {step} at {at}")]
+pub struct Excess {
+    pub step: u64,
+    pub at: u64,
+}
+
 /// Why a last table gives no prices.
 #[derive(Clone, Copy, Debug, PartialEq, Eq, Error)]
 pub enum LiftError {
-    /// A number outgrew its limit, or passed that of scales or prices: first in this step, and there at this place.
-    /// The steps, by their numbers, are below.
+    /// A number is too large: first in this step, and there at this place.
     #[error("too large in step {step} at {at}")]
     TooLarge { step: u64, at: u64 },
     #[error("out of memory")]
     NoMemory,
+}
+
+impl From<Excess> for LiftError {
+    ghost from_gives = { λ excess e. e ≡ lift.TooLarge excess.step excess.at };
+
+    fn from(excess: Excess) -> LiftError {
+        LiftError::TooLarge {
+            step: excess.step,
+            at: excess.at,
+        }
+    }
 }
 
 impl From<OutOfMemory> for LiftError {

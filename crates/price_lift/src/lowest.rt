@@ -1,34 +1,34 @@
 //! Dual values in lowest terms, within the limits of prices.
-ghost use Rattle.std.specs.Prelude.{◌≡◌, ◌<◌, ◌^◌, None, MatchResult, nat_lt, unsigned_abs};
+ghost use Rattle.std.specs.Prelude.{◌≡◌, ◌<◌, ◌^◌, None, Some, MatchResult, nat_lt, unsigned_abs};
 ghost use Rattle.frac_row.specs.Row.{IsRow, reduced, width_of};
 ghost use Rattle.bound_cert.specs.Prices.{max_price};
-ghost use Rattle.price_lift.specs.TooLarge.{IsLiftError, prices_excess};
+ghost use Rattle.price_lift.specs.TooLarge.{prices_excess};
 
-use crate::error::{LiftError, PRICE_SCALE_STEP, PRICES_STEP};
+use crate::error::{Excess, PRICE_SCALE_STEP, PRICES_STEP};
 use bound_cert::prices::{MAX_PRICE, MAX_SCALE};
 use fleet_model::Tables;
 use frac_row::{FracRow, reduce};
 
 /// The same values in lowest terms, where their scale and they themselves are within the limits of prices.
-pub(crate) fn lowest(tables: &Tables, duals: FracRow) -> Result<FracRow, LiftError>
+pub(crate) fn lowest(tables: &Tables, duals: FracRow) -> Result<FracRow, Excess>
     requires row { IsRow duals }
     requires few { width_of duals < 2 ^ 32 }
     ensures { MatchResult result
         (λ lowest. (prices_excess tables.now duals ≡ None) × (lowest ≡ reduced duals))
-        (IsLiftError (prices_excess tables.now duals)) }
+        (λ excess. prices_excess tables.now duals ≡ Some excess) }
 {
     let width = duals.numbers.len() as u32;
     let mut lowest = duals;
     reduce(&mut lowest);
     if lowest.den > MAX_SCALE {
-        return Err(LiftError::TooLarge {
+        return Err(Excess {
             step: PRICE_SCALE_STEP,
             at: 0,
         });
     }
     for priced in 0..width {
         if is_too_large(&lowest.number(priced)) {
-            return Err(LiftError::TooLarge {
+            return Err(Excess {
                 step: PRICES_STEP,
                 at: u64::from(tables.leg_count()) + u64::from(priced),
             });

@@ -1,13 +1,13 @@
 //! How often the phase row is added to the cost row, and over which scale.
-ghost use Rattle.std.specs.Prelude.{◌≡◌, ◌<◌, pos, ◌<ℤ◌, true, false, None, MatchOption, MatchResult};
+ghost use Rattle.std.specs.Prelude.{◌≡◌, ◌<◌, pos, ◌<ℤ◌, true, false, None, Some, MatchOption, MatchResult};
 ghost use Rattle.sums.specs.Places.{first_below};
 ghost use Rattle.frac_row.specs.Outgrown.{IsWithin};
 ghost use Rattle.row_store.specs.Table.{HasColumns};
 ghost use Rattle.price_lift.specs.Duals.{best_scale, phases_added, phases_for, phases_wanted, real_columns};
 ghost use Rattle.price_lift.specs.Mixture.{HasPhases, IsMixture};
-ghost use Rattle.price_lift.specs.TooLarge.{IsLiftError, phases_excess, phases_for_outgrown, scale_excess};
+ghost use Rattle.price_lift.specs.TooLarge.{phases_excess, phases_for_outgrown, scale_excess};
 
-use crate::error::{LiftError, PHASES_STEP, SCALE_STEP};
+use crate::error::{Excess, PHASES_STEP, SCALE_STEP};
 use crate::numbers::{ceiling, common_divisor, greater, opposite, quotient};
 use crate::reading::{cost_den, cost_number, phase_den, phase_number};
 use frac_row::growth::product;
@@ -26,12 +26,12 @@ pub(crate) struct Mixture {
 
 impl Mixture {
     /// With so many of the phase row no real column is negative.
-    pub(crate) fn of<R: RowStore>(table: &R, columns: u32) -> Result<Mixture, LiftError>
+    pub(crate) fn of<R: RowStore>(table: &R, columns: u32) -> Result<Mixture, Excess>
         requires columns { HasColumns (R.content table.now) columns }
         requires phases { HasPhases (R.content table.now) }
         ensures { MatchResult result
             (λ mixture. (first_below (phases_excess (R.content table.now)) (real_columns (R.content table.now)) ≡ None) × IsMixture (R.content table.now) mixture)
-            (IsLiftError (first_below (phases_excess (R.content table.now)) (real_columns (R.content table.now)))) }
+            (λ excess. first_below (phases_excess (R.content table.now)) (real_columns (R.content table.now)) ≡ Some excess) }
     {
         let phases = phases_added(table, columns)?;
         let phase_den = phase_den(table);
@@ -46,15 +46,15 @@ impl Mixture {
 }
 
 /// The common scale of both rows.
-pub(crate) fn best_scale<R: RowStore>(table: &R, mixture: &Mixture) -> Result<i128, LiftError>
+pub(crate) fn best_scale<R: RowStore>(table: &R, mixture: &Mixture) -> Result<i128, Excess>
     requires { IsMixture (R.content table.now) mixture.now }
     ensures { MatchResult result
         (λ scale. (scale_excess (R.content table.now) ≡ None) × (scale ≡ best_scale (R.content table.now)))
-        (IsLiftError (scale_excess (R.content table.now))) }
+        (λ excess. scale_excess (R.content table.now) ≡ Some excess) }
 {
     match product(&mixture.phase_part, &cost_den(table)) {
         Some(scale) => Ok(scale),
-        None => Err(LiftError::TooLarge {
+        None => Err(Excess {
             step: SCALE_STEP,
             at: 0,
         }),
@@ -62,12 +62,12 @@ pub(crate) fn best_scale<R: RowStore>(table: &R, mixture: &Mixture) -> Result<i1
 }
 
 // How often the phase row is added before no real column is negative.
-fn phases_added<R: RowStore>(table: &R, columns: u32) -> Result<i128, LiftError>
+fn phases_added<R: RowStore>(table: &R, columns: u32) -> Result<i128, Excess>
     requires columns { HasColumns (R.content table.now) columns }
     requires phases { HasPhases (R.content table.now) }
     ensures { MatchResult result
         (λ phases. (first_below (phases_excess (R.content table.now)) (real_columns (R.content table.now)) ≡ None) × (phases ≡ pos (phases_added (R.content table.now))))
-        (IsLiftError (first_below (phases_excess (R.content table.now)) (real_columns (R.content table.now)))) }
+        (λ excess. first_below (phases_excess (R.content table.now)) (real_columns (R.content table.now)) ≡ Some excess) }
 {
     let mut most = 0;
     for column in 0..columns {
@@ -78,18 +78,18 @@ fn phases_added<R: RowStore>(table: &R, columns: u32) -> Result<i128, LiftError>
 }
 
 // How often it is added before this column is not negative.
-fn phases_wanted<R: RowStore>(table: &R, column: u32) -> Result<i128, LiftError>
+fn phases_wanted<R: RowStore>(table: &R, column: u32) -> Result<i128, Excess>
     requires column { column < real_columns (R.content table.now) }
     requires phases { HasPhases (R.content table.now) }
     ensures { MatchResult result
         (λ wanted. (phases_excess (R.content table.now) column ≡ None) × (wanted ≡ pos (phases_wanted (R.content table.now) column)))
-        (IsLiftError (phases_excess (R.content table.now) column)) }
+        (λ excess. phases_excess (R.content table.now) column ≡ Some excess) }
 {
     let cost = cost_number(table, column);
     let phase = phase_number(table, column);
     match phases_for(&cost, &cost_den(table), &phase, &phase_den(table)) {
         Some(phases) => Ok(phases),
-        None => Err(LiftError::TooLarge {
+        None => Err(Excess {
             step: PHASES_STEP,
             at: column.into(),
         }),

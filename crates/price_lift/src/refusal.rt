@@ -1,14 +1,14 @@
 //! Dual values where no point meets the lines.
-ghost use Rattle.std.specs.Prelude.{◌≡◌, ◌+◌, None, MatchResult, IfOk};
+ghost use Rattle.std.specs.Prelude.{◌≡◌, ◌+◌, ◌<◌, None, Some, MatchResult, IfOk};
 ghost use Rattle.sums.specs.Places.{list_below};
 ghost use Rattle.frac_row.specs.Row.{IsRow};
 ghost use Rattle.fleet_model.specs.Schedule.{legs_in};
-ghost use Rattle.row_store.specs.Table.{HasColumns};
+ghost use Rattle.row_store.specs.Table.{HasColumns, height_of};
 ghost use Rattle.price_lift.specs.Duals.{phase_value, priced_lines, refusal_duals};
 ghost use Rattle.price_lift.specs.TooLarge.{IsLiftError, first_priced, refusal_value_excess};
 
 use crate::best::phase_value;
-use crate::error::{LiftError, VALUES_STEP};
+use crate::error::{Excess, LiftError, VALUES_STEP};
 use crate::reading::{phase_den, priced_lines};
 use entries::Entries;
 use fleet_model::Tables;
@@ -54,15 +54,24 @@ fn phase_values<R: RowStore>(
     let mut numbers = Vec::new(alloc);
     for priced in 0..priced_lines(tables, table) {
         let line = legs + priced;
-        match phase_value(table, columns, line) {
-            Some(value) => numbers.push(value)?,
-            None => {
-                return Err(LiftError::TooLarge {
-                    step: VALUES_STEP,
-                    at: line.into(),
-                });
-            }
-        }
+        numbers.push(value_at(table, columns, line)?)?;
     }
     Ok(Entries::from_vec(numbers))
+}
+
+// The dual value of a line, or that it is too large.
+fn value_at<R: RowStore>(table: &R, columns: u32, line: u32) -> Result<i128, Excess>
+    requires columns { HasColumns (R.content table.now) columns }
+    requires line { line < height_of (R.content table.now) }
+    ensures { MatchResult result
+        (λ value. (refusal_value_excess (R.content table.now) line ≡ None) × (value ≡ phase_value (R.content table.now) line))
+        (λ excess. refusal_value_excess (R.content table.now) line ≡ Some excess) }
+{
+    match phase_value(table, columns, line) {
+        Some(value) => Ok(value),
+        None => Err(Excess {
+            step: VALUES_STEP,
+            at: line.into(),
+        }),
+    }
 }

@@ -1,5 +1,5 @@
 //! The weights of pairs at the last table's basic point.
-ghost use Rattle.std.specs.Prelude.{◌≡◌, ◌<◌, ◌≤◌, true, false, nat_lt, pos, ◌<ℤ◌, ◌≤ℤ◌, length, None, IfOk, OnOk, ◌++◌, MatchResult, MatchOption, unsigned_abs};
+ghost use Rattle.std.specs.Prelude.{◌≡◌, ◌<◌, ◌≤◌, true, false, nat_lt, pos, ◌<ℤ◌, ◌≤ℤ◌, length, None, Some, IfOk, OnOk, ◌++◌, MatchResult, MatchOption, unsigned_abs};
 ghost use Rattle.sums.specs.Places.{first_below};
 ghost use Rattle.frac_row.specs.Outgrown.{IsWithin};
 ghost use Rattle.row_store.specs.Table.{HasColumns, height_of, right_side};
@@ -10,7 +10,7 @@ ghost use Rattle.price_lift.specs.Parts.{AreParts, HaveParts, IsBasicMixed, part
 ghost use Rattle.price_lift.specs.TooLarge.{IsLiftError, weights_excess};
 ghost use Rattle.price_lift.specs.Weights.{lcm, lowest_den, scale_below};
 
-use crate::error::{LiftError, WEIGHTS_STEP};
+use crate::error::{Excess, LiftError, WEIGHTS_STEP};
 use crate::numbers::{common_divisor, quotient};
 use crate::reading::{line_den, right_side};
 use bound_cert::prices::MAX_SCALE;
@@ -55,14 +55,14 @@ fn weights_scale<R: RowStore>(
     basis: &[u32],
     pairs: usize,
     columns: u32,
-) -> Result<i128, LiftError>
+) -> Result<i128, Excess>
     requires basis { length basis.now ≡ height_of (R.content table.now) }
     requires columns { HasColumns (R.content table.now) columns }
     ensures within { IfOk result IsScale }
     ensures scale { MatchResult result
         (λ scale. (first_below (weights_excess (R.content table.now) basis.now pairs) (height_of (R.content table.now)) ≡ None)
         × (scale ≡ pos (scale_below (R.content table.now) basis.now pairs (height_of (R.content table.now)))))
-        (IsLiftError (first_below (weights_excess (R.content table.now) basis.now pairs) (height_of (R.content table.now)))) }
+        (λ excess. first_below (weights_excess (R.content table.now) basis.now pairs) (height_of (R.content table.now)) ≡ Some excess) }
 {
     let mut scale = 1;
     for line in 0..table.height() {
@@ -71,7 +71,7 @@ fn weights_scale<R: RowStore>(
             scale = match common_scale(&scale, &den) {
                 Some(common) => common,
                 None => {
-                    return Err(LiftError::TooLarge {
+                    return Err(Excess {
                         step: WEIGHTS_STEP,
                         at: line.into(),
                     });

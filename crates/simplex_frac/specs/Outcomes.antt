@@ -1,5 +1,5 @@
 -- The outcomes of a run within a budget of pivots.
-use Rattle.std.specs.Prelude.{ℕ, ◌<◌, ◌≤◌, ◌≡◌, List, Some}
+use Rattle.std.specs.Prelude.{ℕ, ◌<◌, ◌≤◌, ◌≡◌, ◌⊎◌, List, Some, None}
 use Rattle.frac_row.specs.declared.row.FracRow.{FracRow}
 use Rattle.row_store.specs.Pivot.{pivot_growth}
 use Rattle.simplex_frac.specs.Run.{turn, stage}
@@ -33,6 +33,16 @@ IsOutcome first columns budget table (Spent pivots) =
 IsOutcome first columns budget table (Grew pivots place_row place_column) =
     (basis : List ℕ) × (row : ℕ) × (column : ℕ) × (pivots < budget) × IsOutgrownAt first columns pivots table basis row column place_row place_column
 
--- some table of the run
-abbrev pub IsStage : List FracRow → ℕ → ℕ → List FracRow → Type 0
-IsStage first columns budget table = (made : ℕ) × (basis : List ℕ) × (made ≤ budget) × Reaches first columns made table basis
+-- within the budget the run has reached a table at which it pivots, and that pivot is not outgrown
+pub record IsAtPivot (first : List FracRow) (columns budget : ℕ) (table : List FracRow) : Type 0 where
+  pub made : ℕ
+  pub basis : List ℕ
+  pub row : ℕ
+  pub column : ℕ
+  pub within : made < budget
+  pub turns : TurnsAt first columns made table basis (turns.Pivot row column)
+  pub fits : pivot_growth table row column ≡ None
+
+-- where memory may be wanting: at the first table, before the run, and at a pivot that is not outgrown
+abbrev pub MayWantMemory : List FracRow → ℕ → ℕ → List FracRow → Type 0
+MayWantMemory first columns budget table = (table ≡ first) ⊎ IsAtPivot first columns budget table

@@ -1,7 +1,7 @@
 ghost use Rattle.std.specs.Prelude.{◌≡◌, ◌+◌, ◌<◌, ◌^◌, length, IfOk, OnErr};
 ghost use Rattle.sums.specs.Places.{list_below};
 ghost use Rattle.row_store.specs.Table.{HasColumns};
-ghost use Rattle.simplex_frac.specs.Outcomes.{IsOutcome, IsStage};
+ghost use Rattle.simplex_frac.specs.Outcomes.{IsOutcome, MayWantMemory};
 ghost use Rattle.simplex_frac.specs.Ends.{IsRefused, end_of};
 
 use crate::outcome::Outcome;
@@ -12,7 +12,8 @@ use std::alloc::Global;
 
 /// Runs the simplex method from a first table of so many real columns, with Bland's rule and at most so
 /// many pivots. Columns of the identity block never enter. The store then holds the table that the run
-/// has reached; after want of memory it is some table of the run.
+/// has reached; after want of memory it is the first table, or one of the run at which a pivot is due that is not
+/// outgrown.
 pub fn solve<R: RowStore>(
     alloc: Global,
     store: &mut R,
@@ -23,7 +24,7 @@ pub fn solve<R: RowStore>(
     ensures outcome { IfOk result (IsOutcome (R.content store.old) columns pivots (R.content store.new)) }
     ensures shape { HasColumns (R.content store.new) columns }
     ensures height { length (R.content store.new) ≡ length (R.content store.old) }
-    ensures stopped { OnErr result (IsStage (R.content store.old) columns pivots (R.content store.new)) }
+    ensures stopped { OnErr result (MayWantMemory (R.content store.old) columns pivots (R.content store.new)) }
 {
     let Ok(mut basis) = identity_basis(alloc, columns, store.height()) else {
         return Err(NoMemory);

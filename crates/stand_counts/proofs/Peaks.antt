@@ -1,9 +1,9 @@
 -- What has left by a minute less what has come by then is greatest when something leaves.
-use Rattle.std.proofs.Common.{◌≡◌, ◌≢◌, ℕ, zero, suc, ◌-◌, ◌<◌, ◌≤◌, ◌⊎◌, inl, inr, Bool, true, false, not, if◌then◌else◌, ◌==◌, ◌&&◌, nat_le, refl, sym, ◌∙◌, arith}
+use Rattle.std.proofs.Common.{◌≡◌, ◌≢◌, ℕ, zero, suc, ◌-◌, ◌<◌, ◌≤◌, ◌⊎◌, inl, inr, Bool, true, false, not, if◌then◌else◌, ◌==◌, ◌&&◌, nat_le, refl, ◌∙◌, arith}
 use Rattle.std.proofs.lemmas.Bool.{cases_lt}
 use Rattle.std.proofs.lemmas.Bool.Decides.{nat_tests}
 use Rattle.sums.specs.Below.{sum_below, max_below}
-use Rattle.sums.proofs.Sums.{sum_below-agree, sum_below-zero, AgreeBelow, NoMoreBelow}
+use Rattle.sums.proofs.Sums.{sum_below-agree, sum_below-zero}
 use Rattle.sums.proofs.Maxima.{max_below-upper, max_below-least}
 
 -- a place that passes, or none does

@@ -10,7 +10,7 @@ returns-then-offer_sole c = sole_leaf _ _ _ _ _ c.if-offer_sole.ensures
 pub returns-in-Refuted : goal.returns-in-Refuted
 returns-in-Refuted c =
     after_no_sole _ _ _ _ _ _ c.if-offer_sole.ensures
-    (refuted_leaf _ c.args.search.now c.requires.search _ _ _ c.in_default.ensures
+    (refuted_leaf _ c.args.search.now c.requires.search _ _ _ (record { some_pair = c.in_default.ensures; some_choice = c.if-offer_sole.ensures.not_sole })
     (subst (IsRelaxed c.args.tables.now (kept_by c.args.kept.now) c.offer_sole.new.search.pivots) c.in-Refuted.is c.in_ok-prices.ensures))
 
 pub returns-in_ok-copied-in-Stopped : goal.returns-in_ok-copied-in-Stopped

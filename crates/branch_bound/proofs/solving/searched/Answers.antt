@@ -1,4 +1,4 @@
-use Rattle.branch_bound.proofs.RemovedPairs.{all_branch, allowed_after, allowed_all, removals_within, zero_good}
+use Rattle.branch_bound.proofs.RemovedPairs.{all_branch, all_trimmed, allowed_after, allowed_all, removals_within, zero_good}
 use Rattle.branch_bound.proofs.SplitTrees.{allowed_rows}
 use Rattle.branch_bound.proofs.solving.searched.Goals as goal
 
@@ -14,3 +14,7 @@ branch-alloc-requires-clause-above c = rw c.in_ok-above.ensures (zero_good _)
 pub returns-clause-tree : goal.returns-clause-tree
 returns-clause-tree c =
     all_branch _ _ _ _ _ _ _ _ _ _ c.all-kept.ensures c.as_slice.ensures c.remove.ensures c.in_ok-above.ensures c.in_ok-removals.ensures.refuted c.below.ensures c.in_ok-rest.ensures.tree
+
+pub returns-clause-trimmed : goal.returns-clause-trimmed
+returns-clause-trimmed c =
+    all_trimmed _ _ _ _ _ _ _ c.all-kept.ensures c.as_slice.ensures c.remove.ensures c.in_ok-removals.ensures.removals c.below.ensures c.in_ok-rest.ensures.searched

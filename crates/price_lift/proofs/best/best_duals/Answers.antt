@@ -6,6 +6,7 @@ use mir.Syntax.{w128}
 use Rattle.frac_row.specs.Row.{IsRow}
 use Rattle.frac_row.proofs.Rows.{same_row}
 use Rattle.price_lift.specs.Duals.{best_duals}
+use Rattle.price_lift.specs.declared.error.LiftError.TheVariants.{TooLarge}
 use Rattle.price_lift.proofs.DualRows.{best_row}
 use Rattle.price_lift.proofs.Excesses.{both_well, first_fails, then_fails}
 use Rattle.price_lift.proofs.best.best_duals.Goals as goal
@@ -13,12 +14,13 @@ use Rattle.price_lift.proofs.best.best_duals.Goals as goal
 pub returns-in_err-mixture-clause-duals : goal.returns-in_err-mixture-clause-duals
 returns-in_err-mixture-clause-duals g c =
     let p = err_from_is_err_and c.from_residual.result c.from_residual.ensures.1 in
-    rw (p.1, p.2) (first_fails _ _ c.in_err-mixture.field-0.0 c.in_err-mixture.ensures)
+    rw (p.1, p.2) (first_fails _ _ (TooLarge c.in_err-mixture.field-0.0.step c.in_err-mixture.field-0.0.at) c.in_err-mixture.ensures)
 
 pub returns-in_err-scale-clause-duals : goal.returns-in_err-scale-clause-duals
 returns-in_err-scale-clause-duals g c =
     let p = err_from_is_err_and c.from_residual-in_err-scale.result c.from_residual-in_err-scale.ensures.1 in
-    rw (p.1, p.2) (then_fails _ _ c.in_err-scale.field-0.0 c.in_ok-mixture.ensures.0 (first_fails _ _ c.in_err-scale.field-0.0 c.in_err-scale.ensures))
+    let error = TooLarge c.in_err-scale.field-0.0.step c.in_err-scale.field-0.0.at in
+    rw (p.1, p.2) (then_fails _ _ error c.in_ok-mixture.ensures.0 (first_fails _ _ error c.in_err-scale.ensures))
 
 pub returns-in_err-numbers-clause-duals : goal.returns-in_err-numbers-clause-duals
 returns-in_err-numbers-clause-duals g c =

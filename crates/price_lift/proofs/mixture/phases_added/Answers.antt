@@ -8,7 +8,7 @@ use Rattle.sums.specs.Places.{first_below}
 use Rattle.sums.proofs.Maxima.{max_below-zero}
 use Rattle.price_lift.specs.Duals.{phases_added, phases_wanted, real_columns}
 use Rattle.price_lift.specs.TooLarge.{phases_excess}
-use Rattle.price_lift.proofs.Excesses.{place_fails, place_well}
+use Rattle.price_lift.proofs.Excesses.{place_found, place_well}
 use Rattle.price_lift.proofs.Mixtures.{most_more}
 use Rattle.price_lift.proofs.mixture.phases_added.Goals as goal
 
@@ -20,7 +20,7 @@ returns-in_err-wanted g c =
     let p = err_from_is_err_and c.from_residual.result c.from_residual.ensures.1 in
     let below : c.loop-column.column < real_columns (g.R.RowStore.content c.args.table.now) = omega arith in
     rw (p.1, p.2)
-    (place_fails (phases_excess (g.R.RowStore.content c.args.table.now)) c.loop-column.column (real_columns (g.R.RowStore.content c.args.table.now)) c.in_err-wanted.field-0.0
+    (place_found (phases_excess (g.R.RowStore.content c.args.table.now)) c.loop-column.column (real_columns (g.R.RowStore.content c.args.table.now)) c.in_err-wanted.field-0.0
     c.loop-column.invariant.fits below c.in_err-wanted.ensures)
 
 pub loop-column-preserved : goal.loop-column-preserved

@@ -1,6 +1,5 @@
-use Rattle.std.proofs.Common.{◌≡◌, ◌+◌, arith, refl, sym, ◌∙◌, ap}
+use Rattle.std.proofs.Common.{◌≡◌, arith, refl, sym, ◌∙◌, ap, inl}
 use Rattle.std.specs.Prelude.{length, None}
-use Rattle.sums.specs.Places.{list_below}
 use Rattle.sums.proofs.Places.{length-list_below}
 use Rattle.row_store.specs.Table.{IsTable}
 use Rattle.row_store.specs.Pivot.{pivot_growth}
@@ -19,12 +18,7 @@ loop-made-init g c = record {
 }
 
 pub returns-in_default-clause-stopped : goal.returns-in_default-clause-stopped
-returns-in_default-clause-stopped g c = (
-  0,
-  list_below (λ line. c.args.columns + line) c.height.result,
-  omega arith,
-  reaches_first (g.R.RowStore.content c.args.store.now) c.args.columns (list_below (λ line. c.args.columns + line) c.height.result) c.height.result c.height.ensures refl,
-)
+returns-in_default-clause-stopped g c = inl refl
 
 pub pivot-requires-clause-row : goal.pivot-requires-clause-row
 pivot-requires-clause-row g c =

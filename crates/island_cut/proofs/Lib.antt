@@ -1,0 +1,3 @@
+pub mod SameUse
+pub mod Passing
+pub mod NonePairs

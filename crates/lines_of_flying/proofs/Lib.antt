@@ -1,0 +1,5 @@
+pub mod Listed
+pub mod Followers
+pub mod FreeNeed
+pub mod AllSuccessors
+pub mod TourLines

@@ -1,0 +1,11 @@
+use Rattle.std.proofs.Common.{◌≡◌, ◌≤◌}
+use Rattle.sums.specs.Below.{count_below}
+use Rattle.fleet_model.specs.Schedule.{leg_of}
+use Rattle.ground_turns.specs.FirstOut.{lands_before}
+use Rattle.lines_of_flying.proofs.free.landing_place.Given as goal
+
+abbrev pub invariant-loop-other : goal.invariant-loop-other
+invariant-loop-other l = record {
+  counted : l.count ≡ count_below (lands_before l.ground.tables.now l.ground.plan.now l.ground.fleet l.ground.pairs.now (leg_of l.ground.tables.now l.leg).to l.leg) l.other;
+  few : l.count ≤ l.other;
+}

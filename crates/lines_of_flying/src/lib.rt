@@ -1,0 +1,13 @@
+//! Successor maps that hold given turns, and the lines of a tour.
+#![tactic(auto)]
+
+pub mod days;
+mod following;
+mod free;
+mod ground;
+pub mod mapping;
+mod needs;
+mod places;
+
+pub use days::lines;
+pub use mapping::successors;
