@@ -39,4 +39,6 @@ mod solving;
 #[cfg(test)]
 mod subproblems;
 #[cfg(test)]
+mod throughs;
+#[cfg(test)]
 mod worths;
