@@ -37,6 +37,12 @@ mod schedules;
 #[cfg(test)]
 mod solving;
 #[cfg(test)]
+mod standing;
+#[cfg(test)]
 mod subproblems;
+#[cfg(test)]
+mod succeeding;
+#[cfg(test)]
+mod turns;
 #[cfg(test)]
 mod worths;
