@@ -37,8 +37,14 @@ mod schedules;
 #[cfg(test)]
 mod solving;
 #[cfg(test)]
+mod standing;
+#[cfg(test)]
 mod subproblems;
 #[cfg(test)]
+mod succeeding;
+#[cfg(test)]
 mod throughs;
+#[cfg(test)]
+mod turns;
 #[cfg(test)]
 mod worths;
