@@ -13,8 +13,7 @@ use Rattle.bound_cert.specs.declared.nodes.Node.{Node}
 use Rattle.bound_cert.specs.declared.prices.PriceStep.{PriceStep}
 use Rattle.bound_cert.specs.declared.reading_lines.Due.TheVariants as due
 use Rattle.bound_cert.proofs.LineTwins.{Alike, Twin, alike_first, head_twin, line_twin, plan_twin, rent_twin, scale_twin, step_twin, weight_twin}
-use Rattle.bound_cert.proofs.ReadBack.{goes}
-use Rattle.bound_cert.proofs.Shrinking.{Shrinks, Stops, body_shrinks, end_stops, headed_twin, mixed_shrinks, nodes_shrink, nothing_stops, proof_stops, rents_shrink, rest_stops, shrinks_bind, shrinks_if, steps_shrink, stops_then, tree_stops, weights_shrink}
+use Rattle.bound_cert.proofs.Shrinking.{Shrinks, Stops, body_shrinks, end_stops, headed_twin, mixed_shrinks, node_takes, nodes_shrink, nothing_stops, proof_stops, rents_shrink, rest_stops, shrinks_bind, shrinks_if, steps_shrink, stops_then, tree_stops, weights_shrink}
 
 -- what is read before the line is read of both; what stops at it stops both, for one reason; else the line is passed
 record Ahead {A : Type 0} (end other_end : Left) (read : A × Left) (other : Reading (A × Left)) : Type 0 where
@@ -176,15 +175,6 @@ module _ (t : Tables) (line next other : List ℕ) (rest others : Left) (look : 
       follows_line end other_end p (head_at t above (p ++ end)) (head_at t above (p ++ other_end)) _ _ (head_twin t (p ++ end) (p ++ other_end) (alike p) above) (λ h.
       follows_behind (body_at t h) p (body_follows h) (body_shrinks t h))
 
-  -- a node takes a line at least
-  node_takes : (above : ℕ) (a : Left) (read : Node × Left) → node_at t above a ≡ Ok read → length read.1 < length a
-  unfolding node_at head_at line_due
-  node_takes above [] read e = absurd (cc e)
-  node_takes above (x ∷ a) read e =
-      let h = goes (head_at t above (x ∷ a)) _ read e in
-      let less : length read.1 ≤ length a = subst (Shrinks (length a)) h.on (body_shrinks t h.value a) in
-      omega (arith, less)
-
   node_then : (m k : ℕ) (nodes : List Node) (above : Above) (p : Left)
       → ((n : Node) (q : Left) → length q < length p → Follows end other_end (nodes_from t m (nodes ++ n ∷ []) (after_node n above) (q ++ end)) (nodes_from t k (nodes ++ n ∷ []) (after_node n above) (q ++ other_end)))
       → (r s : Reading (Node × Left)) → node_at t (length above) (p ++ end) ≡ r → Follows end other_end r s
@@ -192,7 +182,7 @@ module _ (t : Tables) (line next other : List ℕ) (rest others : Left) (look : 
       (r >>= λ read. cond (length (after_node read.0 above) == 0) (Ok (nodes ++ read.0 ∷ [], read.1)) (nodes_from t m (nodes ++ read.0 ∷ []) (after_node read.0 above) read.1))
       (s >>= λ read. cond (length (after_node read.0 above) == 0) (Ok (nodes ++ read.0 ∷ [], read.1)) (nodes_from t k (nodes ++ read.0 ∷ []) (after_node read.0 above) read.1))
   node_then m k nodes above p on (Ok read) s e (inl ahead) =
-      let taken = node_takes (length above) (p ++ end) read e in
+      let taken = node_takes t (length above) (p ++ end) read e in
       let shorter : length ahead.before < length p = omega (arith, taken, ap length ahead.left_is, length-append ahead.before end, length-append p end) in
       subst (λ s. Follows end other_end (f m read) (s >>= f k)) (sym ahead.other_is)
       (subst (λ a. Follows end other_end (f m (read.0, a)) (f k (read.0, ahead.before ++ other_end))) (sym ahead.left_is)

@@ -1,3 +1,4 @@
+pub mod Completing
 pub mod Cut
 pub mod Duality
 pub mod FigureWords
@@ -7,9 +8,11 @@ pub mod LeastWorth
 pub mod LineTwins
 pub mod Lines
 pub mod LinesOfWords
+pub mod NodesBegun
 pub mod NodesOfTables
 pub mod Numbers
 pub mod PriceLists
+pub mod ProofsBegun
 pub mod ReadBack
 pub mod ReadOn
 pub mod ReadProof

@@ -1,5 +1,5 @@
 -- What reading leaves, and where it stops, is no more than there was.
-use Rattle.std.proofs.Common.{ℕ, zero, suc, ◌≤◌, Bool, true, false, cond, ◌==◌, List, [], ◌∷◌, ◌++◌, length, drop, codes, ℤ, Option, Some, None, Ok, Err, refl, sym, subst, arith}
+use Rattle.std.proofs.Common.{◌≡◌, ℕ, zero, suc, ◌<◌, ◌≤◌, Bool, true, false, cond, ◌==◌, List, [], ◌∷◌, ◌++◌, length, drop, codes, ℤ, Option, Some, None, Ok, Err, refl, sym, subst, arith}
 use Rattle.std.specs.Prelude.{⊤, bytes_eq}
 use Rattle.fleet_model.specs.declared.tables.Tables.{Tables}
 use Rattle.bound_cert.specs.Lines.{Left, Reading, ◌>>=◌, is_word, line_due, stands, stopped, words_of}
@@ -13,6 +13,7 @@ use Rattle.bound_cert.specs.declared.nodes.Node.{Node}
 use Rattle.bound_cert.specs.declared.prices.PriceStep.{PriceStep}
 use Rattle.bound_cert.specs.declared.reading_lines.Due.TheVariants as due
 use Rattle.bound_cert.proofs.LineTwins.{Alike, Twin, alike_self, head_twin, line_twin, plan_twin, rent_twin, scale_twin, step_twin, twin_if, weight_twin}
+use Rattle.bound_cert.proofs.ReadBack.{goes}
 
 -- what reading leaves, or where it stops, is no more than there was
 abbrev pub Shrinks : {A : Type 0} → ℕ → Reading (A × Left) → Type 0
@@ -93,6 +94,15 @@ module _ (t : Tables) where
   pub node_shrinks : (above : ℕ) (a : Left) → Shrinks (length a) (node_at t above a)
   unfolding node_at
   node_shrinks above a = shrinks_line a (head_at t above a) _ (head_twin t a a (alike_self a) above) (λ h. shrinks_behind a _ (body_shrinks h (drop 1 a)))
+
+  -- a node takes a line at least
+  pub node_takes : (above : ℕ) (a : Left) (read : Node × Left) → node_at t above a ≡ Ok read → length read.1 < length a
+  unfolding node_at head_at line_due
+  node_takes above [] read e = absurd (cc e)
+  node_takes above (x ∷ a) read e =
+      let h = goes (head_at t above (x ∷ a)) _ read e in
+      let less : length read.1 ≤ length a = subst (Shrinks (length a)) h.on (body_shrinks h.value a) in
+      omega (arith, less)
 
   pub nodes_shrink : (most : ℕ) (nodes : List Node) (above : Above) (a : Left) → Shrinks (length a) (nodes_from t most nodes above a)
   unfolding nodes_from

@@ -47,7 +47,7 @@ module _ (t : Tables) where
   names_tell : (f g : ℕ) → f < fleets_in t → g < fleets_in t → (fleet_of t f).name ≡ (fleet_of t g).name → f ≡ g
   names_tell f g f_is g_is same = some_same f g (sym (fleet_written t f f_is) ∙ ap (fleet_named t) same ∙ fleet_written t g g_is)
 
-  same_place_by : (a b : PriceStep) → a.fleet ≡ b.fleet → a.station ≡ b.station → same_place a b ≡ true
+  pub same_place_by : (a b : PriceStep) → a.fleet ≡ b.fleet → a.station ≡ b.station → same_place a b ≡ true
   same_place_by a b p q = grind (arith, nat_tests, p, q)
 
   three_tests : (a b c : Bool) → (a && b && c) ≡ true → (b ≡ true) × (c ≡ true)

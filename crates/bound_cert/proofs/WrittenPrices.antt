@@ -172,7 +172,7 @@ module _ (t : Tables) where
       bound (figures_by (at_line t step) left) (step.minute, step.value) _ (figures_read step left is)
       ∙ bound (place_by t (at_line t step) left) (step.fleet, step.station) _ (place_read step left is)
 
-  step_read : (before : Option PriceStep) (step : PriceStep) (rest : Left) → IsStepInOrder t step → step_follows before step ≡ true → is_needless step (at_line t step) rest ≡ false → 0 < length rest
+  pub step_read : (before : Option PriceStep) (step : PriceStep) (rest : Left) → IsStepInOrder t step → step_follows before step ≡ true → is_needless step (at_line t step) rest ≡ false → 0 < length rest
       → step_at t before (joined (at_line t step) ∷ rest) ≡ Ok step
   unfolding step_at step_of width_of
   step_read before step rest is follows needed some =
@@ -192,14 +192,14 @@ module _ (t : Tables) where
   same_parts : (a b : PriceStep) → same_place a b ≡ true → (a.fleet ≡ b.fleet) × (a.station ≡ b.station)
   same_parts a b e = (grind (arith, nat_tests, e), grind (arith, nat_tests, e))
 
-  next_begins : (step : PriceStep) (steps : List PriceStep) (behind : Left) → All (IsStepOf t) steps → goes_on step steps ≡ true → goes_on_at (first_words (texts (step_lines t steps) ++ behind)) (at_line t step) ≡ true
+  pub next_begins : (step : PriceStep) (steps : List PriceStep) (behind : Left) → All (IsStepOf t) steps → goes_on step steps ≡ true → goes_on_at (first_words (texts (step_lines t steps) ++ behind)) (at_line t step) ≡ true
   next_begins step [] behind are e = absurd (cc e)
   next_begins step (next ∷ steps) behind are e =
       let same = same_parts step next e in
       ap (λ words. goes_on_at words (at_line t step)) (words_back (at_line t next) (at_is t next (All-head (IsStepOf t) next steps are)))
       ∙ rw (same.0, same.1, bytes_same (fleet_of t next.fleet).name (fleet_of t next.fleet).name refl, bytes_same (station_of t next.station).code (station_of t next.station).code refl) refl
 
-  steps_read : (steps done : List PriceStep) (before : Option PriceStep) (behind : Left) → All (IsStepInOrder t) steps → All (IsStepOf t) steps → StepsFollow before steps → NoLoneZero steps
+  pub steps_read : (steps done : List PriceStep) (before : Option PriceStep) (behind : Left) → All (IsStepInOrder t) steps → All (IsStepOf t) steps → StepsFollow before steps → NoLoneZero steps
       → 0 < length behind → begins behind (codes "at") ≡ false → steps_from t done before (texts (step_lines t steps) ++ behind) ≡ Ok (done ++ steps, behind)
   steps_read [] done before behind are of follow no_lone some ends =
       steps_end t done before behind ends ∙ ap (λ steps. Ok (steps, behind)) (sym (append-nil done))

@@ -187,15 +187,15 @@ pub end_read : end_at last ≡ Ok tt
 unfolding end_at nothing width_of
 end_read = bound (line_due due.End last) end_line _ (line_read due.End end_line ([] ∷ []) end_is refl (omega arith))
 
-plan_read : (planned : Bool) (rest : Left) → 0 < length rest → plan_at (joined (plan_line planned) ∷ rest) ≡ Ok planned
+pub plan_read : (planned : Bool) (rest : Left) → 0 < length rest → plan_at (joined (plan_line planned) ∷ rest) ≡ Ok planned
 unfolding plan_at width_of
 plan_read true rest some = bound (line_due due.Plan (joined (plan_line true) ∷ rest)) (plan_line true) _ (line_read due.Plan (plan_line true) rest (plan_is true) refl some)
 plan_read false rest some = bound (line_due due.Plan (joined (plan_line false) ∷ rest)) (plan_line false) _ (line_read due.Plan (plan_line false) rest (plan_is false) refl some)
 
-last_is : IsBehind last
+pub last_is : IsBehind last
 last_is = behind_line end_line ([] ∷ []) end_is refl refl refl
 
-whole_read : (t : Tables) (whole : Tree) → InWrittenOrder t whole → IsShallow whole → tree_at t (texts (tree_lines t whole) ++ last) ≡ Ok (nodes_of whole)
+pub whole_read : (t : Tables) (whole : Tree) → InWrittenOrder t whole → IsShallow whole → tree_at t (texts (tree_lines t whole) ++ last) ≡ Ok (nodes_of whole)
 unfolding tree_at
 whole_read t whole are shallow =
     let left : Left = texts (tree_lines t whole) ++ last in

@@ -3,7 +3,7 @@
 ghost use Rattle.std.specs.Prelude.{◌≡◌, ◌^◌, ◌-◌, ℕ, Bool, List, All, Ok, pos};
 ghost use Rattle.fleet_model.specs.declared.tables.Tables.{Tables};
 ghost use Rattle.bound_cert.specs.Duality.{CeilingIsLowerBound, WeakDuality, WorthIsLowerBound, WorthRefutes, ZeroIsProper};
-ghost use Rattle.bound_cert.specs.FirstFault.{FirstFaultIsFixed};
+ghost use Rattle.bound_cert.specs.FirstFault.{FirstFaultIsFixed, LinesBeforeBeginProof};
 ghost use Rattle.bound_cert.specs.Lines.{left_of};
 ghost use Rattle.bound_cert.specs.Nodes.{nodes_of, proof_at};
 ghost use Rattle.bound_cert.specs.OfTables.{IsOfTables};
@@ -80,6 +80,11 @@ pub fn text_of_reading()
 /// next one too: texts that have these in common have their first fault in common.
 pub fn first_fault_is_fixed()
     ensures { FirstFaultIsFixed }
+{}
+
+/// The lines before a first fault begin a proof, where no more of them are trims and splits than may stand above a node.
+pub fn lines_before_begin_proof()
+    ensures { LinesBeforeBeginProof }
 {}
 
 /// The limits of proofs in numbers: of levels, of the numbers of a text, of scales, and of rents and prices.

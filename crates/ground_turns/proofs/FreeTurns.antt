@@ -39,7 +39,7 @@ same_test true false h g = sym (h refl)
 same_test false true h g = g refl
 same_test false false h g = refl
 
-not_none : (n : ℕ) → (n == 0) ≡ false → 0 < n
+pub not_none : (n : ℕ) → (n == 0) ≡ false → 0 < n
 not_none n e = grind (arith, nat_tests)
 
 some_test : (n : ℕ) → 0 < n → (n == 0) ≡ false
@@ -159,10 +159,14 @@ module _ (t : Tables) (a : List ℕ) (f : ℕ) (given turns : List Connection) (
       ∙ over_departures t a f turns map (λ l. bit ((((leg_of t l).from == s) && (departures_of given l == 0)) && nat_le (departure t (leg_on l f)) m))
       ∙ sum_below-agree _ _ (legs_in t) (record { each = λ l below. landed_part (fleet_at a l == f) ((leg_of t l).from == s) (nat_le (departure t (leg_on l f)) m) (departures_of given l == 0) })
 
-  -- free departures by a moment are at most the free landings by then and the free turns that cross
-  free_law : (s m : ℕ) → m < period_of t → free_departed t a f given s m ≤ free_landed t a f given s m + free_crossings s
-  unfolding free_crossings
-  free_law s m moment =
+  -- how many free turns wait at a station at a moment
+  unfoldable pub free_waiting : ℕ → ℕ → ℕ
+  free_waiting s m = count_below (λ k. there s k && waits_at t f (turn_at turns k) m) (length turns)
+
+  -- with free departures by then they are the free landings by then and the free turns that cross
+  pub free_turns_law : (s m : ℕ) → m < period_of t → free_waiting s m + free_departed t a f given s m ≡ free_landed t a f given s m + free_crossings s
+  unfolding free_crossings free_waiting
+  free_turns_law s m moment =
       let same = sum_below-agree (λ k. bit (there s k && waits_at t f (turn_at turns k) m) + bit (there s k && nat_le (departs_at t f (turn_at turns k)) m))
       (λ k. bit (there s k && nat_le (ready_at t f (turn_at turns k)) m) + bit (there s k && crosses t f (turn_at turns k))) (length turns)
       (record {
@@ -177,7 +181,7 @@ module _ (t : Tables) (a : List ℕ) (f : ℕ) (given turns : List Connection) (
   -- the free need is at most the free turns that cross
   pub need_crosses : (s : ℕ) → free_need t a f given s ≤ free_crossings s
   unfolding free_need
-  need_crosses s = max_below-least (free_excess t a f given s) (free_crossings s) (period_of t) (record { each = λ m moment. omega (arith, free_law s m moment) })
+  need_crosses s = max_below-least (free_excess t a f given s) (free_crossings s) (period_of t) (record { each = λ m moment. omega (arith, free_turns_law s m moment) })
 
   -- a turn that is given crosses as the given pairs say
   as_given : (k : ℕ) → k < length turns → is_free k ≡ false → crosses t f (turn_at turns k) ≡ crosses_by_given t f given (turn_at turns k).arriving

@@ -1,3 +1,4 @@
+pub mod ApartMaps
 pub mod CleanTurns
 pub mod DayStarts
 pub mod Exchanges
@@ -15,3 +16,4 @@ pub mod SomeMap
 pub mod Totals
 pub mod TourNights
 pub mod Waits
+pub mod WalkRound

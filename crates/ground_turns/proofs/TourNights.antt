@@ -25,10 +25,10 @@ shifted h zero = omega arith
 shifted h (suc n) = omega (arith, shifted h n)
 
 -- the nights of one turn
-abbrev nights_at_turn : Tables → ℕ → Connection → ℕ
+abbrev pub nights_at_turn : Tables → ℕ → Connection → ℕ
 nights_at_turn t f turn = nights_of t (leg_on turn.arriving f) + nights_waited t f turn
 
-nights_long : (t : Tables) (f : ℕ) (turns : List Connection) → length (nights_in_turns t f turns) ≡ sum_below (λ k. nights_at_turn t f (turn_at turns k)) (length turns)
+pub nights_long : (t : Tables) (f : ℕ) (turns : List Connection) → length (nights_in_turns t f turns) ≡ sum_below (λ k. nights_at_turn t f (turn_at turns k)) (length turns)
 nights_long t f [] = refl
 nights_long t f (turn ∷ turns) =
     let front = length-append (nights_in_turn t f turn) (nights_in_turns t f turns) in

@@ -1,5 +1,5 @@
 -- The laws of turns and successor maps, as statements.
-use Rattle.std.specs.Prelude.{◌≡◌, ◌≢◌, ℕ, suc, ◌+◌, ◌-◌, ◌*◌, ◌<◌, ◌==◌, ◌↔◌, if◌then◌else◌, IsTrue, List, [], length}
+use Rattle.std.specs.Prelude.{◌≡◌, ◌≢◌, ℕ, suc, ◌+◌, ◌-◌, ◌*◌, ◌<◌, ◌==◌, ◌↔◌, if◌then◌else◌, Bool, IsTrue, List, [], length, slice_index}
 use Rattle.sums.specs.Below.{sum_below}
 use Rattle.fleet_model.specs.declared.limits.TheConstants.{MINUTES_PER_DAY}
 use Rattle.fleet_model.specs.declared.parts.Connection.{Connection}
@@ -8,8 +8,9 @@ use Rattle.fleet_model.specs.Counts.{weights_of}
 use Rattle.fleet_model.specs.Schedule.{fleets_in, legs_in, stations_in}
 use Rattle.fleet_model.specs.Use.{IsBalanced, need_of, stand_of, used_of}
 use Rattle.ground_turns.specs.FirstOut.{AreFirstOut}
-use Rattle.ground_turns.specs.Maps.{AreClean, AreExchanged, Holds, IsFitting, IsHeld, IsNext, IsSuccessorMap, crossings_at, periods_of, turn_at, turns_by, waiting_at}
+use Rattle.ground_turns.specs.Maps.{AreClean, AreExchanged, Holds, IsFitting, IsHeld, IsNext, IsSuccessorMap, IsTour, crossings_at, periods_of, turn_at, turns_by, turns_round, waiting_at}
 use Rattle.ground_turns.specs.Nights.{nights_in_turns}
+use Rattle.ground_turns.specs.Parts.{KeepsPart, NeverTouches}
 use Rattle.ground_turns.specs.Segments.{EndAt, NoneEnds, is_among, minutes_of}
 use Rattle.ground_turns.specs.Turns.{IsClean, days_in, departs_at, nights_waited, period_of, ready_at, station_at, touches}
 
@@ -89,6 +90,16 @@ ExchangedFits = (t : Tables) (a : List ℕ) (f : ℕ) (old new : List Connection
 abbrev pub FirstOutFits : Type 0
 FirstOutFits = (t : Tables) (a : List ℕ) (f : ℕ) (given turns : List Connection) → IsHeld t a f given → IsSuccessorMap t a f turns → Holds turns given
     → AreFirstOut t a f given turns → IsFitting t a f turns
+
+-- where beside given pairs no turn of a part touches one outside, each fitting map that holds the pairs keeps the part
+abbrev pub ApartForAll : Type 0
+ApartForAll = (t : Tables) (a : List ℕ) (f : ℕ) (given turns other : List Connection) (inside : ℕ → Bool) → IsFitting t a f turns → Holds turns given
+    → KeepsPart turns inside → NeverTouches t f given turns inside → IsFitting t a f other → Holds other given → KeepsPart other inside
+
+-- a tour that keeps a part has all its legs in the part, or none
+abbrev pub TourIsWhole : Type 0
+TourIsWhole = (t : Tables) (a : List ℕ) (f : ℕ) (legs : List ℕ) (inside : ℕ → Bool) → IsTour t a f legs → KeepsPart (turns_round legs) inside
+    → (j k : ℕ) → j < length legs → k < length legs → inside (slice_index legs j) ≡ inside (slice_index legs k)
 
 -- where as many aircraft of a fleet come to each station as leave it, some map fits
 abbrev pub SomeFits : Type 0

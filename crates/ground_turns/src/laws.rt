@@ -1,5 +1,5 @@
 //! The laws of turns and successor maps. Each function is a law: its contract is the statement, and it does nothing.
-ghost use Rattle.ground_turns.specs.Laws.{ExchangedFits, FirstOutFits, FitsWhereClean, NextIsMap, NightsAreNeed, NightsAreStands, NightsAreUse, PeriodsBeyondUse, SegmentsTellClean, SomeFits, WaitingIsStand, WaitingLaw};
+ghost use Rattle.ground_turns.specs.Laws.{ApartForAll, ExchangedFits, FirstOutFits, FitsWhereClean, NextIsMap, NightsAreNeed, NightsAreStands, NightsAreUse, PeriodsBeyondUse, SegmentsTellClean, SomeFits, TourIsWhole, WaitingIsStand, WaitingLaw};
 
 /// In a successor map the aircraft that wait at a station are, at each moment, those that stand there and one number
 /// more: by which the turns that cross the period's start pass the need.
@@ -47,6 +47,18 @@ pub fn exchanged_fits()
 /// each station in the order in which they became ready there.
 pub fn first_out_fits()
     ensures { FirstOutFits }
+{}
+
+/// Where beside given pairs no turn of a part of a fitting map touches one outside, each fitting map that holds the pairs
+/// keeps the part.
+pub fn apart_for_all()
+    ensures { ApartForAll }
+{}
+
+/// A tour that keeps a part has all its legs in the part, or none. So no tour holds pairs beside which two parts never
+/// touch.
+pub fn tour_is_whole()
+    ensures { TourIsWhole }
 {}
 
 /// Some map fits for each fleet of a balanced assignment, as each legal one is: the one that goes first in, first out.

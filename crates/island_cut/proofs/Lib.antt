@@ -1,2 +1,3 @@
 pub mod SameUse
 pub mod Passing
+pub mod NonePairs

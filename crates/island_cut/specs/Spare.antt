@@ -3,20 +3,15 @@
 use Rattle.std.specs.Prelude.{ℕ, ◌<◌, ◌≤◌, Option, None, IsSome, MatchOption, ℤ, pos, ◌-ℤ◌, ◌≡◌}
 use Rattle.sums.specs.Below.{sum_below}
 use Rattle.fleet_model.specs.declared.tables.Tables.{Tables}
+use Rattle.fleet_model.specs.Kept.{IsBare, all_pairs}
 use Rattle.fleet_model.specs.Legal.{cost_of}
 use Rattle.fleet_model.specs.Schedule.{fleet_of, fleets_in, leg_on, legs_in}
 use Rattle.fleet_model.specs.Times.{busy_minutes}
 use Rattle.stand_counts.specs.Flights.{Flights, used_by}
 
--- some fleet may fly the leg
-pub record HasPair (t : Tables) (l : ℕ) : Type 0 where
-  pub fleet : ℕ
-  pub known : fleet < fleets_in t
-  pub allowed : IsSome (cost_of t (leg_on l fleet))
-
 -- some fleet may fly each leg
 pub record HavePairs (t : Tables) : Type 0 where
-  pub each : (l : ℕ) → l < legs_in t → HasPair t l
+  pub each : (l : ℕ) → ¬ (IsBare t (all_pairs t) l)
 
 -- of the first fleets, this one may fly the leg, and is busy with it no longer than any that may
 pub record IsQuickest (t : Tables) (l fleets f : ℕ) : Type 0 where

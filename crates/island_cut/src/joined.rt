@@ -3,7 +3,7 @@ ghost use Rattle.std.specs.Prelude.{◌≡◌, ◌+◌, ◌<◌, ◌≤◌};
 ghost use Rattle.fleet_model.specs.Counts.{fleet_at};
 ghost use Rattle.fleet_model.specs.Legal.{IsAssignment};
 ghost use Rattle.fleet_model.specs.Schedule.{fleets_in, legs_in};
-ghost use Rattle.island_cut.specs.Spare.{AreQuickest, HasPair, HavePairs, IsBest, IsQuickest, joined};
+ghost use Rattle.island_cut.specs.Spare.{AreQuickest, HavePairs, IsBest, IsQuickest, joined};
 
 use fleet_model::{Assignment, Pair, Tables, busy};
 use stand_counts::Flights;
@@ -49,7 +49,7 @@ pub(crate) fn quickest(tables: &Tables) -> Assignment
 // A fleet that may fly a leg, and is busy with it no longer than any that may.
 fn quickest_on(tables: &Tables, leg: u32) -> u32
     requires leg { leg < legs_in tables.now }
-    requires pair { HasPair tables.now leg }
+    requires pairs { HavePairs tables.now }
     ensures { IsQuickest tables.now leg (fleets_in tables.now) result }
 {
     let mut best = None;

@@ -1,9 +1,9 @@
 -- The need of free departures is their greatest excess at a departure.
-use Rattle.std.proofs.Common.{◌≡◌, ℕ, suc, ◌-◌, ◌<◌, ◌≤◌, Bool, true, false, if◌then◌else◌, ◌&&◌, nat_le, List, refl, sym, ap, ◌∙◌, arith}
+use Rattle.std.proofs.Common.{◌≡◌, ℕ, suc, ◌-◌, ◌≤◌, Bool, true, false, if◌then◌else◌, ◌&&◌, nat_le, List, refl, sym, ap, ◌∙◌, arith}
 use Rattle.std.proofs.lemmas.Bool.Decides.{nat_tests}
-use Rattle.sums.specs.Below.{max_below, sum_below}
+use Rattle.sums.specs.Below.{max_below}
 use Rattle.sums.proofs.Maxima.{max_below-agree}
-use Rattle.sums.proofs.Sums.{AgreeBelow, NoMoreBelow, sum_below-agree, sum_below-le}
+use Rattle.sums.proofs.Sums.{sum_below-agree, sum_below-le}
 use Rattle.fleet_model.specs.declared.limits.TheConstants.{MINUTES_PER_PERIOD}
 use Rattle.fleet_model.specs.declared.parts.Connection.{Connection}
 use Rattle.fleet_model.specs.declared.tables.Tables.{Tables}

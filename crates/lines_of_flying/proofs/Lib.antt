@@ -2,3 +2,4 @@ pub mod Listed
 pub mod Followers
 pub mod FreeNeed
 pub mod AllSuccessors
+pub mod TourLines

@@ -1,3 +1,4 @@
 pub mod Following
 pub mod Grounds
 pub mod Successors
+pub mod Lines

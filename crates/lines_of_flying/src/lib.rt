@@ -1,6 +1,7 @@
 //! Successor maps that hold given turns, and the lines of a tour.
 #![tactic(auto)]
 
+pub mod days;
 mod following;
 mod free;
 mod ground;
@@ -8,4 +9,5 @@ pub mod mapping;
 mod needs;
 mod places;
 
+pub use days::lines;
 pub use mapping::successors;

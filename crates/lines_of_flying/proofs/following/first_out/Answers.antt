@@ -1,4 +1,4 @@
-use Rattle.std.proofs.Common.{ℕ, ◌<◌, arith}
+use Rattle.std.proofs.Common.{arith}
 use Rattle.lines_of_flying.proofs.Followers.{some_follows}
 use Rattle.lines_of_flying.proofs.following.first_out.Goals as goal
 

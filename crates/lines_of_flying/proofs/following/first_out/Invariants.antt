@@ -1,4 +1,4 @@
-use Rattle.std.proofs.Common.{◌≡◌, ℕ, ◌<◌}
+use Rattle.std.proofs.Common.{ℕ, ◌<◌}
 use Rattle.lines_of_flying.specs.Following.{IsFirstOutNext}
 use Rattle.lines_of_flying.proofs.following.first_out.Given as goal
 

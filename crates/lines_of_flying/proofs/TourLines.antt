@@ -1,0 +1,113 @@
+-- The lines of a tour, leg by leg, and how many there are.
+use Rattle.std.proofs.Common.{◌≡◌, ℕ, zero, suc, ◌+◌, ◌*◌, ◌<◌, false, if◌then◌else◌, ◌==◌, List, [], ◌∷◌, ◌++◌, length, slice_index, refl, sym, ◌∙◌, ap, subst, add-one, append_assoc, arith}
+use Rattle.std.proofs.lemmas.List.{append-nil}
+use Rattle.std.proofs.lemmas.Bool.Decides.{nat_tests}
+use Rattle.sums.specs.Below.{sum_below}
+use Rattle.sums.specs.Places.{list_below}
+use Rattle.sums.proofs.Naturals.{same_number}
+use Rattle.sums.proofs.Places.{get_or-list_below, length-list_below, list_below-more}
+use Rattle.sums.proofs.SumBounds.{sum_below-le}
+use Rattle.sums.proofs.Sums.{sum_below-agree}
+use Rattle.fleet_model.specs.declared.tables.Tables.{Tables}
+use Rattle.fleet_model.specs.Counts.{weights_of}
+use Rattle.fleet_model.specs.Schedule.{legs_in}
+use Rattle.fleet_model.specs.Use.{used_of}
+use Rattle.ground_turns.specs.Maps.{IsTour, no_turn, turn_after, turn_at, turns_round}
+use Rattle.ground_turns.specs.Turns.{IsTurn, days_in}
+use Rattle.ground_turns.proofs.TourNights.{nights_are_use, nights_at_turn, nights_long}
+use Rattle.lines_of_flying.specs.Lines.{AreLegs, day_of, legs_on_day, line_after, lines_ended, lines_of, nights_after}
+
+-- lists of equal entries are equal
+list_below-agree : {X : Type 0} (f g : ℕ → X) (n : ℕ) → ((k : ℕ) → k < n → f k ≡ g k) → list_below f n ≡ list_below g n
+list_below-agree f g zero same = refl
+list_below-agree {X} f g (suc n) same =
+    ap (list_below f) (sym (add-one n)) ∙ list_below-more f n
+    ∙ ap (λ xs. xs ++ f n ∷ []) (list_below-agree f g n (λ k below. same k (omega arith)))
+    ∙ ap (λ x. list_below g n ++ x ∷ []) (same n (omega arith))
+    ∙ sym (list_below-more g n) ∙ ap (list_below g) (add-one n)
+
+-- the legs of a tour are legs of the tables
+pub known_legs : (t : Tables) (a : List ℕ) (f : ℕ) (tour : List ℕ) → IsTour t a f tour → AreLegs t tour
+known_legs t a f tour is = record { each = λ k below. known k below }
+  where
+    known : (k : ℕ) → k < length tour → slice_index tour k < legs_in t
+    known k below =
+        let within : k < length (turns_round tour) = rw (length-list_below (turn_after tour) (length tour)) below in
+        let turn : IsTurn t a f (turn_at (turns_round tour) k) = is.fitting.map.each k within in
+        (subst (IsTurn t a f) (get_or-list_below (turn_after tour) (length tour) k no_turn below) turn).arriving
+
+-- the days of a tour are as many as the fleet uses aircraft, for each day of the period
+pub days_are_use : (t : Tables) (a : List ℕ) (f : ℕ) (tour : List ℕ) → IsTour t a f tour → length (lines_of t f tour) ≡ used_of t (weights_of a) f * days_in t
+unfolding nights_after
+days_are_use t a f tour is =
+    length-list_below (λ d. legs_on_day t f tour d (length tour)) (day_of t f tour (length tour))
+    ∙ sum_below-agree (nights_after t f tour) (λ k. nights_at_turn t f (turn_at (turns_round tour) k)) (length tour)
+    (record { each = λ k below. ap (nights_at_turn t f) (sym (get_or-list_below (turn_after tour) (length tour) k no_turn below)) })
+    ∙ ap (sum_below (λ k. nights_at_turn t f (turn_at (turns_round tour) k))) (sym (length-list_below (turn_after tour) (length tour)))
+    ∙ sym (nights_long t f (turns_round tour))
+    ∙ nights_are_use t a f (turns_round tour) is.fitting
+
+module _ (t : Tables) (f : ℕ) (tour : List ℕ) where
+  -- the first legs of a day
+  first_on : ℕ → ℕ → List ℕ
+  first_on n d = legs_on_day t f tour d n
+
+  other_day : (d n : ℕ) → (day_of t f tour n == d) ≡ false → first_on (suc n) d ≡ first_on n d
+  unfolding first_on
+  other_day d n other = ap (λ b. legs_on_day t f tour d n ++ (if b then slice_index tour n ∷ [] else [])) other ∙ append-nil (legs_on_day t f tour d n)
+
+  its_day : (n : ℕ) → first_on (suc n) (day_of t f tour n) ≡ first_on n (day_of t f tour n) ++ slice_index tour n ∷ []
+  unfolding first_on
+  its_day n = ap (λ b. legs_on_day t f tour (day_of t f tour n) n ++ (if b then slice_index tour n ∷ [] else [])) (same_number (day_of t f tour n))
+
+  -- no leg is of a later day than the last one's
+  none_later : (n d : ℕ) → ((k : ℕ) → k < n → day_of t f tour k < d) → first_on n d ≡ []
+  unfolding first_on
+  none_later zero d early = refl
+  none_later (suc n) d early =
+      let other : (day_of t f tour n == d) ≡ false = differs (day_of t f tour n) d (early n (omega arith)) in
+      ap (λ b. legs_on_day t f tour d n ++ (if b then slice_index tour n ∷ [] else [])) other
+      ∙ append-nil (legs_on_day t f tour d n) ∙ none_later n d (λ k below. early k (omega arith))
+    where
+      differs : (m d : ℕ) → m < d → (m == d) ≡ false
+      differs m d less = grind (arith, nat_tests)
+
+  later_day : (n d : ℕ) → day_of t f tour n < d → first_on (suc n) d ≡ []
+  later_day n d late = none_later (suc n) d (λ k below. omega (arith, sum_below-le (nights_after t f tour) k n (omega arith), late))
+
+  -- the lines after so many of the nights that follow a leg
+  ended : (n : ℕ) (lines : List (List ℕ)) (line : List ℕ) → lines ≡ list_below (first_on n) (day_of t f tour n) → line ≡ first_on (suc n) (day_of t f tour n)
+      → (m : ℕ) → (lines ++ lines_ended line m ≡ list_below (first_on (suc n)) (day_of t f tour n + m)) × (line_after line m ≡ first_on (suc n) (day_of t f tour n + m))
+  ended n lines line before now zero =
+      let none : day_of t f tour n ≡ day_of t f tour n + 0 = omega arith in
+      let same = list_below-agree (first_on n) (first_on (suc n)) (day_of t f tour n) (λ d early. sym (other_day d n (differs (day_of t f tour n) d early))) in
+      (append-nil lines ∙ before ∙ same ∙ ap (list_below (first_on (suc n))) none, now ∙ ap (first_on (suc n)) none)
+    where
+      differs : (m d : ℕ) → d < m → (m == d) ≡ false
+      differs m d less = grind (arith, nat_tests)
+  ended n lines line before now (suc m) =
+      let front = ended n lines line before now m in
+      let one : (day_of t f tour n + m) + 1 ≡ day_of t f tour n + suc m = omega arith in (
+        sym (append_assoc lines (lines_ended line m) (line_after line m ∷ []))
+            ∙ ap (λ xs. xs ++ line_after line m ∷ []) front.0
+            ∙ ap (λ x. list_below (first_on (suc n)) (day_of t f tour n + m) ++ x ∷ []) front.1
+            ∙ sym (list_below-more (first_on (suc n)) (day_of t f tour n + m))
+            ∙ ap (list_below (first_on (suc n))) one,
+        sym (later_day n (day_of t f tour n + suc m) (omega arith)),
+      )
+
+  -- the lines after a leg and its nights
+  pub leg_more : (n leg nights : ℕ) (lines : List (List ℕ)) (line : List ℕ)
+      → lines ≡ list_below (λ d. legs_on_day t f tour d n) (day_of t f tour n) → line ≡ legs_on_day t f tour (day_of t f tour n) n
+      → leg ≡ slice_index tour n → nights ≡ nights_after t f tour n
+      → (lines ++ lines_ended (line ++ leg ∷ []) nights ≡ list_below (λ d. legs_on_day t f tour d (n + 1)) (day_of t f tour (n + 1)))
+      × (line_after (line ++ leg ∷ []) nights ≡ legs_on_day t f tour (day_of t f tour (n + 1)) (n + 1))
+  unfolding first_on
+  leg_more n leg nights lines line before begun is count =
+      let now : line ++ leg ∷ [] ≡ first_on (suc n) (day_of t f tour n) = ap (λ xs. xs ++ leg ∷ []) begun ∙ ap (λ l. legs_on_day t f tour (day_of t f tour n) n ++ l ∷ []) is ∙ sym (its_day n) in
+      let all = ended n lines (line ++ leg ∷ []) before now nights in
+      let place = sym (add-one n) in
+      let day : day_of t f tour n + nights ≡ day_of t f tour (n + 1) = ap (λ m. day_of t f tour n + m) count ∙ ap (day_of t f tour) place in (
+        all.0 ∙ ap (λ k. list_below (λ d. legs_on_day t f tour d k) (day_of t f tour n + nights)) place ∙ ap (list_below (λ d. legs_on_day t f tour d (n + 1))) day,
+        all.1 ∙ ap (λ k. legs_on_day t f tour (day_of t f tour n + nights) k) place ∙ ap (λ d. legs_on_day t f tour d (n + 1)) day,
+      )

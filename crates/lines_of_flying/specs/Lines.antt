@@ -1,0 +1,43 @@
+-- The lines of a tour: the legs of each of its days, cut at its nights.
+use Rattle.std.specs.Prelude.{ℕ, zero, suc, ◌+◌, ◌-◌, ◌<◌, ◌==◌, if◌then◌else◌, List, [], ◌∷◌, ◌++◌, length, slice_index}
+use Rattle.sums.specs.Below.{sum_below}
+use Rattle.sums.specs.Places.{list_below}
+use Rattle.fleet_model.specs.declared.tables.Tables.{Tables}
+use Rattle.fleet_model.specs.Schedule.{leg_on, legs_in}
+use Rattle.fleet_model.specs.Times.{nights_of}
+use Rattle.ground_turns.specs.Maps.{turn_after}
+use Rattle.ground_turns.specs.Turns.{nights_waited}
+
+-- the nights from a leg of a tour to the next: those in its flight, and those in the wait that follows
+unfoldable pub nights_after : Tables → ℕ → List ℕ → ℕ → ℕ
+nights_after t f tour k = nights_of t (leg_on (slice_index tour k) f) + nights_waited t f (turn_after tour k)
+
+-- the day of a leg: the nights from the tour's first leg to it
+abbrev pub day_of : Tables → ℕ → List ℕ → ℕ → ℕ
+day_of t f tour k = sum_below (nights_after t f tour) k
+
+-- of a tour's first legs those of a day
+abbrev pub legs_on_day : Tables → ℕ → List ℕ → ℕ → ℕ → List ℕ
+legs_on_day t f tour d zero = []
+legs_on_day t f tour d (suc k) = legs_on_day t f tour d k ++ (if day_of t f tour k == d then slice_index tour k ∷ [] else [])
+
+-- the legs of each day, for so many days as the tour has nights
+abbrev pub lines_of : Tables → ℕ → List ℕ → List (List ℕ)
+lines_of t f tour = list_below (λ d. legs_on_day t f tour d (length tour)) (day_of t f tour (length tour))
+
+-- a night lies before the tour's first leg
+pub record BeginsAfterNight (t : Tables) (f : ℕ) (tour : List ℕ) : Type 0 where
+  pub before : 0 < nights_after t f tour (length tour - 1)
+
+-- the legs of a list are legs of the tables
+pub record AreLegs (t : Tables) (legs : List ℕ) : Type 0 where
+  pub each : (k : ℕ) → k < length legs → slice_index legs k < legs_in t
+
+-- the lines that so many nights end, of which the first has these legs and the others none; and the line after them
+abbrev pub line_after : List ℕ → ℕ → List ℕ
+line_after line zero = line
+line_after line (suc n) = []
+
+abbrev pub lines_ended : List ℕ → ℕ → List (List ℕ)
+lines_ended line zero = []
+lines_ended line (suc n) = lines_ended line n ++ line_after line n ∷ []

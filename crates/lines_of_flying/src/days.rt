@@ -1,0 +1,100 @@
+ghost use Rattle.std.specs.Prelude.{◌≡◌, ◌*◌, ◌+◌, ◌<◌, ◌≤◌, ◌++◌, IfOk, OnOk, length};
+ghost use Rattle.fleet_model.specs.Counts.{weights_of};
+ghost use Rattle.fleet_model.specs.Legal.{IsAssignment};
+ghost use Rattle.fleet_model.specs.Schedule.{fleets_in, legs_in};
+ghost use Rattle.fleet_model.specs.Use.{used_of};
+ghost use Rattle.ground_turns.specs.Maps.{IsTour};
+ghost use Rattle.ground_turns.specs.Turns.{days_in, nights_waited};
+ghost use Rattle.lines_of_flying.specs.Lines.{AreLegs, BeginsAfterNight, line_after, lines_ended, lines_of, nights_after};
+
+use entries::{Entries, NoMemory};
+use fleet_model::limits::{MINUTES_PER_DAY, MINUTES_PER_PERIOD};
+use fleet_model::{Assignment, Connection, Tables, nights, ready};
+use std::alloc::Global;
+
+/// The lines of a tour: the legs of each of its days, in their order. A day ends with each night, in a leg's flight or
+/// in the wait that follows, and a day without a leg has an empty line. The tour begins after a night.
+pub fn lines(
+    alloc: Global,
+    tables: &Tables,
+    plan: &Assignment,
+    fleet: u32,
+    tour: &[u32],
+) -> Result<Entries<Entries<u32>>, NoMemory>
+    requires plan { IsAssignment tables.now plan.now }
+    requires fleet { fleet < fleets_in tables.now }
+    requires tour { IsTour tables.now plan.now fleet tour.now }
+    requires begins { BeginsAfterNight tables.now fleet tour.now }
+    ensures lines { IfOk result (λ lines. lines ≡ lines_of tables.now fleet tour.now) }
+    ensures days { IfOk result (λ lines. length lines ≡ used_of tables.now (weights_of plan.now) fleet * days_in tables.now) }
+{
+    Ok(Entries::from_vec(cut(alloc, tables, fleet, tour)?))
+}
+
+// A list of legs, cut at the nights between them.
+fn cut(
+    alloc: Global,
+    tables: &Tables,
+    fleet: u32,
+    tour: &[u32],
+) -> Result<Vec<Entries<u32>>, NoMemory>
+    requires fleet { fleet < fleets_in tables.now }
+    requires known { AreLegs tables.now tour.now }
+    ensures { IfOk result (λ lines. lines.items ≡ lines_of tables.now fleet tour.now) }
+{
+    let mut lines = Vec::new(alloc);
+    let mut line = Vec::new(alloc);
+    for place in 0..tour.len() {
+        line.push(tour[place])?;
+        let nights = nights_after(tables, fleet, tour, place);
+        line = end_days(alloc, &mut lines, line, nights)?;
+    }
+    Ok(lines)
+}
+
+// Ends a line with each of so many nights, and gives the line after them.
+fn end_days(
+    alloc: Global,
+    lines: &mut Vec<Entries<u32>>,
+    line: Vec<u32>,
+    nights: u32,
+) -> Result<Vec<u32>, NoMemory>
+    ensures ended { OnOk result (lines.new.items ≡ lines.old.items ++ lines_ended line.items nights) }
+    ensures rest { IfOk result (λ rest. rest.items ≡ line_after line.items nights) }
+{
+    let mut line = line;
+    for _ in 0..nights {
+        lines.push(Entries::from_vec(line))?;
+        line = Vec::new(alloc);
+    }
+    Ok(line)
+}
+
+// The nights from a leg of a tour to the next.
+#[tactic(auto, unfolding(crate::specs::Lines::nights_after))]
+fn nights_after(tables: &Tables, fleet: u32, tour: &[u32], place: usize) -> u32
+    requires fleet { fleet < fleets_in tables.now }
+    requires known { AreLegs tables.now tour.now }
+    requires place { place < length tour.now }
+    ensures { result ≡ nights_after tables.now fleet tour.now place }
+{
+    let turn = Connection {
+        arriving: tour[place],
+        departing: tour[(place + 1) % tour.len()],
+    };
+    nights(tables, turn.arriving, fleet) + nights_waited(tables, fleet, turn)
+}
+
+// The day starts in the wait of a turn.
+fn nights_waited(tables: &Tables, fleet: u32, turn: Connection) -> u32
+    requires fleet { fleet < fleets_in tables.now }
+    requires arriving { turn.arriving < legs_in tables.now }
+    requires departing { turn.departing < legs_in tables.now }
+    ensures value { result ≡ nights_waited tables.now fleet turn }
+    ensures few { result ≤ 20160 }
+{
+    let ready = ready(tables, turn.arriving, fleet);
+    let departure = tables.leg(turn.departing).dep;
+    let wait = (departure + MINUTES_PER_PERIOD - ready) % MINUTES_PER_PERIOD;
+    u32::from((ready + wait) / MINUTES_PER_DAY - ready / MINUTES_PER_DAY)
+}

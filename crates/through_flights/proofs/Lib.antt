@@ -1,0 +1,12 @@
+pub mod Pushing
+pub mod ZeroMinutes
+pub mod LongestWaits
+pub mod ListedValues
+pub mod TurnWorths
+pub mod Followers
+pub mod CleanMatchings
+pub mod FittingMaps
+pub mod ListedTurns
+pub mod Numbers
+pub mod Choices
+pub mod NoneMore

@@ -1,0 +1,13 @@
+use Rattle.std.proofs.Common.{◌≡◌, ◌+◌, ◌≤◌, Fits, ℕ, refl, arith, w64}
+use Rattle.through_flights.specs.declared.worths.TheConstants.{MAX_VALUE}
+use Rattle.through_flights.proofs.TurnWorths.{listed_small, through_worth}
+use Rattle.through_flights.proofs.worths.turn_worth.Goals as goal
+
+fits : (value listed : ℕ) → value ≡ listed → listed ≤ MAX_VALUE → Fits w64 (1000000000000001 + value)
+fits value listed e le = omega arith
+
+pub overflow_add-result : goal.overflow_add-result
+overflow_add-result c = fits _ _ c.requires.value (listed_small c.args.turns.now.tables.now c.args.pair)
+
+pub returns-then-is_short : goal.returns-then-is_short
+returns-then-is_short c = through_worth _ _ _ _ _ c.requires.value (c.if-not-is_clean_turn.ensures.0 refl) (c.if-is_short.ensures.0 refl)

@@ -1,0 +1,44 @@
+-- A choice of through pairs, and the numbers of legs which show that none is worth more.
+use Rattle.std.specs.Prelude.{◌≡◌, ◌≢◌, ℕ, zero, suc, ◌<◌, Bool, if◌then◌else◌, List, [], ◌∷◌, ◌++◌, length, slice_index_or, ℤ, pos, ◌+ℤ◌, ◌≤ℤ◌, ◌<ℤ◌, Some}
+use Rattle.sums.specs.Below.{sum_below_ℤ}
+use Rattle.fleet_model.specs.declared.parts.Connection.{Connection}
+use Rattle.fleet_model.specs.declared.tables.Tables.{Tables}
+use Rattle.fleet_model.specs.Counts.{fleet_at}
+use Rattle.fleet_model.specs.Schedule.{legs_in}
+use Rattle.ground_turns.specs.Maps.{turn_at}
+use Rattle.ground_turns.specs.Throughs.{IsThroughSet, IsThroughTurn, value_of, value_of_set, worth_at}
+use Rattle.ground_turns.specs.Turns.{IsClean, IsTurn}
+use Rattle.through_flights.specs.Worths.{pair_of}
+
+-- a number of a leg
+abbrev pub number_at : List ℤ → ℕ → ℤ
+number_at numbers leg = slice_index_or numbers leg (pos 0)
+
+-- numbers of the legs as arrivals and as departures: at each clean turn of the fleet they sum to at least the pair's
+-- value, and to at least 0 where it is no through pair that can be flown; those of other fleets' legs are 0
+pub record ReachTurns (t : Tables) (a : List ℕ) (f : ℕ) (u v : List ℤ) : Type 0 where
+  pub arrivals : length u ≡ legs_in t
+  pub departures : length v ≡ legs_in t
+  pub others : (leg : ℕ) → leg < legs_in t → fleet_at a leg ≢ f → (number_at u leg ≡ pos 0) × (number_at v leg ≡ pos 0)
+  pub clean : (pair : Connection) → IsTurn t a f pair → IsClean t a f pair → pos 0 ≤ℤ (number_at u pair.arriving +ℤ number_at v pair.departing)
+  pub through : (pair : Connection) (value : ℤ) → IsThroughTurn t a f pair → value_of t pair ≡ Some value
+      → value ≤ℤ (number_at u pair.arriving +ℤ number_at v pair.departing)
+
+-- the pairs come by the leg that arrives, and each is worth something
+pub record AreListed (t : Tables) (pairs : List Connection) : Type 0 where
+  pub rising : (j k : ℕ) → j < k → k < length pairs → (turn_at pairs j).arriving < (turn_at pairs k).arriving
+  pub above : (k : ℕ) → k < length pairs → pos 0 <ℤ worth_at t pairs k
+
+-- all numbers of the legs, summed
+abbrev pub sum_of : List ℤ → ℕ → ℤ
+sum_of numbers legs = sum_below_ℤ (number_at numbers) legs
+
+-- no through set is worth more than numbers that reach all turns sum to
+abbrev pub NoneIsWorthMore : Type 0
+NoneIsWorthMore = (t : Tables) (a : List ℕ) (f : ℕ) (u v : List ℤ) (pairs : List Connection) → ReachTurns t a f u v → IsThroughSet t a f pairs
+    → value_of_set t pairs ≤ℤ (sum_of u (legs_in t) +ℤ sum_of v (legs_in t))
+
+-- the legs that pass with those that follow them, by the leg that arrives
+abbrev pub turns_below : (ℕ → Bool) → (ℕ → ℕ) → ℕ → List Connection
+turns_below passes next zero = []
+turns_below passes next (suc leg) = turns_below passes next leg ++ (if passes leg then pair_of leg (next leg) ∷ [] else [])

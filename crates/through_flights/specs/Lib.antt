@@ -1,0 +1,5 @@
+pub mod Waits
+pub mod Worths
+pub mod Choice
+pub mod Known
+pub mod Chosen

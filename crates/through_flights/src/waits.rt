@@ -1,0 +1,80 @@
+//! How long the aircraft of each landing can wait in a clean turn.
+ghost use Rattle.std.specs.Prelude.{◌≡◌, ◌<◌, ◌≤◌, ◌+◌, ◌-◌, ◌%◌, ℕ, length, slice_index, All, IfOk};
+ghost use Rattle.sums.specs.Places.{list_below};
+ghost use Rattle.fleet_model.specs.declared.limits.TheConstants.{MINUTES_PER_PERIOD};
+ghost use Rattle.fleet_model.specs.Counts.{weights_of};
+ghost use Rattle.fleet_model.specs.Legal.{IsAssignment};
+ghost use Rattle.fleet_model.specs.Schedule.{fleets_in, legs_in, stations_in};
+ghost use Rattle.island_cut.specs.Zeros.{zeros_of};
+ghost use Rattle.through_flights.specs.Waits.{AreLongestWaits, IsLongestWait};
+
+use entries::{Entries, NoMemory};
+use fleet_model::limits::MINUTES_PER_PERIOD;
+use fleet_model::{Assignment, Tables, ready};
+use island_cut::zero_minutes;
+use std::alloc::Global;
+
+/// For each leg the longest wait of a clean turn from it, in minutes.
+pub fn longest_waits(
+    alloc: Global,
+    tables: &Tables,
+    plan: &Assignment,
+    fleet: u32,
+) -> Result<Entries<u16>, NoMemory>
+    requires plan { IsAssignment tables.now plan.now }
+    requires fleet { fleet < fleets_in tables.now }
+    ensures { IfOk result (AreLongestWaits tables.now plan.now fleet) }
+{
+    let zeros = all_zero_minutes(alloc, tables, plan, fleet)?;
+    let mut longest = Vec::new(alloc);
+    for leg in 0..tables.leg_count() {
+        let station = tables.leg(leg).to as usize;
+        longest.push(longest_wait(ready(tables, leg, fleet), zeros[station].as_slice()))?;
+    }
+    Ok(Entries::from_vec(longest))
+}
+
+/// For each station the minutes at whose end no aircraft of the fleet stands there.
+fn all_zero_minutes(
+    alloc: Global,
+    tables: &Tables,
+    plan: &Assignment,
+    fleet: u32,
+) -> Result<Vec<Entries<u16>>, NoMemory>
+    requires plan { IsAssignment tables.now plan.now }
+    requires fleet { fleet < fleets_in tables.now }
+    ensures { IfOk result (λ all. all.items ≡ list_below (zeros_of tables.now (weights_of plan.now) fleet) (stations_in tables.now)) }
+{
+    let mut all = Vec::new(alloc);
+    for station in 0..tables.station_count() {
+        all.push(zero_minutes(alloc, tables, plan, fleet, station)?)?;
+    }
+    Ok(all)
+}
+
+/// The longest wait from a ready minute that ends before the end of the first of some minutes, going round.
+fn longest_wait(ready: u16, zeros: &[u16]) -> u16
+    requires ready { ready < MINUTES_PER_PERIOD }
+    requires zeros { All (λ zero. zero < MINUTES_PER_PERIOD) zeros.now }
+    ensures no_more { (k : ℕ) → k < length zeros.now → result ≤ (slice_index zeros.now k + MINUTES_PER_PERIOD - ready) % MINUTES_PER_PERIOD }
+    ensures all { (wait : ℕ) → wait < MINUTES_PER_PERIOD → ((k : ℕ) → k < length zeros.now → wait ≤ (slice_index zeros.now k + MINUTES_PER_PERIOD - ready) % MINUTES_PER_PERIOD) → wait ≤ result }
+{
+    let mut longest = MINUTES_PER_PERIOD - 1;
+    for zero in zeros {
+        let until = minutes_until(ready, *zero);
+        if until < longest {
+            longest = until;
+        }
+    }
+    longest
+}
+
+/// How many minutes after one minute another comes, going round.
+pub fn minutes_until(from: u16, to: u16) -> u16
+    requires from { from < MINUTES_PER_PERIOD }
+    requires to { to < MINUTES_PER_PERIOD }
+    ensures value { result ≡ (to + MINUTES_PER_PERIOD - from) % MINUTES_PER_PERIOD }
+    ensures within { result < MINUTES_PER_PERIOD }
+{
+    (to + MINUTES_PER_PERIOD - from) % MINUTES_PER_PERIOD
+}
