@@ -91,22 +91,13 @@ fn sum(numbers: &[i128]) -> i128 {
 }
 
 /// Files, the longest wait, the fleets of the legs, a fleet, its chosen pairs and their value.
-type Case = (
-    Files,
-    u16,
-    &'static [u32],
-    u32,
-    &'static [(u32, u32)],
-    i128,
-);
+type Case = (Files, u16, &'static [u32], u32, &'static [(u32, u32)], i128);
 
 fn connections(pairs: &[(u32, u32)], chosen: &Throughs) -> bool {
     let found = chosen.pairs.as_slice();
     found.len() == pairs.len()
-        && found
-            .iter()
-            .zip(pairs)
-            .all(|(pair, want)| pair.arriving == want.0 && pair.departing == want.1)
+        && found.iter().zip(pairs).all(|(pair, want)| pair.arriving == want.0
+            && pair.departing == want.1)
 }
 
 const OTHER_VALUES: Files = Files {
@@ -147,7 +138,10 @@ fn pairs_of_greatest_value_are_chosen(rt: HostRuntime) -> Result<(), Fail> {
         let found = chosen(rt.alloc(), &files, through_max, fleets, fleet)?.ok_or("no choice")?;
         assert!(rt; connections(pairs, &found));
         assert_eq!(rt; found.value, value);
-        assert_eq!(rt; sum(found.u.as_slice()).wrapping_add(sum(found.v.as_slice())), value);
+        assert_eq!(rt;
+            sum(found.u.as_slice()).wrapping_add(sum(found.v.as_slice())),
+            value
+        );
     }
     Ok(())
 }
