@@ -35,6 +35,8 @@ mod reading;
 #[cfg(test)]
 mod schedules;
 #[cfg(test)]
+mod segments;
+#[cfg(test)]
 mod solving;
 #[cfg(test)]
 mod standing;
