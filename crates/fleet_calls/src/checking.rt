@@ -2,8 +2,8 @@
 ghost use Rattle.std.specs.Prelude.{◌<◌, MatchBool, ⊤};
 ghost use Rattle.bound_cert.specs.OfTables.{ArePricesOf, IsCauseOf, IsMixedOf, IsOfTables, IsStepOf, IsWeightOf};
 
-use crate::plans::assignment;
-use crate::schedules::{Files, OVERLAPPING_TRIPS, ROUND_TRIP, read};
+use worked_tables::plans::assignment;
+use worked_tables::schedules::{Files, OVERLAPPING_TRIPS, ROUND_TRIP, read};
 use bound_cert::{Cause, Mixed, PriceStep, Prices, Tree, Weight};
 use cert_check::{Checked, check};
 use entries::{Entries, NoMemory};

@@ -1,6 +1,6 @@
 //! Assignments, judged, with the aircraft that they need and use.
-use crate::plans::assignment;
-use crate::schedules::{
+use worked_tables::plans::assignment;
+use worked_tables::schedules::{
     BACK_AT_ONCE, BACK_BY_NIGHT, FOUR_AIRCRAFT, Files, OVER_THE_DAY_START, OVERLAPPING_TRIPS,
     ROUND_TRIP, THROUGH_THE_HUB, read, read_from,
 };

@@ -23,8 +23,6 @@ mod pivoting;
 #[cfg(test)]
 mod plan_texts;
 #[cfg(test)]
-mod plans;
-#[cfg(test)]
 mod presolving;
 #[cfg(test)]
 mod proof_reading;
@@ -33,20 +31,8 @@ mod proof_texts;
 #[cfg(test)]
 mod reading;
 #[cfg(test)]
-mod schedules;
-#[cfg(test)]
-mod segments;
-#[cfg(test)]
 mod solving;
 #[cfg(test)]
-mod standing;
-#[cfg(test)]
 mod subproblems;
-#[cfg(test)]
-mod succeeding;
-#[cfg(test)]
-mod throughs;
-#[cfg(test)]
-mod turns;
 #[cfg(test)]
 mod worths;

@@ -2,7 +2,7 @@
 ghost use Rattle.std.specs.Prelude.{IfOk, IfSome};
 ghost use Rattle.bound_cert.specs.Prices.{ArePrices};
 
-use crate::schedules::{ROUND_TRIP, TWO_FLEETS, read};
+use worked_tables::schedules::{ROUND_TRIP, TWO_FLEETS, read};
 use bound_cert::Weight;
 use bound_cert::worth::worth;
 use fleet_model::{Kept, Step, Tables};

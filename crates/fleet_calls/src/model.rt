@@ -1,5 +1,5 @@
 //! Times, costs and assignments.
-use crate::schedules::{
+use worked_tables::schedules::{
     BACK_BY_NIGHT, Files, OVERLAPPING_TRIPS, ROUND_TRIP, THROUGH_THE_HUB, read,
 };
 use fleet_model::{Assignment, Costs, Pair, PairCost, Tables, busy, laps, nights, ready};

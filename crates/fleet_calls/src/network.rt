@@ -1,5 +1,5 @@
 //! The time-line network of a subproblem, and its lines.
-use crate::schedules::{Files, ROUND_TRIP, TWO_FLEETS, read};
+use worked_tables::schedules::{Files, ROUND_TRIP, TWO_FLEETS, read};
 use fleet_model::{Kept, LoadError, Step, Tables};
 use lp_rows::rows;
 use node_aggregate::{node_of, nodes};

@@ -1,5 +1,5 @@
 //! Texts of plans that read, and what is written of them. Texts that are refused stand with the runs of the program.
-use crate::schedules::{ROUND_TRIP, read};
+use worked_tables::schedules::{ROUND_TRIP, read};
 use entries::NoMemory;
 use fleet_model::Assignment;
 use plan_text::{read_plan, write_plan};

@@ -1,5 +1,5 @@
 //! The pairs that presolve removes, with their reasons.
-use crate::schedules::{Files, ROUND_TRIP, read};
+use worked_tables::schedules::{Files, ROUND_TRIP, read};
 use bound_cert::PriceStep;
 use entries::Entries;
 use fleet_model::LoadError;

@@ -1,5 +1,5 @@
 //! Texts of proofs, read, and the first fault of each text that isn't one.
-use crate::schedules::{ROUND_TRIP, read};
+use worked_tables::schedules::{ROUND_TRIP, read};
 use bound_cert::{CertError, CertFault, Proof, Tree, read_proof, write_proof};
 use fleet_model::LoadError;
 use std::alloc::Global;

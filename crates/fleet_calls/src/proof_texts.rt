@@ -4,7 +4,7 @@ ghost use Rattle.fleet_model.specs.Schedule.{fleets_in, legs_in, stations_in};
 ghost use Rattle.fleet_model.specs.declared.tables.Tables.{Tables};
 ghost use Rattle.bound_cert.specs.OfTables.{IsOfTables};
 
-use crate::schedules::{ROUND_TRIP, read};
+use worked_tables::schedules::{ROUND_TRIP, read};
 use bound_cert::{Cause, PriceStep, Prices, Tree, TreeCounts, write_proof};
 use entries::{Entries, NoMemory};
 use fleet_model::LoadError;

@@ -1,5 +1,5 @@
 //! Files that read, and what they read as.
-use crate::schedules::{
+use worked_tables::schedules::{
     Files, OVER_THE_DAY_START, ROUND_TRIP, THROUGH_THE_HUB, read, read_from, starting,
 };
 use fleet_model::{Pair, PairCost, Through};

@@ -1,5 +1,5 @@
 //! Tables, solved.
-use crate::schedules::{BACK_AT_ONCE, Files, OVERLAPPING_TRIPS, ROUND_TRIP, TWO_FLEETS, read};
+use worked_tables::schedules::{BACK_AT_ONCE, Files, OVERLAPPING_TRIPS, ROUND_TRIP, TWO_FLEETS, read};
 use bound_cert::{Cause, Tree};
 use branch_bound::{Solved, solve};
 use fleet_model::LoadError;

@@ -1,7 +1,7 @@
 //! The pairs that a subproblem keeps, and where it ends.
 ghost use Rattle.std.specs.Prelude.{◌≡◌};
 
-use crate::schedules::{Files, ROUND_TRIP, read};
+use worked_tables::schedules::{Files, ROUND_TRIP, read};
 use fleet_model::limits::{MAX_FLEETS, MAX_LEGS};
 use fleet_model::{Assignment, Kept, LoadError, Step, Tables};
 use std::alloc::Global;

@@ -2,7 +2,7 @@
 ghost use Rattle.std.specs.Prelude.{IfOk};
 ghost use Rattle.bound_cert.specs.Prices.{ArePrices};
 
-use crate::schedules::{BACK_BY_NIGHT, Files, ROUND_TRIP, read};
+use worked_tables::schedules::{BACK_BY_NIGHT, Files, ROUND_TRIP, read};
 use bound_cert::worth::worth;
 use bound_cert::{PriceStep, Prices};
 use entries::{Entries, NoMemory};

@@ -4,8 +4,8 @@ ghost use Rattle.fleet_model.specs.Legal.{IsAssignment};
 ghost use Rattle.fleet_model.specs.Schedule.{fleets_in};
 ghost use Rattle.ground_turns.specs.Maps.{IsTour};
 
-use crate::plans::assignment;
-use crate::schedules::{
+use worked_tables::plans::assignment;
+use worked_tables::schedules::{
     BACK_AT_ONCE, FOUR_AIRCRAFT, Files, MEETING_TRIPS, NO_LEGS, ROUND_TRIP, THROUGH_THE_HUB,
     TWO_NIGHTS_ALOFT, read,
 };

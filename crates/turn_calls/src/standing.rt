@@ -1,6 +1,6 @@
 //! Minutes at which no aircraft stands at a station, and aircraft left over.
-use crate::plans::assignment;
-use crate::schedules::{
+use worked_tables::plans::assignment;
+use worked_tables::schedules::{
     BACK_AT_ONCE, BACK_BY_NIGHT, BACK_IN_NO_TIME, FOUR_AIRCRAFT, Files, NO_LEGS, OVERLAPPING_TRIPS,
     ROUND_TRIP, THROUGH_THE_HUB, TWO_FLEETS, TWO_NIGHTS_ALOFT, read,
 };

@@ -3,8 +3,8 @@ ghost use Rattle.std.specs.Prelude.{◌<◌, IfSome};
 ghost use Rattle.fleet_model.specs.declared.limits.TheConstants.{MINUTES_PER_DAY};
 ghost use Rattle.fleet_model.specs.Legal.{IsLegal};
 
-use crate::plans::assignment;
-use crate::schedules::{BACK_AT_ONCE, Files, ROUND_TRIP, THROUGH_THE_HUB, starting};
+use worked_tables::plans::assignment;
+use worked_tables::schedules::{BACK_AT_ONCE, Files, ROUND_TRIP, THROUGH_THE_HUB, starting};
 use best_matching::best_matching;
 use entries::Entries;
 use fleet_model::{Assignment, Connection, LoadError, Settings, Tables};

@@ -2,7 +2,7 @@ use Rattle.std.proofs.Common.{◌≡◌, ℕ, ◌+◌, ◌%◌, length, slice_in
 use Rattle.fleet_model.specs.declared.parts.Connection.{Connection}
 use Rattle.sums.proofs.Places.{list_below-push}
 use Rattle.ground_turns.specs.Maps.{turn_after}
-use Rattle.fleet_calls.proofs.turns.turns_round.Goals as goal
+use Rattle.turn_calls.proofs.turns.turns_round.Goals as goal
 
 pub loop-place-preserved : goal.loop-place-preserved
 loop-place-preserved c =

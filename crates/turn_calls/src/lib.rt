@@ -1,0 +1,14 @@
+//! Calls of the libraries of turns and rotations on worked sets of tables: each public call once, with the answer that
+//! is wanted. There is no code here but that of the tests.
+#![tactic(auto)]
+
+#[cfg(test)]
+mod segments;
+#[cfg(test)]
+mod standing;
+#[cfg(test)]
+mod succeeding;
+#[cfg(test)]
+mod throughs;
+#[cfg(test)]
+mod turns;
