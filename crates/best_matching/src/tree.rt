@@ -1,5 +1,5 @@
 //! The tree that is grown from a row in search of a free column.
-ghost use Rattle.std.specs.Prelude.{◌≡◌, ◌<◌, ◌≤◌, ◌+◌, ◌-◌, ℕ, true, false, length, slice_index, if◌then◌else◌, IfOk};
+ghost use Rattle.std.specs.Prelude.{◌≡◌, ◌<◌, ◌≤◌, ◌+◌, ◌-◌, ℕ, true, false, length, slice_index, if◌then◌else◌, IfOk, MatchBool};
 ghost use Rattle.sums.specs.Places.{list_below};
 ghost use Rattle.best_matching.specs.Worths.{AreWorths, worth_at};
 ghost use Rattle.best_matching.specs.Drafts.{HasDuals, IsPairing, column_dual, column_of, row_dual};
@@ -37,9 +37,11 @@ pub fn is_reached(columns: &Entries<usize>, turns: &Entries<usize>, root: usize,
     row == root || is_in(turns, columns.as_slice()[row])
 }
 
-/// The column outside with the least gap, beginning with one that is outside.
-pub fn nearest(tree: &Tree, start: usize) -> usize
+/// The column outside with the least gap, beginning with one that is outside. Among equal gaps one of a row that isn't
+/// matched goes first, since it ends the search.
+pub fn nearest(tree: &Tree, rows: &Entries<usize>, root: usize, start: usize) -> usize
     requires size { HasSize (length tree.now.turns) tree.now }
+    requires rows { length rows.now ≡ length tree.now.turns }
     requires start { start < length tree.now.turns }
     requires outside { length tree.now.turns ≤ turn_at tree.now start }
     ensures within { result < length tree.now.turns }
@@ -48,13 +50,29 @@ pub fn nearest(tree: &Tree, start: usize) -> usize
 {
     let mut nearest = start;
     for column in 0..tree.turns.len() {
-        if !is_in(&tree.turns, column)
-            && tree.gaps.as_slice()[column] < tree.gaps.as_slice()[nearest]
-        {
+        if !is_in(&tree.turns, column) && is_nearer(tree, rows, root, column, nearest) {
             nearest = column;
         }
     }
     nearest
+}
+
+/// Whether a column goes before another: it has a smaller gap, or the same and a row that isn't matched.
+#[inline]
+fn is_nearer(tree: &Tree, rows: &Entries<usize>, root: usize, column: usize, other: usize) -> bool
+    requires size { HasSize (length tree.now.turns) tree.now }
+    requires rows { length rows.now ≡ length tree.now.turns }
+    requires column { column < length tree.now.turns }
+    requires other { other < length tree.now.turns }
+    ensures { MatchBool result (gap_at tree.now column ≤ gap_at tree.now other) (gap_at tree.now other ≤ gap_at tree.now column) }
+{
+    let gap = tree.gaps.as_slice()[column];
+    let other_gap = tree.gaps.as_slice()[other];
+    if gap == other_gap {
+        rows.as_slice()[column] >= root && rows.as_slice()[other] < root
+    } else {
+        gap < other_gap
+    }
 }
 
 /// Lowers the duals of the reached rows.
@@ -119,7 +137,7 @@ pub fn widen(draft: &mut Draft, tree: &mut Tree, root: usize, turn: usize) -> us
     ensures least { (column : ℕ) → column < length draft.old.columns → length draft.old.columns ≤ turn_at tree.old column → gap_at tree.old result ≤ gap_at tree.old column }
     ensures widened { IsWidened (length draft.old.columns) draft.old draft.new tree.old tree.new root turn result }
 {
-    let next = nearest(tree, draft.columns.as_slice()[root]);
+    let next = nearest(tree, &draft.rows, root, draft.columns.as_slice()[root]);
     let by = tree.gaps.as_slice()[next];
     lower_rows(&mut draft.row_duals, &draft.columns, &tree.turns, root, by);
     raise_columns(&mut draft.column_duals, &tree.turns, by);

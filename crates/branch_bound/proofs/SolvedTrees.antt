@@ -53,9 +53,11 @@ module _ (t : Tables) (nodes pivots : ℕ) (after : Search) (whole : Tree) (sear
   pub sound_by : (best : Option Plan) → after.best ≡ best → AreSound t (cost_of best) (all_pairs t) whole
   sound_by best same = branch.sound (cost_of best) (less best same)
 
-  walked_by : (best : Option Plan) → after.best ≡ best → IsWalked t pivots (cost_of best) (closed_by t (cost_of best) whole)
+  walked_by : (best : Option Plan) → after.best ≡ best → IsWalked t nodes pivots (cost_of best) (closed_by t (cost_of best) whole)
   walked_by best same = record {
     left = whole;
+    sound = branch.sound (cost_of best) (less best same);
+    all_spent = spent;
     caused = branch.caused;
     walk = subst (λ b. IsWalk t (all_pairs t) None whole (cost_of b)) same branch.walk;
     closed = refl;

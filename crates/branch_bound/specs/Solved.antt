@@ -65,10 +65,13 @@ IsFound t (solved.Planned plan cost bound tree) = Any (IsFoundAt t plan cost) (n
 IsFound t (solved.Infeasible tree) = ⊤
 IsFound t (solved.Unsettled bound tree) = ⊤
 
--- The tree as the walk over the subproblems left it, with so many pivots allowed for each, whose cheapest plan has this
--- cost: its leaves and splits have their causes, and in the end open leaves were closed whose rounded worth reaches it.
-pub record IsWalked (t : Tables) (pivots : ℕ) (cost : Option ℤ) (tree : Tree) : Type 0 where
+-- The tree as the walk over the subproblems left it, with so many splits allowed and so many pivots for each subproblem,
+-- whose cheapest plan has this cost. Its nodes keep all rules, its leaves and splits have their causes, and in the end
+-- open leaves were closed whose rounded worth reaches the cost.
+pub record IsWalked (t : Tables) (nodes pivots : ℕ) (cost : Option ℤ) (tree : Tree) : Type 0 where
   pub left : Tree
+  pub sound : AreSound t cost (all_pairs t) left
+  pub all_spent : 0 < open_nodes left → splits_in left ≡ nodes
   pub caused : AreCaused t pivots (all_pairs t) (zero_prices t) left
   pub walk : IsWalk t (all_pairs t) None left cost
   pub closed : tree ≡ closed_by t cost left
@@ -89,7 +92,7 @@ pub record IsTreeOf (t : Tables) (nodes pivots : ℕ) (cost : Option ℤ) (tree 
   pub soles : All (AnswersSole t cost) (nodes_of t tree)
   pub gaps : All (LeavesGap t cost) (nodes_of t tree)
   pub trimmed : IsTrimmed t tree
-  pub walked : IsWalked t pivots cost tree
+  pub walked : IsWalked t nodes pivots cost tree
 
 -- a solution of tables, found with at most so many splits, and so many pivots for each subproblem
 pub record IsSolved (t : Tables) (nodes pivots : ℕ) (s : Solved) : Type 0 where

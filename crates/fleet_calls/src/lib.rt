@@ -35,8 +35,18 @@ mod reading;
 #[cfg(test)]
 mod schedules;
 #[cfg(test)]
+mod segments;
+#[cfg(test)]
 mod solving;
 #[cfg(test)]
+mod standing;
+#[cfg(test)]
 mod subproblems;
+#[cfg(test)]
+mod succeeding;
+#[cfg(test)]
+mod throughs;
+#[cfg(test)]
+mod turns;
 #[cfg(test)]
 mod worths;

@@ -84,6 +84,39 @@ pub const BACK_BY_NIGHT: Files = Files {
     ..ROUND_TRIP
 };
 
+/// The round trip, with a turn that differs between the fleets and the way back in the minute of landing.
+pub const BACK_IN_NO_TIME: Files = Files {
+    fleets: b"fleet,aircraft,turn\nF1,1,0\nF2,1,60\n",
+    legs: b"flight,from,dep,to,arr\nX1,AAA,08:00,BBB,09:00\nX2,BBB,09:00,AAA,10:00\n",
+    ..ROUND_TRIP
+};
+
+/// Two legs, of which the first keeps its aircraft busy over two nights.
+pub const TWO_NIGHTS_ALOFT: Files = Files {
+    fleets: b"fleet,aircraft,turn\nF1,2,600\nF2,0,0\n",
+    legs: b"flight,from,dep,to,arr\nX1,AAA,23:00,BBB,22:00\nX2,BBB,12:00,AAA,13:00\n",
+    ..ROUND_TRIP
+};
+
+/// Three round trips from a hub that meet there: landings at 00:01, 00:02 and 00:04, departures at 00:03, 00:05 and
+/// 00:06.
+pub const MEETING_TRIPS: Files = Files {
+    stations: b"code,extra,maintenance\nHUB,0,yes\nSAA,0,no\nSBB,0,no\nSCC,0,no\n",
+    fleets: b"fleet,aircraft,turn\nF1,3,0\n",
+    legs: b"flight,from,dep,to,arr\nA1,SAA,23:00,HUB,00:01\nB1,SBB,23:00,HUB,00:02\nC1,SCC,23:00,HUB,00:04\nA2,HUB,00:03,SAA,01:00\nB2,HUB,00:05,SBB,01:00\nC2,HUB,00:06,SCC,01:00\n",
+    costs: b"flight,fleet,cost\nA1,F1,10\nB1,F1,10\nC1,F1,10\nA2,F1,10\nB2,F1,10\nC2,F1,10\n",
+    throughs: NO_THROUGHS,
+};
+
+/// A station and fleets, and no leg.
+pub const NO_LEGS: Files = Files {
+    stations: b"code,extra,maintenance\nAAA,0,yes\n",
+    fleets: b"fleet,aircraft,turn\nF1,3,30\nF2,4,30\n",
+    legs: b"flight,from,dep,to,arr\n",
+    costs: b"flight,fleet,cost\n",
+    throughs: NO_THROUGHS,
+};
+
 /// Settings with this day start.
 pub fn starting(day_start: u16) -> Settings
     requires { day_start < MINUTES_PER_DAY }

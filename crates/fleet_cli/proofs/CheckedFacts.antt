@@ -13,12 +13,14 @@ use Rattle.plan_desk.specs.Desk.{Files}
 use Rattle.plan_desk.specs.declared.file.DeskFile.{DeskFile}
 use Rattle.plan_desk.specs.Counts.{RoseBy}
 use Rattle.sched_read.specs.Reading.{IsFirstBad, Reads, TableBytes}
-use Rattle.fleet_cli.specs.Answer.{Answers, AnswersSome, ChecksContents, ChecksProof, ChecksTree, ProofStands, RefusesTables, plan_files, proof_bytes, proof_files, says, table_bytes}
-use Rattle.fleet_cli.specs.Gathered.{AllHeld, FirstTooLong, StandThere}
+use Rattle.fleet_cli.specs.Answer.{Answers, AnswersSome, ChecksContents, ChecksProof, ChecksTree, IsMissing, IsRead, ProofStands, RefusesTables, WantsPlan, plan_files, proof_bytes, proof_files, says, table_bytes}
+use Rattle.fleet_cli.specs.Gathered.{AllHeld, CalledTooLong, FirstMissing, FirstTooLong, ReadFails, ReadFailsAmong, StandThere}
 use Rattle.fleet_cli.specs.Opened.{IsOpened, IsOpenedBy, OpensBoth, RefusesText}
 use Rattle.fleet_cli.specs.Texts.{bad_input_text, desk_file_of}
 use Rattle.fleet_cli.specs.declared.answer.Answer.{Answer}
 use Rattle.fleet_cli.specs.declared.answer.Failure.{Failure}
+use Rattle.fleet_cli.specs.declared.answer.Failure.TheVariants as failure
+use Rattle.fleet_cli.specs.Failed.{MatchFailure}
 use Rattle.fleet_cli.specs.declared.checking.Opened.{Opened}
 use Rattle.fleet_cli.specs.declared.checking.Opened.TheVariants as opened
 use Rattle.fleet_cli.specs.declared.status.TheConstants.{BAD_INPUT}
@@ -90,32 +92,64 @@ module _ (dir : List ℕ) (settings : Settings) (contents : List (List ℕ)) whe
     told_alone (Some files) answer held says checks = told_read (Some files) false answer held says checks
 
     -- where more may be too long
-    longer_too : (longer more : Type 0) → (longer → more) → (planned : Bool) (answer : Answer) → ChecksProof (λ _. longer) (λ _. ⊤) tables planned proof.tree answer
-        → ChecksProof (λ _. more) (λ _. ⊤) tables planned proof.tree answer
+    longer_too : (longer more : Type 0) → (longer → more) → (planned : Bool) (answer : Answer) → ChecksProof (CalledTooLong longer plan_files) (λ _. ⊤) tables planned proof.tree answer
+        → ChecksProof (CalledTooLong more plan_files) (λ _. ⊤) tables planned proof.tree answer
     longer_too longer more weaker false answer checks = checks
-    longer_too longer more weaker true answer (inl long) = inl (record { file = long.file; longer = weaker long.longer; is = long.is })
+    longer_too longer more weaker true answer (inl long) = inl (record {
+      file = long.file;
+      longer = record { taken = weaker long.longer.taken; among = long.longer.among; not_proof = long.longer.not_proof };
+      is = long.is;
+    })
     longer_too longer more weaker true answer (inr read) = inr read
 
     pub some_read : (longer more : Type 0) → (longer → more) → (planned : Bool) (answer : Answer) → proof.planned ≡ planned
-        → ChecksProof (λ _. longer) (λ _. ⊤) tables planned proof.tree answer → AnswersSome more (Some (check dir settings)) answer
+        → ChecksProof (CalledTooLong longer plan_files) (λ _. ⊤) tables planned proof.tree answer → AnswersSome more (Some (check dir settings)) answer
     some_read longer more weaker planned answer says checks =
         inr (record { contents = contents; held = tt; answers = read_by _ _ planned answer says (longer_too longer more weaker planned answer checks) })
 
     pub some_read_if : (longer more : Type 0) → (longer → more) → (planned : Bool) (r : Result Answer Failure) → proof.planned ≡ planned
-        → IfOk r (λ answer. ChecksProof (λ _. longer) (λ _. ⊤) tables planned proof.tree answer) → IfOk r (λ answer. AnswersSome more (Some (check dir settings)) answer)
+        → IfOk r (λ answer. ChecksProof (CalledTooLong longer plan_files) (λ _. ⊤) tables planned proof.tree answer) → IfOk r (λ answer. AnswersSome more (Some (check dir settings)) answer)
     some_read_if longer more weaker planned (Ok answer) says checks = some_read longer more weaker planned answer says checks
     some_read_if longer more weaker planned (Err e) says checks = tt
+
+    -- the proof says that a plan comes with it
+    wants_plan : (held : Files) → AllHeld held dir proof_files contents → proof.planned ≡ true → WantsPlan held dir settings
+    wants_plan held there says = record {
+      contents = contents;
+      tables = tables;
+      proof = proof;
+      there = there;
+      reads = opens.reads;
+      proof_reads = opens.opens.reads;
+      planned = says;
+    }
+
+    -- where reading the plan fails
+    pub plan_fails : (told : Option Files) (steady now : Type 0) (blamed : Option DeskFile) (r : Result Answer Failure) → (steady → now) → IfSome told (λ held. AllHeld held dir proof_files contents)
+        → proof.planned ≡ true → MatchFailure r (λ _. ⊤) (ReadFailsAmong now told dir plan_files blamed) ⊤
+        → MatchFailure r (λ _. ⊤) (ReadFails steady told (IsRead (Some (check dir settings))) (IsMissing (Some (check dir settings))) blamed) ⊤
+    plan_fails told steady now blamed (Ok answer) keeps there says fails = tt
+    plan_fails told steady now blamed (Err failure.Fault) keeps there says fails =
+        record { file = fails.file; blame = fails.blame; read = inr fails.read; missing = λ s. by_told told there (fails.missing (keeps s)) }
+      where
+        by_told : (o : Option Files) → IfSome o (λ held. AllHeld held dir proof_files contents) → IfSome o (λ held. FirstMissing held dir plan_files fails.file)
+            → IfSome o (λ held. IsMissing (Some (check dir settings)) held fails.file)
+        by_told None t m = tt
+        by_told (Some held) t m = inr (wants_plan held t says, m)
+    plan_fails told steady now blamed (Err failure.NoMemory) keeps there says fails = tt
 
     -- the plan stands there where the proof says that one comes with it
     pub plan_stands : (told : Option Files) → IsSomeAnd told (ProofStands dir settings) → IfSome told (λ held. AllHeld held dir proof_files contents) → proof.planned ≡ true
         → IsSomeAnd told (StandThere dir plan_files)
     plan_stands None stands held says = stands
-    plan_stands (Some files) stands held says = stands.then_plan (record {
-      contents = contents;
-      tables = tables;
-      proof = proof;
-      there = held;
-      reads = opens.reads;
-      proof_reads = opens.opens.reads;
-      planned = says;
-    })
+    plan_stands (Some files) stands held says = stands.then_plan (wants_plan files held says)
+
+-- where reading the tables or the proof fails
+pub first_fails : (dir : List ℕ) (settings : Settings) (told : Option Files) (steady : Type 0) (blamed : Option DeskFile) → ReadFailsAmong steady told dir proof_files blamed
+    → ReadFails steady told (IsRead (Some (check dir settings))) (IsMissing (Some (check dir settings))) blamed
+first_fails dir settings told steady blamed fails =
+    record { file = fails.file; blame = fails.blame; read = inl fails.read; missing = λ s. by_told told (fails.missing s) }
+  where
+    by_told : (o : Option Files) → IfSome o (λ held. FirstMissing held dir proof_files fails.file) → IfSome o (λ held. IsMissing (Some (check dir settings)) held fails.file)
+    by_told None m = tt
+    by_told (Some held) m = inl m

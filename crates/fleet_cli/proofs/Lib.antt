@@ -10,6 +10,9 @@ pub mod OneJudging
 pub mod Others
 pub mod Parts
 pub mod Pieces
+pub mod PlanLength
+pub mod ReadFacts
 pub mod SolvedFiles
 pub mod SolvedHolds
+pub mod WordFacts
 pub mod WrittenFacts

@@ -1,5 +1,5 @@
 -- The proof of a solution, written and read again, holds.
-use Rattle.std.proofs.Common.{◌≡◌, ℕ, Option, refl, ℤ}
+use Rattle.std.proofs.Common.{ℕ, refl}
 use Rattle.fleet_model.specs.Kept.{all_pairs}
 use Rattle.fleet_model.specs.declared.tables.Tables.{Tables}
 use Rattle.bound_cert.proofs.WrittenTrees.{reads_what_was_written}

@@ -1,9 +1,16 @@
 -- One text more is written.
-use Rattle.std.proofs.Common.{◌≡◌, ℕ, ◌+◌, ◌<◌, List, [], ◌∷◌, ◌++◌, length, take, get_or, Option, Some, None, refl}
-use Rattle.std.proofs.lemmas.List.{take_more}
-use Rattle.plan_desk.specs.Desk.{Files, held_with, with_file}
+use Rattle.std.proofs.Common.{◌≡◌, ◌∙◌, ap, ℕ, ◌+◌, ◌<◌, ◌≤◌, List, [], ◌∷◌, ◌++◌, length, take, get_or, Option, Some, None, Err, refl, inl, inr, arith}
+use Rattle.std.specs.Prelude.{⊤}
+use Rattle.std.proofs.lemmas.Bool.{cases_lt}
+use Rattle.std.proofs.lemmas.List.{get_or_default, take_more}
+use Rattle.plan_desk.specs.Desk.{ChangesOnly, Files, held_with, with_file}
 use Rattle.plan_desk.specs.DeskFile.{path_of}
-use Rattle.fleet_cli.specs.Written.{held_with_texts, with_texts}
+use Rattle.plan_desk.specs.declared.file.DeskFile.{DeskFile}
+use Rattle.plan_desk.specs.declared.file.TheConstants.{PROOF_LIMIT}
+use Rattle.fleet_cli.specs.Failed.{MatchFailure}
+use Rattle.fleet_cli.specs.Written.{WriteFails, held_with_texts, no_text, with_texts}
+use Rattle.fleet_cli.specs.declared.answer.Failure.{Failure}
+use Rattle.fleet_cli.specs.declared.answer.Failure.TheVariants as failure
 use Rattle.fleet_cli.specs.declared.answer.FileText.{FileText}
 
 with_one_more : (held : Files) (dir : List ℕ) (texts : List FileText) (text : FileText)
@@ -20,3 +27,20 @@ pub held_with_more : (told : Option Files) (dir : List ℕ) (texts : List FileTe
     → before ≡ held_with_texts told dir (take k texts) → after ≡ held_with before (path_of dir item.file) (Some item.bytes) → after ≡ held_with_texts told dir (take (k + 1) texts)
 held_with_more told dir texts k d item before after is within so_far written =
     rw (take_more texts k d within, held_with_one_more told dir (take k texts) (get_or texts k d)) (rw (← so_far, ← is) written)
+
+-- writing stopped at the text at a place
+pub stopped_at : (S T : Type 0) (why : Failure) (dir : List ℕ) (texts : List FileText) (k : ℕ) (d item : FileText) (told before stands : Option Files) (blamed : Option DeskFile) → item ≡ get_or texts k d
+    → k < length texts → before ≡ held_with_texts told dir (take k texts) → ChangesOnly (path_of dir item.file) before stands → MatchFailure {T = S} (Err why) (λ _. ⊤) (blamed ≡ Some item.file) ⊤
+    → MatchFailure {T = T} (Err why) (λ _. ⊤) (WriteFails dir texts told stands blamed) ⊤
+stopped_at S T failure.Fault dir texts k d item told before stands blamed is within so_far changes blame =
+    let same : item ≡ get_or texts k no_text = is ∙ get_or_default texts k d no_text within in
+    record { stopped = record { written = k; place = within; part = rw (← same, ← so_far) changes }; blame = blame ∙ ap (λ (t : FileText). Some t.file) same }
+stopped_at S T failure.NoMemory dir texts k d item told before stands blamed is within so_far changes blame = tt
+
+-- one text more that is no longer than a list of bytes can be
+pub one_longer : (texts : List FileText) (n : ℕ) (d item : FileText) → item ≡ get_or texts n d → n < length texts → length item.bytes ≤ PROOF_LIMIT
+    → ((k : ℕ) (e : FileText) → k < n → length (get_or texts k e).bytes ≤ PROOF_LIMIT) → (k : ℕ) (e : FileText) → k < n + 1 → length (get_or texts k e).bytes ≤ PROOF_LIMIT
+one_longer texts n d item is within short below k e at = elim (cases_lt k n) [
+  | inl before ↦ below k e before
+  | inr past ↦ let last : n ≡ k = omega arith in rw (← last) (rw (← (is ∙ get_or_default texts n d e within)) short)
+]

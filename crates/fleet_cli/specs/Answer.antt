@@ -22,7 +22,7 @@ use Rattle.plan_judge.specs.declared.verdicts.Verdict.{Verdict}
 use Rattle.plan_judge.specs.declared.verdicts.Verdict.TheVariants as verdict
 use Rattle.plan_text.specs.Reading.{PlanBad, PlanReads}
 use Rattle.sched_read.specs.Reading.{BadAt, Reads, TableBytes}
-use Rattle.fleet_cli.specs.Gathered.{AllHeld, FirstTooLong, StandThere}
+use Rattle.fleet_cli.specs.Gathered.{AllHeld, CalledTooLong, FirstMissing, FirstTooLong, IsAmong, StandThere}
 use Rattle.branch_bound.specs.Solved.{IsSolved}
 use Rattle.fleet_cli.specs.Summary.{solved_answer}
 use Rattle.fleet_cli.specs.Texts.{bad_input_text, checked_text, desk_file_of, plan_refused_text, proof_refused_text, usage_text, verdict_text}
@@ -216,9 +216,9 @@ abbrev pub Answers : Files → Option Asked → Answer → Type 0
 Answers held asked answer = AnswersBy (FirstTooLong held) (AllHeld held) asked answer
 
 -- What the program answers where it isn't known what is held: the answer is right of some contents, and a file
--- is called too long only where this holds.
+-- is called too long only where this holds, and where it is one of those that are read and not the proof.
 abbrev pub AnswersSome : Type 0 → Option Asked → Answer → Type 0
-AnswersSome longer asked answer = AnswersBy (λ dir names file. longer) (λ dir names contents. ⊤) asked answer
+AnswersSome longer asked answer = AnswersBy (λ dir names file. CalledTooLong longer names file) (λ dir names contents. ⊤) asked answer
 
 -- the files of a folder are tables that read, and a proof that reads on them and says that a plan comes with it
 pub record WantsPlan (held : Files) (dir : List ℕ) (settings : Settings) : Type 0 where
@@ -241,3 +241,18 @@ NamesStand None held = ⊤
 NamesStand (Some (judge dir settings)) held = StandThere dir judge_files held
 NamesStand (Some (solve dir settings limits)) held = StandThere dir table_files held
 NamesStand (Some (check dir settings)) held = ProofStands dir settings held
+
+-- the file is read for what words ask
+abbrev pub IsRead : Option Asked → DeskFile → Type 0
+IsRead None = λ file. ⊥
+IsRead (Some (judge dir settings)) = IsAmong judge_files
+IsRead (Some (solve dir settings limits)) = IsAmong table_files
+IsRead (Some (check dir settings)) = λ file. IsAmong proof_files file ⊎ IsAmong plan_files file
+
+-- of the files that are read for what words ask this is the first that is missing, those before it stand there within
+-- their limits; the plan is wanted of checking only where the tables and the proof read and the proof says so
+abbrev pub IsMissing : Option Asked → Files → DeskFile → Type 0
+IsMissing None = λ held file. ⊥
+IsMissing (Some (judge dir settings)) = λ held. FirstMissing held dir judge_files
+IsMissing (Some (solve dir settings limits)) = λ held. FirstMissing held dir table_files
+IsMissing (Some (check dir settings)) = λ held file. FirstMissing held dir proof_files file ⊎ WantsPlan held dir settings × FirstMissing held dir plan_files file

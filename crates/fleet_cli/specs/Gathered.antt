@@ -1,5 +1,5 @@
 -- What a run reads: the files of a command, in their order.
-use Rattle.std.specs.Prelude.{◌≡◌, ◌<◌, ◌≤◌, ℕ, List, [], length, map, slice_index_or, Vec, Some, IsSome, IsSomeAnd, Result, Ok, Err}
+use Rattle.std.specs.Prelude.{◌≡◌, ◌≢◌, ◌<◌, ◌≤◌, ℕ, List, [], length, map, slice_index_or, Vec, Option, Some, None, IfSome, IsSome, IsSomeAnd, Result, Ok, Err}
 use Rattle.std.specs.declared.alloc.Global.{Global}
 use Rattle.plan_desk.specs.Desk.{Files}
 use Rattle.plan_desk.specs.DeskFile.{path_of}
@@ -39,6 +39,38 @@ pub record FirstTooLong (held : Files) (dir : List ℕ) (names : List DeskFile) 
   pub front : FrontHeld held dir names before
   pub is : (d : DeskFile) → file ≡ slice_index_or names (length before) d
   pub too_long : IsSomeAnd (held (path_of dir file)) (λ bytes. limit_of file < length bytes)
+
+-- the first of these files that is missing: those before it stand there within their limits
+pub record FirstMissing (held : Files) (dir : List ℕ) (names : List DeskFile) (file : DeskFile) : Type 0 where
+  pub before : List (List ℕ)
+  pub place : length before < length names
+  pub front : FrontHeld held dir names before
+  pub is : (d : DeskFile) → file ≡ slice_index_or names (length before) d
+  pub missing : held (path_of dir file) ≡ None
+
+-- the file is one of these
+pub record IsAmong (names : List DeskFile) (file : DeskFile) : Type 0 where
+  pub place : ℕ
+  pub within : place < length names
+  pub is : (d : DeskFile) → file ≡ slice_index_or names place d
+
+-- one of these files, and not the proof, is called too long, where more than its limit was taken
+pub record CalledTooLong (longer : Type 0) (names : List DeskFile) (file : DeskFile) : Type 0 where
+  pub taken : longer
+  pub among : IsAmong names file
+  pub not_proof : file ≢ desk_file.Proof
+
+-- reading failed at the file that the desk blames, which is one of those that are read; a desk that is steady and tells
+-- what it holds fails at one that is missing alone
+pub record ReadFails (steady : Type 0) (told : Option Files) (is_read : DeskFile → Type 0) (is_missing : Files → DeskFile → Type 0) (blamed : Option DeskFile) : Type 0 where
+  pub file : DeskFile
+  pub blame : blamed ≡ Some file
+  pub read : is_read file
+  pub missing : steady → IfSome told (λ held. is_missing held file)
+
+-- the same of files that are read in this order
+abbrev pub ReadFailsAmong : Type 0 → Option Files → List ℕ → List DeskFile → Option DeskFile → Type 0
+ReadFailsAmong steady told dir names blamed = ReadFails steady told (IsAmong names) (λ held. FirstMissing held dir names) blamed
 
 -- each of these files stands in the folder
 abbrev pub StandThere : List ℕ → List DeskFile → Files → Type 0

@@ -4,6 +4,7 @@ pub mod Gathered
 pub mod Headline
 pub mod Laws
 pub mod Opened
+pub mod Program
 pub mod Run
 pub mod SolvedChecked
 pub mod Summary

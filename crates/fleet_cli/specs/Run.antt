@@ -14,12 +14,12 @@ use Rattle.plan_desk.specs.declared.file.DeskFile.{DeskFile}
 use Rattle.plan_desk.specs.declared.file.DeskFile.TheVariants as desk_file
 use Rattle.plan_text.specs.Reading.{PlanReads}
 use Rattle.sched_read.specs.Reading.{Reads}
-use Rattle.fleet_cli.specs.Answer.{Answers, AnswersSome, judge_files, plan_bytes, plan_files, proof_bytes, proof_files, table_bytes, table_files}
-use Rattle.fleet_cli.specs.Gathered.{AllHeld}
+use Rattle.fleet_cli.specs.Answer.{Answers, AnswersSome, IsMissing, IsRead, judge_files, plan_bytes, plan_files, proof_bytes, proof_files, table_bytes, table_files}
+use Rattle.fleet_cli.specs.Gathered.{AllHeld, ReadFails}
 use Rattle.fleet_cli.specs.Laws.{IsFixed}
 use Rattle.fleet_cli.specs.Texts.{fault_text}
 use Rattle.command_words.specs.Words.{Asked, check, judge, solve}
-use Rattle.fleet_cli.specs.Written.{WritesPart, held_with_texts, under}
+use Rattle.fleet_cli.specs.Written.{HaveLengths, WriteFails, WritesPart, held_with_texts, under}
 use Rattle.fleet_cli.specs.declared.answer.Answer.{Answer}
 use Rattle.fleet_cli.specs.declared.status.TheConstants.{BAD_INPUT, DONE, FAULT, GAP, INFEASIBLE, NO_MEMORY, REFUSED, UNSETTLED, USAGE}
 
@@ -44,6 +44,7 @@ pub record AnswersInFull (held : Files) (asked : Option Asked) (code : ℕ) (sta
   pub answers : Answers held asked answer
   pub code_is : code ≡ answer.status.code
   pub written : stands ≡ held_with_texts (Some held) (folder_of asked) answer.files
+  pub lengths : HaveLengths answer.files
   pub put : after ≡ output_with before answer.text
 
 -- a status and what was put are those of an answer
@@ -131,6 +132,23 @@ pub record StopsWriting (told : Option Files) (asked : Option Asked) (stands : O
   pub answer : Answer
   pub answers : IfSome told (λ held. Answers held asked answer)
   pub part : WritesPart (folder_of asked) answer.files told stands
+
+-- the writing of an answer's files stopped at the file that the desk blames
+pub record FailsWriting (told : Option Files) (asked : Option Asked) (stands : Option Files) (blamed : Option DeskFile) : Type 0 where
+  pub answer : Answer
+  pub answers : IfSome told (λ held. Answers held asked answer)
+  pub part : WriteFails (folder_of asked) answer.files told stands blamed
+
+-- the desk failed at a file that is read, and no file was written; or at one that was to be written
+abbrev pub FailsAt : Type 0 → Option Files → Option Asked → Option Files → Option DeskFile → Type 0
+FailsAt steady told asked stands blamed =
+    (stands ≡ told) × ReadFails steady told (IsRead asked) (IsMissing asked) blamed ⊎ FailsWriting told asked stands blamed
+
+-- the file that the desk blames is the first missing one of those that are read
+pub record BlamesMissing (asked : Option Asked) (blamed : Option DeskFile) (held : Files) : Type 0 where
+  pub file : DeskFile
+  pub blame : blamed ≡ Some file
+  pub missing : IsMissing asked held file
 
 -- no file was written, or the writing of an answer's files stopped
 abbrev pub LeavesFiles : Option Files → Option Asked → Option Files → Type 0

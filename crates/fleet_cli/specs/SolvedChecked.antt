@@ -1,5 +1,5 @@
 -- What solving leaves is checked, and holds.
-use Rattle.std.specs.Prelude.{◌≡◌, ℕ, ◌≤◌, List, length, All, Some}
+use Rattle.std.specs.Prelude.{◌≡◌, ℕ, List, Option, Some}
 use Rattle.bound_cert.specs.ProofText.{proof_text}
 use Rattle.bound_cert.specs.ReadProof.{ReadsAs}
 use Rattle.bound_cert.specs.declared.reading.Proof.{Proof}
@@ -10,14 +10,11 @@ use Rattle.fleet_model.specs.declared.parts.Settings.{Settings}
 use Rattle.fleet_model.specs.declared.tables.Tables.{Tables}
 use Rattle.plan_desk.specs.Desk.{Files}
 use Rattle.fleet_cli.specs.Answer.{Answers}
-use Rattle.fleet_cli.specs.Gathered.{limit_of}
 use Rattle.fleet_cli.specs.Headline.{is_planned}
-use Rattle.fleet_cli.specs.Run.{IsSolution}
+use Rattle.fleet_cli.specs.Run.{AnswersInFull, IsSolution}
 use Rattle.branch_bound.specs.Solved.{tree_of}
 use Rattle.fleet_cli.specs.Summary.{printed_bound, printed_cost}
-use Rattle.fleet_cli.specs.Written.{with_texts}
 use Rattle.fleet_cli.specs.declared.answer.Answer.{Answer}
-use Rattle.fleet_cli.specs.declared.answer.FileText.{FileText}
 use Rattle.branch_bound.specs.declared.solved.Solved.{Solved}
 use Rattle.fleet_cli.specs.declared.status.TheConstants.{DONE}
 
@@ -29,12 +26,8 @@ pub record ReadsAndHolds (t : Tables) (s : Solved) : Type 0 where
   pub says : proof.planned ≡ is_planned s
   pub holds : HoldsWith t (printed_cost s) proof.tree (printed_bound s)
 
--- each text is within the limit under which its file is read
-abbrev pub AreShort : List FileText → Type 0
-AreShort texts = All (λ text. length text.bytes ≤ limit_of text.file) texts
-
--- where a solution was given and its files were written, checking answers that the proof holds
+-- where a run gave a solution, and checking reads what then stands, it answers that the proof holds
 abbrev pub SolvedIsChecked : Type 0
-SolvedIsChecked = (held : Files) (dir : List ℕ) (settings : Settings) (limits : SearchLimits) (solving checking : Answer)
-    → Answers held (Some (solve dir settings limits)) solving → IsSolution solving.status.code → AreShort solving.files
-    → Answers (with_texts held dir solving.files) (Some (check dir settings)) checking → checking.status.code ≡ DONE
+SolvedIsChecked = (held stands : Files) (dir : List ℕ) (settings : Settings) (limits : SearchLimits) (code : ℕ) (before after : Option (List ℕ)) (checking : Answer)
+    → AnswersInFull held (Some (solve dir settings limits)) code (Some stands) before after → IsSolution code
+    → Answers stands (Some (check dir settings)) checking → checking.status.code ≡ DONE

@@ -1,8 +1,10 @@
 -- The files that a run writes, and what stands after them.
-use Rattle.std.specs.Prelude.{◌≡◌, ◌⊎◌, ℕ, ◌<◌, List, [], ◌∷◌, length, take, slice_index_or, Option, Some, option_and_then, option_map}
+use Rattle.std.specs.Prelude.{◌≡◌, ◌⊎◌, ℕ, ◌<◌, ◌≤◌, List, [], ◌∷◌, length, take, slice_index_or, Option, Some, option_and_then, option_map}
 use Rattle.plan_desk.specs.Desk.{ChangesOnly, Files, with_file}
 use Rattle.plan_desk.specs.DeskFile.{path_of}
+use Rattle.plan_desk.specs.declared.file.DeskFile.{DeskFile}
 use Rattle.plan_desk.specs.declared.file.DeskFile.TheVariants as desk_file
+use Rattle.plan_desk.specs.declared.file.TheConstants.{PROOF_LIMIT}
 use Rattle.fleet_cli.specs.declared.answer.FileText.{FileText}
 
 -- the files after texts were written into a folder, one after another
@@ -27,6 +29,15 @@ pub record WritesPart (dir : List ℕ) (texts : List FileText) (told stands : Op
   pub written : ℕ
   pub place : written < length texts
   pub part : ChangesOnly (text_name dir texts written) (held_with_texts told dir (take written texts)) stands
+
+-- the same, and the file of the next text is blamed
+pub record WriteFails (dir : List ℕ) (texts : List FileText) (told stands : Option Files) (blamed : Option DeskFile) : Type 0 where
+  pub stopped : WritesPart dir texts told stands
+  pub blame : blamed ≡ Some (slice_index_or texts stopped.written no_text).file
+
+-- no text is longer than a list of bytes can be
+pub record HaveLengths (texts : List FileText) : Type 0 where
+  pub each : (k : ℕ) (d : FileText) → k < length texts → length (slice_index_or texts k d).bytes ≤ PROOF_LIMIT
 
 -- all texts were written, or some first ones and a part of the next
 abbrev pub StandsAfter : List ℕ → List FileText → Option Files → Option Files → Type 0

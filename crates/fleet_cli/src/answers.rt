@@ -1,7 +1,8 @@
 //! The answer to the words of a call, by what the desk holds.
 ghost use Rattle.std.specs.Prelude.{◌≡◌, ◌+◌, IfOk, IfSome, IsSome, IsSomeAnd, map, string_bytes, ⊤};
-ghost use Rattle.fleet_cli.specs.Answer.{Answers, AnswersSome, NamesStand, says};
+ghost use Rattle.fleet_cli.specs.Answer.{Answers, AnswersSome, IsMissing, IsRead, NamesStand, says};
 ghost use Rattle.fleet_cli.specs.Failed.{MatchFailure};
+ghost use Rattle.fleet_cli.specs.Gathered.{ReadFails};
 ghost use Rattle.fleet_cli.specs.Texts.{bad_input_text, usage_text};
 ghost use Rattle.command_words.specs.Words.{asked};
 ghost use Rattle.plan_desk.specs.Counts.{Rose, RoseBy};
@@ -39,7 +40,7 @@ pub fn reply_to<'a, D: Desk>(
     ensures ends { IfOk result (λ reply. IsEnd reply.answer.status.code) }
     ensures holds { D.holds desk.new ≡ D.holds desk.old }
     ensures faults { MatchFailure result (λ _. D.faults desk.new ≡ D.faults desk.old) (Rose (D.faults desk.old) (D.faults desk.new)) (D.faults desk.new ≡ D.faults desk.old) }
-    ensures blamed { MatchFailure result (λ _. ⊤) (IsSome (D.blamed desk.new)) ⊤ }
+    ensures blamed { MatchFailure result (λ _. ⊤) (ReadFails (D.is_steady desk.old) (D.holds desk.old) (IsRead (asked (map string_bytes words.now))) (IsMissing (asked (map string_bytes words.now))) (D.blamed desk.new)) ⊤ }
     ensures steady { D.is_steady desk.old → IsSomeAnd (D.holds desk.old) (NamesStand (asked (map string_bytes words.now))) → MatchFailure result (λ _. ⊤) ⊥ ⊤ }
     ensures stays_steady { D.is_steady desk.old → D.is_steady desk.new }
 {

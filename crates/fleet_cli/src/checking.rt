@@ -2,9 +2,9 @@
 ghost use Rattle.std.specs.Prelude.{◌≡◌, ◌⊎◌, ◌+◌, Some, IfOk, IfSome, IsSome, IsSomeAnd, length, option_map, true, ⊤};
 ghost use Rattle.bound_cert.specs.OfTables.{IsOfTables};
 ghost use Rattle.command_words.specs.Words.{check};
-ghost use Rattle.fleet_cli.specs.Answer.{Answers, AnswersSome, AnswersWithPlan, ChecksLegal, ChecksProof, ChecksTree, ChecksWithPlan, ProofStands, RefusesVerdict, checked_status, plan_files};
+ghost use Rattle.fleet_cli.specs.Answer.{Answers, AnswersSome, AnswersWithPlan, ChecksLegal, ChecksProof, ChecksTree, ChecksWithPlan, IsMissing, IsRead, ProofStands, RefusesVerdict, checked_status, plan_files};
 ghost use Rattle.fleet_cli.specs.Failed.{MatchFailure};
-ghost use Rattle.fleet_cli.specs.Gathered.{AllHeld, FirstTooLong, StandThere, contents_of};
+ghost use Rattle.fleet_cli.specs.Gathered.{AllHeld, CalledTooLong, FirstTooLong, ReadFails, ReadFailsAmong, StandThere, contents_of};
 ghost use Rattle.fleet_cli.specs.Opened.{IsOpened, IsOpenedBy};
 ghost use Rattle.fleet_cli.specs.Run.{IsEnd};
 ghost use Rattle.fleet_model.specs.Legal.{IsAssignment, IsLegal, total_cost};
@@ -64,7 +64,7 @@ pub fn check_folder<D: Desk>(
     ensures ends { IfOk result (λ answer. IsEnd answer.status.code) }
     ensures holds { D.holds desk.new ≡ D.holds desk.old }
     ensures faults { MatchFailure result (λ _. D.faults desk.new ≡ D.faults desk.old) (Rose (D.faults desk.old) (D.faults desk.new)) (D.faults desk.new ≡ D.faults desk.old) }
-    ensures blamed { MatchFailure result (λ _. ⊤) (IsSome (D.blamed desk.new)) ⊤ }
+    ensures blamed { MatchFailure result (λ _. ⊤) (ReadFails (D.is_steady desk.old) (D.holds desk.old) (IsRead (Some (check dir.now settings))) (IsMissing (Some (check dir.now settings))) (D.blamed desk.new)) ⊤ }
     ensures steady { D.is_steady desk.old → IsSomeAnd (D.holds desk.old) (ProofStands dir.now settings) → MatchFailure result (λ _. ⊤) ⊥ ⊤ }
     ensures stays_steady { D.is_steady desk.old → D.is_steady desk.new }
 {
@@ -128,11 +128,11 @@ fn check_with_plan<D: Desk>(
 ) -> Result<Answer, Failure>
     requires { IsOfTables tables.now tree.now }
     ensures told { IfSome (D.holds desk.old) (λ held. IfOk result (λ answer. ChecksProof (FirstTooLong held dir.now plan_files) (AllHeld held dir.now plan_files) tables.now true tree.now answer)) }
-    ensures some { IfOk result (λ answer. ChecksProof (λ file. RoseBy (TABLE_LIMIT + 1) (D.taken desk.old) (D.taken desk.new)) (λ contents. ⊤) tables.now true tree.now answer) }
+    ensures some { IfOk result (λ answer. ChecksProof (CalledTooLong (RoseBy (TABLE_LIMIT + 1) (D.taken desk.old) (D.taken desk.new)) plan_files) (λ contents. ⊤) tables.now true tree.now answer) }
     ensures ends { IfOk result (λ answer. IsEnd answer.status.code) }
     ensures holds { D.holds desk.new ≡ D.holds desk.old }
     ensures faults { MatchFailure result (λ _. D.faults desk.new ≡ D.faults desk.old) (Rose (D.faults desk.old) (D.faults desk.new)) (D.faults desk.new ≡ D.faults desk.old) }
-    ensures blamed { MatchFailure result (λ _. ⊤) (IsSome (D.blamed desk.new)) ⊤ }
+    ensures blamed { MatchFailure result (λ _. ⊤) (ReadFailsAmong (D.is_steady desk.old) (D.holds desk.old) dir.now plan_files (D.blamed desk.new)) ⊤ }
     ensures steady { D.is_steady desk.old → IsSomeAnd (D.holds desk.old) (StandThere dir.now plan_files) → MatchFailure result (λ _. ⊤) ⊥ ⊤ }
     ensures stays_steady { D.is_steady desk.old → D.is_steady desk.new }
 {

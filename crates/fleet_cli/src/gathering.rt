@@ -1,9 +1,10 @@
 //! Reading the files of a command, in their order.
-ghost use Rattle.std.specs.Prelude.{◌≡◌, ◌+◌, ◌<◌, ◌≤◌, ℕ, Some, IfSome, IsSome, IsSomeAnd, length, ⊤};
-ghost use Rattle.fleet_cli.specs.Gathered.{AllHeld, FirstTooLong, MatchStop, StandThere, contents_of, limit_of};
+ghost use Rattle.std.specs.Prelude.{◌≡◌, ◌≢◌, ◌+◌, ◌<◌, ◌≤◌, ℕ, Some, None, IfSome, IsSome, IsSomeAnd, length, ⊤};
+ghost use Rattle.fleet_cli.specs.Gathered.{AllHeld, CalledTooLong, FirstTooLong, MatchStop, ReadFailsAmong, StandThere, contents_of, limit_of};
 ghost use Rattle.fleet_cli.specs.declared.gathering.Stop.TheVariants as stop;
 ghost use Rattle.plan_desk.specs.Counts.{Rose, RoseBy};
 ghost use Rattle.plan_desk.specs.DeskFile.{path_of};
+ghost use Rattle.plan_desk.specs.declared.file.DeskFile.TheVariants as desk_file;
 ghost use Rattle.plan_desk.specs.declared.file.TheConstants.{PROOF_LIMIT, TABLE_LIMIT};
 
 use plan_desk::{Desk, DeskError, DeskFile, PROOF_LIMIT, TABLE_LIMIT};
@@ -37,14 +38,14 @@ pub fn read_all<D: Desk>(
     ensures told { IfSome (D.holds desk.old) (λ held. MatchStop result
         (λ contents. AllHeld held dir.now files.now (contents_of contents.items)) ⊤ (FirstTooLong held dir.now files.now) ⊤) }
     ensures count { MatchStop result (λ contents. length contents.items ≡ length files.now) ⊤ (λ _. ⊤) ⊤ }
-    ensures too_long_taken { MatchStop result (λ _. ⊤) ⊤ (λ _. RoseBy (TABLE_LIMIT + 1) (D.taken desk.old) (D.taken desk.new)) ⊤ }
+    ensures too_long { MatchStop result (λ _. ⊤) ⊤ (CalledTooLong (RoseBy (TABLE_LIMIT + 1) (D.taken desk.old) (D.taken desk.new)) files.now) ⊤ }
     ensures taken { D.taken desk.old ≤ D.taken desk.new }
     ensures holds { D.holds desk.new ≡ D.holds desk.old }
 
-    // The count rises exactly with a fault, and then a file is blamed.
+    // The count rises exactly with a fault, and then a file of the list is blamed.
     ensures faults { MatchStop result (λ _. D.faults desk.new ≡ D.faults desk.old) (Rose (D.faults desk.old) (D.faults desk.new))
         (λ _. D.faults desk.new ≡ D.faults desk.old) (D.faults desk.new ≡ D.faults desk.old) }
-    ensures blamed { MatchStop result (λ _. ⊤) (IsSome (D.blamed desk.new)) (λ _. ⊤) ⊤ }
+    ensures blamed { MatchStop result (λ _. ⊤) (ReadFailsAmong (D.is_steady desk.old) (D.holds desk.old) dir.now files.now (D.blamed desk.new)) (λ _. ⊤) ⊤ }
     ensures steady { D.is_steady desk.old → IsSomeAnd (D.holds desk.old) (StandThere dir.now files.now) → MatchStop result (λ _. ⊤) ⊥ (λ _. ⊤) ⊤ }
     ensures stays_steady { D.is_steady desk.old → D.is_steady desk.new }
 {
@@ -67,11 +68,13 @@ fn read_one<D: Desk>(
         (λ long. IsSomeAnd (held (path_of dir.now file)) (λ bytes. limit_of file < length bytes)) ⊤) }
     ensures within { MatchStop result (λ bytes. length bytes.items ≤ limit_of file) ⊤ (λ long. long ≡ file) ⊤ }
     ensures too_long_taken { MatchStop result (λ _. ⊤) ⊤ (λ _. RoseBy (TABLE_LIMIT + 1) (D.taken desk.old) (D.taken desk.new)) ⊤ }
+    ensures not_proof { MatchStop result (λ _. ⊤) ⊤ (λ _. file ≢ desk_file.Proof) ⊤ }
     ensures taken { D.taken desk.old ≤ D.taken desk.new }
     ensures holds { D.holds desk.new ≡ D.holds desk.old }
     ensures faults { MatchStop result (λ _. D.faults desk.new ≡ D.faults desk.old) (Rose (D.faults desk.old) (D.faults desk.new))
         (λ _. D.faults desk.new ≡ D.faults desk.old) (D.faults desk.new ≡ D.faults desk.old) }
     ensures blamed { MatchStop result (λ _. ⊤) (D.blamed desk.new ≡ Some file) (λ _. ⊤) ⊤ }
+    ensures missing { MatchStop result (λ _. ⊤) (D.is_steady desk.old → IfSome (D.holds desk.old) (λ held. held (path_of dir.now file) ≡ None)) (λ _. ⊤) ⊤ }
     ensures steady { D.is_steady desk.old → IsSomeAnd (D.holds desk.old) (λ held. IsSome (held (path_of dir.now file))) → MatchStop result (λ _. ⊤) ⊥ (λ _. ⊤) ⊤ }
     ensures stays_steady { D.is_steady desk.old → D.is_steady desk.new }
 {
@@ -88,6 +91,7 @@ fn read_one<D: Desk>(
 fn limit_of(file: DeskFile) -> u64
     ensures limit { result ≡ limit_of file }
     ensures table { result < PROOF_LIMIT → result ≡ TABLE_LIMIT }
+    ensures not_proof { result < PROOF_LIMIT → file ≢ desk_file.Proof }
 {
     match file {
         DeskFile::Proof => PROOF_LIMIT,

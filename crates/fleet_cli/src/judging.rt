@@ -1,8 +1,8 @@
 //! The command `judge`: the verdict on the plan of a folder.
 ghost use Rattle.std.specs.Prelude.{◌≡◌, ◌⊎◌, ◌+◌, Some, IfOk, IfSome, IsSome, IsSomeAnd, length, ⊤};
-ghost use Rattle.fleet_cli.specs.Answer.{Answers, AnswersSome, JudgesContents, JudgesPlan, RefusesPlan, judge_files, says, verdict_status};
+ghost use Rattle.fleet_cli.specs.Answer.{Answers, AnswersSome, IsMissing, IsRead, JudgesContents, JudgesPlan, RefusesPlan, judge_files, says, verdict_status};
 ghost use Rattle.fleet_cli.specs.Failed.{MatchFailure};
-ghost use Rattle.fleet_cli.specs.Gathered.{StandThere, contents_of};
+ghost use Rattle.fleet_cli.specs.Gathered.{ReadFails, StandThere, contents_of};
 ghost use Rattle.fleet_cli.specs.Run.{IsEnd};
 ghost use Rattle.fleet_cli.specs.Texts.{verdict_text};
 ghost use Rattle.command_words.specs.Words.{judge};
@@ -48,7 +48,7 @@ pub fn judge_folder<D: Desk>(
     ensures ends { IfOk result (λ answer. IsEnd answer.status.code) }
     ensures holds { D.holds desk.new ≡ D.holds desk.old }
     ensures faults { MatchFailure result (λ _. D.faults desk.new ≡ D.faults desk.old) (Rose (D.faults desk.old) (D.faults desk.new)) (D.faults desk.new ≡ D.faults desk.old) }
-    ensures blamed { MatchFailure result (λ _. ⊤) (IsSome (D.blamed desk.new)) ⊤ }
+    ensures blamed { MatchFailure result (λ _. ⊤) (ReadFails (D.is_steady desk.old) (D.holds desk.old) (IsRead (Some (judge dir.now settings))) (IsMissing (Some (judge dir.now settings))) (D.blamed desk.new)) ⊤ }
     ensures steady { D.is_steady desk.old → IsSomeAnd (D.holds desk.old) (StandThere dir.now judge_files) → MatchFailure result (λ _. ⊤) ⊥ ⊤ }
     ensures stays_steady { D.is_steady desk.old → D.is_steady desk.new }
 {

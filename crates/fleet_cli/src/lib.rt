@@ -3,6 +3,7 @@
 
 pub mod answer;
 mod answers;
+mod calling;
 mod checking;
 mod gathering;
 mod judging;
@@ -15,6 +16,7 @@ mod summary;
 mod texts;
 mod writing;
 
+pub use calling::program;
 pub use running::run;
 pub use status::{
     BAD_INPUT, DONE, FAULT, GAP, INFEASIBLE, NO_MEMORY, REFUSED, Status, UNSETTLED, USAGE,

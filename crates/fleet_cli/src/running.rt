@@ -1,13 +1,13 @@
 ghost use Rattle.std.specs.Prelude.{◌≡◌, ◌≢◌, ◌⊎◌, ◌+◌, Some, None, IfSome, IsSome, IsSomeAnd, map, string_bytes};
 ghost use Rattle.fleet_cli.specs.Answer.{NamesStand};
 ghost use Rattle.fleet_cli.specs.Headline.{Headline};
-ghost use Rattle.fleet_cli.specs.Run.{AnswersExactly, AnswersInFull, IsAnswered, IsComplete, IsEnd, IsRefusal, KeepsOthers, LeavesFiles, PutsFault, PutsPart, SomeInFull};
+ghost use Rattle.fleet_cli.specs.Run.{AnswersExactly, AnswersInFull, BlamesMissing, FailsAt, IsAnswered, IsComplete, IsEnd, IsRefusal, KeepsOthers, LeavesFiles, PutsFault, PutsPart, SomeInFull};
 ghost use Rattle.fleet_cli.specs.Texts.{fault_text, usage_text};
 ghost use Rattle.command_words.specs.Words.{asked};
-ghost use Rattle.fleet_cli.specs.Written.{StandsAfter, WritesPart, held_with_texts};
+ghost use Rattle.fleet_cli.specs.Written.{HaveLengths, StandsAfter, WriteFails, WritesPart, held_with_texts};
 ghost use Rattle.fleet_cli.specs.declared.status.TheConstants.{FAULT, NO_MEMORY, USAGE};
 ghost use Rattle.plan_desk.specs.Counts.{Rose, RoseBy};
-ghost use Rattle.plan_desk.specs.Sink.{AppendsPrefix, output_with};
+ghost use Rattle.plan_desk.specs.Sink.{AppendsPrefix, once_more, output_with};
 ghost use Rattle.plan_desk.specs.declared.file.DeskFile.{DeskFile};
 ghost use Rattle.plan_desk.specs.declared.file.TheConstants.{TABLE_LIMIT};
 
@@ -59,15 +59,25 @@ pub fn run<D: Desk, S: Sink>(alloc: Global, words: &[String], desk: &mut D, out:
     ensures quiet_sink { result.code ≢ FAULT → S.faults out.new ≡ S.faults out.old }
     ensures steady { D.is_steady desk.old → S.is_steady out.old → IsSomeAnd (D.holds desk.old) (NamesStand (asked (map string_bytes words.now))) → result.code ≢ FAULT }
 
-    // After a fault of the desk a part of its line was put, and some first files of the answer stand; after one of
-    // the sink all of them do, and a part of the answer was put. After want of memory it is so as well, without
-    // a line.
+    // Over a steady desk that tells and a steady sink a fault means that a name which is read is missing. It is the
+    // first one in the order of reading, those before it stand there within their limits, and its file is blamed.
+    ensures missing { result.code ≡ FAULT → D.is_steady desk.old → S.is_steady out.old →
+        IfSome (D.holds desk.old) (BlamesMissing (asked (map string_bytes words.now)) (D.blamed desk.new)) }
+
+    // After a fault of the desk a part of its line was put and nothing else. The file to blame is one that is read, and
+    // then no file was written; or the next file to be written, and those before it stand. Where the desk didn't fail
+    // the sink did: all files stand, and a part of the answer was put. After want of memory some first files stand, or
+    // all of them and a part of the answer was put.
     ensures fault_line { result.code ≡ FAULT →
-        PutsFault (Rose (D.faults desk.old) (D.faults desk.new)) (D.blamed desk.new) (S.output out.old) (S.output out.new) × LeavesFiles (D.holds desk.old) (asked (map string_bytes words.now)) (D.holds desk.new)
-        ⊎ PutsPart (D.holds desk.old) (asked (map string_bytes words.now)) (D.holds desk.new) (S.output out.old) (S.output out.new) }
+        PutsFault (Rose (D.faults desk.old) (D.faults desk.new)) (D.blamed desk.new) (S.output out.old) (S.output out.new) × FailsAt (D.is_steady desk.old) (D.holds desk.old) (asked (map string_bytes words.now)) (D.holds desk.new) (D.blamed desk.new)
+        ⊎ (D.faults desk.new ≡ D.faults desk.old) × PutsPart (D.holds desk.old) (asked (map string_bytes words.now)) (D.holds desk.new) (S.output out.old) (S.output out.new) }
     ensures no_memory { result.code ≡ NO_MEMORY →
         (S.output out.new ≡ S.output out.old) × LeavesFiles (D.holds desk.old) (asked (map string_bytes words.now)) (D.holds desk.new)
         ⊎ PutsPart (D.holds desk.old) (asked (map string_bytes words.now)) (D.holds desk.new) (S.output out.old) (S.output out.new) }
+
+    // There is one put in a run, and none but where memory is wanted.
+    ensures one_put { result.code ≢ NO_MEMORY → S.puts out.new ≡ once_more (S.puts out.old) }
+    ensures one_put_at_most { (S.puts out.new ≡ S.puts out.old) ⊎ (S.puts out.new ≡ once_more (S.puts out.old)) }
 
     // A refusal writes no file, and no name changes but those that what is asked for writes.
     ensures refusals { IsRefusal result.code → D.holds desk.new ≡ D.holds desk.old }
@@ -91,11 +101,12 @@ fn give<D: Desk, S: Sink>(
     requires { IsEnd answer.now.status.code }
     ensures status { IsAnswered result.code (result ≡ answer.now.status) }
     ensures written { IsAnswered result.code (D.holds desk.new ≡ held_with_texts (D.holds desk.old) dir.now answer.now.files) }
+    ensures lengths { IsAnswered result.code (HaveLengths answer.now.files) }
     ensures stands { StandsAfter dir.now answer.now.files (D.holds desk.old) (D.holds desk.new) }
     ensures put { IsAnswered result.code (S.output out.new ≡ output_with (S.output out.old) answer.now.text) }
     ensures stopped_by_fault { result.code ≡ FAULT →
-        PutsFault (Rose (D.faults desk.old) (D.faults desk.new)) (D.blamed desk.new) (S.output out.old) (S.output out.new) × WritesPart dir.now answer.now.files (D.holds desk.old) (D.holds desk.new)
-        ⊎ (D.holds desk.new ≡ held_with_texts (D.holds desk.old) dir.now answer.now.files) × AppendsPrefix answer.now.text (S.output out.old) (S.output out.new) }
+        PutsFault (Rose (D.faults desk.old) (D.faults desk.new)) (D.blamed desk.new) (S.output out.old) (S.output out.new) × WriteFails dir.now answer.now.files (D.holds desk.old) (D.holds desk.new) (D.blamed desk.new)
+        ⊎ (D.faults desk.new ≡ D.faults desk.old) × (D.holds desk.new ≡ held_with_texts (D.holds desk.old) dir.now answer.now.files) × AppendsPrefix answer.now.text (S.output out.old) (S.output out.new) }
     ensures stopped_by_memory { result.code ≡ NO_MEMORY →
         (S.output out.new ≡ S.output out.old) × WritesPart dir.now answer.now.files (D.holds desk.old) (D.holds desk.new)
         ⊎ (D.holds desk.new ≡ held_with_texts (D.holds desk.old) dir.now answer.now.files) × AppendsPrefix answer.now.text (S.output out.old) (S.output out.new) }
@@ -104,6 +115,8 @@ fn give<D: Desk, S: Sink>(
     ensures quiet_sink { result.code ≢ FAULT → S.faults out.new ≡ S.faults out.old }
     ensures taken { D.taken desk.new ≡ D.taken desk.old }
     ensures steady { D.is_steady desk.old → S.is_steady out.old → result.code ≢ FAULT }
+    ensures one_put { result.code ≢ NO_MEMORY → S.puts out.new ≡ once_more (S.puts out.old) }
+    ensures one_put_at_most { (S.puts out.new ≡ S.puts out.old) ⊎ (S.puts out.new ≡ once_more (S.puts out.old)) }
 {
     match write_all(alloc, desk, dir, answer.files.as_slice()) {
         Ok(()) => put_answer(out, answer.text.as_slice(), answer.status),
@@ -121,6 +134,7 @@ fn put_answer<S: Sink>(out: &mut S, text: &[u8], status: Status) -> Status
     ensures fault { result.code ≡ FAULT → Rose (S.faults out.old) (S.faults out.new) }
     ensures quiet { result.code ≢ FAULT → S.faults out.new ≡ S.faults out.old }
     ensures steady { S.is_steady out.old → result.code ≢ FAULT }
+    ensures one_put { S.puts out.new ≡ once_more (S.puts out.old) }
 {
     match out.put(text) {
         Ok(()) => status,
@@ -134,6 +148,7 @@ fn put_fault<D: Desk, S: Sink>(desk: &D, out: &mut S) -> Status
     requires { IsSome (D.blamed desk.now) }
     ensures status { result.code ≡ FAULT }
     ensures put { (f : DeskFile) × (D.blamed desk.now ≡ Some f) × AppendsPrefix (fault_text f) (S.output out.old) (S.output out.new) }
+    ensures one_put { S.puts out.new ≡ once_more (S.puts out.old) }
 {
     if let Some(file) = desk.blamed() {
         // The status stands whether the sink takes the line or not.

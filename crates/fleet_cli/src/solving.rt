@@ -1,9 +1,9 @@
 //! The command `solve`: a plan for the tables of a folder, with a bound and its proof.
 ghost use Rattle.std.specs.Prelude.{◌≡◌, ◌+◌, Some, IfOk, IfSome, IsSome, IsSomeAnd, length, ⊤};
 ghost use Rattle.command_words.specs.Words.{solve};
-ghost use Rattle.fleet_cli.specs.Answer.{Answers, AnswersSome, GivesSolution, SolvesContents, table_files};
+ghost use Rattle.fleet_cli.specs.Answer.{Answers, AnswersSome, GivesSolution, IsMissing, IsRead, SolvesContents, table_files};
 ghost use Rattle.fleet_cli.specs.Failed.{MatchFailure};
-ghost use Rattle.fleet_cli.specs.Gathered.{StandThere, contents_of};
+ghost use Rattle.fleet_cli.specs.Gathered.{ReadFails, StandThere, contents_of};
 ghost use Rattle.fleet_cli.specs.Run.{IsEnd};
 ghost use Rattle.fleet_model.specs.Limits.{AreSettings};
 ghost use Rattle.plan_desk.specs.Counts.{Rose, RoseBy};
@@ -45,7 +45,7 @@ pub fn solve_folder<D: Desk>(
     ensures ends { IfOk result (λ answer. IsEnd answer.status.code) }
     ensures holds { D.holds desk.new ≡ D.holds desk.old }
     ensures faults { MatchFailure result (λ _. D.faults desk.new ≡ D.faults desk.old) (Rose (D.faults desk.old) (D.faults desk.new)) (D.faults desk.new ≡ D.faults desk.old) }
-    ensures blamed { MatchFailure result (λ _. ⊤) (IsSome (D.blamed desk.new)) ⊤ }
+    ensures blamed { MatchFailure result (λ _. ⊤) (ReadFails (D.is_steady desk.old) (D.holds desk.old) (IsRead (Some (solve dir.now settings limits))) (IsMissing (Some (solve dir.now settings limits))) (D.blamed desk.new)) ⊤ }
     ensures steady { D.is_steady desk.old → IsSomeAnd (D.holds desk.old) (StandThere dir.now table_files) → MatchFailure result (λ _. ⊤) ⊥ ⊤ }
     ensures stays_steady { D.is_steady desk.old → D.is_steady desk.new }
 {

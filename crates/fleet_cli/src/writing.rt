@@ -1,10 +1,11 @@
 //! Writing the files of an answer, in their order.
-ghost use Rattle.std.specs.Prelude.{◌≡◌, OnErr, OnOk, IsSome, ⊤};
+ghost use Rattle.std.specs.Prelude.{◌≡◌, ◌≤◌, OnErr, OnOk, length, ⊤};
 ghost use Rattle.fleet_cli.specs.Failed.{MatchFailure};
-ghost use Rattle.fleet_cli.specs.Written.{WritesPart, held_with_texts};
+ghost use Rattle.fleet_cli.specs.Written.{HaveLengths, WriteFails, WritesPart, held_with_texts};
 ghost use Rattle.plan_desk.specs.Counts.{Rose};
 ghost use Rattle.plan_desk.specs.Desk.{ChangesOnly, held_with};
 ghost use Rattle.plan_desk.specs.DeskFile.{path_of};
+ghost use Rattle.plan_desk.specs.declared.file.TheConstants.{PROOF_LIMIT};
 ghost use Rattle.std.specs.Prelude.{Some};
 
 use crate::answer::{Failure, FileText};
@@ -20,8 +21,9 @@ pub fn write_all<D: Desk>(
 ) -> Result<(), Failure>
     ensures written { OnOk result (D.holds desk.new ≡ held_with_texts (D.holds desk.old) dir.now texts.now) }
     ensures part { OnErr result (WritesPart dir.now texts.now (D.holds desk.old) (D.holds desk.new)) }
+    ensures stopped { MatchFailure result (λ _. ⊤) (WriteFails dir.now texts.now (D.holds desk.old) (D.holds desk.new) (D.blamed desk.new)) ⊤ }
+    ensures lengths { OnOk result (HaveLengths texts.now) }
     ensures faults { MatchFailure result (λ _. D.faults desk.new ≡ D.faults desk.old) (Rose (D.faults desk.old) (D.faults desk.new)) (D.faults desk.new ≡ D.faults desk.old) }
-    ensures blamed { MatchFailure result (λ _. ⊤) (IsSome (D.blamed desk.new)) ⊤ }
     ensures taken { D.taken desk.new ≡ D.taken desk.old }
     ensures steady { D.is_steady desk.old → MatchFailure result (λ _. ⊤) ⊥ ⊤ }
 {
@@ -44,6 +46,7 @@ fn write_one<D: Desk>(
     ensures others { OnErr result (ChangesOnly (path_of dir.now text.now.file) (D.holds desk.old) (D.holds desk.new)) }
     ensures faults { MatchFailure result (λ _. D.faults desk.new ≡ D.faults desk.old) (Rose (D.faults desk.old) (D.faults desk.new)) (D.faults desk.new ≡ D.faults desk.old) }
     ensures blamed { MatchFailure result (λ _. ⊤) (D.blamed desk.new ≡ Some text.now.file) ⊤ }
+    ensures length { length text.now.bytes ≤ PROOF_LIMIT }
     ensures taken { D.taken desk.new ≡ D.taken desk.old }
     ensures steady { D.is_steady desk.old → MatchFailure result (λ _. ⊤) ⊥ ⊤ }
     ensures stays_steady { D.is_steady desk.old → D.is_steady desk.new }

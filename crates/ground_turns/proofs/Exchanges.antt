@@ -1,12 +1,13 @@
 -- Departures exchanged where two turns touch one minute: a fitting map stays fitting.
-use Rattle.std.proofs.Common.{◌≡◌, ℕ, ◌+◌, ◌<◌, ◌≤◌, inl, inr, ◌==◌, List, length, refl, sym, ◌∙◌, ap, subst, arith}
-use Rattle.std.proofs.lemmas.Bool.{cases_eq}
+use Rattle.std.proofs.Common.{◌≡◌, ◌≢◌, ℕ, ◌+◌, ◌<◌, ◌≤◌, inl, inr, ◌==◌, List, length, refl, sym, ◌∙◌, ap, subst, arith}
+use Rattle.std.proofs.lemmas.Bool.{cases_eq, eq-eqb}
 use Rattle.sums.specs.Below.{sum_below, count_below}
+use Rattle.sums.proofs.Counts.{count_below-some}
 use Rattle.sums.proofs.Sums.{sum_below-agree}
 use Rattle.fleet_model.specs.declared.limits.TheConstants.{MINUTES_PER_PERIOD}
 use Rattle.fleet_model.specs.declared.parts.Connection.{Connection}
 use Rattle.fleet_model.specs.declared.tables.Tables.{Tables}
-use Rattle.ground_turns.specs.Laws.{ExchangedFits, Touch}
+use Rattle.ground_turns.specs.Laws.{ExchangedFits, ExchangedHolds, Touch}
 use Rattle.ground_turns.specs.Maps.{AreExchanged, IsSuccessorMap, arrivals_of, crossings_of, departures_of, exchanged, turn_at}
 use Rattle.ground_turns.specs.Turns.{IsTurn, crosses, departs_at, ready_at, station_at}
 use Rattle.ground_turns.proofs.Fits.{periods_beyond_use}
@@ -81,3 +82,21 @@ exchanged_fits t a f old new i j m fitting meet h =
     let no_less = periods_beyond_use t a f new map in
     let no_more = no_more_cross t a f old new i j m fitting.map meet h in
     record { map = map; fits = omega (arith, no_less, no_more, fitting.fits) }
+
+pub exchanged_holds : ExchangedHolds
+exchanged_holds given old new i j held h free free' = record {
+  each = λ g lt.
+      let turn = held.each g lt in
+      record {
+        place = turn.place;
+        within = subst (λ n. turn.place < n) (sym h.same_length) turn.within;
+        there = h.others turn.place turn.within (is_other g turn.place lt turn.there i free) (is_other g turn.place lt turn.there j free') ∙ turn.there;
+      };
+}
+  where
+    -- a given pair's turn is none of those that are free
+    is_other : (g q : ℕ) → g < length given → turn_at old q ≡ turn_at given g → (k : ℕ) → arrivals_of given (turn_at old k).arriving ≡ 0 → q ≢ k
+    is_other g q lt there k none same =
+        let here : (turn_at given g).arriving ≡ (turn_at old k).arriving = ap (λ turn. turn.arriving) (sym there) ∙ ap (λ n. (turn_at old n).arriving) same in
+        let some = count_below-some (λ n. (turn_at given n).arriving == (turn_at old k).arriving) (length given) g lt (eq-eqb _ _ here) in
+        absurd (omega (arith, some, none))

@@ -6,6 +6,7 @@ pub mod FirstOuts
 pub mod Fits
 pub mod FleetTurns
 pub mod FreeTurns
+pub mod MaintainedNights
 pub mod NightCounts
 pub mod OneSegment
 pub mod Places

@@ -20,7 +20,7 @@ use Rattle.ground_turns.proofs.Rounds.{bit}
 use Rattle.ground_turns.proofs.Waits.{departs_within, over_arrivals, ready_within}
 
 -- a sum from its first term
-shifted : (h : ℕ → ℕ) (n : ℕ) → sum_below h (suc n) ≡ h 0 + sum_below (λ k. h (suc k)) n
+pub shifted : (h : ℕ → ℕ) (n : ℕ) → sum_below h (suc n) ≡ h 0 + sum_below (λ k. h (suc k)) n
 shifted h zero = omega arith
 shifted h (suc n) = omega (arith, shifted h n)
 

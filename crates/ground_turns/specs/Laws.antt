@@ -1,17 +1,18 @@
 -- The laws of turns and successor maps, as statements.
-use Rattle.std.specs.Prelude.{◌≡◌, ◌≢◌, ℕ, suc, ◌+◌, ◌-◌, ◌*◌, ◌<◌, ◌==◌, ◌↔◌, if◌then◌else◌, Bool, IsTrue, List, [], length, slice_index}
+use Rattle.std.specs.Prelude.{◌≡◌, ◌≢◌, ℕ, suc, ◌+◌, ◌-◌, ◌*◌, ◌<◌, ◌≤◌, ◌==◌, ◌↔◌, if◌then◌else◌, Bool, IsTrue, List, [], length, slice_index}
 use Rattle.sums.specs.Below.{sum_below}
 use Rattle.fleet_model.specs.declared.limits.TheConstants.{MINUTES_PER_DAY}
 use Rattle.fleet_model.specs.declared.parts.Connection.{Connection}
 use Rattle.fleet_model.specs.declared.tables.Tables.{Tables}
 use Rattle.fleet_model.specs.Counts.{weights_of}
-use Rattle.fleet_model.specs.Schedule.{fleets_in, legs_in, stations_in}
+use Rattle.fleet_model.specs.Schedule.{fleets_in, legs_in, station_of, stations_in}
 use Rattle.fleet_model.specs.Use.{IsBalanced, need_of, stand_of, used_of}
 use Rattle.ground_turns.specs.FirstOut.{AreFirstOut}
-use Rattle.ground_turns.specs.Maps.{AreClean, AreExchanged, Holds, IsFitting, IsHeld, IsNext, IsSuccessorMap, IsTour, crossings_at, periods_of, turn_at, turns_by, turns_round, waiting_at}
-use Rattle.ground_turns.specs.Nights.{nights_in_turns}
+use Rattle.ground_turns.specs.Maps.{AreClean, AreExchanged, Holds, IsFitting, IsHeld, IsNext, IsSuccessorMap, IsTour, arrivals_of, crossings_at, periods_of, turn_at, turns_by, turns_round, waiting_at}
+use Rattle.ground_turns.specs.Nights.{IsKeptFor, maintained_in, nights_in_turns}
 use Rattle.ground_turns.specs.Parts.{KeepsPart, NeverTouches}
 use Rattle.ground_turns.specs.Segments.{EndAt, NoneEnds, is_among, minutes_of}
+use Rattle.ground_turns.specs.declared.nights.Night.{Night}
 use Rattle.ground_turns.specs.Turns.{IsClean, days_in, departs_at, nights_waited, period_of, ready_at, station_at, touches}
 
 -- by how many the turns at a station that cross the period's start pass its need
@@ -71,6 +72,19 @@ abbrev pub NightsAreUse : Type 0
 NightsAreUse = (t : Tables) (a : List ℕ) (f : ℕ) (turns : List Connection) → IsFitting t a f turns
     → length (nights_in_turns t f turns) ≡ used_of t (weights_of a) f * days_in t
 
+-- what stands at a maintenance station at the ends of the period's days, added up
+abbrev pub maintained_at : Tables → List ℕ → ℕ → ℕ → ℕ
+maintained_at t a f s = if (station_of t s).maintenance then stands_by_day t a f s else 0
+
+-- the nights of a fitting map at maintenance stations number what stands there at the ends of days
+abbrev pub MaintainedAreStands : Type 0
+MaintainedAreStands = (t : Tables) (a : List ℕ) (f : ℕ) (turns : List Connection) → IsFitting t a f turns
+    → maintained_in t (nights_in_turns t f turns) ≡ sum_below (maintained_at t a f) (stations_in t)
+
+-- nights that are kept for so many days are no more than so many times those at maintenance stations
+abbrev pub KeptHasNights : Type 0
+KeptHasNights = (t : Tables) (nights : List Night) (days : ℕ) → IsKeptFor t nights days → length nights ≤ days * maintained_in t nights
+
 -- two turns of a list at one station that touch one minute
 pub record Touch (t : Tables) (f : ℕ) (turns : List Connection) (i j m : ℕ) : Type 0 where
   pub first : i < length turns
@@ -85,6 +99,11 @@ pub record Touch (t : Tables) (f : ℕ) (turns : List Connection) (i j m : ℕ) 
 abbrev pub ExchangedFits : Type 0
 ExchangedFits = (t : Tables) (a : List ℕ) (f : ℕ) (old new : List Connection) (i j m : ℕ) → IsFitting t a f old → Touch t f old i j m
     → AreExchanged old new i j → IsFitting t a f new
+
+-- two of the turns that are none of the given pairs, with their departures exchanged, leave the pairs as they were
+abbrev pub ExchangedHolds : Type 0
+ExchangedHolds = (given old new : List Connection) (i j : ℕ) → Holds old given → AreExchanged old new i j
+    → arrivals_of given (turn_at old i).arriving ≡ 0 → arrivals_of given (turn_at old j).arriving ≡ 0 → Holds new given
 
 -- where some fitting map holds given pairs, a map that holds them fits if aircraft depart first in, first out beside them
 abbrev pub FirstOutFits : Type 0

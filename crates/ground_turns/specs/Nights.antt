@@ -1,5 +1,5 @@
 -- The nights of a tour, and whether they bring its aircraft to maintenance often enough.
-use Rattle.std.specs.Prelude.{ℕ, ◌+◌, ◌%◌, ◌<◌, Bool, IsTrue, false, List, [], ◌∷◌, ◌++◌, length, replicate, slice_index_or}
+use Rattle.std.specs.Prelude.{ℕ, ◌+◌, ◌%◌, ◌<◌, Bool, IsTrue, false, List, [], ◌∷◌, ◌++◌, length, replicate, slice_index_or, count_by}
 use Rattle.fleet_model.specs.declared.parts.Connection.{Connection}
 use Rattle.fleet_model.specs.declared.tables.Tables.{Tables}
 use Rattle.fleet_model.specs.Schedule.{leg_on, station_of}
@@ -25,6 +25,10 @@ nights_of_tour t f legs = nights_in_turns t f (turns_round legs)
 abbrev pub can_maintain : Tables → Night → Bool
 can_maintain t night.Aloft = false
 can_maintain t (night.At station) = (station_of t station).maintenance
+
+-- how many of the nights are at maintenance stations
+abbrev pub maintained_in : Tables → List Night → ℕ
+maintained_in t nights = count_by (can_maintain t) nights
 
 -- the night so many nights after the first, going round
 abbrev pub night_round : List Night → ℕ → Night

@@ -1,5 +1,6 @@
 //! The laws of turns and successor maps. Each function is a law: its contract is the statement, and it does nothing.
-ghost use Rattle.ground_turns.specs.Laws.{ApartForAll, ExchangedFits, FirstOutFits, FitsWhereClean, NextIsMap, NightsAreNeed, NightsAreStands, NightsAreUse, PeriodsBeyondUse, SegmentsTellClean, SomeFits, TourIsWhole, WaitingIsStand, WaitingLaw};
+ghost use Rattle.ground_turns.specs.Laws.{ApartForAll, ExchangedFits, ExchangedHolds, FirstOutFits, FitsWhereClean, KeptHasNights, MaintainedAreStands, NextIsMap};
+ghost use Rattle.ground_turns.specs.Laws.{NightsAreNeed, NightsAreStands, NightsAreUse, PeriodsBeyondUse, SegmentsTellClean, SomeFits, TourIsWhole, WaitingIsStand, WaitingLaw};
 
 /// In a successor map the aircraft that wait at a station are, at each moment, those that stand there and one number
 /// more: by which the turns that cross the period's start pass the need.
@@ -38,9 +39,26 @@ pub fn nights_are_use()
     ensures { NightsAreUse }
 {}
 
+/// The nights of a fitting map at maintenance stations number the aircraft that stand there at the ends of the period's
+/// days, added up.
+pub fn maintained_are_stands()
+    ensures { MaintainedAreStands }
+{}
+
+/// Nights that are kept for so many days are no more than so many times those at maintenance stations. So with too few
+/// of these no tour is kept.
+pub fn kept_has_nights()
+    ensures { KeptHasNights }
+{}
+
 /// Where two turns at a station touch one minute, a fitting map with their departures exchanged fits too.
 pub fn exchanged_fits()
     ensures { ExchangedFits }
+{}
+
+/// Two turns of a map that are none of given pairs, with their departures exchanged, leave the pairs held.
+pub fn exchanged_holds()
+    ensures { ExchangedHolds }
 {}
 
 /// Where some fitting map holds given pairs, a successor map that holds them fits if beside them aircraft depart from

@@ -3,3 +3,4 @@ pub mod Followers
 pub mod FreeNeed
 pub mod AllSuccessors
 pub mod TourLines
+pub mod WholeTours

@@ -18,7 +18,7 @@ use Rattle.ground_turns.proofs.TourNights.{nights_are_use, nights_at_turn, night
 use Rattle.lines_of_flying.specs.Lines.{AreLegs, day_of, legs_on_day, line_after, lines_ended, lines_of, nights_after}
 
 -- lists of equal entries are equal
-list_below-agree : {X : Type 0} (f g : ℕ → X) (n : ℕ) → ((k : ℕ) → k < n → f k ≡ g k) → list_below f n ≡ list_below g n
+pub list_below-agree : {X : Type 0} (f g : ℕ → X) (n : ℕ) → ((k : ℕ) → k < n → f k ≡ g k) → list_below f n ≡ list_below g n
 list_below-agree f g zero same = refl
 list_below-agree {X} f g (suc n) same =
     ap (list_below f) (sym (add-one n)) ∙ list_below-more f n
@@ -49,14 +49,20 @@ days_are_use t a f tour is =
 
 module _ (t : Tables) (f : ℕ) (tour : List ℕ) where
   -- the first legs of a day
-  first_on : ℕ → ℕ → List ℕ
+  unfoldable pub first_on : ℕ → ℕ → List ℕ
   first_on n d = legs_on_day t f tour d n
 
   other_day : (d n : ℕ) → (day_of t f tour n == d) ≡ false → first_on (suc n) d ≡ first_on n d
   unfolding first_on
   other_day d n other = ap (λ b. legs_on_day t f tour d n ++ (if b then slice_index tour n ∷ [] else [])) other ∙ append-nil (legs_on_day t f tour d n)
 
-  its_day : (n : ℕ) → first_on (suc n) (day_of t f tour n) ≡ first_on n (day_of t f tour n) ++ slice_index tour n ∷ []
+  pub other_early_day : (n d : ℕ) → d < day_of t f tour n → first_on (suc n) d ≡ first_on n d
+  other_early_day n d less = other_day d n (differs (day_of t f tour n) d less)
+    where
+      differs : (m d : ℕ) → d < m → (m == d) ≡ false
+      differs m d less = grind (arith, nat_tests)
+
+  pub its_day : (n : ℕ) → first_on (suc n) (day_of t f tour n) ≡ first_on n (day_of t f tour n) ++ slice_index tour n ∷ []
   unfolding first_on
   its_day n = ap (λ b. legs_on_day t f tour (day_of t f tour n) n ++ (if b then slice_index tour n ∷ [] else [])) (same_number (day_of t f tour n))
 
@@ -72,7 +78,7 @@ module _ (t : Tables) (f : ℕ) (tour : List ℕ) where
       differs : (m d : ℕ) → m < d → (m == d) ≡ false
       differs m d less = grind (arith, nat_tests)
 
-  later_day : (n d : ℕ) → day_of t f tour n < d → first_on (suc n) d ≡ []
+  pub later_day : (n d : ℕ) → day_of t f tour n < d → first_on (suc n) d ≡ []
   later_day n d late = none_later (suc n) d (λ k below. omega (arith, sum_below-le (nights_after t f tour) k n (omega arith), late))
 
   -- the lines after so many of the nights that follow a leg
@@ -80,11 +86,8 @@ module _ (t : Tables) (f : ℕ) (tour : List ℕ) where
       → (m : ℕ) → (lines ++ lines_ended line m ≡ list_below (first_on (suc n)) (day_of t f tour n + m)) × (line_after line m ≡ first_on (suc n) (day_of t f tour n + m))
   ended n lines line before now zero =
       let none : day_of t f tour n ≡ day_of t f tour n + 0 = omega arith in
-      let same = list_below-agree (first_on n) (first_on (suc n)) (day_of t f tour n) (λ d early. sym (other_day d n (differs (day_of t f tour n) d early))) in
+      let same = list_below-agree (first_on n) (first_on (suc n)) (day_of t f tour n) (λ d early. sym (other_early_day n d early)) in
       (append-nil lines ∙ before ∙ same ∙ ap (list_below (first_on (suc n))) none, now ∙ ap (first_on (suc n)) none)
-    where
-      differs : (m d : ℕ) → d < m → (m == d) ≡ false
-      differs m d less = grind (arith, nat_tests)
   ended n lines line before now (suc m) =
       let front = ended n lines line before now m in
       let one : (day_of t f tour n + m) + 1 ≡ day_of t f tour n + suc m = omega arith in (

@@ -1,4 +1,5 @@
 ghost use Rattle.std.specs.Prelude.{◌≡◌, ◌*◌, ◌+◌, ◌<◌, ◌≤◌, ◌++◌, IfOk, OnOk, length};
+ghost use Rattle.std.specs.List.{concat};
 ghost use Rattle.fleet_model.specs.Counts.{weights_of};
 ghost use Rattle.fleet_model.specs.Legal.{IsAssignment};
 ghost use Rattle.fleet_model.specs.Schedule.{fleets_in, legs_in};
@@ -26,6 +27,7 @@ pub fn lines(
     requires tour { IsTour tables.now plan.now fleet tour.now }
     requires begins { BeginsAfterNight tables.now fleet tour.now }
     ensures lines { IfOk result (λ lines. lines ≡ lines_of tables.now fleet tour.now) }
+    ensures whole { IfOk result (λ lines. concat lines ≡ tour.now) }
     ensures days { IfOk result (λ lines. length lines ≡ used_of tables.now (weights_of plan.now) fleet * days_in tables.now) }
 {
     Ok(Entries::from_vec(cut(alloc, tables, fleet, tour)?))
@@ -70,9 +72,10 @@ fn end_days(
     Ok(line)
 }
 
-// The nights from a leg of a tour to the next.
+/// The nights from a leg of a tour to the next: those in its flight and turn, and those in the wait that follows. Takes no
+/// memory.
 #[tactic(auto, unfolding(crate::specs::Lines::nights_after))]
-fn nights_after(tables: &Tables, fleet: u32, tour: &[u32], place: usize) -> u32
+pub fn nights_after(tables: &Tables, fleet: u32, tour: &[u32], place: usize) -> u32
     requires fleet { fleet < fleets_in tables.now }
     requires known { AreLegs tables.now tour.now }
     requires place { place < length tour.now }

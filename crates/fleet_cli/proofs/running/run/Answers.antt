@@ -1,4 +1,4 @@
-use Rattle.std.proofs.Common.{ap, inl, inr}
+use Rattle.std.proofs.Common.{ap, inl, inr, ◌∙◌}
 use Rattle.fleet_cli.proofs.HeadlineFacts.{headline}
 use Rattle.fleet_cli.proofs.OneAnswer.{complete, exactly}
 use Rattle.fleet_cli.proofs.Others.{keeps_others, refusal_ends, refusal_leaves}
@@ -23,7 +23,7 @@ returns-in-Ok-clause-files g c = keeps_others _ _ c.in-Ok.reply.answer _ c.in-Ok
 pub returns-in-Ok-clause-fault_line : goal.returns-in-Ok-clause-fault_line
 returns-in-Ok-clause-fault_line g c = λ fault. elim (c.give.ensures.stopped_by_fault fault) [
   | inl stopped ↦ inl (rw c.in-Ok.ensures.faults at stopped.0, inr (record { answer = c.in-Ok.reply.answer; answers = c.in-Ok.ensures.told; part = rw (c.in-Ok.ensures.folder, c.in-Ok.ensures.holds) at stopped.1 }))
-  | inr put ↦ inr (record { answer = c.in-Ok.reply.answer; answers = c.in-Ok.ensures.told; written = rw (c.in-Ok.ensures.folder, c.in-Ok.ensures.holds) at put.0; part = put.1 })
+  | inr put ↦ inr (put.0 ∙ c.in-Ok.ensures.faults, record { answer = c.in-Ok.reply.answer; answers = c.in-Ok.ensures.told; written = rw (c.in-Ok.ensures.folder, c.in-Ok.ensures.holds) at put.1; part = put.2 })
 ]
 
 pub returns-in-Ok-clause-headline : goal.returns-in-Ok-clause-headline

@@ -1,5 +1,5 @@
-use Rattle.std.proofs.Common.{rules}
-use Rattle.fleet_cli.proofs.WrittenFacts.{held_with_more}
+use Rattle.std.proofs.Common.{arith, rules}
+use Rattle.fleet_cli.proofs.WrittenFacts.{held_with_more, one_longer, stopped_at}
 use Rattle.fleet_cli.proofs.writing.write_all.Goals as goal
 
 pub loop-text-preserved : goal.loop-text-preserved
@@ -7,5 +7,13 @@ loop-text-preserved g c = record {
   holds = held_with_more _ _ _ c.loop-text.text-index _ _ _ _ c.text-item.is c.loop-text-test.true c.loop-text.invariant.holds c.in_default.ensures.written;
   faults = search rules;
   taken = search rules;
+  lengths = one_longer c.args.texts.now c.loop-text.text-index _ _ c.text-item.is c.loop-text-test.true c.in_default.ensures.length c.loop-text.invariant.lengths;
   steady = search rules;
 }
+
+pub returns-in-Err-clause-stopped : goal.returns-in-Err-clause-stopped
+returns-in-Err-clause-stopped g c =
+    stopped_at _ _ c.in-Err.failure c.args.dir.now c.args.texts.now c.loop-text.text-index _ _ _ _ _ _ c.text-item.is c.loop-text-test.true c.loop-text.invariant.holds c.in-Err.ensures.others c.in-Err.ensures.blamed
+
+pub returns-clause-lengths : goal.returns-clause-lengths
+returns-clause-lengths g c = let past = c.loop-text-test.false in record { each = λ k e below. c.loop-text.invariant.lengths k e (omega arith) }

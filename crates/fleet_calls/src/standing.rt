@@ -1,0 +1,116 @@
+//! Minutes at which no aircraft stands at a station, and aircraft left over.
+use crate::plans::assignment;
+use crate::schedules::{
+    BACK_AT_ONCE, BACK_BY_NIGHT, BACK_IN_NO_TIME, FOUR_AIRCRAFT, Files, NO_LEGS, OVERLAPPING_TRIPS,
+    ROUND_TRIP, THROUGH_THE_HUB, TWO_FLEETS, TWO_NIGHTS_ALOFT, read,
+};
+use fleet_model::{Kept, LoadError, Tables};
+use island_cut::{spare, zero_minutes};
+use std::alloc::Global;
+use std::test::Fail;
+
+/// The minutes at whose end none of a fleet's aircraft stands at a station; nothing where there is no such fleet.
+fn zeros(
+    alloc: Global,
+    files: &Files,
+    fleets: &[u32],
+    fleet: u32,
+    station: u32,
+) -> Result<Option<Vec<u16>>, LoadError> {
+    let tables = read(alloc, files)?;
+    let Some(plan) = assignment(&tables, fleets) else {
+        return Ok(None);
+    };
+    if fleet >= tables.fleet_count() {
+        return Ok(None);
+    }
+    let minutes = zero_minutes(alloc, &tables, &plan, fleet, station)?;
+    Ok(Some(minutes.into_vec()))
+}
+
+/// The minutes of some stretches, each from one up to and without another.
+fn minutes_of(alloc: Global, stretches: &[(u16, u16)]) -> Result<Vec<u16>, LoadError> {
+    let mut minutes = Vec::new(alloc);
+    for (from, to) in stretches {
+        for minute in *from..*to {
+            minutes.push(minute)?;
+        }
+    }
+    Ok(minutes)
+}
+
+#[test]
+fn none_stands_but_between_landing_and_departure(rt: HostRuntime) -> Result<(), Fail> {
+    let cases: [(Files, &[u32], u32, u32, &[(u16, u16)]); 10] = [
+        (
+            THROUGH_THE_HUB,
+            &[0, 0, 0, 0],
+            0,
+            0,
+            &[(0, 540), (580, 1440)],
+        ),
+        (THROUGH_THE_HUB, &[0, 0, 0, 0], 0, 1, &[(480, 660)]),
+        (ROUND_TRIP, &[0, 0], 0, 1, &[(0, 570), (600, 1440)]),
+        (ROUND_TRIP, &[0, 0], 1, 0, &[(0, 1440)]),
+        (BACK_AT_ONCE, &[0, 0], 0, 1, &[(0, 1440)]),
+        (BACK_BY_NIGHT, &[0, 0], 0, 0, &[(480, 1440)]),
+        (BACK_IN_NO_TIME, &[1, 1], 1, 1, &[(540, 600)]),
+        (TWO_NIGHTS_ALOFT, &[0, 0], 0, 1, &[(0, 480), (720, 1440)]),
+        (FOUR_AIRCRAFT, &[0, 0, 0, 0, 0, 0], 0, 0, &[(510, 690)]),
+        (NO_LEGS, &[], 1, 0, &[(0, 1440)]),
+    ];
+    for (files, fleets, fleet, station, stretches) in cases {
+        let want = minutes_of(rt.alloc(), stretches)?;
+        let seen = zeros(rt.alloc(), &files, fleets, fleet, station)?;
+        assert_eq!(rt; seen.as_deref(), Some(want.as_slice()));
+    }
+    Ok(())
+}
+
+#[test]
+fn at_the_hub_none_stands_for_1400_minutes(rt: HostRuntime) -> Result<(), Fail> {
+    let seen = zeros(rt.alloc(), &THROUGH_THE_HUB, &[0, 0, 0, 0], 0, 0)?;
+    assert_eq!(rt; seen.map(|minutes| minutes.len()), Some(1400));
+    Ok(())
+}
+
+/// The aircraft left over; nothing where no fleet may fly some leg.
+fn left_over(tables: &Tables) -> Option<i64> {
+    match Kept::all(tables).bare_leg(tables) {
+        Some(_) => None,
+        None => Some(spare(tables)),
+    }
+}
+
+#[test]
+fn aircraft_are_left_over_by_the_joined_schedule(rt: HostRuntime) -> Result<(), Fail> {
+    let without_aircraft = Files {
+        fleets: b"fleet,aircraft,turn\nF1,0,30\nF2,0,30\n",
+        ..ROUND_TRIP
+    };
+    let slow_outward = Files {
+        costs: b"flight,fleet,cost\nX1,F2,80\nX2,F1,100\nX2,F2,130\n",
+        ..BACK_IN_NO_TIME
+    };
+    let without_a_pair = Files {
+        costs: b"flight,fleet,cost\nX1,F1,100\nX1,F2,80\n",
+        ..ROUND_TRIP
+    };
+    let cases: [(Files, Option<i64>); 10] = [
+        (ROUND_TRIP, Some(1)),
+        (TWO_FLEETS, Some(0)),
+        (OVERLAPPING_TRIPS, Some(1)),
+        (FOUR_AIRCRAFT, Some(0)),
+        (THROUGH_THE_HUB, Some(0)),
+        (without_aircraft, Some(-1)),
+        (BACK_IN_NO_TIME, Some(1)),
+        (slow_outward, Some(0)),
+        (NO_LEGS, Some(7)),
+        (without_a_pair, None),
+    ];
+    for (files, want) in cases {
+        let tables = read(rt.alloc(), &files)?;
+        assert_eq!(rt; left_over(&tables), want);
+    }
+    Ok(())
+}

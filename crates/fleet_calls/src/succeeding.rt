@@ -1,0 +1,246 @@
+//! Successor maps that hold given pairs, and the lines of tours.
+ghost use Rattle.std.specs.Prelude.{◌<◌};
+ghost use Rattle.fleet_model.specs.Legal.{IsAssignment};
+ghost use Rattle.fleet_model.specs.Schedule.{fleets_in};
+ghost use Rattle.ground_turns.specs.Maps.{IsTour};
+
+use crate::plans::assignment;
+use crate::schedules::{
+    BACK_AT_ONCE, FOUR_AIRCRAFT, Files, MEETING_TRIPS, NO_LEGS, ROUND_TRIP, THROUGH_THE_HUB,
+    TWO_NIGHTS_ALOFT, read,
+};
+use crate::turns::{fits, holds, turns_round};
+use entries::{Entries, NoMemory};
+use fleet_model::limits::MAX_LEGS;
+use fleet_model::{Assignment, Connection, LoadError, Tables};
+use lines_of_flying::{lines, nights_after, successors};
+use std::alloc::Global;
+use std::test::Fail;
+
+/// Turns from pairs of numbers.
+fn connections(alloc: Global, pairs: &[(u32, u32)]) -> Result<Vec<Connection>, LoadError> {
+    let mut turns = Vec::new(alloc);
+    for (arriving, departing) in pairs {
+        turns.push(Connection {
+            arriving: *arriving,
+            departing: *departing,
+        })?;
+    }
+    Ok(turns)
+}
+
+/// Successors of given pairs on a fleet; nothing where the witness is no fitting map that holds them.
+fn successors_of(
+    alloc: Global,
+    row: &Row,
+    witness: &[(u32, u32)],
+) -> Result<Option<Vec<Connection>>, LoadError> {
+    let tables = read(alloc, &row.files)?;
+    let pairs = connections(alloc, row.pairs)?;
+    let witness = connections(alloc, witness)?;
+    let Some(plan) = assignment(&tables, row.fleets) else {
+        return Ok(None);
+    };
+    if row.fleet >= tables.fleet_count() {
+        return Ok(None);
+    }
+    Ok(witnessed(alloc, &tables, &plan, row.fleet, &pairs, &witness)?)
+}
+
+/// Successors of given pairs, where the witness is a fitting map that holds them.
+fn witnessed(
+    alloc: Global,
+    tables: &Tables,
+    plan: &Assignment,
+    fleet: u32,
+    pairs: &[Connection],
+    witness: &[Connection],
+) -> Result<Option<Vec<Connection>>, NoMemory>
+    requires plan { IsAssignment tables.now plan.now }
+    requires fleet { fleet < fleets_in tables.now }
+{
+    if witness.len() > MAX_LEGS || !fits(tables, plan, fleet, witness) || !holds(witness, pairs) {
+        return Ok(None);
+    }
+    let turns = successors(alloc, tables, plan, fleet, pairs)?;
+    Ok(Some(turns.into_vec()))
+}
+
+/// A fleet by an assignment, and pairs that are given.
+#[derive(Clone, Copy)]
+struct Row {
+    files: Files,
+    fleets: &'static [u32],
+    fleet: u32,
+    pairs: &'static [(u32, u32)],
+}
+
+/// All legs on the first fleet.
+fn flown(files: Files, fleets: &'static [u32], pairs: &'static [(u32, u32)]) -> Row {
+    Row {
+        files,
+        fleets,
+        fleet: 0,
+        pairs,
+    }
+}
+
+#[test]
+fn aircraft_depart_first_in_first_out(rt: HostRuntime) -> Result<(), Fail> {
+    let cases: [(Row, &[(u32, u32)]); 7] = [
+        (flown(ROUND_TRIP, &[0, 0], &[]), &[(0, 1), (1, 0)]),
+        (flown(BACK_AT_ONCE, &[0, 0], &[]), &[(0, 1), (1, 0)]),
+        (flown(TWO_NIGHTS_ALOFT, &[0, 0], &[]), &[(0, 1), (1, 0)]),
+        (flown(NO_LEGS, &[], &[]), &[]),
+        (
+            flown(THROUGH_THE_HUB, &[0, 0, 0, 0], &[]),
+            &[(0, 2), (1, 3), (2, 0), (3, 1)],
+        ),
+        (
+            flown(FOUR_AIRCRAFT, &[0, 0, 0, 0, 0, 0], &[]),
+            &[(0, 1), (1, 0), (2, 3), (3, 4), (4, 5), (5, 2)],
+        ),
+        (
+            flown(MEETING_TRIPS, &[0, 0, 0, 0, 0, 0], &[]),
+            &[(0, 3), (1, 4), (2, 5), (3, 0), (4, 1), (5, 2)],
+        ),
+    ];
+    for (row, want) in cases {
+        let turns = connections(rt.alloc(), want)?;
+        let seen = successors_of(rt.alloc(), &row, want)?;
+        assert_eq!(rt; seen.as_deref(), Some(turns.as_slice()));
+    }
+    Ok(())
+}
+
+#[test]
+fn given_pairs_are_held_and_the_others_go_first_in_first_out(rt: HostRuntime) -> Result<(), Fail> {
+    let cases: [(Row, &[(u32, u32)]); 4] = [
+        (
+            flown(THROUGH_THE_HUB, &[0, 0, 0, 0], &[(0, 3)]),
+            &[(0, 3), (1, 2), (2, 0), (3, 1)],
+        ),
+        (
+            flown(THROUGH_THE_HUB, &[0, 0, 0, 0], &[(1, 2), (0, 3)]),
+            &[(0, 3), (1, 2), (2, 0), (3, 1)],
+        ),
+        (
+            flown(MEETING_TRIPS, &[0, 0, 0, 0, 0, 0], &[(0, 4)]),
+            &[(0, 4), (1, 3), (2, 5), (3, 0), (4, 1), (5, 2)],
+        ),
+        (
+            flown(FOUR_AIRCRAFT, &[0, 0, 0, 0, 0, 0], &[(1, 2)]),
+            &[(0, 1), (1, 2), (2, 3), (3, 4), (4, 5), (5, 0)],
+        ),
+    ];
+    for (row, want) in cases {
+        let turns = connections(rt.alloc(), want)?;
+        let seen = successors_of(rt.alloc(), &row, want)?;
+        assert_eq!(rt; seen.as_deref(), Some(turns.as_slice()));
+    }
+    Ok(())
+}
+
+#[test]
+fn a_fleet_without_legs_has_no_turns(rt: HostRuntime) -> Result<(), Fail> {
+    let other_fleet = Row {
+        fleet: 1,
+        ..flown(ROUND_TRIP, &[0, 0], &[])
+    };
+    let seen = successors_of(rt.alloc(), &other_fleet, &[])?;
+    assert_eq!(rt; seen.map(|turns| turns.len()), Some(0));
+    Ok(())
+}
+
+/// The lines of a tour of the first fleet, which flies all legs; nothing where the legs are no tour that begins after a
+/// night.
+fn lines_of(
+    alloc: Global,
+    files: &Files,
+    fleets: &[u32],
+    tour: &[u32],
+) -> Result<Option<Entries<Entries<u32>>>, LoadError> {
+    let tables = read(alloc, files)?;
+    let Some(plan) = assignment(&tables, fleets) else {
+        return Ok(None);
+    };
+    if tables.fleet_count() == 0 {
+        return Ok(None);
+    }
+    Ok(toured(alloc, &tables, &plan, tour)?)
+}
+
+/// The lines of a tour, where the legs are one.
+fn toured(
+    alloc: Global,
+    tables: &Tables,
+    plan: &Assignment,
+    tour: &[u32],
+) -> Result<Option<Entries<Entries<u32>>>, NoMemory>
+    requires plan { IsAssignment tables.now plan.now }
+    requires fleet { 0 < fleets_in tables.now }
+{
+    let turns = turns_round(alloc, tour)?;
+    if tour.is_empty() || turns.len() > MAX_LEGS || !fits(tables, plan, 0, &turns) {
+        return Ok(None);
+    }
+    begun(alloc, tables, plan, tour)
+}
+
+/// The lines of a tour, where it begins after a night.
+fn begun(
+    alloc: Global,
+    tables: &Tables,
+    plan: &Assignment,
+    tour: &[u32],
+) -> Result<Option<Entries<Entries<u32>>>, NoMemory>
+    requires plan { IsAssignment tables.now plan.now }
+    requires fleet { 0 < fleets_in tables.now }
+    requires tour { IsTour tables.now plan.now 0 tour.now }
+{
+    if nights_after(tables, 0, tour, tour.len() - 1) == 0 {
+        return Ok(None);
+    }
+    Ok(Some(lines(alloc, tables, plan, 0, tour)?))
+}
+
+#[test]
+fn tours_are_cut_at_their_nights(rt: HostRuntime) -> Result<(), Fail> {
+    let cases: [(Files, &[u32], &[u32], &[&[u32]]); 4] = [
+        (
+            THROUGH_THE_HUB,
+            &[0, 0, 0, 0],
+            &[0, 3, 1, 2],
+            &[&[0, 3], &[1, 2]],
+        ),
+        (ROUND_TRIP, &[0, 0], &[0, 1], &[&[0, 1]]),
+        (
+            FOUR_AIRCRAFT,
+            &[0, 0, 0, 0, 0, 0],
+            &[0, 1, 2, 3, 4, 5],
+            &[&[0, 1], &[2], &[3, 4], &[5]],
+        ),
+        (TWO_NIGHTS_ALOFT, &[0, 0], &[1, 0], &[&[1, 0], &[]]),
+    ];
+    for (files, fleets, tour, want) in cases {
+        let seen = lines_of(rt.alloc(), &files, fleets, tour)?.ok_or("no tour")?;
+        assert_eq!(rt; seen.len(), want.len());
+        for (line, legs) in seen.as_slice().iter().zip(want) {
+            assert_eq!(rt; line.as_slice(), *legs);
+        }
+    }
+    Ok(())
+}
+
+#[test]
+fn what_begins_by_day_or_is_no_tour_is_not_cut(rt: HostRuntime) -> Result<(), Fail> {
+    let cases: [(Files, &[u32], &[u32]); 3] = [
+        (ROUND_TRIP, &[0, 0], &[1, 0]),
+        (THROUGH_THE_HUB, &[0, 0, 0, 0], &[0, 2]),
+        (THROUGH_THE_HUB, &[0, 0, 0, 0], &[0, 3, 1]),
+    ];
+    for (files, fleets, tour) in cases {
+        assert!(rt; lines_of(rt.alloc(), &files, fleets, tour)?.is_none());
+    }
+    Ok(())
+}

@@ -1,0 +1,68 @@
+//! What the program does with the words of its call.
+ghost use Rattle.std.specs.Prelude.{◌≡◌, ◌≢◌, ◌⊎◌, ◌+◌, None, IfOk, IfSome, IsErr, map, string_bytes};
+ghost use Rattle.std.specs.Process.{exit_status};
+ghost use Rattle.command_words.specs.Words.{asked};
+ghost use Rattle.fleet_cli.specs.Program.{given_words, words_in};
+ghost use Rattle.fleet_cli.specs.Run.{AnswersInFull, IsAnswered, SomeInFull};
+ghost use Rattle.fleet_cli.specs.declared.status.TheConstants.{FAULT, NO_MEMORY};
+ghost use Rattle.plan_desk.specs.Counts.{Rose, RoseBy};
+ghost use Rattle.plan_desk.specs.declared.file.TheConstants.{TABLE_LIMIT};
+
+use crate::running::run;
+use crate::status::NO_MEMORY;
+use entries::NoMemory;
+use plan_desk::{Desk, Sink};
+use std::alloc::Global;
+use std::env::Args;
+use std::io;
+use std::process::ExitCode;
+
+/// Runs the program over the words that the system gives, the program's name among them, and ends with the status of
+/// `run`. Where some words are no text there are none, which asks for nothing. Where there is no memory for them, the
+/// status is 8, and nothing is put.
+pub fn program<D: Desk, S: Sink>(
+    alloc: Global,
+    given: io::Result<Args>,
+    desk: &mut D,
+    out: &mut S,
+) -> ExitCode
+    ensures answer { IfSome (given_words given) (λ words. IsAnswered (exit_status result) (IfSome (D.holds desk.old) (λ held.
+        AnswersInFull held (asked words) (exit_status result) (D.holds desk.new) (S.output out.old) (S.output out.new)))) }
+    ensures some_answer { IfSome (given_words given) (λ words. IsAnswered (exit_status result) (SomeInFull (RoseBy (TABLE_LIMIT + 1) (D.taken desk.old) (D.taken desk.new))
+        (asked words) (exit_status result) (S.output out.old) (S.output out.new))) }
+    ensures fault { exit_status result ≡ FAULT → Rose (D.faults desk.old) (D.faults desk.new) ⊎ Rose (S.faults out.old) (S.faults out.new) }
+    ensures quiet_desk { exit_status result ≢ FAULT → D.faults desk.new ≡ D.faults desk.old }
+    ensures quiet_sink { exit_status result ≢ FAULT → S.faults out.new ≡ S.faults out.old }
+    ensures no_words { given_words given ≡ None → exit_status result ≡ NO_MEMORY }
+    ensures no_output { given_words given ≡ None → S.output out.new ≡ S.output out.old }
+{
+    match words_of(alloc, given) {
+        Ok(words) => ExitCode::from(run(alloc, words.as_slice(), desk, out).code),
+        Err(NoMemory) => ExitCode::from(NO_MEMORY),
+    }
+}
+
+/// The words of a call.
+fn words_of(alloc: Global, given: io::Result<Args>) -> Result<Vec<String>, NoMemory>
+    ensures words { IfOk result (λ words. IfSome (given_words given) (λ all. map string_bytes words.items ≡ all)) }
+    ensures none { given_words given ≡ None → IsErr result }
+{
+    match given {
+        Ok(args) => all_of(alloc, args),
+        Err(error) => match error.kind() {
+            io::ErrorKind::InvalidData => Ok(Vec::new(alloc)),
+            _ => Err(NoMemory),
+        },
+    }
+}
+
+/// The words that are still to come.
+fn all_of(alloc: Global, args: Args) -> Result<Vec<String>, NoMemory>
+    ensures { IfOk result (λ words. map string_bytes words.items ≡ words_in args) }
+{
+    let mut words = Vec::new(alloc);
+    for word in args {
+        words.push(word)?;
+    }
+    Ok(words)
+}
