@@ -103,7 +103,17 @@ pub fn run_case<R: Abort + Alloc<A = Global>>(
     status: u8,
     text: &[u8],
 ) -> Result<(), Fail> {
-    let row = Row {
+    run_row(rt, number, &row_of(&*words, laid, status, text))
+}
+
+/// A row that writes nothing, in which no call is made to fail.
+pub fn row_of<'a, 'b>(
+    words: &'a [&'static str],
+    laid: &'a [Laid<'b>],
+    status: u8,
+    text: &'a [u8],
+) -> Row<'a, 'b> {
+    Row {
         laid,
         words,
         status,
@@ -111,8 +121,7 @@ pub fn run_case<R: Abort + Alloc<A = Global>>(
         left: &[],
         failing: (&[], &[]),
         faults: (u64::from(status == FAULT), 0),
-    };
-    run_row(rt, number, &row)
+    }
 }
 
 /// Runs each case of a command that writes.

@@ -1,63 +1,55 @@
-//! The worked runs, each table in its turn.
-use crate::rows::{
-    CHECK, Case, Failing, JUDGE, SOLVE, SOLVE_AT_ONCE, Writing, run_cases, run_failing, run_writing,
-};
+//! The worked runs, table by table. A test of more than some thousand bytes of tables costs far more than two of half.
+use crate::rows::{CHECK, JUDGE, SOLVE, SOLVE_AT_ONCE, run_cases, run_failing, run_writing};
 use crate::{checking, faults, files, judging, solving, using};
 use std::test::Fail;
+
+#[test]
+fn plans_that_are_judged(rt: HostRuntime) -> Result<(), Fail> {
+    run_cases(&rt, JUDGE, judging::PLANS)?;
+    run_cases(&rt, JUDGE, judging::TWO_FLEETS)
+}
+
+#[test]
+fn balance_and_use(rt: HostRuntime) -> Result<(), Fail> {
+    run_cases(&rt, JUDGE, judging::FIRST_UNBALANCED)?;
+    run_cases(&rt, JUDGE, using::USING)
+}
+
+#[test]
+fn files_in_their_order(rt: HostRuntime) -> Result<(), Fail> {
+    run_cases(&rt, JUDGE, files::ORDER)?;
+    run_cases(&rt, JUDGE, files::NO_RECORDS)?;
+    run_cases(&rt, JUDGE, faults::ORDER)
+}
+
+#[test]
+fn proofs_that_hold(rt: HostRuntime) -> Result<(), Fail> {
+    run_cases(&rt, CHECK, checking::HOLDING)?;
+    run_cases(&rt, CHECK, checking::SOLVED)
+}
 
 const CHECK_FROM_THREE: &[&str] = &["fleetplan", "check", "d"];
 
 const CHECK_FROM_NINE: &[&str] = &["fleetplan", "check", "d", "--day-start", "09:00"];
 
-/// Runs that write nothing: the words, and what they are run on.
-const READING: &[(&[&str], &[Case])] = &[
-    (JUDGE, judging::PLANS),
-    (JUDGE, judging::TWO_FLEETS),
-    (JUDGE, judging::FIRST_UNBALANCED),
-    (JUDGE, using::USING),
-    (JUDGE, files::ORDER),
-    (JUDGE, files::NO_RECORDS),
-    (JUDGE, faults::ORDER),
-    (CHECK, checking::HOLDING),
-    (CHECK, checking::SOLVED),
-    (CHECK, checking::REFUSED_PLANS),
-    (CHECK, checking::ORDER),
-    (CHECK_FROM_THREE, checking::FROM_THREE),
-    (CHECK_FROM_NINE, checking::FROM_NINE),
-];
-
 #[test]
-fn runs_that_write_nothing(rt: HostRuntime) -> Result<(), Fail> {
-    for (words, cases) in READING {
-        run_cases(&rt, words, cases)?;
-    }
-    Ok(())
+fn proofs_in_their_order(rt: HostRuntime) -> Result<(), Fail> {
+    run_cases(&rt, CHECK, checking::REFUSED_PLANS)?;
+    run_cases(&rt, CHECK, checking::ORDER)?;
+    run_cases(&rt, CHECK_FROM_THREE, checking::FROM_THREE)?;
+    run_cases(&rt, CHECK_FROM_NINE, checking::FROM_NINE)
 }
-
-const WRITING: &[(&[&str], &[Writing])] = &[
-    (SOLVE, solving::SOLVED),
-    (SOLVE_AT_ONCE, solving::AT_ONCE),
-];
 
 #[test]
 fn runs_that_write(rt: HostRuntime) -> Result<(), Fail> {
-    for (words, cases) in WRITING {
-        run_writing(&rt, words, cases)?;
-    }
-    Ok(())
+    run_writing(&rt, SOLVE, solving::SOLVED)?;
+    run_writing(&rt, SOLVE_AT_ONCE, solving::AT_ONCE)
 }
-
-const FAILING: &[(&[&str], &[Failing])] = &[
-    (JUDGE, faults::CALLS),
-    (CHECK, checking::CALLS),
-    (SOLVE, solving::CALLS),
-    (SOLVE_AT_ONCE, solving::CALLS_AT_ONCE),
-];
 
 #[test]
 fn calls_that_fail(rt: HostRuntime) -> Result<(), Fail> {
-    for (words, cases) in FAILING {
-        run_failing(&rt, words, cases)?;
-    }
-    Ok(())
+    run_failing(&rt, JUDGE, faults::CALLS)?;
+    run_failing(&rt, CHECK, checking::CALLS)?;
+    run_failing(&rt, SOLVE, solving::CALLS)?;
+    run_failing(&rt, SOLVE_AT_ONCE, solving::CALLS_AT_ONCE)
 }

@@ -268,26 +268,47 @@ const PRUNED: Search = Search {
     checked: b"holds: cost 6000000001 bound 6000000001\n",
 };
 
-const SEARCHES: &[Search] = &[
+const ROUND_TRIPS: &[Search] = &[
     ROUND_TRIP,
     BACK_AT_ONCE,
     NO_THROUGHS,
     NO_PIVOTS,
     NO_AIRCRAFT,
-    TWO_AIRCRAFT,
-    TWO_UNSPLIT,
-    EARNING_UNSPLIT,
-    THREE_AIRCRAFT,
-    THREE_SPLIT_ONCE,
-    THREE_UNSPLIT,
-    PRUNED,
-    MADE,
 ];
 
 #[test]
-fn searches_and_their_proofs(rt: HostRuntime) -> Result<(), Fail> {
-    for (number, search) in SEARCHES.iter().enumerate() {
-        run_search(&rt, number, search)?;
+fn round_trips(rt: HostRuntime) -> Result<(), Fail> {
+    run_searches(&rt, ROUND_TRIPS)
+}
+
+const HALVES: &[Search] = &[TWO_AIRCRAFT, TWO_UNSPLIT, EARNING_UNSPLIT];
+
+#[test]
+fn half_of_each_pair(rt: HostRuntime) -> Result<(), Fail> {
+    run_searches(&rt, HALVES)
+}
+
+const THIRD_FLEET: &[Search] = &[THREE_AIRCRAFT, THREE_SPLIT_ONCE, THREE_UNSPLIT];
+
+#[test]
+fn a_third_fleet(rt: HostRuntime) -> Result<(), Fail> {
+    run_searches(&rt, THIRD_FLEET)
+}
+
+#[test]
+fn a_worth_that_reaches_the_cost(rt: HostRuntime) -> Result<(), Fail> {
+    run_searches(&rt, &[PRUNED])
+}
+
+#[test]
+fn a_made_schedule(rt: HostRuntime) -> Result<(), Fail> {
+    run_searches(&rt, &[MADE])
+}
+
+/// Runs each search.
+fn run_searches<R: Abort + Alloc<A = Global>>(rt: &R, searches: &[Search]) -> Result<(), Fail> {
+    for (number, search) in searches.iter().enumerate() {
+        run_search(rt, number, search)?;
     }
     Ok(())
 }

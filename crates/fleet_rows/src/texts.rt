@@ -6,17 +6,37 @@ use plan_desk::DeskFile::{Costs, Fleets, Legs, Plan, Proof, Stations, Throughs};
 use std::test::Fail;
 
 #[test]
-fn tables_that_are_refused(rt: HostRuntime) -> Result<(), Fail> {
-    run_texts(&rt, JUDGE, Stations, BAD_INPUT, stations::REFUSALS)?;
-    run_texts(&rt, JUDGE, Fleets, BAD_INPUT, fleets::REFUSALS)?;
-    run_texts(&rt, JUDGE, Legs, BAD_INPUT, legs::REFUSALS)?;
-    run_texts(&rt, JUDGE, Costs, BAD_INPUT, costs::REFUSALS)?;
+fn stations_that_are_refused(rt: HostRuntime) -> Result<(), Fail> {
+    run_texts(&rt, JUDGE, Stations, BAD_INPUT, stations::REFUSALS)
+}
+
+#[test]
+fn fleets_that_are_refused(rt: HostRuntime) -> Result<(), Fail> {
+    run_texts(&rt, JUDGE, Fleets, BAD_INPUT, fleets::REFUSALS)
+}
+
+#[test]
+fn legs_that_are_refused(rt: HostRuntime) -> Result<(), Fail> {
+    run_texts(&rt, JUDGE, Legs, BAD_INPUT, legs::REFUSALS)
+}
+
+#[test]
+fn costs_that_are_refused(rt: HostRuntime) -> Result<(), Fail> {
+    run_texts(&rt, JUDGE, Costs, BAD_INPUT, costs::REFUSALS)
+}
+
+#[test]
+fn throughs_that_are_refused(rt: HostRuntime) -> Result<(), Fail> {
     run_texts(&rt, JUDGE, Throughs, BAD_INPUT, throughs::REFUSALS)
 }
 
 #[test]
-fn plans_and_proofs_that_are_refused(rt: HostRuntime) -> Result<(), Fail> {
-    run_texts(&rt, JUDGE, Plan, REFUSED, plans::REFUSALS)?;
+fn plans_that_are_refused(rt: HostRuntime) -> Result<(), Fail> {
+    run_texts(&rt, JUDGE, Plan, REFUSED, plans::REFUSALS)
+}
+
+#[test]
+fn proofs_that_are_refused(rt: HostRuntime) -> Result<(), Fail> {
     run_texts(&rt, CHECK, Proof, REFUSED, proofs::REFUSALS)?;
     run_texts(&rt, CHECK, Proof, REFUSED, proofs::BROKEN)
 }

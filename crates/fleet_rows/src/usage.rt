@@ -1,5 +1,5 @@
 //! Words that ask for nothing, and the forms of words that ask for something.
-use crate::rows::{Laid, Row, run_row};
+use crate::rows::{Laid, Row, row_of, run_row};
 use crate::statuses::{DONE, FAULT, UNSETTLED, USAGE};
 use crate::tables::{LEGAL, OPEN, OPEN_PROOF};
 use plan_desk::DeskFile::Proof;
@@ -39,23 +39,11 @@ const NO_SUCH_FOLDER: Wanted = Wanted {
     left: &[],
 };
 
-/// Runs words.
-fn run_words<R: Abort + Alloc<A = Global>>(
-    rt: &R,
-    number: usize,
-    words: &[&'static str],
-    wanted: &Wanted,
-) -> Result<(), Fail> {
-    let row = Row {
-        laid: &[],
-        words,
-        status: wanted.status,
-        text: wanted.text,
+fn wanting<'a>(words: &'a [&'static str], wanted: Wanted) -> Row<'a, 'static> {
+    Row {
         left: wanted.left,
-        failing: (&[], &[]),
-        faults: (u64::from(wanted.status == FAULT), 0),
-    };
-    run_row(rt, number, &row)
+        ..row_of(words, &[], wanted.status, wanted.text)
+    }
 }
 
 const NO_COMMAND: &[&str] = &[
@@ -170,38 +158,35 @@ const FOLDERS_WITH_A_DASH: &[&str] = &[
     "fleetplan solve -- --help",
 ];
 
-const LINES: &[(&[&str], Wanted)] = &[
-    (NO_COMMAND, REFUSED_WORDS),
-    (NOTHING_TO_JUDGE, REFUSED_WORDS),
-    (NOTHING_TO_CHECK, REFUSED_WORDS),
-    (NOTHING_TO_SOLVE, REFUSED_WORDS),
-    (WORDS_THAT_JUDGE, JUDGED),
-    (WORDS_THAT_SOLVE, SOLVED),
-    (FOLDERS_WITH_A_DASH, NO_SUCH_FOLDER),
-];
-
 // Runs the words of each line, which are apart by single spaces.
 fn run_lines<R: Abort + Alloc<A = Global>>(
     rt: &R,
     lines: &[&'static str],
-    wanted: &Wanted,
+    wanted: Wanted,
 ) -> Result<(), Fail> {
     for (number, line) in lines.iter().enumerate() {
         let mut words = Vec::new(rt.alloc());
         for word in line.split(' ') {
             words.push(word)?;
         }
-        run_words(rt, number, words.as_slice(), wanted)?;
+        run_row(rt, number, &wanting(words.as_slice(), wanted))?;
     }
     Ok(())
 }
 
 #[test]
-fn lines_of_words(rt: HostRuntime) -> Result<(), Fail> {
-    for (lines, wanted) in LINES {
-        run_lines(&rt, lines, wanted)?;
-    }
-    Ok(())
+fn lines_that_ask_for_nothing(rt: HostRuntime) -> Result<(), Fail> {
+    run_lines(&rt, NO_COMMAND, REFUSED_WORDS)?;
+    run_lines(&rt, NOTHING_TO_JUDGE, REFUSED_WORDS)?;
+    run_lines(&rt, NOTHING_TO_CHECK, REFUSED_WORDS)?;
+    run_lines(&rt, NOTHING_TO_SOLVE, REFUSED_WORDS)
+}
+
+#[test]
+fn lines_that_ask_for_something(rt: HostRuntime) -> Result<(), Fail> {
+    run_lines(&rt, WORDS_THAT_JUDGE, JUDGED)?;
+    run_lines(&rt, WORDS_THAT_SOLVE, SOLVED)?;
+    run_lines(&rt, FOLDERS_WITH_A_DASH, NO_SUCH_FOLDER)
 }
 
 // Words that no line of words is, and times of a wrong form.
@@ -227,7 +212,7 @@ const WORDS: &[&[&str]] = &[
 #[test]
 fn words_that_ask_for_nothing(rt: HostRuntime) -> Result<(), Fail> {
     for (number, words) in WORDS.iter().enumerate() {
-        run_words(&rt, number, words, &REFUSED_WORDS)?;
+        run_row(&rt, number, &wanting(words, REFUSED_WORDS))?;
     }
     Ok(())
 }
