@@ -2,8 +2,6 @@
 ghost use Rattle.std.specs.Prelude.{◌<◌, MatchBool, ⊤};
 ghost use Rattle.bound_cert.specs.OfTables.{ArePricesOf, IsCauseOf, IsMixedOf, IsOfTables, IsStepOf, IsWeightOf};
 
-use worked_tables::plans::assignment;
-use worked_tables::schedules::{Files, OVERLAPPING_TRIPS, ROUND_TRIP, read};
 use bound_cert::{Cause, Mixed, PriceStep, Prices, Tree, Weight};
 use cert_check::{Checked, check};
 use entries::{Entries, NoMemory};
@@ -11,6 +9,8 @@ use fleet_model::{LoadError, Tables};
 use plan_judge::{Verdict, judge};
 use std::alloc::Global;
 use std::test::Fail;
+use worked_tables::plans::assignment;
+use worked_tables::schedules::{Files, OVERLAPPING_TRIPS, ROUND_TRIP, read};
 
 /// What the checker says of a tree over the tables of five files, with a plan or without one; nothing where the plan
 /// is not legal or the tree is not of the tables.

@@ -1,13 +1,13 @@
 //! Assignments, judged, with the aircraft that they need and use.
+use fleet_model::{LoadError, Tables};
+use plan_judge::{Verdict, judge, need, used};
+use std::alloc::Global;
+use std::test::Fail;
 use worked_tables::plans::assignment;
 use worked_tables::schedules::{
     BACK_AT_ONCE, BACK_BY_NIGHT, FOUR_AIRCRAFT, Files, OVER_THE_DAY_START, OVERLAPPING_TRIPS,
     ROUND_TRIP, THROUGH_THE_HUB, read, read_from,
 };
-use fleet_model::{LoadError, Tables};
-use plan_judge::{Verdict, judge, need, used};
-use std::alloc::Global;
-use std::test::Fail;
 
 /// The verdict on an assignment of the tables of five files.
 fn judged(alloc: Global, files: &Files, fleets: &[u32]) -> Result<Option<Verdict>, LoadError> {

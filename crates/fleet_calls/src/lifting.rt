@@ -2,7 +2,6 @@
 ghost use Rattle.std.specs.Prelude.{IfOk, IfSome};
 ghost use Rattle.bound_cert.specs.Prices.{ArePrices};
 
-use worked_tables::schedules::{ROUND_TRIP, TWO_FLEETS, read};
 use bound_cert::Weight;
 use bound_cert::worth::worth;
 use fleet_model::{Kept, Step, Tables};
@@ -12,6 +11,7 @@ use row_store::{Dense, RowStore};
 use simplex_frac::{Outcome, solve};
 use std::alloc::Global;
 use std::test::Fail;
+use worked_tables::schedules::{ROUND_TRIP, TWO_FLEETS, read};
 
 /// What the run over a subproblem's lines gives; nothing where it is spent or has grown too large.
 fn lifted(alloc: Global, tables: &Tables, kept: &Kept) -> Result<Option<Lifted>, LiftError>

@@ -1,9 +1,9 @@
 //! Times, costs and assignments.
+use fleet_model::{Assignment, Costs, Pair, PairCost, Tables, busy, laps, nights, ready};
+use std::test::Fail;
 use worked_tables::schedules::{
     BACK_BY_NIGHT, Files, OVERLAPPING_TRIPS, ROUND_TRIP, THROUGH_THE_HUB, read,
 };
-use fleet_model::{Assignment, Costs, Pair, PairCost, Tables, busy, laps, nights, ready};
-use std::test::Fail;
 
 /// When the aircraft of a leg on the first fleet is ready again.
 #[derive(Clone, Copy, Debug, PartialEq, Eq)]

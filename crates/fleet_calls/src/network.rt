@@ -1,5 +1,4 @@
 //! The time-line network of a subproblem, and its lines.
-use worked_tables::schedules::{Files, ROUND_TRIP, TWO_FLEETS, read};
 use fleet_model::{Kept, LoadError, Step, Tables};
 use lp_rows::rows;
 use node_aggregate::{node_of, nodes};
@@ -7,6 +6,7 @@ use row_store::{Rows, is_problem};
 use std::alloc::Global;
 use std::test::Fail;
 use timeline_net::{Event, events};
+use worked_tables::schedules::{Files, ROUND_TRIP, TWO_FLEETS, read};
 
 /// The events of a fleet at a station, of all pairs; nothing where there is no such fleet.
 fn events_at(

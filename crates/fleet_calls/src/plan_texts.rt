@@ -1,10 +1,10 @@
 //! Texts of plans that read, and what is written of them. Texts that are refused stand with the runs of the program.
-use worked_tables::schedules::{ROUND_TRIP, read};
 use entries::NoMemory;
 use fleet_model::Assignment;
 use plan_text::{read_plan, write_plan};
 use std::alloc::Global;
 use std::test::Fail;
+use worked_tables::schedules::{ROUND_TRIP, read};
 
 /// A text, and the fleets of both legs.
 const PLANS: &[(&[u8], &[u32])] = &[

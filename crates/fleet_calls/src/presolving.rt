@@ -1,11 +1,11 @@
 //! The pairs that presolve removes, with their reasons.
-use worked_tables::schedules::{Files, ROUND_TRIP, read};
 use bound_cert::PriceStep;
 use entries::Entries;
 use fleet_model::LoadError;
 use presolve::{Trim, trim};
 use std::alloc::Global;
 use std::test::Fail;
+use worked_tables::schedules::{Files, ROUND_TRIP, read};
 
 /// The round trip, with no aircraft.
 const NO_AIRCRAFT: Files = Files {

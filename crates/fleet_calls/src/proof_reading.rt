@@ -1,9 +1,9 @@
 //! Texts of proofs, read, and the first fault of each text that isn't one.
-use worked_tables::schedules::{ROUND_TRIP, read};
 use bound_cert::{CertError, CertFault, Proof, Tree, read_proof, write_proof};
 use fleet_model::LoadError;
 use std::alloc::Global;
 use std::test::Fail;
+use worked_tables::schedules::{ROUND_TRIP, read};
 
 /// What a text reads as over one round trip.
 fn proof_of(alloc: Global, text: &[u8]) -> Result<Result<Proof, CertError>, LoadError> {

@@ -4,12 +4,12 @@ ghost use Rattle.fleet_model.specs.Schedule.{fleets_in, legs_in, stations_in};
 ghost use Rattle.fleet_model.specs.declared.tables.Tables.{Tables};
 ghost use Rattle.bound_cert.specs.OfTables.{IsOfTables};
 
-use worked_tables::schedules::{ROUND_TRIP, read};
 use bound_cert::{Cause, PriceStep, Prices, Tree, TreeCounts, write_proof};
 use entries::{Entries, NoMemory};
 use fleet_model::LoadError;
 use std::alloc::Global;
 use std::test::Fail;
+use worked_tables::schedules::{ROUND_TRIP, read};
 
 /// The text of a proof over one round trip.
 fn written(alloc: Global, planned: bool, tree: &Tree) -> Result<Option<Vec<u8>>, LoadError>

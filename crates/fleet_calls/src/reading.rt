@@ -1,12 +1,12 @@
 //! Files that read, and what they read as.
-use worked_tables::schedules::{
-    Files, OVER_THE_DAY_START, ROUND_TRIP, THROUGH_THE_HUB, read, read_from, starting,
-};
 use fleet_model::{Pair, PairCost, Through};
 use fleet_tables::{read_costs, read_fleets};
 use sched_read::{read_legs, read_throughs};
 use station_table::read_stations;
 use std::test::Fail;
+use worked_tables::schedules::{
+    Files, OVER_THE_DAY_START, ROUND_TRIP, THROUGH_THE_HUB, read, read_from, starting,
+};
 
 #[test]
 fn a_round_trip_reads_as_its_tables(rt: HostRuntime) -> Result<(), Fail> {

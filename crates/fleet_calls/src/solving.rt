@@ -1,10 +1,12 @@
 //! Tables, solved.
-use worked_tables::schedules::{BACK_AT_ONCE, Files, OVERLAPPING_TRIPS, ROUND_TRIP, TWO_FLEETS, read};
 use bound_cert::{Cause, Tree};
 use branch_bound::{Solved, solve};
 use fleet_model::LoadError;
 use std::alloc::Global;
 use std::test::Fail;
+use worked_tables::schedules::{
+    BACK_AT_ONCE, Files, OVERLAPPING_TRIPS, ROUND_TRIP, TWO_FLEETS, read,
+};
 
 /// The round trip without any aircraft.
 const NO_AIRCRAFT: Files = Files {

@@ -1,11 +1,11 @@
 //! The pairs that a subproblem keeps, and where it ends.
 ghost use Rattle.std.specs.Prelude.{◌≡◌};
 
-use worked_tables::schedules::{Files, ROUND_TRIP, read};
 use fleet_model::limits::{MAX_FLEETS, MAX_LEGS};
 use fleet_model::{Assignment, Kept, LoadError, Step, Tables};
 use std::alloc::Global;
 use std::test::Fail;
+use worked_tables::schedules::{Files, ROUND_TRIP, read};
 
 /// Which pairs of two legs and two fleets are kept, by leg, then fleet.
 type Pairs = [[bool; 2]; 2];

@@ -2,13 +2,13 @@
 ghost use Rattle.std.specs.Prelude.{IfOk};
 ghost use Rattle.bound_cert.specs.Prices.{ArePrices};
 
-use worked_tables::schedules::{BACK_BY_NIGHT, Files, ROUND_TRIP, read};
 use bound_cert::worth::worth;
 use bound_cert::{PriceStep, Prices};
 use entries::{Entries, NoMemory};
 use fleet_model::{Kept, Step, Tables};
 use std::alloc::Global;
 use std::test::Fail;
+use worked_tables::schedules::{BACK_BY_NIGHT, Files, ROUND_TRIP, read};
 
 /// Prices of 0.
 fn zero(alloc: Global, tables: &Tables) -> Prices

@@ -1,13 +1,13 @@
 //! Minutes at which no aircraft stands at a station, and aircraft left over.
+use fleet_model::{Kept, LoadError, Tables};
+use island_cut::{spare, zero_minutes};
+use std::alloc::Global;
+use std::test::Fail;
 use worked_tables::plans::assignment;
 use worked_tables::schedules::{
     BACK_AT_ONCE, BACK_BY_NIGHT, BACK_IN_NO_TIME, FOUR_AIRCRAFT, Files, NO_LEGS, OVERLAPPING_TRIPS,
     ROUND_TRIP, THROUGH_THE_HUB, TWO_FLEETS, TWO_NIGHTS_ALOFT, read,
 };
-use fleet_model::{Kept, LoadError, Tables};
-use island_cut::{spare, zero_minutes};
-use std::alloc::Global;
-use std::test::Fail;
 
 /// The minutes at whose end none of a fleet's aircraft stands at a station; nothing where there is no such fleet.
 fn zeros(

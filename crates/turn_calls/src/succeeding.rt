@@ -4,11 +4,6 @@ ghost use Rattle.fleet_model.specs.Legal.{IsAssignment};
 ghost use Rattle.fleet_model.specs.Schedule.{fleets_in};
 ghost use Rattle.ground_turns.specs.Maps.{IsTour};
 
-use worked_tables::plans::assignment;
-use worked_tables::schedules::{
-    BACK_AT_ONCE, FOUR_AIRCRAFT, Files, MEETING_TRIPS, NO_LEGS, ROUND_TRIP, THROUGH_THE_HUB,
-    TWO_NIGHTS_ALOFT, read,
-};
 use crate::turns::{fits, holds, turns_round};
 use entries::{Entries, NoMemory};
 use fleet_model::limits::MAX_LEGS;
@@ -16,6 +11,11 @@ use fleet_model::{Assignment, Connection, LoadError, Tables};
 use lines_of_flying::{lines, nights_after, successors};
 use std::alloc::Global;
 use std::test::Fail;
+use worked_tables::plans::assignment;
+use worked_tables::schedules::{
+    BACK_AT_ONCE, FOUR_AIRCRAFT, Files, MEETING_TRIPS, NO_LEGS, ROUND_TRIP, THROUGH_THE_HUB,
+    TWO_NIGHTS_ALOFT, read,
+};
 
 /// Turns from pairs of numbers.
 fn connections(alloc: Global, pairs: &[(u32, u32)]) -> Result<Vec<Connection>, LoadError> {

@@ -3,8 +3,6 @@ ghost use Rattle.std.specs.Prelude.{◌<◌, IfSome};
 ghost use Rattle.fleet_model.specs.declared.limits.TheConstants.{MINUTES_PER_DAY};
 ghost use Rattle.fleet_model.specs.Legal.{IsLegal};
 
-use worked_tables::plans::assignment;
-use worked_tables::schedules::{BACK_AT_ONCE, Files, ROUND_TRIP, THROUGH_THE_HUB, starting};
 use best_matching::best_matching;
 use entries::Entries;
 use fleet_model::{Assignment, Connection, LoadError, Settings, Tables};
@@ -13,6 +11,8 @@ use sched_read::load;
 use std::alloc::Global;
 use std::test::Fail;
 use through_flights::{Throughs, choose};
+use worked_tables::plans::assignment;
+use worked_tables::schedules::{BACK_AT_ONCE, Files, ROUND_TRIP, THROUGH_THE_HUB, starting};
 
 /// Three landings at a hub, at 01:00, 02:00 and 04:00, and three departures, at 03:00, 05:00 and 06:00, from and to
 /// stations of their own.
