@@ -1,0 +1,11 @@
+pub mod General
+pub mod Relabelling
+pub mod Linking
+pub mod Exchanging
+pub mod Arcs
+pub mod Meeting
+pub mod Passes
+pub mod Paths
+pub mod Touring
+pub mod Parting
+pub mod Answering

@@ -1,0 +1,8 @@
+use Rattle.std.proofs.Common.{arith}
+use Rattle.cycle_join.proofs.Passes.{few_labels}
+use Rattle.cycle_join.proofs.exchanges.join_all.Goals as goal
+
+pub unreachable-requires : goal.unreachable-requires
+unreachable-requires c =
+    let few = few_labels c.args.ground.now.tables.now c.args.cycles.now.labels.items c.requires.cycles.labels in
+    omega (arith, few, c.loop.invariant.passes, c.loop-test.false)

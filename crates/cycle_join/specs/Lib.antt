@@ -1,0 +1,4 @@
+pub mod Joins
+pub mod Labels
+pub mod Meetings
+pub mod Rounds

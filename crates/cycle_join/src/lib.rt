@@ -1,0 +1,13 @@
+//! The cycles of a fitting map joined to one tour, by exchanges of departures; or which legs are apart from the others.
+#![tactic(auto)]
+
+mod cycles;
+mod exchanges;
+mod ground;
+pub mod joined;
+mod labels;
+mod parts;
+mod rounds;
+mod touching;
+
+pub use joined::{Joined, join};

@@ -1,0 +1,63 @@
+//! Which of a fleet's legs have one label.
+ghost use Rattle.std.specs.Prelude.{◌≡◌, ◌<◌, ℕ, IfOk, MatchBool, length, slice_index};
+ghost use Rattle.fleet_model.specs.Counts.{fleet_at};
+ghost use Rattle.fleet_model.specs.Schedule.{legs_in};
+ghost use Rattle.cycle_join.specs.Joins.{Flies, FliesSome, IsFirstLeg};
+ghost use Rattle.cycle_join.specs.Labels.{label_of, legs_of};
+ghost use Rattle.cycle_join.specs.Meetings.{AreCycles, HasOneLabel, HasOtherLabel, IsGround};
+
+use crate::cycles::Cycles;
+use crate::ground::Ground;
+use entries::{Entries, NoMemory};
+use std::alloc::Global;
+
+/// The fleet's leg of the least number. Takes no memory.
+pub(crate) fn first_leg(ground: &Ground<'_>) -> u32
+    requires ground { IsGround ground.now }
+    requires flies { FliesSome ground.now.tables.now ground.now.plan.now ground.now.fleet }
+    ensures { IsFirstLeg ground.now.tables.now ground.now.plan.now ground.now.fleet result }
+{
+    for leg in 0..ground.tables.leg_count() {
+        if ground.plan.fleet(leg) == ground.fleet {
+            return leg;
+        }
+    }
+    unreachable!()
+}
+
+/// Whether all legs of the fleet have the label of one of them. Takes no memory.
+pub(crate) fn has_one_label(ground: &Ground<'_>, cycles: &Cycles, first: u32) -> bool
+    requires ground { IsGround ground.now }
+    requires cycles { AreCycles ground.now cycles.now }
+    requires first { first < legs_in ground.now.tables.now }
+    ensures { MatchBool result (HasOneLabel ground.now cycles.now first) (HasOtherLabel ground.now cycles.now first) }
+{
+    for leg in 0..ground.tables.leg_count() {
+        if ground.plan.fleet(leg) == ground.fleet
+            && cycles.labels[leg as usize] != cycles.labels[first as usize]
+        {
+            return false;
+        }
+    }
+    true
+}
+
+/// The legs that have the label of one of them, by number.
+pub(crate) fn legs_of(
+    alloc: Global,
+    ground: &Ground<'_>,
+    cycles: &Cycles,
+    first: u32,
+) -> Result<Entries<u32>, NoMemory>
+    requires cycles { AreCycles ground.now cycles.now }
+    requires first { first < legs_in ground.now.tables.now }
+    ensures { IfOk result (λ legs. legs ≡ legs_of cycles.now.labels.items (label_of cycles.now.labels.items first) (legs_in ground.now.tables.now)) }
+{
+    let mut legs = Vec::new(alloc);
+    for leg in 0..ground.tables.leg_count() {
+        if cycles.labels[leg as usize] == cycles.labels[first as usize] {
+            legs.push(leg)?;
+        }
+    }
+    Ok(Entries::from_vec(legs))
+}

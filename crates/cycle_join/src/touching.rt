@@ -1,0 +1,66 @@
+//! Where two turns touch one minute at one station.
+ghost use Rattle.std.specs.Prelude.{◌≡◌, ◌<◌};
+ghost use Rattle.fleet_model.specs.Schedule.{fleets_in, legs_in};
+ghost use Rattle.ground_turns.specs.Turns.{IsTurn, minutes_round, touches};
+ghost use Rattle.cycle_join.specs.Labels.{AreLabels};
+ghost use Rattle.cycle_join.specs.Meetings.{IsGround, meets, share_minute};
+
+use crate::ground::Ground;
+use fleet_model::limits::MINUTES_PER_PERIOD;
+use fleet_model::{Connection, Tables, ready};
+
+/// Whether a turn meets another: one of a cycle with a lower label, neither of a given pair, at the same station, and
+/// both touch one minute.
+pub(crate) fn meets(
+    ground: &Ground<'_>,
+    labels: &[u32],
+    turn: Connection,
+    other: Connection,
+) -> bool
+    requires ground { IsGround ground.now }
+    requires labels { AreLabels labels.now (legs_in ground.now.tables.now) }
+    requires turn { IsTurn ground.now.tables.now ground.now.plan.now ground.now.fleet turn }
+    requires other { IsTurn ground.now.tables.now ground.now.plan.now ground.now.fleet other }
+    ensures { result ≡ meets ground.now.tables.now ground.now.fleet ground.now.pairs.now labels.now turn other }
+{
+    labels[other.arriving as usize] < labels[turn.arriving as usize]
+        && ground.free[turn.arriving as usize]
+        && ground.free[other.arriving as usize]
+        && ground.tables.leg(turn.arriving).to == ground.tables.leg(other.arriving).to
+        && share_minute(ground.tables, ground.fleet, turn, other)
+}
+
+// Whether one of two turns touches the ready minute of the other.
+fn share_minute(tables: &Tables, fleet: u32, turn: Connection, other: Connection) -> bool
+    requires fleet { fleet < fleets_in tables.now }
+    requires turn_arrives { turn.arriving < legs_in tables.now }
+    requires turn_departs { turn.departing < legs_in tables.now }
+    requires other_arrives { other.arriving < legs_in tables.now }
+    requires other_departs { other.departing < legs_in tables.now }
+    ensures { result ≡ share_minute tables.now fleet turn other }
+{
+    touches(tables, fleet, turn, ready(tables, other.arriving, fleet))
+        || touches(tables, fleet, other, ready(tables, turn.arriving, fleet))
+}
+
+// Whether a turn touches a minute.
+fn touches(tables: &Tables, fleet: u32, turn: Connection, minute: u16) -> bool
+    requires fleet { fleet < fleets_in tables.now }
+    requires arrives { turn.arriving < legs_in tables.now }
+    requires departs { turn.departing < legs_in tables.now }
+    requires minute { minute < MINUTES_PER_PERIOD }
+    ensures { result ≡ touches tables.now fleet turn minute }
+{
+    let ready = ready(tables, turn.arriving, fleet);
+    let departure = tables.leg(turn.departing).dep;
+    minutes_until(ready, minute) <= minutes_until(ready, departure)
+}
+
+// How many minutes after one minute another comes, going round.
+fn minutes_until(from: u16, to: u16) -> u16
+    requires from { from < MINUTES_PER_PERIOD }
+    requires to { to < MINUTES_PER_PERIOD }
+    ensures { result ≡ minutes_round MINUTES_PER_PERIOD from to }
+{
+    (to + MINUTES_PER_PERIOD - from) % MINUTES_PER_PERIOD
+}
