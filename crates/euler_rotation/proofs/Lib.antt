@@ -1,0 +1,17 @@
+pub mod General
+pub mod Told
+pub mod NightsSince
+pub mod Gaps
+pub mod TourTurns
+pub mod TourGone
+pub mod BareMinutes
+pub mod Turning
+pub mod Along
+pub mod InPreorder
+pub mod Extending
+pub mod Marks
+pub mod WalkSteps
+pub mod Visiting
+pub mod LeastPlaces
+pub mod FewStand
+pub mod Answering

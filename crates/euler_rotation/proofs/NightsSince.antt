@@ -1,0 +1,158 @@
+-- Nights without maintenance, one list of nights after another.
+use Rattle.std.proofs.Common.{◌≡◌, ℕ, zero, suc, ◌+◌, ◌-◌, ◌<◌, ◌≤◌, Bool, true, false, ◌&&◌, ◌||◌, nat_lt, if◌then◌else◌, List, [], ◌∷◌, ◌++◌, replicate, refl, sym, ◌∙◌, ap, arith}
+use Rattle.std.specs.List.{list_any}
+use Rattle.std.proofs.lemmas.Bool.Decides.{nat_tests}
+use Rattle.std.proofs.lemmas.List.Folds.{list_any-append}
+use Rattle.fleet_model.specs.declared.tables.Tables.{Tables}
+use Rattle.ground_turns.specs.Nights.{can_maintain}
+use Rattle.ground_turns.specs.declared.nights.Night.{Night}
+use Rattle.ground_turns.specs.declared.nights.Night.TheVariants as night
+use Rattle.euler_rotation.specs.Often.{StayBelow, nights_since, one_night_on, stays_below}
+
+and_assoc : (a b c : Bool) → (a && (b && c)) ≡ ((a && b) && c)
+and_assoc true b c = refl
+and_assoc false b c = refl
+
+pub since_append : (t : Tables) (n : ℕ) (xs ys : List Night) → nights_since t n (xs ++ ys) ≡ nights_since t (nights_since t n xs) ys
+since_append t n [] ys = refl
+since_append t n (x ∷ xs) ys = since_append t (one_night_on t n x) xs ys
+
+pub below_append : (t : Tables) (days n : ℕ) (xs ys : List Night)
+    → stays_below t days n (xs ++ ys) ≡ (stays_below t days n xs && stays_below t days (nights_since t n xs) ys)
+below_append t days n [] ys = refl
+below_append t days n (x ∷ xs) ys =
+    ap (λ b. nat_lt (one_night_on t n x) days && b) (below_append t days (one_night_on t n x) xs ys)
+    ∙ and_assoc (nat_lt (one_night_on t n x) days) (stays_below t days (one_night_on t n x) xs) (stays_below t days (nights_since t (one_night_on t n x) xs) ys)
+
+-- so many nights of one kind without maintenance
+pub since_more : (t : Tables) (x : Night) → can_maintain t x ≡ false → (n k : ℕ) → nights_since t n (replicate k x) ≡ n + k
+since_more t x none n zero = omega arith
+since_more t x none n (suc k) =
+    ap (λ b. nights_since t (if b then 0 else suc n) (replicate k x)) none ∙ since_more t x none (suc n) k ∙ moved n k
+  where
+    moved : (n k : ℕ) → suc n + k ≡ n + suc k
+    moved n k = omega arith
+
+more_first : (t : Tables) (days : ℕ) (x : Night) → can_maintain t x ≡ false → (n k : ℕ)
+    → (suc n < days → stays_below t days (suc n) (replicate k x) ≡ nat_lt (suc n + k) days) → (b : Bool) → nat_lt (suc n) days ≡ b
+    → stays_below t days n (replicate (suc k) x) ≡ nat_lt (n + suc k) days
+more_first t days x none n k rest b h = head ∙ ap (λ c. c && stays_below t days (suc n) (replicate k x)) h ∙ by_first b h
+  where
+    moved : (n k : ℕ) → suc n + k ≡ n + suc k
+    moved n k = omega arith
+
+    less : (n days : ℕ) → nat_lt (suc n) days ≡ true → suc n < days
+    less n days h = grind (arith, nat_tests)
+
+    at_last : (n k days : ℕ) → nat_lt (suc n) days ≡ false → false ≡ nat_lt (n + suc k) days
+    at_last n k days h = grind (arith, nat_tests)
+
+    head : stays_below t days n (replicate (suc k) x) ≡ (nat_lt (suc n) days && stays_below t days (suc n) (replicate k x))
+    head = ap (λ b. nat_lt (if b then 0 else suc n) days && stays_below t days (if b then 0 else suc n) (replicate k x)) none
+
+    by_first : (b : Bool) → nat_lt (suc n) days ≡ b → (b && stays_below t days (suc n) (replicate k x)) ≡ nat_lt (n + suc k) days
+    by_first true h = rest (less n days h) ∙ ap (λ m. nat_lt m days) (moved n k)
+    by_first false h = at_last n k days h
+
+pub below_more : (t : Tables) (days : ℕ) (x : Night) → can_maintain t x ≡ false → (n k : ℕ) → n < days → stays_below t days n (replicate k x) ≡ nat_lt (n + k) days
+below_more t days x none n zero lt = at_once n days lt
+  where
+    at_once : (n days : ℕ) → n < days → true ≡ nat_lt (n + 0) days
+    at_once n days lt = grind (arith, nat_tests)
+below_more t days x none n (suc k) lt = more_first t days x none n k (λ less. below_more t days x none (suc n) k less) (nat_lt (suc n) days) refl
+
+-- so many nights for maintenance
+pub since_none : (t : Tables) (x : Night) → can_maintain t x ≡ true → (n k : ℕ) → nights_since t n (replicate (suc k) x) ≡ 0
+since_none t x some n zero = ap (λ b. if b then 0 else suc n) some
+since_none t x some n (suc k) = since_none t x some (one_night_on t n x) k
+
+pub below_none : (t : Tables) (days : ℕ) (x : Night) → can_maintain t x ≡ true → (n k : ℕ) → 0 < days → stays_below t days n (replicate k x) ≡ true
+below_none t days x some n zero lt = refl
+below_none t days x some n (suc k) lt =
+    ap (λ b. nat_lt (if b then 0 else suc n) days && stays_below t days (one_night_on t n x) (replicate k x)) some
+    ∙ ap (λ b. b && stays_below t days (one_night_on t n x) (replicate k x)) (least days lt) ∙ below_none t days x some (one_night_on t n x) k lt
+  where
+    least : (days : ℕ) → 0 < days → nat_lt 0 days ≡ true
+    least days lt = grind (arith, nat_tests)
+
+-- ---- the nights of a turn: aloft, and then at a station
+abbrev nights_of_turn : ℕ → ℕ → ℕ → List Night
+nights_of_turn k m s = replicate k night.Aloft ++ replicate m (night.At s)
+
+module _ (t : Tables) (days n k m s : ℕ) (few : n < days) where
+  front : stays_below t days n (nights_of_turn k m s) ≡ (nat_lt (n + k) days && stays_below t days (n + k) (replicate m (night.At s)))
+  front =
+      below_append t days n (replicate k night.Aloft) (replicate m (night.At s))
+      ∙ ap (λ b. b && stays_below t days (nights_since t n (replicate k night.Aloft)) (replicate m (night.At s))) (below_more t days night.Aloft refl n k few)
+      ∙ ap (λ j. nat_lt (n + k) days && stays_below t days j (replicate m (night.At s))) (since_more t night.Aloft refl n k)
+
+  back : nights_since t n (nights_of_turn k m s) ≡ nights_since t (n + k) (replicate m (night.At s))
+  back = since_append t n (replicate k night.Aloft) (replicate m (night.At s)) ∙ ap (λ j. nights_since t j (replicate m (night.At s))) (since_more t night.Aloft refl n k)
+
+  pub too_many_aloft : days ≤ n + k → stays_below t days n (nights_of_turn k m s) ≡ false
+  too_many_aloft full = front ∙ ap (λ b. b && stays_below t days (n + k) (replicate m (night.At s))) (not_less (n + k) days full)
+    where
+      not_less : (a b : ℕ) → b ≤ a → nat_lt a b ≡ false
+      not_less a b le = grind (arith, nat_tests)
+
+  -- where those aloft are few enough
+  module _ (less : n + k < days) where
+    tested : nat_lt (n + k) days ≡ true
+    tested = is_less (n + k) days less
+      where
+        is_less : (a b : ℕ) → a < b → nat_lt a b ≡ true
+        is_less a b lt = grind (arith, nat_tests)
+
+    rest : stays_below t days n (nights_of_turn k m s) ≡ stays_below t days (n + k) (replicate m (night.At s))
+    rest = front ∙ ap (λ b. b && stays_below t days (n + k) (replicate m (night.At s))) tested
+
+    pub none_waited : (since : ℕ) → m ≡ 0 → since ≡ n + k → StayBelow t days n (nights_of_turn k m s) since
+    none_waited since none is = record {
+      below = rest ∙ ap (λ j. stays_below t days (n + k) (replicate j (night.At s))) none;
+      since_is = is ∙ sym (back ∙ ap (λ j. nights_since t (n + k) (replicate j (night.At s))) none);
+      few = omega arith;
+    }
+
+    pub maintained : 0 < m → can_maintain t (night.At s) ≡ true → StayBelow t days n (nights_of_turn k m s) 0
+    maintained some there = record {
+      below = rest ∙ below_none t days (night.At s) there (n + k) m (omega arith);
+      since_is = sym (back ∙ ap (λ j. nights_since t (n + k) (replicate j (night.At s))) (as_suc m some) ∙ since_none t (night.At s) there (n + k) (m - 1));
+      few = omega arith;
+    }
+      where
+        as_suc : (m : ℕ) → 0 < m → m ≡ suc (m - 1)
+        as_suc m some = omega arith
+
+    pub too_many_stood : can_maintain t (night.At s) ≡ false → days ≤ n + k + m → stays_below t days n (nights_of_turn k m s) ≡ false
+    too_many_stood there full = rest ∙ below_more t days (night.At s) there (n + k) m less ∙ not_less (n + k + m) days full
+      where
+        not_less : (a b : ℕ) → b ≤ a → nat_lt a b ≡ false
+        not_less a b le = grind (arith, nat_tests)
+
+    pub stood : (since : ℕ) → can_maintain t (night.At s) ≡ false → since < days → since ≡ n + k + m → StayBelow t days n (nights_of_turn k m s) since
+    stood since there low is = record {
+      below = rest ∙ below_more t days (night.At s) there (n + k) m less ∙ is_less (n + k + m) days (omega arith);
+      since_is = is ∙ sym (back ∙ since_more t (night.At s) there (n + k) m);
+      few = low;
+    }
+      where
+        is_less : (a b : ℕ) → a < b → nat_lt a b ≡ true
+        is_less a b lt = grind (arith, nat_tests)
+
+-- some of them are for maintenance
+repeated_any : (t : Tables) (x : Night) (m : ℕ) → list_any (can_maintain t) (replicate m x) ≡ (nat_lt 0 m && can_maintain t x)
+repeated_any t x zero = grind (arith, nat_tests)
+repeated_any t x (suc m) = ap (λ b. can_maintain t x || b) (repeated_any t x m) ∙ more (can_maintain t x) m
+  where
+    more : (b : Bool) (m : ℕ) → (b || (nat_lt 0 m && b)) ≡ (nat_lt 0 (suc m) && b)
+    more b m = grind (arith, nat_tests)
+
+pub some_in_turn : (t : Tables) (k m s : ℕ) → list_any (can_maintain t) (nights_of_turn k m s) ≡ (nat_lt 0 m && can_maintain t (night.At s))
+some_in_turn t k m s =
+    list_any-append (can_maintain t) (replicate k night.Aloft) (replicate m (night.At s))
+    ∙ ap (λ b. b || list_any (can_maintain t) (replicate m (night.At s))) (repeated_any t night.Aloft k ∙ never (nat_lt 0 k))
+    ∙ repeated_any t (night.At s) m
+  where
+    never : (b : Bool) → (b && false) ≡ false
+    never true = refl
+    never false = refl

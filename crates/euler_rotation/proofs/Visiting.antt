@@ -1,0 +1,116 @@
+-- Prefixes visited one after another.
+use Rattle.std.proofs.Common.{◌≡◌, ℕ, suc, ◌+◌, ◌-◌, ◌<◌, ◌≤◌, Bool, true, false, Option, Some, None, List, [], ◌∷◌, drop, length, length-append, slice_index, get_or, refl, sym, ◌∙◌, ap, subst, inl, inr, arith}
+use Rattle.std.proofs.lemmas.Bool.{cases_lt}
+use Rattle.std.proofs.lemmas.List.{drop_more, length-drop}
+use Rattle.sums.proofs.Tests.{none_some, unlike}
+use Rattle.euler_rotation.specs.declared.field.Field.{Field}
+use Rattle.euler_rotation.specs.declared.path.Level.{Level}
+use Rattle.euler_rotation.specs.declared.walk.Walk.{Walk}
+use Rattle.euler_rotation.specs.Answers.{AreVisited}
+use Rattle.euler_rotation.specs.Prefixes.{entry_of, numbered}
+use Rattle.euler_rotation.specs.Searches.{EndNone, EndsOrNot, HasVisited, is_kept_in}
+use Rattle.euler_rotation.specs.Walks.{Advances, IsField, StandsAt, legs_of, pending_in, preorder_in}
+use Rattle.euler_rotation.proofs.Extending.{preorder_first}
+use Rattle.euler_rotation.proofs.TourTurns.{own_leg, same_length, tour_order}
+
+-- what stands from a place on
+head_is : (xs : List (List ℕ)) (n : ℕ) (x : List ℕ) (ys : List (List ℕ)) → drop n xs ≡ x ∷ ys → (n < length xs) × (entry_of xs n ≡ x) × (drop (n + 1) xs ≡ ys)
+head_is xs n x ys e =
+    let low : n < length xs = within in
+    let both : get_or xs n [] ∷ drop (n + 1) xs ≡ x ∷ ys = sym (drop_more xs n [] low) ∙ e in
+    (low, heads _ _ _ _ both, tails _ _ _ _ both)
+  where
+    within : n < length xs
+    within = above (length xs) n (length ys) (sym (length-drop n xs) ∙ ap length e)
+      where
+        above : (m n k : ℕ) → m - n ≡ suc k → n < m
+        above m n k e = omega arith
+
+    heads : (x y : List ℕ) (xs ys : List (List ℕ)) → x ∷ xs ≡ y ∷ ys → x ≡ y
+    heads x y xs ys e = cc
+
+    tails : (x y : List ℕ) (xs ys : List (List ℕ)) → x ∷ xs ≡ y ∷ ys → xs ≡ ys
+    tails x y xs ys e = cc
+
+module _ (field : Field) where
+  pub visited_none : (walk : Walk) → StandsAt field (preorder_in field) walk → HasVisited field 0 walk
+  visited_none walk at = record { walk = at.walk; rest = at.first; none = record { each = λ k lt kept. absurd (omega arith) } }
+
+  module _ (n : ℕ) (walk : Walk) (visited : HasVisited field n walk) (ends : is_kept_in field (legs_of walk.path) → ⊥) where
+    here : (n < length (preorder_in field)) × (entry_of (preorder_in field) n ≡ legs_of walk.path) × (drop (n + 1) (preorder_in field) ≡ pending_in field walk.path 0)
+    here = head_is (preorder_in field) n (legs_of walk.path) (pending_in field walk.path 0) visited.rest
+
+    pub one_none : EndNone field (n + 1)
+    one_none = record {
+      each = λ k lt kept. elim (cases_lt k n) [
+        | inl low ↦ visited.none.each k low kept
+        | inr high ↦ ends (subst (is_kept_in field) (ap (entry_of (preorder_in field)) (same k n lt high) ∙ here.1) kept)
+      ];
+    }
+      where
+        same : (k n : ℕ) → k < n + 1 → n ≤ k → k ≡ n
+        same k n lt le = omega arith
+
+    pub visited_more : (next : Walk) → StandsAt field (pending_in field walk.path 0) next → HasVisited field (n + 1) next
+    visited_more next at = record { walk = at.walk; rest = here.2 ∙ at.first; none = one_none }
+
+    pub visited_all : pending_in field walk.path 0 ≡ [] → EndNone field (length (preorder_in field))
+    visited_all none = record { each = λ k lt kept. one_none.each k (omega (arith, lt, few (length (preorder_in field)) n (sym (length-drop (n + 1) (preorder_in field)) ∙ ap length (here.2 ∙ none)))) kept }
+      where
+        few : (m n : ℕ) → m - (n + 1) ≡ 0 → m ≤ n + 1
+        few m n e = omega arith
+
+    pub visited_enough : (visits : ℕ) (next : Walk) (prefix : List ℕ) → IsField field → visits ≡ n + 1 → prefix ≡ legs_of walk.path → StandsAt field (pending_in field walk.path 0) next
+        → AreVisited field.clean.now.asked.now.tables.now field.clean.now.asked.now.plan.now field.clean.now.asked.now.fleet field.clean.now.asked.now.pairs.now field.clean.now.asked.now.days visits field.order.now prefix
+    visited_enough visits next prefix is_field is last at = record {
+      each_leg = is_field.order;
+      more = omega (arith, is, (head_is (preorder_in field) (n + 1) (legs_of next.path) (pending_in field next.path 0) (here.2 ∙ at.first)).0);
+      none = λ k lt kept. one_none.each k (omega (arith, lt, is)) kept;
+      last = last ∙ sym here.1 ∙ sym (ap (numbered (preorder_in field)) (is ∙ as_suc n));
+    }
+      where
+        as_suc : (n : ℕ) → n + 1 ≡ suc n
+        as_suc n = omega arith
+
+  -- none is visited
+  pub visited_at_0 : (prefix : List ℕ) (visits : ℕ) → IsField field → 0 < length (preorder_in field) → visits ≡ 0 → prefix ≡ []
+      → AreVisited field.clean.now.asked.now.tables.now field.clean.now.asked.now.plan.now field.clean.now.asked.now.fleet field.clean.now.asked.now.pairs.now field.clean.now.asked.now.days visits field.order.now prefix
+  visited_at_0 prefix visits is_field some none empty = record {
+    each_leg = is_field.order;
+    more = omega arith;
+    none = λ k lt kept. absurd (omega arith);
+    last = empty ∙ sym (ap (numbered (preorder_in field)) none);
+  }
+
+  -- a prefix that hasn't all legs ends no tour
+  pub not_ended : (path : List Level) → IsField field → (length path ≡ length field.order.now → ⊥) → is_kept_in field (legs_of path) → ⊥
+  not_ended path is_field short kept = short (sym (legs_long path) ∙ same_length field.clean.now.asked.now.tables.now field.clean.now.asked.now.plan.now field.clean.now.asked.now.fleet (legs_of path) field.order.now (tour_order field.clean.now.asked.now.tables.now field.clean.now.asked.now.plan.now field.clean.now.asked.now.fleet (legs_of path) kept.tour) is_field.order)
+    where
+      legs_long : (path : List Level) → length (legs_of path) ≡ length path
+      legs_long [] = refl
+      legs_long (x ∷ outer) = length-append (legs_of outer) (x.leg ∷ []) ∙ one (length (legs_of outer)) ∙ ap suc (legs_long outer)
+        where
+          one : (n : ℕ) → n + 1 ≡ suc n
+          one n = omega arith
+
+  -- the first prefix is there
+  pub some_prefix : IsField field → 0 < length (preorder_in field)
+  some_prefix is_field = omega (
+    arith,
+    ap length (preorder_first field.clean.now.asked.now.tables.now field.clean.now.asked.now.plan.now field.clean.now.asked.now.fleet field.clean.now.asked.now.pairs.now
+        field.clean.now.asked.now.days field.order.now (record { leg = slice_index field.order.now 0; next = 0; since = 0 }) is_field.some
+        (own_leg field.clean.now.asked.now.tables.now field.clean.now.asked.now.plan.now field.clean.now.asked.now.fleet field.order.now is_field.order 0 is_field.some) refl),
+  )
+
+  -- what a test of a prefix and a step tell
+  pub not_here : (legs : List ℕ) (tour : Option (List ℕ)) → EndsOrNot field legs tour → tour ≡ None → is_kept_in field legs → ⊥
+  not_here legs None ends none kept = ends kept
+  not_here legs (Some tour) ends none kept = none_some (sym none)
+
+  pub moved_on : (old new : Walk) (moved : Bool) → Advances field old new moved → moved ≡ true → StandsAt field (pending_in field old.path 0) new
+  moved_on old new true at e = at
+  moved_on old new false at e = unlike (sym e)
+
+  pub at_end : (old new : Walk) (moved : Bool) → Advances field old new moved → moved ≡ false → pending_in field old.path 0 ≡ []
+  at_end old new true at e = unlike e
+  at_end old new false at e = at

@@ -1,0 +1,6 @@
+use Rattle.std.proofs.Common.{◌<◌, ℕ}
+use Rattle.ground_turns.specs.Maps.{HasTurn, turn_at, turns_round}
+use Rattle.euler_rotation.proofs.kept.hold.Given as goal
+
+abbrev pub invariant-loop-pair : goal.invariant-loop-pair
+invariant-loop-pair l = (k : ℕ) → k < l.pair-index → HasTurn (turns_round l.legs) (turn_at l.pairs k)

@@ -1,0 +1,9 @@
+pub mod Often
+pub mod Tours
+pub mod Prefixes
+pub mod Answers
+pub mod Asked
+pub mod Walks
+pub mod Searches
+pub mod Starts
+pub mod Laws

@@ -1,0 +1,46 @@
+-- What a search among prefixes came to.
+use Rattle.std.specs.Prelude.{◌≡◌, ℕ, ◌<◌, List, ◌∷◌, drop, length, Option, Some, None}
+use Rattle.fleet_model.specs.declared.parts.Connection.{Connection}
+use Rattle.fleet_model.specs.declared.tables.Tables.{Tables}
+use Rattle.euler_rotation.specs.declared.field.Field.{Field}
+use Rattle.euler_rotation.specs.declared.search.Found.{Found}
+use Rattle.euler_rotation.specs.declared.search.Found.TheVariants as found
+use Rattle.euler_rotation.specs.declared.walk.Walk.{Walk}
+use Rattle.euler_rotation.specs.Answers.{AreVisited}
+use Rattle.euler_rotation.specs.Prefixes.{entry_of, preorder}
+use Rattle.euler_rotation.specs.Tours.{IsKeptTour}
+use Rattle.euler_rotation.specs.Walks.{IsWalk, legs_of, pending_in, preorder_in}
+
+-- none of the first prefixes ends a kept tour
+pub record EndNoneOf (t : Tables) (a : List ℕ) (f : ℕ) (pairs : List Connection) (days : ℕ) (order : List ℕ) (n : ℕ) : Type 0 where
+  pub each : (k : ℕ) → k < n → IsKeptTour t a f pairs days (entry_of (preorder t a f pairs days order) k) → ⊥
+
+-- what is said of a search under an order
+abbrev pub IsFoundUnder : Tables → List ℕ → ℕ → List Connection → ℕ → List ℕ → ℕ → Found → Type 0
+IsFoundUnder t a f pairs days order visits (found.Tour legs) = IsKeptTour t a f pairs days legs
+IsFoundUnder t a f pairs days order visits found.Nothing = EndNoneOf t a f pairs days order (length (preorder t a f pairs days order))
+IsFoundUnder t a f pairs days order visits (found.Spent prefix) = AreVisited t a f pairs days visits order prefix
+
+-- the same of what is looked up
+abbrev pub is_kept_in : Field → List ℕ → Type 0
+is_kept_in field legs = IsKeptTour field.clean.now.asked.now.tables.now field.clean.now.asked.now.plan.now field.clean.now.asked.now.fleet
+    field.clean.now.asked.now.pairs.now field.clean.now.asked.now.days legs
+
+abbrev pub EndNone : Field → ℕ → Type 0
+EndNone field n = EndNoneOf field.clean.now.asked.now.tables.now field.clean.now.asked.now.plan.now field.clean.now.asked.now.fleet
+    field.clean.now.asked.now.pairs.now field.clean.now.asked.now.days field.order.now n
+
+abbrev pub IsFound : Field → ℕ → Found → Type 0
+IsFound field visits found = IsFoundUnder field.clean.now.asked.now.tables.now field.clean.now.asked.now.plan.now field.clean.now.asked.now.fleet
+    field.clean.now.asked.now.pairs.now field.clean.now.asked.now.days field.order.now visits found
+
+-- a prefix ends a kept tour, or doesn't
+abbrev pub EndsOrNot : Field → List ℕ → Option (List ℕ) → Type 0
+EndsOrNot field legs None = is_kept_in field legs → ⊥
+EndsOrNot field legs (Some tour) = is_kept_in field tour
+
+-- so many prefixes were visited before the one at which the walk stands
+pub record HasVisited (field : Field) (n : ℕ) (at : Walk) : Type 0 where
+  pub walk : IsWalk field at
+  pub rest : drop n (preorder_in field) ≡ legs_of at.path ∷ pending_in field at.path 0
+  pub none : EndNone field n

@@ -1,0 +1,13 @@
+//! The laws of prefixes. Each function is a law: its contract is the statement, and it does nothing.
+ghost use Rattle.euler_rotation.specs.Laws.{BelowIsOften, TestedIsClean};
+
+/// Nights stay below so many days without maintenance exactly where of any so many one after another one is for
+/// maintenance.
+pub fn below_is_often()
+    ensures { BelowIsOften }
+{}
+
+/// The test of a turn passes exactly where the turn is clean.
+pub fn tested_is_clean()
+    ensures { TestedIsClean }
+{}

@@ -1,0 +1,87 @@
+//! The nights of a fleet, and how many pass without maintenance.
+ghost use Rattle.std.specs.Prelude.{◌≡◌, ◌+◌, ◌<◌, ◌≤◌, true, false, MatchOption};
+ghost use Rattle.std.specs.List.{list_any};
+ghost use Rattle.fleet_model.specs.Schedule.{legs_in, station_of};
+ghost use Rattle.ground_turns.specs.Nights.{can_maintain, nights_in_turn};
+ghost use Rattle.ground_turns.specs.Turns.{nights_waited, station_at};
+ghost use Rattle.euler_rotation.specs.Asked.{IsAsked};
+ghost use Rattle.euler_rotation.specs.Often.{GoesOn, nights_since, stays_below};
+
+use crate::asked::Asked;
+use fleet_model::{Connection, nights};
+use lines_of_flying::nights_after;
+
+/// The nights without maintenance after those of a turn, where so many came before; nothing where they come to the days
+/// that are asked for. Takes no memory.
+pub(crate) fn since_after(asked: &Asked<'_>, since: u32, turn: Connection) -> Option<u32>
+    requires asked { IsAsked asked.now }
+    requires since { since < asked.now.days }
+    requires arriving { turn.arriving < legs_in asked.now.tables.now }
+    requires departing { turn.departing < legs_in asked.now.tables.now }
+    ensures { GoesOn asked.now.tables.now asked.now.days since (nights_in_turn asked.now.tables.now asked.now.fleet turn) result }
+{
+    let aloft = since + nights(asked.tables, turn.arriving, asked.fleet);
+    if aloft >= asked.days {
+        return None;
+    }
+    let waited = nights_waited(asked, turn);
+    if waited == 0 {
+        return Some(aloft);
+    }
+    if is_maintained(asked, turn) {
+        return Some(0);
+    }
+    if aloft + waited >= asked.days {
+        return None;
+    }
+    Some(aloft + waited)
+}
+
+// Whether a turn is at a maintenance station.
+fn is_maintained(asked: &Asked<'_>, turn: Connection) -> bool
+    requires { turn.arriving < legs_in asked.now.tables.now }
+    ensures { result ≡ (station_of asked.now.tables.now (station_at asked.now.tables.now turn)).maintenance }
+{
+    asked
+        .tables
+        .station(asked.tables.leg(turn.arriving).to)
+        .maintenance
+}
+
+/// Whether a night of a turn is at a maintenance station. Takes no memory.
+pub(crate) fn has_maintenance(asked: &Asked<'_>, turn: Connection) -> bool
+    requires asked { IsAsked asked.now }
+    requires arriving { turn.arriving < legs_in asked.now.tables.now }
+    requires departing { turn.departing < legs_in asked.now.tables.now }
+    ensures { result ≡ list_any (can_maintain asked.now.tables.now) (nights_in_turn asked.now.tables.now asked.now.fleet turn) }
+{
+    nights_waited(asked, turn) > 0 && is_maintained(asked, turn)
+}
+
+/// The nights of a turn but those at a maintenance station. Takes no memory.
+pub(crate) fn nights_without(asked: &Asked<'_>, turn: Connection) -> u32
+    requires asked { IsAsked asked.now }
+    requires arriving { turn.arriving < legs_in asked.now.tables.now }
+    requires departing { turn.departing < legs_in asked.now.tables.now }
+{
+    let aloft = nights(asked.tables, turn.arriving, asked.fleet);
+    if is_maintained(asked, turn) {
+        aloft
+    } else {
+        aloft + nights_waited(asked, turn)
+    }
+}
+
+// The day starts in the wait of a turn.
+#[tactic(auto, unfolding(lines_of_flying::specs::Lines::nights_after))]
+fn nights_waited(asked: &Asked<'_>, turn: Connection) -> u32
+    requires asked { IsAsked asked.now }
+    requires arriving { turn.arriving < legs_in asked.now.tables.now }
+    requires departing { turn.departing < legs_in asked.now.tables.now }
+    ensures value { result ≡ nights_waited asked.now.tables.now asked.now.fleet turn }
+    ensures few { result ≤ 20160 }
+{
+    let legs = [turn.arriving, turn.departing];
+    nights_after(asked.tables, asked.fleet, &legs, 0)
+        - nights(asked.tables, turn.arriving, asked.fleet)
+}

@@ -1,0 +1,138 @@
+//! The rotation of a fleet.
+ghost use Rattle.std.specs.Prelude.{◌≡◌, ◌<◌, ◌≤◌, ℕ, IfOk};
+ghost use Rattle.fleet_model.specs.Legal.{IsAssignment};
+ghost use Rattle.fleet_model.specs.Schedule.{fleets_in};
+ghost use Rattle.ground_turns.specs.Maps.{IsHeld};
+ghost use Rattle.cycle_join.specs.Joins.{FliesSome};
+ghost use Rattle.euler_rotation.specs.Answers.{AreEnough, IsComplete, IsRotation};
+ghost use Rattle.euler_rotation.specs.Asked.{IsAsked, TellClean};
+ghost use Rattle.euler_rotation.specs.Searches.{IsFoundUnder};
+ghost use Rattle.euler_rotation.specs.Tours.{IsTourWith, nights_used};
+
+use crate::asked::Asked;
+use crate::clean::{CleanTurns, clean_turns};
+use crate::field::field_of;
+use crate::improving::improved;
+use crate::kept::is_kept_tour;
+use crate::rotation::Rotation;
+use crate::search::{Found, search};
+use crate::starting::begun;
+use crate::supply::{first_leg, nights_maintained, nights_used};
+use cycle_join::{Joined, join};
+use entries::{Entries, NoMemory};
+use fleet_model::{Assignment, Connection, Tables};
+use std::alloc::Global;
+
+/// What becomes of the rotation of a fleet whose tour is to hold given pairs: a tour of all its legs in which any so many
+/// days one after another have a night at a maintenance station, or the cause why there is none. At most so many
+/// prefixes of such tours are visited.
+///
+/// The cycles of a fitting map are joined to one tour (Gopalan and Talluri 1998). Where that isn't kept, parts of it change
+/// places, and at last all beginnings of kept tours are visited in a fixed order.
+pub fn rotate(
+    alloc: Global,
+    tables: &Tables,
+    plan: &Assignment,
+    fleet: u32,
+    pairs: &[Connection],
+    days: u32,
+    visits: u32,
+) -> Result<Rotation, NoMemory>
+    requires plan { IsAssignment tables.now plan.now }
+    requires fleet { fleet < fleets_in tables.now }
+    requires held { IsHeld tables.now plan.now fleet pairs.now }
+    requires some_days { 0 < days }
+    requires few_days { days ≤ 30 }
+    ensures rotation { IfOk result (IsRotation tables.now plan.now fleet pairs.now days visits) }
+    ensures complete { IfOk result (IsComplete tables.now plan.now fleet pairs.now days visits) }
+{
+    let asked = Asked {
+        tables,
+        plan,
+        fleet,
+        pairs,
+        days,
+    };
+    Ok(rotation_of(alloc, &asked, visits)?)
+}
+
+// The rotation that is asked for.
+fn rotation_of(alloc: Global, asked: &Asked<'_>, visits: u32) -> Result<Rotation, NoMemory>
+    requires asked { IsAsked asked.now }
+    requires held { IsHeld asked.now.tables.now asked.now.plan.now asked.now.fleet asked.now.pairs.now }
+    ensures { IfOk result (IsRotation asked.now.tables.now asked.now.plan.now asked.now.fleet asked.now.pairs.now asked.now.days visits) }
+{
+    match first_leg(asked) {
+        None => Ok(Rotation::Unused),
+        Some(_leg) => flown(alloc, asked, visits),
+    }
+}
+
+// The rotation of a fleet that has a leg.
+fn flown(alloc: Global, asked: &Asked<'_>, visits: u32) -> Result<Rotation, NoMemory>
+    requires asked { IsAsked asked.now }
+    requires held { IsHeld asked.now.tables.now asked.now.plan.now asked.now.fleet asked.now.pairs.now }
+    requires flies { FliesSome asked.now.tables.now asked.now.plan.now asked.now.fleet }
+    ensures { IfOk result (IsRotation asked.now.tables.now asked.now.plan.now asked.now.fleet asked.now.pairs.now asked.now.days visits) }
+{
+    let have = nights_maintained(asked);
+    let used = nights_used(asked);
+    if have * asked.days < used {
+        return Ok(Rotation::TooFewNights { have, used });
+    }
+    match join(alloc, asked.tables, asked.plan, asked.fleet, asked.pairs)? {
+        Joined::Tour(legs) => Ok(settled(alloc, asked, legs, used, visits)?),
+        Joined::Apart(legs) => Ok(Rotation::Apart { legs }),
+    }
+}
+
+// The rotation where some tour holds the pairs: this one.
+fn settled(
+    alloc: Global,
+    asked: &Asked<'_>,
+    joined: Entries<u32>,
+    used: u32,
+    visits: u32,
+) -> Result<Rotation, NoMemory>
+    requires asked { IsAsked asked.now }
+    requires nights { AreEnough asked.now.tables.now asked.now.plan.now asked.now.fleet asked.now.days }
+    requires used { used ≡ nights_used asked.now.tables.now asked.now.plan.now asked.now.fleet }
+    requires tour { IsTourWith asked.now.tables.now asked.now.plan.now asked.now.fleet asked.now.pairs.now joined }
+    ensures { IfOk result (IsRotation asked.now.tables.now asked.now.plan.now asked.now.fleet asked.now.pairs.now asked.now.days visits) }
+{
+    let clean = clean_turns(alloc, asked)?;
+    if is_kept_tour(&clean, joined.as_slice()) {
+        return Ok(Rotation::Tour(begun(alloc, asked, joined.as_slice())?));
+    }
+    if asked.days >= used {
+        return Ok(Rotation::None);
+    }
+    match found(alloc, &clean, joined.as_slice(), visits)? {
+        Found::Tour(legs) => Ok(Rotation::Tour(begun(alloc, asked, legs.as_slice())?)),
+        Found::Nothing => Ok(Rotation::None),
+        Found::Spent(prefix) => Ok(Rotation::Spent {
+            order: joined,
+            prefix,
+        }),
+    }
+}
+
+// What is found where a tour isn't kept: the tour improved, or what a search under its order finds.
+fn found(
+    alloc: Global,
+    clean: &CleanTurns<'_>,
+    tour: &[u32],
+    visits: u32,
+) -> Result<Found, NoMemory>
+    requires clean { TellClean clean.now }
+    requires tour { IsTourWith clean.now.asked.now.tables.now clean.now.asked.now.plan.now clean.now.asked.now.fleet clean.now.asked.now.pairs.now tour.now }
+    ensures { IfOk result (IsFoundUnder clean.now.asked.now.tables.now clean.now.asked.now.plan.now clean.now.asked.now.fleet
+        clean.now.asked.now.pairs.now clean.now.asked.now.days tour.now visits) }
+{
+    let legs = improved(alloc, clean, tour)?;
+    if is_kept_tour(clean, &legs) {
+        return Ok(Found::Tour(Entries::from_vec(legs)));
+    }
+    let field = field_of(alloc, clean, tour)?;
+    Ok(search(alloc, &field, visits)?)
+}

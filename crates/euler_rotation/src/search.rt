@@ -1,0 +1,65 @@
+//! The search for a kept tour among all prefixes.
+ghost use Rattle.std.specs.Prelude.{IfOk};
+ghost use Rattle.euler_rotation.specs.Searches.{EndsOrNot, IsFound};
+ghost use Rattle.euler_rotation.specs.Walks.{IsField, legs_of};
+
+use crate::field::Field;
+use crate::kept::is_kept_tour;
+use crate::walk::{Walk, advance, begin};
+use entries::{Entries, NoMemory};
+use std::alloc::Global;
+
+/// What a search came to.
+#[derive(Drop)]
+pub(crate) enum Found {
+    /// A kept tour.
+    Tour(Entries<u32>),
+    /// All prefixes were visited, and none ends a kept tour.
+    Nothing,
+    /// So many prefixes were visited in vain, there are more, and this is the last of them.
+    Spent(Entries<u32>),
+}
+
+/// Visits so many prefixes at most, each before those that extend it, until one ends a kept tour.
+pub(crate) fn search(alloc: Global, field: &Field<'_>, visits: u32) -> Result<Found, NoMemory>
+    requires { IsField field.now }
+    ensures { IfOk result (IsFound field.now visits) }
+{
+    if visits == 0 {
+        return Ok(Found::Spent(Entries::from_vec(Vec::new(alloc))));
+    }
+    let mut walk = begin(alloc, field)?;
+    for visited in 0..visits - 1 {
+        if let Some(tour) = ended(alloc, field, &walk)? {
+            return Ok(Found::Tour(tour));
+        }
+        if !advance(field, &mut walk)? {
+            return Ok(Found::Nothing);
+        }
+    }
+    if let Some(tour) = ended(alloc, field, &walk)? {
+        return Ok(Found::Tour(tour));
+    }
+    let prefix = walk.path.legs(alloc)?;
+    if advance(field, &mut walk)? {
+        Ok(Found::Spent(prefix))
+    } else {
+        Ok(Found::Nothing)
+    }
+}
+
+// The kept tour that a prefix ends.
+fn ended(alloc: Global, field: &Field<'_>, walk: &Walk) -> Result<Option<Entries<u32>>, NoMemory>
+    requires { IsField field.now }
+    ensures { IfOk result (EndsOrNot field.now (legs_of walk.now.path)) }
+{
+    if walk.path.len() != field.order.len() {
+        return Ok(None);
+    }
+    let legs = walk.path.legs(alloc)?;
+    if is_kept_tour(field.clean, legs.as_slice()) {
+        Ok(Some(legs))
+    } else {
+        Ok(None)
+    }
+}

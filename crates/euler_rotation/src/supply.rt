@@ -1,0 +1,98 @@
+//! The nights of a fleet, and those at maintenance stations.
+ghost use Rattle.std.specs.Prelude.{◌≡◌, ◌*◌, ◌<◌, ◌≤◌, MatchOption};
+ghost use Rattle.fleet_model.specs.Counts.{weights_of};
+ghost use Rattle.fleet_model.specs.Schedule.{stations_in};
+ghost use Rattle.fleet_model.specs.Use.{need_of, stand_of};
+ghost use Rattle.fleet_model.specs.declared.limits.TheConstants.{MINUTES_PER_PERIOD};
+ghost use Rattle.ground_turns.specs.Laws.{maintained_at, stands_by_day};
+ghost use Rattle.ground_turns.specs.Turns.{days_in};
+ghost use Rattle.cycle_join.specs.Joins.{Flies};
+ghost use Rattle.euler_rotation.specs.Answers.{IsUnused};
+ghost use Rattle.euler_rotation.specs.Asked.{IsAsked};
+ghost use Rattle.euler_rotation.specs.Tours.{nights_maintained, nights_used};
+
+use crate::asked::Asked;
+use fleet_model::limits::{MINUTES_PER_DAY, MINUTES_PER_PERIOD};
+use stand_counts::{Planned, need, stand, used};
+
+/// A leg of the fleet. Takes no memory.
+pub(crate) fn first_leg(asked: &Asked<'_>) -> Option<u32>
+    requires { IsAsked asked.now }
+    ensures { MatchOption result (IsUnused asked.now.tables.now asked.now.plan.now asked.now.fleet) (Flies asked.now.tables.now asked.now.plan.now asked.now.fleet) }
+{
+    for leg in 0..asked.tables.leg_count() {
+        if asked.plan.fleet(leg) == asked.fleet {
+            return Some(leg);
+        }
+    }
+    None
+}
+
+/// The nights of each fitting map. Takes no memory.
+#[tactic(auto, using(stand_counts::proofs::FleetCounts::use_of_fleet))]
+pub(crate) fn nights_used(asked: &Asked<'_>) -> u32
+    requires { IsAsked asked.now }
+    ensures { result ≡ nights_used asked.now.tables.now asked.now.plan.now asked.now.fleet }
+{
+    let flights = Planned {
+        plan: asked.plan,
+        fleet: asked.fleet,
+    };
+    used(asked.tables, &flights) as u32 * u32::from(MINUTES_PER_PERIOD / MINUTES_PER_DAY)
+}
+
+/// The nights of each fitting map at maintenance stations: what stands there at the ends of the period's days. Takes no
+/// memory.
+pub(crate) fn nights_maintained(asked: &Asked<'_>) -> u32
+    requires { IsAsked asked.now }
+    ensures value { result ≡ nights_maintained asked.now.tables.now asked.now.plan.now asked.now.fleet }
+    ensures few { result ≤ 400000 * days_in asked.now.tables.now }
+{
+    let mut nights = 0;
+    for station in 0..asked.tables.station_count() {
+        nights += maintained_at(asked, station);
+    }
+    nights
+}
+
+// Those at a station.
+fn maintained_at(asked: &Asked<'_>, station: u32) -> u32
+    requires asked { IsAsked asked.now }
+    requires station { station < stations_in asked.now.tables.now }
+    ensures value { result ≡ maintained_at asked.now.tables.now asked.now.plan.now asked.now.fleet station }
+    ensures few { result ≤ 2000 * days_in asked.now.tables.now }
+{
+    if asked.tables.station(station).maintenance {
+        stands_by_day(asked, station)
+    } else {
+        0
+    }
+}
+
+// What stands at a station at the ends of the period's days, added up.
+fn stands_by_day(asked: &Asked<'_>, station: u32) -> u32
+    requires { IsAsked asked.now }
+    ensures value { result ≡ stands_by_day asked.now.tables.now asked.now.plan.now asked.now.fleet station }
+    ensures few { result ≤ 2000 * days_in asked.now.tables.now }
+{
+    let mut stands = 0;
+    for day in 0..MINUTES_PER_PERIOD / MINUTES_PER_DAY {
+        stands += stand_at(asked, station, MINUTES_PER_DAY * (day + 1) - 1);
+    }
+    stands
+}
+
+// What stands at a station at the end of a minute.
+#[tactic(auto, using(stand_counts::proofs::FleetCounts::stand_of_fleet, crate::proofs::FewStand::stand_few))]
+fn stand_at(asked: &Asked<'_>, station: u32, minute: u16) -> u32
+    requires { IsAsked asked.now }
+    ensures value { result ≡ stand_of asked.now.tables.now (weights_of asked.now.plan.now) asked.now.fleet station minute }
+    ensures few { result ≤ 2000 }
+{
+    let flights = Planned {
+        plan: asked.plan,
+        fleet: asked.fleet,
+    };
+    let need = need(asked.tables, &flights, station);
+    stand(asked.tables, &flights, station, minute, need) as u32
+}
