@@ -3,6 +3,10 @@
 #![tactic(auto)]
 
 #[cfg(test)]
+mod joins;
+#[cfg(test)]
+mod rotations;
+#[cfg(test)]
 mod segments;
 #[cfg(test)]
 mod standing;

@@ -18,7 +18,10 @@ use worked_tables::schedules::{
 };
 
 /// Turns from pairs of numbers.
-fn connections(alloc: Global, pairs: &[(u32, u32)]) -> Result<Vec<Connection>, LoadError> {
+pub(crate) fn connections(
+    alloc: Global,
+    pairs: &[(u32, u32)],
+) -> Result<Vec<Connection>, LoadError> {
     let mut turns = Vec::new(alloc);
     for (arriving, departing) in pairs {
         turns.push(Connection {
@@ -68,15 +71,15 @@ fn witnessed(
 
 /// A fleet by an assignment, and pairs that are given.
 #[derive(Clone, Copy)]
-struct Row {
-    files: Files,
-    fleets: &'static [u32],
-    fleet: u32,
-    pairs: &'static [(u32, u32)],
+pub(crate) struct Row {
+    pub files: Files,
+    pub fleets: &'static [u32],
+    pub fleet: u32,
+    pub pairs: &'static [(u32, u32)],
 }
 
 /// All legs on the first fleet.
-fn flown(files: Files, fleets: &'static [u32], pairs: &'static [(u32, u32)]) -> Row {
+pub(crate) fn flown(files: Files, fleets: &'static [u32], pairs: &'static [(u32, u32)]) -> Row {
     Row {
         files,
         fleets,

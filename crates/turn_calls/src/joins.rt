@@ -1,0 +1,186 @@
+//! Cycles joined to a tour, or a part of a fleet's legs that is apart.
+ghost use Rattle.std.specs.Prelude.{◌<◌};
+ghost use Rattle.fleet_model.specs.Legal.{IsAssignment};
+ghost use Rattle.fleet_model.specs.Schedule.{fleets_in};
+
+use crate::succeeding::{Row, connections, flown};
+use crate::turns::{fits, holds};
+use cycle_join::{Joined, join};
+use entries::{Entries, NoMemory};
+use fleet_model::limits::MAX_LEGS;
+use fleet_model::{Assignment, Connection, LoadError, Tables};
+use std::alloc::Global;
+use std::test::Fail;
+use worked_tables::plans::assignment;
+use worked_tables::schedules::{
+    FOUR_AIRCRAFT, Files, MEETING_TRIPS, OVERLAPPING_TRIPS, ROUND_TRIP, THROUGH_THE_HUB, read,
+};
+
+/// Two round trips between four stations.
+pub const TRIPS_APART: Files = Files {
+    stations: b"code,extra,maintenance\nAAA,0,yes\nBBB,0,no\nCCC,0,no\nDDD,0,no\n",
+    fleets: b"fleet,aircraft,turn\nF1,2,30\n",
+    legs: b"flight,from,dep,to,arr\nY1,AAA,08:00,BBB,09:00\nY2,BBB,10:00,AAA,11:00\nY3,CCC,08:00,DDD,09:00\nY4,DDD,10:00,CCC,11:00\n",
+    costs: b"flight,fleet,cost\nY1,F1,10\nY2,F1,10\nY3,F1,10\nY4,F1,10\n",
+    throughs: b"in,out,value\n",
+};
+
+/// Two round trips from a hub. One aircraft departs there in the minute in which the other is ready, and they meet in no
+/// other minute.
+const TRIPS_OF_ONE_MINUTE: Files = Files {
+    stations: b"code,extra,maintenance\nHUB,0,yes\nSAA,0,no\nSBB,0,no\n",
+    fleets: b"fleet,aircraft,turn\nF1,2,0\n",
+    legs: b"flight,from,dep,to,arr\nA1,HUB,12:00,SAA,13:00\nA2,SAA,14:00,HUB,08:00\nB1,HUB,16:00,SBB,17:00\nB2,SBB,18:00,HUB,12:00\n",
+    costs: b"flight,fleet,cost\nA1,F1,10\nA2,F1,10\nB1,F1,10\nB2,F1,10\n",
+    throughs: b"in,out,value\n",
+};
+
+/// What the cycles of a fleet come to; nothing where the witness is no fitting map of its legs that holds the pairs.
+fn joined_of(
+    alloc: Global,
+    row: &Row,
+    witness: &[(u32, u32)],
+) -> Result<Option<Joined>, LoadError> {
+    let tables = read(alloc, &row.files)?;
+    let pairs = connections(alloc, row.pairs)?;
+    let witness = connections(alloc, witness)?;
+    let Some(plan) = assignment(&tables, row.fleets) else {
+        return Ok(None);
+    };
+    if row.fleet >= tables.fleet_count() {
+        return Ok(None);
+    }
+    Ok(witnessed(alloc, &tables, &plan, row.fleet, &pairs, &witness)?)
+}
+
+/// What the cycles of a fleet come to, where the witness is a fitting map that holds the pairs.
+#[tactic(auto, using(crate::proofs::Flying::flies_some))]
+fn witnessed(
+    alloc: Global,
+    tables: &Tables,
+    plan: &Assignment,
+    fleet: u32,
+    pairs: &[Connection],
+    witness: &[Connection],
+) -> Result<Option<Joined>, NoMemory>
+    requires plan { IsAssignment tables.now plan.now }
+    requires fleet { fleet < fleets_in tables.now }
+{
+    if witness.is_empty()
+        || witness.len() > MAX_LEGS
+        || !fits(tables, plan, fleet, witness)
+        || !holds(witness, pairs)
+    {
+        return Ok(None);
+    }
+    Ok(Some(join(alloc, tables, plan, fleet, pairs)?))
+}
+
+/// The tour, where the answer is one.
+fn tour_of(joined: Option<Joined>) -> Option<Entries<u32>> {
+    match joined {
+        Some(Joined::Tour(legs)) => Some(legs),
+        _ => None,
+    }
+}
+
+/// The legs that are apart, where the answer is that.
+fn apart_of(joined: Option<Joined>) -> Option<Entries<u32>> {
+    match joined {
+        Some(Joined::Apart(legs)) => Some(legs),
+        _ => None,
+    }
+}
+
+#[test]
+fn cycles_that_touch_become_the_only_tour(rt: HostRuntime) -> Result<(), Fail> {
+    let second_fleet = Row {
+        fleet: 1,
+        ..flown(OVERLAPPING_TRIPS, &[0, 0, 1, 1, 2, 2], &[])
+    };
+    let cases: [(Row, &[(u32, u32)], &[u32]); 9] = [
+        (flown(ROUND_TRIP, &[0, 0], &[]), &[(0, 1), (1, 0)], &[0, 1]),
+        (
+            flown(THROUGH_THE_HUB, &[0, 0, 0, 0], &[]),
+            &[(0, 2), (1, 3), (2, 0), (3, 1)],
+            &[0, 3, 1, 2],
+        ),
+        (
+            flown(THROUGH_THE_HUB, &[0, 0, 0, 0], &[(1, 2)]),
+            &[(0, 3), (1, 2), (2, 0), (3, 1)],
+            &[0, 3, 1, 2],
+        ),
+        (
+            flown(FOUR_AIRCRAFT, &[0, 0, 0, 0, 0, 0], &[]),
+            &[(0, 1), (1, 0), (2, 3), (3, 4), (4, 5), (5, 2)],
+            &[0, 1, 2, 3, 4, 5],
+        ),
+        (
+            flown(OVERLAPPING_TRIPS, &[0, 0, 0, 0, 0, 0], &[]),
+            &[(0, 1), (1, 4), (2, 3), (3, 0), (4, 5), (5, 2)],
+            &[0, 1, 4, 5, 2, 3],
+        ),
+        (
+            flown(MEETING_TRIPS, &[0, 0, 0, 0, 0, 0], &[]),
+            &[(0, 3), (1, 4), (2, 5), (3, 0), (4, 1), (5, 2)],
+            &[0, 5, 2, 4, 1, 3],
+        ),
+        (
+            flown(MEETING_TRIPS, &[0, 0, 0, 0, 0, 0], &[(1, 3)]),
+            &[(0, 4), (1, 3), (2, 5), (3, 0), (4, 1), (5, 2)],
+            &[0, 5, 2, 4, 1, 3],
+        ),
+        (second_fleet, &[(2, 3), (3, 2)], &[2, 3]),
+        (
+            flown(TRIPS_OF_ONE_MINUTE, &[0, 0, 0, 0], &[]),
+            &[(0, 1), (1, 0), (2, 3), (3, 2)],
+            &[0, 1, 2, 3],
+        ),
+    ];
+    for (row, witness, want) in cases {
+        let tour = tour_of(joined_of(rt.alloc(), &row, witness)?).ok_or("no tour")?;
+        assert_eq!(rt; tour.as_slice(), want);
+    }
+    Ok(())
+}
+
+#[test]
+fn cycles_that_never_touch_are_apart(rt: HostRuntime) -> Result<(), Fail> {
+    let cases: [(Row, &[(u32, u32)], &[u32]); 6] = [
+        (
+            flown(TRIPS_APART, &[0, 0, 0, 0], &[]),
+            &[(0, 1), (1, 0), (2, 3), (3, 2)],
+            &[0, 1],
+        ),
+        (
+            flown(THROUGH_THE_HUB, &[0, 0, 0, 0], &[(0, 2), (1, 3)]),
+            &[(0, 2), (1, 3), (2, 0), (3, 1)],
+            &[0, 2],
+        ),
+        (
+            flown(FOUR_AIRCRAFT, &[0, 0, 0, 0, 0, 0], &[(1, 0)]),
+            &[(0, 1), (1, 0), (2, 3), (3, 4), (4, 5), (5, 2)],
+            &[0, 1],
+        ),
+        (
+            flown(MEETING_TRIPS, &[0, 0, 0, 0, 0, 0], &[(0, 3)]),
+            &[(0, 3), (1, 4), (2, 5), (3, 0), (4, 1), (5, 2)],
+            &[0, 3],
+        ),
+        (
+            flown(MEETING_TRIPS, &[0, 0, 0, 0, 0, 0], &[(0, 4)]),
+            &[(0, 4), (1, 3), (2, 5), (3, 0), (4, 1), (5, 2)],
+            &[0, 1, 3, 4],
+        ),
+        (
+            flown(TRIPS_OF_ONE_MINUTE, &[0, 0, 0, 0], &[(1, 0)]),
+            &[(0, 1), (1, 0), (2, 3), (3, 2)],
+            &[0, 1],
+        ),
+    ];
+    for (row, witness, want) in cases {
+        let legs = apart_of(joined_of(rt.alloc(), &row, witness)?).ok_or("not apart")?;
+        assert_eq!(rt; legs.as_slice(), want);
+    }
+    Ok(())
+}
