@@ -1,0 +1,16 @@
+pub mod AllOnFirst
+pub mod DrawnTrips
+pub mod FieldForms
+pub mod General
+pub mod Lines
+pub mod MadeEntries
+pub mod MadeRead
+pub mod MadeSchedule
+pub mod MadeTexts
+pub mod NamesDiffer
+pub mod NumberedNames
+pub mod PlainRows
+pub mod RecordsRead
+pub mod RoundTurns
+pub mod TextLengths
+pub mod TripLists

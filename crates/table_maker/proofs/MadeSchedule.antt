@@ -1,0 +1,123 @@
+-- The tables that the texts of round trips read as.
+use Rattle.std.proofs.Common.{◌≡◌, ℕ, ◌+◌, ◌-◌, ◌*◌, ◌<◌, ◌≤◌, List, length, map, refl, sym, subst, arith}
+use Rattle.std.proofs.lemmas.List.{length-map}
+use Rattle.csv_fields.specs.Record.{records_of}
+use Rattle.fleet_model.specs.Limits.{AreCosts, AreLegs, AreSettings, AreThroughs}
+use Rattle.fleet_model.specs.declared.parts.Fleet.{Fleet}
+use Rattle.fleet_model.specs.declared.parts.Leg.{Leg}
+use Rattle.fleet_model.specs.declared.parts.PairCost.{PairCost}
+use Rattle.fleet_model.specs.declared.parts.Settings.{Settings}
+use Rattle.fleet_model.specs.declared.parts.Station.{Station}
+use Rattle.fleet_model.specs.declared.parts.Through.{Through}
+use Rattle.fleet_model.specs.declared.tables.Tables.{Tables}
+use Rattle.fleet_tables.specs.Costs.{CostsRead}
+use Rattle.fleet_tables.specs.Fleets.{fleet_name_of}
+use Rattle.fleet_tables.proofs.CostsFit.{costs_keep}
+use Rattle.fleet_tables.proofs.FleetsFit.{fleets_keep}
+use Rattle.sched_read.specs.Legs.{LegsRead, flight_of}
+use Rattle.sched_read.specs.Reading.{Reads, TableBytes}
+use Rattle.sched_read.specs.Throughs.{ThroughsRead}
+use Rattle.sched_read.proofs.LegsFit.{legs_keep}
+use Rattle.sched_read.proofs.ThroughsFit.{throughs_keep}
+use Rattle.station_table.specs.Stations.{code_of}
+use Rattle.station_table.proofs.StationsFit.{stations_keep}
+use Rattle.sums.specs.Places.{list_below}
+use Rattle.table_maker.specs.Fields.{flight_name}
+use Rattle.table_maker.specs.Laws.{bytes_of}
+use Rattle.table_maker.specs.Made.{tables_of}
+use Rattle.table_maker.specs.Trips.{spokes_for, trip_of}
+use Rattle.table_maker.specs.declared.trips.RoundTrip.{RoundTrip}
+use Rattle.table_maker.proofs.MadeEntries.{AreTrips, IsRoundTrip, cost_entry, fleet_entry, leg_entry, station_entry, through_entry}
+use Rattle.table_maker.proofs.MadeTexts.{costs_back, fleets_back, legs_back, stations_back, throughs_back}
+use Rattle.table_maker.proofs.General.{map-list_below}
+
+abbrev pub stations_for : List RoundTrip → ℕ
+stations_for trips = 1 + spokes_for (length trips)
+
+abbrev pub station_list : List RoundTrip → List Station
+station_list trips = list_below station_entry (stations_for trips)
+
+abbrev pub fleet_list : List RoundTrip → List Fleet
+fleet_list trips = list_below (fleet_entry (length trips)) 2
+
+abbrev pub leg_list : Settings → List RoundTrip → List Leg
+leg_list settings trips = list_below (leg_entry settings trips) (2 * length trips)
+
+abbrev pub cost_list : List RoundTrip → List PairCost
+cost_list trips = list_below (cost_entry trips) (4 * length trips)
+
+abbrev pub through_list : List RoundTrip → List Through
+through_list trips = list_below (through_entry trips) (length trips - 1)
+
+abbrev bytes : List RoundTrip → TableBytes
+bytes trips = bytes_of (tables_of trips)
+
+module _ (trips : List RoundTrip) (settings : Settings) (are : AreTrips trips) where
+  each_fits : (i : ℕ) → i < length trips → IsRoundTrip (stations_for trips - 1) (trip_of trips i)
+  each_fits i within = subst (λ spokes. IsRoundTrip spokes (trip_of trips i)) (omega arith) (are.each i within)
+
+  pub stations_few : stations_for trips ≤ 200
+  stations_few = omega (arith, are.few)
+
+  pub legs_read : LegsRead (map code_of (station_list trips)) settings (records_of (bytes trips).legs) (leg_list settings trips)
+  unfolding tables_of
+  legs_read =
+      subst (λ names. LegsRead names settings (records_of (bytes trips).legs) (leg_list settings trips)) (sym (map-list_below code_of station_entry (stations_for trips)))
+      (legs_back trips (length trips) (stations_for trips) are.few stations_few each_fits settings)
+
+  flights_are : map flight_of (leg_list settings trips) ≡ list_below flight_name (2 * length trips)
+  flights_are = map-list_below flight_of (leg_entry settings trips) (2 * length trips)
+
+  pub costs_read : CostsRead (map flight_of (leg_list settings trips)) (map fleet_name_of (fleet_list trips)) (records_of (bytes trips).costs) (cost_list trips)
+  unfolding tables_of
+  costs_read =
+      subst (λ flights. CostsRead flights (map fleet_name_of (fleet_list trips)) (records_of (bytes trips).costs) (cost_list trips)) (sym flights_are)
+      (costs_back trips (length trips) (stations_for trips) are.few stations_few each_fits)
+
+  pub throughs_read : ThroughsRead (map flight_of (leg_list settings trips)) (bytes trips).throughs (through_list trips)
+  unfolding tables_of
+  throughs_read =
+      subst (λ flights. ThroughsRead flights (bytes trips).throughs (through_list trips)) (sym flights_are)
+      (throughs_back trips (length trips) (stations_for trips) are.few stations_few each_fits)
+
+  module _ (settings_fit : AreSettings settings) where
+    pub legs_fit : AreLegs (length (station_list trips)) (leg_list settings trips)
+    legs_fit = subst (λ n. AreLegs n (leg_list settings trips)) (length-map (station_list trips) code_of)
+        (legs_keep (map code_of (station_list trips)) settings (records_of (bytes trips).legs) (leg_list settings trips) legs_read)
+
+    pub costs_fit : AreCosts (length (leg_list settings trips)) (length (fleet_list trips)) (cost_list trips)
+    costs_fit = subst (λ n. AreCosts n (length (fleet_list trips)) (cost_list trips)) (length-map (leg_list settings trips) flight_of)
+        (costs_keep (map flight_of (leg_list settings trips)) (map fleet_name_of (fleet_list trips)) (records_of (bytes trips).costs) (cost_list trips) costs_read)
+
+    pub throughs_fit : AreThroughs (length (leg_list settings trips)) (through_list trips)
+    throughs_fit = subst (λ n. AreThroughs n (through_list trips)) (length-map (leg_list settings trips) flight_of)
+        (throughs_keep (map flight_of (leg_list settings trips)) (bytes trips).throughs (through_list trips) throughs_read)
+
+    abbrev pub made_schedule : Tables
+    made_schedule = record {
+      stations = station_list trips;
+      fleets = fleet_list trips;
+      legs = leg_list settings trips;
+      costs = cost_list trips;
+      throughs = through_list trips;
+      settings = settings;
+      in_range = record {
+        stations_fit = stations_keep _ (station_list trips) (stations_back (stations_for trips) stations_few);
+        fleets_fit = fleets_keep _ (fleet_list trips) (fleets_back (length trips) are.few);
+        legs_fit = legs_fit;
+        costs_fit = costs_fit;
+        throughs_fit = throughs_fit;
+        settings_fit = settings_fit;
+      };
+    }
+
+    pub schedule_reads : Reads (bytes trips) settings made_schedule
+    unfolding tables_of
+    schedule_reads = record {
+      stations = stations_back (stations_for trips) stations_few;
+      fleets = fleets_back (length trips) are.few;
+      legs = legs_read;
+      costs = costs_read;
+      throughs = throughs_read;
+      settings_are = refl;
+    }
