@@ -1,5 +1,7 @@
 -- What it means where checking says that a proof holds.
-use Rattle.std.proofs.Common.{◌≡◌, ◌⊎◌, ℕ, Bool, true, false, List, [], slice_index_or, Option, Some, None, ℤ, refl, sym, ap, ◌∙◌, inl, inr, arith}
+use Rattle.std.proofs.Common.{◌≡◌, ◌⊎◌, ℕ, Bool, true, false, List, Option, Some, None, ℤ, refl, sym, ap, ◌∙◌, inl, inr, arith}
+use Rattle.bound_cert.specs.ReadProof.{ReadsAs}
+use Rattle.bound_cert.specs.declared.reading.Proof.{Proof}
 use Rattle.bound_cert.specs.declared.trees.Tree.{Tree}
 use Rattle.cert_check.proofs.TreeBounds.{bounds_all}
 use Rattle.cert_check.specs.Verdicts.{BoundsAll, IsChecked}
@@ -12,10 +14,13 @@ use Rattle.fleet_model.specs.declared.parts.Settings.{Settings}
 use Rattle.fleet_model.specs.declared.tables.Tables.{Tables}
 use Rattle.plan_desk.specs.Desk.{Files}
 use Rattle.plan_desk.specs.Sink.{output_with}
+use Rattle.plan_desk.specs.declared.file.DeskFile.TheVariants as file
 use Rattle.sched_read.specs.Reading.{Reads}
-use Rattle.fleet_cli.specs.Answer.{Answers, ChecksContents, ChecksPlan, ChecksProof, ChecksTree, ChecksWithPlan, RefusesProof, ReadsProof, checked_status, plan_files, proof_files, says, table_bytes}
-use Rattle.fleet_cli.specs.Gathered.{AllHeld, FirstTooLong}
+use Rattle.fleet_cli.specs.Answer.{Answers, Checks, ChecksPlan, ChecksProof, ChecksTree, ReadsProof, RefusesProof, checked_status, says}
+use Rattle.fleet_cli.specs.Contents.{bytes_in, table_bytes}
+use Rattle.fleet_cli.specs.Gathered.{AllStand, IsHeld}
 use Rattle.fleet_cli.specs.Headline.{IsUnder, TellsBound}
+use Rattle.fleet_cli.specs.Reading.{AllWithin, proof_files}
 use Rattle.fleet_cli.specs.Texts.{checked_text}
 use Rattle.fleet_cli.specs.declared.answer.Answer.{Answer}
 use Rattle.fleet_cli.specs.declared.status.TheConstants.{DONE}
@@ -45,10 +50,9 @@ module _ (answer : Answer) (done : answer.status.code ≡ DONE) where
       by_verdict (checked.Broken node rule) breaks is = absurd (other 9 _ is (λ e. omega arith))
 
   module _ (held : Files) (dir : List ℕ) (settings : Settings) (before after : Option (List ℕ)) (put : after ≡ output_with before answer.text)
-      (contents : List (List ℕ)) (there : AllHeld held dir proof_files contents) (t : Tables) (reads : Reads (table_bytes contents) settings t) where
+      (within : AllWithin (Some (check dir settings)) held) (there : AllStand held dir proof_files) (t : Tables) (reads : Reads (table_bytes (bytes_in held dir)) settings t) where
     alone : HoldsAs t None answer → TellsBound held dir settings before after
     alone holds = record {
-      contents = contents;
       tables = t;
       cost = None;
       bound = holds.bound;
@@ -60,44 +64,37 @@ module _ (answer : Answer) (done : answer.status.code ≡ DONE) where
       put = put ∙ ap (output_with before) holds.text_is;
     }
 
-    with_plan : (whole : Tree) (files : List (List ℕ)) → AllHeld held dir plan_files files → (plan : ChecksPlan t whole (slice_index_or files 0 []) answer)
-        → TellsBound held dir settings before after
-    with_plan whole files stands plan = elim plan.answers [
+    with_plan : (whole : Tree) → IsHeld held dir file.Plan (bytes_in held dir file.Plan) → (plan : ChecksPlan t whole (bytes_in held dir file.Plan) answer) → TellsBound held dir settings before after
+    with_plan whole stands plan = elim plan.answers [
       | inl refused ↦ absurd (other _ _ refused.is (λ e. let bad : ◌≡◌ {A = ℕ} 9 0 = sym refused.refused ∙ e in omega arith))
       | inr checks ↦ let holds = tree_holds t (Some (total_cost t plan.plan)) whole checks.checks in record {
-        contents = contents;
         tables = t;
         cost = Some (total_cost t plan.plan);
         bound = holds.bound;
         there = there;
         reads = reads;
-        plan = record { contents = files; plan = plan.plan; there = stands; reads = plan.reads; legal = checks.legal; costs = refl };
+        plan = record { plan = plan.plan; there = stands; reads = plan.reads; legal = checks.legal; costs = refl };
         proven = holds.proven;
         under = under_cost t plan.plan holds.bound checks.legal holds.proven;
         put = put ∙ ap (output_with before) holds.text_is;
       }
     ]
 
-    by_plan : (planned : Bool) (whole : Tree) → ChecksProof (FirstTooLong held dir plan_files) (AllHeld held dir plan_files) t planned whole answer → TellsBound held dir settings before after
-    by_plan false whole checks = alone (tree_holds t None whole checks)
-    by_plan true whole (inl long) = absurd (other 6 _ long.is (λ e. omega arith))
-    by_plan true whole (inr read) = by_bytes read.contents read.held read.answers
-      where
-        by_bytes : (files : List (List ℕ)) → AllHeld held dir plan_files files → ChecksWithPlan t whole files answer → TellsBound held dir settings before after
-        by_bytes files stands (inl refused) = absurd (other 9 _ refused.is (λ e. omega arith))
-        by_bytes files stands (inr plan) = with_plan whole files stands plan
+    by_plan : (proof : Proof) (planned : Bool) → ReadsAs t (bytes_in held dir file.Proof) proof → proof.planned ≡ planned → ChecksProof t planned proof.tree (bytes_in held dir file.Plan) answer → TellsBound held dir settings before after
+    by_plan proof false text_reads says checks = alone (tree_holds t None proof.tree checks)
+    by_plan proof true text_reads says (inl refused) = absurd (other 9 _ refused.is (λ e. omega arith))
+    by_plan proof true text_reads says (inr plan) =
+        with_plan proof.tree (within.further file.Plan (refl, record { tables = t; proof = proof; reads = reads; proof_reads = text_reads; planned = says })) plan
+
+    by_proof : RefusesProof t (bytes_in held dir file.Proof) answer ⊎ ReadsProof t (bytes_in held dir file.Proof) (bytes_in held dir file.Plan) answer → TellsBound held dir settings before after
+    by_proof (inl refused) = absurd (other 9 _ refused.is (λ e. omega arith))
+    by_proof (inr read) = by_plan read.proof read.proof.planned read.reads refl read.checks
 
   pub checked_tells : (held : Files) (dir : List ℕ) (settings : Settings) (before after : Option (List ℕ)) → Answers held (Some (check dir settings)) answer → after ≡ output_with before answer.text
       → TellsBound held dir settings before after
   checked_tells held dir settings before after (inl long) put = absurd (other 6 _ long.is (λ e. omega arith))
-  checked_tells held dir settings before after (inr read) put = by_contents read.contents read.held read.answers
+  checked_tells held dir settings before after (inr read) put = by_tables read.answers
     where
-      by_proof : (contents : List (List ℕ)) → AllHeld held dir proof_files contents → (t : Tables) → Reads (table_bytes contents) settings t → (bytes : List ℕ)
-          → RefusesProof t bytes answer ⊎ ReadsProof (FirstTooLong held dir plan_files) (AllHeld held dir plan_files) t bytes answer → TellsBound held dir settings before after
-      by_proof contents there t reads bytes (inl refused) = absurd (other 9 _ refused.is (λ e. omega arith))
-      by_proof contents there t reads bytes (inr proof) = by_plan held dir settings before after put contents there t reads proof.proof.planned proof.proof.tree proof.checks
-
-      by_contents : (contents : List (List ℕ)) → AllHeld held dir proof_files contents
-          → ChecksContents (FirstTooLong held dir plan_files) (AllHeld held dir plan_files) settings contents answer → TellsBound held dir settings before after
-      by_contents contents there (inl refused) = absurd (other 6 _ refused.is (λ e. omega arith))
-      by_contents contents there (inr x) = by_proof contents there x.tables x.reads _ x.answers
+      by_tables : Checks settings (table_bytes (bytes_in held dir)) (bytes_in held dir file.Proof) (bytes_in held dir file.Plan) answer → TellsBound held dir settings before after
+      by_tables (inl refused) = absurd (other 6 _ refused.is (λ e. omega arith))
+      by_tables (inr x) = by_proof held dir settings before after put read.within read.within.first x.tables x.reads x.answers

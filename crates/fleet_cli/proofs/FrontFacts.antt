@@ -1,78 +1,68 @@
--- Reading one file more.
-use Rattle.std.proofs.Common.{◌≡◌, ℕ, ◌<◌, ◌≤◌, List, [], ◌∷◌, ◌++◌, length, get_or, Vec, Global, Option, Some, None, IfSome, IsSomeAnd, Err, ◌∙◌, inl, inr, arith}
-use Rattle.std.proofs.lemmas.Bool.{cases_lt}
-use Rattle.std.proofs.lemmas.List.{get_or_append_left, get_or_default, get_or_push, length-append, length-map, map_push}
+-- Reading one file more of a list.
+use Rattle.std.proofs.Common.{◌≡◌, ◌⊎◌, ℕ, ◌+◌, ◌<◌, ◌≤◌, Bool, true, false, if◌then◌else◌, List, length, get_or, Option, Some, None, IfSome, refl, sym, subst, ◌∙◌, inl, inr, arith}
+use Rattle.std.proofs.lemmas.Bool.{cases_Bool, cases_lt}
+use Rattle.std.proofs.lemmas.List.{get_or_default}
 use Rattle.plan_desk.specs.Desk.{Files}
 use Rattle.plan_desk.specs.DeskFile.{path_of}
 use Rattle.plan_desk.specs.declared.file.DeskFile.{DeskFile}
-use Rattle.std.specs.Prelude.{⊤}
-use Rattle.fleet_cli.specs.declared.gathering.Stop.{Stop}
-use Rattle.fleet_cli.specs.declared.gathering.Stop.TheVariants as stop
-use Rattle.fleet_cli.specs.Gathered.{FirstTooLong, FrontHeld, MatchStop, contents_of, limit_of}
+use Rattle.fleet_cli.proofs.FileNames.{looked_up, one_file, self_file}
+use Rattle.fleet_cli.specs.Contents.{FileBytes, bytes_in, content_of, same_file, with_content}
+use Rattle.fleet_cli.specs.Gathered.{ComesTo, FrontHeld, IsAmong, IsHeld, limit_of}
+use Rattle.fleet_cli.specs.declared.contents.Contents.{Contents}
 
-abbrev items_of : Vec ℕ Global → List ℕ
-items_of vector = vector.items
+-- the file at a place is one of them
+pub at_place : (names : List DeskFile) (place : ℕ) (d : DeskFile) → place < length names → IsAmong names (get_or names place d)
+at_place names place d within = record { place = place; within = within; is = λ e. get_or_default names place d e within }
 
-module _ (held : Files) (dir : List ℕ) (names : List DeskFile) where
-  pub front_grown : (contents : List (List ℕ)) (bytes : List ℕ) (file : DeskFile) → FrontHeld held dir names contents → file ≡ get_or names (length contents) file → length contents < length names
-      → held (path_of dir file) ≡ Some bytes → length bytes ≤ limit_of file → FrontHeld held dir names (contents ++ bytes ∷ [])
-  front_grown contents bytes file front is place there short = record {
-    bytes = λ k d within. elim (cases_lt k (length contents)) [
-      | inl before ↦ rw (get_or_append_left contents (bytes ∷ []) [] k before) (front.bytes k d before)
-      | inr past ↦ let last : length contents ≡ k = omega (arith, length-append {A = List ℕ}) in
-          rw (get_or_push contents bytes [] k last) (rw (← last) (rw (← (is ∙ get_or_default names (length contents) file d place)) there))
-    ];
-    within = λ k d within. elim (cases_lt k (length contents)) [
-      | inl before ↦ rw (get_or_append_left contents (bytes ∷ []) [] k before) (front.within k d before)
-      | inr past ↦ let last : length contents ≡ k = omega (arith, length-append {A = List ℕ}) in
-          rw (get_or_push contents bytes [] k last) (rw (← last) (rw (← (is ∙ get_or_default names (length contents) file d place)) short))
-    ];
-  }
+module _ (held : Files) (dir : List ℕ) where
+  -- bytes that stand in a file are those of the folder
+  pub stands_in : (f : DeskFile) (bytes : List ℕ) → held (path_of dir f) ≡ Some bytes → bytes ≡ bytes_in held dir f
+  stands_in f bytes there = rw there refl
 
-  pub front_push : (contents grown : List (Vec ℕ Global)) (bytes : Vec ℕ Global) (place : ℕ) (file : DeskFile) → FrontHeld held dir names (contents_of contents) → length contents ≡ place
-      → place < length names → file ≡ get_or names place file → held (path_of dir file) ≡ Some bytes.items → length bytes.items ≤ limit_of file → grown ≡ contents ++ bytes ∷ []
-      → FrontHeld held dir names (contents_of grown)
-  front_push contents grown bytes place file front count within is there short added =
-      let seen : length (contents_of contents) ≡ place = length-map contents items_of ∙ count in
-      rw (added, map_push items_of contents bytes) (front_grown (contents_of contents) bytes.items file front (rw seen is) (omega arith) there short)
+  pub held_in : (f : DeskFile) (bytes : List ℕ) → IsHeld held dir f bytes → IsHeld held dir f (bytes_in held dir f)
+  held_in f bytes is = subst (λ b. IsHeld held dir f b) (stands_in f bytes is.stands) is
 
-  pub first_too_long : (contents : List (Vec ℕ Global)) (place : ℕ) (file long : DeskFile) → FrontHeld held dir names (contents_of contents) → length contents ≡ place → place < length names
-      → file ≡ get_or names place file → long ≡ file → IsSomeAnd (held (path_of dir file)) (λ bytes. limit_of file < length bytes) → FirstTooLong held dir names long
-  first_too_long contents place file long front count within is same too_long =
-      let seen : length (contents_of contents) ≡ place = length-map contents items_of ∙ count in
-      record {
-        before = contents_of contents;
-        place = omega arith;
-        front = front;
-        is = λ d. rw seen (same ∙ is ∙ get_or_default names place file d within);
-        too_long = rw same too_long;
-      }
+  -- of one file the new bytes, of others the old ones
+  pub picked : (g f : DeskFile) (bytes old : List ℕ) → IsHeld held dir f bytes → (same_file g f ≡ false → IsHeld held dir g old) → IsHeld held dir g (if same_file g f then bytes else old)
+  picked g f bytes old is others = elim (cases_Bool (same_file g f)) [
+    | inl same ↦ rw same (subst (λ h. IsHeld held dir h bytes) (sym (one_file g f same)) is)
+    | inr differs ↦ rw differs (others differs)
+  ]
+
+  module _ (names : List DeskFile) where
+    pub front_in : (n : ℕ) (bytes : FileBytes) → FrontHeld held dir names n bytes → FrontHeld held dir names n (bytes_in held dir)
+    front_in n bytes front = record { each = λ k d below. held_in (get_or names k d) (bytes (get_or names k d)) (front.each k d below) }
+
+    -- reading comes to the file behind the first
+    pub comes_to : (n : ℕ) (d : DeskFile) (bytes : FileBytes) → FrontHeld held dir names n bytes → n < length names → ComesTo held dir names (get_or names n d)
+    comes_to n d bytes front within = record { place = n; within = within; is = λ e. get_or_default names n d e within; front = front_in n bytes front }
+
+    -- the bytes of one file more
+    pub front_put : (c : Contents) (n : ℕ) (d : DeskFile) (bytes : List ℕ) → FrontHeld held dir names n (content_of c) → n < length names → IsHeld held dir (get_or names n d) bytes
+        → FrontHeld held dir names (n + 1) (content_of (with_content c (get_or names n d) bytes))
+    front_put c n d bytes front within is = record {
+      each = λ k e below. rw (looked_up c (get_or names n d) bytes (get_or names k e)) (picked (get_or names k e) (get_or names n d) bytes (content_of c (get_or names k e)) is (λ differs. by_place k e below differs (cases_lt k n)));
+    }
+      where
+        by_place : (k : ℕ) (e : DeskFile) → k < n + 1 → same_file (get_or names k e) (get_or names n d) ≡ false → (k < n) ⊎ (n ≤ k) → IsHeld held dir (get_or names k e) (content_of c (get_or names k e))
+        by_place k e below differs (inl before) = front.each k e before
+        by_place k e below differs (inr past) =
+            let last : n ≡ k = omega arith in
+            let same : same_file (get_or names k e) (get_or names n d) ≡ true = rw (← last) (rw (get_or_default names n e d within) (self_file (get_or names n d))) in
+            absurd (let never : ◌≡◌ {A = Bool} true false = sym same ∙ differs in cc)
 
 -- the same of a desk that may not tell
-module _ (told : Option Files) (dir : List ℕ) (names : List DeskFile) where
-  pub front_push_if : (contents grown : List (Vec ℕ Global)) (bytes : Vec ℕ Global) (place : ℕ) (d : DeskFile) → IfSome told (λ held. FrontHeld held dir names (contents_of contents))
-      → length contents ≡ place → place < length names → IfSome told (λ held. held (path_of dir (get_or names place d)) ≡ Some bytes.items) → length bytes.items ≤ limit_of (get_or names place d)
-      → grown ≡ contents ++ bytes ∷ [] → IfSome told (λ held. FrontHeld held dir names (contents_of grown))
-  front_push_if contents grown bytes place d front count within there short added = by_told told front there
-    where
-      by_told : (o : Option Files) → IfSome o (λ held. FrontHeld held dir names (contents_of contents)) → IfSome o (λ held. held (path_of dir (get_or names place d)) ≡ Some bytes.items)
-          → IfSome o (λ held. FrontHeld held dir names (contents_of grown))
-      by_told None f t = tt
-      by_told (Some held) f t = front_push held dir names contents grown bytes place (get_or names place d) f count within (get_or_default names place d (get_or names place d) within) t short added
+pub front_put_if : (told : Option Files) (dir : List ℕ) (names : List DeskFile) (c : Contents) (n : ℕ) (d : DeskFile) (bytes : List ℕ) → IfSome told (λ held. FrontHeld held dir names n (content_of c)) → n < length names
+    → IfSome told (λ held. held (path_of dir (get_or names n d)) ≡ Some bytes) → length bytes ≤ limit_of (get_or names n d)
+    → IfSome told (λ held. FrontHeld held dir names (n + 1) (content_of (with_content c (get_or names n d) bytes)))
+front_put_if None dir names c n d bytes front within there short = tt
+front_put_if (Some held) dir names c n d bytes front within there short = front_put held dir names c n d bytes front within (record { stands = there; within = short })
 
-  -- what a read that stops says of all files so far
-  pub stopped : (S T : Type 0) (Q : Files → S → Type 0) (R : S → Type 0) (P : Files → T → Type 0) (contents : List (Vec ℕ Global)) (place : ℕ) (d : DeskFile) (why : Stop)
-      → IfSome told (λ held. FrontHeld held dir names (contents_of contents)) → length contents ≡ place → place < length names
-      → IfSome told (λ held. MatchStop {T = S} (Err why) (Q held) ⊤ (λ long. IsSomeAnd (held (path_of dir (get_or names place d))) (λ bytes. limit_of (get_or names place d) < length bytes)) ⊤)
-      → MatchStop {T = S} (Err why) R ⊤ (λ long. long ≡ get_or names place d) ⊤
-      → IfSome told (λ held. MatchStop {T = T} (Err why) (P held) ⊤ (FirstTooLong held dir names) ⊤)
-  stopped S T Q R P contents place d why front count within there same = by_told told why front there same
-    where
-      by_told : (o : Option Files) (why : Stop) → IfSome o (λ held. FrontHeld held dir names (contents_of contents))
-          → IfSome o (λ held. MatchStop {T = S} (Err why) (Q held) ⊤ (λ long. IsSomeAnd (held (path_of dir (get_or names place d))) (λ bytes. limit_of (get_or names place d) < length bytes)) ⊤)
-          → MatchStop {T = S} (Err why) R ⊤ (λ long. long ≡ get_or names place d) ⊤
-          → IfSome o (λ held. MatchStop {T = T} (Err why) (P held) ⊤ (FirstTooLong held dir names) ⊤)
-      by_told None why f t s = tt
-      by_told (Some held) stop.Fault f t s = tt
-      by_told (Some held) (stop.TooLong long) f t s = first_too_long held dir names contents place (get_or names place d) long f count within (get_or_default names place d (get_or names place d) within) s t
-      by_told (Some held) stop.NoMemory f t s = tt
+pub comes_to_if : (told : Option Files) (dir : List ℕ) (names : List DeskFile) (n : ℕ) (d : DeskFile) (bytes : FileBytes) → IfSome told (λ held. FrontHeld held dir names n bytes) → n < length names
+    → IfSome told (λ held. ComesTo held dir names (get_or names n d))
+comes_to_if None dir names n d bytes front within = tt
+comes_to_if (Some held) dir names n d bytes front within = comes_to held dir names n d bytes front within
+
+pub held_if : (told : Option Files) (dir : List ℕ) (f : DeskFile) (bytes : List ℕ) → IfSome told (λ held. held (path_of dir f) ≡ Some bytes) → length bytes ≤ limit_of f → IfSome told (λ held. IsHeld held dir f bytes)
+held_if None dir f bytes there short = tt
+held_if (Some held) dir f bytes there short = record { stands = there; within = short }

@@ -17,9 +17,11 @@ use Rattle.plan_text.specs.Text.{plan_text}
 use Rattle.plan_desk.specs.declared.file.DeskFile.TheVariants as desk_file
 use Rattle.fleet_cli.proofs.BoundFacts.{checked_tells}
 use Rattle.fleet_cli.proofs.OneAnswer.{not_refused}
-use Rattle.fleet_cli.specs.Answer.{Answers, SolvesContents}
+use Rattle.fleet_cli.specs.Answer.{Answers, Solves}
+use Rattle.fleet_cli.specs.Contents.{bytes_in, table_bytes}
 use Rattle.fleet_cli.specs.Headline.{Headline, TellsSolution, is_planned, plan_there}
-use Rattle.fleet_cli.specs.Run.{IsSolution, folder_of}
+use Rattle.fleet_cli.specs.Reading.{folder_of}
+use Rattle.fleet_cli.specs.Run.{IsSolution}
 use Rattle.branch_bound.specs.Solved.{tree_of}
 use Rattle.fleet_cli.specs.Summary.{solved_files}
 use Rattle.fleet_cli.specs.Written.{held_with_texts, with_texts}
@@ -57,18 +59,17 @@ module _ (held : Files) (dir : List ℕ) (settings : Settings) (limits : SearchL
   solved_leaves : Answers held (Some (solve dir settings limits)) answer → code ≡ answer.status.code → told ≡ held_with_texts (Some held) dir answer.files → after ≡ output_with before answer.text → IsSolution code
       → TellsSolution held told dir settings limits code before after
   solved_leaves (inl long) is written put solution = absurd (not_refused code solution (is ∙ ap (λ (a : Answer). a.status.code) long.is))
-  solved_leaves (inr read) is written put solution = by_contents read.answers
+  solved_leaves (inr read) is written put solution = by_tables read.answers
     where
-      by_contents : SolvesContents settings limits read.contents answer → TellsSolution held told dir settings limits code before after
-      by_contents (inl refused) = absurd (not_refused code solution (is ∙ ap (λ (a : Answer). a.status.code) refused.is))
-      by_contents (inr solves) = let given = solves.gives in record {
+      by_tables : Solves settings limits (table_bytes (bytes_in held dir)) answer → TellsSolution held told dir settings limits code before after
+      by_tables (inl refused) = absurd (not_refused code solution (is ∙ ap (λ (a : Answer). a.status.code) refused.is))
+      by_tables (inr solves) = let given = solves.gives in record {
         stands = with_texts held dir (solved_files solves.tables given.solution);
         tells = written ∙ ap (λ (a : Answer). held_with_texts (Some held) dir a.files) given.is;
         leaves = record {
-          contents = read.contents;
           tables = solves.tables;
           solution = given.solution;
-          there = read.held;
+          there = read.within.first;
           reads = solves.reads;
           solves = given.solves;
           plan = plan_stands held dir solves.tables given.solution;

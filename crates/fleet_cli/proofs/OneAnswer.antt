@@ -1,27 +1,36 @@
--- What is held and what is asked fix the answer.
-use Rattle.std.proofs.Common.{◌≡◌, ℕ, List, Option, Some, None, IfSome, refl, sym, ap, subst, ◌∙◌, inl, inr, arith}
-use Rattle.fleet_model.specs.declared.parts.Settings.{Settings}
-use Rattle.fleet_model.specs.Legal.{total_cost}
-use Rattle.plan_desk.specs.Desk.{Files}
-use Rattle.plan_desk.specs.Sink.{output_with}
-use Rattle.plan_judge.specs.declared.verdicts.Verdict.TheVariants as verdict
-use Rattle.sched_read.proofs.ReadLaws as tables
-use Rattle.fleet_cli.proofs.OneChecking.{one_check, proof_answer}
-use Rattle.fleet_cli.proofs.OneGathering.{held_or_too_long, one_holding}
-use Rattle.fleet_cli.proofs.OneJudging.{files_answer, judges_contents, refuses_tables}
-use Rattle.fleet_cli.specs.Answer.{Answers, JudgesContents, SolvesContents, judge_files, says, table_bytes, table_files}
-use Rattle.fleet_cli.specs.Laws.{IsFixed}
-use Rattle.fleet_cli.specs.Run.{AnswersExactly, IsComplete, IsSolution, LegalThere, TablesThere}
-use Rattle.fleet_cli.specs.Summary.{solved_status}
+-- What is held and what is asked fix the answer, and what is good is answered as such.
+use Rattle.std.proofs.Common.{◌≡◌, ℕ, List, Option, Some, None, IfSome, ℤ, refl, sym, ap, subst, ◌∙◌, inl, inr, arith}
+use Rattle.std.proofs.lemmas.Bool.{cases_Bool}
+use Rattle.bound_cert.specs.Leaves.{has_open}
 use Rattle.branch_bound.specs.declared.solved.Solved.{Solved}
 use Rattle.branch_bound.specs.declared.solved.Solved.TheVariants as solved
-use Rattle.fleet_cli.specs.declared.answer.Answer.{Answer}
-use Rattle.fleet_cli.specs.declared.status.TheConstants.{BAD_INPUT, DONE}
-use Rattle.fleet_cli.specs.Texts.{verdict_text}
+use Rattle.cert_check.specs.declared.checked.Checked.TheVariants as checked
 use Rattle.command_words.specs.Words.{Asked, check, judge, solve}
 use Rattle.command_words.specs.declared.command.SearchLimits.{SearchLimits}
-use Rattle.bound_cert.specs.Leaves.{has_open}
-use Rattle.std.proofs.lemmas.Bool.{cases_Bool}
+use Rattle.fleet_model.specs.Legal.{total_cost}
+use Rattle.fleet_model.specs.declared.parts.Settings.{Settings}
+use Rattle.fleet_model.specs.declared.refusals.TheConstants.{TOO_LONG}
+use Rattle.plan_desk.specs.Desk.{Files}
+use Rattle.plan_desk.specs.Sink.{output_with}
+use Rattle.plan_desk.specs.declared.file.DeskFile.TheVariants as file
+use Rattle.plan_judge.specs.declared.verdicts.Verdict.TheVariants as verdict
+use Rattle.sched_read.proofs.ReadLaws as tables
+use Rattle.sched_read.specs.Reading.{TableBytes}
+use Rattle.fleet_cli.proofs.OneChecking.{checks}
+use Rattle.fleet_cli.proofs.OneJudging.{judges, refuses_tables}
+use Rattle.fleet_cli.proofs.OneReading.{one_too_long, within_or_long}
+use Rattle.fleet_cli.proofs.OpenFacts.{no_plan_alone}
+use Rattle.fleet_cli.proofs.SameBytes.{follows_plan}
+use Rattle.fleet_cli.specs.Answer.{Answers, AnswersOf, ChecksProof, ChecksTree, Solves, says}
+use Rattle.fleet_cli.specs.Contents.{FileBytes, bytes_in, table_bytes}
+use Rattle.fleet_cli.specs.Gathered.{AllStand, IsHeld}
+use Rattle.fleet_cli.specs.Laws.{IsFixed}
+use Rattle.fleet_cli.specs.Reading.{AllWithin, Follows, first_files, folder_of}
+use Rattle.fleet_cli.specs.Run.{AnswersExactly, IsComplete, IsCostThere, IsSolution, LegalThere, ProofThere, TablesThere}
+use Rattle.fleet_cli.specs.Summary.{solved_status}
+use Rattle.fleet_cli.specs.Texts.{bad_input_text, checked_text, verdict_text}
+use Rattle.fleet_cli.specs.declared.answer.Answer.{Answer}
+use Rattle.fleet_cli.specs.declared.status.TheConstants.{BAD_INPUT, DONE}
 
 -- a solution has a status that tells of one
 pub solution_status : (s : Solved) → IsSolution (solved_status s)
@@ -41,19 +50,25 @@ not_refused code (inr (inr (inr is))) refused = let bad : ◌≡◌ {A = ℕ} 5 
 never_refused : (s : Solved) → ¬ (solved_status s ≡ BAD_INPUT)
 never_refused s refused = not_refused (solved_status s) (solution_status s) refused
 
-module _ (answer other : Answer) (settings : Settings) where
-  solves_contents : (limits : SearchLimits) → other.status.code ≡ BAD_INPUT → (contents : List (List ℕ)) → SolvesContents settings limits contents answer → SolvesContents settings limits contents other → answer ≡ other
-  solves_contents limits refused contents (inl x) (inl y) = refuses_tables answer other settings (table_bytes contents) x y
-  solves_contents limits refused contents (inl x) (inr y) = absurd (tables.reads_no_fault (table_bytes contents) settings y.tables x.file x.row x.kind y.reads x.bad)
-  solves_contents limits refused contents (inr x) (inl y) = absurd (tables.reads_no_fault (table_bytes contents) settings x.tables y.file y.row y.kind x.reads y.bad)
-  solves_contents limits refused contents (inr x) (inr y) = absurd (never_refused y.gives.solution (sym (ap (λ (a : Answer). a.status.code) y.gives.is) ∙ refused))
+-- the bytes that are read fix the answer
+module _ (answer other : Answer) where
+  solves : (settings : Settings) (limits : SearchLimits) → other.status.code ≡ BAD_INPUT → (bytes : TableBytes) → Solves settings limits bytes answer → Solves settings limits bytes other → answer ≡ other
+  solves settings limits refused bytes (inl x) (inl y) = refuses_tables answer other settings bytes x y
+  solves settings limits refused bytes (inl x) (inr y) = absurd (tables.reads_no_fault bytes settings y.tables x.file x.row x.kind y.reads x.bad)
+  solves settings limits refused bytes (inr x) (inl y) = absurd (tables.reads_no_fault bytes settings x.tables y.file y.row y.kind x.reads y.bad)
+  solves settings limits refused bytes (inr x) (inr y) = absurd (never_refused y.gives.solution (sym (ap (λ (a : Answer). a.status.code) y.gives.is) ∙ refused))
+
+  one_of : (asked : Option Asked) (bytes : FileBytes) → AnswersOf asked bytes answer → AnswersOf asked bytes other → IsFixed asked other → answer ≡ other
+  one_of None bytes x y fixed = x ∙ sym y
+  one_of (Some (judge dir settings)) bytes x y fixed = judges answer other settings (table_bytes bytes) (bytes file.Plan) x y
+  one_of (Some (solve dir settings limits)) bytes x y fixed = solves settings limits fixed (table_bytes bytes) x y
+  one_of (Some (check dir settings)) bytes x y fixed = checks answer other settings (table_bytes bytes) (bytes file.Proof) (bytes file.Plan) x y
 
 pub one_answer : (held : Files) (asked : Option Asked) (answer other : Answer) → Answers held asked answer → Answers held asked other → IsFixed asked other → answer ≡ other
-one_answer held None answer other x y fixed = x ∙ sym y
-one_answer held (Some (judge dir settings)) answer other x y fixed = files_answer answer other held dir judge_files (JudgesContents settings) (JudgesContents settings) (judges_contents answer other settings) x y
-one_answer held (Some (solve dir settings limits)) answer other x y fixed =
-    files_answer answer other held dir table_files (SolvesContents settings limits) (SolvesContents settings limits) (solves_contents answer other settings limits fixed) x y
-one_answer held (Some (check dir settings)) answer other x y fixed = one_check held dir settings answer other x y
+one_answer held asked answer other (inl x) (inl y) fixed = x.is ∙ ap (λ f. says BAD_INPUT (bad_input_text f 0 TOO_LONG)) (one_too_long asked held x.file y.file x.longer y.longer) ∙ sym y.is
+one_answer held asked answer other (inl x) (inr y) fixed = absurd (within_or_long asked held x.file y.within x.longer)
+one_answer held asked answer other (inr x) (inl y) fixed = absurd (within_or_long asked held y.file x.within y.longer)
+one_answer held asked answer other (inr x) (inr y) fixed = one_of answer other asked (bytes_in held (folder_of asked)) x.answers y.answers fixed
 
 -- what was put is the definition's answer
 pub exactly : (told : Option Files) (asked : Option Asked) (answer : Answer) (code : ℕ) (before after : Option (List ℕ)) → IfSome told (λ held. Answers held asked answer)
@@ -63,14 +78,23 @@ exactly (Some held) asked answer code before after answers is put = λ other wan
     let same = one_answer held asked answer other answers wanted fixed in
     record { code_is = is ∙ ap (λ (a : Answer). a.status.code) same; put = put ∙ ap (λ (a : Answer). output_with before a.text) same }
 
+-- the first files stand there within their limits, and so does the plan where it is asked for
+all_within : (held : Files) (asked : Option Asked) → AllStand held (folder_of asked) (first_files asked)
+    → (Follows asked (bytes_in held (folder_of asked)) file.Plan → IsHeld held (folder_of asked) file.Plan (bytes_in held (folder_of asked) file.Plan)) → AllWithin asked held
+all_within held asked stand further = record {
+  first = stand;
+  further = λ f follows.
+      let plan = follows_plan asked (bytes_in held (folder_of asked)) f follows in
+      subst (λ g. IsHeld held (folder_of asked) g (bytes_in held (folder_of asked) g)) (sym plan) (further (subst (λ g. Follows asked (bytes_in held (folder_of asked)) g) plan follows));
+}
+
 -- a legal plan is answered as one
 legal_answer : (held : Files) (dir : List ℕ) (settings : Settings) → LegalThere held dir settings → (text : List ℕ) × Answers held (Some (judge dir settings)) (says DONE text)
 legal_answer held dir settings legal =
     let right = verdict.Legal (total_cost legal.tables legal.plan) in (
       verdict_text legal.tables legal.plan right,
       inr (record {
-        contents = legal.contents;
-        held = legal.there;
+        within = all_within held (Some (judge dir settings)) legal.there (λ follows. absurd follows);
         answers = inr (record {
           tables = legal.tables;
           reads = legal.reads;
@@ -79,16 +103,41 @@ legal_answer held dir settings legal =
       }),
     )
 
+-- a proof that holds is answered so
+proof_answer : (held : Files) (dir : List ℕ) (settings : Settings) → ProofThere held dir settings → (text : List ℕ) × Answers held (Some (check dir settings)) (says DONE text)
+proof_answer held dir settings x = (
+  checked_text x.cost (checked.Holds x.bound),
+  inr (record {
+    within = all_within held (Some (check dir settings)) x.there (λ follows. further x.cost x.plan follows);
+    answers = inr (record {
+      tables = x.tables;
+      reads = x.reads;
+      answers = inr (record { proof = x.proof; reads = x.proof_reads; checks = by_cost x.cost x.plan holds });
+    });
+  }),
+)
+  where
+    holds : ChecksTree x.tables x.cost x.proof.tree (says DONE (checked_text x.cost (checked.Holds x.bound)))
+    holds = record { verdict = checked.Holds x.bound; checked = x.holds; is = refl }
+
+    further : (cost : Option ℤ) → IsCostThere held dir x.tables x.proof.planned cost → Follows (Some (check dir settings)) (bytes_in held dir) file.Plan → IsHeld held dir file.Plan (bytes_in held dir file.Plan)
+    further None none follows = absurd (no_plan_alone settings (table_bytes (bytes_in held dir)) (bytes_in held dir file.Proof) x.tables x.reads x.proof x.proof_reads none follows.1)
+    further (Some cost) some follows = some.1.there
+
+    by_cost : (cost : Option ℤ) → IsCostThere held dir x.tables x.proof.planned cost → {answer : Answer} → ChecksTree x.tables cost x.proof.tree answer
+        → ChecksProof x.tables x.proof.planned x.proof.tree (bytes_in held dir file.Plan) answer
+    by_cost None none checks = rw none checks
+    by_cost (Some cost) some checks = rw some.0 (inr (record { plan = some.1.plan; reads = some.1.reads; answers = inr (record { legal = some.1.legal; checks = rw (← some.1.costs) checks }) }))
+
 -- tables that read are solved
 solved_there : (held : Files) (dir : List ℕ) (settings : Settings) (limits : SearchLimits) (answer : Answer) → Answers held (Some (solve dir settings limits)) answer → TablesThere held dir settings → IsSolution answer.status.code
-solved_there held dir settings limits answer (inl x) there = absurd (held_or_too_long held dir table_files x.file there.contents x.longer there.there)
-solved_there held dir settings limits answer (inr x) there =
-    let same = one_holding held dir table_files x.contents there.contents x.held there.there in
-    by_contents (subst (λ c. SolvesContents settings limits c answer) same x.answers)
+solved_there held dir settings limits answer (inl x) there =
+    absurd (within_or_long (Some (solve dir settings limits)) held x.file (all_within held (Some (solve dir settings limits)) there.there (λ follows. absurd follows)) x.longer)
+solved_there held dir settings limits answer (inr x) there = by_tables x.answers
   where
-    by_contents : SolvesContents settings limits there.contents answer → IsSolution answer.status.code
-    by_contents (inl refused) = absurd (tables.reads_no_fault (table_bytes there.contents) settings there.tables refused.file refused.row refused.kind there.reads refused.bad)
-    by_contents (inr solves) = rw (ap (λ (a : Answer). a.status.code) solves.gives.is) (solution_status solves.gives.solution)
+    by_tables : Solves settings limits (table_bytes (bytes_in held dir)) answer → IsSolution answer.status.code
+    by_tables (inl refused) = absurd (tables.reads_no_fault (table_bytes (bytes_in held dir)) settings there.tables refused.file refused.row refused.kind there.reads refused.bad)
+    by_tables (inr solves) = rw (ap (λ (a : Answer). a.status.code) solves.gives.is) (solution_status solves.gives.solution)
 
 pub complete_there : (held : Files) (asked : Option Asked) (answer : Answer) → Answers held asked answer → IsComplete held asked answer.status.code
 complete_there held None answer answers = tt

@@ -1,35 +1,27 @@
--- What is held fixes what checking answers.
-use Rattle.std.proofs.Common.{◌≡◌, ◌⊎◌, ℕ, ◌+◌, ◌-◌, Bool, true, false, List, [], length, slice_index_or, Option, Some, None, Ok, Err, ℤ, refl, sym, ap, subst, ◌∙◌, inl, inr, arith}
+-- The bytes of the tables, of the proof and of the plan fix what checking answers.
+use Rattle.std.proofs.Common.{◌≡◌, ◌⊎◌, ℕ, ◌+◌, ◌-◌, Bool, true, false, List, length, Option, Some, None, Err, ℤ, refl, sym, ap, subst, ◌∙◌, inl, inr, arith}
 use Rattle.bound_cert.specs.Lines.{Reading, Stopped, left_of}
 use Rattle.bound_cert.specs.Nodes.{nodes_of}
 use Rattle.bound_cert.specs.ReadProof.{IsFirstFault}
 use Rattle.bound_cert.specs.declared.faults.CertFault.{CertFault}
-use Rattle.bound_cert.specs.declared.nodes.Node.{Node}
 use Rattle.bound_cert.specs.declared.trees.Tree.{Tree}
 use Rattle.cert_check.proofs.OneVerdict as tree
-use Rattle.cert_check.specs.declared.checked.Checked.TheVariants as checked
-use Rattle.command_words.specs.Words.{check}
 use Rattle.csv_fields.specs.Record.{records_of}
 use Rattle.fleet_model.specs.Legal.{IsLegal, total_cost}
 use Rattle.fleet_model.specs.declared.parts.Settings.{Settings}
 use Rattle.fleet_model.specs.declared.tables.Tables.{Tables}
-use Rattle.plan_desk.specs.Desk.{Files}
 use Rattle.plan_judge.proofs.OneVerdict.{one_verdict}
 use Rattle.plan_judge.specs.declared.verdicts.Verdict.TheVariants as verdict
 use Rattle.plan_text.proofs.ReadOrNot.{reads_or_not}
 use Rattle.sched_read.proofs.ReadLaws as tables
-use Rattle.fleet_cli.proofs.OneJudging.{files_answer, refuses_plan, refuses_tables}
-use Rattle.fleet_cli.specs.Answer.{Answers, AnswersWithPlan, ChecksContents, ChecksLegal, ChecksPlan, ChecksProof, ChecksTree, ChecksWithPlan, ReadsProof, RefusesProof, RefusesVerdict, checked_status, plan_files, proof_bytes, proof_files, says, table_bytes, verdict_status}
-use Rattle.fleet_cli.specs.Gathered.{AllHeld, FirstTooLong}
-use Rattle.fleet_cli.specs.Run.{IsCostThere, ProofThere}
+use Rattle.sched_read.specs.Reading.{TableBytes}
+use Rattle.fleet_cli.proofs.OneJudging.{refuses_plan, refuses_tables}
+use Rattle.fleet_cli.proofs.OpenFacts.{never_read, says_one}
+use Rattle.fleet_cli.specs.Answer.{Checks, ChecksLegal, ChecksPlan, ChecksProof, ChecksTree, ReadsProof, RefusesProof, RefusesVerdict, checked_status, says, verdict_status}
 use Rattle.fleet_cli.specs.Texts.{checked_text, verdict_text}
 use Rattle.fleet_cli.specs.declared.answer.Answer.{Answer}
-use Rattle.fleet_cli.specs.declared.status.TheConstants.{DONE}
 
--- a text reads as one proof, or has one first fault
-one_value : {A : Type 0} (one other : A) → ◌≡◌ {A = Reading A} (Ok one) (Ok other) → one ≡ other
-one_value one other e = cc
-
+-- a text has one first fault
 record SameFault (one other : CertFault) : Type 0 where
   line_is : one.line ≡ other.line
   kind_is : one.kind ≡ other.kind
@@ -79,72 +71,27 @@ module _ (answer other : Answer) where
           let plans = (reads_or_not t (records_of bytes)).one_plan x.plan y.plan x.reads y.reads in
           judged y.plan (subst (λ p. RefusesVerdict t p answer ⊎ ChecksLegal t p one answer) plans x.answers) y.answers
 
-      with_plan : (bytes : List ℕ) → AnswersWithPlan t one bytes answer → AnswersWithPlan t two bytes other → answer ≡ other
-      with_plan bytes (inl x) (inl y) = refuses_plan answer other t bytes x y
-      with_plan bytes (inl x) (inr y) = absurd ((reads_or_not t (records_of bytes)).not_both y.plan x.row x.kind y.reads x.bad)
-      with_plan bytes (inr x) (inl y) = absurd ((reads_or_not t (records_of bytes)).not_both x.plan y.row y.kind x.reads y.bad)
-      with_plan bytes (inr x) (inr y) = checks_plan bytes x y
+      checks_proof : (plan : List ℕ) (first second : Bool) → first ≡ second → ChecksProof t first one plan answer → ChecksProof t second two plan other → answer ≡ other
+      checks_proof plan false false same x y = checks_tree None x y
+      checks_proof plan false true same x y = absurd (let never : ⊥ = cc in never)
+      checks_proof plan true false same x y = absurd (let never : ⊥ = cc in never)
+      checks_proof plan true true same (inl x) (inl y) = refuses_plan answer other t plan x y
+      checks_proof plan true true same (inl x) (inr y) = absurd ((reads_or_not t (records_of plan)).not_both y.plan x.row x.kind y.reads x.bad)
+      checks_proof plan true true same (inr x) (inl y) = absurd ((reads_or_not t (records_of plan)).not_both x.plan y.row y.kind x.reads y.bad)
+      checks_proof plan true true same (inr x) (inr y) = checks_plan plan x y
 
-      checks_proof : (held : Files) (dir : List ℕ) (first second : Bool) → first ≡ second → ChecksProof (FirstTooLong held dir plan_files) (AllHeld held dir plan_files) t first one answer
-          → ChecksProof (FirstTooLong held dir plan_files) (AllHeld held dir plan_files) t second two other → answer ≡ other
-      checks_proof held dir false false same x y = checks_tree None x y
-      checks_proof held dir false true same x y = absurd (let never : ⊥ = cc in never)
-      checks_proof held dir true false same x y = absurd (let never : ⊥ = cc in never)
-      checks_proof held dir true true same x y =
-          files_answer answer other held dir plan_files (ChecksWithPlan t one) (ChecksWithPlan t two) (λ contents. with_plan (slice_index_or contents 0 [])) x y
+    answers_proof : (bytes plan : List ℕ) → RefusesProof t bytes answer ⊎ ReadsProof t bytes plan answer → RefusesProof t bytes other ⊎ ReadsProof t bytes plan other → answer ≡ other
+    answers_proof bytes plan (inl x) (inl y) = refuses_proof bytes x y
+    answers_proof bytes plan (inl x) (inr y) = absurd (never_read t bytes answer y.proof x y.reads)
+    answers_proof bytes plan (inr x) (inl y) = absurd (never_read t bytes other x.proof y x.reads)
+    answers_proof bytes plan (inr x) (inr y) =
+        let same = says_one t bytes x.proof y.proof x.reads y.reads in
+        checks_proof x.proof.tree y.proof.tree same.1 plan x.proof.planned y.proof.planned same.0 x.checks y.checks
 
-    -- a proof that reads and one that has a fault are not the same
-    never_read : (held : Files) (dir bytes : List ℕ) {a b : Answer} → RefusesProof t bytes a → ReadsProof (FirstTooLong held dir plan_files) (AllHeld held dir plan_files) t bytes b → ⊥
-    never_read held dir bytes x y = let both = sym x.bad.stops ∙ y.reads in let never : ⊥ = cc in never
-
-    answers_proof : (held : Files) (dir bytes : List ℕ) → RefusesProof t bytes answer ⊎ ReadsProof (FirstTooLong held dir plan_files) (AllHeld held dir plan_files) t bytes answer
-        → RefusesProof t bytes other ⊎ ReadsProof (FirstTooLong held dir plan_files) (AllHeld held dir plan_files) t bytes other → answer ≡ other
-    answers_proof held dir bytes (inl x) (inl y) = refuses_proof bytes x y
-    answers_proof held dir bytes (inl x) (inr y) = absurd (never_read held dir bytes x y)
-    answers_proof held dir bytes (inr x) (inl y) = absurd (never_read held dir bytes y x)
-    answers_proof held dir bytes (inr x) (inr y) =
-        let read = one_value _ _ (sym x.reads ∙ y.reads) in
-        checks_proof x.proof.tree y.proof.tree (ap (λ (p : Bool × List Node). p.1) read) held dir x.proof.planned y.proof.planned (ap (λ (p : Bool × List Node). p.0) read) x.checks y.checks
-
-  checks_contents : (held : Files) (dir : List ℕ) (settings : Settings) (contents : List (List ℕ))
-      → ChecksContents (FirstTooLong held dir plan_files) (AllHeld held dir plan_files) settings contents answer
-      → ChecksContents (FirstTooLong held dir plan_files) (AllHeld held dir plan_files) settings contents other → answer ≡ other
-  checks_contents held dir settings contents (inl x) (inl y) = refuses_tables answer other settings (table_bytes contents) x y
-  checks_contents held dir settings contents (inl x) (inr y) = absurd (tables.reads_no_fault (table_bytes contents) settings y.tables x.file x.row x.kind y.reads x.bad)
-  checks_contents held dir settings contents (inr x) (inl y) = absurd (tables.reads_no_fault (table_bytes contents) settings x.tables y.file y.row y.kind x.reads y.bad)
-  checks_contents held dir settings contents (inr x) (inr y) =
-      let same = tables.one_reading (table_bytes contents) settings x.tables y.tables x.reads y.reads in
-      answers_proof y.tables held dir (proof_bytes contents)
-      (subst (λ t. RefusesProof t (proof_bytes contents) answer ⊎ ReadsProof (FirstTooLong held dir plan_files) (AllHeld held dir plan_files) t (proof_bytes contents) answer) same x.answers) y.answers
-
-pub one_check : (held : Files) (dir : List ℕ) (settings : Settings) (answer other : Answer) → Answers held (Some (check dir settings)) answer → Answers held (Some (check dir settings)) other → answer ≡ other
-one_check held dir settings answer other x y =
-    files_answer answer other held dir proof_files (ChecksContents (FirstTooLong held dir plan_files) (AllHeld held dir plan_files) settings) (ChecksContents (FirstTooLong held dir plan_files) (AllHeld held dir plan_files) settings)
-    (checks_contents answer other held dir settings) x y
-
--- a proof that holds is answered so
-pub proof_answer : (held : Files) (dir : List ℕ) (settings : Settings) → ProofThere held dir settings → (text : List ℕ) × Answers held (Some (check dir settings)) (says DONE text)
-proof_answer held dir settings proof = (
-  checked_text proof.cost (checked.Holds proof.bound),
-  inr (record {
-    contents = proof.contents;
-    held = proof.there;
-    answers = inr (record {
-      tables = proof.tables;
-      reads = proof.reads;
-      answers = inr (record { proof = proof.proof; reads = proof.proof_reads; checks = by_cost proof.cost proof.plan holds });
-    });
-  }),
-)
-  where
-    holds : ChecksTree proof.tables proof.cost proof.proof.tree (says DONE (checked_text proof.cost (checked.Holds proof.bound)))
-    holds = record { verdict = checked.Holds proof.bound; checked = proof.holds; is = refl }
-
-    by_cost : (cost : Option ℤ) → IsCostThere held dir proof.tables proof.proof.planned cost → {answer : Answer} → ChecksTree proof.tables cost proof.proof.tree answer
-        → ChecksProof (FirstTooLong held dir plan_files) (AllHeld held dir plan_files) proof.tables proof.proof.planned proof.proof.tree answer
-    by_cost None none checks = rw none checks
-    by_cost (Some cost) some checks = rw some.0 (inr (record {
-      contents = some.1.contents;
-      held = some.1.there;
-      answers = inr (record { plan = some.1.plan; reads = some.1.reads; answers = inr (record { legal = some.1.legal; checks = rw (← some.1.costs) checks }) });
-    }))
+  pub checks : (settings : Settings) (bytes : TableBytes) (text plan : List ℕ) → Checks settings bytes text plan answer → Checks settings bytes text plan other → answer ≡ other
+  checks settings bytes text plan (inl x) (inl y) = refuses_tables answer other settings bytes x y
+  checks settings bytes text plan (inl x) (inr y) = absurd (tables.reads_no_fault bytes settings y.tables x.file x.row x.kind y.reads x.bad)
+  checks settings bytes text plan (inr x) (inl y) = absurd (tables.reads_no_fault bytes settings x.tables y.file y.row y.kind x.reads y.bad)
+  checks settings bytes text plan (inr x) (inr y) =
+      let same = tables.one_reading bytes settings x.tables y.tables x.reads y.reads in
+      answers_proof y.tables text plan (subst (λ t. RefusesProof t text answer ⊎ ReadsProof t text plan answer) same x.answers) y.answers

@@ -1,28 +1,115 @@
--- Names that keep what they hold.
-use Rattle.std.proofs.Common.{◌≡◌, ◌≢◌, ◌⊎◌, ℕ, suc, Bool, true, false, List, [], ◌∷◌, take, All, Option, Some, None, IfSome, inl, inr, refl, sym, ap, ◌∙◌, arith}
+-- What an answer is, and the names that keep what they hold after it.
+use Rattle.std.proofs.Common.{◌≡◌, ◌≢◌, ◌⊎◌, ℕ, suc, Bool, true, false, List, [], ◌∷◌, take, All, Option, Some, None, IfSome, ℤ, inl, inr, refl, sym, ap, subst, ◌∙◌, arith}
 use Rattle.std.specs.Str.{bytes_eq}
 use Rattle.std.proofs.lemmas.List.Elements.{All-from_recursion, All-take}
 use Rattle.std.proofs.lemmas.Map.{update_other}
 use Rattle.table_rows.proofs.Numbered.{bytes_eq-differ}
-use Rattle.command_words.specs.Words.{Asked, check, judge, solve}
-use Rattle.command_words.specs.declared.command.SearchLimits.{SearchLimits}
 use Rattle.bound_cert.specs.declared.trees.Tree.{Tree}
-use Rattle.fleet_model.specs.declared.parts.Settings.{Settings}
+use Rattle.branch_bound.specs.declared.solved.Solved.{Solved}
+use Rattle.branch_bound.specs.declared.solved.Solved.TheVariants as solved
+use Rattle.cert_check.specs.declared.checked.Checked.{Checked}
+use Rattle.cert_check.specs.declared.checked.Checked.TheVariants as checked
+use Rattle.command_words.specs.Words.{Asked, check, judge, solve}
 use Rattle.fleet_model.specs.declared.tables.Tables.{Tables}
 use Rattle.plan_desk.specs.Desk.{Files, with_file}
 use Rattle.plan_desk.specs.DeskFile.{path_of}
+use Rattle.plan_desk.specs.declared.file.DeskFile.{DeskFile}
 use Rattle.plan_desk.specs.declared.file.DeskFile.TheVariants as desk_file
+use Rattle.plan_judge.specs.declared.verdicts.Verdict.{Verdict}
+use Rattle.plan_judge.specs.declared.verdicts.Verdict.TheVariants as verdict
 use Rattle.fleet_cli.proofs.OneAnswer.{solution_status}
-use Rattle.fleet_cli.specs.Answer.{Answers, ChecksContents, ChecksProof, ChecksWithPlan, JudgesContents, JudgesPlan, ReadsProof, RefusesPlan, RefusesProof, SolvesContents, plan_bytes, plan_files, proof_bytes}
-use Rattle.fleet_cli.specs.Gathered.{AllHeld, FirstTooLong}
-use Rattle.fleet_cli.specs.Run.{IsRefusal, IsSolution, KeepsOthers, folder_of}
-use Rattle.fleet_cli.specs.Summary.{solved_answer, solved_files}
+use Rattle.fleet_cli.specs.Answer.{Answers, AnswersOf, AnswersSome, ChecksPlan, ChecksProof, ChecksTree, JudgesPlan, ReadsProof, RefusesPlan, RefusesProof, checked_status, says, verdict_status}
+use Rattle.fleet_cli.specs.Contents.{FileBytes}
+use Rattle.fleet_cli.specs.Reading.{folder_of, written_files}
+use Rattle.fleet_cli.specs.Run.{IsEnd, IsRefusal, IsSolution, KeepsAllBut, KeepsOthers}
+use Rattle.fleet_cli.specs.Summary.{solved_answer, solved_files, solved_status}
 use Rattle.fleet_cli.specs.Written.{StandsAfter, no_text, text_name, under, with_texts}
 use Rattle.fleet_cli.specs.declared.answer.Answer.{Answer}
 use Rattle.fleet_cli.specs.declared.answer.FileText.{FileText}
-use Rattle.fleet_cli.specs.declared.status.TheConstants.{FAULT, NO_MEMORY}
-use Rattle.branch_bound.specs.declared.solved.Solved.{Solved}
-use Rattle.branch_bound.specs.declared.solved.Solved.TheVariants as solved
+use Rattle.fleet_cli.specs.declared.status.TheConstants.{BAD_INPUT, FAULT, NO_MEMORY, REFUSED, USAGE}
+
+-- ---- what an answer is
+
+-- a status that ends a run, a text, and no file
+record IsSaid (answer : Answer) : Type 0 where
+  code : ℕ
+  text : List ℕ
+  is : answer ≡ says code text
+  ends : IsEnd code
+
+-- the answer of a solution, of a command that writes a plan and its proof
+record IsSolved (asked : Option Asked) (answer : Answer) : Type 0 where
+  tables : Tables
+  solution : Solved
+  is : answer ≡ solved_answer tables solution
+  writes : written_files asked ≡ desk_file.Plan ∷ desk_file.Proof ∷ []
+
+refused : (answer : Answer) (text : List ℕ) → answer ≡ says REFUSED text → IsSaid answer
+refused answer text is = record { code = REFUSED; text = text; is = is; ends = (λ e. omega arith, λ e. omega arith) }
+
+bad : (answer : Answer) (text : List ℕ) → answer ≡ says BAD_INPUT text → IsSaid answer
+bad answer text is = record { code = BAD_INPUT; text = text; is = is; ends = (λ e. omega arith, λ e. omega arith) }
+
+verdict_ends : (v : Verdict) → IsEnd (verdict_status v)
+verdict_ends (verdict.Legal cost) = (λ e. omega arith, λ e. omega arith)
+verdict_ends (verdict.NotAllowed leg) = (λ e. omega arith, λ e. omega arith)
+verdict_ends (verdict.Unbalanced f s came left) = (λ e. omega arith, λ e. omega arith)
+verdict_ends (verdict.TooMany f used has) = (λ e. omega arith, λ e. omega arith)
+
+checked_ends : (v : Checked) → IsEnd (checked_status v)
+checked_ends (checked.Holds bound) = (λ e. omega arith, λ e. omega arith)
+checked_ends (checked.Broken node rule) = (λ e. omega arith, λ e. omega arith)
+
+solution_ends : (code : ℕ) → IsSolution code → IsEnd code
+solution_ends code (inl is) = (λ e. let bad : ◌≡◌ {A = ℕ} 0 7 = sym is ∙ e in omega arith, λ e. let bad : ◌≡◌ {A = ℕ} 0 8 = sym is ∙ e in omega arith)
+solution_ends code (inr (inl is)) = (λ e. let bad : ◌≡◌ {A = ℕ} 3 7 = sym is ∙ e in omega arith, λ e. let bad : ◌≡◌ {A = ℕ} 3 8 = sym is ∙ e in omega arith)
+solution_ends code (inr (inr (inl is))) = (λ e. let bad : ◌≡◌ {A = ℕ} 4 7 = sym is ∙ e in omega arith, λ e. let bad : ◌≡◌ {A = ℕ} 4 8 = sym is ∙ e in omega arith)
+solution_ends code (inr (inr (inr is))) = (λ e. let bad : ◌≡◌ {A = ℕ} 5 7 = sym is ∙ e in omega arith, λ e. let bad : ◌≡◌ {A = ℕ} 5 8 = sym is ∙ e in omega arith)
+
+module _ (answer : Answer) where
+  judged : (t : Tables) (bytes : List ℕ) → RefusesPlan t bytes answer ⊎ JudgesPlan t bytes answer → IsSaid answer
+  judged t bytes (inl x) = refused answer _ x.is
+  judged t bytes (inr x) = record { code = verdict_status x.verdict; text = _; is = x.is; ends = verdict_ends x.verdict }
+
+  tree_said : (t : Tables) (cost : Option ℤ) (tree : Tree) → ChecksTree t cost tree answer → IsSaid answer
+  tree_said t cost tree x = record { code = checked_status x.verdict; text = _; is = x.is; ends = checked_ends x.verdict }
+
+  plan_said : (t : Tables) (tree : Tree) (plan : List ℕ) → ChecksPlan t tree plan answer → IsSaid answer
+  plan_said t tree plan x = elim x.answers [
+    | inl ill ↦ record { code = verdict_status ill.verdict; text = _; is = ill.is; ends = verdict_ends ill.verdict }
+    | inr legal ↦ tree_said t _ tree legal.checks
+  ]
+
+  proof_said : (t : Tables) (planned : Bool) (tree : Tree) (plan : List ℕ) → ChecksProof t planned tree plan answer → IsSaid answer
+  proof_said t false tree plan x = tree_said t None tree x
+  proof_said t true tree plan (inl x) = refused answer _ x.is
+  proof_said t true tree plan (inr x) = plan_said t tree plan x
+
+  text_said : (t : Tables) (text plan : List ℕ) → RefusesProof t text answer ⊎ ReadsProof t text plan answer → IsSaid answer
+  text_said t text plan (inl x) = refused answer _ x.is
+  text_said t text plan (inr x) = proof_said t x.proof.planned x.proof.tree plan x.checks
+
+  kind_of : (asked : Option Asked) (bytes : FileBytes) → AnswersOf asked bytes answer → IsSaid answer ⊎ IsSolved asked answer
+  kind_of None bytes x = inl (record { code = USAGE; text = _; is = x; ends = (λ e. omega arith, λ e. omega arith) })
+  kind_of (Some (judge dir settings)) bytes (inl x) = inl (bad answer _ x.is)
+  kind_of (Some (judge dir settings)) bytes (inr x) = inl (judged x.tables _ x.answers)
+  kind_of (Some (solve dir settings limits)) bytes (inl x) = inl (bad answer _ x.is)
+  kind_of (Some (solve dir settings limits)) bytes (inr x) = inr (record { tables = x.tables; solution = x.gives.solution; is = x.gives.is; writes = refl })
+  kind_of (Some (check dir settings)) bytes (inl x) = inl (bad answer _ x.is)
+  kind_of (Some (check dir settings)) bytes (inr x) = inl (text_said x.tables _ _ x.answers)
+
+  kind : (held : Files) (asked : Option Asked) → Answers held asked answer → IsSaid answer ⊎ IsSolved asked answer
+  kind held asked (inl long) = inl (bad answer _ long.is)
+  kind held asked (inr read) = kind_of asked _ read.answers
+
+  kind_ends : (asked : Option Asked) → IsSaid answer ⊎ IsSolved asked answer → IsEnd answer.status.code
+  kind_ends asked (inl x) = subst (λ (a : Answer). IsEnd a.status.code) (sym x.is) x.ends
+  kind_ends asked (inr x) = subst (λ (a : Answer). IsEnd a.status.code) (sym x.is) (solution_ends (solved_status x.solution) (solution_status x.solution))
+
+-- the status of an answer ends a run
+pub answer_ends : (longer : Type 0) (asked : Option Asked) (answer : Answer) → AnswersSome longer asked answer → IsEnd answer.status.code
+answer_ends longer asked answer (inl long) = kind_ends answer asked (inl (bad answer _ long.is))
+answer_ends longer asked answer (inr read) = kind_ends answer asked (kind_of answer asked read.0 read.1)
 
 -- ---- where nothing is written, all stands as it was
 
@@ -59,8 +146,6 @@ module _ (dir name : List ℕ) where
       rw part.part.1 (file_keeps (with_texts held dir (take part.written texts)) (text_name dir texts part.written) part.part.0 (others part.written no_text part.place)
       ∙ texts_keep held (take part.written texts) (All-take IsOther part.written texts others))
 
--- ---- the files of answers
-
 -- the files of a solution are the plan and the proof
 pub solved_others : (t : Tables) (s : Solved) (dir name : List ℕ) → name ≢ path_of dir desk_file.Plan → name ≢ path_of dir desk_file.Proof → All (IsOther dir name) (solved_files t s)
 unfolding solved_files
@@ -69,66 +154,20 @@ solved_others t (solved.Planned plan cost bound tree) dir name plan_differs proo
 solved_others t (solved.Infeasible tree) dir name plan_differs proof_differs = All-from_recursion (IsOther dir name) (solved_files t (solved.Infeasible tree)) (proof_differs, tt)
 solved_others t (solved.Unsettled bound tree) dir name plan_differs proof_differs = All-from_recursion (IsOther dir name) (solved_files t (solved.Unsettled bound tree)) (proof_differs, tt)
 
-judged_none : (held : Files) (dir : List ℕ) (settings : Settings) (answer : Answer) → Answers held (Some (judge dir settings)) answer → answer.files ≡ []
-judged_none held dir settings answer (inl long) = ap (λ (a : Answer). a.files) long.is
-judged_none held dir settings answer (inr read) = by_contents read.contents read.answers
-  where
-    by_plan : (t : Tables) (bytes : List ℕ) → RefusesPlan t bytes answer ⊎ JudgesPlan t bytes answer → answer.files ≡ []
-    by_plan t bytes (inl refused) = ap (λ (a : Answer). a.files) refused.is
-    by_plan t bytes (inr judged) = ap (λ (a : Answer). a.files) judged.is
-
-    by_contents : (contents : List (List ℕ)) → JudgesContents settings contents answer → answer.files ≡ []
-    by_contents contents (inl refused) = ap (λ (a : Answer). a.files) refused.is
-    by_contents contents (inr there) = by_plan there.tables (plan_bytes contents) there.answers
-
-checked_none : (held : Files) (dir : List ℕ) (settings : Settings) (answer : Answer) → Answers held (Some (check dir settings)) answer → answer.files ≡ []
-checked_none held dir settings answer (inl long) = ap (λ (a : Answer). a.files) long.is
-checked_none held dir settings answer (inr read) = by_contents read.contents read.answers
-  where
-    by_plan : (t : Tables) (whole : Tree) (contents : List (List ℕ)) → ChecksWithPlan t whole contents answer → answer.files ≡ []
-    by_plan t whole contents (inl refused) = ap (λ (a : Answer). a.files) refused.is
-    by_plan t whole contents (inr plan) = elim plan.answers [
-      | inl refused ↦ ap (λ (a : Answer). a.files) refused.is
-      | inr legal ↦ ap (λ (a : Answer). a.files) legal.checks.is
-    ]
-
-    by_tree : (t : Tables) (planned : Bool) (whole : Tree) → ChecksProof (FirstTooLong held dir plan_files) (AllHeld held dir plan_files) t planned whole answer → answer.files ≡ []
-    by_tree t false whole checks = ap (λ (a : Answer). a.files) checks.is
-    by_tree t true whole (inl long) = ap (λ (a : Answer). a.files) long.is
-    by_tree t true whole (inr there) = by_plan t whole there.contents there.answers
-
-    by_proof : (t : Tables) (bytes : List ℕ) → RefusesProof t bytes answer ⊎ ReadsProof (FirstTooLong held dir plan_files) (AllHeld held dir plan_files) t bytes answer → answer.files ≡ []
-    by_proof t bytes (inl refused) = ap (λ (a : Answer). a.files) refused.is
-    by_proof t bytes (inr proof) = by_tree t proof.proof.planned proof.proof.tree proof.checks
-
-    by_contents : (contents : List (List ℕ)) → ChecksContents (FirstTooLong held dir plan_files) (AllHeld held dir plan_files) settings contents answer → answer.files ≡ []
-    by_contents contents (inl refused) = ap (λ (a : Answer). a.files) refused.is
-    by_contents contents (inr there) = by_proof there.tables (proof_bytes contents) there.answers
-
--- an answer of `solve` writes nothing, or it is that of a solution
-solved_or_none : (held : Files) (dir : List ℕ) (settings : Settings) (limits : SearchLimits) (answer : Answer) → Answers held (Some (solve dir settings limits)) answer
-    → (answer.files ≡ []) ⊎ ((t : Tables) × (s : Solved) × (answer ≡ solved_answer t s))
-solved_or_none held dir settings limits answer (inl long) = inl (ap (λ (a : Answer). a.files) long.is)
-solved_or_none held dir settings limits answer (inr read) = by_contents read.contents read.answers
-  where
-    by_contents : (contents : List (List ℕ)) → SolvesContents settings limits contents answer → (answer.files ≡ []) ⊎ ((t : Tables) × (s : Solved) × (answer ≡ solved_answer t s))
-    by_contents contents (inl refused) = inl (ap (λ (a : Answer). a.files) refused.is)
-    by_contents contents (inr solves) = inr (solves.tables, solves.gives.solution, solves.gives.is)
-
 -- ---- what a run leaves
+
+nothing_written : (dir : List ℕ) (names : List DeskFile) (told stands : Option Files) → stands ≡ told → KeepsAllBut dir names told stands
+nothing_written dir [] told stands same = same
+nothing_written dir (f ∷ names) told stands same = λ name others. rw same refl
 
 pub keeps_others : (told : Option Files) (asked : Option Asked) (answer : Answer) (stands : Option Files) → IfSome told (λ held. Answers held asked answer)
     → StandsAfter (folder_of asked) answer.files told stands → KeepsOthers asked told stands
-keeps_others None None answer stands answers after = untold _ _ stands after
-keeps_others None (Some (judge dir settings)) answer stands answers after = untold _ _ stands after
-keeps_others None (Some (solve dir settings limits)) answer stands answers after = λ name plan proof. rw (untold _ _ stands after) refl
-keeps_others None (Some (check dir settings)) answer stands answers after = untold _ _ stands after
-keeps_others (Some held) None answer stands answers after = nothing_by [] answer.files (Some held) stands (ap (λ (a : Answer). a.files) answers) after
-keeps_others (Some held) (Some (judge dir settings)) answer stands answers after = nothing_by dir answer.files (Some held) stands (judged_none held dir settings answer answers) after
-keeps_others (Some held) (Some (check dir settings)) answer stands answers after = nothing_by dir answer.files (Some held) stands (checked_none held dir settings answer answers) after
-keeps_others (Some held) (Some (solve dir settings limits)) answer stands answers after = λ name plan proof. elim (solved_or_none held dir settings limits answer answers) [
-  | inl none ↦ rw (nothing_by dir answer.files (Some held) stands none after) refl
-  | inr given ↦ keeps_after dir name held answer.files stands (rw given.2 (solved_others given.0 given.1 dir name plan proof)) after
+keeps_others None asked answer stands answers after = nothing_written (folder_of asked) (written_files asked) None stands (untold _ _ stands after)
+keeps_others (Some held) asked answer stands answers after = elim (kind answer held asked answers) [
+  | inl said ↦ nothing_written (folder_of asked) (written_files asked) (Some held) stands (nothing_by (folder_of asked) answer.files (Some held) stands (ap (λ (a : Answer). a.files) said.is) after)
+  | inr given ↦ subst (λ names. KeepsAllBut (folder_of asked) names (Some held) stands) (sym given.writes)
+      (λ name others. keeps_after (folder_of asked) name held answer.files stands
+      (rw given.is (solved_others given.tables given.solution (folder_of asked) name (others 0 desk_file.Plan (omega arith)) (others 1 desk_file.Proof (omega arith)))) after)
 ]
 
 differs : (code : ℕ) → IsRefusal code → (k : ℕ) → code ≡ k → ¬ (2 ≡ k) → ¬ (6 ≡ k) → ¬ (9 ≡ k) → ⊥
@@ -149,11 +188,8 @@ not_both code (inr (inr (inr is))) refused = differs code refused 5 is (λ e. om
 
 pub refusal_leaves : (told : Option Files) (asked : Option Asked) (answer : Answer) (code : ℕ) (stands : Option Files) → IfSome told (λ held. Answers held asked answer) → code ≡ answer.status.code
     → IsRefusal code → StandsAfter (folder_of asked) answer.files told stands → stands ≡ told
-refusal_leaves None asked answer code stands answers is refused after = untold _ _ stands after
-refusal_leaves (Some held) None answer code stands answers is refused after = keeps_others (Some held) None answer stands answers after
-refusal_leaves (Some held) (Some (judge dir settings)) answer code stands answers is refused after = keeps_others (Some held) (Some (judge dir settings)) answer stands answers after
-refusal_leaves (Some held) (Some (check dir settings)) answer code stands answers is refused after = keeps_others (Some held) (Some (check dir settings)) answer stands answers after
-refusal_leaves (Some held) (Some (solve dir settings limits)) answer code stands answers is refused after = elim (solved_or_none held dir settings limits answer answers) [
-  | inl none ↦ nothing_by dir answer.files (Some held) stands none after
-  | inr given ↦ absurd (not_both code (rw (is ∙ ap (λ (a : Answer). a.status.code) given.2) (solution_status given.1)) refused)
+refusal_leaves None asked answer code stands answers is refuses after = untold _ _ stands after
+refusal_leaves (Some held) asked answer code stands answers is refuses after = elim (kind answer held asked answers) [
+  | inl said ↦ nothing_by (folder_of asked) answer.files (Some held) stands (ap (λ (a : Answer). a.files) said.is) after
+  | inr given ↦ absurd (not_both code (rw (is ∙ ap (λ (a : Answer). a.status.code) given.is) (solution_status given.solution)) refuses)
 ]

@@ -1,36 +1,42 @@
 -- The files that solving leaves, as checking reads them.
-use Rattle.std.proofs.Common.{◌≡◌, ◌≢◌, ℕ, zero, suc, ◌<◌, ◌≤◌, List, [], ◌∷◌, ◌++◌, length, get_or, length-append, codes, Some, refl, ◌∙◌, ap, inl, inr, rules, arith}
-use Rattle.std.proofs.lemmas.List.{append_cancel_left, get_or_append_left, get_or_push}
+use Rattle.std.proofs.Common.{◌≡◌, ◌≢◌, ℕ, zero, suc, ◌<◌, ◌≤◌, List, [], ◌++◌, length, get_or, codes, Some, refl, sym, ◌∙◌, ap, subst, inl, inr, rules, arith}
+use Rattle.std.specs.Prelude.{unwrap_or}
+use Rattle.std.proofs.lemmas.List.{append_cancel_left}
 use Rattle.std.proofs.lemmas.Option.{same_Some}
+use Rattle.bound_cert.specs.ProofText.{proof_text}
+use Rattle.branch_bound.specs.Solved.{IsRight, tree_of}
+use Rattle.branch_bound.specs.declared.solved.Solved.{Solved}
+use Rattle.branch_bound.specs.declared.solved.Solved.TheVariants as solved
 use Rattle.command_words.specs.Words.{check, solve}
 use Rattle.command_words.specs.declared.command.SearchLimits.{SearchLimits}
 use Rattle.fleet_model.specs.declared.parts.Settings.{Settings}
 use Rattle.fleet_model.specs.declared.tables.Tables.{Tables}
-use Rattle.bound_cert.specs.ProofText.{proof_text}
 use Rattle.plan_desk.specs.Desk.{Files}
 use Rattle.plan_desk.specs.DeskFile.{path_of}
 use Rattle.plan_desk.specs.declared.file.DeskFile.{DeskFile}
 use Rattle.plan_desk.specs.declared.file.DeskFile.TheVariants as file
 use Rattle.plan_text.proofs.Lines.{reads_what_was_written}
+use Rattle.plan_text.specs.Reading.{PlanReads}
 use Rattle.plan_text.specs.Text.{plan_text}
+use Rattle.csv_fields.specs.Record.{records_of}
 use Rattle.sched_read.specs.Reading.{Reads}
-use Rattle.fleet_cli.proofs.FrontFacts.{front_grown}
+use Rattle.bound_cert.specs.ReadProof.{ReadsAs}
+use Rattle.fleet_cli.proofs.FrontFacts.{held_in, stands_in}
 use Rattle.fleet_cli.proofs.HeadlineFacts.{plan_stands, proof_stands}
 use Rattle.fleet_cli.proofs.OneAnswer.{complete_there, not_refused}
 use Rattle.fleet_cli.proofs.Others.{solved_others, texts_keep}
 use Rattle.fleet_cli.proofs.PlanLength.{plan_within}
 use Rattle.fleet_cli.proofs.SolvedHolds.{solved_holds}
-use Rattle.fleet_cli.specs.Answer.{Answers, SolvesContents, plan_files, proof_bytes, proof_files, table_bytes, table_files}
-use Rattle.fleet_cli.specs.Gathered.{AllHeld, FrontHeld, limit_of}
+use Rattle.fleet_cli.specs.Answer.{Answers, Solves}
+use Rattle.fleet_cli.specs.Contents.{bytes_in, table_bytes}
+use Rattle.fleet_cli.specs.Gathered.{AllStand, IsHeld, limit_of}
 use Rattle.fleet_cli.specs.Headline.{is_planned}
+use Rattle.fleet_cli.specs.Reading.{proof_files, table_files}
 use Rattle.fleet_cli.specs.Run.{IsCostThere, IsSolution, ProofThere}
-use Rattle.branch_bound.specs.Solved.{IsRight, tree_of}
 use Rattle.fleet_cli.specs.SolvedChecked.{ReadsAndHolds, SolvedIsChecked}
 use Rattle.fleet_cli.specs.Summary.{printed_cost, solved_files}
 use Rattle.fleet_cli.specs.Written.{HaveLengths, no_text, with_texts}
 use Rattle.fleet_cli.specs.declared.answer.Answer.{Answer}
-use Rattle.branch_bound.specs.declared.solved.Solved.{Solved}
-use Rattle.branch_bound.specs.declared.solved.Solved.TheVariants as solved
 
 -- ---- the tables stand as they did
 
@@ -51,74 +57,55 @@ not_proof dir (suc (suc (suc zero))) d below = λ same. (let e : codes "costs.cs
 not_proof dir (suc (suc (suc (suc zero)))) d below = λ same. (let e : codes "throughs.csv" ≡ codes "proof.txt" = append_cancel_left (dir ++ codes "/") _ _ same in search rules)
 not_proof dir (suc (suc (suc (suc (suc k))))) d below = absurd (omega arith)
 
--- the tables come first in both lists
-same_file : (k : ℕ) (d : DeskFile) → k < 5 → get_or table_files k d ≡ get_or proof_files k d
-same_file zero d below = refl
-same_file (suc zero) d below = refl
-same_file (suc (suc zero)) d below = refl
-same_file (suc (suc (suc zero))) d below = refl
-same_file (suc (suc (suc (suc zero)))) d below = refl
-same_file (suc (suc (suc (suc (suc k))))) d below = absurd (omega arith)
-
-module _ (held : Files) (dir : List ℕ) (t : Tables) (s : Solved) (contents : List (List ℕ)) (there : AllHeld held dir table_files contents) where
+module _ (held : Files) (dir : List ℕ) (t : Tables) (s : Solved) where
   abbrev stands : Files
   stands = with_texts held dir (solved_files t s)
 
-  five : length contents ≡ 5
-  five = there.all
+  -- under the name of a table stands what stood there
+  name_kept : (k : ℕ) (d : DeskFile) → k < 5 → stands (path_of dir (get_or table_files k d)) ≡ held (path_of dir (get_or table_files k d))
+  name_kept k d below =
+      texts_keep dir (path_of dir (get_or table_files k d)) held (solved_files t s) (solved_others t s dir (path_of dir (get_or table_files k d)) (not_plan dir k d below) (not_proof dir k d below))
 
-  tables_stand : FrontHeld stands dir proof_files contents
-  tables_stand = record {
-    bytes = λ k d within.
-        let below : k < 5 = omega (arith, five) in
-        rw (← same_file k d below) (texts_keep dir (path_of dir (get_or table_files k d)) held (solved_files t s)
-        (solved_others t s dir (path_of dir (get_or table_files k d)) (not_plan dir k d below) (not_proof dir k d below)) ∙ there.front.bytes k d within);
-    within = λ k d within.
-        let below : k < 5 = omega (arith, five) in
-        rw (← same_file k d below) (there.front.within k d within);
-  }
+  table_kept : (k : ℕ) → k < 5 → bytes_in stands dir (get_or table_files k file.Stations) ≡ bytes_in held dir (get_or table_files k file.Stations)
+  table_kept k below = ap (λ o. unwrap_or o []) (name_kept k file.Stations below)
 
-  abbrev read : List (List ℕ)
-  read = contents ++ proof_text t (is_planned s) (tree_of s) ∷ []
-
-  proof_there : length (proof_text t (is_planned s) (tree_of s)) ≤ limit_of file.Proof → AllHeld stands dir proof_files read
-  proof_there short = record {
-    all = omega (arith, length-append contents (proof_text t (is_planned s) (tree_of s) ∷ []), five);
-    front = front_grown stands dir proof_files contents (proof_text t (is_planned s) (tree_of s)) file.Proof tables_stand (rw five refl) (omega (arith, five)) (proof_stands held dir t s) short;
-  }
-
-  table_kept : (k : ℕ) → k < 5 → get_or read k [] ≡ get_or contents k []
-  table_kept k below = get_or_append_left contents (proof_text t (is_planned s) (tree_of s) ∷ []) [] k (omega (arith, five))
-
-  same_tables : table_bytes read ≡ table_bytes contents
+  same_tables : table_bytes (bytes_in stands dir) ≡ table_bytes (bytes_in held dir)
   same_tables = rw (table_kept 0 (omega arith), table_kept 1 (omega arith), table_kept 2 (omega arith), table_kept 3 (omega arith), table_kept 4 (omega arith)) refl
 
-  same_proof : proof_bytes read ≡ proof_text t (is_planned s) (tree_of s)
-  same_proof = get_or_push contents (proof_text t (is_planned s) (tree_of s)) [] 5 five
+  same_proof : bytes_in stands dir file.Proof ≡ proof_text t (is_planned s) (tree_of s)
+  same_proof = sym (stands_in stands dir file.Proof _ (proof_stands held dir t s))
+
+  table_stands : AllStand held dir table_files → (k : ℕ) (d : DeskFile) → k < 5 → IsHeld stands dir (get_or table_files k d) (bytes_in stands dir (get_or table_files k d))
+  table_stands there k d below =
+      let is = there.each k d below in
+      held_in stands dir (get_or table_files k d) (bytes_in held dir (get_or table_files k d)) (record { stands = name_kept k d below ∙ is.stands; within = is.within })
+
+  proof_there : AllStand held dir table_files → length (proof_text t (is_planned s) (tree_of s)) ≤ limit_of file.Proof → AllStand stands dir proof_files
+  proof_there there short = record { each = at }
+    where
+      at : (k : ℕ) (d : DeskFile) → k < 6 → IsHeld stands dir (get_or proof_files k d) (bytes_in stands dir (get_or proof_files k d))
+      at zero d below = table_stands there 0 d (omega arith)
+      at (suc zero) d below = table_stands there 1 d (omega arith)
+      at (suc (suc zero)) d below = table_stands there 2 d (omega arith)
+      at (suc (suc (suc zero))) d below = table_stands there 3 d (omega arith)
+      at (suc (suc (suc (suc zero)))) d below = table_stands there 4 d (omega arith)
+      at (suc (suc (suc (suc (suc zero))))) d below = held_in stands dir file.Proof _ (record { stands = proof_stands held dir t s; within = short })
+      at (suc (suc (suc (suc (suc (suc k)))))) d below = absurd (omega arith)
 
 -- the plan that is written stands there and is legal
-plan_there : (held : Files) (dir : List ℕ) (t : Tables) (s : Solved) → IsRight t s
-    → IsCostThere (with_texts held dir (solved_files t s)) dir t (is_planned s) (printed_cost s)
-unfolding solved_files
-plan_there held dir t (solved.Planned plan cost bound whole) right = (
-  refl,
-  record {
-    contents = plan_text t plan ∷ [];
-    plan = plan;
-    there = record { all = refl; front = record { bytes = λ k d within. at k d within; within = λ k d within. fits k d within } };
-    reads = reads_what_was_written t plan right.legal.assignment;
-    legal = right.legal;
-    costs = right.exact;
-  },
-)
-  where
-    at : (k : ℕ) (d : DeskFile) → k < 1 → with_texts held dir (solved_files t (solved.Planned plan cost bound whole)) (path_of dir (get_or plan_files k d)) ≡ Some (get_or (plan_text t plan ∷ []) k [])
-    at zero d within = plan_stands held dir t (solved.Planned plan cost bound whole)
-    at (suc k) d within = absurd (omega arith)
-
-    fits : (k : ℕ) (d : DeskFile) → k < 1 → length (get_or (plan_text t plan ∷ []) k []) ≤ limit_of (get_or plan_files k d)
-    fits zero d within = plan_within t plan right.legal.assignment
-    fits (suc k) d within = absurd (omega arith)
+plan_there : (held : Files) (dir : List ℕ) (t : Tables) (s : Solved) → IsRight t s → IsCostThere (with_texts held dir (solved_files t s)) dir t (is_planned s) (printed_cost s)
+plan_there held dir t (solved.Planned plan cost bound whole) right =
+    let there = plan_stands held dir t (solved.Planned plan cost bound whole) in
+    let stands = with_texts held dir (solved_files t (solved.Planned plan cost bound whole)) in (
+      refl,
+      record {
+        plan = plan;
+        there = held_in stands dir file.Plan (plan_text t plan) (record { stands = there; within = plan_within t plan right.legal.assignment });
+        reads = subst (λ b. PlanReads t (records_of b) plan) (stands_in stands dir file.Plan (plan_text t plan) there) (reads_what_was_written t plan right.legal.assignment);
+        legal = right.legal;
+        costs = right.exact;
+      },
+    )
 plan_there held dir t (solved.Infeasible whole) right = refl
 plan_there held dir t (solved.Unsettled bound whole) right = refl
 
@@ -129,17 +116,16 @@ proof_short t (solved.Planned plan cost bound whole) lengths = lengths.each 1 no
 proof_short t (solved.Infeasible whole) lengths = lengths.each 0 no_text (omega arith)
 proof_short t (solved.Unsettled bound whole) lengths = lengths.each 0 no_text (omega arith)
 
-proof_stays : (held : Files) (dir : List ℕ) (settings : Settings) (t : Tables) (s : Solved) (contents : List (List ℕ)) → AllHeld held dir table_files contents → Reads (table_bytes contents) settings t
+proof_stays : (held : Files) (dir : List ℕ) (settings : Settings) (t : Tables) (s : Solved) → AllStand held dir table_files → Reads (table_bytes (bytes_in held dir)) settings t
     → IsRight t s → ReadsAndHolds t s → HaveLengths (solved_files t s) → ProofThere (with_texts held dir (solved_files t s)) dir settings
-proof_stays held dir settings t s contents there reads right proof lengths = record {
-  contents = read held dir t s contents there;
+proof_stays held dir settings t s there reads right proof lengths = record {
   tables = t;
   proof = proof.proof;
   cost = printed_cost s;
   bound = _;
-  there = proof_there held dir t s contents there (proof_short t s lengths);
-  reads = rw (same_tables held dir t s contents there) reads;
-  proof_reads = rw (same_proof held dir t s contents there) proof.reads;
+  there = proof_there held dir t s there (proof_short t s lengths);
+  reads = subst (λ b. Reads b settings t) (sym (same_tables held dir t s)) reads;
+  proof_reads = subst (λ b. ReadsAs t b proof.proof) (sym (same_proof held dir t s)) proof.reads;
   plan = rw proof.says (plan_there held dir t s right);
   holds = proof.holds;
 }
@@ -149,14 +135,14 @@ module _ (held : Files) (dir : List ℕ) (settings : Settings) (limits : SearchL
     (checks : Answers (with_texts held dir solving.files) (Some (check dir settings)) checking) where
   answered : Answers held (Some (solve dir settings limits)) solving → checking.status.code ≡ 0
   answered (inl long) = absurd (not_refused _ solution (ap (λ (a : Answer). a.status.code) long.is))
-  answered (inr read) = by_contents read.answers
+  answered (inr read) = by_tables read.answers
     where
-      by_contents : SolvesContents settings limits read.contents solving → checking.status.code ≡ 0
-      by_contents (inl refused) = absurd (not_refused _ solution (ap (λ (a : Answer). a.status.code) refused.is))
-      by_contents (inr solves) =
+      by_tables : Solves settings limits (table_bytes (bytes_in held dir)) solving → checking.status.code ≡ 0
+      by_tables (inl refused) = absurd (not_refused _ solution (ap (λ (a : Answer). a.status.code) refused.is))
+      by_tables (inr solves) =
           let given = solves.gives in
           let files = ap (λ (a : Answer). a.files) given.is in
-          let there = proof_stays held dir settings solves.tables given.solution read.contents read.held solves.reads given.solves.right
+          let there = proof_stays held dir settings solves.tables given.solution read.within.first solves.reads given.solves.right
           (solved_holds solves.tables limits.nodes limits.pivots given.solution given.solves) (rw files at lengths) in
           complete_there (with_texts held dir (solved_files solves.tables given.solution)) (Some (check dir settings)) checking (rw files at checks) there
 

@@ -1,51 +1,51 @@
--- What a run reads: the files of a command, in their order.
-use Rattle.std.specs.Prelude.{◌≡◌, ◌≢◌, ◌<◌, ◌≤◌, ℕ, List, [], length, map, slice_index_or, Vec, Option, Some, None, IfSome, IsSome, IsSomeAnd, Result, Ok, Err}
-use Rattle.std.specs.declared.alloc.Global.{Global}
+-- Reading the files of a list, in their order.
+use Rattle.std.specs.Prelude.{◌≡◌, ◌≢◌, ◌<◌, ◌≤◌, ℕ, List, length, slice_index_or, Option, Some, None, IfSome, IsSomeAnd, Result, Ok, Err}
 use Rattle.plan_desk.specs.Desk.{Files}
 use Rattle.plan_desk.specs.DeskFile.{path_of}
 use Rattle.plan_desk.specs.declared.file.DeskFile.{DeskFile}
 use Rattle.plan_desk.specs.declared.file.DeskFile.TheVariants as desk_file
 use Rattle.plan_desk.specs.declared.file.TheConstants.{PROOF_LIMIT, TABLE_LIMIT}
+use Rattle.fleet_cli.specs.Contents.{FileBytes, bytes_in}
 use Rattle.fleet_cli.specs.declared.gathering.Stop.{Stop}
 use Rattle.fleet_cli.specs.declared.gathering.Stop.TheVariants as stop
-
--- what vectors hold
-abbrev pub contents_of : List (Vec ℕ Global) → List (List ℕ)
-contents_of vectors = map (λ vector. vector.items) vectors
-
--- the name under which a file of a folder stands
-abbrev pub name_at : List ℕ → List DeskFile → ℕ → DeskFile → List ℕ
-name_at dir names k d = path_of dir (slice_index_or names k d)
 
 -- the most bytes of a file that are read
 unfoldable pub limit_of : DeskFile → ℕ
 limit_of desk_file.Proof = PROOF_LIMIT
 limit_of other = TABLE_LIMIT
 
--- the first of these files hold these contents, one each, each within its limit
-pub record FrontHeld (held : Files) (dir : List ℕ) (names : List DeskFile) (contents : List (List ℕ)) : Type 0 where
-  pub bytes : (k : ℕ) (d : DeskFile) → k < length contents → held (name_at dir names k d) ≡ Some (slice_index_or contents k [])
-  pub within : (k : ℕ) (d : DeskFile) → k < length contents → length (slice_index_or contents k []) ≤ limit_of (slice_index_or names k d)
+-- these bytes stand in the folder's file, and are within its limit
+pub record IsHeld (held : Files) (dir : List ℕ) (file : DeskFile) (bytes : List ℕ) : Type 0 where
+  pub stands : held (path_of dir file) ≡ Some bytes
+  pub within : length bytes ≤ limit_of file
 
--- these files hold these contents, each within its limit
-pub record AllHeld (held : Files) (dir : List ℕ) (names : List DeskFile) (contents : List (List ℕ)) : Type 0 where
-  pub all : length contents ≡ length names
-  pub front : FrontHeld held dir names contents
+-- the first n of these files hold these bytes, each within its limit
+pub record FrontHeld (held : Files) (dir : List ℕ) (names : List DeskFile) (n : ℕ) (bytes : FileBytes) : Type 0 where
+  pub each : (k : ℕ) (d : DeskFile) → k < n → IsHeld held dir (slice_index_or names k d) (bytes (slice_index_or names k d))
 
--- the first of these files that is longer than its limit: those before it stand there within theirs
-pub record FirstTooLong (held : Files) (dir : List ℕ) (names : List DeskFile) (file : DeskFile) : Type 0 where
-  pub before : List (List ℕ)
-  pub place : length before < length names
-  pub front : FrontHeld held dir names before
-  pub is : (d : DeskFile) → file ≡ slice_index_or names (length before) d
-  pub too_long : IsSomeAnd (held (path_of dir file)) (λ bytes. limit_of file < length bytes)
+-- all of them do
+abbrev pub AllHeld : Files → List ℕ → List DeskFile → FileBytes → Type 0
+AllHeld held dir names bytes = FrontHeld held dir names (length names) bytes
 
--- the first of these files that is missing: those before it stand there within their limits
-pub record FirstMissing (held : Files) (dir : List ℕ) (names : List DeskFile) (file : DeskFile) : Type 0 where
-  pub before : List (List ℕ)
-  pub place : length before < length names
-  pub front : FrontHeld held dir names before
-  pub is : (d : DeskFile) → file ≡ slice_index_or names (length before) d
+-- all of them stand there, each within its limit
+abbrev pub AllStand : Files → List ℕ → List DeskFile → Type 0
+AllStand held dir names = AllHeld held dir names (bytes_in held dir)
+
+-- reading these files comes to this one: those before it stand there within their limits
+pub record ComesTo (held : Files) (dir : List ℕ) (names : List DeskFile) (file : DeskFile) : Type 0 where
+  pub place : ℕ
+  pub within : place < length names
+  pub is : (d : DeskFile) → file ≡ slice_index_or names place d
+  pub front : FrontHeld held dir names place (bytes_in held dir)
+
+-- a file that reading comes to is longer than its limit
+pub record IsFirstTooLong (held : Files) (dir : List ℕ) (comes : DeskFile → Type 0) (file : DeskFile) : Type 0 where
+  pub reached : comes file
+  pub longer : IsSomeAnd (held (path_of dir file)) (λ bytes. limit_of file < length bytes)
+
+-- a file that reading comes to is missing
+pub record IsFirstMissing (held : Files) (dir : List ℕ) (comes : DeskFile → Type 0) (file : DeskFile) : Type 0 where
+  pub reached : comes file
   pub missing : held (path_of dir file) ≡ None
 
 -- the file is one of these
@@ -54,10 +54,10 @@ pub record IsAmong (names : List DeskFile) (file : DeskFile) : Type 0 where
   pub within : place < length names
   pub is : (d : DeskFile) → file ≡ slice_index_or names place d
 
--- one of these files, and not the proof, is called too long, where more than its limit was taken
-pub record CalledTooLong (longer : Type 0) (names : List DeskFile) (file : DeskFile) : Type 0 where
+-- a file that is read, and not the proof, is called too long, where more than its limit was taken
+pub record CalledTooLong (longer : Type 0) (is_read : DeskFile → Type 0) (file : DeskFile) : Type 0 where
   pub taken : longer
-  pub among : IsAmong names file
+  pub read : is_read file
   pub not_proof : file ≢ desk_file.Proof
 
 -- reading failed at the file that the desk blames, which is one of those that are read; a desk that is steady and tells
@@ -70,11 +70,7 @@ pub record ReadFails (steady : Type 0) (told : Option Files) (is_read : DeskFile
 
 -- the same of files that are read in this order
 abbrev pub ReadFailsAmong : Type 0 → Option Files → List ℕ → List DeskFile → Option DeskFile → Type 0
-ReadFailsAmong steady told dir names blamed = ReadFails steady told (IsAmong names) (λ held. FirstMissing held dir names) blamed
-
--- each of these files stands in the folder
-abbrev pub StandThere : List ℕ → List DeskFile → Files → Type 0
-StandThere dir names held = (k : ℕ) (d : DeskFile) → k < length names → IsSome (held (name_at dir names k d))
+ReadFailsAmong steady told dir names blamed = ReadFails steady told (IsAmong names) (λ held. IsFirstMissing held dir (ComesTo held dir names)) blamed
 
 -- a fact for each way to stop
 abbrev pub MatchStop : {T : Type 0} → Result T Stop → (T → Type 0) → Type 0 → (DeskFile → Type 0) → Type 0 → Type 0

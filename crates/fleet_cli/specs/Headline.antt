@@ -14,8 +14,9 @@ use Rattle.plan_desk.specs.Sink.{output_with}
 use Rattle.plan_desk.specs.declared.file.DeskFile.TheVariants as desk_file
 use Rattle.plan_text.specs.Text.{plan_text}
 use Rattle.sched_read.specs.Reading.{Reads}
-use Rattle.fleet_cli.specs.Answer.{proof_files, table_bytes, table_files}
-use Rattle.fleet_cli.specs.Gathered.{AllHeld}
+use Rattle.fleet_cli.specs.Contents.{bytes_in, table_bytes}
+use Rattle.fleet_cli.specs.Gathered.{AllStand}
+use Rattle.fleet_cli.specs.Reading.{proof_files, table_files}
 use Rattle.fleet_cli.specs.Run.{IsSolution, PlanThere}
 use Rattle.branch_bound.specs.Solved.{IsSolved, tree_of}
 use Rattle.fleet_cli.specs.Summary.{solved_status, summary_text}
@@ -41,11 +42,10 @@ plan_there t (solved.Unsettled bound tree) before = before
 -- legal assignment undercuts that bound; it is the cost where no leaf is open, each open leaf has its cause, and where
 -- it says infeasible, none is legal.
 pub record LeavesSolution (held stands : Files) (dir : List ℕ) (settings : Settings) (limits : SearchLimits) (code : ℕ) (before after : Option (List ℕ)) : Type 0 where
-  pub contents : List (List ℕ)
   pub tables : Tables
   pub solution : Solved
-  pub there : AllHeld held dir table_files contents
-  pub reads : Reads (table_bytes contents) settings tables
+  pub there : AllStand held dir table_files
+  pub reads : Reads (table_bytes (bytes_in held dir)) settings tables
   pub solves : IsSolved tables limits.nodes limits.pivots solution
   pub plan : stands (path_of dir desk_file.Plan) ≡ plan_there tables solution (held (path_of dir desk_file.Plan))
   pub proof : stands (path_of dir desk_file.Proof) ≡ Some (proof_text tables (is_planned solution) (tree_of solution))
@@ -66,12 +66,11 @@ IsUnder bound cost = IsSomeAnd bound (λ least. least ≤ℤ cost)
 -- that stands there where one comes with it. No legal assignment undercuts the bound, and with no bound none is legal; so
 -- where there is a cost, there is a bound, and it is no more.
 pub record TellsBound (held : Files) (dir : List ℕ) (settings : Settings) (before after : Option (List ℕ)) : Type 0 where
-  pub contents : List (List ℕ)
   pub tables : Tables
   pub cost : Option ℤ
   pub bound : Option ℤ
-  pub there : AllHeld held dir proof_files contents
-  pub reads : Reads (table_bytes contents) settings tables
+  pub there : AllStand held dir proof_files
+  pub reads : Reads (table_bytes (bytes_in held dir)) settings tables
   pub plan : IfSome cost (PlanThere held dir tables)
   pub proven : BoundsAll tables bound
   pub under : IfSome cost (IsUnder bound)

@@ -1,10 +1,12 @@
 pub mod Answer
+pub mod Contents
 pub mod Failed
 pub mod Gathered
 pub mod Headline
 pub mod Laws
 pub mod Opened
 pub mod Program
+pub mod Reading
 pub mod Run
 pub mod SolvedChecked
 pub mod Summary

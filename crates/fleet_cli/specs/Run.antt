@@ -1,5 +1,5 @@
 -- What a run leaves.
-use Rattle.std.specs.Prelude.{◌≡◌, ◌≢◌, ◌⊎◌, ℕ, Bool, true, false, List, [], slice_index_or, ℤ, Option, Some, None, IfSome, ⊤}
+use Rattle.std.specs.Prelude.{◌≡◌, ◌≢◌, ◌⊎◌, ℕ, All, Bool, true, false, List, [], ◌∷◌, ℤ, Option, Some, None, IfSome, ⊤}
 use Rattle.bound_cert.specs.ReadProof.{ReadsAs}
 use Rattle.bound_cert.specs.declared.reading.Proof.{Proof}
 use Rattle.cert_check.specs.Verdicts.{HoldsWith}
@@ -14,21 +14,16 @@ use Rattle.plan_desk.specs.declared.file.DeskFile.{DeskFile}
 use Rattle.plan_desk.specs.declared.file.DeskFile.TheVariants as desk_file
 use Rattle.plan_text.specs.Reading.{PlanReads}
 use Rattle.sched_read.specs.Reading.{Reads}
-use Rattle.fleet_cli.specs.Answer.{Answers, AnswersSome, IsMissing, IsRead, judge_files, plan_bytes, plan_files, proof_bytes, proof_files, table_bytes, table_files}
-use Rattle.fleet_cli.specs.Gathered.{AllHeld, ReadFails}
+use Rattle.fleet_cli.specs.Answer.{Answers, AnswersSome}
+use Rattle.fleet_cli.specs.Contents.{bytes_in, table_bytes}
+use Rattle.fleet_cli.specs.Gathered.{AllStand, IsHeld, ReadFails}
 use Rattle.fleet_cli.specs.Laws.{IsFixed}
+use Rattle.fleet_cli.specs.Reading.{IsMissing, IsRead, folder_of, judge_files, proof_files, table_files, written_files}
 use Rattle.fleet_cli.specs.Texts.{fault_text}
 use Rattle.command_words.specs.Words.{Asked, check, judge, solve}
 use Rattle.fleet_cli.specs.Written.{HaveLengths, WriteFails, WritesPart, held_with_texts, under}
 use Rattle.fleet_cli.specs.declared.answer.Answer.{Answer}
 use Rattle.fleet_cli.specs.declared.status.TheConstants.{BAD_INPUT, DONE, FAULT, GAP, INFEASIBLE, NO_MEMORY, REFUSED, UNSETTLED, USAGE}
-
--- the folder that words ask about
-abbrev pub folder_of : Option Asked → List ℕ
-folder_of None = []
-folder_of (Some (judge dir settings)) = dir
-folder_of (Some (solve dir settings limits)) = dir
-folder_of (Some (check dir settings)) = dir
 
 -- a fact of every status but a fault and want of memory
 abbrev pub IsAnswered : ℕ → Type 0 → Type 0
@@ -58,27 +53,24 @@ AnswersExactly held asked code before after = (answer : Answer) → Answers held
 
 -- the files of a folder are tables that read, and a plan that reads on them and is legal
 pub record LegalThere (held : Files) (dir : List ℕ) (settings : Settings) : Type 0 where
-  pub contents : List (List ℕ)
   pub tables : Tables
   pub plan : List ℕ
-  pub there : AllHeld held dir judge_files contents
-  pub reads : Reads (table_bytes contents) settings tables
-  pub plan_reads : PlanReads tables (records_of (plan_bytes contents)) plan
+  pub there : AllStand held dir judge_files
+  pub reads : Reads (table_bytes (bytes_in held dir)) settings tables
+  pub plan_reads : PlanReads tables (records_of (bytes_in held dir desk_file.Plan)) plan
   pub legal : IsLegal tables plan
 
 -- the files of a folder are tables that read
 pub record TablesThere (held : Files) (dir : List ℕ) (settings : Settings) : Type 0 where
-  pub contents : List (List ℕ)
   pub tables : Tables
-  pub there : AllHeld held dir table_files contents
-  pub reads : Reads (table_bytes contents) settings tables
+  pub there : AllStand held dir table_files
+  pub reads : Reads (table_bytes (bytes_in held dir)) settings tables
 
 -- a plan stands in the folder that reads on the tables and is legal
 pub record PlanThere (held : Files) (dir : List ℕ) (t : Tables) (cost : ℤ) : Type 0 where
-  pub contents : List (List ℕ)
   pub plan : List ℕ
-  pub there : AllHeld held dir plan_files contents
-  pub reads : PlanReads t (records_of (slice_index_or contents 0 [])) plan
+  pub there : IsHeld held dir desk_file.Plan (bytes_in held dir desk_file.Plan)
+  pub reads : PlanReads t (records_of (bytes_in held dir desk_file.Plan)) plan
   pub legal : IsLegal t plan
   pub costs : cost ≡ total_cost t plan
 
@@ -90,14 +82,13 @@ IsCostThere held dir t planned (Some cost) = (planned ≡ true) × PlanThere hel
 -- the files of a folder are tables that read, and a proof that reads on them and whose tree holds, with a legal plan
 -- where it says that one comes with it
 pub record ProofThere (held : Files) (dir : List ℕ) (settings : Settings) : Type 0 where
-  pub contents : List (List ℕ)
   pub tables : Tables
   pub proof : Proof
   pub cost : Option ℤ
   pub bound : Option ℤ
-  pub there : AllHeld held dir proof_files contents
-  pub reads : Reads (table_bytes contents) settings tables
-  pub proof_reads : ReadsAs tables (proof_bytes contents) proof
+  pub there : AllStand held dir proof_files
+  pub reads : Reads (table_bytes (bytes_in held dir)) settings tables
+  pub proof_reads : ReadsAs tables (bytes_in held dir desk_file.Proof) proof
   pub plan : IsCostThere held dir tables proof.planned cost
   pub holds : HoldsWith tables cost proof.tree bound
 
@@ -165,10 +156,11 @@ pub record PutsFault (rose : Type 0) (blamed : Option DeskFile) (before after : 
 abbrev pub IsRefusal : ℕ → Type 0
 IsRefusal code = (code ≡ USAGE) ⊎ (code ≡ BAD_INPUT) ⊎ (code ≡ REFUSED)
 
+-- no name of a folder holds anything else than before, but those of these files
+abbrev pub KeepsAllBut : List ℕ → List DeskFile → Option Files → Option Files → Type 0
+KeepsAllBut dir [] told stands = stands ≡ told
+KeepsAllBut dir (file ∷ files) told stands = (name : List ℕ) → All (λ other. name ≢ path_of dir other) (file ∷ files) → under stands name ≡ under told name
+
 -- no name holds anything else than before, but those that what is asked for writes
 abbrev pub KeepsOthers : Option Asked → Option Files → Option Files → Type 0
-KeepsOthers None told stands = stands ≡ told
-KeepsOthers (Some (judge dir settings)) told stands = stands ≡ told
-KeepsOthers (Some (check dir settings)) told stands = stands ≡ told
-KeepsOthers (Some (solve dir settings limits)) told stands =
-    (name : List ℕ) → name ≢ path_of dir desk_file.Plan → name ≢ path_of dir desk_file.Proof → under stands name ≡ under told name
+KeepsOthers asked told stands = KeepsAllBut (folder_of asked) (written_files asked) told stands

@@ -1,24 +1,26 @@
 //! The answer to the words of a call, by what the desk holds.
-ghost use Rattle.std.specs.Prelude.{◌≡◌, ◌+◌, IfOk, IfSome, IsSome, IsSomeAnd, map, string_bytes, ⊤};
-ghost use Rattle.fleet_cli.specs.Answer.{Answers, AnswersSome, IsMissing, IsRead, NamesStand, says};
-ghost use Rattle.fleet_cli.specs.Failed.{MatchFailure};
+ghost use Rattle.std.specs.Prelude.{◌≡◌, ◌+◌, Some, IfOk, IfSome, map, string_bytes, ⊤};
+ghost use Rattle.command_words.specs.Words.{HasSettings, asked, asked_by};
+ghost use Rattle.fleet_cli.specs.Answer.{Answers, AnswersSome, says};
+ghost use Rattle.fleet_cli.specs.Failed.{MatchFailure, StopsAs};
 ghost use Rattle.fleet_cli.specs.Gathered.{ReadFails};
-ghost use Rattle.fleet_cli.specs.Texts.{bad_input_text, usage_text};
-ghost use Rattle.command_words.specs.Words.{asked};
+ghost use Rattle.fleet_cli.specs.Reading.{IsMissing, IsRead, folder_of};
+ghost use Rattle.fleet_cli.specs.Texts.{usage_text};
+ghost use Rattle.fleet_cli.specs.declared.status.TheConstants.{USAGE};
 ghost use Rattle.plan_desk.specs.Counts.{Rose, RoseBy};
 ghost use Rattle.plan_desk.specs.declared.file.TheConstants.{TABLE_LIMIT};
-ghost use Rattle.fleet_cli.specs.declared.status.TheConstants.{USAGE};
-ghost use Rattle.fleet_cli.specs.Run.{IsEnd, folder_of};
 
 use crate::answer::{Answer, Failure};
-use crate::checking::check_folder;
-use crate::judging::judge_folder;
-use crate::solving::solve_folder;
+use crate::checking::check_plan;
+use crate::commands::{first_files, folder, open};
+use crate::gathering::{Stop, read_file, read_files};
+use crate::opened::Opened;
+use crate::refusing::too_long;
 use crate::status::USAGE;
 use crate::texts::USAGE_LINE;
 use command_words::{Command, command_of};
 use entries::NoMemory;
-use plan_desk::Desk;
+use plan_desk::{Desk, DeskFile};
 use std::alloc::Global;
 
 /// An answer, and the folder that its files are written into.
@@ -37,43 +39,63 @@ pub fn reply_to<'a, D: Desk>(
     ensures told { IfSome (D.holds desk.old) (λ held. IfOk result (λ reply. Answers held (asked (map string_bytes words.now)) reply.answer)) }
     ensures some { IfOk result (λ reply. AnswersSome (RoseBy (TABLE_LIMIT + 1) (D.taken desk.old) (D.taken desk.new)) (asked (map string_bytes words.now)) reply.answer) }
     ensures folder { IfOk result (λ reply. reply.dir.now ≡ folder_of (asked (map string_bytes words.now))) }
-    ensures ends { IfOk result (λ reply. IsEnd reply.answer.status.code) }
     ensures holds { D.holds desk.new ≡ D.holds desk.old }
     ensures faults { MatchFailure result (λ _. D.faults desk.new ≡ D.faults desk.old) (Rose (D.faults desk.old) (D.faults desk.new)) (D.faults desk.new ≡ D.faults desk.old) }
     ensures blamed { MatchFailure result (λ _. ⊤) (ReadFails (D.is_steady desk.old) (D.holds desk.old) (IsRead (asked (map string_bytes words.now))) (IsMissing (asked (map string_bytes words.now))) (D.blamed desk.new)) ⊤ }
-    ensures steady { D.is_steady desk.old → IsSomeAnd (D.holds desk.old) (NamesStand (asked (map string_bytes words.now))) → MatchFailure result (λ _. ⊤) ⊥ ⊤ }
     ensures stays_steady { D.is_steady desk.old → D.is_steady desk.new }
 {
     match command_of(alloc, words) {
-        Ok(Some(Command::Judge { dir, settings })) => {
-            match judge_folder(alloc, desk, dir, settings) {
-                Ok(answer) => Ok(Reply { dir, answer }),
-                Err(failure) => Err(failure),
-            }
-        }
-        Ok(
-            Some(
-                Command::Solve {
-                    dir,
-                    settings,
-                    limits,
-                },
-            ),
-        ) => match solve_folder(alloc, desk, dir, settings, limits) {
-            Ok(answer) => Ok(Reply { dir, answer }),
+        Ok(Some(command)) => match answer_to(alloc, command, desk) {
+            Ok(answer) => Ok(Reply {
+                dir: folder(command),
+                answer,
+            }),
             Err(failure) => Err(failure),
         },
-        Ok(Some(Command::Check { dir, settings })) => {
-            match check_folder(alloc, desk, dir, settings) {
-                Ok(answer) => Ok(Reply { dir, answer }),
-                Err(failure) => Err(failure),
-            }
-        }
         Ok(None) => Ok(Reply {
             dir: "",
             answer: usage(alloc)?,
         }),
         Err(NoMemory) => Err(Failure::NoMemory),
+    }
+}
+
+/// The answer to a command: its first files are read in their order, and the plan where they ask for it.
+fn answer_to<D: Desk>(alloc: Global, command: Command<'_>, desk: &mut D) -> Result<Answer, Failure>
+    requires { HasSettings command }
+    ensures told { IfSome (D.holds desk.old) (λ held. IfOk result (Answers held (Some (asked_by command.entry)))) }
+    ensures some { IfOk result (AnswersSome (RoseBy (TABLE_LIMIT + 1) (D.taken desk.old) (D.taken desk.new)) (Some (asked_by command.entry))) }
+    ensures holds { D.holds desk.new ≡ D.holds desk.old }
+    ensures faults { MatchFailure result (λ _. D.faults desk.new ≡ D.faults desk.old) (Rose (D.faults desk.old) (D.faults desk.new)) (D.faults desk.new ≡ D.faults desk.old) }
+    ensures blamed { MatchFailure result (λ _. ⊤) (ReadFails (D.is_steady desk.old) (D.holds desk.old) (IsRead (Some (asked_by command.entry))) (IsMissing (Some (asked_by command.entry))) (D.blamed desk.new)) ⊤ }
+    ensures stays_steady { D.is_steady desk.old → D.is_steady desk.new }
+{
+    let dir = folder(command);
+    match read_files(alloc, desk, dir, first_files(command)) {
+        Ok(contents) => match open(alloc, command, contents)? {
+            Opened::Answered(answer) => Ok(answer),
+            Opened::WantsPlan(checking) => match read_file(alloc, desk, dir, DeskFile::Plan) {
+                Ok(plan) => Ok(check_plan(
+                    alloc,
+                    &checking.tables,
+                    &checking.proof.tree,
+                    plan.as_slice(),
+                )?),
+                Err(stop) => stopped(alloc, stop),
+            },
+        },
+        Err(stop) => stopped(alloc, stop),
+    }
+}
+
+/// The answer where reading stopped: the refusal of a file that is too long, and else none.
+fn stopped(alloc: Global, stop: Stop) -> Result<Answer, Failure>
+    ensures { StopsAs stop result }
+{
+    match stop {
+        Stop::TooLong { file } => Ok(too_long(alloc, file)?),
+        Stop::Fault => Err(Failure::Fault),
+        Stop::NoMemory => Err(Failure::NoMemory),
     }
 }
 

@@ -1,16 +1,19 @@
-//! Reading the files of a command, in their order.
-ghost use Rattle.std.specs.Prelude.{◌≡◌, ◌≢◌, ◌+◌, ◌<◌, ◌≤◌, ℕ, Some, None, IfSome, IsSome, IsSomeAnd, length, ⊤};
-ghost use Rattle.fleet_cli.specs.Gathered.{AllHeld, CalledTooLong, FirstTooLong, MatchStop, ReadFailsAmong, StandThere, contents_of, limit_of};
+//! Reading the files of a folder, in their order.
+ghost use Rattle.std.specs.Prelude.{◌≡◌, ◌≢◌, ◌+◌, ◌<◌, ◌≤◌, Some, None, IfSome, IsSomeAnd, length, ⊤};
+ghost use Rattle.fleet_cli.specs.Contents.{content_of};
+ghost use Rattle.fleet_cli.specs.Gathered.{AllHeld, CalledTooLong, ComesTo, IsAmong, IsFirstTooLong, MatchStop, ReadFailsAmong, limit_of};
 ghost use Rattle.fleet_cli.specs.declared.gathering.Stop.TheVariants as stop;
 ghost use Rattle.plan_desk.specs.Counts.{Rose, RoseBy};
 ghost use Rattle.plan_desk.specs.DeskFile.{path_of};
 ghost use Rattle.plan_desk.specs.declared.file.DeskFile.TheVariants as desk_file;
 ghost use Rattle.plan_desk.specs.declared.file.TheConstants.{PROOF_LIMIT, TABLE_LIMIT};
 
+use crate::contents::Contents;
+use entries::Entries;
 use plan_desk::{Desk, DeskError, DeskFile, PROOF_LIMIT, TABLE_LIMIT};
-use std::alloc::{AllocFailed, Global};
+use std::alloc::Global;
 
-/// Why a run ends before it has an answer.
+/// Why reading ends before its end.
 #[derive(Clone, Copy, Debug, PartialEq, Eq)]
 pub enum Stop {
     /// The desk failed; it tells which file is to blame.
@@ -20,25 +23,16 @@ pub enum Stop {
     NoMemory,
 }
 
-impl<T: Drop> From<AllocFailed<T>> for Stop {
-    ghost from_gives = { λ _ e. e ≡ stop.NoMemory };
-
-    fn from(_: AllocFailed<T>) -> Stop {
-        Stop::NoMemory
-    }
-}
-
-/// What the files of a folder hold, each within its limit, in the order of the list.
-pub fn read_all<D: Desk>(
+/// What the files of a folder hold, each within its limit, read in the order of the list.
+pub fn read_files<D: Desk>(
     alloc: Global,
     desk: &mut D,
     dir: &str,
     files: &[DeskFile],
-) -> Result<Vec<Vec<u8>>, Stop>
+) -> Result<Contents, Stop>
     ensures told { IfSome (D.holds desk.old) (λ held. MatchStop result
-        (λ contents. AllHeld held dir.now files.now (contents_of contents.items)) ⊤ (FirstTooLong held dir.now files.now) ⊤) }
-    ensures count { MatchStop result (λ contents. length contents.items ≡ length files.now) ⊤ (λ _. ⊤) ⊤ }
-    ensures too_long { MatchStop result (λ _. ⊤) ⊤ (CalledTooLong (RoseBy (TABLE_LIMIT + 1) (D.taken desk.old) (D.taken desk.new)) files.now) ⊤ }
+        (λ contents. AllHeld held dir.now files.now (content_of contents)) ⊤ (IsFirstTooLong held dir.now (ComesTo held dir.now files.now)) ⊤) }
+    ensures too_long { MatchStop result (λ _. ⊤) ⊤ (CalledTooLong (RoseBy (TABLE_LIMIT + 1) (D.taken desk.old) (D.taken desk.new)) (IsAmong files.now)) ⊤ }
     ensures taken { D.taken desk.old ≤ D.taken desk.new }
     ensures holds { D.holds desk.new ≡ D.holds desk.old }
 
@@ -46,27 +40,26 @@ pub fn read_all<D: Desk>(
     ensures faults { MatchStop result (λ _. D.faults desk.new ≡ D.faults desk.old) (Rose (D.faults desk.old) (D.faults desk.new))
         (λ _. D.faults desk.new ≡ D.faults desk.old) (D.faults desk.new ≡ D.faults desk.old) }
     ensures blamed { MatchStop result (λ _. ⊤) (ReadFailsAmong (D.is_steady desk.old) (D.holds desk.old) dir.now files.now (D.blamed desk.new)) (λ _. ⊤) ⊤ }
-    ensures steady { D.is_steady desk.old → IsSomeAnd (D.holds desk.old) (StandThere dir.now files.now) → MatchStop result (λ _. ⊤) ⊥ (λ _. ⊤) ⊤ }
     ensures stays_steady { D.is_steady desk.old → D.is_steady desk.new }
 {
-    let mut contents = Vec::new(alloc);
+    let mut contents = Contents::new(alloc);
     for file in files {
-        let bytes = read_one(alloc, desk, dir, *file)?;
-        contents.push(bytes)?;
+        let bytes = read_file(alloc, desk, dir, *file)?;
+        contents.put(*file, bytes);
     }
     Ok(contents)
 }
 
 /// What one file of a folder holds, within its limit.
-fn read_one<D: Desk>(
+pub fn read_file<D: Desk>(
     alloc: Global,
     desk: &mut D,
     dir: &str,
     file: DeskFile,
-) -> Result<Vec<u8>, Stop>
-    ensures told { IfSome (D.holds desk.old) (λ held. MatchStop result (λ bytes. held (path_of dir.now file) ≡ Some bytes.items) ⊤
+) -> Result<Entries<u8>, Stop>
+    ensures told { IfSome (D.holds desk.old) (λ held. MatchStop result (λ bytes. held (path_of dir.now file) ≡ Some bytes) ⊤
         (λ long. IsSomeAnd (held (path_of dir.now file)) (λ bytes. limit_of file < length bytes)) ⊤) }
-    ensures within { MatchStop result (λ bytes. length bytes.items ≤ limit_of file) ⊤ (λ long. long ≡ file) ⊤ }
+    ensures within { MatchStop result (λ bytes. length bytes ≤ limit_of file) ⊤ (λ long. long ≡ file) ⊤ }
     ensures too_long_taken { MatchStop result (λ _. ⊤) ⊤ (λ _. RoseBy (TABLE_LIMIT + 1) (D.taken desk.old) (D.taken desk.new)) ⊤ }
     ensures not_proof { MatchStop result (λ _. ⊤) ⊤ (λ _. file ≢ desk_file.Proof) ⊤ }
     ensures taken { D.taken desk.old ≤ D.taken desk.new }
@@ -75,11 +68,10 @@ fn read_one<D: Desk>(
         (λ _. D.faults desk.new ≡ D.faults desk.old) (D.faults desk.new ≡ D.faults desk.old) }
     ensures blamed { MatchStop result (λ _. ⊤) (D.blamed desk.new ≡ Some file) (λ _. ⊤) ⊤ }
     ensures missing { MatchStop result (λ _. ⊤) (D.is_steady desk.old → IfSome (D.holds desk.old) (λ held. held (path_of dir.now file) ≡ None)) (λ _. ⊤) ⊤ }
-    ensures steady { D.is_steady desk.old → IsSomeAnd (D.holds desk.old) (λ held. IsSome (held (path_of dir.now file))) → MatchStop result (λ _. ⊤) ⊥ (λ _. ⊤) ⊤ }
     ensures stays_steady { D.is_steady desk.old → D.is_steady desk.new }
 {
     match desk.read(alloc, dir, file, limit_of(file)) {
-        Ok(bytes) => Ok(bytes),
+        Ok(bytes) => Ok(Entries::from_vec(bytes)),
         Err(DeskError::Failed) => Err(Stop::Fault),
         Err(DeskError::TooLong) => Err(Stop::TooLong { file }),
         Err(DeskError::NoMemory) => Err(Stop::NoMemory),

@@ -1,5 +1,5 @@
 ghost use Rattle.std.specs.Prelude.{◌≡◌, ◌≢◌, ◌⊎◌, ◌+◌, Some, None, IfSome, IsSome, IsSomeAnd, map, string_bytes};
-ghost use Rattle.fleet_cli.specs.Answer.{NamesStand};
+ghost use Rattle.fleet_cli.specs.Reading.{NamesStand};
 ghost use Rattle.fleet_cli.specs.Headline.{Headline};
 ghost use Rattle.fleet_cli.specs.Run.{AnswersExactly, AnswersInFull, BlamesMissing, FailsAt, IsAnswered, IsComplete, IsEnd, IsRefusal, KeepsOthers, LeavesFiles, PutsFault, PutsPart, SomeInFull};
 ghost use Rattle.fleet_cli.specs.Texts.{fault_text, usage_text};

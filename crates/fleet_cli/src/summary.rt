@@ -1,7 +1,6 @@
 //! What is printed and written of a solution.
 ghost use Rattle.std.specs.Prelude.{◌≡◌, ◌++◌, [], ◌∷◌, IfOk, OnOk, codes};
 ghost use Rattle.bound_cert.specs.OfTables.{IsOfTables};
-ghost use Rattle.fleet_cli.specs.Run.{IsEnd};
 ghost use Rattle.branch_bound.specs.Solved.{PlanFits, tree_of};
 ghost use Rattle.fleet_cli.specs.Summary.{count_lines, number_word, outcome_word, plan_file, printed_bound, printed_cost, proof_file, result_lines, solved_files, solved_status, summary_text};
 ghost use Rattle.fleet_cli.specs.Texts.{line_of};
@@ -20,8 +19,7 @@ use std::alloc::Global;
 
 /// The exit status of a solution.
 pub fn status_of(solved: &Solved) -> u8
-    ensures status { result ≡ solved_status solved.now }
-    ensures ends { IsEnd result }
+    ensures { result ≡ solved_status solved.now }
 {
     match solved {
         Solved::Planned { tree, .. } if tree.has_open() => GAP,

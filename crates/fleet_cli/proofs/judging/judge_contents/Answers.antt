@@ -1,16 +1,5 @@
-use Rattle.std.proofs.Common.{arith}
-use Rattle.fleet_cli.specs.Gathered.{contents_of}
-use Rattle.fleet_cli.proofs.Contents.{content_at, judged_if}
+use Rattle.std.proofs.Common.{inr}
 use Rattle.fleet_cli.proofs.judging.judge_contents.Goals as goal
 
-pub returns-in-Ok : goal.returns-in-Ok
-returns-in-Ok c =
-    let all = c.args.contents.now in
-    judged_if _ (contents_of all) _ c.in-Ok.tables _ _ _ _ _ _
-    (content_at all 0 c.index-contents-0.result c.deref.result.now (omega arith) c.index-contents-0.is c.deref.ensures.value)
-    (content_at all 1 c.index-contents-1.result c.deref-2.result.now (omega arith) c.index-contents-1.is c.deref-2.ensures.value)
-    (content_at all 2 c.index-contents-2.result c.deref-3.result.now (omega arith) c.index-contents-2.is c.deref-3.ensures.value)
-    (content_at all 3 c.index-contents-3.result c.deref-4.result.now (omega arith) c.index-contents-3.is c.deref-4.ensures.value)
-    (content_at all 4 c.index-contents-4.result c.deref-5.result.now (omega arith) c.index-contents-4.is c.deref-5.ensures.value)
-    (content_at all 5 c.index-contents-5.result c.deref-in-Ok.result.now (omega arith) c.index-contents-5.is c.deref-in-Ok.ensures.value)
-    c.in-Ok.ensures c.judge_plan.ensures
+pub returns-in_ok-judge_plan-in-Read : goal.returns-in_ok-judge_plan-in-Read
+returns-in_ok-judge_plan-in-Read c = inr (record { tables = c.in-Read.tables; reads = rw c.in-Read.is at c.in_ok-answer.ensures; answers = rw c.as_slice.ensures at c.in_ok-judge_plan-in-Read.ensures })

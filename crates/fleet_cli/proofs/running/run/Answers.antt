@@ -1,24 +1,25 @@
-use Rattle.std.proofs.Common.{ap, inl, inr, ◌∙◌}
+use Rattle.std.proofs.Common.{ap, map, string_bytes, inl, inr, ◌∙◌}
+use Rattle.command_words.specs.Words.{asked}
 use Rattle.fleet_cli.proofs.HeadlineFacts.{headline}
 use Rattle.fleet_cli.proofs.OneAnswer.{complete, exactly}
-use Rattle.fleet_cli.proofs.Others.{keeps_others, refusal_ends, refusal_leaves}
+use Rattle.fleet_cli.proofs.Others.{answer_ends, keeps_others, refusal_ends, refusal_leaves}
 use Rattle.fleet_cli.proofs.running.run.Goals as goal
 
 pub returns-in-Ok-clause-exactly : goal.returns-in-Ok-clause-exactly
 returns-in-Ok-clause-exactly g c = λ no_fault memory.
-    exactly _ _ c.in-Ok.reply.answer _ _ _ c.in-Ok.ensures.told (ap (λ status. status.code) (c.give.ensures.status no_fault memory)) (c.give.ensures.put no_fault memory)
+    exactly _ (asked (map string_bytes c.args.words.now)) c.in-Ok.reply.answer _ _ _ c.in-Ok.ensures.told (ap (λ status. status.code) (c.give.ensures.status no_fault memory)) (c.give.ensures.put no_fault memory)
 
 pub returns-in-Ok-clause-complete : goal.returns-in-Ok-clause-complete
 returns-in-Ok-clause-complete g c = λ no_fault memory.
-    complete _ _ c.in-Ok.reply.answer _ c.in-Ok.ensures.told (ap (λ status. status.code) (c.give.ensures.status no_fault memory))
+    complete _ (asked (map string_bytes c.args.words.now)) c.in-Ok.reply.answer _ c.in-Ok.ensures.told (ap (λ status. status.code) (c.give.ensures.status no_fault memory))
 
 pub returns-in-Ok-clause-refusals : goal.returns-in-Ok-clause-refusals
 returns-in-Ok-clause-refusals g c = λ refused.
-    refusal_leaves _ _ c.in-Ok.reply.answer _ _ c.in-Ok.ensures.told (ap (λ status. status.code) (c.give.ensures.status (λ fault. refusal_ends _ refused (inl fault)) (λ memory. refusal_ends _ refused (inr memory)))) refused
+    refusal_leaves _ (asked (map string_bytes c.args.words.now)) c.in-Ok.reply.answer _ _ c.in-Ok.ensures.told (ap (λ status. status.code) (c.give.ensures.status (λ fault. refusal_ends _ refused (inl fault)) (λ memory. refusal_ends _ refused (inr memory)))) refused
     (rw (c.in-Ok.ensures.folder, c.in-Ok.ensures.holds) at c.give.ensures.stands)
 
 pub returns-in-Ok-clause-files : goal.returns-in-Ok-clause-files
-returns-in-Ok-clause-files g c = keeps_others _ _ c.in-Ok.reply.answer _ c.in-Ok.ensures.told (rw (c.in-Ok.ensures.folder, c.in-Ok.ensures.holds) at c.give.ensures.stands)
+returns-in-Ok-clause-files g c = keeps_others _ (asked (map string_bytes c.args.words.now)) c.in-Ok.reply.answer _ c.in-Ok.ensures.told (rw (c.in-Ok.ensures.folder, c.in-Ok.ensures.holds) at c.give.ensures.stands)
 
 pub returns-in-Ok-clause-fault_line : goal.returns-in-Ok-clause-fault_line
 returns-in-Ok-clause-fault_line g c = λ fault. elim (c.give.ensures.stopped_by_fault fault) [
@@ -28,5 +29,14 @@ returns-in-Ok-clause-fault_line g c = λ fault. elim (c.give.ensures.stopped_by_
 
 pub returns-in-Ok-clause-headline : goal.returns-in-Ok-clause-headline
 returns-in-Ok-clause-headline g c = λ no_fault memory.
-    headline _ _ _ c.in-Ok.reply.answer _ _ _ c.in-Ok.ensures.told (ap (λ status. status.code) (c.give.ensures.status no_fault memory))
+    headline _ _ (asked (map string_bytes c.args.words.now)) c.in-Ok.reply.answer _ _ _ c.in-Ok.ensures.told (ap (λ status. status.code) (c.give.ensures.status no_fault memory))
     (rw (c.in-Ok.ensures.folder, c.in-Ok.ensures.holds) at (c.give.ensures.written no_fault memory)) (c.give.ensures.put no_fault memory)
+
+pub give-requires : goal.give-requires
+give-requires g c = answer_ends _ (asked (map string_bytes c.args.words.now)) c.in-Ok.reply.answer c.in-Ok.ensures.some
+
+pub returns-in-Ok-clause-no_memory : goal.returns-in-Ok-clause-no_memory
+returns-in-Ok-clause-no_memory g c = λ memory. elim (c.give.ensures.stopped_by_memory memory) [
+  | inl stopped ↦ inl (stopped.0, inr (record { answer = c.in-Ok.reply.answer; answers = c.in-Ok.ensures.told; part = rw (c.in-Ok.ensures.folder, c.in-Ok.ensures.holds) at stopped.1 }))
+  | inr put ↦ inr (record { answer = c.in-Ok.reply.answer; answers = c.in-Ok.ensures.told; written = rw (c.in-Ok.ensures.folder, c.in-Ok.ensures.holds) at put.0; part = put.1 })
+]

@@ -1,0 +1,83 @@
+-- What the tables and the proof of a folder come to.
+use Rattle.std.proofs.Common.{◌≡◌, ◌⊎◌, ℕ, Bool, true, false, List, Some, Ok, refl, sym, ap, subst, ◌∙◌, inl, inr}
+use Rattle.bound_cert.specs.Lines.{Reading}
+use Rattle.bound_cert.specs.Nodes.{nodes_of}
+use Rattle.bound_cert.specs.ReadProof.{ReadsAs}
+use Rattle.bound_cert.specs.declared.nodes.Node.{Node}
+use Rattle.bound_cert.specs.declared.reading.Proof.{Proof}
+use Rattle.command_words.specs.Words.{check}
+use Rattle.fleet_model.specs.declared.parts.Settings.{Settings}
+use Rattle.fleet_model.specs.declared.tables.Tables.{Tables}
+use Rattle.plan_desk.specs.declared.file.DeskFile.TheVariants as file
+use Rattle.sched_read.proofs.ReadLaws as tables
+use Rattle.sched_read.specs.Reading.{Reads, TableBytes}
+use Rattle.fleet_cli.specs.Answer.{ChecksProof, RefusesProof, RefusesTables}
+use Rattle.fleet_cli.specs.Contents.{FileBytes, table_bytes}
+use Rattle.fleet_cli.specs.Opened.{ChecksAlone, IsOpened, IsOpenedBy, Settles}
+use Rattle.fleet_cli.specs.Reading.{WantsPlan}
+use Rattle.fleet_cli.specs.declared.answer.Answer.{Answer}
+use Rattle.fleet_cli.specs.declared.opened.Opened.{Opened}
+use Rattle.fleet_cli.specs.declared.opened.Opened.TheVariants as opened
+
+-- a text reads as one proof, or has a fault
+pub one_value : {A : Type 0} (one other : A) → ◌≡◌ {A = Reading A} (Ok one) (Ok other) → one ≡ other
+one_value one other e = cc
+
+pub never_read : (t : Tables) (text : List ℕ) (answer : Answer) (proof : Proof) → RefusesProof t text answer → ReadsAs t text proof → ⊥
+never_read t text answer proof x reads = let both = sym x.bad.stops ∙ reads in let never : ⊥ = cc in never
+
+-- what the one proof of a text says
+pub says_one : (t : Tables) (text : List ℕ) (one other : Proof) → ReadsAs t text one → ReadsAs t text other → (one.planned ≡ other.planned) × (nodes_of one.tree ≡ nodes_of other.tree)
+says_one t text one other x y =
+    let read = one_value _ _ (sym x ∙ y) in
+    (ap (λ (p : Bool × List Node). p.0) read, ap (λ (p : Bool × List Node). p.1) read)
+
+-- where the proof says that no plan comes with it, none is wanted
+module _ (settings : Settings) (bytes : TableBytes) (text : List ℕ) (t : Tables) (reads : Reads bytes settings t) where
+  pub no_plan_of_fault : (answer : Answer) → RefusesProof t text answer → ¬ (WantsPlan settings bytes text)
+  no_plan_of_fault answer refused wants =
+      never_read t text answer wants.proof refused (subst (λ u. ReadsAs u text wants.proof) (tables.one_reading bytes settings wants.tables t wants.reads reads) wants.proof_reads)
+
+  pub no_plan_alone : (proof : Proof) → ReadsAs t text proof → proof.planned ≡ false → ¬ (WantsPlan settings bytes text)
+  no_plan_alone proof text_reads alone wants =
+      let same = says_one t text wants.proof proof (subst (λ u. ReadsAs u text wants.proof) (tables.one_reading bytes settings wants.tables t wants.reads reads) wants.proof_reads) text_reads in
+      let never : ◌≡◌ {A = Bool} true false = sym wants.planned ∙ same.0 ∙ alone in
+      let bad : ⊥ = cc in bad
+
+module _ (dir : List ℕ) (settings : Settings) (bytes : FileBytes) where
+  pub refused_settles : (answer : Answer) → RefusesTables (table_bytes bytes) settings answer → Settles (Some (check dir settings)) bytes answer
+  refused_settles answer x = record {
+    no_more = λ f follows. tables.reads_no_fault (table_bytes bytes) settings follows.1.tables x.file x.row x.kind follows.1.reads x.bad;
+    answers = inl x;
+  }
+
+  module _ (t : Tables) (reads : Reads (table_bytes bytes) settings t) where
+    answered : (answer : Answer) → RefusesProof t (bytes file.Proof) answer ⊎ ChecksAlone t (bytes file.Proof) answer → Settles (Some (check dir settings)) bytes answer
+    answered answer (inl refused) = record {
+      no_more = λ f follows. no_plan_of_fault settings (table_bytes bytes) (bytes file.Proof) t reads answer refused follows.1;
+      answers = inr (record { tables = t; reads = reads; answers = inl refused });
+    }
+    answered answer (inr x) = record {
+      no_more = λ f follows. no_plan_alone settings (table_bytes bytes) (bytes file.Proof) t reads x.proof x.reads x.alone follows.1;
+      answers = inr (record {
+        tables = t;
+        reads = reads;
+        answers = inr (record { proof = x.proof; reads = x.reads; checks = subst (λ p. ChecksProof t p x.proof.tree (bytes file.Plan) answer) (sym x.alone) x.checks });
+      });
+    }
+
+    pub is_opened : (o : Opened) → IsOpenedBy t (bytes file.Proof) o → IsOpened (Some (check dir settings)) bytes o
+    is_opened (opened.Answered answer) by = answered answer by
+    is_opened (opened.WantsPlan checking) by = record {
+      wanted = (refl, record { tables = t; proof = checking.proof; reads = reads; proof_reads = by.reads; planned = by.planned });
+      of_tables = rw by.tables_are by.of_tables;
+      answers = λ plan answer checks. inr (record {
+        tables = t;
+        reads = reads;
+        answers = inr (record {
+          proof = checking.proof;
+          reads = by.reads;
+          checks = subst (λ p. ChecksProof t p checking.proof.tree plan answer) (sym by.planned) (subst (λ u. ChecksProof u true checking.proof.tree plan answer) by.tables_are checks);
+        });
+      });
+    }

@@ -1,0 +1,75 @@
+-- What the files of a folder hold, each under its name.
+use Rattle.std.specs.Prelude.{ℕ, ◌==◌, Bool, List, [], if◌then◌else◌, unwrap_or}
+use Rattle.plan_desk.specs.Desk.{Files}
+use Rattle.plan_desk.specs.DeskFile.{path_of}
+use Rattle.plan_desk.specs.declared.file.DeskFile.{DeskFile}
+use Rattle.plan_desk.specs.declared.file.DeskFile.TheVariants as file
+use Rattle.sched_read.specs.Reading.{TableBytes}
+use Rattle.fleet_cli.specs.declared.contents.Contents.{Contents}
+
+-- the bytes of each file
+abbrev pub FileBytes : Type 0
+FileBytes = DeskFile → List ℕ
+
+-- the bytes that stand in a folder; none where no file stands
+abbrev pub bytes_in : Files → List ℕ → FileBytes
+bytes_in held dir f = unwrap_or (held (path_of dir f)) []
+
+-- those of the five tables
+abbrev pub table_bytes : FileBytes → TableBytes
+table_bytes bytes = record {
+  stations = bytes file.Stations;
+  fleets = bytes file.Fleets;
+  legs = bytes file.Legs;
+  costs = bytes file.Costs;
+  throughs = bytes file.Throughs;
+}
+
+-- each file has a number of its own, by which two are told apart
+abbrev pub number_of : DeskFile → ℕ
+number_of file.Stations = 0
+number_of file.Fleets = 1
+number_of file.Legs = 2
+number_of file.Costs = 3
+number_of file.Throughs = 4
+number_of file.Plan = 5
+number_of file.Proof = 6
+number_of file.Rotation = 7
+
+-- the two files are one
+abbrev pub same_file : DeskFile → DeskFile → Bool
+same_file one other = number_of one == number_of other
+
+-- the same, with other bytes of the plan
+abbrev pub with_plan : FileBytes → List ℕ → FileBytes
+with_plan bytes plan f = if same_file f file.Plan then plan else bytes f
+
+-- ---- as the code has them
+
+-- the bytes of each file in what was read
+abbrev pub content_of : Contents → FileBytes
+content_of c file.Stations = c.stations
+content_of c file.Fleets = c.fleets
+content_of c file.Legs = c.legs
+content_of c file.Costs = c.costs
+content_of c file.Throughs = c.throughs
+content_of c file.Plan = c.plan
+content_of c file.Proof = c.proof
+content_of c file.Rotation = c.rotation
+
+-- nothing was read
+abbrev pub no_contents : Contents
+no_contents = record { stations = []; fleets = []; legs = []; costs = []; throughs = []; plan = []; proof = []; rotation = [] }
+
+-- what was read, with the bytes of one file more
+abbrev pub with_content : Contents → DeskFile → List ℕ → Contents
+with_content c f bytes = record {
+  stations = if same_file file.Stations f then bytes else c.stations;
+  fleets = if same_file file.Fleets f then bytes else c.fleets;
+  legs = if same_file file.Legs f then bytes else c.legs;
+  costs = if same_file file.Costs f then bytes else c.costs;
+  throughs = if same_file file.Throughs f then bytes else c.throughs;
+  plan = if same_file file.Plan f then bytes else c.plan;
+  proof = if same_file file.Proof f then bytes else c.proof;
+  rotation = if same_file file.Rotation f then bytes else c.rotation;
+}

@@ -1,0 +1,92 @@
+-- What a command reads, in what order, and what it writes. One case for each command.
+use Rattle.std.specs.Prelude.{◌≡◌, ◌⊎◌, ℕ, true, List, [], ◌∷◌, Option, Some, None, IsSome}
+use Rattle.bound_cert.specs.ReadProof.{ReadsAs}
+use Rattle.bound_cert.specs.declared.reading.Proof.{Proof}
+use Rattle.command_words.specs.Words.{Asked, check, judge, solve}
+use Rattle.fleet_model.specs.declared.parts.Settings.{Settings}
+use Rattle.fleet_model.specs.declared.tables.Tables.{Tables}
+use Rattle.plan_desk.specs.Desk.{Files}
+use Rattle.plan_desk.specs.DeskFile.{path_of}
+use Rattle.plan_desk.specs.declared.file.DeskFile.{DeskFile}
+use Rattle.plan_desk.specs.declared.file.DeskFile.TheVariants as file
+use Rattle.sched_read.specs.Reading.{Reads, TableBytes}
+use Rattle.fleet_cli.specs.Contents.{FileBytes, bytes_in, table_bytes}
+use Rattle.fleet_cli.specs.Gathered.{AllStand, ComesTo, IsAmong, IsFirstMissing, IsFirstTooLong, IsHeld}
+
+-- the five tables, and files that are read after them
+abbrev pub tables_and : List DeskFile → List DeskFile
+tables_and more = file.Stations ∷ file.Fleets ∷ file.Legs ∷ file.Costs ∷ file.Throughs ∷ more
+
+-- the files that judging, solving and checking read first, in their order
+abbrev pub judge_files : List DeskFile
+judge_files = tables_and (file.Plan ∷ [])
+
+abbrev pub table_files : List DeskFile
+table_files = tables_and []
+
+abbrev pub proof_files : List DeskFile
+proof_files = tables_and (file.Proof ∷ [])
+
+-- the folder that words ask about
+abbrev pub folder_of : Option Asked → List ℕ
+folder_of None = []
+folder_of (Some (judge dir settings)) = dir
+folder_of (Some (solve dir settings limits)) = dir
+folder_of (Some (check dir settings)) = dir
+
+-- the files that are read first, in their order
+abbrev pub first_files : Option Asked → List DeskFile
+first_files None = []
+first_files (Some (judge dir settings)) = judge_files
+first_files (Some (solve dir settings limits)) = table_files
+first_files (Some (check dir settings)) = proof_files
+
+-- the tables and the proof read, and the proof says that a plan comes with it
+pub record WantsPlan (settings : Settings) (bytes : TableBytes) (text : List ℕ) : Type 0 where
+  pub tables : Tables
+  pub proof : Proof
+  pub reads : Reads bytes settings tables
+  pub proof_reads : ReadsAs tables text proof
+  pub planned : proof.planned ≡ true
+
+-- the file is read after the first ones, where they hold these bytes
+abbrev pub Follows : Option Asked → FileBytes → DeskFile → Type 0
+Follows None bytes f = ⊥
+Follows (Some (judge dir settings)) bytes f = ⊥
+Follows (Some (solve dir settings limits)) bytes f = ⊥
+Follows (Some (check dir settings)) bytes f = (f ≡ file.Plan) × WantsPlan settings (table_bytes bytes) (bytes file.Proof)
+
+-- the files that may be written
+abbrev pub written_files : Option Asked → List DeskFile
+written_files None = []
+written_files (Some (judge dir settings)) = []
+written_files (Some (solve dir settings limits)) = file.Plan ∷ file.Proof ∷ []
+written_files (Some (check dir settings)) = []
+
+-- ---- what follows of each command
+
+-- the file may be read
+abbrev pub IsRead : Option Asked → DeskFile → Type 0
+IsRead asked f = IsAmong (first_files asked) f ⊎ ((bytes : FileBytes) × Follows asked bytes f)
+
+-- reading comes to the file: those before it stand there within their limits, and it is one of the first, or they ask for it
+abbrev pub IsReached : Option Asked → Files → DeskFile → Type 0
+IsReached asked held f =
+    ComesTo held (folder_of asked) (first_files asked) f ⊎ AllStand held (folder_of asked) (first_files asked) × Follows asked (bytes_in held (folder_of asked)) f
+
+-- each file that reading comes to stands there
+abbrev pub NamesStand : Option Asked → Files → Type 0
+NamesStand asked held = (f : DeskFile) → IsReached asked held f → IsSome (held (path_of (folder_of asked) f))
+
+-- the first files stand there within their limits, and so does each that they ask for
+pub record AllWithin (asked : Option Asked) (held : Files) : Type 0 where
+  pub first : AllStand held (folder_of asked) (first_files asked)
+  pub further : (f : DeskFile) → Follows asked (bytes_in held (folder_of asked)) f → IsHeld held (folder_of asked) f (bytes_in held (folder_of asked) f)
+
+-- a file that reading comes to is too long
+abbrev pub IsTooLong : Option Asked → Files → DeskFile → Type 0
+IsTooLong asked held = IsFirstTooLong held (folder_of asked) (IsReached asked held)
+
+-- a file that reading comes to is missing
+abbrev pub IsMissing : Option Asked → Files → DeskFile → Type 0
+IsMissing asked held = IsFirstMissing held (folder_of asked) (IsReached asked held)

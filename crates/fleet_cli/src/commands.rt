@@ -1,0 +1,95 @@
+//! What each command reads first, and what that comes to. One case for each command.
+ghost use Rattle.std.specs.Prelude.{◌≡◌, Some, IfOk};
+ghost use Rattle.command_words.specs.Words.{HasSettings, asked_by};
+ghost use Rattle.fleet_cli.specs.Contents.{content_of};
+ghost use Rattle.fleet_cli.specs.Opened.{IsOpened};
+ghost use Rattle.fleet_cli.specs.Reading.{first_files, folder_of};
+
+use crate::checking::open_check;
+use crate::contents::Contents;
+use crate::judging::judge_contents;
+use crate::opened::Opened;
+use crate::solving::solve_contents;
+use command_words::Command;
+use entries::NoMemory;
+use plan_desk::DeskFile;
+use std::alloc::Global;
+
+/// The files that judging reads, in their order.
+const JUDGE_FILES: &[DeskFile] = &[
+    DeskFile::Stations,
+    DeskFile::Fleets,
+    DeskFile::Legs,
+    DeskFile::Costs,
+    DeskFile::Throughs,
+    DeskFile::Plan,
+];
+
+/// The files that solving reads, in their order.
+const TABLE_FILES: &[DeskFile] = &[
+    DeskFile::Stations,
+    DeskFile::Fleets,
+    DeskFile::Legs,
+    DeskFile::Costs,
+    DeskFile::Throughs,
+];
+
+/// The files that checking reads first, in their order.
+const PROOF_FILES: &[DeskFile] = &[
+    DeskFile::Stations,
+    DeskFile::Fleets,
+    DeskFile::Legs,
+    DeskFile::Costs,
+    DeskFile::Throughs,
+    DeskFile::Proof,
+];
+
+/// The folder of a command.
+pub fn folder<'a>(command: Command<'a>) -> &'a str
+    ensures { result.now ≡ folder_of (Some (asked_by command.entry)) }
+{
+    match command {
+        Command::Judge { dir, .. } | Command::Solve { dir, .. } | Command::Check { dir, .. } => dir,
+    }
+}
+
+/// The files that a command reads first, in their order.
+pub fn first_files(command: Command<'_>) -> &'static [DeskFile]
+    ensures { result.now ≡ first_files (Some (asked_by command.entry)) }
+{
+    match command {
+        Command::Judge { .. } => JUDGE_FILES,
+        Command::Solve { .. } => TABLE_FILES,
+        Command::Check { .. } => PROOF_FILES,
+    }
+}
+
+/// What the first files of a command come to, by what was read of them, which is let go.
+pub fn open(alloc: Global, command: Command<'_>, contents: Contents) -> Result<Opened, NoMemory>
+    requires { HasSettings command }
+    ensures { IfOk result (IsOpened (Some (asked_by command.entry)) (content_of contents)) }
+{
+    outcome_of(alloc, command, &contents)
+}
+
+/// What the first files of a command come to.
+fn outcome_of(alloc: Global, command: Command<'_>, contents: &Contents) -> Result<Opened, NoMemory>
+    requires { HasSettings command }
+    ensures { IfOk result (IsOpened (Some (asked_by command.entry)) (content_of contents.now)) }
+{
+    match command {
+        Command::Judge { settings, .. } => {
+            let answer = judge_contents(alloc, settings, contents)?;
+            Ok(Opened::Answered(answer))
+        }
+        Command::Solve {
+            settings,
+            limits,
+            ..
+        } => {
+            let answer = solve_contents(alloc, settings, limits, contents)?;
+            Ok(Opened::Answered(answer))
+        }
+        Command::Check { settings, .. } => open_check(alloc, settings, contents),
+    }
+}
