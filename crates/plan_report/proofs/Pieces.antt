@@ -1,0 +1,19 @@
+-- Pieces joined, one more at a time.
+use Rattle.std.proofs.Common.{◌≡◌, ℕ, ◌+◌, ◌<◌, List, [], ◌∷◌, ◌++◌, length, map, take, get_or, Bor, sym, ap, ◌∙◌, append_assoc, rules}
+use Rattle.std.proofs.lemmas.Grind.{common_steps}
+use Rattle.std.specs.List.{concat}
+use Rattle.std.proofs.lemmas.List.{map_push, take_more}
+
+-- what pieces show
+abbrev pub shown : List (Bor (List ℕ)) → List (List ℕ)
+shown pieces = map (λ (piece : Bor (List ℕ)). piece.now) pieces
+
+concat_one : (xs : List (List ℕ)) (x : List ℕ) → concat (xs ++ x ∷ []) ≡ concat xs ++ x
+concat_one [] x = search (rules, common_steps)
+concat_one (y ∷ ys) x = rw (concat_one ys x) (sym (append_assoc y (concat ys) x))
+
+pub piece_more : (pieces : List (Bor (List ℕ))) (i : ℕ) (d : Bor (List ℕ)) (start text grown : List ℕ) → i < length pieces → text ≡ start ++ concat (shown (take i pieces))
+    → grown ≡ text ++ (get_or pieces i d).now → grown ≡ start ++ concat (shown (take (i + 1) pieces))
+piece_more pieces i d start text grown within so_far added =
+    rw (take_more pieces i d within, map_push (λ (piece : Bor (List ℕ)). piece.now) (take i pieces) (get_or pieces i d), concat_one (shown (take i pieces)) (get_or pieces i d).now)
+    (added ∙ ap (λ t. t ++ (get_or pieces i d).now) so_far ∙ append_assoc start (concat (shown (take i pieces))) (get_or pieces i d).now)

@@ -1,0 +1,15 @@
+use Rattle.std.proofs.Common.{map, ap, ◌∙◌, arith}
+use Rattle.std.proofs.lemmas.List.{map_push}
+use Rattle.jiff_core.proofs.SignedLemmas.{signed_arith}
+use Rattle.jiff_core.proofs.DateLemmas.{epoch_day_range}
+use Rattle.sums.proofs.Places.{list_below-push}
+use Rattle.plan_report.specs.Dates.{day_after, day_on}
+use Rattle.plan_report.proofs.dates.dates_from.Goals as goal
+
+pub date_after-requires : goal.date_after-requires
+date_after-requires c = (omega (arith, signed_arith, epoch_day_range c.args.first), omega (arith, signed_arith, c.requires.last))
+
+pub loop-days-preserved : goal.loop-days-preserved
+loop-days-preserved c =
+    ap (map day_on) c.in_ok-push.ensures.items ∙ map_push day_on c.loop-days.dates.items c.date_after.result
+    ∙ list_below-push (day_after (day_on c.args.first)) c.loop-days.days (map day_on c.loop-days.dates.items) (day_on c.date_after.result) c.loop-days.invariant c.date_after.ensures

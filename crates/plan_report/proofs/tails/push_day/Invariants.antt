@@ -1,0 +1,7 @@
+use Rattle.std.proofs.Common.{◌≡◌, ◌++◌}
+use Rattle.plan_report.specs.Dates.{day_on}
+use Rattle.plan_report.specs.Tails.{day_lines}
+use Rattle.plan_report.proofs.tails.push_day.Given as goal
+
+abbrev pub invariant-loop-aircraft : goal.invariant-loop-aircraft
+invariant-loop-aircraft l = l.text.items ≡ l.fn.text.items ++ day_lines l.tables l.flown (day_on l.fn.date) l.day l.aircraft

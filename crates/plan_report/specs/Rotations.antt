@@ -1,0 +1,53 @@
+-- The rotations of fleets: one for each fleet in table order where there is a plan, and none where there is none.
+use Rattle.std.specs.Prelude.{ℕ, ◌<◌, ◌≤◌, List, [], length, slice_index_or, None, IfSome, unwrap_or, ⊤}
+use Rattle.euler_rotation.specs.declared.rotation.Rotation.{Rotation}
+use Rattle.euler_rotation.specs.declared.rotation.Rotation.TheVariants as rotation
+use Rattle.fleet_model.specs.declared.parts.Connection.{Connection}
+use Rattle.fleet_model.specs.declared.tables.Tables.{Tables}
+use Rattle.fleet_model.specs.Schedule.{fleets_in, legs_in}
+use Rattle.ground_turns.specs.Maps.{turn_at}
+use Rattle.lines_of_flying.specs.Lines.{AreLegs}
+use Rattle.plan_report.specs.declared.fleet_rotations.FleetRotation.{FleetRotation}
+
+-- the rotation of a fleet
+abbrev pub no_rotation : FleetRotation
+no_rotation = record { pairs = []; first = rotation.Unused; second = None }
+
+abbrev pub rotation_of : List FleetRotation → ℕ → FleetRotation
+rotation_of rotations f = slice_index_or rotations f no_rotation
+
+-- the one that was made last: without through pairs, where these were given up
+abbrev pub last_made : FleetRotation → Rotation
+last_made made = unwrap_or made.second made.first
+
+-- legs of the tables, and no more than there are
+pub record AreListed (t : Tables) (legs : List ℕ) : Type 0 where
+  pub known : AreLegs t legs
+  pub few : length legs ≤ legs_in t
+
+-- two legs of the tables
+pub record IsConnection (t : Tables) (pair : Connection) : Type 0 where
+  pub arriving : pair.arriving < legs_in t
+  pub departing : pair.departing < legs_in t
+
+pub record AreConnections (t : Tables) (pairs : List Connection) : Type 0 where
+  pub each : (k : ℕ) → k < length pairs → IsConnection t (turn_at pairs k)
+
+-- all lists of a rotation are legs of the tables
+abbrev pub IsOfLegs : Tables → Rotation → Type 0
+IsOfLegs t rotation.Unused = ⊤
+IsOfLegs t (rotation.TooFewNights have used) = ⊤
+IsOfLegs t (rotation.Apart legs) = AreListed t legs
+IsOfLegs t (rotation.Tour tour) = AreListed t tour
+IsOfLegs t rotation.None = ⊤
+IsOfLegs t (rotation.Spent order prefix) = AreListed t order × AreListed t prefix
+
+pub record IsFleetRotation (t : Tables) (made : FleetRotation) : Type 0 where
+  pub pairs : AreConnections t made.pairs
+  pub first : IsOfLegs t made.first
+  pub second : IfSome made.second (IsOfLegs t)
+
+-- rotations of the tables' first fleets, of their legs
+pub record AreRotations (t : Tables) (rotations : List FleetRotation) : Type 0 where
+  pub few : length rotations ≤ fleets_in t
+  pub each : (f : ℕ) → f < length rotations → IsFleetRotation t (rotation_of rotations f)

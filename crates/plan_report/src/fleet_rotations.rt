@@ -1,0 +1,15 @@
+use entries::Entries;
+use euler_rotation::Rotation;
+use fleet_model::Connection;
+
+/// What was made of a fleet's rotation. A list of these has one for each fleet, in table order, and is empty where there
+/// is no plan.
+#[derive(Debug, Drop)]
+pub struct FleetRotation {
+    /// The through pairs that were chosen, by the leg that arrives.
+    pub pairs: Entries<Connection>,
+    /// The rotation that holds them.
+    pub first: Rotation,
+    /// The rotation without them, where they were given up for it.
+    pub second: Option<Rotation>,
+}

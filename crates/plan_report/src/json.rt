@@ -1,0 +1,213 @@
+//! The summary of a solution and its rotations as JSON.
+ghost use Rattle.std.specs.Prelude.{◌≡◌, ◌<◌, IfOk, length, map};
+ghost use Rattle.bound_cert.specs.Leaves.{counts_of};
+ghost use Rattle.branch_bound.specs.Solved.{PlanFits, plan_cost, tree_of};
+ghost use Rattle.fleet_model.specs.Legal.{IsAssignment};
+ghost use Rattle.fleet_model.specs.Schedule.{fleet_of, fleets_in};
+ghost use Rattle.plan_report.specs.Json.{fleet_data, fleets_data, json_text, number_data, open_data, rotation_data, rotations_data, summary_data};
+ghost use Rattle.plan_report.specs.Rotations.{AreRotations};
+ghost use Rattle.plan_report.specs.Summary.{outcome_word, printed_bound};
+ghost use Rattle.serde_json.specs.Data.{array, string};
+ghost use Rattle.serde_json.specs.View.{items_of, view};
+ghost use Rattle.sums.specs.Places.{list_below};
+
+use crate::fleet_rotations::FleetRotation;
+use crate::summary_lines::outcome;
+use crate::words::rotation_words;
+use bound_cert::TreeCounts;
+use branch_bound::Solved;
+use entries::NoMemory;
+use fleet_model::{Assignment, Tables};
+use plan_judge::used;
+use serde_json::{Map, Value, json, put};
+use std::alloc::Global;
+
+/// The summary of a solution and its rotations as JSON: one object in one line. Cost and bound are texts, since they may be
+/// larger than readers take numbers, and null where there is none.
+#[tactic(auto, unfolding(crate::specs::Json::json_text))]
+pub fn summary_json(
+    alloc: Global,
+    tables: &Tables,
+    solved: &Solved,
+    rotations: &[FleetRotation],
+) -> Result<Vec<u8>, NoMemory>
+    requires plan { PlanFits tables.now solved.now }
+    requires rotations { AreRotations tables.now rotations.now }
+    ensures { IfOk result (λ text. text.items ≡ json_text tables.now solved.now rotations.now) }
+{
+    let value = summary_value(alloc, tables, solved, rotations)?;
+    let mut text = value.to_string(alloc)?.into_bytes();
+    text.push(b'\n')?;
+    Ok(text)
+}
+
+/// The object of a summary.
+fn summary_value(
+    alloc: Global,
+    tables: &Tables,
+    solved: &Solved,
+    rotations: &[FleetRotation],
+) -> Result<Value, NoMemory>
+    requires plan { PlanFits tables.now solved.now }
+    requires rotations { AreRotations tables.now rotations.now }
+    ensures { IfOk result (λ value. view value ≡ summary_data tables.now solved.now rotations.now) }
+{
+    let counts = solved.tree().counts();
+    let bound = bound_value(alloc, solved)?;
+    let cost = cost_value(alloc, solved)?;
+    let fleets = fleets_value(alloc, tables, solved)?;
+    let open = open_value(alloc, &counts)?;
+    let ended = outcome_value(alloc, solved)?;
+    let words = rotations_value(alloc, tables, solved, rotations)?;
+    let mut object = Map::new(alloc);
+    put(&mut object, alloc, "bound", bound)?;
+    put(&mut object, alloc, "cost", cost)?;
+    put(&mut object, alloc, "fleets", fleets)?;
+    put(&mut object, alloc, "open", open)?;
+    put(&mut object, alloc, "outcome", ended)?;
+    put(&mut object, alloc, "rotations", words)?;
+    put(&mut object, alloc, "splits", Value::from(counts.splits))?;
+    Ok(Value::Object(object))
+}
+
+/// How the search ended, as text.
+fn outcome_value(alloc: Global, solved: &Solved) -> Result<Value, NoMemory>
+    ensures { IfOk result (λ value. view value ≡ string (outcome_word solved.now)) }
+{
+    Ok(Value::String(String::from_str(alloc, outcome(solved))?))
+}
+
+/// The bound as text, or null.
+fn bound_value(alloc: Global, solved: &Solved) -> Result<Value, NoMemory>
+    ensures { IfOk result (λ value. view value ≡ number_data (printed_bound solved.now)) }
+{
+    match solved {
+        Solved::Planned { bound, .. } | Solved::Unsettled { bound, .. } => {
+            Ok(Value::String(bound.to_string(alloc)?))
+        }
+        Solved::Infeasible { .. } => Ok(Value::Null),
+    }
+}
+
+/// The cost as text, or null.
+fn cost_value(alloc: Global, solved: &Solved) -> Result<Value, NoMemory>
+    ensures { IfOk result (λ value. view value ≡ number_data (plan_cost solved.now)) }
+{
+    match solved {
+        Solved::Planned { cost, .. } => Ok(Value::String(cost.to_string(alloc)?)),
+        Solved::Infeasible { .. } | Solved::Unsettled { .. } => Ok(Value::Null),
+    }
+}
+
+/// The open leaves by cause.
+fn open_value(alloc: Global, counts: &TreeCounts) -> Result<Value, NoMemory>
+    ensures { IfOk result (λ value. view value ≡ open_data counts.now) }
+{
+    let object = json!(in alloc; {
+        "grew": counts.open_grew,
+        "nodes": counts.open_nodes,
+        "pivots": counts.open_pivots
+    })?;
+    Ok(object)
+}
+
+/// The fleets, where there is a plan.
+fn fleets_value(alloc: Global, tables: &Tables, solved: &Solved) -> Result<Value, NoMemory>
+    requires { PlanFits tables.now solved.now }
+    ensures { IfOk result (λ value. view value ≡ array (items_of (fleets_data tables.now solved.now))) }
+{
+    match solved {
+        Solved::Planned { assignment, .. } => {
+            Ok(Value::Array(planned_fleets(alloc, tables, assignment)?))
+        }
+        Solved::Infeasible { .. } | Solved::Unsettled { .. } => Ok(Value::Array(Vec::new(alloc))),
+    }
+}
+
+/// The fleets by a plan.
+fn planned_fleets(alloc: Global, tables: &Tables, plan: &Assignment) -> Result<Vec<Value>, NoMemory>
+    requires { IsAssignment tables.now plan.now }
+    ensures { IfOk result (λ values. map view values.items ≡ list_below (fleet_data tables.now plan.now) (fleets_in tables.now)) }
+{
+    let mut values = Vec::new(alloc);
+    for fleet in 0..tables.fleet_count() {
+        values.push(fleet_value(alloc, tables, plan, fleet)?)?;
+    }
+    Ok(values)
+}
+
+/// A fleet's aircraft, there and used.
+fn fleet_value(
+    alloc: Global,
+    tables: &Tables,
+    plan: &Assignment,
+    fleet: u32,
+) -> Result<Value, NoMemory>
+    requires plan { IsAssignment tables.now plan.now }
+    requires fleet { fleet < fleets_in tables.now }
+    ensures { IfOk result (λ value. view value ≡ fleet_data tables.now plan.now fleet) }
+{
+    let object = json!(in alloc; {
+        "has": tables.fleet(fleet).aircraft,
+        "name": fleet_name(tables, fleet),
+        "used": used(tables, plan, fleet)
+    })?;
+    Ok(object)
+}
+
+/// The name of a fleet as text.
+fn fleet_name(tables: &Tables, fleet: u32) -> &str
+    requires { fleet < fleets_in tables.now }
+    ensures { result.now ≡ (fleet_of tables.now fleet).name }
+{
+    match str::from_utf8(tables.fleet(fleet).name.as_slice()) {
+        Ok(name) => name,
+        Err(_) => unreachable!(),
+    }
+}
+
+/// What becomes of each fleet's rotation, where there is a plan.
+fn rotations_value(
+    alloc: Global,
+    tables: &Tables,
+    solved: &Solved,
+    rotations: &[FleetRotation],
+) -> Result<Value, NoMemory>
+    requires { AreRotations tables.now rotations.now }
+    ensures { IfOk result (λ value. view value ≡ array (items_of (rotations_data tables.now solved.now rotations.now))) }
+{
+    match solved {
+        Solved::Planned { .. } => Ok(Value::Array(made_rotations(alloc, tables, rotations)?)),
+        Solved::Infeasible { .. } | Solved::Unsettled { .. } => Ok(Value::Array(Vec::new(alloc))),
+    }
+}
+
+/// What becomes of each rotation.
+fn made_rotations(
+    alloc: Global,
+    tables: &Tables,
+    rotations: &[FleetRotation],
+) -> Result<Vec<Value>, NoMemory>
+    requires { AreRotations tables.now rotations.now }
+    ensures { IfOk result (λ values. map view values.items ≡ list_below (rotation_data tables.now rotations.now) (length rotations.now)) }
+{
+    let mut values = Vec::new(alloc);
+    for fleet in 0..rotations.len() as u32 {
+        values.push(rotation_value(alloc, tables, rotations, fleet)?)?;
+    }
+    Ok(values)
+}
+
+/// What becomes of a fleet's rotation.
+fn rotation_value(
+    alloc: Global,
+    tables: &Tables,
+    rotations: &[FleetRotation],
+    fleet: u32,
+) -> Result<Value, NoMemory>
+    requires rotations { AreRotations tables.now rotations.now }
+    requires fleet { fleet < length rotations.now }
+    ensures { IfOk result (λ value. view value ≡ rotation_data tables.now rotations.now fleet) }
+{
+    Ok(Value::String(rotation_words(alloc, tables, fleet, &rotations[fleet as usize])?))
+}

@@ -1,0 +1,151 @@
+//! The summary of a solution and its rotations, in lines.
+ghost use Rattle.std.specs.Prelude.{◌≡◌, ◌++◌, ◌<◌, [], ◌∷◌, IfOk, OnOk, codes, length};
+ghost use Rattle.branch_bound.specs.Solved.{PlanFits, plan_cost};
+ghost use Rattle.plan_report.specs.Rotations.{AreRotations};
+ghost use Rattle.plan_report.specs.Summary.{count_lines, outcome_word, printed_bound, result_lines, rotation_line, rotation_lines, summary_text};
+ghost use Rattle.plan_report.specs.TextLines.{line_of, number_word};
+
+use crate::fleet_rotations::FleetRotation;
+use crate::text_lines::{push_fleets, push_line};
+use crate::words::rotation_words;
+use bound_cert::TreeCounts;
+use branch_bound::Solved;
+use entries::NoMemory;
+use fleet_model::Tables;
+use std::alloc::Global;
+
+/// The summary of a solution and its rotations: how the search ended, cost, bound, splits and open leaves, and where there
+/// is a plan the aircraft and the rotation of each fleet.
+#[tactic(auto, unfolding(crate::specs::Summary::summary_text))]
+pub fn summary(
+    alloc: Global,
+    tables: &Tables,
+    solved: &Solved,
+    rotations: &[FleetRotation],
+) -> Result<Vec<u8>, NoMemory>
+    requires plan { PlanFits tables.now solved.now }
+    requires rotations { AreRotations tables.now rotations.now }
+    ensures { IfOk result (λ text. text.items ≡ summary_text tables.now solved.now rotations.now) }
+{
+    let mut text = Vec::new(alloc);
+    push_result(alloc, &mut text, solved)?;
+    push_counts(alloc, &mut text, solved.tree().counts())?;
+    if let Solved::Planned { assignment, .. } = solved {
+        push_fleets(alloc, &mut text, tables, assignment)?;
+        push_rotations(alloc, &mut text, tables, rotations)?;
+    }
+    Ok(text)
+}
+
+/// Appends the lines of outcome, cost and bound.
+fn push_result(alloc: Global, text: &mut Vec<u8>, solved: &Solved) -> Result<(), NoMemory>
+    ensures { OnOk result (text.new.items ≡ text.old.items ++ result_lines solved.now) }
+{
+    push_line(text, &[b"outcome: ".as_slice(), outcome(solved).as_bytes()])?;
+    push_cost(alloc, text, solved)?;
+    push_bound(alloc, text, solved)?;
+    Ok(())
+}
+
+/// How the search ended, in a word.
+pub fn outcome(solved: &Solved) -> &'static str
+    ensures { result.now ≡ outcome_word solved.now }
+{
+    match solved {
+        Solved::Planned { tree, .. } if tree.has_open() => "gap",
+        Solved::Planned { .. } => "optimal",
+        Solved::Infeasible { .. } => "infeasible",
+        Solved::Unsettled { .. } => "unsettled",
+    }
+}
+
+/// Appends `cost: C`, or `cost: none`.
+fn push_cost(alloc: Global, text: &mut Vec<u8>, solved: &Solved) -> Result<(), NoMemory>
+    ensures { OnOk result (text.new.items ≡ text.old.items ++ line_of (codes "cost: " ∷ number_word (plan_cost solved.now) ∷ [])) }
+{
+    match solved {
+        Solved::Planned { cost, .. } => {
+            let cost = cost.to_string(alloc)?;
+            push_line(text, &[b"cost: ".as_slice(), cost.as_bytes()])
+        }
+        Solved::Infeasible { .. } | Solved::Unsettled { .. } => {
+            push_line(text, &[b"cost: ".as_slice(), b"none".as_slice()])
+        }
+    }
+}
+
+/// Appends `bound: B`, or `bound: none`.
+fn push_bound(alloc: Global, text: &mut Vec<u8>, solved: &Solved) -> Result<(), NoMemory>
+    ensures { OnOk result (text.new.items ≡ text.old.items ++ line_of (codes "bound: " ∷ number_word (printed_bound solved.now) ∷ [])) }
+{
+    match solved {
+        Solved::Planned { bound, .. } | Solved::Unsettled { bound, .. } => {
+            let bound = bound.to_string(alloc)?;
+            push_line(text, &[b"bound: ".as_slice(), bound.as_bytes()])
+        }
+        Solved::Infeasible { .. } => push_line(text, &[b"bound: ".as_slice(), b"none".as_slice()]),
+    }
+}
+
+/// Appends the lines of the splits and of the open leaves.
+fn push_counts(alloc: Global, text: &mut Vec<u8>, counts: TreeCounts) -> Result<(), NoMemory>
+    ensures { OnOk result (text.new.items ≡ text.old.items ++ count_lines counts) }
+{
+    let splits = counts.splits.to_string(alloc)?;
+    let nodes = counts.open_nodes.to_string(alloc)?;
+    let pivots = counts.open_pivots.to_string(alloc)?;
+    let grew = counts.open_grew.to_string(alloc)?;
+    push_line(text, &[b"splits: ".as_slice(), splits.as_bytes()])?;
+    push_line(
+        text,
+        &[
+            b"open: ".as_slice(),
+            nodes.as_bytes(),
+            b" nodes, ".as_slice(),
+            pivots.as_bytes(),
+            b" pivots, ".as_slice(),
+            grew.as_bytes(),
+            b" grew".as_slice(),
+        ],
+    )
+}
+
+/// Appends the line `rotation F: A` of each rotation.
+fn push_rotations(
+    alloc: Global,
+    text: &mut Vec<u8>,
+    tables: &Tables,
+    rotations: &[FleetRotation],
+) -> Result<(), NoMemory>
+    requires { AreRotations tables.now rotations.now }
+    ensures { OnOk result (text.new.items ≡ text.old.items ++ rotation_lines tables.now rotations.now (length rotations.now)) }
+{
+    for fleet in 0..rotations.len() as u32 {
+        push_rotation(alloc, text, tables, rotations, fleet)?;
+    }
+    Ok(())
+}
+
+/// Appends `rotation F: A`.
+fn push_rotation(
+    alloc: Global,
+    text: &mut Vec<u8>,
+    tables: &Tables,
+    rotations: &[FleetRotation],
+    fleet: u32,
+) -> Result<(), NoMemory>
+    requires rotations { AreRotations tables.now rotations.now }
+    requires fleet { fleet < length rotations.now }
+    ensures { OnOk result (text.new.items ≡ text.old.items ++ rotation_line tables.now rotations.now fleet) }
+{
+    let words = rotation_words(alloc, tables, fleet, &rotations[fleet as usize])?;
+    push_line(
+        text,
+        &[
+            b"rotation ".as_slice(),
+            tables.fleet(fleet).name.as_slice(),
+            b": ".as_slice(),
+            words.as_bytes(),
+        ],
+    )
+}
