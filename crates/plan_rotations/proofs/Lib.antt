@@ -1,0 +1,4 @@
+pub mod Best
+pub mod Flown
+pub mod Listed
+pub mod Pushed

@@ -1,0 +1,8 @@
+//! The rotations of a plan: of each fleet the through pairs that are worth most, its rotation with them and, where that is
+//! given up, the one without them.
+#![tactic(auto)]
+
+pub mod making;
+
+pub use making::rotations;
+pub use plan_report::FleetRotation;

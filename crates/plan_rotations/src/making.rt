@@ -1,0 +1,147 @@
+ghost use Rattle.std.specs.Prelude.{◌≡◌, ◌<◌, ◌≤◌, ◌==◌, not, length, IfOk, []};
+ghost use Rattle.fleet_model.specs.Legal.{IsLegal};
+ghost use Rattle.fleet_model.specs.Schedule.{fleets_in};
+ghost use Rattle.ground_turns.specs.Maps.{IsHeld};
+ghost use Rattle.plan_report.specs.Rotations.{AreRotations, rotation_of};
+ghost use Rattle.plan_report.specs.Tails.{AreFlown};
+ghost use Rattle.plan_rotations.specs.Rotations.{ArePlanRotations, AreWorthMost, IsMadeRotation, IsRotationWith, IsSecond, are_some, is_given_up};
+
+use entries::{Entries, NoMemory};
+use euler_rotation::{Rotation, rotate};
+use fleet_model::{Assignment, Connection, Tables};
+use plan_report::FleetRotation;
+use std::alloc::Global;
+use through_flights::choose;
+
+/// The rotation of each fleet of a legal plan, in the order of the table: its through pairs of greatest value, what
+/// becomes of the rotation with them and, where no tour or no kept one holds them or the search is given up, what becomes
+/// of the one without. Each tour comes to maintenance at least every `days` nights; a search visits at most so many
+/// beginnings of tours.
+pub fn rotations(
+    alloc: Global,
+    tables: &Tables,
+    plan: &Assignment,
+    days: u32,
+    visits: u32,
+) -> Result<Entries<FleetRotation>, NoMemory>
+    requires plan { IsLegal tables.now plan.now }
+    requires some_days { 0 < days }
+    requires few_days { days ≤ 30 }
+    ensures made { IfOk result (ArePlanRotations tables.now plan.now days visits) }
+    ensures known { IfOk result (AreRotations tables.now) }
+    ensures flown { IfOk result (AreFlown tables.now plan.now) }
+{
+    Ok(of_fleets(alloc, tables, plan, days, visits)?)
+}
+
+/// The rotation of each fleet, in the order of the table.
+fn of_fleets(
+    alloc: Global,
+    tables: &Tables,
+    plan: &Assignment,
+    days: u32,
+    visits: u32,
+) -> Result<Entries<FleetRotation>, NoMemory>
+    requires plan { IsLegal tables.now plan.now }
+    requires some_days { 0 < days }
+    requires few_days { days ≤ 30 }
+    ensures { IfOk result (ArePlanRotations tables.now plan.now days visits) }
+{
+    let mut all = Vec::new(alloc);
+    for fleet in 0..tables.fleet_count() {
+        all.push(rotation_of(alloc, tables, plan, fleet, days, visits)?)?;
+    }
+    Ok(Entries::from_vec(all))
+}
+
+/// The rotation of a fleet.
+fn rotation_of(
+    alloc: Global,
+    tables: &Tables,
+    plan: &Assignment,
+    fleet: u32,
+    days: u32,
+    visits: u32,
+) -> Result<FleetRotation, NoMemory>
+    requires plan { IsLegal tables.now plan.now }
+    requires fleet { fleet < fleets_in tables.now }
+    requires some_days { 0 < days }
+    requires few_days { days ≤ 30 }
+    ensures { IfOk result (IsMadeRotation tables.now plan.now fleet days visits) }
+{
+    let pairs = pairs_of(alloc, tables, plan, fleet)?;
+    let first = rotated(alloc, tables, plan, fleet, pairs.as_slice(), days, visits)?;
+    let second = if !pairs.is_empty() && is_given_up(&first) {
+        Some(rotated_freely(alloc, tables, plan, fleet, days, visits)?)
+    } else {
+        None
+    };
+    Ok(FleetRotation {
+        pairs,
+        first,
+        second,
+    })
+}
+
+/// The through pairs of a fleet that are worth most.
+fn pairs_of(
+    alloc: Global,
+    tables: &Tables,
+    plan: &Assignment,
+    fleet: u32,
+) -> Result<Entries<Connection>, NoMemory>
+    requires plan { IsLegal tables.now plan.now }
+    requires fleet { fleet < fleets_in tables.now }
+    ensures { IfOk result (AreWorthMost tables.now plan.now fleet) }
+{
+    Ok(choose(alloc, tables, plan, fleet)?.pairs)
+}
+
+/// What becomes of the rotation with given pairs.
+fn rotated(
+    alloc: Global,
+    tables: &Tables,
+    plan: &Assignment,
+    fleet: u32,
+    pairs: &[Connection],
+    days: u32,
+    visits: u32,
+) -> Result<Rotation, NoMemory>
+    requires plan { IsLegal tables.now plan.now }
+    requires fleet { fleet < fleets_in tables.now }
+    requires held { IsHeld tables.now plan.now fleet pairs.now }
+    requires some_days { 0 < days }
+    requires few_days { days ≤ 30 }
+    ensures { IfOk result (IsRotationWith tables.now plan.now fleet pairs.now days visits) }
+{
+    Ok(rotate(alloc, tables, plan, fleet, pairs, days, visits)?)
+}
+
+/// What becomes of it without pairs.
+#[tactic(auto, using(crate::proofs::Best::held_without))]
+fn rotated_freely(
+    alloc: Global,
+    tables: &Tables,
+    plan: &Assignment,
+    fleet: u32,
+    days: u32,
+    visits: u32,
+) -> Result<Rotation, NoMemory>
+    requires plan { IsLegal tables.now plan.now }
+    requires fleet { fleet < fleets_in tables.now }
+    requires some_days { 0 < days }
+    requires few_days { days ≤ 30 }
+    ensures { IfOk result (IsRotationWith tables.now plan.now fleet [] days visits) }
+{
+    Ok(rotated(alloc, tables, plan, fleet, &[], days, visits)?)
+}
+
+/// Whether a rotation is given up, so that another without its pairs may do.
+fn is_given_up(rotation: &Rotation) -> bool
+    ensures { result ≡ is_given_up rotation.now }
+{
+    match rotation {
+        Rotation::Unused | Rotation::TooFewNights { .. } | Rotation::Tour(_) => false,
+        Rotation::Apart { .. } | Rotation::None | Rotation::Spent { .. } => true,
+    }
+}
