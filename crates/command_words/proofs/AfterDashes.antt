@@ -1,7 +1,7 @@
 -- What words ask for, computed by clap's definition.
 use Rattle.std.proofs.Common.{refl}
 use Rattle.clap.proofs.OnLiterals.{clap_on_literals}
-use Rattle.command_words.specs.Laws.{ChecksByDefault, ChecksFrom, JudgesByDefault, JudgesFrom, SolvesByDefault, SolvesWithin}
+use Rattle.command_words.specs.Laws.{ChecksByDefault, ChecksFrom, JudgesByDefault, JudgesFrom, SolvesByDefault, SolvesWithin, TailsByDefault, TailsWithin}
 use Rattle.command_words.specs.Program.{our_app}
 use Rattle.command_words.specs.Words.{asked}
 
@@ -19,7 +19,7 @@ solves_by_default program dir = refl
 
 pub solves_within : SolvesWithin
 unfolding asked our_app clap_on_literals
-solves_within program time nodes pivots dir = refl
+solves_within program time wait days visits nodes pivots dir = refl
 
 pub checks_by_default : ChecksByDefault
 unfolding asked our_app clap_on_literals
@@ -28,3 +28,11 @@ checks_by_default program dir = refl
 pub checks_from : ChecksFrom
 unfolding asked our_app clap_on_literals
 checks_from program time dir = refl
+
+pub tails_by_default : TailsByDefault
+unfolding asked our_app clap_on_literals
+tails_by_default program dir date count = refl
+
+pub tails_within : TailsWithin
+unfolding asked our_app clap_on_literals
+tails_within program time wait days visits dir date count = refl

@@ -1,4 +1,6 @@
 pub mod AfterDashes
+pub mod Civil
 pub mod Match
 pub mod Numbers
 pub mod PlainFolder
+pub mod PlainTails

@@ -11,7 +11,7 @@ use lib.IntN.{nat_abs}
 use mir.Syntax.{w128}
 use mir.Val.{SFits}
 use Rattle.csv_fields.specs.Number.{IsDecimal, WritesWhole}
-use Rattle.command_words.specs.Values.{is_decimal, number_read}
+use Rattle.command_words.specs.Values.{is_between, is_decimal, number_read}
 
 digit_decides : (byte : ℕ) → Decides (is_ascii_digit byte) (IsAsciiDigit byte)
 digit_decides byte = (λ e. grind (arith, nat_tests), λ h. grind (arith, nat_tests))
@@ -46,9 +46,9 @@ signed [] minus = absurd (grind (arith, nat_tests))
 signed (byte ∷ rest) minus = let first : byte ≡ 45 = grind (arith, nat_tests) in rw first refl
 
 -- a text with a minus is no number
-pub signed_is_none : (text : List ℕ) (greatest : ℕ) → starts_with_minus text ≡ true → None ≡ number_read greatest text
+pub signed_is_none : (text : List ℕ) (least greatest : ℕ) → starts_with_minus text ≡ true → None ≡ number_read least greatest text
 unfolding number_read
-signed_is_none text greatest minus =
+signed_is_none text least greatest minus =
     let none = signed text minus in
     grind (arith, nat_tests)
 
@@ -58,36 +58,41 @@ kept n value same small =
     let fits : SFits w128 n = rw same (omega arith) in
     to_z-of_z w128 n fits ∙ same
 
-reads : (text : List ℕ) (greatest : ℕ) → IsDecimal text → digits_value 10 text ≤ greatest → Some (digits_value 10 text) ≡ number_read greatest text
+reads : (text : List ℕ) (least greatest : ℕ) → IsDecimal text → least ≤ digits_value 10 text → digits_value 10 text ≤ greatest
+    → Some (digits_value 10 text) ≡ number_read least greatest text
 unfolding number_read
-reads text greatest decimal small =
+reads text least greatest decimal large small =
     let test = decimal_tests text decimal in
-    let bounded : nat_le (digits_value 10 text) greatest ≡ true = grind (arith, nat_tests) in
+    let bounded : is_between least greatest (digits_value 10 text) ≡ true = grind (arith, nat_tests) in
     rw (test, bounded) refl
 
--- what a text without a minus writes, where it is no greater than the bound
-pub unsigned_reads : (text : List ℕ) (greatest : ℕ) (n : ℤ) → starts_with_minus text ≡ false → WritesWhole text n → n ≤ℤ pos greatest
-    → greatest < 2 ^ 64 → Some (nat_abs (to_z w128 (of_z w128 n))) ≡ number_read greatest text
-unsigned_reads text greatest n plain writes fits wide = elim writes.value [
+-- what a text without a minus writes, where it lies between the bounds
+pub unsigned_reads : (text : List ℕ) (least greatest : ℕ) (n : ℤ) → starts_with_minus text ≡ false → WritesWhole text n → pos least ≤ℤ n → n ≤ℤ pos greatest
+    → greatest < 2 ^ 64 → Some (nat_abs (to_z w128 (of_z w128 n))) ≡ number_read least greatest text
+unsigned_reads text least greatest n plain writes reaches fits wide = elim writes.value [
   | inl whole ↦
       let decimal : IsDecimal text = subst IsDecimal (sym whole.0) writes.decimal in
       let value : n ≡ pos (digits_value 10 text) = whole.1 ∙ ap (λ ds. pos (digits_value 10 ds)) (sym whole.0) in
+      let large : least ≤ digits_value 10 text = (let reach = rw value at reaches in omega (arith, ints)) in
       let small : digits_value 10 text ≤ greatest = (let fit = rw value at fits in omega (arith, ints)) in
-      ap (λ z. Some (nat_abs z)) (kept n (digits_value 10 text) value (omega arith)) ∙ reads text greatest decimal small
+      ap (λ z. Some (nat_abs z)) (kept n (digits_value 10 text) value (omega arith)) ∙ reads text least greatest decimal large small
   | inr minus ↦
       let bad : true ≡ false = rw minus.0 at plain in
       cc
 ]
 
--- a text that writes no number up to the bound
-pub unread : (text : List ℕ) (greatest : ℕ) → ((n : ℤ) → WritesWhole text n → pos 0 ≤ℤ n → n ≤ℤ pos greatest → ⊥)
-    → None ≡ number_read greatest text
+-- a text that writes no number between the bounds
+pub unread : (text : List ℕ) (least greatest : ℕ) → ((n : ℤ) → WritesWhole text n → pos least ≤ℤ n → n ≤ℤ pos greatest → ⊥)
+    → None ≡ number_read least greatest text
 unfolding number_read
-unread text greatest none = elim (cases_Bool (is_decimal text && nat_le (digits_value 10 text) greatest)) [
+unread text least greatest none = elim (cases_Bool (is_decimal text && is_between least greatest (digits_value 10 text))) [
   | inl read ↦
-      let parts = and_parts (is_decimal text) (nat_le (digits_value 10 text) greatest) read in
-      let bounded : nat_le (digits_value 10 text) greatest ≡ true = parts.1 in
+      let parts = and_parts (is_decimal text) (is_between least greatest (digits_value 10 text)) read in
+      let bounds = and_parts (nat_le least (digits_value 10 text)) (nat_le (digits_value 10 text) greatest) parts.1 in
+      let reaches : nat_le least (digits_value 10 text) ≡ true = bounds.0 in
+      let bounded : nat_le (digits_value 10 text) greatest ≡ true = bounds.1 in
       let decimal = tests_decimal text parts.0 in
+      let large : least ≤ digits_value 10 text = grind (arith, nat_tests) in
       let small : digits_value 10 text ≤ greatest = grind (arith, nat_tests) in
       let writes : WritesWhole text (pos (digits_value 10 text)) = record { digits = text; decimal = decimal; value = inl (refl, refl) } in
       absurd (none (pos (digits_value 10 text)) writes (omega (arith, ints)) (omega (arith, ints)))

@@ -1,5 +1,5 @@
 -- A folder that is no option needs no `--` before it.
-use Rattle.std.proofs.Common.{◌≡◌, ◌==◌, ◌∙◌, ℕ, true, false, List, [], ◌∷◌, Option, Some, None, refl, ap, ap₂, codes, sym, true≢false, arith, inl, inr}
+use Rattle.std.proofs.Common.{◌≡◌, ◌==◌, ◌∙◌, ℕ, true, false, List, [], ◌∷◌, Option, None, refl, ap, ap₂, codes, sym, true≢false, arith, inl, inr}
 use Rattle.std.specs.Prelude.{if◌then◌else◌, bytes_eq}
 use Rattle.std.specs.Option.{option_map_or}
 use Rattle.std.proofs.lemmas.Bool.{cases_Bool}
@@ -10,16 +10,15 @@ use Rattle.clap.specs.Kinds.{Kinds, or_else}
 use Rattle.clap.specs.Lexer.{long_of, short_of}
 use Rattle.clap.specs.Simple.{App, Shape, built_leaf, inherited, marked_built, on_top, with_leaf_noted}
 use Rattle.clap.specs.Walk.{Held, Row, Rule, Step, Text, Walk, after_step, finished, idle, long_or_other, nothing_held, settled, short_or_plain, trailing, value, walk_from, walked, word_met}
-use Rattle.command_words.specs.Laws.{ChecksPlainly, JudgesPlainly, SolvesPlainly, is_alone, is_plain_name}
+use Rattle.command_words.specs.Laws.{ChecksPlainly, JudgesPlainly, SolvesPlainly, default_options, default_settings, is_alone, is_plain_name}
 use Rattle.command_words.specs.Program.{check_app, judge_app, our_app, solve_app}
-use Rattle.command_words.specs.Words.{Asked, asked, check_at, command_in, judge_at, limits_at, settings_at, solve_at, without_fault}
-use Rattle.command_words.specs.declared.command.TheConstants.{DEFAULT_DAY_START, DEFAULT_NODES, DEFAULT_PIVOTS}
+use Rattle.command_words.specs.Words.{Asked, asked, check_at, command_in, judge_at, solve_at, without_fault}
 
 -- no option, by clap's reading of a word
-record IsPlain (word : Text) : Type 0 where
-  dashes : bytes_eq word (45 ∷ 45 ∷ []) ≡ false
-  long : long_of word ≡ None
-  short : short_of word ≡ None
+pub record IsPlain (word : Text) : Type 0 where
+  pub dashes : bytes_eq word (45 ∷ 45 ∷ []) ≡ false
+  pub long : long_of word ≡ None
+  pub short : short_of word ≡ None
 
 -- what does not begin with a dash, or is one alone, is no option
 other_first : (first : ℕ) (rest : Text) → (first == 45) ≡ false → IsPlain (first ∷ rest)
@@ -28,7 +27,7 @@ other_first first rest other = record { dashes = rw other refl; long = rw other 
 dash_alone : (first : ℕ) → first ≡ 45 → IsPlain (first ∷ [])
 dash_alone first same = rw same (record { dashes = refl; long = refl; short = refl })
 
-is_plain : (word : Text) → is_plain_name word ≡ true → IsPlain word
+pub is_plain : (word : Text) → is_plain_name word ≡ true → IsPlain word
 is_plain [] plain = record { dashes = refl; long = refl; short = refl }
 is_plain (first ∷ rest) plain = elim (cases_Bool (first == 45)) [
   | inl dash ↦ alone rest (rw dash at plain) dash
@@ -40,13 +39,13 @@ is_plain (first ∷ rest) plain = elim (cases_Bool (first == 45)) [
     alone (second ∷ more) none dash = absurd (true≢false (sym none))
 
 -- the word is a value
-is_value : (rules : List Rule) (word : Text) (h : Held) → IsPlain word → word_met rules [] false idle 1 word h ≡ (h, value)
-is_value rules word h plain =
-    ap (λ d. if d then (h, trailing 1) else long_or_other rules idle word (long_of word) h) plain.dashes
+pub is_value : (rules : List Rule) (position : ℕ) (word : Text) (h : Held) → IsPlain word → word_met rules [] false idle position word h ≡ (h, value)
+is_value rules position word h plain =
+    ap (λ d. if d then (h, trailing position) else long_or_other rules idle word (long_of word) h) plain.dashes
     ∙ ap (λ l. long_or_other rules idle word l h) plain.long
     ∙ ap (λ s. short_or_plain rules idle word s h) plain.short
 
-no_flag : (shape : Shape) (word : Text) (h : Held) → IsPlain word → word_fault shape [] false idle word h ≡ []
+pub no_flag : (shape : Shape) (word : Text) (h : Held) → IsPlain word → word_fault shape [] false idle word h ≡ []
 no_flag shape word h plain =
     ap (λ d. if d then [] else flag_word_fault shape.rules shape.args_override_self (long_of word) word h) plain.dashes
     ∙ ap (λ l. flag_word_fault shape.rules shape.args_override_self l word h) plain.long
@@ -61,7 +60,7 @@ at_end shape word = after_step shape.rules word at_start nothing_held value
 
 walks : (shape : Shape) (word : Text) → IsPlain word → walked shape.rules [] at_start word ≡ at_end shape word
 unfolding walked
-walks shape word plain = ap (λ met. after_step shape.rules word at_start met.0 met.1) (is_value shape.rules word nothing_held plain)
+walks shape word plain = ap (λ met. after_step shape.rules word at_start met.0 met.1) (is_value shape.rules 1 word nothing_held plain)
 
 abbrev step_at : Shape → Held × Step → Kinds
 step_at shape met = step_fault shape 1 met.0 met.1
@@ -75,16 +74,16 @@ level : (shape : Shape) (word : Text) → step_at shape (nothing_held, value) �
     → level_fault shape [] nothing_held (word ∷ []) false [] ≡ []
 unfolding walk_fault
 level shape word stays ends plain =
-    let turn = ap₂ or_else (no_flag shape word nothing_held plain) (ap (step_at shape) (is_value shape.rules word nothing_held plain) ∙ stays) in
+    let turn = ap₂ or_else (no_flag shape word nothing_held plain) (ap (step_at shape) (is_value shape.rules 1 word nothing_held plain) ∙ stays) in
     ap₂ (after_walk shape) turn (walks shape word plain) ∙ ends
 
-abbrev rows_by : Shape → Walk → Text × List Row
+abbrev pub rows_by : Shape → Walk → Text × List Row
 rows_by shape end = (shape.name, finished shape.rules end.held)
 
-abbrev answer : Kinds → Text × List Row → Option Asked
+abbrev pub answer : Kinds → Text × List Row → Option Asked
 answer fault found = without_fault (or_else fault []) (command_in found)
 
-abbrev built_command : App → Shape
+abbrev pub built_command : App → Shape
 built_command app = built_leaf (inherited (on_top with_leaf_noted (on_top marked_built our_app)).top app.top)
 
 -- ---- judge
@@ -102,7 +101,7 @@ judge_parts : (program word : Text) → asked (program ∷ codes "judge" ∷ wor
 unfolding asked our_app clap_on_literals
 judge_parts program word = refl
 
-judge_answer : (word : Text) → answer [] (rows_by (built_command judge_app) (at_end (built_command judge_app) word)) ≡ judge_at (Some (settings_at DEFAULT_DAY_START)) word
+judge_answer : (word : Text) → answer [] (rows_by (built_command judge_app) (at_end (built_command judge_app) word)) ≡ judge_at default_settings word
 unfolding our_app clap_on_literals
 judge_answer word = refl
 
@@ -129,7 +128,7 @@ unfolding asked our_app clap_on_literals
 solve_parts program word = refl
 
 solve_answer : (word : Text) → answer [] (rows_by (built_command solve_app) (at_end (built_command solve_app) word))
-    ≡ solve_at (Some (settings_at DEFAULT_DAY_START)) (limits_at (Some DEFAULT_NODES) (Some DEFAULT_PIVOTS)) word
+    ≡ solve_at default_settings default_options word
 unfolding our_app clap_on_literals
 solve_answer word = refl
 
@@ -155,7 +154,7 @@ check_parts : (program word : Text) → asked (program ∷ codes "check" ∷ wor
 unfolding asked our_app clap_on_literals
 check_parts program word = refl
 
-check_answer : (word : Text) → answer [] (rows_by (built_command check_app) (at_end (built_command check_app) word)) ≡ check_at (Some (settings_at DEFAULT_DAY_START)) word
+check_answer : (word : Text) → answer [] (rows_by (built_command check_app) (at_end (built_command check_app) word)) ≡ check_at default_settings word
 unfolding our_app clap_on_literals
 check_answer word = refl
 

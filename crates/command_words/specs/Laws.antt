@@ -1,10 +1,15 @@
--- What the definition of a match comes to: a plain folder alone, or a folder of any name behind `--` and options of
--- one word before it.
-use Rattle.std.specs.Prelude.{◌≡◌, ◌==◌, ◌||◌, Bool, true, false, not, [], ◌∷◌, ◌++◌, Some, codes, option_map}
+-- What the definition of a match comes to: plain words alone, or words of any kind behind `--` and options of one
+-- word before it.
+use Rattle.std.specs.Prelude.{◌≡◌, ◌==◌, ◌||◌, Bool, true, false, not, [], ◌∷◌, ◌++◌, Option, Some, codes}
 use Rattle.clap.specs.Words.{Text}
+use Rattle.fleet_model.specs.declared.parts.Settings.{Settings}
+use Rattle.command_words.specs.Arguments.{count_read, dates_at, options_at, rotations_at, search_at, settings_at}
+use Rattle.command_words.specs.Days.{date_read}
 use Rattle.command_words.specs.Values.{minute_read, number_read}
-use Rattle.command_words.specs.Words.{asked, check_at, judge_at, limits_at, settings_at, solve_at}
-use Rattle.command_words.specs.declared.command.TheConstants.{DEFAULT_DAY_START, DEFAULT_NODES, DEFAULT_PIVOTS, MAX_NODES, MAX_PIVOTS}
+use Rattle.command_words.specs.Words.{asked, check_at, judge_at, solve_at, tails_at}
+use Rattle.command_words.specs.declared.command.RotationLimits.{RotationLimits}
+use Rattle.command_words.specs.declared.command.SolveOptions.{SolveOptions}
+use Rattle.command_words.specs.declared.command.TheConstants.{DEFAULT_DAY_START, DEFAULT_DAYS, DEFAULT_NODES, DEFAULT_PIVOTS, DEFAULT_THROUGH_MAX, DEFAULT_VISITS, MAX_DAYS, MAX_NODES, MAX_PIVOTS, MAX_THROUGH_MAX, MAX_VISITS, MIN_DAYS}
 
 -- nothing follows
 abbrev pub is_alone : Text → Bool
@@ -16,48 +21,96 @@ abbrev pub is_plain_name : Text → Bool
 is_plain_name [] = true
 is_plain_name (first ∷ rest) = not (first == 45) || is_alone rest
 
+-- ---- what holds where no option is given
+
+abbrev pub default_settings : Option Settings
+default_settings = settings_at (Some DEFAULT_DAY_START) (Some DEFAULT_THROUGH_MAX)
+
+abbrev pub default_rotations : Option RotationLimits
+default_rotations = rotations_at (Some DEFAULT_DAYS) (Some DEFAULT_VISITS)
+
+abbrev pub default_options : Option SolveOptions
+default_options = options_at (search_at (Some DEFAULT_NODES) (Some DEFAULT_PIVOTS)) default_rotations false
+
+-- ---- what options give
+
+-- the settings with a day start alone
+abbrev pub settings_from : Text → Option Settings
+settings_from time = settings_at (minute_read time) (Some DEFAULT_THROUGH_MAX)
+
+-- with a longest wait too
+abbrev pub settings_with : Text → Text → Option Settings
+settings_with time wait = settings_at (minute_read time) (number_read 0 MAX_THROUGH_MAX wait)
+
+abbrev pub rotations_with : Text → Text → Option RotationLimits
+rotations_with days visits = rotations_at (number_read MIN_DAYS MAX_DAYS days) (number_read 0 MAX_VISITS visits)
+
+-- ---- plain words
+
 -- judge DIR
 abbrev pub JudgesPlainly : Type 0
-JudgesPlainly = (program dir : Text) → is_plain_name dir ≡ true → asked (program ∷ codes "judge" ∷ dir ∷ [])
-    ≡ judge_at (Some (settings_at DEFAULT_DAY_START)) dir
+JudgesPlainly = (program dir : Text) → is_plain_name dir ≡ true
+    → asked (program ∷ codes "judge" ∷ dir ∷ []) ≡ judge_at default_settings dir
 
 -- solve DIR
 abbrev pub SolvesPlainly : Type 0
-SolvesPlainly = (program dir : Text) → is_plain_name dir ≡ true → asked (program ∷ codes "solve" ∷ dir ∷ [])
-    ≡ solve_at (Some (settings_at DEFAULT_DAY_START)) (limits_at (Some DEFAULT_NODES) (Some DEFAULT_PIVOTS)) dir
+SolvesPlainly = (program dir : Text) → is_plain_name dir ≡ true
+    → asked (program ∷ codes "solve" ∷ dir ∷ []) ≡ solve_at default_settings default_options dir
 
 -- check DIR
 abbrev pub ChecksPlainly : Type 0
-ChecksPlainly = (program dir : Text) → is_plain_name dir ≡ true → asked (program ∷ codes "check" ∷ dir ∷ [])
-    ≡ check_at (Some (settings_at DEFAULT_DAY_START)) dir
+ChecksPlainly = (program dir : Text) → is_plain_name dir ≡ true
+    → asked (program ∷ codes "check" ∷ dir ∷ []) ≡ check_at default_settings dir
+
+-- tails DIR DATE COUNT
+abbrev pub TailsPlainly : Type 0
+TailsPlainly = (program dir date count : Text) → is_plain_name dir ≡ true → is_plain_name date ≡ true → is_plain_name count ≡ true
+    → asked (program ∷ codes "tails" ∷ dir ∷ date ∷ count ∷ [])
+    ≡ tails_at default_settings default_rotations (dates_at (date_read date) (count_read count)) dir
+
+-- ---- words behind `--`
 
 -- judge -- DIR
 abbrev pub JudgesByDefault : Type 0
 JudgesByDefault = (program dir : Text) → asked (program ∷ codes "judge" ∷ codes "--" ∷ dir ∷ [])
-    ≡ judge_at (Some (settings_at DEFAULT_DAY_START)) dir
+    ≡ judge_at default_settings dir
 
 -- judge --day-start=HH:MM -- DIR
 abbrev pub JudgesFrom : Type 0
 JudgesFrom = (program time dir : Text) → asked (program ∷ codes "judge" ∷ (codes "--day-start=" ++ time) ∷ codes "--" ∷ dir ∷ [])
-    ≡ judge_at (option_map settings_at (minute_read time)) dir
+    ≡ judge_at (settings_from time) dir
 
 -- solve -- DIR
 abbrev pub SolvesByDefault : Type 0
 SolvesByDefault = (program dir : Text) → asked (program ∷ codes "solve" ∷ codes "--" ∷ dir ∷ [])
-    ≡ solve_at (Some (settings_at DEFAULT_DAY_START)) (limits_at (Some DEFAULT_NODES) (Some DEFAULT_PIVOTS)) dir
+    ≡ solve_at default_settings default_options dir
 
--- solve --day-start=HH:MM --nodes=N --pivots=P -- DIR
+-- solve --day-start=HH:MM --through-max=M --days=D --visits=V --nodes=N --pivots=P --json -- DIR
 abbrev pub SolvesWithin : Type 0
-SolvesWithin = (program time nodes pivots dir : Text)
-    → asked (program ∷ codes "solve" ∷ (codes "--day-start=" ++ time) ∷ (codes "--nodes=" ++ nodes) ∷ (codes "--pivots=" ++ pivots) ∷ codes "--" ∷ dir ∷ [])
-    ≡ solve_at (option_map settings_at (minute_read time)) (limits_at (number_read MAX_NODES nodes) (number_read MAX_PIVOTS pivots)) dir
+SolvesWithin = (program time wait days visits nodes pivots dir : Text)
+    → asked (program ∷ codes "solve" ∷ (codes "--day-start=" ++ time) ∷ (codes "--through-max=" ++ wait) ∷ (codes "--days=" ++ days) ∷ (codes "--visits=" ++ visits)
+    ∷ (codes "--nodes=" ++ nodes) ∷ (codes "--pivots=" ++ pivots) ∷ codes "--json" ∷ codes "--" ∷ dir ∷ [])
+    ≡ solve_at (settings_with time wait)
+    (options_at (search_at (number_read 0 MAX_NODES nodes) (number_read 0 MAX_PIVOTS pivots)) (rotations_with days visits) true) dir
 
 -- check -- DIR
 abbrev pub ChecksByDefault : Type 0
 ChecksByDefault = (program dir : Text) → asked (program ∷ codes "check" ∷ codes "--" ∷ dir ∷ [])
-    ≡ check_at (Some (settings_at DEFAULT_DAY_START)) dir
+    ≡ check_at default_settings dir
 
 -- check --day-start=HH:MM -- DIR
 abbrev pub ChecksFrom : Type 0
 ChecksFrom = (program time dir : Text) → asked (program ∷ codes "check" ∷ (codes "--day-start=" ++ time) ∷ codes "--" ∷ dir ∷ [])
-    ≡ check_at (option_map settings_at (minute_read time)) dir
+    ≡ check_at (settings_from time) dir
+
+-- tails -- DIR DATE COUNT
+abbrev pub TailsByDefault : Type 0
+TailsByDefault = (program dir date count : Text) → asked (program ∷ codes "tails" ∷ codes "--" ∷ dir ∷ date ∷ count ∷ [])
+    ≡ tails_at default_settings default_rotations (dates_at (date_read date) (count_read count)) dir
+
+-- tails --day-start=HH:MM --through-max=M --days=D --visits=V -- DIR DATE COUNT
+abbrev pub TailsWithin : Type 0
+TailsWithin = (program time wait days visits dir date count : Text)
+    → asked (program ∷ codes "tails" ∷ (codes "--day-start=" ++ time) ∷ (codes "--through-max=" ++ wait) ∷ (codes "--days=" ++ days) ∷ (codes "--visits=" ++ visits)
+    ∷ codes "--" ∷ dir ∷ date ∷ count ∷ [])
+    ≡ tails_at (settings_with time wait) (rotations_with days visits) (dates_at (date_read date) (count_read count)) dir

@@ -1,3 +1,5 @@
+pub mod Arguments
+pub mod Days
 pub mod Laws
 pub mod Program
 pub mod Values

@@ -10,10 +10,14 @@ use Rattle.csv_fields.specs.declared.fault.FieldFault.{FieldFault}
 abbrev pub is_decimal : List ℕ → Bool
 is_decimal text = nat_le 1 (length text) && nat_le (length text) 20 && list_all is_ascii_digit text
 
--- the number that digits write, where it is no greater than a bound
-unfoldable pub number_read : ℕ → List ℕ → Option ℕ
-number_read greatest text =
-    if is_decimal text && nat_le (digits_value 10 text) greatest then Some (digits_value 10 text) else None
+-- a number lies between two bounds
+abbrev pub is_between : ℕ → ℕ → ℕ → Bool
+is_between least greatest number = nat_le least number && nat_le number greatest
+
+-- the number that digits write, where it lies between two bounds
+unfoldable pub number_read : ℕ → ℕ → List ℕ → Option ℕ
+number_read least greatest text =
+    if is_decimal text && is_between least greatest (digits_value 10 text) then Some (digits_value 10 text) else None
 
 -- a value without its fault
 abbrev pub value_read : Result ℕ FieldFault → Option ℕ

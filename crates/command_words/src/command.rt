@@ -1,10 +1,15 @@
 use fleet_model::Settings;
+use fleet_model::limits::MINUTES_PER_DAY;
+use jiff::civil::Date;
 
 /// The clock minute at which the day starts where no option sets it: 03:00.
 pub const DEFAULT_DAY_START: u16 = 180;
 
 /// The longest wait of a through pair where no option sets it, in minutes.
-pub const THROUGH_MAX: u16 = 60;
+pub const DEFAULT_THROUGH_MAX: u16 = 60;
+
+/// The greatest longest wait of a through pair that an option may set, in minutes: it ends within a day.
+pub const MAX_THROUGH_MAX: u16 = MINUTES_PER_DAY - 1;
 
 /// How often a search may split where no option sets it.
 pub const DEFAULT_NODES: u64 = 1000;
@@ -18,6 +23,27 @@ pub const DEFAULT_PIVOTS: u64 = 20_000;
 /// The most pivots of a subproblem that an option may set.
 pub const MAX_PIVOTS: u64 = 1_000_000;
 
+/// After how many days at most an aircraft comes to maintenance where no option sets it.
+pub const DEFAULT_DAYS: u32 = 3;
+
+/// The fewest days between maintenance that an option may set.
+pub const MIN_DAYS: u32 = 1;
+
+/// The most days between maintenance that an option may set.
+pub const MAX_DAYS: u32 = 30;
+
+/// How many prefixes of tours a search for a rotation may visit where no option sets it.
+pub const DEFAULT_VISITS: u32 = 200_000;
+
+/// The most prefixes of tours that an option may set.
+pub const MAX_VISITS: u32 = 1_000_000;
+
+/// The fewest dates that tails are printed for.
+pub const MIN_DATES: u32 = 1;
+
+/// The most dates that tails are printed for.
+pub const MAX_DATES: u32 = 366;
+
 /// How much a search may do.
 #[derive(Clone, Copy, Debug, PartialEq, Eq)]
 pub struct SearchLimits {
@@ -25,6 +51,35 @@ pub struct SearchLimits {
     pub nodes: u64,
     /// The most pivots of one subproblem.
     pub pivots: u64,
+}
+
+/// What a fleet's rotation has to keep, and how long one is searched for.
+#[derive(Clone, Copy, Debug, PartialEq, Eq)]
+pub struct RotationLimits {
+    /// The most days after which an aircraft comes to maintenance.
+    pub days: u32,
+    /// The most prefixes of tours that the search visits.
+    pub visits: u32,
+}
+
+/// How a plan is searched for, and how its summary is printed.
+#[derive(Clone, Copy, Debug, PartialEq, Eq)]
+pub struct SolveOptions {
+    /// How much the search for the plan may do.
+    pub search: SearchLimits,
+    /// The limits of the plan's rotations.
+    pub rotations: RotationLimits,
+    /// Whether the summary is printed as JSON.
+    pub json: bool,
+}
+
+/// Dates one after the other.
+#[derive(Clone, Copy, Debug, PartialEq, Eq)]
+pub struct Dates {
+    /// The first of them.
+    pub first: Date,
+    /// How many there are, the first among them.
+    pub count: u32,
 }
 
 /// What a call asks for. The folder's name is one of the words.
@@ -39,11 +94,18 @@ pub enum Command<'a> {
     Solve {
         dir: &'a str,
         settings: Settings,
-        limits: SearchLimits,
+        options: SolveOptions,
     },
     /// Check the proof of a folder, and its plan where the proof says that one comes with it.
     Check {
         dir: &'a str,
         settings: Settings,
+    },
+    /// Print what each aircraft of a folder's plan flies on some dates.
+    Tails {
+        dir: &'a str,
+        settings: Settings,
+        rotations: RotationLimits,
+        dates: Dates,
     },
 }

@@ -1,9 +1,9 @@
 //! The laws of the command line: each contract is the statement, and the functions do nothing.
 ghost use Rattle.std.specs.Prelude.{◌≡◌, true};
 ghost use Rattle.clap.specs.Words.{is_simple_and_free};
-ghost use Rattle.command_words.specs.Laws.{ChecksByDefault, ChecksFrom, ChecksPlainly, JudgesByDefault, JudgesFrom, JudgesPlainly, SolvesByDefault, SolvesPlainly, SolvesWithin};
+ghost use Rattle.command_words.specs.Laws.{ChecksByDefault, ChecksFrom, ChecksPlainly, JudgesByDefault, JudgesFrom, JudgesPlainly, SolvesByDefault, SolvesPlainly, SolvesWithin, TailsByDefault, TailsPlainly, TailsWithin};
 ghost use Rattle.command_words.specs.Program.{our_app};
-ghost use Rattle.command_words.specs.declared.command.TheConstants.{DEFAULT_DAY_START, DEFAULT_NODES, DEFAULT_PIVOTS, MAX_NODES, MAX_PIVOTS, THROUGH_MAX};
+ghost use Rattle.command_words.specs.declared.command.TheConstants.{DEFAULT_DAY_START, DEFAULT_DAYS, DEFAULT_NODES, DEFAULT_PIVOTS, DEFAULT_THROUGH_MAX, DEFAULT_VISITS, MAX_DATES, MAX_DAYS, MAX_NODES, MAX_PIVOTS, MAX_THROUGH_MAX, MAX_VISITS, MIN_DATES, MIN_DAYS};
 
 /// The command line is of the kind for which clap's definition of a match is exact: by it alone clap tells a match
 /// from a fault, and what the words give each argument.
@@ -11,26 +11,37 @@ pub fn match_is_exact()
     ensures { is_simple_and_free our_app ≡ true }
 {}
 
-/// What the definition of a match comes to, for a folder whose name doesn't begin with a dash, or is a dash alone; for
-/// a folder of any name behind `--`; and for any text behind `=`.
+/// What the definition of a match comes to, for words that don't begin with a dash, or are a dash alone; for
+/// words of any kind behind `--`; and for any text behind `=`.
 pub fn plain_reading()
     ensures judges_plainly { JudgesPlainly }
     ensures solves_plainly { SolvesPlainly }
     ensures checks_plainly { ChecksPlainly }
+    ensures tails_plainly { TailsPlainly }
     ensures judges_by_default { JudgesByDefault }
     ensures judges_from { JudgesFrom }
     ensures solves_by_default { SolvesByDefault }
     ensures solves_within { SolvesWithin }
     ensures checks_by_default { ChecksByDefault }
     ensures checks_from { ChecksFrom }
+    ensures tails_by_default { TailsByDefault }
+    ensures tails_within { TailsWithin }
 {}
 
-/// The defaults of the options, and the greatest values that they take, in numbers.
+/// The defaults of the options, and the least and greatest values that words take, in numbers.
 pub fn values_in_numbers()
     ensures day_start { DEFAULT_DAY_START ≡ 180 }
-    ensures through_max { THROUGH_MAX ≡ 60 }
+    ensures through_max { DEFAULT_THROUGH_MAX ≡ 60 }
+    ensures most_through_max { MAX_THROUGH_MAX ≡ 1439 }
     ensures nodes { DEFAULT_NODES ≡ 1000 }
     ensures most_nodes { MAX_NODES ≡ 1000000 }
     ensures pivots { DEFAULT_PIVOTS ≡ 20000 }
     ensures most_pivots { MAX_PIVOTS ≡ 1000000 }
+    ensures days { DEFAULT_DAYS ≡ 3 }
+    ensures least_days { MIN_DAYS ≡ 1 }
+    ensures most_days { MAX_DAYS ≡ 30 }
+    ensures visits { DEFAULT_VISITS ≡ 200000 }
+    ensures most_visits { MAX_VISITS ≡ 1000000 }
+    ensures least_dates { MIN_DATES ≡ 1 }
+    ensures most_dates { MAX_DATES ≡ 366 }
 {}

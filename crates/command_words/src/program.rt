@@ -2,7 +2,7 @@
 ghost use Rattle.std.specs.Prelude.{◌≡◌, IfOk, codes, false};
 ghost use Rattle.clap.specs.Words.{app_of, rule_of, shape_of, with_subcommand};
 ghost use Rattle.clap.specs.declared.builder.command.Command.TheViews.{out-Command};
-ghost use Rattle.command_words.specs.Program.{Builds, BuildsRule, IsRule, bare_app, check_app, dir, folder_app, judge_app, option_named, our_app, solve_app};
+ghost use Rattle.command_words.specs.Program.{Builds, BuildsRotationOptions, BuildsRule, IsRule, bare_app, check_app, flag_named, folder_app, judge_app, option_named, our_app, solve_app, tails_app, word_named};
 
 use clap::{Arg, ArgAction, Command};
 use std::alloc::{AllocError, Global};
@@ -14,9 +14,11 @@ pub(crate) fn program<'a>(alloc: Global) -> Result<Command<'a>, AllocError>
     let judge = judge_command(alloc)?;
     let solve = solve_command(alloc)?;
     let check = check_command(alloc)?;
+    let tails = tails_command(alloc)?;
     let with_judge = with_command(bare_program(alloc), judge)?;
     let with_solve = with_command(with_judge, solve)?;
-    with_command(with_solve, check)
+    let with_check = with_command(with_solve, check)?;
+    with_command(with_check, tails)
 }
 
 /// The program without commands. It does nothing where no command is named.
@@ -41,13 +43,15 @@ fn judge_command<'a>(alloc: Global) -> Result<Command<'a>, AllocError>
     folder_command(alloc, "judge")
 }
 
-/// `solve DIR [--day-start HH:MM] [--nodes N] [--pivots P]`
+/// `solve DIR [--day-start HH:MM] [--through-max M] [--days D] [--visits V] [--nodes N] [--pivots P] [--json]`
 fn solve_command<'a>(alloc: Global) -> Result<Command<'a>, AllocError>
     ensures { IfOk result (Builds solve_app) }
 {
     let bare = folder_command(alloc, "solve")?;
-    let with_nodes = with_argument(bare, option(alloc, "nodes"))?;
-    with_argument(with_nodes, option(alloc, "pivots"))
+    let with_rotations = with_rotation_options(alloc, bare)?;
+    let with_nodes = with_argument(with_rotations, option(alloc, "nodes"))?;
+    let with_pivots = with_argument(with_nodes, option(alloc, "pivots"))?;
+    with_argument(with_pivots, flag(alloc, "json"))
 }
 
 /// `check DIR [--day-start HH:MM]`
@@ -57,12 +61,31 @@ fn check_command<'a>(alloc: Global) -> Result<Command<'a>, AllocError>
     folder_command(alloc, "check")
 }
 
+/// `tails DIR DATE COUNT [--day-start HH:MM] [--through-max M] [--days D] [--visits V]`
+fn tails_command<'a>(alloc: Global) -> Result<Command<'a>, AllocError>
+    ensures { IfOk result (Builds tails_app) }
+{
+    let bare = folder_command(alloc, "tails")?;
+    let with_date = with_argument(bare, word(alloc, "date"))?;
+    let with_count = with_argument(with_date, word(alloc, "count"))?;
+    with_rotation_options(alloc, with_count)
+}
+
 /// `NAME DIR [--day-start HH:MM]`
 fn folder_command<'a>(alloc: Global, name: &'a str) -> Result<Command<'a>, AllocError>
     ensures { IfOk result (Builds (folder_app name.now)) }
 {
-    let with_folder = with_argument(Command::new(alloc, name), folder(alloc))?;
+    let with_folder = with_argument(Command::new(alloc, name), word(alloc, "dir"))?;
     with_argument(with_folder, option(alloc, "day-start"))
+}
+
+/// The command with `[--through-max M] [--days D] [--visits V]`.
+fn with_rotation_options<'a>(alloc: Global, command: Command<'a>) -> Result<Command<'a>, AllocError>
+    ensures { IfOk result (BuildsRotationOptions command.entry) }
+{
+    let with_wait = with_argument(command, option(alloc, "through-max"))?;
+    let with_days = with_argument(with_wait, option(alloc, "days"))?;
+    with_argument(with_days, option(alloc, "visits"))
 }
 
 /// The command with one more argument.
@@ -73,11 +96,11 @@ fn with_argument<'a>(command: Command<'a>, argument: Arg<'a>) -> Result<Command<
     command.arg(argument)
 }
 
-/// The folder of a command, which has to be there.
-fn folder<'a>(alloc: Global) -> Arg<'a>
-    ensures { IsRule dir result }
+/// A word of a command, which has to be there.
+fn word<'a>(alloc: Global, name: &'a str) -> Arg<'a>
+    ensures { IsRule (word_named name.now) result }
 {
-    Arg::new(alloc, "dir").action(ArgAction::Set).required(true)
+    Arg::new(alloc, name).action(ArgAction::Set).required(true)
 }
 
 /// An option of one value, and a second use is a fault. The value stays text, since clap's own integers take `+5`.
@@ -85,4 +108,11 @@ fn option<'a>(alloc: Global, name: &'a str) -> Arg<'a>
     ensures { IsRule (option_named name.now) result }
 {
     Arg::new(alloc, name).long(name).action(ArgAction::Set)
+}
+
+/// An option without a value, and a second use is a fault.
+fn flag<'a>(alloc: Global, name: &'a str) -> Arg<'a>
+    ensures { IsRule (flag_named name.now) result }
+{
+    Arg::new(alloc, name).long(name).action(ArgAction::SetTrue)
 }

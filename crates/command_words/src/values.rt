@@ -17,16 +17,17 @@ pub(crate) fn minute_of_day(text: &str) -> Option<u16>
     }
 }
 
-/// The number that a text of 1 to 20 digits writes, where it is no greater than a bound. A sign is no digit.
-pub(crate) fn number_up_to(text: &str, greatest: u64) -> Option<u64>
-    ensures read { result ≡ number_read greatest text.now }
-    ensures fits { IfSome result (λ number. number ≤ greatest) }
+/// The number that a text of 1 to 20 digits writes, where it lies between two bounds. A sign is no digit.
+pub(crate) fn number_between(text: &str, least: u64, greatest: u64) -> Option<u64>
+    ensures read { result ≡ number_read least greatest text.now }
+    ensures least { IfSome result (λ number. least ≤ number) }
+    ensures greatest { IfSome result (λ number. number ≤ greatest) }
 {
     let field = text.as_bytes();
     if has_minus(field) {
         return None;
     }
-    match whole(field, 0, i128::from(greatest)) {
+    match whole(field, i128::from(least), i128::from(greatest)) {
         Ok(number) => Some(number as u64),
         Err(_) => None,
     }

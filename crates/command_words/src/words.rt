@@ -1,19 +1,16 @@
-ghost use Rattle.std.specs.Prelude.{◌≡◌, ◌≤◌, ◌↔◌, IfOk, IfSome, IsErr, None, map, option_and_then, option_map, string_bytes};
-ghost use Rattle.clap.specs.Words.{first_of, subcommand_rows_of};
-ghost use Rattle.command_words.specs.Values.{number_read, value_or};
-ghost use Rattle.command_words.specs.Words.{AreLimits, HasLimits, HasSettings, asked, asked_by, check_in, command_in, judge_in, limits_in, rows_in, settings_in, solve_in};
-ghost use Rattle.fleet_model.specs.Limits.{AreSettings};
+ghost use Rattle.std.specs.Prelude.{◌≡◌, ◌↔◌, IfOk, IfSome, IsErr, None, map, option_and_then, option_map, string_bytes};
+ghost use Rattle.clap.specs.Words.{subcommand_rows_of};
+ghost use Rattle.command_words.specs.Arguments.{rows_in};
+ghost use Rattle.command_words.specs.Words.{HasDates, HasLimits, HasSettings, asked, asked_by, check_in, command_in, judge_in, solve_in, tails_in};
 
-use crate::command::{
-    Command, DEFAULT_DAY_START, DEFAULT_NODES, DEFAULT_PIVOTS, MAX_NODES, MAX_PIVOTS, SearchLimits,
-    THROUGH_MAX,
+use crate::arguments::{
+    dates_of, day_settings_of, options_of, rotations_of, settings_of, value_of,
 };
+use crate::command::Command;
 use crate::program::program;
-use crate::values::{minute_of_day, number_up_to};
 use clap::ArgMatches;
 use clap::error::ErrorKind;
 use entries::NoMemory;
-use fleet_model::Settings;
 use std::alloc::Global;
 
 /// The command that words ask for, the first of them the program's name. None where they match no command, as where
@@ -23,6 +20,7 @@ pub fn command_of<'a>(alloc: Global, words: &'a [String]) -> Result<Option<Comma
     ensures asked { IfOk result (λ command. option_map asked_by command ≡ asked (map string_bytes words.now)) }
     ensures settings { IfOk result (λ command. IfSome command HasSettings) }
     ensures limits { IfOk result (λ command. IfSome command HasLimits) }
+    ensures dates { IfOk result (λ command. IfSome command HasDates) }
 {
     match program(alloc)?.try_get_matches_from(words) {
         Ok(matches) => Ok(command_met(&matches)),
@@ -46,14 +44,23 @@ fn command_met<'a>(matches: &ArgMatches<'a>) -> Option<Command<'a>>
     ensures asked { option_map asked_by result ≡ option_and_then command_in (subcommand_rows_of matches.now) }
     ensures settings { IfSome result HasSettings }
     ensures limits { IfSome result HasLimits }
+    ensures dates { IfSome result HasDates }
 {
-    let (name, found) = matches.subcommand()?;
+    let (name, found) = named(matches)?;
     match name {
         "judge" => judge_of(found),
         "solve" => solve_of(found),
         "check" => check_of(found),
+        "tails" => tails_of(found),
         _ => None,
     }
+}
+
+/// The command's name, and what was found for its arguments.
+fn named<'a, 'm>(matches: &'m ArgMatches<'a>) -> Option<(&'a str, &'m ArgMatches<'a>)>
+    ensures { option_map (λ command. (command.0.now, rows_in command.1.now)) result ≡ subcommand_rows_of matches.now }
+{
+    matches.subcommand()
 }
 
 /// Judging, with what was found for it.
@@ -61,9 +68,10 @@ fn judge_of<'a>(found: &ArgMatches<'a>) -> Option<Command<'a>>
     ensures asked { option_map asked_by result ≡ judge_in (rows_in found.now) }
     ensures settings { IfSome result HasSettings }
     ensures limits { IfSome result HasLimits }
+    ensures dates { IfSome result HasDates }
 {
     let dir = value_of(found, "dir")?;
-    let settings = settings_of(found)?;
+    let settings = day_settings_of(found)?;
     Some(Command::Judge { dir, settings })
 }
 
@@ -72,14 +80,15 @@ fn solve_of<'a>(found: &ArgMatches<'a>) -> Option<Command<'a>>
     ensures asked { option_map asked_by result ≡ solve_in (rows_in found.now) }
     ensures settings { IfSome result HasSettings }
     ensures limits { IfSome result HasLimits }
+    ensures dates { IfSome result HasDates }
 {
     let dir = value_of(found, "dir")?;
     let settings = settings_of(found)?;
-    let limits = limits_of(found)?;
+    let options = options_of(found)?;
     Some(Command::Solve {
         dir,
         settings,
-        limits,
+        options,
     })
 }
 
@@ -88,52 +97,28 @@ fn check_of<'a>(found: &ArgMatches<'a>) -> Option<Command<'a>>
     ensures asked { option_map asked_by result ≡ check_in (rows_in found.now) }
     ensures settings { IfSome result HasSettings }
     ensures limits { IfSome result HasLimits }
+    ensures dates { IfSome result HasDates }
 {
     let dir = value_of(found, "dir")?;
-    let settings = settings_of(found)?;
+    let settings = day_settings_of(found)?;
     Some(Command::Check { dir, settings })
 }
 
-/// The settings that the options give.
-fn settings_of(found: &ArgMatches<'_>) -> Option<Settings>
-    ensures read { result ≡ settings_in (rows_in found.now) }
-    ensures fit { IfSome result AreSettings }
+/// Printing tails, with what was found for it.
+fn tails_of<'a>(found: &ArgMatches<'a>) -> Option<Command<'a>>
+    ensures asked { option_map asked_by result ≡ tails_in (rows_in found.now) }
+    ensures settings { IfSome result HasSettings }
+    ensures limits { IfSome result HasLimits }
+    ensures dates { IfSome result HasDates }
 {
-    let day_start = match value_of(found, "day-start") {
-        Some(text) => minute_of_day(text)?,
-        None => DEFAULT_DAY_START,
-    };
-    Some(Settings {
-        day_start,
-        through_max: THROUGH_MAX,
+    let dir = value_of(found, "dir")?;
+    let settings = settings_of(found)?;
+    let rotations = rotations_of(found)?;
+    let dates = dates_of(found)?;
+    Some(Command::Tails {
+        dir,
+        settings,
+        rotations,
+        dates,
     })
-}
-
-/// The limits of a search that the options give.
-fn limits_of(found: &ArgMatches<'_>) -> Option<SearchLimits>
-    ensures read { result ≡ limits_in (rows_in found.now) }
-    ensures fit { IfSome result AreLimits }
-{
-    let nodes = number_of(found, "nodes", DEFAULT_NODES, MAX_NODES)?;
-    let pivots = number_of(found, "pivots", DEFAULT_PIVOTS, MAX_PIVOTS)?;
-    Some(SearchLimits { nodes, pivots })
-}
-
-/// The number that an option gives, or its default.
-fn number_of(found: &ArgMatches<'_>, option: &str, default: u64, greatest: u64) -> Option<u64>
-    requires { default ≤ greatest }
-    ensures read { result ≡ value_or default (number_read greatest) (first_of option.now (rows_in found.now)) }
-    ensures fits { IfSome result (λ number. number ≤ greatest) }
-{
-    match value_of(found, option) {
-        Some(text) => number_up_to(text, greatest),
-        None => Some(default),
-    }
-}
-
-/// The value of an argument, where it was given one.
-fn value_of<'a>(found: &ArgMatches<'a>, argument: &str) -> Option<&'a str>
-    ensures { option_map (λ text. text.now) result ≡ first_of argument.now (rows_in found.now) }
-{
-    found.get_str(argument)
 }

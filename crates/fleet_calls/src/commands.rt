@@ -1,57 +1,341 @@
-//! What words ask for. Words that ask for nothing stand with the runs of the program.
-use command_words::{Command, SearchLimits, command_of};
+//! What words ask for, and that words past a limit ask for nothing. Further words that ask for nothing stand with the
+//! runs of the program.
+use command_words::{Command, Dates, RotationLimits, SearchLimits, SolveOptions, command_of};
 use fleet_model::Settings;
+use jiff::civil::Date;
 use std::alloc::Global;
 use std::test::Fail;
 
-/// A line of words that single spaces part, the folder, the day start, and the most splits and pivots.
-type Line = (&'static str, &'static str, u16, u64, u64);
+/// A line of words that single spaces part, the folder, and the day start.
+type DayLine = (&'static str, &'static str, u16);
 
-const JUDGE: &[Line] = &[
-    ("fleetplan judge d", "d", 180, 0, 0),
-    ("fleetplan judge d --day-start 00:00", "d", 0, 0, 0),
-    ("fleetplan judge --day-start=23:59 d", "d", 1439, 0, 0),
-    ("fleetplan judge --day-start 00:00 -- -d", "-d", 0, 0, 0),
-    ("fleetplan judge -", "-", 180, 0, 0),
-    ("fleetplan judge help", "help", 180, 0, 0),
+/// The same with the longest wait of a through pair, the most days between maintenance, and the most prefixes visited.
+type RotationLine = (&'static str, &'static str, u16, u16, u32, u32);
+
+/// A line that solves with the most splits and pivots, and whether the summary is JSON.
+type SolveLine = (RotationLine, u64, u64, bool);
+
+/// A line that prints tails with the year, month and day of the first date, and the number of dates.
+type TailsLine = (RotationLine, i16, i8, i8, u32);
+
+const JUDGE: &[DayLine] = &[
+    ("fleetplan judge d", "d", 180),
+    ("fleetplan judge d --day-start 00:00", "d", 0),
+    ("fleetplan judge --day-start=23:59 d", "d", 1439),
+    ("fleetplan judge --day-start 00:00 -- -d", "-d", 0),
+    ("fleetplan judge -", "-", 180),
+    ("fleetplan judge help", "help", 180),
 ];
 
-const SOLVE: &[Line] = &[
-    ("fleetplan solve d", "d", 180, 1000, 20_000),
+const CHECK: &[DayLine] = &[
+    ("fleetplan check d", "d", 180),
+    ("fleetplan check --day-start=00:00 -- -d", "-d", 0),
+    ("fleetplan check judge --day-start 23:59", "judge", 1439),
+];
+
+const SOLVE: &[SolveLine] = &[
     (
-        "fleetplan solve d --nodes=0000000000000000005 --day-start 00:00",
-        "d",
-        0,
+        ("fleetplan solve d", "d", 180, 60, 3, 200_000),
+        1000,
+        20_000,
+        false,
+    ),
+    (
+        (
+            "fleetplan solve d --nodes=0000000000000000005 --day-start 00:00",
+            "d",
+            0,
+            60,
+            3,
+            200_000,
+        ),
         5,
         20_000,
+        false,
     ),
     (
-        "fleetplan solve d --nodes 1000000",
-        "d",
-        180,
+        (
+            "fleetplan solve d --nodes 1000000",
+            "d",
+            180,
+            60,
+            3,
+            200_000,
+        ),
         1_000_000,
         20_000,
+        false,
     ),
-    ("fleetplan solve --pivots 0 d --nodes 0", "d", 180, 0, 0),
     (
-        "fleetplan solve d --pivots 1000000",
-        "d",
-        180,
+        (
+            "fleetplan solve --pivots 0 d --nodes 0",
+            "d",
+            180,
+            60,
+            3,
+            200_000,
+        ),
+        0,
+        0,
+        false,
+    ),
+    (
+        (
+            "fleetplan solve d --pivots 1000000",
+            "d",
+            180,
+            60,
+            3,
+            200_000,
+        ),
         1000,
         1_000_000,
+        false,
+    ),
+    (
+        ("fleetplan solve d --through-max 0", "d", 180, 0, 3, 200_000),
+        1000,
+        20_000,
+        false,
+    ),
+    (
+        (
+            "fleetplan solve d --through-max=1439",
+            "d",
+            180,
+            1439,
+            3,
+            200_000,
+        ),
+        1000,
+        20_000,
+        false,
+    ),
+    (
+        ("fleetplan solve --days 1 d", "d", 180, 60, 1, 200_000),
+        1000,
+        20_000,
+        false,
+    ),
+    (
+        (
+            "fleetplan solve d --days 30 --visits 0",
+            "d",
+            180,
+            60,
+            30,
+            0,
+        ),
+        1000,
+        20_000,
+        false,
+    ),
+    (
+        (
+            "fleetplan solve d --visits=1000000",
+            "d",
+            180,
+            60,
+            3,
+            1_000_000,
+        ),
+        1000,
+        20_000,
+        false,
+    ),
+    (
+        ("fleetplan solve d --json", "d", 180, 60, 3, 200_000),
+        1000,
+        20_000,
+        true,
+    ),
+    (
+        (
+            "fleetplan solve --json --days 2 --visits 1 d",
+            "d",
+            180,
+            60,
+            2,
+            1,
+        ),
+        1000,
+        20_000,
+        true,
+    ),
+    (
+        (
+            "fleetplan solve --json -- --json",
+            "--json",
+            180,
+            60,
+            3,
+            200_000,
+        ),
+        1000,
+        20_000,
+        true,
     ),
 ];
 
-const CHECK: &[Line] = &[
-    ("fleetplan check d", "d", 180, 0, 0),
-    ("fleetplan check --day-start=00:00 -- -d", "-d", 0, 0, 0),
+const TAILS: &[TailsLine] = &[
     (
-        "fleetplan check judge --day-start 23:59",
-        "judge",
-        1439,
-        0,
-        0,
+        ("fleetplan tails d 2025-02-28 2", "d", 180, 60, 3, 200_000),
+        2025,
+        2,
+        28,
+        2,
     ),
+    (
+        ("fleetplan tails d 2024-02-29 1", "d", 180, 60, 3, 200_000),
+        2024,
+        2,
+        29,
+        1,
+    ),
+    (
+        ("fleetplan tails d 2000-02-29 366", "d", 180, 60, 3, 200_000),
+        2000,
+        2,
+        29,
+        366,
+    ),
+    (
+        ("fleetplan tails d 0001-01-01 366", "d", 180, 60, 3, 200_000),
+        1,
+        1,
+        1,
+        366,
+    ),
+    (
+        ("fleetplan tails d 9999-12-31 1", "d", 180, 60, 3, 200_000),
+        9999,
+        12,
+        31,
+        1,
+    ),
+    (
+        ("fleetplan tails d 9998-12-31 366", "d", 180, 60, 3, 200_000),
+        9998,
+        12,
+        31,
+        366,
+    ),
+    (
+        (
+            "fleetplan tails d 2025-02-28 00000000000000000366",
+            "d",
+            180,
+            60,
+            3,
+            200_000,
+        ),
+        2025,
+        2,
+        28,
+        366,
+    ),
+    (
+        (
+            "fleetplan tails d 2025-02-28 2 --days 30 --visits 0",
+            "d",
+            180,
+            60,
+            30,
+            0,
+        ),
+        2025,
+        2,
+        28,
+        2,
+    ),
+    (
+        (
+            "fleetplan tails --through-max 1439 --day-start=00:00 d 2025-02-28 2",
+            "d",
+            0,
+            1439,
+            3,
+            200_000,
+        ),
+        2025,
+        2,
+        28,
+        2,
+    ),
+    (
+        (
+            "fleetplan tails d --visits 1000000 2025-02-28 --days 1 2",
+            "d",
+            180,
+            60,
+            1,
+            1_000_000,
+        ),
+        2025,
+        2,
+        28,
+        2,
+    ),
+    (
+        (
+            "fleetplan tails -- -d 2025-02-28 2",
+            "-d",
+            180,
+            60,
+            3,
+            200_000,
+        ),
+        2025,
+        2,
+        28,
+        2,
+    ),
+];
+
+const NOTHING: &[&str] = &[
+    "fleetplan solve d --through-max 1440",
+    "fleetplan solve d --through-max 60 --through-max 60",
+    "fleetplan solve d --days 0",
+    "fleetplan solve d --days 31",
+    "fleetplan solve d --days +3",
+    "fleetplan solve d --days",
+    "fleetplan solve d --visits 1000001",
+    "fleetplan solve d --visits -1",
+    "fleetplan solve d --json --json",
+    "fleetplan solve d --json=x",
+    "fleetplan solve d --json=true",
+    "fleetplan solve d --json true",
+    "fleetplan judge d --json",
+    "fleetplan judge d --through-max 60",
+    "fleetplan check d --days 3",
+    "fleetplan check d --visits 5",
+    "fleetplan tails d",
+    "fleetplan tails d 2025-02-28",
+    "fleetplan tails d 2025-02-28 2 3",
+    "fleetplan tails d 2025-02-28 2 --json",
+    "fleetplan tails d 2025-02-28 2 --nodes 5",
+    "fleetplan tails d 2025-02-28 2 --days 31",
+    "fleetplan tails d 2025-02-28 0",
+    "fleetplan tails d 2025-02-28 367",
+    "fleetplan tails d 2025-02-28 000000000000000000002",
+    "fleetplan tails d 2025-02-28 +2",
+    "fleetplan tails d 2025-02-28 -- -2",
+    "fleetplan tails d 2025-02-29 1",
+    "fleetplan tails d 1900-02-29 1",
+    "fleetplan tails d 2025-04-31 1",
+    "fleetplan tails d 2025-13-01 1",
+    "fleetplan tails d 2025-00-01 1",
+    "fleetplan tails d 2025-01-00 1",
+    "fleetplan tails d 0000-01-01 1",
+    "fleetplan tails d 9999-12-31 2",
+    "fleetplan tails d 9999-01-01 366",
+    "fleetplan tails d 2025-2-28 1",
+    "fleetplan tails d 2025-02-028 1",
+    "fleetplan tails d 02025-02-28 1",
+    "fleetplan tails d 2025/02/28 1",
+    "fleetplan tails d 20250228 1",
+    "fleetplan tails d +025-02-28 1",
+    "fleetplan tails d 2025-02-2x 1",
 ];
 
 fn words_of(alloc: Global, line: &str) -> Result<Vec<String>, Fail> {
@@ -62,64 +346,118 @@ fn words_of(alloc: Global, line: &str) -> Result<Vec<String>, Fail> {
     Ok(words)
 }
 
-fn settings(day_start: u16) -> Settings {
+fn settings(day_start: u16, through_max: u16) -> Settings {
     Settings {
         day_start,
-        through_max: 60,
+        through_max,
+    }
+}
+
+fn dates(year: i16, month: i8, day: i8, count: u32) -> Option<Dates> {
+    match Date::new(year, month, day) {
+        Ok(first) => Some(Dates { first, count }),
+        Err(_) => None,
     }
 }
 
 #[test]
 fn lines_that_judge(rt: HostRuntime) -> Result<(), Fail> {
-    for (line, dir, day_start, _, _) in JUDGE {
+    for (line, dir, day_start) in JUDGE {
         let words = words_of(rt.alloc(), line)?;
+        let command = match command_of(rt.alloc(), words.as_slice()) {
+            Ok(command) => command,
+            Err(error) => return Err(Fail::from(error)),
+        };
         let wanted = Command::Judge {
             dir,
-            settings: settings(*day_start),
+            settings: settings(*day_start, 60),
         };
-        assert_eq!(rt;
-            command_of(rt.alloc(), words.as_slice())?,
-            Some(wanted),
-            "{line}"
-        );
-    }
-    Ok(())
-}
-
-#[test]
-fn lines_that_solve(rt: HostRuntime) -> Result<(), Fail> {
-    for (line, dir, day_start, nodes, pivots) in SOLVE {
-        let words = words_of(rt.alloc(), line)?;
-        let wanted = Command::Solve {
-            dir,
-            settings: settings(*day_start),
-            limits: SearchLimits {
-                nodes: *nodes,
-                pivots: *pivots,
-            },
-        };
-        assert_eq!(rt;
-            command_of(rt.alloc(), words.as_slice())?,
-            Some(wanted),
-            "{line}"
-        );
+        assert_eq!(rt; command, Some(wanted), "{line}");
     }
     Ok(())
 }
 
 #[test]
 fn lines_that_check(rt: HostRuntime) -> Result<(), Fail> {
-    for (line, dir, day_start, _, _) in CHECK {
+    for (line, dir, day_start) in CHECK {
         let words = words_of(rt.alloc(), line)?;
+        let command = match command_of(rt.alloc(), words.as_slice()) {
+            Ok(command) => command,
+            Err(error) => return Err(Fail::from(error)),
+        };
         let wanted = Command::Check {
             dir,
-            settings: settings(*day_start),
+            settings: settings(*day_start, 60),
         };
-        assert_eq!(rt;
-            command_of(rt.alloc(), words.as_slice())?,
-            Some(wanted),
-            "{line}"
-        );
+        assert_eq!(rt; command, Some(wanted), "{line}");
+    }
+    Ok(())
+}
+
+#[test]
+fn lines_that_solve(rt: HostRuntime) -> Result<(), Fail> {
+    for ((line, dir, day_start, through_max, days, visits), nodes, pivots, json) in SOLVE {
+        let words = words_of(rt.alloc(), line)?;
+        let command = match command_of(rt.alloc(), words.as_slice()) {
+            Ok(command) => command,
+            Err(error) => return Err(Fail::from(error)),
+        };
+        let wanted = Command::Solve {
+            dir,
+            settings: settings(*day_start, *through_max),
+            options: SolveOptions {
+                search: SearchLimits {
+                    nodes: *nodes,
+                    pivots: *pivots,
+                },
+                rotations: RotationLimits {
+                    days: *days,
+                    visits: *visits,
+                },
+                json: *json,
+            },
+        };
+        assert_eq!(rt; command, Some(wanted), "{line}");
+    }
+    Ok(())
+}
+
+#[test]
+fn lines_that_print_tails(rt: HostRuntime) -> Result<(), Fail> {
+    for ((line, dir, day_start, through_max, days, visits), year, month, day, count) in TAILS {
+        let words = words_of(rt.alloc(), line)?;
+        let command = match command_of(rt.alloc(), words.as_slice()) {
+            Ok(command) => command,
+            Err(error) => return Err(Fail::from(error)),
+        };
+        let rotations = RotationLimits {
+            days: *days,
+            visits: *visits,
+        };
+        let settings = settings(*day_start, *through_max);
+        let wanted = match dates(*year, *month, *day, *count) {
+            Some(dates) => Some(Command::Tails {
+                dir,
+                settings,
+                rotations,
+                dates,
+            }),
+            None => None,
+        };
+        assert_eq!(rt; command, wanted, "{line}");
+    }
+    Ok(())
+}
+
+#[test]
+fn lines_that_ask_for_nothing(rt: HostRuntime) -> Result<(), Fail> {
+    for line in NOTHING {
+        let words = words_of(rt.alloc(), line)?;
+        let command = match command_of(rt.alloc(), words.as_slice()) {
+            Ok(command) => command,
+            Err(error) => return Err(Fail::from(error)),
+        };
+        assert_eq!(rt; command, None, "{line}");
     }
     Ok(())
 }

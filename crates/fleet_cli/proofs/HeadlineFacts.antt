@@ -1,18 +1,21 @@
 -- What solving leaves, from the answer that was given.
-use Rattle.std.proofs.Common.{◌≡◌, ◌≢◌, ℕ, List, ◌++◌, codes, Option, Some, None, IfSome, inl, inr, sym, ap, ◌∙◌, rules}
+use Rattle.std.proofs.Common.{◌≡◌, ◌≢◌, ℕ, Bool, true, false, List, ◌++◌, codes, Option, Some, None, IfSome, inl, inr, sym, ap, ◌∙◌, rules}
 use Rattle.std.specs.Str.{bytes_eq}
 use Rattle.std.proofs.lemmas.List.{append_cancel_left}
 use Rattle.std.proofs.lemmas.Map.{update_other, update_same}
 use Rattle.table_rows.proofs.FrontReading.{bytes_eq-self}
 use Rattle.table_rows.proofs.Numbered.{bytes_eq-differ}
-use Rattle.command_words.specs.Words.{Asked, check, judge, solve}
-use Rattle.command_words.specs.declared.command.SearchLimits.{SearchLimits}
+use Rattle.command_words.specs.Words.{Asked, check, judge, solve, tails}
+use Rattle.command_words.specs.declared.command.SolveOptions.{SolveOptions}
 use Rattle.fleet_model.specs.declared.parts.Settings.{Settings}
 use Rattle.fleet_model.specs.declared.tables.Tables.{Tables}
 use Rattle.bound_cert.specs.ProofText.{proof_text}
+use Rattle.bound_cert.specs.declared.trees.Tree.{Tree}
 use Rattle.plan_desk.specs.Desk.{Files, with_file}
 use Rattle.plan_desk.specs.DeskFile.{path_of}
 use Rattle.plan_desk.specs.Sink.{output_with}
+use Rattle.plan_report.specs.RotationRecords.{rotation_text}
+use Rattle.plan_report.specs.declared.fleet_rotations.FleetRotation.{FleetRotation}
 use Rattle.plan_text.specs.Text.{plan_text}
 use Rattle.plan_desk.specs.declared.file.DeskFile.TheVariants as desk_file
 use Rattle.fleet_cli.proofs.BoundFacts.{checked_tells}
@@ -23,17 +26,29 @@ use Rattle.fleet_cli.specs.Headline.{Headline, TellsSolution, is_planned, plan_t
 use Rattle.fleet_cli.specs.Reading.{folder_of}
 use Rattle.fleet_cli.specs.Run.{IsSolution}
 use Rattle.branch_bound.specs.Solved.{tree_of}
-use Rattle.fleet_cli.specs.Summary.{solved_files}
+use Rattle.fleet_cli.specs.Solution.{solved_files}
 use Rattle.fleet_cli.specs.Written.{held_with_texts, with_texts}
 use Rattle.fleet_cli.specs.declared.answer.Answer.{Answer}
 use Rattle.branch_bound.specs.declared.solved.Solved.{Solved}
 use Rattle.branch_bound.specs.declared.solved.Solved.TheVariants as solved
 
--- the proof's name isn't the plan's
-names_differ : (dir : List ℕ) → path_of dir desk_file.Proof ≢ path_of dir desk_file.Plan
-names_differ dir same = literals (append_cancel_left (dir ++ codes "/") (codes "proof.txt") (codes "plan.csv") same)
+-- the names of the files differ
+proof_not_plan : (dir : List ℕ) → path_of dir desk_file.Proof ≢ path_of dir desk_file.Plan
+proof_not_plan dir same = literals (append_cancel_left (dir ++ codes "/") (codes "proof.txt") (codes "plan.csv") same)
   where
     literals : codes "proof.txt" ≡ codes "plan.csv" → ⊥
+    literals e = search rules
+
+rotation_not_plan : (dir : List ℕ) → path_of dir desk_file.Rotation ≢ path_of dir desk_file.Plan
+rotation_not_plan dir same = literals (append_cancel_left (dir ++ codes "/") (codes "rotation.csv") (codes "plan.csv") same)
+  where
+    literals : codes "rotation.csv" ≡ codes "plan.csv" → ⊥
+    literals e = search rules
+
+rotation_not_proof : (dir : List ℕ) → path_of dir desk_file.Rotation ≢ path_of dir desk_file.Proof
+rotation_not_proof dir same = literals (append_cancel_left (dir ++ codes "/") (codes "rotation.csv") (codes "proof.txt") same)
+  where
+    literals : codes "rotation.csv" ≡ codes "proof.txt" → ⊥
     literals e = search rules
 
 here : (held : Files) (name : List ℕ) (bytes : Option (List ℕ)) → with_file held name bytes name ≡ bytes
@@ -42,38 +57,62 @@ here held name bytes = update_same bytes_eq held name bytes name (bytes_eq-self 
 other : (held : Files) (name written : List ℕ) (bytes : Option (List ℕ)) → written ≢ name → with_file held written bytes name ≡ held name
 other held name written bytes differ = update_other bytes_eq held written bytes name (bytes_eq-differ written name differ)
 
-module _ (held : Files) (dir : List ℕ) (t : Tables) where
-  pub plan_stands : (s : Solved) → with_texts held dir (solved_files t s) (path_of dir desk_file.Plan) ≡ plan_there t s (held (path_of dir desk_file.Plan))
+module _ (held : Files) (dir : List ℕ) (t : Tables) (rotations : List FleetRotation) (visits : ℕ) where
+  pub plan_stands : (s : Solved) → with_texts held dir (solved_files t s rotations visits) (path_of dir desk_file.Plan) ≡ plan_there t s (held (path_of dir desk_file.Plan))
   unfolding solved_files
-  plan_stands (solved.Planned plan cost bound tree) = other (with_file held (path_of dir desk_file.Plan) (Some (plan_text t plan))) (path_of dir desk_file.Plan) (path_of dir desk_file.Proof) _ (names_differ dir) ∙ here held (path_of dir desk_file.Plan) _
-  plan_stands (solved.Infeasible tree) = other held (path_of dir desk_file.Plan) (path_of dir desk_file.Proof) _ (names_differ dir)
-  plan_stands (solved.Unsettled bound tree) = other held (path_of dir desk_file.Plan) (path_of dir desk_file.Proof) _ (names_differ dir)
+  plan_stands (solved.Planned plan cost bound tree) =
+      other (with_file (with_file held (path_of dir desk_file.Plan) (Some (plan_text t plan))) (path_of dir desk_file.Proof) (Some (proof_text t true tree))) (path_of dir desk_file.Plan) (path_of dir desk_file.Rotation) _ (rotation_not_plan dir)
+      ∙ other (with_file held (path_of dir desk_file.Plan) (Some (plan_text t plan))) (path_of dir desk_file.Plan) (path_of dir desk_file.Proof) _ (proof_not_plan dir)
+      ∙ here held (path_of dir desk_file.Plan) _
+  plan_stands (solved.Infeasible tree) =
+      other (with_file held (path_of dir desk_file.Proof) (Some (proof_text t false tree))) (path_of dir desk_file.Plan) (path_of dir desk_file.Rotation) _ (rotation_not_plan dir)
+      ∙ other held (path_of dir desk_file.Plan) (path_of dir desk_file.Proof) _ (proof_not_plan dir)
+  plan_stands (solved.Unsettled bound tree) =
+      other (with_file held (path_of dir desk_file.Proof) (Some (proof_text t false tree))) (path_of dir desk_file.Plan) (path_of dir desk_file.Rotation) _ (rotation_not_plan dir)
+      ∙ other held (path_of dir desk_file.Plan) (path_of dir desk_file.Proof) _ (proof_not_plan dir)
 
-  pub proof_stands : (s : Solved) → with_texts held dir (solved_files t s) (path_of dir desk_file.Proof) ≡ Some (proof_text t (is_planned s) (tree_of s))
+  -- the proof, over what stands where it is written
+  proof_over : (before : Files) (planned : Bool) (tree : Tree)
+      → with_file (with_file before (path_of dir desk_file.Proof) (Some (proof_text t planned tree))) (path_of dir desk_file.Rotation) (Some (rotation_text t rotations visits)) (path_of dir desk_file.Proof)
+      ≡ Some (proof_text t planned tree)
+  proof_over before planned tree =
+      other (with_file before (path_of dir desk_file.Proof) (Some (proof_text t planned tree))) (path_of dir desk_file.Proof) (path_of dir desk_file.Rotation) _ (rotation_not_proof dir) ∙ here before (path_of dir desk_file.Proof) _
+
+  pub proof_stands : (s : Solved) → with_texts held dir (solved_files t s rotations visits) (path_of dir desk_file.Proof) ≡ Some (proof_text t (is_planned s) (tree_of s))
   unfolding solved_files
-  proof_stands (solved.Planned plan cost bound tree) = here (with_file held (path_of dir desk_file.Plan) (Some (plan_text t plan))) (path_of dir desk_file.Proof) _
-  proof_stands (solved.Infeasible tree) = here held (path_of dir desk_file.Proof) _
-  proof_stands (solved.Unsettled bound tree) = here held (path_of dir desk_file.Proof) _
+  proof_stands (solved.Planned plan cost bound tree) = proof_over (with_file held (path_of dir desk_file.Plan) (Some (plan_text t plan))) true tree
+  proof_stands (solved.Infeasible tree) = proof_over held false tree
+  proof_stands (solved.Unsettled bound tree) = proof_over held false tree
 
-module _ (held : Files) (dir : List ℕ) (settings : Settings) (limits : SearchLimits) (answer : Answer) (code : ℕ) (told : Option Files) (before after : Option (List ℕ)) where
-  solved_leaves : Answers held (Some (solve dir settings limits)) answer → code ≡ answer.status.code → told ≡ held_with_texts (Some held) dir answer.files → after ≡ output_with before answer.text → IsSolution code
-      → TellsSolution held told dir settings limits code before after
+  rotation_stands : (s : Solved) → with_texts held dir (solved_files t s rotations visits) (path_of dir desk_file.Rotation) ≡ Some (rotation_text t rotations visits)
+  unfolding solved_files
+  rotation_stands (solved.Planned plan cost bound tree) =
+      here (with_file (with_file held (path_of dir desk_file.Plan) (Some (plan_text t plan))) (path_of dir desk_file.Proof) (Some (proof_text t true tree))) (path_of dir desk_file.Rotation) _
+  rotation_stands (solved.Infeasible tree) = here (with_file held (path_of dir desk_file.Proof) (Some (proof_text t false tree))) (path_of dir desk_file.Rotation) _
+  rotation_stands (solved.Unsettled bound tree) = here (with_file held (path_of dir desk_file.Proof) (Some (proof_text t false tree))) (path_of dir desk_file.Rotation) _
+
+module _ (held : Files) (dir : List ℕ) (settings : Settings) (options : SolveOptions) (answer : Answer) (code : ℕ) (told : Option Files) (before after : Option (List ℕ)) where
+  solved_leaves : Answers held (Some (solve dir settings options)) answer → code ≡ answer.status.code → told ≡ held_with_texts (Some held) dir answer.files → after ≡ output_with before answer.text → IsSolution code
+      → TellsSolution held told dir settings options code before after
   solved_leaves (inl long) is written put solution = absurd (not_refused code solution (is ∙ ap (λ (a : Answer). a.status.code) long.is))
   solved_leaves (inr read) is written put solution = by_tables read.answers
     where
-      by_tables : Solves settings limits (table_bytes (bytes_in held dir)) answer → TellsSolution held told dir settings limits code before after
+      by_tables : Solves settings options (table_bytes (bytes_in held dir)) answer → TellsSolution held told dir settings options code before after
       by_tables (inl refused) = absurd (not_refused code solution (is ∙ ap (λ (a : Answer). a.status.code) refused.is))
       by_tables (inr solves) = let given = solves.gives in record {
-        stands = with_texts held dir (solved_files solves.tables given.solution);
+        stands = with_texts held dir (solved_files solves.tables given.solution given.rotations options.rotations.visits);
         tells = written ∙ ap (λ (a : Answer). held_with_texts (Some held) dir a.files) given.is;
         leaves = record {
           tables = solves.tables;
           solution = given.solution;
+          rotations = given.rotations;
           there = read.within.first;
           reads = solves.reads;
           solves = given.solves;
-          plan = plan_stands held dir solves.tables given.solution;
-          proof = proof_stands held dir solves.tables given.solution;
+          rotates = given.rotates;
+          plan = plan_stands held dir solves.tables given.rotations options.rotations.visits given.solution;
+          proof = proof_stands held dir solves.tables given.rotations options.rotations.visits given.solution;
+          rotation = rotation_stands held dir solves.tables given.rotations options.rotations.visits given.solution;
           put = put ∙ ap (λ (a : Answer). output_with before a.text) given.is;
           code_is = is ∙ ap (λ (a : Answer). a.status.code) given.is;
         };
@@ -84,5 +123,6 @@ pub headline : (told stands : Option Files) (asked : Option Asked) (answer : Ans
 headline None stands asked answer code before after answers is written put = tt
 headline (Some held) stands None answer code before after answers is written put = tt
 headline (Some held) stands (Some (judge dir settings)) answer code before after answers is written put = tt
-headline (Some held) stands (Some (solve dir settings limits)) answer code before after answers is written put = solved_leaves held dir settings limits answer code stands before after answers is written put
+headline (Some held) stands (Some (solve dir settings options)) answer code before after answers is written put = solved_leaves held dir settings options answer code stands before after answers is written put
+headline (Some held) stands (Some (tails dir settings limits dates)) answer code before after answers is written put = tt
 headline (Some held) stands (Some (check dir settings)) answer code before after answers is written put = λ done. checked_tells answer (sym is ∙ done) held dir settings before after answers put

@@ -7,10 +7,10 @@ pub mod OneAnswer
 pub mod OneChecking
 pub mod OneJudging
 pub mod OneReading
+pub mod OneTelling
 pub mod OpenFacts
 pub mod Others
 pub mod Parts
-pub mod Pieces
 pub mod PlanLength
 pub mod SameBytes
 pub mod SolvedFiles

@@ -5,8 +5,10 @@ use Rattle.bound_cert.specs.Leaves.{has_open}
 use Rattle.branch_bound.specs.declared.solved.Solved.{Solved}
 use Rattle.branch_bound.specs.declared.solved.Solved.TheVariants as solved
 use Rattle.cert_check.specs.declared.checked.Checked.TheVariants as checked
-use Rattle.command_words.specs.Words.{Asked, check, judge, solve}
-use Rattle.command_words.specs.declared.command.SearchLimits.{SearchLimits}
+use Rattle.command_words.specs.Arguments.{AskedDates}
+use Rattle.command_words.specs.Words.{Asked, check, judge, solve, tails}
+use Rattle.command_words.specs.declared.command.RotationLimits.{RotationLimits}
+use Rattle.command_words.specs.declared.command.SolveOptions.{SolveOptions}
 use Rattle.fleet_model.specs.Legal.{total_cost}
 use Rattle.fleet_model.specs.declared.parts.Settings.{Settings}
 use Rattle.fleet_model.specs.declared.refusals.TheConstants.{TOO_LONG}
@@ -19,6 +21,7 @@ use Rattle.sched_read.specs.Reading.{TableBytes}
 use Rattle.fleet_cli.proofs.OneChecking.{checks}
 use Rattle.fleet_cli.proofs.OneJudging.{judges, refuses_tables}
 use Rattle.fleet_cli.proofs.OneReading.{one_too_long, within_or_long}
+use Rattle.fleet_cli.proofs.OneTelling.{tells, tells_legal}
 use Rattle.fleet_cli.proofs.OpenFacts.{no_plan_alone}
 use Rattle.fleet_cli.proofs.SameBytes.{follows_plan}
 use Rattle.fleet_cli.specs.Answer.{Answers, AnswersOf, ChecksProof, ChecksTree, Solves, says}
@@ -27,7 +30,7 @@ use Rattle.fleet_cli.specs.Gathered.{AllStand, IsHeld}
 use Rattle.fleet_cli.specs.Laws.{IsFixed}
 use Rattle.fleet_cli.specs.Reading.{AllWithin, Follows, first_files, folder_of}
 use Rattle.fleet_cli.specs.Run.{AnswersExactly, IsComplete, IsCostThere, IsSolution, LegalThere, ProofThere, TablesThere}
-use Rattle.fleet_cli.specs.Summary.{solved_status}
+use Rattle.fleet_cli.specs.Solution.{solved_status}
 use Rattle.fleet_cli.specs.Texts.{bad_input_text, checked_text, verdict_text}
 use Rattle.fleet_cli.specs.declared.answer.Answer.{Answer}
 use Rattle.fleet_cli.specs.declared.status.TheConstants.{BAD_INPUT, DONE}
@@ -52,17 +55,18 @@ never_refused s refused = not_refused (solved_status s) (solution_status s) refu
 
 -- the bytes that are read fix the answer
 module _ (answer other : Answer) where
-  solves : (settings : Settings) (limits : SearchLimits) → other.status.code ≡ BAD_INPUT → (bytes : TableBytes) → Solves settings limits bytes answer → Solves settings limits bytes other → answer ≡ other
-  solves settings limits refused bytes (inl x) (inl y) = refuses_tables answer other settings bytes x y
-  solves settings limits refused bytes (inl x) (inr y) = absurd (tables.reads_no_fault bytes settings y.tables x.file x.row x.kind y.reads x.bad)
-  solves settings limits refused bytes (inr x) (inl y) = absurd (tables.reads_no_fault bytes settings x.tables y.file y.row y.kind x.reads y.bad)
-  solves settings limits refused bytes (inr x) (inr y) = absurd (never_refused y.gives.solution (sym (ap (λ (a : Answer). a.status.code) y.gives.is) ∙ refused))
+  solves : (settings : Settings) (options : SolveOptions) → other.status.code ≡ BAD_INPUT → (bytes : TableBytes) → Solves settings options bytes answer → Solves settings options bytes other → answer ≡ other
+  solves settings options refused bytes (inl x) (inl y) = refuses_tables answer other settings bytes x y
+  solves settings options refused bytes (inl x) (inr y) = absurd (tables.reads_no_fault bytes settings y.tables x.file x.row x.kind y.reads x.bad)
+  solves settings options refused bytes (inr x) (inl y) = absurd (tables.reads_no_fault bytes settings x.tables y.file y.row y.kind x.reads y.bad)
+  solves settings options refused bytes (inr x) (inr y) = absurd (never_refused y.gives.solution (sym (ap (λ (a : Answer). a.status.code) y.gives.is) ∙ refused))
 
   one_of : (asked : Option Asked) (bytes : FileBytes) → AnswersOf asked bytes answer → AnswersOf asked bytes other → IsFixed asked other → answer ≡ other
   one_of None bytes x y fixed = x ∙ sym y
   one_of (Some (judge dir settings)) bytes x y fixed = judges answer other settings (table_bytes bytes) (bytes file.Plan) x y
-  one_of (Some (solve dir settings limits)) bytes x y fixed = solves settings limits fixed (table_bytes bytes) x y
+  one_of (Some (solve dir settings options)) bytes x y fixed = solves settings options fixed (table_bytes bytes) x y
   one_of (Some (check dir settings)) bytes x y fixed = checks answer other settings (table_bytes bytes) (bytes file.Proof) (bytes file.Plan) x y
+  one_of (Some (tails dir settings limits dates)) bytes x y fixed = tells limits dates answer other fixed settings (table_bytes bytes) (bytes file.Plan) x y
 
 pub one_answer : (held : Files) (asked : Option Asked) (answer other : Answer) → Answers held asked answer → Answers held asked other → IsFixed asked other → answer ≡ other
 one_answer held asked answer other (inl x) (inl y) fixed = x.is ∙ ap (λ f. says BAD_INPUT (bad_input_text f 0 TOO_LONG)) (one_too_long asked held x.file y.file x.longer y.longer) ∙ sym y.is
@@ -130,24 +134,32 @@ proof_answer held dir settings x = (
     by_cost (Some cost) some checks = rw some.0 (inr (record { plan = some.1.plan; reads = some.1.reads; answers = inr (record { legal = some.1.legal; checks = rw (← some.1.costs) checks }) }))
 
 -- tables that read are solved
-solved_there : (held : Files) (dir : List ℕ) (settings : Settings) (limits : SearchLimits) (answer : Answer) → Answers held (Some (solve dir settings limits)) answer → TablesThere held dir settings → IsSolution answer.status.code
-solved_there held dir settings limits answer (inl x) there =
-    absurd (within_or_long (Some (solve dir settings limits)) held x.file (all_within held (Some (solve dir settings limits)) there.there (λ follows. absurd follows)) x.longer)
-solved_there held dir settings limits answer (inr x) there = by_tables x.answers
+solved_there : (held : Files) (dir : List ℕ) (settings : Settings) (options : SolveOptions) (answer : Answer) → Answers held (Some (solve dir settings options)) answer → TablesThere held dir settings → IsSolution answer.status.code
+solved_there held dir settings options answer (inl x) there =
+    absurd (within_or_long (Some (solve dir settings options)) held x.file (all_within held (Some (solve dir settings options)) there.there (λ follows. absurd follows)) x.longer)
+solved_there held dir settings options answer (inr x) there = by_tables x.answers
   where
-    by_tables : Solves settings limits (table_bytes (bytes_in held dir)) answer → IsSolution answer.status.code
+    by_tables : Solves settings options (table_bytes (bytes_in held dir)) answer → IsSolution answer.status.code
     by_tables (inl refused) = absurd (tables.reads_no_fault (table_bytes (bytes_in held dir)) settings there.tables refused.file refused.row refused.kind there.reads refused.bad)
     by_tables (inr solves) = rw (ap (λ (a : Answer). a.status.code) solves.gives.is) (solution_status solves.gives.solution)
+
+-- the tails of a legal plan are told
+tails_there : (held : Files) (dir : List ℕ) (settings : Settings) (limits : RotationLimits) (dates : AskedDates) (answer : Answer) → Answers held (Some (tails dir settings limits dates)) answer
+    → LegalThere held dir settings → answer.status.code ≡ DONE
+tails_there held dir settings limits dates answer (inl x) legal =
+    absurd (within_or_long (Some (tails dir settings limits dates)) held x.file (all_within held (Some (tails dir settings limits dates)) legal.there (λ follows. absurd follows)) x.longer)
+tails_there held dir settings limits dates answer (inr x) legal = tells_legal limits dates answer held dir settings legal x.answers
 
 pub complete_there : (held : Files) (asked : Option Asked) (answer : Answer) → Answers held asked answer → IsComplete held asked answer.status.code
 complete_there held None answer answers = tt
 complete_there held (Some (judge dir settings)) answer answers = λ legal.
     let right = legal_answer held dir settings legal in
     ap (λ (a : Answer). a.status.code) (one_answer held (Some (judge dir settings)) answer (says DONE right.0) answers right.1 tt)
-complete_there held (Some (solve dir settings limits)) answer answers = solved_there held dir settings limits answer answers
+complete_there held (Some (solve dir settings options)) answer answers = solved_there held dir settings options answer answers
 complete_there held (Some (check dir settings)) answer answers = λ proof.
     let right = proof_answer held dir settings proof in
     ap (λ (a : Answer). a.status.code) (one_answer held (Some (check dir settings)) answer (says DONE right.0) answers right.1 tt)
+complete_there held (Some (tails dir settings limits dates)) answer answers = tails_there held dir settings limits dates answer answers
 
 pub complete : (told : Option Files) (asked : Option Asked) (answer : Answer) (code : ℕ) → IfSome told (λ held. Answers held asked answer) → code ≡ answer.status.code
     → IfSome told (λ held. IsComplete held asked code)

@@ -35,7 +35,7 @@ one_fault t bytes one other x y =
     record { line_is = x.line ∙ ap (λ (s : Stopped). length (left_of bytes) - s.left + 1) same ∙ sym y.line; kind_is = ap (λ (s : Stopped). s.kind) same }
 
 -- a plan that its verdict refuses isn't legal
-never_legal : (t : Tables) (plan : List ℕ) (answer : Answer) → RefusesVerdict t plan answer → ¬ (IsLegal t plan)
+pub never_legal : (t : Tables) (plan : List ℕ) (answer : Answer) → RefusesVerdict t plan answer → ¬ (IsLegal t plan)
 never_legal t plan answer x legal =
     let same : x.verdict ≡ verdict.Legal (total_cost t plan) = one_verdict t plan x.verdict (verdict.Legal (total_cost t plan)) x.judged (legal, refl) in
     let bad : ◌≡◌ {A = ℕ} 0 9 = sym (ap verdict_status same) ∙ x.refused in
@@ -48,17 +48,17 @@ module _ (answer other : Answer) where
         let same = one_fault t bytes x.fault y.fault x.bad y.bad in
         x.is ∙ rw (same.line_is, same.kind_is) refl ∙ sym y.is
 
+    pub refuses_verdict : (plan : List ℕ) → RefusesVerdict t plan answer → RefusesVerdict t plan other → answer ≡ other
+    refuses_verdict plan x y =
+        let same = one_verdict t plan x.verdict y.verdict x.judged y.judged in
+        x.is ∙ ap (λ v. says (verdict_status v) (verdict_text t plan v)) same ∙ sym y.is
+
     -- trees of one list of nodes
     module _ (one two : Tree) (nodes : nodes_of one ≡ nodes_of two) where
       checks_tree : (cost : Option ℤ) → ChecksTree t cost one answer → ChecksTree t cost two other → answer ≡ other
       checks_tree cost x y =
           let same = tree.one_verdict t cost one two x.verdict y.verdict nodes x.checked y.checked in
           x.is ∙ ap (λ v. says (checked_status v) (checked_text cost v)) same ∙ sym y.is
-
-      refuses_verdict : (plan : List ℕ) → RefusesVerdict t plan answer → RefusesVerdict t plan other → answer ≡ other
-      refuses_verdict plan x y =
-          let same = one_verdict t plan x.verdict y.verdict x.judged y.judged in
-          x.is ∙ ap (λ v. says (verdict_status v) (verdict_text t plan v)) same ∙ sym y.is
 
       judged : (plan : List ℕ) → RefusesVerdict t plan answer ⊎ ChecksLegal t plan one answer → RefusesVerdict t plan other ⊎ ChecksLegal t plan two other → answer ≡ other
       judged plan (inl x) (inl y) = refuses_verdict plan x y

@@ -9,7 +9,10 @@ use Rattle.branch_bound.specs.declared.solved.Solved.{Solved}
 use Rattle.branch_bound.specs.declared.solved.Solved.TheVariants as solved
 use Rattle.cert_check.specs.declared.checked.Checked.{Checked}
 use Rattle.cert_check.specs.declared.checked.Checked.TheVariants as checked
-use Rattle.command_words.specs.Words.{Asked, check, judge, solve}
+use Rattle.command_words.specs.Words.{Asked, check, judge, solve, tails}
+use Rattle.command_words.specs.Arguments.{AskedDates}
+use Rattle.command_words.specs.declared.command.RotationLimits.{RotationLimits}
+use Rattle.command_words.specs.declared.command.SolveOptions.{SolveOptions}
 use Rattle.fleet_model.specs.declared.tables.Tables.{Tables}
 use Rattle.plan_desk.specs.Desk.{Files, with_file}
 use Rattle.plan_desk.specs.DeskFile.{path_of}
@@ -17,16 +20,17 @@ use Rattle.plan_desk.specs.declared.file.DeskFile.{DeskFile}
 use Rattle.plan_desk.specs.declared.file.DeskFile.TheVariants as desk_file
 use Rattle.plan_judge.specs.declared.verdicts.Verdict.{Verdict}
 use Rattle.plan_judge.specs.declared.verdicts.Verdict.TheVariants as verdict
+use Rattle.plan_report.specs.declared.fleet_rotations.FleetRotation.{FleetRotation}
 use Rattle.fleet_cli.proofs.OneAnswer.{solution_status}
-use Rattle.fleet_cli.specs.Answer.{Answers, AnswersOf, AnswersSome, ChecksPlan, ChecksProof, ChecksTree, JudgesPlan, ReadsProof, RefusesPlan, RefusesProof, checked_status, says, verdict_status}
+use Rattle.fleet_cli.specs.Answer.{Answers, AnswersOf, AnswersSome, ChecksPlan, ChecksProof, ChecksTree, JudgesPlan, ReadsProof, RefusesPlan, RefusesProof, TailsOfPlan, checked_status, says, verdict_status}
 use Rattle.fleet_cli.specs.Contents.{FileBytes}
 use Rattle.fleet_cli.specs.Reading.{folder_of, written_files}
 use Rattle.fleet_cli.specs.Run.{IsEnd, IsRefusal, IsSolution, KeepsAllBut, KeepsOthers}
-use Rattle.fleet_cli.specs.Summary.{solved_answer, solved_files, solved_status}
+use Rattle.fleet_cli.specs.Solution.{solved_answer, solved_files, solved_status}
 use Rattle.fleet_cli.specs.Written.{StandsAfter, no_text, text_name, under, with_texts}
 use Rattle.fleet_cli.specs.declared.answer.Answer.{Answer}
 use Rattle.fleet_cli.specs.declared.answer.FileText.{FileText}
-use Rattle.fleet_cli.specs.declared.status.TheConstants.{BAD_INPUT, FAULT, NO_MEMORY, REFUSED, USAGE}
+use Rattle.fleet_cli.specs.declared.status.TheConstants.{BAD_INPUT, DONE, FAULT, NO_MEMORY, REFUSED, USAGE}
 
 -- ---- what an answer is
 
@@ -37,12 +41,14 @@ record IsSaid (answer : Answer) : Type 0 where
   is : answer ≡ says code text
   ends : IsEnd code
 
--- the answer of a solution, of a command that writes a plan and its proof
+-- the answer of a solution, of a command that writes a plan, its proof and its rotations
 record IsSolved (asked : Option Asked) (answer : Answer) : Type 0 where
   tables : Tables
+  options : SolveOptions
   solution : Solved
-  is : answer ≡ solved_answer tables solution
-  writes : written_files asked ≡ desk_file.Plan ∷ desk_file.Proof ∷ []
+  rotations : List FleetRotation
+  is : answer ≡ solved_answer tables options solution rotations
+  writes : written_files asked ≡ desk_file.Plan ∷ desk_file.Proof ∷ desk_file.Rotation ∷ []
 
 refused : (answer : Answer) (text : List ℕ) → answer ≡ says REFUSED text → IsSaid answer
 refused answer text is = record { code = REFUSED; text = text; is = is; ends = (λ e. omega arith, λ e. omega arith) }
@@ -71,6 +77,13 @@ module _ (answer : Answer) where
   judged t bytes (inl x) = refused answer _ x.is
   judged t bytes (inr x) = record { code = verdict_status x.verdict; text = _; is = x.is; ends = verdict_ends x.verdict }
 
+  tails_said : (t : Tables) (limits : RotationLimits) (dates : AskedDates) (bytes : List ℕ) → RefusesPlan t bytes answer ⊎ TailsOfPlan t limits dates bytes answer → IsSaid answer
+  tails_said t limits dates bytes (inl x) = refused answer _ x.is
+  tails_said t limits dates bytes (inr x) = elim x.answers [
+    | inl ill ↦ record { code = verdict_status ill.verdict; text = _; is = ill.is; ends = verdict_ends ill.verdict }
+    | inr legal ↦ record { code = DONE; text = _; is = legal.is; ends = (λ e. omega arith, λ e. omega arith) }
+  ]
+
   tree_said : (t : Tables) (cost : Option ℤ) (tree : Tree) → ChecksTree t cost tree answer → IsSaid answer
   tree_said t cost tree x = record { code = checked_status x.verdict; text = _; is = x.is; ends = checked_ends x.verdict }
 
@@ -93,10 +106,12 @@ module _ (answer : Answer) where
   kind_of None bytes x = inl (record { code = USAGE; text = _; is = x; ends = (λ e. omega arith, λ e. omega arith) })
   kind_of (Some (judge dir settings)) bytes (inl x) = inl (bad answer _ x.is)
   kind_of (Some (judge dir settings)) bytes (inr x) = inl (judged x.tables _ x.answers)
-  kind_of (Some (solve dir settings limits)) bytes (inl x) = inl (bad answer _ x.is)
-  kind_of (Some (solve dir settings limits)) bytes (inr x) = inr (record { tables = x.tables; solution = x.gives.solution; is = x.gives.is; writes = refl })
+  kind_of (Some (solve dir settings options)) bytes (inl x) = inl (bad answer _ x.is)
+  kind_of (Some (solve dir settings options)) bytes (inr x) = inr (record { tables = x.tables; options = options; solution = x.gives.solution; rotations = x.gives.rotations; is = x.gives.is; writes = refl })
   kind_of (Some (check dir settings)) bytes (inl x) = inl (bad answer _ x.is)
   kind_of (Some (check dir settings)) bytes (inr x) = inl (text_said x.tables _ _ x.answers)
+  kind_of (Some (tails dir settings limits dates)) bytes (inl x) = inl (bad answer _ x.is)
+  kind_of (Some (tails dir settings limits dates)) bytes (inr x) = inl (tails_said x.tables limits dates _ x.answers)
 
   kind : (held : Files) (asked : Option Asked) → Answers held asked answer → IsSaid answer ⊎ IsSolved asked answer
   kind held asked (inl long) = inl (bad answer _ long.is)
@@ -146,13 +161,15 @@ module _ (dir name : List ℕ) where
       rw part.part.1 (file_keeps (with_texts held dir (take part.written texts)) (text_name dir texts part.written) part.part.0 (others part.written no_text part.place)
       ∙ texts_keep held (take part.written texts) (All-take IsOther part.written texts others))
 
--- the files of a solution are the plan and the proof
-pub solved_others : (t : Tables) (s : Solved) (dir name : List ℕ) → name ≢ path_of dir desk_file.Plan → name ≢ path_of dir desk_file.Proof → All (IsOther dir name) (solved_files t s)
-unfolding solved_files
-solved_others t (solved.Planned plan cost bound tree) dir name plan_differs proof_differs =
-    All-from_recursion (IsOther dir name) (solved_files t (solved.Planned plan cost bound tree)) (plan_differs, (proof_differs, tt))
-solved_others t (solved.Infeasible tree) dir name plan_differs proof_differs = All-from_recursion (IsOther dir name) (solved_files t (solved.Infeasible tree)) (proof_differs, tt)
-solved_others t (solved.Unsettled bound tree) dir name plan_differs proof_differs = All-from_recursion (IsOther dir name) (solved_files t (solved.Unsettled bound tree)) (proof_differs, tt)
+-- the files of a solution are the plan, the proof and the rotations
+module _ (t : Tables) (rotations : List FleetRotation) (visits : ℕ) (dir name : List ℕ) (plan_differs : name ≢ path_of dir desk_file.Plan) (proof_differs : name ≢ path_of dir desk_file.Proof)
+    (rotation_differs : name ≢ path_of dir desk_file.Rotation) where
+  pub solved_others : (s : Solved) → All (IsOther dir name) (solved_files t s rotations visits)
+  unfolding solved_files
+  solved_others (solved.Planned plan cost bound tree) =
+      All-from_recursion (IsOther dir name) (solved_files t (solved.Planned plan cost bound tree) rotations visits) (plan_differs, (proof_differs, (rotation_differs, tt)))
+  solved_others (solved.Infeasible tree) = All-from_recursion (IsOther dir name) (solved_files t (solved.Infeasible tree) rotations visits) (proof_differs, (rotation_differs, tt))
+  solved_others (solved.Unsettled bound tree) = All-from_recursion (IsOther dir name) (solved_files t (solved.Unsettled bound tree) rotations visits) (proof_differs, (rotation_differs, tt))
 
 -- ---- what a run leaves
 
@@ -167,7 +184,8 @@ keeps_others (Some held) asked answer stands answers after = elim (kind answer h
   | inl said ↦ nothing_written (folder_of asked) (written_files asked) (Some held) stands (nothing_by (folder_of asked) answer.files (Some held) stands (ap (λ (a : Answer). a.files) said.is) after)
   | inr given ↦ subst (λ names. KeepsAllBut (folder_of asked) names (Some held) stands) (sym given.writes)
       (λ name others. keeps_after (folder_of asked) name held answer.files stands
-      (rw given.is (solved_others given.tables given.solution (folder_of asked) name (others 0 desk_file.Plan (omega arith)) (others 1 desk_file.Proof (omega arith)))) after)
+      (rw given.is (solved_others given.tables given.rotations given.options.rotations.visits (folder_of asked) name (others 0 desk_file.Plan (omega arith)) (others 1 desk_file.Proof (omega arith))
+      (others 2 desk_file.Rotation (omega arith)) given.solution)) after)
 ]
 
 differs : (code : ℕ) → IsRefusal code → (k : ℕ) → code ≡ k → ¬ (2 ≡ k) → ¬ (6 ≡ k) → ¬ (9 ≡ k) → ⊥

@@ -1,14 +1,14 @@
 -- The answer to a command rests on the bytes of the files that it reads, and on nothing else.
 use Rattle.std.proofs.Common.{◌≡◌, ◌⊎◌, ℕ, Bool, true, false, List, [], ◌∷◌, Option, Some, None, refl, subst, inl, inr, arith}
 use Rattle.bound_cert.specs.declared.reading.Proof.{Proof}
-use Rattle.command_words.specs.Words.{Asked, check, judge, solve}
+use Rattle.command_words.specs.Words.{Asked, check, judge, solve, tails}
 use Rattle.fleet_model.specs.declared.parts.Settings.{Settings}
 use Rattle.fleet_model.specs.declared.tables.Tables.{Tables}
 use Rattle.plan_desk.specs.declared.file.DeskFile.{DeskFile}
 use Rattle.plan_desk.specs.declared.file.DeskFile.TheVariants as file
 use Rattle.bound_cert.specs.ReadProof.{ReadsAs}
 use Rattle.sched_read.specs.Reading.{Reads, TableBytes}
-use Rattle.fleet_cli.specs.Answer.{AnswersOf, Checks, ChecksProof, Judges, ReadsProof, RefusesProof, Solves}
+use Rattle.fleet_cli.specs.Answer.{AnswersOf, Checks, ChecksProof, Judges, ReadsProof, RefusesProof, Solves, TailsOf}
 use Rattle.fleet_cli.specs.Contents.{FileBytes, table_bytes}
 use Rattle.fleet_cli.specs.Gathered.{IsAmong}
 use Rattle.fleet_cli.specs.Reading.{Follows, WantsPlan, first_files, tables_and}
@@ -47,26 +47,31 @@ module _ (settings : Settings) (bytes : TableBytes) (text plan other : List ℕ)
 pub same_follows : (asked : Option Asked) (bytes other : FileBytes) → ((f : DeskFile) → IsAmong (first_files asked) f → bytes f ≡ other f) → (f : DeskFile) → Follows asked bytes f → Follows asked other f
 same_follows None bytes other same f follows = follows
 same_follows (Some (judge dir settings)) bytes other same f follows = follows
-same_follows (Some (solve dir settings limits)) bytes other same f follows = follows
+same_follows (Some (solve dir settings options)) bytes other same f follows = follows
 same_follows (Some (check dir settings)) bytes other same f follows = (
   follows.0,
   subst (λ t. WantsPlan settings t (other file.Proof)) (tables_same bytes other (file.Proof ∷ []) same) (subst (λ p. WantsPlan settings (table_bytes bytes) p) (last_same bytes other file.Proof same) follows.1),
 )
+same_follows (Some (tails dir settings limits dates)) bytes other same f follows = follows
 
 -- the one file that is read after the first is the plan
 pub follows_plan : (asked : Option Asked) (bytes : FileBytes) (f : DeskFile) → Follows asked bytes f → f ≡ file.Plan
 follows_plan None bytes f follows = absurd follows
 follows_plan (Some (judge dir settings)) bytes f follows = absurd follows
-follows_plan (Some (solve dir settings limits)) bytes f follows = absurd follows
+follows_plan (Some (solve dir settings options)) bytes f follows = absurd follows
 follows_plan (Some (check dir settings)) bytes f follows = follows.0
+follows_plan (Some (tails dir settings limits dates)) bytes f follows = absurd follows
 
 pub same_answer : (asked : Option Asked) (bytes other : FileBytes) → ((f : DeskFile) → IsAmong (first_files asked) f → bytes f ≡ other f) → ((f : DeskFile) → Follows asked bytes f → bytes f ≡ other f)
     → (answer : Answer) → AnswersOf asked bytes answer → AnswersOf asked other answer
 same_answer None bytes other first further answer x = x
 same_answer (Some (judge dir settings)) bytes other first further answer x =
     subst (λ t. Judges settings t (other file.Plan) answer) (tables_same bytes other (file.Plan ∷ []) first) (subst (λ p. Judges settings (table_bytes bytes) p answer) (last_same bytes other file.Plan first) x)
-same_answer (Some (solve dir settings limits)) bytes other first further answer x = subst (λ t. Solves settings limits t answer) (tables_same bytes other [] first) x
+same_answer (Some (solve dir settings options)) bytes other first further answer x = subst (λ t. Solves settings options t answer) (tables_same bytes other [] first) x
 same_answer (Some (check dir settings)) bytes other first further answer x =
     subst (λ t. Checks settings t (other file.Proof) (other file.Plan) answer) (tables_same bytes other (file.Proof ∷ []) first)
     (subst (λ p. Checks settings (table_bytes bytes) p (other file.Plan) answer) (last_same bytes other file.Proof first)
     (other_plan settings (table_bytes bytes) (bytes file.Proof) (bytes file.Plan) (other file.Plan) (λ wants. further file.Plan (refl, wants)) answer x))
+same_answer (Some (tails dir settings limits dates)) bytes other first further answer x =
+    subst (λ t. TailsOf settings limits dates t (other file.Plan) answer) (tables_same bytes other (file.Plan ∷ []) first)
+    (subst (λ p. TailsOf settings limits dates (table_bytes bytes) p answer) (last_same bytes other file.Plan first) x)

@@ -4,17 +4,18 @@ use Rattle.std.specs.Prelude.{unwrap_or}
 use Rattle.std.proofs.lemmas.List.{append_cancel_left}
 use Rattle.std.proofs.lemmas.Option.{same_Some}
 use Rattle.bound_cert.specs.ProofText.{proof_text}
-use Rattle.branch_bound.specs.Solved.{IsRight, tree_of}
+use Rattle.branch_bound.specs.Solved.{IsRight, plan_cost, tree_of}
 use Rattle.branch_bound.specs.declared.solved.Solved.{Solved}
 use Rattle.branch_bound.specs.declared.solved.Solved.TheVariants as solved
 use Rattle.command_words.specs.Words.{check, solve}
-use Rattle.command_words.specs.declared.command.SearchLimits.{SearchLimits}
+use Rattle.command_words.specs.declared.command.SolveOptions.{SolveOptions}
 use Rattle.fleet_model.specs.declared.parts.Settings.{Settings}
 use Rattle.fleet_model.specs.declared.tables.Tables.{Tables}
 use Rattle.plan_desk.specs.Desk.{Files}
 use Rattle.plan_desk.specs.DeskFile.{path_of}
 use Rattle.plan_desk.specs.declared.file.DeskFile.{DeskFile}
 use Rattle.plan_desk.specs.declared.file.DeskFile.TheVariants as file
+use Rattle.plan_report.specs.declared.fleet_rotations.FleetRotation.{FleetRotation}
 use Rattle.plan_text.proofs.Lines.{reads_what_was_written}
 use Rattle.plan_text.specs.Reading.{PlanReads}
 use Rattle.plan_text.specs.Text.{plan_text}
@@ -34,13 +35,13 @@ use Rattle.fleet_cli.specs.Headline.{is_planned}
 use Rattle.fleet_cli.specs.Reading.{proof_files, table_files}
 use Rattle.fleet_cli.specs.Run.{IsCostThere, IsSolution, ProofThere}
 use Rattle.fleet_cli.specs.SolvedChecked.{ReadsAndHolds, SolvedIsChecked}
-use Rattle.fleet_cli.specs.Summary.{printed_cost, solved_files}
+use Rattle.fleet_cli.specs.Solution.{solved_files}
 use Rattle.fleet_cli.specs.Written.{HaveLengths, no_text, with_texts}
 use Rattle.fleet_cli.specs.declared.answer.Answer.{Answer}
 
 -- ---- the tables stand as they did
 
--- no table has the name of the plan or of the proof
+-- no table has the name of the plan, of the proof or of the rotations
 not_plan : (dir : List ℕ) (k : ℕ) (d : DeskFile) → k < 5 → path_of dir (get_or table_files k d) ≢ path_of dir file.Plan
 not_plan dir zero d below = λ same. (let e : codes "stations.csv" ≡ codes "plan.csv" = append_cancel_left (dir ++ codes "/") _ _ same in search rules)
 not_plan dir (suc zero) d below = λ same. (let e : codes "fleets.csv" ≡ codes "plan.csv" = append_cancel_left (dir ++ codes "/") _ _ same in search rules)
@@ -57,14 +58,23 @@ not_proof dir (suc (suc (suc zero))) d below = λ same. (let e : codes "costs.cs
 not_proof dir (suc (suc (suc (suc zero)))) d below = λ same. (let e : codes "throughs.csv" ≡ codes "proof.txt" = append_cancel_left (dir ++ codes "/") _ _ same in search rules)
 not_proof dir (suc (suc (suc (suc (suc k))))) d below = absurd (omega arith)
 
-module _ (held : Files) (dir : List ℕ) (t : Tables) (s : Solved) where
+not_rotation : (dir : List ℕ) (k : ℕ) (d : DeskFile) → k < 5 → path_of dir (get_or table_files k d) ≢ path_of dir file.Rotation
+not_rotation dir zero d below = λ same. (let e : codes "stations.csv" ≡ codes "rotation.csv" = append_cancel_left (dir ++ codes "/") _ _ same in search rules)
+not_rotation dir (suc zero) d below = λ same. (let e : codes "fleets.csv" ≡ codes "rotation.csv" = append_cancel_left (dir ++ codes "/") _ _ same in search rules)
+not_rotation dir (suc (suc zero)) d below = λ same. (let e : codes "legs.csv" ≡ codes "rotation.csv" = append_cancel_left (dir ++ codes "/") _ _ same in search rules)
+not_rotation dir (suc (suc (suc zero))) d below = λ same. (let e : codes "costs.csv" ≡ codes "rotation.csv" = append_cancel_left (dir ++ codes "/") _ _ same in search rules)
+not_rotation dir (suc (suc (suc (suc zero)))) d below = λ same. (let e : codes "throughs.csv" ≡ codes "rotation.csv" = append_cancel_left (dir ++ codes "/") _ _ same in search rules)
+not_rotation dir (suc (suc (suc (suc (suc k))))) d below = absurd (omega arith)
+
+module _ (held : Files) (dir : List ℕ) (t : Tables) (s : Solved) (rotations : List FleetRotation) (visits : ℕ) where
   abbrev stands : Files
-  stands = with_texts held dir (solved_files t s)
+  stands = with_texts held dir (solved_files t s rotations visits)
 
   -- under the name of a table stands what stood there
   name_kept : (k : ℕ) (d : DeskFile) → k < 5 → stands (path_of dir (get_or table_files k d)) ≡ held (path_of dir (get_or table_files k d))
   name_kept k d below =
-      texts_keep dir (path_of dir (get_or table_files k d)) held (solved_files t s) (solved_others t s dir (path_of dir (get_or table_files k d)) (not_plan dir k d below) (not_proof dir k d below))
+      texts_keep dir (path_of dir (get_or table_files k d)) held (solved_files t s rotations visits)
+      (solved_others t rotations visits dir (path_of dir (get_or table_files k d)) (not_plan dir k d below) (not_proof dir k d below) (not_rotation dir k d below) s)
 
   table_kept : (k : ℕ) → k < 5 → bytes_in stands dir (get_or table_files k file.Stations) ≡ bytes_in held dir (get_or table_files k file.Stations)
   table_kept k below = ap (λ o. unwrap_or o []) (name_kept k file.Stations below)
@@ -73,7 +83,7 @@ module _ (held : Files) (dir : List ℕ) (t : Tables) (s : Solved) where
   same_tables = rw (table_kept 0 (omega arith), table_kept 1 (omega arith), table_kept 2 (omega arith), table_kept 3 (omega arith), table_kept 4 (omega arith)) refl
 
   same_proof : bytes_in stands dir file.Proof ≡ proof_text t (is_planned s) (tree_of s)
-  same_proof = sym (stands_in stands dir file.Proof _ (proof_stands held dir t s))
+  same_proof = sym (stands_in stands dir file.Proof _ (proof_stands held dir t rotations visits s))
 
   table_stands : AllStand held dir table_files → (k : ℕ) (d : DeskFile) → k < 5 → IsHeld stands dir (get_or table_files k d) (bytes_in stands dir (get_or table_files k d))
   table_stands there k d below =
@@ -89,64 +99,65 @@ module _ (held : Files) (dir : List ℕ) (t : Tables) (s : Solved) where
       at (suc (suc zero)) d below = table_stands there 2 d (omega arith)
       at (suc (suc (suc zero))) d below = table_stands there 3 d (omega arith)
       at (suc (suc (suc (suc zero)))) d below = table_stands there 4 d (omega arith)
-      at (suc (suc (suc (suc (suc zero))))) d below = held_in stands dir file.Proof _ (record { stands = proof_stands held dir t s; within = short })
+      at (suc (suc (suc (suc (suc zero))))) d below = held_in stands dir file.Proof _ (record { stands = proof_stands held dir t rotations visits s; within = short })
       at (suc (suc (suc (suc (suc (suc k)))))) d below = absurd (omega arith)
 
--- the plan that is written stands there and is legal
-plan_there : (held : Files) (dir : List ℕ) (t : Tables) (s : Solved) → IsRight t s → IsCostThere (with_texts held dir (solved_files t s)) dir t (is_planned s) (printed_cost s)
-plan_there held dir t (solved.Planned plan cost bound whole) right =
-    let there = plan_stands held dir t (solved.Planned plan cost bound whole) in
-    let stands = with_texts held dir (solved_files t (solved.Planned plan cost bound whole)) in (
-      refl,
-      record {
-        plan = plan;
-        there = held_in stands dir file.Plan (plan_text t plan) (record { stands = there; within = plan_within t plan right.legal.assignment });
-        reads = subst (λ b. PlanReads t (records_of b) plan) (stands_in stands dir file.Plan (plan_text t plan) there) (reads_what_was_written t plan right.legal.assignment);
-        legal = right.legal;
-        costs = right.exact;
-      },
-    )
-plan_there held dir t (solved.Infeasible whole) right = refl
-plan_there held dir t (solved.Unsettled bound whole) right = refl
+module _ (t : Tables) (rotations : List FleetRotation) (visits : ℕ) where
+  -- the plan that is written stands there and is legal
+  plan_there : (held : Files) (dir : List ℕ) (s : Solved) → IsRight t s → IsCostThere (with_texts held dir (solved_files t s rotations visits)) dir t (is_planned s) (plan_cost s)
+  plan_there held dir (solved.Planned plan cost bound whole) right =
+      let there = plan_stands held dir t rotations visits (solved.Planned plan cost bound whole) in
+      let stands = with_texts held dir (solved_files t (solved.Planned plan cost bound whole) rotations visits) in (
+        refl,
+        record {
+          plan = plan;
+          there = held_in stands dir file.Plan (plan_text t plan) (record { stands = there; within = plan_within t plan right.legal.assignment });
+          reads = subst (λ b. PlanReads t (records_of b) plan) (stands_in stands dir file.Plan (plan_text t plan) there) (reads_what_was_written t plan right.legal.assignment);
+          legal = right.legal;
+          costs = right.exact;
+        },
+      )
+  plan_there held dir (solved.Infeasible whole) right = refl
+  plan_there held dir (solved.Unsettled bound whole) right = refl
 
--- the proof is no longer than a list of bytes can be, wherever it stands among the files
-proof_short : (t : Tables) (s : Solved) → HaveLengths (solved_files t s) → length (proof_text t (is_planned s) (tree_of s)) ≤ limit_of file.Proof
-unfolding solved_files limit_of
-proof_short t (solved.Planned plan cost bound whole) lengths = lengths.each 1 no_text (omega arith)
-proof_short t (solved.Infeasible whole) lengths = lengths.each 0 no_text (omega arith)
-proof_short t (solved.Unsettled bound whole) lengths = lengths.each 0 no_text (omega arith)
+  -- the proof is no longer than a list of bytes can be, wherever it stands among the files
+  proof_short : (s : Solved) → HaveLengths (solved_files t s rotations visits) → length (proof_text t (is_planned s) (tree_of s)) ≤ limit_of file.Proof
+  unfolding solved_files limit_of
+  proof_short (solved.Planned plan cost bound whole) lengths = lengths.each 1 no_text (omega arith)
+  proof_short (solved.Infeasible whole) lengths = lengths.each 0 no_text (omega arith)
+  proof_short (solved.Unsettled bound whole) lengths = lengths.each 0 no_text (omega arith)
 
-proof_stays : (held : Files) (dir : List ℕ) (settings : Settings) (t : Tables) (s : Solved) → AllStand held dir table_files → Reads (table_bytes (bytes_in held dir)) settings t
-    → IsRight t s → ReadsAndHolds t s → HaveLengths (solved_files t s) → ProofThere (with_texts held dir (solved_files t s)) dir settings
-proof_stays held dir settings t s there reads right proof lengths = record {
-  tables = t;
-  proof = proof.proof;
-  cost = printed_cost s;
-  bound = _;
-  there = proof_there held dir t s there (proof_short t s lengths);
-  reads = subst (λ b. Reads b settings t) (sym (same_tables held dir t s)) reads;
-  proof_reads = subst (λ b. ReadsAs t b proof.proof) (sym (same_proof held dir t s)) proof.reads;
-  plan = rw proof.says (plan_there held dir t s right);
-  holds = proof.holds;
-}
+  proof_stays : (held : Files) (dir : List ℕ) (settings : Settings) (s : Solved) → AllStand held dir table_files → Reads (table_bytes (bytes_in held dir)) settings t
+      → IsRight t s → ReadsAndHolds t s → HaveLengths (solved_files t s rotations visits) → ProofThere (with_texts held dir (solved_files t s rotations visits)) dir settings
+  proof_stays held dir settings s there reads right proof lengths = record {
+    tables = t;
+    proof = proof.proof;
+    cost = plan_cost s;
+    bound = _;
+    there = proof_there held dir t s rotations visits there (proof_short s lengths);
+    reads = subst (λ b. Reads b settings t) (sym (same_tables held dir t s rotations visits)) reads;
+    proof_reads = subst (λ b. ReadsAs t b proof.proof) (sym (same_proof held dir t s rotations visits)) proof.reads;
+    plan = rw proof.says (plan_there held dir s right);
+    holds = proof.holds;
+  }
 
 -- the answer to solving, with its files as they were written
-module _ (held : Files) (dir : List ℕ) (settings : Settings) (limits : SearchLimits) (solving checking : Answer) (solution : IsSolution solving.status.code) (lengths : HaveLengths solving.files)
+module _ (held : Files) (dir : List ℕ) (settings : Settings) (options : SolveOptions) (solving checking : Answer) (solution : IsSolution solving.status.code) (lengths : HaveLengths solving.files)
     (checks : Answers (with_texts held dir solving.files) (Some (check dir settings)) checking) where
-  answered : Answers held (Some (solve dir settings limits)) solving → checking.status.code ≡ 0
+  answered : Answers held (Some (solve dir settings options)) solving → checking.status.code ≡ 0
   answered (inl long) = absurd (not_refused _ solution (ap (λ (a : Answer). a.status.code) long.is))
   answered (inr read) = by_tables read.answers
     where
-      by_tables : Solves settings limits (table_bytes (bytes_in held dir)) solving → checking.status.code ≡ 0
+      by_tables : Solves settings options (table_bytes (bytes_in held dir)) solving → checking.status.code ≡ 0
       by_tables (inl refused) = absurd (not_refused _ solution (ap (λ (a : Answer). a.status.code) refused.is))
       by_tables (inr solves) =
           let given = solves.gives in
           let files = ap (λ (a : Answer). a.files) given.is in
-          let there = proof_stays held dir settings solves.tables given.solution read.within.first solves.reads given.solves.right
-          (solved_holds solves.tables limits.nodes limits.pivots given.solution given.solves) (rw files at lengths) in
-          complete_there (with_texts held dir (solved_files solves.tables given.solution)) (Some (check dir settings)) checking (rw files at checks) there
+          let there = proof_stays solves.tables given.rotations options.rotations.visits held dir settings given.solution read.within.first solves.reads given.solves.right
+          (solved_holds solves.tables options.search.nodes options.search.pivots given.solution given.solves) (rw files at lengths) in
+          complete_there (with_texts held dir (solved_files solves.tables given.solution given.rotations options.rotations.visits)) (Some (check dir settings)) checking (rw files at checks) there
 
 pub solved_is_checked : SolvedIsChecked
-solved_is_checked held stands dir settings limits code before after checking run solution checks =
+solved_is_checked held stands dir settings options code before after checking run solution checks =
     let same : stands ≡ with_texts held dir run.answer.files = same_Some stands (with_texts held dir run.answer.files) run.written in
-    answered held dir settings limits run.answer checking (rw run.code_is at solution) run.lengths (rw same at checks) run.answers
+    answered held dir settings options run.answer checking (rw run.code_is at solution) run.lengths (rw same at checks) run.answers

@@ -1,16 +1,14 @@
 -- The proof of a solution, written and read again, holds.
 use Rattle.std.proofs.Common.{ℕ, refl}
-use Rattle.fleet_model.specs.Kept.{all_pairs}
 use Rattle.fleet_model.specs.declared.tables.Tables.{Tables}
 use Rattle.bound_cert.proofs.WrittenTrees.{reads_what_was_written}
 use Rattle.bound_cert.specs.Bound.{IsBound}
 use Rattle.branch_bound.specs.Solved.{IsSolved, tree_of}
 use Rattle.branch_bound.specs.declared.solved.Solved.{Solved}
 use Rattle.branch_bound.specs.declared.solved.Solved.TheVariants as solved
-use Rattle.cert_check.specs.Verdicts.{AreSound}
+use Rattle.plan_report.specs.Summary.{printed_bound}
 use Rattle.fleet_cli.specs.Headline.{is_planned}
 use Rattle.fleet_cli.specs.SolvedChecked.{ReadsAndHolds}
-use Rattle.fleet_cli.specs.Summary.{printed_bound, printed_cost}
 
 -- the bound that is printed is the tree's
 bound_of : (t : Tables) (nodes pivots : ℕ) (s : Solved) → IsSolved t nodes pivots s → IsBound t (tree_of s) (printed_bound s)
@@ -18,16 +16,10 @@ bound_of t nodes pivots (solved.Planned plan cost bound whole) is = is.right.of_
 bound_of t nodes pivots (solved.Infeasible whole) is = is.right.no_bound
 bound_of t nodes pivots (solved.Unsettled bound whole) is = is.right.of_tree
 
--- and its nodes keep all rules by the cost that is printed
-sound_of : (t : Tables) (nodes pivots : ℕ) (s : Solved) → IsSolved t nodes pivots s → AreSound t (printed_cost s) (all_pairs t) (tree_of s)
-sound_of t nodes pivots (solved.Planned plan cost bound whole) is = is.proved.sound
-sound_of t nodes pivots (solved.Infeasible whole) is = is.proved.sound
-sound_of t nodes pivots (solved.Unsettled bound whole) is = is.proved.sound
-
 pub solved_holds : (t : Tables) (nodes pivots : ℕ) (s : Solved) → IsSolved t nodes pivots s → ReadsAndHolds t s
 solved_holds t nodes pivots s is = record {
   proof = record { planned = is_planned s; tree = tree_of s };
   reads = reads_what_was_written t (is_planned s) (tree_of s) is.proved.in_order is.proved.shallow;
   says = refl;
-  holds = record { sound = sound_of t nodes pivots s is; bounded = bound_of t nodes pivots s is };
+  holds = record { sound = is.proved.sound; bounded = bound_of t nodes pivots s is };
 }

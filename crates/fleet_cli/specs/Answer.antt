@@ -10,26 +10,33 @@ use Rattle.branch_bound.specs.declared.solved.Solved.{Solved}
 use Rattle.cert_check.specs.Verdicts.{IsChecked}
 use Rattle.cert_check.specs.declared.checked.Checked.{Checked}
 use Rattle.cert_check.specs.declared.checked.Checked.TheVariants as checked
-use Rattle.command_words.specs.Words.{Asked, check, judge, solve}
-use Rattle.command_words.specs.declared.command.SearchLimits.{SearchLimits}
+use Rattle.command_words.specs.Arguments.{AskedDates}
+use Rattle.command_words.specs.Words.{Asked, check, judge, solve, tails}
+use Rattle.command_words.specs.declared.command.RotationLimits.{RotationLimits}
+use Rattle.command_words.specs.declared.command.SolveOptions.{SolveOptions}
 use Rattle.csv_fields.specs.Record.{records_of}
 use Rattle.fleet_model.specs.Legal.{IsLegal, total_cost}
 use Rattle.fleet_model.specs.declared.parts.Settings.{Settings}
 use Rattle.fleet_model.specs.declared.refusals.TableFile.{TableFile}
 use Rattle.fleet_model.specs.declared.refusals.TheConstants.{TOO_LONG}
 use Rattle.fleet_model.specs.declared.tables.Tables.{Tables}
+use Rattle.jiff_fmt.specs.Temporal.{DateParts}
 use Rattle.plan_desk.specs.Desk.{Files}
 use Rattle.plan_desk.specs.declared.file.DeskFile.{DeskFile}
 use Rattle.plan_desk.specs.declared.file.DeskFile.TheVariants as file
 use Rattle.plan_judge.specs.Verdicts.{IsVerdict}
 use Rattle.plan_judge.specs.declared.verdicts.Verdict.{Verdict}
 use Rattle.plan_judge.specs.declared.verdicts.Verdict.TheVariants as verdict
+use Rattle.plan_report.specs.Dates.{Day}
+use Rattle.plan_report.specs.Tails.{tails_text}
+use Rattle.plan_report.specs.declared.fleet_rotations.FleetRotation.{FleetRotation}
+use Rattle.plan_rotations.specs.Rotations.{ArePlanRotations}
 use Rattle.plan_text.specs.Reading.{PlanBad, PlanReads}
 use Rattle.sched_read.specs.Reading.{BadAt, Reads, TableBytes}
 use Rattle.fleet_cli.specs.Contents.{FileBytes, bytes_in, table_bytes}
 use Rattle.fleet_cli.specs.Gathered.{CalledTooLong}
 use Rattle.fleet_cli.specs.Reading.{AllWithin, IsRead, IsTooLong, folder_of}
-use Rattle.fleet_cli.specs.Summary.{solved_answer}
+use Rattle.fleet_cli.specs.Solution.{AreRotationsOf, solved_answer}
 use Rattle.fleet_cli.specs.Texts.{bad_input_text, checked_text, desk_file_of, plan_refused_text, proof_refused_text, usage_text, verdict_text}
 use Rattle.fleet_cli.specs.declared.answer.Answer.{Answer}
 use Rattle.fleet_cli.specs.declared.status.TheConstants.{BAD_INPUT, DONE, REFUSED, USAGE}
@@ -95,21 +102,23 @@ Judges settings bytes plan answer = RefusesTables bytes settings answer ⊎ Answ
 
 -- ---- solving
 
--- a solution of the tables is given, found within the limits of the search
-pub record GivesSolution (t : Tables) (limits : SearchLimits) (answer : Answer) : Type 0 where
+-- a solution of the tables is given, found within the limits of the search, with rotations of its plan
+pub record GivesSolution (t : Tables) (options : SolveOptions) (answer : Answer) : Type 0 where
   pub solution : Solved
-  pub solves : IsSolved t limits.nodes limits.pivots solution
-  pub is : answer ≡ solved_answer t solution
+  pub rotations : List FleetRotation
+  pub solves : IsSolved t options.search.nodes options.search.pivots solution
+  pub rotates : AreRotationsOf t options.rotations solution rotations
+  pub is : answer ≡ solved_answer t options solution rotations
 
 -- the tables read, and a solution of them is given
-pub record SolvesTables (bytes : TableBytes) (settings : Settings) (limits : SearchLimits) (answer : Answer) : Type 0 where
+pub record SolvesTables (bytes : TableBytes) (settings : Settings) (options : SolveOptions) (answer : Answer) : Type 0 where
   pub tables : Tables
   pub reads : Reads bytes settings tables
-  pub gives : GivesSolution tables limits answer
+  pub gives : GivesSolution tables options answer
 
 -- solving by the bytes of the tables
-abbrev pub Solves : Settings → SearchLimits → TableBytes → Answer → Type 0
-Solves settings limits bytes answer = RefusesTables bytes settings answer ⊎ SolvesTables bytes settings limits answer
+abbrev pub Solves : Settings → SolveOptions → TableBytes → Answer → Type 0
+Solves settings options bytes answer = RefusesTables bytes settings answer ⊎ SolvesTables bytes settings options answer
 
 -- ---- checking
 
@@ -162,14 +171,44 @@ pub record AnswersProof (bytes : TableBytes) (settings : Settings) (proof plan :
 abbrev pub Checks : Settings → TableBytes → List ℕ → List ℕ → Answer → Type 0
 Checks settings bytes proof plan answer = RefusesTables bytes settings answer ⊎ AnswersProof bytes settings proof plan answer
 
+-- ---- tails
+
+-- the first of the dates that are asked for
+abbrev pub first_day : DateParts → Day
+first_day date = record { year = date.year; month = date.month; day = date.day }
+
+-- the plan is legal, and the tails of its rotations on the dates are told
+pub record TellsTails (t : Tables) (limits : RotationLimits) (dates : AskedDates) (plan : List ℕ) (answer : Answer) : Type 0 where
+  pub rotations : List FleetRotation
+  pub legal : IsLegal t plan
+  pub rotates : ArePlanRotations t plan limits.days limits.visits rotations
+  pub is : answer ≡ says DONE (tails_text t plan rotations (first_day dates.first) dates.count)
+
+-- the plan reads; its verdict comes before the tails
+pub record TailsOfPlan (t : Tables) (limits : RotationLimits) (dates : AskedDates) (bytes : List ℕ) (answer : Answer) : Type 0 where
+  pub plan : List ℕ
+  pub reads : PlanReads t (records_of bytes) plan
+  pub answers : RefusesVerdict t plan answer ⊎ TellsTails t limits dates plan answer
+
+-- the tables read, and the tails of the plan are told on them
+pub record TailsOfTables (bytes : TableBytes) (settings : Settings) (limits : RotationLimits) (dates : AskedDates) (plan : List ℕ) (answer : Answer) : Type 0 where
+  pub tables : Tables
+  pub reads : Reads bytes settings tables
+  pub answers : RefusesPlan tables plan answer ⊎ TailsOfPlan tables limits dates plan answer
+
+-- telling tails by the bytes of the tables and of the plan
+abbrev pub TailsOf : Settings → RotationLimits → AskedDates → TableBytes → List ℕ → Answer → Type 0
+TailsOf settings limits dates bytes plan answer = RefusesTables bytes settings answer ⊎ TailsOfTables bytes settings limits dates plan answer
+
 -- ---- what the program answers
 
 -- The answer to what words ask, where the files that are read hold these bytes, none too long.
 abbrev pub AnswersOf : Option Asked → FileBytes → Answer → Type 0
 AnswersOf None bytes answer = answer ≡ says USAGE usage_text
 AnswersOf (Some (judge dir settings)) bytes answer = Judges settings (table_bytes bytes) (bytes file.Plan) answer
-AnswersOf (Some (solve dir settings limits)) bytes answer = Solves settings limits (table_bytes bytes) answer
+AnswersOf (Some (solve dir settings options)) bytes answer = Solves settings options (table_bytes bytes) answer
 AnswersOf (Some (check dir settings)) bytes answer = Checks settings (table_bytes bytes) (bytes file.Proof) (bytes file.Plan) answer
+AnswersOf (Some (tails dir settings limits dates)) bytes answer = TailsOf settings limits dates (table_bytes bytes) (bytes file.Plan) answer
 
 -- all files that are read are within their limits, and the answer is by what they hold
 pub record AnswersRead (held : Files) (asked : Option Asked) (answer : Answer) : Type 0 where

@@ -1,10 +1,10 @@
--- What solving leaves: the plan and its cost, the bound, or that nothing is legal, over what the files held and hold. And
--- what it means where checking says that a proof holds.
+-- What solving leaves: the plan and its cost, its rotations, the bound, or that nothing is legal, over what the files held
+-- and hold. And what it means where checking says that a proof holds.
 use Rattle.std.specs.Prelude.{◌≡◌, ℕ, List, Bool, true, false, Option, Some, None, IfSome, IsSomeAnd, ⊤, ℤ, ◌≤ℤ◌}
 use Rattle.cert_check.specs.Verdicts.{BoundsAll}
 use Rattle.cert_check.specs.declared.checked.Checked.TheVariants as checked
-use Rattle.command_words.specs.Words.{Asked, check, judge, solve}
-use Rattle.command_words.specs.declared.command.SearchLimits.{SearchLimits}
+use Rattle.command_words.specs.Words.{Asked, check, judge, solve, tails}
+use Rattle.command_words.specs.declared.command.SolveOptions.{SolveOptions}
 use Rattle.fleet_model.specs.declared.parts.Settings.{Settings}
 use Rattle.fleet_model.specs.declared.tables.Tables.{Tables}
 use Rattle.bound_cert.specs.ProofText.{proof_text}
@@ -12,6 +12,8 @@ use Rattle.plan_desk.specs.Desk.{Files}
 use Rattle.plan_desk.specs.DeskFile.{path_of}
 use Rattle.plan_desk.specs.Sink.{output_with}
 use Rattle.plan_desk.specs.declared.file.DeskFile.TheVariants as desk_file
+use Rattle.plan_report.specs.RotationRecords.{rotation_text}
+use Rattle.plan_report.specs.declared.fleet_rotations.FleetRotation.{FleetRotation}
 use Rattle.plan_text.specs.Text.{plan_text}
 use Rattle.sched_read.specs.Reading.{Reads}
 use Rattle.fleet_cli.specs.Contents.{bytes_in, table_bytes}
@@ -19,7 +21,7 @@ use Rattle.fleet_cli.specs.Gathered.{AllStand}
 use Rattle.fleet_cli.specs.Reading.{proof_files, table_files}
 use Rattle.fleet_cli.specs.Run.{IsSolution, PlanThere}
 use Rattle.branch_bound.specs.Solved.{IsSolved, tree_of}
-use Rattle.fleet_cli.specs.Summary.{solved_status, summary_text}
+use Rattle.fleet_cli.specs.Solution.{AreRotationsOf, printed_text, solved_status}
 use Rattle.fleet_cli.specs.Texts.{checked_text}
 use Rattle.branch_bound.specs.declared.solved.Solved.{Solved}
 use Rattle.branch_bound.specs.declared.solved.Solved.TheVariants as solved
@@ -40,23 +42,28 @@ plan_there t (solved.Unsettled bound tree) before = before
 -- The five files read as tables. Under the plan's name stands the text of one legal plan, under the proof's name
 -- the text of one tree, and the summary with the plan's exact cost, the tree's bound and the status was put. No
 -- legal assignment undercuts that bound; it is the cost where no leaf is open, each open leaf has its cause, and where
--- it says infeasible, none is legal.
-pub record LeavesSolution (held stands : Files) (dir : List ℕ) (settings : Settings) (limits : SearchLimits) (code : ℕ) (before after : Option (List ℕ)) : Type 0 where
+-- it says infeasible, none is legal. Under the rotations' name stands the text of what becomes of each fleet's rotation by
+-- that plan, and the summary tells it: each tour is one of the fleet and is kept, each that is refused has its cause, and
+-- the pairs of the first round are a through set that is worth most. Without a plan there are no rotations.
+pub record LeavesSolution (held stands : Files) (dir : List ℕ) (settings : Settings) (options : SolveOptions) (code : ℕ) (before after : Option (List ℕ)) : Type 0 where
   pub tables : Tables
   pub solution : Solved
+  pub rotations : List FleetRotation
   pub there : AllStand held dir table_files
   pub reads : Reads (table_bytes (bytes_in held dir)) settings tables
-  pub solves : IsSolved tables limits.nodes limits.pivots solution
+  pub solves : IsSolved tables options.search.nodes options.search.pivots solution
+  pub rotates : AreRotationsOf tables options.rotations solution rotations
   pub plan : stands (path_of dir desk_file.Plan) ≡ plan_there tables solution (held (path_of dir desk_file.Plan))
   pub proof : stands (path_of dir desk_file.Proof) ≡ Some (proof_text tables (is_planned solution) (tree_of solution))
-  pub put : after ≡ output_with before (summary_text tables solution)
+  pub rotation : stands (path_of dir desk_file.Rotation) ≡ Some (rotation_text tables rotations options.rotations.visits)
+  pub put : after ≡ output_with before (printed_text tables options.json solution rotations)
   pub code_is : code ≡ solved_status solution
 
 -- the desk still tells what it holds, and it is what solving leaves
-pub record TellsSolution (held : Files) (told : Option Files) (dir : List ℕ) (settings : Settings) (limits : SearchLimits) (code : ℕ) (before after : Option (List ℕ)) : Type 0 where
+pub record TellsSolution (held : Files) (told : Option Files) (dir : List ℕ) (settings : Settings) (options : SolveOptions) (code : ℕ) (before after : Option (List ℕ)) : Type 0 where
   pub stands : Files
   pub tells : told ≡ Some stands
-  pub leaves : LeavesSolution held stands dir settings limits code before after
+  pub leaves : LeavesSolution held stands dir settings options code before after
 
 -- a bound is there, and it is no more than a cost
 abbrev pub IsUnder : Option ℤ → ℤ → Type 0
@@ -82,4 +89,5 @@ abbrev pub Headline : Files → Option Asked → ℕ → Option Files → Option
 Headline held None code told before after = ⊤
 Headline held (Some (judge dir settings)) code told before after = ⊤
 Headline held (Some (check dir settings)) code told before after = code ≡ DONE → TellsBound held dir settings before after
-Headline held (Some (solve dir settings limits)) code told before after = IsSolution code → TellsSolution held told dir settings limits code before after
+Headline held (Some (tails dir settings limits dates)) code told before after = ⊤
+Headline held (Some (solve dir settings options)) code told before after = IsSolution code → TellsSolution held told dir settings options code before after

@@ -1,17 +1,18 @@
 -- What is always so of answers.
-use Rattle.std.specs.Prelude.{◌≡◌, Option, Some, None, ⊤}
+use Rattle.std.specs.Prelude.{◌≡◌, ◌≢◌, Option, Some, None, ⊤}
 use Rattle.plan_desk.specs.Desk.{Files}
 use Rattle.fleet_cli.specs.Answer.{Answers}
-use Rattle.command_words.specs.Words.{Asked, check, judge, solve}
+use Rattle.command_words.specs.Words.{Asked, check, judge, solve, tails}
 use Rattle.fleet_cli.specs.declared.answer.Answer.{Answer}
-use Rattle.fleet_cli.specs.declared.status.TheConstants.{BAD_INPUT}
+use Rattle.fleet_cli.specs.declared.status.TheConstants.{BAD_INPUT, DONE}
 
 -- an answer that what is held and what is asked leave no choice of
 abbrev pub IsFixed : Option Asked → Answer → Type 0
 IsFixed None answer = ⊤
 IsFixed (Some (judge dir settings)) answer = ⊤
-IsFixed (Some (solve dir settings limits)) answer = answer.status.code ≡ BAD_INPUT
+IsFixed (Some (solve dir settings options)) answer = answer.status.code ≡ BAD_INPUT
 IsFixed (Some (check dir settings)) answer = ⊤
+IsFixed (Some (tails dir settings limits dates)) answer = answer.status.code ≢ DONE
 
 -- what is held and what is asked fix the answer
 abbrev pub OneAnswer : Type 0

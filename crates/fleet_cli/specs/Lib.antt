@@ -8,7 +8,7 @@ pub mod Opened
 pub mod Program
 pub mod Reading
 pub mod Run
+pub mod Solution
 pub mod SolvedChecked
-pub mod Summary
 pub mod Texts
 pub mod Written

@@ -2,7 +2,7 @@
 use Rattle.std.specs.Prelude.{◌≡◌, ◌⊎◌, ℕ, true, List, [], ◌∷◌, Option, Some, None, IsSome}
 use Rattle.bound_cert.specs.ReadProof.{ReadsAs}
 use Rattle.bound_cert.specs.declared.reading.Proof.{Proof}
-use Rattle.command_words.specs.Words.{Asked, check, judge, solve}
+use Rattle.command_words.specs.Words.{Asked, check, judge, solve, tails}
 use Rattle.fleet_model.specs.declared.parts.Settings.{Settings}
 use Rattle.fleet_model.specs.declared.tables.Tables.{Tables}
 use Rattle.plan_desk.specs.Desk.{Files}
@@ -17,7 +17,7 @@ use Rattle.fleet_cli.specs.Gathered.{AllStand, ComesTo, IsAmong, IsFirstMissing,
 abbrev pub tables_and : List DeskFile → List DeskFile
 tables_and more = file.Stations ∷ file.Fleets ∷ file.Legs ∷ file.Costs ∷ file.Throughs ∷ more
 
--- the files that judging, solving and checking read first, in their order
+-- the files that judging (and telling tails), solving and checking read first, in their order
 abbrev pub judge_files : List DeskFile
 judge_files = tables_and (file.Plan ∷ [])
 
@@ -31,15 +31,17 @@ proof_files = tables_and (file.Proof ∷ [])
 abbrev pub folder_of : Option Asked → List ℕ
 folder_of None = []
 folder_of (Some (judge dir settings)) = dir
-folder_of (Some (solve dir settings limits)) = dir
+folder_of (Some (solve dir settings options)) = dir
 folder_of (Some (check dir settings)) = dir
+folder_of (Some (tails dir settings limits dates)) = dir
 
 -- the files that are read first, in their order
 abbrev pub first_files : Option Asked → List DeskFile
 first_files None = []
 first_files (Some (judge dir settings)) = judge_files
-first_files (Some (solve dir settings limits)) = table_files
+first_files (Some (solve dir settings options)) = table_files
 first_files (Some (check dir settings)) = proof_files
+first_files (Some (tails dir settings limits dates)) = judge_files
 
 -- the tables and the proof read, and the proof says that a plan comes with it
 pub record WantsPlan (settings : Settings) (bytes : TableBytes) (text : List ℕ) : Type 0 where
@@ -53,15 +55,17 @@ pub record WantsPlan (settings : Settings) (bytes : TableBytes) (text : List ℕ
 abbrev pub Follows : Option Asked → FileBytes → DeskFile → Type 0
 Follows None bytes f = ⊥
 Follows (Some (judge dir settings)) bytes f = ⊥
-Follows (Some (solve dir settings limits)) bytes f = ⊥
+Follows (Some (solve dir settings options)) bytes f = ⊥
 Follows (Some (check dir settings)) bytes f = (f ≡ file.Plan) × WantsPlan settings (table_bytes bytes) (bytes file.Proof)
+Follows (Some (tails dir settings limits dates)) bytes f = ⊥
 
 -- the files that may be written
 abbrev pub written_files : Option Asked → List DeskFile
 written_files None = []
 written_files (Some (judge dir settings)) = []
-written_files (Some (solve dir settings limits)) = file.Plan ∷ file.Proof ∷ []
+written_files (Some (solve dir settings options)) = file.Plan ∷ file.Proof ∷ file.Rotation ∷ []
 written_files (Some (check dir settings)) = []
+written_files (Some (tails dir settings limits dates)) = []
 
 -- ---- what follows of each command
 

@@ -5,15 +5,15 @@ use Rattle.bound_cert.specs.ReadProof.{ReadsAs}
 use Rattle.bound_cert.specs.declared.reading.Proof.{Proof}
 use Rattle.cert_check.specs.Verdicts.{HoldsWith}
 use Rattle.command_words.specs.Words.{check, solve}
-use Rattle.command_words.specs.declared.command.SearchLimits.{SearchLimits}
+use Rattle.command_words.specs.declared.command.SolveOptions.{SolveOptions}
 use Rattle.fleet_model.specs.declared.parts.Settings.{Settings}
 use Rattle.fleet_model.specs.declared.tables.Tables.{Tables}
 use Rattle.plan_desk.specs.Desk.{Files}
 use Rattle.fleet_cli.specs.Answer.{Answers}
 use Rattle.fleet_cli.specs.Headline.{is_planned}
 use Rattle.fleet_cli.specs.Run.{AnswersInFull, IsSolution}
-use Rattle.branch_bound.specs.Solved.{tree_of}
-use Rattle.fleet_cli.specs.Summary.{printed_bound, printed_cost}
+use Rattle.branch_bound.specs.Solved.{plan_cost, tree_of}
+use Rattle.plan_report.specs.Summary.{printed_bound}
 use Rattle.fleet_cli.specs.declared.answer.Answer.{Answer}
 use Rattle.branch_bound.specs.declared.solved.Solved.{Solved}
 use Rattle.fleet_cli.specs.declared.status.TheConstants.{DONE}
@@ -24,10 +24,10 @@ pub record ReadsAndHolds (t : Tables) (s : Solved) : Type 0 where
   pub proof : Proof
   pub reads : ReadsAs t (proof_text t (is_planned s) (tree_of s)) proof
   pub says : proof.planned ≡ is_planned s
-  pub holds : HoldsWith t (printed_cost s) proof.tree (printed_bound s)
+  pub holds : HoldsWith t (plan_cost s) proof.tree (printed_bound s)
 
 -- where a run gave a solution, and checking reads what then stands, it answers that the proof holds
 abbrev pub SolvedIsChecked : Type 0
-SolvedIsChecked = (held stands : Files) (dir : List ℕ) (settings : Settings) (limits : SearchLimits) (code : ℕ) (before after : Option (List ℕ)) (checking : Answer)
-    → AnswersInFull held (Some (solve dir settings limits)) code (Some stands) before after → IsSolution code
+SolvedIsChecked = (held stands : Files) (dir : List ℕ) (settings : Settings) (options : SolveOptions) (code : ℕ) (before after : Option (List ℕ)) (checking : Answer)
+    → AnswersInFull held (Some (solve dir settings options)) code (Some stands) before after → IsSolution code
     → Answers stands (Some (check dir settings)) checking → checking.status.code ≡ DONE

@@ -1,24 +1,18 @@
 -- What a run prints.
-use Rattle.std.specs.Prelude.{ℕ, zero, suc, List, [], ◌∷◌, ◌++◌, codes, ℤ, Option, Some, None}
-use Rattle.std.specs.List.{concat}
+use Rattle.std.specs.Prelude.{ℕ, List, [], ◌∷◌, ◌++◌, codes, ℤ, Option, Some, None}
 use Rattle.std.specs.Fmt.{decimal, signed_decimal}
 use Rattle.cert_check.specs.declared.checked.Checked.{Checked}
 use Rattle.cert_check.specs.declared.checked.Checked.TheVariants as checked
 use Rattle.fleet_model.specs.declared.tables.Tables.{Tables}
 use Rattle.fleet_model.specs.declared.refusals.TableFile.{TableFile}
 use Rattle.fleet_model.specs.declared.refusals.TableFile.TheVariants as table
-use Rattle.fleet_model.specs.Counts.{weights_of}
 use Rattle.fleet_model.specs.Schedule.{fleet_of, fleets_in, leg_of, station_of}
-use Rattle.fleet_model.specs.Use.{used_of}
 use Rattle.plan_desk.specs.DeskFile.{file_name}
 use Rattle.plan_desk.specs.declared.file.DeskFile.{DeskFile}
 use Rattle.plan_desk.specs.declared.file.DeskFile.TheVariants as file
 use Rattle.plan_judge.specs.declared.verdicts.Verdict.{Verdict}
 use Rattle.plan_judge.specs.declared.verdicts.Verdict.TheVariants as verdict
-
--- pieces of a line, joined, and a line feed
-abbrev pub line_of : List (List ℕ) → List ℕ
-line_of pieces = concat pieces ++ 10 ∷ []
+use Rattle.plan_report.specs.TextLines.{fleet_lines, line_of}
 
 -- the file of a table
 abbrev pub desk_file_of : TableFile → DeskFile
@@ -42,15 +36,6 @@ plan_refused_text row kind = line_of (codes "plan refused: record " ∷ decimal 
 
 abbrev pub proof_refused_text : ℕ → ℕ → List ℕ
 proof_refused_text line kind = line_of (codes "proof refused: line " ∷ decimal line ∷ codes " kind " ∷ decimal kind ∷ [])
-
--- a fleet's aircraft, used and there
-abbrev pub fleet_line : Tables → List ℕ → ℕ → List ℕ
-fleet_line t a f = line_of (codes "fleet " ∷ (fleet_of t f).name ∷ codes ": used " ∷ decimal (used_of t (weights_of a) f) ∷ codes " of " ∷ decimal (fleet_of t f).aircraft ∷ [])
-
--- such a line for each of the first fleets
-abbrev pub fleet_lines : Tables → List ℕ → ℕ → List ℕ
-fleet_lines t a zero = []
-fleet_lines t a (suc n) = fleet_lines t a n ++ fleet_line t a n
 
 -- what is printed of a verdict
 abbrev pub verdict_text : Tables → List ℕ → Verdict → List ℕ

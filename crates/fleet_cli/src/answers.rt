@@ -1,6 +1,6 @@
 //! The answer to the words of a call, by what the desk holds.
 ghost use Rattle.std.specs.Prelude.{◌≡◌, ◌+◌, Some, IfOk, IfSome, map, string_bytes, ⊤};
-ghost use Rattle.command_words.specs.Words.{HasSettings, asked, asked_by};
+ghost use Rattle.command_words.specs.Words.{HasDates, HasLimits, HasSettings, asked, asked_by};
 ghost use Rattle.fleet_cli.specs.Answer.{Answers, AnswersSome, says};
 ghost use Rattle.fleet_cli.specs.Failed.{MatchFailure, StopsAs};
 ghost use Rattle.fleet_cli.specs.Gathered.{ReadFails};
@@ -45,9 +45,9 @@ pub fn reply_to<'a, D: Desk>(
     ensures stays_steady { D.is_steady desk.old → D.is_steady desk.new }
 {
     match command_of(alloc, words) {
-        Ok(Some(command)) => match answer_to(alloc, command, desk) {
+        Ok(Some(command)) => match answer_to(alloc, &command, desk) {
             Ok(answer) => Ok(Reply {
-                dir: folder(command),
+                dir: folder(&command),
                 answer,
             }),
             Err(failure) => Err(failure),
@@ -61,13 +61,15 @@ pub fn reply_to<'a, D: Desk>(
 }
 
 /// The answer to a command: its first files are read in their order, and the plan where they ask for it.
-fn answer_to<D: Desk>(alloc: Global, command: Command<'_>, desk: &mut D) -> Result<Answer, Failure>
-    requires { HasSettings command }
-    ensures told { IfSome (D.holds desk.old) (λ held. IfOk result (Answers held (Some (asked_by command.entry)))) }
-    ensures some { IfOk result (AnswersSome (RoseBy (TABLE_LIMIT + 1) (D.taken desk.old) (D.taken desk.new)) (Some (asked_by command.entry))) }
+fn answer_to<D: Desk>(alloc: Global, command: &Command<'_>, desk: &mut D) -> Result<Answer, Failure>
+    requires settings { HasSettings command.now }
+    requires limits { HasLimits command.now }
+    requires dates { HasDates command.now }
+    ensures told { IfSome (D.holds desk.old) (λ held. IfOk result (Answers held (Some (asked_by command.now)))) }
+    ensures some { IfOk result (AnswersSome (RoseBy (TABLE_LIMIT + 1) (D.taken desk.old) (D.taken desk.new)) (Some (asked_by command.now))) }
     ensures holds { D.holds desk.new ≡ D.holds desk.old }
     ensures faults { MatchFailure result (λ _. D.faults desk.new ≡ D.faults desk.old) (Rose (D.faults desk.old) (D.faults desk.new)) (D.faults desk.new ≡ D.faults desk.old) }
-    ensures blamed { MatchFailure result (λ _. ⊤) (ReadFails (D.is_steady desk.old) (D.holds desk.old) (IsRead (Some (asked_by command.entry))) (IsMissing (Some (asked_by command.entry))) (D.blamed desk.new)) ⊤ }
+    ensures blamed { MatchFailure result (λ _. ⊤) (ReadFails (D.is_steady desk.old) (D.holds desk.old) (IsRead (Some (asked_by command.now))) (IsMissing (Some (asked_by command.now))) (D.blamed desk.new)) ⊤ }
     ensures stays_steady { D.is_steady desk.old → D.is_steady desk.new }
 {
     let dir = folder(command);

@@ -1,6 +1,6 @@
 //! What each command reads first, and what that comes to. One case for each command.
 ghost use Rattle.std.specs.Prelude.{◌≡◌, Some, IfOk};
-ghost use Rattle.command_words.specs.Words.{HasSettings, asked_by};
+ghost use Rattle.command_words.specs.Words.{HasDates, HasLimits, HasSettings, asked_by};
 ghost use Rattle.fleet_cli.specs.Contents.{content_of};
 ghost use Rattle.fleet_cli.specs.Opened.{IsOpened};
 ghost use Rattle.fleet_cli.specs.Reading.{first_files, folder_of};
@@ -10,12 +10,13 @@ use crate::contents::Contents;
 use crate::judging::judge_contents;
 use crate::opened::Opened;
 use crate::solving::solve_contents;
+use crate::telling::tails_of_contents;
 use command_words::Command;
 use entries::NoMemory;
 use plan_desk::DeskFile;
 use std::alloc::Global;
 
-/// The files that judging reads, in their order.
+/// The files that judging reads, and telling tails, in their order.
 const JUDGE_FILES: &[DeskFile] = &[
     DeskFile::Stations,
     DeskFile::Fleets,
@@ -45,51 +46,67 @@ const PROOF_FILES: &[DeskFile] = &[
 ];
 
 /// The folder of a command.
-pub fn folder<'a>(command: Command<'a>) -> &'a str
-    ensures { result.now ≡ folder_of (Some (asked_by command.entry)) }
+pub fn folder<'a>(command: &Command<'a>) -> &'a str
+    ensures { result.now ≡ folder_of (Some (asked_by command.now)) }
 {
     match command {
-        Command::Judge { dir, .. } | Command::Solve { dir, .. } | Command::Check { dir, .. } => dir,
+        Command::Judge { dir, .. }
+        | Command::Solve { dir, .. }
+        | Command::Check { dir, .. }
+        | Command::Tails { dir, .. } => *dir,
     }
 }
 
 /// The files that a command reads first, in their order.
-pub fn first_files(command: Command<'_>) -> &'static [DeskFile]
-    ensures { result.now ≡ first_files (Some (asked_by command.entry)) }
+pub fn first_files(command: &Command<'_>) -> &'static [DeskFile]
+    ensures { result.now ≡ first_files (Some (asked_by command.now)) }
 {
     match command {
-        Command::Judge { .. } => JUDGE_FILES,
+        Command::Judge { .. } | Command::Tails { .. } => JUDGE_FILES,
         Command::Solve { .. } => TABLE_FILES,
         Command::Check { .. } => PROOF_FILES,
     }
 }
 
 /// What the first files of a command come to, by what was read of them, which is let go.
-pub fn open(alloc: Global, command: Command<'_>, contents: Contents) -> Result<Opened, NoMemory>
-    requires { HasSettings command }
-    ensures { IfOk result (IsOpened (Some (asked_by command.entry)) (content_of contents)) }
+pub fn open(alloc: Global, command: &Command<'_>, contents: Contents) -> Result<Opened, NoMemory>
+    requires settings { HasSettings command.now }
+    requires limits { HasLimits command.now }
+    requires dates { HasDates command.now }
+    ensures { IfOk result (IsOpened (Some (asked_by command.now)) (content_of contents)) }
 {
     outcome_of(alloc, command, &contents)
 }
 
 /// What the first files of a command come to.
-fn outcome_of(alloc: Global, command: Command<'_>, contents: &Contents) -> Result<Opened, NoMemory>
-    requires { HasSettings command }
-    ensures { IfOk result (IsOpened (Some (asked_by command.entry)) (content_of contents.now)) }
+fn outcome_of(alloc: Global, command: &Command<'_>, contents: &Contents) -> Result<Opened, NoMemory>
+    requires settings { HasSettings command.now }
+    requires limits { HasLimits command.now }
+    requires dates { HasDates command.now }
+    ensures { IfOk result (IsOpened (Some (asked_by command.now)) (content_of contents.now)) }
 {
     match command {
         Command::Judge { settings, .. } => {
-            let answer = judge_contents(alloc, settings, contents)?;
+            let answer = judge_contents(alloc, *settings, contents)?;
             Ok(Opened::Answered(answer))
         }
         Command::Solve {
             settings,
-            limits,
+            options,
             ..
         } => {
-            let answer = solve_contents(alloc, settings, limits, contents)?;
+            let answer = solve_contents(alloc, *settings, *options, contents)?;
             Ok(Opened::Answered(answer))
         }
-        Command::Check { settings, .. } => open_check(alloc, settings, contents),
+        Command::Check { settings, .. } => open_check(alloc, *settings, contents),
+        Command::Tails {
+            settings,
+            rotations,
+            dates,
+            ..
+        } => {
+            let answer = tails_of_contents(alloc, *settings, *rotations, dates, contents)?;
+            Ok(Opened::Answered(answer))
+        }
     }
 }

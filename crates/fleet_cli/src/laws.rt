@@ -9,8 +9,8 @@ pub fn one_answer()
     ensures { OneAnswer }
 {}
 
-/// Where a run gave a solution, checking the same folder by the same day start answers that the proof holds. The premise is
-/// what `run` ensures of solving (`answer`); nothing is asked of the lengths of the files.
+/// Where a run gave a solution, checking the same folder by the same settings (day start and longest wait) answers that the
+/// proof holds. The premise is what `run` ensures of solving (`answer`); nothing is asked of the lengths of the files.
 pub fn solved_is_checked()
     ensures { SolvedIsChecked }
 {}

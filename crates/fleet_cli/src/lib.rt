@@ -14,9 +14,10 @@ mod loading;
 mod opened;
 mod refusing;
 mod running;
+mod solution;
 mod solving;
 mod status;
-mod summary;
+mod telling;
 mod texts;
 mod writing;
 

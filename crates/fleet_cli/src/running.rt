@@ -32,7 +32,8 @@ pub fn run<D: Desk, S: Sink>(alloc: Global, words: &[String], desk: &mut D, out:
         AnswersInFull held (asked (map string_bytes words.now)) result.code (D.holds desk.new) (S.output out.old) (S.output out.new))) }
 
     // The headline. Solving leaves one legal plan with its exact cost and a bound that no legal assignment undercuts,
-    // or says that none is legal, or gives a bound alone; the texts of plan and proof stand, and the summary was put.
+    // or says that none is legal, or gives a bound alone; the texts of plan, proof and rotations stand, and the summary was
+    // put. The rotations are right by that plan.
     ensures headline { IsAnswered result.code (IfSome (D.holds desk.old) (λ held.
         Headline held (asked (map string_bytes words.now)) result.code (D.holds desk.new) (S.output out.old) (S.output out.new))) }
 

@@ -1,31 +1,22 @@
 //! What a run prints.
-ghost use Rattle.std.specs.Prelude.{◌≡◌, ◌++◌, ◌<◌, [], ◌∷◌, IfOk, OnOk, codes, map};
+ghost use Rattle.std.specs.Prelude.{◌≡◌, ◌++◌, ◌<◌, [], ◌∷◌, IfOk, codes, map};
 ghost use Rattle.std.specs.Fmt.{decimal, signed_decimal};
-ghost use Rattle.fleet_cli.specs.Texts.{bad_input_text, bound_text, checked_text, fault_text, fleet_line, fleet_lines, line_of, plan_refused_text, proof_refused_text, verdict_text};
+ghost use Rattle.fleet_cli.specs.Texts.{bad_input_text, bound_text, checked_text, fault_text, plan_refused_text, proof_refused_text, verdict_text};
 ghost use Rattle.fleet_model.specs.Legal.{IsAssignment};
 ghost use Rattle.fleet_model.specs.Schedule.{fleet_of, fleets_in, station_of, stations_in};
 ghost use Rattle.plan_judge.specs.Verdicts.{IsVerdict};
+ghost use Rattle.plan_report.specs.TextLines.{fleet_lines, line_of};
 
 use cert_check::Checked;
 use entries::NoMemory;
 use fleet_model::{Assignment, Tables};
 use plan_desk::DeskFile;
-use plan_judge::{Verdict, used};
+use plan_judge::Verdict;
+use plan_report::text_lines::{push_fleets, push_line};
 use std::alloc::Global;
 
 /// The line of a call whose words match no command.
 pub const USAGE_LINE: &[u8] = b"usage: fleetplan judge|solve|check|make|tails DIR [options]\n";
-
-/// Appends pieces and a line feed to a text.
-pub fn push_line(text: &mut Vec<u8>, pieces: &[&[u8]]) -> Result<(), NoMemory>
-    ensures { OnOk result (text.new.items ≡ text.old.items ++ line_of (map (λ piece. piece.now) pieces.now)) }
-{
-    for piece in pieces {
-        text.extend_from_slice(piece)?;
-    }
-    text.push(b'\n')?;
-    Ok(())
-}
 
 /// The line of pieces.
 fn line(alloc: Global, pieces: &[&[u8]]) -> Result<Vec<u8>, NoMemory>
@@ -199,50 +190,6 @@ fn legal(alloc: Global, tables: &Tables, plan: &Assignment, cost: i128) -> Resul
     let mut text = line(alloc, &[b"legal: cost ".as_slice(), cost.as_bytes()])?;
     push_fleets(alloc, &mut text, tables, plan)?;
     Ok(text)
-}
-
-/// Appends a line for each fleet.
-pub fn push_fleets(
-    alloc: Global,
-    text: &mut Vec<u8>,
-    tables: &Tables,
-    plan: &Assignment,
-) -> Result<(), NoMemory>
-    requires { IsAssignment tables.now plan.now }
-    ensures { OnOk result (text.new.items ≡ text.old.items ++ fleet_lines tables.now plan.now (fleets_in tables.now)) }
-{
-    for fleet in 0..tables.fleet_count() {
-        push_fleet(alloc, text, tables, plan, fleet)?;
-    }
-    Ok(())
-}
-
-/// Appends `fleet F: used N of M`.
-fn push_fleet(
-    alloc: Global,
-    text: &mut Vec<u8>,
-    tables: &Tables,
-    plan: &Assignment,
-    fleet: u32,
-) -> Result<(), NoMemory>
-    requires plan { IsAssignment tables.now plan.now }
-    requires fleet { fleet < fleets_in tables.now }
-    ensures { OnOk result (text.new.items ≡ text.old.items ++ fleet_line tables.now plan.now fleet) }
-{
-    let flown = tables.fleet(fleet);
-    let used = used(tables, plan, fleet).to_string(alloc)?;
-    let has = flown.aircraft.to_string(alloc)?;
-    push_line(
-        text,
-        &[
-            b"fleet ".as_slice(),
-            flown.name.as_slice(),
-            b": used ".as_slice(),
-            used.as_bytes(),
-            b" of ".as_slice(),
-            has.as_bytes(),
-        ],
-    )
 }
 
 /// What is printed of a tree, with the cost of the plan that comes with it, if any.

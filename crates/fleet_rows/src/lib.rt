@@ -27,9 +27,15 @@ mod plans;
 #[cfg(test)]
 mod proofs;
 #[cfg(test)]
+mod rotations;
+#[cfg(test)]
 mod rows;
 #[cfg(test)]
 mod runs;
+#[cfg(test)]
+mod schedules;
+#[cfg(test)]
+mod searches;
 #[cfg(test)]
 mod searching;
 #[cfg(test)]
@@ -40,6 +46,8 @@ mod stations;
 mod statuses;
 #[cfg(test)]
 mod tables;
+#[cfg(test)]
+mod tails;
 #[cfg(test)]
 mod texts;
 #[cfg(test)]

@@ -2,6 +2,7 @@
 use crate::rows::{CHECK, JUDGE, Laid, SOLVE, run_case, run_texts};
 use crate::statuses::{BAD_INPUT, DONE, FAULT, REFUSED};
 use crate::tables::{FLEETS, LEGAL, OPEN_PROOF, PRICED_PROOF, STATIONS, THROUGHS};
+use crate::tails::TAILS;
 use plan_desk::DeskFile::{self, Costs, Fleets, Legs, Plan, Proof, Stations, Throughs};
 use std::alloc::Global;
 use std::process::Abort;
@@ -206,9 +207,8 @@ const LONG: &[Long] = &[
     ),
 ];
 
-/// A file that is too long is refused in the order of the reads, and before any table is judged. A proof may be longer,
-/// and a plan is read only where the proof says that one comes with it.
-const LONG_BESIDE: &[Long] = &[
+/// A proof may be longer, and `check` reads a plan only where the proof says that one comes with it.
+const LONG_TO_OTHERS: &[Long] = &[
     (SOLVE, Throughs, &[], BAD_INPUT, TOO_LONG),
     (CHECK, Throughs, &[SHORT_PRICED], BAD_INPUT, TOO_LONG),
     (
@@ -219,6 +219,17 @@ const LONG_BESIDE: &[Long] = &[
         b"bad input: plan.csv record 0 kind 12\n",
     ),
     (CHECK, Plan, &[SHORT_OPEN], DONE, b"holds: bound 180\n"),
+    (
+        TAILS,
+        Plan,
+        &[],
+        BAD_INPUT,
+        b"bad input: plan.csv record 0 kind 12\n",
+    ),
+];
+
+/// A file that is too long is refused in the order of the reads, and before any table is judged.
+const LONG_BESIDE: &[Long] = &[
     (
         JUDGE,
         Throughs,
@@ -252,6 +263,11 @@ fn run_long<R: Abort + Alloc<A = Global>>(rt: &R, cases: &[Long]) -> Result<(), 
 #[test]
 fn a_file_of_one_byte_more(rt: HostRuntime) -> Result<(), Fail> {
     run_long(&rt, LONG)
+}
+
+#[test]
+fn a_long_file_to_other_commands(rt: HostRuntime) -> Result<(), Fail> {
+    run_long(&rt, LONG_TO_OTHERS)
 }
 
 #[test]

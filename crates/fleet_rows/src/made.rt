@@ -1,10 +1,12 @@
 //! A made schedule of 20 legs: the first of its kind, drawn from the number 1.
 use crate::rows::Laid;
-use crate::searching::Search;
+use crate::searches::Known::{Begin, End, Whole};
+use crate::searches::Search;
 use crate::statuses::DONE;
 use plan_desk::DeskFile::{Costs, Fleets, Legs, Stations, Throughs};
 
-/// Of all 2 ^ 20 assignments one that is legal costs least, as a program that tries each of them has found.
+/// Of all 2 ^ 20 assignments one that is legal costs least, as a program that tries each of them has found. No through
+/// pair can be flown, and of the tours of both fleets each is kept; which is taken is open.
 pub const MADE: Search = Search {
     laid: &[
         Laid::Bytes(
@@ -44,13 +46,17 @@ pub const MADE: Search = Search {
     ],
     words: &["fleetplan", "solve", "d", "--day-start", "00:00"],
     status: DONE,
-    text: b"outcome: optimal\ncost: 23288\nbound: 23288\nsplits: 0\n\
-        open: 0 nodes, 0 pivots, 0 grew\nfleet F1: used 4 of 10\nfleet F2: used 4 of 5\n",
-    plan: Some(
+    text: Whole(
+        b"outcome: optimal\ncost: 23288\nbound: 23288\nsplits: 0\n\
+            open: 0 nodes, 0 pivots, 0 grew\nfleet F1: used 4 of 10\nfleet F2: used 4 of 5\n\
+            rotation F1: tour of 12 legs in 4 days\nrotation F2: tour of 8 legs in 4 days\n",
+    ),
+    plan: Whole(
         b"flight,fleet\nO0,F1\nR0,F1\nO1,F1\nR1,F1\nO2,F2\nR2,F2\nO3,F1\nR3,F1\nO4,F1\n\
             R4,F1\nO5,F1\nR5,F1\nO6,F2\nR6,F2\nO7,F2\nR7,F2\nO8,F1\nR8,F2\nO9,F2\n\
             R9,F1\n",
     ),
-    proof_end: b"end\n",
+    proof: End(b"end\n"),
+    rotation: Begin(b"fleet,round,kind,a,b\nF1,1,tour,4,12\nF1,1,leg,"),
     checked: b"holds: cost 23288 bound 23288\n",
 };

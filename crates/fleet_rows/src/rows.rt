@@ -47,6 +47,9 @@ pub type Writing = (
 /// A case with the calls of the desk and of the sink that fail, and the faults of both that are counted.
 pub type Failing = (Writing, &'static [u64], &'static [u64], u64, u64);
 
+/// A line of words, which are apart by single spaces, and its case.
+pub type Asked = (&'static str, Writing);
+
 /// A text of one file, and the line that is wanted.
 pub type Text = (&'static [u8], &'static [u8]);
 
@@ -124,25 +127,47 @@ pub fn row_of<'a, 'b>(
     }
 }
 
+/// A row in which no call is made to fail.
+pub fn row_left<'a>(words: &'a [&'static str], case: Writing) -> Row<'a, 'static> {
+    let (laid, status, text, left) = case;
+    Row {
+        left,
+        ..row_of(words, laid, status, text)
+    }
+}
+
 /// Runs each case of a command that writes.
 pub fn run_writing<R: Abort + Alloc<A = Global>>(
     rt: &R,
     words: &'static [&'static str],
     cases: &[Writing],
 ) -> Result<(), Fail> {
-    for (number, (laid, status, text, left)) in cases.iter().enumerate() {
-        let row = Row {
-            laid,
-            words,
-            status: *status,
-            text,
-            left,
-            failing: (&[], &[]),
-            faults: (u64::from(*status == FAULT), 0),
-        };
-        run_row(rt, number, &row)?;
+    for (number, case) in cases.iter().enumerate() {
+        run_row(rt, number, &row_left(words, *case))?;
     }
     Ok(())
+}
+
+/// Runs each case with the words of its line.
+pub fn run_asked<R: Abort + Alloc<A = Global>>(rt: &R, cases: &[Asked]) -> Result<(), Fail> {
+    for (number, (line, case)) in cases.iter().enumerate() {
+        run_line(rt, number, *line, *case)?;
+    }
+    Ok(())
+}
+
+/// Runs a case with the words of a line.
+pub fn run_line<R: Abort + Alloc<A = Global>>(
+    rt: &R,
+    number: usize,
+    line: &'static str,
+    case: Writing,
+) -> Result<(), Fail> {
+    let mut words = Vec::new(rt.alloc());
+    for word in line.split(' ') {
+        words.push(word)?;
+    }
+    run_row(rt, number, &row_left(words.as_slice(), case))
 }
 
 /// Runs each case with its calls that fail.

@@ -1,6 +1,8 @@
 //! The worked runs, table by table. A test of more than some thousand bytes of tables costs far more than two of half.
-use crate::rows::{CHECK, JUDGE, SOLVE, SOLVE_AT_ONCE, run_cases, run_failing, run_writing};
-use crate::{checking, faults, files, judging, solving, using};
+use crate::rows::{
+    CHECK, JUDGE, SOLVE, SOLVE_AT_ONCE, run_asked, run_cases, run_failing, run_writing,
+};
+use crate::{checking, faults, files, judging, rotations, solving, tails, using};
 use std::test::Fail;
 
 #[test]
@@ -44,6 +46,46 @@ fn proofs_in_their_order(rt: HostRuntime) -> Result<(), Fail> {
 fn runs_that_write(rt: HostRuntime) -> Result<(), Fail> {
     run_writing(&rt, SOLVE, solving::SOLVED)?;
     run_writing(&rt, SOLVE_AT_ONCE, solving::AT_ONCE)
+}
+
+#[test]
+fn tours_of_four_days(rt: HostRuntime) -> Result<(), Fail> {
+    run_asked(&rt, rotations::IN_FOUR_DAYS)?;
+    run_asked(&rt, rotations::IN_NO_DAYS)
+}
+
+#[test]
+fn pairs_that_are_held_or_given_up(rt: HostRuntime) -> Result<(), Fail> {
+    run_asked(&rt, rotations::BANKS)?;
+    run_asked(&rt, rotations::APART)
+}
+
+#[test]
+fn nights_of_tours(rt: HostRuntime) -> Result<(), Fail> {
+    run_asked(&rt, rotations::NIGHTS)
+}
+
+#[test]
+fn summaries_as_json(rt: HostRuntime) -> Result<(), Fail> {
+    run_asked(&rt, rotations::AS_JSON)
+}
+
+#[test]
+fn lines_of_tails(rt: HostRuntime) -> Result<(), Fail> {
+    run_asked(&rt, tails::LINES)?;
+    run_asked(&rt, tails::DATES)
+}
+
+#[test]
+fn fleets_without_a_tour(rt: HostRuntime) -> Result<(), Fail> {
+    run_asked(&rt, tails::NO_TOUR)?;
+    run_asked(&rt, tails::APART)
+}
+
+#[test]
+fn plans_that_tails_refuses(rt: HostRuntime) -> Result<(), Fail> {
+    run_asked(&rt, tails::REFUSALS)?;
+    run_failing(&rt, tails::TAILS, tails::CALLS)
 }
 
 #[test]

@@ -1,41 +1,12 @@
 //! What `solve` answers where it has to search, and what `check` says of the files that it leaves.
 use crate::made::MADE;
-use crate::rows::{CHECK, Laid, SOLVE, files, words};
+use crate::rows::{Laid, SOLVE, SOLVE_AT_ONCE};
+use crate::searches::Known::{Begin, End, Whole};
+use crate::searches::{Search, run_searches};
 use crate::statuses::{DONE, GAP, INFEASIBLE, UNSETTLED};
-use fleet_cli::run;
+use crate::tables::{NO_ROTATION, OPEN, OPTIMAL, PLAN, ROTATION};
 use plan_desk::DeskFile::{Costs, Fleets, Legs, Plan, Stations, Throughs};
-use plan_desk::{MemoryDesk, MemorySink};
-use std::alloc::Global;
-use std::process::Abort;
 use std::test::Fail;
-
-/// A solve and then a check of what it leaves, and what is wanted of both.
-#[derive(Clone, Copy)]
-pub struct Search {
-    /// What is laid over the files of the first run.
-    pub laid: &'static [Laid<'static>],
-    /// The words of the solve.
-    pub words: &'static [&'static str],
-    pub status: u8,
-    /// What the solve prints.
-    pub text: &'static [u8],
-    /// The plan that stands then, where it is the only one that may.
-    pub plan: Option<&'static [u8]>,
-    /// How the proof ends.
-    pub proof_end: &'static [u8],
-    /// What the check prints.
-    pub checked: &'static [u8],
-}
-
-const AT_ONCE: &[&str] = &[
-    "fleetplan",
-    "solve",
-    "d",
-    "--day-start",
-    "00:00",
-    "--pivots",
-    "0",
-];
 
 const NO_NODES: &[&str] = &[
     "fleetplan",
@@ -56,6 +27,19 @@ const ONE_NODE: &[&str] = &[
     "--nodes",
     "1",
 ];
+
+const ONE_NODE_AS_JSON: &[&str] = &[
+    "fleetplan",
+    "solve",
+    "d",
+    "--day-start",
+    "00:00",
+    "--nodes",
+    "1",
+    "--json",
+];
+
+const SOLVE_AS_JSON: &[&str] = &["fleetplan", "solve", "d", "--json", "--day-start", "00:00"];
 
 // A plan of an earlier run, which is no plan of these tables.
 const OLD_PLAN: &[u8] = b"flight,fleet\nX1,F9\n";
@@ -107,17 +91,15 @@ const THREE: &[Laid<'static>] = &[OLD, HUB, THREE_FLEETS, TRIPS, TENS_AND_FIFTIE
 
 const EARNING: &[Laid<'static>] = &[OLD, HUB, TWO_FLEETS, TRIPS, BELOW_0];
 
-const OPTIMAL: &[u8] = b"outcome: optimal\ncost: 200\nbound: 200\nsplits: 0\n\
-    open: 0 nodes, 0 pivots, 0 grew\nfleet F1: used 1 of 1\nfleet F2: used 0 of 1\n";
-
 // Two legs that one fleet flies at least cost, though each leg alone is cheaper with another.
 const ROUND_TRIP: Search = Search {
     laid: &[OLD],
     words: SOLVE,
     status: DONE,
-    text: OPTIMAL,
-    plan: Some(b"flight,fleet\nX1,F1\nX2,F1\n"),
-    proof_end: b"end\n",
+    text: Whole(OPTIMAL),
+    plan: Whole(PLAN),
+    proof: End(b"end\n"),
+    rotation: Whole(ROTATION),
     checked: b"holds: cost 200 bound 200\n",
 };
 
@@ -133,6 +115,43 @@ const BACK_AT_ONCE: Search = Search {
     ..ROUND_TRIP
 };
 
+const TOO_FEW_NIGHTS: &[u8] = b"outcome: optimal\ncost: 200\nbound: 200\nsplits: 0\n\
+    open: 0 nodes, 0 pivots, 0 grew\nfleet F1: used 1 of 1\nfleet F2: used 0 of 1\n\
+    rotation F1: too few nights 0 of 1\nrotation F2: unused\n";
+
+// The aircraft is ready again in the first minute of the next day, and its night is aloft.
+const ALOFT_AT_MIDNIGHT: Search = Search {
+    laid: &[
+        OLD,
+        Laid::Bytes(
+            Legs,
+            b"flight,from,dep,to,arr\nX1,AAA,08:00,BBB,09:00\nX2,BBB,22:30,AAA,23:30\n",
+        ),
+    ],
+    text: Whole(TOO_FEW_NIGHTS),
+    rotation: Whole(b"fleet,round,kind,a,b\nF1,1,nights,0,1\nF2,1,unused,0,0\n"),
+    ..ROUND_TRIP
+};
+
+// Aircraft are maintained where none stays at night.
+const MAINTAINED_ELSEWHERE: Search = Search {
+    laid: &[
+        OLD,
+        Laid::Bytes(Stations, b"code,extra,maintenance\nAAA,0,no\nBBB,0,yes\n"),
+    ],
+    ..ALOFT_AT_MIDNIGHT
+};
+
+const AS_JSON: Search = Search {
+    words: SOLVE_AS_JSON,
+    text: Whole(
+        b"{\"bound\":\"200\",\"cost\":\"200\",\"fleets\":[{\"has\":1,\"name\":\"F1\",\"used\":1},\
+            {\"has\":1,\"name\":\"F2\",\"used\":0}],\"open\":{\"grew\":0,\"nodes\":0,\"pivots\":0},\
+            \"outcome\":\"optimal\",\"rotations\":[\"tour of 2 legs in 1 days\",\"unused\"],\"splits\":0}\n",
+    ),
+    ..ROUND_TRIP
+};
+
 // No through pairs in a file of no bytes.
 const NO_THROUGHS: Search = Search {
     laid: &[OLD, Laid::Bytes(Throughs, b"")],
@@ -142,12 +161,12 @@ const NO_THROUGHS: Search = Search {
 // Without pivots the run stops at its first table, and the bound is the sum of the least costs.
 const NO_PIVOTS: Search = Search {
     laid: &[OLD],
-    words: AT_ONCE,
+    words: SOLVE_AT_ONCE,
     status: UNSETTLED,
-    text: b"outcome: unsettled\ncost: none\nbound: 180\nsplits: 0\n\
-        open: 0 nodes, 1 pivots, 0 grew\n",
-    plan: Some(OLD_PLAN),
-    proof_end: b"plan no\nopen pivots 0\nscale 1\nend\n",
+    text: Whole(OPEN),
+    plan: Whole(OLD_PLAN),
+    proof: End(b"plan no\nopen pivots 0\nscale 1\nend\n"),
+    rotation: Whole(NO_ROTATION),
     checked: b"holds: bound 180\n",
 };
 
@@ -159,15 +178,20 @@ const NO_AIRCRAFT: Search = Search {
     ],
     words: SOLVE,
     status: INFEASIBLE,
-    text: b"outcome: infeasible\ncost: none\nbound: none\nsplits: 0\n\
-        open: 0 nodes, 0 pivots, 0 grew\n",
-    plan: Some(OLD_PLAN),
-    proof_end: b"plan no\n\
-        trim X1 F1\nrefuted\nscale 1\nrent F1 1\n\
-        at F1 AAA 0 1\nat F1 AAA 481 0\nat F1 BBB 0 1\nat F1 BBB 481 0\n\
-        trim X1 F2\nrefuted\nscale 1\nrent F2 1\n\
-        at F2 AAA 0 1\nat F2 AAA 481 0\nat F2 BBB 0 1\nat F2 BBB 481 0\n\
-        bare X1\nend\n",
+    text: Whole(
+        b"outcome: infeasible\ncost: none\nbound: none\nsplits: 0\n\
+            open: 0 nodes, 0 pivots, 0 grew\n",
+    ),
+    plan: Whole(OLD_PLAN),
+    proof: End(
+        b"plan no\n\
+            trim X1 F1\nrefuted\nscale 1\nrent F1 1\n\
+            at F1 AAA 0 1\nat F1 AAA 481 0\nat F1 BBB 0 1\nat F1 BBB 481 0\n\
+            trim X1 F2\nrefuted\nscale 1\nrent F2 1\n\
+            at F2 AAA 0 1\nat F2 AAA 481 0\nat F2 BBB 0 1\nat F2 BBB 481 0\n\
+            bare X1\nend\n",
+    ),
+    rotation: Whole(NO_ROTATION),
     checked: b"holds: infeasible\n",
 };
 
@@ -176,21 +200,28 @@ const TWO_AIRCRAFT: Search = Search {
     laid: TWO,
     words: SOLVE,
     status: INFEASIBLE,
-    text: b"outcome: infeasible\ncost: none\nbound: none\nsplits: 1\n\
-        open: 0 nodes, 0 pivots, 0 grew\n",
-    plan: Some(OLD_PLAN),
-    proof_end: b"end\n",
+    text: Whole(
+        b"outcome: infeasible\ncost: none\nbound: none\nsplits: 1\n\
+            open: 0 nodes, 0 pivots, 0 grew\n",
+    ),
+    plan: Whole(OLD_PLAN),
+    proof: End(b"end\n"),
+    rotation: Whole(NO_ROTATION),
     checked: b"holds: infeasible\n",
 };
 
 const TWO_UNSPLIT: Search = Search {
     words: NO_NODES,
     status: UNSETTLED,
-    text: b"outcome: unsettled\ncost: none\nbound: 60\nsplits: 0\n\
-        open: 1 nodes, 0 pivots, 0 grew\n",
-    proof_end: b"mixed 2\nweight A1 F1 1\nweight A1 F2 1\nweight A2 F1 1\nweight A2 F2 1\n\
-        weight B1 F1 1\nweight B1 F2 1\nweight B2 F1 1\nweight B2 F2 1\n\
-        weight C1 F1 1\nweight C1 F2 1\nweight C2 F1 1\nweight C2 F2 1\nend\n",
+    text: Whole(
+        b"outcome: unsettled\ncost: none\nbound: 60\nsplits: 0\n\
+            open: 1 nodes, 0 pivots, 0 grew\n",
+    ),
+    proof: End(
+        b"mixed 2\nweight A1 F1 1\nweight A1 F2 1\nweight A2 F1 1\nweight A2 F2 1\n\
+            weight B1 F1 1\nweight B1 F2 1\nweight B2 F1 1\nweight B2 F2 1\n\
+            weight C1 F1 1\nweight C1 F2 1\nweight C2 F1 1\nweight C2 F2 1\nend\n",
+    ),
     checked: b"holds: bound 60\n",
     ..TWO_AIRCRAFT
 };
@@ -200,32 +231,41 @@ const EARNING_UNSPLIT: Search = Search {
     laid: EARNING,
     words: NO_NODES,
     status: UNSETTLED,
-    text: b"outcome: unsettled\ncost: none\nbound: -6\nsplits: 0\n\
-        open: 1 nodes, 0 pivots, 0 grew\n",
-    plan: Some(OLD_PLAN),
-    proof_end: b"end\n",
+    text: Whole(
+        b"outcome: unsettled\ncost: none\nbound: -6\nsplits: 0\n\
+            open: 1 nodes, 0 pivots, 0 grew\n",
+    ),
+    plan: Whole(OLD_PLAN),
+    proof: End(b"end\n"),
+    rotation: Whole(NO_ROTATION),
     checked: b"holds: bound -6\n",
 };
 
-// One round trip flies with the third fleet; whichever that is, each fleet uses its aircraft.
+// One round trip flies with the third fleet; whichever that is, each fleet uses its aircraft. The first trip is a tour
+// with a night at HUB, and the others are aloft over the day start, so have none: which fleet has the tour is open.
 const THREE_AIRCRAFT: Search = Search {
     laid: THREE,
     words: SOLVE,
     status: DONE,
-    text: b"outcome: optimal\ncost: 140\nbound: 140\nsplits: 2\n\
-        open: 0 nodes, 0 pivots, 0 grew\nfleet F1: used 1 of 1\nfleet F2: used 1 of 1\n\
-        fleet F3: used 1 of 1\n",
-    plan: None,
-    proof_end: b"end\n",
+    text: Begin(
+        b"outcome: optimal\ncost: 140\nbound: 140\nsplits: 2\n\
+            open: 0 nodes, 0 pivots, 0 grew\nfleet F1: used 1 of 1\nfleet F2: used 1 of 1\n\
+            fleet F3: used 1 of 1\nrotation F1: ",
+    ),
+    plan: Begin(b"flight,fleet\nA1,"),
+    proof: End(b"end\n"),
+    rotation: Begin(b"fleet,round,kind,a,b\nF1,1,"),
     checked: b"holds: cost 140 bound 140\n",
 };
 
 const THREE_SPLIT_ONCE: Search = Search {
     words: ONE_NODE,
     status: GAP,
-    text: b"outcome: gap\ncost: 140\nbound: 100\nsplits: 1\n\
-        open: 1 nodes, 0 pivots, 0 grew\nfleet F1: used 1 of 1\nfleet F2: used 1 of 1\n\
-        fleet F3: used 1 of 1\n",
+    text: Begin(
+        b"outcome: gap\ncost: 140\nbound: 100\nsplits: 1\n\
+            open: 1 nodes, 0 pivots, 0 grew\nfleet F1: used 1 of 1\nfleet F2: used 1 of 1\n\
+            fleet F3: used 1 of 1\nrotation F1: ",
+    ),
     checked: b"holds: cost 140 bound 100\n",
     ..THREE_AIRCRAFT
 };
@@ -233,11 +273,33 @@ const THREE_SPLIT_ONCE: Search = Search {
 const THREE_UNSPLIT: Search = Search {
     words: NO_NODES,
     status: UNSETTLED,
-    text: b"outcome: unsettled\ncost: none\nbound: 60\nsplits: 0\n\
-        open: 1 nodes, 0 pivots, 0 grew\n",
-    plan: Some(OLD_PLAN),
+    text: Whole(
+        b"outcome: unsettled\ncost: none\nbound: 60\nsplits: 0\n\
+            open: 1 nodes, 0 pivots, 0 grew\n",
+    ),
+    plan: Whole(OLD_PLAN),
+    rotation: Whole(NO_ROTATION),
     checked: b"holds: bound 60\n",
     ..THREE_AIRCRAFT
+};
+
+const NO_MAINTENANCE: Laid<'static> = Laid::Bytes(
+    Stations,
+    b"code,extra,maintenance\nHUB,0,no\nSAA,0,no\nSBB,0,no\nSCC,0,no\n",
+);
+
+// Where no station maintains aircraft, whichever fleet flies a trip has too few nights.
+const NONE_MAINTAINED: Search = Search {
+    laid: &[OLD, NO_MAINTENANCE, THREE_FLEETS, TRIPS, TENS_AND_FIFTIES],
+    words: ONE_NODE_AS_JSON,
+    text: Whole(
+        b"{\"bound\":\"100\",\"cost\":\"140\",\"fleets\":[{\"has\":1,\"name\":\"F1\",\"used\":1},\
+            {\"has\":1,\"name\":\"F2\",\"used\":1},{\"has\":1,\"name\":\"F3\",\"used\":1}],\
+            \"open\":{\"grew\":0,\"nodes\":1,\"pivots\":0},\"outcome\":\"gap\",\
+            \"rotations\":[\"too few nights 0 of 1\",\"too few nights 0 of 1\",\"too few nights 0 of 1\"],\"splits\":1}\n",
+    ),
+    rotation: Whole(b"fleet,round,kind,a,b\nF1,1,nights,0,1\nF2,1,nights,0,1\nF3,1,nights,0,1\n"),
+    ..THREE_SPLIT_ONCE
 };
 
 // The third fleet costs 1 more on the first round trip, 2 on the second, 1 on the third.
@@ -260,11 +322,18 @@ const PRUNED: Search = Search {
     laid: &[OLD, HUB, THREE_FLEETS, TRIPS, PRUNING_COSTS],
     words: SOLVE,
     status: DONE,
-    text: b"outcome: optimal\ncost: 6000000001\nbound: 6000000001\nsplits: 1\n\
-        open: 0 nodes, 0 pivots, 0 grew\nfleet F1: used 1 of 1\nfleet F2: used 1 of 1\n\
-        fleet F3: used 1 of 1\n",
-    plan: Some(b"flight,fleet\nA1,F1\nA2,F1\nB1,F2\nB2,F2\nC1,F3\nC2,F3\n"),
-    proof_end: b"end\n",
+    text: Whole(
+        b"outcome: optimal\ncost: 6000000001\nbound: 6000000001\nsplits: 1\n\
+            open: 0 nodes, 0 pivots, 0 grew\nfleet F1: used 1 of 1\nfleet F2: used 1 of 1\n\
+            fleet F3: used 1 of 1\nrotation F1: tour of 2 legs in 1 days\n\
+            rotation F2: too few nights 0 of 1\nrotation F3: too few nights 0 of 1\n",
+    ),
+    plan: Whole(b"flight,fleet\nA1,F1\nA2,F1\nB1,F2\nB2,F2\nC1,F3\nC2,F3\n"),
+    proof: End(b"end\n"),
+    rotation: Whole(
+        b"fleet,round,kind,a,b\nF1,1,tour,1,2\nF1,1,leg,A1,0\nF1,1,leg,A2,1\nF1,1,night,HUB,yes\n\
+            F2,1,nights,0,1\nF3,1,nights,0,1\n",
+    ),
     checked: b"holds: cost 6000000001 bound 6000000001\n",
 };
 
@@ -279,6 +348,13 @@ const ROUND_TRIPS: &[Search] = &[
 #[test]
 fn round_trips(rt: HostRuntime) -> Result<(), Fail> {
     run_searches(&rt, ROUND_TRIPS)
+}
+
+const NIGHTS: &[Search] = &[ALOFT_AT_MIDNIGHT, MAINTAINED_ELSEWHERE, AS_JSON];
+
+#[test]
+fn round_trips_and_nights(rt: HostRuntime) -> Result<(), Fail> {
+    run_searches(&rt, NIGHTS)
 }
 
 const HALVES: &[Search] = &[TWO_AIRCRAFT, TWO_UNSPLIT, EARNING_UNSPLIT];
@@ -296,6 +372,11 @@ fn a_third_fleet(rt: HostRuntime) -> Result<(), Fail> {
 }
 
 #[test]
+fn no_maintenance(rt: HostRuntime) -> Result<(), Fail> {
+    run_searches(&rt, &[NONE_MAINTAINED])
+}
+
+#[test]
 fn a_worth_that_reaches_the_cost(rt: HostRuntime) -> Result<(), Fail> {
     run_searches(&rt, &[PRUNED])
 }
@@ -303,63 +384,4 @@ fn a_worth_that_reaches_the_cost(rt: HostRuntime) -> Result<(), Fail> {
 #[test]
 fn a_made_schedule(rt: HostRuntime) -> Result<(), Fail> {
     run_searches(&rt, &[MADE])
-}
-
-/// Runs each search.
-fn run_searches<R: Abort + Alloc<A = Global>>(rt: &R, searches: &[Search]) -> Result<(), Fail> {
-    for (number, search) in searches.iter().enumerate() {
-        run_search(rt, number, search)?;
-    }
-    Ok(())
-}
-
-/// Solves, compares what was put and what stands, and then checks it.
-fn run_search<R: Abort + Alloc<A = Global>>(
-    rt: &R,
-    number: usize,
-    search: &Search,
-) -> Result<(), Fail> {
-    let alloc = rt.alloc();
-    let mut desk = MemoryDesk::new(alloc, files(alloc, search.laid)?, Vec::new(alloc))?;
-    run_quietly(
-        rt,
-        number,
-        &mut desk,
-        search.words,
-        search.status,
-        search.text,
-    )?;
-    let plan = desk.file("d/plan.csv");
-    assert!(rt;
-        search.plan.is_none() || plan == search.plan,
-        "search {number}"
-    );
-    let proof = desk.file("d/proof.txt");
-    assert!(rt; ends_with(proof, search.proof_end), "search {number}");
-    run_quietly(rt, number, &mut desk, CHECK, DONE, search.checked)
-}
-
-/// Runs words over what stands on a desk, and compares status and output.
-fn run_quietly<R: Abort + Alloc<A = Global>>(
-    rt: &R,
-    number: usize,
-    desk: &mut MemoryDesk,
-    asked: &[&'static str],
-    status: u8,
-    text: &[u8],
-) -> Result<(), Fail> {
-    let alloc = rt.alloc();
-    let mut sink = MemorySink::new(Vec::new(alloc));
-    let words = words(alloc, asked)?;
-    let ended = run(alloc, words.as_slice(), desk, &mut sink);
-    assert_eq!(rt; sink.put_bytes(), text, "search {number}");
-    assert_eq!(rt; ended.code, status, "search {number}");
-    Ok(())
-}
-
-fn ends_with(bytes: Option<&[u8]>, end: &[u8]) -> bool {
-    match bytes {
-        Some(bytes) => bytes.ends_with(end),
-        None => false,
-    }
 }

@@ -1,8 +1,8 @@
 //! What `solve` answers of tables, and the files that it writes.
 use crate::rows::{Failing, Laid, Writing};
 use crate::statuses::{BAD_INPUT, DONE, FAULT, INFEASIBLE, UNSETTLED};
-use crate::tables::{OPEN, OPEN_PROOF};
-use plan_desk::DeskFile::{Costs, Fleets, Legs, Plan, Proof};
+use crate::tables::{NO_ROTATION, OPEN, OPEN_PROOF, OPTIMAL, ROTATION, SOLE_PROOF};
+use plan_desk::DeskFile::{Costs, Fleets, Legs, Plan, Proof, Rotation};
 
 // A plan of an earlier run, which is no plan of these tables.
 const OLD: Laid<'static> = Laid::Bytes(Plan, b"flight,fleet\nX1,F9\n");
@@ -10,12 +10,19 @@ const OLD: Laid<'static> = Laid::Bytes(Plan, b"flight,fleet\nX1,F9\n");
 // Each leg with the first fleet alone.
 const FIRST_FLEET: Laid<'static> = Laid::Bytes(Costs, b"flight,fleet,cost\nX1,F1,100\nX2,F1,100\n");
 
-const OPTIMAL: &[u8] = b"outcome: optimal\ncost: 200\nbound: 200\nsplits: 0\n\
-    open: 0 nodes, 0 pivots, 0 grew\nfleet F1: used 1 of 1\nfleet F2: used 0 of 1\n";
-
 const NEW_PLAN: Laid<'static> = Laid::Bytes(Plan, b"flight,fleet\nX1,F1\nX2,F1\n");
 
-const PLANNED: Laid<'static> = Laid::Bytes(Proof, b"fleet proof 1\nplan yes\nsole\nend\n");
+const PLANNED: Laid<'static> = Laid::Bytes(Proof, SOLE_PROOF);
+
+const ROTATED: Laid<'static> = Laid::Bytes(Rotation, ROTATION);
+
+// Rotations of an earlier run.
+const OLD_ROTATION: Laid<'static> = Laid::Bytes(
+    Rotation,
+    b"fleet,round,kind,a,b\nF9,1,unused,0,0\n",
+);
+
+const UNROTATED: Laid<'static> = Laid::Bytes(Rotation, NO_ROTATION);
 
 const LEFT_OPEN: Laid<'static> = Laid::Bytes(Proof, OPEN_PROOF);
 
@@ -23,7 +30,12 @@ const NONE_LEGAL: &[u8] = b"outcome: infeasible\ncost: none\nbound: none\nsplits
     open: 0 nodes, 0 pivots, 0 grew\n";
 
 // One choice for each leg, which is legal, unbalanced, or one aircraft too many.
-const ONE_CHOICE: Writing = (&[OLD, FIRST_FLEET], DONE, OPTIMAL, &[NEW_PLAN, PLANNED]);
+const ONE_CHOICE: Writing = (
+    &[OLD, OLD_ROTATION, FIRST_FLEET],
+    DONE,
+    OPTIMAL,
+    &[NEW_PLAN, PLANNED, ROTATED],
+);
 
 const CROSSED: Laid<'static> = Laid::Bytes(Costs, b"flight,fleet,cost\nX1,F1,100\nX2,F2,130\n");
 
@@ -36,7 +48,7 @@ pub const SOLVED: &[Writing] = &[
         &[FIRST_FLEET, Laid::Away(Plan)],
         DONE,
         OPTIMAL,
-        &[NEW_PLAN, PLANNED],
+        &[NEW_PLAN, PLANNED, ROTATED],
     ),
     (
         &[
@@ -46,18 +58,29 @@ pub const SOLVED: &[Writing] = &[
         ],
         DONE,
         b"outcome: optimal\ncost: 0\nbound: 0\nsplits: 0\nopen: 0 nodes, 0 pivots, 0 grew\n\
-            fleet F1: used 0 of 1\nfleet F2: used 0 of 1\n",
-        &[Laid::Bytes(Plan, b"flight,fleet\n"), PLANNED],
+            fleet F1: used 0 of 1\nfleet F2: used 0 of 1\nrotation F1: unused\nrotation F2: unused\n",
+        &[
+            Laid::Bytes(Plan, b"flight,fleet\n"),
+            PLANNED,
+            Laid::Bytes(
+                Rotation,
+                b"fleet,round,kind,a,b\nF1,1,unused,0,0\nF2,1,unused,0,0\n",
+            ),
+        ],
     ),
-    // The leg without a fleet that comes first is told, and the old plan stays.
+    // The leg without a fleet that comes first is told, and the old plan stays. The old rotations don't.
     (
         &[
             OLD,
+            OLD_ROTATION,
             Laid::Bytes(Costs, b"flight,fleet,cost\nX1,F1,100\nX1,F2,80\n"),
         ],
         INFEASIBLE,
         NONE_LEGAL,
-        &[Laid::Bytes(Proof, b"fleet proof 1\nplan no\nbare X2\nend\n")],
+        &[
+            Laid::Bytes(Proof, b"fleet proof 1\nplan no\nbare X2\nend\n"),
+            UNROTATED,
+        ],
     ),
     (
         &[
@@ -66,33 +89,45 @@ pub const SOLVED: &[Writing] = &[
         ],
         INFEASIBLE,
         NONE_LEGAL,
-        &[Laid::Bytes(Proof, b"fleet proof 1\nplan no\nbare X1\nend\n")],
+        &[
+            Laid::Bytes(Proof, b"fleet proof 1\nplan no\nbare X1\nend\n"),
+            UNROTATED,
+        ],
     ),
     (
         &[OLD, Laid::Bytes(Costs, b"flight,fleet,cost\n")],
         INFEASIBLE,
         NONE_LEGAL,
-        &[Laid::Bytes(Proof, b"fleet proof 1\nplan no\nbare X1\nend\n")],
+        &[
+            Laid::Bytes(Proof, b"fleet proof 1\nplan no\nbare X1\nend\n"),
+            UNROTATED,
+        ],
     ),
     // The first leg's one fleet is removed, and the leg is bare.
     (
         &[OLD, CROSSED],
         INFEASIBLE,
         NONE_LEGAL,
-        &[Laid::Bytes(
-            Proof,
-            b"fleet proof 1\nplan no\ntrim X1 F1\nrefuted\nscale 1\nat F1 AAA 0 1\nbare X1\nend\n",
-        )],
+        &[
+            Laid::Bytes(
+                Proof,
+                b"fleet proof 1\nplan no\ntrim X1 F1\nrefuted\nscale 1\nat F1 AAA 0 1\nbare X1\nend\n",
+            ),
+            UNROTATED,
+        ],
     ),
     (
         &[OLD, FIRST_FLEET, NO_AIRCRAFT],
         INFEASIBLE,
         NONE_LEGAL,
-        &[Laid::Bytes(
-            Proof,
-            b"fleet proof 1\nplan no\ntrim X1 F1\nrefuted\nscale 1\nrent F1 1\nat F1 AAA 0 1\n\
-                at F1 AAA 481 0\nat F1 BBB 0 1\nat F1 BBB 481 0\nbare X1\nend\n",
-        )],
+        &[
+            Laid::Bytes(
+                Proof,
+                b"fleet proof 1\nplan no\ntrim X1 F1\nrefuted\nscale 1\nrent F1 1\nat F1 AAA 0 1\n\
+                    at F1 AAA 481 0\nat F1 BBB 0 1\nat F1 BBB 481 0\nbare X1\nend\n",
+            ),
+            UNROTATED,
+        ],
     ),
     (
         &[OLD, Laid::Bytes(Costs, b"flight,fleet,cost\nX9,F1,1\n")],
@@ -104,10 +139,10 @@ pub const SOLVED: &[Writing] = &[
 ];
 
 /// Each leg with two fleets: without pivots the bound is the sum of the least costs, and the old plan stays.
-pub const AT_ONCE: &[Writing] = &[(&[OLD], UNSETTLED, OPEN, &[LEFT_OPEN])];
+pub const AT_ONCE: &[Writing] = &[(&[OLD], UNSETTLED, OPEN, &[LEFT_OPEN, UNROTATED])];
 
-/// The plan isn't read: there are five reads, and then the plan and the proof are written. There is no call after the
-/// last write, and no put after the first. What was written before a call that fails stands.
+/// The plan isn't read: there are five reads, and then the plan, the proof and the rotations are written. There is no
+/// call after the last write, and no put after the first. What was written before a call that fails stands.
 pub const CALLS: &[Failing] = &[
     (
         (&[OLD, FIRST_FLEET], FAULT, b"fault: stations.csv\n", &[]),
@@ -152,20 +187,32 @@ pub const CALLS: &[Failing] = &[
         0,
     ),
     (
-        (
-            &[OLD, FIRST_FLEET],
-            FAULT,
-            b"fault: proof.txt\n",
-            &[NEW_PLAN],
-        ),
+        (&[OLD], FAULT, b"fault: proof.txt\n", &[NEW_PLAN]),
         &[7],
         &[],
         1,
         0,
     ),
-    (ONE_CHOICE, &[8, 9], &[2], 0, 0),
     (
-        (&[OLD, FIRST_FLEET], FAULT, b"", &[NEW_PLAN, PLANNED]),
+        (
+            &[OLD, OLD_ROTATION, FIRST_FLEET],
+            FAULT,
+            b"fault: rotation.csv\n",
+            &[NEW_PLAN, PLANNED],
+        ),
+        &[8],
+        &[],
+        1,
+        0,
+    ),
+    (ONE_CHOICE, &[9, 10], &[2], 0, 0),
+    (
+        (
+            &[OLD, FIRST_FLEET],
+            FAULT,
+            b"",
+            &[NEW_PLAN, PLANNED, ROTATED],
+        ),
         &[],
         &[1],
         0,
@@ -180,9 +227,28 @@ pub const CALLS: &[Failing] = &[
     ),
 ];
 
-/// The same without pivots, where the proof alone is written.
+/// The same without pivots, where no plan is written.
 pub const CALLS_AT_ONCE: &[Failing] = &[
     ((&[OLD], FAULT, b"fault: proof.txt\n", &[]), &[6], &[], 1, 0),
-    ((&[OLD], UNSETTLED, OPEN, &[LEFT_OPEN]), &[7, 8], &[2], 0, 0),
-    ((&[OLD], FAULT, b"", &[LEFT_OPEN]), &[], &[1], 0, 1),
+    (
+        (&[OLD], FAULT, b"fault: rotation.csv\n", &[LEFT_OPEN]),
+        &[7],
+        &[],
+        1,
+        0,
+    ),
+    (
+        (&[OLD], UNSETTLED, OPEN, &[LEFT_OPEN, UNROTATED]),
+        &[8, 9],
+        &[2],
+        0,
+        0,
+    ),
+    (
+        (&[OLD], FAULT, b"", &[LEFT_OPEN, UNROTATED]),
+        &[],
+        &[1],
+        0,
+        1,
+    ),
 ];

@@ -22,6 +22,21 @@ pub const PLAN: &[u8] = b"flight,fleet\nX1,F1\nX2,F1\n";
 /// What the first run prints.
 pub const LEGAL: &[u8] = b"legal: cost 200\nfleet F1: used 1 of 1\nfleet F2: used 0 of 1\n";
 
+/// What a solve of the first run prints: the first fleet flies both legs.
+pub const OPTIMAL: &[u8] = b"outcome: optimal\ncost: 200\nbound: 200\nsplits: 0\n\
+    open: 0 nodes, 0 pivots, 0 grew\nfleet F1: used 1 of 1\nfleet F2: used 0 of 1\n\
+    rotation F1: tour of 2 legs in 1 days\nrotation F2: unused\n";
+
+/// The rotations that it writes.
+pub const ROTATION: &[u8] = b"fleet,round,kind,a,b\nF1,1,tour,1,2\nF1,1,leg,X1,0\n\
+    F1,1,leg,X2,1\nF1,1,night,AAA,yes\nF2,1,unused,0,0\n";
+
+/// The rotations that a solve without a plan writes.
+pub const NO_ROTATION: &[u8] = b"fleet,round,kind,a,b\n";
+
+/// The proof of a solve in which each leg has one choice, and these are legal.
+pub const SOLE_PROOF: &[u8] = b"fleet proof 1\nplan yes\nsole\nend\n";
+
 /// What a solve of the first run without pivots prints.
 pub const OPEN: &[u8] = b"outcome: unsettled\ncost: none\nbound: 180\nsplits: 0\n\
     open: 0 nodes, 1 pivots, 0 grew\n";

@@ -1,50 +1,35 @@
 //! Words that ask for nothing, and the forms of words that ask for something.
-use crate::rows::{Laid, Row, row_of, run_row};
+use crate::rows::{Laid, Writing, row_left, run_line, run_row};
 use crate::statuses::{DONE, FAULT, UNSETTLED, USAGE};
-use crate::tables::{LEGAL, OPEN, OPEN_PROOF};
-use plan_desk::DeskFile::Proof;
+use crate::tables::{LEGAL, NO_ROTATION, OPEN, OPEN_PROOF};
+use plan_desk::DeskFile::{Proof, Rotation};
 use std::alloc::Global;
 use std::process::Abort;
 use std::test::Fail;
 
-/// What is wanted of a run on the files of the first run: the status, the text, and the proof that stands then.
-#[derive(Clone, Copy)]
-struct Wanted {
-    status: u8,
-    text: &'static [u8],
-    left: &'static [Laid<'static>],
-}
+const REFUSED_WORDS: Writing = (
+    &[],
+    USAGE,
+    b"usage: fleetplan judge|solve|check|make|tails DIR [options]\n",
+    &[],
+);
 
-const REFUSED_WORDS: Wanted = Wanted {
-    status: USAGE,
-    text: b"usage: fleetplan judge|solve|check|make|tails DIR [options]\n",
-    left: &[],
-};
+const JUDGED: Writing = (&[], DONE, LEGAL, &[]);
 
-const JUDGED: Wanted = Wanted {
-    status: DONE,
-    text: LEGAL,
-    left: &[],
-};
+const SOLVED: Writing = (
+    &[],
+    UNSETTLED,
+    OPEN,
+    &[
+        Laid::Bytes(Proof, OPEN_PROOF),
+        Laid::Bytes(Rotation, NO_ROTATION),
+    ],
+);
 
-const SOLVED: Wanted = Wanted {
-    status: UNSETTLED,
-    text: OPEN,
-    left: &[Laid::Bytes(Proof, OPEN_PROOF)],
-};
+// The plan has a tour of one day.
+const FLOWN: Writing = (&[], DONE, b"2025-02-28 F1/1: X1 X2\nF2: unused\n", &[]);
 
-const NO_SUCH_FOLDER: Wanted = Wanted {
-    status: FAULT,
-    text: b"fault: stations.csv\n",
-    left: &[],
-};
-
-fn wanting<'a>(words: &'a [&'static str], wanted: Wanted) -> Row<'a, 'static> {
-    Row {
-        left: wanted.left,
-        ..row_of(words, &[], wanted.status, wanted.text)
-    }
-}
+const NO_SUCH_FOLDER: Writing = (&[], FAULT, b"fault: stations.csv\n", &[]);
 
 const NO_COMMAND: &[&str] = &[
     "fleetplan judges d --day-start 00:00",
@@ -53,7 +38,7 @@ const NO_COMMAND: &[&str] = &[
     "fleetplan --day-start 00:00 judge d",
     "fleetplan make d",
     "fleetplan make d 1 2",
-    "fleetplan tails d",
+    "fleetplan make d 1 3",
     "fleetplan help",
     "fleetplan help judge",
     "fleetplan --help",
@@ -74,6 +59,7 @@ const NOTHING_TO_JUDGE: &[&str] = &[
     "fleetplan judge d --day-start 00:00 --day-start 00:00",
     "fleetplan judge d --nodes 1",
     "fleetplan judge d --json",
+    "fleetplan judge d --days 3",
     "fleetplan judge d -- --day-start 00:00",
     "fleetplan judge d --help",
     "fleetplan judge d -h",
@@ -90,6 +76,7 @@ const NOTHING_TO_CHECK: &[&str] = &[
     "fleetplan check d --nodes 1",
     "fleetplan check d --pivots 0",
     "fleetplan check d --json",
+    "fleetplan check d --visits 0",
     "fleetplan check d -- --day-start 00:00",
     "fleetplan check --help",
 ];
@@ -112,11 +99,69 @@ const NOTHING_TO_SOLVE: &[&str] = &[
     "fleetplan solve d --pivots 0 --pivots 0",
     "fleetplan solve d --day-start 24:00",
     "fleetplan solve d --day-start",
-    "fleetplan solve d --days 1",
-    "fleetplan solve d --json",
     "fleetplan solve d -- --nodes 5",
     "fleetplan solve --help",
     "fleetplan solve d -h",
+];
+
+const NO_ROTATIONS_TO_SOLVE: &[&str] = &[
+    "fleetplan solve d --days 0",
+    "fleetplan solve d --days 31",
+    "fleetplan solve d --days",
+    "fleetplan solve d --days +3",
+    "fleetplan solve d --days 3 --days 3",
+    "fleetplan solve d --visits 1000001",
+    "fleetplan solve d --visits=",
+    "fleetplan solve d --through-max 1440",
+    "fleetplan solve d --through-max -1",
+    "fleetplan solve d --through-max 01:00",
+    "fleetplan solve d --json --json",
+    "fleetplan solve d --json=true",
+    "fleetplan solve d --json true",
+    "fleetplan solve --json",
+];
+
+const NOTHING_TO_FLY: &[&str] = &[
+    "fleetplan tails",
+    "fleetplan tails d",
+    "fleetplan tails d 2025-02-28",
+    "fleetplan tails 2025-02-28 1",
+    "fleetplan tails d 1 2025-02-28",
+    "fleetplan tails d 2025-02-28 1 more",
+    "fleetplan tails d 2025-02-28 1 --days 31",
+    "fleetplan tails d 2025-02-28 1 --days 0",
+    "fleetplan tails d 2025-02-28 1 --visits 1000001",
+    "fleetplan tails d 2025-02-28 1 --through-max 1440",
+    "fleetplan tails d 2025-02-28 1 --day-start 24:00",
+    "fleetplan tails d 2025-02-28 1 --nodes 1",
+    "fleetplan tails d 2025-02-28 1 --pivots 0",
+    "fleetplan tails d 2025-02-28 1 --json",
+    "fleetplan tails d 2025-02-28 1 --help",
+];
+
+// No number of dates, no day of the calendar, and dates that end after it does.
+const NO_DATES: &[&str] = &[
+    "fleetplan tails d 2025-02-28 0",
+    "fleetplan tails d 2025-02-28 367",
+    "fleetplan tails d 2025-02-28 -1",
+    "fleetplan tails d 2025-02-28 +1",
+    "fleetplan tails d 2025-02-28 1.0",
+    "fleetplan tails d 2025-02-28 000000000000000000001",
+    "fleetplan tails d 2025-02-29 1",
+    "fleetplan tails d 1900-02-29 1",
+    "fleetplan tails d 2025-04-31 1",
+    "fleetplan tails d 2025-01-00 1",
+    "fleetplan tails d 2025-00-01 1",
+    "fleetplan tails d 2025-13-01 1",
+    "fleetplan tails d 0000-12-31 1",
+    "fleetplan tails d 9999-12-31 2",
+    "fleetplan tails d 9999-01-01 366",
+    "fleetplan tails d 10000-01-01 1",
+    "fleetplan tails d 2025-2-28 1",
+    "fleetplan tails d 2025/02/28 1",
+    "fleetplan tails d 20250228 1",
+    "fleetplan tails d +025-02-28 1",
+    "fleetplan tails d today 1",
 ];
 
 // Options stand before the folder or behind it, and may be left out. `--` ends them.
@@ -144,6 +189,17 @@ const WORDS_THAT_SOLVE: &[&str] = &[
     "fleetplan solve d --nodes 1000000 --pivots 0",
     "fleetplan solve d --nodes=0000000000000000005 --pivots 0 --day-start 00:00",
     "fleetplan solve --pivots=00 --day-start=23:59 --nodes 5 -- d",
+    "fleetplan solve d --pivots 0 --days 1 --visits 0 --through-max 0",
+    "fleetplan solve --days=30 --visits=1000000 --through-max=1439 d --pivots 0",
+    "fleetplan solve d --pivots 0 --days 003 --visits 00 --through-max 00060",
+];
+
+// The least and the greatest values of the options change nothing here.
+const WORDS_THAT_FLY: &[&str] = &[
+    "fleetplan tails d 2025-02-28 1",
+    "fleetplan tails --day-start 00:00 -- d 2025-02-28 1",
+    "fleetplan tails d --days=1 2025-02-28 --visits=0 1 --through-max=0",
+    "fleetplan tails d 2025-02-28 00000000000000000001 --days 30 --visits 1000000 --through-max 1439",
 ];
 
 // These name folders in which no file stands.
@@ -156,20 +212,18 @@ const FOLDERS_WITH_A_DASH: &[&str] = &[
     "fleetplan solve -",
     "fleetplan solve --nodes 5 -- -d",
     "fleetplan solve -- --help",
+    "fleetplan tails - 2025-02-28 1",
+    "fleetplan tails -- -d 2025-02-28 1",
 ];
 
-// Runs the words of each line, which are apart by single spaces.
+// Runs the words of each line.
 fn run_lines<R: Abort + Alloc<A = Global>>(
     rt: &R,
     lines: &[&'static str],
-    wanted: Wanted,
+    wanted: Writing,
 ) -> Result<(), Fail> {
     for (number, line) in lines.iter().enumerate() {
-        let mut words = Vec::new(rt.alloc());
-        for word in line.split(' ') {
-            words.push(word)?;
-        }
-        run_row(rt, number, &wanting(words.as_slice(), wanted))?;
+        run_line(rt, number, *line, wanted)?;
     }
     Ok(())
 }
@@ -183,9 +237,17 @@ fn lines_that_ask_for_nothing(rt: HostRuntime) -> Result<(), Fail> {
 }
 
 #[test]
+fn lines_without_rotations(rt: HostRuntime) -> Result<(), Fail> {
+    run_lines(&rt, NO_ROTATIONS_TO_SOLVE, REFUSED_WORDS)?;
+    run_lines(&rt, NOTHING_TO_FLY, REFUSED_WORDS)?;
+    run_lines(&rt, NO_DATES, REFUSED_WORDS)
+}
+
+#[test]
 fn lines_that_ask_for_something(rt: HostRuntime) -> Result<(), Fail> {
     run_lines(&rt, WORDS_THAT_JUDGE, JUDGED)?;
     run_lines(&rt, WORDS_THAT_SOLVE, SOLVED)?;
+    run_lines(&rt, WORDS_THAT_FLY, FLOWN)?;
     run_lines(&rt, FOLDERS_WITH_A_DASH, NO_SUCH_FOLDER)
 }
 
@@ -212,7 +274,7 @@ const WORDS: &[&[&str]] = &[
 #[test]
 fn words_that_ask_for_nothing(rt: HostRuntime) -> Result<(), Fail> {
     for (number, words) in WORDS.iter().enumerate() {
-        run_row(&rt, number, &wanting(words, REFUSED_WORDS))?;
+        run_row(&rt, number, &row_left(words, REFUSED_WORDS))?;
     }
     Ok(())
 }

@@ -1,5 +1,6 @@
-use Rattle.command_words.proofs.AfterDashes.{checks_by_default, checks_from, judges_by_default, judges_from, solves_by_default, solves_within}
+use Rattle.command_words.proofs.AfterDashes.{checks_by_default, checks_from, judges_by_default, judges_from, solves_by_default, solves_within, tails_by_default, tails_within}
 use Rattle.command_words.proofs.PlainFolder.{checks_plainly, judges_plainly, solves_plainly}
+use Rattle.command_words.proofs.PlainTails.{tails_plainly}
 use Rattle.command_words.proofs.laws.plain_reading.Goals as goal
 
 -- src/laws.rt:14:1
@@ -8,10 +9,13 @@ returns c = record {
   judges_plainly = judges_plainly;
   solves_plainly = solves_plainly;
   checks_plainly = checks_plainly;
+  tails_plainly = tails_plainly;
   judges_by_default = judges_by_default;
   judges_from = judges_from;
   solves_by_default = solves_by_default;
   solves_within = solves_within;
   checks_by_default = checks_by_default;
   checks_from = checks_from;
+  tails_by_default = tails_by_default;
+  tails_within = tails_within;
 }

@@ -1,0 +1,76 @@
+-- Dates of the calendar, by their year, month and day.
+use Rattle.std.proofs.Common.{◌≡◌, ◌≤◌, ◌<◌, ◌∙◌, ◌-◌, ◌↔◌, ℕ, ℤ, pos, ◌+ℤ◌, true, refl, sym, subst, arith, inl, inr}
+use Rattle.std.specs.Prelude.{Bool, Some, None, nat_le, int_le}
+use Rattle.std.proofs.lemmas.Bool.{and_parts, cases_Bool}
+use Rattle.std.proofs.lemmas.Bool.Decides.{nat_tests}
+use Rattle.jiff_core.specs.declared.civil.date.Date.{Date}
+use Rattle.jiff_core.specs.Calendar.{IsDate, IsEpochDay, days_from_civil, days_in_month}
+use Rattle.jiff_core.specs.Date.{epoch_day}
+use Rattle.jiff_core.proofs.DateLemmas.{days_from_civil-max, epoch_day_range}
+use Rattle.jiff_core.proofs.SignedLemmas.{signed_arith}
+use Rattle.jiff_fmt.specs.Temporal.{date_parts}
+use Rattle.command_words.specs.Days.{civil_of, ends_in_calendar, is_civil}
+
+-- a date that the calendar has passes the test
+passes : (year month day : ℕ) → 1 ≤ year → 1 ≤ month → month ≤ 12 → 1 ≤ day → day ≤ days_in_month (pos year) month → is_civil year month day ≡ true
+passes year month day some first last early late =
+    let long : nat_le day (days_in_month (pos year) month) ≡ true = grind (arith, nat_tests) in
+    grind (arith, nat_tests)
+
+-- a date of the library, by numbers that are its year, month and day
+pub is_read : (year month day : ℕ) (date : Date) → 1 ≤ year → date.year ≡ pos year → date.month ≡ month → date.day ≡ day
+    → Some (date_parts date) ≡ civil_of year month day
+unfolding civil_of
+is_read year month day date some same_year same_month same_day =
+    let lo : 1 ≤ month = subst (λ m. 1 ≤ m) same_month date.month_in.0 in
+    let hi : month ≤ 12 = subst (λ m. m ≤ 12) same_month date.month_in.1 in
+    let early : 1 ≤ day = subst (λ d. 1 ≤ d) same_day date.day_in.0 in
+    let late_there : day ≤ days_in_month date.year date.month = subst (λ d. d ≤ days_in_month date.year date.month) same_day date.day_in.1 in
+    let late_then : day ≤ days_in_month (pos year) date.month = subst (λ y. day ≤ days_in_month y date.month) same_year late_there in
+    let late : day ≤ days_in_month (pos year) month = subst (λ m. day ≤ days_in_month (pos year) m) same_month late_then in
+    rw (same_year, same_month, same_day, passes year month day some lo hi early late) refl
+
+-- numbers that are no date of the library
+pub is_unread : (year month day : ℕ) → year < 10000 → ¬ (IsDate (pos year) (pos month) (pos day)) → None ≡ civil_of year month day
+unfolding civil_of
+is_unread year month day small none = elim (cases_Bool (is_civil year month day)) [
+  | inl civil ↦
+      let late = and_parts _ (nat_le day (days_in_month (pos year) month)) civil in
+      let early = and_parts _ (nat_le 1 day) late.0 in
+      let most = and_parts _ (nat_le month 12) early.0 in
+      let least = and_parts (nat_le 1 year) (nat_le 1 month) most.0 in
+      let e₁ : nat_le day (days_in_month (pos year) month) ≡ true = late.1 in
+      let e₂ : nat_le 1 day ≡ true = early.1 in
+      let e₃ : nat_le month 12 ≡ true = most.1 in
+      let e₄ : nat_le 1 month ≡ true = least.1 in
+      let fits : day ≤ days_in_month (pos year) month = grind (arith, nat_tests) in
+      let some_day : 1 ≤ day = grind (arith, nat_tests) in
+      let few_months : month ≤ 12 = grind (arith, nat_tests) in
+      let some_month : 1 ≤ month = grind (arith, nat_tests) in
+      absurd (none ((omega (arith, signed_arith), omega (arith, signed_arith)), (omega (arith, signed_arith), omega (arith, signed_arith)), (omega (arith, signed_arith), omega (arith, signed_arith))))
+  | inr other ↦ rw other refl
+]
+
+-- there is no year 0
+pub no_year_zero : (month day : ℕ) → None ≡ civil_of 0 month day
+unfolding civil_of
+no_year_zero month day = refl
+
+-- so many dates from one on end in the calendar where the library has the last of them
+pub ends_where : (first : Date) (count : ℕ) (test : Bool) → (test ≡ true) ↔ IsEpochDay (epoch_day first +ℤ pos (count - 1))
+    → test ≡ ends_in_calendar (date_parts first) count
+unfolding ends_in_calendar
+ends_where first count test told = elim (cases_Bool (int_le (epoch_day first +ℤ pos (count - 1)) (days_from_civil (pos 9999) 12 31))) [
+  | inl within ↦
+      let has : IsEpochDay (epoch_day first +ℤ pos (count - 1)) = (omega (arith, signed_arith, epoch_day_range first), omega (arith, signed_arith, days_from_civil-max)) in
+      told.1 has ∙ sym within
+  | inr past ↦ elim (cases_Bool test) [
+    | inl is ↦ (let has = told.0 is in absurd (omega (arith, signed_arith, has.1, days_from_civil-max)))
+    | inr isnt ↦ isnt ∙ sym past
+  ]
+]
+
+-- equal numbers are of one date
+pub is_date_by : (y m d y₂ m₂ d₂ : ℤ) → y ≡ y₂ → m ≡ m₂ → d ≡ d₂ → IsDate y m d → IsDate y₂ m₂ d₂
+is_date_by y m d y₂ m₂ d₂ year month day date =
+    subst (λ x. IsDate y₂ m₂ x) day (subst (λ x. IsDate y₂ x d) month (subst (λ x. IsDate x m d) year date))

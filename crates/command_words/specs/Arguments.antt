@@ -1,0 +1,146 @@
+-- The values of a command's arguments, by what clap found for them.
+use Rattle.std.specs.Prelude.{◌≤◌, ◌-◌, ℕ, Bool, false, if◌then◌else◌, List, codes, bytes_eq, Option, Some, None, option_and_then, pos, ◌+ℤ◌, ◌≤ℤ◌}
+use Rattle.std.specs.Option.{option_map_or}
+use Rattle.clap.specs.Words.{Row, Text, first_of, found_of, rows_of}
+use Rattle.clap.specs.declared.parser.matches.ArgMatches.{ArgMatches}
+use Rattle.jiff_core.specs.Calendar.{IsEpochDay}
+use Rattle.jiff_core.specs.Date.{epoch_day}
+use Rattle.jiff_fmt.specs.Temporal.{DateParts}
+use Rattle.fleet_model.specs.declared.parts.Settings.{Settings}
+use Rattle.command_words.specs.Days.{date_read, ends_in_calendar}
+use Rattle.command_words.specs.Values.{minute_read, number_read, value_or}
+use Rattle.command_words.specs.declared.command.Dates.{Dates}
+use Rattle.command_words.specs.declared.command.RotationLimits.{RotationLimits}
+use Rattle.command_words.specs.declared.command.SearchLimits.{SearchLimits}
+use Rattle.command_words.specs.declared.command.SolveOptions.{SolveOptions}
+use Rattle.command_words.specs.declared.command.TheConstants.{DEFAULT_DAY_START, DEFAULT_DAYS, DEFAULT_NODES, DEFAULT_PIVOTS, DEFAULT_THROUGH_MAX, DEFAULT_VISITS, MAX_DATES, MAX_DAYS, MAX_NODES, MAX_PIVOTS, MAX_THROUGH_MAX, MAX_VISITS, MIN_DATES, MIN_DAYS}
+
+-- what was found for the arguments
+abbrev pub rows_in : ArgMatches → List Row
+rows_in matches = rows_of (found_of matches)
+
+-- the folder
+abbrev pub dir_in : List Row → Option Text
+dir_in found = first_of (codes "dir") found
+
+-- a flag is given: clap's value of it is then `true`
+abbrev pub is_given : Text → List Row → Bool
+is_given name found = option_map_or (λ text. bytes_eq text (codes "true")) (first_of name found) false
+
+-- ---- settings
+
+-- the day start, where it reads
+abbrev pub day_start_in : List Row → Option ℕ
+day_start_in found = value_or DEFAULT_DAY_START minute_read (first_of (codes "day-start") found)
+
+-- the longest wait of a through pair, where it reads
+abbrev pub through_max_in : List Row → Option ℕ
+through_max_in found = value_or DEFAULT_THROUGH_MAX (number_read 0 MAX_THROUGH_MAX) (first_of (codes "through-max") found)
+
+-- the settings of a day start and a longest wait, where both are there
+abbrev pub settings_at : Option ℕ → Option ℕ → Option Settings
+settings_at (Some minute) (Some wait) = Some (record { day_start = minute; through_max = wait })
+settings_at (Some minute) None = None
+settings_at None wait = None
+
+-- the settings of a command that has no option for the longest wait
+abbrev pub day_settings_in : List Row → Option Settings
+day_settings_in found = settings_at (day_start_in found) (Some DEFAULT_THROUGH_MAX)
+
+-- the settings of a command that has one, where both values read
+abbrev pub settings_in : List Row → Option Settings
+settings_in found = settings_at (day_start_in found) (through_max_in found)
+
+-- ---- limits
+
+-- the most splits, where they read
+abbrev pub nodes_in : List Row → Option ℕ
+nodes_in found = value_or DEFAULT_NODES (number_read 0 MAX_NODES) (first_of (codes "nodes") found)
+
+-- the most pivots, where they read
+abbrev pub pivots_in : List Row → Option ℕ
+pivots_in found = value_or DEFAULT_PIVOTS (number_read 0 MAX_PIVOTS) (first_of (codes "pivots") found)
+
+-- the limits of a search, where both are there
+abbrev pub search_at : Option ℕ → Option ℕ → Option SearchLimits
+search_at (Some n) (Some p) = Some (record { nodes = n; pivots = p })
+search_at (Some n) None = None
+search_at None p = None
+
+-- the limits of a search, where both read
+abbrev pub search_in : List Row → Option SearchLimits
+search_in found = search_at (nodes_in found) (pivots_in found)
+
+-- the most days between maintenance, where they read
+abbrev pub days_in : List Row → Option ℕ
+days_in found = value_or DEFAULT_DAYS (number_read MIN_DAYS MAX_DAYS) (first_of (codes "days") found)
+
+-- the most prefixes that are visited, where they read
+abbrev pub visits_in : List Row → Option ℕ
+visits_in found = value_or DEFAULT_VISITS (number_read 0 MAX_VISITS) (first_of (codes "visits") found)
+
+-- the limits of rotations, where both are there
+abbrev pub rotations_at : Option ℕ → Option ℕ → Option RotationLimits
+rotations_at (Some d) (Some v) = Some (record { days = d; visits = v })
+rotations_at (Some d) None = None
+rotations_at None v = None
+
+-- the limits of rotations, where both read
+abbrev pub rotations_in : List Row → Option RotationLimits
+rotations_in found = rotations_at (days_in found) (visits_in found)
+
+-- what is asked of a search for a plan, where its limits and those of rotations are there
+abbrev pub options_at : Option SearchLimits → Option RotationLimits → Bool → Option SolveOptions
+options_at (Some s) (Some r) printed = Some (record { search = s; rotations = r; json = printed })
+options_at (Some s) None printed = None
+options_at None r printed = None
+
+-- what is asked of a search for a plan, where all values read
+abbrev pub options_in : List Row → Option SolveOptions
+options_in found = options_at (search_in found) (rotations_in found) (is_given (codes "json") found)
+
+-- ---- dates
+
+-- so many dates, from the first on
+pub record AskedDates : Type 0 where
+  pub first : DateParts
+  pub count : ℕ
+
+-- the number of dates that a text writes
+abbrev pub count_read : Text → Option ℕ
+count_read text = number_read MIN_DATES MAX_DATES text
+
+-- so many dates from a first one on, where both are there and the calendar has all of them
+abbrev pub dates_at : Option DateParts → Option ℕ → Option AskedDates
+dates_at (Some date) (Some n) = if ends_in_calendar date n then Some (record { first = date; count = n }) else None
+dates_at (Some date) None = None
+dates_at None n = None
+
+-- the dates, where both words read
+abbrev pub dates_in : List Row → Option AskedDates
+dates_in found =
+    dates_at (option_and_then date_read (first_of (codes "date") found)) (option_and_then count_read (first_of (codes "count") found))
+
+-- ---- what holds of values that read
+
+-- a search of so many splits and pivots may be asked for
+pub record AreLimits (limits : SearchLimits) : Type 0 where
+  pub few_nodes : limits.nodes ≤ MAX_NODES
+  pub few_pivots : limits.pivots ≤ MAX_PIVOTS
+
+-- rotations of so many days may be asked for, by so many visits
+pub record AreRotationLimits (limits : RotationLimits) : Type 0 where
+  pub some_days : MIN_DAYS ≤ limits.days
+  pub few_days : limits.days ≤ MAX_DAYS
+  pub few_visits : limits.visits ≤ MAX_VISITS
+
+pub record AreOptions (options : SolveOptions) : Type 0 where
+  pub search : AreLimits options.search
+  pub rotations : AreRotationLimits options.rotations
+
+-- dates that may be asked for: from the year 1 on, and the calendar, which ends on 9999-12-31, has the last of them
+pub record AreDates (dates : Dates) : Type 0 where
+  pub year : pos 1 ≤ℤ dates.first.year
+  pub some : MIN_DATES ≤ dates.count
+  pub few : dates.count ≤ MAX_DATES
+  pub last : IsEpochDay (epoch_day dates.first +ℤ pos (dates.count - 1))

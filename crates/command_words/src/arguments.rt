@@ -1,0 +1,184 @@
+//! The values of a command's arguments, by what clap found for them.
+ghost use Rattle.std.specs.Prelude.{◌≡◌, ◌≤◌, ◌<◌, IfSome, option_map};
+ghost use Rattle.clap.specs.Words.{first_of};
+ghost use Rattle.command_words.specs.Arguments.{AreDates, AreLimits, AreOptions, AreRotationLimits, dates_in, day_settings_in, day_start_in, is_given, options_in, rotations_in, rows_in, search_in, settings_in, through_max_in};
+ghost use Rattle.command_words.specs.Values.{number_read, value_or};
+ghost use Rattle.command_words.specs.Words.{dates_by};
+ghost use Rattle.fleet_model.specs.Limits.{AreSettings};
+ghost use Rattle.fleet_model.specs.declared.limits.TheConstants.{MINUTES_PER_DAY};
+
+use crate::command::{
+    DEFAULT_DAY_START, DEFAULT_DAYS, DEFAULT_NODES, DEFAULT_PIVOTS, DEFAULT_THROUGH_MAX,
+    DEFAULT_VISITS, Dates, MAX_DATES, MAX_DAYS, MAX_NODES, MAX_PIVOTS, MAX_THROUGH_MAX, MAX_VISITS,
+    MIN_DATES, MIN_DAYS, RotationLimits, SearchLimits, SolveOptions,
+};
+use crate::days::{civil_date, ends_in_calendar};
+use crate::values::{minute_of_day, number_between};
+use clap::ArgMatches;
+use fleet_model::Settings;
+
+/// The settings of a command that has no option for the longest wait.
+pub(crate) fn day_settings_of(found: &ArgMatches<'_>) -> Option<Settings>
+    ensures read { result ≡ day_settings_in (rows_in found.now) }
+    ensures fit { IfSome result AreSettings }
+{
+    let day_start = day_start_of(found)?;
+    Some(Settings {
+        day_start,
+        through_max: DEFAULT_THROUGH_MAX,
+    })
+}
+
+/// The settings of a command that has one.
+pub(crate) fn settings_of(found: &ArgMatches<'_>) -> Option<Settings>
+    ensures read { result ≡ settings_in (rows_in found.now) }
+    ensures fit { IfSome result AreSettings }
+{
+    let day_start = day_start_of(found)?;
+    let through_max = through_max_of(found)?;
+    Some(Settings {
+        day_start,
+        through_max,
+    })
+}
+
+/// The day start that an option gives, or its default.
+fn day_start_of(found: &ArgMatches<'_>) -> Option<u16>
+    ensures read { result ≡ day_start_in (rows_in found.now) }
+    ensures fits { IfSome result (λ minute. minute < MINUTES_PER_DAY) }
+{
+    match value_of(found, "day-start") {
+        Some(text) => minute_of_day(text),
+        None => Some(DEFAULT_DAY_START),
+    }
+}
+
+/// The longest wait of a through pair that an option gives, or its default.
+fn through_max_of(found: &ArgMatches<'_>) -> Option<u16>
+    ensures read { result ≡ through_max_in (rows_in found.now) }
+    ensures fits { IfSome result (λ wait. wait < MINUTES_PER_DAY) }
+{
+    let default = u64::from(DEFAULT_THROUGH_MAX);
+    let wait = number_of(found, "through-max", default, 0, u64::from(MAX_THROUGH_MAX))?;
+    Some(wait as u16)
+}
+
+/// How a plan is searched for, as the options say.
+pub(crate) fn options_of(found: &ArgMatches<'_>) -> Option<SolveOptions>
+    ensures read { result ≡ options_in (rows_in found.now) }
+    ensures fit { IfSome result AreOptions }
+{
+    let search = search_of(found)?;
+    let rotations = rotations_of(found)?;
+    let json = is_given(found, "json");
+    Some(SolveOptions {
+        search,
+        rotations,
+        json,
+    })
+}
+
+/// The limits of a search that the options give.
+fn search_of(found: &ArgMatches<'_>) -> Option<SearchLimits>
+    ensures read { result ≡ search_in (rows_in found.now) }
+    ensures fit { IfSome result AreLimits }
+{
+    let nodes = number_of(found, "nodes", DEFAULT_NODES, 0, MAX_NODES)?;
+    let pivots = number_of(found, "pivots", DEFAULT_PIVOTS, 0, MAX_PIVOTS)?;
+    Some(SearchLimits { nodes, pivots })
+}
+
+/// The limits of rotations that the options give.
+pub(crate) fn rotations_of(found: &ArgMatches<'_>) -> Option<RotationLimits>
+    ensures read { result ≡ rotations_in (rows_in found.now) }
+    ensures fit { IfSome result AreRotationLimits }
+{
+    let days = small_number_of(found, "days", DEFAULT_DAYS, MIN_DAYS, MAX_DAYS)?;
+    let visits = small_number_of(found, "visits", DEFAULT_VISITS, 0, MAX_VISITS)?;
+    Some(RotationLimits { days, visits })
+}
+
+/// The dates that the words give.
+pub(crate) fn dates_of(found: &ArgMatches<'_>) -> Option<Dates>
+    ensures read { option_map dates_by result ≡ dates_in (rows_in found.now) }
+    ensures fit { IfSome result AreDates }
+{
+    let first = civil_date(value_of(found, "date")?)?;
+    let count = count_of(value_of(found, "count")?)?;
+    if !ends_in_calendar(first, count) {
+        return None;
+    }
+    Some(Dates { first, count })
+}
+
+/// The number of dates that a text writes.
+fn count_of(text: &str) -> Option<u32>
+    ensures read { result ≡ number_read MIN_DATES MAX_DATES text.now }
+    ensures some { IfSome result (λ count. MIN_DATES ≤ count) }
+    ensures few { IfSome result (λ count. count ≤ MAX_DATES) }
+{
+    let count = number_between(text, u64::from(MIN_DATES), u64::from(MAX_DATES))?;
+    Some(count as u32)
+}
+
+/// The number of 32 bits that an option gives, or its default.
+fn small_number_of(
+    found: &ArgMatches<'_>,
+    option: &str,
+    default: u32,
+    least: u32,
+    greatest: u32,
+) -> Option<u32>
+    requires default_least { least ≤ default }
+    requires default_greatest { default ≤ greatest }
+    ensures read { result ≡ value_or default (number_read least greatest) (first_of option.now (rows_in found.now)) }
+    ensures least { IfSome result (λ number. least ≤ number) }
+    ensures greatest { IfSome result (λ number. number ≤ greatest) }
+{
+    let default = u64::from(default);
+    let number = number_of(
+        found,
+        option,
+        default,
+        u64::from(least),
+        u64::from(greatest),
+    )?;
+    Some(number as u32)
+}
+
+/// The number that an option gives, or its default.
+fn number_of(
+    found: &ArgMatches<'_>,
+    option: &str,
+    default: u64,
+    least: u64,
+    greatest: u64,
+) -> Option<u64>
+    requires default_least { least ≤ default }
+    requires default_greatest { default ≤ greatest }
+    ensures read { result ≡ value_or default (number_read least greatest) (first_of option.now (rows_in found.now)) }
+    ensures least { IfSome result (λ number. least ≤ number) }
+    ensures greatest { IfSome result (λ number. number ≤ greatest) }
+{
+    match value_of(found, option) {
+        Some(text) => number_between(text, least, greatest),
+        None => Some(default),
+    }
+}
+
+/// Whether a flag is given.
+fn is_given(found: &ArgMatches<'_>, flag: &str) -> bool
+    ensures { result ≡ is_given flag.now (rows_in found.now) }
+{
+    match value_of(found, flag) {
+        Some(text) => text == "true",
+        None => false,
+    }
+}
+
+/// The value of an argument, where it was given one.
+pub(crate) fn value_of<'a>(found: &ArgMatches<'a>, argument: &str) -> Option<&'a str>
+    ensures { option_map (λ text. text.now) result ≡ first_of argument.now (rows_in found.now) }
+{
+    found.get_str(argument)
+}

@@ -1,0 +1,79 @@
+//! Dates, YYYY-MM-DD.
+ghost use Rattle.std.specs.Prelude.{◌≡◌, ◌≤◌, ◌<◌, ◌+◌, ◌-◌, ◌*◌, ◌&&◌, ◌↔◌, ◌+ℤ◌, ◌≤ℤ◌, IfSome, Some, None, if◌then◌else◌, option_map, pos, true};
+ghost use Rattle.std.specs.Char.{is_ascii_digit};
+ghost use Rattle.jiff_core.specs.Calendar.{IsEpochDay};
+ghost use Rattle.jiff_core.specs.Date.{epoch_day};
+ghost use Rattle.jiff_fmt.specs.Temporal.{date_parts};
+ghost use Rattle.command_words.specs.Days.{civil_of, date_read, ends_in_calendar};
+
+use jiff::ToSpan;
+use jiff::civil::Date;
+
+/// The date that a text writes as YYYY-MM-DD, of the years 1 to 9999.
+#[tactic(auto, unfolding(crate::specs::Days::date_read))]
+pub(crate) fn civil_date(text: &str) -> Option<Date>
+    ensures read { option_map date_parts result ≡ date_read text.now }
+    ensures year { IfSome result (λ date. pos 1 ≤ℤ date.year) }
+{
+    match text.as_bytes() {
+        [
+            hundreds_tens,
+            hundreds_ones,
+            year_tens,
+            year_ones,
+            b'-',
+            month_tens,
+            month_ones,
+            b'-',
+            day_tens,
+            day_ones,
+        ] => {
+            let hundreds = two_digits(*hundreds_tens, *hundreds_ones)?;
+            let years = two_digits(*year_tens, *year_ones)?;
+            let month = two_digits(*month_tens, *month_ones)?;
+            let day = two_digits(*day_tens, *day_ones)?;
+            civil_day(100 * u16::from(hundreds) + u16::from(years), month, day)
+        }
+        _ => None,
+    }
+}
+
+/// The date with this year, month and day, where the calendar has it.
+fn civil_day(year: u16, month: u8, day: u8) -> Option<Date>
+    requires year { year < 10000 }
+    requires month { month < 100 }
+    requires day { day < 100 }
+    ensures read { option_map date_parts result ≡ civil_of year month day }
+    ensures year { IfSome result (λ date. pos 1 ≤ℤ date.year) }
+{
+    if year == 0 {
+        return None;
+    }
+    match Date::new(year as i16, month as i8, day as i8) {
+        Ok(date) => Some(date),
+        Err(_) => None,
+    }
+}
+
+/// The number that two digits write.
+fn two_digits(tens: u8, ones: u8) -> Option<u8>
+    ensures value { result ≡ (if is_ascii_digit tens && is_ascii_digit ones then Some (10 * (tens - 48) + (ones - 48)) else None) }
+    ensures fits { IfSome result (λ number. number < 100) }
+{
+    if tens.is_ascii_digit() && ones.is_ascii_digit() {
+        Some(10 * (tens - b'0') + (ones - b'0'))
+    } else {
+        None
+    }
+}
+
+/// Whether so many dates, from the first on, end on 9999-12-31 at the latest.
+pub(crate) fn ends_in_calendar(first: Date, count: u32) -> bool
+    requires year { pos 1 ≤ℤ first.year }
+    requires some { 1 ≤ count }
+    requires few { count ≤ 366 }
+    ensures told { result ≡ ends_in_calendar (date_parts first) count }
+    ensures last { (result ≡ true) → IsEpochDay (epoch_day first +ℤ pos (count - 1)) }
+{
+    first.checked_add(i64::from(count - 1).days()).is_ok()
+}

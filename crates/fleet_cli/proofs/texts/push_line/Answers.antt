@@ -1,6 +1,0 @@
-use Rattle.fleet_cli.proofs.Pieces.{piece_more}
-use Rattle.fleet_cli.proofs.texts.push_line.Goals as goal
-
-pub loop-piece-preserved : goal.loop-piece-preserved
-loop-piece-preserved c =
-    piece_more c.args.pieces.now c.loop-piece.piece-index _ c.args.text.now.items c.loop-piece.text.items _ c.loop-piece-test.true c.loop-piece.invariant c.in_ok-extend_from_slice.ensures.items

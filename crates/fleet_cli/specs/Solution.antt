@@ -1,0 +1,65 @@
+-- What is printed and written of a solution and the rotations of its plan.
+use Rattle.std.specs.Prelude.{◌≡◌, ℕ, List, [], ◌∷◌, Bool, true, false, if◌then◌else◌}
+use Rattle.bound_cert.specs.Leaves.{has_open}
+use Rattle.bound_cert.specs.ProofText.{proof_text}
+use Rattle.bound_cert.specs.declared.trees.Tree.{Tree}
+use Rattle.branch_bound.specs.declared.solved.Solved.{Solved}
+use Rattle.branch_bound.specs.declared.solved.Solved.TheVariants as solved
+use Rattle.command_words.specs.declared.command.RotationLimits.{RotationLimits}
+use Rattle.command_words.specs.declared.command.SolveOptions.{SolveOptions}
+use Rattle.fleet_model.specs.declared.tables.Tables.{Tables}
+use Rattle.plan_desk.specs.declared.file.DeskFile.TheVariants as desk_file
+use Rattle.plan_report.specs.Json.{json_text}
+use Rattle.plan_report.specs.RotationRecords.{rotation_text}
+use Rattle.plan_report.specs.Summary.{summary_text}
+use Rattle.plan_report.specs.declared.fleet_rotations.FleetRotation.{FleetRotation}
+use Rattle.plan_rotations.specs.Rotations.{ArePlanRotations}
+use Rattle.plan_text.specs.Text.{plan_text}
+use Rattle.fleet_cli.specs.declared.answer.Answer.{Answer}
+use Rattle.fleet_cli.specs.declared.answer.FileText.{FileText}
+use Rattle.fleet_cli.specs.declared.status.TheConstants.{DONE, GAP, INFEASIBLE, UNSETTLED}
+
+-- the exit status that says how the search ended
+abbrev pub solved_status : Solved → ℕ
+solved_status (solved.Planned plan cost bound tree) = if has_open tree then GAP else DONE
+solved_status (solved.Infeasible tree) = INFEASIBLE
+solved_status (solved.Unsettled bound tree) = UNSETTLED
+
+-- the rotations of a solution: those of its plan, and none where it has none
+abbrev pub AreRotationsOf : Tables → RotationLimits → Solved → List FleetRotation → Type 0
+AreRotationsOf t limits (solved.Planned plan cost bound tree) rotations = ArePlanRotations t plan limits.days limits.visits rotations
+AreRotationsOf t limits (solved.Infeasible tree) rotations = rotations ≡ []
+AreRotationsOf t limits (solved.Unsettled bound tree) rotations = rotations ≡ []
+
+-- what is printed: the summary in lines, or as JSON
+abbrev pub printed_text : Tables → Bool → Solved → List FleetRotation → List ℕ
+printed_text t false s rotations = summary_text t s rotations
+printed_text t true s rotations = json_text t s rotations
+
+-- ---- files
+
+-- the file of a plan
+abbrev pub plan_file : Tables → List ℕ → FileText
+plan_file t plan = record { file = desk_file.Plan; bytes = plan_text t plan }
+
+-- the file of the proof, which says whether a plan comes with it
+abbrev pub proof_file : Tables → Bool → Tree → FileText
+proof_file t planned tree = record { file = desk_file.Proof; bytes = proof_text t planned tree }
+
+-- the file of rotations, found in so many visits of the search at most
+abbrev pub rotation_file : Tables → List FleetRotation → ℕ → FileText
+rotation_file t rotations visits = record { file = desk_file.Rotation; bytes = rotation_text t rotations visits }
+
+-- the files that are written of a solution, in their order
+unfoldable pub solved_files : Tables → Solved → List FleetRotation → ℕ → List FileText
+solved_files t (solved.Planned plan cost bound tree) rotations visits = plan_file t plan ∷ proof_file t true tree ∷ rotation_file t rotations visits ∷ []
+solved_files t (solved.Infeasible tree) rotations visits = proof_file t false tree ∷ rotation_file t rotations visits ∷ []
+solved_files t (solved.Unsettled bound tree) rotations visits = proof_file t false tree ∷ rotation_file t rotations visits ∷ []
+
+-- what a run answers of a solution and its rotations
+abbrev pub solved_answer : Tables → SolveOptions → Solved → List FleetRotation → Answer
+solved_answer t options s rotations = record {
+  status = record { code = solved_status s };
+  text = printed_text t options.json s rotations;
+  files = solved_files t s rotations options.rotations.visits;
+}

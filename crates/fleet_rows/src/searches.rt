@@ -1,0 +1,113 @@
+//! Solves, each followed by a check of the files that it leaves.
+use crate::rows::{CHECK, Laid, files, words};
+use crate::statuses::DONE;
+use fleet_cli::run;
+use plan_desk::{MemoryDesk, MemorySink};
+use std::alloc::Global;
+use std::process::Abort;
+use std::test::Fail;
+
+/// What is known beforehand of a text.
+#[derive(Clone, Copy)]
+pub enum Known {
+    /// All of it.
+    Whole(&'static [u8]),
+    /// What it begins with.
+    Begin(&'static [u8]),
+    /// What it ends with.
+    End(&'static [u8]),
+}
+
+/// A solve and then a check of what it leaves, and what is wanted of both.
+#[derive(Clone, Copy)]
+pub struct Search {
+    /// What is laid over the files of the first run.
+    pub laid: &'static [Laid<'static>],
+    /// The words of the solve.
+    pub words: &'static [&'static str],
+    pub status: u8,
+    /// What the solve prints.
+    pub text: Known,
+    /// The plan, the proof and the rotations that stand then.
+    pub plan: Known,
+    pub proof: Known,
+    pub rotation: Known,
+    /// What the check prints.
+    pub checked: &'static [u8],
+}
+
+/// Runs each search.
+pub fn run_searches<R: Abort + Alloc<A = Global>>(rt: &R, searches: &[Search]) -> Result<(), Fail> {
+    for (number, search) in searches.iter().enumerate() {
+        run_search(rt, number, search)?;
+    }
+    Ok(())
+}
+
+/// Solves, compares what was put and what stands, and then checks it.
+fn run_search<R: Abort + Alloc<A = Global>>(
+    rt: &R,
+    number: usize,
+    search: &Search,
+) -> Result<(), Fail> {
+    let alloc = rt.alloc();
+    let mut desk = MemoryDesk::new(alloc, files(alloc, search.laid)?, Vec::new(alloc))?;
+    run_quietly(
+        rt,
+        number,
+        &mut desk,
+        search.words,
+        search.status,
+        search.text,
+    )?;
+    let plan = desk.file("d/plan.csv");
+    assert!(rt; stands(plan, search.plan), "search {number}: plan.csv");
+    let proof = desk.file("d/proof.txt");
+    assert!(rt; stands(proof, search.proof), "search {number}: proof.txt");
+    let rotation = desk.file("d/rotation.csv");
+    assert!(rt;
+        stands(rotation, search.rotation),
+        "search {number}: rotation.csv"
+    );
+    run_quietly(
+        rt,
+        number,
+        &mut desk,
+        CHECK,
+        DONE,
+        Known::Whole(search.checked),
+    )
+}
+
+/// Runs words over what stands on a desk, and compares status and output.
+fn run_quietly<R: Abort + Alloc<A = Global>>(
+    rt: &R,
+    number: usize,
+    desk: &mut MemoryDesk,
+    asked: &[&'static str],
+    status: u8,
+    text: Known,
+) -> Result<(), Fail> {
+    let alloc = rt.alloc();
+    let mut sink = MemorySink::new(Vec::new(alloc));
+    let words = words(alloc, asked)?;
+    let ended = run(alloc, words.as_slice(), desk, &mut sink);
+    assert!(rt; is_known(sink.put_bytes(), text), "search {number}: output");
+    assert_eq!(rt; ended.code, status, "search {number}");
+    Ok(())
+}
+
+fn stands(bytes: Option<&[u8]>, known: Known) -> bool {
+    match bytes {
+        Some(bytes) => is_known(bytes, known),
+        None => false,
+    }
+}
+
+fn is_known(bytes: &[u8], known: Known) -> bool {
+    match known {
+        Known::Whole(text) => bytes == text,
+        Known::Begin(text) => bytes.starts_with(text),
+        Known::End(text) => bytes.ends_with(text),
+    }
+}
