@@ -1,14 +1,16 @@
 -- What is seen of a desk and a sink in memory.
-use Rattle.std.specs.Prelude.{ℕ, List, Vec, String, fold, Option, Some, option_map, string_bytes}
+use Rattle.std.specs.Prelude.{◌≡◌, ℕ, Bool, List, ◌++◌, take, Vec, String, fold, Option, Some, option_map, string_bytes, IfSome, MatchBool, Result, Ok, Err}
 use Rattle.std.specs.declared.alloc.Global.{Global}
 use Rattle.std.specs.BTreeMap.{BTreeMap, get_by_text}
 use Rattle.plan_desk.specs.Desk.{Files, no_files, with_file}
 use Rattle.plan_desk.specs.Counts.{counted}
-use Rattle.plan_desk.specs.Failing.{IsListed}
+use Rattle.plan_desk.specs.Failing.{bytes_left, IsListed}
 use Rattle.plan_desk.specs.declared.file.DeskFile.{DeskFile}
 use Rattle.plan_desk.specs.declared.failing.FailingCall.{FailingCall}
 use Rattle.plan_desk.specs.declared.memory_desk.MemoryDesk.{MemoryDesk}
 use Rattle.plan_desk.specs.declared.memory_sink.MemorySink.{MemorySink}
+use Rattle.plan_desk.specs.declared.sink.SinkError.{SinkError}
+use Rattle.plan_desk.specs.declared.sink.SinkError.TheVariants.{Failed, NoMemory}
 
 -- what stands under each name of a map
 abbrev pub files_in : BTreeMap (String Global) (Vec ℕ Global) → Files
@@ -42,6 +44,19 @@ blamed_of desk = desk.faults.blamed
 abbrev pub taken_of : MemoryDesk → ℕ
 taken_of desk = desk.taken
 
+-- the last write that was to fail had no memory for what it leaves
+abbrev pub had_no_memory : MemoryDesk → Bool
+had_no_memory desk = desk.no_memory
+
+-- how many first bytes the next call leaves, where it is to fail
+abbrev pub next_bytes_left : MemoryDesk → Option ℕ
+next_bytes_left desk = bytes_left (counted (calls_of desk) 1) (failing_of desk)
+
+-- what a write that failed leaves under its name: its first bytes or, without memory for them, what stood there
+abbrev pub IsCutWrite : List ℕ → List ℕ → MemoryDesk → MemoryDesk → Type 0
+IsCutWrite name bytes old new =
+    IfSome (next_bytes_left old) (λ n. MatchBool (had_no_memory new) (files_of new ≡ files_of old) (files_of new ≡ with_file (files_of old) name (Some (take n bytes))))
+
 -- the next call is in the list of those that are to fail
 abbrev pub IsToFail : MemoryDesk → Type 0
 IsToFail desk = IsListed (counted (calls_of desk) 1) (failing_of desk)
@@ -65,3 +80,22 @@ put_faults_of sink = sink.faults
 -- the next put is in the list of those that are to fail
 abbrev pub IsPutToFail : MemorySink → Type 0
 IsPutToFail sink = IsListed (counted (puts_of sink) 1) (failing_puts_of sink)
+
+-- the last put that was to fail had no memory for what it appends
+abbrev pub put_had_no_memory : MemorySink → Bool
+put_had_no_memory sink = sink.no_memory
+
+-- how many first bytes the next put appends, where it is to fail
+abbrev pub next_put_bytes_left : MemorySink → Option ℕ
+next_put_bytes_left sink = bytes_left (counted (puts_of sink) 1) (failing_puts_of sink)
+
+-- what a put that failed appends: its first bytes or, without memory for them, nothing
+abbrev pub IsCutPut : List ℕ → MemorySink → MemorySink → Type 0
+IsCutPut piece old new =
+    IfSome (next_put_bytes_left old) (λ n. MatchBool (put_had_no_memory new) (put_bytes_of new ≡ put_bytes_of old) (put_bytes_of new ≡ put_bytes_of old ++ take n piece))
+
+-- P where the answer is want of memory
+abbrev pub OnPutNoMemory : {T : Type 0} → Result T SinkError → Type 0 → Type 0
+OnPutNoMemory (Ok _) P = Unit {0}
+OnPutNoMemory (Err Failed) P = Unit {0}
+OnPutNoMemory (Err NoMemory) P = P

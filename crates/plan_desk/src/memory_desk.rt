@@ -4,10 +4,10 @@ ghost use Rattle.plan_desk.specs.DeskFile.{path_of};
 ghost use Rattle.plan_desk.specs.Counts.{counted, Rose, RoseBy};
 ghost use Rattle.plan_desk.specs.Desk.{Files, with_file, held_with, ChangesOnly, MatchAnswer, MatchFailed, OnFailed, OnTooLong, IsFailed, IsNotFailed};
 ghost use Rattle.plan_desk.specs.Failing.{IsListed};
-ghost use Rattle.plan_desk.specs.Memory.{files_in, laid_down, files_of, calls_of, failing_of, faults_of, blamed_of, taken_of, IsToFail};
+ghost use Rattle.plan_desk.specs.Memory.{files_in, laid_down, files_of, calls_of, failing_of, faults_of, blamed_of, taken_of, had_no_memory, IsToFail, IsCutWrite};
 
 use crate::counts::count_up;
-use crate::failing::CallPlan;
+use crate::failing::{CallPlan, first_bytes};
 use crate::faults::FaultCount;
 use crate::file::path;
 use crate::{Desk, DeskError, DeskFile, FailingCall};
@@ -17,15 +17,16 @@ use std::collections::BTreeMap;
 
 /// A desk whose files are in memory. It tells what it holds, and calls of its own choice fail, for tests.
 ///
-/// Calls are counted from 1, reads and writes together. A call that is to fail does nothing else, and a read of a
-/// name under which nothing stands is a counted fault.
+/// Calls are counted from 1, reads and writes together. A read that is to fail does nothing else; a write that is to
+/// fail leaves its first bytes under the name, as many as the list says. A read of a name under which nothing stands is
+/// a counted fault.
 #[derive(Debug, Drop)]
 pub struct MemoryDesk {
     files: BTreeMap<String, Vec<u8>>,
-    alloc: Global,
     plan: CallPlan,
     faults: FaultCount,
     taken: u64,
+    no_memory: bool,
 }
 
 impl MemoryDesk {
@@ -51,10 +52,10 @@ impl MemoryDesk {
         }
         Ok(MemoryDesk {
             files: held,
-            alloc,
             plan: CallPlan::new(failing),
             faults: FaultCount::new(),
             taken: 0,
+            no_memory: false,
         })
     }
 
@@ -67,6 +68,29 @@ impl MemoryDesk {
             None => None,
         }
     }
+
+    /// Whether the last write that was to fail had no memory for the bytes that it leaves, and changed nothing.
+    pub fn had_no_memory(&self) -> bool
+        ensures { result ≡ had_no_memory self.now }
+    {
+        self.no_memory
+    }
+}
+
+/// Puts a copy of bytes under the name of a file of the folder.
+fn lay_copy(
+    files: &mut BTreeMap<String, Vec<u8>>,
+    alloc: Global,
+    dir: &str,
+    file: DeskFile,
+    bytes: &[u8],
+) -> Result<(), AllocError>
+    ensures laid_down { OnOk result (files_in files.new ≡ with_file (files_in files.old) (path_of dir.now file) (Some bytes.now)) }
+    ensures unchanged { OnErr result (files_in files.new ≡ files_in files.old) }
+{
+    let name = path(alloc, dir, file)?;
+    let bytes = bytes.to_vec(alloc)?;
+    lay_down(files, name, bytes)
 }
 
 /// Puts bytes under a name, in the place of what stood there.
@@ -127,8 +151,9 @@ impl Desk for MemoryDesk {
         ensures failed_only { OnFailed result (IsToFail self.old ⊎ IsNone (files_of self.old (path_of dir.now file))) }
         ensures calls { calls_of self.new ≡ counted (calls_of self.old) 1 }
         ensures failing { failing_of self.new ≡ failing_of self.old }
+        ensures no_memory { had_no_memory self.new ≡ had_no_memory self.old }
     {
-        if self.plan.next_fails() {
+        if self.plan.next_failing().is_some() {
             return Err(self.faults.blame(file));
         }
         let name = path(alloc, dir, file)?;
@@ -145,7 +170,8 @@ impl Desk for MemoryDesk {
         Ok(copy)
     }
 
-    /// Also says that `Failed` comes only of a listed call, counts one fault, and that a call that fails changes nothing.
+    /// Also says that `Failed` comes only of a listed call and counts one fault, and what stands then: the first bytes,
+    /// or, where memory was refused for them, what stood before.
     #[tactic(auto, using(crate::proofs::FilesLemmas::unchanged_changes_only))]
     fn write(
         &mut self,
@@ -155,7 +181,8 @@ impl Desk for MemoryDesk {
         bytes: &[u8],
     ) -> Result<(), DeskError>
         ensures written { OnOk result (files_of self.new ≡ with_file (files_of self.old) (path_of dir.now file) (Some bytes.now)) }
-        ensures unchanged { OnErr result (files_of self.new ≡ files_of self.old) }
+        ensures cut { OnFailed result (IsCutWrite (path_of dir.now file) bytes.now self.old self.new) }
+        ensures unchanged { MatchAnswer result (λ done. ⊤) ⊤ ⊤ (files_of self.new ≡ files_of self.old) }
         ensures others_stay { OnErr result (ChangesOnly (path_of dir.now file) (Some (files_of self.old)) (Some (files_of self.new))) }
         ensures never_too_long { OnTooLong result ⊥ }
         ensures taken { taken_of self.new ≡ taken_of self.old }
@@ -167,13 +194,14 @@ impl Desk for MemoryDesk {
         ensures failed_only { OnFailed result (IsToFail self.old) }
         ensures calls { calls_of self.new ≡ counted (calls_of self.old) 1 }
         ensures failing { failing_of self.new ≡ failing_of self.old }
+        ensures no_memory { MatchFailed result ⊤ (had_no_memory self.new ≡ had_no_memory self.old) }
     {
-        if self.plan.next_fails() {
+        if let Some(count) = self.plan.next_failing() {
+            let left = first_bytes(bytes, count);
+            self.no_memory = lay_copy(&mut self.files, alloc, dir, file, left).is_err();
             return Err(self.faults.blame(file));
         }
-        let name = path(alloc, dir, file)?;
-        let bytes = bytes.to_vec(self.alloc)?;
-        lay_down(&mut self.files, name, bytes)?;
+        lay_copy(&mut self.files, alloc, dir, file, bytes)?;
         Ok(())
     }
 

@@ -1,21 +1,22 @@
-ghost use Rattle.std.specs.Prelude.{◌≡◌, ◌+◌, ◌≤◌, ◌↔◌, ℕ, List, [], ◌++◌, Option, Some, OnOk, OnErr};
+ghost use Rattle.std.specs.Prelude.{◌≡◌, ◌+◌, ◌≤◌, ◌↔◌, ℕ, List, [], ◌++◌, Option, Some, OnOk, OnErr, ⊤};
 ghost use Rattle.plan_desk.specs.Counts.{counted, Rose};
 ghost use Rattle.plan_desk.specs.Sink.{output_with, AppendsPrefix, MatchPutFailed, OnPutFailed, IsPutFailed, IsPutNotFailed};
 ghost use Rattle.plan_desk.specs.Failing.{IsListed};
-ghost use Rattle.plan_desk.specs.Memory.{put_bytes_of, puts_of, failing_puts_of, put_faults_of, IsPutToFail};
+ghost use Rattle.plan_desk.specs.Memory.{put_bytes_of, puts_of, failing_puts_of, put_faults_of, put_had_no_memory, IsPutToFail, IsCutPut, OnPutNoMemory};
 
 use crate::counts::count_up;
-use crate::failing::CallPlan;
+use crate::failing::{CallPlan, first_bytes};
 use crate::{FailingCall, Sink, SinkError};
 
 /// A sink that keeps the output in memory. It tells what was put, and puts of its own choice fail, for tests.
 ///
-/// Puts are counted from 1. A put that is to fail appends nothing.
+/// Puts are counted from 1. A put that is to fail appends its first bytes, as many as the list says.
 #[derive(Debug, Drop)]
 pub struct MemorySink {
     output: Vec<u8>,
     plan: CallPlan,
     faults: u64,
+    no_memory: bool,
 }
 
 impl MemorySink {
@@ -34,6 +35,7 @@ impl MemorySink {
             output: Vec::new(*failing.allocator()),
             plan: CallPlan::new(failing),
             faults: 0,
+            no_memory: false,
         }
     }
 
@@ -42,6 +44,13 @@ impl MemorySink {
         ensures { result.now ≡ put_bytes_of self.now }
     {
         self.output.as_slice()
+    }
+
+    /// Whether the last put that was to fail had no memory for the bytes that it appends, and appended nothing.
+    pub fn had_no_memory(&self) -> bool
+        ensures { result ≡ put_had_no_memory self.now }
+    {
+        self.no_memory
     }
 }
 
@@ -56,18 +65,24 @@ impl Sink for MemorySink {
 
     ghost is_steady = { λ sink. failing_puts_of sink ≡ [] };
 
-    /// Also says that `Failed` comes only of a listed put, counts one fault, and that a put that fails appends nothing.
+    /// Also says that `Failed` comes only of a listed put and counts one fault, and what was put then: the first bytes of
+    /// the piece, or, where memory was refused for them, nothing of it.
     fn put(&mut self, bytes: &[u8]) -> Result<(), SinkError>
         ensures put { OnOk result (put_bytes_of self.new ≡ put_bytes_of self.old ++ bytes.now) }
-        ensures unchanged { OnErr result (put_bytes_of self.new ≡ put_bytes_of self.old) }
+        ensures cut { OnPutFailed result (IsCutPut bytes.now self.old self.new) }
+        ensures unchanged { OnPutNoMemory result (put_bytes_of self.new ≡ put_bytes_of self.old) }
+        ensures prefix { OnErr result (AppendsPrefix bytes.now (Some (put_bytes_of self.old)) (Some (put_bytes_of self.new))) }
         ensures faults { MatchPutFailed result (put_faults_of self.new ≡ counted (put_faults_of self.old) 1) (put_faults_of self.new ≡ put_faults_of self.old) }
         ensures faults_never_fall { put_faults_of self.old ≤ put_faults_of self.new }
         ensures planned { IsPutToFail self.old → IsPutFailed result }
         ensures failed_only { OnPutFailed result (IsPutToFail self.old) }
         ensures puts { puts_of self.new ≡ counted (puts_of self.old) 1 }
         ensures failing { failing_puts_of self.new ≡ failing_puts_of self.old }
+        ensures no_memory { MatchPutFailed result ⊤ (put_had_no_memory self.new ≡ put_had_no_memory self.old) }
     {
-        if self.plan.next_fails() {
+        if let Some(count) = self.plan.next_failing() {
+            let left = first_bytes(bytes, count);
+            self.no_memory = self.output.extend_from_slice(left).is_err();
             count_up(&mut self.faults, 1);
             return Err(SinkError::Failed);
         }
