@@ -1,5 +1,6 @@
 pub mod LegsFit
 pub mod LegsKept
+pub mod OtherSettings
 pub mod ReadEnds
 pub mod ReadLaws
 pub mod Refused
