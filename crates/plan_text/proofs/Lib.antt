@@ -1,3 +1,4 @@
+pub mod CsvWriting
 pub mod Lines
 pub mod NameText
 pub mod ReadOrNot

@@ -1,8 +1,7 @@
 -- The lines of a plan's records read back as those records.
-use Rattle.std.proofs.Common.{◌≡◌, ℕ, zero, suc, ◌+◌, ◌<◌, ◌≤◌, List, [], ◌∷◌, ◌++◌, length, map, codes, Some, false, refl, sym, ap, ◌∙◌, arith}
+use Rattle.std.proofs.Common.{◌≡◌, ℕ, zero, suc, ◌+◌, ◌<◌, ◌≤◌, List, [], ◌∷◌, ◌++◌, length, map, codes, Some, false, refl, ap, ◌∙◌, arith}
 use Rattle.std.specs.List.{flat_map, list_any, range_with_len}
-use Rattle.std.proofs.lemmas.List.{append-nil, flat_map_more, length-append}
-use Rattle.std.proofs.lemmas.List.FromFn.{map-range_with_len_more}
+use Rattle.std.proofs.lemmas.List.{append-nil, length-append}
 use Rattle.csv.specs.Machine.{next_record}
 use Rattle.csv.specs.Reading.{default_config, records_from, strip_bom}
 use Rattle.csv.specs.Writing.{default_writer, fields_text, is_blank, needs_byte, row_text}
@@ -14,6 +13,7 @@ use Rattle.fleet_model.specs.Legal.{IsAssignment}
 use Rattle.fleet_model.specs.Schedule.{fleet_of, fleets_in, leg_of, legs_in, no_fleet, no_leg}
 use Rattle.fleet_model.specs.declared.tables.Tables.{Tables}
 use Rattle.table_rows.specs.Rows.{Fields}
+use Rattle.plan_text.specs.CsvText.{csv_text}
 use Rattle.plan_text.specs.Reading.{PlanReads}
 use Rattle.plan_text.specs.Text.{leg_record, leg_records, line_of, lines_of, plan_header, plan_records, plan_text}
 use Rattle.plan_text.proofs.NameText.{name_is_plain}
@@ -92,11 +92,7 @@ is_written_as_csv t a is =
     ap (λ line. line ++ lines_of (leg_records t a (legs_in t))) (line_is_text (codes "flight") (codes "fleet") refl refl)
     ∙ ap (λ rest. row_text default_writer plan_header ++ rest) (legs_as_csv t a is (legs_in t) 0 (omega arith))
 
--- one line more
-pub lines_push : (t : Tables) (a : List ℕ) (leg : ℕ) (text grown flight fleet : List ℕ) → text ≡ lines_of (plan_header ∷ leg_records t a leg)
-    → flight ≡ (leg_of t leg).flight → fleet ≡ (fleet_of t (fleet_at a leg)).name → grown ≡ text ++ line_of (flight ∷ fleet ∷ [])
-    → grown ≡ lines_of (plan_header ∷ leg_records t a (leg + 1))
-lines_push t a leg text grown flight fleet before flown named added =
-    added ∙ rw (before, flown, named)
-    (flat_map_more line_of (line_of plan_header) (leg_records t a leg) (leg_record t a leg)
-    ∙ ap (λ rows. lines_of (plan_header ∷ rows)) (sym (map-range_with_len_more (leg_record t a) 0 leg leg (omega arith))))
+-- the same, in the words of what a writer has written
+pub written_as_csv : (t : Tables) (a : List ℕ) → IsAssignment t a → plan_text t a ≡ csv_text (plan_records t a)
+unfolding csv_text
+written_as_csv t a is = is_written_as_csv t a is

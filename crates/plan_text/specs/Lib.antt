@@ -1,2 +1,3 @@
+pub mod CsvText
 pub mod Reading
 pub mod Text

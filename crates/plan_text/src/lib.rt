@@ -4,6 +4,7 @@
 pub mod faults;
 pub mod laws;
 pub mod reading;
+pub mod record_writer;
 pub mod writing;
 
 pub use faults::{PlanError, PlanFault};
