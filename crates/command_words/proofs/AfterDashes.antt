@@ -1,7 +1,7 @@
 -- What words ask for, computed by clap's definition.
 use Rattle.std.proofs.Common.{refl}
 use Rattle.clap.proofs.OnLiterals.{clap_on_literals}
-use Rattle.command_words.specs.Laws.{ChecksByDefault, ChecksFrom, JudgesByDefault, JudgesFrom, SolvesByDefault, SolvesWithin, TailsByDefault, TailsWithin}
+use Rattle.command_words.specs.Laws.{ChecksByDefault, ChecksFrom, JudgesByDefault, JudgesFrom, MakesByDefault, MakesWithoutOptions, SolvesByDefault, SolvesWithin, TailsByDefault, TailsWithin}
 use Rattle.command_words.specs.Program.{our_app}
 use Rattle.command_words.specs.Words.{asked}
 
@@ -36,3 +36,19 @@ tails_by_default program dir date count = refl
 pub tails_within : TailsWithin
 unfolding asked our_app clap_on_literals
 tails_within program time wait days visits dir date count = refl
+
+pub makes_by_default : MakesByDefault
+unfolding asked our_app clap_on_literals
+makes_by_default program dir number legs = refl
+
+pub makes_without_options : MakesWithoutOptions
+unfolding asked our_app clap_on_literals
+makes_without_options = record {
+  day_start = λ program text dir number legs. refl;
+  through_max = λ program text dir number legs. refl;
+  days = λ program text dir number legs. refl;
+  visits = λ program text dir number legs. refl;
+  nodes = λ program text dir number legs. refl;
+  pivots = λ program text dir number legs. refl;
+  json = λ program dir number legs. refl;
+}

@@ -1,5 +1,5 @@
 -- The values of a command's arguments, by what clap found for them.
-use Rattle.std.specs.Prelude.{◌≤◌, ◌-◌, ℕ, Bool, false, if◌then◌else◌, List, codes, bytes_eq, Option, Some, None, option_and_then, pos, ◌+ℤ◌, ◌≤ℤ◌}
+use Rattle.std.specs.Prelude.{◌≡◌, ◌≤◌, ◌-◌, ◌%◌, ◌==◌, ℕ, Bool, false, if◌then◌else◌, List, codes, bytes_eq, Option, Some, None, option_and_then, pos, ◌+ℤ◌, ◌≤ℤ◌}
 use Rattle.std.specs.Option.{option_map_or}
 use Rattle.clap.specs.Words.{Row, Text, first_of, found_of, rows_of}
 use Rattle.clap.specs.declared.parser.matches.ArgMatches.{ArgMatches}
@@ -13,7 +13,7 @@ use Rattle.command_words.specs.declared.command.Dates.{Dates}
 use Rattle.command_words.specs.declared.command.RotationLimits.{RotationLimits}
 use Rattle.command_words.specs.declared.command.SearchLimits.{SearchLimits}
 use Rattle.command_words.specs.declared.command.SolveOptions.{SolveOptions}
-use Rattle.command_words.specs.declared.command.TheConstants.{DEFAULT_DAY_START, DEFAULT_DAYS, DEFAULT_NODES, DEFAULT_PIVOTS, DEFAULT_THROUGH_MAX, DEFAULT_VISITS, MAX_DATES, MAX_DAYS, MAX_NODES, MAX_PIVOTS, MAX_THROUGH_MAX, MAX_VISITS, MIN_DATES, MIN_DAYS}
+use Rattle.command_words.specs.declared.command.TheConstants.{DEFAULT_DAY_START, DEFAULT_DAYS, DEFAULT_NODES, DEFAULT_PIVOTS, DEFAULT_THROUGH_MAX, DEFAULT_VISITS, MAX_DATES, MAX_DAYS, MAX_MADE_LEGS, MAX_NODES, MAX_NUMBER, MAX_PIVOTS, MAX_THROUGH_MAX, MAX_VISITS, MIN_DATES, MIN_DAYS}
 
 -- what was found for the arguments
 abbrev pub rows_in : ArgMatches → List Row
@@ -121,6 +121,28 @@ abbrev pub dates_in : List Row → Option AskedDates
 dates_in found =
     dates_at (option_and_then date_read (first_of (codes "date") found)) (option_and_then count_read (first_of (codes "count") found))
 
+-- ---- what tables are made of
+
+-- the number that a text writes
+abbrev pub made_number_read : Text → Option ℕ
+made_number_read text = number_read 0 MAX_NUMBER text
+
+-- the number, where it reads
+abbrev pub number_in : List Row → Option ℕ
+number_in found = option_and_then made_number_read (first_of (codes "number") found)
+
+-- a number, where it is even
+abbrev pub where_even : ℕ → Option ℕ
+where_even n = if n % 2 == 0 then Some n else None
+
+-- the number of legs that a text writes, an even one
+abbrev pub legs_read : Text → Option ℕ
+legs_read text = option_and_then where_even (number_read 0 MAX_MADE_LEGS text)
+
+-- the number of legs, where it reads
+abbrev pub legs_in : List Row → Option ℕ
+legs_in found = option_and_then legs_read (first_of (codes "legs") found)
+
 -- ---- what holds of values that read
 
 -- a search of so many splits and pivots may be asked for
@@ -137,6 +159,16 @@ pub record AreRotationLimits (limits : RotationLimits) : Type 0 where
 pub record AreOptions (options : SolveOptions) : Type 0 where
   pub search : AreLimits options.search
   pub rotations : AreRotationLimits options.rotations
+
+-- so many legs may be made
+pub record IsLegCount (legs : ℕ) : Type 0 where
+  pub even : legs % 2 ≡ 0
+  pub few : legs ≤ MAX_MADE_LEGS
+
+-- tables of this number and of so many legs may be made
+pub record CanBeAsked (number legs : ℕ) : Type 0 where
+  pub number_fits : number ≤ MAX_NUMBER
+  pub legs_fit : IsLegCount legs
 
 -- dates that may be asked for: from the year 1 on, and the calendar, which ends on 9999-12-31, has the last of them
 pub record AreDates (dates : Dates) : Type 0 where

@@ -1,15 +1,15 @@
 -- What the definition of a match comes to: plain words alone, or words of any kind behind `--` and options of one
 -- word before it.
-use Rattle.std.specs.Prelude.{◌≡◌, ◌==◌, ◌||◌, Bool, true, false, not, [], ◌∷◌, ◌++◌, Option, Some, codes}
+use Rattle.std.specs.Prelude.{◌≡◌, ◌==◌, ◌||◌, Bool, true, false, not, [], ◌∷◌, ◌++◌, Option, Some, None, codes}
 use Rattle.clap.specs.Words.{Text}
 use Rattle.fleet_model.specs.declared.parts.Settings.{Settings}
-use Rattle.command_words.specs.Arguments.{count_read, dates_at, options_at, rotations_at, search_at, settings_at}
+use Rattle.command_words.specs.Arguments.{count_read, dates_at, legs_read, made_number_read, options_at, rotations_at, search_at, settings_at}
 use Rattle.command_words.specs.Days.{date_read}
 use Rattle.command_words.specs.Values.{minute_read, number_read}
-use Rattle.command_words.specs.Words.{asked, check_at, judge_at, solve_at, tails_at}
+use Rattle.command_words.specs.Words.{asked, check_at, judge_at, make_at, solve_at, tails_at}
 use Rattle.command_words.specs.declared.command.RotationLimits.{RotationLimits}
 use Rattle.command_words.specs.declared.command.SolveOptions.{SolveOptions}
-use Rattle.command_words.specs.declared.command.TheConstants.{DEFAULT_DAY_START, DEFAULT_DAYS, DEFAULT_NODES, DEFAULT_PIVOTS, DEFAULT_THROUGH_MAX, DEFAULT_VISITS, MAX_DAYS, MAX_NODES, MAX_PIVOTS, MAX_THROUGH_MAX, MAX_VISITS, MIN_DAYS}
+use Rattle.command_words.specs.declared.command.TheConstants.{DEFAULT_OPTIONS, DEFAULT_SETTINGS, DEFAULT_THROUGH_MAX, MAX_DAYS, MAX_NODES, MAX_PIVOTS, MAX_THROUGH_MAX, MAX_VISITS, MIN_DAYS}
 
 -- nothing follows
 abbrev pub is_alone : Text → Bool
@@ -24,13 +24,13 @@ is_plain_name (first ∷ rest) = not (first == 45) || is_alone rest
 -- ---- what holds where no option is given
 
 abbrev pub default_settings : Option Settings
-default_settings = settings_at (Some DEFAULT_DAY_START) (Some DEFAULT_THROUGH_MAX)
+default_settings = Some DEFAULT_SETTINGS
 
 abbrev pub default_rotations : Option RotationLimits
-default_rotations = rotations_at (Some DEFAULT_DAYS) (Some DEFAULT_VISITS)
+default_rotations = Some DEFAULT_OPTIONS.rotations
 
 abbrev pub default_options : Option SolveOptions
-default_options = options_at (search_at (Some DEFAULT_NODES) (Some DEFAULT_PIVOTS)) default_rotations false
+default_options = Some DEFAULT_OPTIONS
 
 -- ---- what options give
 
@@ -67,6 +67,11 @@ abbrev pub TailsPlainly : Type 0
 TailsPlainly = (program dir date count : Text) → is_plain_name dir ≡ true → is_plain_name date ≡ true → is_plain_name count ≡ true
     → asked (program ∷ codes "tails" ∷ dir ∷ date ∷ count ∷ [])
     ≡ tails_at default_settings default_rotations (dates_at (date_read date) (count_read count)) dir
+
+-- make DIR NUMBER LEGS
+abbrev pub MakesPlainly : Type 0
+MakesPlainly = (program dir number legs : Text) → is_plain_name dir ≡ true → is_plain_name number ≡ true → is_plain_name legs ≡ true
+    → asked (program ∷ codes "make" ∷ dir ∷ number ∷ legs ∷ []) ≡ make_at (made_number_read number) (legs_read legs) dir
 
 -- ---- words behind `--`
 
@@ -114,3 +119,22 @@ TailsWithin = (program time wait days visits dir date count : Text)
     → asked (program ∷ codes "tails" ∷ (codes "--day-start=" ++ time) ∷ (codes "--through-max=" ++ wait) ∷ (codes "--days=" ++ days) ∷ (codes "--visits=" ++ visits)
     ∷ codes "--" ∷ dir ∷ date ∷ count ∷ [])
     ≡ tails_at (settings_with time wait) (rotations_with days visits) (dates_at (date_read date) (count_read count)) dir
+
+-- make -- DIR NUMBER LEGS
+abbrev pub MakesByDefault : Type 0
+MakesByDefault = (program dir number legs : Text) → asked (program ∷ codes "make" ∷ codes "--" ∷ dir ∷ number ∷ legs ∷ [])
+    ≡ make_at (made_number_read number) (legs_read legs) dir
+
+-- make takes none of the other commands' options: --day-start=HH:MM, --through-max=M, --days=D, --visits=V, --nodes=N, --pivots=P
+abbrev pub MakesWithoutOption : Text → Type 0
+MakesWithoutOption option = (program text dir number legs : Text)
+    → asked (program ∷ codes "make" ∷ (option ++ text) ∷ codes "--" ∷ dir ∷ number ∷ legs ∷ []) ≡ None
+
+pub record MakesWithoutOptions : Type 0 where
+  pub day_start : MakesWithoutOption (codes "--day-start=")
+  pub through_max : MakesWithoutOption (codes "--through-max=")
+  pub days : MakesWithoutOption (codes "--days=")
+  pub visits : MakesWithoutOption (codes "--visits=")
+  pub nodes : MakesWithoutOption (codes "--nodes=")
+  pub pivots : MakesWithoutOption (codes "--pivots=")
+  pub json : (program dir number legs : Text) → asked (program ∷ codes "make" ∷ codes "--json" ∷ codes "--" ∷ dir ∷ number ∷ legs ∷ []) ≡ None

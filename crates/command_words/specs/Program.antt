@@ -46,6 +46,10 @@ abbrev pub tails_app : App
 tails_app =
     with_rotation_options (with_rule (with_rule (folder_app (codes "tails")) (word_named (codes "date"))) (word_named (codes "count")))
 
+-- make DIR NUMBER LEGS
+abbrev pub make_app : App
+make_app = with_rule (with_rule (with_rule (new_app (codes "make")) (word_named (codes "dir"))) (word_named (codes "number"))) (word_named (codes "legs"))
+
 -- a program that does nothing without a command
 abbrev pub bare_app : App
 bare_app = on_top (λ shape. record shape { subcommand_required = true }) (new_app (codes "fleetplan"))
@@ -53,7 +57,7 @@ bare_app = on_top (λ shape. record shape { subcommand_required = true }) (new_a
 -- fleetplan COMMAND
 unfoldable pub our_app : App
 our_app =
-    with_subcommand (with_subcommand (with_subcommand (with_subcommand bare_app judge_app.top) solve_app.top) check_app.top) tails_app.top
+    with_subcommand (with_subcommand (with_subcommand (with_subcommand (with_subcommand bare_app judge_app.top) solve_app.top) check_app.top) tails_app.top) make_app.top
 
 -- the command is read as this one, and none of its arguments holds for other commands too
 pub record Builds (app : App) (command : Command) : Type 0 where

@@ -5,7 +5,7 @@ use Rattle.clap.specs.Words.{Row, Text, fault_of, subcommand_of}
 use Rattle.jiff_fmt.specs.Temporal.{date_parts}
 use Rattle.fleet_model.specs.Limits.{AreSettings}
 use Rattle.fleet_model.specs.declared.parts.Settings.{Settings}
-use Rattle.command_words.specs.Arguments.{AreDates, AreOptions, AreRotationLimits, AskedDates, dates_in, day_settings_in, dir_in, options_in, rotations_in, settings_in}
+use Rattle.command_words.specs.Arguments.{AreDates, AreOptions, AreRotationLimits, AskedDates, CanBeAsked, dates_in, day_settings_in, dir_in, legs_in, number_in, options_in, rotations_in, settings_in}
 use Rattle.command_words.specs.Program.{our_app}
 use Rattle.command_words.specs.declared.command.Command.{Command}
 use Rattle.command_words.specs.declared.command.Command.TheVariants as command
@@ -13,12 +13,13 @@ use Rattle.command_words.specs.declared.command.Dates.{Dates}
 use Rattle.command_words.specs.declared.command.RotationLimits.{RotationLimits}
 use Rattle.command_words.specs.declared.command.SolveOptions.{SolveOptions}
 
--- a command with its folder, its settings, and what else it takes
+-- a command with its folder, its settings, and what else it takes; making takes a number and a count of legs
 pub data Asked : Type 0 where
   judge : List ℕ → Settings → Asked
   solve : List ℕ → Settings → SolveOptions → Asked
   check : List ℕ → Settings → Asked
   tails : List ℕ → Settings → RotationLimits → AskedDates → Asked
+  make : List ℕ → ℕ → ℕ → Asked
 
 -- ---- the commands
 
@@ -55,6 +56,14 @@ tails_at settings rotations dates dir =
 abbrev pub tails_in : List Row → Option Asked
 tails_in found = option_and_then (tails_at (settings_in found) (rotations_in found) (dates_in found)) (dir_in found)
 
+-- making tables of a number and of so many legs in a folder, where both are there
+abbrev pub make_at : Option ℕ → Option ℕ → Text → Option Asked
+make_at number legs dir = option_and_then (λ n. option_map (make dir n) legs) number
+
+-- making tables, where all values read
+abbrev pub make_in : List Row → Option Asked
+make_in found = option_and_then (make_at (number_in found) (legs_in found)) (dir_in found)
+
 -- the command of a subcommand's name and what was found for its arguments
 abbrev pub command_in : Text × List Row → Option Asked
 command_in (name, found) =
@@ -62,6 +71,7 @@ command_in (name, found) =
     else if bytes_eq name (codes "solve") then solve_in found
     else if bytes_eq name (codes "check") then check_in found
     else if bytes_eq name (codes "tails") then tails_in found
+    else if bytes_eq name (codes "make") then make_in found
     else None
 
 -- nothing where there is a fault
@@ -86,20 +96,23 @@ asked_by (command.Judge dir settings) = judge dir.now settings
 asked_by (command.Solve dir settings options) = solve dir.now settings options
 asked_by (command.Check dir settings) = check dir.now settings
 asked_by (command.Tails dir settings rotations dates) = tails dir.now settings rotations (dates_by dates)
+asked_by (command.Make dir number legs) = make dir.now number legs
 
--- the settings of a command are within their limits
+-- the settings of a command are within their limits, where it has some
 abbrev pub HasSettings : Command → Type 0
 HasSettings (command.Judge dir settings) = AreSettings settings
 HasSettings (command.Solve dir settings options) = AreSettings settings
 HasSettings (command.Check dir settings) = AreSettings settings
 HasSettings (command.Tails dir settings rotations dates) = AreSettings settings
+HasSettings (command.Make dir number legs) = ⊤
 
--- so are the limits of a search and of rotations
+-- so are the limits of a search and of rotations, and what tables are made of
 abbrev pub HasLimits : Command → Type 0
 HasLimits (command.Judge dir settings) = ⊤
 HasLimits (command.Solve dir settings options) = AreOptions options
 HasLimits (command.Check dir settings) = ⊤
 HasLimits (command.Tails dir settings rotations dates) = AreRotationLimits rotations
+HasLimits (command.Make dir number legs) = CanBeAsked number legs
 
 -- and the dates
 abbrev pub HasDates : Command → Type 0
@@ -107,3 +120,4 @@ HasDates (command.Judge dir settings) = ⊤
 HasDates (command.Solve dir settings options) = ⊤
 HasDates (command.Check dir settings) = ⊤
 HasDates (command.Tails dir settings rotations dates) = AreDates dates
+HasDates (command.Make dir number legs) = ⊤

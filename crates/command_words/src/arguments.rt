@@ -1,7 +1,7 @@
 //! The values of a command's arguments, by what clap found for them.
 ghost use Rattle.std.specs.Prelude.{◌≡◌, ◌≤◌, ◌<◌, IfSome, option_map};
 ghost use Rattle.clap.specs.Words.{first_of};
-ghost use Rattle.command_words.specs.Arguments.{AreDates, AreLimits, AreOptions, AreRotationLimits, dates_in, day_settings_in, day_start_in, is_given, options_in, rotations_in, rows_in, search_in, settings_in, through_max_in};
+ghost use Rattle.command_words.specs.Arguments.{AreDates, AreLimits, AreOptions, AreRotationLimits, IsLegCount, dates_in, day_settings_in, day_start_in, is_given, legs_in, legs_read, number_in, options_in, rotations_in, rows_in, search_in, settings_in, through_max_in};
 ghost use Rattle.command_words.specs.Values.{number_read, value_or};
 ghost use Rattle.command_words.specs.Words.{dates_by};
 ghost use Rattle.fleet_model.specs.Limits.{AreSettings};
@@ -9,8 +9,8 @@ ghost use Rattle.fleet_model.specs.declared.limits.TheConstants.{MINUTES_PER_DAY
 
 use crate::command::{
     DEFAULT_DAY_START, DEFAULT_DAYS, DEFAULT_NODES, DEFAULT_PIVOTS, DEFAULT_THROUGH_MAX,
-    DEFAULT_VISITS, Dates, MAX_DATES, MAX_DAYS, MAX_NODES, MAX_PIVOTS, MAX_THROUGH_MAX, MAX_VISITS,
-    MIN_DATES, MIN_DAYS, RotationLimits, SearchLimits, SolveOptions,
+    DEFAULT_VISITS, Dates, MAX_DATES, MAX_DAYS, MAX_MADE_LEGS, MAX_NODES, MAX_NUMBER, MAX_PIVOTS,
+    MAX_THROUGH_MAX, MAX_VISITS, MIN_DATES, MIN_DAYS, RotationLimits, SearchLimits, SolveOptions,
 };
 use crate::days::{civil_date, ends_in_calendar};
 use crate::values::{minute_of_day, number_between};
@@ -119,6 +119,36 @@ fn count_of(text: &str) -> Option<u32>
 {
     let count = number_between(text, u64::from(MIN_DATES), u64::from(MAX_DATES))?;
     Some(count as u32)
+}
+
+/// The number that tables are made of.
+pub(crate) fn made_number_of(found: &ArgMatches<'_>) -> Option<u32>
+    ensures read { result ≡ number_in (rows_in found.now) }
+    ensures fits { IfSome result (λ number. number ≤ MAX_NUMBER) }
+{
+    let number = number_between(value_of(found, "number")?, 0, u64::from(MAX_NUMBER))?;
+    Some(number as u32)
+}
+
+/// How many legs are made.
+pub(crate) fn made_legs_of(found: &ArgMatches<'_>) -> Option<u32>
+    ensures read { result ≡ legs_in (rows_in found.now) }
+    ensures fits { IfSome result IsLegCount }
+{
+    made_legs(value_of(found, "legs")?)
+}
+
+/// The number of legs that a text writes. It is even, since legs are made out and back.
+fn made_legs(text: &str) -> Option<u32>
+    ensures read { result ≡ legs_read text.now }
+    ensures fits { IfSome result IsLegCount }
+{
+    let legs = number_between(text, 0, u64::from(MAX_MADE_LEGS))?;
+    if legs % 2 == 0 {
+        Some(legs as u32)
+    } else {
+        None
+    }
 }
 
 /// The number of 32 bits that an option gives, or its default.

@@ -44,6 +44,12 @@ pub const MIN_DATES: u32 = 1;
 /// The most dates that tails are printed for.
 pub const MAX_DATES: u32 = 366;
 
+/// The greatest number that tables are made of.
+pub const MAX_NUMBER: u32 = 2_147_483_647;
+
+/// The most legs of tables that are made.
+pub const MAX_MADE_LEGS: u32 = 1000;
+
 /// How much a search may do.
 #[derive(Clone, Copy, Debug, PartialEq, Eq)]
 pub struct SearchLimits {
@@ -72,6 +78,25 @@ pub struct SolveOptions {
     /// Whether the summary is printed as JSON.
     pub json: bool,
 }
+
+/// The settings where no option sets them.
+pub const DEFAULT_SETTINGS: Settings = Settings {
+    day_start: DEFAULT_DAY_START,
+    through_max: DEFAULT_THROUGH_MAX,
+};
+
+/// How a plan is searched for where no option says it.
+pub const DEFAULT_OPTIONS: SolveOptions = SolveOptions {
+    search: SearchLimits {
+        nodes: DEFAULT_NODES,
+        pivots: DEFAULT_PIVOTS,
+    },
+    rotations: RotationLimits {
+        days: DEFAULT_DAYS,
+        visits: DEFAULT_VISITS,
+    },
+    json: false,
+};
 
 /// Dates one after the other.
 #[derive(Clone, Copy, Debug, PartialEq, Eq)]
@@ -107,5 +132,11 @@ pub enum Command<'a> {
         settings: Settings,
         rotations: RotationLimits,
         dates: Dates,
+    },
+    /// Make tables of a number and of so many legs in a folder, and find a plan for them by the defaults.
+    Make {
+        dir: &'a str,
+        number: u32,
+        legs: u32,
     },
 }

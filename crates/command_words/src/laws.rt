@@ -1,9 +1,9 @@
 //! The laws of the command line: each contract is the statement, and the functions do nothing.
 ghost use Rattle.std.specs.Prelude.{◌≡◌, true};
 ghost use Rattle.clap.specs.Words.{is_simple_and_free};
-ghost use Rattle.command_words.specs.Laws.{ChecksByDefault, ChecksFrom, ChecksPlainly, JudgesByDefault, JudgesFrom, JudgesPlainly, SolvesByDefault, SolvesPlainly, SolvesWithin, TailsByDefault, TailsPlainly, TailsWithin};
+ghost use Rattle.command_words.specs.Laws.{ChecksByDefault, ChecksFrom, ChecksPlainly, JudgesByDefault, JudgesFrom, JudgesPlainly, MakesByDefault, MakesPlainly, MakesWithoutOptions, SolvesByDefault, SolvesPlainly, SolvesWithin, TailsByDefault, TailsPlainly, TailsWithin};
 ghost use Rattle.command_words.specs.Program.{our_app};
-ghost use Rattle.command_words.specs.declared.command.TheConstants.{DEFAULT_DAY_START, DEFAULT_DAYS, DEFAULT_NODES, DEFAULT_PIVOTS, DEFAULT_THROUGH_MAX, DEFAULT_VISITS, MAX_DATES, MAX_DAYS, MAX_NODES, MAX_PIVOTS, MAX_THROUGH_MAX, MAX_VISITS, MIN_DATES, MIN_DAYS};
+ghost use Rattle.command_words.specs.declared.command.TheConstants.{DEFAULT_DAY_START, DEFAULT_DAYS, DEFAULT_NODES, DEFAULT_PIVOTS, DEFAULT_THROUGH_MAX, DEFAULT_VISITS, MAX_DATES, MAX_DAYS, MAX_MADE_LEGS, MAX_NODES, MAX_NUMBER, MAX_PIVOTS, MAX_THROUGH_MAX, MAX_VISITS, MIN_DATES, MIN_DAYS};
 
 /// The command line is of the kind for which clap's definition of a match is exact: by it alone clap tells a match
 /// from a fault, and what the words give each argument.
@@ -18,6 +18,7 @@ pub fn plain_reading()
     ensures solves_plainly { SolvesPlainly }
     ensures checks_plainly { ChecksPlainly }
     ensures tails_plainly { TailsPlainly }
+    ensures makes_plainly { MakesPlainly }
     ensures judges_by_default { JudgesByDefault }
     ensures judges_from { JudgesFrom }
     ensures solves_by_default { SolvesByDefault }
@@ -26,6 +27,8 @@ pub fn plain_reading()
     ensures checks_from { ChecksFrom }
     ensures tails_by_default { TailsByDefault }
     ensures tails_within { TailsWithin }
+    ensures makes_by_default { MakesByDefault }
+    ensures makes_without_options { MakesWithoutOptions }
 {}
 
 /// The defaults of the options, and the least and greatest values that words take, in numbers.
@@ -44,4 +47,6 @@ pub fn values_in_numbers()
     ensures most_visits { MAX_VISITS ≡ 1000000 }
     ensures least_dates { MIN_DATES ≡ 1 }
     ensures most_dates { MAX_DATES ≡ 366 }
+    ensures most_number { MAX_NUMBER ≡ 2147483647 }
+    ensures most_legs { MAX_MADE_LEGS ≡ 1000 }
 {}

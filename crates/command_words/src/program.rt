@@ -2,7 +2,7 @@
 ghost use Rattle.std.specs.Prelude.{◌≡◌, IfOk, codes, false};
 ghost use Rattle.clap.specs.Words.{app_of, rule_of, shape_of, with_subcommand};
 ghost use Rattle.clap.specs.declared.builder.command.Command.TheViews.{out-Command};
-ghost use Rattle.command_words.specs.Program.{Builds, BuildsRotationOptions, BuildsRule, IsRule, bare_app, check_app, flag_named, folder_app, judge_app, option_named, our_app, solve_app, tails_app, word_named};
+ghost use Rattle.command_words.specs.Program.{Builds, BuildsRotationOptions, BuildsRule, IsRule, bare_app, check_app, flag_named, folder_app, judge_app, make_app, option_named, our_app, solve_app, tails_app, word_named};
 
 use clap::{Arg, ArgAction, Command};
 use std::alloc::{AllocError, Global};
@@ -15,10 +15,12 @@ pub(crate) fn program<'a>(alloc: Global) -> Result<Command<'a>, AllocError>
     let solve = solve_command(alloc)?;
     let check = check_command(alloc)?;
     let tails = tails_command(alloc)?;
+    let make = make_command(alloc)?;
     let with_judge = with_command(bare_program(alloc), judge)?;
     let with_solve = with_command(with_judge, solve)?;
     let with_check = with_command(with_solve, check)?;
-    with_command(with_check, tails)
+    let with_tails = with_command(with_check, tails)?;
+    with_command(with_tails, make)
 }
 
 /// The program without commands. It does nothing where no command is named.
@@ -69,6 +71,15 @@ fn tails_command<'a>(alloc: Global) -> Result<Command<'a>, AllocError>
     let with_date = with_argument(bare, word(alloc, "date"))?;
     let with_count = with_argument(with_date, word(alloc, "count"))?;
     with_rotation_options(alloc, with_count)
+}
+
+/// `make DIR NUMBER LEGS`
+fn make_command<'a>(alloc: Global) -> Result<Command<'a>, AllocError>
+    ensures { IfOk result (Builds make_app) }
+{
+    let with_folder = with_argument(Command::new(alloc, "make"), word(alloc, "dir"))?;
+    let with_number = with_argument(with_folder, word(alloc, "number"))?;
+    with_argument(with_number, word(alloc, "legs"))
 }
 
 /// `NAME DIR [--day-start HH:MM]`

@@ -1,10 +1,11 @@
 ghost use Rattle.std.specs.Prelude.{◌≡◌, ◌↔◌, IfOk, IfSome, IsErr, None, map, option_and_then, option_map, string_bytes};
 ghost use Rattle.clap.specs.Words.{subcommand_rows_of};
 ghost use Rattle.command_words.specs.Arguments.{rows_in};
-ghost use Rattle.command_words.specs.Words.{HasDates, HasLimits, HasSettings, asked, asked_by, check_in, command_in, judge_in, solve_in, tails_in};
+ghost use Rattle.command_words.specs.Words.{HasDates, HasLimits, HasSettings, asked, asked_by, check_in, command_in, judge_in, make_in, solve_in, tails_in};
 
 use crate::arguments::{
-    dates_of, day_settings_of, options_of, rotations_of, settings_of, value_of,
+    dates_of, day_settings_of, made_legs_of, made_number_of, options_of, rotations_of, settings_of,
+    value_of,
 };
 use crate::command::Command;
 use crate::program::program;
@@ -52,6 +53,7 @@ fn command_met<'a>(matches: &ArgMatches<'a>) -> Option<Command<'a>>
         "solve" => solve_of(found),
         "check" => check_of(found),
         "tails" => tails_of(found),
+        "make" => make_of(found),
         _ => None,
     }
 }
@@ -121,4 +123,17 @@ fn tails_of<'a>(found: &ArgMatches<'a>) -> Option<Command<'a>>
         rotations,
         dates,
     })
+}
+
+/// Making tables, with what was found for it.
+fn make_of<'a>(found: &ArgMatches<'a>) -> Option<Command<'a>>
+    ensures asked { option_map asked_by result ≡ make_in (rows_in found.now) }
+    ensures settings { IfSome result HasSettings }
+    ensures limits { IfSome result HasLimits }
+    ensures dates { IfSome result HasDates }
+{
+    let dir = value_of(found, "dir")?;
+    let number = made_number_of(found)?;
+    let legs = made_legs_of(found)?;
+    Some(Command::Make { dir, number, legs })
 }
