@@ -5,3 +5,7 @@ pub mod Choice
 pub mod PivotAnswers
 pub mod Points
 pub mod Small
+pub mod Changes
+pub mod Scan
+pub mod Steps
+pub mod StepChoice

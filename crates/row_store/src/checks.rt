@@ -4,7 +4,7 @@ ghost use Rattle.row_store.specs.Problem.{IsProblem, IsColumnWithin};
 
 use crate::first::entry;
 use crate::problem::Rows;
-use entries::Entries;
+use sparse_row::{Line, with_sizes};
 
 /// Whether the lines have one number for each real column and a right side, and there are as many costs,
 /// few enough of all to be numbered, and nothing in their first table is outgrown.
@@ -15,7 +15,7 @@ pub fn is_problem(rows: &Rows) -> bool
         && have_width(rows.lines.as_slice(), rows.columns)
         && rows.costs.len() == rows.columns as usize
         && are_within(rows.costs.as_slice())
-        && are_columns_within(rows)
+        && (are_lines_within(rows) || are_columns_within(rows))
 }
 
 fn has_few(rows: &Rows) -> bool
@@ -28,7 +28,7 @@ fn has_few(rows: &Rows) -> bool
 
 const FEW: usize = 1 << 32;
 
-fn have_width(lines: &[Entries<i128>], columns: u32) -> bool
+fn have_width(lines: &[Line], columns: u32) -> bool
     ensures { IsTrue result ↔ All (λ line. length line ≡ columns + 1) lines.now }
 {
     let width = columns as usize + 1;
@@ -39,6 +39,24 @@ fn are_within(costs: &[i128]) -> bool
     ensures { IsTrue result ↔ All IsWithin costs.now }
 {
     costs.iter().all(|cost| *cost != i128::MIN)
+}
+
+/// Whether the sizes of all numbers of the lines come to no outgrown number, so that those of no column do:
+/// mostly one look at each number decides.
+fn are_lines_within(rows: &Rows) -> bool
+    requires few { rows.now.columns + length rows.now.lines + 2 < 2 ^ 32 }
+    requires widths { All (λ line. length line ≡ rows.now.columns + 1) rows.now.lines }
+    ensures { IsTrue result → (column : ℕ) → column ≤ rows.now.columns → IsColumnWithin rows.now column }
+{
+    let lines = rows.lines.as_slice();
+    let mut sum = 0;
+    for line in 0..lines.len() {
+        let Some(more) = with_sizes(&lines[line], sum) else {
+            return false;
+        };
+        sum = more;
+    }
+    true
 }
 
 fn are_columns_within(rows: &Rows) -> bool

@@ -5,6 +5,7 @@ use crate::first::first_rows;
 use crate::pivoting::{pivot_growth, pivot_rows};
 use crate::problem::Rows;
 use crate::store::RowStore;
+use crate::turning::turn_row;
 use entries::NoMemory;
 use frac_row::FracRow;
 use std::alloc::Global;
@@ -53,6 +54,10 @@ impl RowStore for Dense {
         };
         pivot_rows(&mut self.rows, &pivot_row, row, column);
         Ok(())
+    }
+
+    fn turn(&mut self, row: u32) {
+        turn_row(&mut self.rows[row as usize]);
     }
 
     ghost is_table = { λ store. store.is_table };

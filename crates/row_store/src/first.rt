@@ -85,7 +85,7 @@ pub fn entry(rows: &Rows, line: u32, column: u32) -> i128
     requires column { column ≤ rows.now.columns }
     ensures { result ≡ entry rows.now line column }
 {
-    rows.lines.as_slice()[line as usize].as_slice()[column as usize]
+    rows.lines.as_slice()[line as usize].number(column)
 }
 
 /// A column's cost, and 0 for the right side.

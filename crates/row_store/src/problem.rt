@@ -1,4 +1,5 @@
 use entries::Entries;
+use sparse_row::Line;
 
 /// Lines with their costs: find numbers of at least 0, one for each real column, that meet all lines at
 /// least cost.
@@ -7,7 +8,7 @@ pub struct Rows {
     /// How many real columns there are.
     pub columns: u32,
     /// Each line has its real numbers and then its right side.
-    pub lines: Entries<Entries<i128>>,
+    pub lines: Entries<Line>,
     /// The cost of each real column.
     pub costs: Entries<i128>,
 }
