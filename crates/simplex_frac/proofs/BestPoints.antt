@@ -16,10 +16,11 @@ use Rattle.simplex_frac.specs.Duality.{den_at, IsReached, AreRightSidesAtLeast0}
 use Rattle.simplex_frac.specs.LastTables.{IsTurn, BestTells, NoPointTells}
 use Rattle.simplex_frac.specs.declared.turn.Turn.{Turn}
 use Rattle.simplex_frac.proofs.TurnCauses.{EndsBest, EndsNoPoint, ImprovesNot, best_ends, no_point_ends, none_improves}
-use Rattle.simplex_frac.proofs.FirstPoints.{rest_sum, MeetsFirst}
-use Rattle.simplex_frac.proofs.RunPoints.{phase_is, last_is, point_of_first, phase_kept}
+use Rattle.reached_tables.proofs.FirstPoints.{rest_sum, MeetsFirst}
+use Rattle.reached_tables.proofs.ReachedPoints.{phase_is, last_is, point_of_first, phase_kept}
+use Rattle.simplex_frac.proofs.RunPoints.{run_is_reached}
 use Rattle.simplex_frac.proofs.RightSides.{run_keeps_right_sides}
-use Rattle.simplex_frac.proofs.BasicSums.{IsBasicTable, basic_table, basic, basic_point, surplus_of_line, surplus_below_lines, common_scale, scale_over, scale_positive, scale_over_positive, over_scale}
+use Rattle.reached_tables.proofs.BasicSums.{IsBasicTable, basic_table, basic, basic_point, surplus_of_line, surplus_below_lines, common_scale, scale_over, scale_positive, scale_over_positive, over_scale}
 
 pub reached_of : {rows : Rows} {made : ℕ} {table : List FracRow} {basis : List ℕ} {does : Turn} → IsTurn rows made table basis does → IsReached rows made table basis
 reached_of h = record { problem = h.problem; reaches = h.turns.reaches }
@@ -62,16 +63,16 @@ whole_point rows table basis = basic_point basis (basic_value rows table) (lengt
 whole_meets : (rows : Rows) (made : ℕ) (table : List FracRow) (basis : List ℕ) → IsReached rows made table basis → MeetsFirst rows (whole_point rows table basis) (common_scale table (length rows.lines))
 unfolding whole_point basic_value
 whole_meets rows made table basis h =
-    point_of_first rows made table basis _ _ h
-    (λ line lt. surplus_of_line rows table basis (λ l. number_at table l (rows.columns + length rows.lines) *ℤ scale_over table (length rows.lines) l) (common_scale table (length rows.lines)) line (basic_table rows made table basis h) lt
+    point_of_first rows table basis _ _ (run_is_reached rows made table basis h)
+    (λ line lt. surplus_of_line rows table basis (λ l. number_at table l (rows.columns + length rows.lines) *ℤ scale_over table (length rows.lines) l) (common_scale table (length rows.lines)) line (basic_table rows table basis (run_is_reached rows made table basis h)) lt
     ∙ no_difference _ _ (over_scale rows table line (number_at table line (rows.columns + length rows.lines)) lt))
 
 value_at_least_0 : (rows : Rows) (made : ℕ) (table : List FracRow) (basis : List ℕ) → IsReached rows made table basis → AreRightSidesAtLeast0 rows → (line : ℕ) → line < length rows.lines → pos 0 ≤ℤ basic_value rows table line
 unfolding basic_value
 value_at_least_0 rows made table basis h sides line lt =
     product_at_least_0 (number_at table line (rows.columns + length rows.lines)) (scale_over table (length rows.lines) line)
-    (subst (λ c. pos 0 ≤ℤ number_at table line c) (last_is (basic_table rows made table basis h).is) (run_keeps_right_sides rows made table basis line h sides lt))
-    (above_is_some _ (scale_over_positive rows table basis line (basic_table rows made table basis h)))
+    (subst (λ c. pos 0 ≤ℤ number_at table line c) (last_is (basic_table rows table basis (run_is_reached rows made table basis h)).is) (run_keeps_right_sides rows made table basis line h sides lt))
+    (above_is_some _ (scale_over_positive rows table basis line (basic_table rows table basis (run_is_reached rows made table basis h))))
 
 whole_at_least_0 : (rows : Rows) (made : ℕ) (table : List FracRow) (basis : List ℕ) → IsReached rows made table basis → AreRightSidesAtLeast0 rows → (column : ℕ) → pos 0 ≤ℤ whole_point rows table basis column
 unfolding whole_point basic_point
@@ -88,14 +89,14 @@ phase_side : (rows : Rows) (made : ℕ) (table : List FracRow) (basis : List ℕ
     → pos 0 -ℤ (right_side table (phase_row table) *ℤ common_scale table (length rows.lines)) ≡ rest_sum rows (whole_point rows table basis) *ℤ den_at table (phase_row table)
 unfolding whole_point
 phase_side rows made table basis h =
-    let t : IsBasicTable rows table basis = basic_table rows made table basis h in
+    let t : IsBasicTable rows table basis = basic_table rows table basis (run_is_reached rows made table basis h) in
     ap (λ c. pos 0 -ℤ (number_at table (phase_row table) c *ℤ common_scale table (length rows.lines))) (last_is t.is)
     ∙ sym (surplus_below_lines rows table basis (basic_value rows table) (common_scale table (length rows.lines)) (phase_row table) t (rw (phase_is t.is) (omega arith)) (rw (phase_is t.is) (omega arith)))
-    ∙ phase_kept rows made table basis (whole_point rows table basis) (common_scale table (length rows.lines)) h (whole_meets rows made table basis h)
+    ∙ phase_kept rows table basis (whole_point rows table basis) (common_scale table (length rows.lines)) (run_is_reached rows made table basis h) (whole_meets rows made table basis h)
 
 phase_den : (rows : Rows) (made : ℕ) (table : List FracRow) (basis : List ℕ) → IsReached rows made table basis → pos 0 <ℤ den_at table (phase_row table)
 phase_den rows made table basis h =
-    let t : IsBasicTable rows table basis = basic_table rows made table basis h in t.is.dens (phase_row table) (rw (phase_is t.is) (omega arith))
+    let t : IsBasicTable rows table basis = basic_table rows table basis (run_is_reached rows made table basis h) in t.is.dens (phase_row table) (rw (phase_is t.is) (omega arith))
 
 -- ---- no point
 pub no_point_tells : NoPointTells
@@ -106,7 +107,7 @@ no_point_tells rows made table basis h sides =
     product_at_least_0 _ _ (rest_at_least_0 rows made table basis now sides) (above_is_some _ (phase_den rows made table basis now)) in
     record {
       phase = λ column lt. (none_improves table rows.columns column ends.none lt).phase;
-      unmet = below (right_side table (phase_row table)) (common_scale table (length rows.lines)) _ (scale_positive rows table basis (basic_table rows made table basis now)) (phase_side rows made table basis now) rest ends.unmet;
+      unmet = below (right_side table (phase_row table)) (common_scale table (length rows.lines)) _ (scale_positive rows table basis (basic_table rows table basis (run_is_reached rows made table basis now))) (phase_side rows made table basis now) rest ends.unmet;
     }
   where
     less : (r : ℤ) → pos 0 ≤ℤ neg_ℤ r → (r ≡ pos 0 → ⊥) → r <ℤ pos 0
@@ -136,7 +137,7 @@ pub side_is_0 : (rows : Rows) (made : ℕ) (table : List FracRow) (basis : List 
     → number_at table line (rows.columns + length rows.lines) ≡ pos 0
 unfolding whole_point basic_point basic_value at_place
 side_is_0 rows made table basis line h sides met lt ge =
-    let t : IsBasicTable rows table basis = basic_table rows made table basis h in
+    let t : IsBasicTable rows table basis = basic_table rows table basis (run_is_reached rows made table basis h) in
     let at : ℕ = basic basis line - rows.columns in
     let same : rows.columns + at ≡ basic basis line = back rows.columns (basic basis line) ge in
     let empty : whole_point rows table basis (basic basis line) ≡ pos 0 = subst (λ c. whole_point rows table basis c ≡ pos 0) same (identity_is_0 rows made table basis at h sides met (within rows.columns (basic basis line) (length rows.lines) ge (t.units.within line lt))) in

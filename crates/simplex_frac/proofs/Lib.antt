@@ -2,13 +2,11 @@ pub mod OneOutcome
 pub mod RunLaws
 pub mod Stages
 pub mod Turns
-pub mod FirstPoints
 pub mod RunPoints
 pub mod ReadOff
 pub mod UnitColumns
 pub mod TurnCauses
 pub mod RightSides
-pub mod BasicSums
 pub mod BestPoints
 pub mod MetPoints
 pub mod RayPoints

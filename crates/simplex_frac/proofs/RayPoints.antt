@@ -22,9 +22,10 @@ use Rattle.simplex_frac.specs.Duality.{den_at, IsReached}
 use Rattle.simplex_frac.specs.LastTables.{IsTurn, IsDirection, RayIsDirection}
 use Rattle.simplex_frac.specs.declared.turn.Turn.TheVariants.{Ray}
 use Rattle.simplex_frac.proofs.TurnCauses.{EndsRay, Improves, ray_ends, entering_improves}
-use Rattle.simplex_frac.proofs.FirstPoints.{line_sum, cost_sum, rest_sum, MeetsFirst}
-use Rattle.simplex_frac.proofs.RunPoints.{phase_is, cost_is, point_of_first, phase_kept, cost_kept}
-use Rattle.simplex_frac.proofs.BasicSums.{IsBasicTable, basic_table, basic, basic_point, sum_of_line, sum_below_lines, common_scale, scale_over, scale_positive, scale_over_positive, over_scale}
+use Rattle.reached_tables.proofs.FirstPoints.{line_sum, cost_sum, rest_sum, MeetsFirst}
+use Rattle.reached_tables.proofs.ReachedPoints.{phase_is, cost_is, point_of_first, phase_kept, cost_kept}
+use Rattle.simplex_frac.proofs.RunPoints.{run_is_reached}
+use Rattle.reached_tables.proofs.BasicSums.{IsBasicTable, basic_table, basic, basic_point, sum_of_line, sum_below_lines, common_scale, scale_over, scale_positive, scale_over_positive, over_scale}
 use Rattle.simplex_frac.proofs.BestPoints.{reached_of}
 
 -- a column that may rise without end
@@ -38,7 +39,7 @@ record IsRay (rows : Rows) (made : ℕ) (table : List FracRow) (basis : List ℕ
 ray_is : (rows : Rows) (made : ℕ) (table : List FracRow) (basis : List ℕ) (column : ℕ) → IsTurn rows made table basis (Ray column) → IsRay rows made table basis column
 ray_is rows made table basis column h =
     let ends : EndsRay (record { table = table; basis = basis }) rows.columns column = ray_ends (record { table = table; basis = basis }) rows.columns column h.turns.turns in
-    let t : IsBasicTable rows table basis = basic_table rows made table basis (reached_of h) in
+    let t : IsBasicTable rows table basis = basic_table rows table basis (run_is_reached rows made table basis (reached_of h)) in
     record {
       reached = reached_of h;
       is = t;
@@ -93,7 +94,7 @@ ray_below rows made table basis column row r ge lt =
 
 ray_meets : (rows : Rows) (made : ℕ) (table : List FracRow) (basis : List ℕ) (column : ℕ) → IsRay rows made table basis column → MeetsFirst rows (ray_point rows table basis column) (pos 0)
 ray_meets rows made table basis column r =
-    point_of_first rows made table basis (ray_point rows table basis column) (pos 0) r.reached (λ line lt. ray_line rows made table basis column line r lt)
+    point_of_first rows table basis (ray_point rows table basis column) (pos 0) (run_is_reached rows made table basis r.reached) (λ line lt. ray_line rows made table basis column line r lt)
 
 -- ---- nothing falls below 0
 
@@ -130,7 +131,7 @@ phase_rise : (rows : Rows) (made : ℕ) (table : List FracRow) (basis : List ℕ
     → common_scale table (length rows.lines) *ℤ number_at table (phase_row table) column ≡ rest_sum rows (ray_point rows table basis column) *ℤ den_at table (phase_row table)
 phase_rise rows made table basis column r =
     sym (ray_below rows made table basis column (phase_row table) r (rw (phase_is r.is.is) (omega arith)) (rw (phase_is r.is.is) (omega arith)))
-    ∙ phase_kept rows made table basis (ray_point rows table basis column) (pos 0) r.reached (ray_meets rows made table basis column r)
+    ∙ phase_kept rows table basis (ray_point rows table basis column) (pos 0) (run_is_reached rows made table basis r.reached) (ray_meets rows made table basis column r)
 
 phase_den : (rows : Rows) (made : ℕ) (table : List FracRow) (basis : List ℕ) (column : ℕ) → IsRay rows made table basis column → pos 0 <ℤ den_at table (phase_row table)
 phase_den rows made table basis column r = r.is.is.dens (phase_row table) (rw (phase_is r.is.is) (omega arith))
@@ -158,7 +159,7 @@ cost_falls rows made table basis column r =
     factor_below_0 (den_at table (cost_row table)) (cost_sum rows (ray_point rows table basis column)) (r.is.is.dens (cost_row table) (rw (cost_is r.is.is) (omega arith)))
     (subst (λ x. x <ℤ pos 0)
     (sym (ray_below rows made table basis column (cost_row table) r (rw (cost_is r.is.is) (omega arith)) (rw (cost_is r.is.is) (omega arith)))
-    ∙ cost_kept rows made table basis (ray_point rows table basis column) (pos 0) r.reached (ray_meets rows made table basis column r)
+    ∙ cost_kept rows table basis (ray_point rows table basis column) (pos 0) (run_is_reached rows made table basis r.reached) (ray_meets rows made table basis column r)
     ∙ *ℤ_comm (cost_sum rows (ray_point rows table basis column)) (den_at table (cost_row table)))
     (product_below_0 (common_scale table (length rows.lines)) (number_at table (cost_row table) column) (scale_positive rows table basis r.is) (r.improves.cost (phase_is_0 rows made table basis column r))))
 

@@ -8,7 +8,8 @@ use Rattle.frac_row.specs.declared.row.FracRow.{FracRow}
 use Rattle.row_store.specs.Table.{number_at, phase_row, cost_row, right_side}
 use Rattle.row_store.specs.Choice.{is_negative, improves, is_improving, entering, leaving}
 use Rattle.row_store.proofs.Choices.{entering_is}
-use Rattle.simplex_frac.specs.Run.{Tableau, turn, turn_by, turn_at}
+use Rattle.reached_tables.specs.Tableaux.{Tableau}
+use Rattle.simplex_frac.specs.Run.{turn, turn_by, turn_at}
 use Rattle.simplex_frac.specs.declared.turn.Turn.TheVariants.{Best, NoPoint, Ray, Pivot}
 
 -- ---- the pivot

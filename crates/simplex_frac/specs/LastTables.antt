@@ -1,11 +1,12 @@
 -- What the last table of the run tells: at the best, where there is no point, and at a ray.
-use Rattle.std.specs.Prelude.{ℕ, pos, neg_ℤ, ◌*ℤ◌, ◌<◌, ◌≡◌, ◌≢◌, ◌<ℤ◌, ◌≤ℤ◌, List, length, slice_index}
+use Rattle.std.specs.Prelude.{ℕ, pos, ◌<◌, ◌≡◌, ◌<ℤ◌, ◌≤ℤ◌, List}
 use Rattle.frac_row.specs.declared.row.FracRow.{FracRow}
 use Rattle.row_store.specs.declared.problem.Rows.{Rows}
 use Rattle.row_store.specs.Table.{number_at, phase_row, cost_row, right_side}
 use Rattle.row_store.specs.Problem.{IsProblem, first_table, MeetsRows, point_cost}
 use Rattle.simplex_frac.specs.Outcomes.{TurnsAt}
-use Rattle.simplex_frac.specs.Duality.{den_at, AreRightSidesAtLeast0}
+use Rattle.simplex_frac.specs.Duality.{AreRightSidesAtLeast0}
+pub use Rattle.reached_tables.specs.BasicPoints.{IsBasicPoint, MeetsAtCost}
 use Rattle.simplex_frac.specs.declared.turn.Turn.{Turn}
 use Rattle.simplex_frac.specs.declared.turn.Turn.TheVariants.{Best, NoPoint, Ray}
 
@@ -38,19 +39,8 @@ pub record IsNoPointTable (rows : Rows) (table : List FracRow) : Type 0 where
 abbrev pub NoPointTells : Type 0
 NoPointTells = (rows : Rows) (made : ℕ) (table : List FracRow) (basis : List ℕ) → IsTurn rows made table basis NoPoint → AreRightSidesAtLeast0 rows → IsNoPointTable rows table
 
--- a point over a scale that has in each basic real column the right side of its line over the denominator, and 0 in
--- all other real columns
-pub record IsBasicPoint (rows : Rows) (table : List FracRow) (basis : List ℕ) (scale : ℕ) (x : ℕ → ℕ) : Type 0 where
-  pub basic : (line : ℕ) → line < length rows.lines → slice_index basis line < rows.columns
-      → pos (x (slice_index basis line)) *ℤ den_at table line ≡ right_side table line *ℤ pos scale
-  pub others : (column : ℕ) → column < rows.columns → ((line : ℕ) → line < length rows.lines → slice_index basis line ≢ column) → x column ≡ 0
-
--- it meets the lines, and costs what the right side of the cost row says with the other sign
-pub record MeetsAtCost (rows : Rows) (table : List FracRow) (scale : ℕ) (x : ℕ → ℕ) : Type 0 where
-  pub meets : MeetsRows rows scale x
-  pub cost : point_cost rows x *ℤ den_at table (cost_row table) ≡ neg_ℤ (right_side table (cost_row table)) *ℤ pos scale
-
--- .. at the best, from right sides of at least 0
+-- the basic point meets the lines, and costs what the right side of the cost row says with the other sign,
+-- at the best, from right sides of at least 0
 abbrev pub BasicPointMeets : Type 0
 BasicPointMeets =
     (rows : Rows) (made : ℕ) (table : List FracRow) (basis : List ℕ) (scale : ℕ) (x : ℕ → ℕ) → IsTurn rows made table basis Best → AreRightSidesAtLeast0 rows → IsBasicPoint rows table basis scale x → MeetsAtCost rows table scale x

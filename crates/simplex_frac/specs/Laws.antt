@@ -1,9 +1,11 @@
 -- Laws of the run.
 use Rattle.std.specs.Prelude.{ℕ, ℤ, ◌*ℤ◌, ◌-◌, ◌<◌, ◌≡◌, ◌↔◌, List, length, Some}
 use Rattle.frac_row.specs.declared.row.FracRow.{FracRow}
-use Rattle.row_store.specs.Table.{row_at, height_of, columns_of, HasColumns, IsTable}
+use Rattle.row_store.specs.Table.{row_at, columns_of, HasColumns, IsTable}
 use Rattle.row_store.specs.Points.{surplus, MeetsLines}
-use Rattle.simplex_frac.specs.Run.{Tableau, stage}
+use Rattle.reached_tables.specs.Tableaux.{Tableau}
+use Rattle.reached_tables.specs.Laws.{KeepsShape}
+use Rattle.simplex_frac.specs.Run.{stage}
 use Rattle.simplex_frac.specs.Outcomes.{IsOutcome}
 use Rattle.simplex_frac.specs.declared.outcome.Outcome.{Outcome}
 
@@ -18,12 +20,6 @@ RunKeepsSurplus =
     (first : List FracRow) (columns pivots : ℕ) (now : Tableau) (point : ℕ → ℤ) (scale : ℤ) (row : ℕ) → IsTable first → HasColumns first columns → stage first columns pivots ≡ Some now → MeetsLines first point scale → row < length first → (surplus (row_at now.table row) (columns_of first - 1) point scale *ℤ (row_at first row).den) ≡ (surplus (row_at first row) (columns_of first - 1) point scale *ℤ (row_at now.table row).den)
 
 -- each stage is a table of the first one's shape, with a basic column for each line
-pub record KeepsShape (first : List FracRow) (columns : ℕ) (now : Tableau) : Type 0 where
-  pub is_table : IsTable now.table
-  pub shape : HasColumns now.table columns
-  pub height : length now.table ≡ length first
-  pub basis : length now.basis ≡ height_of first
-
 abbrev pub RunKeepsShape : Type 0
 RunKeepsShape =
     (first : List FracRow) (columns pivots : ℕ) (now : Tableau) → IsTable first → HasColumns first columns → stage first columns pivots ≡ Some now → KeepsShape first columns now

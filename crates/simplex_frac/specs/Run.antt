@@ -1,22 +1,13 @@
 -- The run of the simplex method from a first table.
-use Rattle.std.specs.Prelude.{ℕ, zero, suc, ◌+◌, ◌==◌, List, slice_set, unsigned_abs, Option, Some, None, option_and_then, if◌then◌else◌}
-use Rattle.sums.specs.Places.{list_below}
+use Rattle.std.specs.Prelude.{ℕ, zero, suc, ◌==◌, List, slice_set, unsigned_abs, Option, Some, None, option_and_then, if◌then◌else◌}
 use Rattle.frac_row.specs.declared.row.FracRow.{FracRow}
 use Rattle.row_store.specs.declared.error.Place.{Place}
-use Rattle.row_store.specs.Table.{height_of, phase_row, right_side}
+use Rattle.row_store.specs.Table.{phase_row, right_side}
 use Rattle.row_store.specs.Pivot.{pivoted, pivot_growth}
 use Rattle.row_store.specs.Choice.{entering, leaving}
+use Rattle.reached_tables.specs.Tableaux.{Tableau, first_tableau}
 use Rattle.simplex_frac.specs.declared.turn.Turn.{Turn}
 use Rattle.simplex_frac.specs.declared.turn.Turn.TheVariants.{Best, NoPoint, Ray, Pivot}
-
--- a table, and the basic column of each line
-pub record Tableau : Type 0 where
-  pub table : List FracRow
-  pub basis : List ℕ
-
--- the basis is the identity block, line by line
-unfoldable pub first_tableau : List FracRow → ℕ → Tableau
-first_tableau table columns = record { table = table; basis = list_below (λ line. columns + line) (height_of table) }
 
 -- where a column enters: a ray, or the place of the pivot
 abbrev pub turn_at : ℕ → Option ℕ → Turn

@@ -1,8 +1,13 @@
 //! Laws of the run, each a function whose contract is the law.
 
-ghost use Rattle.simplex_frac.specs.Duality.{RunHasTables, RunHasUnitColumns, RunKeepsRightSides, RunReadsOff};
+ghost use Rattle.simplex_frac.specs.Duality.{RunHasTables, RunHasUnitColumns, RunIsReached, RunKeepsRightSides, RunReadsOff};
 ghost use Rattle.simplex_frac.specs.LastTables.{BasicPointMeets, BestTells, NoPointTells, RayIsDirection};
 ghost use Rattle.simplex_frac.specs.Laws.{HasOneOutcome, RunKeepsPoints, RunKeepsShape, RunKeepsSurplus};
+
+/// Steps reach each table of the run of a problem, so that it tells what all tables tell that steps reach.
+pub fn run_is_reached()
+    ensures { RunIsReached }
+{}
 
 /// A point meets the lines of the run's table after so many pivots exactly where it meets those of the
 /// first table.

@@ -1,5 +1,4 @@
-ghost use Rattle.std.specs.Prelude.{◌≡◌, ◌+◌, ◌<◌, ◌^◌, length, IfOk, OnErr};
-ghost use Rattle.sums.specs.Places.{list_below};
+ghost use Rattle.std.specs.Prelude.{◌≡◌, length, IfOk, OnErr};
 ghost use Rattle.row_store.specs.Table.{HasColumns};
 ghost use Rattle.simplex_frac.specs.Outcomes.{IsOutcome, MayWantMemory};
 ghost use Rattle.simplex_frac.specs.Ends.{IsRefused, end_of};
@@ -7,6 +6,7 @@ ghost use Rattle.simplex_frac.specs.Ends.{IsRefused, end_of};
 use crate::outcome::Outcome;
 use crate::turn::{Turn, next_turn};
 use entries::{Entries, NoMemory};
+use reached_tables::first_basis;
 use row_store::{PivotError, RowStore};
 use std::alloc::Global;
 
@@ -26,7 +26,7 @@ pub fn solve<R: RowStore>(
     ensures height { length (R.content store.new) ≡ length (R.content store.old) }
     ensures stopped { OnErr result (MayWantMemory (R.content store.old) columns pivots (R.content store.new)) }
 {
-    let Ok(mut basis) = identity_basis(alloc, columns, store.height()) else {
+    let Ok(mut basis) = first_basis(alloc, columns, store.height()) else {
         return Err(NoMemory);
     };
     for made in 0..pivots {
@@ -41,18 +41,6 @@ pub fn solve<R: RowStore>(
     }
     let turn = next_turn(store, basis.as_slice(), columns);
     Ok(end(turn, basis, pivots))
-}
-
-/// The identity block's columns, line by line.
-fn identity_basis(alloc: Global, columns: u32, height: u32) -> Result<Vec<u32>, NoMemory>
-    requires { columns + height < 2 ^ 32 }
-    ensures { IfOk result (λ basis. basis.items ≡ list_below (λ line. columns + line) height) }
-{
-    let mut basis = Vec::new(alloc);
-    for line in 0..height {
-        basis.push(columns + line)?;
-    }
-    Ok(basis)
 }
 
 /// How the run ends at a turn: a pivot is one more than the budget allows.

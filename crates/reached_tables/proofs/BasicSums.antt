@@ -14,17 +14,17 @@ use Rattle.frac_row.specs.declared.row.FracRow.{FracRow}
 use Rattle.row_store.specs.declared.problem.Rows.{Rows}
 use Rattle.row_store.specs.Table.{row_at, number_at}
 use Rattle.row_store.specs.Points.{surplus}
-use Rattle.simplex_frac.specs.Duality.{den_at, IsReached, IsTableOf, HasUnitColumns}
-use Rattle.simplex_frac.proofs.RunPoints.{has_tables}
-use Rattle.simplex_frac.proofs.UnitColumns.{run_has_unit_columns}
+use Rattle.reached_tables.specs.Duality.{den_at, IsReachedBySteps, IsTableOf, HasUnitColumns}
+use Rattle.reached_tables.proofs.ReachedPoints.{has_tables}
+use Rattle.reached_tables.proofs.UnitColumns.{has_unit_columns}
 
--- a table of the run, as the lemmas below read it
+-- a reached table, as the lemmas below read it
 pub record IsBasicTable (rows : Rows) (table : List FracRow) (basis : List ℕ) : Type 0 where
   pub is : IsTableOf rows table basis
   pub units : HasUnitColumns rows table basis
 
-pub basic_table : (rows : Rows) (made : ℕ) (table : List FracRow) (basis : List ℕ) → IsReached rows made table basis → IsBasicTable rows table basis
-basic_table rows made table basis h = record { is = has_tables rows made table basis h; units = run_has_unit_columns rows made table basis h }
+pub basic_table : (rows : Rows) (table : List FracRow) (basis : List ℕ) → IsReachedBySteps rows table basis → IsBasicTable rows table basis
+basic_table rows table basis h = record { is = has_tables rows table basis h; units = has_unit_columns rows table basis h }
 
 -- the basic column of a line
 abbrev pub basic : List ℕ → ℕ → ℕ

@@ -1,0 +1,5 @@
+pub mod Tableaux
+pub mod Laws
+pub mod Duality
+pub mod BasicPoints
+pub mod Signs
