@@ -8,12 +8,13 @@ use Rattle.std.proofs.lemmas.List.Elements.{All-cons, All-nil}
 use Rattle.fleet_model.specs.Schedule.{fleets_in}
 use Rattle.fleet_model.specs.declared.tables.Tables.{Tables}
 use Rattle.bound_cert.specs.Lines.{Left, Reading, Stopped, ◌>>=◌, first_words, stands, words_of}
-use Rattle.bound_cert.specs.OfTables.{IsStepOf}
+use Rattle.dual_bound.specs.OfTables.{IsStepOf}
 use Rattle.bound_cert.specs.ProofText.{at_line, mixed_line, scale_line}
-use Rattle.bound_cert.specs.Reading.{goes_on_at, is_needless, mixed_at, padded, prices_at, rent_at, rents_from, same_place, scale_at, step_at, step_follows, steps_from, weight_at, weights_from}
-use Rattle.bound_cert.specs.WrittenOrder.{IsFigure, IsStepInOrder, goes_on}
-use Rattle.bound_cert.specs.declared.mixed.Weight.{Weight}
-use Rattle.bound_cert.specs.declared.prices.PriceStep.{PriceStep}
+use Rattle.bound_cert.specs.Reading.{goes_on_at, is_needless, mixed_at, padded, prices_at, rent_at, rents_from, scale_at, step_at, steps_from, weight_at, weights_from}
+use Rattle.dual_bound.specs.Order.{same_place, step_follows}
+use Rattle.dual_bound.specs.WrittenOrder.{IsFigure, IsStepInOrder, goes_on}
+use Rattle.dual_bound.specs.declared.mixed.Weight.{Weight}
+use Rattle.dual_bound.specs.declared.prices.PriceStep.{PriceStep}
 use Rattle.bound_cert.specs.declared.reading_lines.Due.TheVariants as due
 use Rattle.bound_cert.proofs.LineTwins.{Alike, Twin, alike_first, alike_self, rent_twin, scale_twin, step_twin, weight_twin}
 use Rattle.bound_cert.proofs.LinesOfWords.{mixed_line_is}

@@ -7,10 +7,10 @@ use Rattle.std.proofs.lemmas.List.{append_cancel_right}
 use Rattle.std.proofs.lemmas.List.Elements.{All-head, All-tail, All-weaker}
 use Rattle.std.proofs.lemmas.List.Splits.{slice_split_at, slice_split_none}
 use Rattle.fleet_model.specs.declared.tables.Tables.{Tables}
-use Rattle.bound_cert.specs.OfTables.{IsOfTables}
+use Rattle.dual_bound.specs.OfTables.{IsOfTables}
 use Rattle.bound_cert.specs.ProofText.{Line, line_feed, lines_of, proof_lines, proof_text, space}
 use Rattle.bound_cert.specs.Words.{IsOfWords, IsPlain, IsVisible, IsWord}
-use Rattle.bound_cert.specs.declared.trees.Tree.{Tree}
+use Rattle.dual_bound.specs.declared.trees.Tree.{Tree}
 use Rattle.bound_cert.proofs.LinesOfWords.{joined_plain, lines_are_of_words}
 
 abbrev is_space : ℕ → Bool

@@ -11,7 +11,7 @@ use Rattle.std.proofs.lemmas.Slice.Eq.{bytes_eq-Decides}
 use Rattle.std.specs.Str.{IsAscii}
 use Rattle.sums.proofs.Tests.{parts_true}
 use Rattle.bound_cert.specs.Figures.{natural_in}
-use Rattle.bound_cert.specs.declared.figures.TheConstants.{MAX_SIZE}
+use Rattle.dual_bound.specs.declared.prices.TheConstants.{MAX_SIZE}
 
 -- no number up to this one has the word as its decimal form
 abbrev pub IsNone : ℕ → List ℕ → Type 0

@@ -10,11 +10,13 @@ use Rattle.bound_cert.specs.FirstFault.{is_zero_step}
 use Rattle.bound_cert.specs.Known.{fleet_named, leg_named, station_named}
 use Rattle.bound_cert.specs.Lines.{Left, Reading, ◌>>=◌, first_words, is_plain, is_spaced, line_due, of_width, present, stands, stopped, width_of, word_at, words_of}
 use Rattle.bound_cert.specs.Nodes.{plan_at}
-use Rattle.bound_cert.specs.Reading.{count_at, deep_at, figures_by, goes_on_at, grew_by, head_at, head_of, in_order, is_needless, lift_by, open_head, pair_at, place_by, rent_at, rent_by, rent_follows, scale_at, step_at, step_by, step_follows, step_of, weight_at, weight_by, weight_follows, weight_of}
+use Rattle.bound_cert.specs.Reading.{count_at, deep_at, figures_by, goes_on_at, grew_by, head_at, head_of, in_order, is_needless, lift_by, open_head, pair_at, place_by, rent_at, rent_by, rent_follows, scale_at, step_at, step_by, step_of, weight_at, weight_by, weight_of}
+use Rattle.dual_bound.specs.Order.{step_follows, weight_follows}
 use Rattle.bound_cert.specs.Reading as reading
-use Rattle.bound_cert.specs.declared.faults.TheConstants.{MAX_DEPTH, UNKNOWN_NAME, WRONG_NUMBER}
-use Rattle.bound_cert.specs.declared.mixed.Weight.{Weight}
-use Rattle.bound_cert.specs.declared.prices.PriceStep.{PriceStep}
+use Rattle.bound_cert.specs.declared.faults.TheConstants.{UNKNOWN_NAME, WRONG_NUMBER}
+use Rattle.dual_bound.specs.declared.trees.TheConstants.{MAX_DEPTH}
+use Rattle.dual_bound.specs.declared.mixed.Weight.{Weight}
+use Rattle.dual_bound.specs.declared.prices.PriceStep.{PriceStep}
 use Rattle.bound_cert.specs.declared.reading_lines.Due.{Due}
 use Rattle.bound_cert.specs.declared.reading_lines.Due.TheVariants as due
 use Rattle.bound_cert.proofs.FigureWords.{bytes_same}

@@ -7,18 +7,18 @@ use Rattle.std.specs.Ordering.{int_eq}
 use Rattle.std.proofs.lemmas.List.Elements.{All-append, All-cons, All-from_recursion, All-head, All-map, All-nil, All-tail, All-weaker}
 use Rattle.fleet_model.specs.Schedule.{IsPair, fleet_of, fleets_in, leg_of, leg_on, legs_in, station_of}
 use Rattle.fleet_model.specs.declared.tables.Tables.{Tables}
-use Rattle.bound_cert.specs.OfTables.{ArePricesOf, IsCauseOf, IsMixedOf, IsOfTables, IsStepOf, IsWeightOf}
-use Rattle.bound_cert.specs.Prices.{rent_of}
+use Rattle.dual_bound.specs.OfTables.{ArePricesOf, IsCauseOf, IsMixedOf, IsOfTables, IsStepOf, IsWeightOf}
+use Rattle.dual_bound.specs.Prices.{rent_of}
 use Rattle.bound_cert.specs.ProofText.{Line, at_line, bare_line, cause_lines, end_line, head_line, mixed_line, mixed_lines, node_lines, open_line, plan_line, price_lines, priced_line, proof_lines, refuted_line, rent_line, rent_lines, rent_lines_at, scale_line, sole_line, space, split_line, step_lines, tree_lines, trim_line, weight_line, weight_lines}
 use Rattle.bound_cert.specs.Words.{IsOfWords, IsPlain, IsPlainLine, IsVisible, IsWord}
-use Rattle.bound_cert.specs.declared.mixed.Mixed.{Mixed}
-use Rattle.bound_cert.specs.declared.mixed.Weight.{Weight}
-use Rattle.bound_cert.specs.declared.prices.Prices.{Prices}
-use Rattle.bound_cert.specs.declared.prices.PriceStep.{PriceStep}
-use Rattle.bound_cert.specs.declared.trees.Cause.{Cause}
-use Rattle.bound_cert.specs.declared.trees.Cause.TheVariants as cause
-use Rattle.bound_cert.specs.declared.trees.Tree.{Tree}
-use Rattle.bound_cert.specs.declared.trees.Tree.TheVariants as tree
+use Rattle.dual_bound.specs.declared.mixed.Mixed.{Mixed}
+use Rattle.dual_bound.specs.declared.mixed.Weight.{Weight}
+use Rattle.dual_bound.specs.declared.prices.Prices.{Prices}
+use Rattle.dual_bound.specs.declared.prices.PriceStep.{PriceStep}
+use Rattle.dual_bound.specs.declared.trees.Cause.{Cause}
+use Rattle.dual_bound.specs.declared.trees.Cause.TheVariants as cause
+use Rattle.dual_bound.specs.declared.trees.Tree.{Tree}
+use Rattle.dual_bound.specs.declared.trees.Tree.TheVariants as tree
 use Rattle.bound_cert.proofs.Words.{fleet_word, flight_word, number_word, signed_word, station_word, written}
 
 of_words : (word : List ℕ) (others : List (List ℕ)) → IsWord word → All IsWord others → IsOfWords (word ∷ others)

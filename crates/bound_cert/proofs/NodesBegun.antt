@@ -10,12 +10,12 @@ use Rattle.bound_cert.specs.Nodes.{Above, after_node, after_tree, nodes_from}
 use Rattle.bound_cert.specs.ProofText.{Line, mixed_lines, price_lines, sole_line, split_line, trim_line}
 use Rattle.bound_cert.specs.Reading.{body_at, head_at, mixed_at, mixed_node, node_at, priced_node, prices_at}
 use Rattle.bound_cert.specs.Words.{IsOfWords}
-use Rattle.bound_cert.specs.WrittenOrder.{IsNodeInOrder}
-use Rattle.bound_cert.specs.declared.faults.TheConstants.{MAX_DEPTH}
+use Rattle.dual_bound.specs.WrittenOrder.{IsNodeInOrder}
+use Rattle.dual_bound.specs.declared.trees.TheConstants.{MAX_DEPTH}
 use Rattle.bound_cert.specs.declared.nodes.Head.{Head}
 use Rattle.bound_cert.specs.declared.nodes.Head.TheVariants as head
-use Rattle.bound_cert.specs.declared.nodes.Node.{Node}
-use Rattle.bound_cert.specs.declared.nodes.Node.TheVariants as node
+use Rattle.dual_bound.specs.declared.nodes.Node.{Node}
+use Rattle.dual_bound.specs.declared.nodes.Node.TheVariants as node
 use Rattle.bound_cert.proofs.Completing.{Completes, EndsBy, MayAt, Stays, alike_after, ends_lift, ends_map, ends_read, ends_then, mixed_goes, not_there, one_mixed, prices_go, some_more, value_of}
 use Rattle.bound_cert.proofs.LineTwins.{alike_self, head_twin}
 use Rattle.bound_cert.proofs.LinesOfWords.{sole_is, split_is, trim_is}

@@ -7,12 +7,12 @@ use Rattle.bound_cert.specs.FirstFault.{LinesBeforeBeginProof, is_inner_line}
 use Rattle.bound_cert.specs.Lines.{Left, Reading, Stopped, ◌>>=◌, line_due}
 use Rattle.bound_cert.specs.Nodes.{end_at, head_is, nodes_from, nothing, plan_at, proof_at, rest_at, tree_at}
 use Rattle.bound_cert.specs.ProofText.{head_line, plan_line, sole_line}
-use Rattle.bound_cert.specs.WrittenOrder.{IsNodeInOrder}
-use Rattle.bound_cert.specs.declared.faults.TheConstants.{MAX_DEPTH}
-use Rattle.bound_cert.specs.declared.nodes.Node.{Node}
-use Rattle.bound_cert.specs.declared.nodes.Node.TheVariants as node
+use Rattle.dual_bound.specs.WrittenOrder.{IsNodeInOrder}
+use Rattle.dual_bound.specs.declared.trees.TheConstants.{MAX_DEPTH}
+use Rattle.dual_bound.specs.declared.nodes.Node.{Node}
+use Rattle.dual_bound.specs.declared.nodes.Node.TheVariants as node
 use Rattle.bound_cert.specs.declared.reading_lines.Due.TheVariants as due
-use Rattle.bound_cert.specs.declared.trees.Tree.TheVariants as tree
+use Rattle.dual_bound.specs.declared.trees.Tree.TheVariants as tree
 use Rattle.bound_cert.proofs.Completing.{MayAt, alike_after, not_there, some_more, value_of}
 use Rattle.bound_cert.proofs.LineTwins.{alike_self, line_twin, plan_twin}
 use Rattle.bound_cert.proofs.ReadOn.{bound}

@@ -6,8 +6,8 @@ use Rattle.bound_cert.specs.Lines.{Fails, Left, Reading, Stopped, seen, ◌>>=�
 use Rattle.bound_cert.specs.Reading.{padded, rent_at, rents_from, step_at, steps_from, weight_at, weights_from}
 use Rattle.bound_cert.specs.declared.faults.Stop.{Stop}
 use Rattle.bound_cert.specs.declared.faults.Stop.TheVariants as stop
-use Rattle.bound_cert.specs.declared.mixed.Weight.{Weight}
-use Rattle.bound_cert.specs.declared.prices.PriceStep.{PriceStep}
+use Rattle.dual_bound.specs.declared.mixed.Weight.{Weight}
+use Rattle.dual_bound.specs.declared.prices.PriceStep.{PriceStep}
 
 -- a line begins with the word
 abbrev pub begins : Left → List ℕ → Bool

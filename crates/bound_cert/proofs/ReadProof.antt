@@ -4,15 +4,16 @@ use Rattle.std.proofs.lemmas.List.{length-map}
 use Rattle.std.specs.Prelude.{IfOk, MatchResult}
 use Rattle.fleet_model.specs.declared.tables.Tables.{Tables}
 use Rattle.bound_cert.specs.Lines.{Gives, left_of, seen}
-use Rattle.bound_cert.specs.Nodes.{nodes_of, proof_at}
-use Rattle.bound_cert.specs.OfTables.{IsOfTables}
+use Rattle.bound_cert.specs.Nodes.{proof_at}
+use Rattle.dual_bound.specs.Nodes.{nodes_of}
+use Rattle.dual_bound.specs.OfTables.{IsOfTables}
 use Rattle.bound_cert.specs.ReadProof.{AnswersProof, FaultIn, FaultOf, IsTextOf, LinesRead, ReadsAs, answer_of}
 use Rattle.bound_cert.specs.declared.faults.CertError.{CertError}
 use Rattle.bound_cert.specs.declared.faults.CertError.TheVariants as cert
 use Rattle.bound_cert.specs.declared.faults.Stop.{Stop}
 use Rattle.bound_cert.specs.declared.faults.Stop.TheVariants as stop
 use Rattle.bound_cert.specs.declared.reading.Proof.{Proof}
-use Rattle.bound_cert.specs.declared.trees.Tree.{Tree}
+use Rattle.dual_bound.specs.declared.trees.Tree.{Tree}
 use Rattle.bound_cert.proofs.ReadBack.{ok_same}
 use Rattle.bound_cert.proofs.TextTrees.{text_of_reading}
 use Rattle.bound_cert.proofs.WrittenTrees.{in_order_of_tables, reads_what_was_written}

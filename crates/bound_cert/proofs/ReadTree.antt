@@ -2,7 +2,8 @@
 use Rattle.std.proofs.Common.{◌≡◌, ◌≢◌, ℕ, Bor, zero, suc, ◌+◌, ◌-◌, ◌==◌, true, false, List, [], ◌∷◌, ◌++◌, length, Option, Some, None, Result, Ok, Err, refl, sym, ap, subst, ◌∙◌, append_assoc, append-nil, arith}
 use Rattle.std.proofs.lemmas.Bool.Decides.{nat_tests}
 use Rattle.std.proofs.lemmas.Grind.{flat_map-append}
-use Rattle.bound_cert.specs.Nodes.{Above, above_of, above_with, after_node, after_tree, first_nodes, has_first, inner_node, nodes_from, nodes_of, parent_nodes, waiting_nodes}
+use Rattle.bound_cert.specs.Nodes.{Above, above_of, above_with, after_node, after_tree, first_nodes, has_first, inner_node, nodes_from, parent_nodes, waiting_nodes}
+use Rattle.dual_bound.specs.Nodes.{nodes_of}
 use Rattle.fleet_model.specs.declared.tables.Tables.{Tables}
 use Rattle.bound_cert.specs.Lines.{Fails, Gives, Left, Reading, Stopped, seen, stopped}
 use Rattle.bound_cert.proofs.ReadOn.{bound, chosen, failed, fails_by, refused}
@@ -12,9 +13,9 @@ use Rattle.bound_cert.specs.ReadTree.{IsGrown, IsInnerOf, NextGives, StillWaits,
 use Rattle.bound_cert.specs.declared.faults.Stop.{Stop}
 use Rattle.bound_cert.specs.declared.faults.Stop.TheVariants as stop
 use Rattle.bound_cert.specs.declared.nodes.Inner.{Inner}
-use Rattle.bound_cert.specs.declared.nodes.Node.{Node}
+use Rattle.dual_bound.specs.declared.nodes.Node.{Node}
 use Rattle.bound_cert.specs.declared.nodes.Parent.{Parent}
-use Rattle.bound_cert.specs.declared.trees.Tree.{Tree}
+use Rattle.dual_bound.specs.declared.trees.Tree.{Tree}
 
 -- one more parent, below the others
 pub above_last : (above : Above) (parents : List Parent) (last : Parent) → above_with above (parents ++ last ∷ []) ≡ has_first last.yes ∷ above_with above parents

@@ -6,11 +6,11 @@ use Rattle.bound_cert.specs.Lines.{Left, Reading, ◌>>=◌, is_word, line_due, 
 use Rattle.bound_cert.specs.Nodes.{Above, after_node, end_at, head_is, nodes_from, nothing, plan_at, proof_at, rest_at, tree_at}
 use Rattle.bound_cert.specs.Reading.{body_at, head_at, mixed_at, node_at, padded, prices_at, rent_at, rents_from, scale_at, step_at, steps_from, weight_at, weights_from}
 use Rattle.bound_cert.specs.declared.faults.TheConstants.{BAD_LINE}
-use Rattle.bound_cert.specs.declared.mixed.Weight.{Weight}
+use Rattle.dual_bound.specs.declared.mixed.Weight.{Weight}
 use Rattle.bound_cert.specs.declared.nodes.Head.{Head}
 use Rattle.bound_cert.specs.declared.nodes.Head.TheVariants as head
-use Rattle.bound_cert.specs.declared.nodes.Node.{Node}
-use Rattle.bound_cert.specs.declared.prices.PriceStep.{PriceStep}
+use Rattle.dual_bound.specs.declared.nodes.Node.{Node}
+use Rattle.dual_bound.specs.declared.prices.PriceStep.{PriceStep}
 use Rattle.bound_cert.specs.declared.reading_lines.Due.TheVariants as due
 use Rattle.bound_cert.proofs.LineTwins.{Alike, Twin, alike_self, head_twin, line_twin, plan_twin, rent_twin, scale_twin, step_twin, twin_if, weight_twin}
 use Rattle.bound_cert.proofs.ReadBack.{goes}

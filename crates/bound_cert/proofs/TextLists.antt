@@ -10,14 +10,15 @@ use Rattle.fleet_model.specs.Schedule.{fleet_of, fleets_in, station_of}
 use Rattle.fleet_model.specs.declared.tables.Tables.{Tables}
 use Rattle.bound_cert.specs.Known.{fleet_named, station_named}
 use Rattle.bound_cert.specs.Lines.{Left, first_words, stands, words_of}
-use Rattle.bound_cert.specs.Prices.{rent_of}
+use Rattle.dual_bound.specs.Prices.{rent_of}
 use Rattle.bound_cert.specs.ProofText.{at_line, mixed_line, mixed_lines, price_lines, rent_line, rent_lines, scale_line, step_lines, weight_line, weight_lines}
-use Rattle.bound_cert.specs.Reading.{goes_on_at, mixed_at, padded, prices_at, rent_at, rents_from, same_place, scale_at, step_at, steps_from, weight_at, weights_from}
-use Rattle.bound_cert.specs.WrittenOrder.{ArePricesInOrder, IsFigure, IsMixedInOrder, IsStepInOrder, IsWeightInOrder, NoLoneZero, StepsFollow, WeightsFollow, goes_on}
-use Rattle.bound_cert.specs.declared.mixed.Mixed.{Mixed}
-use Rattle.bound_cert.specs.declared.mixed.Weight.{Weight}
-use Rattle.bound_cert.specs.declared.prices.Prices.{Prices}
-use Rattle.bound_cert.specs.declared.prices.PriceStep.{PriceStep}
+use Rattle.bound_cert.specs.Reading.{goes_on_at, mixed_at, padded, prices_at, rent_at, rents_from, scale_at, step_at, steps_from, weight_at, weights_from}
+use Rattle.dual_bound.specs.Order.{same_place}
+use Rattle.dual_bound.specs.WrittenOrder.{ArePricesInOrder, IsFigure, IsMixedInOrder, IsStepInOrder, IsWeightInOrder, NoLoneZero, StepsFollow, WeightsFollow, goes_on}
+use Rattle.dual_bound.specs.declared.mixed.Mixed.{Mixed}
+use Rattle.dual_bound.specs.declared.mixed.Weight.{Weight}
+use Rattle.dual_bound.specs.declared.prices.Prices.{Prices}
+use Rattle.dual_bound.specs.declared.prices.PriceStep.{PriceStep}
 use Rattle.bound_cert.specs.declared.reading_lines.Due.TheVariants as due
 use Rattle.bound_cert.proofs.FigureWords.{same_bytes}
 use Rattle.bound_cert.proofs.LinesOfWords.{at_is}

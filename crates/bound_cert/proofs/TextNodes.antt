@@ -11,19 +11,20 @@ use Rattle.bound_cert.specs.Known.{leg_named}
 use Rattle.bound_cert.specs.Lines.{Left, Reading, ◌>>=◌, line_due, node_width, open_width, present, stands, width_of, word_at}
 use Rattle.bound_cert.specs.ProofText.{Line, bare_line, mixed_lines, price_lines, priced_line, refuted_line, sole_line, split_line, trim_line}
 use Rattle.bound_cert.specs.Reading.{body_at, count_at, grew_by, head_at, head_of, lift_by, mixed_at, mixed_node, node_at, open_head, pair_at, priced_node, prices_at}
-use Rattle.bound_cert.specs.WrittenOrder.{ArePricesInOrder, IsCount, IsMixedInOrder, IsNodeInOrder}
-use Rattle.bound_cert.specs.declared.faults.TheConstants.{MAX_DEPTH, UNKNOWN_NAME, WRONG_NUMBER}
-use Rattle.bound_cert.specs.declared.mixed.Mixed.{Mixed}
+use Rattle.dual_bound.specs.WrittenOrder.{ArePricesInOrder, IsCount, IsMixedInOrder, IsNodeInOrder}
+use Rattle.bound_cert.specs.declared.faults.TheConstants.{UNKNOWN_NAME, WRONG_NUMBER}
+use Rattle.dual_bound.specs.declared.trees.TheConstants.{MAX_DEPTH}
+use Rattle.dual_bound.specs.declared.mixed.Mixed.{Mixed}
 use Rattle.bound_cert.specs.declared.nodes.Alone.TheVariants as alone
 use Rattle.bound_cert.specs.declared.nodes.Fraction.{Fraction}
 use Rattle.bound_cert.specs.declared.nodes.Fraction.TheVariants as fraction
 use Rattle.bound_cert.specs.declared.nodes.Head.{Head}
 use Rattle.bound_cert.specs.declared.nodes.Head.TheVariants as head
-use Rattle.bound_cert.specs.declared.nodes.Node.{Node}
-use Rattle.bound_cert.specs.declared.nodes.Node.TheVariants as node
+use Rattle.dual_bound.specs.declared.nodes.Node.{Node}
+use Rattle.dual_bound.specs.declared.nodes.Node.TheVariants as node
 use Rattle.bound_cert.specs.declared.nodes.Priced.{Priced}
 use Rattle.bound_cert.specs.declared.nodes.Priced.TheVariants as priced
-use Rattle.bound_cert.specs.declared.prices.Prices.{Prices}
+use Rattle.dual_bound.specs.declared.prices.Prices.{Prices}
 use Rattle.bound_cert.specs.declared.reading_lines.Due.TheVariants as due
 use Rattle.bound_cert.proofs.FigureWords.{same_bytes}
 use Rattle.bound_cert.proofs.ReadBack.{either_way, goes, ok_same, there}

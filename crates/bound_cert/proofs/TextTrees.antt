@@ -7,17 +7,19 @@ use Rattle.std.proofs.lemmas.List.Elements.{All-cons, All-nil}
 use Rattle.std.proofs.lemmas.List.Splits.{join_with_byte-slice_split}
 use Rattle.sums.proofs.Tests.{other_true}
 use Rattle.fleet_model.specs.declared.tables.Tables.{Tables}
-use Rattle.bound_cert.specs.Leaves.{depth_of}
+use Rattle.dual_bound.specs.Leaves.{depth_of}
 use Rattle.bound_cert.specs.Lines.{Left, Reading, is_word, left_of, line_due, stands, width_of, word_at}
-use Rattle.bound_cert.specs.Nodes.{Above, after_node, after_tree, end_at, head_is, nodes_from, nodes_of, nothing, plan_at, proof_at, rest_at, tree_at}
+use Rattle.bound_cert.specs.Nodes.{Above, after_node, after_tree, end_at, head_is, nodes_from, nothing, plan_at, proof_at, rest_at, tree_at}
+use Rattle.dual_bound.specs.Nodes.{nodes_of}
 use Rattle.bound_cert.specs.ProofText.{Line, end_line, head_line, line_feed, lines_of, plan_line, proof_lines, proof_text, tree_lines}
 use Rattle.bound_cert.specs.Reading.{node_at}
-use Rattle.bound_cert.specs.WrittenOrder.{InWrittenOrder, IsNodeInOrder, IsShallow}
-use Rattle.bound_cert.specs.declared.faults.TheConstants.{BAD_LINE, MAX_DEPTH}
-use Rattle.bound_cert.specs.declared.nodes.Node.{Node}
+use Rattle.dual_bound.specs.WrittenOrder.{InWrittenOrder, IsNodeInOrder, IsShallow}
+use Rattle.bound_cert.specs.declared.faults.TheConstants.{BAD_LINE}
+use Rattle.dual_bound.specs.declared.trees.TheConstants.{MAX_DEPTH}
+use Rattle.dual_bound.specs.declared.nodes.Node.{Node}
 use Rattle.bound_cert.specs.declared.reading_lines.Due.TheVariants as due
-use Rattle.bound_cert.specs.declared.trees.Tree.{Tree}
-use Rattle.bound_cert.specs.declared.trees.Tree.TheVariants as tree
+use Rattle.dual_bound.specs.declared.trees.Tree.{Tree}
+use Rattle.dual_bound.specs.declared.trees.Tree.TheVariants as tree
 use Rattle.bound_cert.proofs.FigureWords.{same_bytes}
 use Rattle.bound_cert.proofs.ReadBack.{either_way, goes, ok_same}
 use Rattle.bound_cert.proofs.TextLines.{LineIs, line_by, line_was, one_word, two_words, width_was}

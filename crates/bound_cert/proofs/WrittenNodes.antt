@@ -10,20 +10,21 @@ use Rattle.bound_cert.specs.Lines.{Left, line_due, present, stands, width_of, wo
 use Rattle.bound_cert.specs.ProofText.{Line, bare_line, cause_lines, mixed_line, mixed_lines, open_line, price_lines, priced_line, refuted_line, sole_line, split_line, trim_line, weight_lines}
 use Rattle.bound_cert.specs.Reading.{body_at, count_at, deep_at, grew_by, head_at, head_of, lift_by, mixed_at, node_at, open_head, pair_at, prices_at}
 use Rattle.bound_cert.specs.Words.{IsOfWords}
-use Rattle.bound_cert.specs.WrittenOrder.{ArePricesInOrder, IsCauseInOrder, IsCount, IsNodeInOrder}
-use Rattle.bound_cert.specs.declared.faults.TheConstants.{MAX_DEPTH, UNKNOWN_NAME, WRONG_NUMBER}
-use Rattle.bound_cert.specs.declared.mixed.Mixed.{Mixed}
+use Rattle.dual_bound.specs.WrittenOrder.{ArePricesInOrder, IsCauseInOrder, IsCount, IsNodeInOrder}
+use Rattle.bound_cert.specs.declared.faults.TheConstants.{UNKNOWN_NAME, WRONG_NUMBER}
+use Rattle.dual_bound.specs.declared.trees.TheConstants.{MAX_DEPTH}
+use Rattle.dual_bound.specs.declared.mixed.Mixed.{Mixed}
 use Rattle.bound_cert.specs.declared.nodes.Alone.TheVariants as alone
 use Rattle.bound_cert.specs.declared.nodes.Fraction.TheVariants as fraction
 use Rattle.bound_cert.specs.declared.nodes.Head.{Head}
 use Rattle.bound_cert.specs.declared.nodes.Head.TheVariants as head
-use Rattle.bound_cert.specs.declared.nodes.Node.{Node}
-use Rattle.bound_cert.specs.declared.nodes.Node.TheVariants as node
+use Rattle.dual_bound.specs.declared.nodes.Node.{Node}
+use Rattle.dual_bound.specs.declared.nodes.Node.TheVariants as node
 use Rattle.bound_cert.specs.declared.nodes.Priced.TheVariants as priced
-use Rattle.bound_cert.specs.declared.prices.Prices.{Prices}
+use Rattle.dual_bound.specs.declared.prices.Prices.{Prices}
 use Rattle.bound_cert.specs.declared.reading_lines.Due.TheVariants as due
-use Rattle.bound_cert.specs.declared.trees.Cause.{Cause}
-use Rattle.bound_cert.specs.declared.trees.Cause.TheVariants as cause
+use Rattle.dual_bound.specs.declared.trees.Cause.{Cause}
+use Rattle.dual_bound.specs.declared.trees.Cause.TheVariants as cause
 use Rattle.bound_cert.proofs.LinesOfWords.{bare_is, mixed_line_is, open_is, priced_is, refuted_is, sole_is, split_is, trim_is}
 use Rattle.bound_cert.proofs.ReadOn.{bound, chosen}
 use Rattle.bound_cert.proofs.WrittenLines.{first_word, joined, line_read, texts, texts_append}

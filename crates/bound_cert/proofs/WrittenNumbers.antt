@@ -6,8 +6,8 @@ use Rattle.std.specs.Str.Parse.{digits_value}
 use Rattle.std.proofs.lemmas.Bool.Decides.{nat_tests}
 use Rattle.std.proofs.lemmas.Int.{ints}
 use Rattle.bound_cert.specs.Figures.{natural_in, negative, number_in}
-use Rattle.bound_cert.specs.WrittenOrder.{IsFigure}
-use Rattle.bound_cert.specs.declared.figures.TheConstants.{MAX_SIZE}
+use Rattle.dual_bound.specs.WrittenOrder.{IsFigure}
+use Rattle.dual_bound.specs.declared.prices.TheConstants.{MAX_SIZE}
 use Rattle.bound_cert.proofs.FigureWords.{one_written, same_bytes}
 
 -- the first byte of a number without a minus

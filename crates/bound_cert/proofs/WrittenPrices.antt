@@ -13,17 +13,18 @@ use Rattle.fleet_model.specs.declared.tables.Tables.{Tables}
 use Rattle.bound_cert.specs.Figures.{natural_in, number_in}
 use Rattle.bound_cert.specs.Known.{fleet_named, leg_named, station_named}
 use Rattle.bound_cert.specs.Lines.{Left, first_words, line_due, present, stands, width_of, word_at}
-use Rattle.bound_cert.specs.OfTables.{IsStepOf}
-use Rattle.bound_cert.specs.Prices.{rent_of}
+use Rattle.dual_bound.specs.OfTables.{IsStepOf}
+use Rattle.dual_bound.specs.Prices.{rent_of}
 use Rattle.bound_cert.specs.ProofText.{Line, at_line, mixed_line, mixed_lines, price_lines, rent_line, rent_lines, rent_lines_at, scale_line, step_lines, weight_line, weight_lines}
-use Rattle.bound_cert.specs.Reading.{figures_by, goes_on_at, in_order, is_needless, mixed_at, padded, pair_at, place_by, prices_at, rent_at, rent_by, rent_follows, rents_from, same_place, scale_at, step_at, step_by, step_follows, step_of, steps_from, weight_at, weight_by, weight_follows, weight_of, weights_from}
+use Rattle.bound_cert.specs.Reading.{figures_by, goes_on_at, in_order, is_needless, mixed_at, padded, pair_at, place_by, prices_at, rent_at, rent_by, rent_follows, rents_from, scale_at, step_at, step_by, step_of, steps_from, weight_at, weight_by, weight_of, weights_from}
+use Rattle.dual_bound.specs.Order.{same_place, step_follows, weight_follows}
 use Rattle.bound_cert.specs.Reading as reading
-use Rattle.bound_cert.specs.WrittenOrder.{ArePricesInOrder, IsFigure, IsMixedInOrder, IsStepInOrder, IsWeightInOrder, NoLoneZero, StepsFollow, WeightsFollow, goes_on}
+use Rattle.dual_bound.specs.WrittenOrder.{ArePricesInOrder, IsFigure, IsMixedInOrder, IsStepInOrder, IsWeightInOrder, NoLoneZero, StepsFollow, WeightsFollow, goes_on}
 use Rattle.bound_cert.specs.declared.faults.TheConstants.{UNKNOWN_NAME, WRONG_NUMBER}
-use Rattle.bound_cert.specs.declared.mixed.Mixed.{Mixed}
-use Rattle.bound_cert.specs.declared.mixed.Weight.{Weight}
-use Rattle.bound_cert.specs.declared.prices.Prices.{Prices}
-use Rattle.bound_cert.specs.declared.prices.PriceStep.{PriceStep}
+use Rattle.dual_bound.specs.declared.mixed.Mixed.{Mixed}
+use Rattle.dual_bound.specs.declared.mixed.Weight.{Weight}
+use Rattle.dual_bound.specs.declared.prices.Prices.{Prices}
+use Rattle.dual_bound.specs.declared.prices.PriceStep.{PriceStep}
 use Rattle.bound_cert.specs.declared.reading_lines.Due.TheVariants as due
 use Rattle.bound_cert.proofs.FigureWords.{bytes_same}
 use Rattle.bound_cert.proofs.LinesOfWords.{at_is, mixed_line_is, rent_is, scale_is, weight_is}

@@ -7,21 +7,22 @@ use Rattle.std.proofs.lemmas.Grind.{flat_map-append}
 use Rattle.std.proofs.lemmas.List.{length-append, length-map}
 use Rattle.std.proofs.lemmas.List.Elements.{All-head, All-tail, All-weaker}
 use Rattle.fleet_model.specs.declared.tables.Tables.{Tables}
-use Rattle.bound_cert.specs.Leaves.{depth_of}
+use Rattle.dual_bound.specs.Leaves.{depth_of}
 use Rattle.bound_cert.specs.Lines.{Left, Reading, left_of, line_due, width_of}
-use Rattle.bound_cert.specs.Nodes.{Above, after_node, after_tree, end_at, head_is, nodes_from, nodes_of, nothing, plan_at, proof_at, rest_at, tree_at}
-use Rattle.bound_cert.specs.OfTables.{IsCauseOf, IsOfTables, IsWeightOf}
+use Rattle.bound_cert.specs.Nodes.{Above, after_node, after_tree, end_at, head_is, nodes_from, nothing, plan_at, proof_at, rest_at, tree_at}
+use Rattle.dual_bound.specs.Nodes.{nodes_of}
+use Rattle.dual_bound.specs.OfTables.{IsCauseOf, IsOfTables, IsWeightOf}
 use Rattle.bound_cert.specs.ProofText.{Line, end_line, head_line, plan_line, proof_lines, proof_text, tree_lines}
 use Rattle.bound_cert.specs.Reading.{node_at}
-use Rattle.bound_cert.specs.WrittenOrder.{InWrittenOrder, IsCauseInOrder, IsNodeInOrder, IsShallow, IsWeightInOrder}
-use Rattle.bound_cert.specs.declared.faults.TheConstants.{MAX_DEPTH}
-use Rattle.bound_cert.specs.declared.nodes.Node.{Node}
-use Rattle.bound_cert.specs.declared.nodes.Node.TheVariants as node
+use Rattle.dual_bound.specs.WrittenOrder.{InWrittenOrder, IsCauseInOrder, IsNodeInOrder, IsShallow, IsWeightInOrder}
+use Rattle.dual_bound.specs.declared.trees.TheConstants.{MAX_DEPTH}
+use Rattle.dual_bound.specs.declared.nodes.Node.{Node}
+use Rattle.dual_bound.specs.declared.nodes.Node.TheVariants as node
 use Rattle.bound_cert.specs.declared.reading_lines.Due.TheVariants as due
-use Rattle.bound_cert.specs.declared.trees.Cause.{Cause}
-use Rattle.bound_cert.specs.declared.trees.Cause.TheVariants as cause
-use Rattle.bound_cert.specs.declared.trees.Tree.{Tree}
-use Rattle.bound_cert.specs.declared.trees.Tree.TheVariants as tree
+use Rattle.dual_bound.specs.declared.trees.Cause.{Cause}
+use Rattle.dual_bound.specs.declared.trees.Cause.TheVariants as cause
+use Rattle.dual_bound.specs.declared.trees.Tree.{Tree}
+use Rattle.dual_bound.specs.declared.trees.Tree.TheVariants as tree
 use Rattle.bound_cert.proofs.LinesOfWords.{end_is, lines_are_of_words, plan_is}
 use Rattle.bound_cert.proofs.ReadBack.{ok_same}
 use Rattle.bound_cert.proofs.NodesOfTables.{IsNodeOf, left_part, right_part, tree_of}

@@ -2,7 +2,7 @@
 use Rattle.std.specs.Prelude.{ℕ, zero, suc, ◌==◌, ◌&&◌, nat_le, if◌then◌else◌, List, [], ◌∷◌, bytes_eq, ℤ, pos, negsuc, Option, Some, None, option_map}
 use Rattle.std.specs.Fmt.{decimal}
 use Rattle.std.specs.Str.Parse.{digits_value}
-use Rattle.bound_cert.specs.declared.figures.TheConstants.{MAX_SIZE}
+use Rattle.dual_bound.specs.declared.prices.TheConstants.{MAX_SIZE}
 
 -- the number up to a greatest one whose decimal form the word is
 unfoldable pub natural_in : ℕ → List ℕ → Option ℕ

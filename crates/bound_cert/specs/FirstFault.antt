@@ -6,8 +6,8 @@ use Rattle.bound_cert.specs.Lines.{Left, stands, words_of}
 use Rattle.bound_cert.specs.Nodes.{proof_at}
 use Rattle.bound_cert.specs.ReadProof.{IsFirstFault}
 use Rattle.bound_cert.specs.declared.faults.CertFault.{CertFault}
-use Rattle.bound_cert.specs.declared.faults.TheConstants.{MAX_DEPTH}
-use Rattle.bound_cert.specs.declared.nodes.Node.{Node}
+use Rattle.dual_bound.specs.declared.trees.TheConstants.{MAX_DEPTH}
+use Rattle.dual_bound.specs.declared.nodes.Node.{Node}
 
 -- the words are those of a step of value 0 at minute 0, which is needless if no other step of its place follows
 abbrev pub is_zero_step : List (List ℕ) → Bool

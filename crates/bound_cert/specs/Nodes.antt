@@ -7,22 +7,12 @@ use Rattle.bound_cert.specs.Reading.{node_at}
 use Rattle.bound_cert.specs.declared.faults.TheConstants.{BAD_LINE, TEXT_ENDS, WRONG_HEAD, WRONG_WORD}
 use Rattle.bound_cert.specs.declared.nodes.Inner.{Inner}
 use Rattle.bound_cert.specs.declared.nodes.Inner.TheVariants as inner
-use Rattle.bound_cert.specs.declared.nodes.Node.{Node}
-use Rattle.bound_cert.specs.declared.nodes.Node.TheVariants as node
+use Rattle.dual_bound.specs.Nodes.{nodes_of}
+use Rattle.dual_bound.specs.declared.nodes.Node.{Node}
+use Rattle.dual_bound.specs.declared.nodes.Node.TheVariants as node
 use Rattle.bound_cert.specs.declared.nodes.Parent.{Parent}
 use Rattle.bound_cert.specs.declared.reading_lines.Due.TheVariants as due
-use Rattle.bound_cert.specs.declared.trees.Tree.{Tree}
-use Rattle.bound_cert.specs.declared.trees.Tree.TheVariants as tree
-
--- the nodes of a tree, each before its children, and of these those of `yes` first
-abbrev pub nodes_of : Tree → List Node
-nodes_of (tree.Bare leg) = node.Bare leg ∷ []
-nodes_of tree.Sole = node.Sole ∷ []
-nodes_of (tree.Refuted prices) = node.Refuted prices ∷ []
-nodes_of (tree.Priced prices) = node.Priced prices ∷ []
-nodes_of (tree.Open prices why) = node.Open prices why ∷ []
-nodes_of (tree.Trim' leg fleet p with_pair q without) = node.Trim leg fleet ∷ (nodes_of with_pair ++ nodes_of without)
-nodes_of (tree.Split' leg fleet prices mixed p with_pair q without) = node.Split leg fleet prices mixed ∷ (nodes_of with_pair ++ nodes_of without)
+use Rattle.dual_bound.specs.declared.trees.Tree.{Tree}
 
 -- for each trim and split above, the nearest first, whether its first child is complete
 abbrev pub Above : Type 0

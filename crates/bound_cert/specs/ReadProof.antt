@@ -2,16 +2,17 @@
 use Rattle.std.specs.Prelude.{◌≡◌, ℕ, ◌+◌, ◌-◌, Bool, List, length, Result, Ok, Err, ⊤}
 use Rattle.fleet_model.specs.declared.tables.Tables.{Tables}
 use Rattle.bound_cert.specs.Lines.{Left, left_of}
-use Rattle.bound_cert.specs.Nodes.{nodes_of, proof_at}
+use Rattle.bound_cert.specs.Nodes.{proof_at}
+use Rattle.dual_bound.specs.Nodes.{nodes_of}
 use Rattle.bound_cert.specs.ProofText.{proof_text}
-use Rattle.bound_cert.specs.WrittenOrder.{InWrittenOrder, IsShallow}
+use Rattle.dual_bound.specs.WrittenOrder.{InWrittenOrder, IsShallow}
 use Rattle.bound_cert.specs.declared.faults.CertError.{CertError}
 use Rattle.bound_cert.specs.declared.faults.CertError.TheVariants as cert
 use Rattle.bound_cert.specs.declared.faults.CertFault.{CertFault}
 use Rattle.bound_cert.specs.declared.faults.Stop.{Stop}
 use Rattle.bound_cert.specs.declared.faults.Stop.TheVariants as stop
 use Rattle.bound_cert.specs.declared.reading.Proof.{Proof}
-use Rattle.bound_cert.specs.declared.trees.Tree.{Tree}
+use Rattle.dual_bound.specs.declared.trees.Tree.{Tree}
 
 -- the fault comes where reading stops: its line is the first that is left there
 pub record IsFirstFault (t : Tables) (all : Left) (fault : CertFault) : Type 0 where

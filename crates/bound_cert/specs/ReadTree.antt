@@ -5,13 +5,14 @@ use Rattle.bound_cert.specs.Lines.{Fails, Left}
 use Rattle.bound_cert.specs.Reading.{node_at}
 use Rattle.bound_cert.specs.declared.faults.Stop.{Stop}
 use Rattle.bound_cert.specs.declared.faults.Stop.TheVariants as stop
-use Rattle.bound_cert.specs.Nodes.{above_of, after_node, after_tree, inner_node, nodes_of, waiting_nodes}
+use Rattle.bound_cert.specs.Nodes.{above_of, after_node, after_tree, inner_node, waiting_nodes}
+use Rattle.dual_bound.specs.Nodes.{nodes_of}
 use Rattle.bound_cert.specs.declared.nodes.Inner.{Inner}
-use Rattle.bound_cert.specs.declared.nodes.Node.{Node}
+use Rattle.dual_bound.specs.declared.nodes.Node.{Node}
 use Rattle.bound_cert.specs.declared.nodes.Parent.{Parent}
 use Rattle.bound_cert.specs.declared.nodes.Place.{Place}
 use Rattle.bound_cert.specs.declared.nodes.Place.TheVariants as place
-use Rattle.bound_cert.specs.declared.trees.Tree.{Tree}
+use Rattle.dual_bound.specs.declared.trees.Tree.{Tree}
 
 -- a node is a leaf, or waits for children
 pub record IsLeafOf (node : Node) (tree : Tree) : Type 0 where

@@ -1,5 +1,5 @@
 -- What the text of a proof reads as, line by line, or where its first fault is.
-use Rattle.std.specs.Prelude.{ℕ, ◌-◌, ◌==◌, ◌&&◌, ◌||◌, nat_le, nat_lt, Bool, true, false, not, if◌then◌else◌, List, [], ◌∷◌, ◌++◌, length, drop, replicate, codes, ℤ, pos, Option, Some, None, Ok, ⊤}
+use Rattle.std.specs.Prelude.{ℕ, ◌-◌, ◌==◌, ◌&&◌, nat_le, Bool, true, false, not, if◌then◌else◌, List, [], ◌∷◌, ◌++◌, length, drop, replicate, codes, ℤ, pos, Option, Some, None, Ok, ⊤}
 use Rattle.std.specs.Ordering.{int_eq}
 use Rattle.fleet_model.specs.Schedule.{fleets_in}
 use Rattle.fleet_model.specs.Use.{last_minute}
@@ -7,24 +7,26 @@ use Rattle.fleet_model.specs.declared.tables.Tables.{Tables}
 use Rattle.bound_cert.specs.Figures.{natural_in, number_in}
 use Rattle.bound_cert.specs.Known.{fleet_named, leg_named, station_named}
 use Rattle.bound_cert.specs.Lines.{Left, Reading, ◌>>=◌, first_words, line_due, present, stands, stopped, word_at, words_of}
-use Rattle.bound_cert.specs.declared.faults.TheConstants.{MAX_DEPTH, TOO_DEEP, UNKNOWN_NAME, WRONG_NUMBER, WRONG_ORDER}
-use Rattle.bound_cert.specs.declared.mixed.Mixed.{Mixed}
-use Rattle.bound_cert.specs.declared.mixed.Weight.{Weight}
+use Rattle.bound_cert.specs.declared.faults.TheConstants.{TOO_DEEP, UNKNOWN_NAME, WRONG_NUMBER, WRONG_ORDER}
+use Rattle.dual_bound.specs.Order.{step_follows, weight_follows}
+use Rattle.dual_bound.specs.declared.trees.TheConstants.{MAX_DEPTH}
+use Rattle.dual_bound.specs.declared.mixed.Mixed.{Mixed}
+use Rattle.dual_bound.specs.declared.mixed.Weight.{Weight}
 use Rattle.bound_cert.specs.declared.nodes.Alone.{Alone}
 use Rattle.bound_cert.specs.declared.nodes.Alone.TheVariants as alone
 use Rattle.bound_cert.specs.declared.nodes.Fraction.{Fraction}
 use Rattle.bound_cert.specs.declared.nodes.Fraction.TheVariants as fraction
 use Rattle.bound_cert.specs.declared.nodes.Head.{Head}
 use Rattle.bound_cert.specs.declared.nodes.Head.TheVariants as head
-use Rattle.bound_cert.specs.declared.nodes.Node.{Node}
-use Rattle.bound_cert.specs.declared.nodes.Node.TheVariants as node
+use Rattle.dual_bound.specs.declared.nodes.Node.{Node}
+use Rattle.dual_bound.specs.declared.nodes.Node.TheVariants as node
 use Rattle.bound_cert.specs.declared.nodes.Priced.{Priced}
 use Rattle.bound_cert.specs.declared.nodes.Priced.TheVariants as priced
-use Rattle.bound_cert.specs.declared.prices.Prices.{Prices}
-use Rattle.bound_cert.specs.declared.prices.PriceStep.{PriceStep}
+use Rattle.dual_bound.specs.declared.prices.Prices.{Prices}
+use Rattle.dual_bound.specs.declared.prices.PriceStep.{PriceStep}
 use Rattle.bound_cert.specs.declared.reading_lines.Due.{Due}
 use Rattle.bound_cert.specs.declared.reading_lines.Due.TheVariants as due
-use Rattle.bound_cert.specs.declared.trees.Cause.TheVariants as cause
+use Rattle.dual_bound.specs.declared.trees.Cause.TheVariants as cause
 
 -- what is in order goes on, and else the line is out of order
 abbrev pub in_order : Bool → Left → Reading ⊤
@@ -70,21 +72,6 @@ rents_from t rents (line ∷ rest) =
     if stands (words_of line) 0 (codes "rent")
     then (rent_at t (length rents) (line ∷ rest) >>= λ entry. rents_from t (padded rents entry.0 ++ entry.1 ∷ []) rest)
     else Ok (padded rents (fleets_in t), line ∷ rest)
-
--- steps are of one fleet at one station
-abbrev pub same_place : PriceStep → PriceStep → Bool
-same_place a b = (a.fleet == b.fleet) && (a.station == b.station)
-
--- a step's place comes before another's, by fleet and then by station
-abbrev pub place_before : PriceStep → PriceStep → Bool
-place_before a b = nat_lt a.fleet b.fleet || ((a.fleet == b.fleet) && nat_lt a.station b.station)
-
--- a step may follow: at its place a later minute and another value, at the next place minute 0
-abbrev pub step_follows : Option PriceStep → PriceStep → Bool
-step_follows None step = step.minute == 0
-step_follows (Some before) step =
-    if same_place before step then nat_lt before.minute step.minute && not (int_eq before.value step.value)
-    else place_before before step && (step.minute == 0)
 
 -- the words begin as those of a step at the same place
 abbrev pub goes_on_at : List (List ℕ) → List (List ℕ) → Bool
@@ -141,12 +128,6 @@ prices_at t left = do
   rents ← rents_from t [] (drop 1 left)
   steps ← steps_from t [] None rents.1
   Ok (record { scale = scale; rents = rents.0; steps = steps.0 }, steps.1)
-
--- a weight may follow: it isn't 0, and its pair comes later, by leg and then by fleet
-abbrev pub weight_follows : Option Weight → Weight → Bool
-weight_follows None entry = not (int_eq entry.weight (pos 0))
-weight_follows (Some before) entry =
-    (nat_lt before.leg entry.leg || ((before.leg == entry.leg) && nat_lt before.fleet entry.fleet)) && not (int_eq entry.weight (pos 0))
 
 -- a leg and a fleet by the second word and the third
 unfoldable pub pair_at : Tables → List (List ℕ) → Left → Reading (ℕ × ℕ)

@@ -67,9 +67,6 @@ pub const WRONG_ORDER: u8 = 8;
 /// More trims and splits than `MAX_DEPTH` stand above the node.
 pub const TOO_DEEP: u8 = 9;
 
-/// The most trims and splits above a node of a proof that is read.
-pub const MAX_DEPTH: usize = 20_000;
-
 /// Where reading stopped.
 #[derive(Clone, Copy)]
 pub enum Stop {

@@ -1,14 +1,12 @@
 //! The numbers that words write.
 ghost use Rattle.std.specs.Prelude.{◌≡◌, ◌≤◌, IfOk, IfSome, option_map, pos};
 ghost use Rattle.bound_cert.specs.Figures.{natural_in, negative, number_in};
-ghost use Rattle.bound_cert.specs.declared.figures.TheConstants.{MAX_SIZE};
+ghost use Rattle.dual_bound.specs.declared.prices.TheConstants.{MAX_SIZE};
 
+use dual_bound::prices::MAX_SIZE;
 use entries::NoMemory;
 use std::alloc::Global;
 use std::str;
-
-/// The greatest size of a number of a proof, 2^127 - 1.
-pub const MAX_SIZE: u128 = 170_141_183_460_469_231_731_687_303_715_884_105_727;
 
 /// The number up to a greatest one whose decimal form a word is.
 pub fn natural(alloc: Global, most: u128, word: &[u8]) -> Result<Option<u128>, NoMemory>

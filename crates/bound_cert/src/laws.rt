@@ -2,44 +2,20 @@
 //! contract is the statement, and it does nothing.
 ghost use Rattle.std.specs.Prelude.{◌≡◌, ◌^◌, ◌-◌, ℕ, Bool, List, All, Ok, pos};
 ghost use Rattle.fleet_model.specs.declared.tables.Tables.{Tables};
-ghost use Rattle.bound_cert.specs.Duality.{CeilingIsLowerBound, WeakDuality, WorthIsLowerBound, WorthRefutes, ZeroIsProper};
+ghost use Rattle.dual_bound.specs.Duality.{CeilingIsLowerBound, WeakDuality, WorthIsLowerBound, WorthRefutes, ZeroIsProper};
 ghost use Rattle.bound_cert.specs.FirstFault.{FirstFaultIsFixed, LinesBeforeBeginProof};
 ghost use Rattle.bound_cert.specs.Lines.{left_of};
-ghost use Rattle.bound_cert.specs.Nodes.{nodes_of, proof_at};
-ghost use Rattle.bound_cert.specs.OfTables.{IsOfTables};
+ghost use Rattle.bound_cert.specs.Nodes.{proof_at};
+ghost use Rattle.dual_bound.specs.Nodes.{nodes_of};
+ghost use Rattle.dual_bound.specs.OfTables.{IsOfTables};
 ghost use Rattle.bound_cert.specs.ProofText.{proof_lines, proof_text};
 ghost use Rattle.bound_cert.specs.Words.{IsOfWords, IsPlainLine};
-ghost use Rattle.bound_cert.specs.WrittenOrder.{InWrittenOrder, IsShallow};
-ghost use Rattle.bound_cert.specs.declared.faults.TheConstants.{BAD_LINE, MAX_DEPTH, TEXT_ENDS, TOO_DEEP, UNKNOWN_NAME, WRONG_HEAD, WRONG_NUMBER, WRONG_ORDER, WRONG_WIDTH, WRONG_WORD};
-ghost use Rattle.bound_cert.specs.declared.figures.TheConstants.{MAX_SIZE};
-ghost use Rattle.bound_cert.specs.declared.prices.TheConstants.{MAX_PRICE, MAX_SCALE};
-ghost use Rattle.bound_cert.specs.declared.trees.Tree.{Tree};
-
-/// Prices that are all 0, over the scale 1 and with no rents, are proper.
-pub fn zero_is_proper()
-    ensures { ZeroIsProper }
-{}
-
-/// Weak duality: the worth of prices is no more than k times their scale times the cost of any mixed plan in the
-/// subproblem.
-pub fn weak_duality()
-    ensures { WeakDuality }
-{}
-
-/// The worth over the scale is no more than the cost of any legal assignment of kept pairs.
-pub fn worth_is_lower_bound()
-    ensures { WorthIsLowerBound }
-{}
-
-/// The worth over the scale, rounded up, is no more than the cost of any legal assignment of kept pairs.
-pub fn ceiling_is_lower_bound()
-    ensures { CeilingIsLowerBound }
-{}
-
-/// Where the worth without costs is above 0, no assignment of kept pairs is legal.
-pub fn worth_refutes()
-    ensures { WorthRefutes }
-{}
+ghost use Rattle.dual_bound.specs.WrittenOrder.{InWrittenOrder, IsShallow};
+ghost use Rattle.bound_cert.specs.declared.faults.TheConstants.{BAD_LINE, TEXT_ENDS, TOO_DEEP, UNKNOWN_NAME, WRONG_HEAD, WRONG_NUMBER, WRONG_ORDER, WRONG_WIDTH, WRONG_WORD};
+ghost use Rattle.dual_bound.specs.declared.trees.TheConstants.{MAX_DEPTH};
+ghost use Rattle.dual_bound.specs.declared.prices.TheConstants.{MAX_SIZE};
+ghost use Rattle.dual_bound.specs.declared.prices.TheConstants.{MAX_PRICE, MAX_SCALE};
+ghost use Rattle.dual_bound.specs.declared.trees.Tree.{Tree};
 
 /// Each line of a proof is of one or more words, each of one or more bytes from 33 to 126.
 pub fn lines_are_of_words()
@@ -85,14 +61,6 @@ pub fn first_fault_is_fixed()
 /// The lines before a first fault begin a proof, where no more of them are trims and splits than may stand above a node.
 pub fn lines_before_begin_proof()
     ensures { LinesBeforeBeginProof }
-{}
-
-/// The limits of proofs in numbers: of levels, of the numbers of a text, of scales, and of rents and prices.
-pub fn limits_in_numbers()
-    ensures depth { MAX_DEPTH ≡ 20000 }
-    ensures size { MAX_SIZE ≡ 2 ^ 127 - 1 }
-    ensures scale { MAX_SCALE ≡ pos (10 ^ 18) }
-    ensures price { MAX_PRICE ≡ pos (10 ^ 30) }
 {}
 
 /// The kinds of faults of a proof's text in numbers.

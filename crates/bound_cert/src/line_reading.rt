@@ -2,14 +2,14 @@
 ghost use Rattle.std.specs.Prelude.{◌≡◌, drop, IfOk};
 ghost use Rattle.bound_cert.specs.Known.{IsKnownOf};
 ghost use Rattle.bound_cert.specs.Lines.{Gives, first_words, seen};
-ghost use Rattle.bound_cert.specs.Reading.{figures_by, goes_on_at, is_needless, pair_at, place_before, place_by, rent_at, rent_by, rent_follows, rent_of, same_place, scale_at, step_at, step_by, step_follows, step_of, weight_at, weight_by, weight_follows, weight_of};
+ghost use Rattle.bound_cert.specs.Reading.{figures_by, goes_on_at, is_needless, pair_at, place_by, rent_at, rent_by, rent_follows, rent_of, scale_at, step_at, step_by, step_of, weight_at, weight_by, weight_of};
+ghost use Rattle.dual_bound.specs.Order.{place_before, same_place, step_follows, weight_follows};
 
 use crate::faults::Stop;
 use crate::known::Known;
-use crate::mixed::Weight;
-use crate::prices::PriceStep;
 use crate::reading_lines::{Due, first_words, line_due, stands, word_at};
 use crate::reading_words::{fleet_at, in_order, leg_at, minute_at, number_at, station_at};
+use dual_bound::{PriceStep, Weight};
 use entries::NoMemory;
 use fleet_model::Tables;
 use std::alloc::Global;

@@ -5,16 +5,16 @@ ghost use Rattle.bound_cert.specs.Lines.{Gives, seen};
 ghost use Rattle.bound_cert.specs.Reading.{alone_node, body_at, deep_at, grew_by, head_at, head_of, lift_by, mixed_node, node_at, open_head, priced_node};
 ghost use Rattle.bound_cert.specs.declared.nodes.Head.{Head};
 
-use crate::faults::{MAX_DEPTH, Stop, TOO_DEEP, UNKNOWN_NAME};
+use crate::faults::{Stop, TOO_DEEP, UNKNOWN_NAME};
 use crate::known::Known;
 use crate::line_reading::pair_at;
-use crate::mixed::Mixed;
-use crate::nodes::{Alone, Fraction, Head, Node, Priced};
+use crate::nodes::{Alone, Fraction, Head, Priced};
 use crate::price_reading::{behind, mixed_at, prices_at};
-use crate::prices::Prices;
 use crate::reading_lines::{Due, line_due, stands, stopped};
 use crate::reading_words::{count_at, leg_at};
-use crate::trees::Cause;
+use dual_bound::nodes::Node;
+use dual_bound::trees::MAX_DEPTH;
+use dual_bound::{Cause, Mixed, Prices};
 use fleet_model::Tables;
 use std::alloc::Global;
 

@@ -1,6 +1,4 @@
-use crate::mixed::Mixed;
-use crate::prices::Prices;
-use crate::trees::{Cause, Tree};
+use dual_bound::{Mixed, Prices, Tree};
 
 /// What the first line of a node says, by what follows it.
 #[derive(Clone, Copy)]
@@ -46,35 +44,6 @@ pub enum Fraction {
     Nodes,
     /// `split`, of this pair.
     Split { leg: u32, fleet: u32 },
-}
-
-/// A node of a tree without its children.
-#[derive(Drop)]
-pub enum Node {
-    /// A leaf: this leg keeps no fleet.
-    Bare {
-        leg: u32,
-    },
-    /// A leaf: each leg keeps one fleet.
-    Sole,
-    /// A leaf that prices refute.
-    Refuted(Prices),
-    /// A leaf that prices close.
-    Priced(Prices),
-    /// A leaf that stayed open.
-    Open(Prices, Cause),
-    /// A pair is set aside.
-    Trim {
-        leg: u32,
-        fleet: u32,
-    },
-    /// The subproblem is split by a pair.
-    Split {
-        leg: u32,
-        fleet: u32,
-        prices: Prices,
-        mixed: Mixed,
-    },
 }
 
 /// A trim or a split without its children.

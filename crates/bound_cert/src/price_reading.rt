@@ -7,9 +7,8 @@ ghost use Rattle.bound_cert.specs.Reading.{mixed_at, padded, prices_at, rents_fr
 use crate::faults::Stop;
 use crate::known::Known;
 use crate::line_reading::{rent_at, scale_at, step_at, weight_at};
-use crate::mixed::{Mixed, Weight};
-use crate::prices::{PriceStep, Prices};
 use crate::reading_lines::{Due, first_words, stands};
+use dual_bound::{Mixed, PriceStep, Prices, Weight};
 use entries::{Entries, NoMemory};
 use fleet_model::Tables;
 use std::alloc::Global;

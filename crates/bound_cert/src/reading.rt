@@ -2,17 +2,18 @@
 ghost use Rattle.std.specs.Prelude.{◌≡◌, Bool, drop, length, IfOk, MatchResult};
 ghost use Rattle.bound_cert.specs.Known.{IsKnownOf};
 ghost use Rattle.bound_cert.specs.Lines.{Gives, left_of, seen};
-ghost use Rattle.bound_cert.specs.Nodes.{end_at, head_is, nodes_of, nothing, plan_at, proof_at, rest_at, tree_at};
-ghost use Rattle.bound_cert.specs.OfTables.{IsOfTables};
+ghost use Rattle.bound_cert.specs.Nodes.{end_at, head_is, nothing, plan_at, proof_at, rest_at, tree_at};
+ghost use Rattle.dual_bound.specs.Nodes.{nodes_of};
+ghost use Rattle.dual_bound.specs.OfTables.{IsOfTables};
 ghost use Rattle.bound_cert.specs.ReadProof.{AnswersProof, FaultIn, FaultOf, IsTextOf, LinesRead, ReadsAs, answer_of};
-ghost use Rattle.bound_cert.specs.declared.trees.Tree.{Tree};
+ghost use Rattle.dual_bound.specs.declared.trees.Tree.{Tree};
 
 use crate::faults::{BAD_LINE, CertError, CertFault, Stop, WRONG_HEAD, WRONG_WORD};
 use crate::known::Known;
 use crate::price_reading::behind;
 use crate::reading_lines::{Due, is_plain, left_of, line_due, stands, stopped};
 use crate::tree_reading::tree_from;
-use crate::trees::Tree;
+use dual_bound::Tree;
 use fleet_model::Tables;
 use std::alloc::Global;
 

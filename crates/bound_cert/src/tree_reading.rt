@@ -3,16 +3,18 @@
 ghost use Rattle.std.specs.Prelude.{◌≡◌, ◌++◌, ◌∷◌, [], length, IfErr, IfOk, MatchOption};
 ghost use Rattle.bound_cert.specs.Known.{IsKnownOf};
 ghost use Rattle.bound_cert.specs.Lines.{Gives, seen};
-ghost use Rattle.bound_cert.specs.Nodes.{above_of, after_node, after_tree, inner_node, nodes_from, nodes_of, waiting_nodes};
+ghost use Rattle.bound_cert.specs.Nodes.{above_of, after_node, after_tree, inner_node, nodes_from, waiting_nodes};
+ghost use Rattle.dual_bound.specs.Nodes.{nodes_of};
 ghost use Rattle.bound_cert.specs.ReadTree.{IsClosed, IsGrown, IsPlaced, NextGives, NodeGives, PlacedGives, goes_on};
 ghost use Rattle.bound_cert.specs.declared.faults.Stop.TheVariants as stop;
 
 use crate::faults::{Stop, TEXT_ENDS};
 use crate::known::Known;
 use crate::node_reading::node_at;
-use crate::nodes::{Inner, Node, Parent, Place};
+use crate::nodes::{Inner, Parent, Place};
 use crate::reading_lines::stopped;
-use crate::trees::Tree;
+use dual_bound::Tree;
+use dual_bound::nodes::Node;
 use entries::NoMemory;
 use fleet_model::Tables;
 use std::alloc::Global;

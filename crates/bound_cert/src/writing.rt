@@ -1,13 +1,11 @@
 //! The text of a proof, written.
 ghost use Rattle.std.specs.Prelude.{◌≡◌, ◌++◌, ◌<◌, ◌∷◌, [], All, IfOk, OnOk, map};
 ghost use Rattle.fleet_model.specs.Schedule.{IsPair, fleet_of, fleets_in, leg_of, leg_on};
-ghost use Rattle.bound_cert.specs.OfTables.{ArePricesOf, IsCauseOf, IsMixedOf, IsOfTables, IsStepOf, IsWeightOf};
+ghost use Rattle.dual_bound.specs.OfTables.{ArePricesOf, IsCauseOf, IsMixedOf, IsOfTables, IsStepOf, IsWeightOf};
 ghost use Rattle.bound_cert.specs.ProofText.{at_line, cause_lines, line_of, lines_of, mixed_line, mixed_lines, node_lines, open_line, plan_line, price_lines, proof_text, rent_lines, rent_lines_at, scale_line, space, step_lines, tree_lines, weight_line, weight_lines};
-ghost use Rattle.bound_cert.specs.declared.trees.Cause.TheVariants.{Grew, Lift};
+ghost use Rattle.dual_bound.specs.declared.trees.Cause.TheVariants.{Grew, Lift};
 
-use crate::mixed::{Mixed, Weight};
-use crate::prices::{PriceStep, Prices};
-use crate::trees::{Cause, Tree};
+use dual_bound::{Cause, Mixed, PriceStep, Prices, Tree, Weight};
 use entries::NoMemory;
 use fleet_model::Tables;
 use std::alloc::Global;

@@ -1,6 +1,7 @@
 use Rattle.std.proofs.Common.{[], length, rules}
 use Rattle.bound_cert.specs.Lines.{seen}
-use Rattle.bound_cert.specs.Nodes.{nodes_from, nodes_of}
+use Rattle.bound_cert.specs.Nodes.{nodes_from}
+use Rattle.dual_bound.specs.Nodes.{nodes_of}
 use Rattle.bound_cert.specs.declared.faults.TheConstants.{TEXT_ENDS}
 use Rattle.bound_cert.proofs.ReadTree.{ended, stopped_gives, turn}
 use Rattle.bound_cert.proofs.tree_reading.tree_from.Goals as goal

@@ -1,5 +1,6 @@
 use Rattle.std.proofs.Common.{◌≡◌, ◌++◌, length}
-use Rattle.bound_cert.specs.Nodes.{above_of, after_tree, nodes_of, waiting_nodes}
+use Rattle.bound_cert.specs.Nodes.{above_of, after_tree, waiting_nodes}
+use Rattle.dual_bound.specs.Nodes.{nodes_of}
 use Rattle.bound_cert.proofs.tree_reading.with_tree.Given as goal
 
 -- the nodes stay, and so does what stands above the next

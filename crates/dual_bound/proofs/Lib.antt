@@ -1,0 +1,10 @@
+pub mod Duality
+pub mod Flows
+pub mod LeastWorth
+pub mod Numbers
+pub mod PriceLists
+pub mod RisingSteps
+pub mod RisingWeights
+pub mod Sizes
+pub mod TablesBy
+pub mod ZeroPrices

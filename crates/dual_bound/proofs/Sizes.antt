@@ -1,0 +1,45 @@
+-- Sizes of products on the way to a worth.
+use Rattle.std.proofs.Common.{◌≡◌, ℕ, zero, suc, ◌*◌, ◌^◌, ◌≤◌, ℤ, pos, negsuc, neg_ℤ, ◌*ℤ◌, ◌≤ℤ◌, ◌∙◌, ap, subst, sym, arith}
+use Rattle.std.proofs.lemmas.Int.{ints}
+use Rattle.std.proofs.Math.Nat.{mul-le-mul_right}
+use lib.IntN.{*ℤ_comm, zero-*ℤ}
+use Rattle.sums.proofs.Integers.{*ℤ-neg_ℤ, one-*ℤ}
+use Rattle.sums.proofs.Orders.{times_le}
+use Rattle.fleet_model.specs.Limits.{IsCost}
+use Rattle.dual_bound.specs.Prices.{max_price, max_scale}
+use Rattle.dual_bound.specs.Sizes.{IsUpTo}
+
+-- a count times a number between two bounds
+between : (n most : ℕ) (z : ℤ) → neg_ℤ (pos most) ≤ℤ z → z ≤ℤ pos most → (neg_ℤ (pos (n * most)) ≤ℤ (pos n *ℤ z)) × ((pos n *ℤ z) ≤ℤ pos (n * most))
+between n most z low high =
+    (omega (arith, ints, times_le n (neg_ℤ (pos most)) z low, *ℤ-neg_ℤ (pos n) (pos most)), omega (arith, ints, times_le n z (pos most) high))
+
+-- so many times a number
+pub up_to_times : (z : ℤ) (n most : ℕ) → IsUpTo 1 z → n ≤ most → IsUpTo most (z *ℤ pos n)
+up_to_times z n most small few =
+    let ends = between n (1 * max_price) z small.no_less small.no_more in
+    let wide : n * (1 * max_price) ≤ most * max_price = mul-le-mul_right (1 * max_price) few in
+    record {
+      no_less = omega (arith, ints, ends.0, wide, *ℤ_comm z (pos n));
+      no_more = omega (arith, ints, ends.1, wide, *ℤ_comm z (pos n));
+    }
+
+-- a scale times a cost
+scaled : (s c : ℤ) → pos 1 ≤ℤ s → s ≤ℤ pos max_scale → IsCost c → IsUpTo 1 (s *ℤ c)
+scaled (negsuc n) c some within small = absurd (omega (arith, ints))
+scaled (pos n) c some within small =
+    let ends = between n (10 ^ 12) c small.no_less small.no_more in
+    let few : n ≤ max_scale = omega (arith, ints) in
+    let wide : n * 10 ^ 12 ≤ max_scale * 10 ^ 12 = mul-le-mul_right (10 ^ 12) few in
+    record {
+      no_less = omega (arith, ints, ends.0, wide);
+      no_more = omega (arith, ints, ends.1, wide);
+    }
+
+-- the same, where it counts and where it does not
+pub up_to_scaled : (k : ℕ) (s c : ℤ) → k ≤ 1 → pos 1 ≤ℤ s → s ≤ℤ pos max_scale → IsCost c → IsUpTo 1 ((pos k *ℤ s) *ℤ c)
+up_to_scaled zero s c few some within small =
+    let none : (pos 0 *ℤ s) *ℤ c ≡ pos 0 = ap (λ z. z *ℤ c) (zero-*ℤ s) ∙ zero-*ℤ c in
+    subst (λ z. IsUpTo 1 z) (sym none) (record { no_less = omega (arith, ints); no_more = omega (arith, ints) })
+up_to_scaled (suc zero) s c few some within small = subst (λ z. IsUpTo 1 (z *ℤ c)) (sym (one-*ℤ s)) (scaled s c some within small)
+up_to_scaled (suc (suc k)) s c few some within small = absurd (omega arith)

@@ -1,0 +1,5 @@
+use Rattle.dual_bound.proofs.Duality as laws
+use Rattle.dual_bound.proofs.laws.worth_refutes.Goals as goal
+
+pub returns : goal.returns
+returns c = laws.worth_refutes

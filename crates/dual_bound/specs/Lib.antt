@@ -1,0 +1,14 @@
+pub mod Bound
+pub mod Dropping
+pub mod Duality
+pub mod Fractions
+pub mod Leaves
+pub mod Mixed
+pub mod Nodes
+pub mod OfTables
+pub mod Order
+pub mod Prices
+pub mod Rising
+pub mod Sizes
+pub mod Worth
+pub mod WrittenOrder

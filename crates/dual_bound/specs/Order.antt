@@ -1,0 +1,26 @@
+-- What may follow what in a list of steps, and in one of weights.
+use Rattle.std.specs.Prelude.{◌==◌, ◌&&◌, ◌||◌, nat_lt, Bool, not, if◌then◌else◌, Option, Some, None, pos}
+use Rattle.std.specs.Ordering.{int_eq}
+use Rattle.dual_bound.specs.declared.mixed.Weight.{Weight}
+use Rattle.dual_bound.specs.declared.prices.PriceStep.{PriceStep}
+
+-- steps are of one fleet at one station
+abbrev pub same_place : PriceStep → PriceStep → Bool
+same_place a b = (a.fleet == b.fleet) && (a.station == b.station)
+
+-- a step's place comes before another's, by fleet and then by station
+abbrev pub place_before : PriceStep → PriceStep → Bool
+place_before a b = nat_lt a.fleet b.fleet || ((a.fleet == b.fleet) && nat_lt a.station b.station)
+
+-- a step may follow: at its place a later minute and another value, at the next place minute 0
+abbrev pub step_follows : Option PriceStep → PriceStep → Bool
+step_follows None step = step.minute == 0
+step_follows (Some before) step =
+    if same_place before step then nat_lt before.minute step.minute && not (int_eq before.value step.value)
+    else place_before before step && (step.minute == 0)
+
+-- a weight may follow: it isn't 0, and its pair comes later, by leg and then by fleet
+abbrev pub weight_follows : Option Weight → Weight → Bool
+weight_follows None entry = not (int_eq entry.weight (pos 0))
+weight_follows (Some before) entry =
+    (nat_lt before.leg entry.leg || ((before.leg == entry.leg) && nat_lt before.fleet entry.fleet)) && not (int_eq entry.weight (pos 0))

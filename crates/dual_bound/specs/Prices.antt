@@ -1,0 +1,75 @@
+-- What prices say at each minute, and when they are proper.
+use Rattle.std.specs.Prelude.{ℕ, ◌+◌, ◌<◌, ◌^◌, Bool, ◌==◌, ◌&&◌, nat_le, if◌then◌else◌, List, [], ◌∷◌, slice_index_or, ℤ, pos, neg_ℤ, ◌≤ℤ◌, ◌+ℤ◌}
+use Rattle.fleet_model.specs.Schedule.{fleets_in, stations_in}
+use Rattle.fleet_model.specs.Use.{last_minute}
+use Rattle.fleet_model.specs.declared.limits.TheConstants.{MINUTES_PER_PERIOD}
+use Rattle.fleet_model.specs.declared.tables.Tables.{Tables}
+use Rattle.dual_bound.specs.declared.prices.Prices.{Prices}
+use Rattle.dual_bound.specs.declared.prices.PriceStep.{PriceStep}
+
+-- the step is one of the fleet at the station, and has come by the minute
+abbrev pub has_come : PriceStep → ℕ → ℕ → ℕ → Bool
+has_come step f s m = (step.fleet == f) && (step.station == s) && nat_le step.minute m
+
+-- the price after steps, from a price before them: what the last step says that has come
+unfoldable pub price_after : ℤ → List PriceStep → ℕ → ℕ → ℕ → ℤ
+price_after value [] f s m = value
+price_after value (step ∷ steps) f s m = price_after (if has_come step f s m then step.value else value) steps f s m
+
+-- the price of a fleet at a station at a minute
+abbrev pub price_of : Prices → ℕ → ℕ → ℕ → ℤ
+price_of prices f s m = price_after (pos 0) prices.steps f s m
+
+-- the rent of an aircraft of a fleet
+abbrev pub rent_of : Prices → ℕ → ℤ
+rent_of prices f = slice_index_or prices.rents f (pos 0)
+
+-- the greatest scale of prices, and the greatest size of a rent and of a price
+abbrev pub max_scale : ℕ
+max_scale = 10 ^ 18
+
+abbrev pub max_price : ℕ
+max_price = 10 ^ 30
+
+-- a scale is 1 or more, and within its limit
+pub record IsScale (scale : ℤ) : Type 0 where
+  pub some : pos 1 ≤ℤ scale
+  pub within : scale ≤ℤ pos max_scale
+
+-- a rent is 0 or more, and within its limit
+pub record IsRent (rent : ℤ) : Type 0 where
+  pub some : pos 0 ≤ℤ rent
+  pub within : rent ≤ℤ pos max_price
+
+-- a price is within its limits
+pub record IsPrice (price : ℤ) : Type 0 where
+  pub no_less : neg_ℤ (pos max_price) ≤ℤ price
+  pub no_more : price ≤ℤ pos max_price
+
+-- the rents of all fleets are within their limits
+abbrev pub AreRents : Tables → Prices → Type 0
+AreRents t prices = (f : ℕ) → f < fleets_in t → IsRent (rent_of prices f)
+
+-- rents and prices are within their limits
+pub record AreWithin (t : Tables) (prices : Prices) : Type 0 where
+  pub rents : AreRents t prices
+  pub each : (f s m : ℕ) → f < fleets_in t → s < stations_in t → m < MINUTES_PER_PERIOD → IsPrice (price_of prices f s m)
+
+-- from one minute to the next no price rises
+pub record NeverRise (t : Tables) (prices : Prices) : Type 0 where
+  pub each : (f s m : ℕ) → f < fleets_in t → s < stations_in t → m + 1 < MINUTES_PER_PERIOD → price_of prices f s (m + 1) ≤ℤ price_of prices f s m
+
+-- over the end of the period a price rises by the rent at most
+abbrev pub RisesByRent : Prices → ℕ → ℕ → Type 0
+RisesByRent prices f s = price_of prices f s 0 ≤ℤ (price_of prices f s last_minute +ℤ rent_of prices f)
+
+-- and so does each
+pub record RiseByRent (t : Tables) (prices : Prices) : Type 0 where
+  pub each : (f s : ℕ) → f < fleets_in t → s < stations_in t → RisesByRent prices f s
+
+-- prices within their limits, which never rise through the period, and rise over its end by the rent at most
+pub record ArePrices (t : Tables) (prices : Prices) : Type 0 where
+  pub scale : IsScale prices.scale
+  pub within : AreWithin t prices
+  pub fall : NeverRise t prices
+  pub rise : RiseByRent t prices

@@ -1,0 +1,21 @@
+//! Dual prices, the bound that they give, and trees of subproblems with the prices that prove one.
+#![tactic(auto)]
+
+pub mod counting;
+pub mod laws;
+pub mod mixed;
+pub mod nodes;
+pub mod price_at;
+pub mod price_finder;
+pub mod prices;
+mod rising;
+mod rising_weights;
+pub mod trees;
+pub mod weight_finder;
+pub mod worth;
+
+pub use mixed::{Mixed, Weight};
+pub use price_finder::PriceFinder;
+pub use prices::{PriceStep, Prices};
+pub use trees::{Cause, Tree, TreeCounts};
+pub use weight_finder::WeightFinder;

@@ -1,0 +1,64 @@
+ghost use Rattle.std.specs.Prelude.{◌≡◌, [], pos};
+ghost use Rattle.dual_bound.specs.Prices.{rent_of};
+
+use entries::Entries;
+use std::alloc::Global;
+
+/// The greatest scale of prices and of fractional assignments.
+pub const MAX_SCALE: i128 = 1_000_000_000_000_000_000;
+
+/// The greatest rent, and the greatest size of a price.
+pub const MAX_PRICE: i128 = 1_000_000_000_000_000_000_000_000_000_000;
+
+/// The greatest size of a number of a proof, 2^127 - 1.
+pub const MAX_SIZE: u128 = 170_141_183_460_469_231_731_687_303_715_884_105_727;
+
+/// A change of a fleet's price at a station: from this minute on it is `value`, until the next step.
+#[derive(Clone, Copy, Debug, PartialEq, Eq)]
+pub struct PriceStep {
+    /// The fleet, by its number.
+    pub fleet: u32,
+    /// The station, by its number.
+    pub station: u32,
+    /// The minute, counted from the day start.
+    pub minute: u16,
+    /// The price, in cost units over the scale.
+    pub value: i128,
+}
+
+/// Dual prices of a subproblem's constraints: for each fleet what an aircraft at a station is worth, minute by
+/// minute, and what the use of an aircraft costs (Hane and others 1995: balance and count).
+#[derive(Debug, Drop)]
+pub struct Prices {
+    /// What all numbers here are over, 1 or more.
+    pub scale: i128,
+    /// For each fleet, from the first on, the rent of an aircraft; 0 where the list is shorter.
+    pub rents: Entries<i128>,
+    /// The steps of the prices; a price is 0 before the first step of its fleet and station.
+    pub steps: Entries<PriceStep>,
+}
+
+impl Prices {
+    /// No price and no rent, over the scale 1. Takes no memory.
+    pub fn zero(alloc: Global) -> Prices
+        ensures scale { result.scale ≡ pos 1 }
+        ensures rents { result.rents ≡ [] }
+        ensures steps { result.steps ≡ [] }
+    {
+        Prices {
+            scale: 1,
+            rents: Entries::from_vec(Vec::new(alloc)),
+            steps: Entries::from_vec(Vec::new(alloc)),
+        }
+    }
+
+    /// The rent of an aircraft of a fleet, in cost units over the scale; 0 where the list is shorter. Takes no memory.
+    pub fn rent(&self, fleet: u32) -> i128
+        ensures { result ≡ rent_of self.now fleet }
+    {
+        match self.rents.as_slice().get(fleet as usize) {
+            Some(rent) => *rent,
+            None => 0,
+        }
+    }
+}

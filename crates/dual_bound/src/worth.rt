@@ -1,0 +1,196 @@
+//! The bound that prices give in a subproblem.
+ghost use Rattle.std.specs.Prelude.{◌≡◌, ◌<◌, ◌≤◌, ◌*◌, ◌-ℤ◌, ◌*ℤ◌, pos};
+ghost use Rattle.sums.specs.Below.{sum_below_ℤ};
+ghost use Rattle.fleet_model.specs.declared.limits.TheConstants.{MAX_AIRCRAFT, MINUTES_PER_PERIOD};
+ghost use Rattle.fleet_model.specs.Kept.{kept_by};
+ghost use Rattle.fleet_model.specs.Limits.{IsCost};
+ghost use Rattle.fleet_model.specs.Schedule.{IsPair, fleets_in, leg_of, legs_in, stations_in};
+ghost use Rattle.fleet_model.specs.Times.{departure, laps_of, ready_minute};
+ghost use Rattle.dual_bound.specs.Prices.{AreWithin, IsScale, price_of, rent_of};
+ghost use Rattle.dual_bound.specs.Sizes.{IsUpTo};
+ghost use Rattle.dual_bound.specs.Worth.{cost_units, leg_worth, lesser, pair_worth, rents_of, worth_of};
+
+use crate::price_finder::PriceFinder;
+use crate::prices::Prices;
+use fleet_model::{Kept, Pair, Tables, laps, ready};
+
+/// The worth of prices in a subproblem, over their scale: with `k` = 1 a bound on what each legal assignment of
+/// kept pairs costs; with `k` = 0, where it is above 0, a proof that there is none. A leg that keeps no pair adds 0.
+///
+/// It asks for the limits of the scale, the rents and the prices alone. It looks at each kept pair. Where the steps of
+/// the prices rise by fleet, station and minute, it finds two prices there by bisection, and none where the fleet has
+/// neither rent nor step; else it looks twice at each step. Takes no memory.
+#[tactic(auto, unfolding(crate::specs::Worth::worth_of))]
+pub fn worth(tables: &Tables, kept: &Kept, prices: &Prices, k: u8) -> i128
+    requires scale { IsScale prices.now.scale }
+    requires within { AreWithin tables.now prices.now }
+    requires k { k ≤ 1 }
+    ensures { result ≡ worth_of tables.now (kept_by kept.now) prices.now k }
+{
+    let prices = PriceFinder::new(prices);
+    legs_worth(tables, kept, &prices, k) - all_rents(tables, &prices)
+}
+
+// What the legs are worth, added up.
+fn legs_worth(tables: &Tables, kept: &Kept, prices: &PriceFinder<'_>, k: u8) -> i128
+    requires scale { IsScale prices.now.scale }
+    requires within { AreWithin tables.now prices.now }
+    requires k { k ≤ 1 }
+    ensures value { result ≡ sum_below_ℤ (leg_worth tables.now (kept_by kept.now) prices.now k) (legs_in tables.now) }
+    ensures size { IsUpTo (5 * legs_in tables.now) result }
+{
+    let mut sum = 0;
+    for leg in 0..tables.leg_count() {
+        sum += leg_worth(tables, kept, prices, k, leg);
+    }
+    sum
+}
+
+// The least worth of a leg's kept pairs.
+#[tactic(auto, unfolding(crate::specs::Worth::leg_worth, crate::specs::Worth::least_below))]
+fn leg_worth(tables: &Tables, kept: &Kept, prices: &PriceFinder<'_>, k: u8, leg: u32) -> i128
+    requires scale { IsScale prices.now.scale }
+    requires within { AreWithin tables.now prices.now }
+    requires k { k ≤ 1 }
+    requires leg { leg < legs_in tables.now }
+    ensures value { result ≡ leg_worth tables.now (kept_by kept.now) prices.now k leg }
+    ensures size { IsUpTo 5 result }
+{
+    let mut least = None;
+    for fleet in 0..tables.fleet_count() {
+        if kept.kept(leg, fleet) {
+            let worth = pair_worth(tables, prices, k, Pair { leg, fleet });
+            least = Some(lesser(&least, &worth));
+        }
+    }
+    least.unwrap_or(0)
+}
+
+// The lesser of two numbers, of which the first may not be there.
+fn lesser(first: &Option<i128>, second: &i128) -> i128
+    ensures { result ≡ lesser first.now second.now }
+{
+    match first {
+        Some(number) if *number <= *second => *number,
+        _ => *second,
+    }
+}
+
+// What a pair costs by prices: where they are all 0 of its fleet, its cost alone.
+fn pair_worth(tables: &Tables, prices: &PriceFinder<'_>, k: u8, pair: Pair) -> i128
+    requires scale { IsScale prices.now.scale }
+    requires within { AreWithin tables.now prices.now }
+    requires k { k ≤ 1 }
+    requires pair { IsPair tables.now pair }
+    ensures value { result ≡ pair_worth tables.now prices.now k pair }
+    ensures size { IsUpTo 5 result }
+{
+    if prices.is_idle(pair.fleet) {
+        return scaled_cost(tables, prices.scale(), k, pair);
+    }
+    priced_worth(tables, prices, k, pair)
+}
+
+// What a pair costs by prices.
+fn priced_worth(tables: &Tables, prices: &PriceFinder<'_>, k: u8, pair: Pair) -> i128
+    requires scale { IsScale prices.now.scale }
+    requires within { AreWithin tables.now prices.now }
+    requires k { k ≤ 1 }
+    requires pair { IsPair tables.now pair }
+    ensures value { result ≡ pair_worth tables.now prices.now k pair }
+    ensures size { IsUpTo 5 result }
+{
+    scaled_cost(tables, prices.scale(), k, pair)
+        + price_fall(tables, prices, pair)
+        + lap_rents(tables, prices, pair)
+}
+
+// k times the cost of a pair, over the scale; 0 where it may not be flown.
+fn scaled_cost(tables: &Tables, scale: &i128, k: u8, pair: Pair) -> i128
+    requires scale { IsScale scale.now }
+    requires k { k ≤ 1 }
+    ensures value { result ≡ pos k *ℤ scale.now *ℤ cost_units tables.now pair }
+    ensures size { IsUpTo 1 result }
+{
+    if k == 0 {
+        return 0;
+    }
+    *scale * cost_units(tables, pair)
+}
+
+// The cost of a pair, and 0 where it may not be flown.
+fn cost_units(tables: &Tables, pair: Pair) -> i128
+    ensures value { result ≡ cost_units tables.now pair }
+    ensures fits { IsCost result }
+{
+    tables.cost(pair).unwrap_or(0)
+}
+
+// What an aircraft is worth where and when it departs, less what it is worth where and when it is ready.
+fn price_fall(tables: &Tables, prices: &PriceFinder<'_>, pair: Pair) -> i128
+    requires within { AreWithin tables.now prices.now }
+    requires pair { IsPair tables.now pair }
+    ensures value { result ≡ price_of prices.now pair.fleet (leg_of tables.now pair.leg).from (departure tables.now pair)
+        -ℤ price_of prices.now pair.fleet (leg_of tables.now pair.leg).to (ready_minute tables.now pair) }
+    ensures size { IsUpTo 2 result }
+{
+    let flown = tables.leg(pair.leg);
+    let back = ready(tables, pair.leg, pair.fleet);
+    price(tables, prices, pair.fleet, flown.from, flown.dep)
+        - price(tables, prices, pair.fleet, flown.to, back)
+}
+
+// A price, with its size.
+fn price(tables: &Tables, prices: &PriceFinder<'_>, fleet: u32, station: u32, minute: u16) -> i128
+    requires within { AreWithin tables.now prices.now }
+    requires fleet { fleet < fleets_in tables.now }
+    requires station { station < stations_in tables.now }
+    requires minute { minute < MINUTES_PER_PERIOD }
+    ensures value { result ≡ price_of prices.now fleet station minute }
+    ensures size { IsUpTo 1 result }
+{
+    prices.price(fleet, station, minute)
+}
+
+// The rent of an aircraft of a fleet, with its size.
+fn rent(tables: &Tables, prices: &PriceFinder<'_>, fleet: u32) -> i128
+    requires within { AreWithin tables.now prices.now }
+    requires fleet { fleet < fleets_in tables.now }
+    ensures value { result ≡ rent_of prices.now fleet }
+    ensures size { IsUpTo 1 result }
+{
+    prices.rent(fleet)
+}
+
+// The rent of a pair's aircraft for each period start between departure and readiness.
+fn lap_rents(tables: &Tables, prices: &PriceFinder<'_>, pair: Pair) -> i128
+    requires within { AreWithin tables.now prices.now }
+    requires pair { IsPair tables.now pair }
+    ensures value { result ≡ rent_of prices.now pair.fleet *ℤ pos (laps_of tables.now pair) }
+    ensures size { IsUpTo 2 result }
+{
+    rent(tables, prices, pair.fleet) * i128::from(laps(tables, pair.leg, pair.fleet))
+}
+
+// The rents of all aircraft.
+fn all_rents(tables: &Tables, prices: &PriceFinder<'_>) -> i128
+    requires { AreWithin tables.now prices.now }
+    ensures value { result ≡ sum_below_ℤ (rents_of tables.now prices.now) (fleets_in tables.now) }
+    ensures size { IsUpTo (MAX_AIRCRAFT * fleets_in tables.now) result }
+{
+    let mut sum = 0;
+    for fleet in 0..tables.fleet_count() {
+        sum += fleet_rents(tables, prices, fleet);
+    }
+    sum
+}
+
+// The rents of a fleet's aircraft.
+fn fleet_rents(tables: &Tables, prices: &PriceFinder<'_>, fleet: u32) -> i128
+    requires within { AreWithin tables.now prices.now }
+    requires fleet { fleet < fleets_in tables.now }
+    ensures value { result ≡ rents_of tables.now prices.now fleet }
+    ensures size { IsUpTo MAX_AIRCRAFT result }
+{
+    rent(tables, prices, fleet) * i128::from(tables.fleet(fleet).aircraft)
+}
