@@ -1,9 +1,11 @@
 pub mod MixedCosts
 pub mod NodeRules
 pub mod OneVerdict
+pub mod OtherSettings
 pub mod PriceSteps
 pub mod SameTrees
 pub mod SoleAssignments
+pub mod SplitsAbove
 pub mod TreeBounds
 pub mod TreeSizes
 pub mod Walks

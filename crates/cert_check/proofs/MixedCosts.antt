@@ -1,14 +1,14 @@
 -- What a pair costs by its weight, in 128 bits.
-use Rattle.std.proofs.Common.{◌≡◌, ◌*◌, ◌^◌, ◌≤◌, ℤ, pos, negsuc, neg_ℤ, ◌*ℤ◌, ◌≤ℤ◌, unsigned_abs, refl, sym, ◌∙◌, ap, subst, arith}
+use Rattle.std.proofs.Common.{◌≡◌, ◌*◌, ◌^◌, ◌≤◌, ℤ, pos, negsuc, neg_ℤ, ◌*ℤ◌, unsigned_abs, sym, ◌∙◌, ap, subst, arith}
 use Rattle.std.proofs.lemmas.Int.{ints}
 use Rattle.std.proofs.Math.Nat.{mul-le-mul_right}
 use Rattle.sums.proofs.Integers.{*ℤ-neg_ℤ}
 use Rattle.sums.proofs.Orders.{times_le}
 use Rattle.sums.proofs.Sizes.{size_is}
 use Rattle.fleet_model.specs.Limits.{IsCost}
-use Rattle.bound_cert.specs.Prices.{max_scale}
-use Rattle.bound_cert.specs.Sizes.{IsUpTo}
-use Rattle.bound_cert.proofs.Numbers.{held, is_held}
+use Rattle.dual_bound.specs.Prices.{max_scale}
+use Rattle.dual_bound.specs.Sizes.{IsUpTo}
+use Rattle.dual_bound.proofs.Numbers.{held, is_held}
 use Rattle.cert_check.specs.MixedRules.{IsSmallWeight}
 
 -- a weight times a cost

@@ -1,20 +1,18 @@
 -- What is known at a node once it keeps the rules before one.
-use Rattle.std.proofs.Common.{◌≡◌, ℕ, ◌+◌, ◌<◌, Bool, true, false, MatchBool, MatchOption, List, Option, Some, None, IfSome, ℤ, pos, ◌-ℤ◌, ◌*ℤ◌, ◌≤ℤ◌, ◌<ℤ◌, refl, ◌∙◌, ap, subst, arith}
-use Rattle.std.proofs.lemmas.Int.{by_lt_z, ints}
-use lib.IntN.{*ℤ_comm}
-use Rattle.sums.proofs.Orders.{factor_le}
+use Rattle.std.proofs.Common.{◌≡◌, ℕ, ◌+◌, ◌<◌, Bool, true, false, MatchBool, MatchOption, List, Option, Some, None, IfSome, ℤ, pos, ◌≤ℤ◌, ◌<ℤ◌, refl, ◌∙◌, ap, subst, arith}
+use Rattle.std.proofs.lemmas.Int.{ints}
 use Rattle.frac_row.specs.Ratio.{IsCeiling}
 use Rattle.frac_row.proofs.Ceilings.{same_ceiling}
 use Rattle.fleet_model.specs.Kept.{Domains, IsKeptAssignment, IsSole}
 use Rattle.fleet_model.specs.Legal.{IsLegal, total_cost}
 use Rattle.fleet_model.specs.declared.tables.Tables.{Tables}
 use Rattle.fleet_model.proofs.KeptLaws.{sole_is_one}
-use Rattle.bound_cert.specs.Bound.{IsSoleBound}
-use Rattle.bound_cert.specs.Prices.{ArePrices, AreWithin, NeverRise, RiseByRent}
-use Rattle.bound_cert.specs.Worth.{worth_of}
-use Rattle.bound_cert.specs.declared.mixed.Mixed.{Mixed}
-use Rattle.bound_cert.specs.declared.prices.Prices.{Prices}
-use Rattle.bound_cert.specs.Fractions.{AreParts, IsMixedAt}
+use Rattle.dual_bound.specs.Bound.{IsSoleBound}
+use Rattle.dual_bound.specs.Prices.{ArePrices, AreWithin, NeverRise, RiseByRent}
+use Rattle.dual_bound.specs.Worth.{worth_of}
+use Rattle.dual_bound.specs.declared.mixed.Mixed.{Mixed}
+use Rattle.dual_bound.specs.declared.prices.Prices.{Prices}
+use Rattle.dual_bound.specs.Fractions.{AreParts, IsMixedAt}
 use Rattle.cert_check.specs.Nodes.{Node, prices_at}
 use Rattle.cert_check.specs.Rules.{HasScale, IsLegalAt, IsSoleLegal, IsSound, KeepsBefore, Reaches}
 use Rattle.cert_check.specs.declared.rules.Rule.TheVariants as rule

@@ -9,14 +9,14 @@ use Rattle.frac_row.proofs.Ceilings.{same_ceiling}
 use Rattle.fleet_model.specs.Kept.{Domains, IsKeptAssignment, all_pairs}
 use Rattle.fleet_model.specs.Legal.{IsLegal}
 use Rattle.fleet_model.specs.declared.tables.Tables.{Tables}
-use Rattle.bound_cert.specs.Bound.{IsBoundIn, IsLesserBound, IsPriceBound, IsSoleBound, part}
-use Rattle.bound_cert.specs.Leaves.{held_count}
-use Rattle.bound_cert.specs.Nodes.{nodes_of}
-use Rattle.bound_cert.specs.declared.prices.Prices.{Prices}
-use Rattle.bound_cert.specs.declared.trees.Tree.{Tree}
-use Rattle.bound_cert.specs.declared.trees.Tree.TheVariants as tree
+use Rattle.dual_bound.specs.Bound.{IsBoundIn, IsLesserBound, IsPriceBound, IsSoleBound, part}
+use Rattle.dual_bound.specs.Leaves.{held_count}
+use Rattle.dual_bound.specs.Nodes.{nodes_of}
+use Rattle.dual_bound.specs.declared.prices.Prices.{Prices}
+use Rattle.dual_bound.specs.declared.trees.Tree.{Tree}
+use Rattle.dual_bound.specs.declared.trees.Tree.TheVariants as tree
 use Rattle.cert_check.specs.Nodes.{Node, nodes_in}
-use Rattle.bound_cert.specs.Prices.{IsScale}
+use Rattle.dual_bound.specs.Prices.{IsScale}
 use Rattle.cert_check.specs.Rules.{IsFirstBroken, IsFirstFault, IsSound, number_of}
 use Rattle.cert_check.specs.Verdicts.{AreSound, BreaksAt, HoldsWith, IsChecked}
 use Rattle.cert_check.specs.declared.checked.Checked.{Checked}

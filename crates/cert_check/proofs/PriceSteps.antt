@@ -1,18 +1,21 @@
 -- Between two steps prices stay, so what holds where steps stand holds at every minute.
-use Rattle.std.proofs.Common.{◌≡◌, ℕ, zero, suc, ◌+◌, ◌<◌, Bool, true, false, ◌&&◌, ◌==◌, nat_le, if◌then◌else◌, List, [], ◌∷◌, All, MatchBool, length, take, take_all, get_or, ◌≤◌, ◌⊎◌, inl, inr, ℤ, pos, ◌+ℤ◌, ◌≤ℤ◌, ◌<ℤ◌, refl, ap, add-one, arith}
+use Rattle.std.proofs.Common.{◌≡◌, ℕ, zero, suc, ◌+◌, ◌-◌, ◌<◌, Bool, true, false, ◌&&◌, ◌==◌, nat_le, if◌then◌else◌, List, [], ◌∷◌, All, MatchBool, length, slice_index_or, ◌⊎◌, inl, inr, ℤ, pos, ◌+ℤ◌, ◌≤ℤ◌, ◌<ℤ◌, refl, subst, add-one, arith}
+use mathlib.Core.Bool.{false≢true}
+use Rattle.std.proofs.lemmas.List.{get_or_default}
 use Rattle.std.proofs.lemmas.Int.{ints}
 use Rattle.std.proofs.lemmas.Bool.Decides.{nat_tests}
-use Rattle.std.proofs.lemmas.List.Elements.{All-head, All-more, All-tail}
+use Rattle.std.proofs.lemmas.List.Elements.{All-head, All-tail}
 use Rattle.fleet_model.specs.Schedule.{fleets_in}
 use Rattle.fleet_model.specs.Use.{last_minute}
 use Rattle.fleet_model.specs.declared.limits.TheConstants.{MINUTES_PER_PERIOD}
 use Rattle.fleet_model.specs.declared.tables.Tables.{Tables}
-use Rattle.bound_cert.specs.OfTables.{ArePricesOf}
-use Rattle.bound_cert.specs.Prices.{AreRents, AreWithin, IsPrice, IsRent, NeverRise, RiseByRent, RisesByRent, has_come, price_after, price_of, rent_of}
-use Rattle.bound_cert.specs.declared.prices.Prices.{Prices}
-use Rattle.bound_cert.specs.declared.prices.PriceStep.{PriceStep}
-use Rattle.bound_cert.proofs.Numbers.{held, is_held}
-use Rattle.cert_check.specs.PriceRules.{FallsAt, IsWithinAt, RisesByRentAt}
+use Rattle.dual_bound.specs.OfTables.{ArePricesOf}
+use Rattle.dual_bound.specs.Prices.{AreRents, AreWithin, IsPrice, IsRent, NeverRise, RiseByRent, RisesByRent, has_come, price_after, price_of, rent_of}
+use Rattle.dual_bound.specs.Rising.{no_step, step_at}
+use Rattle.dual_bound.specs.declared.prices.Prices.{Prices}
+use Rattle.dual_bound.specs.declared.prices.PriceStep.{PriceStep}
+use Rattle.dual_bound.proofs.Numbers.{held, is_held}
+use Rattle.cert_check.specs.PriceRules.{AreWithinAtSteps, FallAtSteps, FallsAt, IsWithinAt, RiseAtSteps, RiseBefore, RisesByRentAt, goes_on_at}
 
 -- a step of a fleet at a station, with what is known of it
 record IsAt (P : PriceStep → Type 0) (f s : ℕ) (step : PriceStep) : Type 0 where
@@ -107,18 +110,23 @@ falls_everywhere prices all f s m within = elim (stands_or_stays (FallsAt prices
   | inr same ↦ omega (arith, ints, same)
 ]
 
+-- what holds of the step at each place holds of all steps
+each_step : (P : PriceStep → Type 0) (steps : List PriceStep) → ((k : ℕ) → k < length steps → P (slice_index_or steps k no_step)) → All P steps
+each_step P steps all k d below = subst P (get_or_default steps k no_step d below) (all k below)
+
 -- the answers of the tests, from those at steps
 pub within_by_steps : (t : Tables) (prices : Prices) (b : Bool) → ArePricesOf t prices → AreRents t prices
-    → MatchBool b (All (IsWithinAt prices) prices.steps) (¬ (All (IsWithinAt prices) prices.steps)) → MatchBool b (AreWithin t prices) (¬ (AreWithin t prices))
-within_by_steps t prices true known rents all = record { rents = rents; each = λ f s m fleet station within. within_everywhere prices all f s m within }
+    → MatchBool b (AreWithinAtSteps prices) (¬ (AreWithinAtSteps prices)) → MatchBool b (AreWithin t prices) (¬ (AreWithin t prices))
+within_by_steps t prices true known rents all =
+    record { rents = rents; each = λ f s m fleet station within. within_everywhere prices (each_step (IsWithinAt prices) prices.steps all) f s m within }
 within_by_steps t prices false known rents none =
-    λ within. none (λ k d below. record { is = λ small. within.each _ _ _ (known k d below).fleet (known k d below).station small })
+    λ within. none (λ k below. record { is = λ small. within.each _ _ _ (known k no_step below).fleet (known k no_step below).station small })
 
 pub falls_by_steps : (t : Tables) (prices : Prices) (b : Bool) → ArePricesOf t prices
-    → MatchBool b (All (FallsAt prices) prices.steps) (¬ (All (FallsAt prices) prices.steps)) → MatchBool b (NeverRise t prices) (¬ (NeverRise t prices))
-falls_by_steps t prices true known all = record { each = λ f s m fleet station within. falls_everywhere prices all f s m within }
+    → MatchBool b (FallAtSteps prices) (¬ (FallAtSteps prices)) → MatchBool b (NeverRise t prices) (¬ (NeverRise t prices))
+falls_by_steps t prices true known all = record { each = λ f s m fleet station within. falls_everywhere prices (each_step (FallsAt prices) prices.steps all) f s m within }
 falls_by_steps t prices false known none =
-    λ falls. none (λ k d below. record { is = λ m minute within. falls.each _ _ m (known k d below).fleet (known k d below).station within })
+    λ falls. none (λ k below. record { is = λ m minute within. falls.each _ _ m (known k no_step below).fleet (known k no_step below).station within })
 
 -- over the end of the period
 rises_everywhere : (t : Tables) (prices : Prices) → AreRents t prices → All (RisesByRentAt prices) prices.steps → (f s : ℕ) → f < fleets_in t → RisesByRent prices f s
@@ -131,10 +139,24 @@ rises_everywhere t prices rents all f s fleet = elim (some_or_none (RisesByRentA
 ]
 
 pub rises_by_steps : (t : Tables) (prices : Prices) (b : Bool) → ArePricesOf t prices → AreRents t prices
-    → MatchBool b (All (RisesByRentAt prices) prices.steps) (¬ (All (RisesByRentAt prices) prices.steps)) → MatchBool b (RiseByRent t prices) (¬ (RiseByRent t prices))
-rises_by_steps t prices true known rents all = record { each = λ f s fleet station. rises_everywhere t prices rents all f s fleet }
+    → MatchBool b (RiseAtSteps prices) (¬ (RiseAtSteps prices)) → MatchBool b (RiseByRent t prices) (¬ (RiseByRent t prices))
+rises_by_steps t prices true known rents all = record { each = λ f s fleet station. rises_everywhere t prices rents (each_step (RisesByRentAt prices) prices.steps all) f s fleet }
 rises_by_steps t prices false known rents none =
-    λ rise. none (λ k d below. record { is = rise.each _ _ (known k d below).fleet (known k d below).station })
+    λ rise. none (λ k below. record { is = rise.each _ _ (known k no_step below).fleet (known k no_step below).station })
+
+-- a step of the same fleet at the same station as one before it
+moved : (prices : Prices) (a b : PriceStep) → ((a.fleet == b.fleet) && (a.station == b.station)) ≡ true → RisesByRentAt prices a → RisesByRentAt prices b
+moved prices a b same rise = at_place (grind (arith, nat_tests)) (grind (arith, nat_tests))
+  where
+    at_place : a.fleet ≡ b.fleet → a.station ≡ b.station → RisesByRentAt prices b
+    at_place p q = record { is = rw (p, q) at rise.is }
+
+pub risen_before : (prices : Prices) (place : ℕ) → goes_on_at prices place ≡ true → RiseBefore prices place → RisesByRentAt prices (step_at prices place)
+risen_before prices zero follows before = absurd (false≢true follows)
+risen_before prices (suc place) follows before =
+    let some : (suc place == 0) ≡ false = grind (arith, nat_tests) in
+    let earlier : suc place - 1 ≡ place = omega arith in
+    moved prices (step_at prices place) (step_at prices (suc place)) (rw (some, earlier) at follows) (before place (omega arith))
 
 -- over the end of the period, of one step
 pub risen_at : (prices : Prices) (step : PriceStep) (b : Bool) (first last rent : ℤ) → first ≡ price_of prices step.fleet step.station 0
@@ -150,13 +172,3 @@ risen_at prices step b first last rent p q r small_first small_last small_rent t
     by_answer : (b : Bool) → MatchBool b (first ≤ℤ (last +ℤ rent)) ((last +ℤ rent) <ℤ first) → MatchBool b (RisesByRentAt prices step) (¬ (RisesByRentAt prices step))
     by_answer true test = record { is = omega (arith, ints, p, q, r, test) }
     by_answer false test = λ rise. absurd (omega (arith, ints, p, q, r, test, rise.is))
-
--- one step more of which a test says yes
-pub one_more_step : (P : PriceStep → Type 0) (shown steps : List PriceStep) (i : ℕ) (d : PriceStep) (b : Bool) → shown ≡ steps → i < length shown → All P (take i steps)
-    → b ≡ true → MatchBool b (P (get_or shown i d)) (¬ (P (get_or shown i d))) → All P (take (i + 1) steps)
-one_more_step P shown steps i d true e below before passed here = All-more P steps i d (omega (arith, ap length e)) before (rw e at here)
-one_more_step P shown steps i d false e below before passed here = absurd (cc)
-
--- all steps, once none is left
-pub all_steps : (P : PriceStep → Type 0) (shown steps : List PriceStep) (i : ℕ) → shown ≡ steps → length shown ≤ i → All P (take i steps) → All P steps
-all_steps P shown steps i e done before = rw (take_all i steps (omega (arith, ap length e))) at before

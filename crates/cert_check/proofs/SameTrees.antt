@@ -5,11 +5,11 @@ use Rattle.std.specs.List.{AllZip}
 use Rattle.std.proofs.lemmas.List.Elements.{All-cons, All-head, All-tail}
 use Rattle.fleet_model.specs.Kept.{Domains}
 use Rattle.fleet_model.specs.declared.tables.Tables.{Tables}
-use Rattle.bound_cert.specs.Bound.{IsBoundIn, part}
-use Rattle.bound_cert.specs.Nodes.{nodes_of}
-use Rattle.bound_cert.specs.declared.nodes.Node.{Node as Line}
-use Rattle.bound_cert.specs.declared.trees.Tree.{Tree}
-use Rattle.bound_cert.specs.declared.trees.Tree.TheVariants as tree
+use Rattle.dual_bound.specs.Bound.{IsBoundIn, part}
+use Rattle.dual_bound.specs.Nodes.{nodes_of}
+use Rattle.dual_bound.specs.declared.nodes.Node.{Node as Line}
+use Rattle.dual_bound.specs.declared.trees.Tree.{Tree}
+use Rattle.dual_bound.specs.declared.trees.Tree.TheVariants as tree
 use Rattle.cert_check.specs.Nodes.{Node, nodes_in}
 use Rattle.cert_check.specs.Rules.{EndsAtOnce, IsSound, Keeps}
 use Rattle.cert_check.specs.Verdicts.{AreSound}

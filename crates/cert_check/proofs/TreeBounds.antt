@@ -1,5 +1,5 @@
 -- Weak duality over a tree whose nodes keep all rules: its bound is no more than the cost of any legal assignment.
-use Rattle.std.proofs.Common.{◌≡◌, ℕ, Bool, true, false, not, ◌==◌, ◌&&◌, if◌then◌else◌, List, [], ◌∷◌, ◌++◌, All, length-append, Option, Some, None, MatchOption, ℤ, ◌≤ℤ◌, refl, sym, ◌∙◌, ap, subst, arith}
+use Rattle.std.proofs.Common.{◌≡◌, ℕ, Bool, true, false, not, ◌==◌, if◌then◌else◌, List, [], ◌∷◌, ◌++◌, All, length-append, Option, Some, None, MatchOption, ℤ, ◌≤ℤ◌, refl, sym, ◌∙◌, ap, subst, arith}
 use Rattle.std.proofs.lemmas.Int.{ints}
 use Rattle.std.proofs.lemmas.Bool.Decides.{nat_tests}
 use Rattle.std.proofs.lemmas.List.Elements.{All-head, All-tail}
@@ -11,12 +11,12 @@ use Rattle.fleet_model.specs.Kept.{Domains, IsKeptAssignment, all_pairs, leaves}
 use Rattle.fleet_model.specs.Legal.{IsLegal, total_cost}
 use Rattle.fleet_model.specs.declared.tables.Tables.{Tables}
 use Rattle.fleet_model.proofs.KeptLaws.{allowed_is_kept, bare_has_none}
-use Rattle.bound_cert.specs.Bound.{IsBoundIn, IsLesserBound, IsPriceBound, lesser_bound, part}
-use Rattle.bound_cert.specs.Prices.{ArePrices}
-use Rattle.bound_cert.specs.declared.prices.Prices.{Prices}
-use Rattle.bound_cert.specs.declared.trees.Tree.{Tree}
-use Rattle.bound_cert.specs.declared.trees.Tree.TheVariants as tree
-use Rattle.bound_cert.proofs.Duality.{ceiling_is_lower_bound, worth_refutes}
+use Rattle.dual_bound.specs.Bound.{IsBoundIn, IsLesserBound, IsPriceBound, lesser_bound, part}
+use Rattle.dual_bound.specs.Prices.{ArePrices}
+use Rattle.dual_bound.specs.declared.prices.Prices.{Prices}
+use Rattle.dual_bound.specs.declared.trees.Tree.{Tree}
+use Rattle.dual_bound.specs.declared.trees.Tree.TheVariants as tree
+use Rattle.dual_bound.proofs.Duality.{ceiling_is_lower_bound, worth_refutes}
 use Rattle.cert_check.specs.Nodes.{Node, nodes_in, prices_at}
 use Rattle.cert_check.specs.Rules.{IsSound}
 use Rattle.cert_check.specs.Verdicts.{AreSound, BoundsAll}

@@ -1,9 +1,9 @@
 -- How many nodes a tree has, by which the walk over it ends.
 use Rattle.std.proofs.Common.{◌≡◌, ℕ, suc, ◌+◌, ◌*◌, ◌<◌, ◌≤◌, Box, Global, ap, arith}
-use Rattle.bound_cert.specs.declared.mixed.Mixed.{Mixed}
-use Rattle.bound_cert.specs.declared.prices.Prices.{Prices}
-use Rattle.bound_cert.specs.declared.trees.Tree.{Split, Tree, Trim}
-use Rattle.bound_cert.specs.declared.trees.Tree.TheVariants as tree
+use Rattle.dual_bound.specs.declared.mixed.Mixed.{Mixed}
+use Rattle.dual_bound.specs.declared.prices.Prices.{Prices}
+use Rattle.dual_bound.specs.declared.trees.Tree.{Split, Tree, Trim}
+use Rattle.dual_bound.specs.declared.trees.Tree.TheVariants as tree
 
 abbrev pub node_count : Tree → ℕ
 node_count (tree.Bare leg) = 1

@@ -6,13 +6,13 @@ use Rattle.fleet_model.specs.declared.kept.Step.{Step}
 use Rattle.fleet_model.specs.Schedule.{IsPair, leg_on}
 use Rattle.fleet_model.specs.declared.parts.Pair.{Pair}
 use Rattle.fleet_model.specs.declared.tables.Tables.{Tables}
-use Rattle.bound_cert.specs.Bound.{IsBoundIn, IsSoleBound, part}
-use Rattle.bound_cert.specs.Leaves.{held_count}
-use Rattle.bound_cert.specs.OfTables.{IsOfTables}
-use Rattle.bound_cert.specs.declared.mixed.Mixed.{Mixed}
-use Rattle.bound_cert.specs.declared.prices.Prices.{Prices}
-use Rattle.bound_cert.specs.declared.trees.Tree.{Split, Tree, Trim}
-use Rattle.bound_cert.specs.declared.trees.Tree.TheVariants as tree
+use Rattle.dual_bound.specs.Bound.{IsBoundIn, IsSoleBound, part}
+use Rattle.dual_bound.specs.Leaves.{held_count}
+use Rattle.dual_bound.specs.OfTables.{IsOfTables}
+use Rattle.dual_bound.specs.declared.mixed.Mixed.{Mixed}
+use Rattle.dual_bound.specs.declared.prices.Prices.{Prices}
+use Rattle.dual_bound.specs.declared.trees.Tree.{Split, Tree, Trim}
+use Rattle.dual_bound.specs.declared.trees.Tree.TheVariants as tree
 use Rattle.cert_check.specs.Nodes.{Node, nodes_in}
 use Rattle.cert_check.specs.Rules.{IsFirstFault, IsSound}
 use Rattle.cert_check.specs.Verdicts.{AreBothWalked, AreBrokenAt, AreFine, IsBoundBelow, IsJoined, IsWalked, nodes_below}
@@ -25,7 +25,7 @@ abbrev pub node : Domains → Tree → Node
 node keeps whole = record { keeps = keeps; tree = whole }
 
 -- the first of a tree's nodes is its own
-its_own : (keeps : Domains) (whole : Tree) → (rest : List Node) × (nodes_in keeps whole ≡ node keeps whole ∷ rest)
+pub its_own : (keeps : Domains) (whole : Tree) → (rest : List Node) × (nodes_in keeps whole ≡ node keeps whole ∷ rest)
 its_own keeps (tree.Bare leg) = ([], refl)
 its_own keeps tree.Sole = ([], refl)
 its_own keeps (tree.Refuted prices) = ([], refl)

@@ -2,4 +2,5 @@ pub mod MixedRules
 pub mod Nodes
 pub mod PriceRules
 pub mod Rules
+pub mod Splits
 pub mod Verdicts

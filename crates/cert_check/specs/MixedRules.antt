@@ -6,9 +6,9 @@ use Rattle.fleet_model.specs.Mixed.{weight_on}
 use Rattle.fleet_model.specs.Schedule.{fleet_of, fleets_in, leg_on, legs_in, stations_in}
 use Rattle.fleet_model.specs.Use.{last_minute, used_of}
 use Rattle.fleet_model.specs.declared.tables.Tables.{Tables}
-use Rattle.bound_cert.specs.Fractions.{parts_in, parts_of_leg}
-use Rattle.bound_cert.specs.Prices.{max_scale}
-use Rattle.bound_cert.specs.declared.mixed.Mixed.{Mixed}
+use Rattle.dual_bound.specs.Fractions.{parts_in, parts_of_leg}
+use Rattle.dual_bound.specs.Prices.{max_scale}
+use Rattle.dual_bound.specs.declared.mixed.Mixed.{Mixed}
 
 -- a weight of any scale within its limit
 pub record IsSmallWeight (weight : ℤ) : Type 0 where

@@ -5,13 +5,13 @@ use Rattle.fleet_model.specs.Kept.{Domains, IsBare, IsKeptAssignment, IsSole, ke
 use Rattle.fleet_model.specs.Legal.{IsLegal, total_cost}
 use Rattle.fleet_model.specs.Schedule.{leg_on}
 use Rattle.fleet_model.specs.declared.tables.Tables.{Tables}
-use Rattle.bound_cert.specs.Bound.{part}
-use Rattle.bound_cert.specs.Prices.{AreWithin, IsScale, NeverRise, RiseByRent}
-use Rattle.bound_cert.specs.Worth.{worth_of}
-use Rattle.bound_cert.specs.declared.prices.Prices.{Prices}
-use Rattle.bound_cert.specs.declared.trees.Tree.{Tree}
-use Rattle.bound_cert.specs.declared.trees.Tree.TheVariants as tree
-use Rattle.bound_cert.specs.Fractions.{IsFraction, IsMixedAt, IsWholePair}
+use Rattle.dual_bound.specs.Bound.{part}
+use Rattle.dual_bound.specs.Prices.{AreWithin, IsScale, NeverRise, RiseByRent}
+use Rattle.dual_bound.specs.Worth.{worth_of}
+use Rattle.dual_bound.specs.declared.prices.Prices.{Prices}
+use Rattle.dual_bound.specs.declared.trees.Tree.{Tree}
+use Rattle.dual_bound.specs.declared.trees.Tree.TheVariants as tree
+use Rattle.dual_bound.specs.Fractions.{IsFraction, IsMixedAt, IsWholePair}
 use Rattle.cert_check.specs.Nodes.{Node, mixed_at, mixed_of, prices_at}
 use Rattle.cert_check.specs.declared.rules.Rule.{Rule}
 use Rattle.cert_check.specs.declared.rules.Rule.TheVariants as rule
@@ -127,6 +127,10 @@ pub record KeepsBefore (t : Tables) (cost : Option ℤ) (node : Node) (bound : �
 -- a node keeps all rules
 pub record IsSound (t : Tables) (cost : Option ℤ) (node : Node) : Type 0 where
   pub each : (rule : Rule) → Keeps t cost node rule
+
+-- a node keeps all rules but one
+pub record IsSoundBut (t : Tables) (cost : Option ℤ) (but : Rule) (node : Node) : Type 0 where
+  pub each : (rule : Rule) → rule ≢ but → Keeps t cost node rule
 
 -- the first rule that a node breaks
 pub record IsFirstFault (t : Tables) (cost : Option ℤ) (node : Node) (rule : Rule) : Type 0 where

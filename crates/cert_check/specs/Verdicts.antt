@@ -3,9 +3,9 @@ use Rattle.std.specs.Prelude.{◌≡◌, ℕ, ◌+◌, true, false, All, List, �
 use Rattle.fleet_model.specs.Kept.{Domains, all_pairs}
 use Rattle.fleet_model.specs.declared.parts.Pair.{Pair}
 use Rattle.fleet_model.specs.declared.tables.Tables.{Tables}
-use Rattle.bound_cert.specs.Bound.{IsBound, IsBoundIn, IsInfeasible, IsLesserBound, IsLowerBound, lesser_bound, part}
-use Rattle.bound_cert.specs.Leaves.{held_count}
-use Rattle.bound_cert.specs.declared.trees.Tree.{Tree}
+use Rattle.dual_bound.specs.Bound.{IsBound, IsBoundIn, IsInfeasible, IsLesserBound, IsLowerBound, lesser_bound, part}
+use Rattle.dual_bound.specs.Leaves.{held_count}
+use Rattle.dual_bound.specs.declared.trees.Tree.{Tree}
 use Rattle.cert_check.specs.Nodes.{Node, nodes_in, nodes_of}
 use Rattle.cert_check.specs.Rules.{IsFirstBroken, IsSound, number_of}
 use Rattle.cert_check.specs.declared.checked.Checked.{Checked}

@@ -1,12 +1,12 @@
 //! The checker.
 ghost use Rattle.std.specs.Prelude.{◌≡◌, IfSome, Option, ℤ, option_map};
 ghost use Rattle.fleet_model.specs.Legal.{IsLegal, total_cost};
-ghost use Rattle.bound_cert.specs.OfTables.{IsOfTables};
+ghost use Rattle.dual_bound.specs.OfTables.{IsOfTables};
 ghost use Rattle.cert_check.specs.Verdicts.{IsChecked, IsProof};
 
 use crate::checked::Checked;
 use crate::walking::{Walked, walk};
-use bound_cert::Tree;
+use dual_bound::Tree;
 use fleet_model::{Assignment, Kept, Tables};
 use plan_judge::{Verdict, judge};
 

@@ -6,15 +6,15 @@ ghost use Rattle.fleet_model.specs.Limits.{IsCost};
 ghost use Rattle.fleet_model.specs.Mixed.{mixed_cost, weighted_cost};
 ghost use Rattle.fleet_model.specs.Schedule.{IsPair, fleets_in, leg_on, legs_in};
 ghost use Rattle.fleet_model.specs.declared.limits.TheConstants.{MAX_FLEETS};
-ghost use Rattle.bound_cert.specs.Mixed.{weight_in};
-ghost use Rattle.bound_cert.specs.Prices.{ArePrices};
-ghost use Rattle.bound_cert.specs.Sizes.{IsUpTo};
-ghost use Rattle.bound_cert.specs.Worth.{cost_units};
-ghost use Rattle.bound_cert.specs.Fractions.{AreParts, IsFraction, IsWhole, IsWholeLeg, IsWholePair, IsEnd, IsWorth, parts_in};
+ghost use Rattle.dual_bound.specs.Mixed.{weight_in};
+ghost use Rattle.dual_bound.specs.Prices.{ArePrices};
+ghost use Rattle.dual_bound.specs.Sizes.{IsUpTo};
+ghost use Rattle.dual_bound.specs.Worth.{cost_units};
+ghost use Rattle.dual_bound.specs.Fractions.{AreParts, IsFraction, IsWhole, IsWholeLeg, IsWholePair, IsEnd, IsWorth, parts_in};
 ghost use Rattle.cert_check.specs.MixedRules.{IsSmallWeight};
 
-use bound_cert::worth::worth;
-use bound_cert::{Mixed, Prices};
+use dual_bound::worth::worth;
+use dual_bound::{Mixed, Prices, WeightFinder};
 use fleet_model::{Kept, Pair, Tables};
 use frac_row::compare_ratio;
 use std::cmp::Ordering;
@@ -25,14 +25,15 @@ pub(crate) fn is_fraction(tables: &Tables, kept: &Kept, prices: &Prices, mixed: 
     requires parts { AreParts tables.now mixed.now }
     ensures { MatchBool result (IsFraction tables.now (kept_by kept.now) prices.now mixed.now) (¬ (IsFraction tables.now (kept_by kept.now) prices.now mixed.now)) }
 {
-    !is_whole(tables, mixed) && is_worth(tables, kept, prices, mixed)
+    let mixed = WeightFinder::new(mixed);
+    !is_whole(tables, &mixed) && is_worth(tables, kept, prices, &mixed)
 }
 
 /// Whether a pair is flown wholly or not at all. Takes no memory.
-pub(crate) fn is_whole_pair(mixed: &Mixed, leg: u32, fleet: u32) -> bool
+pub(crate) fn is_whole_pair(mixed: &WeightFinder<'_>, leg: u32, fleet: u32) -> bool
     ensures { MatchBool result (IsWholePair mixed.now leg fleet) (¬ (IsWholePair mixed.now leg fleet)) }
 {
-    is_end(&mixed.scale, &mixed.weight(Pair { leg, fleet }))
+    is_end(mixed.scale(), &mixed.weight(Pair { leg, fleet }))
 }
 
 // Whether a weight is 0 or the scale.
@@ -43,7 +44,7 @@ fn is_end(scale: &i128, weight: &i128) -> bool
 }
 
 // Whether each pair is flown wholly or not at all.
-fn is_whole(tables: &Tables, mixed: &Mixed) -> bool
+fn is_whole(tables: &Tables, mixed: &WeightFinder<'_>) -> bool
     ensures { MatchBool result (IsWhole tables.now mixed.now) (¬ (IsWhole tables.now mixed.now)) }
 {
     for leg in 0..tables.leg_count() {
@@ -55,7 +56,7 @@ fn is_whole(tables: &Tables, mixed: &Mixed) -> bool
 }
 
 // Whether each pair of a leg is.
-fn is_whole_leg(tables: &Tables, mixed: &Mixed, leg: u32) -> bool
+fn is_whole_leg(tables: &Tables, mixed: &WeightFinder<'_>, leg: u32) -> bool
     ensures { MatchBool result (IsWholeLeg tables.now mixed.now leg) (¬ (IsWholeLeg tables.now mixed.now leg)) }
 {
     for fleet in 0..tables.fleet_count() {
@@ -68,14 +69,14 @@ fn is_whole_leg(tables: &Tables, mixed: &Mixed, leg: u32) -> bool
 
 // Whether a fractional assignment costs what the prices are worth, each over its scale. The products are too great
 // for 128 bits, and so are not formed.
-fn is_worth(tables: &Tables, kept: &Kept, prices: &Prices, mixed: &Mixed) -> bool
+fn is_worth(tables: &Tables, kept: &Kept, prices: &Prices, mixed: &WeightFinder<'_>) -> bool
     requires proper { ArePrices tables.now prices.now }
     requires parts { AreParts tables.now mixed.now }
     ensures { MatchBool result (IsWorth tables.now (kept_by kept.now) prices.now mixed.now) (¬ (IsWorth tables.now (kept_by kept.now) prices.now mixed.now)) }
 {
     let cost = cost_of(tables, mixed);
     let bound = worth(tables, kept, prices, 1);
-    match compare_ratio(cost, mixed.scale, bound, prices.scale) {
+    match compare_ratio(cost, *mixed.scale(), bound, prices.scale) {
         Ordering::Equal => true,
         Ordering::Less | Ordering::Greater => false,
     }
@@ -83,7 +84,7 @@ fn is_worth(tables: &Tables, kept: &Kept, prices: &Prices, mixed: &Mixed) -> boo
 
 // What a fractional assignment costs, times its scale.
 #[tactic(auto, unfolding(fleet_model::specs::Mixed::mixed_cost))]
-fn cost_of(tables: &Tables, mixed: &Mixed) -> i128
+fn cost_of(tables: &Tables, mixed: &WeightFinder<'_>) -> i128
     requires { AreParts tables.now mixed.now }
     ensures { result ≡ mixed_cost tables.now (parts_in mixed.now) }
 {
@@ -95,7 +96,7 @@ fn cost_of(tables: &Tables, mixed: &Mixed) -> i128
 }
 
 // What a leg costs by the weights of its pairs.
-fn leg_cost(tables: &Tables, mixed: &Mixed, leg: u32) -> i128
+fn leg_cost(tables: &Tables, mixed: &WeightFinder<'_>, leg: u32) -> i128
     requires parts { AreParts tables.now mixed.now }
     requires leg { leg < legs_in tables.now }
     ensures value { result ≡ sum_below_ℤ (weighted_cost tables.now (parts_in mixed.now) leg) (fleets_in tables.now) }
@@ -109,7 +110,7 @@ fn leg_cost(tables: &Tables, mixed: &Mixed, leg: u32) -> i128
 }
 
 // What a pair costs by its weight.
-fn weighted_cost(tables: &Tables, mixed: &Mixed, pair: Pair) -> i128
+fn weighted_cost(tables: &Tables, mixed: &WeightFinder<'_>, pair: Pair) -> i128
     requires parts { AreParts tables.now mixed.now }
     requires pair { IsPair tables.now pair }
     ensures value { result ≡ weighted_cost tables.now (parts_in mixed.now) pair.leg pair.fleet }
@@ -119,7 +120,7 @@ fn weighted_cost(tables: &Tables, mixed: &Mixed, pair: Pair) -> i128
 }
 
 // The weight of a pair, which is within its limits.
-fn weight(tables: &Tables, mixed: &Mixed, pair: Pair) -> i128
+fn weight(tables: &Tables, mixed: &WeightFinder<'_>, pair: Pair) -> i128
     requires parts { AreParts tables.now mixed.now }
     requires pair { IsPair tables.now pair }
     ensures value { result ≡ weight_in mixed.now pair }

@@ -10,8 +10,10 @@ mod mixed_rules;
 mod node_rules;
 mod price_rules;
 pub mod rules;
+pub mod splits;
 mod walking;
 
 pub use checked::Checked;
 pub use checking::check;
 pub use rules::Rule;
+pub use splits::split_above;

@@ -2,16 +2,16 @@
 ghost use Rattle.std.specs.Prelude.{◌≡◌, ◌<◌, ◌≤◌};
 ghost use Rattle.fleet_model.specs.Mixed.{weight_on};
 ghost use Rattle.fleet_model.specs.Schedule.{IsPair, fleets_in, legs_in};
-ghost use Rattle.bound_cert.specs.Prices.{max_scale};
-ghost use Rattle.bound_cert.specs.Fractions.{AreParts, parts_in};
+ghost use Rattle.dual_bound.specs.Prices.{max_scale};
+ghost use Rattle.dual_bound.specs.Fractions.{AreParts, parts_in};
 ghost use Rattle.stand_counts.specs.Flights.{of_fleet};
 
-use bound_cert::Mixed;
+use dual_bound::WeightFinder;
 use fleet_model::{Pair, Tables};
 use stand_counts::Flights;
 
 /// How many parts of a leg a fleet flies.
-pub(crate) fn parts(tables: &Tables, mixed: &Mixed, pair: Pair) -> u128
+pub(crate) fn parts(tables: &Tables, mixed: &WeightFinder<'_>, pair: Pair) -> u128
     requires parts { AreParts tables.now mixed.now }
     requires pair { IsPair tables.now pair }
     ensures value { result ≡ parts_in mixed.now pair }
@@ -21,7 +21,7 @@ pub(crate) fn parts(tables: &Tables, mixed: &Mixed, pair: Pair) -> u128
 }
 
 /// How many parts of a leg are flown.
-pub(crate) fn weight_on(tables: &Tables, mixed: &Mixed, leg: u32) -> u128
+pub(crate) fn weight_on(tables: &Tables, mixed: &WeightFinder<'_>, leg: u32) -> u128
     requires parts { AreParts tables.now mixed.now }
     requires leg { leg < legs_in tables.now }
     ensures { result ≡ weight_on tables.now (parts_in mixed.now) leg }
@@ -35,12 +35,12 @@ pub(crate) fn weight_on(tables: &Tables, mixed: &Mixed, leg: u32) -> u128
 
 /// The flights of one fleet by a fractional assignment.
 #[derive(Clone, Copy)]
-pub(crate) struct Parted<'a> {
-    pub mixed: &'a Mixed,
+pub(crate) struct Parted<'a, 'b> {
+    pub mixed: &'a WeightFinder<'b>,
     pub fleet: u32,
 }
 
-impl Flights for Parted<'_> {
+impl Flights for Parted<'_, '_> {
     ghost flights = { λ it. of_fleet (parts_in it.mixed.now) it.fleet };
 
     ghost fit = { λ t it. AreParts t it.mixed.now × (it.fleet < fleets_in t) };

@@ -1,18 +1,18 @@
 //! Whether the fractional assignment of a node is one of its subproblem.
 //!
-//! With so many entries in its list, the most is taken by need: for each fleet and each two legs from one station a
-//! look at each entry.
+//! The most is taken by need: for each fleet and each two legs from one station it asks for a weight, which is found by
+//! bisection where the entries of the list rise, and else by a look at each.
 ghost use Rattle.std.specs.Prelude.{◌≡◌, ◌*◌, ◌<◌, ◌≤◌, MatchBool};
 ghost use Rattle.fleet_model.specs.Kept.{kept_by};
 ghost use Rattle.fleet_model.specs.Schedule.{fleet_of, fleets_in, legs_in};
 ghost use Rattle.fleet_model.specs.Use.{IsBalanced};
-ghost use Rattle.bound_cert.specs.Prices.{max_scale};
-ghost use Rattle.bound_cert.specs.Fractions.{AreParts, HasAllWeights, HasWeights, IsMixedAt, IsWeight, parts_in, parts_of_leg};
+ghost use Rattle.dual_bound.specs.Prices.{max_scale};
+ghost use Rattle.dual_bound.specs.Fractions.{AreParts, HasAllWeights, HasWeights, IsMixedAt, IsWeight, parts_in, parts_of_leg};
 ghost use Rattle.cert_check.specs.MixedRules.{BalancesFleet, Covers, FliesKept, FliesKeptOn, UsesNoMore};
 
 use crate::mixed_counts::{Parted, parts, weight_on};
 use crate::price_rules::is_scale;
-use bound_cert::Mixed;
+use dual_bound::{Mixed, WeightFinder};
 use fleet_model::limits::MINUTES_PER_PERIOD;
 use fleet_model::{Kept, Pair, Tables};
 use stand_counts::{arrivals, departures, used};
@@ -22,22 +22,23 @@ use stand_counts::{arrivals, departures, used};
 pub(crate) fn is_mixed(tables: &Tables, kept: &Kept, mixed: &Mixed) -> bool
     ensures { MatchBool result (IsMixedAt tables.now (kept_by kept.now) mixed.now) (¬ (IsMixedAt tables.now (kept_by kept.now) mixed.now)) }
 {
-    are_parts(tables, mixed)
-        && flies_kept(tables, kept, mixed)
-        && covers(tables, mixed)
-        && is_balanced(tables, mixed)
-        && uses_no_more(tables, mixed)
+    let mixed = WeightFinder::new(mixed);
+    are_parts(tables, &mixed)
+        && flies_kept(tables, kept, &mixed)
+        && covers(tables, &mixed)
+        && is_balanced(tables, &mixed)
+        && uses_no_more(tables, &mixed)
 }
 
 // Whether the scale and all weights are within their limits.
-fn are_parts(tables: &Tables, mixed: &Mixed) -> bool
+fn are_parts(tables: &Tables, mixed: &WeightFinder<'_>) -> bool
     ensures { MatchBool result (AreParts tables.now mixed.now) (¬ (AreParts tables.now mixed.now)) }
 {
-    is_scale(&mixed.scale) && have_weights(tables, mixed)
+    is_scale(mixed.scale()) && have_weights(tables, mixed)
 }
 
 // Whether all weights are 0 or more, and the scale at most.
-fn have_weights(tables: &Tables, mixed: &Mixed) -> bool
+fn have_weights(tables: &Tables, mixed: &WeightFinder<'_>) -> bool
     ensures { MatchBool result (HasAllWeights tables.now mixed.now) (¬ (HasAllWeights tables.now mixed.now)) }
 {
     for leg in 0..tables.leg_count() {
@@ -49,11 +50,11 @@ fn have_weights(tables: &Tables, mixed: &Mixed) -> bool
 }
 
 // Whether the weights of a leg's pairs are.
-fn has_weights(tables: &Tables, mixed: &Mixed, leg: u32) -> bool
+fn has_weights(tables: &Tables, mixed: &WeightFinder<'_>, leg: u32) -> bool
     ensures { MatchBool result (HasWeights tables.now mixed.now leg) (¬ (HasWeights tables.now mixed.now leg)) }
 {
     for fleet in 0..tables.fleet_count() {
-        if !is_weight(&mixed.scale, &mixed.weight(Pair { leg, fleet })) {
+        if !is_weight(mixed.scale(), &mixed.weight(Pair { leg, fleet })) {
             return false;
         }
     }
@@ -68,7 +69,7 @@ fn is_weight(scale: &i128, weight: &i128) -> bool
 }
 
 // Whether no part is flown of pairs that are not kept.
-fn flies_kept(tables: &Tables, kept: &Kept, mixed: &Mixed) -> bool
+fn flies_kept(tables: &Tables, kept: &Kept, mixed: &WeightFinder<'_>) -> bool
     requires { AreParts tables.now mixed.now }
     ensures { MatchBool result (FliesKept tables.now (kept_by kept.now) mixed.now) (¬ (FliesKept tables.now (kept_by kept.now) mixed.now)) }
 {
@@ -81,7 +82,7 @@ fn flies_kept(tables: &Tables, kept: &Kept, mixed: &Mixed) -> bool
 }
 
 // Whether no part is flown of a leg's pairs that are not kept.
-fn flies_kept_on(tables: &Tables, kept: &Kept, mixed: &Mixed, leg: u32) -> bool
+fn flies_kept_on(tables: &Tables, kept: &Kept, mixed: &WeightFinder<'_>, leg: u32) -> bool
     requires parts { AreParts tables.now mixed.now }
     requires leg { leg < legs_in tables.now }
     ensures { MatchBool result (FliesKeptOn tables.now (kept_by kept.now) mixed.now leg) (¬ (FliesKeptOn tables.now (kept_by kept.now) mixed.now leg)) }
@@ -95,7 +96,7 @@ fn flies_kept_on(tables: &Tables, kept: &Kept, mixed: &Mixed, leg: u32) -> bool
 }
 
 // Whether each leg is flown in all its parts.
-fn covers(tables: &Tables, mixed: &Mixed) -> bool
+fn covers(tables: &Tables, mixed: &WeightFinder<'_>) -> bool
     requires { AreParts tables.now mixed.now }
     ensures { MatchBool result (Covers tables.now mixed.now) (¬ (Covers tables.now mixed.now)) }
 {
@@ -109,7 +110,7 @@ fn covers(tables: &Tables, mixed: &Mixed) -> bool
 }
 
 // Whether each fleet balances at each station.
-fn is_balanced(tables: &Tables, mixed: &Mixed) -> bool
+fn is_balanced(tables: &Tables, mixed: &WeightFinder<'_>) -> bool
     requires { AreParts tables.now mixed.now }
     ensures { MatchBool result (IsBalanced tables.now (parts_in mixed.now)) (¬ (IsBalanced tables.now (parts_in mixed.now))) }
 {
@@ -123,7 +124,7 @@ fn is_balanced(tables: &Tables, mixed: &Mixed) -> bool
 
 // Whether a fleet balances at each station.
 #[tactic(auto, using(stand_counts::proofs::FleetCounts::arrivals_of_fleet, stand_counts::proofs::FleetCounts::departures_of_fleet))]
-fn balances(tables: &Tables, mixed: &Mixed, fleet: u32) -> bool
+fn balances(tables: &Tables, mixed: &WeightFinder<'_>, fleet: u32) -> bool
     requires parts { AreParts tables.now mixed.now }
     requires fleet { fleet < fleets_in tables.now }
     ensures { MatchBool result (BalancesFleet tables.now mixed.now fleet) (¬ (BalancesFleet tables.now mixed.now fleet)) }
@@ -141,7 +142,7 @@ fn balances(tables: &Tables, mixed: &Mixed, fleet: u32) -> bool
 
 // Whether no fleet uses more aircraft than it has, so many parts each.
 #[tactic(auto, using(stand_counts::proofs::FleetCounts::use_of_fleet))]
-fn uses_no_more(tables: &Tables, mixed: &Mixed) -> bool
+fn uses_no_more(tables: &Tables, mixed: &WeightFinder<'_>) -> bool
     requires { AreParts tables.now mixed.now }
     ensures { MatchBool result (UsesNoMore tables.now mixed.now) (¬ (UsesNoMore tables.now mixed.now)) }
 {
@@ -154,7 +155,7 @@ fn uses_no_more(tables: &Tables, mixed: &Mixed) -> bool
 }
 
 // The aircraft of a fleet, in parts.
-fn aircraft_parts(tables: &Tables, mixed: &Mixed, fleet: u32) -> u128
+fn aircraft_parts(tables: &Tables, mixed: &WeightFinder<'_>, fleet: u32) -> u128
     requires parts { AreParts tables.now mixed.now }
     requires fleet { fleet < fleets_in tables.now }
     ensures { result ≡ parts_of_leg mixed.now * (fleet_of tables.now fleet).aircraft }
@@ -163,10 +164,10 @@ fn aircraft_parts(tables: &Tables, mixed: &Mixed, fleet: u32) -> u128
 }
 
 // How many parts a leg has.
-fn leg_parts(tables: &Tables, mixed: &Mixed) -> u128
+fn leg_parts(tables: &Tables, mixed: &WeightFinder<'_>) -> u128
     requires { AreParts tables.now mixed.now }
     ensures value { result ≡ parts_of_leg mixed.now }
     ensures few { result ≤ max_scale }
 {
-    mixed.scale.unsigned_abs()
+    mixed.scale().unsigned_abs()
 }

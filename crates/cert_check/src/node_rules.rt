@@ -2,9 +2,9 @@
 ghost use Rattle.std.specs.Prelude.{◌≡◌, Some, None, IfSome, IsSomeAnd, MatchBool, MatchOption};
 ghost use Rattle.fleet_model.specs.Kept.{kept_by, narrowed};
 ghost use Rattle.fleet_model.specs.Schedule.{IsPair, leg_on};
-ghost use Rattle.bound_cert.specs.OfTables.{ArePricesOf, IsOfTables};
-ghost use Rattle.bound_cert.specs.Prices.{ArePrices, AreWithin, NeverRise, RiseByRent};
-ghost use Rattle.bound_cert.specs.Fractions.{AreParts, IsFraction, IsMixedAt};
+ghost use Rattle.dual_bound.specs.OfTables.{ArePricesOf, IsOfTables};
+ghost use Rattle.dual_bound.specs.Prices.{ArePrices, AreWithin, NeverRise, RiseByRent};
+ghost use Rattle.dual_bound.specs.Fractions.{AreParts, IsFraction, IsMixedAt};
 ghost use Rattle.cert_check.specs.Nodes.{mixed_at, mixed_of, node_at, prices_at};
 ghost use Rattle.cert_check.specs.Rules.{EndsAtOnce, HasFraction, HasItsPairs, HasParts, HasScale, IsFirstFault, IsPricedAt, IsRefutedAt, IsSound, Keeps, IsSoleLegal, KeepsBefore, OneEnds, Reaches, number_of};
 
@@ -13,8 +13,8 @@ use crate::leaves::{have_all_pairs, is_bare, is_sole, price_bound, sole_cost};
 use crate::mixed_rules::is_mixed;
 use crate::price_rules::{are_within, is_no_more, is_scale, never_rise, rise_by_rent};
 use crate::rules::{RULES, Rule};
-use bound_cert::worth::worth;
-use bound_cert::{Cause, Mixed, Prices, Tree};
+use dual_bound::worth::worth;
+use dual_bound::{Cause, Mixed, Prices, Tree, WeightFinder};
 use fleet_model::{Kept, Step, Tables};
 
 /// The first rule that a node breaks. Takes no memory.
@@ -286,7 +286,10 @@ fn has_fraction(tables: &Tables, kept: &Kept, node: &Tree) -> bool
             prices,
             mixed,
             ..
-        } => { is_fraction(tables, kept, prices, mixed) && !is_whole_pair(mixed, *leg, *fleet) }
+        } => {
+            is_fraction(tables, kept, prices, mixed)
+                && !is_whole_pair(&WeightFinder::new(mixed), *leg, *fleet)
+        }
         _ => true,
     }
 }

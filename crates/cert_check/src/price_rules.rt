@@ -1,16 +1,18 @@
 //! Whether prices are proper, rule by rule.
 //!
-//! Between two steps a price stays, so it is looked at only where a step stands: each call takes a look at each step
-//! for each step at most.
-ghost use Rattle.std.specs.Prelude.{◌≡◌, ◌<◌, All, MatchBool, ◌≤ℤ◌, ◌<ℤ◌};
+//! Between two steps a price stays, so it is looked at only where a step stands. Where the steps rise by fleet, station
+//! and minute, each rule is told in one pass; else each call takes a look at each step for each step at most.
+ghost use Rattle.std.specs.Prelude.{◌≡◌, ◌<◌, MatchBool, ◌≤ℤ◌, ◌<ℤ◌, length};
 ghost use Rattle.fleet_model.specs.Schedule.{fleets_in};
 ghost use Rattle.fleet_model.specs.declared.limits.TheConstants.{MINUTES_PER_PERIOD};
-ghost use Rattle.bound_cert.specs.OfTables.{ArePricesOf, IsStepOf};
-ghost use Rattle.bound_cert.specs.Prices.{AreRents, AreWithin, IsPrice, IsRent, IsScale, NeverRise, RiseByRent, price_of, rent_of};
-ghost use Rattle.cert_check.specs.PriceRules.{FallsAt, IsWithinAt, RisesByRentAt};
+ghost use Rattle.dual_bound.specs.Order.{same_place};
+ghost use Rattle.dual_bound.specs.Rising.{step_at};
+ghost use Rattle.dual_bound.specs.OfTables.{ArePricesOf, IsStepOf};
+ghost use Rattle.dual_bound.specs.Prices.{AreRents, AreWithin, IsPrice, IsRent, IsScale, NeverRise, RiseByRent, price_of, rent_of};
+ghost use Rattle.cert_check.specs.PriceRules.{AreWithinAtSteps, FallAtSteps, FallsAt, IsWithinAt, RiseAtSteps, RiseBefore, RisesByRentAt, goes_on_at};
 
-use bound_cert::prices::{MAX_PRICE, MAX_SCALE};
-use bound_cert::{PriceStep, Prices};
+use dual_bound::prices::{MAX_PRICE, MAX_SCALE};
+use dual_bound::{PriceFinder, PriceStep, Prices};
 use fleet_model::Tables;
 use fleet_model::limits::MINUTES_PER_PERIOD;
 
@@ -27,7 +29,7 @@ pub(crate) fn are_within(tables: &Tables, prices: &Prices) -> bool
     requires { ArePricesOf tables.now prices.now }
     ensures { MatchBool result (AreWithin tables.now prices.now) (¬ (AreWithin tables.now prices.now)) }
 {
-    are_rents(tables, prices) && are_steps_within(prices)
+    are_rents(tables, prices) && are_steps_within(&PriceFinder::new(prices))
 }
 
 /// Whether no price rises from one minute to the next. Takes no memory.
@@ -36,7 +38,7 @@ pub(crate) fn never_rise(tables: &Tables, prices: &Prices) -> bool
     requires { ArePricesOf tables.now prices.now }
     ensures { MatchBool result (NeverRise tables.now prices.now) (¬ (NeverRise tables.now prices.now)) }
 {
-    steps_fall(prices)
+    steps_fall(&PriceFinder::new(prices))
 }
 
 /// Whether no price rises by more than the rent over the end of the period. Takes no memory.
@@ -46,7 +48,7 @@ pub(crate) fn rise_by_rent(tables: &Tables, prices: &Prices) -> bool
     requires within { AreWithin tables.now prices.now }
     ensures { MatchBool result (RiseByRent tables.now prices.now) (¬ (RiseByRent tables.now prices.now)) }
 {
-    steps_rise_by_rent(tables, prices)
+    steps_rise_by_rent(tables, &PriceFinder::new(prices))
 }
 
 // Whether the rents of all fleets are proper.
@@ -69,11 +71,11 @@ fn is_rent(rent: &i128) -> bool
 }
 
 // Whether prices are within their limits wherever a step stands.
-fn are_steps_within(prices: &Prices) -> bool
-    ensures { MatchBool result (All (IsWithinAt prices.now) prices.now.steps) (¬ (All (IsWithinAt prices.now) prices.now.steps)) }
+fn are_steps_within(prices: &PriceFinder<'_>) -> bool
+    ensures { MatchBool result (AreWithinAtSteps prices.now) (¬ (AreWithinAtSteps prices.now)) }
 {
-    for step in prices.steps.as_slice() {
-        if !is_within_at(prices, step) {
+    for place in 0..prices.step_count() {
+        if !is_within_at(prices, place) {
             return false;
         }
     }
@@ -81,11 +83,11 @@ fn are_steps_within(prices: &Prices) -> bool
 }
 
 // Whether the price is within its limits where a step stands.
-fn is_within_at(prices: &Prices, step: &PriceStep) -> bool
-    ensures { MatchBool result (IsWithinAt prices.now step.now) (¬ (IsWithinAt prices.now step.now)) }
+fn is_within_at(prices: &PriceFinder<'_>, place: usize) -> bool
+    requires { place < length prices.now.steps }
+    ensures { MatchBool result (IsWithinAt prices.now (step_at prices.now place)) (¬ (IsWithinAt prices.now (step_at prices.now place))) }
 {
-    step.minute >= MINUTES_PER_PERIOD
-        || is_price(&prices.price(step.fleet, step.station, step.minute))
+    prices.step(place).minute >= MINUTES_PER_PERIOD || is_price(&prices.price_at(place))
 }
 
 // Whether a price is within its limits.
@@ -96,11 +98,11 @@ fn is_price(price: &i128) -> bool
 }
 
 // Whether no price rises where a step stands.
-fn steps_fall(prices: &Prices) -> bool
-    ensures { MatchBool result (All (FallsAt prices.now) prices.now.steps) (¬ (All (FallsAt prices.now) prices.now.steps)) }
+fn steps_fall(prices: &PriceFinder<'_>) -> bool
+    ensures { MatchBool result (FallAtSteps prices.now) (¬ (FallAtSteps prices.now)) }
 {
-    for step in prices.steps.as_slice() {
-        if !falls_at(prices, step) {
+    for place in 0..prices.step_count() {
+        if !falls_at(prices, place) {
             return false;
         }
     }
@@ -108,16 +110,15 @@ fn steps_fall(prices: &Prices) -> bool
 }
 
 // Whether the price does not rise where a step stands.
-fn falls_at(prices: &Prices, step: &PriceStep) -> bool
-    ensures { MatchBool result (FallsAt prices.now step.now) (¬ (FallsAt prices.now step.now)) }
+fn falls_at(prices: &PriceFinder<'_>, place: usize) -> bool
+    requires { place < length prices.now.steps }
+    ensures { MatchBool result (FallsAt prices.now (step_at prices.now place)) (¬ (FallsAt prices.now (step_at prices.now place))) }
 {
+    let step = prices.step(place);
     if step.minute == 0 || step.minute >= MINUTES_PER_PERIOD {
         return true;
     }
-    is_no_more(
-        &prices.price(step.fleet, step.station, step.minute),
-        &prices.price(step.fleet, step.station, step.minute - 1),
-    )
+    is_no_more(&prices.price_at(place), &prices.price_before(place))
 }
 
 /// Whether a number is no more than another.
@@ -128,21 +129,54 @@ pub(crate) fn is_no_more(first: &i128, second: &i128) -> bool
 }
 
 // Whether no price rises by more than the rent over the end of the period, of those with a step.
-fn steps_rise_by_rent(tables: &Tables, prices: &Prices) -> bool
+fn steps_rise_by_rent(tables: &Tables, prices: &PriceFinder<'_>) -> bool
     requires known { ArePricesOf tables.now prices.now }
     requires within { AreWithin tables.now prices.now }
-    ensures { MatchBool result (All (RisesByRentAt prices.now) prices.now.steps) (¬ (All (RisesByRentAt prices.now) prices.now.steps)) }
+    ensures { MatchBool result (RiseAtSteps prices.now) (¬ (RiseAtSteps prices.now)) }
 {
-    for step in prices.steps.as_slice() {
-        if !rises_by_rent_at(tables, prices, step) {
+    for place in 0..prices.step_count() {
+        if !rises_too(tables, prices, place) {
             return false;
         }
     }
     true
 }
 
+// Whether the price of the fleet and station of the step at a place rises by the rent at most over the end of the
+// period, where those of the steps before it do. Where the one before it is of the same, there is nothing to look at.
+fn rises_too(tables: &Tables, prices: &PriceFinder<'_>, place: usize) -> bool
+    requires known { ArePricesOf tables.now prices.now }
+    requires within { AreWithin tables.now prices.now }
+    requires place { place < length prices.now.steps }
+    requires before { RiseBefore prices.now place }
+    ensures { MatchBool result (RisesByRentAt prices.now (step_at prices.now place)) (¬ (RisesByRentAt prices.now (step_at prices.now place))) }
+{
+    if goes_on(prices, place) {
+        return true;
+    }
+    rises_by_rent_at(tables, prices, prices.step(place))
+}
+
+// Whether the step before a place is of the same fleet at the same station.
+fn goes_on(prices: &PriceFinder<'_>, place: usize) -> bool
+    requires { place < length prices.now.steps }
+    ensures { result ≡ goes_on_at prices.now place }
+{
+    if place == 0 {
+        return false;
+    }
+    is_same_place(prices.step(place - 1), prices.step(place))
+}
+
+// Whether two steps are of one fleet at one station.
+fn is_same_place(a: &PriceStep, b: &PriceStep) -> bool
+    ensures { result ≡ same_place a.now b.now }
+{
+    a.fleet == b.fleet && a.station == b.station
+}
+
 // Whether the price of a step's fleet and station rises by the rent at most over the end of the period.
-fn rises_by_rent_at(tables: &Tables, prices: &Prices, step: &PriceStep) -> bool
+fn rises_by_rent_at(tables: &Tables, prices: &PriceFinder<'_>, step: &PriceStep) -> bool
     requires known { IsStepOf tables.now step.now }
     requires within { AreWithin tables.now prices.now }
     ensures { MatchBool result (RisesByRentAt prices.now step.now) (¬ (RisesByRentAt prices.now step.now)) }
@@ -154,7 +188,7 @@ fn rises_by_rent_at(tables: &Tables, prices: &Prices, step: &PriceStep) -> bool
 }
 
 // The price of a step's fleet and station, which is within its limits.
-fn price_within(tables: &Tables, prices: &Prices, step: &PriceStep, minute: u16) -> i128
+fn price_within(tables: &Tables, prices: &PriceFinder<'_>, step: &PriceStep, minute: u16) -> i128
     requires known { IsStepOf tables.now step.now }
     requires within { AreWithin tables.now prices.now }
     requires minute { minute < MINUTES_PER_PERIOD }
@@ -165,7 +199,7 @@ fn price_within(tables: &Tables, prices: &Prices, step: &PriceStep, minute: u16)
 }
 
 // The rent of a fleet, which is within its limits.
-fn rent_within(tables: &Tables, prices: &Prices, fleet: u32) -> i128
+fn rent_within(tables: &Tables, prices: &PriceFinder<'_>, fleet: u32) -> i128
     requires fleet { fleet < fleets_in tables.now }
     requires within { AreWithin tables.now prices.now }
     ensures value { result ≡ rent_of prices.now fleet }

@@ -2,15 +2,15 @@
 ghost use Rattle.std.specs.Prelude.{◌≡◌};
 ghost use Rattle.fleet_model.specs.Kept.{kept_by, narrowed};
 ghost use Rattle.fleet_model.specs.Schedule.{IsPair, leg_on};
-ghost use Rattle.bound_cert.specs.Bound.{lesser_bound};
-ghost use Rattle.bound_cert.specs.Worth.{lesser};
-ghost use Rattle.bound_cert.specs.OfTables.{IsOfTables};
+ghost use Rattle.dual_bound.specs.Bound.{lesser_bound};
+ghost use Rattle.dual_bound.specs.Worth.{lesser};
+ghost use Rattle.dual_bound.specs.OfTables.{IsOfTables};
 ghost use Rattle.cert_check.specs.Verdicts.{AreBothWalked, IsJoined, IsWalked};
 
 use crate::leaves::{price_bound, sole_cost};
 use crate::node_rules::first_fault;
 use crate::rules::Rule;
-use bound_cert::Tree;
+use dual_bound::Tree;
 use fleet_model::{Kept, Step, Tables};
 
 /// What a walk over a part of a tree finds.

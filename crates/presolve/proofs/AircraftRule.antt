@@ -17,9 +17,9 @@ use Rattle.fleet_model.specs.Times.{busy_minutes, departure, laps_of, ready_minu
 use Rattle.fleet_model.specs.declared.limits.TheConstants.{MINUTES_PER_PERIOD}
 use Rattle.fleet_model.specs.declared.parts.Pair.{Pair}
 use Rattle.fleet_model.specs.declared.tables.Tables.{Tables}
-use Rattle.bound_cert.specs.Bound.{part}
-use Rattle.bound_cert.specs.Worth.{leg_worth, worth_of}
-use Rattle.bound_cert.specs.declared.prices.Prices.{Prices}
+use Rattle.dual_bound.specs.Bound.{part}
+use Rattle.dual_bound.specs.Worth.{leg_worth, worth_of}
+use Rattle.dual_bound.specs.declared.prices.Prices.{Prices}
 use Rattle.presolve.specs.Reasons.{IsReason}
 use Rattle.presolve.specs.Rules.{busy_at, busy_on, come_by, has_only, surely_busy, surely_flies}
 use Rattle.presolve.specs.declared.rule.Rule.TheVariants as rule

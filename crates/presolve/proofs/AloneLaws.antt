@@ -10,7 +10,7 @@ use Rattle.fleet_model.specs.Times.{departure, laps_of}
 use Rattle.fleet_model.specs.declared.limits.TheConstants.{MAX_LEGS}
 use Rattle.fleet_model.specs.declared.parts.Pair.{Pair}
 use Rattle.fleet_model.specs.declared.tables.Tables.{Tables}
-use Rattle.bound_cert.specs.Bound.{part}
+use Rattle.dual_bound.specs.Bound.{part}
 use Rattle.presolve.specs.Choices.{all_busy_alone, busy_alone, busy_alone_at}
 use Rattle.presolve.specs.Rules.{busy_at, busy_on, come_by, has_only, surely_busy}
 use Rattle.presolve.specs.declared.cells.TheConstants.{CELL_WIDTH}

@@ -6,7 +6,7 @@ use Rattle.fleet_model.specs.Kept.{Domains, kept_on}
 use Rattle.fleet_model.specs.Schedule.{IsPair, legs_in}
 use Rattle.fleet_model.specs.declared.parts.Pair.{Pair}
 use Rattle.fleet_model.specs.declared.tables.Tables.{Tables}
-use Rattle.bound_cert.specs.Bound.{part}
+use Rattle.dual_bound.specs.Bound.{part}
 use Rattle.presolve.proofs.KeptParts.{other_leg_same, own_leg_fewer}
 
 -- one place more

@@ -9,7 +9,7 @@ use Rattle.fleet_model.specs.Schedule.{IsPair, fleets_in, leg_on, legs_in}
 use Rattle.fleet_model.specs.declared.limits.TheConstants.{MAX_FLEETS}
 use Rattle.fleet_model.specs.declared.parts.Pair.{Pair}
 use Rattle.fleet_model.specs.declared.tables.Tables.{Tables}
-use Rattle.bound_cert.specs.Bound.{part}
+use Rattle.dual_bound.specs.Bound.{part}
 use Rattle.presolve.specs.Laws.{PairsAreFew}
 use Rattle.presolve.specs.Removals.{NoneBare}
 use Rattle.sums.proofs.OneChanged.{count_below-fewer, sum_below-more}

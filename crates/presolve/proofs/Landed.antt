@@ -8,7 +8,7 @@ use Rattle.fleet_model.specs.Kept.{Domains}
 use Rattle.fleet_model.specs.Schedule.{IsPair, leg_of, leg_on, legs_in, stations_in}
 use Rattle.fleet_model.specs.declared.parts.Pair.{Pair}
 use Rattle.fleet_model.specs.declared.tables.Tables.{Tables}
-use Rattle.bound_cert.specs.Bound.{part}
+use Rattle.dual_bound.specs.Bound.{part}
 use Rattle.presolve.specs.Choices.{departures_at, landings_at}
 use Rattle.presolve.specs.Rules.{departures, landings}
 use Rattle.presolve.specs.declared.cells.TheConstants.{CELL_WIDTH}

@@ -2,7 +2,7 @@
 use Rattle.std.proofs.Common.{◌≡◌, ℕ, zero, suc, ◌<◌, Bool, true, false, if◌then◌else◌, Option, Some, None, ℤ, ◌≤ℤ◌, refl, inl, inr, arith}
 use Rattle.std.specs.Prelude.{unwrap_or, int_le}
 use Rattle.std.proofs.lemmas.Bool.{cases_lt}
-use Rattle.bound_cert.specs.Worth.{least_below, lesser}
+use Rattle.dual_bound.specs.Worth.{least_below, lesser}
 
 -- each kept number is no less than a bound
 pub record NoneLess (keeps : ℕ → Bool) (value : ℕ → ℤ) (low : ℤ) (n : ℕ) : Type 0 where

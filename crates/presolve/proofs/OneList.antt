@@ -6,7 +6,7 @@ use Rattle.fleet_model.specs.Kept.{Domains}
 use Rattle.fleet_model.specs.Schedule.{leg_on}
 use Rattle.fleet_model.specs.declared.parts.Pair.{Pair}
 use Rattle.fleet_model.specs.declared.tables.Tables.{Tables}
-use Rattle.bound_cert.specs.Bound.{part}
+use Rattle.dual_bound.specs.Bound.{part}
 use Rattle.presolve.specs.Laws.{RemovalsAreOne}
 use Rattle.presolve.specs.Removals.{AreRemovals, IsDone, IsNext, is_sooner, pair_of, without}
 use Rattle.presolve.specs.declared.trims.Trim.{Trim}

@@ -11,10 +11,10 @@ use Rattle.fleet_model.specs.Times.{departure}
 use Rattle.fleet_model.specs.Use.{last_minute}
 use Rattle.fleet_model.specs.declared.parts.Pair.{Pair}
 use Rattle.fleet_model.specs.declared.tables.Tables.{Tables}
-use Rattle.bound_cert.specs.Reading.{step_follows}
-use Rattle.bound_cert.specs.WrittenOrder.{ArePricesInOrder, AreStepsInOrder, IsFigure, IsStepInOrder, NoLoneZero, StepsFollow, goes_on}
-use Rattle.bound_cert.specs.declared.prices.Prices.{Prices}
-use Rattle.bound_cert.specs.declared.prices.PriceStep.{PriceStep}
+use Rattle.dual_bound.specs.Order.{step_follows}
+use Rattle.dual_bound.specs.WrittenOrder.{ArePricesInOrder, AreStepsInOrder, IsFigure, IsStepInOrder, NoLoneZero, StepsFollow, goes_on}
+use Rattle.dual_bound.specs.declared.prices.Prices.{Prices}
+use Rattle.dual_bound.specs.declared.prices.PriceStep.{PriceStep}
 use Rattle.presolve.specs.Reasons.{reason_rent, reason_steps, steps_at, steps_until}
 use Rattle.presolve.specs.declared.rule.Rule.{Rule}
 use Rattle.presolve.specs.declared.rule.Rule.TheVariants as rule

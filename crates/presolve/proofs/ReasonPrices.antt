@@ -9,11 +9,11 @@ use Rattle.fleet_model.specs.Use.{last_minute}
 use Rattle.fleet_model.specs.declared.limits.TheConstants.{MINUTES_PER_PERIOD}
 use Rattle.fleet_model.specs.declared.parts.Pair.{Pair}
 use Rattle.fleet_model.specs.declared.tables.Tables.{Tables}
-use Rattle.bound_cert.specs.OfTables.{IsStepOf}
-use Rattle.bound_cert.specs.Prices.{has_come, price_after}
-use Rattle.bound_cert.specs.declared.prices.Prices.{Prices}
-use Rattle.bound_cert.specs.declared.prices.PriceStep.{PriceStep}
-use Rattle.bound_cert.proofs.PriceLists.{price_after-append}
+use Rattle.dual_bound.specs.OfTables.{IsStepOf}
+use Rattle.dual_bound.specs.Prices.{has_come, price_after}
+use Rattle.dual_bound.specs.declared.prices.Prices.{Prices}
+use Rattle.dual_bound.specs.declared.prices.PriceStep.{PriceStep}
+use Rattle.dual_bound.proofs.PriceLists.{price_after-append}
 use Rattle.presolve.specs.Reasons.{IsReason, reason_price, reason_rent, reason_steps, steps_at, steps_until}
 use Rattle.presolve.specs.declared.rule.Rule.{Rule}
 use Rattle.presolve.specs.declared.rule.Rule.TheVariants as rule

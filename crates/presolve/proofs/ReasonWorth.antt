@@ -12,8 +12,8 @@ use Rattle.fleet_model.specs.Times.{busy_minutes, departure, laps_of, ready_minu
 use Rattle.fleet_model.specs.declared.limits.TheConstants.{MINUTES_PER_PERIOD}
 use Rattle.fleet_model.specs.declared.parts.Pair.{Pair}
 use Rattle.fleet_model.specs.declared.tables.Tables.{Tables}
-use Rattle.bound_cert.specs.Worth.{cost_units, leg_worth, pair_worth, rents_of, worth_of}
-use Rattle.bound_cert.specs.declared.prices.Prices.{Prices}
+use Rattle.dual_bound.specs.Worth.{cost_units, leg_worth, pair_worth, rents_of, worth_of}
+use Rattle.dual_bound.specs.declared.prices.Prices.{Prices}
 use Rattle.presolve.specs.Reasons.{IsReason, reason_price, reason_rent}
 use Rattle.presolve.specs.declared.rule.Rule.{Rule}
 use Rattle.presolve.proofs.LeastBounds.{NoneLess, least_low, least_of_kept}

@@ -8,8 +8,8 @@ use Rattle.fleet_model.specs.Times.{departure}
 use Rattle.fleet_model.specs.Use.{last_minute}
 use Rattle.fleet_model.specs.declared.parts.Pair.{Pair}
 use Rattle.fleet_model.specs.declared.tables.Tables.{Tables}
-use Rattle.bound_cert.specs.Prices.{ArePrices, rent_of}
-use Rattle.bound_cert.specs.declared.prices.Prices.{Prices}
+use Rattle.dual_bound.specs.Prices.{ArePrices, rent_of}
+use Rattle.dual_bound.specs.declared.prices.Prices.{Prices}
 use Rattle.presolve.specs.Reasons.{IsReason, reason_price, reason_rent}
 use Rattle.presolve.specs.declared.rule.Rule.{Rule}
 use Rattle.presolve.specs.declared.rule.Rule.TheVariants as rule

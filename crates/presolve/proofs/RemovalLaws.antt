@@ -7,9 +7,9 @@ use Rattle.fleet_model.specs.Schedule.{IsPair, fleet_of, leg_of}
 use Rattle.fleet_model.specs.Times.{departure}
 use Rattle.fleet_model.specs.declared.parts.Pair.{Pair}
 use Rattle.fleet_model.specs.declared.tables.Tables.{Tables}
-use Rattle.bound_cert.specs.Bound.{part}
-use Rattle.bound_cert.specs.Worth.{worth_of}
-use Rattle.bound_cert.specs.declared.prices.Prices.{Prices}
+use Rattle.dual_bound.specs.Bound.{part}
+use Rattle.dual_bound.specs.Worth.{worth_of}
+use Rattle.dual_bound.specs.declared.prices.Prices.{Prices}
 use Rattle.presolve.specs.Reasons.{IsReason}
 use Rattle.presolve.specs.Removals.{AreRefuted, AreRemovals, IsDone, IsNext, IsRefuted, kept_after, pair_of, without}
 use Rattle.presolve.specs.Rules.{departures, landings, removed_by, rule_of, surely_busy}

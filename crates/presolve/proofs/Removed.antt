@@ -5,7 +5,7 @@ use Rattle.fleet_model.specs.Schedule.{IsPair, fleets_in, leg_of, no_leg, statio
 use Rattle.fleet_model.specs.declared.limits.TheConstants.{MAX_LEGS, MINUTES_PER_PERIOD}
 use Rattle.fleet_model.specs.declared.parts.Pair.{Pair}
 use Rattle.fleet_model.specs.declared.tables.Tables.{Tables}
-use Rattle.bound_cert.specs.Bound.{part}
+use Rattle.dual_bound.specs.Bound.{part}
 use Rattle.presolve.specs.Cells.{AreCells, AreMore, cell_of}
 use Rattle.presolve.specs.Choices.{all_busy_alone, busy_alone}
 use Rattle.presolve.specs.Removals.{NoneBare}

@@ -3,8 +3,8 @@ use Rattle.std.proofs.Common.{◌≡◌, ◌<◌, false, List, [], ◌∷◌, �
 use Rattle.fleet_model.specs.Kept.{Domains, all_pairs, pairs_kept}
 use Rattle.fleet_model.specs.declared.parts.Pair.{Pair}
 use Rattle.fleet_model.specs.declared.tables.Tables.{Tables}
-use Rattle.bound_cert.specs.Bound.{part}
-use Rattle.bound_cert.specs.declared.prices.Prices.{Prices}
+use Rattle.dual_bound.specs.Bound.{part}
+use Rattle.dual_bound.specs.declared.prices.Prices.{Prices}
 use Rattle.presolve.specs.Reasons.{IsReason}
 use Rattle.presolve.specs.Removals.{AreRemovals, IsDone, IsNext, first_place}
 use Rattle.presolve.specs.Search.{IsNextPair}

@@ -14,9 +14,9 @@ use Rattle.fleet_model.specs.Schedule.{IsPair, fleet_of, fleets_in, leg_of, leg_
 use Rattle.fleet_model.specs.Times.{laps_of}
 use Rattle.fleet_model.specs.declared.parts.Pair.{Pair}
 use Rattle.fleet_model.specs.declared.tables.Tables.{Tables}
-use Rattle.bound_cert.specs.Bound.{part}
-use Rattle.bound_cert.specs.Worth.{leg_worth, worth_of}
-use Rattle.bound_cert.specs.declared.prices.Prices.{Prices}
+use Rattle.dual_bound.specs.Bound.{part}
+use Rattle.dual_bound.specs.Worth.{leg_worth, worth_of}
+use Rattle.dual_bound.specs.declared.prices.Prices.{Prices}
 use Rattle.presolve.specs.Reasons.{IsReason, reason_rent}
 use Rattle.presolve.specs.Rules.{departs, departures, landings, lands}
 use Rattle.presolve.specs.declared.rule.Rule.{Rule}

@@ -7,11 +7,11 @@ use Rattle.fleet_model.specs.Use.{last_minute}
 use Rattle.fleet_model.specs.declared.limits.TheConstants.{MINUTES_PER_PERIOD}
 use Rattle.fleet_model.specs.declared.parts.Pair.{Pair}
 use Rattle.fleet_model.specs.declared.tables.Tables.{Tables}
-use Rattle.bound_cert.specs.OfTables.{ArePricesOf}
-use Rattle.bound_cert.specs.Prices.{price_of}
-use Rattle.bound_cert.specs.WrittenOrder.{ArePricesInOrder}
-use Rattle.bound_cert.specs.declared.prices.Prices.{Prices}
-use Rattle.bound_cert.specs.declared.prices.PriceStep.{PriceStep}
+use Rattle.dual_bound.specs.OfTables.{ArePricesOf}
+use Rattle.dual_bound.specs.Prices.{price_of}
+use Rattle.dual_bound.specs.WrittenOrder.{ArePricesInOrder}
+use Rattle.dual_bound.specs.declared.prices.Prices.{Prices}
+use Rattle.dual_bound.specs.declared.prices.PriceStep.{PriceStep}
 use Rattle.presolve.specs.declared.rule.Rule.{Rule}
 use Rattle.presolve.specs.declared.rule.Rule.TheVariants as rule
 

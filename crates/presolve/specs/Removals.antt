@@ -4,11 +4,11 @@ use Rattle.fleet_model.specs.Kept.{Domains, IsBare}
 use Rattle.fleet_model.specs.Schedule.{IsPair, leg_on}
 use Rattle.fleet_model.specs.declared.parts.Pair.{Pair}
 use Rattle.fleet_model.specs.declared.tables.Tables.{Tables}
-use Rattle.bound_cert.specs.Bound.{part}
-use Rattle.bound_cert.specs.OfTables.{ArePricesOf}
-use Rattle.bound_cert.specs.Prices.{ArePrices}
-use Rattle.bound_cert.specs.Worth.{worth_of}
-use Rattle.bound_cert.specs.WrittenOrder.{ArePricesInOrder}
+use Rattle.dual_bound.specs.Bound.{part}
+use Rattle.dual_bound.specs.OfTables.{ArePricesOf}
+use Rattle.dual_bound.specs.Prices.{ArePrices}
+use Rattle.dual_bound.specs.Worth.{worth_of}
+use Rattle.dual_bound.specs.WrittenOrder.{ArePricesInOrder}
 use Rattle.presolve.specs.Reasons.{IsReason}
 use Rattle.presolve.specs.Rules.{removed_by}
 use Rattle.presolve.specs.declared.trims.Trim.{Trim}

@@ -2,7 +2,7 @@
 ghost use Rattle.std.specs.Prelude.{◌≡◌, ◌<◌, ◌==◌, MatchBool, IfOk, IsTrue, false};
 ghost use Rattle.fleet_model.specs.Kept.{all_pairs, kept_by, kept_on};
 ghost use Rattle.fleet_model.specs.Schedule.{IsPair, legs_in};
-ghost use Rattle.bound_cert.specs.Bound.{part};
+ghost use Rattle.dual_bound.specs.Bound.{part};
 ghost use Rattle.presolve.specs.Choices.{AreChoices};
 ghost use Rattle.presolve.specs.Removals.{NoneBare};
 

@@ -6,7 +6,7 @@ ghost use Rattle.fleet_model.specs.declared.limits.TheConstants.{MINUTES_PER_PER
 ghost use Rattle.presolve.specs.Reasons.{IsReason, reason_rent, reason_steps, steps_until};
 
 use crate::rule::Rule;
-use bound_cert::{PriceStep, Prices};
+use dual_bound::{PriceStep, Prices};
 use entries::{Entries, NoMemory};
 use fleet_model::limits::MINUTES_PER_PERIOD;
 use fleet_model::{Pair, Tables};

@@ -1,4 +1,4 @@
-use bound_cert::Prices;
+use dual_bound::Prices;
 
 /// A pair that presolve removes (variable fixing), and why.
 #[derive(Debug, Drop)]

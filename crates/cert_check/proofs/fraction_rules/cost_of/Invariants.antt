@@ -3,8 +3,8 @@ use Rattle.sums.specs.Below.{sum_below_ℤ}
 use Rattle.fleet_model.specs.Mixed.{weighted_cost}
 use Rattle.fleet_model.specs.Schedule.{fleets_in}
 use Rattle.fleet_model.specs.declared.limits.TheConstants.{MAX_FLEETS}
-use Rattle.bound_cert.specs.Sizes.{IsUpTo}
-use Rattle.bound_cert.specs.Fractions.{parts_in}
+use Rattle.dual_bound.specs.Sizes.{IsUpTo}
+use Rattle.dual_bound.specs.Fractions.{parts_in}
 use Rattle.cert_check.proofs.fraction_rules.cost_of.Given as goal
 
 abbrev pub invariant-loop-leg : goal.invariant-loop-leg

@@ -1,5 +1,5 @@
 use Rattle.std.proofs.Common.{ℕ, ◌<◌}
-use Rattle.bound_cert.specs.Fractions.{IsWholeLeg}
+use Rattle.dual_bound.specs.Fractions.{IsWholeLeg}
 use Rattle.cert_check.proofs.fraction_rules.is_whole.Given as goal
 
 abbrev pub invariant-loop-leg : goal.invariant-loop-leg

@@ -1,8 +1,8 @@
 use Rattle.std.proofs.Common.{◌∙◌, arith}
 use Rattle.std.proofs.lemmas.Int.{ints}
 use Rattle.fleet_model.specs.Mixed.{weighted_cost}
-use Rattle.bound_cert.proofs.Numbers.{added, one_more}
-use Rattle.bound_cert.specs.Fractions.{parts_in}
+use Rattle.dual_bound.proofs.Numbers.{added, one_more}
+use Rattle.dual_bound.specs.Fractions.{parts_in}
 use Rattle.cert_check.proofs.fraction_rules.leg_cost.Goals as goal
 
 pub loop-fleet-preserved : goal.loop-fleet-preserved

@@ -1,8 +1,8 @@
 use Rattle.std.proofs.Common.{◌≡◌}
 use Rattle.sums.specs.Below.{sum_below_ℤ}
 use Rattle.fleet_model.specs.Mixed.{weighted_cost}
-use Rattle.bound_cert.specs.Sizes.{IsUpTo}
-use Rattle.bound_cert.specs.Fractions.{parts_in}
+use Rattle.dual_bound.specs.Sizes.{IsUpTo}
+use Rattle.dual_bound.specs.Fractions.{parts_in}
 use Rattle.cert_check.proofs.fraction_rules.leg_cost.Given as goal
 
 abbrev pub invariant-loop-fleet : goal.invariant-loop-fleet

@@ -1,8 +1,8 @@
 use Rattle.std.proofs.Common.{◌≡◌, ◌≤◌, ◌*◌}
 use Rattle.sums.specs.Below.{sum_below}
 use Rattle.fleet_model.specs.Schedule.{leg_on}
-use Rattle.bound_cert.specs.Prices.{max_scale}
-use Rattle.bound_cert.specs.Fractions.{parts_in}
+use Rattle.dual_bound.specs.Prices.{max_scale}
+use Rattle.dual_bound.specs.Fractions.{parts_in}
 use Rattle.cert_check.proofs.mixed_counts.weight_on.Given as goal
 
 abbrev pub invariant-loop-fleet : goal.invariant-loop-fleet

@@ -1,7 +1,7 @@
 use Rattle.std.proofs.Common.{◌≡◌, ◌<◌, ℕ}
 use Rattle.fleet_model.specs.Counts.{arrived, departed}
 use Rattle.fleet_model.specs.Use.{last_minute}
-use Rattle.bound_cert.specs.Fractions.{parts_in}
+use Rattle.dual_bound.specs.Fractions.{parts_in}
 use Rattle.cert_check.proofs.mixed_rules.balances.Given as goal
 
 abbrev pub invariant-loop-station : goal.invariant-loop-station

@@ -1,7 +1,7 @@
 use Rattle.std.proofs.Common.{◌≡◌, ◌<◌, ℕ, false}
 use Rattle.fleet_model.specs.Kept.{kept_by}
 use Rattle.fleet_model.specs.Schedule.{leg_on}
-use Rattle.bound_cert.specs.Fractions.{parts_in}
+use Rattle.dual_bound.specs.Fractions.{parts_in}
 use Rattle.cert_check.proofs.mixed_rules.flies_kept_on.Given as goal
 
 abbrev pub invariant-loop-fleet : goal.invariant-loop-fleet

@@ -1,7 +1,7 @@
 use Rattle.std.proofs.Common.{◌<◌, ℕ}
 use Rattle.fleet_model.specs.Schedule.{leg_on}
-use Rattle.bound_cert.specs.Mixed.{weight_in}
-use Rattle.bound_cert.specs.Fractions.{IsWeight}
+use Rattle.dual_bound.specs.Mixed.{weight_in}
+use Rattle.dual_bound.specs.Fractions.{IsWeight}
 use Rattle.cert_check.proofs.mixed_rules.has_weights.Given as goal
 
 abbrev pub invariant-loop-fleet : goal.invariant-loop-fleet

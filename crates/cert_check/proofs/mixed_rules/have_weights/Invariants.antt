@@ -1,5 +1,5 @@
 use Rattle.std.proofs.Common.{◌<◌, ℕ}
-use Rattle.bound_cert.specs.Fractions.{HasWeights}
+use Rattle.dual_bound.specs.Fractions.{HasWeights}
 use Rattle.cert_check.proofs.mixed_rules.have_weights.Given as goal
 
 abbrev pub invariant-loop-leg : goal.invariant-loop-leg

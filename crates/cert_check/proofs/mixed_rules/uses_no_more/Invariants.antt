@@ -1,7 +1,7 @@
 use Rattle.std.proofs.Common.{◌≤◌, ◌*◌, ◌<◌, ℕ}
 use Rattle.fleet_model.specs.Schedule.{fleet_of}
 use Rattle.fleet_model.specs.Use.{used_of}
-use Rattle.bound_cert.specs.Fractions.{parts_in, parts_of_leg}
+use Rattle.dual_bound.specs.Fractions.{parts_in, parts_of_leg}
 use Rattle.cert_check.proofs.mixed_rules.uses_no_more.Given as goal
 
 abbrev pub invariant-loop-fleet : goal.invariant-loop-fleet

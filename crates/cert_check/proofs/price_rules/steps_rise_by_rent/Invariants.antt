@@ -1,6 +1,7 @@
-use Rattle.std.proofs.Common.{All, take}
+use Rattle.std.proofs.Common.{ℕ, ◌<◌}
+use Rattle.dual_bound.specs.Rising.{step_at}
 use Rattle.cert_check.specs.PriceRules.{RisesByRentAt}
 use Rattle.cert_check.proofs.price_rules.steps_rise_by_rent.Given as goal
 
-abbrev pub invariant-loop-step : goal.invariant-loop-step
-invariant-loop-step l = All (RisesByRentAt l.prices) (take l.step-index l.prices.steps)
+abbrev pub invariant-loop-place : goal.invariant-loop-place
+invariant-loop-place l = (k : ℕ) → k < l.place → RisesByRentAt l.prices (step_at l.prices k)
