@@ -4,6 +4,10 @@ pub mod Picks
 pub mod Places
 pub mod Totals
 pub mod LineSums
+pub mod ListPlaces
+pub mod LinePlaces
+pub mod ColumnPlaces
+pub mod PairParts
 pub mod NodeCounts
 pub mod Flows
 pub mod LineNumbers
@@ -12,3 +16,5 @@ pub mod PlansToPoints
 pub mod Counted
 pub mod Problems
 pub mod Together
+pub mod Outlines
+pub mod HeldLines

@@ -75,3 +75,13 @@ columns_of t keeps starts = map Flight (all_kept t keeps) ++ map Ground (all_nod
 -- the cover lines, the balance lines, the count lines
 abbrev pub lines_of : Tables → Starts → List Line
 lines_of t starts = list_below Cover (legs_in t) ++ map Balance (all_nodes t starts) ++ list_below Count (fleets_in t)
+
+-- by their numbers: the pair of a column, the node in the order of the balance lines, the line
+abbrev pub pair_at_column : Tables → Domains → ℕ → Pair
+pair_at_column t keeps column = slice_index_or (all_kept t keeps) column (leg_on 0 0)
+
+abbrev pub node_of_number : Tables → Starts → ℕ → Node
+node_of_number t starts k = slice_index_or (all_nodes t starts) k (node_at 0 0 0)
+
+abbrev pub line_at : Tables → Starts → ℕ → Line
+line_at t starts line = slice_index_or (lines_of t starts) line (Cover 0)

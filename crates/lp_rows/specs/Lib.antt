@@ -1,4 +1,5 @@
 pub mod Entries
 pub mod Layout
+pub mod Outline
 pub mod Points
 pub mod Program

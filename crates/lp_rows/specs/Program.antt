@@ -6,7 +6,9 @@ use Rattle.row_store.specs.declared.problem.Rows.{Rows}
 use Rattle.lp_rows.specs.declared.kinds.Column.{Column}
 use Rattle.lp_rows.specs.declared.kinds.Line.{Line}
 use Rattle.lp_rows.specs.Entries.{column_cost, entry_of, right_side_of}
-use Rattle.lp_rows.specs.Layout.{IsNetwork, Starts, columns_of, lines_of}
+use Rattle.lp_rows.specs.declared.outline.Outline.{Outline}
+use Rattle.lp_rows.specs.Layout.{IsNetwork, Starts, columns_of, lines_of, starts_in}
+use Rattle.lp_rows.specs.Outline.{columns_in, lines_in}
 
 -- a line's numbers, and then its right side
 abbrev pub numbers_of : Tables → Starts → List Column → Line → List ℤ
@@ -18,3 +20,9 @@ pub record AreRows (t : Tables) (keeps : Domains) (starts : Starts) (rows : Rows
   pub columns : rows.columns ≡ length (columns_of t keeps starts)
   pub lines : rows.lines ≡ map (numbers_of t starts (columns_of t keeps starts)) (lines_of t starts)
   pub costs : rows.costs ≡ map (column_cost t) (columns_of t keeps starts)
+
+-- .. by the outline of the subproblem
+pub record AreOutlinedRows (t : Tables) (outline : Outline) (rows : Rows) : Type 0 where
+  pub columns : rows.columns ≡ length (columns_in outline)
+  pub lines : rows.lines ≡ map (numbers_of t (starts_in outline.network) (columns_in outline)) (lines_in outline)
+  pub costs : rows.costs ≡ map (column_cost t) (columns_in outline)

@@ -108,9 +108,12 @@ fn leaves_node(tables: &Tables, network: &Network, node: Node, pair: Pair) -> bo
     requires pair { IsPair tables.now pair }
     ensures { result ≡ leaves_node tables.now (starts_in network.now) node pair }
 {
+    if node.fleet != pair.fleet {
+        return false;
+    }
     let flown = tables.leg(pair.leg);
     let starts = network.starts(tables, node.fleet, node.station);
-    node.fleet == pair.fleet && flown.from == node.station && is_in(starts, node.place, flown.dep)
+    flown.from == node.station && is_in(starts, node.place, flown.dep)
 }
 
 // The aircraft of a pair is ready in a node.
@@ -120,11 +123,12 @@ fn comes_to_node(tables: &Tables, network: &Network, node: Node, pair: Pair) -> 
     requires pair { IsPair tables.now pair }
     ensures { result ≡ comes_to_node tables.now (starts_in network.now) node pair }
 {
+    if node.fleet != pair.fleet {
+        return false;
+    }
     let flown = tables.leg(pair.leg);
     let starts = network.starts(tables, node.fleet, node.station);
-    node.fleet == pair.fleet
-        && flown.to == node.station
-        && is_in(starts, node.place, ready(tables, pair.leg, pair.fleet))
+    flown.to == node.station && is_in(starts, node.place, ready(tables, pair.leg, pair.fleet))
 }
 
 // The arc from another node leads to this one.
@@ -134,10 +138,11 @@ fn gets_arc(tables: &Tables, network: &Network, node: Node, arc: Node) -> bool
     requires arc { IsNode tables.now (starts_in network.now) arc }
     ensures { result ≡ gets_arc (starts_in network.now) node arc }
 {
+    if node.fleet != arc.fleet {
+        return false;
+    }
     let starts = network.starts(tables, node.fleet, node.station);
-    node.fleet == arc.fleet
-        && node.station == arc.station
-        && node.place == place_after(starts, arc.place)
+    node.station == arc.station && node.place == place_after(starts, arc.place)
 }
 
 fn same_node(node: Node, other: Node) -> bool
@@ -153,8 +158,11 @@ fn passes_day_start(tables: &Tables, network: &Network, fleet: u32, arc: Node) -
     requires arc { IsNode tables.now (starts_in network.now) arc }
     ensures { result ≡ passes_day_start (starts_in network.now) fleet arc }
 {
+    if fleet != arc.fleet {
+        return false;
+    }
     let starts = network.starts(tables, fleet, arc.station);
-    fleet == arc.fleet && starts.len() == arc.place as usize + 1
+    starts.len() == arc.place as usize + 1
 }
 
 // A minute lies in a node.

@@ -4,44 +4,39 @@ ghost use Rattle.fleet_model.specs.declared.limits.TheConstants.{MAX_FLEETS, MAX
 ghost use Rattle.fleet_model.specs.Kept.{kept_by};
 ghost use Rattle.fleet_model.specs.Schedule.{fleets_in, legs_in, stations_in};
 ghost use Rattle.sums.specs.Places.{list_below};
-ghost use Rattle.lp_rows.specs.Layout.{AreByStation, all_kept, all_nodes, columns_of, lines_of, nodes_at, nodes_of, pair_of, pairs_of, starts_in};
+ghost use Rattle.lp_rows.specs.Layout.{AreByStation, all_kept, all_nodes, nodes_at, nodes_of, pair_of, pairs_of, starts_in};
+ghost use Rattle.lp_rows.specs.Outline.{columns_in, lines_in};
 ghost use Rattle.lp_rows.specs.declared.kinds.Column.TheVariants.{Flight, Ground, Slack};
 ghost use Rattle.lp_rows.specs.declared.kinds.Line.TheVariants.{Balance, Count, Cover};
 
 use crate::kinds::{Column, Line, Node};
 use crate::network::Network;
+use crate::outline::Outline;
 use entries::NoMemory;
 use fleet_model::{Kept, Pair, Tables};
 use std::alloc::Global;
 
 /// The columns: the kept pairs by leg, then fleet; the ground arcs by fleet, station and node; a slack for each
 /// fleet.
-pub fn columns(
-    alloc: Global,
-    tables: &Tables,
-    kept: &Kept,
-    network: &Network,
-) -> Result<Vec<Column>, NoMemory>
-    requires { AreByStation tables.now network.now }
-    ensures { IfOk result (λ columns. columns.items ≡ columns_of tables.now (kept_by kept.now) (starts_in network.now)) }
+pub fn columns(alloc: Global, outline: &Outline) -> Result<Vec<Column>, NoMemory>
+    ensures { IfOk result (λ columns. columns.items ≡ columns_in outline.now) }
 {
     let mut columns = Vec::new(alloc);
-    push_flights(&mut columns, &kept_pairs(alloc, tables, kept)?)?;
-    push_grounds(&mut columns, &network_nodes(alloc, tables, network)?)?;
-    push_slacks(&mut columns, tables)?;
+    push_flights(&mut columns, outline.pairs.as_slice())?;
+    push_grounds(&mut columns, outline.nodes.as_slice())?;
+    push_slacks(&mut columns, outline.fleets)?;
     Ok(columns)
 }
 
 /// The lines: a cover line for each leg; a balance line for each node, by fleet, station and node; a count line for
 /// each fleet.
-pub fn lines(alloc: Global, tables: &Tables, network: &Network) -> Result<Vec<Line>, NoMemory>
-    requires { AreByStation tables.now network.now }
-    ensures { IfOk result (λ lines. lines.items ≡ lines_of tables.now (starts_in network.now)) }
+pub fn lines(alloc: Global, outline: &Outline) -> Result<Vec<Line>, NoMemory>
+    ensures { IfOk result (λ lines. lines.items ≡ lines_in outline.now) }
 {
     let mut lines = Vec::new(alloc);
-    push_covers(&mut lines, tables)?;
-    push_balances(&mut lines, &network_nodes(alloc, tables, network)?)?;
-    push_counts(&mut lines, tables)?;
+    push_covers(&mut lines, outline.legs)?;
+    push_balances(&mut lines, outline.nodes.as_slice())?;
+    push_counts(&mut lines, outline.fleets)?;
     Ok(lines)
 }
 
@@ -63,19 +58,19 @@ fn push_grounds(columns: &mut Vec<Column>, nodes: &[Node]) -> Result<(), NoMemor
     Ok(())
 }
 
-fn push_slacks(columns: &mut Vec<Column>, tables: &Tables) -> Result<(), NoMemory>
-    ensures { OnOk result (columns.new.items ≡ columns.old.items ++ list_below Slack (fleets_in tables.now)) }
+fn push_slacks(columns: &mut Vec<Column>, fleets: u32) -> Result<(), NoMemory>
+    ensures { OnOk result (columns.new.items ≡ columns.old.items ++ list_below Slack fleets) }
 {
-    for fleet in 0..tables.fleet_count() {
+    for fleet in 0..fleets {
         columns.push(Column::Slack { fleet })?;
     }
     Ok(())
 }
 
-fn push_covers(lines: &mut Vec<Line>, tables: &Tables) -> Result<(), NoMemory>
-    ensures { OnOk result (lines.new.items ≡ lines.old.items ++ list_below Cover (legs_in tables.now)) }
+fn push_covers(lines: &mut Vec<Line>, legs: u32) -> Result<(), NoMemory>
+    ensures { OnOk result (lines.new.items ≡ lines.old.items ++ list_below Cover legs) }
 {
-    for leg in 0..tables.leg_count() {
+    for leg in 0..legs {
         lines.push(Line::Cover { leg })?;
     }
     Ok(())
@@ -90,10 +85,10 @@ fn push_balances(lines: &mut Vec<Line>, nodes: &[Node]) -> Result<(), NoMemory>
     Ok(())
 }
 
-fn push_counts(lines: &mut Vec<Line>, tables: &Tables) -> Result<(), NoMemory>
-    ensures { OnOk result (lines.new.items ≡ lines.old.items ++ list_below Count (fleets_in tables.now)) }
+fn push_counts(lines: &mut Vec<Line>, fleets: u32) -> Result<(), NoMemory>
+    ensures { OnOk result (lines.new.items ≡ lines.old.items ++ list_below Count fleets) }
 {
-    for fleet in 0..tables.fleet_count() {
+    for fleet in 0..fleets {
         lines.push(Line::Count { fleet })?;
     }
     Ok(())

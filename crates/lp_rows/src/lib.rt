@@ -6,9 +6,12 @@ pub mod kinds;
 pub mod laws;
 pub mod layout;
 pub mod network;
+pub mod outline;
+pub mod positions;
 pub mod program;
 
 pub use kinds::{Column, Line, Node};
 pub use layout::{columns, kept_pairs, lines, network_nodes};
 pub use network::Network;
-pub use program::rows;
+pub use outline::Outline;
+pub use program::{Program, rows};

@@ -1,37 +1,71 @@
-ghost use Rattle.std.specs.Prelude.{◌≡◌, All, map, IfOk};
+ghost use Rattle.std.specs.Prelude.{◌≡◌, ◌+◌, ◌<◌, ◌^◌, All, length, map, IfOk};
 ghost use Rattle.fleet_model.specs.Kept.{kept_by};
 ghost use Rattle.row_store.specs.Problem.{IsProblem};
 ghost use Rattle.lp_rows.specs.Entries.{IsColumn, IsLine, column_cost};
 ghost use Rattle.lp_rows.specs.Layout.{AreByStation, starts_in};
 ghost use Rattle.lp_rows.specs.Points.{AreLinesOf};
-ghost use Rattle.lp_rows.specs.Program.{numbers_of};
+ghost use Rattle.lp_rows.specs.Outline.{IsOutline, columns_in, lines_in};
+ghost use Rattle.lp_rows.specs.Program.{AreOutlinedRows, AreRows, numbers_of};
 
 use crate::entry::{column_cost, entry, right_side};
 use crate::kinds::{Column, Line};
 use crate::layout::{columns, lines};
 use crate::network::Network;
+use crate::outline::Outline;
 use entries::{Entries, NoMemory};
 use fleet_model::{Kept, Tables};
 use row_store::Rows;
+use sparse_row::SparseRow;
 use std::alloc::Global;
 
-/// The linear program of a subproblem: the lines over its kept pairs, the ground arcs of its network and a slack
-/// for each fleet, with their right sides, and what the columns cost.
-///
-/// Their points are the mixed plans of the subproblem, both ways, at the same cost, and they meet what a store of
-/// tables asks for (`IsProblem`). The lines have all their numbers, zeros too. With 1,000 legs and 20 fleets, all of
-/// whose pairs are kept, that would take more than 10 GB, and want of memory is then the right answer.
+/// The linear program of a subproblem: what stands where, and the lines over its kept pairs, the ground arcs of its
+/// network and a slack for each fleet, with their right sides, and what the columns cost.
+#[derive(Debug, Drop)]
+pub struct Program {
+    pub outline: Outline,
+    pub rows: Rows,
+}
+
+impl Program {
+    /// The linear program of the subproblem of the kept pairs.
+    ///
+    /// The points of its lines are the mixed plans of the subproblem, both ways, at the same cost, and they meet what a
+    /// store of tables asks for (`IsProblem`). The lines hold their numbers other than 0.
+    pub fn new(alloc: Global, tables: &Tables, kept: &Kept) -> Result<Program, NoMemory>
+        ensures outline { IfOk result (λ program. IsOutline tables.now (kept_by kept.now) program.outline) }
+        ensures rows { IfOk result (λ program. AreRows tables.now (kept_by kept.now) (starts_in program.outline.network) program.rows) }
+        ensures lines { IfOk result (λ program. AreLinesOf tables.now (kept_by kept.now) program.rows) }
+        ensures problem { IfOk result (λ program. IsProblem program.rows) }
+    {
+        let outline = Outline::new(alloc, tables, kept)?;
+        let rows = outlined_rows(alloc, tables, &outline)?;
+        Ok(Program { outline, rows })
+    }
+}
+
+/// The lines of a subproblem, with what its columns cost: those of its linear program.
 pub fn rows(alloc: Global, tables: &Tables, kept: &Kept) -> Result<Rows, NoMemory>
     ensures lines { IfOk result (AreLinesOf tables.now (kept_by kept.now)) }
     ensures problem { IfOk result IsProblem }
 {
-    let network = Network::new(alloc, tables, kept)?;
-    let columns = columns(alloc, tables, kept, &network)?;
-    let lines = lines(alloc, tables, &network)?;
-    let numbers = all_numbers(alloc, tables, &network, &columns, &lines)?;
+    let program = Program::new(alloc, tables, kept)?;
+    Ok(program.rows)
+}
+
+// The lines and costs of an outline.
+fn outlined_rows(alloc: Global, tables: &Tables, outline: &Outline) -> Result<Rows, NoMemory>
+    requires shape { AreByStation tables.now outline.now.network }
+    requires columns { All (IsColumn tables.now (starts_in outline.now.network)) (columns_in outline.now) }
+    requires few { length (columns_in outline.now) + 1 < 2 ^ 32 }
+    requires lines { All (IsLine tables.now (starts_in outline.now.network)) (lines_in outline.now) }
+    ensures { IfOk result (AreOutlinedRows tables.now outline.now) }
+{
+    let columns = columns(alloc, outline)?;
+    let lines = lines(alloc, outline)?;
+    let numbers = all_numbers(alloc, tables, &outline.network, &columns, &lines)?;
     let costs = all_costs(alloc, tables, &columns)?;
     Ok(Rows {
-        columns: columns.len() as u32,
+        columns: outline.column_count(),
         lines: numbers,
         costs,
     })
@@ -44,38 +78,42 @@ fn all_numbers(
     network: &Network,
     columns: &[Column],
     lines: &[Line],
-) -> Result<Entries<Entries<i128>>, NoMemory>
+) -> Result<Entries<row_store::Line>, NoMemory>
     requires shape { AreByStation tables.now network.now }
     requires columns { All (IsColumn tables.now (starts_in network.now)) columns.now }
+    requires few { length columns.now + 1 < 2 ^ 32 }
     requires lines { All (IsLine tables.now (starts_in network.now)) lines.now }
     ensures { IfOk result (λ rows. rows ≡ map (numbers_of tables.now (starts_in network.now) columns.now) lines.now) }
 {
     let mut rows = Vec::new(alloc);
     for line in lines {
-        rows.push(line_numbers(alloc, tables, network, columns, *line)?)?;
+        let numbers = line_numbers(alloc, tables, network, columns, *line)?;
+        rows.push(row_store::Line::from_row(numbers))?;
     }
     Ok(Entries::from_vec(rows))
 }
 
-// The numbers of a line, and then its right side.
+// The numbers of a line, and then its right side; those that are 0 are left out.
 fn line_numbers(
     alloc: Global,
     tables: &Tables,
     network: &Network,
     columns: &[Column],
     line: Line,
-) -> Result<Entries<i128>, NoMemory>
+) -> Result<SparseRow, NoMemory>
     requires shape { AreByStation tables.now network.now }
     requires columns { All (IsColumn tables.now (starts_in network.now)) columns.now }
+    requires few { length columns.now + 1 < 2 ^ 32 }
     requires line { IsLine tables.now (starts_in network.now) line }
-    ensures { IfOk result (λ numbers. numbers ≡ numbers_of tables.now (starts_in network.now) columns.now line) }
+    ensures { IfOk result (λ row. row.numbers ≡ numbers_of tables.now (starts_in network.now) columns.now line) }
 {
-    let mut numbers = Vec::new(alloc);
-    for column in columns {
-        numbers.push(entry(tables, network, line, *column))?;
+    let right = columns.len() as u32;
+    let mut row = SparseRow::zeros(alloc, right + 1);
+    for place in 0..columns.len() {
+        row.put(place as u32, entry(tables, network, line, columns[place]))?;
     }
-    numbers.push(right_side(tables, network, line))?;
-    Ok(Entries::from_vec(numbers))
+    row.put(right, right_side(tables, network, line))?;
+    Ok(row)
 }
 
 // The costs of all columns.

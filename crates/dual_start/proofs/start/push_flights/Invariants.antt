@@ -1,0 +1,6 @@
+use Rattle.std.proofs.Common.{◌+◌, length}
+use Rattle.dual_start.specs.Start.{IsStarted}
+use Rattle.dual_start.proofs.start.push_flights.Given as goal
+
+abbrev pub invariant-loop-leg : goal.invariant-loop-leg
+invariant-loop-leg l = IsStarted l.outline l.leg (l.outline.legs + length l.outline.nodes) l.places.items

@@ -1,0 +1,122 @@
+-- At which number each column stands.
+use Rattle.std.proofs.Common.{◌≡◌, ℕ, ◌+◌, ◌<◌, ◌≤◌, Bool, true, false, cond, if◌then◌else◌, ◌==◌, List, [], ◌∷◌, ◌++◌, length, get_or, map, refl, sym, ◌∙◌, ap, arith, append_assoc, length-append}
+use Rattle.std.proofs.lemmas.Bool.Decides.{nat_tests}
+use Rattle.std.proofs.lemmas.List.{get_or-map, get_or_append_left, length-map}
+use Rattle.sums.specs.Below.{sum_below}
+use Rattle.sums.specs.Places.{list_below}
+use Rattle.sums.proofs.Places.{get_or-list_below, length-list_below}
+use Rattle.fleet_model.specs.declared.parts.Pair.{Pair}
+use Rattle.fleet_model.specs.declared.tables.Tables.{Tables}
+use Rattle.fleet_model.specs.Kept.{Domains, kept_on, pairs_kept}
+use Rattle.fleet_model.specs.Schedule.{IsPair, fleets_in, leg_on, legs_in}
+use Rattle.lp_rows.specs.declared.kinds.Column.{Column}
+use Rattle.lp_rows.specs.declared.kinds.Column.TheVariants.{Flight, Ground, Slack}
+use Rattle.lp_rows.specs.Layout.{Starts, all_kept, all_nodes, columns_of, node_at, pair_at_column, pair_of, pairs_of}
+use Rattle.lp_rows.specs.Points.{arcs_in, column_at, value_of}
+use Rattle.lp_rows.proofs.Counted.{length-concat, nodes_are, pairs_are}
+use Rattle.lp_rows.proofs.LinePlaces.{before, node_there, node_within}
+use Rattle.lp_rows.proofs.ListPlaces.{at_concat, at_right_of, within_sum}
+use Rattle.lp_rows.proofs.Places.{IsKept, value_there}
+
+-- ---- the columns of pairs
+module _ (t : Tables) (keeps : Domains) (starts : Starts) where
+  abbrev cols : List Column
+  cols = columns_of t keeps starts
+
+  pub in_parts : cols ≡ map Flight (all_kept t keeps) ++ (map Ground (all_nodes t starts) ++ list_below Slack (fleets_in t))
+  in_parts = append_assoc (map Flight (all_kept t keeps)) (map Ground (all_nodes t starts)) (list_below Slack (fleets_in t))
+
+  pub flights_long : length (map Flight (all_kept t keeps)) ≡ pairs_kept t keeps
+  flights_long = length-map (all_kept t keeps) Flight ∙ pairs_are t keeps
+
+  pub flight_there : (c : ℕ) → c < pairs_kept t keeps → column_at cols c ≡ Flight (pair_at_column t keeps c)
+  flight_there c below =
+      ap (λ cs. get_or cs c (Slack 0)) in_parts
+      ∙ get_or_append_left (map Flight (all_kept t keeps)) (map Ground (all_nodes t starts) ++ list_below Slack (fleets_in t)) (Slack 0) c (omega (arith, below, flights_long))
+      ∙ get_or-map Flight (all_kept t keeps) c (leg_on 0 0) (Slack 0) (omega (arith, below, pairs_are t keeps))
+
+  -- each pair stands once
+  pub once : (c d : ℕ) → c < length cols → d < length cols → column_at cols c ≡ column_at cols d → c ≡ d
+  once c d here there same =
+      let x = λ (k : ℕ). cond (k == c) 1 0 in
+      let one : x c ≡ x d = sym (value_there t keeps starts x c here) ∙ ap (value_of cols x) same ∙ value_there t keeps starts x d there in
+      equal c d one
+    where
+      equal : (c d : ℕ) → ◌≡◌ {A = ℕ} (cond (c == c) 1 0) (cond (d == c) 1 0) → c ≡ d
+      equal c d e = grind (arith, nat_tests)
+
+  pub pairs_within : pairs_kept t keeps ≤ length cols
+  pairs_within = omega (arith, ap length in_parts, length-append (map Flight (all_kept t keeps)) (map Ground (all_nodes t starts) ++ list_below Slack (fleets_in t)), flights_long)
+
+  pub pair_once : (c d : ℕ) → c < pairs_kept t keeps → d < pairs_kept t keeps → pair_at_column t keeps c ≡ pair_at_column t keeps d → c ≡ d
+  pair_once c d here there same =
+      once c d (omega (arith, here, pairs_within)) (omega (arith, there, pairs_within)) (flight_there c here ∙ ap Flight same ∙ sym (flight_there d there))
+
+  -- ---- the column of each
+  one_long : (b : Bool) (p : Pair) → length (if b then p ∷ [] else []) ≡ (if b then 1 else 0)
+  one_long true p = refl
+  one_long false p = refl
+
+  long_of : (l : ℕ) → length (pairs_of t keeps l) ≡ kept_on t keeps l
+  long_of l = length-concat (pair_of keeps l) (λ f. if keeps (leg_on l f) then 1 else 0) (fleets_in t) (λ f known. one_long (keeps (leg_on l f)) (leg_on l f))
+
+  -- the column of a kept pair
+  pub pair_column : (p : Pair) → IsPair t p → keeps p ≡ true → (c : ℕ) × (c < pairs_kept t keeps) × (pair_at_column t keeps c ≡ p)
+  pair_column p known kept =
+      let rest = sum_below (λ f. if keeps (leg_on p.leg f) then 1 else 0) p.fleet + 0 in
+      let inner : rest < kept_on t keeps p.leg = within_sum (λ f. if keeps (leg_on p.leg f) then 1 else 0) (fleets_in t) p.fleet 0 known.fleet (one_there (keeps p) kept) in (
+        sum_below (kept_on t keeps) p.leg + rest,
+        within_sum (kept_on t keeps) (legs_in t) p.leg rest known.leg inner,
+        at_concat (pairs_of t keeps) (kept_on t keeps) (leg_on 0 0) (legs_in t) p.leg rest (λ l less. long_of l) known.leg inner
+            ∙ at_concat (pair_of keeps p.leg) (λ f. if keeps (leg_on p.leg f) then 1 else 0) (leg_on 0 0) (fleets_in t) p.fleet 0 (λ f less. one_long (keeps (leg_on p.leg f)) (leg_on p.leg f)) known.fleet (one_there (keeps p) kept)
+            ∙ there (keeps p) kept,
+      )
+    where
+      one_there : (b : Bool) → b ≡ true → 0 < (if b then 1 else 0)
+      one_there true e = omega arith
+      one_there false e = cc
+
+      there : (b : Bool) → b ≡ true → get_or (if b then p ∷ [] else []) 0 (leg_on 0 0) ≡ p
+      there true e = refl
+      there false e = cc
+
+  arcs_long : length (map Ground (all_nodes t starts)) ≡ arcs_in t starts
+  arcs_long = length-map (all_nodes t starts) Ground ∙ nodes_are t starts
+
+  all_long : length cols ≡ pairs_kept t keeps + (arcs_in t starts + fleets_in t)
+  all_long = ap length in_parts ∙ omega (
+    arith,
+    length-append (map Flight (all_kept t keeps)) (map Ground (all_nodes t starts) ++ list_below Slack (fleets_in t)),
+    length-append (map Ground (all_nodes t starts)) (list_below Slack (fleets_in t)),
+    flights_long,
+    arcs_long,
+    length-list_below Slack (fleets_in t),
+  )
+
+  pub behind_pairs : (k : ℕ) → column_at cols (pairs_kept t keeps + k) ≡ get_or (map Ground (all_nodes t starts) ++ list_below Slack (fleets_in t)) k (Slack 0)
+  behind_pairs k = ap (λ cs. get_or cs (pairs_kept t keeps + k) (Slack 0)) in_parts
+      ∙ at_right_of (map Flight (all_kept t keeps)) (map Ground (all_nodes t starts) ++ list_below Slack (fleets_in t)) (Slack 0) (pairs_kept t keeps) k flights_long
+
+  abbrev pub HasColumn : Column → Type 0
+  HasColumn column = (c : ℕ) × (c < length cols) × (column_at cols c ≡ column)
+
+  pub column_number : (column : Column) → IsKept t keeps starts column → HasColumn column
+  column_number (Flight p) kept =
+      let pair = pair_column p kept.0 kept.1 in
+      (pair.0, omega (arith, pair.1, pairs_within), flight_there pair.0 pair.1 ∙ ap Flight pair.2)
+  column_number (Ground n) node =
+      let k = before t starts n.fleet n.station + n.place in
+      let below = node_within t starts n.fleet n.station n.place node.fleet node.station node.place in (
+        pairs_kept t keeps + k,
+        omega (arith, all_long, below),
+        behind_pairs k
+            ∙ get_or_append_left (map Ground (all_nodes t starts)) (list_below Slack (fleets_in t)) (Slack 0) k (omega (arith, below, arcs_long))
+            ∙ get_or-map Ground (all_nodes t starts) k (node_at 0 0 0) (Slack 0) (omega (arith, below, nodes_are t starts))
+            ∙ ap Ground (node_there t starts n.fleet n.station n.place (node_at 0 0 0) node.fleet node.station node.place),
+      )
+  column_number (Slack f) known = (
+    pairs_kept t keeps + (arcs_in t starts + f),
+    omega (arith, all_long, known),
+    behind_pairs (arcs_in t starts + f)
+        ∙ at_right_of (map Ground (all_nodes t starts)) (list_below Slack (fleets_in t)) (Slack 0) (arcs_in t starts) f arcs_long ∙ get_or-list_below Slack (fleets_in t) f (Slack 0) known,
+  )

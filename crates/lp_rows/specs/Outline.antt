@@ -1,0 +1,78 @@
+-- Where columns and lines stand, by their kinds.
+use Rattle.std.specs.Prelude.{◌≡◌, ℕ, ◌+◌, ◌<◌, List, ◌++◌, length, map, slice_index_or}
+use Rattle.sums.specs.Places.{list_below}
+use Rattle.fleet_model.specs.declared.parts.Pair.{Pair}
+use Rattle.fleet_model.specs.declared.tables.Tables.{Tables}
+use Rattle.fleet_model.specs.Kept.{Domains}
+use Rattle.fleet_model.specs.Schedule.{fleets_in, leg_on, legs_in}
+use Rattle.lp_rows.specs.declared.kinds.Node.{Node}
+use Rattle.lp_rows.specs.declared.kinds.Column.{Column}
+use Rattle.lp_rows.specs.declared.kinds.Column.TheVariants.{Flight, Ground, Slack}
+use Rattle.lp_rows.specs.declared.kinds.Line.{Line}
+use Rattle.lp_rows.specs.declared.kinds.Line.TheVariants.{Cover, Balance, Count}
+use Rattle.lp_rows.specs.declared.outline.Outline.{Outline}
+use Rattle.lp_rows.specs.Layout.{AreByStation, IsNetwork, all_kept, all_nodes, node_at, starts_in}
+
+-- an outline has the nodes of its network, and the legs and fleets of the tables
+pub record IsOutlineOver (t : Tables) (outline : Outline) : Type 0 where
+  pub shape : AreByStation t outline.network
+  pub nodes : outline.nodes ≡ all_nodes t (starts_in outline.network)
+  pub legs : outline.legs ≡ legs_in t
+  pub fleets : outline.fleets ≡ fleets_in t
+
+-- the outline of a subproblem: its network is that of the kept pairs
+pub record IsOutline (t : Tables) (keeps : Domains) (outline : Outline) : Type 0 where
+  pub over : IsOutlineOver t outline
+  pub network : IsNetwork t keeps (starts_in outline.network)
+  pub pairs : outline.pairs ≡ all_kept t keeps
+
+-- its columns, and its lines
+abbrev pub columns_in : Outline → List Column
+columns_in o = map Flight o.pairs ++ map Ground o.nodes ++ list_below Slack o.fleets
+
+abbrev pub lines_in : Outline → List Line
+lines_in o = list_below Cover o.legs ++ map Balance o.nodes ++ list_below Count o.fleets
+
+-- pairs and nodes by their numbers
+abbrev pub pair_in : Outline → ℕ → Pair
+pair_in o number = slice_index_or o.pairs number (leg_on 0 0)
+
+abbrev pub node_in : Outline → ℕ → Node
+node_in o number = slice_index_or o.nodes number (node_at 0 0 0)
+
+-- where the columns stand: the pairs, by number; the arcs, by the numbers of their nodes; the slacks, by fleet
+abbrev pub flight_column : Outline → ℕ → ℕ
+flight_column o number = number
+
+abbrev pub ground_column : Outline → ℕ → ℕ
+ground_column o number = length o.pairs + number
+
+abbrev pub slack_column : Outline → ℕ → ℕ
+slack_column o f = length o.pairs + length o.nodes + f
+
+-- where the lines stand: the cover lines, by leg; the balance lines, by the numbers of their nodes; the count lines,
+-- by fleet
+abbrev pub cover_line : Outline → ℕ → ℕ
+cover_line o l = l
+
+abbrev pub balance_line : Outline → ℕ → ℕ
+balance_line o number = o.legs + number
+
+abbrev pub count_line : Outline → ℕ → ℕ
+count_line o f = o.legs + length o.nodes + f
+
+-- the first line with a price
+abbrev pub first_priced_line : Outline → ℕ
+first_priced_line o = o.legs
+
+-- how many there are
+abbrev pub column_count : Outline → ℕ
+column_count o = length o.pairs + length o.nodes + o.fleets
+
+abbrev pub line_count : Outline → ℕ
+line_count o = o.legs + length o.nodes + o.fleets
+
+-- an entry stands at a place of a list
+pub record StandsAt {X : Type 0} (list : List X) (place : ℕ) (entry : X) : Type 0 where
+  pub within : place < length list
+  pub there : (default : X) → slice_index_or list place default ≡ entry
