@@ -1,42 +1,31 @@
 -- The basic point of a last table, and the fractional assignment that it is.
-use Rattle.std.proofs.Common.{◌≡◌, ◌≢◌, ℕ, zero, suc, ◌-◌, ◌*◌, ◌/◌, ◌<◌, ◌≤◌, Bool, true, false, cond, if◌then◌else◌, ◌==◌, List, [], ◌∷◌, ◌++◌, length, get_or, map, pos, ◌*ℤ◌, ◌<ℤ◌, unsigned_abs, refl, sym, ◌∙◌, ap, subst, inl, inr, arith}
+use Rattle.std.proofs.Common.{◌≡◌, ◌≢◌, ℕ, zero, suc, ◌*◌, ◌/◌, ◌<◌, ◌≤◌, cond, if◌then◌else◌, ◌==◌, List, get_or, pos, ◌*ℤ◌, ◌<ℤ◌, unsigned_abs, refl, sym, ◌∙◌, ap, subst, inl, inr, arith}
 use Prim.Native.Nat.{◌∣◌}
 use Rattle.std.specs.Prelude.{unwrap_or}
 use native.Mathlib.Nat.{dvd-mul_left, dvd-mul_right_of_dvd, mul-div_cancel'}
 use mathlib.Core.Bool.{false≢true}
 use Rattle.std.proofs.lemmas.Bool.{cases_lt}
 use Rattle.std.proofs.lemmas.Bool.Decides.{nat_tests}
-use Rattle.std.proofs.lemmas.List.{get_or_past}
 use Rattle.sums.specs.Below.{sum_below_ℤ}
 use Rattle.sums.proofs.SumBounds.{term_le}
 use Rattle.sums.proofs.Integers.{*ℤ_assoc}
 use Rattle.sums.proofs.WholeSums.{*ℤ-sum_below_ℤ, sum_below_ℤ-same}
-use Rattle.sums.proofs.Naturals.{as_a_sum, positive_times, same_number, times_below}
+use Rattle.sums.proofs.Naturals.{positive_times, same_number}
 use Rattle.sums.proofs.Sizes.{size_above}
 use Rattle.sums.proofs.Tests.{by_test}
 use Rattle.frac_row.specs.declared.row.FracRow.{FracRow}
 use Rattle.fleet_model.specs.declared.parts.Pair.{Pair}
 use Rattle.fleet_model.specs.declared.tables.Tables.{Tables}
 use Rattle.fleet_model.specs.Counts.{Weights}
-use Rattle.fleet_model.specs.Kept.{Domains, pairs_kept}
+use Rattle.fleet_model.specs.Kept.{Domains}
 use Rattle.fleet_model.specs.Legal.{cost_of}
 use Rattle.fleet_model.specs.Mixed.{IsMixedPlan, mixed_cost, weighted_cost}
 use Rattle.fleet_model.specs.Schedule.{IsPair, fleets_in, leg_on, legs_in}
 use Rattle.row_store.specs.Table.{right_side, row_at}
-use Rattle.lp_rows.specs.declared.kinds.Node.{Node}
-use Rattle.lp_rows.specs.declared.kinds.Column.{Column}
-use Rattle.lp_rows.specs.declared.kinds.Column.TheVariants.{Flight, Ground, Slack}
-use Rattle.sums.specs.Places.{list_below}
-use Rattle.lp_rows.specs.Layout.{Starts, all_nodes, columns_of}
-use Rattle.lp_rows.specs.Points.{column_at, pair_part, same_column, value_of}
-use Rattle.lp_rows.proofs.Places.{IsKept, columns_are_kept, value_there}
-use Rattle.sums.proofs.Places.{get_or-list_below, length-list_below}
 use Rattle.price_lift.specs.Parts.{part_below, part_of}
-use Rattle.price_lift.specs.Weights.{lowest_den, pair_at_column}
-use Rattle.price_lift.proofs.BasicWeights.{HaveColumns, flight_there, pairs_within}
-use Rattle.price_lift.proofs.Columns.{behind_pairs}
+use Rattle.price_lift.specs.Weights.{lowest_den}
+use Rattle.price_lift.proofs.BasicWeights.{HaveColumns}
 use Rattle.price_lift.proofs.LeastScales.{HaveDens, fewer_dens, part_is}
-use Rattle.price_lift.proofs.Multiples.{of_test}
 
 -- ---- a multiple of all denominators
 pub dens_below : List FracRow → ℕ → ℕ
@@ -119,43 +108,7 @@ point_parts table basis pairs scale dens m (suc n) column some has divides real 
     ∙ point_parts table basis pairs scale dens m n column some has divides real (omega arith)
     ∙ ap (λ b. dens * cond b (part_of table scale n) (part_below table basis scale n column)) (sym e))
 
--- ---- pairs alone
-no_flight_behind : (p : Pair) (ns : List Node) (n k : ℕ) → same_column (Flight p) (get_or (map Ground ns ++ list_below Slack n) k (Slack 0)) ≡ false
-no_flight_behind p [] n k = elim (cases_lt k n) [
-  | inl below ↦ ap (same_column (Flight p)) (get_or-list_below Slack n k (Slack 0) below)
-  | inr past ↦ ap (same_column (Flight p)) (get_or_past (list_below Slack n) k (Slack 0) (omega (arith, past, length-list_below Slack n)))
-]
-no_flight_behind p (a ∷ ns) n zero = refl
-no_flight_behind p (a ∷ ns) n (suc k) = no_flight_behind p ns n k
-
-module _ (t : Tables) (keeps : Domains) (starts : Starts) where
-  abbrev cols : List Column
-  cols = columns_of t keeps starts
-
-  -- where two points agree on pairs but for a factor, so do their pair parts
-  pub same_parts : (k : ℕ) (x y : ℕ → ℕ) → ((c : ℕ) → c < pairs_kept t keeps → x c ≡ k * y c) → (p : Pair) → pair_part cols x p ≡ k * pair_part cols y p
-  same_parts k x y same p =
-      times_below k (λ c. if same_column (Flight p) (column_at cols c) then x c else 0) (λ c. if same_column (Flight p) (column_at cols c) then y c else 0) (length cols)
-      (λ c within. elim (cases_lt c (pairs_kept t keeps)) [
-        | inl pair ↦ of_test k (same_column (Flight p) (column_at cols c)) (x c) (y c) (same c pair)
-        | inr behind ↦ none (same_column (Flight p) (column_at cols c)) (x c) (y c)
-            (ap (λ j. same_column (Flight p) (column_at cols j)) (as_a_sum c (pairs_kept t keeps) behind) ∙ ap (same_column (Flight p)) (behind_pairs t keeps starts (c - pairs_kept t keeps)) ∙ no_flight_behind p (all_nodes t starts) (fleets_in t) (c - pairs_kept t keeps))
-      ])
-    where
-      none : (b : Bool) (x y : ℕ) → b ≡ false → ◌≡◌ {A = ℕ} (if b then x else 0) (k * (if b then y else 0))
-      none false x y e = omega arith
-      none true x y e = cc
-
-  -- a pair's part is what stands at its column
-  pub part_at : (y : ℕ → ℕ) (c : ℕ) → c < pairs_kept t keeps → pair_part cols y (pair_at_column t keeps c) ≡ y c
-  part_at y c below = ap (λ k. pair_at y k) (sym (flight_there t keeps starts c below)) ∙ value_there t keeps starts y c (omega (arith, below, pairs_within t keeps starts))
-    where
-      pair_at : (ℕ → ℕ) → Column → ℕ
-      pair_at y k = value_of cols y k
-
-  pub is_pair : (c : ℕ) → c < pairs_kept t keeps → IsPair t (pair_at_column t keeps c)
-  is_pair c below = (subst (λ k. IsKept t keeps starts k) (flight_there t keeps starts c below) (columns_are_kept t keeps starts c (Slack 0) (omega (arith, below, pairs_within t keeps starts)))).0
-
+-- ---- mixed plans
 -- a mixed plan gives no pair more than its scale
 pub no_more_parts : (t : Tables) (keeps : Domains) (scale : ℕ) (w : Weights) → IsMixedPlan t keeps scale w → (p : Pair) → IsPair t p → w p ≤ scale
 no_more_parts t keeps scale w plan p pair = omega (arith, plan.cover p.leg pair.leg, term_le (λ f. w (leg_on p.leg f)) p.fleet (fleets_in t) pair.fleet)

@@ -1,10 +1,9 @@
 -- The weights that a list of them gives to pairs.
-use Rattle.std.proofs.Common.{◌≡◌, ◌≢◌, ℕ, zero, suc, ◌<◌, ◌≤◌, Bool, true, false, cond, ◌==◌, ◌&&◌, if◌then◌else◌, List, [], ◌∷◌, ◌++◌, length, get_or, map, ℤ, pos, ◌*ℤ◌, ◌≤ℤ◌, unsigned_abs, refl, sym, ◌∙◌, ap, subst, ◌⊎◌, inl, inr, arith, append_assoc, length-append}
+use Rattle.std.proofs.Common.{◌≡◌, ◌≢◌, ℕ, zero, suc, ◌<◌, Bool, true, false, cond, ◌==◌, ◌&&◌, if◌then◌else◌, List, [], ◌∷◌, ◌++◌, get_or, ℤ, pos, ◌*ℤ◌, ◌≤ℤ◌, unsigned_abs, refl, sym, ◌∙◌, ap, subst, ◌⊎◌, inl, inr, arith}
 use mathlib.Core.Bool.{false≢true}
 use Rattle.std.proofs.lemmas.Bool.{cases_lt}
 use Rattle.std.proofs.lemmas.Bool.Decides.{nat_tests}
 use Rattle.std.proofs.lemmas.Int.{ints}
-use Rattle.std.proofs.lemmas.List.{get_or-map, get_or_append_left, length-map}
 use Rattle.sums.proofs.Naturals.{same_number}
 use Rattle.sums.proofs.Tests.{by_test}
 use Rattle.frac_row.specs.declared.row.FracRow.{FracRow}
@@ -13,54 +12,14 @@ use Rattle.fleet_model.specs.declared.tables.Tables.{Tables}
 use Rattle.fleet_model.specs.Kept.{Domains, pairs_kept}
 use Rattle.fleet_model.specs.Schedule.{leg_on}
 use Rattle.row_store.specs.Table.{height_of, right_side, row_at}
-use Rattle.lp_rows.specs.declared.kinds.Column.{Column}
-use Rattle.lp_rows.specs.declared.kinds.Column.TheVariants.{Flight, Ground, Slack}
-use Rattle.sums.specs.Places.{list_below}
-use Rattle.lp_rows.specs.Layout.{Starts, all_kept, all_nodes, columns_of, concat_below}
-use Rattle.lp_rows.specs.Points.{column_at, value_of}
-use Rattle.lp_rows.proofs.Counted.{pairs_are}
-use Rattle.lp_rows.proofs.Places.{value_there}
-use Rattle.bound_cert.specs.Mixed.{is_weight_of, weight_after, weight_in}
-use Rattle.bound_cert.specs.declared.mixed.Mixed.{Mixed}
-use Rattle.bound_cert.specs.declared.mixed.Weight.{Weight}
+use Rattle.lp_rows.specs.Layout.{Starts, all_kept, concat_below, pair_at_column}
+use Rattle.lp_rows.proofs.ColumnPlaces.{pair_once}
+use Rattle.dual_bound.specs.Mixed.{is_weight_of, weight_after, weight_in}
+use Rattle.dual_bound.specs.declared.mixed.Mixed.{Mixed}
+use Rattle.dual_bound.specs.declared.mixed.Weight.{Weight}
 use Rattle.price_lift.specs.Parts.{AreParts, part_below, part_of, weight_where, weights_at}
-use Rattle.price_lift.specs.Weights.{AreBasicWeights, IsBasicIn, pair_at_column, scale_below}
+use Rattle.price_lift.specs.Weights.{AreBasicWeights, IsBasicIn, scale_below}
 use Rattle.price_lift.proofs.LeastScales.{HaveDens, part_is, scale_has, signed_part}
-use Rattle.fleet_model.specs.Schedule.{fleets_in}
-
--- ---- the columns of pairs
-module _ (t : Tables) (keeps : Domains) (starts : Starts) where
-  abbrev cols : List Column
-  cols = columns_of t keeps starts
-
-  pub in_parts : cols ≡ map Flight (all_kept t keeps) ++ (map Ground (all_nodes t starts) ++ list_below Slack (fleets_in t))
-  in_parts = append_assoc (map Flight (all_kept t keeps)) (map Ground (all_nodes t starts)) (list_below Slack (fleets_in t))
-
-  pub flights_long : length (map Flight (all_kept t keeps)) ≡ pairs_kept t keeps
-  flights_long = length-map (all_kept t keeps) Flight ∙ pairs_are t keeps
-
-  pub flight_there : (c : ℕ) → c < pairs_kept t keeps → column_at cols c ≡ Flight (pair_at_column t keeps c)
-  flight_there c below =
-      ap (λ cs. get_or cs c (Slack 0)) in_parts
-      ∙ get_or_append_left (map Flight (all_kept t keeps)) (map Ground (all_nodes t starts) ++ list_below Slack (fleets_in t)) (Slack 0) c (omega (arith, below, flights_long))
-      ∙ get_or-map Flight (all_kept t keeps) c (leg_on 0 0) (Slack 0) (omega (arith, below, pairs_are t keeps))
-
-  -- each pair stands once
-  pub once : (c d : ℕ) → c < length cols → d < length cols → column_at cols c ≡ column_at cols d → c ≡ d
-  once c d here there same =
-      let x = λ (k : ℕ). cond (k == c) 1 0 in
-      let one : x c ≡ x d = sym (value_there t keeps starts x c here) ∙ ap (value_of cols x) same ∙ value_there t keeps starts x d there in
-      equal c d one
-    where
-      equal : (c d : ℕ) → ◌≡◌ {A = ℕ} (cond (c == c) 1 0) (cond (d == c) 1 0) → c ≡ d
-      equal c d e = grind (arith, nat_tests)
-
-  pub pairs_within : pairs_kept t keeps ≤ length cols
-  pairs_within = omega (arith, ap length in_parts, length-append (map Flight (all_kept t keeps)) (map Ground (all_nodes t starts) ++ list_below Slack (fleets_in t)), flights_long)
-
-  pub pair_once : (c d : ℕ) → c < pairs_kept t keeps → d < pairs_kept t keeps → pair_at_column t keeps c ≡ pair_at_column t keeps d → c ≡ d
-  pair_once c d here there same =
-      once c d (omega (arith, here, pairs_within)) (omega (arith, there, pairs_within)) (flight_there c here ∙ ap Flight same ∙ sym (flight_there d there))
 
 -- ---- the weight after entries
 after_append : (w : ℤ) (xs ys : List Weight) (p : Pair) → weight_after w (xs ++ ys) p ≡ weight_after (weight_after w xs p) ys p

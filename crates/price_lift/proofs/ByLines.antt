@@ -10,13 +10,13 @@ use Rattle.fleet_model.specs.Schedule.{fleets_in, legs_in, stations_in}
 use Rattle.lp_rows.specs.declared.kinds.Line.TheVariants.{Balance, Count, Cover}
 use Rattle.lp_rows.specs.declared.kinds.Node.{Node}
 use Rattle.lp_rows.specs.Entries.{is_in}
-use Rattle.lp_rows.specs.Layout.{IsNetwork, Starts, all_nodes, node_at}
+use Rattle.lp_rows.specs.Layout.{IsNetwork, Starts, all_nodes, node_at, line_at, node_of_number}
 use Rattle.lp_rows.specs.Points.{arcs_in}
 use Rattle.lp_rows.proofs.Counted.{nodes_are}
 use Rattle.price_lift.specs.Duals.{value_in}
-use Rattle.price_lift.specs.Prices.{AreByLines, line_at}
-use Rattle.price_lift.specs.Steps.{node_of_number, prices_by}
-use Rattle.price_lift.proofs.LinePlaces.{balance_there, before, count_there, cover_there, node_number, node_there, none_behind}
+use Rattle.price_lift.specs.Prices.{AreByLines}
+use Rattle.price_lift.specs.Steps.{prices_by}
+use Rattle.lp_rows.proofs.LinePlaces.{balance_there, before, count_there, cover_there, node_number, node_there, none_behind}
 use Rattle.price_lift.proofs.Minutes.{Rise, at_place, nodes_rise}
 use Rattle.price_lift.proofs.Networks.{same_lines, same_starts}
 use Rattle.price_lift.proofs.StepPrices.{nowhere, through_node}

@@ -4,10 +4,9 @@ use Rattle.std.proofs.lemmas.Bool.Decides.{nat_tests}
 use Rattle.std.proofs.lemmas.Int.{ints}
 use lib.IntN.{*ℤ-zero}
 use Rattle.sums.specs.Below.{sum_below_ℤ}
-use Rattle.sums.proofs.Integers.{*ℤ--ℤ}
+use Rattle.sums.proofs.Integers.{*ℤ--ℤ, times_one}
 use Rattle.sums.proofs.WholeSums.{sum_below_ℤ-same, sum_below_ℤ--ℤ}
 use Rattle.sums.proofs.WholeSwaps.{sum_below_ℤ-one, where_true}
-use Rattle.sums.proofs.Integers.{times_one}
 use Rattle.fleet_model.specs.declared.parts.Pair.{Pair}
 use Rattle.fleet_model.specs.declared.tables.Tables.{Tables}
 use Rattle.fleet_model.specs.Schedule.{IsPair, fleet_of, fleets_in, leg_of, legs_in, stations_in}
@@ -17,12 +16,11 @@ use Rattle.lp_rows.specs.declared.kinds.Column.TheVariants.{Flight, Ground, Slac
 use Rattle.lp_rows.specs.declared.kinds.Line.{Line}
 use Rattle.lp_rows.specs.declared.kinds.Line.TheVariants.{Balance, Count, Cover}
 use Rattle.lp_rows.specs.Entries.{IsNode, balance_entry, comes_to_node, count_entry, cover_entry, entry_of, gets_arc, is_in, leaves_node, one_if, passes_day_start, place_after, right_side_of, same_node}
-use Rattle.lp_rows.specs.Layout.{Starts, node_at}
+use Rattle.lp_rows.specs.Layout.{Starts, node_at, line_at}
 use Rattle.lp_rows.specs.Points.{arcs_in}
 use Rattle.lp_rows.proofs.ListSums.{all_zero}
 use Rattle.lp_rows.proofs.Picks.{pick_nodes}
-use Rattle.price_lift.specs.Prices.{line_at}
-use Rattle.price_lift.proofs.LinePlaces.{balance_there, before, count_there, cover_there, node_there, node_within, over_lines}
+use Rattle.lp_rows.proofs.LinePlaces.{balance_there, before, count_there, cover_there, node_there, node_within, over_lines}
 
 -- ---- tests
 flip : (a b : ℕ) → (a == b) ≡ (b == a)

@@ -15,10 +15,10 @@ use Rattle.fleet_model.specs.Use.{last_minute}
 use Rattle.node_aggregate.specs.Nodes.{AreNodesAt}
 use Rattle.node_aggregate.proofs.EventsAmong.{happens_within}
 use Rattle.lp_rows.specs.Layout.{Starts, all_kept, all_nodes, concat_below}
-use Rattle.bound_cert.specs.Prices.{max_scale}
-use Rattle.bound_cert.specs.WrittenOrder.{ArePricesInOrder, IsFigure, IsMixedInOrder, IsWeightInOrder, WeightsFollow}
-use Rattle.bound_cert.specs.declared.mixed.Mixed.{Mixed}
-use Rattle.bound_cert.specs.declared.prices.Prices.{Prices}
+use Rattle.dual_bound.specs.Prices.{max_scale}
+use Rattle.dual_bound.specs.WrittenOrder.{ArePricesInOrder, IsFigure, IsMixedInOrder, IsWeightInOrder, WeightsFollow}
+use Rattle.dual_bound.specs.declared.mixed.Mixed.{Mixed}
+use Rattle.dual_bound.specs.declared.prices.Prices.{Prices}
 use Rattle.price_lift.specs.Parts.{AreParts, HaveParts, part_below, part_of, weights_at}
 use Rattle.price_lift.specs.Steps.{ArePricesBy, prices_by}
 use Rattle.price_lift.proofs.Minutes.{nodes_rise}

@@ -25,13 +25,13 @@ use Rattle.lp_rows.specs.Entries.{IsNode, column_cost, entry_of, is_in, place_af
 use Rattle.lp_rows.specs.Layout.{IsNetwork, Starts, node_at}
 use Rattle.lp_rows.specs.Points.{arcs_in}
 use Rattle.lp_rows.proofs.Places.{IsKept}
-use Rattle.bound_cert.specs.Prices.{ArePrices, max_price, max_scale, price_of, rent_of}
-use Rattle.bound_cert.specs.Worth.{cost_units, leg_worth, pair_worth, rents_of, worth_of}
-use Rattle.bound_cert.specs.declared.prices.Prices.{Prices}
+use Rattle.dual_bound.specs.Prices.{ArePrices, max_price, max_scale, price_of, rent_of}
+use Rattle.dual_bound.specs.Worth.{cost_units, leg_worth, pair_worth, rents_of, worth_of}
+use Rattle.dual_bound.specs.declared.prices.Prices.{Prices}
 use Rattle.price_lift.specs.Prices.{AreByLines}
 use Rattle.price_lift.proofs.DownColumns.{at_minute, down, down_flight, down_ground, down_sides, down_slack, of_fleet, of_node}
 use Rattle.price_lift.proofs.LeastBounds.{below_unwrapped}
-use Rattle.price_lift.proofs.LinePlaces.{balance_there, before, count_there, node_there, node_within}
+use Rattle.lp_rows.proofs.LinePlaces.{balance_there, before, count_there, node_there, node_within}
 use Rattle.price_lift.proofs.Minutes.{IsAtPlace, Rise, at_place, in_node, later, nodes_rise, one_place, some_place}
 
 times_zero : (h q : ℤ) (k : ℕ) → h *ℤ (pos k *ℤ q *ℤ pos 0) ≡ pos 0

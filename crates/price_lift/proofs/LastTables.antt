@@ -1,5 +1,5 @@
 -- What the table with which a run over a subproblem's lines ended says of its subproblem.
-use Rattle.std.proofs.Common.{◌≡◌, ◌≢◌, ℕ, ◌+◌, ◌<◌, ◌≤◌, false, nat_lt, List, length, get_or, None, ℤ, pos, ◌*ℤ◌, ◌<ℤ◌, ◌≤ℤ◌, unsigned_abs, refl, sym, ◌∙◌, ap, subst, inl, inr, arith}
+use Rattle.std.proofs.Common.{◌≡◌, ◌≢◌, ℕ, ◌+◌, ◌<◌, ◌≤◌, false, nat_lt, List, length, get_or, None, ℤ, pos, negsuc, ◌*ℤ◌, ◌<ℤ◌, ◌≤ℤ◌, unsigned_abs, refl, sym, ◌∙◌, ap, subst, inl, inr, arith}
 use Rattle.std.specs.Prelude.{int_lt}
 use Rattle.std.proofs.lemmas.Bool.{cases_order}
 use Rattle.std.proofs.lemmas.Bool.Decides.{nat_tests}
@@ -14,100 +14,64 @@ use Rattle.frac_row.proofs.Rows.{common_divisor_positive, den_times, number_time
 use Rattle.fleet_model.specs.declared.tables.Tables.{Tables}
 use Rattle.fleet_model.specs.Kept.{Domains, IsBare, pairs_kept}
 use Rattle.fleet_model.specs.Schedule.{fleets_in, legs_in}
-use Rattle.row_store.specs.Table.{HasColumns, height_of, right_side, row_at}
+use Rattle.row_store.specs.Table.{HasColumns, height_of, row_at}
 use Rattle.row_store.specs.declared.problem.Rows.{Rows}
-use Rattle.simplex_frac.specs.Duality.{HasUnitColumns, IsReached, IsTableOf, ReadsOff, RunHasTables, RunHasUnitColumns, RunKeepsRightSides, RunReadsOff, weighed}
-use Rattle.simplex_frac.specs.LastTables.{BasicPointMeets, BestTells, NoPointTells, RayIsDirection}
-use Rattle.simplex_frac.specs.declared.turn.Turn.{Turn}
+use Rattle.reached_tables.specs.Duality.{weighed}
+use Rattle.dual_lift.specs.LastTables.{AreDualValues, IsReachedTable, WeighMore}
 use Rattle.lp_rows.specs.declared.kinds.Column.{Column}
 use Rattle.lp_rows.specs.Entries.{column_cost, entry_of}
 use Rattle.lp_rows.specs.Layout.{IsNetwork, Starts, all_nodes}
-use Rattle.lp_rows.specs.Points.{arcs_in}
+use Rattle.lp_rows.specs.Points.{AreLinesOf, arcs_in}
 use Rattle.lp_rows.proofs.Counted.{nodes_are}
 use Rattle.lp_rows.proofs.Places.{IsKept}
-use Rattle.bound_cert.specs.Prices.{ArePrices, max_price, max_scale}
-use Rattle.bound_cert.specs.Worth.{worth_of}
-use Rattle.bound_cert.specs.declared.prices.Prices.{Prices}
+use Rattle.dual_bound.specs.Prices.{ArePrices, max_price, max_scale}
+use Rattle.dual_bound.specs.Worth.{worth_of}
+use Rattle.dual_bound.specs.declared.prices.Prices.{Prices}
 use Rattle.price_lift.specs.Duals.{priced_lines, value_in}
-use Rattle.price_lift.specs.Ends.{Ends}
 use Rattle.price_lift.specs.Prices.{AreByLines}
-use Rattle.price_lift.specs.Steps.{prices_by}
 use Rattle.price_lift.specs.TooLarge.{price_excess, prices_excess}
 use Rattle.price_lift.proofs.BasicWeights.{HaveColumns}
-use Rattle.price_lift.proofs.BestDuals.{lines_in}
-use Rattle.price_lift.proofs.ByLines.{by_each_network}
-use Rattle.price_lift.proofs.Columns.{cost_of_column, column_number, sides_at_least, weighed_column, weighed_sides}
+use Rattle.dual_lift.proofs.BestDuals.{lines_in}
+use Rattle.price_lift.proofs.Columns.{cost_of_column, weighed_column, weighed_sides}
+use Rattle.lp_rows.proofs.ColumnPlaces.{column_number}
 use Rattle.price_lift.proofs.DownColumns.{down}
-use Rattle.price_lift.proofs.Excesses.{first_none, not_excess, second_none}
+use Rattle.dual_lift.proofs.Excesses.{first_none, not_excess, second_none}
 use Rattle.price_lift.proofs.Lagrangian.{are_prices, worth_reaches}
 use Rattle.price_lift.proofs.LeastScales.{HaveDens}
 use Rattle.price_lift.proofs.Networks.{same_nodes}
 
--- what the tables of a run tell
-pub record Laws : Type 0 where
-  pub tables : RunHasTables
-  pub reads : RunReadsOff
-  pub units : RunHasUnitColumns
-  pub sides : RunKeepsRightSides
-  pub best : BestTells
-  pub none : NoPointTells
-  pub basic : BasicPointMeets
-  pub ray : RayIsDirection
-
 not_less : (a b : ℤ) → int_lt a b ≡ false → b ≤ℤ a
 not_less a b e = grind (arith, ints)
 
--- ---- the shape of a table of the run
-module _ (laws : Laws) (t : Tables) (keeps : Domains) (does : Turn) (table : List FracRow) (basis : List ℕ) (ends : Ends t keeps does table basis) where
-  abbrev rows : Rows
-  rows = ends.rows
-
-  abbrev starts : Starts
-  starts = ends.lines.starts
-
-  pub reached : IsReached ends.rows ends.made table basis
-  reached = record { problem = ends.turn.problem; reaches = ends.turn.turns.reaches }
-
-  pub is_table : IsTableOf ends.rows table basis
-  is_table = laws.tables ends.rows ends.made table basis reached
-
-  pub reads : ReadsOff ends.rows table
-  reads = laws.reads ends.rows ends.made table basis reached
-
-  pub height_is : height_of table ≡ length ends.rows.lines
-  height_is = lines_in ends.rows table basis is_table reads
+-- ---- the shape of a table
+module _ (t : Tables) (keeps : Domains) (rows : Rows) (lines : AreLinesOf t keeps rows) (table : List FracRow) (basis : List ℕ) (last : IsReachedTable rows table basis) where
+  pub height_is : height_of table ≡ length rows.lines
+  height_is = lines_in rows table basis last.shape last.reads
 
   pub basis_long : length basis ≡ height_of table
-  basis_long = omega (arith, is_table.basis_in, height_is)
+  basis_long = omega (arith, last.shape.basis_in, height_is)
 
-  pub priced_are : priced_lines t table ≡ arcs_in t starts + fleets_in t
-  priced_are = omega (arith, height_is, ends.lines.counted.lines)
+  pub priced_are : priced_lines t table ≡ arcs_in t lines.starts + fleets_in t
+  priced_are = omega (arith, height_is, lines.counted.lines)
 
-  pub legs_within : legs_in t ≤ height_of table
-  legs_within = omega (arith, height_is, ends.lines.counted.lines)
+  pub has_columns : HasColumns table (pairs_kept t keeps + (arcs_in t lines.starts + fleets_in t))
+  has_columns = omega (arith, last.shape.columns_in, last.shape.rows_in, lines.counted.columns)
 
-  pub has_columns : HasColumns table (pairs_kept t keeps + priced_lines t table)
-  has_columns = omega (arith, is_table.columns_in, is_table.rows_in, ends.lines.counted.columns, ends.lines.counted.lines)
-
-  pub lines_priced : (other : Starts) → IsNetwork t keeps other → priced_lines t table ≡ length (all_nodes t other) + fleets_in t
-  lines_priced other network = omega (arith, priced_are, nodes_are t starts, ap length (same_nodes t keeps starts other ends.lines.lines.network network))
-
-  pub sides_some : (line : ℕ) → line < height_of table → pos 0 ≤ℤ right_side table line
-  sides_some line below = laws.sides ends.rows ends.made table basis line reached (sides_at_least t keeps starts ends.rows ends.lines.lines) (omega (arith, below, height_is))
+  pub arcs_are : (other : Starts) → IsNetwork t keeps other → length (all_nodes t other) ≡ arcs_in t lines.starts
+  arcs_are other network = omega (arith, nodes_are t lines.starts, ap length (same_nodes t keeps lines.starts other lines.lines.network network))
 
   pub have_dens : HaveDens table (height_of table)
-  have_dens = record { each = λ line below. is_table.dens line (omega (arith, below, height_is)) }
+  have_dens = record { each = λ line below. last.shape.dens line (omega (arith, below, height_is)) }
 
   pub own_columns : HaveColumns basis (height_of table)
   own_columns = record {
     differ = λ i j below there same. elim (cases_order i j) [
       | inl e ↦ e
       | inr differ ↦
-          let units : HasUnitColumns ends.rows table basis = laws.units ends.rows ends.made table basis reached in
           let apart : j ≢ i = elim differ [ inl less ↦ (λ e. omega (arith, e)) | inr more ↦ (λ e. omega (arith, e)) ] in
-          let none = units.others i j (omega (arith, below, height_is)) (omega (arith, there, height_is)) apart in
-          let own = units.own j (omega (arith, there, height_is)) in
-          let some = is_table.dens j (omega (arith, there, height_is)) in
+          let none = last.units.others i j (omega (arith, below, height_is)) (omega (arith, there, height_is)) apart in
+          let own = last.units.own j (omega (arith, there, height_is)) in
+          let some = last.shape.dens j (omega (arith, there, height_is)) in
           absurd (clash (sym (ap (λ c. number_of (row_at table j) c) same ∙ own) ∙ none) some)
     ];
   }
@@ -116,7 +80,7 @@ module _ (laws : Laws) (t : Tables) (keeps : Domains) (does : Turn) (table : Lis
       clash {d} e some = omega (arith, ints)
 
 -- ---- dual values in lowest terms
-module _ (t : Tables) (duals : FracRow) (some : pos 0 <ℤ duals.den) (fits : prices_excess t duals ≡ None) where
+module _ (t : Tables) (duals : FracRow) (some : pos 0 <ℤ duals.den) (fits : prices_excess (legs_in t) duals ≡ None) where
   abbrev pub divisor : ℤ
   divisor = pos (common_divisor duals)
 
@@ -136,7 +100,7 @@ module _ (t : Tables) (duals : FracRow) (some : pos 0 <ℤ duals.den) (fits : pr
   scale_high = not_less (pos max_scale) (reduced duals).den (not_excess _ _ _ (first_none _ _ fits))
 
   pub values_small : (k : ℕ) → k < width_of duals → unsigned_abs (number_of (reduced duals) k) ≤ max_price
-  values_small k below = small (unsigned_abs (number_of (reduced duals) k)) (not_excess _ _ _ (nothing_at (price_excess t duals) (width_of duals) k (second_none _ _ fits) below))
+  values_small k below = small (unsigned_abs (number_of (reduced duals) k)) (not_excess _ _ _ (nothing_at (price_excess (legs_in t) duals) (width_of duals) k (second_none _ _ fits) below))
     where
       small : (n : ℕ) → nat_lt max_price n ≡ false → n ≤ max_price
       small n e = grind (arith, nat_tests)
@@ -145,58 +109,64 @@ module _ (t : Tables) (duals : FracRow) (some : pos 0 <ℤ duals.den) (fits : pr
   value_times line k is = ap (λ j. divisor *ℤ number_of (reduced duals) j) (omega arith) ∙ number_times duals k
 
 -- ---- dual values of the lines
--- the sum of dual values of all lines down a column, and over the right sides, for dual values that are those of lowest terms times their divisor
-module _ (laws : Laws) (t : Tables) (keeps : Domains) (does : Turn) (table : List FracRow) (basis : List ℕ) (ends : Ends t keeps does table basis)
-    (y : ℕ → ℤ) (duals : FracRow) (some : pos 0 <ℤ duals.den) (fits : prices_excess t duals ≡ None) (wide : width_of duals ≡ priced_lines t table)
-    (are : (k : ℕ) → k < priced_lines t table → number_of duals k ≡ y (legs_in t + k))
-    (prices : Prices) (starts' : Starts) (network : IsNetwork t keeps starts') (by : prices ≡ prices_by t starts' (reduced duals))
-    (k : ℕ) (dual : (column : ℕ) → column < ends.rows.columns → weighed ends.rows y column ≤ℤ ((pos k *ℤ duals.den) *ℤ get_or ends.rows.costs column (pos 0))) where
+-- prices by dual values that weigh no column above its cost are proper, and their worth reaches what the right sides weigh
+module _ (t : Tables) (keeps : Domains) (rows : Rows) (lines : AreLinesOf t keeps rows) (counted : ℕ) (y : ℕ → ℤ) (duals : FracRow) (values : AreDualValues rows counted duals.den y)
+    (fits : prices_excess (legs_in t) duals ≡ None) (wide : width_of duals ≡ arcs_in t lines.starts + fleets_in t)
+    (are : (k : ℕ) → k < arcs_in t lines.starts + fleets_in t → number_of duals k ≡ y (legs_in t + k))
+    (prices : Prices) (scale_is : prices.scale ≡ (reduced duals).den) (by_lines : AreByLines t lines.starts (value_in t (reduced duals)) prices) where
   abbrev net : Starts
-  net = ends.lines.starts
+  net = lines.starts
 
-  by_lines : AreByLines t net (value_in t (reduced duals)) prices
-  by_lines = subst (AreByLines t net (value_in t (reduced duals))) (sym by) (by_each_network t keeps starts' net (reduced duals) network ends.lines.lines.network)
+  abbrev h : ℤ
+  h = divisor t duals values.some fits
 
-  pub scale_is : prices.scale ≡ (reduced duals).den
-  scale_is = ap (λ p. p.scale) by
+  above : pos 0 <ℤ h
+  above = divisor_above t duals values.some fits
 
-  h : ℤ
-  h = divisor t duals some fits
-
-  scaled : (j : ℕ) → j < arcs_in t net + fleets_in t → y (legs_in t + j) ≡ divisor t duals some fits *ℤ value_in t (reduced duals) (legs_in t + j)
-  scaled j below = sym (are j (omega (arith, below, priced_are laws t keeps does table basis ends))) ∙ sym (value_times t duals some fits (legs_in t + j) j refl)
+  scaled : (j : ℕ) → j < arcs_in t net + fleets_in t → y (legs_in t + j) ≡ h *ℤ value_in t (reduced duals) (legs_in t + j)
+  scaled j below = sym (are j below) ∙ sym (value_times t duals values.some fits (legs_in t + j) j refl)
 
   -- with the scale times the divisor
-  factor : (c : ℤ) → ((pos k *ℤ duals.den) *ℤ c) ≡ (divisor t duals some fits *ℤ (pos k *ℤ prices.scale *ℤ c))
+  factor : (c : ℤ) → ((pos counted *ℤ duals.den) *ℤ c) ≡ (h *ℤ (pos counted *ℤ prices.scale *ℤ c))
   factor c =
-      ap (λ z. (pos k *ℤ z) *ℤ c) (sym (scale_times t duals some fits) ∙ ap (λ z. divisor t duals some fits *ℤ z) (sym scale_is))
-      ∙ ap (λ z. z *ℤ c) (*ℤ_left_comm (pos k) (divisor t duals some fits) prices.scale)
-      ∙ *ℤ_assoc (divisor t duals some fits) (pos k *ℤ prices.scale) c
+      ap (λ z. (pos counted *ℤ z) *ℤ c) (sym (scale_times t duals values.some fits) ∙ ap (λ z. h *ℤ z) (sym scale_is))
+      ∙ ap (λ z. z *ℤ c) (*ℤ_left_comm (pos counted) h prices.scale)
+      ∙ *ℤ_assoc h (pos counted *ℤ prices.scale) c
 
-  weighs : (c : Column) → IsKept t keeps net c → down t net y (λ line. entry_of t net line c) ≤ℤ (divisor t duals some fits *ℤ (pos k *ℤ prices.scale *ℤ column_cost t c))
+  weighs : (c : Column) → IsKept t keeps net c → down t net y (λ line. entry_of t net line c) ≤ℤ (h *ℤ (pos counted *ℤ prices.scale *ℤ column_cost t c))
   weighs c kept =
       let number = column_number t keeps net c kept in
-      let real : number.0 < ends.rows.columns = omega (arith, number.1, ends.lines.lines.columns) in
-      let sum = weighed_column t keeps net ends.rows ends.lines.lines ends.lines.counted y number.0 number.1 in
-      let cost = cost_of_column t keeps net ends.rows ends.lines.lines ends.lines.counted y number.0 number.1 in
-      let at = subst (λ col. weighed ends.rows y number.0 ≡ down t net y (λ line. entry_of t net line col)) number.2 sum in
-      let paid = subst (λ col. get_or ends.rows.costs number.0 (pos 0) ≡ column_cost t col) number.2 cost in
-      subst (λ z. down t net y (λ line. entry_of t net line c) ≤ℤ z) (ap (λ z. (pos k *ℤ duals.den) *ℤ z) paid ∙ factor (column_cost t c))
-      (subst (λ z. z ≤ℤ ((pos k *ℤ duals.den) *ℤ get_or ends.rows.costs number.0 (pos 0))) at (dual number.0 real))
+      let real : number.0 < rows.columns = omega (arith, number.1, lines.lines.columns) in
+      let sum = weighed_column t keeps net rows lines.lines lines.counted y number.0 number.1 in
+      let cost = cost_of_column t keeps net rows lines.lines lines.counted y number.0 number.1 in
+      let at = subst (λ col. weighed rows y number.0 ≡ down t net y (λ line. entry_of t net line col)) number.2 sum in
+      let paid = subst (λ col. get_or rows.costs number.0 (pos 0) ≡ column_cost t col) number.2 cost in
+      subst (λ z. down t net y (λ line. entry_of t net line c) ≤ℤ z) (ap (λ z. (pos counted *ℤ duals.den) *ℤ z) paid ∙ factor (column_cost t c))
+      (subst (λ z. z ≤ℤ ((pos counted *ℤ duals.den) *ℤ get_or rows.costs number.0 (pos 0))) at (values.under number.0 real))
 
   small : (j : ℕ) → j < arcs_in t net + fleets_in t → unsigned_abs (value_in t (reduced duals) (legs_in t + j)) ≤ max_price
-  small j below =
-      subst (λ z. unsigned_abs z ≤ max_price) (sym (at (legs_in t + j) j refl)) (values_small t duals some fits j (omega (arith, below, wide, priced_are laws t keeps does table basis ends)))
+  small j below = subst (λ z. unsigned_abs z ≤ max_price) (sym (at (legs_in t + j) j refl)) (values_small t duals values.some fits j (omega (arith, below, wide)))
     where
       at : (line j : ℕ) → line ≡ legs_in t + j → value_in t (reduced duals) line ≡ number_of (reduced duals) j
       at line j is = ap (number_of (reduced duals)) (omega arith)
 
   pub proper : ArePrices t prices
   proper =
-      are_prices t keeps net ends.lines.lines.network prices (value_in t (reduced duals)) by_lines (divisor t duals some fits) (divisor_above t duals some fits) y scaled k weighs
-      (subst (λ z. pos 1 ≤ℤ z) (sym scale_is) (scale_low t duals some fits)) (subst (λ z. z ≤ℤ pos max_scale) (sym scale_is) (scale_high t duals some fits)) small
+      are_prices t keeps net lines.lines.network prices (value_in t (reduced duals)) by_lines h above y scaled counted weighs
+      (subst (λ z. pos 1 ≤ℤ z) (sym scale_is) (scale_low t duals values.some fits)) (subst (λ z. z ≤ℤ pos max_scale) (sym scale_is) (scale_high t duals values.some fits)) small
 
-  pub reaches : ((l : ℕ) → ¬ (IsBare t keeps l)) → weighed ends.rows y ends.rows.columns ≤ℤ (divisor t duals some fits *ℤ worth_of t keeps prices k)
+  pub reaches : ((l : ℕ) → ¬ (IsBare t keeps l)) → weighed rows y rows.columns ≤ℤ (divisor t duals values.some fits *ℤ worth_of t keeps prices counted)
   reaches each =
-      subst (λ z. z ≤ℤ (divisor t duals some fits *ℤ worth_of t keeps prices k)) (sym (weighed_sides t keeps net ends.rows ends.lines.lines ends.lines.counted y))
-      (worth_reaches t keeps net ends.lines.lines.network prices (value_in t (reduced duals)) by_lines (divisor t duals some fits) (divisor_above t duals some fits) y scaled k weighs each)
+      subst (λ z. z ≤ℤ (h *ℤ worth_of t keeps prices counted)) (sym (weighed_sides t keeps net rows lines.lines lines.counted y))
+      (worth_reaches t keeps net lines.lines.network prices (value_in t (reduced duals)) by_lines h above y scaled counted weighs each)
+
+  -- where the right sides weigh more than 0, so is the worth
+  pub refutes : WeighMore rows y → ((l : ℕ) → ¬ (IsBare t keeps l)) → pos 0 <ℤ worth_of t keeps prices counted
+  refutes more each = positive_other h (worth_of t keeps prices counted) above (over (weighed rows y rows.columns) (h *ℤ worth_of t keeps prices counted) more.sides (reaches each))
+    where
+      over : (a b : ℤ) → pos 0 <ℤ a → a ≤ℤ b → pos 0 <ℤ b
+      over a b p q = omega (arith, ints)
+
+      positive_other : (h w : ℤ) → pos 0 <ℤ h → pos 0 <ℤ (h *ℤ w) → pos 0 <ℤ w
+      positive_other (pos n) w some more = positive_factor n w more
+      positive_other (negsuc n) w some more = absurd (omega (arith, ints))

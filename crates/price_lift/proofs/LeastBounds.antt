@@ -2,7 +2,7 @@
 use Rattle.std.proofs.Common.{◌≡◌, ℕ, zero, suc, ◌+◌, ◌<◌, Bool, true, false, cond, if◌then◌else◌, Option, Some, None, ℤ, pos, ◌*ℤ◌, ◌≤ℤ◌, refl, sym, subst, arith}
 use Rattle.std.specs.Prelude.{int_le, unwrap_or, ⊤}
 use Rattle.sums.specs.Below.{count_below}
-use Rattle.bound_cert.specs.Worth.{least_below, lesser}
+use Rattle.dual_bound.specs.Worth.{least_below, lesser}
 
 -- no more than so many times the least, where there is one
 abbrev pub IsBelow : ℤ → ℤ → Option ℤ → Type 0

@@ -1,119 +1,197 @@
 -- What is lifted, from the parts that the calls give.
-use Rattle.std.proofs.Common.{◌≡◌, ℕ, ◌+◌, ◌≤◌, List, length, All, None, pos, ◌<ℤ◌, sym, ◌∙◌, ap, subst}
-use Rattle.frac_row.specs.Row.{IsRow, reduced}
+use Rattle.std.proofs.Common.{◌≡◌, ℕ, ◌+◌, ◌<◌, ◌≤◌, List, length, All, Some, None, Result, Ok, Err, MatchResult, pos, ◌<ℤ◌, refl, sym, ◌∙◌, ap, subst, arith}
+use Rattle.frac_row.specs.Row.{IsRow, number_of, reduced, width_of}
 use Rattle.frac_row.specs.declared.row.FracRow.{FracRow}
 use Rattle.fleet_model.specs.declared.parts.Pair.{Pair}
 use Rattle.fleet_model.specs.declared.tables.Tables.{Tables}
 use Rattle.fleet_model.specs.Kept.{Domains, IsBare, pairs_kept}
-use Rattle.fleet_model.specs.Schedule.{fleets_in}
+use Rattle.fleet_model.specs.Schedule.{fleets_in, legs_in}
 use Rattle.row_store.specs.Table.{HasColumns, height_of}
-use Rattle.simplex_frac.specs.declared.turn.Turn.{Turn}
-use Rattle.simplex_frac.specs.declared.turn.Turn.TheVariants as turns
-use Rattle.lp_rows.specs.Layout.{IsNetwork, Starts, all_kept, all_nodes, concat_below}
+use Rattle.lp_rows.specs.Layout.{IsNetwork, Starts, all_kept, concat_below, starts_in}
+use Rattle.lp_rows.specs.Outline.{IsOutline, column_count}
+use Rattle.lp_rows.specs.Points.{arcs_in}
+use Rattle.lp_rows.specs.declared.outline.Outline.{Outline}
 use Rattle.lp_rows.proofs.Counted.{pairs_are}
-use Rattle.bound_cert.specs.Fractions.{IsMixedAt, IsWorth}
-use Rattle.bound_cert.specs.OfTables.{ArePricesOf, IsMixedOf, IsStepOf, IsWeightOf}
-use Rattle.bound_cert.specs.Prices.{ArePrices, max_scale}
-use Rattle.bound_cert.specs.Worth.{worth_of}
-use Rattle.bound_cert.specs.WrittenOrder.{ArePricesInOrder, IsMixedInOrder}
-use Rattle.bound_cert.specs.declared.mixed.Mixed.{Mixed}
-use Rattle.bound_cert.specs.declared.prices.Prices.{Prices}
-use Rattle.bound_cert.proofs.Duality.{weak_duality}
-use Rattle.price_lift.specs.Duals.{best_duals, priced_lines, refusal_duals, value_in}
-use Rattle.price_lift.specs.Ends.{Ends}
-use Rattle.price_lift.specs.Mixture.{HasPhases}
+use Rattle.dual_lift.specs.LastTables.{AreDualValues, IsEndBy, WeighMore, WeighTheCost, counts_costs}
+use Rattle.dual_lift.specs.Readings.{IsReadingOf, duals_by, duals_excess, scale_by, value_by}
+use Rattle.dual_lift.specs.TooLarge.{IsLiftError}
+use Rattle.dual_lift.specs.declared.error.LiftError.{LiftError}
+use Rattle.dual_lift.proofs.Excesses.{both_well, second_none, then_fails}
+use Rattle.dual_lift.specs.declared.reading.Reading.{Reading}
+use Rattle.dual_lift.specs.declared.reading.Reading.TheVariants.{BothRows, CostRow, LineRow, PhaseRow}
+use Rattle.dual_lift.proofs.DualRows.{dual_there, duals_den, duals_wide}
+use Rattle.dual_lift.proofs.EndDuals.{are_duals, best_weighs, phases_weigh, read_so, row_weighs, signs_weigh}
+use Rattle.dual_bound.specs.Fractions.{IsMixedAt, IsWorth}
+use Rattle.dual_bound.specs.OfTables.{IsMixedOf, IsStepOf, IsWeightOf}
+use Rattle.dual_bound.specs.Prices.{max_scale}
+use Rattle.dual_bound.specs.Worth.{worth_of}
+use Rattle.dual_bound.specs.WrittenOrder.{IsMixedInOrder}
+use Rattle.dual_bound.specs.declared.mixed.Mixed.{Mixed}
+use Rattle.dual_bound.specs.declared.prices.Prices.{Prices}
+use Rattle.price_lift.specs.Duals.{value_in}
+use Rattle.price_lift.specs.LastTables.{IsLastBy, IsPointBy, prices_excess_by}
+use Rattle.price_lift.specs.Lifted.{AreLiftedPrices, IsLiftedPoint, IsLiftedRefusal}
 use Rattle.price_lift.specs.Parts.{AreParts, HaveParts, IsBasicMixed, part_below, weights_at}
 use Rattle.price_lift.specs.Prices.{AreByLines}
-use Rattle.price_lift.specs.Steps.{ArePricesBy}
+use Rattle.price_lift.specs.Steps.{prices_by}
 use Rattle.price_lift.specs.TooLarge.{prices_excess}
 use Rattle.price_lift.specs.Weights.{AreBasicWeights, scale_below}
 use Rattle.price_lift.proofs.BasicWeights.{are_basic}
-use Rattle.price_lift.proofs.BestEnds.{best_proper, have_parts, is_mixed, is_worth, phases}
 use Rattle.price_lift.proofs.ByLines.{by_each_network}
 use Rattle.price_lift.proofs.InOrder.{mixed_in_order, prices_in_order}
-use Rattle.price_lift.proofs.LastTables.{basis_long, has_columns, have_dens, lines_priced, own_columns, sides_some}
+use Rattle.price_lift.proofs.LastTables.{arcs_are, basis_long, has_columns, have_dens, own_columns, priced_are, proper, refutes}
 use Rattle.price_lift.proofs.OfTables.{steps_known, weights_known}
-use Rattle.price_lift.proofs.OtherEnds.{refusal_proper, refuted}
-use Rattle.price_lift.proofs.RunLaws.{laws}
+use Rattle.price_lift.proofs.PointEnds.{have_parts, is_mixed, is_worth, sides}
 
 -- the pairs of a list that has them all
 pub pairs_long : (t : Tables) (keeps : Domains) (pairs : List Pair) → pairs ≡ all_kept t keeps → length pairs ≡ pairs_kept t keeps
 pairs_long t keeps pairs is = ap length is ∙ pairs_are t keeps
 
--- prices by some network, and by each
-pub by_lines : (t : Tables) (keeps : Domains) (duals : FracRow) (prices : Prices) → ArePricesBy t keeps duals prices → (starts : Starts) → IsNetwork t keeps starts → AreByLines t starts (value_in t (reduced duals)) prices
-by_lines t keeps duals prices by starts network = subst (AreByLines t starts (value_in t (reduced duals))) (sym by.is) (by_each_network t keeps by.starts starts (reduced duals) by.network network)
+module _ (t : Tables) (keeps : Domains) (table : List FracRow) (basis : List ℕ) (reading : Reading) (last : IsLastBy t keeps table basis reading) where
+  -- ---- the shape
+  pub reads : IsReadingOf table reading
+  reads = read_so last.rows table basis last.reached reading last.ends
 
-pub of_tables : (t : Tables) (keeps : Domains) (duals : FracRow) (prices : Prices) → ArePricesBy t keeps duals prices → ArePricesOf t prices
-of_tables t keeps duals prices by = subst (λ p. All (IsStepOf t) p.steps) (sym by.is) (steps_known t by.starts _)
-
-module _ (t : Tables) (keeps : Domains) (does : Turn) (table : List FracRow) (basis : List ℕ) (ends : Ends t keeps does table basis) where
-  pub columns_are : (pairs : List Pair) → pairs ≡ all_kept t keeps → HasColumns table (length pairs + priced_lines t table)
-  columns_are pairs is = subst (λ n. HasColumns table (n + priced_lines t table)) (sym (pairs_long t keeps pairs is)) (has_columns laws t keeps does table basis ends)
+  pub columns_are : (outline : Outline) → IsOutline t keeps outline → HasColumns table (column_count outline)
+  columns_are outline is =
+      omega (
+        arith,
+        has_columns t keeps last.rows last.lines table basis last.reached,
+        pairs_long t keeps outline.pairs is.pairs,
+        ap length is.over.nodes,
+        arcs_are t keeps last.rows last.lines table basis last.reached (starts_in outline.network) is.network,
+        is.over.fleets,
+      )
 
   pub basis_is : length basis ≡ height_of table
-  basis_is = basis_long laws t keeps does table basis ends
+  basis_is = basis_long t keeps last.rows last.lines table basis last.reached
 
-  pub lines_are : (starts : Starts) → IsNetwork t keeps starts → priced_lines t table ≡ length (all_nodes t starts) + fleets_in t
-  lines_are = lines_priced laws t keeps does table basis ends
+  -- ---- the dual values
+  abbrev duals : FracRow
+  duals = duals_by table reading (legs_in t)
 
--- prices are in written order
-pub in_order : (t : Tables) (keeps : Domains) (duals : FracRow) (prices : Prices) → IsRow duals → ArePricesBy t keeps duals prices → ArePricesInOrder t prices
-in_order t keeps duals prices row by = prices_in_order t keeps duals prices row by
+  wide : width_of duals ≡ arcs_in t last.lines.starts + fleets_in t
+  wide = duals_wide table reading (legs_in t) ∙ priced_are t keeps last.rows last.lines table basis last.reached
+
+  pub priced_wide : (outline : Outline) → IsOutline t keeps outline → width_of duals ≡ length outline.nodes + outline.fleets
+  priced_wide outline is =
+      omega (arith, wide, ap length is.over.nodes, arcs_are t keeps last.rows last.lines table basis last.reached (starts_in outline.network) is.network, is.over.fleets)
+
+  numbers : (k : ℕ) → k < arcs_in t last.lines.starts + fleets_in t → number_of duals k ≡ value_by table reading (legs_in t + k)
+  numbers k below = dual_there table reading (legs_in t) k (omega (arith, below, priced_are t keeps last.rows last.lines table basis last.reached))
+
+  values : AreDualValues last.rows (counts_costs reading) duals.den (value_by table reading)
+  values = subst (λ d. AreDualValues last.rows (counts_costs reading) d (value_by table reading)) (sym (duals_den table reading (legs_in t))) (are_duals last.rows table basis last.reached reading last.ends)
+
+  -- ---- the prices
+  module _ (starts : Starts) (network : IsNetwork t keeps starts) (row : IsRow duals) (prices : Prices) (by : prices ≡ prices_by t starts (reduced duals)) (fits : prices_excess (legs_in t) duals ≡ None) where
+    by_lines : (other : Starts) → IsNetwork t keeps other → AreByLines t other (value_in t (reduced duals)) prices
+    by_lines other second = subst (AreByLines t other (value_in t (reduced duals))) (sym by) (by_each_network t keeps starts other (reduced duals) network second)
+
+    pub prices_are : AreLiftedPrices t keeps duals prices
+    prices_are = record {
+      scale = ap (λ p. p.scale) by;
+      by_lines = by_lines;
+      of_tables = subst (λ p. All (IsStepOf t) p.steps) (sym by) (steps_known t starts _);
+      proper =
+          proper t keeps last.rows last.lines (counts_costs reading) (value_by table reading) duals values fits wide numbers prices (ap (λ p. p.scale) by) (by_lines last.lines.starts last.lines.lines.network);
+      in_order = prices_in_order t keeps duals prices row (record { starts = starts; network = network; is = by });
+    }
+
+  module _ (prices : Prices) (are : AreLiftedPrices t keeps duals prices) (fits : prices_excess (legs_in t) duals ≡ None) where
+    -- ---- where no point meets the lines
+    more : counts_costs reading ≡ 0 → WeighMore last.rows (value_by table reading)
+    more = by_cases reading last.ends
+      where
+        by_cases : (r : Reading) → IsEndBy last.rows table basis r → counts_costs r ≡ 0 → WeighMore last.rows (value_by table r)
+        by_cases (BothRows mixture) ends none = absurd (omega (arith, none))
+        by_cases PhaseRow ends none = phases_weigh last.rows table basis last.reached ends
+        by_cases CostRow ends none = absurd (omega (arith, none))
+        by_cases (LineRow line) ends none = row_weighs last.rows table basis last.reached line ends
+
+    pub refuted : counts_costs reading ≡ 0 → ((l : ℕ) → ¬ (IsBare t keeps l)) → pos 0 <ℤ worth_of t keeps prices 0
+    refuted none each =
+        subst (λ k. pos 0 <ℤ worth_of t keeps prices k) none
+        (refutes t keeps last.rows last.lines (counts_costs reading) (value_by table reading) duals values fits wide numbers prices are.scale (are.by_lines last.lines.starts last.lines.lines.network) (more none) each)
 
 -- ---- at a cheapest point
-module _ (t : Tables) (keeps : Domains) (table : List FracRow) (basis : List ℕ) (ends : Ends t keeps turns.Best table basis) where
-  pub phases_are : HasPhases table
-  phases_are = phases laws t keeps table basis ends
-
+module _ (t : Tables) (keeps : Domains) (table : List FracRow) (basis : List ℕ) (reading : Reading) (is : IsPointBy t keeps table basis reading) where
   pub parts_are : (pairs : List Pair) → pairs ≡ all_kept t keeps → scale_below table basis (length pairs) (height_of table) ≤ max_scale → HaveParts table basis (length pairs) (scale_below table basis (length pairs) (height_of table))
-  parts_are pairs is =
-      subst (λ n. scale_below table basis n (height_of table) ≤ max_scale → HaveParts table basis n (scale_below table basis n (height_of table))) (sym (pairs_long t keeps pairs is)) (have_parts laws t keeps table basis ends)
+  parts_are pairs all =
+      subst (λ n. scale_below table basis n (height_of table) ≤ max_scale → HaveParts table basis n (scale_below table basis n (height_of table))) (sym (pairs_long t keeps pairs all)) (have_parts t keeps is.last.rows is.last.lines table basis is.last.reached is.point)
 
-  module _ (prices : Prices) (by : ArePricesBy t keeps (best_duals t table) prices) (fits : prices_excess t (best_duals t table) ≡ None) where
-    pub proper : ArePrices t prices
-    proper = best_proper laws t keeps table basis ends fits prices by.starts by.network by.is
+  weigh : WeighTheCost is.last.rows table (duals_by table reading (legs_in t)).den (value_by table reading)
+  weigh = subst (λ d. WeighTheCost is.last.rows table d (value_by table reading)) (sym (duals_den table reading (legs_in t))) (by_cases reading is.last.ends is.costs)
+    where
+      by_cases : (r : Reading) → IsEndBy is.last.rows table basis r → counts_costs r ≡ 1 → WeighTheCost is.last.rows table (scale_by table r) (value_by table r)
+      by_cases (BothRows mixture) ends one = best_weighs is.last.rows table basis is.last.reached ends.0
+      by_cases PhaseRow ends one = absurd (omega (arith, one))
+      by_cases CostRow ends one = signs_weigh is.last.rows table basis is.last.reached
+      by_cases (LineRow line) ends one = absurd (omega (arith, one))
 
-    module _ (pairs : List Pair) (all : pairs ≡ all_kept t keeps) (mixed : Mixed) (basic : IsBasicMixed table basis pairs mixed) where
-      kept_basic : IsBasicMixed table basis (all_kept t keeps) mixed
-      kept_basic = subst (λ ps. IsBasicMixed table basis ps mixed) all basic
+  module _ (prices : Prices) (are : AreLiftedPrices t keeps (duals_by table reading (legs_in t)) prices) (fits : prices_excess (legs_in t) (duals_by table reading (legs_in t)) ≡ None)
+      (pairs : List Pair) (all : pairs ≡ all_kept t keeps) (mixed : Mixed) (basic : IsBasicMixed table basis pairs mixed) where
+    abbrev scale : ℕ
+    scale = scale_below table basis (pairs_kept t keeps) (height_of table)
 
-      long : length (all_kept t keeps) ≡ pairs_kept t keeps
-      long = pairs_are t keeps
+    kept_basic : IsBasicMixed table basis (all_kept t keeps) mixed
+    kept_basic = subst (λ ps. IsBasicMixed table basis ps mixed) all basic
 
-      scale_is : mixed.scale ≡ pos (scale_below table basis (pairs_kept t keeps) (height_of table))
-      scale_is = kept_basic.scale ∙ ap (λ n. pos (scale_below table basis n (height_of table))) long
+    long : length (all_kept t keeps) ≡ pairs_kept t keeps
+    long = pairs_are t keeps
 
-      within : scale_below table basis (pairs_kept t keeps) (height_of table) ≤ max_scale
-      within = subst (λ n. scale_below table basis n (height_of table) ≤ max_scale) long kept_basic.within
+    scale_is : mixed.scale ≡ pos scale
+    scale_is = kept_basic.scale ∙ ap (λ n. pos (scale_below table basis n (height_of table))) long
 
-      parts_there : AreParts (part_below table basis (scale_below table basis (pairs_kept t keeps) (height_of table)) (height_of table)) (pairs_kept t keeps) kept_basic.parts
-      parts_there = subst (λ n. AreParts (part_below table basis (scale_below table basis n (height_of table)) (height_of table)) n kept_basic.parts) long kept_basic.are
+    within : scale ≤ max_scale
+    within = subst (λ n. scale_below table basis n (height_of table) ≤ max_scale) long kept_basic.within
 
-      list_is : mixed.weights ≡ concat_below (weights_at (all_kept t keeps) kept_basic.parts) (pairs_kept t keeps)
-      list_is = kept_basic.weights ∙ ap (λ n. concat_below (weights_at (all_kept t keeps) kept_basic.parts) n) long
+    parts_there : AreParts (part_below table basis scale (height_of table)) (pairs_kept t keeps) kept_basic.parts
+    parts_there = subst (λ n. AreParts (part_below table basis (scale_below table basis n (height_of table)) (height_of table)) n kept_basic.parts) long kept_basic.are
 
-      pub weights_are : AreBasicWeights t keeps table basis mixed
-      weights_are =
-          are_basic t keeps ends.lines.starts table basis mixed kept_basic.parts (own_columns laws t keeps turns.Best table basis ends) (have_dens laws t keeps turns.Best table basis ends) (sides_some laws t keeps turns.Best table basis ends) scale_is parts_there list_is
+    list_is : mixed.weights ≡ concat_below (weights_at (all_kept t keeps) kept_basic.parts) (pairs_kept t keeps)
+    list_is = kept_basic.weights ∙ ap (λ n. concat_below (weights_at (all_kept t keeps) kept_basic.parts) n) long
 
-      pub weights_of_tables : IsMixedOf t mixed
-      weights_of_tables = subst (All (IsWeightOf t)) (sym list_is) (weights_known t keeps ends.lines.starts kept_basic.parts)
+    pub weights_are : AreBasicWeights t keeps table basis mixed
+    weights_are =
+        are_basic t keeps is.last.lines.starts table basis mixed kept_basic.parts (own_columns t keeps is.last.rows is.last.lines table basis is.last.reached) (have_dens t keeps is.last.rows is.last.lines table basis is.last.reached)
+        (sides t keeps is.last.rows is.last.lines table basis is.last.reached is.point) scale_is parts_there list_is
 
-      pub weights_in_order : IsMixedInOrder t mixed
-      weights_in_order = mixed_in_order t keeps ends.lines.starts table basis (scale_below table basis (pairs_kept t keeps) (height_of table)) mixed kept_basic.parts (have_parts laws t keeps table basis ends within) within scale_is parts_there list_is
+    pub weights_of_tables : IsMixedOf t mixed
+    weights_of_tables = subst (All (IsWeightOf t)) (sym list_is) (weights_known t keeps is.last.lines.starts kept_basic.parts)
 
-      pub mixed_is : IsMixedAt t keeps mixed
-      mixed_is = is_mixed laws t keeps table basis ends mixed kept_basic.parts scale_is within parts_there list_is
+    pub weights_in_order : IsMixedInOrder t mixed
+    weights_in_order =
+        mixed_in_order t keeps is.last.lines.starts table basis scale mixed kept_basic.parts (have_parts t keeps is.last.rows is.last.lines table basis is.last.reached is.point within) within scale_is parts_there list_is
 
-      pub worth_is : IsWorth t keeps prices mixed
-      worth_is = is_worth laws t keeps table basis ends mixed kept_basic.parts scale_is within parts_there list_is weak_duality fits prices by.starts by.network by.is
+    pub mixed_is : IsMixedAt t keeps mixed
+    mixed_is = is_mixed t keeps is.last.rows is.last.lines table basis is.last.reached is.point mixed kept_basic.parts scale_is within parts_there list_is
 
--- ---- where no point meets the lines
-module _ (t : Tables) (keeps : Domains) (table : List FracRow) (basis : List ℕ) (ends : Ends t keeps turns.NoPoint table basis)
-    (prices : Prices) (by : ArePricesBy t keeps (refusal_duals t table) prices) (fits : prices_excess t (refusal_duals t table) ≡ None) where
-  pub refusal_is_proper : ArePrices t prices
-  refusal_is_proper = refusal_proper laws t keeps table basis ends fits prices by.starts by.network by.is
+    pub worth_is : IsWorth t keeps prices mixed
+    worth_is =
+        is_worth t keeps is.last.rows is.last.lines table basis is.last.reached is.point mixed kept_basic.parts scale_is within parts_there list_is (value_by table reading) (duals_by table reading (legs_in t))
+        (subst (λ k. AreDualValues is.last.rows k (duals_by table reading (legs_in t)).den (value_by table reading)) is.costs (values t keeps table basis reading is.last)) weigh fits
+        (wide t keeps table basis reading is.last) (numbers t keeps table basis reading is.last) prices are.scale (are.by_lines is.last.lines.starts is.last.lines.lines.network)
 
-  pub refutes : ((l : ℕ) → ¬ (IsBare t keeps l)) → pos 0 <ℤ worth_of t keeps prices 0
-  refutes = refuted laws t keeps table basis ends fits prices by.starts by.network by.is
+    pub point_is : IsLiftedPoint t keeps table basis (duals_by table reading (legs_in t)) (record { prices = prices; mixed = Some mixed })
+    point_is = record { prices = are; weights = weights_are; known = weights_of_tables; weights_in_order = weights_in_order; plan = mixed_is; value = worth_is }
+
+-- ---- what a call of prices comes to, and then a lift
+module _ (t : Tables) (keeps : Domains) (table : List FracRow) (basis : List ℕ) (reading : Reading) (last : IsLastBy t keeps table basis reading) where
+  pub lifted_prices : (starts : Starts) → IsNetwork t keeps starts → (duals : FracRow) → IsRow duals → duals ≡ duals_by table reading (legs_in t) → duals_excess table reading (legs_in t) ≡ None → (r : Result Prices LiftError)
+      → MatchResult r (λ prices. (prices_excess (legs_in t) duals ≡ None) × (prices ≡ prices_by t starts (reduced duals))) (IsLiftError (prices_excess (legs_in t) duals))
+      → MatchResult r (λ prices. (prices_excess_by t table reading ≡ None) × AreLiftedPrices t keeps (duals_by table reading (legs_in t)) prices) (IsLiftError (prices_excess_by t table reading))
+  unfolding prices_excess_by
+  lifted_prices starts network found row same well (Ok prices) is =
+      let fits = subst (λ d. prices_excess (legs_in t) d ≡ None) same is.0 in (
+        both_well _ _ well fits,
+        prices_are t keeps table basis reading last starts network (subst IsRow same row) prices (subst (λ d. prices ≡ prices_by t starts (reduced d)) same is.1) fits,
+      )
+  lifted_prices starts network found row same well (Err e) is = then_fails _ _ e well (subst (λ d. IsLiftError (prices_excess (legs_in t) d) e) same is)
+
+  pub prices_fit : prices_excess_by t table reading ≡ None → prices_excess (legs_in t) (duals_by table reading (legs_in t)) ≡ None
+  unfolding prices_excess_by
+  prices_fit well = second_none (duals_excess table reading (legs_in t)) _ well
+
+  pub refusal_is : counts_costs reading ≡ 0 → (prices : Prices) → prices_excess_by t table reading ≡ None → AreLiftedPrices t keeps (duals_by table reading (legs_in t)) prices → IsLiftedRefusal t keeps (duals_by table reading (legs_in t)) (record { prices = prices; mixed = None })
+  refusal_is none prices well are = record { prices = are; no_plan = refl; refutes = refuted t keeps table basis reading last prices are (prices_fit well) none }

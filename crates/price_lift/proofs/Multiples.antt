@@ -1,5 +1,5 @@
 -- Multiples of numbers, and of their sums and maxima.
-use Rattle.std.proofs.Common.{◌≡◌, ℕ, zero, suc, ◌+◌, ◌-◌, ◌*◌, ◌<◌, ◌≤◌, max, Bool, true, false, if◌then◌else◌, ◌∙◌, ap, inl, inr, arith}
+use Rattle.std.proofs.Common.{◌≡◌, ℕ, zero, suc, ◌+◌, ◌-◌, ◌*◌, ◌<◌, ◌≤◌, max, ◌∙◌, ap, inl, inr, arith}
 use Rattle.std.proofs.lemmas.Bool.{cases_lt}
 use Rattle.std.proofs.Math.Nat.{mul-le-mul_left}
 use Rattle.sums.specs.Below.{max_below}
@@ -13,10 +13,6 @@ of_difference k a b = elim (cases_lt a b) [
       omega (arith, mul-le-mul_left k order, ap (λ n. k * n) none)
   | inr not_less ↦ let whole : a ≡ (a - b) + b = omega arith in omega (arith, ap (λ n. k * n) whole)
 ]
-
-pub of_test : (k : ℕ) (b : Bool) (x w : ℕ) → x ≡ k * w → ◌≡◌ {A = ℕ} (if b then x else 0) (k * (if b then w else 0))
-of_test k true x w same = same
-of_test k false x w same = omega arith
 
 pub of_maximum : (k : ℕ) (f g : ℕ → ℕ) (n : ℕ) → ((i : ℕ) → i < n → f i ≡ k * g i) → max_below f n ≡ k * max_below g n
 unfolding max_below

@@ -4,14 +4,14 @@ use Rattle.std.proofs.lemmas.List.Elements.{All-cons, All-nil}
 use Rattle.fleet_model.specs.declared.tables.Tables.{Tables}
 use Rattle.fleet_model.specs.Kept.{Domains, pairs_kept}
 use Rattle.fleet_model.specs.Schedule.{leg_on}
-use Rattle.lp_rows.specs.Layout.{Starts, all_kept, all_nodes, concat_below}
+use Rattle.lp_rows.specs.Layout.{Starts, all_kept, all_nodes, concat_below, node_of_number}
 use Rattle.lp_rows.proofs.Counted.{nodes_are}
 use Rattle.lp_rows.proofs.Totals.{all_concat}
-use Rattle.bound_cert.specs.OfTables.{IsStepOf, IsWeightOf}
+use Rattle.dual_bound.specs.OfTables.{IsStepOf, IsWeightOf}
 use Rattle.price_lift.specs.Parts.{weights_at}
-use Rattle.price_lift.specs.Steps.{all_steps, is_step, node_of_number, step_of, steps_at}
-use Rattle.price_lift.proofs.BasicPoints.{is_pair}
-use Rattle.price_lift.proofs.LinePlaces.{node_is}
+use Rattle.price_lift.specs.Steps.{all_steps, is_step, step_of, steps_at}
+use Rattle.lp_rows.proofs.PairParts.{is_pair}
+use Rattle.lp_rows.proofs.LinePlaces.{node_is}
 
 all_one : {X : Type 0} (P : X → Type 0) (b : Bool) (x : X) → P x → All P (if b then x ∷ [] else [])
 all_one P true x holds = All-cons P x [] holds (All-nil P)

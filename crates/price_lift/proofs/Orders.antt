@@ -6,7 +6,7 @@ use Rattle.std.proofs.lemmas.List.{get_or_append_left}
 use Rattle.std.proofs.lemmas.List.Quantifiers.{all_pairs_push}
 use Rattle.sums.proofs.Tests.{by_test}
 use Rattle.lp_rows.specs.Layout.{concat_below}
-use Rattle.price_lift.proofs.LinePlaces.{at_right}
+use Rattle.lp_rows.proofs.ListPlaces.{at_right}
 
 pub truth : (b : Bool) → b ≡ true → IsTrue b
 truth b e = e

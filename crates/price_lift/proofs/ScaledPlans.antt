@@ -10,7 +10,8 @@ use Rattle.fleet_model.specs.Mixed.{IsMixedPlan, weight_on}
 use Rattle.fleet_model.specs.Schedule.{IsPair, fleet_of, fleets_in, leg_on, legs_in, stations_in}
 use Rattle.fleet_model.specs.Times.{laps_of}
 use Rattle.fleet_model.specs.Use.{excess, laps_at, laps_flown, last_minute, need_of, used_of}
-use Rattle.price_lift.proofs.Multiples.{of_difference, of_maximum, of_test}
+use Rattle.price_lift.proofs.Multiples.{of_difference, of_maximum}
+use Rattle.lp_rows.proofs.PairParts.{of_test}
 
 module _ (t : Tables) (k : ℕ) (x w : Weights) (same : (p : Pair) → IsPair t p → x p ≡ k * w p) where
   of_pair : (l f : ℕ) → l < legs_in t → f < fleets_in t → x (leg_on l f) ≡ k * w (leg_on l f)

@@ -4,11 +4,10 @@ use Rattle.std.proofs.lemmas.Bool.Decides.{nat_tests}
 use Rattle.std.proofs.lemmas.Int.{ints}
 use Rattle.sums.specs.Places.{first_below}
 use Rattle.frac_row.specs.declared.row.FracRow.{FracRow}
-use Rattle.bound_cert.specs.Prices.{IsScale}
-use Rattle.bound_cert.specs.Prices.{max_scale}
+use Rattle.dual_bound.specs.Prices.{IsScale, max_scale}
 use Rattle.price_lift.specs.TooLarge.{weights_excess}
 use Rattle.price_lift.specs.Weights.{lcm, lowest_den, scale_below}
-use Rattle.price_lift.proofs.Excesses.{place_well, well}
+use Rattle.dual_lift.proofs.Excesses.{place_well, well}
 use Rattle.price_lift.proofs.LeastScales.{lcm_positive}
 
 test_of : (m n : ℕ) → m < n → nat_lt m n ≡ true

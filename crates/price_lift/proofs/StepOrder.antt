@@ -12,15 +12,16 @@ use Rattle.fleet_model.specs.declared.tables.Tables.{Tables}
 use Rattle.fleet_model.specs.Schedule.{fleets_in, stations_in}
 use Rattle.fleet_model.specs.Use.{last_minute}
 use Rattle.lp_rows.specs.declared.kinds.Node.{Node}
-use Rattle.lp_rows.specs.Layout.{Starts, all_nodes, concat_below, node_at}
+use Rattle.lp_rows.specs.Layout.{Starts, all_nodes, concat_below, node_at, node_of_number}
 use Rattle.lp_rows.specs.Points.{arcs_in}
 use Rattle.lp_rows.proofs.Counted.{nodes_are}
 use Rattle.lp_rows.proofs.Totals.{all_concat}
-use Rattle.bound_cert.specs.Reading.{place_before, same_place, step_follows}
-use Rattle.bound_cert.specs.WrittenOrder.{AreStepsInOrder, IsFigure, IsStepInOrder, NoLoneZero, StepsFollow, goes_on, is_lone_zero}
-use Rattle.bound_cert.specs.declared.prices.PriceStep.{PriceStep}
-use Rattle.price_lift.specs.Steps.{all_steps, are_zero, is_step, node_of_number, step_of, steps_at}
-use Rattle.price_lift.proofs.LinePlaces.{before, node_is, node_number, node_there, node_within, nodes_in, within_sum}
+use Rattle.dual_bound.specs.Order.{place_before, same_place, step_follows}
+use Rattle.dual_bound.specs.WrittenOrder.{AreStepsInOrder, IsFigure, IsStepInOrder, NoLoneZero, StepsFollow, goes_on, is_lone_zero}
+use Rattle.dual_bound.specs.declared.prices.PriceStep.{PriceStep}
+use Rattle.price_lift.specs.Steps.{all_steps, are_zero, is_step, step_of, steps_at}
+use Rattle.lp_rows.proofs.LinePlaces.{before, node_is, node_number, node_there, node_within, nodes_in}
+use Rattle.lp_rows.proofs.ListPlaces.{within_sum}
 use Rattle.price_lift.proofs.Minutes.{Rise, later}
 use Rattle.price_lift.proofs.Orders.{Follow, MayFollow, follow_all, from_first, list_from}
 use Rattle.price_lift.proofs.StepPrices.{all_zero, no_later_step}

@@ -9,13 +9,13 @@ use Rattle.sums.proofs.Tests.{by_test, first_true, not_false, second_true}
 use Rattle.fleet_model.specs.declared.tables.Tables.{Tables}
 use Rattle.fleet_model.specs.Schedule.{fleets_in, stations_in}
 use Rattle.lp_rows.specs.declared.kinds.Node.{Node}
-use Rattle.lp_rows.specs.Layout.{Starts, all_nodes, concat_below, node_at}
+use Rattle.lp_rows.specs.Layout.{Starts, all_nodes, concat_below, node_at, node_of_number}
 use Rattle.lp_rows.specs.Points.{arcs_in}
 use Rattle.lp_rows.proofs.Counted.{nodes_are}
-use Rattle.bound_cert.specs.Prices.{price_after}
-use Rattle.bound_cert.proofs.PriceLists.{price_after-append}
-use Rattle.price_lift.specs.Steps.{all_steps, are_zero, is_step, node_of_number, step_at_node, step_of, steps_at}
-use Rattle.price_lift.proofs.LinePlaces.{before, node_number, node_there, node_within}
+use Rattle.dual_bound.specs.Prices.{price_after}
+use Rattle.dual_bound.proofs.PriceLists.{price_after-append}
+use Rattle.price_lift.specs.Steps.{all_steps, are_zero, is_step, step_at_node, step_of, steps_at}
+use Rattle.lp_rows.proofs.LinePlaces.{before, node_number, node_there, node_within}
 use Rattle.price_lift.proofs.Minutes.{IsAtPlace, Rise, later}
 
 -- ---- the price after steps

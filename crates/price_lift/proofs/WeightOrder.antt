@@ -11,11 +11,11 @@ use Rattle.fleet_model.specs.Schedule.{fleets_in, leg_on, legs_in}
 use Rattle.lp_rows.specs.Layout.{all_kept, concat_below, pair_of, pairs_of, Starts}
 use Rattle.lp_rows.proofs.Counted.{pairs_are}
 use Rattle.lp_rows.proofs.Totals.{all_concat}
-use Rattle.bound_cert.specs.Reading.{weight_follows}
-use Rattle.bound_cert.specs.WrittenOrder.{IsFigure, IsWeightInOrder, WeightsFollow}
-use Rattle.bound_cert.specs.declared.mixed.Weight.{Weight}
+use Rattle.dual_bound.specs.Order.{weight_follows}
+use Rattle.dual_bound.specs.WrittenOrder.{IsFigure, IsWeightInOrder, WeightsFollow}
+use Rattle.dual_bound.specs.declared.mixed.Weight.{Weight}
 use Rattle.price_lift.specs.Parts.{weights_at}
-use Rattle.price_lift.proofs.BasicPoints.{is_pair}
+use Rattle.lp_rows.proofs.PairParts.{is_pair}
 use Rattle.price_lift.proofs.Orders.{Follow, at_number, concat_same, follow_all, pairs_concat}
 
 -- ---- pairs by leg, then fleet

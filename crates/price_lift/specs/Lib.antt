@@ -1,7 +1,8 @@
 pub mod Duals
 pub mod Ends
+pub mod LastTables
 pub mod Laws
-pub mod Mixture
+pub mod Lifted
 pub mod Parts
 pub mod Prices
 pub mod Steps

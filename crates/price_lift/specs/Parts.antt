@@ -6,9 +6,9 @@ use Rattle.fleet_model.specs.Schedule.{leg_on}
 use Rattle.fleet_model.specs.declared.parts.Pair.{Pair}
 use Rattle.row_store.specs.Table.{height_of, right_side, row_at}
 use Rattle.lp_rows.specs.Layout.{concat_below}
-use Rattle.bound_cert.specs.Prices.{max_scale}
-use Rattle.bound_cert.specs.declared.mixed.Mixed.{Mixed}
-use Rattle.bound_cert.specs.declared.mixed.Weight.{Weight}
+use Rattle.dual_bound.specs.Prices.{max_scale}
+use Rattle.dual_bound.specs.declared.mixed.Mixed.{Mixed}
+use Rattle.dual_bound.specs.declared.mixed.Weight.{Weight}
 use Rattle.price_lift.specs.Weights.{lowest_den, scale_below}
 
 -- a line's right side in parts of a scale that makes it whole

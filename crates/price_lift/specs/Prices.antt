@@ -1,18 +1,13 @@
 -- What prices say that are read off dual values.
-use Rattle.std.specs.Prelude.{◌≡◌, ℕ, ◌<◌, true, [], slice_index_or, ℤ, pos, neg_ℤ}
+use Rattle.std.specs.Prelude.{◌≡◌, ℕ, ◌<◌, true, [], ℤ, pos, neg_ℤ}
 use Rattle.fleet_model.specs.Schedule.{fleets_in, stations_in}
 use Rattle.fleet_model.specs.declared.tables.Tables.{Tables}
 use Rattle.lp_rows.specs.Entries.{is_in}
-use Rattle.lp_rows.specs.Layout.{Starts, lines_of}
-use Rattle.lp_rows.specs.declared.kinds.Line.{Line}
-use Rattle.lp_rows.specs.declared.kinds.Line.TheVariants.{Balance, Count, Cover}
+use Rattle.lp_rows.specs.Layout.{Starts, line_at}
+use Rattle.lp_rows.specs.declared.kinds.Line.TheVariants.{Balance, Count}
 use Rattle.lp_rows.specs.declared.kinds.Node.{Node}
-use Rattle.bound_cert.specs.Prices.{price_of, rent_of}
-use Rattle.bound_cert.specs.declared.prices.Prices.{Prices}
-
--- the line of a number
-abbrev pub line_at : Tables → Starts → ℕ → Line
-line_at t starts line = slice_index_or (lines_of t starts) line (Cover 0)
+use Rattle.dual_bound.specs.Prices.{price_of, rent_of}
+use Rattle.dual_bound.specs.declared.prices.Prices.{Prices}
 
 -- through a node the price is the value of its balance line, and 0 where a fleet has no node at a station; a rent is
 -- the value of the fleet's count line with the other sign

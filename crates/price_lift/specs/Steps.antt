@@ -1,5 +1,5 @@
 -- Prices as a list of steps, by the numbers of nodes.
-use Rattle.std.specs.Prelude.{◌≡◌, ℕ, zero, suc, ◌+◌, ◌-◌, Bool, true, not, ◌==◌, ◌&&◌, if◌then◌else◌, List, [], ◌∷◌, length, slice_index, slice_index_or, ℤ, neg_ℤ, unsigned_abs}
+use Rattle.std.specs.Prelude.{◌≡◌, ℕ, zero, suc, ◌+◌, ◌-◌, Bool, true, not, ◌==◌, ◌&&◌, if◌then◌else◌, List, [], ◌∷◌, length, slice_index, ℤ, neg_ℤ, unsigned_abs}
 use Rattle.std.specs.Ordering.{int_eq}
 use Rattle.sums.specs.Places.{list_below}
 use Rattle.frac_row.specs.Row.{number_of, reduced}
@@ -7,14 +7,10 @@ use Rattle.frac_row.specs.declared.row.FracRow.{FracRow}
 use Rattle.fleet_model.specs.Kept.{Domains}
 use Rattle.fleet_model.specs.Schedule.{fleets_in}
 use Rattle.fleet_model.specs.declared.tables.Tables.{Tables}
-use Rattle.lp_rows.specs.Layout.{IsNetwork, Starts, all_nodes, concat_below, node_at}
+use Rattle.lp_rows.specs.Layout.{IsNetwork, Starts, all_nodes, concat_below, node_of_number}
 use Rattle.lp_rows.specs.declared.kinds.Node.{Node}
-use Rattle.bound_cert.specs.declared.prices.Prices.{Prices}
-use Rattle.bound_cert.specs.declared.prices.PriceStep.{PriceStep}
-
--- the node of a number, in the order of the balance lines
-abbrev pub node_of_number : Tables → Starts → ℕ → Node
-node_of_number t starts k = slice_index_or (all_nodes t starts) k (node_at 0 0 0)
+use Rattle.dual_bound.specs.declared.prices.Prices.{Prices}
+use Rattle.dual_bound.specs.declared.prices.PriceStep.{PriceStep}
 
 -- so many values from a place on are 0
 unfoldable pub are_zero : (ℕ → ℤ) → ℕ → ℕ → Bool

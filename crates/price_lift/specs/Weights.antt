@@ -1,15 +1,15 @@
 -- The weights of pairs at a table's basic point, over the least scale that makes them whole.
-use Rattle.std.specs.Prelude.{◌≡◌, ℕ, zero, suc, ◌*◌, ◌/◌, ◌<◌, nat_lt, if◌then◌else◌, List, slice_index, slice_index_or, pos, ◌*ℤ◌, unsigned_abs}
+use Rattle.std.specs.Prelude.{◌≡◌, ℕ, zero, suc, ◌*◌, ◌/◌, ◌<◌, nat_lt, if◌then◌else◌, List, slice_index, pos, ◌*ℤ◌, unsigned_abs}
 use Rattle.sums.specs.Divisors.{gcd}
 use Rattle.frac_row.specs.declared.row.FracRow.{FracRow}
 use Rattle.fleet_model.specs.Kept.{Domains, pairs_kept}
-use Rattle.fleet_model.specs.Schedule.{IsPair, leg_on}
+use Rattle.fleet_model.specs.Schedule.{IsPair}
 use Rattle.fleet_model.specs.declared.parts.Pair.{Pair}
 use Rattle.fleet_model.specs.declared.tables.Tables.{Tables}
 use Rattle.row_store.specs.Table.{height_of, right_side, row_at}
-use Rattle.lp_rows.specs.Layout.{all_kept}
-use Rattle.bound_cert.specs.Mixed.{weight_in}
-use Rattle.bound_cert.specs.declared.mixed.Mixed.{Mixed}
+use Rattle.lp_rows.specs.Layout.{pair_at_column}
+use Rattle.dual_bound.specs.Mixed.{weight_in}
+use Rattle.dual_bound.specs.declared.mixed.Mixed.{Mixed}
 
 -- the least common multiple of two numbers above 0
 unfoldable pub lcm : ℕ → ℕ → ℕ
@@ -27,10 +27,6 @@ scale_below table basis pairs zero = 1
 scale_below table basis pairs (suc line) =
     if nat_lt (slice_index basis line) pairs then lcm (scale_below table basis pairs line) (lowest_den table line)
     else scale_below table basis pairs line
-
--- the pair of a column
-abbrev pub pair_at_column : Tables → Domains → ℕ → Pair
-pair_at_column t keeps column = slice_index_or (all_kept t keeps) column (leg_on 0 0)
 
 -- the pair is that of a line's basic column
 pub record IsBasicIn (t : Tables) (keeps : Domains) (basis : List ℕ) (line : ℕ) (p : Pair) : Type 0 where

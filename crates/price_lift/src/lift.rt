@@ -3,26 +3,23 @@ ghost use Rattle.frac_row.specs.Row.{reduced};
 ghost use Rattle.fleet_model.specs.Kept.{IsBare, kept_by};
 ghost use Rattle.simplex_frac.specs.declared.turn.Turn.TheVariants as turns;
 ghost use Rattle.lp_rows.specs.Layout.{IsNetwork, Starts};
-ghost use Rattle.bound_cert.specs.Fractions.{IsMixedAt, IsWorth};
-ghost use Rattle.bound_cert.specs.OfTables.{ArePricesOf, IsMixedOf};
-ghost use Rattle.bound_cert.specs.Prices.{ArePrices};
-ghost use Rattle.bound_cert.specs.Worth.{worth_of};
-ghost use Rattle.bound_cert.specs.WrittenOrder.{ArePricesInOrder, IsMixedInOrder};
+ghost use Rattle.dual_bound.specs.Fractions.{IsMixedAt, IsWorth};
+ghost use Rattle.dual_bound.specs.OfTables.{ArePricesOf, IsMixedOf};
+ghost use Rattle.dual_bound.specs.Prices.{ArePrices};
+ghost use Rattle.dual_bound.specs.Worth.{worth_of};
+ghost use Rattle.dual_bound.specs.WrittenOrder.{ArePricesInOrder, IsMixedInOrder};
 ghost use Rattle.price_lift.specs.Duals.{best_duals, refusal_duals, value_in};
 ghost use Rattle.price_lift.specs.Ends.{Ends};
 ghost use Rattle.price_lift.specs.Prices.{AreByLines};
-ghost use Rattle.price_lift.specs.TooLarge.{IsLiftError, best_excess, refusal_excess};
+ghost use Rattle.dual_lift.specs.TooLarge.{IsLiftError};
+ghost use Rattle.price_lift.specs.TooLarge.{best_excess, refusal_excess};
 ghost use Rattle.price_lift.specs.Weights.{AreBasicWeights};
 
-use crate::best::best_duals;
-use crate::error::LiftError;
-use crate::pricing::prices_of;
-use crate::reading::real_columns;
-use crate::refusal::refusal_duals;
-use crate::weighing::basic_mixed;
-use bound_cert::{Mixed, Prices};
+use crate::lifting::{lift_best_with, lift_refusal_with};
+use dual_bound::{Mixed, Prices};
+use dual_lift::LiftError;
 use fleet_model::{Kept, Tables};
-use lp_rows::layout::kept_pairs;
+use lp_rows::Outline;
 use row_store::RowStore;
 use std::alloc::Global;
 
@@ -62,15 +59,8 @@ pub fn lift_best<R: RowStore>(
     ensures fits { IfOk result (λ _. best_excess tables.now (kept_by kept.now) (R.content table.now) basis.now ≡ None) }
     ensures too_large { IfErr result (IsLiftError (best_excess tables.now (kept_by kept.now) (R.content table.now) basis.now)) }
 {
-    let pairs = kept_pairs(alloc, tables, kept)?;
-    let columns = real_columns(tables, table, pairs.len());
-    let duals = best_duals(alloc, tables, table, columns)?;
-    let prices = prices_of(alloc, tables, kept, duals)?;
-    let mixed = basic_mixed(alloc, table, basis, &pairs, columns)?;
-    Ok(Lifted {
-        prices,
-        mixed: Some(mixed),
-    })
+    let outline = Outline::new(alloc, tables, kept)?;
+    lift_best_with(alloc, table, basis, tables, kept, &outline)
 }
 
 /// Prices that show that nothing in a subproblem is legal, from the table and the basis with which the run over its
@@ -94,12 +84,6 @@ pub fn lift_refusal<R: RowStore>(
     ensures fits { IfOk result (λ _. refusal_excess tables.now (R.content table.now) ≡ None) }
     ensures too_large { IfErr result (IsLiftError (refusal_excess tables.now (R.content table.now))) }
 {
-    let pairs = kept_pairs(alloc, tables, kept)?;
-    let columns = real_columns(tables, table, pairs.len());
-    let duals = refusal_duals(alloc, tables, table, columns)?;
-    let prices = prices_of(alloc, tables, kept, duals)?;
-    Ok(Lifted {
-        prices,
-        mixed: None,
-    })
+    let outline = Outline::new(alloc, tables, kept)?;
+    lift_refusal_with(alloc, table, basis, tables, kept, &outline)
 }

@@ -2,42 +2,42 @@
 ghost use Rattle.std.specs.Prelude.{◌≡◌, ◌+◌, ◌<◌, ◌^◌, ℕ, neg_ℤ, length, slice_index_or, pos, None, IfOk, MatchResult};
 ghost use Rattle.sums.specs.Places.{list_below};
 ghost use Rattle.frac_row.specs.Outgrown.{IsWithin};
-ghost use Rattle.frac_row.specs.Row.{IsRow, width_of};
-ghost use Rattle.fleet_model.specs.Schedule.{fleets_in};
-ghost use Rattle.fleet_model.specs.Kept.{kept_by};
-ghost use Rattle.lp_rows.specs.Layout.{AreByStation, IsNetwork, Starts, all_nodes, starts_in};
-ghost use Rattle.price_lift.specs.Steps.{ArePricesBy, prices_by};
-ghost use Rattle.price_lift.specs.TooLarge.{IsLiftError, prices_excess};
+ghost use Rattle.frac_row.specs.Row.{IsRow, reduced, width_of};
+ghost use Rattle.fleet_model.specs.Schedule.{fleets_in, legs_in};
+ghost use Rattle.lp_rows.specs.Layout.{starts_in};
+ghost use Rattle.lp_rows.specs.Outline.{IsOutlineOver};
+ghost use Rattle.dual_lift.specs.TooLarge.{IsLiftError};
+ghost use Rattle.price_lift.specs.Steps.{prices_by};
+ghost use Rattle.price_lift.specs.TooLarge.{prices_excess};
 
-use crate::error::LiftError;
 use crate::lowest::lowest;
-use crate::numbers::opposite;
 use crate::stepping::price_steps;
-use bound_cert::Prices;
+use dual_bound::Prices;
+use dual_lift::LiftError;
+use dual_lift::numbers::opposite;
 use entries::{Entries, NoMemory};
-use fleet_model::{Kept, Tables};
+use fleet_model::Tables;
 use frac_row::FracRow;
-use lp_rows::Network;
-use lp_rows::layout::network_nodes;
+use lp_rows::Outline;
 use std::alloc::Global;
 
-/// The prices of dual values in lowest terms, where they are within their limits.
+/// The prices of dual values in lowest terms, where they are within their limits. There is one for each line with a
+/// price.
 pub(crate) fn prices_of(
     alloc: Global,
     tables: &Tables,
-    kept: &Kept,
+    outline: &Outline,
     duals: FracRow,
 ) -> Result<Prices, LiftError>
+    requires outline { IsOutlineOver tables.now outline.now }
     requires row { IsRow duals }
-    requires few { width_of duals < 2 ^ 32 }
-    requires width { (starts : Starts) → IsNetwork tables.now (kept_by kept.now) starts → width_of duals ≡ length (all_nodes tables.now starts) + fleets_in tables.now }
+    requires width { width_of duals ≡ length outline.now.nodes + outline.now.fleets }
     ensures { MatchResult result
-        (λ prices. (prices_excess tables.now duals ≡ None) × ArePricesBy tables.now (kept_by kept.now) duals prices)
-        (IsLiftError (prices_excess tables.now duals)) }
+        (λ prices. (prices_excess (legs_in tables.now) duals ≡ None) × (prices ≡ prices_by tables.now (starts_in outline.now.network) (reduced duals)))
+        (IsLiftError (prices_excess (legs_in tables.now) duals)) }
 {
-    let network = Network::new(alloc, tables, kept)?;
-    let lowest = lowest(tables, duals)?;
-    let prices = prices(alloc, tables, &network, &lowest)?;
+    let lowest = lowest(outline.first_priced_line(), duals)?;
+    let prices = prices(alloc, tables, outline, &lowest)?;
     Ok(prices)
 }
 
@@ -46,18 +46,19 @@ pub(crate) fn prices_of(
 fn prices(
     alloc: Global,
     tables: &Tables,
-    network: &Network,
+    outline: &Outline,
     duals: &FracRow,
 ) -> Result<Prices, NoMemory>
-    requires shape { AreByStation tables.now network.now }
+    requires outline { IsOutlineOver tables.now outline.now }
     requires row { IsRow duals.now }
-    requires width { width_of duals.now ≡ length (all_nodes tables.now (starts_in network.now)) + fleets_in tables.now }
-    ensures { IfOk result (λ prices. prices ≡ prices_by tables.now (starts_in network.now) duals.now) }
+    requires width { width_of duals.now ≡ length outline.now.nodes + outline.now.fleets }
+    ensures { IfOk result (λ prices. prices ≡ prices_by tables.now (starts_in outline.now.network) duals.now) }
 {
     let values = duals.numbers.as_slice();
-    let nodes = network_nodes(alloc, tables, network)?;
-    let steps = price_steps(alloc, tables, network, &nodes, values)?;
-    let rents = rents(alloc, tables, values, nodes.len())?;
+    let nodes = outline.nodes.as_slice();
+    let of_nodes = node_values(outline, values);
+    let steps = price_steps(alloc, tables, &outline.network, nodes, of_nodes)?;
+    let rents = rents(alloc, outline, values)?;
     Ok(Prices {
         scale: duals.den,
         rents: Entries::from_vec(rents),
@@ -65,20 +66,24 @@ fn prices(
     })
 }
 
-// The rents, fleet by fleet: the count lines come after so many balance lines.
-fn rents(
-    alloc: Global,
-    tables: &Tables,
-    values: &[i128],
-    nodes: usize,
-) -> Result<Vec<i128>, NoMemory>
+// The values of the nodes, in their order, with others behind them.
+fn node_values<'a>(outline: &Outline, values: &'a [i128]) -> &'a [i128]
+    ensures { result.now ≡ values.now }
+{
+    let first = outline.first_balance_line() - outline.first_priced_line();
+    &values[first as usize..]
+}
+
+// The rents, fleet by fleet, by the values of the lines with a price.
+fn rents(alloc: Global, outline: &Outline, values: &[i128]) -> Result<Vec<i128>, NoMemory>
     requires within { (k : ℕ) → IsWithin (slice_index_or values.now k (pos 0)) }
-    requires width { length values.now ≡ nodes + fleets_in tables.now }
-    ensures { IfOk result (λ rents. rents.items ≡ list_below (λ f. neg_ℤ (slice_index_or values.now (nodes + f) (pos 0))) (fleets_in tables.now)) }
+    requires width { length values.now ≡ length outline.now.nodes + outline.now.fleets }
+    ensures { IfOk result (λ rents. rents.items ≡ list_below (λ f. neg_ℤ (slice_index_or values.now (length outline.now.nodes + f) (pos 0))) outline.now.fleets) }
 {
     let mut rents = Vec::new(alloc);
-    for fleet in 0..tables.fleet_count() as usize {
-        rents.push(opposite(&values[nodes + fleet]))?;
+    for fleet in 0..outline.fleets {
+        let place = outline.count_line(fleet) - outline.first_priced_line();
+        rents.push(opposite(&values[place as usize]))?;
     }
     Ok(rents)
 }

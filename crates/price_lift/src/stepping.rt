@@ -4,13 +4,14 @@ ghost use Rattle.fleet_model.specs.declared.limits.TheConstants.{MINUTES_PER_PER
 ghost use Rattle.lp_rows.specs.Layout.{AreByStation, all_nodes, starts_in};
 ghost use Rattle.price_lift.specs.Steps.{all_steps, are_zero, is_step, step_where};
 
-use bound_cert::PriceStep;
+use dual_bound::PriceStep;
 use entries::NoMemory;
 use fleet_model::Tables;
 use lp_rows::{Network, Node};
 use std::alloc::Global;
 
-/// The steps of all prices, by fleet, station and minute. The values are those of the nodes, in their order.
+/// The steps of all prices, by fleet, station and minute. The values are those of the nodes, in their order; others may
+/// follow.
 pub(crate) fn price_steps(
     alloc: Global,
     tables: &Tables,

@@ -4,4 +4,4 @@ use Rattle.price_lift.specs.TooLarge.{price_excess}
 use Rattle.price_lift.proofs.lowest.lowest.Given as goal
 
 abbrev pub invariant-loop-priced : goal.invariant-loop-priced
-invariant-loop-priced l = first_below (price_excess l.tables l.fn.duals) l.priced ≡ None
+invariant-loop-priced l = first_below (price_excess l.first l.fn.duals) l.priced ≡ None

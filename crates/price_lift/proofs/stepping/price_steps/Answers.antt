@@ -3,7 +3,7 @@ use Rattle.lp_rows.specs.Layout.{all_nodes, concat_below, starts_in}
 use Rattle.lp_rows.specs.Points.{arcs_in}
 use Rattle.lp_rows.proofs.Counted.{nodes_are}
 use Rattle.price_lift.specs.Steps.{steps_at}
-use Rattle.price_lift.proofs.LinePlaces.{node_is}
+use Rattle.lp_rows.proofs.LinePlaces.{node_is}
 use Rattle.price_lift.proofs.stepping.price_steps.Goals as goal
 
 pub starts-starts-requires-clause-fleet : goal.starts-starts-requires-clause-fleet

@@ -3,7 +3,7 @@ use Rattle.std.proofs.lemmas.Int.{ints, to_z-of_z}
 use mir.Val.{SFits}
 use mir.Syntax.{w128}
 use Rattle.frac_row.specs.Outgrown.{is_outgrown}
-use Rattle.bound_cert.specs.Prices.{max_scale}
+use Rattle.dual_bound.specs.Prices.{max_scale}
 use Rattle.price_lift.specs.Weights.{lcm}
 use Rattle.price_lift.proofs.Quotients.{multiple_is, not_past, outgrown_is_past, past}
 use Rattle.price_lift.proofs.weighing.common_scale.Goals as goal

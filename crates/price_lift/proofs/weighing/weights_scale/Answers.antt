@@ -3,9 +3,9 @@ use Rattle.std.proofs.lemmas.Int.{ints, to_z-of_z}
 use mir.Val.{SFits}
 use mir.Syntax.{w128}
 use Rattle.row_store.specs.Table.{height_of}
-use Rattle.bound_cert.specs.Prices.{max_scale}
+use Rattle.dual_bound.specs.Prices.{max_scale}
 use Rattle.price_lift.specs.Weights.{lowest_den, scale_below}
-use Rattle.price_lift.proofs.Excesses.{found_at}
+use Rattle.dual_lift.proofs.Excesses.{found_at}
 use Rattle.price_lift.proofs.Scales.{IsScaleSoFar, first_scale, other_scale, pair_scale, past_scale}
 use Rattle.price_lift.proofs.weighing.weights_scale.Goals as goal
 use Rattle.price_lift.proofs.weighing.weights_scale.Goals.{then-basis-line+in-Some, else-basis-line}

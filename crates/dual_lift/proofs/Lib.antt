@@ -1,0 +1,9 @@
+pub mod BestDuals
+pub mod Ceilings
+pub mod DualRows
+pub mod EndDuals
+pub mod Excesses
+pub mod Mixtures
+pub mod Quotients
+pub mod Reached
+pub mod SignDuals

@@ -1,0 +1,16 @@
+use crate::mixture::Mixture;
+
+/// How the dual values of the lines are read off the last table of a run: by the row, or rows, that no real column
+/// improves.
+#[derive(Clone, Copy, Debug)]
+pub enum Reading {
+    /// At a cheapest point of the prescribed run: the cost row, with so many of the phase row that no real column is
+    /// negative.
+    BothRows(Mixture),
+    /// Where no point meets the lines: the phase row.
+    PhaseRow,
+    /// At a point that is a cheapest one by signs: the cost row.
+    CostRow,
+    /// Where the row of a line refuses all points: that row.
+    LineRow { line: u32 },
+}

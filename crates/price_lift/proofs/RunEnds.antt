@@ -1,0 +1,123 @@
+-- What the prescribed run over a subproblem's lines ends with, and that no table of it is a ray.
+use Rattle.std.proofs.Common.{◌≡◌, ℕ, ◌<◌, List, length, pos, ◌*ℤ◌, ◌≤ℤ◌, refl, ◌∙◌, ap, arith}
+use Rattle.std.proofs.lemmas.Int.{ints}
+use Rattle.std.specs.Prelude.{unwrap_or}
+use lib.IntN.{zero-*ℤ}
+use Rattle.sums.specs.Below.{sum_below_ℤ}
+use Rattle.sums.proofs.SumBounds.{term_le}
+use Rattle.sums.proofs.WholeSums.{sum_below_ℤ-same}
+use Rattle.sums.proofs.WholeSwaps.{sum_below_ℤ-zero}
+use Rattle.frac_row.specs.declared.row.FracRow.{FracRow}
+use Rattle.fleet_model.specs.declared.tables.Tables.{Tables}
+use Rattle.fleet_model.specs.Counts.{Weights}
+use Rattle.fleet_model.specs.Kept.{Domains}
+use Rattle.fleet_model.specs.Legal.{cost_of}
+use Rattle.fleet_model.specs.Mixed.{IsMixedPlan, mixed_cost, weighted_cost}
+use Rattle.fleet_model.specs.Schedule.{fleets_in, leg_on, legs_in}
+use Rattle.row_store.specs.Table.{HasColumns, right_side}
+use Rattle.simplex_frac.specs.Duality.{IsReached}
+use Rattle.simplex_frac.specs.declared.turn.Turn.{Turn}
+use Rattle.simplex_frac.specs.declared.turn.Turn.TheVariants as turns
+use Rattle.simplex_frac.proofs.BestPoints.{best_tells, no_point_tells}
+use Rattle.simplex_frac.proofs.MetPoints.{basic_point_meets}
+use Rattle.simplex_frac.proofs.RayPoints.{ray_is_direction}
+use Rattle.simplex_frac.proofs.RightSides.{run_keeps_right_sides}
+use Rattle.simplex_frac.proofs.RunPoints.{run_is_reached}
+use Rattle.lp_rows.specs.Points.{pair_part}
+use Rattle.lp_rows.specs.Layout.{columns_of, starts_in}
+use Rattle.lp_rows.specs.Outline.{IsOutline, column_count}
+use Rattle.lp_rows.specs.declared.outline.Outline.{Outline}
+use Rattle.lp_rows.proofs.Counted.{pairs_are}
+use Rattle.price_lift.proofs.LastTables.{arcs_are, has_columns}
+use Rattle.dual_lift.specs.LastTables.{HasBasicPoint, IsReachedTable}
+use Rattle.dual_lift.specs.Mixture.{HasPhases, IsMixture}
+use Rattle.dual_lift.specs.declared.mixture.Mixture.{Mixture}
+use Rattle.dual_lift.specs.declared.reading.Reading.TheVariants.{BothRows, CostRow, LineRow, PhaseRow}
+use Rattle.dual_lift.proofs.EndDuals.{best_has_phases}
+use Rattle.dual_lift.proofs.Reached.{known, point_by_signs}
+use Rattle.price_lift.specs.Ends.{Ends, EndsByRow, EndsBySigns}
+use Rattle.price_lift.specs.LastTables.{IsPointBy, IsRefusalBy}
+use Rattle.price_lift.proofs.Columns.{sides_at_least}
+
+module _ (t : Tables) (keeps : Domains) (does : Turn) (table : List FracRow) (basis : List ℕ) (ends : Ends t keeps does table basis) where
+  reached : IsReached ends.rows ends.made table basis
+  reached = record { problem = ends.turn.problem; reaches = ends.turn.turns.reaches }
+
+  pub of_run : IsReachedTable ends.rows table basis
+  of_run = known ends.rows table basis (run_is_reached ends.rows ends.made table basis reached)
+
+  pub run_sides : (line : ℕ) → line < length ends.rows.lines → pos 0 ≤ℤ right_side table line
+  run_sides line below = run_keeps_right_sides ends.rows ends.made table basis line reached (sides_at_least t keeps ends.lines.starts ends.rows ends.lines.lines) below
+
+-- ---- at a cheapest point
+module _ (t : Tables) (keeps : Domains) (table : List FracRow) (basis : List ℕ) (ends : Ends t keeps turns.Best table basis) where
+  pub best_point : HasBasicPoint ends.rows table basis
+  best_point = record {
+    sides = run_sides t keeps turns.Best table basis ends;
+    meets = λ scale x is. basic_point_meets ends.rows ends.made table basis scale x ends.turn (sides_at_least t keeps ends.lines.starts ends.rows ends.lines.lines) is;
+  }
+
+  pub has_phases : HasPhases table
+  has_phases = best_has_phases ends.rows table basis (of_run t keeps turns.Best table basis ends) (best_tells ends.rows ends.made table basis ends.turn)
+
+  pub best_columns : (outline : Outline) → IsOutline t keeps outline → HasColumns table (column_count outline)
+  best_columns outline is =
+      omega (
+        arith,
+        has_columns t keeps ends.rows ends.lines table basis (of_run t keeps turns.Best table basis ends),
+        ap length is.pairs,
+        pairs_are t keeps,
+        ap length is.over.nodes,
+        arcs_are t keeps ends.rows ends.lines table basis (of_run t keeps turns.Best table basis ends) (starts_in outline.network) is.network,
+        is.over.fleets,
+      )
+
+  pub is_best : (mixture : Mixture) → IsMixture table mixture → IsPointBy t keeps table basis (BothRows mixture)
+  is_best mixture is = record {
+    last = record { rows = ends.rows; lines = ends.lines; reached = of_run t keeps turns.Best table basis ends; ends = (best_tells ends.rows ends.made table basis ends.turn, is) };
+    point = best_point;
+    costs = refl;
+  }
+
+pub is_best_by_signs : (t : Tables) (keeps : Domains) (table : List FracRow) (basis : List ℕ) → EndsBySigns t keeps table basis → IsPointBy t keeps table basis CostRow
+is_best_by_signs t keeps table basis ends = record {
+  last = record { rows = ends.rows; lines = ends.lines; reached = known ends.rows table basis ends.reached; ends = ends.signs };
+  point = point_by_signs ends.rows table basis ends.reached ends.signs;
+  costs = refl;
+}
+
+-- ---- where no point meets the lines
+pub is_refusal : (t : Tables) (keeps : Domains) (table : List FracRow) (basis : List ℕ) → Ends t keeps turns.NoPoint table basis → IsRefusalBy t keeps table basis PhaseRow
+is_refusal t keeps table basis ends = record {
+  last = record {
+    rows = ends.rows;
+    lines = ends.lines;
+    reached = of_run t keeps turns.NoPoint table basis ends;
+    ends = no_point_tells ends.rows ends.made table basis ends.turn (sides_at_least t keeps ends.lines.starts ends.rows ends.lines.lines);
+  };
+  no_costs = refl;
+}
+
+pub is_refusal_by_row : (t : Tables) (keeps : Domains) (table : List FracRow) (basis : List ℕ) (row : ℕ) → EndsByRow t keeps table basis row → IsRefusalBy t keeps table basis (LineRow row)
+is_refusal_by_row t keeps table basis row ends = record { last = record { rows = ends.rows; lines = ends.lines; reached = known ends.rows table basis ends.reached; ends = ends.signs }; no_costs = refl }
+
+-- ---- rays
+-- a plan of scale 0 weighs no pair
+free : (t : Tables) (keeps : Domains) (w : Weights) → IsMixedPlan t keeps 0 w → mixed_cost t w ≡ pos 0
+unfolding mixed_cost
+free t keeps w plan =
+    sum_below_ℤ-same (λ l. sum_below_ℤ (weighted_cost t w l) (fleets_in t)) (λ l. pos 0) (legs_in t)
+    (λ l below. sum_below_ℤ-same (weighted_cost t w l) (λ f. pos 0) (fleets_in t)
+    (λ f known.
+    let least = term_le (λ g. w (leg_on l g)) f (fleets_in t) known in
+    let nothing : w (leg_on l f) ≡ 0 = omega (arith, plan.cover l below, least) in
+    ap (λ n. pos n *ℤ unwrap_or (cost_of t (leg_on l f)) (pos 0)) nothing ∙ zero-*ℤ (unwrap_or (cost_of t (leg_on l f)) (pos 0)))
+    ∙ sum_below_ℤ-zero (fleets_in t))
+    ∙ sum_below_ℤ-zero (legs_in t)
+
+pub no_ray : (t : Tables) (keeps : Domains) (table : List FracRow) (basis : List ℕ) (column : ℕ) → ¬ (Ends t keeps (turns.Ray column) table basis)
+no_ray t keeps table basis column ends =
+    let direction = ray_is_direction ends.rows ends.made table basis column ends.turn in
+    let plan = ends.lines.points_are_plans 0 direction.0 direction.1.meets in
+    let cost = ends.lines.costs_are_same direction.0 ∙ free t keeps (pair_part (columns_of t keeps ends.lines.starts) direction.0) plan in
+    omega (arith, ints, cost, direction.1.falls)

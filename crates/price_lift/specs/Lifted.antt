@@ -1,0 +1,41 @@
+-- What is lifted from a last table, by the dual values of its lines with a price.
+use Rattle.std.specs.Prelude.{◌≡◌, ℕ, None, IsSomeAnd, List, pos, ◌<ℤ◌}
+use Rattle.frac_row.specs.Row.{reduced}
+use Rattle.frac_row.specs.declared.row.FracRow.{FracRow}
+use Rattle.fleet_model.specs.Kept.{Domains, IsBare}
+use Rattle.fleet_model.specs.declared.tables.Tables.{Tables}
+use Rattle.lp_rows.specs.Layout.{IsNetwork, Starts}
+use Rattle.dual_bound.specs.Fractions.{IsMixedAt, IsWorth}
+use Rattle.dual_bound.specs.OfTables.{ArePricesOf, IsMixedOf}
+use Rattle.dual_bound.specs.Prices.{ArePrices}
+use Rattle.dual_bound.specs.Worth.{worth_of}
+use Rattle.dual_bound.specs.WrittenOrder.{ArePricesInOrder, IsMixedInOrder}
+use Rattle.dual_bound.specs.declared.prices.Prices.{Prices}
+use Rattle.price_lift.specs.Duals.{value_in}
+use Rattle.price_lift.specs.Prices.{AreByLines}
+use Rattle.price_lift.specs.Weights.{AreBasicWeights}
+use Rattle.price_lift.specs.declared.lift.Lifted.{Lifted}
+
+-- the prices of dual values in lowest terms: proper, of the tables, and in written order
+pub record AreLiftedPrices (t : Tables) (keeps : Domains) (duals : FracRow) (prices : Prices) : Type 0 where
+  pub scale : prices.scale ≡ (reduced duals).den
+  pub by_lines : (starts : Starts) → IsNetwork t keeps starts → AreByLines t starts (value_in t (reduced duals)) prices
+  pub of_tables : ArePricesOf t prices
+  pub proper : ArePrices t prices
+  pub in_order : ArePricesInOrder t prices
+
+-- at a cheapest point: prices, and the weights of its basic pairs, a fractional assignment that costs what the prices are
+-- worth
+pub record IsLiftedPoint (t : Tables) (keeps : Domains) (table : List FracRow) (basis : List ℕ) (duals : FracRow) (lifted : Lifted) : Type 0 where
+  pub prices : AreLiftedPrices t keeps duals lifted.prices
+  pub weights : IsSomeAnd lifted.mixed (AreBasicWeights t keeps table basis)
+  pub known : IsSomeAnd lifted.mixed (IsMixedOf t)
+  pub weights_in_order : IsSomeAnd lifted.mixed (IsMixedInOrder t)
+  pub plan : IsSomeAnd lifted.mixed (IsMixedAt t keeps)
+  pub value : IsSomeAnd lifted.mixed (IsWorth t keeps lifted.prices)
+
+-- where no point meets the lines: prices whose worth without costs is above 0, where each leg keeps a pair
+pub record IsLiftedRefusal (t : Tables) (keeps : Domains) (duals : FracRow) (lifted : Lifted) : Type 0 where
+  pub prices : AreLiftedPrices t keeps duals lifted.prices
+  pub no_plan : lifted.mixed ≡ None
+  pub refutes : ((l : ℕ) → ¬ (IsBare t keeps l)) → pos 0 <ℤ worth_of t keeps lifted.prices 0

@@ -1,0 +1,188 @@
+//! Prices and fractional assignments from last tables, by the outline of the subproblem's linear program.
+ghost use Rattle.std.specs.Prelude.{◌≡◌, ℕ, List, None, IfOk, IfErr, MatchResult};
+ghost use Rattle.fleet_model.specs.Kept.{kept_by};
+ghost use Rattle.fleet_model.specs.Schedule.{legs_in};
+ghost use Rattle.simplex_frac.specs.declared.turn.Turn.TheVariants as turns;
+ghost use Rattle.lp_rows.specs.Outline.{IsOutline};
+ghost use Rattle.dual_lift.specs.Readings.{duals_by};
+ghost use Rattle.dual_lift.specs.TooLarge.{IsLiftError};
+ghost use Rattle.price_lift.specs.Duals.{best_duals, refusal_duals, row_duals, sign_duals};
+ghost use Rattle.price_lift.specs.Ends.{Ends, EndsByRow, EndsBySigns};
+ghost use Rattle.price_lift.specs.LastTables.{IsLastBy, IsPointBy, IsRefusalBy, point_excess, prices_excess_by};
+ghost use Rattle.price_lift.specs.Lifted.{AreLiftedPrices, IsLiftedPoint, IsLiftedRefusal};
+ghost use Rattle.price_lift.specs.TooLarge.{best_excess, refusal_excess, row_excess, sign_excess};
+
+use crate::lift::Lifted;
+use crate::pricing::prices_of;
+use crate::weighing::basic_mixed;
+use dual_bound::Prices;
+use dual_lift::{LiftError, Mixture, Reading, duals};
+use fleet_model::{Kept, Tables};
+use lp_rows::Outline;
+use row_store::RowStore;
+use std::alloc::Global;
+
+/// `lift_best` by the outline of the kept pairs.
+pub fn lift_best_with<R: RowStore>(
+    alloc: Global,
+    table: &R,
+    basis: &[u32],
+    tables: &Tables,
+    kept: &Kept,
+    outline: &Outline,
+) -> Result<Lifted, LiftError>
+    requires outline { IsOutline tables.now (kept_by kept.now) outline.now }
+    requires ends { Ends tables.now (kept_by kept.now) turns.Best (R.content table.now) basis.now }
+    ensures lifted { IfOk result (IsLiftedPoint tables.now (kept_by kept.now) (R.content table.now) basis.now (best_duals tables.now (R.content table.now))) }
+    ensures fits { IfOk result (λ _. best_excess tables.now (kept_by kept.now) (R.content table.now) basis.now ≡ None) }
+    ensures too_large { IfErr result (IsLiftError (best_excess tables.now (kept_by kept.now) (R.content table.now) basis.now)) }
+{
+    let mixture = Mixture::of(table, outline.column_count())?;
+    let reading = Reading::BothRows(mixture);
+    lift_point(alloc, table, basis, &reading, tables, kept, outline)
+}
+
+/// `lift_refusal` by the outline of the kept pairs.
+pub fn lift_refusal_with<R: RowStore>(
+    alloc: Global,
+    table: &R,
+    basis: &[u32],
+    tables: &Tables,
+    kept: &Kept,
+    outline: &Outline,
+) -> Result<Lifted, LiftError>
+    requires outline { IsOutline tables.now (kept_by kept.now) outline.now }
+    requires ends { Ends tables.now (kept_by kept.now) turns.NoPoint (R.content table.now) basis.now }
+    ensures lifted { IfOk result (IsLiftedRefusal tables.now (kept_by kept.now) (refusal_duals tables.now (R.content table.now))) }
+    ensures fits { IfOk result (λ _. refusal_excess tables.now (R.content table.now) ≡ None) }
+    ensures too_large { IfErr result (IsLiftError (refusal_excess tables.now (R.content table.now))) }
+{
+    lift_none(alloc, table, &Reading::PhaseRow, tables, kept, outline)
+}
+
+/// Prices and a cheapest fractional assignment from a table, with its basis, that steps reach from a subproblem's
+/// lines, and whose signs say that its basic point is a cheapest one. The prices are the numbers of the cost row in the
+/// identity block, with the other sign, over its denominator, in lowest terms. Their worth is the cost of the fractional
+/// assignment, both over their scales (linear duality).
+///
+/// The outline is that of the kept pairs. No number is outgrown on the way; prices, their scale and that of the weights
+/// may pass their limits.
+pub fn lift_best_by_signs<R: RowStore>(
+    alloc: Global,
+    table: &R,
+    basis: &[u32],
+    tables: &Tables,
+    kept: &Kept,
+    outline: &Outline,
+) -> Result<Lifted, LiftError>
+    requires outline { IsOutline tables.now (kept_by kept.now) outline.now }
+    requires ends { EndsBySigns tables.now (kept_by kept.now) (R.content table.now) basis.now }
+    ensures lifted { IfOk result (IsLiftedPoint tables.now (kept_by kept.now) (R.content table.now) basis.now (sign_duals tables.now (R.content table.now))) }
+    ensures fits { IfOk result (λ _. sign_excess tables.now (kept_by kept.now) (R.content table.now) basis.now ≡ None) }
+    ensures too_large { IfErr result (IsLiftError (sign_excess tables.now (kept_by kept.now) (R.content table.now) basis.now)) }
+{
+    lift_point(
+        alloc,
+        table,
+        basis,
+        &Reading::CostRow,
+        tables,
+        kept,
+        outline,
+    )
+}
+
+/// Prices that show that nothing in a subproblem is legal, from a table, with its basis, that steps reach from its
+/// lines, and in which the row of a line refuses all points. The prices are the numbers of that row in the identity
+/// block, by the sign of its right side, over its denominator, in lowest terms. Their worth without costs is above 0
+/// where each leg keeps a pair.
+///
+/// The outline is that of the kept pairs. No number is outgrown on the way; prices and their scale may pass their limits.
+pub fn lift_refusal_by_row<R: RowStore>(
+    alloc: Global,
+    table: &R,
+    basis: &[u32],
+    row: u32,
+    tables: &Tables,
+    kept: &Kept,
+    outline: &Outline,
+) -> Result<Lifted, LiftError>
+    requires outline { IsOutline tables.now (kept_by kept.now) outline.now }
+    requires ends { EndsByRow tables.now (kept_by kept.now) (R.content table.now) basis.now row }
+    ensures lifted { IfOk result (IsLiftedRefusal tables.now (kept_by kept.now) (row_duals tables.now (R.content table.now) row)) }
+    ensures fits { IfOk result (λ _. row_excess tables.now (R.content table.now) row ≡ None) }
+    ensures too_large { IfErr result (IsLiftError (row_excess tables.now (R.content table.now) row)) }
+{
+    let reading = Reading::LineRow { line: row };
+    lift_none(alloc, table, &reading, tables, kept, outline)
+}
+
+// Prices, and the weights of the basic point, where it is a cheapest one.
+fn lift_point<R: RowStore>(
+    alloc: Global,
+    table: &R,
+    basis: &[u32],
+    reading: &Reading,
+    tables: &Tables,
+    kept: &Kept,
+    outline: &Outline,
+) -> Result<Lifted, LiftError>
+    requires outline { IsOutline tables.now (kept_by kept.now) outline.now }
+    requires ends { IsPointBy tables.now (kept_by kept.now) (R.content table.now) basis.now reading.now }
+    ensures { MatchResult result
+        (λ lifted. (point_excess tables.now (kept_by kept.now) (R.content table.now) basis.now reading.now ≡ None)
+        × IsLiftedPoint tables.now (kept_by kept.now) (R.content table.now) basis.now (duals_by (R.content table.now) reading.now (legs_in tables.now)) lifted)
+        (IsLiftError (point_excess tables.now (kept_by kept.now) (R.content table.now) basis.now reading.now)) }
+{
+    let prices = lift_prices(alloc, table, reading, tables, kept, outline)?;
+    let pairs = outline.pairs.as_slice();
+    let mixed = basic_mixed(alloc, table, basis, pairs, outline.column_count())?;
+    Ok(Lifted {
+        prices,
+        mixed: Some(mixed),
+    })
+}
+
+// Prices alone, where no point meets the lines.
+fn lift_none<R: RowStore>(
+    alloc: Global,
+    table: &R,
+    reading: &Reading,
+    tables: &Tables,
+    kept: &Kept,
+    outline: &Outline,
+) -> Result<Lifted, LiftError>
+    requires outline { IsOutline tables.now (kept_by kept.now) outline.now }
+    requires ends { (basis : List ℕ) × IsRefusalBy tables.now (kept_by kept.now) (R.content table.now) basis reading.now }
+    ensures { MatchResult result
+        (λ lifted. (prices_excess_by tables.now (R.content table.now) reading.now ≡ None)
+        × IsLiftedRefusal tables.now (kept_by kept.now) (duals_by (R.content table.now) reading.now (legs_in tables.now)) lifted)
+        (IsLiftError (prices_excess_by tables.now (R.content table.now) reading.now)) }
+{
+    let prices = lift_prices(alloc, table, reading, tables, kept, outline)?;
+    Ok(Lifted {
+        prices,
+        mixed: None,
+    })
+}
+
+// The prices of the dual values that are read so.
+fn lift_prices<R: RowStore>(
+    alloc: Global,
+    table: &R,
+    reading: &Reading,
+    tables: &Tables,
+    kept: &Kept,
+    outline: &Outline,
+) -> Result<Prices, LiftError>
+    requires outline { IsOutline tables.now (kept_by kept.now) outline.now }
+    requires ends { (basis : List ℕ) × IsLastBy tables.now (kept_by kept.now) (R.content table.now) basis reading.now }
+    ensures { MatchResult result
+        (λ prices. (prices_excess_by tables.now (R.content table.now) reading.now ≡ None)
+        × AreLiftedPrices tables.now (kept_by kept.now) (duals_by (R.content table.now) reading.now (legs_in tables.now)) prices)
+        (IsLiftError (prices_excess_by tables.now (R.content table.now) reading.now)) }
+{
+    let columns = outline.column_count();
+    let duals = duals(alloc, table, reading, columns, outline.first_priced_line())?;
+    prices_of(alloc, tables, outline, duals)
+}
