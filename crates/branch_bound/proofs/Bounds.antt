@@ -13,12 +13,12 @@ use Rattle.fleet_model.specs.Kept.{Domains, IsKeptAssignment, IsSole}
 use Rattle.fleet_model.specs.Legal.{IsLegal, total_cost}
 use Rattle.fleet_model.specs.Schedule.{fleets_in, leg_on, legs_in}
 use Rattle.fleet_model.specs.declared.tables.Tables.{Tables}
-use Rattle.bound_cert.specs.Bound.{IsBoundIn, IsPriceBound, IsSoleBound, lesser_bound, part}
-use Rattle.bound_cert.specs.Leaves.{has_open}
-use Rattle.bound_cert.specs.Prices.{ArePrices}
-use Rattle.bound_cert.specs.declared.prices.Prices.{Prices}
-use Rattle.bound_cert.specs.declared.trees.Tree.{Tree}
-use Rattle.bound_cert.specs.declared.trees.Tree.TheVariants as tree
+use Rattle.dual_bound.specs.Bound.{IsBoundIn, IsPriceBound, IsSoleBound, lesser_bound, part}
+use Rattle.dual_bound.specs.Leaves.{has_open}
+use Rattle.dual_bound.specs.Prices.{ArePrices}
+use Rattle.dual_bound.specs.declared.prices.Prices.{Prices}
+use Rattle.dual_bound.specs.declared.trees.Tree.{Tree}
+use Rattle.dual_bound.specs.declared.trees.Tree.TheVariants as tree
 use Rattle.cert_check.specs.Nodes.{Node, nodes_in}
 use Rattle.cert_check.specs.Rules.{IsSound, Reaches}
 use Rattle.cert_check.specs.Verdicts.{AreSound}

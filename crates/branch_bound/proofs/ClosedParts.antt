@@ -5,14 +5,14 @@ use Rattle.fleet_model.specs.Kept.{Domains, kept_by, narrowed}
 use Rattle.fleet_model.specs.Schedule.{IsPair, leg_on}
 use Rattle.fleet_model.specs.declared.kept.Step.{Step}
 use Rattle.fleet_model.specs.declared.tables.Tables.{Tables}
-use Rattle.bound_cert.specs.Bound.{part}
-use Rattle.bound_cert.specs.OfTables.{IsOfTables}
-use Rattle.bound_cert.specs.Prices.{ArePrices}
-use Rattle.bound_cert.specs.declared.mixed.Mixed.{Mixed}
-use Rattle.bound_cert.specs.declared.prices.Prices.{Prices}
-use Rattle.bound_cert.specs.declared.trees.Cause.{Cause}
-use Rattle.bound_cert.specs.declared.trees.Tree.{Split, Tree, Trim}
-use Rattle.bound_cert.specs.declared.trees.Tree.TheVariants as tree
+use Rattle.dual_bound.specs.Bound.{part}
+use Rattle.dual_bound.specs.OfTables.{IsOfTables}
+use Rattle.dual_bound.specs.Prices.{ArePrices}
+use Rattle.dual_bound.specs.declared.mixed.Mixed.{Mixed}
+use Rattle.dual_bound.specs.declared.prices.Prices.{Prices}
+use Rattle.dual_bound.specs.declared.trees.Cause.{Cause}
+use Rattle.dual_bound.specs.declared.trees.Tree.{Split, Tree, Trim}
+use Rattle.dual_bound.specs.declared.trees.Tree.TheVariants as tree
 use Rattle.cert_check.specs.Nodes.{nodes_in}
 use Rattle.cert_check.specs.Rules.{IsSound}
 use Rattle.cert_check.specs.Verdicts.{AreSound}

@@ -4,18 +4,18 @@ use Rattle.std.specs.List.{Any}
 use Rattle.std.proofs.lemmas.List.Elements.{All-head, All-tail}
 use Rattle.fleet_model.specs.Kept.{Domains, all_pairs}
 use Rattle.fleet_model.specs.declared.tables.Tables.{Tables}
-use Rattle.bound_cert.specs.Bound.{part}
-use Rattle.bound_cert.specs.Leaves.{by_nodes, depth_of, open_nodes, splits_in}
-use Rattle.bound_cert.specs.OfTables.{IsOfTables}
-use Rattle.bound_cert.specs.Prices.{ArePrices}
-use Rattle.bound_cert.specs.Nodes.{nodes_of as tree_nodes}
-use Rattle.bound_cert.specs.WrittenOrder.{InWrittenOrder, IsNodeInOrder}
-use Rattle.bound_cert.specs.declared.nodes.Node.TheVariants as ordered
-use Rattle.bound_cert.specs.declared.mixed.Mixed.{Mixed}
-use Rattle.bound_cert.specs.declared.prices.Prices.{Prices}
-use Rattle.bound_cert.specs.declared.trees.Cause.{Cause}
-use Rattle.bound_cert.specs.declared.trees.Tree.{Tree}
-use Rattle.bound_cert.specs.declared.trees.Tree.TheVariants as tree
+use Rattle.dual_bound.specs.Bound.{part}
+use Rattle.dual_bound.specs.Leaves.{by_nodes, depth_of, open_nodes, splits_in}
+use Rattle.dual_bound.specs.OfTables.{IsOfTables}
+use Rattle.dual_bound.specs.Prices.{ArePrices}
+use Rattle.dual_bound.specs.Nodes.{nodes_of as tree_nodes}
+use Rattle.dual_bound.specs.WrittenOrder.{InWrittenOrder, IsNodeInOrder}
+use Rattle.dual_bound.specs.declared.nodes.Node.TheVariants as ordered
+use Rattle.dual_bound.specs.declared.mixed.Mixed.{Mixed}
+use Rattle.dual_bound.specs.declared.prices.Prices.{Prices}
+use Rattle.dual_bound.specs.declared.trees.Cause.{Cause}
+use Rattle.dual_bound.specs.declared.trees.Tree.{Tree}
+use Rattle.dual_bound.specs.declared.trees.Tree.TheVariants as tree
 use Rattle.cert_check.specs.Nodes.{nodes_in}
 use Rattle.cert_check.specs.Rules.{EndsAtOnce, IsSound, Keeps, OneEnds}
 use Rattle.cert_check.specs.Verdicts.{AreSound}
@@ -33,7 +33,7 @@ use Rattle.branch_bound.proofs.Orders.{does_reach_is, falls_short_is}
 
 module _ (t : Tables) (cost : ℤ) where
   -- what holds of an open leaf and of its prices alone holds of the leaf that it becomes
-  by_reach : (P : Tree → Type 0) (keeps : Domains) (prices : Prices) (why : Cause) → (does_reach t keeps prices cost ≡ true → P (tree.Priced prices)) → (does_reach t keeps prices cost ≡ false → P (tree.Open prices why))
+  pub by_reach : (P : Tree → Type 0) (keeps : Domains) (prices : Prices) (why : Cause) → (does_reach t keeps prices cost ≡ true → P (tree.Priced prices)) → (does_reach t keeps prices cost ≡ false → P (tree.Open prices why))
       → P (closed t cost keeps (tree.Open prices why))
   by_reach P keeps prices why shut stays = by_test (does_reach t keeps prices cost) shut stays
     where
@@ -260,14 +260,14 @@ module _ (t : Tables) (cost : ℤ) where
   found_closed a c keeps tree.Sole found = found
   found_closed a c keeps (tree.Refuted prices) found = found
   found_closed a c keeps (tree.Priced prices) found = found
-  found_closed a c keeps (tree.Open prices why) found = absurd (only (IsFoundAt t a c) (node keeps (tree.Open prices why)) found).ends
+  found_closed a c keeps (tree.Open prices why) found = absurd (only (IsFoundAt t a c) (node keeps (tree.Open prices why)) found).here.ends
   found_closed a c keeps (tree.Trim' leg fleet p with_pair q without) found =
       by_place (IsFoundAt t a c) _ (nodes_in (part keeps leg fleet true) with_pair) (nodes_in (part keeps leg fleet false) without) found
-      (λ here. absurd here.ends)
+      (λ here. absurd here.here.ends)
       (λ first. any_after (IsFoundAt t a c) _ _ (any_first (IsFoundAt t a c) _ _ (found_closed a c (part keeps leg fleet true) with_pair first)))
       (λ second. any_after (IsFoundAt t a c) _ _ (any_second (IsFoundAt t a c) (nodes_in (part keeps leg fleet true) (closed t cost (part keeps leg fleet true) with_pair)) _ (found_closed a c (part keeps leg fleet false) without second)))
   found_closed a c keeps (tree.Split' leg fleet prices mixed p with_pair q without) found =
       by_place (IsFoundAt t a c) _ (nodes_in (part keeps leg fleet true) with_pair) (nodes_in (part keeps leg fleet false) without) found
-      (λ here. absurd here.ends)
+      (λ here. absurd here.here.ends)
       (λ first. any_after (IsFoundAt t a c) _ _ (any_first (IsFoundAt t a c) _ _ (found_closed a c (part keeps leg fleet true) with_pair first)))
       (λ second. any_after (IsFoundAt t a c) _ _ (any_second (IsFoundAt t a c) (nodes_in (part keeps leg fleet true) (closed t cost (part keeps leg fleet true) with_pair)) _ (found_closed a c (part keeps leg fleet false) without second)))

@@ -1,139 +1,179 @@
--- What becomes of a subproblem, case by case.
-use Rattle.std.proofs.Common.{◌≡◌, ℕ, ◌+◌, ◌<◌, List, [], ◌∷◌, Option, Some, None, IfSome, IsSomeAnd, ℤ, inl, inr, refl, sym, subst, arith}
+-- What becomes of a subproblem that is made, case by case.
+use Rattle.std.proofs.Common.{◌≡◌, ℕ, List, Option, Some, None, IfSome, IsSomeAnd, ℤ, ◌≤ℤ◌, ◌<ℤ◌, inl, inr, ◌⊎◌, refl, sym, ◌∙◌, ap, subst, arith}
 use Rattle.std.proofs.lemmas.Int.{ints}
+use Rattle.frac_row.specs.Ratio.{IsCeiling}
 use Rattle.fleet_model.specs.Kept.{Domains, IsFirstBare, IsKeptAssignment}
 use Rattle.fleet_model.specs.Legal.{IsLegal, total_cost}
 use Rattle.fleet_model.specs.Whole.{KeepAllowed}
 use Rattle.fleet_model.specs.declared.tables.Tables.{Tables}
 use Rattle.fleet_model.proofs.KeptLaws.{sole_is_one}
-use Rattle.bound_cert.specs.Leaves.{by_nodes}
-use Rattle.bound_cert.specs.declared.mixed.Mixed.{Mixed}
-use Rattle.bound_cert.specs.declared.prices.Prices.{Prices}
-use Rattle.bound_cert.specs.declared.trees.Cause.{Cause}
-use Rattle.bound_cert.specs.declared.trees.Cause.TheVariants as cause
-use Rattle.bound_cert.specs.declared.trees.Tree.{Tree}
-use Rattle.bound_cert.specs.declared.trees.Tree.TheVariants as tree
-use Rattle.bound_cert.specs.Fractions.{IsFraction, IsMixedAt, IsWhole}
-use Rattle.bound_cert.specs.OfTables.{IsCauseOf}
-use Rattle.bound_cert.specs.WrittenOrder.{IsCauseInOrder, IsNodeInOrder}
-use Rattle.bound_cert.specs.declared.nodes.Node.TheVariants as ordered
-use Rattle.cert_check.specs.Nodes.{mixed_of}
+use Rattle.dual_bound.specs.Bound.{lesser_bound}
+use Rattle.dual_bound.specs.Worth.{worth_of}
+use Rattle.dual_bound.specs.declared.mixed.Mixed.{Mixed}
+use Rattle.dual_bound.specs.declared.prices.Prices.{Prices}
+use Rattle.dual_bound.specs.declared.trees.Cause.{Cause}
+use Rattle.dual_bound.specs.declared.trees.Cause.TheVariants as cause
+use Rattle.dual_bound.specs.declared.trees.Tree.{Tree}
+use Rattle.dual_bound.specs.declared.trees.Tree.TheVariants as tree
+use Rattle.dual_bound.specs.Fractions.{IsWhole}
+use Rattle.dual_bound.specs.WrittenOrder.{IsNodeInOrder}
+use Rattle.dual_bound.specs.declared.nodes.Node.{Node}
+use Rattle.dual_bound.specs.declared.nodes.Node.TheVariants as ordered
 use Rattle.cert_check.specs.Rules.{Reaches}
-use Rattle.branch_bound.specs.Causes.{IsOpenBy}
-use Rattle.branch_bound.specs.Examined.{IsExamined, IsLeafAt, IsOneSplitMore, IsWholeOffered}
-use Rattle.branch_bound.specs.Found.{IsFoundAt}
-use Rattle.branch_bound.specs.Offers.{IsNoSole, IsOffered, IsOldOrTaken, IsPlanOf, IsSoleOffered}
-use Rattle.branch_bound.specs.Relaxed.{AreBest, AreGood, AreRefuting, IsRelaxed, IsWhyStopped}
+use Rattle.branch_bound.specs.Examined.{IsDoneLeaf, IsExamined, IsFoundHere, IsWholeOffered}
+use Rattle.branch_bound.specs.Found.{EndsAt}
+use Rattle.branch_bound.specs.Made.{CouldBeSplit, IsMadeAs}
+use Rattle.branch_bound.specs.Offers.{IsNoSole, IsOffered, IsPlanOf, IsSoleOffered, IsTaken}
+use Rattle.branch_bound.specs.Relaxed.{AreBest, AreGood, AreRefuting, IsWhyStopped}
 use Rattle.branch_bound.specs.Runs.{IsSearched}
-use Rattle.branch_bound.specs.Search.{Follows, IsBranch, IsFoundIn, IsFoundOrOld, IsNoMore, IsSearch, best_cost}
-use Rattle.branch_bound.specs.Wholes.{FliesParts}
+use Rattle.branch_bound.specs.Search.{IsNoMore, IsPart, IsPlan, cost_of}
+use Rattle.branch_bound.specs.Splits.{IsSplit}
 use Rattle.branch_bound.specs.Trims.{AreSearched}
-use Rattle.branch_bound.specs.Walks.{CouldBeSplit, IsBelowBest}
-use Rattle.branch_bound.specs.declared.examining.Examined.{Examined}
-use Rattle.branch_bound.specs.declared.relaxing.Relaxed.{Relaxed}
+use Rattle.branch_bound.specs.Wholes.{FliesParts}
+use Rattle.branch_bound.specs.Worked.{own_node}
 use Rattle.branch_bound.specs.declared.search.Plan.{Plan}
-use Rattle.branch_bound.specs.declared.search.Search.{Search}
-use Rattle.branch_bound.proofs.Branches.{leaf_branch}
+use Rattle.branch_bound.specs.declared.subproblems.Fraction.{Fraction}
+use Rattle.branch_bound.specs.declared.subproblems.State.{State}
+use Rattle.branch_bound.specs.declared.subproblems.State.TheVariants as state
 use Rattle.branch_bound.proofs.Leaves.{answers_none, bare_sound, open_sound, priced_sound, refuted_sound, sole_sound}
-use Rattle.branch_bound.proofs.Nodes.{all_one, any_here, node}
-use Rattle.branch_bound.proofs.Orders.{no_more_on, no_more_same, reaches_less, reaches_on}
+use Rattle.branch_bound.proofs.Nodes.{all_one}
+use Rattle.branch_bound.proofs.Orders.{lesser_no_more, no_more_on, reaches_less, reaches_on}
+use Rattle.branch_bound.proofs.Parts.{leaf_part}
 use Rattle.branch_bound.proofs.WholePlans.{whole_kept, whole_legal, whole_worth}
 
-pub follows_itself : (s : Search) → Follows s s
-follows_itself s = record { nodes = refl; pivots = refl; cheaper = no_more_same (best_cost s) }
+-- ---- nothing was found
+module _ (t : Tables) (pivots : ℕ) (best : Option Plan) (plan : IfSome best (IsPlan t)) (keeps : Domains) (above : Prices) where
+  -- a leaf
+  at_leaf : (leaf : Tree) → IsDoneLeaf leaf → IsMadeAs t (cost_of best) keeps (own_node leaf) None → AreSearched t keeps leaf
+      → ((final : Option ℤ) → IsNoMore (cost_of best) final → IsPart t pivots final keeps above leaf) → IsExamined t pivots best best keeps above (state.Leaf leaf)
+  at_leaf leaf done made searched part = record {
+    found = None;
+    fresh = done;
+    plan = plan;
+    cheapest = refl;
+    is = made;
+    right = λ final less. (part final less, searched);
+    place = inl refl;
+  }
 
--- a plan that was taken is found at the leaf of its subproblem
-taken_there : (t : Tables) (keeps : Domains) (leaf : Tree) (a : List ℕ) (best : Option Plan) → IsKeptAssignment t keeps a → (IsFoundAt t a (total_cost t a) (node keeps leaf))
-    → IsSomeAnd best (IsPlanOf t a) → IsFoundIn t (node keeps leaf ∷ []) best
-taken_there t keeps leaf a None kept found taken = absurd taken
-taken_there t keeps leaf a (Some plan) kept found taken =
-    any_here (IsFoundAt t plan.assignment plan.cost) (node keeps leaf) [] (subst (λ c. IsFoundAt t plan.assignment c (node keeps leaf)) (sym taken.exact) (subst (λ b. IsFoundAt t b (total_cost t a) (node keeps leaf)) (sym taken.assignment) found))
+  pub bare_leaf : (leg : ℕ) → IsFirstBare t keeps leg → IsExamined t pivots best best keeps above (state.Leaf (tree.Bare leg))
+  bare_leaf leg first = at_leaf (tree.Bare leg) tt refl tt
+      (λ final less. leaf_part t pivots final keeps above (tree.Bare leg) refl refl first.bare.within (all_one (IsNodeInOrder t) (ordered.Bare leg) first.bare.within)
+      (bare_sound t final keeps leg first.bare) (answers_none t final keeps (tree.Bare leg) (λ e. cc)) first)
 
--- the search stands as it stood
-module _ (t : Tables) (s : Search) (search : IsSearch t s) (keeps : Domains) (above : Prices) where
-  leaf_at : (leaf : Tree) → AreSearched t keeps leaf → IsBranch t s s keeps above leaf → IsLeafAt t s s keeps above leaf
-  leaf_at leaf searched branch = record { search = search; follows = follows_itself s; branch = branch; searched = searched }
+  pub refuted_leaf : (prices : Prices) → IsSearched t keeps → AreRefuting t keeps prices → IsExamined t pivots best best keeps above (state.Leaf (tree.Refuted prices))
+  refuted_leaf prices searched refuting = at_leaf (tree.Refuted prices) tt refl searched
+      (λ final less. leaf_part t pivots final keeps above (tree.Refuted prices) refl refl refuting.good.known (all_one (IsNodeInOrder t) (ordered.Refuted prices) refuting.good.in_order)
+      (refuted_sound t final keeps prices refuting.good.proper searched.some_pair refuting.refute) (answers_none t final keeps (tree.Refuted prices) (λ e. cc)) tt)
 
-  pub bare_leaf : (leg : ℕ) → IsFirstBare t keeps leg → IsLeafAt t s s keeps above (tree.Bare leg)
-  bare_leaf leg first = leaf_at (tree.Bare leg) tt
-      (leaf_branch t s s keeps above (tree.Bare leg) refl refl refl refl first.bare.within (all_one (IsNodeInOrder t) (ordered.Bare leg) first.bare.within)
-      (λ final less. bare_sound t final keeps leg first.bare) (λ final less. answers_none t final keeps (tree.Bare leg) (λ e. cc)) first (λ some. absurd (omega (arith, some))) (inl refl) refl)
+  pub priced_leaf : (prices : Prices) (mixed : Mixed) → IsSearched t keeps → AreBest t keeps prices mixed → IsSomeAnd (cost_of best) (Reaches t keeps prices) → IsExamined t pivots best best keeps above (state.Leaf (tree.Priced prices))
+  priced_leaf prices mixed searched is reached = at_leaf (tree.Priced prices) tt (inl (record { reaches = reached; none = refl })) searched
+      (λ final less. leaf_part t pivots final keeps above (tree.Priced prices) refl refl is.good.known (all_one (IsNodeInOrder t) (ordered.Priced prices) is.good.in_order)
+      (priced_sound t final keeps prices is.good.proper searched.some_pair (reaches_on t keeps prices (cost_of best) final reached less)) (answers_none t final keeps (tree.Priced prices) (λ e. cc)) tt)
 
-  pub refuted_leaf : (prices : Prices) → IsSearched t keeps → AreRefuting t keeps prices → IsLeafAt t s s keeps above (tree.Refuted prices)
-  refuted_leaf prices searched refuting = leaf_at (tree.Refuted prices) searched
-      (leaf_branch t s s keeps above (tree.Refuted prices) refl refl refl refl refuting.good.known (all_one (IsNodeInOrder t) (ordered.Refuted prices) refuting.good.in_order)
-      (λ final less. refuted_sound t final keeps prices refuting.good.proper searched.some_pair refuting.refute) (λ final less. answers_none t final keeps (tree.Refuted prices) (λ e. cc)) tt
-      (λ some. absurd (omega (arith, some))) (inl refl) refl)
+  -- a leaf whose run gave no prices
+  pub stopped_leaf : (prices : Prices) (why : Cause) → IsSearched t keeps → AreGood t above → prices ≡ above → IsWhyStopped t keeps pivots why → IsExamined t pivots best best keeps above (state.Leaf (tree.Open prices why))
+  stopped_leaf prices (cause.Nodes mixed) searched good same is = absurd is.stopped
+  stopped_leaf prices (cause.Pivots made) searched good same is =
+      let own : AreGood t prices = subst (AreGood t) (sym same) good in
+      at_leaf (tree.Open prices (cause.Pivots made)) tt (tt, refl) searched
+      (λ final less. leaf_part t pivots final keeps above (tree.Open prices (cause.Pivots made)) refl refl (own.known, tt) (all_one (IsNodeInOrder t) (ordered.Open prices (cause.Pivots made)) (own.in_order, is.in_order))
+      (open_sound t final keeps prices (cause.Pivots made) own.proper searched.some_pair tt tt) (answers_none t final keeps (tree.Open prices (cause.Pivots made)) (λ e. cc)) (record { searched = searched; stopped = is.stopped; nearest = same }))
+  stopped_leaf prices (cause.Grew made row column) searched good same is =
+      let own : AreGood t prices = subst (AreGood t) (sym same) good in
+      at_leaf (tree.Open prices (cause.Grew made row column)) tt (tt, refl) searched
+      (λ final less. leaf_part t pivots final keeps above (tree.Open prices (cause.Grew made row column)) refl refl (own.known, tt) (all_one (IsNodeInOrder t) (ordered.Open prices (cause.Grew made row column)) (own.in_order, is.in_order))
+      (open_sound t final keeps prices (cause.Grew made row column) own.proper searched.some_pair tt tt) (answers_none t final keeps (tree.Open prices (cause.Grew made row column)) (λ e. cc)) (record { searched = searched; stopped = is.stopped; nearest = same }))
+  stopped_leaf prices (cause.Lift step at) searched good same is =
+      let own : AreGood t prices = subst (AreGood t) (sym same) good in
+      at_leaf (tree.Open prices (cause.Lift step at)) tt (tt, refl) searched
+      (λ final less. leaf_part t pivots final keeps above (tree.Open prices (cause.Lift step at)) refl refl (own.known, tt) (all_one (IsNodeInOrder t) (ordered.Open prices (cause.Lift step at)) (own.in_order, is.in_order))
+      (open_sound t final keeps prices (cause.Lift step at) own.proper searched.some_pair tt tt) (answers_none t final keeps (tree.Open prices (cause.Lift step at)) (λ e. cc)) (record { searched = searched; stopped = is.stopped; nearest = same }))
 
-  pub priced_leaf : (prices : Prices) (mixed : Mixed) → IsSearched t keeps → AreBest t keeps prices mixed → IsSomeAnd (best_cost s) (Reaches t keeps prices) → IsLeafAt t s s keeps above (tree.Priced prices)
-  priced_leaf prices mixed searched best reached = leaf_at (tree.Priced prices) searched
-      (leaf_branch t s s keeps above (tree.Priced prices) refl refl refl refl best.good.known (all_one (IsNodeInOrder t) (ordered.Priced prices) best.good.in_order)
-      (λ final less. priced_sound t final keeps prices best.good.proper searched.some_pair (reaches_on t keeps prices (best_cost s) final reached less)) (λ final less. answers_none t final keeps (tree.Priced prices) (λ e. cc)) tt
-      (λ some. absurd (omega (arith, some))) (inl refl) (inl (record { reaches = reached; same = refl })))
-
-  -- a leaf that is open: its cause is of the tables and in order, and where it has a fractional assignment, that is one
-  module _ (prices : Prices) (why : Cause) (good : AreGood t prices) (searched : IsSearched t keeps) where
-    open_leaf : IsCauseOf t why → IsCauseInOrder t why → IfSome (mixed_of why) (IsMixedAt t keeps) → IfSome (mixed_of why) (IsFraction t keeps prices) → IsOpenBy t keeps s.pivots above prices why
-        → (0 < by_nodes why → s.splits ≡ s.nodes) → CouldBeSplit t keeps prices why (best_cost s) → IsLeafAt t s s keeps above (tree.Open prices why)
-    open_leaf known in_order mixed fraction caused spent could = leaf_at (tree.Open prices why) searched
-        (leaf_branch t s s keeps above (tree.Open prices why) refl refl refl refl (good.known, known) (all_one (IsNodeInOrder t) (ordered.Open prices why) (good.in_order, in_order))
-        (λ final less. open_sound t final keeps prices why good.proper searched.some_pair mixed fraction) (λ final less. answers_none t final keeps (tree.Open prices why) (λ e. cc)) caused spent (inl refl) (could, refl))
-
-  pub nodes_leaf : (prices : Prices) (mixed : Mixed) → IsSearched t keeps → AreBest t keeps prices mixed → ¬ (IsWhole t mixed) → s.splits ≡ s.nodes → IsBelowBest t keeps prices (best_cost s) → IsLeafAt t s s keeps above (tree.Open prices (cause.Nodes mixed))
-  nodes_leaf prices mixed searched best partial spent below =
-      open_leaf prices (cause.Nodes mixed) best.good searched best.known best.in_order best.mixed_at (record { partial = partial; value = best.value }) tt (λ some. spent) below
-
-  pub stopped_leaf : (prices : Prices) (why : Cause) → IsSearched t keeps → AreGood t above → prices ≡ above → IsWhyStopped t keeps s.pivots why → IsLeafAt t s s keeps above (tree.Open prices why)
-  stopped_leaf prices (cause.Nodes mixed) searched good same why = absurd why.stopped
-  stopped_leaf prices (cause.Pivots made) searched good same why =
-      open_leaf prices (cause.Pivots made) (subst (AreGood t) (sym same) good) searched tt why.in_order tt tt (record { searched = searched; stopped = why.stopped; nearest = same }) (λ some. absurd (omega (arith, some))) tt
-  stopped_leaf prices (cause.Grew made row column) searched good same why =
-      open_leaf prices (cause.Grew made row column) (subst (AreGood t) (sym same) good) searched tt why.in_order tt tt (record { searched = searched; stopped = why.stopped; nearest = same }) (λ some. absurd (omega (arith, some))) tt
-  stopped_leaf prices (cause.Lift step at) searched good same why =
-      open_leaf prices (cause.Lift step at) (subst (AreGood t) (sym same) good) searched tt why.in_order tt tt (record { searched = searched; stopped = why.stopped; nearest = same }) (λ some. absurd (omega (arith, some))) tt
-
--- an assignment was offered
-module _ (t : Tables) (before after : Search) (keeps : Domains) (above : Prices) where
-  -- it is found at the leaf, where it was taken
-  found_at : (a : List ℕ) (leaf : Tree) → IsKeptAssignment t keeps a → IsFoundAt t a (total_cost t a) (node keeps leaf) → IsOffered t a before after → IsFoundOrOld t before after (node keeps leaf ∷ [])
-  found_at a leaf kept found offered = by_case offered.taken
-    where
-      by_case : IsOldOrTaken t a before after → IsFoundOrOld t before after (node keeps leaf ∷ [])
-      by_case (inl old) = inl old
-      by_case (inr taken) = inr (taken_there t keeps leaf a after.best kept found taken.plan)
-
-  pub sole_leaf : IsSoleOffered t keeps before after → IsLeafAt t before after keeps above tree.Sole
-  sole_leaf sole = record {
-    search = sole.offered.search;
-    follows = sole.offered.follows;
-    branch = leaf_branch t before after keeps above tree.Sole refl refl refl sole.offered.splits tt (all_one (IsNodeInOrder t) ordered.Sole tt)
-        (λ final less. sole_sound t final keeps sole.sole) (λ final less. record { answers = λ e a kept legal. answer final less a kept legal }) tt (λ some. absurd (omega (arith, some)))
-        (found_at sole.plan tree.Sole sole.kept (record { kept = sole.kept; ends = tt }) sole.offered) (record { plan = sole.plan; kept = sole.kept; tried = sole.offered.tried });
-    searched = tt;
+  -- it waits to be split
+  pub waiting : (f : Fraction) → IsSplit t keeps f.leg f.fleet f.prices f.mixed → IsCeiling (worth_of t keeps f.prices 1) f.prices.scale f.worth → IfSome (cost_of best) (λ c. f.worth <ℤ c)
+      → IsExamined t pivots best best keeps above (state.Waiting f)
+  waiting f split rounded below = record {
+    found = None;
+    fresh = tt;
+    plan = plan;
+    cheapest = refl;
+    is = (by_cost (cost_of best) below, refl);
+    right = λ final less. record { split = split; rounded = rounded };
+    place = inl refl;
   }
     where
-      answer : (final : Option ℤ) → IsNoMore (best_cost after) final → (a : List ℕ) → IsKeptAssignment t keeps a → IsLegal t a → IsNoMore (Some (total_cost t a)) final
-      answer final less a kept legal =
-          let same : a ≡ sole.plan = sole_is_one t keeps a sole.plan sole.sole kept sole.kept in
-          no_more_on (Some (total_cost t a)) (best_cost after) final (subst (λ b. IsNoMore (Some (total_cost t b)) (best_cost after)) (sym same) (sole.offered.answers (subst (IsLegal t) same legal))) less
+      by_cost : (c : Option ℤ) → IfSome c (λ c. f.worth <ℤ c) → CouldBeSplit t keeps f.prices (cause.Nodes f.mixed) c
+      by_cost None below = tt
+      by_cost (Some c) below = record { least = f.worth; rounded = rounded; short = below }
 
-  pub whole_leaf : (prices : Prices) (mixed : Mixed) → IsSearched t keeps → AreBest t keeps prices mixed → IsWholeOffered t keeps prices before after → IsLeafAt t before after keeps above (tree.Priced prices)
+-- a rounded worth that reaches the cost of a plan
+pub reaches_by : (t : Tables) (keeps : Domains) (prices : Prices) (worth : ℤ) (cost : Option ℤ) → IsCeiling (worth_of t keeps prices 1) prices.scale worth → IsSomeAnd cost (λ c. c ≤ℤ worth) → IsSomeAnd cost (Reaches t keeps prices)
+reaches_by t keeps prices worth None rounded reached = absurd reached
+reaches_by t keeps prices worth (Some c) rounded reached = record { least = worth; rounded = rounded; reaches = reached }
+
+-- ---- an assignment was offered
+module _ (t : Tables) (pivots : ℕ) (before after : Option Plan) (keeps : Domains) (above : Prices) where
+  -- where it was taken, it is found here
+  placed : (a : List ℕ) (node : Node) → IsKeptAssignment t keeps a → EndsAt t keeps (total_cost t a) node → (after ≡ before) ⊎ IsTaken t a before after → (after ≡ before) ⊎ IsFoundHere t keeps node after
+  placed a node kept ends (inl same) = inl same
+  placed a node kept ends (inr taken) = inr (by_plan after taken.plan)
+    where
+      by_plan : (best : Option Plan) → IsSomeAnd best (IsPlanOf t a) → IsFoundHere t keeps node best
+      by_plan None is = absurd is
+      by_plan (Some plan) is = record { kept = subst (IsKeptAssignment t keeps) (sym is.assignment) kept; ends = subst (λ c. EndsAt t keeps c node) (sym is.exact) ends }
+
+  -- a legal assignment that was offered costs no less than the cheapest plan
+  no_less : (a : List ℕ) → IsOffered t a before after → IsLegal t a → IsNoMore (Some (total_cost t a)) (cost_of after)
+  no_less a offered legal =
+      subst (λ c. IsNoMore (Some (total_cost t a)) c) (sym (offered.cheapest ∙ ap (lesser_bound (cost_of before)) (offered.legal legal))) (lesser_second (cost_of before) (total_cost t a))
+    where
+      lesser_second : (best : Option ℤ) (c : ℤ) → IsNoMore (Some c) (lesser_bound best (Some c))
+      lesser_second best c = (lesser_no_more best (Some c)).1
+
+  pub sole_leaf : IsSoleOffered t keeps before after → IsExamined t pivots before after keeps above (state.Leaf tree.Sole)
+  sole_leaf sole = record {
+    found = sole.offered.found;
+    fresh = tt;
+    plan = sole.offered.plan;
+    cheapest = sole.offered.cheapest;
+    is = record {
+      legal = λ a kept legal. subst (λ b. sole.offered.found ≡ Some (total_cost t b)) (sym (one a kept)) (sole.offered.legal (subst (IsLegal t) (one a kept) legal));
+      illegal = λ a kept other. sole.offered.illegal (λ legal. other (subst (IsLegal t) (sym (one a kept)) legal));
+      none = λ other. absurd (other sole.plan sole.kept);
+    };
+    right = λ final less. (leaf_part t pivots final keeps above tree.Sole refl refl tt (all_one (IsNodeInOrder t) ordered.Sole tt) (sole_sound t final keeps sole.sole) (record { answers = λ e a kept legal. answer final less a kept legal }) tt, tt);
+    place = placed sole.plan ordered.Sole sole.kept tt sole.offered.taken;
+  }
+    where
+      one : (a : List ℕ) → IsKeptAssignment t keeps a → a ≡ sole.plan
+      one a kept = sole_is_one t keeps a sole.plan sole.sole kept sole.kept
+
+      answer : (final : Option ℤ) → IsNoMore (cost_of after) final → (a : List ℕ) → IsKeptAssignment t keeps a → IsLegal t a → IsNoMore (Some (total_cost t a)) final
+      answer final less a kept legal =
+          no_more_on (Some (total_cost t a)) (cost_of after) final (subst (λ b. IsNoMore (Some (total_cost t b)) (cost_of after)) (sym (one a kept)) (no_less sole.plan sole.offered (subst (IsLegal t) (one a kept) legal))) less
+
+  pub whole_leaf : (prices : Prices) (mixed : Mixed) → IsSearched t keeps → AreBest t keeps prices mixed → IsWholeOffered t keeps prices before after → IsExamined t pivots before after keeps above (state.Leaf (tree.Priced prices))
   whole_leaf prices mixed searched best whole = record {
-    search = whole.offered.search;
-    follows = whole.offered.follows;
-    branch = leaf_branch t before after keeps above (tree.Priced prices) refl refl refl whole.offered.splits best.good.known (all_one (IsNodeInOrder t) (ordered.Priced prices) best.good.in_order)
-        (λ final less. priced_sound t final keeps prices best.good.proper searched.some_pair (reaches_less t keeps prices (total_cost t whole.plan) final reaches (no_more_on (Some (total_cost t whole.plan)) (best_cost after) final (whole.offered.answers whole.legal) less)))
-        (λ final less. answers_none t final keeps (tree.Priced prices) (λ e. cc)) tt (λ some. absurd (omega (arith, some)))
-        (found_at whole.plan (tree.Priced prices) whole.kept (record { kept = whole.kept; ends = whole.worth }) whole.offered)
-        (inr (record { plan = whole.plan; kept = whole.kept; legal = whole.legal; worth = whole.worth; found = whole.offered.tried.legal whole.legal }));
-    searched = searched;
+    found = whole.offered.found;
+    fresh = tt;
+    plan = whole.offered.plan;
+    cheapest = whole.offered.cheapest;
+    is = inr (record { plan = whole.plan; kept = whole.kept; legal = whole.legal; worth = whole.worth; is = whole.offered.legal whole.legal });
+    right = λ final less. (
+      leaf_part t pivots final keeps above (tree.Priced prices) refl refl best.good.known (all_one (IsNodeInOrder t) (ordered.Priced prices) best.good.in_order)
+          (priced_sound t final keeps prices best.good.proper searched.some_pair (reaches_less t keeps prices (total_cost t whole.plan) final reaches (no_more_on (Some (total_cost t whole.plan)) (cost_of after) final (no_less whole.plan whole.offered whole.legal) less)))
+          (answers_none t final keeps (tree.Priced prices) (λ e. cc)) tt,
+      searched,
+    );
+    place = placed whole.plan (ordered.Priced prices) whole.kept whole.worth whole.offered.taken;
   }
     where
       reaches : Reaches t keeps prices (total_cost t whole.plan)
       reaches = record { least = total_cost t whole.plan; rounded = whole.worth; reaches = omega (arith, ints) }
 
 -- the assignment that a whole fractional assignment is
-pub whole_offered : (t : Tables) (keeps : Domains) (prices : Prices) (mixed : Mixed) (a : List ℕ) (before after : Search) → KeepAllowed t keeps → AreBest t keeps prices mixed → IsWhole t mixed → FliesParts t mixed a
+pub whole_offered : (t : Tables) (keeps : Domains) (prices : Prices) (mixed : Mixed) (a : List ℕ) (before after : Option Plan) → KeepAllowed t keeps → AreBest t keeps prices mixed → IsWhole t mixed → FliesParts t mixed a
     → IsOffered t a before after → IsWholeOffered t keeps prices before after
 whole_offered t keeps prices mixed a before after allowed best whole flies offered = record {
   plan = a;
@@ -143,21 +183,9 @@ whole_offered t keeps prices mixed a before after allowed best whole flies offer
   offered = offered;
 }
 
--- one split more
-pub one_more : (t : Tables) (s : Search) → IsSearch t s → s.splits < s.nodes → IsOneSplitMore t s (record s { splits = s.splits + 1 })
-one_more t s search less = record {
-  search = record { plan = search.plan; within = omega (arith, less) };
-  follows = record { nodes = refl; pivots = refl; cheaper = no_more_same (best_cost s) };
-  best = refl;
-  splits = omega arith;
-}
+-- where nothing was offered, the best plan is that from before
+pub after_no_sole : (t : Tables) (pivots : ℕ) (before after : Option Plan) (keeps : Domains) (above : Prices) (made : State) → IsNoSole t keeps before after → IsExamined t pivots before before keeps above made → IsExamined t pivots before after keeps above made
+after_no_sole t pivots before after keeps above made none is = subst (λ s. IsExamined t pivots before s keeps above made) (sym none.same) is
 
--- where nothing was offered, the search stands as it stood
-pub after_no_sole : (t : Tables) (before after : Search) (keeps : Domains) (above : Prices) (leaf : Tree) → IsNoSole t keeps before after → IsLeafAt t before before keeps above leaf → IsLeafAt t before after keeps above leaf
-after_no_sole t before after keeps above leaf none at = subst (λ s. IsLeafAt t before s keeps above leaf) (sym none.same) at
-
-pub relaxed_before : (t : Tables) (before after : Search) (keeps : Domains) (found : Relaxed) → IsNoSole t keeps before after → IsRelaxed t keeps after.pivots found → IsRelaxed t keeps before.pivots found
-relaxed_before t before after keeps found none is = subst (λ s. IsRelaxed t keeps s.pivots found) none.same is
-
-pub examined_before : (t : Tables) (before between after : Search) (keeps : Domains) (above : Prices) (found : Examined) → IsNoSole t keeps before between → IsExamined t between after keeps above found → IsExamined t before after keeps above found
-examined_before t before between after keeps above found none is = subst (λ s. IsExamined t s after keeps above found) none.same is
+pub before_no_sole : (t : Tables) (pivots : ℕ) (before between after : Option Plan) (keeps : Domains) (above : Prices) (made : State) → IsNoSole t keeps before between → IsExamined t pivots between after keeps above made → IsExamined t pivots before after keeps above made
+before_no_sole t pivots before between after keeps above made none is = subst (λ s. IsExamined t pivots s after keeps above made) none.same is

@@ -6,8 +6,8 @@ use Rattle.fleet_model.specs.Counts.{fleet_at}
 use Rattle.fleet_model.specs.Schedule.{fleets_in, legs_in}
 use Rattle.fleet_model.specs.declared.tables.Tables.{Tables}
 use Rattle.fleet_model.proofs.SoleFleets.{earlier_fleet, last_fleet}
-use Rattle.bound_cert.specs.Fractions.{IsWholeLeg, IsWholePair}
-use Rattle.bound_cert.specs.declared.mixed.Mixed.{Mixed}
+use Rattle.dual_bound.specs.Fractions.{IsWholeLeg, IsWholePair}
+use Rattle.dual_bound.specs.declared.mixed.Mixed.{Mixed}
 use Rattle.branch_bound.specs.Causes.{ComesBefore}
 use Rattle.branch_bound.specs.Wholes.{FliesPart, IsFirstPartialOn, IsSplitPair}
 

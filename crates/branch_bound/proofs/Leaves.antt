@@ -3,20 +3,20 @@ use Rattle.std.proofs.Common.{Box, Global, ◌≡◌, ◌≢◌, ℕ, Option, If
 use Rattle.std.proofs.lemmas.Int.{ints}
 use Rattle.fleet_model.specs.Kept.{Domains, IsBare, IsSole}
 use Rattle.fleet_model.specs.declared.tables.Tables.{Tables}
-use Rattle.bound_cert.specs.Prices.{ArePrices}
-use Rattle.bound_cert.specs.Worth.{worth_of}
-use Rattle.bound_cert.specs.declared.mixed.Mixed.{Mixed}
-use Rattle.bound_cert.specs.declared.prices.Prices.{Prices}
-use Rattle.bound_cert.specs.declared.trees.Cause.{Cause}
-use Rattle.bound_cert.specs.declared.trees.Tree.{Split, Tree, Trim}
-use Rattle.bound_cert.specs.declared.trees.Tree.TheVariants as tree
-use Rattle.bound_cert.specs.Fractions.{IsFraction, IsMixedAt, IsWholePair}
+use Rattle.dual_bound.specs.Prices.{ArePrices}
+use Rattle.dual_bound.specs.Worth.{worth_of}
+use Rattle.dual_bound.specs.declared.mixed.Mixed.{Mixed}
+use Rattle.dual_bound.specs.declared.prices.Prices.{Prices}
+use Rattle.dual_bound.specs.declared.trees.Cause.{Cause}
+use Rattle.dual_bound.specs.declared.trees.Tree.{Split, Tree, Trim}
+use Rattle.dual_bound.specs.declared.trees.Tree.TheVariants as tree
+use Rattle.dual_bound.specs.Fractions.{IsFraction, IsMixedAt, IsWholePair}
 use Rattle.cert_check.specs.Nodes.{mixed_of}
 use Rattle.cert_check.specs.Rules.{HaveAllPairs, IsKeptPair, IsSound, Keeps, Reaches}
 use Rattle.cert_check.specs.declared.rules.Rule.{Rule}
 use Rattle.cert_check.specs.declared.rules.Rule.TheVariants as rule
 use Rattle.branch_bound.specs.Causes.{IsFirstPartial}
-use Rattle.branch_bound.specs.Examined.{IsSplit}
+use Rattle.branch_bound.specs.Splits.{IsSplit}
 use Rattle.branch_bound.specs.Found.{AnswersSole}
 use Rattle.branch_bound.proofs.Nodes.{node}
 use Rattle.branch_bound.proofs.PairsKept.{not_one}

@@ -13,18 +13,19 @@ use Rattle.simplex_frac.specs.Outcomes.{IsOutcome}
 use Rattle.simplex_frac.specs.declared.outcome.Outcome.{Outcome}
 use Rattle.simplex_frac.specs.declared.outcome.Outcome.TheVariants as outcome
 use Rattle.simplex_frac.specs.declared.turn.Turn.TheVariants as turns
-use Rattle.bound_cert.specs.Fractions.{IsMixedAt, IsWorth}
-use Rattle.bound_cert.specs.OfTables.{ArePricesOf, IsMixedOf}
-use Rattle.bound_cert.specs.Prices.{ArePrices}
-use Rattle.bound_cert.specs.Worth.{worth_of}
-use Rattle.bound_cert.specs.WrittenOrder.{ArePricesInOrder, IsMixedInOrder}
-use Rattle.bound_cert.specs.declared.mixed.Mixed.{Mixed}
-use Rattle.bound_cert.specs.declared.prices.Prices.{Prices}
+use Rattle.dual_bound.specs.Fractions.{IsMixedAt, IsWorth}
+use Rattle.dual_bound.specs.OfTables.{ArePricesOf, IsMixedOf}
+use Rattle.dual_bound.specs.Prices.{ArePrices}
+use Rattle.dual_bound.specs.Worth.{worth_of}
+use Rattle.dual_bound.specs.WrittenOrder.{ArePricesInOrder, IsMixedInOrder}
+use Rattle.dual_bound.specs.declared.mixed.Mixed.{Mixed}
+use Rattle.dual_bound.specs.declared.prices.Prices.{Prices}
 use Rattle.price_lift.specs.Ends.{Ends}
 use Rattle.price_lift.specs.Laws.{NoRays}
-use Rattle.price_lift.specs.TooLarge.{IsLiftError, best_excess, refusal_excess}
-use Rattle.price_lift.specs.declared.error.LiftError.{LiftError}
-use Rattle.price_lift.specs.declared.error.LiftError.TheVariants as lift
+use Rattle.price_lift.specs.TooLarge.{best_excess, refusal_excess}
+use Rattle.dual_lift.specs.TooLarge.{IsLiftError}
+use Rattle.dual_lift.specs.declared.error.LiftError.{LiftError}
+use Rattle.dual_lift.specs.declared.error.LiftError.TheVariants as lift
 use Rattle.price_lift.specs.declared.lift.Lifted.{Lifted}
 use Rattle.branch_bound.specs.Relaxed.{AreGood, IsAtBest, IsAtNoPoint, IsLiftStopped, IsRelaxed}
 use Rattle.branch_bound.specs.Runs.{HasEnded, RunEnds}

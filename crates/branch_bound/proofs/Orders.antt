@@ -1,5 +1,5 @@
 -- Costs that may not be there, and rounded worths.
-use Rattle.std.proofs.Common.{◌≡◌, Bool, true, false, Option, Some, None, IsSomeAnd, ℤ, pos, ◌+ℤ◌, ◌-ℤ◌, ◌*ℤ◌, ◌≤ℤ◌, ◌<ℤ◌, refl, ◌∙◌, arith}
+use Rattle.std.proofs.Common.{◌≡◌, Bool, true, false, if◌then◌else◌, Option, Some, None, IsSomeAnd, ℤ, pos, ◌+ℤ◌, ◌-ℤ◌, ◌*ℤ◌, ◌≤ℤ◌, ◌<ℤ◌, refl, ◌∙◌, arith}
 use Rattle.std.specs.Prelude.{int_div, int_le, int_lt, int_rem}
 use Rattle.std.proofs.lemmas.Int.{by_lt_z, ints, quot-rem, rem_below}
 use lib.IntN.{*ℤ_comm}
@@ -7,11 +7,12 @@ use Rattle.sums.proofs.Integers.{one-*ℤ, -ℤ-*ℤ}
 use Rattle.sums.proofs.Orders.{factor_le}
 use Rattle.sums.proofs.Signs.{lesser_multiple}
 use Rattle.frac_row.specs.Ratio.{IsCeiling}
-use Rattle.frac_row.proofs.Ceilings.{ceiling_above, ceiling_here}
+use Rattle.frac_row.proofs.Ceilings.{ceiling_above, ceiling_here, same_ceiling}
 use Rattle.fleet_model.specs.Kept.{Domains}
 use Rattle.fleet_model.specs.declared.tables.Tables.{Tables}
-use Rattle.bound_cert.specs.Worth.{worth_of}
-use Rattle.bound_cert.specs.declared.prices.Prices.{Prices}
+use Rattle.dual_bound.specs.Bound.{lesser_bound}
+use Rattle.dual_bound.specs.Worth.{worth_of}
+use Rattle.dual_bound.specs.declared.prices.Prices.{Prices}
 use Rattle.cert_check.specs.Rules.{Reaches}
 use Rattle.branch_bound.specs.Closing.{does_reach}
 use Rattle.branch_bound.specs.Found.{FallsShort}
@@ -26,6 +27,17 @@ no_more_on None b c p q = tt
 no_more_on (Some x) None c p q = absurd p
 no_more_on (Some x) (Some y) None p q = absurd q
 no_more_on (Some x) (Some y) (Some z) p q = omega (arith, ints, p, q)
+
+-- the lesser of two costs is no more than each
+pub lesser_no_more : (a b : Option ℤ) → IsNoMore a (lesser_bound a b) × IsNoMore b (lesser_bound a b)
+lesser_no_more None None = (tt, tt)
+lesser_no_more (Some x) None = (no_more_same (Some x), tt)
+lesser_no_more None (Some y) = (tt, no_more_same (Some y))
+lesser_no_more (Some x) (Some y) = by_test (int_le x y) (λ e. grind (arith, ints)) (λ e. grind (arith, ints))
+  where
+    by_test : (b : Bool) → (b ≡ true → x ≤ℤ y) → (b ≡ false → y ≤ℤ x) → ((if b then x else y) ≤ℤ x) × ((if b then x else y) ≤ℤ y)
+    by_test true p q = (omega (arith, ints), p refl)
+    by_test false p q = (q refl, omega (arith, ints))
 
 -- a rounded worth that reaches a cost reaches each that is no more
 pub reaches_less : (t : Tables) (keeps : Domains) (prices : Prices) (cost : ℤ) (final : Option ℤ) → Reaches t keeps prices cost → IsNoMore (Some cost) final → IsSomeAnd final (Reaches t keeps prices)
@@ -48,7 +60,7 @@ ceiling_exact c d n some e = record {
 }
 
 -- ---- rounded worths
-ceiling_of : (n d : ℤ) → pos 1 ≤ℤ d → (c : ℤ) × IsCeiling n d c
+pub ceiling_of : (n d : ℤ) → pos 1 ≤ℤ d → (c : ℤ) × IsCeiling n d c
 ceiling_of n d some =
     let rest = rem_below n d (omega (arith, ints, some)) in
     by_lt_z (pos 0) (int_rem n d)
@@ -94,3 +106,7 @@ reach_test t keeps prices cost worth ceiling b some is rounded test = rw (← is
         let no_more = factor_le prices.scale (cost -ℤ pos 1) (ceiling -ℤ pos 1) (omega (arith, ints, some)) (omega (arith, ints, reached)) in
         let more : ((cost -ℤ pos 1) *ℤ prices.scale) <ℤ worth = omega (arith, ints, rounded.least, no_more, *ℤ_comm (ceiling -ℤ pos 1) prices.scale, *ℤ_comm (cost -ℤ pos 1) prices.scale) in
         grind (arith, ints, reached, more))
+
+-- a ratio has one rounded worth
+pub one_ceiling : (n d x y : ℤ) → pos 1 ≤ℤ d → IsCeiling n d x → IsCeiling n d y → x ≡ y
+one_ceiling n d x y some first second = omega (arith, ints, same_ceiling n d x y some first second, same_ceiling n d y x some second first)

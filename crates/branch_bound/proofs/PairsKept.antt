@@ -10,9 +10,9 @@ use Rattle.fleet_model.specs.Schedule.{IsPair, fleets_in, leg_on, legs_in}
 use Rattle.fleet_model.specs.declared.kept.Step.{Step}
 use Rattle.fleet_model.specs.declared.limits.TheConstants.{MAX_FLEETS}
 use Rattle.fleet_model.specs.declared.tables.Tables.{Tables}
-use Rattle.bound_cert.specs.Bound.{part}
-use Rattle.bound_cert.specs.declared.faults.TheConstants.{MAX_DEPTH}
-use Rattle.branch_bound.specs.Examined.{KeepsOther}
+use Rattle.dual_bound.specs.Bound.{part}
+use Rattle.dual_bound.specs.declared.trees.TheConstants.{MAX_DEPTH}
+use Rattle.branch_bound.specs.Splits.{KeepsOther}
 
 abbrev one_if : Bool → ℕ
 one_if b = if b then 1 else 0

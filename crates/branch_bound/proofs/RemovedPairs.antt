@@ -1,28 +1,26 @@
 -- The tree of all pairs, from that of the pairs which presolve keeps; and prices of 0.
-use Rattle.std.proofs.Common.{◌≡◌, ℕ, ◌+◌, ◌<◌, false, List, [], ◌∷◌, ◌++◌, All, Result, Ok, Err, IfOk, pos, refl, sym, ap, ◌∙◌, subst, append_assoc, arith}
+use Rattle.std.proofs.Common.{◌≡◌, ℕ, ◌+◌, ◌<◌, false, List, [], ◌∷◌, ◌++◌, All, Option, ℤ, pos, refl, sym, ap, ◌∙◌, subst, append_assoc, arith}
 use Rattle.std.proofs.lemmas.Int.{ints}
 use Rattle.std.proofs.lemmas.List.Elements.{All-cons, All-nil}
-use Rattle.entries.specs.declared.memory.NoMemory.{NoMemory}
 use Rattle.sums.proofs.Places.{get_or-list_below, length-list_below}
 use Rattle.fleet_model.specs.Kept.{Domains, all_pairs}
 use Rattle.fleet_model.specs.Schedule.{fleets_in}
 use Rattle.fleet_model.specs.Use.{last_minute}
 use Rattle.fleet_model.specs.Whole.{KeepAllowed}
 use Rattle.fleet_model.specs.declared.tables.Tables.{Tables}
-use Rattle.bound_cert.specs.OfTables.{IsStepOf}
-use Rattle.bound_cert.specs.Prices.{ArePrices, price_after, price_of, rent_of}
-use Rattle.bound_cert.specs.WrittenOrder.{IsFigure, IsStepInOrder}
-use Rattle.bound_cert.specs.declared.prices.Prices.{Prices}
-use Rattle.bound_cert.specs.declared.trees.Tree.{Tree}
-use Rattle.presolve.specs.Removals.{AreRefuted, AreRemovals, first_place, kept_after, without}
+use Rattle.dual_bound.specs.OfTables.{IsStepOf}
+use Rattle.dual_bound.specs.Prices.{ArePrices, price_after, price_of, rent_of}
+use Rattle.dual_bound.specs.WrittenOrder.{IsFigure, IsStepInOrder}
+use Rattle.dual_bound.specs.declared.prices.Prices.{Prices}
+use Rattle.dual_bound.specs.declared.trees.Tree.{Tree}
+use Rattle.presolve.specs.Removals.{AreRefuted, kept_after, without}
 use Rattle.presolve.specs.declared.trims.Trim.{Trim as Removal}
 use Rattle.branch_bound.specs.Causes.{zero_prices}
 use Rattle.branch_bound.specs.Relaxed.{AreGood}
-use Rattle.branch_bound.specs.Search.{IsBranch}
-use Rattle.branch_bound.specs.Trims.{AreBelow, AreOnTop, AreSearched, IsBelow, IsTrimmed, IsWithin}
-use Rattle.branch_bound.specs.declared.search.Search.{Search}
-use Rattle.branch_bound.proofs.Branches.{trim_branch}
-use Rattle.branch_bound.proofs.SplitTrees.{allowed_part}
+use Rattle.branch_bound.specs.Search.{IsPart}
+use Rattle.branch_bound.specs.Trims.{AreBelow, AreOnTop, AreSearched, IsBelow, IsWithin}
+use Rattle.branch_bound.proofs.Parts.{trim_part}
+use Rattle.branch_bound.proofs.Allowed.{allowed_part}
 
 -- ---- removals
 pub removals_within : (t : Tables) (keeps : Domains) (removals : List Removal) → AreRefuted t keeps removals → All IsWithin removals
@@ -40,22 +38,17 @@ pub allowed_all : (t : Tables) → KeepAllowed t (all_pairs t)
 allowed_all t = record { each = λ p pair kept. kept }
 
 -- the tree of a subproblem, of that of the pairs that are kept after removals
-pub below_branch : (t : Tables) (before after : Search) (keeps : Domains) (above : Prices) (removals : List Removal) (rest whole : Tree) → AreRefuted t keeps removals → AreBelow removals rest whole
-    → IsBranch t before after (kept_after keeps removals) above rest → IsBranch t before after keeps above whole
-below_branch t before after keeps above [] rest whole refuted same branch = subst (IsBranch t before after keeps above) (sym same) branch
-below_branch t before after keeps above (removal ∷ removals) rest whole refuted (inner, below, is) branch =
-    subst (IsBranch t before after keeps above) (sym is.is)
-    (trim_branch t before after keeps above removal is.with_pair is.without refuted.0 is.yes_is
-    (subst (IsBranch t before after (without keeps removal) above) (sym is.no_is) (below_branch t before after (without keeps removal) above removals rest inner refuted.1 below branch)))
+pub below_part : (t : Tables) (pivots : ℕ) (final : Option ℤ) (keeps : Domains) (above : Prices) (removals : List Removal) (rest whole : Tree) → AreRefuted t keeps removals → AreBelow removals rest whole
+    → IsPart t pivots final (kept_after keeps removals) above rest → IsPart t pivots final keeps above whole
+below_part t pivots final keeps above [] rest whole refuted same is = subst (IsPart t pivots final keeps above) (sym same) is
+below_part t pivots final keeps above (removal ∷ removals) rest whole refuted (inner, below, here) is =
+    subst (IsPart t pivots final keeps above) (sym here.is)
+    (trim_part t pivots final keeps above removal here.with_pair here.without refuted.0 here.yes_is
+    (subst (IsPart t pivots final (without keeps removal) above) (sym here.no_is) (below_part t pivots final (without keeps removal) above removals rest inner refuted.1 below is)))
 
--- the tree of all pairs, once the search is done with those that presolve keeps
-pub all_branch : (t : Tables) (before after : Search) (start keeps : Domains) (above : Prices) (removals slice : List Removal) (rest : Tree) (r : Result Tree NoMemory) → start ≡ all_pairs t → slice ≡ removals
-    → keeps ≡ kept_after start slice → above ≡ zero_prices t → AreRefuted t (all_pairs t) removals → IfOk r (AreBelow removals rest) → IsBranch t before after keeps above rest → IfOk r (IsBranch t before after (all_pairs t) (zero_prices t))
-all_branch t before after start keeps above removals slice rest (Ok whole) start_is slice_is keeps_is above_is refuted below branch =
-    let same : keeps ≡ kept_after (all_pairs t) removals = keeps_is ∙ ap (λ k. kept_after k slice) start_is ∙ ap (kept_after (all_pairs t)) slice_is in
-    below_branch t before after (all_pairs t) (zero_prices t) removals rest whole refuted below
-    (subst (λ p. IsBranch t before after (kept_after (all_pairs t) removals) p rest) above_is (subst (λ k. IsBranch t before after k above rest) same branch))
-all_branch t before after start keeps above removals slice rest (Err e) start_is slice_is keeps_is above_is refuted below branch = tt
+-- the pairs that are kept once the removals were taken away, as the code does it
+pub kept_now : (t : Tables) (start keeps : Domains) (removals slice : List Removal) → start ≡ all_pairs t → slice ≡ removals → keeps ≡ kept_after start slice → keeps ≡ kept_after (all_pairs t) removals
+kept_now t start keeps removals slice start_is slice_is keeps_is = keeps_is ∙ ap (λ k. kept_after k slice) start_is ∙ ap (kept_after (all_pairs t)) slice_is
 
 -- the removals stand on top of a tree in which nothing more is removed
 pub on_top : (t : Tables) (keeps : Domains) (removals : List Removal) (rest whole : Tree) → AreBelow removals rest whole → AreSearched t (kept_after keeps removals) rest → AreOnTop t keeps removals whole
@@ -63,13 +56,6 @@ on_top t keeps [] rest whole same searched = subst (AreSearched t keeps) (sym sa
 on_top t keeps (removal ∷ removals) rest whole (inner, below, is) searched =
     subst (AreOnTop t keeps (removal ∷ removals)) (sym is.is)
     (refl, refl, is.yes_is, subst (AreOnTop t (without keeps removal) removals) (sym is.no_is) (on_top t (without keeps removal) removals rest inner below searched))
-
-pub all_trimmed : (t : Tables) (start keeps : Domains) (removals slice : List Removal) (rest : Tree) (r : Result Tree NoMemory) → start ≡ all_pairs t → slice ≡ removals → keeps ≡ kept_after start slice
-    → AreRemovals t (all_pairs t) first_place removals → IfOk r (AreBelow removals rest) → AreSearched t keeps rest → IfOk r (IsTrimmed t)
-all_trimmed t start keeps removals slice rest (Ok whole) start_is slice_is keeps_is given below searched =
-    let same : keeps ≡ kept_after (all_pairs t) removals = keeps_is ∙ ap (λ k. kept_after k slice) start_is ∙ ap (kept_after (all_pairs t)) slice_is in
-    record { removals = removals; given = given; on_top = on_top t (all_pairs t) removals rest whole below (subst (λ k. AreSearched t k rest) same searched) }
-all_trimmed t start keeps removals slice rest (Err e) start_is slice_is keeps_is given below searched = tt
 
 -- one removal more was taken from the end of those that wait
 pub taken_more : (all waiting rest taken : List Removal) (removal : Removal) (tree inner whole : Tree) → all ≡ waiting ++ taken → waiting ≡ rest ++ removal ∷ [] → AreBelow taken tree inner → IsBelow removal inner whole

@@ -5,9 +5,9 @@ use Rattle.std.proofs.lemmas.List.Elements.{All-head}
 use Rattle.sums.proofs.Tests.{by_test}
 use Rattle.fleet_model.specs.Kept.{all_pairs}
 use Rattle.fleet_model.specs.declared.tables.Tables.{Tables}
-use Rattle.bound_cert.specs.Bound.{IsBound, IsInfeasible, IsLowerBound}
-use Rattle.bound_cert.specs.Leaves.{has_open}
-use Rattle.bound_cert.specs.declared.trees.Tree.{Tree}
+use Rattle.dual_bound.specs.Bound.{IsBound, IsInfeasible, IsLowerBound}
+use Rattle.dual_bound.specs.Leaves.{has_open}
+use Rattle.dual_bound.specs.declared.trees.Tree.{Tree}
 use Rattle.cert_check.specs.Rules.{IsSound}
 use Rattle.cert_check.specs.Verdicts.{AreSound, BreaksAt}
 use Rattle.branch_bound.specs.Settled.{IsProvedBy}

@@ -1,126 +1,201 @@
 -- The tree of all pairs when the search is over, closed by the cheapest plan.
-use Rattle.std.proofs.Common.{◌≡◌, ℕ, ◌<◌, ◌≤◌, List, All, Option, Some, None, IfSome, inl, inr, refl, sym, ◌∙◌, ap, subst, arith}
+use Rattle.std.proofs.Common.{◌≡◌, ℕ, ◌<◌, ◌≤◌, List, All, Option, Some, None, IfSome, IsSomeAnd, ℤ, ◌≤ℤ◌, inl, inr, ◌⊎◌, refl, sym, ◌∙◌, ap, subst, arith}
 use Rattle.std.specs.List.{Any}
-use Rattle.fleet_model.specs.Kept.{all_pairs}
+use Rattle.std.specs.List.Sorted.{IsPermutation}
+use Rattle.std.proofs.lemmas.Int.{ints}
+use Rattle.std.proofs.lemmas.List.Elements.{All-contains}
+use Rattle.sums.specs.Places.{list_below}
+use Rattle.fleet_model.specs.Kept.{Domains, all_pairs}
 use Rattle.fleet_model.specs.declared.tables.Tables.{Tables}
-use Rattle.bound_cert.specs.Leaves.{depth_of, open_nodes, splits_in}
-use Rattle.bound_cert.specs.declared.faults.TheConstants.{MAX_DEPTH}
-use Rattle.bound_cert.specs.declared.trees.Tree.{Tree}
-use Rattle.cert_check.specs.Nodes.{Node, nodes_of}
+use Rattle.dual_bound.specs.Leaves.{depth_of, open_nodes, splits_in}
+use Rattle.dual_bound.specs.declared.trees.TheConstants.{MAX_DEPTH}
+use Rattle.dual_bound.specs.OfTables.{IsOfTables}
+use Rattle.dual_bound.specs.declared.nodes.Node.{Node}
+use Rattle.dual_bound.specs.declared.nodes.Node.TheVariants as ordered
+use Rattle.dual_bound.specs.declared.prices.Prices.{Prices}
+use Rattle.dual_bound.specs.declared.trees.Tree.{Tree}
+use Rattle.dual_bound.specs.declared.trees.Tree.TheVariants as tree
+use Rattle.cert_check.specs.Nodes.{Node as TreeNode, nodes_in, nodes_of}
 use Rattle.cert_check.specs.Verdicts.{AreSound}
+use Rattle.presolve.specs.Removals.{kept_after}
 use Rattle.branch_bound.specs.Causes.{zero_prices}
 use Rattle.branch_bound.specs.Closing.{closed, closed_by}
-use Rattle.branch_bound.specs.Found.{IsFoundAt, LeavesGap}
-use Rattle.branch_bound.specs.Search.{Follows, IsBranch, IsFoundIn, IsFoundOrOld, IsNoMore, IsPlan, IsSearch, best_cost, cost_of}
-use Rattle.branch_bound.specs.Settled.{IsProvedBy, plan_of}
-use Rattle.branch_bound.specs.Solved.{IsRight, IsSolved, IsTreeOf, IsWalked, tree_of}
+use Rattle.branch_bound.specs.Found.{AnswersSole, IsEndOf, IsFoundAt, LeavesGap}
+use Rattle.branch_bound.specs.History.{IsAtLevel, IsGrownTree, IsPlaced, IsReachedNode}
+use Rattle.branch_bound.specs.Made.{AreMade}
+use Rattle.branch_bound.specs.Search.{IsPart, cost_of}
+use Rattle.branch_bound.specs.Settled.{IsAllFound, IsProvedBy, plan_of}
+use Rattle.branch_bound.specs.Solved.{IsLeastFirst, IsLeft, IsRight, IsSolved, IsTreeOf, tree_of}
 use Rattle.branch_bound.specs.Trims.{IsTrimmed}
-use Rattle.branch_bound.specs.Walks.{IsWalk}
+use Rattle.branch_bound.specs.Worked.{own_node, worked_at}
 use Rattle.branch_bound.specs.declared.search.Plan.{Plan}
-use Rattle.branch_bound.specs.declared.search.Search.{Search}
 use Rattle.branch_bound.specs.declared.solved.Solved.{Solved}
 use Rattle.branch_bound.specs.declared.solved.Solved.TheVariants as solved
-use Rattle.branch_bound.proofs.Closings.{closed_caused, closed_depth, closed_gaps, closed_known, closed_open, closed_order, closed_soles, closed_sound, closed_splits, closed_trimmed, found_closed}
+use Rattle.branch_bound.proofs.AllNodes.{all_below, all_closed, any_below, at_node, at_nodes, nodes_twice, none_open, searched_below, split_level, splits_below, waiting_level}
+use Rattle.branch_bound.proofs.Closings.{closed_caused, closed_depth, closed_gaps, closed_known, closed_order, closed_soles, closed_sound, closed_splits, closed_trimmed, found_closed}
 use Rattle.branch_bound.proofs.Orders.{no_more_same}
 use Rattle.branch_bound.proofs.PairsKept.{few_pairs}
-
--- where a search begins
-abbrev pub beginning : ℕ → ℕ → Search
-beginning nodes pivots = record { nodes = nodes; pivots = pivots; splits = 0; best = None }
-
-pub begins : (t : Tables) (nodes pivots : ℕ) → IsSearch t (beginning nodes pivots)
-begins t nodes pivots = record { plan = tt; within = omega arith }
+use Rattle.branch_bound.proofs.RemovedPairs.{below_part, on_top}
 
 -- without a plan nothing is below a cost
-no_gaps : (t : Tables) (nodes : List Node) → All (LeavesGap t None) nodes
+no_gaps : (t : Tables) (nodes : List TreeNode) → All (LeavesGap t None) nodes
 no_gaps t nodes k d below = record { gap = λ prices why e. tt }
 
-module _ (t : Tables) (nodes pivots : ℕ) (after : Search) (whole : Tree) (search : IsSearch t after) (follows : Follows (beginning nodes pivots) after)
-    (branch : IsBranch t (beginning nodes pivots) after (all_pairs t) (zero_prices t) whole) (trimmed : IsTrimmed t whole) where
+-- no split passes a level, which each leaf that is open for splits reaches, and the cost of the plan
+level_between : (x y : ℤ) (level : Option ℤ) → IsSomeAnd level (λ l. x ≤ℤ l) → IfSome level (λ l. l ≤ℤ y) → x ≤ℤ y
+level_between x y None up low = absurd up
+level_between x y (Some l) up low = omega (arith, ints, up, low)
+
+level_cost : (x : ℤ) (level cost : Option ℤ) → IsSomeAnd level (λ l. x ≤ℤ l) → IfSome level (λ l. IfSome cost (λ c. l ≤ℤ c)) → IfSome cost (λ c. x ≤ℤ c)
+level_cost x None cost up low = absurd up
+level_cost x (Some l) None up low = tt
+level_cost x (Some l) (Some c) up low = omega (arith, ints, up, low)
+
+least_first : (t : Tables) (level cost : Option ℤ) (whole : Tree) → IfSome level (λ l. IfSome cost (λ c. l ≤ℤ c)) → All (λ x. IsAtLevel t level x.keeps (own_node x.tree)) (nodes_of t whole) → IsLeastFirst t cost whole
+least_first t level cost whole low all = record {
+  waiting = λ split leaf worth other in_split in_leaf its own.
+      level_between worth other level (split_level t level split.keeps split.tree worth (All-contains (λ x. IsAtLevel t level x.keeps (own_node x.tree)) (nodes_of t whole) split all in_split) its)
+      (waiting_level t level leaf.keeps leaf.tree other (All-contains (λ x. IsAtLevel t level x.keeps (own_node x.tree)) (nodes_of t whole) leaf all in_leaf) own);
+  within_cost = λ split worth in_split its.
+      level_cost worth level cost (split_level t level split.keeps split.tree worth (All-contains (λ x. IsAtLevel t level x.keeps (own_node x.tree)) (nodes_of t whole) split all in_split) its) low;
+}
+
+module _ (t : Tables) (nodes pivots : ℕ) (best : Option Plan) (whole : Tree) (is : IsAllFound t nodes pivots best whole) where
+  abbrev root : Domains
+  root = kept_after (all_pairs t) is.removals
+
+  grown : IsGrownTree t root pivots (cost_of best) is.comes.count is.comes.chronicle is.rest
+  grown = is.comes.grown (cost_of best) (no_more_same (cost_of best))
+
+  -- ---- the tree before it is closed
+  all_part : IsPart t pivots (cost_of best) (all_pairs t) (zero_prices t) whole
+  all_part = below_part t pivots (cost_of best) (all_pairs t) (zero_prices t) is.removals is.rest whole is.refuted is.below grown.part
+
+  pub sound : AreSound t (cost_of best) (all_pairs t) whole
+  sound = all_part.sound
+
+  pub known : IsOfTables t whole
+  known = all_part.of_tables
+
+  trimmed : IsTrimmed t whole
+  trimmed = record { removals = is.removals; given = is.given; on_top = on_top t (all_pairs t) is.removals is.rest whole is.below grown.searched }
+
   shallow : depth_of whole ≤ MAX_DEPTH
-  shallow = omega (arith, branch.shallow, few_pairs t (all_pairs t))
+  shallow = omega (arith, all_part.shallow, few_pairs t (all_pairs t))
+
+  splits_are : splits_in whole ≡ is.comes.splits
+  splits_are =
+      splits_below is.removals is.rest whole is.below
+      ∙ nodes_twice is.comes.chronicle.made is.comes.count root is.rest grown.all t is.comes.splits grown.searched is.comes.twice
 
   few : splits_in whole ≤ nodes
-  few = omega (arith, branch.counted, search.within, follows.nodes)
+  few = omega (arith, splits_are, is.comes.few)
 
-  spent : 0 < open_nodes whole → splits_in whole ≡ nodes
-  spent some = omega (arith, branch.all_spent some, branch.counted, follows.nodes)
-
-  less : (best : Option Plan) → after.best ≡ best → IsNoMore (best_cost after) (cost_of best)
-  less best same = subst (λ b. IsNoMore (best_cost after) (cost_of b)) same (no_more_same (best_cost after))
-
-  -- what was asked of the tree before it is closed
-  pub sound_by : (best : Option Plan) → after.best ≡ best → AreSound t (cost_of best) (all_pairs t) whole
-  sound_by best same = branch.sound (cost_of best) (less best same)
-
-  walked_by : (best : Option Plan) → after.best ≡ best → IsWalked t nodes pivots (cost_of best) (closed_by t (cost_of best) whole)
-  walked_by best same = record {
-    left = whole;
-    sound = branch.sound (cost_of best) (less best same);
-    all_spent = spent;
-    caused = branch.caused;
-    walk = subst (λ b. IsWalk t (all_pairs t) None whole (cost_of b)) same branch.walk;
-    closed = refl;
+  are_made : AreMade t (cost_of best) whole
+  are_made = record {
+    count = is.comes.count;
+    made = is.comes.chronicle.made;
+    found = is.comes.chronicle.found;
+    parts = is.comes.chronicle.parts;
+    all = subst (IsPermutation (list_below is.comes.chronicle.made is.comes.count)) (sym (searched_below t (all_pairs t) is.removals is.rest whole is.below grown.searched)) grown.all;
+    each = is.comes.told.each;
+    turns = is.comes.told.turns;
+    best = is.comes.told.cheapest;
   }
 
-  pub tree_by : (best : Option Plan) → after.best ≡ best → IsTreeOf t nodes pivots (cost_of best) (closed_by t (cost_of best) whole)
-  tree_by None same = record {
-    of_tables = branch.of_tables;
-    in_order = branch.in_order;
-    shallow = shallow;
-    sound = sound_by None same;
-    few_splits = few;
-    all_spent = spent;
-    caused = branch.caused;
-    soles = branch.soles None (less None same);
-    gaps = no_gaps t (nodes_of t whole);
-    trimmed = trimmed;
-    walked = walked_by None same;
-  }
-  tree_by (Some plan) same =
-      let sound = sound_by (Some plan) same in
-      let splits = closed_splits t plan.cost (all_pairs t) whole in
+  is_left : IsLeft t pivots (cost_of best) (closed_by t (cost_of best) whole)
+  is_left = record { left = whole; sound = sound; caused = all_part.caused; made = are_made; closed = refl }
+
+  -- what holds of each subproblem that was made holds of all nodes
+  at_all : (P : Domains → Node → Type 0) → ((d : Domains) (prices : Prices) → P d (own_node (tree.Refuted prices))) → ((d : Domains) (leg fleet : ℕ) → P d (ordered.Trim leg fleet))
+      → ((k : ℕ) → k < is.comes.count → P (is.comes.chronicle.made k).keeps (is.comes.chronicle.made k).node) → All (λ x. P x.keeps (own_node x.tree)) (nodes_of t whole)
+  at_all P refuted trim each =
+      all_below (λ x. P x.keeps (own_node x.tree)) refuted (λ d x leg fleet first second e. subst (λ y. P d (own_node y)) (sym e) (trim d leg fleet)) (all_pairs t) is.removals is.rest whole is.below
+      (at_nodes is.comes.chronicle.made is.comes.count root is.rest grown.all (λ w. P w.keeps w.node) each)
+
+  levels : All (λ x. IsAtLevel t is.comes.chronicle.level x.keeps (own_node x.tree)) (nodes_of t whole)
+  levels = at_all (IsAtLevel t is.comes.chronicle.level) (λ d prices. tt) (λ d leg fleet. tt) is.comes.told.levels
+
+  -- ---- once it is closed
+  spent_or_closed : (cost : Option ℤ) → cost ≡ cost_of best → (done : Tree) → AreSound t cost (all_pairs t) done → All (LeavesGap t cost) (nodes_of t done)
+      → (All (λ x. IsReachedNode t cost x.keeps (own_node x.tree)) (nodes_of t whole) → All (λ x. IsReachedNode t cost x.keeps (own_node x.tree)) (nodes_of t done)) → splits_in done ≡ splits_in whole
+      → 0 < open_nodes done → splits_in done ≡ nodes
+  spent_or_closed cost same done fine gaps carry splits some = by_end is.comes.over
+    where
+      by_end : (is.comes.splits ≡ nodes) ⊎ ((k : ℕ) → k < is.comes.count → IsReachedNode t (cost_of best) (is.comes.chronicle.made k).keeps (is.comes.chronicle.made k).node) → splits_in done ≡ nodes
+      by_end (inl spent) = splits ∙ splits_are ∙ spent
+      by_end (inr reached) =
+          let before : All (λ x. IsReachedNode t cost x.keeps (own_node x.tree)) (nodes_of t whole) = at_all (IsReachedNode t cost) (λ d prices. tt) (λ d leg fleet. tt) (subst (λ c. (k : ℕ) → k < is.comes.count → IsReachedNode t c (is.comes.chronicle.made k).keeps (is.comes.chronicle.made k).node) (sym same) reached) in
+          absurd (omega (arith, some, none_open t cost (all_pairs t) done fine gaps (carry before)))
+
+  pub tree_by : (own : Option Plan) → best ≡ own → IsTreeOf t nodes pivots (cost_of own) (closed_by t (cost_of own) whole)
+  tree_by None same =
+      let cost : None ≡ cost_of best = sym (ap cost_of same) in
+      let fine : AreSound t None (all_pairs t) whole = subst (λ c. AreSound t c (all_pairs t) whole) (sym cost) sound in
       record {
-        of_tables = closed_known t plan.cost (all_pairs t) whole branch.of_tables;
-        in_order = closed_order t plan.cost (all_pairs t) whole branch.in_order;
+        of_tables = all_part.of_tables;
+        in_order = all_part.in_order;
+        shallow = shallow;
+        sound = fine;
+        few_splits = few;
+        all_spent = spent_or_closed None cost whole fine (no_gaps t (nodes_of t whole)) (λ all. all) refl;
+        caused = all_part.caused;
+        soles = subst (λ c. All (AnswersSole t c) (nodes_of t whole)) (sym cost) all_part.soles;
+        gaps = no_gaps t (nodes_of t whole);
+        trimmed = trimmed;
+        left = subst (λ c. IsLeft t pivots c (closed_by t c whole)) (sym cost) is_left;
+        least_first = subst (λ c. IsLeastFirst t c whole) (sym cost) (least_first t is.comes.chronicle.level (cost_of best) whole is.comes.told.cost_from levels);
+      }
+  tree_by (Some plan) same =
+      let cost : Some plan.cost ≡ cost_of best = sym (ap cost_of same) in
+      let fine : AreSound t (Some plan.cost) (all_pairs t) whole = subst (λ c. AreSound t c (all_pairs t) whole) (sym cost) sound in
+      let splits = closed_splits t plan.cost (all_pairs t) whole in
+      let gaps = closed_gaps t plan.cost (all_pairs t) whole fine in
+      let shut = closed_sound t plan.cost (all_pairs t) whole fine in
+      record {
+        of_tables = closed_known t plan.cost (all_pairs t) whole all_part.of_tables;
+        in_order = closed_order t plan.cost (all_pairs t) whole all_part.in_order;
         shallow = omega (arith, shallow, closed_depth t plan.cost (all_pairs t) whole);
-        sound = closed_sound t plan.cost (all_pairs t) whole sound;
+        sound = shut;
         few_splits = omega (arith, few, splits);
-        all_spent = λ some. splits ∙ spent (omega (arith, some, closed_open t plan.cost (all_pairs t) whole));
-        caused = closed_caused t plan.cost pivots (all_pairs t) (zero_prices t) whole branch.caused;
-        soles = closed_soles t plan.cost (all_pairs t) whole (branch.soles (Some plan.cost) (less (Some plan) same));
-        gaps = closed_gaps t plan.cost (all_pairs t) whole sound;
+        all_spent = spent_or_closed (Some plan.cost) cost (closed t plan.cost (all_pairs t) whole) shut gaps (all_closed t plan.cost (IsReachedNode t (Some plan.cost)) (λ d prices why reached. tt) (all_pairs t) whole) splits;
+        caused = closed_caused t plan.cost pivots (all_pairs t) (zero_prices t) whole all_part.caused;
+        soles = closed_soles t plan.cost (all_pairs t) whole (subst (λ c. All (AnswersSole t c) (nodes_of t whole)) (sym cost) all_part.soles);
+        gaps = gaps;
         trimmed = closed_trimmed t plan.cost whole trimmed;
-        walked = walked_by (Some plan) same;
+        left = subst (λ c. IsLeft t pivots c (closed_by t c whole)) (sym cost) is_left;
+        least_first = least_first t is.comes.chronicle.level (Some plan.cost) (closed t plan.cost (all_pairs t) whole) (subst (λ c. IfSome is.comes.chronicle.level (λ l. IfSome c (λ x. l ≤ℤ x))) (sym cost) is.comes.told.cost_from)
+            (all_closed t plan.cost (IsAtLevel t is.comes.chronicle.level) (λ d prices why at. tt) (all_pairs t) whole levels);
       }
 
-  pub proved_by : (best : Option Plan) → after.best ≡ best → IsProvedBy t best (closed_by t (cost_of best) whole)
-  proved_by best same =
-      let tree = tree_by best same in
-      record { plan = subst (λ b. IfSome b (IsPlan t)) same search.plan; known = tree.of_tables; sound = tree.sound; soles = tree.soles; gaps = tree.gaps }
+  pub proved_by : IsProvedBy t best (closed_by t (cost_of best) whole)
+  proved_by =
+      let tree = tree_by best refl in
+      record { plan = is.comes.plan; known = tree.of_tables; sound = tree.sound; soles = tree.soles; gaps = tree.gaps }
 
   -- the plan is found in the closed tree
-  found_by : (plan : Plan) → after.best ≡ Some plan → Any (IsFoundAt t plan.assignment plan.cost) (nodes_of t (closed t plan.cost (all_pairs t) whole))
-  found_by plan same = by_case branch.found
+  found_by : (plan : Plan) → best ≡ Some plan → Any (IsFoundAt t plan.assignment plan.cost) (nodes_of t (closed t plan.cost (all_pairs t) whole))
+  found_by plan same =
+      let place : IsPlaced t plan is.comes.count is.comes.chronicle = subst (λ b. IfSome b (λ p. IsPlaced t p is.comes.count is.comes.chronicle)) same is.comes.told.place in
+      found_closed t plan.cost plan.assignment plan.cost (all_pairs t) whole
+      (any_below (IsFoundAt t plan.assignment plan.cost) (all_pairs t) is.removals is.rest whole is.below
+      (found_here (at_node is.comes.chronicle.made is.comes.count root is.rest grown.all (IsEndOf t plan.assignment plan.cost) place.number place.within place.end)))
     where
-      by_case : IsFoundOrOld t (beginning nodes pivots) after (nodes_of t whole) → Any (IsFoundAt t plan.assignment plan.cost) (nodes_of t (closed t plan.cost (all_pairs t) whole))
-      by_case (inl old) = absurd (cc (sym same ∙ old))
-      by_case (inr found) = found_closed t plan.cost plan.assignment plan.cost (all_pairs t) whole (subst (IsFoundIn t (nodes_of t whole)) same found)
+      found_here : Any (λ x. IsEndOf t plan.assignment plan.cost (worked_at x)) (nodes_in root is.rest) → Any (IsFoundAt t plan.assignment plan.cost) (nodes_in root is.rest)
+      found_here (k, x, below, at_k, end) = (k, x, below, at_k, record { here = end })
 
-  pub solved_by : (best : Option Plan) (s : Solved) → after.best ≡ best → IsRight t s → plan_of s ≡ best → tree_of s ≡ closed_by t (cost_of best) whole → IsSolved t nodes pivots s
-  solved_by best (solved.Planned plan cost bound tree) same right plan_is tree_is =
-      let own : after.best ≡ Some (record { assignment = plan; cost = cost }) = same ∙ sym plan_is in
+  pub solved_by : (s : Solved) → IsRight t s → plan_of s ≡ best → tree_of s ≡ closed_by t (cost_of best) whole → IsSolved t nodes pivots s
+  solved_by (solved.Planned plan cost bound tree) right plan_is tree_is =
+      let own : best ≡ Some (record { assignment = plan; cost = cost }) = sym plan_is in
       let closed_is : tree ≡ closed t cost (all_pairs t) whole = tree_is ∙ ap (λ b. closed_by t (cost_of b) whole) (sym plan_is) in
       record {
         right = right;
         proved = subst (IsTreeOf t nodes pivots (Some cost)) (sym closed_is) (tree_by (Some (record { assignment = plan; cost = cost })) own);
         found = subst (λ x. Any (IsFoundAt t plan cost) (nodes_of t x)) (sym closed_is) (found_by (record { assignment = plan; cost = cost }) own);
       }
-  solved_by best (solved.Infeasible tree) same right plan_is tree_is =
-      let own : after.best ≡ None = same ∙ sym plan_is in
+  solved_by (solved.Infeasible tree) right plan_is tree_is =
       let closed_is : tree ≡ whole = tree_is ∙ ap (λ b. closed_by t (cost_of b) whole) (sym plan_is) in
-      record { right = right; proved = subst (IsTreeOf t nodes pivots None) (sym closed_is) (tree_by None own); found = tt }
-  solved_by best (solved.Unsettled bound tree) same right plan_is tree_is =
-      let own : after.best ≡ None = same ∙ sym plan_is in
+      record { right = right; proved = subst (IsTreeOf t nodes pivots None) (sym closed_is) (tree_by None (sym plan_is)); found = tt }
+  solved_by (solved.Unsettled bound tree) right plan_is tree_is =
       let closed_is : tree ≡ whole = tree_is ∙ ap (λ b. closed_by t (cost_of b) whole) (sym plan_is) in
-      record { right = right; proved = subst (IsTreeOf t nodes pivots None) (sym closed_is) (tree_by None own); found = tt }
+      record { right = right; proved = subst (IsTreeOf t nodes pivots None) (sym closed_is) (tree_by None (sym plan_is)); found = tt }

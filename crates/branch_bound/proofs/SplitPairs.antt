@@ -9,13 +9,13 @@ use Rattle.fleet_model.specs.Kept.{Domains}
 use Rattle.fleet_model.specs.Schedule.{IsPair, fleets_in, leg_on}
 use Rattle.fleet_model.specs.declared.parts.Pair.{Pair}
 use Rattle.fleet_model.specs.declared.tables.Tables.{Tables}
-use Rattle.bound_cert.specs.Mixed.{weight_in}
-use Rattle.bound_cert.specs.declared.mixed.Mixed.{Mixed}
-use Rattle.bound_cert.specs.declared.prices.Prices.{Prices}
-use Rattle.bound_cert.specs.Fractions.{IsMixedAt, parts_in, parts_of_leg}
+use Rattle.dual_bound.specs.Mixed.{weight_in}
+use Rattle.dual_bound.specs.declared.mixed.Mixed.{Mixed}
+use Rattle.dual_bound.specs.declared.prices.Prices.{Prices}
+use Rattle.dual_bound.specs.Fractions.{IsMixedAt, parts_in, parts_of_leg}
 use Rattle.cert_check.specs.Rules.{IsKeptPair}
 use Rattle.branch_bound.specs.Causes.{IsFirstPartial}
-use Rattle.branch_bound.specs.Examined.{IsSplit, KeepsOther}
+use Rattle.branch_bound.specs.Splits.{IsSplit, KeepsOther}
 use Rattle.branch_bound.specs.Relaxed.{AreBest}
 use Rattle.branch_bound.specs.Runs.{IsSearched}
 use Rattle.branch_bound.specs.Wholes.{IsSplitPair}

@@ -21,11 +21,11 @@ use Rattle.fleet_model.specs.declared.parts.Pair.{Pair}
 use Rattle.fleet_model.specs.declared.tables.Tables.{Tables}
 use Rattle.fleet_model.proofs.MixedPlans.{legal_is_mixed}
 use Rattle.fleet_model.proofs.WholePlans.{whole_is_legal}
-use Rattle.bound_cert.specs.Mixed.{weight_in}
-use Rattle.bound_cert.specs.Worth.{worth_of}
-use Rattle.bound_cert.specs.declared.mixed.Mixed.{Mixed}
-use Rattle.bound_cert.specs.declared.prices.Prices.{Prices}
-use Rattle.bound_cert.specs.Fractions.{IsEnd, IsMixedAt, IsWhole, IsWorth, parts_in, parts_of_leg}
+use Rattle.dual_bound.specs.Mixed.{weight_in}
+use Rattle.dual_bound.specs.Worth.{worth_of}
+use Rattle.dual_bound.specs.declared.mixed.Mixed.{Mixed}
+use Rattle.dual_bound.specs.declared.prices.Prices.{Prices}
+use Rattle.dual_bound.specs.Fractions.{IsEnd, IsMixedAt, IsWhole, IsWorth, parts_in, parts_of_leg}
 use Rattle.branch_bound.specs.Wholes.{FliesParts, HasFleets}
 use Rattle.branch_bound.proofs.Orders.{ceiling_exact}
 

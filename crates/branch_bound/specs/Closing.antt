@@ -2,11 +2,11 @@
 use Rattle.std.specs.Prelude.{true, false, Bool, Option, Some, None, if◌then◌else◌, ℤ, pos, ◌-ℤ◌, ◌*ℤ◌, int_lt}
 use Rattle.fleet_model.specs.Kept.{Domains, all_pairs}
 use Rattle.fleet_model.specs.declared.tables.Tables.{Tables}
-use Rattle.bound_cert.specs.Bound.{part}
-use Rattle.bound_cert.specs.Worth.{worth_of}
-use Rattle.bound_cert.specs.declared.prices.Prices.{Prices}
-use Rattle.bound_cert.specs.declared.trees.Tree.{Tree}
-use Rattle.bound_cert.specs.declared.trees.Tree.TheVariants as tree
+use Rattle.dual_bound.specs.Bound.{part}
+use Rattle.dual_bound.specs.Worth.{worth_of}
+use Rattle.dual_bound.specs.declared.prices.Prices.{Prices}
+use Rattle.dual_bound.specs.declared.trees.Tree.{Tree}
+use Rattle.dual_bound.specs.declared.trees.Tree.TheVariants as tree
 
 -- the rounded worth of prices reaches a cost: they are worth more than one cost unit less
 abbrev pub does_reach : Tables → Domains → Prices → ℤ → Bool

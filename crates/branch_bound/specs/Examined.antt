@@ -1,70 +1,67 @@
--- What becomes of a subproblem: a leaf of the tree, or a split.
-use Rattle.std.specs.Prelude.{◌≡◌, ◌≢◌, ℕ, suc, ◌<◌, List}
+-- What becomes of a subproblem that is made.
+use Rattle.std.specs.Prelude.{◌≡◌, ℕ, ◌⊎◌, List, ⊤, Option, IfSome, IsSomeAnd, ℤ}
 use Rattle.frac_row.specs.Ratio.{IsCeiling}
 use Rattle.fleet_model.specs.Kept.{Domains, IsKeptAssignment}
 use Rattle.fleet_model.specs.Legal.{IsLegal, total_cost}
-use Rattle.fleet_model.specs.Schedule.{IsPair, fleets_in, leg_on}
 use Rattle.fleet_model.specs.declared.tables.Tables.{Tables}
-use Rattle.bound_cert.specs.Worth.{worth_of}
-use Rattle.bound_cert.specs.declared.mixed.Mixed.{Mixed}
-use Rattle.bound_cert.specs.declared.prices.Prices.{Prices}
-use Rattle.bound_cert.specs.declared.trees.Tree.{Tree}
-use Rattle.bound_cert.specs.Fractions.{IsFraction}
-use Rattle.cert_check.specs.Rules.{IsKeptPair}
-use Rattle.branch_bound.specs.Causes.{IsFirstPartial}
+use Rattle.dual_bound.specs.Bound.{lesser_bound}
+use Rattle.dual_bound.specs.Worth.{worth_of}
+use Rattle.dual_bound.specs.declared.nodes.Node.{Node}
+use Rattle.dual_bound.specs.declared.prices.Prices.{Prices}
+use Rattle.dual_bound.specs.declared.trees.Cause.{Cause}
+use Rattle.dual_bound.specs.declared.trees.Cause.TheVariants as cause
+use Rattle.dual_bound.specs.declared.trees.Tree.{Tree}
+use Rattle.dual_bound.specs.declared.trees.Tree.TheVariants as tree
+use Rattle.branch_bound.specs.Found.{IsEndOf}
+use Rattle.branch_bound.specs.Made.{IsMadeAs}
 use Rattle.branch_bound.specs.Offers.{IsOffered}
-use Rattle.branch_bound.specs.Relaxed.{AreBest}
-use Rattle.branch_bound.specs.Runs.{IsSearched}
-use Rattle.branch_bound.specs.Search.{Follows, IsBranch, IsSearch, best_cost}
-use Rattle.branch_bound.specs.Trims.{AreSearched}
-use Rattle.branch_bound.specs.Walks.{IsBelowBest}
-use Rattle.branch_bound.specs.declared.examining.Examined.{Examined}
-use Rattle.branch_bound.specs.declared.examining.Examined.TheVariants as examined
-use Rattle.branch_bound.specs.declared.search.Search.{Search}
+use Rattle.branch_bound.specs.Search.{IsNoMore, IsPlan, IsRight, cost_of, node_of}
+use Rattle.branch_bound.specs.declared.search.Plan.{Plan}
+use Rattle.branch_bound.specs.declared.subproblems.State.{State}
+use Rattle.branch_bound.specs.declared.subproblems.State.TheVariants as state
 
--- a search after one more split was made
-pub record IsOneSplitMore (t : Tables) (before after : Search) : Type 0 where
-  pub search : IsSearch t after
-  pub follows : Follows before after
-  pub best : after.best ≡ before.best
-  pub splits : after.splits ≡ suc before.splits
+-- a leaf that is no longer worked: its run gave no prices, or more than them isn't asked for
+abbrev pub IsStoppedBy : Cause → Type 0
+IsStoppedBy (cause.Nodes mixed) = ⊥
+IsStoppedBy (cause.Pivots made) = ⊤
+IsStoppedBy (cause.Grew made row column) = ⊤
+IsStoppedBy (cause.Lift step at) = ⊤
 
--- a leg keeps another fleet beside this one
-pub record KeepsOther (t : Tables) (keeps : Domains) (leg fleet : ℕ) : Type 0 where
-  pub other : ℕ
-  pub known : other < fleets_in t
-  pub kept : IsKeptPair keeps leg other
-  pub differs : other ≢ fleet
+abbrev pub IsDoneLeaf : Tree → Type 0
+IsDoneLeaf (tree.Bare leg) = ⊤
+IsDoneLeaf tree.Sole = ⊤
+IsDoneLeaf (tree.Refuted prices) = ⊤
+IsDoneLeaf (tree.Priced prices) = ⊤
+IsDoneLeaf (tree.Open prices why) = IsStoppedBy why
+IsDoneLeaf (tree.Trim' leg fleet p with_pair q without) = ⊥
+IsDoneLeaf (tree.Split' leg fleet prices mixed p with_pair q without) = ⊥
 
--- a subproblem that may be split by a pair
-pub record IsSplit (t : Tables) (keeps : Domains) (leg fleet : ℕ) (prices : Prices) (mixed : Mixed) : Type 0 where
-  pub searched : IsSearched t keeps
-  pub best : AreBest t keeps prices mixed
-  pub fraction : IsFraction t keeps prices mixed
-  pub first : IsFirstPartial t mixed leg fleet
-  pub pair : IsPair t (leg_on leg fleet)
-  pub kept : IsKeptPair keeps leg fleet
-  pub other : KeepsOther t keeps leg fleet
+-- a subproblem that was just made is a leaf, or waits to be split
+abbrev pub IsFresh : State → Type 0
+IsFresh (state.Leaf leaf) = IsDoneLeaf leaf
+IsFresh (state.Waiting f) = ⊤
+IsFresh (state.Split f) = ⊥
 
--- a leaf with the search after it
-pub record IsLeafAt (t : Tables) (before after : Search) (keeps : Domains) (above : Prices) (leaf : Tree) : Type 0 where
-  pub search : IsSearch t after
-  pub follows : Follows before after
-  pub branch : IsBranch t before after keeps above leaf
-  pub searched : AreSearched t keeps leaf
+-- the cheapest plan, if any, is found in a subproblem
+abbrev pub IsFoundHere : Tables → Domains → Node → Option Plan → Type 0
+IsFoundHere t keeps node best = IsSomeAnd best (λ plan. IsEndOf t plan.assignment plan.cost (record { keeps = keeps; node = node }))
 
--- what becomes of a subproblem
-abbrev pub IsExamined : Tables → Search → Search → Domains → Prices → Examined → Type 0
-IsExamined t before after keeps above (examined.Leaf leaf) = IsLeafAt t before after keeps above leaf
-IsExamined t before after keeps above (examined.Split leg fleet prices mixed) =
-    IsOneSplitMore t before after × IsSplit t keeps leg fleet prices mixed × IsBelowBest t keeps prices (best_cost before)
+-- A subproblem was made, whose nearest split above has these prices. Before and after it this is the cheapest plan.
+pub record IsExamined (t : Tables) (pivots : ℕ) (before after : Option Plan) (keeps : Domains) (above : Prices) (made : State) : Type 0 where
+  pub found : Option ℤ
+  pub fresh : IsFresh made
+  pub plan : IfSome after (IsPlan t)
+  pub cheapest : cost_of after ≡ lesser_bound (cost_of before) found
+  pub is : IsMadeAs t (cost_of before) keeps (node_of made) found
+  pub right : (final : Option ℤ) → IsNoMore (cost_of after) final → IsRight t pivots final keeps above made
+  pub place : (after ≡ before) ⊎ IsFoundHere t keeps (node_of made) after
 
--- what becomes of a subproblem whose best fractional assignment is known, whatever the prices above
-abbrev pub IsBounded : Tables → Search → Search → Domains → Examined → Type 0
-IsBounded t before after keeps examined = (above : Prices) → IsExamined t before after keeps above examined
+-- the same of a subproblem whose best fractional assignment is known, whatever the pivots and the prices above
+abbrev pub IsBounded : Tables → Option Plan → Option Plan → Domains → State → Type 0
+IsBounded t before after keeps made = (pivots : ℕ) (above : Prices) → IsExamined t pivots before after keeps above made
 
 -- a legal assignment of kept pairs that costs what prices are worth was offered
-pub record IsWholeOffered (t : Tables) (keeps : Domains) (prices : Prices) (before after : Search) : Type 0 where
+pub record IsWholeOffered (t : Tables) (keeps : Domains) (prices : Prices) (before after : Option Plan) : Type 0 where
   pub plan : List ℕ
   pub kept : IsKeptAssignment t keeps plan
   pub legal : IsLegal t plan

@@ -4,27 +4,33 @@ use Rattle.frac_row.specs.Ratio.{IsCeiling}
 use Rattle.fleet_model.specs.Kept.{Domains, IsKeptAssignment}
 use Rattle.fleet_model.specs.Legal.{IsLegal, total_cost}
 use Rattle.fleet_model.specs.declared.tables.Tables.{Tables}
-use Rattle.bound_cert.specs.Worth.{worth_of}
-use Rattle.bound_cert.specs.declared.prices.Prices.{Prices}
-use Rattle.bound_cert.specs.declared.trees.Cause.{Cause}
-use Rattle.bound_cert.specs.declared.trees.Tree.{Tree}
-use Rattle.bound_cert.specs.declared.trees.Tree.TheVariants as tree
+use Rattle.dual_bound.specs.Worth.{worth_of}
+use Rattle.dual_bound.specs.declared.prices.Prices.{Prices}
+use Rattle.dual_bound.specs.declared.trees.Cause.{Cause}
+use Rattle.dual_bound.specs.declared.trees.Tree.TheVariants as tree
+use Rattle.dual_bound.specs.declared.nodes.Node.{Node as Leaf}
+use Rattle.dual_bound.specs.declared.nodes.Node.TheVariants as leaf
 use Rattle.cert_check.specs.Nodes.{Node}
+use Rattle.branch_bound.specs.Worked.{Worked, worked_at}
 
 -- a leaf at which a plan of this cost is found: its subproblem's one assignment, or prices that are worth just that
-abbrev pub EndsAt : Tables → Domains → ℤ → Tree → Type 0
-EndsAt t keeps cost (tree.Bare leg) = ⊥
-EndsAt t keeps cost tree.Sole = ⊤
-EndsAt t keeps cost (tree.Refuted prices) = ⊥
-EndsAt t keeps cost (tree.Priced prices) = IsCeiling (worth_of t keeps prices 1) prices.scale cost
-EndsAt t keeps cost (tree.Open prices why) = ⊥
-EndsAt t keeps cost (tree.Trim' leg fleet p with_pair q without) = ⊥
-EndsAt t keeps cost (tree.Split' leg fleet prices mixed p with_pair q without) = ⊥
+abbrev pub EndsAt : Tables → Domains → ℤ → Leaf → Type 0
+EndsAt t keeps cost (leaf.Bare leg) = ⊥
+EndsAt t keeps cost leaf.Sole = ⊤
+EndsAt t keeps cost (leaf.Refuted prices) = ⊥
+EndsAt t keeps cost (leaf.Priced prices) = IsCeiling (worth_of t keeps prices 1) prices.scale cost
+EndsAt t keeps cost (leaf.Open prices why) = ⊥
+EndsAt t keeps cost (leaf.Trim leg fleet) = ⊥
+EndsAt t keeps cost (leaf.Split leg fleet prices mixed) = ⊥
 
--- a plan lies in the subproblem of a leaf, and is found there
+-- a plan lies in a subproblem, and is found there
+pub record IsEndOf (t : Tables) (plan : List ℕ) (cost : ℤ) (here : Worked) : Type 0 where
+  pub kept : IsKeptAssignment t here.keeps plan
+  pub ends : EndsAt t here.keeps cost here.node
+
+-- a plan is found at a node of a tree
 pub record IsFoundAt (t : Tables) (plan : List ℕ) (cost : ℤ) (node : Node) : Type 0 where
-  pub kept : IsKeptAssignment t node.keeps plan
-  pub ends : EndsAt t node.keeps cost node.tree
+  pub here : IsEndOf t plan cost (worked_at node)
 
 -- where the one assignment of a sole leaf is legal, there is a plan that costs no more
 pub record AnswersSole (t : Tables) (cost : Option ℤ) (node : Node) : Type 0 where

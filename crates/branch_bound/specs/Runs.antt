@@ -10,7 +10,7 @@ use Rattle.simplex_frac.specs.Outcomes.{IsOutcome}
 use Rattle.simplex_frac.specs.declared.outcome.Outcome.{Outcome}
 use Rattle.simplex_frac.specs.declared.outcome.Outcome.TheVariants as outcome
 use Rattle.price_lift.specs.TooLarge.{best_excess, refusal_excess}
-use Rattle.price_lift.specs.declared.error.Excess.{Excess}
+use Rattle.dual_lift.specs.declared.error.Excess.{Excess}
 
 -- a subproblem that is searched: each leg keeps a pair, and some leg two or more
 pub record IsSearched (t : Tables) (keeps : Domains) : Type 0 where

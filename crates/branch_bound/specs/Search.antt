@@ -1,23 +1,35 @@
--- Where a search stands before and after a part of it, and the tree that the part makes.
-use Rattle.std.specs.Prelude.{Box, ◌≡◌, ℕ, ◌+◌, ◌<◌, ◌≤◌, ◌⊎◌, true, false, List, All, Any, ⊤, Option, Some, None, IfSome, IsSomeAnd, ℤ, ◌≤ℤ◌}
-use Rattle.std.specs.declared.alloc.Global.{Global}
+-- Plans, and the lists of a search: what is known of each subproblem in them.
+use Rattle.std.specs.Prelude.{◌≡◌, ℕ, ◌<◌, ◌≤◌, Bool, List, All, length, slice_index_or, ⊤, Option, Some, None, IfSome, IsSomeAnd, ℤ, ◌≤ℤ◌}
+use Rattle.frac_row.specs.Ratio.{IsCeiling}
 use Rattle.fleet_model.specs.Kept.{Domains, pairs_kept}
 use Rattle.fleet_model.specs.Legal.{IsLegal, total_cost}
+use Rattle.fleet_model.specs.Schedule.{IsPair, leg_on}
+use Rattle.fleet_model.specs.declared.kept.Step.{Step}
+use Rattle.fleet_model.specs.declared.parts.Pair.{Pair}
 use Rattle.fleet_model.specs.declared.tables.Tables.{Tables}
-use Rattle.bound_cert.specs.Bound.{part}
-use Rattle.bound_cert.specs.Leaves.{depth_of, open_nodes, splits_in}
-use Rattle.bound_cert.specs.OfTables.{IsOfTables}
-use Rattle.bound_cert.specs.WrittenOrder.{InWrittenOrder}
-use Rattle.bound_cert.specs.declared.mixed.Mixed.{Mixed}
-use Rattle.bound_cert.specs.declared.prices.Prices.{Prices}
-use Rattle.bound_cert.specs.declared.trees.Tree.{Split, Tree}
-use Rattle.cert_check.specs.Nodes.{Node, nodes_in}
+use Rattle.dual_bound.specs.Leaves.{depth_of}
+use Rattle.dual_bound.specs.OfTables.{IsOfTables}
+use Rattle.dual_bound.specs.Worth.{worth_of}
+use Rattle.dual_bound.specs.WrittenOrder.{InWrittenOrder}
+use Rattle.dual_bound.specs.declared.nodes.Node.{Node}
+use Rattle.dual_bound.specs.declared.nodes.Node.TheVariants as node
+use Rattle.dual_bound.specs.declared.prices.Prices.{Prices}
+use Rattle.dual_bound.specs.declared.trees.Cause.TheVariants as cause
+use Rattle.dual_bound.specs.declared.trees.Tree.{Tree}
+use Rattle.dual_bound.specs.declared.trees.Tree.TheVariants as tree
+use Rattle.cert_check.specs.Nodes.{nodes_in}
 use Rattle.cert_check.specs.Verdicts.{AreSound}
 use Rattle.branch_bound.specs.Causes.{AreCaused}
-use Rattle.branch_bound.specs.Found.{AnswersSole, IsFoundAt}
-use Rattle.branch_bound.specs.Walks.{IsWalk}
+use Rattle.branch_bound.specs.Found.{AnswersSole}
+use Rattle.branch_bound.specs.Splits.{IsSplit}
+use Rattle.branch_bound.specs.Trims.{AreSearched}
+use Rattle.branch_bound.specs.Worked.{own_node}
 use Rattle.branch_bound.specs.declared.search.Plan.{Plan}
-use Rattle.branch_bound.specs.declared.search.Search.{Search}
+use Rattle.branch_bound.specs.declared.subproblems.Fraction.{Fraction}
+use Rattle.branch_bound.specs.declared.subproblems.Origin.{Origin}
+use Rattle.branch_bound.specs.declared.subproblems.State.{State}
+use Rattle.branch_bound.specs.declared.subproblems.State.TheVariants as state
+use Rattle.branch_bound.specs.declared.subproblems.Subproblem.{Subproblem}
 
 -- a plan is legal, and its cost exact
 pub record IsPlan (t : Tables) (plan : Plan) : Type 0 where
@@ -29,54 +41,59 @@ abbrev pub cost_of : Option Plan → Option ℤ
 cost_of None = None
 cost_of (Some plan) = Some plan.cost
 
--- the cost of the cheapest plan so far
-abbrev pub best_cost : Search → Option ℤ
-best_cost search = cost_of search.best
-
 -- a later cost is no more than an earlier one; once there is a plan, there stays one
 abbrev pub IsNoMore : Option ℤ → Option ℤ → Type 0
 IsNoMore None later = ⊤
 IsNoMore (Some cost) later = IsSomeAnd later (λ c. c ≤ℤ cost)
 
--- a search has a plan or none, and no more splits than are allowed
-pub record IsSearch (t : Tables) (search : Search) : Type 0 where
-  pub plan : IfSome search.best (IsPlan t)
-  pub within : search.splits ≤ search.nodes
+-- the node that a subproblem is in the tree, as it stands
+abbrev pub node_of : State → Node
+node_of (state.Leaf leaf) = own_node leaf
+node_of (state.Waiting f) = node.Open f.prices (cause.Nodes f.mixed)
+node_of (state.Split f) = node.Split f.leg f.fleet f.prices f.mixed
 
--- a search after another: its limits are as they were, and its plan costs no more
-pub record Follows (before after : Search) : Type 0 where
-  pub nodes : after.nodes ≡ before.nodes
-  pub pivots : after.pivots ≡ before.pivots
-  pub cheaper : IsNoMore (best_cost before) (best_cost after)
+-- a subproblem that may be split, with the rounded worth of its prices
+pub record IsFractional (t : Tables) (keeps : Domains) (f : Fraction) : Type 0 where
+  pub split : IsSplit t keeps f.leg f.fleet f.prices f.mixed
+  pub rounded : IsCeiling (worth_of t keeps f.prices 1) f.prices.scale f.worth
 
--- the plan is found at one of these nodes
-abbrev pub IsFoundIn : Tables → List Node → Option Plan → Type 0
-IsFoundIn t nodes best = IsSomeAnd best (λ plan. Any (IsFoundAt t plan.assignment plan.cost) nodes)
-
--- the plan is that from before, or found at one of these nodes
-abbrev pub IsFoundOrOld : Tables → Search → Search → List Node → Type 0
-IsFoundOrOld t before after nodes = (after.best ≡ before.best) ⊎ IsFoundIn t nodes after.best
-
--- the tree of a part of a search, over the pairs that its subproblem keeps; `above` are the prices of the nearest split
-pub record IsBranch (t : Tables) (before after : Search) (keeps : Domains) (above : Prices) (tree : Tree) : Type 0 where
+-- the tree of a part of a search, over the pairs that its subproblem keeps, where the plan in the end has this cost;
+-- `above` are the prices of the nearest split
+pub record IsPart (t : Tables) (pivots : ℕ) (final : Option ℤ) (keeps : Domains) (above : Prices) (tree : Tree) : Type 0 where
   pub of_tables : IsOfTables t tree
   pub in_order : InWrittenOrder t tree
   pub shallow : depth_of tree ≤ pairs_kept t keeps
-  pub sound : (final : Option ℤ) → IsNoMore (best_cost after) final → AreSound t final keeps tree
-  pub soles : (final : Option ℤ) → IsNoMore (best_cost after) final → All (AnswersSole t final) (nodes_in keeps tree)
-  pub caused : AreCaused t before.pivots keeps above tree
-  pub counted : after.splits ≡ before.splits + splits_in tree
-  pub all_spent : 0 < open_nodes tree → after.splits ≡ after.nodes
-  pub found : IsFoundOrOld t before after (nodes_in keeps tree)
-  pub walk : IsWalk t keeps (best_cost before) tree (best_cost after)
+  pub sound : AreSound t final keeps tree
+  pub soles : All (AnswersSole t final) (nodes_in keeps tree)
+  pub caused : AreCaused t pivots keeps above tree
 
--- the tree of a subproblem that was split by a pair, once the split was counted: the trees of both parts
-pub record IsSplitInto (t : Tables) (before after : Search) (keeps : Domains) (leg fleet : ℕ) (prices : Prices) (mixed : Mixed) (tree : Tree) : Type 0 where
-  pub between : Search
-  pub with_pair : Box Tree Global
-  pub without : Box Tree Global
-  pub is : tree ≡ Split leg fleet prices mixed with_pair without
-  pub first : Follows before between
-  pub second : Follows between after
-  pub yes_is : IsBranch t before between (part keeps leg fleet true) prices with_pair.value
-  pub no_is : IsBranch t between after (part keeps leg fleet false) prices without.value
+-- what is known of a subproblem
+abbrev pub IsRight : Tables → ℕ → Option ℤ → Domains → Prices → State → Type 0
+IsRight t pivots final keeps above (state.Leaf leaf) = IsPart t pivots final keeps above leaf × AreSearched t keeps leaf
+IsRight t pivots final keeps above (state.Waiting f) = IsFractional t keeps f
+IsRight t pivots final keeps above (state.Split f) = IsFractional t keeps f
+
+-- the subproblem with a number
+abbrev pub nothing : Subproblem
+nothing = record { origin = None; state = state.Leaf tree.Sole }
+
+abbrev pub at : List Subproblem → ℕ → Subproblem
+at all k = slice_index_or all k nothing
+
+-- the step into a part by a pair
+abbrev pub step_into : Pair → Bool → Step
+step_into pair taken = record { leg = pair.leg; fleet = pair.fleet; yes = taken }
+
+-- a subproblem is split by the pair of a step
+abbrev pub IsSplitBy : Step → State → Type 0
+IsSplitBy step (state.Leaf leaf) = ⊥
+IsSplitBy step (state.Waiting f) = ⊥
+IsSplitBy step (state.Split f) = (step.leg ≡ f.leg) × (step.fleet ≡ f.fleet)
+
+-- a part was made after the subproblem that it is a part of, by a step of a pair of the tables
+pub record IsLater (t : Tables) (k : ℕ) (origin : Origin) : Type 0 where
+  pub earlier : origin.parent < k
+  pub pair : IsPair t (leg_on origin.step.leg origin.step.fleet)
+
+pub record HaveOrigins (t : Tables) (all : List Subproblem) : Type 0 where
+  pub each : (k : ℕ) → k < length all → IfSome (at all k).origin (IsLater t k)

@@ -1,12 +1,16 @@
 -- What is known of a closed tree and of the cheapest plan, when the search is over.
-use Rattle.std.specs.Prelude.{All, Option, Some, None, IfSome}
+use Rattle.std.specs.Prelude.{ℕ, List, All, Option, Some, None, IfSome}
 use Rattle.fleet_model.specs.Kept.{all_pairs}
 use Rattle.fleet_model.specs.declared.tables.Tables.{Tables}
-use Rattle.bound_cert.specs.OfTables.{IsOfTables}
-use Rattle.bound_cert.specs.declared.trees.Tree.{Tree}
+use Rattle.dual_bound.specs.OfTables.{IsOfTables}
+use Rattle.dual_bound.specs.declared.trees.Tree.{Tree}
 use Rattle.cert_check.specs.Nodes.{nodes_of}
 use Rattle.cert_check.specs.Verdicts.{AreSound}
+use Rattle.presolve.specs.Removals.{AreRefuted, AreRemovals, first_place, kept_after}
+use Rattle.presolve.specs.declared.trims.Trim.{Trim as Removal}
 use Rattle.branch_bound.specs.Found.{AnswersSole, LeavesGap}
+use Rattle.branch_bound.specs.History.{ComesTo}
+use Rattle.branch_bound.specs.Trims.{AreBelow}
 use Rattle.branch_bound.specs.Search.{IsPlan, cost_of}
 use Rattle.branch_bound.specs.declared.search.Plan.{Plan}
 use Rattle.branch_bound.specs.declared.solved.Solved.{Solved}
@@ -25,3 +29,13 @@ pub record IsProvedBy (t : Tables) (best : Option Plan) (tree : Tree) : Type 0 w
   pub sound : AreSound t (cost_of best) (all_pairs t) tree
   pub soles : All (AnswersSole t (cost_of best)) (nodes_of t tree)
   pub gaps : All (LeavesGap t (cost_of best)) (nodes_of t tree)
+
+-- The tree of all pairs before its open leaves are closed, and the cheapest plan: below the removals it is that of a
+-- search with at most so many splits, and so many pivots for each subproblem.
+pub record IsAllFound (t : Tables) (nodes pivots : ℕ) (best : Option Plan) (whole : Tree) : Type 0 where
+  pub removals : List Removal
+  pub given : AreRemovals t (all_pairs t) first_place removals
+  pub rest : Tree
+  pub below : AreBelow removals rest whole
+  pub refuted : AreRefuted t (all_pairs t) removals
+  pub comes : ComesTo t nodes pivots (kept_after (all_pairs t) removals) best rest

@@ -1,21 +1,24 @@
 -- What the solver answers on tables: a plan with a bound, that there is none, or a bound alone; each with the tree of
 -- subproblems that proves it.
-use Rattle.std.specs.Prelude.{◌≡◌, ℕ, ◌<◌, ◌≤◌, List, true, false, All, Any, Option, Some, None, ℤ, ◌<ℤ◌, ⊤}
+use Rattle.std.specs.Prelude.{◌≡◌, ℕ, ◌<◌, ◌≤◌, List, true, false, All, Any, Option, Some, None, IfSome, ℤ, ◌≤ℤ◌, ◌<ℤ◌, ⊤}
+use Rattle.std.specs.List.{Contains}
 use Rattle.fleet_model.specs.Kept.{all_pairs}
 use Rattle.fleet_model.specs.Legal.{IsAssignment, IsLegal, total_cost}
 use Rattle.fleet_model.specs.declared.tables.Tables.{Tables}
-use Rattle.bound_cert.specs.Bound.{IsBound, IsInfeasible, IsLowerBound}
-use Rattle.bound_cert.specs.Leaves.{has_open, open_nodes, splits_in}
-use Rattle.bound_cert.specs.OfTables.{IsOfTables}
-use Rattle.bound_cert.specs.WrittenOrder.{InWrittenOrder, IsShallow}
-use Rattle.bound_cert.specs.declared.trees.Tree.{Tree}
-use Rattle.cert_check.specs.Nodes.{nodes_of}
+use Rattle.dual_bound.specs.Bound.{IsBound, IsInfeasible, IsLowerBound}
+use Rattle.dual_bound.specs.Leaves.{has_open, open_nodes, splits_in}
+use Rattle.dual_bound.specs.OfTables.{IsOfTables}
+use Rattle.dual_bound.specs.WrittenOrder.{InWrittenOrder, IsShallow}
+use Rattle.dual_bound.specs.declared.trees.Tree.{Tree}
+use Rattle.cert_check.specs.Nodes.{Node, nodes_of}
+use Rattle.cert_check.specs.Splits.{IsSplitWorth}
 use Rattle.cert_check.specs.Verdicts.{AreSound}
 use Rattle.branch_bound.specs.Causes.{AreCaused, zero_prices}
 use Rattle.branch_bound.specs.Closing.{closed_by}
 use Rattle.branch_bound.specs.Found.{AnswersSole, IsFoundAt, LeavesGap}
+use Rattle.branch_bound.specs.Made.{AreMade}
 use Rattle.branch_bound.specs.Trims.{IsTrimmed}
-use Rattle.branch_bound.specs.Walks.{IsWalk}
+use Rattle.branch_bound.specs.Worked.{IsWaitingWorth}
 use Rattle.branch_bound.specs.declared.solved.Solved.{Solved}
 use Rattle.branch_bound.specs.declared.solved.Solved.TheVariants as solved
 
@@ -65,22 +68,27 @@ IsFound t (solved.Planned plan cost bound tree) = Any (IsFoundAt t plan cost) (n
 IsFound t (solved.Infeasible tree) = ⊤
 IsFound t (solved.Unsettled bound tree) = ⊤
 
--- The tree as the walk over the subproblems left it, with so many splits allowed and so many pivots for each subproblem,
--- whose cheapest plan has this cost. Its nodes keep all rules, its leaves and splits have their causes, and in the end
--- open leaves were closed whose rounded worth reaches the cost.
-pub record IsWalked (t : Tables) (nodes pivots : ℕ) (cost : Option ℤ) (tree : Tree) : Type 0 where
+-- The tree as the search left it, with so many pivots allowed for each subproblem, whose cheapest plan has this cost. Its
+-- nodes keep all rules, its leaves and splits have their causes, and in the end open leaves were closed whose rounded
+-- worth reaches the cost.
+pub record IsLeft (t : Tables) (pivots : ℕ) (cost : Option ℤ) (tree : Tree) : Type 0 where
   pub left : Tree
   pub sound : AreSound t cost (all_pairs t) left
-  pub all_spent : 0 < open_nodes left → splits_in left ≡ nodes
   pub caused : AreCaused t pivots (all_pairs t) (zero_prices t) left
-  pub walk : IsWalk t (all_pairs t) None left cost
+  pub made : AreMade t cost left
   pub closed : tree ≡ closed_by t cost left
+
+-- No split has a greater rounded worth than a leaf that is open for splits, or than the plan costs.
+pub record IsLeastFirst (t : Tables) (cost : Option ℤ) (tree : Tree) : Type 0 where
+  pub waiting : (split leaf : Node) (worth other : ℤ) → Contains (nodes_of t tree) split → Contains (nodes_of t tree) leaf
+      → IsSplitWorth t split.keeps split.tree worth → IsWaitingWorth t leaf.keeps leaf.tree other → worth ≤ℤ other
+  pub within_cost : (split : Node) (worth : ℤ) → Contains (nodes_of t tree) split → IsSplitWorth t split.keeps split.tree worth → IfSome cost (λ c. worth ≤ℤ c)
 
 -- A tree whose plan, if any, has this cost. It is of the tables, in written order and no deeper than a reader takes,
 -- and its nodes keep all rules. It has at most so many splits, and just so many where a leaf is open for them. Leaves
 -- and splits have their causes, with so many pivots allowed for each subproblem. Where the one assignment of a leaf is
 -- legal, there is a plan that costs no more. The rounded worth of each open leaf is below the plan's cost. The trims are
--- presolve's removals, and below them the subproblems are worked depth first.
+-- presolve's removals, and below them the subproblem of the least rounded worth is split first.
 pub record IsTreeOf (t : Tables) (nodes pivots : ℕ) (cost : Option ℤ) (tree : Tree) : Type 0 where
   pub of_tables : IsOfTables t tree
   pub in_order : InWrittenOrder t tree
@@ -92,7 +100,8 @@ pub record IsTreeOf (t : Tables) (nodes pivots : ℕ) (cost : Option ℤ) (tree 
   pub soles : All (AnswersSole t cost) (nodes_of t tree)
   pub gaps : All (LeavesGap t cost) (nodes_of t tree)
   pub trimmed : IsTrimmed t tree
-  pub walked : IsWalked t nodes pivots cost tree
+  pub left : IsLeft t pivots cost tree
+  pub least_first : IsLeastFirst t cost tree
 
 -- a solution of tables, found with at most so many splits, and so many pivots for each subproblem
 pub record IsSolved (t : Tables) (nodes pivots : ℕ) (s : Solved) : Type 0 where

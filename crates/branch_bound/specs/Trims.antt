@@ -4,9 +4,9 @@ use Rattle.std.specs.declared.alloc.Global.{Global}
 use Rattle.fleet_model.specs.declared.limits.TheConstants.{MAX_FLEETS, MAX_LEGS}
 use Rattle.fleet_model.specs.Kept.{Domains, all_pairs}
 use Rattle.fleet_model.specs.declared.tables.Tables.{Tables}
-use Rattle.bound_cert.specs.Bound.{part}
-use Rattle.bound_cert.specs.declared.trees.Tree.{Tree, Trim}
-use Rattle.bound_cert.specs.declared.trees.Tree.TheVariants as tree
+use Rattle.dual_bound.specs.Bound.{part}
+use Rattle.dual_bound.specs.declared.trees.Tree.{Tree, Trim}
+use Rattle.dual_bound.specs.declared.trees.Tree.TheVariants as tree
 use Rattle.presolve.specs.Removals.{AreRemovals, first_place}
 use Rattle.presolve.specs.declared.trims.Trim.{Trim as Removal}
 use Rattle.branch_bound.specs.Runs.{IsSearched}

@@ -4,9 +4,9 @@ use Rattle.fleet_model.specs.Counts.{fleet_at}
 use Rattle.fleet_model.specs.Schedule.{IsPair, fleets_in, leg_on, legs_in}
 use Rattle.fleet_model.specs.declared.parts.Pair.{Pair}
 use Rattle.fleet_model.specs.declared.tables.Tables.{Tables}
-use Rattle.bound_cert.specs.Mixed.{weight_in}
-use Rattle.bound_cert.specs.declared.mixed.Mixed.{Mixed}
-use Rattle.bound_cert.specs.Fractions.{IsWholePair}
+use Rattle.dual_bound.specs.Mixed.{weight_in}
+use Rattle.dual_bound.specs.declared.mixed.Mixed.{Mixed}
+use Rattle.dual_bound.specs.Fractions.{IsWholePair}
 use Rattle.branch_bound.specs.Causes.{IsFirstPartial}
 
 -- a pair is flown in part

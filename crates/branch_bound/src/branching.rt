@@ -1,106 +1,219 @@
-//! Branch and bound: subproblems are worked depth first, the part with the pair before the part without it.
-ghost use Rattle.std.specs.Prelude.{◌≡◌, IfOk, OnOk};
+//! Branch and bound: of the subproblems that wait, the one of the least rounded worth is split first.
+ghost use Rattle.std.specs.Prelude.{◌≡◌, ◌<◌, suc, length, Some, IfOk, IfSome, OnOk, MatchOption, ⊤};
 ghost use Rattle.fleet_model.specs.Kept.{kept_by, narrowed};
 ghost use Rattle.fleet_model.specs.Schedule.{IsPair, leg_on};
 ghost use Rattle.fleet_model.specs.Whole.{KeepAllowed};
-ghost use Rattle.branch_bound.specs.Examined.{IsSplit};
+ghost use Rattle.branch_bound.specs.Examined.{IsExamined};
+ghost use Rattle.branch_bound.specs.History.{IsDone, IsPut, IsSearch, IsSplitSearch, WaitsWith};
+ghost use Rattle.branch_bound.specs.Ranks.{IsNext, IsOver, ranks_with};
+ghost use Rattle.branch_bound.specs.Search.{IsPlan, at};
 ghost use Rattle.branch_bound.specs.Relaxed.{AreGood};
-ghost use Rattle.branch_bound.specs.Search.{Follows, IsBranch, IsSearch, IsSplitInto};
-ghost use Rattle.branch_bound.specs.Trims.{AreSearched};
 
-use crate::examining::{Examined, examine};
+use crate::examining::{examine, is_reached};
+use crate::made_prices::zeros;
+use crate::ranks::Rank;
 use crate::search::Search;
 use crate::steps::{with, without};
-use bound_cert::{Mixed, Prices, Tree};
+use crate::subproblems::{Origin, State, Subproblem, kept_in, split};
 use entries::NoMemory;
-use fleet_model::{Kept, Step, Tables};
+use fleet_model::{Kept, Pair, Step, Tables};
 use std::alloc::Global;
+use std::collections::BTreeSet;
 
-/// Works a subproblem, whose nearest split above has these prices, and answers its tree; the subproblem is again as
-/// it was.
-#[cycle(branch)]
+/// Searches the pairs that are kept, with at most so many splits and so many pivots for each subproblem.
 pub(crate) fn branch(
     alloc: Global,
     tables: &Tables,
-    search: &mut Search,
-    kept: &mut Kept,
-    above: &Prices,
-) -> Result<Tree, NoMemory>
-    requires search { IsSearch tables.now search.old }
-    requires allowed { KeepAllowed tables.now (kept_by kept.old) }
-    requires above { AreGood tables.now above.now }
-    ensures same { OnOk result (kept.new ≡ kept.old) }
-    ensures search { OnOk result (IsSearch tables.now search.new) }
-    ensures follows { OnOk result (Follows search.old search.new) }
-    ensures tree { IfOk result (IsBranch tables.now search.old search.new (kept_by kept.old) above.now) }
-    ensures searched { IfOk result (AreSearched tables.now (kept_by kept.old)) }
+    nodes: u64,
+    pivots: u64,
+    first: &Kept,
+) -> Result<Search, NoMemory>
+    requires { KeepAllowed tables.now (kept_by first.now) }
+    ensures { IfOk result (IsDone tables.now nodes pivots (kept_by first.now)) }
 {
-    match examine(alloc, tables, search, kept, above)? {
-        Examined::Leaf(leaf) => Ok(leaf),
-        Examined::Split {
-            leg,
-            fleet,
-            prices,
-            mixed,
-        } => split(alloc, tables, search, kept, leg, fleet, prices, mixed),
+    let mut search = begun(alloc, tables, nodes, pivots, first)?;
+    while let Some(rank) = next(&search) {
+        split_next(alloc, tables, first, &mut search, rank)?;
+    }
+    Ok(search)
+}
+
+// A search of the first subproblem alone.
+fn begun(
+    alloc: Global,
+    tables: &Tables,
+    nodes: u64,
+    pivots: u64,
+    first: &Kept,
+) -> Result<Search, NoMemory>
+    requires { KeepAllowed tables.now (kept_by first.now) }
+    ensures search { IfOk result (IsSearch tables.now (kept_by first.now)) }
+    ensures nodes { IfOk result (λ s. s.nodes ≡ nodes) }
+    ensures pivots { IfOk result (λ s. s.pivots ≡ pivots) }
+{
+    let above = zeros(alloc, tables)?;
+    let mut best = None;
+    let state = examine(alloc, tables, pivots, &mut best, first, &above)?;
+    let mut search = Search {
+        nodes,
+        pivots,
+        splits: 0,
+        best,
+        made: Vec::new(alloc),
+        waiting: BTreeSet::new(alloc),
+    };
+    put(&mut search, None, state)?;
+    Ok(search)
+}
+
+// The subproblem that is split next, unless nothing more is.
+fn next(search: &Search) -> Option<Rank>
+    ensures { MatchOption result (IsOver search.now) (IsNext search.now) }
+{
+    if search.splits >= search.nodes {
+        return None;
+    }
+    match search.waiting.first() {
+        None => None,
+        Some(rank) => {
+            if is_reached(&rank.worth, &search.best) {
+                None
+            } else {
+                Some(*rank)
+            }
+        }
     }
 }
 
-/// Works both parts of a subproblem that is split by a pair.
-#[cycle(branch)]
-fn split(
+// Splits the subproblem that is next: both its parts are made, the one with the pair first.
+fn split_next(
     alloc: Global,
     tables: &Tables,
+    first: &Kept,
     search: &mut Search,
-    kept: &mut Kept,
-    leg: u32,
-    fleet: u32,
-    prices: Prices,
-    mixed: Mixed,
-) -> Result<Tree, NoMemory>
-    requires search { IsSearch tables.now search.old }
-    requires allowed { KeepAllowed tables.now (kept_by kept.old) }
-    requires split { IsSplit tables.now (kept_by kept.old) leg fleet prices mixed }
-    ensures same { OnOk result (kept.new ≡ kept.old) }
-    ensures search { OnOk result (IsSearch tables.now search.new) }
-    ensures follows { OnOk result (Follows search.old search.new) }
-    ensures tree { IfOk result (IsSplitInto tables.now search.old search.new (kept_by kept.old) leg fleet prices mixed) }
-    ensures searched { IfOk result (AreSearched tables.now (kept_by kept.old)) }
+    rank: Rank,
+) -> Result<(), NoMemory>
+    requires search { IsSearch tables.now (kept_by first.now) search.old }
+    requires next { IsNext search.old rank }
+    ensures search { OnOk result (IsSearch tables.now (kept_by first.now) search.new) }
+    ensures nodes { OnOk result (search.new.nodes ≡ search.old.nodes) }
+    ensures pivots { OnOk result (search.new.pivots ≡ search.old.pivots) }
+    ensures splits { OnOk result (search.new.splits ≡ suc search.old.splits) }
 {
-    let yes = part(alloc, tables, search, kept, with(leg, fleet), &prices)?;
-    let no = part(alloc, tables, search, kept, without(leg, fleet), &prices)?;
-    Ok(Tree::Split {
-        leg,
-        fleet,
-        prices,
-        mixed,
-        yes: Box::new(alloc, yes)?,
-        no: Box::new(alloc, no)?,
-    })
+    let number = rank.number;
+    let pair = split_pair(&search.made[number]);
+    let mut kept = kept_in(tables, first, search.made.as_slice(), number);
+    let yes = part(
+        alloc,
+        tables,
+        search,
+        &mut kept,
+        number,
+        with(pair.leg, pair.fleet),
+    )?;
+    let no = part(
+        alloc,
+        tables,
+        search,
+        &mut kept,
+        number,
+        without(pair.leg, pair.fleet),
+    )?;
+    add(search, number, pair, yes, no)
 }
 
-/// Works a part of a subproblem.
-#[cycle(branch)]
+// The pair by which a subproblem that waits is split.
+fn split_pair(subproblem: &Subproblem) -> Pair
+    requires { WaitsWith (λ f. ⊤) subproblem.now.state }
+    ensures { WaitsWith (λ f. result ≡ leg_on f.leg f.fleet) subproblem.now.state }
+{
+    match &subproblem.state {
+        State::Waiting(fraction) => Pair {
+            leg: fraction.leg,
+            fleet: fraction.fleet,
+        },
+        State::Leaf(_) | State::Split(_) => unreachable!(),
+    }
+}
+
+// Examines a part of a subproblem that waits, of which these pairs are kept; they are again as they were.
 fn part(
     alloc: Global,
     tables: &Tables,
     search: &mut Search,
     kept: &mut Kept,
+    number: usize,
     step: Step,
-    above: &Prices,
-) -> Result<Tree, NoMemory>
-    requires search { IsSearch tables.now search.old }
+) -> Result<State, NoMemory>
+    requires best { IfSome search.old.best (IsPlan tables.now) }
+    requires number { number < length search.old.made.items }
+    requires waits { WaitsWith (λ f. AreGood tables.now f.prices) (at search.old.made.items number).state }
     requires allowed { KeepAllowed tables.now (kept_by kept.old) }
     requires pair { IsPair tables.now (leg_on step.leg step.fleet) }
-    requires above { AreGood tables.now above.now }
     ensures same { OnOk result (kept.new ≡ kept.old) }
-    ensures search { OnOk result (IsSearch tables.now search.new) }
-    ensures follows { OnOk result (Follows search.old search.new) }
-    ensures tree { IfOk result (IsBranch tables.now search.old search.new (narrowed (kept_by kept.old) step) above.now) }
-    ensures searched { IfOk result (AreSearched tables.now (narrowed (kept_by kept.old) step)) }
+    ensures search { OnOk result (search.new ≡ record search.old { best = search.new.best }) }
+    ensures examined { IfOk result (λ made. WaitsWith (λ f. IsExamined tables.now search.old.pivots search.old.best search.new.best (narrowed (kept_by kept.old) step) f.prices made) (at search.old.made.items number).state) }
 {
     let undo = kept.narrow(step);
-    let tree = branch(alloc, tables, search, kept, above)?;
+    let made = match &search.made[number].state {
+        State::Waiting(fraction) => examine(
+            alloc,
+            tables,
+            search.pivots,
+            &mut search.best,
+            kept,
+            &fraction.prices,
+        )?,
+        State::Leaf(_) | State::Split(_) => unreachable!(),
+    };
     kept.undo(undo);
-    Ok(tree)
+    Ok(made)
+}
+
+// Splits the subproblem that is next, of which these parts were made.
+fn add(
+    search: &mut Search,
+    number: usize,
+    pair: Pair,
+    yes: State,
+    no: State,
+) -> Result<(), NoMemory>
+    requires number { number < length search.old.made.items }
+    requires room { search.old.splits < search.old.nodes }
+    ensures { OnOk result (IsSplitSearch search.old search.new number pair yes no) }
+{
+    search.splits += 1;
+    search.waiting.pop_first();
+    split(&mut search.made[number]);
+    put(search, part_of(number, with(pair.leg, pair.fleet)), yes)?;
+    put(search, part_of(number, without(pair.leg, pair.fleet)), no)
+}
+
+fn part_of(parent: usize, step: Step) -> Option<Origin>
+    ensures { result ≡ Some (record { parent = parent; step = step }) }
+{
+    Some(Origin { parent, step })
+}
+
+// Puts a subproblem behind those that were made.
+fn put(search: &mut Search, origin: Option<Origin>, state: State) -> Result<(), NoMemory>
+    ensures { OnOk result (IsPut search.old search.new origin state) }
+{
+    rank(&mut search.waiting, search.made.len(), &state)?;
+    search.made.push(Subproblem { origin, state })?;
+    Ok(())
+}
+
+// Puts a subproblem with this number among those that wait, where it does.
+fn rank(waiting: &mut BTreeSet<Rank>, number: usize, state: &State) -> Result<(), NoMemory>
+    ensures { OnOk result (waiting.new.keys ≡ ranks_with waiting.old.keys number state.now) }
+{
+    match state {
+        State::Waiting(fraction) => {
+            let worth = fraction.worth;
+            waiting.insert(Rank { worth, number })?;
+            Ok(())
+        }
+        State::Leaf(_) | State::Split(_) => Ok(()),
+    }
 }

@@ -2,14 +2,14 @@
 ghost use Rattle.std.specs.Prelude.{◌≡◌, Some, int_le};
 ghost use Rattle.fleet_model.specs.Kept.{kept_by, narrowed};
 ghost use Rattle.fleet_model.specs.Schedule.{IsPair, leg_on};
-ghost use Rattle.bound_cert.specs.OfTables.{IsOfTables};
-ghost use Rattle.bound_cert.specs.Prices.{ArePrices};
+ghost use Rattle.dual_bound.specs.OfTables.{IsOfTables};
+ghost use Rattle.dual_bound.specs.Prices.{ArePrices};
 ghost use Rattle.cert_check.specs.Verdicts.{AreSound};
 ghost use Rattle.branch_bound.specs.Closing.{closed, does_reach};
 
 use crate::steps::{with, without};
-use bound_cert::worth::worth;
-use bound_cert::{Prices, Tree};
+use dual_bound::worth::worth;
+use dual_bound::{Prices, Tree};
 use entries::Entries;
 use fleet_model::{Kept, Step, Tables};
 use frac_row::ceil_div;

@@ -1,146 +1,144 @@
-//! What becomes of a subproblem: a leaf of the tree, or a split.
-ghost use Rattle.std.specs.Prelude.{◌≡◌, ℕ, IfOk, IsSomeAnd, MatchBool};
-ghost use Rattle.fleet_model.specs.Kept.{IsBare, kept_by};
+//! What becomes of a subproblem when it is made: a leaf of the tree, or one that waits to be split.
+ghost use Rattle.std.specs.Prelude.{◌≡◌, ◌≤ℤ◌, ◌<ℤ◌, ℕ, IfOk, IfSome, IsSomeAnd, MatchBool};
+ghost use Rattle.frac_row.specs.Ratio.{IsCeiling};
+ghost use Rattle.fleet_model.specs.Kept.{kept_by};
 ghost use Rattle.fleet_model.specs.Whole.{KeepAllowed};
-ghost use Rattle.bound_cert.specs.Fractions.{IsMixedAt, IsWhole};
-ghost use Rattle.bound_cert.specs.Prices.{ArePrices};
-ghost use Rattle.bound_cert.specs.declared.prices.Prices.{Prices};
-ghost use Rattle.cert_check.specs.Rules.{Reaches};
-ghost use Rattle.branch_bound.specs.Examined.{IsBounded, IsExamined, IsLeafAt, IsWholeOffered};
+ghost use Rattle.dual_bound.specs.Fractions.{IsWhole};
+ghost use Rattle.dual_bound.specs.Prices.{ArePrices};
+ghost use Rattle.dual_bound.specs.Worth.{worth_of};
+ghost use Rattle.branch_bound.specs.Examined.{IsBounded, IsExamined, IsWholeOffered};
 ghost use Rattle.branch_bound.specs.Relaxed.{AreBest, AreGood};
 ghost use Rattle.branch_bound.specs.Runs.{IsSearched};
-ghost use Rattle.branch_bound.specs.Search.{IsSearch, cost_of};
-ghost use Rattle.branch_bound.specs.Walks.{IsBelowBest};
+ghost use Rattle.branch_bound.specs.Search.{IsPlan, cost_of};
 ghost use Rattle.branch_bound.specs.Wholes.{IsSplitPair};
 
 use crate::made_prices::copied;
 use crate::offers::{offer, offer_sole};
 use crate::relaxing::{Relaxed, relax};
-use crate::search::{Plan, Search};
+use crate::search::Plan;
+use crate::subproblems::{Fraction, State};
 use crate::wholes::{first_partial, flown_parts};
-use bound_cert::worth::worth;
-use bound_cert::{Cause, Mixed, Prices, Tree};
+use dual_bound::worth::worth;
+use dual_bound::{Mixed, Prices, Tree};
 use entries::NoMemory;
 use fleet_model::{Kept, Pair, Tables};
 use frac_row::ceil_div;
 use std::alloc::Global;
 
-/// What becomes of a subproblem.
-#[derive(Debug, Drop)]
-pub(crate) enum Examined {
-    /// It is a leaf of the tree.
-    Leaf(Tree),
-    /// It is split by a pair.
-    Split {
-        leg: u32,
-        fleet: u32,
-        prices: Prices,
-        mixed: Mixed,
-    },
-}
-
-/// Examines a subproblem, whose nearest split above has these prices. What it finds of a plan is offered to the
-/// search, and a split is counted.
+/// Examines a subproblem, whose nearest split above has these prices, with at most so many pivots. A plan that is found
+/// at it takes the place of the best one where it is cheaper.
 pub(crate) fn examine(
     alloc: Global,
     tables: &Tables,
-    search: &mut Search,
+    pivots: u64,
+    best: &mut Option<Plan>,
     kept: &Kept,
     above: &Prices,
-) -> Result<Examined, NoMemory>
-    requires search { IsSearch tables.now search.old }
+) -> Result<State, NoMemory>
+    requires best { IfSome best.old (IsPlan tables.now) }
     requires allowed { KeepAllowed tables.now (kept_by kept.now) }
     requires above { AreGood tables.now above.now }
-    ensures { IfOk result (IsExamined tables.now search.old search.new (kept_by kept.now) above.now) }
+    ensures { IfOk result (IsExamined tables.now pivots best.old best.new (kept_by kept.now) above.now) }
 {
     if let Some(leg) = kept.bare_leg(tables) {
-        return Ok(Examined::Leaf(Tree::Bare { leg }));
+        return Ok(State::Leaf(Tree::Bare { leg }));
     }
-    if offer_sole(tables, kept, search) {
-        return Ok(Examined::Leaf(Tree::Sole));
+    if offer_sole(tables, kept, best) {
+        return Ok(State::Leaf(Tree::Sole));
     }
-    match relax(alloc, tables, kept, search.pivots)? {
-        Relaxed::Refuted(prices) => Ok(Examined::Leaf(Tree::Refuted(prices))),
-        Relaxed::Stopped(why) => Ok(Examined::Leaf(Tree::Open(copied(alloc, above)?, why))),
-        Relaxed::Bounded { prices, mixed } => Ok(bounded(tables, search, kept, prices, mixed)),
+    match relax(alloc, tables, kept, pivots)? {
+        Relaxed::Refuted(prices) => Ok(State::Leaf(Tree::Refuted(prices))),
+        Relaxed::Stopped(why) => Ok(State::Leaf(Tree::Open(copied(alloc, above)?, why))),
+        Relaxed::Bounded { prices, mixed } => Ok(bounded(tables, best, kept, prices, mixed)),
     }
 }
 
 // What becomes of a subproblem whose best fractional assignment is known.
 fn bounded(
     tables: &Tables,
-    search: &mut Search,
+    best: &mut Option<Plan>,
     kept: &Kept,
     prices: Prices,
     mixed: Mixed,
-) -> Examined
-    requires search { IsSearch tables.now search.old }
+) -> State
+    requires plan { IfSome best.old (IsPlan tables.now) }
     requires allowed { KeepAllowed tables.now (kept_by kept.now) }
     requires searched { IsSearched tables.now (kept_by kept.now) }
     requires best { AreBest tables.now (kept_by kept.now) prices mixed }
-    ensures { IsBounded tables.now search.old search.new (kept_by kept.now) result }
+    ensures { IsBounded tables.now best.old best.new (kept_by kept.now) result }
 {
     match first_partial(tables, &mixed) {
         None => {
-            offer_whole(tables, search, kept, &prices, &mixed);
-            Examined::Leaf(Tree::Priced(prices))
+            offer_whole(tables, best, kept, &prices, &mixed);
+            State::Leaf(Tree::Priced(prices))
         }
-        Some(pair) => divided(tables, search, kept, prices, mixed, pair),
+        Some(pair) => divided(tables, best, kept, prices, mixed, pair),
     }
 }
 
 // What becomes of a subproblem whose best fractional assignment flies a pair in part.
 fn divided(
     tables: &Tables,
-    search: &mut Search,
+    best: &Option<Plan>,
     kept: &Kept,
     prices: Prices,
     mixed: Mixed,
     pair: Pair,
-) -> Examined
-    requires search { IsSearch tables.now search.old }
+) -> State
+    requires plan { IfSome best.now (IsPlan tables.now) }
     requires searched { IsSearched tables.now (kept_by kept.now) }
     requires best { AreBest tables.now (kept_by kept.now) prices mixed }
     requires pair { IsSplitPair tables.now mixed pair }
-    ensures { IsBounded tables.now search.old search.new (kept_by kept.now) result }
+    ensures { IsBounded tables.now best.now best.now (kept_by kept.now) result }
 {
-    if is_reached(tables, kept, &prices, &search.best) {
-        return Examined::Leaf(Tree::Priced(prices));
+    let worth = rounded_worth(tables, kept, &prices);
+    if is_reached(&worth, best) {
+        return State::Leaf(Tree::Priced(prices));
     }
-    if search.splits >= search.nodes {
-        return Examined::Leaf(Tree::Open(prices, Cause::Nodes(mixed)));
-    }
-    search.splits += 1;
-    Examined::Split {
+    State::Waiting(Fraction {
         leg: pair.leg,
         fleet: pair.fleet,
         prices,
         mixed,
-    }
+        worth,
+    })
 }
 
 // Offers the assignment that a whole fractional assignment is.
 //
 // It has an assignment on the stack, and so is kept out of the frames of the search.
 #[inline(never)]
-fn offer_whole(tables: &Tables, search: &mut Search, kept: &Kept, prices: &Prices, mixed: &Mixed)
-    requires search { IsSearch tables.now search.old }
+fn offer_whole(
+    tables: &Tables,
+    best: &mut Option<Plan>,
+    kept: &Kept,
+    prices: &Prices,
+    mixed: &Mixed,
+)
+    requires plan { IfSome best.old (IsPlan tables.now) }
     requires allowed { KeepAllowed tables.now (kept_by kept.now) }
     requires best { AreBest tables.now (kept_by kept.now) prices.now mixed.now }
     requires whole { IsWhole tables.now mixed.now }
-    ensures { IsWholeOffered tables.now (kept_by kept.now) prices.now search.old search.new }
+    ensures { IsWholeOffered tables.now (kept_by kept.now) prices.now best.old best.new }
 {
     let flown = flown_parts(tables, mixed);
-    offer(tables, search, flown);
+    offer(tables, flown, best);
 }
 
-// Whether there is a plan, and the rounded worth of prices reaches its cost.
-fn is_reached(tables: &Tables, kept: &Kept, prices: &Prices, best: &Option<Plan>) -> bool
+// The worth of prices, rounded up.
+fn rounded_worth(tables: &Tables, kept: &Kept, prices: &Prices) -> i128
     requires { ArePrices tables.now prices.now }
-    ensures { MatchBool result (IsSomeAnd (cost_of best.now) (Reaches tables.now (kept_by kept.now) prices.now)) (IsBelowBest tables.now (kept_by kept.now) prices.now (cost_of best.now)) }
+    ensures { IsCeiling (worth_of tables.now (kept_by kept.now) prices.now 1) prices.now.scale result }
+{
+    ceil_div(worth(tables, kept, prices, 1), prices.scale)
+}
+
+/// Whether there is a plan, and a rounded worth reaches its cost.
+pub(crate) fn is_reached(worth: &i128, best: &Option<Plan>) -> bool
+    ensures { MatchBool result (IsSomeAnd (cost_of best.now) (λ c. c ≤ℤ worth.now)) (IfSome (cost_of best.now) (λ c. worth.now <ℤ c)) }
 {
     match best {
         None => false,
-        Some(plan) => plan.cost <= ceil_div(worth(tables, kept, prices, 1), prices.scale),
+        Some(plan) => plan.cost <= *worth,
     }
 }

@@ -4,7 +4,7 @@ ghost use Rattle.sums.specs.Places.{list_below};
 ghost use Rattle.fleet_model.specs.Schedule.{fleets_in};
 ghost use Rattle.branch_bound.specs.Causes.{zero_prices};
 
-use bound_cert::{PriceStep, Prices};
+use dual_bound::{PriceStep, Prices};
 use entries::{Entries, NoMemory};
 use fleet_model::Tables;
 use std::alloc::Global;

@@ -1,12 +1,12 @@
-//! Assignments that are offered to a search.
+//! Assignments that are offered.
 ghost use Rattle.std.specs.Prelude.{◌≤ℤ◌, ◌<ℤ◌, IfSome, IsSomeAnd, MatchBool, MatchOption};
 ghost use Rattle.fleet_model.specs.Kept.{kept_by};
 ghost use Rattle.fleet_model.specs.Legal.{IsAssignment, IsLegal};
 ghost use Rattle.cert_check.specs.Rules.{IsLegalAt};
 ghost use Rattle.branch_bound.specs.Offers.{IsNoSole, IsOffered, IsSoleOffered};
-ghost use Rattle.branch_bound.specs.Search.{IsSearch, cost_of};
+ghost use Rattle.branch_bound.specs.Search.{IsPlan, cost_of};
 
-use crate::search::{Plan, Search};
+use crate::search::Plan;
 use fleet_model::{Assignment, Kept, Tables};
 use plan_judge::{Verdict, judge};
 
@@ -14,13 +14,13 @@ use plan_judge::{Verdict, judge};
 ///
 /// It has an assignment on the stack, and so is kept out of the frames of the search.
 #[inline(never)]
-pub(crate) fn offer_sole(tables: &Tables, kept: &Kept, search: &mut Search) -> bool
-    requires { IsSearch tables.now search.old }
-    ensures { MatchBool result (IsSoleOffered tables.now (kept_by kept.now) search.old search.new) (IsNoSole tables.now (kept_by kept.now) search.old search.new) }
+pub(crate) fn offer_sole(tables: &Tables, kept: &Kept, best: &mut Option<Plan>) -> bool
+    requires { IfSome best.old (IsPlan tables.now) }
+    ensures { MatchBool result (IsSoleOffered tables.now (kept_by kept.now) best.old best.new) (IsNoSole tables.now (kept_by kept.now) best.old best.new) }
 {
     match kept.sole(tables) {
         Some(assignment) => {
-            offer(tables, search, assignment);
+            offer(tables, assignment, best);
             true
         }
         None => false,
@@ -29,16 +29,16 @@ pub(crate) fn offer_sole(tables: &Tables, kept: &Kept, search: &mut Search) -> b
 
 /// Offers an assignment: where it is legal and cheaper than the cheapest plan so far, it takes its place. Takes no
 /// memory.
-pub(crate) fn offer(tables: &Tables, search: &mut Search, assignment: Assignment)
+pub(crate) fn offer(tables: &Tables, assignment: Assignment, best: &mut Option<Plan>)
     requires known { IsAssignment tables.now assignment }
-    requires search { IsSearch tables.now search.old }
-    ensures { IsOffered tables.now assignment search.old search.new }
+    requires best { IfSome best.old (IsPlan tables.now) }
+    ensures { IsOffered tables.now assignment best.old best.new }
 {
     match legal_cost(tables, &assignment) {
         None => {}
         Some(cost) => {
-            if is_cheaper(&cost, &search.best) {
-                search.best = Some(Plan { assignment, cost });
+            if is_cheaper(&cost, best) {
+                *best = Some(Plan { assignment, cost });
             }
         }
     }

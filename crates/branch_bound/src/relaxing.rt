@@ -4,12 +4,13 @@ ghost use Rattle.fleet_model.specs.Kept.{IsBare, kept_by};
 ghost use Rattle.branch_bound.specs.Relaxed.{IsAtBest, IsAtNoPoint, IsRelaxed, IsTold};
 ghost use Rattle.branch_bound.specs.Runs.{HasEnded};
 
-use bound_cert::{Cause, Mixed, Prices};
+use crate::second_run::second_run;
+use dual_bound::{Cause, Mixed, Prices};
 use entries::NoMemory;
 use fleet_model::{Kept, Tables};
 use lp_rows::rows;
 use price_lift::{LiftError, Lifted, lift_best, lift_refusal};
-use row_store::{Dense, RowStore};
+use row_store::{RowStore, Sparse};
 use simplex_frac::{Outcome, solve};
 use std::alloc::Global;
 
@@ -24,7 +25,9 @@ pub(crate) enum Relaxed {
     Stopped(Cause),
 }
 
-/// Solves the linear relaxation of a subproblem, with at most so many pivots.
+/// Solves the linear relaxation of a subproblem, with at most so many pivots in each of two runs. The dual simplex method is
+/// tried first, since it is mostly the sooner one; where it settles nothing, the prescribed run decides, from the first table
+/// on. So why a subproblem is left open is told by the prescribed run alone.
 pub(crate) fn relax(
     alloc: Global,
     tables: &Tables,
@@ -34,11 +37,14 @@ pub(crate) fn relax(
     requires { (leg : ℕ) → ¬ (IsBare tables.now (kept_by kept.now) leg) }
     ensures { IfOk result (IsRelaxed tables.now (kept_by kept.now) pivots) }
 {
-    relax_by::<Dense>(alloc, tables, kept, pivots)
+    match second_run::<Sparse>(alloc, tables, kept, pivots)? {
+        Some(settled) => Ok(settled),
+        None => prescribed_run::<Sparse>(alloc, tables, kept, pivots),
+    }
 }
 
-// The same over any store of tables.
-fn relax_by<R: RowStore + Drop>(
+/// Solves the relaxation by the prescribed run alone, over any store of tables.
+fn prescribed_run<R: RowStore + Drop>(
     alloc: Global,
     tables: &Tables,
     kept: &Kept,

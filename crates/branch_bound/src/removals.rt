@@ -5,7 +5,7 @@ ghost use Rattle.presolve.specs.Removals.{kept_after};
 ghost use Rattle.branch_bound.specs.Trims.{AreBelow, IsBelow, IsWithin};
 
 use crate::steps::without;
-use bound_cert::Tree;
+use dual_bound::Tree;
 use entries::{Entries, NoMemory};
 use fleet_model::Kept;
 use presolve::Trim;

@@ -1,4 +1,7 @@
+use crate::ranks::Rank;
+use crate::subproblems::Subproblem;
 use fleet_model::Assignment;
+use std::collections::BTreeSet;
 
 /// A legal assignment, and what it costs, in cost units.
 #[derive(Debug, Drop)]
@@ -18,4 +21,8 @@ pub(crate) struct Search {
     pub(crate) splits: u64,
     /// The cheapest plan so far.
     pub(crate) best: Option<Plan>,
+    /// The subproblems, in the order in which they were made.
+    pub(crate) made: Vec<Subproblem>,
+    /// Those that wait to be split, the next one first.
+    pub(crate) waiting: BTreeSet<Rank>,
 }

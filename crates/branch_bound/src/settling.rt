@@ -1,7 +1,7 @@
 //! What the tree of a search proves.
 ghost use Rattle.std.specs.Prelude.{◌≡◌, All, Some, None, Option};
 ghost use Rattle.fleet_model.specs.Kept.{all_pairs};
-ghost use Rattle.bound_cert.specs.OfTables.{IsOfTables};
+ghost use Rattle.dual_bound.specs.OfTables.{IsOfTables};
 ghost use Rattle.cert_check.specs.Verdicts.{AreSound};
 ghost use Rattle.branch_bound.specs.Search.{IsPlan};
 ghost use Rattle.branch_bound.specs.Settled.{IsProvedBy, plan_of};
@@ -9,8 +9,8 @@ ghost use Rattle.branch_bound.specs.Solved.{IsRight, tree_of};
 
 use crate::search::Plan;
 use crate::solved::Solved;
-use bound_cert::Tree;
 use cert_check::{Checked, check};
+use dual_bound::Tree;
 use fleet_model::Tables;
 
 /// What the tree of a search proves, whose plan, if any, is the cheapest. Takes no memory.

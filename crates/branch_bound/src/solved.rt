@@ -1,7 +1,7 @@
 ghost use Rattle.std.specs.Prelude.{◌≡◌};
 ghost use Rattle.branch_bound.specs.Solved.{tree_of};
 
-use bound_cert::Tree;
+use dual_bound::Tree;
 use fleet_model::Assignment;
 
 /// What the solver answers on tables, with the tree of subproblems that proves it.

@@ -1,22 +1,21 @@
 //! The solver.
-ghost use Rattle.std.specs.Prelude.{◌≡◌, IfOk, OnOk, IfSome};
+ghost use Rattle.std.specs.Prelude.{◌≡◌, IfOk};
 ghost use Rattle.fleet_model.specs.Kept.{all_pairs};
-ghost use Rattle.bound_cert.specs.OfTables.{IsOfTables};
+ghost use Rattle.dual_bound.specs.OfTables.{IsOfTables};
 ghost use Rattle.cert_check.specs.Verdicts.{AreSound};
-ghost use Rattle.branch_bound.specs.Causes.{zero_prices};
 ghost use Rattle.branch_bound.specs.Closing.{closed_by};
-ghost use Rattle.branch_bound.specs.Search.{Follows, IsBranch, IsSearch, cost_of};
+ghost use Rattle.branch_bound.specs.Search.{cost_of};
+ghost use Rattle.branch_bound.specs.Settled.{IsAllFound};
 ghost use Rattle.branch_bound.specs.Solved.{IsSolved};
-ghost use Rattle.branch_bound.specs.Trims.{IsTrimmed};
 
 use crate::branching::branch;
 use crate::closing::close;
-use crate::made_prices::zeros;
+use crate::growing::grown;
 use crate::removals::{below, remove};
 use crate::search::{Plan, Search};
 use crate::settling::settle;
 use crate::solved::Solved;
-use bound_cert::Tree;
+use dual_bound::Tree;
 use entries::NoMemory;
 use fleet_model::{Kept, Tables};
 use presolve::trim;
@@ -25,37 +24,35 @@ use std::alloc::Global;
 /// Solves tables, with at most so many splits, and at most so many pivots for each subproblem (Hane and others 1995:
 /// presolve, linear relaxations, branch and bound).
 ///
-/// Subproblems are worked depth first, the part with the pair first. Once all splits are made, those that wait are
-/// still bounded. The linear program of a subproblem has all its numbers, zeros too.
+/// A subproblem is solved when it is made. The next to be split is the one of the least rounded worth, and at a tie the
+/// one that was made first, so the bound never falls from split to split (best-first search: Lawler and Wood 1966).
 pub fn solve(alloc: Global, tables: &Tables, nodes: u64, pivots: u64) -> Result<Solved, NoMemory>
     ensures { IfOk result (IsSolved tables.now nodes pivots) }
 {
-    let mut search = Search {
-        nodes,
-        pivots,
-        splits: 0,
-        best: None,
-    };
-    let mut tree = searched(alloc, tables, &mut search)?;
-    let Search { best, .. } = search;
+    let Found { best, mut tree } = searched(alloc, tables, nodes, pivots)?;
     close_all(alloc, tables, &best, &mut tree);
     Ok(settle(tables, best, tree))
 }
 
-// The tree of all pairs.
-fn searched(alloc: Global, tables: &Tables, search: &mut Search) -> Result<Tree, NoMemory>
-    requires { IsSearch tables.now search.old }
-    ensures search { OnOk result (IsSearch tables.now search.new) }
-    ensures follows { OnOk result (Follows search.old search.new) }
-    ensures tree { IfOk result (IsBranch tables.now search.old search.new (all_pairs tables.now) (zero_prices tables.now)) }
-    ensures trimmed { IfOk result (IsTrimmed tables.now) }
+/// The cheapest plan that a search found, and its tree.
+#[derive(Debug, Drop)]
+pub(crate) struct Found {
+    pub(crate) best: Option<Plan>,
+    pub(crate) tree: Tree,
+}
+
+// Searches all pairs.
+fn searched(alloc: Global, tables: &Tables, nodes: u64, pivots: u64) -> Result<Found, NoMemory>
+    ensures { IfOk result (λ f. IsAllFound tables.now nodes pivots f.best f.tree) }
 {
     let removals = trim(alloc, tables)?;
     let mut kept = Kept::all(tables);
     remove(&mut kept, removals.as_slice());
-    let above = zeros(alloc, tables)?;
-    let rest = branch(alloc, tables, search, &mut kept, &above)?;
-    below(alloc, removals, rest)
+    let search = branch(alloc, tables, nodes, pivots, &kept)?;
+    let Search { best, made, .. } = search;
+    let rest = grown(alloc, made)?;
+    let tree = below(alloc, removals, rest)?;
+    Ok(Found { best, tree })
 }
 
 // Closes each open leaf of the tree of all pairs whose rounded worth reaches the cost of the plan, where there is

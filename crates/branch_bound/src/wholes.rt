@@ -1,10 +1,10 @@
 //! Fractional assignments: the first pair that is flown in part, and where there is none the assignment that is flown.
 ghost use Rattle.std.specs.Prelude.{◌≡◌, ◌<◌, MatchBool, MatchOption};
 ghost use Rattle.fleet_model.specs.Schedule.{IsPair, fleets_in, leg_on, legs_in};
-ghost use Rattle.bound_cert.specs.Fractions.{AreParts, IsWhole, IsWholeLeg, IsWholePair};
+ghost use Rattle.dual_bound.specs.Fractions.{AreParts, IsWhole, IsWholeLeg, IsWholePair};
 ghost use Rattle.branch_bound.specs.Wholes.{FliesPart, FliesParts, HasFleets, IsFirstPartialOn, IsPartial, IsSplitPair};
 
-use bound_cert::Mixed;
+use dual_bound::Mixed;
 use fleet_model::{Assignment, Pair, Tables};
 
 /// The first pair, by leg and then by fleet, that is flown in part. Takes no memory.

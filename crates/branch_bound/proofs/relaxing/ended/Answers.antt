@@ -1,7 +1,6 @@
 use Rattle.branch_bound.proofs.Lifts.{after_best, after_no_point, ends_at_best, ends_at_no_point, no_ray}
 use Rattle.branch_bound.proofs.relaxing.ended.Goals as goal
-use Rattle.price_lift.proofs.OtherEnds as other_ends
-use Rattle.price_lift.proofs.RunLaws.{laws}
+use Rattle.price_lift.proofs.RunEnds as run_ends
 
 pub lift_best-lifted-requires : goal.lift_best-lifted-requires
 lift_best-lifted-requires g c = ends_at_best _ _ _ _ _ c.requires.ended.1 _ _ _ c.in-Best.is c.as_slice.ensures
@@ -10,7 +9,7 @@ pub lift_refusal-lifted-requires : goal.lift_refusal-lifted-requires
 lift_refusal-lifted-requires g c = ends_at_no_point _ _ _ _ _ c.requires.ended.1 _ _ _ c.in-NoPoint.is c.as_slice-in-NoPoint.ensures
 
 pub unreachable-requires : goal.unreachable-requires
-unreachable-requires g c = no_ray _ _ _ _ _ c.requires.ended.1 _ (other_ends.no_ray laws) c.in-Ray.is
+unreachable-requires g c = no_ray _ _ _ _ _ c.requires.ended.1 _ run_ends.no_ray c.in-Ray.is
 
 pub returns-in-Best-clause-relaxed : goal.returns-in-Best-clause-relaxed
 returns-in-Best-clause-relaxed g c = λ pivots has.

@@ -1,7 +1,7 @@
 use Rattle.std.proofs.Common.{◌≡◌, Some, rules, subst, to_z, of_z}
 use Rattle.std.specs.Int.{w128}
 use Rattle.fleet_model.specs.Kept.{all_pairs}
-use Rattle.bound_cert.specs.Bound.{IsBound}
+use Rattle.dual_bound.specs.Bound.{IsBound}
 use Rattle.cert_check.specs.Verdicts.{AreSound, BoundsAll}
 use Rattle.branch_bound.proofs.Settled.{never_broken, planned}
 use Rattle.branch_bound.proofs.settling.planned.Goals as goal

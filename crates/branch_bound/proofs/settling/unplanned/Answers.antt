@@ -1,6 +1,6 @@
 use Rattle.std.proofs.Common.{◌≡◌, rules, subst, to_z, of_z}
 use Rattle.std.specs.Int.{w128}
-use Rattle.bound_cert.specs.Bound.{IsBound}
+use Rattle.dual_bound.specs.Bound.{IsBound}
 use Rattle.cert_check.specs.Verdicts.{BoundsAll}
 use Rattle.branch_bound.proofs.Settled.{never_broken, refuted, unsettled}
 use Rattle.branch_bound.proofs.settling.unplanned.Goals as goal

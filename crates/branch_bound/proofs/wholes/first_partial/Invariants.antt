@@ -1,5 +1,5 @@
 use Rattle.std.proofs.Common.{ℕ, ◌<◌}
-use Rattle.bound_cert.specs.Fractions.{IsWholeLeg}
+use Rattle.dual_bound.specs.Fractions.{IsWholeLeg}
 use Rattle.branch_bound.proofs.wholes.first_partial.Given as goal
 
 abbrev pub invariant-loop-leg : goal.invariant-loop-leg

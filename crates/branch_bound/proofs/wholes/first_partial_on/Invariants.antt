@@ -1,5 +1,5 @@
 use Rattle.std.proofs.Common.{ℕ, ◌<◌}
-use Rattle.bound_cert.specs.Fractions.{IsWholePair}
+use Rattle.dual_bound.specs.Fractions.{IsWholePair}
 use Rattle.branch_bound.proofs.wholes.first_partial_on.Given as goal
 
 abbrev pub invariant-loop-fleet : goal.invariant-loop-fleet

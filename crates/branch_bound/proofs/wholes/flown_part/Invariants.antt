@@ -1,6 +1,6 @@
 use Rattle.std.proofs.Common.{◌≡◌, ℕ, ◌<◌, pos}
 use Rattle.fleet_model.specs.Schedule.{leg_on}
-use Rattle.bound_cert.specs.Mixed.{weight_in}
+use Rattle.dual_bound.specs.Mixed.{weight_in}
 use Rattle.branch_bound.proofs.wholes.flown_part.Given as goal
 
 abbrev pub invariant-loop-fleet : goal.invariant-loop-fleet

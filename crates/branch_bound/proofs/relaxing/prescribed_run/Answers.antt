@@ -1,5 +1,5 @@
 use Rattle.branch_bound.proofs.Lifts.{has_ended}
-use Rattle.branch_bound.proofs.relaxing.relax_by.Goals as goal
+use Rattle.branch_bound.proofs.relaxing.prescribed_run.Goals as goal
 
 pub ended-requires-clause-ended : goal.ended-requires-clause-ended
 ended-requires-clause-ended g c =

@@ -1,0 +1,78 @@
+-- Subproblems that were just made: none of them is a split, and a leaf among them doesn't wait.
+use Rattle.std.proofs.Common.{ℕ, List, Option, ℤ}
+use Rattle.fleet_model.specs.Kept.{Domains}
+use Rattle.fleet_model.specs.declared.tables.Tables.{Tables}
+use Rattle.dual_bound.specs.declared.prices.Prices.{Prices}
+use Rattle.dual_bound.specs.declared.trees.Cause.{Cause}
+use Rattle.dual_bound.specs.declared.trees.Cause.TheVariants as cause
+use Rattle.dual_bound.specs.declared.trees.Tree.{Tree}
+use Rattle.dual_bound.specs.declared.trees.Tree.TheVariants as tree
+use Rattle.branch_bound.specs.Examined.{IsDoneLeaf, IsFresh, IsStoppedBy}
+use Rattle.branch_bound.specs.History.{HasItsParts, IsAtLevel, IsReachedNode, IsSingle}
+use Rattle.branch_bound.specs.Made.{IsInTurn, WaitsAs}
+use Rattle.branch_bound.specs.Search.{node_of}
+use Rattle.branch_bound.specs.Worked.{IsOpenWorth, Worked, own_node}
+use Rattle.branch_bound.specs.declared.subproblems.State.{State}
+use Rattle.branch_bound.specs.declared.subproblems.State.TheVariants as state
+use Rattle.branch_bound.specs.declared.subproblems.Subproblem.{Subproblem}
+
+-- ---- leaves
+stopped_waits_not : (t : Tables) (keeps : Domains) (prices : Prices) (why : Cause) (worth : ℤ) → IsStoppedBy why → ¬ (IsOpenWorth t keeps prices why worth)
+stopped_waits_not t keeps prices (cause.Nodes mixed) worth stopped open_worth = stopped
+stopped_waits_not t keeps prices (cause.Pivots made) worth stopped open_worth = open_worth
+stopped_waits_not t keeps prices (cause.Grew made row column) worth stopped open_worth = open_worth
+stopped_waits_not t keeps prices (cause.Lift step at) worth stopped open_worth = open_worth
+
+module _ (t : Tables) (keeps : Domains) where
+  pub leaf_waits_not : (leaf : Tree) (parts number : ℕ) (worth : ℤ) → IsDoneLeaf leaf → ¬ (WaitsAs t keeps (own_node leaf) parts number worth)
+  leaf_waits_not (tree.Bare leg) parts number worth done waits = waits
+  leaf_waits_not tree.Sole parts number worth done waits = waits
+  leaf_waits_not (tree.Refuted prices) parts number worth done waits = waits
+  leaf_waits_not (tree.Priced prices) parts number worth done waits = waits
+  leaf_waits_not (tree.Open prices why) parts number worth done waits = stopped_waits_not t keeps prices why worth done waits
+  leaf_waits_not (tree.Trim' leg fleet p with_pair q without) parts number worth done waits = done
+  leaf_waits_not (tree.Split' leg fleet prices mixed p with_pair q without) parts number worth done waits = done
+
+  pub leaf_level : (level : Option ℤ) (leaf : Tree) → IsDoneLeaf leaf → IsAtLevel t level keeps (own_node leaf)
+  leaf_level level (tree.Bare leg) done = tt
+  leaf_level level tree.Sole done = tt
+  leaf_level level (tree.Refuted prices) done = tt
+  leaf_level level (tree.Priced prices) done = tt
+  leaf_level level (tree.Open prices why) done = λ worth open_worth. absurd (stopped_waits_not t keeps prices why worth done open_worth)
+  leaf_level level (tree.Trim' leg fleet p with_pair q without) done = absurd done
+  leaf_level level (tree.Split' leg fleet prices mixed p with_pair q without) done = absurd done
+
+  pub leaf_reached : (cost : Option ℤ) (leaf : Tree) → IsDoneLeaf leaf → IsReachedNode t cost keeps (own_node leaf)
+  leaf_reached cost (tree.Bare leg) done = tt
+  leaf_reached cost tree.Sole done = tt
+  leaf_reached cost (tree.Refuted prices) done = tt
+  leaf_reached cost (tree.Priced prices) done = tt
+  leaf_reached cost (tree.Open prices why) done = λ worth open_worth. absurd (stopped_waits_not t keeps prices why worth done open_worth)
+  leaf_reached cost (tree.Trim' leg fleet p with_pair q without) done = absurd done
+  leaf_reached cost (tree.Split' leg fleet prices mixed p with_pair q without) done = absurd done
+
+module _ (t : Tables) (count : ℕ) (made : ℕ → Worked) (found : ℕ → Option ℤ) (parts : ℕ → ℕ) (k : ℕ) where
+  leaf_turn : (leaf : Tree) → IsDoneLeaf leaf → IsInTurn t count made found parts k (own_node leaf)
+  leaf_turn (tree.Bare leg) done = tt
+  leaf_turn tree.Sole done = tt
+  leaf_turn (tree.Refuted prices) done = tt
+  leaf_turn (tree.Priced prices) done = tt
+  leaf_turn (tree.Open prices why) done = tt
+  leaf_turn (tree.Trim' leg fleet p with_pair q without) done = tt
+  leaf_turn (tree.Split' leg fleet prices mixed p with_pair q without) done = absurd done
+
+  -- ---- all that were just made
+  pub fresh_turn : (s : State) → IsFresh s → IsInTurn t count made found parts k (node_of s)
+  fresh_turn (state.Leaf leaf) fresh = leaf_turn leaf fresh
+  fresh_turn (state.Waiting f) fresh = tt
+  fresh_turn (state.Split f) fresh = absurd fresh
+
+pub fresh_parts : (all : List Subproblem) (parts : ℕ → ℕ) (k : ℕ) (s : State) → IsFresh s → HasItsParts all parts k s
+fresh_parts all parts k (state.Leaf leaf) fresh = tt
+fresh_parts all parts k (state.Waiting f) fresh = tt
+fresh_parts all parts k (state.Split f) fresh = absurd fresh
+
+pub fresh_single : (s : State) → IsFresh s → IsSingle s
+fresh_single (state.Leaf leaf) fresh = fresh
+fresh_single (state.Waiting f) fresh = tt
+fresh_single (state.Split f) fresh = absurd fresh

@@ -1,0 +1,5 @@
+use Rattle.branch_bound.proofs.Allowed.{allowed_part, allowed_rows}
+use Rattle.branch_bound.proofs.branching.part.Goals as goal
+
+pub examine-requires-clause-allowed : goal.examine-requires-clause-allowed
+examine-requires-clause-allowed c = allowed_rows _ _ _ c.narrow-undo.ensures.kept (allowed_part _ _ _ c.requires.allowed)
