@@ -1,7 +1,7 @@
-pub mod CsvWriting
 pub mod Members
 pub mod NextDays
 pub mod NoFloats
 pub mod Pieces
 pub mod PlainText
+pub mod RowWriting
 pub mod TourLegs

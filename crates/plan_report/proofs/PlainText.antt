@@ -22,11 +22,11 @@ use Rattle.ground_turns.specs.declared.nights.Night.{Night}
 use Rattle.ground_turns.specs.declared.nights.Night.TheVariants as night
 use Rattle.lines_of_flying.specs.Lines.{AreLegs}
 use Rattle.plan_text.proofs.NameText.{name_is_plain}
-use Rattle.plan_report.specs.CsvText.{csv_text}
+use Rattle.plan_text.specs.CsvText.{csv_text}
 use Rattle.plan_report.specs.RotationRecords.{Fields, Row, fleet_records, fleets_records, flight_of, leg_row, line_of_record, listed_row, night_row, pair_row, rotation_header, rotation_records, rotation_rows, rotation_text, round_records, second_round, tour_rows, yes_no}
 use Rattle.plan_report.specs.Rotations.{AreConnections, AreRotations, IsFleetRotation, IsOfLegs, rotation_of}
 use Rattle.plan_report.specs.declared.fleet_rotations.FleetRotation.{FleetRotation}
-use Rattle.plan_report.proofs.CsvWriting.{csv_text-append}
+use Rattle.plan_text.proofs.CsvWriting.{csv_text-append}
 
 abbrev needs : List ℕ → Bool
 needs field = list_any (needs_byte default_writer) field

@@ -5,8 +5,8 @@ use Rattle.serde_json.specs.Data.{Data, array, member, no_members, null, number,
 use Rattle.serde_json.specs.View.{items_of}
 use Rattle.serde_json.specs.Written.{compact_text}
 use Rattle.sums.specs.Places.{list_below}
-use Rattle.bound_cert.specs.Leaves.{counts_of}
-use Rattle.bound_cert.specs.declared.trees.TreeCounts.{TreeCounts}
+use Rattle.dual_bound.specs.Leaves.{counts_of}
+use Rattle.dual_bound.specs.declared.trees.TreeCounts.{TreeCounts}
 use Rattle.branch_bound.specs.Solved.{plan_cost, tree_of}
 use Rattle.branch_bound.specs.declared.solved.Solved.{Solved}
 use Rattle.branch_bound.specs.declared.solved.Solved.TheVariants as solved

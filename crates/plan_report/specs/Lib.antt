@@ -1,9 +1,9 @@
-pub mod CsvText
 pub mod Dates
 pub mod Json
 pub mod RotationRecords
 pub mod RotationWords
 pub mod Rotations
+pub mod RoundRows
 pub mod Summary
 pub mod Tails
 pub mod TextLines

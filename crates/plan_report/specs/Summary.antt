@@ -1,8 +1,8 @@
 -- The summary of a solution and its rotations.
 use Rattle.std.specs.Prelude.{ℕ, zero, suc, List, [], ◌∷◌, ◌++◌, codes, length, if◌then◌else◌, ℤ, Option, Some, None}
 use Rattle.std.specs.Fmt.{decimal}
-use Rattle.bound_cert.specs.Leaves.{counts_of, has_open}
-use Rattle.bound_cert.specs.declared.trees.TreeCounts.{TreeCounts}
+use Rattle.dual_bound.specs.Leaves.{counts_of, has_open}
+use Rattle.dual_bound.specs.declared.trees.TreeCounts.{TreeCounts}
 use Rattle.branch_bound.specs.Solved.{plan_cost, tree_of}
 use Rattle.branch_bound.specs.declared.solved.Solved.{Solved}
 use Rattle.branch_bound.specs.declared.solved.Solved.TheVariants as solved

@@ -1,6 +1,6 @@
 //! The summary of a solution and its rotations as JSON.
 ghost use Rattle.std.specs.Prelude.{◌≡◌, ◌<◌, IfOk, length, map};
-ghost use Rattle.bound_cert.specs.Leaves.{counts_of};
+ghost use Rattle.dual_bound.specs.Leaves.{counts_of};
 ghost use Rattle.branch_bound.specs.Solved.{PlanFits, plan_cost, tree_of};
 ghost use Rattle.fleet_model.specs.Legal.{IsAssignment};
 ghost use Rattle.fleet_model.specs.Schedule.{fleet_of, fleets_in};
@@ -14,8 +14,8 @@ ghost use Rattle.sums.specs.Places.{list_below};
 use crate::fleet_rotations::FleetRotation;
 use crate::summary_lines::outcome;
 use crate::words::rotation_words;
-use bound_cert::TreeCounts;
 use branch_bound::Solved;
+use dual_bound::TreeCounts;
 use entries::NoMemory;
 use fleet_model::{Assignment, Tables};
 use plan_judge::used;

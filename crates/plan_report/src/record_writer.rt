@@ -1,9 +1,11 @@
-//! Records of five fields, by the default writer of `csv`.
+//! Records of a round: five fields each.
 ghost use Rattle.std.specs.Prelude.{◌≡◌, [], ◌∷◌, OnOk, map};
-ghost use Rattle.plan_report.specs.CsvText.{HasRows, HasWritten, IsBetweenRecords};
+ghost use Rattle.plan_text.specs.CsvText.{HasWritten, IsBetweenRecords};
+ghost use Rattle.plan_report.specs.RoundRows.{HasRows};
 
-use csv::{Error, Writer};
+use csv::Writer;
 use entries::NoMemory;
+use plan_text::record_writer::put_record;
 
 /// A round of a fleet, as its records begin.
 #[derive(Clone, Copy)]
@@ -12,22 +14,6 @@ pub struct Round<'a> {
     pub name: &'a [u8],
     /// The number of the round.
     pub number: &'a [u8],
-}
-
-/// Writes a record.
-pub fn put_record(writer: &mut Writer<Vec<u8>>, fields: &[&[u8]]) -> Result<(), NoMemory>
-    requires { IsBetweenRecords writer.old }
-    ensures { OnOk result (HasWritten writer.old writer.new (map (λ field. field.now) fields.now ∷ [])) }
-{
-    match writer.write_fields(fields) {
-        Ok(()) => Ok(()),
-        Err(error) => Err(want_of_memory(error)),
-    }
-}
-
-/// Of a writer to memory whose records have as many fields each, an error is want of memory.
-pub fn want_of_memory(_: Error) -> NoMemory {
-    NoMemory
 }
 
 /// Writes what a record says of a round: a kind, and two fields.

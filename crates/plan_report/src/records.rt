@@ -1,17 +1,19 @@
 //! The records of rotations, written by `csv`.
 ghost use Rattle.std.specs.Prelude.{◌≡◌, ◌<◌, ◌++◌, [], ◌∷◌, IfOk, IfSome, OnOk, codes, length, map};
 ghost use Rattle.fleet_model.specs.Schedule.{fleet_of, fleets_in};
-ghost use Rattle.plan_report.specs.CsvText.{HasRows, HasWritten, IsBetweenRecords};
+ghost use Rattle.plan_text.specs.CsvText.{HasWritten, IsBetweenRecords};
+ghost use Rattle.plan_report.specs.RoundRows.{HasRows};
 ghost use Rattle.plan_report.specs.RotationRecords.{apart_rows, fleet_records, listed_row, pair_row, rotation_rows, rotation_text, second_round, spent_rows};
 ghost use Rattle.plan_report.specs.Rotations.{AreConnections, AreListed, AreRotations, IsFleetRotation, IsOfLegs};
 
 use crate::fleet_rotations::FleetRotation;
-use crate::record_writer::{Round, put_record, put_row, want_of_memory};
+use crate::record_writer::{Round, put_row};
 use crate::tour_records::put_tour;
 use csv::{Writer, WriterBuilder};
 use entries::NoMemory;
 use euler_rotation::Rotation;
 use fleet_model::{Connection, Tables};
+use plan_text::record_writer::{put_record, want_of_memory};
 use std::alloc::Global;
 
 /// The text of rotations, as `rotation.csv` holds it, where the search had so many visits: the header, and of each fleet

@@ -3,7 +3,8 @@ ghost use Rattle.std.specs.Prelude.{◌≡◌, ◌<◌, ◌++◌, [], ◌∷◌,
 ghost use Rattle.fleet_model.specs.Schedule.{fleets_in};
 ghost use Rattle.ground_turns.specs.Maps.{turn_after};
 ghost use Rattle.ground_turns.specs.Nights.{nights_in_turn};
-ghost use Rattle.plan_report.specs.CsvText.{HasRows, IsBetweenRecords};
+ghost use Rattle.plan_text.specs.CsvText.{IsBetweenRecords};
+ghost use Rattle.plan_report.specs.RoundRows.{HasRows};
 ghost use Rattle.plan_report.specs.RotationRecords.{begun_tour_rows, leg_row, night_row, yes_no};
 ghost use Rattle.plan_report.specs.Rotations.{AreListed};
 

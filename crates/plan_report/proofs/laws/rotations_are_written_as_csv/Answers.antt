@@ -1,4 +1,4 @@
-use Rattle.plan_report.specs.CsvText.{csv_text}
+use Rattle.plan_text.specs.CsvText.{csv_text}
 use Rattle.plan_report.proofs.PlainText.{written_as_csv}
 use Rattle.plan_report.proofs.laws.rotations_are_written_as_csv.Goals as goal
 

@@ -1,8 +1,9 @@
 use Rattle.std.proofs.Common.{◌++◌, codes, map, rules}
 use Rattle.fleet_model.specs.Schedule.{fleet_of}
-use Rattle.plan_report.specs.CsvText.{HasWritten}
+use Rattle.plan_text.specs.CsvText.{HasWritten}
 use Rattle.plan_report.specs.RotationRecords.{fleet_records, pair_row, rotation_rows, round_records, second_round}
-use Rattle.plan_report.proofs.CsvWriting.{rows_more, written_more}
+use Rattle.plan_text.proofs.CsvWriting.{written_more}
+use Rattle.plan_report.proofs.RowWriting.{rows_more}
 use Rattle.plan_report.proofs.records.put_fleet.Goals as goal
 
 pub returns : goal.returns

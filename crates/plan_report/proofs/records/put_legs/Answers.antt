@@ -1,7 +1,8 @@
 use Rattle.std.proofs.Common.{◌∷◌, [], get_or, rules}
-use Rattle.plan_report.specs.CsvText.{HasWritten}
+use Rattle.plan_text.specs.CsvText.{HasWritten}
 use Rattle.plan_report.specs.RotationRecords.{listed_row, round_records}
-use Rattle.plan_report.proofs.CsvWriting.{row_more, written_none}
+use Rattle.plan_text.proofs.CsvWriting.{written_none}
+use Rattle.plan_report.proofs.RowWriting.{row_more}
 use Rattle.plan_report.proofs.records.put_legs.Goals as goal
 
 pub loop-leg-init : goal.loop-leg-init

@@ -1,8 +1,9 @@
 use Rattle.std.proofs.Common.{◌∷◌, [], rules}
 use Rattle.ground_turns.specs.Maps.{no_turn, turn_at}
-use Rattle.plan_report.specs.CsvText.{HasWritten}
+use Rattle.plan_text.specs.CsvText.{HasWritten}
 use Rattle.plan_report.specs.RotationRecords.{pair_row, round_records}
-use Rattle.plan_report.proofs.CsvWriting.{row_more, written_none}
+use Rattle.plan_text.proofs.CsvWriting.{written_none}
+use Rattle.plan_report.proofs.RowWriting.{row_more}
 use Rattle.plan_report.proofs.records.put_pairs.Goals as goal
 
 pub loop-pair-init : goal.loop-pair-init

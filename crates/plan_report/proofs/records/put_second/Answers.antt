@@ -1,4 +1,4 @@
-use Rattle.plan_report.proofs.CsvWriting.{written_none}
+use Rattle.plan_text.proofs.CsvWriting.{written_none}
 use Rattle.plan_report.proofs.records.put_second.Goals as goal
 
 pub returns-in-None : goal.returns-in-None

@@ -1,8 +1,8 @@
 use Rattle.std.proofs.Common.{◌∷◌, ◌++◌, [], codes, length, map, rules}
 use Rattle.std.specs.Fmt.{decimal}
-use Rattle.plan_report.specs.CsvText.{HasWritten}
+use Rattle.plan_text.specs.CsvText.{HasWritten}
 use Rattle.plan_report.specs.RotationRecords.{Row, listed_row, round_records}
-use Rattle.plan_report.proofs.CsvWriting.{rows_more}
+use Rattle.plan_report.proofs.RowWriting.{rows_more}
 use Rattle.plan_report.proofs.records.put_spent.Goals as goal
 
 pub returns : goal.returns

@@ -1,9 +1,9 @@
 use Rattle.std.proofs.Common.{◌≡◌, ◌<◌, ◌∙◌, sym, subst, length, arith, rules}
 use Rattle.std.proofs.lemmas.List.{get_or_default}
-use Rattle.plan_report.specs.CsvText.{HasWritten, csv_text, text_in}
+use Rattle.plan_text.specs.CsvText.{HasWritten, csv_text, text_in}
 use Rattle.plan_report.specs.RotationRecords.{fleet_records, rotation_records}
 use Rattle.plan_report.specs.Rotations.{no_rotation, rotation_of}
-use Rattle.plan_report.proofs.CsvWriting.{fleet_more}
+use Rattle.plan_report.proofs.RowWriting.{fleet_more}
 use Rattle.plan_report.proofs.PlainText.{written_as_csv}
 use Rattle.plan_report.proofs.records.rotation_csv.Goals as goal
 

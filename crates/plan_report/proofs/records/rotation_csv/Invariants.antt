@@ -1,5 +1,5 @@
 use Rattle.std.proofs.Common.{◌≡◌, ◌∷◌}
-use Rattle.plan_report.specs.CsvText.{IsBetweenRecords, csv_text, text_in}
+use Rattle.plan_text.specs.CsvText.{IsBetweenRecords, csv_text, text_in}
 use Rattle.plan_report.specs.RotationRecords.{fleets_records, rotation_header}
 use Rattle.plan_report.proofs.records.rotation_csv.Given as goal
 

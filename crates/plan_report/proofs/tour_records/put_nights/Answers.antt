@@ -1,6 +1,6 @@
 use Rattle.std.proofs.Common.{arith, rules}
 use Rattle.lines_of_flying.specs.Lines.{nights_after}
-use Rattle.plan_report.proofs.CsvWriting.{nights_written}
+use Rattle.plan_report.proofs.RowWriting.{nights_written}
 use Rattle.plan_report.proofs.tour_records.put_nights.Goals as goal
 
 pub overflow_sub-waited : goal.overflow_sub-waited

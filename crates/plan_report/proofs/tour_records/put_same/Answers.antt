@@ -1,8 +1,9 @@
 use Rattle.std.proofs.Common.{◌∷◌, [], codes, replicate, subst}
 use Rattle.std.proofs.lemmas.List.{replicate_more}
-use Rattle.plan_report.specs.CsvText.{HasWritten}
+use Rattle.plan_text.specs.CsvText.{HasWritten}
 use Rattle.plan_report.specs.RotationRecords.{Row, round_records}
-use Rattle.plan_report.proofs.CsvWriting.{rows_more, written_none}
+use Rattle.plan_text.proofs.CsvWriting.{written_none}
+use Rattle.plan_report.proofs.RowWriting.{rows_more}
 use Rattle.plan_report.proofs.tour_records.put_same.Goals as goal
 
 pub loop-init : goal.loop-init

@@ -1,5 +1,5 @@
 use Rattle.std.proofs.Common.{codes, replicate}
-use Rattle.plan_report.specs.CsvText.{HasWritten}
+use Rattle.plan_text.specs.CsvText.{HasWritten}
 use Rattle.plan_report.specs.RotationRecords.{round_records}
 use Rattle.plan_report.proofs.tour_records.put_same.Given as goal
 

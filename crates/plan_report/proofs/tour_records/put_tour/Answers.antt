@@ -1,4 +1,4 @@
-use Rattle.plan_report.proofs.CsvWriting.{tour_more}
+use Rattle.plan_report.proofs.RowWriting.{tour_more}
 use Rattle.plan_report.proofs.tour_records.put_tour.Goals as goal
 
 pub loop-place-preserved : goal.loop-place-preserved

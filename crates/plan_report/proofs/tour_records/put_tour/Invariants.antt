@@ -1,4 +1,4 @@
-use Rattle.plan_report.specs.CsvText.{HasWritten}
+use Rattle.plan_text.specs.CsvText.{HasWritten}
 use Rattle.plan_report.specs.RotationRecords.{begun_tour_rows, round_records}
 use Rattle.plan_report.proofs.tour_records.put_tour.Given as goal
 

@@ -1,8 +1,6 @@
--- Records written one after the other.
-use Rattle.std.proofs.Common.{◌≡◌, ℕ, zero, suc, ◌+◌, ◌<◌, List, [], ◌∷◌, ◌++◌, length, map, replicate, take, get_or, refl, sym, ap, subst, ◌∙◌, add-one, append_assoc, codes, slice_index, rules}
-use Rattle.std.proofs.lemmas.Grind.{flat_map-append}
-use Rattle.std.proofs.lemmas.List.{append-nil, map-append, map_push, take_more}
-use Rattle.csv.specs.Writing.{default_writer, row_text}
+-- Rows of rounds written one after the other.
+use Rattle.std.proofs.Common.{◌≡◌, ℕ, zero, suc, ◌+◌, ◌<◌, List, [], ◌∷◌, ◌++◌, length, map, replicate, take, get_or, refl, sym, ap, subst, ◌∙◌, add-one, append_assoc, codes, slice_index}
+use Rattle.std.proofs.lemmas.List.{map-append, map_push, take_more}
 use Rattle.fleet_model.specs.declared.tables.Tables.{Tables}
 use Rattle.fleet_model.specs.Schedule.{leg_on, station_of}
 use Rattle.fleet_model.specs.Times.{nights_of}
@@ -11,35 +9,11 @@ use Rattle.ground_turns.specs.Nights.{nights_in_turn}
 use Rattle.ground_turns.specs.Turns.{nights_waited, station_at}
 use Rattle.ground_turns.specs.declared.nights.Night.{Night}
 use Rattle.ground_turns.specs.declared.nights.Night.TheVariants as night
-use Rattle.plan_report.specs.CsvText.{HasWritten, IsBetweenRecords, TextWriter, csv_text, text_in}
-use Rattle.plan_report.specs.RotationRecords.{Fields, Row, begun_tour_rows, fleet_records, fleets_records, leg_row, night_row, rotation_header, round_records, row_record, yes_no}
+use Rattle.plan_text.proofs.CsvWriting.{text_more, written_more}
+use Rattle.plan_text.specs.CsvText.{HasWritten, TextWriter, csv_text, text_in}
+use Rattle.plan_report.specs.RotationRecords.{Row, begun_tour_rows, fleet_records, fleets_records, leg_row, night_row, rotation_header, round_records, row_record, yes_no}
 use Rattle.plan_report.specs.Rotations.{rotation_of}
 use Rattle.plan_report.specs.declared.fleet_rotations.FleetRotation.{FleetRotation}
-
-pub csv_text-append : (xs ys : List Fields) → csv_text (xs ++ ys) ≡ csv_text xs ++ csv_text ys
-unfolding csv_text
-csv_text-append xs ys = flat_map-append (row_text default_writer) xs ys
-
-pub csv_text-one : (x : Fields) → csv_text (x ∷ []) ≡ row_text default_writer x
-unfolding csv_text
-csv_text-one x = append-nil (row_text default_writer x)
-
-csv_text-none : csv_text [] ≡ []
-unfolding csv_text
-csv_text-none = search rules
-
--- nothing is written yet
-pub written_none : (w : TextWriter) → IsBetweenRecords w → HasWritten w w []
-written_none w is = record { between = is; text = sym (append-nil (text_in w)) ∙ ap (λ t. text_in w ++ t) (sym csv_text-none) }
-
--- records, and then more
-pub written_more : (a b c : TextWriter) (xs ys : List Fields) → HasWritten a b xs → HasWritten b c ys → HasWritten a c (xs ++ ys)
-written_more a b c xs ys front rest = record {
-  between = rest.between;
-  text =
-      rest.text ∙ ap (λ t. t ++ csv_text ys) front.text ∙ append_assoc (text_in a) (csv_text xs) (csv_text ys)
-      ∙ ap (λ t. text_in a ++ t) (sym (csv_text-append xs ys));
-}
 
 -- rows of a round, and then more
 pub rows_more : (name number : List ℕ) (a b c : TextWriter) (xs ys : List Row) → HasWritten a b (round_records name number xs)
@@ -90,8 +64,7 @@ pub fleet_more : (t : Tables) (visits : ℕ) (rotations : List FleetRotation) (n
     → HasWritten b c (fleet_records t visits (rotation_of rotations n) n)
     → text_in c ≡ csv_text (rotation_header ∷ fleets_records t visits rotations (n + 1))
 fleet_more t visits rotations n b c front rest =
-    rest.text ∙ ap (λ text. text ++ csv_text (fleet_records t visits (rotation_of rotations n) n)) front
-    ∙ sym (csv_text-append (rotation_header ∷ fleets_records t visits rotations n) (fleet_records t visits (rotation_of rotations n) n))
+    text_more b c (rotation_header ∷ fleets_records t visits rotations n) (fleet_records t visits (rotation_of rotations n) n) front rest
     ∙ ap (λ k. csv_text (rotation_header ∷ fleets_records t visits rotations k)) (sym (add-one n))
 
 -- the nights after a leg of a tour, by their numbers and the fields of the station
