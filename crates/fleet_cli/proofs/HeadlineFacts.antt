@@ -1,16 +1,16 @@
 -- What solving leaves, from the answer that was given.
-use Rattle.std.proofs.Common.{◌≡◌, ◌≢◌, ℕ, Bool, true, false, List, ◌++◌, codes, Option, Some, None, IfSome, inl, inr, sym, ap, ◌∙◌, rules}
+use Rattle.std.proofs.Common.{◌≡◌, ◌≢◌, ℕ, Bool, true, false, List, ◌++◌, codes, Option, Some, inl, inr, ap, ◌∙◌, rules}
 use Rattle.std.specs.Str.{bytes_eq}
 use Rattle.std.proofs.lemmas.List.{append_cancel_left}
 use Rattle.std.proofs.lemmas.Map.{update_other, update_same}
 use Rattle.table_rows.proofs.FrontReading.{bytes_eq-self}
 use Rattle.table_rows.proofs.Numbered.{bytes_eq-differ}
-use Rattle.command_words.specs.Words.{Asked, check, judge, solve, tails}
+use Rattle.command_words.specs.Words.{solve}
 use Rattle.command_words.specs.declared.command.SolveOptions.{SolveOptions}
 use Rattle.fleet_model.specs.declared.parts.Settings.{Settings}
 use Rattle.fleet_model.specs.declared.tables.Tables.{Tables}
 use Rattle.bound_cert.specs.ProofText.{proof_text}
-use Rattle.bound_cert.specs.declared.trees.Tree.{Tree}
+use Rattle.dual_bound.specs.declared.trees.Tree.{Tree}
 use Rattle.plan_desk.specs.Desk.{Files, with_file}
 use Rattle.plan_desk.specs.DeskFile.{path_of}
 use Rattle.plan_desk.specs.Sink.{output_with}
@@ -18,12 +18,10 @@ use Rattle.plan_report.specs.RotationRecords.{rotation_text}
 use Rattle.plan_report.specs.declared.fleet_rotations.FleetRotation.{FleetRotation}
 use Rattle.plan_text.specs.Text.{plan_text}
 use Rattle.plan_desk.specs.declared.file.DeskFile.TheVariants as desk_file
-use Rattle.fleet_cli.proofs.BoundFacts.{checked_tells}
 use Rattle.fleet_cli.proofs.OneAnswer.{not_refused}
 use Rattle.fleet_cli.specs.Answer.{Answers, Solves}
 use Rattle.fleet_cli.specs.Contents.{bytes_in, table_bytes}
-use Rattle.fleet_cli.specs.Headline.{Headline, TellsSolution, is_planned, plan_there}
-use Rattle.fleet_cli.specs.Reading.{folder_of}
+use Rattle.fleet_cli.specs.Headline.{TellsSolution, is_planned, plan_there}
 use Rattle.fleet_cli.specs.Run.{IsSolution}
 use Rattle.branch_bound.specs.Solved.{tree_of}
 use Rattle.fleet_cli.specs.Solution.{solved_files}
@@ -92,7 +90,7 @@ module _ (held : Files) (dir : List ℕ) (t : Tables) (rotations : List FleetRot
   rotation_stands (solved.Unsettled bound tree) = here (with_file held (path_of dir desk_file.Proof) (Some (proof_text t false tree))) (path_of dir desk_file.Rotation) _
 
 module _ (held : Files) (dir : List ℕ) (settings : Settings) (options : SolveOptions) (answer : Answer) (code : ℕ) (told : Option Files) (before after : Option (List ℕ)) where
-  solved_leaves : Answers held (Some (solve dir settings options)) answer → code ≡ answer.status.code → told ≡ held_with_texts (Some held) dir answer.files → after ≡ output_with before answer.text → IsSolution code
+  pub solved_leaves : Answers held (Some (solve dir settings options)) answer → code ≡ answer.status.code → told ≡ held_with_texts (Some held) dir answer.files → after ≡ output_with before answer.text → IsSolution code
       → TellsSolution held told dir settings options code before after
   solved_leaves (inl long) is written put solution = absurd (not_refused code solution (is ∙ ap (λ (a : Answer). a.status.code) long.is))
   solved_leaves (inr read) is written put solution = by_tables read.answers
@@ -117,12 +115,3 @@ module _ (held : Files) (dir : List ℕ) (settings : Settings) (options : SolveO
           code_is = is ∙ ap (λ (a : Answer). a.status.code) given.is;
         };
       }
-
-pub headline : (told stands : Option Files) (asked : Option Asked) (answer : Answer) (code : ℕ) (before after : Option (List ℕ)) → IfSome told (λ held. Answers held asked answer) → code ≡ answer.status.code
-    → stands ≡ held_with_texts told (folder_of asked) answer.files → after ≡ output_with before answer.text → IfSome told (λ held. Headline held asked code stands before after)
-headline None stands asked answer code before after answers is written put = tt
-headline (Some held) stands None answer code before after answers is written put = tt
-headline (Some held) stands (Some (judge dir settings)) answer code before after answers is written put = tt
-headline (Some held) stands (Some (solve dir settings options)) answer code before after answers is written put = solved_leaves held dir settings options answer code stands before after answers is written put
-headline (Some held) stands (Some (tails dir settings limits dates)) answer code before after answers is written put = tt
-headline (Some held) stands (Some (check dir settings)) answer code before after answers is written put = λ done. checked_tells answer (sym is ∙ done) held dir settings before after answers put

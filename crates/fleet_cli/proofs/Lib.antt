@@ -1,8 +1,11 @@
 pub mod AnswerFacts
 pub mod BoundFacts
+pub mod CheckedByDay
 pub mod FileNames
 pub mod FrontFacts
 pub mod HeadlineFacts
+pub mod Headlines
+pub mod MadeFolder
 pub mod OneAnswer
 pub mod OneChecking
 pub mod OneJudging
@@ -16,5 +19,6 @@ pub mod SameBytes
 pub mod SolvedFiles
 pub mod SolvedHolds
 pub mod StopFacts
+pub mod TextsStand
 pub mod WordFacts
 pub mod WrittenFacts

@@ -1,12 +1,12 @@
 -- What is held and what is asked fix the answer, and what is good is answered as such.
 use Rattle.std.proofs.Common.{◌≡◌, ℕ, List, Option, Some, None, IfSome, ℤ, refl, sym, ap, subst, ◌∙◌, inl, inr, arith}
 use Rattle.std.proofs.lemmas.Bool.{cases_Bool}
-use Rattle.bound_cert.specs.Leaves.{has_open}
+use Rattle.dual_bound.specs.Leaves.{has_open}
 use Rattle.branch_bound.specs.declared.solved.Solved.{Solved}
 use Rattle.branch_bound.specs.declared.solved.Solved.TheVariants as solved
 use Rattle.cert_check.specs.declared.checked.Checked.TheVariants as checked
 use Rattle.command_words.specs.Arguments.{AskedDates}
-use Rattle.command_words.specs.Words.{Asked, check, judge, solve, tails}
+use Rattle.command_words.specs.Words.{Asked, check, judge, make, solve, tails}
 use Rattle.command_words.specs.declared.command.RotationLimits.{RotationLimits}
 use Rattle.command_words.specs.declared.command.SolveOptions.{SolveOptions}
 use Rattle.fleet_model.specs.Legal.{total_cost}
@@ -18,13 +18,14 @@ use Rattle.plan_desk.specs.declared.file.DeskFile.TheVariants as file
 use Rattle.plan_judge.specs.declared.verdicts.Verdict.TheVariants as verdict
 use Rattle.sched_read.proofs.ReadLaws as tables
 use Rattle.sched_read.specs.Reading.{TableBytes}
+use Rattle.fleet_cli.proofs.MadeFolder.{flyable, none_reached, none_read}
 use Rattle.fleet_cli.proofs.OneChecking.{checks}
 use Rattle.fleet_cli.proofs.OneJudging.{judges, refuses_tables}
 use Rattle.fleet_cli.proofs.OneReading.{one_too_long, within_or_long}
 use Rattle.fleet_cli.proofs.OneTelling.{tells, tells_legal}
 use Rattle.fleet_cli.proofs.OpenFacts.{no_plan_alone}
 use Rattle.fleet_cli.proofs.SameBytes.{follows_plan}
-use Rattle.fleet_cli.specs.Answer.{Answers, AnswersOf, ChecksProof, ChecksTree, Solves, says}
+use Rattle.fleet_cli.specs.Answer.{Answers, AnswersOf, AnswersSome, ChecksProof, ChecksTree, Solves, says}
 use Rattle.fleet_cli.specs.Contents.{FileBytes, bytes_in, table_bytes}
 use Rattle.fleet_cli.specs.Gathered.{AllStand, IsHeld}
 use Rattle.fleet_cli.specs.Laws.{IsFixed}
@@ -67,6 +68,7 @@ module _ (answer other : Answer) where
   one_of (Some (solve dir settings options)) bytes x y fixed = solves settings options fixed (table_bytes bytes) x y
   one_of (Some (check dir settings)) bytes x y fixed = checks answer other settings (table_bytes bytes) (bytes file.Proof) (bytes file.Plan) x y
   one_of (Some (tails dir settings limits dates)) bytes x y fixed = tells limits dates answer other fixed settings (table_bytes bytes) (bytes file.Plan) x y
+  one_of (Some (make dir number legs)) bytes x y fixed = absurd fixed
 
 pub one_answer : (held : Files) (asked : Option Asked) (answer other : Answer) → Answers held asked answer → Answers held asked other → IsFixed asked other → answer ≡ other
 one_answer held asked answer other (inl x) (inl y) fixed = x.is ∙ ap (λ f. says BAD_INPUT (bad_input_text f 0 TOO_LONG)) (one_too_long asked held x.file y.file x.longer y.longer) ∙ sym y.is
@@ -83,7 +85,7 @@ exactly (Some held) asked answer code before after answers is put = λ other wan
     record { code_is = is ∙ ap (λ (a : Answer). a.status.code) same; put = put ∙ ap (λ (a : Answer). output_with before a.text) same }
 
 -- the first files stand there within their limits, and so does the plan where it is asked for
-all_within : (held : Files) (asked : Option Asked) → AllStand held (folder_of asked) (first_files asked)
+pub all_within : (held : Files) (asked : Option Asked) → AllStand held (folder_of asked) (first_files asked)
     → (Follows asked (bytes_in held (folder_of asked)) file.Plan → IsHeld held (folder_of asked) file.Plan (bytes_in held (folder_of asked) file.Plan)) → AllWithin asked held
 all_within held asked stand further = record {
   first = stand;
@@ -150,7 +152,7 @@ tails_there held dir settings limits dates answer (inl x) legal =
     absurd (within_or_long (Some (tails dir settings limits dates)) held x.file (all_within held (Some (tails dir settings limits dates)) legal.there (λ follows. absurd follows)) x.longer)
 tails_there held dir settings limits dates answer (inr x) legal = tells_legal limits dates answer held dir settings legal x.answers
 
-pub complete_there : (held : Files) (asked : Option Asked) (answer : Answer) → Answers held asked answer → IsComplete held asked answer.status.code
+pub complete_there : (held : Files) (asked : Option Asked) (answer : Answer) → Answers held asked answer → IsComplete (Some held) asked answer.status.code
 complete_there held None answer answers = tt
 complete_there held (Some (judge dir settings)) answer answers = λ legal.
     let right = legal_answer held dir settings legal in
@@ -160,8 +162,20 @@ complete_there held (Some (check dir settings)) answer answers = λ proof.
     let right = proof_answer held dir settings proof in
     ap (λ (a : Answer). a.status.code) (one_answer held (Some (check dir settings)) answer (says DONE right.0) answers right.1 tt)
 complete_there held (Some (tails dir settings limits dates)) answer answers = tails_there held dir settings limits dates answer answers
+complete_there held (Some (make dir number legs)) answer (inl long) = absurd (none_reached held dir number legs long.file long.longer.reached)
+complete_there held (Some (make dir number legs)) answer (inr read) = flyable number legs answer read.answers
 
-pub complete : (told : Option Files) (asked : Option Asked) (answer : Answer) (code : ℕ) → IfSome told (λ held. Answers held asked answer) → code ≡ answer.status.code
-    → IfSome told (λ held. IsComplete held asked code)
-complete None asked answer code answers is = tt
-complete (Some held) asked answer code answers is = rw is (complete_there held asked answer answers)
+-- the same of a desk that may not tell: what is made rests on nothing that is held
+complete_by : (told : Option Files) (asked : Option Asked) (longer : Type 0) (answer : Answer) → IfSome told (λ held. Answers held asked answer) → AnswersSome longer asked answer → IsComplete told asked answer.status.code
+complete_by (Some held) asked longer answer answers some = complete_there held asked answer answers
+complete_by None None longer answer answers some = tt
+complete_by None (Some (judge dir settings)) longer answer answers some = λ none. absurd none
+complete_by None (Some (solve dir settings options)) longer answer answers some = λ none. absurd none
+complete_by None (Some (check dir settings)) longer answer answers some = λ none. absurd none
+complete_by None (Some (tails dir settings limits dates)) longer answer answers some = λ none. absurd none
+complete_by None (Some (make dir number legs)) longer answer answers (inl long) = absurd (none_read dir number legs long.file long.longer.read)
+complete_by None (Some (make dir number legs)) longer answer answers (inr some) = flyable number legs answer some.1
+
+pub complete : (told : Option Files) (asked : Option Asked) (longer : Type 0) (answer : Answer) (code : ℕ) → IfSome told (λ held. Answers held asked answer) → AnswersSome longer asked answer
+    → code ≡ answer.status.code → IsComplete told asked code
+complete told asked longer answer code answers some is = rw is (complete_by told asked longer answer answers some)

@@ -1,10 +1,10 @@
 -- The bytes of the tables, of the proof and of the plan fix what checking answers.
 use Rattle.std.proofs.Common.{◌≡◌, ◌⊎◌, ℕ, ◌+◌, ◌-◌, Bool, true, false, List, length, Option, Some, None, Err, ℤ, refl, sym, ap, subst, ◌∙◌, inl, inr, arith}
 use Rattle.bound_cert.specs.Lines.{Reading, Stopped, left_of}
-use Rattle.bound_cert.specs.Nodes.{nodes_of}
+use Rattle.dual_bound.specs.Nodes.{nodes_of}
 use Rattle.bound_cert.specs.ReadProof.{IsFirstFault}
 use Rattle.bound_cert.specs.declared.faults.CertFault.{CertFault}
-use Rattle.bound_cert.specs.declared.trees.Tree.{Tree}
+use Rattle.dual_bound.specs.declared.trees.Tree.{Tree}
 use Rattle.cert_check.proofs.OneVerdict as tree
 use Rattle.csv_fields.specs.Record.{records_of}
 use Rattle.fleet_model.specs.Legal.{IsLegal, total_cost}

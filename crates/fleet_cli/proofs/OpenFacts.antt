@@ -1,9 +1,9 @@
 -- What the tables and the proof of a folder come to.
 use Rattle.std.proofs.Common.{◌≡◌, ◌⊎◌, ℕ, Bool, true, false, List, Some, Ok, refl, sym, ap, subst, ◌∙◌, inl, inr}
 use Rattle.bound_cert.specs.Lines.{Reading}
-use Rattle.bound_cert.specs.Nodes.{nodes_of}
+use Rattle.dual_bound.specs.Nodes.{nodes_of}
 use Rattle.bound_cert.specs.ReadProof.{ReadsAs}
-use Rattle.bound_cert.specs.declared.nodes.Node.{Node}
+use Rattle.dual_bound.specs.declared.nodes.Node.{Node}
 use Rattle.bound_cert.specs.declared.reading.Proof.{Proof}
 use Rattle.command_words.specs.Words.{check}
 use Rattle.fleet_model.specs.declared.parts.Settings.{Settings}

@@ -1,18 +1,23 @@
 -- What an answer is, and the names that keep what they hold after it.
-use Rattle.std.proofs.Common.{◌≡◌, ◌≢◌, ◌⊎◌, ℕ, suc, Bool, true, false, List, [], ◌∷◌, take, All, Option, Some, None, IfSome, ℤ, inl, inr, refl, sym, ap, subst, ◌∙◌, arith}
+use Rattle.std.proofs.Common.{◌≡◌, ◌≢◌, ◌⊎◌, ℕ, suc, Bool, true, false, List, [], ◌∷◌, ◌++◌, take, All, Option, Some, None, IfSome, ℤ, inl, inr, refl, sym, ap, subst, ◌∙◌, arith}
 use Rattle.std.specs.Str.{bytes_eq}
-use Rattle.std.proofs.lemmas.List.Elements.{All-from_recursion, All-take}
+use Rattle.std.proofs.lemmas.List.Elements.{All-append, All-from_recursion, All-take}
 use Rattle.std.proofs.lemmas.Map.{update_other}
 use Rattle.table_rows.proofs.Numbered.{bytes_eq-differ}
-use Rattle.bound_cert.specs.declared.trees.Tree.{Tree}
+use Rattle.dual_bound.specs.declared.trees.Tree.{Tree}
 use Rattle.branch_bound.specs.declared.solved.Solved.{Solved}
 use Rattle.branch_bound.specs.declared.solved.Solved.TheVariants as solved
 use Rattle.cert_check.specs.declared.checked.Checked.{Checked}
 use Rattle.cert_check.specs.declared.checked.Checked.TheVariants as checked
-use Rattle.command_words.specs.Words.{Asked, check, judge, solve, tails}
+use Rattle.command_words.specs.Words.{Asked, check, judge, make, solve, tails}
 use Rattle.command_words.specs.Arguments.{AskedDates}
 use Rattle.command_words.specs.declared.command.RotationLimits.{RotationLimits}
 use Rattle.command_words.specs.declared.command.SolveOptions.{SolveOptions}
+use Rattle.command_words.specs.declared.command.TheConstants.{DEFAULT_OPTIONS}
+use Rattle.fleet_model.specs.declared.parts.Settings.{Settings}
+use Rattle.sched_read.specs.Reading.{TableBytes}
+use Rattle.table_maker.specs.Made.{made_tables}
+use Rattle.table_maker.specs.declared.made.MadeTables.{MadeTables}
 use Rattle.fleet_model.specs.declared.tables.Tables.{Tables}
 use Rattle.plan_desk.specs.Desk.{Files, with_file}
 use Rattle.plan_desk.specs.DeskFile.{path_of}
@@ -22,15 +27,53 @@ use Rattle.plan_judge.specs.declared.verdicts.Verdict.{Verdict}
 use Rattle.plan_judge.specs.declared.verdicts.Verdict.TheVariants as verdict
 use Rattle.plan_report.specs.declared.fleet_rotations.FleetRotation.{FleetRotation}
 use Rattle.fleet_cli.proofs.OneAnswer.{solution_status}
-use Rattle.fleet_cli.specs.Answer.{Answers, AnswersOf, AnswersSome, ChecksPlan, ChecksProof, ChecksTree, JudgesPlan, ReadsProof, RefusesPlan, RefusesProof, TailsOfPlan, checked_status, says, verdict_status}
-use Rattle.fleet_cli.specs.Contents.{FileBytes}
-use Rattle.fleet_cli.specs.Reading.{folder_of, written_files}
+use Rattle.fleet_cli.specs.Answer.{Answers, AnswersOf, AnswersSome, ChecksPlan, ChecksProof, ChecksTree, JudgesPlan, Makes, ReadsProof, RefusesPlan, RefusesProof, SolvesTables, TailsOfPlan, checked_status, says, verdict_status}
+use Rattle.fleet_cli.specs.Contents.{FileBytes, table_bytes}
+use Rattle.fleet_cli.specs.Making.{after_files, made_files}
+use Rattle.fleet_cli.specs.Reading.{folder_of, solution_files, tables_and, written_files}
 use Rattle.fleet_cli.specs.Run.{IsEnd, IsRefusal, IsSolution, KeepsAllBut, KeepsOthers}
 use Rattle.fleet_cli.specs.Solution.{solved_answer, solved_files, solved_status}
 use Rattle.fleet_cli.specs.Written.{StandsAfter, no_text, text_name, under, with_texts}
 use Rattle.fleet_cli.specs.declared.answer.Answer.{Answer}
 use Rattle.fleet_cli.specs.declared.answer.FileText.{FileText}
 use Rattle.fleet_cli.specs.declared.status.TheConstants.{BAD_INPUT, DONE, FAULT, NO_MEMORY, REFUSED, USAGE}
+
+-- ---- texts under other names
+
+module _ (dir name : List ℕ) where
+  abbrev pub IsOther : FileText → Type 0
+  IsOther text = name ≢ path_of dir text.file
+
+  file_keeps : (held : Files) (other : List ℕ) (bytes : Option (List ℕ)) → name ≢ other → with_file held other bytes name ≡ held name
+  file_keeps held other bytes differ = update_other bytes_eq held other bytes name (bytes_eq-differ other name (λ same. differ (sym same)))
+
+  pub texts_keep : (held : Files) (texts : List FileText) → All IsOther texts → with_texts held dir texts name ≡ held name
+  texts_keep held [] others = refl
+  texts_keep held (text ∷ texts) others =
+      texts_keep (with_file held (path_of dir text.file) (Some text.bytes)) texts (λ k d within. others (suc k) d (omega arith)) ∙ file_keeps held (path_of dir text.file) (Some text.bytes) (others 0 text (omega arith))
+
+  keeps_after : (held : Files) (texts : List FileText) (stands : Option Files) → All IsOther texts → StandsAfter dir texts (Some held) stands → under stands name ≡ held name
+  keeps_after held texts stands others (inl all) = rw all (texts_keep held texts others)
+  keeps_after held texts stands others (inr part) =
+      rw part.part.1 (file_keeps (with_texts held dir (take part.written texts)) (text_name dir texts part.written) part.part.0 (others part.written no_text part.place)
+      ∙ texts_keep held (take part.written texts) (All-take IsOther part.written texts others))
+
+-- the files of a solution are the plan, the proof and the rotations
+module _ (t : Tables) (rotations : List FleetRotation) (visits : ℕ) (dir name : List ℕ) (plan_differs : name ≢ path_of dir desk_file.Plan) (proof_differs : name ≢ path_of dir desk_file.Proof)
+    (rotation_differs : name ≢ path_of dir desk_file.Rotation) where
+  pub solved_others : (s : Solved) → All (IsOther dir name) (solved_files t s rotations visits)
+  unfolding solved_files
+  solved_others (solved.Planned plan cost bound tree) =
+      All-from_recursion (IsOther dir name) (solved_files t (solved.Planned plan cost bound tree) rotations visits) (plan_differs, (proof_differs, (rotation_differs, tt)))
+  solved_others (solved.Infeasible tree) = All-from_recursion (IsOther dir name) (solved_files t (solved.Infeasible tree) rotations visits) (proof_differs, (rotation_differs, tt))
+  solved_others (solved.Unsettled bound tree) = All-from_recursion (IsOther dir name) (solved_files t (solved.Unsettled bound tree) rotations visits) (proof_differs, (rotation_differs, tt))
+
+-- the files of made tables are the five tables
+made_others : (made : MadeTables) (dir name : List ℕ) → All (λ other. name ≢ path_of dir other) (tables_and solution_files) → All (IsOther dir name) (made_files made)
+unfolding made_files
+made_others made dir name differ =
+    All-from_recursion (IsOther dir name) (made_files made)
+    (differ 0 desk_file.Stations (omega arith), (differ 1 desk_file.Stations (omega arith), (differ 2 desk_file.Stations (omega arith), (differ 3 desk_file.Stations (omega arith), (differ 4 desk_file.Stations (omega arith), tt)))))
 
 -- ---- what an answer is
 
@@ -41,14 +84,50 @@ record IsSaid (answer : Answer) : Type 0 where
   is : answer ≡ says code text
   ends : IsEnd code
 
--- the answer of a solution, of a command that writes a plan, its proof and its rotations
+-- the answer of a solution behind files that are written before, of a command that may write all of these
 record IsSolved (asked : Option Asked) (answer : Answer) : Type 0 where
+  first : List FileText
   tables : Tables
   options : SolveOptions
   solution : Solved
   rotations : List FleetRotation
-  is : answer ≡ solved_answer tables options solution rotations
-  writes : written_files asked ≡ desk_file.Plan ∷ desk_file.Proof ∷ desk_file.Rotation ∷ []
+  is : answer ≡ after_files first (solved_answer tables options solution rotations)
+  one : DeskFile
+  names : List DeskFile
+  writes : written_files asked ≡ one ∷ names
+  others : (dir name : List ℕ) → All (λ other. name ≢ path_of dir other) (one ∷ names) → All (IsOther dir name) (first ++ solved_files tables solution rotations options.rotations.visits)
+
+-- the answer of a solution of what was made
+made_kind : (dir : List ℕ) (number legs : ℕ) (answer : Answer) → Makes number legs answer → IsSolved (Some (make dir number legs)) answer
+made_kind dir number legs answer x = let given = x.solves.gives in record {
+  first = made_files (made_tables number legs);
+  tables = x.solves.tables;
+  options = DEFAULT_OPTIONS;
+  solution = given.solution;
+  rotations = given.rotations;
+  is = x.is ∙ ap (after_files (made_files (made_tables number legs))) given.is;
+  one = desk_file.Stations;
+  names = desk_file.Fleets ∷ desk_file.Legs ∷ desk_file.Costs ∷ desk_file.Throughs ∷ solution_files;
+  writes = refl;
+  others = λ folder name differ. All-append (IsOther folder name) _ _ (made_others (made_tables number legs) folder name differ)
+      (solved_others x.solves.tables given.rotations DEFAULT_OPTIONS.rotations.visits folder name (differ 5 desk_file.Plan (omega arith)) (differ 6 desk_file.Proof (omega arith)) (differ 7 desk_file.Rotation (omega arith)) given.solution);
+}
+
+-- the answer of a solution of what was read
+solved_kind : (dir : List ℕ) (settings : Settings) (options : SolveOptions) (bytes : TableBytes) (answer : Answer) → SolvesTables bytes settings options answer → IsSolved (Some (solve dir settings options)) answer
+solved_kind dir settings options bytes answer x = let given = x.gives in record {
+  first = [];
+  tables = x.tables;
+  options = options;
+  solution = given.solution;
+  rotations = given.rotations;
+  is = given.is;
+  one = desk_file.Plan;
+  names = desk_file.Proof ∷ desk_file.Rotation ∷ [];
+  writes = refl;
+  others = λ folder name differ.
+      solved_others x.tables given.rotations options.rotations.visits folder name (differ 0 desk_file.Plan (omega arith)) (differ 1 desk_file.Proof (omega arith)) (differ 2 desk_file.Rotation (omega arith)) given.solution;
+}
 
 refused : (answer : Answer) (text : List ℕ) → answer ≡ says REFUSED text → IsSaid answer
 refused answer text is = record { code = REFUSED; text = text; is = is; ends = (λ e. omega arith, λ e. omega arith) }
@@ -107,11 +186,12 @@ module _ (answer : Answer) where
   kind_of (Some (judge dir settings)) bytes (inl x) = inl (bad answer _ x.is)
   kind_of (Some (judge dir settings)) bytes (inr x) = inl (judged x.tables _ x.answers)
   kind_of (Some (solve dir settings options)) bytes (inl x) = inl (bad answer _ x.is)
-  kind_of (Some (solve dir settings options)) bytes (inr x) = inr (record { tables = x.tables; options = options; solution = x.gives.solution; rotations = x.gives.rotations; is = x.gives.is; writes = refl })
+  kind_of (Some (solve dir settings options)) bytes (inr x) = inr (solved_kind dir settings options (table_bytes bytes) answer x)
   kind_of (Some (check dir settings)) bytes (inl x) = inl (bad answer _ x.is)
   kind_of (Some (check dir settings)) bytes (inr x) = inl (text_said x.tables _ _ x.answers)
   kind_of (Some (tails dir settings limits dates)) bytes (inl x) = inl (bad answer _ x.is)
   kind_of (Some (tails dir settings limits dates)) bytes (inr x) = inl (tails_said x.tables limits dates _ x.answers)
+  kind_of (Some (make dir number legs)) bytes x = inr (made_kind dir number legs answer x)
 
   kind : (held : Files) (asked : Option Asked) → Answers held asked answer → IsSaid answer ⊎ IsSolved asked answer
   kind held asked (inl long) = inl (bad answer _ long.is)
@@ -141,36 +221,6 @@ untold : (dir : List ℕ) (texts : List FileText) (stands : Option Files) → St
 untold dir texts stands (inl all) = all
 untold dir texts stands (inr part) = part.part.1
 
--- ---- texts under other names
-
-module _ (dir name : List ℕ) where
-  abbrev pub IsOther : FileText → Type 0
-  IsOther text = name ≢ path_of dir text.file
-
-  file_keeps : (held : Files) (other : List ℕ) (bytes : Option (List ℕ)) → name ≢ other → with_file held other bytes name ≡ held name
-  file_keeps held other bytes differ = update_other bytes_eq held other bytes name (bytes_eq-differ other name (λ same. differ (sym same)))
-
-  pub texts_keep : (held : Files) (texts : List FileText) → All IsOther texts → with_texts held dir texts name ≡ held name
-  texts_keep held [] others = refl
-  texts_keep held (text ∷ texts) others =
-      texts_keep (with_file held (path_of dir text.file) (Some text.bytes)) texts (λ k d within. others (suc k) d (omega arith)) ∙ file_keeps held (path_of dir text.file) (Some text.bytes) (others 0 text (omega arith))
-
-  keeps_after : (held : Files) (texts : List FileText) (stands : Option Files) → All IsOther texts → StandsAfter dir texts (Some held) stands → under stands name ≡ held name
-  keeps_after held texts stands others (inl all) = rw all (texts_keep held texts others)
-  keeps_after held texts stands others (inr part) =
-      rw part.part.1 (file_keeps (with_texts held dir (take part.written texts)) (text_name dir texts part.written) part.part.0 (others part.written no_text part.place)
-      ∙ texts_keep held (take part.written texts) (All-take IsOther part.written texts others))
-
--- the files of a solution are the plan, the proof and the rotations
-module _ (t : Tables) (rotations : List FleetRotation) (visits : ℕ) (dir name : List ℕ) (plan_differs : name ≢ path_of dir desk_file.Plan) (proof_differs : name ≢ path_of dir desk_file.Proof)
-    (rotation_differs : name ≢ path_of dir desk_file.Rotation) where
-  pub solved_others : (s : Solved) → All (IsOther dir name) (solved_files t s rotations visits)
-  unfolding solved_files
-  solved_others (solved.Planned plan cost bound tree) =
-      All-from_recursion (IsOther dir name) (solved_files t (solved.Planned plan cost bound tree) rotations visits) (plan_differs, (proof_differs, (rotation_differs, tt)))
-  solved_others (solved.Infeasible tree) = All-from_recursion (IsOther dir name) (solved_files t (solved.Infeasible tree) rotations visits) (proof_differs, (rotation_differs, tt))
-  solved_others (solved.Unsettled bound tree) = All-from_recursion (IsOther dir name) (solved_files t (solved.Unsettled bound tree) rotations visits) (proof_differs, (rotation_differs, tt))
-
 -- ---- what a run leaves
 
 nothing_written : (dir : List ℕ) (names : List DeskFile) (told stands : Option Files) → stands ≡ told → KeepsAllBut dir names told stands
@@ -184,8 +234,7 @@ keeps_others (Some held) asked answer stands answers after = elim (kind answer h
   | inl said ↦ nothing_written (folder_of asked) (written_files asked) (Some held) stands (nothing_by (folder_of asked) answer.files (Some held) stands (ap (λ (a : Answer). a.files) said.is) after)
   | inr given ↦ subst (λ names. KeepsAllBut (folder_of asked) names (Some held) stands) (sym given.writes)
       (λ name others. keeps_after (folder_of asked) name held answer.files stands
-      (rw given.is (solved_others given.tables given.rotations given.options.rotations.visits (folder_of asked) name (others 0 desk_file.Plan (omega arith)) (others 1 desk_file.Proof (omega arith))
-      (others 2 desk_file.Rotation (omega arith)) given.solution)) after)
+      (rw given.is (given.others (folder_of asked) name others)) after)
 ]
 
 differs : (code : ℕ) → IsRefusal code → (k : ℕ) → code ≡ k → ¬ (2 ≡ k) → ¬ (6 ≡ k) → ¬ (9 ≡ k) → ⊥

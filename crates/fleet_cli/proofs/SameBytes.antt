@@ -1,7 +1,7 @@
 -- The answer to a command rests on the bytes of the files that it reads, and on nothing else.
 use Rattle.std.proofs.Common.{◌≡◌, ◌⊎◌, ℕ, Bool, true, false, List, [], ◌∷◌, Option, Some, None, refl, subst, inl, inr, arith}
 use Rattle.bound_cert.specs.declared.reading.Proof.{Proof}
-use Rattle.command_words.specs.Words.{Asked, check, judge, solve, tails}
+use Rattle.command_words.specs.Words.{Asked, check, judge, make, solve, tails}
 use Rattle.fleet_model.specs.declared.parts.Settings.{Settings}
 use Rattle.fleet_model.specs.declared.tables.Tables.{Tables}
 use Rattle.plan_desk.specs.declared.file.DeskFile.{DeskFile}
@@ -53,6 +53,7 @@ same_follows (Some (check dir settings)) bytes other same f follows = (
   subst (λ t. WantsPlan settings t (other file.Proof)) (tables_same bytes other (file.Proof ∷ []) same) (subst (λ p. WantsPlan settings (table_bytes bytes) p) (last_same bytes other file.Proof same) follows.1),
 )
 same_follows (Some (tails dir settings limits dates)) bytes other same f follows = follows
+same_follows (Some (make dir number legs)) bytes other same f follows = follows
 
 -- the one file that is read after the first is the plan
 pub follows_plan : (asked : Option Asked) (bytes : FileBytes) (f : DeskFile) → Follows asked bytes f → f ≡ file.Plan
@@ -61,6 +62,7 @@ follows_plan (Some (judge dir settings)) bytes f follows = absurd follows
 follows_plan (Some (solve dir settings options)) bytes f follows = absurd follows
 follows_plan (Some (check dir settings)) bytes f follows = follows.0
 follows_plan (Some (tails dir settings limits dates)) bytes f follows = absurd follows
+follows_plan (Some (make dir number legs)) bytes f follows = absurd follows
 
 pub same_answer : (asked : Option Asked) (bytes other : FileBytes) → ((f : DeskFile) → IsAmong (first_files asked) f → bytes f ≡ other f) → ((f : DeskFile) → Follows asked bytes f → bytes f ≡ other f)
     → (answer : Answer) → AnswersOf asked bytes answer → AnswersOf asked other answer
@@ -75,3 +77,4 @@ same_answer (Some (check dir settings)) bytes other first further answer x =
 same_answer (Some (tails dir settings limits dates)) bytes other first further answer x =
     subst (λ t. TailsOf settings limits dates t (other file.Plan) answer) (tables_same bytes other (file.Plan ∷ []) first)
     (subst (λ p. TailsOf settings limits dates (table_bytes bytes) p answer) (last_same bytes other file.Plan first) x)
+same_answer (Some (make dir number legs)) bytes other first further answer x = x

@@ -22,6 +22,7 @@ use Rattle.plan_text.specs.Text.{plan_text}
 use Rattle.csv_fields.specs.Record.{records_of}
 use Rattle.sched_read.specs.Reading.{Reads}
 use Rattle.bound_cert.specs.ReadProof.{ReadsAs}
+use Rattle.fleet_cli.proofs.CheckedByDay.{proof_by_day}
 use Rattle.fleet_cli.proofs.FrontFacts.{held_in, stands_in}
 use Rattle.fleet_cli.proofs.HeadlineFacts.{plan_stands, proof_stands}
 use Rattle.fleet_cli.proofs.OneAnswer.{complete_there, not_refused}
@@ -142,22 +143,23 @@ module _ (t : Tables) (rotations : List FleetRotation) (visits : ℕ) where
   }
 
 -- the answer to solving, with its files as they were written
-module _ (held : Files) (dir : List ℕ) (settings : Settings) (options : SolveOptions) (solving checking : Answer) (solution : IsSolution solving.status.code) (lengths : HaveLengths solving.files)
-    (checks : Answers (with_texts held dir solving.files) (Some (check dir settings)) checking) where
-  answered : Answers held (Some (solve dir settings options)) solving → checking.status.code ≡ 0
+module _ (held : Files) (dir : List ℕ) (solving checking : Settings) (same : solving.day_start ≡ checking.day_start) (options : SolveOptions) (solved_as checked_as : Answer)
+    (solution : IsSolution solved_as.status.code) (lengths : HaveLengths solved_as.files) (checks : Answers (with_texts held dir solved_as.files) (Some (check dir checking)) checked_as) where
+  answered : Answers held (Some (solve dir solving options)) solved_as → checked_as.status.code ≡ 0
   answered (inl long) = absurd (not_refused _ solution (ap (λ (a : Answer). a.status.code) long.is))
   answered (inr read) = by_tables read.answers
     where
-      by_tables : Solves settings options (table_bytes (bytes_in held dir)) solving → checking.status.code ≡ 0
+      by_tables : Solves solving options (table_bytes (bytes_in held dir)) solved_as → checked_as.status.code ≡ 0
       by_tables (inl refused) = absurd (not_refused _ solution (ap (λ (a : Answer). a.status.code) refused.is))
       by_tables (inr solves) =
           let given = solves.gives in
           let files = ap (λ (a : Answer). a.files) given.is in
-          let there = proof_stays solves.tables given.rotations options.rotations.visits held dir settings given.solution read.within.first solves.reads given.solves.right
+          let stands = with_texts held dir (solved_files solves.tables given.solution given.rotations options.rotations.visits) in
+          let there = proof_stays solves.tables given.rotations options.rotations.visits held dir solving given.solution read.within.first solves.reads given.solves.right
           (solved_holds solves.tables options.search.nodes options.search.pivots given.solution given.solves) (rw files at lengths) in
-          complete_there (with_texts held dir (solved_files solves.tables given.solution given.rotations options.rotations.visits)) (Some (check dir settings)) checking (rw files at checks) there
+          complete_there stands (Some (check dir checking)) checked_as (rw files at checks) (proof_by_day stands dir solving checking same checked_as there (rw files at checks))
 
 pub solved_is_checked : SolvedIsChecked
-solved_is_checked held stands dir settings options code before after checking run solution checks =
-    let same : stands ≡ with_texts held dir run.answer.files = same_Some stands (with_texts held dir run.answer.files) run.written in
-    answered held dir settings options run.answer checking (rw run.code_is at solution) run.lengths (rw same at checks) run.answers
+solved_is_checked held stands dir solving checking options code before after answer same run solution checks =
+    let written : stands ≡ with_texts held dir run.answer.files = same_Some stands (with_texts held dir run.answer.files) run.written in
+    answered held dir solving checking same options run.answer answer (rw run.code_is at solution) run.lengths (rw written at checks) run.answers

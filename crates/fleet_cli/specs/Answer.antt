@@ -4,16 +4,17 @@ use Rattle.bound_cert.specs.Lines.{left_of}
 use Rattle.bound_cert.specs.ReadProof.{IsFirstFault, ReadsAs}
 use Rattle.bound_cert.specs.declared.faults.CertFault.{CertFault}
 use Rattle.bound_cert.specs.declared.reading.Proof.{Proof}
-use Rattle.bound_cert.specs.declared.trees.Tree.{Tree}
+use Rattle.dual_bound.specs.declared.trees.Tree.{Tree}
 use Rattle.branch_bound.specs.Solved.{IsSolved}
 use Rattle.branch_bound.specs.declared.solved.Solved.{Solved}
 use Rattle.cert_check.specs.Verdicts.{IsChecked}
 use Rattle.cert_check.specs.declared.checked.Checked.{Checked}
 use Rattle.cert_check.specs.declared.checked.Checked.TheVariants as checked
 use Rattle.command_words.specs.Arguments.{AskedDates}
-use Rattle.command_words.specs.Words.{Asked, check, judge, solve, tails}
+use Rattle.command_words.specs.Words.{Asked, check, judge, make, solve, tails}
 use Rattle.command_words.specs.declared.command.RotationLimits.{RotationLimits}
 use Rattle.command_words.specs.declared.command.SolveOptions.{SolveOptions}
+use Rattle.command_words.specs.declared.command.TheConstants.{DEFAULT_OPTIONS, DEFAULT_SETTINGS}
 use Rattle.csv_fields.specs.Record.{records_of}
 use Rattle.fleet_model.specs.Legal.{IsLegal, total_cost}
 use Rattle.fleet_model.specs.declared.parts.Settings.{Settings}
@@ -33,8 +34,11 @@ use Rattle.plan_report.specs.declared.fleet_rotations.FleetRotation.{FleetRotati
 use Rattle.plan_rotations.specs.Rotations.{ArePlanRotations}
 use Rattle.plan_text.specs.Reading.{PlanBad, PlanReads}
 use Rattle.sched_read.specs.Reading.{BadAt, Reads, TableBytes}
+use Rattle.table_maker.specs.Laws.{bytes_of}
+use Rattle.table_maker.specs.Made.{CanBeMade, made_tables}
 use Rattle.fleet_cli.specs.Contents.{FileBytes, bytes_in, table_bytes}
 use Rattle.fleet_cli.specs.Gathered.{CalledTooLong}
+use Rattle.fleet_cli.specs.Making.{after_files, made_files}
 use Rattle.fleet_cli.specs.Reading.{AllWithin, IsRead, IsTooLong, folder_of}
 use Rattle.fleet_cli.specs.Solution.{AreRotationsOf, solved_answer}
 use Rattle.fleet_cli.specs.Texts.{bad_input_text, checked_text, desk_file_of, plan_refused_text, proof_refused_text, usage_text, verdict_text}
@@ -119,6 +123,16 @@ pub record SolvesTables (bytes : TableBytes) (settings : Settings) (options : So
 -- solving by the bytes of the tables
 abbrev pub Solves : Settings → SolveOptions → TableBytes → Answer → Type 0
 Solves settings options bytes answer = RefusesTables bytes settings answer ⊎ SolvesTables bytes settings options answer
+
+-- ---- making
+
+-- The tables of a number and of so many legs are made, and read. They are solved by the defaults, and written before what
+-- solving writes.
+pub record Makes (number legs : ℕ) (answer : Answer) : Type 0 where
+  pub solving : Answer
+  pub can : CanBeMade number legs
+  pub solves : SolvesTables (bytes_of (made_tables number legs)) DEFAULT_SETTINGS DEFAULT_OPTIONS solving
+  pub is : answer ≡ after_files (made_files (made_tables number legs)) solving
 
 -- ---- checking
 
@@ -209,6 +223,7 @@ AnswersOf (Some (judge dir settings)) bytes answer = Judges settings (table_byte
 AnswersOf (Some (solve dir settings options)) bytes answer = Solves settings options (table_bytes bytes) answer
 AnswersOf (Some (check dir settings)) bytes answer = Checks settings (table_bytes bytes) (bytes file.Proof) (bytes file.Plan) answer
 AnswersOf (Some (tails dir settings limits dates)) bytes answer = TailsOf settings limits dates (table_bytes bytes) (bytes file.Plan) answer
+AnswersOf (Some (make dir number legs)) bytes answer = Makes number legs answer
 
 -- all files that are read are within their limits, and the answer is by what they hold
 pub record AnswersRead (held : Files) (asked : Option Asked) (answer : Answer) : Type 0 where

@@ -3,8 +3,9 @@
 use Rattle.std.specs.Prelude.{◌≡◌, ℕ, List, Bool, true, false, Option, Some, None, IfSome, IsSomeAnd, ⊤, ℤ, ◌≤ℤ◌}
 use Rattle.cert_check.specs.Verdicts.{BoundsAll}
 use Rattle.cert_check.specs.declared.checked.Checked.TheVariants as checked
-use Rattle.command_words.specs.Words.{Asked, check, judge, solve, tails}
+use Rattle.command_words.specs.Words.{Asked, check, judge, make, solve, tails}
 use Rattle.command_words.specs.declared.command.SolveOptions.{SolveOptions}
+use Rattle.command_words.specs.declared.command.TheConstants.{DEFAULT_OPTIONS, DEFAULT_SETTINGS}
 use Rattle.fleet_model.specs.declared.parts.Settings.{Settings}
 use Rattle.fleet_model.specs.declared.tables.Tables.{Tables}
 use Rattle.bound_cert.specs.ProofText.{proof_text}
@@ -16,13 +17,17 @@ use Rattle.plan_report.specs.RotationRecords.{rotation_text}
 use Rattle.plan_report.specs.declared.fleet_rotations.FleetRotation.{FleetRotation}
 use Rattle.plan_text.specs.Text.{plan_text}
 use Rattle.sched_read.specs.Reading.{Reads}
+use Rattle.table_maker.specs.Laws.{bytes_of}
+use Rattle.table_maker.specs.Made.{made_tables}
 use Rattle.fleet_cli.specs.Contents.{bytes_in, table_bytes}
 use Rattle.fleet_cli.specs.Gathered.{AllStand}
+use Rattle.fleet_cli.specs.Making.{made_files}
 use Rattle.fleet_cli.specs.Reading.{proof_files, table_files}
 use Rattle.fleet_cli.specs.Run.{IsSolution, PlanThere}
 use Rattle.branch_bound.specs.Solved.{IsSolved, tree_of}
 use Rattle.fleet_cli.specs.Solution.{AreRotationsOf, printed_text, solved_status}
 use Rattle.fleet_cli.specs.Texts.{checked_text}
+use Rattle.fleet_cli.specs.Written.{with_texts}
 use Rattle.branch_bound.specs.declared.solved.Solved.{Solved}
 use Rattle.branch_bound.specs.declared.solved.Solved.TheVariants as solved
 use Rattle.fleet_cli.specs.declared.status.TheConstants.{DONE}
@@ -65,6 +70,15 @@ pub record TellsSolution (held : Files) (told : Option Files) (dir : List ℕ) (
   pub tells : told ≡ Some stands
   pub leaves : LeavesSolution held stands dir settings options code before after
 
+-- The desk still tells what it holds. The five made tables stand there, and all else is what solving leaves, by the
+-- defaults, where these tables stood before.
+pub record TellsMade (held : Files) (told : Option Files) (dir : List ℕ) (number legs code : ℕ) (before after : Option (List ℕ)) : Type 0 where
+  pub stands : Files
+  pub tells : told ≡ Some stands
+  pub there : AllStand stands dir table_files
+  pub tables : table_bytes (bytes_in stands dir) ≡ bytes_of (made_tables number legs)
+  pub leaves : LeavesSolution (with_texts held dir (made_files (made_tables number legs))) stands dir DEFAULT_SETTINGS DEFAULT_OPTIONS code before after
+
 -- a bound is there, and it is no more than a cost
 abbrev pub IsUnder : Option ℤ → ℤ → Type 0
 IsUnder bound cost = IsSomeAnd bound (λ least. least ≤ℤ cost)
@@ -83,11 +97,12 @@ pub record TellsBound (held : Files) (dir : List ℕ) (settings : Settings) (bef
   pub under : IfSome cost (IsUnder bound)
   pub put : after ≡ output_with before (checked_text cost (checked.Holds bound))
 
--- the headline: a run that solves leaves a solution, where its status tells of one, and one that checks tells a bound that
--- is proved, where it says that a proof holds
+-- the headline: a run that solves leaves a solution, where its status tells of one, and one that makes tables leaves one of
+-- them; one that checks tells a bound that is proved, where it says that a proof holds
 abbrev pub Headline : Files → Option Asked → ℕ → Option Files → Option (List ℕ) → Option (List ℕ) → Type 0
 Headline held None code told before after = ⊤
 Headline held (Some (judge dir settings)) code told before after = ⊤
 Headline held (Some (check dir settings)) code told before after = code ≡ DONE → TellsBound held dir settings before after
 Headline held (Some (tails dir settings limits dates)) code told before after = ⊤
 Headline held (Some (solve dir settings options)) code told before after = IsSolution code → TellsSolution held told dir settings options code before after
+Headline held (Some (make dir number legs)) code told before after = TellsMade held told dir number legs code before after

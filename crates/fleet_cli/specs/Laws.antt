@@ -2,7 +2,7 @@
 use Rattle.std.specs.Prelude.{◌≡◌, ◌≢◌, Option, Some, None, ⊤}
 use Rattle.plan_desk.specs.Desk.{Files}
 use Rattle.fleet_cli.specs.Answer.{Answers}
-use Rattle.command_words.specs.Words.{Asked, check, judge, solve, tails}
+use Rattle.command_words.specs.Words.{Asked, check, judge, make, solve, tails}
 use Rattle.fleet_cli.specs.declared.answer.Answer.{Answer}
 use Rattle.fleet_cli.specs.declared.status.TheConstants.{BAD_INPUT, DONE}
 
@@ -13,6 +13,7 @@ IsFixed (Some (judge dir settings)) answer = ⊤
 IsFixed (Some (solve dir settings options)) answer = answer.status.code ≡ BAD_INPUT
 IsFixed (Some (check dir settings)) answer = ⊤
 IsFixed (Some (tails dir settings limits dates)) answer = answer.status.code ≢ DONE
+IsFixed (Some (make dir number legs)) answer = ⊥
 
 -- what is held and what is asked fix the answer
 abbrev pub OneAnswer : Type 0

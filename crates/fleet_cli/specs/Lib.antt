@@ -4,6 +4,8 @@ pub mod Failed
 pub mod Gathered
 pub mod Headline
 pub mod Laws
+pub mod MadeSolved
+pub mod Making
 pub mod Opened
 pub mod Program
 pub mod Reading

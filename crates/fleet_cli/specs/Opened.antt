@@ -1,6 +1,6 @@
 -- What the tables and the first files of a folder come to, before a file is read that they ask for.
 use Rattle.std.specs.Prelude.{◌≡◌, ◌⊎◌, ℕ, List, Option, None, true, false}
-use Rattle.bound_cert.specs.OfTables.{IsOfTables}
+use Rattle.dual_bound.specs.OfTables.{IsOfTables}
 use Rattle.bound_cert.specs.ReadProof.{ReadsAs}
 use Rattle.bound_cert.specs.declared.reading.Proof.{Proof}
 use Rattle.command_words.specs.Words.{Asked}

@@ -2,7 +2,7 @@
 use Rattle.std.specs.Prelude.{◌≡◌, ◌⊎◌, ℕ, true, List, [], ◌∷◌, Option, Some, None, IsSome}
 use Rattle.bound_cert.specs.ReadProof.{ReadsAs}
 use Rattle.bound_cert.specs.declared.reading.Proof.{Proof}
-use Rattle.command_words.specs.Words.{Asked, check, judge, solve, tails}
+use Rattle.command_words.specs.Words.{Asked, check, judge, make, solve, tails}
 use Rattle.fleet_model.specs.declared.parts.Settings.{Settings}
 use Rattle.fleet_model.specs.declared.tables.Tables.{Tables}
 use Rattle.plan_desk.specs.Desk.{Files}
@@ -34,6 +34,7 @@ folder_of (Some (judge dir settings)) = dir
 folder_of (Some (solve dir settings options)) = dir
 folder_of (Some (check dir settings)) = dir
 folder_of (Some (tails dir settings limits dates)) = dir
+folder_of (Some (make dir number legs)) = dir
 
 -- the files that are read first, in their order
 abbrev pub first_files : Option Asked → List DeskFile
@@ -42,6 +43,7 @@ first_files (Some (judge dir settings)) = judge_files
 first_files (Some (solve dir settings options)) = table_files
 first_files (Some (check dir settings)) = proof_files
 first_files (Some (tails dir settings limits dates)) = judge_files
+first_files (Some (make dir number legs)) = []
 
 -- the tables and the proof read, and the proof says that a plan comes with it
 pub record WantsPlan (settings : Settings) (bytes : TableBytes) (text : List ℕ) : Type 0 where
@@ -58,14 +60,20 @@ Follows (Some (judge dir settings)) bytes f = ⊥
 Follows (Some (solve dir settings options)) bytes f = ⊥
 Follows (Some (check dir settings)) bytes f = (f ≡ file.Plan) × WantsPlan settings (table_bytes bytes) (bytes file.Proof)
 Follows (Some (tails dir settings limits dates)) bytes f = ⊥
+Follows (Some (make dir number legs)) bytes f = ⊥
+
+-- the files that solving may write
+abbrev pub solution_files : List DeskFile
+solution_files = file.Plan ∷ file.Proof ∷ file.Rotation ∷ []
 
 -- the files that may be written
 abbrev pub written_files : Option Asked → List DeskFile
 written_files None = []
 written_files (Some (judge dir settings)) = []
-written_files (Some (solve dir settings options)) = file.Plan ∷ file.Proof ∷ file.Rotation ∷ []
+written_files (Some (solve dir settings options)) = solution_files
 written_files (Some (check dir settings)) = []
 written_files (Some (tails dir settings limits dates)) = []
+written_files (Some (make dir number legs)) = tables_and solution_files
 
 -- ---- what follows of each command
 

@@ -1,5 +1,5 @@
 -- What a run leaves.
-use Rattle.std.specs.Prelude.{◌≡◌, ◌≢◌, ◌⊎◌, ℕ, All, Bool, true, false, List, [], ◌∷◌, ℤ, Option, Some, None, IfSome, ⊤}
+use Rattle.std.specs.Prelude.{◌≡◌, ◌≢◌, ◌⊎◌, ℕ, All, Bool, true, false, List, [], ◌∷◌, ℤ, Option, Some, None, IfSome, IsSomeAnd, ⊤}
 use Rattle.bound_cert.specs.ReadProof.{ReadsAs}
 use Rattle.bound_cert.specs.declared.reading.Proof.{Proof}
 use Rattle.cert_check.specs.Verdicts.{HoldsWith}
@@ -20,7 +20,7 @@ use Rattle.fleet_cli.specs.Gathered.{AllStand, IsHeld, ReadFails}
 use Rattle.fleet_cli.specs.Laws.{IsFixed}
 use Rattle.fleet_cli.specs.Reading.{IsMissing, IsRead, folder_of, judge_files, proof_files, table_files, written_files}
 use Rattle.fleet_cli.specs.Texts.{fault_text}
-use Rattle.command_words.specs.Words.{Asked, check, judge, solve, tails}
+use Rattle.command_words.specs.Words.{Asked, check, judge, make, solve, tails}
 use Rattle.fleet_cli.specs.Written.{HaveLengths, WriteFails, WritesPart, held_with_texts, under}
 use Rattle.fleet_cli.specs.declared.answer.Answer.{Answer}
 use Rattle.fleet_cli.specs.declared.status.TheConstants.{BAD_INPUT, DONE, FAULT, GAP, INFEASIBLE, NO_MEMORY, REFUSED, UNSETTLED, USAGE}
@@ -96,14 +96,19 @@ pub record ProofThere (held : Files) (dir : List ℕ) (settings : Settings) : Ty
 abbrev pub IsSolution : ℕ → Type 0
 IsSolution code = (code ≡ DONE) ⊎ (code ≡ GAP) ⊎ (code ≡ INFEASIBLE) ⊎ (code ≡ UNSETTLED)
 
--- what is good is never refused: a legal plan on tables that read is judged so and its tails are told, tables that read
--- are solved, and a proof that holds is said to hold
-abbrev pub IsComplete : Files → Option Asked → ℕ → Type 0
-IsComplete held None code = ⊤
-IsComplete held (Some (judge dir settings)) code = LegalThere held dir settings → code ≡ DONE
-IsComplete held (Some (solve dir settings options)) code = TablesThere held dir settings → IsSolution code
-IsComplete held (Some (check dir settings)) code = ProofThere held dir settings → code ≡ DONE
-IsComplete held (Some (tails dir settings limits dates)) code = LegalThere held dir settings → code ≡ DONE
+-- a status that tells of a solution of tables that have a legal plan
+abbrev pub IsFlyable : ℕ → Type 0
+IsFlyable code = (code ≡ DONE) ⊎ (code ≡ GAP) ⊎ (code ≡ UNSETTLED)
+
+-- What is good is never refused: a legal plan on tables that read is judged so and its tails are told, tables that read
+-- are solved, and a proof that holds is said to hold. Tables that are made are solved whatever is held, and have a plan.
+abbrev pub IsComplete : Option Files → Option Asked → ℕ → Type 0
+IsComplete told None code = ⊤
+IsComplete told (Some (judge dir settings)) code = IsSomeAnd told (λ held. LegalThere held dir settings) → code ≡ DONE
+IsComplete told (Some (solve dir settings options)) code = IsSomeAnd told (λ held. TablesThere held dir settings) → IsSolution code
+IsComplete told (Some (check dir settings)) code = IsSomeAnd told (λ held. ProofThere held dir settings) → code ≡ DONE
+IsComplete told (Some (tails dir settings limits dates)) code = IsSomeAnd told (λ held. LegalThere held dir settings) → code ≡ DONE
+IsComplete told (Some (make dir number legs)) code = IsFlyable code
 
 -- an answer that is right of some contents, all of which was put
 pub record SomeInFull (longer : Type 0) (asked : Option Asked) (code : ℕ) (before after : Option (List ℕ)) : Type 0 where

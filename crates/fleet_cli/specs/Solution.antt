@@ -1,8 +1,8 @@
 -- What is printed and written of a solution and the rotations of its plan.
 use Rattle.std.specs.Prelude.{◌≡◌, ℕ, List, [], ◌∷◌, Bool, true, false, if◌then◌else◌}
-use Rattle.bound_cert.specs.Leaves.{has_open}
+use Rattle.dual_bound.specs.Leaves.{has_open}
 use Rattle.bound_cert.specs.ProofText.{proof_text}
-use Rattle.bound_cert.specs.declared.trees.Tree.{Tree}
+use Rattle.dual_bound.specs.declared.trees.Tree.{Tree}
 use Rattle.branch_bound.specs.declared.solved.Solved.{Solved}
 use Rattle.branch_bound.specs.declared.solved.Solved.TheVariants as solved
 use Rattle.command_words.specs.declared.command.RotationLimits.{RotationLimits}

@@ -26,8 +26,9 @@ pub record ReadsAndHolds (t : Tables) (s : Solved) : Type 0 where
   pub says : proof.planned ≡ is_planned s
   pub holds : HoldsWith t (plan_cost s) proof.tree (printed_bound s)
 
--- where a run gave a solution, and checking reads what then stands, it answers that the proof holds
+-- Where a run gave a solution, and checking by the same day start, whatever the longest wait of a through pair, reads what
+-- then stands, it answers that the proof holds.
 abbrev pub SolvedIsChecked : Type 0
-SolvedIsChecked = (held stands : Files) (dir : List ℕ) (settings : Settings) (options : SolveOptions) (code : ℕ) (before after : Option (List ℕ)) (checking : Answer)
-    → AnswersInFull held (Some (solve dir settings options)) code (Some stands) before after → IsSolution code
-    → Answers stands (Some (check dir settings)) checking → checking.status.code ≡ DONE
+SolvedIsChecked = (held stands : Files) (dir : List ℕ) (solving checking : Settings) (options : SolveOptions) (code : ℕ) (before after : Option (List ℕ)) (answer : Answer)
+    → solving.day_start ≡ checking.day_start → AnswersInFull held (Some (solve dir solving options)) code (Some stands) before after → IsSolution code
+    → Answers stands (Some (check dir checking)) answer → answer.status.code ≡ DONE

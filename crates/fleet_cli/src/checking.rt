@@ -1,6 +1,6 @@
 //! The command `check`: whether the proof of a folder proves its bound, and whether the plan that comes with it is legal.
 ghost use Rattle.std.specs.Prelude.{◌≡◌, ◌⊎◌, ℕ, List, Some, IfOk, IfSome, option_map, true};
-ghost use Rattle.bound_cert.specs.OfTables.{IsOfTables};
+ghost use Rattle.dual_bound.specs.OfTables.{IsOfTables};
 ghost use Rattle.command_words.specs.Words.{check};
 ghost use Rattle.fleet_cli.specs.Answer.{ChecksLegal, ChecksProof, ChecksTree, RefusesVerdict, checked_status};
 ghost use Rattle.fleet_cli.specs.Contents.{content_of};
@@ -16,8 +16,9 @@ use crate::opened::{Checking, Opened};
 use crate::refusing::{plan_fault, proof_fault};
 use crate::status::{DONE, REFUSED};
 use crate::texts::checked_line;
-use bound_cert::{CertError, Tree, read_proof};
+use bound_cert::{CertError, read_proof};
 use cert_check::{Checked, check};
+use dual_bound::Tree;
 use entries::NoMemory;
 use fleet_model::{Assignment, Settings, Tables};
 use plan_judge::{Verdict, judge};

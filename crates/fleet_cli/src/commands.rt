@@ -8,6 +8,7 @@ ghost use Rattle.fleet_cli.specs.Reading.{first_files, folder_of};
 use crate::checking::open_check;
 use crate::contents::Contents;
 use crate::judging::judge_contents;
+use crate::making::make_and_solve;
 use crate::opened::Opened;
 use crate::solving::solve_contents;
 use crate::telling::tails_of_contents;
@@ -53,7 +54,8 @@ pub fn folder<'a>(command: &Command<'a>) -> &'a str
         Command::Judge { dir, .. }
         | Command::Solve { dir, .. }
         | Command::Check { dir, .. }
-        | Command::Tails { dir, .. } => *dir,
+        | Command::Tails { dir, .. }
+        | Command::Make { dir, .. } => *dir,
     }
 }
 
@@ -65,6 +67,7 @@ pub fn first_files(command: &Command<'_>) -> &'static [DeskFile]
         Command::Judge { .. } | Command::Tails { .. } => JUDGE_FILES,
         Command::Solve { .. } => TABLE_FILES,
         Command::Check { .. } => PROOF_FILES,
+        Command::Make { .. } => &[],
     }
 }
 
@@ -106,6 +109,10 @@ fn outcome_of(alloc: Global, command: &Command<'_>, contents: &Contents) -> Resu
             ..
         } => {
             let answer = tails_of_contents(alloc, *settings, *rotations, dates, contents)?;
+            Ok(Opened::Answered(answer))
+        }
+        Command::Make { number, legs, .. } => {
+            let answer = make_and_solve(alloc, *number, *legs)?;
             Ok(Opened::Answered(answer))
         }
     }

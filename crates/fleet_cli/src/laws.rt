@@ -1,6 +1,7 @@
 //! The laws of answers: each contract is the statement, and the functions do nothing.
 ghost use Rattle.std.specs.Prelude.{◌≡◌};
 ghost use Rattle.fleet_cli.specs.Laws.{OneAnswer};
+ghost use Rattle.fleet_cli.specs.MadeSolved.{MadeIsSolved};
 ghost use Rattle.fleet_cli.specs.SolvedChecked.{SolvedIsChecked};
 ghost use Rattle.fleet_cli.specs.declared.status.TheConstants.{BAD_INPUT, DONE, FAULT, GAP, INFEASIBLE, NO_MEMORY, REFUSED, UNSETTLED, USAGE};
 
@@ -9,8 +10,15 @@ pub fn one_answer()
     ensures { OneAnswer }
 {}
 
-/// Where a run gave a solution, checking the same folder by the same settings (day start and longest wait) answers that the
-/// proof holds. The premise is what `run` ensures of solving (`answer`); nothing is asked of the lengths of the files.
+/// A run of making is one of solving by the defaults over a desk on which the made tables stand, so all that holds of
+/// solving holds of it.
+pub fn made_is_solved()
+    ensures { MadeIsSolved }
+{}
+
+/// Where a run gave a solution, checking the same folder by the same day start answers that the proof holds, whatever the
+/// longest wait of a through pair was or is. The premise is what `run` ensures of solving (`answer`); nothing is asked of
+/// the lengths of the files.
 pub fn solved_is_checked()
     ensures { SolvedIsChecked }
 {}

@@ -11,6 +11,7 @@ mod gathering;
 mod judging;
 pub mod laws;
 mod loading;
+mod making;
 mod opened;
 mod refusing;
 mod running;

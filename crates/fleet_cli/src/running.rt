@@ -42,7 +42,7 @@ pub fn run<D: Desk, S: Sink>(alloc: Global, words: &[String], desk: &mut D, out:
         AnswersExactly held (asked (map string_bytes words.now)) result.code (S.output out.old) (S.output out.new))) }
 
     // What is good is never refused.
-    ensures complete { IsAnswered result.code (IfSome (D.holds desk.old) (λ held. IsComplete held (asked (map string_bytes words.now)) result.code)) }
+    ensures complete { IsAnswered result.code (IsComplete (D.holds desk.old) (asked (map string_bytes words.now)) result.code) }
 
     // The same of a desk that tells nothing: the answer is right of some contents, and a file is called too long
     // only where more than the limit was taken.

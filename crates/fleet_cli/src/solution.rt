@@ -1,6 +1,6 @@
 //! What is printed and written of a solution and the rotations of its plan.
 ghost use Rattle.std.specs.Prelude.{◌≡◌, IfOk};
-ghost use Rattle.bound_cert.specs.OfTables.{IsOfTables};
+ghost use Rattle.dual_bound.specs.OfTables.{IsOfTables};
 ghost use Rattle.branch_bound.specs.Solved.{PlanFits, tree_of};
 ghost use Rattle.fleet_cli.specs.Solution.{plan_file, printed_text, proof_file, rotation_file, solved_files, solved_status};
 ghost use Rattle.fleet_model.specs.Legal.{IsAssignment};
@@ -8,8 +8,9 @@ ghost use Rattle.plan_report.specs.Rotations.{AreRotations};
 
 use crate::answer::FileText;
 use crate::status::{DONE, GAP, INFEASIBLE, UNSETTLED};
-use bound_cert::{Tree, write_proof};
+use bound_cert::write_proof;
 use branch_bound::Solved;
+use dual_bound::Tree;
 use entries::{Entries, NoMemory};
 use fleet_model::{Assignment, Tables};
 use plan_desk::DeskFile;

@@ -1,6 +1,6 @@
 //! The command `solve`: a plan for the tables of a folder, with a bound and its proof, and the rotations of the plan.
 ghost use Rattle.std.specs.Prelude.{◌≡◌, IfOk};
-ghost use Rattle.bound_cert.specs.OfTables.{IsOfTables};
+ghost use Rattle.dual_bound.specs.OfTables.{IsOfTables};
 ghost use Rattle.branch_bound.specs.Solved.{IsRight, PlanFits, tree_of};
 ghost use Rattle.command_words.specs.Arguments.{AreOptions, AreRotationLimits};
 ghost use Rattle.fleet_cli.specs.Answer.{GivesSolution, Solves};
@@ -40,7 +40,11 @@ pub fn solve_contents(
 }
 
 /// Solves tables.
-fn solve_tables(alloc: Global, tables: &Tables, options: SolveOptions) -> Result<Answer, NoMemory>
+pub fn solve_tables(
+    alloc: Global,
+    tables: &Tables,
+    options: SolveOptions,
+) -> Result<Answer, NoMemory>
     requires { AreOptions options }
     ensures { IfOk result (GivesSolution tables.now options) }
 {

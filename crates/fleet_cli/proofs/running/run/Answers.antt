@@ -1,6 +1,6 @@
 use Rattle.std.proofs.Common.{ap, map, string_bytes, inl, inr, ◌∙◌}
 use Rattle.command_words.specs.Words.{asked}
-use Rattle.fleet_cli.proofs.HeadlineFacts.{headline}
+use Rattle.fleet_cli.proofs.Headlines.{headline}
 use Rattle.fleet_cli.proofs.OneAnswer.{complete, exactly}
 use Rattle.fleet_cli.proofs.Others.{answer_ends, keeps_others, refusal_ends, refusal_leaves}
 use Rattle.fleet_cli.proofs.running.run.Goals as goal
@@ -11,7 +11,7 @@ returns-in-Ok-clause-exactly g c = λ no_fault memory.
 
 pub returns-in-Ok-clause-complete : goal.returns-in-Ok-clause-complete
 returns-in-Ok-clause-complete g c = λ no_fault memory.
-    complete _ (asked (map string_bytes c.args.words.now)) c.in-Ok.reply.answer _ c.in-Ok.ensures.told (ap (λ status. status.code) (c.give.ensures.status no_fault memory))
+    complete _ (asked (map string_bytes c.args.words.now)) _ c.in-Ok.reply.answer _ c.in-Ok.ensures.told c.in-Ok.ensures.some (ap (λ status. status.code) (c.give.ensures.status no_fault memory))
 
 pub returns-in-Ok-clause-refusals : goal.returns-in-Ok-clause-refusals
 returns-in-Ok-clause-refusals g c = λ refused.

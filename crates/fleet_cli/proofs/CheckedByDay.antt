@@ -1,0 +1,101 @@
+-- What checking says of a proof doesn't change with the longest wait of a through pair.
+use Rattle.std.proofs.Common.{◌≡◌, ◌⊎◌, ℕ, ◌<◌, ◌≤◌, Bool, List, ℤ, Option, Some, None, inl, inr, refl, sym, ap, ◌∙◌, arith}
+use Rattle.std.proofs.lemmas.Bool.{cases_lt}
+use Rattle.bound_cert.proofs.OtherReading.{reads_by}
+use Rattle.cert_check.proofs.OtherSettings.{holds_by, legal_by}
+use Rattle.command_words.specs.Words.{check}
+use Rattle.fleet_model.specs.Legal.{total_cost}
+use Rattle.fleet_model.specs.Limits.{AreSettings}
+use Rattle.fleet_model.specs.declared.limits.TheConstants.{MINUTES_PER_DAY}
+use Rattle.fleet_model.specs.declared.parts.Settings.{Settings}
+use Rattle.fleet_model.specs.declared.tables.Tables.{Tables}
+use Rattle.plan_desk.specs.Desk.{Files}
+use Rattle.plan_desk.specs.declared.file.DeskFile.TheVariants as file
+use Rattle.sched_read.proofs.OtherSettings.{bad_by_day, reads_by_day, with_settings}
+use Rattle.sched_read.proofs.ReadLaws.{reads_no_fault}
+use Rattle.sched_read.specs.Reading.{Reads, TableBytes}
+use Rattle.fleet_cli.proofs.OneAnswer.{all_within}
+use Rattle.fleet_cli.proofs.OneReading.{within_or_long}
+use Rattle.fleet_cli.specs.Answer.{Answers, Checks}
+use Rattle.fleet_cli.specs.Contents.{bytes_in, table_bytes}
+use Rattle.fleet_cli.specs.Run.{IsCostThere, ProofThere}
+use Rattle.fleet_cli.specs.declared.answer.Answer.{Answer}
+
+-- files read by settings that are within their limits
+wait_in_day : (bytes : TableBytes) (settings : Settings) (t : Tables) → Reads bytes settings t → settings.through_max < MINUTES_PER_DAY
+wait_in_day bytes settings t reads =
+    let fits = t.in_range.settings_fit.through_max in
+    let same : t.settings.through_max ≡ settings.through_max = ap (λ (s : Settings). s.through_max) reads.settings_are in
+    omega (arith, fits, same)
+
+day_in_day : (bytes : TableBytes) (settings : Settings) (t : Tables) → Reads bytes settings t → settings.day_start < MINUTES_PER_DAY
+day_in_day bytes settings t reads =
+    let fits = t.in_range.settings_fit.day_start in
+    let same : t.settings.day_start ≡ settings.day_start = ap (λ (s : Settings). s.day_start) reads.settings_are in
+    omega (arith, fits, same)
+
+module _ (held : Files) (dir : List ℕ) where
+  module _ (t : Tables) (settings : Settings) (fit : AreSettings settings) where
+    abbrev other : Tables
+    other = with_settings t settings fit
+
+    same_total : (plan : List ℕ) → total_cost t plan ≡ total_cost other plan
+    unfolding total_cost
+    same_total plan = refl
+
+    -- the plan that stands there
+    plan_by : (planned : Bool) (cost : Option ℤ) → IsCostThere held dir t planned cost → IsCostThere held dir other planned cost
+    plan_by planned None none = none
+    plan_by planned (Some cost) (is, there) =
+        let legal = legal_by t.stations t.fleets t.legs t.costs t.throughs (t.settings, t.in_range) (settings, other.in_range) there.plan there.legal in (
+          is,
+          record {
+            plan = there.plan;
+            there = there.there;
+            reads = record { assignment = legal.assignment; same = there.reads.same };
+            legal = legal;
+            costs = there.costs ∙ same_total there.plan;
+          },
+        )
+
+  module _ (solving checking : Settings) (same : solving.day_start ≡ checking.day_start) where
+    -- a proof that stands there stands there by other settings with the same day start
+    proof_by : AreSettings checking → ProofThere held dir solving → ProofThere held dir checking
+    proof_by fit x =
+        let t = x.tables in
+        let u = with_settings t checking fit in
+        record {
+          tables = u;
+          proof = x.proof;
+          cost = x.cost;
+          bound = x.bound;
+          there = x.there;
+          reads = reads_by_day (table_bytes (bytes_in held dir)) solving checking same t fit x.reads;
+          proof_reads = reads_by t.stations t.fleets t.legs t.costs t.throughs (t.settings, t.in_range) (checking, u.in_range) (bytes_in held dir file.Proof) x.proof x.proof_reads;
+          plan = plan_by t checking fit x.proof.planned x.cost x.plan;
+          holds = holds_by t.stations t.fleets t.legs t.costs t.throughs (t.settings, t.in_range) (checking, u.in_range) x.cost x.proof.tree x.bound x.holds;
+        }
+
+    -- where checking answers at all, its longest wait is within its limit
+    never_answered : (answer : Answer) → ProofThere held dir solving → MINUTES_PER_DAY ≤ checking.through_max → Answers held (Some (check dir checking)) answer → ⊥
+    never_answered answer x great (inl long) =
+        within_or_long (Some (check dir checking)) held long.file
+        (all_within held (Some (check dir checking)) x.there (λ follows. absurd (unread follows.1.tables follows.1.reads))) long.longer
+      where
+        unread : (t : Tables) → Reads (table_bytes (bytes_in held dir)) checking t → ⊥
+        unread t reads = let small = wait_in_day (table_bytes (bytes_in held dir)) checking t reads in omega (arith, great, small)
+    never_answered answer x great (inr read) = by_tables read.answers
+      where
+        by_tables : Checks checking (table_bytes (bytes_in held dir)) (bytes_in held dir file.Proof) (bytes_in held dir file.Plan) answer → ⊥
+        by_tables (inl refused) =
+            reads_no_fault (table_bytes (bytes_in held dir)) solving x.tables refused.file refused.row refused.kind x.reads
+            (bad_by_day (table_bytes (bytes_in held dir)) checking solving (sym same) refused.file refused.row refused.kind refused.bad)
+        by_tables (inr answers) = let small = wait_in_day (table_bytes (bytes_in held dir)) checking answers.tables answers.reads in omega (arith, great, small)
+
+    -- so a proof that stands there by some settings is one by those of an answer to checking with the same day start
+    pub proof_by_day : (answer : Answer) → ProofThere held dir solving → Answers held (Some (check dir checking)) answer → ProofThere held dir checking
+    proof_by_day answer x answers = by_wait (cases_lt checking.through_max MINUTES_PER_DAY)
+      where
+        by_wait : (checking.through_max < MINUTES_PER_DAY) ⊎ (MINUTES_PER_DAY ≤ checking.through_max) → ProofThere held dir checking
+        by_wait (inl small) = proof_by (record { day_start = rw (← same) (day_in_day (table_bytes (bytes_in held dir)) solving x.tables x.reads); through_max = small }) x
+        by_wait (inr great) = absurd (never_answered answer x great answers)

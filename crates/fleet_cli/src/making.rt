@@ -1,0 +1,87 @@
+//! The command `make`: tables of a number, and a plan for them with a bound, its proof and its rotations.
+ghost use Rattle.std.specs.Prelude.{◌≡◌, IfOk};
+ghost use Rattle.command_words.specs.declared.command.TheConstants.{DEFAULT_SETTINGS};
+ghost use Rattle.fleet_cli.specs.Answer.{Makes};
+ghost use Rattle.fleet_cli.specs.Making.{after_files, made_files};
+ghost use Rattle.sched_read.specs.Reading.{Reads};
+ghost use Rattle.table_maker.specs.Laws.{bytes_of};
+ghost use Rattle.table_maker.specs.Made.{CanBeMade, made_tables};
+
+use crate::answer::{Answer, FileText};
+use crate::solving::solve_tables;
+use command_words::{DEFAULT_OPTIONS, DEFAULT_SETTINGS};
+use entries::{Entries, NoMemory};
+use fleet_model::{LoadError, Tables};
+use plan_desk::DeskFile;
+use sched_read::load;
+use std::alloc::Global;
+use table_maker::{MadeTables, make_tables};
+
+/// Makes the tables of a number and of so many legs, and solves them by the defaults.
+pub fn make_and_solve(alloc: Global, number: u32, legs: u32) -> Result<Answer, NoMemory>
+    requires { CanBeMade number legs }
+    ensures { IfOk result (Makes number legs) }
+{
+    let made = make_tables(alloc, number, legs)?;
+    let tables = load_made(alloc, number, legs, &made)?;
+    let solving = solve_tables(alloc, &tables, DEFAULT_OPTIONS)?;
+    after_tables(alloc, made, solving)
+}
+
+/// The tables that made texts read as.
+fn load_made(alloc: Global, number: u32, legs: u32, made: &MadeTables) -> Result<Tables, NoMemory>
+    requires can { CanBeMade number legs }
+    requires made { made.now ≡ made_tables number legs }
+    ensures { IfOk result (Reads (bytes_of made.now) DEFAULT_SETTINGS) }
+{
+    let loaded = load(
+        alloc,
+        made.stations.as_slice(),
+        made.fleets.as_slice(),
+        made.legs.as_slice(),
+        made.costs.as_slice(),
+        made.throughs.as_slice(),
+        DEFAULT_SETTINGS,
+    );
+    match loaded {
+        Ok(tables) => Ok(tables),
+        Err(LoadError::Bad(_)) => unreachable!(),
+        Err(LoadError::NoMemory) => Err(NoMemory),
+    }
+}
+
+/// An answer with the files of made tables before its own.
+fn after_tables(alloc: Global, made: MadeTables, solving: Answer) -> Result<Answer, NoMemory>
+    ensures { IfOk result (λ answer. answer ≡ after_files (made_files made) solving) }
+{
+    let mut files = made_files(alloc, made)?;
+    let mut solved = solving.files.into_vec();
+    files.append(&mut solved)?;
+    Ok(Answer {
+        status: solving.status,
+        text: solving.text,
+        files: Entries::from_vec(files),
+    })
+}
+
+/// The files of made tables, in the order in which they are loaded.
+#[tactic(auto, unfolding(crate::specs::Making::made_files))]
+fn made_files(alloc: Global, made: MadeTables) -> Result<Vec<FileText>, NoMemory>
+    ensures { IfOk result (λ files. files.items ≡ made_files made) }
+{
+    let mut files = Vec::new(alloc);
+    files.push(file_text(DeskFile::Stations, made.stations))?;
+    files.push(file_text(DeskFile::Fleets, made.fleets))?;
+    files.push(file_text(DeskFile::Legs, made.legs))?;
+    files.push(file_text(DeskFile::Costs, made.costs))?;
+    files.push(file_text(DeskFile::Throughs, made.throughs))?;
+    Ok(files)
+}
+
+/// A file of these bytes.
+fn file_text(file: DeskFile, bytes: Entries<u8>) -> FileText
+    ensures file { result.file ≡ file }
+    ensures bytes { result.bytes ≡ bytes }
+{
+    FileText { file, bytes }
+}
