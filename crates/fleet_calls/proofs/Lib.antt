@@ -1,2 +1,3 @@
 pub mod StepPrices
 pub mod EachTested
+pub mod SignEnds

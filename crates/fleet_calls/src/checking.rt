@@ -1,9 +1,9 @@
 //! Trees, checked.
 ghost use Rattle.std.specs.Prelude.{◌<◌, MatchBool, ⊤};
-ghost use Rattle.bound_cert.specs.OfTables.{ArePricesOf, IsCauseOf, IsMixedOf, IsOfTables, IsStepOf, IsWeightOf};
+ghost use Rattle.dual_bound.specs.OfTables.{ArePricesOf, IsCauseOf, IsMixedOf, IsOfTables, IsStepOf, IsWeightOf};
 
-use bound_cert::{Cause, Mixed, PriceStep, Prices, Tree, Weight};
 use cert_check::{Checked, check};
+use dual_bound::{Cause, Mixed, PriceStep, Prices, Tree, Weight};
 use entries::{Entries, NoMemory};
 use fleet_model::{LoadError, Tables};
 use plan_judge::{Verdict, judge};
@@ -31,7 +31,7 @@ fn checked(
 }
 
 /// What the checker says of a tree that comes with a plan.
-fn checked_with(tables: &Tables, fleets: &[u32], tree: &Tree) -> Option<Checked>
+pub fn checked_with(tables: &Tables, fleets: &[u32], tree: &Tree) -> Option<Checked>
     requires { IsOfTables tables.now tree.now }
 {
     let plan = assignment(tables, fleets)?;

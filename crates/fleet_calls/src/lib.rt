@@ -7,6 +7,10 @@ mod checking;
 #[cfg(test)]
 mod commands;
 #[cfg(test)]
+mod deep_trees;
+#[cfg(test)]
+mod dual_runs;
+#[cfg(test)]
 mod fields;
 #[cfg(test)]
 mod fractions;
@@ -14,6 +18,8 @@ mod fractions;
 mod judging;
 #[cfg(test)]
 mod lifting;
+#[cfg(test)]
+mod lines;
 #[cfg(test)]
 mod model;
 #[cfg(test)]
@@ -30,6 +36,8 @@ mod proof_reading;
 mod proof_texts;
 #[cfg(test)]
 mod reading;
+#[cfg(test)]
+mod sign_lifts;
 #[cfg(test)]
 mod solving;
 #[cfg(test)]

@@ -1,9 +1,9 @@
 //! Prices and fractional assignments from last tables.
 ghost use Rattle.std.specs.Prelude.{IfOk, IfSome};
-ghost use Rattle.bound_cert.specs.Prices.{ArePrices};
+ghost use Rattle.dual_bound.specs.Prices.{ArePrices};
 
-use bound_cert::Weight;
-use bound_cert::worth::worth;
+use dual_bound::Weight;
+use dual_bound::worth::worth;
 use fleet_model::{Kept, Step, Tables};
 use lp_rows::rows;
 use price_lift::{LiftError, Lifted, lift_best, lift_refusal};

@@ -1,6 +1,8 @@
-//! Runs of the simplex method.
-use entries::Entries;
-use row_store::{Dense, RowStore, Rows, is_problem};
+//! Runs of the simplex method, over each store of tables.
+ghost use Rattle.row_store.specs.Problem.{IsProblem};
+
+use entries::{Entries, NoMemory};
+use row_store::{Dense, Line, RowStore, Rows, Sparse, is_problem};
 use simplex_frac::{Outcome, solve};
 use std::alloc::Global;
 use std::test::Fail;
@@ -57,7 +59,7 @@ const RUNS: &[Run] = &[
 fn rows(alloc: Global, run: &Run) -> Result<Rows, Fail> {
     let mut lines = Vec::new(alloc);
     for line in run.lines {
-        lines.push(Entries::from_vec(Vec::from_slice(alloc, line)?))?;
+        lines.push(Line::from_vec(Vec::from_slice(alloc, line)?))?;
     }
     Ok(Rows {
         columns: run.costs.len().try_into()?,
@@ -81,15 +83,26 @@ fn told(outcome: &Outcome) -> (&'static str, &[u32], u64, u32, u32) {
     }
 }
 
+/// The outcome of the run of a problem in a store.
+fn outcome_over<R: RowStore + Drop>(
+    alloc: Global,
+    rows: &Rows,
+    pivots: u64,
+) -> Result<Outcome, NoMemory>
+    requires { IsProblem rows.now }
+{
+    let mut store = R::start(alloc, rows)?;
+    solve(alloc, &mut store, rows.columns, pivots)
+}
+
 #[test]
 fn runs_and_their_ends(rt: HostRuntime) -> Result<(), Fail> {
     for run in RUNS {
         let rows = rows(rt.alloc(), run)?;
         assert!(rt; is_problem(&rows));
-        let mut store = Dense::start(rt.alloc(), &rows)?;
-        let outcome = solve(rt.alloc(), &mut store, rows.columns, run.pivots)?;
-        let end = told(&outcome);
-        assert_eq!(rt; end, run.end);
+        let dense = outcome_over::<Dense>(rt.alloc(), &rows, run.pivots)?;
+        let sparse = outcome_over::<Sparse>(rt.alloc(), &rows, run.pivots)?;
+        assert_eq!(rt; (told(&dense), told(&sparse)), (run.end, run.end));
     }
     Ok(())
 }

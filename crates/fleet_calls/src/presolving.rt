@@ -1,5 +1,5 @@
 //! The pairs that presolve removes, with their reasons.
-use bound_cert::PriceStep;
+use dual_bound::PriceStep;
 use entries::Entries;
 use fleet_model::LoadError;
 use presolve::{Trim, trim};

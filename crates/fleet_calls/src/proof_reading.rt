@@ -1,5 +1,6 @@
 //! Texts of proofs, read, and the first fault of each text that isn't one.
-use bound_cert::{CertError, CertFault, Proof, Tree, read_proof, write_proof};
+use bound_cert::{CertError, CertFault, Proof, read_proof, write_proof};
+use dual_bound::Tree;
 use fleet_model::LoadError;
 use std::alloc::Global;
 use std::test::Fail;
@@ -183,24 +184,6 @@ fn first_faults(rt: HostRuntime) -> Result<(), Fail> {
     ];
     for (text, want) in cases {
         assert_eq!(rt; fault_of(rt.alloc(), text)?, want);
-    }
-    Ok(())
-}
-
-#[test]
-fn trees_of_depths(rt: HostRuntime) -> Result<(), Fail> {
-    let alloc = rt.alloc();
-    for (trims, want) in [(2_000, None), (20_001, Some((20_004, 9)))] {
-        let mut text = Vec::new(alloc);
-        text.extend_from_slice(b"fleet proof 1\nplan no\n")?;
-        for _ in 0..trims {
-            text.extend_from_slice(b"trim X1 F1\n")?;
-        }
-        for _ in 0..trims + 1 {
-            text.extend_from_slice(b"sole\n")?;
-        }
-        text.extend_from_slice(b"end\n")?;
-        assert_eq!(rt; fault_of(alloc, text.as_slice())?, want);
     }
     Ok(())
 }

@@ -2,9 +2,10 @@
 ghost use Rattle.std.specs.Prelude.{◌≡◌, ◌<◌, All, IfOk};
 ghost use Rattle.fleet_model.specs.Schedule.{fleets_in, legs_in, stations_in};
 ghost use Rattle.fleet_model.specs.declared.tables.Tables.{Tables};
-ghost use Rattle.bound_cert.specs.OfTables.{IsOfTables};
+ghost use Rattle.dual_bound.specs.OfTables.{IsOfTables};
 
-use bound_cert::{Cause, PriceStep, Prices, Tree, TreeCounts, write_proof};
+use bound_cert::write_proof;
+use dual_bound::{Cause, PriceStep, Prices, Tree, TreeCounts};
 use entries::{Entries, NoMemory};
 use fleet_model::LoadError;
 use std::alloc::Global;

@@ -1,6 +1,7 @@
 //! Tables, solved.
-use bound_cert::{Cause, Tree};
 use branch_bound::{Solved, solve};
+use cert_check::split_above;
+use dual_bound::{Cause, Tree};
 use fleet_model::LoadError;
 use std::alloc::Global;
 use std::test::Fail;
@@ -29,6 +30,12 @@ const ONE_CHOICE: Files = Files {
 /// The same at no cost, but for the first leg, which earns 7 on one fleet and 6 on the other.
 const EARNING: Files = Files {
     costs: b"flight,fleet,cost\nA1,F1,-7\nA1,F2,-6\nA2,F1,0\nA2,F2,0\nB1,F1,0\nB1,F2,0\nB2,F1,0\nB2,F2,0\nC1,F1,0\nC1,F2,0\nC2,F1,0\nC2,F2,0\n",
+    ..TWO_FLEETS
+};
+
+/// Three round trips at once, which two aircraft can't fly, not even in parts.
+const AT_ONCE: Files = Files {
+    legs: b"flight,from,dep,to,arr\nA1,HUB,08:00,SAA,10:00\nA2,SAA,11:00,HUB,13:00\nB1,HUB,08:00,SBB,10:00\nB2,SBB,11:00,HUB,13:00\nC1,HUB,08:00,SCC,10:00\nC2,SCC,11:00,HUB,13:00\n",
     ..TWO_FLEETS
 };
 
@@ -189,6 +196,32 @@ fn the_halves_have_scale_2(rt: HostRuntime) -> Result<(), Fail> {
     Ok(())
 }
 
+/// Whether the root of the halves is left open for splits, and not for pivots, where each run has so many.
+fn is_root_settled(alloc: Global, pivots: u64) -> Result<bool, LoadError> {
+    let solved = solution(alloc, &TWO_FLEETS, 0, pivots)?;
+    let counts = solved.tree().counts();
+    Ok(counts.open_nodes == 1 && counts.open_pivots == 0)
+}
+
+/// The prescribed run needs 15 pivots, and the dual simplex method, which is tried first, 18.
+#[test]
+fn where_the_second_run_gives_up_the_prescribed_one_settles(rt: HostRuntime) -> Result<(), Fail> {
+    assert!(rt; !is_root_settled(rt.alloc(), 14)?);
+    for pivots in [15, 17, 18, ENOUGH] {
+        assert!(rt; is_root_settled(rt.alloc(), pivots)?);
+    }
+    Ok(())
+}
+
+#[test]
+fn trips_at_once_are_refuted(rt: HostRuntime) -> Result<(), Fail> {
+    let solved = solution(rt.alloc(), &AT_ONCE, 0, ENOUGH)?;
+    match solved.tree() {
+        Tree::Refuted(_) => Ok(()),
+        tree => panic!(rt; "{tree:?}"),
+    }
+}
+
 #[test]
 fn a_third_fleet_flies_what_is_left(rt: HostRuntime) -> Result<(), Fail> {
     assert_eq!(rt;
@@ -202,6 +235,34 @@ fn a_third_fleet_flies_what_is_left(rt: HostRuntime) -> Result<(), Fail> {
     assert_eq!(rt;
         answer_of(rt.alloc(), &OVERLAPPING_TRIPS, 0)?,
         unsettled(60, 0)
+    );
+    Ok(())
+}
+
+/// The first split of a solution's tree whose rounded worth is above a cost.
+fn first_split_above(alloc: Global, files: &Files, cost: i128) -> Result<Option<u64>, LoadError> {
+    let tables = read(alloc, files)?;
+    let solved = solve(alloc, &tables, ENOUGH, ENOUGH)?;
+    Ok(split_above(&tables, solved.tree(), cost))
+}
+
+#[test]
+fn no_split_is_above_the_cost_of_the_plan(rt: HostRuntime) -> Result<(), Fail> {
+    assert_eq!(rt;
+        first_split_above(rt.alloc(), &OVERLAPPING_TRIPS, 140)?,
+        None
+    );
+    assert_eq!(rt;
+        first_split_above(rt.alloc(), &OVERLAPPING_TRIPS, 100)?,
+        None
+    );
+    assert_eq!(rt;
+        first_split_above(rt.alloc(), &OVERLAPPING_TRIPS, 99)?,
+        Some(3)
+    );
+    assert_eq!(rt;
+        first_split_above(rt.alloc(), &OVERLAPPING_TRIPS, 59)?,
+        Some(1)
     );
     Ok(())
 }

@@ -1,9 +1,9 @@
 //! What prices are worth.
 ghost use Rattle.std.specs.Prelude.{IfOk};
-ghost use Rattle.bound_cert.specs.Prices.{ArePrices};
+ghost use Rattle.dual_bound.specs.Prices.{ArePrices};
 
-use bound_cert::worth::worth;
-use bound_cert::{PriceStep, Prices};
+use dual_bound::worth::worth;
+use dual_bound::{PriceStep, Prices};
 use entries::{Entries, NoMemory};
 use fleet_model::{Kept, Step, Tables};
 use std::alloc::Global;

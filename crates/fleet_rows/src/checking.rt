@@ -92,7 +92,7 @@ pub const SOLVED: &[Case] = &[
     ),
 ];
 
-/// The plan's text comes first, then its verdict, then the tree, which breaks a rule in each of these.
+/// The plan's text comes first, then its verdict, then the tree, which breaks a rule in all of these but the last two.
 pub const REFUSED_PLANS: &[Case] = &[
     (
         &[BROKEN, Laid::Bytes(Plan, b"flight,fleet\nX1,F1\nX1,F1\n")],
@@ -127,6 +127,20 @@ pub const REFUSED_PLANS: &[Case] = &[
         b"not allowed: X2\n",
     ),
     (&[BROKEN], REFUSED, b"broken: node 1 rule 5\n"),
+    // Beside a proof that holds of another plan.
+    (
+        &[PRICED, Laid::Bytes(Plan, b"flight,fleet\nX1,F1\nX1,F1\n")],
+        REFUSED,
+        b"plan refused: record 3 kind 3\n",
+    ),
+    (
+        &[
+            PRICED,
+            Laid::Bytes(Plan, b"flight,fleet\nX1,F1\nX2,F1\na\n"),
+        ],
+        REFUSED,
+        b"plan refused: record 4 kind 5\n",
+    ),
 ];
 
 /// The tables come before the proof's text, and that before the plan; a file that is missing comes before all.
@@ -160,70 +174,64 @@ pub const ORDER: &[Case] = &[
 pub const CALLS: &[Failing] = &[
     (
         (&[PRICED], FAULT, b"fault: stations.csv\n", &[]),
-        &[1],
+        &[(1, 0)],
         &[],
         1,
         0,
     ),
     (
         (&[PRICED], FAULT, b"fault: fleets.csv\n", &[]),
-        &[2],
+        &[(2, 0)],
         &[],
         1,
         0,
     ),
     (
         (&[PRICED], FAULT, b"fault: legs.csv\n", &[]),
-        &[3],
+        &[(3, 0)],
         &[],
         1,
         0,
     ),
     (
         (&[PRICED], FAULT, b"fault: costs.csv\n", &[]),
-        &[4],
+        &[(4, 0)],
         &[],
         1,
         0,
     ),
     (
         (&[PRICED], FAULT, b"fault: throughs.csv\n", &[]),
-        &[5],
+        &[(5, 0)],
         &[],
         1,
         0,
     ),
     (
         (&[PRICED], FAULT, b"fault: proof.txt\n", &[]),
-        &[6],
+        &[(6, 0)],
         &[],
         1,
         0,
     ),
     (
         (&[PRICED], FAULT, b"fault: plan.csv\n", &[]),
-        &[7],
+        &[(7, 0)],
         &[],
         1,
         0,
     ),
-    ((&[PRICED], DONE, PRICED_LINE, &[]), &[8, 9], &[2], 0, 0),
     (
-        (&[OPEN], DONE, b"holds: bound 180\n", &[]),
-        &[7, 8],
-        &[2],
+        (&[PRICED], DONE, PRICED_LINE, &[]),
+        &[(8, 0), (9, 0)],
+        &[(2, 0)],
         0,
         0,
     ),
     (
-        (
-            &[PRICED, BAD_LEGS],
-            BAD_INPUT,
-            b"bad input: legs.csv record 1 kind 1\n",
-            &[],
-        ),
-        &[7, 8],
-        &[2],
+        (&[OPEN], DONE, b"holds: bound 180\n", &[]),
+        &[(7, 0), (8, 0)],
+        &[(2, 0)],
         0,
         0,
     ),
@@ -234,13 +242,13 @@ pub const CALLS: &[Failing] = &[
             b"proof refused: line 1 kind 1\n",
             &[],
         ),
-        &[7, 8],
-        &[2],
+        &[(7, 0), (8, 0)],
+        &[(2, 0)],
         0,
         0,
     ),
-    ((&[PRICED], FAULT, b"", &[]), &[], &[1], 0, 1),
-    ((&[PRICED], FAULT, b"", &[]), &[7], &[1], 1, 1),
+    ((&[PRICED], FAULT, b"", &[]), &[], &[(1, 0)], 0, 1),
+    ((&[PRICED], FAULT, b"", &[]), &[(7, 0)], &[(1, 0)], 1, 1),
 ];
 
 /// Minutes count from the day start of the words: where the day starts at 09:00, the first leg leaves late in it, and

@@ -53,7 +53,7 @@ fn run_steps<R: Abort + Alloc<A = Global>, D: Desk>(
 
 const NOTHING: &[u8] = b"";
 
-// `legs.csv` is there twice and `costs.csv` isn't. The calls 3 and 9 are to fail.
+// `legs.csv` is there twice and `costs.csv` isn't. The calls 3 and 9 are to fail, after 1 and 2 bytes.
 const IN_MEMORY: &[Step] = &[
     (Read(DeskFile::Legs, 3), Ok(b"abc"), (3, 0, None)),
     (
@@ -98,8 +98,8 @@ const IN_MEMORY: &[Step] = &[
     ),
     (
         Read(DeskFile::Plan, 4_194_304),
-        Ok(b"plan"),
-        (13, 3, Some(DeskFile::Plan)),
+        Ok(b"ot"),
+        (11, 3, Some(DeskFile::Plan)),
     ),
 ];
 
@@ -111,22 +111,25 @@ fn a_desk_in_memory(rt: HostRuntime) -> Result<(), Fail> {
         (name()?, b"old".to_vec(alloc)?),
         (name()?, b"abc".to_vec(alloc)?),
     ]?;
-    let failing = vec![in alloc; FailingCall::at(3), FailingCall::at(9)]?;
+    let failing = vec![in alloc; FailingCall::after(3, 1), FailingCall::after(9, 2)]?;
     let mut desk = MemoryDesk::new(alloc, files, failing)?;
     run_steps(&rt, &mut desk, "d", IN_MEMORY)?;
-    assert_eq!(rt; desk.file("d/plan.csv"), Some(b"plan".as_slice()));
+    assert_eq!(rt; desk.file("d/plan.csv"), Some(b"ot".as_slice()));
     assert_eq!(rt; desk.file("d/costs.csv"), None);
     Ok(())
 }
 
 #[test]
 fn a_sink_in_memory(rt: HostRuntime) -> Result<(), Fail> {
-    let mut sink = MemorySink::new(vec![in rt.alloc(); FailingCall::at(2)]?);
+    let failing = vec![in rt.alloc(); FailingCall::at(2), FailingCall::after(4, 9)]?;
+    let mut sink = MemorySink::new(failing);
     sink.put(b"ab")?;
     assert_eq!(rt; sink.put(b"cd"), Err(SinkError::Failed));
     assert_eq!(rt; sink.faults(), 1);
     sink.put(b"e")?;
-    assert_eq!(rt; sink.put_bytes(), b"abe".as_slice());
+    assert_eq!(rt; sink.put(b"fg"), Err(SinkError::Failed));
+    assert_eq!(rt; sink.had_no_memory(), false);
+    assert_eq!(rt; sink.put_bytes(), b"abefg".as_slice());
     Ok(())
 }
 

@@ -6,29 +6,65 @@ use plan_desk::DeskFile::{Fleets, Legs, Plan, Stations};
 
 /// Each read fails; there is no call after the sixth read, and no put after the first; the put fails.
 pub const CALLS: &[Failing] = &[
-    ((&[], FAULT, b"fault: stations.csv\n", &[]), &[1], &[], 1, 0),
-    ((&[], FAULT, b"fault: fleets.csv\n", &[]), &[2], &[], 1, 0),
-    ((&[], FAULT, b"fault: legs.csv\n", &[]), &[3], &[], 1, 0),
-    ((&[], FAULT, b"fault: costs.csv\n", &[]), &[4], &[], 1, 0),
-    ((&[], FAULT, b"fault: throughs.csv\n", &[]), &[5], &[], 1, 0),
-    ((&[], FAULT, b"fault: plan.csv\n", &[]), &[6], &[], 1, 0),
-    ((&[], DONE, LEGAL, &[]), &[7, 8], &[2], 0, 0),
-    ((&[], FAULT, b"", &[]), &[], &[1], 0, 1),
+    (
+        (&[], FAULT, b"fault: stations.csv\n", &[]),
+        &[(1, 0)],
+        &[],
+        1,
+        0,
+    ),
+    (
+        (&[], FAULT, b"fault: fleets.csv\n", &[]),
+        &[(2, 0)],
+        &[],
+        1,
+        0,
+    ),
+    (
+        (&[], FAULT, b"fault: legs.csv\n", &[]),
+        &[(3, 0)],
+        &[],
+        1,
+        0,
+    ),
+    (
+        (&[], FAULT, b"fault: costs.csv\n", &[]),
+        &[(4, 0)],
+        &[],
+        1,
+        0,
+    ),
+    (
+        (&[], FAULT, b"fault: throughs.csv\n", &[]),
+        &[(5, 0)],
+        &[],
+        1,
+        0,
+    ),
+    (
+        (&[], FAULT, b"fault: plan.csv\n", &[]),
+        &[(6, 0)],
+        &[],
+        1,
+        0,
+    ),
+    ((&[], DONE, LEGAL, &[]), &[(7, 0), (8, 0)], &[(2, 0)], 0, 0),
+    ((&[], FAULT, b"", &[]), &[], &[(1, 0)], 0, 1),
     (
         (&[Laid::Bytes(Stations, b"")], FAULT, b"", &[]),
         &[],
-        &[1],
+        &[(1, 0)],
         0,
         1,
     ),
     (
         (&[Laid::Bytes(Plan, b"")], FAULT, b"", &[]),
         &[],
-        &[1],
+        &[(1, 0)],
         0,
         1,
     ),
-    ((&[], FAULT, b"", &[]), &[3], &[1], 1, 1),
+    ((&[], FAULT, b"", &[]), &[(3, 0)], &[(1, 0)], 1, 1),
 ];
 
 /// The plan is read before the tables are judged, and the first read that fails ends the run.

@@ -23,6 +23,10 @@ mod limits;
 #[cfg(test)]
 mod made;
 #[cfg(test)]
+mod making;
+#[cfg(test)]
+mod outside;
+#[cfg(test)]
 mod plans;
 #[cfg(test)]
 mod proofs;
@@ -38,6 +42,8 @@ mod schedules;
 mod searches;
 #[cfg(test)]
 mod searching;
+#[cfg(test)]
+mod second_runs;
 #[cfg(test)]
 mod solving;
 #[cfg(test)]

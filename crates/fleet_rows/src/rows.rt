@@ -27,8 +27,8 @@ pub struct Row<'a, 'b> {
     pub text: &'a [u8],
     /// What stands after the run in place of what lay before it.
     pub left: &'a [Laid<'b>],
-    /// The calls of the desk and of the sink that fail, by their numbers.
-    pub failing: (&'a [u64], &'a [u64]),
+    /// The calls of the desk and of the sink that fail.
+    pub failing: (&'a [Cut], &'a [Cut]),
     /// The faults of the desk and of the sink that are counted.
     pub faults: (u64, u64),
 }
@@ -44,8 +44,11 @@ pub type Writing = (
     &'static [Laid<'static>],
 );
 
+/// The number of a call that fails, and how many first bytes it leaves.
+pub type Cut = (u64, u64);
+
 /// A case with the calls of the desk and of the sink that fail, and the faults of both that are counted.
-pub type Failing = (Writing, &'static [u64], &'static [u64], u64, u64);
+pub type Failing = (Writing, &'static [Cut], &'static [Cut], u64, u64);
 
 /// A line of words, which are apart by single spaces, and its case.
 pub type Asked = (&'static str, Writing);
@@ -163,11 +166,29 @@ pub fn run_line<R: Abort + Alloc<A = Global>>(
     line: &'static str,
     case: Writing,
 ) -> Result<(), Fail> {
-    let mut words = Vec::new(rt.alloc());
+    let words = split(rt.alloc(), line)?;
+    run_row(rt, number, &row_left(words.as_slice(), case))
+}
+
+/// The words of a line.
+fn split(alloc: Global, line: &'static str) -> Result<Vec<&'static str>, Fail> {
+    let mut words = Vec::new(alloc);
     for word in line.split(' ') {
         words.push(word)?;
     }
-    run_row(rt, number, &row_left(words.as_slice(), case))
+    Ok(words)
+}
+
+/// Runs each case with the words of its line and its calls that fail.
+pub fn run_outside<R: Abort + Alloc<A = Global>>(
+    rt: &R,
+    cases: &[(&'static str, Failing)],
+) -> Result<(), Fail> {
+    for (number, (line, case)) in cases.iter().enumerate() {
+        let words = split(rt.alloc(), *line)?;
+        run_row(rt, number, &row_failing(words.as_slice(), *case))?;
+    }
+    Ok(())
 }
 
 /// Runs each case with its calls that fail.
@@ -176,20 +197,20 @@ pub fn run_failing<R: Abort + Alloc<A = Global>>(
     words: &'static [&'static str],
     cases: &[Failing],
 ) -> Result<(), Fail> {
-    for (number, (case, calls, puts, desk, sink)) in cases.iter().enumerate() {
-        let (laid, status, text, left) = *case;
-        let row = Row {
-            laid,
-            words,
-            status,
-            text,
-            left,
-            failing: (calls, puts),
-            faults: (*desk, *sink),
-        };
-        run_row(rt, number, &row)?;
+    for (number, case) in cases.iter().enumerate() {
+        run_row(rt, number, &row_failing(words, *case))?;
     }
     Ok(())
+}
+
+/// A row in which calls fail.
+fn row_failing<'a>(words: &'a [&'static str], case: Failing) -> Row<'a, 'static> {
+    let (case, calls, puts, desk, sink) = case;
+    Row {
+        failing: (calls, puts),
+        faults: (desk, sink),
+        ..row_left(words, case)
+    }
 }
 
 /// Runs the words for each text of one file.
@@ -235,6 +256,10 @@ pub fn run_row<R: Abort + Alloc<A = Global>>(
     assert_eq!(rt; sink.put_bytes(), row.text, "row {number}");
     assert_eq!(rt; status.code, row.status, "row {number}");
     assert_eq!(rt; (desk.faults(), sink.faults()), row.faults, "row {number}");
+    assert!(rt;
+        !desk.had_no_memory() && !sink.had_no_memory(),
+        "row {number}"
+    );
     for file in FOLDER {
         let name = path(alloc, file)?;
         assert!(rt;
@@ -289,11 +314,11 @@ pub fn files(alloc: Global, laid: &[Laid<'_>]) -> Result<Vec<(String, Vec<u8>)>,
     Ok(files)
 }
 
-/// The calls that are to fail, by their numbers.
-fn failing(alloc: Global, calls: &[u64]) -> Result<Vec<FailingCall>, Fail> {
+/// The calls that are to fail.
+fn failing(alloc: Global, cuts: &[Cut]) -> Result<Vec<FailingCall>, Fail> {
     let mut failing = Vec::new(alloc);
-    for call in calls {
-        failing.push(FailingCall::at(*call))?;
+    for (call, bytes) in cuts {
+        failing.push(FailingCall::after(*call, *bytes))?;
     }
     Ok(failing)
 }

@@ -2,7 +2,7 @@
 use crate::rows::{
     CHECK, JUDGE, SOLVE, SOLVE_AT_ONCE, run_asked, run_cases, run_failing, run_writing,
 };
-use crate::{checking, faults, files, judging, rotations, solving, tails, using};
+use crate::{checking, faults, files, judging, making, rotations, solving, tails, using};
 use std::test::Fail;
 
 #[test]
@@ -86,6 +86,12 @@ fn fleets_without_a_tour(rt: HostRuntime) -> Result<(), Fail> {
 fn plans_that_tails_refuses(rt: HostRuntime) -> Result<(), Fail> {
     run_asked(&rt, tails::REFUSALS)?;
     run_failing(&rt, tails::TAILS, tails::CALLS)
+}
+
+#[test]
+fn tables_that_are_made(rt: HostRuntime) -> Result<(), Fail> {
+    run_asked(&rt, making::MADE)?;
+    run_failing(&rt, making::MAKE, making::CALLS)
 }
 
 #[test]

@@ -80,7 +80,7 @@ fn run_search<R: Abort + Alloc<A = Global>>(
 }
 
 /// Runs words over what stands on a desk, and compares status and output.
-fn run_quietly<R: Abort + Alloc<A = Global>>(
+pub fn run_quietly<R: Abort + Alloc<A = Global>>(
     rt: &R,
     number: usize,
     desk: &mut MemoryDesk,

@@ -8,7 +8,7 @@ use crate::tables::{NO_ROTATION, OPEN, OPTIMAL, PLAN, ROTATION};
 use plan_desk::DeskFile::{Costs, Fleets, Legs, Plan, Stations, Throughs};
 use std::test::Fail;
 
-const NO_NODES: &[&str] = &[
+pub const NO_NODES: &[&str] = &[
     "fleetplan",
     "solve",
     "d",
@@ -42,9 +42,9 @@ const ONE_NODE_AS_JSON: &[&str] = &[
 const SOLVE_AS_JSON: &[&str] = &["fleetplan", "solve", "d", "--json", "--day-start", "00:00"];
 
 // A plan of an earlier run, which is no plan of these tables.
-const OLD_PLAN: &[u8] = b"flight,fleet\nX1,F9\n";
+pub const OLD_PLAN: &[u8] = b"flight,fleet\nX1,F9\n";
 
-const OLD: Laid<'static> = Laid::Bytes(Plan, OLD_PLAN);
+pub const OLD: Laid<'static> = Laid::Bytes(Plan, OLD_PLAN);
 
 // Three round trips of which each two overlap, over the first run.
 const TRIPS: Laid<'static> = Laid::Bytes(
@@ -54,19 +54,19 @@ const TRIPS: Laid<'static> = Laid::Bytes(
         C1,HUB,16:00,SCC,22:00\nC2,SCC,23:00,HUB,08:00\n",
 );
 
-const HUB: Laid<'static> = Laid::Bytes(
+pub const HUB: Laid<'static> = Laid::Bytes(
     Stations,
     b"code,extra,maintenance\nHUB,0,yes\nSAA,0,yes\nSBB,0,yes\nSCC,0,yes\n",
 );
 
-const TWO_FLEETS: Laid<'static> = Laid::Bytes(Fleets, b"fleet,aircraft,turn\nF1,1,0\nF2,1,0\n");
+pub const TWO_FLEETS: Laid<'static> = Laid::Bytes(Fleets, b"fleet,aircraft,turn\nF1,1,0\nF2,1,0\n");
 
 const THREE_FLEETS: Laid<'static> = Laid::Bytes(
     Fleets,
     b"fleet,aircraft,turn\nF1,1,0\nF2,1,0\nF3,1,0\n",
 );
 
-const TENS: Laid<'static> = Laid::Bytes(
+pub const TENS: Laid<'static> = Laid::Bytes(
     Costs,
     b"flight,fleet,cost\nA1,F1,10\nA1,F2,10\nA2,F1,10\nA2,F2,10\nB1,F1,10\nB1,F2,10\n\
         B2,F1,10\nB2,F2,10\nC1,F1,10\nC1,F2,10\nC2,F1,10\nC2,F2,10\n",
@@ -210,7 +210,7 @@ const TWO_AIRCRAFT: Search = Search {
     checked: b"holds: infeasible\n",
 };
 
-const TWO_UNSPLIT: Search = Search {
+pub const TWO_UNSPLIT: Search = Search {
     words: NO_NODES,
     status: UNSETTLED,
     text: Whole(

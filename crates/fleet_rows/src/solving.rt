@@ -141,54 +141,37 @@ pub const SOLVED: &[Writing] = &[
 /// Each leg with two fleets: without pivots the bound is the sum of the least costs, and the old plan stays.
 pub const AT_ONCE: &[Writing] = &[(&[OLD], UNSETTLED, OPEN, &[LEFT_OPEN, UNROTATED])];
 
+// Nothing of a file, since its write failed at once.
+const CUT_PLAN: Laid<'static> = Laid::Bytes(Plan, b"");
+
+const CUT_PROOF: Laid<'static> = Laid::Bytes(Proof, b"");
+
+const CUT_ROTATION: Laid<'static> = Laid::Bytes(Rotation, b"");
+
 /// The plan isn't read: there are five reads, and then the plan, the proof and the rotations are written. There is no
-/// call after the last write, and no put after the first. What was written before a call that fails stands.
+/// call after the last write, and no put after the first. What was written before a call that fails stands, and so do
+/// the first bytes of what it was to write.
 pub const CALLS: &[Failing] = &[
     (
-        (&[OLD, FIRST_FLEET], FAULT, b"fault: stations.csv\n", &[]),
-        &[1],
+        (
+            &[OLD, FIRST_FLEET],
+            FAULT,
+            b"fault: plan.csv\n",
+            &[CUT_PLAN],
+        ),
+        &[(6, 0)],
         &[],
         1,
         0,
     ),
     (
-        (&[OLD, FIRST_FLEET], FAULT, b"fault: fleets.csv\n", &[]),
-        &[2],
-        &[],
-        1,
-        0,
-    ),
-    (
-        (&[OLD, FIRST_FLEET], FAULT, b"fault: legs.csv\n", &[]),
-        &[3],
-        &[],
-        1,
-        0,
-    ),
-    (
-        (&[OLD, FIRST_FLEET], FAULT, b"fault: costs.csv\n", &[]),
-        &[4],
-        &[],
-        1,
-        0,
-    ),
-    (
-        (&[OLD, FIRST_FLEET], FAULT, b"fault: throughs.csv\n", &[]),
-        &[5],
-        &[],
-        1,
-        0,
-    ),
-    (
-        (&[OLD, FIRST_FLEET], FAULT, b"fault: plan.csv\n", &[]),
-        &[6],
-        &[],
-        1,
-        0,
-    ),
-    (
-        (&[OLD], FAULT, b"fault: proof.txt\n", &[NEW_PLAN]),
-        &[7],
+        (
+            &[OLD],
+            FAULT,
+            b"fault: proof.txt\n",
+            &[NEW_PLAN, Laid::Bytes(Proof, b"fleet proof 1\nplan yes\n")],
+        ),
+        &[(7, 23)],
         &[],
         1,
         0,
@@ -198,30 +181,43 @@ pub const CALLS: &[Failing] = &[
             &[OLD, OLD_ROTATION, FIRST_FLEET],
             FAULT,
             b"fault: rotation.csv\n",
-            &[NEW_PLAN, PLANNED],
+            &[NEW_PLAN, PLANNED, CUT_ROTATION],
         ),
-        &[8],
+        &[(8, 0)],
         &[],
         1,
         0,
     ),
-    (ONE_CHOICE, &[9, 10], &[2], 0, 0),
+    // All of the file stands, and the write failed all the same.
+    (
+        (
+            &[OLD, OLD_ROTATION, FIRST_FLEET],
+            FAULT,
+            b"fault: rotation.csv\n",
+            &[NEW_PLAN, PLANNED, ROTATED],
+        ),
+        &[(8, 18_446_744_073_709_551_615)],
+        &[],
+        1,
+        0,
+    ),
+    (ONE_CHOICE, &[(9, 0), (10, 0)], &[(2, 0)], 0, 0),
     (
         (
             &[OLD, FIRST_FLEET],
             FAULT,
-            b"",
+            b"outcome: optimal\n",
             &[NEW_PLAN, PLANNED, ROTATED],
         ),
         &[],
-        &[1],
+        &[(1, 17)],
         0,
         1,
     ),
     (
-        (&[OLD, FIRST_FLEET], FAULT, b"", &[NEW_PLAN]),
-        &[7],
-        &[1],
+        (&[OLD, FIRST_FLEET], FAULT, b"fault", &[NEW_PLAN, CUT_PROOF]),
+        &[(7, 0)],
+        &[(1, 5)],
         1,
         1,
     ),
@@ -229,25 +225,36 @@ pub const CALLS: &[Failing] = &[
 
 /// The same without pivots, where no plan is written.
 pub const CALLS_AT_ONCE: &[Failing] = &[
-    ((&[OLD], FAULT, b"fault: proof.txt\n", &[]), &[6], &[], 1, 0),
     (
-        (&[OLD], FAULT, b"fault: rotation.csv\n", &[LEFT_OPEN]),
-        &[7],
+        (&[OLD], FAULT, b"fault: proof.txt\n", &[CUT_PROOF]),
+        &[(6, 0)],
+        &[],
+        1,
+        0,
+    ),
+    (
+        (
+            &[OLD],
+            FAULT,
+            b"fault: rotation.csv\n",
+            &[LEFT_OPEN, CUT_ROTATION],
+        ),
+        &[(7, 0)],
         &[],
         1,
         0,
     ),
     (
         (&[OLD], UNSETTLED, OPEN, &[LEFT_OPEN, UNROTATED]),
-        &[8, 9],
-        &[2],
+        &[(8, 0), (9, 0)],
+        &[(2, 0)],
         0,
         0,
     ),
     (
         (&[OLD], FAULT, b"", &[LEFT_OPEN, UNROTATED]),
         &[],
-        &[1],
+        &[(1, 0)],
         0,
         1,
     ),

@@ -219,7 +219,13 @@ const FLOWN: &[u8] = b"2025-02-28 F1/1: X1 X2\nF2: unused\n";
 
 /// The last read fails; there is no call after it, and no put after the first; the put fails.
 pub const CALLS: &[Failing] = &[
-    ((&[], FAULT, b"fault: plan.csv\n", &[]), &[6], &[], 1, 0),
-    ((&[], DONE, FLOWN, &[]), &[7, 8], &[2], 0, 0),
-    ((&[], FAULT, b"", &[]), &[], &[1], 0, 1),
+    (
+        (&[], FAULT, b"fault: plan.csv\n", &[]),
+        &[(6, 0)],
+        &[],
+        1,
+        0,
+    ),
+    ((&[], DONE, FLOWN, &[]), &[(7, 0), (8, 0)], &[(2, 0)], 0, 0),
+    ((&[], FAULT, b"", &[]), &[], &[(1, 0)], 0, 1),
 ];

@@ -36,9 +36,6 @@ const NO_COMMAND: &[&str] = &[
     "fleetplan Judge d --day-start 00:00",
     "judge d --day-start 00:00",
     "fleetplan --day-start 00:00 judge d",
-    "fleetplan make d",
-    "fleetplan make d 1 2",
-    "fleetplan make d 1 3",
     "fleetplan help",
     "fleetplan help judge",
     "fleetplan --help",
@@ -137,6 +134,29 @@ const NOTHING_TO_FLY: &[&str] = &[
     "fleetplan tails d 2025-02-28 1 --pivots 0",
     "fleetplan tails d 2025-02-28 1 --json",
     "fleetplan tails d 2025-02-28 1 --help",
+];
+
+// No even number of legs up to 1,000, no number of 31 bits, and no option.
+const NOTHING_TO_MAKE: &[&str] = &[
+    "fleetplan make",
+    "fleetplan make d",
+    "fleetplan make d 1",
+    "fleetplan make d 1 2 more",
+    "fleetplan make d 1 3",
+    "fleetplan make d 1 1001",
+    "fleetplan make d 1 1002",
+    "fleetplan make d 1 -2",
+    "fleetplan make d 1 +2",
+    "fleetplan make d 1 two",
+    "fleetplan make d 1 000000000000000000002",
+    "fleetplan make d 2147483648 2",
+    "fleetplan make d -1 2",
+    "fleetplan make d 1 2 --day-start 03:00",
+    "fleetplan make d 1 2 --days 3",
+    "fleetplan make d 1 2 --through-max 60",
+    "fleetplan make d 1 2 --nodes 1",
+    "fleetplan make d 1 2 --json",
+    "fleetplan make d 1 2 --help",
 ];
 
 // No number of dates, no day of the calendar, and dates that end after it does.
@@ -240,6 +260,7 @@ fn lines_that_ask_for_nothing(rt: HostRuntime) -> Result<(), Fail> {
 fn lines_without_rotations(rt: HostRuntime) -> Result<(), Fail> {
     run_lines(&rt, NO_ROTATIONS_TO_SOLVE, REFUSED_WORDS)?;
     run_lines(&rt, NOTHING_TO_FLY, REFUSED_WORDS)?;
+    run_lines(&rt, NOTHING_TO_MAKE, REFUSED_WORDS)?;
     run_lines(&rt, NO_DATES, REFUSED_WORDS)
 }
 

@@ -1,4 +1,4 @@
-use Rattle.bound_cert.specs.OfTables.{IsStepOf}
+use Rattle.dual_bound.specs.OfTables.{IsStepOf}
 use Rattle.fleet_calls.proofs.EachTested.{all_tested, one_more}
 use Rattle.fleet_calls.proofs.checking.are_prices_of.Goals as goal
 

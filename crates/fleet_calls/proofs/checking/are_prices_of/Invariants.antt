@@ -1,5 +1,5 @@
 use Rattle.std.proofs.Common.{All, take}
-use Rattle.bound_cert.specs.OfTables.{IsStepOf}
+use Rattle.dual_bound.specs.OfTables.{IsStepOf}
 use Rattle.fleet_calls.proofs.checking.are_prices_of.Given as goal
 
 abbrev pub invariant-loop-step : goal.invariant-loop-step

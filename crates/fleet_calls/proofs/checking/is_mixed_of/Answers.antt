@@ -1,4 +1,4 @@
-use Rattle.bound_cert.specs.OfTables.{IsWeightOf}
+use Rattle.dual_bound.specs.OfTables.{IsWeightOf}
 use Rattle.fleet_calls.proofs.EachTested.{all_tested, one_more}
 use Rattle.fleet_calls.proofs.checking.is_mixed_of.Goals as goal
 

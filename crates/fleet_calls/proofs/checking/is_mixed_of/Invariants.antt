@@ -1,5 +1,5 @@
 use Rattle.std.proofs.Common.{All, take}
-use Rattle.bound_cert.specs.OfTables.{IsWeightOf}
+use Rattle.dual_bound.specs.OfTables.{IsWeightOf}
 use Rattle.fleet_calls.proofs.checking.is_mixed_of.Given as goal
 
 abbrev pub invariant-loop-weight : goal.invariant-loop-weight

@@ -1,4 +1,4 @@
-use Rattle.bound_cert.proofs.ZeroPrices.{zero_is_proper}
+use Rattle.dual_bound.proofs.ZeroPrices.{zero_is_proper}
 use Rattle.fleet_calls.proofs.worths.zero.Goals as goal
 
 pub returns : goal.returns

@@ -1,0 +1,88 @@
+//! Subproblems that the dual simplex method settles, refutes, or leaves to the prescribed run.
+use crate::rows::Laid;
+use crate::searches::Known::{Begin, End, Whole};
+use crate::searches::{Search, run_searches};
+use crate::searching::{HUB, NO_NODES, OLD, OLD_PLAN, TENS, TWO_FLEETS, TWO_UNSPLIT};
+use crate::statuses::INFEASIBLE;
+use crate::tables::NO_ROTATION;
+use plan_desk::DeskFile::Legs;
+use std::test::Fail;
+
+const NO_NODES_AND_14_PIVOTS: &[&str] = &[
+    "fleetplan",
+    "solve",
+    "d",
+    "--day-start",
+    "00:00",
+    "--nodes",
+    "0",
+    "--pivots",
+    "14",
+];
+
+const NO_NODES_AND_17_PIVOTS: &[&str] = &[
+    "fleetplan",
+    "solve",
+    "d",
+    "--day-start",
+    "00:00",
+    "--nodes",
+    "0",
+    "--pivots",
+    "17",
+];
+
+// The prescribed run needs 15 pivots, and the one before it 18: with 17 the second that is tried settles what the first
+// doesn't, and with 14 neither does.
+const TWO_WITH_17_PIVOTS: Search = Search {
+    words: NO_NODES_AND_17_PIVOTS,
+    ..TWO_UNSPLIT
+};
+
+const TWO_WITH_14_PIVOTS: Search = Search {
+    words: NO_NODES_AND_14_PIVOTS,
+    text: Whole(
+        b"outcome: unsettled\ncost: none\nbound: 60\nsplits: 0\n\
+            open: 0 nodes, 1 pivots, 0 grew\n",
+    ),
+    proof: End(b"open pivots 14\nscale 1\nend\n"),
+    ..TWO_UNSPLIT
+};
+
+// Three round trips at once: an aircraft of each of two fleets isn't enough, not even in parts, and presolve doesn't see it.
+const THREE_AT_ONCE: Search = Search {
+    laid: &[
+        OLD,
+        HUB,
+        TWO_FLEETS,
+        Laid::Bytes(
+            Legs,
+            b"flight,from,dep,to,arr\nA1,HUB,08:00,SAA,10:00\nA2,SAA,11:00,HUB,13:00\n\
+                B1,HUB,08:00,SBB,10:00\nB2,SBB,11:00,HUB,13:00\n\
+                C1,HUB,08:00,SCC,10:00\nC2,SCC,11:00,HUB,13:00\n",
+        ),
+        TENS,
+    ],
+    words: NO_NODES,
+    status: INFEASIBLE,
+    text: Whole(
+        b"outcome: infeasible\ncost: none\nbound: none\nsplits: 0\n\
+            open: 0 nodes, 0 pivots, 0 grew\n",
+    ),
+    plan: Whole(OLD_PLAN),
+    proof: Begin(b"fleet proof 1\nplan no\nrefuted\n"),
+    rotation: Whole(NO_ROTATION),
+    checked: b"holds: infeasible\n",
+};
+
+const WITHIN_PIVOTS: &[Search] = &[TWO_WITH_17_PIVOTS, TWO_WITH_14_PIVOTS];
+
+#[test]
+fn halves_within_a_few_pivots(rt: HostRuntime) -> Result<(), Fail> {
+    run_searches(&rt, WITHIN_PIVOTS)
+}
+
+#[test]
+fn too_few_aircraft_at_once(rt: HostRuntime) -> Result<(), Fail> {
+    run_searches(&rt, &[THREE_AT_ONCE])
+}
