@@ -3,45 +3,46 @@
 
 usage: lines.py NUMBER LEGS PIVOTS
 
-A made schedule has LEGS legs, flown out of one hub and back by two fleets, drawn by a small generator
+A made schedule is that of `fleetplan make`: LEGS legs, flown out of one hub and back by two fleets, drawn
 from NUMBER. Its lines are those of daily fleet assignment: each leg is flown once, aircraft that come
 to a node of the time line leave it again, and a fleet uses no more aircraft than it has.
 """
 
 import sys
+import tempfile
+
+import schedules
 
 DAY = 1440
 DAY_START = 180
 
 
-class Draws:
-    def __init__(self, number):
-        self.state = number
-
-    def below(self, bound):
-        self.state = (self.state * 1103515245 + 12345) % 2147483648
-        return (self.state // 65536) % bound
+def minute(clock):
+    return 60 * int(clock[:2]) + int(clock[3:])
 
 
 def schedule(number, legs):
-    """The fleets (aircraft, turn) and the legs (from, departure, to, block, costs by fleet)."""
-    draws = Draws(number)
-    rounds = legs // 2
-    stations = 1 + rounds // 10
-    fleets = [(rounds, 30), (rounds // 2, 45)]
-    made = []
-    for i in range(rounds):
-        station = 1 + draws.below(stations)
-        departure = 5 * draws.below(288)
-        block = 60 + 5 * draws.below(25)
-        wait = 60 + 5 * draws.below(13)
-        costs = [1000 + draws.below(500) for _ in range(4)]
-        if i + 1 < rounds:
-            draws.below(100)
-        made.append((0, departure, station, block, costs[:2]))
-        made.append((station, departure + block + wait, 0, block, costs[2:]))
-    shifted = [(a, (d - DAY_START) % DAY, b, block, costs) for a, d, b, block, costs in made]
-    return fleets, shifted, stations + 1
+    """The fleets (aircraft, turn) and the legs (from, departure, to, block, costs by fleet) of a made schedule."""
+    with tempfile.TemporaryDirectory() as folder:
+        schedules.make(folder, number, legs)
+        stations, fleets, flights, pairs = (
+            schedules.rows(folder, name) for name in ("stations.csv", "fleets.csv", "legs.csv", "costs.csv")
+        )
+    place = {row["code"]: at for at, row in enumerate(stations)}
+    costs = {row["flight"]: [] for row in flights}
+    for pair in pairs:
+        costs[pair["flight"]].append(int(pair["cost"]))
+    made = [
+        (
+            place[row["from"]],
+            (minute(row["dep"]) - DAY_START) % DAY,
+            place[row["to"]],
+            (minute(row["arr"]) - minute(row["dep"])) % DAY,
+            costs[row["flight"]],
+        )
+        for row in flights
+    ]
+    return [(int(row["aircraft"]), int(row["turn"])) for row in fleets], made, len(stations)
 
 
 def nodes_of(departures, readies):

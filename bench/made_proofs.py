@@ -8,6 +8,7 @@ from pathlib import Path
 
 TURN = 30
 BLOCK = 60
+MINUTES = 1440
 
 
 def clock(minute):
@@ -52,8 +53,23 @@ def proof_of(legs, fleets, stations):
     yield "end"
 
 
-def write(folder, trips, fleets, stations):
-    """Writes tables, plan and proof, and answers the nodes of the tree and the plan's cost."""
+def stepped(fleets, stations):
+    """A proof of one open leaf, whose prices fall by 1 at each minute, of each fleet at each station."""
+    yield "fleet proof 1"
+    yield "plan yes"
+    yield "open pivots 0"
+    yield "scale 1"
+    yield from (f"rent F{fleet + 1} {MINUTES - 1}" for fleet in range(fleets))
+    for fleet in range(fleets):
+        for station in range(stations):
+            yield from (f"at F{fleet + 1} {code(station)} {minute} {MINUTES - 1 - minute}" for minute in range(MINUTES))
+    yield "end"
+
+
+def write(folder, trips, fleets, stations, proof=None):
+    """Writes tables, plan and proof, and answers the nodes of the tree and the plan's cost.
+
+    The proof is the one of trims, or the lines that are given."""
     legs = list(legs_of(trips, stations))
     texts = {
         "stations.csv": ["code,extra,maintenance", *(f"{code(s)},0,yes" for s in range(stations))],
@@ -68,8 +84,9 @@ def write(folder, trips, fleets, stations):
         ],
         "throughs.csv": ["in,out,value"],
         "plan.csv": ["flight,fleet", *(f"{leg[0]},F1" for leg in legs)],
-        "proof.txt": proof_of(legs, fleets, stations),
+        "proof.txt": proof or proof_of(legs, fleets, stations),
     }
     for name, lines in texts.items():
-        Path(folder, name).write_text("".join(line + "\n" for line in lines))
+        with open(Path(folder, name), "w", encoding="ascii") as file:
+            file.writelines(line + "\n" for line in lines)
     return 2 * len(legs) * (fleets - 1) + 1, sum(cost_of(l, 0) for l in range(len(legs)))

@@ -1,55 +1,27 @@
-"""Writes the tables of made schedules: legs out of one hub and back, flown by two fleets, drawn from a number.
+"""Has `fleetplan make` write made schedules: legs out of one hub and back, flown by two fleets, drawn from a number.
 
-All legs on the first fleet are always a legal assignment, so each schedule has a plan.
+All legs on the first fleet are always a legal assignment, so each schedule has a plan. `make` also solves it, which takes a
+part of a second at 100 legs, and a second or two at 1,000.
 """
+import csv
+import subprocess
+import sys
 from pathlib import Path
 
-DAY = 1440
+BUILT = Path(__file__).resolve().parent.parent / "crates" / "fleetplan" / "out" / "fleetplan"
+SOLVED = (0, 3, 5)
 
 
-class Draws:
-    def __init__(self, number):
-        self.state = number
-
-    def below(self, bound):
-        self.state = (self.state * 1103515245 + 12345) % 2147483648
-        return (self.state // 65536) % bound
-
-
-def code(station):
-    return "HUB" if station == 0 else "S" + chr(65 + (station - 1) // 26) + chr(65 + (station - 1) % 26)
+def make(folder, number, legs, program=BUILT):
+    """Has the program write the tables of a number into a folder, with so many legs."""
+    if not Path(program).exists():
+        sys.exit(f"{program} is not there: run ./fleetplan first, which builds it")
+    made = subprocess.run([str(program), "make", str(folder), str(number), str(legs)], capture_output=True, text=True)
+    if made.returncode not in SOLVED:
+        sys.exit(f"make {folder} {number} {legs} ended with {made.returncode}: {made.stdout}")
 
 
-def clock(minute):
-    return f"{minute % DAY // 60:02}:{minute % DAY % 60:02}"
-
-
-def write(folder, number, legs):
-    """Writes the five tables of a number, with so many legs."""
-    draws = Draws(number)
-    rounds = legs // 2
-    stations = 1 + rounds // 10
-    flights, costs, throughs = [], [], []
-    for i in range(rounds):
-        station = 1 + draws.below(stations)
-        departure = 5 * draws.below(288)
-        block = 60 + 5 * draws.below(25)
-        wait = 60 + 5 * draws.below(13)
-        drawn = [1000 + draws.below(500) for _ in range(4)]
-        if i + 1 < rounds:
-            throughs.append(f"R{i},O{i + 1},{draws.below(100)}")
-        away, back = departure + block, departure + block + wait
-        flights.append(f"O{i},HUB,{clock(departure)},{code(station)},{clock(away)}")
-        flights.append(f"R{i},{code(station)},{clock(back)},HUB,{clock(back + block)}")
-        for place, (flight, fleet) in enumerate(((f"O{i}", "F1"), (f"O{i}", "F2"), (f"R{i}", "F1"), (f"R{i}", "F2"))):
-            costs.append(f"{flight},{fleet},{drawn[place]}")
-    texts = {
-        "stations.csv": ["code,extra,maintenance", "HUB,0,yes"]
-        + [f"{code(1 + s)},0,{'no' if s % 3 else 'yes'}" for s in range(stations)],
-        "fleets.csv": ["fleet,aircraft,turn", f"F1,{rounds},30", f"F2,{rounds // 2},45"],
-        "legs.csv": ["flight,from,dep,to,arr"] + flights,
-        "costs.csv": ["flight,fleet,cost"] + costs,
-        "throughs.csv": ["in,out,value"] + throughs,
-    }
-    for name, lines in texts.items():
-        Path(folder, name).write_text("".join(line + "\n" for line in lines))
+def rows(folder, name):
+    """The records of a table, by the names of its columns."""
+    with open(Path(folder, name), newline="") as file:
+        return list(csv.DictReader(file))
