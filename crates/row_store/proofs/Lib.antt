@@ -12,3 +12,5 @@ pub mod StepChoices
 pub mod AlikeEntries
 pub mod LineSums
 pub mod FirstRows
+pub mod SmallTables
+pub mod CopiedRows

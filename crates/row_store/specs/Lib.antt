@@ -9,3 +9,6 @@ pub mod Changes
 pub mod Scan
 pub mod Steps
 pub mod StepChoice
+pub mod Layouts
+pub mod InPlace
+pub mod Listing

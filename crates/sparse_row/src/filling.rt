@@ -1,4 +1,4 @@
-ghost use Rattle.std.specs.Prelude.{◌≡◌, ◌<◌, ◌≤◌, ◌^◌, ℕ, pos, length, slice_index_or, slice_set, IfOk, OnErr};
+ghost use Rattle.std.specs.Prelude.{◌≡◌, ◌<◌, ◌≤◌, ◌^◌, ℕ, ℤ, pos, length, slice_index_or, slice_set, IfOk, OnErr};
 ghost use Rattle.sums.specs.Places.{list_below};
 ghost use Rattle.frac_row.specs.Row.{number_of, width_of};
 ghost use Rattle.sparse_row.specs.Lines.{IsFilledRow};
@@ -18,6 +18,17 @@ impl SparseRow {
             entries: Vec::new(alloc),
             width,
             den: 1,
+        }
+    }
+
+    /// The same numbers over another denominator.
+    pub fn over(self, den: i128) -> SparseRow
+        ensures { result ≡ record { numbers = self.numbers; den = den } }
+    {
+        SparseRow {
+            entries: self.entries,
+            width: self.width,
+            den,
         }
     }
 
