@@ -18,14 +18,12 @@ use Rattle.dual_bound.specs.declared.mixed.Mixed.{Mixed}
 use Rattle.dual_bound.specs.declared.prices.Prices.{Prices}
 use Rattle.dual_bound.specs.declared.trees.Tree.{Split, Tree, Trim}
 use Rattle.dual_bound.specs.declared.trees.Tree.TheVariants as tree
-use Rattle.cert_check.specs.Nodes.{Node, nodes_in}
+use Rattle.cert_check.specs.Nodes.{Node, nodes_below, nodes_in}
 use Rattle.cert_check.specs.Rules.{IsSound, IsSoundBut, Keeps}
 use Rattle.cert_check.specs.Splits.{AreNotAbove, AreSought, AreSoundButPriced, IsAboveAt, IsNoneAbove, IsSplitAbove}
-use Rattle.cert_check.specs.Verdicts.{AreSound, nodes_below}
+use Rattle.cert_check.specs.Verdicts.{AreSound}
 use Rattle.cert_check.specs.declared.rules.Rule.{Rule}
 use Rattle.cert_check.specs.declared.rules.Rule.TheVariants as rule
-use Rattle.cert_check.specs.declared.splits.Sought.{Sought}
-use Rattle.cert_check.specs.declared.splits.Sought.TheVariants as sought
 use Rattle.cert_check.proofs.NodeRules.{are_prices}
 use Rattle.cert_check.proofs.Walks.{its_own, node}
 
@@ -135,15 +133,15 @@ split_test t cost least keeps whole leg fleet prices mixed one other b e proper 
 -- ---- lists of nodes
 -- one node that isn't, and what is found behind it
 module _ (t : Tables) (cost : ℤ) (one : Node) (number next : ℕ) (none : IsNoneAbove t cost one) (follows : next ≡ held_count (number + 1)) where
-  pub alone : AreSought t cost (one ∷ []) number (sought.Nothing next)
+  pub alone : AreSought t cost (one ∷ []) number next false
   alone = record { none = All-cons (IsNoneAbove t cost) one [] none (All-nil (IsNoneAbove t cost)); follows = follows }
 
-  pub one_more : (nodes : List Node) (found : Sought) → AreSought t cost nodes next found → AreSought t cost (one ∷ nodes) number found
-  one_more nodes (sought.Nothing last) are = record {
+  pub one_more : (nodes : List Node) (at : ℕ) (found : Bool) → AreSought t cost nodes next at found → AreSought t cost (one ∷ nodes) number at found
+  one_more nodes at false are = record {
     none = All-cons (IsNoneAbove t cost) one nodes none are.none;
     follows = omega (arith, are.follows);
   }
-  one_more nodes (sought.Split at) is = record {
+  one_more nodes at true is = record {
     place = suc is.place;
     first = record {
       before = one ∷ is.first.before;
@@ -159,7 +157,7 @@ module _ (t : Tables) (cost : ℤ) (one : Node) (number next : ℕ) (none : IsNo
 
 -- a list, and what is found of another behind it
 module _ (t : Tables) (cost : ℤ) (first second : List Node) (number : ℕ) where
-  pub in_first : (at : ℕ) → IsAboveAt t cost first number at → AreSought t cost (first ++ second) number (sought.Split at)
+  pub in_first : (at : ℕ) → IsAboveAt t cost first number at → AreSought t cost (first ++ second) number at true
   in_first at is = record {
     place = is.place;
     first = record {
@@ -174,12 +172,12 @@ module _ (t : Tables) (cost : ℤ) (first second : List Node) (number : ℕ) whe
     found_is = is.found_is;
   }
 
-  pub in_second : (next : ℕ) (found : Sought) → AreNotAbove t cost first number next → AreSought t cost second next found → AreSought t cost (first ++ second) number found
-  in_second next (sought.Nothing last) none are = record {
+  pub in_second : (next at : ℕ) (found : Bool) → AreNotAbove t cost first number next → AreSought t cost second next at found → AreSought t cost (first ++ second) number at found
+  in_second next at false none are = record {
     none = All-append (IsNoneAbove t cost) first second none.none are.none;
     follows = omega (arith, none.follows, are.follows, length-append first second);
   }
-  in_second next (sought.Split at) none is = record {
+  in_second next at true none is = record {
     place = length first + is.place;
     first = record {
       before = first ++ is.first.before;
@@ -194,27 +192,28 @@ module _ (t : Tables) (cost : ℤ) (first second : List Node) (number : ℕ) whe
   }
 
 -- ---- a whole tree, of what is found below
-module _ (t : Tables) (cost : ℤ) (keeps : Domains) (number next : ℕ) (follows : next ≡ held_count (number + 1)) (found : Sought) (whole with_pair without : Tree) (leg fleet : ℕ) (yes no : Box Tree Global)
-    (none : IsNoneAbove t cost (node keeps whole)) (p : with_pair ≡ yes.value) (q : without ≡ no.value) (below : AreSought t cost (nodes_below keeps (leg_on leg fleet) with_pair without) next found) where
-  in_boxes : AreSought t cost (nodes_below keeps (leg_on leg fleet) yes.value no.value) next found
-  in_boxes = subst (λ x. AreSought t cost (nodes_below keeps (leg_on leg fleet) yes.value x) next found) q (subst (λ x. AreSought t cost (nodes_below keeps (leg_on leg fleet) x without) next found) p below)
+module _ (t : Tables) (cost : ℤ) (keeps : Domains) (number next at : ℕ) (follows : next ≡ held_count (number + 1)) (found : Bool) (whole with_pair without : Tree) (leg fleet : ℕ) (yes no : Box Tree Global)
+    (none : IsNoneAbove t cost (node keeps whole)) (p : with_pair ≡ yes.value) (q : without ≡ no.value) (below : AreSought t cost (nodes_below keeps (leg_on leg fleet) with_pair without) next at found) where
+  in_boxes : AreSought t cost (nodes_below keeps (leg_on leg fleet) yes.value no.value) next at found
+  in_boxes = subst (λ x. AreSought t cost (nodes_below keeps (leg_on leg fleet) yes.value x) next at found) q (subst (λ x. AreSought t cost (nodes_below keeps (leg_on leg fleet) x without) next at found) p below)
 
-  pub of_trim : whole ≡ Trim leg fleet yes no → AreSought t cost (nodes_in keeps whole) number found
+  pub of_trim : whole ≡ Trim leg fleet yes no → AreSought t cost (nodes_in keeps whole) number at found
   of_trim e =
-      subst (λ x. AreSought t cost (nodes_in keeps x) number found) (sym e)
-      (one_more t cost (node keeps (Trim leg fleet yes no)) number next (subst (λ x. IsNoneAbove t cost (node keeps x)) e none) follows _ found in_boxes)
+      subst (λ x. AreSought t cost (nodes_in keeps x) number at found) (sym e)
+      (one_more t cost (node keeps (Trim leg fleet yes no)) number next (subst (λ x. IsNoneAbove t cost (node keeps x)) e none) follows _ at found in_boxes)
 
-  pub of_split : (prices : Prices) (mixed : Mixed) → whole ≡ Split leg fleet prices mixed yes no → AreSought t cost (nodes_in keeps whole) number found
+  pub of_split : (prices : Prices) (mixed : Mixed) → whole ≡ Split leg fleet prices mixed yes no → AreSought t cost (nodes_in keeps whole) number at found
   of_split prices mixed e =
-      subst (λ x. AreSought t cost (nodes_in keeps x) number found) (sym e)
-      (one_more t cost (node keeps (Split leg fleet prices mixed yes no)) number next (subst (λ x. IsNoneAbove t cost (node keeps x)) e none) follows _ found in_boxes)
+      subst (λ x. AreSought t cost (nodes_in keeps x) number at found) (sym e)
+      (one_more t cost (node keeps (Split leg fleet prices mixed yes no)) number next (subst (λ x. IsNoneAbove t cost (node keeps x)) e none) follows _ at found in_boxes)
 
 -- a leaf
 pub of_leaf : (t : Tables) (cost : ℤ) (keeps : Domains) (whole : Tree) (number next : ℕ) → nodes_in keeps whole ≡ node keeps whole ∷ [] → next ≡ held_count (number + 1) → IsNoneAbove t cost (node keeps whole)
-    → AreSought t cost (nodes_in keeps whole) number (sought.Nothing next)
+    → AreSought t cost (nodes_in keeps whole) number next false
 of_leaf t cost keeps whole number next e follows none = rw e (alone t cost (node keeps whole) number next none follows)
 
--- the second child is sought in the subproblem as it was before the first
-pub in_same : (t : Tables) (cost : ℤ) (rows before : List (List Bool)) (step : Step) (without : Tree) (number : ℕ) (found : Sought) → rows ≡ before
-    → AreSought t cost (nodes_in (narrowed (kept_by rows) step) without) number found → AreSought t cost (nodes_in (narrowed (kept_by before) step) without) number found
-in_same t cost rows before step without number found same here = subst (λ r. AreSought t cost (nodes_in (narrowed (kept_by r) step) without) number found) same here
+-- the second child is sought in the subproblem as it was before the first, and beside the same cost
+pub in_same : (t : Tables) (cost other : ℤ) (rows before : List (List Bool)) (step : Step) (without : Tree) (number at : ℕ) (found : Bool) → rows ≡ before → cost ≡ other
+    → AreSought t cost (nodes_in (narrowed (kept_by rows) step) without) number at found → AreSought t other (nodes_in (narrowed (kept_by before) step) without) number at found
+in_same t cost other rows before step without number at found same costs here =
+    subst (λ r. AreSought t other (nodes_in (narrowed (kept_by r) step) without) number at found) same (subst (λ c. AreSought t c (nodes_in (narrowed (kept_by rows) step) without) number at found) costs here)

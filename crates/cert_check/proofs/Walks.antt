@@ -1,25 +1,28 @@
 -- What a walk finds of a node and of its children is what it finds of the whole.
-use Rattle.std.proofs.Common.{Box, Global, ◌≡◌, ℕ, suc, ◌+◌, ◌<◌, ◌^◌, Bool, true, false, List, [], ◌∷◌, ◌++◌, length, Option, ℤ, append_assoc, length-append, refl, sym, ◌∙◌, ap, subst, arith}
+use Rattle.std.proofs.Common.{Box, Global, ◌≡◌, ℕ, ◌+◌, ◌<◌, ◌^◌, Bool, true, false, List, [], ◌∷◌, ◌++◌, length, Option, Some, None, ℤ, append_assoc, length-append, refl, sym, ◌∙◌, ap, subst, arith}
+use Rattle.std.specs.Prelude.{int_le}
+use Rattle.std.proofs.lemmas.Int.{ints}
 use Rattle.std.proofs.lemmas.List.Elements.{All-append, All-cons, All-nil}
-use Rattle.fleet_model.specs.Kept.{Domains, IsSole, kept_by, narrowed}
+use Rattle.fleet_model.specs.Kept.{Domains, IsSole, all_pairs, kept_by, narrowed}
 use Rattle.fleet_model.specs.declared.kept.Step.{Step}
 use Rattle.fleet_model.specs.Schedule.{IsPair, leg_on}
 use Rattle.fleet_model.specs.declared.parts.Pair.{Pair}
 use Rattle.fleet_model.specs.declared.tables.Tables.{Tables}
-use Rattle.dual_bound.specs.Bound.{IsBoundIn, IsSoleBound, part}
+use Rattle.dual_bound.specs.Bound.{IsBoundIn, IsSoleBound, lesser_bound, part}
 use Rattle.dual_bound.specs.Leaves.{held_count}
 use Rattle.dual_bound.specs.OfTables.{IsOfTables}
+use Rattle.dual_bound.specs.Worth.{lesser}
 use Rattle.dual_bound.specs.declared.mixed.Mixed.{Mixed}
 use Rattle.dual_bound.specs.declared.prices.Prices.{Prices}
 use Rattle.dual_bound.specs.declared.trees.Tree.{Split, Tree, Trim}
 use Rattle.dual_bound.specs.declared.trees.Tree.TheVariants as tree
-use Rattle.cert_check.specs.Nodes.{Node, nodes_in}
+use Rattle.cert_check.specs.Nodes.{Node, nodes_below, nodes_in}
 use Rattle.cert_check.specs.Rules.{IsFirstFault, IsSound}
-use Rattle.cert_check.specs.Verdicts.{AreBothWalked, AreBrokenAt, AreFine, IsBoundBelow, IsJoined, IsWalked, nodes_below}
+use Rattle.cert_check.specs.Verdicts.{HoldsWith}
+use Rattle.cert_check.specs.Walking.{AreBothWalked, AreBrokenAt, AreFine, ArePassed, IsBoundBelow, IsEntered, IsOwnBound, IsWalked}
+use Rattle.cert_check.specs.declared.reached.Reached.{Reached}
 use Rattle.cert_check.specs.declared.rules.Rule.{Rule}
 use Rattle.cert_check.specs.declared.rules.Rule.TheVariants as rule
-use Rattle.cert_check.specs.declared.walking.Walked.{Walked}
-use Rattle.cert_check.specs.declared.walking.Walked.TheVariants as walked
 
 abbrev pub node : Domains → Tree → Node
 node keeps whole = record { keeps = keeps; tree = whole }
@@ -34,16 +37,33 @@ its_own keeps (tree.Open prices why) = ([], refl)
 its_own keeps (tree.Trim' leg fleet p with_pair q without) = (nodes_in (part keeps leg fleet true) with_pair ++ nodes_in (part keeps leg fleet false) without, refl)
 its_own keeps (tree.Split' leg fleet prices mixed p with_pair q without) = (nodes_in (part keeps leg fleet true) with_pair ++ nodes_in (part keeps leg fleet false) without, refl)
 
+-- ---- bounds
+-- of three bounds it is one which two are compared first
+lesser_of_three : (x y z : Option ℤ) → lesser_bound (lesser_bound x y) z ≡ lesser_bound x (lesser_bound y z)
+lesser_of_three x y None = refl
+lesser_of_three x None (Some c) = refl
+lesser_of_three None (Some b) (Some c) = refl
+lesser_of_three (Some a) (Some b) (Some c) = ap Some (by_order (int_le a b) (int_le b c) (int_le a c) refl refl refl)
+  where
+    by_order : (ab bc ac : Bool) → int_le a b ≡ ab → int_le b c ≡ bc → int_le a c ≡ ac → lesser (Some (lesser (Some a) b)) c ≡ lesser (Some a) (lesser (Some b) c)
+    by_order ab bc ac p q r = grind (arith, ints)
+
+-- beside no bound so far
+from_none : (b : Option ℤ) → lesser_bound None b ≡ b
+from_none None = refl
+from_none (Some x) = refl
+
+-- ---- one node
 -- the fault of the node itself
-pub fault_here : (t : Tables) (cost : Option ℤ) (keeps : Domains) (whole : Tree) (number : ℕ) (rule : Rule) → number < 2 ^ 64
-    → IsFirstFault t cost (node keeps whole) rule → AreBrokenAt t cost (nodes_in keeps whole) number number rule
-fault_here t cost keeps whole number rule few fault = record {
+pub fault_here : (t : Tables) (cost : Option ℤ) (one : Node) (number : ℕ) (rule : Rule) → number < 2 ^ 64
+    → IsFirstFault t cost one rule → AreBrokenAt t cost (one ∷ []) number number rule
+fault_here t cost one number rule few fault = record {
   place = 0;
   first = record {
     before = [];
-    node = node keeps whole;
-    after = (its_own keeps whole).0;
-    order = (its_own keeps whole).1;
+    node = one;
+    after = [];
+    order = refl;
     sound = All-nil (IsSound t cost);
     there = refl;
     fault = fault;
@@ -51,42 +71,20 @@ fault_here t cost keeps whole number rule few fault = record {
   node_is = omega arith;
 }
 
--- one node that keeps all rules
-one_fine : (t : Tables) (cost : Option ℤ) (one : Node) (number next : ℕ) → IsSound t cost one → next ≡ held_count (number + 1) → AreFine t cost (one ∷ []) number next
-one_fine t cost one number next sound follows = record {
-  sound = All-cons (IsSound t cost) one [] sound (All-nil (IsSound t cost));
-  follows = follows;
+-- a node that keeps all rules
+pub one_passed : (t : Tables) (cost : Option ℤ) (one : Node) (before after : Reached) (own : Option ℤ) → IsSound t cost one → IsOwnBound t one.keeps one.tree own
+    → after.number ≡ held_count (before.number + 1) → after.bound ≡ lesser_bound before.bound own → IsEntered t cost one before after None
+one_passed t cost one before after own sound is follows lesser = record {
+  fine = record { sound = All-cons (IsSound t cost) one [] sound (All-nil (IsSound t cost)); follows = follows };
+  bounded = record { found = own; is = is; lesser = lesser };
 }
 
--- a leaf where each leg keeps one fleet
-pub sole_fine : (t : Tables) (cost : Option ℤ) (keeps : Domains) (whole : Tree) (number next : ℕ) (bound : Option ℤ) → whole ≡ tree.Sole
-    → next ≡ held_count (number + 1) → IsSound t cost (node keeps whole) → (IsSole t keeps → IsSoleBound t keeps bound) → IsWalked t cost keeps whole number (walked.Fine next bound)
-sole_fine t cost keeps whole number next bound e follows sound bounded =
+-- the bound of a leaf where each leg keeps one fleet
+pub sole_own : (t : Tables) (cost : Option ℤ) (keeps : Domains) (whole : Tree) (bound : Option ℤ) → whole ≡ tree.Sole → IsSound t cost (node keeps whole)
+    → (IsSole t keeps → IsSoleBound t keeps bound) → IsOwnBound t keeps whole bound
+sole_own t cost keeps whole bound e sound bounded =
     let here = subst (λ x. IsSound t cost (node keeps x)) e sound in
-    subst (λ x. IsWalked t cost keeps x number (walked.Fine next bound)) (sym e) (one_fine t cost (node keeps tree.Sole) number next here follows, bounded (here.each rule.Pairs))
-
--- one node that keeps all rules, and what is found below
-module _ (t : Tables) (cost : Option ℤ) (one : Node) (number next : ℕ) (sound : IsSound t cost one) (follows : next ≡ held_count (number + 1)) where
-  pub more_fine : (nodes : List Node) (last : ℕ) → AreFine t cost nodes next last → AreFine t cost (one ∷ nodes) number last
-  more_fine nodes last fine = record {
-    sound = All-cons (IsSound t cost) one nodes sound fine.sound;
-    follows = omega (arith, fine.follows);
-  }
-
-  pub more_broken : (nodes : List Node) (at : ℕ) (rule : Rule) → AreBrokenAt t cost nodes next at rule → AreBrokenAt t cost (one ∷ nodes) number at rule
-  more_broken nodes at rule broken = record {
-    place = suc broken.place;
-    first = record {
-      before = one ∷ broken.first.before;
-      node = broken.first.node;
-      after = broken.first.after;
-      order = ap (λ ns. one ∷ ns) broken.first.order;
-      sound = All-cons (IsSound t cost) one broken.first.before sound broken.first.sound;
-      there = ap suc broken.first.there;
-      fault = broken.first.fault;
-    };
-    node_is = omega (arith, broken.node_is);
-  }
+    subst (λ x. IsOwnBound t keeps x bound) (sym e) (bounded (here.each rule.Pairs))
 
 -- two lists of nodes, one after the other
 module _ (t : Tables) (cost : Option ℤ) (first second : List Node) (number : ℕ) where
@@ -126,51 +124,87 @@ module _ (t : Tables) (cost : Option ℤ) (first second : List Node) (number : �
     follows = omega (arith, fine.follows, other.follows, length-append first second);
   }
 
--- both children of a trim or a split
-module _ (t : Tables) (cost : Option ℤ) (keeps : Domains) (pair : Pair) (with_pair without : Tree) (number : ℕ) where
-  pub broken_first : (at : ℕ) (rule : Rule) → AreBrokenAt t cost (nodes_in (part keeps pair.leg pair.fleet true) with_pair) number at rule
-      → AreBothWalked t cost keeps pair with_pair without number (walked.Broken at rule)
-  broken_first at rule broken = first_broken t cost _ _ number at rule broken
+-- what is passed, and what is passed or broken behind it
+module _ (t : Tables) (cost : Option ℤ) (first second : List Node) (before mid after : Reached) where
+  both_passed : (first_has second_has has : Option ℤ → Type 0) → ((x y : Option ℤ) → first_has x → second_has y → has (lesser_bound x y))
+      → ArePassed t cost first first_has before mid → ArePassed t cost second second_has mid after → ArePassed t cost (first ++ second) has before after
+  both_passed first_has second_has has joins one other = record {
+    fine = both_fine t cost first second before.number mid.number after.number one.fine other.fine;
+    bounded = record {
+      found = lesser_bound one.bounded.found other.bounded.found;
+      is = joins one.bounded.found other.bounded.found one.bounded.is other.bounded.is;
+      lesser = other.bounded.lesser ∙ ap (λ x. lesser_bound x other.bounded.found) one.bounded.lesser ∙ lesser_of_three before.bound one.bounded.found other.bounded.found;
+    };
+  }
 
-  pub joined : (next : ℕ) (bound : Option ℤ) → IsWalked t cost (part keeps pair.leg pair.fleet true) with_pair number (walked.Fine next bound)
-      → (other found : Walked) → IsWalked t cost (part keeps pair.leg pair.fleet false) without next other → IsJoined bound other found
-      → AreBothWalked t cost keeps pair with_pair without number found
-  joined next bound fine (walked.Fine last second) found other e =
-      subst (λ x. AreBothWalked t cost keeps pair with_pair without number x) (sym e)
-      (both_fine t cost _ _ number next last fine.0 other.0, record { with_pair = bound; without = second; yes_is = fine.1; no_is = other.1; lesser = refl })
-  joined next bound fine (walked.Broken at rule) found other e =
-      subst (λ x. AreBothWalked t cost keeps pair with_pair without number x) (sym e) (second_broken t cost _ _ number next at rule fine.0 other)
+-- both children of a trim or a split
+pub broken_first : (t : Tables) (cost : Option ℤ) (keeps : Domains) (pair : Pair) (with_pair without : Tree) (from to : ℕ) (rule : Rule)
+    → AreBrokenAt t cost (nodes_in (part keeps pair.leg pair.fleet true) with_pair) from to rule → AreBrokenAt t cost (nodes_below keeps pair with_pair without) from to rule
+broken_first t cost keeps pair with_pair without from to rule broken = first_broken t cost _ _ from to rule broken
+
+module _ (t : Tables) (cost : Option ℤ) (keeps : Domains) (pair : Pair) (with_pair without : Tree) (before mid after : Reached) where
+  pub both_walked : (found : Option Rule) → IsWalked t cost (part keeps pair.leg pair.fleet true) with_pair before mid None
+      → IsWalked t cost (part keeps pair.leg pair.fleet false) without mid after found → AreBothWalked t cost keeps pair with_pair without before after found
+  both_walked None one other =
+      both_passed t cost _ _ before mid after _ _ (IsBoundBelow t keeps pair with_pair without) (λ x y yes_is no_is. record { with_pair = x; without = y; yes_is = yes_is; no_is = no_is; lesser = refl }) one other
+  both_walked (Some rule) one other = second_broken t cost _ _ before.number mid.number after.number rule one.fine other
 
 -- a trim or a split that keeps all rules, and what is found below
-module _ (t : Tables) (cost : Option ℤ) (keeps : Domains) (number next : ℕ) (follows : next ≡ held_count (number + 1)) (found : Walked) (leg fleet : ℕ) (yes no : Box Tree Global) where
+module _ (t : Tables) (cost : Option ℤ) (keeps : Domains) (before mid after : Reached) (found : Option Rule) (leg fleet : ℕ) (yes no : Box Tree Global) where
   abbrev Below : Tree → Tree → Type 0
-  Below with_pair without = AreBothWalked t cost keeps (leg_on leg fleet) with_pair without next found
+  Below with_pair without = AreBothWalked t cost keeps (leg_on leg fleet) with_pair without mid after found
 
   below_one : (whole : Tree) → nodes_in keeps whole ≡ node keeps whole ∷ nodes_below keeps (leg_on leg fleet) yes.value no.value
+      → ((bound : Option ℤ) → IsOwnBound t keeps whole bound → bound ≡ None)
       → ((bound : Option ℤ) → IsBoundBelow t keeps (leg_on leg fleet) yes.value no.value bound → IsBoundIn t keeps whole bound)
-      → IsSound t cost (node keeps whole) → Below yes.value no.value → IsWalked t cost keeps whole number found
-  below_one whole order bounds sound below = by_found found below
+      → IsEntered t cost (node keeps whole) before mid None → Below yes.value no.value → IsWalked t cost keeps whole before after found
+  below_one whole order none bounds entered below = by_found found below
     where
-      by_found : (f : Walked) → AreBothWalked t cost keeps (leg_on leg fleet) yes.value no.value next f → IsWalked t cost keeps whole number f
-      by_found (walked.Fine last bound) below = (rw order (more_fine t cost (node keeps whole) number next sound follows _ last below.0), bounds bound below.1)
-      by_found (walked.Broken at rule) below = rw order (more_broken t cost (node keeps whole) number next sound follows _ at rule below)
+      by_found : (f : Option Rule) → AreBothWalked t cost keeps (leg_on leg fleet) yes.value no.value mid after f → IsWalked t cost keeps whole before after f
+      by_found None below =
+          let joins : (x y : Option ℤ) → IsOwnBound t keeps whole x → IsBoundBelow t keeps (leg_on leg fleet) yes.value no.value y → IsBoundIn t keeps whole (lesser_bound x y)
+          = λ x y own is. rw (none x own, from_none y) (bounds y is) in
+          rw order (both_passed t cost (node keeps whole ∷ []) _ before mid after _ _ (IsBoundIn t keeps whole) joins entered below)
+      by_found (Some rule) below = rw order (second_broken t cost (node keeps whole ∷ []) _ before.number mid.number after.number rule entered.fine below)
 
   pub trimmed : (whole with_pair without : Tree) → whole ≡ Trim leg fleet yes no → with_pair ≡ yes.value → without ≡ no.value
-      → IsSound t cost (node keeps whole) → Below with_pair without → IsWalked t cost keeps whole number found
-  trimmed whole with_pair without e p q sound below =
-      subst (λ x. IsWalked t cost keeps x number found) (sym e)
-      (below_one (Trim leg fleet yes no) refl (λ bound h. h) (subst (λ x. IsSound t cost (node keeps x)) e sound) (subst (λ x. Below yes.value x) q (subst (λ x. Below x without) p below)))
+      → IsEntered t cost (node keeps whole) before mid None → Below with_pair without → IsWalked t cost keeps whole before after found
+  trimmed whole with_pair without e p q entered below =
+      subst (λ x. IsWalked t cost keeps x before after found) (sym e)
+      (below_one (Trim leg fleet yes no) refl (λ bound h. h) (λ bound h. h) (subst (λ x. IsEntered t cost (node keeps x) before mid None) e entered)
+      (subst (λ x. Below yes.value x) q (subst (λ x. Below x without) p below)))
 
   pub split : (prices : Prices) (mixed : Mixed) (whole with_pair without : Tree) → whole ≡ Split leg fleet prices mixed yes no → with_pair ≡ yes.value → without ≡ no.value
-      → IsSound t cost (node keeps whole) → Below with_pair without → IsWalked t cost keeps whole number found
-  split prices mixed whole with_pair without e p q sound below =
-      subst (λ x. IsWalked t cost keeps x number found) (sym e)
-      (below_one (Split leg fleet prices mixed yes no) refl (λ bound h. h) (subst (λ x. IsSound t cost (node keeps x)) e sound) (subst (λ x. Below yes.value x) q (subst (λ x. Below x without) p below)))
+      → IsEntered t cost (node keeps whole) before mid None → Below with_pair without → IsWalked t cost keeps whole before after found
+  split prices mixed whole with_pair without e p q entered below =
+      subst (λ x. IsWalked t cost keeps x before after found) (sym e)
+      (below_one (Split leg fleet prices mixed yes no) refl (λ bound h. h) (λ bound h. h) (subst (λ x. IsEntered t cost (node keeps x) before mid None) e entered)
+      (subst (λ x. Below yes.value x) q (subst (λ x. Below x without) p below)))
 
--- the second child is walked in the subproblem as it was before the first
-pub in_same : (t : Tables) (cost : Option ℤ) (rows before : List (List Bool)) (step : Step) (without : Tree) (number : ℕ) (found : Walked) → rows ≡ before
-    → IsWalked t cost (narrowed (kept_by rows) step) without number found → IsWalked t cost (narrowed (kept_by before) step) without number found
-in_same t cost rows before step without number found same here = subst (λ r. IsWalked t cost (narrowed (kept_by r) step) without number found) same here
+-- a fault of the node itself is the first of the whole
+pub broken_here : (t : Tables) (cost : Option ℤ) (keeps : Domains) (whole : Tree) (from to : ℕ) (rule : Rule) → AreBrokenAt t cost (node keeps whole ∷ []) from to rule
+    → AreBrokenAt t cost (nodes_in keeps whole) from to rule
+broken_here t cost keeps whole from to rule broken = rw (its_own keeps whole).1 (first_broken t cost (node keeps whole ∷ []) (its_own keeps whole).0 from to rule broken)
+
+-- the second child is walked in the subproblem as it was before the first, and beside the same plan
+pub in_same : (t : Tables) (cost other : Option ℤ) (rows before : List (List Bool)) (step : Step) (without : Tree) (from to : Reached) (found : Option Rule) → rows ≡ before → cost ≡ other
+    → IsWalked t cost (narrowed (kept_by rows) step) without from to found → IsWalked t other (narrowed (kept_by before) step) without from to found
+in_same t cost other rows before step without from to found same plan here =
+    subst (λ r. IsWalked t other (narrowed (kept_by r) step) without from to found) same (subst (λ c. IsWalked t c (narrowed (kept_by rows) step) without from to found) plan here)
+
+-- and so are both children, behind the node
+pub both_same : (t : Tables) (cost other : Option ℤ) (rows before : List (List Bool)) (pair : Pair) (with_pair without : Tree) (from to : Reached) (found : Option Rule) → rows ≡ before → cost ≡ other
+    → AreBothWalked t cost (kept_by rows) pair with_pair without from to found → AreBothWalked t other (kept_by before) pair with_pair without from to found
+both_same t cost other rows before pair with_pair without from to found same plan here =
+    subst (λ r. AreBothWalked t other (kept_by r) pair with_pair without from to found) same (subst (λ c. AreBothWalked t c (kept_by rows) pair with_pair without from to found) plan here)
+
+-- a walk over a whole tree, with no bound so far
+pub holds_with : (t : Tables) (cost other : Option ℤ) (keeps : Domains) (whole : Tree) (before after : Reached) → keeps ≡ all_pairs t → cost ≡ other → before.number ≡ 1 → before.bound ≡ None
+    → IsWalked t cost keeps whole before after None → HoldsWith t other whole after.bound
+holds_with t cost other keeps whole before after e plan first none walked =
+    let here : IsWalked t other (all_pairs t) whole before after None = subst (λ k. IsWalked t other k whole before after None) e (subst (λ c. IsWalked t c keeps whole before after None) plan walked) in
+    let is : IsBoundIn t (all_pairs t) whole after.bound = rw (here.bounded.lesser, none, from_none here.bounded.found) here.bounded.is in
+    record { sound = here.fine.sound; bounded = is }
 
 -- the children of a tree of the tables are of the tables
 pub trim_of : (t : Tables) (whole with_pair without : Tree) (leg fleet : ℕ) (first second : Box Tree Global) → whole ≡ Trim leg fleet first second → with_pair ≡ first.value → without ≡ second.value

@@ -4,3 +4,4 @@ pub mod PriceRules
 pub mod Rules
 pub mod Splits
 pub mod Verdicts
+pub mod Walking

@@ -1,6 +1,7 @@
 -- The nodes of a tree, each with the pairs that its subproblem keeps.
 use Rattle.std.specs.Prelude.{Bool, true, false, List, [], ◌∷◌, ◌++◌, Option, Some, None}
 use Rattle.fleet_model.specs.Kept.{Domains, all_pairs, kept_by}
+use Rattle.fleet_model.specs.declared.parts.Pair.{Pair}
 use Rattle.fleet_model.specs.declared.tables.Tables.{Tables}
 use Rattle.dual_bound.specs.Bound.{part}
 use Rattle.dual_bound.specs.declared.mixed.Mixed.{Mixed}
@@ -28,6 +29,11 @@ nodes_in keeps leaf = record { keeps = keeps; tree = leaf } ∷ []
 -- the nodes of a tree over all pairs that may be flown
 abbrev pub nodes_of : Tables → Tree → List Node
 nodes_of t tree = nodes_in (all_pairs t) tree
+
+-- the nodes below a trim or a split by a pair
+abbrev pub nodes_below : Domains → Pair → Tree → Tree → List Node
+nodes_below keeps pair with_pair without =
+    nodes_in (part keeps pair.leg pair.fleet true) with_pair ++ nodes_in (part keeps pair.leg pair.fleet false) without
 
 -- the prices of a node that has them
 abbrev pub prices_at : Tree → Option Prices

@@ -1,5 +1,5 @@
 -- The splits of a tree whose rounded worth is above a cost.
-use Rattle.std.specs.Prelude.{◌≡◌, ℕ, ◌+◌, List, ◌∷◌, ◌++◌, All, length, None, ℤ, ◌<ℤ◌}
+use Rattle.std.specs.Prelude.{◌≡◌, ℕ, ◌+◌, Bool, true, false, List, ◌∷◌, ◌++◌, All, length, None, ℤ, ◌<ℤ◌}
 use Rattle.frac_row.specs.Ratio.{IsCeiling}
 use Rattle.fleet_model.specs.Kept.{Domains}
 use Rattle.fleet_model.specs.declared.tables.Tables.{Tables}
@@ -10,8 +10,6 @@ use Rattle.dual_bound.specs.declared.trees.Tree.TheVariants as tree
 use Rattle.cert_check.specs.Nodes.{Node, nodes_in, nodes_of}
 use Rattle.cert_check.specs.Rules.{IsSoundBut}
 use Rattle.cert_check.specs.declared.rules.Rule.TheVariants as rule
-use Rattle.cert_check.specs.declared.splits.Sought.{Sought}
-use Rattle.cert_check.specs.declared.splits.Sought.TheVariants as sought
 
 -- all nodes keep all rules but the one on priced leaves, which alone asks for the plan that a tree comes with
 pub record AreSoundButPriced (t : Tables) (keeps : Domains) (tree : Tree) : Type 0 where
@@ -61,7 +59,7 @@ pub record AreNotAbove (t : Tables) (cost : ℤ) (nodes : List Node) (number nex
   pub none : All (IsNoneAbove t cost) nodes
   pub follows : next ≡ held_count (number + length nodes)
 
--- what is found of some nodes, of which the first has this number
-abbrev pub AreSought : Tables → ℤ → List Node → ℕ → Sought → Type 0
-AreSought t cost nodes number (sought.Split found) = IsAboveAt t cost nodes number found
-AreSought t cost nodes number (sought.Nothing next) = AreNotAbove t cost nodes number next
+-- what is found of some nodes, of which the first has this number: the number of a split, or that of the next node
+abbrev pub AreSought : Tables → ℤ → List Node → ℕ → ℕ → Bool → Type 0
+AreSought t cost nodes number reached true = IsAboveAt t cost nodes number reached
+AreSought t cost nodes number reached false = AreNotAbove t cost nodes number reached

@@ -5,7 +5,8 @@ ghost use Rattle.dual_bound.specs.OfTables.{IsOfTables};
 ghost use Rattle.cert_check.specs.Verdicts.{IsChecked, IsProof};
 
 use crate::checked::Checked;
-use crate::walking::{Walked, walk};
+use crate::reached::Reached;
+use crate::walking::{Walker, walk};
 use dual_bound::Tree;
 use fleet_model::{Assignment, Kept, Tables};
 use plan_judge::{Verdict, judge};
@@ -23,12 +24,20 @@ pub fn check(tables: &Tables, plan: Option<&Assignment>, tree: &Tree) -> Checked
     // Where it holds, each legal assignment costs at least the bound, and with no bound there is none.
     ensures proof { IsProof tables.now result }
 {
-    let cost = plan_cost(tables, plan);
-    let mut kept = Kept::all(tables);
-    match walk(tables, &mut kept, &cost, tree, 1) {
-        Walked::Fine { bound, .. } => Checked::Holds { bound },
-        Walked::Broken { node, rule } => Checked::Broken {
-            node,
+    let mut walker = Walker {
+        kept: Kept::all(tables),
+        cost: plan_cost(tables, plan),
+        reached: Reached {
+            number: 1,
+            bound: None,
+        },
+    };
+    match walk(tables, &mut walker, tree) {
+        None => Checked::Holds {
+            bound: walker.reached.bound,
+        },
+        Some(rule) => Checked::Broken {
+            node: walker.reached.number,
             rule: rule.number(),
         },
     }

@@ -1,5 +1,5 @@
 //! Leaves of a tree: what they keep and the bounds that they give.
-ghost use Rattle.std.specs.Prelude.{◌≡◌, ◌<◌, MatchBool, MatchOption};
+ghost use Rattle.std.specs.Prelude.{◌≡◌, ◌<◌, MatchBool, MatchOption, Option, ℤ};
 ghost use Rattle.frac_row.specs.Ratio.{IsCeiling};
 ghost use Rattle.fleet_model.specs.Kept.{IsBare, IsSole, kept_by};
 ghost use Rattle.fleet_model.specs.Schedule.{legs_in};
@@ -7,10 +7,12 @@ ghost use Rattle.dual_bound.specs.Bound.{IsSoleBound};
 ghost use Rattle.dual_bound.specs.Prices.{ArePrices};
 ghost use Rattle.dual_bound.specs.Worth.{worth_of};
 ghost use Rattle.fleet_model.specs.Legal.{IsAssignment, IsLegal};
-ghost use Rattle.cert_check.specs.Rules.{HaveAllPairs, IsLegalAt, IsSoleLegal};
+ghost use Rattle.cert_check.specs.Nodes.{node_at};
+ghost use Rattle.cert_check.specs.Rules.{HaveAllPairs, IsLegalAt, IsSoleLegal, IsSound};
+ghost use Rattle.cert_check.specs.Walking.{IsOwnBound};
 
-use dual_bound::Prices;
 use dual_bound::worth::worth;
+use dual_bound::{Prices, Tree};
 use fleet_model::{Assignment, Kept, Tables};
 use frac_row::ceil_div;
 use plan_judge::{Verdict, judge};
@@ -74,4 +76,17 @@ pub(crate) fn price_bound(tables: &Tables, kept: &Kept, prices: &Prices) -> i128
     ensures { IsCeiling (worth_of tables.now (kept_by kept.now) prices.now 1) prices.now.scale result }
 {
     ceil_div(worth(tables, kept, prices, 1), prices.scale)
+}
+
+/// The bound that a node which keeps all rules has without its children. Takes no memory.
+pub(crate) fn own_bound(tables: &Tables, kept: &Kept, node: &Tree) -> Option<i128>
+    requires { (cost : Option ℤ) × IsSound tables.now cost (node_at kept.now node.now) }
+    ensures { IsOwnBound tables.now (kept_by kept.now) node.now result }
+{
+    match node {
+        Tree::Bare { .. } | Tree::Refuted(_) | Tree::Trim { .. } | Tree::Split { .. } => None,
+        Tree::Sole => sole_cost(tables, kept),
+        Tree::Priced(prices) => Some(price_bound(tables, kept, prices)),
+        Tree::Open(prices, _) => Some(price_bound(tables, kept, prices)),
+    }
 }

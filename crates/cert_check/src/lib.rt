@@ -9,6 +9,7 @@ mod mixed_counts;
 mod mixed_rules;
 mod node_rules;
 mod price_rules;
+mod reached;
 pub mod rules;
 pub mod splits;
 mod walking;

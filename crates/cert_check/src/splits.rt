@@ -4,10 +4,9 @@ ghost use Rattle.fleet_model.specs.Kept.{all_pairs, kept_by, narrowed};
 ghost use Rattle.fleet_model.specs.Schedule.{IsPair, leg_on};
 ghost use Rattle.dual_bound.specs.Bound.{part};
 ghost use Rattle.dual_bound.specs.OfTables.{IsOfTables};
-ghost use Rattle.cert_check.specs.Nodes.{node_at, nodes_in};
+ghost use Rattle.cert_check.specs.Nodes.{node_at, nodes_below, nodes_in};
 ghost use Rattle.cert_check.specs.Rules.{IsSoundBut};
 ghost use Rattle.cert_check.specs.Splits.{AreSought, AreSoundButPriced, IsFirstSplitAbove, IsNoneAbove, IsSplitAbove, NoSplitIsAbove};
-ghost use Rattle.cert_check.specs.Verdicts.{nodes_below};
 ghost use Rattle.cert_check.specs.declared.rules.Rule.TheVariants as rule;
 
 use crate::leaves::price_bound;
@@ -22,57 +21,60 @@ pub fn split_above(tables: &Tables, tree: &Tree, cost: i128) -> Option<u64>
     requires sound { AreSoundButPriced tables.now (all_pairs tables.now) tree.now }
     ensures { MatchOption result (NoSplitIsAbove tables.now cost tree.now) (IsFirstSplitAbove tables.now cost tree.now) }
 {
-    let mut kept = Kept::all(tables);
-    match seek(tables, &mut kept, &cost, tree, 1) {
-        Sought::Split { number } => Some(number),
-        Sought::Nothing { .. } => None,
+    let mut seeker = Seeker {
+        kept: Kept::all(tables),
+        cost,
+        number: 1,
+    };
+    if seek(tables, &mut seeker, tree) {
+        Some(seeker.number)
+    } else {
+        None
     }
 }
 
-/// What is found of a part of a tree.
-#[derive(Clone, Copy, Debug, PartialEq, Eq)]
-pub(crate) enum Sought {
-    /// A split above the cost.
-    Split {
-        /// The number of the first such split.
-        number: u64,
-    },
-    /// No such split.
-    Nothing {
-        /// The number of the node that comes next.
-        next: u64,
-    },
+/// A walk that seeks a split above a cost.
+#[derive(Drop)]
+struct Seeker {
+    /// The pairs that the subproblem keeps in which the walk stands.
+    kept: Kept,
+    /// The cost.
+    cost: i128,
+    /// The number of the node that comes next, or of the split that was found.
+    number: u64,
 }
 
-/// Seeks the first split above a cost in a part of a tree whose first node has this number, in the subproblem that is
-/// kept; the subproblem is again as it was. Takes no memory.
+/// Seeks the first split above the cost in a part of a tree, and answers whether there is one. The subproblem is again as
+/// it was. Takes no memory.
 #[cycle(seek)]
-fn seek(tables: &Tables, kept: &mut Kept, cost: &i128, tree: &Tree, number: u64) -> Sought
+fn seek(tables: &Tables, seeker: &mut Seeker, tree: &Tree) -> bool
     requires known { IsOfTables tables.now tree.now }
-    requires sound { AreSoundButPriced tables.now (kept_by kept.old) tree.now }
-    ensures same { kept.new ≡ kept.old }
-    ensures sought { AreSought tables.now cost.now (nodes_in (kept_by kept.old) tree.now) number result }
+    requires sound { AreSoundButPriced tables.now (kept_by seeker.old.kept) tree.now }
+    ensures kept { seeker.new.kept ≡ seeker.old.kept }
+    ensures cost { seeker.new.cost ≡ seeker.old.cost }
+    ensures sought { AreSought tables.now seeker.old.cost (nodes_in (kept_by seeker.old.kept) tree.now) seeker.old.number seeker.new.number result }
 {
-    if is_above(tables, kept, cost, tree) {
-        return Sought::Split { number };
+    let number = seeker.number;
+    if is_above(tables, &seeker.kept, &seeker.cost, tree) {
+        return true;
     }
-    let next = number.saturating_add(1);
+    seeker.number = number.saturating_add(1);
     match tree {
         Tree::Trim {
             leg,
             fleet,
             yes,
             no,
-        } => seek_both(tables, kept, cost, *leg, *fleet, yes, no, next),
+        } => seek_both(tables, seeker, *leg, *fleet, yes, no),
         Tree::Split {
             leg,
             fleet,
             yes,
             no,
             ..
-        } => seek_both(tables, kept, cost, *leg, *fleet, yes, no, next),
+        } => seek_both(tables, seeker, *leg, *fleet, yes, no),
         Tree::Bare { .. } | Tree::Sole | Tree::Refuted(_) | Tree::Priced(_) | Tree::Open(..) => {
-            Sought::Nothing { next }
+            false
         }
     }
 }
@@ -81,60 +83,51 @@ fn seek(tables: &Tables, kept: &mut Kept, cost: &i128, tree: &Tree, number: u64)
 #[cycle(seek)]
 fn seek_both(
     tables: &Tables,
-    kept: &mut Kept,
-    cost: &i128,
+    seeker: &mut Seeker,
     leg: u32,
     fleet: u32,
     with_pair: &Tree,
     without: &Tree,
-    number: u64,
-) -> Sought
+) -> bool
     requires pair { IsPair tables.now (leg_on leg fleet) }
     requires first { IsOfTables tables.now with_pair.now }
     requires second { IsOfTables tables.now without.now }
-    requires first_sound { AreSoundButPriced tables.now (part (kept_by kept.old) leg fleet true) with_pair.now }
-    requires second_sound { AreSoundButPriced tables.now (part (kept_by kept.old) leg fleet false) without.now }
-    ensures same { kept.new ≡ kept.old }
-    ensures sought { AreSought tables.now cost.now (nodes_below (kept_by kept.old) (leg_on leg fleet) with_pair.now without.now) number result }
+    requires first_sound { AreSoundButPriced tables.now (part (kept_by seeker.old.kept) leg fleet true) with_pair.now }
+    requires second_sound { AreSoundButPriced tables.now (part (kept_by seeker.old.kept) leg fleet false) without.now }
+    ensures kept { seeker.new.kept ≡ seeker.old.kept }
+    ensures cost { seeker.new.cost ≡ seeker.old.cost }
+    ensures sought { AreSought tables.now seeker.old.cost (nodes_below (kept_by seeker.old.kept) (leg_on leg fleet) with_pair.now without.now) seeker.old.number seeker.new.number result }
 {
     let yes = Step {
         leg,
         fleet,
         yes: true,
     };
-    match seek_in_part(tables, kept, cost, yes, with_pair, number) {
-        Sought::Split { number } => Sought::Split { number },
-        Sought::Nothing { next } => {
-            let no = Step {
-                leg,
-                fleet,
-                yes: false,
-            };
-            seek_in_part(tables, kept, cost, no, without, next)
-        }
+    if seek_in_part(tables, seeker, yes, with_pair) {
+        return true;
     }
+    let no = Step {
+        leg,
+        fleet,
+        yes: false,
+    };
+    seek_in_part(tables, seeker, no, without)
 }
 
 /// Seeks it in a child, in its part of the subproblem.
 #[cycle(seek)]
-fn seek_in_part(
-    tables: &Tables,
-    kept: &mut Kept,
-    cost: &i128,
-    step: Step,
-    child: &Tree,
-    number: u64,
-) -> Sought
+fn seek_in_part(tables: &Tables, seeker: &mut Seeker, step: Step, child: &Tree) -> bool
     requires pair { IsPair tables.now (leg_on step.leg step.fleet) }
     requires known { IsOfTables tables.now child.now }
-    requires sound { AreSoundButPriced tables.now (narrowed (kept_by kept.old) step) child.now }
-    ensures same { kept.new ≡ kept.old }
-    ensures sought { AreSought tables.now cost.now (nodes_in (narrowed (kept_by kept.old) step) child.now) number result }
+    requires sound { AreSoundButPriced tables.now (narrowed (kept_by seeker.old.kept) step) child.now }
+    ensures kept { seeker.new.kept ≡ seeker.old.kept }
+    ensures cost { seeker.new.cost ≡ seeker.old.cost }
+    ensures sought { AreSought tables.now seeker.old.cost (nodes_in (narrowed (kept_by seeker.old.kept) step) child.now) seeker.old.number seeker.new.number result }
 {
-    let undo = kept.narrow(step);
-    let sought = seek(tables, kept, cost, child, number);
-    kept.undo(undo);
-    sought
+    let undo = seeker.kept.narrow(step);
+    let found = seek(tables, seeker, child);
+    seeker.kept.undo(undo);
+    found
 }
 
 // Whether a node is a split whose rounded worth is above a cost.

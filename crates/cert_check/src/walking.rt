@@ -1,82 +1,64 @@
 //! The walk over a tree.
+//!
+//! A tree may have 20,000 levels and more, so what a level takes of the stack is small: what a walk comes to stands in
+//! one place, and whatever needs room of its own is a call that isn't inlined.
 ghost use Rattle.std.specs.Prelude.{◌≡◌};
 ghost use Rattle.fleet_model.specs.Kept.{kept_by, narrowed};
 ghost use Rattle.fleet_model.specs.Schedule.{IsPair, leg_on};
-ghost use Rattle.dual_bound.specs.Bound.{lesser_bound};
-ghost use Rattle.dual_bound.specs.Worth.{lesser};
 ghost use Rattle.dual_bound.specs.OfTables.{IsOfTables};
-ghost use Rattle.cert_check.specs.Verdicts.{AreBothWalked, IsJoined, IsWalked};
+ghost use Rattle.cert_check.specs.Nodes.{node_at};
+ghost use Rattle.cert_check.specs.Walking.{AreBothWalked, IsEntered, IsWalked};
 
-use crate::leaves::{price_bound, sole_cost};
+use crate::leaves::own_bound;
 use crate::node_rules::first_fault;
+use crate::reached::{Reached, lesser_bound};
 use crate::rules::Rule;
 use dual_bound::Tree;
 use fleet_model::{Kept, Step, Tables};
 
-/// What a walk over a part of a tree finds.
-#[derive(Clone, Copy, Debug, PartialEq, Eq)]
-pub(crate) enum Walked {
-    /// Each node keeps each rule.
-    Fine {
-        /// The number of the node that comes next.
-        next: u64,
-        /// The bound of the part.
-        bound: Option<i128>,
-    },
-    /// A node breaks a rule.
-    Broken {
-        /// The number of the first such node.
-        node: u64,
-        /// The first rule that it breaks.
-        rule: Rule,
-    },
+/// A walk over a tree.
+#[derive(Drop)]
+pub(crate) struct Walker {
+    /// The pairs that the subproblem keeps in which the walk stands.
+    pub(crate) kept: Kept,
+    /// What the plan costs, if there is one.
+    pub(crate) cost: Option<i128>,
+    /// What the walk has come to.
+    pub(crate) reached: Reached,
 }
 
-/// Walks over a part of a tree whose first node has this number, in the subproblem that is kept; the subproblem is
-/// again as it was. Takes no memory.
+/// Walks over a part of a tree, and answers the first rule that its first broken node breaks. The subproblem is again as
+/// it was. Takes no memory.
 #[cycle(walk)]
-pub(crate) fn walk(
-    tables: &Tables,
-    kept: &mut Kept,
-    cost: &Option<i128>,
-    tree: &Tree,
-    number: u64,
-) -> Walked
+pub(crate) fn walk(tables: &Tables, walker: &mut Walker, tree: &Tree) -> Option<Rule>
     requires { IsOfTables tables.now tree.now }
-    ensures same { kept.new ≡ kept.old }
-    ensures walked { IsWalked tables.now cost.now (kept_by kept.old) tree.now number result }
+    ensures kept { walker.new.kept ≡ walker.old.kept }
+    ensures cost { walker.new.cost ≡ walker.old.cost }
+    ensures walked { IsWalked tables.now walker.old.cost (kept_by walker.old.kept) tree.now walker.old.reached walker.new.reached result }
 {
-    if let Some(rule) = first_fault(tables, kept, cost, tree) {
-        return Walked::Broken { node: number, rule };
-    }
-    let next = number.saturating_add(1);
     match tree {
-        Tree::Bare { .. } | Tree::Refuted(_) => Walked::Fine { next, bound: None },
-        Tree::Sole => Walked::Fine {
-            next,
-            bound: sole_cost(tables, kept),
-        },
-        Tree::Priced(prices) => Walked::Fine {
-            next,
-            bound: Some(price_bound(tables, kept, prices)),
-        },
-        Tree::Open(open, _) => Walked::Fine {
-            next,
-            bound: Some(price_bound(tables, kept, open)),
-        },
         Tree::Trim {
             leg,
             fleet,
             yes,
             no,
-        } => walk_both(tables, kept, cost, *leg, *fleet, yes, no, next),
+        } => match enter(tables, walker, tree) {
+            Some(rule) => Some(rule),
+            None => walk_both(tables, walker, *leg, *fleet, yes, no),
+        },
         Tree::Split {
             leg,
             fleet,
             yes,
             no,
             ..
-        } => walk_both(tables, kept, cost, *leg, *fleet, yes, no, next),
+        } => match enter(tables, walker, tree) {
+            Some(rule) => Some(rule),
+            None => walk_both(tables, walker, *leg, *fleet, yes, no),
+        },
+        Tree::Bare { .. } | Tree::Sole | Tree::Refuted(_) | Tree::Priced(_) | Tree::Open(..) => {
+            enter(tables, walker, tree)
+        }
     }
 }
 
@@ -84,102 +66,68 @@ pub(crate) fn walk(
 #[cycle(walk)]
 fn walk_both(
     tables: &Tables,
-    kept: &mut Kept,
-    cost: &Option<i128>,
+    walker: &mut Walker,
     leg: u32,
     fleet: u32,
     with_pair: &Tree,
     without: &Tree,
-    number: u64,
-) -> Walked
+) -> Option<Rule>
     requires first { IsOfTables tables.now with_pair.now }
     requires second { IsOfTables tables.now without.now }
     requires pair { IsPair tables.now (leg_on leg fleet) }
-    ensures same { kept.new ≡ kept.old }
-    ensures walked { AreBothWalked tables.now cost.now (kept_by kept.old) (leg_on leg fleet) with_pair.now without.now number result }
+    ensures kept { walker.new.kept ≡ walker.old.kept }
+    ensures cost { walker.new.cost ≡ walker.old.cost }
+    ensures walked { AreBothWalked tables.now walker.old.cost (kept_by walker.old.kept) (leg_on leg fleet) with_pair.now without.now walker.old.reached walker.new.reached result }
 {
-    match walk_part(
-        tables,
-        kept,
-        cost,
-        Step {
-            leg,
-            fleet,
-            yes: true,
-        },
-        with_pair,
-        number,
-    ) {
-        Walked::Broken { node, rule } => Walked::Broken { node, rule },
-        Walked::Fine { next, bound } => {
-            let second = walk_part(
-                tables,
-                kept,
-                cost,
-                Step {
-                    leg,
-                    fleet,
-                    yes: false,
-                },
-                without,
-                next,
-            );
-            with_bound(&bound, second)
+    let yes = Step {
+        leg,
+        fleet,
+        yes: true,
+    };
+    match walk_part(tables, walker, yes, with_pair) {
+        Some(rule) => Some(rule),
+        None => {
+            let no = Step {
+                leg,
+                fleet,
+                yes: false,
+            };
+            walk_part(tables, walker, no, without)
         }
     }
 }
 
 /// Walks over a child in its part of the subproblem.
 #[cycle(walk)]
-fn walk_part(
-    tables: &Tables,
-    kept: &mut Kept,
-    cost: &Option<i128>,
-    step: Step,
-    child: &Tree,
-    number: u64,
-) -> Walked
+fn walk_part(tables: &Tables, walker: &mut Walker, step: Step, child: &Tree) -> Option<Rule>
     requires tree { IsOfTables tables.now child.now }
     requires pair { IsPair tables.now (leg_on step.leg step.fleet) }
-    ensures same { kept.new ≡ kept.old }
-    ensures walked { IsWalked tables.now cost.now (narrowed (kept_by kept.old) step) child.now number result }
+    ensures kept { walker.new.kept ≡ walker.old.kept }
+    ensures cost { walker.new.cost ≡ walker.old.cost }
+    ensures walked { IsWalked tables.now walker.old.cost (narrowed (kept_by walker.old.kept) step) child.now walker.old.reached walker.new.reached result }
 {
-    let undo = kept.narrow(step);
-    let walked = walk(tables, kept, cost, child, number);
-    kept.undo(undo);
-    walked
+    let undo = walker.kept.narrow(step);
+    let fault = walk(tables, walker, child);
+    walker.kept.undo(undo);
+    fault
 }
 
-/// What is found of both children, where the first is fine and has this bound.
+/// Judges a node alone, and passes it where it breaks no rule.
 #[inline(never)]
-fn with_bound(first: &Option<i128>, second: Walked) -> Walked
-    ensures { IsJoined first.now second result }
+fn enter(tables: &Tables, walker: &mut Walker, node: &Tree) -> Option<Rule>
+    requires { IsOfTables tables.now node.now }
+    ensures kept { walker.new.kept ≡ walker.old.kept }
+    ensures cost { walker.new.cost ≡ walker.old.cost }
+    ensures entered { IsEntered tables.now walker.old.cost (node_at walker.old.kept node.now) walker.old.reached walker.new.reached result }
 {
-    match second {
-        Walked::Fine { next, bound } => Walked::Fine {
-            next,
-            bound: lesser_bound(first, &bound),
-        },
-        Walked::Broken { node, rule } => Walked::Broken { node, rule },
+    let number = walker.reached.number;
+    if let Some(rule) = first_fault(tables, &walker.kept, &walker.cost, node) {
+        return Some(rule);
     }
-}
-
-/// The lesser of two bounds, of which neither need be there.
-fn lesser_bound(first: &Option<i128>, second: &Option<i128>) -> Option<i128>
-    ensures { result ≡ lesser_bound first.now second.now }
-{
-    match second {
-        Some(number) => Some(lesser(first, number)),
-        None => *first,
-    }
-}
-
-/// The lesser of two numbers, of which the first may not be there.
-fn lesser(first: &Option<i128>, second: &i128) -> i128
-    ensures { result ≡ lesser first.now second.now }
-{
-    match first {
-        Some(number) if *number <= *second => *number,
-        _ => *second,
-    }
+    let bound = own_bound(tables, &walker.kept, node);
+    walker.reached = Reached {
+        number: number.saturating_add(1),
+        bound: lesser_bound(&walker.reached.bound, &bound),
+    };
+    None
 }

@@ -1,5 +1,5 @@
 use Rattle.std.proofs.Common.{false, arith}
-use Rattle.cert_check.proofs.SplitsAbove.{in_same, in_second, of_split, of_trim, sound_here, split_parts, trim_parts}
+use Rattle.cert_check.proofs.SplitsAbove.{in_second, in_same, of_split, of_trim, sound_here, split_parts, trim_parts}
 use Rattle.cert_check.proofs.TreeSizes.{split_less, trim_less}
 use Rattle.cert_check.proofs.splits.+seek.Goals as goal
 
@@ -20,13 +20,13 @@ seek-seek_both-requires-in-Split t c = (
 
 pub seek-returns-in-Trim-clause-sought : goal.seek-returns-in-Trim-clause-sought
 seek-returns-in-Trim-clause-sought t c =
-    of_trim _ _ _ _ _ (omega (arith, c.saturating_add-next.ensures)) _ _ _ _ _ _ _ _ c.if-is_above.ensures c.deref.ensures c.deref-in-Trim.ensures c.seek_both.ensures.sought c.in-Trim.is
+    of_trim _ _ _ _ _ _ (omega (arith, c.saturating_add-seeker.ensures)) _ _ _ _ _ _ _ _ c.if-is_above.ensures c.deref.ensures c.deref-in-Trim.ensures c.seek_both.ensures.sought c.in-Trim.is
 
 pub seek-returns-in-Split-clause-sought : goal.seek-returns-in-Split-clause-sought
 seek-returns-in-Split-clause-sought t c =
-    of_split _ _ _ _ _ (omega (arith, c.saturating_add-next.ensures)) _ _ _ _ _ _ _ _ c.if-is_above.ensures c.deref-in-Split.ensures c.deref-in-Split-2.ensures c.seek_both-in-Split.ensures.sought _ _ c.in-Split.is
+    of_split _ _ _ _ _ _ (omega (arith, c.saturating_add-seeker.ensures)) _ _ _ _ _ _ _ _ c.if-is_above.ensures c.deref-in-Split.ensures c.deref-in-Split-2.ensures c.seek_both-in-Split.ensures.sought _ _ c.in-Split.is
 
-pub seek_both-returns-in-Nothing-clause-sought : goal.seek_both-returns-in-Nothing-clause-sought
-seek_both-returns-in-Nothing-clause-sought t c =
-    in_second _ _ _ _ _ _ _ c.in-Nothing.ensures.sought
-    (in_same _ _ c.seek_in_part.new.kept c.args.kept.now (record { leg = c.args.leg; fleet = c.args.fleet; yes = false }) _ c.in-Nothing.next _ c.in-Nothing.ensures.same c.seek_in_part-in-Nothing.ensures.sought)
+pub seek_both-returns-clause-sought : goal.seek_both-returns-clause-sought
+seek_both-returns-clause-sought t c =
+    in_second _ _ _ _ _ _ _ _ c.if-seek_in_part.ensures.sought
+    (in_same _ _ _ _ _ (record { leg = c.args.leg; fleet = c.args.fleet; yes = false }) _ _ _ _ c.if-seek_in_part.ensures.kept c.if-seek_in_part.ensures.cost c.seek_in_part-2.ensures.sought)
