@@ -1,3 +1,14 @@
-pub mod SameUse
-pub mod Passing
+pub mod Counted
+pub mod FirstIdles
+pub mod FleetTotals
+pub mod InOrder
+pub mod IslandProofs
+pub mod LegSums
+pub mod Listed
 pub mod NonePairs
+pub mod Passing
+pub mod QuickestFleets
+pub mod Raised
+pub mod SameUse
+pub mod Slower
+pub mod Told

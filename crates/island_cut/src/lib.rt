@@ -1,9 +1,18 @@
-//! Minutes at which no aircraft stands at a station, and the aircraft that a schedule leaves over.
+//! Minutes at which no aircraft stands at a station, the aircraft that a schedule leaves over, and the islands of one that
+//! leaves none over.
 #![tactic(auto)]
 
+pub mod idle_minutes;
+pub mod idles;
 mod joined;
+pub mod laws;
+pub mod lookup;
+mod movements;
 pub mod spares;
 pub mod zeros;
 
+pub use idle_minutes::Idle;
+pub use idles::idle;
+pub use lookup::first_idle;
 pub use spares::spare;
 pub use zeros::zero_minutes;

@@ -17,8 +17,8 @@ pub fn spare(tables: &Tables) -> i64
     i64::from(aircraft(tables)) - used as i64
 }
 
-// The aircraft of all fleets.
-fn aircraft(tables: &Tables) -> u32
+/// The aircraft of all fleets. Takes no memory.
+pub(crate) fn aircraft(tables: &Tables) -> u32
     ensures value { result ≡ aircraft_in tables.now }
     ensures few { result ≤ MAX_AIRCRAFT * MAX_FLEETS }
 {

@@ -1,0 +1,165 @@
+-- By any mixed plan of pairs that may be flown, all fleets need at each station, with the laps of what comes there, no
+-- fewer aircraft than the joined schedule. So where no aircraft is left over they need as many at each station, and
+-- where none of the joined schedule's stands, none of theirs does.
+use Rattle.std.proofs.Common.{◌≡◌, ◌≢◌, ℕ, ◌+◌, ◌*◌, ◌-◌, ◌<◌, ◌≤◌, if◌then◌else◌, ◌==◌, nat_le, refl, sym, ◌∙◌, ap, inl, inr, arith}
+use Rattle.std.proofs.Math.Nat.{mul-le-mul_left}
+use Rattle.std.proofs.lemmas.Bool.{cases_lt}
+use Rattle.sums.specs.Below.{sum_below, max_below}
+use Rattle.sums.proofs.Naturals.{times_below}
+use Rattle.sums.proofs.Sums.{sum_below-add, sum_below-agree, sum_below-le, sum_below-swap, sum_below-zero}
+use Rattle.sums.proofs.Tests.{by_test}
+use Rattle.fleet_model.specs.declared.limits.TheConstants.{MINUTES_PER_PERIOD}
+use Rattle.fleet_model.specs.declared.tables.Tables.{Tables}
+use Rattle.fleet_model.specs.Counts.{Weights, arrived, coming, departed, has_left, leaving}
+use Rattle.fleet_model.specs.Kept.{Domains}
+use Rattle.fleet_model.specs.Mixed.{IsMixedPlan}
+use Rattle.fleet_model.specs.Schedule.{IsPair, fleet_of, fleets_in, leg_of, leg_on, legs_in, no_leg, stations_in}
+use Rattle.fleet_model.specs.Times.{busy_minutes, laps_of, ready_minute}
+use Rattle.fleet_model.specs.Use.{laps_flown, need_of, stand_of, used_of}
+use Rattle.fleet_model.specs.Whole.{KeepAllowed}
+use Rattle.fleet_model.proofs.UseLaws.{need_suffices}
+use Rattle.stand_counts.specs.Flights.{arrived_by, coming_by, departed_by, excess_by, laps_at_by, laps_by, leaving_by, need_by, stand_by, used_by}
+use Rattle.island_cut.specs.Spare.{AreQuickest, aircraft_in, joined}
+use Rattle.island_cut.proofs.LegSums.{max_at, one_departure, one_lap, one_pair, over_fleets, own_places, same_terms, times_sum}
+use Rattle.island_cut.proofs.Slower.{slower_laps, slower_ready}
+
+-- ---- in plain numbers
+needed_at : (q need dep arr laps total : ℕ) → dep - arr ≡ need → q * dep + q * laps ≤ total + q * arr → q * laps ≤ total → q * need + q * laps ≤ total
+needed_at q need dep arr laps total is at least = elim (cases_lt arr dep) [
+  | inl more ↦ let parts : dep ≡ arr + need = omega (arith, is, more) in omega (arith, at, ap (λ n. q * n) parts, times_sum q arr need)
+  | inr no_more ↦ let none : need ≡ 0 = omega (arith, is, no_more) in rw none (omega (arith, least))
+]
+
+none_stands_at : (q need arr dep needs come gone laps joined_laps total : ℕ) → need + arr ≤ dep → total ≡ q * need + q * joined_laps → total ≡ needs + laps
+    → come + q * joined_laps ≤ laps + q * arr → q * dep ≤ gone → needs + come ≤ gone
+none_stands_at q need arr dep needs come gone laps joined_laps total none is parts comes leaves =
+    let row : q * (need + arr) ≤ q * dep = mul-le-mul_left q none in
+    omega (arith, row, times_sum q need arr, is, parts, comes, leaves)
+
+module _ (t : Tables) (keeps : Domains) (q : ℕ) (w : Weights) (fleets : ℕ → ℕ) (allowed : KeepAllowed t keeps) (plan : IsMixedPlan t keeps q w) (quick : AreQuickest t fleets) where
+  no_slower : (l f : ℕ) → l < legs_in t → f < fleets_in t → w (leg_on l f) ≢ 0 → busy_minutes t (leg_on l (fleets l)) ≤ busy_minutes t (leg_on l f)
+  no_slower l f below known some =
+      let pair : IsPair t (leg_on l f) = record { leg = below; fleet = known } in
+      by_test (keeps (leg_on l f))
+      (λ kept. (quick.each l below).quickest f known (allowed.each (leg_on l f) pair kept))
+      (λ not_kept. absurd (some (plan.kept (leg_on l f) pair not_kept)))
+
+  -- the laps of the flights that come to a station, of a fleet and of the joined schedule
+  abbrev laps_there : ℕ → ℕ → ℕ → ℕ
+  laps_there f s l = if (leg_of t l).to == s then w (leg_on l f) * laps_of t (leg_on l f) else 0
+
+  abbrev laps_joined : ℕ → ℕ → ℕ
+  laps_joined s l = if (leg_of t l).to == s then laps_of t (leg_on l (fleets l)) else 0
+
+  abbrev laps_to : ℕ → ℕ
+  laps_to s = sum_below (λ f. sum_below (laps_there f s) (legs_in t)) (fleets_in t)
+
+  abbrev joined_laps_to : ℕ → ℕ
+  joined_laps_to s = sum_below (laps_joined s) (legs_in t)
+
+  abbrev needs_at : ℕ → ℕ
+  needs_at s = sum_below (λ f. need_of t w f s) (fleets_in t)
+
+  arrivals_law : (s m : ℕ) → sum_below (λ f. arrived t w f s m) (fleets_in t) + q * joined_laps_to s ≤ laps_to s + q * arrived_by t (joined fleets) s m
+  unfolding arrived arrived_by
+  arrivals_law s m = over_fleets (legs_in t) (fleets_in t) q (λ l f. w (leg_on l f)) (λ l f. coming t w f s m l) (λ l f. laps_there f s l) (laps_joined s) (coming_by t (joined fleets) s m)
+      (λ l f below known. one_pair ((leg_of t l).to == s) (nat_le (ready_minute t (leg_on l f)) m) (nat_le (ready_minute t (leg_on l (fleets l))) m)
+      (w (leg_on l f)) (laps_of t (leg_on l f)) (laps_of t (leg_on l (fleets l))) (λ some. slower_ready t l (fleets l) f (no_slower l f below known some) m))
+      (λ l below. plan.cover l below)
+
+  laps_law : (s : ℕ) → q * joined_laps_to s ≤ laps_to s
+  laps_law s =
+      let law = over_fleets (legs_in t) (fleets_in t) q (λ l f. w (leg_on l f)) (λ l f. 0) (λ l f. laps_there f s l) (laps_joined s) (λ l. 0)
+      (λ l f below known. one_lap ((leg_of t l).to == s) (w (leg_on l f)) (laps_of t (leg_on l f)) (laps_of t (leg_on l (fleets l))) (λ some. slower_laps t l (fleets l) f (no_slower l f below known some)))
+      (λ l below. plan.cover l below) in
+      omega (arith, law, ap (λ n. q * n) (sum_below-zero (legs_in t)))
+
+  departures_law : (s m : ℕ) → q * departed_by t (joined fleets) s m ≤ sum_below (λ f. departed t w f s m) (fleets_in t)
+  unfolding departed departed_by
+  departures_law s m =
+      let law = over_fleets (legs_in t) (fleets_in t) q (λ l f. w (leg_on l f)) (λ l f. 0) (λ l f. leaving t w f s m l) (leaving_by t (joined fleets) s m) (λ l. 0)
+      (λ l f below known. one_departure (has_left t (leg_on l f) s m) (w (leg_on l f)))
+      (λ l below. plan.cover l below) in
+      omega (arith, law, ap (λ n. q * n) (sum_below-zero (legs_in t)))
+
+  needs_law : (s m : ℕ) → m < MINUTES_PER_PERIOD → sum_below (λ f. departed t w f s m) (fleets_in t) ≤ needs_at s + sum_below (λ f. arrived t w f s m) (fleets_in t)
+  needs_law s m within = omega (
+    arith,
+    sum_below-le (λ f. departed t w f s m) (λ f. need_of t w f s + arrived t w f s m) (fleets_in t) (record { each = λ f known. (need_suffices t w f s).each m within }),
+    sum_below-add (λ f. need_of t w f s) (λ f. arrived t w f s m) (fleets_in t),
+  )
+
+  at_minute : (s m : ℕ) → m < MINUTES_PER_PERIOD → q * departed_by t (joined fleets) s m + q * joined_laps_to s ≤ needs_at s + laps_to s + q * arrived_by t (joined fleets) s m
+  at_minute s m within = omega (arith, arrivals_law s m, departures_law s m, needs_law s m within)
+
+  -- at each station the fleets need no fewer than the joined schedule
+  no_fewer : (s : ℕ) → q * need_by t (joined fleets) s + q * joined_laps_to s ≤ needs_at s + laps_to s
+  unfolding need_by excess_by
+  no_fewer s = elim (max_at (excess_by t (joined fleets) s) MINUTES_PER_PERIOD) [
+    | inl none ↦ omega (arith, ap (λ n. q * n) none, laps_law s)
+    | inr found ↦
+        needed_at q (max_below (excess_by t (joined fleets) s) MINUTES_PER_PERIOD) (departed_by t (joined fleets) s found.0) (arrived_by t (joined fleets) s found.0) (joined_laps_to s) (needs_at s + laps_to s)
+        found.2 (at_minute s found.0 found.1) (omega (arith, laps_law s))
+  ]
+
+  -- over all stations, what fleets use
+  fleet_uses : (f : ℕ) → sum_below (need_of t w f) (stations_in t) + sum_below (λ s. sum_below (laps_there f s) (legs_in t)) (stations_in t) ≡ used_of t w f
+  unfolding used_of laps_flown
+  fleet_uses f = ap (λ n. sum_below (need_of t w f) (stations_in t) + n)
+      (own_places (λ l. (leg_of t l).to) (λ l s. w (leg_on l f) * laps_of t (leg_on l f)) (stations_in t) (legs_in t) (λ l below. (t.in_range.legs_fit.each l no_leg below).to))
+
+  all_use : sum_below (λ s. needs_at s + laps_to s) (stations_in t) ≡ sum_below (used_of t w) (fleets_in t)
+  all_use = omega (
+    arith,
+    sum_below-add needs_at laps_to (stations_in t),
+    sum_below-swap (λ s f. need_of t w f s) (fleets_in t) (stations_in t),
+    sum_below-swap (λ s f. sum_below (laps_there f s) (legs_in t)) (fleets_in t) (stations_in t),
+    sum_below-add (λ f. sum_below (need_of t w f) (stations_in t)) (λ f. sum_below (λ s. sum_below (laps_there f s) (legs_in t)) (stations_in t)) (fleets_in t),
+    sum_below-agree (λ f. sum_below (need_of t w f) (stations_in t) + sum_below (λ s. sum_below (laps_there f s) (legs_in t)) (stations_in t)) (used_of t w) (fleets_in t)
+        (record { each = λ f known. fleet_uses f }),
+  )
+
+  have_enough : sum_below (used_of t w) (fleets_in t) ≤ q * aircraft_in t
+  have_enough = omega (
+    arith,
+    sum_below-le (used_of t w) (λ f. q * (fleet_of t f).aircraft) (fleets_in t) (record { each = λ f known. plan.within f known }),
+    times_below q (λ f. q * (fleet_of t f).aircraft) (λ f. (fleet_of t f).aircraft) (fleets_in t) (λ f known. refl),
+  )
+
+  joined_use : used_by t (joined fleets) ≡ sum_below (need_by t (joined fleets)) (stations_in t) + sum_below joined_laps_to (stations_in t)
+  unfolding used_by laps_by
+  joined_use = ap (λ n. sum_below (need_by t (joined fleets)) (stations_in t) + n) (
+      sum_below-agree (laps_at_by t (joined fleets)) (λ l. laps_of t (leg_on l (fleets l))) (legs_in t) (record { each = λ l below. omega arith })
+      ∙ sym (own_places (λ l. (leg_of t l).to) (λ l s. laps_of t (leg_on l (fleets l))) (stations_in t) (legs_in t) (λ l below. (t.in_range.legs_fit.each l no_leg below).to)))
+
+  joined_scaled : sum_below (λ s. q * need_by t (joined fleets) s + q * joined_laps_to s) (stations_in t) ≡ q * used_by t (joined fleets)
+  joined_scaled = omega (
+    arith,
+    sum_below-add (λ s. q * need_by t (joined fleets) s) (λ s. q * joined_laps_to s) (stations_in t),
+    times_below q (λ s. q * need_by t (joined fleets) s) (need_by t (joined fleets)) (stations_in t) (λ s within. refl),
+    times_below q (λ s. q * joined_laps_to s) joined_laps_to (stations_in t) (λ s within. refl),
+    ap (λ n. q * n) joined_use,
+    times_sum q (sum_below (need_by t (joined fleets)) (stations_in t)) (sum_below joined_laps_to (stations_in t)),
+  )
+
+  -- where none is left over, they need as many at each
+  as_many : used_by t (joined fleets) ≡ aircraft_in t → (s : ℕ) → s < stations_in t → needs_at s + laps_to s ≡ q * need_by t (joined fleets) s + q * joined_laps_to s
+  as_many none_left = same_terms (λ s. needs_at s + laps_to s) (λ s. q * need_by t (joined fleets) s + q * joined_laps_to s) (stations_in t)
+      (λ s within. no_fewer s)
+      (omega (arith, all_use, have_enough, joined_scaled, ap (λ n. q * n) none_left))
+
+  none_stand : used_by t (joined fleets) ≡ aircraft_in t → (s m : ℕ) → s < stations_in t → stand_by t (joined fleets) s m ≡ 0
+      → sum_below (λ f. need_of t w f s + arrived t w f s m) (fleets_in t) ≤ sum_below (λ f. departed t w f s m) (fleets_in t)
+  unfolding stand_by
+  none_stand none_left s m within empty =
+      let law = none_stands_at q (need_by t (joined fleets) s) (arrived_by t (joined fleets) s m) (departed_by t (joined fleets) s m) (needs_at s)
+      (sum_below (λ f. arrived t w f s m) (fleets_in t)) (sum_below (λ f. departed t w f s m) (fleets_in t)) (laps_to s) (joined_laps_to s) (needs_at s + laps_to s)
+      (omega (arith, empty)) (as_many none_left s within) refl (arrivals_law s m) (departures_law s m) in
+      omega (arith, law, sum_below-add (λ f. need_of t w f s) (λ f. arrived t w f s m) (fleets_in t))
+
+  pub empty_for_each : used_by t (joined fleets) ≡ aircraft_in t → (f s m : ℕ) → f < fleets_in t → s < stations_in t → m < MINUTES_PER_PERIOD → stand_by t (joined fleets) s m ≡ 0 → stand_of t w f s m ≡ 0
+  unfolding stand_of
+  empty_for_each none_left f s m known station minute empty =
+      let same = same_terms (λ g. need_of t w g s + arrived t w g s m) (λ g. departed t w g s m) (fleets_in t)
+      (λ g within. (need_suffices t w g s).each m minute) (none_stand none_left s m station empty) f known in
+      omega (arith, same)

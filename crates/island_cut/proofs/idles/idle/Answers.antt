@@ -1,0 +1,30 @@
+use Rattle.std.proofs.Common.{◌≡◌, ◌++◌, false, map, sym, ◌∙◌, ap, arith}
+use Rattle.fleet_model.specs.Schedule.{stations_in}
+use Rattle.island_cut.specs.Islands.{has_islands, have_pairs, idle_at, idle_minutes, idles_below}
+use Rattle.island_cut.proofs.Listed.{first_station, no_idles, station_more, without_pairs}
+use Rattle.island_cut.proofs.QuickestFleets.{pairs_tested}
+use Rattle.island_cut.proofs.idles.idle.Goals as goal
+
+pub returns-then-not-have_pairs : goal.returns-then-not-have_pairs
+returns-then-not-have_pairs c =
+    let none : have_pairs c.args.tables.now ≡ false = sym c.have_pairs.ensures ∙ c.if-not-have_pairs.true in
+    c.from_vec.ensures ∙ c.new.ensures.items ∙ sym (no_idles c.args.tables.now (stations_in c.args.tables.now) (without_pairs c.args.tables.now none))
+
+pub quickest-plan-requires : goal.quickest-plan-requires
+quickest-plan-requires c = pairs_tested c.args.tables.now (sym c.have_pairs.ensures ∙ c.if-not-have_pairs.false)
+
+pub returns-then-not-branch : goal.returns-then-not-branch
+returns-then-not-branch c =
+    let none : has_islands c.args.tables.now ≡ false = sym c.in_ok-has_islands.ensures ∙ c.if-not-branch.true in
+    c.from_vec-then-not-branch.ensures ∙ c.new-then-not-branch.ensures.items ∙ sym (no_idles c.args.tables.now (stations_in c.args.tables.now) none)
+
+pub loop-station-init : goal.loop-station-init
+loop-station-init c = c.new-idles.ensures.items ∙ sym (first_station c.args.tables.now)
+
+pub loop-station-preserved : goal.loop-station-preserved
+loop-station-preserved c =
+    c.in_ok-push_idles.ensures ∙ ap (λ xs. xs ++ map (idle_at c.loop-station.station) (idle_minutes c.args.tables.now c.loop-station.station)) c.loop-station.invariant
+    ∙ sym (station_more c.args.tables.now c.loop-station.station)
+
+pub returns : goal.returns
+returns c = c.from_vec-2.ensures ∙ c.loop-station.invariant ∙ ap (idles_below c.args.tables.now) (omega (arith, c.loop-station-test.false, c.loop-station.auto.station-end, c.station_count-station-end.ensures))

@@ -1,0 +1,8 @@
+use Rattle.island_cut.proofs.Raised.{no_counts}
+use Rattle.island_cut.proofs.movements.no_counts.Goals as goal
+
+pub returns-clause-counts : goal.returns-clause-counts
+returns-clause-counts c = (no_counts _ (c.in_ok-vec.ensures.items_if_clones_equal (λ y h. h))).0
+
+pub returns-clause-none : goal.returns-clause-none
+returns-clause-none c = (no_counts _ (c.in_ok-vec.ensures.items_if_clones_equal (λ y h. h))).1
