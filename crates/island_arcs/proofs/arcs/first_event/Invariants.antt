@@ -1,0 +1,5 @@
+use Rattle.island_arcs.specs.EventMinutes.{IsFirstAmong}
+use Rattle.island_arcs.proofs.arcs.first_event.Given as goal
+
+abbrev pub invariant-loop-place : goal.invariant-loop-place
+invariant-loop-place l = IsFirstAmong l.events l.place l.first

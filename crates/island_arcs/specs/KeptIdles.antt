@@ -1,0 +1,32 @@
+-- The idle minutes of a subproblem: those of the tables, where each kept pair may be flown, and else none.
+use Rattle.std.specs.Prelude.{◌≡◌, ℕ, ◌==◌, ◌&&◌, not, Bool, if◌then◌else◌, List, []}
+use Rattle.sums.specs.Below.{count_below, sum_below}
+use Rattle.fleet_model.specs.declared.tables.Tables.{Tables}
+use Rattle.fleet_model.specs.Kept.{Domains, all_pairs}
+use Rattle.fleet_model.specs.Schedule.{fleets_in, leg_on, legs_in}
+use Rattle.island_cut.specs.declared.idle_minutes.Idle.{Idle}
+use Rattle.island_cut.specs.Islands.{idles_of, is_idle}
+
+-- the pair is kept and may not be flown
+abbrev pub is_strange : Tables → Domains → ℕ → ℕ → Bool
+is_strange t keeps l f = keeps (leg_on l f) && not (all_pairs t (leg_on l f))
+
+-- how many such pairs the leg has
+abbrev pub strange_on : Tables → Domains → ℕ → ℕ
+strange_on t keeps l = count_below (is_strange t keeps l) (fleets_in t)
+
+-- each kept pair may be flown
+unfoldable pub keeps_allowed : Tables → Domains → Bool
+keeps_allowed t keeps = sum_below (strange_on t keeps) (legs_in t) == 0
+
+-- the station is empty at the end of the minute, whatever the subproblem's mixed plan
+abbrev pub idle_in : Tables → Domains → ℕ → ℕ → Bool
+idle_in t keeps s m = keeps_allowed t keeps && is_idle t s m
+
+-- these minutes, by station, then minute
+abbrev pub idles_in : Tables → Domains → List Idle
+idles_in t keeps = if keeps_allowed t keeps then idles_of t else []
+
+-- a list has these minutes
+pub record AreIdleIn (t : Tables) (keeps : Domains) (idle : List Idle) : Type 0 where
+  pub are : idle ≡ idles_in t keeps

@@ -1,0 +1,5 @@
+pub mod ArcLaws
+pub mod EventMinutes
+pub mod KeptIdles
+pub mod Moments
+pub mod Waits
