@@ -26,14 +26,14 @@ use Rattle.cert_check.specs.Verdicts.{AreSound}
 use Rattle.cert_check.proofs.NodeRules.{prices_known}
 use Rattle.presolve.specs.Removals.{kept_after, without}
 use Rattle.presolve.specs.declared.trims.Trim.{Trim as Removal}
-use Rattle.branch_bound.specs.Closing.{closed}
-use Rattle.branch_bound.specs.Found.{FallsShort, LeavesGap}
+use Rattle.node_bounding.specs.Closing.{closed}
+use Rattle.node_bounding.specs.Found.{FallsShort, LeavesGap}
 use Rattle.branch_bound.specs.History.{IsAtLevel, IsReachedNode}
-use Rattle.branch_bound.specs.Trims.{AreBelow, AreSearched}
-use Rattle.branch_bound.specs.Worked.{IsWaitingWorth, Worked, own_node, searched_in, worked_at, worked_in}
-use Rattle.branch_bound.proofs.Closings.{by_reach}
-use Rattle.branch_bound.proofs.Nodes.{all_more, all_one, any_after, any_second, first_all, node, second_all}
-use Rattle.branch_bound.proofs.Orders.{ceiling_of}
+use Rattle.node_bounding.specs.Trims.{AreBelow, AreSearched}
+use Rattle.node_bounding.specs.Worked.{IsWaitingWorth, Worked, own_node, searched_in, worked_at, worked_in}
+use Rattle.node_bounding.proofs.Closings.{by_reach}
+use Rattle.node_bounding.proofs.Nodes.{all_more, all_one, any_after, any_second, first_all, node, second_all}
+use Rattle.node_bounding.proofs.Orders.{ceiling_of}
 
 -- where nothing is removed, each split adds two nodes
 two_each : (t : Tables) (keeps : Domains) (rest : Tree) → AreSearched t keeps rest → length (nodes_in keeps rest) ≡ suc (splits_in rest + splits_in rest)

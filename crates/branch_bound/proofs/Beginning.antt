@@ -6,15 +6,16 @@ use Rattle.fleet_model.specs.Kept.{Domains}
 use Rattle.fleet_model.specs.Whole.{KeepAllowed}
 use Rattle.fleet_model.specs.declared.tables.Tables.{Tables}
 use Rattle.dual_bound.specs.declared.prices.Prices.{Prices}
-use Rattle.branch_bound.specs.Causes.{zero_prices}
-use Rattle.branch_bound.specs.Examined.{IsExamined, IsFoundHere, IsFresh}
+use Rattle.node_bounding.specs.Causes.{zero_prices}
+use Rattle.node_bounding.specs.Examined.{IsExamined, IsFoundHere, IsFresh}
 use Rattle.branch_bound.specs.History.{Chronicle, IsAtLevel, IsNumbered, IsPlaced, IsPut, IsRightAt, IsSearch, IsSingle, IsTold}
 use Rattle.branch_bound.specs.Ranks.{AreRanks, IsRankIn, IsWaitingAt, ranks_with}
-use Rattle.branch_bound.specs.Search.{IsNoMore, IsPlan, IsRight, at, cost_of, node_of}
-use Rattle.branch_bound.specs.declared.search.Plan.{Plan}
+use Rattle.node_bounding.specs.Subproblems.{IsNoMore, IsPlan, IsRight, cost_of, node_of}
+use Rattle.branch_bound.specs.Search.{at}
+use Rattle.node_bounding.specs.declared.plans.Plan.{Plan}
 use Rattle.branch_bound.specs.declared.search.Search.{Search}
-use Rattle.branch_bound.specs.declared.subproblems.State.{State}
-use Rattle.branch_bound.specs.declared.subproblems.State.TheVariants as state
+use Rattle.node_bounding.specs.declared.states.State.{State}
+use Rattle.node_bounding.specs.declared.states.State.TheVariants as state
 use Rattle.branch_bound.specs.declared.subproblems.Subproblem.{Subproblem}
 use Rattle.branch_bound.proofs.Fresh.{fresh_parts, fresh_single, fresh_turn, leaf_level}
 use Rattle.branch_bound.proofs.Ranking.{all_with, inserted_with}

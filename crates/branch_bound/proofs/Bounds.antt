@@ -24,8 +24,8 @@ use Rattle.cert_check.specs.Rules.{IsSound, Reaches}
 use Rattle.cert_check.specs.Verdicts.{AreSound}
 use Rattle.cert_check.specs.declared.rules.Rule.TheVariants as rule
 use Rattle.cert_check.proofs.NodeRules.{prices_known}
-use Rattle.branch_bound.specs.Found.{AnswersSole, FallsShort, LeavesGap}
-use Rattle.branch_bound.proofs.Nodes.{first_all, node, second_all}
+use Rattle.node_bounding.specs.Found.{AnswersSole, FallsShort, LeavesGap}
+use Rattle.node_bounding.proofs.Nodes.{first_all, node, second_all}
 
 -- ---- the one assignment that is left
 -- the last number below n that passes

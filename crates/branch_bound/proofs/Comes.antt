@@ -9,18 +9,19 @@ use Rattle.fleet_model.specs.Kept.{Domains}
 use Rattle.fleet_model.specs.declared.tables.Tables.{Tables}
 use Rattle.dual_bound.specs.declared.trees.Tree.{Tree}
 use Rattle.dual_bound.specs.declared.trees.Tree.TheVariants as tree
-use Rattle.branch_bound.specs.Examined.{IsDoneLeaf}
+use Rattle.node_bounding.specs.Examined.{IsDoneLeaf}
 use Rattle.branch_bound.specs.History.{AreGathered, AreLinked, Chronicle, ComesTo, IsDone, IsGrownTree, IsReachedNode, IsRightAt, IsSingle, gathered, gathered_at, prices_above}
 use Rattle.branch_bound.specs.Ranks.{IsOver, IsReachedBy, IsWaitingAt}
-use Rattle.branch_bound.specs.Search.{IsFractional, IsNoMore, IsRight, at, cost_of, node_of}
-use Rattle.branch_bound.specs.Worked.{Worked, own_node, worked_in}
-use Rattle.branch_bound.specs.declared.search.Plan.{Plan}
+use Rattle.node_bounding.specs.Subproblems.{IsFractional, IsNoMore, IsRight, cost_of, node_of}
+use Rattle.branch_bound.specs.Search.{at}
+use Rattle.node_bounding.specs.Worked.{Worked, own_node, worked_in}
+use Rattle.node_bounding.specs.declared.plans.Plan.{Plan}
 use Rattle.branch_bound.specs.declared.search.Search.{Search}
-use Rattle.branch_bound.specs.declared.subproblems.State.{State}
-use Rattle.branch_bound.specs.declared.subproblems.State.TheVariants as state
+use Rattle.node_bounding.specs.declared.states.State.{State}
+use Rattle.node_bounding.specs.declared.states.State.TheVariants as state
 use Rattle.branch_bound.specs.declared.subproblems.Subproblem.{Subproblem}
 use Rattle.branch_bound.proofs.Fresh.{leaf_reached}
-use Rattle.branch_bound.proofs.Orders.{no_more_same, one_ceiling}
+use Rattle.node_bounding.proofs.Orders.{no_more_same, one_ceiling}
 
 -- ---- each subproblem by itself
 single_leaf : (keeps : Domains) (leaf : Tree) → IsDoneLeaf leaf → worked_in keeps leaf ≡ record { keeps = keeps; node = own_node leaf } ∷ []

@@ -17,19 +17,20 @@ use Rattle.dual_bound.specs.declared.trees.Cause.TheVariants as cause
 use Rattle.dual_bound.specs.declared.trees.Tree.{Split, Tree}
 use Rattle.dual_bound.specs.declared.trees.Tree.TheVariants as tree
 use Rattle.cert_check.specs.Nodes.{nodes_in}
-use Rattle.branch_bound.specs.Causes.{zero_prices}
+use Rattle.node_bounding.specs.Causes.{zero_prices}
 use Rattle.branch_bound.specs.History.{AreGathered, AreLinked, Chronicle, HasItsParts, HasParts, IsFolded, IsFrom, IsGrownTree, IsJoined, IsJoinedFrom, IsLinked, IsPartOf, IsRightAt, IsSplitState, KeepsBy, gathered, gathered_at, prices_above, prices_in, tree_of_state}
-use Rattle.branch_bound.specs.Search.{IsFractional, IsPart, IsRight, IsSplitBy, at, node_of, nothing, step_into}
-use Rattle.branch_bound.specs.Trims.{AreSearched}
-use Rattle.branch_bound.specs.Worked.{Worked, worked_at, worked_in}
-use Rattle.branch_bound.specs.declared.subproblems.Fraction.{Fraction}
+use Rattle.node_bounding.specs.Subproblems.{IsFractional, IsPart, IsRight, node_of}
+use Rattle.branch_bound.specs.Search.{IsSplitBy, at, nothing, step_into}
+use Rattle.node_bounding.specs.Trims.{AreSearched}
+use Rattle.node_bounding.specs.Worked.{Worked, worked_at, worked_in}
+use Rattle.node_bounding.specs.declared.states.Fraction.{Fraction}
 use Rattle.branch_bound.specs.declared.subproblems.Origin.{Origin}
-use Rattle.branch_bound.specs.declared.subproblems.State.{State}
-use Rattle.branch_bound.specs.declared.subproblems.State.TheVariants as state
+use Rattle.node_bounding.specs.declared.states.State.{State}
+use Rattle.node_bounding.specs.declared.states.State.TheVariants as state
 use Rattle.branch_bound.specs.declared.subproblems.Subproblem.{Subproblem}
-use Rattle.branch_bound.proofs.Leaves.{answers_none, open_sound}
-use Rattle.branch_bound.proofs.Nodes.{all_one}
-use Rattle.branch_bound.proofs.Parts.{leaf_part, split_part}
+use Rattle.node_bounding.proofs.Leaves.{answers_none, open_sound}
+use Rattle.node_bounding.proofs.Nodes.{all_one}
+use Rattle.node_bounding.proofs.Parts.{leaf_part, split_part}
 
 -- ---- the tree of a subproblem that was not split
 waiting_part : (t : Tables) (pivots : ℕ) (final : Option ℤ) (keeps : Domains) (above : Prices) (f : Fraction) → IsFractional t keeps f → IsPart t pivots final keeps above (tree.Open f.prices (cause.Nodes f.mixed))

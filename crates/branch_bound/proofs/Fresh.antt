@@ -7,13 +7,13 @@ use Rattle.dual_bound.specs.declared.trees.Cause.{Cause}
 use Rattle.dual_bound.specs.declared.trees.Cause.TheVariants as cause
 use Rattle.dual_bound.specs.declared.trees.Tree.{Tree}
 use Rattle.dual_bound.specs.declared.trees.Tree.TheVariants as tree
-use Rattle.branch_bound.specs.Examined.{IsDoneLeaf, IsFresh, IsStoppedBy}
+use Rattle.node_bounding.specs.Examined.{IsDoneLeaf, IsFresh, IsStoppedBy}
 use Rattle.branch_bound.specs.History.{HasItsParts, IsAtLevel, IsReachedNode, IsSingle}
-use Rattle.branch_bound.specs.Made.{IsInTurn, WaitsAs}
-use Rattle.branch_bound.specs.Search.{node_of}
-use Rattle.branch_bound.specs.Worked.{IsOpenWorth, Worked, own_node}
-use Rattle.branch_bound.specs.declared.subproblems.State.{State}
-use Rattle.branch_bound.specs.declared.subproblems.State.TheVariants as state
+use Rattle.node_bounding.specs.Made.{IsInTurn, WaitsAs}
+use Rattle.node_bounding.specs.Subproblems.{node_of}
+use Rattle.node_bounding.specs.Worked.{IsOpenWorth, Worked, own_node}
+use Rattle.node_bounding.specs.declared.states.State.{State}
+use Rattle.node_bounding.specs.declared.states.State.TheVariants as state
 use Rattle.branch_bound.specs.declared.subproblems.Subproblem.{Subproblem}
 
 -- ---- leaves

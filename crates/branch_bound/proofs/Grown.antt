@@ -13,7 +13,7 @@ use Rattle.branch_bound.specs.Search.{at, nothing, step_into}
 use Rattle.branch_bound.specs.declared.ranks.Rank.{Rank}
 use Rattle.branch_bound.specs.declared.search.Search.{Search}
 use Rattle.branch_bound.specs.declared.subproblems.Origin.{Origin}
-use Rattle.branch_bound.specs.declared.subproblems.State.{State}
+use Rattle.node_bounding.specs.declared.states.State.{State}
 use Rattle.branch_bound.specs.declared.subproblems.Subproblem.{Subproblem}
 
 abbrev of : ℕ → Pair → Bool → Option Origin

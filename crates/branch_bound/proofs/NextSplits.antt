@@ -8,20 +8,21 @@ use Rattle.fleet_model.specs.Whole.{KeepAllowed}
 use Rattle.fleet_model.specs.declared.kept.Step.{Step}
 use Rattle.fleet_model.specs.declared.parts.Pair.{Pair}
 use Rattle.fleet_model.specs.declared.tables.Tables.{Tables}
-use Rattle.branch_bound.specs.Examined.{IsExamined}
+use Rattle.node_bounding.specs.Examined.{IsExamined}
 use Rattle.branch_bound.specs.History.{IsFrom, IsGrown, IsRightAt, IsSearch, IsSplitSearch, IsTold, KeepsBy, WaitsWith, prices_above}
 use Rattle.branch_bound.specs.Ranks.{AreRanks, IsNext, IsRankIn, IsWaitingAt, ranks_with}
-use Rattle.branch_bound.specs.Relaxed.{AreGood}
-use Rattle.branch_bound.specs.Search.{HaveOrigins, IsFractional, IsLater, IsNoMore, IsPlan, IsRight, at, cost_of, nothing, step_into}
-use Rattle.branch_bound.specs.Worked.{Worked}
+use Rattle.node_bounding.specs.Relaxed.{AreGood}
+use Rattle.node_bounding.specs.Subproblems.{IsFractional, IsNoMore, IsPlan, IsRight, cost_of}
+use Rattle.branch_bound.specs.Search.{HaveOrigins, IsLater, at, nothing, step_into}
+use Rattle.node_bounding.specs.Worked.{Worked}
 use Rattle.branch_bound.specs.declared.ranks.Rank.{Rank}
 use Rattle.branch_bound.specs.declared.search.Search.{Search}
-use Rattle.branch_bound.specs.declared.subproblems.Fraction.{Fraction}
+use Rattle.node_bounding.specs.declared.states.Fraction.{Fraction}
 use Rattle.branch_bound.specs.declared.subproblems.Origin.{Origin}
-use Rattle.branch_bound.specs.declared.subproblems.State.{State}
-use Rattle.branch_bound.specs.declared.subproblems.State.TheVariants as state
+use Rattle.node_bounding.specs.declared.states.State.{State}
+use Rattle.node_bounding.specs.declared.states.State.TheVariants as state
 use Rattle.branch_bound.specs.declared.subproblems.Subproblem.{Subproblem}
-use Rattle.branch_bound.proofs.Orders.{no_more_same}
+use Rattle.node_bounding.proofs.Orders.{no_more_same}
 use Rattle.branch_bound.proofs.Ranking.{ranks_grown}
 use Rattle.branch_bound.proofs.Splitting.{HasGrown, has_grown}
 

@@ -18,11 +18,11 @@ use Rattle.dual_bound.specs.Worth.{worth_of}
 use Rattle.dual_bound.specs.declared.mixed.Mixed.{Mixed}
 use Rattle.dual_bound.specs.declared.prices.Prices.{Prices}
 use Rattle.dual_bound.proofs.Duality.{ceiling_is_lower_bound, weak_duality}
-use Rattle.branch_bound.specs.Examined.{IsExamined, IsFoundHere}
-use Rattle.branch_bound.specs.Relaxed.{AreBest}
-use Rattle.branch_bound.specs.Search.{IsPlan, cost_of, node_of}
-use Rattle.branch_bound.specs.declared.search.Plan.{Plan}
-use Rattle.branch_bound.specs.declared.subproblems.State.{State}
+use Rattle.node_bounding.specs.Examined.{IsExamined, IsFoundHere}
+use Rattle.node_bounding.specs.Relaxed.{AreBest}
+use Rattle.node_bounding.specs.Subproblems.{IsPlan, cost_of, node_of}
+use Rattle.node_bounding.specs.declared.plans.Plan.{Plan}
+use Rattle.node_bounding.specs.declared.states.State.{State}
 use Rattle.dual_bound.specs.declared.nodes.Node.{Node}
 
 -- ---- of the pairs that a part keeps, the whole keeps each

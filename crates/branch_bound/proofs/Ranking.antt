@@ -10,13 +10,13 @@ use Rattle.std.proofs.lemmas.Int.{ints}
 use Rattle.std.proofs.lemmas.Map.Views.{All-insert_key}
 use Rattle.fleet_model.specs.declared.parts.Pair.{Pair}
 use Rattle.branch_bound.specs.History.{IsGrown, split_state}
-use Rattle.branch_bound.specs.Made.{IsNextBefore}
+use Rattle.node_bounding.specs.Made.{IsNextBefore}
 use Rattle.branch_bound.specs.Ranks.{AreRanks, ComesBefore, IsRankIn, IsWaitingAt, rank_cmp, ranks_with}
 use Rattle.branch_bound.specs.Search.{at}
 use Rattle.branch_bound.specs.declared.ranks.Rank.{Rank}
-use Rattle.branch_bound.specs.declared.subproblems.Fraction.{Fraction}
-use Rattle.branch_bound.specs.declared.subproblems.State.{State}
-use Rattle.branch_bound.specs.declared.subproblems.State.TheVariants as state
+use Rattle.node_bounding.specs.declared.states.Fraction.{Fraction}
+use Rattle.node_bounding.specs.declared.states.State.{State}
+use Rattle.node_bounding.specs.declared.states.State.TheVariants as state
 use Rattle.branch_bound.specs.declared.subproblems.Subproblem.{Subproblem}
 use Rattle.branch_bound.proofs.Updates.{by_new}
 

@@ -12,9 +12,9 @@ use Rattle.cert_check.specs.Rules.{IsSound}
 use Rattle.cert_check.specs.Verdicts.{AreSound, BreaksAt}
 use Rattle.branch_bound.specs.Settled.{IsProvedBy}
 use Rattle.branch_bound.specs.Solved.{IsPlanned, IsRefuted, IsUnsettled}
-use Rattle.branch_bound.specs.declared.search.Plan.{Plan}
+use Rattle.node_bounding.specs.declared.plans.Plan.{Plan}
 use Rattle.branch_bound.proofs.Bounds.{closed_bound, open_bound}
-use Rattle.branch_bound.proofs.Nodes.{second_all}
+use Rattle.node_bounding.proofs.Nodes.{second_all}
 
 -- a tree whose nodes keep all rules breaks none
 pub never_broken : (t : Tables) (cost : Option ℤ) (whole : Tree) (node number : ℕ) → AreSound t cost (all_pairs t) whole → ¬ (BreaksAt t cost whole node number)

@@ -18,24 +18,24 @@ use Rattle.dual_bound.specs.declared.trees.Tree.TheVariants as tree
 use Rattle.cert_check.specs.Nodes.{Node as TreeNode, nodes_in, nodes_of}
 use Rattle.cert_check.specs.Verdicts.{AreSound}
 use Rattle.presolve.specs.Removals.{kept_after}
-use Rattle.branch_bound.specs.Causes.{zero_prices}
-use Rattle.branch_bound.specs.Closing.{closed, closed_by}
-use Rattle.branch_bound.specs.Found.{AnswersSole, IsEndOf, IsFoundAt, LeavesGap}
+use Rattle.node_bounding.specs.Causes.{zero_prices}
+use Rattle.node_bounding.specs.Closing.{closed, closed_by}
+use Rattle.node_bounding.specs.Found.{AnswersSole, IsEndOf, IsFoundAt, LeavesGap}
 use Rattle.branch_bound.specs.History.{IsAtLevel, IsGrownTree, IsPlaced, IsReachedNode}
-use Rattle.branch_bound.specs.Made.{AreMade}
-use Rattle.branch_bound.specs.Search.{IsPart, cost_of}
+use Rattle.node_bounding.specs.Made.{AreMade}
+use Rattle.node_bounding.specs.Subproblems.{IsPart, cost_of}
 use Rattle.branch_bound.specs.Settled.{IsAllFound, IsProvedBy, plan_of}
 use Rattle.branch_bound.specs.Solved.{IsLeastFirst, IsLeft, IsRight, IsSolved, IsTreeOf, tree_of}
-use Rattle.branch_bound.specs.Trims.{IsTrimmed}
-use Rattle.branch_bound.specs.Worked.{own_node, worked_at}
-use Rattle.branch_bound.specs.declared.search.Plan.{Plan}
+use Rattle.node_bounding.specs.Trims.{IsTrimmed}
+use Rattle.node_bounding.specs.Worked.{own_node, worked_at}
+use Rattle.node_bounding.specs.declared.plans.Plan.{Plan}
 use Rattle.branch_bound.specs.declared.solved.Solved.{Solved}
 use Rattle.branch_bound.specs.declared.solved.Solved.TheVariants as solved
 use Rattle.branch_bound.proofs.AllNodes.{all_below, all_closed, any_below, at_node, at_nodes, nodes_twice, none_open, searched_below, split_level, splits_below, waiting_level}
-use Rattle.branch_bound.proofs.Closings.{closed_caused, closed_depth, closed_gaps, closed_known, closed_order, closed_soles, closed_sound, closed_splits, closed_trimmed, found_closed}
-use Rattle.branch_bound.proofs.Orders.{no_more_same}
-use Rattle.branch_bound.proofs.PairsKept.{few_pairs}
-use Rattle.branch_bound.proofs.RemovedPairs.{below_part, on_top}
+use Rattle.node_bounding.proofs.Closings.{closed_caused, closed_depth, closed_gaps, closed_known, closed_order, closed_soles, closed_sound, closed_splits, closed_trimmed, found_closed}
+use Rattle.node_bounding.proofs.Orders.{no_more_same}
+use Rattle.node_bounding.proofs.PairsKept.{few_pairs}
+use Rattle.node_bounding.proofs.RemovedPairs.{below_part, on_top}
 
 -- without a plan nothing is below a cost
 no_gaps : (t : Tables) (nodes : List TreeNode) → All (LeavesGap t None) nodes

@@ -1,5 +1,5 @@
 -- What a search knows once the subproblem that is next was split.
-use Rattle.std.proofs.Common.{◌≡◌, ◌≢◌, ℕ, suc, ◌<◌, ◌≤◌, Bool, true, false, if◌then◌else◌, List, All, length, Option, Some, None, IfSome, IsSomeAnd, ℤ, ◌≤ℤ◌, ◌<ℤ◌, inl, inr, ◌⊎◌, refl, sym, ◌∙◌, ap, subst, arith}
+use Rattle.std.proofs.Common.{◌≡◌, ◌≢◌, ℕ, suc, ◌<◌, ◌≤◌, Bool, true, false, List, All, length, Option, Some, None, IfSome, IsSomeAnd, ℤ, ◌≤ℤ◌, ◌<ℤ◌, inl, inr, ◌⊎◌, refl, sym, ◌∙◌, ap, subst, arith}
 use Rattle.std.specs.List.{Contains}
 use Rattle.std.proofs.lemmas.Bool.{cases_eq}
 use Rattle.std.proofs.lemmas.Int.{ints}
@@ -7,7 +7,6 @@ use Rattle.std.proofs.lemmas.List.Elements.{All-contains}
 use Rattle.frac_row.specs.Ratio.{IsCeiling}
 use Rattle.fleet_model.specs.Kept.{Domains, narrowed}
 use Rattle.fleet_model.specs.Schedule.{IsPair, leg_on}
-use Rattle.fleet_model.specs.Whole.{KeepAllowed}
 use Rattle.fleet_model.specs.declared.parts.Pair.{Pair}
 use Rattle.fleet_model.specs.declared.tables.Tables.{Tables}
 use Rattle.dual_bound.specs.Bound.{lesser_bound, part}
@@ -16,25 +15,26 @@ use Rattle.dual_bound.specs.declared.nodes.Node.{Node}
 use Rattle.dual_bound.specs.declared.nodes.Node.TheVariants as node
 use Rattle.dual_bound.specs.declared.prices.Prices.{Prices}
 use Rattle.dual_bound.specs.declared.trees.Cause.TheVariants as cause
-use Rattle.branch_bound.specs.Examined.{IsExamined, IsFoundHere, IsFresh}
-use Rattle.branch_bound.specs.Found.{EndsAt, IsEndOf}
-use Rattle.branch_bound.specs.History.{Chronicle, HasItsParts, HasParts, IsAtLevel, IsFrom, IsGrown, IsNumbered, IsPartOf, IsPlaced, IsRightAt, IsSingle, IsTold, KeepsBy, prices_above, prices_in, split_state}
-use Rattle.branch_bound.specs.Made.{IsBelowBest, IsInTurn, IsMadeAs, IsNextBefore, IsSplitInTurn, WaitsAs, best_before}
+use Rattle.node_bounding.specs.Examined.{IsExamined, IsFoundHere}
+use Rattle.node_bounding.specs.Found.{EndsAt, IsEndOf}
+use Rattle.branch_bound.specs.History.{Chronicle, IsAtLevel, IsFrom, IsGrown, IsNumbered, IsPlaced, IsRightAt, IsSingle, IsTold, prices_above, prices_in, split_state}
+use Rattle.node_bounding.specs.Made.{IsBelowBest, IsInTurn, IsMadeAs, IsNextBefore, IsSplitInTurn, WaitsAs, best_before}
 use Rattle.branch_bound.specs.Ranks.{AreRanks, IsNoLater, IsWaitingAt}
-use Rattle.branch_bound.specs.Search.{IsFractional, IsNoMore, IsRight, IsSplitBy, at, cost_of, node_of, step_into}
-use Rattle.branch_bound.specs.Worked.{Worked}
+use Rattle.node_bounding.specs.Subproblems.{IsFractional, IsNoMore, IsRight, cost_of, node_of}
+use Rattle.branch_bound.specs.Search.{at, step_into}
+use Rattle.node_bounding.specs.Worked.{Worked}
 use Rattle.branch_bound.specs.declared.ranks.Rank.{Rank}
-use Rattle.branch_bound.specs.declared.search.Plan.{Plan}
-use Rattle.branch_bound.specs.declared.subproblems.Fraction.{Fraction}
+use Rattle.node_bounding.specs.declared.plans.Plan.{Plan}
+use Rattle.node_bounding.specs.declared.states.Fraction.{Fraction}
 use Rattle.branch_bound.specs.declared.subproblems.Origin.{Origin}
-use Rattle.branch_bound.specs.declared.subproblems.State.{State}
-use Rattle.branch_bound.specs.declared.subproblems.State.TheVariants as state
+use Rattle.node_bounding.specs.declared.states.State.{State}
+use Rattle.node_bounding.specs.declared.states.State.TheVariants as state
 use Rattle.branch_bound.specs.declared.subproblems.Subproblem.{Subproblem}
-use Rattle.branch_bound.proofs.Allowed.{allowed_part}
-use Rattle.branch_bound.proofs.Fresh.{fresh_parts, fresh_single, fresh_turn, leaf_level, leaf_waits_not}
-use Rattle.branch_bound.proofs.Orders.{lesser_no_more, no_more_on, no_more_same, one_ceiling}
+use Rattle.branch_bound.proofs.Fresh.{fresh_single, fresh_turn, leaf_level, leaf_waits_not}
+use Rattle.node_bounding.proofs.Orders.{lesser_no_more, no_more_on, no_more_same, one_ceiling}
 use Rattle.branch_bound.proofs.Parting.{cost_no_less, part_no_less}
 use Rattle.branch_bound.proofs.Updates.{by_new, put_at, put_else, put_here, put_three, same_best, three_first, three_here, three_old, three_second}
+use Rattle.branch_bound.proofs.Numbering.{no_parent, numbered_grown as numbers_grown}
 
 -- what became of a subproblem, with its parts replaced by equal ones
 abbrev As : Tables → Option ℤ → Worked → Option ℤ → Type 0
@@ -348,106 +348,13 @@ module _ (t : Tables) (root : Domains) (pivots : ℕ) (best mid after : Option P
   told_grown = record { each = each_grown; turns = turns_grown; cheapest = sym best_after; levels = levels_grown; cost_from = cost_grown; place = place_grown }
 
   -- ---- the list
-  origin_old : (k : ℕ) → k < n → (at grown k).origin ≡ (at all k).origin
-  origin_old k less = elim (cases_eq k b) [
-    | inl same ↦ ap (λ j. (at grown j).origin) same ∙ ap (λ s. s.origin) is.split ∙ sym (ap (λ j. (at all j).origin) same)
-    | inr other ↦ ap (λ s. s.origin) (is.same k less other)
-  ]
-
-  -- none is a part of the one that is next
-  no_parent : (k : ℕ) (origin : Origin) → IsPartOf all c.parts k origin → origin.parent ≢ b
-  no_parent k origin from same =
-      let split : IsSplitBy origin.step (state.Waiting f) = subst (λ s. IsSplitBy origin.step s) (ap (λ j. (at all j).state) same ∙ state_is) from.of_split in
-      split
-
-  from_old : (k : ℕ) (o : Option Origin) → k < n → IsFrom all c.parts k o → IsFrom grown parts k o
-  from_old k None less from = from
-  from_old k (Some origin) less from =
-      let other = no_parent k origin from in
-      record {
-        earlier = from.earlier;
-        of_split = subst (λ s. IsSplitBy origin.step s.state) (sym (is.same origin.parent (omega (arith, from.earlier, less)) other)) from.of_split;
-        place = subst (λ p. ◌≡◌ {A = ℕ} k (if origin.step.yes then p else suc p)) (sym (parts_old origin.parent other)) from.place;
-      }
-
-  parts_stand : (k : ℕ) (p : Pair) → k < n → k ≢ b → HasParts all c.parts k p → HasParts grown parts k p
-  parts_stand k p less other has =
-      let same : parts k ≡ c.parts k = parts_old k other in
-      record {
-        within = omega (arith, has.within, same, is.longer);
-        with_pair = ap (λ i. (at grown i).origin) same ∙ origin_old (c.parts k) (omega (arith, has.within)) ∙ has.with_pair;
-        without = ap (λ i. (at grown (suc i)).origin) same ∙ origin_old (suc (c.parts k)) has.within ∙ has.without;
-      }
-
-  own_old : (k : ℕ) (s : State) → k < n → k ≢ b → HasItsParts all c.parts k s → HasItsParts grown parts k s
-  own_old k (state.Leaf leaf) less other has = tt
-  own_old k (state.Waiting g) less other has = tt
-  own_old k (state.Split g) less other has = parts_stand k (leg_on g.leg g.fleet) less other has
-
-  own_here : HasParts grown parts b (leg_on f.leg f.fleet)
-  own_here = record {
-    within = omega (arith, parts_here, is.longer);
-    with_pair = ap (λ i. (at grown i).origin) parts_here ∙ ap (λ s. s.origin) is.with_pair ∙ ap (λ p. Some (record { parent = b; step = step_into p true })) pair_is;
-    without = ap (λ i. (at grown (suc i)).origin) parts_here ∙ ap (λ s. s.origin) is.without ∙ ap (λ p. Some (record { parent = b; step = step_into p false })) pair_is;
-  }
-
-  keeps_by_old : (k : ℕ) (o : Option Origin) → k < n → IsFrom all c.parts k o → KeepsBy t root c.made k o → KeepsBy t root made k o
-  keeps_by_old k None less from by = keeps_old k less ∙ by
-  keeps_by_old k (Some origin) less from by =
-      (by.0, keeps_old k less ∙ by.1 ∙ ap (λ d. narrowed d origin.step) (sym (keeps_old origin.parent (omega (arith, from.earlier, less)))))
-
-  numbered_old : (k : ℕ) → k < n → k ≢ b → IsNumbered t root grown goes_on k
-  numbered_old k less other =
-      let old = numbered k less in
-      let same = is.same k less other in
-      record {
-        linked = record {
-          from = subst (λ o. IsFrom grown parts k o) (sym (ap (λ s. s.origin) same)) (from_old k (at all k).origin less old.linked.from);
-          own = subst (λ s. HasItsParts grown parts k s) (sym (ap (λ s. s.state) same)) (own_old k (at all k).state less other old.linked.own);
-        };
-        node = ap (λ w. w.node) (made_old k less other) ∙ old.node ∙ sym (ap (λ s. node_of s.state) same);
-        keeps = subst (λ o. KeepsBy t root made k o) (sym (ap (λ s. s.origin) same)) (keeps_by_old k (at all k).origin less old.linked.from old.keeps);
-        allowed = subst (KeepAllowed t) (sym (keeps_old k less)) old.allowed;
-      }
-
-  numbered_here : IsNumbered t root grown goes_on b
-  numbered_here =
-      let old = numbered b within in
-      record {
-        linked = record {
-          from = subst (λ o. IsFrom grown parts b o) (sym (origin_old b within)) (from_old b (at all b).origin within old.linked.from);
-          own = subst (λ s. HasItsParts grown parts b s) (sym new_state) own_here;
-        };
-        node = ap (λ w. w.node) made_here ∙ sym (ap node_of new_state);
-        keeps = subst (λ o. KeepsBy t root made b o) (sym (origin_old b within)) (keeps_by_old b (at all b).origin within old.linked.from old.keeps);
-        allowed = subst (KeepAllowed t) (sym (keeps_old b within)) old.allowed;
-      }
-
-  split_by_pair : (taken : Bool) → IsSplitBy (step_into pair taken) (at grown b).state
-  split_by_pair taken = subst (λ s. IsSplitBy (step_into pair taken) s) (sym new_state) (ap (λ p. p.leg) pair_is, ap (λ p. p.fleet) pair_is)
-
-  -- a part that was made, with this number
-  numbered_part : (k : ℕ) (taken : Bool) (s : State) → b < k → ◌≡◌ {A = ℕ} k (if taken then parts b else suc (parts b)) → at grown k ≡ record { origin = Some (record { parent = b; step = step_into pair taken }); state = s }
-      → made k ≡ record { keeps = narrowed keeps (step_into pair taken); node = node_of s } → IsFresh s → IsNumbered t root grown goes_on k
-  numbered_part k taken s later place there same fresh = record {
-    linked = record {
-      from = subst (λ o. IsFrom grown parts k o) (sym (ap (λ x. x.origin) there)) (record { earlier = later; of_split = split_by_pair taken; place = place });
-      own = subst (λ x. HasItsParts grown parts k x) (sym (ap (λ x. x.state) there)) (fresh_parts grown parts k s fresh);
-    };
-    node = ap (λ w. w.node) same ∙ sym (ap (λ x. node_of x.state) there);
-    keeps = subst (λ o. KeepsBy t root made k o) (sym (ap (λ x. x.origin) there)) (pair_known, ap (λ w. w.keeps) same ∙ sym (ap (λ d. narrowed d (step_into pair taken)) (keeps_old b within)));
-    allowed = subst (λ w. KeepAllowed t w.keeps) (sym same) (allowed_part t keeps (step_into pair taken) (numbered b within).allowed);
-  }
-
   numbered_grown : (k : ℕ) → k < suc (suc n) → IsNumbered t root grown goes_on k
-  numbered_grown = by_new (λ k. IsNumbered t root grown goes_on k) b n numbered_here numbered_old
-      (numbered_part n true yes within (sym parts_here) is.with_pair made_first one.fresh)
-      (numbered_part (suc n) false no (omega (arith, within)) (ap suc (sym parts_here)) is.without made_second two.fresh)
+  numbered_grown = numbers_grown t root all grown c goes_on b f pair yes no numbered within state_is pair_is pair_known is made_old made_here made_first made_second keeps_old parts_here parts_old one.fresh two.fresh
 
   -- ---- what is known of each
   above_old : (k : ℕ) (o : Option Origin) → k < n → IsFrom all c.parts k o → prices_above t made o ≡ prices_above t c.made o
   above_old k None less from = refl
-  above_old k (Some origin) less from = ap (λ w. prices_in t w.node) (made_old origin.parent (omega (arith, from.earlier, less)) (no_parent k origin from))
+  above_old k (Some origin) less from = ap (λ w. prices_in t w.node) (made_old origin.parent (omega (arith, from.earlier, less)) (no_parent all c.parts b f state_is k origin from))
 
   above_part : (taken : Bool) → prices_above t made (Some (record { parent = b; step = step_into pair taken })) ≡ f.prices
   above_part taken = ap (λ w. prices_in t w.node) made_here

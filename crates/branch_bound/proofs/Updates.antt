@@ -2,7 +2,7 @@
 use Rattle.std.proofs.Common.{◌≡◌, ◌≢◌, ℕ, zero, suc, ◌<◌, ◌==◌, if◌then◌else◌, Option, ℤ, inl, inr, refl, sym, ◌∙◌, ap, subst, arith}
 use Rattle.std.proofs.lemmas.Bool.{cases_eq, cases_lt, cond-false, cond-true, eq-eqb, ne_eqb}
 use Rattle.dual_bound.specs.Bound.{lesser_bound}
-use Rattle.branch_bound.specs.Made.{best_before}
+use Rattle.node_bounding.specs.Made.{best_before}
 
 abbrev pub put_at : {X : Type 0} → (ℕ → X) → ℕ → X → ℕ → X
 put_at f n x k = if k == n then x else f k

@@ -6,7 +6,7 @@ use Rattle.fleet_model.specs.declared.limits.TheConstants.{MAX_FLEETS, MAX_LEGS}
 use Rattle.fleet_model.specs.declared.tables.Tables.{Tables}
 use Rattle.branch_bound.specs.History.{KeepsBy}
 use Rattle.branch_bound.specs.Search.{HaveOrigins, IsLater, at}
-use Rattle.branch_bound.specs.Worked.{Worked}
+use Rattle.node_bounding.specs.Worked.{Worked}
 use Rattle.branch_bound.specs.declared.subproblems.Origin.{Origin}
 use Rattle.branch_bound.specs.declared.subproblems.Subproblem.{Subproblem}
 

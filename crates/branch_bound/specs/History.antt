@@ -16,21 +16,22 @@ use Rattle.dual_bound.specs.declared.prices.Prices.{Prices}
 use Rattle.dual_bound.specs.declared.trees.Cause.TheVariants as cause
 use Rattle.dual_bound.specs.declared.trees.Tree.{Split, Tree}
 use Rattle.dual_bound.specs.declared.trees.Tree.TheVariants as tree
-use Rattle.branch_bound.specs.Causes.{zero_prices}
-use Rattle.branch_bound.specs.Examined.{IsDoneLeaf}
-use Rattle.branch_bound.specs.Found.{IsEndOf}
-use Rattle.branch_bound.specs.Made.{IsInTurn, IsMadeAs, best_before}
+use Rattle.node_bounding.specs.Causes.{zero_prices}
+use Rattle.node_bounding.specs.Examined.{IsDoneLeaf}
+use Rattle.node_bounding.specs.Found.{IsEndOf}
+use Rattle.node_bounding.specs.Made.{IsInTurn, IsMadeAs, best_before}
 use Rattle.branch_bound.specs.Ranks.{AreRanks, ComesBefore, IsOver, ranks_with}
-use Rattle.branch_bound.specs.Search.{IsNoMore, IsPart, IsPlan, IsRight, IsSplitBy, at, cost_of, node_of, step_into}
-use Rattle.branch_bound.specs.Trims.{AreSearched}
-use Rattle.branch_bound.specs.Worked.{IsOpenWorth, Worked, worked_in}
+use Rattle.node_bounding.specs.Subproblems.{IsNoMore, IsPart, IsPlan, IsRight, cost_of, node_of}
+use Rattle.branch_bound.specs.Search.{IsSplitBy, at, step_into}
+use Rattle.node_bounding.specs.Trims.{AreSearched}
+use Rattle.node_bounding.specs.Worked.{IsOpenWorth, Worked, worked_in}
 use Rattle.branch_bound.specs.declared.ranks.Rank.{Rank}
-use Rattle.branch_bound.specs.declared.search.Plan.{Plan}
+use Rattle.node_bounding.specs.declared.plans.Plan.{Plan}
 use Rattle.branch_bound.specs.declared.search.Search.{Search}
-use Rattle.branch_bound.specs.declared.subproblems.Fraction.{Fraction}
+use Rattle.node_bounding.specs.declared.states.Fraction.{Fraction}
 use Rattle.branch_bound.specs.declared.subproblems.Origin.{Origin}
-use Rattle.branch_bound.specs.declared.subproblems.State.{State}
-use Rattle.branch_bound.specs.declared.subproblems.State.TheVariants as state
+use Rattle.node_bounding.specs.declared.states.State.{State}
+use Rattle.node_bounding.specs.declared.states.State.TheVariants as state
 use Rattle.branch_bound.specs.declared.subproblems.Subproblem.{Subproblem}
 
 -- Of each subproblem, by its number: what was worked, what a plan costs that was found at it, and where its parts are.

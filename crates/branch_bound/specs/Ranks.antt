@@ -4,12 +4,13 @@ use Rattle.std.specs.List.{Contains}
 use Rattle.std.specs.BTreeSet.{insert_key}
 use Rattle.std.specs.Ordering.{int_cmp, nat_cmp, ordering_then}
 use Rattle.std.specs.declared.cmp.Ordering.{Ordering}
-use Rattle.branch_bound.specs.Made.{IsNextBefore}
-use Rattle.branch_bound.specs.Search.{at, cost_of}
+use Rattle.node_bounding.specs.Made.{IsNextBefore}
+use Rattle.node_bounding.specs.Subproblems.{cost_of}
+use Rattle.branch_bound.specs.Search.{at}
 use Rattle.branch_bound.specs.declared.ranks.Rank.{Rank}
 use Rattle.branch_bound.specs.declared.search.Search.{Search}
-use Rattle.branch_bound.specs.declared.subproblems.State.{State}
-use Rattle.branch_bound.specs.declared.subproblems.State.TheVariants as state
+use Rattle.node_bounding.specs.declared.states.State.{State}
+use Rattle.node_bounding.specs.declared.states.State.TheVariants as state
 use Rattle.branch_bound.specs.declared.subproblems.Subproblem.{Subproblem}
 
 -- by rounded worth, and at a tie by number

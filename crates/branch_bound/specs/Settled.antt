@@ -8,11 +8,11 @@ use Rattle.cert_check.specs.Nodes.{nodes_of}
 use Rattle.cert_check.specs.Verdicts.{AreSound}
 use Rattle.presolve.specs.Removals.{AreRefuted, AreRemovals, first_place, kept_after}
 use Rattle.presolve.specs.declared.trims.Trim.{Trim as Removal}
-use Rattle.branch_bound.specs.Found.{AnswersSole, LeavesGap}
+use Rattle.node_bounding.specs.Found.{AnswersSole, LeavesGap}
 use Rattle.branch_bound.specs.History.{ComesTo}
-use Rattle.branch_bound.specs.Trims.{AreBelow}
-use Rattle.branch_bound.specs.Search.{IsPlan, cost_of}
-use Rattle.branch_bound.specs.declared.search.Plan.{Plan}
+use Rattle.node_bounding.specs.Trims.{AreBelow}
+use Rattle.node_bounding.specs.Subproblems.{IsPlan, cost_of}
+use Rattle.node_bounding.specs.declared.plans.Plan.{Plan}
 use Rattle.branch_bound.specs.declared.solved.Solved.{Solved}
 use Rattle.branch_bound.specs.declared.solved.Solved.TheVariants as solved
 

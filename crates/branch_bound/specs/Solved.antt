@@ -13,12 +13,12 @@ use Rattle.dual_bound.specs.declared.trees.Tree.{Tree}
 use Rattle.cert_check.specs.Nodes.{Node, nodes_of}
 use Rattle.cert_check.specs.Splits.{IsSplitWorth}
 use Rattle.cert_check.specs.Verdicts.{AreSound}
-use Rattle.branch_bound.specs.Causes.{AreCaused, zero_prices}
-use Rattle.branch_bound.specs.Closing.{closed_by}
-use Rattle.branch_bound.specs.Found.{AnswersSole, IsFoundAt, LeavesGap}
-use Rattle.branch_bound.specs.Made.{AreMade}
-use Rattle.branch_bound.specs.Trims.{IsTrimmed}
-use Rattle.branch_bound.specs.Worked.{IsWaitingWorth}
+use Rattle.node_bounding.specs.Causes.{AreCaused, zero_prices}
+use Rattle.node_bounding.specs.Closing.{closed_by}
+use Rattle.node_bounding.specs.Found.{AnswersSole, IsFoundAt, LeavesGap}
+use Rattle.node_bounding.specs.Made.{AreMade}
+use Rattle.node_bounding.specs.Trims.{IsTrimmed}
+use Rattle.node_bounding.specs.Worked.{IsWaitingWorth}
 use Rattle.branch_bound.specs.declared.solved.Solved.{Solved}
 use Rattle.branch_bound.specs.declared.solved.Solved.TheVariants as solved
 

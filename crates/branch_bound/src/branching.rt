@@ -3,20 +3,20 @@ ghost use Rattle.std.specs.Prelude.{◌≡◌, ◌<◌, suc, length, Some, IfOk,
 ghost use Rattle.fleet_model.specs.Kept.{kept_by, narrowed};
 ghost use Rattle.fleet_model.specs.Schedule.{IsPair, leg_on};
 ghost use Rattle.fleet_model.specs.Whole.{KeepAllowed};
-ghost use Rattle.branch_bound.specs.Examined.{IsExamined};
+ghost use Rattle.node_bounding.specs.Examined.{IsExamined};
 ghost use Rattle.branch_bound.specs.History.{IsDone, IsPut, IsSearch, IsSplitSearch, WaitsWith};
 ghost use Rattle.branch_bound.specs.Ranks.{IsNext, IsOver, ranks_with};
-ghost use Rattle.branch_bound.specs.Search.{IsPlan, at};
-ghost use Rattle.branch_bound.specs.Relaxed.{AreGood};
+ghost use Rattle.node_bounding.specs.Subproblems.{IsPlan};
+ghost use Rattle.branch_bound.specs.Search.{at};
+ghost use Rattle.node_bounding.specs.Relaxed.{AreGood};
 
-use crate::examining::{examine, is_reached};
-use crate::made_prices::zeros;
 use crate::ranks::Rank;
 use crate::search::Search;
-use crate::steps::{with, without};
-use crate::subproblems::{Origin, State, Subproblem, kept_in, split};
+use crate::subproblems::{Origin, Subproblem, kept_in, split};
 use entries::NoMemory;
 use fleet_model::{Kept, Pair, Step, Tables};
+use node_bounding::steps::{with, without};
+use node_bounding::{State, examine, is_reached, zeros};
 use std::alloc::Global;
 use std::collections::BTreeSet;
 

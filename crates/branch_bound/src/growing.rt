@@ -6,9 +6,10 @@ ghost use Rattle.fleet_model.specs.declared.tables.Tables.{Tables};
 ghost use Rattle.branch_bound.specs.History.{AreGathered, AreLinked, Chronicle, IsFolded, IsGrownTree, IsJoinedFrom, IsSplitState, tree_of_state};
 ghost use Rattle.branch_bound.specs.Search.{at};
 
-use crate::subproblems::{State, Subproblem};
+use crate::subproblems::Subproblem;
 use dual_bound::{Cause, Tree};
 use entries::NoMemory;
+use node_bounding::State;
 use std::alloc::Global;
 use std::mem;
 

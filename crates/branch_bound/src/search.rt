@@ -1,14 +1,7 @@
 use crate::ranks::Rank;
 use crate::subproblems::Subproblem;
-use fleet_model::Assignment;
+use node_bounding::Plan;
 use std::collections::BTreeSet;
-
-/// A legal assignment, and what it costs, in cost units.
-#[derive(Debug, Drop)]
-pub(crate) struct Plan {
-    pub(crate) assignment: Assignment,
-    pub(crate) cost: i128,
-}
 
 /// Where a search stands.
 #[derive(Debug, Drop)]

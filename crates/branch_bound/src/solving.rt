@@ -3,21 +3,21 @@ ghost use Rattle.std.specs.Prelude.{◌≡◌, IfOk};
 ghost use Rattle.fleet_model.specs.Kept.{all_pairs};
 ghost use Rattle.dual_bound.specs.OfTables.{IsOfTables};
 ghost use Rattle.cert_check.specs.Verdicts.{AreSound};
-ghost use Rattle.branch_bound.specs.Closing.{closed_by};
-ghost use Rattle.branch_bound.specs.Search.{cost_of};
+ghost use Rattle.node_bounding.specs.Closing.{closed_by};
+ghost use Rattle.node_bounding.specs.Subproblems.{cost_of};
 ghost use Rattle.branch_bound.specs.Settled.{IsAllFound};
 ghost use Rattle.branch_bound.specs.Solved.{IsSolved};
 
 use crate::branching::branch;
-use crate::closing::close;
 use crate::growing::grown;
-use crate::removals::{below, remove};
-use crate::search::{Plan, Search};
+use crate::search::Search;
 use crate::settling::settle;
 use crate::solved::Solved;
 use dual_bound::Tree;
 use entries::NoMemory;
 use fleet_model::{Kept, Tables};
+use node_bounding::removals::{below, remove};
+use node_bounding::{Plan, close};
 use presolve::trim;
 use std::alloc::Global;
 

@@ -3,10 +3,11 @@ ghost use Rattle.std.specs.Prelude.{◌≡◌, ◌<◌, ℕ, length};
 ghost use Rattle.fleet_model.specs.Kept.{kept_by};
 ghost use Rattle.branch_bound.specs.History.{KeepsBy, split_state};
 ghost use Rattle.branch_bound.specs.Search.{HaveOrigins, at};
-ghost use Rattle.branch_bound.specs.Worked.{Worked};
+ghost use Rattle.node_bounding.specs.Worked.{Worked};
 
-use dual_bound::{Mixed, Prices, Tree};
+use dual_bound::Tree;
 use fleet_model::{Kept, Step, Tables};
+use node_bounding::State;
 use std::mem;
 
 /// What a subproblem is a part of.
@@ -16,30 +17,6 @@ pub(crate) struct Origin {
     pub(crate) parent: usize,
     /// The step from there.
     pub(crate) step: Step,
-}
-
-/// A subproblem whose best fractional assignment flies a pair in part, so that it may be split by it.
-#[derive(Debug, Drop)]
-pub(crate) struct Fraction {
-    /// The leg of the first such pair.
-    pub(crate) leg: u32,
-    /// Its fleet.
-    pub(crate) fleet: u32,
-    pub(crate) prices: Prices,
-    pub(crate) mixed: Mixed,
-    /// The worth of the prices, rounded up, in cost units.
-    pub(crate) worth: i128,
-}
-
-/// What became of a subproblem.
-#[derive(Debug, Drop)]
-pub(crate) enum State {
-    /// Its tree stands.
-    Leaf(Tree),
-    /// It waits to be split.
-    Waiting(Fraction),
-    /// It was split, and its parts stand in the list.
-    Split(Fraction),
 }
 
 /// A subproblem. Which pairs it keeps is found by walking up to the first, so the list stays small.

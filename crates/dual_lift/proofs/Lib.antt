@@ -1,9 +1,15 @@
+pub mod BasicPoints
 pub mod BestDuals
 pub mod Ceilings
 pub mod DualRows
 pub mod EndDuals
 pub mod Excesses
+pub mod LeastScales
+pub mod LowestTerms
 pub mod Mixtures
+pub mod Multiples
+pub mod PartLists
 pub mod Quotients
 pub mod Reached
+pub mod ScaleSteps
 pub mod SignDuals

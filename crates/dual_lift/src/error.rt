@@ -76,3 +76,6 @@ pub const PRICES_STEP: u64 = 5;
 
 /// The scale of the weights; the place is a line.
 pub const WEIGHTS_STEP: u64 = 6;
+
+/// The prices and rents that are paid back; the place is a fleet.
+pub const PAYBACK_STEP: u64 = 7;

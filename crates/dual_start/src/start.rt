@@ -1,5 +1,5 @@
-ghost use Rattle.std.specs.Prelude.{◌≡◌, ◌+◌, length, IfOk, OnOk};
-ghost use Rattle.lp_rows.specs.Outline.{line_count};
+ghost use Rattle.std.specs.Prelude.{◌≡◌, ◌+◌, ◌<◌, length, IfOk, IfSome, OnOk};
+ghost use Rattle.lp_rows.specs.Outline.{column_count, line_count};
 ghost use Rattle.dual_start.specs.Start.{IsStart, IsStarted};
 
 use crate::cheapest::cheapest_pair;
@@ -11,7 +11,8 @@ use std::alloc::Global;
 /// The places of the first steps on the lines of a subproblem, in their order, each line at most once. They make basic:
 /// each fleet's slack, the cheapest kept pair of each leg, and at each station the ground arcs of a fleet from all
 /// nodes but the last, each in the line of the node that it leads to. The first node's line of a station is left
-/// as it is, since the lines of its nodes sum to one without arcs. No cost number is below 0 then.
+/// as it is, since the lines of its nodes sum to one without arcs, and so is a line whose arc went. No cost number is
+/// below 0 then.
 ///
 /// A flight is a step before the arcs are, so that it changes the lines of its own two nodes alone; the arcs come
 /// from the last node to the first, so that each changes one other line.
@@ -56,19 +57,29 @@ fn push_flights(places: &mut Vec<Place>, outline: &Outline, costs: &[i128]) -> R
     Ok(())
 }
 
-// The arc that leads to each node but a station's first, in that node's line.
+// The arc that leads to each node but a station's first, in that node's line, where it stays.
 fn push_arcs(places: &mut Vec<Place>, outline: &Outline) -> Result<(), NoMemory>
     requires { IsStarted outline.now outline.now.legs (outline.now.legs + length outline.now.nodes) places.old.items }
     ensures { OnOk result (IsStarted outline.now outline.now.legs outline.now.legs places.new.items) }
 {
-    let nodes = outline.nodes.as_slice();
-    for number in (0..nodes.len() as u32).rev() {
-        if number > 0 && nodes[number as usize].place > 0 {
+    for number in (0..outline.nodes.len() as u32).rev() {
+        if let Some(column) = arc_into(outline, number) {
             places.push(Place {
                 row: outline.balance_line(number),
-                column: outline.ground_column(number - 1),
+                column,
             })?;
         }
     }
     Ok(())
+}
+
+// The column of the arc that leads to a node, but to a station's first one, where the arc stays.
+fn arc_into(outline: &Outline, number: u32) -> Option<u32>
+    requires { number < length outline.now.nodes }
+    ensures { IfSome result (λ column. column < column_count outline.now) }
+{
+    if number == 0 || outline.nodes.as_slice()[number as usize].place == 0 {
+        return None;
+    }
+    outline.ground_column(number - 1)
 }

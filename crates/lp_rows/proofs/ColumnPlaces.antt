@@ -11,10 +11,11 @@ use Rattle.fleet_model.specs.Kept.{Domains, kept_on, pairs_kept}
 use Rattle.fleet_model.specs.Schedule.{IsPair, fleets_in, leg_on, legs_in}
 use Rattle.lp_rows.specs.declared.kinds.Column.{Column}
 use Rattle.lp_rows.specs.declared.kinds.Column.TheVariants.{Flight, Ground, Slack}
-use Rattle.lp_rows.specs.Layout.{Starts, all_kept, all_nodes, columns_of, node_at, pair_at_column, pair_of, pairs_of}
+use Rattle.lp_rows.specs.Layout.{Starts, all_arcs, all_kept, all_nodes, arc_stays, columns_of, pair_at_column, pair_of, pairs_of}
 use Rattle.lp_rows.specs.Points.{arcs_in, column_at, value_of}
-use Rattle.lp_rows.proofs.Counted.{length-concat, nodes_are, pairs_are}
-use Rattle.lp_rows.proofs.LinePlaces.{before, node_there, node_within}
+use Rattle.lp_rows.proofs.Counted.{arcs_are, length-concat, pairs_are}
+use Rattle.lp_rows.proofs.LineNumbers.{node_among}
+use Rattle.lp_rows.proofs.PassingNumbers.{among_filter}
 use Rattle.lp_rows.proofs.ListPlaces.{at_concat, at_right_of, within_sum}
 use Rattle.lp_rows.proofs.Places.{IsKept, value_there}
 
@@ -23,8 +24,8 @@ module _ (t : Tables) (keeps : Domains) (starts : Starts) where
   abbrev cols : List Column
   cols = columns_of t keeps starts
 
-  pub in_parts : cols ≡ map Flight (all_kept t keeps) ++ (map Ground (all_nodes t starts) ++ list_below Slack (fleets_in t))
-  in_parts = append_assoc (map Flight (all_kept t keeps)) (map Ground (all_nodes t starts)) (list_below Slack (fleets_in t))
+  pub in_parts : cols ≡ map Flight (all_kept t keeps) ++ (map Ground (all_arcs t keeps starts) ++ list_below Slack (fleets_in t))
+  in_parts = append_assoc (map Flight (all_kept t keeps)) (map Ground (all_arcs t keeps starts)) (list_below Slack (fleets_in t))
 
   pub flights_long : length (map Flight (all_kept t keeps)) ≡ pairs_kept t keeps
   flights_long = length-map (all_kept t keeps) Flight ∙ pairs_are t keeps
@@ -32,7 +33,7 @@ module _ (t : Tables) (keeps : Domains) (starts : Starts) where
   pub flight_there : (c : ℕ) → c < pairs_kept t keeps → column_at cols c ≡ Flight (pair_at_column t keeps c)
   flight_there c below =
       ap (λ cs. get_or cs c (Slack 0)) in_parts
-      ∙ get_or_append_left (map Flight (all_kept t keeps)) (map Ground (all_nodes t starts) ++ list_below Slack (fleets_in t)) (Slack 0) c (omega (arith, below, flights_long))
+      ∙ get_or_append_left (map Flight (all_kept t keeps)) (map Ground (all_arcs t keeps starts) ++ list_below Slack (fleets_in t)) (Slack 0) c (omega (arith, below, flights_long))
       ∙ get_or-map Flight (all_kept t keeps) c (leg_on 0 0) (Slack 0) (omega (arith, below, pairs_are t keeps))
 
   -- each pair stands once
@@ -46,7 +47,7 @@ module _ (t : Tables) (keeps : Domains) (starts : Starts) where
       equal c d e = grind (arith, nat_tests)
 
   pub pairs_within : pairs_kept t keeps ≤ length cols
-  pairs_within = omega (arith, ap length in_parts, length-append (map Flight (all_kept t keeps)) (map Ground (all_nodes t starts) ++ list_below Slack (fleets_in t)), flights_long)
+  pairs_within = omega (arith, ap length in_parts, length-append (map Flight (all_kept t keeps)) (map Ground (all_arcs t keeps starts) ++ list_below Slack (fleets_in t)), flights_long)
 
   pub pair_once : (c d : ℕ) → c < pairs_kept t keeps → d < pairs_kept t keeps → pair_at_column t keeps c ≡ pair_at_column t keeps d → c ≡ d
   pair_once c d here there same =
@@ -80,22 +81,22 @@ module _ (t : Tables) (keeps : Domains) (starts : Starts) where
       there true e = refl
       there false e = cc
 
-  arcs_long : length (map Ground (all_nodes t starts)) ≡ arcs_in t starts
-  arcs_long = length-map (all_nodes t starts) Ground ∙ nodes_are t starts
+  arcs_long : length (map Ground (all_arcs t keeps starts)) ≡ arcs_in t keeps starts
+  arcs_long = length-map (all_arcs t keeps starts) Ground ∙ arcs_are t keeps starts
 
-  all_long : length cols ≡ pairs_kept t keeps + (arcs_in t starts + fleets_in t)
+  all_long : length cols ≡ pairs_kept t keeps + (arcs_in t keeps starts + fleets_in t)
   all_long = ap length in_parts ∙ omega (
     arith,
-    length-append (map Flight (all_kept t keeps)) (map Ground (all_nodes t starts) ++ list_below Slack (fleets_in t)),
-    length-append (map Ground (all_nodes t starts)) (list_below Slack (fleets_in t)),
+    length-append (map Flight (all_kept t keeps)) (map Ground (all_arcs t keeps starts) ++ list_below Slack (fleets_in t)),
+    length-append (map Ground (all_arcs t keeps starts)) (list_below Slack (fleets_in t)),
     flights_long,
     arcs_long,
     length-list_below Slack (fleets_in t),
   )
 
-  pub behind_pairs : (k : ℕ) → column_at cols (pairs_kept t keeps + k) ≡ get_or (map Ground (all_nodes t starts) ++ list_below Slack (fleets_in t)) k (Slack 0)
+  pub behind_pairs : (k : ℕ) → column_at cols (pairs_kept t keeps + k) ≡ get_or (map Ground (all_arcs t keeps starts) ++ list_below Slack (fleets_in t)) k (Slack 0)
   behind_pairs k = ap (λ cs. get_or cs (pairs_kept t keeps + k) (Slack 0)) in_parts
-      ∙ at_right_of (map Flight (all_kept t keeps)) (map Ground (all_nodes t starts) ++ list_below Slack (fleets_in t)) (Slack 0) (pairs_kept t keeps) k flights_long
+      ∙ at_right_of (map Flight (all_kept t keeps)) (map Ground (all_arcs t keeps starts) ++ list_below Slack (fleets_in t)) (Slack 0) (pairs_kept t keeps) k flights_long
 
   abbrev pub HasColumn : Column → Type 0
   HasColumn column = (c : ℕ) × (c < length cols) × (column_at cols c ≡ column)
@@ -104,19 +105,18 @@ module _ (t : Tables) (keeps : Domains) (starts : Starts) where
   column_number (Flight p) kept =
       let pair = pair_column p kept.0 kept.1 in
       (pair.0, omega (arith, pair.1, pairs_within), flight_there pair.0 pair.1 ∙ ap Flight pair.2)
-  column_number (Ground n) node =
-      let k = before t starts n.fleet n.station + n.place in
-      let below = node_within t starts n.fleet n.station n.place node.fleet node.station node.place in (
-        pairs_kept t keeps + k,
-        omega (arith, all_long, below),
-        behind_pairs k
-            ∙ get_or_append_left (map Ground (all_nodes t starts)) (list_below Slack (fleets_in t)) (Slack 0) k (omega (arith, below, arcs_long))
-            ∙ get_or-map Ground (all_nodes t starts) k (node_at 0 0 0) (Slack 0) (omega (arith, below, nodes_are t starts))
-            ∙ ap Ground (node_there t starts n.fleet n.station n.place (node_at 0 0 0) node.fleet node.station node.place),
+  column_number (Ground n) kept =
+      let arc = among_filter (arc_stays t keeps starts) (all_nodes t starts) n (node_among t starts n kept.0) kept.1 in (
+        pairs_kept t keeps + arc.0,
+        omega (arith, all_long, arc.1, arcs_are t keeps starts),
+        behind_pairs arc.0
+            ∙ get_or_append_left (map Ground (all_arcs t keeps starts)) (list_below Slack (fleets_in t)) (Slack 0) arc.0 (omega (arith, arc.1, arcs_are t keeps starts, arcs_long))
+            ∙ get_or-map Ground (all_arcs t keeps starts) arc.0 n (Slack 0) arc.1
+            ∙ ap Ground arc.2,
       )
   column_number (Slack f) known = (
-    pairs_kept t keeps + (arcs_in t starts + f),
+    pairs_kept t keeps + (arcs_in t keeps starts + f),
     omega (arith, all_long, known),
-    behind_pairs (arcs_in t starts + f)
-        ∙ at_right_of (map Ground (all_nodes t starts)) (list_below Slack (fleets_in t)) (Slack 0) (arcs_in t starts) f arcs_long ∙ get_or-list_below Slack (fleets_in t) f (Slack 0) known,
+    behind_pairs (arcs_in t keeps starts + f)
+        ∙ at_right_of (map Ground (all_arcs t keeps starts)) (list_below Slack (fleets_in t)) (Slack 0) (arcs_in t keeps starts) f arcs_long ∙ get_or-list_below Slack (fleets_in t) f (Slack 0) known,
   )

@@ -1,15 +1,17 @@
 -- How many columns and lines there are.
-use Rattle.std.proofs.Common.{◌≡◌, ℕ, zero, suc, ◌<◌, Bool, true, false, if◌then◌else◌, List, [], ◌∷◌, ◌++◌, length, map, refl, ◌∙◌, arith, length-append}
+use Rattle.std.proofs.Common.{◌≡◌, ℕ, zero, suc, ◌+◌, ◌<◌, Bool, true, false, cond, if◌then◌else◌, List, [], ◌∷◌, ◌++◌, filter, length, map, refl, ◌∙◌, ap, arith, length-append}
 use Rattle.std.proofs.lemmas.List.{length-map}
-use Rattle.sums.specs.Below.{sum_below}
+use Rattle.std.proofs.lemmas.List.Elements.{filter-append}
+use Rattle.std.proofs.lemmas.List.FromFn.{filter_of_map_range_with_len_more}
+use Rattle.sums.specs.Below.{count_below, sum_below}
 use Rattle.fleet_model.specs.declared.tables.Tables.{Tables}
 use Rattle.fleet_model.specs.Kept.{Domains, kept_on, pairs_kept}
 use Rattle.fleet_model.specs.Schedule.{fleets_in, leg_on, legs_in, stations_in}
 use Rattle.lp_rows.specs.declared.kinds.Column.TheVariants.{Flight, Ground, Slack}
 use Rattle.lp_rows.specs.declared.kinds.Line.TheVariants.{Cover, Balance, Count}
 use Rattle.sums.specs.Places.{list_below}
-use Rattle.lp_rows.specs.Layout.{Starts, all_kept, all_nodes, concat_below, node_at, nodes_at, nodes_of, pair_of, pairs_of}
-use Rattle.lp_rows.specs.Points.{RowsAreCounted, arcs_in}
+use Rattle.lp_rows.specs.Layout.{Starts, all_arcs, all_kept, all_nodes, arc_stays, concat_below, node_at, nodes_at, nodes_of, pair_of, pairs_of}
+use Rattle.lp_rows.specs.Points.{RowsAreCounted, arcs_at, arcs_in, node_count}
 use Rattle.lp_rows.proofs.LineNumbers.{line_count}
 use Rattle.sums.proofs.Places.{length-list_below}
 
@@ -26,22 +28,46 @@ pairs_are t keeps =
     length-concat (pairs_of t keeps) (kept_on t keeps) (legs_in t)
     (λ l below. length-concat (pair_of keeps l) (λ f. if keeps (leg_on l f) then 1 else 0) (fleets_in t) (λ f known. length-one (keeps (leg_on l f)) (leg_on l f)))
 
-pub nodes_are : (t : Tables) (starts : Starts) → length (all_nodes t starts) ≡ arcs_in t starts
+pub nodes_are : (t : Tables) (starts : Starts) → length (all_nodes t starts) ≡ node_count t starts
 nodes_are t starts =
     length-concat (nodes_of t starts) (λ f. sum_below (λ s. length (starts f s)) (stations_in t)) (fleets_in t)
     (λ f known. length-concat (nodes_at starts f) (λ s. length (starts f s)) (stations_in t) (λ s within. length-list_below (node_at f s) (length (starts f s))))
+
+-- .. and of their entries that pass a test
+filter-concat : {X : Type 0} (p : X → Bool) (g : ℕ → List X) (count : ℕ → ℕ) (n : ℕ) → ((k : ℕ) → k < n → length (filter p (g k)) ≡ count k) → length (filter p (concat_below g n)) ≡ sum_below count n
+filter-concat p g count zero each = refl
+filter-concat p g count (suc n) each = ap length (filter-append p (concat_below g n) (g n)) ∙ omega (
+  arith,
+  length-append (filter p (concat_below g n)) (filter p (g n)),
+  filter-concat p g count n (λ k below. each k (omega arith)),
+  each n (omega arith),
+)
+
+filter-list : {X : Type 0} (p : X → Bool) (f : ℕ → X) (n : ℕ) → length (filter p (list_below f n)) ≡ count_below (λ k. p (f k)) n
+filter-list p f zero = refl
+filter-list p f (suc n) =
+    ap (λ k. length (filter p (list_below f k))) (next n) ∙ ap length (filter_of_map_range_with_len_more p f 0 n n (omega arith))
+    ∙ omega (arith, length-append (filter p (list_below f n)) (cond (p (f n)) (f n ∷ []) []), length-one (p (f n)) (f n), filter-list p f n)
+  where
+    next : (n : ℕ) → suc n ≡ n + 1
+    next n = omega arith
+
+pub arcs_are : (t : Tables) (keeps : Domains) (starts : Starts) → length (all_arcs t keeps starts) ≡ arcs_in t keeps starts
+arcs_are t keeps starts =
+    filter-concat (arc_stays t keeps starts) (nodes_of t starts) (λ f. sum_below (arcs_at t keeps starts f) (stations_in t)) (fleets_in t)
+    (λ f known. filter-concat (arc_stays t keeps starts) (nodes_at starts f) (arcs_at t keeps starts f) (stations_in t) (λ s within. filter-list (arc_stays t keeps starts) (node_at f s) (length (starts f s))))
 
 pub rows_are_counted : RowsAreCounted
 rows_are_counted t keeps starts rows are = record {
   columns = are.columns ∙ omega (
     arith,
-    length-append (map Flight (all_kept t keeps) ++ map Ground (all_nodes t starts)) (list_below Slack (fleets_in t)),
-    length-append (map Flight (all_kept t keeps)) (map Ground (all_nodes t starts)),
+    length-append (map Flight (all_kept t keeps) ++ map Ground (all_arcs t keeps starts)) (list_below Slack (fleets_in t)),
+    length-append (map Flight (all_kept t keeps)) (map Ground (all_arcs t keeps starts)),
     length-map (all_kept t keeps) Flight,
-    length-map (all_nodes t starts) Ground,
+    length-map (all_arcs t keeps starts) Ground,
     length-list_below Slack (fleets_in t),
     pairs_are t keeps,
-    nodes_are t starts,
+    arcs_are t keeps starts,
   );
   lines = line_count t keeps starts rows are ∙ omega (
     arith,

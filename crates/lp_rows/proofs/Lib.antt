@@ -1,5 +1,7 @@
 pub mod Built
 pub mod ListSums
+pub mod PassingNumbers
+pub mod ArcMoments
 pub mod Picks
 pub mod Places
 pub mod Totals

@@ -38,7 +38,7 @@ among_list f n k below = (k, omega (arith, below, length-list_below f n), get_or
 among_map : {X Y : Type 0} (f : X → Y) (xs : List X) (x : X) → Contains xs x → Contains (map f xs) (f x)
 among_map f xs x here = (here.0, omega (arith, here.1, length-map xs f), get_or-map f xs here.0 x (f x) here.1 ∙ ap f here.2)
 
-node_among : (t : Tables) (starts : Starts) (n : Node) → IsNode t starts n → Contains (all_nodes t starts) n
+pub node_among : (t : Tables) (starts : Starts) (n : Node) → IsNode t starts n → Contains (all_nodes t starts) n
 node_among t starts n node =
     among_concat (nodes_of t starts) n (fleets_in t) n.fleet node.fleet
     (among_concat (nodes_at starts n.fleet) n (stations_in t) n.station node.station (among_list (node_at n.fleet n.station) (length (starts n.fleet n.station)) n.place node.place))

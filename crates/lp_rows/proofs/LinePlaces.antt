@@ -11,7 +11,7 @@ use Rattle.lp_rows.specs.declared.kinds.Line.TheVariants.{Balance, Count, Cover}
 use Rattle.lp_rows.specs.Entries.{IsNode}
 use Rattle.sums.specs.Places.{list_below}
 use Rattle.lp_rows.specs.Layout.{Starts, all_nodes, line_at, lines_of, node_at, node_of_number, nodes_at, nodes_of}
-use Rattle.lp_rows.specs.Points.{arcs_in}
+use Rattle.lp_rows.specs.Points.{node_count}
 use Rattle.lp_rows.proofs.Counted.{length-concat, nodes_are}
 use Rattle.sums.proofs.Places.{get_or-list_below, length-list_below}
 use Rattle.lp_rows.proofs.ListPlaces.{at_concat, at_right_of, split, sum_parts, within_sum}
@@ -39,7 +39,7 @@ module _ (t : Tables) (starts : Starts) where
       ∙ at_concat (nodes_at starts f) (λ r. length (starts f r)) d (stations_in t) s k (λ r less. long_at f r) within below
       ∙ get_or-list_below (node_at f s) (length (starts f s)) k d below
 
-  pub node_within : (f s k : ℕ) → f < fleets_in t → s < stations_in t → k < length (starts f s) → before f s + k < arcs_in t starts
+  pub node_within : (f s k : ℕ) → f < fleets_in t → s < stations_in t → k < length (starts f s) → before f s + k < node_count t starts
   node_within f s k known within below =
       omega (arith, within_sum nodes_in (fleets_in t) f (sum_below (λ r. length (starts f r)) s + k) known (within_sum (λ r. length (starts f r)) (stations_in t) s k within below))
 
@@ -53,13 +53,13 @@ module _ (t : Tables) (starts : Starts) where
     pub below : place < length (starts fleet station)
     pub is : number ≡ before fleet station + place
 
-  pub node_number : (number : ℕ) → number < arcs_in t starts → IsNodeNumber number
+  pub node_number : (number : ℕ) → number < node_count t starts → IsNodeNumber number
   node_number number below =
       let f = split nodes_in (fleets_in t) number below in
       let s = split (λ r. length (starts f.list r)) (stations_in t) f.rest f.within in
       record { fleet = f.list; station = s.list; place = s.rest; known = f.known; within = s.known; below = s.within; is = omega (arith, f.is, s.is) }
 
-  pub node_is : (k : ℕ) → k < arcs_in t starts → IsNode t starts (node_of_number t starts k)
+  pub node_is : (k : ℕ) → k < node_count t starts → IsNode t starts (node_of_number t starts k)
   node_is k below =
       let number = node_number k below in
       let same : node_of_number t starts k ≡ node_at number.fleet number.station number.place =
@@ -70,7 +70,7 @@ module _ (t : Tables) (starts : Starts) where
   covers_long : length (list_below Cover (legs_in t)) ≡ legs_in t
   covers_long = length-list_below Cover (legs_in t)
 
-  balances_long : length (map Balance (all_nodes t starts)) ≡ arcs_in t starts
+  balances_long : length (map Balance (all_nodes t starts)) ≡ node_count t starts
   balances_long = length-map (all_nodes t starts) Balance ∙ nodes_are t starts
 
   in_parts : lines_of t starts ≡ list_below Cover (legs_in t) ++ (map Balance (all_nodes t starts) ++ list_below Count (fleets_in t))
@@ -86,35 +86,35 @@ module _ (t : Tables) (starts : Starts) where
       ∙ get_or_append_left (list_below Cover (legs_in t)) (map Balance (all_nodes t starts) ++ list_below Count (fleets_in t)) (Cover 0) l (omega (arith, below, covers_long))
       ∙ get_or-list_below Cover (legs_in t) l (Cover 0) below
 
-  pub balance_there : (k : ℕ) → k < arcs_in t starts → line_at t starts (legs_in t + k) ≡ Balance (node_of_number t starts k)
+  pub balance_there : (k : ℕ) → k < node_count t starts → line_at t starts (legs_in t + k) ≡ Balance (node_of_number t starts k)
   balance_there k below =
       behind_covers k
       ∙ get_or_append_left (map Balance (all_nodes t starts)) (list_below Count (fleets_in t)) (Cover 0) k (omega (arith, below, balances_long))
       ∙ get_or-map Balance (all_nodes t starts) k (node_at 0 0 0) (Cover 0) (omega (arith, below, nodes_are t starts))
 
-  pub count_there : (f : ℕ) → f < fleets_in t → line_at t starts (legs_in t + (arcs_in t starts + f)) ≡ Count f
+  pub count_there : (f : ℕ) → f < fleets_in t → line_at t starts (legs_in t + (node_count t starts + f)) ≡ Count f
   count_there f known =
-      behind_covers (arcs_in t starts + f)
-      ∙ at_right_of (map Balance (all_nodes t starts)) (list_below Count (fleets_in t)) (Cover 0) (arcs_in t starts) f balances_long
+      behind_covers (node_count t starts + f)
+      ∙ at_right_of (map Balance (all_nodes t starts)) (list_below Count (fleets_in t)) (Cover 0) (node_count t starts) f balances_long
       ∙ get_or-list_below Count (fleets_in t) f (Cover 0) known
 
   -- behind the last there is none
-  pub none_behind : (k : ℕ) → fleets_in t ≤ k → line_at t starts (legs_in t + (arcs_in t starts + k)) ≡ Cover 0
+  pub none_behind : (k : ℕ) → fleets_in t ≤ k → line_at t starts (legs_in t + (node_count t starts + k)) ≡ Cover 0
   none_behind k past =
-      behind_covers (arcs_in t starts + k)
-      ∙ at_right_of (map Balance (all_nodes t starts)) (list_below Count (fleets_in t)) (Cover 0) (arcs_in t starts) k balances_long
+      behind_covers (node_count t starts + k)
+      ∙ at_right_of (map Balance (all_nodes t starts)) (list_below Count (fleets_in t)) (Cover 0) (node_count t starts) k balances_long
       ∙ get_or_past (list_below Count (fleets_in t)) k (Cover 0) (omega (arith, past, length-list_below Count (fleets_in t)))
 
   -- a sum over all lines, by their kinds
-  pub over_lines : (h : ℕ → ℤ) → sum_below_ℤ h (legs_in t + (arcs_in t starts + fleets_in t))
+  pub over_lines : (h : ℕ → ℤ) → sum_below_ℤ h (legs_in t + (node_count t starts + fleets_in t))
       ≡ sum_below_ℤ h (legs_in t)
       +ℤ (sum_below_ℤ (λ f. sum_below_ℤ (λ s. sum_below_ℤ (λ k. h (legs_in t + (before f s + k))) (length (starts f s))) (stations_in t)) (fleets_in t)
-      +ℤ sum_below_ℤ (λ f. h (legs_in t + (arcs_in t starts + f))) (fleets_in t))
+      +ℤ sum_below_ℤ (λ f. h (legs_in t + (node_count t starts + f))) (fleets_in t))
   over_lines h =
-      sum_below_ℤ-stretches h (legs_in t) (arcs_in t starts + fleets_in t)
+      sum_below_ℤ-stretches h (legs_in t) (node_count t starts + fleets_in t)
       ∙ ap (λ z. sum_below_ℤ h (legs_in t) +ℤ z)
-      (sum_below_ℤ-stretches (λ k. h (legs_in t + k)) (arcs_in t starts) (fleets_in t)
-      ∙ ap (λ z. z +ℤ sum_below_ℤ (λ f. h (legs_in t + (arcs_in t starts + f))) (fleets_in t))
+      (sum_below_ℤ-stretches (λ k. h (legs_in t + k)) (node_count t starts) (fleets_in t)
+      ∙ ap (λ z. z +ℤ sum_below_ℤ (λ f. h (legs_in t + (node_count t starts + f))) (fleets_in t))
       (sum_parts (λ k. h (legs_in t + k)) nodes_in (fleets_in t)
       ∙ sum_below_ℤ-same (λ f. sum_below_ℤ (λ k. h (legs_in t + (sum_below nodes_in f + k))) (nodes_in f)) (λ f. sum_below_ℤ (λ s. sum_below_ℤ (λ k. h (legs_in t + (before f s + k))) (length (starts f s))) (stations_in t)) (fleets_in t)
       (λ f known. sum_parts (λ k. h (legs_in t + (sum_below nodes_in f + k))) (λ s. length (starts f s)) (stations_in t)

@@ -1,5 +1,5 @@
 -- What each kind of line comes to at a point, in counts.
-use Rattle.std.proofs.Common.{◌≡◌, ℕ, ◌+◌, ◌<◌, if◌then◌else◌, ◌==◌, ◌&&◌, length, ℤ, pos, ◌+ℤ◌, ◌-ℤ◌, ◌*ℤ◌, sym, ◌∙◌, ap, arith}
+use Rattle.std.proofs.Common.{◌≡◌, ℕ, ◌+◌, ◌<◌, Bool, true, false, if◌then◌else◌, ◌==◌, ◌&&◌, length, ℤ, pos, ◌+ℤ◌, ◌-ℤ◌, ◌*ℤ◌, refl, sym, ◌∙◌, ap, arith}
 use Rattle.std.proofs.lemmas.Int.{ints}
 use lib.IntN.{zero-*ℤ, *ℤ_comm, *ℤ-zero}
 use Rattle.sums.specs.Below.{sum_below, sum_below_ℤ}
@@ -18,11 +18,11 @@ use Rattle.lp_rows.specs.declared.kinds.Node.{Node}
 use Rattle.lp_rows.specs.declared.kinds.Column.{Column}
 use Rattle.lp_rows.specs.declared.kinds.Column.TheVariants.{Flight, Ground, Slack}
 use Rattle.lp_rows.specs.Entries.{IsNode, balance_entry, count_entry, cover_entry, is_in, one_if, place_after}
-use Rattle.lp_rows.specs.Layout.{Starts, node_at}
+use Rattle.lp_rows.specs.Layout.{Starts, arc_stays, node_at}
 use Rattle.lp_rows.proofs.ListSums.{one_if-times, test_out}
 use Rattle.lp_rows.proofs.Picks.{count_at, count_before, inner_tests, of_differences, one_test, pick_fleet, pick_nodes, place_before, times_test, two_tests}
 use Rattle.lp_rows.proofs.Places.{no_grounds, no_slacks}
-use Rattle.lp_rows.proofs.Totals.{flights, grounds, slacks}
+use Rattle.lp_rows.proofs.Totals.{flights, grounds, on_arc, slacks}
 
 -- what a leg's weight adds to the aircraft that come to a node
 abbrev pub coming_to : Tables → Starts → Weights → Node → ℕ → ℕ
@@ -38,7 +38,11 @@ last_arc starts v f s = sum_below (λ k. if length (starts f s) == k + 1 then v 
 
 -- all columns by a line's numbers
 abbrev pub line_sum : Tables → Domains → Starts → (Column → ℕ) → (Column → ℤ) → ℤ
-line_sum t keeps starts v e = flights t keeps (λ k. e k *ℤ pos (v k)) +ℤ grounds t starts (λ k. e k *ℤ pos (v k)) +ℤ slacks t (λ k. e k *ℤ pos (v k))
+line_sum t keeps starts v e = flights t keeps (λ k. e k *ℤ pos (v k)) +ℤ grounds t keeps starts (λ k. e k *ℤ pos (v k)) +ℤ slacks t (λ k. e k *ℤ pos (v k))
+
+-- nothing stands on an arc that went
+pub record StandOnArcs (t : Tables) (keeps : Domains) (starts : Starts) (v : Column → ℕ) : Type 0 where
+  pub each : (n : Node) → IsNode t starts n → arc_stays t keeps starts n ≡ false → v (Ground n) ≡ 0
 
 module _ (t : Tables) (keeps : Domains) (starts : Starts) (v : Column → ℕ) (weigh : WeighKept t keeps (λ p. v (Flight p))) where
   abbrev w : Weights
@@ -58,13 +62,19 @@ module _ (t : Tables) (keeps : Domains) (starts : Starts) (v : Column → ℕ) (
       (λ l below. sum_below_ℤ-same (λ f. where_true (keeps (leg_on l f)) (e (Flight (leg_on l f)) *ℤ pos (w (leg_on l f)))) (u l) (fleets_in t)
       (λ f known. unmasked (e (Flight (leg_on l f))) l f below known ∙ same l f))
 
-  over_grounds : (e : Column → ℤ) (u : ℕ → ℕ → ℕ → ℤ) → ((f s k : ℕ) → e (Ground (node_at f s k)) *ℤ pos (v (Ground (node_at f s k))) ≡ u f s k)
-      → grounds t starts (λ k. e k *ℤ pos (v k)) ≡ sum_below_ℤ (λ f. sum_below_ℤ (λ s. sum_below_ℤ (u f s) (length (starts f s))) (stations_in t)) (fleets_in t)
-  over_grounds e u same =
-      sum_below_ℤ-same (λ f. sum_below_ℤ (λ s. sum_below_ℤ (λ k. e (Ground (node_at f s k)) *ℤ pos (v (Ground (node_at f s k)))) (length (starts f s))) (stations_in t))
+  -- nor does an arc that went
+  filled : (b : Bool) (e : ℤ) (n : ℕ) → (b ≡ false → n ≡ 0) → where_true b (e *ℤ pos n) ≡ e *ℤ pos n
+  filled true e n none = refl
+  filled false e n none = sym (ap (λ k. e *ℤ pos k) (none refl) ∙ *ℤ-zero e)
+
+  over_grounds : StandOnArcs t keeps starts v → (e : Column → ℤ) (u : ℕ → ℕ → ℕ → ℤ) → ((f s k : ℕ) → e (Ground (node_at f s k)) *ℤ pos (v (Ground (node_at f s k))) ≡ u f s k)
+      → grounds t keeps starts (λ k. e k *ℤ pos (v k)) ≡ sum_below_ℤ (λ f. sum_below_ℤ (λ s. sum_below_ℤ (u f s) (length (starts f s))) (stations_in t)) (fleets_in t)
+  over_grounds stand e u same =
+      sum_below_ℤ-same (λ f. sum_below_ℤ (λ s. sum_below_ℤ (on_arc t keeps starts (λ c. e c *ℤ pos (v c)) f s) (length (starts f s))) (stations_in t))
       (λ f. sum_below_ℤ (λ s. sum_below_ℤ (u f s) (length (starts f s))) (stations_in t)) (fleets_in t)
-      (λ f known. sum_below_ℤ-same (λ s. sum_below_ℤ (λ k. e (Ground (node_at f s k)) *ℤ pos (v (Ground (node_at f s k)))) (length (starts f s))) (λ s. sum_below_ℤ (u f s) (length (starts f s))) (stations_in t)
-      (λ s within. sum_below_ℤ-same (λ k. e (Ground (node_at f s k)) *ℤ pos (v (Ground (node_at f s k)))) (u f s) (length (starts f s)) (λ k below. same f s k)))
+      (λ f known. sum_below_ℤ-same (λ s. sum_below_ℤ (on_arc t keeps starts (λ c. e c *ℤ pos (v c)) f s) (length (starts f s))) (λ s. sum_below_ℤ (u f s) (length (starts f s))) (stations_in t)
+      (λ s within. sum_below_ℤ-same (on_arc t keeps starts (λ c. e c *ℤ pos (v c)) f s) (u f s) (length (starts f s))
+      (λ k below. filled (arc_stays t keeps starts (node_at f s k)) (e (Ground (node_at f s k))) (v (Ground (node_at f s k))) (stand.each (node_at f s k) (record { fleet = known; station = within; place = below })) ∙ same f s k)))
 
   -- ---- cover
   pub cover_sum : (l0 : ℕ) → l0 < legs_in t → line_sum t keeps starts v (cover_entry l0) ≡ pos (weight_on t w l0)
@@ -99,22 +109,22 @@ module _ (t : Tables) (keeps : Domains) (starts : Starts) (v : Column → ℕ) (
   abbrev before : Node → ℕ
   before n = v (Ground (node_at n.fleet n.station (place_before (length (starts n.fleet n.station)) n.place)))
 
-  balance_grounds : (n : Node) → IsNode t starts n → grounds t starts (λ k. balance_entry t starts n k *ℤ pos (v k)) ≡ pos (before n) -ℤ pos (v (Ground n))
-  balance_grounds n node =
+  balance_grounds : StandOnArcs t keeps starts v → (n : Node) → IsNode t starts n → grounds t keeps starts (λ k. balance_entry t starts n k *ℤ pos (v k)) ≡ pos (before n) -ℤ pos (v (Ground n))
+  balance_grounds stand n node =
       let nodes = length (starts n.fleet n.station) in
       let arc = λ (f s k : ℕ). v (Ground (node_at f s k)) in
       let part = λ (f s k : ℕ). pos (if n.place == place_after nodes k then arc f s k else 0) -ℤ pos (if n.place == k then arc f s k else 0) in
-      over_grounds (balance_entry t starts n) (λ f s k. where_true (n.fleet == f) (where_true (n.station == s) (part f s k)))
+      over_grounds stand (balance_entry t starts n) (λ f s k. where_true (n.fleet == f) (where_true (n.station == s) (part f s k)))
       (λ f s k. two_tests (n.fleet == f) ((n.station == s) && (n.place == place_after nodes k)) ((n.station == s) && (n.place == k)) (arc f s k)
       ∙ ap (where_true (n.fleet == f)) (inner_tests (n.station == s) (n.place == place_after nodes k) (n.place == k) (arc f s k)))
       ∙ pick_nodes (fleets_in t) (stations_in t) n.fleet n.station (λ f s. length (starts f s)) part node.fleet node.station
       ∙ of_differences (λ k. if n.place == place_after nodes k then arc n.fleet n.station k else 0) (λ k. if n.place == k then arc n.fleet n.station k else 0) nodes
       ∙ omega (arith, ints, count_before nodes n.place (arc n.fleet n.station) node.place, count_at n.place (arc n.fleet n.station) nodes node.place)
 
-  pub balance_sum : (n : Node) → IsNode t starts n → line_sum t keeps starts v (balance_entry t starts n) ≡ (pos (into n) -ℤ pos (out_of n)) +ℤ (pos (before n) -ℤ pos (v (Ground n)))
-  balance_sum n node =
+  pub balance_sum : StandOnArcs t keeps starts v → (n : Node) → IsNode t starts n → line_sum t keeps starts v (balance_entry t starts n) ≡ (pos (into n) -ℤ pos (out_of n)) +ℤ (pos (before n) -ℤ pos (v (Ground n)))
+  balance_sum stand n node =
       let spare = no_slacks t keeps starts (λ k. balance_entry t starts n k *ℤ pos (v k)) (λ f. zero-*ℤ (pos (v (Slack f)))) in
-      omega (arith, ints, balance_flights n node.fleet, balance_grounds n node, spare)
+      omega (arith, ints, balance_flights n node.fleet, balance_grounds stand n node, spare)
 
   -- ---- count
   count_flights : (f0 : ℕ) → f0 < fleets_in t → flights t keeps (λ k. count_entry t starts f0 k *ℤ pos (v k)) ≡ pos (laps_flown t w f0)
@@ -125,10 +135,10 @@ module _ (t : Tables) (keeps : Domains) (starts : Starts) (v : Column → ℕ) (
       (λ l below. sum_below_ℤ-one f0 (λ f. pos (laps_of t (leg_on l f)) *ℤ pos (w (leg_on l f))) (fleets_in t) known ∙ *ℤ_comm (pos (laps_of t (leg_on l f0))) (pos (w (leg_on l f0))))
       ∙ sum_below_ℤ-pos (laps_at t w f0) (legs_in t)
 
-  count_grounds : (f0 : ℕ) → f0 < fleets_in t → grounds t starts (λ k. count_entry t starts f0 k *ℤ pos (v k)) ≡ pos (sum_below (last_arc starts v f0) (stations_in t))
-  count_grounds f0 known =
+  count_grounds : StandOnArcs t keeps starts v → (f0 : ℕ) → f0 < fleets_in t → grounds t keeps starts (λ k. count_entry t starts f0 k *ℤ pos (v k)) ≡ pos (sum_below (last_arc starts v f0) (stations_in t))
+  count_grounds stand f0 known =
       let part = λ (f s k : ℕ). pos (if length (starts f0 s) == k + 1 then v (Ground (node_at f s k)) else 0) in
-      over_grounds (count_entry t starts f0) (λ f s k. where_true (f0 == f) (part f s k)) (λ f s k. one_test (f0 == f) (length (starts f0 s) == k + 1) (v (Ground (node_at f s k))))
+      over_grounds stand (count_entry t starts f0) (λ f s k. where_true (f0 == f) (part f s k)) (λ f s k. one_test (f0 == f) (length (starts f0 s) == k + 1) (v (Ground (node_at f s k))))
       ∙ pick_fleet (fleets_in t) (stations_in t) f0 (λ f s. length (starts f s)) part known
       ∙ sum_below_ℤ-same (λ s. sum_below_ℤ (part f0 s) (length (starts f0 s))) (λ s. pos (last_arc starts v f0 s)) (stations_in t)
       (λ s within. sum_below_ℤ-pos (λ k. if length (starts f0 s) == k + 1 then v (Ground (node_at f0 s k)) else 0) (length (starts f0 s)))
@@ -139,5 +149,5 @@ module _ (t : Tables) (keeps : Domains) (starts : Starts) (v : Column → ℕ) (
       sum_below_ℤ-same (λ f. one_if (f0 == f) *ℤ pos (v (Slack f))) (λ f. where_true (f0 == f) (pos (v (Slack f)))) (fleets_in t) (λ f lt. one_if-times (f0 == f) (pos (v (Slack f))))
       ∙ sum_below_ℤ-one f0 (λ f. pos (v (Slack f))) (fleets_in t) known
 
-  pub count_sum : (f0 : ℕ) → f0 < fleets_in t → line_sum t keeps starts v (count_entry t starts f0) ≡ pos (laps_flown t w f0 + sum_below (last_arc starts v f0) (stations_in t) + v (Slack f0))
-  count_sum f0 known = omega (arith, ints, count_flights f0 known, count_grounds f0 known, count_slacks f0 known)
+  pub count_sum : StandOnArcs t keeps starts v → (f0 : ℕ) → f0 < fleets_in t → line_sum t keeps starts v (count_entry t starts f0) ≡ pos (laps_flown t w f0 + sum_below (last_arc starts v f0) (stations_in t) + v (Slack f0))
+  count_sum stand f0 known = omega (arith, ints, count_flights f0 known, count_grounds stand f0 known, count_slacks f0 known)

@@ -1,5 +1,5 @@
 -- Sums over the entries of lists.
-use Rattle.std.proofs.Common.{◌≡◌, ℕ, zero, suc, ◌+◌, ◌<◌, Bool, true, false, if◌then◌else◌, List, [], ◌∷◌, ◌++◌, length, get_or, map, ℤ, pos, ◌+ℤ◌, ◌*ℤ◌, refl, sym, ◌∙◌, ap, append_assoc, arith}
+use Rattle.std.proofs.Common.{◌≡◌, ℕ, zero, suc, ◌+◌, ◌<◌, Bool, true, false, cond, if◌then◌else◌, List, [], ◌∷◌, ◌++◌, filter, length, get_or, map, ℤ, pos, ◌+ℤ◌, ◌*ℤ◌, refl, sym, ◌∙◌, ap, append_assoc, arith}
 use Rattle.std.proofs.lemmas.Int.{ints}
 use lib.IntN.{zero-*ℤ, +ℤ_idl}
 use Rattle.sums.specs.Below.{sum_below_ℤ, count_below}
@@ -51,6 +51,15 @@ one_behind old now more f n x is pushed same =
 pub of_one : {X : Type 0} (h : X → ℤ) (b : Bool) (x : X) → sum_list h (if b then x ∷ [] else []) ≡ where_true b (h x)
 of_one h true x = omega (arith, ints)
 of_one h false x = refl
+
+-- of the entries that pass a test
+pub of_filter : {X : Type 0} (h : X → ℤ) (p : X → Bool) (xs : List X) → sum_list h (filter p xs) ≡ sum_list (λ x. where_true (p x) (h x)) xs
+of_filter h p [] = refl
+of_filter {X} h p (x ∷ xs) = picked (p x) (filter p xs) ∙ ap (λ z. where_true (p x) (h x) +ℤ z) (of_filter h p xs)
+  where
+    picked : (b : Bool) (ys : List X) → sum_list h (cond b (x ∷ ys) ys) ≡ where_true b (h x) +ℤ sum_list h ys
+    picked true ys = refl
+    picked false ys = sym (+ℤ_idl (sum_list h ys))
 
 -- a test that stands over a whole sum
 pub test_out : (b : Bool) (g : ℕ → ℤ) (n : ℕ) → sum_below_ℤ (λ k. where_true b (g k)) n ≡ where_true b (sum_below_ℤ g n)

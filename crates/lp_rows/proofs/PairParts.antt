@@ -12,7 +12,7 @@ use Rattle.fleet_model.specs.Schedule.{IsPair, fleets_in}
 use Rattle.lp_rows.specs.declared.kinds.Node.{Node}
 use Rattle.lp_rows.specs.declared.kinds.Column.{Column}
 use Rattle.lp_rows.specs.declared.kinds.Column.TheVariants.{Flight, Ground, Slack}
-use Rattle.lp_rows.specs.Layout.{Starts, all_nodes, columns_of, pair_at_column}
+use Rattle.lp_rows.specs.Layout.{Starts, all_arcs, columns_of, pair_at_column}
 use Rattle.lp_rows.specs.Points.{column_at, pair_part, same_column, value_of}
 use Rattle.lp_rows.proofs.ColumnPlaces.{behind_pairs, flight_there, pairs_within}
 use Rattle.lp_rows.proofs.Places.{IsKept, columns_are_kept, value_there}
@@ -40,7 +40,7 @@ module _ (t : Tables) (keeps : Domains) (starts : Starts) where
       (λ c within. elim (cases_lt c (pairs_kept t keeps)) [
         | inl pair ↦ of_test k (same_column (Flight p) (column_at cols c)) (x c) (y c) (same c pair)
         | inr behind ↦ none (same_column (Flight p) (column_at cols c)) (x c) (y c)
-            (ap (λ j. same_column (Flight p) (column_at cols j)) (as_a_sum c (pairs_kept t keeps) behind) ∙ ap (same_column (Flight p)) (behind_pairs t keeps starts (c - pairs_kept t keeps)) ∙ no_flight_behind p (all_nodes t starts) (fleets_in t) (c - pairs_kept t keeps))
+            (ap (λ j. same_column (Flight p) (column_at cols j)) (as_a_sum c (pairs_kept t keeps) behind) ∙ ap (same_column (Flight p)) (behind_pairs t keeps starts (c - pairs_kept t keeps)) ∙ no_flight_behind p (all_arcs t keeps starts) (fleets_in t) (c - pairs_kept t keeps))
       ])
     where
       none : (b : Bool) (x y : ℕ) → b ≡ false → ◌≡◌ {A = ℕ} (if b then x else 0) (k * (if b then y else 0))

@@ -16,21 +16,21 @@ use Rattle.fleet_model.specs.Schedule.{IsPair, fleets_in, leg_on, legs_in, stati
 use Rattle.lp_rows.specs.declared.kinds.Node.{Node}
 use Rattle.lp_rows.specs.declared.kinds.Column.{Column}
 use Rattle.lp_rows.specs.declared.kinds.Column.TheVariants.{Flight, Ground, Slack}
-use Rattle.lp_rows.specs.Entries.{IsNode, one_if}
-use Rattle.lp_rows.specs.Layout.{Starts, columns_of, node_at}
+use Rattle.lp_rows.specs.Entries.{IsNode, one_if, same_node}
+use Rattle.lp_rows.specs.Layout.{Starts, arc_stays, columns_of, node_at}
 use Rattle.lp_rows.specs.Points.{column_at, same_column, value_of}
 use Rattle.lp_rows.proofs.ListSums.{all_zero, of_tests}
 use Rattle.lp_rows.proofs.Picks.{pick_nodes, pick_pair}
-use Rattle.lp_rows.proofs.Totals.{all_columns, flights, grounds, over_columns, slacks}
+use Rattle.lp_rows.proofs.Totals.{all_columns, flights, grounds, on_arc, over_columns, slacks}
 
--- a column of the tables, and kept where it is of a pair
+-- a column of the tables, kept where it is of a pair, and one that stays where it is of an arc
 abbrev pub IsKept : Tables → Domains → Starts → Column → Type 0
 IsKept t keeps starts (Flight p) = IsPair t p × (keeps p ≡ true)
-IsKept t keeps starts (Ground a) = IsNode t starts a
+IsKept t keeps starts (Ground a) = IsNode t starts a × (arc_stays t keeps starts a ≡ true)
 IsKept t keeps starts (Slack f) = f < fleets_in t
 
 pub columns_are_kept : (t : Tables) (keeps : Domains) (starts : Starts) → All (IsKept t keeps starts) (columns_of t keeps starts)
-columns_are_kept t keeps starts = all_columns t keeps starts (IsKept t keeps starts) (λ l f below known kept. (record { leg = below; fleet = known }, kept)) (λ n fits. fits) (λ f known. known)
+columns_are_kept t keeps starts = all_columns t keeps starts (IsKept t keeps starts) (λ l f below known kept. (record { leg = below; fleet = known }, kept)) (λ n fits stays. (fits, stays)) (λ f known. known)
 
 three_tests : (k a b : Bool) → where_true k (one_if (a && b)) ≡ where_true a (where_true b (where_true k (pos 1)))
 three_tests true true true = refl
@@ -40,29 +40,31 @@ three_tests false true true = refl
 three_tests false true false = refl
 three_tests false false b = refl
 
-three_places : (a b c : Bool) → one_if (a && (b && c)) ≡ where_true a (where_true b (one_if c))
-three_places true true c = refl
-three_places true false c = refl
-three_places false b c = refl
-
 masked_zero : (b : Bool) → where_true b (pos 0) ≡ pos 0
 masked_zero true = refl
 masked_zero false = refl
+
+three_places : (k a b c : Bool) → where_true k (one_if (a && (b && c))) ≡ where_true a (where_true b (where_true c (where_true k (pos 1))))
+three_places k true true true = refl
+three_places k true true false = masked_zero k
+three_places k true false c = masked_zero k
+three_places k false b c = masked_zero k
 
 module _ (t : Tables) (keeps : Domains) (starts : Starts) where
   no_flights : (h : Column → ℤ) → ((p : Pair) → h (Flight p) ≡ pos 0) → flights t keeps h ≡ pos 0
   no_flights h none = all_zero (λ l. sum_below_ℤ (λ f. where_true (keeps (leg_on l f)) (h (Flight (leg_on l f)))) (fleets_in t)) (legs_in t)
       (λ l below. all_zero (λ f. where_true (keeps (leg_on l f)) (h (Flight (leg_on l f)))) (fleets_in t) (λ f known. ap (where_true (keeps (leg_on l f))) (none (leg_on l f)) ∙ masked_zero (keeps (leg_on l f))))
 
-  pub no_grounds : (h : Column → ℤ) → ((n : Node) → h (Ground n) ≡ pos 0) → grounds t starts h ≡ pos 0
-  no_grounds h none = all_zero (λ f. sum_below_ℤ (λ s. sum_below_ℤ (λ k. h (Ground (node_at f s k))) (length (starts f s))) (stations_in t)) (fleets_in t)
-      (λ f known. all_zero (λ s. sum_below_ℤ (λ k. h (Ground (node_at f s k))) (length (starts f s))) (stations_in t) (λ s within. all_zero (λ k. h (Ground (node_at f s k))) (length (starts f s)) (λ k below. none (node_at f s k))))
+  pub no_grounds : (h : Column → ℤ) → ((n : Node) → h (Ground n) ≡ pos 0) → grounds t keeps starts h ≡ pos 0
+  no_grounds h none = all_zero (λ f. sum_below_ℤ (λ s. sum_below_ℤ (on_arc t keeps starts h f s) (length (starts f s))) (stations_in t)) (fleets_in t)
+      (λ f known. all_zero (λ s. sum_below_ℤ (on_arc t keeps starts h f s) (length (starts f s))) (stations_in t)
+      (λ s within. all_zero (on_arc t keeps starts h f s) (length (starts f s)) (λ k below. ap (where_true (arc_stays t keeps starts (node_at f s k))) (none (node_at f s k)) ∙ masked_zero (arc_stays t keeps starts (node_at f s k)))))
 
   pub no_slacks : (h : Column → ℤ) → ((f : ℕ) → h (Slack f) ≡ pos 0) → slacks t h ≡ pos 0
   no_slacks h none = all_zero (λ f. h (Slack f)) (fleets_in t) (λ f known. none f)
 
   -- a column stands once
-  once : (column : Column) → IsKept t keeps starts column → flights t keeps (λ k. one_if (same_column column k)) +ℤ grounds t starts (λ k. one_if (same_column column k)) +ℤ slacks t (λ k. one_if (same_column column k)) ≡ pos 1
+  once : (column : Column) → IsKept t keeps starts column → flights t keeps (λ k. one_if (same_column column k)) +ℤ grounds t keeps starts (λ k. one_if (same_column column k)) +ℤ slacks t (λ k. one_if (same_column column k)) ≡ pos 1
   once (Flight p) kept =
       let pairs = sum_below_ℤ-same (λ l. sum_below_ℤ (λ f. where_true (keeps (leg_on l f)) (one_if ((p.leg == l) && (p.fleet == f)))) (fleets_in t))
       (λ l. sum_below_ℤ (λ f. where_true (p.leg == l) (where_true (p.fleet == f) (where_true (keeps (leg_on l f)) (pos 1)))) (fleets_in t)) (legs_in t)
@@ -71,14 +73,19 @@ module _ (t : Tables) (keeps : Domains) (starts : Starts) where
       ∙ pick_pair (legs_in t) (fleets_in t) p.leg p.fleet (λ l f. where_true (keeps (leg_on l f)) (pos 1)) kept.0.leg kept.0.fleet
       ∙ ap (λ b. where_true b (pos 1)) kept.1 in
       omega (arith, ints, pairs, no_grounds (λ k. one_if (same_column (Flight p) k)) (λ n. refl), no_slacks (λ k. one_if (same_column (Flight p) k)) (λ f. refl))
-  once (Ground a) node =
-      let nodes = sum_below_ℤ-same (λ f. sum_below_ℤ (λ s. sum_below_ℤ (λ k. one_if ((a.fleet == f) && ((a.station == s) && (a.place == k)))) (length (starts f s))) (stations_in t))
-      (λ f. sum_below_ℤ (λ s. sum_below_ℤ (λ k. where_true (a.fleet == f) (where_true (a.station == s) (one_if (a.place == k)))) (length (starts f s))) (stations_in t)) (fleets_in t)
-      (λ f known. sum_below_ℤ-same (λ s. sum_below_ℤ (λ k. one_if ((a.fleet == f) && ((a.station == s) && (a.place == k)))) (length (starts f s))) (λ s. sum_below_ℤ (λ k. where_true (a.fleet == f) (where_true (a.station == s) (one_if (a.place == k)))) (length (starts f s))) (stations_in t)
-      (λ s within. sum_below_ℤ-same (λ k. one_if ((a.fleet == f) && ((a.station == s) && (a.place == k)))) (λ k. where_true (a.fleet == f) (where_true (a.station == s) (one_if (a.place == k)))) (length (starts f s))
-      (λ k below. three_places (a.fleet == f) (a.station == s) (a.place == k))))
-      ∙ pick_nodes (fleets_in t) (stations_in t) a.fleet a.station (λ f s. length (starts f s)) (λ f s k. one_if (a.place == k)) node.fleet node.station
-      ∙ sum_below_ℤ-one a.place (λ k. pos 1) (length (starts a.fleet a.station)) node.place in
+  once (Ground a) kept =
+      let node = kept.0 in
+      let stays = λ (f s k : ℕ). arc_stays t keeps starts (node_at f s k) in
+      let here = on_arc t keeps starts (λ k. one_if (same_column (Ground a) k)) in
+      let there = λ (f s k : ℕ). where_true (a.place == k) (where_true (stays f s k) (pos 1)) in
+      let nodes = sum_below_ℤ-same (λ f. sum_below_ℤ (λ s. sum_below_ℤ (here f s) (length (starts f s))) (stations_in t))
+      (λ f. sum_below_ℤ (λ s. sum_below_ℤ (λ k. where_true (a.fleet == f) (where_true (a.station == s) (there f s k))) (length (starts f s))) (stations_in t)) (fleets_in t)
+      (λ f known. sum_below_ℤ-same (λ s. sum_below_ℤ (here f s) (length (starts f s))) (λ s. sum_below_ℤ (λ k. where_true (a.fleet == f) (where_true (a.station == s) (there f s k))) (length (starts f s))) (stations_in t)
+      (λ s within. sum_below_ℤ-same (here f s) (λ k. where_true (a.fleet == f) (where_true (a.station == s) (there f s k))) (length (starts f s))
+      (λ k below. three_places (stays f s k) (a.fleet == f) (a.station == s) (a.place == k))))
+      ∙ pick_nodes (fleets_in t) (stations_in t) a.fleet a.station (λ f s. length (starts f s)) there node.fleet node.station
+      ∙ sum_below_ℤ-one a.place (λ k. where_true (stays a.fleet a.station k) (pos 1)) (length (starts a.fleet a.station)) node.place
+      ∙ ap (λ b. where_true b (pos 1)) kept.1 in
       omega (arith, ints, nodes, no_flights (λ k. one_if (same_column (Ground a) k)) (λ p. refl), no_slacks (λ k. one_if (same_column (Ground a) k)) (λ f. refl))
   once (Slack g) known =
       let fleets = sum_below_ℤ-one g (λ f. pos 1) (fleets_in t) known in
@@ -136,4 +143,23 @@ nothing_there t keeps starts x p not_kept =
         let kept_too : keeps p ≡ true = ap (λ l. keeps (leg_on l p.fleet)) leg ∙ ap (λ f. keeps (leg_on q.leg f)) fleet ∙ kept.1 in absurd (false≢true (sym not_kept ∙ kept_too)))
         (λ e. e)
     differs (Ground a) kept = refl
+    differs (Slack f) kept = refl
+
+-- nor to an arc that went
+pub nothing_on_ground : (t : Tables) (keeps : Domains) (starts : Starts) (x : ℕ → ℕ) (n : Node) → arc_stays t keeps starts n ≡ false → value_of (columns_of t keeps starts) x (Ground n) ≡ 0
+nothing_on_ground t keeps starts x n went =
+    let columns = columns_of t keeps starts in
+    sum_below-agree (λ c. if same_column (Ground n) (column_at columns c) then x c else 0) (λ c. 0) (length columns) (record {
+      each = λ c below.
+          ap (λ b. if b then x c else 0) (differs (column_at columns c) (columns_are_kept t keeps starts c (Slack 0) below));
+    })
+    ∙ sum_below-zero (length columns)
+  where
+    differs : (column : Column) → IsKept t keeps starts column → same_column (Ground n) column ≡ false
+    differs (Ground a) kept = by_test (same_node n a)
+        (λ e. let fleet : n.fleet ≡ a.fleet = grind (arith, nat_tests) in let station : n.station ≡ a.station = grind (arith, nat_tests) in let place : n.place ≡ a.place = grind (arith, nat_tests) in
+        let stays : arc_stays t keeps starts n ≡ true = ap (λ f. arc_stays t keeps starts (node_at f n.station n.place)) fleet ∙ ap (λ s. arc_stays t keeps starts (node_at a.fleet s n.place)) station ∙ ap (λ k. arc_stays t keeps starts (node_at a.fleet a.station k)) place ∙ kept.1 in
+        absurd (false≢true (sym went ∙ stays)))
+        (λ e. e)
+    differs (Flight p) kept = refl
     differs (Slack f) kept = refl

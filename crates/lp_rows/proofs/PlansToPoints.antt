@@ -1,5 +1,5 @@
 -- A mixed plan, with the aircraft on the ground and those not used, is a point of the lines.
-use Rattle.std.proofs.Common.{◌≡◌, ℕ, zero, suc, ◌+◌, ◌-◌, ◌*◌, ◌<◌, Bool, true, false, if◌then◌else◌, ◌==◌, ◌&&◌, length, get_or, pos, ◌+ℤ◌, ◌-ℤ◌, ◌*ℤ◌, refl, sym, ◌∙◌, ap, inl, inr, arith}
+use Rattle.std.proofs.Common.{◌≡◌, ℕ, zero, suc, ◌+◌, ◌-◌, ◌*◌, ◌<◌, Bool, true, false, if◌then◌else◌, ◌==◌, ◌&&◌, length, get_or, Option, Some, None, is_none, pos, ◌+ℤ◌, ◌-ℤ◌, ◌*ℤ◌, refl, sym, ◌∙◌, ap, inl, inr, arith}
 use Rattle.std.proofs.lemmas.Bool.{cases_lt}
 use Rattle.std.proofs.lemmas.Int.{ints}
 use Rattle.std.proofs.Math.Nat.{mul_comm}
@@ -22,16 +22,18 @@ use Rattle.fleet_model.proofs.UseLaws.{need_suffices}
 use Rattle.node_aggregate.specs.Laws.{WeighKept}
 use Rattle.node_aggregate.specs.Nodes.{node_end}
 use Rattle.node_aggregate.proofs.NodeEnds.{end_at_last, ends_within}
+use Rattle.island_arcs.proofs.EmptyArcs.{gone_is_empty}
+use Rattle.lp_rows.specs.declared.kinds.Node.{Node}
 use Rattle.lp_rows.specs.declared.kinds.Column.{Column}
 use Rattle.lp_rows.specs.declared.kinds.Column.TheVariants.{Flight, Ground, Slack}
 use Rattle.lp_rows.specs.declared.kinds.Line.{Line}
 use Rattle.lp_rows.specs.declared.kinds.Line.TheVariants.{Cover, Balance, Count}
-use Rattle.lp_rows.specs.Entries.{IsLine, entry_of, right_side_of}
-use Rattle.lp_rows.specs.Layout.{IsNetwork, Starts, columns_of, lines_of, node_at}
+use Rattle.lp_rows.specs.Entries.{IsLine, IsNode, entry_of, right_side_of}
+use Rattle.lp_rows.specs.Layout.{IsNetwork, Starts, arc_stays, columns_of, lines_of, moment_at, node_at}
 use Rattle.lp_rows.specs.Points.{PlansArePoints, column_at, same_column, value_of}
 use Rattle.lp_rows.proofs.Flows.{IsFlow, add_one, before_next, flown, last_is, no_last}
 use Rattle.lp_rows.proofs.LineNumbers.{line_count, right_side_at, sum_at}
-use Rattle.lp_rows.proofs.LineSums.{balance_sum, coming_to, count_sum, cover_sum, last_arc, leaving_from, line_sum}
+use Rattle.lp_rows.proofs.LineSums.{StandOnArcs, balance_sum, coming_to, count_sum, cover_sum, last_arc, leaving_from, line_sum}
 use Rattle.lp_rows.proofs.NodeCounts.{come_first, come_next, left_first, left_next, no_need}
 use Rattle.lp_rows.proofs.Picks.{pick_pair, place_before}
 use Rattle.lp_rows.proofs.Places.{no_grounds, no_slacks, nothing_there}
@@ -115,6 +117,19 @@ module _ (t : Tables) (keeps : Domains) (starts : Starts) (q : ℕ) (w : Weights
     count = counted;
   }
 
+-- an arc that went has a moment, so that none stands on it
+moment_of_gone : (o : Option ℕ) → is_none o ≡ false → (m : ℕ) × (o ≡ Some m)
+moment_of_gone (Some m) went = (m, refl)
+moment_of_gone None went = cc
+
+stands_on_arcs : (t : Tables) (keeps : Domains) (starts : Starts) (q : ℕ) (w : Weights) → IsNetwork t keeps starts → IsMixedPlan t keeps q w → StandOnArcs t keeps starts (plan_value t starts q w)
+unfolding arc_stays
+stands_on_arcs t keeps starts q w network plan = record {
+  each = λ n node went.
+      let moment = moment_of_gone (moment_at t keeps starts n) went in
+      gone_is_empty t keeps q w plan n.fleet n.station (starts n.fleet n.station) node.fleet node.station (network.each n.fleet n.station node.fleet node.station) n.place moment.0 node.place moment.1;
+}
+
 to_counts : (m q : ℕ) → m ≡ q → pos m ≡ pos 1 *ℤ pos q
 to_counts m q e = omega (arith, ints, e, one-*ℤ (pos q))
 
@@ -125,15 +140,15 @@ to_product : (m a q : ℕ) → m ≡ q * a → pos m ≡ pos a *ℤ pos q
 to_product m a q e = omega (arith, ints, e, mul_comm a q)
 
 -- a flow meets each line of the tables
-flow_meets : (t : Tables) (keeps : Domains) (starts : Starts) (q : ℕ) (v : Column → ℕ) → WeighKept t keeps (flown v) → IsFlow t starts q v → (line : Line) → IsLine t starts line
+flow_meets : (t : Tables) (keeps : Domains) (starts : Starts) (q : ℕ) (v : Column → ℕ) → WeighKept t keeps (flown v) → StandOnArcs t keeps starts v → IsFlow t starts q v → (line : Line) → IsLine t starts line
     → line_sum t keeps starts v (entry_of t starts line) ≡ right_side_of t line *ℤ pos q
-flow_meets t keeps starts q v weigh flow (Cover l) below = cover_sum t keeps starts v weigh l below ∙ to_counts (weight_on t (flown v) l) q (flow.cover l below)
-flow_meets t keeps starts q v weigh flow (Balance n) node =
-    balance_sum t keeps starts v weigh n node
+flow_meets t keeps starts q v weigh stand flow (Cover l) below = cover_sum t keeps starts v weigh l below ∙ to_counts (weight_on t (flown v) l) q (flow.cover l below)
+flow_meets t keeps starts q v weigh stand flow (Balance n) node =
+    balance_sum t keeps starts v weigh stand n node
     ∙ to_balance (sum_below (coming_to t starts (flown v) n) (legs_in t)) (sum_below (leaving_from t starts (flown v) n) (legs_in t))
     (v (Ground (node_at n.fleet n.station (place_before (length (starts n.fleet n.station)) n.place)))) (v (Ground n)) q (flow.balance n node)
-flow_meets t keeps starts q v weigh flow (Count f) known =
-    count_sum t keeps starts v weigh f known
+flow_meets t keeps starts q v weigh stand flow (Count f) known =
+    count_sum t keeps starts v weigh stand f known
     ∙ to_product (laps_flown t (flown v) f + sum_below (last_arc starts v f) (stations_in t) + v (Slack f)) (fleet_of t f).aircraft q (flow.count f known)
 
 masked_tests : (k a b : Bool) (y : ℕ) → where_true k (pos (if a && b then y else 0)) ≡ where_true a (where_true b (where_true k (pos y)))
@@ -172,7 +187,7 @@ plans_are_points t keeps starts rows q w are plan =
               let line = get_or (lines_of t starts) i (Cover 0) in
               let place : i < length (lines_of t starts) = omega (arith, line_count t keeps starts rows are) in
               sum_at t keeps starts rows are (λ c. v (column_at columns c)) v (λ c below. refl) i place
-              ∙ flow_meets t keeps starts q v (record { each = plan.kept }) flow line (lines_are_known t starts i (Cover 0) place)
+              ∙ flow_meets t keeps starts q v (record { each = plan.kept }) (stands_on_arcs t keeps starts q w are.network plan) flow line (lines_are_known t starts i (Cover 0) place)
               ∙ ap (λ r. r *ℤ pos q) (sym (right_side_at t keeps starts rows are i place));
         };
         pairs = λ p known. by_test (keeps p) (λ kept. value_of_pair t keeps starts v p known kept)

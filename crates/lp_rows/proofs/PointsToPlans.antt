@@ -22,9 +22,9 @@ use Rattle.lp_rows.specs.Layout.{Starts, columns_of, node_at}
 use Rattle.lp_rows.specs.Points.{PointsArePlans, PointsCostAsPlans, value_of}
 use Rattle.lp_rows.proofs.Flows.{IsFlow, flow_is_plan, flown}
 use Rattle.lp_rows.proofs.LineNumbers.{cost_at, meets_line}
-use Rattle.lp_rows.proofs.LineSums.{balance_sum, coming_to, count_sum, cover_sum, last_arc, leaving_from, line_sum, over_flights}
+use Rattle.lp_rows.proofs.LineSums.{StandOnArcs, balance_sum, coming_to, count_sum, cover_sum, last_arc, leaving_from, line_sum, over_flights}
 use Rattle.lp_rows.proofs.Picks.{place_before}
-use Rattle.lp_rows.proofs.Places.{no_grounds, no_slacks, nothing_there, value_there}
+use Rattle.lp_rows.proofs.Places.{no_grounds, no_slacks, nothing_on_ground, nothing_there, value_there}
 
 -- each line of the tables comes to its right side
 pub record MeetsLines (t : Tables) (keeps : Domains) (starts : Starts) (q : ℕ) (v : Column → ℕ) : Type 0 where
@@ -39,23 +39,26 @@ as_balance a b c d q e = omega (arith, ints, e, zero-*ℤ (pos q))
 as_product : (m a q : ℕ) → pos m ≡ pos a *ℤ pos q → m ≡ q * a
 as_product m a q e = omega (arith, ints, e, mul_comm a q)
 
-pub lines_are_flow : (t : Tables) (keeps : Domains) (starts : Starts) (q : ℕ) (v : Column → ℕ) → WeighKept t keeps (flown v) → MeetsLines t keeps starts q v → IsFlow t starts q v
-lines_are_flow t keeps starts q v weigh meets = record {
+pub lines_are_flow : (t : Tables) (keeps : Domains) (starts : Starts) (q : ℕ) (v : Column → ℕ) → WeighKept t keeps (flown v) → StandOnArcs t keeps starts v → MeetsLines t keeps starts q v → IsFlow t starts q v
+lines_are_flow t keeps starts q v weigh stand meets = record {
   cover = λ l below. as_counts (weight_on t (flown v) l) q (sym (cover_sum t keeps starts v weigh l below) ∙ meets.each (Cover l) below);
   balance = λ n node. as_balance (sum_below (coming_to t starts (flown v) n) (legs_in t)) (sum_below (leaving_from t starts (flown v) n) (legs_in t))
       (v (Ground (node_at n.fleet n.station (place_before (length (starts n.fleet n.station)) n.place)))) (v (Ground n)) q
-      (sym (balance_sum t keeps starts v weigh n node) ∙ meets.each (Balance n) node);
+      (sym (balance_sum t keeps starts v weigh stand n node) ∙ meets.each (Balance n) node);
   count = λ f known. as_product (laps_flown t (flown v) f + sum_below (last_arc starts v f) (stations_in t) + v (Slack f)) (fleet_of t f).aircraft q
-      (sym (count_sum t keeps starts v weigh f known) ∙ meets.each (Count f) known);
+      (sym (count_sum t keeps starts v weigh stand f known) ∙ meets.each (Count f) known);
 }
 
 weighs_kept : (t : Tables) (keeps : Domains) (starts : Starts) (x : ℕ → ℕ) → WeighKept t keeps (flown (value_of (columns_of t keeps starts) x))
 weighs_kept t keeps starts x = record { each = λ p known not_kept. nothing_there t keeps starts x p not_kept }
 
+stands_on_arcs : (t : Tables) (keeps : Domains) (starts : Starts) (x : ℕ → ℕ) → StandOnArcs t keeps starts (value_of (columns_of t keeps starts) x)
+stands_on_arcs t keeps starts x = record { each = λ n node went. nothing_on_ground t keeps starts x n went }
+
 pub points_are_plans : PointsArePlans
 points_are_plans t keeps starts rows q x are meets =
     let v = value_of (columns_of t keeps starts) x in
-    flow_is_plan t keeps starts q v are.network (weighs_kept t keeps starts x) (lines_are_flow t keeps starts q v (weighs_kept t keeps starts x)
+    flow_is_plan t keeps starts q v are.network (weighs_kept t keeps starts x) (lines_are_flow t keeps starts q v (weighs_kept t keeps starts x) (stands_on_arcs t keeps starts x)
     (record { each = meets_line t keeps starts rows are q x v (λ c below. sym (value_there t keeps starts x c below)) meets }))
 
 pub points_cost_as_plans : PointsCostAsPlans

@@ -1,7 +1,7 @@
 -- Sums over the columns, by their kinds.
-use Rattle.std.proofs.Common.{◌≡◌, ℕ, zero, suc, ◌*◌, ◌^◌, ◌<◌, ◌≤◌, Bool, true, false, if◌then◌else◌, List, [], ◌∷◌, ◌++◌, length, get_or, map, All, ℤ, ◌+ℤ◌, refl, ◌∙◌, ap, arith, length-append}
+use Rattle.std.proofs.Common.{◌≡◌, ℕ, zero, suc, ◌+◌, ◌*◌, ◌^◌, ◌<◌, ◌≤◌, Bool, true, false, if◌then◌else◌, cond, List, [], ◌∷◌, ◌++◌, filter, length, get_or, map, All, ℤ, ◌+ℤ◌, refl, ◌∙◌, ap, arith, length-append}
 use Rattle.std.proofs.lemmas.List.{length-map}
-use Rattle.std.proofs.lemmas.List.Elements.{All-append, All-cons, All-map, All-nil}
+use Rattle.std.proofs.lemmas.List.Elements.{All-append, All-cons, All-head, All-map, All-nil, All-tail}
 use Rattle.fleet_model.specs.declared.limits.TheConstants.{MINUTES_PER_PERIOD}
 use Rattle.sums.specs.Below.{sum_below_ℤ}
 use Rattle.sums.proofs.Places.{get_or-list_below, length-list_below}
@@ -16,16 +16,19 @@ use Rattle.lp_rows.specs.declared.kinds.Column.TheVariants.{Flight, Ground, Slac
 use Rattle.lp_rows.specs.declared.kinds.Line.TheVariants.{Cover, Balance, Count}
 use Rattle.lp_rows.specs.Entries.{IsColumn, IsLine, IsNode}
 use Rattle.sums.specs.Places.{list_below}
-use Rattle.lp_rows.specs.Layout.{Starts, all_kept, all_nodes, columns_of, concat_below, lines_of, node_at, nodes_at, nodes_of, pair_of, pairs_of}
-use Rattle.lp_rows.proofs.ListSums.{by_places, of_append, of_concat, of_list, of_map, of_one, sum_list}
+use Rattle.lp_rows.specs.Layout.{Starts, all_arcs, all_kept, all_nodes, arc_stays, columns_of, concat_below, lines_of, node_at, nodes_at, nodes_of, pair_of, pairs_of}
+use Rattle.lp_rows.proofs.ListSums.{by_places, of_append, of_concat, of_filter, of_list, of_map, of_one, sum_list}
 
 -- over the kept pairs
 abbrev pub flights : Tables → Domains → (Column → ℤ) → ℤ
 flights t keeps h = sum_below_ℤ (λ l. sum_below_ℤ (λ f. where_true (keeps (leg_on l f)) (h (Flight (leg_on l f)))) (fleets_in t)) (legs_in t)
 
--- over the arcs
-abbrev pub grounds : Tables → Starts → (Column → ℤ) → ℤ
-grounds t starts h = sum_below_ℤ (λ f. sum_below_ℤ (λ s. sum_below_ℤ (λ k. h (Ground (node_at f s k))) (length (starts f s))) (stations_in t)) (fleets_in t)
+-- over the arcs that stay
+abbrev pub on_arc : Tables → Domains → Starts → (Column → ℤ) → ℕ → ℕ → ℕ → ℤ
+on_arc t keeps starts h f s k = where_true (arc_stays t keeps starts (node_at f s k)) (h (Ground (node_at f s k)))
+
+abbrev pub grounds : Tables → Domains → Starts → (Column → ℤ) → ℤ
+grounds t keeps starts h = sum_below_ℤ (λ f. sum_below_ℤ (λ s. sum_below_ℤ (on_arc t keeps starts h f s) (length (starts f s))) (stations_in t)) (fleets_in t)
 
 -- over the slacks
 abbrev pub slacks : Tables → (Column → ℤ) → ℤ
@@ -40,23 +43,26 @@ module _ (t : Tables) (keeps : Domains) (starts : Starts) (h : Column → ℤ) w
       ∙ sum_below_ℤ-same (λ f. sum_list (λ p. h (Flight p)) (pair_of keeps l f)) (λ f. where_true (keeps (leg_on l f)) (h (Flight (leg_on l f)))) (fleets_in t)
       (λ f lt. of_one (λ p. h (Flight p)) (keeps (leg_on l f)) (leg_on l f)))
 
-  over_nodes : sum_list (λ n. h (Ground n)) (all_nodes t starts) ≡ grounds t starts h
-  over_nodes =
-      of_concat (λ n. h (Ground n)) (nodes_of t starts) (fleets_in t)
-      ∙ sum_below_ℤ-same (λ f. sum_list (λ n. h (Ground n)) (nodes_of t starts f)) (λ f. sum_below_ℤ (λ s. sum_below_ℤ (λ k. h (Ground (node_at f s k))) (length (starts f s))) (stations_in t)) (fleets_in t)
-      (λ f below. of_concat (λ n. h (Ground n)) (nodes_at starts f) (stations_in t)
-      ∙ sum_below_ℤ-same (λ s. sum_list (λ n. h (Ground n)) (nodes_at starts f s)) (λ s. sum_below_ℤ (λ k. h (Ground (node_at f s k))) (length (starts f s))) (stations_in t)
-      (λ s lt. of_list (λ n. h (Ground n)) (node_at f s) (length (starts f s))))
+  over_nodes : (g : Node → ℤ) → sum_list g (all_nodes t starts) ≡ sum_below_ℤ (λ f. sum_below_ℤ (λ s. sum_below_ℤ (λ k. g (node_at f s k)) (length (starts f s))) (stations_in t)) (fleets_in t)
+  over_nodes g =
+      of_concat g (nodes_of t starts) (fleets_in t)
+      ∙ sum_below_ℤ-same (λ f. sum_list g (nodes_of t starts f)) (λ f. sum_below_ℤ (λ s. sum_below_ℤ (λ k. g (node_at f s k)) (length (starts f s))) (stations_in t)) (fleets_in t)
+      (λ f below. of_concat g (nodes_at starts f) (stations_in t)
+      ∙ sum_below_ℤ-same (λ s. sum_list g (nodes_at starts f s)) (λ s. sum_below_ℤ (λ k. g (node_at f s k)) (length (starts f s))) (stations_in t)
+      (λ s lt. of_list g (node_at f s) (length (starts f s))))
+
+  over_arcs : sum_list (λ n. h (Ground n)) (all_arcs t keeps starts) ≡ grounds t keeps starts h
+  over_arcs = of_filter (λ n. h (Ground n)) (arc_stays t keeps starts) (all_nodes t starts) ∙ over_nodes (λ n. where_true (arc_stays t keeps starts n) (h (Ground n)))
 
   -- over all columns by their places
-  pub over_columns : sum_below_ℤ (λ c. h (get_or (columns_of t keeps starts) c (Slack 0))) (length (columns_of t keeps starts)) ≡ flights t keeps h +ℤ grounds t starts h +ℤ slacks t h
+  pub over_columns : sum_below_ℤ (λ c. h (get_or (columns_of t keeps starts) c (Slack 0))) (length (columns_of t keeps starts)) ≡ flights t keeps h +ℤ grounds t keeps starts h +ℤ slacks t h
   over_columns =
-      let split = of_append h (map Flight (all_kept t keeps) ++ map Ground (all_nodes t starts)) (list_below Slack (fleets_in t)) in
-      let front = of_append h (map Flight (all_kept t keeps)) (map Ground (all_nodes t starts)) in
+      let split = of_append h (map Flight (all_kept t keeps) ++ map Ground (all_arcs t keeps starts)) (list_below Slack (fleets_in t)) in
+      let front = of_append h (map Flight (all_kept t keeps)) (map Ground (all_arcs t keeps starts)) in
       let pairs = of_map h Flight (all_kept t keeps) ∙ over_pairs in
-      let nodes = of_map h Ground (all_nodes t starts) ∙ over_nodes in
-      by_places h (columns_of t keeps starts) (Slack 0) ∙ split ∙ ap (λ z. z +ℤ sum_list h (list_below Slack (fleets_in t))) (front ∙ ap (λ z. z +ℤ sum_list h (map Ground (all_nodes t starts))) pairs ∙ ap (λ z. flights t keeps h +ℤ z) nodes)
-      ∙ ap (λ z. flights t keeps h +ℤ grounds t starts h +ℤ z) (of_list h Slack (fleets_in t))
+      let arcs = of_map h Ground (all_arcs t keeps starts) ∙ over_arcs in
+      by_places h (columns_of t keeps starts) (Slack 0) ∙ split ∙ ap (λ z. z +ℤ sum_list h (list_below Slack (fleets_in t))) (front ∙ ap (λ z. z +ℤ sum_list h (map Ground (all_arcs t keeps starts))) pairs ∙ ap (λ z. flights t keeps h +ℤ z) arcs)
+      ∙ ap (λ z. flights t keeps h +ℤ grounds t keeps starts h +ℤ z) (of_list h Slack (fleets_in t))
 
 -- what holds of each entry of lists one behind another
 pub all_concat : {X : Type 0} (P : X → Type 0) (g : ℕ → List X) (n : ℕ) → ((k : ℕ) → k < n → All P (g k)) → All P (concat_below g n)
@@ -77,20 +83,29 @@ all_of_nodes t starts P each =
     all_concat P (nodes_of t starts) (fleets_in t) (λ f known. all_concat P (nodes_at starts f) (stations_in t) (λ s within. all_list P (node_at f s) (length (starts f s)) (λ k below.
     each (node_at f s k) (record { fleet = known; station = within; place = below }))))
 
--- what holds of kept pairs, arcs and slacks holds of all columns
+-- .. and of those of them that pass a test
+pub all_filter : {X : Type 0} (P : X → Type 0) (p : X → Bool) (xs : List X) → All (λ x. p x ≡ true → P x) xs → All P (filter p xs)
+all_filter P p [] each = All-nil P
+all_filter {X} P p (x ∷ xs) each = picked (p x) (filter p xs) (All-head (λ y. p y ≡ true → P y) x xs each) (all_filter P p xs (All-tail (λ y. p y ≡ true → P y) x xs each))
+  where
+    picked : (b : Bool) (ys : List X) → (b ≡ true → P x) → All P ys → All P (cond b (x ∷ ys) ys)
+    picked true ys here rest = All-cons P x ys (here refl) rest
+    picked false ys here rest = rest
+
+-- what holds of kept pairs, arcs that stay and slacks holds of all columns
 pub all_columns : (t : Tables) (keeps : Domains) (starts : Starts) (P : Column → Type 0)
-    → ((l f : ℕ) → l < legs_in t → f < fleets_in t → keeps (leg_on l f) ≡ true → P (Flight (leg_on l f))) → ((n : Node) → IsNode t starts n → P (Ground n)) → ((f : ℕ) → f < fleets_in t → P (Slack f))
+    → ((l f : ℕ) → l < legs_in t → f < fleets_in t → keeps (leg_on l f) ≡ true → P (Flight (leg_on l f))) → ((n : Node) → IsNode t starts n → arc_stays t keeps starts n ≡ true → P (Ground n)) → ((f : ℕ) → f < fleets_in t → P (Slack f))
     → All P (columns_of t keeps starts)
-all_columns t keeps starts P of_pairs of_nodes of_fleets =
+all_columns t keeps starts P of_pairs of_arcs of_fleets =
     All-append P _ _
     (All-append P _ _
     (All-map P Flight (all_kept t keeps) (all_concat (λ p. P (Flight p)) (pairs_of t keeps) (legs_in t) (λ l below. all_concat (λ p. P (Flight p)) (pair_of keeps l) (fleets_in t) (λ f known.
     all_one (λ p. P (Flight p)) (keeps (leg_on l f)) (leg_on l f) (of_pairs l f below known)))))
-    (All-map P Ground (all_nodes t starts) (all_of_nodes t starts (λ n. P (Ground n)) of_nodes)))
+    (All-map P Ground (all_arcs t keeps starts) (all_filter (λ n. P (Ground n)) (arc_stays t keeps starts) (all_nodes t starts) (all_of_nodes t starts (λ n. arc_stays t keeps starts n ≡ true → P (Ground n)) of_arcs))))
     (all_list P Slack (fleets_in t) of_fleets)
 
 pub columns_are_known : (t : Tables) (keeps : Domains) (starts : Starts) → All (IsColumn t starts) (columns_of t keeps starts)
-columns_are_known t keeps starts = all_columns t keeps starts (IsColumn t starts) (λ l f below known kept. record { leg = below; fleet = known }) (λ n fits. fits) (λ f known. known)
+columns_are_known t keeps starts = all_columns t keeps starts (IsColumn t starts) (λ l f below known kept. record { leg = below; fleet = known }) (λ n fits stays. fits) (λ f known. known)
 
 pub lines_are_known : (t : Tables) (starts : Starts) → All (IsLine t starts) (lines_of t starts)
 lines_are_known t starts =
@@ -114,9 +129,18 @@ few_nodes t starts few =
     omega (arith, row, t.in_range.stations_fit.few)) in
     omega (arith, nodes, t.in_range.fleets_fit.few)
 
--- ten million at most
-pub few_columns : (t : Tables) (keeps : Domains) (starts : Starts) → ((f s : ℕ) → f < fleets_in t → s < stations_in t → length (starts f s) ≤ MINUTES_PER_PERIOD) → length (columns_of t keeps starts) ≤ 10 ^ 7
-few_columns t keeps starts few =
+pub few_filter : {X : Type 0} (p : X → Bool) (xs : List X) → length (filter p xs) ≤ length xs
+few_filter p [] = omega arith
+few_filter {X} p (x ∷ xs) = picked (p x) (filter p xs) (few_filter p xs)
+  where
+    picked : (b : Bool) (ys : List X) → length ys ≤ length xs → length (cond b (x ∷ ys) ys) ≤ length (x ∷ xs)
+    picked true ys few = omega (arith, few)
+    picked false ys few = omega (arith, few)
+
+-- ten million at most, also with all arcs
+pub few_parts : (t : Tables) (keeps : Domains) (starts : Starts) → ((f s : ℕ) → f < fleets_in t → s < stations_in t → length (starts f s) ≤ MINUTES_PER_PERIOD)
+    → length (all_kept t keeps) + length (all_nodes t starts) + fleets_in t ≤ 10 ^ 7
+few_parts t keeps starts few =
     let pairs = few_concat (pairs_of t keeps) (legs_in t) 20 (λ l below.
     let row = few_concat (pair_of keeps l) (fleets_in t) 1 (λ f known. few_one (keeps (leg_on l f)) (leg_on l f)) in omega (arith, row, t.in_range.fleets_fit.few)) in
     omega (
@@ -125,10 +149,18 @@ few_columns t keeps starts few =
       few_nodes t starts few,
       t.in_range.legs_fit.few,
       t.in_range.fleets_fit.few,
-      length-append (map Flight (all_kept t keeps) ++ map Ground (all_nodes t starts)) (list_below Slack (fleets_in t)),
-      length-append (map Flight (all_kept t keeps)) (map Ground (all_nodes t starts)),
+    )
+
+pub few_columns : (t : Tables) (keeps : Domains) (starts : Starts) → ((f s : ℕ) → f < fleets_in t → s < stations_in t → length (starts f s) ≤ MINUTES_PER_PERIOD) → length (columns_of t keeps starts) ≤ 10 ^ 7
+few_columns t keeps starts few =
+    omega (
+      arith,
+      few_parts t keeps starts few,
+      few_filter (arc_stays t keeps starts) (all_nodes t starts),
+      length-append (map Flight (all_kept t keeps) ++ map Ground (all_arcs t keeps starts)) (list_below Slack (fleets_in t)),
+      length-append (map Flight (all_kept t keeps)) (map Ground (all_arcs t keeps starts)),
       length-map (all_kept t keeps) Flight,
-      length-map (all_nodes t starts) Ground,
+      length-map (all_arcs t keeps starts) Ground,
       length-list_below Slack (fleets_in t),
     )
 

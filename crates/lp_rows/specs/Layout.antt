@@ -1,5 +1,5 @@
 -- The order of columns and of lines: the one place that says where each stands.
-use Rattle.std.specs.Prelude.{◌≡◌, ℕ, zero, suc, ◌<◌, ◌≤◌, if◌then◌else◌, List, [], ◌∷◌, ◌++◌, map, length, slice_index_or}
+use Rattle.std.specs.Prelude.{◌≡◌, ℕ, zero, suc, ◌<◌, ◌≤◌, Bool, if◌then◌else◌, List, [], ◌∷◌, ◌++◌, filter, map, length, slice_index_or, Option, is_none}
 use Rattle.sums.specs.Places.{list_below}
 use Rattle.fleet_model.specs.declared.limits.TheConstants.{MINUTES_PER_PERIOD}
 use Rattle.fleet_model.specs.declared.parts.Pair.{Pair}
@@ -7,6 +7,7 @@ use Rattle.fleet_model.specs.declared.tables.Tables.{Tables}
 use Rattle.fleet_model.specs.Kept.{Domains}
 use Rattle.fleet_model.specs.Schedule.{fleets_in, leg_on, legs_in, stations_in}
 use Rattle.node_aggregate.specs.Nodes.{AreNodesAt}
+use Rattle.island_arcs.specs.Moments.{moment_of}
 use Rattle.lp_rows.specs.declared.kinds.Node.{Node}
 use Rattle.lp_rows.specs.declared.kinds.Column.{Column}
 use Rattle.lp_rows.specs.declared.kinds.Column.TheVariants.{Flight, Ground, Slack}
@@ -56,6 +57,18 @@ nodes_of t starts f = concat_below (nodes_at starts f) (stations_in t)
 abbrev pub all_nodes : Tables → Starts → List Node
 all_nodes t starts = concat_below (nodes_of t starts) (fleets_in t)
 
+-- the moment of the arc from a node: the first minute of its wait at which its station is idle
+abbrev pub moment_at : Tables → Domains → Starts → Node → Option ℕ
+moment_at t keeps starts n = moment_of t keeps n.fleet n.station (starts n.fleet n.station) n.place
+
+-- an arc that has none stays among the columns
+unfoldable pub arc_stays : Tables → Domains → Starts → Node → Bool
+arc_stays t keeps starts n = is_none (moment_at t keeps starts n)
+
+-- the nodes whose arcs stay, in the order of all nodes
+abbrev pub all_arcs : Tables → Domains → Starts → List Node
+all_arcs t keeps starts = filter (arc_stays t keeps starts) (all_nodes t starts)
+
 -- the pair of a leg and a fleet, where it is kept
 abbrev pub pair_of : Domains → ℕ → ℕ → List Pair
 pair_of keeps l f = if keeps (leg_on l f) then leg_on l f ∷ [] else []
@@ -68,9 +81,9 @@ pairs_of t keeps l = concat_below (pair_of keeps l) (fleets_in t)
 abbrev pub all_kept : Tables → Domains → List Pair
 all_kept t keeps = concat_below (pairs_of t keeps) (legs_in t)
 
--- the kept pairs, the ground arcs, the slacks
+-- the kept pairs, the ground arcs that stay, the slacks
 abbrev pub columns_of : Tables → Domains → Starts → List Column
-columns_of t keeps starts = map Flight (all_kept t keeps) ++ map Ground (all_nodes t starts) ++ list_below Slack (fleets_in t)
+columns_of t keeps starts = map Flight (all_kept t keeps) ++ map Ground (all_arcs t keeps starts) ++ list_below Slack (fleets_in t)
 
 -- the cover lines, the balance lines, the count lines
 abbrev pub lines_of : Tables → Starts → List Line

@@ -3,3 +3,4 @@ pub mod Layout
 pub mod Outline
 pub mod Points
 pub mod Program
+pub mod Staying

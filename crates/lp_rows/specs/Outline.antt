@@ -1,5 +1,6 @@
 -- Where columns and lines stand, by their kinds.
-use Rattle.std.specs.Prelude.{◌≡◌, ℕ, ◌+◌, ◌<◌, List, ◌++◌, length, map, slice_index_or}
+use Rattle.std.specs.Prelude.{◌≡◌, ℕ, ◌+◌, ◌<◌, if◌then◌else◌, List, ◌++◌, length, map, slice_index_or, Option, Some, None}
+use Rattle.sums.specs.Below.{count_below}
 use Rattle.sums.specs.Places.{list_below}
 use Rattle.fleet_model.specs.declared.parts.Pair.{Pair}
 use Rattle.fleet_model.specs.declared.tables.Tables.{Tables}
@@ -11,7 +12,8 @@ use Rattle.lp_rows.specs.declared.kinds.Column.TheVariants.{Flight, Ground, Slac
 use Rattle.lp_rows.specs.declared.kinds.Line.{Line}
 use Rattle.lp_rows.specs.declared.kinds.Line.TheVariants.{Cover, Balance, Count}
 use Rattle.lp_rows.specs.declared.outline.Outline.{Outline}
-use Rattle.lp_rows.specs.Layout.{AreByStation, IsNetwork, all_kept, all_nodes, node_at, starts_in}
+use Rattle.lp_rows.specs.Layout.{AreByStation, IsNetwork, all_kept, all_nodes, moment_at, node_at, starts_in}
+use Rattle.lp_rows.specs.Staying.{stays_at}
 
 -- an outline has the nodes of its network, and the legs and fleets of the tables
 pub record IsOutlineOver (t : Tables) (outline : Outline) : Type 0 where
@@ -20,35 +22,42 @@ pub record IsOutlineOver (t : Tables) (outline : Outline) : Type 0 where
   pub legs : outline.legs ≡ legs_in t
   pub fleets : outline.fleets ≡ fleets_in t
 
--- the outline of a subproblem: its network is that of the kept pairs
+-- the outline of a subproblem: its network is that of the kept pairs, and each arc has its moment there
 pub record IsOutline (t : Tables) (keeps : Domains) (outline : Outline) : Type 0 where
   pub over : IsOutlineOver t outline
   pub network : IsNetwork t keeps (starts_in outline.network)
   pub pairs : outline.pairs ≡ all_kept t keeps
+  pub moments : outline.moments ≡ map (moment_at t keeps (starts_in outline.network)) outline.nodes
 
--- its columns, and its lines
-abbrev pub columns_in : Outline → List Column
-columns_in o = map Flight o.pairs ++ map Ground o.nodes ++ list_below Slack o.fleets
-
-abbrev pub lines_in : Outline → List Line
-lines_in o = list_below Cover o.legs ++ map Balance o.nodes ++ list_below Count o.fleets
-
--- pairs and nodes by their numbers
+-- pairs, and nodes with their arcs and the moments of these, by their numbers
 abbrev pub pair_in : Outline → ℕ → Pair
 pair_in o number = slice_index_or o.pairs number (leg_on 0 0)
 
 abbrev pub node_in : Outline → ℕ → Node
 node_in o number = slice_index_or o.nodes number (node_at 0 0 0)
 
--- where the columns stand: the pairs, by number; the arcs, by the numbers of their nodes; the slacks, by fleet
+abbrev pub arc_in : Outline → ℕ → Column
+arc_in o number = Ground (node_in o number)
+
+abbrev pub moment_in : Outline → ℕ → Option ℕ
+moment_in o number = slice_index_or o.moments number None
+
+-- its columns, and its lines
+abbrev pub columns_in : Outline → List Column
+columns_in o = map Flight o.pairs ++ map (arc_in o) o.arcs ++ list_below Slack o.fleets
+
+abbrev pub lines_in : Outline → List Line
+lines_in o = list_below Cover o.legs ++ map Balance o.nodes ++ list_below Count o.fleets
+
+-- where the columns stand: the pairs, by number; the arcs that stay, by the numbers of their nodes; the slacks, by fleet
 abbrev pub flight_column : Outline → ℕ → ℕ
 flight_column o number = number
 
-abbrev pub ground_column : Outline → ℕ → ℕ
-ground_column o number = length o.pairs + number
+abbrev pub ground_column : Outline → ℕ → Option ℕ
+ground_column o number = if stays_at o.moments number then Some (length o.pairs + count_below (stays_at o.moments) number) else None
 
 abbrev pub slack_column : Outline → ℕ → ℕ
-slack_column o f = length o.pairs + length o.nodes + f
+slack_column o f = length o.pairs + length o.arcs + f
 
 -- where the lines stand: the cover lines, by leg; the balance lines, by the numbers of their nodes; the count lines,
 -- by fleet
@@ -67,7 +76,7 @@ first_priced_line o = o.legs
 
 -- how many there are
 abbrev pub column_count : Outline → ℕ
-column_count o = length o.pairs + length o.nodes + o.fleets
+column_count o = length o.pairs + length o.arcs + o.fleets
 
 abbrev pub line_count : Outline → ℕ
 line_count o = o.legs + length o.nodes + o.fleets

@@ -1,6 +1,6 @@
 -- Points of the lines of a subproblem, and the mixed plans that they stand for.
 use Rattle.std.specs.Prelude.{◌≡◌, ℕ, ◌+◌, Bool, false, ◌==◌, ◌&&◌, if◌then◌else◌, List, length, slice_index_or}
-use Rattle.sums.specs.Below.{sum_below}
+use Rattle.sums.specs.Below.{count_below, sum_below}
 use Rattle.fleet_model.specs.declared.parts.Pair.{Pair}
 use Rattle.fleet_model.specs.declared.tables.Tables.{Tables}
 use Rattle.fleet_model.specs.Counts.{Weights}
@@ -12,7 +12,7 @@ use Rattle.row_store.specs.declared.problem.Rows.{Rows}
 use Rattle.lp_rows.specs.declared.kinds.Column.{Column}
 use Rattle.lp_rows.specs.declared.kinds.Column.TheVariants.{Flight, Ground, Slack}
 use Rattle.lp_rows.specs.Entries.{same_node}
-use Rattle.lp_rows.specs.Layout.{Starts, columns_of}
+use Rattle.lp_rows.specs.Layout.{Starts, arc_stays, columns_of, node_at}
 use Rattle.lp_rows.specs.Program.{AreRows}
 
 abbrev pub same_column : Column → Column → Bool
@@ -53,14 +53,21 @@ abbrev pub PointsCostAsPlans : Type 0
 PointsCostAsPlans = (t : Tables) (keeps : Domains) (starts : Starts) (rows : Rows) (x : ℕ → ℕ) → AreRows t keeps starts rows
     → point_cost rows x ≡ mixed_cost t (pair_part (columns_of t keeps starts) x)
 
--- how many arcs there are: one for each node
-abbrev pub arcs_in : Tables → Starts → ℕ
-arcs_in t starts = sum_below (λ f. sum_below (λ s. length (starts f s)) (stations_in t)) (fleets_in t)
+-- how many nodes there are
+abbrev pub node_count : Tables → Starts → ℕ
+node_count t starts = sum_below (λ f. sum_below (λ s. length (starts f s)) (stations_in t)) (fleets_in t)
+
+-- how many of their arcs stay
+abbrev pub arcs_at : Tables → Domains → Starts → ℕ → ℕ → ℕ
+arcs_at t keeps starts f s = count_below (λ k. arc_stays t keeps starts (node_at f s k)) (length (starts f s))
+
+abbrev pub arcs_in : Tables → Domains → Starts → ℕ
+arcs_in t keeps starts = sum_below (λ f. sum_below (arcs_at t keeps starts f) (stations_in t)) (fleets_in t)
 
 -- as many columns and lines as there are of each kind
 pub record AreCounted (t : Tables) (keeps : Domains) (starts : Starts) (rows : Rows) : Type 0 where
-  pub columns : rows.columns ≡ pairs_kept t keeps + arcs_in t starts + fleets_in t
-  pub lines : length rows.lines ≡ legs_in t + arcs_in t starts + fleets_in t
+  pub columns : rows.columns ≡ pairs_kept t keeps + arcs_in t keeps starts + fleets_in t
+  pub lines : length rows.lines ≡ legs_in t + node_count t starts + fleets_in t
 
 abbrev pub RowsAreCounted : Type 0
 RowsAreCounted = (t : Tables) (keeps : Domains) (starts : Starts) (rows : Rows) → AreRows t keeps starts rows → AreCounted t keeps starts rows

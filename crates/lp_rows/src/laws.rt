@@ -17,7 +17,8 @@ pub fn points_cost_as_plans()
     ensures { PointsCostAsPlans }
 {}
 
-/// There are as many columns as kept pairs, ground arcs and fleets, and as many lines as legs, nodes and fleets.
+/// There are as many columns as kept pairs, ground arcs that stay and fleets, and as many lines as legs, nodes and
+/// fleets.
 pub fn rows_are_counted()
     ensures { RowsAreCounted }
 {}

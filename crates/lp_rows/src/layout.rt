@@ -5,8 +5,8 @@ ghost use Rattle.fleet_model.specs.Kept.{kept_by};
 ghost use Rattle.fleet_model.specs.Schedule.{fleets_in, legs_in, stations_in};
 ghost use Rattle.sums.specs.Places.{list_below};
 ghost use Rattle.lp_rows.specs.Layout.{AreByStation, all_kept, all_nodes, nodes_at, nodes_of, pair_of, pairs_of, starts_in};
-ghost use Rattle.lp_rows.specs.Outline.{columns_in, lines_in};
-ghost use Rattle.lp_rows.specs.declared.kinds.Column.TheVariants.{Flight, Ground, Slack};
+ghost use Rattle.lp_rows.specs.Outline.{arc_in, columns_in, lines_in};
+ghost use Rattle.lp_rows.specs.declared.kinds.Column.TheVariants.{Flight, Slack};
 ghost use Rattle.lp_rows.specs.declared.kinds.Line.TheVariants.{Balance, Count, Cover};
 
 use crate::kinds::{Column, Line, Node};
@@ -16,14 +16,14 @@ use entries::NoMemory;
 use fleet_model::{Kept, Pair, Tables};
 use std::alloc::Global;
 
-/// The columns: the kept pairs by leg, then fleet; the ground arcs by fleet, station and node; a slack for each
-/// fleet.
+/// The columns: the kept pairs by leg, then fleet; the ground arcs that stay by fleet, station and node; a slack for
+/// each fleet.
 pub fn columns(alloc: Global, outline: &Outline) -> Result<Vec<Column>, NoMemory>
     ensures { IfOk result (λ columns. columns.items ≡ columns_in outline.now) }
 {
     let mut columns = Vec::new(alloc);
     push_flights(&mut columns, outline.pairs.as_slice())?;
-    push_grounds(&mut columns, outline.nodes.as_slice())?;
+    push_grounds(&mut columns, outline)?;
     push_slacks(&mut columns, outline.fleets)?;
     Ok(columns)
 }
@@ -49,11 +49,11 @@ fn push_flights(columns: &mut Vec<Column>, pairs: &[Pair]) -> Result<(), NoMemor
     Ok(())
 }
 
-fn push_grounds(columns: &mut Vec<Column>, nodes: &[Node]) -> Result<(), NoMemory>
-    ensures { OnOk result (columns.new.items ≡ columns.old.items ++ map Ground nodes.now) }
+fn push_grounds(columns: &mut Vec<Column>, outline: &Outline) -> Result<(), NoMemory>
+    ensures { OnOk result (columns.new.items ≡ columns.old.items ++ map (arc_in outline.now) outline.now.arcs) }
 {
-    for node in nodes {
-        columns.push(Column::Ground(*node))?;
+    for number in outline.arcs.as_slice() {
+        columns.push(Column::Ground(outline.nodes.as_slice()[*number as usize]))?;
     }
     Ok(())
 }
@@ -129,7 +129,7 @@ fn push_pair(pairs: &mut Vec<Pair>, kept: &Kept, pair: Pair) -> Result<(), NoMem
     Ok(())
 }
 
-/// The nodes, by fleet, station and place: the order of the ground arcs and of the balance lines.
+/// The nodes, by fleet, station and place: the order of the balance lines, and of the ground arcs that stay.
 pub fn network_nodes(
     alloc: Global,
     tables: &Tables,

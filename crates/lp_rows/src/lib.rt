@@ -1,6 +1,7 @@
 //! The linear program of a subproblem over its time-line network: cover, balance and count lines.
 #![tactic(auto)]
 
+pub mod arcs;
 pub mod entry;
 pub mod kinds;
 pub mod laws;
@@ -10,6 +11,7 @@ pub mod outline;
 pub mod positions;
 pub mod program;
 
+pub use arcs::{arc_moments, staying_arcs};
 pub use kinds::{Column, Line, Node};
 pub use layout::{columns, kept_pairs, lines, network_nodes};
 pub use network::Network;

@@ -1,12 +1,13 @@
 ghost use Rattle.std.specs.Prelude.{◌+◌, ◌^◌, ◌<◌, length};
+ghost use Rattle.lp_rows.specs.Staying.{AreStaying};
 
 use crate::kinds::Node;
 use crate::network::Network;
 use entries::Entries;
 use fleet_model::Pair;
 
-/// What stands where in the linear program of a subproblem: its time-line network, its kept pairs, and how many legs
-/// and fleets there are. Columns and lines are asked for by their methods, and their places are counted nowhere else.
+/// What stands where in the linear program of a subproblem: its time-line network, its kept pairs, which ground arcs
+/// stay, and how many legs and fleets there are. Columns and lines are asked for by their methods, and their places are counted nowhere else.
 #[derive(Debug, Drop)]
 pub struct Outline {
     pub network: Network,
@@ -14,8 +15,13 @@ pub struct Outline {
     pub pairs: Entries<Pair>,
     /// The nodes of the network, by fleet, station and place.
     pub nodes: Entries<Node>,
+    /// The moment of the arc from each node, by the numbers of the nodes; an arc that has one is no column.
+    pub moments: Entries<Option<u16>>,
+    /// The numbers of the nodes whose arcs stay, rising.
+    pub arcs: Entries<u32>,
     pub legs: u32,
     pub fleets: u32,
-    pub ghost columns_fit: { length pairs + length nodes + fleets < 2 ^ 32 },
+    pub ghost columns_fit: { length pairs + length arcs + fleets < 2 ^ 32 },
     pub ghost lines_fit: { legs + length nodes + fleets < 2 ^ 32 },
+    pub ghost arcs_stay: { AreStaying (length nodes) moments arcs },
 }

@@ -1,10 +1,11 @@
 //! Where columns and lines stand.
-ghost use Rattle.std.specs.Prelude.{◌≡◌, ◌<◌, length, IfOk};
+ghost use Rattle.std.specs.Prelude.{◌≡◌, ◌<◌, length, IfOk, IfSome};
 ghost use Rattle.fleet_model.specs.Kept.{kept_by};
-ghost use Rattle.lp_rows.specs.declared.kinds.Column.TheVariants.{Flight, Ground, Slack};
+ghost use Rattle.lp_rows.specs.declared.kinds.Column.TheVariants.{Flight, Slack};
 ghost use Rattle.lp_rows.specs.declared.kinds.Line.TheVariants.{Balance, Count, Cover};
-ghost use Rattle.lp_rows.specs.Outline.{IsOutline, StandsAt, balance_line, column_count, columns_in, count_line, cover_line, first_priced_line, flight_column, ground_column, line_count, lines_in, node_in, pair_in, slack_column};
+ghost use Rattle.lp_rows.specs.Outline.{IsOutline, StandsAt, arc_in, balance_line, column_count, columns_in, count_line, cover_line, first_priced_line, flight_column, ground_column, line_count, lines_in, node_in, pair_in, slack_column};
 
+use crate::arcs::{arc_moments, staying_arcs};
 use crate::layout::{kept_pairs, network_nodes};
 use crate::network::Network;
 use crate::outline::Outline;
@@ -20,10 +21,14 @@ impl Outline {
         let network = Network::new(alloc, tables, kept)?;
         let pairs = kept_pairs(alloc, tables, kept)?;
         let nodes = network_nodes(alloc, tables, &network)?;
+        let moments = arc_moments(alloc, tables, kept, &network)?;
+        let arcs = staying_arcs(alloc, &moments)?;
         Ok(Outline {
             network,
             pairs: Entries::from_vec(pairs),
             nodes: Entries::from_vec(nodes),
+            moments: Entries::from_vec(moments),
+            arcs: Entries::from_vec(arcs),
             legs: tables.leg_count(),
             fleets: tables.fleet_count(),
         })
@@ -34,7 +39,7 @@ impl Outline {
         ensures value { result ≡ column_count self.now }
         ensures all { result ≡ length (columns_in self.now) }
     {
-        self.pairs.len() as u32 + self.nodes.len() as u32 + self.fleets
+        self.pairs.len() as u32 + self.arcs.len() as u32 + self.fleets
     }
 
     /// How many lines there are.
@@ -54,13 +59,16 @@ impl Outline {
         number
     }
 
-    /// The column of the ground arc from the node of this number.
-    pub fn ground_column(&self, number: u32) -> u32
+    /// The column of the ground arc from the node of this number, by bisection, where the arc stays.
+    pub fn ground_column(&self, number: u32) -> Option<u32>
         requires { number < length self.now.nodes }
         ensures place { result ≡ ground_column self.now number }
-        ensures stands { StandsAt (columns_in self.now) result (Ground (node_in self.now number)) }
+        ensures stands { IfSome result (λ column. StandsAt (columns_in self.now) column (arc_in self.now number)) }
     {
-        self.pairs.len() as u32 + number
+        match self.arcs.as_slice().binary_search(&number) {
+            Ok(place) => Some(self.pairs.len() as u32 + place as u32),
+            Err(_) => None,
+        }
     }
 
     /// The column of a fleet's slack.
@@ -69,7 +77,7 @@ impl Outline {
         ensures place { result ≡ slack_column self.now fleet }
         ensures stands { StandsAt (columns_in self.now) result (Slack fleet) }
     {
-        self.pairs.len() as u32 + self.nodes.len() as u32 + fleet
+        self.pairs.len() as u32 + self.arcs.len() as u32 + fleet
     }
 
     /// The line that covers a leg.

@@ -4,7 +4,6 @@ use mathlib.Core.Bool.{false≢true}
 use Rattle.std.proofs.lemmas.Bool.{cases_lt}
 use Rattle.std.proofs.lemmas.Bool.Decides.{nat_tests}
 use Rattle.std.proofs.lemmas.Int.{ints}
-use Rattle.sums.proofs.Naturals.{same_number}
 use Rattle.sums.proofs.Tests.{by_test}
 use Rattle.frac_row.specs.declared.row.FracRow.{FracRow}
 use Rattle.fleet_model.specs.declared.parts.Pair.{Pair}
@@ -12,14 +11,17 @@ use Rattle.fleet_model.specs.declared.tables.Tables.{Tables}
 use Rattle.fleet_model.specs.Kept.{Domains, pairs_kept}
 use Rattle.fleet_model.specs.Schedule.{leg_on}
 use Rattle.row_store.specs.Table.{height_of, right_side, row_at}
+use Rattle.dual_lift.specs.Parts.{AreParts, part_below, part_of}
+use Rattle.dual_lift.specs.Scales.{scale_below}
+use Rattle.dual_lift.proofs.BasicPoints.{HaveColumns, no_part, part_there}
+use Rattle.dual_lift.proofs.LeastScales.{HaveDens, part_is, scale_has, signed_part}
 use Rattle.lp_rows.specs.Layout.{Starts, all_kept, concat_below, pair_at_column}
 use Rattle.lp_rows.proofs.ColumnPlaces.{pair_once}
 use Rattle.dual_bound.specs.Mixed.{is_weight_of, weight_after, weight_in}
 use Rattle.dual_bound.specs.declared.mixed.Mixed.{Mixed}
 use Rattle.dual_bound.specs.declared.mixed.Weight.{Weight}
-use Rattle.price_lift.specs.Parts.{AreParts, part_below, part_of, weight_where, weights_at}
-use Rattle.price_lift.specs.Weights.{AreBasicWeights, IsBasicIn, scale_below}
-use Rattle.price_lift.proofs.LeastScales.{HaveDens, part_is, scale_has, signed_part}
+use Rattle.price_lift.specs.Parts.{weight_where, weights_at}
+use Rattle.price_lift.specs.Weights.{AreBasicWeights, IsBasicIn}
 
 -- ---- the weight after entries
 after_append : (w : ℤ) (xs ys : List Weight) (p : Pair) → weight_after w (xs ++ ys) p ≡ weight_after (weight_after w xs p) ys p
@@ -98,29 +100,6 @@ module _ (pairs : List Pair) (parts : List ℤ) (p : Pair) where
           more n ∙ another (pair n) p (get_or parts n (pos 0)) (weight_below n) e ∙ missing.1,
         ))
   ]
-
--- ---- the parts of a column
--- each line has a basic column of its own
-pub record HaveColumns (basis : List ℕ) (n : ℕ) : Type 0 where
-  pub differ : (i j : ℕ) → i < n → j < n → get_or basis i 0 ≡ get_or basis j 0 → i ≡ j
-
-pub part_there : (table : List FracRow) (basis : List ℕ) (scale n line : ℕ) → HaveColumns basis n → line < n → part_below table basis scale n (get_or basis line 0) ≡ part_of table scale line
-part_there table basis scale zero line own below = absurd (omega arith)
-part_there table basis scale (suc n) line own below = by_test (get_or basis n 0 == get_or basis line 0)
-    (λ e.
-    let same : get_or basis n 0 ≡ get_or basis line 0 = grind (arith, nat_tests) in
-    let at : n ≡ line = own.differ n line (omega arith) below same in
-    ap (λ b. cond b (part_of table scale n) (part_below table basis scale n (get_or basis line 0))) e ∙ ap (part_of table scale) at)
-    (λ e.
-    ap (λ b. cond b (part_of table scale n) (part_below table basis scale n (get_or basis line 0))) e
-    ∙ part_there table basis scale n line (record { differ = λ i j less there. own.differ i j (omega arith) (omega arith) })
-    (elim (cases_lt line n) [ inl before ↦ before | inr last ↦ let at : n ≡ line = omega arith in absurd (false≢true (sym e ∙ ap (λ l. get_or basis l 0 == get_or basis line 0) at ∙ same_number (get_or basis line 0))) ]))
-
-no_part : (table : List FracRow) (basis : List ℕ) (scale n column : ℕ) → ((line : ℕ) → line < n → get_or basis line 0 ≢ column) → part_below table basis scale n column ≡ 0
-no_part table basis scale zero column other = refl
-no_part table basis scale (suc n) column other = by_test (get_or basis n 0 == column)
-    (λ e. let same : get_or basis n 0 ≡ column = grind (arith, nat_tests) in absurd (other n (omega arith) same))
-    (λ e. ap (λ b. cond b (part_of table scale n) (part_below table basis scale n column)) e ∙ no_part table basis scale n column (λ line below. other line (omega arith)))
 
 -- ---- the weights
 module _ (t : Tables) (keeps : Domains) (starts : Starts) (table : List FracRow) (basis : List ℕ) (mixed : Mixed) (parts : List ℤ)

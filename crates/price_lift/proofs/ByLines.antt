@@ -11,7 +11,7 @@ use Rattle.lp_rows.specs.declared.kinds.Line.TheVariants.{Balance, Count, Cover}
 use Rattle.lp_rows.specs.declared.kinds.Node.{Node}
 use Rattle.lp_rows.specs.Entries.{is_in}
 use Rattle.lp_rows.specs.Layout.{IsNetwork, Starts, all_nodes, node_at, line_at, node_of_number}
-use Rattle.lp_rows.specs.Points.{arcs_in}
+use Rattle.lp_rows.specs.Points.{node_count}
 use Rattle.lp_rows.proofs.Counted.{nodes_are}
 use Rattle.price_lift.specs.Duals.{value_in}
 use Rattle.price_lift.specs.Prices.{AreByLines}
@@ -47,7 +47,7 @@ module _ (t : Tables) (starts : Starts) where
 
   pub record IsOfFleet (line f : ℕ) : Type 0 where
     pub known : f < fleets_in t
-    pub is : line ≡ legs_in t + (arcs_in t starts + f)
+    pub is : line ≡ legs_in t + (node_count t starts + f)
 
   from_sum : (a n : ℕ) → a ≤ n → n ≡ a + (n - a)
   from_sum a n order = omega arith
@@ -58,7 +58,7 @@ module _ (t : Tables) (starts : Starts) where
     | inr behind ↦ by_rest (line - legs_in t) (from_sum (legs_in t) line behind)
   ]
     where
-      in_nodes : (k : ℕ) → k < arcs_in t starts → line ≡ legs_in t + k → IsOfNode line n
+      in_nodes : (k : ℕ) → k < node_count t starts → line ≡ legs_in t + k → IsOfNode line n
       in_nodes k below is =
           let number = node_number t starts k below in
           let same : n ≡ node_at number.fleet number.station number.place =
@@ -66,16 +66,16 @@ module _ (t : Tables) (starts : Starts) where
           ∙ ap (λ j. Balance (node_of_number t starts j)) number.is ∙ ap Balance (node_there t starts number.fleet number.station number.place (node_at 0 0 0) number.known number.within number.below)) in
           subst (IsOfNode line) (sym same) (record { fleet = number.known; station = number.within; place = number.below; is = is ∙ ap (λ j. legs_in t + j) number.is })
 
-      in_fleets : (k : ℕ) → line ≡ legs_in t + (arcs_in t starts + k) → IsOfNode line n
+      in_fleets : (k : ℕ) → line ≡ legs_in t + (node_count t starts + k) → IsOfNode line n
       in_fleets k is = elim (cases_lt k (fleets_in t)) [
         | inl known ↦ absurd (balance_count n k (sym e ∙ ap (line_at t starts) is ∙ count_there t starts k known))
         | inr past ↦ absurd (cover_balance 0 n (sym (none_behind t starts k past) ∙ ap (line_at t starts) (sym is) ∙ e))
       ]
 
       by_rest : (k : ℕ) → line ≡ legs_in t + k → IsOfNode line n
-      by_rest k is = elim (cases_lt k (arcs_in t starts)) [
+      by_rest k is = elim (cases_lt k (node_count t starts)) [
         | inl below ↦ in_nodes k below is
-        | inr past ↦ in_fleets (k - arcs_in t starts) (is ∙ ap (λ j. legs_in t + j) (from_sum (arcs_in t starts) k past))
+        | inr past ↦ in_fleets (k - node_count t starts) (is ∙ ap (λ j. legs_in t + j) (from_sum (node_count t starts) k past))
       ]
 
   pub of_fleet : (line f : ℕ) → line_at t starts line ≡ Count f → IsOfFleet line f
@@ -84,7 +84,7 @@ module _ (t : Tables) (starts : Starts) where
     | inr behind ↦ by_rest (line - legs_in t) (from_sum (legs_in t) line behind)
   ]
     where
-      in_fleets : (k : ℕ) → line ≡ legs_in t + (arcs_in t starts + k) → IsOfFleet line f
+      in_fleets : (k : ℕ) → line ≡ legs_in t + (node_count t starts + k) → IsOfFleet line f
       in_fleets k is = elim (cases_lt k (fleets_in t)) [
         | inl known ↦
             let same : k ≡ f = same_fleet k f (sym (count_there t starts k known) ∙ ap (line_at t starts) (sym is) ∙ e) in
@@ -93,9 +93,9 @@ module _ (t : Tables) (starts : Starts) where
       ]
 
       by_rest : (k : ℕ) → line ≡ legs_in t + k → IsOfFleet line f
-      by_rest k is = elim (cases_lt k (arcs_in t starts)) [
+      by_rest k is = elim (cases_lt k (node_count t starts)) [
         | inl below ↦ absurd (balance_count (node_of_number t starts k) f (sym (balance_there t starts k below) ∙ ap (line_at t starts) (sym is) ∙ e))
-        | inr past ↦ in_fleets (k - arcs_in t starts) (is ∙ ap (λ j. legs_in t + j) (from_sum (arcs_in t starts) k past))
+        | inr past ↦ in_fleets (k - node_count t starts) (is ∙ ap (λ j. legs_in t + j) (from_sum (node_count t starts) k past))
       ]
 
 -- ---- prices by the numbers
@@ -118,7 +118,7 @@ are_by_lines t keeps starts duals network = record {
       let at = of_fleet t starts line f e in
       get_or-list_below (λ g. neg_ℤ (number_of duals (length (all_nodes t starts) + g))) (fleets_in t) f (pos 0) at.known
       ∙ ap (λ n. neg_ℤ (number_of duals (n + f))) (nodes_are t starts)
-      ∙ ap neg_ℤ (sym (value_there t duals line (arcs_in t starts + f) at.is));
+      ∙ ap neg_ℤ (sym (value_there t duals line (node_count t starts + f) at.is));
 }
 
 -- by one network, and so by each

@@ -16,14 +16,14 @@ use Rattle.lp_rows.specs.declared.kinds.Line.{Line}
 use Rattle.lp_rows.specs.declared.kinds.Line.TheVariants.{Balance, Count, Cover}
 use Rattle.lp_rows.specs.Entries.{column_cost, entry_of, right_side_of}
 use Rattle.lp_rows.specs.Layout.{Starts, columns_of, line_at}
-use Rattle.lp_rows.specs.Points.{AreCounted, arcs_in, column_at}
+use Rattle.lp_rows.specs.Points.{AreCounted, column_at, node_count}
 use Rattle.lp_rows.specs.Program.{AreRows}
 use Rattle.lp_rows.proofs.LineNumbers.{line_count, number_at_column, right_side_at}
 use Rattle.price_lift.proofs.DownColumns.{down}
 
 -- ---- columns by their numbers
 module _ (t : Tables) (keeps : Domains) (starts : Starts) (rows : Rows) (are : AreRows t keeps starts rows) (counted : AreCounted t keeps starts rows) (y : ℕ → ℤ) where
-  lines_long : length rows.lines ≡ legs_in t + (arcs_in t starts + fleets_in t)
+  lines_long : length rows.lines ≡ legs_in t + (node_count t starts + fleets_in t)
   lines_long = omega (arith, counted.lines)
 
   pub weighed_column : (c : ℕ) → c < length (columns_of t keeps starts) → weighed rows y c ≡ down t starts y (λ line. entry_of t starts line (column_at (columns_of t keeps starts) c))

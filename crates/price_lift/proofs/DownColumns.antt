@@ -17,7 +17,7 @@ use Rattle.lp_rows.specs.declared.kinds.Line.{Line}
 use Rattle.lp_rows.specs.declared.kinds.Line.TheVariants.{Balance, Count, Cover}
 use Rattle.lp_rows.specs.Entries.{IsNode, balance_entry, comes_to_node, count_entry, cover_entry, entry_of, gets_arc, is_in, leaves_node, one_if, passes_day_start, place_after, right_side_of, same_node}
 use Rattle.lp_rows.specs.Layout.{Starts, node_at, line_at}
-use Rattle.lp_rows.specs.Points.{arcs_in}
+use Rattle.lp_rows.specs.Points.{node_count}
 use Rattle.lp_rows.proofs.ListSums.{all_zero}
 use Rattle.lp_rows.proofs.Picks.{pick_nodes}
 use Rattle.lp_rows.proofs.LinePlaces.{balance_there, before, count_there, cover_there, node_there, node_within, over_lines}
@@ -48,7 +48,7 @@ module _ (t : Tables) (starts : Starts) (y : ℕ → ℤ) where
   of_node f s k = y (legs_in t + (before t starts f s + k))
 
   abbrev pub of_fleet : ℕ → ℤ
-  of_fleet f = y (legs_in t + (arcs_in t starts + f))
+  of_fleet f = y (legs_in t + (node_count t starts + f))
 
   -- a sum over all nodes
   abbrev pub over_nodes : (ℕ → ℕ → ℕ → ℤ) → ℤ
@@ -71,7 +71,7 @@ module _ (t : Tables) (starts : Starts) (y : ℕ → ℤ) where
 
   -- by any numbers of lines
   abbrev pub down : (Line → ℤ) → ℤ
-  down e = sum_below_ℤ (λ i. y i *ℤ e (line_at t starts i)) (legs_in t + (arcs_in t starts + fleets_in t))
+  down e = sum_below_ℤ (λ i. y i *ℤ e (line_at t starts i)) (legs_in t + (node_count t starts + fleets_in t))
 
   pub by_kinds : (e : Line → ℤ) → down e
       ≡ sum_below_ℤ (λ l. y l *ℤ e (Cover l)) (legs_in t) +ℤ (over_nodes (λ f s k. of_node f s k *ℤ e (Balance (node_at f s k))) +ℤ sum_below_ℤ (λ f. of_fleet f *ℤ e (Count f)) (fleets_in t))
@@ -80,7 +80,7 @@ module _ (t : Tables) (starts : Starts) (y : ℕ → ℤ) where
       let balances = over_nodes-same (λ f s k. of_node f s k *ℤ e (line_at t starts (legs_in t + (before t starts f s + k)))) (λ f s k. of_node f s k *ℤ e (Balance (node_at f s k)))
       (λ f s k known within below. ap (λ j. of_node f s k *ℤ e j)
       (balance_there t starts (before t starts f s + k) (node_within t starts f s k known within below) ∙ ap Balance (node_there t starts f s k (node_at 0 0 0) known within below))) in
-      let counts = sum_below_ℤ-same (λ f. of_fleet f *ℤ e (line_at t starts (legs_in t + (arcs_in t starts + f)))) (λ f. of_fleet f *ℤ e (Count f)) (fleets_in t) (λ f known. ap (λ k. of_fleet f *ℤ e k) (count_there t starts f known)) in
+      let counts = sum_below_ℤ-same (λ f. of_fleet f *ℤ e (line_at t starts (legs_in t + (node_count t starts + f)))) (λ f. of_fleet f *ℤ e (Count f)) (fleets_in t) (λ f known. ap (λ k. of_fleet f *ℤ e k) (count_there t starts f known)) in
       over_lines t starts (λ i. y i *ℤ e (line_at t starts i)) ∙ omega (arith, ints, covers, balances, counts)
 
   no_covers : (e : Line → ℤ) → ((l : ℕ) → e (Cover l) ≡ pos 0) → sum_below_ℤ (λ l. y l *ℤ e (Cover l)) (legs_in t) ≡ pos 0

@@ -1,9 +1,7 @@
 -- Prices and weights are in written order.
-use Rattle.std.proofs.Common.{◌≡◌, ℕ, zero, suc, ◌+◌, ◌<◌, ◌≤◌, true, cond, ◌==◌, List, length, get_or, All, None, ℤ, pos, neg_ℤ, sym, subst, arith}
-use Rattle.std.proofs.lemmas.Bool.Decides.{nat_tests}
+use Rattle.std.proofs.Common.{◌≡◌, ℕ, zero, suc, ◌+◌, ◌<◌, ◌≤◌, true, List, length, get_or, All, None, ℤ, pos, neg_ℤ, sym, subst, arith}
 use Rattle.std.proofs.lemmas.Int.{ints}
 use Rattle.sums.proofs.Places.{get_or-list_below, length-list_below}
-use Rattle.sums.proofs.Tests.{by_test}
 use Rattle.frac_row.specs.Outgrown.{IsWithin}
 use Rattle.frac_row.specs.Row.{IsRow, number_of, reduced}
 use Rattle.frac_row.specs.declared.row.FracRow.{FracRow}
@@ -14,12 +12,14 @@ use Rattle.fleet_model.specs.Schedule.{fleets_in}
 use Rattle.fleet_model.specs.Use.{last_minute}
 use Rattle.node_aggregate.specs.Nodes.{AreNodesAt}
 use Rattle.node_aggregate.proofs.EventsAmong.{happens_within}
+use Rattle.dual_lift.specs.Parts.{AreParts, HaveParts, part_below}
+use Rattle.dual_lift.proofs.BasicPoints.{few_parts}
 use Rattle.lp_rows.specs.Layout.{Starts, all_kept, all_nodes, concat_below}
 use Rattle.dual_bound.specs.Prices.{max_scale}
 use Rattle.dual_bound.specs.WrittenOrder.{ArePricesInOrder, IsFigure, IsMixedInOrder, IsWeightInOrder, WeightsFollow}
 use Rattle.dual_bound.specs.declared.mixed.Mixed.{Mixed}
 use Rattle.dual_bound.specs.declared.prices.Prices.{Prices}
-use Rattle.price_lift.specs.Parts.{AreParts, HaveParts, part_below, part_of, weights_at}
+use Rattle.price_lift.specs.Parts.{weights_at}
 use Rattle.price_lift.specs.Steps.{ArePricesBy, prices_by}
 use Rattle.price_lift.proofs.Minutes.{nodes_rise}
 use Rattle.price_lift.proofs.StepOrder.{steps_in_order}
@@ -37,7 +37,7 @@ small_figure : (n : ℕ) → n ≤ max_scale → IsFigure (pos n)
 small_figure n small = figure (pos n) (omega (arith, ints))
 
 -- ---- prices
-early : (t : Tables) (keeps : Domains) (f s : ℕ) (starts : List ℕ) → AreNodesAt t keeps f s starts → (p : ℕ) → p < length starts → get_or starts p 0 ≤ last_minute
+pub early : (t : Tables) (keeps : Domains) (f s : ℕ) (starts : List ℕ) → AreNodesAt t keeps f s starts → (p : ℕ) → p < length starts → get_or starts p 0 ≤ last_minute
 early t keeps f s starts nodes zero below = omega (arith, nodes.nodes.first)
 early t keeps f s starts nodes (suc p) below =
     let next : p + 1 ≡ suc p = omega arith in
@@ -71,19 +71,12 @@ prices_in_order t keeps duals prices row by = subst (ArePricesInOrder t) (sym by
     }
 
 -- ---- weights
-few_parts : (table : List FracRow) (basis : List ℕ) (columns scale : ℕ) → HaveParts table basis columns scale → (n column : ℕ) → n ≤ height_of table → column < columns → part_below table basis scale n column ≤ max_scale
-few_parts table basis columns scale parts zero column within below = omega arith
-few_parts table basis columns scale parts (suc n) column within below = by_test (get_or basis n 0 == column)
-    (λ e. let same : get_or basis n 0 ≡ column = grind (arith, nat_tests) in
-    subst (λ c. cond c (part_of table scale n) (part_below table basis scale n column) ≤ max_scale) (sym e) (parts.few n (omega arith) (omega (arith, same, below))))
-    (λ e. subst (λ c. cond c (part_of table scale n) (part_below table basis scale n column) ≤ max_scale) (sym e) (few_parts table basis columns scale parts n column (omega arith) below))
-
 pub mixed_in_order : (t : Tables) (keeps : Domains) (starts : Starts) (table : List FracRow) (basis : List ℕ) (scale : ℕ) (mixed : Mixed) (parts : List ℤ)
     → HaveParts table basis (pairs_kept t keeps) scale → scale ≤ max_scale → mixed.scale ≡ pos scale → AreParts (part_below table basis scale (height_of table)) (pairs_kept t keeps) parts
     → mixed.weights ≡ concat_below (weights_at (all_kept t keeps) parts) (pairs_kept t keeps) → IsMixedInOrder t mixed
 mixed_in_order t keeps starts table basis scale mixed parts have within is_scale are list = record {
   scale = subst IsFigure (sym is_scale) (small_figure scale within);
   each = subst (λ ws. All (IsWeightInOrder t) ws) (sym list) (weights_in_order t keeps starts parts (λ c below.
-      subst IsFigure (sym (are.each c below)) (small_figure (part_below table basis scale (height_of table) c) (few_parts table basis (pairs_kept t keeps) scale have (height_of table) c (omega arith) below))));
+      subst IsFigure (sym (are.each c below)) (figure (pos (part_below table basis scale (height_of table) c)) (few_parts table basis (pairs_kept t keeps) scale have (height_of table) c (omega arith) below))));
   follow = subst (λ ws. WeightsFollow None ws) (sym list) (weights_follow t keeps parts);
 }

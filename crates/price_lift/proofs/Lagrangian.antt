@@ -1,5 +1,6 @@
--- Prices whose lines weigh no column above its cost are proper, and worth what the right sides come to.
-use Rattle.std.proofs.Common.{◌≡◌, ◌≢◌, ℕ, zero, suc, ◌+◌, ◌-◌, ◌<◌, ◌≤◌, Bool, true, false, ◌==◌, length, ℤ, pos, neg_ℤ, ◌+ℤ◌, ◌-ℤ◌, ◌*ℤ◌, ◌<ℤ◌, ◌≤ℤ◌, unsigned_abs, refl, sym, ◌∙◌, ap, subst, inl, inr, arith}
+-- Prices by the nodes whose lines weigh no column above its cost rise over no arc that stays, and are worth what the right sides
+-- come to.
+use Rattle.std.proofs.Common.{◌≡◌, ◌≢◌, ℕ, zero, suc, ◌+◌, ◌<◌, ◌≤◌, Bool, true, false, ◌==◌, ◌&&◌, nat_le, length, get_or, None, is_none, ℤ, pos, neg_ℤ, ◌+ℤ◌, ◌-ℤ◌, ◌*ℤ◌, ◌<ℤ◌, ◌≤ℤ◌, unsigned_abs, refl, sym, ◌∙◌, ap, subst, inl, inr, arith}
 use Rattle.std.proofs.lemmas.Bool.{cases_lt}
 use Rattle.std.proofs.lemmas.Bool.Decides.{nat_tests}
 use Rattle.std.proofs.lemmas.Int.{ints}
@@ -16,18 +17,22 @@ use Rattle.fleet_model.specs.Kept.{Domains, IsBare, kept_on}
 use Rattle.fleet_model.specs.Schedule.{fleet_of, fleets_in, leg_of, leg_on, legs_in, no_leg, stations_in}
 use Rattle.fleet_model.specs.Times.{departure, laps_of, ready_minute}
 use Rattle.fleet_model.specs.Use.{last_minute}
-use Rattle.node_aggregate.specs.Nodes.{HappensAt}
+use Rattle.node_aggregate.specs.Nodes.{HappensAt, node_end}
 use Rattle.node_aggregate.proofs.EventsAmong.{departs_at, happens_within, ready_at}
+use Rattle.node_aggregate.proofs.NodeEnds.{end_at_last, end_before}
 use Rattle.lp_rows.specs.declared.kinds.Column.{Column}
+use Rattle.lp_rows.specs.declared.kinds.Node.{Node}
 use Rattle.lp_rows.specs.declared.kinds.Column.TheVariants.{Flight, Ground, Slack}
 use Rattle.lp_rows.specs.declared.kinds.Line.TheVariants.{Balance}
 use Rattle.lp_rows.specs.Entries.{IsNode, column_cost, entry_of, is_in, place_after, right_side_of}
-use Rattle.lp_rows.specs.Layout.{IsNetwork, Starts, node_at}
-use Rattle.lp_rows.specs.Points.{arcs_in}
+use Rattle.lp_rows.specs.Layout.{IsNetwork, Starts, arc_stays, moment_at, node_at}
+use Rattle.lp_rows.specs.Points.{node_count}
 use Rattle.lp_rows.proofs.Places.{IsKept}
-use Rattle.dual_bound.specs.Prices.{ArePrices, max_price, max_scale, price_of, rent_of}
+use Rattle.dual_bound.specs.Prices.{AreWithin, max_price, price_of, rent_of}
 use Rattle.dual_bound.specs.Worth.{cost_units, leg_worth, pair_worth, rents_of, worth_of}
 use Rattle.dual_bound.specs.declared.prices.Prices.{Prices}
+use Rattle.island_prices.specs.Arcs.{AreByNodes, DoStayLow}
+use Rattle.island_prices.proofs.Arcs.{rise_at_last, rise_inside}
 use Rattle.price_lift.specs.Prices.{AreByLines}
 use Rattle.price_lift.proofs.DownColumns.{at_minute, down, down_flight, down_ground, down_sides, down_slack, of_fleet, of_node}
 use Rattle.price_lift.proofs.LeastBounds.{below_unwrapped}
@@ -57,18 +62,23 @@ gather h c a b r l y s e le =
     let rent = neg_ℤ-*ℤ (h *ℤ r) l ∙ ap neg_ℤ (*ℤ_assoc h r l) in
     omega (arith, ints, e, le, all, front, fall, rent)
 
+-- an arc without a moment stays
+staying : (t : Tables) (keeps : Domains) (starts : Starts) (n : Node) → moment_at t keeps starts n ≡ None → arc_stays t keeps starts n ≡ true
+unfolding arc_stays
+staying t keeps starts n none = ap is_none none
+
 module _ (t : Tables) (keeps : Domains) (starts : Starts) (network : IsNetwork t keeps starts) (prices : Prices) (value : ℕ → ℤ) (by : AreByLines t starts value prices)
-    (h : ℤ) (above : pos 0 <ℤ h) (y : ℕ → ℤ) (scaled : (j : ℕ) → j < arcs_in t starts + fleets_in t → y (legs_in t + j) ≡ h *ℤ value (legs_in t + j)) where
+    (h : ℤ) (above : pos 0 <ℤ h) (y : ℕ → ℤ) (scaled : (j : ℕ) → j < node_count t starts + fleets_in t → y (legs_in t + j) ≡ h *ℤ value (legs_in t + j)) where
   rise : (f s : ℕ) → f < fleets_in t → s < stations_in t → Rise (starts f s)
   rise f s known within = let at = network.each f s known within in nodes_rise at.events (starts f s) at.nodes
 
-  rent_is : (f : ℕ) → f < fleets_in t → rent_of prices f ≡ neg_ℤ (value (legs_in t + (arcs_in t starts + f)))
-  rent_is f known = by.count (legs_in t + (arcs_in t starts + f)) f (count_there t starts f known)
+  rent_is : (f : ℕ) → f < fleets_in t → rent_of prices f ≡ neg_ℤ (value (legs_in t + (node_count t starts + f)))
+  rent_is f known = by.count (legs_in t + (node_count t starts + f)) f (count_there t starts f known)
 
   fleet_is : (f : ℕ) → f < fleets_in t → of_fleet t starts y f ≡ neg_ℤ (h *ℤ rent_of prices f)
   fleet_is f known =
-      let rent = ap (λ z. h *ℤ z) (rent_is f known) ∙ *ℤ-neg_ℤ h (value (legs_in t + (arcs_in t starts + f))) in
-      omega (arith, ints, rent, scaled (arcs_in t starts + f) (omega arith))
+      let rent = ap (λ z. h *ℤ z) (rent_is f known) ∙ *ℤ-neg_ℤ h (value (legs_in t + (node_count t starts + f))) in
+      omega (arith, ints, rent, scaled (node_count t starts + f) (omega arith))
 
   -- the price through a node
   price_is : (f s m p : ℕ) → f < fleets_in t → s < stations_in t → m ≤ last_minute → IsAtPlace (starts f s) m p → price_of prices f s m ≡ value (legs_in t + (before t starts f s + p))
@@ -150,15 +160,20 @@ module _ (t : Tables) (keeps : Domains) (starts : Starts) (network : IsNetwork t
         let sum = down_slack t starts y f known in
         factor_at_least_0 h (rent_of prices f) above (omega (arith, ints, weigh, sum, times_zero h prices.scale k, fleet_is f known))
 
-    arc_falls : (f s j : ℕ) → f < fleets_in t → s < stations_in t → j < length (starts f s)
+    -- over an arc that stays
+    arc_falls : (f s j : ℕ) → f < fleets_in t → s < stations_in t → j < length (starts f s) → moment_at t keeps starts (node_at f s j) ≡ None
         → ((of_node t starts y f s (place_after (length (starts f s)) j) -ℤ of_node t starts y f s j) +ℤ where_true (length (starts f s) == j + 1) (of_fleet t starts y f)) ≤ℤ pos 0
-    arc_falls f s j known within below =
+    arc_falls f s j known within below none =
         let node : IsNode t starts (node_at f s j) = record { fleet = known; station = within; place = below } in
-        omega (arith, ints, dual (Ground (node_at f s j)) node, down_ground t starts y (node_at f s j) node, times_zero h prices.scale k)
+        omega (arith, ints, dual (Ground (node_at f s j)) (node, stays none), down_ground t starts y (node_at f s j) node, times_zero h prices.scale k)
+      where
+        stays : moment_at t keeps starts (node_at f s j) ≡ None → arc_stays t keeps starts (node_at f s j) ≡ true
+        stays none = staying t keeps starts (node_at f s j) none
 
-    falls_next : (f s j : ℕ) → f < fleets_in t → s < stations_in t → j + 1 < length (starts f s) → value (legs_in t + (before t starts f s + (j + 1))) ≤ℤ value (legs_in t + (before t starts f s + j))
-    falls_next f s j known within below =
-        let law = arc_falls f s j known within (omega arith) in
+    falls_next : (f s j : ℕ) → f < fleets_in t → s < stations_in t → j + 1 < length (starts f s) → moment_at t keeps starts (node_at f s j) ≡ None
+        → value (legs_in t + (before t starts f s + (j + 1))) ≤ℤ value (legs_in t + (before t starts f s + j))
+    falls_next f s j known within below none =
+        let law = arc_falls f s j known within (omega arith) none in
         let next : place_after (length (starts f s)) j ≡ j + 1 = after (length (starts f s)) j below in
         let no_start = ap (λ b. where_true b (of_fleet t starts y f)) (unequal_number (length (starts f s)) (j + 1) (not_last (length (starts f s)) j below)) in
         let there = ap (of_node t starts y f s) next in
@@ -171,33 +186,77 @@ module _ (t : Tables) (keeps : Domains) (starts : Starts) (network : IsNetwork t
         not_last : (n j : ℕ) → j + 1 < n → n ≢ j + 1
         not_last n j less = omega arith
 
-    falls : (f s i j : ℕ) → f < fleets_in t → s < stations_in t → i ≤ j → j < length (starts f s) → value (legs_in t + (before t starts f s + j)) ≤ℤ value (legs_in t + (before t starts f s + i))
-    falls f s i zero known within order below = let same : i ≡ 0 = omega arith in rw same (omega (arith, ints))
-    falls f s i (suc j) known within order below = elim (cases_lt i (suc j)) [
-      | inl less ↦
-          let next : j + 1 ≡ suc j = omega arith in
-          let step = subst (λ n. value (legs_in t + (before t starts f s + n)) ≤ℤ value (legs_in t + (before t starts f s + j))) next (falls_next f s j known within (omega arith)) in
-          omega (arith, ints, step, falls f s i j known within (omega arith) (omega arith))
-      | inr same ↦ let at : i ≡ suc j = omega arith in rw at (omega (arith, ints))
-    ]
-
-    over_end : (f s : ℕ) → f < fleets_in t → s < stations_in t → 0 < length (starts f s)
-        → value (legs_in t + (before t starts f s + 0)) ≤ℤ (value (legs_in t + (before t starts f s + (length (starts f s) - 1))) +ℤ rent_of prices f)
-    over_end f s known within some =
-        let last = length (starts f s) - 1 in
-        let law = arc_falls f s last known within (omega arith) in
-        let next : place_after (length (starts f s)) last ≡ 0 = first (length (starts f s)) some in
-        let start = ap (λ b. where_true b (of_fleet t starts y f)) (equal_number (length (starts f s)) (last + 1) (omega arith)) in
+    over_end : (f s last : ℕ) → f < fleets_in t → s < stations_in t → last + 1 ≡ length (starts f s) → moment_at t keeps starts (node_at f s last) ≡ None
+        → value (legs_in t + (before t starts f s + 0)) ≤ℤ (value (legs_in t + (before t starts f s + last)) +ℤ rent_of prices f)
+    over_end f s last known within ends none =
+        let law = arc_falls f s last known within (omega arith) none in
+        let next : place_after (length (starts f s)) last ≡ 0 = first (length (starts f s)) last ends in
+        let start = ap (λ b. where_true b (of_fleet t starts y f)) (equal_number (length (starts f s)) (last + 1) (sym ends)) in
         let there = ap (of_node t starts y f s) next in
         let sum = *ℤ-+ℤ h (value (legs_in t + (before t starts f s + last))) (rent_of prices f) in
         factor_le_cancel h (value (legs_in t + (before t starts f s + 0))) (value (legs_in t + (before t starts f s + last)) +ℤ rent_of prices f) above
-        (omega (arith, ints, law, start, there, sum, fleet_is f known, node_is f s 0 known within some, node_is f s last known within (omega arith)))
+        (omega (arith, ints, law, start, there, sum, fleet_is f known, node_is f s 0 known within (omega arith), node_is f s last known within (omega arith)))
       where
-        first : (n : ℕ) → 0 < n → place_after n (n - 1) ≡ 0
-        first n some = grind (arith, nat_tests)
+        first : (n j : ℕ) → j + 1 ≡ n → place_after n j ≡ 0
+        first n j ends = grind (arith, nat_tests)
 
-    -- ---- proper prices
-    module _ (low : pos 1 ≤ℤ prices.scale) (high : prices.scale ≤ℤ pos max_scale) (small : (j : ℕ) → j < arcs_in t starts + fleets_in t → unsigned_abs (value (legs_in t + j)) ≤ max_price) where
+    -- ---- by the nodes
+    starts_there : (f s j : ℕ) → f < fleets_in t → s < stations_in t → j < length (starts f s) → IsAtPlace (starts f s) (get_or (starts f s) j 0) j
+    starts_there f s j known within below = record { within = below; begun = omega arith; last = λ i past inside. later (starts f s) (rise f s known within) j i past inside }
+
+    start_in_period : (f s j : ℕ) → f < fleets_in t → s < stations_in t → j < length (starts f s) → get_or (starts f s) j 0 ≤ last_minute
+    start_in_period f s zero known within below = omega (arith, (rise f s known within).first)
+    start_in_period f s (suc j) known within below =
+        let at = network.each f s known within in
+        let next : j + 1 ≡ suc j = omega arith in
+        let may = (at.nodes.next j (omega arith)).may in
+        subst (λ i. get_or (starts f s) i 0 ≤ last_minute) next (omega (arith, happens_within t keeps f s at.events at.happen true (get_or (starts f s) (j + 1) 0) may.ready))
+
+    price_at_start : (f s j : ℕ) → f < fleets_in t → s < stations_in t → j < length (starts f s) → price_of prices f s (get_or (starts f s) j 0) ≡ value (legs_in t + (before t starts f s + j))
+    price_at_start f s j known within below = price_is f s (get_or (starts f s) j 0) j known within (start_in_period f s j known within below) (starts_there f s j known within below)
+
+    pub through_nodes : AreByNodes t prices starts
+    through_nodes = record {
+      through = λ f s j m known within below begun ended.
+          let at = at_place (starts f s) m j (rise f s known within) below (among (get_or (starts f s) j 0) m (node_end (starts f s) j) begun ended) in
+          price_is f s m j known within (omega (arith, ended, end_in_period f s j known within below)) at ∙ sym (price_at_start f s j known within below);
+      nowhere = λ f s m known within none. by.nowhere f s m known within (empty_is (starts f s) none);
+    }
+      where
+        among : (a m b : ℕ) → a ≤ m → m ≤ b → (nat_le a m && nat_le m b) ≡ true
+        among a m b low high = grind (arith, nat_tests)
+
+        end_in_period : (f s j : ℕ) → f < fleets_in t → s < stations_in t → j < length (starts f s) → node_end (starts f s) j ≤ last_minute
+        end_in_period f s j known within below = elim (cases_lt (j + 1) (length (starts f s))) [
+          | inl more ↦ omega (arith, end_before (starts f s) j more, start_in_period f s (j + 1) known within more)
+          | inr last ↦ omega (arith, end_at_last (starts f s) j last)
+        ]
+
+    pub stay_low : DoStayLow t prices starts (λ f s j. moment_at t keeps starts (node_at f s j))
+    stay_low = record {
+      each = λ f s j known within below none. elim (cases_lt (j + 1) (length (starts f s))) [
+        | inl more ↦ omega (
+          arith,
+          ints,
+          falls_next f s j known within more none,
+          price_at_start f s j known within below,
+          price_at_start f s (j + 1) known within more,
+          rise_inside prices (starts f s) f s j more,
+        )
+        | inr last ↦ omega (
+          arith,
+          ints,
+          over_end f s j known within (omega arith) none,
+          price_at_start f s j known within below,
+          price_at_start f s 0 known within (omega arith),
+          ap (λ m. price_of prices f s m) (rise f s known within).first,
+          rise_at_last prices (starts f s) f s j last,
+        )
+      ];
+    }
+
+    -- ---- rents and prices within their limits
+    module _ (small : (j : ℕ) → j < node_count t starts + fleets_in t → unsigned_abs (value (legs_in t + j)) ≤ max_price) where
       bounds : (z : ℤ) (n : ℕ) → unsigned_abs z ≤ n → (neg_ℤ (pos n) ≤ℤ z) × (z ≤ℤ pos n)
       bounds z n le = (omega (arith, ints), omega (arith, ints))
 
@@ -210,45 +269,10 @@ module _ (t : Tables) (keeps : Domains) (starts : Starts) (network : IsNetwork t
         | inr none ↦ subst (λ z. (neg_ℤ (pos max_price) ≤ℤ z) × (z ≤ℤ pos max_price)) (sym (by.nowhere f s m known within (empty_is (starts f s) (omega arith)))) (omega (arith, ints), omega (arith, ints))
       ]
 
-      falls_minute : (f s m : ℕ) → f < fleets_in t → s < stations_in t → m + 1 ≤ last_minute → price_of prices f s (m + 1) ≤ℤ price_of prices f s m
-      falls_minute f s m known within period = elim (cases_lt 0 (length (starts f s))) [
-        | inl some ↦
-            let p = some_place (starts f s) m (rise f s known within) some in
-            let q = some_place (starts f s) (m + 1) (rise f s known within) some in
-            let order : p.0 ≤ q.0 = elim (cases_lt q.0 p.0) [ inl back ↦ absurd (omega (arith, q.1.last p.0 back p.1.within, p.1.begun)) | inr on ↦ omega arith ] in
-            omega (arith, ints, price_is f s m p.0 known within (omega arith) p.1, price_is f s (m + 1) q.0 known within period q.1, falls f s p.0 q.0 known within order q.1.within)
-        | inr none ↦ omega (arith, ints, by.nowhere f s m known within (empty_is (starts f s) (omega arith)), by.nowhere f s (m + 1) known within (empty_is (starts f s) (omega arith)))
-      ]
-
-      over_night : (f s : ℕ) → f < fleets_in t → s < stations_in t → price_of prices f s 0 ≤ℤ (price_of prices f s last_minute +ℤ rent_of prices f)
-      over_night f s known within = elim (cases_lt 0 (length (starts f s))) [
-        | inl some ↦
-            let p = some_place (starts f s) last_minute (rise f s known within) some in
-            let zero_at : IsAtPlace (starts f s) 0 0 = record {
-              within = some;
-              begun = omega (arith, (rise f s known within).first);
-              last = λ k later_one below. omega (arith, later (starts f s) (rise f s known within) 0 k later_one below, (rise f s known within).first);
-            } in
-            omega (
-              arith,
-              ints,
-              price_is f s 0 0 known within (omega arith) zero_at,
-              price_is f s last_minute p.0 known within (omega arith) p.1,
-              over_end f s known within some,
-              falls f s p.0 (length (starts f s) - 1) known within (omega (arith, p.1.within)) (omega arith),
-            )
-        | inr none ↦ omega (arith, ints, by.nowhere f s 0 known within (empty_is (starts f s) (omega arith)), by.nowhere f s last_minute known within (empty_is (starts f s) (omega arith)), rent_some f known)
-      ]
-
-      pub are_prices : ArePrices t prices
-      are_prices = record {
-        scale = record { some = low; within = high };
-        within = record {
-          rents = λ f known.
-              let size = bounds (value (legs_in t + (arcs_in t starts + f))) max_price (small (arcs_in t starts + f) (omega arith)) in
-              record { some = rent_some f known; within = omega (arith, ints, rent_is f known, size.0, size.1) };
-          each = λ f s m known within period. let ends = price_bounds f s m known within (omega arith) in record { no_less = ends.0; no_more = ends.1 };
-        };
-        fall = record { each = λ f s m known within period. falls_minute f s m known within (omega arith) };
-        rise = record { each = over_night };
+      pub are_within : AreWithin t prices
+      are_within = record {
+        rents = λ f known.
+            let size = bounds (value (legs_in t + (node_count t starts + f))) max_price (small (node_count t starts + f) (omega arith)) in
+            record { some = rent_some f known; within = omega (arith, ints, rent_is f known, size.0, size.1) };
+        each = λ f s m known within period. let ends = price_bounds f s m known within (omega arith) in record { no_less = ends.0; no_more = ends.1 };
       }

@@ -20,25 +20,30 @@ use Rattle.reached_tables.specs.Duality.{weighed}
 use Rattle.dual_lift.specs.LastTables.{AreDualValues, IsReachedTable, WeighMore}
 use Rattle.lp_rows.specs.declared.kinds.Column.{Column}
 use Rattle.lp_rows.specs.Entries.{column_cost, entry_of}
-use Rattle.lp_rows.specs.Layout.{IsNetwork, Starts, all_nodes}
-use Rattle.lp_rows.specs.Points.{AreLinesOf, arcs_in}
+use Rattle.lp_rows.specs.Layout.{IsNetwork, Starts, all_nodes, starts_in}
+use Rattle.lp_rows.specs.Points.{AreLinesOf, arcs_in, node_count}
+use Rattle.lp_rows.specs.Outline.{IsOutline, column_count}
+use Rattle.lp_rows.specs.declared.outline.Outline.{Outline}
 use Rattle.lp_rows.proofs.Counted.{nodes_are}
+use Rattle.lp_rows.proofs.Outlines.{all_columns, columns_are}
 use Rattle.lp_rows.proofs.Places.{IsKept}
-use Rattle.dual_bound.specs.Prices.{ArePrices, max_price, max_scale}
+use Rattle.dual_bound.specs.Prices.{max_price, max_scale}
 use Rattle.dual_bound.specs.Worth.{worth_of}
 use Rattle.dual_bound.specs.declared.prices.Prices.{Prices}
 use Rattle.price_lift.specs.Duals.{priced_lines, value_in}
 use Rattle.price_lift.specs.Prices.{AreByLines}
-use Rattle.price_lift.specs.TooLarge.{price_excess, prices_excess}
-use Rattle.price_lift.proofs.BasicWeights.{HaveColumns}
+use Rattle.dual_lift.specs.TooLarge.{lowest_value_excess}
+use Rattle.dual_lift.proofs.BasicPoints.{HaveColumns}
+use Rattle.dual_lift.proofs.LeastScales.{HaveDens}
+use Rattle.price_lift.specs.TooLarge.{prices_excess}
 use Rattle.dual_lift.proofs.BestDuals.{lines_in}
 use Rattle.price_lift.proofs.Columns.{cost_of_column, weighed_column, weighed_sides}
 use Rattle.lp_rows.proofs.ColumnPlaces.{column_number}
 use Rattle.price_lift.proofs.DownColumns.{down}
 use Rattle.dual_lift.proofs.Excesses.{first_none, not_excess, second_none}
-use Rattle.price_lift.proofs.Lagrangian.{are_prices, worth_reaches}
-use Rattle.price_lift.proofs.LeastScales.{HaveDens}
-use Rattle.price_lift.proofs.Networks.{same_nodes}
+use Rattle.price_lift.proofs.Lagrangian.{are_within, stay_low, through_nodes, worth_reaches}
+use Rattle.price_lift.proofs.Networks.{columns_long, same_arcs, same_nodes}
+use Rattle.price_lift.proofs.PaidLifts.{ArePricesLow}
 
 not_less : (a b : ℤ) → int_lt a b ≡ false → b ≤ℤ a
 not_less a b e = grind (arith, ints)
@@ -51,14 +56,24 @@ module _ (t : Tables) (keeps : Domains) (rows : Rows) (lines : AreLinesOf t keep
   pub basis_long : length basis ≡ height_of table
   basis_long = omega (arith, last.shape.basis_in, height_is)
 
-  pub priced_are : priced_lines t table ≡ arcs_in t lines.starts + fleets_in t
+  pub priced_are : priced_lines t table ≡ node_count t lines.starts + fleets_in t
   priced_are = omega (arith, height_is, lines.counted.lines)
 
-  pub has_columns : HasColumns table (pairs_kept t keeps + (arcs_in t lines.starts + fleets_in t))
+  pub has_columns : HasColumns table (pairs_kept t keeps + (arcs_in t keeps lines.starts + fleets_in t))
   has_columns = omega (arith, last.shape.columns_in, last.shape.rows_in, lines.counted.columns)
 
-  pub arcs_are : (other : Starts) → IsNetwork t keeps other → length (all_nodes t other) ≡ arcs_in t lines.starts
-  arcs_are other network = omega (arith, nodes_are t lines.starts, ap length (same_nodes t keeps lines.starts other lines.lines.network network))
+  pub all_long : (other : Starts) → IsNetwork t keeps other → length (all_nodes t other) ≡ node_count t lines.starts
+  all_long other network = omega (arith, nodes_are t lines.starts, ap length (same_nodes t keeps lines.starts other lines.lines.network network))
+
+  pub counted_columns : (outline : Outline) → IsOutline t keeps outline → HasColumns table (column_count outline)
+  counted_columns outline is = omega (
+    arith,
+    has_columns,
+    all_columns outline,
+    ap length (columns_are t keeps outline is),
+    columns_long t keeps (starts_in outline.network),
+    same_arcs t keeps lines.starts (starts_in outline.network) lines.lines.network is.network,
+  )
 
   pub have_dens : HaveDens table (height_of table)
   have_dens = record { each = λ line below. last.shape.dens line (omega (arith, below, height_is)) }
@@ -100,7 +115,7 @@ module _ (t : Tables) (duals : FracRow) (some : pos 0 <ℤ duals.den) (fits : pr
   scale_high = not_less (pos max_scale) (reduced duals).den (not_excess _ _ _ (first_none _ _ fits))
 
   pub values_small : (k : ℕ) → k < width_of duals → unsigned_abs (number_of (reduced duals) k) ≤ max_price
-  values_small k below = small (unsigned_abs (number_of (reduced duals) k)) (not_excess _ _ _ (nothing_at (price_excess (legs_in t) duals) (width_of duals) k (second_none _ _ fits) below))
+  values_small k below = small (unsigned_abs (number_of (reduced duals) k)) (not_excess _ _ _ (nothing_at (lowest_value_excess max_price (legs_in t) duals) (width_of duals) k (second_none _ _ fits) below))
     where
       small : (n : ℕ) → nat_lt max_price n ≡ false → n ≤ max_price
       small n e = grind (arith, nat_tests)
@@ -111,8 +126,8 @@ module _ (t : Tables) (duals : FracRow) (some : pos 0 <ℤ duals.den) (fits : pr
 -- ---- dual values of the lines
 -- prices by dual values that weigh no column above its cost are proper, and their worth reaches what the right sides weigh
 module _ (t : Tables) (keeps : Domains) (rows : Rows) (lines : AreLinesOf t keeps rows) (counted : ℕ) (y : ℕ → ℤ) (duals : FracRow) (values : AreDualValues rows counted duals.den y)
-    (fits : prices_excess (legs_in t) duals ≡ None) (wide : width_of duals ≡ arcs_in t lines.starts + fleets_in t)
-    (are : (k : ℕ) → k < arcs_in t lines.starts + fleets_in t → number_of duals k ≡ y (legs_in t + k))
+    (fits : prices_excess (legs_in t) duals ≡ None) (wide : width_of duals ≡ node_count t lines.starts + fleets_in t)
+    (are : (k : ℕ) → k < node_count t lines.starts + fleets_in t → number_of duals k ≡ y (legs_in t + k))
     (prices : Prices) (scale_is : prices.scale ≡ (reduced duals).den) (by_lines : AreByLines t lines.starts (value_in t (reduced duals)) prices) where
   abbrev net : Starts
   net = lines.starts
@@ -123,7 +138,7 @@ module _ (t : Tables) (keeps : Domains) (rows : Rows) (lines : AreLinesOf t keep
   above : pos 0 <ℤ h
   above = divisor_above t duals values.some fits
 
-  scaled : (j : ℕ) → j < arcs_in t net + fleets_in t → y (legs_in t + j) ≡ h *ℤ value_in t (reduced duals) (legs_in t + j)
+  scaled : (j : ℕ) → j < node_count t net + fleets_in t → y (legs_in t + j) ≡ h *ℤ value_in t (reduced duals) (legs_in t + j)
   scaled j below = sym (are j below) ∙ sym (value_times t duals values.some fits (legs_in t + j) j refl)
 
   -- with the scale times the divisor
@@ -144,16 +159,20 @@ module _ (t : Tables) (keeps : Domains) (rows : Rows) (lines : AreLinesOf t keep
       subst (λ z. down t net y (λ line. entry_of t net line c) ≤ℤ z) (ap (λ z. (pos counted *ℤ duals.den) *ℤ z) paid ∙ factor (column_cost t c))
       (subst (λ z. z ≤ℤ ((pos counted *ℤ duals.den) *ℤ get_or rows.costs number.0 (pos 0))) at (values.under number.0 real))
 
-  small : (j : ℕ) → j < arcs_in t net + fleets_in t → unsigned_abs (value_in t (reduced duals) (legs_in t + j)) ≤ max_price
+  small : (j : ℕ) → j < node_count t net + fleets_in t → unsigned_abs (value_in t (reduced duals) (legs_in t + j)) ≤ max_price
   small j below = subst (λ z. unsigned_abs z ≤ max_price) (sym (at (legs_in t + j) j refl)) (values_small t duals values.some fits j (omega (arith, below, wide)))
     where
       at : (line j : ℕ) → line ≡ legs_in t + j → value_in t (reduced duals) line ≡ number_of (reduced duals) j
       at line j is = ap (number_of (reduced duals)) (omega arith)
 
-  pub proper : ArePrices t prices
-  proper =
-      are_prices t keeps net lines.lines.network prices (value_in t (reduced duals)) by_lines h above y scaled counted weighs
-      (subst (λ z. pos 1 ≤ℤ z) (sym scale_is) (scale_low t duals values.some fits)) (subst (λ z. z ≤ℤ pos max_scale) (sym scale_is) (scale_high t duals values.some fits)) small
+  pub low : ArePricesLow t keeps net prices
+  low = record {
+    network = lines.lines.network;
+    scale = record { some = subst (λ z. pos 1 ≤ℤ z) (sym scale_is) (scale_low t duals values.some fits); within = subst (λ z. z ≤ℤ pos max_scale) (sym scale_is) (scale_high t duals values.some fits) };
+    limits = are_within t keeps net lines.lines.network prices (value_in t (reduced duals)) by_lines h above y scaled counted weighs small;
+    through = through_nodes t keeps net lines.lines.network prices (value_in t (reduced duals)) by_lines h above y scaled counted weighs;
+    stay_low = stay_low t keeps net lines.lines.network prices (value_in t (reduced duals)) by_lines h above y scaled counted weighs;
+  }
 
   pub reaches : ((l : ℕ) → ¬ (IsBare t keeps l)) → weighed rows y rows.columns ≤ℤ (divisor t duals values.some fits *ℤ worth_of t keeps prices counted)
   reaches each =

@@ -3,19 +3,21 @@ use Rattle.std.proofs.Common.{◌≡◌, ℕ, zero, suc, List, Option, Some, Non
 use Rattle.sums.specs.Places.{first_below, or_else}
 use Rattle.frac_row.specs.declared.row.FracRow.{FracRow}
 use Rattle.fleet_model.specs.declared.tables.Tables.{Tables}
-use Rattle.fleet_model.specs.Kept.{Domains, pairs_kept}
+use Rattle.fleet_model.specs.Kept.{Domains}
 use Rattle.fleet_model.specs.Schedule.{legs_in}
-use Rattle.row_store.specs.Table.{height_of}
 use Rattle.dual_lift.specs.Duals.{real_columns}
 use Rattle.dual_lift.specs.Readings.{duals_by, duals_excess}
-use Rattle.dual_lift.specs.TooLarge.{IsLiftError, best_value_excess, phases_excess, scale_excess}
+use Rattle.dual_lift.specs.TooLarge.{IsLiftError, best_value_excess, phases_excess, refusal_value_excess, scale_excess}
 use Rattle.dual_lift.specs.declared.error.Excess.{Excess}
 use Rattle.dual_lift.specs.declared.error.LiftError.{LiftError}
 use Rattle.dual_lift.specs.declared.mixture.Mixture.{Mixture}
 use Rattle.dual_lift.specs.declared.reading.Reading.TheVariants.{BothRows, CostRow, LineRow, PhaseRow}
+use Rattle.dual_lift.specs.declared.error.LiftError.TheVariants.{NoMemory, TooLarge}
+use Rattle.lp_rows.specs.Layout.{IsNetwork, Starts}
+use Rattle.price_lift.specs.PaidBack.{FitsBy, IsLiftErrorBy, payback_excess_by}
 use Rattle.price_lift.specs.Duals.{best_duals, refusal_duals, row_duals, sign_duals}
-use Rattle.price_lift.specs.LastTables.{point_excess, prices_excess_by}
-use Rattle.price_lift.specs.TooLarge.{best_excess, first_priced, prices_excess, refusal_excess, row_excess, sign_excess, weights_excess}
+use Rattle.price_lift.specs.LastTables.{none_excess, point_excess, prices_excess_by}
+use Rattle.price_lift.specs.TooLarge.{best_excess, first_priced, point_ends, prices_excess, refusal_excess, row_excess, sign_excess}
 use Rattle.price_lift.specs.declared.lift.Lifted.{Lifted}
 
 -- what holds of a result that is well, in other words
@@ -67,25 +69,42 @@ none_first : (f : ℕ → Option Excess) (n : ℕ) → ((k : ℕ) → f k ≡ No
 none_first f zero each = refl
 none_first f (suc n) each = rw (none_first f n each, each n) refl
 
-pub best_excess_is : (t : Tables) (keeps : Domains) (table : List FracRow) (basis : List ℕ) (mixture : Mixture) → first_below (phases_excess table) (real_columns table) ≡ None → point_excess t keeps table basis (BothRows mixture) ≡ best_excess t keeps table basis
+pub best_excess_is : (t : Tables) (keeps : Domains) (table : List FracRow) (basis : List ℕ) (mixture : Mixture) (starts : Starts) → first_below (phases_excess table) (real_columns table) ≡ None
+    → point_excess t keeps table basis (BothRows mixture) starts ≡ best_excess t keeps table basis starts
 unfolding point_excess prices_excess_by duals_excess best_excess best_duals duals_by
-best_excess_is t keeps table basis mixture fits =
-    shift (first_below (phases_excess table) (real_columns table)) (scale_excess table) (first_priced t table (best_value_excess table)) (prices_excess (legs_in t) (best_duals t table)) (first_below (weights_excess table basis (pairs_kept t keeps)) (height_of table)) fits
+best_excess_is t keeps table basis mixture starts fits =
+    shift (first_below (phases_excess table) (real_columns table)) (scale_excess table) (first_priced t table (best_value_excess table)) (prices_excess (legs_in t) (best_duals t table)) (point_ends t keeps table basis starts (best_duals t table)) fits
   where
-    -- phases that fit leave the scale, the values, the prices and the weights, however they are nested
+    -- phases that fit leave the scale, the values, the prices and what comes behind, however they are nested
     shift : (a b c d e : Option Excess) → a ≡ None → or_else (or_else (or_else b c) d) e ≡ or_else (or_else a (or_else b c)) (or_else d e)
     shift a None None d e none = rw none refl
     shift a None (Some x) d e none = rw none refl
     shift a (Some x) c d e none = rw none refl
 
-pub refusal_excess_is : (t : Tables) (table : List FracRow) → prices_excess_by t table PhaseRow ≡ refusal_excess t table
-unfolding prices_excess_by duals_excess refusal_excess refusal_duals duals_by
-refusal_excess_is t table = refl
+nested : (a b c : Option Excess) → or_else (or_else a b) c ≡ or_else a (or_else b c)
+nested None b c = refl
+nested (Some x) b c = refl
 
-pub sign_excess_is : (t : Tables) (keeps : Domains) (table : List FracRow) (basis : List ℕ) → point_excess t keeps table basis CostRow ≡ sign_excess t keeps table basis
+pub refusal_excess_is : (t : Tables) (keeps : Domains) (table : List FracRow) (starts : Starts) → none_excess t keeps table PhaseRow starts ≡ refusal_excess t keeps table starts
+unfolding none_excess prices_excess_by duals_excess refusal_excess refusal_duals duals_by
+refusal_excess_is t keeps table starts =
+    nested (first_priced t table (refusal_value_excess table)) (prices_excess (legs_in t) (refusal_duals t table)) (payback_excess_by t keeps starts (refusal_duals t table))
+
+pub sign_excess_is : (t : Tables) (keeps : Domains) (table : List FracRow) (basis : List ℕ) (starts : Starts) → point_excess t keeps table basis CostRow starts ≡ sign_excess t keeps table basis starts
 unfolding point_excess prices_excess_by duals_excess sign_excess sign_duals duals_by
-sign_excess_is t keeps table basis = rw (none_first (λ k. None) _ (λ k. refl)) refl
+sign_excess_is t keeps table basis starts = rw (none_first (λ k. None) _ (λ k. refl)) refl
 
-pub row_excess_is : (t : Tables) (table : List FracRow) (row : ℕ) → prices_excess_by t table (LineRow row) ≡ row_excess t table row
-unfolding prices_excess_by duals_excess row_excess row_duals duals_by
-row_excess_is t table row = rw (none_first (λ k. None) _ (λ k. refl)) refl
+pub row_excess_is : (t : Tables) (keeps : Domains) (table : List FracRow) (row : ℕ) (starts : Starts) → none_excess t keeps table (LineRow row) starts ≡ row_excess t keeps table row starts
+unfolding none_excess prices_excess_by duals_excess row_excess row_duals duals_by
+row_excess_is t keeps table row starts = rw (none_first (λ k. None) _ (λ k. refl)) refl
+
+-- ---- by the network of an outline
+module _ (t : Tables) (keeps : Domains) (excess : Starts → Option Excess) (starts : Starts) (network : IsNetwork t keeps starts) where
+  pub fits_by : (r : Result Lifted LiftError) → IfOk r (λ lifted. excess starts ≡ None) → IfOk r (λ lifted. FitsBy t keeps excess)
+  fits_by (Ok lifted) fits = record { starts = starts; network = network; fits = fits }
+  fits_by (Err e) fits = tt
+
+  pub fails_by : (r : Result Lifted LiftError) → IfErr r (IsLiftError (excess starts)) → IfErr r (IsLiftErrorBy t keeps excess)
+  fails_by (Ok lifted) is = tt
+  fails_by (Err (TooLarge step at)) is = record { starts = starts; network = network; is = is }
+  fails_by (Err NoMemory) is = tt

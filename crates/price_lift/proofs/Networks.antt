@@ -1,16 +1,24 @@
 -- A subproblem has one network.
-use Rattle.std.proofs.Common.{◌≡◌, ℕ, zero, suc, ◌<◌, Bool, List, [], ◌∷◌, ◌++◌, length, map, Contains, refl, ◌∙◌, ap, arith}
+use Rattle.std.proofs.Common.{◌≡◌, ℕ, zero, suc, ◌<◌, Bool, List, [], ◌∷◌, ◌++◌, length, map, Contains, is_none, refl, ◌∙◌, ap, ◌+◌, length-append, arith}
 use Rattle.std.proofs.lemmas.List.Sorted.{Contains-permutation, IsPermutation-sym}
 use Rattle.fleet_model.specs.declared.tables.Tables.{Tables}
-use Rattle.fleet_model.specs.Kept.{Domains}
+use Rattle.fleet_model.specs.Kept.{Domains, pairs_kept}
 use Rattle.fleet_model.specs.Schedule.{fleets_in, legs_in, stations_in}
 use Rattle.timeline_net.specs.declared.timeline.Event.{Event}
 use Rattle.timeline_net.specs.Events.{events_below}
 use Rattle.node_aggregate.specs.Nodes.{AreNodes, AreNodesAt, HappensAt, IsNextStart, MayStart}
 use Rattle.node_aggregate.proofs.OneList.{nodes_are_one}
+use Rattle.lp_rows.specs.declared.kinds.Column.TheVariants.{Flight, Ground, Slack}
+use Rattle.lp_rows.proofs.Counted.{arcs_are as counted_arcs, pairs_are}
+use Rattle.sums.proofs.Places.{length-list_below}
+use Rattle.std.proofs.lemmas.List.{length-map}
 use Rattle.lp_rows.specs.declared.kinds.Line.TheVariants.{Balance, Count, Cover}
+use Rattle.sums.specs.Below.{count_below, sum_below}
 use Rattle.sums.specs.Places.{list_below}
-use Rattle.lp_rows.specs.Layout.{IsNetwork, Starts, all_nodes, concat_below, lines_of, node_at, nodes_at, nodes_of}
+use Rattle.sums.proofs.Sums.{sum_below-agree}
+use Rattle.island_arcs.specs.Moments.{moment_of}
+use Rattle.lp_rows.specs.Points.{arcs_at, arcs_in}
+use Rattle.lp_rows.specs.Layout.{IsNetwork, Starts, all_arcs, all_kept, all_nodes, arc_stays, columns_of, concat_below, lines_of, node_at, nodes_at, nodes_of}
 
 -- the same events happen in both lists
 pub record HaveSame (one other : List Event) : Type 0 where
@@ -77,5 +85,26 @@ module _ (t : Tables) (keeps : Domains) (starts other : Starts) (network : IsNet
       concat_same (nodes_of t starts) (nodes_of t other) (fleets_in t)
       (λ f known. concat_same (nodes_at starts f) (nodes_at other f) (stations_in t) (λ s within. ap (λ xs. list_below (node_at f s) (length xs)) (same_starts f s known within)))
 
+  pub same_arcs : arcs_in t keeps starts ≡ arcs_in t keeps other
+  unfolding arc_stays
+  same_arcs = sum_below-agree (λ f. sum_below (arcs_at t keeps starts f) (stations_in t)) (λ f. sum_below (arcs_at t keeps other f) (stations_in t)) (fleets_in t) (record {
+    each = λ f known. sum_below-agree (arcs_at t keeps starts f) (arcs_at t keeps other f) (stations_in t) (record {
+      each = λ s within. ap (λ xs. count_below (λ k. is_none (moment_of t keeps f s xs k)) (length xs)) (same_starts f s known within);
+    });
+  })
+
   pub same_lines : lines_of t starts ≡ lines_of t other
   same_lines = ap (λ ns. list_below Cover (legs_in t) ++ map Balance ns ++ list_below Count (fleets_in t)) same_nodes
+
+-- how many columns there are
+pub columns_long : (t : Tables) (keeps : Domains) (starts : Starts) → length (columns_of t keeps starts) ≡ pairs_kept t keeps + (arcs_in t keeps starts + fleets_in t)
+columns_long t keeps starts = omega (
+  arith,
+  length-append (map Flight (all_kept t keeps) ++ map Ground (all_arcs t keeps starts)) (list_below Slack (fleets_in t)),
+  length-append (map Flight (all_kept t keeps)) (map Ground (all_arcs t keeps starts)),
+  length-map (all_kept t keeps) Flight,
+  length-map (all_arcs t keeps starts) Ground,
+  pairs_are t keeps,
+  counted_arcs t keeps starts,
+  length-list_below Slack (fleets_in t),
+)

@@ -8,7 +8,7 @@ use Rattle.sums.proofs.Integers.{*ℤ_assoc, *ℤ_cancel, *ℤ_left_comm, one-*�
 use Rattle.sums.proofs.Sums.{sum_below-agree, sum_below-zero}
 use Rattle.sums.proofs.Orders.{factor_le}
 use Rattle.sums.proofs.Signs.{factor_le_cancel}
-use Rattle.sums.proofs.Sizes.{pos_above}
+use Rattle.sums.proofs.Sizes.{above_is_some, pos_above}
 use Rattle.sums.proofs.Tests.{by_test, never_passes}
 use Rattle.frac_row.specs.Row.{number_of, reduced, width_of}
 use Rattle.frac_row.specs.declared.row.FracRow.{FracRow}
@@ -24,29 +24,30 @@ use Rattle.reached_tables.specs.Duality.{weighed}
 use Rattle.reached_tables.specs.BasicPoints.{IsBasicPoint, MeetsAtCost}
 use Rattle.lp_rows.specs.declared.kinds.Column.{Column}
 use Rattle.lp_rows.specs.Layout.{Starts, all_kept, columns_of, concat_below, pair_at_column}
-use Rattle.lp_rows.specs.Points.{AreLinesOf, arcs_in, pair_part}
+use Rattle.lp_rows.specs.Points.{AreLinesOf, node_count, pair_part}
 use Rattle.lp_rows.proofs.ColumnPlaces.{pair_column}
 use Rattle.lp_rows.proofs.PairParts.{is_pair, part_at, same_parts}
 use Rattle.lp_rows.proofs.Places.{nothing_there}
 use Rattle.dual_lift.specs.Duals.{cost_den}
 use Rattle.dual_lift.specs.LastTables.{AreDualValues, HasBasicPoint, IsReachedTable, WeighTheCost}
+use Rattle.dual_lift.specs.Parts.{AreParts, HaveParts, part_below}
+use Rattle.dual_lift.specs.Scales.{scale_below}
+use Rattle.dual_lift.proofs.BasicPoints.{den_divides, dens_below, dens_positive, no_point, part_there, point_below, point_parts, point_there, raw_is, raw_of}
+use Rattle.dual_lift.proofs.LeastScales.{scale_has, scale_positive, signed_part}
 use Rattle.dual_bound.specs.Fractions.{IsMixedAt, IsWeight, IsWorth, parts_in}
 use Rattle.dual_bound.specs.Mixed.{weight_in}
-use Rattle.dual_bound.specs.Prices.{IsScale, max_scale}
+use Rattle.dual_bound.specs.Prices.{ArePrices, IsScale, max_scale}
 use Rattle.dual_bound.specs.Worth.{worth_of}
 use Rattle.dual_bound.specs.declared.mixed.Mixed.{Mixed}
 use Rattle.dual_bound.specs.declared.prices.Prices.{Prices}
 use Rattle.dual_bound.proofs.Duality.{weak_duality}
 use Rattle.price_lift.specs.Duals.{value_in}
-use Rattle.price_lift.specs.Parts.{AreParts, HaveParts, part_below, weights_at}
+use Rattle.price_lift.specs.Parts.{weights_at}
 use Rattle.price_lift.specs.Prices.{AreByLines}
 use Rattle.price_lift.specs.TooLarge.{prices_excess}
-use Rattle.price_lift.specs.Weights.{scale_below}
-use Rattle.price_lift.proofs.BasicPoints.{den_divides, dens_below, dens_positive, multiple_costs, no_more_parts, no_point, point_below, point_parts, point_there, raw_is, raw_of}
-use Rattle.price_lift.proofs.BasicWeights.{by_column, part_there}
-use Rattle.price_lift.proofs.LastTables.{divisor, divisor_above, have_dens, height_is, own_columns, proper, reaches, scale_times}
-use Rattle.price_lift.proofs.LeastScales.{scale_has, scale_positive, signed_part}
-use Rattle.price_lift.proofs.ScaledPlans.{of_smaller_scale}
+use Rattle.price_lift.proofs.BasicWeights.{by_column}
+use Rattle.price_lift.proofs.LastTables.{divisor, divisor_above, have_dens, height_is, own_columns, reaches, scale_times}
+use Rattle.price_lift.proofs.ScaledPlans.{multiple_costs, no_more_parts, of_smaller_scale}
 
 -- ---- numbers
 from_both : (a b : ℤ) → a ≤ℤ b → b ≤ℤ a → a ≡ b
@@ -191,15 +192,15 @@ module _ (t : Tables) (keeps : Domains) (rows : Rows) (lines : AreLinesOf t keep
 
     -- it costs what the prices of dual values are worth that weigh the cost
     module _ (y : ℕ → ℤ) (duals : FracRow) (values : AreDualValues rows 1 duals.den y) (weigh : WeighTheCost rows table duals.den y)
-        (fits : prices_excess (legs_in t) duals ≡ None) (wide : width_of duals ≡ arcs_in t lines.starts + fleets_in t)
-        (numbers : (k : ℕ) → k < arcs_in t lines.starts + fleets_in t → number_of duals k ≡ y (legs_in t + k))
-        (prices : Prices) (scale_is : prices.scale ≡ (reduced duals).den) (by_lines : AreByLines t lines.starts (value_in t (reduced duals)) prices) where
-      pub is_worth : IsWorth t keeps prices mixed
+        (fits : prices_excess (legs_in t) duals ≡ None) (wide : width_of duals ≡ node_count t lines.starts + fleets_in t)
+        (numbers : (k : ℕ) → k < node_count t lines.starts + fleets_in t → number_of duals k ≡ y (legs_in t + k))
+        (prices : Prices) (scale_is : prices.scale ≡ (reduced duals).den) (by_lines : AreByLines t lines.starts (value_in t (reduced duals)) prices)
+        (paid : Prices) (same_scale : paid.scale ≡ prices.scale) (proper : ArePrices t paid) (grows : worth_of t keeps prices 1 ≤ℤ worth_of t keeps paid 1) where
+      pub is_worth : IsWorth t keeps paid mixed
       is_worth =
-          value_is_worth (mixed_cost t (parts_in mixed)) prices.scale (worth_of t keeps prices 1) mixed.scale (divisor t duals values.some fits) (pos dens) duals.den (weighed rows y rows.columns) (cost_den table) (right_side table (cost_row table))
+          value_is_worth (mixed_cost t (parts_in mixed)) paid.scale (worth_of t keeps paid 1) mixed.scale (divisor t duals values.some fits) (pos dens) duals.den (weighed rows y rows.columns) (cost_den table) (right_side table (cost_row table))
           (divisor_above t duals values.some fits) (pos_above dens some_dens) (last.shape.dens (cost_row table) (omega (arith, height_is t keeps rows lines table basis last))) (subst (λ z. pos 0 ≤ℤ z) (sym is_scale) (omega (arith, ints)))
-          (ap (λ z. divisor t duals values.some fits *ℤ z) scale_is ∙ scale_times t duals values.some fits)
-          (reaches t keeps rows lines 1 y duals values fits wide numbers prices scale_is by_lines no_leg_bare) weigh.sides cost bound
+          (ap (λ z. divisor t duals values.some fits *ℤ z) (same_scale ∙ scale_is) ∙ scale_times t duals values.some fits) reach weigh.sides cost bound
         where
           cost : (pos dens *ℤ mixed_cost t (parts_in mixed)) *ℤ cost_den table ≡ neg_ℤ (right_side table (cost_row table)) *ℤ (pos dens *ℤ mixed.scale)
           cost =
@@ -209,8 +210,16 @@ module _ (t : Tables) (keeps : Domains) (rows : Rows) (lines : AreLinesOf t keep
               one : (n : ℕ) → 1 * n ≡ n
               one n = omega arith
 
-          bound : (mixed.scale *ℤ worth_of t keeps prices 1) ≤ℤ (prices.scale *ℤ mixed_cost t (parts_in mixed))
+          -- what is paid back is worth no less
+          reach : weighed rows y rows.columns ≤ℤ (divisor t duals values.some fits *ℤ worth_of t keeps paid 1)
+          reach = omega (
+            arith,
+            ints,
+            reaches t keeps rows lines 1 y duals values fits wide numbers prices scale_is by_lines no_leg_bare,
+            factor_le (divisor t duals values.some fits) (worth_of t keeps prices 1) (worth_of t keeps paid 1) (above_is_some (divisor t duals values.some fits) (divisor_above t duals values.some fits)) grows,
+          )
+
+          bound : (mixed.scale *ℤ worth_of t keeps paid 1) ≤ℤ (paid.scale *ℤ mixed_cost t (parts_in mixed))
           bound =
-              subst (λ z. (z *ℤ worth_of t keeps prices 1) ≤ℤ (prices.scale *ℤ mixed_cost t (parts_in mixed))) (sym is_scale)
-              (subst (λ z. (pos scale *ℤ worth_of t keeps prices 1) ≤ℤ (z *ℤ mixed_cost t (parts_in mixed))) (one-*ℤ prices.scale)
-              (weak_duality t keeps prices scale 1 (parts_in mixed) (proper t keeps rows lines 1 y duals values fits wide numbers prices scale_is by_lines) mixed_plan))
+              subst (λ z. (z *ℤ worth_of t keeps paid 1) ≤ℤ (paid.scale *ℤ mixed_cost t (parts_in mixed))) (sym is_scale)
+              (subst (λ z. (pos scale *ℤ worth_of t keeps paid 1) ≤ℤ (z *ℤ mixed_cost t (parts_in mixed))) (one-*ℤ paid.scale) (weak_duality t keeps paid scale 1 (parts_in mixed) proper mixed_plan))

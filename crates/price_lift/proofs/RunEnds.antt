@@ -24,11 +24,10 @@ use Rattle.simplex_frac.proofs.RayPoints.{ray_is_direction}
 use Rattle.simplex_frac.proofs.RightSides.{run_keeps_right_sides}
 use Rattle.simplex_frac.proofs.RunPoints.{run_is_reached}
 use Rattle.lp_rows.specs.Points.{pair_part}
-use Rattle.lp_rows.specs.Layout.{columns_of, starts_in}
+use Rattle.lp_rows.specs.Layout.{columns_of}
 use Rattle.lp_rows.specs.Outline.{IsOutline, column_count}
 use Rattle.lp_rows.specs.declared.outline.Outline.{Outline}
-use Rattle.lp_rows.proofs.Counted.{pairs_are}
-use Rattle.price_lift.proofs.LastTables.{arcs_are, has_columns}
+use Rattle.price_lift.proofs.LastTables.{counted_columns}
 use Rattle.dual_lift.specs.LastTables.{HasBasicPoint, IsReachedTable}
 use Rattle.dual_lift.specs.Mixture.{HasPhases, IsMixture}
 use Rattle.dual_lift.specs.declared.mixture.Mixture.{Mixture}
@@ -61,16 +60,7 @@ module _ (t : Tables) (keeps : Domains) (table : List FracRow) (basis : List ℕ
   has_phases = best_has_phases ends.rows table basis (of_run t keeps turns.Best table basis ends) (best_tells ends.rows ends.made table basis ends.turn)
 
   pub best_columns : (outline : Outline) → IsOutline t keeps outline → HasColumns table (column_count outline)
-  best_columns outline is =
-      omega (
-        arith,
-        has_columns t keeps ends.rows ends.lines table basis (of_run t keeps turns.Best table basis ends),
-        ap length is.pairs,
-        pairs_are t keeps,
-        ap length is.over.nodes,
-        arcs_are t keeps ends.rows ends.lines table basis (of_run t keeps turns.Best table basis ends) (starts_in outline.network) is.network,
-        is.over.fleets,
-      )
+  best_columns outline is = counted_columns t keeps ends.rows ends.lines table basis (of_run t keeps turns.Best table basis ends) outline is
 
   pub is_best : (mixture : Mixture) → IsMixture table mixture → IsPointBy t keeps table basis (BothRows mixture)
   is_best mixture is = record {

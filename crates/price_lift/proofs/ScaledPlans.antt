@@ -1,16 +1,22 @@
--- A mixed plan of a multiple of a scale, by the same multiple of weights, is one of the scale.
-use Rattle.std.proofs.Common.{◌≡◌, ℕ, ◌-◌, ◌*◌, ◌<◌, ◌∙◌, ap, arith}
+-- A mixed plan of a multiple of a scale, by the same multiple of weights, is one of the scale; and what it costs.
+use Rattle.std.proofs.Common.{◌≡◌, ℕ, ◌-◌, ◌*◌, ◌<◌, ◌≤◌, pos, ◌*ℤ◌, sym, ◌∙◌, ap, arith}
+use Rattle.std.specs.Prelude.{unwrap_or}
+use Rattle.sums.specs.Below.{sum_below_ℤ}
+use Rattle.sums.proofs.SumBounds.{term_le}
+use Rattle.sums.proofs.Integers.{*ℤ_assoc}
+use Rattle.sums.proofs.WholeSums.{*ℤ-sum_below_ℤ, sum_below_ℤ-same}
 use Rattle.sums.proofs.Naturals.{times_below, cancel_same, cancel_le}
 use Rattle.fleet_model.specs.declared.parts.Pair.{Pair}
 use Rattle.fleet_model.specs.declared.tables.Tables.{Tables}
 use Rattle.fleet_model.specs.declared.limits.TheConstants.{MINUTES_PER_PERIOD}
 use Rattle.fleet_model.specs.Counts.{Weights, arrived, coming, departed, has_come, has_left, leaving}
 use Rattle.fleet_model.specs.Kept.{Domains}
-use Rattle.fleet_model.specs.Mixed.{IsMixedPlan, weight_on}
+use Rattle.fleet_model.specs.Legal.{cost_of}
+use Rattle.fleet_model.specs.Mixed.{IsMixedPlan, mixed_cost, weight_on, weighted_cost}
 use Rattle.fleet_model.specs.Schedule.{IsPair, fleet_of, fleets_in, leg_on, legs_in, stations_in}
 use Rattle.fleet_model.specs.Times.{laps_of}
 use Rattle.fleet_model.specs.Use.{excess, laps_at, laps_flown, last_minute, need_of, used_of}
-use Rattle.price_lift.proofs.Multiples.{of_difference, of_maximum}
+use Rattle.dual_lift.proofs.Multiples.{of_difference, of_maximum}
 use Rattle.lp_rows.proofs.PairParts.{of_test}
 
 module _ (t : Tables) (k : ℕ) (x w : Weights) (same : (p : Pair) → IsPair t p → x p ≡ k * w p) where
@@ -54,3 +60,17 @@ module _ (t : Tables) (k : ℕ) (x w : Weights) (same : (p : Pair) → IsPair t 
     };
     within = λ f known. cancel_le k (used_of t w f) (q * (fleet_of t f).aircraft) some (omega (arith, of_used f known, plan.within f known));
   }
+
+-- a mixed plan gives no pair more than its scale
+pub no_more_parts : (t : Tables) (keeps : Domains) (scale : ℕ) (w : Weights) → IsMixedPlan t keeps scale w → (p : Pair) → IsPair t p → w p ≤ scale
+no_more_parts t keeps scale w plan p pair = omega (arith, plan.cover p.leg pair.leg, term_le (λ f. w (leg_on p.leg f)) p.fleet (fleets_in t) pair.fleet)
+
+-- a multiple of all weights costs so many times as much
+pub multiple_costs : (t : Tables) (k : ℕ) (x w : Weights) → ((p : Pair) → IsPair t p → x p ≡ k * w p) → mixed_cost t x ≡ pos k *ℤ mixed_cost t w
+unfolding mixed_cost
+multiple_costs t k x w same =
+    sum_below_ℤ-same (λ l. sum_below_ℤ (weighted_cost t x l) (fleets_in t)) (λ l. pos k *ℤ sum_below_ℤ (weighted_cost t w l) (fleets_in t)) (legs_in t)
+    (λ l below. sum_below_ℤ-same (weighted_cost t x l) (λ f. pos k *ℤ weighted_cost t w l f) (fleets_in t)
+    (λ f known. ap (λ n. pos n *ℤ unwrap_or (cost_of t (leg_on l f)) (pos 0)) (same (leg_on l f) (record { leg = below; fleet = known })) ∙ *ℤ_assoc (pos k) (pos (w (leg_on l f))) (unwrap_or (cost_of t (leg_on l f)) (pos 0)))
+    ∙ sym (*ℤ-sum_below_ℤ (pos k) (weighted_cost t w l) (fleets_in t)))
+    ∙ sym (*ℤ-sum_below_ℤ (pos k) (λ l. sum_below_ℤ (weighted_cost t w l) (fleets_in t)) (legs_in t))

@@ -13,7 +13,7 @@ use Rattle.fleet_model.specs.Schedule.{fleets_in, stations_in}
 use Rattle.fleet_model.specs.Use.{last_minute}
 use Rattle.lp_rows.specs.declared.kinds.Node.{Node}
 use Rattle.lp_rows.specs.Layout.{Starts, all_nodes, concat_below, node_at, node_of_number}
-use Rattle.lp_rows.specs.Points.{arcs_in}
+use Rattle.lp_rows.specs.Points.{node_count}
 use Rattle.lp_rows.proofs.Counted.{nodes_are}
 use Rattle.lp_rows.proofs.Totals.{all_concat}
 use Rattle.dual_bound.specs.Order.{place_before, same_place, step_follows}
@@ -245,7 +245,7 @@ module _ (t : Tables) (starts : Starts) (value : ℕ → ℤ) (rise : (f s : ℕ
       at_place = λ less order here none.
           next_there f s known within p q (omega (arith, order)) less here (λ i above there_before. none (before t starts f s + i) (omega (arith, above)) (omega (arith, there_before)))
 
-  may_follow : MayFollow there entry step_follows (arcs_in t starts)
+  may_follow : MayFollow there entry step_follows (node_count t starts)
   may_follow = record {
     first = λ k below here none.
         let n = node_number t starts k below in
@@ -260,7 +260,7 @@ module _ (t : Tables) (starts : Starts) (value : ℕ → ℤ) (rise : (f s : ℕ
   }
 
   -- no step of value 0 is the one step of its place
-  lone_at : (f s p d : ℕ) → f < fleets_in t → s < stations_in t → p < length (starts f s) → there (before t starts f s + p) ≡ true → before t starts f s + p + suc d ≡ arcs_in t starts
+  lone_at : (f s p d : ℕ) → f < fleets_in t → s < stations_in t → p < length (starts f s) → there (before t starts f s + p) ≡ true → before t starts f s + p + suc d ≡ node_count t starts
       → (((entry (before t starts f s + p)).minute == 0) && int_eq (entry (before t starts f s + p)).value (pos 0)) ≡ true
       → goes_on (entry (before t starts f s + p)) (list_from there entry (suc (before t starts f s + p)) d) ≡ true
   lone_at f s zero d known within below here all zero_there =
@@ -281,13 +281,13 @@ module _ (t : Tables) (starts : Starts) (value : ℕ → ℤ) (rise : (f s : ℕ
       let none = zero_number (get_or (starts f s) (suc p) 0) (sym (ap (λ x. x.minute == 0) (entry_is f s (suc p) known within below)) ∙ first_true ((entry (before t starts f s + suc p)).minute == 0) (int_eq (value (before t starts f s + suc p)) (pos 0)) zero_there) in
       absurd (omega (arith, none, later (starts f s) (rise f s known within (omega arith)) 0 (suc p) (omega arith) below))
 
-  lone : (m d : ℕ) → m + suc d ≡ arcs_in t starts → there m ≡ true → is_lone_zero (entry m) (list_from there entry (suc m) d) ≡ false
+  lone : (m d : ℕ) → m + suc d ≡ node_count t starts → there m ≡ true → is_lone_zero (entry m) (list_from there entry (suc m) d) ≡ false
   lone m d all here = lone_false ((entry m).minute == 0) (int_eq (entry m).value (pos 0)) (goes_on (entry m) (list_from there entry (suc m) d)) (λ zero_there.
       let n = node_number t starts m (omega arith) in
-      subst (λ j. there j ≡ true → j + suc d ≡ arcs_in t starts → (((entry j).minute == 0) && int_eq (entry j).value (pos 0)) ≡ true → goes_on (entry j) (list_from there entry (suc j) d) ≡ true) (sym n.is)
+      subst (λ j. there j ≡ true → j + suc d ≡ node_count t starts → (((entry j).minute == 0) && int_eq (entry j).value (pos 0)) ≡ true → goes_on (entry j) (list_from there entry (suc j) d) ≡ true) (sym n.is)
       (lone_at n.fleet n.station n.place d n.known n.within n.below) here all zero_there)
 
-  no_lone : (m d : ℕ) → m + d ≡ arcs_in t starts → NoLoneZero (list_from there entry m d)
+  no_lone : (m d : ℕ) → m + d ≡ node_count t starts → NoLoneZero (list_from there entry m d)
   no_lone m zero all = tt
   no_lone m (suc d) all = by_test (there m)
       (λ e. subst (λ c. NoLoneZero (if c then entry m ∷ list_from there entry (suc m) d else list_from there entry (suc m) d)) (sym e) (lone m d all e, no_lone (suc m) d (omega arith)))
@@ -302,6 +302,6 @@ module _ (t : Tables) (starts : Starts) (value : ℕ → ℤ) (rise : (f s : ℕ
     each = all_concat (IsStepInOrder t) (steps_at t starts value) (length (all_nodes t starts)) (λ k below.
         let n = node_is t starts k (omega (arith, below, nodes_are t starts)) in
         all_one (IsStepInOrder t) (there k) (entry k) (record { fleet = n.fleet; station = n.station; minute = early _ _ _ n.fleet n.station n.place; value = figures k }));
-    follow = of_follow None (all_steps t starts value) (subst (λ n. Follow step_follows None (concat_below (steps_at t starts value) n)) (sym (nodes_are t starts)) (follow_all there entry step_follows (arcs_in t starts) may_follow));
-    no_lone_zero = subst (λ n. NoLoneZero (concat_below (steps_at t starts value) n)) (sym (nodes_are t starts)) (subst NoLoneZero (sym (from_first there entry (arcs_in t starts))) (no_lone 0 (arcs_in t starts) (omega arith)));
+    follow = of_follow None (all_steps t starts value) (subst (λ n. Follow step_follows None (concat_below (steps_at t starts value) n)) (sym (nodes_are t starts)) (follow_all there entry step_follows (node_count t starts) may_follow));
+    no_lone_zero = subst (λ n. NoLoneZero (concat_below (steps_at t starts value) n)) (sym (nodes_are t starts)) (subst NoLoneZero (sym (from_first there entry (node_count t starts))) (no_lone 0 (node_count t starts) (omega arith)));
   }

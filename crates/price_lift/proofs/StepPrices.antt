@@ -10,7 +10,7 @@ use Rattle.fleet_model.specs.declared.tables.Tables.{Tables}
 use Rattle.fleet_model.specs.Schedule.{fleets_in, stations_in}
 use Rattle.lp_rows.specs.declared.kinds.Node.{Node}
 use Rattle.lp_rows.specs.Layout.{Starts, all_nodes, concat_below, node_at, node_of_number}
-use Rattle.lp_rows.specs.Points.{arcs_in}
+use Rattle.lp_rows.specs.Points.{node_count}
 use Rattle.lp_rows.proofs.Counted.{nodes_are}
 use Rattle.dual_bound.specs.Prices.{price_after}
 use Rattle.dual_bound.proofs.PriceLists.{price_after-append}
@@ -106,7 +106,7 @@ module _ (t : Tables) (starts : Starts) (value : ℕ → ℤ) (f s m : ℕ) (kno
   first = before t starts f s
 
   -- nodes of another fleet or station
-  passes_by : (n : ℕ) → n < arcs_in t starts → ((k : ℕ) → k < length (starts f s) → n ≢ before t starts f s + k) → at (suc n) ≡ at n
+  passes_by : (n : ℕ) → n < node_count t starts → ((k : ℕ) → k < length (starts f s) → n ≢ before t starts f s + k) → at (suc n) ≡ at n
   passes_by n below other =
       let number = node_number t starts n below in
       let node : node_of_number t starts n ≡ node_at number.fleet number.station number.place =
@@ -122,12 +122,12 @@ module _ (t : Tables) (starts : Starts) (value : ℕ → ℤ) (f s m : ℕ) (kno
       (λ e. e))
 
   -- before all of them, and where there is none
-  nowhere_below : length (starts f s) ≡ 0 → (n : ℕ) → n ≤ arcs_in t starts → at n ≡ pos 0
+  nowhere_below : length (starts f s) ≡ 0 → (n : ℕ) → n ≤ node_count t starts → at n ≡ pos 0
   nowhere_below none zero below = none_below t starts value f s m
   nowhere_below none (suc n) below = passes_by n (omega arith) (λ k less. absurd (omega (arith, none, less))) ∙ nowhere_below none n (omega arith)
 
   pub nowhere : length (starts f s) ≡ 0 → price_after (pos 0) (all_steps t starts value) f s m ≡ pos 0
-  nowhere none = ap at (nodes_are t starts) ∙ nowhere_below none (arcs_in t starts) (omega arith)
+  nowhere none = ap at (nodes_are t starts) ∙ nowhere_below none (node_count t starts) (omega arith)
 
   up_to_first : 0 < length (starts f s) → (n : ℕ) → n ≤ before t starts f s → at n ≡ pos 0
   up_to_first some zero below = none_below t starts value f s m
@@ -177,7 +177,7 @@ module _ (t : Tables) (starts : Starts) (value : ℕ → ℤ) (f s m : ℕ) (kno
         next : (p d : ℕ) → before t starts f s + (p + suc d) ≡ suc (before t starts f s + (p + d))
         next p d = omega arith
 
-    behind : (d : ℕ) → before t starts f s + length (starts f s) + d ≤ arcs_in t starts → at (before t starts f s + length (starts f s) + d) ≡ value (before t starts f s + p)
+    behind : (d : ℕ) → before t starts f s + length (starts f s) + d ≤ node_count t starts → at (before t starts f s + length (starts f s) + d) ≡ value (before t starts f s + p)
     behind zero below = ap at (last p (length (starts f s)) place.within) ∙ since (length (starts f s) - 1 - p) (omega (arith, place.within))
       where
         last : (p len : ℕ) → p < len → before t starts f s + len + 0 ≡ suc (before t starts f s + (p + (len - 1 - p)))
@@ -192,5 +192,5 @@ module _ (t : Tables) (starts : Starts) (value : ℕ → ℤ) (f s m : ℕ) (kno
     pub through_node : price_after (pos 0) (all_steps t starts value) f s m ≡ value (before t starts f s + p)
     through_node =
         let enough = node_within t starts f s (length (starts f s) - 1) known within (omega (arith, place.within)) in
-        ap at (nodes_are t starts ∙ as_a_sum (arcs_in t starts) (before t starts f s + length (starts f s)) (omega (arith, enough, place.within)))
-        ∙ behind (arcs_in t starts - (before t starts f s + length (starts f s))) (omega (arith, enough, place.within))
+        ap at (nodes_are t starts ∙ as_a_sum (node_count t starts) (before t starts f s + length (starts f s)) (omega (arith, enough, place.within)))
+        ∙ behind (node_count t starts - (before t starts f s + length (starts f s))) (omega (arith, enough, place.within))

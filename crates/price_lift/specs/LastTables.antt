@@ -1,18 +1,19 @@
 -- The last table of a run over a subproblem's lines, by how its dual values are read, and what is first too large there.
 use Rattle.std.specs.Prelude.{◌≡◌, ℕ, List, Option}
-use Rattle.sums.specs.Places.{first_below, or_else}
+use Rattle.sums.specs.Places.{or_else}
 use Rattle.frac_row.specs.declared.row.FracRow.{FracRow}
-use Rattle.fleet_model.specs.Kept.{Domains, pairs_kept}
+use Rattle.fleet_model.specs.Kept.{Domains}
 use Rattle.fleet_model.specs.Schedule.{legs_in}
 use Rattle.fleet_model.specs.declared.tables.Tables.{Tables}
-use Rattle.row_store.specs.Table.{height_of}
 use Rattle.row_store.specs.declared.problem.Rows.{Rows}
 use Rattle.lp_rows.specs.Points.{AreLinesOf}
 use Rattle.dual_lift.specs.LastTables.{HasBasicPoint, IsEndBy, IsReachedTable, counts_costs}
 use Rattle.dual_lift.specs.Readings.{duals_by, duals_excess}
 use Rattle.dual_lift.specs.declared.error.Excess.{Excess}
 use Rattle.dual_lift.specs.declared.reading.Reading.{Reading}
-use Rattle.price_lift.specs.TooLarge.{prices_excess, weights_excess}
+use Rattle.lp_rows.specs.Layout.{Starts}
+use Rattle.price_lift.specs.PaidBack.{payback_excess_by}
+use Rattle.price_lift.specs.TooLarge.{point_ends, prices_excess}
 
 -- a table that steps reach from the lines of the subproblem, with the signs of the end
 pub record IsLastBy (t : Tables) (keeps : Domains) (table : List FracRow) (basis : List ℕ) (reading : Reading) : Type 0 where
@@ -36,6 +37,10 @@ pub record IsRefusalBy (t : Tables) (keeps : Domains) (table : List FracRow) (ba
 unfoldable pub prices_excess_by : Tables → List FracRow → Reading → Option Excess
 prices_excess_by t table reading = or_else (duals_excess table reading (legs_in t)) (prices_excess (legs_in t) (duals_by table reading (legs_in t)))
 
-unfoldable pub point_excess : Tables → Domains → List FracRow → List ℕ → Reading → Option Excess
-point_excess t keeps table basis reading =
-    or_else (prices_excess_by t table reading) (first_below (weights_excess table basis (pairs_kept t keeps)) (height_of table))
+unfoldable pub point_excess : Tables → Domains → List FracRow → List ℕ → Reading → Starts → Option Excess
+point_excess t keeps table basis reading starts =
+    or_else (prices_excess_by t table reading) (point_ends t keeps table basis starts (duals_by table reading (legs_in t)))
+
+-- .. and to prices that are paid back, where there are no weights
+unfoldable pub none_excess : Tables → Domains → List FracRow → Reading → Starts → Option Excess
+none_excess t keeps table reading starts = or_else (prices_excess_by t table reading) (payback_excess_by t keeps starts (duals_by table reading (legs_in t)))

@@ -1,9 +1,11 @@
+pub mod ArcRises
 pub mod Duals
 pub mod Ends
 pub mod LastTables
 pub mod Laws
 pub mod Lifted
 pub mod Parts
+pub mod PaidBack
 pub mod Prices
 pub mod Steps
 pub mod TooLarge

@@ -4,22 +4,34 @@ use Rattle.frac_row.specs.Row.{reduced}
 use Rattle.frac_row.specs.declared.row.FracRow.{FracRow}
 use Rattle.fleet_model.specs.Kept.{Domains, IsBare}
 use Rattle.fleet_model.specs.declared.tables.Tables.{Tables}
-use Rattle.lp_rows.specs.Layout.{IsNetwork, Starts}
 use Rattle.dual_bound.specs.Fractions.{IsMixedAt, IsWorth}
 use Rattle.dual_bound.specs.OfTables.{ArePricesOf, IsMixedOf}
-use Rattle.dual_bound.specs.Prices.{ArePrices}
+use Rattle.dual_bound.specs.Prices.{ArePrices, AreWithin}
 use Rattle.dual_bound.specs.Worth.{worth_of}
 use Rattle.dual_bound.specs.WrittenOrder.{ArePricesInOrder, IsMixedInOrder}
 use Rattle.dual_bound.specs.declared.prices.Prices.{Prices}
+use Rattle.lp_rows.specs.Layout.{IsNetwork, Starts}
 use Rattle.price_lift.specs.Duals.{value_in}
+use Rattle.price_lift.specs.PaidBack.{ArePaidBack}
 use Rattle.price_lift.specs.Prices.{AreByLines}
+use Rattle.price_lift.specs.Steps.{prices_by}
 use Rattle.price_lift.specs.Weights.{AreBasicWeights}
 use Rattle.price_lift.specs.declared.lift.Lifted.{Lifted}
 
--- the prices of dual values in lowest terms: proper, of the tables, and in written order
+-- the prices of dual values in lowest terms, by the nodes of a network: within their limits, of the tables, and in written
+-- order
+pub record AreNodePrices (t : Tables) (keeps : Domains) (starts : Starts) (duals : FracRow) (prices : Prices) : Type 0 where
+  pub scale : prices.scale ≡ (reduced duals).den
+  pub by : prices ≡ prices_by t starts (reduced duals)
+  pub by_lines : (other : Starts) → IsNetwork t keeps other → AreByLines t other (value_in t (reduced duals)) prices
+  pub of_tables : ArePricesOf t prices
+  pub limits : AreWithin t prices
+  pub in_order : ArePricesInOrder t prices
+
+-- the prices of dual values in lowest terms, paid back: proper, of the tables, and in written order
 pub record AreLiftedPrices (t : Tables) (keeps : Domains) (duals : FracRow) (prices : Prices) : Type 0 where
   pub scale : prices.scale ≡ (reduced duals).den
-  pub by_lines : (starts : Starts) → IsNetwork t keeps starts → AreByLines t starts (value_in t (reduced duals)) prices
+  pub paid : ArePaidBack t keeps duals prices
   pub of_tables : ArePricesOf t prices
   pub proper : ArePrices t prices
   pub in_order : ArePricesInOrder t prices

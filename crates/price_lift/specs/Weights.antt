@@ -1,32 +1,15 @@
 -- The weights of pairs at a table's basic point, over the least scale that makes them whole.
-use Rattle.std.specs.Prelude.{◌≡◌, ℕ, zero, suc, ◌*◌, ◌/◌, ◌<◌, nat_lt, if◌then◌else◌, List, slice_index, pos, ◌*ℤ◌, unsigned_abs}
-use Rattle.sums.specs.Divisors.{gcd}
+use Rattle.std.specs.Prelude.{◌≡◌, ℕ, ◌<◌, List, slice_index, pos, ◌*ℤ◌}
 use Rattle.frac_row.specs.declared.row.FracRow.{FracRow}
 use Rattle.fleet_model.specs.Kept.{Domains, pairs_kept}
 use Rattle.fleet_model.specs.Schedule.{IsPair}
 use Rattle.fleet_model.specs.declared.parts.Pair.{Pair}
 use Rattle.fleet_model.specs.declared.tables.Tables.{Tables}
 use Rattle.row_store.specs.Table.{height_of, right_side, row_at}
+use Rattle.dual_lift.specs.Scales.{scale_below}
 use Rattle.lp_rows.specs.Layout.{pair_at_column}
 use Rattle.dual_bound.specs.Mixed.{weight_in}
 use Rattle.dual_bound.specs.declared.mixed.Mixed.{Mixed}
-
--- the least common multiple of two numbers above 0
-unfoldable pub lcm : ℕ → ℕ → ℕ
-lcm a b = (a / gcd a b) * b
-
--- the denominator of a line's right side, in lowest terms
-unfoldable pub lowest_den : List FracRow → ℕ → ℕ
-lowest_den table line =
-    unsigned_abs (row_at table line).den / gcd (unsigned_abs (right_side table line)) (unsigned_abs (row_at table line).den)
-
--- the least scale that makes the right sides of the first lines whole, of those whose basic column is a pair's; the
--- columns of pairs come first
-abbrev pub scale_below : List FracRow → List ℕ → ℕ → ℕ → ℕ
-scale_below table basis pairs zero = 1
-scale_below table basis pairs (suc line) =
-    if nat_lt (slice_index basis line) pairs then lcm (scale_below table basis pairs line) (lowest_den table line)
-    else scale_below table basis pairs line
 
 -- the pair is that of a line's basic column
 pub record IsBasicIn (t : Tables) (keeps : Domains) (basis : List ℕ) (line : ℕ) (p : Pair) : Type 0 where

@@ -5,6 +5,7 @@ pub mod laws;
 pub mod lift;
 pub mod lifting;
 pub mod lowest;
+pub mod paying;
 pub mod pricing;
 pub mod stepping;
 pub mod weighing;

@@ -3,16 +3,19 @@ ghost use Rattle.std.specs.Prelude.{◌≡◌, ℕ, List, None, IfOk, IfErr, Mat
 ghost use Rattle.fleet_model.specs.Kept.{kept_by};
 ghost use Rattle.fleet_model.specs.Schedule.{legs_in};
 ghost use Rattle.simplex_frac.specs.declared.turn.Turn.TheVariants as turns;
+ghost use Rattle.lp_rows.specs.Layout.{starts_in};
 ghost use Rattle.lp_rows.specs.Outline.{IsOutline};
 ghost use Rattle.dual_lift.specs.Readings.{duals_by};
 ghost use Rattle.dual_lift.specs.TooLarge.{IsLiftError};
 ghost use Rattle.price_lift.specs.Duals.{best_duals, refusal_duals, row_duals, sign_duals};
 ghost use Rattle.price_lift.specs.Ends.{Ends, EndsByRow, EndsBySigns};
-ghost use Rattle.price_lift.specs.LastTables.{IsLastBy, IsPointBy, IsRefusalBy, point_excess, prices_excess_by};
-ghost use Rattle.price_lift.specs.Lifted.{AreLiftedPrices, IsLiftedPoint, IsLiftedRefusal};
+ghost use Rattle.price_lift.specs.LastTables.{IsLastBy, IsPointBy, IsRefusalBy, none_excess, point_excess, prices_excess_by};
+ghost use Rattle.price_lift.specs.Lifted.{AreNodePrices, IsLiftedPoint, IsLiftedRefusal};
+ghost use Rattle.price_lift.specs.PaidBack.{FitsBy, IsLiftErrorBy};
 ghost use Rattle.price_lift.specs.TooLarge.{best_excess, refusal_excess, row_excess, sign_excess};
 
 use crate::lift::Lifted;
+use crate::paying::paid_back;
 use crate::pricing::prices_of;
 use crate::weighing::basic_mixed;
 use dual_bound::Prices;
@@ -34,8 +37,8 @@ pub fn lift_best_with<R: RowStore>(
     requires outline { IsOutline tables.now (kept_by kept.now) outline.now }
     requires ends { Ends tables.now (kept_by kept.now) turns.Best (R.content table.now) basis.now }
     ensures lifted { IfOk result (IsLiftedPoint tables.now (kept_by kept.now) (R.content table.now) basis.now (best_duals tables.now (R.content table.now))) }
-    ensures fits { IfOk result (λ _. best_excess tables.now (kept_by kept.now) (R.content table.now) basis.now ≡ None) }
-    ensures too_large { IfErr result (IsLiftError (best_excess tables.now (kept_by kept.now) (R.content table.now) basis.now)) }
+    ensures fits { IfOk result (λ _. FitsBy tables.now (kept_by kept.now) (best_excess tables.now (kept_by kept.now) (R.content table.now) basis.now)) }
+    ensures too_large { IfErr result (IsLiftErrorBy tables.now (kept_by kept.now) (best_excess tables.now (kept_by kept.now) (R.content table.now) basis.now)) }
 {
     let mixture = Mixture::of(table, outline.column_count())?;
     let reading = Reading::BothRows(mixture);
@@ -54,16 +57,16 @@ pub fn lift_refusal_with<R: RowStore>(
     requires outline { IsOutline tables.now (kept_by kept.now) outline.now }
     requires ends { Ends tables.now (kept_by kept.now) turns.NoPoint (R.content table.now) basis.now }
     ensures lifted { IfOk result (IsLiftedRefusal tables.now (kept_by kept.now) (refusal_duals tables.now (R.content table.now))) }
-    ensures fits { IfOk result (λ _. refusal_excess tables.now (R.content table.now) ≡ None) }
-    ensures too_large { IfErr result (IsLiftError (refusal_excess tables.now (R.content table.now))) }
+    ensures fits { IfOk result (λ _. FitsBy tables.now (kept_by kept.now) (refusal_excess tables.now (kept_by kept.now) (R.content table.now))) }
+    ensures too_large { IfErr result (IsLiftErrorBy tables.now (kept_by kept.now) (refusal_excess tables.now (kept_by kept.now) (R.content table.now))) }
 {
     lift_none(alloc, table, &Reading::PhaseRow, tables, kept, outline)
 }
 
 /// Prices and a cheapest fractional assignment from a table, with its basis, that steps reach from a subproblem's
 /// lines, and whose signs say that its basic point is a cheapest one. The prices are the numbers of the cost row in the
-/// identity block, with the other sign, over its denominator, in lowest terms. Their worth is the cost of the fractional
-/// assignment, both over their scales (linear duality).
+/// identity block, with the other sign, over its denominator, in lowest terms, paid back where they
+/// rise over arcs that went. Their worth is the cost of the fractional assignment, both over their scales (linear duality).
 ///
 /// The outline is that of the kept pairs. No number is outgrown on the way; prices, their scale and that of the weights
 /// may pass their limits.
@@ -78,8 +81,8 @@ pub fn lift_best_by_signs<R: RowStore>(
     requires outline { IsOutline tables.now (kept_by kept.now) outline.now }
     requires ends { EndsBySigns tables.now (kept_by kept.now) (R.content table.now) basis.now }
     ensures lifted { IfOk result (IsLiftedPoint tables.now (kept_by kept.now) (R.content table.now) basis.now (sign_duals tables.now (R.content table.now))) }
-    ensures fits { IfOk result (λ _. sign_excess tables.now (kept_by kept.now) (R.content table.now) basis.now ≡ None) }
-    ensures too_large { IfErr result (IsLiftError (sign_excess tables.now (kept_by kept.now) (R.content table.now) basis.now)) }
+    ensures fits { IfOk result (λ _. FitsBy tables.now (kept_by kept.now) (sign_excess tables.now (kept_by kept.now) (R.content table.now) basis.now)) }
+    ensures too_large { IfErr result (IsLiftErrorBy tables.now (kept_by kept.now) (sign_excess tables.now (kept_by kept.now) (R.content table.now) basis.now)) }
 {
     lift_point(
         alloc,
@@ -110,8 +113,8 @@ pub fn lift_refusal_by_row<R: RowStore>(
     requires outline { IsOutline tables.now (kept_by kept.now) outline.now }
     requires ends { EndsByRow tables.now (kept_by kept.now) (R.content table.now) basis.now row }
     ensures lifted { IfOk result (IsLiftedRefusal tables.now (kept_by kept.now) (row_duals tables.now (R.content table.now) row)) }
-    ensures fits { IfOk result (λ _. row_excess tables.now (R.content table.now) row ≡ None) }
-    ensures too_large { IfErr result (IsLiftError (row_excess tables.now (R.content table.now) row)) }
+    ensures fits { IfOk result (λ _. FitsBy tables.now (kept_by kept.now) (row_excess tables.now (kept_by kept.now) (R.content table.now) row)) }
+    ensures too_large { IfErr result (IsLiftErrorBy tables.now (kept_by kept.now) (row_excess tables.now (kept_by kept.now) (R.content table.now) row)) }
 {
     let reading = Reading::LineRow { line: row };
     lift_none(alloc, table, &reading, tables, kept, outline)
@@ -130,13 +133,13 @@ fn lift_point<R: RowStore>(
     requires outline { IsOutline tables.now (kept_by kept.now) outline.now }
     requires ends { IsPointBy tables.now (kept_by kept.now) (R.content table.now) basis.now reading.now }
     ensures { MatchResult result
-        (λ lifted. (point_excess tables.now (kept_by kept.now) (R.content table.now) basis.now reading.now ≡ None)
+        (λ lifted. (point_excess tables.now (kept_by kept.now) (R.content table.now) basis.now reading.now (starts_in outline.now.network) ≡ None)
         × IsLiftedPoint tables.now (kept_by kept.now) (R.content table.now) basis.now (duals_by (R.content table.now) reading.now (legs_in tables.now)) lifted)
-        (IsLiftError (point_excess tables.now (kept_by kept.now) (R.content table.now) basis.now reading.now)) }
+        (IsLiftError (point_excess tables.now (kept_by kept.now) (R.content table.now) basis.now reading.now (starts_in outline.now.network))) }
 {
-    let prices = lift_prices(alloc, table, reading, tables, kept, outline)?;
-    let pairs = outline.pairs.as_slice();
-    let mixed = basic_mixed(alloc, table, basis, pairs, outline.column_count())?;
+    let before = lift_prices(alloc, table, reading, tables, kept, outline)?;
+    let mixed = basic_mixed(alloc, table, basis, outline)?;
+    let prices = paid_back(alloc, tables, outline, before)?;
     Ok(Lifted {
         prices,
         mixed: Some(mixed),
@@ -155,18 +158,19 @@ fn lift_none<R: RowStore>(
     requires outline { IsOutline tables.now (kept_by kept.now) outline.now }
     requires ends { (basis : List ℕ) × IsRefusalBy tables.now (kept_by kept.now) (R.content table.now) basis reading.now }
     ensures { MatchResult result
-        (λ lifted. (prices_excess_by tables.now (R.content table.now) reading.now ≡ None)
+        (λ lifted. (none_excess tables.now (kept_by kept.now) (R.content table.now) reading.now (starts_in outline.now.network) ≡ None)
         × IsLiftedRefusal tables.now (kept_by kept.now) (duals_by (R.content table.now) reading.now (legs_in tables.now)) lifted)
-        (IsLiftError (prices_excess_by tables.now (R.content table.now) reading.now)) }
+        (IsLiftError (none_excess tables.now (kept_by kept.now) (R.content table.now) reading.now (starts_in outline.now.network))) }
 {
-    let prices = lift_prices(alloc, table, reading, tables, kept, outline)?;
+    let before = lift_prices(alloc, table, reading, tables, kept, outline)?;
+    let prices = paid_back(alloc, tables, outline, before)?;
     Ok(Lifted {
         prices,
         mixed: None,
     })
 }
 
-// The prices of the dual values that are read so.
+// The prices by the nodes of the dual values that are read so.
 fn lift_prices<R: RowStore>(
     alloc: Global,
     table: &R,
@@ -179,7 +183,7 @@ fn lift_prices<R: RowStore>(
     requires ends { (basis : List ℕ) × IsLastBy tables.now (kept_by kept.now) (R.content table.now) basis reading.now }
     ensures { MatchResult result
         (λ prices. (prices_excess_by tables.now (R.content table.now) reading.now ≡ None)
-        × AreLiftedPrices tables.now (kept_by kept.now) (duals_by (R.content table.now) reading.now (legs_in tables.now)) prices)
+        × AreNodePrices tables.now (kept_by kept.now) (starts_in outline.now.network) (duals_by (R.content table.now) reading.now (legs_in tables.now)) prices)
         (IsLiftError (prices_excess_by tables.now (R.content table.now) reading.now)) }
 {
     let columns = outline.column_count();

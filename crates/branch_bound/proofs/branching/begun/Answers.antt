@@ -1,6 +1,6 @@
 use Rattle.std.proofs.Common.{refl}
 use Rattle.branch_bound.proofs.Beginning.{first_search}
-use Rattle.branch_bound.proofs.RemovedPairs.{zero_good}
+use Rattle.node_bounding.proofs.RemovedPairs.{zero_good}
 use Rattle.branch_bound.proofs.branching.begun.Goals as goal
 
 pub examine-requires-clause-above : goal.examine-requires-clause-above

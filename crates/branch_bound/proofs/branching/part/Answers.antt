@@ -1,4 +1,4 @@
-use Rattle.branch_bound.proofs.Allowed.{allowed_part, allowed_rows}
+use Rattle.node_bounding.proofs.Allowed.{allowed_part, allowed_rows}
 use Rattle.branch_bound.proofs.branching.part.Goals as goal
 
 pub examine-requires-clause-allowed : goal.examine-requires-clause-allowed

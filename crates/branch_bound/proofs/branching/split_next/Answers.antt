@@ -2,7 +2,7 @@ use Rattle.std.proofs.Common.{subst, sym, ap}
 use Rattle.fleet_model.specs.Kept.{kept_by}
 use Rattle.fleet_model.specs.Whole.{KeepAllowed}
 use Rattle.branch_bound.specs.History.{WaitsWith}
-use Rattle.branch_bound.specs.Relaxed.{AreGood}
+use Rattle.node_bounding.specs.Relaxed.{AreGood}
 use Rattle.branch_bound.specs.Search.{at}
 use Rattle.branch_bound.proofs.Grown.{where_ok}
 use Rattle.branch_bound.proofs.NextSplits.{allowed_there, at_waits, good, keeps_there, split_search, step_known}

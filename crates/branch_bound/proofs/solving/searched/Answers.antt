@@ -1,8 +1,8 @@
 use Rattle.std.proofs.Common.{refl, subst}
 use Rattle.branch_bound.specs.History.{ComesTo}
-use Rattle.branch_bound.proofs.Allowed.{allowed_rows}
+use Rattle.node_bounding.proofs.Allowed.{allowed_rows}
 use Rattle.branch_bound.proofs.Comes.{comes, gathers, linked}
-use Rattle.branch_bound.proofs.RemovedPairs.{allowed_after, allowed_all, kept_now, removals_within}
+use Rattle.node_bounding.proofs.RemovedPairs.{allowed_after, allowed_all, kept_now, removals_within}
 use Rattle.branch_bound.proofs.solving.searched.Goals as goal
 
 pub remove-requires : goal.remove-requires

@@ -5,7 +5,7 @@ pub returns-clause-scale : goal.returns-clause-scale
 returns-clause-scale g c = if_well c.lift_best_with.result c.lift_best_with.ensures.lifted (λ lifted is. is.prices.scale)
 
 pub returns-clause-prices : goal.returns-clause-prices
-returns-clause-prices g c = if_well c.lift_best_with.result c.lift_best_with.ensures.lifted (λ lifted is. is.prices.by_lines)
+returns-clause-prices g c = if_well c.lift_best_with.result c.lift_best_with.ensures.lifted (λ lifted is. is.prices.paid)
 
 pub returns-clause-of_tables : goal.returns-clause-of_tables
 returns-clause-of_tables g c = if_well c.lift_best_with.result c.lift_best_with.ensures.lifted (λ lifted is. is.prices.of_tables)

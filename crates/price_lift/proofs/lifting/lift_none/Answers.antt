@@ -1,5 +1,25 @@
-use Rattle.price_lift.proofs.Lifts.{refusal_is}
+use Rattle.std.proofs.lemmas.Result.{err_from_is_err_and}
+use Rattle.dual_lift.proofs.Excesses.{first_fails}
+use Rattle.price_lift.specs.LastTables.{none_excess}
+use Rattle.price_lift.proofs.PaidEnds.{none_fails, refusal_of}
 use Rattle.price_lift.proofs.lifting.lift_none.Goals as goal
 
+pub returns-in_err-before : goal.returns-in_err-before
+unfolding none_excess
+returns-in_err-before g c =
+    let p = err_from_is_err_and c.from_residual.result c.from_residual.ensures.1 in
+    rw (p.1, p.2) (first_fails _ _ c.in_err-before.field-0.0 c.in_err-before.ensures)
+
+pub paid_back-requires-clause-outline : goal.paid_back-requires-clause-outline
+paid_back-requires-clause-outline g c = (_, c.requires.outline)
+
+pub paid_back-requires-clause-within : goal.paid_back-requires-clause-within
+paid_back-requires-clause-within g c = c.in_ok-before.ensures.1.limits
+
+pub returns-in_err-prices : goal.returns-in_err-prices
+returns-in_err-prices g c =
+    let p = err_from_is_err_and c.from_residual-in_err-prices.result c.from_residual-in_err-prices.ensures.1 in
+    rw (p.1, p.2) (none_fails _ _ _ _ _ c.requires.ends.1.last c.args.outline.now c.requires.outline _ c.in_ok-before.ensures.1 c.in_ok-before.ensures.0 c.in_err-prices.field-0.0 c.in_err-prices.ensures)
+
 pub returns : goal.returns
-returns g c = (c.in_ok-prices.ensures.0, refusal_is _ _ _ _ _ c.requires.ends.1.last c.requires.ends.1.no_costs _ c.in_ok-prices.ensures.0 c.in_ok-prices.ensures.1)
+returns g c = refusal_of _ _ _ _ _ c.requires.ends.1.last c.args.outline.now c.requires.outline _ c.in_ok-before.ensures.1 c.in_ok-before.ensures.0 _ c.in_ok-prices.ensures c.requires.ends.1.no_costs

@@ -1,8 +1,9 @@
 use Rattle.std.proofs.Common.{subst}
 use Rattle.fleet_model.specs.Kept.{kept_by}
+use Rattle.lp_rows.specs.Layout.{starts_in}
 use Rattle.price_lift.proofs.RunEnds.{is_refusal_by_row}
 use Rattle.price_lift.specs.Lifted.{IsLiftedRefusal}
-use Rattle.price_lift.proofs.LiftResults.{fails_so, same_row, row_excess_is, well_fits, well_lifted}
+use Rattle.price_lift.proofs.LiftResults.{fails_by, fails_so, fits_by, same_row, row_excess_is, well_fits, well_lifted}
 use Rattle.price_lift.proofs.lifting.lift_refusal_by_row.Goals as goal
 
 pub lift_none-requires-clause-ends : goal.lift_none-requires-clause-ends
@@ -12,7 +13,7 @@ pub returns-clause-lifted : goal.returns-clause-lifted
 returns-clause-lifted g c = well_lifted _ _ c.lift_none.result c.lift_none.ensures _ (λ lifted is. subst (λ d. IsLiftedRefusal c.args.tables.now (kept_by c.args.kept.now) d lifted) (same_row c.args.tables.now (g.R.RowStore.content c.args.table.now) c.args.row) is)
 
 pub returns-clause-fits : goal.returns-clause-fits
-returns-clause-fits g c = well_fits _ _ c.lift_none.result c.lift_none.ensures _ (row_excess_is c.args.tables.now (g.R.RowStore.content c.args.table.now) c.args.row)
+returns-clause-fits g c = fits_by _ _ _ _ c.requires.outline.network c.lift_none.result (well_fits _ _ c.lift_none.result c.lift_none.ensures _ (row_excess_is c.args.tables.now (kept_by c.args.kept.now) (g.R.RowStore.content c.args.table.now) c.args.row (starts_in c.args.outline.now.network)))
 
 pub returns-clause-too_large : goal.returns-clause-too_large
-returns-clause-too_large g c = fails_so _ _ c.lift_none.result c.lift_none.ensures _ (row_excess_is c.args.tables.now (g.R.RowStore.content c.args.table.now) c.args.row)
+returns-clause-too_large g c = fails_by _ _ _ _ c.requires.outline.network c.lift_none.result (fails_so _ _ c.lift_none.result c.lift_none.ensures _ (row_excess_is c.args.tables.now (kept_by c.args.kept.now) (g.R.RowStore.content c.args.table.now) c.args.row (starts_in c.args.outline.now.network)))

@@ -1,6 +1,6 @@
 use Rattle.std.proofs.Common.{◌≡◌, ◌<◌, arith, ap, subst, length, add-one, get_or, pos}
 use Rattle.lp_rows.specs.Layout.{all_nodes, concat_below, starts_in}
-use Rattle.lp_rows.specs.Points.{arcs_in}
+use Rattle.lp_rows.specs.Points.{node_count}
 use Rattle.lp_rows.proofs.Counted.{nodes_are}
 use Rattle.price_lift.specs.Steps.{steps_at}
 use Rattle.lp_rows.proofs.LinePlaces.{node_is}
@@ -8,17 +8,17 @@ use Rattle.price_lift.proofs.stepping.price_steps.Goals as goal
 
 pub starts-starts-requires-clause-fleet : goal.starts-starts-requires-clause-fleet
 starts-starts-requires-clause-fleet c =
-    let below : c.loop-place.place < arcs_in c.args.tables.now (starts_in c.args.network.now) = omega (arith, nodes_are c.args.tables.now (starts_in c.args.network.now), ap length c.requires.nodes) in
+    let below : c.loop-place.place < node_count c.args.tables.now (starts_in c.args.network.now) = omega (arith, nodes_are c.args.tables.now (starts_in c.args.network.now), ap length c.requires.nodes) in
     rw c.requires.nodes (node_is c.args.tables.now (starts_in c.args.network.now) c.loop-place.place below).fleet
 
 pub starts-starts-requires-clause-station : goal.starts-starts-requires-clause-station
 starts-starts-requires-clause-station c =
-    let below : c.loop-place.place < arcs_in c.args.tables.now (starts_in c.args.network.now) = omega (arith, nodes_are c.args.tables.now (starts_in c.args.network.now), ap length c.requires.nodes) in
+    let below : c.loop-place.place < node_count c.args.tables.now (starts_in c.args.network.now) = omega (arith, nodes_are c.args.tables.now (starts_in c.args.network.now), ap length c.requires.nodes) in
     rw c.requires.nodes (node_is c.args.tables.now (starts_in c.args.network.now) c.loop-place.place below).station
 
 pub push_step-requires-clause-node : goal.push_step-requires-clause-node
 push_step-requires-clause-node c =
-    let below : c.loop-place.place < arcs_in c.args.tables.now (starts_in c.args.network.now) = omega (arith, nodes_are c.args.tables.now (starts_in c.args.network.now), ap length c.requires.nodes) in
+    let below : c.loop-place.place < node_count c.args.tables.now (starts_in c.args.network.now) = omega (arith, nodes_are c.args.tables.now (starts_in c.args.network.now), ap length c.requires.nodes) in
     rw (c.starts-starts.ensures.value, c.requires.nodes) (node_is c.args.tables.now (starts_in c.args.network.now) c.loop-place.place below).place
 
 pub loop-place-preserved : goal.loop-place-preserved

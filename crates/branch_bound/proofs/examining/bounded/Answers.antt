@@ -1,5 +1,0 @@
-use Rattle.branch_bound.proofs.Examined.{whole_leaf}
-use Rattle.branch_bound.proofs.examining.bounded.Goals as goal
-
-pub returns-in-None : goal.returns-in-None
-returns-in-None c = λ pivots above. whole_leaf _ pivots _ _ _ above _ c.args.mixed c.requires.searched c.requires.best c.offer_whole.ensures

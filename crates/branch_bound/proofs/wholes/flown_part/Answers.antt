@@ -1,5 +1,0 @@
-use Rattle.std.proofs.Common.{arith}
-use Rattle.branch_bound.proofs.wholes.flown_part.Goals as goal
-
-pub unreachable-requires : goal.unreachable-requires
-unreachable-requires c = c.requires.some.each c.args.leg c.requires.leg (λ f below. c.loop-fleet.invariant f (omega (arith, below)))

@@ -1,0 +1,440 @@
+-- Rises over arcs that went: prices rise by them alone, no two have the same moment, and no event takes another price.
+use Rattle.std.proofs.Common.{◌≡◌, ◌≢◌, ℕ, zero, suc, ◌+◌, ◌-◌, ◌*◌, ◌<◌, ◌≤◌, Bool, true, false, cond, ◌==◌, ◌&&◌, nat_le, nat_lt, if◌then◌else◌, List, [], ◌∷◌, length, get_or, All, ℤ, pos, neg_ℤ, ◌+ℤ◌, ◌-ℤ◌, ◌≤ℤ◌, ◌<ℤ◌, int_lt, Option, Some, None, ◌⊎◌, refl, sym, ◌∙◌, ap, ap₂, subst, inl, inr, arith}
+use Rattle.std.proofs.lemmas.Bool.{cases_lt, cases_order}
+use Rattle.std.proofs.lemmas.Bool.Decides.{nat_tests}
+use Rattle.std.proofs.lemmas.Int.{ints}
+use Rattle.std.proofs.lemmas.List.Elements.{All-append, All-contains, All-cons, All-nil}
+use Rattle.std.proofs.lemmas.List.Sorted.{All-permutation}
+use Rattle.sums.specs.Below.{sum_below_ℤ}
+use Rattle.sums.proofs.Naturals.{equal_number}
+use Rattle.sums.proofs.Tests.{by_test, both_true, parts_true}
+use Rattle.sums.proofs.WholeTerms.{at_least_0}
+use Rattle.sums.proofs.WholeSums.{sum_below_ℤ-same}
+use Rattle.sums.proofs.WholeSwaps.{sum_below_ℤ-zero}
+use Rattle.fleet_model.specs.Kept.{Domains}
+use Rattle.fleet_model.specs.Schedule.{IsPair, fleets_in, leg_of, leg_on, legs_in, no_leg, stations_in}
+use Rattle.fleet_model.specs.Times.{departure, ready_minute}
+use Rattle.fleet_model.specs.Use.{last_minute}
+use Rattle.fleet_model.specs.declared.limits.TheConstants.{MINUTES_PER_PERIOD}
+use Rattle.fleet_model.specs.declared.parts.Pair.{Pair}
+use Rattle.fleet_model.specs.declared.tables.Tables.{Tables}
+use Rattle.timeline_net.specs.Events.{departure_event, departures_of, events_below, readies_of, ready_event}
+use Rattle.timeline_net.specs.declared.timeline.Event.{Event}
+use Rattle.node_aggregate.specs.Nodes.{AreNodesAt, RiseFromZero, node_end}
+use Rattle.node_aggregate.proofs.EventsAmong.{happens_within}
+use Rattle.node_aggregate.proofs.Links.{nodes_rise}
+use Rattle.node_aggregate.proofs.NodeEnds.{Holds, end_at_last, end_before, node_that_holds}
+use Rattle.dual_bound.specs.Prices.{AreWithin, max_price, price_of, rent_of}
+use Rattle.dual_bound.specs.declared.prices.Prices.{Prices}
+use Rattle.island_prices.specs.Arcs.{AreAllNodes, AreArcRises, AreByNodes, AreMoments, ArcMoments, DoStayLow, HasRise, IsOfArc, IsQuiet, NodeStarts, rise_over, shift_over}
+use Rattle.island_prices.specs.Payback.{AreApart, AreCovered, AreQuiet, SameMoment, end_of, ends_at, ends_by}
+use Rattle.island_prices.specs.Rises.{AreRises, IsRise, IsShift, is_of, rise_in, shift_at, shift_by, shift_of, shifted}
+use Rattle.island_prices.specs.declared.rises.Rise.{Rise}
+use Rattle.island_prices.specs.declared.rises.Shift.{Shift}
+use Rattle.island_prices.specs.declared.rises.Shift.TheVariants.{Lowered, Raised}
+
+-- ---- sums
+-- a term of a sum of terms that are 0 or more is no more than the sum
+term_below : (f : ℕ → ℤ) (n k : ℕ) → k < n → ((j : ℕ) → j < n → pos 0 ≤ℤ f j) → f k ≤ℤ sum_below_ℤ f n
+term_below f zero k below some = absurd (omega arith)
+term_below f (suc n) k below some = elim (cases_lt k n) [
+  | inl less ↦ omega (arith, ints, term_below f n k less (λ j within. some j (omega arith)), some n (omega arith))
+  | inr last ↦
+      let same : n ≡ k = omega arith in
+      subst (λ j. f j ≤ℤ sum_below_ℤ f (suc n)) same (omega (arith, ints, at_least_0 f n (λ j within. some j (omega arith))))
+]
+
+-- ---- a departure among the events is that of a kept pair
+pub record IsKeptDeparture (t : Tables) (keeps : Domains) (f s : ℕ) (e : Event) : Type 0 where
+  pub leg : ℕ
+  pub within : leg < legs_in t
+  pub kept : keeps (leg_on leg f) ≡ true
+  pub from : (leg_of t leg).from ≡ s
+  pub minute : e.minute ≡ departure t (leg_on leg f)
+
+module _ (t : Tables) (keeps : Domains) (f s : ℕ) where
+  abbrev OfPair : Event → Type 0
+  OfPair e = e.ready ≡ false → IsKeptDeparture t keeps f s e
+
+  number_is : (a b : ℕ) → (a == b) ≡ true → a ≡ b
+  number_is a b e = grind (arith, nat_tests)
+
+  departs_so : (l : ℕ) → l < legs_in t → All OfPair (departures_of t keeps s (leg_on l f))
+  departs_so l below = by_kept (keeps (leg_on l f) && ((leg_of t l).from == s)) refl
+    where
+      by_kept : (b : Bool) → (keeps (leg_on l f) && ((leg_of t l).from == s)) ≡ b → All OfPair (if b then departure_event t (leg_on l f) ∷ [] else [])
+      by_kept true e =
+          let both = parts_true (keeps (leg_on l f)) ((leg_of t l).from == s) e in
+          All-cons OfPair (departure_event t (leg_on l f)) [] (λ not_ready. record { leg = l; within = below; kept = both.0; from = number_is (leg_of t l).from s both.1; minute = refl }) (All-nil OfPair)
+      by_kept false e = All-nil OfPair
+
+  readies_so : (l : ℕ) → All OfPair (readies_of t keeps s (leg_on l f))
+  readies_so l = by_kept (keeps (leg_on l f) && ((leg_of t l).to == s))
+    where
+      by_kept : (b : Bool) → All OfPair (if b then ready_event t (leg_on l f) ∷ [] else [])
+      by_kept true = All-cons OfPair (ready_event t (leg_on l f)) [] (λ not_ready. absurd (clash not_ready)) (All-nil OfPair)
+        where
+          clash : true ≡ false → ⊥
+          clash e = cc
+      by_kept false = All-nil OfPair
+
+  all_so : (n : ℕ) → n ≤ legs_in t → All OfPair (events_below t keeps f s n)
+  all_so zero within = All-nil OfPair
+  all_so (suc n) within = All-append OfPair _ _ (All-append OfPair _ _ (all_so n (omega arith)) (departs_so n (omega arith))) (readies_so n)
+
+  -- .. so of several nodes the first has a departure
+  pub first_departs : (starts : List ℕ) → AreNodesAt t keeps f s starts → 1 < length starts → (l : ℕ) × (l < legs_in t) × (keeps (leg_on l f) ≡ true) × ((leg_of t l).from ≡ s) × (departure t (leg_on l f) < get_or starts 1 0)
+  first_departs starts nodes several =
+      let may = (nodes.nodes.next 0 (omega arith)).may in
+      let all = All-permutation OfPair _ _ nodes.happen.each_once (all_so (legs_in t) (omega arith)) in
+      let is = All-contains OfPair nodes.events (record { minute = may.departure; ready = false; leg = may.departs.by }) all may.departs.among refl in
+      (is.leg, is.within, is.kept, is.from, omega (arith, may.later, is.minute))
+
+-- ---- by how much prices rise over an arc: to a next node, and from the last one
+pub rise_inside : (prices : Prices) (xs : List ℕ) (f s k : ℕ) → k + 1 < length xs → rise_over prices xs f s k ≡ price_of prices f s (get_or xs (k + 1) 0) -ℤ price_of prices f s (get_or xs k 0)
+rise_inside prices xs f s k more = ap (λ b. cond b (price_of prices f s (get_or xs (k + 1) 0) -ℤ price_of prices f s (get_or xs k 0)) (price_of prices f s 0 -ℤ price_of prices f s (get_or xs k 0) -ℤ rent_of prices f)) (less (k + 1) (length xs) more)
+  where
+    less : (a n : ℕ) → a < n → nat_lt a n ≡ true
+    less a n below = grind (arith, nat_tests)
+
+pub rise_at_last : (prices : Prices) (xs : List ℕ) (f s k : ℕ) → length xs ≤ k + 1 → rise_over prices xs f s k ≡ price_of prices f s 0 -ℤ price_of prices f s (get_or xs k 0) -ℤ rent_of prices f
+rise_at_last prices xs f s k last = ap (λ b. cond b (price_of prices f s (get_or xs (k + 1) 0) -ℤ price_of prices f s (get_or xs k 0)) (price_of prices f s 0 -ℤ price_of prices f s (get_or xs k 0) -ℤ rent_of prices f)) (not_less (k + 1) (length xs) last)
+  where
+    not_less : (a n : ℕ) → n ≤ a → nat_lt a n ≡ false
+    not_less a n past = grind (arith, nat_tests)
+
+-- ---- rises over arcs
+module _ (t : Tables) (keeps : Domains) (prices : Prices) (starts : NodeStarts) (moment : ArcMoments) (rises : List Rise) (nodes : AreAllNodes t keeps starts) (moments : AreMoments t keeps starts moment)
+    (are : AreArcRises t prices starts moment rises) (rents : (f : ℕ) → f < fleets_in t → pos 0 ≤ℤ rent_of prices f) where
+  rise_from : (f s : ℕ) → f < fleets_in t → s < stations_in t → 0 < length (starts f s) → RiseFromZero (starts f s)
+  rise_from f s known within some = let at = nodes.each f s known within in nodes_rise at.events (starts f s) at.nodes some
+
+  -- over the arc of a single node no price rises
+  several : (f s k : ℕ) → f < fleets_in t → s < stations_in t → k < length (starts f s) → pos 0 <ℤ rise_over prices (starts f s) f s k → 1 < length (starts f s)
+  several f s k known within below some = elim (cases_lt 1 (length (starts f s))) [
+    | inl more ↦ more
+    | inr one ↦
+        let place : k ≡ 0 = omega arith in
+        let first : get_or (starts f s) k 0 ≡ 0 = ap (λ j. get_or (starts f s) j 0) place ∙ (rise_from f s known within (omega arith)).first in
+        let at : rise_over prices (starts f s) f s k ≡ price_of prices f s 0 -ℤ price_of prices f s (get_or (starts f s) k 0) -ℤ rent_of prices f =
+        ap (λ b. cond b (price_of prices f s (get_or (starts f s) (k + 1) 0) -ℤ price_of prices f s (get_or (starts f s) k 0)) (price_of prices f s 0 -ℤ price_of prices f s (get_or (starts f s) k 0) -ℤ rent_of prices f)) (last (k + 1) (length (starts f s)) (omega arith)) in
+        absurd (omega (arith, ints, some, at, ap (λ m. price_of prices f s m) first, rents f known))
+  ]
+    where
+      last : (a n : ℕ) → n ≤ a → nat_lt a n ≡ false
+      last a n past = grind (arith, nat_tests)
+
+  one_of_several : (i : ℕ) (below : i < length rises) → 1 < length (starts (rise_in rises i).fleet (rise_in rises i).station)
+  one_of_several i below =
+      let is = are.each i below in
+      several (rise_in rises i).fleet (rise_in rises i).station is.place is.fleet is.station is.within (subst (λ z. pos 0 <ℤ z) is.amount is.some)
+
+  -- ---- the last minutes of nodes
+  end_in_period : (f s k : ℕ) → f < fleets_in t → s < stations_in t → k < length (starts f s) → node_end (starts f s) k ≤ last_minute
+  end_in_period f s k known within below = elim (cases_lt (k + 1) (length (starts f s))) [
+    | inl more ↦
+        let at = nodes.each f s known within in
+        let may = (at.nodes.next k more).may in
+        let next = happens_within t keeps f s at.events at.happen true (get_or (starts f s) (k + 1) 0) may.ready in
+        omega (arith, next, end_before (starts f s) k more)
+    | inr last ↦ omega (arith, end_at_last (starts f s) k last)
+  ]
+
+  start_in_period : (f s k : ℕ) → f < fleets_in t → s < stations_in t → k < length (starts f s) → get_or (starts f s) k 0 < MINUTES_PER_PERIOD
+  start_in_period f s zero known inside below = omega (arith, (rise_from f s known inside (omega arith)).first)
+  start_in_period f s (suc k) known inside below =
+      let at = nodes.each f s known inside in
+      let next : k + 1 ≡ suc k = omega arith in
+      let may = (at.nodes.next k (omega arith)).may in
+      subst (λ j. get_or (starts f s) j 0 < MINUTES_PER_PERIOD) next (happens_within t keeps f s at.events at.happen true (get_or (starts f s) (k + 1) 0) may.ready)
+
+  shift_is : (xs : List ℕ) (k m : ℕ) → ((get_or xs k 0 ≤ m) × (shift_over xs k m ≡ Raised (node_end xs k))) ⊎ ((m < get_or xs k 0) × (shift_over xs k m ≡ Lowered))
+  shift_is xs k m = elim (cases_lt m (get_or xs k 0)) [
+    | inl early ↦ inr (early, ap (λ b. cond b (Raised (node_end xs k)) Lowered) (not_yet (get_or xs k 0) m early))
+    | inr begun ↦ inl (begun, ap (λ b. cond b (Raised (node_end xs k)) Lowered) (by_then (get_or xs k 0) m begun))
+  ]
+    where
+      not_yet : (a m : ℕ) → m < a → nat_le a m ≡ false
+      not_yet a m early = grind (arith, nat_tests)
+
+      by_then : (a m : ℕ) → a ≤ m → nat_le a m ≡ true
+      by_then a m begun = grind (arith, nat_tests)
+
+  -- ---- each is a rise
+  small_difference : (a b r : ℤ) (n : ℕ) → neg_ℤ (pos n) ≤ℤ a → a ≤ℤ pos n → neg_ℤ (pos n) ≤ℤ b → b ≤ℤ pos n → pos 0 ≤ℤ r → ((a -ℤ b) ≤ℤ pos (3 * n)) × ((a -ℤ b -ℤ r) ≤ℤ pos (3 * n))
+  small_difference a b r n a_low a_high b_low b_high some = (omega (arith, ints), omega (arith, ints))
+
+  pub are_rises : AreWithin t prices → AreRises t rises
+  are_rises within = record {
+    few = are.few;
+    each = λ i below.
+        let is = are.each i below in
+        let f = (rise_in rises i).fleet in
+        let s = (rise_in rises i).station in
+        let m = (rise_in rises i).moment in
+        let several_nodes = one_of_several i below in
+        let in_period = moments.in_period f s is.place m is.fleet is.station is.within is.went in
+        record {
+          fleet = is.fleet;
+          station = is.station;
+          moment = in_period;
+          shift = subst (λ x. IsShift x m) (sym is.shift) (elim (shift_is (starts f s) is.place m) [
+            | inl raised ↦ subst (λ x. IsShift x m) (sym raised.1) (
+              (moments.in_node f s is.place m is.fleet is.station is.within several_nodes is.went raised.0).0,
+              omega (arith, end_in_period f s is.place is.fleet is.station is.within),
+            )
+            | inr lowered ↦ subst (λ x. IsShift x m) (sym lowered.1) tt
+          ]);
+          amount = record { some = is.some; small = subst (λ z. z ≤ℤ pos (3 * max_price)) (sym is.amount) (small_rise f s is.place is.fleet is.station is.within) };
+        };
+  }
+    where
+      small_rise : (f s k : ℕ) → f < fleets_in t → s < stations_in t → k < length (starts f s) → rise_over prices (starts f s) f s k ≤ℤ pos (3 * max_price)
+      small_rise f s k known inside below = elim (cases_lt (k + 1) (length (starts f s))) [
+        | inl more ↦
+            let here = within.each f s (get_or (starts f s) k 0) known inside (start_in_period f s k known inside below) in
+            let there = within.each f s (get_or (starts f s) (k + 1) 0) known inside (start_in_period f s (k + 1) known inside more) in
+            subst (λ b. cond b (price_of prices f s (get_or (starts f s) (k + 1) 0) -ℤ price_of prices f s (get_or (starts f s) k 0)) (price_of prices f s 0 -ℤ price_of prices f s (get_or (starts f s) k 0) -ℤ rent_of prices f) ≤ℤ pos (3 * max_price)) (sym (less (k + 1) (length (starts f s)) more))
+            (small_difference (price_of prices f s (get_or (starts f s) (k + 1) 0)) (price_of prices f s (get_or (starts f s) k 0)) (rent_of prices f) max_price there.no_less there.no_more here.no_less here.no_more (rents f known)).0
+        | inr last ↦
+            let here = within.each f s (get_or (starts f s) k 0) known inside (start_in_period f s k known inside below) in
+            let there = within.each f s 0 known inside (omega arith) in
+            subst (λ b. cond b (price_of prices f s (get_or (starts f s) (k + 1) 0) -ℤ price_of prices f s (get_or (starts f s) k 0)) (price_of prices f s 0 -ℤ price_of prices f s (get_or (starts f s) k 0) -ℤ rent_of prices f) ≤ℤ pos (3 * max_price)) (sym (not_less (k + 1) (length (starts f s)) last))
+            (small_difference (price_of prices f s 0) (price_of prices f s (get_or (starts f s) k 0)) (rent_of prices f) max_price there.no_less there.no_more here.no_less here.no_more (rents f known)).1
+      ]
+        where
+          less : (a n : ℕ) → a < n → nat_lt a n ≡ true
+          less a n below = grind (arith, nat_tests)
+
+          not_less : (a n : ℕ) → n ≤ a → nat_lt a n ≡ false
+          not_less a n past = grind (arith, nat_tests)
+
+  -- ---- no two have the same moment
+  -- the arc of a node went to a moment, and there are several nodes
+  record Went (f s m k : ℕ) : Type 0 where
+    known : f < fleets_in t
+    within : s < stations_in t
+    below : k < length (starts f s)
+    several_nodes : 1 < length (starts f s)
+    went : moment f s k ≡ Some m
+
+  went_so : (i : ℕ) (below : i < length rises) → Went (rise_in rises i).fleet (rise_in rises i).station (rise_in rises i).moment (are.each i below).place
+  went_so i below = let is = are.each i below in record { known = is.fleet; within = is.station; below = is.within; several_nodes = one_of_several i below; went = is.went }
+
+  ends_before : (f s k j : ℕ) → f < fleets_in t → s < stations_in t → k < j → j < length (starts f s) → node_end (starts f s) k < get_or (starts f s) j 0
+  ends_before f s k j known within order below =
+      let rise = rise_from f s known within (omega arith) in
+      elim (cases_lt (k + 1) j) [
+        | inl more ↦ omega (arith, end_before (starts f s) k (omega arith), rise.rise (k + 1) j more below, rise.rise k (k + 1) (omega arith) (omega arith))
+        | inr next ↦
+            let same : k + 1 ≡ j = omega arith in
+            subst (λ n. node_end (starts f s) k < get_or (starts f s) n 0) same (omega (arith, end_before (starts f s) k (omega arith), rise.rise k (k + 1) (omega arith) (omega arith)))
+      ]
+
+  -- a wait in a node and one round the day start have no minute in common, since the first node has a departure
+  not_both : (f s m p q : ℕ) → Went f s m p → Went f s m q → get_or (starts f s) p 0 ≤ m → m < get_or (starts f s) q 0 → ⊥
+  not_both f s m p q first second begun early =
+      let in_node = moments.in_node f s p m first.known first.within first.below first.several_nodes first.went begun in
+      let round = moments.round f s q m second.known second.within second.below second.several_nodes second.went early in
+      let event = first_departs t keeps f s (starts f s) (nodes.each f s first.known first.within) first.several_nodes in
+      let minute = departure t (leg_on event.0 f) in
+      elim (cases_lt m minute) [
+        | inl later ↦ elim (cases_lt 0 p) [
+          | inl past ↦ elim (cases_lt 1 p) [
+            | inl more ↦ omega (arith, later, begun, event.4, (rise_from f s first.known first.within (omega (arith, first.below))).rise 1 p more first.below)
+            | inr one ↦ let same : p ≡ 1 = omega arith in omega (arith, later, event.4, subst (λ k. get_or (starts f s) k 0 ≤ m) same begun)
+          ]
+          | inr start ↦
+              let same : p ≡ 0 = omega arith in
+              in_node.1.departs event.0 event.1 event.2 event.3 (omega (arith, later)) (subst (λ k. minute ≤ node_end (starts f s) k) (sym same) (omega (arith, event.4, end_before (starts f s) 0 (omega (arith, first.several_nodes)))))
+        ]
+        | inr by_then ↦ round.1.departs event.0 event.1 event.2 event.3 (omega arith) by_then
+      ]
+
+  places_apart : (f s m p q : ℕ) → Went f s m p → Went f s m q → p ≢ q → ⊥
+  places_apart f s m p q first second apart = elim (shift_is (starts f s) p m) [
+    | inl raised ↦ elim (shift_is (starts f s) q m) [
+      | inl too ↦
+          let ends = (moments.in_node f s p m first.known first.within first.below first.several_nodes first.went raised.0).0 in
+          let other_ends = (moments.in_node f s q m second.known second.within second.below second.several_nodes second.went too.0).0 in
+          elim (cases_order p q) [
+            | inl same ↦ apart same
+            | inr (inl less) ↦ omega (arith, ends, too.0, ends_before f s p q first.known first.within less second.below)
+            | inr (inr more) ↦ omega (arith, other_ends, raised.0, ends_before f s q p first.known first.within more first.below)
+          ]
+      | inr lowered ↦ not_both f s m p q first second raised.0 lowered.0
+    ]
+    | inr lowered ↦ elim (shift_is (starts f s) q m) [
+      | inl raised ↦ not_both f s m q p second first raised.0 lowered.0
+      | inr too ↦
+          let last = (moments.round f s p m first.known first.within first.below first.several_nodes first.went lowered.0).0 in
+          let other_last = (moments.round f s q m second.known second.within second.below second.several_nodes second.went too.0).0 in
+          apart (omega (arith, last, other_last))
+    ]
+  ]
+
+  pub are_apart : AreApart rises
+  are_apart = record {
+    each = λ i j order below same.
+        let before : i < length rises = omega arith in
+        let other = went_so j below in
+        let alike = subst (λ g. Went g (rise_in rises j).station (rise_in rises j).moment (are.each j below).place) (sym same.fleet) other in
+        let there = subst (λ r. Went (rise_in rises i).fleet r (rise_in rises j).moment (are.each j below).place) (sym same.station) alike in
+        let then_too = subst (λ m. Went (rise_in rises i).fleet (rise_in rises i).station m (are.each j below).place) (sym same.moment) there in
+        places_apart (rise_in rises i).fleet (rise_in rises i).station (rise_in rises i).moment (are.each i before).place (are.each j below).place (went_so i before) then_too
+        (are.once i j before below order same.fleet same.station);
+  }
+
+  -- ---- prices rise by them alone
+  ends_some : (f s m i : ℕ) → i < length rises → pos 0 ≤ℤ ends_at rises f s m i
+  ends_some f s m i below = by_case (is_of (rise_in rises i) f s && (end_of (rise_in rises i).shift == m))
+    where
+      by_case : (b : Bool) → pos 0 ≤ℤ cond b (rise_in rises i).amount (pos 0)
+      by_case true = omega (arith, ints, (are.each i below).some)
+      by_case false = omega (arith, ints)
+
+  ends_at_least_0 : (f s m : ℕ) → pos 0 ≤ℤ ends_by rises f s m
+  unfolding ends_by
+  ends_at_least_0 f s m = at_least_0 (ends_at rises f s m) (length rises) (ends_some f s m)
+
+  end_is : (f s k a : ℕ) → Went f s a k → end_of (shift_over (starts f s) k a) ≡ node_end (starts f s) k
+  end_is f s k a went = elim (shift_is (starts f s) k a) [
+    | inl raised ↦ ap end_of raised.1
+    | inr lowered ↦
+        let last = (moments.round f s k a went.known went.within went.below went.several_nodes went.went lowered.0).0 in
+        ap end_of lowered.1 ∙ sym (end_at_last (starts f s) k (omega (arith, last)))
+  ]
+
+  arc_covered : DoStayLow t prices starts moment → (f s k m : ℕ) → f < fleets_in t → s < stations_in t → k < length (starts f s) → node_end (starts f s) k ≡ m → rise_over prices (starts f s) f s k ≤ℤ ends_by rises f s m
+  unfolding ends_by
+  arc_covered low f s k m known within below ends = by_moment (moment f s k) refl
+    where
+      clash : (z : ℤ) → int_lt (pos 0) z ≡ false → z ≤ℤ pos 0
+      clash z e = grind (arith, ints)
+
+      above : (z : ℤ) → int_lt (pos 0) z ≡ true → pos 0 <ℤ z
+      above z e = grind (arith, ints)
+
+      by_moment : (o : Option ℕ) → moment f s k ≡ o → rise_over prices (starts f s) f s k ≤ℤ sum_below_ℤ (ends_at rises f s m) (length rises)
+      by_moment None stays = omega (arith, ints, low.each f s k known within below stays, at_least_0 (ends_at rises f s m) (length rises) (ends_some f s m))
+      by_moment (Some a) went = by_test (int_lt (pos 0) (rise_over prices (starts f s) f s k))
+          (λ e.
+          let rises_there = above (rise_over prices (starts f s) f s k) e in
+          let has = are.all f s k a known within below went rises_there in
+          let at : Went f s a k = record { known = known; within = within; below = below; several_nodes = several f s k known within below rises_there; went = went } in
+          let ends_there : end_of (rise_in rises has.at).shift ≡ m = ap end_of has.shift ∙ end_is f s k a at ∙ ends in
+          let passes : (is_of (rise_in rises has.at) f s && (end_of (rise_in rises has.at).shift == m)) ≡ true =
+          both_true (is_of (rise_in rises has.at) f s) (end_of (rise_in rises has.at).shift == m)
+          (both_true ((rise_in rises has.at).fleet == f) ((rise_in rises has.at).station == s) (equal_number (rise_in rises has.at).fleet f has.fleet) (equal_number (rise_in rises has.at).station s has.station))
+          (equal_number (end_of (rise_in rises has.at).shift) m ends_there) in
+          let term : ends_at rises f s m has.at ≡ rise_over prices (starts f s) f s k = ap (λ b. cond b (rise_in rises has.at).amount (pos 0)) passes ∙ has.amount in
+          omega (arith, ints, term, term_below (ends_at rises f s m) (length rises) has.at has.within (ends_some f s m)))
+          (λ e. omega (arith, ints, clash (rise_over prices (starts f s) f s k) e, at_least_0 (ends_at rises f s m) (length rises) (ends_some f s m)))
+
+  module _ (by_nodes : AreByNodes t prices starts) (low : DoStayLow t prices starts moment) where
+    in_its_node : (f s k m : ℕ) → m ≤ last_minute → Holds (starts f s) m k → m ≤ node_end (starts f s) k
+    in_its_node f s k m period holds = elim (cases_lt (k + 1) (length (starts f s))) [
+      | inl more ↦ omega (arith, holds.before more, end_before (starts f s) k more)
+      | inr last ↦ omega (arith, end_at_last (starts f s) k last)
+    ]
+
+    next_covered : (f s m : ℕ) → f < fleets_in t → s < stations_in t → m + 1 < MINUTES_PER_PERIOD → price_of prices f s (m + 1) ≤ℤ (price_of prices f s m +ℤ ends_by rises f s m)
+    next_covered f s m known within period = elim (cases_lt 0 (length (starts f s))) [
+      | inl some ↦
+          let at = node_that_holds (starts f s) m (rise_from f s known within some).first some in
+          let k = at.0 in
+          let here = by_nodes.through f s k m known within at.1.within at.1.started (in_its_node f s k m (omega arith) at.1) in
+          elim (cases_lt m (node_end (starts f s) k)) [
+            | inl inside ↦
+                let next = by_nodes.through f s k (m + 1) known within at.1.within (omega (arith, at.1.started)) (omega (arith, inside)) in
+                omega (arith, ints, here, next, ends_at_least_0 f s m)
+            | inr outside ↦
+                let ends : node_end (starts f s) k ≡ m = omega (arith, outside, in_its_node f s k m (omega arith) at.1) in
+                elim (cases_lt (k + 1) (length (starts f s))) [
+                  | inl more ↦
+                      let next : get_or (starts f s) (k + 1) 0 ≡ m + 1 = omega (arith, ends, at.1.before more, end_before (starts f s) k more) in
+                      omega (arith, ints, here, ap (price_of prices f s) next, rise_inside prices (starts f s) f s k more, arc_covered low f s k m known within at.1.within ends)
+                  | inr last ↦ absurd (omega (arith, ends, end_at_last (starts f s) k last))
+                ]
+          ]
+      | inr none ↦ omega (arith, ints, by_nodes.nowhere f s m known within (omega arith), by_nodes.nowhere f s (m + 1) known within (omega arith), ends_at_least_0 f s m)
+    ]
+
+    over_end_covered : (f s : ℕ) → f < fleets_in t → s < stations_in t → price_of prices f s 0 ≤ℤ (price_of prices f s last_minute +ℤ rent_of prices f +ℤ ends_by rises f s last_minute)
+    over_end_covered f s known within = elim (cases_lt 0 (length (starts f s))) [
+      | inl some ↦
+          let k = length (starts f s) - 1 in
+          let below : k < length (starts f s) = omega arith in
+          let ends = end_at_last (starts f s) k (omega arith) in
+          let at = node_that_holds (starts f s) last_minute (rise_from f s known within some).first some in
+          let last_place : at.0 ≡ k = only_last at.0 at.1 in
+          let here = by_nodes.through f s k last_minute known within below (subst (λ j. get_or (starts f s) j 0 ≤ last_minute) last_place at.1.started) (omega (arith, ends)) in
+          omega (arith, ints, here, rise_at_last prices (starts f s) f s k (omega arith), arc_covered low f s k last_minute known within below ends)
+      | inr none ↦ omega (arith, ints, by_nodes.nowhere f s 0 known within (omega arith), by_nodes.nowhere f s last_minute known within (omega arith), ends_at_least_0 f s last_minute, rents f known)
+    ]
+      where
+        only_last : (k : ℕ) → Holds (starts f s) last_minute k → k ≡ length (starts f s) - 1
+        only_last k holds = elim (cases_lt (k + 1) (length (starts f s))) [
+          | inl more ↦ absurd (omega (arith, holds.before more, start_in_period f s (k + 1) known within more))
+          | inr last ↦ omega (arith, holds.within)
+        ]
+
+    pub are_covered : AreCovered t prices rises
+    are_covered = record { within_period = next_covered; over_end = over_end_covered }
+
+  -- ---- no event takes another price
+  module _ (f s m : ℕ) (no_event : (low high : ℕ) → IsQuiet t keeps f s low high → low ≤ m → m ≤ high → ⊥) where
+    not_raised : (a last : ℕ) (z : ℤ) → ((a < m) → (m ≤ last) → ⊥) → cond (nat_lt a m && nat_le m last) z (pos 0) ≡ pos 0
+    not_raised a last z none = by_test (nat_lt a m && nat_le m last)
+        (λ e. let both = parts_true (nat_lt a m) (nat_le m last) e in absurd (none (less a m both.0) (at_most m last both.1)))
+        (λ e. ap (λ b. cond b z (pos 0)) e)
+      where
+        less : (a m : ℕ) → nat_lt a m ≡ true → a < m
+        less a m e = grind (arith, nat_tests)
+
+        at_most : (m n : ℕ) → nat_le m n ≡ true → m ≤ n
+        at_most m n e = grind (arith, nat_tests)
+
+    not_lowered : (a : ℕ) (z : ℤ) → ((m ≤ a) → ⊥) → cond (nat_le m a) z (pos 0) ≡ pos 0
+    not_lowered a z none = by_test (nat_le m a) (λ e. absurd (none (at_most m a e))) (λ e. ap (λ b. cond b z (pos 0)) e)
+      where
+        at_most : (m n : ℕ) → nat_le m n ≡ true → m ≤ n
+        at_most m n e = grind (arith, nat_tests)
+
+    not_shifted : (k a : ℕ) (z : ℤ) → Went f s a k → shifted (shift_over (starts f s) k a) a z m ≡ pos 0
+    not_shifted k a z went = elim (shift_is (starts f s) k a) [
+      | inl raised ↦
+          let quiet = (moments.in_node f s k a went.known went.within went.below went.several_nodes went.went raised.0).1 in
+          ap (λ x. shifted x a z m) raised.1 ∙ not_raised a (node_end (starts f s) k) z (λ later ends. no_event (a + 1) (node_end (starts f s) k) quiet (omega arith) ends)
+      | inr lowered ↦
+          let quiet = (moments.round f s k a went.known went.within went.below went.several_nodes went.went lowered.0).1 in
+          ap (λ x. shifted x a z m) lowered.1 ∙ not_lowered a (neg_ℤ z) (λ early. no_event 0 a quiet (omega arith) early)
+    ]
+
+    none_shifts : (i : ℕ) → i < length rises → shift_at rises f s m i ≡ pos 0
+    none_shifts i below = by_test (is_of (rise_in rises i) f s)
+        (λ e.
+        let own = parts_true ((rise_in rises i).fleet == f) ((rise_in rises i).station == s) e in
+        let fleet : (rise_in rises i).fleet ≡ f = number (rise_in rises i).fleet f own.0 in
+        let station : (rise_in rises i).station ≡ s = number (rise_in rises i).station s own.1 in
+        let k = (are.each i below).place in
+        let here = subst (λ r. Went f r (rise_in rises i).moment k) station (subst (λ g. Went g (rise_in rises i).station (rise_in rises i).moment k) fleet (went_so i below)) in
+        let shift : (rise_in rises i).shift ≡ shift_over (starts f s) k (rise_in rises i).moment =
+        (are.each i below).shift ∙ ap₂ (λ g r. shift_over (starts g r) k (rise_in rises i).moment) fleet station in
+        ap (λ b. cond b (shift_of (rise_in rises i) m) (pos 0)) e
+        ∙ ap (λ x. shifted x (rise_in rises i).moment (rise_in rises i).amount m) shift
+        ∙ not_shifted k (rise_in rises i).moment (rise_in rises i).amount here)
+        (λ e. ap (λ b. cond b (shift_of (rise_in rises i) m) (pos 0)) e)
+      where
+        number : (a b : ℕ) → (a == b) ≡ true → a ≡ b
+        number a b e = grind (arith, nat_tests)
+
+    stays_there : shift_by rises f s m ≡ pos 0
+    unfolding shift_by
+    stays_there = sum_below_ℤ-same (shift_at rises f s m) (λ i. pos 0) (length rises) none_shifts ∙ sum_below_ℤ-zero (length rises)
+
+  pub are_quiet : AreQuiet t keeps rises
+  are_quiet = record {
+    departs = λ p pair kept. stays_there p.fleet (leg_of t p.leg).from (departure t p) (λ low high quiet from to. quiet.departs p.leg pair.leg kept refl from to);
+    lands = λ p pair kept. stays_there p.fleet (leg_of t p.leg).to (ready_minute t p) (λ low high quiet from to. quiet.lands p.leg pair.leg kept refl from to);
+  }

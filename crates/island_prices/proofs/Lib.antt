@@ -1,0 +1,11 @@
+pub mod Moves
+pub mod TakenMoments
+pub mod Worth
+pub mod StepOrder
+pub mod StepPrices
+pub mod Numbers
+pub mod PaidPrices
+pub mod PaidRows
+pub mod Arcs
+pub mod LeastMinutes
+pub mod RoundsPay

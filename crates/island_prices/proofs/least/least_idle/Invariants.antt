@@ -1,0 +1,8 @@
+use Rattle.std.proofs.Common.{◌≡◌}
+use Rattle.sums.specs.Places.{list_below}
+use Rattle.island_cut.specs.Islands.{idles_of}
+use Rattle.island_prices.specs.Least.{least_in}
+use Rattle.island_prices.proofs.least.least_idle.Given as goal
+
+abbrev pub invariant-loop-station : goal.invariant-loop-station
+invariant-loop-station l = l.least.items ≡ list_below (least_in (idles_of l.tables)) l.station

@@ -1,0 +1,6 @@
+use Rattle.std.proofs.Common.{◌≡◌, length}
+use Rattle.island_prices.specs.Rounds.{round_count}
+use Rattle.island_prices.proofs.rounds.round_count.Given as goal
+
+abbrev pub invariant-loop-station : goal.invariant-loop-station
+invariant-loop-station l = l.most ≡ round_count l.moments l.station

@@ -1,0 +1,18 @@
+use Rattle.std.proofs.Common.{◌≡◌, ◌++◌, ◌∙◌, map, length, ap, rules}
+use Rattle.fleet_model.specs.Kept.{kept_by}
+use Rattle.island_arcs.specs.Moments.{moment_of}
+use Rattle.sums.specs.Places.{list_below}
+use Rattle.lp_rows.specs.Layout.{moment_at, nodes_at, starts_in}
+use Rattle.lp_rows.proofs.ArcMoments.{moments_there, one_list_more}
+use Rattle.lp_rows.proofs.arcs.push_fleet.Goals as goal
+
+pub loop-station-preserved : goal.loop-station-preserved
+loop-station-preserved c =
+    let t = c.args.tables.now in
+    let keeps = kept_by c.args.kept.now in
+    let starts = starts_in c.args.network.now in
+    let there = c.as_slice.ensures ∙ c.in_ok-there.ensures ∙ ap (λ xs. list_below (moment_of t keeps c.args.fleet c.loop-station.station xs) (length xs)) c.starts-starts.ensures.value
+    ∙ moments_there t keeps starts c.args.fleet c.loop-station.station in
+    let all : c.extend_from_slice.new.self.items ≡ c.loop-station.found.items ++ c.as_slice.result.now = search rules in
+    one_list_more (moment_at t keeps starts) (nodes_at starts c.args.fleet) c.loop-station.station c.args.found.now.items c.loop-station.found.items _ c.loop-station.invariant
+    (all ∙ ap (λ xs. c.loop-station.found.items ++ xs) there)

@@ -1,0 +1,16 @@
+pub mod Allowed
+pub mod ClosedParts
+pub mod Closings
+pub mod Examined
+pub mod FlownParts
+pub mod Leaves
+pub mod Lifts
+pub mod Nodes
+pub mod Orders
+pub mod PairsKept
+pub mod Parts
+pub mod RemovedPairs
+pub mod SecondRuns
+pub mod SignEnds
+pub mod SplitPairs
+pub mod WholePlans

@@ -1,0 +1,23 @@
+use Rattle.std.proofs.Common.{subst}
+use Rattle.fleet_model.specs.Kept.{kept_by}
+use Rattle.node_bounding.specs.Relaxed.{IsRelaxed}
+use Rattle.node_bounding.proofs.Examined.{after_no_sole, before_no_sole, refuted_leaf, sole_leaf, stopped_leaf}
+use Rattle.node_bounding.proofs.examining.examine.Goals as goal
+
+pub returns-then-offer_sole : goal.returns-then-offer_sole
+returns-then-offer_sole c = sole_leaf _ _ _ _ _ _ c.if-offer_sole.ensures
+
+pub returns-in-Refuted : goal.returns-in-Refuted
+returns-in-Refuted c =
+    after_no_sole _ _ _ _ _ _ _ c.if-offer_sole.ensures
+    (refuted_leaf _ c.args.pivots _ c.requires.best _ _ _ (record { some_pair = c.in_default.ensures; some_choice = c.if-offer_sole.ensures.not_sole })
+    (subst (IsRelaxed c.args.tables.now (kept_by c.args.kept.now) c.args.pivots) c.in-Refuted.is c.in_ok-prices.ensures))
+
+pub returns-in_ok-copied-in-Stopped : goal.returns-in_ok-copied-in-Stopped
+returns-in_ok-copied-in-Stopped c =
+    after_no_sole _ _ _ _ _ _ _ c.if-offer_sole.ensures
+    (stopped_leaf _ c.args.pivots _ c.requires.best _ _ _ _ (record { some_pair = c.in_default.ensures; some_choice = c.if-offer_sole.ensures.not_sole }) c.requires.above c.in_ok-copied-in-Stopped.ensures
+    (subst (IsRelaxed c.args.tables.now (kept_by c.args.kept.now) c.args.pivots) c.in-Stopped.is c.in_ok-prices.ensures))
+
+pub returns-in-Bounded : goal.returns-in-Bounded
+returns-in-Bounded c = before_no_sole _ _ _ _ _ _ _ _ c.if-offer_sole.ensures (c.bounded.ensures c.args.pivots c.args.above.now)

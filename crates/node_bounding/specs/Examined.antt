@@ -1,0 +1,69 @@
+-- What becomes of a subproblem that is made.
+use Rattle.std.specs.Prelude.{◌≡◌, ℕ, ◌⊎◌, List, ⊤, Option, IfSome, IsSomeAnd, ℤ}
+use Rattle.frac_row.specs.Ratio.{IsCeiling}
+use Rattle.fleet_model.specs.Kept.{Domains, IsKeptAssignment}
+use Rattle.fleet_model.specs.Legal.{IsLegal, total_cost}
+use Rattle.fleet_model.specs.declared.tables.Tables.{Tables}
+use Rattle.dual_bound.specs.Bound.{lesser_bound}
+use Rattle.dual_bound.specs.Worth.{worth_of}
+use Rattle.dual_bound.specs.declared.nodes.Node.{Node}
+use Rattle.dual_bound.specs.declared.prices.Prices.{Prices}
+use Rattle.dual_bound.specs.declared.trees.Cause.{Cause}
+use Rattle.dual_bound.specs.declared.trees.Cause.TheVariants as cause
+use Rattle.dual_bound.specs.declared.trees.Tree.{Tree}
+use Rattle.dual_bound.specs.declared.trees.Tree.TheVariants as tree
+use Rattle.node_bounding.specs.Found.{IsEndOf}
+use Rattle.node_bounding.specs.Made.{IsMadeAs}
+use Rattle.node_bounding.specs.Offers.{IsOffered}
+use Rattle.node_bounding.specs.Subproblems.{IsNoMore, IsPlan, IsRight, cost_of, node_of}
+use Rattle.node_bounding.specs.declared.plans.Plan.{Plan}
+use Rattle.node_bounding.specs.declared.states.State.{State}
+use Rattle.node_bounding.specs.declared.states.State.TheVariants as state
+
+-- a leaf that is no longer worked: its run gave no prices, or more than them isn't asked for
+abbrev pub IsStoppedBy : Cause → Type 0
+IsStoppedBy (cause.Nodes mixed) = ⊥
+IsStoppedBy (cause.Pivots made) = ⊤
+IsStoppedBy (cause.Grew made row column) = ⊤
+IsStoppedBy (cause.Lift step at) = ⊤
+
+abbrev pub IsDoneLeaf : Tree → Type 0
+IsDoneLeaf (tree.Bare leg) = ⊤
+IsDoneLeaf tree.Sole = ⊤
+IsDoneLeaf (tree.Refuted prices) = ⊤
+IsDoneLeaf (tree.Priced prices) = ⊤
+IsDoneLeaf (tree.Open prices why) = IsStoppedBy why
+IsDoneLeaf (tree.Trim' leg fleet p with_pair q without) = ⊥
+IsDoneLeaf (tree.Split' leg fleet prices mixed p with_pair q without) = ⊥
+
+-- a subproblem that was just made is a leaf, or waits to be split
+abbrev pub IsFresh : State → Type 0
+IsFresh (state.Leaf leaf) = IsDoneLeaf leaf
+IsFresh (state.Waiting f) = ⊤
+IsFresh (state.Split f) = ⊥
+
+-- the cheapest plan, if any, is found in a subproblem
+abbrev pub IsFoundHere : Tables → Domains → Node → Option Plan → Type 0
+IsFoundHere t keeps node best = IsSomeAnd best (λ plan. IsEndOf t plan.assignment plan.cost (record { keeps = keeps; node = node }))
+
+-- A subproblem was made, whose nearest split above has these prices. Before and after it this is the cheapest plan.
+pub record IsExamined (t : Tables) (pivots : ℕ) (before after : Option Plan) (keeps : Domains) (above : Prices) (made : State) : Type 0 where
+  pub found : Option ℤ
+  pub fresh : IsFresh made
+  pub plan : IfSome after (IsPlan t)
+  pub cheapest : cost_of after ≡ lesser_bound (cost_of before) found
+  pub is : IsMadeAs t (cost_of before) keeps (node_of made) found
+  pub right : (final : Option ℤ) → IsNoMore (cost_of after) final → IsRight t pivots final keeps above made
+  pub place : (after ≡ before) ⊎ IsFoundHere t keeps (node_of made) after
+
+-- the same of a subproblem whose best fractional assignment is known, whatever the pivots and the prices above
+abbrev pub IsBounded : Tables → Option Plan → Option Plan → Domains → State → Type 0
+IsBounded t before after keeps made = (pivots : ℕ) (above : Prices) → IsExamined t pivots before after keeps above made
+
+-- a legal assignment of kept pairs that costs what prices are worth was offered
+pub record IsWholeOffered (t : Tables) (keeps : Domains) (prices : Prices) (before after : Option Plan) : Type 0 where
+  pub plan : List ℕ
+  pub kept : IsKeptAssignment t keeps plan
+  pub legal : IsLegal t plan
+  pub worth : IsCeiling (worth_of t keeps prices 1) prices.scale (total_cost t plan)
+  pub offered : IsOffered t plan before after

@@ -1,0 +1,14 @@
+pub mod Causes
+pub mod Closing
+pub mod Examined
+pub mod Found
+pub mod Made
+pub mod Offers
+pub mod Relaxed
+pub mod Runs
+pub mod SecondRun
+pub mod Splits
+pub mod Subproblems
+pub mod Trims
+pub mod Wholes
+pub mod Worked

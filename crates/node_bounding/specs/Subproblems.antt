@@ -1,0 +1,68 @@
+-- Plans, and what is known of a subproblem.
+use Rattle.std.specs.Prelude.{◌≡◌, ℕ, ◌≤◌, All, ⊤, Option, Some, None, IsSomeAnd, ℤ, ◌≤ℤ◌}
+use Rattle.frac_row.specs.Ratio.{IsCeiling}
+use Rattle.fleet_model.specs.Kept.{Domains, pairs_kept}
+use Rattle.fleet_model.specs.Legal.{IsLegal, total_cost}
+use Rattle.fleet_model.specs.declared.tables.Tables.{Tables}
+use Rattle.dual_bound.specs.Leaves.{depth_of}
+use Rattle.dual_bound.specs.OfTables.{IsOfTables}
+use Rattle.dual_bound.specs.Worth.{worth_of}
+use Rattle.dual_bound.specs.WrittenOrder.{InWrittenOrder}
+use Rattle.dual_bound.specs.declared.nodes.Node.{Node}
+use Rattle.dual_bound.specs.declared.nodes.Node.TheVariants as node
+use Rattle.dual_bound.specs.declared.prices.Prices.{Prices}
+use Rattle.dual_bound.specs.declared.trees.Cause.TheVariants as cause
+use Rattle.dual_bound.specs.declared.trees.Tree.{Tree}
+use Rattle.cert_check.specs.Nodes.{nodes_in}
+use Rattle.cert_check.specs.Verdicts.{AreSound}
+use Rattle.node_bounding.specs.Causes.{AreCaused}
+use Rattle.node_bounding.specs.Found.{AnswersSole}
+use Rattle.node_bounding.specs.Splits.{IsSplit}
+use Rattle.node_bounding.specs.Trims.{AreSearched}
+use Rattle.node_bounding.specs.Worked.{own_node}
+use Rattle.node_bounding.specs.declared.plans.Plan.{Plan}
+use Rattle.node_bounding.specs.declared.states.Fraction.{Fraction}
+use Rattle.node_bounding.specs.declared.states.State.{State}
+use Rattle.node_bounding.specs.declared.states.State.TheVariants as state
+
+-- a plan is legal, and its cost exact
+pub record IsPlan (t : Tables) (plan : Plan) : Type 0 where
+  pub legal : IsLegal t plan.assignment
+  pub exact : plan.cost ≡ total_cost t plan.assignment
+
+-- the cost of a plan that may not be there
+abbrev pub cost_of : Option Plan → Option ℤ
+cost_of None = None
+cost_of (Some plan) = Some plan.cost
+
+-- a later cost is no more than an earlier one; once there is a plan, there stays one
+abbrev pub IsNoMore : Option ℤ → Option ℤ → Type 0
+IsNoMore None later = ⊤
+IsNoMore (Some cost) later = IsSomeAnd later (λ c. c ≤ℤ cost)
+
+-- the node that a subproblem is in the tree, as it stands
+abbrev pub node_of : State → Node
+node_of (state.Leaf leaf) = own_node leaf
+node_of (state.Waiting f) = node.Open f.prices (cause.Nodes f.mixed)
+node_of (state.Split f) = node.Split f.leg f.fleet f.prices f.mixed
+
+-- a subproblem that may be split, with the rounded worth of its prices
+pub record IsFractional (t : Tables) (keeps : Domains) (f : Fraction) : Type 0 where
+  pub split : IsSplit t keeps f.leg f.fleet f.prices f.mixed
+  pub rounded : IsCeiling (worth_of t keeps f.prices 1) f.prices.scale f.worth
+
+-- the tree of a part of a search, over the pairs that its subproblem keeps, where the plan in the end has this cost;
+-- `above` are the prices of the nearest split
+pub record IsPart (t : Tables) (pivots : ℕ) (final : Option ℤ) (keeps : Domains) (above : Prices) (tree : Tree) : Type 0 where
+  pub of_tables : IsOfTables t tree
+  pub in_order : InWrittenOrder t tree
+  pub shallow : depth_of tree ≤ pairs_kept t keeps
+  pub sound : AreSound t final keeps tree
+  pub soles : All (AnswersSole t final) (nodes_in keeps tree)
+  pub caused : AreCaused t pivots keeps above tree
+
+-- what is known of a subproblem
+abbrev pub IsRight : Tables → ℕ → Option ℤ → Domains → Prices → State → Type 0
+IsRight t pivots final keeps above (state.Leaf leaf) = IsPart t pivots final keeps above leaf × AreSearched t keeps leaf
+IsRight t pivots final keeps above (state.Waiting f) = IsFractional t keeps f
+IsRight t pivots final keeps above (state.Split f) = IsFractional t keeps f

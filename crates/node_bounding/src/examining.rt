@@ -1,0 +1,144 @@
+//! What becomes of a subproblem when it is made: a leaf of the tree, or one that waits to be split.
+ghost use Rattle.std.specs.Prelude.{◌≡◌, ◌≤ℤ◌, ◌<ℤ◌, ℕ, IfOk, IfSome, IsSomeAnd, MatchBool};
+ghost use Rattle.frac_row.specs.Ratio.{IsCeiling};
+ghost use Rattle.fleet_model.specs.Kept.{kept_by};
+ghost use Rattle.fleet_model.specs.Whole.{KeepAllowed};
+ghost use Rattle.dual_bound.specs.Fractions.{IsWhole};
+ghost use Rattle.dual_bound.specs.Prices.{ArePrices};
+ghost use Rattle.dual_bound.specs.Worth.{worth_of};
+ghost use Rattle.node_bounding.specs.Examined.{IsBounded, IsExamined, IsWholeOffered};
+ghost use Rattle.node_bounding.specs.Relaxed.{AreBest, AreGood};
+ghost use Rattle.node_bounding.specs.Runs.{IsSearched};
+ghost use Rattle.node_bounding.specs.Subproblems.{IsPlan, cost_of};
+ghost use Rattle.node_bounding.specs.Wholes.{IsSplitPair};
+
+use crate::made_prices::copied;
+use crate::offers::{offer, offer_sole};
+use crate::plans::Plan;
+use crate::relaxing::{Relaxed, relax};
+use crate::states::{Fraction, State};
+use crate::wholes::{first_partial, flown_parts};
+use dual_bound::worth::worth;
+use dual_bound::{Mixed, Prices, Tree};
+use entries::NoMemory;
+use fleet_model::{Kept, Pair, Tables};
+use frac_row::ceil_div;
+use std::alloc::Global;
+
+/// Examines a subproblem, whose nearest split above has these prices, with at most so many pivots. A plan that is found
+/// at it takes the place of the best one where it is cheaper.
+pub fn examine(
+    alloc: Global,
+    tables: &Tables,
+    pivots: u64,
+    best: &mut Option<Plan>,
+    kept: &Kept,
+    above: &Prices,
+) -> Result<State, NoMemory>
+    requires best { IfSome best.old (IsPlan tables.now) }
+    requires allowed { KeepAllowed tables.now (kept_by kept.now) }
+    requires above { AreGood tables.now above.now }
+    ensures { IfOk result (IsExamined tables.now pivots best.old best.new (kept_by kept.now) above.now) }
+{
+    if let Some(leg) = kept.bare_leg(tables) {
+        return Ok(State::Leaf(Tree::Bare { leg }));
+    }
+    if offer_sole(tables, kept, best) {
+        return Ok(State::Leaf(Tree::Sole));
+    }
+    match relax(alloc, tables, kept, pivots)? {
+        Relaxed::Refuted(prices) => Ok(State::Leaf(Tree::Refuted(prices))),
+        Relaxed::Stopped(why) => Ok(State::Leaf(Tree::Open(copied(alloc, above)?, why))),
+        Relaxed::Bounded { prices, mixed } => Ok(bounded(tables, best, kept, prices, mixed)),
+    }
+}
+
+// What becomes of a subproblem whose best fractional assignment is known.
+fn bounded(
+    tables: &Tables,
+    best: &mut Option<Plan>,
+    kept: &Kept,
+    prices: Prices,
+    mixed: Mixed,
+) -> State
+    requires plan { IfSome best.old (IsPlan tables.now) }
+    requires allowed { KeepAllowed tables.now (kept_by kept.now) }
+    requires searched { IsSearched tables.now (kept_by kept.now) }
+    requires best { AreBest tables.now (kept_by kept.now) prices mixed }
+    ensures { IsBounded tables.now best.old best.new (kept_by kept.now) result }
+{
+    match first_partial(tables, &mixed) {
+        None => {
+            offer_whole(tables, best, kept, &prices, &mixed);
+            State::Leaf(Tree::Priced(prices))
+        }
+        Some(pair) => divided(tables, best, kept, prices, mixed, pair),
+    }
+}
+
+// What becomes of a subproblem whose best fractional assignment flies a pair in part.
+fn divided(
+    tables: &Tables,
+    best: &Option<Plan>,
+    kept: &Kept,
+    prices: Prices,
+    mixed: Mixed,
+    pair: Pair,
+) -> State
+    requires plan { IfSome best.now (IsPlan tables.now) }
+    requires searched { IsSearched tables.now (kept_by kept.now) }
+    requires best { AreBest tables.now (kept_by kept.now) prices mixed }
+    requires pair { IsSplitPair tables.now mixed pair }
+    ensures { IsBounded tables.now best.now best.now (kept_by kept.now) result }
+{
+    let worth = rounded_worth(tables, kept, &prices);
+    if is_reached(&worth, best) {
+        return State::Leaf(Tree::Priced(prices));
+    }
+    State::Waiting(Fraction {
+        leg: pair.leg,
+        fleet: pair.fleet,
+        prices,
+        mixed,
+        worth,
+    })
+}
+
+// Offers the assignment that a whole fractional assignment is.
+//
+// It has an assignment on the stack, and so is kept out of the frames of the search.
+#[inline(never)]
+fn offer_whole(
+    tables: &Tables,
+    best: &mut Option<Plan>,
+    kept: &Kept,
+    prices: &Prices,
+    mixed: &Mixed,
+)
+    requires plan { IfSome best.old (IsPlan tables.now) }
+    requires allowed { KeepAllowed tables.now (kept_by kept.now) }
+    requires best { AreBest tables.now (kept_by kept.now) prices.now mixed.now }
+    requires whole { IsWhole tables.now mixed.now }
+    ensures { IsWholeOffered tables.now (kept_by kept.now) prices.now best.old best.new }
+{
+    let flown = flown_parts(tables, mixed);
+    offer(tables, flown, best);
+}
+
+// The worth of prices, rounded up.
+fn rounded_worth(tables: &Tables, kept: &Kept, prices: &Prices) -> i128
+    requires { ArePrices tables.now prices.now }
+    ensures { IsCeiling (worth_of tables.now (kept_by kept.now) prices.now 1) prices.now.scale result }
+{
+    ceil_div(worth(tables, kept, prices, 1), prices.scale)
+}
+
+/// Whether there is a plan, and a rounded worth reaches its cost.
+pub fn is_reached(worth: &i128, best: &Option<Plan>) -> bool
+    ensures { MatchBool result (IsSomeAnd (cost_of best.now) (λ c. c ≤ℤ worth.now)) (IfSome (cost_of best.now) (λ c. worth.now <ℤ c)) }
+{
+    match best {
+        None => false,
+        Some(plan) => plan.cost <= *worth,
+    }
+}

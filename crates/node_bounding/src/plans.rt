@@ -1,0 +1,8 @@
+use fleet_model::Assignment;
+
+/// A legal assignment, and what it costs, in cost units.
+#[derive(Debug, Drop)]
+pub struct Plan {
+    pub assignment: Assignment,
+    pub cost: i128,
+}

@@ -1,0 +1,26 @@
+//! What becomes of a subproblem.
+use dual_bound::{Mixed, Prices, Tree};
+
+/// A subproblem whose best fractional assignment flies a pair in part, so that it may be split by it.
+#[derive(Debug, Drop)]
+pub struct Fraction {
+    /// The leg of the first such pair.
+    pub leg: u32,
+    /// Its fleet.
+    pub fleet: u32,
+    pub prices: Prices,
+    pub mixed: Mixed,
+    /// The worth of the prices, rounded up, in cost units.
+    pub worth: i128,
+}
+
+/// What became of a subproblem.
+#[derive(Debug, Drop)]
+pub enum State {
+    /// Its tree stands.
+    Leaf(Tree),
+    /// It waits to be split.
+    Waiting(Fraction),
+    /// It was split, and its parts stand in the list.
+    Split(Fraction),
+}

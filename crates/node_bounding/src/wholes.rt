@@ -1,0 +1,71 @@
+//! Fractional assignments: the first pair that is flown in part, and where there is none the assignment that is flown.
+ghost use Rattle.std.specs.Prelude.{◌≡◌, ◌<◌, MatchBool, MatchOption};
+ghost use Rattle.fleet_model.specs.Schedule.{IsPair, fleets_in, leg_on, legs_in};
+ghost use Rattle.dual_bound.specs.Fractions.{AreParts, IsWhole, IsWholeLeg, IsWholePair};
+ghost use Rattle.node_bounding.specs.Wholes.{FliesPart, FliesParts, HasFleets, IsFirstPartialOn, IsPartial, IsSplitPair};
+
+use dual_bound::Mixed;
+use fleet_model::{Assignment, Pair, Tables};
+
+/// The first pair, by leg and then by fleet, that is flown in part. Takes no memory.
+pub(crate) fn first_partial(tables: &Tables, mixed: &Mixed) -> Option<Pair>
+    requires { AreParts tables.now mixed.now }
+    ensures { MatchOption result (IsWhole tables.now mixed.now) (IsSplitPair tables.now mixed.now) }
+{
+    for leg in 0..tables.leg_count() {
+        if let Some(fleet) = first_partial_on(tables, mixed, leg) {
+            return Some(Pair { leg, fleet });
+        }
+    }
+    None
+}
+
+// The first pair of a leg that is flown in part.
+fn first_partial_on(tables: &Tables, mixed: &Mixed, leg: u32) -> Option<u32>
+    requires parts { AreParts tables.now mixed.now }
+    requires leg { leg < legs_in tables.now }
+    ensures { MatchOption result (IsWholeLeg tables.now mixed.now leg) (IsFirstPartialOn tables.now mixed.now leg) }
+{
+    for fleet in 0..tables.fleet_count() {
+        if is_partial(tables, mixed, Pair { leg, fleet }) {
+            return Some(fleet);
+        }
+    }
+    None
+}
+
+// Whether a pair is flown in part.
+fn is_partial(tables: &Tables, mixed: &Mixed, pair: Pair) -> bool
+    requires parts { AreParts tables.now mixed.now }
+    requires pair { IsPair tables.now pair }
+    ensures { MatchBool result (IsPartial mixed.now pair.leg pair.fleet) (IsWholePair mixed.now pair.leg pair.fleet) }
+{
+    let weight = mixed.weight(pair);
+    0 < weight && weight < mixed.scale
+}
+
+/// The assignment that flies each leg by the first fleet that flies a part of it. Takes no memory.
+pub(crate) fn flown_parts(tables: &Tables, mixed: &Mixed) -> Assignment
+    requires { HasFleets tables.now mixed.now }
+    ensures { FliesParts tables.now mixed.now result }
+{
+    let mut plan = Assignment::empty();
+    for leg in 0..tables.leg_count() {
+        plan.push(flown_part(tables, mixed, leg));
+    }
+    plan
+}
+
+// The first fleet that flies a part of a leg.
+fn flown_part(tables: &Tables, mixed: &Mixed, leg: u32) -> u32
+    requires some { HasFleets tables.now mixed.now }
+    requires leg { leg < legs_in tables.now }
+    ensures { FliesPart tables.now mixed.now leg result }
+{
+    for fleet in 0..tables.fleet_count() {
+        if mixed.weight(Pair { leg, fleet }) != 0 {
+            return fleet;
+        }
+    }
+    unreachable!()
+}
