@@ -1,3 +1,2 @@
 pub mod StepPrices
 pub mod EachTested
-pub mod SignEnds

@@ -2,6 +2,7 @@
 ghost use Rattle.std.specs.Prelude.{◌<◌, MatchBool, ⊤};
 ghost use Rattle.dual_bound.specs.OfTables.{ArePricesOf, IsCauseOf, IsMixedOf, IsOfTables, IsStepOf, IsWeightOf};
 
+use crate::assertions::assert_same;
 use cert_check::{Checked, check};
 use dual_bound::{Cause, Mixed, PriceStep, Prices, Tree, Weight};
 use entries::{Entries, NoMemory};
@@ -14,7 +15,7 @@ use worked_tables::schedules::{Files, OVERLAPPING_TRIPS, ROUND_TRIP, read};
 
 /// What the checker says of a tree over the tables of five files, with a plan or without one; nothing where the plan
 /// is not legal or the tree is not of the tables.
-fn checked(
+pub fn checked(
     alloc: Global,
     files: &Files,
     plan: Option<&[u32]>,
@@ -187,14 +188,16 @@ fn mixed(alloc: Global, scale: i128, legs: u32, weights: [i128; 2]) -> Result<Mi
 #[test]
 fn a_plan_at_the_bound_of_its_prices(rt: HostRuntime) -> Result<(), Fail> {
     let tree = Tree::Priced(prices(rt.alloc(), &[], &[at(1, 0, 20)])?);
-    assert_eq!(rt;
+    assert_same(
+        &rt,
         checked(rt.alloc(), &ROUND_TRIP, Some(FIRST_FLEET), &tree)?,
-        Some(Checked::Holds { bound: Some(200) })
+        Some(Checked::Holds { bound: Some(200) }),
     );
     let rising = Tree::Priced(prices(rt.alloc(), &[], &[at(1, 0, 20), at(1, 720, 21)])?);
-    assert_eq!(rt;
+    assert_same(
+        &rt,
         checked(rt.alloc(), &ROUND_TRIP, Some(FIRST_FLEET), &rising)?,
-        Some(Checked::Broken { node: 1, rule: 3 })
+        Some(Checked::Broken { node: 1, rule: 3 }),
     );
     Ok(())
 }
@@ -203,13 +206,15 @@ fn a_plan_at_the_bound_of_its_prices(rt: HostRuntime) -> Result<(), Fail> {
 fn a_schedule_without_aircraft_is_refuted(rt: HostRuntime) -> Result<(), Fail> {
     let steps = [at(0, 0, 1), at(0, 481, 0), at(1, 0, 1), at(1, 481, 0)];
     let tree = Tree::Refuted(prices(rt.alloc(), &[1, 1], &steps)?);
-    assert_eq!(rt;
+    assert_same(
+        &rt,
         checked(rt.alloc(), &NO_AIRCRAFT, None, &tree)?,
-        Some(Checked::Holds { bound: None })
+        Some(Checked::Holds { bound: None }),
     );
-    assert_eq!(rt;
+    assert_same(
+        &rt,
         checked(rt.alloc(), &ROUND_TRIP, None, &tree)?,
-        Some(Checked::Broken { node: 1, rule: 6 })
+        Some(Checked::Broken { node: 1, rule: 6 }),
     );
     Ok(())
 }
@@ -218,9 +223,10 @@ fn a_schedule_without_aircraft_is_refuted(rt: HostRuntime) -> Result<(), Fail> {
 fn halves_that_stay_open(rt: HostRuntime) -> Result<(), Fail> {
     let halves = mixed(rt.alloc(), 2, 6, [1, 1])?;
     let tree = Tree::Open(Prices::zero(rt.alloc()), Cause::Nodes(halves));
-    assert_eq!(rt;
+    assert_same(
+        &rt,
         checked(rt.alloc(), &TWO_FLEETS, None, &tree)?,
-        Some(Checked::Holds { bound: Some(60) })
+        Some(Checked::Holds { bound: Some(60) }),
     );
     Ok(())
 }
@@ -237,9 +243,10 @@ fn prices_that_are_not_proper(rt: HostRuntime) -> Result<(), Fail> {
     ];
     for (rents, steps, rule) in cases {
         let tree = Tree::Open(prices(rt.alloc(), rents, steps)?, Cause::Pivots { made: 0 });
-        assert_eq!(rt;
+        assert_same(
+            &rt,
             checked(rt.alloc(), &ROUND_TRIP, None, &tree)?,
-            Some(Checked::Broken { node: 1, rule })
+            Some(Checked::Broken { node: 1, rule }),
         );
     }
     Ok(())
@@ -261,12 +268,13 @@ fn leaves_that_are_not_what_they_say(rt: HostRuntime) -> Result<(), Fail> {
         (Tree::Open(zero(), Cause::Nodes(whole)), 10),
     ];
     for (tree, rule) in &cases {
-        assert_eq!(rt;
+        assert_same(
+            &rt,
             checked(rt.alloc(), &ROUND_TRIP, None, tree)?,
             Some(Checked::Broken {
                 node: 1,
-                rule: *rule
-            })
+                rule: *rule,
+            }),
         );
     }
     Ok(())
@@ -280,15 +288,17 @@ fn a_pair_set_aside(rt: HostRuntime) -> Result<(), Fail> {
     };
     let refuted = Tree::Refuted(prices(rt.alloc(), &[], &[at(1, 0, 1)])?);
     let holds = trim(rt.alloc(), refuted, Tree::Sole)?;
-    assert_eq!(rt;
+    assert_same(
+        &rt,
         checked(rt.alloc(), &one_way, None, &holds)?,
-        Some(Checked::Holds { bound: Some(200) })
+        Some(Checked::Holds { bound: Some(200) }),
     );
     let open = Tree::Open(Prices::zero(rt.alloc()), Cause::Pivots { made: 0 });
     let without_reason = trim(rt.alloc(), open, Tree::Bare { leg: 0 })?;
-    assert_eq!(rt;
+    assert_same(
+        &rt,
         checked(rt.alloc(), &one_way, None, &without_reason)?,
-        Some(Checked::Broken { node: 3, rule: 5 })
+        Some(Checked::Broken { node: 3, rule: 5 }),
     );
     Ok(())
 }
@@ -307,9 +317,10 @@ fn trim(alloc: Global, yes: Tree, no: Tree) -> Result<Tree, NoMemory> {
 fn a_split_of_halves(rt: HostRuntime) -> Result<(), Fail> {
     let open = Tree::Open(Prices::zero(rt.alloc()), Cause::Pivots { made: 0 });
     let tree = split(rt.alloc(), open, Cause::Pivots { made: 7 })?;
-    assert_eq!(rt;
+    assert_same(
+        &rt,
         checked(rt.alloc(), &TWO_FLEETS, None, &tree)?,
-        Some(Checked::Holds { bound: Some(60) })
+        Some(Checked::Holds { bound: Some(60) }),
     );
     Ok(())
 }
@@ -318,9 +329,10 @@ fn a_split_of_halves(rt: HostRuntime) -> Result<(), Fail> {
 fn the_first_child_is_judged_first(rt: HostRuntime) -> Result<(), Fail> {
     let halves = mixed(rt.alloc(), 2, 6, [1, 1])?;
     let tree = split(rt.alloc(), Tree::Sole, Cause::Nodes(halves))?;
-    assert_eq!(rt;
+    assert_same(
+        &rt,
         checked(rt.alloc(), &TWO_FLEETS, None, &tree)?,
-        Some(Checked::Broken { node: 2, rule: 5 })
+        Some(Checked::Broken { node: 2, rule: 5 }),
     );
     Ok(())
 }
@@ -330,9 +342,10 @@ fn halves_of_a_pair_that_is_not_kept(rt: HostRuntime) -> Result<(), Fail> {
     let open = Tree::Open(Prices::zero(rt.alloc()), Cause::Pivots { made: 0 });
     let halves = mixed(rt.alloc(), 2, 6, [1, 1])?;
     let tree = split(rt.alloc(), open, Cause::Nodes(halves))?;
-    assert_eq!(rt;
+    assert_same(
+        &rt,
         checked(rt.alloc(), &TWO_FLEETS, None, &tree)?,
-        Some(Checked::Broken { node: 3, rule: 9 })
+        Some(Checked::Broken { node: 3, rule: 9 }),
     );
     Ok(())
 }

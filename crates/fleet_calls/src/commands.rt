@@ -1,22 +1,19 @@
 //! What words ask for, and that words past a limit ask for nothing. Further words that ask for nothing stand with the
 //! runs of the program.
-use command_words::{Command, Dates, RotationLimits, SearchLimits, SolveOptions, command_of};
+use command_words::{Command, RotationLimits, SearchLimits, SolveOptions, command_of};
 use fleet_model::Settings;
-use jiff::civil::Date;
 use std::alloc::Global;
+use std::process::Abort;
 use std::test::Fail;
 
 /// A line of words that single spaces part, the folder, and the day start.
 type DayLine = (&'static str, &'static str, u16);
 
 /// The same with the longest wait of a through pair, the most days between maintenance, and the most prefixes visited.
-type RotationLine = (&'static str, &'static str, u16, u16, u32, u32);
+pub type RotationLine = (&'static str, &'static str, u16, u16, u32, u32);
 
 /// A line that solves with the most splits and pivots, and whether the summary is JSON.
 type SolveLine = (RotationLine, u64, u64, bool);
-
-/// A line that prints tails with the year, month and day of the first date, and the number of dates.
-type TailsLine = (RotationLine, i16, i8, i8, u32);
 
 const JUDGE: &[DayLine] = &[
     ("fleetplan judge d", "d", 180),
@@ -177,121 +174,6 @@ const SOLVE: &[SolveLine] = &[
     ),
 ];
 
-const TAILS: &[TailsLine] = &[
-    (
-        ("fleetplan tails d 2025-02-28 2", "d", 180, 60, 3, 200_000),
-        2025,
-        2,
-        28,
-        2,
-    ),
-    (
-        ("fleetplan tails d 2024-02-29 1", "d", 180, 60, 3, 200_000),
-        2024,
-        2,
-        29,
-        1,
-    ),
-    (
-        ("fleetplan tails d 2000-02-29 366", "d", 180, 60, 3, 200_000),
-        2000,
-        2,
-        29,
-        366,
-    ),
-    (
-        ("fleetplan tails d 0001-01-01 366", "d", 180, 60, 3, 200_000),
-        1,
-        1,
-        1,
-        366,
-    ),
-    (
-        ("fleetplan tails d 9999-12-31 1", "d", 180, 60, 3, 200_000),
-        9999,
-        12,
-        31,
-        1,
-    ),
-    (
-        ("fleetplan tails d 9998-12-31 366", "d", 180, 60, 3, 200_000),
-        9998,
-        12,
-        31,
-        366,
-    ),
-    (
-        (
-            "fleetplan tails d 2025-02-28 00000000000000000366",
-            "d",
-            180,
-            60,
-            3,
-            200_000,
-        ),
-        2025,
-        2,
-        28,
-        366,
-    ),
-    (
-        (
-            "fleetplan tails d 2025-02-28 2 --days 30 --visits 0",
-            "d",
-            180,
-            60,
-            30,
-            0,
-        ),
-        2025,
-        2,
-        28,
-        2,
-    ),
-    (
-        (
-            "fleetplan tails --through-max 1439 --day-start=00:00 d 2025-02-28 2",
-            "d",
-            0,
-            1439,
-            3,
-            200_000,
-        ),
-        2025,
-        2,
-        28,
-        2,
-    ),
-    (
-        (
-            "fleetplan tails d --visits 1000000 2025-02-28 --days 1 2",
-            "d",
-            180,
-            60,
-            1,
-            1_000_000,
-        ),
-        2025,
-        2,
-        28,
-        2,
-    ),
-    (
-        (
-            "fleetplan tails -- -d 2025-02-28 2",
-            "-d",
-            180,
-            60,
-            3,
-            200_000,
-        ),
-        2025,
-        2,
-        28,
-        2,
-    ),
-];
-
 const NOTHING: &[&str] = &[
     "fleetplan solve d --through-max 1440",
     "fleetplan solve d --through-max 60 --through-max 60",
@@ -346,33 +228,34 @@ fn words_of(alloc: Global, line: &str) -> Result<Vec<String>, Fail> {
     Ok(words)
 }
 
-fn settings(day_start: u16, through_max: u16) -> Settings {
+/// Asserts what the words of a line ask for.
+pub fn assert_asks<R: Abort + Alloc<A = Global>>(
+    rt: &R,
+    line: &str,
+    wanted: &Option<Command<'_>>,
+) -> Result<(), Fail> {
+    let words = words_of(rt.alloc(), line)?;
+    match command_of(rt.alloc(), words.as_slice()) {
+        Ok(command) => {
+            assert!(rt; command == *wanted, "{line}: {command:?}");
+            Ok(())
+        }
+        Err(error) => Err(Fail::from(error)),
+    }
+}
+
+pub fn settings(day_start: u16, through_max: u16) -> Settings {
     Settings {
         day_start,
         through_max,
     }
 }
 
-fn dates(year: i16, month: i8, day: i8, count: u32) -> Option<Dates> {
-    match Date::new(year, month, day) {
-        Ok(first) => Some(Dates { first, count }),
-        Err(_) => None,
-    }
-}
-
 #[test]
 fn lines_that_judge(rt: HostRuntime) -> Result<(), Fail> {
     for (line, dir, day_start) in JUDGE {
-        let words = words_of(rt.alloc(), line)?;
-        let command = match command_of(rt.alloc(), words.as_slice()) {
-            Ok(command) => command,
-            Err(error) => return Err(Fail::from(error)),
-        };
-        let wanted = Command::Judge {
-            dir,
-            settings: settings(*day_start, 60),
-        };
-        assert_eq!(rt; command, Some(wanted), "{line}");
+        let settings = settings(*day_start, 60);
+        assert_asks(&rt, line, &Some(Command::Judge { dir, settings }))?;
     }
     Ok(())
 }
@@ -380,16 +263,8 @@ fn lines_that_judge(rt: HostRuntime) -> Result<(), Fail> {
 #[test]
 fn lines_that_check(rt: HostRuntime) -> Result<(), Fail> {
     for (line, dir, day_start) in CHECK {
-        let words = words_of(rt.alloc(), line)?;
-        let command = match command_of(rt.alloc(), words.as_slice()) {
-            Ok(command) => command,
-            Err(error) => return Err(Fail::from(error)),
-        };
-        let wanted = Command::Check {
-            dir,
-            settings: settings(*day_start, 60),
-        };
-        assert_eq!(rt; command, Some(wanted), "{line}");
+        let settings = settings(*day_start, 60);
+        assert_asks(&rt, line, &Some(Command::Check { dir, settings }))?;
     }
     Ok(())
 }
@@ -397,11 +272,6 @@ fn lines_that_check(rt: HostRuntime) -> Result<(), Fail> {
 #[test]
 fn lines_that_solve(rt: HostRuntime) -> Result<(), Fail> {
     for ((line, dir, day_start, through_max, days, visits), nodes, pivots, json) in SOLVE {
-        let words = words_of(rt.alloc(), line)?;
-        let command = match command_of(rt.alloc(), words.as_slice()) {
-            Ok(command) => command,
-            Err(error) => return Err(Fail::from(error)),
-        };
         let wanted = Command::Solve {
             dir,
             settings: settings(*day_start, *through_max),
@@ -417,34 +287,7 @@ fn lines_that_solve(rt: HostRuntime) -> Result<(), Fail> {
                 json: *json,
             },
         };
-        assert_eq!(rt; command, Some(wanted), "{line}");
-    }
-    Ok(())
-}
-
-#[test]
-fn lines_that_print_tails(rt: HostRuntime) -> Result<(), Fail> {
-    for ((line, dir, day_start, through_max, days, visits), year, month, day, count) in TAILS {
-        let words = words_of(rt.alloc(), line)?;
-        let command = match command_of(rt.alloc(), words.as_slice()) {
-            Ok(command) => command,
-            Err(error) => return Err(Fail::from(error)),
-        };
-        let rotations = RotationLimits {
-            days: *days,
-            visits: *visits,
-        };
-        let settings = settings(*day_start, *through_max);
-        let wanted = match dates(*year, *month, *day, *count) {
-            Some(dates) => Some(Command::Tails {
-                dir,
-                settings,
-                rotations,
-                dates,
-            }),
-            None => None,
-        };
-        assert_eq!(rt; command, wanted, "{line}");
+        assert_asks(&rt, line, &Some(wanted))?;
     }
     Ok(())
 }
@@ -452,12 +295,7 @@ fn lines_that_print_tails(rt: HostRuntime) -> Result<(), Fail> {
 #[test]
 fn lines_that_ask_for_nothing(rt: HostRuntime) -> Result<(), Fail> {
     for line in NOTHING {
-        let words = words_of(rt.alloc(), line)?;
-        let command = match command_of(rt.alloc(), words.as_slice()) {
-            Ok(command) => command,
-            Err(error) => return Err(Fail::from(error)),
-        };
-        assert_eq!(rt; command, None, "{line}");
+        assert_asks(&rt, line, &None)?;
     }
     Ok(())
 }

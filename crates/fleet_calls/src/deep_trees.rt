@@ -1,10 +1,15 @@
 //! Deep trees: texts that are read, written again and checked.
+ghost use Rattle.std.specs.Prelude.{IfOk};
+ghost use Rattle.dual_bound.specs.OfTables.{IsOfTables};
+
+use crate::assertions::assert_same;
 use crate::checking::checked_with;
-use bound_cert::{read_proof, write_proof};
+use bound_cert::{Proof, read_proof, write_proof};
 use cert_check::{Checked, check};
 use fleet_model::{LoadError, Tables};
 use sched_read::load;
 use std::alloc::{AllocError, Global};
+use std::process::Abort;
 use std::test::Fail;
 use worked_tables::schedules::{ROUND_TRIP, read, starting};
 
@@ -24,24 +29,58 @@ fn trips(alloc: Global) -> Result<Tables, LoadError> {
     )
 }
 
+/// A number in digits.
+fn digits(alloc: Global, number: u32) -> Result<String, AllocError> {
+    format!(in alloc; "{number}")
+}
+
+/// Puts a line together from its parts.
+fn push_line(text: &mut Vec<u8>, parts: &[&[u8]]) -> Result<(), AllocError> {
+    for part in parts {
+        text.extend_from_slice(*part)?;
+    }
+    text.push(b'\n')?;
+    Ok(())
+}
+
 fn legs(alloc: Global) -> Result<Vec<u8>, AllocError> {
     let mut text = b"flight,from,dep,to,arr\n".to_vec(alloc)?;
     for trip in 0..TRIPS {
-        let lines = format!(in alloc;
-            "A{trip},AAA,08:00,BBB,09:00\nB{trip},BBB,10:00,AAA,11:00\n"
-        )?;
-        text.extend_from_slice(lines.as_bytes())?;
+        let trip = digits(alloc, trip)?;
+        push_line(&mut text, &[b"A", trip.as_bytes(), b",AAA,08:00,BBB,09:00"])?;
+        push_line(&mut text, &[b"B", trip.as_bytes(), b",BBB,10:00,AAA,11:00"])?;
     }
     Ok(text)
+}
+
+/// Each way of a trip with each fleet.
+const PAIRS: &[(&[u8], &[u8])] = &[
+    (b"A", b",F1,1"),
+    (b"A", b",F2,1"),
+    (b"A", b",F3,1"),
+    (b"B", b",F1,1"),
+    (b"B", b",F2,1"),
+    (b"B", b",F3,1"),
+];
+
+/// Puts a line for each pair of a trip together: the words that it begins with, the flight, and the rest.
+fn push_pairs(
+    text: &mut Vec<u8>,
+    first: &[u8],
+    trip: &[u8],
+    pairs: &[(&[u8], &[u8])],
+) -> Result<(), AllocError> {
+    for (way, rest) in pairs {
+        push_line(text, &[first, *way, trip, *rest])?;
+    }
+    Ok(())
 }
 
 fn costs(alloc: Global) -> Result<Vec<u8>, AllocError> {
     let mut text = b"flight,fleet,cost\n".to_vec(alloc)?;
     for trip in 0..TRIPS {
-        let there = format!(in alloc; "A{trip},F1,1\nA{trip},F2,1\nA{trip},F3,1\n")?;
-        let back = format!(in alloc; "B{trip},F1,1\nB{trip},F2,1\nB{trip},F3,1\n")?;
-        text.extend_from_slice(there.as_bytes())?;
-        text.extend_from_slice(back.as_bytes())?;
+        let trip = digits(alloc, trip)?;
+        push_pairs(&mut text, b"", trip.as_bytes(), PAIRS)?;
     }
     Ok(text)
 }
@@ -50,47 +89,58 @@ fn costs(alloc: Global) -> Result<Vec<u8>, AllocError> {
 fn trips_proof(alloc: Global) -> Result<Vec<u8>, AllocError> {
     let mut text = b"fleet proof 1\nplan yes\n".to_vec(alloc)?;
     for trip in 0..TRIPS {
-        push_trims(alloc, &mut text, trip)?;
+        let trip = digits(alloc, trip)?;
+        push_pairs(&mut text, b"trim ", trip.as_bytes(), SET_ASIDE)?;
     }
     text.extend_from_slice(b"sole\nend\n")?;
     Ok(text)
 }
 
-/// The pairs of a trip that are set aside, each with the minute behind the departure.
-const SET_ASIDE: [(&str, u16, &str); 4] = [
-    ("A", 481, "F2"),
-    ("A", 481, "F3"),
-    ("B", 601, "F2"),
-    ("B", 601, "F3"),
+/// The pairs of a trip that are set aside, each with its reason: the fleet has no aircraft, and until the flight departs
+/// one is worth 1 anywhere.
+const SET_ASIDE: &[(&[u8], &[u8])] = &[
+    (
+        b"A",
+        b" F2\nrefuted\nscale 1\nrent F2 1\nat F2 AAA 0 1\nat F2 AAA 481 0\nat F2 BBB 0 1\nat F2 BBB 481 0",
+    ),
+    (
+        b"A",
+        b" F3\nrefuted\nscale 1\nrent F3 1\nat F3 AAA 0 1\nat F3 AAA 481 0\nat F3 BBB 0 1\nat F3 BBB 481 0",
+    ),
+    (
+        b"B",
+        b" F2\nrefuted\nscale 1\nrent F2 1\nat F2 AAA 0 1\nat F2 AAA 601 0\nat F2 BBB 0 1\nat F2 BBB 601 0",
+    ),
+    (
+        b"B",
+        b" F3\nrefuted\nscale 1\nrent F3 1\nat F3 AAA 0 1\nat F3 AAA 601 0\nat F3 BBB 0 1\nat F3 BBB 601 0",
+    ),
 ];
 
-/// The trims of these pairs of a trip. The fleet has no aircraft; until the flight departs, one is worth 1 anywhere.
-fn push_trims(alloc: Global, text: &mut Vec<u8>, trip: u32) -> Result<(), AllocError> {
-    for (flight, behind, fleet) in SET_ASIDE {
-        let trim = format!(in alloc;
-            "trim {flight}{trip} {fleet}\nrefuted\nscale 1\nrent {fleet} 1\n"
-        )?;
-        let prices = format!(in alloc;
-            "at {fleet} AAA 0 1\nat {fleet} AAA {behind} 0\nat {fleet} BBB 0 1\nat {fleet} BBB {behind} 0\n"
-        )?;
-        text.extend_from_slice(trim.as_bytes())?;
-        text.extend_from_slice(prices.as_bytes())?;
-    }
-    Ok(())
+/// What a text reads as, which is written as the same text.
+fn read_again<R: Abort + Alloc<A = Global>>(
+    rt: &R,
+    tables: &Tables,
+    text: &[u8],
+) -> Result<Proof, Fail>
+    ensures { IfOk result (λ proof. IsOfTables tables.now proof.tree) }
+{
+    let proof = read_proof(rt.alloc(), tables, text)?;
+    let again = write_proof(rt.alloc(), tables, proof.planned, &proof.tree)?;
+    assert!(rt; again.as_slice() == text);
+    Ok(proof)
 }
 
 #[test]
 fn a_tree_of_two_thousand_levels_that_holds(rt: HostRuntime) -> Result<(), Fail> {
-    let alloc = rt.alloc();
-    let tables = trips(alloc)?;
-    let text = trips_proof(alloc)?;
-    let proof = read_proof(alloc, &tables, text.as_slice())?;
-    let again = write_proof(alloc, &tables, proof.planned, &proof.tree)?;
-    assert!(rt; again.as_slice() == text.as_slice());
-    let first_fleet = vec![in alloc; 0; 1_000]?;
-    assert_eq!(rt;
+    let tables = trips(rt.alloc())?;
+    let text = trips_proof(rt.alloc())?;
+    let proof = read_again(&rt, &tables, text.as_slice())?;
+    let first_fleet = vec![in rt.alloc(); 0; 1_000]?;
+    assert_same(
+        &rt,
         checked_with(&tables, first_fleet.as_slice(), &proof.tree),
-        Some(Checked::Holds { bound: Some(1_000) })
+        Some(Checked::Holds { bound: Some(1_000) }),
     );
     Ok(())
 }
@@ -108,27 +158,21 @@ fn nested_trims(alloc: Global, levels: u32) -> Result<Vec<u8>, AllocError> {
     Ok(text)
 }
 
-/// The levels of a tree, and whether it is checked. Checking takes about 480 bytes of the stack for each level, so the
-/// usual 8 MiB don't suffice for the deepest.
-const NESTED: [(u32, bool); 2] = [(2_000, true), (20_000, false)];
+/// The levels of trees, the last of which is as deep as one may be that is read.
+const NESTED: [u32; 2] = [2_000, 20_000];
 
 // The first leaf breaks a rule, since the second leg keeps both fleets there. The walk comes to it down all levels.
 #[test]
 fn trees_that_break_at_their_deepest_leaf(rt: HostRuntime) -> Result<(), Fail> {
-    let alloc = rt.alloc();
-    let tables = read(alloc, &ROUND_TRIP)?;
-    for (levels, is_checked) in NESTED {
-        let text = nested_trims(alloc, levels)?;
-        let proof = read_proof(alloc, &tables, text.as_slice())?;
-        let again = write_proof(alloc, &tables, proof.planned, &proof.tree)?;
-        assert!(rt; again.as_slice() == text.as_slice());
-        if is_checked {
-            let broken = Checked::Broken {
-                node: u64::from(levels) + 1,
-                rule: 5,
-            };
-            assert_eq!(rt; check(&tables, None, &proof.tree), broken);
-        }
+    let tables = read(rt.alloc(), &ROUND_TRIP)?;
+    for levels in NESTED {
+        let text = nested_trims(rt.alloc(), levels)?;
+        let proof = read_again(&rt, &tables, text.as_slice())?;
+        let broken = Checked::Broken {
+            node: u64::from(levels) + 1,
+            rule: 5,
+        };
+        assert_same(&rt, check(&tables, None, &proof.tree), broken);
     }
     Ok(())
 }

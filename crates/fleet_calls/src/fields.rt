@@ -1,4 +1,5 @@
 //! Fields and records of a file of tables.
+use crate::assertions::{assert_same, assert_same_at};
 use csv_fields::{
     FieldFault, clock_time, fleet_name, flight_name, records, station_code, whole, yes_no,
 };
@@ -42,7 +43,7 @@ fn codes_and_names(rt: HostRuntime) {
             kind(flight_name(bytes)),
             kind(fleet_name(bytes)),
         );
-        assert_eq!(rt; kinds, (*code, *name, *name), "{field}");
+        assert_same_at(&rt, field, kinds, (*code, *name, *name));
     }
 }
 
@@ -64,7 +65,7 @@ const NUMBERS: &[(&str, i128)] = &[
 fn numbers(rt: HostRuntime) {
     for (field, number) in NUMBERS {
         let read = whole(field.as_bytes(), *number, *number);
-        assert_eq!(rt; read, Ok(*number), "{field}");
+        assert_same_at(&rt, field, read, Ok(*number));
     }
 }
 
@@ -90,7 +91,7 @@ const NO_NUMBERS: &[(&str, u8)] = &[
 fn no_numbers(rt: HostRuntime) {
     for (field, kind) in NO_NUMBERS {
         let read = whole(field.as_bytes(), -10, 600);
-        assert_eq!(rt; read, Err(FieldFault { kind: *kind }), "{field}");
+        assert_same_at(&rt, field, read, Err(FieldFault { kind: *kind }));
     }
 }
 
@@ -114,7 +115,7 @@ const TIMES: &[(&str, Option<u16>)] = &[
 fn times(rt: HostRuntime) {
     for (field, minute) in TIMES {
         let wanted = minute.ok_or(FieldFault { kind: 5 });
-        assert_eq!(rt; clock_time(field.as_bytes()), wanted, "{field}");
+        assert_same_at(&rt, field, clock_time(field.as_bytes()), wanted);
     }
 }
 
@@ -133,7 +134,7 @@ const FLAGS: &[(&str, Option<bool>)] = &[
 fn flags(rt: HostRuntime) {
     for (field, flag) in FLAGS {
         let wanted = flag.ok_or(FieldFault { kind: 6 });
-        assert_eq!(rt; yes_no(field.as_bytes()), wanted, "{field}");
+        assert_same_at(&rt, field, yes_no(field.as_bytes()), wanted);
     }
 }
 
@@ -152,7 +153,7 @@ fn faults_say_what_is_wrong(rt: HostRuntime) -> Result<(), Fail> {
     for (kind, reason) in REASONS {
         let fault = FieldFault { kind: *kind };
         let said = fault.to_string(rt.alloc())?;
-        assert_eq!(rt; said.as_str(), *reason);
+        assert_same(&rt, said.as_str(), *reason);
     }
     Ok(())
 }
@@ -188,7 +189,7 @@ fn shown(alloc: Global, bytes: &[u8]) -> Result<Vec<u8>, NoMemory> {
 fn records_of_a_file(rt: HostRuntime) -> Result<(), Fail> {
     for (bytes, wanted) in RECORDS {
         let text = shown(rt.alloc(), bytes)?;
-        assert_eq!(rt; text.as_slice(), *wanted);
+        assert_same(&rt, text.as_slice(), *wanted);
     }
     Ok(())
 }

@@ -1,6 +1,7 @@
 //! Whole numbers over a positive one.
 ghost use Rattle.std.specs.Prelude.{◌≡◌, IfOk};
 
+use crate::assertions::assert_same;
 use entries::Entries;
 use frac_row::{CombineError, FracRow, ceil_div, combine, compare_ratio, gcd, is_row, reduce};
 use std::alloc::Global;
@@ -10,19 +11,20 @@ use std::test::Fail;
 #[test]
 fn divisors_and_ceilings(rt: HostRuntime) {
     let divisors = (gcd(12, -18), gcd(0, 0));
-    assert_eq!(rt; divisors, (6, 0));
+    assert_same(&rt, divisors, (6, 0));
     let ceilings = (ceil_div(-13, 2), ceil_div(13, 2));
-    assert_eq!(rt; ceilings, (-6, 7));
+    assert_same(&rt, ceilings, (-6, 7));
 }
 
 #[test]
 fn fractions_in_their_order(rt: HostRuntime) {
-    assert_eq!(rt; compare_ratio(1, 3, 2, 5), Ordering::Less);
-    assert_eq!(rt;
+    assert_same(&rt, compare_ratio(1, 3, 2, 5), Ordering::Less);
+    assert_same(
+        &rt,
         compare_ratio(i128::MAX, 2, i128::MAX, 3),
-        Ordering::Greater
+        Ordering::Greater,
     );
-    assert_eq!(rt; compare_ratio(-2, 4, -1, 2), Ordering::Equal);
+    assert_same(&rt, compare_ratio(-2, 4, -1, 2), Ordering::Equal);
 }
 
 fn row(alloc: Global, numbers: &[i128], den: i128) -> Result<FracRow, Fail>
@@ -39,8 +41,8 @@ fn a_row_in_lowest_terms(rt: HostRuntime) -> Result<(), Fail> {
     let mut halves = row(rt.alloc(), &[6, -4, 0], 2)?;
     assert!(rt; is_row(&halves));
     reduce(&mut halves);
-    assert_eq!(rt; halves.numbers.as_slice(), [3, -2, 0].as_slice());
-    assert_eq!(rt; halves.den, 1);
+    assert_same(&rt, halves.numbers.as_slice(), [3, -2, 0].as_slice());
+    assert_same(&rt, halves.den, 1);
     Ok(())
 }
 
@@ -50,8 +52,8 @@ fn a_combined_row(rt: HostRuntime) -> Result<(), Fail> {
     let other = row(rt.alloc(), &[5, 1, 2], 1)?;
     assert!(rt; is_row(&pivot_row) && is_row(&other));
     let combined = combine(rt.alloc(), &other, &pivot_row, 0)?;
-    assert_eq!(rt; combined.numbers.as_slice(), [0, -27, 1].as_slice());
-    assert_eq!(rt; combined.den, 3);
+    assert_same(&rt, combined.numbers.as_slice(), [0, -27, 1].as_slice());
+    assert_same(&rt, combined.den, 3);
     Ok(())
 }
 
@@ -67,6 +69,6 @@ fn numbers_that_are_outgrown(rt: HostRuntime) -> Result<(), Fail> {
         left: 5,
         right: large,
     };
-    assert_eq!(rt; refused, Some(grew));
+    assert_same(&rt, refused, Some(grew));
     Ok(())
 }

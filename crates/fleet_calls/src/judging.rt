@@ -1,4 +1,5 @@
 //! Assignments, judged, with the aircraft that they need and use.
+use crate::assertions::assert_same;
 use fleet_model::{LoadError, Tables};
 use plan_judge::{Verdict, judge, need, used};
 use std::alloc::Global;
@@ -27,9 +28,10 @@ fn legal_assignments_have_their_cost(rt: HostRuntime) -> Result<(), Fail> {
         (THROUGH_THE_HUB, &[0, 0, 0, 0], 40),
     ];
     for (files, fleets, cost) in cases {
-        assert_eq!(rt;
+        assert_same(
+            &rt,
             judged(rt.alloc(), &files, fleets)?,
-            Some(Verdict::Legal { cost })
+            Some(Verdict::Legal { cost }),
         );
     }
     Ok(())
@@ -68,7 +70,7 @@ fn refused_assignments_have_their_first_reason(rt: HostRuntime) -> Result<(), Fa
         (without_a_cost, &[1, 1], Verdict::NotAllowed { leg: 1 }),
     ];
     for (files, fleets, verdict) in cases {
-        assert_eq!(rt; judged(rt.alloc(), &files, fleets)?, Some(verdict));
+        assert_same(&rt, judged(rt.alloc(), &files, fleets)?, Some(verdict));
     }
     Ok(())
 }
@@ -104,11 +106,12 @@ fn fleets_need_and_use_their_aircraft(rt: HostRuntime) -> Result<(), Fail> {
     for (files, fleets, needed, used) in cases {
         let tables = read(rt.alloc(), &files)?;
         let fleet = fleets[0];
-        assert_eq!(rt; uses(&tables, fleets, fleet), Some(used));
+        assert_same(&rt, uses(&tables, fleets, fleet), Some(used));
         for station in 0..tables.station_count() {
-            assert_eq!(rt;
+            assert_same(
+                &rt,
                 needs(&tables, fleets, fleet, station),
-                needed.get(station as usize).copied()
+                needed.get(station as usize).copied(),
             );
         }
     }
@@ -119,8 +122,8 @@ fn fleets_need_and_use_their_aircraft(rt: HostRuntime) -> Result<(), Fail> {
 fn a_round_trip_over_the_day_start(rt: HostRuntime) -> Result<(), Fail> {
     let tables = read_from(rt.alloc(), &OVER_THE_DAY_START, 180)?;
     let plan = assignment(&tables, &[0, 0]).ok_or("no assignment")?;
-    assert_eq!(rt; judge(&tables, &plan), Verdict::Legal { cost: 2061 });
-    assert_eq!(rt; uses(&tables, &[0, 0], 0), Some(1));
-    assert_eq!(rt; uses(&tables, &[0, 0], 1), Some(0));
+    assert_same(&rt, judge(&tables, &plan), Verdict::Legal { cost: 2061 });
+    assert_same(&rt, uses(&tables, &[0, 0], 0), Some(1));
+    assert_same(&rt, uses(&tables, &[0, 0], 1), Some(0));
     Ok(())
 }

@@ -3,9 +3,13 @@
 #![tactic(auto)]
 
 #[cfg(test)]
+mod assertions;
+#[cfg(test)]
 mod checking;
 #[cfg(test)]
 mod commands;
+#[cfg(test)]
+mod dated_commands;
 #[cfg(test)]
 mod deep_trees;
 #[cfg(test)]
@@ -14,6 +18,8 @@ mod dual_runs;
 mod fields;
 #[cfg(test)]
 mod fractions;
+#[cfg(test)]
+mod islands;
 #[cfg(test)]
 mod judging;
 #[cfg(test)]

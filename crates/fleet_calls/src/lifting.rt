@@ -2,6 +2,7 @@
 ghost use Rattle.std.specs.Prelude.{IfOk, IfSome};
 ghost use Rattle.dual_bound.specs.Prices.{ArePrices};
 
+use crate::assertions::assert_same;
 use dual_bound::Weight;
 use dual_bound::worth::worth;
 use fleet_model::{Kept, Step, Tables};
@@ -14,7 +15,7 @@ use std::test::Fail;
 use worked_tables::schedules::{ROUND_TRIP, TWO_FLEETS, read};
 
 /// What the run over a subproblem's lines gives; nothing where it is spent or has grown too large.
-fn lifted(alloc: Global, tables: &Tables, kept: &Kept) -> Result<Option<Lifted>, LiftError>
+pub fn lifted(alloc: Global, tables: &Tables, kept: &Kept) -> Result<Option<Lifted>, LiftError>
     ensures { IfOk result (λ found. IfSome found (λ lifted. ArePrices tables.now lifted.prices)) }
 {
     let rows = rows(alloc, tables, kept)?;
@@ -40,7 +41,7 @@ fn a_round_trip_is_worth_what_it_costs(rt: HostRuntime) -> Result<(), Fail> {
     let Some(Lifted { prices, mixed }) = lifted(rt.alloc(), &tables, &kept)? else {
         panic!(rt; "no end");
     };
-    assert_eq!(rt; worth(&tables, &kept, &prices, 1), 200 * prices.scale);
+    assert_same(&rt, worth(&tables, &kept, &prices, 1), 200 * prices.scale);
     let flown = [0, 1].map(|leg| Weight {
         leg,
         fleet: 0,
@@ -49,8 +50,8 @@ fn a_round_trip_is_worth_what_it_costs(rt: HostRuntime) -> Result<(), Fail> {
     let Some(mixed) = mixed else {
         panic!(rt; "no weights");
     };
-    assert_eq!(rt; mixed.scale, 1);
-    assert_eq!(rt; mixed.weights.as_slice(), flown.as_slice());
+    assert_same(&rt, mixed.scale, 1);
+    assert_same(&rt, mixed.weights.as_slice(), flown.as_slice());
     Ok(())
 }
 
@@ -62,13 +63,13 @@ fn half_weights_fly_overlapping_trips(rt: HostRuntime) -> Result<(), Fail> {
     let Some(Lifted { prices, mixed }) = lifted(rt.alloc(), &tables, &kept)? else {
         panic!(rt; "no end");
     };
-    assert_eq!(rt; worth(&tables, &kept, &prices, 1), 60 * prices.scale);
+    assert_same(&rt, worth(&tables, &kept, &prices, 1), 60 * prices.scale);
     let Some(mixed) = mixed else {
         panic!(rt; "no weights");
     };
-    assert_eq!(rt; (mixed.scale, mixed.weights.len()), (2, 12));
+    assert_same(&rt, (mixed.scale, mixed.weights.len()), (2, 12));
     for entry in mixed.weights.as_slice() {
-        assert_eq!(rt; entry.weight, 1);
+        assert_same(&rt, entry.weight, 1);
     }
     Ok(())
 }

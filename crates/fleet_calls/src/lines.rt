@@ -1,4 +1,5 @@
 //! Lines, and what they are made of.
+use crate::assertions::assert_same;
 use entries::Entries;
 use row_store::{Layout, Line, Rows, is_problem};
 use sparse_row::{Entry, SparseRow};
@@ -33,13 +34,14 @@ fn held(alloc: Global, line: &Line) -> Result<Vec<(u32, i128)>, Fail> {
 #[test]
 fn line_of_all_numbers(rt: HostRuntime) -> Result<(), Fail> {
     let line = Line::from_vec(Vec::from_slice(rt.alloc(), &[0, 5, 0, -7])?);
-    assert_eq!(rt; (line.len(), line.number(1), line.number(2)), (4, 5, 0));
-    assert_eq!(rt;
+    assert_same(&rt, (line.len(), line.number(1), line.number(2)), (4, 5, 0));
+    assert_same(
+        &rt,
         held(rt.alloc(), &line)?.as_slice(),
-        [(1, 5), (3, -7)].as_slice()
+        [(1, 5), (3, -7)].as_slice(),
     );
     match line.into_layout() {
-        Layout::Full(numbers) => assert_eq!(rt; numbers.as_slice(), [0, 5, 0, -7].as_slice()),
+        Layout::Full(numbers) => assert_same(&rt, numbers.as_slice(), [0, 5, 0, -7].as_slice()),
         Layout::Sparse(_) => assert!(rt; false),
     }
     Ok(())
@@ -52,14 +54,15 @@ fn line_of_entries(rt: HostRuntime) -> Result<(), Fail> {
     row.put(2, 0)?;
     row.put(3, -7)?;
     let line = Line::from_row(row);
-    assert_eq!(rt; (line.len(), line.number(1), line.number(2)), (4, 5, 0));
-    assert_eq!(rt;
+    assert_same(&rt, (line.len(), line.number(1), line.number(2)), (4, 5, 0));
+    assert_same(
+        &rt,
         held(rt.alloc(), &line)?.as_slice(),
-        [(1, 5), (3, -7)].as_slice()
+        [(1, 5), (3, -7)].as_slice(),
     );
     match line.into_layout() {
         Layout::Full(_) => assert!(rt; false),
-        Layout::Sparse(row) => assert_eq!(rt; row.entries().len(), 2),
+        Layout::Sparse(row) => assert_same(&rt, row.entries().len(), 2),
     }
     Ok(())
 }
@@ -78,7 +81,7 @@ fn columns_decide_where_all_numbers_do_not(rt: HostRuntime) -> Result<(), Fail> 
             lines: Entries::from_vec(lines),
             costs: Entries::from_vec(Vec::from_slice(rt.alloc(), &[0, 0])?),
         };
-        assert_eq!(rt; is_problem(&rows), fits);
+        assert_same(&rt, is_problem(&rows), fits);
     }
     Ok(())
 }

@@ -1,4 +1,5 @@
 //! Times, costs and assignments.
+use crate::assertions::assert_same;
 use fleet_model::{Assignment, Costs, Pair, PairCost, Tables, busy, laps, nights, ready};
 use std::test::Fail;
 use worked_tables::schedules::{
@@ -51,7 +52,7 @@ fn aircraft_are_ready_again(rt: HostRuntime) -> Result<(), Fail> {
             nights,
             laps: nights,
         };
-        assert_eq!(rt; times_of(&tables, leg), Some(want));
+        assert_same(&rt, times_of(&tables, leg), Some(want));
     }
     Ok(())
 }
@@ -68,10 +69,10 @@ fn costs_are_found_in_any_order(rt: HostRuntime) -> Result<(), Fail> {
     for entries in [rising, falling] {
         let costs = Costs::from_vec(entries.to_vec(rt.alloc())?);
         for entry in rising {
-            assert_eq!(rt; costs.get(entry.pair()), Some(entry.cost));
+            assert_same(&rt, costs.get(entry.pair()), Some(entry.cost));
         }
-        assert_eq!(rt; costs.get(Pair { leg: 2, fleet: 0 }), None);
-        assert_eq!(rt; costs.as_slice(), entries.as_slice());
+        assert_same(&rt, costs.get(Pair { leg: 2, fleet: 0 }), None);
+        assert_same(&rt, costs.as_slice(), entries.as_slice());
     }
     Ok(())
 }
@@ -84,7 +85,11 @@ fn an_assignment_is_its_fleets(rt: HostRuntime) {
     plan.push(1);
     let copy = plan.copy();
     plan.push(2);
-    assert_eq!(rt; (plan.len(), copy.len()), (3, 2));
-    assert_eq!(rt; (plan.fleet(0), plan.fleet(1), plan.fleet(2)), (3, 1, 2));
-    assert_eq!(rt; (copy.fleet(0), copy.fleet(1)), (3, 1));
+    assert!(rt; plan.len() == 3 && copy.len() == 2);
+    assert_same(
+        &rt,
+        (plan.fleet(0), plan.fleet(1), plan.fleet(2)),
+        (3, 1, 2),
+    );
+    assert_same(&rt, (copy.fleet(0), copy.fleet(1)), (3, 1));
 }

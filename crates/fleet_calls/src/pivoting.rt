@@ -1,7 +1,9 @@
 //! Runs of the simplex method, over each store of tables.
 ghost use Rattle.row_store.specs.Problem.{IsProblem};
 
+use crate::assertions::assert_same;
 use entries::{Entries, NoMemory};
+use row_store::listed::Listed;
 use row_store::{Dense, Line, RowStore, Rows, Sparse, is_problem};
 use simplex_frac::{Outcome, solve};
 use std::alloc::Global;
@@ -21,6 +23,8 @@ struct Run {
 type End = (&'static str, &'static [u32], u64, u32, u32);
 
 const LARGE: i128 = 1 << 126;
+
+const MIDDLE: i128 = 1 << 62;
 
 const RUNS: &[Run] = &[
     Run {
@@ -46,6 +50,13 @@ const RUNS: &[Run] = &[
         costs: &[1],
         pivots: 5,
         end: ("no point", &[1], 0, 0, 0),
+    },
+    // The product 5 * 2 ^ 62 outgrows 64 bits, so the table goes on by lists.
+    Run {
+        lines: &[&[3, MIDDLE, 1], &[5, 1, 2]],
+        costs: &[0, 0],
+        pivots: 10,
+        end: ("no point", &[0, 3], 1, 0, 0),
     },
     // The product 5 * 2 ^ 126 is outgrown.
     Run {
@@ -102,7 +113,9 @@ fn runs_and_their_ends(rt: HostRuntime) -> Result<(), Fail> {
         assert!(rt; is_problem(&rows));
         let dense = outcome_over::<Dense>(rt.alloc(), &rows, run.pivots)?;
         let sparse = outcome_over::<Sparse>(rt.alloc(), &rows, run.pivots)?;
-        assert_eq!(rt; (told(&dense), told(&sparse)), (run.end, run.end));
+        let listed = outcome_over::<Listed>(rt.alloc(), &rows, run.pivots)?;
+        assert_same(&rt, (told(&dense), told(&sparse)), (run.end, run.end));
+        assert_same(&rt, told(&listed), run.end);
     }
     Ok(())
 }

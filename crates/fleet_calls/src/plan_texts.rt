@@ -1,4 +1,5 @@
 //! Texts of plans that read, and what is written of them. Texts that are refused stand with the runs of the program.
+use crate::assertions::assert_same;
 use entries::NoMemory;
 use fleet_model::Assignment;
 use plan_text::{read_plan, write_plan};
@@ -32,7 +33,7 @@ fn plans_that_read(rt: HostRuntime) -> Result<(), Fail> {
     for (text, wanted) in PLANS {
         let plan = read_plan(rt.alloc(), &tables, text)?;
         let fleets = fleets_of(rt.alloc(), &plan)?;
-        assert_eq!(rt; fleets.as_slice(), *wanted);
+        assert_same(&rt, fleets.as_slice(), *wanted);
     }
     Ok(())
 }
@@ -43,6 +44,6 @@ fn a_plan_that_is_written(rt: HostRuntime) -> Result<(), Fail> {
     let text = b"flight,fleet\nX1,F2\nX2,F1\n";
     let plan = read_plan(rt.alloc(), &tables, text)?;
     let written = write_plan(rt.alloc(), &tables, &plan)?;
-    assert_eq!(rt; written.as_slice(), text.as_slice());
+    assert_same(&rt, written.as_slice(), text.as_slice());
     Ok(())
 }

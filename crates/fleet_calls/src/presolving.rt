@@ -1,4 +1,5 @@
 //! The pairs that presolve removes, with their reasons.
+use crate::assertions::assert_same;
 use dual_bound::PriceStep;
 use entries::Entries;
 use fleet_model::LoadError;
@@ -68,21 +69,21 @@ fn step(fleet: u32, station: u32, minute: u16, value: i128) -> PriceStep {
 #[test]
 fn nothing_is_removed_where_all_can_be_flown(rt: HostRuntime) -> Result<(), Fail> {
     let trims = removals(rt.alloc(), &ROUND_TRIP)?;
-    assert_eq!(rt; trims.len(), 0);
+    assert_same(&rt, trims.len(), 0);
     Ok(())
 }
 
 #[test]
 fn nothing_is_removed_beside_a_bare_leg(rt: HostRuntime) -> Result<(), Fail> {
     let trims = removals(rt.alloc(), &NO_WAY_BACK)?;
-    assert_eq!(rt; trims.len(), 0);
+    assert_same(&rt, trims.len(), 0);
     Ok(())
 }
 
 #[test]
 fn without_aircraft_a_leg_becomes_bare(rt: HostRuntime) -> Result<(), Fail> {
     let trims = removals(rt.alloc(), &NO_AIRCRAFT)?;
-    assert_eq!(rt; trims.len(), 2);
+    assert!(rt; trims.len() == 2);
     for (fleet, trim) in trims.as_slice().iter().enumerate() {
         let fleet = fleet as u32;
         let rents = if fleet == 0 { [1, 0] } else { [0, 1] };
@@ -92,10 +93,10 @@ fn without_aircraft_a_leg_becomes_bare(rt: HostRuntime) -> Result<(), Fail> {
             step(fleet, 1, 0, 1),
             step(fleet, 1, 481, 0),
         ];
-        assert_eq!(rt; (trim.leg, trim.fleet), (0, fleet));
-        assert_eq!(rt; trim.reason.scale, 1);
-        assert_eq!(rt; trim.reason.rents.as_slice(), rents.as_slice());
-        assert_eq!(rt; trim.reason.steps.as_slice(), steps.as_slice());
+        assert_same(&rt, (trim.leg, trim.fleet), (0, fleet));
+        assert_same(&rt, trim.reason.scale, 1);
+        assert_same(&rt, trim.reason.rents.as_slice(), rents.as_slice());
+        assert_same(&rt, trim.reason.steps.as_slice(), steps.as_slice());
     }
     Ok(())
 }
@@ -103,26 +104,31 @@ fn without_aircraft_a_leg_becomes_bare(rt: HostRuntime) -> Result<(), Fail> {
 #[test]
 fn a_fleet_that_never_comes_does_not_depart(rt: HostRuntime) -> Result<(), Fail> {
     let trims = removals(rt.alloc(), &BACK_BY_THE_FIRST)?;
-    assert_eq!(rt; trims.len(), 1);
+    assert!(rt; trims.len() == 1);
     let trim = &trims.as_slice()[0];
-    assert_eq!(rt; (trim.leg, trim.fleet), (0, 1));
-    assert_eq!(rt; trim.reason.scale, 1);
-    assert_eq!(rt; trim.reason.rents.as_slice(), [0, 0].as_slice());
-    assert_eq!(rt; trim.reason.steps.as_slice(), [step(1, 0, 0, 1)].as_slice());
+    assert_same(&rt, (trim.leg, trim.fleet), (0, 1));
+    assert_same(&rt, trim.reason.scale, 1);
+    assert_same(&rt, trim.reason.rents.as_slice(), [0, 0].as_slice());
+    assert_same(
+        &rt,
+        trim.reason.steps.as_slice(),
+        [step(1, 0, 0, 1)].as_slice(),
+    );
     Ok(())
 }
 
 #[test]
 fn a_fleet_that_never_leaves_does_not_land(rt: HostRuntime) -> Result<(), Fail> {
     let trims = removals(rt.alloc(), &STUCK_AWAY)?;
-    assert_eq!(rt; trims.len(), 1);
+    assert!(rt; trims.len() == 1);
     let trim = &trims.as_slice()[0];
-    assert_eq!(rt; (trim.leg, trim.fleet), (0, 1));
-    assert_eq!(rt; trim.reason.scale, 1);
-    assert_eq!(rt; trim.reason.rents.as_slice(), [0, 0].as_slice());
-    assert_eq!(rt;
+    assert_same(&rt, (trim.leg, trim.fleet), (0, 1));
+    assert_same(&rt, trim.reason.scale, 1);
+    assert_same(&rt, trim.reason.rents.as_slice(), [0, 0].as_slice());
+    assert_same(
+        &rt,
         trim.reason.steps.as_slice(),
-        [step(1, 1, 0, -1)].as_slice()
+        [step(1, 1, 0, -1)].as_slice(),
     );
     Ok(())
 }
@@ -130,20 +136,22 @@ fn a_fleet_that_never_leaves_does_not_land(rt: HostRuntime) -> Result<(), Fail> 
 #[test]
 fn no_step_stands_behind_the_last_minute(rt: HostRuntime) -> Result<(), Fail> {
     let trims = removals(rt.alloc(), &LAST_MINUTE)?;
-    assert_eq!(rt; trims.len(), 2);
+    assert!(rt; trims.len() == 2);
     let first = &trims.as_slice()[0];
-    assert_eq!(rt; (first.leg, first.fleet), (1, 0));
-    assert_eq!(rt; first.reason.rents.as_slice(), [1, 0].as_slice());
-    assert_eq!(rt;
+    assert_same(&rt, (first.leg, first.fleet), (1, 0));
+    assert_same(&rt, first.reason.rents.as_slice(), [1, 0].as_slice());
+    assert_same(
+        &rt,
         first.reason.steps.as_slice(),
-        [step(0, 0, 0, 1), step(0, 1, 0, 1)].as_slice()
+        [step(0, 0, 0, 1), step(0, 1, 0, 1)].as_slice(),
     );
     let second = &trims.as_slice()[1];
-    assert_eq!(rt; (second.leg, second.fleet), (1, 1));
-    assert_eq!(rt; second.reason.rents.as_slice(), [0, 0].as_slice());
-    assert_eq!(rt;
+    assert_same(&rt, (second.leg, second.fleet), (1, 1));
+    assert_same(&rt, second.reason.rents.as_slice(), [0, 0].as_slice());
+    assert_same(
+        &rt,
         second.reason.steps.as_slice(),
-        [step(1, 1, 0, 1)].as_slice()
+        [step(1, 1, 0, 1)].as_slice(),
     );
     Ok(())
 }
@@ -152,9 +160,9 @@ fn no_step_stands_behind_the_last_minute(rt: HostRuntime) -> Result<(), Fail> {
 fn a_pass_goes_on_behind_a_removal(rt: HostRuntime) -> Result<(), Fail> {
     let trims = removals(rt.alloc(), &ONE_BY_ONE)?;
     let wanted = [(1, 1), (5, 1), (0, 1)];
-    assert_eq!(rt; trims.len(), wanted.len());
+    assert_same(&rt, trims.len(), wanted.len());
     for (trim, pair) in trims.as_slice().iter().zip(wanted) {
-        assert_eq!(rt; (trim.leg, trim.fleet), pair);
+        assert_same(&rt, (trim.leg, trim.fleet), pair);
     }
     Ok(())
 }

@@ -4,6 +4,7 @@ ghost use Rattle.fleet_model.specs.Schedule.{fleets_in, legs_in, stations_in};
 ghost use Rattle.fleet_model.specs.declared.tables.Tables.{Tables};
 ghost use Rattle.dual_bound.specs.OfTables.{IsOfTables};
 
+use crate::assertions::assert_same;
 use bound_cert::write_proof;
 use dual_bound::{Cause, PriceStep, Prices, Tree, TreeCounts};
 use entries::{Entries, NoMemory};
@@ -49,7 +50,7 @@ fn prices(alloc: Global, rents: &[i128], value: i128) -> Result<Prices, NoMemory
 fn a_leg_without_a_fleet(rt: HostRuntime) -> Result<(), Fail> {
     let want: &[u8] = b"fleet proof 1\nplan no\nbare X2\nend\n";
     let text = written(rt.alloc(), false, &Tree::Bare { leg: 1 })?;
-    assert_eq!(rt; text.as_deref(), Some(want));
+    assert_same(&rt, text.as_deref(), Some(want));
     Ok(())
 }
 
@@ -57,7 +58,7 @@ fn a_leg_without_a_fleet(rt: HostRuntime) -> Result<(), Fail> {
 fn one_assignment_alone(rt: HostRuntime) -> Result<(), Fail> {
     let want: &[u8] = b"fleet proof 1\nplan yes\nsole\nend\n";
     let text = written(rt.alloc(), true, &Tree::Sole)?;
-    assert_eq!(rt; text.as_deref(), Some(want));
+    assert_same(&rt, text.as_deref(), Some(want));
     Ok(())
 }
 
@@ -66,7 +67,7 @@ fn an_open_leaf_of_no_prices(rt: HostRuntime) -> Result<(), Fail> {
     let want: &[u8] = b"fleet proof 1\nplan no\nopen pivots 0\nscale 1\nend\n";
     let tree = Tree::Open(Prices::zero(rt.alloc()), Cause::Pivots { made: 0 });
     let text = written(rt.alloc(), false, &tree)?;
-    assert_eq!(rt; text.as_deref(), Some(want));
+    assert_same(&rt, text.as_deref(), Some(want));
     Ok(())
 }
 
@@ -98,7 +99,7 @@ fn open_leaves_of_prices(rt: HostRuntime) -> Result<(), Fail> {
         let prices = prices(rt.alloc(), rents, value)?;
         let tree = Tree::Open(prices, Cause::Pivots { made: 12 });
         let text = written(rt.alloc(), true, &tree)?;
-        assert_eq!(rt; text.as_deref(), Some(want));
+        assert_same(&rt, text.as_deref(), Some(want));
     }
     Ok(())
 }
@@ -122,8 +123,8 @@ fn trees_count_their_open_leaves(rt: HostRuntime) -> Result<(), Fail> {
         (open, one, true),
     ];
     for (tree, counts, has_open) in &cases {
-        assert_eq!(rt; tree.counts(), *counts);
-        assert_eq!(rt; tree.has_open(), *has_open);
+        assert_same(&rt, tree.counts(), *counts);
+        assert_same(&rt, tree.has_open(), *has_open);
     }
     Ok(())
 }

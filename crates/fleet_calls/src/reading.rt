@@ -1,4 +1,5 @@
 //! Files that read, and what they read as.
+use crate::assertions::assert_same;
 use fleet_model::{Pair, PairCost, Through};
 use fleet_tables::{read_costs, read_fleets};
 use sched_read::{read_legs, read_throughs};
@@ -11,24 +12,24 @@ use worked_tables::schedules::{
 #[test]
 fn a_round_trip_reads_as_its_tables(rt: HostRuntime) -> Result<(), Fail> {
     let tables = read(rt.alloc(), &ROUND_TRIP)?;
-    assert_eq!(rt; tables.station_count(), 2);
-    assert_eq!(rt; tables.fleet_count(), 2);
-    assert_eq!(rt; tables.leg_count(), 2);
+    assert!(rt; tables.station_count() == 2);
+    assert!(rt; tables.fleet_count() == 2);
+    assert!(rt; tables.leg_count() == 2);
     let station = tables.station(0);
-    assert_eq!(rt; station.code.as_slice(), b"AAA".as_slice());
-    assert_eq!(rt; (station.extra, station.maintenance), (0, true));
+    assert_same(&rt, station.code.as_slice(), b"AAA".as_slice());
+    assert_same(&rt, (station.extra, station.maintenance), (0, true));
     let fleet = tables.fleet(1);
-    assert_eq!(rt; fleet.name.as_slice(), b"F2".as_slice());
-    assert_eq!(rt; (fleet.aircraft, fleet.turn), (1, 30));
+    assert_same(&rt, fleet.name.as_slice(), b"F2".as_slice());
+    assert_same(&rt, (fleet.aircraft, fleet.turn), (1, 30));
     let leg = tables.leg(1);
-    assert_eq!(rt; leg.flight.as_slice(), b"X2".as_slice());
-    assert_eq!(rt; (leg.from, leg.dep, leg.to, leg.block), (1, 600, 0, 60));
+    assert_same(&rt, leg.flight.as_slice(), b"X2".as_slice());
+    assert_same(&rt, (leg.from, leg.dep, leg.to, leg.block), (1, 600, 0, 60));
     for (leg, fleet, cost) in [(0, 0, 100), (0, 1, 80), (1, 0, 100), (1, 1, 130)] {
-        assert_eq!(rt; tables.cost(Pair { leg, fleet }), Some(cost));
+        assert_same(&rt, tables.cost(Pair { leg, fleet }), Some(cost));
     }
-    assert_eq!(rt; tables.cost(Pair { leg: 2, fleet: 0 }), None);
+    assert_same(&rt, tables.cost(Pair { leg: 2, fleet: 0 }), None);
     assert!(rt; tables.throughs.is_empty());
-    assert_eq!(rt; tables.settings, starting(0));
+    assert_same(&rt, tables.settings, starting(0));
     Ok(())
 }
 
@@ -37,20 +38,22 @@ fn each_reader_reads_its_file(rt: HostRuntime) -> Result<(), Fail> {
     let alloc = rt.alloc();
     let files = THROUGH_THE_HUB;
     let stations = read_stations(alloc, files.stations)?;
-    assert_eq!(rt; stations.len(), 3);
-    assert_eq!(rt; stations[1].code.as_slice(), b"AAA".as_slice());
-    assert_eq!(rt;
+    assert!(rt; stations.len() == 3);
+    assert_same(&rt, stations[1].code.as_slice(), b"AAA".as_slice());
+    assert_same(
+        &rt,
         (stations[0].maintenance, stations[1].maintenance),
-        (false, true)
+        (false, true),
     );
     let fleets = read_fleets(alloc, files.fleets)?;
-    assert_eq!(rt; fleets.len(), 1);
-    assert_eq!(rt; (fleets[0].aircraft, fleets[0].turn), (2, 30));
+    assert!(rt; fleets.len() == 1);
+    assert_same(&rt, (fleets[0].aircraft, fleets[0].turn), (2, 30));
     let legs = read_legs(alloc, files.legs, &stations, starting(0))?;
-    assert_eq!(rt; legs.len(), 4);
-    assert_eq!(rt;
+    assert!(rt; legs.len() == 4);
+    assert_same(
+        &rt,
         (legs[3].from, legs[3].dep, legs[3].to, legs[3].block),
-        (0, 580, 2, 60)
+        (0, 580, 2, 60),
     );
     let costs = read_costs(alloc, files.costs, &legs, &fleets)?;
     let want = [0, 1, 2, 3].map(|leg| PairCost {
@@ -58,7 +61,7 @@ fn each_reader_reads_its_file(rt: HostRuntime) -> Result<(), Fail> {
         fleet: 0,
         cost: 10,
     });
-    assert_eq!(rt; costs.as_slice(), want.as_slice());
+    assert_same(&rt, costs.as_slice(), want.as_slice());
     let throughs = read_throughs(alloc, files.throughs, &legs)?;
     let want = [(0, 2, 5), (0, 3, 8), (1, 2, 4), (1, 3, 6)].map(|(
         arriving,
@@ -69,16 +72,16 @@ fn each_reader_reads_its_file(rt: HostRuntime) -> Result<(), Fail> {
         departing,
         value,
     });
-    assert_eq!(rt; throughs.as_slice(), want.as_slice());
+    assert_same(&rt, throughs.as_slice(), want.as_slice());
     Ok(())
 }
 
 #[test]
 fn departures_count_from_the_day_start(rt: HostRuntime) -> Result<(), Fail> {
     let tables = read_from(rt.alloc(), &OVER_THE_DAY_START, 180)?;
-    assert_eq!(rt; tables.leg_count(), 2);
-    assert_eq!(rt; (tables.leg(0).dep, tables.leg(0).block), (1250, 125));
-    assert_eq!(rt; (tables.leg(1).dep, tables.leg(1).block), (15, 125));
+    assert!(rt; tables.leg_count() == 2);
+    assert_same(&rt, (tables.leg(0).dep, tables.leg(0).block), (1250, 125));
+    assert_same(&rt, (tables.leg(1).dep, tables.leg(1).block), (15, 125));
     Ok(())
 }
 
@@ -91,7 +94,7 @@ fn no_bytes_are_no_through_pairs(rt: HostRuntime) -> Result<(), Fail> {
             ..ROUND_TRIP
         },
     )?;
-    assert_eq!(rt; tables.throughs.len(), 0);
+    assert_same(&rt, tables.throughs.len(), 0);
     Ok(())
 }
 
@@ -105,6 +108,6 @@ fn headers_alone_are_no_legs(rt: HostRuntime) -> Result<(), Fail> {
             ..ROUND_TRIP
         },
     )?;
-    assert_eq!(rt; tables.leg_count(), 0);
+    assert_same(&rt, tables.leg_count(), 0);
     Ok(())
 }

@@ -2,6 +2,7 @@
 ghost use Rattle.std.specs.Prelude.{IfOk, IfSome};
 ghost use Rattle.dual_bound.specs.Prices.{ArePrices};
 
+use crate::assertions::assert_same;
 use dual_bound::Weight;
 use dual_bound::worth::worth;
 use dual_simplex::{Outcome, solve};
@@ -17,7 +18,11 @@ use std::test::Fail;
 use worked_tables::schedules::{ROUND_TRIP, TWO_FLEETS, read};
 
 /// What the dual simplex method over a subproblem's lines gives; nothing where it gives up.
-fn lifted_by_signs(alloc: Global, tables: &Tables, kept: &Kept) -> Result<Option<Lifted>, LiftError>
+pub fn lifted_by_signs(
+    alloc: Global,
+    tables: &Tables,
+    kept: &Kept,
+) -> Result<Option<Lifted>, LiftError>
     ensures { IfOk result (λ found. IfSome found (λ lifted. ArePrices tables.now lifted.prices)) }
 {
     let program = Program::new(alloc, tables, kept)?;
@@ -68,7 +73,7 @@ fn a_round_trip_is_worth_its_cost_by_signs(rt: HostRuntime) -> Result<(), Fail> 
     let Some(Lifted { prices, mixed }) = lifted_by_signs(rt.alloc(), &tables, &kept)? else {
         panic!(rt; "given up");
     };
-    assert_eq!(rt; worth(&tables, &kept, &prices, 1), 200 * prices.scale);
+    assert_same(&rt, worth(&tables, &kept, &prices, 1), 200 * prices.scale);
     let flown = [0, 1].map(|leg| Weight {
         leg,
         fleet: 0,
@@ -77,8 +82,8 @@ fn a_round_trip_is_worth_its_cost_by_signs(rt: HostRuntime) -> Result<(), Fail> 
     let Some(mixed) = mixed else {
         panic!(rt; "no weights");
     };
-    assert_eq!(rt; mixed.scale, 1);
-    assert_eq!(rt; mixed.weights.as_slice(), flown.as_slice());
+    assert_same(&rt, mixed.scale, 1);
+    assert_same(&rt, mixed.weights.as_slice(), flown.as_slice());
     Ok(())
 }
 
@@ -90,13 +95,13 @@ fn half_weights_fly_overlapping_trips_by_signs(rt: HostRuntime) -> Result<(), Fa
     let Some(Lifted { prices, mixed }) = lifted_by_signs(rt.alloc(), &tables, &kept)? else {
         panic!(rt; "given up");
     };
-    assert_eq!(rt; worth(&tables, &kept, &prices, 1), 60 * prices.scale);
+    assert_same(&rt, worth(&tables, &kept, &prices, 1), 60 * prices.scale);
     let Some(mixed) = mixed else {
         panic!(rt; "no weights");
     };
-    assert_eq!(rt; (mixed.scale, mixed.weights.len()), (2, 12));
+    assert_same(&rt, (mixed.scale, mixed.weights.len()), (2, 12));
     for entry in mixed.weights.as_slice() {
-        assert_eq!(rt; entry.weight, 1);
+        assert_same(&rt, entry.weight, 1);
     }
     Ok(())
 }
@@ -128,11 +133,11 @@ fn an_outline_gives_the_same_worth(rt: HostRuntime) -> Result<(), Fail> {
     let Some(Lifted { prices, mixed }) = lifted_with(rt.alloc(), &tables, &kept)? else {
         panic!(rt; "no end");
     };
-    assert_eq!(rt; worth(&tables, &kept, &prices, 1), 60 * prices.scale);
+    assert_same(&rt, worth(&tables, &kept, &prices, 1), 60 * prices.scale);
     let Some(mixed) = mixed else {
         panic!(rt; "no weights");
     };
-    assert_eq!(rt; (mixed.scale, mixed.weights.len()), (2, 12));
+    assert_same(&rt, (mixed.scale, mixed.weights.len()), (2, 12));
     Ok(())
 }
 

@@ -1,4 +1,5 @@
 //! Tables, solved.
+use crate::assertions::assert_same;
 use branch_bound::{Solved, solve};
 use cert_check::split_above;
 use dual_bound::{Cause, Tree};
@@ -121,27 +122,38 @@ const fn unsettled(bound: i128, splits: u64) -> Answer {
 
 #[test]
 fn the_relaxation_alone_gives_a_plan(rt: HostRuntime) -> Result<(), Fail> {
-    assert_eq!(rt;
+    assert_same(
+        &rt,
         answer_of(rt.alloc(), &ROUND_TRIP, ENOUGH)?,
-        planned(200, 200, 0)
+        planned(200, 200, 0),
     );
-    assert_eq!(rt;
+    assert_same(
+        &rt,
         answer_of(rt.alloc(), &BACK_AT_ONCE, ENOUGH)?,
-        planned(200, 200, 0)
+        planned(200, 200, 0),
     );
-    assert_eq!(rt;
+    assert_same(
+        &rt,
         answer_of(rt.alloc(), &ONE_CHOICE, ENOUGH)?,
-        planned(200, 200, 0)
+        planned(200, 200, 0),
     );
     Ok(())
 }
 
 #[test]
 fn presolve_alone_shows_that_there_is_none(rt: HostRuntime) -> Result<(), Fail> {
-    assert_eq!(rt; answer_of(rt.alloc(), &NO_AIRCRAFT, ENOUGH)?, infeasible(0));
+    assert_same(
+        &rt,
+        answer_of(rt.alloc(), &NO_AIRCRAFT, ENOUGH)?,
+        infeasible(0),
+    );
     let solved = solution(rt.alloc(), &NO_AIRCRAFT, ENOUGH, ENOUGH)?;
-    assert_eq!(rt; bare_below(solved.tree()), Some(0));
-    assert_eq!(rt; answer_of(rt.alloc(), &NO_WAY_BACK, ENOUGH)?, infeasible(0));
+    assert_same(&rt, bare_below(solved.tree()), Some(0));
+    assert_same(
+        &rt,
+        answer_of(rt.alloc(), &NO_WAY_BACK, ENOUGH)?,
+        infeasible(0),
+    );
     Ok(())
 }
 
@@ -164,8 +176,8 @@ fn without_pivots_the_least_costs_are_the_bound(rt: HostRuntime) -> Result<(), F
     let solved = solution(rt.alloc(), &ROUND_TRIP, ENOUGH, 0)?;
     match &solved {
         Solved::Unsettled { bound, tree } => {
-            assert_eq!(rt; *bound, 180);
-            assert_eq!(rt; tree.counts().open_pivots, 1);
+            assert_same(&rt, *bound, 180);
+            assert_same(&rt, tree.counts().open_pivots, 1);
         }
         _ => panic!(rt; "{solved:?}"),
     }
@@ -174,9 +186,17 @@ fn without_pivots_the_least_costs_are_the_bound(rt: HostRuntime) -> Result<(), F
 
 #[test]
 fn halves_of_two_fleets_are_no_plan(rt: HostRuntime) -> Result<(), Fail> {
-    assert_eq!(rt; answer_of(rt.alloc(), &TWO_FLEETS, ENOUGH)?, infeasible(1));
-    assert_eq!(rt; answer_of(rt.alloc(), &TWO_FLEETS, 0)?, unsettled(60, 0));
-    assert_eq!(rt; answer_of(rt.alloc(), &EARNING, 0)?, unsettled(-6, 0));
+    assert_same(
+        &rt,
+        answer_of(rt.alloc(), &TWO_FLEETS, ENOUGH)?,
+        infeasible(1),
+    );
+    assert_same(
+        &rt,
+        answer_of(rt.alloc(), &TWO_FLEETS, 0)?,
+        unsettled(60, 0),
+    );
+    assert_same(&rt, answer_of(rt.alloc(), &EARNING, 0)?, unsettled(-6, 0));
     Ok(())
 }
 
@@ -185,10 +205,10 @@ fn the_halves_have_scale_2(rt: HostRuntime) -> Result<(), Fail> {
     let solved = solution(rt.alloc(), &TWO_FLEETS, 0, ENOUGH)?;
     match solved.tree() {
         Tree::Open(_, Cause::Nodes(mixed)) => {
-            assert_eq!(rt; mixed.scale, 2);
-            assert_eq!(rt; mixed.weights.len(), 12);
+            assert_same(&rt, mixed.scale, 2);
+            assert_same(&rt, mixed.weights.len(), 12);
             for weight in mixed.weights.as_slice() {
-                assert_eq!(rt; weight.weight, 1);
+                assert_same(&rt, weight.weight, 1);
             }
         }
         tree => panic!(rt; "{tree:?}"),
@@ -203,11 +223,11 @@ fn is_root_settled(alloc: Global, pivots: u64) -> Result<bool, LoadError> {
     Ok(counts.open_nodes == 1 && counts.open_pivots == 0)
 }
 
-/// The prescribed run needs 15 pivots, and the dual simplex method, which is tried first, 18.
+/// The prescribed run needs 13 pivots, and the dual simplex method, which is tried first, 14.
 #[test]
 fn where_the_second_run_gives_up_the_prescribed_one_settles(rt: HostRuntime) -> Result<(), Fail> {
-    assert!(rt; !is_root_settled(rt.alloc(), 14)?);
-    for pivots in [15, 17, 18, ENOUGH] {
+    assert!(rt; !is_root_settled(rt.alloc(), 12)?);
+    for pivots in [13, 14, ENOUGH] {
         assert!(rt; is_root_settled(rt.alloc(), pivots)?);
     }
     Ok(())
@@ -224,17 +244,20 @@ fn trips_at_once_are_refuted(rt: HostRuntime) -> Result<(), Fail> {
 
 #[test]
 fn a_third_fleet_flies_what_is_left(rt: HostRuntime) -> Result<(), Fail> {
-    assert_eq!(rt;
+    assert_same(
+        &rt,
         answer_of(rt.alloc(), &OVERLAPPING_TRIPS, ENOUGH)?,
-        planned(140, 140, 2)
+        planned(140, 140, 2),
     );
-    assert_eq!(rt;
+    assert_same(
+        &rt,
         answer_of(rt.alloc(), &OVERLAPPING_TRIPS, 1)?,
-        planned(140, 100, 1)
+        planned(140, 100, 1),
     );
-    assert_eq!(rt;
+    assert_same(
+        &rt,
         answer_of(rt.alloc(), &OVERLAPPING_TRIPS, 0)?,
-        unsettled(60, 0)
+        unsettled(60, 0),
     );
     Ok(())
 }
@@ -248,34 +271,40 @@ fn first_split_above(alloc: Global, files: &Files, cost: i128) -> Result<Option<
 
 #[test]
 fn no_split_is_above_the_cost_of_the_plan(rt: HostRuntime) -> Result<(), Fail> {
-    assert_eq!(rt;
+    assert_same(
+        &rt,
         first_split_above(rt.alloc(), &OVERLAPPING_TRIPS, 140)?,
-        None
+        None,
     );
-    assert_eq!(rt;
+    assert_same(
+        &rt,
         first_split_above(rt.alloc(), &OVERLAPPING_TRIPS, 100)?,
-        None
+        None,
     );
-    assert_eq!(rt;
+    assert_same(
+        &rt,
         first_split_above(rt.alloc(), &OVERLAPPING_TRIPS, 99)?,
-        Some(3)
+        Some(3),
     );
-    assert_eq!(rt;
+    assert_same(
+        &rt,
         first_split_above(rt.alloc(), &OVERLAPPING_TRIPS, 59)?,
-        Some(1)
+        Some(1),
     );
     Ok(())
 }
 
 #[test]
 fn made_trips_are_split(rt: HostRuntime) -> Result<(), Fail> {
-    assert_eq!(rt;
+    assert_same(
+        &rt,
         answer_of(rt.alloc(), &TWO_TRIPS, ENOUGH)?,
-        planned(4647, 4647, 1)
+        planned(4647, 4647, 1),
     );
-    assert_eq!(rt;
+    assert_same(
+        &rt,
         answer_of(rt.alloc(), &THREE_TRIPS, ENOUGH)?,
-        planned(7320, 7320, 2)
+        planned(7320, 7320, 2),
     );
     Ok(())
 }

@@ -1,6 +1,7 @@
 //! The pairs that a subproblem keeps, and where it ends.
 ghost use Rattle.std.specs.Prelude.{◌≡◌};
 
+use crate::assertions::assert_same;
 use fleet_model::limits::{MAX_FLEETS, MAX_LEGS};
 use fleet_model::{Assignment, Kept, LoadError, Step, Tables};
 use std::alloc::Global;
@@ -70,14 +71,14 @@ fn seen_after(tables: &Tables, kept: &mut Kept, step: Step) -> Option<(Pairs, En
 fn all_pairs_that_have_a_cost_are_kept(rt: HostRuntime) -> Result<(), Fail> {
     let tables = round_trip(rt.alloc())?;
     let kept = Kept::all(&tables);
-    assert_eq!(rt; pairs_of(&kept), [[true, true], [true, false]]);
+    assert_same(&rt, pairs_of(&kept), [[true, true], [true, false]]);
     assert!(rt; !kept.kept(2, 0));
     assert!(rt; !kept.kept(MAX_LEGS as u32 - 1, MAX_FLEETS as u32 - 1));
     let no_end = Ends {
         bare_leg: None,
         sole: None,
     };
-    assert_eq!(rt; ends_of(&tables, &kept), no_end);
+    assert_same(&rt, ends_of(&tables, &kept), no_end);
     Ok(())
 }
 
@@ -116,8 +117,8 @@ fn steps_are_taken_and_taken_back(rt: HostRuntime) -> Result<(), Fail> {
     ];
     for (leg, fleet, yes, left, bare_leg, sole) in cases {
         let seen = seen_after(&tables, &mut kept, Step { leg, fleet, yes });
-        assert_eq!(rt; seen, Some((left, Ends { bare_leg, sole })));
-        assert_eq!(rt; pairs_of(&kept), [[true, true], [true, false]]);
+        assert_same(&rt, seen, Some((left, Ends { bare_leg, sole })));
+        assert_same(&rt, pairs_of(&kept), [[true, true], [true, false]]);
     }
     Ok(())
 }
@@ -141,13 +142,13 @@ fn steps_below_steps_are_taken_back_in_turn(rt: HostRuntime) -> Result<(), Fail>
         fleet: 1,
         yes: false,
     });
-    assert_eq!(rt; pairs_of(&kept), [[false, false], [false, false]]);
-    assert_eq!(rt; kept.bare_leg(&tables), Some(0));
+    assert_same(&rt, pairs_of(&kept), [[false, false], [false, false]]);
+    assert_same(&rt, kept.bare_leg(&tables), Some(0));
     kept.undo(third);
-    assert_eq!(rt; pairs_of(&kept), [[false, true], [false, false]]);
-    assert_eq!(rt; kept.bare_leg(&tables), Some(1));
+    assert_same(&rt, pairs_of(&kept), [[false, true], [false, false]]);
+    assert_same(&rt, kept.bare_leg(&tables), Some(1));
     kept.undo(second);
     kept.undo(first);
-    assert_eq!(rt; pairs_of(&kept), [[true, true], [true, false]]);
+    assert_same(&rt, pairs_of(&kept), [[true, true], [true, false]]);
     Ok(())
 }

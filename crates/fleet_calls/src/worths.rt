@@ -2,6 +2,7 @@
 ghost use Rattle.std.specs.Prelude.{IfOk};
 ghost use Rattle.dual_bound.specs.Prices.{ArePrices};
 
+use crate::assertions::assert_same;
 use dual_bound::worth::worth;
 use dual_bound::{PriceStep, Prices};
 use entries::{Entries, NoMemory};
@@ -66,8 +67,8 @@ fn without_prices_each_leg_takes_its_cheapest_fleet(rt: HostRuntime) -> Result<(
     let tables = read(rt.alloc(), &ROUND_TRIP)?;
     let kept = Kept::all(&tables);
     let prices = zero(rt.alloc(), &tables);
-    assert_eq!(rt; worth(&tables, &kept, &prices, 1), 180);
-    assert_eq!(rt; worth(&tables, &kept, &prices, 0), 0);
+    assert_same(&rt, worth(&tables, &kept, &prices, 1), 180);
+    assert_same(&rt, worth(&tables, &kept, &prices, 0), 0);
     Ok(())
 }
 
@@ -81,9 +82,9 @@ fn a_pair_that_is_not_kept_does_not_count(rt: HostRuntime) -> Result<(), Fail> {
         yes: false,
     });
     let prices = zero(rt.alloc(), &tables);
-    assert_eq!(rt; worth(&tables, &kept, &prices, 1), 200);
+    assert_same(&rt, worth(&tables, &kept, &prices, 1), 200);
     kept.undo(undo);
-    assert_eq!(rt; worth(&tables, &kept, &prices, 1), 180);
+    assert_same(&rt, worth(&tables, &kept, &prices, 1), 180);
     Ok(())
 }
 
@@ -91,7 +92,7 @@ fn a_pair_that_is_not_kept_does_not_count(rt: HostRuntime) -> Result<(), Fail> {
 fn a_price_is_added_at_departure_and_taken_off_at_readiness(rt: HostRuntime) -> Result<(), Fail> {
     let tables = read(rt.alloc(), &ROUND_TRIP)?;
     let prices = worth_20_all_day(rt.alloc(), &tables)?;
-    assert_eq!(rt; worth(&tables, &Kept::all(&tables), &prices, 1), 200);
+    assert_same(&rt, worth(&tables, &Kept::all(&tables), &prices, 1), 200);
     Ok(())
 }
 
@@ -103,8 +104,12 @@ fn without_aircraft_the_way_out_is_worth_something(rt: HostRuntime) -> Result<()
     };
     let tables = read(rt.alloc(), &no_aircraft)?;
     let prices = worth_1_until_departure(rt.alloc(), &tables)?;
-    assert_eq!(rt; worth(&tables, &Kept::all(&tables), &prices, 0), 1);
-    assert_eq!(rt; (prices.price(1, 0, 480), prices.price(1, 0, 481)), (1, 0));
+    assert_same(&rt, worth(&tables, &Kept::all(&tables), &prices, 0), 1);
+    assert_same(
+        &rt,
+        (prices.price(1, 0, 480), prices.price(1, 0, 481)),
+        (1, 0),
+    );
     Ok(())
 }
 
@@ -112,6 +117,6 @@ fn without_aircraft_the_way_out_is_worth_something(rt: HostRuntime) -> Result<()
 fn a_night_costs_rent(rt: HostRuntime) -> Result<(), Fail> {
     let tables = read(rt.alloc(), &BACK_BY_NIGHT)?;
     let prices = worth_1_until_departure(rt.alloc(), &tables)?;
-    assert_eq!(rt; worth(&tables, &Kept::all(&tables), &prices, 1), 179);
+    assert_same(&rt, worth(&tables, &Kept::all(&tables), &prices, 1), 179);
     Ok(())
 }

@@ -1,4 +1,5 @@
 //! The desks and the sinks, call by call: those in memory, and those over real files and the real output.
+use crate::assertions::{assert_same, assert_same_at};
 use plan_desk::{
     Desk, DeskError, DeskFile, FailingCall, FileDesk, MemoryDesk, MemorySink, Sink, SinkError,
     StdSink,
@@ -44,9 +45,9 @@ fn run_steps<R: Abort + Alloc<A = Global>, D: Desk>(
             Ok(bytes) => Ok(bytes.as_slice()),
             Err(error) => Err(*error),
         };
-        assert_eq!(rt; seen, *wanted, "step {number}");
+        assert_same_at(rt, number, seen, *wanted);
         let counted = (desk.taken(), desk.faults(), desk.blamed());
-        assert_eq!(rt; counted, *counts, "step {number}");
+        assert_same_at(rt, number, counted, *counts);
     }
     Ok(())
 }
@@ -114,8 +115,8 @@ fn a_desk_in_memory(rt: HostRuntime) -> Result<(), Fail> {
     let failing = vec![in alloc; FailingCall::after(3, 1), FailingCall::after(9, 2)]?;
     let mut desk = MemoryDesk::new(alloc, files, failing)?;
     run_steps(&rt, &mut desk, "d", IN_MEMORY)?;
-    assert_eq!(rt; desk.file("d/plan.csv"), Some(b"ot".as_slice()));
-    assert_eq!(rt; desk.file("d/costs.csv"), None);
+    assert_same(&rt, desk.file("d/plan.csv"), Some(b"ot".as_slice()));
+    assert_same(&rt, desk.file("d/costs.csv"), None);
     Ok(())
 }
 
@@ -124,12 +125,12 @@ fn a_sink_in_memory(rt: HostRuntime) -> Result<(), Fail> {
     let failing = vec![in rt.alloc(); FailingCall::at(2), FailingCall::after(4, 9)]?;
     let mut sink = MemorySink::new(failing);
     sink.put(b"ab")?;
-    assert_eq!(rt; sink.put(b"cd"), Err(SinkError::Failed));
-    assert_eq!(rt; sink.faults(), 1);
+    assert_same(&rt, sink.put(b"cd"), Err(SinkError::Failed));
+    assert_same(&rt, sink.faults(), 1);
     sink.put(b"e")?;
-    assert_eq!(rt; sink.put(b"fg"), Err(SinkError::Failed));
-    assert_eq!(rt; sink.had_no_memory(), false);
-    assert_eq!(rt; sink.put_bytes(), b"abefg".as_slice());
+    assert_same(&rt, sink.put(b"fg"), Err(SinkError::Failed));
+    assert_same(&rt, sink.had_no_memory(), false);
+    assert_same(&rt, sink.put_bytes(), b"abefg".as_slice());
     Ok(())
 }
 
@@ -166,7 +167,7 @@ fn real_files(rt: HostRuntime) -> Result<(), Fail> {
         fs::remove_file(&rt, *path)?;
     }
     fs::remove_dir(&rt, "edge")?;
-    assert_eq!(rt; (desk.faults(), desk.blamed()), (0, None));
+    assert_same(&rt, (desk.faults(), desk.blamed()), (0, None));
     Ok(())
 }
 
@@ -229,6 +230,6 @@ fn the_real_output(rt: HostRuntime) -> Result<(), Fail> {
     let mut sink = StdSink::new(&rt);
     sink.put(b"the output takes pieces\n")?;
     sink.put(b"")?;
-    assert_eq!(rt; sink.faults(), 0);
+    assert_same(&rt, sink.faults(), 0);
     Ok(())
 }

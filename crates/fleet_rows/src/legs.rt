@@ -1,7 +1,7 @@
 //! Texts of `legs.csv`.
 use crate::rows::Text;
 
-/// Texts that are refused.
+/// Texts that are refused for their header, a number of fields or bytes that are no text.
 pub const REFUSALS: &[Text] = &[
     // The first record isn't the header.
     (b"", b"bad input: legs.csv record 1 kind 1\n"),
@@ -44,6 +44,10 @@ pub const REFUSALS: &[Text] = &[
         b"flight,from,dep,to,arr\nX1,AAA,08:00,BBB,09:00\nX2,BBB,10:00,AAA,11:0\xFF\n",
         b"bad input: legs.csv record 3 kind 3\n",
     ),
+];
+
+/// Texts that are refused for a field or a record.
+pub const REFUSED_FIELDS: &[Text] = &[
     // The form of a flight, of a code, of a time.
     (
         b"flight,from,dep,to,arr\n,AAA,08:00,BBB,09:00\nX2,BBB,10:00,AAA,11:00\n",

@@ -27,12 +27,20 @@ fn stations(alloc: Global, more: u32) -> Result<Vec<u8>, Fail> {
     Ok(text)
 }
 
+// Puts a number in digits behind a text.
+fn push_number(alloc: Global, text: &mut Vec<u8>, number: u32) -> Result<(), Fail> {
+    let digits = format!(in alloc; "{number}")?;
+    text.extend_from_slice(digits.as_bytes())?;
+    Ok(())
+}
+
 // The fleets of the first run and more.
 fn fleets(alloc: Global, more: u32) -> Result<Vec<u8>, Fail> {
     let mut text = FLEETS.to_vec(alloc)?;
     for number in 0..more {
-        let line = format!(in alloc; "G{number},0,0\n")?;
-        text.extend_from_slice(line.as_bytes())?;
+        text.push(b'G')?;
+        push_number(alloc, &mut text, number)?;
+        text.extend_from_slice(b",0,0\n")?;
     }
     Ok(text)
 }
@@ -41,8 +49,9 @@ fn fleets(alloc: Global, more: u32) -> Result<Vec<u8>, Fail> {
 fn legs(alloc: Global, count: u32) -> Result<Vec<u8>, Fail> {
     let mut text = b"flight,from,dep,to,arr\n".to_vec(alloc)?;
     for number in 1..=count {
-        let line = format!(in alloc; "X{number},AAA,08:00,BBB,09:00\n")?;
-        text.extend_from_slice(line.as_bytes())?;
+        text.push(b'X')?;
+        push_number(alloc, &mut text, number)?;
+        text.extend_from_slice(b",AAA,08:00,BBB,09:00\n")?;
     }
     Ok(text)
 }
@@ -54,8 +63,11 @@ fn throughs(alloc: Global, count: u32) -> Result<Vec<u8>, Fail> {
     for arriving in 1..=45_u32 {
         for departing in 1..=45_u32 {
             if written < count {
-                let line = format!(in alloc; "X{arriving},X{departing},0\n")?;
-                text.extend_from_slice(line.as_bytes())?;
+                text.push(b'X')?;
+                push_number(alloc, &mut text, arriving)?;
+                text.extend_from_slice(b",X")?;
+                push_number(alloc, &mut text, departing)?;
+                text.extend_from_slice(b",0\n")?;
                 written += 1;
             }
         }

@@ -1,8 +1,8 @@
 //! The first run where calls of the desk and of the sink fail, some of them after they left some bytes.
-use crate::rows::{Cut, Failing, Laid, Row, SOLVE, files, row_of, run_outside, run_row, words};
+use crate::assertions::assert_same;
+use crate::rows::{Cut, Failing, Laid, Row, SOLVE, files, row_of, run_outside, run_row, status_of};
 use crate::statuses::{BAD_INPUT, DONE, FAULT};
 use crate::tables::{PLAN, PRICED_PROOF, ROTATION};
-use fleet_cli::run;
 use plan_desk::DeskFile::{Legs, Plan, Proof, Rotation};
 use plan_desk::{MemoryDesk, MemorySink};
 use std::alloc::Global;
@@ -100,6 +100,10 @@ const FIRST_RUN: &[(&str, Failing)] = &[
         SOLVE_LINE,
         ((&[OLD], FAULT, b"faul", &[]), &[(5, 0)], &[(1, 4)], 1, 1),
     ),
+];
+
+/// The same of commands that don't write.
+const READING: &[(&str, Failing)] = &[
     (
         JUDGE_LINE,
         (
@@ -145,6 +149,11 @@ fn calls_of_the_first_run(rt: HostRuntime) -> Result<(), Fail> {
     run_outside(&rt, FIRST_RUN)
 }
 
+#[test]
+fn calls_of_commands_that_read(rt: HostRuntime) -> Result<(), Fail> {
+    run_outside(&rt, READING)
+}
+
 // What a search proves is open, but what stands of it beside a call that fails is what stands without.
 #[test]
 fn calls_after_a_search(rt: HostRuntime) -> Result<(), Fail> {
@@ -170,9 +179,8 @@ fn searched<R: Abort + Alloc<A = Global>>(rt: &R) -> Result<Vec<u8>, Fail> {
     let alloc = rt.alloc();
     let mut desk = MemoryDesk::new(alloc, files(alloc, &[OLD])?, Vec::new(alloc))?;
     let mut sink = MemorySink::new(Vec::new(alloc));
-    let words = words(alloc, SOLVE)?;
-    let ended = run(alloc, words.as_slice(), &mut desk, &mut sink);
-    assert_eq!(rt; ended.code, DONE);
+    let status = status_of(alloc, SOLVE, &mut desk, &mut sink)?;
+    assert_same(rt, status, DONE);
     let proof = desk.file("d/proof.txt").expect(rt, "a proof was written");
     Ok(proof.to_vec(alloc)?)
 }

@@ -1,4 +1,5 @@
 //! Rows of tables of tests, and what runs them.
+use crate::assertions::assert_same_at;
 use crate::statuses::{DONE, FAULT};
 use crate::tables::{FIRST_RUN, LEGAL};
 use fleet_cli::run;
@@ -251,15 +252,12 @@ pub fn run_row<R: Abort + Alloc<A = Global>>(
     let (calls, puts) = row.failing;
     let mut desk = MemoryDesk::new(alloc, files(alloc, row.laid)?, failing(alloc, calls)?)?;
     let mut sink = MemorySink::new(failing(alloc, puts)?);
-    let words = words(alloc, row.words)?;
-    let status = run(alloc, words.as_slice(), &mut desk, &mut sink);
-    assert_eq!(rt; sink.put_bytes(), row.text, "row {number}");
-    assert_eq!(rt; status.code, row.status, "row {number}");
-    assert_eq!(rt; (desk.faults(), sink.faults()), row.faults, "row {number}");
-    assert!(rt;
-        !desk.had_no_memory() && !sink.had_no_memory(),
-        "row {number}"
-    );
+    let status = status_of(alloc, row.words, &mut desk, &mut sink)?;
+    assert_same_at(rt, number, sink.put_bytes(), row.text);
+    assert_same_at(rt, number, status, row.status);
+    assert_same_at(rt, number, (desk.faults(), sink.faults()), row.faults);
+    let had_no_memory = (desk.had_no_memory(), sink.had_no_memory());
+    assert_same_at(rt, number, had_no_memory, (false, false));
     for file in FOLDER {
         let name = path(alloc, file)?;
         assert!(rt;
@@ -268,6 +266,17 @@ pub fn run_row<R: Abort + Alloc<A = Global>>(
         );
     }
     Ok(())
+}
+
+/// The status with which a run of the words ends.
+pub fn status_of(
+    alloc: Global,
+    asked: &[&'static str],
+    desk: &mut MemoryDesk,
+    sink: &mut MemorySink,
+) -> Result<u8, Fail> {
+    let words = words(alloc, asked)?;
+    Ok(run(alloc, words.as_slice(), desk, sink).code)
 }
 
 /// The bytes of a file that are wanted after a run.
@@ -324,7 +333,7 @@ fn failing(alloc: Global, cuts: &[Cut]) -> Result<Vec<FailingCall>, Fail> {
 }
 
 /// Words on their own.
-pub fn words(alloc: Global, words: &[&'static str]) -> Result<Vec<String>, Fail> {
+fn words(alloc: Global, words: &[&'static str]) -> Result<Vec<String>, Fail> {
     let mut owned = Vec::new(alloc);
     for word in words {
         owned.push(String::from_str(alloc, word)?)?;

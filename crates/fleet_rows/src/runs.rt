@@ -1,4 +1,5 @@
-//! The worked runs, table by table. A test of more than some thousand bytes of tables costs far more than two of half.
+//! The worked runs, table by table. What a test's proof costs grows with about the square of the slices and texts in its
+//! tables: one of more than a hundred costs far more than two of half.
 use crate::rows::{
     CHECK, JUDGE, SOLVE, SOLVE_AT_ONCE, run_asked, run_cases, run_failing, run_writing,
 };
@@ -12,16 +13,24 @@ fn plans_that_are_judged(rt: HostRuntime) -> Result<(), Fail> {
 }
 
 #[test]
-fn balance_and_use(rt: HostRuntime) -> Result<(), Fail> {
-    run_cases(&rt, JUDGE, judging::FIRST_UNBALANCED)?;
+fn fleets_in_balance(rt: HostRuntime) -> Result<(), Fail> {
+    run_cases(&rt, JUDGE, judging::FIRST_UNBALANCED)
+}
+
+#[test]
+fn fleets_in_use(rt: HostRuntime) -> Result<(), Fail> {
     run_cases(&rt, JUDGE, using::USING)
 }
 
 #[test]
 fn files_in_their_order(rt: HostRuntime) -> Result<(), Fail> {
     run_cases(&rt, JUDGE, files::ORDER)?;
-    run_cases(&rt, JUDGE, files::NO_RECORDS)?;
     run_cases(&rt, JUDGE, faults::ORDER)
+}
+
+#[test]
+fn files_without_records(rt: HostRuntime) -> Result<(), Fail> {
+    run_cases(&rt, JUDGE, files::NO_RECORDS)
 }
 
 #[test]
@@ -35,8 +44,12 @@ const CHECK_FROM_THREE: &[&str] = &["fleetplan", "check", "d"];
 const CHECK_FROM_NINE: &[&str] = &["fleetplan", "check", "d", "--day-start", "09:00"];
 
 #[test]
+fn plans_beside_a_proof(rt: HostRuntime) -> Result<(), Fail> {
+    run_cases(&rt, CHECK, checking::REFUSED_PLANS)
+}
+
+#[test]
 fn proofs_in_their_order(rt: HostRuntime) -> Result<(), Fail> {
-    run_cases(&rt, CHECK, checking::REFUSED_PLANS)?;
     run_cases(&rt, CHECK, checking::ORDER)?;
     run_cases(&rt, CHECK_FROM_THREE, checking::FROM_THREE)?;
     run_cases(&rt, CHECK_FROM_NINE, checking::FROM_NINE)
@@ -44,8 +57,13 @@ fn proofs_in_their_order(rt: HostRuntime) -> Result<(), Fail> {
 
 #[test]
 fn runs_that_write(rt: HostRuntime) -> Result<(), Fail> {
-    run_writing(&rt, SOLVE, solving::SOLVED)?;
-    run_writing(&rt, SOLVE_AT_ONCE, solving::AT_ONCE)
+    run_writing(&rt, SOLVE, solving::SOLVED)
+}
+
+#[test]
+fn runs_without_pivots(rt: HostRuntime) -> Result<(), Fail> {
+    run_writing(&rt, SOLVE_AT_ONCE, solving::AT_ONCE)?;
+    run_failing(&rt, SOLVE_AT_ONCE, solving::CALLS_AT_ONCE)
 }
 
 #[test]
@@ -90,14 +108,25 @@ fn plans_that_tails_refuses(rt: HostRuntime) -> Result<(), Fail> {
 
 #[test]
 fn tables_that_are_made(rt: HostRuntime) -> Result<(), Fail> {
-    run_asked(&rt, making::MADE)?;
+    run_asked(&rt, making::MADE)
+}
+
+#[test]
+fn calls_of_a_make(rt: HostRuntime) -> Result<(), Fail> {
     run_failing(&rt, making::MAKE, making::CALLS)
 }
 
 #[test]
-fn calls_that_fail(rt: HostRuntime) -> Result<(), Fail> {
-    run_failing(&rt, JUDGE, faults::CALLS)?;
-    run_failing(&rt, CHECK, checking::CALLS)?;
-    run_failing(&rt, SOLVE, solving::CALLS)?;
-    run_failing(&rt, SOLVE_AT_ONCE, solving::CALLS_AT_ONCE)
+fn calls_of_a_judge(rt: HostRuntime) -> Result<(), Fail> {
+    run_failing(&rt, JUDGE, faults::CALLS)
+}
+
+#[test]
+fn calls_of_a_check(rt: HostRuntime) -> Result<(), Fail> {
+    run_failing(&rt, CHECK, checking::CALLS)
+}
+
+#[test]
+fn calls_of_a_solve(rt: HostRuntime) -> Result<(), Fail> {
+    run_failing(&rt, SOLVE, solving::CALLS)
 }

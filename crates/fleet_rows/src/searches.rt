@@ -1,7 +1,7 @@
 //! Solves, each followed by a check of the files that it leaves.
-use crate::rows::{CHECK, Laid, files, words};
+use crate::assertions::assert_same_at;
+use crate::rows::{CHECK, Laid, files, status_of};
 use crate::statuses::DONE;
-use fleet_cli::run;
 use plan_desk::{MemoryDesk, MemorySink};
 use std::alloc::Global;
 use std::process::Abort;
@@ -90,10 +90,9 @@ pub fn run_quietly<R: Abort + Alloc<A = Global>>(
 ) -> Result<(), Fail> {
     let alloc = rt.alloc();
     let mut sink = MemorySink::new(Vec::new(alloc));
-    let words = words(alloc, asked)?;
-    let ended = run(alloc, words.as_slice(), desk, &mut sink);
+    let seen = status_of(alloc, asked, desk, &mut sink)?;
     assert!(rt; is_known(sink.put_bytes(), text), "search {number}: output");
-    assert_eq!(rt; ended.code, status, "search {number}");
+    assert_same_at(rt, number, seen, status);
     Ok(())
 }
 

@@ -1,7 +1,7 @@
 //! Texts of `stations.csv`.
 use crate::rows::Text;
 
-/// Texts that are refused.
+/// Texts that are refused for their header, a number of fields or bytes that are no text.
 pub const REFUSALS: &[Text] = &[
     // The first record isn't the header.
     (b"", b"bad input: stations.csv record 1 kind 1\n"),
@@ -72,6 +72,10 @@ pub const REFUSALS: &[Text] = &[
         b"code,extra,maintenance\nAAA,0,yes\nBBB,0,no\x80\n",
         b"bad input: stations.csv record 3 kind 3\n",
     ),
+];
+
+/// Texts that are refused for a field or a record.
+pub const REFUSED_FIELDS: &[Text] = &[
     // The form of a code, of a number, of a flag.
     (
         b"code,extra,maintenance\n,0,yes\nBBB,0,no\n",

@@ -11,6 +11,11 @@ fn stations_that_are_refused(rt: HostRuntime) -> Result<(), Fail> {
 }
 
 #[test]
+fn fields_of_stations_that_are_refused(rt: HostRuntime) -> Result<(), Fail> {
+    run_texts(&rt, JUDGE, Stations, BAD_INPUT, stations::REFUSED_FIELDS)
+}
+
+#[test]
 fn fleets_that_are_refused(rt: HostRuntime) -> Result<(), Fail> {
     run_texts(&rt, JUDGE, Fleets, BAD_INPUT, fleets::REFUSALS)
 }
@@ -18,6 +23,11 @@ fn fleets_that_are_refused(rt: HostRuntime) -> Result<(), Fail> {
 #[test]
 fn legs_that_are_refused(rt: HostRuntime) -> Result<(), Fail> {
     run_texts(&rt, JUDGE, Legs, BAD_INPUT, legs::REFUSALS)
+}
+
+#[test]
+fn fields_of_legs_that_are_refused(rt: HostRuntime) -> Result<(), Fail> {
+    run_texts(&rt, JUDGE, Legs, BAD_INPUT, legs::REFUSED_FIELDS)
 }
 
 #[test]

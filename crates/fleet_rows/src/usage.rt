@@ -259,8 +259,12 @@ fn lines_that_ask_for_nothing(rt: HostRuntime) -> Result<(), Fail> {
 #[test]
 fn lines_without_rotations(rt: HostRuntime) -> Result<(), Fail> {
     run_lines(&rt, NO_ROTATIONS_TO_SOLVE, REFUSED_WORDS)?;
+    run_lines(&rt, NOTHING_TO_MAKE, REFUSED_WORDS)
+}
+
+#[test]
+fn lines_without_dates(rt: HostRuntime) -> Result<(), Fail> {
     run_lines(&rt, NOTHING_TO_FLY, REFUSED_WORDS)?;
-    run_lines(&rt, NOTHING_TO_MAKE, REFUSED_WORDS)?;
     run_lines(&rt, NO_DATES, REFUSED_WORDS)
 }
 

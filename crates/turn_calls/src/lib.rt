@@ -1,7 +1,9 @@
-//! Calls of the libraries of turns and rotations on worked sets of tables: each public call once, with the answer that
-//! is wanted. There is no code here but that of the tests.
+//! Calls of the libraries of turns, islands and rotations on worked sets of tables: each public call once, with the
+//! answer that is wanted. There is no code here but that of the tests.
 #![tactic(auto)]
 
+#[cfg(test)]
+mod islands;
 #[cfg(test)]
 mod joins;
 #[cfg(test)]

@@ -1,5 +1,5 @@
 use Rattle.fleet_model.specs.Kept.{kept_by}
-use Rattle.fleet_calls.proofs.SignEnds.{best_by_signs, refused_by_row}
+use Rattle.node_bounding.proofs.SignEnds.{best_by_signs, refused_by_row}
 use Rattle.fleet_calls.proofs.sign_lifts.lifted_by_signs.Goals as goal
 
 pub lift_best_by_signs-requires-clause-ends : goal.lift_best_by_signs-requires-clause-ends
