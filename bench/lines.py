@@ -22,12 +22,18 @@ def minute(clock):
 
 
 def schedule(number, legs):
-    """The fleets (aircraft, turn) and the legs (from, departure, to, block, costs by fleet) of a made schedule."""
+    """Fleets, legs and number of stations of a made schedule (`read`)."""
     with tempfile.TemporaryDirectory() as folder:
         schedules.make(folder, number, legs)
-        stations, fleets, flights, pairs = (
-            schedules.rows(folder, name) for name in ("stations.csv", "fleets.csv", "legs.csv", "costs.csv")
-        )
+        return read(folder)
+
+
+def read(folder):
+    """The fleets (aircraft, turn), the legs (from, departure, to, minutes without the turn, costs by fleet), each of which all
+    fleets may fly, and the number of stations of a folder's tables."""
+    stations, fleets, flights, pairs = (
+        schedules.rows(folder, name) for name in ("stations.csv", "fleets.csv", "legs.csv", "costs.csv")
+    )
     place = {row["code"]: at for at, row in enumerate(stations)}
     costs = {row["flight"]: [] for row in flights}
     for pair in pairs:
@@ -37,7 +43,7 @@ def schedule(number, legs):
             place[row["from"]],
             (minute(row["dep"]) - DAY_START) % DAY,
             place[row["to"]],
-            (minute(row["arr"]) - minute(row["dep"])) % DAY,
+            (minute(row["arr"]) - minute(row["dep"])) % DAY + int(stations[place[row["to"]]]["extra"]),
             costs[row["flight"]],
         )
         for row in flights
@@ -60,20 +66,20 @@ def node_at(starts, minute):
     return max(k for k, start in enumerate(starts) if start <= minute)
 
 
-def lines_of(fleets, legs, stations):
-    """The lines, each with its right side last, and the costs."""
+def lines_of(fleets, legs, stations, goes=lambda nodes, node, departures, readies, station: False):
+    """The lines, each with its right side last, and the costs; without the ground arcs that go."""
     pairs = []
     for leg, (origin, departure, target, block, costs) in enumerate(legs):
         for fleet, (_, turn) in enumerate(fleets):
             ready, nights = (departure + block + turn) % DAY, (departure + block + turn) // DAY
             pairs.append((leg, fleet, origin, departure, target, ready, nights, costs[fleet]))
-    starts = {}
+    starts, arcs = {}, []
     for fleet in range(len(fleets)):
         for station in range(stations):
             departures = [p[3] for p in pairs if p[1] == fleet and p[2] == station]
             readies = [p[5] for p in pairs if p[1] == fleet and p[4] == station]
-            starts[fleet, station] = nodes_of(departures, readies)
-    arcs = [(f, s, k) for (f, s), nodes in starts.items() for k in range(len(nodes))]
+            nodes = starts[fleet, station] = nodes_of(departures, readies)
+            arcs += [(fleet, station, k) for k in range(len(nodes)) if not goes(nodes, k, departures, readies, station)]
     columns = len(pairs) + len(arcs) + len(fleets)
 
     lines = []
@@ -83,7 +89,7 @@ def lines_of(fleets, legs, stations):
             line[column] = int(pair[0] == leg)
         line[columns] = 1
         lines.append(line)
-    for fleet, station, node in arcs:
+    for fleet, station, node in [(f, s, k) for (f, s), nodes in starts.items() for k in range(len(nodes))]:
         nodes = starts[fleet, station]
         line = [0] * (columns + 1)
         for column, (_, f, origin, departure, target, ready, _, _) in enumerate(pairs):
