@@ -12,7 +12,7 @@ pub *ℤ-int_div : (n : ℤ) (d : ℕ) → d ∣ unsigned_abs n → pos d *ℤ i
 *ℤ-int_div (pos a) d h = ap pos (mul-div_cancel' d h)
 *ℤ-int_div (negsuc a) d h = *ℤ-neg_ℤ (pos d) (pos (suc a / d)) ∙ ap (λ k. neg_ℤ (pos k)) (mul-div_cancel' d h)
 
-size-neg_ℤ : (n : ℕ) → unsigned_abs (neg_ℤ (pos n)) ≡ n
+pub size-neg_ℤ : (n : ℕ) → unsigned_abs (neg_ℤ (pos n)) ≡ n
 size-neg_ℤ zero = refl
 size-neg_ℤ (suc n) = refl
 

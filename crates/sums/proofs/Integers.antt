@@ -48,6 +48,9 @@ pub *ℤ_assoc : (a b c : ℤ) → (a *ℤ b) *ℤ c ≡ a *ℤ (b *ℤ c)
 pub one-*ℤ : (a : ℤ) → pos 1 *ℤ a ≡ a
 one-*ℤ a = suc_ℤ-*ℤ (pos zero) a ∙ omega (arith, ints, zero-*ℤ a)
 
+pub minus_one-*ℤ : (a : ℤ) → neg_ℤ (pos 1) *ℤ a ≡ neg_ℤ a
+minus_one-*ℤ a = omega (arith, ints, neg_ℤ-*ℤ (pos 1) a, one-*ℤ a)
+
 -- the product's order of factors
 pub *ℤ_left_comm : (a b c : ℤ) → a *ℤ (b *ℤ c) ≡ b *ℤ (a *ℤ c)
 *ℤ_left_comm a b c = sym (*ℤ_assoc a b c) ∙ ap (λ x. x *ℤ c) (*ℤ_comm a b) ∙ *ℤ_assoc b a c

@@ -16,4 +16,6 @@ pub mod WholeTerms
 pub mod Signs
 pub mod Tests
 pub mod Naturals
+pub mod NumberTests
 pub mod Sizes
+pub mod Turned

@@ -35,6 +35,27 @@ zero_at_most k le = omega arith
 pub past_is_other : (m k n : ℕ) → n ≤ m → k < n → m ≡ k → ⊥
 past_is_other m k n p q e = omega arith
 
+pub last_below : (k n : ℕ) → k < n + 1 → n ≤ k → k ≡ n
+last_below k n below past = omega arith
+
+pub at_end : (k n longer : ℕ) → k < longer → n ≤ k → longer ≡ n + 1 → k ≡ n
+at_end k n longer below past e = omega arith
+
+pub below_next : (m n : ℕ) → m < n → m < suc n
+below_next m n less = omega arith
+
+pub some_above : {m n : ℕ} → m < n → 0 < n
+some_above less = omega arith
+
+pub one_is_some : (n : ℕ) → n ≡ 1 → 0 < n
+one_is_some n e = omega arith
+
+pub none_is_some : {n : ℕ} → n ≡ 0 → 0 < n → ⊥
+none_is_some e some = omega arith
+
+pub less_alike : (a b c d : ℕ) → a ≡ b → c ≡ d → b < d → a < c
+less_alike a b c d p q less = omega arith
+
 -- ---- sums and differences
 pub plus_0 : (n : ℕ) → n + 0 ≡ n
 plus_0 n = omega arith
@@ -47,6 +68,15 @@ sum_less_first m n = omega arith
 
 pub place_behind : (m n k : ℕ) → m + n - m ≡ k → k ≡ n
 place_behind m n k e = omega arith
+
+pub suc_moved : (m n : ℕ) → suc m + n ≡ m + suc n
+suc_moved m n = omega arith
+
+pub less_two : (m n : ℕ) → m + 2 ≡ n → m ≡ n - 2
+less_two m n e = omega arith
+
+pub one_behind : (n : ℕ) → 0 < n → n ≡ suc (n - 1)
+one_behind n some = omega arith
 
 pub as_a_sum : (n a : ℕ) → a ≤ n → n ≡ a + (n - a)
 as_a_sum n a order = omega arith

@@ -1,5 +1,5 @@
 -- Lists that are filled place by place, and first places.
-use Rattle.std.proofs.Common.{◌≡◌, ℕ, zero, suc, ◌+◌, ◌<◌, ◌≤◌, ◌≢◌, List, [], ◌∷◌, ◌++◌, length, get_or, set, Option, Some, None, refl, sym, ◌∙◌, ap, subst, arith, inl, inr, length-set, get_or-set_same, get_or-set_other}
+use Rattle.std.proofs.Common.{◌≡◌, ℕ, zero, suc, ◌+◌, ◌<◌, ◌≤◌, ◌≢◌, List, [], ◌∷◌, ◌++◌, length, get_or, set, Option, Some, None, refl, sym, ◌∙◌, ap, subst, arith, inl, inr, length-set, add-one, get_or-set_same, get_or-set_other}
 use Rattle.std.proofs.lemmas.List.FromFn.{fill_by_all, length-map-range_with_len, get_or-map-range_with_len, map-range_with_len_more}
 use Rattle.std.proofs.lemmas.Bool.{cases_lt}
 use Rattle.sums.proofs.Naturals.{at_most_0, none_below_0}
@@ -100,3 +100,12 @@ filled_kept {X} d f old new n h e = record {
 
     here : (k : ℕ) → k ≡ n → get_or new k d ≡ f k
     here k same = subst (λ i. get_or new i d ≡ f i) (sym same) (h.kept n (omega arith) ∙ e)
+
+-- lists of equal entries are equal
+pub list_below-agree : {X : Type 0} (f g : ℕ → X) (n : ℕ) → ((k : ℕ) → k < n → f k ≡ g k) → list_below f n ≡ list_below g n
+list_below-agree f g zero same = refl
+list_below-agree {X} f g (suc n) same =
+    ap (list_below f) (sym (add-one n)) ∙ list_below-more f n
+    ∙ ap (λ xs. xs ++ f n ∷ []) (list_below-agree f g n (λ k below. same k (omega arith)))
+    ∙ ap (λ x. list_below g n ++ x ∷ []) (same n (omega arith))
+    ∙ sym (list_below-more g n) ∙ ap (list_below g) (add-one n)

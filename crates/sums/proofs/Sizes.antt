@@ -1,5 +1,5 @@
 -- Signs and sizes of single whole numbers, for the crates above.
-use Rattle.std.proofs.Common.{◌≡◌, ℕ, ◌<◌, ℤ, pos, ◌+ℤ◌, ◌-ℤ◌, ◌<ℤ◌, ◌≤ℤ◌, unsigned_abs, arith}
+use Rattle.std.proofs.Common.{◌≡◌, ℕ, ◌<◌, Bool, true, false, eqb, int_lt, ℤ, pos, ◌+ℤ◌, ◌-ℤ◌, ◌<ℤ◌, ◌≤ℤ◌, unsigned_abs, refl, arith}
 use Rattle.std.proofs.lemmas.Int.{ints}
 use lib.IntN.{neg_ℤ}
 
@@ -13,12 +13,27 @@ pos_above n h = omega (arith, ints)
 pub opposite_some : (z : ℤ) → z ≤ℤ pos 0 → pos 0 ≤ℤ neg_ℤ z
 opposite_some z h = omega (arith, ints)
 
+pub opposite_above : (z : ℤ) → z <ℤ pos 0 → pos 0 <ℤ neg_ℤ z
+opposite_above z h = omega (arith, ints)
+
+pub above_is_other : (z : ℤ) → pos 0 <ℤ z → z ≡ pos 0 → ⊥
+above_is_other z h e = omega (arith, ints)
+
+pub above_tested : (z : ℤ) → int_lt (pos 0) z ≡ true → pos 0 <ℤ z
+above_tested z e = grind (arith, ints)
+
+pub not_above_tested : (z : ℤ) → int_lt (pos 0) z ≡ false → z ≤ℤ pos 0
+not_above_tested z e = grind (arith, ints)
+
 -- ---- sizes
 pub zero_size : (z : ℤ) → unsigned_abs z ≡ 0 → z ≡ pos 0
 zero_size z e = omega (arith, ints)
 
 pub size_of_zero : (z : ℤ) → z ≡ pos 0 → unsigned_abs z ≡ 0
 size_of_zero z e = omega (arith, ints)
+
+pub zero_size_tested : (z : ℤ) → z ≡ pos 0 → eqb (unsigned_abs z) 0 ≡ true
+zero_size_tested z e = rw e refl
 
 pub size_above : (z : ℤ) → pos 0 <ℤ z → 0 < unsigned_abs z
 size_above z h = omega (arith, ints)

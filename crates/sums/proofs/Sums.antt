@@ -1,8 +1,9 @@
 -- The laws of sums below a bound.
-use Rattle.std.proofs.Common.{◌≡◌, ℕ, zero, suc, ◌+◌, ◌*◌, ◌<◌, ◌≤◌, Bool, if◌then◌else◌, ◌==◌, refl, sym, inl, inr, arith}
+use Rattle.std.proofs.Common.{◌≡◌, ℕ, zero, suc, ◌+◌, ◌*◌, ◌<◌, ◌≤◌, Bool, if◌then◌else◌, ◌==◌, refl, sym, ◌∙◌, inl, inr, arith}
 use Rattle.std.proofs.lemmas.Bool.{cases_lt}
 use Rattle.std.proofs.lemmas.Bool.Decides.{nat_tests}
 use Rattle.sums.specs.Below.{sum_below, count_below}
+use Rattle.sums.proofs.NumberTests.{if_at}
 
 -- two functions agree below a bound
 pub record AgreeBelow (f g : ℕ → ℕ) (n : ℕ) : Type 0 where
@@ -54,6 +55,16 @@ sum_below-one place value (suc n) within = elim (cases_lt place n) [
   | inl before ↦ let front = sum_below-one place value n before in grind (arith, nat_tests)
   | inr last ↦ let front = sum_below-none place value n last in grind (arith, nat_tests)
 ]
+
+pub sum_below-at : (place n : ℕ) (f : ℕ → ℕ) → place < n → sum_below (λ k. if place == k then f k else 0) n ≡ f place
+sum_below-at place n f within =
+    sum_below-agree (λ k. if place == k then f k else 0) (λ k. if place == k then f place else 0) n (record { each = λ k below. if_at place k f })
+    ∙ sum_below-one place (f place) n within
+
+-- one for each number
+pub sum_below-ones : (n : ℕ) → sum_below (λ k. 1) n ≡ n
+sum_below-ones zero = refl
+sum_below-ones (suc n) = omega (arith, sum_below-ones n)
 
 -- so many terms, each no more than a bound
 pub sum_below-bound : (f : ℕ → ℕ) (most n : ℕ) → NoMoreBelow f (λ k. most) n → sum_below f n ≤ n * most

@@ -18,6 +18,12 @@ pub never_passes : (b : Bool) → (b ≡ true → ⊥) → b ≡ false
 never_passes true never = absurd (never refl)
 never_passes false never = refl
 
+-- two tests that pass together
+pub same_tests : (a b : Bool) → (a ≡ true → b ≡ true) → (b ≡ true → a ≡ true) → a ≡ b
+same_tests true b p q = sym (p refl)
+same_tests false true p q = q refl
+same_tests false false p q = refl
+
 -- two tests in one
 pub both_true : (a b : Bool) → a ≡ true → b ≡ true → (a && b) ≡ true
 both_true true b p q = q
@@ -61,6 +67,14 @@ picked false x y e = absurd (false≢true e)
 pub passed_over : {X : Type 0} (b : Bool) (x y : X) → b ≡ false → y ≡ cond b x y
 passed_over false x y e = refl
 passed_over true x y e = unlike e
+
+pub first_fails : {X : Type 0} (a b : Bool) (x y : X) → a ≡ false → cond (a && b) x y ≡ y
+first_fails false b x y e = refl
+first_fails true b x y e = unlike e
+
+pub by_choice : {X : Type 0} (P : X → Type 0) (b : Bool) (x y : X) → (b ≡ true → P x) → (b ≡ false → P y) → P (cond b x y)
+by_choice P true x y p q = p refl
+by_choice P false x y p q = q refl
 
 -- what may be there
 pub some_is : {X : Type 0} (x y : X) → Some x ≡ Some y → x ≡ y

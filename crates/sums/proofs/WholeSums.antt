@@ -25,3 +25,6 @@ sum_below_ℤ-pos f (suc n) = omega (arith, ints, sum_below_ℤ-pos f n)
 pub sum_below_ℤ--ℤ : (f g : ℕ → ℤ) (n : ℕ) → sum_below_ℤ (λ k. f k -ℤ g k) n ≡ sum_below_ℤ f n -ℤ sum_below_ℤ g n
 sum_below_ℤ--ℤ f g zero = refl
 sum_below_ℤ--ℤ f g (suc n) = omega (arith, ints, sum_below_ℤ--ℤ f g n)
+
+pub sum_below_ℤ-of_differences : (f g : ℕ → ℕ) (n : ℕ) → sum_below_ℤ (λ k. pos (f k) -ℤ pos (g k)) n ≡ pos (sum_below f n) -ℤ pos (sum_below g n)
+sum_below_ℤ-of_differences f g n = sum_below_ℤ--ℤ (λ k. pos (f k)) (λ k. pos (g k)) n ∙ omega (arith, ints, sum_below_ℤ-pos f n, sum_below_ℤ-pos g n)

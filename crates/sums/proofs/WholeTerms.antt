@@ -20,6 +20,16 @@ at_least_0 f (suc n) h =
     let before : pos 0 ≤ℤ sum_below_ℤ f n = at_least_0 f n (λ k lt. h k (omega arith)) in
     omega (arith, ints, h n (omega arith))
 
+-- such a term is no more than the sum
+pub term_within : (f : ℕ → ℤ) (n k : ℕ) → k < n → ((j : ℕ) → j < n → pos 0 ≤ℤ f j) → f k ≤ℤ sum_below_ℤ f n
+term_within f zero k below some = absurd (omega arith)
+term_within f (suc n) k below some = elim (cases_lt k n) [
+  | inl less ↦ omega (arith, ints, term_within f n k less (λ j within. some j (omega arith)), some n (omega arith))
+  | inr last ↦
+      let same : n ≡ k = omega arith in
+      subst (λ j. f j ≤ℤ sum_below_ℤ f (suc n)) same (omega (arith, ints, at_least_0 f n (λ j within. some j (omega arith))))
+]
+
 -- where it is 0, each of them is
 pub each_is_0 : (f : ℕ → ℤ) (n k : ℕ) → ((k : ℕ) → k < n → pos 0 ≤ℤ f k) → sum_below_ℤ f n ≡ pos 0 → k < n → f k ≡ pos 0
 each_is_0 f zero k h e lt = absurd (omega arith)
