@@ -1,8 +1,8 @@
 -- Two rows that exchange their columns.
 use Rattle.std.proofs.Common.{◌≡◌, ◌≢◌, ℕ, ◌<◌, ◌⊎◌, List, length, slice_index, slice_set, sym, ◌∙◌, ap, subst, inl, inr, length-set, get_or-set_same, get_or-set_other}
+use Rattle.std.proofs.lemmas.Bool.{cases_eq}
 use Rattle.best_matching.specs.Drafts.{AreExchanged, IsPairing, column_of, row_of}
 use Rattle.best_matching.specs.declared.draft.Draft.{Draft}
-use Rattle.best_matching.proofs.WideningTree.{equal_or_not}
 
 -- places of a list in which two were written
 second : (xs ys : List ℕ) (i j x y : ℕ) → ys ≡ slice_set (slice_set xs i x) j y → j < length xs → slice_index ys j ≡ y
@@ -26,7 +26,7 @@ pub record HaveExchanged (size : ℕ) (old new : Draft) (one other : ℕ) : Type
 pub exchanged_columns : (size : ℕ) (old new : Draft) (one other : ℕ) → IsPairing size old → one < size → other < size → AreExchanged old new one other
     → HaveExchanged size old new one other
 exchanged_columns size old new one other p one_lt other_lt e = record {
-  at_one = elim (equal_or_not one other) [
+  at_one = elim (cases_eq one other) [
     | inl same ↦
         ap (column_of new) same ∙ second old.columns new.columns one other _ _ e.columns (wide other other_lt) ∙ ap (column_of old) same
     | inr differ ↦ first old.columns new.columns one other _ _ e.columns (wide one one_lt) differ
@@ -87,15 +87,15 @@ exchanged_pairing size old new one other p one_lt other_lt e = record {
     wide k lt = subst (λ n. k < n) (sym p.rows) lt
 
     row_cases : (row : ℕ) → (row ≡ one) ⊎ ((row ≡ other) ⊎ ((row ≢ one) × (row ≢ other)))
-    row_cases row = elim (equal_or_not row one) [
+    row_cases row = elim (cases_eq row one) [
       | inl same ↦ inl same
-      | inr ne ↦ elim (equal_or_not row other) [ inl same ↦ inr (inl same) | inr ne_other ↦ inr (inr (ne, ne_other)) ]
+      | inr ne ↦ elim (cases_eq row other) [ inl same ↦ inr (inl same) | inr ne_other ↦ inr (inr (ne, ne_other)) ]
     ]
 
     column_cases : (column : ℕ) → (column ≡ column_of old one) ⊎ ((column ≡ column_of old other) ⊎ ((column ≢ column_of old one) × (column ≢ column_of old other)))
-    column_cases column = elim (equal_or_not column (column_of old one)) [
+    column_cases column = elim (cases_eq column (column_of old one)) [
       | inl same ↦ inl same
-      | inr ne ↦ elim (equal_or_not column (column_of old other)) [ inl same ↦ inr (inl same) | inr ne_other ↦ inr (inr (ne, ne_other)) ]
+      | inr ne ↦ elim (cases_eq column (column_of old other)) [ inl same ↦ inr (inl same) | inr ne_other ↦ inr (inr (ne, ne_other)) ]
     ]
 
     -- rows that differ have columns that differ, and the other way
@@ -109,7 +109,7 @@ exchanged_pairing size old new one other p one_lt other_lt e = record {
     row_one = second old.rows new.rows (column_of old other) (column_of old one) one other e.rows (wide (column_of old one) (p.column_within one one_lt))
 
     row_other : row_of new (column_of old other) ≡ one
-    row_other = elim (equal_or_not one other) [
+    row_other = elim (cases_eq one other) [
       | inl same ↦ ap (λ k. row_of new (column_of old k)) (sym same) ∙ row_one ∙ sym same
       | inr differ ↦ first old.rows new.rows (column_of old other) (column_of old one) one other e.rows (wide (column_of old other) (p.column_within other other_lt))
           (apart other one other_lt one_lt (λ same. differ (sym same)))

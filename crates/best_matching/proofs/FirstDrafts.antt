@@ -2,6 +2,7 @@
 use Rattle.std.proofs.Common.{◌≡◌, ℕ, ◌<◌, ◌≤◌, List, length, slice_index, ◌∙◌, ap, arith}
 use Rattle.sums.specs.Places.{list_below}
 use Rattle.sums.proofs.Places.{get_or-list_below, length-list_below}
+use Rattle.sums.proofs.Naturals.{none_below_0}
 use Rattle.best_matching.specs.Worths.{worth_at}
 use Rattle.best_matching.specs.Drafts.{HasDuals, IsMatched, IsPairing, row_dual}
 use Rattle.best_matching.specs.declared.matching.TheConstants.{MAX_WORTH}
@@ -26,14 +27,10 @@ first_pairing n draft columns rows row_duals column_duals = record {
 pub first_matched : (worths : List (List ℕ)) (draft : Draft) → draft.columns ≡ list_below (λ k. k) (length worths)
     → draft.column_duals ≡ list_below (λ k. 0) (length worths) → IsMatched worths draft 0 (length worths)
 first_matched worths draft columns column_duals = record {
-  meet = λ row below. absurd (none row below);
+  meet = λ row below. absurd (none_below_0 row below);
   unused = λ row lt _ _. ap (slice_index draft.column_duals) (in_order (length worths) row draft.columns columns lt)
       ∙ ap (λ ys. slice_index ys row) column_duals ∙ get_or-list_below (λ k. 0) (length worths) row 0 lt;
 }
-  where
-    none : (k : ℕ) → k < 0 → ⊥
-    none k h = omega arith
-
 pub first_duals : (worths : List (List ℕ)) (draft : Draft) → draft.column_duals ≡ list_below (λ k. 0) (length worths)
     → ((row column : ℕ) → row < length worths → column < length worths → worth_at worths row column ≤ row_dual draft row)
     → ((row : ℕ) → row < length worths → row_dual draft row ≤ MAX_WORTH) → HasDuals worths draft

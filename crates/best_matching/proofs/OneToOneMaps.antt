@@ -1,11 +1,11 @@
 -- Sums along a one-to-one map.
-use Rattle.std.proofs.Common.{◌≡◌, ℕ, zero, suc, ◌+◌, ◌*◌, ◌<◌, ◌≤◌, ◌==◌, Bool, true, false, if◌then◌else◌, refl, sym, ◌∙◌, ap, subst, inl, inr, arith}
-use Rattle.std.proofs.lemmas.Bool.{cases_lt}
+use Rattle.std.proofs.Common.{◌≡◌, ℕ, zero, suc, ◌+◌, ◌*◌, ◌<◌, ◌≤◌, ◌==◌, Bool, true, false, if◌then◌else◌, sym, ◌∙◌, ap, subst, inl, inr, arith}
+use Rattle.std.proofs.lemmas.Bool.{cases_lt, eqb-true}
 use Rattle.std.proofs.lemmas.Bool.Decides.{nat_tests}
 use Rattle.sums.specs.Below.{count_below, sum_below}
-use Rattle.sums.proofs.Sums.{sum_below-agree, sum_below-bound, sum_below-one, sum_below-swap}
+use Rattle.sums.proofs.Sums.{sum_below-agree, sum_below-bound, sum_below-one, sum_below-ones, sum_below-swap}
+use Rattle.sums.proofs.Counts.{count_below-no_two, count_below-none}
 use Rattle.best_matching.specs.Worths.{IsOneToOne}
-use Rattle.best_matching.proofs.Planting.{none_passes}
 
 -- a value at one place alone
 at_place : (f : ℕ → ℕ) (place n : ℕ) → place < n → sum_below (λ j. if place == j then f j else 0) n ≡ f place
@@ -32,33 +32,8 @@ over_map f map n within =
     ∙ sum_below-swap (λ k j. if map k == j then f j else 0) n n
     ∙ sum_below-agree (λ j. sum_below (λ k. if map k == j then f j else 0) n) (λ j. f j * count_below (λ k. map k == j) n) n (record { each = λ j _. as_often (λ k. map k == j) (f j) n })
 
--- where no two numbers pass, at most one does
-pub count_below-no_two : (p : ℕ → Bool) (n : ℕ) → ((j k : ℕ) → j < n → k < n → p j ≡ true → p k ≡ true → j ≡ k) → count_below p n ≤ 1
-count_below-no_two p zero alone = omega arith
-count_below-no_two p (suc n) alone = either (p n) refl (count_below-no_two p n (λ j k j_lt k_lt. alone j k (omega arith) (omega arith)))
-  where
-    fails : p n ≡ true → (k : ℕ) → k < n → (b : Bool) → b ≡ p k → p k ≡ false
-    fails last k lt true e = let same : k ≡ n = alone k n (omega arith) (omega arith) (sym e) last in absurd (omega arith)
-    fails last k lt false e = sym e
-
-    one : (b : Bool) (count : ℕ) → b ≡ true → count ≡ 0 → count + (if b then 1 else 0) ≤ 1
-    one true count e f = omega arith
-    one false count e f = cc
-
-    none : (b : Bool) (count : ℕ) → b ≡ false → count ≤ 1 → count + (if b then 1 else 0) ≤ 1
-    none false count e le = omega arith
-    none true count e le = cc
-
-    either : (b : Bool) → b ≡ p n → count_below p n ≤ 1 → count_below p n + (if p n then 1 else 0) ≤ 1
-    either true e before = one (p n) (count_below p n) (sym e) (none_passes p n (λ k lt. fails (sym e) k lt (p k) refl))
-    either false e before = none (p n) (count_below p n) (sym e) before
-
 given_once : (map : ℕ → ℕ) (n j : ℕ) → IsOneToOne map n → count_below (λ k. map k == j) n ≤ 1
-given_once map n j m = count_below-no_two (λ k. map k == j) n (λ i k i_lt k_lt p q. m.distinct i k i_lt k_lt (is _ _ p ∙ sym (is _ _ q)))
-  where
-    is : (a b : ℕ) → (a == b) ≡ true → a ≡ b
-    is a b e = grind (arith, nat_tests)
-
+given_once map n j m = count_below-no_two (λ k. map k == j) n (λ i k i_lt k_lt p q. m.distinct i k i_lt k_lt (eqb-true _ _ p ∙ sym (eqb-true _ _ q)))
 -- numbers of at most 1 that sum to as many as there are
 all_one : (c : ℕ → ℕ) (n k : ℕ) → ((j : ℕ) → c j ≤ 1) → sum_below c n ≡ n → k < n → c k ≡ 1
 all_one c zero k most e lt = absurd (omega arith)
@@ -76,10 +51,6 @@ all_one c (suc n) k most e lt =
     one : (sum last n : ℕ) → sum + last ≡ suc n → sum ≤ n * 1 → last ≤ 1 → last ≡ 1
     one sum last n e le most = omega arith
 
-ones : (n : ℕ) → sum_below (λ k. 1) n ≡ n
-ones zero = refl
-ones (suc n) = omega (arith, ones n)
-
 -- a sum along a one-to-one map is the sum
 pub along : (f map : ℕ → ℕ) (n : ℕ) → IsOneToOne map n → sum_below (λ k. f (map k)) n ≡ sum_below f n
 along f map n m =
@@ -91,4 +62,4 @@ along f map n m =
 
     all : sum_below (λ j. count_below (λ k. map k == j) n) n ≡ n
     all = sum_below-agree (λ j. count_below (λ k. map k == j) n) (λ j. 1 * count_below (λ k. map k == j) n) n (record { each = λ j _. omega arith })
-        ∙ sym (over_map (λ _. 1) map n m.within) ∙ ones n
+        ∙ sym (over_map (λ _. 1) map n m.within) ∙ sum_below-ones n

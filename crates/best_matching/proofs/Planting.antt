@@ -1,21 +1,14 @@
 -- The tree that has nothing but its root.
-use Rattle.std.proofs.Common.{◌≡◌, ℕ, ◌+◌, ◌<◌, ◌≤◌, Bool, false, if◌then◌else◌, List, length, slice_index, sym, ◌∙◌, ap, subst, inl, inr, arith}
-use Rattle.sums.specs.Below.{count_below}
+use Rattle.std.proofs.Common.{◌≡◌, ℕ, ◌+◌, ◌<◌, ◌≤◌, List, length, slice_index, sym, ◌∙◌, ap, subst, inl, inr, arith, not-le_of_lt}
 use Rattle.sums.specs.Places.{list_below}
 use Rattle.sums.proofs.Places.{get_or-list_below, length-list_below}
-use Rattle.sums.proofs.Sums.{sum_below-agree, sum_below-zero}
+use Rattle.sums.proofs.Counts.{count_below-none}
 use Rattle.best_matching.specs.Worths.{worth_at}
 use Rattle.best_matching.specs.Drafts.{HasDuals, IsMatched, IsPairing, column_dual, column_of, row_dual}
 use Rattle.best_matching.specs.Trees.{HasSize, IsSearch, from_at, gap_at, is_in, turn_at}
 use Rattle.best_matching.specs.declared.draft.Draft.{Draft}
 use Rattle.best_matching.specs.declared.tree.Tree.{Tree}
 use Rattle.best_matching.proofs.WideningSteps.{in_or_out}
-
-pub none_passes : (p : ℕ → Bool) (n : ℕ) → ((k : ℕ) → k < n → p k ≡ false) → count_below p n ≡ 0
-none_passes p n h = sum_below-agree (λ k. if p k then 1 else 0) (λ k. 0) n (record { each = λ k lt. fails (p k) (h k lt) }) ∙ sum_below-zero n
-  where
-    fails : (b : Bool) → b ≡ false → ◌≡◌ {A = ℕ} (if b then 1 else 0) 0
-    fails b e = rw e
 
 pub planted : (worths : List (List ℕ)) (draft : Draft) (tree : Tree) (root : ℕ) → IsPairing (length worths) draft → HasDuals worths draft
     → IsMatched worths draft root (length worths) → root < length worths → length tree.gaps ≡ length worths
@@ -40,7 +33,7 @@ planted worths draft tree root pairing duals matched root_lt gaps gap from turns
   };
   turns = record {
     earlier = λ column lt joined. absurd (outside column lt joined);
-    count = none_passes (is_in tree.turns) (length worths) (λ column lt. elim (in_or_out (length worths) column tree size) [
+    count = count_below-none (is_in tree.turns) (length worths) (λ column lt. elim (in_or_out (length worths) column tree size) [
       | inl is ↦ absurd (outside column lt is.1)
       | inr not ↦ not.0
     ]);
@@ -67,7 +60,4 @@ planted worths draft tree root pairing duals matched root_lt gaps gap from turns
     out column lt = at_most _ _ (sym (turn_is column lt))
 
     outside : (column : ℕ) → column < length worths → turn_at tree column < length worths → ⊥
-    outside column lt joined = apart _ _ joined (out column lt)
-      where
-        apart : (a b : ℕ) → a < b → b ≤ a → ⊥
-        apart a b lt ge = omega arith
+    outside column lt joined = not-le_of_lt joined (out column lt)

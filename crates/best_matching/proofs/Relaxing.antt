@@ -1,11 +1,12 @@
 -- What relaxing the gaps from a newly reached row keeps.
 use Rattle.std.proofs.Common.{◌≡◌, ℕ, ◌+◌, ◌<◌, ◌≤◌, ◌⊎◌, List, length, slice_index, sym, ap, subst, inl, inr, arith}
+use Rattle.std.proofs.lemmas.Bool.{cases_eq}
+use Rattle.sums.proofs.Naturals.{less_alike}
 use Rattle.best_matching.specs.Worths.{worth_at}
 use Rattle.best_matching.specs.Drafts.{column_dual, column_of, row_dual}
 use Rattle.best_matching.specs.Trees.{HasGaps, IsRelaxed, IsStem, gap_at, turn_at}
 use Rattle.best_matching.specs.declared.draft.Draft.{Draft}
 use Rattle.best_matching.specs.declared.tree.Tree.{Tree}
-use Rattle.best_matching.proofs.WideningTree.{equal_or_not}
 
 pub relaxed_stem : (worths : List (List ℕ)) (draft : Draft) (tree relaxed : Tree) (root free tip : ℕ) → IsStem worths draft tree root free → tip < length worths
     → IsRelaxed worths draft tree relaxed tip → IsStem worths draft relaxed root free
@@ -22,7 +23,7 @@ relaxed_stem worths draft tree relaxed root free tip s tip_lt r = record {
       subst (λ k. (k ≡ root) ⊎ (turn_at relaxed (column_of draft k) < turn_at relaxed column)) (sym (r.kept column lt joined_before))
       (elim (s.before column lt joined_before) [
         | inl is_root ↦ inl is_root
-        | inr less ↦ inr (carry _ _ _ _ (turn _) (turn column) less)
+        | inr less ↦ inr (less_alike _ _ _ _ (turn _) (turn column) less)
       ]);
   outside = λ row lt after other. subst (λ k. length worths ≤ k) (sym (turn (column_of draft row))) (s.outside row lt after other);
 }
@@ -33,14 +34,11 @@ relaxed_stem worths draft tree relaxed root free tip s tip_lt r = record {
     was : (column : ℕ) → turn_at relaxed column < length worths → turn_at tree column < length worths
     was column joined = subst (λ k. k < length worths) (turn column) joined
 
-    carry : (x y z w : ℕ) → x ≡ y → z ≡ w → y < w → x < z
-    carry x y z w p q lt = omega arith
-
 pub relaxed_gaps : (worths : List (List ℕ)) (draft : Draft) (tree relaxed : Tree) (root tip : ℕ) → HasGaps worths draft tree root tip → tip < length worths
     → turn_at tree (column_of draft tip) < length worths → IsRelaxed worths draft tree relaxed tip → HasGaps worths draft relaxed root (length worths)
 relaxed_gaps worths draft tree relaxed root tip g tip_lt tip_in r = record {
   least_root = λ column lt out. no_more _ _ _ _ (r.less column lt) (g.least_root column lt (was column out));
-  least = λ row column row_lt lt _ joined out. elim (equal_or_not row tip) [
+  least = λ row column row_lt lt _ joined out. elim (cases_eq row tip) [
     | inl same ↦ subst (λ k. gap_at relaxed column + worth_at worths k column ≤ row_dual draft k + column_dual draft column) (sym same) (r.reach column lt (was column out))
     | inr other ↦ no_more _ _ _ _ (r.less column lt) (g.least row column row_lt lt other (subst (λ k. k < length worths) (turn (column_of draft row)) joined) (was column out))
   ];

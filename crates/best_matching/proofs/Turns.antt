@@ -1,6 +1,6 @@
 -- One turn of the search, and its end.
-use Rattle.std.proofs.Common.{◌≡◌, ◌≢◌, ℕ, zero, suc, ◌+◌, ◌<◌, ◌≤◌, nat_lt, Bool, true, false, if◌then◌else◌, List, length, slice_index, sym, ◌∙◌, ap, subst, inl, inr, arith, length-set}
-use Rattle.std.proofs.lemmas.Bool.{cases_lt}
+use Rattle.std.proofs.Common.{◌≡◌, ◌≢◌, ℕ, zero, suc, ◌+◌, ◌<◌, ◌≤◌, nat_lt, Bool, true, false, if◌then◌else◌, List, length, slice_index, sym, ◌∙◌, ap, subst, inl, inr, arith, length-set, not-le_of_lt}
+use Rattle.std.proofs.lemmas.Bool.{cases_eq, cases_lt}
 use Rattle.sums.specs.Below.{count_below}
 use Rattle.sums.proofs.OneChanged.{count_below-fewer}
 use Rattle.sums.proofs.Places.{length-list_below}
@@ -14,7 +14,7 @@ use Rattle.best_matching.specs.declared.tree.Tree.{Tree}
 use Rattle.best_matching.proofs.Relaxing.{relaxed_gaps, relaxed_stem}
 use Rattle.best_matching.proofs.Widening.{enough, room, widened_duals, widened_matched, widened_pairing}
 use Rattle.best_matching.proofs.WideningSteps.{AreNumbers, in_or_out, numbers_after, reached_or_not}
-use Rattle.best_matching.proofs.WideningTree.{equal_or_not, stem_matched, widened_gaps, widened_stem}
+use Rattle.best_matching.proofs.WideningTree.{stem_matched, widened_gaps, widened_stem}
 
 -- where a number below the bound doesn't pass, fewer do than there are
 count_below-missing : (p : ℕ → Bool) (n k : ℕ) → k < n → p k ≡ false → count_below p n < n
@@ -41,13 +41,10 @@ search_ends worths draft tree root turn s root_lt all =
     let column_lt = s.pairing.column_within root root_lt in
     let out = s.stem.outside root root_lt (omega arith) (omega arith) in
     elim (in_or_out (length worths) (column_of draft root) tree s.size) [
-      | inl is ↦ apart _ _ is.1 out
+      | inl is ↦ not-le_of_lt is.1 out
       | inr not ↦ clash _ _ _ (count_below-missing (is_in tree.turns) (length worths) (column_of draft root) column_lt not.0) s.turns.count all
     ]
   where
-    apart : (a b : ℕ) → a < b → b ≤ a → ⊥
-    apart a b lt ge = omega arith
-
     clash : (count n turn : ℕ) → count < n → count ≡ turn → n ≤ turn → ⊥
     clash count n turn lt e le = omega arith
 
@@ -80,13 +77,13 @@ pub record IsAfter (worths : List (List ℕ)) (draft : Draft) (tree : Tree) (roo
 turns_after : (size : ℕ) (tree wider : Tree) (turn next : ℕ) → HasSize size tree → HasTurns size tree turn → next < size → size ≤ turn_at tree next → turn < size
     → turn_at wider next ≡ turn → ((column : ℕ) → column ≢ next → turn_at wider column ≡ turn_at tree column) → HasSize size wider → HasTurns size wider (turn + 1)
 turns_after size tree wider turn next sizes t next_lt next_out turn_lt joins others wide = record {
-  earlier = λ column lt joined. elim (equal_or_not column next) [
+  earlier = λ column lt joined. elim (cases_eq column next) [
     | inl same ↦ below _ _ (ap (turn_at wider) same ∙ joins)
     | inr other ↦ more _ _ _ (others column other) (t.earlier column lt (subst (λ k. k < size) (others column other) joined))
   ];
   count = count_below-fewer (is_in wider.turns) (is_in tree.turns) size next next_lt
       (elim (in_or_out size next wider wide) [ inl is ↦ is.0 | inr not ↦ absurd (apart _ _ _ joins not.1 turn_lt) ])
-      (elim (in_or_out size next tree sizes) [ inl is ↦ absurd (outside _ _ is.1 next_out) | inr not ↦ not.0 ])
+      (elim (in_or_out size next tree sizes) [ inl is ↦ absurd (not-le_of_lt is.1 next_out) | inr not ↦ not.0 ])
       (λ column lt other. same_test _ _ _ _ (others column other) (wide.turns ∙ sym sizes.turns))
       ∙ ap (λ n. n + 1) t.count;
 }
@@ -99,9 +96,6 @@ turns_after size tree wider turn next sizes t next_lt next_out turn_lt joins oth
 
     apart : (a b n : ℕ) → a ≡ b → n ≤ a → b < n → ⊥
     apart a b n e ge lt = omega arith
-
-    outside : (a n : ℕ) → a < n → n ≤ a → ⊥
-    outside a n lt ge = omega arith
 
     same_test : (a b m n : ℕ) → a ≡ b → m ≡ n → nat_lt a m ≡ nat_lt b n
     same_test a b m n e f = rw (e, f)

@@ -1,6 +1,6 @@
 -- The way back through the tree.
-use Rattle.std.proofs.Common.{◌≡◌, ◌≢◌, ℕ, ◌+◌, ◌<◌, ◌≤◌, List, length, slice_index, refl, sym, ◌∙◌, ap, subst, inl, inr, arith}
-use Rattle.std.proofs.lemmas.Bool.{cases_lt}
+use Rattle.std.proofs.Common.{◌≡◌, ◌≢◌, ℕ, ◌+◌, ◌<◌, ◌≤◌, List, length, slice_index, refl, sym, ◌∙◌, ap, subst, inl, inr, arith, lt_trans}
+use Rattle.std.proofs.lemmas.Bool.{cases_eq, cases_lt}
 use Rattle.best_matching.specs.Worths.{worth_at}
 use Rattle.best_matching.specs.Drafts.{HasDuals, IsMatched, IsPairing, column_dual, column_of, row_dual}
 use Rattle.best_matching.specs.Trees.{IsGrown, IsOnTree, IsTurned, IsWay, from_at, turn_at}
@@ -8,7 +8,6 @@ use Rattle.best_matching.specs.declared.matching.TheConstants.{MAX_WORTH}
 use Rattle.best_matching.specs.declared.draft.Draft.{Draft}
 use Rattle.best_matching.specs.declared.tree.Tree.{Tree}
 use Rattle.best_matching.proofs.Exchanging.{HaveExchanged}
-use Rattle.best_matching.proofs.WideningTree.{equal_or_not}
 
 -- before the first exchange
 pub turned_none : (size : ℕ) (draft : Draft) (tree : Tree) (free : ℕ) → IsTurned size draft draft tree free
@@ -18,7 +17,7 @@ turned_none size draft tree free = record { each = λ row lt other. inl refl }
 pub turned_more : (size : ℕ) (old now new : Draft) (tree : Tree) (root free before : ℕ) → IsTurned size old now tree free → IsWay size now tree root free
     → before ≡ from_at tree (column_of now free) → HaveExchanged size now new free before → IsTurned size old new tree free
 turned_more size old now new tree root free before turned way from e = record {
-  each = λ row lt other. elim (equal_or_not row before) [
+  each = λ row lt other. elim (cases_eq row before) [
     | inl same ↦ inr (subst (λ k. IsOnTree size new tree k) (sym same) (on_tree_after size now new tree root free before way from e))
     | inr ne ↦
         let kept : column_of new row ≡ column_of now row = e.others row other ne in
@@ -58,7 +57,7 @@ pub way_more : (size : ℕ) (now new : Draft) (tree : Tree) (root free before : 
     → before ≡ from_at tree (column_of now free) → before ≢ root → HaveExchanged size now new free before → IsWay size new tree root free
 way_more size now new tree root free before way lt from ne e = record {
   within = way.within;
-  joined = subst (λ k. turn_at tree k < size) (sym e.at_one) (chain _ _ _ less way.joined);
+  joined = subst (λ k. turn_at tree k < size) (sym e.at_one) (lt_trans less way.joined);
   before = λ column column_lt le.
       let le_before : turn_at tree column ≤ turn_at tree (column_of now before) = subst (λ k. turn_at tree column ≤ turn_at tree k) e.at_one le in
       elim (way.before column column_lt (weaken _ _ _ le_before less)) [
@@ -69,9 +68,6 @@ way_more size now new tree root free before way lt from ne e = record {
   where
     less : turn_at tree (column_of now before) < turn_at tree (column_of now free)
     less = earlier_column size now tree root free before way lt from ne
-
-    chain : (a b c : ℕ) → a < b → b < c → a < c
-    chain a b c p q = omega arith
 
     weaken : (a b c : ℕ) → a ≤ b → b < c → a ≤ c
     weaken a b c p q = omega arith
@@ -126,7 +122,7 @@ matched_more worths old new tree root free g root_lt p turned on_root at_free ro
         ]
     | inr later ↦ let same : row ≡ root = omega arith in subst (λ k. row_dual new k + column_dual new (column_of new k) ≡ worth_at worths k (column_of new k)) (sym same) (tight root root_lt on_root)
   ];
-  unused = λ row lt after other. elim (equal_or_not row free) [
+  unused = λ row lt after other. elim (cases_eq row free) [
     | inl same ↦
         ap (column_dual new) (ap (column_of new) same ∙ at_free (differ row same after))
         ∙ ap (λ xs. slice_index xs (column_of old root)) columns

@@ -1,6 +1,6 @@
 -- What one turn does to the numbers of the draft and the tree.
-use Rattle.std.proofs.Common.{◌≡◌, ◌≢◌, ℕ, ◌+◌, ◌-◌, ◌<◌, ◌≤◌, ◌==◌, ◌||◌, ◌⊎◌, nat_lt, Bool, true, false, if◌then◌else◌, List, length, slice_index, slice_set, refl, ◌∙◌, ap, inl, inr, arith, get_or-set_same, get_or-set_other}
-use Rattle.std.proofs.lemmas.Bool.{cases_lt, cases_order}
+use Rattle.std.proofs.Common.{◌≡◌, ◌≢◌, ℕ, ◌+◌, ◌-◌, ◌<◌, ◌≤◌, ◌==◌, ◌||◌, ◌⊎◌, nat_lt, Bool, true, false, if◌then◌else◌, List, length, slice_index, slice_set, ◌∙◌, ap, inl, inr, arith, get_or-set_same, get_or-set_other, not-le_of_lt}
+use Rattle.std.proofs.lemmas.Bool.{cases_eq, cases_lt, or_right}
 use Rattle.std.proofs.lemmas.Bool.Decides.{nat_tests}
 use Rattle.sums.specs.Places.{list_below}
 use Rattle.sums.proofs.Places.{get_or-list_below}
@@ -56,18 +56,11 @@ reached_or_not size root row draft tree sizes = elim (in_or_out size (column_of 
   ]
 ]
   where
-    or_right : (a b : Bool) → b ≡ true → (a || b) ≡ true
-    or_right true b e = refl
-    or_right false b e = e
-
     or_left : (a b : ℕ) (c : Bool) → a ≡ b → ((a == b) || c) ≡ true
     or_left a b c e = grind (arith, nat_tests)
 
     neither : (a b : ℕ) (c : Bool) → a ≢ b → c ≡ false → ((a == b) || c) ≡ false
     neither a b c e f = grind (arith, nat_tests)
-
-    cases_eq : (a b : ℕ) → (a ≡ b) ⊎ (a ≢ b)
-    cases_eq a b = elim (cases_order a b) [ inl same ↦ inl same | inr other ↦ elim other [ inl less ↦ inr (omega arith) | inr more ↦ inr (omega arith) ] ]
 
 -- a place of a list that was made of a function by cases
 when : (n k : ℕ) (p : ℕ → Bool) (f g : ℕ → ℕ) (xs : List ℕ) → xs ≡ list_below (λ j. if p j then f j else g j) n → k < n → p k ≡ true → slice_index xs k ≡ f k
@@ -107,22 +100,22 @@ numbers_after size old new tree wider root turn next sizes within enough least w
         let e = when size row (is_reached old.columns tree.turns root) (λ k. row_dual old k - gap_at tree next) (row_dual old) new.row_duals w.row_duals lt is.0 in
         let le : gap_at tree next ≤ row_dual old row = enough row lt reached in
         lower_again (row_dual old row) (gap_at tree next) (row_dual new row) e le
-    | inr not ↦ absurd (elim reached [ inl same ↦ not.1 same | inr lt ↦ apart _ _ lt not.2 ])
+    | inr not ↦ absurd (elim reached [ inl same ↦ not.1 same | inr lt ↦ not-le_of_lt lt not.2 ])
   ];
   kept = λ row lt other out. elim (reached_or_not size root row old tree sizes) [
-    | inl is ↦ absurd (elim is.1 [ inl same ↦ other same | inr lt ↦ apart _ _ lt out ])
+    | inl is ↦ absurd (elim is.1 [ inl same ↦ other same | inr lt ↦ not-le_of_lt lt out ])
     | inr not ↦ otherwise size row (is_reached old.columns tree.turns root) (λ k. row_dual old k - gap_at tree next) (row_dual old) new.row_duals w.row_duals lt not.0
   ];
   raised = λ column lt joined. elim (in_or_out size column tree sizes) [
     | inl is ↦ when size column (is_in tree.turns) (λ k. column_dual old k + gap_at tree next) (column_dual old) new.column_duals w.column_duals lt is.0
-    | inr not ↦ absurd (apart _ _ joined not.1)
+    | inr not ↦ absurd (not-le_of_lt joined not.1)
   ];
   same = λ column lt out. elim (in_or_out size column tree sizes) [
-    | inl is ↦ absurd (apart _ _ is.1 out)
+    | inl is ↦ absurd (not-le_of_lt is.1 out)
     | inr not ↦ otherwise size column (is_in tree.turns) (λ k. column_dual old k + gap_at tree next) (column_dual old) new.column_duals w.column_duals lt not.0
   ];
   gap = λ column lt out. elim (in_or_out size column tree sizes) [
-    | inl is ↦ absurd (apart _ _ is.1 out)
+    | inl is ↦ absurd (not-le_of_lt is.1 out)
     | inr not ↦
         let e = otherwise size column (is_in tree.turns) (gap_at tree) (λ k. gap_at tree k - gap_at tree next) wider.gaps w.gaps lt not.0 in
         lower_again (gap_at tree column) (gap_at tree next) (gap_at wider column) e (least column lt out)
@@ -134,9 +127,6 @@ numbers_after size old new tree wider root turn next sizes within enough least w
   where
     lower_again : (old by new : ℕ) → new ≡ old - by → by ≤ old → new + by ≡ old
     lower_again old by new e le = omega arith
-
-    apart : (a b : ℕ) → a < b → b ≤ a → ⊥
-    apart a b lt ge = omega arith
 
     joined_within : (a b c : ℕ) → a ≡ b → c < b → c < a
     joined_within a b c e lt = omega arith

@@ -1,15 +1,13 @@
 -- A turn keeps the tree and its gaps, but for the row of the column that has joined.
-use Rattle.std.proofs.Common.{◌≡◌, ◌≢◌, ℕ, ◌+◌, ◌<◌, ◌≤◌, ◌⊎◌, List, length, refl, sym, ◌∙◌, ap, subst, inl, inr, arith}
-use Rattle.std.proofs.lemmas.Bool.{cases_order}
+use Rattle.std.proofs.Common.{◌≡◌, ◌≢◌, ℕ, ◌+◌, ◌<◌, ◌≤◌, ◌⊎◌, List, length, refl, sym, ◌∙◌, ap, subst, inl, inr, arith, lt_trans}
+use Rattle.std.proofs.lemmas.Bool.{cases_eq}
+use Rattle.sums.proofs.Naturals.{less_alike}
 use Rattle.best_matching.specs.Worths.{worth_at}
 use Rattle.best_matching.specs.Drafts.{column_dual, column_of, row_dual, row_of}
 use Rattle.best_matching.specs.Trees.{HasGaps, IsSearch, IsStem, from_at, gap_at, turn_at}
 use Rattle.best_matching.specs.declared.draft.Draft.{Draft}
 use Rattle.best_matching.specs.declared.tree.Tree.{Tree}
 use Rattle.best_matching.proofs.WideningSteps.{AreNumbers}
-
-pub equal_or_not : (a b : ℕ) → (a ≡ b) ⊎ (a ≢ b)
-equal_or_not a b = elim (cases_order a b) [ inl same ↦ inl same | inr other ↦ elim other [ inl less ↦ inr (omega arith) | inr more ↦ inr (omega arith) ] ]
 
 -- two columns of which one is in the tree and one outside
 differ : (tree : Tree) (one other size : ℕ) → turn_at tree one < size → size ≤ turn_at tree other → one ≢ other
@@ -26,19 +24,13 @@ both row row' column column' by worth e f same = omega arith
 closes : (row row' column column' by worth : ℕ) → row' + by ≡ row → column' ≡ column → by + worth ≡ row + column → row' + column' ≡ worth
 closes row row' column column' by worth e f same = omega arith
 
-chain : (a b c : ℕ) → a < b → b < c → a < c
-chain a b c p q = omega arith
-
-earlier : (x y z w : ℕ) → x ≡ y → z ≡ w → y < w → x < z
-earlier x y z w p q lt = omega arith
-
 pub widened_stem : (worths : List (List ℕ)) (old new : Draft) (tree wider : Tree) (root turn next : ℕ) → IsSearch worths old tree root turn → root < length worths
     → next < length worths → length worths ≤ turn_at tree next → turn < length worths
     → AreNumbers (length worths) old new tree wider root turn next (gap_at tree next) → IsStem worths new wider root (row_of old next)
 widened_stem worths old new tree wider root turn next s root_lt next_lt next_out turn_lt a = record {
   within = λ column lt. subst (λ k. k < length worths) (sym (a.from column)) (s.stem.within column lt);
-  meet = λ column lt joined. subst (λ k. row_dual new k + column_dual new column ≡ worth_at worths k column) (sym (a.from column)) (meets column lt joined (equal_or_not column next));
-  before = λ column lt joined. subst (λ k. (k ≡ root) ⊎ (turn_at wider (column_of new k) < turn_at wider column)) (sym (a.from column)) (leads column lt joined (equal_or_not column next));
+  meet = λ column lt joined. subst (λ k. row_dual new k + column_dual new column ≡ worth_at worths k column) (sym (a.from column)) (meets column lt joined (cases_eq column next));
+  before = λ column lt joined. subst (λ k. (k ≡ root) ⊎ (turn_at wider (column_of new k) < turn_at wider column)) (sym (a.from column)) (leads column lt joined (cases_eq column next));
   outside = λ row row_lt after other.
       let ne : column_of old row ≢ next = λ same. other (sym (s.pairing.row_again row row_lt) ∙ ap (row_of old) same) in
       subst (λ k. length worths ≤ turn_at wider k) (sym (a.column_of row))
@@ -55,7 +47,7 @@ widened_stem worths old new tree wider root turn next s root_lt next_lt next_out
         both _ _ _ _ _ _ (a.lowered (from_at tree column) (s.stem.within column lt) (reached column lt joined_before)) (a.raised column lt joined_before) (s.stem.meet column lt joined_before)
       where
         reached : (column : ℕ) → column < length worths → turn_at tree column < length worths → (from_at tree column ≡ root) ⊎ (turn_at tree (column_of old (from_at tree column)) < length worths)
-        reached column lt joined_before = elim (s.stem.before column lt joined_before) [ inl same ↦ inl same | inr less ↦ inr (chain _ _ _ less joined_before) ]
+        reached column lt joined_before = elim (s.stem.before column lt joined_before) [ inl same ↦ inl same | inr less ↦ inr (lt_trans less joined_before) ]
 
     leads : (column : ℕ) → column < length worths → turn_at wider column < length worths → (column ≡ next) ⊎ (column ≢ next)
         → (from_at tree column ≡ root) ⊎ (turn_at wider (column_of new (from_at tree column)) < turn_at wider column)
@@ -66,15 +58,15 @@ widened_stem worths old new tree wider root turn next s root_lt next_lt next_out
           | inr in_tree ↦
               let ne : column_of old (from_at tree next) ≢ next = differ tree _ _ _ in_tree next_out in
               let column_lt : column_of old (from_at tree next) < length worths = s.pairing.column_within (from_at tree next) (s.stem.within next next_lt) in
-              inr (earlier _ _ _ _ (ap (turn_at wider) (a.column_of (from_at tree next)) ∙ a.others _ ne) a.joins (s.turns.earlier _ column_lt in_tree))
+              inr (less_alike _ _ _ _ (ap (turn_at wider) (a.column_of (from_at tree next)) ∙ a.others _ ne) a.joins (s.turns.earlier _ column_lt in_tree))
         ])
     leads column lt joined (inr other) =
         let joined_before : turn_at tree column < length worths = subst (λ k. k < length worths) (a.others column other) joined in
         elim (s.stem.before column lt joined_before) [
           | inl is_root ↦ inl is_root
           | inr less ↦
-              let ne : column_of old (from_at tree column) ≢ next = differ tree _ _ _ (chain _ _ _ less joined_before) next_out in
-              inr (earlier _ _ _ _ (ap (turn_at wider) (a.column_of (from_at tree column)) ∙ a.others _ ne) (a.others column other) less)
+              let ne : column_of old (from_at tree column) ≢ next = differ tree _ _ _ (lt_trans less joined_before) next_out in
+              inr (less_alike _ _ _ _ (ap (turn_at wider) (a.column_of (from_at tree column)) ∙ a.others _ ne) (a.others column other) less)
         ]
 
 -- a tree that has reached a matched row leaves no row out
@@ -116,7 +108,7 @@ widened_gaps worths old new tree wider root turn next s root_lt next_lt next_out
 }
   where
     was_out : (column : ℕ) → length worths ≤ turn_at wider column → length worths ≤ turn_at tree column
-    was_out column out = elim (equal_or_not column next) [
+    was_out column out = elim (cases_eq column next) [
       | inl same ↦ subst (λ k. length worths ≤ turn_at tree k) (sym same) next_out
       | inr other ↦ subst (λ k. length worths ≤ k) (a.others column other) out
     ]

@@ -3,7 +3,6 @@ use Rattle.std.proofs.Common.{◌≡◌, ◌⊎◌, ℕ, ◌<◌, ◌≤◌, ◌
 use Rattle.std.specs.Prelude.{⊤, All}
 use Rattle.std.specs.Ordering.{int_eq}
 use Rattle.std.proofs.lemmas.Bool.Decides.{Decides-int_eq, nat_tests}
-use Rattle.std.proofs.lemmas.Int.{ints}
 use Rattle.std.proofs.lemmas.List.Elements.{All-cons, All-nil}
 use Rattle.fleet_model.specs.Schedule.{fleets_in}
 use Rattle.fleet_model.specs.declared.tables.Tables.{Tables}
@@ -12,9 +11,10 @@ use Rattle.dual_bound.specs.OfTables.{IsStepOf}
 use Rattle.bound_cert.specs.ProofText.{at_line, mixed_line, scale_line}
 use Rattle.bound_cert.specs.Reading.{goes_on_at, is_needless, mixed_at, padded, prices_at, rent_at, rents_from, scale_at, step_at, steps_from, weight_at, weights_from}
 use Rattle.dual_bound.specs.Order.{same_place, step_follows}
-use Rattle.dual_bound.specs.WrittenOrder.{IsFigure, IsStepInOrder, goes_on}
+use Rattle.dual_bound.specs.WrittenOrder.{IsStepInOrder, goes_on}
 use Rattle.dual_bound.specs.declared.mixed.Weight.{Weight}
 use Rattle.dual_bound.specs.declared.prices.PriceStep.{PriceStep}
+use Rattle.dual_bound.proofs.StepOrder.{one_figure}
 use Rattle.bound_cert.specs.declared.reading_lines.Due.TheVariants as due
 use Rattle.bound_cert.proofs.LineTwins.{Alike, Twin, alike_first, alike_self, rent_twin, scale_twin, step_twin, weight_twin}
 use Rattle.bound_cert.proofs.LinesOfWords.{mixed_line_is}
@@ -185,9 +185,6 @@ module _ {A B C : Type 0} (MayFirst NeedFirst May : Left → Type 0) (end : Left
         need = λ z ends. any_at p ((done.more ++ behind.more) ++ z);
       }
 
-figure_1 : IsFigure (pos 1)
-figure_1 = record { no_less = omega (arith, ints); no_more = omega (arith, ints) }
-
 no_rent : (m : Left) → IsBehind m → MayFollow (codes "rent") m
 no_rent m behind = record { some = behind.some; other = behind.no_rent }
 
@@ -281,7 +278,7 @@ module _ (t : Tables) (line : List ℕ) (after : Left) where
         by_zero true true minute value =
             let none : step.minute ≡ 0 = grind (arith, nat_tests, minute) in
             let zero : step.value ≡ pos 0 = (Decides-int_eq step.value (pos 0)).0 value in
-            let order : IsStepInOrder t next = record { fleet = was.order.fleet; station = was.order.station; minute = omega arith; value = figure_1 } in
+            let order : IsStepInOrder t next = record { fleet = was.order.fleet; station = was.order.station; minute = omega arith; value = one_figure } in
             let place : same_place step next ≡ true = same_place_by t step next refl refl in
             let follows : step_follows (Some step) next ≡ true = rw place (rw (none, zero) refl) in
             let each : All (IsStepInOrder t) (next ∷ []) = All-cons (IsStepInOrder t) next [] order (All-nil (IsStepInOrder t)) in
@@ -339,7 +336,7 @@ module _ (t : Tables) (line : List ℕ) (after : Left) where
         more = joined (scale_line (pos 1)) ∷ [];
         value = record { scale = pos 1; rents = padded [] (fleets_in t); steps = [] };
         reads = λ z ends.
-            bound (scale_at due.Scale (joined (scale_line (pos 1)) ∷ z)) (pos 1) _ (scale_read (pos 1) z figure_1 ends.some)
+            bound (scale_at due.Scale (joined (scale_line (pos 1)) ∷ z)) (pos 1) _ (scale_read (pos 1) z one_figure ends.some)
             ∙ bound (rents_from t [] z) (padded [] (fleets_in t), z) _ (rents_end t [] z ends.no_rent)
             ∙ bound (steps_from t [] None z) ([], z) _ (steps_end t [] None z ends.no_step);
         need = λ z ends. tt;
@@ -363,7 +360,7 @@ module _ (t : Tables) (line : List ℕ) (after : Left) where
     more = joined (mixed_line (pos 1)) ∷ [];
     value = record { scale = pos 1; weights = [] };
     reads = λ z ends.
-        bound (scale_at due.Mixed (joined (mixed_line (pos 1)) ∷ z)) (pos 1) _ (mixed_scale_read (pos 1) z figure_1 ends.some)
+        bound (scale_at due.Mixed (joined (mixed_line (pos 1)) ∷ z)) (pos 1) _ (mixed_scale_read (pos 1) z one_figure ends.some)
         ∙ bound (weights_from t [] None z) ([], z) _ (weights_end t [] None z ends.no_weight);
     need = λ z ends. behind_line (mixed_line (pos 1)) z (mixed_line_is (pos 1)) refl refl refl;
   }

@@ -3,7 +3,6 @@ use Rattle.std.proofs.Common.{◌≡◌, ℕ, zero, suc, ◌+◌, ◌-◌, ◌<�
 use Rattle.std.specs.Prelude.{All}
 use Rattle.std.specs.Ordering.{int_eq}
 use Rattle.std.proofs.lemmas.Bool.Decides.{Decides-int_eq, nat_tests}
-use Rattle.std.proofs.lemmas.Int.{ints}
 use Rattle.std.proofs.lemmas.List.{length-append}
 use Rattle.std.proofs.lemmas.List.Elements.{All-append, All-cons, All-head, All-nil}
 use Rattle.fleet_model.specs.Schedule.{fleet_of, fleets_in, station_of}
@@ -19,13 +18,14 @@ use Rattle.dual_bound.specs.declared.mixed.Mixed.{Mixed}
 use Rattle.dual_bound.specs.declared.mixed.Weight.{Weight}
 use Rattle.dual_bound.specs.declared.prices.Prices.{Prices}
 use Rattle.dual_bound.specs.declared.prices.PriceStep.{PriceStep}
+use Rattle.dual_bound.proofs.StepOrder.{zero_figure}
 use Rattle.bound_cert.specs.declared.reading_lines.Due.TheVariants as due
 use Rattle.bound_cert.proofs.FigureWords.{same_bytes}
 use Rattle.bound_cert.proofs.LinesOfWords.{at_is}
 use Rattle.bound_cert.proofs.ReadBack.{either_way, goes, ok_same}
 use Rattle.bound_cert.proofs.ReadOn.{begins}
 use Rattle.bound_cert.proofs.TextLines.{LineIs}
-use Rattle.bound_cert.proofs.TextPrices.{mixed_scale_was, rent_was, scale_was, step_was, true_is, weight_was}
+use Rattle.bound_cert.proofs.TextPrices.{mixed_scale_was, rent_was, scale_was, step_was, weight_was}
 use Rattle.bound_cert.proofs.WrittenLines.{joined, texts, texts_append, words_back}
 use Rattle.bound_cert.proofs.WrittenNames.{fleet_written, station_written}
 use Rattle.bound_cert.proofs.WrittenPrices.{lines_from, lines_with, lines_without, needed_by, of_step}
@@ -92,7 +92,7 @@ module _ (t : Tables) where
         list = more.list ∙ append_assoc done (step.value ∷ []) more.new;
         text = was.line_is.is ∙ ap (λ rest. joined (at_line t step.value) ∷ rest) more.text;
         each = All-cons (IsStepInOrder t) step.value more.new was.order more.each;
-        follow = (true_is _ was.follows, more.follow);
+        follow = (was.follows, more.follow);
         no_lone_zero = (
           needed_by t (step.value.minute == 0) (int_eq step.value.value (pos 0)) (goes_on_at (first_words rest) (at_line t step.value)) (goes_on step.value more.new) was.needed
               (goes_on_by step.value more.new rest read.1 was.order more.each more.text more.ends),
@@ -129,7 +129,7 @@ module _ (t : Tables) where
         list = more.list ∙ append_assoc done (entry.value ∷ []) more.new;
         text = was.line_is.is ∙ ap (λ rest. joined (weight_line t entry.value) ∷ rest) more.text;
         each = All-cons (IsWeightInOrder t) entry.value more.new was.order more.each;
-        follow = (true_is _ was.follows, more.follow);
+        follow = (was.follows, more.follow);
       })
       (λ at e.
       subst (λ r. WeightsWere done before (line ∷ rest) r) (ok_same (done, line ∷ rest) read e)
@@ -191,15 +191,12 @@ module _ (t : Tables) where
     pub begun : (i : ℕ) → i < length done → get_or read.0 i (pos 0) ≡ get_or done i (pos 0)
     pub text : (prices : Prices) → prices.rents ≡ read.0 → left ≡ texts (lines_from t prices (length done) (fleets_in t - length done)) ++ read.1
 
-  figure_0 : IsFigure (pos 0)
-  figure_0 = record { no_less = omega (arith, ints); no_more = omega (arith, ints) }
-
   padded_figures : (done : List ℤ) (n : ℕ) → All IsFigure done → All IsFigure (padded done n)
   padded_figures done n are = All-append IsFigure done (replicate (n - length done) (pos 0)) are (zeros_are (n - length done))
     where
       zeros_are : (k : ℕ) → All IsFigure (replicate k (pos 0))
       zeros_are zero = All-nil IsFigure
-      zeros_are (suc k) = All-cons IsFigure (pos 0) (replicate k (pos 0)) figure_0 (zeros_are k)
+      zeros_are (suc k) = All-cons IsFigure (pos 0) (replicate k (pos 0)) zero_figure (zeros_are k)
 
   front_of : (done : List ℤ) (k i : ℕ) → i < length done → get_or (done ++ replicate k (pos 0)) i (pos 0) ≡ get_or done i (pos 0)
   front_of [] k i within = absurd (omega (arith, within))

@@ -1,6 +1,5 @@
 -- Prices and fractional assignments that are read are in written order, and their lines are those that are read.
-use Rattle.std.proofs.Common.{◌≡◌, ℕ, ◌<◌, ◌≤◌, ◌&&◌, Bool, true, false, not, List, [], ◌∷◌, drop, length, codes, ℤ, pos, nat_le, Option, Ok, refl, sym, ap, subst, ◌∙◌, arith}
-use Rattle.std.specs.Prelude.{IsTrue}
+use Rattle.std.proofs.Common.{◌≡◌, ℕ, ◌<◌, ◌≤◌, ◌&&◌, true, false, not, List, [], ◌∷◌, drop, length, codes, ℤ, pos, nat_le, Option, Ok, refl, sym, ap, subst, ◌∙◌, arith}
 use Rattle.std.specs.Fmt.{decimal, signed_decimal}
 use Rattle.std.specs.Ordering.{int_eq}
 use Rattle.std.proofs.lemmas.Bool.Decides.{nat_tests}
@@ -55,10 +54,6 @@ mixed_scale_was left z e =
       line_is = line_by left words.value (mixed_line z) line.line (two_words words.value shape.count ∙ ap (λ w. w ∷ word_at words.value 1 ∷ []) shape.first ∙ ap (λ w. codes "mixed" ∷ w ∷ []) number.word_is);
       figure = number.figure;
     }
-
-pub true_is : (b : Bool) → b ≡ true → IsTrue b
-true_is true e = refl
-true_is false e = absurd (cc e)
 
 module _ (t : Tables) where
   -- a rent

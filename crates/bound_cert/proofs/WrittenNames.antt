@@ -9,21 +9,14 @@ use Rattle.fleet_model.specs.declared.tables.Tables.{Tables}
 use Rattle.bound_cert.specs.Known.{fleet_named, leg_named, station_named}
 use Rattle.bound_cert.proofs.FigureWords.{bytes_same, same_bytes}
 use Rattle.bound_cert.proofs.NodesOfTables.{fleet_known, leg_known, station_known}
-
--- texts that differ are told apart
-differ : (a b : List ℕ) → a ≢ b → bytes_eq a b ≡ false
-differ a b apart = by_test (bytes_eq a b) refl
-  where
-    by_test : (t : Bool) → bytes_eq a b ≡ t → bytes_eq a b ≡ false
-    by_test false e = e
-    by_test true e = absurd (apart (same_bytes a b e))
+use Rattle.table_rows.proofs.Numbered.{bytes_eq-differ}
 
 place_is : {E : Type 0} (name_of : E → List ℕ) (entries : List E) (d : E) (k : ℕ) → AllPairs (λ a b. name_of a ≢ name_of b) entries → k < length entries
     → position_or_len (bytes_eq (name_of (slice_index_or entries k d))) (map name_of entries) ≡ k
 place_is name_of [] d k apart within = absurd (omega (arith, within))
 place_is name_of (entry ∷ entries) d zero apart within = rw (bytes_same (name_of entry) (name_of entry) refl) refl
 place_is name_of (entry ∷ entries) d (suc k) apart within =
-    rw (differ (name_of (slice_index_or entries k d)) (name_of entry) (λ same. apart 0 (suc k) d (omega arith) within (sym same)))
+    rw (bytes_eq-differ (name_of (slice_index_or entries k d)) (name_of entry) (λ same. apart 0 (suc k) d (omega arith) within (sym same)))
     (ap (λ n. 1 + n) (place_is name_of entries d k (λ i j d before within. apart (suc i) (suc j) d (omega arith) (omega arith)) (omega arith)) ∙ omega arith)
 
 pub named_at : {E : Type 0} (name_of : E → List ℕ) (entries : List E) (d : E) (k : ℕ) → AllPairs (λ a b. name_of a ≢ name_of b) entries → k < length entries

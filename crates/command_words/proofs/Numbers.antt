@@ -1,23 +1,18 @@
 -- The number that an option's text writes.
 use Rattle.std.proofs.Common.{◌≡◌, ◌≤◌, ◌<◌, ◌^◌, to_z, of_z, ◌&&◌, ℕ, ℤ, pos, List, [], ◌∷◌, true, false, length, refl, ap, subst, sym, ◌∙◌, arith, inl, inr}
-use Rattle.std.specs.Prelude.{All, Decides, Some, None, ◌≤ℤ◌, nat_le}
-use Rattle.std.specs.Char.{IsAsciiDigit, is_ascii_digit}
+use Rattle.std.specs.Prelude.{Some, None, ◌≤ℤ◌, nat_le}
+use Rattle.std.specs.Char.{is_ascii_digit}
 use Rattle.std.specs.List.{list_all}
 use Rattle.std.specs.Str.Parse.{digits_value, starts_with_minus}
 use Rattle.std.proofs.lemmas.Bool.{and_parts, cases_Bool}
-use Rattle.std.proofs.lemmas.Bool.Decides.{Decides-by_and, nat_tests}
+use Rattle.std.proofs.lemmas.Bool.Decides.{nat_tests}
 use Rattle.std.proofs.lemmas.Int.{ints, to_z-of_z}
 use lib.IntN.{nat_abs}
 use mir.Syntax.{w128}
 use mir.Val.{SFits}
 use Rattle.csv_fields.specs.Number.{IsDecimal, WritesWhole}
+use Rattle.csv_fields.proofs.WholeForm.{digits_decide}
 use Rattle.command_words.specs.Values.{is_between, is_decimal, number_read}
-
-digit_decides : (byte : ℕ) → Decides (is_ascii_digit byte) (IsAsciiDigit byte)
-digit_decides byte = (λ e. grind (arith, nat_tests), λ h. grind (arith, nat_tests))
-
-digits_decide : (text : List ℕ) → Decides (list_all is_ascii_digit text) (All IsAsciiDigit text)
-digits_decide = Decides-by_and is_ascii_digit IsAsciiDigit (list_all is_ascii_digit) digit_decides refl (λ _ _. refl)
 
 -- a text of digits, by the test
 decimal_tests : (text : List ℕ) → IsDecimal text → is_decimal text ≡ true

@@ -11,10 +11,10 @@ use Rattle.csv_fields.specs.declared.fault.FieldFault.{FieldFault}
 use Rattle.csv_fields.specs.Number.{IsDecimal, WritesWhole, digit_count, magnitude_of, negated, number_of, whole_of, within}
 use Rattle.csv_fields.proofs.Digits.{count-cons, count_all}
 
-digit_decides : (byte : ℕ) → Decides (is_ascii_digit byte) (IsAsciiDigit byte)
+pub digit_decides : (byte : ℕ) → Decides (is_ascii_digit byte) (IsAsciiDigit byte)
 digit_decides byte = (λ e. grind (arith, nat_tests), λ h. grind (arith, nat_tests))
 
-digits_decide : (field : List ℕ) → Decides (list_all is_ascii_digit field) (All IsAsciiDigit field)
+pub digits_decide : (field : List ℕ) → Decides (list_all is_ascii_digit field) (All IsAsciiDigit field)
 digits_decide = Decides-by_and is_ascii_digit IsAsciiDigit (list_all is_ascii_digit) digit_decides refl (λ _ _. refl)
 
 -- digits do not begin with a minus

@@ -4,19 +4,13 @@ use mathlib.Core.Bool.{false≢true}
 use Rattle.std.proofs.lemmas.Bool.{cases_lt, eq-eqb, eqb-true}
 use Rattle.std.proofs.lemmas.List.Folds.{list_any_at}
 use Rattle.sums.specs.Below.{sum_below, count_below}
-use Rattle.sums.proofs.Counts.{count_below-some}
+use Rattle.sums.proofs.Counts.{count_below-no_two, count_below-some}
 use Rattle.sums.proofs.OneChanged.{AgreeBut, sum_below-more}
-use Rattle.ground_turns.proofs.Ranks.{at_most_one}
+use Rattle.sums.proofs.Sums.{sum_below-ones}
 use Rattle.ground_turns.proofs.Regroup.{by_places}
 use Rattle.ground_turns.proofs.Rounds.{bit}
 use Rattle.ground_turns.proofs.Totals.{some_counted}
 use Rattle.cycle_join.specs.Joins.{is_listed}
-
--- tests that pass together are equal
-pub same_test : (b c : Bool) → (b ≡ true → c ≡ true) → (c ≡ true → b ≡ true) → b ≡ c
-same_test true c p q = sym (p refl)
-same_test false true p q = q refl
-same_test false false p q = refl
 
 pub same_bit : (b c : Bool) → bit b ≡ bit c → b ≡ c
 same_bit true true e = refl
@@ -56,7 +50,7 @@ pub counted_once : (p : ℕ → Bool) (n : ℕ) (b : Bool) → ((j k : ℕ) → 
 counted_once p n true one some only =
     let found = some refl in
     let least = count_below-some p n found.0 found.1 found.2 in
-    omega (arith, least, at_most_one p n one)
+    omega (arith, least, count_below-no_two p n one)
 counted_once p n false one some only = elim (cases_lt 0 (count_below p n)) [
   | inl more ↦ let found = some_counted p n more in absurd (false≢true (only found.0 found.1 found.2))
   | inr none ↦ omega arith
@@ -67,12 +61,8 @@ pub few_places : (place : ℕ → ℕ) (count n : ℕ) → ((k : ℕ) → k < co
     → ((j k : ℕ) → j < k → k < count → place j ≢ place k) → count ≤ n
 few_places place count n within differ =
     let law = by_places place (λ s. 1) n count within in
-    omega (arith, law, ones count, bounded n)
+    omega (arith, law, sum_below-ones count, bounded n)
   where
-    ones : (m : ℕ) → sum_below (λ k. 1) m ≡ m
-    ones zero = refl
-    ones (suc m) = omega (arith, ones m)
-
     same : (j k s : ℕ) → j < count → k < count → (place j == s) ≡ true → (place k == s) ≡ true → j ≡ k
     same j k s first second e g = elim (cases_lt j k) [
       | inl before ↦ absurd (differ j k before second (eqb-true _ _ e ∙ sym (eqb-true _ _ g)))
@@ -84,7 +74,7 @@ few_places place count n within differ =
 
     bounded : (m : ℕ) → sum_below (λ s. count_below (λ k. place k == s) count * 1) m ≤ m
     bounded zero = omega arith
-    bounded (suc m) = omega (arith, bounded m, at_most_one (λ k. place k == m) count (λ j k first second e g. same j k m first second e g))
+    bounded (suc m) = omega (arith, bounded m, count_below-no_two (λ k. place k == m) count (λ j k first second e g. same j k m first second e g))
 
 -- ---- listed numbers
 pub listed_at : (legs : List ℕ) (k : ℕ) → k < length legs → is_listed legs (slice_index legs k) ≡ true

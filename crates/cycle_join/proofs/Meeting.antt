@@ -1,7 +1,6 @@
 -- Turns that meet touch one minute, and turns of different labels that touch one meet.
-use Rattle.std.proofs.Common.{◌≡◌, ◌≢◌, ℕ, ◌<◌, ◌⊎◌, inl, inr, Bool, true, false, nat_lt, List, length, sym, ◌∙◌, ap, arith}
-use Rattle.std.proofs.lemmas.Bool.{and_from, and_parts, cases_order, eq-eqb, eqb-true, lt-ltb}
-use Rattle.std.proofs.lemmas.Bool.Decides.{nat_tests}
+use Rattle.std.proofs.Common.{◌≡◌, ◌≢◌, ℕ, ◌<◌, ◌⊎◌, inl, inr, Bool, true, false, List, length, sym, ◌∙◌, ap, arith}
+use Rattle.std.proofs.lemmas.Bool.{and_from, and_parts, cases_order, eq-eqb, eqb-true, lt-ltb, ltb-true}
 use Rattle.sums.proofs.Tests.{by_either, no_both}
 use Rattle.fleet_model.specs.declared.limits.TheConstants.{MINUTES_PER_PERIOD}
 use Rattle.fleet_model.specs.declared.parts.Connection.{Connection}
@@ -24,9 +23,6 @@ pub record AreMeeting (t : Tables) (f : ℕ) (pairs : List Connection) (labels :
   pub together : station_at t turn ≡ station_at t other
   pub shared : share_minute t f turn other ≡ true
 
-less_true : (m n : ℕ) → nat_lt m n ≡ true → m < n
-less_true m n e = grind (arith, nat_tests)
-
 module _ (t : Tables) (f : ℕ) (pairs : List Connection) (labels : List ℕ) (turn other : Connection) where
   pub are_meeting : meets t f pairs labels turn other ≡ true → AreMeeting t f pairs labels turn other
   are_meeting e =
@@ -35,7 +31,7 @@ module _ (t : Tables) (f : ℕ) (pairs : List Connection) (labels : List ℕ) (t
       let third = and_parts _ _ there.0 in
       let front = and_parts _ _ third.0 in
       record {
-        lower = less_true _ _ front.0;
+        lower = ltb-true _ _ front.0;
         free = eqb-true _ _ front.1;
         other_free = eqb-true _ _ third.1;
         together = eqb-true _ _ there.1;

@@ -3,7 +3,7 @@ use Rattle.std.proofs.Common.{◌≡◌, ◌≢◌, ℕ, zero, suc, ◌+◌, ◌
 use Rattle.std.proofs.Math.ListN.{get_or-append}
 use Rattle.std.proofs.lemmas.Bool.{cases_lt, cases_order, eq-eqb, eqb-true}
 use Rattle.std.proofs.lemmas.List.{get_or_push}
-use Rattle.sums.proofs.Tests.{never_passes, no_both}
+use Rattle.sums.proofs.Tests.{never_passes, no_both, same_tests}
 use Rattle.fleet_model.specs.declared.parts.Connection.{Connection}
 use Rattle.fleet_model.specs.declared.tables.Tables.{Tables}
 use Rattle.fleet_model.specs.Counts.{fleet_at}
@@ -15,7 +15,7 @@ use Rattle.ground_turns.proofs.Totals.{some_counted}
 use Rattle.sums.proofs.Places.{get_or-list_below, length-list_below}
 use Rattle.cycle_join.specs.Joins.{Flies, IsAlwaysKept, IsApart, IsFirstLeg, is_listed}
 use Rattle.cycle_join.specs.Labels.{AreLinked, label_of, legs_of}
-use Rattle.cycle_join.proofs.General.{listed_at, same_test, where_listed}
+use Rattle.cycle_join.proofs.General.{listed_at, where_listed}
 use Rattle.cycle_join.proofs.Paths.{arrives_once}
 
 -- the legs below n that have a label, rising
@@ -122,7 +122,7 @@ module _ (t : Tables) (a : List ℕ) (f : ℕ) (pairs turns : List Connection) (
       subst (λ q. is_listed legs q ≡ true) place.2 (listed_at legs place.0 place.1)
 
   by_label : (l k : ℕ) → l < legs_in t → k < legs_in t → label_of labels l ≡ label_of labels k → is_listed legs l ≡ is_listed legs k
-  by_label l k below below' same = same_test _ _ (listed_label l k below below' same) (listed_label k l below' below (sym same))
+  by_label l k below below' same = same_tests _ _ (listed_label l k below below' same) (listed_label k l below' below (sym same))
 
   keeps : KeepsPart turns (is_listed legs)
   keeps = record { each = λ k lt. by_label _ _ (fitting.map.each k lt).arriving (fitting.map.each k lt).departing (linked.linked k lt) }

@@ -1,5 +1,5 @@
 -- Paths of legs in a map: each is as long as it has different legs, and ends where it began.
-use Rattle.std.proofs.Common.{◌≡◌, ◌≢◌, ℕ, zero, suc, ◌+◌, ◌-◌, ◌<◌, ◌≤◌, inl, inr, ◌==◌, List, [], ◌∷◌, ◌++◌, length, slice_index, refl, sym, ◌∙◌, ap, subst, arith, length-append}
+use Rattle.std.proofs.Common.{◌≡◌, ◌≢◌, ℕ, zero, suc, ◌+◌, ◌-◌, ◌<◌, ◌≤◌, inl, inr, ◌==◌, List, [], ◌∷◌, ◌++◌, length, slice_index, refl, sym, ◌∙◌, ap, subst, arith, length-append, ap₂}
 use Rattle.std.proofs.Math.ListN.{get_or-append}
 use Rattle.std.proofs.lemmas.Bool.{cases_lt, eq-eqb}
 use Rattle.std.proofs.lemmas.List.{get_or_push}
@@ -58,11 +58,11 @@ module _ (t : Tables) (a : List ℕ) (f : ℕ) (turns : List Connection) (map : 
           begins = old 0 some ∙ path.begins;
           steps = λ k lt. elim (cases_lt (suc k) (length legs)) [
             | inl before ↦
-                subst (λ turn. HasTurn turns turn) (turn_is (sym (old k (omega arith))) (sym (old (suc k) before))) (path.steps k before)
+                subst (λ turn. HasTurn turns turn) (ap₂ turn_between (sym (old k (omega arith))) (sym (old (suc k) before))) (path.steps k before)
             | inr after ↦
                 let place : length legs - 1 ≡ k = omega (arith, long, lt, after) in
                 let end : length legs ≡ suc k = omega (arith, long, lt, after) in
-                subst (λ turn. HasTurn turns turn) (turn_is (ap (slice_index legs) place ∙ sym (old k (omega arith))) (sym (get_or_push legs q 0 (suc k) end))) turn
+                subst (λ turn. HasTurn turns turn) (ap₂ turn_between (ap (slice_index legs) place ∙ sym (old k (omega arith))) (sym (get_or_push legs q 0 (suc k) end))) turn
           ];
           once = λ j k order lt. elim (cases_lt k (length legs)) [
             | inl before ↦ λ same. path.once j k order before (sym (old j (omega arith)) ∙ same ∙ old k before)
@@ -77,9 +77,6 @@ module _ (t : Tables) (a : List ℕ) (f : ℕ) (turns : List Connection) (map : 
 
         old : (k : ℕ) → k < length legs → slice_index (legs ++ q ∷ []) k ≡ slice_index legs k
         old k lt = get_or-append legs (q ∷ []) 0 k lt
-
-        turn_is : {l m q r : ℕ} → l ≡ m → q ≡ r → turn_between l q ≡ turn_between m r
-        turn_is e g = cc
 
     -- the legs of a path from one of the fleet's legs are the fleet's
     pub path_flies : Flies t a f first → (k : ℕ) → k < length legs → Flies t a f (slice_index legs k)

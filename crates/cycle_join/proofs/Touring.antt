@@ -1,9 +1,10 @@
 -- A round of a map whose legs all have one label is a tour.
-use Rattle.std.proofs.Common.{◌≡◌, ℕ, zero, suc, ◌+◌, ◌-◌, ◌*◌, ◌%◌, ◌<◌, inl, inr, Bool, true, ◌==◌, List, length, slice_index, refl, sym, ◌∙◌, ap, subst, arith}
+use Rattle.std.proofs.Common.{◌≡◌, ℕ, zero, suc, ◌+◌, ◌-◌, ◌*◌, ◌%◌, ◌<◌, inl, inr, Bool, true, ◌==◌, List, length, slice_index, refl, sym, ◌∙◌, ap, subst, arith, ap₂}
 use Rattle.std.proofs.Math.Nat.{mod-eq_of_lt}
 use Rattle.std.proofs.lemmas.Bool.{cases_lt, cases_order, eq-eqb, eqb-true}
 use Rattle.std.proofs.lemmas.Nat.{mod-mul-add}
 use Rattle.sums.proofs.Places.{get_or-list_below, length-list_below}
+use Rattle.sums.proofs.Tests.{same_tests}
 use Rattle.fleet_model.specs.declared.parts.Connection.{Connection}
 use Rattle.fleet_model.specs.declared.tables.Tables.{Tables}
 use Rattle.fleet_model.specs.Counts.{fleet_at}
@@ -15,7 +16,7 @@ use Rattle.ground_turns.proofs.Fits.{fits_where_clean}
 use Rattle.cycle_join.specs.Joins.{Flies, IsFirstLeg, IsJoined, is_listed}
 use Rattle.cycle_join.specs.Labels.{IsOfLabels, label_of}
 use Rattle.cycle_join.specs.Rounds.{IsRound, turn_between}
-use Rattle.cycle_join.proofs.General.{counted_once, listed_at, same_test, where_listed}
+use Rattle.cycle_join.proofs.General.{counted_once, listed_at, where_listed}
 use Rattle.cycle_join.proofs.Paths.{its_turn, path_flies, same_after, same_before}
 
 -- once round
@@ -56,7 +57,7 @@ module _ (t : Tables) (a : List ℕ) (f : ℕ) (turns : List Connection) (map : 
 
   -- the map keeps the legs of the round among themselves
   kept : KeepsPart turns (is_listed legs)
-  kept = record { each = λ k lt. same_test _ _ (forth k lt) (back k lt) }
+  kept = record { each = λ k lt. same_tests _ _ (forth k lt) (back k lt) }
     where
       itself : (k : ℕ) → k < length turns → HasTurn turns (turn_between (turn_at turns k).arriving (turn_at turns k).departing)
       itself k lt = record { place = k; within = lt; there = refl }
@@ -167,13 +168,9 @@ module _ (t : Tables) (a : List ℕ) (f : ℕ) (turns : List Connection) (map : 
           record {
             place = found.0;
             within = subst (λ n. found.0 < n) (sym tour_long) found.1;
-            there = tour_turn found.0 found.1 ∙ between found.2 same;
+            there = tour_turn found.0 found.1 ∙ ap₂ turn_between found.2 same;
           };
     }
-      where
-        between : {l m q r : ℕ} → l ≡ m → q ≡ r → turn_between l q ≡ turn_between m r
-        between e g = cc
-
   -- where all the fleet's legs have the label of the first, all are in the round
   pub is_joined : (pairs : List Connection) (labels : List ℕ) → IsFitting t a f turns → Holds turns pairs → length labels ≡ legs_in t
       → ((inside : ℕ → Bool) → KeepsPart turns inside → IsOfLabels labels inside)

@@ -22,7 +22,7 @@ use Rattle.dual_bound.specs.declared.prices.Prices.{Prices}
 use Rattle.dual_bound.proofs.Flows.{fleet_bound, flow_worth}
 
 -- the lesser of two, once there is a first
-lesser_le : (o : Option ℤ) (z : ℤ) → (lesser o z ≤ℤ unwrap_or o z) × (lesser o z ≤ℤ z)
+pub lesser_le : (o : Option ℤ) (z : ℤ) → (lesser o z ≤ℤ unwrap_or o z) × (lesser o z ≤ℤ z)
 lesser_le None z = (omega (arith, ints), omega (arith, ints))
 lesser_le (Some y) z = by_test (int_le y z) (λ e. grind (arith, ints)) (λ e. grind (arith, ints))
   where

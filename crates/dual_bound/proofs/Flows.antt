@@ -1,5 +1,5 @@
 -- What a fleet's flights are worth by prices: no more than the rent of the aircraft that it uses.
-use Rattle.std.proofs.Common.{◌≡◌, ℕ, suc, ◌+◌, ◌*◌, ◌<◌, ◌≤◌, Bool, true, ◌==◌, nat_le, ℤ, pos, ◌+ℤ◌, ◌-ℤ◌, ◌*ℤ◌, ◌≤ℤ◌, ap, subst, arith}
+use Rattle.std.proofs.Common.{◌≡◌, ℕ, suc, ◌+◌, ◌*◌, ◌<◌, ◌≤◌, Bool, ◌==◌, nat_le, ℤ, pos, ◌+ℤ◌, ◌-ℤ◌, ◌*ℤ◌, ◌≤ℤ◌, ap, subst, arith}
 use Rattle.std.proofs.lemmas.Bool.Decides.{nat_tests}
 use Rattle.std.proofs.lemmas.Int.{ints}
 use Rattle.std.proofs.lemmas.Nat.{mod_below}
@@ -18,6 +18,7 @@ use Rattle.fleet_model.specs.Schedule.{fleets_in, leg_of, leg_on, legs_in, no_le
 use Rattle.fleet_model.specs.Times.{busy_minutes, departure, laps_of, ready_minute}
 use Rattle.fleet_model.specs.Use.{IsBalanced, last_minute, laps_at, laps_flown, need_of, used_of}
 use Rattle.fleet_model.proofs.UseLaws.{need_suffices}
+use Rattle.fleet_model.proofs.Minutes.{by_last_minute}
 use Rattle.dual_bound.specs.Prices.{ArePrices, price_of, rent_of}
 use Rattle.dual_bound.specs.declared.prices.Prices.{Prices}
 
@@ -91,11 +92,7 @@ module _ (t : Tables) (prices : Prices) (proper : ArePrices t prices) (w : Weigh
   unfolding back_to lands ready_at weight arriving
   all_arriving = over_places (λ l. (leg_of t l).to) (λ l. nat_le (ready_at l) last_minute) (λ l s. pos (w (leg_on l f)) *ℤ price_of prices f s (ready_minute t (leg_on l f))) (stations_in t) (legs_in t)
       (record { each = λ l below. (t.in_range.legs_fit.each l no_leg below).to })
-      (λ l below. early (ready_at l) (mod_below (departure t (leg_on l f) + busy_minutes t (leg_on l f)) MINUTES_PER_PERIOD (omega arith)))
-    where
-      early : (m : ℕ) → m < MINUTES_PER_PERIOD → nat_le m last_minute ≡ true
-      early m below = grind (arith, nat_tests)
-
+      (λ l below. by_last_minute (ready_at l) (mod_below (departure t (leg_on l f) + busy_minutes t (leg_on l f)) MINUTES_PER_PERIOD (omega arith)))
   -- departures are worth no more than arrivals and the rent of the need at all stations
   at_stations : sum_below_ℤ departing (legs_in t) ≤ℤ (sum_below_ℤ arriving (legs_in t) +ℤ (pos (sum_below (need_of t w f) (stations_in t)) *ℤ rent_of prices f))
   at_stations =

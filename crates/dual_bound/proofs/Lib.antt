@@ -6,5 +6,6 @@ pub mod PriceLists
 pub mod RisingSteps
 pub mod RisingWeights
 pub mod Sizes
+pub mod StepOrder
 pub mod TablesBy
 pub mod ZeroPrices

@@ -4,8 +4,9 @@ use Rattle.std.proofs.lemmas.List.{get_or_default}
 use mathlib.Core.Bool.{false≢true}
 use Rattle.std.specs.List.{IsAllAdjacentAnswer}
 use Rattle.std.specs.List.Sorted.{IsPartitionedBy}
-use Rattle.std.proofs.lemmas.Bool.{cases_lt}
+use Rattle.std.proofs.lemmas.Bool.{cases_lt, ltb-true}
 use Rattle.std.proofs.lemmas.Bool.Decides.{nat_tests}
+use Rattle.sums.proofs.NumberTests.{greater_differs, less_differs}
 use Rattle.dual_bound.specs.Prices.{has_come, price_after, rent_of}
 use Rattle.dual_bound.specs.Rising.{AreOfOthers, IsIdle, IsParting, StepsRise, is_by, no_step, said_before, step_before}
 use Rattle.dual_bound.specs.declared.prices.PriceStep.{PriceStep}
@@ -201,12 +202,6 @@ others_say_nothing steps f s m others = none_says steps (pos 0) f s m (record { 
 fleet_rises : (a b : PriceStep) → step_before a b ≡ true → a.fleet ≤ b.fleet
 fleet_rises a b before = grind (arith, nat_tests)
 
-other_above : (n f : ℕ) → f < n → (n == f) ≡ false
-other_above n f above = grind (arith, nat_tests)
-
-other_below : (n f : ℕ) → n < f → (n == f) ≡ false
-other_below n f below = grind (arith, nat_tests)
-
 pub others_of_none : (steps : List PriceStep) (f : ℕ) → length steps ≡ 0 → AreOfOthers steps f
 others_of_none steps f none = record { each = λ k below. absurd (omega arith) }
 
@@ -215,20 +210,17 @@ pub others_before : (steps : List PriceStep) (f : ℕ) → StepsRise steps → f
 others_before steps f rise below = record { each = each }
   where
     each : (k : ℕ) → k < length steps → ((slice_index_or steps k no_step).fleet == f) ≡ false
-    each zero within = other_above _ f below
-    each (suc k) within = other_above _ f (omega (arith, below, fleet_rises (slice_index_or steps 0 no_step) (slice_index_or steps (suc k) no_step) (rise 0 (suc k) (omega arith) within)))
+    each zero within = greater_differs _ f below
+    each (suc k) within = greater_differs _ f (omega (arith, below, fleet_rises (slice_index_or steps 0 no_step) (slice_index_or steps (suc k) no_step) (rise 0 (suc k) (omega arith) within)))
 
 pub others_after : (steps : List PriceStep) (f : ℕ) → StepsRise steps → 0 < length steps → IsTrue (nat_lt (slice_index_or steps (length steps - 1) no_step).fleet f) → AreOfOthers steps f
-others_after steps f rise some above = behind (length steps - 1) (omega arith) (by_test _ _ above)
+others_after steps f rise some above = behind (length steps - 1) (omega arith) (ltb-true _ _ above)
   where
-    by_test : (x y : ℕ) → IsTrue (nat_lt x y) → x < y
-    by_test x y e = grind (arith, nat_tests)
-
     behind : (last : ℕ) → last + 1 ≡ length steps → (slice_index_or steps last no_step).fleet < f → AreOfOthers steps f
     behind last ends above = record {
       each = λ k within. elim (cases_lt k last) [
-        | inl earlier ↦ other_below _ f (omega (arith, above, fleet_rises (slice_index_or steps k no_step) (slice_index_or steps last no_step) (rise k last earlier (omega arith))))
-        | inr here ↦ let same : k ≡ last = omega arith in rw same (other_below _ f above)
+        | inl earlier ↦ less_differs _ f (omega (arith, above, fleet_rises (slice_index_or steps k no_step) (slice_index_or steps last no_step) (rise k last earlier (omega arith))))
+        | inr here ↦ let same : k ≡ last = omega arith in rw same (less_differs _ f above)
       ];
     }
 

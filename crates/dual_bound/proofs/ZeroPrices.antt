@@ -10,7 +10,7 @@ price_zero : (prices : Prices) → prices.steps ≡ [] → (f s m : ℕ) → pri
 unfolding price_after
 price_zero prices none f s m = rw none refl
 
-rent_zero : (prices : Prices) → prices.rents ≡ [] → (f : ℕ) → rent_of prices f ≡ pos 0
+pub rent_zero : (prices : Prices) → prices.rents ≡ [] → (f : ℕ) → rent_of prices f ≡ pos 0
 rent_zero prices none f = rw none refl
 
 pub zero_is_proper : ZeroIsProper

@@ -8,7 +8,7 @@ use Rattle.sums.specs.Below.{sum_below_ℤ}
 use Rattle.sums.specs.Divisors.{gcd}
 use Rattle.sums.proofs.Division.{*ℤ-int_div, positive_factor}
 use Rattle.sums.proofs.Divisors.{gcd_is, gcd_positive}
-use Rattle.sums.proofs.Integers.{*ℤ-+ℤ, *ℤ--ℤ, -ℤ-*ℤ, *ℤ-neg_ℤ, *ℤ_assoc, *ℤ_left_comm, neg_ℤ-*ℤ, one-*ℤ, positive_product}
+use Rattle.sums.proofs.Integers.{*ℤ-+ℤ, *ℤ--ℤ, -ℤ-*ℤ, *ℤ-neg_ℤ, *ℤ_assoc, *ℤ_left_comm, neg_ℤ-*ℤ, positive_product, minus_one-*ℤ}
 use Rattle.sums.proofs.Maxima.{max_below-upper}
 use Rattle.sums.proofs.WholeSums.{*ℤ-sum_below_ℤ, sum_below_ℤ-same}
 use Rattle.sums.proofs.WholeSwaps.{sum_below_ℤ-+ℤ}
@@ -129,13 +129,10 @@ module _ (rows : Rows) (table : List FracRow) (basis : List ℕ) (is : IsTableOf
       (λ l below. ap (λ j. (phase_den table -ℤ number_at table (phase_row table) j) *ℤ entry rows l column) (identity_is l) ∙ turned (phase_den table) (number_at table (phase_row table) (rows.columns + l)) (entry rows l column))
       ∙ sym (*ℤ-sum_below_ℤ (neg_ℤ (pos 1)) (λ l. (identity_at table rows.columns (phase_row table) l -ℤ den_at table (phase_row table)) *ℤ entry rows l column) (length rows.lines))
       ∙ ap (λ z. neg_ℤ (pos 1) *ℤ z) (sym (reads.phase column within))
-      ∙ minus (phase_at column)
+      ∙ minus_one-*ℤ (phase_at column)
     where
-      minus : (z : ℤ) → neg_ℤ (pos 1) *ℤ z ≡ neg_ℤ z
-      minus z = omega (arith, ints, neg_ℤ-*ℤ (pos 1) z, one-*ℤ z)
-
       turned : (P p e : ℤ) → (P -ℤ p) *ℤ e ≡ neg_ℤ (pos 1) *ℤ ((p -ℤ P) *ℤ e)
-      turned P p e = omega (arith, ints, -ℤ-*ℤ P p e, -ℤ-*ℤ p P e, minus ((p -ℤ P) *ℤ e))
+      turned P p e = omega (arith, ints, -ℤ-*ℤ P p e, -ℤ-*ℤ p P e, minus_one-*ℤ ((p -ℤ P) *ℤ e))
 
   -- by both rows
   pub weighed_best : (column : ℕ) → column ≤ rows.columns

@@ -1,14 +1,13 @@
 -- Dual values that are not outgrown are a row of fractions.
 use Rattle.std.proofs.Common.{◌≡◌, ℕ, ◌+◌, ◌-◌, ◌<◌, ◌^◌, Bool, true, false, ◌||◌, if◌then◌else◌, List, get_or, None, ℤ, pos, neg_ℤ, ◌<ℤ◌, refl, sym, subst, inl, inr, arith}
-use Rattle.std.proofs.lemmas.Bool.{cases_lt}
-use Rattle.std.proofs.lemmas.Bool.Decides.{nat_tests}
-use Rattle.std.proofs.lemmas.Int.{ints}
+use Rattle.std.proofs.lemmas.Bool.{cases_lt, or_parts}
 use Rattle.std.proofs.lemmas.List.{get_or_past}
 use Rattle.sums.specs.Places.{list_below}
 use Rattle.sums.proofs.Places.{get_or-list_below, length-list_below, nothing_at}
 use Rattle.frac_row.specs.Outgrown.{IsWithin, is_outgrown}
 use Rattle.frac_row.specs.Row.{IsRow, number_of, width_of}
 use Rattle.frac_row.specs.declared.row.FracRow.{FracRow}
+use Rattle.frac_row.proofs.Combinations.{opposite_within, within_from}
 use Rattle.row_store.specs.Choice.{is_negative}
 use Rattle.row_store.specs.Table.{IsTable, cost_row, height_of, number_at, phase_row, right_side}
 use Rattle.dual_lift.specs.Duals.{best_scale, best_value, cost_den, cost_value, identity_column, phase_den, phase_value}
@@ -19,19 +18,9 @@ use Rattle.dual_lift.specs.declared.reading.Reading.TheVariants.{BothRows, CostR
 use Rattle.dual_lift.proofs.BestDuals.{scale_some}
 use Rattle.dual_lift.proofs.Excesses.{first_none, not_excess, second_none}
 
-within : (z : ℤ) → is_outgrown z ≡ false → IsWithin z
-within z e = grind (arith, nat_tests)
-
-opposite_within : (z : ℤ) → IsWithin z → IsWithin (neg_ℤ z)
-opposite_within z w = omega (arith, ints, w)
-
 either_within : (b : Bool) (z : ℤ) → IsWithin z → IsWithin (if b then neg_ℤ z else z)
 either_within true z w = opposite_within z w
 either_within false z w = w
-
-right_false : (b c : Bool) → (b || c) ≡ false → c ≡ false
-right_false true c e = cc
-right_false false c e = e
 
 phase_above : (table : List FracRow) → IsTable table → pos 0 <ℤ phase_den table
 phase_above table is = (is.rows (phase_row table) (omega (arith, is.tall))).positive
@@ -49,15 +38,15 @@ list_within f n each k = elim (cases_lt k n) [
 -- one value, where nothing on the way to it is too large
 value_within : (table : List FracRow) (reading : Reading) (line : ℕ) → IsTable table → IsReadingOf table reading → value_excess_by table reading line ≡ None → IsWithin (value_by table reading line)
 value_within table (BothRows mixture) line is reads fits =
-    within (best_value table line) (right_false (is_outgrown (cost_value table line)) (is_outgrown (best_value table line)) (right_false (phases_outgrown table line) (is_outgrown (cost_value table line) || is_outgrown (best_value table line)) (not_excess (best_value_outgrown table line) 3 line fits)))
-value_within table PhaseRow line is reads fits = within (phase_value table line) (not_excess (is_outgrown (phase_value table line)) 3 line fits)
+    within_from (best_value table line) (or_parts (is_outgrown (cost_value table line)) (is_outgrown (best_value table line)) (or_parts (phases_outgrown table line) (is_outgrown (cost_value table line) || is_outgrown (best_value table line)) (not_excess (best_value_outgrown table line) 3 line fits)).1).1
+value_within table PhaseRow line is reads fits = within_from (phase_value table line) (not_excess (is_outgrown (phase_value table line)) 3 line fits)
 value_within table CostRow line is reads fits = opposite_within (number_at table (cost_row table) (identity_column table line)) ((is.rows (cost_row table) (omega (arith, is.tall))).within (identity_column table line))
 value_within table (LineRow row) line is reads fits =
     either_within (is_negative (right_side table row)) (number_at table row (identity_column table line)) ((is.rows row (omega (arith, is.tall, reads))).within (identity_column table line))
 
 -- the scale
 scale_within : (table : List FracRow) (reading : Reading) → IsTable table → IsReadingOf table reading → scale_excess_by table reading ≡ None → IsWithin (scale_by table reading)
-scale_within table (BothRows mixture) is reads fits = within (best_scale table) (not_excess (is_outgrown (best_scale table)) 2 0 fits)
+scale_within table (BothRows mixture) is reads fits = within_from (best_scale table) (not_excess (is_outgrown (best_scale table)) 2 0 fits)
 scale_within table PhaseRow is reads fits = (is.rows (phase_row table) (omega (arith, is.tall))).den_within
 scale_within table CostRow is reads fits = (is.rows (cost_row table) (omega (arith, is.tall))).den_within
 scale_within table (LineRow row) is reads fits = (is.rows row (omega (arith, is.tall, reads))).den_within

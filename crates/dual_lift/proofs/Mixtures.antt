@@ -10,15 +10,9 @@ use Rattle.sums.proofs.Integers.{neg_ℤ-*ℤ}
 use Rattle.sums.proofs.Maxima.{max_below-suc}
 use Rattle.frac_row.specs.Outgrown.{is_outgrown}
 use Rattle.frac_row.specs.declared.row.FracRow.{FracRow}
-use Rattle.row_store.specs.Choice.{is_negative}
+use Rattle.row_store.proofs.SignTests.{negative_tested, not_negative_tested}
 use Rattle.dual_lift.specs.Duals.{ceiling, cost_den, cost_part, phase_den, phase_part, phases_for}
 use Rattle.dual_lift.specs.TooLarge.{phases_for_outgrown}
-
-negative_test : (z : ℤ) → z <ℤ pos 0 → is_negative z ≡ true
-negative_test z h = grind (arith, ints)
-
-other_test : (z : ℤ) → pos 0 ≤ℤ z → is_negative z ≡ false
-other_test z h = grind (arith, ints)
 
 size_opposite : (z : ℤ) → unsigned_abs (neg_ℤ z) ≡ unsigned_abs z
 size_opposite z = omega (arith, ints)
@@ -29,23 +23,23 @@ size_product c P = ap unsigned_abs (neg_ℤ-*ℤ c P) ∙ size_opposite (c *ℤ 
 -- a column that isn't negative wants none
 pub none_wanted : (c C p P : ℤ) → pos 0 ≤ℤ c → (phases_for_outgrown c C p P ≡ false) × (pos 0 ≡ pos (phases_for c C p P))
 none_wanted c C p P h = (
-  ap (λ b. b && (is_outgrown (neg_ℤ c *ℤ P) || is_outgrown (p *ℤ C))) (other_test c h),
-  ap (λ b. pos (cond b (ceiling (unsigned_abs (c *ℤ P)) (unsigned_abs (p *ℤ C))) 0)) (sym (other_test c h)),
+  ap (λ b. b && (is_outgrown (neg_ℤ c *ℤ P) || is_outgrown (p *ℤ C))) (not_negative_tested c h),
+  ap (λ b. pos (cond b (ceiling (unsigned_abs (c *ℤ P)) (unsigned_abs (p *ℤ C))) 0)) (sym (not_negative_tested c h)),
 )
 
 -- the first product is outgrown, or the second
 pub first_outgrown : (c C p P : ℤ) → c <ℤ pos 0 → is_outgrown (neg_ℤ c *ℤ P) ≡ true → phases_for_outgrown c C p P ≡ true
-first_outgrown c C p P h e = ap (λ b. b && (is_outgrown (neg_ℤ c *ℤ P) || is_outgrown (p *ℤ C))) (negative_test c h) ∙ ap (λ b. b || is_outgrown (p *ℤ C)) e
+first_outgrown c C p P h e = ap (λ b. b && (is_outgrown (neg_ℤ c *ℤ P) || is_outgrown (p *ℤ C))) (negative_tested c h) ∙ ap (λ b. b || is_outgrown (p *ℤ C)) e
 
 pub second_outgrown : (c C p P : ℤ) → c <ℤ pos 0 → is_outgrown (neg_ℤ c *ℤ P) ≡ false → is_outgrown (p *ℤ C) ≡ true → phases_for_outgrown c C p P ≡ true
-second_outgrown c C p P h e f = ap (λ b. b && (is_outgrown (neg_ℤ c *ℤ P) || is_outgrown (p *ℤ C))) (negative_test c h) ∙ ap (λ b. b || is_outgrown (p *ℤ C)) e ∙ f
+second_outgrown c C p P h e f = ap (λ b. b && (is_outgrown (neg_ℤ c *ℤ P) || is_outgrown (p *ℤ C))) (negative_tested c h) ∙ ap (λ b. b || is_outgrown (p *ℤ C)) e ∙ f
 
 pub some_wanted : (c C p P n d r : ℤ) → c <ℤ pos 0 → n ≡ neg_ℤ c *ℤ P → is_outgrown (neg_ℤ c *ℤ P) ≡ false → d ≡ p *ℤ C → is_outgrown (p *ℤ C) ≡ false → r ≡ pos (ceiling (unsigned_abs n) (unsigned_abs d))
     → (phases_for_outgrown c C p P ≡ false) × (r ≡ pos (phases_for c C p P))
 some_wanted c C p P n d r h en fn ed fd er = (
-  ap (λ b. b && (is_outgrown (neg_ℤ c *ℤ P) || is_outgrown (p *ℤ C))) (negative_test c h) ∙ ap (λ b. b || is_outgrown (p *ℤ C)) fn ∙ fd,
+  ap (λ b. b && (is_outgrown (neg_ℤ c *ℤ P) || is_outgrown (p *ℤ C))) (negative_tested c h) ∙ ap (λ b. b || is_outgrown (p *ℤ C)) fn ∙ fd,
   er ∙ ap (λ z. pos (ceiling z (unsigned_abs d))) (ap unsigned_abs en ∙ size_product c P) ∙ ap (λ z. pos (ceiling (unsigned_abs (c *ℤ P)) (unsigned_abs z))) ed
-      ∙ ap (λ b. pos (cond b (ceiling (unsigned_abs (c *ℤ P)) (unsigned_abs (p *ℤ C))) 0)) (sym (negative_test c h)),
+      ∙ ap (λ b. pos (cond b (ceiling (unsigned_abs (c *ℤ P)) (unsigned_abs (p *ℤ C))) 0)) (sym (negative_tested c h)),
 )
 
 -- one column more

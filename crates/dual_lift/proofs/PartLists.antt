@@ -1,10 +1,11 @@
 -- The parts of columns, written line by line.
-use Rattle.std.proofs.Common.{◌≡◌, ◌≢◌, ℕ, ◌+◌, ◌<◌, ◌≤◌, false, cond, ◌==◌, List, [], ◌∷◌, ◌++◌, length, get_or, set, ℤ, pos, sym, ◌∙◌, ap, subst, add-one, inl, inr, arith, length-set, get_or-set_same, get_or-set_other}
+use Rattle.std.proofs.Common.{◌≡◌, ◌≢◌, ℕ, ◌+◌, ◌<◌, ◌≤◌, cond, ◌==◌, List, [], ◌∷◌, ◌++◌, length, get_or, set, ℤ, pos, sym, ◌∙◌, ap, subst, add-one, inl, inr, arith, length-set, get_or-set_same, get_or-set_other}
 use Rattle.std.proofs.lemmas.Bool.{cases_lt}
 use Rattle.std.proofs.lemmas.Bool.Decides.{nat_tests}
 use Rattle.std.proofs.lemmas.List.{get_or_append_left, get_or_push, length_push}
 use Rattle.sums.proofs.Naturals.{equal_number}
 use Rattle.sums.proofs.Tests.{by_test, no_both}
+use Rattle.sums.proofs.NumberTests.{greater_differs}
 use Rattle.frac_row.specs.declared.row.FracRow.{FracRow}
 use Rattle.dual_lift.specs.Parts.{AreParts, part_below, part_of}
 
@@ -24,12 +25,8 @@ one_more n xs ys are e = record {
 pub part_kept : (table : List FracRow) (basis : List ℕ) (scale line columns : ℕ) (xs : List ℤ) → AreParts (part_below table basis scale line) columns xs → columns ≤ get_or basis line 0 → AreParts (part_below table basis scale (line + 1)) columns xs
 part_kept table basis scale line columns xs are other = subst (λ n. AreParts (part_below table basis scale n) columns xs) (sym (add-one line)) (record {
   all = are.all;
-  each = λ column below. are.each column below ∙ ap (λ b. pos (cond b (part_of table scale line) (part_below table basis scale line column))) (sym (differ (get_or basis line 0) column (omega arith)));
+  each = λ column below. are.each column below ∙ ap (λ b. pos (cond b (part_of table scale line) (part_below table basis scale line column))) (sym (greater_differs (get_or basis line 0) column (omega arith)));
 })
-  where
-    differ : (m n : ℕ) → n < m → (m == n) ≡ false
-    differ m n less = grind (arith, nat_tests)
-
 -- a line of one of them
 pub part_set : (table : List FracRow) (basis : List ℕ) (scale line columns column : ℕ) (xs ys : List ℤ) (w : ℤ) → AreParts (part_below table basis scale line) columns xs → column ≡ get_or basis line 0 → column < columns → w ≡ pos (part_of table scale line) → ys ≡ set xs column w
     → AreParts (part_below table basis scale (line + 1)) columns ys

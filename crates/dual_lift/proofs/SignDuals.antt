@@ -4,36 +4,29 @@ use Rattle.std.proofs.Common.{◌≡◌, ◌≢◌, ℕ, ◌<◌, ◌≤◌, Boo
 use Rattle.std.proofs.lemmas.Int.{ints}
 use lib.IntN.{*ℤ-zero}
 use Rattle.sums.specs.Below.{sum_below_ℤ}
-use Rattle.sums.proofs.Integers.{neg_ℤ-*ℤ, one-*ℤ}
-use Rattle.sums.proofs.WholeSums.{*ℤ-sum_below_ℤ, sum_below_ℤ-same}
+use Rattle.sums.proofs.Integers.{neg_ℤ-*ℤ}
+use Rattle.sums.proofs.WholeSums.{sum_below_ℤ-same}
+use Rattle.sums.proofs.WholeTerms.{sum_below_ℤ-neg}
 use Rattle.frac_row.specs.declared.row.FracRow.{FracRow}
 use Rattle.row_store.specs.Choice.{is_negative}
 use Rattle.row_store.specs.Problem.{entry}
 use Rattle.row_store.specs.declared.problem.Rows.{Rows}
 use Rattle.row_store.specs.Table.{cost_row, number_at, right_side}
+use Rattle.row_store.proofs.SignTests.{negative_tested, not_negative_tested}
 use Rattle.reached_tables.specs.Duality.{IsTableOf, ReadsOff, amount_at, identity_at, weighed}
 use Rattle.dual_lift.specs.Duals.{cost_den, row_value, sign_value}
 use Rattle.reached_tables.specs.Signs.{IsBestBySigns, IsRefusedByRow}
 use Rattle.dual_lift.proofs.BestDuals.{cost_real, cost_side, identity_is, no_cost, when_ge, when_lt}
 
--- the same weights with the other sign
-opposite_sum : (f : ℕ → ℤ) (n : ℕ) → sum_below_ℤ (λ k. neg_ℤ (f k)) n ≡ neg_ℤ (sum_below_ℤ f n)
-opposite_sum f n =
-    sum_below_ℤ-same (λ k. neg_ℤ (f k)) (λ k. neg_ℤ (pos 1) *ℤ f k) n (λ k below. sym (minus (f k)))
-    ∙ sym (*ℤ-sum_below_ℤ (neg_ℤ (pos 1)) f n) ∙ minus (sum_below_ℤ f n)
-  where
-    minus : (z : ℤ) → neg_ℤ (pos 1) *ℤ z ≡ neg_ℤ z
-    minus z = omega (arith, ints, neg_ℤ-*ℤ (pos 1) z, one-*ℤ z)
-
 signed : Bool → ℤ → ℤ
 signed b z = if b then neg_ℤ z else z
 
 signed_sum : (b : Bool) (f e : ℕ → ℤ) (n : ℕ) → sum_below_ℤ (λ k. (if b then neg_ℤ (f k) else f k) *ℤ e k) n ≡ (if b then neg_ℤ (sum_below_ℤ (λ k. f k *ℤ e k) n) else sum_below_ℤ (λ k. f k *ℤ e k) n)
-signed_sum true f e n = sum_below_ℤ-same (λ k. neg_ℤ (f k) *ℤ e k) (λ k. neg_ℤ (f k *ℤ e k)) n (λ k below. neg_ℤ-*ℤ (f k) (e k)) ∙ opposite_sum (λ k. f k *ℤ e k) n
+signed_sum true f e n = sum_below_ℤ-same (λ k. neg_ℤ (f k) *ℤ e k) (λ k. neg_ℤ (f k *ℤ e k)) n (λ k below. neg_ℤ-*ℤ (f k) (e k)) ∙ sum_below_ℤ-neg (λ k. f k *ℤ e k) n
 signed_sum false f e n = refl
 
 cases_sign : (z : ℤ) → z ≢ pos 0 → ((z <ℤ pos 0) × (is_negative z ≡ true)) ⊎ ((pos 0 <ℤ z) × (is_negative z ≡ false))
-cases_sign (pos n) some = inr (above n some, other (pos n) (omega (arith, ints)))
+cases_sign (pos n) some = inr (above n some, not_negative_tested (pos n) (omega (arith, ints)))
   where
     above : (n : ℕ) → pos n ≢ pos 0 → pos 0 <ℤ pos n
     above n some = positive n (λ e. some (ap pos e))
@@ -41,13 +34,7 @@ cases_sign (pos n) some = inr (above n some, other (pos n) (omega (arith, ints))
         positive : (n : ℕ) → n ≢ 0 → pos 0 <ℤ pos n
         positive n some = omega (arith, ints)
 
-    other : (z : ℤ) → pos 0 ≤ℤ z → is_negative z ≡ false
-    other z h = grind (arith, ints)
-cases_sign (negsuc n) some = inl (omega (arith, ints), negative (negsuc n) (omega (arith, ints)))
-  where
-    negative : (z : ℤ) → z <ℤ pos 0 → is_negative z ≡ true
-    negative z h = grind (arith, ints)
-
+cases_sign (negsuc n) some = inl (omega (arith, ints), negative_tested (negsuc n) (omega (arith, ints)))
 module _ (rows : Rows) (table : List FracRow) (basis : List ℕ) (is : IsTableOf rows table basis) (reads : ReadsOff rows table) where
   -- ---- by the cost row
   weighed_signs : (column : ℕ) → column ≤ rows.columns → weighed rows (sign_value table) column ≡ (cost_den table *ℤ get_or rows.costs column (pos 0)) -ℤ amount_at table rows.columns (cost_row table) column
@@ -56,7 +43,7 @@ module _ (rows : Rows) (table : List FracRow) (basis : List ℕ) (is : IsTableOf
       let sum : weighed rows (sign_value table) column ≡ neg_ℤ (sum_below_ℤ terms (length rows.lines)) =
       sum_below_ℤ-same (λ l. sign_value table l *ℤ entry rows l column) (λ l. neg_ℤ (terms l)) (length rows.lines)
       (λ l below. ap (λ j. neg_ℤ (number_at table (cost_row table) j) *ℤ entry rows l column) (identity_is rows table basis is reads l) ∙ neg_ℤ-*ℤ (identity_at table rows.columns (cost_row table) l) (entry rows l column))
-      ∙ opposite_sum terms (length rows.lines) in
+      ∙ sum_below_ℤ-neg terms (length rows.lines) in
       omega (arith, ints, sum, reads.cost column within)
 
   pub sign_dual : IsBestBySigns rows table basis → (column : ℕ) → column < rows.columns → weighed rows (sign_value table) column ≤ℤ (cost_den table *ℤ get_or rows.costs column (pos 0))

@@ -1,6 +1,7 @@
 -- The run, step by step.
 use Rattle.std.proofs.Common.{◌≡◌, ℕ, ◌+◌, ◌-◌, ◌≤◌, List, ◌∷◌, length, set, None, refl, sym, ◌∙◌, ap, subst, arith}
 use Rattle.sums.specs.Places.{list_below}
+use Rattle.sums.proofs.Naturals.{less_two}
 use Rattle.frac_row.specs.declared.row.FracRow.{FracRow}
 use Rattle.row_store.specs.declared.error.Place.{Place}
 use Rattle.row_store.specs.Table.{height_of, HasColumns, IsTable}
@@ -25,9 +26,6 @@ under_way : (first : List FracRow) (columns made : ℕ) (table : List FracRow) (
 under_way first columns made table basis is shape r =
     let k : KeepsShape first columns (record { table = table; basis = basis }) = steps_keep_shape first columns table basis is shape r.reached in
     record { reached = r; shape = k.shape; height = k.height; lines = k.basis ∙ ap (λ n. n - 2) (sym k.height) }
-
-less_two : (h n : ℕ) → h + 2 ≡ n → h ≡ n - 2
-less_two h n e = omega arith
 
 -- no step yet
 pub begins : (table : List FracRow) (columns : ℕ) (basis : List ℕ) (height : ℕ) → IsTable table → HasColumns table columns → height + 2 ≡ length table → basis ≡ list_below (λ line. columns + line) height → IsUnderWay table columns 0 table basis

@@ -1,18 +1,18 @@
 -- The turns and nights between the legs of a list, as legs are put behind it, and as those of a tour's first legs.
-use Rattle.std.proofs.Common.{◌≡◌, ℕ, zero, suc, ◌+◌, ◌-◌, ◌%◌, ◌<◌, ◌≤◌, true, ◌&&◌, Option, Some, None, List, [], ◌∷◌, ◌++◌, length, slice_index, take, sym, ◌∙◌, ap, arith, append_assoc, length-append}
+use Rattle.std.proofs.Common.{◌≡◌, ℕ, zero, suc, ◌+◌, ◌-◌, ◌%◌, ◌<◌, ◌≤◌, true, ◌&&◌, Option, Some, None, List, [], ◌∷◌, ◌++◌, length, slice_index, take, sym, ◌∙◌, ap, arith, append_assoc, length-append, add-one}
 use Rattle.std.proofs.Math.Nat.{mod-eq_of_lt}
 use Rattle.std.proofs.lemmas.List.{append-nil, get_or_append_left, get_or-take, length-take-le}
 use Rattle.std.proofs.Math.Seq.{get_or-append_seam}
 use Rattle.sums.specs.Places.{list_below}
-use Rattle.sums.proofs.Places.{list_below-more}
+use Rattle.sums.proofs.Places.{list_below-agree, list_below-more}
 use Rattle.sums.proofs.Tests.{parts_true}
+use Rattle.sums.proofs.Naturals.{plus_0}
 use Rattle.fleet_model.specs.declared.parts.Connection.{Connection}
 use Rattle.fleet_model.specs.declared.tables.Tables.{Tables}
 use Rattle.ground_turns.specs.Maps.{turn_after}
 use Rattle.ground_turns.specs.Nights.{nights_in_turn, nights_in_turns, nights_of_tour}
 use Rattle.euler_rotation.specs.Often.{GoesOn, nights_since, stays_below}
 use Rattle.euler_rotation.specs.Prefixes.{nights_along, turn_to, turns_along}
-use Rattle.euler_rotation.proofs.General.{list_below-agree}
 use Rattle.euler_rotation.proofs.NightsSince.{below_append, since_append}
 use Rattle.euler_rotation.proofs.Turning.{nights_append}
 
@@ -40,17 +40,9 @@ module _ (front : List ℕ) (last l : ℕ) where
 
   size : length before ≡ suc (length front)
   unfolding before
-  size = length-append front (last ∷ []) ∙ one (length front)
-    where
-      one : (n : ℕ) → n + 1 ≡ suc n
-      one n = omega arith
-
+  size = length-append front (last ∷ []) ∙ add-one (length front)
   size_more : length (before ++ l ∷ []) ≡ suc (suc (length front))
-  size_more = length-append before (l ∷ []) ∙ ap (λ n. n + 1) size ∙ one (suc (length front))
-    where
-      one : (n : ℕ) → n + 1 ≡ suc n
-      one n = omega arith
-
+  size_more = length-append before (l ∷ []) ∙ ap (λ n. n + 1) size ∙ add-one (suc (length front))
   last_turn : turn_after (before ++ l ∷ []) (length front) ≡ turn_to last l
   unfolding before
   last_turn =
@@ -106,21 +98,15 @@ module _ (front : List ℕ) (last l : ℕ) where
 
 -- ---- the first legs of a tour
 split_below : {X : Type 0} (g : ℕ → X) (m r : ℕ) → list_below g (m + r) ≡ list_below g m ++ list_below (λ k. g (m + k)) r
-split_below g m zero = ap (list_below g) (none m) ∙ sym (append-nil (list_below g m))
-  where
-    none : (m : ℕ) → m + 0 ≡ m
-    none m = omega arith
+split_below g m zero = ap (list_below g) (plus_0 m) ∙ sym (append-nil (list_below g m))
 split_below g m (suc r) =
     ap (list_below g) (one_more m r) ∙ list_below-more g (m + r) ∙ ap (λ xs. xs ++ g (m + r) ∷ []) (split_below g m r)
     ∙ append_assoc (list_below g m) (list_below (λ k. g (m + k)) r) (g (m + r) ∷ [])
     ∙ ap (λ xs. list_below g m ++ xs) (sym (list_below-more (λ k. g (m + k)) r))
-    ∙ ap (λ n. list_below g m ++ list_below (λ k. g (m + k)) n) (as_suc r)
+    ∙ ap (λ n. list_below g m ++ list_below (λ k. g (m + k)) n) (add-one r)
   where
     one_more : (m r : ℕ) → m + suc r ≡ m + r + 1
     one_more m r = omega arith
-
-    as_suc : (r : ℕ) → r + 1 ≡ suc r
-    as_suc r = omega arith
 
 module _ (t : Tables) (f : ℕ) (tour : List ℕ) (m : ℕ) (lt : m < length tour) where
   rest_turns : List Connection

@@ -1,10 +1,11 @@
 -- What becomes of a fleet's rotation: the cases, and that the search is complete.
-use Rattle.std.proofs.Common.{◌≡◌, ℕ, ◌+◌, ◌*◌, ◌%◌, ◌<◌, ◌≤◌, Bool, IsTrue, true, false, ◌||◌, ◌==◌, if◌then◌else◌, List, [], ◌∷◌, length, slice_index, sym, ◌∙◌, ap, subst, inl, inr, arith}
+use Rattle.std.proofs.Common.{◌≡◌, ℕ, ◌+◌, ◌*◌, ◌%◌, ◌<◌, ◌≤◌, Bool, IsTrue, true, false, ◌||◌, ◌==◌, if◌then◌else◌, List, [], ◌∷◌, length, slice_index, sym, ◌∙◌, ap, subst, inl, inr, arith, zero-add}
 use Rattle.std.specs.List.{list_any}
 use Rattle.std.proofs.Math.Nat.{mod-eq_of_lt, mul_comm}
 use Rattle.std.proofs.lemmas.Bool.{cases_lt, eq-eqb, eqb-true}
 use Rattle.std.proofs.lemmas.List.{get_or_default}
 use Rattle.std.proofs.lemmas.List.Sums.{sum_by-append}
+use mathlib.Core.Bool.{false≢true}
 use Rattle.sums.proofs.Tests.{by_test}
 use Rattle.fleet_model.specs.declared.parts.Connection.{Connection}
 use Rattle.fleet_model.specs.declared.tables.Tables.{Tables}
@@ -106,11 +107,7 @@ module _ (t : Tables) (a : List ℕ) (f : ℕ) where
         begins = entry_turned legs place.0 place.1 0 (omega (arith, place.1)) ∙ ap (slice_index legs) (start place.0 (length legs) place.1) ∙ eqb-true _ _ place.2
           where
             start : (r n : ℕ) → r < n → (0 + r) % n ≡ r
-            start r n lt = ap (λ k. k % n) (zero_on r) ∙ mod-eq_of_lt lt
-              where
-                zero_on : (r : ℕ) → 0 + r ≡ r
-                zero_on r = omega arith
-
+            start r n lt = ap (λ k. k % n) (zero-add r) ∙ mod-eq_of_lt lt
     -- a fleet without a leg has no tour
     none_flown : (legs : List ℕ) → IsUnused t a f → IsKeptTour t a f pairs days legs → ⊥
     none_flown legs unused kept =
@@ -140,11 +137,7 @@ pub not_kept : (asked other : Asked) (legs joined : List ℕ) (b : Bool) → oth
     → b ≡ false → IsKeptTour asked.tables.now asked.plan.now asked.fleet asked.pairs.now asked.days joined → ⊥
 unfolding kept_for
 not_kept asked other legs joined b same list told fails kept =
-    apart (sym fails ∙ told.1 (subst (λ (q : Asked). kept_for q legs) (sym same) (subst (kept_for asked) (sym list) kept)))
-  where
-    apart : false ≡ true → ⊥
-    apart e = cc
-
+    false≢true (sym fails ∙ told.1 (subst (λ (q : Asked). kept_for q legs) (sym same) (subst (kept_for asked) (sym list) kept)))
 -- a search that found nothing
 unfoldable pub found_for : Asked → List ℕ → ℕ → Found → Type 0
 found_for asked order visits found = IsFoundUnder asked.tables.now asked.plan.now asked.fleet asked.pairs.now asked.days order visits found

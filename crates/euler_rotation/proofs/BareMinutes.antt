@@ -1,6 +1,7 @@
 -- The minutes at whose end none stands, and what segments that end with them tell.
 use Rattle.std.proofs.Common.{◌≡◌, ℕ, ◌<◌, Bool, true, false, IsTrue, List, [], get_or, sym, ◌∙◌, ap, subst, arith}
 use Rattle.std.proofs.lemmas.List.{get_or_default}
+use mathlib.Core.Bool.{false≢true}
 use Rattle.sums.proofs.Tests.{by_test}
 use Rattle.fleet_model.specs.declared.parts.Connection.{Connection}
 use Rattle.fleet_model.specs.declared.tables.Tables.{Tables}
@@ -34,11 +35,7 @@ told_clean t a f turn numbers b segments told = by_test b yes_clean not_clean
     yes_clean e = e ∙ sym (clean_from t a f turn (law.0 (told.0 e)))
 
     not_clean : b ≡ false → b ≡ is_clean t a f turn
-    not_clean e = e ∙ sym (by_test (is_clean t a f turn) (λ clean. absurd (apart (sym e ∙ told.1 (law.1 (clean_to t a f turn clean))))) (λ other. other))
-      where
-        apart : false ≡ true → ⊥
-        apart e = cc
-
+    not_clean e = e ∙ sym (by_test (is_clean t a f turn) (λ clean. absurd (false≢true (sym e ∙ told.1 (law.1 (clean_to t a f turn clean))))) (λ other. other))
 -- the same of what is read
 pub told_by : (t : Tables) (a : List ℕ) (f : ℕ) (turn : Connection) (all : List (List ℕ)) → AreAllSegments t a f all
     → (s : ℕ) (numbers : List ℕ) (ready departure : ℕ) (b : Bool) → s ≡ station_at t turn → numbers ≡ get_or all s numbers

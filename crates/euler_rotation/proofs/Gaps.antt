@@ -1,11 +1,12 @@
 -- Nights that stay below so many days without maintenance are those of which any so many have one for maintenance.
-use Rattle.std.proofs.Common.{◌≡◌, ℕ, zero, suc, ◌+◌, ◌-◌, ◌%◌, ◌<◌, ◌≤◌, Bool, true, false, ◌&&◌, nat_lt, if◌then◌else◌, List, [], ◌∷◌, ◌++◌, length, slice_index_or, refl, sym, ◌∙◌, ap, inl, inr, arith, length-append}
+use Rattle.std.proofs.Common.{◌≡◌, ℕ, zero, suc, ◌+◌, ◌-◌, ◌%◌, ◌<◌, ◌≤◌, Bool, true, false, ◌&&◌, nat_lt, if◌then◌else◌, List, [], ◌∷◌, ◌++◌, length, slice_index_or, refl, sym, ◌∙◌, ap, inl, inr, arith, length-append, add-sub_cancel, add-sub_of_le}
 use Rattle.std.specs.List.{list_any}
 use Rattle.std.proofs.Math.Nat.{mod-eq_of_lt}
 use Rattle.std.proofs.lemmas.Bool.{cases_lt}
 use Rattle.std.proofs.lemmas.Bool.Decides.{nat_tests}
 use Rattle.std.proofs.lemmas.List.{get_or_append_left, get_or-append_right}
 use Rattle.std.proofs.lemmas.List.Folds.{list_any_at}
+use mathlib.Core.Bool.{false≢true}
 use Rattle.sums.proofs.Tests.{both_true, by_either, by_test, parts_true}
 use Rattle.fleet_model.specs.declared.tables.Tables.{Tables}
 use Rattle.ground_turns.specs.Nights.{IsKeptFor, IsMaintainedFrom, can_maintain, night_round}
@@ -28,10 +29,7 @@ pub record SomeWithin (t : Tables) (days n : ℕ) (nights : List Night) (first :
 
 -- a list whose test passes somewhere
 pub some_place : {X : Type 0} (p : X → Bool) (d : X) (xs : List X) → list_any p xs ≡ true → (k : ℕ) × (k < length xs) × (p (slice_index_or xs k d) ≡ true)
-some_place p d [] h = absurd (none h)
-  where
-    none : false ≡ true → ⊥
-    none e = cc
+some_place p d [] h = absurd (false≢true h)
 some_place p d (x ∷ xs) h = by_either (p x) (list_any p xs) h (λ here. (0, omega arith, here)) (λ later. let rest = some_place p d xs later in (suc rest.0, omega (arith, rest.1), rest.2))
 
 module _ (t : Tables) (days : ℕ) where
@@ -88,11 +86,7 @@ module _ (t : Tables) (days : ℕ) where
   StaysBelow xs = (n : ℕ) → n < days → ((first : ℕ) → first + days ≤ n + length xs → SomeWithin t days n xs first) → stays_below t days n xs ≡ true
 
   first_none : (x : Night) (xs : List Night) → can_maintain t x ≡ false → (place : ℕ) → place ≡ 0 → can_maintain t (at (x ∷ xs) place) ≡ true → ⊥
-  first_none x xs none place e maintained = apart (sym none ∙ ap (λ k. can_maintain t (at (x ∷ xs) k)) (sym e) ∙ maintained)
-    where
-      apart : false ≡ true → ⊥
-      apart e = cc
-
+  first_none x xs none place e maintained = false≢true (sym none ∙ ap (λ k. can_maintain t (at (x ∷ xs) k)) (sym e) ∙ maintained)
   below_now : (x : Night) (xs : List Night) (n : ℕ) → n < days → ((first : ℕ) → first + days ≤ n + length (x ∷ xs) → SomeWithin t days n (x ∷ xs) first) → StaysBelow xs
       → can_maintain t x ≡ true → stays_below t days n (x ∷ xs) ≡ true
   below_now x xs n few windows rest some =
@@ -154,24 +148,18 @@ module _ (t : Tables) (days : ℕ) (nights : List Night) where
       after = k + length nights - first;
       within = omega arith;
       maintained = ap (λ j. can_maintain t (night_round nights j)) (back first k (length nights) low before) ∙ ap (can_maintain t) (sym (twice_at nights (k + length nights) (omega arith))
-          ∙ get_or-append_right nights nights (length nights) (k + length nights) night.Aloft refl (omega arith) ∙ ap (at nights) (ahead k (length nights)))
+          ∙ get_or-append_right nights nights (length nights) (k + length nights) night.Aloft refl (omega arith) ∙ ap (at nights) (add-sub_cancel k (length nights)))
           ∙ maintained;
     }
     | inr after ↦ record {
       after = k - first;
       within = omega arith;
-      maintained = ap (λ j. can_maintain t (night_round nights j)) (on first k after) ∙ ap (λ j. can_maintain t (at nights j)) (mod-eq_of_lt lt) ∙ maintained;
+      maintained = ap (λ j. can_maintain t (night_round nights j)) (add-sub_of_le after) ∙ ap (λ j. can_maintain t (at nights j)) (mod-eq_of_lt lt) ∙ maintained;
     }
   ]
     where
       back : (first k n : ℕ) → first < n → k < first → first + (k + n - first) ≡ k + n
       back first k n low before = omega arith
-
-      ahead : (k n : ℕ) → k + n - n ≡ k
-      ahead k n = omega arith
-
-      on : (first k : ℕ) → first ≤ k → first + (k - first) ≡ k
-      on first k after = omega arith
 
 module _ (t : Tables) (days : ℕ) (nights : List Night) (some_days : 0 < days) where
   pub kept_some : IsKeptFor t nights days → list_any (can_maintain t) nights ≡ true

@@ -1,12 +1,13 @@
 -- A kept tour that begins with the order's first leg is one of the prefixes.
-use Rattle.std.proofs.Common.{◌≡◌, ℕ, zero, suc, ◌+◌, ◌-◌, ◌%◌, ◌<◌, Bool, true, false, ◌&&◌, ◌==◌, not, if◌then◌else◌, All, List, [], ◌∷◌, ◌++◌, length, slice_index, take, refl, sym, ◌∙◌, ap, subst, arith, length-append}
+use Rattle.std.proofs.Common.{◌≡◌, ℕ, zero, suc, ◌+◌, ◌-◌, ◌%◌, ◌<◌, Bool, true, false, ◌&&◌, ◌==◌, not, if◌then◌else◌, All, List, [], ◌∷◌, ◌++◌, length, slice_index, take, refl, sym, ◌∙◌, ap, subst, arith, length-append, add-one}
 use Rattle.std.specs.List.{filter, flat_map, list_all}
 use Rattle.std.proofs.Math.Nat.{mod-eq_of_lt}
 use Rattle.std.proofs.Math.Seq.{take-suc}
 use Rattle.std.proofs.lemmas.Bool.{eq-eqb, eqb-true}
 use Rattle.std.proofs.lemmas.List.{get_or_append_left, get_or-append-add, get_or-take, length-take-le, take_all}
+use mathlib.Core.Bool.{false≢true}
 use Rattle.sums.proofs.Counts.{count_below-one}
-use Rattle.sums.proofs.Tests.{both_true, by_test}
+use Rattle.sums.proofs.Tests.{both_true, by_test, first_true}
 use Rattle.fleet_model.specs.declared.parts.Connection.{Connection}
 use Rattle.fleet_model.specs.declared.tables.Tables.{Tables}
 use Rattle.ground_turns.specs.Maps.{turn_after, turn_at}
@@ -51,11 +52,7 @@ pair_kept : (turn pair : Connection) → (pair.arriving ≡ turn.arriving → pa
 pair_kept turn pair there back = by_test (pair.arriving == turn.arriving)
     (λ e. ap (λ b. if b then pair.departing == turn.departing else not (pair.departing == turn.departing)) e ∙ eq-eqb _ _ (there (eqb-true _ _ e)))
     (λ e. ap (λ b. if b then pair.departing == turn.departing else not (pair.departing == turn.departing)) e
-    ∙ ap not (by_test (pair.departing == turn.departing) (λ same. absurd (apart (sym e ∙ eq-eqb _ _ (back (eqb-true _ _ same))))) (λ other. other)))
-  where
-    apart : false ≡ true → ⊥
-    apart e = cc
-
+    ∙ ap not (by_test (pair.departing == turn.departing) (λ same. absurd (false≢true (sym e ∙ eq-eqb _ _ (back (eqb-true _ _ same))))) (λ other. other)))
 module _ (t : Tables) (a : List ℕ) (f : ℕ) (pairs : List Connection) (days : ℕ) (some_days : 0 < days) (tour : List ℕ) (kept : IsKeptTour t a f pairs days tour) where
   order_is : IsOrder t a f tour
   order_is = tour_order t a f tour kept.tour
@@ -82,11 +79,7 @@ module _ (t : Tables) (a : List ℕ) (f : ℕ) (pairs : List Connection) (days :
         (λ same. ap (slice_index tour) (back has.place k low (omega arith) (once (suc has.place % length tour) (suc k % length tour) (omega arith) (omega arith) same))))
       where
         back : (i j : ℕ) → i < length tour → j < length tour → suc i % length tour ≡ suc j % length tour → i ≡ j
-        back i j first second same = same_round i j 1 (length tour) first second (omega arith) (ap (λ n. n % length tour) (next i) ∙ same ∙ ap (λ n. n % length tour) (sym (next j)))
-          where
-            next : (n : ℕ) → n + 1 ≡ suc n
-            next n = omega arith
-
+        back i j first second same = same_round i j 1 (length tour) first second (omega arith) (ap (λ n. n % length tour) (add-one i) ∙ same ∙ ap (λ n. n % length tour) (sym (add-one j)))
     turns_well : may_turn t a f pairs (slice_index tour k) (slice_index tour (suc k)) ≡ true
     turns_well =
         ap (λ turn. meets t turn && is_clean t a f turn && list_all (keeps_pair turn) pairs) (sym turn_is)
@@ -106,13 +99,8 @@ module _ (t : Tables) (a : List ℕ) (f : ℕ) (pairs : List Connection) (days :
 
     often : stays_below t days 0 (nights_along t f (take (suc (suc k)) tour)) ≡ true
     often = first_nights t f tour (suc k) lt days
-        (front (stays_below t days 0 (nights_of_tour t f tour)) (stays_below t days (nights_since t 0 (nights_of_tour t f tour)) (nights_of_tour t f tour))
+        (first_true (stays_below t days 0 (nights_of_tour t f tour)) (stays_below t days (nights_since t 0 (nights_of_tour t f tour)) (nights_of_tour t f tour))
         (sym (below_append t days 0 (nights_of_tour t f tour) (nights_of_tour t f tour)) ∙ kept_below t days (nights_of_tour t f tour) some_days kept.kept))
-      where
-        front : (b c : Bool) → (b && c) ≡ true → b ≡ true
-        front true c e = refl
-        front false c e = e
-
     pub follows : may_follow t a f pairs days (take k tour) (slice_index tour k) (slice_index tour (suc k)) ≡ true
     follows =
         both_true (may_turn t a f pairs (slice_index tour k) (slice_index tour (suc k))) (is_open t f days (take k tour ++ slice_index tour k ∷ []) (slice_index tour (suc k))) turns_well

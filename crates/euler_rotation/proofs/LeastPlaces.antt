@@ -1,9 +1,10 @@
 -- A kept tour has a leg with a night before it, and begins as it is to from the least of these.
-use Rattle.std.proofs.Common.{◌≡◌, ℕ, suc, ◌+◌, ◌-◌, ◌%◌, ◌<◌, ◌≤◌, Option, Some, None, List, length, slice_index, refl, sym, ◌∙◌, ap, subst, inl, inr, arith}
-use Rattle.std.proofs.Math.Nat.{add-mod_right, mod-add-mod, mod-eq_of_lt}
+use Rattle.std.proofs.Common.{◌≡◌, ℕ, suc, ◌+◌, ◌-◌, ◌%◌, ◌<◌, ◌≤◌, Option, Some, None, List, length, slice_index, refl, sym, ◌∙◌, ap, subst, inl, inr, arith, add_comm, zero-add}
+use Rattle.std.proofs.Math.Nat.{add-mod_right, add_right_comm, mod-add-mod, mod-eq_of_lt}
 use Rattle.std.proofs.lemmas.Bool.{cases_lt}
 use Rattle.std.proofs.lemmas.Nat.{mod_below}
 use Rattle.sums.proofs.Sums.{sum_below-agree, sum_below-zero}
+use Rattle.sums.proofs.Naturals.{last_below, none_is_some}
 use Rattle.fleet_model.specs.declared.tables.Tables.{Tables}
 use Rattle.ground_turns.specs.Maps.{turn_after, turn_at, turns_round}
 use Rattle.ground_turns.specs.Nights.{nights_of_tour}
@@ -49,24 +50,11 @@ module _ (t : Tables) (f : ℕ) (tour : List ℕ) where
 
   -- ---- the lesser of two
   pub kept_least : (n : ℕ) (least : Option ℕ) → LeastOrNone t f tour n least → nights_before t f tour n ≡ 0 → LeastOrNone t f tour (n + 1) least
-  kept_least n None none here = λ k lt some. elim (cases_lt k n) [ inl low ↦ none k low some | inr high ↦ none_here (ap (nights_before t f tour) (same k n lt high) ∙ here) some ]
-    where
-      same : (k n : ℕ) → k < n + 1 → n ≤ k → k ≡ n
-      same k n lt le = omega arith
-
-      none_here : {m : ℕ} → m ≡ 0 → 0 < m → ⊥
-      none_here e some = omega arith
+  kept_least n None none here = λ k lt some. elim (cases_lt k n) [ inl low ↦ none k low some | inr high ↦ none_is_some (ap (nights_before t f tour) (last_below k n lt high) ∙ here) some ]
   kept_least n (Some place) is here = record { within = omega (arith, is.within); night = is.night; least = least }
     where
       least : (k : ℕ) → k < n + 1 → 0 < nights_before t f tour k → slice_index tour place ≤ slice_index tour k
-      least k lt some = elim (cases_lt k n) [ inl low ↦ is.least k low some | inr high ↦ absurd (none_here (ap (nights_before t f tour) (same k n lt high) ∙ here) some) ]
-        where
-          same : (k n : ℕ) → k < n + 1 → n ≤ k → k ≡ n
-          same k n lt le = omega arith
-
-          none_here : {m : ℕ} → m ≡ 0 → 0 < m → ⊥
-          none_here e some = omega arith
-
+      least k lt some = elim (cases_lt k n) [ inl low ↦ is.least k low some | inr high ↦ absurd (none_is_some (ap (nights_before t f tour) (last_below k n lt high) ∙ here) some) ]
   pub still_least : (n place : ℕ) → IsLeastPlace t f tour n place → slice_index tour place ≤ slice_index tour n → IsLeastPlace t f tour (n + 1) place
   still_least n place is lesser = record { within = omega (arith, is.within); night = is.night; least = least }
     where
@@ -103,11 +91,7 @@ module _ (t : Tables) (f : ℕ) (tour : List ℕ) where
         long = length_turned tour r is.within
 
         begins : 0 < nights_after t f (turned r tour) (length (turned r tour) - 1)
-        begins = subst (λ (n : ℕ). 0 < n) (sym (ap (λ n. nights_after t f (turned r tour) (n - 1)) long ∙ nights_there (length tour - 1) (omega (arith, is.within)) ∙ ap (λ j. nights_after t f tour (j % length tour)) (swapped (length tour - 1) r))) is.night
-          where
-            swapped : (a b : ℕ) → a + b ≡ b + a
-            swapped a b = omega arith
-
+        begins = subst (λ (n : ℕ). 0 < n) (sym (ap (λ n. nights_after t f (turned r tour) (n - 1)) long ∙ nights_there (length tour - 1) (omega (arith, is.within)) ∙ ap (λ j. nights_after t f tour (j % length tour)) (add_comm (length tour - 1) r))) is.night
         least : (k : ℕ) → k < length (turned r tour) → 0 < nights_before t f (turned r tour) k → slice_index (turned r tour) 0 ≤ slice_index (turned r tour) k
         least k lt some =
             let low : k < length tour = omega (arith, long) in
@@ -117,16 +101,9 @@ module _ (t : Tables) (f : ℕ) (tour : List ℕ) where
             omega (arith, first, here, is.least ((k + r) % length tour) (mod_below (k + r) (length tour) (omega (arith, is.within))) (subst (λ (n : ℕ). 0 < n) before some))
           where
             start : (r n : ℕ) → r < n → (0 + r) % n ≡ r
-            start r n lt = ap (λ k. k % n) (zero_on r) ∙ mod-eq_of_lt lt
-              where
-                zero_on : (r : ℕ) → 0 + r ≡ r
-                zero_on r = omega arith
-
+            start r n lt = ap (λ k. k % n) (zero-add r) ∙ mod-eq_of_lt lt
             same : (k : ℕ) → k < length tour → nights_before t f (turned r tour) k ≡ nights_before t f tour ((k + r) % length tour)
             same k low =
                 ap (λ n. nights_after t f (turned r tour) ((k + (n - 1)) % n)) long
                 ∙ nights_there ((k + (length tour - 1)) % length tour) (mod_below (k + (length tour - 1)) (length tour) (omega arith))
-                ∙ ap (nights_after t f tour) (mod-add-mod (k + (length tour - 1)) (length tour) r ∙ ap (λ j. j % length tour) (order k (length tour - 1) r) ∙ sym (mod-add-mod (k + r) (length tour) (length tour - 1)))
-              where
-                order : (a b c : ℕ) → a + b + c ≡ a + c + b
-                order a b c = omega arith
+                ∙ ap (nights_after t f tour) (mod-add-mod (k + (length tour - 1)) (length tour) r ∙ ap (λ j. j % length tour) (add_right_comm k (length tour - 1) r) ∙ sym (mod-add-mod (k + r) (length tour) (length tour - 1)))

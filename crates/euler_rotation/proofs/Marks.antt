@@ -3,6 +3,7 @@ use Rattle.std.proofs.Common.{◌≡◌, ◌≢◌, ℕ, ◌+◌, ◌<◌, Bool,
 use Rattle.std.proofs.lemmas.Bool.Decides.{nat_tests}
 use Rattle.std.proofs.lemmas.List.{get_or-set_other, get_or-set_same, map-append, reverse-append, reverse-reverse, take_more}
 use Rattle.std.proofs.lemmas.List.Folds.{list_any-append}
+use Rattle.std.proofs.lemmas.Bool.{eqb-true}
 use Rattle.sums.proofs.Tests.{by_test}
 use Rattle.euler_rotation.specs.declared.path.Level.{Level}
 use Rattle.euler_rotation.specs.Prefixes.{has_leg}
@@ -17,11 +18,8 @@ has_more legs l k = list_any-append (λ j. j == k) legs (l ∷ []) ∙ ap (λ b.
     or_false false = refl
 
 same_or_not : {X : Type 0} (l k : ℕ) → (l ≡ k → X) → (l ≢ k → X) → X
-same_or_not l k yes_same not_same = by_test (l == k) (λ e. yes_same (same l k e)) (λ e. not_same (other l k e))
+same_or_not l k yes_same not_same = by_test (l == k) (λ e. yes_same (eqb-true l k e)) (λ e. not_same (other l k e))
   where
-    same : (l k : ℕ) → (l == k) ≡ true → l ≡ k
-    same l k e = grind (arith, nat_tests)
-
     other : (l k : ℕ) → (l == k) ≡ false → l ≢ k
     other l k e = grind (arith, nat_tests)
 

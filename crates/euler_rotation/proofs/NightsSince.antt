@@ -3,6 +3,9 @@ use Rattle.std.proofs.Common.{◌≡◌, ℕ, zero, suc, ◌+◌, ◌-◌, ◌<�
 use Rattle.std.specs.List.{list_any}
 use Rattle.std.proofs.lemmas.Bool.Decides.{nat_tests}
 use Rattle.std.proofs.lemmas.List.Folds.{list_any-append}
+use Rattle.std.proofs.lemmas.Bool.{le-ltb, lt-ltb}
+use mathlib.Core.Bool.{and-false}
+use Rattle.sums.proofs.Naturals.{one_behind, suc_moved}
 use Rattle.fleet_model.specs.declared.tables.Tables.{Tables}
 use Rattle.ground_turns.specs.Nights.{can_maintain}
 use Rattle.ground_turns.specs.declared.nights.Night.{Night}
@@ -28,19 +31,12 @@ below_append t days n (x ∷ xs) ys =
 pub since_more : (t : Tables) (x : Night) → can_maintain t x ≡ false → (n k : ℕ) → nights_since t n (replicate k x) ≡ n + k
 since_more t x none n zero = omega arith
 since_more t x none n (suc k) =
-    ap (λ b. nights_since t (if b then 0 else suc n) (replicate k x)) none ∙ since_more t x none (suc n) k ∙ moved n k
-  where
-    moved : (n k : ℕ) → suc n + k ≡ n + suc k
-    moved n k = omega arith
-
+    ap (λ b. nights_since t (if b then 0 else suc n) (replicate k x)) none ∙ since_more t x none (suc n) k ∙ suc_moved n k
 more_first : (t : Tables) (days : ℕ) (x : Night) → can_maintain t x ≡ false → (n k : ℕ)
     → (suc n < days → stays_below t days (suc n) (replicate k x) ≡ nat_lt (suc n + k) days) → (b : Bool) → nat_lt (suc n) days ≡ b
     → stays_below t days n (replicate (suc k) x) ≡ nat_lt (n + suc k) days
 more_first t days x none n k rest b h = head ∙ ap (λ c. c && stays_below t days (suc n) (replicate k x)) h ∙ by_first b h
   where
-    moved : (n k : ℕ) → suc n + k ≡ n + suc k
-    moved n k = omega arith
-
     less : (n days : ℕ) → nat_lt (suc n) days ≡ true → suc n < days
     less n days h = grind (arith, nat_tests)
 
@@ -51,7 +47,7 @@ more_first t days x none n k rest b h = head ∙ ap (λ c. c && stays_below t da
     head = ap (λ b. nat_lt (if b then 0 else suc n) days && stays_below t days (if b then 0 else suc n) (replicate k x)) none
 
     by_first : (b : Bool) → nat_lt (suc n) days ≡ b → (b && stays_below t days (suc n) (replicate k x)) ≡ nat_lt (n + suc k) days
-    by_first true h = rest (less n days h) ∙ ap (λ m. nat_lt m days) (moved n k)
+    by_first true h = rest (less n days h) ∙ ap (λ m. nat_lt m days) (suc_moved n k)
     by_first false h = at_last n k days h
 
 pub below_more : (t : Tables) (days : ℕ) (x : Night) → can_maintain t x ≡ false → (n k : ℕ) → n < days → stays_below t days n (replicate k x) ≡ nat_lt (n + k) days
@@ -90,19 +86,11 @@ module _ (t : Tables) (days n k m s : ℕ) (few : n < days) where
   back = since_append t n (replicate k night.Aloft) (replicate m (night.At s)) ∙ ap (λ j. nights_since t j (replicate m (night.At s))) (since_more t night.Aloft refl n k)
 
   pub too_many_aloft : days ≤ n + k → stays_below t days n (nights_of_turn k m s) ≡ false
-  too_many_aloft full = front ∙ ap (λ b. b && stays_below t days (n + k) (replicate m (night.At s))) (not_less (n + k) days full)
-    where
-      not_less : (a b : ℕ) → b ≤ a → nat_lt a b ≡ false
-      not_less a b le = grind (arith, nat_tests)
-
+  too_many_aloft full = front ∙ ap (λ b. b && stays_below t days (n + k) (replicate m (night.At s))) (le-ltb (n + k) days full)
   -- where those aloft are few enough
   module _ (less : n + k < days) where
     tested : nat_lt (n + k) days ≡ true
-    tested = is_less (n + k) days less
-      where
-        is_less : (a b : ℕ) → a < b → nat_lt a b ≡ true
-        is_less a b lt = grind (arith, nat_tests)
-
+    tested = lt-ltb (n + k) days less
     rest : stays_below t days n (nights_of_turn k m s) ≡ stays_below t days (n + k) (replicate m (night.At s))
     rest = front ∙ ap (λ b. b && stays_below t days (n + k) (replicate m (night.At s))) tested
 
@@ -116,29 +104,17 @@ module _ (t : Tables) (days n k m s : ℕ) (few : n < days) where
     pub maintained : 0 < m → can_maintain t (night.At s) ≡ true → StayBelow t days n (nights_of_turn k m s) 0
     maintained some there = record {
       below = rest ∙ below_none t days (night.At s) there (n + k) m (omega arith);
-      since_is = sym (back ∙ ap (λ j. nights_since t (n + k) (replicate j (night.At s))) (as_suc m some) ∙ since_none t (night.At s) there (n + k) (m - 1));
+      since_is = sym (back ∙ ap (λ j. nights_since t (n + k) (replicate j (night.At s))) (one_behind m some) ∙ since_none t (night.At s) there (n + k) (m - 1));
       few = omega arith;
     }
-      where
-        as_suc : (m : ℕ) → 0 < m → m ≡ suc (m - 1)
-        as_suc m some = omega arith
-
     pub too_many_stood : can_maintain t (night.At s) ≡ false → days ≤ n + k + m → stays_below t days n (nights_of_turn k m s) ≡ false
-    too_many_stood there full = rest ∙ below_more t days (night.At s) there (n + k) m less ∙ not_less (n + k + m) days full
-      where
-        not_less : (a b : ℕ) → b ≤ a → nat_lt a b ≡ false
-        not_less a b le = grind (arith, nat_tests)
-
+    too_many_stood there full = rest ∙ below_more t days (night.At s) there (n + k) m less ∙ le-ltb (n + k + m) days full
     pub stood : (since : ℕ) → can_maintain t (night.At s) ≡ false → since < days → since ≡ n + k + m → StayBelow t days n (nights_of_turn k m s) since
     stood since there low is = record {
-      below = rest ∙ below_more t days (night.At s) there (n + k) m less ∙ is_less (n + k + m) days (omega arith);
+      below = rest ∙ below_more t days (night.At s) there (n + k) m less ∙ lt-ltb (n + k + m) days (omega arith);
       since_is = is ∙ sym (back ∙ since_more t (night.At s) there (n + k) m);
       few = low;
     }
-      where
-        is_less : (a b : ℕ) → a < b → nat_lt a b ≡ true
-        is_less a b lt = grind (arith, nat_tests)
-
 -- some of them are for maintenance
 repeated_any : (t : Tables) (x : Night) (m : ℕ) → list_any (can_maintain t) (replicate m x) ≡ (nat_lt 0 m && can_maintain t x)
 repeated_any t x zero = grind (arith, nat_tests)
@@ -150,9 +126,5 @@ repeated_any t x (suc m) = ap (λ b. can_maintain t x || b) (repeated_any t x m)
 pub some_in_turn : (t : Tables) (k m s : ℕ) → list_any (can_maintain t) (nights_of_turn k m s) ≡ (nat_lt 0 m && can_maintain t (night.At s))
 some_in_turn t k m s =
     list_any-append (can_maintain t) (replicate k night.Aloft) (replicate m (night.At s))
-    ∙ ap (λ b. b || list_any (can_maintain t) (replicate m (night.At s))) (repeated_any t night.Aloft k ∙ never (nat_lt 0 k))
+    ∙ ap (λ b. b || list_any (can_maintain t) (replicate m (night.At s))) (repeated_any t night.Aloft k ∙ and-false (nat_lt 0 k))
     ∙ repeated_any t (night.At s) m
-  where
-    never : (b : Bool) → (b && false) ≡ false
-    never true = refl
-    never false = refl

@@ -1,14 +1,16 @@
 -- The turns of a tour, as those of its legs, and when a list of legs is a kept tour.
-use Rattle.std.proofs.Common.{◌≡◌, ◌≢◌, ℕ, zero, suc, ◌+◌, ◌*◌, ◌%◌, ◌<◌, ◌≤◌, true, false, ◌==◌, if◌then◌else◌, List, length, slice_index, refl, sym, ◌∙◌, ap, subst, arith}
+use Rattle.std.proofs.Common.{◌≡◌, ◌≢◌, ℕ, suc, ◌+◌, ◌*◌, ◌%◌, ◌<◌, ◌≤◌, true, false, ◌==◌, if◌then◌else◌, List, length, slice_index, refl, sym, ◌∙◌, ap, subst, arith}
 use Rattle.std.proofs.lemmas.Nat.{mod_below}
 use Rattle.std.proofs.lemmas.Bool.{eq-eqb, eqb-true}
 use Rattle.std.proofs.lemmas.Bool.Decides.{nat_tests}
+use Rattle.std.proofs.Math.Numerals.{suc-eq-add-one}
 use Rattle.sums.specs.Below.{count_below, sum_below}
-use Rattle.sums.proofs.Counts.{count_below-some}
+use Rattle.sums.proofs.Counts.{count_below-none, count_below-some}
 use Rattle.sums.proofs.Naturals.{zero_number}
 use Rattle.sums.proofs.Places.{get_or-list_below, length-list_below}
-use Rattle.sums.proofs.Sums.{sum_below-agree}
+use Rattle.sums.proofs.Sums.{sum_below-agree, sum_below-ones}
 use Rattle.sums.proofs.Tests.{both_true, by_test, parts_true}
+use Rattle.sums.proofs.Turned.{turned}
 use Rattle.fleet_model.specs.declared.parts.Connection.{Connection}
 use Rattle.fleet_model.specs.declared.tables.Tables.{Tables}
 use Rattle.fleet_model.specs.Counts.{fleet_at, weights_of}
@@ -22,12 +24,11 @@ use Rattle.ground_turns.proofs.Regroup.{by_places}
 use Rattle.euler_rotation.specs.Asked.{AreKnown, AreMet}
 use Rattle.euler_rotation.specs.Prefixes.{is_bare_wait, is_clean, meets}
 use Rattle.euler_rotation.specs.Tours.{IsKeptTour, IsOrder, times_in}
-use Rattle.euler_rotation.proofs.General.{none_counted, turned}
 
 -- ---- clean turns, tested
 pub clean_from : (t : Tables) (a : List ℕ) (f : ℕ) (turn : Connection) → IsClean t a f turn → is_clean t a f turn ≡ true
 unfolding is_clean
-clean_from t a f turn clean = counted (none_counted (is_bare_wait t a f turn) (period_of t) (λ m lt. by_test (is_bare_wait t a f turn m) (λ bare. refuted m lt bare) (λ other. other)))
+clean_from t a f turn clean = counted (count_below-none (is_bare_wait t a f turn) (period_of t) (λ m lt. by_test (is_bare_wait t a f turn m) (λ bare. refuted m lt bare) (λ other. other)))
   where
     counted : {n : ℕ} → n ≡ 0 → (n == 0) ≡ true
     counted {n} e = grind (arith, nat_tests)
@@ -71,14 +72,11 @@ arrivals_round legs l = over_round legs (λ turn. if turn.arriving == l then 1 e
 pub departures_round : (legs : List ℕ) (l : ℕ) → departures_of (turns_round legs) l ≡ times_in legs l
 departures_round legs l =
     over_round legs (λ turn. if turn.departing == l then 1 else 0)
-    ∙ sum_below-agree (λ k. one (suc k % length legs)) (λ k. one ((k + 1) % length legs)) (length legs) (record { each = λ k lt. ap (λ i. one (i % length legs)) (next k) })
+    ∙ sum_below-agree (λ k. one (suc k % length legs)) (λ k. one ((k + 1) % length legs)) (length legs) (record { each = λ k lt. ap (λ i. one (i % length legs)) (suc-eq-add-one k) })
     ∙ turned one (length legs) 1
   where
     one : ℕ → ℕ
     one k = if slice_index legs k == l then 1 else 0
-
-    next : (k : ℕ) → suc k ≡ k + 1
-    next k = omega arith
 
 next_within : (n k : ℕ) → 0 < n → suc k % n < n
 next_within n k some = mod_below (suc k) n some
@@ -101,13 +99,8 @@ module _ (t : Tables) (a : List ℕ) (f : ℕ) where
   -- the legs of an order are as many as the fleet's
   counted : (order : List ℕ) → IsOrder t a f order → length order ≡ sum_below (λ l. weights_of a (leg_on l f) * 1) (legs_in t)
   counted order is =
-      sym (ones (length order)) ∙ by_places (slice_index order) (λ l. 1) (legs_in t) (length order) is.known
+      sym (sum_below-ones (length order)) ∙ by_places (slice_index order) (λ l. 1) (legs_in t) (length order) is.known
       ∙ sum_below-agree (λ l. times_in order l * 1) (λ l. weights_of a (leg_on l f) * 1) (legs_in t) (record { each = λ l lt. ap (λ n. n * 1) (is.once l lt) })
-    where
-      ones : (n : ℕ) → sum_below (λ k. 1) n ≡ n
-      ones zero = refl
-      ones (suc n) = omega (arith, ones n)
-
   pub same_length : (xs ys : List ℕ) → IsOrder t a f xs → IsOrder t a f ys → length xs ≡ length ys
   same_length xs ys first second = counted xs first ∙ sym (counted ys second)
 

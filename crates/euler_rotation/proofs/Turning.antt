@@ -1,9 +1,10 @@
 -- A kept tour from another of its places on is a kept tour.
-use Rattle.std.proofs.Common.{◌≡◌, ℕ, suc, ◌+◌, ◌-◌, ◌%◌, ◌<◌, ◌≤◌, ◌==◌, if◌then◌else◌, List, [], ◌∷◌, ◌++◌, length, slice_index, slice_index_or, get_or, take, drop, refl, sym, ◌∙◌, ap, subst, inl, inr, arith, append_assoc, length-append}
-use Rattle.std.proofs.Math.Nat.{mod-add-mod, add-mod_right, mod-eq_of_lt}
+use Rattle.std.proofs.Common.{◌≡◌, ℕ, suc, ◌+◌, ◌-◌, ◌%◌, ◌<◌, ◌≤◌, ◌==◌, if◌then◌else◌, List, [], ◌∷◌, ◌++◌, length, slice_index, slice_index_or, get_or, take, drop, refl, sym, ◌∙◌, ap, subst, inl, inr, arith, append_assoc, length-append, add_comm, add-sub_cancel}
+use Rattle.std.proofs.Math.Nat.{mod-add-mod, add-mod_right, mod-eq_of_lt, add_right_comm}
 use Rattle.std.proofs.lemmas.Bool.{cases_lt}
 use Rattle.std.proofs.lemmas.List.{get_or_append_left, get_or-append_right, get_or-drop, get_or-take, length-drop, length-take-le, same_lists, take-append-drop}
 use Rattle.std.proofs.lemmas.Nat.{mod_below}
+use Rattle.std.proofs.Math.Numerals.{suc-eq-add-one}
 use Rattle.sums.specs.Below.{sum_below}
 use Rattle.sums.specs.Places.{list_below}
 use Rattle.sums.proofs.Places.{get_or-list_below, length-list_below}
@@ -34,7 +35,7 @@ moved_night xs ys k lt = elim (cases_lt k (length ys)) [
       get_or_append_left ys xs night.Aloft k less
       ∙ sym (ap (λ j. slice_index_or (xs ++ ys) j night.Aloft) (mod-eq_of_lt (below k (length xs) (length ys) less))
       ∙ get_or-append_right xs ys (length xs) (k + length xs) night.Aloft refl (ahead k (length xs))
-      ∙ ap (λ j. slice_index_or ys j night.Aloft) (back k (length xs)))
+      ∙ ap (λ j. slice_index_or ys j night.Aloft) (add-sub_cancel k (length xs)))
   | inr ge ↦
       get_or-append_right ys xs (length ys) k night.Aloft refl ge
       ∙ sym (ap (λ j. slice_index_or (xs ++ ys) j night.Aloft) (once k (length xs) (length ys) lt ge)
@@ -46,9 +47,6 @@ moved_night xs ys k lt = elim (cases_lt k (length ys)) [
 
     ahead : (k m : ℕ) → m ≤ k + m
     ahead k m = omega arith
-
-    back : (k m : ℕ) → k + m - m ≡ k
-    back k m = omega arith
 
     low : (k m n : ℕ) → k < m + n → n ≤ k → k - n < m
     low k m n lt ge = omega arith
@@ -64,11 +62,7 @@ module _ (t : Tables) (days : ℕ) (xs ys : List Night) (kept : IsKeptFor t (xs 
   long = length-append xs ys
 
   long_moved : length (ys ++ xs) ≡ length xs + length ys
-  long_moved = length-append ys xs ∙ swapped (length ys) (length xs)
-    where
-      swapped : (m n : ℕ) → m + n ≡ n + m
-      swapped m n = omega arith
-
+  long_moved = length-append ys xs ∙ add_comm (length ys) (length xs)
   some : 0 < length xs + length ys
   some = omega (arith, kept.some, long)
 
@@ -92,11 +86,7 @@ module _ (t : Tables) (days : ℕ) (xs ys : List Night) (kept : IsKeptFor t (xs 
           }
         where
           same : (first after : ℕ) → (first + after + length xs) % length (xs ++ ys) ≡ ((first + length xs) % length (xs ++ ys) + after) % length (xs ++ ys)
-          same first after = ap (λ j. j % length (xs ++ ys)) (order first after (length xs)) ∙ sym (mod-add-mod (first + length xs) (length (xs ++ ys)) after)
-            where
-              order : (a b c : ℕ) → a + b + c ≡ a + c + b
-              order a b c = omega arith
-
+          same first after = ap (λ j. j % length (xs ++ ys)) (add_right_comm first after (length xs)) ∙ sym (mod-add-mod (first + length xs) (length (xs ++ ys)) after)
 -- ---- legs, begun later
 module _ (legs : List ℕ) (r : ℕ) (less : r < length legs) where
   pub length_turned : length (turned r legs) ≡ length legs
@@ -112,13 +102,10 @@ module _ (legs : List ℕ) (r : ℕ) (less : r < length legs) where
   next_place : (k : ℕ) → (suc k % length legs + r) % length legs ≡ suc ((k + r) % length legs) % length legs
   next_place k =
       mod-add-mod (suc k) (length legs) r ∙ ap (λ j. j % length legs) (one_on k r)
-      ∙ sym (ap (λ j. j % length legs) (as_sum ((k + r) % length legs)) ∙ mod-add-mod (k + r) (length legs) 1)
+      ∙ sym (ap (λ j. j % length legs) (suc-eq-add-one ((k + r) % length legs)) ∙ mod-add-mod (k + r) (length legs) 1)
     where
       one_on : (k r : ℕ) → suc k + r ≡ k + r + 1
       one_on k r = omega arith
-
-      as_sum : (k : ℕ) → suc k ≡ k + 1
-      as_sum k = omega arith
 
   pub turn_turned : (k : ℕ) → k < length legs → turn_after (turned r legs) k ≡ turn_after legs ((k + r) % length legs)
   turn_turned k lt =
@@ -171,11 +158,8 @@ module _ (legs : List ℕ) (r : ℕ) (less : r < length legs) where
       ]
         where
           first : (k r n : ℕ) → k < n - r → r + k ≡ (k + r) % n
-          first k r n lt = swapped r k ∙ sym (mod-eq_of_lt (sum_low k r n lt))
+          first k r n lt = add_comm r k ∙ sym (mod-eq_of_lt (sum_low k r n lt))
             where
-              swapped : (a b : ℕ) → a + b ≡ b + a
-              swapped a b = omega arith
-
               sum_low : (k r n : ℕ) → k < n - r → k + r < n
               sum_low k r n lt = omega arith
 

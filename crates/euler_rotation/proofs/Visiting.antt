@@ -1,8 +1,9 @@
 -- Prefixes visited one after another.
-use Rattle.std.proofs.Common.{◌≡◌, ℕ, suc, ◌+◌, ◌-◌, ◌<◌, ◌≤◌, Bool, true, false, Option, Some, None, List, [], ◌∷◌, drop, length, length-append, slice_index, get_or, refl, sym, ◌∙◌, ap, subst, inl, inr, arith}
+use Rattle.std.proofs.Common.{◌≡◌, ℕ, suc, ◌+◌, ◌-◌, ◌<◌, ◌≤◌, Bool, true, false, Option, Some, None, List, [], ◌∷◌, drop, length, length-append, slice_index, get_or, refl, sym, ◌∙◌, ap, subst, inl, inr, arith, add-one}
 use Rattle.std.proofs.lemmas.Bool.{cases_lt}
 use Rattle.std.proofs.lemmas.List.{drop_more, length-drop}
 use Rattle.sums.proofs.Tests.{none_some, unlike}
+use Rattle.sums.proofs.Naturals.{last_below}
 use Rattle.euler_rotation.specs.declared.field.Field.{Field}
 use Rattle.euler_rotation.specs.declared.path.Level.{Level}
 use Rattle.euler_rotation.specs.declared.walk.Walk.{Walk}
@@ -44,13 +45,9 @@ module _ (field : Field) where
     one_none = record {
       each = λ k lt kept. elim (cases_lt k n) [
         | inl low ↦ visited.none.each k low kept
-        | inr high ↦ ends (subst (is_kept_in field) (ap (entry_of (preorder_in field)) (same k n lt high) ∙ here.1) kept)
+        | inr high ↦ ends (subst (is_kept_in field) (ap (entry_of (preorder_in field)) (last_below k n lt high) ∙ here.1) kept)
       ];
     }
-      where
-        same : (k n : ℕ) → k < n + 1 → n ≤ k → k ≡ n
-        same k n lt le = omega arith
-
     pub visited_more : (next : Walk) → StandsAt field (pending_in field walk.path 0) next → HasVisited field (n + 1) next
     visited_more next at = record { walk = at.walk; rest = here.2 ∙ at.first; none = one_none }
 
@@ -66,12 +63,8 @@ module _ (field : Field) where
       each_leg = is_field.order;
       more = omega (arith, is, (head_is (preorder_in field) (n + 1) (legs_of next.path) (pending_in field next.path 0) (here.2 ∙ at.first)).0);
       none = λ k lt kept. one_none.each k (omega (arith, lt, is)) kept;
-      last = last ∙ sym here.1 ∙ sym (ap (numbered (preorder_in field)) (is ∙ as_suc n));
+      last = last ∙ sym here.1 ∙ sym (ap (numbered (preorder_in field)) (is ∙ add-one n));
     }
-      where
-        as_suc : (n : ℕ) → n + 1 ≡ suc n
-        as_suc n = omega arith
-
   -- none is visited
   pub visited_at_0 : (prefix : List ℕ) (visits : ℕ) → IsField field → 0 < length (preorder_in field) → visits ≡ 0 → prefix ≡ []
       → AreVisited field.clean.now.asked.now.tables.now field.clean.now.asked.now.plan.now field.clean.now.asked.now.fleet field.clean.now.asked.now.pairs.now field.clean.now.asked.now.days visits field.order.now prefix
@@ -88,11 +81,7 @@ module _ (field : Field) where
     where
       legs_long : (path : List Level) → length (legs_of path) ≡ length path
       legs_long [] = refl
-      legs_long (x ∷ outer) = length-append (legs_of outer) (x.leg ∷ []) ∙ one (length (legs_of outer)) ∙ ap suc (legs_long outer)
-        where
-          one : (n : ℕ) → n + 1 ≡ suc n
-          one n = omega arith
-
+      legs_long (x ∷ outer) = length-append (legs_of outer) (x.leg ∷ []) ∙ add-one (length (legs_of outer)) ∙ ap suc (legs_long outer)
   -- the first prefix is there
   pub some_prefix : IsField field → 0 < length (preorder_in field)
   some_prefix is_field = omega (

@@ -3,6 +3,7 @@ use Rattle.std.proofs.Common.{◌≡◌, ℕ, ◌+◌, ◌<◌, ◌≤◌, Bool,
 use Rattle.std.specs.List.{filter}
 use Rattle.std.proofs.lemmas.List.{drop_all, drop_more, get_or_default, length-set}
 use Rattle.std.proofs.lemmas.List.Elements.{All-filter}
+use mathlib.Core.Bool.{and-false}
 use Rattle.sums.proofs.Places.{get_or-list_below, length-list_below}
 use Rattle.sums.proofs.Tests.{both_true, none_some, not_true, parts_true, some_is}
 use Rattle.fleet_model.specs.declared.parts.Connection.{Connection}
@@ -102,11 +103,7 @@ module _ (field : Field) where
       new = ap not (sym (is_walk.marks leg lt) ∙ unused)
 
       told : (more : Option ℕ) → GoesOn t days 0 (nights_along t f (legs_of walk.path ++ leg ∷ [])) more → OpensOrNot field walk.path leg more
-      told None over = ap (λ b. not (has_leg (legs_of walk.path) leg) && b) over ∙ never (not (has_leg (legs_of walk.path) leg))
-        where
-          never : (b : Bool) → (b && false) ≡ false
-          never true = refl
-          never false = refl
+      told None over = ap (λ b. not (has_leg (legs_of walk.path) leg) && b) over ∙ and-false (not (has_leg (legs_of walk.path) leg))
       told (Some since) stays = record {
         opens = both_true (not (has_leg (legs_of walk.path) leg)) (stays_below t days 0 (nights_along t f (legs_of walk.path ++ leg ∷ []))) new stays.below;
         below = stays;

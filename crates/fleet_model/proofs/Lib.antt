@@ -1,6 +1,7 @@
 pub mod CostLookup
 pub mod KeptLaws
 pub mod KeptRows
+pub mod Minutes
 pub mod MixedPlans
 pub mod NeedAtDepartures
 pub mod NightsUsed

@@ -1,28 +1,17 @@
 -- Need is the greatest excess at a departure: between two departures the excess doesn't grow.
-use Rattle.std.proofs.Common.{◌≡◌, ℕ, zero, suc, ◌<◌, ◌≤◌, ◌⊎◌, inl, inr, Bool, true, false, not, if◌then◌else◌, ◌==◌, ◌&&◌, refl, ◌∙◌, arith}
-use Rattle.std.proofs.lemmas.Bool.{cases_lt}
+use Rattle.std.proofs.Common.{◌≡◌, ℕ, zero, suc, ◌<◌, ◌≤◌, inl, inr, Bool, true, false, not, ◌==◌, ◌&&◌, ◌∙◌, arith}
 use Rattle.std.proofs.lemmas.Bool.Decides.{nat_tests}
 use Rattle.sums.specs.Below.{max_below}
 use Rattle.sums.proofs.Sums.{sum_below-agree, sum_below-le, sum_below-zero}
 use Rattle.sums.proofs.Maxima.{max_below-upper, max_below-least}
+use Rattle.sums.proofs.NumberTests.{if_below}
+use Rattle.sums.proofs.Counts.{find_below}
 use Rattle.fleet_model.specs.declared.limits.TheConstants.{MINUTES_PER_PERIOD}
 use Rattle.fleet_model.specs.declared.tables.Tables.{Tables}
 use Rattle.fleet_model.specs.Schedule.{leg_of, leg_on, legs_in, no_leg}
 use Rattle.fleet_model.specs.Counts.{Weights, arrived, coming, departed, leaving}
 use Rattle.fleet_model.specs.Use.{excess, need_of}
 use Rattle.fleet_model.specs.Laws.{NeedIsAtDepartures, PassesDepartures, excess_at_departure}
-
--- a place that passes, or none does
-find_below : (p : ℕ → Bool) (n : ℕ) → ((k : ℕ) × (k < n) × (p k ≡ true)) ⊎ ((k : ℕ) → k < n → p k ≡ false)
-find_below p zero = inr (λ k below. absurd (omega arith))
-find_below p (suc n) = elim (find_below p n) [
-  | inl found ↦ inl (found.0, omega (arith, found.1), found.2)
-  | inr none ↦ here (p n) refl none
-]
-  where
-    here : (b : Bool) → p n ≡ b → ((k : ℕ) → k < n → p k ≡ false) → ((k : ℕ) × (k < suc n) × (p k ≡ true)) ⊎ ((k : ℕ) → k < suc n → p k ≡ false)
-    here true e none = inl (n, omega arith, e)
-    here false e none = inr (λ k below. elim (cases_lt k n) [ inl less ↦ none k less | inr last ↦ let same : k ≡ n = omega arith in rw same e ])
 
 module _ (t : Tables) (w : Weights) (f s : ℕ) where
   -- a leg leaves in this minute, with some weight
@@ -64,10 +53,6 @@ module _ (t : Tables) (w : Weights) (f s : ℕ) where
     | inl found ↦ offered test passes (suc m) found.0 found.1 found.2
     | inr none ↦ omega (arith, none_leaves m none, arrivals_rise m, no_more test passes m)
   ]
-
-if_below : (b : Bool) (n most : ℕ) → n ≤ most → (if b then n else 0) ≤ most
-if_below true n most below = below
-if_below false n most below = omega arith
 
 pub need_is_at_departures : NeedIsAtDepartures
 unfolding need_of

@@ -38,7 +38,7 @@ still_out p m q r k minute ready = elim (cases_lt k q) [
 ]
 
 -- a bound of a test's number
-if_le-most : (a b : ℕ) → if_le a b ≤ 1
+pub if_le-most : (a b : ℕ) → if_le a b ≤ 1
 if_le-most a b = grind (arith, nat_tests)
 
 order_of_ends : (p d m q r : ℕ) → m < p → d ≤ p * q + r → 1 - if_le d m ≤ q + (1 - if_le r m)

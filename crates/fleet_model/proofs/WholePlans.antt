@@ -1,6 +1,6 @@
 -- A whole mixed plan is a legal assignment of kept pairs.
-use Rattle.std.proofs.Common.{◌≡◌, ◌≢◌, ℕ, zero, suc, ◌+◌, ◌*◌, ◌<◌, max, Bool, true, false, not, if◌then◌else◌, ◌==◌, List, sym, ◌∙◌, ap, subst, inl, inr, arith}
-use Rattle.std.proofs.Math.Nat.{mul-suc, mul-sub}
+use Rattle.std.proofs.Common.{◌≡◌, ◌≢◌, ℕ, zero, suc, ◌*◌, ◌<◌, max, Bool, true, false, not, if◌then◌else◌, ◌==◌, List, sym, ◌∙◌, ap, subst, inl, inr, arith, mul-add}
+use Rattle.std.proofs.Math.Nat.{mul-sub}
 use Rattle.std.proofs.lemmas.Bool.{cases_lt}
 use Rattle.std.proofs.lemmas.Bool.Decides.{nat_tests}
 use Rattle.sums.specs.Below.{sum_below, max_below}
@@ -23,9 +23,6 @@ use Rattle.fleet_model.specs.Use.{excess, laps_at, laps_flown, last_minute, need
 use Rattle.fleet_model.specs.Whole.{IsLegalBy, IsWhole, KeepAllowed, WholeIsLegal}
 
 -- ---- products with a factor
-times_sum : (c a b : ℕ) → c * (a + b) ≡ c * a + c * b
-times_sum c a zero = let none : a + 0 ≡ a = omega arith in rw none (omega arith)
-times_sum c a (suc b) = let out : a + suc b ≡ suc (a + b) = omega arith in ap (λ n. c * n) out ∙ mul-suc c (a + b) ∙ omega (arith, times_sum c a b, mul-suc c b)
 
 times_most : (c : ℕ) (f g : ℕ → ℕ) (n : ℕ) → ((k : ℕ) → k < n → f k ≡ c * g k) → max_below f n ≡ c * max_below g n
 times_most c f g zero each = omega (arith, max_below-zero f, max_below-zero g, ap (λ m. c * m) (max_below-zero g))
@@ -64,7 +61,7 @@ module _ (t : Tables) (c : ℕ) (w u : Weights) (f : ℕ) (same : (l : ℕ) → 
 
   times_used : used_of t w f ≡ c * used_of t u f
   unfolding used_of
-  times_used = omega (arith, times_below c (need_of t w f) (need_of t u f) (stations_in t) (λ s within. times_need s), times_laps, times_sum c (sum_below (need_of t u f) (stations_in t)) (laps_flown t u f))
+  times_used = omega (arith, times_below c (need_of t w f) (need_of t u f) (stations_in t) (λ s within. times_need s), times_laps, mul-add c (sum_below (need_of t u f) (stations_in t)) (laps_flown t u f))
 
 -- ---- the fleet of a leg
 -- the last number below n that passes

@@ -11,7 +11,7 @@ use Rattle.sums.specs.Divisors.{gcd}
 use Rattle.sums.specs.Places.{list_below, first_below, or_else}
 use Rattle.sums.proofs.Divisors.{gcd_is}
 use Rattle.sums.proofs.Division.{*ℤ-int_div, size-int_div, positive_factor}
-use lib.IntN.{*ℤ-zero}
+use lib.IntN.{neg_ℤ, *ℤ-zero}
 use Rattle.sums.proofs.Integers.{positive_product, one-*ℤ}
 use Rattle.sums.proofs.Places.{length-list_below, get_or-list_below, nothing_at, all_nothing}
 use Rattle.sums.proofs.Sizes.{size_above, zero_size}
@@ -22,8 +22,11 @@ use Rattle.frac_row.proofs.Rows.{same_row}
 use Rattle.frac_row.specs.declared.row.FracRow.{FracRow}
 use Rattle.frac_row.specs.declared.factors.Factors.{Factors}
 
-within_from : (z : ℤ) → is_outgrown z ≡ false → IsWithin z
+pub within_from : (z : ℤ) → is_outgrown z ≡ false → IsWithin z
 within_from z h = grind (arith, nat_tests)
+
+pub opposite_within : (z : ℤ) → IsWithin z → IsWithin (neg_ℤ z)
+opposite_within z within = omega (arith, ints)
 
 none_of : {X : Type 0} (a b c : Bool) (x y z : X) → ◌≡◌ {A = Option X} (or_else (cond a (Some x) None) (or_else (cond b (Some y) None) (cond c (Some z) None))) None → (a ≡ false) × (b ≡ false) × (c ≡ false)
 none_of false false false x y z e = (refl, refl, refl)

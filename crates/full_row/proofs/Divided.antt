@@ -5,11 +5,11 @@ use Rattle.std.proofs.lemmas.Bool.{cases_lt}
 use Rattle.std.proofs.lemmas.List.{get_or_past}
 use Rattle.std.proofs.lemmas.Nat.{le-div}
 use Rattle.std.proofs.Math.Nat.{div-le_self, div-mul-le_self}
-use lib.IntN.{neg_ℤ}
 use Rattle.sums.specs.Places.{list_below}
 use Rattle.sums.specs.Divisors.{gcd_below}
 use Rattle.sums.proofs.Divisors.{gcd_at_most}
 use Rattle.sums.proofs.Places.{length-list_below, get_or-list_below}
+use Rattle.sums.proofs.Division.{size-neg_ℤ}
 use Rattle.frac_row.specs.declared.row.FracRow.{FracRow}
 use Rattle.frac_row.specs.Row.{common_divisor, divided}
 use Rattle.frac_row.proofs.Rows.{same_row}
@@ -32,9 +32,6 @@ divisor_small slice items den bound d h same e =
     omega (arith, is, small, h.small)
 
 -- ---- quotients
-size-neg_ℤ : (n : ℕ) → unsigned_abs (neg_ℤ (pos n)) ≡ n
-size-neg_ℤ zero = refl
-size-neg_ℤ (suc n) = refl
 
 size_over : (n : ℤ) (d : ℕ) → unsigned_abs (int_div n (pos d)) ≡ unsigned_abs n / d
 size_over (pos a) d = refl

@@ -2,14 +2,15 @@
 use Rattle.std.proofs.Common.{◌≡◌, ◌≢◌, ◌⊎◌, ℕ, ◌^◌, ◌-◌, Bool, true, false, length-set, ◌+◌, ◌<◌, ◌≤◌, cond, eqb, ℤ, pos, ◌+ℤ◌, ◌-ℤ◌, ◌*ℤ◌, List, [], ◌∷◌, length, get_or, set, map, unsigned_abs, refl, sym, ◌∙◌, ap, subst, arith, inl, inr, get_or-set_same, get_or-set_other}
 use Rattle.std.specs.Prelude.{neg_ℤ}
 use Rattle.std.proofs.lemmas.Int.{ints}
-use Rattle.std.proofs.lemmas.Bool.{cases_lt}
+use Rattle.std.proofs.lemmas.Bool.{cases_eq, cases_lt}
 use Rattle.std.proofs.lemmas.List.{get_or_past}
 use lib.IntN.{*ℤ-zero}
 use Rattle.sums.specs.Places.{list_below}
 use Rattle.sums.proofs.Places.{length-list_below, get_or-list_below}
+use Rattle.sums.proofs.NumberTests.{if_apart, if_same}
 use Rattle.sparse_row.specs.declared.entry.Entry.{Entry}
 use Rattle.sparse_row.specs.Content.{number_in, AreEntries, AreRising}
-use Rattle.sparse_row.proofs.Contents.{when_same, when_apart, are_from, nothing_before}
+use Rattle.sparse_row.proofs.Contents.{are_from, nothing_before}
 use Rattle.sparse_row.proofs.LineNumbers.{IsAdding, adding_more, adding_next, adding_done}
 use Rattle.full_row.specs.Content.{AreBounded}
 use Rattle.full_row.specs.Fits.{CanTake}
@@ -81,7 +82,7 @@ taking_next factor old entries now entry left all most h e fits = (
     next = adding_next (after factor old entries) now (taken factor entry) (map (taken factor) left) (map (taken factor) all) h.adding (ap (map (taken factor)) e)
 
     here : number_in all entry.column ≡ entry.number
-    here = ap (λ xs. number_in xs entry.column) e ∙ when_same entry.column entry.column entry.number (number_in left entry.column) refl
+    here = ap (λ xs. number_in xs entry.column) e ∙ if_same entry.column entry.column entry.number (number_in left entry.column) refl
 
     less : (x y : ℤ) → x -ℤ y ≡ x +ℤ neg_ℤ y
     less x y = omega (arith, ints)
@@ -96,8 +97,8 @@ pub taking_more : (factor : ℤ) (old : List ℤ) (entries : List Entry) (now : 
 taking_more factor old entries now entry left all most next z h e is more size limit = record {
   adding = adding_more (after factor old entries) now (taken factor entry) (map (taken factor) left) (map (taken factor) all) z h.adding (ap (map (taken factor)) e) (is ∙ less (get_or now entry.column (pos 0)) (factor *ℤ entry.number));
   rising = are_from (entry.column + 1) 0 (length old) left (omega arith) here.3;
-  small = λ column. small_at column (same_or entry.column column);
-  bounded = λ column. bounded_at column (same_or entry.column column);
+  small = λ column. small_at column (cases_eq entry.column column);
+  bounded = λ column. bounded_at column (cases_eq entry.column column);
   limit = limit;
 }
   where
@@ -107,16 +108,13 @@ taking_more factor old entries now entry left all most next z h e is more size l
     less : (x y : ℤ) → x -ℤ y ≡ x +ℤ neg_ℤ y
     less x y = omega (arith, ints)
 
-    same_or : (m n : ℕ) → (m ≡ n) ⊎ (m ≢ n)
-    same_or m n = grind arith
-
     nothing : (x : ℤ) → x ≡ pos 0 → (unsigned_abs x ≤ 2 ^ 63 - 1) × (unsigned_abs (factor *ℤ x) ≤ 2 ^ 63 - 1)
     nothing x p = rw (p, *ℤ-zero factor) (omega arith, omega arith)
 
     small_at : (column : ℕ) → (entry.column ≡ column) ⊎ (entry.column ≢ column) → (unsigned_abs (number_in left column) ≤ 2 ^ 63 - 1) × (unsigned_abs (factor *ℤ number_in left column) ≤ 2 ^ 63 - 1)
     small_at column (inl same) = nothing (number_in left column) (nothing_before (entry.column + 1) (length old) left column here.3 (omega arith))
     small_at column (inr ne) =
-        subst (λ x. (unsigned_abs x ≤ 2 ^ 63 - 1) × (unsigned_abs (factor *ℤ x) ≤ 2 ^ 63 - 1)) (ap (λ xs. number_in xs column) e ∙ when_apart entry.column column entry.number (number_in left column) ne) (h.small column)
+        subst (λ x. (unsigned_abs x ≤ 2 ^ 63 - 1) × (unsigned_abs (factor *ℤ x) ≤ 2 ^ 63 - 1)) (ap (λ xs. number_in xs column) e ∙ if_apart entry.column column entry.number (number_in left column) ne) (h.small column)
 
     bounded_at : (column : ℕ) → (entry.column ≡ column) ⊎ (entry.column ≢ column) → unsigned_abs (get_or (set now entry.column z) column (pos 0)) ≤ next
     bounded_at column (inl same) = subst (λ k. unsigned_abs (get_or (set now entry.column z) k (pos 0)) ≤ next) same (written (cases_lt entry.column (length now)))

@@ -6,6 +6,7 @@ use Rattle.std.proofs.lemmas.Nat.{mod_below}
 use Rattle.std.proofs.lemmas.Bool.{and_from, and_parts, cases_Bool, eq-eqb, eqb-true, lt-ltb}
 use Rattle.sums.proofs.Places.{get_or-list_below, length-list_below}
 use Rattle.sums.proofs.Counts.{count_below-some}
+use Rattle.sums.proofs.NumberTests.{some_tested}
 use Rattle.fleet_model.specs.declared.limits.TheConstants.{MINUTES_PER_PERIOD}
 use Rattle.fleet_model.specs.declared.parts.Connection.{Connection}
 use Rattle.fleet_model.specs.declared.tables.Tables.{Tables}
@@ -17,7 +18,7 @@ use Rattle.ground_turns.specs.Maps.{Holds, IsFitting, arrivals_of, departures_of
 use Rattle.ground_turns.specs.Parts.{KeepsPart, NeverTouches, TouchesFreely}
 use Rattle.ground_turns.specs.Turns.{departs_at, period_of, ready_at, station_at, touches, wait_of, waits_at}
 use Rattle.ground_turns.proofs.Fits.{no_surplus}
-use Rattle.ground_turns.proofs.FreeTurns.{by_arriving, crossings_are, free_both, free_turns_law, free_waiting, is_free, not_none, there}
+use Rattle.ground_turns.proofs.FreeTurns.{by_arriving, crossings_are, free_both, free_turns_law, free_waiting, is_free, there}
 use Rattle.ground_turns.proofs.Rounds.{bit}
 use Rattle.ground_turns.proofs.Totals.{some_counted}
 use Rattle.ground_turns.proofs.WalkRound.{next_step, touches_last, touches_next, touches_ready, waits_touch, walk_end, walked}
@@ -152,7 +153,7 @@ module _ (t : Tables) (a : List ℕ) (f : ℕ) (given turns other : List Connect
     given_side : (k : ℕ) → k < length other → is_free t a f given other fitting'.map holds' k ≡ false → inside (turn_at other k).arriving ≡ inside (turn_at other k).departing
     unfolding is_free
     given_side k lt none =
-        let found = some_counted (λ g. (turn_at given g).arriving == (turn_at other k).arriving) (length given) (not_none _ none) in
+        let found = some_counted (λ g. (turn_at given g).arriving == (turn_at other k).arriving) (length given) (some_tested _ none) in
         let same = by_arriving t a f given other fitting'.map holds' found.0 k found.1 lt (eqb-true _ _ found.2) in
         let held = holds.each found.0 found.1 in
         let turn : turn_at turns held.place ≡ turn_at other k = held.there ∙ sym same in

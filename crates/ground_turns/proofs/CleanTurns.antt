@@ -1,10 +1,11 @@
 -- Segments between minutes at whose end none stands tell clean turns.
-use Rattle.std.proofs.Common.{◌≡◌, ◌≢◌, ℕ, zero, suc, ◌+◌, ◌<◌, Bool, true, false, ◌==◌, ◌&&◌, ◌||◌, if◌then◌else◌, IsTrue, nat_lt, [], ◌∷◌, refl, sym, ◌∙◌, ap, subst, inl, inr, arith}
+use Rattle.std.proofs.Common.{◌≡◌, ◌≢◌, ℕ, zero, suc, ◌<◌, Bool, true, false, ◌==◌, ◌&&◌, ◌||◌, if◌then◌else◌, IsTrue, nat_lt, [], ◌∷◌, refl, sym, ◌∙◌, ap, subst, inl, inr, arith}
 use Rattle.std.specs.List.{filter}
 use Rattle.std.proofs.lemmas.List.Elements.{filter-append}
 use Rattle.std.proofs.lemmas.List.Folds.{list_any-append}
-use Rattle.std.proofs.lemmas.Bool.{cases_eq}
+use Rattle.std.proofs.lemmas.Bool.{cases_eq, eqb-false}
 use Rattle.std.proofs.lemmas.Bool.Decides.{nat_tests}
+use Rattle.std.proofs.Math.Numerals.{suc-eq-add-one}
 use Rattle.sums.specs.Places.{list_below}
 use Rattle.sums.proofs.Places.{list_below-more}
 use Rattle.fleet_model.specs.Counts.{weights_of}
@@ -13,9 +14,6 @@ use Rattle.ground_turns.specs.Laws.{SegmentsTellClean}
 use Rattle.ground_turns.specs.Segments.{is_among, minutes_of}
 use Rattle.ground_turns.specs.Turns.{departs_at, minutes_round, period_of, ready_at, station_at, waits_at}
 
-not_none : (n : ℕ) → (n == 0) ≡ false → n ≢ 0
-not_none n e = grind (arith, nat_tests)
-
 is_some : (n : ℕ) → n ≢ 0 → (n == 0) ≡ false
 is_some n h = grind (arith, nat_tests)
 
@@ -23,7 +21,7 @@ pub segments_tell_clean : SegmentsTellClean
 segments_tell_clean t a f turn minutes numbers bare whole ends = (
   λ none. record {
     each = λ m moment waits.
-        not_none (stand_of t (weights_of a) f (station_at t turn) m) (sym (bare.each m moment) ∙ sym (ends.each m (within m moment)) ∙ none.each m (within m moment) (turned m waits));
+        eqb-false (stand_of t (weights_of a) f (station_at t turn) m) 0 (sym (bare.each m moment) ∙ sym (ends.each m (within m moment)) ∙ none.each m (within m moment) (turned m waits));
   },
   λ clean. record {
     each = λ m lt waits.
@@ -68,17 +66,13 @@ both_kinds b c n m h = elim (cases_eq n m) [
 among_below : (p : ℕ → Bool) (n m : ℕ) → is_among (filter p (list_below (λ k. k) n)) m ≡ (nat_lt m n && p m)
 among_below p zero m = grind (arith, nat_tests)
 among_below p (suc n) m =
-    ap (λ k. is_among (filter p (list_below (λ j. j) k)) m) (next n)
+    ap (λ k. is_among (filter p (list_below (λ j. j) k)) m) (suc-eq-add-one n)
     ∙ ap (λ xs. is_among (filter p xs) m) (list_below-more (λ k. k) n)
     ∙ ap (λ xs. is_among xs m) (filter-append p (list_below (λ k. k) n) (n ∷ []))
     ∙ list_any-append (λ k. k == m) (filter p (list_below (λ k. k) n)) (filter p (n ∷ []))
     ∙ ap (λ b. b || is_among (filter p (n ∷ [])) m) (among_below p n m)
     ∙ ap (λ b. (nat_lt m n && p m) || b) (last_among p n m)
     ∙ both_kinds (p n) (p m) n m (ap p)
-  where
-    next : (n : ℕ) → suc n ≡ n + 1
-    next n = omega arith
-
 -- a number below n is among those that pass exactly where it passes
 pub among_filtered : (p : ℕ → Bool) (n m : ℕ) → m < n → is_among (filter p (list_below (λ k. k) n)) m ≡ p m
 among_filtered p n m lt = among_below p n m ∙ within (p m)

@@ -20,7 +20,7 @@ use Rattle.ground_turns.proofs.Fits.{no_surplus, periods_beyond_use}
 use Rattle.ground_turns.proofs.FreeTurns.{all_there, crossings_are, free_both, free_crossings, is_free, landed_part, need_crosses, there, there_is}
 use Rattle.ground_turns.proofs.Places.{departure_is, departure_key, departures_differ, landing_is, landing_key, landings_differ}
 use Rattle.ground_turns.proofs.Ranks.{few_places, keyed_below, place_within}
-use Rattle.ground_turns.proofs.Rounds.{bit}
+use Rattle.ground_turns.proofs.Rounds.{bit, part_at_most}
 use Rattle.ground_turns.proofs.Waits.{crossings_suffice, departs_within, over_departures}
 
 -- a number below twice the modulus
@@ -64,12 +64,8 @@ module _ (t : Tables) (a : List ℕ) (f : ℕ) (given turns : List Connection) (
   unfolding free_crossings
   few_cross s =
       let less = sum_below-le (λ k. bit (there t a f given turns map holds s k && crosses t f (turn_at turns k))) (λ k. bit (there t a f given turns map holds s k)) (length turns)
-      (record { each = λ k lt. part (there t a f given turns map holds s k) (crosses t f (turn_at turns k)) }) in
+      (record { each = λ k lt. part_at_most (there t a f given turns map holds s k) (crosses t f (turn_at turns k)) }) in
       omega (arith, less, all_there t a f given turns map holds s)
-    where
-      part : (b c : Bool) → bit (b && c) ≤ bit b
-      part b c = grind (arith, nat_tests)
-
   -- the legs of a free turn are free
   lands_free : (k : ℕ) → k < length turns → is_free t a f given turns map holds k ≡ true → is_free_landing t a f given (station_at t (turn_at turns k)) (turn_at turns k).arriving ≡ true
   unfolding is_free

@@ -1,11 +1,13 @@
 -- Turns listed by the legs of a fleet that arrive, each with a leg that follows.
-use Rattle.std.proofs.Common.{◌≡◌, ℕ, zero, suc, ◌+◌, ◌-◌, ◌*◌, ◌<◌, ◌≤◌, Bool, true, false, if◌then◌else◌, ◌==◌, ◌&&◌, List, [], ◌∷◌, ◌++◌, length, refl, sym, ◌∙◌, ap, subst, inl, inr, arith, length-append, append-nil}
+use Rattle.std.proofs.Common.{◌≡◌, ℕ, zero, suc, ◌+◌, ◌-◌, ◌*◌, ◌<◌, ◌≤◌, Bool, true, false, if◌then◌else◌, ◌==◌, ◌&&◌, List, [], ◌∷◌, ◌++◌, length, refl, sym, ◌∙◌, ap, subst, inl, inr, arith, length-append, append-nil, add-one, true≢false}
 use Rattle.std.proofs.lemmas.Bool.{and_parts, cases_eq, cases_lt, eq-eqb, eqb-true}
 use Rattle.std.proofs.lemmas.Bool.Decides.{nat_tests}
 use Rattle.std.proofs.Math.ListN.{get_or-append}
 use Rattle.std.proofs.lemmas.List.{get_or_push}
+use mathlib.Core.Bool.{false≢true}
 use Rattle.sums.specs.Below.{sum_below, count_below}
 use Rattle.sums.proofs.Sums.{sum_below-add, sum_below-agree, sum_below-one}
+use Rattle.sums.proofs.Counts.{count_below-no_two}
 use Rattle.fleet_model.specs.declared.parts.Connection.{Connection}
 use Rattle.fleet_model.specs.declared.tables.Tables.{Tables}
 use Rattle.fleet_model.specs.Counts.{fleet_at, weights_of}
@@ -13,7 +15,6 @@ use Rattle.fleet_model.specs.Schedule.{leg_on, legs_in}
 use Rattle.ground_turns.specs.Laws.{NextIsMap}
 use Rattle.ground_turns.specs.Maps.{IsNext, IsSuccessorMap, arrivals_of, departures_of, no_turn, turn_at, turn_by, turns_by}
 use Rattle.ground_turns.specs.Turns.{IsTurn}
-use Rattle.ground_turns.proofs.Ranks.{at_most_one}
 use Rattle.ground_turns.proofs.Regroup.{by_places}
 use Rattle.ground_turns.proofs.Rounds.{bit}
 use Rattle.ground_turns.proofs.Totals.{some_counted, term_below}
@@ -27,13 +28,9 @@ with_one g xs x =
     ∙ ap (λ turn. sum_below (λ k. g (turn_at xs k)) (length xs) + g turn) (get_or_push xs x no_turn (length xs) refl)
   where
     longer : (xs : List Connection) (x : Connection) → length (xs ++ x ∷ []) ≡ suc (length xs)
-    longer xs x = length-append xs (x ∷ []) ∙ next (length xs)
-      where
-        next : (n : ℕ) → n + 1 ≡ suc n
-        next n = omega arith
-
+    longer xs x = length-append xs (x ∷ []) ∙ add-one (length xs)
 -- a turn of a list with one more is one of the list, or that one
-of_one_more : (P : Connection → Type 0) (xs : List Connection) (x : Connection) → ((k : ℕ) → k < length xs → P (turn_at xs k)) → P x
+pub of_one_more : (P : Connection → Type 0) (xs : List Connection) (x : Connection) → ((k : ℕ) → k < length xs → P (turn_at xs k)) → P x
     → (k : ℕ) → k < length (xs ++ x ∷ []) → P (turn_at (xs ++ x ∷ []) k)
 of_one_more P xs x before last k lt = elim (cases_lt k (length xs)) [
   | inl less ↦ subst P (sym (get_or-append xs (x ∷ []) no_turn k less)) (before k less)
@@ -116,7 +113,7 @@ module _ (t : Tables) (a : List ℕ) (f : ℕ) (next : ℕ → ℕ) (leads : IsN
       let over = over_turns a f next (λ turn. bit (turn.departing == m)) (legs_in t) in
       let same = sum_below-agree (λ l. bit (in_fleet l) * bit (next l == m)) (λ l. bit (in_fleet l && (next l == m))) (legs_in t)
       (record { each = λ l below. both (in_fleet l) (next l == m) }) in
-      let few = at_most_one (λ l. in_fleet l && (next l == m)) (legs_in t) (λ j k first second e g.
+      let few = count_below-no_two (λ l. in_fleet l && (next l == m)) (legs_in t) (λ j k first second e g.
       let left = and_parts _ _ e in
       let right = and_parts _ _ g in
       leads.once j k first second (eqb-true _ _ left.0) (eqb-true _ _ right.0) (eqb-true _ _ left.1 ∙ sym (eqb-true _ _ right.1))) in
@@ -125,12 +122,9 @@ module _ (t : Tables) (a : List ℕ) (f : ℕ) (next : ℕ → ℕ) (leads : IsN
       let parts = and_parts _ _ found.2 in
       subst (λ q. in_fleet q ≡ true) (eqb-true _ _ parts.1) (eq-eqb _ _ (leads.turn found.0 found.1 (eqb-true _ _ parts.0)).leaves_on)) (over ∙ same)
     where
-      clash : false ≡ true → ⊥
-      clash e = cc
-
       by_fleet : (b : Bool) → in_fleet m ≡ b → (n : ℕ) → n ≤ 1 → (0 < n → in_fleet m ≡ true) → departures_of turns m ≡ n → departures_of turns m ≤ bit b
       by_fleet true e n few h same = omega (arith, few, same)
-      by_fleet false e n few h same = elim (cases_lt 0 n) [ inl some ↦ absurd (clash (sym e ∙ h some)) | inr none ↦ omega (arith, none, same) ]
+      by_fleet false e n few h same = elim (cases_lt 0 n) [ inl some ↦ absurd (false≢true (sym e ∙ h some)) | inr none ↦ omega (arith, none, same) ]
 
   departures : (m : ℕ) → m < legs_in t → departures_of turns m ≡ weights_of a (leg_on m f)
   unfolding turns
@@ -159,13 +153,10 @@ unfolding pick
 picked p zero k lt e = absurd (omega arith)
 picked p (suc n) k lt e = by_last (p n) refl (λ less. picked p n k less e)
   where
-    clash : true ≡ false → ⊥
-    clash h = cc
-
     earlier : p n ≡ false → k < n
     earlier none = elim (cases_lt k n) [
       | inl less ↦ less
-      | inr last ↦ let same : k ≡ n = omega arith in absurd (clash (sym e ∙ ap p same ∙ none))
+      | inr last ↦ let same : k ≡ n = omega arith in absurd (true≢false (sym e ∙ ap p same ∙ none))
     ]
 
     by_last : (b : Bool) → p n ≡ b → (k < n → (pick p n < n) × (p (pick p n) ≡ true))

@@ -6,6 +6,8 @@ use Rattle.sums.specs.Below.{sum_below, count_below}
 use Rattle.sums.proofs.Counts.{count_below-some, count_below-two}
 use Rattle.sums.proofs.Maxima.{max_below-least}
 use Rattle.sums.proofs.Sums.{sum_below-agree, sum_below-add}
+use Rattle.sums.proofs.Tests.{not_true, same_tests}
+use Rattle.sums.proofs.NumberTests.{some_tested}
 use Rattle.fleet_model.specs.declared.limits.TheConstants.{MINUTES_PER_PERIOD}
 use Rattle.fleet_model.specs.declared.parts.Connection.{Connection}
 use Rattle.fleet_model.specs.declared.tables.Tables.{Tables}
@@ -15,7 +17,7 @@ use Rattle.fleet_model.specs.Times.{departure, ready_minute}
 use Rattle.ground_turns.specs.FirstOut.{free_departed, free_excess, free_landed, free_landings, free_need}
 use Rattle.ground_turns.specs.Maps.{Holds, IsSuccessorMap, arrivals_of, crosses_there, crossings_at, departures_of, turn_at}
 use Rattle.ground_turns.specs.Turns.{crosses, departs_at, period_of, ready_at, station_at, waits_at}
-use Rattle.ground_turns.proofs.Rounds.{bit, moment_law}
+use Rattle.ground_turns.proofs.Rounds.{bit, bit_times_both, moment_law}
 use Rattle.ground_turns.proofs.Totals.{some_counted}
 use Rattle.ground_turns.proofs.Waits.{at_station, departs_within, over_arrivals, over_departures, ready_within}
 
@@ -32,16 +34,6 @@ once p n j k few first second h g = elim (cases_order j k) [
 bit_few : (b : Bool) → bit b ≤ 1
 bit_few b = grind (arith, nat_tests)
 
--- two tests that pass together are one
-same_test : (a b : Bool) → (a ≡ true → b ≡ true) → (b ≡ true → a ≡ true) → a ≡ b
-same_test true true h g = refl
-same_test true false h g = sym (h refl)
-same_test false true h g = g refl
-same_test false false h g = refl
-
-pub not_none : (n : ℕ) → (n == 0) ≡ false → 0 < n
-not_none n e = grind (arith, nat_tests)
-
 some_test : (n : ℕ) → 0 < n → (n == 0) ≡ false
 some_test n h = grind (arith, nat_tests)
 
@@ -55,10 +47,6 @@ clash b e g = cc
 pub landed_part : (w b r c : Bool) → bit w * bit ((b && c) && r) ≡ bit (((w && b) && c) && r)
 landed_part true b r c = omega arith
 landed_part false b r c = omega arith
-
-landing_part : (w b c : Bool) → bit w * bit (b && c) ≡ bit ((w && b) && c)
-landing_part true b c = omega arith
-landing_part false b c = omega arith
 
 in_two : (s c x : Bool) → bit (s && x) ≡ bit ((s && c) && x) + bit ((s && not c) && x)
 in_two true true x = omega arith
@@ -114,14 +102,14 @@ module _ (t : Tables) (a : List ℕ) (f : ℕ) (given turns : List Connection) (
   -- its departure is free where its landing is
   pub free_both : (k : ℕ) → k < length turns → is_free k ≡ (departures_of given (turn_at turns k).departing == 0)
   unfolding is_free
-  free_both k lt = same_test (arrivals_of given (turn_at turns k).arriving == 0) (departures_of given (turn_at turns k).departing == 0)
+  free_both k lt = same_tests (arrivals_of given (turn_at turns k).arriving == 0) (departures_of given (turn_at turns k).departing == 0)
       (λ e. both_ways _ (λ none.
-      let found = some_counted (λ g. (turn_at given g).departing == (turn_at turns k).departing) (length given) (not_none _ none) in
+      let found = some_counted (λ g. (turn_at given g).departing == (turn_at turns k).departing) (length given) (some_tested _ none) in
       let same = by_departing found.0 k found.1 lt (eqb-true _ _ found.2) in
       let some = count_below-some (λ g. (turn_at given g).arriving == (turn_at turns k).arriving) (length given) found.0 found.1 (eq-eqb _ _ (ap (λ turn. turn.arriving) (sym same))) in
       clash _ e (some_test _ some)))
       (λ e. both_ways _ (λ none.
-      let found = some_counted (λ g. (turn_at given g).arriving == (turn_at turns k).arriving) (length given) (not_none _ none) in
+      let found = some_counted (λ g. (turn_at given g).arriving == (turn_at turns k).arriving) (length given) (some_tested _ none) in
       let same = by_arriving found.0 k found.1 lt (eqb-true _ _ found.2) in
       let some = count_below-some (λ g. (turn_at given g).departing == (turn_at turns k).departing) (length given) found.0 found.1 (eq-eqb _ _ (ap (λ turn. turn.departing) (sym same))) in
       clash _ e (some_test _ some)))
@@ -137,7 +125,7 @@ module _ (t : Tables) (a : List ℕ) (f : ℕ) (given turns : List Connection) (
   unfolding there is_free free_landings
   all_there s =
       over_arrivals t a f turns map (λ l. bit (((leg_of t l).to == s) && (arrivals_of given l == 0)))
-      ∙ sum_below-agree _ _ (legs_in t) (record { each = λ l below. landing_part (fleet_at a l == f) ((leg_of t l).to == s) (arrivals_of given l == 0) })
+      ∙ sum_below-agree _ _ (legs_in t) (record { each = λ l below. bit_times_both (fleet_at a l == f) ((leg_of t l).to == s) (arrivals_of given l == 0) })
 
   all_landed : (s m : ℕ) → count_below (λ k. there s k && nat_le (ready_at t f (turn_at turns k)) m) (length turns) ≡ free_landed t a f given s m
   unfolding there is_free free_landed
@@ -187,22 +175,18 @@ module _ (t : Tables) (a : List ℕ) (f : ℕ) (given turns : List Connection) (
   as_given : (k : ℕ) → k < length turns → is_free k ≡ false → crosses t f (turn_at turns k) ≡ crosses_by_given t f given (turn_at turns k).arriving
   unfolding is_free
   as_given k lt none =
-      let found = some_counted (λ g. (turn_at given g).arriving == (turn_at turns k).arriving) (length given) (not_none _ none) in
+      let found = some_counted (λ g. (turn_at given g).arriving == (turn_at turns k).arriving) (length given) (some_tested _ none) in
       let same = by_arriving found.0 k found.1 lt (eqb-true _ _ found.2) in
-      same_test (crosses t f (turn_at turns k)) (crosses_by_given t f given (turn_at turns k).arriving)
+      same_tests (crosses t f (turn_at turns k)) (crosses_by_given t f given (turn_at turns k).arriving)
       (λ e. not_false (some_test _ (count_below-some (given_crosses t f given (turn_at turns k).arriving) (length given) found.0 found.1
       (and_from _ _ found.2 (subst (λ turn. crosses t f turn ≡ true) same e)))))
       (λ e.
-      let crossing = some_counted (given_crosses t f given (turn_at turns k).arriving) (length given) (not_none _ (from_not _ e)) in
+      let crossing = some_counted (given_crosses t f given (turn_at turns k).arriving) (length given) (some_tested _ (not_true _ e)) in
       let parts = and_parts _ _ crossing.2 in
       subst (λ turn. crosses t f turn ≡ true) (sym (by_arriving crossing.0 k crossing.1 lt (eqb-true _ _ parts.0))) parts.1)
     where
       not_false : {b : Bool} → b ≡ false → not b ≡ true
       not_false e = ap not e
-
-      from_not : (b : Bool) → not b ≡ true → b ≡ false
-      from_not true e = sym e
-      from_not false e = refl
 
   one_crossing : (s k : ℕ) → k < length turns → bit (crosses_there t f turns s k)
       ≡ bit (((station_at t (turn_at turns k) == s) && is_free k) && crosses t f (turn_at turns k)) + bit (given_at t f given s (turn_at turns k).arriving)

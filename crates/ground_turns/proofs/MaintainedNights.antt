@@ -1,11 +1,11 @@
 -- The nights at maintenance stations.
 use Rattle.std.proofs.Common.{◌≡◌, ℕ, zero, suc, ◌+◌, ◌*◌, ◌%◌, ◌≤◌, Bool, true, false, if◌then◌else◌, ◌==◌, List, [], ◌∷◌, ◌++◌, length, replicate, slice_index_or, refl, sym, ◌∙◌, ap, arith}
 use Rattle.std.specs.List.{count_by}
-use Rattle.std.proofs.Math.Nat.{add-mod_left, mod-eq_of_lt}
 use Rattle.std.proofs.lemmas.Bool.{eqb-true}
 use Rattle.std.proofs.lemmas.List.Sums.{sum_by-append}
 use Rattle.sums.specs.Below.{sum_below, count_below}
-use Rattle.sums.proofs.Sums.{sum_below-agree, sum_below-bound, sum_below-le, sum_below-one, sum_below-swap, sum_below-zero}
+use Rattle.sums.proofs.Sums.{sum_below-agree, sum_below-bound, sum_below-le, sum_below-one, sum_below-ones, sum_below-swap, sum_below-zero}
+use Rattle.sums.proofs.Turned.{turned}
 use Rattle.fleet_model.specs.declared.parts.Connection.{Connection}
 use Rattle.fleet_model.specs.declared.tables.Tables.{Tables}
 use Rattle.fleet_model.specs.Schedule.{leg_on, no_leg, station_of, stations_in}
@@ -17,7 +17,7 @@ use Rattle.ground_turns.specs.Turns.{nights_waited, station_at}
 use Rattle.ground_turns.specs.declared.nights.Night.{Night}
 use Rattle.ground_turns.specs.declared.nights.Night.TheVariants as night
 use Rattle.ground_turns.proofs.NightCounts.{nights_are_stands}
-use Rattle.ground_turns.proofs.Rounds.{bit}
+use Rattle.ground_turns.proofs.Rounds.{bit, times_bit}
 use Rattle.ground_turns.proofs.Totals.{term_below}
 use Rattle.ground_turns.proofs.TourNights.{shifted}
 
@@ -32,29 +32,6 @@ by_place : (p : Night → Bool) (nights : List Night) → count_by p nights ≡ 
 by_place p [] = refl
 by_place p (x ∷ xs) = omega (arith, count_cons p x xs, by_place p xs, shifted (λ k. bit (p (slice_index_or (x ∷ xs) k night.Aloft))) (length xs))
 
--- a sum going round, begun later
-turned_one : (h : ℕ → ℕ) (n : ℕ) → h n ≡ h 0 → sum_below (λ k. h (suc k)) n ≡ sum_below h n
-turned_one h n e = omega (arith, shifted h n, e)
-
-turned : (g : ℕ → ℕ) (n j : ℕ) → sum_below (λ k. g ((k + j) % n)) n ≡ sum_below g n
-turned g n zero = sum_below-agree (λ k. g ((k + 0) % n)) g n (record { each = λ k lt. ap g (ap (λ i. i % n) (no_more k) ∙ mod-eq_of_lt lt) })
-  where
-    no_more : (k : ℕ) → k + 0 ≡ k
-    no_more k = omega arith
-turned g n (suc j) =
-    sum_below-agree (λ k. g ((k + suc j) % n)) (λ k. g ((suc k + j) % n)) n (record { each = λ k lt. ap (λ i. g (i % n)) (moved k j) })
-    ∙ turned_one (λ k. g ((k + j) % n)) n (ap g (add-mod_left n j ∙ ap (λ i. i % n) (from_0 j))) ∙ turned g n j
-  where
-    moved : (k j : ℕ) → k + suc j ≡ suc k + j
-    moved k j = omega arith
-
-    from_0 : (j : ℕ) → j ≡ 0 + j
-    from_0 j = omega arith
-
-ones : (n : ℕ) → sum_below (λ k. 1) n ≡ n
-ones zero = refl
-ones (suc n) = omega (arith, ones n)
-
 pub kept_has_nights : KeptHasNights
 kept_has_nights t nights days kept =
     let each = sum_below-le (λ first. 1) (λ first. sum_below (λ j. good ((first + j) % length nights)) days) (length nights) (record { each = λ first lt. one first (kept.each first lt) }) in
@@ -64,7 +41,7 @@ kept_has_nights t nights days kept =
     let all = sum_below-bound (λ j. sum_below good (length nights)) (sum_below good (length nights)) days (record { each = λ j lt. omega arith }) in
     let counted = by_place (can_maintain t) nights in
     let product : days * sum_below good (length nights) ≡ days * maintained_in t nights = ap (λ n. days * n) (sym counted) in
-    omega (arith, each, swapped, same, all, product, ones (length nights))
+    omega (arith, each, swapped, same, all, product, sum_below-ones (length nights))
   where
     good : ℕ → ℕ
     good k = bit (can_maintain t (slice_index_or nights k night.Aloft))
@@ -84,10 +61,6 @@ repeated p (suc n) x = let one : suc n * bit (p x) ≡ bit (p x) + n * bit (p x)
 -- the maintenance nights of a turn
 stood : Tables → ℕ → Connection → ℕ
 stood t f turn = if (station_of t (station_at t turn)).maintenance then nights_waited t f turn else 0
-
-times_bit : (n : ℕ) (b : Bool) → n * bit b ≡ (if b then n else 0)
-times_bit n true = omega arith
-times_bit n false = omega arith
 
 in_turn : (t : Tables) (f : ℕ) (turn : Connection) → maintained_in t (nights_in_turn t f turn) ≡ stood t f turn
 unfolding stood

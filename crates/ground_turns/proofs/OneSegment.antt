@@ -3,6 +3,7 @@ use Rattle.std.proofs.Common.{◌≡◌, ◌↔◌, ℕ, zero, suc, ◌+◌, ◌
 use Rattle.std.proofs.lemmas.Bool.{cases_lt, eqb-true, eq-eqb}
 use Rattle.std.proofs.lemmas.Bool.Decides.{nat_tests}
 use Rattle.std.proofs.lemmas.List.{get_or_default}
+use Rattle.std.proofs.Math.Numerals.{suc-eq-add-one}
 use Rattle.sums.specs.Places.{list_below}
 use Rattle.sums.proofs.Places.{get_or-list_below, length-list_below}
 use Rattle.ground_turns.specs.Segments.{AreNumbers, EndAt, NoneBetween, NoneEnds, ends_at, is_among, is_marked, marked_before, minutes_of}
@@ -165,7 +166,4 @@ module _ (marks : List Bool) (numbers : List ℕ) (are : numbers ≡ list_below 
 -- one mark more
 pub counted_more : (marks : List Bool) (i old new : ℕ) (b : Bool) → is_marked marks i ≡ b → old ≡ marked_before marks i → new ≡ old + bit b → new ≡ marked_before marks (i + 1)
 counted_more marks i old new b here before after =
-    after ∙ ap (λ n. n + bit b) before ∙ ap (λ c. marked_before marks i + bit c) (sym here) ∙ ap (marked_before marks) (next i)
-  where
-    next : (i : ℕ) → suc i ≡ i + 1
-    next i = omega arith
+    after ∙ ap (λ n. n + bit b) before ∙ ap (λ c. marked_before marks i + bit c) (sym here) ∙ ap (marked_before marks) (suc-eq-add-one i)

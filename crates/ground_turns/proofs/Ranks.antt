@@ -3,34 +3,15 @@ use Rattle.std.proofs.Common.{◌≡◌, ℕ, zero, suc, ◌+◌, ◌<◌, ◌�
 use Rattle.std.proofs.lemmas.Bool.{cases_lt, cases_order, and_from, and_parts, eqb-true, eq-eqb}
 use Rattle.std.proofs.lemmas.Bool.Decides.{nat_tests}
 use Rattle.sums.specs.Below.{count_below, max_below}
-use Rattle.sums.proofs.Counts.{count_below-some}
+use Rattle.sums.proofs.Counts.{count_below-no_two, count_below-some}
 use Rattle.sums.proofs.Maxima.{max_below-upper}
 use Rattle.sums.proofs.Sums.{sum_below-agree, sum_below-add, sum_below-le}
-use Rattle.ground_turns.proofs.Rounds.{bit}
+use Rattle.ground_turns.proofs.Rounds.{bit, part_at_most}
 use Rattle.ground_turns.proofs.Totals.{some_counted}
 
 -- no two numbers that pass have one key
 pub record Differ (p : ℕ → Bool) (key : ℕ → ℕ) (n : ℕ) : Type 0 where
   pub each : (j k : ℕ) → j < n → k < n → p j ≡ true → p k ≡ true → key j ≡ key k → j ≡ k
-
--- where any two that pass are one, at most one passes
-pub at_most_one : (p : ℕ → Bool) (n : ℕ) → ((j k : ℕ) → j < n → k < n → p j ≡ true → p k ≡ true → j ≡ k) → count_below p n ≤ 1
-at_most_one p zero h = omega arith
-at_most_one p (suc n) h =
-    by_last (p n) refl (at_most_one p n (λ j k lt less. h j k (omega arith) (omega arith)))
-  where
-    clash : (k : ℕ) → k < n → k ≡ n → ⊥
-    clash k lt e = omega arith
-
-    alone : p n ≡ true → count_below p n ≡ 0
-    alone e = elim (cases_lt 0 (count_below p n)) [
-      | inl some ↦ let found = some_counted p n some in absurd (clash found.0 found.1 (h found.0 n (omega (arith, found.1)) (omega arith) found.2 e))
-      | inr none ↦ omega arith
-    ]
-
-    by_last : (b : Bool) → p n ≡ b → count_below p n ≤ 1 → count_below p n + bit b ≤ 1
-    by_last true e before = omega (arith, alone e)
-    by_last false e before = omega arith
 
 -- how many that pass have a key below a number
 unfoldable pub keyed_below : (ℕ → Bool) → (ℕ → ℕ) → ℕ → ℕ → ℕ
@@ -92,11 +73,7 @@ module _ (p : ℕ → Bool) (key : ℕ → ℕ) (n : ℕ) where
 
 keyed_all : (p : ℕ → Bool) (key : ℕ → ℕ) (n x : ℕ) → keyed_below p key n x ≤ count_below p n
 unfolding keyed_below
-keyed_all p key n x = sum_below-le (λ q. bit (p q && nat_lt (key q) x)) (λ q. bit (p q)) n (record { each = λ q lt. one (p q) (nat_lt (key q) x) })
-  where
-    one : (b c : Bool) → bit (b && c) ≤ bit b
-    one b c = grind (arith, nat_tests)
-
+keyed_all p key n x = sum_below-le (λ q. bit (p q && nat_lt (key q) x)) (λ q. bit (p q)) n (record { each = λ q lt. part_at_most (p q) (nat_lt (key q) x) })
 past_counts : (p : ℕ → Bool) (key : ℕ → ℕ) (n : ℕ) → keyed_below p key n (past_all p key n) ≡ count_below p n
 unfolding keyed_below
 past_counts p key n =
@@ -108,7 +85,7 @@ past_counts p key n =
 
 module _ (p : ℕ → Bool) (key : ℕ → ℕ) (n : ℕ) (differ : Differ p key n) where
   keyed_once : (x : ℕ) → count_below (λ q. p q && (key q == x)) n ≤ 1
-  keyed_once x = at_most_one (λ q. p q && (key q == x)) n (λ j k lt less e g.
+  keyed_once x = count_below-no_two (λ q. p q && (key q == x)) n (λ j k lt less e g.
       let first = and_parts (p j) (key j == x) e in
       let second = and_parts (p k) (key k == x) g in
       differ.each j k lt less first.0 second.0 (eqb-true (key j) x first.1 ∙ sym (eqb-true (key k) x second.1)))

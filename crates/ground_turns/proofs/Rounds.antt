@@ -1,5 +1,5 @@
 -- Minutes that go round: how many minutes after one another comes, in a period of w minutes.
-use Rattle.std.proofs.Common.{◌≡◌, true, ◌⊎◌, ℕ, ◌+◌, ◌-◌, ◌*◌, ◌%◌, ◌<◌, ◌≤◌, Bool, if◌then◌else◌, nat_lt, nat_le, ◌∙◌, ap, inl, inr, arith}
+use Rattle.std.proofs.Common.{◌≡◌, true, false, ◌&&◌, ◌⊎◌, ℕ, ◌+◌, ◌-◌, ◌*◌, ◌%◌, ◌<◌, ◌≤◌, Bool, if◌then◌else◌, nat_lt, nat_le, ◌∙◌, ap, inl, inr, arith}
 use Rattle.std.proofs.Math.Nat.{mod-eq_of_lt}
 use Rattle.std.proofs.lemmas.Nat.{mod-mul-add}
 use Rattle.std.proofs.lemmas.Bool.{cases_lt}
@@ -8,6 +8,18 @@ use Rattle.std.proofs.lemmas.Bool.Decides.{nat_tests}
 -- 1 where a test passes
 abbrev pub bit : Bool → ℕ
 bit b = if b then 1 else 0
+
+-- a part of what passes
+pub part_at_most : (b c : Bool) → bit (b && c) ≤ bit b
+part_at_most b c = grind (arith, nat_tests)
+
+pub bit_times_both : (a b c : Bool) → bit a * bit (b && c) ≡ bit ((a && b) && c)
+bit_times_both true b c = omega arith
+bit_times_both false b c = omega arith
+
+pub times_bit : (n : ℕ) (b : Bool) → n * bit b ≡ (if b then n else 0)
+times_bit n true = omega arith
+times_bit n false = omega arith
 
 -- one period more
 mod-more : (x w : ℕ) → x < w → (x + w) % w ≡ x

@@ -6,6 +6,7 @@ use Rattle.std.proofs.lemmas.Bool.Decides.{nat_tests}
 use Rattle.sums.specs.Below.{count_below}
 use Rattle.sums.proofs.Maxima.{max_below-agree, max_below-least}
 use Rattle.sums.proofs.Sums.{sum_below-agree, sum_below-le, sum_below-zero}
+use Rattle.sums.proofs.Naturals.{some_above}
 use Rattle.fleet_model.specs.declared.limits.TheConstants.{MINUTES_PER_PERIOD}
 use Rattle.fleet_model.specs.declared.parts.Connection.{Connection}
 use Rattle.fleet_model.specs.declared.tables.Tables.{Tables}
@@ -13,6 +14,7 @@ use Rattle.fleet_model.specs.Counts.{arrived, departed, fleet_at, weights_of}
 use Rattle.fleet_model.specs.Schedule.{fleets_in, leg_of, leg_on, legs_in, no_leg, stations_in}
 use Rattle.fleet_model.specs.Times.{departure, ready_minute}
 use Rattle.fleet_model.specs.Use.{IsBalanced, excess, last_minute, need_of}
+use Rattle.fleet_model.proofs.Minutes.{by_last_minute}
 use Rattle.ground_turns.specs.FirstOut.{AreFirstOut, IsFirstOut, departure_place, free_departed, free_excess, free_landed, free_landings, free_need, is_free_departure, is_free_landing, landing_place}
 use Rattle.ground_turns.specs.Laws.{SomeFits, surplus_at}
 use Rattle.ground_turns.specs.Maps.{Holds, IsFitting, IsHeld, IsNext, IsSuccessorMap, crossings_at, turn_by, turns_by}
@@ -23,7 +25,7 @@ use Rattle.ground_turns.proofs.FleetTurns.{each_turn, is_map, pick, picked}
 use Rattle.ground_turns.proofs.FreeTurns.{crosses_by_given, crossings_are, given_at}
 use Rattle.ground_turns.proofs.Places.{departure_is, departure_key, departures_differ, landing_is, landing_key, landings_differ}
 use Rattle.ground_turns.proofs.Ranks.{one_place, place_taken, place_within}
-use Rattle.ground_turns.proofs.Rounds.{bit}
+use Rattle.ground_turns.proofs.Rounds.{bit, part_at_most}
 
 -- numbers that go round to one are one
 pub same_round : (x y f n : ℕ) → x < n → y < n → f ≤ n → (x + f) % n ≡ (y + f) % n → x ≡ y
@@ -65,30 +67,18 @@ module _ (t : Tables) (a : List ℕ) (f : ℕ) (s : ℕ) where
   landings_all = sum_below-agree _ _ (legs_in t) (record {
     each = λ l below.
         all_part (fleet_at a l == f) ((leg_of t l).to == s) (nat_le (ready_minute t (leg_on l f)) last_minute)
-        (by_last _ (mod_below _ MINUTES_PER_PERIOD (omega arith)));
+        (by_last_minute _ (mod_below _ MINUTES_PER_PERIOD (omega arith)));
   })
-    where
-      by_last : (r : ℕ) → r < MINUTES_PER_PERIOD → nat_le r last_minute ≡ true
-      by_last r lt = grind (arith, nat_tests)
-
   departures_all : count_below (is_free_departure t a f [] s) (legs_in t) ≡ departed t (weights_of a) f s last_minute
   unfolding departed
   departures_all = sum_below-agree _ _ (legs_in t) (record {
     each = λ l below.
         all_part (fleet_at a l == f) ((leg_of t l).from == s) (nat_le (departure t (leg_on l f)) last_minute)
-        (by_last _ (t.in_range.legs_fit.each l no_leg below).dep);
+        (by_last_minute _ (t.in_range.legs_fit.each l no_leg below).dep);
   })
-    where
-      by_last : (r : ℕ) → r < MINUTES_PER_PERIOD → nat_le r last_minute ≡ true
-      by_last r lt = grind (arith, nat_tests)
-
   departed_few : (m : ℕ) → free_departed t a f [] s m ≤ count_below (is_free_departure t a f [] s) (legs_in t)
   unfolding free_departed
-  departed_few m = sum_below-le _ (λ l. bit (is_free_departure t a f [] s l)) (legs_in t) (record { each = λ l below. part (is_free_departure t a f [] s l) (nat_le (departure t (leg_on l f)) m) })
-    where
-      part : (b c : Bool) → bit (b && c) ≤ bit b
-      part b c = grind (arith, nat_tests)
-
+  departed_few m = sum_below-le _ (λ l. bit (is_free_departure t a f [] s l)) (legs_in t) (record { each = λ l below. part_at_most (is_free_departure t a f [] s l) (nat_le (departure t (leg_on l f)) m) })
   few_needed : arrived t (weights_of a) f s last_minute ≡ departed t (weights_of a) f s last_minute → free_need t a f [] s ≤ free_landings t a f [] s
   unfolding free_need
   few_needed balanced =
@@ -129,14 +119,10 @@ module _ (t : Tables) (a : List ℕ) (f : ℕ) (balanced : IsBalanced t (weights
   unfolding next next_place follows
   next_is l below flies =
       let s = (leg_of t l).to in
-      let low : next_place s l < free_landings t a f [] s = mod_below _ (free_landings t a f [] s) (some (place_low l below flies)) in
+      let low : next_place s l < free_landings t a f [] s = mod_below _ (free_landings t a f [] s) (some_above (place_low l below flies)) in
       let fits : next_place s l < count_below (is_free_departure t a f [] s) (legs_in t) = omega (arith, low, departures_all t a f s, landings_all t a f s, even s (station_known l below)) in
       let found = place_taken (is_free_departure t a f [] s) (departure_key t a f [] s) (legs_in t) (departures_differ t a f [] s) (next_place s l) fits in
       picked (follows s l) (legs_in t) found.0 found.1 (and_from _ _ found.2 (eq-eqb _ _ (departure_is t a f [] s found.0 found.1 ∙ found.3)))
-    where
-      some : {m n : ℕ} → m < n → 0 < n
-      some h = omega arith
-
   next_free : (l : ℕ) → l < legs_in t → in_fleet l ≡ true → is_free_departure t a f [] (leg_of t l).to (next l) ≡ true
   unfolding follows
   next_free l below flies = (and_parts _ _ (next_is l below flies).1).0

@@ -1,6 +1,6 @@
 -- Laws of sums, counts and greatest terms below a bound.
 use Rattle.std.proofs.Common.{◌≡◌, ap, sym, ◌≢◌, ◌||◌, ℕ, zero, suc, ◌+◌, ◌<◌, ◌≤◌, Bool, true, false, if◌then◌else◌, ◌==◌, ◌&&◌, refl, ◌∙◌, inl, inr, arith}
-use Rattle.std.proofs.lemmas.Bool.{cases_lt}
+use Rattle.std.proofs.lemmas.Bool.{cases_lt, eqb-false, eqb-true}
 use Rattle.std.proofs.lemmas.Bool.Decides.{nat_tests}
 use Rattle.sums.specs.Below.{sum_below, count_below, max_below}
 use Rattle.sums.proofs.Sums.{sum_below-add, sum_below-agree, sum_below-one, sum_below-swap, sum_below-zero}
@@ -53,11 +53,8 @@ without i j f k = if (i == k) || (j == k) then 0 else f k
 
 at_two : (f : ℕ → ℕ) (i j k : ℕ) → i ≢ j → f k ≡ without i j f k + ((if i == k then f i else 0) + (if j == k then f j else 0))
 unfolding without
-at_two f i j k differ = by_tests (i == k) (j == k) (λ e. ap f (same i k e)) (λ e. ap f (same j k e)) (λ e g. differ (same i k e ∙ sym (same j k g)))
+at_two f i j k differ = by_tests (i == k) (j == k) (λ e. ap f (eqb-true i k e)) (λ e. ap f (eqb-true j k e)) (λ e g. differ (eqb-true i k e ∙ sym (eqb-true j k g)))
   where
-    same : (a b : ℕ) → (a == b) ≡ true → a ≡ b
-    same a b e = grind (arith, nat_tests)
-
     by_tests : (p q : Bool) → (p ≡ true → f i ≡ f k) → (q ≡ true → f j ≡ f k) → (p ≡ true → q ≡ true → ⊥)
         → f k ≡ (if p || q then 0 else f k) + ((if p then f i else 0) + (if q then f j else 0))
     by_tests true true h g both = absurd (both refl refl)
@@ -77,12 +74,9 @@ pub two_changed : (f g : ℕ → ℕ) (n i j : ℕ) → i < n → j < n → i �
     → sum_below f n + (g i + g j) ≡ sum_below g n + (f i + f j)
 unfolding without
 two_changed f g n i j first second differ same =
-    let rest = sum_below-agree (without i j f) (without i j g) n (record { each = λ k lt. by_tests (i == k) (j == k) k (λ p q. same k lt (λ e. other i k p (sym e)) (λ e. other j k q (sym e))) }) in
+    let rest = sum_below-agree (without i j f) (without i j g) n (record { each = λ k lt. by_tests (i == k) (j == k) k (λ p q. same k lt (λ e. eqb-false i k p (sym e)) (λ e. eqb-false j k q (sym e))) }) in
     omega (arith, rest, apart_from_two f n i j first second differ, apart_from_two g n i j first second differ)
   where
-    other : (a b : ℕ) → (a == b) ≡ false → a ≡ b → ⊥
-    other a b e h = grind (arith, nat_tests)
-
     by_tests : (p q : Bool) (k : ℕ) → (p ≡ false → q ≡ false → f k ≡ g k) → ◌≡◌ {A = ℕ} (if p || q then 0 else f k) (if p || q then 0 else g k)
     by_tests true q k h = refl
     by_tests false true k h = refl

@@ -1,5 +1,5 @@
 -- The waiting law, and the periods that a map takes.
-use Rattle.std.proofs.Common.{◌≡◌, ℕ, ◌+◌, ◌*◌, ◌<◌, ◌≤◌, Bool, true, false, if◌then◌else◌, ◌==◌, ◌&&◌, nat_le, List, length, refl, ◌∙◌, ap, arith}
+use Rattle.std.proofs.Common.{◌≡◌, ℕ, ◌+◌, ◌*◌, ◌<◌, ◌≤◌, Bool, true, false, ◌==◌, ◌&&◌, nat_le, List, length, refl, ◌∙◌, ap, arith}
 use Rattle.std.proofs.lemmas.Nat.{mod_below}
 use Rattle.sums.specs.Below.{sum_below, count_below}
 use Rattle.sums.proofs.Sums.{sum_below-agree, sum_below-add}
@@ -10,19 +10,12 @@ use Rattle.fleet_model.specs.Counts.{arrived, departed, has_come, has_left, weig
 use Rattle.fleet_model.specs.Schedule.{leg_on, legs_in, no_leg}
 use Rattle.fleet_model.specs.Use.{need_of, stand_of}
 use Rattle.fleet_model.proofs.UseLaws.{need_is_least, need_suffices}
+use Rattle.fleet_model.proofs.Minutes.{some_minutes}
 use Rattle.ground_turns.specs.Laws.{WaitingLaw}
 use Rattle.ground_turns.specs.Maps.{IsSuccessorMap, crosses_there, crossings_at, turn_at, waiting_at, waits_there}
 use Rattle.ground_turns.specs.Turns.{crosses, departs_at, period_of, ready_at, station_at, waits_at}
 use Rattle.ground_turns.proofs.Regroup.{by_places}
-use Rattle.ground_turns.proofs.Rounds.{bit, moment_law}
-
-some_minutes : 0 < MINUTES_PER_PERIOD
-some_minutes = omega arith
-
--- a factor of 1 or 0
-times_bit : (w : ℕ) (b : Bool) → w * bit b ≡ (if b then w else 0)
-times_bit w true = omega arith
-times_bit w false = omega arith
+use Rattle.ground_turns.proofs.Rounds.{bit, moment_law, times_bit}
 
 -- the same counts, of turns at the station
 pub at_station : (c x y z u : Bool) → bit x + bit y ≡ bit z + bit u → bit (c && x) + bit (c && y) ≡ bit (c && z) + bit (c && u)

@@ -1,7 +1,8 @@
 -- A walk from minute to minute, going round.
 use Rattle.std.proofs.Common.{◌≡◌, ℕ, suc, ◌+◌, ◌-◌, ◌%◌, ◌<◌, ◌≤◌, ◌⊎◌, inl, inr, true, nat_lt, nat_le, ◌∙◌, ap, arith}
-use Rattle.std.proofs.lemmas.Bool.{cases_lt}
+use Rattle.std.proofs.lemmas.Bool.{cases_lt, le-leb, ltb-true}
 use Rattle.std.proofs.lemmas.Bool.Decides.{nat_tests}
+use Rattle.sums.proofs.Naturals.{sum_less_first}
 use Rattle.ground_turns.specs.Turns.{minutes_round}
 use Rattle.ground_turns.proofs.FirstOuts.{mod_cases}
 use Rattle.ground_turns.proofs.Rounds.{until_later, until_next}
@@ -14,13 +15,10 @@ pub record IsNextMinute (w x y : ℕ) : Type 0 where
 -- the minute after so many steps
 pub walked : (w r j : ℕ) → r < w → j < w → minutes_round w r ((r + j) % w) ≡ j
 walked w r j ready steps = elim (mod_cases (r + j) w (omega arith)) [
-  | inl same ↦ ap (λ x. minutes_round w r x) same.0 ∙ until_later w r (r + j) (omega arith) same.1 ∙ taken r j
+  | inl same ↦ ap (λ x. minutes_round w r x) same.0 ∙ until_later w r (r + j) (omega arith) same.1 ∙ sum_less_first r j
   | inr round ↦ ap (λ x. minutes_round w r x) round.0 ∙ until_next w r (r + j - w) (omega (arith, steps, round.1, ready)) ready ∙ turned w r j round.1
 ]
   where
-    taken : (r j : ℕ) → r + j - r ≡ j
-    taken r j = omega arith
-
     turned : (w r j : ℕ) → w ≤ r + j → r + j - w + w - r ≡ j
     turned w r j h = omega arith
 
@@ -55,12 +53,6 @@ waits_touch a b h = grind (arith, nat_tests)
 pub touches_next : (w r x y wait : ℕ) → r < w → x < w → wait < w → IsNextMinute w x y → nat_lt (minutes_round w r x) wait ≡ true → nat_le (minutes_round w r y) wait ≡ true
 touches_next w r x y wait ready minute few step waits = by_next step.next
   where
-    below : (m n : ℕ) → nat_lt m n ≡ true → m < n
-    below m n h = grind (arith, nat_tests)
-
-    told : (m n : ℕ) → m ≤ n → nat_le m n ≡ true
-    told m n h = grind (arith, nat_tests)
-
     rises : (suc x ≡ y) ⊎ ((suc x ≡ w) × (y ≡ 0)) → minutes_round w r y ≤ suc (minutes_round w r x)
     rises (inl same) = by_order (cases_lt x r) (cases_lt y r)
       where
@@ -76,7 +68,7 @@ touches_next w r x y wait ready minute few step waits = by_next step.next
         by_start (inr q) = omega (arith, until_later w r y q step.within, last.1)
 
     by_next : (suc x ≡ y) ⊎ ((suc x ≡ w) × (y ≡ 0)) → nat_le (minutes_round w r y) wait ≡ true
-    by_next next = told _ _ (omega (arith, rises next, below _ _ waits))
+    by_next next = le-leb _ _ (omega (arith, rises next, ltb-true _ _ waits))
 
 pub touches_ready : (w r n : ℕ) → r < w → nat_le (minutes_round w r r) n ≡ true
 touches_ready w r n ready = ap (λ k. nat_le k n) (until_later w r r (omega arith) ready) ∙ from_0 r n

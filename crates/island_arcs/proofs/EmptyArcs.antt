@@ -23,6 +23,7 @@ use Rattle.island_arcs.specs.Moments.{moment_in_node, moment_of, moment_round}
 use Rattle.island_arcs.specs.Waits.{is_among, waits_in_node, waits_round}
 use Rattle.island_arcs.proofs.AllowedPairs.{allowed_tested}
 use Rattle.island_arcs.proofs.QuietMinutes.{none_come, none_come_yet, none_leave, none_left_yet}
+use Rattle.island_arcs.proofs.Ends.{among_ends}
 
 -- a first minute is one that passes
 passes_at : (p : ℕ → Bool) (k m : ℕ) (b : Bool) → p k ≡ b → ◌≡◌ {A = Option ℕ} (if b then Some k else None) (Some m) → (k ≡ m) × (p k ≡ true)
@@ -68,10 +69,6 @@ moment_is t keeps f s starts k m e = elim (either_of (moment_in_node t keeps f s
   | inl there ↦ in_node_is t keeps f s starts k m there
   | inr there ↦ round_is t keeps f s starts k m there
 ]
-
--- what a wait tells of the minute
-among_ends : (low high m : ℕ) → is_among low high m ≡ true → (low ≤ m) × (m ≤ high)
-among_ends low high m e = (grind (arith, nat_tests), grind (arith, nat_tests))
 
 is_last_node : (k n : ℕ) → (k + 1 == n) ≡ true → n ≤ k + 1
 is_last_node k n e = grind (arith, nat_tests)

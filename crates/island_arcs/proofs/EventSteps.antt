@@ -1,8 +1,7 @@
 -- One event more; and the first idle minute of a station among others.
 use Rattle.std.proofs.Common.{◌≡◌, ℕ, ◌+◌, ◌<◌, ◌≤◌, ◌&&◌, nat_lt, Bool, true, false, if◌then◌else◌, Option, Some, None, List, Contains, sym, ◌∙◌, ap, inl, inr, arith}
 use Rattle.std.specs.Bool.{then_some}
-use Rattle.std.proofs.lemmas.Bool.{cases_lt}
-use Rattle.std.proofs.lemmas.Bool.Decides.{nat_tests}
+use Rattle.std.proofs.lemmas.Bool.{cases_lt, ltb-false, ltb-true}
 use Rattle.sums.proofs.Places.{all_nothing, first_found}
 use Rattle.sums.proofs.Tests.{both_true, by_test, never_passes, parts_true}
 use Rattle.fleet_model.specs.declared.limits.TheConstants.{MINUTES_PER_PERIOD}
@@ -12,6 +11,7 @@ use Rattle.island_cut.specs.Islands.{idle_at}
 use Rattle.island_cut.specs.Lookup.{IsFirstIdle}
 use Rattle.island_arcs.specs.EventMinutes.{IsFirstAmong, IsLastAmong, IsLater, IsSooner, ListsAt, is_within, minute_at}
 use Rattle.island_arcs.specs.Moments.{first_minute}
+use Rattle.island_arcs.proofs.Ends.{within_ends, within_where}
 
 pub none_last : (events : List Event) (start until : ℕ) → IsLastAmong events start until 0 start
 none_last events start until = record { no_earlier = omega arith; covers = λ k within before. absurd (omega (arith, within)); least = λ m low all. low }
@@ -48,17 +48,6 @@ first_more events n first minute next found is sooner = record {
 }
 
 -- ---- the first idle minute from one on and before another
-within_parts : (from until m : ℕ) → is_within from until m ≡ true → (from ≤ m) × (m < until)
-within_parts from until m e = (grind (arith, nat_tests), grind (arith, nat_tests))
-
-within_where : (from until m : ℕ) → from ≤ m → m < until → is_within from until m ≡ true
-within_where from until m low high = grind (arith, nat_tests)
-
-not_less : (m n : ℕ) → nat_lt m n ≡ false → n ≤ m
-not_less m n e = grind (arith, nat_tests)
-
-less : (m n : ℕ) → nat_lt m n ≡ true → m < n
-less m n e = grind (arith, nat_tests)
 
 module _ (idle : List Idle) (s from until : ℕ) (few : until ≤ MINUTES_PER_PERIOD) (test : ℕ → Bool) (lists : ListsAt idle s test) where
   abbrev passes : ℕ → Bool
@@ -74,7 +63,7 @@ module _ (idle : List Idle) (s from until : ℕ) (few : until ≤ MINUTES_PER_PE
   stands : (m : ℕ) → passes m ≡ true → (from ≤ m) × (m < until) × Contains idle (idle_at s m)
   stands m e =
       let parts = parts_true (is_within from until m) _ e in
-      let ends = within_parts from until m parts.0 in
+      let ends = within_ends from until m parts.0 in
       (ends.0, ends.1, lists.has m (omega (arith, ends.1, few)) parts.1)
 
   pub none_found : ((m : ℕ) → from ≤ m → ¬ (Contains idle (idle_at s m))) → None ≡ first_minute passes
@@ -83,9 +72,9 @@ module _ (idle : List Idle) (s from until : ℕ) (few : until ≤ MINUTES_PER_PE
   pub some_found : (minute : ℕ) → IsFirstIdle idle s from minute → then_some (nat_lt minute until) minute ≡ first_minute passes
   some_found minute first = by_test (nat_lt minute until)
       (λ e.
-      let before = less minute until e in
+      let before = ltb-true minute until e in
       let none = all_nothing found minute (λ m earlier. nothing m (never_passes (passes m) (λ on. let there = stands m on in omega (arith, first.first m there.0 there.2, earlier)))) in
       let on : passes minute ≡ true = both_true _ _ (within_where from until minute first.no_earlier before) (lists.passes minute first.among) in
       ap (λ b. then_some b minute) e ∙ sym (first_found found minute MINUTES_PER_PERIOD minute none (ap (λ b. if b then Some minute else None) on) (omega (arith, before, few))))
       (λ e.
-      ap (λ b. then_some b minute) e ∙ sym (all_nothing found MINUTES_PER_PERIOD (λ m within. nothing m (never_passes (passes m) (λ on. let there = stands m on in omega (arith, first.first m there.0 there.2, there.1, not_less minute until e))))))
+      ap (λ b. then_some b minute) e ∙ sym (all_nothing found MINUTES_PER_PERIOD (λ m within. nothing m (never_passes (passes m) (λ on. let there = stands m on in omega (arith, first.first m there.0 there.2, there.1, ltb-false minute until e))))))

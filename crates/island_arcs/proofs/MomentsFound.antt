@@ -1,9 +1,10 @@
 -- A node's moment, by its last event and the first event of the period.
 use Rattle.std.proofs.Common.{◌≡◌, ℕ, zero, suc, ◌+◌, ◌<◌, ◌≤◌, ◌==◌, ◌&&◌, Bool, true, false, if◌then◌else◌, Option, Some, None, is_some, List, [], length, slice_index, Contains, refl, sym, ◌∙◌, ap, subst, arith}
 use Rattle.std.proofs.lemmas.Bool.Decides.{nat_tests}
+use Rattle.std.proofs.lemmas.Bool.{eqb-true}
 use Rattle.sums.specs.Places.{first_below, or_else}
 use Rattle.sums.proofs.Places.{all_nothing}
-use Rattle.sums.proofs.Tests.{both_true, by_test, never_passes, parts_true}
+use Rattle.sums.proofs.Tests.{both_true, by_test, never_passes, parts_true, same_tests}
 use Rattle.fleet_model.specs.declared.limits.TheConstants.{MINUTES_PER_PERIOD}
 use Rattle.fleet_model.specs.declared.tables.Tables.{Tables}
 use Rattle.fleet_model.specs.Kept.{Domains}
@@ -20,12 +21,9 @@ use Rattle.island_arcs.specs.KeptIdles.{AreIdleIn, idle_in, idles_in, keeps_allo
 use Rattle.island_arcs.specs.Moments.{first_minute, moment_in_node, moment_of, moment_round}
 use Rattle.island_arcs.specs.Waits.{is_among, waits_in_node, waits_round}
 use Rattle.island_arcs.proofs.QuietEvents.{quiet_where, where_quiet}
+use Rattle.island_arcs.proofs.Ends.{among_ends, among_where, within_ends, within_where}
 
 -- ---- tests and first minutes
-same_tests : (a b : Bool) → (a ≡ true → b ≡ true) → (b ≡ true → a ≡ true) → a ≡ b
-same_tests true b p q = sym (p refl)
-same_tests false true p q = q refl
-same_tests false false p q = refl
 
 first_agree : (f g : ℕ → Option ℕ) (n : ℕ) → ((k : ℕ) → k < n → f k ≡ g k) → first_below f n ≡ first_below g n
 first_agree f g zero same = refl
@@ -63,17 +61,6 @@ lists_station t keeps s idle station are = record {
 }
 
 -- ---- the parts of a wait
-within_ends : (from until m : ℕ) → is_within from until m ≡ true → (from ≤ m) × (m < until)
-within_ends from until m e = (grind (arith, nat_tests), grind (arith, nat_tests))
-
-is_within_where : (from until m : ℕ) → from ≤ m → m < until → is_within from until m ≡ true
-is_within_where from until m low high = grind (arith, nat_tests)
-
-among_parts : (low high m : ℕ) → is_among low high m ≡ true → (low ≤ m) × (m ≤ high)
-among_parts low high m e = (grind (arith, nat_tests), grind (arith, nat_tests))
-
-among_where : (low high m : ℕ) → low ≤ m → m ≤ high → is_among low high m ≡ true
-among_where low high m p q = grind (arith, nat_tests)
 
 not_among_low : (low high m : ℕ) → is_among low high m ≡ false → m ≤ high → m < low
 not_among_low low high m e order = grind (arith, nat_tests)
@@ -87,16 +74,16 @@ module _ (t : Tables) (keeps : Domains) (f s : ℕ) (events : List Event) (are :
   in_node_same last until m is found = same_tests _ _
       (λ waits.
       let parts = parts_true (is_among (slice_index starts place) (node_end starts place) m) _ waits in
-      let ends = among_parts (slice_index starts place) (node_end starts place) m parts.0 in
+      let ends = among_ends (slice_index starts place) (node_end starts place) m parts.0 in
       let none = where_quiet t keeps f s events are (m + 1) (node_end starts place) parts.1 in
-      is_within_where last until m
+      within_where last until m
       (found.least m ends.0 (λ k within before. let early = not_among_low (m + 1) (node_end starts place) (minute_at events k) (none k within) (omega (arith, before, is)) in omega (arith, early)))
       (omega (arith, ends.1, is)))
       (λ within.
       let ends = within_ends last until m within in
       both_true _ _ (among_where (slice_index starts place) (node_end starts place) m (omega (arith, found.no_earlier, ends.0)) (omega (arith, ends.1, is)))
       (quiet_where t keeps f s events are (m + 1) (node_end starts place) (λ k inside. never_passes (is_among (m + 1) (node_end starts place) (minute_at events k)) (λ e.
-      let there = among_parts (m + 1) (node_end starts place) (minute_at events k) e in
+      let there = among_ends (m + 1) (node_end starts place) (minute_at events k) e in
       let early = found.covers k inside (omega (arith, there.1, is)) in
       omega (arith, there.0, early, ends.0)))))
 
@@ -112,12 +99,12 @@ module _ (t : Tables) (keeps : Domains) (f s : ℕ) (events : List Event) (are :
       let parts = parts_true (place + 1 == length starts) _ waits in
       let none = where_quiet t keeps f s events are 0 m parts.1 in
       let later = found.greatest (m + 1) (omega (arith, minute)) (λ k within. late (minute_at events k) m (none k within)) in
-      is_within_where 0 first m (omega arith) (omega (arith, later)))
+      within_where 0 first m (omega arith) (omega (arith, later)))
       (λ within.
       let ends = within_ends 0 first m within in
       both_true _ _ (last_place place (length starts) at_last)
       (quiet_where t keeps f s events are 0 m (λ k inside. never_passes (is_among 0 m (minute_at events k)) (λ e.
-      let there = among_parts 0 m (minute_at events k) e in
+      let there = among_ends 0 m (minute_at events k) e in
       omega (arith, there.1, found.covers k inside, ends.1)))))
     where
       late : (n m : ℕ) → is_among 0 m n ≡ false → m + 1 ≤ n
@@ -135,11 +122,7 @@ module _ (t : Tables) (keeps : Domains) (f s : ℕ) (events : List Event) (are :
       never_passes (waits_round t keeps f s starts place m && idle_in t keeps s m) (λ e.
       let front = parts_true (waits_round t keeps f s starts place m) _ e in
       let parts = parts_true (place + 1 == length starts) _ front.0 in
-      other (same_place (place + 1) (length starts) parts.0))))
-    where
-      same_place : (k n : ℕ) → (k == n) ≡ true → k ≡ n
-      same_place k n e = grind (arith, nat_tests)
-
+      other (eqb-true (place + 1) (length starts) parts.0))))
   pub moment_first : (o : Option ℕ) → o ≡ moment_in_node t keeps f s starts place → is_some o ≡ true → o ≡ moment_of t keeps f s starts place
   unfolding moment_of
   moment_first o e some = kept_first o (moment_round t keeps f s starts place) some ∙ ap (λ p. or_else p (moment_round t keeps f s starts place)) e

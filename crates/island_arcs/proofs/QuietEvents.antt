@@ -1,9 +1,9 @@
 -- Minutes are quiet where no event of the fleet at the station has one of them.
 use Rattle.std.proofs.Common.{◌≡◌, ℕ, zero, suc, ◌<◌, ◌==◌, ◌&&◌, Bool, true, false, if◌then◌else◌, List, [], ◌∷◌, length, All, slice_index_or, refl, ◌∙◌, ap, arith}
-use Rattle.std.proofs.lemmas.Bool.Decides.{nat_tests}
 use Rattle.std.proofs.lemmas.List.{get_or_default}
 use Rattle.std.proofs.lemmas.List.Elements.{All-append, All-cons, All-contains, All-nil}
 use Rattle.std.proofs.lemmas.List.Sorted.{All-permutation}
+use Rattle.std.proofs.lemmas.Bool.{eqb-true}
 use Rattle.sums.proofs.Tests.{by_either, never_passes, no_both, parts_true}
 use Rattle.fleet_model.specs.declared.tables.Tables.{Tables}
 use Rattle.fleet_model.specs.Kept.{Domains}
@@ -24,9 +24,6 @@ happens_there events ready m h =
     let e : Event = record { minute = m; ready = ready; leg = h.by } in
     (h.among.0, h.among.1, ap (λ (x : Event). x.minute) (get_or_default events h.among.0 no_event e h.among.1 ∙ h.among.2))
 
-same_station : (a b : ℕ) → (a == b) ≡ true → a ≡ b
-same_station a b e = grind (arith, nat_tests)
-
 all_where : (b : Bool) (e : Event) (P : Event → Type 0) → (b ≡ true → P e) → All P (if b then e ∷ [] else [])
 all_where true e P holds = All-cons P e [] (holds refl) (All-nil P)
 all_where false e P holds = All-nil P
@@ -40,11 +37,11 @@ module _ (t : Tables) (keeps : Domains) (f s : ℕ) (events : List Event) (are :
       by_either (((leg_of t l).from == s) && is_among low high (leg_of t l).dep) (((leg_of t l).to == s) && is_among low high (ready_minute t (leg_on l f))) parts.1
       (λ leaves.
       let here = parts_true ((leg_of t l).from == s) _ leaves in
-      let at = happens_there events false (leg_of t l).dep (departs_at t keeps f s events are l below parts.0 (same_station (leg_of t l).from s here.0)) in
+      let at = happens_there events false (leg_of t l).dep (departs_at t keeps f s events are l below parts.0 (eqb-true (leg_of t l).from s here.0)) in
       no_both (none at.0 at.1) (ap (is_among low high) at.2 ∙ here.1))
       (λ comes.
       let here = parts_true ((leg_of t l).to == s) _ comes in
-      let at = happens_there events true (ready_minute t (leg_on l f)) (ready_at t keeps f s events are l below parts.0 (same_station (leg_of t l).to s here.0)) in
+      let at = happens_there events true (ready_minute t (leg_on l f)) (ready_at t keeps f s events are l below parts.0 (eqb-true (leg_of t l).to s here.0)) in
       no_both (none at.0 at.1) (ap (is_among low high) at.2 ∙ here.1))))
 
   abbrev Elsewhere : Event → Type 0
@@ -54,9 +51,9 @@ module _ (t : Tables) (keeps : Domains) (f s : ℕ) (events : List Event) (are :
   none_below quiet zero few = All-nil Elsewhere
   none_below quiet (suc n) few =
       let departs = all_where (keeps (leg_on n f) && ((leg_of t n).from == s)) (departure_event t (leg_on n f)) Elsewhere
-      (λ e. let parts = parts_true (keeps (leg_on n f)) _ e in departs_elsewhere t keeps f s low high quiet n (omega (arith, few)) parts.0 (same_station (leg_of t n).from s parts.1)) in
+      (λ e. let parts = parts_true (keeps (leg_on n f)) _ e in departs_elsewhere t keeps f s low high quiet n (omega (arith, few)) parts.0 (eqb-true (leg_of t n).from s parts.1)) in
       let back = all_where (keeps (leg_on n f) && ((leg_of t n).to == s)) (ready_event t (leg_on n f)) Elsewhere
-      (λ e. let parts = parts_true (keeps (leg_on n f)) _ e in ready_elsewhere t keeps f s low high quiet n (omega (arith, few)) parts.0 (same_station (leg_of t n).to s parts.1)) in
+      (λ e. let parts = parts_true (keeps (leg_on n f)) _ e in ready_elsewhere t keeps f s low high quiet n (omega (arith, few)) parts.0 (eqb-true (leg_of t n).to s parts.1)) in
       All-append Elsewhere _ _ (All-append Elsewhere _ _ (none_below quiet n (omega (arith, few))) departs) back
 
   pub where_quiet : is_quiet t keeps f s low high ≡ true → (k : ℕ) → k < length events → is_among low high (minute_at events k) ≡ false

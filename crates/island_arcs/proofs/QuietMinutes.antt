@@ -1,6 +1,7 @@
 -- Minutes in which nothing happens to a fleet at a station: what has come and what has left stay as they were.
-use Rattle.std.proofs.Common.{◌≡◌, ℕ, ◌+◌, ◌<◌, ◌≤◌, ◌==◌, ◌&&◌, ◌||◌, nat_le, Bool, true, false, if◌then◌else◌, refl, sym, ◌∙◌, arith}
+use Rattle.std.proofs.Common.{◌≡◌, ℕ, ◌+◌, ◌<◌, ◌≤◌, ◌==◌, ◌&&◌, nat_le, Bool, true, false, if◌then◌else◌, refl, sym, ◌∙◌, arith}
 use Rattle.std.proofs.lemmas.Bool.Decides.{nat_tests}
+use Rattle.std.proofs.lemmas.Bool.{or_parts}
 use Rattle.sums.proofs.Sums.{sum_below-agree, sum_below-zero}
 use Rattle.sums.proofs.Tests.{both_true, by_test, never_passes, no_both}
 use Rattle.fleet_model.specs.declared.tables.Tables.{Tables}
@@ -45,14 +46,6 @@ no_weight_at_all : (b : Bool) (w : ℕ) → w ≡ 0 → ◌≡◌ {A = ℕ} (if 
 no_weight_at_all true w e = e
 no_weight_at_all false w e = refl
 
-first_part : (a b : Bool) → (a || b) ≡ false → a ≡ false
-first_part false b e = refl
-first_part true b e = e
-
-second_part : (a b : Bool) → (a || b) ≡ false → b ≡ false
-second_part false b e = e
-second_part true b e = absurd (no_both e refl)
-
 module _ (t : Tables) (keeps : Domains) (w : Weights) (f s : ℕ) (known : f < fleets_in t) (weigh : WeighKept t keeps w) where
   not_kept : (l : ℕ) → l < legs_in t → keeps (leg_on l f) ≡ false → w (leg_on l f) ≡ 0
   not_kept l below off = weigh.each (leg_on l f) (record { leg = below; fleet = known }) off
@@ -62,7 +55,7 @@ module _ (t : Tables) (keeps : Domains) (w : Weights) (f s : ℕ) (known : f < f
     unfolding departed
     none_leave = sum_below-agree (leaving t w f s high) (leaving t w f s low) (legs_in t) (record {
       each = λ l below. by_test (keeps (leg_on l f))
-          (λ kept. same_by ((leg_of t l).from == s) (leg_of t l).dep low high (w (leg_on l f)) order (first_part _ _ (none_happens t keeps f s (low + 1) high quiet l below kept)))
+          (λ kept. same_by ((leg_of t l).from == s) (leg_of t l).dep low high (w (leg_on l f)) order (or_parts _ _ (none_happens t keeps f s (low + 1) high quiet l below kept)).0)
           (λ off. no_weight (has_left t (leg_on l f) s high) (has_left t (leg_on l f) s low) (w (leg_on l f)) (not_kept l below off));
     })
 
@@ -70,7 +63,7 @@ module _ (t : Tables) (keeps : Domains) (w : Weights) (f s : ℕ) (known : f < f
     unfolding arrived
     none_come = sum_below-agree (coming t w f s high) (coming t w f s low) (legs_in t) (record {
       each = λ l below. by_test (keeps (leg_on l f))
-          (λ kept. same_by ((leg_of t l).to == s) (ready_minute t (leg_on l f)) low high (w (leg_on l f)) order (second_part _ _ (none_happens t keeps f s (low + 1) high quiet l below kept)))
+          (λ kept. same_by ((leg_of t l).to == s) (ready_minute t (leg_on l f)) low high (w (leg_on l f)) order (or_parts _ _ (none_happens t keeps f s (low + 1) high quiet l below kept)).1)
           (λ off. no_weight (has_come t (leg_on l f) s high) (has_come t (leg_on l f) s low) (w (leg_on l f)) (not_kept l below off));
     })
 
@@ -79,7 +72,7 @@ module _ (t : Tables) (keeps : Domains) (w : Weights) (f s : ℕ) (known : f < f
     unfolding departed
     none_left_yet = sum_below-agree (leaving t w f s high) (λ l. 0) (legs_in t) (record {
       each = λ l below. by_test (keeps (leg_on l f))
-          (λ kept. none_by ((leg_of t l).from == s) (leg_of t l).dep high (w (leg_on l f)) (first_part _ _ (none_happens t keeps f s 0 high quiet l below kept)))
+          (λ kept. none_by ((leg_of t l).from == s) (leg_of t l).dep high (w (leg_on l f)) (or_parts _ _ (none_happens t keeps f s 0 high quiet l below kept)).0)
           (λ off. no_weight_at_all (has_left t (leg_on l f) s high) (w (leg_on l f)) (not_kept l below off));
     }) ∙ sum_below-zero (legs_in t)
 
@@ -87,6 +80,6 @@ module _ (t : Tables) (keeps : Domains) (w : Weights) (f s : ℕ) (known : f < f
     unfolding arrived
     none_come_yet = sum_below-agree (coming t w f s high) (λ l. 0) (legs_in t) (record {
       each = λ l below. by_test (keeps (leg_on l f))
-          (λ kept. none_by ((leg_of t l).to == s) (ready_minute t (leg_on l f)) high (w (leg_on l f)) (second_part _ _ (none_happens t keeps f s 0 high quiet l below kept)))
+          (λ kept. none_by ((leg_of t l).to == s) (ready_minute t (leg_on l f)) high (w (leg_on l f)) (or_parts _ _ (none_happens t keeps f s 0 high quiet l below kept)).1)
           (λ off. no_weight_at_all (has_come t (leg_on l f) s high) (w (leg_on l f)) (not_kept l below off));
     }) ∙ sum_below-zero (legs_in t)

@@ -2,7 +2,7 @@
 use Rattle.std.proofs.Common.{◌≡◌, ℕ, ◌<◌, ◌≤◌, ◌==◌, ◌&&◌, ◌||◌, nat_lt, true, false, List, length, slice_index_or, Contains, MatchOption, sym, ◌∙◌, ap, subst, inl, inr, arith}
 use Rattle.std.specs.Bool.{then_some}
 use Rattle.std.specs.List.Sorted.{IsPartitionedBy}
-use Rattle.std.proofs.lemmas.Bool.{cases_lt}
+use Rattle.std.proofs.lemmas.Bool.{cases_lt, eqb-false}
 use Rattle.std.proofs.lemmas.Bool.Decides.{nat_tests}
 use Rattle.std.proofs.lemmas.List.{get_or_default}
 use Rattle.sums.proofs.Tests.{by_test, no_both}
@@ -102,11 +102,7 @@ found_at idles s from place entry rise parts within is = by_test (entry.station 
     let same : entry.station ≡ s = grind (arith, nat_tests) in
     rw e (subst (λ n. IsFirstIdle idles s from n) (sym (ap (λ x. x.minute) is)) (first_there idles s from place rise parts within (sym (ap (λ x. x.station) is) ∙ same))))
     (λ e.
-    let other : (slice_index_or idles place (idle_at 0 0)).station ≡ s → ⊥ = λ same. differs entry.station s e (ap (λ x. x.station) is ∙ same) in
+    let other : (slice_index_or idles place (idle_at 0 0)).station ≡ s → ⊥ = λ same. eqb-false entry.station s e (ap (λ x. x.station) is ∙ same) in
     rw e (none_of_other idles s from place rise parts within other))
-  where
-    differs : (a b : ℕ) → (a == b) ≡ false → a ≡ b → ⊥
-    differs a b e same = grind (arith, nat_tests)
-
 pub found_none : (idles : List Idle) (s from place : ℕ) → IdlesRise idles → IsParting idles s from place → length idles ≤ place → (m : ℕ) → from ≤ m → ¬ (Contains idles (idle_at s m))
 found_none idles s from place rise parts end = none_at_end idles s from place rise parts end

@@ -1,7 +1,7 @@
 -- By any mixed plan of pairs that may be flown, all fleets need at each station, with the laps of what comes there, no
 -- fewer aircraft than the joined schedule. So where no aircraft is left over they need as many at each station, and
 -- where none of the joined schedule's stands, none of theirs does.
-use Rattle.std.proofs.Common.{◌≡◌, ◌≢◌, ℕ, ◌+◌, ◌*◌, ◌-◌, ◌<◌, ◌≤◌, if◌then◌else◌, ◌==◌, nat_le, refl, sym, ◌∙◌, ap, inl, inr, arith}
+use Rattle.std.proofs.Common.{◌≡◌, ◌≢◌, ℕ, ◌+◌, ◌*◌, ◌-◌, ◌<◌, ◌≤◌, if◌then◌else◌, ◌==◌, nat_le, refl, sym, ◌∙◌, ap, inl, inr, arith, mul-add}
 use Rattle.std.proofs.Math.Nat.{mul-le-mul_left}
 use Rattle.std.proofs.lemmas.Bool.{cases_lt}
 use Rattle.sums.specs.Below.{sum_below, max_below}
@@ -20,13 +20,13 @@ use Rattle.fleet_model.specs.Whole.{KeepAllowed}
 use Rattle.fleet_model.proofs.UseLaws.{need_suffices}
 use Rattle.stand_counts.specs.Flights.{arrived_by, coming_by, departed_by, excess_by, laps_at_by, laps_by, leaving_by, need_by, stand_by, used_by}
 use Rattle.island_cut.specs.Spare.{AreQuickest, aircraft_in, joined}
-use Rattle.island_cut.proofs.LegSums.{max_at, one_departure, one_lap, one_pair, over_fleets, own_places, same_terms, times_sum}
+use Rattle.island_cut.proofs.LegSums.{max_at, one_departure, one_lap, one_pair, over_fleets, own_places, same_terms}
 use Rattle.island_cut.proofs.Slower.{slower_laps, slower_ready}
 
 -- ---- in plain numbers
 needed_at : (q need dep arr laps total : ℕ) → dep - arr ≡ need → q * dep + q * laps ≤ total + q * arr → q * laps ≤ total → q * need + q * laps ≤ total
 needed_at q need dep arr laps total is at least = elim (cases_lt arr dep) [
-  | inl more ↦ let parts : dep ≡ arr + need = omega (arith, is, more) in omega (arith, at, ap (λ n. q * n) parts, times_sum q arr need)
+  | inl more ↦ let parts : dep ≡ arr + need = omega (arith, is, more) in omega (arith, at, ap (λ n. q * n) parts, mul-add q arr need)
   | inr no_more ↦ let none : need ≡ 0 = omega (arith, is, no_more) in rw none (omega (arith, least))
 ]
 
@@ -34,7 +34,7 @@ none_stands_at : (q need arr dep needs come gone laps joined_laps total : ℕ) �
     → come + q * joined_laps ≤ laps + q * arr → q * dep ≤ gone → needs + come ≤ gone
 none_stands_at q need arr dep needs come gone laps joined_laps total none is parts comes leaves =
     let row : q * (need + arr) ≤ q * dep = mul-le-mul_left q none in
-    omega (arith, row, times_sum q need arr, is, parts, comes, leaves)
+    omega (arith, row, mul-add q need arr, is, parts, comes, leaves)
 
 module _ (t : Tables) (keeps : Domains) (q : ℕ) (w : Weights) (fleets : ℕ → ℕ) (allowed : KeepAllowed t keeps) (plan : IsMixedPlan t keeps q w) (quick : AreQuickest t fleets) where
   no_slower : (l f : ℕ) → l < legs_in t → f < fleets_in t → w (leg_on l f) ≢ 0 → busy_minutes t (leg_on l (fleets l)) ≤ busy_minutes t (leg_on l f)
@@ -139,7 +139,7 @@ module _ (t : Tables) (keeps : Domains) (q : ℕ) (w : Weights) (fleets : ℕ �
     times_below q (λ s. q * need_by t (joined fleets) s) (need_by t (joined fleets)) (stations_in t) (λ s within. refl),
     times_below q (λ s. q * joined_laps_to s) joined_laps_to (stations_in t) (λ s within. refl),
     ap (λ n. q * n) joined_use,
-    times_sum q (sum_below (need_by t (joined fleets)) (stations_in t)) (sum_below joined_laps_to (stations_in t)),
+    mul-add q (sum_below (need_by t (joined fleets)) (stations_in t)) (sum_below joined_laps_to (stations_in t)),
   )
 
   -- where none is left over, they need as many at each

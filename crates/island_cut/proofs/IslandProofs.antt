@@ -1,6 +1,6 @@
 -- The laws of islands.
 use Rattle.std.proofs.Common.{◌≡◌, ℕ, ◌+◌, ◌-◌, ◌<◌, ◌≤◌, ◌&&◌, ◌==◌, nat_le, Bool, true, false, if◌then◌else◌, refl, sym, ◌∙◌, ap, inl, inr, arith}
-use Rattle.std.proofs.lemmas.Bool.{cases_lt}
+use Rattle.std.proofs.lemmas.Bool.{cases_lt, eqb-true}
 use Rattle.std.proofs.lemmas.Bool.Decides.{nat_tests}
 use Rattle.sums.specs.Below.{sum_below}
 use Rattle.sums.proofs.Naturals.{zero_number}
@@ -31,15 +31,12 @@ pub record AreIslands (t : Tables) : Type 0 where
   pub balanced : balance_by t (joined_legs t) ≡ true
   pub none_left : used_by t (joined_legs t) ≡ aircraft_in t
 
-same_numbers : (m n : ℕ) → (m == n) ≡ true → m ≡ n
-same_numbers m n e = grind (arith, nat_tests)
-
 pub islands_tested : (t : Tables) → has_islands t ≡ true → AreIslands t
 unfolding has_islands
 islands_tested t e =
     let parts = parts_true (have_pairs t && balance_by t (joined_legs t)) _ e in
     let front = parts_true (have_pairs t) _ parts.0 in
-    record { pairs = front.0; balanced = front.1; none_left = same_numbers _ _ parts.1 }
+    record { pairs = front.0; balanced = front.1; none_left = eqb-true _ _ parts.1 }
 
 pub quickest_there : (t : Tables) → has_islands t ≡ true → AreQuickest t (quickest_of t)
 quickest_there t e = quickest_are t (pairs_tested t (islands_tested t e).pairs)

@@ -2,16 +2,11 @@
 use Rattle.std.proofs.Common.{◌≡◌, ◌≢◌, ℕ, zero, suc, ◌+◌, ◌*◌, ◌<◌, ◌≤◌, ◌⊎◌, Bool, true, false, if◌then◌else◌, ◌==◌, ◌&&◌, refl, ◌∙◌, ap, inl, inr, arith}
 use Rattle.std.proofs.Math.Nat.{mul-le-mul_left, mul-suc, mul_comm}
 use Rattle.std.proofs.lemmas.Bool.{cases_lt}
-use Rattle.std.proofs.lemmas.Bool.Decides.{nat_tests}
 use Rattle.sums.specs.Below.{sum_below, max_below}
 use Rattle.sums.proofs.Maxima.{max_below-suc, max_below-zero}
 use Rattle.sums.proofs.Naturals.{by_number, times_below}
 use Rattle.sums.proofs.Sums.{sum_below-add, sum_below-agree, sum_below-le, sum_below-one, sum_below-swap}
-use Rattle.sums.proofs.Tests.{by_test}
-
-pub times_sum : (c a b : ℕ) → c * (a + b) ≡ c * a + c * b
-times_sum c a zero = let none : a + 0 ≡ a = omega arith in rw none (omega arith)
-times_sum c a (suc b) = let out : a + suc b ≡ suc (a + b) = omega arith in ap (λ n. c * n) out ∙ mul-suc c (a + b) ∙ omega (arith, times_sum c a b, mul-suc c b)
+use Rattle.sums.proofs.NumberTests.{if_at}
 
 -- the greatest term is one of them, or 0
 pub max_at : (f : ℕ → ℕ) (n : ℕ) → (max_below f n ≡ 0) ⊎ ((k : ℕ) × (k < n) × (f k ≡ max_below f n))
@@ -37,15 +32,9 @@ same_terms f g (suc n) more less k below =
       | inr after ↦ let here : k ≡ n = omega arith in rw here (omega (arith, less, front, last))
     ]
 
--- what stands at one place alone
-at_place : (place s : ℕ) (g : ℕ → ℕ) → ◌≡◌ {A = ℕ} (if place == s then g s else 0) (if place == s then g place else 0)
-at_place place s g = by_test (place == s)
-    (λ here. let same : place ≡ s = grind (arith, nat_tests) in rw same refl)
-    (λ off. rw off refl)
-
 pub own_place : (place n : ℕ) (g : ℕ → ℕ) → place < n → sum_below (λ s. if place == s then g s else 0) n ≡ g place
 own_place place n g within =
-    sum_below-agree (λ s. if place == s then g s else 0) (λ s. if place == s then g place else 0) n (record { each = λ s below. at_place place s g })
+    sum_below-agree (λ s. if place == s then g s else 0) (λ s. if place == s then g place else 0) n (record { each = λ s below. if_at place s g })
     ∙ sum_below-one place (g place) n within
 
 -- what is counted at the places, one by one, is counted once for each leg, at its own place

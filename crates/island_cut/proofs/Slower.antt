@@ -7,15 +7,12 @@ use Rattle.fleet_model.specs.declared.limits.TheConstants.{MINUTES_PER_PERIOD}
 use Rattle.fleet_model.specs.declared.tables.Tables.{Tables}
 use Rattle.fleet_model.specs.Schedule.{leg_on}
 use Rattle.fleet_model.specs.Times.{busy_minutes, departure, laps_of, ready_minute}
-use Rattle.fleet_model.proofs.Periods.{if_le}
-
-if_le_most : (a b : ℕ) → if_le a b ≤ 1
-if_le_most a b = grind (arith, nat_tests)
+use Rattle.fleet_model.proofs.Periods.{if_le, if_le-most}
 
 -- of two numbers of periods and minutes
 later_ready : (p m a r b s : ℕ) → r < p → s < p → p * a + r ≤ p * b + s → a + if_le s m ≤ b + if_le r m
 later_ready p m a r b s low high order = elim (cases_lt a b) [
-  | inl less ↦ omega (arith, less, if_le_most s m)
+  | inl less ↦ omega (arith, less, if_le-most s m)
   | inr no_less ↦ elim (cases_lt b a) [
     | inl more ↦ let row : p * suc b ≤ p * a = mul-le-mul_left p more in absurd (omega (arith, row, mul-suc p b, order, high))
     | inr no_more ↦

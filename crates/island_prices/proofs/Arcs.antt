@@ -1,6 +1,6 @@
 -- Rises over arcs that went: prices rise by them alone, no two have the same moment, and no event takes another price.
-use Rattle.std.proofs.Common.{◌≡◌, ◌≢◌, ℕ, zero, suc, ◌+◌, ◌-◌, ◌*◌, ◌<◌, ◌≤◌, Bool, true, false, cond, ◌==◌, ◌&&◌, nat_le, nat_lt, if◌then◌else◌, List, [], ◌∷◌, length, get_or, All, ℤ, pos, neg_ℤ, ◌+ℤ◌, ◌-ℤ◌, ◌≤ℤ◌, ◌<ℤ◌, int_lt, Option, Some, None, ◌⊎◌, refl, sym, ◌∙◌, ap, ap₂, subst, inl, inr, arith}
-use Rattle.std.proofs.lemmas.Bool.{cases_lt, cases_order}
+use Rattle.std.proofs.Common.{◌≡◌, ◌≢◌, ℕ, zero, suc, ◌+◌, ◌-◌, ◌*◌, ◌<◌, ◌≤◌, Bool, true, false, cond, ◌==◌, ◌&&◌, nat_le, nat_lt, if◌then◌else◌, List, [], ◌∷◌, length, get_or, All, ℤ, pos, neg_ℤ, ◌+ℤ◌, ◌-ℤ◌, ◌≤ℤ◌, ◌<ℤ◌, int_lt, Option, Some, None, ◌⊎◌, refl, sym, ◌∙◌, ap, ap₂, subst, inl, inr, arith, true≢false}
+use Rattle.std.proofs.lemmas.Bool.{cases_lt, cases_order, eqb-true, le-leb, le-ltb, lt-leb, lt-ltb, ltb-true}
 use Rattle.std.proofs.lemmas.Bool.Decides.{nat_tests}
 use Rattle.std.proofs.lemmas.Int.{ints}
 use Rattle.std.proofs.lemmas.List.Elements.{All-append, All-contains, All-cons, All-nil}
@@ -8,9 +8,10 @@ use Rattle.std.proofs.lemmas.List.Sorted.{All-permutation}
 use Rattle.sums.specs.Below.{sum_below_ℤ}
 use Rattle.sums.proofs.Naturals.{equal_number}
 use Rattle.sums.proofs.Tests.{by_test, both_true, parts_true}
-use Rattle.sums.proofs.WholeTerms.{at_least_0}
+use Rattle.sums.proofs.WholeTerms.{at_least_0, term_within}
 use Rattle.sums.proofs.WholeSums.{sum_below_ℤ-same}
 use Rattle.sums.proofs.WholeSwaps.{sum_below_ℤ-zero}
+use Rattle.sums.proofs.Sizes.{above_tested, not_above_tested}
 use Rattle.fleet_model.specs.Kept.{Domains}
 use Rattle.fleet_model.specs.Schedule.{IsPair, fleets_in, leg_of, leg_on, legs_in, no_leg, stations_in}
 use Rattle.fleet_model.specs.Times.{departure, ready_minute}
@@ -34,15 +35,6 @@ use Rattle.island_prices.specs.declared.rises.Shift.{Shift}
 use Rattle.island_prices.specs.declared.rises.Shift.TheVariants.{Lowered, Raised}
 
 -- ---- sums
--- a term of a sum of terms that are 0 or more is no more than the sum
-term_below : (f : ℕ → ℤ) (n k : ℕ) → k < n → ((j : ℕ) → j < n → pos 0 ≤ℤ f j) → f k ≤ℤ sum_below_ℤ f n
-term_below f zero k below some = absurd (omega arith)
-term_below f (suc n) k below some = elim (cases_lt k n) [
-  | inl less ↦ omega (arith, ints, term_below f n k less (λ j within. some j (omega arith)), some n (omega arith))
-  | inr last ↦
-      let same : n ≡ k = omega arith in
-      subst (λ j. f j ≤ℤ sum_below_ℤ f (suc n)) same (omega (arith, ints, at_least_0 f n (λ j within. some j (omega arith))))
-]
 
 -- ---- a departure among the events is that of a kept pair
 pub record IsKeptDeparture (t : Tables) (keeps : Domains) (f s : ℕ) (e : Event) : Type 0 where
@@ -56,26 +48,20 @@ module _ (t : Tables) (keeps : Domains) (f s : ℕ) where
   abbrev OfPair : Event → Type 0
   OfPair e = e.ready ≡ false → IsKeptDeparture t keeps f s e
 
-  number_is : (a b : ℕ) → (a == b) ≡ true → a ≡ b
-  number_is a b e = grind (arith, nat_tests)
-
   departs_so : (l : ℕ) → l < legs_in t → All OfPair (departures_of t keeps s (leg_on l f))
   departs_so l below = by_kept (keeps (leg_on l f) && ((leg_of t l).from == s)) refl
     where
       by_kept : (b : Bool) → (keeps (leg_on l f) && ((leg_of t l).from == s)) ≡ b → All OfPair (if b then departure_event t (leg_on l f) ∷ [] else [])
       by_kept true e =
           let both = parts_true (keeps (leg_on l f)) ((leg_of t l).from == s) e in
-          All-cons OfPair (departure_event t (leg_on l f)) [] (λ not_ready. record { leg = l; within = below; kept = both.0; from = number_is (leg_of t l).from s both.1; minute = refl }) (All-nil OfPair)
+          All-cons OfPair (departure_event t (leg_on l f)) [] (λ not_ready. record { leg = l; within = below; kept = both.0; from = eqb-true (leg_of t l).from s both.1; minute = refl }) (All-nil OfPair)
       by_kept false e = All-nil OfPair
 
   readies_so : (l : ℕ) → All OfPair (readies_of t keeps s (leg_on l f))
   readies_so l = by_kept (keeps (leg_on l f) && ((leg_of t l).to == s))
     where
       by_kept : (b : Bool) → All OfPair (if b then ready_event t (leg_on l f) ∷ [] else [])
-      by_kept true = All-cons OfPair (ready_event t (leg_on l f)) [] (λ not_ready. absurd (clash not_ready)) (All-nil OfPair)
-        where
-          clash : true ≡ false → ⊥
-          clash e = cc
+      by_kept true = All-cons OfPair (ready_event t (leg_on l f)) [] (λ not_ready. absurd (true≢false not_ready)) (All-nil OfPair)
       by_kept false = All-nil OfPair
 
   all_so : (n : ℕ) → n ≤ legs_in t → All OfPair (events_below t keeps f s n)
@@ -92,17 +78,9 @@ module _ (t : Tables) (keeps : Domains) (f s : ℕ) where
 
 -- ---- by how much prices rise over an arc: to a next node, and from the last one
 pub rise_inside : (prices : Prices) (xs : List ℕ) (f s k : ℕ) → k + 1 < length xs → rise_over prices xs f s k ≡ price_of prices f s (get_or xs (k + 1) 0) -ℤ price_of prices f s (get_or xs k 0)
-rise_inside prices xs f s k more = ap (λ b. cond b (price_of prices f s (get_or xs (k + 1) 0) -ℤ price_of prices f s (get_or xs k 0)) (price_of prices f s 0 -ℤ price_of prices f s (get_or xs k 0) -ℤ rent_of prices f)) (less (k + 1) (length xs) more)
-  where
-    less : (a n : ℕ) → a < n → nat_lt a n ≡ true
-    less a n below = grind (arith, nat_tests)
-
+rise_inside prices xs f s k more = ap (λ b. cond b (price_of prices f s (get_or xs (k + 1) 0) -ℤ price_of prices f s (get_or xs k 0)) (price_of prices f s 0 -ℤ price_of prices f s (get_or xs k 0) -ℤ rent_of prices f)) (lt-ltb (k + 1) (length xs) more)
 pub rise_at_last : (prices : Prices) (xs : List ℕ) (f s k : ℕ) → length xs ≤ k + 1 → rise_over prices xs f s k ≡ price_of prices f s 0 -ℤ price_of prices f s (get_or xs k 0) -ℤ rent_of prices f
-rise_at_last prices xs f s k last = ap (λ b. cond b (price_of prices f s (get_or xs (k + 1) 0) -ℤ price_of prices f s (get_or xs k 0)) (price_of prices f s 0 -ℤ price_of prices f s (get_or xs k 0) -ℤ rent_of prices f)) (not_less (k + 1) (length xs) last)
-  where
-    not_less : (a n : ℕ) → n ≤ a → nat_lt a n ≡ false
-    not_less a n past = grind (arith, nat_tests)
-
+rise_at_last prices xs f s k last = ap (λ b. cond b (price_of prices f s (get_or xs (k + 1) 0) -ℤ price_of prices f s (get_or xs k 0)) (price_of prices f s 0 -ℤ price_of prices f s (get_or xs k 0) -ℤ rent_of prices f)) (le-ltb (k + 1) (length xs) last)
 -- ---- rises over arcs
 module _ (t : Tables) (keeps : Domains) (prices : Prices) (starts : NodeStarts) (moment : ArcMoments) (rises : List Rise) (nodes : AreAllNodes t keeps starts) (moments : AreMoments t keeps starts moment)
     (are : AreArcRises t prices starts moment rises) (rents : (f : ℕ) → f < fleets_in t → pos 0 ≤ℤ rent_of prices f) where
@@ -117,13 +95,9 @@ module _ (t : Tables) (keeps : Domains) (prices : Prices) (starts : NodeStarts) 
         let place : k ≡ 0 = omega arith in
         let first : get_or (starts f s) k 0 ≡ 0 = ap (λ j. get_or (starts f s) j 0) place ∙ (rise_from f s known within (omega arith)).first in
         let at : rise_over prices (starts f s) f s k ≡ price_of prices f s 0 -ℤ price_of prices f s (get_or (starts f s) k 0) -ℤ rent_of prices f =
-        ap (λ b. cond b (price_of prices f s (get_or (starts f s) (k + 1) 0) -ℤ price_of prices f s (get_or (starts f s) k 0)) (price_of prices f s 0 -ℤ price_of prices f s (get_or (starts f s) k 0) -ℤ rent_of prices f)) (last (k + 1) (length (starts f s)) (omega arith)) in
+        ap (λ b. cond b (price_of prices f s (get_or (starts f s) (k + 1) 0) -ℤ price_of prices f s (get_or (starts f s) k 0)) (price_of prices f s 0 -ℤ price_of prices f s (get_or (starts f s) k 0) -ℤ rent_of prices f)) (le-ltb (k + 1) (length (starts f s)) (omega arith)) in
         absurd (omega (arith, ints, some, at, ap (λ m. price_of prices f s m) first, rents f known))
   ]
-    where
-      last : (a n : ℕ) → n ≤ a → nat_lt a n ≡ false
-      last a n past = grind (arith, nat_tests)
-
   one_of_several : (i : ℕ) (below : i < length rises) → 1 < length (starts (rise_in rises i).fleet (rise_in rises i).station)
   one_of_several i below =
       let is = are.each i below in
@@ -150,16 +124,9 @@ module _ (t : Tables) (keeps : Domains) (prices : Prices) (starts : NodeStarts) 
 
   shift_is : (xs : List ℕ) (k m : ℕ) → ((get_or xs k 0 ≤ m) × (shift_over xs k m ≡ Raised (node_end xs k))) ⊎ ((m < get_or xs k 0) × (shift_over xs k m ≡ Lowered))
   shift_is xs k m = elim (cases_lt m (get_or xs k 0)) [
-    | inl early ↦ inr (early, ap (λ b. cond b (Raised (node_end xs k)) Lowered) (not_yet (get_or xs k 0) m early))
-    | inr begun ↦ inl (begun, ap (λ b. cond b (Raised (node_end xs k)) Lowered) (by_then (get_or xs k 0) m begun))
+    | inl early ↦ inr (early, ap (λ b. cond b (Raised (node_end xs k)) Lowered) (lt-leb (get_or xs k 0) m early))
+    | inr begun ↦ inl (begun, ap (λ b. cond b (Raised (node_end xs k)) Lowered) (le-leb (get_or xs k 0) m begun))
   ]
-    where
-      not_yet : (a m : ℕ) → m < a → nat_le a m ≡ false
-      not_yet a m early = grind (arith, nat_tests)
-
-      by_then : (a m : ℕ) → a ≤ m → nat_le a m ≡ true
-      by_then a m begun = grind (arith, nat_tests)
-
   -- ---- each is a rise
   small_difference : (a b r : ℤ) (n : ℕ) → neg_ℤ (pos n) ≤ℤ a → a ≤ℤ pos n → neg_ℤ (pos n) ≤ℤ b → b ≤ℤ pos n → pos 0 ≤ℤ r → ((a -ℤ b) ≤ℤ pos (3 * n)) × ((a -ℤ b -ℤ r) ≤ℤ pos (3 * n))
   small_difference a b r n a_low a_high b_low b_high some = (omega (arith, ints), omega (arith, ints))
@@ -194,21 +161,14 @@ module _ (t : Tables) (keeps : Domains) (prices : Prices) (starts : NodeStarts) 
         | inl more ↦
             let here = within.each f s (get_or (starts f s) k 0) known inside (start_in_period f s k known inside below) in
             let there = within.each f s (get_or (starts f s) (k + 1) 0) known inside (start_in_period f s (k + 1) known inside more) in
-            subst (λ b. cond b (price_of prices f s (get_or (starts f s) (k + 1) 0) -ℤ price_of prices f s (get_or (starts f s) k 0)) (price_of prices f s 0 -ℤ price_of prices f s (get_or (starts f s) k 0) -ℤ rent_of prices f) ≤ℤ pos (3 * max_price)) (sym (less (k + 1) (length (starts f s)) more))
+            subst (λ b. cond b (price_of prices f s (get_or (starts f s) (k + 1) 0) -ℤ price_of prices f s (get_or (starts f s) k 0)) (price_of prices f s 0 -ℤ price_of prices f s (get_or (starts f s) k 0) -ℤ rent_of prices f) ≤ℤ pos (3 * max_price)) (sym (lt-ltb (k + 1) (length (starts f s)) more))
             (small_difference (price_of prices f s (get_or (starts f s) (k + 1) 0)) (price_of prices f s (get_or (starts f s) k 0)) (rent_of prices f) max_price there.no_less there.no_more here.no_less here.no_more (rents f known)).0
         | inr last ↦
             let here = within.each f s (get_or (starts f s) k 0) known inside (start_in_period f s k known inside below) in
             let there = within.each f s 0 known inside (omega arith) in
-            subst (λ b. cond b (price_of prices f s (get_or (starts f s) (k + 1) 0) -ℤ price_of prices f s (get_or (starts f s) k 0)) (price_of prices f s 0 -ℤ price_of prices f s (get_or (starts f s) k 0) -ℤ rent_of prices f) ≤ℤ pos (3 * max_price)) (sym (not_less (k + 1) (length (starts f s)) last))
+            subst (λ b. cond b (price_of prices f s (get_or (starts f s) (k + 1) 0) -ℤ price_of prices f s (get_or (starts f s) k 0)) (price_of prices f s 0 -ℤ price_of prices f s (get_or (starts f s) k 0) -ℤ rent_of prices f) ≤ℤ pos (3 * max_price)) (sym (le-ltb (k + 1) (length (starts f s)) last))
             (small_difference (price_of prices f s 0) (price_of prices f s (get_or (starts f s) k 0)) (rent_of prices f) max_price there.no_less there.no_more here.no_less here.no_more (rents f known)).1
       ]
-        where
-          less : (a n : ℕ) → a < n → nat_lt a n ≡ true
-          less a n below = grind (arith, nat_tests)
-
-          not_less : (a n : ℕ) → n ≤ a → nat_lt a n ≡ false
-          not_less a n past = grind (arith, nat_tests)
-
   -- ---- no two have the same moment
   -- the arc of a node went to a moment, and there are several nodes
   record Went (f s m k : ℕ) : Type 0 where
@@ -309,17 +269,11 @@ module _ (t : Tables) (keeps : Domains) (prices : Prices) (starts : NodeStarts) 
   unfolding ends_by
   arc_covered low f s k m known within below ends = by_moment (moment f s k) refl
     where
-      clash : (z : ℤ) → int_lt (pos 0) z ≡ false → z ≤ℤ pos 0
-      clash z e = grind (arith, ints)
-
-      above : (z : ℤ) → int_lt (pos 0) z ≡ true → pos 0 <ℤ z
-      above z e = grind (arith, ints)
-
       by_moment : (o : Option ℕ) → moment f s k ≡ o → rise_over prices (starts f s) f s k ≤ℤ sum_below_ℤ (ends_at rises f s m) (length rises)
       by_moment None stays = omega (arith, ints, low.each f s k known within below stays, at_least_0 (ends_at rises f s m) (length rises) (ends_some f s m))
       by_moment (Some a) went = by_test (int_lt (pos 0) (rise_over prices (starts f s) f s k))
           (λ e.
-          let rises_there = above (rise_over prices (starts f s) f s k) e in
+          let rises_there = above_tested (rise_over prices (starts f s) f s k) e in
           let has = are.all f s k a known within below went rises_there in
           let at : Went f s a k = record { known = known; within = within; below = below; several_nodes = several f s k known within below rises_there; went = went } in
           let ends_there : end_of (rise_in rises has.at).shift ≡ m = ap end_of has.shift ∙ end_is f s k a at ∙ ends in
@@ -328,8 +282,8 @@ module _ (t : Tables) (keeps : Domains) (prices : Prices) (starts : NodeStarts) 
           (both_true ((rise_in rises has.at).fleet == f) ((rise_in rises has.at).station == s) (equal_number (rise_in rises has.at).fleet f has.fleet) (equal_number (rise_in rises has.at).station s has.station))
           (equal_number (end_of (rise_in rises has.at).shift) m ends_there) in
           let term : ends_at rises f s m has.at ≡ rise_over prices (starts f s) f s k = ap (λ b. cond b (rise_in rises has.at).amount (pos 0)) passes ∙ has.amount in
-          omega (arith, ints, term, term_below (ends_at rises f s m) (length rises) has.at has.within (ends_some f s m)))
-          (λ e. omega (arith, ints, clash (rise_over prices (starts f s) f s k) e, at_least_0 (ends_at rises f s m) (length rises) (ends_some f s m)))
+          omega (arith, ints, term, term_within (ends_at rises f s m) (length rises) has.at has.within (ends_some f s m)))
+          (λ e. omega (arith, ints, not_above_tested (rise_over prices (starts f s) f s k) e, at_least_0 (ends_at rises f s m) (length rises) (ends_some f s m)))
 
   module _ (by_nodes : AreByNodes t prices starts) (low : DoStayLow t prices starts moment) where
     in_its_node : (f s k m : ℕ) → m ≤ last_minute → Holds (starts f s) m k → m ≤ node_end (starts f s) k
@@ -386,12 +340,9 @@ module _ (t : Tables) (keeps : Domains) (prices : Prices) (starts : NodeStarts) 
   module _ (f s m : ℕ) (no_event : (low high : ℕ) → IsQuiet t keeps f s low high → low ≤ m → m ≤ high → ⊥) where
     not_raised : (a last : ℕ) (z : ℤ) → ((a < m) → (m ≤ last) → ⊥) → cond (nat_lt a m && nat_le m last) z (pos 0) ≡ pos 0
     not_raised a last z none = by_test (nat_lt a m && nat_le m last)
-        (λ e. let both = parts_true (nat_lt a m) (nat_le m last) e in absurd (none (less a m both.0) (at_most m last both.1)))
+        (λ e. let both = parts_true (nat_lt a m) (nat_le m last) e in absurd (none (ltb-true a m both.0) (at_most m last both.1)))
         (λ e. ap (λ b. cond b z (pos 0)) e)
       where
-        less : (a m : ℕ) → nat_lt a m ≡ true → a < m
-        less a m e = grind (arith, nat_tests)
-
         at_most : (m n : ℕ) → nat_le m n ≡ true → m ≤ n
         at_most m n e = grind (arith, nat_tests)
 
@@ -415,8 +366,8 @@ module _ (t : Tables) (keeps : Domains) (prices : Prices) (starts : NodeStarts) 
     none_shifts i below = by_test (is_of (rise_in rises i) f s)
         (λ e.
         let own = parts_true ((rise_in rises i).fleet == f) ((rise_in rises i).station == s) e in
-        let fleet : (rise_in rises i).fleet ≡ f = number (rise_in rises i).fleet f own.0 in
-        let station : (rise_in rises i).station ≡ s = number (rise_in rises i).station s own.1 in
+        let fleet : (rise_in rises i).fleet ≡ f = eqb-true (rise_in rises i).fleet f own.0 in
+        let station : (rise_in rises i).station ≡ s = eqb-true (rise_in rises i).station s own.1 in
         let k = (are.each i below).place in
         let here = subst (λ r. Went f r (rise_in rises i).moment k) station (subst (λ g. Went g (rise_in rises i).station (rise_in rises i).moment k) fleet (went_so i below)) in
         let shift : (rise_in rises i).shift ≡ shift_over (starts f s) k (rise_in rises i).moment =
@@ -425,10 +376,6 @@ module _ (t : Tables) (keeps : Domains) (prices : Prices) (starts : NodeStarts) 
         ∙ ap (λ x. shifted x (rise_in rises i).moment (rise_in rises i).amount m) shift
         ∙ not_shifted k (rise_in rises i).moment (rise_in rises i).amount here)
         (λ e. ap (λ b. cond b (shift_of (rise_in rises i) m) (pos 0)) e)
-      where
-        number : (a b : ℕ) → (a == b) ≡ true → a ≡ b
-        number a b e = grind (arith, nat_tests)
-
     stays_there : shift_by rises f s m ≡ pos 0
     unfolding shift_by
     stays_there = sum_below_ℤ-same (shift_at rises f s m) (λ i. pos 0) (length rises) none_shifts ∙ sum_below_ℤ-zero (length rises)

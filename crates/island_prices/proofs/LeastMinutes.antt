@@ -1,10 +1,10 @@
 -- The least idle minute of a station is one, where there are islands.
 use Rattle.std.proofs.Common.{◌≡◌, ℕ, zero, suc, ◌+◌, ◌<◌, ◌≤◌, Bool, true, false, cond, ◌==◌, if◌then◌else◌, List, [], ◌∷◌, ◌++◌, map, length, get_or, filter, All, Contains, refl, sym, ◌∙◌, ap, subst, inl, inr, ◌⊎◌, add-one, length-append, arith}
-use Rattle.std.proofs.lemmas.Bool.{cases_lt}
-use Rattle.std.proofs.lemmas.Bool.Decides.{nat_tests}
+use Rattle.std.proofs.lemmas.Bool.{cases_lt, eqb-true}
 use Rattle.std.proofs.lemmas.List.{get_or-map, get_or_append_left, get_or_read, length-map}
 use Rattle.std.proofs.lemmas.List.Elements.{All-append, All-filter, All-map, All-nil, Contains-append_left, Contains-append_right, filter_passes}
 use Rattle.std.proofs.lemmas.List.FromFn.{filter_of_map_range_with_len_more}
+use mathlib.Core.Bool.{false≢true}
 use Rattle.sums.specs.Places.{list_below}
 use Rattle.sums.proofs.Naturals.{equal_number}
 use Rattle.sums.proofs.Places.{get_or-list_below, length-list_below}
@@ -32,17 +32,11 @@ module _ (P : ℕ → Type 0) (s : ℕ) where
   unfolding least_in
   picked [] each some = absurd (omega (arith, some.1.0))
   picked (x ∷ xs) each some = by_test (x.station == s)
-      (λ e. subst (λ b. P (cond b x.minute (least_in xs s))) (sym e) (each 0 x (omega arith) (number x.station s e)))
+      (λ e. subst (λ b. P (cond b x.minute (least_in xs s))) (sym e) (each 0 x (omega arith) (eqb-true x.station s e)))
       (λ e. subst (λ b. P (cond b x.minute (least_in xs s))) (sym e) (picked xs (λ k d below is. each (suc k) d (omega arith) is) (rest some.0 some.1 e)))
     where
-      number : (a b : ℕ) → (a == b) ≡ true → a ≡ b
-      number a b e = grind (arith, nat_tests)
-
       rest : (k : ℕ) → (k < suc (length xs)) × ((d : Idle) → (get_or (x ∷ xs) k d).station ≡ s) → (x.station == s) ≡ false → Some xs
-      rest zero there other = absurd (clash (sym other ∙ equal_number x.station s (there.1 x)))
-        where
-          clash : false ≡ true → ⊥
-          clash e = cc
+      rest zero there other = absurd (false≢true (sym other ∙ equal_number x.station s (there.1 x)))
       rest (suc k) there other = (k, (omega (arith, there.0), there.1))
 
 -- ---- the idle minutes

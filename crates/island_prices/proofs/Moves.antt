@@ -2,6 +2,7 @@
 use Rattle.std.proofs.Common.{◌≡◌, ℕ, zero, suc, ◌+◌, ◌<◌, ◌≤◌, Bool, true, false, cond, ◌==◌, ◌&&◌, nat_le, nat_lt, if◌then◌else◌, List, length, ℤ, pos, neg_ℤ, ◌+ℤ◌, ◌*ℤ◌, ◌≤ℤ◌, refl, sym, ◌∙◌, ap, ap₂, subst, arith}
 use Rattle.std.proofs.lemmas.Bool.Decides.{nat_tests}
 use Rattle.std.proofs.lemmas.Int.{clamps, ints}
+use Rattle.std.proofs.lemmas.Bool.{eqb-true}
 use lib.IntN.{zero-*ℤ}
 use Rattle.sums.specs.Below.{sum_below_ℤ}
 use Rattle.sums.proofs.Integers.{one-*ℤ}
@@ -146,9 +147,6 @@ sum_of_one b z g (suc n) apart within = by_test (b n)
     ))
 
 module _ (rises : List Rise) (apart : AreApart rises) (f s m : ℕ) where
-  number_is : (a b : ℕ) → (a == b) ≡ true → a ≡ b
-  number_is a b e = grind (arith, nat_tests)
-
   pub went_once : went_by rises f s m ≤ℤ greatest_rise rises s m
   unfolding greatest_rise
   went_once =
@@ -166,9 +164,9 @@ module _ (rises : List Rise) (apart : AreApart rises) (f s m : ℕ) where
       parts i e =
           let both = parts_true (is_of (rise_in rises i) f s) ((rise_in rises i).moment == m) e in
           let place = parts_true ((rise_in rises i).fleet == f) ((rise_in rises i).station == s) both.0 in (
-            number_is (rise_in rises i).fleet f place.0,
-            number_is (rise_in rises i).station s place.1,
-            number_is (rise_in rises i).moment m both.1,
+            eqb-true (rise_in rises i).fleet f place.0,
+            eqb-true (rise_in rises i).station s place.1,
+            eqb-true (rise_in rises i).moment m both.1,
           )
 
 -- ---- moved prices

@@ -1,7 +1,6 @@
 -- Prices that are paid back are proper, in written order, and worth no less.
-use Rattle.std.proofs.Common.{◌≡◌, ℕ, zero, suc, ◌+◌, ◌-◌, ◌<◌, ◌≤◌, Bool, true, false, cond, ◌||◌, ◌%◌, nat_le, nat_lt, if◌then◌else◌, List, length, get_or, All, Option, Some, None, IsSome, ℤ, pos, neg_ℤ, ◌+ℤ◌, ◌-ℤ◌, ◌*ℤ◌, ◌≤ℤ◌, unsigned_abs, refl, sym, ◌∙◌, ap, ap₂, subst, inl, inr, add-one, arith}
-use Rattle.std.proofs.lemmas.Bool.Decides.{nat_tests}
-use Rattle.std.proofs.lemmas.Bool.{cases_lt}
+use Rattle.std.proofs.Common.{◌≡◌, ℕ, zero, suc, ◌+◌, ◌-◌, ◌<◌, ◌≤◌, Bool, true, false, cond, nat_le, if◌then◌else◌, List, length, get_or, All, Option, Some, None, IsSome, ℤ, pos, neg_ℤ, ◌+ℤ◌, ◌-ℤ◌, ◌*ℤ◌, ◌≤ℤ◌, unsigned_abs, refl, sym, ◌∙◌, ap, ap₂, subst, inl, inr, add-one, arith}
+use Rattle.std.proofs.lemmas.Bool.{cases_lt, ltb-false, or_parts}
 use Rattle.std.proofs.lemmas.Int.{ints}
 use Rattle.sums.specs.Below.{sum_below_ℤ}
 use Rattle.sums.specs.Places.{list_below}
@@ -16,6 +15,7 @@ use Rattle.fleet_model.specs.Use.{last_minute}
 use Rattle.fleet_model.specs.declared.limits.TheConstants.{MINUTES_PER_PERIOD}
 use Rattle.fleet_model.specs.declared.parts.Pair.{Pair}
 use Rattle.fleet_model.specs.declared.tables.Tables.{Tables}
+use Rattle.fleet_model.proofs.Minutes.{in_period}
 use Rattle.dual_bound.specs.OfTables.{ArePricesOf, IsStepOf}
 use Rattle.dual_bound.specs.Prices.{ArePrices, IsPrice, IsScale, max_price, price_of, rent_of}
 use Rattle.dual_bound.specs.Worth.{cost_units, pair_worth, worth_of}
@@ -35,19 +35,12 @@ use Rattle.island_prices.proofs.TakenMoments.{grown_at_start, lost_at, lost_at_e
 use Rattle.island_prices.proofs.Worth.{no_less, same_worth}
 
 -- ---- none is beyond the limit
-first_false : (a b : Bool) → (a || b) ≡ false → a ≡ false
-first_false false b e = refl
-first_false true b e = cc
-
-second_false : (a b : Bool) → (a || b) ≡ false → b ≡ false
-second_false false b e = e
-second_false true b e = cc
 
 none_below : (p : ℕ → Bool) (n k : ℕ) → any_below p n ≡ false → k < n → p k ≡ false
 none_below p zero k none below = absurd (omega arith)
 none_below p (suc n) k none below = elim (cases_lt k n) [
-  | inl less ↦ none_below p n k (first_false (any_below p n) (p n) none) less
-  | inr last ↦ let same : n ≡ k = omega arith in subst (λ j. p j ≡ false) same (second_false (any_below p n) (p n) none)
+  | inl less ↦ none_below p n k (or_parts (any_below p n) (p n) none).0 less
+  | inr last ↦ let same : n ≡ k = omega arith in subst (λ j. p j ≡ false) same (or_parts (any_below p n) (p n) none).1
 ]
 
 not_picked : (b : Bool) (f : ℕ) → fleet_if b f ≡ None → b ≡ false
@@ -55,11 +48,7 @@ not_picked false f e = refl
 not_picked true f e = cc
 
 small : (z : ℤ) → is_beyond z ≡ false → IsPrice z
-small z e = let few : unsigned_abs z ≤ max_price = within (unsigned_abs z) e in record { no_less = omega (arith, ints); no_more = omega (arith, ints) }
-  where
-    within : (n : ℕ) → nat_lt max_price n ≡ false → n ≤ max_price
-    within n e = grind (arith, nat_tests)
-
+small z e = let few : unsigned_abs z ≤ max_price = ltb-false max_price (unsigned_abs z) e in record { no_less = omega (arith, ints); no_more = omega (arith, ints) }
 module _ (t : Tables) (rent : ℕ → ℤ) (price : ℕ → ℕ → ℕ → ℤ) (fits : first_beyond t rent price (fleets_in t) ≡ None) where
   fleet_fits : (f : ℕ) → f < fleets_in t → has_beyond t rent price f ≡ false
   unfolding first_beyond
@@ -67,14 +56,14 @@ module _ (t : Tables) (rent : ℕ → ℤ) (price : ℕ → ℕ → ℕ → ℤ)
 
   pub rent_fits : (f : ℕ) → f < fleets_in t → IsPrice (rent f)
   unfolding has_beyond
-  rent_fits f known = small (rent f) (first_false (is_beyond (rent f)) (beyond_of (price f) (stations_in t)) (fleet_fits f known))
+  rent_fits f known = small (rent f) (or_parts (is_beyond (rent f)) (beyond_of (price f) (stations_in t)) (fleet_fits f known)).0
 
   pub price_fits : (f s m : ℕ) → f < fleets_in t → s < stations_in t → m < MINUTES_PER_PERIOD → IsPrice (price f s m)
   unfolding has_beyond beyond_of beyond_at
   price_fits f s m known within period =
       small (price f s m)
       (none_below (λ k. is_beyond (price f s k)) MINUTES_PER_PERIOD m
-      (none_below (λ r. any_below (λ k. is_beyond (price f r k)) MINUTES_PER_PERIOD) (stations_in t) s (second_false (is_beyond (rent f)) (beyond_of (price f) (stations_in t)) (fleet_fits f known)) within) period)
+      (none_below (λ r. any_below (λ k. is_beyond (price f r k)) MINUTES_PER_PERIOD) (stations_in t) s (or_parts (is_beyond (rent f)) (beyond_of (price f) (stations_in t)) (fleet_fits f known)).1 within) period)
 
 figure : (z : ℤ) → IsPrice z → IsFigure z
 figure z is = record { no_less = omega (arith, ints, is.no_less); no_more = omega (arith, ints, is.no_more) }
@@ -194,9 +183,6 @@ module _ (t : Tables) (prices : Prices) (rises : List Rise) (least : List ℕ) (
   -- ---- worth no less
   module _ (keeps : Domains) (k : ℕ) (some_pair : (l : ℕ) → ¬ (IsBare t keeps l)) (allowed : (p : Pair) → IsPair t p → keeps p ≡ true → IsSome (cost_of t p)) (quiet : AreQuiet t keeps rises)
       (pays : (j : ℕ) → j < count → PaysBack t (λ s. minute_in rounds s j)) where
-    ready_within : (n : ℕ) → n % MINUTES_PER_PERIOD < MINUTES_PER_PERIOD
-    ready_within n = omega arith
-
     not_grown : (s m : ℕ) → price_grown rounds s m 0 ≡ pos 0
     unfolding price_grown
     not_grown s m = refl
@@ -214,7 +200,7 @@ module _ (t : Tables) (prices : Prices) (rises : List Rise) (least : List ℕ) (
         let out : price_of (prices_after 0) f (leg_of t l).from (departure t p) ≡ price_of prices f (leg_of t l).from (departure t p) =
         omega (arith, ints, told_price 0 f (leg_of t l).from (departure t p) known leg.from leg.dep, quiet.departs p pair kept, not_grown (leg_of t l).from (departure t p)) in
         let back : price_of (prices_after 0) f (leg_of t l).to (ready_minute t p) ≡ price_of prices f (leg_of t l).to (ready_minute t p) =
-        omega (arith, ints, told_price 0 f (leg_of t l).to (ready_minute t p) known leg.to (ready_within (departure t p + busy_minutes t p)), quiet.lands p pair kept, not_grown (leg_of t l).to (ready_minute t p)) in
+        omega (arith, ints, told_price 0 f (leg_of t l).to (ready_minute t p) known leg.to (in_period (departure t p + busy_minutes t p)), quiet.lands p pair kept, not_grown (leg_of t l).to (ready_minute t p)) in
         ap₂ (λ x y. (pos k *ℤ prices.scale *ℤ cost_units t p) +ℤ (x -ℤ y) +ℤ (rent_of (prices_after 0) f *ℤ pos (laps_of t p))) out back
         ∙ ap (λ r. (pos k *ℤ prices.scale *ℤ cost_units t p) +ℤ (price_of prices f (leg_of t l).from (departure t p) -ℤ price_of prices f (leg_of t l).to (ready_minute t p)) +ℤ (r *ℤ pos (laps_of t p))) (rent_stays f known))
         rent_stays

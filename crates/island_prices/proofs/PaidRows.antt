@@ -1,7 +1,7 @@
 -- Rows of prices minute by minute, and what is beyond the limit in them.
 use Rattle.std.proofs.Common.{◌≡◌, ◌≢◌, ℕ, zero, suc, ◌+◌, ◌<◌, ◌≤◌, Bool, true, false, cond, not, ◌&&◌, ◌||◌, if◌then◌else◌, List, [], ◌∷◌, ◌++◌, length, get_or, Option, Some, None, ℤ, pos, refl, sym, ◌∙◌, ap, ap₂, subst, inl, inr, add-one, append_assoc, append-nil, arith}
 use Rattle.std.specs.Ordering.{int_eq}
-use Rattle.std.proofs.lemmas.Bool.{cases_lt}
+use Rattle.std.proofs.lemmas.Bool.{cases_lt, or_right}
 use Rattle.sums.specs.Places.{first_below, list_below, or_else}
 use Rattle.sums.proofs.Places.{first_found, get_or-list_below, length-list_below}
 use Rattle.sums.proofs.Tests.{by_test, never_passes}
@@ -27,13 +27,8 @@ any_found : (p : ℕ → Bool) (n k : ℕ) → k < n → p k ≡ true → any_be
 any_found p zero k below passes = absurd (omega arith)
 any_found p (suc n) k below passes = elim (cases_lt k n) [
   | inl less ↦ ap (λ b. b || p n) (any_found p n k less passes)
-  | inr last ↦ let same : n ≡ k = omega arith in either (any_below p n) (p n) (ap p same ∙ passes)
+  | inr last ↦ let same : n ≡ k = omega arith in or_right (any_below p n) (p n) (ap p same ∙ passes)
 ]
-  where
-    either : (a b : Bool) → b ≡ true → (a || b) ≡ true
-    either true b e = refl
-    either false b e = e
-
 pub none_beyond : (price : ℕ → ℤ) → beyond_at price 0 ≡ false
 unfolding beyond_at
 none_beyond price = refl
@@ -121,12 +116,7 @@ pub beyond_there : (t : Tables) (rent : ℕ → ℤ) (price : ℕ → ℕ → �
     → beyond_at (λ m. get_or row m (pos 0)) (length row) ≡ true → has_beyond t rent price f ≡ true
 unfolding has_beyond beyond_of
 beyond_there t rent price f n row is below passes =
-    second (is_beyond (rent f)) _ (any_found (λ s. beyond_at (price f s) MINUTES_PER_PERIOD) (stations_in t) n below (sym (beyond_by_row (price f n) row is) ∙ passes))
-  where
-    second : (a b : Bool) → b ≡ true → (a || b) ≡ true
-    second true b e = refl
-    second false b e = e
-
+    or_right (is_beyond (rent f)) _ (any_found (λ s. beyond_at (price f s) MINUTES_PER_PERIOD) (stations_in t) n below (sym (beyond_by_row (price f n) row is) ∙ passes))
 pub rent_beyond : (t : Tables) (rent : ℕ → ℤ) (price : ℕ → ℕ → ℕ → ℤ) (f : ℕ) → is_beyond (rent f) ≡ true → has_beyond t rent price f ≡ true
 unfolding has_beyond
 rent_beyond t rent price f passes = ap (λ b. b || beyond_of (price f) (stations_in t)) passes

@@ -1,8 +1,7 @@
 -- Each round takes an idle minute of each station, so it is paid back.
 use Rattle.std.proofs.Common.{◌≡◌, ℕ, zero, suc, ◌+◌, ◌<◌, ◌≤◌, Bool, true, false, cond, ◌==◌, ◌&&◌, if◌then◌else◌, List, [], ◌∷◌, ◌++◌, length, get_or, ℤ, pos, int_lt, ◌≤ℤ◌, refl, sym, ◌∙◌, ap, subst, inl, inr, arith}
 use Rattle.std.specs.Int.{int_max}
-use Rattle.std.proofs.lemmas.Bool.{cases_lt}
-use Rattle.std.proofs.lemmas.Bool.Decides.{nat_tests}
+use Rattle.std.proofs.lemmas.Bool.{cases_lt, eqb-true}
 use Rattle.std.proofs.lemmas.Int.{clamps, ints}
 use Rattle.std.proofs.lemmas.List.{get_or_past}
 use Rattle.std.proofs.lemmas.List.Elements.{filter_passes}
@@ -58,12 +57,9 @@ module _ (t : Tables) (rises : List Rise) (at_idles : AreAtIdles t rises) where
       let one = one_above (rise_where rises s m) (length rises) e in
       let place = passes ((rise_in rises one.at).station == s && ((rise_in rises one.at).moment == m)) (rise_in rises one.at).amount one.above in
       let both = parts_true ((rise_in rises one.at).station == s) ((rise_in rises one.at).moment == m) place in
-      subst (λ n. IsIdle t s n) (number (rise_in rises one.at).moment m both.1)
-      (subst (λ r. IsIdle t r (rise_in rises one.at).moment) (number (rise_in rises one.at).station s both.0) (at_idles.each one.at one.within))
+      subst (λ n. IsIdle t s n) (eqb-true (rise_in rises one.at).moment m both.1)
+      (subst (λ r. IsIdle t r (rise_in rises one.at).moment) (eqb-true (rise_in rises one.at).station s both.0) (at_idles.each one.at one.within))
     where
-      number : (a b : ℕ) → (a == b) ≡ true → a ≡ b
-      number a b e = grind (arith, nat_tests)
-
       passes : (b : Bool) (z : ℤ) → int_lt (pos 0) (cond b z (pos 0)) ≡ true → b ≡ true
       passes true z e = refl
       passes false z e = absurd (clash e)

@@ -1,8 +1,8 @@
 -- Steps of minutes are in written order.
 use Rattle.std.proofs.Common.{◌≡◌, ◌≢◌, ℕ, zero, suc, ◌+◌, ◌-◌, ◌<◌, ◌≤◌, Bool, true, false, cond, not, ◌==◌, ◌&&◌, nat_lt, if◌then◌else◌, List, [], ◌∷◌, ◌++◌, length, get_or, All, Option, Some, None, ℤ, pos, refl, sym, ◌∙◌, ap, subst, ◌⊎◌, inl, inr, append_assoc, append-nil, arith}
 use Rattle.std.specs.Ordering.{int_eq}
-use Rattle.std.specs.Prelude.{IsTrue, ⊤}
-use Rattle.std.proofs.lemmas.Bool.{cases_lt}
+use Rattle.std.specs.Prelude.{⊤}
+use Rattle.std.proofs.lemmas.Bool.{cases_lt, eq-eqb}
 use Rattle.std.proofs.lemmas.Bool.Decides.{Decides-int_eq, nat_tests}
 use Rattle.std.proofs.lemmas.List.Elements.{All-append, All-cons, All-nil}
 use Rattle.sums.proofs.Tests.{both_true, by_test, no_both, not_true}
@@ -17,11 +17,6 @@ use Rattle.island_prices.specs.Steps.{all_zero, fleet_steps, is_step, station_st
 use Rattle.island_prices.proofs.StepPrices.{no_first, no_later, step_at, zero_before}
 
 -- ---- tests
-truth : (b : Bool) → b ≡ true → IsTrue b
-truth b e = e
-
-is_zero : (n : ℕ) → n ≡ 0 → (n == 0) ≡ true
-is_zero n e = grind (arith, nat_tests)
 
 differs : (a b : ℤ) → a ≢ b → int_eq a b ≡ false
 differs a b apart = by_test (int_eq a b) (λ e. absurd (apart ((Decides-int_eq a b).0 e))) (λ e. e)
@@ -72,7 +67,7 @@ follows_other a b order first = by_same (same_place a b) (apart a b order)
 
     by_same : (c : Bool) → c ≡ false → (if c then nat_lt a.minute b.minute && not (int_eq a.value b.value) else place_before a b && (b.minute == 0)) ≡ true
     by_same true e = cc
-    by_same false e = both_true (place_before a b) (b.minute == 0) (placed order) (is_zero b.minute first)
+    by_same false e = both_true (place_before a b) (b.minute == 0) (placed order) (eq-eqb b.minute 0 first)
 
 -- ---- what may stand behind
 -- .. a step
@@ -122,7 +117,7 @@ module _ (price : ℕ → ℤ) (f s : ℕ) where
       let step = step_at price f s (suc m) in
       let may = next step (next_last m within) in
       subst (λ c. MayCome b ((if c then step ∷ [] else []) ++ rest)) (sym e) (record {
-        follow = (truth (step_follows (Some b) step) (follows_same b step last.fleet last.station (omega (arith, last.minute)) (λ same. other_value price m e (sym same ∙ last.value))), may.follow);
+        follow = (follows_same b step last.fleet last.station (omega (arith, last.minute)) (λ same. other_value price m e (sym same ∙ last.value)), may.follow);
         not_lone = lone_by (b.minute == 0) (int_eq b.value (pos 0)) (same_place b step) (same b (suc m) last.fleet last.station);
         none_lone = (may.not_lone, may.none_lone);
       }))
@@ -155,8 +150,8 @@ module _ (price : ℕ → ℤ) (f s : ℕ) where
 
     goes_first : (rest : List PriceStep) → MayCome (step_at price f s 0) rest → IsAhead f s (step_at price f s 0 ∷ rest)
     goes_first rest may = record {
-      first = (truth (step_follows None (step_at price f s 0)) (is_zero 0 refl), may.follow);
-      behind = λ b order. (truth (step_follows (Some b) (step_at price f s 0)) (follows_other b (step_at price f s 0) order refl), may.follow);
+      first = (eq-eqb 0 0 refl, may.follow);
+      behind = λ b order. (follows_other b (step_at price f s 0) order refl, may.follow);
       none_lone = (may.not_lone, may.none_lone);
     }
 

@@ -14,8 +14,6 @@ use Rattle.dual_bound.proofs.PriceLists.{price_after-append}
 use Rattle.island_prices.specs.Steps.{all_zero, fleet_steps, is_step, station_steps, step_where, steps_below, steps_of}
 
 -- ---- tests of steps
-same_value : (a b : ℤ) → int_eq a b ≡ true → a ≡ b
-same_value a b e = (Decides-int_eq a b).0 e
 
 pub zero_before : (price : ℕ → ℤ) (n k : ℕ) → all_zero price n ≡ true → k < n → price k ≡ pos 0
 unfolding all_zero
@@ -24,7 +22,7 @@ zero_before price (suc n) k all below = elim (cases_lt k n) [
   | inl less ↦ zero_before price n k (first_true (all_zero price n) (int_eq (price n) (pos 0)) all) less
   | inr last ↦
       let same : n ≡ k = omega arith in
-      subst (λ j. price j ≡ pos 0) same (same_value (price n) (pos 0) (second_true (all_zero price n) (int_eq (price n) (pos 0)) all))
+      subst (λ j. price j ≡ pos 0) same ((Decides-int_eq (price n) (pos 0)).0 (second_true (all_zero price n) (int_eq (price n) (pos 0)) all))
 ]
 
 pub no_first : (price : ℕ → ℤ) → is_step price 0 ≡ false → all_zero price MINUTES_PER_PERIOD ≡ true
@@ -33,7 +31,7 @@ no_first price e = not_false (all_zero price MINUTES_PER_PERIOD) e
 
 pub no_later : (price : ℕ → ℤ) (m : ℕ) → is_step price (suc m) ≡ false → price (suc m) ≡ price m
 unfolding is_step
-no_later price m e = same_value (price (suc m)) (price m) (not_false (int_eq (price (suc m)) (price m)) e)
+no_later price m e = (Decides-int_eq (price (suc m)) (price m)).0 (not_false (int_eq (price (suc m)) (price m)) e)
 
 -- ---- the price after steps
 abbrev pub step_at : (ℕ → ℤ) → ℕ → ℕ → ℕ → PriceStep

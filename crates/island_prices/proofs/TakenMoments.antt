@@ -1,10 +1,11 @@
 -- Rounds: there are few, their numbers are small, and each moment of a rise is taken by one whose number reaches it.
-use Rattle.std.proofs.Common.{◌≡◌, ℕ, zero, suc, ◌+◌, ◌*◌, ◌<◌, ◌≤◌, Bool, true, false, cond, ◌==◌, ◌&&◌, nat_le, nat_lt, if◌then◌else◌, List, [], ◌∷◌, ◌++◌, length, get_or, ℤ, pos, int_lt, neg_ℤ, ◌+ℤ◌, ◌*ℤ◌, ◌≤ℤ◌, refl, sym, ◌∙◌, ap, subst, add-one, length-append, arith, inl, inr}
-use Rattle.std.proofs.lemmas.Bool.{cases_lt}
+use Rattle.std.proofs.Common.{◌≡◌, ℕ, zero, suc, ◌+◌, ◌*◌, ◌<◌, ◌≤◌, Bool, true, false, cond, ◌==◌, ◌&&◌, nat_le, nat_lt, if◌then◌else◌, List, [], ◌∷◌, ◌++◌, length, get_or, ℤ, pos, neg_ℤ, ◌+ℤ◌, ◌*ℤ◌, ◌≤ℤ◌, refl, sym, ◌∙◌, ap, subst, add-one, length-append, arith, inl, inr}
+use Rattle.std.proofs.lemmas.Bool.{cases_lt, lt-ltb}
 use Rattle.std.proofs.lemmas.Bool.Decides.{nat_tests}
 use Rattle.std.proofs.lemmas.Int.{clamps, ints}
 use Rattle.std.proofs.lemmas.List.{get_or_append_left}
 use Rattle.std.proofs.lemmas.List.FromFn.{filter_of_map_range_with_len_more}
+use mathlib.Core.Bool.{false≢true}
 use Rattle.sums.specs.Below.{sum_below_ℤ}
 use Rattle.sums.specs.Places.{list_below}
 use Rattle.sums.proofs.Maxima.{max_below-least, max_below-upper}
@@ -14,7 +15,8 @@ use Rattle.sums.proofs.Places.{get_or-list_below, length-list_below}
 use Rattle.sums.proofs.Tests.{by_test}
 use Rattle.sums.proofs.WholeSums.{sum_below_ℤ-same}
 use Rattle.sums.proofs.WholeSwaps.{sum_below_ℤ-+ℤ}
-use Rattle.sums.proofs.WholeTerms.{at_least_0}
+use Rattle.sums.proofs.WholeTerms.{at_least_0, term_within}
+use Rattle.sums.proofs.Sizes.{not_above_tested}
 use Rattle.fleet_model.specs.Schedule.{fleets_in, stations_in}
 use Rattle.fleet_model.specs.Use.{last_minute}
 use Rattle.fleet_model.specs.declared.limits.TheConstants.{MINUTES_PER_PERIOD}
@@ -206,10 +208,7 @@ module _ (t : Tables) (rises : List Rise) (are : AreRises t rises) (least : List
 
       either : (b c : Bool) (z : ℤ) → pos 0 ≤ℤ z → (b ≡ true → c ≡ true) → cond b z (pos 0) ≤ℤ cond c z (pos 0)
       either true true z some implies = omega (arith, ints)
-      either true false z some implies = absurd (clash (implies refl))
-        where
-          clash : false ≡ true → ⊥
-          clash e = cc
+      either true false z some implies = absurd (false≢true (implies refl))
       either false true z some implies = some
       either false false z some implies = omega (arith, ints)
 
@@ -217,14 +216,6 @@ module _ (t : Tables) (rises : List Rise) (are : AreRises t rises) (least : List
       by_order a m z some = either (a == m) (nat_le m a) z some (then_by a m)
 
   -- ---- a rise at a moment is no more than what is lost there
-  term_within : (f : ℕ → ℤ) (n k : ℕ) → k < n → ((j : ℕ) → j < n → pos 0 ≤ℤ f j) → f k ≤ℤ sum_below_ℤ f n
-  term_within f zero k below some = absurd (omega arith)
-  term_within f (suc n) k below some = elim (cases_lt k n) [
-    | inl less ↦ omega (arith, ints, term_within f n k less (λ j within. some j (omega arith)), some n (omega arith))
-    | inr last ↦
-        let same : n ≡ k = omega arith in
-        subst (λ j. f j ≤ℤ sum_below_ℤ f (suc n)) same (omega (arith, ints, at_least_0 f n (λ j within. some j (omega arith))))
-  ]
 
   lost_some : (s m j : ℕ) → j < count → pos 0 ≤ℤ lost_in s m j
   lost_some s m j below = by_case (minute_in all_rounds s j == m)
@@ -232,9 +223,6 @@ module _ (t : Tables) (rises : List Rise) (are : AreRises t rises) (least : List
       by_case : (b : Bool) → pos 0 ≤ℤ cond b (number_in all_rounds j) (pos 0)
       by_case true = number_at_least_0 j below
       by_case false = omega (arith, ints)
-
-  not_above : (z : ℤ) → int_lt (pos 0) z ≡ false → z ≤ℤ pos 0
-  not_above z e = grind (arith, ints)
 
   module _ (s m : ℕ) (within : s < stations_in t) (p : HasPlace (moments_of rises s) m) where
     place_there : HasPlace (moments_at all_moments s) m
@@ -253,12 +241,8 @@ module _ (t : Tables) (rises : List Rise) (are : AreRises t rises) (least : List
 
     rise_is : rise_taken rises all_moments place_there.place s ≡ greatest_rise rises s m
     rise_is =
-        ap (λ b. cond b (greatest_rise rises s (get_or (moments_at all_moments s) place_there.place 0)) (pos 0)) (in_list place_there.place (length (moments_at all_moments s)) place_there.within)
+        ap (λ b. cond b (greatest_rise rises s (get_or (moments_at all_moments s) place_there.place 0)) (pos 0)) (lt-ltb place_there.place (length (moments_at all_moments s)) place_there.within)
         ∙ ap (greatest_rise rises s) (place_there.there 0)
-      where
-        in_list : (j n : ℕ) → j < n → nat_lt j n ≡ true
-        in_list j n below = grind (arith, nat_tests)
-
     number_reaches : greatest_rise rises s m ≤ℤ number_in all_rounds place_there.place
     unfolding number_of_round
     number_reaches = omega (arith, ints, rise_is, upper, number_is place_there.place in_count)
@@ -275,4 +259,4 @@ module _ (t : Tables) (rises : List Rise) (are : AreRises t rises) (least : List
   pub reached : (s m : ℕ) → s < stations_in t → m < MINUTES_PER_PERIOD → greatest_rise rises s m ≤ℤ lost_at s m
   reached s m within period = by_test (has_rise rises s m)
       (λ e. at_its_place s m within (has_place rises s m MINUTES_PER_PERIOD period e))
-      (λ e. omega (arith, ints, not_above (greatest_rise rises s m) e, at_least_0 (lost_in s m) count (lost_some s m)))
+      (λ e. omega (arith, ints, not_above_tested (greatest_rise rises s m) e, at_least_0 (lost_in s m) count (lost_some s m)))

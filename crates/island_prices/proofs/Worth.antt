@@ -1,5 +1,5 @@
 -- A round lowers no worth, and where no kept pair's price changes, the worth stays.
-use Rattle.std.proofs.Common.{◌≡◌, ℕ, zero, suc, ◌+◌, ◌*◌, ◌<◌, ◌≤◌, Bool, true, false, cond, ◌==◌, ◌&&◌, nat_le, nat_lt, if◌then◌else◌, List, length, get_or, ℤ, pos, neg_ℤ, ◌+ℤ◌, ◌-ℤ◌, ◌*ℤ◌, ◌≤ℤ◌, ◌%◌, Option, Some, None, IsSome, unwrap_or, ◌⊎◌, refl, sym, ◌∙◌, ap, ap₂, subst, arith, inl, inr}
+use Rattle.std.proofs.Common.{◌≡◌, ℕ, zero, suc, ◌+◌, ◌*◌, ◌<◌, ◌≤◌, Bool, true, false, cond, ◌==◌, ◌&&◌, nat_le, nat_lt, if◌then◌else◌, List, length, get_or, ℤ, pos, neg_ℤ, ◌+ℤ◌, ◌-ℤ◌, ◌*ℤ◌, ◌≤ℤ◌, Option, Some, None, IsSome, unwrap_or, ◌⊎◌, refl, sym, ◌∙◌, ap, ap₂, subst, arith, inl, inr}
 use Rattle.std.specs.Prelude.{int_le}
 use Rattle.std.proofs.lemmas.Bool.{cases_lt}
 use Rattle.std.proofs.lemmas.Bool.Decides.{nat_tests}
@@ -19,9 +19,11 @@ use Rattle.fleet_model.specs.Times.{busy_minutes, departure, laps_of, ready_minu
 use Rattle.fleet_model.specs.declared.limits.TheConstants.{MINUTES_PER_PERIOD}
 use Rattle.fleet_model.specs.declared.parts.Pair.{Pair}
 use Rattle.fleet_model.specs.declared.tables.Tables.{Tables}
+use Rattle.fleet_model.proofs.Minutes.{in_period}
 use Rattle.dual_bound.specs.Prices.{price_of, rent_of}
 use Rattle.dual_bound.specs.Worth.{cost_units, least_below, leg_worth, lesser, pair_worth, rents_of, worth_of}
 use Rattle.dual_bound.specs.declared.prices.Prices.{Prices}
+use Rattle.dual_bound.proofs.Duality.{lesser_le}
 use Rattle.island_cut.specs.Spare.{aircraft_in}
 use Rattle.island_cut.specs.IslandLaws.{AreFleetsFor, left_by, ready_by}
 use Rattle.island_prices.specs.Payback.{PaysBack}
@@ -74,14 +76,6 @@ attained keeps f (suc n) z some = by_test (keeps n)
     let here : least_below keeps f (suc n) ≡ least_below keeps f n = ap (λ b. cond b (Some (lesser (least_below keeps f n) (f n))) (least_below keeps f n)) e in
     let rest = attained keeps f n z (sym here ∙ some) in
     (rest.0, record { within = omega (arith, rest.1.within); kept = rest.1.kept; is = here ∙ rest.1.is }))
-
-lesser_le : (o : Option ℤ) (z : ℤ) → (lesser o z ≤ℤ unwrap_or o z) × (lesser o z ≤ℤ z)
-lesser_le None z = (omega (arith, ints), omega (arith, ints))
-lesser_le (Some y) z = by_order (int_le y z) (λ e. grind (arith, ints)) (λ e. grind (arith, ints))
-  where
-    by_order : (b : Bool) → (b ≡ true → y ≤ℤ z) → (b ≡ false → z ≤ℤ y) → (cond b y z ≤ℤ y) × (cond b y z ≤ℤ z)
-    by_order true p q = (omega (arith, ints), p refl)
-    by_order false p q = (q refl, omega (arith, ints))
 
 -- it is no more than any kept one
 no_more : (keeps : ℕ → Bool) (f : ℕ → ℤ) (n k : ℕ) (d : ℤ) → k < n → keeps k ≡ true → unwrap_or (least_below keeps f n) d ≤ℤ f k
@@ -180,15 +174,11 @@ module _ (t : Tables) (keeps : Domains) (k : ℕ) (some_pair : (l : ℕ) → ¬ 
       let p = leg_on l f in
       let leg = t.in_range.legs_fit.each l no_leg below in
       let out = grown f (leg_of t l).from (departure t p) known leg.from leg.dep ∙ ap (λ z. price_of prices f (leg_of t l).from (departure t p) +ℤ z) (times_number (nat_le (leg_of t l).dep (at (leg_of t l).from))) in
-      let back = grown f (leg_of t l).to (ready_minute t p) known leg.to (ready_within (departure t p + busy_minutes t p)) ∙ ap (λ z. price_of prices f (leg_of t l).to (ready_minute t p) +ℤ z) (times_number (nat_le (ready_minute t p) (at (leg_of t l).to))) in
+      let back = grown f (leg_of t l).to (ready_minute t p) known leg.to (in_period (departure t p + busy_minutes t p)) ∙ ap (λ z. price_of prices f (leg_of t l).to (ready_minute t p) +ℤ z) (times_number (nat_le (ready_minute t p) (at (leg_of t l).to))) in
       ap₂ (λ s z. (pos k *ℤ s *ℤ cost_units t p) +ℤ (z -ℤ price_of other f (leg_of t l).to (ready_minute t p)) +ℤ (rent_of other f *ℤ pos (laps_of t p))) scale out
       ∙ ap₂ (λ z r. (pos k *ℤ prices.scale *ℤ cost_units t p) +ℤ ((price_of prices f (leg_of t l).from (departure t p) +ℤ (number *ℤ pos (left_by t at l))) -ℤ z) +ℤ (r *ℤ pos (laps_of t p))) back (rents f known)
       ∙ parts (pos k *ℤ prices.scale *ℤ cost_units t p) (price_of prices f (leg_of t l).from (departure t p)) (price_of prices f (leg_of t l).to (ready_minute t p)) (rent_of prices f) (pos (laps_of t p))
       (number *ℤ pos (left_by t at l)) (number *ℤ pos (once (nat_le (ready_minute t p) (at (leg_of t l).to))))
-    where
-      ready_within : (n : ℕ) → n % MINUTES_PER_PERIOD < MINUTES_PER_PERIOD
-      ready_within n = omega arith
-
   abbrev fleets : ℕ → ℕ
   fleets = chosen t keeps k some_pair prices other extra pair_gains
 

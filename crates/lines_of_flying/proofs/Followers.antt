@@ -1,13 +1,14 @@
 -- Beside given pairs that some fitting map holds, one leg follows each leg of a fleet first in, first out, and no leg
 -- follows two.
-use Rattle.std.proofs.Common.{◌≡◌, ◌≢◌, ℕ, ◌+◌, ◌*◌, ◌%◌, ◌<◌, ◌≤◌, Bool, true, false, if◌then◌else◌, ◌==◌, ◌&&◌, nat_le, List, length, refl, sym, ◌∙◌, ap, subst, inl, inr, arith}
+use Rattle.std.proofs.Common.{◌≡◌, ◌≢◌, ℕ, ◌+◌, ◌%◌, ◌<◌, ◌≤◌, Bool, true, false, if◌then◌else◌, ◌==◌, ◌&&◌, nat_le, List, length, refl, sym, ◌∙◌, ap, subst, arith}
 use Rattle.std.proofs.lemmas.Nat.{mod_below}
-use Rattle.std.proofs.lemmas.Bool.{cases_lt, and_from, and_parts, eqb-true, eq-eqb}
-use Rattle.std.proofs.lemmas.Bool.Decides.{nat_tests}
+use Rattle.std.proofs.lemmas.Bool.{and_from, and_parts, eqb-true, eq-eqb, eqb-false}
 use Rattle.sums.specs.Below.{count_below}
 use Rattle.sums.proofs.Counts.{count_below-some}
 use Rattle.sums.proofs.Maxima.{max_below-least}
 use Rattle.sums.proofs.Sums.{sum_below-agree, sum_below-le}
+use Rattle.sums.proofs.NumberTests.{some_tested}
+use Rattle.sums.proofs.Naturals.{none_is_some, some_above, zero_number}
 use Rattle.fleet_model.specs.declared.parts.Connection.{Connection}
 use Rattle.fleet_model.specs.declared.tables.Tables.{Tables}
 use Rattle.fleet_model.specs.Counts.{fleet_at}
@@ -20,27 +21,11 @@ use Rattle.ground_turns.proofs.FleetTurns.{pick, picked}
 use Rattle.ground_turns.proofs.FreeTurns.{all_there, by_arriving, by_departing, there, there_is}
 use Rattle.ground_turns.proofs.Places.{departure_is, departure_key, departures_differ, landing_is, landing_key, landings_differ}
 use Rattle.ground_turns.proofs.Ranks.{one_place, place_taken, place_within}
-use Rattle.ground_turns.proofs.Rounds.{bit}
+use Rattle.ground_turns.proofs.Rounds.{bit, bit_times_both, part_at_most}
 use Rattle.ground_turns.proofs.SomeMap.{same_round}
 use Rattle.ground_turns.proofs.Totals.{some_counted}
 use Rattle.ground_turns.proofs.Waits.{over_departures}
 use Rattle.lines_of_flying.specs.Following.{Follows, IsFirstOutNext, landing_at, next_place}
-
-departing_part : (w b c : Bool) → bit w * bit (b && c) ≡ bit ((w && b) && c)
-departing_part true b c = omega arith
-departing_part false b c = omega arith
-
-none_test : (n : ℕ) → n ≡ 0 → (n == 0) ≡ true
-none_test n e = grind (arith, nat_tests)
-
-no_test : (n : ℕ) → (n == 0) ≡ true → n ≡ 0
-no_test n e = grind (arith, nat_tests)
-
-some_number : {m n : ℕ} → m < n → 0 < n
-some_number h = omega arith
-
-above_none : (n : ℕ) → n ≢ 0 → 0 < n
-above_none n h = elim (cases_lt 0 n) [ inl some ↦ some | inr none ↦ absurd (h (omega arith)) ]
 
 module _ (t : Tables) (a : List ℕ) (f : ℕ) (given : List Connection) where
   -- the departure is free, and its place is the one that follows the leg
@@ -67,16 +52,12 @@ module _ (t : Tables) (a : List ℕ) (f : ℕ) (given : List Connection) (held :
   free_departures s =
       sym (sum_below-agree (λ k. bit (there t a f given held.turns map held.holds s k)) _ (length held.turns) (record { each = λ k lt. ap bit (there_is t a f given held.turns map held.holds s k lt) })
       ∙ over_departures t a f held.turns map (λ l. bit (((leg_of t l).from == s) && (departures_of given l == 0)))
-      ∙ sum_below-agree _ _ (legs_in t) (record { each = λ l below. departing_part (flies l) ((leg_of t l).from == s) (departures_of given l == 0) }))
+      ∙ sum_below-agree _ _ (legs_in t) (record { each = λ l below. bit_times_both (flies l) ((leg_of t l).from == s) (departures_of given l == 0) }))
       ∙ all_there t a f given held.turns map held.holds s
 
   departed_few : (s m : ℕ) → free_departed t a f given s m ≤ count_below (is_free_departure t a f given s) (legs_in t)
   unfolding free_departed
-  departed_few s m = sum_below-le _ (λ l. bit (is_free_departure t a f given s l)) (legs_in t) (record { each = λ l below. part (is_free_departure t a f given s l) (nat_le (departure t (leg_on l f)) m) })
-    where
-      part : (b c : Bool) → bit (b && c) ≤ bit b
-      part b c = grind (arith, nat_tests)
-
+  departed_few s m = sum_below-le _ (λ l. bit (is_free_departure t a f given s l)) (legs_in t) (record { each = λ l below. part_at_most (is_free_departure t a f given s l) (nat_le (departure t (leg_on l f)) m) })
   -- no more aircraft must be there than land
   few_needed : (s : ℕ) → free_need t a f given s ≤ free_landings t a f given s
   unfolding free_need
@@ -85,7 +66,7 @@ module _ (t : Tables) (a : List ℕ) (f : ℕ) (given : List Connection) (held :
       (record { each = λ m moment. omega (arith, departed_few s m, free_departures s) })
 
   lands : (l : ℕ) → flies l ≡ true → arrivals_of given l ≡ 0 → is_free_landing t a f given (landing_at t l) l ≡ true
-  lands l on free = and_from _ _ (and_from _ _ on (eq-eqb _ _ refl)) (none_test _ free)
+  lands l on free = and_from _ _ (and_from _ _ on (eq-eqb _ _ refl)) (eq-eqb _ 0 free)
 
   pub place_low : (l : ℕ) → l < legs_in t → flies l ≡ true → arrivals_of given l ≡ 0 → landing_place t a f given (landing_at t l) l < free_landings t a f given (landing_at t l)
   unfolding free_landings
@@ -99,7 +80,7 @@ module _ (t : Tables) (a : List ℕ) (f : ℕ) (given : List Connection) (held :
   unfolding next_place
   next_found l below on free =
       let s = landing_at t l in
-      let low : next_place t a f given l < free_landings t a f given s = mod_below _ (free_landings t a f given s) (some_number (place_low l below on free)) in
+      let low : next_place t a f given l < free_landings t a f given s = mod_below _ (free_landings t a f given s) (some_above (place_low l below on free)) in
       let fits : next_place t a f given l < count_below (is_free_departure t a f given s) (legs_in t) = omega (arith, low, free_departures s) in
       let found = place_taken (is_free_departure t a f given s) (departure_key t a f given s) (legs_in t) (departures_differ t a f given s) (next_place t a f given l) fits in
       (found.0, record { known = found.1; free = found.2; place = departure_is t a f given s found.0 found.1 ∙ found.3 })
@@ -131,17 +112,14 @@ module _ (t : Tables) (a : List ℕ) (f : ℕ) (given : List Connection) (held :
   departs_free l q x =
       let parts = and_parts _ _ x.free in
       let first = and_parts _ _ parts.0 in
-      (first.0, eqb-true _ _ first.1, no_test _ parts.1)
+      (first.0, eqb-true _ _ first.1, zero_number _ parts.1)
 
   by_pairs : (l : ℕ) → (P : Type 0) → (arrivals_of given l ≡ 0 → P) → (arrivals_of given l ≢ 0 → P) → P
   by_pairs l P free paired = by_test (arrivals_of given l == 0) refl
     where
-      some_test : (n : ℕ) → (n == 0) ≡ false → n ≢ 0
-      some_test n e = grind (arith, nat_tests)
-
       by_test : (b : Bool) → (arrivals_of given l == 0) ≡ b → P
-      by_test true e = free (no_test _ e)
-      by_test false e = paired (some_test _ e)
+      by_test true e = free (zero_number _ e)
+      by_test false e = paired (eqb-false _ 0 e)
 
   -- it is a turn from one leg to the other
   follows_turn : (l q : ℕ) → l < legs_in t → flies l ≡ true → Follows t a f given l q → IsTurn t a f (record { arriving = l; departing = q })
@@ -207,15 +185,9 @@ module _ (t : Tables) (a : List ℕ) (f : ℕ) (given : List Connection) (held :
   unfolding next goes_next partner_of
   next_follows l below on = by_test (arrivals_of given l == 0) refl
     where
-      not_none : (n : ℕ) → (n == 0) ≡ false → 0 < n
-      not_none n e = grind (arith, nat_tests)
-
-      clash : {n : ℕ} → n ≡ 0 → 0 < n → ⊥
-      clash e h = omega arith
-
       by_test : (b : Bool) → (arrivals_of given l == 0) ≡ b → Follows t a f given l (if b then pick (goes_next t a f given l) (legs_in t) else partner_of t a f given l)
       by_test true e =
-          let none = no_test _ e in
+          let none = zero_number _ e in
           let found = next_found l below on none in
           let x = found.1 in
           let chosen = picked (goes_next t a f given l) (legs_in t) found.0 x.known (and_from _ _ x.free (eq-eqb _ _ x.place)) in
@@ -225,7 +197,7 @@ module _ (t : Tables) (a : List ℕ) (f : ℕ) (given : List Connection) (held :
             first_out = λ free. record { known = chosen.0; free = parts.0; place = eqb-true _ _ parts.1 };
           }
       by_test false e =
-          let some = not_none _ e in
+          let some = some_tested _ e in
           let found = some_counted (λ g. (turn_at given g).arriving == l) (length given) some in
           let chosen = picked (λ g. (turn_at given g).arriving == l) (length given) found.0 found.1 found.2 in
           record {
@@ -234,7 +206,7 @@ module _ (t : Tables) (a : List ℕ) (f : ℕ) (given : List Connection) (held :
               within = chosen.0;
               there = ap (λ k. record { arriving = k; departing = partner_of t a f given l }) (eqb-true _ _ chosen.1);
             };
-            first_out = λ free. absurd (clash free some);
+            first_out = λ free. absurd (none_is_some free some);
           }
 
   pub is_next : IsNext t a f (next t a f given)

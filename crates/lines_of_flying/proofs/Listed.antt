@@ -5,14 +5,7 @@ use Rattle.std.proofs.lemmas.Bool.{cases_lt, eq-eqb}
 use Rattle.fleet_model.specs.declared.parts.Connection.{Connection}
 use Rattle.fleet_model.specs.Counts.{fleet_at}
 use Rattle.ground_turns.specs.Maps.{HasTurn, no_turn, turn_at, turn_by, turns_by}
-
--- what holds of each turn, with one more
-each_push : (P : Connection → Type 0) (xs : List Connection) (y : Connection) → ((k : ℕ) → k < length xs → P (turn_at xs k)) → P y
-    → (k : ℕ) → k < length (xs ++ y ∷ []) → P (turn_at (xs ++ y ∷ []) k)
-each_push P xs y each last k below = elim (cases_lt k (length xs)) [
-  | inl before ↦ subst P (sym (get_or_append_left xs (y ∷ []) no_turn k before)) (each k before)
-  | inr after ↦ let same : length xs ≡ k = omega (arith, length_push xs y) in subst P (sym (get_or_push xs y no_turn k same)) last
-]
+use Rattle.ground_turns.proofs.FleetTurns.{of_one_more}
 
 -- the turns of a list rise by the legs that arrive, and none is of a leg from the bound on
 pub record Rise (turns : List Connection) (bound : ℕ) : Type 0 where
@@ -28,7 +21,7 @@ rise_push xs y n rise last = record {
         let early : j < length xs = omega arith in
         subst2 j k (get_or_append_left xs (y ∷ []) no_turn j early) (get_or_push xs y no_turn k same) (later j early)
   ];
-  below = each_push (λ turn. turn.arriving < suc n) xs y (λ k within. let few = rise.below k within in omega arith) (omega arith);
+  below = of_one_more (λ turn. turn.arriving < suc n) xs y (λ k within. let few = rise.below k within in omega arith) (omega arith);
 }
   where
     less : {j k m : ℕ} → j < k → k < m → j < m

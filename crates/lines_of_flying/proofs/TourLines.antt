@@ -1,13 +1,13 @@
 -- The lines of a tour, leg by leg, and how many there are.
 use Rattle.std.proofs.Common.{◌≡◌, ℕ, zero, suc, ◌+◌, ◌*◌, ◌<◌, false, if◌then◌else◌, ◌==◌, List, [], ◌∷◌, ◌++◌, length, slice_index, refl, sym, ◌∙◌, ap, subst, add-one, append_assoc, arith}
 use Rattle.std.proofs.lemmas.List.{append-nil}
-use Rattle.std.proofs.lemmas.Bool.Decides.{nat_tests}
 use Rattle.sums.specs.Below.{sum_below}
 use Rattle.sums.specs.Places.{list_below}
 use Rattle.sums.proofs.Naturals.{same_number}
-use Rattle.sums.proofs.Places.{get_or-list_below, length-list_below, list_below-more}
+use Rattle.sums.proofs.Places.{get_or-list_below, length-list_below, list_below-agree, list_below-more}
 use Rattle.sums.proofs.SumBounds.{sum_below-le}
 use Rattle.sums.proofs.Sums.{sum_below-agree}
+use Rattle.sums.proofs.NumberTests.{greater_differs, less_differs}
 use Rattle.fleet_model.specs.declared.tables.Tables.{Tables}
 use Rattle.fleet_model.specs.Counts.{weights_of}
 use Rattle.fleet_model.specs.Schedule.{legs_in}
@@ -16,15 +16,6 @@ use Rattle.ground_turns.specs.Maps.{IsTour, no_turn, turn_after, turn_at, turns_
 use Rattle.ground_turns.specs.Turns.{IsTurn, days_in}
 use Rattle.ground_turns.proofs.TourNights.{nights_are_use, nights_at_turn, nights_long}
 use Rattle.lines_of_flying.specs.Lines.{AreLegs, day_of, legs_on_day, line_after, lines_ended, lines_of, nights_after}
-
--- lists of equal entries are equal
-pub list_below-agree : {X : Type 0} (f g : ℕ → X) (n : ℕ) → ((k : ℕ) → k < n → f k ≡ g k) → list_below f n ≡ list_below g n
-list_below-agree f g zero same = refl
-list_below-agree {X} f g (suc n) same =
-    ap (list_below f) (sym (add-one n)) ∙ list_below-more f n
-    ∙ ap (λ xs. xs ++ f n ∷ []) (list_below-agree f g n (λ k below. same k (omega arith)))
-    ∙ ap (λ x. list_below g n ++ x ∷ []) (same n (omega arith))
-    ∙ sym (list_below-more g n) ∙ ap (list_below g) (add-one n)
 
 -- the legs of a tour are legs of the tables
 pub known_legs : (t : Tables) (a : List ℕ) (f : ℕ) (tour : List ℕ) → IsTour t a f tour → AreLegs t tour
@@ -57,11 +48,7 @@ module _ (t : Tables) (f : ℕ) (tour : List ℕ) where
   other_day d n other = ap (λ b. legs_on_day t f tour d n ++ (if b then slice_index tour n ∷ [] else [])) other ∙ append-nil (legs_on_day t f tour d n)
 
   pub other_early_day : (n d : ℕ) → d < day_of t f tour n → first_on (suc n) d ≡ first_on n d
-  other_early_day n d less = other_day d n (differs (day_of t f tour n) d less)
-    where
-      differs : (m d : ℕ) → d < m → (m == d) ≡ false
-      differs m d less = grind (arith, nat_tests)
-
+  other_early_day n d less = other_day d n (greater_differs (day_of t f tour n) d less)
   pub its_day : (n : ℕ) → first_on (suc n) (day_of t f tour n) ≡ first_on n (day_of t f tour n) ++ slice_index tour n ∷ []
   unfolding first_on
   its_day n = ap (λ b. legs_on_day t f tour (day_of t f tour n) n ++ (if b then slice_index tour n ∷ [] else [])) (same_number (day_of t f tour n))
@@ -71,13 +58,9 @@ module _ (t : Tables) (f : ℕ) (tour : List ℕ) where
   unfolding first_on
   none_later zero d early = refl
   none_later (suc n) d early =
-      let other : (day_of t f tour n == d) ≡ false = differs (day_of t f tour n) d (early n (omega arith)) in
+      let other : (day_of t f tour n == d) ≡ false = less_differs (day_of t f tour n) d (early n (omega arith)) in
       ap (λ b. legs_on_day t f tour d n ++ (if b then slice_index tour n ∷ [] else [])) other
       ∙ append-nil (legs_on_day t f tour d n) ∙ none_later n d (λ k below. early k (omega arith))
-    where
-      differs : (m d : ℕ) → m < d → (m == d) ≡ false
-      differs m d less = grind (arith, nat_tests)
-
   pub later_day : (n d : ℕ) → day_of t f tour n < d → first_on (suc n) d ≡ []
   later_day n d late = none_later (suc n) d (λ k below. omega (arith, sum_below-le (nights_after t f tour) k n (omega arith), late))
 

@@ -5,11 +5,11 @@ use Rattle.std.proofs.Math.Seq.{take-suc}
 use Rattle.std.proofs.lemmas.List.{append-nil}
 use Rattle.std.proofs.lemmas.List.Folds.{concat-append}
 use Rattle.sums.specs.Places.{list_below}
-use Rattle.sums.proofs.Places.{list_below-more}
+use Rattle.sums.proofs.Places.{list_below-agree, list_below-more}
 use Rattle.sums.proofs.SumBounds.{sum_below-le}
 use Rattle.fleet_model.specs.declared.tables.Tables.{Tables}
 use Rattle.lines_of_flying.specs.Lines.{BeginsAfterNight, day_of, lines_of, nights_after}
-use Rattle.lines_of_flying.proofs.TourLines.{first_on, its_day, later_day, list_below-agree, other_early_day}
+use Rattle.lines_of_flying.proofs.TourLines.{first_on, its_day, later_day, other_early_day}
 
 -- one list more
 joined_more : (f : ℕ → List ℕ) (n : ℕ) → concat (list_below f (suc n)) ≡ concat (list_below f n) ++ f n

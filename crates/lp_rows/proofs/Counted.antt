@@ -1,8 +1,9 @@
 -- How many columns and lines there are.
-use Rattle.std.proofs.Common.{◌≡◌, ℕ, zero, suc, ◌+◌, ◌<◌, Bool, true, false, cond, if◌then◌else◌, List, [], ◌∷◌, ◌++◌, filter, length, map, refl, ◌∙◌, ap, arith, length-append}
+use Rattle.std.proofs.Common.{◌≡◌, ℕ, zero, suc, ◌<◌, Bool, true, false, cond, if◌then◌else◌, List, [], ◌∷◌, ◌++◌, filter, length, map, refl, ◌∙◌, ap, arith, length-append}
 use Rattle.std.proofs.lemmas.List.{length-map}
 use Rattle.std.proofs.lemmas.List.Elements.{filter-append}
 use Rattle.std.proofs.lemmas.List.FromFn.{filter_of_map_range_with_len_more}
+use Rattle.std.proofs.Math.Numerals.{suc-eq-add-one}
 use Rattle.sums.specs.Below.{count_below, sum_below}
 use Rattle.fleet_model.specs.declared.tables.Tables.{Tables}
 use Rattle.fleet_model.specs.Kept.{Domains, kept_on, pairs_kept}
@@ -46,12 +47,8 @@ filter-concat p g count (suc n) each = ap length (filter-append p (concat_below 
 filter-list : {X : Type 0} (p : X → Bool) (f : ℕ → X) (n : ℕ) → length (filter p (list_below f n)) ≡ count_below (λ k. p (f k)) n
 filter-list p f zero = refl
 filter-list p f (suc n) =
-    ap (λ k. length (filter p (list_below f k))) (next n) ∙ ap length (filter_of_map_range_with_len_more p f 0 n n (omega arith))
+    ap (λ k. length (filter p (list_below f k))) (suc-eq-add-one n) ∙ ap length (filter_of_map_range_with_len_more p f 0 n n (omega arith))
     ∙ omega (arith, length-append (filter p (list_below f n)) (cond (p (f n)) (f n ∷ []) []), length-one (p (f n)) (f n), filter-list p f n)
-  where
-    next : (n : ℕ) → suc n ≡ n + 1
-    next n = omega arith
-
 pub arcs_are : (t : Tables) (keeps : Domains) (starts : Starts) → length (all_arcs t keeps starts) ≡ arcs_in t keeps starts
 arcs_are t keeps starts =
     filter-concat (arc_stays t keeps starts) (nodes_of t starts) (λ f. sum_below (arcs_at t keeps starts f) (stations_in t)) (fleets_in t)

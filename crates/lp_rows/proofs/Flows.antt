@@ -1,5 +1,5 @@
 -- Flows over the network: the numbers of columns that meet all lines, in counts.
-use Rattle.std.proofs.Common.{◌≡◌, ℕ, zero, suc, ◌+◌, ◌-◌, ◌*◌, ◌<◌, ◌≤◌, if◌then◌else◌, ◌==◌, length, ◌∙◌, ap, subst, inl, inr, arith}
+use Rattle.std.proofs.Common.{◌≡◌, ℕ, zero, suc, ◌+◌, ◌-◌, ◌*◌, ◌<◌, ◌≤◌, if◌then◌else◌, ◌==◌, length, ◌∙◌, ap, subst, inl, inr, arith, add-one}
 use Rattle.std.proofs.lemmas.Bool.{cases_lt}
 use Rattle.std.proofs.lemmas.Bool.Decides.{nat_tests}
 use Rattle.sums.specs.Below.{sum_below}
@@ -50,9 +50,6 @@ no_last starts v f s none = ap (sum_below (λ k. if length (starts f s) == k + 1
 pub before_next : (n k : ℕ) → place_before n (k + 1) ≡ k
 before_next n k = grind (arith, nat_tests)
 
-pub add_one : (k : ℕ) → k + 1 ≡ suc k
-add_one k = omega arith
-
 module _ (t : Tables) (keeps : Domains) (starts : Starts) (q : ℕ) (v : Column → ℕ) (network : IsNetwork t keeps starts) (weigh : WeighKept t keeps (flown v)) (flow : IsFlow t starts q v) where
   -- an arc has what the last one has and what came, less what left
   abbrev Conserved : ℕ → ℕ → ℕ → Type 0
@@ -75,7 +72,7 @@ module _ (t : Tables) (keeps : Domains) (starts : Starts) (q : ℕ) (v : Column 
         come_first t keeps (flown v) f s starts known weigh at,
       )
   conserved f s known within (suc k) below =
-      subst (Conserved f s) (add_one k) (conserved_next f s known within k (omega arith) (conserved f s known within k (omega arith)))
+      subst (Conserved f s) (add-one k) (conserved_next f s known within k (omega arith) (conserved f s known within k (omega arith)))
 
   balanced : (f s : ℕ) → f < fleets_in t → s < stations_in t → arrived t (flown v) f s last_minute ≡ departed t (flown v) f s last_minute
   balanced f s known within = elim (cases_lt 0 (length (starts f s))) [

@@ -7,6 +7,7 @@ use Rattle.std.specs.List.Sorted.{IsBinarySearchResult}
 use Rattle.std.proofs.lemmas.List.Elements.{filter_more}
 use Rattle.std.proofs.lemmas.List.Sorted.{searched}
 use Rattle.std.proofs.lemmas.List.FromFn.{filter_of_map_range_with_len_more}
+use Rattle.std.proofs.Math.Numerals.{suc-eq-add-one}
 use Rattle.sums.specs.Below.{count_below}
 use Rattle.sums.specs.Places.{list_below}
 use Rattle.sums.proofs.Tests.{by_test}
@@ -40,18 +41,14 @@ module _ {X Y : Type 0} (g : X → Y) (p : X → Bool) (q : ℕ → Bool) (xs : 
   first_numbers : (n : ℕ) → n ≤ length xs → map entry (filter q (list_below (λ k. k) n)) ≡ map g (filter p (take n xs))
   first_numbers zero within = refl
   first_numbers (suc n) within =
-      ap (λ m. map entry (filter q (list_below (λ k. k) m))) (next n)
+      ap (λ m. map entry (filter q (list_below (λ k. k) m))) (suc-eq-add-one n)
       ∙ ap (map entry) (filter_of_map_range_with_len_more q (λ k. k) 0 n n (omega arith))
       ∙ map-append entry (filter q (list_below (λ k. k) n)) (cond (q n) (n ∷ []) [])
       ∙ ap (λ ys. ys ++ map entry (cond (q n) (n ∷ []) [])) (first_numbers n (omega arith))
       ∙ ap (λ ys. map g (filter p (take n xs)) ++ ys) (one (q n) (p (get_or xs n d)) n (same n (omega arith)))
       ∙ sym (map-append g (filter p (take n xs)) (cond (p (get_or xs n d)) (get_or xs n d ∷ []) []))
       ∙ sym (ap (map g) (filter_more p xs n d (omega arith)))
-      ∙ ap (λ m. map g (filter p (take m xs))) (sym (next n))
-    where
-      next : (n : ℕ) → suc n ≡ n + 1
-      next n = omega arith
-
+      ∙ ap (λ m. map g (filter p (take m xs))) (sym (suc-eq-add-one n))
   all_numbers : map entry (filter q (list_below (λ k. k) (length xs))) ≡ map g (filter p xs)
   all_numbers = first_numbers (length xs) (omega arith) ∙ ap (λ ys. map g (filter p ys)) (take_all (length xs) xs (omega arith))
 
@@ -70,9 +67,6 @@ module _ (p : ℕ → Bool) where
   unfolding passing_below
   one_number_more n = filter_of_map_range_with_len_more p (λ k. k) 0 n n (omega arith)
 
-  next : (n : ℕ) → suc n ≡ n + 1
-  next n = omega arith
-
   one_long : (b : Bool) (n : ℕ) → length (if b then n ∷ [] else []) ≡ (if b then 1 else 0)
   one_long true n = refl
   one_long false n = refl
@@ -80,7 +74,7 @@ module _ (p : ℕ → Bool) where
   pub passing_long : (n : ℕ) → length (passing_below p n) ≡ count_below p n
   passing_long zero = ap length no_number
   passing_long (suc n) =
-      ap (λ m. length (passing_below p m)) (next n) ∙ ap length (one_number_more n)
+      ap (λ m. length (passing_below p m)) (suc-eq-add-one n) ∙ ap length (one_number_more n)
       ∙ omega (arith, length-append (passing_below p n) (if p n then n ∷ [] else []), one_long (p n) n, passing_long n)
 
   pub few_pass : (n : ℕ) → count_below p n ≤ n
@@ -115,7 +109,7 @@ module _ (p : ℕ → Bool) where
   pub placed : (n place : ℕ) → place < length (passing_below p n) → IsPlaced n place (get_or (passing_below p n) place 0)
   placed zero place within = absurd (omega (arith, within, ap length no_number))
   placed (suc n) place within =
-      let e : passing_below p (suc n) ≡ passing_below p n ++ (if p n then n ∷ [] else []) = ap (passing_below p) (next n) ∙ one_number_more n in
+      let e : passing_below p (suc n) ≡ passing_below p n ++ (if p n then n ∷ [] else []) = ap (passing_below p) (suc-eq-add-one n) ∙ one_number_more n in
       subst (λ xs. IsPlaced (suc n) place (get_or xs place 0)) (sym e)
       (in_step (p n) (passing_below p n) n place refl (passing_long n) (placed n place) (omega (arith, within, ap length e)))
 

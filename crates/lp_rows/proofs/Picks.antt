@@ -6,9 +6,9 @@ use lib.IntN.{zero-*ℤ}
 use Rattle.sums.specs.Below.{sum_below, sum_below_ℤ}
 use Rattle.sums.proofs.Integers.{one-*ℤ, -ℤ-*ℤ}
 use Rattle.sums.proofs.Sums.{sum_below-agree, sum_below-one}
-use Rattle.sums.proofs.WholeSums.{sum_below_ℤ-same, sum_below_ℤ--ℤ, sum_below_ℤ-pos}
+use Rattle.sums.proofs.WholeSums.{sum_below_ℤ-same}
 use Rattle.sums.proofs.WholeSwaps.{sum_below_ℤ-one, where_true}
-use Rattle.sums.proofs.Tests.{by_test}
+use Rattle.sums.proofs.NumberTests.{if_at}
 use Rattle.lp_rows.specs.Entries.{one_if, place_after}
 use Rattle.lp_rows.proofs.ListSums.{test_out}
 
@@ -37,9 +37,6 @@ pick_fleet fleets stations a len u here =
     (λ f below. sum_below_ℤ-same (λ s. sum_below_ℤ (λ k. where_true (a == f) (u f s k)) (len f s)) (λ s. where_true (a == f) (sum_below_ℤ (u f s) (len f s))) stations (λ s lt. test_out (a == f) (u f s) (len f s))
     ∙ test_out (a == f) (λ s. sum_below_ℤ (u f s) (len f s)) stations)
     ∙ sum_below_ℤ-one a (λ f. sum_below_ℤ (λ s. sum_below_ℤ (u f s) (len f s)) stations) fleets here
-
-if_at : (a k : ℕ) (v : ℕ → ℕ) → ◌≡◌ {A = ℕ} (if a == k then v k else 0) (if a == k then v a else 0)
-if_at a k v = by_test (a == k) (λ e. let same : a ≡ k = grind (arith, nat_tests) in rw same refl) (λ e. rw e refl)
 
 -- a count at one place
 pub count_at : (a : ℕ) (v : ℕ → ℕ) (n : ℕ) → a < n → sum_below (λ k. if a == k then v k else 0) n ≡ v a
@@ -78,7 +75,3 @@ one_test false a v = zero-*ℤ (pos v)
 pub times_test : (e : Bool) (n v : ℕ) → (if e then pos n else pos 0) *ℤ pos v ≡ where_true e (pos n *ℤ pos v)
 times_test true n v = refl
 times_test false n v = zero-*ℤ (pos v)
-
--- a difference of counts
-pub of_differences : (f g : ℕ → ℕ) (n : ℕ) → sum_below_ℤ (λ k. pos (f k) -ℤ pos (g k)) n ≡ pos (sum_below f n) -ℤ pos (sum_below g n)
-of_differences f g n = sum_below_ℤ--ℤ (λ k. pos (f k)) (λ k. pos (g k)) n ∙ omega (arith, ints, sum_below_ℤ-pos f n, sum_below_ℤ-pos g n)

@@ -1,5 +1,5 @@
 -- A mixed plan, with the aircraft on the ground and those not used, is a point of the lines.
-use Rattle.std.proofs.Common.{◌≡◌, ℕ, zero, suc, ◌+◌, ◌-◌, ◌*◌, ◌<◌, Bool, true, false, if◌then◌else◌, ◌==◌, ◌&&◌, length, get_or, Option, Some, None, is_none, pos, ◌+ℤ◌, ◌-ℤ◌, ◌*ℤ◌, refl, sym, ◌∙◌, ap, inl, inr, arith}
+use Rattle.std.proofs.Common.{◌≡◌, ℕ, zero, suc, ◌+◌, ◌-◌, ◌*◌, ◌<◌, Bool, true, false, if◌then◌else◌, ◌==◌, ◌&&◌, length, get_or, Option, Some, None, is_none, pos, ◌+ℤ◌, ◌-ℤ◌, ◌*ℤ◌, refl, sym, ◌∙◌, ap, inl, inr, arith, add-one}
 use Rattle.std.proofs.lemmas.Bool.{cases_lt}
 use Rattle.std.proofs.lemmas.Int.{ints}
 use Rattle.std.proofs.Math.Nat.{mul_comm}
@@ -31,7 +31,7 @@ use Rattle.lp_rows.specs.declared.kinds.Line.TheVariants.{Cover, Balance, Count}
 use Rattle.lp_rows.specs.Entries.{IsLine, IsNode, entry_of, right_side_of}
 use Rattle.lp_rows.specs.Layout.{IsNetwork, Starts, arc_stays, columns_of, lines_of, moment_at, node_at}
 use Rattle.lp_rows.specs.Points.{PlansArePoints, column_at, same_column, value_of}
-use Rattle.lp_rows.proofs.Flows.{IsFlow, add_one, before_next, flown, last_is, no_last}
+use Rattle.lp_rows.proofs.Flows.{IsFlow, before_next, flown, last_is, no_last}
 use Rattle.lp_rows.proofs.LineNumbers.{line_count, right_side_at, sum_at}
 use Rattle.lp_rows.proofs.LineSums.{StandOnArcs, balance_sum, coming_to, count_sum, cover_sum, last_arc, leaving_from, line_sum}
 use Rattle.lp_rows.proofs.NodeCounts.{come_first, come_next, left_first, left_next, no_need}
@@ -93,7 +93,7 @@ module _ (t : Tables) (keeps : Domains) (starts : Starts) (q : ℕ) (w : Weights
         left_first t keeps w f s starts known weighs_kept at,
         come_first t keeps w f s starts known weighs_kept at,
       )
-  keeps_at f s (suc k) known within below = rw (← add_one k) (keeps_next f s k known within (omega arith))
+  keeps_at f s (suc k) known within below = rw (← add-one k) (keeps_next f s k known within (omega arith))
 
   arc_is_need : (f s : ℕ) → f < fleets_in t → s < stations_in t → last_arc starts (plan_value t starts q w) f s ≡ need_of t w f s
   arc_is_need f s known within = elim (cases_lt 0 (length (starts f s))) [

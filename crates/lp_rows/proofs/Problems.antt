@@ -8,14 +8,14 @@ use Rattle.std.proofs.lemmas.List.Elements.{All-map, recursion_from_All}
 use Rattle.sums.proofs.Sums.{sum_below-bound}
 use Rattle.frac_row.specs.Outgrown.{IsWithin}
 use Rattle.fleet_model.specs.declared.limits.TheConstants.{MINUTES_PER_PERIOD}
-use Rattle.fleet_model.specs.declared.parts.Pair.{Pair}
 use Rattle.fleet_model.specs.declared.tables.Tables.{Tables}
 use Rattle.fleet_model.specs.Kept.{Domains}
 use Rattle.fleet_model.specs.Legal.{cost_of}
-use Rattle.fleet_model.specs.Limits.{IsCost, IsFleet, IsLeg, IsPairCost, IsStation}
-use Rattle.fleet_model.specs.Schedule.{IsPair, fleet_of, fleets_in, leg_of, legs_in, no_fleet, no_leg, no_station, station_of, stations_in}
+use Rattle.fleet_model.specs.Limits.{IsCost, IsFleet, IsPairCost}
+use Rattle.fleet_model.specs.Schedule.{fleet_of, fleets_in, legs_in, no_fleet, stations_in}
 use Rattle.fleet_model.specs.Times.{laps_of}
 use Rattle.fleet_model.proofs.CostLookup.{found_fits}
+use Rattle.fleet_model.proofs.Minutes.{few_laps}
 use Rattle.row_store.specs.Problem.{IsProblem, entry}
 use Rattle.row_store.specs.declared.problem.Rows.{Rows}
 use Rattle.lp_rows.specs.declared.kinds.Column.{Column}
@@ -42,14 +42,6 @@ small_two false false = omega arith
 small_laps : (b : Bool) (n : ℕ) → n ≤ 2 → unsigned_abs (if b then pos n else pos 0) ≤ 2
 small_laps true n few = few
 small_laps false n few = omega arith
-
--- a flight with its turn takes less than three periods
-few_laps : (t : Tables) (p : Pair) → IsPair t p → laps_of t p ≤ 2
-few_laps t p known =
-    let leg : IsLeg (stations_in t) (leg_of t p.leg) = t.in_range.legs_fit.each p.leg no_leg known.leg in
-    let fleet : IsFleet (fleet_of t p.fleet) = t.in_range.fleets_fit.each p.fleet no_fleet known.fleet in
-    let station : IsStation (station_of t (leg_of t p.leg).to) = t.in_range.stations_fit.each (leg_of t p.leg).to no_station leg.to in
-    omega (arith, leg.dep, leg.block, fleet.turn, station.extra)
 
 small_entry : (t : Tables) (starts : Starts) (line : Line) (column : Column) → IsColumn t starts column → unsigned_abs (entry_of t starts line column) ≤ 2
 small_entry t starts (Cover l) (Flight p) known = small_one (l == p.leg)

@@ -10,9 +10,10 @@ use Rattle.fleet_model.specs.Whole.{KeepAllowed}
 use Rattle.fleet_model.specs.declared.tables.Tables.{Tables}
 use Rattle.dual_bound.specs.OfTables.{IsStepOf}
 use Rattle.dual_bound.specs.Prices.{ArePrices, price_after, price_of, rent_of}
-use Rattle.dual_bound.specs.WrittenOrder.{IsFigure, IsStepInOrder}
+use Rattle.dual_bound.specs.WrittenOrder.{IsStepInOrder}
 use Rattle.dual_bound.specs.declared.prices.Prices.{Prices}
 use Rattle.dual_bound.specs.declared.trees.Tree.{Tree}
+use Rattle.dual_bound.proofs.StepOrder.{zero_figure}
 use Rattle.presolve.specs.Removals.{AreRefuted, kept_after, without}
 use Rattle.presolve.specs.declared.trims.Trim.{Trim as Removal}
 use Rattle.node_bounding.specs.Causes.{zero_prices}
@@ -81,9 +82,6 @@ zero_proper t = record {
   fall = record { each = λ f s m known there early. omega (arith, ints, zero_price t f s m, zero_price t f s (m + 1)) };
   rise = record { each = λ f s known there. omega (arith, ints, zero_price t f s 0, zero_price t f s last_minute, zero_rent t f known) };
 }
-
-zero_figure : IsFigure (pos 0)
-zero_figure = record { no_less = omega (arith, ints); no_more = omega (arith, ints) }
 
 pub zero_good : (t : Tables) → AreGood t (zero_prices t)
 zero_good t = record {

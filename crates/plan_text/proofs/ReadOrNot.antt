@@ -1,10 +1,9 @@
 -- Any records are those of one plan or have one first fault, and not both.
-use Rattle.std.proofs.Common.{◌≡◌, ◌≢◌, ℕ, zero, suc, ◌+◌, ◌<◌, ◌≤◌, List, [], ◌∷◌, codes, length, bytes_eq, Result, Ok, Err, refl, sym, ap, ◌∙◌, inl, inr, add-one, arith}
+use Rattle.std.proofs.Common.{◌≡◌, ℕ, zero, suc, ◌+◌, ◌<◌, ◌≤◌, List, [], ◌∷◌, codes, length, Result, Ok, Err, refl, sym, ap, ◌∙◌, inl, inr, add-one, arith}
 use Rattle.std.specs.Prelude.{◌⊎◌, MatchResult}
-use Rattle.std.proofs.lemmas.Bool.{cases_Bool, cases_lt}
+use Rattle.std.proofs.lemmas.Bool.{cases_lt}
 use Rattle.std.proofs.lemmas.List.{get_or_default, same_lists}
-use Rattle.std.proofs.lemmas.Slice.Eq.{bytes_eq-Decides}
-use Rattle.table_rows.proofs.FrontReading.{bytes_eq-self}
+use Rattle.table_rows.proofs.OneReading.{same_text}
 use Rattle.fleet_model.specs.Counts.{fleet_at}
 use Rattle.fleet_model.specs.Schedule.{legs_in}
 use Rattle.fleet_model.specs.declared.tables.Tables.{Tables}
@@ -17,13 +16,6 @@ use Rattle.plan_text.specs.Text.{leg_record, leg_records, plan_header}
 use Rattle.plan_text.proofs.Records.{leg_record_at, no_fault, pair_reads}
 use Rattle.plan_text.proofs.SoFar.{AreRead, ReadSoFar, so_far_all, so_far_bad, so_far_missing, so_far_none, so_far_push}
 
--- a text is another or not
-text_is : (a b : List ℕ) → (a ≡ b) ⊎ (a ≢ b)
-text_is a b = elim (cases_Bool (bytes_eq a b)) [
-  | inl same ↦ inl ((bytes_eq-Decides a b).0 same)
-  | inr differ ↦ inr (λ same. cc (sym differ ∙ ap (bytes_eq a) (sym same) ∙ bytes_eq-self a))
-]
-
 -- the header stands first or not
 Headed : List Fields → Type 0
 Headed records = ((rows : List Fields) × IsUnder plan_header records rows) ⊎ LacksHeader plan_header records
@@ -34,8 +26,8 @@ headed [] = inr (λ rest same. cc same)
 headed ([] ∷ rows) = inr (λ rest same. cc same)
 headed ((a ∷ []) ∷ rows) = inr (λ rest same. cc same)
 headed ((a ∷ b ∷ c ∷ more) ∷ rows) = inr (λ rest same. cc same)
-headed ((a ∷ b ∷ []) ∷ rows) = elim (text_is a (codes "flight")) [
-  | inl flight ↦ elim (text_is b (codes "fleet")) [
+headed ((a ∷ b ∷ []) ∷ rows) = elim (same_text a (codes "flight")) [
+  | inl flight ↦ elim (same_text b (codes "fleet")) [
     | inl fleet ↦ inl (rows, rw (flight, fleet) refl)
     | inr other ↦ inr (λ rest same. other (cc same))
   ]

@@ -4,12 +4,12 @@ use Rattle.std.proofs.lemmas.Bool.Decides.{nat_tests}
 use Rattle.sums.proofs.Counts.{count_below-one}
 use Rattle.sums.proofs.Sums.{sum_below-agree, sum_below-bound, sum_below-zero}
 use Rattle.fleet_model.specs.Kept.{Domains, kept_on}
-use Rattle.fleet_model.specs.Limits.{IsFleet, IsLeg, IsStation}
-use Rattle.fleet_model.specs.Schedule.{IsPair, fleet_of, fleets_in, leg_of, leg_on, legs_in, no_fleet, no_leg, no_station, station_of, stations_in}
-use Rattle.fleet_model.specs.Times.{departure, laps_of}
+use Rattle.fleet_model.specs.Schedule.{IsPair, fleets_in, leg_on, legs_in}
+use Rattle.fleet_model.specs.Times.{departure}
 use Rattle.fleet_model.specs.declared.limits.TheConstants.{MAX_LEGS}
 use Rattle.fleet_model.specs.declared.parts.Pair.{Pair}
 use Rattle.fleet_model.specs.declared.tables.Tables.{Tables}
+use Rattle.fleet_model.proofs.Minutes.{few_laps}
 use Rattle.dual_bound.specs.Bound.{part}
 use Rattle.presolve.specs.Choices.{all_busy_alone, busy_alone, busy_alone_at}
 use Rattle.presolve.specs.Rules.{busy_at, busy_on, come_by, has_only, surely_busy}
@@ -17,14 +17,6 @@ use Rattle.presolve.specs.declared.cells.TheConstants.{CELL_WIDTH}
 use Rattle.presolve.proofs.CellLaws.{fleet_of_cell, place_of_cell}
 use Rattle.presolve.proofs.KeptParts.{on_others, other_leg_same, own_leg_fewer}
 use Rattle.sums.proofs.OneChanged.{sum_below-more}
-
--- a pair keeps three aircraft busy at most
-few_laps : (t : Tables) (p : Pair) → IsPair t p → laps_of t p ≤ 2
-few_laps t p pair =
-    let leg : IsLeg (stations_in t) (leg_of t p.leg) = t.in_range.legs_fit.each p.leg no_leg pair.leg in
-    let fleet : IsFleet (fleet_of t p.fleet) = t.in_range.fleets_fit.each p.fleet no_fleet pair.fleet in
-    let station : IsStation (station_of t (leg_of t p.leg).to) = t.in_range.stations_fit.each (leg_of t p.leg).to no_station leg.to in
-    omega (arith, leg.dep, leg.block, fleet.turn, station.extra)
 
 one_come : (minute m : ℕ) → come_by minute m ≤ 1
 one_come minute m = grind (arith, nat_tests)

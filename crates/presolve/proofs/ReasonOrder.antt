@@ -15,27 +15,22 @@ use Rattle.dual_bound.specs.Order.{step_follows}
 use Rattle.dual_bound.specs.WrittenOrder.{ArePricesInOrder, AreStepsInOrder, IsFigure, IsStepInOrder, NoLoneZero, StepsFollow, goes_on}
 use Rattle.dual_bound.specs.declared.prices.Prices.{Prices}
 use Rattle.dual_bound.specs.declared.prices.PriceStep.{PriceStep}
+use Rattle.dual_bound.proofs.StepOrder.{one_figure, zero_figure}
 use Rattle.presolve.specs.Reasons.{reason_rent, reason_steps, steps_at, steps_until}
 use Rattle.presolve.specs.declared.rule.Rule.{Rule}
 use Rattle.presolve.specs.declared.rule.Rule.TheVariants as rule
-
-one_figure : IsFigure (pos 1)
-one_figure = record { no_less = omega (arith, ints); no_more = omega (arith, ints) }
-
-no_figure : IsFigure (pos 0)
-no_figure = record { no_less = omega (arith, ints); no_more = omega (arith, ints) }
 
 less_figure : IsFigure (negsuc 0)
 less_figure = record { no_less = omega (arith, ints); no_more = omega (arith, ints) }
 
 rent_figure : (why : Rule) (p : Pair) (f : ℕ) → IsFigure (reason_rent why p f)
-rent_figure rule.NoArrival p f = no_figure
-rent_figure rule.NoDeparture p f = no_figure
+rent_figure rule.NoArrival p f = zero_figure
+rent_figure rule.NoDeparture p f = zero_figure
 rent_figure rule.TooFewAircraft p f = either (f == p.fleet)
   where
     either : (b : Bool) → IsFigure (if b then pos 1 else pos 0)
     either true = one_figure
-    either false = no_figure
+    either false = zero_figure
 
 abbrev step_of : ℕ → ℕ → ℕ → ℤ → PriceStep
 step_of f s m z = record { fleet = f; station = s; minute = m; value = z }
@@ -150,7 +145,7 @@ each_in_order t fleet minute (suc n) known within =
 
     there : (b : Bool) → (b ≡ true → minute + 1 ≤ last_minute) → All (IsStepInOrder t) (step_of fleet n 0 (pos 1) ∷ (if b then step_of fleet n (minute + 1) (pos 0) ∷ [] else []))
     there true early = All-from_recursion (IsStepInOrder t) (step_of fleet n 0 (pos 1) ∷ step_of fleet n (minute + 1) (pos 0) ∷ [])
-        (first, (record { fleet = known; station = omega arith; minute = early refl; value = no_figure }, tt))
+        (first, (record { fleet = known; station = omega arith; minute = early refl; value = zero_figure }, tt))
     there false early = All-from_recursion (IsStepInOrder t) (step_of fleet n 0 (pos 1) ∷ []) (first, tt)
 
 -- one step all day

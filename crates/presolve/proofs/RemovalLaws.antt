@@ -1,6 +1,6 @@
 -- What removals show, and how many there are.
-use Rattle.std.proofs.Common.{◌≡◌, ℕ, ◌+◌, ◌<◌, Bool, true, false, if◌then◌else◌, ◌==◌, nat_lt, Option, Some, None, List, [], ◌∷◌, length, pos, ◌<ℤ◌, refl, arith}
-use Rattle.std.proofs.lemmas.Bool.Decides.{nat_tests}
+use Rattle.std.proofs.Common.{◌≡◌, ◌+◌, Bool, true, false, if◌then◌else◌, ◌==◌, nat_lt, Option, Some, None, List, [], ◌∷◌, length, pos, ◌<ℤ◌, refl, arith}
+use Rattle.std.proofs.lemmas.Bool.{ltb-true}
 use Rattle.sums.proofs.Naturals.{zero_number}
 use Rattle.fleet_model.specs.Kept.{Domains, pairs_kept}
 use Rattle.fleet_model.specs.Schedule.{IsPair, fleet_of, leg_of}
@@ -51,16 +51,13 @@ kept_rule false o why e = cc
 pub is_kept : (t : Tables) (keeps : Domains) (p : Pair) (why : Rule) → removed_by t keeps p ≡ Some why → keeps p ≡ true
 is_kept t keeps p why e = (kept_rule (keeps p) (rule_of t keeps p) why e).0
 
-less : (m n : ℕ) → nat_lt m n ≡ true → m < n
-less m n e = grind (arith, nat_tests)
-
 -- by the first rule that a pair meets, its reason shows that nothing legal is left where it is flown
 by_rule : (t : Tables) (keeps : Domains) (p : Pair) (why : Rule) (prices : Prices) → IsPair t p → keeps p ≡ true → IsReason t why p prices
     → PassesAs (landings t keeps p.fleet (leg_of t p.leg).from == 0) (departures t keeps p.fleet (leg_of t p.leg).to == 0) (nat_lt (fleet_of t p.fleet).aircraft (surely_busy t keeps p (departure t p))) why
     → pos 0 <ℤ worth_of t (part keeps p.leg p.fleet true) prices 0
 by_rule t keeps p rule.NoArrival prices pair kept reason test = no_arrival_refutes t keeps p prices pair kept (zero_number (landings t keeps p.fleet (leg_of t p.leg).from) test) reason
 by_rule t keeps p rule.NoDeparture prices pair kept reason test = no_departure_refutes t keeps p prices pair kept (zero_number (departures t keeps p.fleet (leg_of t p.leg).to) test) reason
-by_rule t keeps p rule.TooFewAircraft prices pair kept reason test = too_few_refutes t keeps p prices pair kept (less (fleet_of t p.fleet).aircraft (surely_busy t keeps p (departure t p)) test) reason
+by_rule t keeps p rule.TooFewAircraft prices pair kept reason test = too_few_refutes t keeps p prices pair kept (ltb-true (fleet_of t p.fleet).aircraft (surely_busy t keeps p (departure t p)) test) reason
 
 rule_refutes : (t : Tables) (keeps : Domains) (p : Pair) (why : Rule) (prices : Prices) → IsPair t p → removed_by t keeps p ≡ Some why → IsReason t why p prices
     → pos 0 <ℤ worth_of t (part keeps p.leg p.fleet true) prices 0

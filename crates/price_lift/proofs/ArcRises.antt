@@ -1,8 +1,10 @@
 -- The rises by the numbers of nodes are those over all arcs that went, each once.
-use Rattle.std.proofs.Common.{◌≡◌, ◌≢◌, ℕ, ◌+◌, ◌*◌, ◌<◌, ◌≤◌, Bool, true, false, int_lt, List, length, get_or, Option, Some, None, unwrap_or, ℤ, pos, ◌<ℤ◌, refl, sym, ◌∙◌, ap, ap₂, subst, arith}
+use Rattle.std.proofs.Common.{◌≡◌, ◌≢◌, ℕ, ◌+◌, ◌*◌, ◌<◌, ◌≤◌, Bool, true, int_lt, List, length, get_or, Option, Some, None, unwrap_or, ℤ, pos, ◌<ℤ◌, refl, sym, ◌∙◌, ap, ap₂, subst, arith}
 use Rattle.std.proofs.lemmas.Int.{ints}
 use Rattle.std.proofs.Math.Nat.{mul-le-mul_right}
+use mathlib.Core.Bool.{false≢true}
 use Rattle.sums.proofs.Sums.{sum_below-bound}
+use Rattle.sums.proofs.Sizes.{above_tested}
 use Rattle.fleet_model.specs.Schedule.{fleets_in, stations_in}
 use Rattle.fleet_model.specs.declared.limits.TheConstants.{MAX_STATIONS, MINUTES_PER_PERIOD}
 use Rattle.fleet_model.specs.declared.tables.Tables.{Tables}
@@ -41,15 +43,8 @@ pub record GoesUp (prices : Prices) (starts : List ℕ) (f s k : ℕ) (moment : 
   pub some : pos 0 <ℤ rise_over prices starts f s k
 
 up : (prices : Prices) (starts : List ℕ) (f s k : ℕ) (moment : Option ℕ) → goes_up prices starts f s k moment ≡ true → GoesUp prices starts f s k moment
-up prices starts f s k None e = absurd (clash e)
-  where
-    clash : false ≡ true → ⊥
-    clash e = cc
-up prices starts f s k (Some m) e = record { at = m; went = refl; some = above (rise_over prices starts f s k) e }
-  where
-    above : (z : ℤ) → int_lt (pos 0) z ≡ true → pos 0 <ℤ z
-    above z e = grind (arith, ints)
-
+up prices starts f s k None e = absurd (false≢true e)
+up prices starts f s k (Some m) e = record { at = m; went = refl; some = above_tested (rise_over prices starts f s k) e }
 up_there : (prices : Prices) (starts : List ℕ) (f s k m : ℕ) (moment : Option ℕ) → moment ≡ Some m → pos 0 <ℤ rise_over prices starts f s k → goes_up prices starts f s k moment ≡ true
 up_there prices starts f s k m None went some = absurd (clash went)
   where

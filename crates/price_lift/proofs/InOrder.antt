@@ -6,6 +6,7 @@ use Rattle.frac_row.specs.Outgrown.{IsWithin}
 use Rattle.frac_row.specs.Row.{IsRow, number_of, reduced}
 use Rattle.frac_row.specs.declared.row.FracRow.{FracRow}
 use Rattle.frac_row.proofs.Rows.{reduced_is_row}
+use Rattle.frac_row.proofs.Combinations.{opposite_within}
 use Rattle.fleet_model.specs.declared.tables.Tables.{Tables}
 use Rattle.fleet_model.specs.Kept.{Domains, pairs_kept}
 use Rattle.fleet_model.specs.Schedule.{fleets_in}
@@ -29,9 +30,6 @@ use Rattle.row_store.specs.Table.{height_of}
 -- ---- numbers that a text may hold
 figure : (z : ℤ) → IsWithin z → IsFigure z
 figure z within = record { no_less = omega (arith, ints); no_more = omega (arith, ints) }
-
-opposite_within : (z : ℤ) → IsWithin z → IsWithin (neg_ℤ z)
-opposite_within z within = omega (arith, ints)
 
 small_figure : (n : ℕ) → n ≤ max_scale → IsFigure (pos n)
 small_figure n small = figure (pos n) (omega (arith, ints))

@@ -1,7 +1,6 @@
 -- The moments of a network's arcs: where they lie, that no event lies between, and that they are idle minutes.
 use Rattle.std.proofs.Common.{◌≡◌, ℕ, ◌+◌, ◌<◌, ◌≤◌, true, ◌==◌, length, get_or, Some, IsSome, subst, inl, inr, arith}
-use Rattle.std.proofs.lemmas.Bool.{cases_lt}
-use Rattle.std.proofs.lemmas.Bool.Decides.{nat_tests}
+use Rattle.std.proofs.lemmas.Bool.{cases_lt, eqb-true}
 use Rattle.sums.proofs.Tests.{no_both, parts_true}
 use Rattle.fleet_model.specs.Kept.{Domains}
 use Rattle.fleet_model.specs.Legal.{cost_of}
@@ -17,22 +16,18 @@ use Rattle.island_arcs.specs.Waits.{is_among, is_quiet}
 use Rattle.island_arcs.proofs.AllowedPairs.{allowed_tested}
 use Rattle.island_arcs.proofs.EmptyArcs.{IsMoment, moment_is}
 use Rattle.island_arcs.proofs.QuietMinutes.{departs_elsewhere, ready_elsewhere}
+use Rattle.island_arcs.proofs.Ends.{among_ends, among_where}
 use Rattle.lp_rows.specs.Layout.{IsNetwork, Starts}
 use Rattle.island_prices.specs.Arcs.{AreMoments, IsQuiet}
 use Rattle.island_prices.proofs.Arcs.{first_departs}
 use Rattle.price_lift.specs.PaidBack.{moments_by}
 
 -- ---- minutes without events
-among : (low high m : ℕ) → low ≤ m → m ≤ high → is_among low high m ≡ true
-among low high m from to = grind (arith, nat_tests)
-
-ends : (low high m : ℕ) → is_among low high m ≡ true → (low ≤ m) × (m ≤ high)
-ends low high m e = (grind (arith, nat_tests), grind (arith, nat_tests))
 
 quiet_so : (t : Tables) (keeps : Domains) (f s low high : ℕ) → is_quiet t keeps f s low high ≡ true → IsQuiet t keeps f s low high
 quiet_so t keeps f s low high quiet = record {
-  departs = λ l below kept from first last. no_both (departs_elsewhere t keeps f s low high quiet l below kept from) (among low high (departure t (leg_on l f)) first last);
-  lands = λ l below kept to first last. no_both (ready_elsewhere t keeps f s low high quiet l below kept to) (among low high (ready_minute t (leg_on l f)) first last);
+  departs = λ l below kept from first last. no_both (departs_elsewhere t keeps f s low high quiet l below kept from) (among_where low high (departure t (leg_on l f)) first last);
+  lands = λ l below kept to first last. no_both (ready_elsewhere t keeps f s low high quiet l below kept to) (among_where low high (ready_minute t (leg_on l f)) first last);
 }
 
 module _ (t : Tables) (keeps : Domains) (starts : Starts) (network : IsNetwork t keeps starts) where
@@ -56,24 +51,20 @@ module _ (t : Tables) (keeps : Domains) (starts : Starts) (network : IsNetwork t
     in_node = λ f s k m known within below several went begun. elim (moment_there f s k m went).waits [
       | inl waits ↦
           let parts = parts_true (is_among (get_or (starts f s) k 0) (node_end (starts f s) k) m) (is_quiet t keeps f s (m + 1) (node_end (starts f s) k)) waits in
-          ((ends (get_or (starts f s) k 0) (node_end (starts f s) k) m parts.0).1, quiet_so t keeps f s (m + 1) (node_end (starts f s) k) parts.1)
+          ((among_ends (get_or (starts f s) k 0) (node_end (starts f s) k) m parts.0).1, quiet_so t keeps f s (m + 1) (node_end (starts f s) k) parts.1)
       | inr waits ↦
           let parts = parts_true (k + 1 == length (starts f s)) (is_quiet t keeps f s 0 m) waits in
-          absurd (not_round f s k m known within below several begun (number (k + 1) (length (starts f s)) parts.0) (quiet_so t keeps f s 0 m parts.1))
+          absurd (not_round f s k m known within below several begun (eqb-true (k + 1) (length (starts f s)) parts.0) (quiet_so t keeps f s 0 m parts.1))
     ];
     round = λ f s k m known within below several went early. elim (moment_there f s k m went).waits [
       | inl waits ↦
           let parts = parts_true (is_among (get_or (starts f s) k 0) (node_end (starts f s) k) m) (is_quiet t keeps f s (m + 1) (node_end (starts f s) k)) waits in
-          absurd (omega (arith, early, (ends (get_or (starts f s) k 0) (node_end (starts f s) k) m parts.0).0))
+          absurd (omega (arith, early, (among_ends (get_or (starts f s) k 0) (node_end (starts f s) k) m parts.0).0))
       | inr waits ↦
           let parts = parts_true (k + 1 == length (starts f s)) (is_quiet t keeps f s 0 m) waits in
-          (number (k + 1) (length (starts f s)) parts.0, quiet_so t keeps f s 0 m parts.1)
+          (eqb-true (k + 1) (length (starts f s)) parts.0, quiet_so t keeps f s 0 m parts.1)
     ];
   }
-    where
-      number : (a b : ℕ) → (a == b) ≡ true → a ≡ b
-      number a b e = grind (arith, nat_tests)
-
   -- ---- a moment is an idle minute, and where there is one each kept pair may be flown
   pub at_idle : (f s k m : ℕ) → s < stations_in t → moments_by t keeps starts f s k ≡ Some m → IsIdle t s m
   at_idle f s k m within went = let is = moment_there f s k m went in record { station = within; minute = is.minute; idle = is.idle }

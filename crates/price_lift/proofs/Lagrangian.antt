@@ -1,7 +1,7 @@
 -- Prices by the nodes whose lines weigh no column above its cost rise over no arc that stays, and are worth what the right sides
 -- come to.
-use Rattle.std.proofs.Common.{◌≡◌, ◌≢◌, ℕ, zero, suc, ◌+◌, ◌<◌, ◌≤◌, Bool, true, false, ◌==◌, ◌&&◌, nat_le, length, get_or, None, is_none, ℤ, pos, neg_ℤ, ◌+ℤ◌, ◌-ℤ◌, ◌*ℤ◌, ◌<ℤ◌, ◌≤ℤ◌, unsigned_abs, refl, sym, ◌∙◌, ap, subst, inl, inr, arith}
-use Rattle.std.proofs.lemmas.Bool.{cases_lt}
+use Rattle.std.proofs.Common.{◌≡◌, ◌≢◌, ℕ, zero, suc, ◌+◌, ◌<◌, ◌≤◌, Bool, true, false, ◌==◌, ◌&&◌, nat_le, length, get_or, None, is_none, ℤ, pos, neg_ℤ, ◌+ℤ◌, ◌-ℤ◌, ◌*ℤ◌, ◌<ℤ◌, ◌≤ℤ◌, unsigned_abs, refl, sym, ◌∙◌, ap, subst, inl, inr, arith, pos_of_ne-zero}
+use Rattle.std.proofs.lemmas.Bool.{cases_lt, eqb-true, ne_eqb}
 use Rattle.std.proofs.lemmas.Bool.Decides.{nat_tests}
 use Rattle.std.proofs.lemmas.Int.{ints}
 use lib.IntN.{*ℤ-zero}
@@ -12,6 +12,7 @@ use Rattle.sums.proofs.WholeSwaps.{sum_below_ℤ-one, where_true}
 use Rattle.sums.proofs.Orders.{sum_below_ℤ-le}
 use Rattle.sums.proofs.Signs.{factor_le_cancel, factor_at_least_0}
 use Rattle.sums.proofs.Naturals.{empty_is, equal_number}
+use Rattle.sums.proofs.Tests.{same_tests}
 use Rattle.fleet_model.specs.declared.tables.Tables.{Tables}
 use Rattle.fleet_model.specs.Kept.{Domains, IsBare, kept_on}
 use Rattle.fleet_model.specs.Schedule.{fleet_of, fleets_in, leg_of, leg_on, legs_in, no_leg, stations_in}
@@ -41,17 +42,6 @@ use Rattle.price_lift.proofs.Minutes.{IsAtPlace, Rise, at_place, in_node, later,
 
 times_zero : (h q : ℤ) (k : ℕ) → h *ℤ (pos k *ℤ q *ℤ pos 0) ≡ pos 0
 times_zero h q k = ap (λ z. h *ℤ z) (*ℤ-zero (pos k *ℤ q)) ∙ *ℤ-zero h
-
-same_tests : (a b : Bool) → (a ≡ true → b ≡ true) → (b ≡ true → a ≡ true) → a ≡ b
-same_tests true b p q = sym (p refl)
-same_tests false true p q = q refl
-same_tests false false p q = refl
-
-number_equal : (m n : ℕ) → (m == n) ≡ true → m ≡ n
-number_equal m n e = grind (arith, nat_tests)
-
-unequal_number : (m n : ℕ) → m ≢ n → (m == n) ≡ false
-unequal_number m n e = grind (arith, nat_tests)
 
 -- what a pair is worth by h times its prices
 gather : (h c a b r l : ℤ) (y s : ℤ) → s ≡ y +ℤ (((h *ℤ b) -ℤ (h *ℤ a)) +ℤ (neg_ℤ (h *ℤ r) *ℤ l)) → s ≤ℤ (h *ℤ c) → y ≤ℤ (h *ℤ (c +ℤ (a -ℤ b) +ℤ (r *ℤ l)))
@@ -96,7 +86,7 @@ module _ (t : Tables) (keeps : Domains) (starts : Starts) (network : IsNetwork t
       sum_below_ℤ-same (λ k. where_true (is_in (starts f s) k m) (of_node t starts y f s k)) (λ k. where_true (p.0 == k) (of_node t starts y f s k)) (length (starts f s))
       (λ k below. ap (λ b. where_true b (of_node t starts y f s k)) (same_tests (is_in (starts f s) k m) (p.0 == k)
       (λ e. equal_number p.0 k (one_place (starts f s) m p.0 k p.1 (at_place (starts f s) m k (rise f s known within) below e)))
-      (λ e. subst (λ j. is_in (starts f s) j m ≡ true) (number_equal p.0 k e) (in_node (starts f s) m p.0 period p.1))))
+      (λ e. subst (λ j. is_in (starts f s) j m ≡ true) (eqb-true p.0 k e) (in_node (starts f s) m p.0 period p.1))))
       ∙ sum_below_ℤ-one p.0 (of_node t starts y f s) (length (starts f s)) p.1.within
       ∙ node_is f s p.0 known within p.1.within
       ∙ ap (λ z. h *ℤ z) (sym (price_is f s m p.0 known within period p.1))
@@ -132,11 +122,7 @@ module _ (t : Tables) (keeps : Domains) (starts : Starts) (network : IsNetwork t
     unfolding leg_worth
     leg_reaches l below some =
         below_unwrapped h (y l) (λ f. keeps (leg_on l f)) (λ f. pair_worth t prices k (leg_on l f)) (fleets_in t) (λ f known kept. pair_reaches l f below known kept)
-        (positive (kept_on t keeps l) (λ none. some (record { within = below; none = none })))
-      where
-        positive : (n : ℕ) → n ≢ 0 → 0 < n
-        positive n some = omega arith
-
+        (pos_of_ne-zero (λ none. some (record { within = below; none = none })))
     -- what the right sides come to is no more than the worth
     pub worth_reaches : ((l : ℕ) → ¬ (IsBare t keeps l)) → down t starts y (λ line. right_side_of t line) ≤ℤ (h *ℤ worth_of t keeps prices k)
     unfolding worth_of
@@ -175,7 +161,7 @@ module _ (t : Tables) (keeps : Domains) (starts : Starts) (network : IsNetwork t
     falls_next f s j known within below none =
         let law = arc_falls f s j known within (omega arith) none in
         let next : place_after (length (starts f s)) j ≡ j + 1 = after (length (starts f s)) j below in
-        let no_start = ap (λ b. where_true b (of_fleet t starts y f)) (unequal_number (length (starts f s)) (j + 1) (not_last (length (starts f s)) j below)) in
+        let no_start = ap (λ b. where_true b (of_fleet t starts y f)) (ne_eqb (length (starts f s)) (j + 1) (not_last (length (starts f s)) j below)) in
         let there = ap (of_node t starts y f s) next in
         factor_le_cancel h (value (legs_in t + (before t starts f s + (j + 1)))) (value (legs_in t + (before t starts f s + j))) above
         (omega (arith, ints, law, no_start, there, node_is f s j known within (omega arith), node_is f s (j + 1) known within below))

@@ -1,8 +1,7 @@
 -- What the table with which a run over a subproblem's lines ended says of its subproblem.
-use Rattle.std.proofs.Common.{◌≡◌, ◌≢◌, ℕ, ◌+◌, ◌<◌, ◌≤◌, false, nat_lt, List, length, get_or, None, ℤ, pos, negsuc, ◌*ℤ◌, ◌<ℤ◌, ◌≤ℤ◌, unsigned_abs, refl, sym, ◌∙◌, ap, subst, inl, inr, arith}
+use Rattle.std.proofs.Common.{◌≡◌, ◌≢◌, ℕ, ◌+◌, ◌<◌, ◌≤◌, false, List, length, get_or, None, ℤ, pos, negsuc, ◌*ℤ◌, ◌<ℤ◌, ◌≤ℤ◌, unsigned_abs, refl, sym, ◌∙◌, ap, subst, inl, inr, arith}
 use Rattle.std.specs.Prelude.{int_lt}
-use Rattle.std.proofs.lemmas.Bool.{cases_order}
-use Rattle.std.proofs.lemmas.Bool.Decides.{nat_tests}
+use Rattle.std.proofs.lemmas.Bool.{cases_order, ltb-false}
 use Rattle.std.proofs.lemmas.Int.{ints}
 use Rattle.sums.proofs.Division.{positive_factor}
 use Rattle.sums.proofs.Integers.{*ℤ_assoc, *ℤ_left_comm}
@@ -115,11 +114,7 @@ module _ (t : Tables) (duals : FracRow) (some : pos 0 <ℤ duals.den) (fits : pr
   scale_high = not_less (pos max_scale) (reduced duals).den (not_excess _ _ _ (first_none _ _ fits))
 
   pub values_small : (k : ℕ) → k < width_of duals → unsigned_abs (number_of (reduced duals) k) ≤ max_price
-  values_small k below = small (unsigned_abs (number_of (reduced duals) k)) (not_excess _ _ _ (nothing_at (lowest_value_excess max_price (legs_in t) duals) (width_of duals) k (second_none _ _ fits) below))
-    where
-      small : (n : ℕ) → nat_lt max_price n ≡ false → n ≤ max_price
-      small n e = grind (arith, nat_tests)
-
+  values_small k below = ltb-false max_price (unsigned_abs (number_of (reduced duals) k)) (not_excess _ _ _ (nothing_at (lowest_value_excess max_price (legs_in t) duals) (width_of duals) k (second_none _ _ fits) below))
   pub value_times : (line k : ℕ) → line ≡ legs_in t + k → divisor *ℤ value_in t (reduced duals) line ≡ number_of duals k
   value_times line k is = ap (λ j. divisor *ℤ number_of (reduced duals) j) (omega arith) ∙ number_times duals k
 

@@ -3,6 +3,7 @@ use Rattle.std.proofs.Common.{◌≡◌, ℕ, zero, suc, ◌+◌, ◌-◌, ◌<�
 use Rattle.std.proofs.lemmas.Bool.{cases_lt}
 use Rattle.std.proofs.lemmas.List.{get_or_append_left}
 use Rattle.sums.proofs.Tests.{by_test}
+use Rattle.sums.proofs.Naturals.{plus_0}
 use Rattle.lp_rows.specs.Layout.{concat_below}
 use Rattle.lp_rows.proofs.ListPlaces.{at_right}
 
@@ -54,13 +55,9 @@ module _ {X : Type 0} (there : ℕ → Bool) (entry : ℕ → X) where
         subst (λ j. (rank j < rank (suc n)) × (get_or (concat_below where_there n ++ where_there n) (rank j) d ≡ entry j)) same (
           omega (arith, rank_there n here),
           ap (λ b. get_or (concat_below where_there n ++ (if b then entry n ∷ [] else [])) (rank n) d) here
-              ∙ ap (λ i. get_or (concat_below where_there n ++ entry n ∷ []) i d) (plus (rank n)) ∙ at_right (concat_below where_there n) (entry n ∷ []) d 0,
+              ∙ ap (λ i. get_or (concat_below where_there n ++ entry n ∷ []) i d) (sym (plus_0 (rank n))) ∙ at_right (concat_below where_there n) (entry n ∷ []) d 0,
         )
   ]
-    where
-      plus : (n : ℕ) → n ≡ n + 0
-      plus n = omega arith
-
   -- the number of the entry at a place
   pub number_at : (n i : ℕ) → i < rank n → (k : ℕ) × (k < n) × (there k ≡ true) × (rank k ≡ i)
   number_at zero i below = absurd (omega arith)

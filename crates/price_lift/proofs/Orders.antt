@@ -1,15 +1,13 @@
 -- Entries one behind another, each there or not: what each is to the one before it.
-use Rattle.std.proofs.Common.{◌≡◌, ℕ, zero, suc, ◌+◌, ◌-◌, ◌<◌, ◌≤◌, Bool, true, false, if◌then◌else◌, List, [], ◌∷◌, ◌++◌, length, get_or, All, AllPairs, Option, Some, None, refl, sym, ◌∙◌, ap, subst, ◌⊎◌, inl, inr, append_assoc, append-nil, length-append, arith}
+use Rattle.std.proofs.Common.{◌≡◌, ℕ, zero, suc, ◌+◌, ◌-◌, ◌<◌, ◌≤◌, Bool, true, false, if◌then◌else◌, List, [], ◌∷◌, ◌++◌, length, get_or, All, AllPairs, Option, Some, None, refl, sym, ◌∙◌, ap, subst, ◌⊎◌, inl, inr, append_assoc, append-nil, length-append, arith, zero-add}
 use Rattle.std.specs.Prelude.{IsTrue, ⊤}
 use Rattle.std.proofs.lemmas.Bool.{cases_lt}
 use Rattle.std.proofs.lemmas.List.{get_or_append_left}
 use Rattle.std.proofs.lemmas.List.Quantifiers.{all_pairs_push}
 use Rattle.sums.proofs.Tests.{by_test}
+use Rattle.sums.proofs.Naturals.{plus_0, suc_moved}
 use Rattle.lp_rows.specs.Layout.{concat_below}
 use Rattle.lp_rows.proofs.ListPlaces.{at_right}
-
-pub truth : (b : Bool) → b ≡ true → IsTrue b
-truth b e = e
 
 -- each entry may follow the one before it
 abbrev pub Follow : {X : Type 0} → (Option X → X → Bool) → Option X → List X → Type 0
@@ -30,21 +28,10 @@ module _ {X : Type 0} (there : ℕ → Bool) (entry : ℕ → X) where
   list_from m (suc d) = if there m then entry m ∷ list_from (suc m) d else list_from (suc m) d
 
   joined : (m d : ℕ) → concat_below at_number m ++ list_from m d ≡ concat_below at_number (m + d)
-  joined m zero = append-nil (concat_below at_number m) ∙ ap (concat_below at_number) (none m)
-    where
-      none : (m : ℕ) → m ≡ m + 0
-      none m = omega arith
-  joined m (suc d) = one_more (there m) (entry m) (concat_below at_number m) (list_from (suc m) d) ∙ joined (suc m) d ∙ ap (concat_below at_number) (next m d)
-    where
-      next : (m d : ℕ) → suc m + d ≡ m + suc d
-      next m d = omega arith
-
+  joined m zero = append-nil (concat_below at_number m) ∙ ap (concat_below at_number) (sym (plus_0 m))
+  joined m (suc d) = one_more (there m) (entry m) (concat_below at_number m) (list_from (suc m) d) ∙ joined (suc m) d ∙ ap (concat_below at_number) (suc_moved m d)
   pub from_first : (n : ℕ) → concat_below at_number n ≡ list_from 0 n
-  from_first n = sym (joined 0 n ∙ ap (concat_below at_number) (none n))
-    where
-      none : (n : ℕ) → 0 + n ≡ n
-      none n = omega arith
-
+  from_first n = sym (joined 0 n ∙ ap (concat_below at_number) (zero-add n))
   -- the last entry before a number
   abbrev IsLast : ℕ → Option X → Type 0
   IsLast m before =
@@ -88,7 +75,7 @@ module _ {X : Type 0} (there : ℕ → Bool) (entry : ℕ → X) where
     follow_from m zero before within last = tt
     follow_from m (suc d) before within last = by_test (there m)
         (λ e. subst (λ c. Follow may before (if c then entry m ∷ list_from (suc m) d else list_from (suc m) d)) (sym e) (
-          truth (may before (entry m)) (goes m before (omega arith) e last),
+          goes m before (omega arith) e last,
           follow_from (suc m) d (Some (entry m)) (omega arith) (inr (m, omega arith, e, refl, λ i above below. absurd (omega arith))),
         ))
         (λ e. subst (λ c. Follow may before (if c then entry m ∷ list_from (suc m) d else list_from (suc m) d)) (sym e)

@@ -2,7 +2,7 @@
 use Rattle.std.proofs.Common.{◌≡◌, ◌≢◌, ℕ, zero, suc, ◌+◌, ◌-◌, ◌<◌, ◌≤◌, Bool, true, false, cond, not, ◌==◌, ◌&&◌, nat_lt, if◌then◌else◌, List, [], ◌∷◌, length, get_or, All, Option, Some, None, ℤ, pos, unsigned_abs, refl, sym, ◌∙◌, ap, subst, ◌⊎◌, inl, inr, arith}
 use Rattle.std.specs.Ordering.{int_eq}
 use mathlib.Core.Bool.{false≢true}
-use Rattle.std.proofs.lemmas.Bool.{cases_lt, cases_order}
+use Rattle.std.proofs.lemmas.Bool.{cases_lt, cases_order, eq-eqb}
 use Rattle.std.proofs.lemmas.Bool.Decides.{Decides-int_eq, nat_tests}
 use Rattle.sums.specs.Below.{sum_below}
 use Rattle.sums.proofs.Naturals.{above_zero_tested, plus_0, zero_number}
@@ -28,9 +28,6 @@ use Rattle.price_lift.proofs.StepPrices.{all_zero, no_later_step}
 
 -- ---- tests
 
-is_zero : (n : ℕ) → n ≡ 0 → (n == 0) ≡ true
-is_zero n e = grind (arith, nat_tests)
-
 -- ---- where there is a step
 
 -- some value is another than 0
@@ -38,7 +35,7 @@ some_value : (value : ℕ → ℤ) (from n : ℕ) → are_zero value from n ≡ 
 unfolding are_zero
 some_value value from zero none = absurd (false≢true (sym none))
 some_value value from (suc n) none = by_test (are_zero value from n)
-    (λ e. (n, omega arith, λ zero. absurd (false≢true (sym none ∙ both_true (are_zero value from n) (unsigned_abs (value (from + n)) == 0) e (is_zero (unsigned_abs (value (from + n))) (size_of_zero (value (from + n)) zero))))))
+    (λ e. (n, omega arith, λ zero. absurd (false≢true (sym none ∙ both_true (are_zero value from n) (unsigned_abs (value (from + n)) == 0) e (eq-eqb (unsigned_abs (value (from + n))) 0 (size_of_zero (value (from + n)) zero))))))
     (λ e. let at = some_value value from n e in (at.0, omega (arith, at.1), at.2))
 
 first_step : (nodes : ℕ) (value : ℕ → ℤ) (k : ℕ) (n : Node) → n.place ≡ 0 → is_step nodes value k n ≡ true → are_zero value k nodes ≡ false
@@ -90,7 +87,7 @@ follows_other a b order first = by_same (same_place a b) (apart order)
 
     by_same : (c : Bool) → c ≡ false → (if c then nat_lt a.minute b.minute && not (int_eq a.value b.value) else place_before a b && (b.minute == 0)) ≡ true
     by_same true e = cc
-    by_same false e = both_true (place_before a b) (b.minute == 0) (placed order) (is_zero b.minute first)
+    by_same false e = both_true (place_before a b) (b.minute == 0) (placed order) (eq-eqb b.minute 0 first)
 
 of_follow : (before : Option PriceStep) (steps : List PriceStep) → Follow step_follows before steps → StepsFollow before steps
 of_follow before [] all = tt
@@ -212,7 +209,7 @@ module _ (t : Tables) (starts : Starts) (value : ℕ → ℤ) (rise : (f s : ℕ
       → step_follows None (entry (before t starts f s + p)) ≡ true
   first_at f s p known within below here none =
       ap (λ x. x.minute == 0) (entry_is f s p known within below)
-      ∙ is_zero (entry_at f s p).minute (first_minute f s known within p (begins f s known within p below here (λ i less. none (before t starts f s + i) (omega arith))) below)
+      ∙ eq-eqb (entry_at f s p).minute 0 (first_minute f s known within p (begins f s known within p below here (λ i less. none (before t starts f s + i) (omega arith))) below)
 
   -- all nodes of an earlier place come before those of a later one
   all_before : (f s p g r : ℕ) → s < stations_in t → p < length (starts f s) → PlaceBefore f s g r → before t starts f s + p < before t starts g r

@@ -92,11 +92,7 @@ no_first_step nodes value k n first some none =
 pub no_later_step : (nodes : ℕ) (value : ℕ → ℤ) (k : ℕ) (n : Node) → 0 < n.place → is_step nodes value k n ≡ false → value k ≡ value (k - 1)
 unfolding is_step
 no_later_step nodes value k n later none =
-    from_test (value k) (value (k - 1)) (not_false (int_eq (value k) (value (k - 1))) (sym (above_zero_tested n.place (not (are_zero value k nodes)) (not (int_eq (value k) (value (k - 1)))) later) ∙ none))
-  where
-    from_test : (x y : ℤ) → int_eq x y ≡ true → x ≡ y
-    from_test x y e = (Decides-int_eq x y).0 e
-
+    (Decides-int_eq (value k) (value (k - 1))).0 (not_false (int_eq (value k) (value (k - 1))) (sym (above_zero_tested n.place (not (are_zero value k nodes)) (not (int_eq (value k) (value (k - 1)))) later) ∙ none))
 -- ---- the price at a minute
 module _ (t : Tables) (starts : Starts) (value : ℕ → ℤ) (f s m : ℕ) (known : f < fleets_in t) (within : s < stations_in t) where
   abbrev at : ℕ → ℤ

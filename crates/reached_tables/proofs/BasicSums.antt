@@ -1,6 +1,5 @@
 -- What the rows of a table come to where the basic columns alone have something.
 use Rattle.std.proofs.Common.{◌≡◌, ℕ, ◌+◌, ◌<◌, ◌≤◌, ◌==◌, length, get_or, List, ℤ, pos, ◌-ℤ◌, ◌*ℤ◌, ◌<ℤ◌, sym, ◌∙◌, ap, subst, inl, inr, arith}
-use Rattle.std.proofs.lemmas.Int.{ints}
 use Rattle.std.proofs.lemmas.Bool.{cases_eq, eq-eqb, ne_eqb, cond-true, cond-false}
 use lib.IntN.{*ℤ_comm, zero-*ℤ}
 use Rattle.sums.specs.Below.{sum_below_ℤ}
@@ -10,6 +9,7 @@ use Rattle.sums.proofs.WholeSums.{sum_below_ℤ-same}
 use Rattle.sums.proofs.WholeSwaps.{where_true, sum_below_ℤ-one, sum_below_ℤ-zero}
 use Rattle.sums.proofs.WholeTerms.{at_place, over_each}
 use Rattle.sums.proofs.Naturals.{past_is_other}
+use Rattle.sums.proofs.Sizes.{above_is_other}
 use Rattle.frac_row.specs.declared.row.FracRow.{FracRow}
 use Rattle.row_store.specs.declared.problem.Rows.{Rows}
 use Rattle.row_store.specs.Table.{row_at, number_at}
@@ -107,8 +107,5 @@ over_scale rows table line number lt =
 pub basic_apart : (rows : Rows) (table : List FracRow) (basis : List ℕ) (line other : ℕ) → IsBasicTable rows table basis → line < length rows.lines → other < length rows.lines → basic basis line ≡ basic basis other → line ≡ other
 basic_apart rows table basis line other h lt below e = elim (cases_eq line other) [
   | inl same ↦ same
-  | inr apart ↦ absurd (clash (den_at table line) (h.is.dens line (omega arith)) (sym (h.units.own line lt) ∙ ap (number_at table line) e ∙ h.units.others other line below (omega arith) apart))
+  | inr apart ↦ absurd (above_is_other (den_at table line) (h.is.dens line (omega arith)) (sym (h.units.own line lt) ∙ ap (number_at table line) e ∙ h.units.others other line below (omega arith) apart))
 ]
-  where
-    clash : (d : ℤ) → pos 0 <ℤ d → d ≡ pos 0 → ⊥
-    clash d h e = omega (arith, ints)

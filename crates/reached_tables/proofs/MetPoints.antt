@@ -9,7 +9,7 @@ use Rattle.sums.proofs.Integers.{neg_ℤ-*ℤ}
 use Rattle.sums.proofs.WholeSums.{sum_below_ℤ-same}
 use Rattle.sums.proofs.WholeSwaps.{where_true, sum_below_ℤ-one, sum_below_ℤ-zero}
 use Rattle.sums.proofs.WholeTerms.{at_place}
-use Rattle.sums.proofs.Naturals.{none_below_0}
+use Rattle.sums.proofs.Naturals.{below_next, none_below_0}
 use Rattle.sums.proofs.Sizes.{no_difference, nothing_added}
 use Rattle.frac_row.specs.declared.row.FracRow.{FracRow}
 use Rattle.row_store.specs.declared.problem.Rows.{Rows}
@@ -67,17 +67,13 @@ find place column zero = inr (λ line lt. absurd (none_below_0 line lt))
 find place column (suc lines) = elim (cases_eq (place lines) column) [
   | inl same ↦ inl (lines, omega arith, same)
   | inr apart ↦ elim (find place column lines) [
-    | inl found ↦ inl (found.0, below found.0 lines found.1, found.2)
+    | inl found ↦ inl (found.0, below_next found.0 lines found.1, found.2)
     | inr none ↦ inr (λ line lt e. elim (cases_lt line lines) [
       | inl less ↦ none line less e
       | inr ge ↦ let last : line ≡ lines = omega arith in apart (ap place (sym last) ∙ e)
     ])
   ]
 ]
-  where
-    below : (m n : ℕ) → m < n → m < suc n
-    below m n lt = omega arith
-
 -- ---- the point column by column
 at_identity : (rows : Rows) (basis : List ℕ) (x : ℕ → ℕ) (line : ℕ) → real_point rows basis x (rows.columns + line) ≡ pos 0
 unfolding real_point basic_point

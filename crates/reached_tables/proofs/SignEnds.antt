@@ -9,7 +9,7 @@ use Rattle.sums.proofs.Signs.{product_at_least_0}
 use Rattle.sums.proofs.WholeSums.{sum_below_ℤ-same}
 use Rattle.sums.proofs.WholeSwaps.{sum_below_ℤ-zero}
 use Rattle.sums.proofs.WholeTerms.{at_least_0, sum_below_ℤ-neg}
-use Rattle.sums.proofs.Sizes.{pos_above}
+use Rattle.sums.proofs.Sizes.{opposite_above, opposite_some, pos_above}
 use Rattle.frac_row.specs.declared.row.FracRow.{FracRow}
 use Rattle.row_store.specs.declared.problem.Rows.{Rows}
 use Rattle.row_store.specs.Table.{row_at, number_at, cost_row, right_side}
@@ -83,7 +83,7 @@ best_is_least rows table basis scale x h best met =
 pub row_refuses : RowRefuses
 row_refuses rows table basis row scale x h refused some met =
     by_sign (right_side table row) refused.unmet
-    (λ above. absurd (at_most _ _ (terms_at_least_0 (λ c. neg_ℤ (number_at table row c)) x rows.columns (λ c lt. opposite _ ((refused.against c lt).0 above))) opposite_sum comes_to (positive_product (right_side table row) (pos scale) above (pos_above scale some))))
+    (λ above. absurd (at_most _ _ (terms_at_least_0 (λ c. neg_ℤ (number_at table row c)) x rows.columns (λ c lt. opposite_some _ ((refused.against c lt).0 above))) opposite_sum comes_to (positive_product (right_side table row) (pos scale) above (pos_above scale some))))
     (λ below. absurd (at_least _ _ (terms_at_least_0 (number_at table row) x rows.columns (λ c lt. (refused.against c lt).1 below)) comes_to (negative (right_side table row) (pos scale) below (pos_above scale some))))
   where
     comes_to : sum_below_ℤ (λ c. number_at table row c *ℤ pos (x c)) rows.columns -ℤ (right_side table row *ℤ pos scale) ≡ pos 0
@@ -94,15 +94,9 @@ row_refuses rows table basis row scale x h refused some met =
     opposite_sum =
         sum_below_ℤ-same _ (λ c. neg_ℤ (number_at table row c *ℤ pos (x c))) rows.columns (λ c lt. neg_ℤ-*ℤ (number_at table row c) (pos (x c))) ∙ sum_below_ℤ-neg (λ c. number_at table row c *ℤ pos (x c)) rows.columns
 
-    opposite : (z : ℤ) → z ≤ℤ pos 0 → pos 0 ≤ℤ neg_ℤ z
-    opposite z h = omega (arith, ints)
-
     negative : (r s : ℤ) → r <ℤ pos 0 → pos 0 <ℤ s → (r *ℤ s) <ℤ pos 0
-    negative r s below above = back (r *ℤ s) (neg_ℤ-*ℤ r s) (positive_product (neg_ℤ r) s (turn r below) above)
+    negative r s below above = back (r *ℤ s) (neg_ℤ-*ℤ r s) (positive_product (neg_ℤ r) s (opposite_above r below) above)
       where
-        turn : (r : ℤ) → r <ℤ pos 0 → pos 0 <ℤ neg_ℤ r
-        turn r h = omega (arith, ints)
-
         back : {b : ℤ} (a : ℤ) → b ≡ neg_ℤ a → pos 0 <ℤ b → a <ℤ pos 0
         back a e h = omega (arith, ints)
 

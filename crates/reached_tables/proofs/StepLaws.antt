@@ -11,7 +11,7 @@ use Rattle.row_store.specs.Table.{row_at, height_of, columns_of, HasColumns, IsT
 use Rattle.row_store.specs.Pivot.{pivoted, pivot_growth}
 use Rattle.row_store.specs.Points.{surplus, MeetsLines}
 use Rattle.row_store.specs.Steps.{made_positive, stepped, step_growth}
-use Rattle.row_store.proofs.Tables.{pivoted_is_table, length-pivoted, columns_of-pivoted}
+use Rattle.row_store.proofs.Tables.{pivoted_is_table, length-pivoted, columns_of-pivoted, in_table}
 use Rattle.row_store.proofs.Points.{keeps_points, keeps_surplus}
 use Rattle.reached_tables.specs.Tableaux.{Tableau, first_tableau, IsStep, after_step, tableau_after, AreSteps, IsReachedFrom}
 use Rattle.reached_tables.specs.Laws.{KeepsShape, StepsKeepPoints, StepsKeepSurplus, StepsKeepShape}
@@ -32,13 +32,6 @@ pivot_of_step table columns row column is s = record {
   fits = s.fits;
   is = refl;
 }
-  where
-    in_table : (table : List FracRow) (row : ℕ) → row < height_of table → row < length table
-    in_table table row lt = omega arith
-
-pub in_table : (table : List FracRow) (row : ℕ) → row < height_of table → row < length table
-in_table table row lt = omega arith
-
 -- ---- the shape
 first_shape : (first : List FracRow) (columns : ℕ) → IsTable first → HasColumns first columns → KeepsShape first columns (first_tableau first columns)
 unfolding first_tableau

@@ -3,6 +3,7 @@ use Rattle.std.proofs.Common.{◌≡◌, ℕ, suc, ◌+◌, ◌<◌, ◌≤◌, 
 use Rattle.std.specs.Prelude.{MatchOption, ◌&&◌, ◌||◌}
 use Rattle.std.proofs.lemmas.Bool.{cases_lt}
 use Rattle.std.proofs.lemmas.Bool.Decides.{nat_tests}
+use Rattle.sums.proofs.Naturals.{none_below_0}
 use Rattle.sparse_row.specs.declared.entry.Entry.{Entry}
 use Rattle.sparse_row.specs.Content.{number_at, number_in, AreEntries}
 use Rattle.sparse_row.proofs.Contents.{column_at, number_at_place}
@@ -47,11 +48,7 @@ all_unlike side (x ∷ xs) columns column h lt =
     go false p q = q
 
 pub so_far_none : (side : ℤ) (entries : List Entry) (columns : ℕ) → AreUnlikeBelow side entries columns 0
-so_far_none side entries columns k lt = absurd (none_below k lt)
-  where
-    none_below : (k : ℕ) → k < 0 → ⊥
-    none_below k lt = omega arith
-
+so_far_none side entries columns k lt = absurd (none_below_0 k lt)
 -- a place that is passed over
 pub so_far_same : (side : ℤ) (entries : List Entry) (columns bound : ℕ) (best : Option Enterer) → IsSoFar side entries columns bound best → (column_at entries bound < columns → are_alike side (number_at entries bound) ≡ false) → IsSoFar side entries columns (bound + 1) best
 so_far_same side entries columns bound (Some found) h p = h

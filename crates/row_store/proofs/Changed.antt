@@ -1,46 +1,38 @@
 -- Rows that take the places of others.
-use Rattle.std.proofs.Common.{◌≡◌, ℕ, zero, suc, ◌+◌, ◌<◌, ◌≤◌, ◌≢◌, cond, ◌==◌, if◌then◌else◌, eqb, List, [], ◌∷◌, ◌++◌, length, get_or, set, Option, Some, None, refl, sym, ◌∙◌, ap, subst, arith, inl, inr, ◌⊎◌, length-set, get_or-set_same, get_or-set_other}
+use Rattle.std.proofs.Common.{◌≡◌, ℕ, zero, suc, ◌+◌, ◌<◌, ◌≤◌, ◌≢◌, ◌==◌, if◌then◌else◌, List, [], ◌∷◌, ◌++◌, length, get_or, set, Option, Some, None, refl, sym, ◌∙◌, ap, subst, arith, inl, inr, ◌⊎◌, length-set, get_or-set_same, get_or-set_other}
 use Rattle.std.specs.Prelude.{All}
-use Rattle.std.proofs.lemmas.Bool.{cases_lt}
-use Rattle.std.proofs.lemmas.Bool.Decides.{nat_tests}
+use Rattle.std.proofs.lemmas.Bool.{cases_eq, cases_lt}
 use Rattle.std.proofs.lemmas.List.{ext_get_or}
 use Rattle.sums.specs.Places.{list_below, or_else}
 use Rattle.sums.proofs.Places.{length-list_below, get_or-list_below}
+use Rattle.sums.proofs.Naturals.{none_below_0}
+use Rattle.sums.proofs.NumberTests.{if_apart, if_same}
 use Rattle.frac_row.specs.declared.row.FracRow.{FracRow}
 use Rattle.row_store.specs.declared.changes.Change.{Change}
 use Rattle.row_store.specs.Table.{no_row, row_at}
 use Rattle.row_store.specs.Changes.{value_or, change_at, row_after}
 
-when_here : {X : Type 0} (m n : ℕ) (x y : X) → m ≡ n → cond (eqb m n) x y ≡ x
-when_here m n x y h = grind (arith, nat_tests)
-
-when_other : {X : Type 0} (m n : ℕ) (x y : X) → m ≢ n → cond (eqb m n) x y ≡ y
-when_other m n x y h = grind (arith, nat_tests)
-
-same_or : (m n : ℕ) → (m ≡ n) ⊎ (m ≢ n)
-same_or m n = grind arith
-
 -- one change more at the end
 change_at-more : (changes : List Change) (last : Change) (place : ℕ) → change_at (changes ++ last ∷ []) place ≡ or_else (change_at changes place) (if last.row == place then Some last.fresh else None)
 change_at-more [] last place = refl
 change_at-more (x ∷ xs) last place =
-    elim (same_or x.row place) [
-      | inl e ↦ when_here x.row place _ _ e ∙ sym (ap (λ o. or_else o (if last.row == place then Some last.fresh else None)) (when_here x.row place (Some x.fresh) (change_at xs place) e))
-      | inr ne ↦ when_other x.row place _ _ ne ∙ change_at-more xs last place ∙ sym (ap (λ o. or_else o (if last.row == place then Some last.fresh else None)) (when_other x.row place (Some x.fresh) (change_at xs place) ne))
+    elim (cases_eq x.row place) [
+      | inl e ↦ if_same x.row place _ _ e ∙ sym (ap (λ o. or_else o (if last.row == place then Some last.fresh else None)) (if_same x.row place (Some x.fresh) (change_at xs place) e))
+      | inr ne ↦ if_apart x.row place _ _ ne ∙ change_at-more xs last place ∙ sym (ap (λ o. or_else o (if last.row == place then Some last.fresh else None)) (if_apart x.row place (Some x.fresh) (change_at xs place) ne))
     ]
 
 -- ---- the last change is put in its place
 pub put_last : (table : List FracRow) (changes : List Change) (last : Change) (place : ℕ) → last.row < length table → row_after (set table last.row last.fresh) changes place ≡ row_after table (changes ++ last ∷ []) place
 put_last table changes last place lt =
-    sym (ap (λ o. value_or o (row_at table place)) (change_at-more changes last place) ∙ go (change_at changes place) (same_or last.row place))
+    sym (ap (λ o. value_or o (row_at table place)) (change_at-more changes last place) ∙ go (change_at changes place) (cases_eq last.row place))
   where
     go : (o : Option FracRow) → (last.row ≡ place) ⊎ (last.row ≢ place) → value_or (or_else o (if last.row == place then Some last.fresh else None)) (row_at table place) ≡ value_or o (row_at (set table last.row last.fresh) place)
     go (Some fresh) e = refl
     go None (inl e) =
-        ap (λ o. value_or o (row_at table place)) (when_here last.row place (Some last.fresh) None e)
+        ap (λ o. value_or o (row_at table place)) (if_same last.row place (Some last.fresh) None e)
         ∙ sym (subst (λ k. row_at (set table last.row last.fresh) k ≡ last.fresh) e (get_or-set_same table last.row last.fresh no_row lt))
     go None (inr ne) =
-        ap (λ o. value_or o (row_at table place)) (when_other last.row place (Some last.fresh) None ne)
+        ap (λ o. value_or o (row_at table place)) (if_apart last.row place (Some last.fresh) None ne)
         ∙ sym (get_or-set_other table last.row place last.fresh no_row (λ s. ne (sym s)))
 
 -- where none is left, the table has them all
@@ -56,10 +48,7 @@ pub last_in_table : (length_old : ℕ) (changes left : List Change) (last : Chan
 last_in_table n changes left last e h = grind (arith, parts left (subst (λ xs. All (λ change. change.row < n) xs) e h))
   where
     parts : (xs : List Change) → All (λ change. change.row < n) (xs ++ last ∷ []) → (last.row < n) × All (λ change. change.row < n) xs
-    parts [] h = (h 0 last (omega arith), λ k d lt. absurd (none_below k lt))
-      where
-        none_below : (k : ℕ) → k < 0 → ⊥
-        none_below k lt = omega arith
+    parts [] h = (h 0 last (omega arith), λ k d lt. absurd (none_below_0 k lt))
     parts (x ∷ xs) h =
         let later = parts xs (λ k d lt. h (suc k) d (omega arith)) in
         (later.0, λ k d lt. each k d lt later.1)
@@ -89,11 +78,7 @@ pub record AreMade (table : List FracRow) (target : ℕ → FracRow) (changes : 
   pub in_table : All (λ change. change.row < length table) changes
 
 pub made_none : (table : List FracRow) (target : ℕ → FracRow) → AreMade table target [] 0
-made_none table target = record { made = λ k lt. absurd (none_below k lt); later = λ k ge. refl; in_table = λ k d lt. absurd (none_below k lt) }
-  where
-    none_below : (k : ℕ) → k < 0 → ⊥
-    none_below k lt = omega arith
-
+made_none table target = record { made = λ k lt. absurd (none_below_0 k lt); later = λ k ge. refl; in_table = λ k d lt. absurd (none_below_0 k lt) }
 pub made_same : (table : List FracRow) (target : ℕ → FracRow) (changes : List Change) (bound : ℕ) → AreMade table target changes bound → row_at table bound ≡ target bound → AreMade table target changes (bound + 1)
 made_same table target changes bound h e = record {
   made = λ k lt. elim (cases_lt k bound) [
@@ -108,9 +93,9 @@ pub made_more : (table : List FracRow) (target : ℕ → FracRow) (changes new :
 made_more table target changes new bound last h lt here e same = subst (λ xs. AreMade table target xs (bound + 1)) (sym same) (record {
   made = λ k below. elim (cases_lt k bound) [
     | inl less ↦ ap (λ o. value_or o (row_at table k)) (change_at-more changes last k ∙ passed (change_at changes k) k (apart k less)) ∙ h.made k less
-    | inr ge ↦ let eq : bound ≡ k = omega arith in subst (λ i. row_after table (changes ++ last ∷ []) i ≡ target i) eq (ap (λ o. value_or o (row_at table bound)) (change_at-more changes last bound ∙ ap (λ o. or_else o (if last.row == bound then Some last.fresh else None)) (h.later bound (omega arith)) ∙ when_here last.row bound (Some last.fresh) None here) ∙ e)
+    | inr ge ↦ let eq : bound ≡ k = omega arith in subst (λ i. row_after table (changes ++ last ∷ []) i ≡ target i) eq (ap (λ o. value_or o (row_at table bound)) (change_at-more changes last bound ∙ ap (λ o. or_else o (if last.row == bound then Some last.fresh else None)) (h.later bound (omega arith)) ∙ if_same last.row bound (Some last.fresh) None here) ∙ e)
   ];
-  later = λ k ge. change_at-more changes last k ∙ ap (λ o. or_else o (if last.row == k then Some last.fresh else None)) (h.later k (omega arith)) ∙ when_other last.row k (Some last.fresh) None (behind k ge);
+  later = λ k ge. change_at-more changes last k ∙ ap (λ o. or_else o (if last.row == k then Some last.fresh else None)) (h.later k (omega arith)) ∙ if_apart last.row k (Some last.fresh) None (behind k ge);
   in_table = all_more changes h.in_table;
 })
   where
@@ -122,7 +107,7 @@ made_more table target changes new bound last h lt here e same = subst (λ xs. A
 
     passed : (o : Option FracRow) (k : ℕ) → last.row ≢ k → or_else o (if last.row == k then Some last.fresh else None) ≡ o
     passed (Some x) k ne = refl
-    passed None k ne = when_other last.row k (Some last.fresh) None ne
+    passed None k ne = if_apart last.row k (Some last.fresh) None ne
 
     all_more : (xs : List Change) → All (λ change. change.row < length table) xs → All (λ change. change.row < length table) (xs ++ last ∷ [])
     all_more [] h zero d below = rw here lt

@@ -2,12 +2,13 @@
 use Rattle.std.proofs.Common.{◌≡◌, ℕ, ◌+◌, ◌<◌, Bool, true, false, cond, if◌then◌else◌, zero, suc, ◌&&◌, ℤ, pos, ◌<ℤ◌, ◌≤ℤ◌, get_or, ◌-◌, length, List, Option, Some, None, ◌⊎◌, inl, inr, option_map, refl, sym, ◌∙◌, ap, subst, arith, add-one}
 use Rattle.sums.specs.Places.{first_below, or_else}
 use Rattle.sums.proofs.Places.{first_found}
-use Rattle.sums.proofs.Tests.{passed_over, picked, unlike}
+use Rattle.sums.proofs.Tests.{none_some, passed_over, picked, unlike}
 use Rattle.frac_row.specs.declared.row.FracRow.{FracRow}
 use Rattle.row_store.specs.Choice.{entering, is_improving, improves, is_positive, goes_first, better, candidate_at, best_below, leaving}
 use Rattle.row_store.specs.declared.choice.Candidate.{Candidate}
 use Rattle.std.proofs.lemmas.Int.{ints}
 use Rattle.row_store.specs.Table.{number_at, height_of, columns_of}
+use Rattle.row_store.proofs.SignTests.{positive_is}
 
 -- no column so far improves
 abbrev pub NoneEnters : List FracRow → ℕ → Type 0
@@ -46,9 +47,6 @@ positive_test z h = grind (arith, ints)
 
 other_test : (z : ℤ) → z ≤ℤ pos 0 → is_positive z ≡ false
 other_test z h = grind (arith, ints)
-
-test_positive : (z : ℤ) → is_positive z ≡ true → pos 0 <ℤ z
-test_positive z h = grind (arith, ints)
 
 pick_other : {X : Type 0} (b c : Bool) (x y : X) → b ≡ false → y ≡ cond (b && c) x y
 pick_other false c x y e = refl
@@ -91,7 +89,7 @@ better_is : (table : List FracRow) (basis : List ℕ) (column row : ℕ) (best :
 unfolding better
 better_is table basis column row None chosen h e =
     let found = split (is_positive (number_at table row column)) e in
-    same_candidate (sym found.1) (test_positive (number_at table row column) found.0)
+    same_candidate (sym found.1) (positive_is (number_at table row column) found.0)
   where
     split : (b : Bool) → cond b (Some (candidate_at table basis column row)) None ≡ Some chosen → (b ≡ true) × (candidate_at table basis column row ≡ chosen)
     split true e = (refl, cc)
@@ -101,7 +99,7 @@ better_is table basis column row None chosen h e =
     same_candidate same p = rw same (record { line = omega arith; is = refl; positive = p })
 better_is table basis column row (Some best) chosen h e =
     elim (split (is_positive (number_at table row column)) (goes_first (candidate_at table basis column row) best) e) [
-      | inl found ↦ same_candidate (sym found.1) (test_positive (number_at table row column) found.0)
+      | inl found ↦ same_candidate (sym found.1) (positive_is (number_at table row column) found.0)
       | inr same ↦ rw (sym same) (later (h best refl))
     ]
   where
@@ -131,9 +129,6 @@ leaving_is table basis column row e = of_best (best_below table basis column (he
   where
     of_best : (o : Option Candidate) → o ≡ best_below table basis column (height_of table) → option_map (λ best. best.row) o ≡ Some row → (row < height_of table) × (pos 0 <ℤ number_at table row column)
     of_best None p e = absurd (none_some e)
-      where
-        none_some : None ≡ Some row → ⊥
-        none_some e = cc
     of_best (Some best) p e =
         let is : IsBest table basis column (height_of table) best = best_is table basis column (height_of table) best (sym p) in
         let same : best.row ≡ row = cc in

@@ -1,5 +1,5 @@
 -- The numbers of the first table, and that it is a table.
-use Rattle.std.proofs.Common.{◌≡◌, ℕ, ◌+◌, ◌-◌, ◌^◌, ◌<◌, ◌≤◌, ◌≢◌, Bool, true, false, cond, eqb, ltb, ℤ, pos, List, length, get_or, unsigned_abs, refl, sym, ◌∙◌, ap, arith, inl, inr}
+use Rattle.std.proofs.Common.{◌≡◌, ℕ, ◌+◌, ◌-◌, ◌^◌, ◌<◌, ◌≤◌, ◌≢◌, Bool, true, false, cond, eqb, ltb, pos, List, length, get_or, unsigned_abs, refl, sym, ◌∙◌, ap, arith, inl, inr}
 use Rattle.std.specs.Prelude.{neg_ℤ}
 use Rattle.std.proofs.lemmas.Int.{ints}
 use Rattle.std.proofs.lemmas.Bool.{cases_lt}
@@ -9,9 +9,11 @@ use Rattle.sums.specs.Below.{sum_below, sum_below_ℤ}
 use Rattle.sums.specs.Places.{list_below}
 use Rattle.sums.proofs.Places.{length-list_below, get_or-list_below}
 use Rattle.sums.proofs.SumBounds.{sum_below-le, term_le, size-sum_below_ℤ}
+use Rattle.sums.proofs.NumberTests.{if_apart, if_same}
 use Rattle.frac_row.specs.Outgrown.{IsWithin}
 use Rattle.frac_row.specs.Row.{width_of, IsRow}
 use Rattle.frac_row.specs.declared.row.FracRow.{FracRow}
+use Rattle.frac_row.proofs.Combinations.{opposite_within}
 use Rattle.row_store.specs.declared.problem.Rows.{Rows}
 use Rattle.row_store.specs.Table.{no_row, row_at, columns_of, HasColumns, IsTable}
 use Rattle.row_store.specs.Problem.{entry, IsProblem, first_amount, first_number, first_row, first_table}
@@ -22,12 +24,6 @@ when_lt m n x y h = grind (arith, nat_tests)
 when_ge : {X : Type 0} (m n : ℕ) (x y : X) → n ≤ m → cond (ltb m n) x y ≡ y
 when_ge m n x y h = grind (arith, nat_tests)
 
-when_eq : {X : Type 0} (m n : ℕ) (x y : X) → m ≡ n → cond (eqb m n) x y ≡ x
-when_eq m n x y h = grind (arith, nat_tests)
-
-when_ne : {X : Type 0} (m n : ℕ) (x y : X) → m ≢ n → cond (eqb m n) x y ≡ y
-when_ne m n x y h = grind (arith, nat_tests)
-
 -- ---- amounts
 pub amount_line : (rows : Rows) (row column : ℕ) → row < length rows.lines → first_amount rows row column ≡ entry rows row column
 unfolding first_amount
@@ -35,11 +31,11 @@ amount_line rows row column h = when_lt row (length rows.lines) _ _ h
 
 pub amount_phase : (rows : Rows) (row column : ℕ) → row ≡ length rows.lines → first_amount rows row column ≡ neg_ℤ (sum_below_ℤ (λ line. entry rows line column) (length rows.lines))
 unfolding first_amount
-amount_phase rows row column h = when_ge row (length rows.lines) _ _ (omega arith) ∙ when_eq row (length rows.lines) _ _ h
+amount_phase rows row column h = when_ge row (length rows.lines) _ _ (omega arith) ∙ if_same row (length rows.lines) _ _ h
 
 pub amount_cost : (rows : Rows) (row column : ℕ) → length rows.lines < row → first_amount rows row column ≡ get_or rows.costs column (pos 0)
 unfolding first_amount
-amount_cost rows row column h = when_ge row (length rows.lines) _ _ (omega arith) ∙ when_ne row (length rows.lines) _ _ (omega arith)
+amount_cost rows row column h = when_ge row (length rows.lines) _ _ (omega arith) ∙ if_apart row (length rows.lines) _ _ (omega arith)
 
 -- ---- numbers
 pub number_real : (rows : Rows) (row column : ℕ) → column < rows.columns → first_number rows row column ≡ first_amount rows row column
@@ -49,12 +45,12 @@ number_real rows row column h = when_lt column rows.columns _ _ h
 pub number_one : (rows : Rows) (row column : ℕ) → rows.columns ≤ column → column < rows.columns + length rows.lines → column - rows.columns ≡ row → first_number rows row column ≡ pos 1
 unfolding first_number
 number_one rows row column h k e =
-    when_ge column rows.columns _ _ h ∙ when_lt column (rows.columns + length rows.lines) _ _ k ∙ when_eq (column - rows.columns) row _ _ e
+    when_ge column rows.columns _ _ h ∙ when_lt column (rows.columns + length rows.lines) _ _ k ∙ if_same (column - rows.columns) row _ _ e
 
 pub number_zero : (rows : Rows) (row column : ℕ) → rows.columns ≤ column → column < rows.columns + length rows.lines → column - rows.columns ≢ row → first_number rows row column ≡ pos 0
 unfolding first_number
 number_zero rows row column h k e =
-    when_ge column rows.columns _ _ h ∙ when_lt column (rows.columns + length rows.lines) _ _ k ∙ when_ne (column - rows.columns) row _ _ e
+    when_ge column rows.columns _ _ h ∙ when_lt column (rows.columns + length rows.lines) _ _ k ∙ if_apart (column - rows.columns) row _ _ e
 
 pub number_right : (rows : Rows) (row column : ℕ) → rows.columns + length rows.lines ≤ column → first_number rows row column ≡ first_amount rows row rows.columns
 unfolding first_number
@@ -75,9 +71,6 @@ part_within rows column line h le k =
     let part : sum_below (λ i. unsigned_abs (entry rows i column)) line ≤ sum_below (λ i. unsigned_abs (entry rows i column)) (length rows.lines) = sum_below-le (λ i. unsigned_abs (entry rows i column)) line (length rows.lines) k in
     let total : sum_below (λ i. unsigned_abs (entry rows i column)) (length rows.lines) ≤ 2 ^ 127 - 1 = h.sums_within column le in
     omega arith
-
-opposite_within : (z : ℤ) → IsWithin z → IsWithin (neg_ℤ z)
-opposite_within z h = omega (arith, ints)
 
 cost_within : (rows : Rows) (column : ℕ) → IsProblem rows → IsWithin (get_or rows.costs column (pos 0))
 cost_within rows column h =

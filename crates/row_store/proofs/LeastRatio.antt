@@ -6,17 +6,20 @@ use Rattle.std.proofs.lemmas.Cmp.{int_ranked}
 use Rattle.std.specs.declared.cmp.Ordering.{Ordering}
 use Rattle.std.specs.declared.cmp.Ordering.TheVariants.{Less, Equal, Greater}
 use lib.IntN.{*ℤ_comm}
+use lib.Signed.{≤ℤ_refl}
 use Rattle.sums.proofs.Integers.{*ℤ_left_comm}
 use Rattle.sums.proofs.Orders.{factor_le}
 use Rattle.sums.proofs.Signs.{factor_le_cancel}
 use Rattle.sums.proofs.Naturals.{none_below_0}
 use Rattle.sums.proofs.Sizes.{above_is_some}
+use Rattle.sums.proofs.Tests.{none_some}
 use Rattle.frac_row.specs.Ratio.{ratio_cmp}
 use Rattle.frac_row.specs.declared.row.FracRow.{FracRow}
 use Rattle.row_store.specs.Table.{number_at, height_of, right_side}
 use Rattle.row_store.specs.Choice.{is_positive, is_first, goes_first, better, candidate_at, best_below, leaving}
 use Rattle.row_store.specs.declared.choice.Candidate.{Candidate}
 use Rattle.row_store.proofs.Choices.{IsBest, best_is}
+use Rattle.row_store.proofs.SignTests.{positive_is}
 
 -- no line below a bound with a positive entry has a lesser ratio
 record IsLeast (table : List FracRow) (column bound : ℕ) (best : Candidate) : Type 0 where
@@ -26,9 +29,6 @@ record IsLeast (table : List FracRow) (column bound : ℕ) (best : Candidate) : 
 abbrev AreBest : List FracRow → ℕ → ℕ → Option Candidate → Type 0
 AreBest table column bound None = (line : ℕ) → line < bound → number_at table line column ≤ℤ pos 0
 AreBest table column bound (Some best) = IsLeast table column bound best
-
-test_positive : (z : ℤ) → is_positive z ≡ true → pos 0 <ℤ z
-test_positive z h = grind (arith, ints)
 
 test_other : (z : ℤ) → is_positive z ≡ false → z ≤ℤ pos 0
 test_other z h = grind (arith, ints)
@@ -71,19 +71,17 @@ unfolding better
 best_step table basis column row None h = by_sign (is_positive (number_at table row column)) refl
   where
     by_sign : (b : Bool) → is_positive (number_at table row column) ≡ b → AreBest table column (suc row) (cond b (Some (candidate_at table basis column row)) None)
-    by_sign true t = record { positive = test_positive _ t; least = λ line lt some. at_place line lt some }
+    by_sign true t = record { positive = positive_is _ t; least = λ line lt some. at_place line lt some }
       where
         at_place : (line : ℕ) → line < suc row → pos 0 <ℤ number_at table line column → (right_side table row *ℤ number_at table line column) ≤ℤ (right_side table line *ℤ number_at table row column)
         at_place line lt some = elim (cases_lt line row) [
           | inl less ↦ absurd (clash _ some (h line less))
-          | inr ge ↦ let same : line ≡ row = omega arith in subst (λ i. (right_side table row *ℤ number_at table i column) ≤ℤ (right_side table i *ℤ number_at table row column)) (sym same) (itself _)
+          | inr ge ↦ let same : line ≡ row = omega arith in subst (λ i. (right_side table row *ℤ number_at table i column) ≤ℤ (right_side table i *ℤ number_at table row column)) (sym same) (≤ℤ_refl _)
         ]
           where
             clash : (x : ℤ) → pos 0 <ℤ x → x ≤ℤ pos 0 → ⊥
             clash x p q = omega (arith, ints)
 
-            itself : (x : ℤ) → x ≤ℤ x
-            itself x = omega (arith, ints)
     by_sign false t = λ line lt. elim (cases_lt line row) [
       | inl less ↦ h line less
       | inr ge ↦ let same : line ≡ row = omega arith in subst (λ i. number_at table i column ≤ℤ pos 0) (sym same) (test_other _ t)
@@ -93,9 +91,6 @@ best_step table basis column row (Some best) h =
   where
     clash : (x : ℤ) → pos 0 <ℤ x → x ≤ℤ pos 0 → ⊥
     clash x p q = omega (arith, ints)
-
-    itself : (x : ℤ) → x ≤ℤ x
-    itself x = omega (arith, ints)
 
     -- the best so far stays, where it is no more than the line
     stays : (pos 0 <ℤ number_at table row column → (best.right_side *ℤ number_at table row column) ≤ℤ (right_side table row *ℤ best.entry)) → IsLeast table column (suc row) best
@@ -108,12 +103,12 @@ best_step table basis column row (Some best) h =
         ]
 
     by_tests : (b c : Bool) → is_positive (number_at table row column) ≡ b → goes_first (candidate_at table basis column row) best ≡ c → AreBest table column (suc row) (cond (b && c) (Some (candidate_at table basis column row)) (Some best))
-    by_tests true true t f = record { positive = test_positive _ t; least = λ line lt some. at_place line lt some }
+    by_tests true true t f = record { positive = positive_is _ t; least = λ line lt some. at_place line lt some }
       where
         at_place : (line : ℕ) → line < suc row → pos 0 <ℤ number_at table line column → (right_side table row *ℤ number_at table line column) ≤ℤ (right_side table line *ℤ number_at table row column)
         at_place line lt some = elim (cases_lt line row) [
-          | inl less ↦ ratios_chain _ _ best.right_side best.entry _ _ (test_positive _ t) h.positive some (goes_before (candidate_at table basis column row) best f) (h.least line less some)
-          | inr ge ↦ let same : line ≡ row = omega arith in subst (λ i. (right_side table row *ℤ number_at table i column) ≤ℤ (right_side table i *ℤ number_at table row column)) (sym same) (itself _)
+          | inl less ↦ ratios_chain _ _ best.right_side best.entry _ _ (positive_is _ t) h.positive some (goes_before (candidate_at table basis column row) best f) (h.least line less some)
+          | inr ge ↦ let same : line ≡ row = omega arith in subst (λ i. (right_side table row *ℤ number_at table i column) ≤ℤ (right_side table i *ℤ number_at table row column)) (sym same) (≤ℤ_refl _)
         ]
     by_tests true false t f = stays (λ _. goes_after (candidate_at table basis column row) best f)
     by_tests false c t f = stays (λ some. absurd (clash _ some (test_other _ t)))
@@ -141,9 +136,6 @@ leaves_least table basis column row line e lt some = of_best (best_below table b
   where
     of_best : (o : Option Candidate) → best_below table basis column (height_of table) ≡ o → option_map (λ best. best.row) o ≡ Some row → AreBest table column (height_of table) o → (right_side table row *ℤ number_at table line column) ≤ℤ (right_side table line *ℤ number_at table row column)
     of_best None p e h = absurd (none_some e)
-      where
-        none_some : None ≡ Some row → ⊥
-        none_some e = cc
     of_best (Some best) p e h =
         let is : IsBest table basis column (height_of table) best = best_is table basis column (height_of table) best p in
         let same : best.row ≡ row = cc in

@@ -14,3 +14,4 @@ pub mod LineSums
 pub mod FirstRows
 pub mod SmallTables
 pub mod CopiedRows
+pub mod SignTests

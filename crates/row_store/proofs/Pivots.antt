@@ -1,10 +1,10 @@
 -- The steps of a pivot.
-use Rattle.std.proofs.Common.{◌≡◌, ℕ, ◌<◌, ◌≢◌, true, false, eqb, ℤ, pos, ◌<ℤ◌, List, length, Option, Some, None, option_map, unsigned_abs, refl, sym, ◌∙◌, ap, arith}
+use Rattle.std.proofs.Common.{◌≡◌, ℕ, ◌<◌, ◌≢◌, true, false, eqb, ℤ, pos, ◌<ℤ◌, List, length, Option, Some, None, option_map, unsigned_abs, sym, ◌∙◌, ap, arith}
 use Rattle.std.specs.Prelude.{is_some}
 use Rattle.std.proofs.lemmas.Bool.Decides.{nat_tests}
 use Rattle.sums.specs.Places.{first_below}
 use Rattle.sums.proofs.Places.{first_found}
-use Rattle.sums.proofs.Sizes.{zero_size}
+use Rattle.sums.proofs.Sizes.{zero_size, zero_size_tested}
 use Rattle.sums.proofs.Tests.{passed_over, picked, unlike}
 use Rattle.frac_row.specs.declared.row.FracRow.{FracRow}
 use Rattle.frac_row.specs.declared.growth.Growth.{Growth}
@@ -17,9 +17,6 @@ use Rattle.row_store.specs.Table.{row_at}
 use Rattle.row_store.specs.Pivot.{scaled_row, cleared_row, clearing_growth, new_row, row_growth, pivot_growth}
 use Rattle.row_store.specs.declared.error.Place.{Place}
 
-zero_test : (q : ℤ) → q ≡ pos 0 → eqb (unsigned_abs q) 0 ≡ true
-zero_test q e = rw e refl
-
 nonzero_size : (n : ℕ) → n ≢ 0 → eqb n 0 ≡ false
 nonzero_size n ne = grind (arith, nat_tests)
 
@@ -30,7 +27,7 @@ nonzero_test q ne = nonzero_size (unsigned_abs q) (λ e. ne (zero_size q e))
 pub cleared_same : (row pivot_row : FracRow) (column : ℕ) → number_of row column ≡ pos 0 → row ≡ cleared_row row pivot_row column
 unfolding cleared_row
 cleared_same row pivot_row column e =
-    picked (eqb (unsigned_abs (number_of row column)) 0) row (combined_row row pivot_row column) (zero_test (number_of row column) e)
+    picked (eqb (unsigned_abs (number_of row column)) 0) row (combined_row row pivot_row column) (zero_size_tested (number_of row column) e)
 
 pub cleared_combined : (row pivot_row : FracRow) (column : ℕ) → number_of row column ≢ pos 0 → combined_row row pivot_row column ≡ cleared_row row pivot_row column
 unfolding cleared_row
@@ -40,7 +37,7 @@ cleared_combined row pivot_row column ne =
 pub growth_zero : (row pivot_row : FracRow) (column : ℕ) → number_of row column ≡ pos 0 → None ≡ clearing_growth row pivot_row column
 unfolding clearing_growth
 growth_zero row pivot_row column e =
-    picked (eqb (unsigned_abs (number_of row column)) 0) None (growth_of row pivot_row column) (zero_test (number_of row column) e)
+    picked (eqb (unsigned_abs (number_of row column)) 0) None (growth_of row pivot_row column) (zero_size_tested (number_of row column) e)
 
 pub growth_other : (row pivot_row : FracRow) (column : ℕ) → number_of row column ≢ pos 0 → growth_of row pivot_row column ≡ clearing_growth row pivot_row column
 unfolding clearing_growth

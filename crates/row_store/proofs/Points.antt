@@ -3,6 +3,7 @@ use Rattle.std.proofs.Common.{◌≡◌, ℕ, ◌-◌, ◌<◌, ◌≤◌, Bool,
 use Rattle.std.proofs.lemmas.Int.{ints}
 use Rattle.std.proofs.lemmas.Bool.Decides.{nat_tests}
 use lib.IntN.{*ℤ-zero, zero-*ℤ}
+use mathlib.Core.Bool.{false≢true}
 use Rattle.sums.specs.Below.{sum_below_ℤ}
 use Rattle.sums.proofs.Integers.{*ℤ--ℤ, -ℤ-*ℤ, *ℤ_assoc, *ℤ_left_comm, *ℤ_cancel, zero_factor, positive_product}
 use Rattle.sums.proofs.WholeSums.{sum_below_ℤ-same, *ℤ-sum_below_ℤ, sum_below_ℤ--ℤ}
@@ -16,7 +17,7 @@ use Rattle.frac_row.proofs.Combinations.{factors_are, number_of-combination, den
 use Rattle.row_store.specs.Table.{row_at, number_at, height_of, columns_of, IsTable}
 use Rattle.row_store.specs.Pivot.{scaled_row, cleared_row, new_row, pivoted}
 use Rattle.row_store.specs.Points.{surplus, MeetsLines, KeepsPoints, KeepsSurplus}
-use Rattle.row_store.proofs.Tables.{by_test, row_at-pivoted, length-pivoted, columns_of-pivoted}
+use Rattle.row_store.proofs.Tables.{by_test, row_at-pivoted, length-pivoted, columns_of-pivoted, in_table}
 
 -- ---- the surplus of a multiple and of a difference
 pub surplus_times : (c : ℤ) (a b : FracRow) (n : ℕ) (point : ℕ → ℤ) (scale : ℤ) → ((k : ℕ) → k ≤ n → c *ℤ number_of a k ≡ number_of b k) → c *ℤ surplus a n point scale ≡ surplus b n point scale
@@ -133,9 +134,6 @@ record IsPivot (table : List FracRow) (row column : ℕ) : Type 0 where
   real : column < columns_of table
   positive : pos 0 <ℤ number_at table row column
 
-in_table : (table : List FracRow) (row : ℕ) → row < height_of table → row < length table
-in_table table row lt = omega arith
-
 becomes_new : (table : List FracRow) (row column other : ℕ) (point : ℕ → ℤ) (scale : ℤ) → IsPivot table row column → other < length table → Becomes (row_at table other) (cleared_row (row_at table other) (row_at table row) column) (row_at table row) (columns_of table - 1) point scale
 becomes_new table row column other point scale h lt =
     becomes_cleared (row_at table other) (row_at table row) column (columns_of table - 1) point scale (h.is_table.rows other lt) h.positive
@@ -177,11 +175,7 @@ pivot_back table row column point scale h is = go (eqb row row) (same row) is
 
     go : (b : Bool) → b ≡ true → surplus (cond b (scaled_row (row_at table row) column) (cleared_row (row_at table row) (row_at table row) column)) (columns_of table - 1) point scale ≡ pos 0 → surplus (row_at table row) (columns_of table - 1) point scale ≡ pos 0
     go true e s = scaled (scaled_surplus (row_at table row) column (columns_of table - 1) point scale h.positive) s
-    go false e s = absurd (clash e)
-      where
-        clash : false ≡ true → ⊥
-        clash e = cc
-
+    go false e s = absurd (false≢true e)
 -- a row of the new table, in the old table's numbers
 new_surplus : (table : List FracRow) (row column other : ℕ) (point : ℕ → ℤ) (scale : ℤ) → IsPivot table row column → other < length table → surplus (row_at (pivoted table row column) other) (columns_of (pivoted table row column) - 1) point scale ≡ surplus (new_row table row column other) (columns_of table - 1) point scale
 new_surplus table row column other point scale h lt =

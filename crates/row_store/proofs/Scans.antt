@@ -1,17 +1,19 @@
 -- The search for the entering column along two lists of numbers.
 use Rattle.std.proofs.Common.{◌≡◌, ℕ, ◌+◌, ◌<◌, ◌≤◌, ◌≢◌, Bool, true, false, cond, ◌&&◌, ◌||◌, ◌==◌, if◌then◌else◌, ltb, ℤ, pos, List, [], ◌∷◌, Some, None, unsigned_abs, refl, sym, ◌∙◌, ap, subst, arith, inl, inr, ◌⊎◌}
-use Rattle.std.proofs.lemmas.Bool.{cases_lt}
+use Rattle.std.proofs.lemmas.Bool.{and_left, cases_eq, cases_lt}
 use Rattle.std.proofs.lemmas.Bool.Decides.{nat_tests}
 use Rattle.std.specs.Prelude.{IsTrue, ◌↔◌, ◌≤ℤ◌}
 use Rattle.std.proofs.lemmas.Int.{ints}
 use Rattle.sums.specs.Places.{first_below}
 use Rattle.sums.proofs.Places.{first_found, all_nothing}
 use Rattle.sums.proofs.Tests.{unlike}
+use Rattle.sums.proofs.NumberTests.{if_apart, if_same}
 use Rattle.sparse_row.specs.declared.entry.Entry.{Entry}
 use Rattle.sparse_row.specs.Content.{number_in, AreEntries}
-use Rattle.sparse_row.proofs.Contents.{when_same, when_apart, nothing_before}
+use Rattle.sparse_row.proofs.Contents.{nothing_before}
 use Rattle.row_store.specs.Choice.{improves, is_negative}
 use Rattle.row_store.specs.Scan.{first_where}
+use Rattle.row_store.proofs.SignTests.{not_negative_is}
 
 -- what the search tells: none passes before its answer, and one stands there where that is below the bound
 pub record IsFirst (test : Entry → Bool) (bound : ℕ) (entries : List Entry) (from answer : ℕ) : Type 0 where
@@ -36,9 +38,6 @@ by_truth : {X : Type 0} (P : X → Type 0) (b : Bool) (x y : X) → (b ≡ true 
 by_truth P true x y p q = p refl
 by_truth P false x y p q = q refl
 
-same_or : (m n : ℕ) → (m ≡ n) ⊎ (m ≢ n)
-same_or m n = grind arith
-
 nothing_at_bound : (test : Entry → Bool) (bound from : ℕ) (entries : List Entry) → ((column : ℕ) → from ≤ column → column < bound → number_in entries column ≡ pos 0) → IsFirst test bound entries from bound
 nothing_at_bound test bound from entries h = record {
   bounded = omega arith;
@@ -53,29 +52,29 @@ first_here : (test : Entry → Bool) (bound from width : ℕ) (x : Entry) (xs : 
 first_here test bound from width x xs h lt t = record {
   bounded = omega arith;
   none = λ column ge below. inl (nothing_before x.column width (x ∷ xs) column (omega arith, h.1, h.2, h.3) below);
-  found = λ _. (h.0, ap test (ap (λ n. record { column = x.column; number = n }) (when_same x.column x.column x.number (number_in xs x.column) refl)) ∙ t);
+  found = λ _. (h.0, ap test (ap (λ n. record { column = x.column; number = n }) (if_same x.column x.column x.number (number_in xs x.column) refl)) ∙ t);
 }
 
 first_later : (test : Entry → Bool) (bound from width : ℕ) (x : Entry) (xs : List Entry) (answer : ℕ) → AreEntries from width (x ∷ xs) → test x ≡ false → IsFirst test bound xs (x.column + 1) answer → IsFirst test bound (x ∷ xs) from answer
 first_later test bound from width x xs answer h t later = record {
   bounded = later.bounded;
-  none = λ column ge lt. at_column column lt (same_or x.column column) (cases_lt column x.column);
+  none = λ column ge lt. at_column column lt (cases_eq x.column column) (cases_lt column x.column);
   found = λ lt. behind (later.found lt);
 }
   where
     at_column : (column : ℕ) → column < answer → (x.column ≡ column) ⊎ (x.column ≢ column) → (column < x.column) ⊎ (x.column ≤ column) → (number_in (x ∷ xs) column ≡ pos 0) ⊎ (test (record { column = column; number = number_in (x ∷ xs) column }) ≡ false)
     at_column column lt (inl e) o =
-        inr (subst (λ c. test (record { column = c; number = number_in (x ∷ xs) c }) ≡ false) e (ap test (ap (λ n. record { column = x.column; number = n }) (when_same x.column x.column x.number (number_in xs x.column) refl)) ∙ t))
+        inr (subst (λ c. test (record { column = c; number = number_in (x ∷ xs) c }) ≡ false) e (ap test (ap (λ n. record { column = x.column; number = n }) (if_same x.column x.column x.number (number_in xs x.column) refl)) ∙ t))
     at_column column lt (inr ne) (inl before) = inl (nothing_before x.column width (x ∷ xs) column (omega arith, h.1, h.2, h.3) before)
     at_column column lt (inr ne) (inr ge) =
-        let e : number_in (x ∷ xs) column ≡ number_in xs column = when_apart x.column column x.number (number_in xs column) ne in
+        let e : number_in (x ∷ xs) column ≡ number_in xs column = if_apart x.column column x.number (number_in xs column) ne in
         elim (later.none column (omega arith) lt) [
           | inl z ↦ inl (e ∙ z)
           | inr f ↦ inr (subst (λ n. test (record { column = column; number = n }) ≡ false) (sym e) f)
         ]
 
     behind : (x.column + 1 ≤ answer) × (test (record { column = answer; number = number_in xs answer }) ≡ true) → (from ≤ answer) × (test (record { column = answer; number = number_in (x ∷ xs) answer }) ≡ true)
-    behind (ge, f) = (omega (arith, h.0), subst (λ n. test (record { column = answer; number = n }) ≡ true) (sym (when_apart x.column answer x.number (number_in xs answer) (apart ge))) f)
+    behind (ge, f) = (omega (arith, h.0), subst (λ n. test (record { column = answer; number = n }) ≡ true) (sym (if_apart x.column answer x.number (number_in xs answer) (apart ge))) f)
       where
         apart : x.column + 1 ≤ answer → x.column ≢ answer
         apart le = omega arith
@@ -149,14 +148,9 @@ scanned_from phase cost width columns bound answer phases costs h k p q eb ea =
       answer_fits = two.bounded;
       no_phase = λ column lt. elim (one.none column (omega arith) lt) [ inl z ↦ negative_zero (phase column) (sym (p column) ∙ z) | inr t ↦ ap is_negative (sym (p column)) ∙ t ];
       phase_found = λ lt. ap is_negative (sym (p bound)) ∙ (one.found lt).1;
-      no_cost = λ column lt. elim (two.none column (omega arith) lt) [ inl z ↦ no_and (is_negative (cost column)) _ (negative_zero (cost column) (sym (q column) ∙ z)) | inr t ↦ ap (λ n. is_negative n && (unsigned_abs (phase column) == 0)) (sym (q column)) ∙ t ];
+      no_cost = λ column lt. elim (two.none column (omega arith) lt) [ inl z ↦ and_left (is_negative (cost column)) _ (negative_zero (cost column) (sym (q column) ∙ z)) | inr t ↦ ap (λ n. is_negative n && (unsigned_abs (phase column) == 0)) (sym (q column)) ∙ t ];
       cost_found = λ lt. ap (λ n. is_negative n && (unsigned_abs (phase answer) == 0)) (sym (q answer)) ∙ (two.found lt).1;
     }
-  where
-    no_and : (b c : Bool) → b ≡ false → (b && c) ≡ false
-    no_and false c e = refl
-    no_and true c e = unlike e
-
 none_before : (phase cost : ℕ → ℤ) (columns bound answer : ℕ) → IsScanned phase cost columns bound answer → first_below (λ column. if improves (phase column) (cost column) then Some column else None) answer ≡ None
 none_before phase cost columns bound answer h =
     all_nothing (λ column. if improves (phase column) (cost column) then Some column else None) answer (λ column lt. fails (improves (phase column) (cost column)) column (no_improvement (phase column) (cost column) (h.no_phase column (omega (arith, h.answer_fits))) (h.no_cost column lt)))
@@ -178,15 +172,13 @@ scan_none phase cost columns bound answer h le =
     sym (subst (λ k. first_below (λ column. if improves (phase column) (cost column) then Some column else None) k ≡ None) same (none_before phase cost columns bound answer h))
 
 -- ---- whether no number is below 0
-at_least_0 : (z : ℤ) → is_negative z ≡ false → pos 0 ≤ℤ z
-at_least_0 z t = grind (arith, ints)
 
 not_negative : (z : ℤ) → pos 0 ≤ℤ z → is_negative z ≡ true → ⊥
 not_negative z le t = grind (arith, ints)
 
 pub none_negative : (number : ℕ → ℤ) (width columns answer : ℕ) (entries : List Entry) → AreEntries 0 width entries → ((column : ℕ) → number_in entries column ≡ number column) → answer ≡ first_where (λ entry. is_negative entry.number) columns entries → IsTrue (answer == columns) ↔ ((column : ℕ) → column < columns → pos 0 ≤ℤ number column)
 none_negative number width columns answer entries h is e =
-    (λ t column lt. at_least_0 (number column) (each column (subst (λ n. column < n) (sym (same answer columns t)) lt)), λ none. equal (no_answer none))
+    (λ t column lt. not_negative_is (number column) (each column (subst (λ n. column < n) (sym (same answer columns t)) lt)), λ none. equal (no_answer none))
   where
     first : IsFirst (λ entry. is_negative entry.number) columns entries 0 answer
     first = subst (IsFirst (λ entry. is_negative entry.number) columns entries 0) (sym e) (first_where_is (λ entry. is_negative entry.number) columns 0 width entries h)

@@ -1,14 +1,12 @@
 -- A table of small rows: no pivot of it is outgrown.
-use Rattle.std.proofs.Common.{◌≡◌, ◌≢◌, ◌⊎◌, ℕ, zero, suc, ◌<◌, ℤ, pos, negsuc, ◌<ℤ◌, List, length, None, refl, sym, subst, arith, inl, inr}
+use Rattle.std.proofs.Common.{◌≡◌, ◌≢◌, ◌⊎◌, ℕ, zero, suc, ◌<◌, ℤ, pos, negsuc, ◌<ℤ◌, List, length, None, refl, sym, subst, inl, inr}
+use Rattle.std.proofs.lemmas.Bool.{cases_eq}
 use Rattle.sums.proofs.Places.{all_nothing}
 use Rattle.frac_row.specs.declared.row.FracRow.{FracRow}
 use Rattle.frac_row.specs.Row.{number_of, IsSmall}
 use Rattle.row_store.specs.Table.{row_at, number_at, columns_of, IsTable}
 use Rattle.row_store.specs.Pivot.{clearing_growth, row_growth, pivot_growth}
 use Rattle.row_store.proofs.Pivots.{growth_zero, growth_small, row_growth_self, row_growth_other}
-
-same_or : (m n : ℕ) → (m ≡ n) ⊎ (m ≢ n)
-same_or m n = grind arith
 
 zero_or : (z : ℤ) → (z ≡ pos 0) ⊎ (z ≢ pos 0)
 zero_or (pos zero) = inl refl
@@ -33,4 +31,4 @@ module _ (table : List FracRow) (row column : ℕ) (h : IsTable table) (in_table
 
   pub small_growth : pivot_growth table row column ≡ None
   unfolding pivot_growth
-  small_growth = all_nothing (row_growth table row column) (length table) (λ k lt. no_row_growth k lt (same_or k row))
+  small_growth = all_nothing (row_growth table row column) (length table) (λ k lt. no_row_growth k lt (cases_eq k row))

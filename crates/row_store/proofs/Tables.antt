@@ -8,7 +8,7 @@ use Rattle.frac_row.specs.Row.{number_of, width_of, IsRow}
 use Rattle.frac_row.specs.Combined.{combined_row, combination, factors_of, growth_of}
 use Rattle.frac_row.proofs.Rows.{reduced_is_row, width_of-reduced}
 use Rattle.frac_row.proofs.Combinations.{factors_are, combination_is_row}
-use Rattle.row_store.specs.Table.{no_row, row_at, number_at, columns_of, IsTable}
+use Rattle.row_store.specs.Table.{no_row, row_at, number_at, columns_of, height_of, IsTable}
 use Rattle.row_store.specs.Pivot.{scaled_row, cleared_row, clearing_growth, new_row, pivoted, row_growth, pivot_growth}
 use Rattle.row_store.specs.declared.error.Place.{Place}
 
@@ -16,6 +16,10 @@ use Rattle.row_store.specs.declared.error.Place.{Place}
 pub by_test : {X : Type 0} (P : X → Type 0) (b : Bool) (x y : X) → (b ≡ true → P x) → (b ≡ false → P y) → P (cond b x y)
 by_test P true x y p q = p refl
 by_test P false x y p q = q refl
+
+-- a line of the table, in the terms of its height
+pub in_table : (table : List FracRow) (row : ℕ) → row < height_of table → row < length table
+in_table table row lt = omega arith
 
 -- ---- single rows
 pub width_of-combination : (row pivot_row : FracRow) (column : ℕ) → width_of (combined_row row pivot_row column) ≡ width_of row

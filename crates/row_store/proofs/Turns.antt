@@ -1,21 +1,23 @@
 -- Laws of turned rows, and of steps by them.
-use Rattle.std.proofs.Common.{◌≡◌, ℕ, ◌<◌, ◌≤◌, ◌≢◌, true, false, ℤ, pos, ◌<ℤ◌, List, length, map, set, get_or, refl, sym, ◌∙◌, ap, subst, inl, inr, arith, zero, suc, negsuc, [], ◌∷◌, to_z, of_z, length-set, set-set, get_or-set_same, get_or-set_other}
+use Rattle.std.proofs.Common.{◌≡◌, ℕ, ◌<◌, ◌≤◌, ◌≢◌, false, ℤ, pos, ◌<ℤ◌, List, length, map, set, get_or, refl, sym, ◌∙◌, ap, subst, inl, inr, arith, zero, suc, negsuc, [], ◌∷◌, to_z, of_z, length-set, set-set, get_or-set_same, get_or-set_other}
 use Rattle.std.specs.Prelude.{neg_ℤ, int_lt}
 use Rattle.std.proofs.lemmas.Int.{ints, to_z-of_z}
 use Rattle.std.proofs.lemmas.Bool.{cases_eq, cond-true, cond-false}
 use Rattle.std.proofs.lemmas.List.{set-get_or, get_or_read, same_lists, get_or_default}
 use Rattle.sums.specs.Places.{IsFilledBelow}
+use Rattle.sums.proofs.Sizes.{opposite_above}
 use mir.Syntax.{w128}
 use mir.Val.{SFits}
 use lib.ListN.{length-map, get_or-map}
 use lib.IntN.{neg_ℤ-neg_ℤ}
 use Rattle.frac_row.specs.declared.row.FracRow.{FracRow}
-use Rattle.frac_row.specs.Outgrown.{IsWithin}
 use Rattle.frac_row.specs.Row.{number_of, width_of, IsRow}
+use Rattle.frac_row.proofs.Combinations.{opposite_within}
 use Rattle.row_store.specs.Table.{no_row, row_at, number_at, columns_of, IsTable}
 use Rattle.row_store.specs.Choice.{is_negative}
 use Rattle.row_store.specs.Pivot.{pivoted, pivot_growth}
 use Rattle.row_store.specs.Steps.{turned_row, turned, made_positive, stepped, step_growth}
+use Rattle.row_store.proofs.SignTests.{negative_tested}
 
 -- ---- one row
 pub width_of-turned_row : (row : FracRow) → width_of (turned_row row) ≡ width_of row
@@ -29,9 +31,6 @@ number_of-turned_row row column = get_or-map neg_ℤ row.numbers column (pos 0)
 pub den-turned_row : (row : FracRow) → (turned_row row).den ≡ row.den
 unfolding turned_row
 den-turned_row row = refl
-
-opposite_within : (z : ℤ) → IsWithin z → IsWithin (neg_ℤ z)
-opposite_within z h = omega (arith, ints)
 
 turned_is_row : (row : FracRow) → IsRow row → IsRow (turned_row row)
 turned_is_row row h = record {
@@ -91,8 +90,6 @@ turned_twice table row lt =
     ∙ ap (set table row) (ap turned_row (row_at-turned table row lt) ∙ row_turned_twice (row_at table row)) ∙ set-get_or table row no_row
 
 -- ---- steps
-negative_test : (z : ℤ) → z <ℤ pos 0 → is_negative z ≡ true
-negative_test z h = grind (arith, ints)
 
 positive_test : (z : ℤ) → pos 0 <ℤ z → is_negative z ≡ false
 positive_test z h = grind (arith, ints)
@@ -103,7 +100,7 @@ made_positive-same table row column above = cond-false (is_negative (number_at t
 
 pub made_positive-turned : (table : List FracRow) (row column : ℕ) → number_at table row column <ℤ pos 0 → made_positive table row column ≡ turned table row
 unfolding made_positive
-made_positive-turned table row column below = cond-true (is_negative (number_at table row column)) (turned table row) table (negative_test (number_at table row column) below)
+made_positive-turned table row column below = cond-true (is_negative (number_at table row column)) (turned table row) table (negative_tested (number_at table row column) below)
 
 pub stepped-same : (table : List FracRow) (row column : ℕ) → pos 0 <ℤ number_at table row column → pivoted table row column ≡ stepped table row column
 unfolding stepped
@@ -136,11 +133,7 @@ all_turned old new n h le =
 -- a number below 0 is above 0 in the turned row
 pub turned_number : (table : List FracRow) (row column : ℕ) → row < length table → number_at table row column <ℤ pos 0 → pos 0 <ℤ number_at (turned table row) row column
 turned_number table row column lt below =
-    rw (row_at-turned table row lt) (rw (number_of-turned_row (row_at table row) column) (opposite (number_at table row column) below))
-  where
-    opposite : (z : ℤ) → z <ℤ pos 0 → pos 0 <ℤ neg_ℤ z
-    opposite z below = omega (arith, ints)
-
+    rw (row_at-turned table row lt) (rw (number_of-turned_row (row_at table row) column) (opposite_above (number_at table row column) below))
 -- what is neither above 0 nor 0 is below
 pub below_zero : (held z : ℤ) → SFits w128 held → held ≡ z → int_lt (pos 0) (to_z w128 (of_z w128 held)) ≡ false → z ≢ pos 0 → z <ℤ pos 0
 below_zero held z fits e t other = by_sign z other (λ above. absurd (clash held z (simp to_z-of_z at t) e above)) (λ below. below)

@@ -1,6 +1,7 @@
 -- Records that read as legs keep what legs keep.
 use Rattle.std.proofs.Common.{◌≡◌, ◌<◌, ◌&&◌, ◌==◌, ℕ, false, not, nat_le, List, [], ◌∷◌, ◌++◌, length, map, Ok, refl, subst, arith}
 use Rattle.std.specs.Str.{is_utf8}
+use Rattle.sums.proofs.NumberTests.{some_tested}
 use Rattle.csv_fields.specs.Name.{name_of, station_code_of}
 use Rattle.csv_fields.specs.Time.{clock_time_of}
 use Rattle.fleet_model.specs.declared.limits.TheConstants.{MAX_LEGS, MINUTES_PER_DAY, MINUTES_PER_PERIOD}
@@ -12,7 +13,7 @@ use Rattle.table_rows.specs.Fields.{five_of}
 use Rattle.table_rows.specs.Names.{is_among, number_of}
 use Rattle.table_rows.specs.Rows.{Fields}
 use Rattle.table_rows.proofs.OneReading.{front_keeps}
-use Rattle.table_rows.proofs.ReadParts.{above_zero, form_ok, known_ok, name_form, not_refused, number_within, room_left, same_answer, width_ok}
+use Rattle.table_rows.proofs.ReadParts.{form_ok, known_ok, name_form, not_refused, number_within, room_left, same_answer, width_ok}
 use Rattle.sched_read.specs.Legs.{IsNewLeg, LegsRead, block_between, flight_of, from_day_start, leg_read}
 use Rattle.sched_read.proofs.LegsKept.{legs_kept_none, legs_kept_push}
 
@@ -48,7 +49,7 @@ new_leg stations settings old fields leg reads =
         from = number_within wide.0.1 stations from_known.0 from_known.1;
         to = number_within wide.0.3 stations to_known.0 to_known.1;
         dep = minute_within settings leaves.0;
-        some_block = above_zero (block_between leaves.0 lands.0) flies.0;
+        some_block = some_tested (block_between leaves.0 lands.0) flies.0;
         block = block_within leaves.0 lands.0;
       });
       room = room_left MAX_LEGS (length old) room.0;

@@ -1,5 +1,5 @@
 -- What the last table tells where no column enters.
-use Rattle.std.proofs.Common.{◌≡◌, ℕ, zero, suc, ◌+◌, ◌-◌, ◌<◌, ◌≤◌, ◌==◌, length, List, ℤ, pos, ◌-ℤ◌, ◌*ℤ◌, ◌<ℤ◌, ◌≤ℤ◌, refl, sym, ◌∙◌, ap, subst, arith}
+use Rattle.std.proofs.Common.{◌≡◌, ℕ, zero, suc, ◌+◌, ◌-◌, ◌<◌, ◌≤◌, ◌==◌, length, List, ℤ, pos, ◌-ℤ◌, ◌*ℤ◌, ◌<ℤ◌, ◌≤ℤ◌, refl, sym, ◌∙◌, ap, subst, arith, add-sub_of_le}
 use Rattle.std.specs.Prelude.{neg_ℤ}
 use Rattle.std.proofs.lemmas.Int.{ints}
 use Rattle.std.proofs.lemmas.Bool.{eq-eqb, cond-true}
@@ -139,7 +139,7 @@ unfolding whole_point basic_point basic_value at_place
 side_is_0 rows made table basis line h sides met lt ge =
     let t : IsBasicTable rows table basis = basic_table rows table basis (run_is_reached rows made table basis h) in
     let at : ℕ = basic basis line - rows.columns in
-    let same : rows.columns + at ≡ basic basis line = back rows.columns (basic basis line) ge in
+    let same : rows.columns + at ≡ basic basis line = add-sub_of_le ge in
     let empty : whole_point rows table basis (basic basis line) ≡ pos 0 = subst (λ c. whole_point rows table basis c ≡ pos 0) same (identity_is_0 rows made table basis at h sides met (within rows.columns (basic basis line) (length rows.lines) ge (t.units.within line lt))) in
     let value : where_true (basic basis line == basic basis line) (basic_value rows table line) ≡ pos 0 =
     each_is_0 (λ k. where_true (basic basis k == basic basis line) (basic_value rows table k)) (length rows.lines) line
@@ -148,8 +148,5 @@ side_is_0 rows made table basis line h sides met lt ge =
     (*ℤ_comm (scale_over table (length rows.lines) line) (number_at table line (rows.columns + length rows.lines))
     ∙ sym (cond-true (basic basis line == basic basis line) (basic_value rows table line) (pos 0) (eq-eqb (basic basis line) (basic basis line) refl)) ∙ value)
   where
-    back : (n c : ℕ) → n ≤ c → n + (c - n) ≡ c
-    back n c le = omega arith
-
     within : (n c m : ℕ) → n ≤ c → c < n + m → c - n < m
     within n c m le lt = omega arith

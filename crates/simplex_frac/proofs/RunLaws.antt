@@ -1,8 +1,8 @@
 -- Proofs of the laws of the run.
-use Rattle.std.proofs.Common.{◌≡◌, ℕ, zero, suc, ℤ, pos, ◌<ℤ◌, List, [], ◌∷◌, set, Option, Some, None, refl, sym, ◌∙◌, ap, subst, arith}
+use Rattle.std.proofs.Common.{◌≡◌, ℕ, zero, suc, List, [], ◌∷◌, set, Option, Some, None, refl, sym, ◌∙◌, ap, subst}
 use Rattle.std.specs.Prelude.{option_and_then}
-use Rattle.std.proofs.lemmas.Int.{ints}
 use Rattle.sums.proofs.Tests.{none_some, some_is}
+use Rattle.sums.proofs.Sizes.{above_is_other}
 use Rattle.frac_row.specs.declared.row.FracRow.{FracRow}
 use Rattle.row_store.specs.declared.error.Place.{Place}
 use Rattle.row_store.specs.Table.{number_at}
@@ -51,13 +51,9 @@ step_of first columns pivots now s =
     record {
       line = place.line;
       real = place.real;
-      number = λ e. not_0 (number_at s.before.table s.row s.column) place.positive e;
+      number = λ e. above_is_other (number_at s.before.table s.row s.column) place.positive e;
       fits = sym (step_growth-same s.before.table s.row s.column place.positive) ∙ s.fits;
     }
-  where
-    not_0 : (z : ℤ) → pos 0 <ℤ z → z ≡ pos 0 → ⊥
-    not_0 z above e = omega (arith, ints)
-
 after_is : (first : List FracRow) (columns pivots : ℕ) (now : Tableau) (s : IsStep first columns pivots now) → after_step s.before (record { row = s.row; column = s.column }) ≡ now
 unfolding after_step
 after_is first columns pivots now s =

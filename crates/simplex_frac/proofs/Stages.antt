@@ -1,7 +1,8 @@
 -- The run, stage by stage.
-use Rattle.std.proofs.Common.{◌≡◌, ℕ, suc, ◌+◌, ◌-◌, ◌<◌, List, length, set, Some, None, sym, ◌∙◌, ap, arith, add-one, length-set}
+use Rattle.std.proofs.Common.{◌≡◌, ℕ, suc, ◌+◌, ◌-◌, ◌<◌, List, length, set, Some, None, sym, ◌∙◌, ap, add-one, length-set}
 use Rattle.std.specs.Prelude.{option_and_then}
 use Rattle.sums.specs.Places.{list_below}
+use Rattle.sums.proofs.Naturals.{less_two}
 use Rattle.frac_row.specs.declared.row.FracRow.{FracRow}
 use Rattle.row_store.specs.Table.{HasColumns, height_of, IsTable}
 use Rattle.row_store.specs.Pivot.{pivoted, pivot_growth}
@@ -14,12 +15,8 @@ use Rattle.simplex_frac.specs.declared.turn.Turn.TheVariants.{Pivot}
 pub reaches_first : (table : List FracRow) (columns : ℕ) (basis : List ℕ) (height : ℕ) → height + 2 ≡ length table → basis ≡ list_below (λ line. columns + line) height → Reaches table columns 0 table basis
 unfolding first_tableau
 reaches_first table columns basis height tall e = record {
-  reached = ap (λ b. Some (record { table = table; basis = b })) (sym (e ∙ ap (list_below (λ line. columns + line)) (same_height height (length table) tall)));
+  reached = ap (λ b. Some (record { table = table; basis = b })) (sym (e ∙ ap (list_below (λ line. columns + line)) (less_two height (length table) tall)));
 }
-  where
-    same_height : (h n : ℕ) → h + 2 ≡ n → h ≡ n - 2
-    same_height h n e = omega arith
-
 -- one pivot more
 pub reaches_next : (first : List FracRow) (columns made : ℕ) (table after : List FracRow) (basis : List ℕ) (row column : ℕ) → Reaches first columns made table basis → Pivot row column ≡ turn (record { table = table; basis = basis }) columns → pivot_growth table row column ≡ None → after ≡ pivoted table row column → Reaches first columns (made + 1) after (set basis row column)
 reaches_next first columns made table after basis row column h t none e =

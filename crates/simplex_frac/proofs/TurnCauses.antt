@@ -3,11 +3,12 @@ use Rattle.std.proofs.Common.{◌≡◌, ℕ, ◌<◌, Bool, true, false, ◌&&�
 use Rattle.std.proofs.lemmas.Int.{ints}
 use Rattle.std.proofs.lemmas.Bool.{eqb-true, or_cases, or_parts, and_parts, both_ways}
 use Rattle.sums.proofs.Places.{nothing_at}
-use Rattle.sums.proofs.Sizes.{zero_size}
+use Rattle.sums.proofs.Sizes.{zero_size, zero_size_tested}
 use Rattle.frac_row.specs.declared.row.FracRow.{FracRow}
 use Rattle.row_store.specs.Table.{number_at, phase_row, cost_row, right_side}
 use Rattle.row_store.specs.Choice.{is_negative, improves, is_improving, entering, leaving}
 use Rattle.row_store.proofs.Choices.{entering_is}
+use Rattle.row_store.proofs.SignTests.{not_negative_is}
 use Rattle.reached_tables.specs.Tableaux.{Tableau}
 use Rattle.simplex_frac.specs.Run.{turn, turn_by, turn_at}
 use Rattle.simplex_frac.specs.declared.turn.Turn.TheVariants.{Best, NoPoint, Ray, Pivot}
@@ -70,15 +71,12 @@ no_point_ends now columns e = by_entering (entering now.table columns) refl e
     by_leaving entered None q = cc
     by_leaving entered (Some left) q = cc
 
-    zero_test : (q : ℤ) → q ≡ pos 0 → eqb (unsigned_abs q) 0 ≡ true
-    zero_test q e = rw e refl
-
     by_test : (b : Bool) → cond b Best NoPoint ≡ NoPoint → b ≡ false
     by_test true q = cc
     by_test false q = refl
 
     by_entering : (o : Option ℕ) → entering now.table columns ≡ o → turn_by now o ≡ NoPoint → EndsNoPoint now columns
-    by_entering None p q = record { none = p; unmet = λ zero. both_ways _ (by_test _ q) (zero_test _ zero) }
+    by_entering None p q = record { none = p; unmet = λ zero. both_ways _ (by_test _ q) (zero_size_tested _ zero) }
     by_entering (Some entered) p q = absurd (by_leaving entered (leaving now.table now.basis entered) q)
 
 -- a column enters, and no row leaves
@@ -108,14 +106,9 @@ ray_ends now columns column e = by_entering (entering now.table columns) refl e
     by_entering (Some entered) p q = by_leaving entered (leaving now.table now.basis entered) refl p q
 
 -- ---- which columns improve
-negative_test : (z : ℤ) → z <ℤ pos 0 → is_negative z ≡ true
-negative_test z h = grind (arith, ints)
 
 test_negative : (z : ℤ) → is_negative z ≡ true → z <ℤ pos 0
 test_negative z h = grind (arith, ints)
-
-other_test : (z : ℤ) → is_negative z ≡ false → pos 0 ≤ℤ z
-other_test z h = grind (arith, ints)
 
 -- the phase row is below 0 there, or it is 0 and the cost row is below 0
 pub record Improves (p q : ℤ) : Type 0 where
@@ -150,13 +143,13 @@ improves_not : (p q : ℤ) → improves p q ≡ false → ImprovesNot p q
 unfolding improves
 improves_not p q t =
     let parts = or_parts _ _ t in
-    record { phase = other_test p parts.0; cost = λ e. at_zero (is_negative q) refl e parts.1 }
+    record { phase = not_negative_is p parts.0; cost = λ e. at_zero (is_negative q) refl e parts.1 }
   where
     zero_test : p ≡ pos 0 → eqb (unsigned_abs p) 0 ≡ true
     zero_test e = rw e refl
 
     at_zero : (b : Bool) → is_negative q ≡ b → p ≡ pos 0 → (eqb (unsigned_abs p) 0 && b) ≡ false → pos 0 ≤ℤ q
-    at_zero false n e h = other_test q n
+    at_zero false n e h = not_negative_is q n
     at_zero true n e h = absurd (never (eqb (unsigned_abs p) 0) (zero_test e) h)
       where
         never : (c : Bool) → c ≡ true → (c && true) ≡ false → ⊥

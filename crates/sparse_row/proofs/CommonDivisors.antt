@@ -7,12 +7,13 @@ use Rattle.sums.specs.Divisors.{gcd, gcd_below}
 use Rattle.sums.specs.Places.{list_below}
 use Rattle.sums.proofs.Divisors.{gcd-zero, gcd_is, gcd_from}
 use Rattle.sums.proofs.Places.{length-list_below, get_or-list_below}
+use Rattle.sums.proofs.NumberTests.{if_apart, if_same}
 use Rattle.frac_row.specs.Outgrown.{IsWithin}
 use Rattle.frac_row.specs.Row.{number_of, width_of, IsRow, common_divisor, reduced}
 use Rattle.frac_row.proofs.Rows.{number_times, number_of-reduced, reduced_by}
 use Rattle.sparse_row.specs.declared.entry.Entry.{Entry}
 use Rattle.sparse_row.specs.Content.{number_in, number_at, divided_entry, AreEntries, IsHeld, content_of}
-use Rattle.sparse_row.proofs.Contents.{no_entry, when_same, when_apart, column_at, nothing_before, width_of-content, number_of-held, number_at-held, number_of-place, den-content, some_at_place}
+use Rattle.sparse_row.proofs.Contents.{no_entry, column_at, nothing_before, width_of-content, number_of-held, number_at-held, number_of-place, den-content, some_at_place}
 
 -- ---- the common divisor
 -- numbers that are 0 have no part in it
@@ -34,7 +35,7 @@ divisor_from d from width f [] le h is = sym (over_zeros d f from width le (λ k
 divisor_from d from width f (x ∷ xs) le h is =
     first_taken (gcd_below d f from) (λ k. unsigned_abs (number_at (x ∷ xs) k)) (length xs)
     ∙ ap (λ g. gcd_below g (λ k. unsigned_abs (number_at xs k)) (length xs)) here
-    ∙ divisor_from d (x.column + 1) width f xs (omega (arith, h.1)) h.3 (λ k ge. is k (omega (arith, h.0)) ∙ ap unsigned_abs (when_apart x.column k x.number _ (apart k ge)))
+    ∙ divisor_from d (x.column + 1) width f xs (omega (arith, h.1)) h.3 (λ k ge. is k (omega (arith, h.0)) ∙ ap unsigned_abs (if_apart x.column k x.number _ (apart k ge)))
   where
     apart : (k : ℕ) → x.column + 1 ≤ k → x.column ≢ k
     apart k ge = omega arith
@@ -45,7 +46,7 @@ divisor_from d from width f (x ∷ xs) le h is =
     here : gcd (gcd_below d f from) (unsigned_abs x.number) ≡ gcd_below d f (x.column + 1)
     here =
         ap (λ g. gcd g (unsigned_abs x.number)) (sym (over_zeros d f from x.column h.0 zeros))
-        ∙ ap (gcd (gcd_below d f x.column)) (sym (is x.column h.0 ∙ ap unsigned_abs (when_same x.column x.column x.number _ refl)))
+        ∙ ap (gcd (gcd_below d f x.column)) (sym (is x.column h.0 ∙ ap unsigned_abs (if_same x.column x.column x.number _ refl)))
         ∙ ap (gcd_below d f) (sym (add-one x.column))
 
 pub divisor_is : (entries : List Entry) (width : ℕ) (den : ℤ) → IsHeld entries width → gcd_below (unsigned_abs den) (λ k. unsigned_abs (number_at entries k)) (length entries) ≡ common_divisor (content_of entries width den)

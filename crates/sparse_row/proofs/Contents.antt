@@ -1,5 +1,5 @@
 -- What stands in a column of a row that is held by its numbers other than 0.
-use Rattle.std.proofs.Common.{◌≡◌, ℕ, zero, suc, ◌+◌, ◌<◌, ◌≤◌, ◌≢◌, cond, eqb, ℤ, pos, List, [], ◌∷◌, length, get_or, Result, Ok, Err, IfOk, IfErr, refl, sym, ◌∙◌, ap, subst, arith, inl, inr}
+use Rattle.std.proofs.Common.{◌≡◌, ℕ, zero, suc, ◌+◌, ◌<◌, ◌≤◌, ◌≢◌, ℤ, pos, List, [], ◌∷◌, length, get_or, Result, Ok, Err, IfOk, IfErr, refl, sym, ◌∙◌, ap, subst, arith, inl, inr}
 use Rattle.std.specs.List.Sorted.{IsSearchInRange, IsBinarySearchResult, IsNonDecreasingBy}
 use Rattle.std.specs.Ordering.{nat_cmp, ordering_index}
 use Rattle.std.proofs.lemmas.Cmp.{ranked}
@@ -7,16 +7,11 @@ use Rattle.std.proofs.lemmas.List.Sorted.{IsNonDecreasingBy-from_default}
 use Rattle.std.proofs.lemmas.Bool.{cases_lt}
 use Rattle.std.proofs.lemmas.Bool.Decides.{nat_tests}
 use Rattle.sums.proofs.Places.{length-list_below, get_or-list_below}
+use Rattle.sums.proofs.NumberTests.{if_apart, if_same}
 use Rattle.frac_row.specs.Row.{number_of, width_of}
 use Rattle.sparse_row.specs.declared.entry.Entry.{Entry}
 use Rattle.std.proofs.lemmas.List.{get_or_past}
 use Rattle.sparse_row.specs.Content.{number_in, number_at, AreEntries, IsHeld, content_of}
-
-pub when_same : {X : Type 0} (m n : ℕ) (x y : X) → m ≡ n → cond (eqb m n) x y ≡ x
-when_same m n x y h = grind (arith, nat_tests)
-
-pub when_apart : {X : Type 0} (m n : ℕ) (x y : X) → m ≢ n → cond (eqb m n) x y ≡ y
-when_apart m n x y h = grind (arith, nat_tests)
 
 -- stands past the last entry
 abbrev pub no_entry : Entry
@@ -38,7 +33,7 @@ are_within from width most (x ∷ xs) le h = (h.0, omega (arith, h.1), h.2, are_
 pub nothing_before : (from width : ℕ) (entries : List Entry) (column : ℕ) → AreEntries from width entries → column < from → number_in entries column ≡ pos 0
 nothing_before from width [] column h lt = refl
 nothing_before from width (x ∷ xs) column h lt =
-    when_apart x.column column _ _ (apart h.0) ∙ nothing_before (x.column + 1) width xs column h.3 (omega (arith, h.0))
+    if_apart x.column column _ _ (apart h.0) ∙ nothing_before (x.column + 1) width xs column h.3 (omega (arith, h.0))
   where
     apart : from ≤ x.column → x.column ≢ column
     apart le = omega arith
@@ -47,7 +42,7 @@ nothing_before from width (x ∷ xs) column h lt =
 pub nothing_past : (from width : ℕ) (entries : List Entry) (column : ℕ) → AreEntries from width entries → width ≤ column → number_in entries column ≡ pos 0
 nothing_past from width [] column h le = refl
 nothing_past from width (x ∷ xs) column h le =
-    when_apart x.column column _ _ (apart h.1) ∙ nothing_past (x.column + 1) width xs column h.3 le
+    if_apart x.column column _ _ (apart h.1) ∙ nothing_past (x.column + 1) width xs column h.3 le
   where
     apart : x.column < width → x.column ≢ column
     apart lt = omega arith
@@ -66,9 +61,9 @@ columns_rise from width (x ∷ xs) (suc j) (suc k) h lt in_range = columns_rise 
 
 pub number_at_place : (from width : ℕ) (entries : List Entry) (k : ℕ) → AreEntries from width entries → k < length entries → (get_or entries k no_entry).number ≡ number_in entries (column_at entries k)
 number_at_place from width [] k h lt = absurd (omega arith)
-number_at_place from width (x ∷ xs) zero h lt = sym (when_same x.column x.column x.number _ refl)
+number_at_place from width (x ∷ xs) zero h lt = sym (if_same x.column x.column x.number _ refl)
 number_at_place from width (x ∷ xs) (suc k) h lt =
-    number_at_place (x.column + 1) width xs k h.3 (omega arith) ∙ sym (when_apart x.column (column_at xs k) _ _ (apart (from_at (x.column + 1) width xs k h.3 (omega arith))))
+    number_at_place (x.column + 1) width xs k h.3 (omega arith) ∙ sym (if_apart x.column (column_at xs k) _ _ (apart (from_at (x.column + 1) width xs k h.3 (omega arith))))
   where
     apart : x.column + 1 ≤ column_at xs k → x.column ≢ column_at xs k
     apart le = omega arith
@@ -76,7 +71,7 @@ number_at_place from width (x ∷ xs) (suc k) h lt =
 nothing_found : (entries : List Entry) (column : ℕ) → ((k : ℕ) → k < length entries → column_at entries k ≢ column) → pos 0 ≡ number_in entries column
 nothing_found [] column h = refl
 nothing_found (x ∷ xs) column h =
-    nothing_found xs column (λ k lt. h (suc k) (omega arith)) ∙ sym (when_apart x.column column _ _ (h 0 (omega arith)))
+    nothing_found xs column (λ k lt. h (suc k) (omega arith)) ∙ sym (if_apart x.column column _ _ (h 0 (omega arith)))
 
 -- what a search by bisection tells
 pub record IsFound (entries : List Entry) (column place : ℕ) : Type 0 where

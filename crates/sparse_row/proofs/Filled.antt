@@ -1,15 +1,16 @@
 -- A row that is filled from its first column on.
 use Rattle.std.proofs.Common.{◌≡◌, ℕ, ◌+◌, ◌<◌, ◌≤◌, ◌≢◌, cond, eqb, ℤ, pos, List, [], ◌∷◌, ◌++◌, get_or, set, refl, sym, ◌∙◌, ap, subst, arith, inl, inr, ◌⊎◌, length-set, get_or-set_same, get_or-set_other}
-use Rattle.std.proofs.lemmas.Bool.{cases_lt}
+use Rattle.std.proofs.lemmas.Bool.{cases_eq, cases_lt}
 use Rattle.std.proofs.lemmas.List.{ext_get_or}
 use Rattle.sums.specs.Places.{list_below}
 use Rattle.sums.proofs.Places.{length-list_below, get_or-list_below}
+use Rattle.sums.proofs.NumberTests.{if_apart, if_same}
 use Rattle.frac_row.specs.Row.{number_of, width_of}
 use Rattle.frac_row.specs.declared.row.FracRow.{FracRow}
 use Rattle.frac_row.proofs.Rows.{same_row}
 use Rattle.sparse_row.specs.declared.entry.Entry.{Entry}
 use Rattle.sparse_row.specs.Content.{number_in, AreEntries, IsHeld, content_of}
-use Rattle.sparse_row.proofs.Contents.{when_same, when_apart, number_of-held, width_of-content}
+use Rattle.sparse_row.proofs.Contents.{number_of-held, width_of-content}
 
 -- from a column on nothing stands there
 abbrev pub NothingFrom : List Entry → ℕ → Type 0
@@ -17,10 +18,10 @@ NothingFrom entries column = (place : ℕ) → column ≤ place → number_in en
 
 first_before : (from width : ℕ) (x : Entry) (xs : List Entry) (column : ℕ) → AreEntries from width (x ∷ xs) → NothingFrom (x ∷ xs) column → x.column < column
 first_before from width x xs column h none =
-    elim (cases_lt x.column column) [ inl lt ↦ lt | inr ge ↦ absurd (h.2 (sym (when_same x.column x.column x.number _ refl) ∙ none x.column ge)) ]
+    elim (cases_lt x.column column) [ inl lt ↦ lt | inr ge ↦ absurd (h.2 (sym (if_same x.column x.column x.number _ refl) ∙ none x.column ge)) ]
 
 nothing_behind : (x : Entry) (xs : List Entry) (column : ℕ) → x.column < column → NothingFrom (x ∷ xs) column → NothingFrom xs column
-nothing_behind x xs column lt none place ge = sym (when_apart x.column place x.number (number_in xs place) (apart ge)) ∙ none place ge
+nothing_behind x xs column lt none place ge = sym (if_apart x.column place x.number (number_in xs place) (apart ge)) ∙ none place ge
   where
     apart : column ≤ place → x.column ≢ place
     apart ge = omega arith
@@ -35,19 +36,16 @@ number_in-more : (from width : ℕ) (xs : List Entry) (e : Entry) (column : ℕ)
 number_in-more from width [] e column h none = refl
 number_in-more from width (x ∷ xs) e column h none =
     let before : x.column < e.column = first_before from width x xs e.column h none in
-    turn before (same_or x.column column) (number_in-more (x.column + 1) width xs e column h.3 (nothing_behind x xs e.column before none))
+    turn before (cases_eq x.column column) (number_in-more (x.column + 1) width xs e column h.3 (nothing_behind x xs e.column before none))
   where
-    same_or : (m n : ℕ) → (m ≡ n) ⊎ (m ≢ n)
-    same_or m n = grind arith
-
     turn : x.column < e.column → (x.column ≡ column) ⊎ (x.column ≢ column) → number_in (xs ++ e ∷ []) column ≡ cond (eqb e.column column) e.number (number_in xs column) → cond (eqb x.column column) x.number (number_in (xs ++ e ∷ []) column) ≡ cond (eqb e.column column) e.number (cond (eqb x.column column) x.number (number_in xs column))
     turn before (inl same) later =
-        when_same x.column column _ _ same ∙ sym (when_same x.column column x.number (number_in xs column) same) ∙ sym (when_apart e.column column _ _ (apart before same))
+        if_same x.column column _ _ same ∙ sym (if_same x.column column x.number (number_in xs column) same) ∙ sym (if_apart e.column column _ _ (apart before same))
       where
         apart : x.column < e.column → x.column ≡ column → e.column ≢ column
         apart lt e = omega arith
     turn before (inr ne) later =
-        when_apart x.column column _ _ ne ∙ later ∙ ap (cond (eqb e.column column) e.number) (sym (when_apart x.column column x.number (number_in xs column) ne))
+        if_apart x.column column _ _ ne ∙ later ∙ ap (cond (eqb e.column column) e.number) (sym (if_apart x.column column x.number (number_in xs column) ne))
 
 pub held_more : (xs new : List Entry) (width : ℕ) (e : Entry) → IsHeld xs width → NothingFrom xs e.column → e.column < width → e.number ≢ pos 0 → new ≡ xs ++ e ∷ [] → IsHeld new width
 held_more xs new width e h none lt some same =
@@ -61,26 +59,20 @@ content-more xs new width den e h none lt same =
   where
     here : (k : ℕ) → k < width → (e.column ≡ k) ⊎ (e.column ≢ k) → cond (eqb e.column k) e.number (number_in xs k) ≡ get_or (set (list_below (number_in xs) width) e.column e.number) k (pos 0)
     here k below (inl same) =
-        when_same e.column k _ _ same ∙ sym (subst (λ i. get_or (set (list_below (number_in xs) width) e.column e.number) i (pos 0) ≡ e.number) same (get_or-set_same (list_below (number_in xs) width) e.column e.number (pos 0) (rw length-list_below lt)))
+        if_same e.column k _ _ same ∙ sym (subst (λ i. get_or (set (list_below (number_in xs) width) e.column e.number) i (pos 0) ≡ e.number) same (get_or-set_same (list_below (number_in xs) width) e.column e.number (pos 0) (rw length-list_below lt)))
     here k below (inr ne) =
-        when_apart e.column k _ _ ne ∙ sym (get_or-list_below (number_in xs) width k (pos 0) below) ∙ sym (get_or-set_other (list_below (number_in xs) width) e.column k e.number (pos 0) (λ s. ne (sym s)))
-
-    same_or : (m n : ℕ) → (m ≡ n) ⊎ (m ≢ n)
-    same_or m n = grind arith
+        if_apart e.column k _ _ ne ∙ sym (get_or-list_below (number_in xs) width k (pos 0) below) ∙ sym (get_or-set_other (list_below (number_in xs) width) e.column k e.number (pos 0) (λ s. ne (sym s)))
 
     at_column : (k : ℕ) → k < width → get_or (list_below (number_in new) width) k (pos 0) ≡ get_or (set (list_below (number_in xs) width) e.column e.number) k (pos 0)
     at_column k below =
-        get_or-list_below (number_in new) width k (pos 0) below ∙ ap (λ ys. number_in ys k) same ∙ number_in-more 0 width xs e k h.rising none ∙ here k below (same_or e.column k)
+        get_or-list_below (number_in new) width k (pos 0) below ∙ ap (λ ys. number_in ys k) same ∙ number_in-more 0 width xs e k h.rising none ∙ here k below (cases_eq e.column k)
 
 -- a 0 that is put where a 0 stands
 pub zero_put : (row : FracRow) (column : ℕ) (z : ℤ) → column < width_of row → number_of row column ≡ pos 0 → z ≡ pos 0 → row ≡ record { numbers = set row.numbers column z; den = row.den }
 zero_put row column z lt none e =
     same_row row.numbers (set row.numbers column z) row.den row.den
-    (ext_get_or (pos 0) _ _ (sym (length-set row.numbers column z)) (λ k in_range. at_place k (same_or column k))) refl
+    (ext_get_or (pos 0) _ _ (sym (length-set row.numbers column z)) (λ k in_range. at_place k (cases_eq column k))) refl
   where
-    same_or : (m n : ℕ) → (m ≡ n) ⊎ (m ≢ n)
-    same_or m n = grind arith
-
     at_place : (k : ℕ) → (column ≡ k) ⊎ (column ≢ k) → get_or row.numbers k (pos 0) ≡ get_or (set row.numbers column z) k (pos 0)
     at_place k (inl same) = subst (λ i. get_or row.numbers i (pos 0) ≡ get_or (set row.numbers column z) i (pos 0)) same (none ∙ sym e ∙ sym (get_or-set_same row.numbers column z (pos 0) lt))
     at_place k (inr ne) = sym (get_or-set_other row.numbers column k z (pos 0) (λ s. ne (sym s)))

@@ -4,6 +4,7 @@ use Rattle.std.proofs.lemmas.Bool.{cases_lt}
 use Rattle.std.proofs.lemmas.List.{ext_get_or, get_or_past}
 use Rattle.sums.specs.Places.{list_below}
 use Rattle.sums.proofs.Places.{length-list_below, get_or-list_below}
+use Rattle.sums.proofs.Naturals.{none_below_0}
 use Rattle.frac_row.specs.declared.row.FracRow.{FracRow}
 use Rattle.frac_row.proofs.Rows.{same_row}
 use Rattle.sparse_row.specs.Lines.{IsFilledRow}
@@ -59,12 +60,9 @@ pub filled_none : (row : FracRow) (f : ℕ → ℤ) (width : ℕ) → row ≡ re
 filled_none row f width e = subst (λ r. IsFilledRow r f width 0) (sym e) (record {
   same_width = length-list_below (λ column. pos 0) width;
   over_one = refl;
-  filled = λ place lt within. absurd (none_below place lt);
+  filled = λ place lt within. absurd (none_below_0 place lt);
   zeros = λ place ge. elim (cases_lt place width) [
     | inl lt ↦ get_or-list_below (λ column. pos 0) width place (pos 0) lt
     | inr past ↦ get_or_past (list_below (λ column. pos 0) width) place (pos 0) (rw length-list_below past)
   ];
 })
-  where
-    none_below : (k : ℕ) → k < 0 → ⊥
-    none_below k lt = omega arith

@@ -1,12 +1,13 @@
 -- Two rows side by side: their combination, and the first place where it is outgrown.
-use Rattle.std.proofs.Common.{◌≡◌, ℕ, ◌+◌, ◌<◌, ◌≤◌, ◌≢◌, Bool, true, false, cond, ◌==◌, if◌then◌else◌, eqb, ltb, ℤ, pos, ◌*ℤ◌, List, [], ◌∷◌, Option, Some, None, unsigned_abs, refl, sym, ◌∙◌, ap, subst, arith, inl, inr, ◌⊎◌}
-use Rattle.std.proofs.lemmas.Bool.{cases_lt}
+use Rattle.std.proofs.Common.{◌≡◌, ℕ, ◌+◌, ◌<◌, ◌≤◌, ◌≢◌, Bool, true, false, cond, ◌==◌, if◌then◌else◌, eqb, ltb, ℤ, pos, ◌*ℤ◌, List, [], ◌∷◌, Option, Some, None, unsigned_abs, refl, sym, ◌∙◌, ap, subst, arith, inl, inr}
+use Rattle.std.proofs.lemmas.Bool.{cases_eq, cases_lt}
 use Rattle.std.proofs.lemmas.Bool.Decides.{nat_tests}
 use Rattle.std.proofs.lemmas.Int.{ints}
 use lib.IntN.{*ℤ-zero}
 use Rattle.sums.specs.Places.{first_below, or_else}
 use Rattle.sums.proofs.Sizes.{zero_size}
 use Rattle.sums.proofs.Places.{first_found, nothing_at, all_nothing}
+use Rattle.sums.proofs.NumberTests.{if_apart, if_same}
 use Rattle.frac_row.proofs.Combinations.{place_fits}
 use Rattle.frac_row.specs.Combined.{combined_number, place_growth, outgrowth}
 use Rattle.frac_row.specs.declared.factors.Factors.{Factors}
@@ -15,7 +16,7 @@ use Rattle.sparse_row.specs.declared.entry.Entry.{Entry}
 use Rattle.sparse_row.specs.declared.pairs.Pair.{Pair}
 use Rattle.sparse_row.specs.Content.{number_in, AreEntries}
 use Rattle.sparse_row.specs.Pairs.{pairs_of, combined_entries, first_growth, AllFit}
-use Rattle.sparse_row.proofs.Contents.{when_same, when_apart, are_from, nothing_before}
+use Rattle.sparse_row.proofs.Contents.{are_from, nothing_before}
 
 -- the columns of pairs rise from a first one on and stay below a bound
 abbrev pub ArePairs : ℕ → ℕ → List Pair → Type 0
@@ -38,7 +39,7 @@ pairs_from from start width (p ∷ ps) le h = (omega (arith, h.0), h.1, h.2)
 no_first_before : (from width : ℕ) (pairs : List Pair) (column : ℕ) → ArePairs from width pairs → column < from → first_in pairs column ≡ pos 0
 no_first_before from width [] column h lt = refl
 no_first_before from width (p ∷ ps) column h lt =
-    when_apart p.column column _ _ (apart h.0) ∙ no_first_before (p.column + 1) width ps column h.2 (omega (arith, h.0))
+    if_apart p.column column _ _ (apart h.0) ∙ no_first_before (p.column + 1) width ps column h.2 (omega (arith, h.0))
   where
     apart : from ≤ p.column → p.column ≢ column
     apart le = omega arith
@@ -46,7 +47,7 @@ no_first_before from width (p ∷ ps) column h lt =
 no_second_before : (from width : ℕ) (pairs : List Pair) (column : ℕ) → ArePairs from width pairs → column < from → second_in pairs column ≡ pos 0
 no_second_before from width [] column h lt = refl
 no_second_before from width (p ∷ ps) column h lt =
-    when_apart p.column column _ _ (apart h.0) ∙ no_second_before (p.column + 1) width ps column h.2 (omega (arith, h.0))
+    if_apart p.column column _ _ (apart h.0) ∙ no_second_before (p.column + 1) width ps column h.2 (omega (arith, h.0))
   where
     apart : from ≤ p.column → p.column ≢ column
     apart le = omega arith
@@ -79,11 +80,7 @@ pairs_rise from width (x ∷ xs) (y ∷ ys) h k =
 -- one column more: what stands in it, else what stands behind it
 same_behind : (column here : ℕ) (number behind all : ℤ) → (here ≡ column → number ≡ all) → (here ≢ column → behind ≡ all) → cond (eqb here column) number behind ≡ all
 same_behind column here number behind all p q =
-    elim (same_or here column) [ inl e ↦ when_same here column number behind e ∙ p e | inr ne ↦ when_apart here column number behind ne ∙ q ne ]
-  where
-    same_or : (m n : ℕ) → (m ≡ n) ⊎ (m ≢ n)
-    same_or m n = grind arith
-
+    elim (cases_eq here column) [ inl e ↦ if_same here column number behind e ∙ p e | inr ne ↦ if_apart here column number behind ne ∙ q ne ]
 pub first_is : (from width : ℕ) (xs ys : List Entry) (column : ℕ) → AreEntries from width xs → AreEntries from width ys → first_in (pairs_of xs ys) column ≡ number_in xs column
 first_is from width [] [] column h k = refl
 first_is from width [] (y ∷ ys) column h k =
@@ -143,14 +140,11 @@ combined_more f from width p ps column h behind =
     (λ e. by_column _ (λ here. behind ∙ combined_nothing f (first_in ps column) (second_in ps column) (no_first_before (p.column + 1) width ps column h.2 (omega arith)) (no_second_before (p.column + 1) width ps column h.2 (omega arith)) ∙ sym e) (λ _. behind))
     (λ ne. same_behind column p.column (combined_number f p.number p.pivot_number) _ _ (λ here. by_column _ (λ _. refl) (λ apart. absurd (apart here))) (λ apart. by_column _ (λ here. absurd (apart here)) (λ _. behind)))
   where
-    same_or : (m n : ℕ) → (m ≡ n) ⊎ (m ≢ n)
-    same_or m n = grind arith
-
     by_column : (z : ℤ) → (p.column ≡ column → z ≡ combined_number f p.number p.pivot_number) → (p.column ≢ column → z ≡ combined_number f (first_in ps column) (second_in ps column)) → z ≡ combined_number f (first_in (p ∷ ps) column) (second_in (p ∷ ps) column)
     by_column z s t =
-        elim (same_or p.column column) [
-          | inl e ↦ s e ∙ ap (λ x. combined_number f x p.pivot_number) (sym (when_same p.column column p.number (first_in ps column) e)) ∙ ap (combined_number f (first_in (p ∷ ps) column)) (sym (when_same p.column column p.pivot_number (second_in ps column) e))
-          | inr ne ↦ t ne ∙ ap (λ x. combined_number f x (second_in ps column)) (sym (when_apart p.column column p.number (first_in ps column) ne)) ∙ ap (combined_number f (first_in (p ∷ ps) column)) (sym (when_apart p.column column p.pivot_number (second_in ps column) ne))
+        elim (cases_eq p.column column) [
+          | inl e ↦ s e ∙ ap (λ x. combined_number f x p.pivot_number) (sym (if_same p.column column p.number (first_in ps column) e)) ∙ ap (combined_number f (first_in (p ∷ ps) column)) (sym (if_same p.column column p.pivot_number (second_in ps column) e))
+          | inr ne ↦ t ne ∙ ap (λ x. combined_number f x (second_in ps column)) (sym (if_apart p.column column p.number (first_in ps column) ne)) ∙ ap (combined_number f (first_in (p ∷ ps) column)) (sym (if_apart p.column column p.pivot_number (second_in ps column) ne))
         ]
 
 pub combined_is : (f : Factors) (from width : ℕ) (pairs : List Pair) (column : ℕ) → ArePairs from width pairs → number_in (combined_entries f pairs) column ≡ combined_number f (first_in pairs column) (second_in pairs column)
@@ -159,8 +153,6 @@ combined_is f from width (p ∷ ps) column h =
     combined_more f from width p ps column h (combined_is f (p.column + 1) width ps column h.2)
 
 -- ---- the first outgrown place
-same_place : (m n : ℕ) → (m ≡ n) ⊎ (m ≢ n)
-same_place m n = grind arith
 
 -- in a column in which neither row has a number nothing is outgrown
 no_growth_of_nothing : (f : Factors) (column : ℕ) (n r : ℤ) → n ≡ pos 0 → r ≡ pos 0 → place_growth f column n r ≡ None
@@ -193,9 +185,9 @@ first_growth_is f from width [] place le h none is =
 first_growth_is f from width (p ∷ ps) place le h none is =
     first_more f width from p.column p.number p.pivot_number place (first_growth f ps) h.0 h.1 none
     (λ k ge below. is k ge ∙ no_growth_of_nothing f k _ _ (no_first_before p.column width (p ∷ ps) k (omega arith, h.1, h.2) below) (no_second_before p.column width (p ∷ ps) k (omega arith, h.1, h.2) below))
-    (is p.column h.0 ∙ ap (λ x. place_growth f p.column x (second_in (p ∷ ps) p.column)) (when_same p.column p.column p.number _ refl) ∙ ap (place_growth f p.column p.number) (when_same p.column p.column p.pivot_number _ refl))
+    (is p.column h.0 ∙ ap (λ x. place_growth f p.column x (second_in (p ∷ ps) p.column)) (if_same p.column p.column p.number _ refl) ∙ ap (place_growth f p.column p.number) (if_same p.column p.column p.pivot_number _ refl))
     (λ past. first_growth_is f (p.column + 1) width ps place (omega (arith, h.1)) h.2 past
-    (λ k ge. is k (omega (arith, h.0)) ∙ ap (λ x. place_growth f k x (second_in (p ∷ ps) k)) (when_apart p.column k p.number _ (apart k ge)) ∙ ap (place_growth f k (first_in ps k)) (when_apart p.column k p.pivot_number _ (apart k ge))))
+    (λ k ge. is k (omega (arith, h.0)) ∙ ap (λ x. place_growth f k x (second_in (p ∷ ps) k)) (if_apart p.column k p.number _ (apart k ge)) ∙ ap (place_growth f k (first_in ps k)) (if_apart p.column k p.pivot_number _ (apart k ge))))
   where
     apart : (k : ℕ) → p.column + 1 ≤ k → p.column ≢ k
     apart k ge = omega arith

@@ -1,26 +1,11 @@
 -- What has left by a minute less what has come by then is greatest when something leaves.
-use Rattle.std.proofs.Common.{◌≡◌, ◌≢◌, ℕ, zero, suc, ◌-◌, ◌<◌, ◌≤◌, ◌⊎◌, inl, inr, Bool, true, false, not, if◌then◌else◌, ◌==◌, ◌&&◌, nat_le, refl, ◌∙◌, arith}
-use Rattle.std.proofs.lemmas.Bool.{cases_lt}
+use Rattle.std.proofs.Common.{◌≡◌, ◌≢◌, ℕ, zero, suc, ◌-◌, ◌<◌, ◌≤◌, inl, inr, Bool, true, false, not, if◌then◌else◌, ◌==◌, ◌&&◌, nat_le, ◌∙◌, arith}
 use Rattle.std.proofs.lemmas.Bool.Decides.{nat_tests}
 use Rattle.sums.specs.Below.{sum_below, max_below}
 use Rattle.sums.proofs.Sums.{sum_below-agree, sum_below-zero}
 use Rattle.sums.proofs.Maxima.{max_below-upper, max_below-least}
-
--- a place that passes, or none does
-find_below : (p : ℕ → Bool) (n : ℕ) → ((k : ℕ) × (k < n) × (p k ≡ true)) ⊎ ((k : ℕ) → k < n → p k ≡ false)
-find_below p zero = inr (λ k below. absurd (omega arith))
-find_below p (suc n) = elim (find_below p n) [
-  | inl found ↦ inl (found.0, omega (arith, found.1), found.2)
-  | inr none ↦ here (p n) refl none
-]
-  where
-    here : (b : Bool) → p n ≡ b → ((k : ℕ) → k < n → p k ≡ false) → ((k : ℕ) × (k < suc n) × (p k ≡ true)) ⊎ ((k : ℕ) → k < suc n → p k ≡ false)
-    here true e none = inl (n, omega arith, e)
-    here false e none = inr (λ k below. elim (cases_lt k n) [ inl less ↦ none k less | inr last ↦ let same : k ≡ n = omega arith in rw same e ])
-
-if_below : (b : Bool) (n most : ℕ) → n ≤ most → (if b then n else 0) ≤ most
-if_below true n most below = below
-if_below false n most below = omega arith
+use Rattle.sums.proofs.NumberTests.{if_below}
+use Rattle.sums.proofs.Counts.{find_below}
 
 -- what leaves by a minute: each place at its own minute, with its weight
 abbrev pub leaving_until : (ℕ → ℕ) → (ℕ → ℕ) → ℕ → ℕ → ℕ

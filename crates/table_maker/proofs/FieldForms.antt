@@ -1,7 +1,6 @@
 -- The fields of made records have the forms of names, numbers and times, and read as what they were made of.
 use Rattle.std.proofs.Common.{◌≡◌, ℕ, ◌+◌, ◌*◌, ◌/◌, ◌%◌, ◌<◌, ◌≤◌, ◌^◌, ℤ, pos, Bool, true, false, List, ◌∷◌, ◌++◌, length, codes, slice_index_or, Ok, refl, sym, ap, ◌∙◌, inl, arith}
 use Rattle.std.specs.Prelude.{◌≤ℤ◌, All}
-use Rattle.std.specs.Bool.{Decides}
 use Rattle.std.specs.Char.{IsAsciiDigit, IsAsciiUppercase, is_ascii_uppercase}
 use Rattle.std.specs.Fmt.{decimal}
 use Rattle.std.specs.List.{list_all}
@@ -24,6 +23,7 @@ use Rattle.entries.specs.Names.{IsName, IsNameByte, IsStationCode, is_name_byte}
 use Rattle.fleet_model.specs.declared.limits.TheConstants.{MINUTES_PER_DAY}
 use Rattle.plan_text.proofs.NameText.{name_is_plain, name_is_text}
 use Rattle.table_rows.specs.Fields.{as_natural, natural_of}
+use Rattle.table_rows.proofs.ReadParts.{uppercase_decides}
 use Rattle.table_maker.specs.Fields.{clock_text}
 use Rattle.table_maker.proofs.PlainRows.{IsPlain}
 
@@ -41,9 +41,6 @@ unfolding name_of
 name_reads field form =
     let all = Decides-by_and is_name_byte IsNameByte (list_all is_name_byte) (λ byte. grind (arith, nat_tests)) refl (λ _ _. refl) field in
     grind (arith, nat_tests)
-
-uppercase_decides : (byte : ℕ) → Decides (is_ascii_uppercase byte) (IsAsciiUppercase byte)
-uppercase_decides byte = (λ e. grind (arith, nat_tests), λ h. grind (arith, nat_tests))
 
 pub code_reads : (field : List ℕ) → IsStationCode field → station_code_of field ≡ Ok tt
 unfolding station_code_of

@@ -1,9 +1,9 @@
 -- A record whose fields have their forms reads as its entry, below entries with other names.
-use Rattle.std.proofs.Common.{◌≡◌, ◌==◌, ℕ, ◌%◌, ◌<◌, ◌≤◌, pos, neg_ℤ, Bool, false, List, [], ◌∷◌, length, codes, nat_le, Some, Ok, refl, arith}
+use Rattle.std.proofs.Common.{◌≡◌, ◌==◌, ℕ, ◌%◌, ◌<◌, ◌≤◌, pos, neg_ℤ, Bool, false, List, [], ◌∷◌, length, codes, Some, Ok, refl, arith}
 use Rattle.std.specs.Fmt.{decimal, digits}
 use Rattle.std.specs.List.{list_any}
-use Rattle.std.proofs.lemmas.Bool.Decides.{nat_tests}
 use Rattle.std.proofs.lemmas.Int.{ints}
+use Rattle.std.proofs.lemmas.Bool.{lt-leb}
 use Rattle.csv_fields.specs.Flag.{flag_text}
 use Rattle.entries.specs.Names.{IsName, IsStationCode}
 use Rattle.fleet_model.specs.declared.limits.TheConstants.{MAX_AIRCRAFT, MAX_COST, MAX_FLEETS, MAX_GROUND_MINUTES, MAX_LEGS, MAX_STATIONS, MAX_THROUGHS, MINUTES_PER_DAY}
@@ -22,9 +22,6 @@ use Rattle.table_maker.specs.Fields.{clock_text}
 use Rattle.table_maker.proofs.FieldForms.{clock_kept, clock_reads, code_reads, flag_kept, flag_reads, name_kept, name_reads, natural_reads, number_is_name, whole_reads}
 use Rattle.table_maker.proofs.NamesDiffer.{code_is_name}
 
-room : (most n : ℕ) → n < most → nat_le most n ≡ false
-room most n few = grind (arith, nat_tests)
-
 pub station_one : (earlier : List (List ℕ)) (code : List ℕ) (maintenance : Bool) → IsStationCode code → is_among code earlier ≡ false → length earlier < 200
     → station_read earlier (code ∷ codes "0" ∷ flag_text maintenance ∷ []) ≡ Ok (record { code = code; extra = 0; maintenance = maintenance })
 unfolding station_read digits
@@ -32,7 +29,7 @@ station_one earlier code maintenance form fresh few =
     let zero_is : natural_of (codes "0") MAX_GROUND_MINUTES ≡ Ok 0 = natural_reads 0 MAX_GROUND_MINUTES (omega arith) (omega arith) in
     let zero_text = (name_kept (codes "0") (number_is_name 0 (omega arith))).text in
     let text = (name_kept code (code_is_name code form)).text in
-    rw (text, zero_text, (flag_kept maintenance).text, code_reads code form, zero_is, flag_reads maintenance, fresh, room MAX_STATIONS (length earlier) few) refl
+    rw (text, zero_text, (flag_kept maintenance).text, code_reads code form, zero_is, flag_reads maintenance, fresh, lt-leb MAX_STATIONS (length earlier) few) refl
 
 pub fleet_one : (earlier : List (List ℕ)) (name : List ℕ) (aircraft turn : ℕ) → IsName name → aircraft ≤ 500 → turn ≤ 600 → is_among name earlier ≡ false → length earlier < 20
     → fleet_read earlier (name ∷ decimal aircraft ∷ decimal turn ∷ []) ≡ Ok (record { name = name; aircraft = aircraft; turn = turn })
@@ -42,7 +39,7 @@ fleet_one earlier name aircraft turn form enough short fresh few =
     let count_text = (name_kept (decimal aircraft) (number_is_name aircraft (omega arith))).text in
     let turn_text = (name_kept (decimal turn) (number_is_name turn (omega arith))).text in
     rw (text, count_text, turn_text, name_reads name form, natural_reads aircraft MAX_AIRCRAFT (omega arith) (omega arith))
-    (rw (natural_reads turn MAX_GROUND_MINUTES (omega arith) (omega arith), fresh, room MAX_FLEETS (length earlier) few) refl)
+    (rw (natural_reads turn MAX_GROUND_MINUTES (omega arith) (omega arith), fresh, lt-leb MAX_FLEETS (length earlier) few) refl)
 
 pub leg_one : (stations : List (List ℕ)) (settings : Settings) (earlier : List (List ℕ)) (flight from to : List ℕ) (a b leaves lands block : ℕ)
     → IsName flight → IsStationCode from → IsStationCode to → number_of from stations ≡ Some a → number_of to stations ≡ Some b → (a == b) ≡ false
@@ -56,7 +53,7 @@ leg_one stations settings earlier flight from to a b leaves lands block form fro
     let to_text = (name_kept to (code_is_name to to_form)).text in
     rw (text, from_text, (clock_kept leaves).text, to_text, (clock_kept lands).text)
     (rw (name_reads flight form, code_reads from from_form, clock_reads leaves, code_reads to to_form, clock_reads lands)
-    (rw (fresh, from_is, to_is, is, some, away, room MAX_LEGS (length earlier) few) refl))
+    (rw (fresh, from_is, to_is, is, some, away, lt-leb MAX_LEGS (length earlier) few) refl))
 
 pub cost_one : (flights fleets : List (List ℕ)) (earlier : List Pair) (flight fleet : List ℕ) (l f cost : ℕ) → IsName flight → IsName fleet
     → number_of flight flights ≡ Some l → number_of fleet fleets ≡ Some f → cost < 10000 → list_any (same_pair (leg_on l f)) earlier ≡ false
@@ -79,4 +76,4 @@ through_one flights earlier arriving departing l m value form other_form leg_is 
     let other_text = (name_kept departing other_form).text in
     let value_text = (name_kept (decimal value) (number_is_name value small)).text in
     rw (text, other_text, value_text, name_reads arriving form, name_reads departing other_form)
-    (rw (whole_reads value (pos 0) MAX_COST small (omega (arith, ints)) (omega (arith, ints)), leg_is, next_is, fresh, room MAX_THROUGHS (length earlier) few) refl)
+    (rw (whole_reads value (pos 0) MAX_COST small (omega (arith, ints)) (omega (arith, ints)), leg_is, next_is, fresh, lt-leb MAX_THROUGHS (length earlier) few) refl)

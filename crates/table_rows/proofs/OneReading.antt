@@ -9,7 +9,7 @@ use Rattle.fleet_model.specs.declared.refusals.TheConstants.{WRONG_HEADER}
 use Rattle.table_rows.proofs.FrontReading.{front_none, front_push}
 
 -- two texts are the same or differ
-same_text : (a b : List ℕ) → (a ≡ b) ⊎ (a ≢ b)
+pub same_text : (a b : List ℕ) → (a ≡ b) ⊎ (a ≢ b)
 same_text a b = by_test (bytes_eq a b) refl
   where
     by_test : (t : Bool) → bytes_eq a b ≡ t → (a ≡ b) ⊎ (a ≢ b)

@@ -1,5 +1,5 @@
 -- What a record has where it reads: each step of its reading answered.
-use Rattle.std.proofs.Common.{◌≡◌, ◌≤◌, ◌<◌, ◌==◌, nat_le, ℕ, ℤ, pos, unsigned_abs, Bool, true, false, List, length, Option, Some, None, Result, Ok, Err, refl, arith}
+use Rattle.std.proofs.Common.{◌≡◌, ◌≤◌, ◌<◌, nat_le, ℕ, ℤ, pos, unsigned_abs, Bool, true, false, List, length, Option, Some, None, Result, Ok, Err, refl, arith}
 use Rattle.std.specs.Prelude.{◌≤ℤ◌}
 use Rattle.std.proofs.lemmas.Bool.Decides.{Decides-by_and, nat_tests}
 use Rattle.std.proofs.lemmas.Int.{ints}
@@ -23,10 +23,6 @@ same_answer a b same = cc
 pub room_left : (limit n : ℕ) → nat_le limit n ≡ false → n < limit
 room_left limit n room = grind (arith, nat_tests)
 
--- a number that isn't 0 is above it
-pub above_zero : (n : ℕ) → (n == 0) ≡ false → 0 < n
-above_zero n some = grind (arith, nat_tests)
-
 module _ {B : Type 0} where
   pub width_ok : {A : Type 0} (fields : Option A) (read : A → Result B ℕ) (answer : B) → of_width fields read ≡ Ok answer → (found : A) × (fields ≡ Some found) × (read found ≡ Ok answer)
   width_ok (Some found) read answer ok = (found, refl, ok)
@@ -44,7 +40,7 @@ module _ {B : Type 0} where
   not_refused true kind read answer ok = absurd (cc ok)
   not_refused false kind read answer ok = (refl, ok)
 
-uppercase_decides : (byte : ℕ) → Decides (is_ascii_uppercase byte) (IsAsciiUppercase byte)
+pub uppercase_decides : (byte : ℕ) → Decides (is_ascii_uppercase byte) (IsAsciiUppercase byte)
 uppercase_decides byte = (λ e. grind (arith, nat_tests), λ h. grind (arith, nat_tests))
 
 -- a field that reads as a code is one

@@ -1,7 +1,8 @@
 -- The chosen pairs are a through set.
-use Rattle.std.proofs.Common.{◌≡◌, ℕ, ◌+◌, ◌-◌, ◌<◌, nat_lt, true, false, List, [], length, slice_index, ℤ, pos, ◌<ℤ◌, ◌≤ℤ◌, unwrap_or, unsigned_abs, refl, sym, ◌∙◌, ap, subst, arith}
+use Rattle.std.proofs.Common.{◌≡◌, ℕ, ◌+◌, ◌-◌, ◌<◌, nat_lt, true, false, List, [], length, slice_index, ℤ, pos, ◌<ℤ◌, ◌≤ℤ◌, unwrap_or, unsigned_abs, refl, sym, ◌∙◌, ap, subst, arith, lt_trans, ne_of_lt}
 use Rattle.std.proofs.lemmas.Bool.Decides.{nat_tests}
 use Rattle.std.proofs.lemmas.Int.{ints}
+use Rattle.std.proofs.lemmas.Bool.{ltb-true}
 use Rattle.sums.specs.Below.{sum_below}
 use Rattle.best_matching.specs.Worths.{AreDuals, AreTight, IsOneToOne}
 use Rattle.fleet_model.specs.declared.parts.Connection.{Connection}
@@ -22,9 +23,6 @@ use Rattle.through_flights.proofs.FittingMaps.{fitting, has, turns}
 use Rattle.through_flights.proofs.Followers.{AreFollowers, are_followers, follower}
 use Rattle.through_flights.proofs.ListedTurns.{IsListed, each_listed, rising, values_below}
 use Rattle.through_flights.proofs.TurnWorths.{listed_some}
-
-passes_above : (a b : ℕ) → nat_lt a b ≡ true → a < b
-passes_above a b e = grind (arith, nat_tests)
 
 fails_at_most : (a b : ℕ) → nat_lt a b ≡ false → b - a ≡ 0
 fails_at_most a b e = grind (arith, nat_tests)
@@ -50,7 +48,7 @@ module _ (t : Tables) (a : List ℕ) (f : ℕ) (worths : List (List ℕ)) (colum
   chosen = turns_below (is_chosen worths columns) (slice_index columns) (legs_in t)
 
   a_through : (l : ℕ) → l < legs_in t → is_chosen worths columns l ≡ true → IsThroughTurn t a f (pair_of l (slice_index columns l))
-  a_through l lt e = (w.each l (slice_index columns l) lt (known.one_to_one.within l lt)).above (passes_above _ _ e)
+  a_through l lt e = (w.each l (slice_index columns l) lt (known.one_to_one.within l lt)).above (ltb-true _ _ e)
 
   entry : (k : ℕ) → k < length chosen → IsListed (is_chosen worths columns) (slice_index columns) (legs_in t) (turn_at chosen k)
   unfolding chosen
@@ -63,23 +61,17 @@ module _ (t : Tables) (a : List ℕ) (f : ℕ) (worths : List (List ℕ)) (colum
   unfolding chosen
   rise = rising (is_chosen worths columns) (slice_index columns) (legs_in t)
 
-  less_differ : (x y : ℕ) → x < y → x ≡ y → ⊥
-  less_differ x y lt e = omega arith
-
-  chain : (a b c : ℕ) → a < b → b < c → a < c
-  chain a b c p q = omega arith
-
   is_set : IsThroughSet t a f chosen
   is_set = record {
     each = through_at;
     apart = record {
-      arriving = λ j k order lt same. less_differ _ _ (rise j k order lt) same;
+      arriving = λ j k order lt same. ne_of_lt (rise j k order lt) same;
       departing = λ j k order lt same.
-          let first = entry j (chain _ _ _ order lt) in
+          let first = entry j (lt_trans order lt) in
           let second = entry k lt in
           let one : first.leg ≡ second.leg =
           known.one_to_one.distinct first.leg second.leg first.within second.within (sym (ap (λ x. x.departing) first.is) ∙ same ∙ ap (λ x. x.departing) second.is) in
-          less_differ _ _ (rise j k order lt) (ap (λ x. x.arriving) first.is ∙ one ∙ sym (ap (λ x. x.arriving) second.is));
+          ne_of_lt (rise j k order lt) (ap (λ x. x.arriving) first.is ∙ one ∙ sym (ap (λ x. x.arriving) second.is));
     };
     held = record {
       turns = turns t a f (slice_index columns) known;
@@ -107,7 +99,7 @@ module _ (t : Tables) (a : List ℕ) (f : ℕ) (worths : List (List ℕ)) (colum
     above = λ k lt.
         let e = entry k lt in
         subst (λ turn. pos 0 <ℤ unwrap_or (value_of t turn) (pos 0)) (sym e.is)
-        (subst (λ z. pos 0 <ℤ z) (sym (worth_is e.leg e.within e.passing)) (more _ _ (passes_above _ _ e.passing)));
+        (subst (λ z. pos 0 <ℤ z) (sym (worth_is e.leg e.within e.passing)) (more _ _ (ltb-true _ _ e.passing)));
   }
     where
       more : (worth mark : ℕ) → mark < worth → pos 0 <ℤ pos (worth - mark)

@@ -1,6 +1,7 @@
 -- Legs that go on in clean turns make a fitting map.
-use Rattle.std.proofs.Common.{◌≡◌, ℕ, ◌<◌, ◌==◌, List, length, refl, ◌∙◌, ap, arith}
+use Rattle.std.proofs.Common.{◌≡◌, ℕ, ◌<◌, ◌==◌, List, length, refl, ◌∙◌, ap}
 use Rattle.std.proofs.lemmas.Bool.{eqb-true}
+use Rattle.sums.proofs.Naturals.{one_is_some}
 use Rattle.fleet_model.specs.declared.parts.Connection.{Connection}
 use Rattle.fleet_model.specs.declared.tables.Tables.{Tables}
 use Rattle.fleet_model.specs.Counts.{fleet_at}
@@ -38,13 +39,10 @@ module _ (t : Tables) (a : List ℕ) (f : ℕ) (next : ℕ → ℕ) (known : Are
   pub has : (l : ℕ) → l < legs_in t → fleet_at a l ≡ f → HasTurn turns (pair_of l (next l))
   has l lt own =
       let counted : arrivals_of turns l ≡ 1 = map.arrives l lt ∙ weight_one _ _ own in
-      let found = some_counted (λ k. (turn_at turns k).arriving == l) (length turns) (some _ counted) in
+      let found = some_counted (λ k. (turn_at turns k).arriving == l) (length turns) (one_is_some _ counted) in
       let same : (turn_at turns found.0).arriving ≡ l = eqb-true _ _ found.2 in
       record {
         place = found.0;
         within = found.1;
         there = ap (λ x. pair_of x (turn_at turns found.0).departing) same ∙ ap (pair_of l) (goes_by_next found.0 found.1 ∙ ap next same);
       }
-    where
-      some : (n : ℕ) → n ≡ 1 → 0 < n
-      some n e = omega arith

@@ -1,8 +1,9 @@
 -- The leg that follows each leg in a fitting map of the fleet, as a function of all legs.
 use Rattle.std.proofs.Common.{◌≡◌, ◌≢◌, ℕ, ◌<◌, ◌==◌, Bool, true, false, if◌then◌else◌, List, length, sym, ◌∙◌, ap, subst, inl, inr, arith}
-use Rattle.std.proofs.lemmas.Bool.{cases_eq, eq-eqb, eqb-true}
+use Rattle.std.proofs.lemmas.Bool.{cases_eq, eq-eqb, eqb-true, ne_eqb}
 use Rattle.std.proofs.lemmas.Bool.Decides.{nat_tests}
 use Rattle.sums.proofs.Counts.{count_below-one}
+use Rattle.sums.proofs.Naturals.{one_is_some}
 use Rattle.best_matching.specs.Worths.{IsOneToOne}
 use Rattle.fleet_model.specs.declared.parts.Connection.{Connection}
 use Rattle.fleet_model.specs.declared.tables.Tables.{Tables}
@@ -46,11 +47,8 @@ module _ (t : Tables) (a : List ℕ) (f : ℕ) (turns : List Connection) where
 
   other_follower : (l : ℕ) → fleet_at a l ≢ f → follower l ≡ l
   unfolding follower
-  other_follower l ne = choice (fleet_at a l == f) (unequal _ _ ne)
+  other_follower l ne = choice (fleet_at a l == f) (ne_eqb _ _ ne)
     where
-      unequal : (x y : ℕ) → x ≢ y → (x == y) ≡ false
-      unequal x y h = grind (arith, nat_tests)
-
       choice : (b : Bool) → b ≡ false → ◌≡◌ {A = ℕ} (if b then (turn_at turns (place l)).departing else l) l
       choice b h = rw h
 
@@ -59,13 +57,9 @@ module _ (t : Tables) (a : List ℕ) (f : ℕ) (turns : List Connection) where
     unfolding place arrives_at
     placed l lt own =
         let counted : arrivals_of turns l ≡ 1 = map.arrives l lt ∙ weight_one _ _ own in
-        let found = some_counted (λ k. (turn_at turns k).arriving == l) (length turns) (some _ counted) in
+        let found = some_counted (λ k. (turn_at turns k).arriving == l) (length turns) (one_is_some _ counted) in
         let there = picked (λ k. (turn_at turns k).arriving == l) (length turns) found.0 found.1 found.2 in
         (there.0, eqb-true _ _ there.1)
-      where
-        some : (n : ℕ) → n ≡ 1 → 0 < n
-        some n e = omega arith
-
     pub goes_on : (l : ℕ) → l < legs_in t → GoesOn t a f l (follower l)
     goes_on l lt = record {
       own = λ own.

@@ -1,11 +1,12 @@
 -- Turns listed by the leg that arrives.
-use Rattle.std.proofs.Common.{◌≡◌, ℕ, zero, suc, ◌+◌, ◌<◌, ◌≤◌, Bool, true, false, if◌then◌else◌, List, [], ◌∷◌, ◌++◌, length, unwrap_or, ℤ, pos, ◌+ℤ◌, refl, sym, ◌∙◌, ap, subst, inl, inr, arith, length-append}
+use Rattle.std.proofs.Common.{◌≡◌, ℕ, zero, suc, ◌+◌, ◌<◌, ◌≤◌, Bool, true, false, if◌then◌else◌, List, [], ◌∷◌, ◌++◌, length, unwrap_or, ℤ, pos, ◌+ℤ◌, refl, sym, ◌∙◌, ap, subst, inl, inr, arith, length-append, add-one, lt_trans}
 use Rattle.std.proofs.lemmas.Bool.{cases_lt}
 use Rattle.std.proofs.lemmas.Int.{ints}
 use Rattle.std.proofs.Math.ListN.{get_or-append}
 use Rattle.std.proofs.Math.Seq.{get_or-append_seam}
 use Rattle.sums.specs.Below.{sum_below, sum_below_ℤ}
 use Rattle.sums.proofs.WholeSums.{sum_below_ℤ-same}
+use Rattle.sums.proofs.Naturals.{at_end, below_next, less_alike, plus_0}
 use Rattle.fleet_model.specs.declared.parts.Connection.{Connection}
 use Rattle.fleet_model.specs.declared.tables.Tables.{Tables}
 use Rattle.ground_turns.specs.Maps.{no_turn, turn_at}
@@ -24,16 +25,8 @@ append_one : (xs : List Connection) (y : Connection) (k : ℕ) → k < length (x
 append_one xs y k lt ge =
     let same : k ≡ length xs = at_end _ _ _ lt ge (length-append xs (y ∷ [])) in
     ap (turn_at (xs ++ y ∷ [])) same ∙ get_or-append_seam xs y [] no_turn
-  where
-    at_end : (k short long : ℕ) → k < long → short ≤ k → long ≡ short + 1 → k ≡ short
-    at_end k short long lt ge e = omega arith
-
 wider : (passes : ℕ → Bool) (next : ℕ → ℕ) (n : ℕ) (turn other : Connection) → other ≡ turn → IsListed passes next n turn → IsListed passes next (suc n) other
-wider passes next n turn other same was = record { leg = was.leg; within = up _ _ was.within; passing = was.passing; is = same ∙ was.is }
-  where
-    up : (a b : ℕ) → a < b → a < suc b
-    up a b lt = omega arith
-
+wider passes next n turn other same was = record { leg = was.leg; within = below_next _ _ was.within; passing = was.passing; is = same ∙ was.is }
 pub each_listed : (passes : ℕ → Bool) (next : ℕ → ℕ) (n k : ℕ) → k < length (turns_below passes next n) → IsListed passes next n (turn_at (turns_below passes next n) k)
 each_listed passes next zero k lt = absurd (omega arith)
 each_listed passes next (suc n) k lt = by_last (passes n) refl (each_listed passes next n) lt
@@ -69,35 +62,24 @@ rising passes next (suc n) j k order lt = by_last (passes n) (rising passes next
         → (turn_at (turns_below passes next n ++ (if b then pair_of n (next n) ∷ [] else [])) j).arriving
         < (turn_at (turns_below passes next n ++ (if b then pair_of n (next n) ∷ [] else [])) k).arriving
     by_last true before listed lt = elim (cases_lt k (length (turns_below passes next n))) [
-      | inl less ↦ both _ _ _ _ (ap (λ x. x.arriving) (get_or-append (turns_below passes next n) (pair_of n (next n) ∷ []) no_turn j (chain _ _ _ order less)))
+      | inl less ↦ less_alike _ _ _ _ (ap (λ x. x.arriving) (get_or-append (turns_below passes next n) (pair_of n (next n) ∷ []) no_turn j (lt_trans order less)))
           (ap (λ x. x.arriving) (get_or-append (turns_below passes next n) (pair_of n (next n) ∷ []) no_turn k less)) (before j k order less)
       | inr ge ↦
           let less : j < length (turns_below passes next n) = earlier _ _ _ _ order lt (length-append (turns_below passes next n) (pair_of n (next n) ∷ [])) in
-          both _ _ _ _ (ap (λ x. x.arriving) (get_or-append (turns_below passes next n) (pair_of n (next n) ∷ []) no_turn j less))
+          less_alike _ _ _ _ (ap (λ x. x.arriving) (get_or-append (turns_below passes next n) (pair_of n (next n) ∷ []) no_turn j less))
           (ap (λ x. x.arriving) (append_one (turns_below passes next n) (pair_of n (next n)) k lt ge)) (before_n _ (listed j less))
     ]
       where
         earlier : (j k a b : ℕ) → j < k → k < a → a ≡ b + 1 → j < b
         earlier j k a b p q e = omega arith
 
-        chain : (a b c : ℕ) → a < b → b < c → a < c
-        chain a b c p q = omega arith
-
-        both : (a b c d : ℕ) → a ≡ b → c ≡ d → b < d → a < c
-        both a b c d e f lt = omega arith
     by_last false before listed lt =
         let less : k < length (turns_below passes next n) = same_length _ _ _ lt (length-append (turns_below passes next n) []) in
-        both _ _ _ _ (ap (λ x. x.arriving) (get_or-append (turns_below passes next n) [] no_turn j (chain _ _ _ order less)))
+        less_alike _ _ _ _ (ap (λ x. x.arriving) (get_or-append (turns_below passes next n) [] no_turn j (lt_trans order less)))
         (ap (λ x. x.arriving) (get_or-append (turns_below passes next n) [] no_turn k less)) (before j k order less)
       where
         same_length : (k a b : ℕ) → k < a → a ≡ b + 0 → k < b
         same_length k a b lt e = omega arith
-
-        chain : (a b c : ℕ) → a < b → b < c → a < c
-        chain a b c p q = omega arith
-
-        both : (a b c d : ℕ) → a ≡ b → c ≡ d → b < d → a < c
-        both a b c d e f lt = omega arith
 
 -- the values of a list of turns
 values : Tables → List Connection → ℤ
@@ -109,23 +91,15 @@ value t turn = unwrap_or (value_of t turn) (pos 0)
 values_one : (t : Tables) (xs : List Connection) (y : Connection) → values t (xs ++ y ∷ []) ≡ values t xs +ℤ value t y
 unfolding values value
 values_one t xs y =
-    ap (sum_below_ℤ (worth_at t (xs ++ y ∷ []))) (length-append xs (y ∷ []) ∙ one_more (length xs))
+    ap (sum_below_ℤ (worth_at t (xs ++ y ∷ []))) (length-append xs (y ∷ []) ∙ add-one (length xs))
     ∙ ap (λ z. z +ℤ unwrap_or (value_of t (turn_at (xs ++ y ∷ []) (length xs))) (pos 0))
     (sum_below_ℤ-same (worth_at t (xs ++ y ∷ [])) (worth_at t xs) (length xs) (λ k lt. ap (λ turn. unwrap_or (value_of t turn) (pos 0)) (get_or-append xs (y ∷ []) no_turn k lt)))
     ∙ ap (λ turn. sum_below_ℤ (worth_at t xs) (length xs) +ℤ unwrap_or (value_of t turn) (pos 0)) (get_or-append_seam xs y [] no_turn)
-  where
-    one_more : (n : ℕ) → n + 1 ≡ suc n
-    one_more n = omega arith
-
 values_none : (t : Tables) (xs : List Connection) → values t (xs ++ []) ≡ values t xs
 unfolding values
 values_none t xs =
-    ap (sum_below_ℤ (worth_at t (xs ++ []))) (length-append xs [] ∙ none (length xs))
+    ap (sum_below_ℤ (worth_at t (xs ++ []))) (length-append xs [] ∙ plus_0 (length xs))
     ∙ sum_below_ℤ-same (worth_at t (xs ++ [])) (worth_at t xs) (length xs) (λ k lt. ap (λ turn. unwrap_or (value_of t turn) (pos 0)) (get_or-append xs [] no_turn k lt))
-  where
-    none : (n : ℕ) → n + 0 ≡ n
-    none n = omega arith
-
 -- the turns are worth what the legs' pairs are
 pub values_below : (t : Tables) (passes : ℕ → Bool) (next worth : ℕ → ℕ) (n : ℕ)
     → ((l : ℕ) → l < n → passes l ≡ true → unwrap_or (value_of t (pair_of l (next l))) (pos 0) ≡ pos (worth l))

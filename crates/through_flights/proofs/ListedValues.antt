@@ -5,6 +5,7 @@ use Rattle.std.proofs.lemmas.Bool.Decides.{nat_tests}
 use Rattle.std.proofs.Math.Seq.{drop-length}
 use Rattle.sums.specs.Places.{list_below}
 use Rattle.sums.proofs.Places.{get_or-list_below, length-list_below}
+use Rattle.sums.proofs.Naturals.{one_behind}
 use Rattle.fleet_model.specs.declared.parts.Connection.{Connection}
 use Rattle.fleet_model.specs.declared.parts.Through.{Through}
 use Rattle.ground_turns.specs.Throughs.{is_of, value_in}
@@ -88,7 +89,4 @@ pub more_values : (values new : List ℕ) (entries read : List Through) (n arriv
 more_values values new entries read n arriving left value entry same some within is arrives entry_lt size worth e before departing lt =
     ap (λ xs. slice_index xs departing) (e ∙ ap (slice_set values entry.departing) worth)
     ∙ one_listed values entries n arriving (left - 1) entry (omega arith) (sym (is ∙ ap (λ es. get_or es (left - 1) nothing) same)) arrives (subst (λ m. entry.departing < m) (sym size) entry_lt)
-    (λ k k_lt. before k k_lt ∙ ap (λ m. unsigned_abs (unwrap_or (value_in (drop m entries) (pair_of arriving k)) (pos 0))) (back left some)) departing lt
-  where
-    back : (n : ℕ) → 0 < n → n ≡ suc (n - 1)
-    back n some = omega arith
+    (λ k k_lt. before k k_lt ∙ ap (λ m. unsigned_abs (unwrap_or (value_in (drop m entries) (pair_of arriving k)) (pos 0))) (one_behind left some)) departing lt

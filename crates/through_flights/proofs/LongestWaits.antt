@@ -1,8 +1,9 @@
 -- The longest wait of a clean turn is the least time until no aircraft stands at the station.
-use Rattle.std.proofs.Common.{◌≡◌, ℕ, ◌+◌, ◌-◌, ◌%◌, ◌<◌, ◌≤◌, ◌==◌, nat_lt, true, IsTrue, List, length, slice_index, sym, ◌∙◌, ap, subst, inl, inr, arith}
-use Rattle.std.proofs.lemmas.Bool.{cases_lt}
+use Rattle.std.proofs.Common.{◌≡◌, ℕ, ◌+◌, ◌-◌, ◌%◌, ◌<◌, ◌≤◌, nat_lt, true, IsTrue, List, length, slice_index, sym, ◌∙◌, ap, subst, inl, inr, arith}
+use Rattle.std.proofs.lemmas.Bool.{cases_lt, eq-eqb, ltb-true}
 use Rattle.std.proofs.lemmas.Bool.Decides.{nat_tests}
 use Rattle.std.proofs.lemmas.Nat.{mod_below}
+use Rattle.sums.proofs.Naturals.{zero_number}
 use Rattle.fleet_model.specs.declared.limits.TheConstants.{MINUTES_PER_PERIOD}
 use Rattle.fleet_model.specs.declared.parts.Connection.{Connection}
 use Rattle.fleet_model.specs.declared.tables.Tables.{Tables}
@@ -10,6 +11,7 @@ use Rattle.fleet_model.specs.Counts.{weights_of}
 use Rattle.fleet_model.specs.Schedule.{leg_of, leg_on}
 use Rattle.fleet_model.specs.Times.{ready_minute}
 use Rattle.fleet_model.specs.Use.{stand_of}
+use Rattle.fleet_model.proofs.Minutes.{some_minutes}
 use Rattle.island_cut.specs.Zeros.{none_stands, zeros_of}
 use Rattle.ground_turns.specs.Turns.{minutes_until, ready_at, station_at, wait_of}
 use Rattle.through_flights.specs.Waits.{IsLongestWait}
@@ -19,15 +21,6 @@ pub zeros_within : (t : Tables) (a : List ℕ) (f s : ℕ) (zeros : List ℕ) �
     → (k : ℕ) → k < length zeros → slice_index zeros k < MINUTES_PER_PERIOD
 zeros_within t a f s zeros e k lt =
     subst (λ xs. slice_index xs k < MINUTES_PER_PERIOD) (sym e) (each_stands t (weights_of a) f s MINUTES_PER_PERIOD k (subst (λ xs. k < length xs) e lt)).0
-
-is_zero : (x : ℕ) → (x == 0) ≡ true → x ≡ 0
-is_zero x e = grind (arith, nat_tests)
-
-zero_is : (x : ℕ) → x ≡ 0 → (x == 0) ≡ true
-zero_is x e = grind (arith, nat_tests)
-
-lies_in : (x y : ℕ) → IsTrue (nat_lt x y) → x < y
-lies_in x y h = grind (arith, nat_tests)
 
 lies : (x y : ℕ) → x < y → IsTrue (nat_lt x y)
 lies x y h = grind (arith, nat_tests)
@@ -40,12 +33,12 @@ longest_is t a f leg longest ready zeros listed at no_more all = record {
   clean = λ pair same short. record {
     each = λ m lt waits none.
         let here : none_stands t (weights_of a) f (leg_of t leg).to m ≡ true =
-        zero_is _ (ap (λ l. stand_of t (weights_of a) f (leg_of t l).to m) (sym same) ∙ none) in
+        eq-eqb _ 0 (ap (λ l. stand_of t (weights_of a) f (leg_of t l).to m) (sym same) ∙ none) in
         let entry : StandsAt zeros m = subst (λ xs. StandsAt xs m) (sym listed) (stands_in t (weights_of a) f (leg_of t leg).to MINUTES_PER_PERIOD m lt here) in
         let until : longest ≤ minutes_until t (ready_at t f pair) m =
         subst (λ z. longest ≤ minutes_until t (ready_at t f pair) z) entry.there
         (subst (λ r. longest ≤ minutes_until t r (slice_index zeros entry.place)) (ready_same pair same) (no_more entry.place entry.within)) in
-        clash _ _ _ (lies_in _ _ waits) short until;
+        clash _ _ _ (ltb-true _ _ waits) short until;
   };
   no_more = λ pair same clean. all (wait_of t f pair) (mod_below _ MINUTES_PER_PERIOD some_minutes) (λ k lt.
       let lt' : k < length (zeros_of t (weights_of a) f (leg_of t leg).to) = subst (λ xs. k < length xs) listed lt in
@@ -53,7 +46,7 @@ longest_is t a f leg longest ready zeros listed at no_more all = record {
       let within : slice_index zeros k < MINUTES_PER_PERIOD = subst (λ xs. slice_index xs k < MINUTES_PER_PERIOD) (sym listed) stands.0 in
       let none : stand_of t (weights_of a) f (station_at t pair) (slice_index zeros k) ≡ 0 =
       ap (λ l. stand_of t (weights_of a) f (leg_of t l).to (slice_index zeros k)) same
-      ∙ is_zero _ (subst (λ xs. none_stands t (weights_of a) f (leg_of t leg).to (slice_index xs k) ≡ true) (sym listed) stands.1) in
+      ∙ zero_number _ (subst (λ xs. none_stands t (weights_of a) f (leg_of t leg).to (slice_index xs k) ≡ true) (sym listed) stands.1) in
       subst (λ r. wait_of t f pair ≤ minutes_until t r (slice_index zeros k)) (sym (ready_same pair same))
       (elim (cases_lt (minutes_until t (ready_at t f pair) (slice_index zeros k)) (wait_of t f pair)) [
         | inl less ↦ absurd (clean.each (slice_index zeros k) within (lies _ _ less) none)
@@ -66,6 +59,3 @@ longest_is t a f leg longest ready zeros listed at no_more all = record {
 
     clash : (until wait longest : ℕ) → until < wait → wait ≤ longest → longest ≤ until → ⊥
     clash until wait longest lt short le = omega arith
-
-    some_minutes : 0 < MINUTES_PER_PERIOD
-    some_minutes = omega arith

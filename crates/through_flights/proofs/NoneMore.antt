@@ -1,16 +1,15 @@
 -- No through set is worth more than numbers sum to that reach all turns.
 use Rattle.std.proofs.Common.{◌≡◌, ◌≢◌, ℕ, zero, suc, ◌+◌, ◌<◌, ◌≤◌, ◌==◌, Bool, true, false, if◌then◌else◌, List, length, ℤ, pos, ◌+ℤ◌, ◌*ℤ◌, ◌≤ℤ◌, Option, Some, None, unwrap_or, IsSome, refl, sym, ◌∙◌, ap, subst, inl, inr, arith}
 use Rattle.std.proofs.lemmas.Bool.{cases_eq, cases_order, eq-eqb, eqb-true}
-use Rattle.std.proofs.lemmas.Bool.Decides.{nat_tests}
 use Rattle.std.proofs.lemmas.Int.{ints}
 use lib.IntN.{zero-*ℤ, *ℤ_comm}
+use lib.Signed.{≤ℤ_refl}
 use Rattle.sums.specs.Below.{count_below, sum_below_ℤ}
-use Rattle.sums.proofs.Counts.{count_below-one}
+use Rattle.sums.proofs.Counts.{count_below-no_two, count_below-one}
 use Rattle.sums.proofs.Integers.{one-*ℤ}
 use Rattle.sums.proofs.Orders.{sum_below_ℤ-le}
 use Rattle.sums.proofs.WholeSums.{sum_below_ℤ-same}
 use Rattle.sums.proofs.WholeSwaps.{sum_below_ℤ-+ℤ, sum_below_ℤ-swap, sum_below_ℤ-one, where_true}
-use Rattle.best_matching.proofs.OneToOneMaps.{count_below-no_two}
 use Rattle.fleet_model.specs.declared.parts.Connection.{Connection}
 use Rattle.fleet_model.specs.declared.tables.Tables.{Tables}
 use Rattle.fleet_model.specs.Counts.{fleet_at, weights_of}
@@ -44,13 +43,9 @@ by_place f place places count within =
 own_sum : (a : List ℕ) (f n : ℕ) (numbers : List ℤ) (times : ℕ → ℕ) → ((l : ℕ) → l < n → times l ≡ weights_of a (leg_on l f)) → ((l : ℕ) → l < n → fleet_at a l ≢ f → number_at numbers l ≡ pos 0)
     → sum_below_ℤ (λ l. pos (times l) *ℤ number_at numbers l) n ≡ sum_of numbers n
 own_sum a f n numbers times counts others = sum_below_ℤ-same (λ l. pos (times l) *ℤ number_at numbers l) (number_at numbers) n (λ l lt. elim (cases_eq (fleet_at a l) f) [
-  | inl own ↦ ap (λ m. pos m *ℤ number_at numbers l) (counts l lt ∙ one _ _ own) ∙ one-*ℤ (number_at numbers l)
+  | inl own ↦ ap (λ m. pos m *ℤ number_at numbers l) (counts l lt ∙ weight_one _ _ own) ∙ one-*ℤ (number_at numbers l)
   | inr ne ↦ ap (λ z. pos (times l) *ℤ z) (others l lt ne) ∙ *ℤ_comm (pos (times l)) (pos 0) ∙ zero-*ℤ (pos (times l)) ∙ sym (others l lt ne)
 ])
-  where
-    one : (x f : ℕ) → x ≡ f → ◌≡◌ {A = ℕ} (if x == f then 1 else 0) 1
-    one x f e = grind (arith, nat_tests)
-
 -- a sum over some of the places, none taken twice, of numbers of at least 0
 part_at_most : (g : ℕ → ℤ) (place : ℕ → ℕ) (places count : ℕ) → ((k : ℕ) → k < places → pos 0 ≤ℤ g k) → ((j : ℕ) → j < count → place j < places)
     → ((i j : ℕ) → i < count → j < count → place i ≡ place j → i ≡ j) → sum_below_ℤ (λ j. g (place j)) count ≤ℤ sum_below_ℤ g places
@@ -63,12 +58,8 @@ part_at_most g place places count some within distinct =
     at_most_once : (count : ℕ) (z : ℤ) → pos 0 ≤ℤ z → count ≤ 1 → (pos count *ℤ z) ≤ℤ z
     at_most_once count z some few = elim (cases_eq count 0) [
       | inl none ↦ subst (λ m. (pos m *ℤ z) ≤ℤ z) (sym none) (subst (λ x. x ≤ℤ z) (sym (zero-*ℤ z)) some)
-      | inr ne ↦ let one : count ≡ 1 = omega arith in subst (λ m. (pos m *ℤ z) ≤ℤ z) (sym one) (subst (λ x. x ≤ℤ z) (sym (one-*ℤ z)) (same z))
+      | inr ne ↦ let one : count ≡ 1 = omega arith in subst (λ m. (pos m *ℤ z) ≤ℤ z) (sym one) (subst (λ x. x ≤ℤ z) (sym (one-*ℤ z)) (≤ℤ_refl z))
     ]
-      where
-        same : (z : ℤ) → z ≤ℤ z
-        same z = omega (arith, ints)
-
 module _ (t : Tables) (a : List ℕ) (f : ℕ) (u v : List ℤ) (pairs : List Connection) (reach : ReachTurns t a f u v) (set : IsThroughSet t a f pairs) where
   turns : List Connection
   turns = set.held.turns

@@ -1,13 +1,12 @@
 -- The numbers of the legs that a matching gives.
-use Rattle.std.proofs.Common.{◌≡◌, ◌≢◌, ℕ, zero, suc, ◌+◌, ◌-◌, ◌<◌, ◌≤◌, ◌==◌, Bool, true, false, if◌then◌else◌, List, length, slice_index, ℤ, pos, ◌+ℤ◌, ◌-ℤ◌, ◌≤ℤ◌, unwrap_or, unsigned_abs, refl, sym, ◌∙◌, ap, subst, inl, inr, arith}
-use Rattle.std.proofs.lemmas.Bool.{cases_eq, eq-eqb}
-use Rattle.std.proofs.lemmas.Bool.Decides.{nat_tests}
+use Rattle.std.proofs.Common.{◌≡◌, ◌≢◌, ℕ, ◌+◌, ◌-◌, ◌<◌, ◌≤◌, ◌==◌, Bool, true, false, if◌then◌else◌, List, length, slice_index, ℤ, pos, ◌+ℤ◌, ◌-ℤ◌, ◌≤ℤ◌, unwrap_or, unsigned_abs, refl, sym, ◌∙◌, ap, subst, inl, inr, arith}
+use Rattle.std.proofs.lemmas.Bool.{cases_eq, eq-eqb, ne_eqb}
 use Rattle.std.proofs.lemmas.Int.{ints}
-use Rattle.sums.specs.Below.{sum_below, sum_below_ℤ}
+use Rattle.sums.specs.Below.{sum_below}
 use Rattle.sums.specs.Places.{list_below}
 use Rattle.sums.proofs.Places.{get_or-list_below, length-list_below}
 use Rattle.sums.proofs.Sums.{sum_below-add, sum_below-agree}
-use Rattle.sums.proofs.WholeSums.{sum_below_ℤ-same}
+use Rattle.sums.proofs.WholeSums.{sum_below_ℤ-of_differences, sum_below_ℤ-pos, sum_below_ℤ-same}
 use Rattle.best_matching.specs.Worths.{AreDuals, AreTight, worth_at}
 use Rattle.best_matching.proofs.OneToOneMaps.{along}
 use Rattle.fleet_model.specs.declared.parts.Connection.{Connection}
@@ -21,9 +20,6 @@ use Rattle.through_flights.specs.Chosen.{chosen_value, own_number}
 use Rattle.through_flights.specs.Worths.{AreTurnWorths}
 use Rattle.through_flights.proofs.Followers.{AreFollowers}
 
-unequal : (x y : ℕ) → x ≢ y → (x == y) ≡ false
-unequal x y h = grind (arith, nat_tests)
-
 -- a leg's number is its dual, less a number, in the fleet, and 0 in others
 own_is : (a : List ℕ) (f : ℕ) (duals : List ℕ) (less l : ℕ) → fleet_at a l ≡ f → own_number a f duals less l ≡ pos (slice_index duals l) -ℤ pos less
 own_is a f duals less l own = choice (fleet_at a l == f) _ (eq-eqb _ _ own)
@@ -32,7 +28,7 @@ own_is a f duals less l own = choice (fleet_at a l == f) _ (eq-eqb _ _ own)
     choice b x e = rw e
 
 other_is : (a : List ℕ) (f : ℕ) (duals : List ℕ) (less l : ℕ) → fleet_at a l ≢ f → own_number a f duals less l ≡ pos 0
-other_is a f duals less l ne = choice (fleet_at a l == f) _ (unequal _ _ ne)
+other_is a f duals less l ne = choice (fleet_at a l == f) _ (ne_eqb _ _ ne)
   where
     choice : (b : Bool) (x : ℤ) → b ≡ false → (if b then x else pos 0) ≡ pos 0
     choice b x e = rw e
@@ -74,15 +70,6 @@ numbers_reach t a f worths rows columns u v w duals u_is v_is = record {
         → value ≤ℤ ((pos row -ℤ pos CLEAN_WORTH) +ℤ (pos column -ℤ pos 0))
     no_more row column worth listed value e g q = omega (arith, ints)
 
--- a sum of whole numbers of at least 0
-pos_sum : (f : ℕ → ℕ) (n : ℕ) → sum_below_ℤ (λ k. pos (f k)) n ≡ pos (sum_below f n)
-pos_sum f zero = refl
-pos_sum f (suc n) = ap (λ z. z +ℤ pos (f n)) (pos_sum f n)
-
-less_sum : (f g : ℕ → ℕ) (n : ℕ) → sum_below_ℤ (λ k. pos (f k) -ℤ pos (g k)) n ≡ pos (sum_below f n) -ℤ pos (sum_below g n)
-less_sum f g zero = refl
-less_sum f g (suc n) = omega (arith, ints, less_sum f g n)
-
 module _ (t : Tables) (a : List ℕ) (f : ℕ) (worths : List (List ℕ)) (rows columns next : List ℕ) (w : AreTurnWorths t a f worths)
     (tight : AreTight worths (slice_index rows) (slice_index columns) (slice_index next) (length worths)) (known : AreFollowers t a f (slice_index next)) where
   -- the duals of the fleet's legs alone
@@ -123,7 +110,7 @@ module _ (t : Tables) (a : List ℕ) (f : ℕ) (worths : List (List ℕ)) (rows 
             in_fleet (fleet_at a l == f) (fleet_at a (slice_index next l) == f) _ _ _ (eq-eqb _ _ own) (eq-eqb _ _ clean.turn.leaves_on) (tight.meet l lt') (worth.clean clean)
         | inr ne ↦
             let itself = (known.each l lt).other ne in
-            in_other (fleet_at a l == f) (fleet_at a (slice_index next l) == f) _ _ _ (unequal _ _ ne) (unequal _ _ (λ e. ne (ap (fleet_at a) itself ∙ e)))
+            in_other (fleet_at a l == f) (fleet_at a (slice_index next l) == f) _ _ _ (ne_eqb _ _ ne) (ne_eqb _ _ (λ e. ne (ap (fleet_at a) itself ∙ e)))
             (worth.idle (record { other = ne; itself = itself }))
       ]
     where
@@ -151,9 +138,9 @@ module _ (t : Tables) (a : List ℕ) (f : ℕ) (worths : List (List ℕ)) (rows 
   numbers_sum u v u_is v_is =
       add _ _ _ _ _ _
       (sum_below_ℤ-same (number_at u) (λ l. pos (row_part l) -ℤ pos (clean_part l)) (legs_in t) (λ l lt. number_is a f rows CLEAN_WORTH (legs_in t) u u_is l lt ∙ u_parts l)
-      ∙ less_sum row_part clean_part (legs_in t))
+      ∙ sum_below_ℤ-of_differences row_part clean_part (legs_in t))
       (sum_below_ℤ-same (number_at v) (λ l. pos (column_part l)) (legs_in t) (λ l lt. number_is a f columns 0 (legs_in t) v v_is l lt ∙ v_parts l)
-      ∙ pos_sum column_part (legs_in t))
+      ∙ sum_below_ℤ-pos column_part (legs_in t))
       parts_sum
     where
       add : (x y : ℤ) (row clean column chosen : ℕ) → x ≡ pos row -ℤ pos clean → y ≡ pos column → row + column ≡ clean + chosen → x +ℤ y ≡ pos chosen

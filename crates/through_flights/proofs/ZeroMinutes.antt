@@ -3,6 +3,7 @@ use Rattle.std.proofs.Common.{◌≡◌, ℕ, zero, suc, ◌+◌, ◌<◌, ◌�
 use Rattle.std.proofs.lemmas.Bool.{cases_lt}
 use Rattle.std.proofs.Math.ListN.{get_or-append}
 use Rattle.std.proofs.Math.Seq.{get_or-append_seam}
+use Rattle.sums.proofs.Naturals.{at_end}
 use Rattle.fleet_model.specs.declared.tables.Tables.{Tables}
 use Rattle.fleet_model.specs.Counts.{Weights}
 use Rattle.island_cut.specs.Zeros.{none_stands, zeros_below}
@@ -28,9 +29,6 @@ grown_each b test xs ys n passes grown before k lt = elim (cases_lt k (length xs
   where
     below : (x y n : ℕ) → x ≡ y → y < n → x < suc n
     below x y n e lt = omega arith
-
-    at_end : (k n long : ℕ) → k < long → n ≤ k → long ≡ n + 1 → k ≡ n
-    at_end k n long lt ge e = omega arith
 
     last : (b : Bool) → test n ≡ b → ys ≡ xs ++ (if b then n ∷ [] else []) → k < length ys → length xs ≤ k → (get_or ys k 0 < suc n) × (test (get_or ys k 0) ≡ true)
     last true passes grown lt ge =
