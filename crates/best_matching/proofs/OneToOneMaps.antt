@@ -1,20 +1,10 @@
 -- Sums along a one-to-one map.
 use Rattle.std.proofs.Common.{◌≡◌, ℕ, zero, suc, ◌+◌, ◌*◌, ◌<◌, ◌≤◌, ◌==◌, Bool, true, false, if◌then◌else◌, sym, ◌∙◌, ap, subst, inl, inr, arith}
 use Rattle.std.proofs.lemmas.Bool.{cases_lt, eqb-true}
-use Rattle.std.proofs.lemmas.Bool.Decides.{nat_tests}
 use Rattle.sums.specs.Below.{count_below, sum_below}
-use Rattle.sums.proofs.Sums.{sum_below-agree, sum_below-bound, sum_below-one, sum_below-ones, sum_below-swap}
-use Rattle.sums.proofs.Counts.{count_below-no_two, count_below-none}
+use Rattle.sums.proofs.Sums.{sum_below-agree, sum_below-at, sum_below-bound, sum_below-ones, sum_below-swap}
+use Rattle.sums.proofs.Counts.{count_below-no_two}
 use Rattle.best_matching.specs.Worths.{IsOneToOne}
-
--- a value at one place alone
-at_place : (f : ℕ → ℕ) (place n : ℕ) → place < n → sum_below (λ j. if place == j then f j else 0) n ≡ f place
-at_place f place n lt =
-    sum_below-agree (λ j. if place == j then f j else 0) (λ j. if place == j then f place else 0) n (record { each = λ j _. here place j (f j) (f place) (λ same. ap f (sym same)) })
-    ∙ sum_below-one place (f place) n lt
-  where
-    here : (place j x y : ℕ) → (place ≡ j → x ≡ y) → ◌≡◌ {A = ℕ} (if place == j then x else 0) (if place == j then y else 0)
-    here place j x y e = grind (arith, nat_tests)
 
 -- one value as often as a test passes
 as_often : (p : ℕ → Bool) (value n : ℕ) → sum_below (λ k. if p k then value else 0) n ≡ value * count_below p n
@@ -28,7 +18,7 @@ as_often p value (suc n) = ap (λ x. x + (if p n then value else 0)) (as_often p
 -- each value as often as the map gives its place
 pub over_map : (f map : ℕ → ℕ) (n : ℕ) → ((k : ℕ) → k < n → map k < n) → sum_below (λ k. f (map k)) n ≡ sum_below (λ j. f j * count_below (λ k. map k == j) n) n
 over_map f map n within =
-    sum_below-agree (λ k. f (map k)) (λ k. sum_below (λ j. if map k == j then f j else 0) n) n (record { each = λ k lt. sym (at_place f (map k) n (within k lt)) })
+    sum_below-agree (λ k. f (map k)) (λ k. sum_below (λ j. if map k == j then f j else 0) n) n (record { each = λ k lt. sym (sum_below-at (map k) n f (within k lt)) })
     ∙ sum_below-swap (λ k j. if map k == j then f j else 0) n n
     ∙ sum_below-agree (λ j. sum_below (λ k. if map k == j then f j else 0) n) (λ j. f j * count_below (λ k. map k == j) n) n (record { each = λ j _. as_often (λ k. map k == j) (f j) n })
 

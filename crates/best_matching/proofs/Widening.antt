@@ -7,7 +7,7 @@ use Rattle.best_matching.specs.Trees.{IsSearch, IsStem, gap_at, turn_at}
 use Rattle.best_matching.specs.declared.matching.TheConstants.{MAX_WORTH}
 use Rattle.best_matching.specs.declared.draft.Draft.{Draft}
 use Rattle.best_matching.specs.declared.tree.Tree.{Tree}
-use Rattle.best_matching.proofs.WideningSteps.{AreNumbers}
+use Rattle.best_matching.proofs.WideningSteps.{AreNumbers, still_meets}
 
 -- the root's column is outside, and its dual is 0
 pub root_outside : (worths : List (List ℕ)) (draft : Draft) (tree : Tree) (root turn : ℕ) → IsSearch worths draft tree root turn → root < length worths
@@ -139,7 +139,7 @@ widened_matched worths old new tree wider root turn next s root_lt a = record {
       let row_lt : row < length worths = omega arith in
       subst (λ k. row_dual new row + column_dual new k ≡ worth_at worths row k) (sym (a.column_of row))
       (elim (cases_lt (turn_at tree (column_of old row)) (length worths)) [
-        | inl joined ↦ both _ _ _ _ _ _ (a.lowered row row_lt (inr joined)) (a.raised (column_of old row) (s.pairing.column_within row row_lt) joined) (s.matched.meet row before)
+        | inl joined ↦ still_meets _ _ _ _ _ _ (a.lowered row row_lt (inr joined)) (a.raised (column_of old row) (s.pairing.column_within row row_lt) joined) (s.matched.meet row before)
         | inr out ↦ neither _ _ _ _ _ (a.kept row row_lt (omega arith) out) (a.same (column_of old row) (s.pairing.column_within row row_lt) out) (s.matched.meet row before)
       ]);
   unused = λ row row_lt after other.
@@ -148,8 +148,5 @@ widened_matched worths old new tree wider root turn next s root_lt a = record {
       ∙ s.matched.unused row row_lt after other;
 }
   where
-    both : (row row' column column' by worth : ℕ) → row' + by ≡ row → column' ≡ column + by → row + column ≡ worth → row' + column' ≡ worth
-    both row row' column column' by worth e f same = omega arith
-
     neither : (row row' column column' worth : ℕ) → row' ≡ row → column' ≡ column → row + column ≡ worth → row' + column' ≡ worth
     neither row row' column column' worth e f same = omega arith

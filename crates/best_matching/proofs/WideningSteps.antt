@@ -75,6 +75,10 @@ otherwise n k p f g xs e lt holds = ap (λ ys. slice_index ys k) e ∙ get_or-li
     choice : (b : Bool) (x y : ℕ) → b ≡ false → ◌≡◌ {A = ℕ} (if b then x else y) y
     choice b x y h = rw h
 
+-- a row's dual falls by as much as a column's rises
+pub still_meets : (row row' column column' by worth : ℕ) → row' + by ≡ row → column' ≡ column + by → row + column ≡ worth → row' + column' ≡ worth
+still_meets row row' column column' by worth e f same = omega arith
+
 -- the numbers after a turn, one by one
 pub record AreNumbers (size : ℕ) (old new : Draft) (tree wider : Tree) (root turn next by : ℕ) : Type 0 where
   pub column_of : (row : ℕ) → slice_index new.columns row ≡ slice_index old.columns row

@@ -7,7 +7,7 @@ use Rattle.best_matching.specs.Drafts.{column_dual, column_of, row_dual, row_of}
 use Rattle.best_matching.specs.Trees.{HasGaps, IsSearch, IsStem, from_at, gap_at, turn_at}
 use Rattle.best_matching.specs.declared.draft.Draft.{Draft}
 use Rattle.best_matching.specs.declared.tree.Tree.{Tree}
-use Rattle.best_matching.proofs.WideningSteps.{AreNumbers}
+use Rattle.best_matching.proofs.WideningSteps.{AreNumbers, still_meets}
 
 -- two columns of which one is in the tree and one outside
 differ : (tree : Tree) (one other size : ℕ) → turn_at tree one < size → size ≤ turn_at tree other → one ≢ other
@@ -15,10 +15,6 @@ differ tree one other size joined out same = apart _ _ _ joined out (ap (turn_at
   where
     apart : (a b m : ℕ) → a < m → m ≤ b → a ≡ b → ⊥
     apart a b m lt ge e = omega arith
-
--- where the duals meet the worth at a column in the tree, they still do
-both : (row row' column column' by worth : ℕ) → row' + by ≡ row → column' ≡ column + by → row + column ≡ worth → row' + column' ≡ worth
-both row row' column column' by worth e f same = omega arith
 
 -- where the gap of the column was the least, they do now
 closes : (row row' column column' by worth : ℕ) → row' + by ≡ row → column' ≡ column → by + worth ≡ row + column → row' + column' ≡ worth
@@ -44,7 +40,7 @@ widened_stem worths old new tree wider root turn next s root_lt next_lt next_out
         (closes _ _ _ _ _ _ (a.lowered (from_at tree next) (s.stem.within next next_lt) (s.gaps.reached next next_lt next_out)) (a.same next next_lt next_out) (s.gaps.met next next_lt next_out))
     meets column lt joined (inr other) =
         let joined_before : turn_at tree column < length worths = subst (λ k. k < length worths) (a.others column other) joined in
-        both _ _ _ _ _ _ (a.lowered (from_at tree column) (s.stem.within column lt) (reached column lt joined_before)) (a.raised column lt joined_before) (s.stem.meet column lt joined_before)
+        still_meets _ _ _ _ _ _ (a.lowered (from_at tree column) (s.stem.within column lt) (reached column lt joined_before)) (a.raised column lt joined_before) (s.stem.meet column lt joined_before)
       where
         reached : (column : ℕ) → column < length worths → turn_at tree column < length worths → (from_at tree column ≡ root) ⊎ (turn_at tree (column_of old (from_at tree column)) < length worths)
         reached column lt joined_before = elim (s.stem.before column lt joined_before) [ inl same ↦ inl same | inr less ↦ inr (lt_trans less joined_before) ]

@@ -4,6 +4,7 @@ use Rattle.std.specs.Prelude.{⊤, All}
 use Rattle.std.specs.Ordering.{int_eq}
 use Rattle.std.proofs.lemmas.Bool.Decides.{Decides-int_eq, nat_tests}
 use Rattle.std.proofs.lemmas.List.Elements.{All-cons, All-nil}
+use Rattle.sums.proofs.Naturals.{first_same}
 use Rattle.fleet_model.specs.Schedule.{fleets_in}
 use Rattle.fleet_model.specs.declared.tables.Tables.{Tables}
 use Rattle.bound_cert.specs.Lines.{Left, Reading, Stopped, ◌>>=◌, first_words, stands, words_of}
@@ -14,13 +15,12 @@ use Rattle.dual_bound.specs.Order.{same_place, step_follows}
 use Rattle.dual_bound.specs.WrittenOrder.{IsStepInOrder, goes_on}
 use Rattle.dual_bound.specs.declared.mixed.Weight.{Weight}
 use Rattle.dual_bound.specs.declared.prices.PriceStep.{PriceStep}
-use Rattle.dual_bound.proofs.StepOrder.{one_figure}
+use Rattle.dual_bound.proofs.StepOrder.{one_figure, same_place_by}
 use Rattle.bound_cert.specs.declared.reading_lines.Due.TheVariants as due
 use Rattle.bound_cert.proofs.LineTwins.{Alike, Twin, alike_first, alike_self, rent_twin, scale_twin, step_twin, weight_twin}
 use Rattle.bound_cert.proofs.LinesOfWords.{mixed_line_is}
 use Rattle.bound_cert.proofs.ReadOn.{begins, bound, rents_end, rents_more, steps_end, steps_more, weights_end, weights_more}
 use Rattle.bound_cert.proofs.Shrinking.{Shrinks, rents_shrink, shrinks_bind, steps_shrink, weights_shrink}
-use Rattle.bound_cert.proofs.TextLists.{same_place_by}
 use Rattle.bound_cert.proofs.TextPrices.{StepWas, step_was}
 use Rattle.bound_cert.proofs.WrittenLines.{joined}
 use Rattle.bound_cert.proofs.WrittenNodes.{behind_line}
@@ -239,10 +239,6 @@ module _ (t : Tables) (line : List ℕ) (after : Left) where
     onward m some needed =
         let first : x ≡ joined (at_line t step) = first_same x (joined (at_line t step)) end end was.line_is.is in
         steps_more t steps before (x ∷ m) step is (ap (λ y. step_at t before (y ∷ m)) first ∙ step_read t before step m was.order was.follows needed some)
-      where
-        first_same : (x y : List ℕ) (a b : Left) → ◌≡◌ {A = Left} (x ∷ a) (y ∷ b) → x ≡ y
-        first_same x y a b e = cc e
-
     -- behind lines of another kind it is needed as little as behind such
     stays_needed : (m : Left) → begins end (codes "at") ≡ false → begins m (codes "at") ≡ false → is_needless step (at_line t step) m ≡ false
     stays_needed m here there = by_zero (step.minute == 0) (int_eq step.value (pos 0)) (goes_on_at (first_words end) (at_line t step)) (goes_on_at (first_words m) (at_line t step)) (rw here refl) was.needed

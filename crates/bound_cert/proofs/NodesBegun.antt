@@ -3,6 +3,7 @@ use Rattle.std.proofs.Common.{◌≡◌, ◌⊎◌, ℕ, zero, suc, ◌+◌, ◌
 use Rattle.std.specs.Prelude.{⊤}
 use Rattle.std.proofs.lemmas.Bool.Decides.{nat_tests}
 use Rattle.std.proofs.lemmas.List.Sums.{sum_by-append, sum_by-cons}
+use Rattle.sums.proofs.Naturals.{first_same}
 use Rattle.fleet_model.specs.declared.tables.Tables.{Tables}
 use Rattle.bound_cert.specs.FirstFault.{is_inner_line}
 use Rattle.bound_cert.specs.Lines.{Left, Reading, ◌>>=◌, stands}
@@ -146,9 +147,6 @@ module _ (t : Tables) where
 
   inner_line : (line : Line) → IsOfWords line → (stands line 0 (codes "trim") || stands line 0 (codes "split")) ≡ true → is_inner_line (joined line) ≡ true
   inner_line line is e = ap (λ words. stands words 0 (codes "trim") || stands words 0 (codes "split")) (words_back line is) ∙ e
-
-  first_same : (x y : List ℕ) (a b : Left) → ◌≡◌ {A = Left} (x ∷ a) (y ∷ b) → x ≡ y
-  first_same x y a b e = cc e
 
   -- a node that is no leaf has a first line that counts
   inner_first : (above : ℕ) (x : List ℕ) (a : Left) (read : Node × Left) → node_at t above (x ∷ a) ≡ Ok read → 0 < inner_of read.0 → is_inner_line x ≡ true

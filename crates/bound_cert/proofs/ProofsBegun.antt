@@ -21,6 +21,7 @@ use Rattle.bound_cert.proofs.WrittenLines.{joined}
 use Rattle.bound_cert.proofs.WrittenPrices.{IsBehind}
 use Rattle.bound_cert.proofs.WrittenTrees.{end_read, last, last_is, plan_read, whole_read}
 use Rattle.bound_cert.proofs.NodesBegun.{EndsNodes, count_cons, nodes_go}
+use Rattle.bound_cert.proofs.ReadBack.{err_same}
 
 module _ (t : Tables) (line : List ℕ) (after : Left) where
   abbrev end : Left
@@ -36,9 +37,6 @@ module _ (t : Tables) (line : List ℕ) (after : Left) where
   err_then (Ok x) f e failed = absurd (cc failed)
   err_then (Err d) f e failed = let one : d ≡ e = cc failed in ap Err one
 
-  same_err : {A : Type 0} (d e : Stopped) → ◌≡◌ {A = Reading A} (Err d) (Err e) → d ≡ e
-  same_err d e is = cc is
-
   record EndBegun (rest : Left) : Type 0 where
     more : Left
     reads : end_at (rest ++ more) ≡ Ok tt
@@ -51,7 +49,7 @@ module _ (t : Tables) (line : List ℕ) (after : Left) where
   end_begun (x ∷ p) e failed there = by_line p (line_due due.End (x ∷ (p ++ end))) refl failed
     where
       by_line : (p : Left) (r : Reading (List (List ℕ))) → line_due due.End (x ∷ (p ++ end)) ≡ r → (r >>= λ words. nothing (p ++ end)) ≡ Err e → EndBegun (x ∷ p)
-      by_line p (Err d) is failed = not_there x p end (line_due due.End (x ∷ (p ++ end))) d (line_twin due.End (x ∷ (p ++ end)) (x ∷ (p ++ end)) (alike_self (x ∷ (p ++ end)))) is (ap (λ s. s.left) (same_err d e failed) ∙ there)
+      by_line p (Err d) is failed = not_there x p end (line_due due.End (x ∷ (p ++ end))) d (line_twin due.End (x ∷ (p ++ end)) (x ∷ (p ++ end)) (alike_self (x ∷ (p ++ end)))) is (ap (λ s. s.left) (err_same d e failed) ∙ there)
       by_line [] (Ok words) is failed = record {
         more = [] ∷ [];
         reads = bound (line_due due.End (x ∷ [] ∷ [])) words _
@@ -60,10 +58,10 @@ module _ (t : Tables) (line : List ℕ) (after : Left) where
         may = tt;
       }
       by_line (y ∷ []) (Ok words) is failed =
-          let one : record { left = length (y ∷ end); kind = _ } ≡ e = same_err _ e failed in
+          let one : record { left = length (y ∷ end); kind = _ } ≡ e = err_same _ e failed in
           absurd (omega (arith, ap (λ s. s.left) one, there))
       by_line (y ∷ z ∷ p) (Ok words) is failed =
-          let one : record { left = length (y ∷ z ∷ (p ++ end)); kind = _ } ≡ e = same_err _ e failed in
+          let one : record { left = length (y ∷ z ∷ (p ++ end)); kind = _ } ≡ e = err_same _ e failed in
           absurd (omega (arith, ap (λ s. s.left) one, there, length-append p end))
 
   tree_begun : (p : Left) → count_by is_inner_line p ≤ MAX_DEPTH → (e : Stopped) → tree_at t (p ++ end) ≡ Err e → e.left ≡ length end → Begun (tree_at t) p
@@ -72,7 +70,7 @@ module _ (t : Tables) (line : List ℕ) (after : Left) where
     where
       by_nodes : (r : Reading (List Node × Left)) → EndsNodes t line after [] [] p r → (r >>= λ read. end_at read.1 >>= λ ended. Ok read.0) ≡ Err e → Begun (tree_at t) p
       by_nodes (Err d) ends failed =
-          let done = ends (ap (λ s. s.left) (same_err d e failed) ∙ there) in
+          let done = ends (ap (λ s. s.left) (err_same d e failed) ∙ there) in
           record {
             more = done.more ++ last;
             value = done.value;
@@ -119,7 +117,7 @@ module _ (t : Tables) (line : List ℕ) (after : Left) where
   rest_begun (x ∷ p) few e failed there = by_plan (plan_at (x ∷ (p ++ end))) refl failed
     where
       by_plan : (r : Reading Bool) → plan_at (x ∷ (p ++ end)) ≡ r → (r >>= with_plan (p ++ end)) ≡ Err e → Begun (rest_at t) (x ∷ p)
-      by_plan (Err d) is failed = not_there x p end (plan_at (x ∷ (p ++ end))) d (plan_twin t (x ∷ (p ++ end)) (x ∷ (p ++ end)) (alike_self (x ∷ (p ++ end)))) is (ap (λ s. s.left) (same_err d e failed) ∙ there)
+      by_plan (Err d) is failed = not_there x p end (plan_at (x ∷ (p ++ end))) d (plan_twin t (x ∷ (p ++ end)) (x ∷ (p ++ end)) (alike_self (x ∷ (p ++ end)))) is (ap (λ s. s.left) (err_same d e failed) ∙ there)
       by_plan (Ok planned) is failed =
           let done = tree_begun p (omega (arith, few, count_cons t x p)) e (err_then (tree_at t (p ++ end)) (λ nodes. (planned, nodes)) e failed) there in
           record {
@@ -142,7 +140,7 @@ module _ (t : Tables) (line : List ℕ) (after : Left) where
   all_begun (x ∷ p) few e failed there = by_head (head_is (x ∷ (p ++ end))) refl failed
     where
       by_head : (r : Reading ⊤) → head_is (x ∷ (p ++ end)) ≡ r → (r >>= λ headed. rest_at t (p ++ end)) ≡ Err e → Begun (proof_at t) (x ∷ p)
-      by_head (Err d) is failed = not_there x p end (head_is (x ∷ (p ++ end))) d (headed_twin (x ∷ (p ++ end)) (x ∷ (p ++ end)) (alike_self (x ∷ (p ++ end)))) is (ap (λ s. s.left) (same_err d e failed) ∙ there)
+      by_head (Err d) is failed = not_there x p end (head_is (x ∷ (p ++ end))) d (headed_twin (x ∷ (p ++ end)) (x ∷ (p ++ end)) (alike_self (x ∷ (p ++ end)))) is (ap (λ s. s.left) (err_same d e failed) ∙ there)
       by_head (Ok headed) is failed =
           let done = rest_begun p (omega (arith, few, count_cons t x p)) e failed there in
           record {

@@ -1,11 +1,14 @@
 -- Where reading goes well, each of its steps went well too.
 use Rattle.std.proofs.Common.{◌≡◌, Bool, true, false, cond, Option, Some, None, Ok, Err, refl}
 use Rattle.std.specs.Prelude.{⊤}
-use Rattle.bound_cert.specs.Lines.{Left, Reading, ◌>>=◌, present}
+use Rattle.bound_cert.specs.Lines.{Left, Reading, Stopped, ◌>>=◌, present}
 use Rattle.bound_cert.specs.Reading.{in_order}
 
 pub ok_same : {A : Type 0} (x y : A) → ◌≡◌ {A = Reading A} (Ok x) (Ok y) → x ≡ y
 ok_same x y e = cc e
+
+pub err_same : {A : Type 0} (d e : Stopped) → ◌≡◌ {A = Reading A} (Err d) (Err e) → d ≡ e
+err_same d e same = cc same
 
 -- a step went well, and what follows it
 pub record Goes {A B : Type 0} (r : Reading A) (f : A → Reading B) (y : B) : Type 0 where

@@ -2,7 +2,7 @@
 use Rattle.std.proofs.Common.{◌≡◌, ℕ, zero, suc, ◌+◌, ◌-◌, ◌<◌, ◌≤◌, ◌==◌, ◌&&◌, Bool, true, false, List, [], ◌∷◌, ◌++◌, length, drop, replicate, get_or, codes, ℤ, pos, Option, Some, None, Ok, refl, sym, ap, subst, ◌∙◌, append_assoc, append-nil, arith}
 use Rattle.std.specs.Prelude.{All}
 use Rattle.std.specs.Ordering.{int_eq}
-use Rattle.std.proofs.lemmas.Bool.Decides.{Decides-int_eq, nat_tests}
+use Rattle.std.proofs.lemmas.Bool.Decides.{Decides-int_eq}
 use Rattle.std.proofs.lemmas.List.{length-append}
 use Rattle.std.proofs.lemmas.List.Elements.{All-append, All-cons, All-head, All-nil}
 use Rattle.fleet_model.specs.Schedule.{fleet_of, fleets_in, station_of}
@@ -12,13 +12,12 @@ use Rattle.bound_cert.specs.Lines.{Left, first_words, stands, words_of}
 use Rattle.dual_bound.specs.Prices.{rent_of}
 use Rattle.bound_cert.specs.ProofText.{at_line, mixed_line, mixed_lines, price_lines, rent_line, rent_lines, scale_line, step_lines, weight_line, weight_lines}
 use Rattle.bound_cert.specs.Reading.{goes_on_at, mixed_at, padded, prices_at, rent_at, rents_from, scale_at, step_at, steps_from, weight_at, weights_from}
-use Rattle.dual_bound.specs.Order.{same_place}
 use Rattle.dual_bound.specs.WrittenOrder.{ArePricesInOrder, IsFigure, IsMixedInOrder, IsStepInOrder, IsWeightInOrder, NoLoneZero, StepsFollow, WeightsFollow, goes_on}
 use Rattle.dual_bound.specs.declared.mixed.Mixed.{Mixed}
 use Rattle.dual_bound.specs.declared.mixed.Weight.{Weight}
 use Rattle.dual_bound.specs.declared.prices.Prices.{Prices}
 use Rattle.dual_bound.specs.declared.prices.PriceStep.{PriceStep}
-use Rattle.dual_bound.proofs.StepOrder.{zero_figure}
+use Rattle.dual_bound.proofs.StepOrder.{same_place_by, zero_figure}
 use Rattle.bound_cert.specs.declared.reading_lines.Due.TheVariants as due
 use Rattle.bound_cert.proofs.FigureWords.{same_bytes}
 use Rattle.bound_cert.proofs.LinesOfWords.{at_is}
@@ -47,9 +46,6 @@ module _ (t : Tables) where
 
   names_tell : (f g : ℕ) → f < fleets_in t → g < fleets_in t → (fleet_of t f).name ≡ (fleet_of t g).name → f ≡ g
   names_tell f g f_is g_is same = some_same f g (sym (fleet_written t f f_is) ∙ ap (fleet_named t) same ∙ fleet_written t g g_is)
-
-  pub same_place_by : (a b : PriceStep) → a.fleet ≡ b.fleet → a.station ≡ b.station → same_place a b ≡ true
-  same_place_by a b p q = grind (arith, nat_tests, p, q)
 
   three_tests : (a b c : Bool) → (a && b && c) ≡ true → (b ≡ true) × (c ≡ true)
   three_tests true true true e = (refl, refl)

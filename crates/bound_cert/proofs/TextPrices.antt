@@ -11,7 +11,7 @@ use Rattle.bound_cert.specs.Figures.{natural_in, number_in}
 use Rattle.bound_cert.specs.Known.{fleet_named, leg_named, station_named}
 use Rattle.bound_cert.specs.Lines.{Left, line_due, present, width_of, word_at}
 use Rattle.bound_cert.specs.ProofText.{Line, at_line, mixed_line, rent_line, scale_line, weight_line}
-use Rattle.bound_cert.specs.Reading.{figures_by, goes_on_at, in_order, is_needless, mixed_at, padded, pair_at, place_by, prices_at, rent_at, rent_by, rent_follows, rents_from, scale_at, step_at, step_by, step_of, steps_from, weight_at, weight_by, weight_of, weights_from}
+use Rattle.bound_cert.specs.Reading.{figures_by, in_order, is_needless, pair_at, place_by, rent_at, rent_by, rent_follows, scale_at, step_at, step_by, step_of, weight_at, weight_by, weight_of}
 use Rattle.dual_bound.specs.Order.{step_follows, weight_follows}
 use Rattle.bound_cert.specs.Reading as reading
 use Rattle.dual_bound.specs.WrittenOrder.{IsFigure, IsStepInOrder, IsWeightInOrder}

@@ -67,17 +67,14 @@ one_lesser yes_has no_has b c one_yes one_no x y =
     x.lesser ∙ rw (one_yes x.with_pair y.with_pair x.yes_is y.yes_is, one_no x.without y.without x.no_is y.no_is) refl ∙ sym y.lesser
 
 module _ (t : Tables) (cost : Option ℤ) where
-  own : (keeps : Domains) (whole : Tree) (rest : List Node) → All (IsSound t cost) (node keeps whole ∷ rest) → IsSound t cost (node keeps whole)
-  own keeps whole rest all = All-head (IsSound t cost) (node keeps whole) rest all
-
   one_bound : (keeps : Domains) (whole : Tree) (b c : Option ℤ) → AreSound t cost keeps whole → IsBoundIn t keeps whole b → IsBoundIn t keeps whole c → b ≡ c
   one_bound keeps (tree.Bare leg) b c sound x y = x ∙ sym y
   one_bound keeps tree.Sole b c sound x y =
-      let one = sole_has_one t keeps ((own keeps tree.Sole [] sound).each rule.Pairs) in
+      let one = sole_has_one t keeps ((All-head (IsSound t cost) (node keeps tree.Sole) [] sound).each rule.Pairs) in
       one_sole t keeps one.0 one.1 b c x y
   one_bound keeps (tree.Refuted prices) b c sound x y = x ∙ sym y
-  one_bound keeps (tree.Priced prices) b c sound x y = one_ceiling t keeps prices b c ((own keeps (tree.Priced prices) [] sound).each rule.Scale) x y
-  one_bound keeps (tree.Open prices why) b c sound x y = one_ceiling t keeps prices b c ((own keeps (tree.Open prices why) [] sound).each rule.Scale) x y
+  one_bound keeps (tree.Priced prices) b c sound x y = one_ceiling t keeps prices b c ((All-head (IsSound t cost) (node keeps (tree.Priced prices)) [] sound).each rule.Scale) x y
+  one_bound keeps (tree.Open prices why) b c sound x y = one_ceiling t keeps prices b c ((All-head (IsSound t cost) (node keeps (tree.Open prices why)) [] sound).each rule.Scale) x y
   one_bound keeps (tree.Trim' leg fleet p with_pair q without) b c sound x y =
       let below = All-tail (IsSound t cost) _ _ sound in
       one_lesser _ _ b c

@@ -91,18 +91,14 @@ module _ (t : Tables) (cost : Option ℤ) (a : List ℕ) (legal : IsLegal t a) w
       by_taken true e = subst (λ b. IsBelow b (total_cost t a)) (sym is.lesser) (below_first is.with_pair is.without (total_cost t a) (first is.with_pair is.yes_is (in_part t a keeps leg fleet true (sym e) kept)))
       by_taken false e = subst (λ b. IsBelow b (total_cost t a)) (sym is.lesser) (below_second is.with_pair is.without (total_cost t a) (second is.without is.no_is (in_part t a keeps leg fleet false (sym e) kept)))
 
-  -- the node's own rules, of all nodes' rules
-  own : (keeps : Domains) (whole : Tree) (rest : List Node) → All (IsSound t cost) (node keeps whole ∷ rest) → IsSound t cost (node keeps whole)
-  own keeps whole rest all = All-head (IsSound t cost) (node keeps whole) rest all
-
   proper : (keeps : Domains) (whole : Tree) (rest : List Node) (prices : Prices) → All (IsSound t cost) (node keeps whole ∷ rest) → prices_at whole ≡ Some prices → ArePrices t prices
-  proper keeps whole rest prices all e = prices_known t cost (node keeps whole) prices (own keeps whole rest all) e
+  proper keeps whole rest prices all e = prices_known t cost (node keeps whole) prices (All-head (IsSound t cost) (node keeps whole) rest all) e
 
   pub tree_bound : (keeps : Domains) (whole : Tree) (bound : Option ℤ) → AreSound t cost keeps whole → IsBoundIn t keeps whole bound → IsKeptAssignment t keeps a → IsBelow bound (total_cost t a)
-  tree_bound keeps (tree.Bare leg) bound sound is kept = absurd (bare_has_none t keeps leg a ((own keeps (tree.Bare leg) [] sound).each rule.Pairs) kept)
+  tree_bound keeps (tree.Bare leg) bound sound is kept = absurd (bare_has_none t keeps leg a ((All-head (IsSound t cost) (node keeps (tree.Bare leg)) [] sound).each rule.Pairs) kept)
   tree_bound keeps tree.Sole bound sound is kept = rw (is.legal a kept legal) (omega (arith, ints))
   tree_bound keeps (tree.Refuted prices) bound sound is kept =
-      absurd (worth_refutes t keeps prices a (proper keeps (tree.Refuted prices) [] prices sound refl) ((own keeps (tree.Refuted prices) [] sound).each rule.Refuted) kept legal)
+      absurd (worth_refutes t keeps prices a (proper keeps (tree.Refuted prices) [] prices sound refl) ((All-head (IsSound t cost) (node keeps (tree.Refuted prices)) [] sound).each rule.Refuted) kept legal)
   tree_bound keeps (tree.Priced prices) bound sound is kept = by_prices keeps prices bound (proper keeps (tree.Priced prices) [] prices sound refl) is kept
   tree_bound keeps (tree.Open prices why) bound sound is kept = by_prices keeps prices bound (proper keeps (tree.Open prices why) [] prices sound refl) is kept
   tree_bound keeps (tree.Trim' leg fleet p with_pair q without) bound sound is kept =

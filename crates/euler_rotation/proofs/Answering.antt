@@ -1,7 +1,7 @@
 -- What becomes of a fleet's rotation: the cases, and that the search is complete.
-use Rattle.std.proofs.Common.{◌≡◌, ℕ, ◌+◌, ◌*◌, ◌%◌, ◌<◌, ◌≤◌, Bool, IsTrue, true, false, ◌||◌, ◌==◌, if◌then◌else◌, List, [], ◌∷◌, length, slice_index, sym, ◌∙◌, ap, subst, inl, inr, arith, zero-add}
+use Rattle.std.proofs.Common.{◌≡◌, ℕ, ◌*◌, ◌<◌, ◌≤◌, Bool, IsTrue, true, false, ◌||◌, ◌==◌, if◌then◌else◌, List, [], ◌∷◌, length, slice_index, sym, ◌∙◌, ap, subst, inl, inr, arith}
 use Rattle.std.specs.List.{list_any}
-use Rattle.std.proofs.Math.Nat.{mod-eq_of_lt, mul_comm}
+use Rattle.std.proofs.Math.Nat.{mul_comm}
 use Rattle.std.proofs.lemmas.Bool.{cases_lt, eq-eqb, eqb-true}
 use Rattle.std.proofs.lemmas.List.{get_or_default}
 use Rattle.std.proofs.lemmas.List.Sums.{sum_by-append}
@@ -31,6 +31,7 @@ use Rattle.euler_rotation.proofs.Gaps.{at, kept_round, some_place}
 use Rattle.euler_rotation.proofs.InPreorder.{reached}
 use Rattle.euler_rotation.proofs.Turning.{entry_turned, kept_turned}
 use Rattle.euler_rotation.proofs.TourTurns.{own_leg, tour_order}
+use Rattle.euler_rotation.proofs.General.{from_start}
 
 module _ (t : Tables) (a : List ℕ) (f : ℕ) where
   -- the nights of a tour, and those at maintenance stations
@@ -104,10 +105,7 @@ module _ (t : Tables) (a : List ℕ) (f : ℕ) where
         turned_kept = kept_turned legs place.0 place.1 t a f pairs days kept
 
         begins : slice_index (turned place.0 legs) 0 ≡ slice_index order 0
-        begins = entry_turned legs place.0 place.1 0 (omega (arith, place.1)) ∙ ap (slice_index legs) (start place.0 (length legs) place.1) ∙ eqb-true _ _ place.2
-          where
-            start : (r n : ℕ) → r < n → (0 + r) % n ≡ r
-            start r n lt = ap (λ k. k % n) (zero-add r) ∙ mod-eq_of_lt lt
+        begins = entry_turned legs place.0 place.1 0 (omega (arith, place.1)) ∙ ap (slice_index legs) (from_start place.0 (length legs) place.1) ∙ eqb-true _ _ place.2
     -- a fleet without a leg has no tour
     none_flown : (legs : List ℕ) → IsUnused t a f → IsKeptTour t a f pairs days legs → ⊥
     none_flown legs unused kept =

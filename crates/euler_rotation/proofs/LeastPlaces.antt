@@ -1,5 +1,5 @@
 -- A kept tour has a leg with a night before it, and begins as it is to from the least of these.
-use Rattle.std.proofs.Common.{◌≡◌, ℕ, suc, ◌+◌, ◌-◌, ◌%◌, ◌<◌, ◌≤◌, Option, Some, None, List, length, slice_index, refl, sym, ◌∙◌, ap, subst, inl, inr, arith, add_comm, zero-add}
+use Rattle.std.proofs.Common.{◌≡◌, ℕ, suc, ◌+◌, ◌-◌, ◌%◌, ◌<◌, ◌≤◌, Option, Some, None, List, length, slice_index, refl, sym, ◌∙◌, ap, subst, inl, inr, arith, add_comm}
 use Rattle.std.proofs.Math.Nat.{add-mod_right, add_right_comm, mod-add-mod, mod-eq_of_lt}
 use Rattle.std.proofs.lemmas.Bool.{cases_lt}
 use Rattle.std.proofs.lemmas.Nat.{mod_below}
@@ -14,6 +14,7 @@ use Rattle.euler_rotation.specs.Starts.{IsLeastPlace, LeastOrNone}
 use Rattle.euler_rotation.specs.Tours.{BeginsLeast, nights_before, turned}
 use Rattle.euler_rotation.proofs.Turning.{entry_turned, length_turned, turn_turned}
 use Rattle.euler_rotation.proofs.TourTurns.{length_round, turn_round}
+use Rattle.euler_rotation.proofs.General.{from_start}
 
 module _ (t : Tables) (f : ℕ) (tour : List ℕ) where
   after_is : (legs : List ℕ) (k : ℕ) → nights_after t f legs k ≡ nights_at_turn t f (turn_after legs k)
@@ -95,13 +96,11 @@ module _ (t : Tables) (f : ℕ) (tour : List ℕ) where
         least : (k : ℕ) → k < length (turned r tour) → 0 < nights_before t f (turned r tour) k → slice_index (turned r tour) 0 ≤ slice_index (turned r tour) k
         least k lt some =
             let low : k < length tour = omega (arith, long) in
-            let first : slice_index (turned r tour) 0 ≡ slice_index tour r = entry_turned tour r is.within 0 (omega (arith, is.within)) ∙ ap (slice_index tour) (start r (length tour) is.within) in
+            let first : slice_index (turned r tour) 0 ≡ slice_index tour r = entry_turned tour r is.within 0 (omega (arith, is.within)) ∙ ap (slice_index tour) (from_start r (length tour) is.within) in
             let here : slice_index (turned r tour) k ≡ slice_index tour ((k + r) % length tour) = entry_turned tour r is.within k low in
             let before : nights_before t f (turned r tour) k ≡ nights_before t f tour ((k + r) % length tour) = same k low in
             omega (arith, first, here, is.least ((k + r) % length tour) (mod_below (k + r) (length tour) (omega (arith, is.within))) (subst (λ (n : ℕ). 0 < n) before some))
           where
-            start : (r n : ℕ) → r < n → (0 + r) % n ≡ r
-            start r n lt = ap (λ k. k % n) (zero-add r) ∙ mod-eq_of_lt lt
             same : (k : ℕ) → k < length tour → nights_before t f (turned r tour) k ≡ nights_before t f tour ((k + r) % length tour)
             same k low =
                 ap (λ n. nights_after t f (turned r tour) ((k + (n - 1)) % n)) long

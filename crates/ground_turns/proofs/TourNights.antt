@@ -1,8 +1,9 @@
 -- The nights of a fitting map, all in all.
-use Rattle.std.proofs.Common.{◌≡◌, ℕ, zero, suc, ◌+◌, ◌-◌, ◌*◌, ◌/◌, ◌%◌, ◌<◌, Bool, true, false, nat_lt, List, [], ◌∷◌, length, replicate, refl, ◌∙◌, ap, arith, length-append}
+use Rattle.std.proofs.Common.{◌≡◌, ℕ, ◌+◌, ◌-◌, ◌*◌, ◌/◌, ◌%◌, ◌<◌, Bool, true, false, nat_lt, List, [], ◌∷◌, length, replicate, refl, ◌∙◌, ap, arith, length-append}
 use Rattle.std.proofs.lemmas.List.{length-replicate}
 use Rattle.sums.specs.Below.{sum_below}
 use Rattle.sums.proofs.Sums.{sum_below-add, sum_below-agree}
+use Rattle.sums.proofs.Turned.{shifted}
 use Rattle.fleet_model.specs.declared.limits.TheConstants.{MINUTES_PER_DAY}
 use Rattle.fleet_model.specs.declared.parts.Connection.{Connection}
 use Rattle.fleet_model.specs.declared.tables.Tables.{Tables}
@@ -18,11 +19,6 @@ use Rattle.ground_turns.specs.declared.nights.Night.TheVariants as night
 use Rattle.ground_turns.proofs.DayStarts.{wait_end}
 use Rattle.ground_turns.proofs.Rounds.{bit}
 use Rattle.ground_turns.proofs.Waits.{departs_within, over_arrivals, ready_within}
-
--- a sum from its first term
-pub shifted : (h : ℕ → ℕ) (n : ℕ) → sum_below h (suc n) ≡ h 0 + sum_below (λ k. h (suc k)) n
-shifted h zero = omega arith
-shifted h (suc n) = omega (arith, shifted h n)
 
 -- the nights of one turn
 abbrev pub nights_at_turn : Tables → ℕ → Connection → ℕ

@@ -5,8 +5,7 @@ use Rattle.std.proofs.lemmas.Bool.{cases_lt}
 use Rattle.sums.specs.Below.{sum_below, max_below}
 use Rattle.sums.proofs.Maxima.{max_below-suc, max_below-zero}
 use Rattle.sums.proofs.Naturals.{by_number, times_below}
-use Rattle.sums.proofs.Sums.{sum_below-add, sum_below-agree, sum_below-le, sum_below-one, sum_below-swap}
-use Rattle.sums.proofs.NumberTests.{if_at}
+use Rattle.sums.proofs.Sums.{sum_below-add, sum_below-agree, sum_below-at, sum_below-le, sum_below-swap}
 
 -- the greatest term is one of them, or 0
 pub max_at : (f : ℕ → ℕ) (n : ℕ) → (max_below f n ≡ 0) ⊎ ((k : ℕ) × (k < n) × (f k ≡ max_below f n))
@@ -32,18 +31,13 @@ same_terms f g (suc n) more less k below =
       | inr after ↦ let here : k ≡ n = omega arith in rw here (omega (arith, less, front, last))
     ]
 
-pub own_place : (place n : ℕ) (g : ℕ → ℕ) → place < n → sum_below (λ s. if place == s then g s else 0) n ≡ g place
-own_place place n g within =
-    sum_below-agree (λ s. if place == s then g s else 0) (λ s. if place == s then g place else 0) n (record { each = λ s below. if_at place s g })
-    ∙ sum_below-one place (g place) n within
-
 -- what is counted at the places, one by one, is counted once for each leg, at its own place
 pub own_places : (place : ℕ → ℕ) (g : ℕ → ℕ → ℕ) (places legs : ℕ) → ((l : ℕ) → l < legs → place l < places)
     → sum_below (λ s. sum_below (λ l. if place l == s then g l s else 0) legs) places ≡ sum_below (λ l. g l (place l)) legs
 own_places place g places legs known =
     sum_below-swap (λ s l. if place l == s then g l s else 0) legs places
     ∙ sum_below-agree (λ l. sum_below (λ s. if place l == s then g l s else 0) places) (λ l. g l (place l)) legs
-    (record { each = λ l below. own_place (place l) places (g l) (known l below) })
+    (record { each = λ l below. sum_below-at (place l) places (g l) (known l below) })
 
 -- what holds of each pair by its weight, where each leg's weights sum to the scale, holds of the sums
 module _ (legs fleets scale : ℕ) (w a b : ℕ → ℕ → ℕ) (x y : ℕ → ℕ)

@@ -13,11 +13,10 @@ use Rattle.sums.proofs.WholeSums.{sum_below_ℤ-same}
 use Rattle.sums.proofs.WholeSwaps.{sum_below_ℤ-zero}
 use Rattle.sums.proofs.Sizes.{above_tested, not_above_tested}
 use Rattle.fleet_model.specs.Kept.{Domains}
-use Rattle.fleet_model.specs.Schedule.{IsPair, fleets_in, leg_of, leg_on, legs_in, no_leg, stations_in}
+use Rattle.fleet_model.specs.Schedule.{fleets_in, leg_of, leg_on, legs_in, stations_in}
 use Rattle.fleet_model.specs.Times.{departure, ready_minute}
 use Rattle.fleet_model.specs.Use.{last_minute}
 use Rattle.fleet_model.specs.declared.limits.TheConstants.{MINUTES_PER_PERIOD}
-use Rattle.fleet_model.specs.declared.parts.Pair.{Pair}
 use Rattle.fleet_model.specs.declared.tables.Tables.{Tables}
 use Rattle.timeline_net.specs.Events.{departure_event, departures_of, events_below, readies_of, ready_event}
 use Rattle.timeline_net.specs.declared.timeline.Event.{Event}
@@ -27,11 +26,10 @@ use Rattle.node_aggregate.proofs.Links.{nodes_rise}
 use Rattle.node_aggregate.proofs.NodeEnds.{Holds, end_at_last, end_before, node_that_holds}
 use Rattle.dual_bound.specs.Prices.{AreWithin, max_price, price_of, rent_of}
 use Rattle.dual_bound.specs.declared.prices.Prices.{Prices}
-use Rattle.island_prices.specs.Arcs.{AreAllNodes, AreArcRises, AreByNodes, AreMoments, ArcMoments, DoStayLow, HasRise, IsOfArc, IsQuiet, NodeStarts, rise_over, shift_over}
-use Rattle.island_prices.specs.Payback.{AreApart, AreCovered, AreQuiet, SameMoment, end_of, ends_at, ends_by}
-use Rattle.island_prices.specs.Rises.{AreRises, IsRise, IsShift, is_of, rise_in, shift_at, shift_by, shift_of, shifted}
+use Rattle.island_prices.specs.Arcs.{AreAllNodes, AreArcRises, AreByNodes, AreMoments, ArcMoments, DoStayLow, IsQuiet, NodeStarts, rise_over, shift_over}
+use Rattle.island_prices.specs.Payback.{AreApart, AreCovered, AreQuiet, end_of, ends_at, ends_by}
+use Rattle.island_prices.specs.Rises.{AreRises, IsShift, is_of, rise_in, shift_at, shift_by, shift_of, shifted}
 use Rattle.island_prices.specs.declared.rises.Rise.{Rise}
-use Rattle.island_prices.specs.declared.rises.Shift.{Shift}
 use Rattle.island_prices.specs.declared.rises.Shift.TheVariants.{Lowered, Raised}
 
 -- ---- sums

@@ -15,7 +15,7 @@ use Rattle.fleet_model.specs.Schedule.{fleets_in, stations_in}
 use Rattle.fleet_model.specs.Use.{last_minute}
 use Rattle.fleet_model.specs.declared.limits.TheConstants.{MINUTES_PER_PERIOD}
 use Rattle.fleet_model.specs.declared.tables.Tables.{Tables}
-use Rattle.dual_bound.specs.Prices.{price_of, rent_of}
+use Rattle.dual_bound.specs.Prices.{rent_of}
 use Rattle.dual_bound.specs.declared.prices.Prices.{Prices}
 use Rattle.island_prices.specs.Payback.{AreApart, AreCovered, end_of, ends_at, ends_by}
 use Rattle.island_prices.specs.Rises.{AreRises, IsShift, is_of, moved_price, rise_in, shift_at, shift_by, shift_of, shifted}

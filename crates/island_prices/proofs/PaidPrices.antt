@@ -1,37 +1,35 @@
 -- Prices that are paid back are proper, in written order, and worth no less.
-use Rattle.std.proofs.Common.{◌≡◌, ℕ, zero, suc, ◌+◌, ◌-◌, ◌<◌, ◌≤◌, Bool, true, false, cond, nat_le, if◌then◌else◌, List, length, get_or, All, Option, Some, None, IsSome, ℤ, pos, neg_ℤ, ◌+ℤ◌, ◌-ℤ◌, ◌*ℤ◌, ◌≤ℤ◌, unsigned_abs, refl, sym, ◌∙◌, ap, ap₂, subst, inl, inr, add-one, arith}
+use Rattle.std.proofs.Common.{◌≡◌, ℕ, zero, suc, ◌+◌, ◌<◌, ◌≤◌, Bool, true, false, cond, nat_le, List, length, None, IsSome, ℤ, pos, ◌+ℤ◌, ◌-ℤ◌, ◌*ℤ◌, ◌≤ℤ◌, unsigned_abs, refl, sym, ◌∙◌, ap, ap₂, subst, inl, inr, arith}
 use Rattle.std.proofs.lemmas.Bool.{cases_lt, ltb-false, or_parts}
 use Rattle.std.proofs.lemmas.Int.{ints}
-use Rattle.sums.specs.Below.{sum_below_ℤ}
 use Rattle.sums.specs.Places.{list_below}
 use Rattle.sums.proofs.Places.{get_or-list_below, length-list_below, nothing_at}
-use Rattle.sums.proofs.Tests.{by_test, no_both}
 use Rattle.sums.proofs.WholeTerms.{at_least_0}
 use Rattle.fleet_model.specs.Kept.{Domains, IsBare}
 use Rattle.fleet_model.specs.Legal.{cost_of}
-use Rattle.fleet_model.specs.Schedule.{IsPair, fleets_in, leg_of, leg_on, legs_in, no_leg, stations_in}
+use Rattle.fleet_model.specs.Schedule.{IsPair, fleets_in, leg_of, leg_on, no_leg, stations_in}
 use Rattle.fleet_model.specs.Times.{busy_minutes, departure, laps_of, ready_minute}
 use Rattle.fleet_model.specs.Use.{last_minute}
 use Rattle.fleet_model.specs.declared.limits.TheConstants.{MINUTES_PER_PERIOD}
 use Rattle.fleet_model.specs.declared.parts.Pair.{Pair}
 use Rattle.fleet_model.specs.declared.tables.Tables.{Tables}
 use Rattle.fleet_model.proofs.Minutes.{in_period}
-use Rattle.dual_bound.specs.OfTables.{ArePricesOf, IsStepOf}
+use Rattle.dual_bound.specs.OfTables.{ArePricesOf}
 use Rattle.dual_bound.specs.Prices.{ArePrices, IsPrice, IsScale, max_price, price_of, rent_of}
-use Rattle.dual_bound.specs.Worth.{cost_units, pair_worth, worth_of}
+use Rattle.dual_bound.specs.Worth.{cost_units, worth_of}
 use Rattle.dual_bound.specs.WrittenOrder.{ArePricesInOrder, IsFigure}
 use Rattle.dual_bound.specs.declared.prices.Prices.{Prices}
 use Rattle.island_prices.specs.Paid.{any_below, beyond_at, beyond_of, first_beyond, fleet_if, has_beyond, is_beyond, paid_price, paid_prices, paid_rent}
 use Rattle.island_prices.specs.Payback.{AreApart, AreCovered, AreQuiet, PaysBack}
-use Rattle.island_prices.specs.Rises.{AreRises, moved_price, shift_by}
-use Rattle.island_prices.specs.Rounds.{greatest_rise, minute_in, number_in, price_grown, rent_grown, rounds_of}
+use Rattle.island_prices.specs.Rises.{AreRises, moved_price}
+use Rattle.island_prices.specs.Rounds.{minute_in, number_in, price_grown, rent_grown, rounds_of}
 use Rattle.island_prices.specs.Steps.{steps_of}
 use Rattle.island_prices.specs.declared.rises.Rise.{Rise}
 use Rattle.island_prices.specs.declared.rounds.Rounds.{Rounds}
 use Rattle.island_prices.proofs.Moves.{rises_at_moment, rises_over_end}
 use Rattle.island_prices.proofs.StepOrder.{steps_in_order}
 use Rattle.island_prices.proofs.StepPrices.{price_is}
-use Rattle.island_prices.proofs.TakenMoments.{grown_at_start, lost_at, lost_at_end, lost_next, number_at_least_0, reached}
+use Rattle.island_prices.proofs.TakenMoments.{grown_at_start, lost_at_end, lost_next, number_at_least_0, reached}
 use Rattle.island_prices.proofs.Worth.{no_less, same_worth}
 
 -- ---- none is beyond the limit

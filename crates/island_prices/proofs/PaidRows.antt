@@ -1,10 +1,10 @@
 -- Rows of prices minute by minute, and what is beyond the limit in them.
-use Rattle.std.proofs.Common.{◌≡◌, ◌≢◌, ℕ, zero, suc, ◌+◌, ◌<◌, ◌≤◌, Bool, true, false, cond, not, ◌&&◌, ◌||◌, if◌then◌else◌, List, [], ◌∷◌, ◌++◌, length, get_or, Option, Some, None, ℤ, pos, refl, sym, ◌∙◌, ap, ap₂, subst, inl, inr, add-one, append_assoc, append-nil, arith}
+use Rattle.std.proofs.Common.{◌≡◌, ◌≢◌, ℕ, zero, suc, ◌+◌, ◌<◌, ◌≤◌, Bool, true, false, not, ◌&&◌, ◌||◌, if◌then◌else◌, List, [], ◌∷◌, ◌++◌, length, get_or, Some, None, ℤ, pos, refl, sym, ◌∙◌, ap, ap₂, subst, inl, inr, add-one, append_assoc, append-nil, arith}
 use Rattle.std.specs.Ordering.{int_eq}
 use Rattle.std.proofs.lemmas.Bool.{cases_lt, or_right}
-use Rattle.sums.specs.Places.{first_below, list_below, or_else}
+use Rattle.sums.specs.Places.{list_below, or_else}
 use Rattle.sums.proofs.Places.{first_found, get_or-list_below, length-list_below}
-use Rattle.sums.proofs.Tests.{by_test, never_passes}
+use Rattle.sums.proofs.Tests.{never_passes}
 use Rattle.fleet_model.specs.Schedule.{fleets_in, stations_in}
 use Rattle.fleet_model.specs.declared.limits.TheConstants.{MINUTES_PER_PERIOD}
 use Rattle.fleet_model.specs.declared.tables.Tables.{Tables}
@@ -17,7 +17,7 @@ use Rattle.island_prices.specs.declared.paying.PaybackError.{PaybackError}
 use Rattle.island_prices.specs.declared.rises.Rise.{Rise}
 use Rattle.island_prices.specs.declared.rounds.Rounds.{Rounds}
 use Rattle.island_prices.specs.declared.paying.PaybackError.TheVariants.{Beyond, NoMemory}
-use Rattle.island_prices.proofs.StepPrices.{step_at, zero_before}
+use Rattle.island_prices.proofs.StepPrices.{zero_before}
 
 -- ---- tests that look at each place
 pub other_than_0 : (price : ℕ → ℤ) (n k : ℕ) → k < n → price k ≢ pos 0 → false ≡ all_zero price n

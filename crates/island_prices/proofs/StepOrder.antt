@@ -1,8 +1,7 @@
 -- Steps of minutes are in written order.
-use Rattle.std.proofs.Common.{◌≡◌, ◌≢◌, ℕ, zero, suc, ◌+◌, ◌-◌, ◌<◌, ◌≤◌, Bool, true, false, cond, not, ◌==◌, ◌&&◌, nat_lt, if◌then◌else◌, List, [], ◌∷◌, ◌++◌, length, get_or, All, Option, Some, None, ℤ, pos, refl, sym, ◌∙◌, ap, subst, ◌⊎◌, inl, inr, append_assoc, append-nil, arith}
+use Rattle.std.proofs.Common.{◌≡◌, ◌≢◌, ℕ, zero, suc, ◌<◌, ◌≤◌, Bool, true, false, not, ◌==◌, ◌&&◌, if◌then◌else◌, List, [], ◌∷◌, ◌++◌, All, Some, None, ℤ, pos, refl, sym, ◌∙◌, ap, subst, inl, inr, append_assoc, append-nil, arith}
 use Rattle.std.specs.Ordering.{int_eq}
-use Rattle.std.specs.Prelude.{⊤}
-use Rattle.std.proofs.lemmas.Bool.{cases_lt, eq-eqb}
+use Rattle.std.proofs.lemmas.Bool.{eq-eqb}
 use Rattle.std.proofs.lemmas.Bool.Decides.{Decides-int_eq, nat_tests}
 use Rattle.std.proofs.lemmas.List.Elements.{All-append, All-cons, All-nil}
 use Rattle.sums.proofs.Tests.{both_true, by_test, no_both, not_true}
@@ -10,16 +9,14 @@ use Rattle.fleet_model.specs.Schedule.{fleets_in, stations_in}
 use Rattle.fleet_model.specs.Use.{last_minute}
 use Rattle.fleet_model.specs.declared.limits.TheConstants.{MINUTES_PER_PERIOD}
 use Rattle.fleet_model.specs.declared.tables.Tables.{Tables}
-use Rattle.dual_bound.specs.Order.{place_before, same_place, step_follows}
+use Rattle.dual_bound.specs.Order.{same_place}
 use Rattle.dual_bound.specs.WrittenOrder.{AreStepsInOrder, IsFigure, IsStepInOrder, NoLoneZero, StepsFollow, goes_on, is_lone_zero}
 use Rattle.dual_bound.specs.declared.prices.PriceStep.{PriceStep}
+use Rattle.dual_bound.proofs.StepOrder.{PlaceBefore, follows_other, follows_same}
 use Rattle.island_prices.specs.Steps.{all_zero, fleet_steps, is_step, station_steps, step_where, steps_below, steps_of}
 use Rattle.island_prices.proofs.StepPrices.{no_first, no_later, step_at, zero_before}
 
 -- ---- tests
-
-differs : (a b : ℤ) → a ≢ b → int_eq a b ≡ false
-differs a b apart = by_test (int_eq a b) (λ e. absurd (apart ((Decides-int_eq a b).0 e))) (λ e. e)
 
 some_other : (price : ℕ → ℤ) (n : ℕ) → all_zero price n ≡ false → (q : ℕ) × (q < n) × (price q ≢ pos 0)
 unfolding all_zero
@@ -37,37 +34,6 @@ unfolding is_step
 other_value price m e same = no_both (not_true (int_eq (price (suc m)) (price m)) e) ((Decides-int_eq (price (suc m)) (price m)).1 same)
 
 -- ---- a step behind another
-pub follows_same : (a b : PriceStep) → a.fleet ≡ b.fleet → a.station ≡ b.station → a.minute < b.minute → a.value ≢ b.value → step_follows (Some a) b ≡ true
-follows_same a b fleet station minute value = by_same (same_place a b) here
-  where
-    here : same_place a b ≡ true
-    here = grind (arith, nat_tests)
-
-    less : nat_lt a.minute b.minute ≡ true
-    less = grind (arith, nat_tests)
-
-    by_same : (c : Bool) → c ≡ true → (if c then nat_lt a.minute b.minute && not (int_eq a.value b.value) else place_before a b && (b.minute == 0)) ≡ true
-    by_same true e = both_true (nat_lt a.minute b.minute) (not (int_eq a.value b.value)) less (ap not (differs a.value b.value value))
-    by_same false e = cc
-
--- a place comes before another: by fleet, then by station
-abbrev pub PlaceBefore : ℕ → ℕ → ℕ → ℕ → Type 0
-PlaceBefore f s g r = (f < g) ⊎ ((f ≡ g) × (s < r))
-
-apart : (a b : PriceStep) → PlaceBefore a.fleet a.station b.fleet b.station → same_place a b ≡ false
-apart a b (inl less) = grind (arith, nat_tests)
-apart a b (inr same) = let station = same.1 in grind (arith, nat_tests)
-
-pub follows_other : (a b : PriceStep) → PlaceBefore a.fleet a.station b.fleet b.station → b.minute ≡ 0 → step_follows (Some a) b ≡ true
-follows_other a b order first = by_same (same_place a b) (apart a b order)
-  where
-    placed : PlaceBefore a.fleet a.station b.fleet b.station → place_before a b ≡ true
-    placed (inl less) = grind (arith, nat_tests)
-    placed (inr same) = let fleet = same.0 in let station = same.1 in grind (arith, nat_tests)
-
-    by_same : (c : Bool) → c ≡ false → (if c then nat_lt a.minute b.minute && not (int_eq a.value b.value) else place_before a b && (b.minute == 0)) ≡ true
-    by_same true e = cc
-    by_same false e = both_true (place_before a b) (b.minute == 0) (placed order) (eq-eqb b.minute 0 first)
 
 -- ---- what may stand behind
 -- .. a step

@@ -1,16 +1,16 @@
 -- What prices say that are written as steps of minutes.
-use Rattle.std.proofs.Common.{◌≡◌, ◌≢◌, ℕ, zero, suc, ◌+◌, ◌-◌, ◌<◌, ◌≤◌, Bool, true, false, cond, not, ◌==◌, ◌&&◌, nat_le, nat_lt, if◌then◌else◌, List, [], ◌∷◌, ◌++◌, length, get_or, All, ℤ, pos, refl, sym, ◌∙◌, ap, subst, inl, inr, add-one, arith}
+use Rattle.std.proofs.Common.{◌≡◌, ℕ, zero, suc, ◌+◌, ◌-◌, ◌<◌, ◌≤◌, Bool, true, false, cond, ◌==◌, ◌&&◌, nat_le, if◌then◌else◌, [], ◌∷◌, ℤ, pos, refl, sym, ◌∙◌, ap, subst, inl, inr, arith}
 use Rattle.std.specs.Ordering.{int_eq}
-use Rattle.std.proofs.lemmas.Bool.{cases_lt, cases_order}
+use Rattle.std.proofs.lemmas.Bool.{cases_lt}
 use Rattle.std.proofs.lemmas.Bool.Decides.{Decides-int_eq, nat_tests}
-use Rattle.std.proofs.lemmas.List.Elements.{All-append}
-use Rattle.sums.proofs.Tests.{by_test, first_true, not_false, not_true, second_true}
+use Rattle.sums.proofs.Tests.{by_test, first_fails, first_true, not_false, second_true}
 use Rattle.fleet_model.specs.Schedule.{fleets_in, stations_in}
 use Rattle.fleet_model.specs.declared.limits.TheConstants.{MINUTES_PER_PERIOD}
 use Rattle.fleet_model.specs.declared.tables.Tables.{Tables}
 use Rattle.dual_bound.specs.Prices.{price_after}
 use Rattle.dual_bound.specs.declared.prices.PriceStep.{PriceStep}
 use Rattle.dual_bound.proofs.PriceLists.{price_after-append}
+use Rattle.dual_bound.proofs.StepOrder.{has_come, has_not_come}
 use Rattle.island_prices.specs.Steps.{all_zero, fleet_steps, is_step, station_steps, step_where, steps_below, steps_of}
 
 -- ---- tests of steps
@@ -37,24 +37,18 @@ no_later price m e = (Decides-int_eq (price (suc m)) (price m)).0 (not_false (in
 abbrev pub step_at : (ℕ → ℤ) → ℕ → ℕ → ℕ → PriceStep
 step_at price f s m = record { fleet = f; station = s; minute = m; value = price m }
 
-come : (f s a m : ℕ) → a ≤ m → ((f == f) && (s == s) && nat_le a m) ≡ true
-come f s a m order = grind (arith, nat_tests)
-
-not_come : (f s a m : ℕ) → m < a → ((f == f) && (s == s) && nat_le a m) ≡ false
-not_come f s a m order = grind (arith, nat_tests)
-
 -- a step that has come gives its value, and one that has not stays aside
 stepped : (price : ℕ → ℤ) (f s a m : ℕ) (v : ℤ) → a ≤ m → is_step price a ≡ true → price_after v (step_where price f s a) f s m ≡ price a
 unfolding price_after
 stepped price f s a m v order step =
-    ap (λ b. price_after v (if b then step_at price f s a ∷ [] else []) f s m) step ∙ ap (λ b. cond b (price a) v) (come f s a m order)
+    ap (λ b. price_after v (if b then step_at price f s a ∷ [] else []) f s m) step ∙ ap (λ b. cond b (price a) v) (has_come f s a m order)
 
 aside : (price : ℕ → ℤ) (f s a m : ℕ) (v : ℤ) → m < a → price_after v (step_where price f s a) f s m ≡ v
 unfolding price_after
 aside price f s a m v order = by_step (is_step price a)
   where
     by_step : (b : Bool) → price_after v (if b then step_at price f s a ∷ [] else []) f s m ≡ v
-    by_step true = ap (λ b. cond b (price a) v) (not_come f s a m order)
+    by_step true = ap (λ b. cond b (price a) v) (has_not_come f s a m order)
     by_step false = refl
 
 no_step : (price : ℕ → ℤ) (f s a m : ℕ) (v : ℤ) → is_step price a ≡ false → price_after v (step_where price f s a) f s m ≡ v
@@ -102,12 +96,8 @@ elsewhere : (price : ℕ → ℤ) (f s g r a m : ℕ) (v : ℤ) → ((f == g) &&
 unfolding price_after
 elsewhere price f s g r a m v other = by_step (is_step price a)
   where
-    past : (b c : Bool) (x : ℤ) → b ≡ false → cond (b && c) x v ≡ v
-    past false c x e = refl
-    past true c x e = cc
-
     by_step : (b : Bool) → price_after v (if b then step_at price f s a ∷ [] else []) g r m ≡ v
-    by_step true = past ((f == g) && (s == r)) (nat_le a m) (price a) other
+    by_step true = first_fails ((f == g) && (s == r)) (nat_le a m) (price a) v other
     by_step false = refl
 
 all_elsewhere : (price : ℕ → ℤ) (f s g r m n : ℕ) (v : ℤ) → ((f == g) && (s == r)) ≡ false → price_after v (steps_below price f s n) g r m ≡ v

@@ -1,5 +1,5 @@
 -- Rounds: there are few, their numbers are small, and each moment of a rise is taken by one whose number reaches it.
-use Rattle.std.proofs.Common.{◌≡◌, ℕ, zero, suc, ◌+◌, ◌*◌, ◌<◌, ◌≤◌, Bool, true, false, cond, ◌==◌, ◌&&◌, nat_le, nat_lt, if◌then◌else◌, List, [], ◌∷◌, ◌++◌, length, get_or, ℤ, pos, neg_ℤ, ◌+ℤ◌, ◌*ℤ◌, ◌≤ℤ◌, refl, sym, ◌∙◌, ap, subst, add-one, length-append, arith, inl, inr}
+use Rattle.std.proofs.Common.{◌≡◌, ℕ, zero, suc, ◌+◌, ◌*◌, ◌<◌, ◌≤◌, Bool, true, false, cond, ◌==◌, ◌&&◌, nat_le, nat_lt, if◌then◌else◌, List, [], ◌∷◌, ◌++◌, length, get_or, ℤ, pos, ◌+ℤ◌, ◌≤ℤ◌, refl, sym, ◌∙◌, ap, subst, add-one, length-append, arith, inl, inr}
 use Rattle.std.proofs.lemmas.Bool.{cases_lt, lt-ltb}
 use Rattle.std.proofs.lemmas.Bool.Decides.{nat_tests}
 use Rattle.std.proofs.lemmas.Int.{clamps, ints}
@@ -17,12 +17,10 @@ use Rattle.sums.proofs.WholeSums.{sum_below_ℤ-same}
 use Rattle.sums.proofs.WholeSwaps.{sum_below_ℤ-+ℤ}
 use Rattle.sums.proofs.WholeTerms.{at_least_0, term_within}
 use Rattle.sums.proofs.Sizes.{not_above_tested}
-use Rattle.fleet_model.specs.Schedule.{fleets_in, stations_in}
-use Rattle.fleet_model.specs.Use.{last_minute}
+use Rattle.fleet_model.specs.Schedule.{stations_in}
 use Rattle.fleet_model.specs.declared.limits.TheConstants.{MINUTES_PER_PERIOD}
 use Rattle.fleet_model.specs.declared.tables.Tables.{Tables}
 use Rattle.dual_bound.specs.Prices.{max_price}
-use Rattle.dual_bound.specs.Sizes.{IsUpTo}
 use Rattle.island_prices.specs.Rises.{AreRises, rise_in}
 use Rattle.island_prices.specs.Rounds.{AreSmall, greatest_below, greatest_rise, grown_in, has_rise, minute_in, moments_at, moments_below, moments_of, number_in, number_of_round, price_grown, rent_grown, rise_taken, rise_where, round_count, rounds_by, rounds_of}
 use Rattle.island_prices.specs.declared.rises.Rise.{Rise}

@@ -1,18 +1,17 @@
 -- A round lowers no worth, and where no kept pair's price changes, the worth stays.
-use Rattle.std.proofs.Common.{◌≡◌, ℕ, zero, suc, ◌+◌, ◌*◌, ◌<◌, ◌≤◌, Bool, true, false, cond, ◌==◌, ◌&&◌, nat_le, nat_lt, if◌then◌else◌, List, length, get_or, ℤ, pos, neg_ℤ, ◌+ℤ◌, ◌-ℤ◌, ◌*ℤ◌, ◌≤ℤ◌, Option, Some, None, IsSome, unwrap_or, ◌⊎◌, refl, sym, ◌∙◌, ap, ap₂, subst, arith, inl, inr}
+use Rattle.std.proofs.Common.{◌≡◌, ℕ, zero, suc, ◌+◌, ◌<◌, ◌≤◌, Bool, true, false, cond, nat_le, if◌then◌else◌, ℤ, pos, ◌+ℤ◌, ◌-ℤ◌, ◌*ℤ◌, ◌≤ℤ◌, Option, Some, None, IsSome, unwrap_or, ◌⊎◌, refl, sym, ◌∙◌, ap, ap₂, subst, arith, inl, inr}
 use Rattle.std.specs.Prelude.{int_le}
 use Rattle.std.proofs.lemmas.Bool.{cases_lt}
-use Rattle.std.proofs.lemmas.Bool.Decides.{nat_tests}
 use Rattle.std.proofs.lemmas.Int.{ints}
 use lib.IntN.{*ℤ_comm}
-use Rattle.sums.specs.Below.{count_below, sum_below, sum_below_ℤ}
-use Rattle.sums.proofs.Integers.{*ℤ-+ℤ, *ℤ--ℤ, +ℤ-*ℤ, *ℤ_assoc}
+use Rattle.sums.specs.Below.{sum_below, sum_below_ℤ}
+use Rattle.sums.proofs.Integers.{*ℤ-+ℤ, +ℤ-*ℤ}
 use Rattle.sums.proofs.Orders.{factor_le, sum_below_ℤ-le}
 use Rattle.sums.proofs.Sums.{sum_below-agree, sum_below-zero}
 use Rattle.sums.proofs.Tests.{by_test, no_both}
 use Rattle.sums.proofs.WholeSums.{*ℤ-sum_below_ℤ, sum_below_ℤ--ℤ, sum_below_ℤ-pos, sum_below_ℤ-same}
 use Rattle.sums.proofs.WholeSwaps.{sum_below_ℤ-+ℤ, sum_below_ℤ-zero}
-use Rattle.fleet_model.specs.Kept.{Domains, IsBare, kept_on}
+use Rattle.fleet_model.specs.Kept.{Domains, IsBare}
 use Rattle.fleet_model.specs.Legal.{cost_of}
 use Rattle.fleet_model.specs.Schedule.{IsPair, fleet_of, fleets_in, leg_of, leg_on, legs_in, no_leg, stations_in}
 use Rattle.fleet_model.specs.Times.{busy_minutes, departure, laps_of, ready_minute}

@@ -4,7 +4,7 @@ use Rattle.std.proofs.lemmas.Bool.{cases_lt}
 use Rattle.std.proofs.lemmas.Bool.Decides.{nat_tests}
 use Rattle.sums.specs.Below.{sum_below}
 use Rattle.sums.proofs.Maxima.{max_below-least}
-use Rattle.sums.proofs.Sums.{sum_below-agree, sum_below-le}
+use Rattle.sums.proofs.Sums.{sum_below-agree, sum_below-at, sum_below-le}
 use Rattle.fleet_model.specs.declared.tables.Tables.{Tables}
 use Rattle.fleet_model.specs.Counts.{Weights, arrived, departed}
 use Rattle.fleet_model.specs.Kept.{Domains}
@@ -21,7 +21,7 @@ use Rattle.lp_rows.specs.Entries.{IsNode}
 use Rattle.lp_rows.specs.Layout.{IsNetwork, Starts, node_at}
 use Rattle.lp_rows.proofs.LineSums.{coming_to, last_arc, leaving_from}
 use Rattle.lp_rows.proofs.NodeCounts.{come_first, come_next, left_first, left_next, no_need, none_move}
-use Rattle.lp_rows.proofs.Picks.{count_at, place_before}
+use Rattle.lp_rows.proofs.Picks.{place_before}
 
 abbrev pub flown : (Column → ℕ) → Weights
 flown v p = v (Flight p)
@@ -39,7 +39,7 @@ pub last_is : (starts : Starts) (v : Column → ℕ) (f s : ℕ) → 0 < length 
 last_is starts v f s some =
     sum_below-agree (λ k. if length (starts f s) == k + 1 then v (Ground (node_at f s k)) else 0) (λ k. if length (starts f s) - 1 == k then v (Ground (node_at f s k)) else 0) (length (starts f s))
     (record { each = λ k below. ap (λ b. if b then v (Ground (node_at f s k)) else 0) (same_test (length (starts f s)) k some) })
-    ∙ count_at (length (starts f s) - 1) (λ k. v (Ground (node_at f s k))) (length (starts f s)) (omega arith)
+    ∙ sum_below-at (length (starts f s) - 1) (length (starts f s)) (λ k. v (Ground (node_at f s k))) (omega arith)
   where
     same_test : (n k : ℕ) → 0 < n → (n == k + 1) ≡ (n - 1 == k)
     same_test n k some = grind (arith, nat_tests)

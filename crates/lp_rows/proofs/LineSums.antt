@@ -6,6 +6,7 @@ use Rattle.sums.specs.Below.{sum_below, sum_below_ℤ}
 use Rattle.sums.proofs.WholeSums.{sum_below_ℤ-same, sum_below_ℤ-pos, sum_below_ℤ-of_differences}
 use Rattle.sums.proofs.WholeSwaps.{sum_below_ℤ-one, where_true}
 use Rattle.sums.proofs.Tests.{by_test}
+use Rattle.sums.proofs.Sums.{sum_below-at}
 use Rattle.fleet_model.specs.declared.tables.Tables.{Tables}
 use Rattle.fleet_model.specs.Counts.{Weights}
 use Rattle.fleet_model.specs.Kept.{Domains}
@@ -20,7 +21,7 @@ use Rattle.lp_rows.specs.declared.kinds.Column.TheVariants.{Flight, Ground, Slac
 use Rattle.lp_rows.specs.Entries.{IsNode, balance_entry, count_entry, cover_entry, is_in, one_if, place_after}
 use Rattle.lp_rows.specs.Layout.{Starts, arc_stays, node_at}
 use Rattle.lp_rows.proofs.ListSums.{one_if-times, test_out}
-use Rattle.lp_rows.proofs.Picks.{count_at, count_before, inner_tests, one_test, pick_fleet, pick_nodes, place_before, times_test, two_tests}
+use Rattle.lp_rows.proofs.Picks.{count_before, inner_tests, one_test, pick_fleet, pick_nodes, place_before, times_test, two_tests}
 use Rattle.lp_rows.proofs.Places.{no_grounds, no_slacks}
 use Rattle.lp_rows.proofs.Totals.{flights, grounds, on_arc, slacks}
 
@@ -119,7 +120,7 @@ module _ (t : Tables) (keeps : Domains) (starts : Starts) (v : Column → ℕ) (
       ∙ ap (where_true (n.fleet == f)) (inner_tests (n.station == s) (n.place == place_after nodes k) (n.place == k) (arc f s k)))
       ∙ pick_nodes (fleets_in t) (stations_in t) n.fleet n.station (λ f s. length (starts f s)) part node.fleet node.station
       ∙ sum_below_ℤ-of_differences (λ k. if n.place == place_after nodes k then arc n.fleet n.station k else 0) (λ k. if n.place == k then arc n.fleet n.station k else 0) nodes
-      ∙ omega (arith, ints, count_before nodes n.place (arc n.fleet n.station) node.place, count_at n.place (arc n.fleet n.station) nodes node.place)
+      ∙ omega (arith, ints, count_before nodes n.place (arc n.fleet n.station) node.place, sum_below-at n.place nodes (arc n.fleet n.station) node.place)
 
   pub balance_sum : StandOnArcs t keeps starts v → (n : Node) → IsNode t starts n → line_sum t keeps starts v (balance_entry t starts n) ≡ (pos (into n) -ℤ pos (out_of n)) +ℤ (pos (before n) -ℤ pos (v (Ground n)))
   balance_sum stand n node =

@@ -5,10 +5,9 @@ use Rattle.std.proofs.lemmas.Int.{ints}
 use lib.IntN.{zero-*ℤ}
 use Rattle.sums.specs.Below.{sum_below, sum_below_ℤ}
 use Rattle.sums.proofs.Integers.{one-*ℤ, -ℤ-*ℤ}
-use Rattle.sums.proofs.Sums.{sum_below-agree, sum_below-one}
+use Rattle.sums.proofs.Sums.{sum_below-agree, sum_below-at}
 use Rattle.sums.proofs.WholeSums.{sum_below_ℤ-same}
 use Rattle.sums.proofs.WholeSwaps.{sum_below_ℤ-one, where_true}
-use Rattle.sums.proofs.NumberTests.{if_at}
 use Rattle.lp_rows.specs.Entries.{one_if, place_after}
 use Rattle.lp_rows.proofs.ListSums.{test_out}
 
@@ -38,10 +37,6 @@ pick_fleet fleets stations a len u here =
     ∙ test_out (a == f) (λ s. sum_below_ℤ (u f s) (len f s)) stations)
     ∙ sum_below_ℤ-one a (λ f. sum_below_ℤ (λ s. sum_below_ℤ (u f s) (len f s)) stations) fleets here
 
--- a count at one place
-pub count_at : (a : ℕ) (v : ℕ → ℕ) (n : ℕ) → a < n → sum_below (λ k. if a == k then v k else 0) n ≡ v a
-count_at a v n here = sum_below-agree (λ k. if a == k then v k else 0) (λ k. if a == k then v a else 0) n (record { each = λ k below. if_at a k v }) ∙ sum_below-one a (v a) n here
-
 -- the place of the node before one
 abbrev pub place_before : ℕ → ℕ → ℕ
 place_before nodes place = if place == 0 then nodes - 1 else place - 1
@@ -53,7 +48,7 @@ pub count_before : (n a : ℕ) (v : ℕ → ℕ) → a < n → sum_below (λ k. 
 count_before n a v here =
     sum_below-agree (λ k. if a == place_after n k then v k else 0) (λ k. if place_before n a == k then v k else 0) n
     (record { each = λ k below. ap (λ b. if b then v k else 0) (before_or_after n a k here below) })
-    ∙ count_at (place_before n a) v n (grind (arith, nat_tests))
+    ∙ sum_below-at (place_before n a) n v (grind (arith, nat_tests))
 
 -- ---- products with tests
 pub one_count : (b : Bool) (v : ℕ) → one_if b *ℤ pos v ≡ pos (if b then v else 0)

@@ -23,12 +23,11 @@ use Rattle.node_aggregate.specs.Laws.{WeighKept}
 use Rattle.node_aggregate.specs.Nodes.{node_end}
 use Rattle.node_aggregate.proofs.NodeEnds.{end_at_last, ends_within}
 use Rattle.island_arcs.proofs.EmptyArcs.{gone_is_empty}
-use Rattle.lp_rows.specs.declared.kinds.Node.{Node}
 use Rattle.lp_rows.specs.declared.kinds.Column.{Column}
 use Rattle.lp_rows.specs.declared.kinds.Column.TheVariants.{Flight, Ground, Slack}
 use Rattle.lp_rows.specs.declared.kinds.Line.{Line}
 use Rattle.lp_rows.specs.declared.kinds.Line.TheVariants.{Cover, Balance, Count}
-use Rattle.lp_rows.specs.Entries.{IsLine, IsNode, entry_of, right_side_of}
+use Rattle.lp_rows.specs.Entries.{IsLine, entry_of, right_side_of}
 use Rattle.lp_rows.specs.Layout.{IsNetwork, Starts, arc_stays, columns_of, lines_of, moment_at, node_at}
 use Rattle.lp_rows.specs.Points.{PlansArePoints, column_at, same_column, value_of}
 use Rattle.lp_rows.proofs.Flows.{IsFlow, before_next, flown, last_is, no_last}

@@ -1,6 +1,6 @@
 -- Prices by the nodes whose lines weigh no column above its cost rise over no arc that stays, and are worth what the right sides
 -- come to.
-use Rattle.std.proofs.Common.{◌≡◌, ◌≢◌, ℕ, zero, suc, ◌+◌, ◌<◌, ◌≤◌, Bool, true, false, ◌==◌, ◌&&◌, nat_le, length, get_or, None, is_none, ℤ, pos, neg_ℤ, ◌+ℤ◌, ◌-ℤ◌, ◌*ℤ◌, ◌<ℤ◌, ◌≤ℤ◌, unsigned_abs, refl, sym, ◌∙◌, ap, subst, inl, inr, arith, pos_of_ne-zero}
+use Rattle.std.proofs.Common.{◌≡◌, ◌≢◌, ℕ, zero, suc, ◌+◌, ◌<◌, ◌≤◌, Bool, true, false, ◌==◌, length, get_or, None, is_none, ℤ, pos, neg_ℤ, ◌+ℤ◌, ◌-ℤ◌, ◌*ℤ◌, ◌<ℤ◌, ◌≤ℤ◌, unsigned_abs, refl, sym, ◌∙◌, ap, subst, inl, inr, arith, pos_of_ne-zero}
 use Rattle.std.proofs.lemmas.Bool.{cases_lt, eqb-true, ne_eqb}
 use Rattle.std.proofs.lemmas.Bool.Decides.{nat_tests}
 use Rattle.std.proofs.lemmas.Int.{ints}
@@ -14,7 +14,7 @@ use Rattle.sums.proofs.Signs.{factor_le_cancel, factor_at_least_0}
 use Rattle.sums.proofs.Naturals.{empty_is, equal_number}
 use Rattle.sums.proofs.Tests.{same_tests}
 use Rattle.fleet_model.specs.declared.tables.Tables.{Tables}
-use Rattle.fleet_model.specs.Kept.{Domains, IsBare, kept_on}
+use Rattle.fleet_model.specs.Kept.{Domains, IsBare}
 use Rattle.fleet_model.specs.Schedule.{fleet_of, fleets_in, leg_of, leg_on, legs_in, no_leg, stations_in}
 use Rattle.fleet_model.specs.Times.{departure, laps_of, ready_minute}
 use Rattle.fleet_model.specs.Use.{last_minute}
@@ -38,7 +38,7 @@ use Rattle.price_lift.specs.Prices.{AreByLines}
 use Rattle.price_lift.proofs.DownColumns.{at_minute, down, down_flight, down_ground, down_sides, down_slack, of_fleet, of_node}
 use Rattle.price_lift.proofs.LeastBounds.{below_unwrapped}
 use Rattle.lp_rows.proofs.LinePlaces.{balance_there, before, count_there, node_there, node_within}
-use Rattle.price_lift.proofs.Minutes.{IsAtPlace, Rise, at_place, in_node, later, nodes_rise, one_place, some_place}
+use Rattle.price_lift.proofs.Minutes.{IsAtPlace, Rise, at_place, in_node, later, nodes_rise, one_place, some_place, test_of}
 
 times_zero : (h q : ℤ) (k : ℕ) → h *ℤ (pos k *ℤ q *ℤ pos 0) ≡ pos 0
 times_zero h q k = ap (λ z. h *ℤ z) (*ℤ-zero (pos k *ℤ q)) ∙ *ℤ-zero h
@@ -204,14 +204,11 @@ module _ (t : Tables) (keeps : Domains) (starts : Starts) (network : IsNetwork t
     pub through_nodes : AreByNodes t prices starts
     through_nodes = record {
       through = λ f s j m known within below begun ended.
-          let at = at_place (starts f s) m j (rise f s known within) below (among (get_or (starts f s) j 0) m (node_end (starts f s) j) begun ended) in
+          let at = at_place (starts f s) m j (rise f s known within) below (test_of (get_or (starts f s) j 0) m (node_end (starts f s) j) begun ended) in
           price_is f s m j known within (omega (arith, ended, end_in_period f s j known within below)) at ∙ sym (price_at_start f s j known within below);
       nowhere = λ f s m known within none. by.nowhere f s m known within (empty_is (starts f s) none);
     }
       where
-        among : (a m b : ℕ) → a ≤ m → m ≤ b → (nat_le a m && nat_le m b) ≡ true
-        among a m b low high = grind (arith, nat_tests)
-
         end_in_period : (f s j : ℕ) → f < fleets_in t → s < stations_in t → j < length (starts f s) → node_end (starts f s) j ≤ last_minute
         end_in_period f s j known within below = elim (cases_lt (j + 1) (length (starts f s))) [
           | inl more ↦ omega (arith, end_before (starts f s) j more, start_in_period f s (j + 1) known within more)

@@ -1,9 +1,9 @@
 -- Steps by the order of nodes are in written order.
-use Rattle.std.proofs.Common.{◌≡◌, ◌≢◌, ℕ, zero, suc, ◌+◌, ◌-◌, ◌<◌, ◌≤◌, Bool, true, false, cond, not, ◌==◌, ◌&&◌, nat_lt, if◌then◌else◌, List, [], ◌∷◌, length, get_or, All, Option, Some, None, ℤ, pos, unsigned_abs, refl, sym, ◌∙◌, ap, subst, ◌⊎◌, inl, inr, arith}
+use Rattle.std.proofs.Common.{◌≡◌, ◌≢◌, ℕ, zero, suc, ◌+◌, ◌-◌, ◌<◌, ◌≤◌, Bool, true, false, cond, not, ◌==◌, ◌&&◌, if◌then◌else◌, List, [], ◌∷◌, length, get_or, All, Option, Some, None, ℤ, pos, unsigned_abs, refl, sym, ◌∙◌, ap, subst, ◌⊎◌, inl, inr, arith}
 use Rattle.std.specs.Ordering.{int_eq}
 use mathlib.Core.Bool.{false≢true}
 use Rattle.std.proofs.lemmas.Bool.{cases_lt, cases_order, eq-eqb}
-use Rattle.std.proofs.lemmas.Bool.Decides.{Decides-int_eq, nat_tests}
+use Rattle.std.proofs.lemmas.Bool.Decides.{Decides-int_eq}
 use Rattle.sums.specs.Below.{sum_below}
 use Rattle.sums.proofs.Naturals.{above_zero_tested, plus_0, zero_number}
 use Rattle.sums.proofs.Sizes.{size_of_zero}
@@ -16,9 +16,10 @@ use Rattle.lp_rows.specs.Layout.{Starts, all_nodes, concat_below, node_at, node_
 use Rattle.lp_rows.specs.Points.{node_count}
 use Rattle.lp_rows.proofs.Counted.{nodes_are}
 use Rattle.lp_rows.proofs.Totals.{all_concat}
-use Rattle.dual_bound.specs.Order.{place_before, same_place, step_follows}
+use Rattle.dual_bound.specs.Order.{same_place, step_follows}
 use Rattle.dual_bound.specs.WrittenOrder.{AreStepsInOrder, IsFigure, IsStepInOrder, NoLoneZero, StepsFollow, goes_on, is_lone_zero}
 use Rattle.dual_bound.specs.declared.prices.PriceStep.{PriceStep}
+use Rattle.dual_bound.proofs.StepOrder.{PlaceBefore, follows_other, follows_same, same_place_by}
 use Rattle.price_lift.specs.Steps.{all_steps, are_zero, is_step, step_of, steps_at}
 use Rattle.lp_rows.proofs.LinePlaces.{before, node_is, node_number, node_there, node_within, nodes_in}
 use Rattle.lp_rows.proofs.ListPlaces.{within_sum}
@@ -54,40 +55,6 @@ later_step nodes value k n later here same =
     false≢true (sym (not_true (int_eq (value k) (value (k - 1))) (sym (above_zero_tested n.place (not (are_zero value k nodes)) (not (int_eq (value k) (value (k - 1)))) later) ∙ here)) ∙ (Decides-int_eq (value k) (value (k - 1))).1 same)
 
 -- ---- steps one behind another
-follows_same : (a b : PriceStep) → a.fleet ≡ b.fleet → a.station ≡ b.station → a.minute < b.minute → a.value ≢ b.value → step_follows (Some a) b ≡ true
-follows_same a b fleet station minute value = by_same (same_place a b) here
-  where
-    here : same_place a b ≡ true
-    here = grind (arith, nat_tests)
-
-    less : nat_lt a.minute b.minute ≡ true
-    less = grind (arith, nat_tests)
-
-    differ : (c : Bool) → int_eq a.value b.value ≡ c → not c ≡ true
-    differ true e = absurd (value ((Decides-int_eq a.value b.value).0 e))
-    differ false e = refl
-
-    by_same : (c : Bool) → c ≡ true → (if c then nat_lt a.minute b.minute && not (int_eq a.value b.value) else place_before a b && (b.minute == 0)) ≡ true
-    by_same true e = both_true (nat_lt a.minute b.minute) (not (int_eq a.value b.value)) less (differ (int_eq a.value b.value) refl)
-    by_same false e = cc
-
-abbrev PlaceBefore : ℕ → ℕ → ℕ → ℕ → Type 0
-PlaceBefore f s g r = (f < g) ⊎ ((f ≡ g) × (s < r))
-
-follows_other : (a b : PriceStep) → PlaceBefore a.fleet a.station b.fleet b.station → b.minute ≡ 0 → step_follows (Some a) b ≡ true
-follows_other a b order first = by_same (same_place a b) (apart order)
-  where
-    apart : PlaceBefore a.fleet a.station b.fleet b.station → same_place a b ≡ false
-    apart (inl less) = grind (arith, nat_tests)
-    apart (inr same) = let station = same.1 in grind (arith, nat_tests)
-
-    placed : PlaceBefore a.fleet a.station b.fleet b.station → place_before a b ≡ true
-    placed (inl less) = grind (arith, nat_tests)
-    placed (inr same) = let fleet = same.0 in let station = same.1 in grind (arith, nat_tests)
-
-    by_same : (c : Bool) → c ≡ false → (if c then nat_lt a.minute b.minute && not (int_eq a.value b.value) else place_before a b && (b.minute == 0)) ≡ true
-    by_same true e = cc
-    by_same false e = both_true (place_before a b) (b.minute == 0) (placed order) (eq-eqb b.minute 0 first)
 
 of_follow : (before : Option PriceStep) (steps : List PriceStep) → Follow step_follows before steps → StepsFollow before steps
 of_follow before [] all = tt
@@ -182,7 +149,7 @@ module _ (t : Tables) (starts : Starts) (value : ℕ → ℤ) (rise : (f s : ℕ
     goes_to x q fleet station less other i zero order zero_there enough = absurd (omega arith)
     goes_to x q fleet station less other i (suc d) order zero_there enough = by_test (there (before t starts f s + suc i))
         (λ e. ap (λ c. goes_on x (if c then entry (before t starts f s + suc i) ∷ list_from there entry (suc (before t starts f s + suc i)) d else list_from there entry (suc (before t starts f s + suc i)) d)) e
-        ∙ ap (same_place x) (entry_is f s (suc i) known within (omega arith)) ∙ placed x (entry_at f s (suc i)) fleet station)
+        ∙ ap (same_place x) (entry_is f s (suc i) known within (omega arith)) ∙ same_place_by x (entry_at f s (suc i)) fleet station)
         (λ e. ap (λ c. goes_on x (if c then entry (before t starts f s + suc i) ∷ list_from there entry (suc (before t starts f s + suc i)) d else list_from there entry (suc (before t starts f s + suc i)) d)) e
         ∙ ap (λ n. goes_on x (list_from there entry n d)) (next i)
         ∙ elim (cases_lt (suc i) q) [
@@ -190,9 +157,6 @@ module _ (t : Tables) (starts : Starts) (value : ℕ → ℤ) (rise : (f s : ℕ
           | inr at_it ↦ let at : suc i ≡ q = omega arith in absurd (other (ap (λ n. value (before t starts f s + n)) (sym at) ∙ still e))
         ])
       where
-        placed : (a b : PriceStep) → a.fleet ≡ b.fleet → a.station ≡ b.station → same_place a b ≡ true
-        placed a b fleet station = grind (arith, nat_tests)
-
         next : (i : ℕ) → suc (before t starts f s + suc i) ≡ before t starts f s + suc (suc i)
         next i = omega arith
 

@@ -5,7 +5,7 @@ use Rattle.std.proofs.lemmas.Bool.{cases_lt}
 use Rattle.std.proofs.lemmas.Bool.Decides.{Decides-int_eq, nat_tests}
 use Rattle.sums.proofs.Naturals.{above_zero_tested, as_a_sum, plus_0, zero_number}
 use Rattle.sums.proofs.Sizes.{zero_size}
-use Rattle.sums.proofs.Tests.{by_test, first_true, not_false, second_true}
+use Rattle.sums.proofs.Tests.{by_test, first_fails, first_true, not_false, second_true}
 use Rattle.fleet_model.specs.declared.tables.Tables.{Tables}
 use Rattle.fleet_model.specs.Schedule.{fleets_in, stations_in}
 use Rattle.lp_rows.specs.declared.kinds.Node.{Node}
@@ -14,6 +14,7 @@ use Rattle.lp_rows.specs.Points.{node_count}
 use Rattle.lp_rows.proofs.Counted.{nodes_are}
 use Rattle.dual_bound.specs.Prices.{price_after}
 use Rattle.dual_bound.proofs.PriceLists.{price_after-append}
+use Rattle.dual_bound.proofs.StepOrder.{has_come, has_not_come}
 use Rattle.price_lift.specs.Steps.{all_steps, are_zero, is_step, step_at_node, step_of, steps_at}
 use Rattle.lp_rows.proofs.LinePlaces.{before, node_number, node_there, node_within}
 use Rattle.price_lift.proofs.Minutes.{IsAtPlace, Rise, later}
@@ -36,12 +37,8 @@ elsewhere : (starts : Starts) (value : ℕ → ℤ) (k : ℕ) (n : Node) (v : �
 unfolding price_after
 elsewhere starts value k n v f s m other = by_step (is_step (length (starts n.fleet n.station)) value k n)
   where
-    not_come : (b c : Bool) (x : ℤ) → b ≡ false → cond (b && c) x v ≡ v
-    not_come false c x e = refl
-    not_come true c x e = cc
-
     by_step : (b : Bool) → price_after v (if b then step_of (starts n.fleet n.station) (value k) n ∷ [] else []) f s m ≡ v
-    by_step true = not_come ((n.fleet == f) && (n.station == s)) (nat_le (get_or (starts n.fleet n.station) n.place 0) m) (value k) other
+    by_step true = first_fails ((n.fleet == f) && (n.station == s)) (nat_le (get_or (starts n.fleet n.station) n.place 0) m) (value k) v other
     by_step false = refl
 
 -- where there is no step, the price stays
@@ -54,20 +51,13 @@ has_begun : (starts : Starts) (value : ℕ → ℤ) (k place : ℕ) (v : ℤ) (f
 unfolding price_after
 has_begun starts value k place v f s m step begun =
     ap (λ b. price_after v (if b then step_of (starts f s) (value k) (node_at f s place) ∷ [] else []) f s m) step
-    ∙ ap (λ b. cond b (value k) v) (come f s (get_or (starts f s) place 0) m begun)
-  where
-    come : (f s a m : ℕ) → a ≤ m → ((f == f) && (s == s) && nat_le a m) ≡ true
-    come f s a m order = grind (arith, nat_tests)
-
+    ∙ ap (λ b. cond b (value k) v) (has_come f s (get_or (starts f s) place 0) m begun)
 not_begun : (starts : Starts) (value : ℕ → ℤ) (k place : ℕ) (v : ℤ) (f s m : ℕ) → m < get_or (starts f s) place 0 → price_after v (step_at_node starts value k (node_at f s place)) f s m ≡ v
 unfolding price_after
 not_begun starts value k place v f s m later = by_step (is_step (length (starts f s)) value k (node_at f s place))
   where
-    not_come : (f s a m : ℕ) → m < a → ((f == f) && (s == s) && nat_le a m) ≡ false
-    not_come f s a m order = grind (arith, nat_tests)
-
     by_step : (b : Bool) → price_after v (if b then step_of (starts f s) (value k) (node_at f s place) ∷ [] else []) f s m ≡ v
-    by_step true = ap (λ b. cond b (value k) v) (not_come f s (get_or (starts f s) place 0) m later)
+    by_step true = ap (λ b. cond b (value k) v) (has_not_come f s (get_or (starts f s) place 0) m later)
     by_step false = refl
 
 -- ---- where there is a step

@@ -8,6 +8,7 @@ use Rattle.sums.proofs.Divisors.{gcd_is, gcd_positive}
 use Rattle.sums.proofs.Division.{*ℤ-int_div}
 use Rattle.sums.proofs.Integers.{*ℤ_left_comm, positive_product}
 use Rattle.sums.proofs.Sizes.{pos_above}
+use Rattle.sums.proofs.Tests.{by_choice}
 use Rattle.frac_row.specs.declared.row.FracRow.{FracRow}
 use Rattle.frac_row.specs.declared.factors.Factors.{Factors}
 use Rattle.frac_row.specs.Row.{number_of, width_of, IsRow, common_divisor}
@@ -16,7 +17,7 @@ use Rattle.frac_row.proofs.Rows.{number_times, den_times, common_divisor_positiv
 use Rattle.frac_row.proofs.Combinations.{factors_are, number_of-combination, den-combination}
 use Rattle.row_store.specs.Table.{row_at, number_at, IsTable}
 use Rattle.row_store.specs.Pivot.{scaled_row, cleared_row, new_row, pivoted}
-use Rattle.row_store.proofs.Tables.{by_test, row_at-pivoted}
+use Rattle.row_store.proofs.Tables.{row_at-pivoted}
 
 -- a multiple of the new row is a multiple of the old one less a multiple of the pivot row, which leaves 0 in the column
 pub record IsCleared (old new pivot_row : FracRow) (column : ℕ) : Type 0 where
@@ -86,7 +87,7 @@ cleared_combined row pivot_row column h some =
 is_cleared : (row pivot_row : FracRow) (column : ℕ) → IsRow row → pos 0 <ℤ number_of pivot_row column → IsCleared row (cleared_row row pivot_row column) pivot_row column
 unfolding cleared_row
 is_cleared row pivot_row column h some =
-    by_test (λ new. IsCleared row new pivot_row column) (eqb (unsigned_abs (number_of row column)) 0) row (combined_row row pivot_row column)
+    by_choice (λ new. IsCleared row new pivot_row column) (eqb (unsigned_abs (number_of row column)) 0) row (combined_row row pivot_row column)
     (λ t. cleared_same row pivot_row column (no_size (number_of row column) t)) (λ _. cleared_combined row pivot_row column h some)
   where
     no_size : (q : ℤ) → eqb (unsigned_abs q) 0 ≡ true → q ≡ pos 0

@@ -8,6 +8,7 @@ use Rattle.sums.specs.Below.{sum_below_ℤ}
 use Rattle.sums.proofs.Integers.{*ℤ--ℤ, -ℤ-*ℤ, *ℤ_assoc, *ℤ_left_comm, *ℤ_cancel, zero_factor, positive_product}
 use Rattle.sums.proofs.WholeSums.{sum_below_ℤ-same, *ℤ-sum_below_ℤ, sum_below_ℤ--ℤ}
 use Rattle.sums.proofs.Sizes.{pos_above}
+use Rattle.sums.proofs.Tests.{by_choice}
 use Rattle.frac_row.specs.declared.row.FracRow.{FracRow}
 use Rattle.frac_row.specs.declared.factors.Factors.{Factors}
 use Rattle.frac_row.specs.Row.{number_of, width_of, IsRow, common_divisor, reduced}
@@ -17,7 +18,7 @@ use Rattle.frac_row.proofs.Combinations.{factors_are, number_of-combination, den
 use Rattle.row_store.specs.Table.{row_at, number_at, height_of, columns_of, IsTable}
 use Rattle.row_store.specs.Pivot.{scaled_row, cleared_row, new_row, pivoted}
 use Rattle.row_store.specs.Points.{surplus, MeetsLines, KeepsPoints, KeepsSurplus}
-use Rattle.row_store.proofs.Tables.{by_test, row_at-pivoted, length-pivoted, columns_of-pivoted, in_table}
+use Rattle.row_store.proofs.Tables.{row_at-pivoted, length-pivoted, columns_of-pivoted, in_table}
 
 -- ---- the surplus of a multiple and of a difference
 pub surplus_times : (c : ℤ) (a b : FracRow) (n : ℕ) (point : ℕ → ℤ) (scale : ℤ) → ((k : ℕ) → k ≤ n → c *ℤ number_of a k ≡ number_of b k) → c *ℤ surplus a n point scale ≡ surplus b n point scale
@@ -93,7 +94,7 @@ becomes_combined row pivot_row column n point scale h some lt =
 becomes_cleared : (row pivot_row : FracRow) (column n : ℕ) (point : ℕ → ℤ) (scale : ℤ) → IsRow row → pos 0 <ℤ number_of pivot_row column → n < width_of row → Becomes row (cleared_row row pivot_row column) pivot_row n point scale
 unfolding cleared_row
 becomes_cleared row pivot_row column n point scale h some lt =
-    by_test (λ new. Becomes row new pivot_row n point scale) (eqb (unsigned_abs (number_of row column)) 0) row (combined_row row pivot_row column)
+    by_choice (λ new. Becomes row new pivot_row n point scale) (eqb (unsigned_abs (number_of row column)) 0) row (combined_row row pivot_row column)
     (λ _. becomes_same row pivot_row n point scale) (λ _. becomes_combined row pivot_row column n point scale h some lt)
 
 -- a positive multiple of the scaled row has the pivot row's numbers
@@ -145,7 +146,7 @@ becomes_new table row column other point scale h lt =
 line_forth : (table : List FracRow) (row column other : ℕ) (point : ℕ → ℤ) (scale : ℤ) → IsPivot table row column → other < length table → surplus (row_at table row) (columns_of table - 1) point scale ≡ pos 0 → surplus (row_at table other) (columns_of table - 1) point scale ≡ pos 0 → surplus (new_row table row column other) (columns_of table - 1) point scale ≡ pos 0
 unfolding new_row
 line_forth table row column other point scale h lt met was =
-    by_test (λ new. surplus new (columns_of table - 1) point scale ≡ pos 0) (eqb other row) (scaled_row (row_at table row) column) (cleared_row (row_at table other) (row_at table row) column)
+    by_choice (λ new. surplus new (columns_of table - 1) point scale ≡ pos 0) (eqb other row) (scaled_row (row_at table row) column) (cleared_row (row_at table other) (row_at table row) column)
     (λ _. scaled (scaled_surplus (row_at table row) column (columns_of table - 1) point scale h.positive))
     (λ _. new_zero (becomes_new table row column other point scale h lt) met was)
   where

@@ -1,12 +1,12 @@
 -- The search for the entering column along two lists of numbers.
 use Rattle.std.proofs.Common.{◌≡◌, ℕ, ◌+◌, ◌<◌, ◌≤◌, ◌≢◌, Bool, true, false, cond, ◌&&◌, ◌||◌, ◌==◌, if◌then◌else◌, ltb, ℤ, pos, List, [], ◌∷◌, Some, None, unsigned_abs, refl, sym, ◌∙◌, ap, subst, arith, inl, inr, ◌⊎◌}
-use Rattle.std.proofs.lemmas.Bool.{and_left, cases_eq, cases_lt}
+use Rattle.std.proofs.lemmas.Bool.{and_left, cases_eq, cases_lt, ltb-false, ltb-true}
 use Rattle.std.proofs.lemmas.Bool.Decides.{nat_tests}
 use Rattle.std.specs.Prelude.{IsTrue, ◌↔◌, ◌≤ℤ◌}
 use Rattle.std.proofs.lemmas.Int.{ints}
 use Rattle.sums.specs.Places.{first_below}
 use Rattle.sums.proofs.Places.{first_found, all_nothing}
-use Rattle.sums.proofs.Tests.{unlike}
+use Rattle.sums.proofs.Tests.{by_choice, unlike}
 use Rattle.sums.proofs.NumberTests.{if_apart, if_same}
 use Rattle.sparse_row.specs.declared.entry.Entry.{Entry}
 use Rattle.sparse_row.specs.Content.{number_in, AreEntries}
@@ -22,21 +22,7 @@ pub record IsFirst (test : Entry → Bool) (bound : ℕ) (entries : List Entry) 
   pub found : answer < bound → (from ≤ answer) × (test (record { column = answer; number = number_in entries answer }) ≡ true)
 
 by_bound : {X : Type 0} (P : X → Type 0) (m n : ℕ) (x y : X) → (m < n → P x) → (n ≤ m → P y) → P (cond (ltb m n) x y)
-by_bound P m n x y p q = go (ltb m n) (λ t. p (less t)) (λ t. q (not_less t))
-  where
-    less : ltb m n ≡ true → m < n
-    less t = grind (arith, nat_tests)
-
-    not_less : ltb m n ≡ false → n ≤ m
-    not_less t = grind (arith, nat_tests)
-
-    go : (b : Bool) → (b ≡ true → P x) → (b ≡ false → P y) → P (cond b x y)
-    go true p q = p refl
-    go false p q = q refl
-
-by_truth : {X : Type 0} (P : X → Type 0) (b : Bool) (x y : X) → (b ≡ true → P x) → (b ≡ false → P y) → P (cond b x y)
-by_truth P true x y p q = p refl
-by_truth P false x y p q = q refl
+by_bound P m n x y p q = by_choice P (ltb m n) x y (λ t. p (ltb-true m n t)) (λ t. q (ltb-false m n t))
 
 nothing_at_bound : (test : Entry → Bool) (bound from : ℕ) (entries : List Entry) → ((column : ℕ) → from ≤ column → column < bound → number_in entries column ≡ pos 0) → IsFirst test bound entries from bound
 nothing_at_bound test bound from entries h = record {
@@ -83,7 +69,7 @@ pub first_where_is : (test : Entry → Bool) (bound from width : ℕ) (entries :
 first_where_is test bound from width [] h = nothing_at_bound test bound from [] (λ column ge lt. refl)
 first_where_is test bound from width (x ∷ xs) h =
     by_bound (IsFirst test bound (x ∷ xs) from) x.column bound _ _
-    (λ lt. by_truth (IsFirst test bound (x ∷ xs) from) (test x) x.column (first_where test bound xs)
+    (λ lt. by_choice (IsFirst test bound (x ∷ xs) from) (test x) x.column (first_where test bound xs)
     (λ t. first_here test bound from width x xs h lt t)
     (λ t. first_later test bound from width x xs (first_where test bound xs) h t (first_where_is test bound (x.column + 1) width xs h.3)))
     (λ ge. nothing_at_bound test bound from (x ∷ xs) (λ column from_le lt. nothing_before x.column width (x ∷ xs) column (omega arith, h.1, h.2, h.3) (omega arith)))

@@ -1,7 +1,7 @@
 -- Laws of tables and of the pivot.
 use Rattle.std.proofs.Common.{◌≡◌, ℕ, ◌<◌, Bool, true, false, cond, eqb, pos, ◌<ℤ◌, List, length, Option, Some, None, option_map, unsigned_abs, refl, sym, ◌∙◌, ap, arith}
 use Rattle.sums.proofs.Places.{length-list_below, get_or-list_below, nothing_at}
-use Rattle.sums.proofs.Tests.{unlike}
+use Rattle.sums.proofs.Tests.{by_choice, unlike}
 use Rattle.frac_row.specs.declared.row.FracRow.{FracRow}
 use Rattle.frac_row.specs.declared.growth.Growth.{Growth}
 use Rattle.frac_row.specs.Row.{number_of, width_of, IsRow}
@@ -11,11 +11,6 @@ use Rattle.frac_row.proofs.Combinations.{factors_are, combination_is_row}
 use Rattle.row_store.specs.Table.{no_row, row_at, number_at, columns_of, height_of, IsTable}
 use Rattle.row_store.specs.Pivot.{scaled_row, cleared_row, clearing_growth, new_row, pivoted, row_growth, pivot_growth}
 use Rattle.row_store.specs.declared.error.Place.{Place}
-
--- what holds of both values of a test
-pub by_test : {X : Type 0} (P : X → Type 0) (b : Bool) (x y : X) → (b ≡ true → P x) → (b ≡ false → P y) → P (cond b x y)
-by_test P true x y p q = p refl
-by_test P false x y p q = q refl
 
 -- a line of the table, in the terms of its height
 pub in_table : (table : List FracRow) (row : ℕ) → row < height_of table → row < length table
@@ -29,7 +24,7 @@ width_of-combination row pivot_row column = width_of-reduced _ ∙ length-list_b
 pub width_of-cleared : (row pivot_row : FracRow) (column : ℕ) → width_of (cleared_row row pivot_row column) ≡ width_of row
 unfolding cleared_row
 width_of-cleared row pivot_row column =
-    by_test (λ r. width_of r ≡ width_of row) (eqb (unsigned_abs (number_of row column)) 0) row (combined_row row pivot_row column) (λ _. refl) (λ _. width_of-combination row pivot_row column)
+    by_choice (λ r. width_of r ≡ width_of row) (eqb (unsigned_abs (number_of row column)) 0) row (combined_row row pivot_row column) (λ _. refl) (λ _. width_of-combination row pivot_row column)
 
 pub width_of-scaled : (row : FracRow) (column : ℕ) → width_of (scaled_row row column) ≡ width_of row
 unfolding scaled_row
@@ -48,7 +43,7 @@ combined_is_row row pivot_row column h some e =
 cleared_is_row : (row pivot_row : FracRow) (column : ℕ) → IsRow row → pos 0 <ℤ number_of pivot_row column → clearing_growth row pivot_row column ≡ None → IsRow (cleared_row row pivot_row column)
 unfolding cleared_row clearing_growth
 cleared_is_row row pivot_row column h some e =
-    by_test IsRow (eqb (unsigned_abs (number_of row column)) 0) row (combined_row row pivot_row column) (λ _. h) (λ t. combined_is_row row pivot_row column h some (other _ _ t e))
+    by_choice IsRow (eqb (unsigned_abs (number_of row column)) 0) row (combined_row row pivot_row column) (λ _. h) (λ t. combined_is_row row pivot_row column h some (other _ _ t e))
   where
     other : (b : Bool) (o : Option Growth) → b ≡ false → cond b None o ≡ None → o ≡ None
     other false o t e = e
@@ -66,7 +61,7 @@ row_at-pivoted table row column other lt = get_or-list_below (new_row table row 
 pub width_of-new_row : (table : List FracRow) (row column other : ℕ) → IsTable table → row < length table → other < length table → width_of (new_row table row column other) ≡ columns_of table
 unfolding new_row
 width_of-new_row table row column other h r o =
-    by_test (λ x. width_of x ≡ columns_of table) (eqb other row) (scaled_row (row_at table row) column) (cleared_row (row_at table other) (row_at table row) column)
+    by_choice (λ x. width_of x ≡ columns_of table) (eqb other row) (scaled_row (row_at table row) column) (cleared_row (row_at table other) (row_at table row) column)
     (λ _. width_of-scaled (row_at table row) column ∙ h.same_width row r)
     (λ _. width_of-cleared (row_at table other) (row_at table row) column ∙ h.same_width other o)
 
@@ -87,7 +82,7 @@ no_clearing_growth table row column other e lt apart =
 new_row_is_row : (table : List FracRow) (row column other : ℕ) → IsTable table → row < length table → pos 0 <ℤ number_at table row column → pivot_growth table row column ≡ None → other < length table → IsRow (new_row table row column other)
 unfolding new_row
 new_row_is_row table row column other h r some e o =
-    by_test IsRow (eqb other row) (scaled_row (row_at table row) column) (cleared_row (row_at table other) (row_at table row) column)
+    by_choice IsRow (eqb other row) (scaled_row (row_at table row) column) (cleared_row (row_at table other) (row_at table row) column)
     (λ _. scaled_is_row (row_at table row) column (h.rows row r) some)
     (λ t. cleared_is_row (row_at table other) (row_at table row) column (h.rows other o) some (no_clearing_growth table row column other e o t))
 

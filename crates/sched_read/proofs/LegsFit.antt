@@ -1,7 +1,6 @@
 -- Records that read as legs keep what legs keep.
 use Rattle.std.proofs.Common.{◌≡◌, ◌<◌, ◌&&◌, ◌==◌, ℕ, false, not, nat_le, List, [], ◌∷◌, ◌++◌, length, map, Ok, refl, subst, arith}
 use Rattle.std.specs.Str.{is_utf8}
-use Rattle.sums.proofs.NumberTests.{some_tested}
 use Rattle.csv_fields.specs.Name.{name_of, station_code_of}
 use Rattle.csv_fields.specs.Time.{clock_time_of}
 use Rattle.fleet_model.specs.declared.limits.TheConstants.{MAX_LEGS, MINUTES_PER_DAY, MINUTES_PER_PERIOD}
@@ -49,7 +48,7 @@ new_leg stations settings old fields leg reads =
         from = number_within wide.0.1 stations from_known.0 from_known.1;
         to = number_within wide.0.3 stations to_known.0 to_known.1;
         dep = minute_within settings leaves.0;
-        some_block = some_tested (block_between leaves.0 lands.0) flies.0;
+        some_block = pos_of_ne-zero (eqb-false (block_between leaves.0 lands.0) 0 flies.0);
         block = block_within leaves.0 lands.0;
       });
       room = room_left MAX_LEGS (length old) room.0;

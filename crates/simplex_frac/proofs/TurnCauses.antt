@@ -1,5 +1,5 @@
 -- What stands behind each turn of the run.
-use Rattle.std.proofs.Common.{◌≡◌, ℕ, ◌<◌, Bool, true, false, ◌&&◌, cond, eqb, ℤ, pos, ◌<ℤ◌, ◌≤ℤ◌, List, Option, Some, None, unsigned_abs, refl, ◌∙◌, ap, subst, arith, inl, inr}
+use Rattle.std.proofs.Common.{◌≡◌, ℕ, ◌<◌, Bool, true, false, ◌&&◌, cond, eqb, ℤ, pos, ◌<ℤ◌, ◌≤ℤ◌, List, Option, Some, None, unsigned_abs, refl, sym, ◌∙◌, ap, subst, arith, inl, inr}
 use Rattle.std.proofs.lemmas.Int.{ints}
 use Rattle.std.proofs.lemmas.Bool.{eqb-true, or_cases, or_parts, and_parts, both_ways}
 use Rattle.sums.proofs.Places.{nothing_at}
@@ -12,6 +12,7 @@ use Rattle.row_store.proofs.SignTests.{not_negative_is}
 use Rattle.reached_tables.specs.Tableaux.{Tableau}
 use Rattle.simplex_frac.specs.Run.{turn, turn_by, turn_at}
 use Rattle.simplex_frac.specs.declared.turn.Turn.TheVariants.{Best, NoPoint, Ray, Pivot}
+use Rattle.simplex_frac.proofs.Turns.{no_end_pivots, no_ray_pivots}
 
 -- ---- the pivot
 pub pivot_leaves : (now : Tableau) (columns row column : ℕ) → turn now columns ≡ Pivot row column → leaving now.table now.basis column ≡ Some row
@@ -19,21 +20,14 @@ unfolding turn
 pivot_leaves now columns row column e = by_entering (entering now.table columns) e
   where
     by_leaving : (entered : ℕ) (o : Option ℕ) → leaving now.table now.basis entered ≡ o → turn_at entered o ≡ Pivot row column → leaving now.table now.basis column ≡ Some row
-    by_leaving entered None l q = absurd (clash q)
-      where
-        clash : Ray entered ≡ Pivot row column → ⊥
-        clash q = cc
+    by_leaving entered None l q = absurd (no_ray_pivots q)
     by_leaving entered (Some left) l q =
         let same_row : left ≡ row = cc in
         let same_column : entered ≡ column = cc in
         subst (λ c. leaving now.table now.basis c ≡ Some row) same_column (l ∙ ap Some same_row)
 
-    by_test : (b : Bool) → cond b Best NoPoint ≡ Pivot row column → ⊥
-    by_test true q = cc
-    by_test false q = cc
-
     by_entering : (o : Option ℕ) → turn_by now o ≡ Pivot row column → leaving now.table now.basis column ≡ Some row
-    by_entering None q = absurd (by_test (eqb (unsigned_abs (right_side now.table (phase_row now.table))) 0) q)
+    by_entering None q = absurd (no_end_pivots (eqb (unsigned_abs (right_side now.table (phase_row now.table))) 0) q)
     by_entering (Some entered) q = by_leaving entered (leaving now.table now.basis entered) refl q
 
 -- ---- the ends
@@ -92,11 +86,7 @@ ray_ends now columns column e = by_entering (entering now.table columns) refl e
     by_leaving entered None l p q =
         let same : entered ≡ column = cc in
         record { enters = p ∙ ap Some same; none = subst (λ c. leaving now.table now.basis c ≡ None) same l }
-    by_leaving entered (Some left) l p q = absurd (clash q)
-      where
-        clash : Pivot left entered ≡ Ray column → ⊥
-        clash q = cc
-
+    by_leaving entered (Some left) l p q = absurd (no_ray_pivots (sym q))
     by_test : (b : Bool) → cond b Best NoPoint ≡ Ray column → ⊥
     by_test true q = cc
     by_test false q = cc

@@ -20,6 +20,14 @@ when_nonzero_size n x y ne = grind (arith, nat_tests)
 when_nonzero : (q : ℤ) (x y : Turn) → q ≢ pos 0 → cond (eqb (unsigned_abs q) 0) x y ≡ y
 when_nonzero q x y ne = when_nonzero_size (unsigned_abs q) x y (λ e. ne (zero_size q e))
 
+-- ends are no pivots
+pub no_end_pivots : {row column : ℕ} (b : Bool) → cond b Best NoPoint ≡ Pivot row column → ⊥
+no_end_pivots true e = cc
+no_end_pivots false e = cc
+
+pub no_ray_pivots : {entered row column : ℕ} → Ray entered ≡ Pivot row column → ⊥
+no_ray_pivots e = cc
+
 pub turn_best : (now : Tableau) (columns : ℕ) → None ≡ entering now.table columns → right_side now.table (phase_row now.table) ≡ pos 0 → Best ≡ turn now columns
 unfolding turn
 turn_best now columns e zero =
@@ -48,10 +56,7 @@ unfolding turn
 pivot_place now columns row column e = by_entering (entering now.table columns) refl e
   where
     by_leaving : (entered : ℕ) (o : Option ℕ) → o ≡ leaving now.table now.basis entered → entering now.table columns ≡ Some entered → turn_at entered o ≡ Pivot row column → IsPivotPlace now columns row column
-    by_leaving entered None l p q = absurd (clash q)
-      where
-        clash : Ray entered ≡ Pivot row column → ⊥
-        clash q = cc
+    by_leaving entered None l p q = absurd (no_ray_pivots q)
     by_leaving entered (Some left) l p q =
         let same_row : left ≡ row = cc in
         let same_column : entered ≡ column = cc in
@@ -62,12 +67,8 @@ pivot_place now columns row column e = by_entering (entering now.table columns) 
           positive = subst (λ c. pos 0 <ℤ number_at now.table row c) same_column (subst (λ r. pos 0 <ℤ number_at now.table r entered) same_row is.1);
         }
 
-    by_test : (b : Bool) → cond b Best NoPoint ≡ Pivot row column → ⊥
-    by_test true q = cc
-    by_test false q = cc
-
     by_entering : (o : Option ℕ) → entering now.table columns ≡ o → turn_by now o ≡ Pivot row column → IsPivotPlace now columns row column
-    by_entering None p q = absurd (by_test (eqb (unsigned_abs (right_side now.table (phase_row now.table))) 0) q)
+    by_entering None p q = absurd (no_end_pivots (eqb (unsigned_abs (right_side now.table (phase_row now.table))) 0) q)
     by_entering (Some entered) p q = by_leaving entered (leaving now.table now.basis entered) refl p q
 
 -- the right side of the phase row, by the column's number

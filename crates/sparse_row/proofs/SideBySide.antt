@@ -1,11 +1,12 @@
 -- Two rows side by side: their combination, and the first place where it is outgrown.
 use Rattle.std.proofs.Common.{◌≡◌, ℕ, ◌+◌, ◌<◌, ◌≤◌, ◌≢◌, Bool, true, false, cond, ◌==◌, if◌then◌else◌, eqb, ltb, ℤ, pos, ◌*ℤ◌, List, [], ◌∷◌, Option, Some, None, unsigned_abs, refl, sym, ◌∙◌, ap, subst, arith, inl, inr}
-use Rattle.std.proofs.lemmas.Bool.{cases_eq, cases_lt}
+use Rattle.std.proofs.lemmas.Bool.{cases_eq, cases_lt, eqb-false, eqb-true}
 use Rattle.std.proofs.lemmas.Bool.Decides.{nat_tests}
 use Rattle.std.proofs.lemmas.Int.{ints}
 use lib.IntN.{*ℤ-zero}
 use Rattle.sums.specs.Places.{first_below, or_else}
 use Rattle.sums.proofs.Sizes.{zero_size}
+use Rattle.sums.proofs.Tests.{by_choice}
 use Rattle.sums.proofs.Places.{first_found, nothing_at, all_nothing}
 use Rattle.sums.proofs.NumberTests.{if_apart, if_same}
 use Rattle.frac_row.proofs.Combinations.{place_fits}
@@ -114,18 +115,8 @@ second_is from width (x ∷ xs) (y ∷ ys) column h k =
 combined_nothing : (f : Factors) (n r : ℤ) → n ≡ pos 0 → r ≡ pos 0 → combined_number f n r ≡ pos 0
 combined_nothing f n r p q = rw (p, q) (omega (arith, ints, *ℤ-zero f.own, *ℤ-zero f.pivot))
 
-size_is_0 : (n : ℕ) → eqb n 0 ≡ true → n ≡ 0
-size_is_0 n t = grind (arith, nat_tests)
-
-size_not_0 : (n : ℕ) → eqb n 0 ≡ false → n ≢ 0
-size_not_0 n t = grind (arith, nat_tests)
-
 by_zero : {X : Type 0} (P : X → Type 0) (z : ℤ) (x y : X) → (z ≡ pos 0 → P x) → (z ≢ pos 0 → P y) → P (cond (eqb (unsigned_abs z) 0) x y)
-by_zero P z x y p q = go (eqb (unsigned_abs z) 0) (λ t. p (zero_size z (size_is_0 (unsigned_abs z) t))) (λ t. q (λ e. size_not_0 (unsigned_abs z) t (ap unsigned_abs e)))
-  where
-    go : (b : Bool) → (b ≡ true → P x) → (b ≡ false → P y) → P (cond b x y)
-    go true p q = p refl
-    go false p q = q refl
+by_zero P z x y p q = by_choice P (eqb (unsigned_abs z) 0) x y (λ t. p (zero_size z (eqb-true (unsigned_abs z) 0 t))) (λ t. q (λ e. eqb-false (unsigned_abs z) 0 t (ap unsigned_abs e)))
 
 pub combined_rise : (f : Factors) (from width : ℕ) (pairs : List Pair) → ArePairs from width pairs → AreEntries from width (combined_entries f pairs)
 combined_rise f from width [] h = tt

@@ -107,6 +107,9 @@ times_below c f g zero each = omega arith
 times_below c f g (suc n) each = omega (arith, times_below c f g n (λ k below. each k (omega arith)), each n (omega arith))
 
 -- ---- lists
+pub first_same : {X : Type 0} (x y : X) (xs ys : List X) → x ∷ xs ≡ y ∷ ys → x ≡ y
+first_same x y xs ys e = cc e
+
 pub empty_is : (xs : List ℕ) → length xs ≡ 0 → xs ≡ []
 empty_is [] e = refl
 empty_is (x ∷ xs) e = absurd (omega arith)

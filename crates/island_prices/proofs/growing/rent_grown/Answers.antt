@@ -1,7 +1,7 @@
 use Rattle.std.proofs.Common.{◌*◌, ◌∙◌, arith}
 use Rattle.std.proofs.lemmas.Int.{ints}
 use Rattle.island_prices.specs.Rounds.{number_in}
-use Rattle.island_prices.proofs.Numbers.{added, one_more}
+use Rattle.dual_bound.proofs.Numbers.{added, one_more}
 use Rattle.island_prices.proofs.growing.rent_grown.Goals as goal
 
 pub loop-round-preserved : goal.loop-round-preserved

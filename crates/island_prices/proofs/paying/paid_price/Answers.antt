@@ -1,6 +1,6 @@
 use Rattle.std.proofs.Common.{◌*◌, length, arith}
 use Rattle.island_prices.specs.Paid.{paid_price}
-use Rattle.island_prices.proofs.Numbers.{three_added}
+use Rattle.dual_bound.proofs.Numbers.{three_added}
 use Rattle.island_prices.proofs.paying.paid_price.Goals as goal
 
 pub returns : goal.returns

@@ -1,7 +1,7 @@
 use Rattle.std.proofs.Common.{◌*◌, ◌∙◌, arith}
 use Rattle.std.proofs.lemmas.Int.{ints}
 use Rattle.island_prices.specs.Rises.{shift_at}
-use Rattle.island_prices.proofs.Numbers.{added, one_more}
+use Rattle.dual_bound.proofs.Numbers.{added, one_more}
 use Rattle.island_prices.proofs.rises.shift_by.Goals as goal
 
 pub loop-place-preserved : goal.loop-place-preserved
