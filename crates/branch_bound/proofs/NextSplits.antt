@@ -112,9 +112,6 @@ module _ (t : Tables) (root : Domains) (s : Search) (rank : Rank) (search : IsSe
   pub step_known : (pair : Pair) (step : Step) (taken : Bool) → step ≡ step_into pair taken → WaitsWith (λ f. pair ≡ leg_on f.leg f.fleet) (at all rank.number).state → IsPair t (leg_on step.leg step.fleet)
   step_known pair step taken same is = subst (λ (x : Step). IsPair t (leg_on x.leg x.fleet)) (sym same) (pair_known pair is)
 
-  pub origins_there : (slice : List Subproblem) → slice ≡ all → HaveOrigins t slice
-  origins_there slice same = subst (HaveOrigins t) (sym same) origins
-
   -- ---- after the split
   module _ (middle between after : Search) (pair : Pair) (yes no : State) (first_step second_step : Step) (first_keeps second_keeps : Domains) (pair_is : WaitsWith (λ f. pair ≡ leg_on f.leg f.fleet) (at all rank.number).state)
       (first_step_is : first_step ≡ step_into pair true) (second_step_is : second_step ≡ step_into pair false) (first_keeps_is : first_keeps ≡ (search.chronicle.made rank.number).keeps) (second_keeps_is : second_keeps ≡ first_keeps)

@@ -23,9 +23,6 @@ never_broken t cost whole node number sound broken =
 
 -- with a plan
 module _ (t : Tables) (plan : Plan) (whole : Tree) (is : IsProvedBy t (Some plan) whole) where
-  pub some_bound : IsBound t whole None → IsInfeasible t → ⊥
-  some_bound bounded none = none.none plan.assignment is.plan.legal
-
   pub planned : (bound : ℤ) → IsBound t whole (Some bound) → IsLowerBound t bound → IsPlanned t plan.assignment plan.cost bound whole
   planned bound bounded lower = record {
     legal = is.plan.legal;

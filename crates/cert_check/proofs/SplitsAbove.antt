@@ -110,15 +110,6 @@ split_parts t keeps whole with_pair without leg fleet prices mixed one other e p
     )
 
 -- ---- one node
--- a node that is no split
-pub no_split : (t : Tables) (cost : ℤ) (keeps : Domains) (whole : Tree) → ((leg fleet : ℕ) (prices : Prices) (mixed : Mixed) (yes no : Box Tree Global) → whole ≢ Split leg fleet prices mixed yes no) → IsNoneAbove t cost (node keeps whole)
-no_split t cost keeps (tree.Bare leg) other = record { none = λ above. above.rounded }
-no_split t cost keeps tree.Sole other = record { none = λ above. above.rounded }
-no_split t cost keeps (tree.Refuted prices) other = record { none = λ above. above.rounded }
-no_split t cost keeps (tree.Priced prices) other = record { none = λ above. above.rounded }
-no_split t cost keeps (tree.Open prices why) other = record { none = λ above. above.rounded }
-no_split t cost keeps (tree.Trim' leg fleet p with_pair q without) other = record { none = λ above. above.rounded }
-no_split t cost keeps (tree.Split' leg fleet prices mixed p with_pair q without) other = absurd (other leg fleet prices mixed _ _ refl)
 
 -- a split, by the test of its rounded worth
 pub split_test : (t : Tables) (cost least : ℤ) (keeps : Domains) (whole : Tree) (leg fleet : ℕ) (prices : Prices) (mixed : Mixed) (one other : Box Tree Global) (b : Bool) → whole ≡ Split leg fleet prices mixed one other
@@ -206,11 +197,6 @@ module _ (t : Tables) (cost : ℤ) (keeps : Domains) (number next at : ℕ) (fol
   of_split prices mixed e =
       subst (λ x. AreSought t cost (nodes_in keeps x) number at found) (sym e)
       (one_more t cost (node keeps (Split leg fleet prices mixed yes no)) number next (subst (λ x. IsNoneAbove t cost (node keeps x)) e none) follows _ at found in_boxes)
-
--- a leaf
-pub of_leaf : (t : Tables) (cost : ℤ) (keeps : Domains) (whole : Tree) (number next : ℕ) → nodes_in keeps whole ≡ node keeps whole ∷ [] → next ≡ held_count (number + 1) → IsNoneAbove t cost (node keeps whole)
-    → AreSought t cost (nodes_in keeps whole) number next false
-of_leaf t cost keeps whole number next e follows none = rw e (alone t cost (node keeps whole) number next none follows)
 
 -- the second child is sought in the subproblem as it was before the first, and beside the same cost
 pub in_same : (t : Tables) (cost other : ℤ) (rows before : List (List Bool)) (step : Step) (without : Tree) (number at : ℕ) (found : Bool) → rows ≡ before → cost ≡ other

@@ -11,7 +11,7 @@ use Rattle.ground_turns.specs.Maps.{HasTurn, IsSuccessorMap, arrivals_of, depart
 use Rattle.ground_turns.specs.Turns.{IsTurn}
 use Rattle.ground_turns.proofs.Rounds.{bit}
 use Rattle.cycle_join.specs.Joins.{Flies}
-use Rattle.cycle_join.specs.Rounds.{IsPath, IsRound, last_of, turn_between}
+use Rattle.cycle_join.specs.Rounds.{IsPath, last_of, turn_between}
 use Rattle.cycle_join.proofs.General.{few_places}
 
 module _ (t : Tables) (a : List ℕ) (f : ℕ) (turns : List Connection) (map : IsSuccessorMap t a f turns) where
@@ -97,14 +97,6 @@ module _ (t : Tables) (a : List ℕ) (f : ℕ) (turns : List Connection) (map : 
   path_on pushed q is path turn other =
       subst (λ xs. IsPath turns first (xs ++ q ∷ [])) (sym is)
       (path_more t a f turns map first (legs ++ leg ∷ []) path q (subst (λ l. HasTurn turns (turn_between l q)) (sym last_leg) turn) other)
-
-  pub come_round : (pushed : List ℕ) (q : ℕ) → pushed ≡ legs ++ leg ∷ [] → IsPath turns first (legs ++ leg ∷ []) → HasTurn turns (turn_between leg q) → q ≡ first
-      → IsRound turns first pushed
-  come_round pushed q is path turn same =
-      subst (IsRound turns first) (sym is) (record {
-        path = path;
-        closes = subst (λ l. HasTurn turns (turn_between l first)) (sym last_leg) (subst (λ r. HasTurn turns (turn_between leg r)) same turn);
-      })
 
   pub last_arrives_once : IsPath turns first (legs ++ leg ∷ []) → Flies t a f first → arrivals_of turns leg ≡ 1
   last_arrives_once path flies =

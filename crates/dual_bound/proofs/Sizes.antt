@@ -1,9 +1,9 @@
 -- Sizes of products on the way to a worth.
-use Rattle.std.proofs.Common.{◌≡◌, ℕ, zero, suc, ◌*◌, ◌^◌, ◌≤◌, ℤ, pos, negsuc, neg_ℤ, ◌*ℤ◌, ◌≤ℤ◌, ◌∙◌, ap, subst, sym, arith}
+use Rattle.std.proofs.Common.{ℕ, ◌*◌, ◌^◌, ◌≤◌, ℤ, pos, negsuc, neg_ℤ, ◌*ℤ◌, ◌≤ℤ◌, arith}
 use Rattle.std.proofs.lemmas.Int.{ints}
 use Rattle.std.proofs.Math.Nat.{mul-le-mul_right}
-use lib.IntN.{*ℤ_comm, zero-*ℤ}
-use Rattle.sums.proofs.Integers.{*ℤ-neg_ℤ, one-*ℤ}
+use lib.IntN.{*ℤ_comm}
+use Rattle.sums.proofs.Integers.{*ℤ-neg_ℤ}
 use Rattle.sums.proofs.Orders.{times_le}
 use Rattle.fleet_model.specs.Limits.{IsCost}
 use Rattle.dual_bound.specs.Prices.{max_price, max_scale}
@@ -35,11 +35,3 @@ scaled (pos n) c some within small =
       no_less = omega (arith, ints, ends.0, wide);
       no_more = omega (arith, ints, ends.1, wide);
     }
-
--- the same, where it counts and where it does not
-pub up_to_scaled : (k : ℕ) (s c : ℤ) → k ≤ 1 → pos 1 ≤ℤ s → s ≤ℤ pos max_scale → IsCost c → IsUpTo 1 ((pos k *ℤ s) *ℤ c)
-up_to_scaled zero s c few some within small =
-    let none : (pos 0 *ℤ s) *ℤ c ≡ pos 0 = ap (λ z. z *ℤ c) (zero-*ℤ s) ∙ zero-*ℤ c in
-    subst (λ z. IsUpTo 1 z) (sym none) (record { no_less = omega (arith, ints); no_more = omega (arith, ints) })
-up_to_scaled (suc zero) s c few some within small = subst (λ z. IsUpTo 1 (z *ℤ c)) (sym (one-*ℤ s)) (scaled s c some within small)
-up_to_scaled (suc (suc k)) s c few some within small = absurd (omega arith)

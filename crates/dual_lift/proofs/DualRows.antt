@@ -1,5 +1,5 @@
 -- Dual values that are not outgrown are a row of fractions.
-use Rattle.std.proofs.Common.{◌≡◌, ℕ, ◌+◌, ◌-◌, ◌<◌, ◌^◌, Bool, true, false, ◌||◌, if◌then◌else◌, List, get_or, None, ℤ, pos, neg_ℤ, ◌<ℤ◌, refl, sym, subst, inl, inr, arith}
+use Rattle.std.proofs.Common.{◌≡◌, ℕ, ◌+◌, ◌-◌, ◌<◌, Bool, true, false, ◌||◌, if◌then◌else◌, List, get_or, None, ℤ, pos, neg_ℤ, ◌<ℤ◌, refl, sym, subst, inl, inr, arith}
 use Rattle.std.proofs.lemmas.Bool.{cases_lt, or_parts}
 use Rattle.std.proofs.lemmas.List.{get_or_past}
 use Rattle.sums.specs.Places.{list_below}
@@ -70,9 +70,6 @@ duals_are_row table reading first is reads fits = record {
 pub duals_wide : (table : List FracRow) (reading : Reading) (first : ℕ) → width_of (duals_by table reading first) ≡ height_of table - first
 unfolding duals_by
 duals_wide table reading first = length-list_below (λ k. value_by table reading (first + k)) (height_of table - first)
-
-pub duals_few : (table : List FracRow) (reading : Reading) (first : ℕ) → IsTable table → width_of (duals_by table reading first) < 2 ^ 32
-duals_few table reading first is = omega (arith, is.tall, is.few_rows, duals_wide table reading first)
 
 -- by their numbers
 pub dual_there : (table : List FracRow) (reading : Reading) (first k : ℕ) → k < height_of table - first → number_of (duals_by table reading first) k ≡ value_by table reading (first + k)

@@ -21,11 +21,6 @@ then_fails o p NoMemory well is = tt
 pub both_well : (o p : Option Excess) → o ≡ None → p ≡ None → or_else o p ≡ None
 both_well o p first second = rw first second
 
--- one place fails, and those before are well
-pub place_fails : (f : ℕ → Option Excess) (k n : ℕ) (e : LiftError) → first_below f k ≡ None → k < n → IsLiftError (f k) e → IsLiftError (first_below f n) e
-place_fails f k n (TooLarge step at) before below is = first_found f k n (record { step = step; at = at }) before is below
-place_fails f k n NoMemory before below is = tt
-
 -- one place more is well
 pub place_well : (f : ℕ → Option Excess) (k : ℕ) → first_below f k ≡ None → f k ≡ None → first_below f (k + 1) ≡ None
 place_well f k before here = subst (λ n. first_below f n ≡ None) (sym (add-one k)) (rw before here)

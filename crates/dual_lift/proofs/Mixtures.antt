@@ -1,5 +1,5 @@
 -- How often the phase row is added, column by column.
-use Rattle.std.proofs.Common.{◌≡◌, ℕ, ◌+◌, max, true, false, cond, ◌&&◌, ◌||◌, List, ℤ, pos, neg_ℤ, ◌*ℤ◌, ◌<ℤ◌, ◌≤ℤ◌, unsigned_abs, sym, ◌∙◌, ap, add-one, inl, inr, arith}
+use Rattle.std.proofs.Common.{◌≡◌, ℕ, ◌+◌, max, false, cond, ◌&&◌, ◌||◌, List, ℤ, pos, neg_ℤ, ◌*ℤ◌, ◌<ℤ◌, unsigned_abs, sym, ◌∙◌, ap, add-one, inl, inr, arith}
 use Rattle.std.specs.Int.{int_max}
 use Rattle.std.specs.Prelude.{int_div}
 use Rattle.std.proofs.lemmas.Bool.{cases_lt}
@@ -10,7 +10,7 @@ use Rattle.sums.proofs.Integers.{neg_ℤ-*ℤ}
 use Rattle.sums.proofs.Maxima.{max_below-suc}
 use Rattle.frac_row.specs.Outgrown.{is_outgrown}
 use Rattle.frac_row.specs.declared.row.FracRow.{FracRow}
-use Rattle.row_store.proofs.SignTests.{negative_tested, not_negative_tested}
+use Rattle.row_store.proofs.SignTests.{negative_tested}
 use Rattle.dual_lift.specs.Duals.{ceiling, cost_den, cost_part, phase_den, phase_part, phases_for}
 use Rattle.dual_lift.specs.TooLarge.{phases_for_outgrown}
 
@@ -19,20 +19,6 @@ size_opposite z = omega (arith, ints)
 
 size_product : (c P : ℤ) → unsigned_abs (neg_ℤ c *ℤ P) ≡ unsigned_abs (c *ℤ P)
 size_product c P = ap unsigned_abs (neg_ℤ-*ℤ c P) ∙ size_opposite (c *ℤ P)
-
--- a column that isn't negative wants none
-pub none_wanted : (c C p P : ℤ) → pos 0 ≤ℤ c → (phases_for_outgrown c C p P ≡ false) × (pos 0 ≡ pos (phases_for c C p P))
-none_wanted c C p P h = (
-  ap (λ b. b && (is_outgrown (neg_ℤ c *ℤ P) || is_outgrown (p *ℤ C))) (not_negative_tested c h),
-  ap (λ b. pos (cond b (ceiling (unsigned_abs (c *ℤ P)) (unsigned_abs (p *ℤ C))) 0)) (sym (not_negative_tested c h)),
-)
-
--- the first product is outgrown, or the second
-pub first_outgrown : (c C p P : ℤ) → c <ℤ pos 0 → is_outgrown (neg_ℤ c *ℤ P) ≡ true → phases_for_outgrown c C p P ≡ true
-first_outgrown c C p P h e = ap (λ b. b && (is_outgrown (neg_ℤ c *ℤ P) || is_outgrown (p *ℤ C))) (negative_tested c h) ∙ ap (λ b. b || is_outgrown (p *ℤ C)) e
-
-pub second_outgrown : (c C p P : ℤ) → c <ℤ pos 0 → is_outgrown (neg_ℤ c *ℤ P) ≡ false → is_outgrown (p *ℤ C) ≡ true → phases_for_outgrown c C p P ≡ true
-second_outgrown c C p P h e f = ap (λ b. b && (is_outgrown (neg_ℤ c *ℤ P) || is_outgrown (p *ℤ C))) (negative_tested c h) ∙ ap (λ b. b || is_outgrown (p *ℤ C)) e ∙ f
 
 pub some_wanted : (c C p P n d r : ℤ) → c <ℤ pos 0 → n ≡ neg_ℤ c *ℤ P → is_outgrown (neg_ℤ c *ℤ P) ≡ false → d ≡ p *ℤ C → is_outgrown (p *ℤ C) ≡ false → r ≡ pos (ceiling (unsigned_abs n) (unsigned_abs d))
     → (phases_for_outgrown c C p P ≡ false) × (r ≡ pos (phases_for c C p P))

@@ -1,5 +1,5 @@
 -- What extends a prefix: the first leg that may follow, what extends the prefix with it, and then the rest.
-use Rattle.std.proofs.Common.{◌≡◌, ℕ, zero, suc, ◌-◌, ◌<◌, ◌≤◌, Bool, if◌then◌else◌, Some, None, List, [], ◌∷◌, ◌++◌, drop, length, slice_index, refl, sym, ◌∙◌, ap, append_assoc, arith}
+use Rattle.std.proofs.Common.{◌≡◌, ℕ, zero, suc, ◌-◌, ◌<◌, ◌≤◌, Bool, if◌then◌else◌, Some, List, [], ◌∷◌, ◌++◌, drop, length, slice_index, refl, sym, ◌∙◌, ap, append_assoc, arith}
 use Rattle.std.specs.List.{filter, flat_map}
 use Rattle.std.proofs.lemmas.Bool.{eq-eqb}
 use Rattle.std.proofs.lemmas.List.{append-nil}
@@ -10,7 +10,7 @@ use Rattle.fleet_model.specs.Counts.{fleet_at}
 use Rattle.euler_rotation.specs.declared.path.Level.{Level}
 use Rattle.euler_rotation.specs.Asked.{followers_of}
 use Rattle.euler_rotation.specs.Prefixes.{is_open, may_follow, may_turn, preorder, preorder_from}
-use Rattle.euler_rotation.specs.Walks.{extensions, legs_of, pending, tail_of, top_of}
+use Rattle.euler_rotation.specs.Walks.{extensions, legs_of, pending, top_of}
 use Rattle.euler_rotation.proofs.General.{filter_both}
 
 module _ (t : Tables) (a : List ℕ) (f : ℕ) (pairs : List Connection) (days : ℕ) (order : List ℕ) where
@@ -84,16 +84,6 @@ module _ (t : Tables) (a : List ℕ) (f : ℕ) (pairs : List Connection) (days :
       ap (λ xs. xs ++ pending t a f pairs days order outer x.next) first
       ∙ ap (λ xs. legs_of (level ∷ x ∷ outer) ∷ xs)
       (append_assoc (extensions t a f pairs days order (level ∷ x ∷ outer) 0) (extensions t a f pairs days order (x ∷ outer) level.next) (pending t a f pairs days order outer x.next))
-
-  pub pending_wider : (path : List Level) (top : Level) (from : ℕ) → top_of path ≡ Some top → extensions t a f pairs days order path from ≡ []
-      → pending t a f pairs days order path from ≡ pending t a f pairs days order (tail_of path) top.next
-  pending_wider [] top from is none = absurd (none_some is)
-  pending_wider (x ∷ outer) top from is none =
-      ap (λ xs. xs ++ pending t a f pairs days order outer x.next) none ∙ ap (λ y. pending t a f pairs days order outer y.next) (some_is x top is)
-
-  pub pending_none : (path : List Level) (from : ℕ) → top_of path ≡ None → pending t a f pairs days order path from ≡ []
-  pending_none [] from is = refl
-  pending_none (x ∷ outer) from is = absurd (none_some (sym is))
 
   -- the first leg of the order begins all
   pub preorder_first : (level : Level) → 0 < length order → fleet_at a level.leg ≡ f → level.leg ≡ slice_index order 0

@@ -1,10 +1,9 @@
 -- A kept tour has a leg with a night before it, and begins as it is to from the least of these.
-use Rattle.std.proofs.Common.{◌≡◌, ℕ, suc, ◌+◌, ◌-◌, ◌%◌, ◌<◌, ◌≤◌, Option, Some, None, List, length, slice_index, refl, sym, ◌∙◌, ap, subst, inl, inr, arith, add_comm}
+use Rattle.std.proofs.Common.{◌≡◌, ℕ, suc, ◌+◌, ◌-◌, ◌%◌, ◌<◌, ◌≤◌, None, List, length, slice_index, refl, sym, ◌∙◌, ap, subst, inl, inr, arith, add_comm}
 use Rattle.std.proofs.Math.Nat.{add-mod_right, add_right_comm, mod-add-mod, mod-eq_of_lt}
 use Rattle.std.proofs.lemmas.Bool.{cases_lt}
 use Rattle.std.proofs.lemmas.Nat.{mod_below}
 use Rattle.sums.proofs.Sums.{sum_below-agree, sum_below-zero}
-use Rattle.sums.proofs.Naturals.{last_below, none_is_some}
 use Rattle.fleet_model.specs.declared.tables.Tables.{Tables}
 use Rattle.ground_turns.specs.Maps.{turn_after, turn_at, turns_round}
 use Rattle.ground_turns.specs.Nights.{nights_of_tour}
@@ -48,37 +47,6 @@ module _ (t : Tables) (f : ℕ) (tour : List ℕ) where
 
     pub no_place : 0 < length (nights_of_tour t f tour) → ⊥
     no_place some = omega (arith, no_nights, some)
-
-  -- ---- the lesser of two
-  pub kept_least : (n : ℕ) (least : Option ℕ) → LeastOrNone t f tour n least → nights_before t f tour n ≡ 0 → LeastOrNone t f tour (n + 1) least
-  kept_least n None none here = λ k lt some. elim (cases_lt k n) [ inl low ↦ none k low some | inr high ↦ none_is_some (ap (nights_before t f tour) (last_below k n lt high) ∙ here) some ]
-  kept_least n (Some place) is here = record { within = omega (arith, is.within); night = is.night; least = least }
-    where
-      least : (k : ℕ) → k < n + 1 → 0 < nights_before t f tour k → slice_index tour place ≤ slice_index tour k
-      least k lt some = elim (cases_lt k n) [ inl low ↦ is.least k low some | inr high ↦ absurd (none_is_some (ap (nights_before t f tour) (last_below k n lt high) ∙ here) some) ]
-  pub still_least : (n place : ℕ) → IsLeastPlace t f tour n place → slice_index tour place ≤ slice_index tour n → IsLeastPlace t f tour (n + 1) place
-  still_least n place is lesser = record { within = omega (arith, is.within); night = is.night; least = least }
-    where
-      least : (k : ℕ) → k < n + 1 → 0 < nights_before t f tour k → slice_index tour place ≤ slice_index tour k
-      least k lt some = elim (cases_lt k n) [ inl low ↦ is.least k low some | inr high ↦ subst (λ (j : ℕ). slice_index tour place ≤ slice_index tour j) (same k n lt high) lesser ]
-        where
-          same : (k n : ℕ) → k < n + 1 → n ≤ k → n ≡ k
-          same k n lt le = omega arith
-
-  pub new_least : (n : ℕ) (least : Option ℕ) → LeastOrNone t f tour n least → 0 < nights_before t f tour n → ((place : ℕ) → least ≡ Some place → slice_index tour n ≤ slice_index tour place)
-      → IsLeastPlace t f tour (n + 1) n
-  new_least n least is night lesser = record { within = omega arith; night = night; least = each least is lesser }
-    where
-      each : (least : Option ℕ) → LeastOrNone t f tour n least → ((place : ℕ) → least ≡ Some place → slice_index tour n ≤ slice_index tour place)
-          → (k : ℕ) → k < n + 1 → 0 < nights_before t f tour k → slice_index tour n ≤ slice_index tour k
-      each None none lesser k lt some = elim (cases_lt k n) [ inl low ↦ absurd (none k low some) | inr high ↦ subst (λ (j : ℕ). slice_index tour n ≤ slice_index tour j) (same k n lt high) (omega arith) ]
-        where
-          same : (k n : ℕ) → k < n + 1 → n ≤ k → n ≡ k
-          same k n lt le = omega arith
-      each (Some place) is lesser k lt some = elim (cases_lt k n) [ inl low ↦ omega (arith, is.least k low some, lesser place refl) | inr high ↦ subst (λ (j : ℕ). slice_index tour n ≤ slice_index tour j) (same k n lt high) (omega arith) ]
-        where
-          same : (k n : ℕ) → k < n + 1 → n ≤ k → n ≡ k
-          same k n lt le = omega arith
 
   -- ---- the tour from there
   module _ (r : ℕ) (is : IsLeastPlace t f tour (length tour) r) where

@@ -39,18 +39,6 @@ module _ (used : List Bool) (legs : List ℕ) (l : ℕ) (within : l < length use
           as_before : (b : Bool) (l k : ℕ) → l ≢ k → (b || (l == k)) ≡ b
           as_before b l k differ = grind (arith, nat_tests)
 
-  pub marks_left : has_leg legs l ≡ false → ((k : ℕ) → k < length used → get_or used k false ≡ has_leg (legs ++ l ∷ []) k) → (k : ℕ) → k < length used → get_or (set used l false) k false ≡ has_leg legs k
-  marks_left new marks k lt = same_or_not l k here there
-    where
-      here : l ≡ k → get_or (set used l false) k false ≡ has_leg legs k
-      here e = ap (λ j. get_or (set used l false) j false) (sym e) ∙ get_or-set_same used l false false within ∙ sym new ∙ ap (has_leg legs) e
-
-      there : l ≢ k → get_or (set used l false) k false ≡ has_leg legs k
-      there differ = get_or-set_other used l k false false (λ e. differ (sym e)) ∙ marks k lt ∙ has_more legs l k ∙ as_before (has_leg legs k) l k differ
-        where
-          as_before : (b : Bool) (l k : ℕ) → l ≢ k → (b || (l == k)) ≡ b
-          as_before b l k differ = grind (arith, nat_tests)
-
 -- ---- the legs of levels that lie the first one first
 
 unfoldable pub legs_in_order : List Level → List ℕ

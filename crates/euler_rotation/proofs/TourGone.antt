@@ -30,9 +30,6 @@ pub record GoneTo (t : Tables) (days before f : ℕ) (legs : List ℕ) (k since 
   pub since_is : nights_since t before (nights_of_tour t f legs) ≡ nights_since t since (rest_of t f legs k)
   pub few : since < days
 
-pub gone_none : (t : Tables) (days before f : ℕ) (legs : List ℕ) → before < days → GoneTo t days before f legs 0 before
-gone_none t days before f legs few = record { below = refl; since_is = refl; few = few }
-
 module _ (t : Tables) (days before f : ℕ) (legs : List ℕ) (k since : ℕ) (gone : GoneTo t days before f legs k since) where
   pub gone_more : (more : ℕ) → k < length legs → StayBelow t days since (nights_in_turn t f (turn_after legs k)) more → GoneTo t days before f legs (k + 1) more
   gone_more more lt stays = record {

@@ -34,9 +34,6 @@ head_is xs n x ys e =
     tails x y xs ys e = cc
 
 module _ (field : Field) where
-  pub visited_none : (walk : Walk) → StandsAt field (preorder_in field) walk → HasVisited field 0 walk
-  visited_none walk at = record { walk = at.walk; rest = at.first; none = record { each = λ k lt kept. absurd (omega arith) } }
-
   module _ (n : ℕ) (walk : Walk) (visited : HasVisited field n walk) (ends : is_kept_in field (legs_of walk.path) → ⊥) where
     here : (n < length (preorder_in field)) × (entry_of (preorder_in field) n ≡ legs_of walk.path) × (drop (n + 1) (preorder_in field) ≡ pending_in field walk.path 0)
     here = head_is (preorder_in field) n (legs_of walk.path) (pending_in field walk.path 0) visited.rest

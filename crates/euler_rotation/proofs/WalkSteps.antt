@@ -19,8 +19,8 @@ use Rattle.euler_rotation.specs.Often.{GoesOn, stays_below}
 use Rattle.euler_rotation.specs.Prefixes.{has_leg, may_turn, nights_along, turn_to}
 use Rattle.euler_rotation.specs.Walks.{AreLevels, GoesDeeper, IsField, IsLevel, IsNext, IsOpening, IsWalk, Opens, OpensFirst, OpensOrNot, StandsAt, followers_from, legs_of, opens_in, pending_in, preorder_in, tail_of, top_of}
 use Rattle.euler_rotation.proofs.Along.{goes_on}
-use Rattle.euler_rotation.proofs.Extending.{first_extends, none_open, pending_deeper, pending_none, pending_wider, preorder_first}
-use Rattle.euler_rotation.proofs.Marks.{marks_entered, marks_left}
+use Rattle.euler_rotation.proofs.Extending.{first_extends, none_open, pending_deeper, preorder_first}
+use Rattle.euler_rotation.proofs.Marks.{marks_entered}
 use Rattle.euler_rotation.proofs.TourTurns.{own_leg}
 
 -- ---- the last level of a path
@@ -29,17 +29,9 @@ module _ (t : Tables) (a : List ℕ) (f days : ℕ) where
   top_level [] top levels is = absurd (none_some is)
   top_level (x ∷ outer) top levels is = subst (IsLevel t a f days (legs_of outer)) (some_is x top is) levels.0
 
-  tail_levels : (path : List Level) → AreLevels t a f days path → AreLevels t a f days (tail_of path)
-  tail_levels [] levels = tt
-  tail_levels (x ∷ outer) levels = levels.1
-
 top_legs : (path : List Level) (top : Level) → top_of path ≡ Some top → legs_of path ≡ legs_of (tail_of path) ++ top.leg ∷ []
 top_legs [] top is = absurd (none_some is)
 top_legs (x ∷ outer) top is = ap (λ y. legs_of outer ++ y.leg ∷ []) (some_is x top is)
-
-pub tail_less : (path : List Level) (top : Level) → top_of path ≡ Some top → length (tail_of path) < length path
-tail_less [] top is = absurd (none_some is)
-tail_less (x ∷ outer) top is = omega arith
 
 module _ (field : Field) where
   abbrev t : Tables
@@ -109,10 +101,6 @@ module _ (field : Field) where
         below = stays;
       }
 
-  pub not_opened : (walk : Walk) (leg : ℕ) → IsWalk field walk → leg < legs_in t → slice_index_or walk.used.items leg false ≡ true → opens_in field walk.path leg ≡ false
-  not_opened walk leg is_walk lt used =
-      ap (λ b. not b && stays_below t days 0 (nights_along t f (legs_of walk.path ++ leg ∷ []))) (sym (is_walk.marks leg lt) ∙ used)
-
   -- ---- the first that may
   module _ (is_field : IsField field) (path : List Level) (top : Level) (place : ℕ) (low : place < length (followers_of t a f pairs order top.leg)) where
     here : followers_from field top place ≡ slice_index (followers_of t a f pairs order top.leg) place ∷ followers_from field top (place + 1)
@@ -172,31 +160,8 @@ module _ (field : Field) where
     first = same ∙ pending_deeper t a f pairs days order old.path top level from is deeper.first ∙ ap (λ p. legs_of p ∷ pending_in field p 0) (sym path);
   }
 
-  pub left_behind : (old new : Walk) (top : Level) → IsWalk field old → top_of old.path ≡ Some top → new.path ≡ tail_of old.path → new.used.items ≡ set old.used.items top.leg false → IsWalk field new
-  left_behind old new top is_walk is path used = record {
-    levels = subst (AreLevels t a f days) (sym path) (tail_levels t a f days old.path is_walk.levels);
-    each_leg = ap length used ∙ length-set old.used.items top.leg false ∙ is_walk.each_leg;
-    marks = λ l lt. ap (λ items. slice_index_or items l false) used
-        ∙ marks_left old.used.items (legs_of (tail_of old.path)) top.leg (omega (arith, is_walk.each_leg, level.known)) level.new
-        (λ k low. is_walk.marks k (omega (arith, low, is_walk.each_leg)) ∙ ap (λ legs. has_leg legs k) (top_legs old.path top is)) l (omega (arith, lt, is_walk.each_leg))
-        ∙ ap (λ p. has_leg (legs_of p) l) (sym path);
-  }
-    where
-      level : IsLevel t a f days (legs_of (tail_of old.path)) top
-      level = top_level t a f days old.path top is_walk.levels is
-
   pub top_known : (walk : Walk) (top : Level) → IsWalk field walk → top_of walk.path ≡ Some top → top.leg < legs_in t
   top_known walk top is_walk is = (top_level t a f days walk.path top is_walk.levels is).known
-
-  pub top_few : (walk : Walk) (top : Level) → IsWalk field walk → top_of walk.path ≡ Some top → top.since < days
-  top_few walk top is_walk is = (top_level t a f days walk.path top is_walk.levels is).few
-
-  pub still_pending : (path : List Level) (top : Level) (from : ℕ) (next : Option Level) → top_of path ≡ Some top → next ≡ None → IsNext field path from next → pending_in field path from ≡ pending_in field (tail_of path) top.next
-  still_pending path top from None is none next = pending_wider t a f pairs days order path top from is next
-  still_pending path top from (Some level) is none next = absurd (none_some (sym none))
-
-  pub all_visited : (path : List Level) (from : ℕ) → top_of path ≡ None → pending_in field path from ≡ []
-  all_visited path from is = pending_none t a f pairs days order path from is
 
   -- ---- the first prefix
   pub begun : (walk : Walk) (level : Level) (none : List Bool) → IsField field → length none ≡ legs_in t → ((k : ℕ) → k < legs_in t → slice_index_or none k false ≡ false)

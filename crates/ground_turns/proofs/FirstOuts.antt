@@ -51,10 +51,6 @@ and_le true true d h = let e = h refl refl in grind arith
 and_le true false d h = omega arith
 and_le false c d h = omega arith
 
-departed_part : (w b c r : Bool) → bit w * bit ((b && c) && r) ≡ bit (((w && b) && c) && r)
-departed_part true b c r = omega arith
-departed_part false b c r = omega arith
-
 module _ (t : Tables) (a : List ℕ) (f : ℕ) (given turns : List Connection) (map : IsSuccessorMap t a f turns) (holds : Holds turns given) where
   abbrev pub crossings : ℕ → ℕ
   crossings = free_crossings t a f given turns map holds

@@ -27,9 +27,6 @@ partitioned idles s m rise i j d order within by = elim (cases_lt i j) [
   | inr after ↦ let same : i ≡ j = omega arith in subst (λ k. comes_before (slice_index_or idles k d) s m ≡ true) (sym same) by
 ]
 
-itself_after : (s m : ℕ) → (nat_lt s s || ((s == s) && nat_lt m m)) ≡ false
-itself_after s m = grind (arith, nat_tests)
-
 -- an entry of the station that isn't before the minute is no earlier
 no_earlier_there : (r s n m : ℕ) → r ≡ s → (nat_lt r s || ((r == s) && nat_lt n m)) ≡ false → m ≤ n
 no_earlier_there r s n m same fails = grind (arith, nat_tests)

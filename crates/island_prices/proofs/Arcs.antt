@@ -32,8 +32,6 @@ use Rattle.island_prices.specs.Rises.{AreRises, IsShift, is_of, rise_in, shift_a
 use Rattle.island_prices.specs.declared.rises.Rise.{Rise}
 use Rattle.island_prices.specs.declared.rises.Shift.TheVariants.{Lowered, Raised}
 
--- ---- sums
-
 -- ---- a departure among the events is that of a kept pair
 pub record IsKeptDeparture (t : Tables) (keeps : Domains) (f s : ℕ) (e : Event) : Type 0 where
   pub leg : ℕ

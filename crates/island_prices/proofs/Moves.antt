@@ -70,10 +70,6 @@ next_period = record {
   lowered = λ a in_period. lowered_over a last_minute in_period;
 }
 
-from_shift : (shift : Shift) (moment : ℕ) → IsShift shift moment → end_of shift ≤ last_minute
-from_shift (Raised last) moment is = omega (arith, is.1)
-from_shift Lowered moment is = omega arith
-
 one_shift : (m n : ℕ) → IsNext m n → (shift : Shift) (moment : ℕ) (amount : ℤ) → IsShift shift moment → moment ≤ last_minute
     → shifted shift moment amount n +ℤ cond (end_of shift == m) amount (pos 0) ≡ shifted shift moment amount m +ℤ cond (moment == m) amount (pos 0)
 one_shift m n next (Raised last) moment amount is within =
@@ -108,8 +104,6 @@ module _ (t : Tables) (rises : List Rise) (are : AreRises t rises) (f s : ℕ) w
       ∙ sum_below_ℤ-+ℤ (shift_at rises f s m) (went_at rises f s m) (length rises)
 
 -- ---- one rise of a fleet at a station goes to a moment at most
-abbrev AtMostOne : (ℕ → ℤ) → ℕ → Type 0
-AtMostOne f n = (i j : ℕ) → i < j → j < n → (f i ≡ pos 0 → ⊥) → f j ≡ pos 0
 
 pub greatest_some : (g : ℕ → ℤ) (n : ℕ) → pos 0 ≤ℤ greatest_below g n
 greatest_some g zero = omega (arith, ints)

@@ -33,8 +33,6 @@ other_value : (price : ℕ → ℤ) (m : ℕ) → is_step price (suc m) ≡ true
 unfolding is_step
 other_value price m e same = no_both (not_true (int_eq (price (suc m)) (price m)) e) ((Decides-int_eq (price (suc m)) (price m)).1 same)
 
--- ---- a step behind another
-
 -- ---- what may stand behind
 -- .. a step
 pub record MayCome (b : PriceStep) (rest : List PriceStep) : Type 0 where
@@ -99,9 +97,6 @@ module _ (price : ℕ → ℤ) (f s : ℕ) where
       })))
 
   module _ (some : is_step price 0 ≡ true) where
-    step_first : PriceStep
-    step_first = step_at price f s 0
-
     first_last : IsLastBy 0 (step_at price f s 0)
     first_last = record {
       fleet = refl;

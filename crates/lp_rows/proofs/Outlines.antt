@@ -9,7 +9,7 @@ use Rattle.sums.proofs.Places.{length-list_below}
 use Rattle.fleet_model.specs.declared.limits.TheConstants.{MINUTES_PER_PERIOD}
 use Rattle.fleet_model.specs.declared.tables.Tables.{Tables}
 use Rattle.fleet_model.specs.Kept.{Domains}
-use Rattle.fleet_model.specs.Schedule.{fleets_in, leg_on, legs_in, stations_in}
+use Rattle.fleet_model.specs.Schedule.{fleets_in, legs_in, stations_in}
 use Rattle.row_store.specs.declared.problem.Rows.{Rows}
 use Rattle.lp_rows.specs.declared.kinds.Column.TheVariants.{Flight, Ground, Slack}
 use Rattle.lp_rows.specs.declared.kinds.Line.TheVariants.{Cover, Balance, Count}
@@ -17,7 +17,7 @@ use Rattle.lp_rows.specs.declared.kinds.Node.{Node}
 use Rattle.lp_rows.specs.declared.outline.Outline.{Outline}
 use Rattle.lp_rows.specs.Entries.{IsColumn, IsLine, column_cost}
 use Rattle.lp_rows.specs.Layout.{Starts, all_arcs, all_kept, all_nodes, arc_stays, columns_of, lines_of, moment_at, node_at, starts_in}
-use Rattle.lp_rows.specs.Outline.{IsOutline, StandsAt, arc_in, balance_line, column_count, columns_in, count_line, ground_column, line_count, lines_in, node_in, pair_in, slack_column}
+use Rattle.lp_rows.specs.Outline.{IsOutline, StandsAt, arc_in, balance_line, column_count, columns_in, count_line, ground_column, line_count, lines_in, node_in, slack_column}
 use Rattle.lp_rows.specs.Staying.{AreStaying, passing_below, stays_at}
 use Rattle.lp_rows.specs.Program.{AreOutlinedRows, AreRows, numbers_of}
 use Rattle.lp_rows.proofs.ListPlaces.{in_first, in_list_below, in_map, in_second, in_third}
@@ -26,8 +26,6 @@ use Rattle.lp_rows.proofs.Totals.{columns_are_known, few_lines, few_parts, lines
 
 module _ (o : Outline) where
   -- ---- columns
-  pub flight_stands : (number : ℕ) → number < length o.pairs → StandsAt (columns_in o) number (Flight (pair_in o number))
-  flight_stands number below = in_first (map Flight o.pairs) (map (arc_in o) o.arcs) (list_below Slack o.fleets) _ number (in_map Flight o.pairs (leg_on 0 0) number below)
 
   pub ground_stands : (number k place : ℕ) → place ≡ length o.pairs + k → k < length o.arcs → get_or o.arcs k 0 ≡ number → StandsAt (columns_in o) place (arc_in o number)
   ground_stands number k place is below there =

@@ -180,14 +180,6 @@ module _ (p : ℕ → Bool) where
     | inr past ↦ let same = get_or_past (passing_below p n) place n past in omega (arith, same)
   ]
 
-  pub one_later : (n place : ℕ) → place < length (passing_below p n) → from_place n place + 1 ≤ from_place n (place + 1)
-  one_later n place within =
-      let here = placed n place within in
-      elim (cases_lt (place + 1) (length (passing_below p n))) [
-        | inl more ↦ let rise = rises n place (place + 1) (omega arith) more in omega (arith, at_place n place within, at_place n (place + 1) more, rise)
-        | inr last ↦ let end = get_or_past (passing_below p n) (place + 1) n last in omega (arith, at_place n place within, here.below, end)
-      ]
-
   -- none passes between two that follow one another
   pub none_between : (n place k : ℕ) → place ≤ count_below p k → k < from_place n place → p k ≡ false
   none_between n place k order before = by_test (p k) (λ passes. absurd (too_late passes)) (λ fails. fails)

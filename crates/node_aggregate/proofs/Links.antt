@@ -26,9 +26,6 @@ pub record AreLinked (events : List Event) (starts : List ℕ) (start : ℕ) : T
   pub next : (k : ℕ) → k + 1 < length starts → IsNextStart events (get_or starts k 0) (get_or starts (k + 1) 0)
   pub is_last : start ≡ get_or starts (length starts - 1) 0
 
-pub one_start : (events : List Event) → AreLinked events ([] ++ 0 ∷ []) 0
-one_start events = record { some = omega arith; first = refl; next = λ k within. absurd (omega arith); is_last = refl }
-
 pub link_more : (events : List Event) (starts grown : List ℕ) (start next : ℕ) → grown ≡ starts ++ next ∷ [] → AreLinked events starts start → IsNextStart events start next → AreLinked events grown next
 link_more events starts grown start next e links after = rw e (record {
   some = omega (arith, length_push starts next);

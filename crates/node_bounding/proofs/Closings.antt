@@ -1,11 +1,11 @@
 -- A tree whose open leaves are closed by their prices where these reach the cost of the plan.
-use Rattle.std.proofs.Common.{◌≡◌, ◌≢◌, ℕ, ◌≤◌, Bool, true, false, if◌then◌else◌, List, [], ◌∷◌, All, Some, IfSome, ℤ, inl, inr, refl, ap, subst, arith}
+use Rattle.std.proofs.Common.{◌≡◌, ◌≢◌, ℕ, Bool, true, false, if◌then◌else◌, List, [], ◌∷◌, All, Some, IfSome, ℤ, inl, inr, refl, ap, subst, arith}
 use Rattle.std.specs.List.{Any}
 use Rattle.std.proofs.lemmas.List.Elements.{All-head, All-tail}
 use Rattle.fleet_model.specs.Kept.{Domains, all_pairs}
 use Rattle.fleet_model.specs.declared.tables.Tables.{Tables}
 use Rattle.dual_bound.specs.Bound.{part}
-use Rattle.dual_bound.specs.Leaves.{by_nodes, depth_of, open_nodes, splits_in}
+use Rattle.dual_bound.specs.Leaves.{depth_of, splits_in}
 use Rattle.dual_bound.specs.OfTables.{IsOfTables}
 use Rattle.dual_bound.specs.Prices.{ArePrices}
 use Rattle.dual_bound.specs.Nodes.{nodes_of as tree_nodes}
@@ -90,17 +90,6 @@ module _ (t : Tables) (cost : ℤ) where
       omega (arith, closed_splits (part keeps leg fleet true) with_pair, closed_splits (part keeps leg fleet false) without)
   closed_splits keeps (tree.Split' leg fleet prices mixed p with_pair q without) =
       omega (arith, closed_splits (part keeps leg fleet true) with_pair, closed_splits (part keeps leg fleet false) without)
-
-  pub closed_open : (keeps : Domains) (whole : Tree) → open_nodes (closed t cost keeps whole) ≤ open_nodes whole
-  closed_open keeps (tree.Bare leg) = omega arith
-  closed_open keeps tree.Sole = omega arith
-  closed_open keeps (tree.Refuted prices) = omega arith
-  closed_open keeps (tree.Priced prices) = omega arith
-  closed_open keeps (tree.Open prices why) = by_reach (λ x. open_nodes x ≤ by_nodes why) keeps prices why (λ e. omega arith) (λ e. omega arith)
-  closed_open keeps (tree.Trim' leg fleet p with_pair q without) =
-      omega (arith, closed_open (part keeps leg fleet true) with_pair, closed_open (part keeps leg fleet false) without)
-  closed_open keeps (tree.Split' leg fleet prices mixed p with_pair q without) =
-      omega (arith, closed_open (part keeps leg fleet true) with_pair, closed_open (part keeps leg fleet false) without)
 
   pub closed_searched : (keeps : Domains) (whole : Tree) → AreSearched t keeps whole → AreSearched t keeps (closed t cost keeps whole)
   closed_searched keeps (tree.Bare leg) is = is

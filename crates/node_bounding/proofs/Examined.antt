@@ -2,7 +2,7 @@
 use Rattle.std.proofs.Common.{◌≡◌, ℕ, List, Option, Some, None, IfSome, IsSomeAnd, ℤ, ◌≤ℤ◌, ◌<ℤ◌, inl, inr, ◌⊎◌, refl, sym, ◌∙◌, ap, subst, arith}
 use Rattle.std.proofs.lemmas.Int.{ints}
 use Rattle.frac_row.specs.Ratio.{IsCeiling}
-use Rattle.fleet_model.specs.Kept.{Domains, IsFirstBare, IsKeptAssignment}
+use Rattle.fleet_model.specs.Kept.{Domains, IsKeptAssignment}
 use Rattle.fleet_model.specs.Legal.{IsLegal, total_cost}
 use Rattle.fleet_model.specs.Whole.{KeepAllowed}
 use Rattle.fleet_model.specs.declared.tables.Tables.{Tables}
@@ -35,7 +35,7 @@ use Rattle.node_bounding.specs.declared.plans.Plan.{Plan}
 use Rattle.node_bounding.specs.declared.states.Fraction.{Fraction}
 use Rattle.node_bounding.specs.declared.states.State.{State}
 use Rattle.node_bounding.specs.declared.states.State.TheVariants as state
-use Rattle.node_bounding.proofs.Leaves.{answers_none, bare_sound, open_sound, priced_sound, refuted_sound, sole_sound}
+use Rattle.node_bounding.proofs.Leaves.{answers_none, open_sound, priced_sound, refuted_sound, sole_sound}
 use Rattle.node_bounding.proofs.Nodes.{all_one}
 use Rattle.node_bounding.proofs.Orders.{lesser_no_more, no_more_on, reaches_less, reaches_on}
 use Rattle.node_bounding.proofs.Parts.{leaf_part}
@@ -55,11 +55,6 @@ module _ (t : Tables) (pivots : ℕ) (best : Option Plan) (plan : IfSome best (I
     right = λ final less. (part final less, searched);
     place = inl refl;
   }
-
-  pub bare_leaf : (leg : ℕ) → IsFirstBare t keeps leg → IsExamined t pivots best best keeps above (state.Leaf (tree.Bare leg))
-  bare_leaf leg first = at_leaf (tree.Bare leg) tt refl tt
-      (λ final less. leaf_part t pivots final keeps above (tree.Bare leg) refl refl first.bare.within (all_one (IsNodeInOrder t) (ordered.Bare leg) first.bare.within)
-      (bare_sound t final keeps leg first.bare) (answers_none t final keeps (tree.Bare leg) (λ e. cc)) first)
 
   pub refuted_leaf : (prices : Prices) → IsSearched t keeps → AreRefuting t keeps prices → IsExamined t pivots best best keeps above (state.Leaf (tree.Refuted prices))
   refuted_leaf prices searched refuting = at_leaf (tree.Refuted prices) tt refl searched

@@ -1,7 +1,7 @@
 -- Leaves and splits whose own node keeps all rules, whatever plan comes in the end.
 use Rattle.std.proofs.Common.{Box, Global, ◌≡◌, ◌≢◌, ℕ, Option, IfSome, IsSomeAnd, ℤ, pos, ◌<ℤ◌, inl, inr, arith}
 use Rattle.std.proofs.lemmas.Int.{ints}
-use Rattle.fleet_model.specs.Kept.{Domains, IsBare, IsSole}
+use Rattle.fleet_model.specs.Kept.{Domains, IsSole}
 use Rattle.fleet_model.specs.declared.tables.Tables.{Tables}
 use Rattle.dual_bound.specs.Prices.{ArePrices}
 use Rattle.dual_bound.specs.Worth.{worth_of}
@@ -27,21 +27,6 @@ answers_none t cost keeps whole other = record { answers = λ e. absurd (other e
 
 -- ---- leaves
 module _ (t : Tables) (cost : Option ℤ) (keeps : Domains) where
-  pub bare_sound : (leg : ℕ) → IsBare t keeps leg → IsSound t cost (node keeps (tree.Bare leg))
-  bare_sound leg bare = record { each = each }
-    where
-      each : (r : Rule) → Keeps t cost (node keeps (tree.Bare leg)) r
-      each rule.Scale = tt
-      each rule.Limits = tt
-      each rule.Fall = tt
-      each rule.Rent = tt
-      each rule.Pairs = bare
-      each rule.Refuted = tt
-      each rule.Priced = tt
-      each rule.Parts = tt
-      each rule.Mixed = tt
-      each rule.Fraction = tt
-
   pub sole_sound : IsSole t keeps → IsSound t cost (node keeps tree.Sole)
   sole_sound sole = record { each = each }
     where

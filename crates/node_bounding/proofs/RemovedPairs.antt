@@ -1,5 +1,5 @@
 -- The tree of all pairs, from that of the pairs which presolve keeps; and prices of 0.
-use Rattle.std.proofs.Common.{◌≡◌, ℕ, ◌+◌, ◌<◌, false, List, [], ◌∷◌, ◌++◌, All, Option, ℤ, pos, refl, sym, ap, ◌∙◌, subst, append_assoc, arith}
+use Rattle.std.proofs.Common.{◌≡◌, ℕ, ◌+◌, ◌<◌, false, List, [], ◌∷◌, All, Option, ℤ, pos, refl, sym, ap, ◌∙◌, subst, arith}
 use Rattle.std.proofs.lemmas.Int.{ints}
 use Rattle.std.proofs.lemmas.List.Elements.{All-cons, All-nil}
 use Rattle.sums.proofs.Places.{get_or-list_below, length-list_below}
@@ -19,7 +19,7 @@ use Rattle.presolve.specs.declared.trims.Trim.{Trim as Removal}
 use Rattle.node_bounding.specs.Causes.{zero_prices}
 use Rattle.node_bounding.specs.Relaxed.{AreGood}
 use Rattle.node_bounding.specs.Subproblems.{IsPart}
-use Rattle.node_bounding.specs.Trims.{AreBelow, AreOnTop, AreSearched, IsBelow, IsWithin}
+use Rattle.node_bounding.specs.Trims.{AreBelow, AreOnTop, AreSearched, IsWithin}
 use Rattle.node_bounding.proofs.Parts.{trim_part}
 use Rattle.node_bounding.proofs.Allowed.{allowed_part}
 
@@ -57,12 +57,6 @@ on_top t keeps [] rest whole same searched = subst (AreSearched t keeps) (sym sa
 on_top t keeps (removal ∷ removals) rest whole (inner, below, is) searched =
     subst (AreOnTop t keeps (removal ∷ removals)) (sym is.is)
     (refl, refl, is.yes_is, subst (AreOnTop t (without keeps removal) removals) (sym is.no_is) (on_top t (without keeps removal) removals rest inner below searched))
-
--- one removal more was taken from the end of those that wait
-pub taken_more : (all waiting rest taken : List Removal) (removal : Removal) (tree inner whole : Tree) → all ≡ waiting ++ taken → waiting ≡ rest ++ removal ∷ [] → AreBelow taken tree inner → IsBelow removal inner whole
-    → (more : List Removal) × (all ≡ rest ++ more) × AreBelow more tree whole
-taken_more all waiting rest taken removal tree inner whole all_is waiting_is below is =
-    (removal ∷ taken, all_is ∙ subst (λ w. w ++ taken ≡ rest ++ removal ∷ taken) (sym waiting_is) (append_assoc rest (removal ∷ []) taken), (inner, below, is))
 
 -- ---- prices of 0
 zero_rent : (t : Tables) (f : ℕ) → f < fleets_in t → rent_of (zero_prices t) f ≡ pos 0

@@ -1,7 +1,7 @@
 -- What the second run over the lines of a subproblem, and the lift of its last table, settle.
 use Rattle.std.proofs.Common.{◌≡◌, ℕ, List, Option, Some, None, Result, Ok, Err, IfOk, IfErr, IsSomeAnd, refl, sym, subst}
 use mathlib.Core.Bool.{false≢true}
-use Rattle.std.specs.Prelude.{IsErr, IsSome}
+use Rattle.std.specs.Prelude.{IsErr}
 use Rattle.entries.specs.declared.memory.NoMemory.{NoMemory}
 use Rattle.frac_row.specs.declared.row.FracRow.{FracRow}
 use Rattle.fleet_model.specs.Kept.{Domains, IsBare}
@@ -18,7 +18,6 @@ use Rattle.dual_bound.specs.WrittenOrder.{IsMixedInOrder}
 use Rattle.dual_bound.specs.declared.mixed.Mixed.{Mixed}
 use Rattle.dual_bound.specs.declared.prices.Prices.{Prices}
 use Rattle.price_lift.specs.PaidBack.{IsLiftErrorBy}
-use Rattle.dual_lift.specs.declared.error.Excess.{Excess}
 use Rattle.dual_lift.specs.declared.error.LiftError.{LiftError}
 use Rattle.dual_lift.specs.declared.error.LiftError.TheVariants as lift
 use Rattle.price_lift.specs.Duals.{row_duals, sign_duals}
@@ -26,7 +25,7 @@ use Rattle.price_lift.specs.Ends.{EndsByRow, EndsBySigns}
 use Rattle.price_lift.specs.Lifted.{AreLiftedPrices, IsLiftedPoint, IsLiftedRefusal}
 use Rattle.price_lift.specs.TooLarge.{row_excess, sign_excess}
 use Rattle.price_lift.specs.declared.lift.Lifted.{Lifted}
-use Rattle.node_bounding.specs.Relaxed.{AreGood, IsRelaxed}
+use Rattle.node_bounding.specs.Relaxed.{AreGood}
 use Rattle.node_bounding.specs.SecondRun.{IsTried, IsTriedAtBest, IsTriedAtRefusal, SecondEnds, SettlesNothing}
 use Rattle.node_bounding.specs.declared.relaxing.Relaxed.{Relaxed}
 use Rattle.node_bounding.specs.declared.relaxing.Relaxed.TheVariants as relaxed
@@ -41,15 +40,6 @@ second_ends t keeps steps rows first table found lines problem is ends = record 
   lines = lines;
   ends = subst (λ f. IsOutcome f rows.columns steps table found) is ends;
 }
-
--- what is settled, settles the relaxation, whatever number of pivots is allowed
-pub settled_relaxes : (t : Tables) (keeps : Domains) (steps : ℕ) (found : Option Relaxed) (settled : Relaxed) → IsTried t keeps steps found → found ≡ Some settled → IsRelaxed t keeps steps settled
-settled_relaxes t keeps steps found settled tried e = by_kind settled (subst (IsTried t keeps steps) e tried)
-  where
-    by_kind : (settled : Relaxed) → IsTried t keeps steps (Some settled) → IsRelaxed t keeps steps settled
-    by_kind (relaxed.Refuted prices) is = is
-    by_kind (relaxed.Bounded prices mixed) is = is
-    by_kind (relaxed.Stopped why) is = absurd is
 
 good : (t : Tables) (keeps : Domains) (duals : FracRow) (prices : Prices) → AreLiftedPrices t keeps duals prices → AreGood t prices
 good t keeps duals prices is = record { proper = is.proper; known = is.of_tables; in_order = is.in_order }
@@ -107,7 +97,3 @@ module _ (t : Tables) (keeps : Domains) (steps : ℕ) (table : List FracRow) (fo
       → IfOk lifted (IsLiftedRefusal t keeps (row_duals t table row)) → IfErr lifted (IsLiftErrorBy t keeps (row_excess t keeps table row)) → IsTriedAtRefusal lifted r → IfOk r (IsTried t keeps steps)
   after_refusal lifted row basis made r e pairs is excess tried =
       refusal_tries t keeps steps table row basis made lifted r (subst (SecondEnds t keeps steps table) e has) pairs is excess tried
-
-  -- where the run gave up
-  pub gave_up : (r : Result (Option Relaxed) NoMemory) → SettlesNothing t keeps table found → r ≡ Ok None → IfOk r (IsTried t keeps steps)
-  gave_up r nothing is = unsettled t keeps steps table found r has nothing is

@@ -1,5 +1,5 @@
 -- Entries one behind another, each there or not: where each stands, and which stands at a place.
-use Rattle.std.proofs.Common.{◌≡◌, ℕ, zero, suc, ◌+◌, ◌-◌, ◌<◌, ◌≤◌, Bool, true, false, if◌then◌else◌, List, [], ◌∷◌, ◌++◌, length, get_or, refl, sym, ◌∙◌, ap, subst, inl, inr, length-append, arith}
+use Rattle.std.proofs.Common.{◌≡◌, ℕ, zero, suc, ◌+◌, ◌<◌, ◌≤◌, Bool, true, false, if◌then◌else◌, List, [], ◌∷◌, ◌++◌, length, get_or, refl, sym, ◌∙◌, ap, subst, inl, inr, length-append, arith}
 use Rattle.std.proofs.lemmas.Bool.{cases_lt}
 use Rattle.std.proofs.lemmas.List.{get_or_append_left}
 use Rattle.sums.proofs.Tests.{by_test}
@@ -24,13 +24,6 @@ module _ {X : Type 0} (there : ℕ → Bool) (entry : ℕ → X) where
 
   rank_there : (n : ℕ) → there n ≡ true → rank (suc n) ≡ rank n + 1
   rank_there n e = next_rank n ∙ ap (λ b. rank n + (if b then 1 else 0)) e
-
-  rank_rises : (n d : ℕ) → rank n ≤ rank (n + d)
-  rank_rises n zero = let same : n + 0 ≡ n = omega arith in subst (λ k. rank n ≤ rank k) (sym same) (omega arith)
-  rank_rises n (suc d) = let next : n + suc d ≡ suc (n + d) = omega arith in subst (λ k. rank n ≤ rank k) (sym next) (omega (arith, rank_rises n d, next_rank (n + d)))
-
-  pub rank_order : (m n : ℕ) → m ≤ n → rank m ≤ rank n
-  rank_order m n order = let same : m + (n - m) ≡ n = omega arith in subst (λ k. rank m ≤ rank k) same (rank_rises m (n - m))
 
   at_most : (b : Bool) → (if b then 1 else 0) ≤ 1
   at_most true = omega arith

@@ -1,5 +1,5 @@
 -- What paying back comes to, by its result.
-use Rattle.std.proofs.Common.{◌≡◌, ℕ, ◌<◌, List, [], ◌∷◌, length, None, refl, sym, ◌∙◌, ap, subst, arith}
+use Rattle.std.proofs.Common.{◌≡◌, ◌<◌, List, [], ◌∷◌, length, None, refl, sym, ap, subst, arith}
 use Rattle.fleet_model.specs.Kept.{Domains}
 use Rattle.fleet_model.specs.Schedule.{fleets_in}
 use Rattle.fleet_model.specs.declared.tables.Tables.{Tables}
@@ -36,9 +36,6 @@ module _ (t : Tables) (prices : Prices) where
   stay [] none = (refl, refl)
   stay (rise ∷ rises) none = absurd (omega (arith, none))
 
-  pub none_rise : (rises all : List Rise) → rises ≡ all → length rises ≡ 0 → (payback_excess t prices all ≡ None) × (prices ≡ paid_back t prices all)
-  none_rise rises all same none = stay all (sym (ap length same) ∙ none)
-
   abbrev Fits : List Rise → Type 0
   Fits all = first_beyond t (paid_rent prices (rounds_of t all (least_idle t))) (paid_price prices all (rounds_of t all (least_idle t))) (fleets_in t) ≡ None
 
@@ -46,23 +43,8 @@ module _ (t : Tables) (prices : Prices) where
   well [] paid some fits is = absurd (omega (arith, some))
   well (rise ∷ rises) paid some fits is = (ap beyond_excess fits, is)
 
-  pub some_rise : (rises all : List Rise) (least : List ℕ) (paid : Prices) → rises ≡ all → 0 < length rises → least ≡ least_idle t
-      → (first_beyond t (paid_rent prices (rounds_of t rises least)) (paid_price prices rises (rounds_of t rises least)) (fleets_in t) ≡ None) × (paid ≡ paid_prices t prices rises (rounds_of t rises least))
-      → (payback_excess t prices all ≡ None) × (paid ≡ paid_back t prices all)
-  some_rise rises all least paid same some taken facts =
-      let at = subst (λ xs. (first_beyond t (paid_rent prices (rounds_of t xs (least_idle t))) (paid_price prices xs (rounds_of t xs (least_idle t))) (fleets_in t) ≡ None) × (paid ≡ paid_prices t prices xs (rounds_of t xs (least_idle t)))) same
-      (subst (λ ms. (first_beyond t (paid_rent prices (rounds_of t rises ms)) (paid_price prices rises (rounds_of t rises ms)) (fleets_in t) ≡ None) × (paid ≡ paid_prices t prices rises (rounds_of t rises ms))) taken facts) in
-      well all paid (subst (λ xs. 0 < length xs) same some) at.0 at.1
-
   fails : (all : List Rise) (e : PaybackError) → 0 < length all → IsPaybackError (first_beyond t (paid_rent prices (rounds_of t all (least_idle t))) (paid_price prices all (rounds_of t all (least_idle t))) (fleets_in t)) e
       → IsLiftError (payback_excess t prices all) (lift_error e)
   fails [] e some is = absurd (omega (arith, some))
   fails (rise ∷ rises) (Beyond fleet) some is = ap beyond_excess is
   fails (rise ∷ rises) NoMemory some is = tt
-
-  pub some_fail : (rises all : List Rise) (least : List ℕ) (e : PaybackError) → rises ≡ all → 0 < length rises → least ≡ least_idle t
-      → IsPaybackError (first_beyond t (paid_rent prices (rounds_of t rises least)) (paid_price prices rises (rounds_of t rises least)) (fleets_in t)) e → IsLiftError (payback_excess t prices all) (lift_error e)
-  some_fail rises all least e same some taken is =
-      fails all e (subst (λ xs. 0 < length xs) same some)
-      (subst (λ xs. IsPaybackError (first_beyond t (paid_rent prices (rounds_of t xs (least_idle t))) (paid_price prices xs (rounds_of t xs (least_idle t))) (fleets_in t)) e) same
-      (subst (λ ms. IsPaybackError (first_beyond t (paid_rent prices (rounds_of t rises ms)) (paid_price prices rises (rounds_of t rises ms)) (fleets_in t)) e) taken is))

@@ -27,8 +27,6 @@ use Rattle.price_lift.proofs.Minutes.{Rise, later}
 use Rattle.price_lift.proofs.Orders.{Follow, MayFollow, follow_all, from_first, list_from}
 use Rattle.price_lift.proofs.StepPrices.{all_zero, no_later_step}
 
--- ---- tests
-
 -- ---- where there is a step
 
 -- some value is another than 0

@@ -41,9 +41,6 @@ pub record IsPut (old new : List FracRow) (all left : List Change) : Type 0 wher
   pub rows : (place : ℕ) → row_after new left place ≡ row_after old all place
   pub in_table : All (λ change. change.row < length old) left
 
-pub put_none : (table : List FracRow) (all : List Change) → All (λ change. change.row < length table) all → IsPut table table all all
-put_none table all h = record { same_length = refl; rows = λ place. refl; in_table = h }
-
 pub last_in_table : (length_old : ℕ) (changes left : List Change) (last : Change) → changes ≡ left ++ last ∷ [] → All (λ change. change.row < length_old) changes → (last.row < length_old) × All (λ change. change.row < length_old) left
 last_in_table n changes left last e h = grind (arith, parts left (subst (λ xs. All (λ change. change.row < n) xs) e h))
   where
@@ -77,8 +74,6 @@ pub record AreMade (table : List FracRow) (target : ℕ → FracRow) (changes : 
   pub later : (place : ℕ) → bound ≤ place → change_at changes place ≡ None
   pub in_table : All (λ change. change.row < length table) changes
 
-pub made_none : (table : List FracRow) (target : ℕ → FracRow) → AreMade table target [] 0
-made_none table target = record { made = λ k lt. absurd (none_below_0 k lt); later = λ k ge. refl; in_table = λ k d lt. absurd (none_below_0 k lt) }
 pub made_same : (table : List FracRow) (target : ℕ → FracRow) (changes : List Change) (bound : ℕ) → AreMade table target changes bound → row_at table bound ≡ target bound → AreMade table target changes (bound + 1)
 made_same table target changes bound h e = record {
   made = λ k lt. elim (cases_lt k bound) [

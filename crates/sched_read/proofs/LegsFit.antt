@@ -1,6 +1,7 @@
 -- Records that read as legs keep what legs keep.
-use Rattle.std.proofs.Common.{◌≡◌, ◌<◌, ◌&&◌, ◌==◌, ℕ, false, not, nat_le, List, [], ◌∷◌, ◌++◌, length, map, Ok, refl, subst, arith}
+use Rattle.std.proofs.Common.{◌≡◌, ◌<◌, ◌&&◌, ◌==◌, ℕ, false, not, nat_le, List, [], ◌∷◌, ◌++◌, length, map, Ok, refl, subst, arith, pos_of_ne-zero}
 use Rattle.std.specs.Str.{is_utf8}
+use Rattle.std.proofs.lemmas.Bool.{eqb-false}
 use Rattle.csv_fields.specs.Name.{name_of, station_code_of}
 use Rattle.csv_fields.specs.Time.{clock_time_of}
 use Rattle.fleet_model.specs.declared.limits.TheConstants.{MAX_LEGS, MINUTES_PER_DAY, MINUTES_PER_PERIOD}

@@ -67,16 +67,6 @@ content-more xs new width den e h none lt same =
     at_column k below =
         get_or-list_below (number_in new) width k (pos 0) below ∙ ap (λ ys. number_in ys k) same ∙ number_in-more 0 width xs e k h.rising none ∙ here k below (cases_eq e.column k)
 
--- a 0 that is put where a 0 stands
-pub zero_put : (row : FracRow) (column : ℕ) (z : ℤ) → column < width_of row → number_of row column ≡ pos 0 → z ≡ pos 0 → row ≡ record { numbers = set row.numbers column z; den = row.den }
-zero_put row column z lt none e =
-    same_row row.numbers (set row.numbers column z) row.den row.den
-    (ext_get_or (pos 0) _ _ (sym (length-set row.numbers column z)) (λ k in_range. at_place k (cases_eq column k))) refl
-  where
-    at_place : (k : ℕ) → (column ≡ k) ⊎ (column ≢ k) → get_or row.numbers k (pos 0) ≡ get_or (set row.numbers column z) k (pos 0)
-    at_place k (inl same) = subst (λ i. get_or row.numbers i (pos 0) ≡ get_or (set row.numbers column z) i (pos 0)) same (none ∙ sym e ∙ sym (get_or-set_same row.numbers column z (pos 0) lt))
-    at_place k (inr ne) = sym (get_or-set_other row.numbers column k z (pos 0) (λ s. ne (sym s)))
-
 -- what the value of a row says of what is held
 pub nothing_from_value : (xs : List Entry) (width : ℕ) (den : ℤ) (row : FracRow) (column : ℕ) → IsHeld xs width → content_of xs width den ≡ row → ((place : ℕ) → column ≤ place → number_of row place ≡ pos 0) → NothingFrom xs column
 nothing_from_value xs width den row column h view none place ge =

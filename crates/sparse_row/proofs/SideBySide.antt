@@ -33,10 +33,6 @@ abbrev pub second_in : List Pair → ℕ → ℤ
 second_in [] column = pos 0
 second_in (pair ∷ rest) column = if pair.column == column then pair.pivot_number else second_in rest column
 
-pairs_from : (from start width : ℕ) (pairs : List Pair) → start ≤ from → ArePairs from width pairs → ArePairs start width pairs
-pairs_from from start width [] le h = tt
-pairs_from from start width (p ∷ ps) le h = (omega (arith, h.0), h.1, h.2)
-
 no_first_before : (from width : ℕ) (pairs : List Pair) (column : ℕ) → ArePairs from width pairs → column < from → first_in pairs column ≡ pos 0
 no_first_before from width [] column h lt = refl
 no_first_before from width (p ∷ ps) column h lt =

@@ -6,14 +6,9 @@ use Rattle.std.proofs.Math.Seq.{drop-length}
 use Rattle.sums.specs.Places.{list_below}
 use Rattle.sums.proofs.Places.{get_or-list_below, length-list_below}
 use Rattle.sums.proofs.Naturals.{one_behind}
-use Rattle.fleet_model.specs.declared.parts.Connection.{Connection}
 use Rattle.fleet_model.specs.declared.parts.Through.{Through}
 use Rattle.ground_turns.specs.Throughs.{is_of, value_in}
 use Rattle.through_flights.specs.Worths.{pair_of}
-
--- what the entries are worth for a pair
-pub size_in : List Through → Connection → ℕ
-size_in entries pair = unsigned_abs (unwrap_or (value_in entries pair) (pos 0))
 
 pub none_listed : (values : List ℕ) (entries : List Through) (n arriving : ℕ) → values ≡ list_below (λ _. 0) n → (departing : ℕ) → departing < n
     → slice_index values departing ≡ unsigned_abs (unwrap_or (value_in (drop (length entries) entries) (pair_of arriving departing)) (pos 0))
