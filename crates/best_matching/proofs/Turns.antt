@@ -1,5 +1,5 @@
 -- One turn of the search, and its end.
-use Rattle.std.proofs.Common.{◌≡◌, ◌≢◌, ℕ, zero, suc, ◌+◌, ◌<◌, ◌≤◌, nat_lt, Bool, true, false, if◌then◌else◌, List, length, slice_index, sym, ◌∙◌, ap, subst, inl, inr, arith, length-set, not-le_of_lt}
+use Rattle.std.proofs.Common.{◌≡◌, ◌≢◌, ℕ, zero, suc, ◌+◌, ◌<◌, ◌≤◌, nat_lt, Bool, true, false, if◌then◌else◌, List, length, slice_index, sym, ◌∙◌, ap, subst, inl, inr, arith, length-set, not-le_of_lt, le_trans}
 use Rattle.std.proofs.lemmas.Bool.{cases_eq, cases_lt}
 use Rattle.sums.specs.Below.{count_below}
 use Rattle.sums.proofs.OneChanged.{count_below-fewer}
@@ -139,12 +139,9 @@ one_turn worths old new tree wider root turn next w s root_lt turn_lt next_withi
       turns = ap length here.turns ∙ length-set tree.turns next turn ∙ s.size.turns;
     }
 
-    chain : (a b c : ℕ) → a ≤ b → b ≤ c → a ≤ c
-    chain a b c p q = omega arith
-
     a : AreNumbers (length worths) old new tree wider root turn next (gap_at tree next)
     a = numbers_after (length worths) old new tree wider root turn next s.size next_lt
-        (λ row lt reached. chain _ _ _
+        (λ row lt reached. le_trans
         (least (column_of old root) (s.pairing.column_within root root_lt) (s.stem.outside root root_lt (omega arith) (omega arith)))
         (enough worths old tree root turn s root_lt row lt reached))
         least here

@@ -1,6 +1,7 @@
 -- The way back through the tree.
 use Rattle.std.proofs.Common.{◌≡◌, ◌≢◌, ℕ, ◌<◌, ◌≤◌, sym, ◌∙◌, ap, subst, inl, inr, arith, lt_trans}
 use Rattle.std.proofs.lemmas.Bool.{cases_eq}
+use Rattle.sums.proofs.Naturals.{past_is_other}
 use Rattle.best_matching.specs.Drafts.{IsPairing, column_of}
 use Rattle.best_matching.specs.Trees.{IsOnTree, IsTurned, IsWay, from_at, turn_at}
 use Rattle.best_matching.specs.declared.draft.Draft.{Draft}
@@ -66,9 +67,6 @@ way_more size now new tree root free before way lt from ne e = record {
     weaken : (a b c : ℕ) → a ≤ b → b < c → a ≤ c
     weaken a b c p q = omega arith
 
-    clash : (a b c : ℕ) → a ≤ b → c < a → b ≡ c → ⊥
-    clash a b c p q e = omega arith
-
     clash_more : (a b c d : ℕ) → a ≤ b → b < d → c < a → d ≡ c → ⊥
     clash_more a b c d p r q e = omega arith
 
@@ -76,7 +74,7 @@ way_more size now new tree root free before way lt from ne e = record {
         → column_of new (from_at tree column) ≡ column_of now (from_at tree column)
     kept column le earlier = e.others (from_at tree column)
         (λ same. clash_more _ _ _ _ le less earlier (ap (λ k. turn_at tree (column_of now k)) (sym same)))
-        (λ same. clash _ _ _ le earlier (ap (λ k. turn_at tree (column_of now k)) (sym same)))
+        (λ same. past_is_other _ _ _ le earlier (ap (λ k. turn_at tree (column_of now k)) (sym same)))
 
 pub before_within : (size : ℕ) (now : Draft) (tree : Tree) (root free before : ℕ) → IsPairing size now → IsWay size now tree root free → free < size
     → before ≡ from_at tree (column_of now free) → before < size

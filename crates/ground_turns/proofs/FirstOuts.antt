@@ -1,5 +1,5 @@
 -- Where aircraft depart first in, first out, no more free turns cross than are needed; so the map fits.
-use Rattle.std.proofs.Common.{◌≡◌, ℕ, suc, ◌+◌, ◌-◌, ◌*◌, ◌%◌, ◌<◌, ◌≤◌, ◌⊎◌, inl, inr, Bool, true, false, ◌==◌, ◌&&◌, nat_lt, nat_le, List, length, refl, sym, ◌∙◌, ap, subst, arith}
+use Rattle.std.proofs.Common.{◌≡◌, ℕ, suc, ◌+◌, ◌-◌, ◌*◌, ◌%◌, ◌<◌, ◌≤◌, ◌⊎◌, inl, inr, Bool, true, false, ◌==◌, ◌&&◌, nat_lt, nat_le, List, length, refl, sym, ◌∙◌, ap, subst, arith, le_trans}
 use Rattle.std.proofs.Math.Nat.{mod-eq_of_lt}
 use Rattle.std.proofs.lemmas.Nat.{mod-mul-add}
 use Rattle.std.proofs.lemmas.Bool.{cases_eq, cases_lt, and_from, and_parts, eqb-true, eq-eqb, ltb-true, lt-ltb}
@@ -125,14 +125,11 @@ module _ (t : Tables) (a : List ℕ) (f : ℕ) (given turns : List Connection) (
       let within : landing_place t a f given s (turn_at turns k).arriving < free_landings t a f given s = within_landings k lt free in
       let needed = need_crosses t a f given turns map holds s in
       let few = few_cross s in
-      elim (mod_cases (landing_place t a f given s (turn_at turns k).arriving + free_need t a f given s) (free_landings t a f given s) (both_below within (need_below needed few))) [
+      elim (mod_cases (landing_place t a f given s (turn_at turns k).arriving + free_need t a f given s) (free_landings t a f given s) (both_below within (le_trans needed few))) [
         | inl same ↦ absurd (never _ _ _ _ _ (at ∙ same.0) (gone_then k lt free) (come_then k crossing) (excess_needed s (departs_at t f (turn_at turns k)) (departs_within t a f turns map k lt)))
         | inr next ↦ omega (arith, at, next.0, next.1, within)
       ]
     where
-      need_below : {x y z : ℕ} → x ≤ y → y ≤ z → x ≤ z
-      need_below p q = omega arith
-
       both_below : {p f n : ℕ} → p < n → f ≤ n → p + f < n + n
       both_below h g = omega arith
 

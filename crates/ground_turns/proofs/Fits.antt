@@ -5,6 +5,7 @@ use Rattle.std.proofs.lemmas.Bool.Decides.{nat_tests}
 use Rattle.sums.specs.Below.{sum_below}
 use Rattle.sums.proofs.Counts.{count_below-some}
 use Rattle.sums.proofs.Sums.{sum_below-agree, sum_below-add, sum_below-zero}
+use Rattle.sums.proofs.SumBounds.{term_le}
 use Rattle.fleet_model.specs.declared.limits.TheConstants.{MINUTES_PER_PERIOD}
 use Rattle.fleet_model.specs.declared.parts.Connection.{Connection}
 use Rattle.fleet_model.specs.declared.tables.Tables.{Tables}
@@ -15,7 +16,7 @@ use Rattle.ground_turns.specs.Laws.{FitsWhereClean, PeriodsBeyondUse, WaitingIsS
 use Rattle.ground_turns.specs.Maps.{AreClean, IsFitting, IsSuccessorMap, crosses_there, crossings_at, crossings_of, turn_at, waiting_at, waits_there}
 use Rattle.ground_turns.specs.Turns.{crosses, departs_at, period_of, ready_at, station_at, waits_at}
 use Rattle.ground_turns.proofs.Rounds.{bit, moment_law}
-use Rattle.ground_turns.proofs.Totals.{over_places, some_counted, some_greatest, term_below}
+use Rattle.ground_turns.proofs.Totals.{over_places, some_counted, some_greatest}
 use Rattle.ground_turns.proofs.Waits.{all_turns, crossings_suffice, departs_within, ready_within, waiting_law}
 
 module _ (t : Tables) (a : List ℕ) (f : ℕ) (turns : List Connection) (map : IsSuccessorMap t a f turns) where
@@ -68,7 +69,7 @@ periods_beyond_use t a f turns map = omega (arith, periods_are t a f turns map)
 pub no_surplus : (t : Tables) (a : List ℕ) (f : ℕ) (turns : List Connection) (s : ℕ) → IsFitting t a f turns → s < stations_in t → surplus_at t a f turns s ≡ 0
 no_surplus t a f turns s h below =
     let law = periods_beyond_use t a f turns h.map in
-    let term = term_below (surplus_at t a f turns) (stations_in t) s below in
+    let term = term_le (surplus_at t a f turns) s (stations_in t) below in
     omega (arith, law, term, h.fits)
 
 pub waiting_is_stand : WaitingIsStand

@@ -8,6 +8,7 @@ use mathlib.Core.Bool.{false≢true}
 use Rattle.sums.specs.Below.{sum_below, count_below}
 use Rattle.sums.proofs.Sums.{sum_below-add, sum_below-agree, sum_below-one}
 use Rattle.sums.proofs.Counts.{count_below-no_two}
+use Rattle.sums.proofs.SumBounds.{term_le}
 use Rattle.fleet_model.specs.declared.parts.Connection.{Connection}
 use Rattle.fleet_model.specs.declared.tables.Tables.{Tables}
 use Rattle.fleet_model.specs.Counts.{fleet_at, weights_of}
@@ -17,7 +18,7 @@ use Rattle.ground_turns.specs.Maps.{IsNext, IsSuccessorMap, arrivals_of, departu
 use Rattle.ground_turns.specs.Turns.{IsTurn}
 use Rattle.ground_turns.proofs.Regroup.{by_places}
 use Rattle.ground_turns.proofs.Rounds.{bit}
-use Rattle.ground_turns.proofs.Totals.{some_counted, term_below}
+use Rattle.ground_turns.proofs.Totals.{some_counted}
 
 -- a sum over a list with one turn more
 with_one : (g : Connection → ℕ) (xs : List Connection) (x : Connection) → sum_below (λ k. g (turn_at (xs ++ x ∷ []) k)) (length (xs ++ x ∷ [])) ≡ sum_below (λ k. g (turn_at xs k)) (length xs) + g x
@@ -72,7 +73,7 @@ pub equal_terms : (f g : ℕ → ℕ) (n k : ℕ) → ((k : ℕ) → k < n → f
 equal_terms f g n k less same lt =
     let parts = sum_below-agree g (λ j. f j + (g j - f j)) n (record { each = λ j below. let le = less j below in omega arith }) in
     let sum = sum_below-add f (λ j. g j - f j) n in
-    let term = term_below (λ j. g j - f j) n k lt in
+    let term = term_le (λ j. g j - f j) k n lt in
     omega (arith, parts, sum, same, term, less k lt)
 
 -- a leg's share at one leg

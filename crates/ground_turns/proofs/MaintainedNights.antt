@@ -6,6 +6,7 @@ use Rattle.std.proofs.lemmas.List.Sums.{sum_by-append}
 use Rattle.sums.specs.Below.{sum_below, count_below}
 use Rattle.sums.proofs.Sums.{sum_below-agree, sum_below-bound, sum_below-le, sum_below-one, sum_below-ones, sum_below-swap, sum_below-zero}
 use Rattle.sums.proofs.Turned.{shifted, turned}
+use Rattle.sums.proofs.SumBounds.{term_le}
 use Rattle.fleet_model.specs.declared.parts.Connection.{Connection}
 use Rattle.fleet_model.specs.declared.tables.Tables.{Tables}
 use Rattle.fleet_model.specs.Schedule.{leg_on, no_leg, station_of, stations_in}
@@ -18,7 +19,6 @@ use Rattle.ground_turns.specs.declared.nights.Night.{Night}
 use Rattle.ground_turns.specs.declared.nights.Night.TheVariants as night
 use Rattle.ground_turns.proofs.NightCounts.{nights_are_stands}
 use Rattle.ground_turns.proofs.Rounds.{bit, times_bit}
-use Rattle.ground_turns.proofs.Totals.{term_below}
 
 count_cons : (p : Night → Bool) (x : Night) (xs : List Night) → count_by p (x ∷ xs) ≡ bit (p x) + count_by p xs
 count_cons p x xs = omega (arith, sum_by-append (λ y. bit (p y)) (x ∷ []) xs)
@@ -48,7 +48,7 @@ kept_has_nights t nights days kept =
     one : (first : ℕ) → IsMaintainedFrom t nights days first → 1 ≤ sum_below (λ j. good ((first + j) % length nights)) days
     one first h =
         let here : good ((first + h.after) % length nights) ≡ 1 = ap bit h.maintained in
-        omega (arith, here, term_below (λ j. good ((first + j) % length nights)) days h.after h.within)
+        omega (arith, here, term_le (λ j. good ((first + j) % length nights)) h.after days h.within)
 
 repeated : (p : Night → Bool) (n : ℕ) (x : Night) → count_by p (replicate n x) ≡ n * bit (p x)
 repeated p zero x = omega arith

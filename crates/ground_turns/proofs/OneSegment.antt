@@ -6,6 +6,7 @@ use Rattle.std.proofs.lemmas.List.{get_or_default}
 use Rattle.std.proofs.Math.Numerals.{suc-eq-add-one}
 use Rattle.sums.specs.Places.{list_below}
 use Rattle.sums.proofs.Places.{get_or-list_below, length-list_below}
+use Rattle.sums.proofs.Tests.{no_both}
 use Rattle.ground_turns.specs.Segments.{AreNumbers, EndAt, NoneBetween, NoneEnds, ends_at, is_among, is_marked, marked_before, minutes_of}
 use Rattle.ground_turns.specs.Turns.{minutes_round}
 use Rattle.ground_turns.proofs.Rounds.{bit, until_later, until_next}
@@ -116,13 +117,9 @@ told_round numbers r d minutes first second whole next ready one passes other = 
 pub told_not : (numbers : List ℕ) (r d minutes : ℕ) (first : Bool) → minutes ≡ minutes_of numbers → d < r → r < minutes_of numbers
     → IsTrue first ↔ NoneBetween numbers r minutes → first ≡ false → IsTrue first ↔ NoneEnds numbers r d
 told_not numbers r d minutes first whole next ready one fails = (
-  λ e. absurd (clash first fails e),
+  λ e. absurd (no_both fails e),
   λ none. one.1 (subst (NoneBetween numbers r) (sym whole) ((waits_round numbers r d next ready).1 none).0),
 )
-  where
-    clash : (b : Bool) → b ≡ false → b ≡ true → ⊥
-    clash b e g = cc
-
 -- two numbers as they are read
 pub read_between : (items now : List ℕ) (from to i j x y : ℕ) → AreNumbers items → items ≡ now → i ≡ from → j ≡ to → x ≡ get_or items i x → y ≡ get_or items j y
     → from ≤ to → to ≤ minutes_of now → IsTrue (nat_eq x y) ↔ NoneBetween now from to

@@ -6,7 +6,7 @@ use Rattle.std.proofs.lemmas.Bool.Decides.{nat_tests}
 use Rattle.sums.specs.Below.{count_below}
 use Rattle.sums.proofs.Maxima.{max_below-agree, max_below-least}
 use Rattle.sums.proofs.Sums.{sum_below-agree, sum_below-le, sum_below-zero}
-use Rattle.sums.proofs.Naturals.{some_above}
+use Rattle.sums.proofs.Naturals.{none_below_0, some_above}
 use Rattle.fleet_model.specs.declared.limits.TheConstants.{MINUTES_PER_PERIOD}
 use Rattle.fleet_model.specs.declared.parts.Connection.{Connection}
 use Rattle.fleet_model.specs.declared.tables.Tables.{Tables}
@@ -179,11 +179,7 @@ module _ (t : Tables) (a : List ℕ) (f : ℕ) (balanced : IsBalanced t (weights
   first_out = record { each = λ k lt none. each_turn a f next (IsFirstOut t a f []) (legs_in t) (λ l below flies. record { place = next_at l below (eq-eqb _ _ flies) }) k lt }
 
   holds : Holds turns []
-  holds = record { each = λ k lt. absurd (none lt) }
-    where
-      none : {k : ℕ} → k < 0 → ⊥
-      none h = omega arith
-
+  holds = record { each = λ k lt. absurd (none_below_0 _ lt) }
   -- no more cross than are needed
   crosses_needed : (s : ℕ) → crossings_at t f turns s ≤ need_of t (weights_of a) f s
   crosses_needed s =

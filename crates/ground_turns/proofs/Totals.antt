@@ -1,18 +1,10 @@
 -- Laws of sums, counts and greatest terms below a bound.
-use Rattle.std.proofs.Common.{◌≡◌, ap, sym, ◌≢◌, ◌||◌, ℕ, zero, suc, ◌+◌, ◌<◌, ◌≤◌, Bool, true, false, if◌then◌else◌, ◌==◌, ◌&&◌, refl, ◌∙◌, inl, inr, arith}
+use Rattle.std.proofs.Common.{◌≡◌, ap, sym, ◌≢◌, ◌||◌, ℕ, zero, suc, ◌+◌, ◌<◌, Bool, true, false, if◌then◌else◌, ◌==◌, ◌&&◌, refl, ◌∙◌, inl, inr, arith}
 use Rattle.std.proofs.lemmas.Bool.{cases_lt, eqb-false, eqb-true}
 use Rattle.std.proofs.lemmas.Bool.Decides.{nat_tests}
 use Rattle.sums.specs.Below.{sum_below, count_below, max_below}
 use Rattle.sums.proofs.Sums.{sum_below-add, sum_below-agree, sum_below-one, sum_below-swap, sum_below-zero}
 use Rattle.ground_turns.proofs.Rounds.{bit}
-
--- a term is no more than the sum
-pub term_below : (f : ℕ → ℕ) (n k : ℕ) → k < n → f k ≤ sum_below f n
-term_below f zero k lt = absurd (omega arith)
-term_below f (suc n) k lt = elim (cases_lt k n) [
-  | inl before ↦ omega (arith, term_below f n k before)
-  | inr last ↦ let same : k ≡ n = omega arith in rw same (omega arith)
-]
 
 -- where numbers are counted, one passes
 pub some_counted : (p : ℕ → Bool) (n : ℕ) → 0 < count_below p n → (k : ℕ) × (k < n) × (p k ≡ true)

@@ -20,7 +20,7 @@ pub length-concat : {X : Type 0} (g : ℕ → List X) (count : ℕ → ℕ) (n :
 length-concat g count zero each = refl
 length-concat g count (suc n) each = omega (arith, length-append (concat_below g n) (g n), length-concat g count n (λ k below. each k (omega arith)), each n (omega arith))
 
-length-one : {X : Type 0} (b : Bool) (x : X) → length (if b then x ∷ [] else []) ≡ (if b then 1 else 0)
+pub length-one : {X : Type 0} (b : Bool) (x : X) → length (if b then x ∷ [] else []) ≡ (if b then 1 else 0)
 length-one true x = refl
 length-one false x = refl
 

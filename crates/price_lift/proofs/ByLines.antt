@@ -1,7 +1,8 @@
 -- Prices that are written by the numbers of nodes and fleets say what the lines do.
-use Rattle.std.proofs.Common.{◌≡◌, ℕ, ◌+◌, ◌-◌, ◌<◌, ◌≤◌, List, [], length, get_or, pos, neg_ℤ, sym, ◌∙◌, ap, subst, inl, inr, arith}
+use Rattle.std.proofs.Common.{◌≡◌, ℕ, ◌+◌, ◌-◌, ◌<◌, List, [], length, get_or, pos, neg_ℤ, sym, ◌∙◌, ap, subst, inl, inr, arith}
 use Rattle.std.proofs.lemmas.Bool.{cases_lt}
 use Rattle.sums.proofs.Places.{get_or-list_below}
+use Rattle.sums.proofs.Naturals.{as_a_sum}
 use Rattle.frac_row.specs.Row.{number_of}
 use Rattle.frac_row.specs.declared.row.FracRow.{FracRow}
 use Rattle.fleet_model.specs.declared.tables.Tables.{Tables}
@@ -49,13 +50,10 @@ module _ (t : Tables) (starts : Starts) where
     pub known : f < fleets_in t
     pub is : line ≡ legs_in t + (node_count t starts + f)
 
-  from_sum : (a n : ℕ) → a ≤ n → n ≡ a + (n - a)
-  from_sum a n order = omega arith
-
   pub of_node : (line : ℕ) (n : Node) → line_at t starts line ≡ Balance n → IsOfNode line n
   of_node line n e = elim (cases_lt line (legs_in t)) [
     | inl cover ↦ absurd (cover_balance line n (sym (cover_there t starts line cover) ∙ e))
-    | inr behind ↦ by_rest (line - legs_in t) (from_sum (legs_in t) line behind)
+    | inr behind ↦ by_rest (line - legs_in t) (as_a_sum line (legs_in t) behind)
   ]
     where
       in_nodes : (k : ℕ) → k < node_count t starts → line ≡ legs_in t + k → IsOfNode line n
@@ -75,13 +73,13 @@ module _ (t : Tables) (starts : Starts) where
       by_rest : (k : ℕ) → line ≡ legs_in t + k → IsOfNode line n
       by_rest k is = elim (cases_lt k (node_count t starts)) [
         | inl below ↦ in_nodes k below is
-        | inr past ↦ in_fleets (k - node_count t starts) (is ∙ ap (λ j. legs_in t + j) (from_sum (node_count t starts) k past))
+        | inr past ↦ in_fleets (k - node_count t starts) (is ∙ ap (λ j. legs_in t + j) (as_a_sum k (node_count t starts) past))
       ]
 
   pub of_fleet : (line f : ℕ) → line_at t starts line ≡ Count f → IsOfFleet line f
   of_fleet line f e = elim (cases_lt line (legs_in t)) [
     | inl cover ↦ absurd (cover_count line f (sym (cover_there t starts line cover) ∙ e))
-    | inr behind ↦ by_rest (line - legs_in t) (from_sum (legs_in t) line behind)
+    | inr behind ↦ by_rest (line - legs_in t) (as_a_sum line (legs_in t) behind)
   ]
     where
       in_fleets : (k : ℕ) → line ≡ legs_in t + (node_count t starts + k) → IsOfFleet line f
@@ -95,7 +93,7 @@ module _ (t : Tables) (starts : Starts) where
       by_rest : (k : ℕ) → line ≡ legs_in t + k → IsOfFleet line f
       by_rest k is = elim (cases_lt k (node_count t starts)) [
         | inl below ↦ absurd (balance_count (node_of_number t starts k) f (sym (balance_there t starts k below) ∙ ap (line_at t starts) (sym is) ∙ e))
-        | inr past ↦ in_fleets (k - node_count t starts) (is ∙ ap (λ j. legs_in t + j) (from_sum (node_count t starts) k past))
+        | inr past ↦ in_fleets (k - node_count t starts) (is ∙ ap (λ j. legs_in t + j) (as_a_sum k (node_count t starts) past))
       ]
 
 -- ---- prices by the numbers

@@ -1,11 +1,12 @@
 -- Entries one behind another, each there or not: where each stands, and which stands at a place.
-use Rattle.std.proofs.Common.{◌≡◌, ℕ, zero, suc, ◌+◌, ◌<◌, ◌≤◌, Bool, true, false, if◌then◌else◌, List, [], ◌∷◌, ◌++◌, length, get_or, refl, sym, ◌∙◌, ap, subst, inl, inr, length-append, arith}
+use Rattle.std.proofs.Common.{◌≡◌, ℕ, zero, suc, ◌+◌, ◌<◌, ◌≤◌, Bool, true, false, if◌then◌else◌, List, [], ◌∷◌, ◌++◌, length, get_or, sym, ◌∙◌, ap, subst, inl, inr, length-append, arith}
 use Rattle.std.proofs.lemmas.Bool.{cases_lt}
 use Rattle.std.proofs.lemmas.List.{get_or_append_left}
 use Rattle.sums.proofs.Tests.{by_test}
 use Rattle.sums.proofs.Naturals.{plus_0}
 use Rattle.lp_rows.specs.Layout.{concat_below}
 use Rattle.lp_rows.proofs.ListPlaces.{at_right}
+use Rattle.lp_rows.proofs.Counted.{length-one}
 
 module _ {X : Type 0} (there : ℕ → Bool) (entry : ℕ → X) where
   abbrev pub where_there : ℕ → List X
@@ -15,12 +16,8 @@ module _ {X : Type 0} (there : ℕ → Bool) (entry : ℕ → X) where
   abbrev pub rank : ℕ → ℕ
   rank n = length (concat_below where_there n)
 
-  one_long : (b : Bool) (x : X) → length (if b then x ∷ [] else []) ≡ (if b then 1 else 0)
-  one_long true x = refl
-  one_long false x = refl
-
   next_rank : (n : ℕ) → rank (suc n) ≡ rank n + (if there n then 1 else 0)
-  next_rank n = length-append (concat_below where_there n) (where_there n) ∙ ap (λ k. rank n + k) (one_long (there n) (entry n))
+  next_rank n = length-append (concat_below where_there n) (where_there n) ∙ ap (λ k. rank n + k) (length-one (there n) (entry n))
 
   rank_there : (n : ℕ) → there n ≡ true → rank (suc n) ≡ rank n + 1
   rank_there n e = next_rank n ∙ ap (λ b. rank n + (if b then 1 else 0)) e
