@@ -19,7 +19,7 @@ use Rattle.ground_turns.specs.declared.nights.Night.TheVariants as night
 use Rattle.ground_turns.proofs.FirstOuts.{mod_cases}
 use Rattle.euler_rotation.specs.Asked.{AreMet, is_met}
 use Rattle.euler_rotation.specs.Tours.{IsKeptTour, IsOrder, times_in, turned}
-use Rattle.sums.proofs.Turned as sums
+use Rattle.sums.proofs.Turned as round_sums
 use Rattle.euler_rotation.proofs.TourTurns.{length_round, tour_from, tour_met, tour_order, turn_round}
 
 -- ---- nights, begun later
@@ -120,7 +120,7 @@ module _ (legs : List ℕ) (r : ℕ) (less : r < length legs) where
       ap (sum_below (λ k. if slice_index (turned r legs) k == l then 1 else 0)) length_turned
       ∙ sum_below-agree (λ k. if slice_index (turned r legs) k == l then 1 else 0) (λ k. one ((k + r) % length legs)) (length legs)
       (record { each = λ k lt. ap (λ j. if j == l then 1 else 0) (entry_turned k lt) })
-      ∙ sums.turned one (length legs) r
+      ∙ round_sums.turned one (length legs) r
     where
       one : ℕ → ℕ
       one k = if slice_index legs k == l then 1 else 0
