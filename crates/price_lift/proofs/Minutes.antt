@@ -62,7 +62,7 @@ some_place starts minute rise some =
 test_parts : (a m b : ℕ) → (nat_le a m && nat_le m b) ≡ true → (a ≤ m) × (m ≤ b)
 test_parts a m b h = (grind (arith, nat_tests), grind (arith, nat_tests))
 
-test_of : (a m b : ℕ) → a ≤ m → m ≤ b → (nat_le a m && nat_le m b) ≡ true
+pub test_of : (a m b : ℕ) → a ≤ m → m ≤ b → (nat_le a m && nat_le m b) ≡ true
 test_of a m b low high = grind (arith, nat_tests)
 
 pub at_place : (starts : List ℕ) (minute place : ℕ) → Rise starts → place < length starts → is_in starts place minute ≡ true → IsAtPlace starts minute place
