@@ -1,5 +1,5 @@
 -- The outcomes of a run within a budget of steps.
-use Rattle.std.specs.Prelude.{ℕ, ◌<◌, ◌≤◌, ◌≡◌, List, length, Some, Result, Ok, IsErr}
+use Rattle.std.specs.Prelude.{ℕ, ◌<◌, ◌≤◌, ◌≡◌, ◌⊎◌, List, length, Some, None, Result, Ok, IsErr}
 use Rattle.entries.specs.declared.memory.NoMemory.{NoMemory}
 use Rattle.frac_row.specs.declared.row.FracRow.{FracRow}
 use Rattle.row_store.specs.declared.error.Place.{Place}
@@ -11,7 +11,7 @@ use Rattle.dual_simplex.specs.declared.turn.End.{End}
 use Rattle.dual_simplex.specs.declared.turn.End.TheVariants as ends
 use Rattle.dual_simplex.specs.declared.outcome.Outcome.{Outcome}
 use Rattle.dual_simplex.specs.declared.outcome.Outcome.TheVariants.{Best, Refused, CostBelow0, Spent, Grew}
-use Rattle.dual_simplex.specs.Turns.{IsPlaceBySigns, IsEndBySigns}
+use Rattle.dual_simplex.specs.Turns.{IsPlace, IsPlaceBySigns, IsEndBySigns}
 
 -- a table with its basis that so many steps reach from a first one
 pub record IsReachedIn (first : List FracRow) (columns made : ℕ) (table : List FracRow) (basis : List ℕ) : Type 0 where
@@ -31,12 +31,13 @@ pub record SpentAt (first : List FracRow) (columns made : ℕ) (table : List Fra
   pub reached : IsReachedIn first columns made table basis
   pub due : IsPlaceBySigns table basis columns place
 
--- the next step is outgrown, first at this place
+-- a step that may be made next is outgrown, first at this place
 pub record GrewAt (first : List FracRow) (columns budget made : ℕ) (table : List FracRow) (row column : ℕ) : Type 0 where
   pub basis : List ℕ
   pub place : Place
   pub within : made < budget
   pub reached : IsReachedIn first columns made table basis
+  pub allowed : IsPlace table columns place
   pub growth : step_growth table place.row place.column ≡ Some (record { row = row; column = column })
 
 -- each outcome by its cause, for the first table, the budget and the table that the run has reached
@@ -46,6 +47,20 @@ IsOutcome first columns budget table (Refused row basis made) = EndsAt first col
 IsOutcome first columns budget table (CostBelow0 made) = (basis : List ℕ) × EndsAt first columns budget made table basis ends.CostBelow0
 IsOutcome first columns budget table (Spent made) = (made ≡ budget) × SpentAt first columns made table
 IsOutcome first columns budget table (Grew row column made) = GrewAt first columns budget made table row column
+
+-- within the budget steps have reached a table at which a step may be made, and that step is not outgrown
+pub record IsAtStep (first : List FracRow) (columns budget : ℕ) (table : List FracRow) : Type 0 where
+  pub made : ℕ
+  pub basis : List ℕ
+  pub place : Place
+  pub within : made < budget
+  pub reached : IsReachedIn first columns made table basis
+  pub allowed : IsPlace table columns place
+  pub fits : step_growth table place.row place.column ≡ None
+
+-- where memory may be wanting: at the first table, before the run, and at a step that is not outgrown
+abbrev pub MayWantMemory : List FracRow → ℕ → ℕ → List FracRow → Type 0
+MayWantMemory first columns budget table = (table ≡ first) ⊎ IsAtStep first columns budget table
 
 abbrev pub outcome_of : End → List ℕ → ℕ → Outcome
 outcome_of ends.Best basis made = Best basis made

@@ -1,7 +1,7 @@
-ghost use Rattle.std.specs.Prelude.{◌≡◌, List, ℕ, length, IfOk};
+ghost use Rattle.std.specs.Prelude.{◌≡◌, List, ℕ, length, IfOk, OnErr};
 ghost use Rattle.row_store.specs.Table.{HasColumns};
 ghost use Rattle.reached_tables.specs.Tableaux.{IsReachedFrom};
-ghost use Rattle.dual_simplex.specs.Outcomes.{IsOutcome, IsRefused, outcome_of};
+ghost use Rattle.dual_simplex.specs.Outcomes.{IsOutcome, IsRefused, MayWantMemory, outcome_of};
 
 use crate::outcome::Outcome;
 use crate::turn::{End, next_place, place_by_signs};
@@ -13,7 +13,8 @@ use std::alloc::Global;
 /// Runs the dual simplex method from a first table of so many real columns, with at most so many steps. It begins with
 /// steps at the start's places, in their order; those at which no step can be made are passed over. The start
 /// decides how long the run takes, and which of several cheapest points it ends at. The store then holds the last
-/// table, which steps reach from the first one, also after want of memory.
+/// table, which steps reach from the first one; after want of memory it is the first table, or one at which a step may be
+/// made that is not outgrown.
 pub fn solve<R: RowStore>(
     alloc: Global,
     store: &mut R,
@@ -26,6 +27,7 @@ pub fn solve<R: RowStore>(
     ensures reached { (basis : List ℕ) × IsReachedFrom (R.content store.old) columns (R.content store.new) basis }
     ensures shape { HasColumns (R.content store.new) columns }
     ensures height { length (R.content store.new) ≡ length (R.content store.old) }
+    ensures stopped { OnErr result (MayWantMemory (R.content store.old) columns steps (R.content store.new)) }
 {
     let Ok(mut basis) = first_basis(alloc, columns, store.height()) else {
         return Err(NoMemory);

@@ -1,10 +1,13 @@
-use Rattle.std.proofs.Common.{◌≡◌, arith, refl, subst}
+use Rattle.std.proofs.Common.{◌≡◌, arith, inl, refl, subst}
 use Rattle.dual_simplex.specs.Turns.{IsEndBySigns, IsPlaceBySigns}
 use Rattle.dual_simplex.proofs.Runs.{IsUnderWay, begins, begins_so, goes_on, ends_so}
 use Rattle.dual_simplex.proofs.run.solve.Goals as goal
 
 pub returns-in_default-clause-reached : goal.returns-in_default-clause-reached
 returns-in_default-clause-reached g c = begins_so (g.R.RowStore.content c.args.store.now) c.args.columns
+
+pub returns-in_default-clause-stopped : goal.returns-in_default-clause-stopped
+returns-in_default-clause-stopped g c = inl refl
 
 pub loop-made-init : goal.loop-made-init
 loop-made-init g c =
