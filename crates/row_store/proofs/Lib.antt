@@ -15,3 +15,4 @@ pub mod FirstRows
 pub mod SmallTables
 pub mod CopiedRows
 pub mod SignTests
+pub mod Squares

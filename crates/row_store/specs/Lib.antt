@@ -12,3 +12,4 @@ pub mod StepChoice
 pub mod Layouts
 pub mod InPlace
 pub mod Listing
+pub mod Weights

@@ -1,4 +1,4 @@
-ghost use Rattle.std.specs.Prelude.{◌≡◌, ◌<◌, pos, ◌<ℤ◌, None, length, IfOk, IfErr, OnErr};
+ghost use Rattle.std.specs.Prelude.{◌≡◌, ◌<◌, pos, ◌<ℤ◌, None, length, IfOk, IfSome, IfErr, OnErr};
 ghost use Rattle.row_store.specs.Table.{IsTable, number_at, columns_of, height_of};
 ghost use Rattle.row_store.specs.Pivot.{pivoted, pivot_growth};
 ghost use Rattle.row_store.specs.PivotAnswers.{IsPivotError};
@@ -33,6 +33,7 @@ impl FullTable {
         ensures fits { IfOk result (λ _. pivot_growth self.old.rows.items row column ≡ None) }
         ensures grew { IfErr result (IsPivotError self.old.rows.items row column) }
         ensures unchanged { OnErr result (self.new.rows.items ≡ self.old.rows.items) }
+        ensures stays { IfOk result (λ other. IfSome other (λ _. self.new.rows.items ≡ self.old.rows.items)) }
     {
         all_small(self.rows.as_slice());
         let Ok(pivot_row) = listed(self.alloc, &self.rows[row as usize]) else {

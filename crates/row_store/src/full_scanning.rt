@@ -1,10 +1,11 @@
-ghost use Rattle.std.specs.Prelude.{◌≡◌, ◌+◌, ◌<◌, ◌≤◌, Some, None, length, pos, false, true, ◌<ℤ◌, ◌≤ℤ◌, ◌↔◌, ℕ, IsTrue, MatchOption, if◌then◌else◌};
+ghost use Rattle.std.specs.Prelude.{◌≡◌, ◌+◌, ◌-◌, ◌<◌, ◌≤◌, Some, None, length, pos, false, true, ◌<ℤ◌, ◌≤ℤ◌, ◌↔◌, ℕ, IsTrue, MatchOption, if◌then◌else◌};
 ghost use Rattle.sums.specs.Places.{first_below};
 ghost use Rattle.frac_row.specs.Row.{number_of, width_of};
 ghost use Rattle.row_store.specs.declared.choice.Candidate.{Candidate};
 ghost use Rattle.row_store.specs.Table.{IsTable, columns_of, height_of, HasColumns};
 ghost use Rattle.row_store.specs.Choice.{improves, better, candidate_at, entering, leaving};
 ghost use Rattle.row_store.specs.StepChoice.{are_alike, AreUnlike, IsAlike, AreCostsAtLeast0};
+ghost use Rattle.row_store.specs.Weights.{squares_of, weight_of};
 
 use crate::choice::{Candidate, better, improves};
 use crate::steering::{Enterer, are_alike, cheaper, size, with_square};
@@ -96,18 +97,17 @@ fn next_best(
 /// The sum of squares of the numbers from a column up to another, or 0 where that is outgrown.
 pub fn squares_between(row: &FullRow, first: u32, last: u32) -> i128
     requires { last ≤ width_of row.now }
+    ensures { result ≡ weight_of (squares_of row.now first (last - first)) }
 {
     let mut sum = 0;
-    for column in first..last {
-        let number = row.number(column);
-        if number != 0 {
-            let Some(more) = with_square(&sum, &number) else {
-                return 0;
-            };
-            sum = more;
+    for past in 0..last.saturating_sub(first) {
+        let number = row.number(first + past);
+        match with_square(sum, &number) {
+            Some(more) => sum = more,
+            None => return 0,
         }
     }
-    sum
+    sum as i128
 }
 
 /// The cheapest of the first columns whose number has the sign of the row's right side.

@@ -1,26 +1,39 @@
 //! The choices of a dual simplex method along lists of numbers.
 
-ghost use Rattle.std.specs.Prelude.{◌≡◌, ◌+◌, ◌<◌, ◌≤◌, ◌↔◌, ℕ, pos, ◌≤ℤ◌, false, true, length, IsTrue, MatchOption};
+ghost use Rattle.std.specs.Prelude.{◌≡◌, ◌+◌, ◌-◌, ◌^◌, ◌<◌, ◌≤◌, ◌↔◌, ℕ, pos, ◌≤ℤ◌, false, true, length, IsTrue, MatchOption};
 ghost use Rattle.frac_row.specs.Row.{number_of, width_of};
 ghost use Rattle.row_store.specs.Table.{IsTable, HasColumns, height_of, columns_of};
 ghost use Rattle.row_store.specs.StepChoice.{are_alike, AreUnlike, IsAlike, AreCostsAtLeast0};
+ghost use Rattle.row_store.specs.Weights.{square_between, squares_in, weight_of};
 
 use crate::scanning::first_negative;
 use crate::steering::{Enterer, are_alike, cheaper, size, with_square};
 use sparse_row::{Entry, SparseRow};
 
 /// The sum of squares of the numbers from a column up to another, or 0 where that is outgrown.
-pub fn squares_between(entries: &[Entry], first: u32, last: u32) -> i128 {
+pub fn squares_between(entries: &[Entry], first: u32, last: u32) -> i128
+    ensures { result ≡ weight_of (squares_in entries.now first last) }
+{
     let mut sum = 0;
-    for entry in entries {
-        if first <= entry.column && entry.column < last {
-            let Some(more) = with_square(&sum, &entry.number) else {
-                return 0;
-            };
-            sum = more;
+    let mut left = entries;
+    while let Some((entry, rest)) = left.split_first() {
+        left = rest;
+        match with_entry(sum, entry, first, last) {
+            Some(more) => sum = more,
+            None => return 0,
         }
     }
-    sum
+    sum as i128
+}
+
+/// A sum and the square of one number more, where that stands between the columns, unless it is outgrown.
+fn with_entry(sum: u128, entry: &Entry, first: u32, last: u32) -> Option<u128>
+    ensures { MatchOption result (2 ^ 127 - 1 < sum + square_between entry.now first last) (λ more. (more ≡ sum + square_between entry.now first last) × (sum ≤ 2 ^ 127 - 1 → more ≤ 2 ^ 127 - 1)) }
+{
+    if first <= entry.column && entry.column < last {
+        return with_square(sum, &entry.number);
+    }
+    Some(sum)
 }
 
 /// The cheapest of the first columns whose number has the sign of the row's right side.

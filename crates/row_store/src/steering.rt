@@ -1,8 +1,9 @@
 //! The choices of a dual simplex method. Which of several rows or columns is chosen decides how many steps a run
 //! takes, and nothing that is claimed of it.
 
-ghost use Rattle.std.specs.Prelude.{◌≡◌, ◌⊎◌, pos, ◌≤ℤ◌, ◌≤◌, Some, MatchOption, IsTrue, ◌↔◌};
+ghost use Rattle.std.specs.Prelude.{◌≡◌, ◌⊎◌, ◌+◌, ◌-◌, ◌^◌, ◌<◌, pos, ◌≤ℤ◌, ◌≤◌, Some, MatchOption, IsTrue, ◌↔◌};
 ghost use Rattle.row_store.specs.StepChoice.{are_alike};
+ghost use Rattle.row_store.specs.Weights.{held_size, square_of, weight_of};
 
 use frac_row::compare_ratio;
 use std::cmp::Ordering;
@@ -42,21 +43,47 @@ pub fn is_settled(side: &i128, basic: u32, columns: u32) -> bool
     *side == 0 || *side > 0 && basic < columns
 }
 
-/// The size of a number.
-pub fn size(number: &i128) -> i128 {
+/// The size of a number, or the greatest computed number where it is past that.
+pub fn size(number: &i128) -> i128
+    ensures { result ≡ held_size number.now }
+{
     number.checked_abs().unwrap_or(i128::MAX)
 }
 
 /// The square of a number, or 0 where that is outgrown.
-pub fn square(number: &i128) -> i128 {
-    number.checked_mul(*number).unwrap_or(0)
+pub fn square(number: &i128) -> i128
+    ensures { result ≡ weight_of (square_of number.now) }
+{
+    match with_square(0, number) {
+        Some(square) => square as i128,
+        None => 0,
+    }
 }
 
-/// A sum and the square of one number more, unless that is outgrown.
-pub fn with_square(sum: &i128, number: &i128) -> Option<i128> {
-    let square = number.checked_mul(*number)?;
-    sum.checked_add(square)
+/// A sum and the square of one number more, unless that is outgrown. Most numbers are 0.
+pub fn with_square(sum: u128, number: &i128) -> Option<u128>
+    ensures { MatchOption result (2 ^ 127 - 1 < sum + square_of number.now) (λ more. (more ≡ sum + square_of number.now) × (sum ≤ 2 ^ 127 - 1 → more ≤ 2 ^ 127 - 1)) }
+{
+    if *number == 0 {
+        return Some(sum);
+    }
+    let size = number.unsigned_abs();
+    match size.checked_mul(size) {
+        Some(square) => sum_within(sum, square),
+        None => None,
+    }
 }
+
+fn sum_within(a: u128, b: u128) -> Option<u128>
+    ensures { MatchOption result (2 ^ 127 - 1 < a + b) (λ sum. (sum ≡ a + b) × (sum ≤ 2 ^ 127 - 1)) }
+{
+    match a.checked_add(b) {
+        Some(sum) if sum <= MOST => Some(sum),
+        _ => None,
+    }
+}
+
+const MOST: u128 = i128::MAX as u128;
 
 /// The one of the best line so far and the next with the greater square over its norm.
 pub fn farther(best: Option<Leaver>, next: Leaver) -> Option<Leaver>

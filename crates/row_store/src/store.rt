@@ -7,6 +7,7 @@ ghost use Rattle.row_store.specs.PivotAnswers.{IsPivotError, IsStepError};
 ghost use Rattle.row_store.specs.Steps.{turned, stepped, step_growth};
 ghost use Rattle.row_store.specs.StepChoice.{AreSettled, IsUnsettled, AreUnlike, IsAlike, AreCostsAtLeast0};
 ghost use Rattle.row_store.specs.Choice.{entering, leaving};
+ghost use Rattle.row_store.specs.Weights.{squares_of, weight_of};
 
 use crate::choice::{Candidate, better, improves};
 use crate::error::PivotError;
@@ -149,18 +150,17 @@ pub trait RowStore: Sized {
     fn norm(&self, row: u32, columns: u32) -> i128
         requires row { row < height_of (content self.now) }
         requires columns { HasColumns (content self.now) columns }
+        ensures { result ≡ weight_of (squares_of (row_at (content self.now) row) columns (height_of (content self.now))) }
     {
         let mut sum = 0;
         for line in 0..self.height() {
             let number = self.number(row, columns + line);
-            if number != 0 {
-                let Some(more) = with_square(&sum, &number) else {
-                    return 0;
-                };
-                sum = more;
+            match with_square(sum, &number) {
+                Some(more) => sum = more,
+                None => return 0,
             }
         }
-        sum
+        sum as i128
     }
 
     /// A real column whose number in the row has the sign of the row's right side, where there is one. Which
