@@ -108,9 +108,9 @@ squares_are first count from width [] h = sum_below-zero count
 squares_are first count from width (x ∷ xs) h = elim (cases_lt x.column first) [
   | inl before ↦ passed (squares_are first count (x.column + 1) width xs h.3) (λ k lt e. apart_before before k e) (outside x first (first + count) (λ le. absurd (not_both le before)))
   | inr ge ↦ elim (cases_lt x.column (first + count)) [
-      | inl lt ↦ taken (squares_are first count (x.column + 1) width xs h.3) ge lt
-      | inr le ↦ passed (squares_are first count (x.column + 1) width xs h.3) (λ k lt e. apart_past le k lt e) (outside x first (first + count) (λ _. le))
-    ]
+    | inl lt ↦ taken (squares_are first count (x.column + 1) width xs h.3) ge lt
+    | inr le ↦ passed (squares_are first count (x.column + 1) width xs h.3) (λ k lt e. apart_past le k lt e) (outside x first (first + count) (λ _. le))
+  ]
 ]
   where
     not_both : first ≤ x.column → x.column < first → ⊥
@@ -153,7 +153,7 @@ squares_are first count from width (x ∷ xs) h = elim (cases_lt x.column first)
 pub list_weight : (entries : List Entry) (row : FracRow) (first count last width : ℕ) (weight : ℤ) → AreEntries 0 width entries → ((column : ℕ) → number_in entries column ≡ number_of row column) → last ≡ first + count → weight ≡ weight_of (squares_in entries first last) → weight ≡ weight_of (squares_of row first count)
 list_weight entries row first count last width weight rising is same e =
     e ∙ ap weight_of (ap (squares_in entries first) same ∙ sym (squares_are first count 0 width entries rising)
-      ∙ sum_below-agree _ _ count (record { each = λ k lt. ap square_of (is (first + k)) }))
+    ∙ sum_below-agree _ _ count (record { each = λ k lt. ap square_of (is (first + k)) }))
 
 -- .. and past the limit where a part of it is
 pub list_past : (left rest all : List Entry) (entry : Entry) (first last sum : ℕ) → sum + squares_in left first last ≡ squares_in all first last → left ≡ entry ∷ rest → 2 ^ 127 - 1 < sum + square_between entry first last → pos 0 ≡ weight_of (squares_in all first last)
