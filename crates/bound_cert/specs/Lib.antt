@@ -7,4 +7,5 @@ pub mod ProofText
 pub mod ReadProof
 pub mod ReadTree
 pub mod Reading
+pub mod Wants
 pub mod Words

@@ -3,6 +3,7 @@ ghost use Rattle.std.specs.Prelude.{◌≡◌, drop, IfOk};
 ghost use Rattle.bound_cert.specs.Known.{IsKnownOf};
 ghost use Rattle.bound_cert.specs.Lines.{Gives, first_words, seen};
 ghost use Rattle.bound_cert.specs.Reading.{figures_by, goes_on_at, is_needless, pair_at, place_by, rent_at, rent_by, rent_follows, rent_of, scale_at, step_at, step_by, step_of, weight_at, weight_by, weight_of};
+ghost use Rattle.bound_cert.specs.Wants.{WantsNone};
 ghost use Rattle.dual_bound.specs.Order.{place_before, same_place, step_follows, weight_follows};
 
 use crate::faults::Stop;
@@ -148,7 +149,7 @@ fn figures_by(alloc: Global, words: &[&[u8]], left: &[&[u8]]) -> Result<(u16, i1
     Ok((minute, value))
 }
 
-/// The fleet and the station by the words of a step's line.
+/// The fleet and the station by the words of a step's line. Takes no memory.
 #[tactic(auto, unfolding(crate::specs::Reading::place_by))]
 fn place_by(
     tables: &Tables,
@@ -157,7 +158,8 @@ fn place_by(
     left: &[&[u8]],
 ) -> Result<(u32, u32), Stop>
     requires { IsKnownOf tables.now known.now }
-    ensures { Gives (λ place. place) result (place_by tables.now (seen words.now) (seen left.now)) }
+    ensures gives { Gives (λ place. place) result (place_by tables.now (seen words.now) (seen left.now)) }
+    ensures wants_none { WantsNone result }
 {
     let fleet = fleet_at(tables, known, words, 1, left)?;
     let station = station_at(tables, known, words, 2, left)?;
@@ -281,7 +283,7 @@ fn weight_by(
     Ok(Weight { leg, fleet, weight })
 }
 
-/// A leg and a fleet by the second word and the third.
+/// A leg and a fleet by the second word and the third. Takes no memory.
 #[tactic(auto, unfolding(crate::specs::Reading::pair_at))]
 pub fn pair_at(
     tables: &Tables,
@@ -290,7 +292,8 @@ pub fn pair_at(
     left: &[&[u8]],
 ) -> Result<(u32, u32), Stop>
     requires { IsKnownOf tables.now known.now }
-    ensures { Gives (λ pair. pair) result (pair_at tables.now (seen words.now) (seen left.now)) }
+    ensures gives { Gives (λ pair. pair) result (pair_at tables.now (seen words.now) (seen left.now)) }
+    ensures wants_none { WantsNone result }
 {
     let leg = leg_at(tables, known, words, 1, left)?;
     let fleet = fleet_at(tables, known, words, 2, left)?;

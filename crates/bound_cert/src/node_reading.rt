@@ -3,9 +3,10 @@ ghost use Rattle.std.specs.Prelude.{◌≡◌, drop};
 ghost use Rattle.bound_cert.specs.Known.{IsKnownOf};
 ghost use Rattle.bound_cert.specs.Lines.{Gives, seen};
 ghost use Rattle.bound_cert.specs.Reading.{alone_node, body_at, deep_at, grew_by, head_at, head_of, lift_by, mixed_node, node_at, open_head, priced_node};
+ghost use Rattle.bound_cert.specs.Wants.{WantsNone};
 ghost use Rattle.bound_cert.specs.declared.nodes.Head.{Head};
 
-use crate::faults::{Stop, TOO_DEEP, UNKNOWN_NAME};
+use crate::faults::{Stop, TOO_DEEP};
 use crate::known::Known;
 use crate::line_reading::pair_at;
 use crate::nodes::{Alone, Fraction, Head, Priced};
@@ -51,9 +52,10 @@ fn head_at(
     Ok(deep_at(above, head, left)?)
 }
 
-/// Goes on where a node isn't too deep.
+/// Goes on where a node isn't too deep. Takes no memory.
 fn deep_at(above: usize, head: Head, left: &[&[u8]]) -> Result<Head, Stop>
-    ensures { Gives (λ head. head) result (deep_at above head (seen left.now)) }
+    ensures gives { Gives (λ head. head) result (deep_at above head (seen left.now)) }
+    ensures wants_none { WantsNone result }
 {
     if above <= MAX_DEPTH {
         Ok(head)

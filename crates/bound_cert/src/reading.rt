@@ -5,6 +5,7 @@ ghost use Rattle.bound_cert.specs.Lines.{Gives, left_of, seen};
 ghost use Rattle.bound_cert.specs.Nodes.{end_at, head_is, nothing, plan_at, proof_at, rest_at, tree_at};
 ghost use Rattle.dual_bound.specs.Nodes.{nodes_of};
 ghost use Rattle.dual_bound.specs.OfTables.{IsOfTables};
+ghost use Rattle.bound_cert.specs.Wants.{WantsNone};
 ghost use Rattle.bound_cert.specs.ReadProof.{AnswersProof, FaultIn, FaultOf, IsTextOf, LinesRead, ReadsAs, answer_of};
 ghost use Rattle.dual_bound.specs.declared.trees.Tree.{Tree};
 
@@ -81,10 +82,11 @@ fn proof_at(alloc: Global, tables: &Tables, known: &Known, left: &[&[u8]]) -> Re
     Ok(rest_at(alloc, tables, known, behind(left))?)
 }
 
-/// Goes on where the first line is the head.
+/// Goes on where the first line is the head. Takes no memory.
 #[tactic(auto, unfolding(crate::specs::Nodes::head_is))]
 fn head_is(left: &[&[u8]]) -> Result<(), Stop>
-    ensures { Gives (λ _. tt) result (head_is (seen left.now)) }
+    ensures gives { Gives (λ _. tt) result (head_is (seen left.now)) }
+    ensures wants_none { WantsNone result }
 {
     let Some((line, rest)) = left.split_first() else {
         return stopped(left, WRONG_HEAD);
@@ -139,10 +141,11 @@ fn end_at(alloc: Global, left: &[&[u8]]) -> Result<(), Stop>
     Ok(nothing(behind(left))?)
 }
 
-/// Goes on where nothing is left.
+/// Goes on where nothing is left. Takes no memory.
 #[tactic(auto, unfolding(crate::specs::Nodes::nothing))]
 fn nothing(left: &[&[u8]]) -> Result<(), Stop>
-    ensures { Gives (λ _. tt) result (nothing (seen left.now)) }
+    ensures gives { Gives (λ _. tt) result (nothing (seen left.now)) }
+    ensures wants_none { WantsNone result }
 {
     let Some((line, rest)) = left.split_first() else {
         return Ok(());

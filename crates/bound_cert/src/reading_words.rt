@@ -5,6 +5,7 @@ ghost use Rattle.bound_cert.specs.Figures.{natural_in, number_in};
 ghost use Rattle.bound_cert.specs.Known.{IsKnownOf, fleet_named, leg_named, station_named};
 ghost use Rattle.bound_cert.specs.Lines.{Gives, present, seen, word_at};
 ghost use Rattle.bound_cert.specs.Reading.{count_at, in_order};
+ghost use Rattle.bound_cert.specs.Wants.{WantsNone};
 ghost use Rattle.bound_cert.specs.declared.faults.TheConstants.{UNKNOWN_NAME, WRONG_NUMBER};
 
 use crate::faults::{Stop, UNKNOWN_NAME, WRONG_NUMBER, WRONG_ORDER};
@@ -49,7 +50,7 @@ pub fn minute_at(alloc: Global, words: &[&[u8]], place: usize, left: &[&[u8]]) -
     }
 }
 
-/// A leg by a word.
+/// A leg by a word. Takes no memory.
 pub fn leg_at(
     tables: &Tables,
     known: &Known,
@@ -58,7 +59,8 @@ pub fn leg_at(
     left: &[&[u8]],
 ) -> Result<u32, Stop>
     requires { IsKnownOf tables.now known.now }
-    ensures { Gives (λ n. n) result (present (leg_named tables.now (word_at (seen words.now) place)) (seen left.now) UNKNOWN_NAME) }
+    ensures gives { Gives (λ n. n) result (present (leg_named tables.now (word_at (seen words.now) place)) (seen left.now) UNKNOWN_NAME) }
+    ensures wants_none { WantsNone result }
 {
     match known.leg(tables, word_at(words, place)) {
         Some(leg) => Ok(leg),
@@ -66,7 +68,7 @@ pub fn leg_at(
     }
 }
 
-/// A fleet by a word.
+/// A fleet by a word. Takes no memory.
 pub fn fleet_at(
     tables: &Tables,
     known: &Known,
@@ -75,7 +77,8 @@ pub fn fleet_at(
     left: &[&[u8]],
 ) -> Result<u32, Stop>
     requires { IsKnownOf tables.now known.now }
-    ensures { Gives (λ n. n) result (present (fleet_named tables.now (word_at (seen words.now) place)) (seen left.now) UNKNOWN_NAME) }
+    ensures gives { Gives (λ n. n) result (present (fleet_named tables.now (word_at (seen words.now) place)) (seen left.now) UNKNOWN_NAME) }
+    ensures wants_none { WantsNone result }
 {
     match known.fleet(tables, word_at(words, place)) {
         Some(fleet) => Ok(fleet),
@@ -83,7 +86,7 @@ pub fn fleet_at(
     }
 }
 
-/// A station by a word.
+/// A station by a word. Takes no memory.
 pub fn station_at(
     tables: &Tables,
     known: &Known,
@@ -92,7 +95,8 @@ pub fn station_at(
     left: &[&[u8]],
 ) -> Result<u32, Stop>
     requires { IsKnownOf tables.now known.now }
-    ensures { Gives (λ n. n) result (present (station_named tables.now (word_at (seen words.now) place)) (seen left.now) UNKNOWN_NAME) }
+    ensures gives { Gives (λ n. n) result (present (station_named tables.now (word_at (seen words.now) place)) (seen left.now) UNKNOWN_NAME) }
+    ensures wants_none { WantsNone result }
 {
     match known.station(tables, word_at(words, place)) {
         Some(station) => Ok(station),
@@ -100,9 +104,10 @@ pub fn station_at(
     }
 }
 
-/// Goes on where a line is in order.
+/// Goes on where a line is in order. Takes no memory.
 pub fn in_order(is: bool, left: &[&[u8]]) -> Result<(), Stop>
-    ensures { Gives (λ _. tt) result (in_order is (seen left.now)) }
+    ensures gives { Gives (λ _. tt) result (in_order is (seen left.now)) }
+    ensures wants_none { WantsNone result }
 {
     if is {
         Ok(())
