@@ -1,5 +1,5 @@
 -- What the second run over the lines of a subproblem comes to.
-use Rattle.std.specs.Prelude.{◌≡◌, ℕ, List, IsSome, IsSomeAnd, Option, Some, None, Result, Ok, Err, IsErr, ⊤}
+use Rattle.std.specs.Prelude.{◌≡◌, ℕ, List, IsSomeAnd, Option, Some, None, Result, Ok, Err, IsErr, ⊤}
 use Rattle.entries.specs.declared.memory.NoMemory.{NoMemory}
 use Rattle.fleet_model.specs.Kept.{Domains}
 use Rattle.fleet_model.specs.declared.tables.Tables.{Tables}

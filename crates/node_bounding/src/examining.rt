@@ -1,5 +1,5 @@
 //! What becomes of a subproblem when it is made: a leaf of the tree, or one that waits to be split.
-ghost use Rattle.std.specs.Prelude.{◌≡◌, ◌≤ℤ◌, ◌<ℤ◌, ℕ, IfOk, IfSome, IsSomeAnd, MatchBool};
+ghost use Rattle.std.specs.Prelude.{◌≡◌, ◌≤ℤ◌, ◌<ℤ◌, ℕ, IfOk, IfSome, IsSomeAnd, MatchBool, OnErr};
 ghost use Rattle.frac_row.specs.Ratio.{IsCeiling};
 ghost use Rattle.fleet_model.specs.Kept.{kept_by};
 ghost use Rattle.fleet_model.specs.Whole.{KeepAllowed};
@@ -26,7 +26,7 @@ use frac_row::ceil_div;
 use std::alloc::Global;
 
 /// Examines a subproblem, whose nearest split above has these prices, with at most so many pivots. A plan that is found
-/// at it takes the place of the best one where it is cheaper.
+/// at it takes the place of the best one where it is cheaper. One with a bare leg, or with one assignment, takes no memory.
 pub fn examine(
     alloc: Global,
     tables: &Tables,
@@ -38,7 +38,8 @@ pub fn examine(
     requires best { IfSome best.old (IsPlan tables.now) }
     requires allowed { KeepAllowed tables.now (kept_by kept.now) }
     requires above { AreGood tables.now above.now }
-    ensures { IfOk result (IsExamined tables.now pivots best.old best.new (kept_by kept.now) above.now) }
+    ensures examined { IfOk result (IsExamined tables.now pivots best.old best.new (kept_by kept.now) above.now) }
+    ensures memory { OnErr result (IsSearched tables.now (kept_by kept.now)) }
 {
     if let Some(leg) = kept.bare_leg(tables) {
         return Ok(State::Leaf(Tree::Bare { leg }));

@@ -7,4 +7,4 @@ pub examine-requires-clause-above : goal.examine-requires-clause-above
 examine-requires-clause-above c = rw c.in_ok-above.ensures (zero_good _)
 
 pub returns-clause-search : goal.returns-clause-search
-returns-clause-search c = first_search _ _ _ _ _ _ _ c.requires c.in_ok-above.ensures refl refl c.new.ensures.items c.new-2.ensures.empty c.in_ok-state.ensures c.in_ok-put.ensures
+returns-clause-search c = first_search _ _ _ _ _ _ _ c.requires c.in_ok-above.ensures refl refl c.new.ensures.items c.new-2.ensures.empty c.in_ok-state.ensures.examined c.in_ok-put.ensures

@@ -4,20 +4,20 @@ use Rattle.node_bounding.specs.Relaxed.{IsRelaxed}
 use Rattle.node_bounding.proofs.Examined.{after_no_sole, before_no_sole, refuted_leaf, sole_leaf, stopped_leaf}
 use Rattle.node_bounding.proofs.examining.examine.Goals as goal
 
-pub returns-then-offer_sole : goal.returns-then-offer_sole
-returns-then-offer_sole c = sole_leaf _ _ _ _ _ _ c.if-offer_sole.ensures
+pub returns-then-offer_sole-clause-examined : goal.returns-then-offer_sole-clause-examined
+returns-then-offer_sole-clause-examined c = sole_leaf _ _ _ _ _ _ c.if-offer_sole.ensures
 
-pub returns-in-Refuted : goal.returns-in-Refuted
-returns-in-Refuted c =
+pub returns-in-Refuted-clause-examined : goal.returns-in-Refuted-clause-examined
+returns-in-Refuted-clause-examined c =
     after_no_sole _ _ _ _ _ _ _ c.if-offer_sole.ensures
     (refuted_leaf _ c.args.pivots _ c.requires.best _ _ _ (record { some_pair = c.in_default.ensures; some_choice = c.if-offer_sole.ensures.not_sole })
     (subst (IsRelaxed c.args.tables.now (kept_by c.args.kept.now) c.args.pivots) c.in-Refuted.is c.in_ok-prices.ensures))
 
-pub returns-in_ok-copied-in-Stopped : goal.returns-in_ok-copied-in-Stopped
-returns-in_ok-copied-in-Stopped c =
+pub returns-in_ok-copied-in-Stopped-clause-examined : goal.returns-in_ok-copied-in-Stopped-clause-examined
+returns-in_ok-copied-in-Stopped-clause-examined c =
     after_no_sole _ _ _ _ _ _ _ c.if-offer_sole.ensures
     (stopped_leaf _ c.args.pivots _ c.requires.best _ _ _ _ (record { some_pair = c.in_default.ensures; some_choice = c.if-offer_sole.ensures.not_sole }) c.requires.above c.in_ok-copied-in-Stopped.ensures
     (subst (IsRelaxed c.args.tables.now (kept_by c.args.kept.now) c.args.pivots) c.in-Stopped.is c.in_ok-prices.ensures))
 
-pub returns-in-Bounded : goal.returns-in-Bounded
-returns-in-Bounded c = before_no_sole _ _ _ _ _ _ _ _ c.if-offer_sole.ensures (c.bounded.ensures c.args.pivots c.args.above.now)
+pub returns-in-Bounded-clause-examined : goal.returns-in-Bounded-clause-examined
+returns-in-Bounded-clause-examined c = before_no_sole _ _ _ _ _ _ _ _ c.if-offer_sole.ensures (c.bounded.ensures c.args.pivots c.args.above.now)
