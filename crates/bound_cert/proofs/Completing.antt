@@ -275,7 +275,7 @@ module _ (t : Tables) (line : List ℕ) (after : Left) where
             let none : step.minute ≡ 0 = grind (arith, nat_tests, minute) in
             let zero : step.value ≡ pos 0 = (Decides-int_eq step.value (pos 0)).0 value in
             let order : IsStepInOrder t next = record { fleet = was.order.fleet; station = was.order.station; minute = omega arith; value = one_figure } in
-            let place : same_place step next ≡ true = same_place_by t step next refl refl in
+            let place : same_place step next ≡ true = same_place_by step next refl refl in
             let follows : step_follows (Some step) next ≡ true = rw place (rw (none, zero) refl) in
             let each : All (IsStepInOrder t) (next ∷ []) = All-cons (IsStepInOrder t) next [] order (All-nil (IsStepInOrder t)) in
             let of : All (IsStepOf t) (next ∷ []) = All-cons (IsStepOf t) next [] (of_step t next order) (All-nil (IsStepOf t)) in
