@@ -1,10 +1,9 @@
 -- The bytes of the tables, of the proof and of the plan fix what checking answers.
-use Rattle.std.proofs.Common.{◌≡◌, ◌⊎◌, ℕ, ◌+◌, ◌-◌, Bool, true, false, List, length, Option, Some, None, ℤ, refl, sym, ap, subst, ◌∙◌, inl, inr, arith}
-use Rattle.bound_cert.specs.Lines.{Stopped, left_of}
+use Rattle.std.proofs.Common.{◌≡◌, ◌⊎◌, ℕ, ◌+◌, ◌-◌, Bool, true, false, List, length, Option, Some, None, Err, ℤ, refl, sym, ap, subst, ◌∙◌, inl, inr, arith}
+use Rattle.bound_cert.specs.Lines.{Reading, Stopped, left_of}
 use Rattle.dual_bound.specs.Nodes.{nodes_of}
 use Rattle.bound_cert.specs.ReadProof.{IsFirstFault}
 use Rattle.bound_cert.specs.declared.faults.CertFault.{CertFault}
-use Rattle.bound_cert.proofs.ReadBack.{err_same}
 use Rattle.dual_bound.specs.declared.trees.Tree.{Tree}
 use Rattle.cert_check.proofs.OneVerdict as tree
 use Rattle.csv_fields.specs.Record.{records_of}
@@ -27,9 +26,12 @@ record SameFault (one other : CertFault) : Type 0 where
   line_is : one.line ≡ other.line
   kind_is : one.kind ≡ other.kind
 
+one_error : {A : Type 0} (one other : Stopped) → ◌≡◌ {A = Reading A} (Err one) (Err other) → one ≡ other
+one_error one other e = cc
+
 one_fault : (t : Tables) (bytes : List ℕ) (one other : CertFault) → IsFirstFault t (left_of bytes) one → IsFirstFault t (left_of bytes) other → SameFault one other
 one_fault t bytes one other x y =
-    let same = err_same _ _ (sym x.stops ∙ y.stops) in
+    let same = one_error _ _ (sym x.stops ∙ y.stops) in
     record { line_is = x.line ∙ ap (λ (s : Stopped). length (left_of bytes) - s.left + 1) same ∙ sym y.line; kind_is = ap (λ (s : Stopped). s.kind) same }
 
 -- a plan that its verdict refuses isn't legal

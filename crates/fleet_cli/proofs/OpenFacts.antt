@@ -1,10 +1,10 @@
 -- What the tables and the proof of a folder come to.
-use Rattle.std.proofs.Common.{◌≡◌, ◌⊎◌, ℕ, Bool, true, false, List, Some, refl, sym, ap, subst, ◌∙◌, inl, inr}
+use Rattle.std.proofs.Common.{◌≡◌, ◌⊎◌, ℕ, Bool, true, false, List, Some, Ok, refl, sym, ap, subst, ◌∙◌, inl, inr}
+use Rattle.bound_cert.specs.Lines.{Reading}
 use Rattle.dual_bound.specs.Nodes.{nodes_of}
 use Rattle.bound_cert.specs.ReadProof.{ReadsAs}
 use Rattle.dual_bound.specs.declared.nodes.Node.{Node}
 use Rattle.bound_cert.specs.declared.reading.Proof.{Proof}
-use Rattle.bound_cert.proofs.ReadBack.{ok_same}
 use Rattle.command_words.specs.Words.{check}
 use Rattle.fleet_model.specs.declared.parts.Settings.{Settings}
 use Rattle.fleet_model.specs.declared.tables.Tables.{Tables}
@@ -19,13 +19,17 @@ use Rattle.fleet_cli.specs.declared.answer.Answer.{Answer}
 use Rattle.fleet_cli.specs.declared.opened.Opened.{Opened}
 use Rattle.fleet_cli.specs.declared.opened.Opened.TheVariants as opened
 
+-- a text reads as one proof, or has a fault
+pub one_value : {A : Type 0} (one other : A) → ◌≡◌ {A = Reading A} (Ok one) (Ok other) → one ≡ other
+one_value one other e = cc
+
 pub never_read : (t : Tables) (text : List ℕ) (answer : Answer) (proof : Proof) → RefusesProof t text answer → ReadsAs t text proof → ⊥
 never_read t text answer proof x reads = let both = sym x.bad.stops ∙ reads in let never : ⊥ = cc in never
 
 -- what the one proof of a text says
 pub says_one : (t : Tables) (text : List ℕ) (one other : Proof) → ReadsAs t text one → ReadsAs t text other → (one.planned ≡ other.planned) × (nodes_of one.tree ≡ nodes_of other.tree)
 says_one t text one other x y =
-    let read = ok_same _ _ (sym x ∙ y) in
+    let read = one_value _ _ (sym x ∙ y) in
     (ap (λ (p : Bool × List Node). p.0) read, ap (λ (p : Bool × List Node). p.1) read)
 
 -- where the proof says that no plan comes with it, none is wanted
