@@ -31,6 +31,7 @@ first_matched worths draft columns column_duals = record {
   unused = λ row lt _ _. ap (slice_index draft.column_duals) (in_order (length worths) row draft.columns columns lt)
       ∙ ap (λ ys. slice_index ys row) column_duals ∙ get_or-list_below (λ k. 0) (length worths) row 0 lt;
 }
+
 pub first_duals : (worths : List (List ℕ)) (draft : Draft) → draft.column_duals ≡ list_below (λ k. 0) (length worths)
     → ((row column : ℕ) → row < length worths → column < length worths → worth_at worths row column ≤ row_dual draft row)
     → ((row : ℕ) → row < length worths → row_dual draft row ≤ MAX_WORTH) → HasDuals worths draft

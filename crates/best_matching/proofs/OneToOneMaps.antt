@@ -24,6 +24,7 @@ over_map f map n within =
 
 given_once : (map : ℕ → ℕ) (n j : ℕ) → IsOneToOne map n → count_below (λ k. map k == j) n ≤ 1
 given_once map n j m = count_below-no_two (λ k. map k == j) n (λ i k i_lt k_lt p q. m.distinct i k i_lt k_lt (eqb-true _ _ p ∙ sym (eqb-true _ _ q)))
+
 -- numbers of at most 1 that sum to as many as there are
 all_one : (c : ℕ → ℕ) (n k : ℕ) → ((j : ℕ) → c j ≤ 1) → sum_below c n ≡ n → k < n → c k ≡ 1
 all_one c zero k most e lt = absurd (omega arith)

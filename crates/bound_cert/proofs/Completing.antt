@@ -239,6 +239,7 @@ module _ (t : Tables) (line : List ℕ) (after : Left) where
     onward m some needed =
         let first : x ≡ joined (at_line t step) = first_same x (joined (at_line t step)) end end was.line_is.is in
         steps_more t steps before (x ∷ m) step is (ap (λ y. step_at t before (y ∷ m)) first ∙ step_read t before step m was.order was.follows needed some)
+
     -- behind lines of another kind it is needed as little as behind such
     stays_needed : (m : Left) → begins end (codes "at") ≡ false → begins m (codes "at") ≡ false → is_needless step (at_line t step) m ≡ false
     stays_needed m here there = by_zero (step.minute == 0) (int_eq step.value (pos 0)) (goes_on_at (first_words end) (at_line t step)) (goes_on_at (first_words m) (at_line t step)) (rw here refl) was.needed

@@ -171,6 +171,7 @@ module _ (t : Tables) (a : List ℕ) (f : ℕ) (turns : List Connection) (map : 
             there = tour_turn found.0 found.1 ∙ ap₂ turn_between found.2 same;
           };
     }
+
   -- where all the fleet's legs have the label of the first, all are in the round
   pub is_joined : (pairs : List Connection) (labels : List ℕ) → IsFitting t a f turns → Holds turns pairs → length labels ≡ legs_in t
       → ((inside : ℕ → Bool) → KeepsPart turns inside → IsOfLabels labels inside)

@@ -93,6 +93,7 @@ module _ (t : Tables) (prices : Prices) (proper : ArePrices t prices) (w : Weigh
   all_arriving = over_places (λ l. (leg_of t l).to) (λ l. nat_le (ready_at l) last_minute) (λ l s. pos (w (leg_on l f)) *ℤ price_of prices f s (ready_minute t (leg_on l f))) (stations_in t) (legs_in t)
       (record { each = λ l below. (t.in_range.legs_fit.each l no_leg below).to })
       (λ l below. by_last_minute (ready_at l) (mod_below (departure t (leg_on l f) + busy_minutes t (leg_on l f)) MINUTES_PER_PERIOD (omega arith)))
+
   -- departures are worth no more than arrivals and the rent of the need at all stations
   at_stations : sum_below_ℤ departing (legs_in t) ≤ℤ (sum_below_ℤ arriving (legs_in t) +ℤ (pos (sum_below (need_of t w f) (stations_in t)) *ℤ rent_of prices f))
   at_stations =

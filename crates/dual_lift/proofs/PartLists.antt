@@ -27,6 +27,7 @@ part_kept table basis scale line columns xs are other = subst (λ n. AreParts (p
   all = are.all;
   each = λ column below. are.each column below ∙ ap (λ b. pos (cond b (part_of table scale line) (part_below table basis scale line column))) (sym (greater_differs (get_or basis line 0) column (omega arith)));
 })
+
 -- a line of one of them
 pub part_set : (table : List FracRow) (basis : List ℕ) (scale line columns column : ℕ) (xs ys : List ℤ) (w : ℤ) → AreParts (part_below table basis scale line) columns xs → column ≡ get_or basis line 0 → column < columns → w ≡ pos (part_of table scale line) → ys ≡ set xs column w
     → AreParts (part_below table basis scale (line + 1)) columns ys

@@ -33,8 +33,8 @@ cases_sign (pos n) some = inr (above n some, not_negative_tested (pos n) (omega 
       where
         positive : (n : ℕ) → n ≢ 0 → pos 0 <ℤ pos n
         positive n some = omega (arith, ints)
-
 cases_sign (negsuc n) some = inl (omega (arith, ints), negative_tested (negsuc n) (omega (arith, ints)))
+
 module _ (rows : Rows) (table : List FracRow) (basis : List ℕ) (is : IsTableOf rows table basis) (reads : ReadsOff rows table) where
   -- ---- by the cost row
   weighed_signs : (column : ℕ) → column ≤ rows.columns → weighed rows (sign_value table) column ≡ (cost_den table *ℤ get_or rows.costs column (pos 0)) -ℤ amount_at table rows.columns (cost_row table) column

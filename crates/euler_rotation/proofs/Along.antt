@@ -41,8 +41,10 @@ module _ (front : List ℕ) (last l : ℕ) where
   size : length before ≡ suc (length front)
   unfolding before
   size = length-append front (last ∷ []) ∙ add-one (length front)
+
   size_more : length (before ++ l ∷ []) ≡ suc (suc (length front))
   size_more = length-append before (l ∷ []) ∙ ap (λ n. n + 1) size ∙ add-one (suc (length front))
+
   last_turn : turn_after (before ++ l ∷ []) (length front) ≡ turn_to last l
   unfolding before
   last_turn =

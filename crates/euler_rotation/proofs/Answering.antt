@@ -106,6 +106,7 @@ module _ (t : Tables) (a : List ℕ) (f : ℕ) where
 
         begins : slice_index (turned place.0 legs) 0 ≡ slice_index order 0
         begins = entry_turned legs place.0 place.1 0 (omega (arith, place.1)) ∙ ap (slice_index legs) (from_start place.0 (length legs) place.1) ∙ eqb-true _ _ place.2
+
     -- a fleet without a leg has no tour
     none_flown : (legs : List ℕ) → IsUnused t a f → IsKeptTour t a f pairs days legs → ⊥
     none_flown legs unused kept =
@@ -136,6 +137,7 @@ pub not_kept : (asked other : Asked) (legs joined : List ℕ) (b : Bool) → oth
 unfolding kept_for
 not_kept asked other legs joined b same list told fails kept =
     false≢true (sym fails ∙ told.1 (subst (λ (q : Asked). kept_for q legs) (sym same) (subst (kept_for asked) (sym list) kept)))
+
 -- a search that found nothing
 unfoldable pub found_for : Asked → List ℕ → ℕ → Found → Type 0
 found_for asked order visits found = IsFoundUnder asked.tables.now asked.plan.now asked.fleet asked.pairs.now asked.days order visits found

@@ -36,6 +36,7 @@ told_clean t a f turn numbers b segments told = by_test b yes_clean not_clean
 
     not_clean : b ≡ false → b ≡ is_clean t a f turn
     not_clean e = e ∙ sym (by_test (is_clean t a f turn) (λ clean. absurd (false≢true (sym e ∙ told.1 (law.1 (clean_to t a f turn clean))))) (λ other. other))
+
 -- the same of what is read
 pub told_by : (t : Tables) (a : List ℕ) (f : ℕ) (turn : Connection) (all : List (List ℕ)) → AreAllSegments t a f all
     → (s : ℕ) (numbers : List ℕ) (ready departure : ℕ) (b : Bool) → s ≡ station_at t turn → numbers ≡ get_or all s numbers

@@ -87,6 +87,7 @@ module _ (t : Tables) (days : ℕ) where
 
   first_none : (x : Night) (xs : List Night) → can_maintain t x ≡ false → (place : ℕ) → place ≡ 0 → can_maintain t (at (x ∷ xs) place) ≡ true → ⊥
   first_none x xs none place e maintained = false≢true (sym none ∙ ap (λ k. can_maintain t (at (x ∷ xs) k)) (sym e) ∙ maintained)
+
   below_now : (x : Night) (xs : List Night) (n : ℕ) → n < days → ((first : ℕ) → first + days ≤ n + length (x ∷ xs) → SomeWithin t days n (x ∷ xs) first) → StaysBelow xs
       → can_maintain t x ≡ true → stays_below t days n (x ∷ xs) ≡ true
   below_now x xs n few windows rest some =

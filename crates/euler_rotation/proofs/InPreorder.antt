@@ -53,6 +53,7 @@ pair_kept turn pair there back = by_test (pair.arriving == turn.arriving)
     (λ e. ap (λ b. if b then pair.departing == turn.departing else not (pair.departing == turn.departing)) e ∙ eq-eqb _ _ (there (eqb-true _ _ e)))
     (λ e. ap (λ b. if b then pair.departing == turn.departing else not (pair.departing == turn.departing)) e
     ∙ ap not (by_test (pair.departing == turn.departing) (λ same. absurd (false≢true (sym e ∙ eq-eqb _ _ (back (eqb-true _ _ same))))) (λ other. other)))
+
 module _ (t : Tables) (a : List ℕ) (f : ℕ) (pairs : List Connection) (days : ℕ) (some_days : 0 < days) (tour : List ℕ) (kept : IsKeptTour t a f pairs days tour) where
   order_is : IsOrder t a f tour
   order_is = tour_order t a f tour kept.tour
@@ -80,6 +81,7 @@ module _ (t : Tables) (a : List ℕ) (f : ℕ) (pairs : List Connection) (days :
       where
         back : (i j : ℕ) → i < length tour → j < length tour → suc i % length tour ≡ suc j % length tour → i ≡ j
         back i j first second same = same_round i j 1 (length tour) first second (omega arith) (ap (λ n. n % length tour) (add-one i) ∙ same ∙ ap (λ n. n % length tour) (sym (add-one j)))
+
     turns_well : may_turn t a f pairs (slice_index tour k) (slice_index tour (suc k)) ≡ true
     turns_well =
         ap (λ turn. meets t turn && is_clean t a f turn && list_all (keeps_pair turn) pairs) (sym turn_is)
@@ -101,6 +103,7 @@ module _ (t : Tables) (a : List ℕ) (f : ℕ) (pairs : List Connection) (days :
     often = first_nights t f tour (suc k) lt days
         (first_true (stays_below t days 0 (nights_of_tour t f tour)) (stays_below t days (nights_since t 0 (nights_of_tour t f tour)) (nights_of_tour t f tour))
         (sym (below_append t days 0 (nights_of_tour t f tour) (nights_of_tour t f tour)) ∙ kept_below t days (nights_of_tour t f tour) some_days kept.kept))
+
     pub follows : may_follow t a f pairs days (take k tour) (slice_index tour k) (slice_index tour (suc k)) ≡ true
     follows =
         both_true (may_turn t a f pairs (slice_index tour k) (slice_index tour (suc k))) (is_open t f days (take k tour ++ slice_index tour k ∷ []) (slice_index tour (suc k))) turns_well

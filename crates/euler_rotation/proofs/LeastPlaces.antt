@@ -61,6 +61,7 @@ module _ (t : Tables) (f : ℕ) (tour : List ℕ) where
 
         begins : 0 < nights_after t f (turned r tour) (length (turned r tour) - 1)
         begins = subst (λ (n : ℕ). 0 < n) (sym (ap (λ n. nights_after t f (turned r tour) (n - 1)) long ∙ nights_there (length tour - 1) (omega (arith, is.within)) ∙ ap (λ j. nights_after t f tour (j % length tour)) (add_comm (length tour - 1) r))) is.night
+
         least : (k : ℕ) → k < length (turned r tour) → 0 < nights_before t f (turned r tour) k → slice_index (turned r tour) 0 ≤ slice_index (turned r tour) k
         least k lt some =
             let low : k < length tour = omega (arith, long) in

@@ -32,6 +32,7 @@ pub since_more : (t : Tables) (x : Night) → can_maintain t x ≡ false → (n 
 since_more t x none n zero = omega arith
 since_more t x none n (suc k) =
     ap (λ b. nights_since t (if b then 0 else suc n) (replicate k x)) none ∙ since_more t x none (suc n) k ∙ suc_moved n k
+
 more_first : (t : Tables) (days : ℕ) (x : Night) → can_maintain t x ≡ false → (n k : ℕ)
     → (suc n < days → stays_below t days (suc n) (replicate k x) ≡ nat_lt (suc n + k) days) → (b : Bool) → nat_lt (suc n) days ≡ b
     → stays_below t days n (replicate (suc k) x) ≡ nat_lt (n + suc k) days
@@ -87,10 +88,12 @@ module _ (t : Tables) (days n k m s : ℕ) (few : n < days) where
 
   pub too_many_aloft : days ≤ n + k → stays_below t days n (nights_of_turn k m s) ≡ false
   too_many_aloft full = front ∙ ap (λ b. b && stays_below t days (n + k) (replicate m (night.At s))) (le-ltb (n + k) days full)
+
   -- where those aloft are few enough
   module _ (less : n + k < days) where
     tested : nat_lt (n + k) days ≡ true
     tested = lt-ltb (n + k) days less
+
     rest : stays_below t days n (nights_of_turn k m s) ≡ stays_below t days (n + k) (replicate m (night.At s))
     rest = front ∙ ap (λ b. b && stays_below t days (n + k) (replicate m (night.At s))) tested
 
@@ -107,14 +110,17 @@ module _ (t : Tables) (days n k m s : ℕ) (few : n < days) where
       since_is = sym (back ∙ ap (λ j. nights_since t (n + k) (replicate j (night.At s))) (one_behind m some) ∙ since_none t (night.At s) there (n + k) (m - 1));
       few = omega arith;
     }
+
     pub too_many_stood : can_maintain t (night.At s) ≡ false → days ≤ n + k + m → stays_below t days n (nights_of_turn k m s) ≡ false
     too_many_stood there full = rest ∙ below_more t days (night.At s) there (n + k) m less ∙ le-ltb (n + k + m) days full
+
     pub stood : (since : ℕ) → can_maintain t (night.At s) ≡ false → since < days → since ≡ n + k + m → StayBelow t days n (nights_of_turn k m s) since
     stood since there low is = record {
       below = rest ∙ below_more t days (night.At s) there (n + k) m less ∙ lt-ltb (n + k + m) days (omega arith);
       since_is = is ∙ sym (back ∙ since_more t (night.At s) there (n + k) m);
       few = low;
     }
+
 -- some of them are for maintenance
 repeated_any : (t : Tables) (x : Night) (m : ℕ) → list_any (can_maintain t) (replicate m x) ≡ (nat_lt 0 m && can_maintain t x)
 repeated_any t x zero = grind (arith, nat_tests)

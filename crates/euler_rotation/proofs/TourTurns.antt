@@ -101,6 +101,7 @@ module _ (t : Tables) (a : List ℕ) (f : ℕ) where
   counted order is =
       sym (sum_below-ones (length order)) ∙ by_places (slice_index order) (λ l. 1) (legs_in t) (length order) is.known
       ∙ sum_below-agree (λ l. times_in order l * 1) (λ l. weights_of a (leg_on l f) * 1) (legs_in t) (record { each = λ l lt. ap (λ n. n * 1) (is.once l lt) })
+
   pub same_length : (xs ys : List ℕ) → IsOrder t a f xs → IsOrder t a f ys → length xs ≡ length ys
   same_length xs ys first second = counted xs first ∙ sym (counted ys second)
 

@@ -63,6 +63,7 @@ module _ (t : Tables) (days : ℕ) (xs ys : List Night) (kept : IsKeptFor t (xs 
 
   long_moved : length (ys ++ xs) ≡ length xs + length ys
   long_moved = length-append ys xs ∙ add_comm (length ys) (length xs)
+
   some : 0 < length xs + length ys
   some = omega (arith, kept.some, long)
 
@@ -87,6 +88,7 @@ module _ (t : Tables) (days : ℕ) (xs ys : List Night) (kept : IsKeptFor t (xs 
         where
           same : (first after : ℕ) → (first + after + length xs) % length (xs ++ ys) ≡ ((first + length xs) % length (xs ++ ys) + after) % length (xs ++ ys)
           same first after = ap (λ j. j % length (xs ++ ys)) (add_right_comm first after (length xs)) ∙ sym (mod-add-mod (first + length xs) (length (xs ++ ys)) after)
+
 -- ---- legs, begun later
 module _ (legs : List ℕ) (r : ℕ) (less : r < length legs) where
   pub length_turned : length (turned r legs) ≡ length legs

@@ -45,6 +45,7 @@ module _ (field : Field) where
         | inr high ↦ ends (subst (is_kept_in field) (ap (entry_of (preorder_in field)) (last_below k n lt high) ∙ here.1) kept)
       ];
     }
+
     pub visited_more : (next : Walk) → StandsAt field (pending_in field walk.path 0) next → HasVisited field (n + 1) next
     visited_more next at = record { walk = at.walk; rest = here.2 ∙ at.first; none = one_none }
 
@@ -62,6 +63,7 @@ module _ (field : Field) where
       none = λ k lt kept. one_none.each k (omega (arith, lt, is)) kept;
       last = last ∙ sym here.1 ∙ sym (ap (numbered (preorder_in field)) (is ∙ add-one n));
     }
+
   -- none is visited
   pub visited_at_0 : (prefix : List ℕ) (visits : ℕ) → IsField field → 0 < length (preorder_in field) → visits ≡ 0 → prefix ≡ []
       → AreVisited field.clean.now.asked.now.tables.now field.clean.now.asked.now.plan.now field.clean.now.asked.now.fleet field.clean.now.asked.now.pairs.now field.clean.now.asked.now.days visits field.order.now prefix
@@ -79,6 +81,7 @@ module _ (field : Field) where
       legs_long : (path : List Level) → length (legs_of path) ≡ length path
       legs_long [] = refl
       legs_long (x ∷ outer) = length-append (legs_of outer) (x.leg ∷ []) ∙ add-one (length (legs_of outer)) ∙ ap suc (legs_long outer)
+
   -- the first prefix is there
   pub some_prefix : IsField field → 0 < length (preorder_in field)
   some_prefix is_field = omega (

@@ -73,6 +73,7 @@ among_below p (suc n) m =
     ∙ ap (λ b. b || is_among (filter p (n ∷ [])) m) (among_below p n m)
     ∙ ap (λ b. (nat_lt m n && p m) || b) (last_among p n m)
     ∙ both_kinds (p n) (p m) n m (ap p)
+
 -- a number below n is among those that pass exactly where it passes
 pub among_filtered : (p : ℕ → Bool) (n m : ℕ) → m < n → is_among (filter p (list_below (λ k. k) n)) m ≡ p m
 among_filtered p n m lt = among_below p n m ∙ within (p m)

@@ -62,6 +62,7 @@ module _ (t : Tables) (a : List ℕ) (f : ℕ) (given turns : List Connection) (
       let less = sum_below-le (λ k. bit (there t a f given turns map holds s k && crosses t f (turn_at turns k))) (λ k. bit (there t a f given turns map holds s k)) (length turns)
       (record { each = λ k lt. part_at_most (there t a f given turns map holds s k) (crosses t f (turn_at turns k)) }) in
       omega (arith, less, all_there t a f given turns map holds s)
+
   -- the legs of a free turn are free
   lands_free : (k : ℕ) → k < length turns → is_free t a f given turns map holds k ≡ true → is_free_landing t a f given (station_at t (turn_at turns k)) (turn_at turns k).arriving ≡ true
   unfolding is_free

@@ -30,6 +30,7 @@ with_one g xs x =
   where
     longer : (xs : List Connection) (x : Connection) → length (xs ++ x ∷ []) ≡ suc (length xs)
     longer xs x = length-append xs (x ∷ []) ∙ add-one (length xs)
+
 -- a turn of a list with one more is one of the list, or that one
 pub of_one_more : (P : Connection → Type 0) (xs : List Connection) (x : Connection) → ((k : ℕ) → k < length xs → P (turn_at xs k)) → P x
     → (k : ℕ) → k < length (xs ++ x ∷ []) → P (turn_at (xs ++ x ∷ []) k)

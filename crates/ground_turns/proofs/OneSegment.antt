@@ -120,6 +120,7 @@ told_not numbers r d minutes first whole next ready one fails = (
   λ e. absurd (no_both fails e),
   λ none. one.1 (subst (NoneBetween numbers r) (sym whole) ((waits_round numbers r d next ready).1 none).0),
 )
+
 -- two numbers as they are read
 pub read_between : (items now : List ℕ) (from to i j x y : ℕ) → AreNumbers items → items ≡ now → i ≡ from → j ≡ to → x ≡ get_or items i x → y ≡ get_or items j y
     → from ≤ to → to ≤ minutes_of now → IsTrue (nat_eq x y) ↔ NoneBetween now from to

@@ -74,6 +74,7 @@ module _ (p : ℕ → Bool) (key : ℕ → ℕ) (n : ℕ) where
 keyed_all : (p : ℕ → Bool) (key : ℕ → ℕ) (n x : ℕ) → keyed_below p key n x ≤ count_below p n
 unfolding keyed_below
 keyed_all p key n x = sum_below-le (λ q. bit (p q && nat_lt (key q) x)) (λ q. bit (p q)) n (record { each = λ q lt. part_at_most (p q) (nat_lt (key q) x) })
+
 past_counts : (p : ℕ → Bool) (key : ℕ → ℕ) (n : ℕ) → keyed_below p key n (past_all p key n) ≡ count_below p n
 unfolding keyed_below
 past_counts p key n =

@@ -69,6 +69,7 @@ module _ (t : Tables) (a : List ℕ) (f : ℕ) (s : ℕ) where
         all_part (fleet_at a l == f) ((leg_of t l).to == s) (nat_le (ready_minute t (leg_on l f)) last_minute)
         (by_last_minute _ (mod_below _ MINUTES_PER_PERIOD (omega arith)));
   })
+
   departures_all : count_below (is_free_departure t a f [] s) (legs_in t) ≡ departed t (weights_of a) f s last_minute
   unfolding departed
   departures_all = sum_below-agree _ _ (legs_in t) (record {
@@ -76,9 +77,11 @@ module _ (t : Tables) (a : List ℕ) (f : ℕ) (s : ℕ) where
         all_part (fleet_at a l == f) ((leg_of t l).from == s) (nat_le (departure t (leg_on l f)) last_minute)
         (by_last_minute _ (t.in_range.legs_fit.each l no_leg below).dep);
   })
+
   departed_few : (m : ℕ) → free_departed t a f [] s m ≤ count_below (is_free_departure t a f [] s) (legs_in t)
   unfolding free_departed
   departed_few m = sum_below-le _ (λ l. bit (is_free_departure t a f [] s l)) (legs_in t) (record { each = λ l below. part_at_most (is_free_departure t a f [] s l) (nat_le (departure t (leg_on l f)) m) })
+
   few_needed : arrived t (weights_of a) f s last_minute ≡ departed t (weights_of a) f s last_minute → free_need t a f [] s ≤ free_landings t a f [] s
   unfolding free_need
   few_needed balanced =
@@ -123,6 +126,7 @@ module _ (t : Tables) (a : List ℕ) (f : ℕ) (balanced : IsBalanced t (weights
       let fits : next_place s l < count_below (is_free_departure t a f [] s) (legs_in t) = omega (arith, low, departures_all t a f s, landings_all t a f s, even s (station_known l below)) in
       let found = place_taken (is_free_departure t a f [] s) (departure_key t a f [] s) (legs_in t) (departures_differ t a f [] s) (next_place s l) fits in
       picked (follows s l) (legs_in t) found.0 found.1 (and_from _ _ found.2 (eq-eqb _ _ (departure_is t a f [] s found.0 found.1 ∙ found.3)))
+
   next_free : (l : ℕ) → l < legs_in t → in_fleet l ≡ true → is_free_departure t a f [] (leg_of t l).to (next l) ≡ true
   unfolding follows
   next_free l below flies = (and_parts _ _ (next_is l below flies).1).0
@@ -180,6 +184,7 @@ module _ (t : Tables) (a : List ℕ) (f : ℕ) (balanced : IsBalanced t (weights
 
   holds : Holds turns []
   holds = record { each = λ k lt. absurd (none_below_0 _ lt) }
+
   -- no more cross than are needed
   crosses_needed : (s : ℕ) → crossings_at t f turns s ≤ need_of t (weights_of a) f s
   crosses_needed s =

@@ -123,6 +123,7 @@ module _ (t : Tables) (keeps : Domains) (f s : ℕ) (events : List Event) (are :
       let front = parts_true (waits_round t keeps f s starts place m) _ e in
       let parts = parts_true (place + 1 == length starts) _ front.0 in
       other (eqb-true (place + 1) (length starts) parts.0))))
+
   pub moment_first : (o : Option ℕ) → o ≡ moment_in_node t keeps f s starts place → is_some o ≡ true → o ≡ moment_of t keeps f s starts place
   unfolding moment_of
   moment_first o e some = kept_first o (moment_round t keeps f s starts place) some ∙ ap (λ p. or_else p (moment_round t keeps f s starts place)) e

@@ -101,5 +101,6 @@ found_at idles s from place entry rise parts within is = by_test (entry.station 
     (λ e.
     let other : (slice_index_or idles place (idle_at 0 0)).station ≡ s → ⊥ = λ same. eqb-false entry.station s e (ap (λ x. x.station) is ∙ same) in
     rw e (none_of_other idles s from place rise parts within other))
+
 pub found_none : (idles : List Idle) (s from place : ℕ) → IdlesRise idles → IsParting idles s from place → length idles ≤ place → (m : ℕ) → from ≤ m → ¬ (Contains idles (idle_at s m))
 found_none idles s from place rise parts end = none_at_end idles s from place rise parts end

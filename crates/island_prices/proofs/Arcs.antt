@@ -75,8 +75,10 @@ module _ (t : Tables) (keeps : Domains) (f s : ℕ) where
 -- ---- by how much prices rise over an arc: to a next node, and from the last one
 pub rise_inside : (prices : Prices) (xs : List ℕ) (f s k : ℕ) → k + 1 < length xs → rise_over prices xs f s k ≡ price_of prices f s (get_or xs (k + 1) 0) -ℤ price_of prices f s (get_or xs k 0)
 rise_inside prices xs f s k more = ap (λ b. cond b (price_of prices f s (get_or xs (k + 1) 0) -ℤ price_of prices f s (get_or xs k 0)) (price_of prices f s 0 -ℤ price_of prices f s (get_or xs k 0) -ℤ rent_of prices f)) (lt-ltb (k + 1) (length xs) more)
+
 pub rise_at_last : (prices : Prices) (xs : List ℕ) (f s k : ℕ) → length xs ≤ k + 1 → rise_over prices xs f s k ≡ price_of prices f s 0 -ℤ price_of prices f s (get_or xs k 0) -ℤ rent_of prices f
 rise_at_last prices xs f s k last = ap (λ b. cond b (price_of prices f s (get_or xs (k + 1) 0) -ℤ price_of prices f s (get_or xs k 0)) (price_of prices f s 0 -ℤ price_of prices f s (get_or xs k 0) -ℤ rent_of prices f)) (le-ltb (k + 1) (length xs) last)
+
 -- ---- rises over arcs
 module _ (t : Tables) (keeps : Domains) (prices : Prices) (starts : NodeStarts) (moment : ArcMoments) (rises : List Rise) (nodes : AreAllNodes t keeps starts) (moments : AreMoments t keeps starts moment)
     (are : AreArcRises t prices starts moment rises) (rents : (f : ℕ) → f < fleets_in t → pos 0 ≤ℤ rent_of prices f) where
@@ -94,6 +96,7 @@ module _ (t : Tables) (keeps : Domains) (prices : Prices) (starts : NodeStarts) 
         ap (λ b. cond b (price_of prices f s (get_or (starts f s) (k + 1) 0) -ℤ price_of prices f s (get_or (starts f s) k 0)) (price_of prices f s 0 -ℤ price_of prices f s (get_or (starts f s) k 0) -ℤ rent_of prices f)) (le-ltb (k + 1) (length (starts f s)) (omega arith)) in
         absurd (omega (arith, ints, some, at, ap (λ m. price_of prices f s m) first, rents f known))
   ]
+
   one_of_several : (i : ℕ) (below : i < length rises) → 1 < length (starts (rise_in rises i).fleet (rise_in rises i).station)
   one_of_several i below =
       let is = are.each i below in
@@ -123,6 +126,7 @@ module _ (t : Tables) (keeps : Domains) (prices : Prices) (starts : NodeStarts) 
     | inl early ↦ inr (early, ap (λ b. cond b (Raised (node_end xs k)) Lowered) (lt-leb (get_or xs k 0) m early))
     | inr begun ↦ inl (begun, ap (λ b. cond b (Raised (node_end xs k)) Lowered) (le-leb (get_or xs k 0) m begun))
   ]
+
   -- ---- each is a rise
   small_difference : (a b r : ℤ) (n : ℕ) → neg_ℤ (pos n) ≤ℤ a → a ≤ℤ pos n → neg_ℤ (pos n) ≤ℤ b → b ≤ℤ pos n → pos 0 ≤ℤ r → ((a -ℤ b) ≤ℤ pos (3 * n)) × ((a -ℤ b -ℤ r) ≤ℤ pos (3 * n))
   small_difference a b r n a_low a_high b_low b_high some = (omega (arith, ints), omega (arith, ints))
@@ -165,6 +169,7 @@ module _ (t : Tables) (keeps : Domains) (prices : Prices) (starts : NodeStarts) 
             subst (λ b. cond b (price_of prices f s (get_or (starts f s) (k + 1) 0) -ℤ price_of prices f s (get_or (starts f s) k 0)) (price_of prices f s 0 -ℤ price_of prices f s (get_or (starts f s) k 0) -ℤ rent_of prices f) ≤ℤ pos (3 * max_price)) (sym (le-ltb (k + 1) (length (starts f s)) last))
             (small_difference (price_of prices f s 0) (price_of prices f s (get_or (starts f s) k 0)) (rent_of prices f) max_price there.no_less there.no_more here.no_less here.no_more (rents f known)).1
       ]
+
   -- ---- no two have the same moment
   -- the arc of a node went to a moment, and there are several nodes
   record Went (f s m k : ℕ) : Type 0 where
@@ -372,6 +377,7 @@ module _ (t : Tables) (keeps : Domains) (prices : Prices) (starts : NodeStarts) 
         ∙ ap (λ x. shifted x (rise_in rises i).moment (rise_in rises i).amount m) shift
         ∙ not_shifted k (rise_in rises i).moment (rise_in rises i).amount here)
         (λ e. ap (λ b. cond b (shift_of (rise_in rises i) m) (pos 0)) e)
+
     stays_there : shift_by rises f s m ≡ pos 0
     unfolding shift_by
     stays_there = sum_below_ℤ-same (shift_at rises f s m) (λ i. pos 0) (length rises) none_shifts ∙ sum_below_ℤ-zero (length rises)

@@ -47,6 +47,7 @@ not_picked true f e = cc
 
 small : (z : ℤ) → is_beyond z ≡ false → IsPrice z
 small z e = let few : unsigned_abs z ≤ max_price = ltb-false max_price (unsigned_abs z) e in record { no_less = omega (arith, ints); no_more = omega (arith, ints) }
+
 module _ (t : Tables) (rent : ℕ → ℤ) (price : ℕ → ℕ → ℕ → ℤ) (fits : first_beyond t rent price (fleets_in t) ≡ None) where
   fleet_fits : (f : ℕ) → f < fleets_in t → has_beyond t rent price f ≡ false
   unfolding first_beyond

@@ -29,6 +29,7 @@ any_found p (suc n) k below passes = elim (cases_lt k n) [
   | inl less ↦ ap (λ b. b || p n) (any_found p n k less passes)
   | inr last ↦ let same : n ≡ k = omega arith in or_right (any_below p n) (p n) (ap p same ∙ passes)
 ]
+
 pub none_beyond : (price : ℕ → ℤ) → beyond_at price 0 ≡ false
 unfolding beyond_at
 none_beyond price = refl
@@ -117,6 +118,7 @@ pub beyond_there : (t : Tables) (rent : ℕ → ℤ) (price : ℕ → ℕ → �
 unfolding has_beyond beyond_of
 beyond_there t rent price f n row is below passes =
     or_right (is_beyond (rent f)) _ (any_found (λ s. beyond_at (price f s) MINUTES_PER_PERIOD) (stations_in t) n below (sym (beyond_by_row (price f n) row is) ∙ passes))
+
 pub rent_beyond : (t : Tables) (rent : ℕ → ℤ) (price : ℕ → ℕ → ℕ → ℤ) (f : ℕ) → is_beyond (rent f) ≡ true → has_beyond t rent price f ≡ true
 unfolding has_beyond
 rent_beyond t rent price f passes = ap (λ b. b || beyond_of (price f) (stations_in t)) passes

@@ -241,6 +241,7 @@ module _ (t : Tables) (rises : List Rise) (are : AreRises t rises) (least : List
     rise_is =
         ap (λ b. cond b (greatest_rise rises s (get_or (moments_at all_moments s) place_there.place 0)) (pos 0)) (lt-ltb place_there.place (length (moments_at all_moments s)) place_there.within)
         ∙ ap (greatest_rise rises s) (place_there.there 0)
+
     number_reaches : greatest_rise rises s m ≤ℤ number_in all_rounds place_there.place
     unfolding number_of_round
     number_reaches = omega (arith, ints, rise_is, upper, number_is place_there.place in_count)

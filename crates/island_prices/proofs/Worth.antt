@@ -178,6 +178,7 @@ module _ (t : Tables) (keeps : Domains) (k : ℕ) (some_pair : (l : ℕ) → ¬ 
       ∙ ap₂ (λ z r. (pos k *ℤ prices.scale *ℤ cost_units t p) +ℤ ((price_of prices f (leg_of t l).from (departure t p) +ℤ (number *ℤ pos (left_by t at l))) -ℤ z) +ℤ (r *ℤ pos (laps_of t p))) back (rents f known)
       ∙ parts (pos k *ℤ prices.scale *ℤ cost_units t p) (price_of prices f (leg_of t l).from (departure t p)) (price_of prices f (leg_of t l).to (ready_minute t p)) (rent_of prices f) (pos (laps_of t p))
       (number *ℤ pos (left_by t at l)) (number *ℤ pos (once (nat_le (ready_minute t p) (at (leg_of t l).to))))
+
   abbrev fleets : ℕ → ℕ
   fleets = chosen t keeps k some_pair prices other extra pair_gains
 

@@ -58,6 +58,7 @@ module _ (t : Tables) (a : List ℕ) (f : ℕ) (given : List Connection) (held :
   departed_few : (s m : ℕ) → free_departed t a f given s m ≤ count_below (is_free_departure t a f given s) (legs_in t)
   unfolding free_departed
   departed_few s m = sum_below-le _ (λ l. bit (is_free_departure t a f given s l)) (legs_in t) (record { each = λ l below. part_at_most (is_free_departure t a f given s l) (nat_le (departure t (leg_on l f)) m) })
+
   -- no more aircraft must be there than land
   few_needed : (s : ℕ) → free_need t a f given s ≤ free_landings t a f given s
   unfolding free_need

@@ -49,6 +49,7 @@ module _ (t : Tables) (f : ℕ) (tour : List ℕ) where
 
   pub other_early_day : (n d : ℕ) → d < day_of t f tour n → first_on (suc n) d ≡ first_on n d
   other_early_day n d less = other_day d n (greater_differs (day_of t f tour n) d less)
+
   pub its_day : (n : ℕ) → first_on (suc n) (day_of t f tour n) ≡ first_on n (day_of t f tour n) ++ slice_index tour n ∷ []
   unfolding first_on
   its_day n = ap (λ b. legs_on_day t f tour (day_of t f tour n) n ++ (if b then slice_index tour n ∷ [] else [])) (same_number (day_of t f tour n))
@@ -61,6 +62,7 @@ module _ (t : Tables) (f : ℕ) (tour : List ℕ) where
       let other : (day_of t f tour n == d) ≡ false = less_differs (day_of t f tour n) d (early n (omega arith)) in
       ap (λ b. legs_on_day t f tour d n ++ (if b then slice_index tour n ∷ [] else [])) other
       ∙ append-nil (legs_on_day t f tour d n) ∙ none_later n d (λ k below. early k (omega arith))
+
   pub later_day : (n d : ℕ) → day_of t f tour n < d → first_on (suc n) d ≡ []
   later_day n d late = none_later (suc n) d (λ k below. omega (arith, sum_below-le (nights_after t f tour) k n (omega arith), late))
 

@@ -49,6 +49,7 @@ filter-list p f zero = refl
 filter-list p f (suc n) =
     ap (λ k. length (filter p (list_below f k))) (suc-eq-add-one n) ∙ ap length (filter_of_map_range_with_len_more p f 0 n n (omega arith))
     ∙ omega (arith, length-append (filter p (list_below f n)) (cond (p (f n)) (f n ∷ []) []), length-one (p (f n)) (f n), filter-list p f n)
+
 pub arcs_are : (t : Tables) (keeps : Domains) (starts : Starts) → length (all_arcs t keeps starts) ≡ arcs_in t keeps starts
 arcs_are t keeps starts =
     filter-concat (arc_stays t keeps starts) (nodes_of t starts) (λ f. sum_below (arcs_at t keeps starts f) (stations_in t)) (fleets_in t)

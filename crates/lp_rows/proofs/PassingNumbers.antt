@@ -49,6 +49,7 @@ module _ {X Y : Type 0} (g : X → Y) (p : X → Bool) (q : ℕ → Bool) (xs : 
       ∙ sym (map-append g (filter p (take n xs)) (cond (p (get_or xs n d)) (get_or xs n d ∷ []) []))
       ∙ sym (ap (map g) (filter_more p xs n d (omega arith)))
       ∙ ap (λ m. map g (filter p (take m xs))) (sym (suc-eq-add-one n))
+
   all_numbers : map entry (filter q (list_below (λ k. k) (length xs))) ≡ map g (filter p xs)
   all_numbers = first_numbers (length xs) (omega arith) ∙ ap (λ ys. map g (filter p ys)) (take_all (length xs) xs (omega arith))
 

@@ -45,6 +45,7 @@ pub record GoesUp (prices : Prices) (starts : List ℕ) (f s k : ℕ) (moment : 
 up : (prices : Prices) (starts : List ℕ) (f s k : ℕ) (moment : Option ℕ) → goes_up prices starts f s k moment ≡ true → GoesUp prices starts f s k moment
 up prices starts f s k None e = absurd (false≢true e)
 up prices starts f s k (Some m) e = record { at = m; went = refl; some = above_tested (rise_over prices starts f s k) e }
+
 up_there : (prices : Prices) (starts : List ℕ) (f s k m : ℕ) (moment : Option ℕ) → moment ≡ Some m → pos 0 <ℤ rise_over prices starts f s k → goes_up prices starts f s k moment ≡ true
 up_there prices starts f s k m None went some = absurd (clash went)
   where

@@ -65,6 +65,7 @@ module _ (t : Tables) (keeps : Domains) (starts : Starts) (network : IsNetwork t
           (eqb-true (k + 1) (length (starts f s)) parts.0, quiet_so t keeps f s 0 m parts.1)
     ];
   }
+
   -- ---- a moment is an idle minute, and where there is one each kept pair may be flown
   pub at_idle : (f s k m : ℕ) → s < stations_in t → moments_by t keeps starts f s k ≡ Some m → IsIdle t s m
   at_idle f s k m within went = let is = moment_there f s k m went in record { station = within; minute = is.minute; idle = is.idle }

@@ -123,6 +123,7 @@ module _ (t : Tables) (keeps : Domains) (starts : Starts) (network : IsNetwork t
     leg_reaches l below some =
         below_unwrapped h (y l) (λ f. keeps (leg_on l f)) (λ f. pair_worth t prices k (leg_on l f)) (fleets_in t) (λ f known kept. pair_reaches l f below known kept)
         (pos_of_ne-zero (λ none. some (record { within = below; none = none })))
+
     -- what the right sides come to is no more than the worth
     pub worth_reaches : ((l : ℕ) → ¬ (IsBare t keeps l)) → down t starts y (λ line. right_side_of t line) ≤ℤ (h *ℤ worth_of t keeps prices k)
     unfolding worth_of

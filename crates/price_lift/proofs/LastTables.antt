@@ -115,6 +115,7 @@ module _ (t : Tables) (duals : FracRow) (some : pos 0 <ℤ duals.den) (fits : pr
 
   pub values_small : (k : ℕ) → k < width_of duals → unsigned_abs (number_of (reduced duals) k) ≤ max_price
   values_small k below = ltb-false max_price (unsigned_abs (number_of (reduced duals) k)) (not_excess _ _ _ (nothing_at (lowest_value_excess max_price (legs_in t) duals) (width_of duals) k (second_none _ _ fits) below))
+
   pub value_times : (line k : ℕ) → line ≡ legs_in t + k → divisor *ℤ value_in t (reduced duals) line ≡ number_of duals k
   value_times line k is = ap (λ j. divisor *ℤ number_of (reduced duals) j) (omega arith) ∙ number_times duals k
 

@@ -48,6 +48,7 @@ module _ {X : Type 0} (there : ℕ → Bool) (entry : ℕ → X) where
               ∙ ap (λ i. get_or (concat_below where_there n ++ entry n ∷ []) i d) (sym (plus_0 (rank n))) ∙ at_right (concat_below where_there n) (entry n ∷ []) d 0,
         )
   ]
+
   -- the number of the entry at a place
   pub number_at : (n i : ℕ) → i < rank n → (k : ℕ) × (k < n) × (there k ≡ true) × (rank k ≡ i)
   number_at zero i below = absurd (omega arith)

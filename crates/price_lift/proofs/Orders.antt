@@ -30,8 +30,10 @@ module _ {X : Type 0} (there : ℕ → Bool) (entry : ℕ → X) where
   joined : (m d : ℕ) → concat_below at_number m ++ list_from m d ≡ concat_below at_number (m + d)
   joined m zero = append-nil (concat_below at_number m) ∙ ap (concat_below at_number) (sym (plus_0 m))
   joined m (suc d) = one_more (there m) (entry m) (concat_below at_number m) (list_from (suc m) d) ∙ joined (suc m) d ∙ ap (concat_below at_number) (suc_moved m d)
+
   pub from_first : (n : ℕ) → concat_below at_number n ≡ list_from 0 n
   from_first n = sym (joined 0 n ∙ ap (concat_below at_number) (zero-add n))
+
   -- the last entry before a number
   abbrev IsLast : ℕ → Option X → Type 0
   IsLast m before =

@@ -52,6 +52,7 @@ unfolding price_after
 has_begun starts value k place v f s m step begun =
     ap (λ b. price_after v (if b then step_of (starts f s) (value k) (node_at f s place) ∷ [] else []) f s m) step
     ∙ ap (λ b. cond b (value k) v) (has_come f s (get_or (starts f s) place 0) m begun)
+
 not_begun : (starts : Starts) (value : ℕ → ℤ) (k place : ℕ) (v : ℤ) (f s m : ℕ) → m < get_or (starts f s) place 0 → price_after v (step_at_node starts value k (node_at f s place)) f s m ≡ v
 unfolding price_after
 not_begun starts value k place v f s m later = by_step (is_step (length (starts f s)) value k (node_at f s place))
@@ -83,6 +84,7 @@ pub no_later_step : (nodes : ℕ) (value : ℕ → ℤ) (k : ℕ) (n : Node) →
 unfolding is_step
 no_later_step nodes value k n later none =
     (Decides-int_eq (value k) (value (k - 1))).0 (not_false (int_eq (value k) (value (k - 1))) (sym (above_zero_tested n.place (not (are_zero value k nodes)) (not (int_eq (value k) (value (k - 1)))) later) ∙ none))
+
 -- ---- the price at a minute
 module _ (t : Tables) (starts : Starts) (value : ℕ → ℤ) (f s m : ℕ) (known : f < fleets_in t) (within : s < stations_in t) where
   abbrev at : ℕ → ℤ

@@ -74,6 +74,7 @@ find place column (suc lines) = elim (cases_eq (place lines) column) [
     ])
   ]
 ]
+
 -- ---- the point column by column
 at_identity : (rows : Rows) (basis : List ℕ) (x : ℕ → ℕ) (line : ℕ) → real_point rows basis x (rows.columns + line) ≡ pos 0
 unfolding real_point basic_point

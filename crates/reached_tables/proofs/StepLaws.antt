@@ -32,6 +32,7 @@ pivot_of_step table columns row column is s = record {
   fits = s.fits;
   is = refl;
 }
+
 -- ---- the shape
 first_shape : (first : List FracRow) (columns : ℕ) → IsTable first → HasColumns first columns → KeepsShape first columns (first_tableau first columns)
 unfolding first_tableau

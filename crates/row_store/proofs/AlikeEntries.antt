@@ -49,6 +49,7 @@ all_unlike side (x ∷ xs) columns column h lt =
 
 pub so_far_none : (side : ℤ) (entries : List Entry) (columns : ℕ) → AreUnlikeBelow side entries columns 0
 so_far_none side entries columns k lt = absurd (none_below_0 k lt)
+
 -- a place that is passed over
 pub so_far_same : (side : ℤ) (entries : List Entry) (columns bound : ℕ) (best : Option Enterer) → IsSoFar side entries columns bound best → (column_at entries bound < columns → are_alike side (number_at entries bound) ≡ false) → IsSoFar side entries columns (bound + 1) best
 so_far_same side entries columns bound (Some found) h p = h

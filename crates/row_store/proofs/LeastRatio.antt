@@ -81,7 +81,6 @@ best_step table basis column row None h = by_sign (is_positive (number_at table 
           where
             clash : (x : ℤ) → pos 0 <ℤ x → x ≤ℤ pos 0 → ⊥
             clash x p q = omega (arith, ints)
-
     by_sign false t = λ line lt. elim (cases_lt line row) [
       | inl less ↦ h line less
       | inr ge ↦ let same : line ≡ row = omega arith in subst (λ i. number_at table i column ≤ℤ pos 0) (sym same) (test_other _ t)

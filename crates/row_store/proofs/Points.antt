@@ -177,6 +177,7 @@ pivot_back table row column point scale h is = go (eqb row row) (same row) is
     go : (b : Bool) → b ≡ true → surplus (cond b (scaled_row (row_at table row) column) (cleared_row (row_at table row) (row_at table row) column)) (columns_of table - 1) point scale ≡ pos 0 → surplus (row_at table row) (columns_of table - 1) point scale ≡ pos 0
     go true e s = scaled (scaled_surplus (row_at table row) column (columns_of table - 1) point scale h.positive) s
     go false e s = absurd (false≢true e)
+
 -- a row of the new table, in the old table's numbers
 new_surplus : (table : List FracRow) (row column other : ℕ) (point : ℕ → ℤ) (scale : ℤ) → IsPivot table row column → other < length table → surplus (row_at (pivoted table row column) other) (columns_of (pivoted table row column) - 1) point scale ≡ surplus (new_row table row column other) (columns_of table - 1) point scale
 new_surplus table row column other point scale h lt =

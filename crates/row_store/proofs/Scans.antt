@@ -137,6 +137,7 @@ scanned_from phase cost width columns bound answer phases costs h k p q eb ea =
       no_cost = λ column lt. elim (two.none column (omega arith) lt) [ inl z ↦ and_left (is_negative (cost column)) _ (negative_zero (cost column) (sym (q column) ∙ z)) | inr t ↦ ap (λ n. is_negative n && (unsigned_abs (phase column) == 0)) (sym (q column)) ∙ t ];
       cost_found = λ lt. ap (λ n. is_negative n && (unsigned_abs (phase answer) == 0)) (sym (q answer)) ∙ (two.found lt).1;
     }
+
 none_before : (phase cost : ℕ → ℤ) (columns bound answer : ℕ) → IsScanned phase cost columns bound answer → first_below (λ column. if improves (phase column) (cost column) then Some column else None) answer ≡ None
 none_before phase cost columns bound answer h =
     all_nothing (λ column. if improves (phase column) (cost column) then Some column else None) answer (λ column lt. fails (improves (phase column) (cost column)) column (no_improvement (phase column) (cost column) (h.no_phase column (omega (arith, h.answer_fits))) (h.no_cost column lt)))

@@ -134,6 +134,7 @@ all_turned old new n h le =
 pub turned_number : (table : List FracRow) (row column : ℕ) → row < length table → number_at table row column <ℤ pos 0 → pos 0 <ℤ number_at (turned table row) row column
 turned_number table row column lt below =
     rw (row_at-turned table row lt) (rw (number_of-turned_row (row_at table row) column) (opposite_above (number_at table row column) below))
+
 -- what is neither above 0 nor 0 is below
 pub below_zero : (held z : ℤ) → SFits w128 held → held ≡ z → int_lt (pos 0) (to_z w128 (of_z w128 held)) ≡ false → z ≢ pos 0 → z <ℤ pos 0
 below_zero held z fits e t other = by_sign z other (λ above. absurd (clash held z (simp to_z-of_z at t) e above)) (λ below. below)

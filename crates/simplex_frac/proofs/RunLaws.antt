@@ -54,6 +54,7 @@ step_of first columns pivots now s =
       number = λ e. above_is_other (number_at s.before.table s.row s.column) place.positive e;
       fits = sym (step_growth-same s.before.table s.row s.column place.positive) ∙ s.fits;
     }
+
 after_is : (first : List FracRow) (columns pivots : ℕ) (now : Tableau) (s : IsStep first columns pivots now) → after_step s.before (record { row = s.row; column = s.column }) ≡ now
 unfolding after_step
 after_is first columns pivots now s =

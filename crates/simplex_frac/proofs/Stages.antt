@@ -17,6 +17,7 @@ unfolding first_tableau
 reaches_first table columns basis height tall e = record {
   reached = ap (λ b. Some (record { table = table; basis = b })) (sym (e ∙ ap (list_below (λ line. columns + line)) (less_two height (length table) tall)));
 }
+
 -- one pivot more
 pub reaches_next : (first : List FracRow) (columns made : ℕ) (table after : List FracRow) (basis : List ℕ) (row column : ℕ) → Reaches first columns made table basis → Pivot row column ≡ turn (record { table = table; basis = basis }) columns → pivot_growth table row column ≡ None → after ≡ pivoted table row column → Reaches first columns (made + 1) after (set basis row column)
 reaches_next first columns made table after basis row column h t none e =

@@ -87,6 +87,7 @@ ray_ends now columns column e = by_entering (entering now.table columns) refl e
         let same : entered ≡ column = cc in
         record { enters = p ∙ ap Some same; none = subst (λ c. leaving now.table now.basis c ≡ None) same l }
     by_leaving entered (Some left) l p q = absurd (no_ray_pivots (sym q))
+
     by_test : (b : Bool) → cond b Best NoPoint ≡ Ray column → ⊥
     by_test true q = cc
     by_test false q = cc

@@ -105,6 +105,7 @@ adding_next target sums entry left all h e =
 pub adding_done : (target sums : List ℤ) (left : List Entry) → IsAdding target sums left → left ≡ [] → sums ≡ target
 adding_done target sums left h e =
     ext_get_or (pos 0) sums target h.same_length (λ k lt. nothing_added (get_or sums k (pos 0)) _ (ap (λ es. number_in es k) e) ∙ h.each k (rw h.same_length at lt))
+
 -- ---- a row that is filled along a line
 pub record IsBeginning (row : FracRow) (f : ℕ → ℤ) (width columns reach : ℕ) (left : List Entry) : Type 0 where
   pub same_width : width_of row ≡ width
@@ -196,6 +197,7 @@ beginning_done row f width columns reach left h none = record {
   filled = λ place lt within. nothing_added (number_of row place) (number_in left place) (none place lt) ∙ h.each place lt;
   zeros = h.zeros;
 }
+
 pub none_below_next : (from reach columns : ℕ) (entry : Entry) (left all : List Entry) (column : ℕ) → AreRising from reach all → all ≡ entry ∷ left → columns ≤ entry.column → column < columns → number_in all column ≡ pos 0
 none_below_next from reach columns entry left all column h e le lt =
     ap (λ es. number_in es column) e ∙ none_before entry.column reach (entry ∷ left) column (above (subst (AreRising from reach) e h)) (omega arith)

@@ -78,6 +78,7 @@ pairs_rise from width (x ∷ xs) (y ∷ ys) h k =
 same_behind : (column here : ℕ) (number behind all : ℤ) → (here ≡ column → number ≡ all) → (here ≢ column → behind ≡ all) → cond (eqb here column) number behind ≡ all
 same_behind column here number behind all p q =
     elim (cases_eq here column) [ inl e ↦ if_same here column number behind e ∙ p e | inr ne ↦ if_apart here column number behind ne ∙ q ne ]
+
 pub first_is : (from width : ℕ) (xs ys : List Entry) (column : ℕ) → AreEntries from width xs → AreEntries from width ys → first_in (pairs_of xs ys) column ≡ number_in xs column
 first_is from width [] [] column h k = refl
 first_is from width [] (y ∷ ys) column h k =

@@ -60,6 +60,7 @@ module _ (t : Tables) (a : List ℕ) (f : ℕ) (turns : List Connection) where
         let found = some_counted (λ k. (turn_at turns k).arriving == l) (length turns) (one_is_some _ counted) in
         let there = picked (λ k. (turn_at turns k).arriving == l) (length turns) found.0 found.1 found.2 in
         (there.0, eqb-true _ _ there.1)
+
     pub goes_on : (l : ℕ) → l < legs_in t → GoesOn t a f l (follower l)
     goes_on l lt = record {
       own = λ own.

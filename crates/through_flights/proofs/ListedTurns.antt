@@ -25,8 +25,10 @@ append_one : (xs : List Connection) (y : Connection) (k : ℕ) → k < length (x
 append_one xs y k lt ge =
     let same : k ≡ length xs = at_end _ _ _ lt ge (length-append xs (y ∷ [])) in
     ap (turn_at (xs ++ y ∷ [])) same ∙ get_or-append_seam xs y [] no_turn
+
 wider : (passes : ℕ → Bool) (next : ℕ → ℕ) (n : ℕ) (turn other : Connection) → other ≡ turn → IsListed passes next n turn → IsListed passes next (suc n) other
 wider passes next n turn other same was = record { leg = was.leg; within = below_next _ _ was.within; passing = was.passing; is = same ∙ was.is }
+
 pub each_listed : (passes : ℕ → Bool) (next : ℕ → ℕ) (n k : ℕ) → k < length (turns_below passes next n) → IsListed passes next n (turn_at (turns_below passes next n) k)
 each_listed passes next zero k lt = absurd (omega arith)
 each_listed passes next (suc n) k lt = by_last (passes n) refl (each_listed passes next n) lt
@@ -72,7 +74,6 @@ rising passes next (suc n) j k order lt = by_last (passes n) (rising passes next
       where
         earlier : (j k a b : ℕ) → j < k → k < a → a ≡ b + 1 → j < b
         earlier j k a b p q e = omega arith
-
     by_last false before listed lt =
         let less : k < length (turns_below passes next n) = same_length _ _ _ lt (length-append (turns_below passes next n) []) in
         less_alike _ _ _ _ (ap (λ x. x.arriving) (get_or-append (turns_below passes next n) [] no_turn j (lt_trans order less)))
@@ -95,11 +96,13 @@ values_one t xs y =
     ∙ ap (λ z. z +ℤ unwrap_or (value_of t (turn_at (xs ++ y ∷ []) (length xs))) (pos 0))
     (sum_below_ℤ-same (worth_at t (xs ++ y ∷ [])) (worth_at t xs) (length xs) (λ k lt. ap (λ turn. unwrap_or (value_of t turn) (pos 0)) (get_or-append xs (y ∷ []) no_turn k lt)))
     ∙ ap (λ turn. sum_below_ℤ (worth_at t xs) (length xs) +ℤ unwrap_or (value_of t turn) (pos 0)) (get_or-append_seam xs y [] no_turn)
+
 values_none : (t : Tables) (xs : List Connection) → values t (xs ++ []) ≡ values t xs
 unfolding values
 values_none t xs =
     ap (sum_below_ℤ (worth_at t (xs ++ []))) (length-append xs [] ∙ plus_0 (length xs))
     ∙ sum_below_ℤ-same (worth_at t (xs ++ [])) (worth_at t xs) (length xs) (λ k lt. ap (λ turn. unwrap_or (value_of t turn) (pos 0)) (get_or-append xs [] no_turn k lt))
+
 -- the turns are worth what the legs' pairs are
 pub values_below : (t : Tables) (passes : ℕ → Bool) (next worth : ℕ → ℕ) (n : ℕ)
     → ((l : ℕ) → l < n → passes l ≡ true → unwrap_or (value_of t (pair_of l (next l))) (pos 0) ≡ pos (worth l))

@@ -46,6 +46,7 @@ own_sum a f n numbers times counts others = sum_below_ℤ-same (λ l. pos (times
   | inl own ↦ ap (λ m. pos m *ℤ number_at numbers l) (counts l lt ∙ weight_one _ _ own) ∙ one-*ℤ (number_at numbers l)
   | inr ne ↦ ap (λ z. pos (times l) *ℤ z) (others l lt ne) ∙ *ℤ_comm (pos (times l)) (pos 0) ∙ zero-*ℤ (pos (times l)) ∙ sym (others l lt ne)
 ])
+
 -- a sum over some of the places, none taken twice, of numbers of at least 0
 part_at_most : (g : ℕ → ℤ) (place : ℕ → ℕ) (places count : ℕ) → ((k : ℕ) → k < places → pos 0 ≤ℤ g k) → ((j : ℕ) → j < count → place j < places)
     → ((i j : ℕ) → i < count → j < count → place i ≡ place j → i ≡ j) → sum_below_ℤ (λ j. g (place j)) count ≤ℤ sum_below_ℤ g places
@@ -60,6 +61,7 @@ part_at_most g place places count some within distinct =
       | inl none ↦ subst (λ m. (pos m *ℤ z) ≤ℤ z) (sym none) (subst (λ x. x ≤ℤ z) (sym (zero-*ℤ z)) some)
       | inr ne ↦ let one : count ≡ 1 = omega arith in subst (λ m. (pos m *ℤ z) ≤ℤ z) (sym one) (subst (λ x. x ≤ℤ z) (sym (one-*ℤ z)) (≤ℤ_refl z))
     ]
+
 module _ (t : Tables) (a : List ℕ) (f : ℕ) (u v : List ℤ) (pairs : List Connection) (reach : ReachTurns t a f u v) (set : IsThroughSet t a f pairs) where
   turns : List Connection
   turns = set.held.turns
