@@ -1,4 +1,5 @@
 pub mod Built
+pub mod ListsBehind
 pub mod ListSums
 pub mod PassingNumbers
 pub mod ArcMoments
