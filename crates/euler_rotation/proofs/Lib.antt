@@ -15,3 +15,4 @@ pub mod Visiting
 pub mod LeastPlaces
 pub mod FewStand
 pub mod Answering
+pub mod FoundTours
