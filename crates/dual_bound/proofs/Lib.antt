@@ -5,6 +5,7 @@ pub mod Numbers
 pub mod PriceLists
 pub mod RisingSteps
 pub mod RisingWeights
+pub mod ScaledCosts
 pub mod Sizes
 pub mod StepOrder
 pub mod TablesBy

@@ -1,0 +1,73 @@
+-- What 128 bits hold of a cost over a scale, and what a pair is worth by prices that are all 0.
+use Rattle.std.proofs.Common.{◌≡◌, ℕ, ◌≤◌, ℤ, pos, ◌+ℤ◌, ◌-ℤ◌, ◌*ℤ◌, sym, ◌∙◌, ap, subst, arith}
+use Rattle.std.proofs.lemmas.Int.{ints}
+use mir.Syntax.{w128}
+use mir.Val.{SFits}
+use lib.IntN.{zero-*ℤ}
+use Rattle.sums.proofs.Integers.{one-*ℤ}
+use Rattle.fleet_model.specs.declared.parts.Pair.{Pair}
+use Rattle.fleet_model.specs.declared.tables.Tables.{Tables}
+use Rattle.fleet_model.specs.Limits.{IsCost}
+use Rattle.fleet_model.specs.Schedule.{leg_of}
+use Rattle.fleet_model.specs.Times.{departure, laps_of, ready_minute}
+use Rattle.dual_bound.specs.declared.prices.Prices.{Prices}
+use Rattle.dual_bound.specs.Prices.{IsScale}
+use Rattle.dual_bound.specs.Rising.{IsIdle}
+use Rattle.dual_bound.specs.Sizes.{IsUpTo}
+use Rattle.dual_bound.specs.Worth.{cost_units, pair_worth}
+use Rattle.dual_bound.proofs.Numbers.{fits, held, is_held}
+use Rattle.dual_bound.proofs.Sizes.{up_to_scaled}
+
+pub zero_size : IsUpTo 1 (pos 0)
+zero_size = record { no_less = omega (arith, ints); no_more = omega (arith, ints) }
+
+pub not_at_all : (k : ℕ) (s c : ℤ) → k ≡ 0 → pos 0 ≡ pos k *ℤ s *ℤ c
+not_at_all k s c none = sym (ap (λ n. pos n *ℤ s *ℤ c) none ∙ ap (λ z. z *ℤ c) (zero-*ℤ s) ∙ zero-*ℤ c)
+
+-- ---- once
+scale_size : (s : ℤ) → IsScale s → IsUpTo 1 s
+scale_size s scale = record { no_less = omega (arith, ints); no_more = omega (arith, ints) }
+
+cost_size : (c : ℤ) → IsCost c → IsUpTo 1 c
+cost_size c cost = record { no_less = omega (arith, ints); no_more = omega (arith, ints) }
+
+product_size : (s c : ℤ) → IsScale s → IsCost c → IsUpTo 1 (s *ℤ c)
+product_size s c scale cost = subst (λ z. IsUpTo 1 (z *ℤ c)) (one-*ℤ s) (up_to_scaled 1 s c (omega arith) scale.some scale.within cost)
+
+factors_held : (s c : ℤ) → IsScale s → IsCost c → held s *ℤ held c ≡ s *ℤ c
+factors_held s c scale cost = ap (λ z. z *ℤ held c) (is_held 1 s (scale_size s scale) (omega arith)) ∙ ap (λ z. s *ℤ z) (is_held 1 c (cost_size c cost) (omega arith))
+
+pub product_fits : (s c : ℤ) → IsScale s → IsCost c → SFits w128 (held s *ℤ held c)
+product_fits s c scale cost = subst (λ z. SFits w128 z) (sym (factors_held s c scale cost)) (fits 1 (s *ℤ c) (product_size s c scale cost) (omega arith))
+
+product_held : (s c : ℤ) → IsScale s → IsCost c → held (held s *ℤ held c) ≡ s *ℤ c
+product_held s c scale cost = ap held (factors_held s c scale cost) ∙ is_held 1 (s *ℤ c) (product_size s c scale cost) (omega arith)
+
+pub product_up_to : (s c : ℤ) → IsScale s → IsCost c → IsUpTo 1 (held (held s *ℤ held c))
+product_up_to s c scale cost = subst (λ z. IsUpTo 1 z) (sym (product_held s c scale cost)) (product_size s c scale cost)
+
+pub once : (k : ℕ) (s c units : ℤ) → k ≤ 1 → (k ≡ 0 → ⊥) → IsScale s → IsCost c → c ≡ units → held (held s *ℤ held c) ≡ pos k *ℤ s *ℤ units
+once k s c units few some scale cost is =
+    product_held s c scale cost ∙ ap (λ z. s *ℤ z) is ∙ sym (ap (λ z. z *ℤ units) (ap (λ n. pos n *ℤ s) (just_one k few some) ∙ one-*ℤ s))
+  where
+    just_one : (k : ℕ) → k ≤ 1 → (k ≡ 0 → ⊥) → k ≡ 1
+    just_one k few some = omega arith
+
+-- ---- the worth of a pair
+pub worth_held : (n : ℕ) (z w : ℤ) → IsUpTo n z → n ≤ 20000 → z ≡ w → held z ≡ w
+worth_held n z w small few is = is_held n z small few ∙ is
+
+pub five_held : (z : ℤ) → IsUpTo 5 z → IsUpTo 5 (held z)
+five_held z small = subst (λ y. IsUpTo 5 y) (sym (is_held 5 z small (omega arith))) small
+
+pub one_as_five : (z : ℤ) → IsUpTo 1 z → IsUpTo 5 (held z)
+one_as_five z small = five_held z (record { no_less = omega (arith, ints); no_more = omega (arith, ints) })
+
+-- the cost alone, where rent and prices are 0
+pub idle_worth : (t : Tables) (prices : Prices) (k : ℕ) (p : Pair) (s z : ℤ) → IsIdle prices p.fleet → s ≡ prices.scale → z ≡ pos k *ℤ s *ℤ cost_units t p → IsUpTo 1 z → held z ≡ pair_worth t prices k p
+idle_worth t prices k p s z none scale is small =
+    worth_held 1 z _ small (omega arith) (is ∙ ap (λ y. pos k *ℤ y *ℤ cost_units t p) scale)
+    ∙ added (pos k *ℤ prices.scale *ℤ cost_units t p) _ _ _ (pos (laps_of t p)) (none.each (leg_of t p.leg).from (departure t p)) (none.each (leg_of t p.leg).to (ready_minute t p)) none.rent
+  where
+    added : (cost from to rent laps : ℤ) → from ≡ pos 0 → to ≡ pos 0 → rent ≡ pos 0 → cost ≡ cost +ℤ (from -ℤ to) +ℤ (rent *ℤ laps)
+    added cost from to rent laps e f g = omega (arith, ints, ap (λ y. y *ℤ laps) g ∙ zero-*ℤ laps)
