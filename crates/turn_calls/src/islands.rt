@@ -1,10 +1,12 @@
 //! Idle minutes of islands, and the arcs that go over them.
+use crate::assertions::assert_same;
 use entries::Entries;
 use fleet_model::{Kept, LoadError};
 use island_arcs::{idle_minutes, moments};
 use island_cut::{Idle, idle};
 use node_aggregate::nodes;
 use std::alloc::Global;
+use std::process::Abort;
 use std::test::Fail;
 use timeline_net::events;
 use worked_tables::schedules::{
@@ -51,49 +53,66 @@ fn idles_of(alloc: Global, stretches: &[(u32, u16, u16)]) -> Result<Vec<Idle>, L
     Ok(idles)
 }
 
-#[test]
-fn stations_are_idle_where_all_aircraft_are_needed(rt: HostRuntime) -> Result<(), Fail> {
-    let cases: [(Files, &[(u32, u16, u16)]); 9] = [
-        (
-            TWO_FLEETS,
-            &[
-                (0, 0, 1440),
-                (1, 0, 1440),
-                (2, 0, 900),
-                (2, 960, 1440),
-                (3, 0, 1320),
-                (3, 1380, 1440),
-            ],
-        ),
-        (
-            FOUR_AIRCRAFT,
-            &[
-                (0, 510, 690),
-                (1, 510, 690),
-                (2, 0, 570),
-                (2, 600, 1440),
-                (3, 0, 570),
-                (3, 600, 1440),
-            ],
-        ),
-        (
-            THROUGH_THE_HUB,
-            &[(0, 0, 540), (0, 580, 1440), (1, 480, 660), (2, 480, 670)],
-        ),
-        (ONE_AIRCRAFT, &[(0, 480, 690), (1, 0, 570), (1, 600, 1440)]),
-        (ROUND_TRIP, &[]),
-        (NO_AIRCRAFT, &[]),
-        (WITHOUT_A_PAIR, &[]),
-        (WAY_OUT_ALONE, &[]),
-        (NO_LEGS, &[]),
-    ];
+/// Files, and the stretches in which a station is idle.
+type IdleCase = (Files, &'static [(u32, u16, u16)]);
+
+/// Asserts where the stations of each row are idle.
+fn assert_idles<R: Abort + Alloc<A = Global>>(rt: &R, cases: &[IdleCase]) -> Result<(), Fail> {
     for (files, stretches) in cases {
-        let want = idles_of(rt.alloc(), stretches)?;
-        let tables = read(rt.alloc(), &files)?;
+        let want = idles_of(rt.alloc(), *stretches)?;
+        let tables = read(rt.alloc(), files)?;
         let seen = idle(rt.alloc(), &tables)?;
-        assert_eq!(rt; seen.as_slice(), want.as_slice());
+        assert_same(rt, seen.as_slice(), want.as_slice());
     }
     Ok(())
+}
+
+const OF_TRIPS: &[IdleCase] = &[
+    (
+        TWO_FLEETS,
+        &[
+            (0, 0, 1440),
+            (1, 0, 1440),
+            (2, 0, 900),
+            (2, 960, 1440),
+            (3, 0, 1320),
+            (3, 1380, 1440),
+        ],
+    ),
+    (
+        FOUR_AIRCRAFT,
+        &[
+            (0, 510, 690),
+            (1, 510, 690),
+            (2, 0, 570),
+            (2, 600, 1440),
+            (3, 0, 570),
+            (3, 600, 1440),
+        ],
+    ),
+    (
+        THROUGH_THE_HUB,
+        &[(0, 0, 540), (0, 580, 1440), (1, 480, 660), (2, 480, 670)],
+    ),
+    (ONE_AIRCRAFT, &[(0, 480, 690), (1, 0, 570), (1, 600, 1440)]),
+];
+
+#[test]
+fn stations_are_idle_where_all_aircraft_are_needed(rt: HostRuntime) -> Result<(), Fail> {
+    assert_idles(&rt, OF_TRIPS)
+}
+
+const NEVER: &[IdleCase] = &[
+    (ROUND_TRIP, &[]),
+    (NO_AIRCRAFT, &[]),
+    (WITHOUT_A_PAIR, &[]),
+    (WAY_OUT_ALONE, &[]),
+    (NO_LEGS, &[]),
+];
+
+#[test]
+fn no_station_is_idle_elsewhere(rt: HostRuntime) -> Result<(), Fail> {
+    assert_idles(&rt, NEVER)
 }
 
 /// The moments of the arcs of a fleet at a station.
@@ -123,22 +142,38 @@ fn moments_of(
     Ok(Some(found))
 }
 
-#[test]
-fn arcs_go_at_their_moments(rt: HostRuntime) -> Result<(), Fail> {
-    let cases: [(Files, u32, u32, &[Option<u16>]); 8] = [
-        (TWO_FLEETS, 0, 0, &[Some(0), Some(480), Some(960)]),
-        (TWO_FLEETS, 0, 1, &[Some(420)]),
-        (TWO_FLEETS, 1, 2, &[Some(960)]),
-        (TWO_FLEETS, 1, 3, &[Some(1380)]),
-        (ROUND_TRIP, 0, 0, &[None, None]),
-        (ONE_AIRCRAFT, 0, 0, &[Some(480), None]),
-        (ONE_AIRCRAFT, 1, 1, &[Some(600)]),
-        (NO_LEGS, 0, 0, &[]),
-    ];
+/// Files, a fleet, a station, and the moments of the arcs there.
+type MomentCase = (Files, u32, u32, &'static [Option<u16>]);
+
+/// Asserts the moments of each row.
+fn assert_moments<R: Abort + Alloc<A = Global>>(rt: &R, cases: &[MomentCase]) -> Result<(), Fail> {
     for (files, fleet, station, want) in cases {
-        let seen = moments_of(rt.alloc(), &files, fleet, station)?;
-        let seen = seen.as_ref().map(|moments| moments.as_slice());
-        assert_eq!(rt; seen, Some(want));
+        let seen = moments_of(rt.alloc(), files, *fleet, *station)?.ok_or("no moments")?;
+        assert_same(rt, seen.as_slice(), *want);
     }
     Ok(())
+}
+
+const OF_OVERLAPPING_TRIPS: &[MomentCase] = &[
+    (TWO_FLEETS, 0, 0, &[Some(0), Some(480), Some(960)]),
+    (TWO_FLEETS, 0, 1, &[Some(420)]),
+    (TWO_FLEETS, 1, 2, &[Some(960)]),
+    (TWO_FLEETS, 1, 3, &[Some(1380)]),
+];
+
+const OF_ROUND_TRIPS: &[MomentCase] = &[
+    (ROUND_TRIP, 0, 0, &[None, None]),
+    (ONE_AIRCRAFT, 0, 0, &[Some(480), None]),
+    (ONE_AIRCRAFT, 1, 1, &[Some(600)]),
+    (NO_LEGS, 0, 0, &[]),
+];
+
+#[test]
+fn arcs_go_at_their_moments(rt: HostRuntime) -> Result<(), Fail> {
+    assert_moments(&rt, OF_OVERLAPPING_TRIPS)
+}
+
+#[test]
+fn arcs_of_round_trips_go_at_their_moments(rt: HostRuntime) -> Result<(), Fail> {
+    assert_moments(&rt, OF_ROUND_TRIPS)
 }

@@ -3,13 +3,15 @@ ghost use Rattle.std.specs.Prelude.{◌<◌};
 ghost use Rattle.fleet_model.specs.Legal.{IsAssignment};
 ghost use Rattle.fleet_model.specs.Schedule.{fleets_in};
 
-use crate::succeeding::{Row, connections, flown};
+use crate::assertions::assert_same;
+use crate::succeeding::{Pairs, Row, connections};
 use crate::turns::{fits, holds};
 use cycle_join::{Joined, join};
 use entries::{Entries, NoMemory};
 use fleet_model::limits::MAX_LEGS;
 use fleet_model::{Assignment, Connection, LoadError, Tables};
 use std::alloc::Global;
+use std::process::Abort;
 use std::test::Fail;
 use worked_tables::plans::assignment;
 use worked_tables::schedules::{
@@ -41,16 +43,17 @@ fn joined_of(
     row: &Row,
     witness: &[(u32, u32)],
 ) -> Result<Option<Joined>, LoadError> {
-    let tables = read(alloc, &row.files)?;
-    let pairs = connections(alloc, row.pairs)?;
+    let (files, fleets, fleet, pairs) = row;
+    let tables = read(alloc, files)?;
+    let pairs = connections(alloc, *pairs)?;
     let witness = connections(alloc, witness)?;
-    let Some(plan) = assignment(&tables, row.fleets) else {
+    let Some(plan) = assignment(&tables, *fleets) else {
         return Ok(None);
     };
-    if row.fleet >= tables.fleet_count() {
+    if *fleet >= tables.fleet_count() {
         return Ok(None);
     }
-    Ok(witnessed(alloc, &tables, &plan, row.fleet, &pairs, &witness)?)
+    Ok(witnessed(alloc, &tables, &plan, *fleet, &pairs, &witness)?)
 }
 
 /// What the cycles of a fleet come to, where the witness is a fitting map that holds the pairs.
@@ -92,95 +95,126 @@ fn apart_of(joined: Option<Joined>) -> Option<Entries<u32>> {
     }
 }
 
-#[test]
-fn cycles_that_touch_become_the_only_tour(rt: HostRuntime) -> Result<(), Fail> {
-    let second_fleet = Row {
-        fleet: 1,
-        ..flown(OVERLAPPING_TRIPS, &[0, 0, 1, 1, 2, 2], &[])
-    };
-    let cases: [(Row, &[(u32, u32)], &[u32]); 9] = [
-        (flown(ROUND_TRIP, &[0, 0], &[]), &[(0, 1), (1, 0)], &[0, 1]),
-        (
-            flown(THROUGH_THE_HUB, &[0, 0, 0, 0], &[]),
-            &[(0, 2), (1, 3), (2, 0), (3, 1)],
-            &[0, 3, 1, 2],
-        ),
-        (
-            flown(THROUGH_THE_HUB, &[0, 0, 0, 0], &[(1, 2)]),
-            &[(0, 3), (1, 2), (2, 0), (3, 1)],
-            &[0, 3, 1, 2],
-        ),
-        (
-            flown(FOUR_AIRCRAFT, &[0, 0, 0, 0, 0, 0], &[]),
-            &[(0, 1), (1, 0), (2, 3), (3, 4), (4, 5), (5, 2)],
-            &[0, 1, 2, 3, 4, 5],
-        ),
-        (
-            flown(OVERLAPPING_TRIPS, &[0, 0, 0, 0, 0, 0], &[]),
-            &[(0, 1), (1, 4), (2, 3), (3, 0), (4, 5), (5, 2)],
-            &[0, 1, 4, 5, 2, 3],
-        ),
-        (
-            flown(MEETING_TRIPS, &[0, 0, 0, 0, 0, 0], &[]),
-            &[(0, 3), (1, 4), (2, 5), (3, 0), (4, 1), (5, 2)],
-            &[0, 5, 2, 4, 1, 3],
-        ),
-        (
-            flown(MEETING_TRIPS, &[0, 0, 0, 0, 0, 0], &[(1, 3)]),
-            &[(0, 4), (1, 3), (2, 5), (3, 0), (4, 1), (5, 2)],
-            &[0, 5, 2, 4, 1, 3],
-        ),
-        (second_fleet, &[(2, 3), (3, 2)], &[2, 3]),
-        (
-            flown(TRIPS_OF_ONE_MINUTE, &[0, 0, 0, 0], &[]),
-            &[(0, 1), (1, 0), (2, 3), (3, 2)],
-            &[0, 1, 2, 3],
-        ),
-    ];
+/// A row, a fitting map of its legs that holds the pairs, and the legs of the answer.
+type Case = (Row, Pairs, &'static [u32]);
+
+/// Asserts the tour of each row.
+fn assert_tours<R: Abort + Alloc<A = Global>>(rt: &R, cases: &[Case]) -> Result<(), Fail> {
     for (row, witness, want) in cases {
-        let tour = tour_of(joined_of(rt.alloc(), &row, witness)?).ok_or("no tour")?;
-        assert_eq!(rt; tour.as_slice(), want);
+        let tour = tour_of(joined_of(rt.alloc(), row, *witness)?).ok_or("no tour")?;
+        assert_same(rt, tour.as_slice(), *want);
     }
     Ok(())
 }
 
-#[test]
-fn cycles_that_never_touch_are_apart(rt: HostRuntime) -> Result<(), Fail> {
-    let cases: [(Row, &[(u32, u32)], &[u32]); 6] = [
-        (
-            flown(TRIPS_APART, &[0, 0, 0, 0], &[]),
-            &[(0, 1), (1, 0), (2, 3), (3, 2)],
-            &[0, 1],
-        ),
-        (
-            flown(THROUGH_THE_HUB, &[0, 0, 0, 0], &[(0, 2), (1, 3)]),
-            &[(0, 2), (1, 3), (2, 0), (3, 1)],
-            &[0, 2],
-        ),
-        (
-            flown(FOUR_AIRCRAFT, &[0, 0, 0, 0, 0, 0], &[(1, 0)]),
-            &[(0, 1), (1, 0), (2, 3), (3, 4), (4, 5), (5, 2)],
-            &[0, 1],
-        ),
-        (
-            flown(MEETING_TRIPS, &[0, 0, 0, 0, 0, 0], &[(0, 3)]),
-            &[(0, 3), (1, 4), (2, 5), (3, 0), (4, 1), (5, 2)],
-            &[0, 3],
-        ),
-        (
-            flown(MEETING_TRIPS, &[0, 0, 0, 0, 0, 0], &[(0, 4)]),
-            &[(0, 4), (1, 3), (2, 5), (3, 0), (4, 1), (5, 2)],
-            &[0, 1, 3, 4],
-        ),
-        (
-            flown(TRIPS_OF_ONE_MINUTE, &[0, 0, 0, 0], &[(1, 0)]),
-            &[(0, 1), (1, 0), (2, 3), (3, 2)],
-            &[0, 1],
-        ),
-    ];
+/// Asserts the legs of each row that are apart.
+fn assert_apart<R: Abort + Alloc<A = Global>>(rt: &R, cases: &[Case]) -> Result<(), Fail> {
     for (row, witness, want) in cases {
-        let legs = apart_of(joined_of(rt.alloc(), &row, witness)?).ok_or("not apart")?;
-        assert_eq!(rt; legs.as_slice(), want);
+        let legs = apart_of(joined_of(rt.alloc(), row, *witness)?).ok_or("not apart")?;
+        assert_same(rt, legs.as_slice(), *want);
     }
     Ok(())
+}
+
+const TOURS: &[Case] = &[
+    ((ROUND_TRIP, &[0, 0], 0, &[]), &[(0, 1), (1, 0)], &[0, 1]),
+    (
+        (THROUGH_THE_HUB, &[0, 0, 0, 0], 0, &[]),
+        &[(0, 2), (1, 3), (2, 0), (3, 1)],
+        &[0, 3, 1, 2],
+    ),
+    (
+        (THROUGH_THE_HUB, &[0, 0, 0, 0], 0, &[(1, 2)]),
+        &[(0, 3), (1, 2), (2, 0), (3, 1)],
+        &[0, 3, 1, 2],
+    ),
+    (
+        (FOUR_AIRCRAFT, &[0, 0, 0, 0, 0, 0], 0, &[]),
+        &[(0, 1), (1, 0), (2, 3), (3, 4), (4, 5), (5, 2)],
+        &[0, 1, 2, 3, 4, 5],
+    ),
+];
+
+#[test]
+fn cycles_that_touch_become_the_only_tour(rt: HostRuntime) -> Result<(), Fail> {
+    assert_tours(&rt, TOURS)
+}
+
+const TOURS_OF_TRIPS: &[Case] = &[
+    (
+        (OVERLAPPING_TRIPS, &[0, 0, 0, 0, 0, 0], 0, &[]),
+        &[(0, 1), (1, 4), (2, 3), (3, 0), (4, 5), (5, 2)],
+        &[0, 1, 4, 5, 2, 3],
+    ),
+    (
+        (MEETING_TRIPS, &[0, 0, 0, 0, 0, 0], 0, &[]),
+        &[(0, 3), (1, 4), (2, 5), (3, 0), (4, 1), (5, 2)],
+        &[0, 5, 2, 4, 1, 3],
+    ),
+    (
+        (MEETING_TRIPS, &[0, 0, 0, 0, 0, 0], 0, &[(1, 3)]),
+        &[(0, 4), (1, 3), (2, 5), (3, 0), (4, 1), (5, 2)],
+        &[0, 5, 2, 4, 1, 3],
+    ),
+    (
+        (OVERLAPPING_TRIPS, &[0, 0, 1, 1, 2, 2], 1, &[]),
+        &[(2, 3), (3, 2)],
+        &[2, 3],
+    ),
+    (
+        (TRIPS_OF_ONE_MINUTE, &[0, 0, 0, 0], 0, &[]),
+        &[(0, 1), (1, 0), (2, 3), (3, 2)],
+        &[0, 1, 2, 3],
+    ),
+];
+
+#[test]
+fn round_trips_that_touch_become_the_only_tour(rt: HostRuntime) -> Result<(), Fail> {
+    assert_tours(&rt, TOURS_OF_TRIPS)
+}
+
+const APART: &[Case] = &[
+    (
+        (TRIPS_APART, &[0, 0, 0, 0], 0, &[]),
+        &[(0, 1), (1, 0), (2, 3), (3, 2)],
+        &[0, 1],
+    ),
+    (
+        (THROUGH_THE_HUB, &[0, 0, 0, 0], 0, &[(0, 2), (1, 3)]),
+        &[(0, 2), (1, 3), (2, 0), (3, 1)],
+        &[0, 2],
+    ),
+    (
+        (FOUR_AIRCRAFT, &[0, 0, 0, 0, 0, 0], 0, &[(1, 0)]),
+        &[(0, 1), (1, 0), (2, 3), (3, 4), (4, 5), (5, 2)],
+        &[0, 1],
+    ),
+];
+
+#[test]
+fn cycles_that_never_touch_are_apart(rt: HostRuntime) -> Result<(), Fail> {
+    assert_apart(&rt, APART)
+}
+
+const TRIPS_HELD_APART: &[Case] = &[
+    (
+        (MEETING_TRIPS, &[0, 0, 0, 0, 0, 0], 0, &[(0, 3)]),
+        &[(0, 3), (1, 4), (2, 5), (3, 0), (4, 1), (5, 2)],
+        &[0, 3],
+    ),
+    (
+        (MEETING_TRIPS, &[0, 0, 0, 0, 0, 0], 0, &[(0, 4)]),
+        &[(0, 4), (1, 3), (2, 5), (3, 0), (4, 1), (5, 2)],
+        &[0, 1, 3, 4],
+    ),
+    (
+        (TRIPS_OF_ONE_MINUTE, &[0, 0, 0, 0], 0, &[(1, 0)]),
+        &[(0, 1), (1, 0), (2, 3), (3, 2)],
+        &[0, 1],
+    ),
+];
+
+#[test]
+fn round_trips_that_never_touch_are_apart(rt: HostRuntime) -> Result<(), Fail> {
+    assert_apart(&rt, TRIPS_HELD_APART)
 }

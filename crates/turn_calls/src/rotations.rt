@@ -4,13 +4,14 @@ ghost use Rattle.fleet_model.specs.Legal.{IsAssignment};
 ghost use Rattle.fleet_model.specs.Schedule.{fleets_in};
 
 use crate::joins::TRIPS_APART;
-use crate::succeeding::{Row, connections, flown};
+use crate::succeeding::{Pairs, Row, connections};
 use crate::turns::{fits, holds};
 use entries::NoMemory;
 use euler_rotation::{Rotation, rotate};
 use fleet_model::limits::MAX_LEGS;
 use fleet_model::{Assignment, Connection, LoadError, Tables};
 use std::alloc::Global;
+use std::process::Abort;
 use std::test::Fail;
 use worked_tables::plans::assignment;
 use worked_tables::schedules::{
@@ -33,9 +34,6 @@ enum Wanted {
     None,
     Spent(&'static [u32]),
 }
-
-/// A fitting map that holds the pairs, as pairs of numbers.
-type Witness = &'static [(u32, u32)];
 
 /// Whether an answer is the one that is wanted. The order of a search is not looked at.
 fn is_wanted(rotation: &Rotation, wanted: Wanted) -> bool {
@@ -69,17 +67,18 @@ fn rotation_of(
     days: u32,
     visits: u32,
 ) -> Result<Option<Rotation>, LoadError> {
-    let tables = read(alloc, &row.files)?;
-    let pairs = connections(alloc, row.pairs)?;
+    let (files, fleets, fleet, pairs) = row;
+    let tables = read(alloc, files)?;
+    let pairs = connections(alloc, *pairs)?;
     let witness = connections(alloc, witness)?;
-    let Some(plan) = assignment(&tables, row.fleets) else {
+    let Some(plan) = assignment(&tables, *fleets) else {
         return Ok(None);
     };
-    if row.fleet >= tables.fleet_count() || days == 0 || days > 30 {
+    if *fleet >= tables.fleet_count() || days == 0 || days > 30 {
         return Ok(None);
     }
     Ok(witnessed(
-        alloc, &tables, &plan, row.fleet, &pairs, &witness, days, visits,
+        alloc, &tables, &plan, *fleet, &pairs, &witness, days, visits,
     )?)
 }
 
@@ -109,7 +108,7 @@ fn witnessed(
 fn answers(
     alloc: Global,
     row: &Row,
-    witness: Witness,
+    witness: Pairs,
     limits: (u32, u32),
     wanted: Wanted,
 ) -> Result<bool, LoadError> {
@@ -122,149 +121,168 @@ fn answers(
 
 const FOUR: &[u32] = &[0, 0, 0, 0, 0, 0];
 
-const FOUR_MAP: Witness = &[(0, 1), (1, 0), (2, 3), (3, 4), (4, 5), (5, 2)];
+const FOUR_MAP: Pairs = &[(0, 1), (1, 0), (2, 3), (3, 4), (4, 5), (5, 2)];
 
-const FOUR_TOUR: Witness = &[(0, 1), (1, 2), (2, 3), (3, 4), (4, 5), (5, 0)];
+const FOUR_TOUR: Pairs = &[(0, 1), (1, 2), (2, 3), (3, 4), (4, 5), (5, 0)];
 
 const HUB: &[u32] = &[0, 0, 0, 0];
 
-const HUB_MAP: Witness = &[(0, 2), (1, 3), (2, 0), (3, 1)];
+const HUB_MAP: Pairs = &[(0, 2), (1, 3), (2, 0), (3, 1)];
 
-const HUB_CROSSED: Witness = &[(0, 3), (1, 2), (2, 0), (3, 1)];
+const HUB_CROSSED: Pairs = &[(0, 3), (1, 2), (2, 0), (3, 1)];
 
-const THERE_AND_BACK: Witness = &[(0, 1), (1, 0)];
+const THERE_AND_BACK: Pairs = &[(0, 1), (1, 0)];
+
+/// A row, a fitting map that holds its pairs, the most days and visits, and the answer.
+type Case = (Row, Pairs, (u32, u32), Wanted);
+
+/// Asserts the rotation of each row.
+fn assert_rotations<R: Abort + Alloc<A = Global>>(rt: &R, cases: &[Case]) -> Result<(), Fail> {
+    for (row, witness, limits, wanted) in cases {
+        let seen = answers(rt.alloc(), row, *witness, *limits, *wanted)?;
+        assert!(rt; seen);
+    }
+    Ok(())
+}
+
+const UNUSED: &[Case] = &[
+    ((NO_LEGS, &[], 0, &[]), &[], (3, 10), Wanted::Unused),
+    ((ROUND_TRIP, &[0, 0], 1, &[]), &[], (3, 10), Wanted::Unused),
+];
 
 #[test]
 fn a_fleet_without_legs_is_unused(rt: HostRuntime) -> Result<(), Fail> {
-    let other_fleet = Row {
-        fleet: 1,
-        ..flown(ROUND_TRIP, &[0, 0], &[])
-    };
-    let cases: [Row; 2] = [flown(NO_LEGS, &[], &[]), other_fleet];
-    for row in cases {
-        let seen = answers(rt.alloc(), &row, &[], (3, 10), Wanted::Unused)?;
-        assert!(rt; seen);
-    }
-    Ok(())
+    assert_rotations(&rt, UNUSED)
 }
 
-#[test]
-fn nights_at_maintenance_stations_may_be_too_few(rt: HostRuntime) -> Result<(), Fail> {
-    let cases: [(Row, Wanted); 2] = [
-        (
-            flown(BACK_BY_NIGHT, &[0, 0], &[]),
-            Wanted::TooFewNights(0, 1),
-        ),
-        (
-            flown(MAINTAINED_ELSEWHERE, &[0, 0], &[]),
-            Wanted::TooFewNights(0, 1),
-        ),
-    ];
-    for (row, wanted) in cases {
-        let seen = answers(rt.alloc(), &row, THERE_AND_BACK, (3, 10), wanted)?;
-        assert!(rt; seen);
-    }
-    let four = flown(FOUR_AIRCRAFT, FOUR, &[]);
-    let seen = answers(
-        rt.alloc(),
-        &four,
+const TOO_FEW: &[Case] = &[
+    (
+        (BACK_BY_NIGHT, &[0, 0], 0, &[]),
+        THERE_AND_BACK,
+        (3, 10),
+        Wanted::TooFewNights(0, 1),
+    ),
+    (
+        (MAINTAINED_ELSEWHERE, &[0, 0], 0, &[]),
+        THERE_AND_BACK,
+        (3, 10),
+        Wanted::TooFewNights(0, 1),
+    ),
+    (
+        (FOUR_AIRCRAFT, FOUR, 0, &[]),
         FOUR_MAP,
         (1, 10),
         Wanted::TooFewNights(2, 4),
-    )?;
-    assert!(rt; seen);
-    Ok(())
+    ),
+];
+
+#[test]
+fn nights_at_maintenance_stations_may_be_too_few(rt: HostRuntime) -> Result<(), Fail> {
+    assert_rotations(&rt, TOO_FEW)
 }
+
+const APART: &[Case] = &[
+    (
+        (TRIPS_APART, HUB, 0, &[]),
+        &[(0, 1), (1, 0), (2, 3), (3, 2)],
+        (3, 10),
+        Wanted::Apart(&[0, 1]),
+    ),
+    (
+        (THROUGH_THE_HUB, HUB, 0, &[(0, 2), (1, 3)]),
+        HUB_MAP,
+        (3, 10),
+        Wanted::Apart(&[0, 2]),
+    ),
+];
 
 #[test]
 fn legs_may_be_apart(rt: HostRuntime) -> Result<(), Fail> {
-    let cases: [(Row, Witness, Wanted); 2] = [
-        (
-            flown(TRIPS_APART, HUB, &[]),
-            &[(0, 1), (1, 0), (2, 3), (3, 2)],
-            Wanted::Apart(&[0, 1]),
-        ),
-        (
-            flown(THROUGH_THE_HUB, HUB, &[(0, 2), (1, 3)]),
-            HUB_MAP,
-            Wanted::Apart(&[0, 2]),
-        ),
-    ];
-    for (row, witness, wanted) in cases {
-        let seen = answers(rt.alloc(), &row, witness, (3, 10), wanted)?;
-        assert!(rt; seen);
-    }
-    Ok(())
+    assert_rotations(&rt, APART)
 }
+
+const TOURS: &[Case] = &[
+    (
+        (ROUND_TRIP, &[0, 0], 0, &[]),
+        THERE_AND_BACK,
+        (3, 10),
+        Wanted::Tour(&[0, 1]),
+    ),
+    (
+        (THROUGH_THE_HUB, HUB, 0, &[]),
+        HUB_MAP,
+        (3, 10),
+        Wanted::Tour(&[0, 3, 1, 2]),
+    ),
+    (
+        (THROUGH_THE_HUB, HUB, 0, &[(0, 3), (1, 2)]),
+        HUB_CROSSED,
+        (3, 10),
+        Wanted::Tour(&[0, 3, 1, 2]),
+    ),
+    (
+        (THROUGH_THE_HUB, HUB, 0, &[(1, 2)]),
+        HUB_CROSSED,
+        (3, 10),
+        Wanted::Tour(&[0, 3, 1, 2]),
+    ),
+];
 
 #[test]
 fn tours_begin_with_the_least_leg_after_a_night(rt: HostRuntime) -> Result<(), Fail> {
-    let cases: [(Row, Witness, Wanted); 4] = [
-        (
-            flown(ROUND_TRIP, &[0, 0], &[]),
-            THERE_AND_BACK,
-            Wanted::Tour(&[0, 1]),
-        ),
-        (
-            flown(THROUGH_THE_HUB, HUB, &[]),
-            HUB_MAP,
-            Wanted::Tour(&[0, 3, 1, 2]),
-        ),
-        (
-            flown(THROUGH_THE_HUB, HUB, &[(0, 3), (1, 2)]),
-            HUB_CROSSED,
-            Wanted::Tour(&[0, 3, 1, 2]),
-        ),
-        (
-            flown(THROUGH_THE_HUB, HUB, &[(1, 2)]),
-            HUB_CROSSED,
-            Wanted::Tour(&[0, 3, 1, 2]),
-        ),
-    ];
-    for (row, witness, wanted) in cases {
-        let seen = answers(rt.alloc(), &row, witness, (3, 10), wanted)?;
-        assert!(rt; seen);
-    }
-    Ok(())
+    assert_rotations(&rt, TOURS)
 }
 
-#[test]
-fn a_search_ends_or_is_given_up(rt: HostRuntime) -> Result<(), Fail> {
-    let cases: [((u32, u32), Wanted); 6] = [
-        ((2, 1000), Wanted::None),
-        ((2, 1), Wanted::Spent(&[0])),
-        ((2, 2), Wanted::Spent(&[0, 1])),
-        ((2, 0), Wanted::Spent(&[])),
-        ((3, 1000), Wanted::Tour(&[0, 1, 2, 3, 4, 5])),
-        ((4, 0), Wanted::Tour(&[0, 1, 2, 3, 4, 5])),
-    ];
-    let row = flown(FOUR_AIRCRAFT, FOUR, &[]);
-    for (limits, wanted) in cases {
-        let seen = answers(rt.alloc(), &row, FOUR_MAP, limits, wanted)?;
-        assert!(rt; seen);
-    }
-    let partner_first = flown(FOUR_AIRCRAFT, FOUR, &[(5, 0)]);
-    let seen = answers(
-        rt.alloc(),
-        &partner_first,
+const ON_FOUR_AIRCRAFT: Row = (FOUR_AIRCRAFT, FOUR, 0, &[]);
+
+const GIVEN_UP: &[Case] = &[
+    (ON_FOUR_AIRCRAFT, FOUR_MAP, (2, 1000), Wanted::None),
+    (ON_FOUR_AIRCRAFT, FOUR_MAP, (2, 1), Wanted::Spent(&[0])),
+    (ON_FOUR_AIRCRAFT, FOUR_MAP, (2, 2), Wanted::Spent(&[0, 1])),
+    (ON_FOUR_AIRCRAFT, FOUR_MAP, (2, 0), Wanted::Spent(&[])),
+    // With a pair its partner is tried first.
+    (
+        (FOUR_AIRCRAFT, FOUR, 0, &[(5, 0)]),
         FOUR_TOUR,
         (2, 1),
         Wanted::Spent(&[0]),
-    )?;
-    assert!(rt; seen);
-    Ok(())
+    ),
+];
+
+#[test]
+fn a_search_ends_or_is_given_up(rt: HostRuntime) -> Result<(), Fail> {
+    assert_rotations(&rt, GIVEN_UP)
 }
+
+const FOUND: &[Case] = &[
+    (
+        ON_FOUR_AIRCRAFT,
+        FOUR_MAP,
+        (3, 1000),
+        Wanted::Tour(&[0, 1, 2, 3, 4, 5]),
+    ),
+    (
+        ON_FOUR_AIRCRAFT,
+        FOUR_MAP,
+        (4, 0),
+        Wanted::Tour(&[0, 1, 2, 3, 4, 5]),
+    ),
+];
+
+#[test]
+fn a_search_finds_a_tour(rt: HostRuntime) -> Result<(), Fail> {
+    assert_rotations(&rt, FOUND)
+}
+
+// The aircraft has its only night at maintenance.
+const ONE_AIRCRAFT: &[Case] = &[(
+    (ROUND_TRIP, &[0, 0], 0, &[]),
+    THERE_AND_BACK,
+    (1, 0),
+    Wanted::Tour(&[0, 1]),
+)];
 
 #[test]
 fn one_aircraft_with_its_only_night_at_maintenance(rt: HostRuntime) -> Result<(), Fail> {
-    let row = flown(ROUND_TRIP, &[0, 0], &[]);
-    let seen = answers(
-        rt.alloc(),
-        &row,
-        THERE_AND_BACK,
-        (1, 0),
-        Wanted::Tour(&[0, 1]),
-    )?;
-    assert!(rt; seen);
-    Ok(())
+    assert_rotations(&rt, ONE_AIRCRAFT)
 }

@@ -3,12 +3,14 @@ ghost use Rattle.std.specs.Prelude.{◌<◌, IfSome};
 ghost use Rattle.fleet_model.specs.declared.limits.TheConstants.{MINUTES_PER_DAY};
 ghost use Rattle.fleet_model.specs.Legal.{IsLegal};
 
+use crate::assertions::assert_same;
 use best_matching::best_matching;
 use entries::Entries;
 use fleet_model::{Assignment, Connection, LoadError, Settings, Tables};
 use plan_judge::{Verdict, judge};
 use sched_read::load;
 use std::alloc::Global;
+use std::process::Abort;
 use std::test::Fail;
 use through_flights::{Throughs, choose};
 use worked_tables::plans::assignment;
@@ -85,19 +87,41 @@ fn chosen(
 
 /// All numbers of a list, summed.
 fn sum(numbers: &[i128]) -> i128 {
-    numbers
-        .iter()
-        .fold(0, |sum: i128, number| sum.wrapping_add(*number))
+    let mut sum: i128 = 0;
+    for number in numbers {
+        sum = sum.wrapping_add(*number);
+    }
+    sum
 }
 
 /// Files, the longest wait, the fleets of the legs, a fleet, its chosen pairs and their value.
 type Case = (Files, u16, &'static [u32], u32, &'static [(u32, u32)], i128);
 
-fn connections(pairs: &[(u32, u32)], chosen: &Throughs) -> bool {
+/// Whether these pairs are chosen.
+fn are_chosen(pairs: &[(u32, u32)], chosen: &Throughs) -> bool {
     let found = chosen.pairs.as_slice();
-    found.len() == pairs.len()
-        && found.iter().zip(pairs).all(|(pair, want)| pair.arriving == want.0
-            && pair.departing == want.1)
+    if found.len() != pairs.len() {
+        return false;
+    }
+    for (pair, (arriving, departing)) in found.iter().zip(pairs) {
+        if pair.arriving != *arriving || pair.departing != *departing {
+            return false;
+        }
+    }
+    true
+}
+
+/// Asserts the choice of each row.
+fn assert_chosen<R: Abort + Alloc<A = Global>>(rt: &R, cases: &[Case]) -> Result<(), Fail> {
+    for (files, through_max, fleets, fleet, pairs, value) in cases {
+        let through_max = *through_max;
+        assert!(rt; through_max < 1440);
+        let found = chosen(rt.alloc(), files, through_max, *fleets, *fleet)?.ok_or("no choice")?;
+        assert!(rt; are_chosen(*pairs, &found));
+        let sums = sum(found.u.as_slice()).wrapping_add(sum(found.v.as_slice()));
+        assert_same(rt, (found.value, sums), (*value, *value));
+    }
+    Ok(())
 }
 
 const OTHER_VALUES: Files = Files {
@@ -120,44 +144,42 @@ const AT_ONCE: Files = Files {
     ..BACK_AT_ONCE
 };
 
+const AT_THE_HUB: &[Case] = &[
+    (THROUGH_THE_HUB, 60, &[0, 0, 0, 0], 0, &[(0, 3), (1, 2)], 12),
+    (OTHER_VALUES, 60, &[0, 0, 0, 0], 0, &[(0, 2), (1, 3)], 13),
+    (THROUGH_THE_HUB, 40, &[0, 0, 0, 0], 0, &[(0, 3), (1, 2)], 12),
+    (THROUGH_THE_HUB, 39, &[0, 0, 0, 0], 0, &[(0, 2), (1, 3)], 11),
+];
+
 #[test]
 fn pairs_of_greatest_value_are_chosen(rt: HostRuntime) -> Result<(), Fail> {
-    let cases: [Case; 9] = [
-        (THROUGH_THE_HUB, 60, &[0, 0, 0, 0], 0, &[(0, 3), (1, 2)], 12),
-        (OTHER_VALUES, 60, &[0, 0, 0, 0], 0, &[(0, 2), (1, 3)], 13),
-        (THROUGH_THE_HUB, 40, &[0, 0, 0, 0], 0, &[(0, 3), (1, 2)], 12),
-        (THROUGH_THE_HUB, 39, &[0, 0, 0, 0], 0, &[(0, 2), (1, 3)], 11),
-        (NO_VALUES, 60, &[0, 0, 0, 0], 0, &[], 0),
-        (BY_NIGHT, 1439, &[0, 0, 0, 0], 0, &[], 0),
-        (AT_ONCE, 60, &[0, 0], 0, &[(0, 1)], 7),
-        (TWO_VISITS, 300, &[0, 0, 0, 0], 0, &[], 0),
-        (ROUND_TRIP, 60, &[1, 1], 0, &[], 0),
-    ];
-    for (files, through_max, fleets, fleet, pairs, value) in cases {
-        assert!(rt; through_max < 1440);
-        let found = chosen(rt.alloc(), &files, through_max, fleets, fleet)?.ok_or("no choice")?;
-        assert!(rt; connections(pairs, &found));
-        assert_eq!(rt; found.value, value);
-        assert_eq!(rt;
-            sum(found.u.as_slice()).wrapping_add(sum(found.v.as_slice())),
-            value
-        );
-    }
-    Ok(())
+    assert_chosen(&rt, AT_THE_HUB)
+}
+
+const FEW: &[Case] = &[
+    (NO_VALUES, 60, &[0, 0, 0, 0], 0, &[], 0),
+    (BY_NIGHT, 1439, &[0, 0, 0, 0], 0, &[], 0),
+    (AT_ONCE, 60, &[0, 0], 0, &[(0, 1)], 7),
+    (TWO_VISITS, 300, &[0, 0, 0, 0], 0, &[], 0),
+    (ROUND_TRIP, 60, &[1, 1], 0, &[], 0),
+];
+
+#[test]
+fn no_pair_without_a_value_or_a_turn_is_chosen(rt: HostRuntime) -> Result<(), Fail> {
+    assert_chosen(&rt, FEW)
 }
 
 #[test]
 fn two_pairs_that_no_fitting_map_holds(rt: HostRuntime) -> Result<(), Fail> {
     let found = chosen(rt.alloc(), &THREE_LANDINGS, 300, &[0; 6], 0)?.ok_or("no choice")?;
-    assert_eq!(rt; found.value, 10);
-    assert_eq!(rt; found.pairs.len(), 1);
+    assert_same(&rt, (found.value, found.pairs.len()), (10, 1));
     Ok(())
 }
 
 #[test]
 fn a_fleet_without_legs_has_numbers_of_0(rt: HostRuntime) -> Result<(), Fail> {
     let found = chosen(rt.alloc(), &ROUND_TRIP, 60, &[1, 1], 0)?.ok_or("no choice")?;
-    assert_eq!(rt; found.u.as_slice(), [0, 0].as_slice());
-    assert_eq!(rt; found.v.as_slice(), [0, 0].as_slice());
+    assert_same(&rt, found.u.as_slice(), [0, 0].as_slice());
+    assert_same(&rt, found.v.as_slice(), [0, 0].as_slice());
     Ok(())
 }
