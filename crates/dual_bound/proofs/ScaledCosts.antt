@@ -15,8 +15,8 @@ use Rattle.dual_bound.specs.Prices.{IsScale}
 use Rattle.dual_bound.specs.Rising.{IsIdle}
 use Rattle.dual_bound.specs.Sizes.{IsUpTo}
 use Rattle.dual_bound.specs.Worth.{cost_units, pair_worth}
-use Rattle.dual_bound.proofs.Numbers.{fits, held, is_held}
-use Rattle.dual_bound.proofs.Sizes.{up_to_scaled}
+use Rattle.dual_bound.proofs.Numbers.{fits, held, is_held, many}
+use Rattle.dual_bound.proofs.Sizes.{scaled}
 
 pub zero_size : IsUpTo 1 (pos 0)
 zero_size = record { no_less = omega (arith, ints); no_more = omega (arith, ints) }
@@ -32,7 +32,7 @@ cost_size : (c : ℤ) → IsCost c → IsUpTo 1 c
 cost_size c cost = record { no_less = omega (arith, ints); no_more = omega (arith, ints) }
 
 product_size : (s c : ℤ) → IsScale s → IsCost c → IsUpTo 1 (s *ℤ c)
-product_size s c scale cost = subst (λ z. IsUpTo 1 (z *ℤ c)) (one-*ℤ s) (up_to_scaled 1 s c (omega arith) scale.some scale.within cost)
+product_size s c scale cost = scaled s c scale.some scale.within cost
 
 factors_held : (s c : ℤ) → IsScale s → IsCost c → held s *ℤ held c ≡ s *ℤ c
 factors_held s c scale cost = ap (λ z. z *ℤ held c) (is_held 1 s (scale_size s scale) (omega arith)) ∙ ap (λ z. s *ℤ z) (is_held 1 c (cost_size c cost) (omega arith))
@@ -54,7 +54,7 @@ once k s c units few some scale cost is =
     just_one k few some = omega arith
 
 -- ---- the worth of a pair
-pub worth_held : (n : ℕ) (z w : ℤ) → IsUpTo n z → n ≤ 20000 → z ≡ w → held z ≡ w
+pub worth_held : (n : ℕ) (z w : ℤ) → IsUpTo n z → n ≤ many → z ≡ w → held z ≡ w
 worth_held n z w small few is = is_held n z small few ∙ is
 
 pub five_held : (z : ℤ) → IsUpTo 5 z → IsUpTo 5 (held z)

@@ -25,7 +25,7 @@ up_to_times z n most small few =
     }
 
 -- a scale times a cost
-scaled : (s c : ℤ) → pos 1 ≤ℤ s → s ≤ℤ pos max_scale → IsCost c → IsUpTo 1 (s *ℤ c)
+pub scaled : (s c : ℤ) → pos 1 ≤ℤ s → s ≤ℤ pos max_scale → IsCost c → IsUpTo 1 (s *ℤ c)
 scaled (negsuc n) c some within small = absurd (omega (arith, ints))
 scaled (pos n) c some within small =
     let ends = between n (10 ^ 12) c small.no_less small.no_more in
