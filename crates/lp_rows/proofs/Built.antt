@@ -1,10 +1,11 @@
 -- Lists that a loop makes entry by entry.
-use Rattle.std.proofs.Common.{◌≡◌, ℕ, ◌+◌, ◌-◌, ◌<◌, ◌≤◌, true, List, [], length, get_or, ◌∙◌, inl, inr, arith}
+use Rattle.std.proofs.Common.{◌≡◌, ℕ, ◌+◌, ◌-◌, ◌<◌, ◌≤◌, true, List, [], ◌∷◌, ◌++◌, length, get_or, refl, ◌∙◌, inl, inr, arith}
 use Rattle.std.proofs.lemmas.Bool.{cases_lt}
+use Rattle.std.proofs.lemmas.List.{get_or_append_left, get_or_push, length_push}
 use Rattle.fleet_model.specs.declared.limits.TheConstants.{MINUTES_PER_PERIOD}
 use Rattle.fleet_model.specs.declared.tables.Tables.{Tables}
 use Rattle.fleet_model.specs.Kept.{Domains}
-use Rattle.fleet_model.specs.Schedule.{fleets_in}
+use Rattle.fleet_model.specs.Schedule.{fleets_in, stations_in}
 use Rattle.node_aggregate.specs.Nodes.{AreNodesAt}
 use Rattle.node_aggregate.proofs.EventsAmong.{happens_within}
 use Rattle.node_aggregate.proofs.Links.{nodes_rise}
@@ -15,6 +16,21 @@ use Rattle.lp_rows.specs.Layout.{AreByStation, HaveNodes, starts_in}
 pub record AreBuilt {X : Type 0} (P : ℕ → X → Type 0) (d : X) (xs : List X) (n : ℕ) : Type 0 where
   pub all : length xs ≡ n
   pub each : (k : ℕ) → k < n → P k (get_or xs k d)
+
+pub none_built : {X : Type 0} (P : ℕ → X → Type 0) (d : X) → AreBuilt P d [] 0
+none_built P d = record { all = refl; each = λ k below. absurd (omega arith) }
+
+pub one_more_built : {X : Type 0} (P : ℕ → X → Type 0) (d : X) (xs grown : List X) (n : ℕ) (x : X) → grown ≡ xs ++ x ∷ [] → AreBuilt P d xs n → P n x → AreBuilt P d grown (n + 1)
+one_more_built P d xs grown n x e built here = rw e (record {
+  all = omega (arith, length_push xs x, built.all);
+  each = λ k below. elim (cases_lt k n) [
+    | inl before ↦ rw (get_or_append_left xs (x ∷ []) d k (omega (arith, built.all))) (built.each k before)
+    | inr last ↦ let same : k ≡ n = omega arith in rw (same, get_or_push xs x d n built.all) here
+  ];
+})
+
+pub stations_built : (t : Tables) (keeps : Domains) (f n : ℕ) (stations : List (List ℕ)) → n ≡ stations_in t → AreBuilt (AreNodesAt t keeps f) [] stations n → HaveNodes t keeps f stations
+stations_built t keeps f n stations e built = record { all = built.all ∙ e; each = λ s below. built.each s (omega arith) }
 
 -- the last start is a minute of the period, and each start is no less than its place
 few_nodes : (t : Tables) (keeps : Domains) (f s : ℕ) (starts : List ℕ) → AreNodesAt t keeps f s starts → length starts ≤ MINUTES_PER_PERIOD

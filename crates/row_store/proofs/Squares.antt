@@ -3,6 +3,7 @@ use Rattle.std.proofs.Common.{◌≡◌, ℕ, zero, suc, ◌+◌, ◌-◌, ◌*�
 use Rattle.std.specs.Prelude.{MatchOption}
 use Rattle.std.proofs.lemmas.Bool.{cases_lt}
 use Rattle.std.proofs.lemmas.Bool.Decides.{nat_tests}
+use Rattle.sums.proofs.NumberTests.{if_apart, if_same}
 use Rattle.sums.specs.Below.{sum_below}
 use Rattle.sums.proofs.Sums.{sum_below-agree, sum_below-zero}
 use Rattle.sums.proofs.OneChanged.{sum_below-more}
@@ -10,7 +11,7 @@ use Rattle.frac_row.specs.Row.{number_of}
 use Rattle.frac_row.specs.declared.row.FracRow.{FracRow}
 use Rattle.sparse_row.specs.declared.entry.Entry.{Entry}
 use Rattle.sparse_row.specs.Content.{number_in, AreEntries}
-use Rattle.sparse_row.proofs.Contents.{when_same, when_apart, nothing_before}
+use Rattle.sparse_row.proofs.Contents.{nothing_before}
 use Rattle.row_store.specs.Weights.{square_of, squares_of, square_between, squares_in, weight_of}
 
 pub zero_square : (z : ℤ) (n : ℕ) → z ≡ pos 0 → n ≡ n + square_of z
@@ -127,7 +128,7 @@ squares_are first count from width (x ∷ xs) h = elim (cases_lt x.column first)
 
     passed : sum_below (λ k. square_of (number_in xs (first + k))) count ≡ squares_in xs first (first + count) → ((k : ℕ) → k < count → x.column ≢ first + k) → square_between x first (first + count) ≡ 0 → sum_below (λ k. square_of (number_in (x ∷ xs) (first + k))) count ≡ squares_in (x ∷ xs) first (first + count)
     passed later apart none =
-        sum_below-agree _ _ count (record { each = λ k lt. ap square_of (when_apart x.column (first + k) x.number (number_in xs (first + k)) (apart k lt)) })
+        sum_below-agree _ _ count (record { each = λ k lt. ap square_of (if_apart x.column (first + k) x.number (number_in xs (first + k)) (apart k lt)) })
         ∙ joined _ _ _ later none
 
     added : (m n : ℕ) → m ≡ 0 → n ≡ m + n
@@ -140,10 +141,10 @@ squares_are first count from width (x ∷ xs) h = elim (cases_lt x.column first)
     taken later ge lt =
         let here : first + (x.column - first) ≡ x.column = omega arith in
         let none : square_of (number_in xs (first + (x.column - first))) ≡ 0 = ap square_of (ap (number_in xs) here ∙ nothing_before (x.column + 1) width xs x.column h.3 (omega arith)) in
-        let own : square_of (number_in (x ∷ xs) (first + (x.column - first))) ≡ square_of x.number = ap square_of (when_same x.column (first + (x.column - first)) x.number _ (sym here)) in
+        let own : square_of (number_in (x ∷ xs) (first + (x.column - first))) ≡ square_of x.number = ap square_of (if_same x.column (first + (x.column - first)) x.number _ (sym here)) in
         sum_below-more (λ k. square_of (number_in (x ∷ xs) (first + k))) (λ k. square_of (number_in xs (first + k))) count (x.column - first) (square_of x.number) (omega arith)
         (own ∙ added _ _ none)
-        (record { each = λ k below other. ap square_of (when_apart x.column (first + k) x.number (number_in xs (first + k)) (λ e. other (placed k ge e))) })
+        (record { each = λ k below other. ap square_of (if_apart x.column (first + k) x.number (number_in xs (first + k)) (λ e. other (placed k ge e))) })
         ∙ turned _ _ _ later ∙ ap (λ n. n + squares_in xs first (first + count)) (sym (inside x first (first + count) ge lt))
       where
         placed : (k : ℕ) → first ≤ x.column → x.column ≡ first + k → k ≡ x.column - first
