@@ -3,6 +3,7 @@ pub mod BoundFacts
 pub mod CheckedByDay
 pub mod FileNames
 pub mod FrontFacts
+pub mod GivenWords
 pub mod HeadlineFacts
 pub mod Headlines
 pub mod MadeFolder

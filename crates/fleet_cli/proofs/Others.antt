@@ -223,7 +223,7 @@ untold dir texts stands (inr part) = part.part.1
 
 -- ---- what a run leaves
 
-nothing_written : (dir : List ℕ) (names : List DeskFile) (told stands : Option Files) → stands ≡ told → KeepsAllBut dir names told stands
+pub nothing_written : (dir : List ℕ) (names : List DeskFile) (told stands : Option Files) → stands ≡ told → KeepsAllBut dir names told stands
 nothing_written dir [] told stands same = same
 nothing_written dir (f ∷ names) told stands same = λ name others. rw same refl
 

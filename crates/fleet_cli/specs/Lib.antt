@@ -8,6 +8,7 @@ pub mod MadeSolved
 pub mod Making
 pub mod Opened
 pub mod Program
+pub mod Ran
 pub mod Reading
 pub mod Run
 pub mod Solution

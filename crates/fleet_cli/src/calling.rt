@@ -1,12 +1,12 @@
 //! What the program does with the words of its call.
-ghost use Rattle.std.specs.Prelude.{◌≡◌, ◌≢◌, ◌⊎◌, ◌+◌, None, IfOk, IfSome, IsErr, map, string_bytes};
+ghost use Rattle.std.specs.Prelude.{◌≡◌, ◌≢◌, ◌⊎◌, None, IfErr, IfOk, IfSome, IsErr, IsOk, map, string_bytes, true};
+ghost use Rattle.std.specs.IoError.{error_kind};
 ghost use Rattle.std.specs.Process.{exit_status};
 ghost use Rattle.command_words.specs.Words.{asked};
-ghost use Rattle.fleet_cli.specs.Program.{given_words, words_in};
-ghost use Rattle.fleet_cli.specs.Run.{AnswersInFull, IsAnswered, SomeInFull};
+ghost use Rattle.fleet_cli.specs.Program.{given_words, is_no_text, words_in};
+ghost use Rattle.fleet_cli.specs.Ran.{Ran, telling};
 ghost use Rattle.fleet_cli.specs.declared.status.TheConstants.{FAULT, NO_MEMORY};
-ghost use Rattle.plan_desk.specs.Counts.{Rose, RoseBy};
-ghost use Rattle.plan_desk.specs.declared.file.TheConstants.{TABLE_LIMIT};
+ghost use Rattle.plan_desk.specs.Counts.{Rose};
 
 use crate::running::run;
 use crate::status::NO_MEMORY;
@@ -19,22 +19,26 @@ use std::process::ExitCode;
 
 /// Runs the program over the words that the system gives, the program's name among them, and ends with the status of
 /// `run`. Where some words are no text there are none, which asks for nothing. Where there is no memory for them, the
-/// status is 8, and nothing is put.
+/// status is 8, and nothing is put or written.
 pub fn program<D: Desk, S: Sink>(
     alloc: Global,
     given: io::Result<Args>,
     desk: &mut D,
     out: &mut S,
 ) -> ExitCode
-    ensures answer { IfSome (given_words given) (λ words. IsAnswered (exit_status result) (IfSome (D.holds desk.old) (λ held.
-        AnswersInFull held (asked words) (exit_status result) (D.holds desk.new) (S.output out.old) (S.output out.new)))) }
-    ensures some_answer { IfSome (given_words given) (λ words. IsAnswered (exit_status result) (SomeInFull (RoseBy (TABLE_LIMIT + 1) (D.taken desk.old) (D.taken desk.new))
-        (asked words) (exit_status result) (S.output out.old) (S.output out.new))) }
+    // All that `run` says, the headline among it, of the words that were given.
+    ensures ran { IfSome (given_words given) (λ words. Ran (D.is_steady desk.old) (S.is_steady out.old) (asked words) (exit_status result)
+        (telling (D.holds desk.old) (D.blamed desk.old) (D.faults desk.old) (D.taken desk.old) (S.output out.old) (S.puts out.old) (S.faults out.old))
+        (telling (D.holds desk.new) (D.blamed desk.new) (D.faults desk.new) (D.taken desk.new) (S.output out.new) (S.puts out.new) (S.faults out.new))) }
     ensures fault { exit_status result ≡ FAULT → Rose (D.faults desk.old) (D.faults desk.new) ⊎ Rose (S.faults out.old) (S.faults out.new) }
     ensures quiet_desk { exit_status result ≢ FAULT → D.faults desk.new ≡ D.faults desk.old }
     ensures quiet_sink { exit_status result ≢ FAULT → S.faults out.new ≡ S.faults out.old }
+
+    // Where the words are not known for want of memory, nothing is done.
     ensures no_words { given_words given ≡ None → exit_status result ≡ NO_MEMORY }
     ensures no_output { given_words given ≡ None → S.output out.new ≡ S.output out.old }
+    ensures no_files { given_words given ≡ None → D.holds desk.new ≡ D.holds desk.old }
+    ensures no_put { given_words given ≡ None → S.puts out.new ≡ S.puts out.old }
 {
     match words_of(alloc, given) {
         Ok(words) => ExitCode::from(run(alloc, words.as_slice(), desk, out).code),
@@ -46,6 +50,7 @@ pub fn program<D: Desk, S: Sink>(
 fn words_of(alloc: Global, given: io::Result<Args>) -> Result<Vec<String>, NoMemory>
     ensures words { IfOk result (λ words. IfSome (given_words given) (λ all. map string_bytes words.items ≡ all)) }
     ensures none { given_words given ≡ None → IsErr result }
+    ensures no_text { IfErr given (λ error. is_no_text (error_kind error) ≡ true → IsOk result) }
 {
     match given {
         Ok(args) => all_of(alloc, args),

@@ -1,0 +1,62 @@
+-- What is true of any run, by what desk and sink told before it and after it.
+use Rattle.std.specs.Prelude.{◌≡◌, ◌≢◌, ◌⊎◌, ◌+◌, ℕ, List, Option, None, IfSome, IsSomeAnd}
+use Rattle.command_words.specs.Words.{Asked}
+use Rattle.plan_desk.specs.Counts.{Rose, RoseBy}
+use Rattle.plan_desk.specs.Desk.{Files}
+use Rattle.plan_desk.specs.Sink.{once_more, output_with}
+use Rattle.plan_desk.specs.declared.file.DeskFile.{DeskFile}
+use Rattle.plan_desk.specs.declared.file.TheConstants.{TABLE_LIMIT}
+use Rattle.fleet_cli.specs.Headline.{Headline}
+use Rattle.fleet_cli.specs.Reading.{NamesStand}
+use Rattle.fleet_cli.specs.Run.{AnswersExactly, AnswersInFull, BlamesMissing, FailsAt, IsAnswered, IsComplete, IsRefusal, KeepsOthers, LeavesFiles, PutsFault, PutsPart, SomeInFull}
+use Rattle.fleet_cli.specs.Texts.{usage_text}
+use Rattle.fleet_cli.specs.declared.status.TheConstants.{FAULT, NO_MEMORY, USAGE}
+
+-- what desk and sink tell at one time
+pub record Told : Type 0 where
+  pub holds : Option Files
+  pub blamed : Option DeskFile
+  pub desk_faults : ℕ
+  pub taken : ℕ
+  pub output : Option (List ℕ)
+  pub puts : Option ℕ
+  pub sink_faults : ℕ
+
+abbrev pub telling : Option Files → Option DeskFile → ℕ → ℕ → Option (List ℕ) → Option ℕ → ℕ → Told
+telling holds blamed desk_faults taken output puts sink_faults = record {
+  holds = holds;
+  blamed = blamed;
+  desk_faults = desk_faults;
+  taken = taken;
+  output = output;
+  puts = puts;
+  sink_faults = sink_faults;
+}
+
+-- The clauses of `run` in one, by their names: of a run that was asked for something and ended with a status, over a desk
+-- and a sink that may be steady.
+pub record Ran (steady_desk steady_sink : Type 0) (asked : Option Asked) (code : ℕ) (before after : Told) : Type 0 where
+  pub answer : IsAnswered code (IfSome before.holds (λ held. AnswersInFull held asked code after.holds before.output after.output))
+  pub headline : IsAnswered code (IfSome before.holds (λ held. Headline held asked code after.holds before.output after.output))
+  pub exactly : IsAnswered code (IfSome before.holds (λ held. AnswersExactly held asked code before.output after.output))
+  pub complete : IsAnswered code (IsComplete before.holds asked code)
+  pub some_answer : IsAnswered code (SomeInFull (RoseBy (TABLE_LIMIT + 1) before.taken after.taken) asked code before.output after.output)
+  pub usage : asked ≡ None → IsAnswered code (code ≡ USAGE)
+  pub only_usage : code ≡ USAGE → asked ≡ None
+  pub usage_line : code ≡ USAGE → after.output ≡ output_with before.output usage_text
+  pub fault : code ≡ FAULT → Rose before.desk_faults after.desk_faults ⊎ Rose before.sink_faults after.sink_faults
+  pub quiet_desk : code ≢ FAULT → after.desk_faults ≡ before.desk_faults
+  pub quiet_sink : code ≢ FAULT → after.sink_faults ≡ before.sink_faults
+  pub steady : steady_desk → steady_sink → IsSomeAnd before.holds (NamesStand asked) → code ≢ FAULT
+  pub missing : code ≡ FAULT → steady_desk → steady_sink → IfSome before.holds (BlamesMissing asked after.blamed)
+  pub fault_line :
+    code ≡ FAULT
+    → PutsFault (Rose before.desk_faults after.desk_faults) after.blamed before.output after.output × FailsAt steady_desk before.holds asked after.holds after.blamed
+      ⊎ (after.desk_faults ≡ before.desk_faults) × PutsPart before.holds asked after.holds before.output after.output
+  pub no_memory :
+    code ≡ NO_MEMORY
+    → (after.output ≡ before.output) × LeavesFiles before.holds asked after.holds ⊎ PutsPart before.holds asked after.holds before.output after.output
+  pub one_put : code ≢ NO_MEMORY → after.puts ≡ once_more before.puts
+  pub one_put_at_most : (after.puts ≡ before.puts) ⊎ (after.puts ≡ once_more before.puts)
+  pub refusals : IsRefusal code → after.holds ≡ before.holds
+  pub files : KeepsOthers asked before.holds after.holds
