@@ -1,7 +1,7 @@
 //! Idle minutes of islands, and the arcs that go over them.
 use crate::assertions::assert_same;
 use entries::Entries;
-use fleet_model::{Kept, LoadError};
+use fleet_model::{Kept, LoadError, Tables};
 use island_arcs::{idle_minutes, moments};
 use island_cut::{Idle, idle};
 use node_aggregate::nodes;
@@ -123,16 +123,26 @@ fn moments_of(
     station: u32,
 ) -> Result<Option<Entries<Option<u16>>>, LoadError> {
     let tables = read(alloc, files)?;
+    moments_in(alloc, &tables, fleet, station)
+}
+
+/// The same in tables.
+fn moments_in(
+    alloc: Global,
+    tables: &Tables,
+    fleet: u32,
+    station: u32,
+) -> Result<Option<Entries<Option<u16>>>, LoadError> {
     if fleet >= tables.fleet_count() || station >= tables.station_count() {
         return Ok(None);
     }
-    let kept = Kept::all(&tables);
-    let idle = idle_minutes(alloc, &tables, &kept)?;
-    let happening = events(alloc, &tables, &kept, fleet, station)?;
+    let kept = Kept::all(tables);
+    let idle = idle_minutes(alloc, tables, &kept)?;
+    let happening = events(alloc, tables, &kept, fleet, station)?;
     let starts = nodes(alloc, &happening)?;
     let found = moments(
         alloc,
-        &tables,
+        tables,
         &kept,
         fleet,
         station,
