@@ -9,6 +9,7 @@ use entries::{Entries, NoMemory};
 use fleet_model::{LoadError, Tables};
 use plan_judge::{Verdict, judge};
 use std::alloc::Global;
+use std::process::Abort;
 use std::test::Fail;
 use worked_tables::plans::assignment;
 use worked_tables::schedules::{Files, OVERLAPPING_TRIPS, ROUND_TRIP, read};
@@ -145,22 +146,24 @@ const TWO_FLEETS: Files = Files {
     ..OVERLAPPING_TRIPS
 };
 
-/// From this minute on a fleet is worth this much at the first station.
-const fn at(fleet: u32, minute: u16, value: i128) -> PriceStep {
-    PriceStep {
-        fleet,
-        station: 0,
-        minute,
-        value,
-    }
-}
+/// From a minute on a fleet is worth so much at the first station.
+type Worth = (u32, u16, i128);
 
 /// Prices of scale 1.
-fn prices(alloc: Global, rents: &[i128], steps: &[PriceStep]) -> Result<Prices, NoMemory> {
+fn prices(alloc: Global, rents: &[i128], worths: &[Worth]) -> Result<Prices, NoMemory> {
+    let mut steps = Vec::new(alloc);
+    for (fleet, minute, value) in worths {
+        steps.push(PriceStep {
+            fleet: *fleet,
+            station: 0,
+            minute: *minute,
+            value: *value,
+        })?;
+    }
     Ok(Prices {
         scale: 1,
         rents: Entries::from_vec(rents.to_vec(alloc)?),
-        steps: Entries::from_vec(steps.to_vec(alloc)?),
+        steps: Entries::from_vec(steps),
     })
 }
 
@@ -185,122 +188,131 @@ fn mixed(alloc: Global, scale: i128, legs: u32, weights: [i128; 2]) -> Result<Mi
     })
 }
 
+/// Asserts what the checker says of a tree, which is dropped then.
+fn assert_checked<R: Abort + Alloc<A = Global>>(
+    rt: &R,
+    files: &Files,
+    plan: Option<&[u32]>,
+    tree: Tree,
+    wanted: Checked,
+) -> Result<(), Fail> {
+    assert_same(rt, checked(rt.alloc(), files, plan, &tree)?, Some(wanted));
+    Ok(())
+}
+
+/// Asserts the rule that a tree of one node over the round trip breaks.
+fn assert_leaf_breaks<R: Abort + Alloc<A = Global>>(
+    rt: &R,
+    leaf: Tree,
+    rule: u8,
+) -> Result<(), Fail> {
+    let broken = Checked::Broken { node: 1, rule };
+    assert_checked(rt, &ROUND_TRIP, None, leaf, broken)
+}
+
+/// An open leaf without prices.
+fn left_open(alloc: Global) -> Tree {
+    Tree::Open(Prices::zero(alloc), Cause::Pivots { made: 0 })
+}
+
+const BOUND_OF_60: Checked = Checked::Holds { bound: Some(60) };
+
+const BOUND_OF_200: Checked = Checked::Holds { bound: Some(200) };
+
 #[test]
 fn a_plan_at_the_bound_of_its_prices(rt: HostRuntime) -> Result<(), Fail> {
-    let tree = Tree::Priced(prices(rt.alloc(), &[], &[at(1, 0, 20)])?);
-    assert_same(
-        &rt,
-        checked(rt.alloc(), &ROUND_TRIP, Some(FIRST_FLEET), &tree)?,
-        Some(Checked::Holds { bound: Some(200) }),
-    );
-    let rising = Tree::Priced(prices(rt.alloc(), &[], &[at(1, 0, 20), at(1, 720, 21)])?);
-    assert_same(
-        &rt,
-        checked(rt.alloc(), &ROUND_TRIP, Some(FIRST_FLEET), &rising)?,
-        Some(Checked::Broken { node: 1, rule: 3 }),
-    );
-    Ok(())
+    let tree = Tree::Priced(prices(rt.alloc(), &[], &[(1, 0, 20)])?);
+    assert_checked(&rt, &ROUND_TRIP, Some(FIRST_FLEET), tree, BOUND_OF_200)?;
+    let rising = Tree::Priced(prices(rt.alloc(), &[], &[(1, 0, 20), (1, 720, 21)])?);
+    let broken = Checked::Broken { node: 1, rule: 3 };
+    assert_checked(&rt, &ROUND_TRIP, Some(FIRST_FLEET), rising, broken)
 }
 
 #[test]
 fn a_schedule_without_aircraft_is_refuted(rt: HostRuntime) -> Result<(), Fail> {
-    let steps = [at(0, 0, 1), at(0, 481, 0), at(1, 0, 1), at(1, 481, 0)];
+    let steps = [(0, 0, 1), (0, 481, 0), (1, 0, 1), (1, 481, 0)];
     let tree = Tree::Refuted(prices(rt.alloc(), &[1, 1], &steps)?);
     assert_same(
         &rt,
         checked(rt.alloc(), &NO_AIRCRAFT, None, &tree)?,
         Some(Checked::Holds { bound: None }),
     );
-    assert_same(
-        &rt,
-        checked(rt.alloc(), &ROUND_TRIP, None, &tree)?,
-        Some(Checked::Broken { node: 1, rule: 6 }),
-    );
-    Ok(())
+    assert_leaf_breaks(&rt, tree, 6)
 }
 
 #[test]
 fn halves_that_stay_open(rt: HostRuntime) -> Result<(), Fail> {
     let halves = mixed(rt.alloc(), 2, 6, [1, 1])?;
     let tree = Tree::Open(Prices::zero(rt.alloc()), Cause::Nodes(halves));
-    assert_same(
-        &rt,
-        checked(rt.alloc(), &TWO_FLEETS, None, &tree)?,
-        Some(Checked::Holds { bound: Some(60) }),
-    );
-    Ok(())
+    assert_checked(&rt, &TWO_FLEETS, None, tree, BOUND_OF_60)
 }
+
+/// The greatest price and rent.
+const LIMIT: i128 = 1_000_000_000_000_000_000_000_000_000_000;
+
+/// Rents and steps, and the rule that they break.
+const IMPROPER: &[(&[i128], &[Worth], u8)] = &[
+    (&[-1], &[], 2),
+    (&[LIMIT + 1], &[], 2),
+    (&[], &[(1, 0, LIMIT + 1)], 2),
+    (&[], &[(0, 0, -1), (0, 1, 0)], 3),
+    (&[0, 4], &[(1, 0, 5), (1, 900, 0)], 4),
+];
 
 #[test]
 fn prices_that_are_not_proper(rt: HostRuntime) -> Result<(), Fail> {
-    let limit = 1_000_000_000_000_000_000_000_000_000_000;
-    let cases: [(&[i128], &[PriceStep], u8); 5] = [
-        (&[-1], &[], 2),
-        (&[limit + 1], &[], 2),
-        (&[], &[at(1, 0, limit + 1)], 2),
-        (&[], &[at(0, 0, -1), at(0, 1, 0)], 3),
-        (&[0, 4], &[at(1, 0, 5), at(1, 900, 0)], 4),
-    ];
-    for (rents, steps, rule) in cases {
-        let tree = Tree::Open(prices(rt.alloc(), rents, steps)?, Cause::Pivots { made: 0 });
-        assert_same(
-            &rt,
-            checked(rt.alloc(), &ROUND_TRIP, None, &tree)?,
-            Some(Checked::Broken { node: 1, rule }),
-        );
+    for (rents, worths, rule) in IMPROPER {
+        let prices = prices(rt.alloc(), *rents, *worths)?;
+        assert_leaf_breaks(&rt, Tree::Open(prices, Cause::Pivots { made: 0 }), *rule)?;
     }
     Ok(())
 }
 
 #[test]
 fn leaves_that_are_not_what_they_say(rt: HostRuntime) -> Result<(), Fail> {
-    let zero = || Prices::zero(rt.alloc());
-    let no_scale = Prices { scale: 0, ..zero() };
-    let whole = mixed(rt.alloc(), 1, 2, [1, 0])?;
-    let short = mixed(rt.alloc(), 2, 2, [1, 0])?;
-    let cases = [
-        (Tree::Priced(no_scale), 1),
-        (Tree::Bare { leg: 0 }, 5),
-        (Tree::Sole, 5),
-        (Tree::Refuted(zero()), 6),
-        (Tree::Priced(zero()), 7),
-        (Tree::Open(zero(), Cause::Nodes(short)), 9),
-        (Tree::Open(zero(), Cause::Nodes(whole)), 10),
-    ];
-    for (tree, rule) in &cases {
-        assert_same(
-            &rt,
-            checked(rt.alloc(), &ROUND_TRIP, None, tree)?,
-            Some(Checked::Broken {
-                node: 1,
-                rule: *rule,
-            }),
-        );
-    }
-    Ok(())
+    assert_leaf_breaks(&rt, Tree::Bare { leg: 0 }, 5)?;
+    assert_leaf_breaks(&rt, Tree::Sole, 5)?;
+    assert_leaf_breaks(&rt, Tree::Refuted(Prices::zero(rt.alloc())), 6)?;
+    assert_leaf_breaks(&rt, Tree::Priced(Prices::zero(rt.alloc())), 7)
 }
 
 #[test]
-fn a_pair_set_aside(rt: HostRuntime) -> Result<(), Fail> {
-    let one_way = Files {
-        costs: b"flight,fleet,cost\nX1,F1,100\nX1,F2,80\nX2,F1,100\n",
-        ..ROUND_TRIP
+fn a_leaf_without_a_scale(rt: HostRuntime) -> Result<(), Fail> {
+    let no_scale = Prices {
+        scale: 0,
+        ..Prices::zero(rt.alloc())
     };
-    let refuted = Tree::Refuted(prices(rt.alloc(), &[], &[at(1, 0, 1)])?);
+    assert_leaf_breaks(&rt, Tree::Priced(no_scale), 1)
+}
+
+#[test]
+fn weights_that_are_not_what_they_say(rt: HostRuntime) -> Result<(), Fail> {
+    let short = mixed(rt.alloc(), 2, 2, [1, 0])?;
+    let open_for_short = Tree::Open(Prices::zero(rt.alloc()), Cause::Nodes(short));
+    assert_leaf_breaks(&rt, open_for_short, 9)?;
+    let whole = mixed(rt.alloc(), 1, 2, [1, 0])?;
+    let open_for_whole = Tree::Open(Prices::zero(rt.alloc()), Cause::Nodes(whole));
+    assert_leaf_breaks(&rt, open_for_whole, 10)
+}
+
+/// The round trip, which the second fleet can't fly back.
+const ONE_WAY: Files = Files {
+    costs: b"flight,fleet,cost\nX1,F1,100\nX1,F2,80\nX2,F1,100\n",
+    ..ROUND_TRIP
+};
+
+#[test]
+fn a_pair_set_aside(rt: HostRuntime) -> Result<(), Fail> {
+    let refuted = Tree::Refuted(prices(rt.alloc(), &[], &[(1, 0, 1)])?);
     let holds = trim(rt.alloc(), refuted, Tree::Sole)?;
-    assert_same(
-        &rt,
-        checked(rt.alloc(), &one_way, None, &holds)?,
-        Some(Checked::Holds { bound: Some(200) }),
-    );
-    let open = Tree::Open(Prices::zero(rt.alloc()), Cause::Pivots { made: 0 });
-    let without_reason = trim(rt.alloc(), open, Tree::Bare { leg: 0 })?;
-    assert_same(
-        &rt,
-        checked(rt.alloc(), &one_way, None, &without_reason)?,
-        Some(Checked::Broken { node: 3, rule: 5 }),
-    );
-    Ok(())
+    assert_checked(&rt, &ONE_WAY, None, holds, BOUND_OF_200)
+}
+
+#[test]
+fn a_pair_set_aside_without_a_reason(rt: HostRuntime) -> Result<(), Fail> {
+    let without_reason = trim(rt.alloc(), left_open(rt.alloc()), Tree::Bare { leg: 0 })?;
+    let broken = Checked::Broken { node: 3, rule: 5 };
+    assert_checked(&rt, &ONE_WAY, None, without_reason, broken)
 }
 
 /// The pair of the first leg and the second fleet, set aside.
@@ -315,39 +327,24 @@ fn trim(alloc: Global, yes: Tree, no: Tree) -> Result<Tree, NoMemory> {
 
 #[test]
 fn a_split_of_halves(rt: HostRuntime) -> Result<(), Fail> {
-    let open = Tree::Open(Prices::zero(rt.alloc()), Cause::Pivots { made: 0 });
-    let tree = split(rt.alloc(), open, Cause::Pivots { made: 7 })?;
-    assert_same(
-        &rt,
-        checked(rt.alloc(), &TWO_FLEETS, None, &tree)?,
-        Some(Checked::Holds { bound: Some(60) }),
-    );
-    Ok(())
+    let tree = split(rt.alloc(), left_open(rt.alloc()), Cause::Pivots { made: 7 })?;
+    assert_checked(&rt, &TWO_FLEETS, None, tree, BOUND_OF_60)
 }
 
 #[test]
 fn the_first_child_is_judged_first(rt: HostRuntime) -> Result<(), Fail> {
     let halves = mixed(rt.alloc(), 2, 6, [1, 1])?;
     let tree = split(rt.alloc(), Tree::Sole, Cause::Nodes(halves))?;
-    assert_same(
-        &rt,
-        checked(rt.alloc(), &TWO_FLEETS, None, &tree)?,
-        Some(Checked::Broken { node: 2, rule: 5 }),
-    );
-    Ok(())
+    let broken = Checked::Broken { node: 2, rule: 5 };
+    assert_checked(&rt, &TWO_FLEETS, None, tree, broken)
 }
 
 #[test]
 fn halves_of_a_pair_that_is_not_kept(rt: HostRuntime) -> Result<(), Fail> {
-    let open = Tree::Open(Prices::zero(rt.alloc()), Cause::Pivots { made: 0 });
     let halves = mixed(rt.alloc(), 2, 6, [1, 1])?;
-    let tree = split(rt.alloc(), open, Cause::Nodes(halves))?;
-    assert_same(
-        &rt,
-        checked(rt.alloc(), &TWO_FLEETS, None, &tree)?,
-        Some(Checked::Broken { node: 3, rule: 9 }),
-    );
-    Ok(())
+    let tree = split(rt.alloc(), left_open(rt.alloc()), Cause::Nodes(halves))?;
+    let broken = Checked::Broken { node: 3, rule: 9 };
+    assert_checked(&rt, &TWO_FLEETS, None, tree, broken)
 }
 
 /// The first leg on the first fleet or not, where half of each leg is flown by each of two fleets; the other part

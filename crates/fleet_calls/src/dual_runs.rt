@@ -1,12 +1,16 @@
 //! Runs of the dual simplex method, from places given by hand and from those of a subproblem.
+ghost use Rattle.std.specs.Prelude.{IfOk};
+ghost use Rattle.row_store.specs.Problem.{IsProblem};
+
 use crate::assertions::assert_same;
 use dual_simplex::{Outcome, solve};
 use dual_start::start_places;
-use entries::Entries;
+use entries::{Entries, NoMemory};
 use fleet_model::{Kept, LoadError};
 use lp_rows::Program;
 use row_store::{Dense, Line, Place, RowStore, Rows, is_problem};
 use std::alloc::Global;
+use std::process::Abort;
 use std::test::Fail;
 use worked_tables::schedules::{Files, TWO_FLEETS, read};
 
@@ -117,38 +121,57 @@ fn told(outcome: &Outcome) -> (&'static str, &[u32], u64, u32, u32) {
     }
 }
 
+/// Asserts the end of a run over its lines.
+fn assert_ends<R: Abort + Alloc<A = Global>>(rt: &R, rows: &Rows, run: &Run) -> Result<(), Fail>
+    requires { IsProblem rows.now }
+{
+    let mut store = Dense::start(rt.alloc(), rows)?;
+    let outcome = solve(rt.alloc(), &mut store, rows.columns, run.start, run.steps)?;
+    assert_same(rt, told(&outcome), run.end);
+    Ok(())
+}
+
 #[test]
 fn dual_runs_and_their_ends(rt: HostRuntime) -> Result<(), Fail> {
     for run in RUNS {
         let rows = rows(rt.alloc(), run)?;
         assert!(rt; is_problem(&rows));
-        let mut store = Dense::start(rt.alloc(), &rows)?;
-        let outcome = solve(rt.alloc(), &mut store, rows.columns, run.start, run.steps)?;
-        let end = told(&outcome);
-        assert_same(&rt, end, run.end);
+        assert_ends(&rt, &rows, run)?;
     }
     Ok(())
 }
 
+/// The program of all pairs of a schedule.
+fn program_of(alloc: Global, files: &Files) -> Result<Program, LoadError>
+    ensures { IfOk result (λ program. IsProblem program.rows) }
+{
+    let tables = read(alloc, files)?;
+    Ok(Program::new(alloc, &tables, &Kept::all(&tables))?)
+}
+
 /// The slacks, then each leg on the first fleet; no arc stays.
-const OVERLAPPING_START: [(u32, u32); 8] = [
-    (19, 13),
-    (18, 12),
-    (0, 0),
-    (1, 2),
-    (2, 4),
-    (3, 6),
-    (4, 8),
-    (5, 10),
+const OVERLAPPING_START: &[Place] = &[
+    Place {
+        row: 19,
+        column: 13,
+    },
+    Place {
+        row: 18,
+        column: 12,
+    },
+    Place { row: 0, column: 0 },
+    Place { row: 1, column: 2 },
+    Place { row: 2, column: 4 },
+    Place { row: 3, column: 6 },
+    Place { row: 4, column: 8 },
+    Place { row: 5, column: 10 },
 ];
 
 #[test]
 fn a_start_on_overlapping_trips(rt: HostRuntime) -> Result<(), Fail> {
-    let tables = read(rt.alloc(), &TWO_FLEETS)?;
-    let program = Program::new(rt.alloc(), &tables, &Kept::all(&tables))?;
+    let program = program_of(rt.alloc(), &TWO_FLEETS)?;
     let places = start_places(rt.alloc(), &program)?;
-    let want = OVERLAPPING_START.map(|(row, column)| Place { row, column });
-    assert_same(&rt, places.as_slice(), want.as_slice());
+    assert_same(&rt, places.as_slice(), OVERLAPPING_START);
     Ok(())
 }
 
@@ -160,31 +183,35 @@ const AT_ONCE: Files = Files {
 
 /// The kind of the end and the steps made of a run over all pairs of a schedule, within a budget.
 fn end_within(alloc: Global, files: &Files, steps: u64) -> Result<(&'static str, u64), LoadError> {
-    let tables = read(alloc, files)?;
-    let program = Program::new(alloc, &tables, &Kept::all(&tables))?;
-    let places = start_places(alloc, &program)?;
+    let program = program_of(alloc, files)?;
+    Ok(end_of(alloc, &program, steps)?)
+}
+
+/// The kind of the end and the steps made of a run over a program, within a budget.
+fn end_of(alloc: Global, program: &Program, steps: u64) -> Result<(&'static str, u64), NoMemory>
+    requires { IsProblem program.now.rows }
+{
+    let places = start_places(alloc, program)?;
     let mut store = Dense::start(alloc, &program.rows)?;
     let outcome = solve(alloc, &mut store, program.rows.columns, &places, steps)?;
     let (kind, _, made, _, _) = told(&outcome);
     Ok((kind, made))
 }
 
-/// Eight steps of the start and six by the rule.
+/// A budget of steps, and how the run over overlapping trips ends: eight steps of the start and six by the rule.
+const BUDGETS: &[(u64, &str, u64)] = &[
+    (10, "spent", 10),
+    (11, "spent", 11),
+    (13, "spent", 13),
+    (14, "best", 14),
+    (100, "best", 14),
+];
+
 #[test]
 fn overlapping_trips_are_settled_by_fourteen_steps(rt: HostRuntime) -> Result<(), Fail> {
-    for steps in [10, 11, 13] {
-        assert_same(
-            &rt,
-            end_within(rt.alloc(), &TWO_FLEETS, steps)?,
-            ("spent", steps),
-        );
-    }
-    for steps in [14, 100] {
-        assert_same(
-            &rt,
-            end_within(rt.alloc(), &TWO_FLEETS, steps)?,
-            ("best", 14),
-        );
+    for (steps, kind, made) in BUDGETS {
+        let end = end_within(rt.alloc(), &TWO_FLEETS, *steps)?;
+        assert_same(&rt, end, (*kind, *made));
     }
     Ok(())
 }

@@ -2,15 +2,15 @@
 //! are paid back.
 use crate::assertions::assert_same;
 use crate::checking::checked;
-use crate::lifting::lifted;
-use crate::sign_lifts::lifted_by_signs;
+use crate::lifts::{Way, assert_worth, lifted_by};
 use branch_bound::solve;
 use cert_check::Checked;
-use dual_bound::worth::worth;
 use dual_bound::{Prices, Tree};
 use fleet_model::Kept;
 use lp_rows::rows;
 use price_lift::Lifted;
+use std::alloc::Global;
+use std::process::Abort;
 use std::test::Fail;
 use worked_tables::schedules::{Files, ROUND_TRIP, read};
 
@@ -51,28 +51,30 @@ fn arcs_that_have_an_idle_minute_go(rt: HostRuntime) -> Result<(), Fail> {
 }
 
 /// Prices that are paid back are worth what the cheapest assignment costs, after either run.
-#[test]
-fn prices_that_are_paid_back_are_worth_as_much(rt: HostRuntime) -> Result<(), Fail> {
+fn assert_least_cost<R: Abort + Alloc<A = Global>>(rt: &R, way: Way) -> Result<Prices, Fail> {
     let tables = read(rt.alloc(), &NONE_TO_SPARE)?;
     let kept = Kept::all(&tables);
-    let Some(Lifted { prices, .. }) = lifted(rt.alloc(), &tables, &kept)? else {
-        panic!(rt; "no end");
-    };
-    assert_same(
-        &rt,
-        worth(&tables, &kept, &prices, 1),
-        LEAST_COST * prices.scale,
-    );
-    let Some(Lifted { prices, .. }) = lifted_by_signs(rt.alloc(), &tables, &kept)? else {
+    let Some(Lifted { prices, .. }) = lifted_by(rt.alloc(), &tables, &kept, way)? else {
         panic!(rt; "given up");
     };
-    assert_same(
-        &rt,
-        worth(&tables, &kept, &prices, 1),
-        LEAST_COST * prices.scale,
-    );
+    assert_worth(rt, &tables, &kept, &prices, LEAST_COST);
+    Ok(prices)
+}
+
+#[test]
+fn prices_that_are_paid_back_are_worth_as_much(rt: HostRuntime) -> Result<(), Fail> {
+    assert_least_cost(&rt, Way::Prescribed)?;
+    let prices = assert_least_cost(&rt, Way::BySigns)?;
     assert!(rt; is_paid_back(&prices));
     Ok(())
+}
+
+/// Whether a tree is a leaf with prices that are paid back.
+fn is_paid_back_leaf(tree: &Tree) -> bool {
+    match tree {
+        Tree::Priced(prices) => is_paid_back(prices),
+        _ => false,
+    }
 }
 
 #[test]
@@ -80,10 +82,7 @@ fn a_proof_with_prices_that_are_paid_back_holds(rt: HostRuntime) -> Result<(), F
     let tables = read(rt.alloc(), &NONE_TO_SPARE)?;
     let solved = solve(rt.alloc(), &tables, 0, 1000)?;
     let tree = solved.tree();
-    match tree {
-        Tree::Priced(prices) => assert!(rt; is_paid_back(prices)),
-        _ => panic!(rt; "{solved:?}"),
-    }
+    assert!(rt; is_paid_back_leaf(tree));
     assert_same(
         &rt,
         checked(rt.alloc(), &NONE_TO_SPARE, Some(CHEAPEST), tree)?,

@@ -25,6 +25,8 @@ mod judging;
 #[cfg(test)]
 mod lifting;
 #[cfg(test)]
+mod lifts;
+#[cfg(test)]
 mod lines;
 #[cfg(test)]
 mod model;

@@ -1,6 +1,7 @@
 //! Times, costs and assignments.
 use crate::assertions::assert_same;
 use fleet_model::{Assignment, Costs, Pair, PairCost, Tables, busy, laps, nights, ready};
+use std::alloc::Global;
 use std::test::Fail;
 use worked_tables::schedules::{
     BACK_BY_NIGHT, Files, OVERLAPPING_TRIPS, ROUND_TRIP, THROUGH_THE_HUB, read,
@@ -27,49 +28,69 @@ fn times_of(tables: &Tables, leg: u32) -> Option<Times> {
     })
 }
 
+/// The round trip, with 15 minutes of turn more at the first station.
+const SLOW_STATION: Files = Files {
+    stations: b"code,extra,maintenance\nAAA,15,yes\nBBB,0,no\n",
+    ..ROUND_TRIP
+};
+
+/// Files, a leg, for how many minutes its aircraft is busy, when it is ready again, and after how many nights.
+const READY: &[(Files, u32, u16, u16, u32)] = &[
+    (ROUND_TRIP, 0, 90, 570, 0),
+    (ROUND_TRIP, 1, 90, 690, 0),
+    (SLOW_STATION, 0, 90, 570, 0),
+    (SLOW_STATION, 1, 105, 705, 0),
+    (BACK_BY_NIGHT, 1, 90, 0, 1),
+    (OVERLAPPING_TRIPS, 3, 480, 0, 1),
+    (OVERLAPPING_TRIPS, 5, 540, 480, 1),
+    (THROUGH_THE_HUB, 1, 70, 550, 0),
+    (THROUGH_THE_HUB, 3, 90, 670, 0),
+];
+
 #[test]
 fn aircraft_are_ready_again(rt: HostRuntime) -> Result<(), Fail> {
-    let slow_station = Files {
-        stations: b"code,extra,maintenance\nAAA,15,yes\nBBB,0,no\n",
-        ..ROUND_TRIP
-    };
-    let cases = [
-        (ROUND_TRIP, 0, 90, 570, 0),
-        (ROUND_TRIP, 1, 90, 690, 0),
-        (slow_station, 0, 90, 570, 0),
-        (slow_station, 1, 105, 705, 0),
-        (BACK_BY_NIGHT, 1, 90, 0, 1),
-        (OVERLAPPING_TRIPS, 3, 480, 0, 1),
-        (OVERLAPPING_TRIPS, 5, 540, 480, 1),
-        (THROUGH_THE_HUB, 1, 70, 550, 0),
-        (THROUGH_THE_HUB, 3, 90, 670, 0),
-    ];
-    for (files, leg, busy, ready, nights) in cases {
-        let tables = read(rt.alloc(), &files)?;
+    for (files, leg, busy, ready, nights) in READY {
+        let tables = read(rt.alloc(), files)?;
         let want = Times {
-            busy,
-            ready,
-            nights,
-            laps: nights,
+            busy: *busy,
+            ready: *ready,
+            nights: *nights,
+            laps: *nights,
         };
-        assert_same(&rt, times_of(&tables, leg), Some(want));
+        assert_same(&rt, times_of(&tables, *leg), Some(want));
     }
     Ok(())
 }
 
+/// Costs of pairs, by leg and fleet.
+const RISING: &[(u32, u32, i128)] = &[(0, 0, 100), (0, 1, 80), (1, 0, 100), (1, 1, 130)];
+
+/// The same the other way round.
+const FALLING: &[(u32, u32, i128)] = &[(1, 1, 130), (1, 0, 100), (0, 1, 80), (0, 0, 100)];
+
+fn entries_of(alloc: Global, costs: &[(u32, u32, i128)]) -> Result<Vec<PairCost>, Fail> {
+    let mut entries = Vec::new(alloc);
+    for (leg, fleet, cost) in costs {
+        entries.push(PairCost {
+            leg: *leg,
+            fleet: *fleet,
+            cost: *cost,
+        })?;
+    }
+    Ok(entries)
+}
+
 #[test]
 fn costs_are_found_in_any_order(rt: HostRuntime) -> Result<(), Fail> {
-    let rising = [(0, 0, 100), (0, 1, 80), (1, 0, 100), (1, 1, 130)].map(|(
-        leg,
-        fleet,
-        cost,
-    )| PairCost { leg, fleet, cost });
-    let mut falling = rising;
-    falling.reverse();
-    for entries in [rising, falling] {
-        let costs = Costs::from_vec(entries.to_vec(rt.alloc())?);
-        for entry in rising {
-            assert_same(&rt, costs.get(entry.pair()), Some(entry.cost));
+    for order in [RISING, FALLING] {
+        let entries = entries_of(rt.alloc(), order)?;
+        let costs = Costs::from_vec(entries_of(rt.alloc(), order)?);
+        for (leg, fleet, cost) in RISING {
+            let pair = Pair {
+                leg: *leg,
+                fleet: *fleet,
+            };
+            assert_same(&rt, costs.get(pair), Some(*cost));
         }
         assert_same(&rt, costs.get(Pair { leg: 2, fleet: 0 }), None);
         assert_same(&rt, costs.as_slice(), entries.as_slice());

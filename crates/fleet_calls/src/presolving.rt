@@ -5,6 +5,7 @@ use entries::Entries;
 use fleet_model::LoadError;
 use presolve::{Trim, trim};
 use std::alloc::Global;
+use std::process::Abort;
 use std::test::Fail;
 use worked_tables::schedules::{Files, ROUND_TRIP, read};
 
@@ -57,103 +58,89 @@ fn removals(alloc: Global, files: &Files) -> Result<Entries<Trim>, LoadError> {
     Ok(trim(alloc, &tables)?)
 }
 
-fn step(fleet: u32, station: u32, minute: u16, value: i128) -> PriceStep {
-    PriceStep {
-        fleet,
-        station,
-        minute,
-        value,
+/// A removal: its leg and fleet, and the rents and the steps of its reason, each by fleet, station, minute and value.
+type Removal = (u32, u32, &'static [i128], &'static [(u32, u32, u16, i128)]);
+
+/// Steps of prices.
+fn steps_of(alloc: Global, steps: &[(u32, u32, u16, i128)]) -> Result<Vec<PriceStep>, LoadError> {
+    let mut made = Vec::new(alloc);
+    for (fleet, station, minute, value) in steps {
+        made.push(PriceStep {
+            fleet: *fleet,
+            station: *station,
+            minute: *minute,
+            value: *value,
+        })?;
     }
+    Ok(made)
+}
+
+/// Asserts what presolve removes, in its order, and why.
+fn assert_removals<R: Abort + Alloc<A = Global>>(
+    rt: &R,
+    files: &Files,
+    wanted: &[Removal],
+) -> Result<(), Fail> {
+    let trims = removals(rt.alloc(), files)?;
+    assert_same(rt, trims.len(), wanted.len());
+    for (trim, (leg, fleet, rents, steps)) in trims.as_slice().iter().zip(wanted) {
+        let steps = steps_of(rt.alloc(), *steps)?;
+        assert_same(rt, (trim.leg, trim.fleet), (*leg, *fleet));
+        assert_same(rt, trim.reason.scale, 1);
+        assert_same(rt, trim.reason.rents.as_slice(), *rents);
+        assert_same(rt, trim.reason.steps.as_slice(), steps.as_slice());
+    }
+    Ok(())
 }
 
 #[test]
 fn nothing_is_removed_where_all_can_be_flown(rt: HostRuntime) -> Result<(), Fail> {
-    let trims = removals(rt.alloc(), &ROUND_TRIP)?;
-    assert_same(&rt, trims.len(), 0);
-    Ok(())
+    assert_removals(&rt, &ROUND_TRIP, &[])
 }
 
 #[test]
 fn nothing_is_removed_beside_a_bare_leg(rt: HostRuntime) -> Result<(), Fail> {
-    let trims = removals(rt.alloc(), &NO_WAY_BACK)?;
-    assert_same(&rt, trims.len(), 0);
-    Ok(())
+    assert_removals(&rt, &NO_WAY_BACK, &[])
 }
+
+const OF_NO_AIRCRAFT: &[Removal] = &[
+    (
+        0,
+        0,
+        &[1, 0],
+        &[(0, 0, 0, 1), (0, 0, 481, 0), (0, 1, 0, 1), (0, 1, 481, 0)],
+    ),
+    (
+        0,
+        1,
+        &[0, 1],
+        &[(1, 0, 0, 1), (1, 0, 481, 0), (1, 1, 0, 1), (1, 1, 481, 0)],
+    ),
+];
 
 #[test]
 fn without_aircraft_a_leg_becomes_bare(rt: HostRuntime) -> Result<(), Fail> {
-    let trims = removals(rt.alloc(), &NO_AIRCRAFT)?;
-    assert!(rt; trims.len() == 2);
-    for (fleet, trim) in trims.as_slice().iter().enumerate() {
-        let fleet = fleet as u32;
-        let rents = if fleet == 0 { [1, 0] } else { [0, 1] };
-        let steps = [
-            step(fleet, 0, 0, 1),
-            step(fleet, 0, 481, 0),
-            step(fleet, 1, 0, 1),
-            step(fleet, 1, 481, 0),
-        ];
-        assert_same(&rt, (trim.leg, trim.fleet), (0, fleet));
-        assert_same(&rt, trim.reason.scale, 1);
-        assert_same(&rt, trim.reason.rents.as_slice(), rents.as_slice());
-        assert_same(&rt, trim.reason.steps.as_slice(), steps.as_slice());
-    }
-    Ok(())
+    assert_removals(&rt, &NO_AIRCRAFT, OF_NO_AIRCRAFT)
 }
 
 #[test]
 fn a_fleet_that_never_comes_does_not_depart(rt: HostRuntime) -> Result<(), Fail> {
-    let trims = removals(rt.alloc(), &BACK_BY_THE_FIRST)?;
-    assert!(rt; trims.len() == 1);
-    let trim = &trims.as_slice()[0];
-    assert_same(&rt, (trim.leg, trim.fleet), (0, 1));
-    assert_same(&rt, trim.reason.scale, 1);
-    assert_same(&rt, trim.reason.rents.as_slice(), [0, 0].as_slice());
-    assert_same(
-        &rt,
-        trim.reason.steps.as_slice(),
-        [step(1, 0, 0, 1)].as_slice(),
-    );
-    Ok(())
+    assert_removals(&rt, &BACK_BY_THE_FIRST, &[(0, 1, &[0, 0], &[(1, 0, 0, 1)])])
 }
 
 #[test]
 fn a_fleet_that_never_leaves_does_not_land(rt: HostRuntime) -> Result<(), Fail> {
-    let trims = removals(rt.alloc(), &STUCK_AWAY)?;
-    assert!(rt; trims.len() == 1);
-    let trim = &trims.as_slice()[0];
-    assert_same(&rt, (trim.leg, trim.fleet), (0, 1));
-    assert_same(&rt, trim.reason.scale, 1);
-    assert_same(&rt, trim.reason.rents.as_slice(), [0, 0].as_slice());
-    assert_same(
-        &rt,
-        trim.reason.steps.as_slice(),
-        [step(1, 1, 0, -1)].as_slice(),
-    );
-    Ok(())
+    assert_removals(&rt, &STUCK_AWAY, &[(0, 1, &[0, 0], &[(1, 1, 0, -1)])])
 }
+
+const OF_THE_LAST_MINUTE: &[Removal] = &[
+    (1, 0, &[1, 0], &[(0, 0, 0, 1), (0, 1, 0, 1)]),
+    (1, 1, &[0, 0], &[(1, 1, 0, 1)]),
+];
 
 #[test]
 fn no_step_stands_behind_the_last_minute(rt: HostRuntime) -> Result<(), Fail> {
-    let trims = removals(rt.alloc(), &LAST_MINUTE)?;
-    assert!(rt; trims.len() == 2);
-    let first = &trims.as_slice()[0];
-    assert_same(&rt, (first.leg, first.fleet), (1, 0));
-    assert_same(&rt, first.reason.rents.as_slice(), [1, 0].as_slice());
-    assert_same(
-        &rt,
-        first.reason.steps.as_slice(),
-        [step(0, 0, 0, 1), step(0, 1, 0, 1)].as_slice(),
-    );
-    let second = &trims.as_slice()[1];
-    assert_same(&rt, (second.leg, second.fleet), (1, 1));
-    assert_same(&rt, second.reason.rents.as_slice(), [0, 0].as_slice());
-    assert_same(
-        &rt,
-        second.reason.steps.as_slice(),
-        [step(1, 1, 0, 1)].as_slice(),
-    );
-    Ok(())
+    assert_removals(&rt, &LAST_MINUTE, OF_THE_LAST_MINUTE)
 }
 
 #[test]

@@ -10,6 +10,7 @@ use dual_bound::{Cause, PriceStep, Prices, Tree, TreeCounts};
 use entries::{Entries, NoMemory};
 use fleet_model::LoadError;
 use std::alloc::Global;
+use std::process::Abort;
 use std::test::Fail;
 use worked_tables::schedules::{ROUND_TRIP, read};
 
@@ -104,27 +105,28 @@ fn open_leaves_of_prices(rt: HostRuntime) -> Result<(), Fail> {
     Ok(())
 }
 
+const NONE: TreeCounts = TreeCounts {
+    splits: 0,
+    open_nodes: 0,
+    open_pivots: 0,
+    open_grew: 0,
+};
+
+const ONE: TreeCounts = TreeCounts {
+    open_pivots: 1,
+    ..NONE
+};
+
+/// Asserts what a tree counts.
+fn assert_counts<R: Abort>(rt: &R, tree: &Tree, counts: TreeCounts, has_open: bool) {
+    assert_same(rt, tree.counts(), counts);
+    assert_same(rt, tree.has_open(), has_open);
+}
+
 #[test]
-fn trees_count_their_open_leaves(rt: HostRuntime) -> Result<(), Fail> {
-    let none = TreeCounts {
-        splits: 0,
-        open_nodes: 0,
-        open_pivots: 0,
-        open_grew: 0,
-    };
-    let one = TreeCounts {
-        open_pivots: 1,
-        ..none
-    };
+fn trees_count_their_open_leaves(rt: HostRuntime) {
+    assert_counts(&rt, &Tree::Bare { leg: 0 }, NONE, false);
+    assert_counts(&rt, &Tree::Sole, NONE, false);
     let open = Tree::Open(Prices::zero(rt.alloc()), Cause::Pivots { made: 0 });
-    let cases = [
-        (Tree::Bare { leg: 0 }, none, false),
-        (Tree::Sole, none, false),
-        (open, one, true),
-    ];
-    for (tree, counts, has_open) in &cases {
-        assert_same(&rt, tree.counts(), *counts);
-        assert_same(&rt, tree.has_open(), *has_open);
-    }
-    Ok(())
+    assert_counts(&rt, &open, ONE, true);
 }

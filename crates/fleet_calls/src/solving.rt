@@ -1,10 +1,12 @@
 //! Tables, solved.
 use crate::assertions::assert_same;
+use crate::lifts::assert_halves;
 use branch_bound::{Solved, solve};
 use cert_check::split_above;
-use dual_bound::{Cause, Tree};
+use dual_bound::{Cause, Mixed, Tree};
 use fleet_model::LoadError;
 use std::alloc::Global;
+use std::process::Abort;
 use std::test::Fail;
 use worked_tables::schedules::{
     BACK_AT_ONCE, Files, OVERLAPPING_TRIPS, ROUND_TRIP, TWO_FLEETS, read,
@@ -120,40 +122,30 @@ const fn unsettled(bound: i128, splits: u64) -> Answer {
     }
 }
 
-#[test]
-fn the_relaxation_alone_gives_a_plan(rt: HostRuntime) -> Result<(), Fail> {
-    assert_same(
-        &rt,
-        answer_of(rt.alloc(), &ROUND_TRIP, ENOUGH)?,
-        planned(200, 200, 0),
-    );
-    assert_same(
-        &rt,
-        answer_of(rt.alloc(), &BACK_AT_ONCE, ENOUGH)?,
-        planned(200, 200, 0),
-    );
-    assert_same(
-        &rt,
-        answer_of(rt.alloc(), &ONE_CHOICE, ENOUGH)?,
-        planned(200, 200, 0),
-    );
+/// Asserts what the solver says of tables.
+fn assert_answer<R: Abort + Alloc<A = Global>>(
+    rt: &R,
+    files: &Files,
+    nodes: u64,
+    wanted: Answer,
+) -> Result<(), Fail> {
+    assert_same(rt, answer_of(rt.alloc(), files, nodes)?, wanted);
     Ok(())
 }
 
 #[test]
+fn the_relaxation_alone_gives_a_plan(rt: HostRuntime) -> Result<(), Fail> {
+    assert_answer(&rt, &ROUND_TRIP, ENOUGH, planned(200, 200, 0))?;
+    assert_answer(&rt, &BACK_AT_ONCE, ENOUGH, planned(200, 200, 0))?;
+    assert_answer(&rt, &ONE_CHOICE, ENOUGH, planned(200, 200, 0))
+}
+
+#[test]
 fn presolve_alone_shows_that_there_is_none(rt: HostRuntime) -> Result<(), Fail> {
-    assert_same(
-        &rt,
-        answer_of(rt.alloc(), &NO_AIRCRAFT, ENOUGH)?,
-        infeasible(0),
-    );
+    assert_answer(&rt, &NO_AIRCRAFT, ENOUGH, infeasible(0))?;
+    assert_answer(&rt, &NO_WAY_BACK, ENOUGH, infeasible(0))?;
     let solved = solution(rt.alloc(), &NO_AIRCRAFT, ENOUGH, ENOUGH)?;
     assert_same(&rt, bare_below(solved.tree()), Some(0));
-    assert_same(
-        &rt,
-        answer_of(rt.alloc(), &NO_WAY_BACK, ENOUGH)?,
-        infeasible(0),
-    );
     Ok(())
 }
 
@@ -171,48 +163,40 @@ fn bare_below(tree: &Tree) -> Option<u32> {
     }
 }
 
+/// The bound of a solution that settles nothing, and how many of its leaves are open for pivots.
+fn unsettled_by_pivots(solved: &Solved) -> Option<(i128, u64)> {
+    match solved {
+        Solved::Unsettled { bound, tree } => Some((*bound, tree.counts().open_pivots)),
+        _ => None,
+    }
+}
+
 #[test]
 fn without_pivots_the_least_costs_are_the_bound(rt: HostRuntime) -> Result<(), Fail> {
     let solved = solution(rt.alloc(), &ROUND_TRIP, ENOUGH, 0)?;
-    match &solved {
-        Solved::Unsettled { bound, tree } => {
-            assert_same(&rt, *bound, 180);
-            assert_same(&rt, tree.counts().open_pivots, 1);
-        }
-        _ => panic!(rt; "{solved:?}"),
-    }
+    assert_same(&rt, unsettled_by_pivots(&solved), Some((180, 1)));
     Ok(())
 }
 
 #[test]
 fn halves_of_two_fleets_are_no_plan(rt: HostRuntime) -> Result<(), Fail> {
-    assert_same(
-        &rt,
-        answer_of(rt.alloc(), &TWO_FLEETS, ENOUGH)?,
-        infeasible(1),
-    );
-    assert_same(
-        &rt,
-        answer_of(rt.alloc(), &TWO_FLEETS, 0)?,
-        unsettled(60, 0),
-    );
-    assert_same(&rt, answer_of(rt.alloc(), &EARNING, 0)?, unsettled(-6, 0));
-    Ok(())
+    assert_answer(&rt, &TWO_FLEETS, ENOUGH, infeasible(1))?;
+    assert_answer(&rt, &TWO_FLEETS, 0, unsettled(60, 0))?;
+    assert_answer(&rt, &EARNING, 0, unsettled(-6, 0))
+}
+
+/// The fractional assignment of an open leaf.
+fn mixed_of(tree: &Tree) -> Option<&Mixed> {
+    match tree {
+        Tree::Open(_, Cause::Nodes(mixed)) => Some(mixed),
+        _ => None,
+    }
 }
 
 #[test]
 fn the_halves_have_scale_2(rt: HostRuntime) -> Result<(), Fail> {
     let solved = solution(rt.alloc(), &TWO_FLEETS, 0, ENOUGH)?;
-    match solved.tree() {
-        Tree::Open(_, Cause::Nodes(mixed)) => {
-            assert_same(&rt, mixed.scale, 2);
-            assert_same(&rt, mixed.weights.len(), 12);
-            for weight in mixed.weights.as_slice() {
-                assert_same(&rt, weight.weight, 1);
-            }
-        }
-        tree => panic!(rt; "{tree:?}"),
-    }
+    assert_halves(&rt, mixed_of(solved.tree()));
     Ok(())
 }
 
@@ -236,30 +220,15 @@ fn where_the_second_run_gives_up_the_prescribed_one_settles(rt: HostRuntime) -> 
 #[test]
 fn trips_at_once_are_refuted(rt: HostRuntime) -> Result<(), Fail> {
     let solved = solution(rt.alloc(), &AT_ONCE, 0, ENOUGH)?;
-    match solved.tree() {
-        Tree::Refuted(_) => Ok(()),
-        tree => panic!(rt; "{tree:?}"),
-    }
+    assert!(rt; matches!(solved.tree(), Tree::Refuted(_)));
+    Ok(())
 }
 
 #[test]
 fn a_third_fleet_flies_what_is_left(rt: HostRuntime) -> Result<(), Fail> {
-    assert_same(
-        &rt,
-        answer_of(rt.alloc(), &OVERLAPPING_TRIPS, ENOUGH)?,
-        planned(140, 140, 2),
-    );
-    assert_same(
-        &rt,
-        answer_of(rt.alloc(), &OVERLAPPING_TRIPS, 1)?,
-        planned(140, 100, 1),
-    );
-    assert_same(
-        &rt,
-        answer_of(rt.alloc(), &OVERLAPPING_TRIPS, 0)?,
-        unsettled(60, 0),
-    );
-    Ok(())
+    assert_answer(&rt, &OVERLAPPING_TRIPS, ENOUGH, planned(140, 140, 2))?;
+    assert_answer(&rt, &OVERLAPPING_TRIPS, 1, planned(140, 100, 1))?;
+    assert_answer(&rt, &OVERLAPPING_TRIPS, 0, unsettled(60, 0))
 }
 
 /// The first split of a solution's tree whose rounded worth is above a cost.
@@ -269,42 +238,25 @@ fn first_split_above(alloc: Global, files: &Files, cost: i128) -> Result<Option<
     Ok(split_above(&tables, solved.tree(), cost))
 }
 
+/// A cost, and the first split above it.
+const SPLITS_ABOVE: &[(i128, Option<u64>)] = &[
+    (140, None),
+    (100, None),
+    (99, Some(3)),
+    (59, Some(1)),
+];
+
 #[test]
 fn no_split_is_above_the_cost_of_the_plan(rt: HostRuntime) -> Result<(), Fail> {
-    assert_same(
-        &rt,
-        first_split_above(rt.alloc(), &OVERLAPPING_TRIPS, 140)?,
-        None,
-    );
-    assert_same(
-        &rt,
-        first_split_above(rt.alloc(), &OVERLAPPING_TRIPS, 100)?,
-        None,
-    );
-    assert_same(
-        &rt,
-        first_split_above(rt.alloc(), &OVERLAPPING_TRIPS, 99)?,
-        Some(3),
-    );
-    assert_same(
-        &rt,
-        first_split_above(rt.alloc(), &OVERLAPPING_TRIPS, 59)?,
-        Some(1),
-    );
+    for (cost, split) in SPLITS_ABOVE {
+        let seen = first_split_above(rt.alloc(), &OVERLAPPING_TRIPS, *cost)?;
+        assert_same(&rt, seen, *split);
+    }
     Ok(())
 }
 
 #[test]
 fn made_trips_are_split(rt: HostRuntime) -> Result<(), Fail> {
-    assert_same(
-        &rt,
-        answer_of(rt.alloc(), &TWO_TRIPS, ENOUGH)?,
-        planned(4647, 4647, 1),
-    );
-    assert_same(
-        &rt,
-        answer_of(rt.alloc(), &THREE_TRIPS, ENOUGH)?,
-        planned(7320, 7320, 2),
-    );
-    Ok(())
+    assert_answer(&rt, &TWO_TRIPS, ENOUGH, planned(4647, 4647, 1))?;
+    assert_answer(&rt, &THREE_TRIPS, ENOUGH, planned(7320, 7320, 2))
 }
