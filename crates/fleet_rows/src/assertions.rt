@@ -16,3 +16,8 @@ pub fn assert_same_at<R: Abort, T: PartialEq + Debug + Drop>(
 ) {
     assert_eq!(rt; seen, wanted, "row {number}");
 }
+
+/// Asserts that something holds, and says at which row, and of what, where it doesn't.
+pub fn assert_holds<R: Abort>(rt: &R, number: usize, what: &str, holds: bool) {
+    assert!(rt; holds, "row {number}: {what}");
+}

@@ -169,8 +169,7 @@ pub const ORDER: &[Case] = &[
     (&[PRICED, Laid::Away(Plan)], FAULT, b"fault: plan.csv\n"),
 ];
 
-/// Each read fails. There is no call after the seventh read, and no put after the first. The plan isn't read where no
-/// plan comes, nor where the tables or the proof's text are refused. The put fails.
+/// Each read fails.
 pub const CALLS: &[Failing] = &[
     (
         (&[PRICED], FAULT, b"fault: stations.csv\n", &[]),
@@ -221,6 +220,11 @@ pub const CALLS: &[Failing] = &[
         1,
         0,
     ),
+];
+
+/// There is no call after the seventh read, and no put after the first. The plan isn't read where no plan comes, nor where
+/// the tables or the proof's text are refused. The put fails.
+pub const PUTS: &[Failing] = &[
     (
         (&[PRICED], DONE, PRICED_LINE, &[]),
         &[(8, 0), (9, 0)],

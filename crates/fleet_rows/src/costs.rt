@@ -44,6 +44,10 @@ pub const REFUSALS: &[Text] = &[
         b"flight,fleet,cost\nX1,F1,100\nX2,F1,100\nX2,F\xFF,130\n",
         b"bad input: costs.csv record 4 kind 3\n",
     ),
+];
+
+/// Fields and records that are refused.
+pub const REFUSED_FIELDS: &[Text] = &[
     // The form of a flight, of a fleet, of a number.
     (
         b"flight,fleet,cost\n,F1,100\n",

@@ -1,5 +1,5 @@
 //! The desks and the sinks, call by call: those in memory, and those over real files and the real output.
-use crate::assertions::{assert_same, assert_same_at};
+use crate::assertions::{assert_holds, assert_same, assert_same_at};
 use plan_desk::{
     Desk, DeskError, DeskFile, FailingCall, FileDesk, MemoryDesk, MemorySink, Sink, SinkError,
     StdSink,
@@ -159,11 +159,11 @@ fn real_files(rt: HostRuntime) -> Result<(), Fail> {
         let written = vec![in alloc; *written; LENGTH]?;
         desk.write(alloc, "edge", *file, &written)?;
         let found = fs::read(&rt, *path)?;
-        assert!(rt; found.as_slice() == written.as_slice(), "{path}");
+        assert_holds(&rt, 0, path, found.as_slice() == written.as_slice());
         let laid = vec![in alloc; *laid; LENGTH]?;
         File::create(&rt, *path)?.write_all(&laid)?;
         let read = desk.read(alloc, "edge", *file, LENGTH as u64)?;
-        assert!(rt; read.as_slice() == laid.as_slice(), "{path}");
+        assert_holds(&rt, 1, path, read.as_slice() == laid.as_slice());
         fs::remove_file(&rt, *path)?;
     }
     fs::remove_dir(&rt, "edge")?;

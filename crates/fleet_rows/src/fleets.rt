@@ -44,6 +44,10 @@ pub const REFUSALS: &[Text] = &[
         b"fleet,aircraft,turn\nF1,1,30\nF2,1,3\xC3\n",
         b"bad input: fleets.csv record 3 kind 3\n",
     ),
+];
+
+/// Fields and records that are refused.
+pub const REFUSED_FIELDS: &[Text] = &[
     // The form of a name and of a number.
     (
         b"fleet,aircraft,turn\n,1,30\nF2,1,30\n",

@@ -97,6 +97,10 @@ pub const REFUSED_FIELDS: &[Text] = &[
         b"flight,from,dep,to,arr\nX1,AAA,08:00,BBB,09:00\nX2,BBB,10:00,AAA,11.00\n",
         b"bad input: legs.csv record 3 kind 4\n",
     ),
+];
+
+/// Records that are refused for other fields or records.
+pub const REFUSED_RECORDS: &[Text] = &[
     // A flight twice.
     (
         b"flight,from,dep,to,arr\nX1,AAA,08:00,BBB,09:00\nX1,BBB,10:00,AAA,11:00\n",

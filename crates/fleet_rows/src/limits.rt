@@ -171,9 +171,9 @@ const SHORT_OPEN: Laid<'static> = Laid::Bytes(Proof, OPEN_PROOF);
 
 const TOO_LONG: &[u8] = b"bad input: throughs.csv record 0 kind 12\n";
 
-/// The words, the file that is one byte too long, what lies beside it, the status, and the line.
+/// The line of words, the file that is one byte too long, what lies beside it, the status, and the text.
 type Long = (
-    &'static [&'static str],
+    &'static str,
     DeskFile,
     &'static [Laid<'static>],
     u8,
@@ -261,13 +261,13 @@ const LONG_BESIDE: &[Long] = &[
 
 fn run_long<R: Abort + Alloc<A = Global>>(rt: &R, cases: &[Long]) -> Result<(), Fail> {
     let text = filled(rt.alloc(), THROUGHS, 4_194_305)?;
-    for (number, (words, file, beside, status, line)) in cases.iter().enumerate() {
+    for (number, (line, file, beside, status, wanted)) in cases.iter().enumerate() {
         let mut laid = Vec::new(rt.alloc());
         laid.push(Laid::Bytes(*file, text.as_slice()))?;
         for one in *beside {
             laid.push(*one)?;
         }
-        run_case(rt, number, words, laid.as_slice(), *status, line)?;
+        run_case(rt, number, *line, laid.as_slice(), *status, wanted)?;
     }
     Ok(())
 }

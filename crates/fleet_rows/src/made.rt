@@ -44,7 +44,7 @@ pub const MADE: Search = Search {
                 R7,O8,90\nR8,O9,43\n",
         ),
     ],
-    words: &["fleetplan", "solve", "d", "--day-start", "00:00"],
+    line: "fleetplan solve d --day-start 00:00",
     status: DONE,
     text: Whole(
         b"outcome: optimal\ncost: 23288\nbound: 23288\nsplits: 0\n\

@@ -1,4 +1,5 @@
 //! What `make` writes: five tables, and then what `solve` writes by all defaults.
+use crate::assertions::assert_holds;
 use crate::rows::{Asked, Failing, Laid, Writing, files};
 use crate::searches::{Known, run_quietly};
 use crate::statuses::{DONE, FAULT};
@@ -89,8 +90,8 @@ pub const MADE: &[Asked] = &[
     ("fleetplan make d 1 0", NO_LEGS),
 ];
 
-/// The words of the rows with calls that fail.
-pub const MAKE: &[&str] = &["fleetplan", "make", "d", "1", "2"];
+/// The line of the rows with calls that fail.
+pub const MAKE: &str = "fleetplan make d 1 2";
 
 /// There is no read: the first call writes the stations. What was written before a call that fails stands, and of
 /// the file itself the bytes that the call left. There is no call after the eighth.
@@ -162,9 +163,9 @@ pub const CALLS: &[Failing] = &[
     ),
 ];
 
-const FORTY: &[&str] = &["fleetplan", "make", "d", "7", "40"];
+const FORTY: &str = "fleetplan make d 7 40";
 
-const CHECK_FORTY: &[&str] = &["fleetplan", "check", "d"];
+const CHECK_FORTY: &str = "fleetplan check d";
 
 const FORTY_LINES: &[u8] = b"outcome: optimal\ncost: 47956\nbound: 47956\nsplits: 0\n\
     open: 0 nodes, 0 pivots, 0 grew\nfleet F1: used 9 of 20\nfleet F2: used 6 of 10\n\
@@ -196,8 +197,9 @@ fn forty_legs_are_made_twice(rt: HostRuntime) -> Result<(), Fail> {
     let first = forty_made(&rt)?;
     let mut second = forty_made(&rt)?;
     for path in PATHS {
-        assert!(rt; second.file(*path).is_some(), "{path}");
-        assert!(rt; first.file(*path) == second.file(*path), "{path}");
+        assert_holds(&rt, 0, path, second.file(*path).is_some());
+        let same = first.file(*path) == second.file(*path);
+        assert_holds(&rt, 1, path, same);
     }
     run_quietly(
         &rt,

@@ -1,8 +1,12 @@
 //! The first run where calls of the desk and of the sink fail, some of them after they left some bytes.
 use crate::assertions::assert_same;
-use crate::rows::{Cut, Failing, Laid, Row, SOLVE, files, row_of, run_outside, run_row, status_of};
+use crate::rows::{
+    CHECK, Cut, Failing, JUDGE, Laid, Row, SOLVE, files, row_of, run_failing, run_outside, run_row,
+    status_of,
+};
 use crate::statuses::{BAD_INPUT, DONE, FAULT};
 use crate::tables::{PLAN, PRICED_PROOF, ROTATION};
+use crate::tails::TAILS;
 use plan_desk::DeskFile::{Legs, Plan, Proof, Rotation};
 use plan_desk::{MemoryDesk, MemorySink};
 use std::alloc::Global;
@@ -16,96 +20,64 @@ const PRICED: Laid<'static> = Laid::Bytes(Proof, PRICED_PROOF);
 
 const BAD_LEGS: Laid<'static> = Laid::Bytes(Legs, b"nonsense");
 
-const SOLVE_LINE: &str = "fleetplan solve d --day-start 00:00";
-
-const JUDGE_LINE: &str = "fleetplan judge d --day-start 00:00";
-
-const CHECK_LINE: &str = "fleetplan check d --day-start 00:00";
-
-const TAILS_LINE: &str = "fleetplan tails d 2025-02-28 1 --day-start 00:00";
-
-/// A line of words, and its case with calls that fail.
-const FIRST_RUN: &[(&str, Failing)] = &[
+/// Cases with calls that fail.
+const FIRST_RUN: &[Failing] = &[
     (
-        SOLVE_LINE,
+        (&[OLD], FAULT, b"fault: stations.csv\n", &[]),
+        &[(1, 3)],
+        &[],
+        1,
+        0,
+    ),
+    (
+        (&[OLD], FAULT, b"fault: fleets.csv\n", &[]),
+        &[(2, 3)],
+        &[],
+        1,
+        0,
+    ),
+    (
+        (&[OLD], FAULT, b"fault: legs.csv\n", &[]),
+        &[(3, 3)],
+        &[],
+        1,
+        0,
+    ),
+    (
+        (&[OLD], FAULT, b"fault: costs.csv\n", &[]),
+        &[(4, 0)],
+        &[],
+        1,
+        0,
+    ),
+    (
+        (&[OLD], FAULT, b"fault: throughs.csv\n", &[]),
+        &[(5, 0)],
+        &[],
+        1,
+        0,
+    ),
+    (
         (
-            (&[OLD], FAULT, b"fault: stations.csv\n", &[]),
-            &[(1, 3)],
-            &[],
-            1,
-            0,
+            &[OLD],
+            FAULT,
+            b"fault: plan.csv\n",
+            &[Laid::Bytes(Plan, b"fli")],
         ),
+        &[(6, 3)],
+        &[],
+        1,
+        0,
     ),
-    (
-        SOLVE_LINE,
-        (
-            (&[OLD], FAULT, b"fault: fleets.csv\n", &[]),
-            &[(2, 3)],
-            &[],
-            1,
-            0,
-        ),
-    ),
-    (
-        SOLVE_LINE,
-        (
-            (&[OLD], FAULT, b"fault: legs.csv\n", &[]),
-            &[(3, 3)],
-            &[],
-            1,
-            0,
-        ),
-    ),
-    (
-        SOLVE_LINE,
-        (
-            (&[OLD], FAULT, b"fault: costs.csv\n", &[]),
-            &[(4, 0)],
-            &[],
-            1,
-            0,
-        ),
-    ),
-    (
-        SOLVE_LINE,
-        (
-            (&[OLD], FAULT, b"fault: throughs.csv\n", &[]),
-            &[(5, 0)],
-            &[],
-            1,
-            0,
-        ),
-    ),
-    (
-        SOLVE_LINE,
-        (
-            (
-                &[OLD],
-                FAULT,
-                b"fault: plan.csv\n",
-                &[Laid::Bytes(Plan, b"fli")],
-            ),
-            &[(6, 3)],
-            &[],
-            1,
-            0,
-        ),
-    ),
-    (
-        SOLVE_LINE,
-        ((&[OLD], FAULT, b"", &[]), &[(1, 0)], &[(1, 0)], 1, 1),
-    ),
+    ((&[OLD], FAULT, b"", &[]), &[(1, 0)], &[(1, 0)], 1, 1),
     // The line of the fault is what the put was to take.
-    (
-        SOLVE_LINE,
-        ((&[OLD], FAULT, b"faul", &[]), &[(5, 0)], &[(1, 4)], 1, 1),
-    ),
+    ((&[OLD], FAULT, b"faul", &[]), &[(5, 0)], &[(1, 4)], 1, 1),
 ];
 
-/// The same of commands that don't write.
+/// The same of commands that don't write, each with its line of words.
 const READING: &[(&str, Failing)] = &[
     (
-        JUDGE_LINE,
+        JUDGE,
         (
             (&[BAD_LEGS], FAULT, b"fault: plan.csv\n", &[]),
             &[(6, 0)],
@@ -115,12 +87,12 @@ const READING: &[(&str, Failing)] = &[
         ),
     ),
     (
-        JUDGE_LINE,
+        JUDGE,
         ((&[], FAULT, b"legal: cost 2", &[]), &[], &[(1, 13)], 0, 1),
     ),
     // The plan isn't read, so the seventh call isn't made.
     (
-        CHECK_LINE,
+        CHECK,
         (
             (
                 &[PRICED, BAD_LEGS],
@@ -135,24 +107,27 @@ const READING: &[(&str, Failing)] = &[
         ),
     ),
     (
-        CHECK_LINE,
+        CHECK,
         ((&[PRICED], FAULT, b"holds", &[]), &[], &[(1, 5)], 0, 1),
     ),
     (
-        TAILS_LINE,
+        TAILS,
         ((&[], FAULT, b"2025-02-28 F1", &[]), &[], &[(1, 13)], 0, 1),
     ),
 ];
 
 #[test]
 fn calls_of_the_first_run(rt: HostRuntime) -> Result<(), Fail> {
-    run_outside(&rt, FIRST_RUN)
+    run_failing(&rt, SOLVE, FIRST_RUN)
 }
 
 #[test]
 fn calls_of_commands_that_read(rt: HostRuntime) -> Result<(), Fail> {
     run_outside(&rt, READING)
 }
+
+/// The words of a solve whose day starts at midnight.
+const SOLVE_WORDS: &[&str] = &["fleetplan", "solve", "d", "--day-start", "00:00"];
 
 // What a search proves is open, but what stands of it beside a call that fails is what stands without.
 #[test]
@@ -179,7 +154,7 @@ fn searched<R: Abort + Alloc<A = Global>>(rt: &R) -> Result<Vec<u8>, Fail> {
     let alloc = rt.alloc();
     let mut desk = MemoryDesk::new(alloc, files(alloc, &[OLD])?, Vec::new(alloc))?;
     let mut sink = MemorySink::new(Vec::new(alloc));
-    let status = status_of(alloc, SOLVE, &mut desk, &mut sink)?;
+    let status = status_of(alloc, SOLVE_WORDS, &mut desk, &mut sink)?;
     assert_same(rt, status, DONE);
     let proof = desk.file("d/proof.txt").expect(rt, "a proof was written");
     Ok(proof.to_vec(alloc)?)
@@ -206,6 +181,6 @@ fn row<'a>(
         left,
         failing: (calls, puts),
         faults,
-        ..row_of(SOLVE, &[OLD], FAULT, text)
+        ..row_of(SOLVE_WORDS, &[OLD], FAULT, text)
     }
 }

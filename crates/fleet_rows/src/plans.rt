@@ -55,6 +55,10 @@ pub const REFUSALS: &[Text] = &[
         b"flight,fleet\n,F1\nX2,F1\n",
         b"plan refused: record 2 kind 3\n",
     ),
+];
+
+/// Further texts that are refused.
+pub const FURTHER_REFUSALS: &[Text] = &[
     (
         b"flight,fleet\nX1,F1\nX2,F9\n",
         b"plan refused: record 3 kind 4\n",

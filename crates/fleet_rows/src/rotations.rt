@@ -85,22 +85,12 @@ pub const IN_NO_DAYS: &[Asked] = &[
     ),
 ];
 
-const ONE_VISIT: &[&str] = &[
-    "fleetplan",
-    "solve",
-    "d",
-    "--day-start",
-    "00:00",
-    "--days",
-    "2",
-    "--visits",
-    "1",
-];
+const ONE_VISIT: &str = "fleetplan solve d --day-start 00:00 --days 2 --visits 1";
 
 // After one visit the prefix has one leg; in what order the legs are tried is open.
 const VISITED: Search = Search {
     laid: SIX,
-    words: ONE_VISIT,
+    line: ONE_VISIT,
     status: DONE,
     text: Whole(
         b"outcome: optimal\ncost: 60\nbound: 60\nsplits: 0\nopen: 0 nodes, 0 pivots, 0 grew\n\

@@ -1,5 +1,5 @@
 //! Rows of tables of tests, and what runs them.
-use crate::assertions::assert_same_at;
+use crate::assertions::{assert_holds, assert_same_at};
 use crate::statuses::{DONE, FAULT};
 use crate::tables::{FIRST_RUN, LEGAL};
 use fleet_cli::run;
@@ -69,34 +69,26 @@ const FOLDER: [DeskFile; 8] = [
     DeskFile::Rotation,
 ];
 
-/// The words of a judge whose day starts at midnight.
-pub const JUDGE: &[&str] = &["fleetplan", "judge", "d", "--day-start", "00:00"];
+/// The line of a judge whose day starts at midnight.
+pub const JUDGE: &str = "fleetplan judge d --day-start 00:00";
 
-/// The words of a solve whose day starts at midnight.
-pub const SOLVE: &[&str] = &["fleetplan", "solve", "d", "--day-start", "00:00"];
+/// The line of a solve whose day starts at midnight.
+pub const SOLVE: &str = "fleetplan solve d --day-start 00:00";
 
-/// The words of a solve without pivots whose day starts at midnight.
-pub const SOLVE_AT_ONCE: &[&str] = &[
-    "fleetplan",
-    "solve",
-    "d",
-    "--day-start",
-    "00:00",
-    "--pivots",
-    "0",
-];
+/// The line of a solve without pivots whose day starts at midnight.
+pub const SOLVE_AT_ONCE: &str = "fleetplan solve d --day-start 00:00 --pivots 0";
 
-/// The words of a check whose day starts at midnight.
-pub const CHECK: &[&str] = &["fleetplan", "check", "d", "--day-start", "00:00"];
+/// The line of a check whose day starts at midnight.
+pub const CHECK: &str = "fleetplan check d --day-start 00:00";
 
-/// Runs each case. One that wants a fault counts one of the desk, and the others count none.
+/// Runs each case with the words of a line. One that wants a fault counts one of the desk, and the others count none.
 pub fn run_cases<R: Abort + Alloc<A = Global>>(
     rt: &R,
-    words: &'static [&'static str],
+    line: &'static str,
     cases: &[Case],
 ) -> Result<(), Fail> {
     for (number, (laid, status, text)) in cases.iter().enumerate() {
-        run_case(rt, number, words, laid, *status, text)?;
+        run_case(rt, number, line, laid, *status, text)?;
     }
     Ok(())
 }
@@ -105,12 +97,13 @@ pub fn run_cases<R: Abort + Alloc<A = Global>>(
 pub fn run_case<R: Abort + Alloc<A = Global>>(
     rt: &R,
     number: usize,
-    words: &'static [&'static str],
+    line: &'static str,
     laid: &[Laid<'_>],
     status: u8,
     text: &[u8],
 ) -> Result<(), Fail> {
-    run_row(rt, number, &row_of(&*words, laid, status, text))
+    let words = split(rt.alloc(), line)?;
+    run_row(rt, number, &row_of(words.as_slice(), laid, status, text))
 }
 
 /// A row that writes nothing, in which no call is made to fail.
@@ -143,11 +136,11 @@ pub fn row_left<'a>(words: &'a [&'static str], case: Writing) -> Row<'a, 'static
 /// Runs each case of a command that writes.
 pub fn run_writing<R: Abort + Alloc<A = Global>>(
     rt: &R,
-    words: &'static [&'static str],
+    line: &'static str,
     cases: &[Writing],
 ) -> Result<(), Fail> {
     for (number, case) in cases.iter().enumerate() {
-        run_row(rt, number, &row_left(words, *case))?;
+        run_line(rt, number, line, *case)?;
     }
     Ok(())
 }
@@ -172,7 +165,7 @@ pub fn run_line<R: Abort + Alloc<A = Global>>(
 }
 
 /// The words of a line.
-fn split(alloc: Global, line: &'static str) -> Result<Vec<&'static str>, Fail> {
+pub fn split(alloc: Global, line: &'static str) -> Result<Vec<&'static str>, Fail> {
     let mut words = Vec::new(alloc);
     for word in line.split(' ') {
         words.push(word)?;
@@ -186,20 +179,30 @@ pub fn run_outside<R: Abort + Alloc<A = Global>>(
     cases: &[(&'static str, Failing)],
 ) -> Result<(), Fail> {
     for (number, (line, case)) in cases.iter().enumerate() {
-        let words = split(rt.alloc(), *line)?;
-        run_row(rt, number, &row_failing(words.as_slice(), *case))?;
+        run_cut(rt, number, *line, *case)?;
     }
     Ok(())
+}
+
+/// Runs a case with the words of a line and its calls that fail.
+fn run_cut<R: Abort + Alloc<A = Global>>(
+    rt: &R,
+    number: usize,
+    line: &'static str,
+    case: Failing,
+) -> Result<(), Fail> {
+    let words = split(rt.alloc(), line)?;
+    run_row(rt, number, &row_failing(words.as_slice(), case))
 }
 
 /// Runs each case with its calls that fail.
 pub fn run_failing<R: Abort + Alloc<A = Global>>(
     rt: &R,
-    words: &'static [&'static str],
+    line: &'static str,
     cases: &[Failing],
 ) -> Result<(), Fail> {
     for (number, case) in cases.iter().enumerate() {
-        run_row(rt, number, &row_failing(words, *case))?;
+        run_cut(rt, number, line, *case)?;
     }
     Ok(())
 }
@@ -214,17 +217,17 @@ fn row_failing<'a>(words: &'a [&'static str], case: Failing) -> Row<'a, 'static>
     }
 }
 
-/// Runs the words for each text of one file.
+/// Runs the words of a line for each text of one file.
 pub fn run_texts<R: Abort + Alloc<A = Global>>(
     rt: &R,
-    words: &'static [&'static str],
+    line: &'static str,
     file: DeskFile,
     status: u8,
     texts: &[(&[u8], &[u8])],
 ) -> Result<(), Fail> {
-    for (number, (bytes, line)) in texts.iter().enumerate() {
+    for (number, (bytes, wanted)) in texts.iter().enumerate() {
         let laid = [Laid::Bytes(file, bytes)];
-        run_case(rt, number, words, &laid, status, line)?;
+        run_case(rt, number, line, &laid, status, wanted)?;
     }
     Ok(())
 }
@@ -260,10 +263,8 @@ pub fn run_row<R: Abort + Alloc<A = Global>>(
     assert_same_at(rt, number, had_no_memory, (false, false));
     for file in FOLDER {
         let name = path(alloc, file)?;
-        assert!(rt;
-            desk.file(name.as_str()) == after(row, file),
-            "row {number}: {name}"
-        );
+        let stands = desk.file(name.as_str()) == after(row, file);
+        assert_holds(rt, number, name.as_str(), stands);
     }
     Ok(())
 }

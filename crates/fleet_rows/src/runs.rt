@@ -8,7 +8,11 @@ use std::test::Fail;
 
 #[test]
 fn plans_that_are_judged(rt: HostRuntime) -> Result<(), Fail> {
-    run_cases(&rt, JUDGE, judging::PLANS)?;
+    run_cases(&rt, JUDGE, judging::PLANS)
+}
+
+#[test]
+fn plans_of_two_fleets(rt: HostRuntime) -> Result<(), Fail> {
     run_cases(&rt, JUDGE, judging::TWO_FLEETS)
 }
 
@@ -39,9 +43,9 @@ fn proofs_that_hold(rt: HostRuntime) -> Result<(), Fail> {
     run_cases(&rt, CHECK, checking::SOLVED)
 }
 
-const CHECK_FROM_THREE: &[&str] = &["fleetplan", "check", "d"];
+const CHECK_FROM_THREE: &str = "fleetplan check d";
 
-const CHECK_FROM_NINE: &[&str] = &["fleetplan", "check", "d", "--day-start", "09:00"];
+const CHECK_FROM_NINE: &str = "fleetplan check d --day-start 09:00";
 
 #[test]
 fn plans_beside_a_proof(rt: HostRuntime) -> Result<(), Fail> {
@@ -61,6 +65,11 @@ fn runs_that_write(rt: HostRuntime) -> Result<(), Fail> {
 }
 
 #[test]
+fn runs_that_write_no_plan(rt: HostRuntime) -> Result<(), Fail> {
+    run_writing(&rt, SOLVE, solving::UNSOLVED)
+}
+
+#[test]
 fn runs_without_pivots(rt: HostRuntime) -> Result<(), Fail> {
     run_writing(&rt, SOLVE_AT_ONCE, solving::AT_ONCE)?;
     run_failing(&rt, SOLVE_AT_ONCE, solving::CALLS_AT_ONCE)
@@ -74,7 +83,11 @@ fn tours_of_four_days(rt: HostRuntime) -> Result<(), Fail> {
 
 #[test]
 fn pairs_that_are_held_or_given_up(rt: HostRuntime) -> Result<(), Fail> {
-    run_asked(&rt, rotations::BANKS)?;
+    run_asked(&rt, rotations::BANKS)
+}
+
+#[test]
+fn round_trips_apart(rt: HostRuntime) -> Result<(), Fail> {
     run_asked(&rt, rotations::APART)
 }
 
@@ -90,7 +103,11 @@ fn summaries_as_json(rt: HostRuntime) -> Result<(), Fail> {
 
 #[test]
 fn lines_of_tails(rt: HostRuntime) -> Result<(), Fail> {
-    run_asked(&rt, tails::LINES)?;
+    run_asked(&rt, tails::LINES)
+}
+
+#[test]
+fn dates_of_tails(rt: HostRuntime) -> Result<(), Fail> {
     run_asked(&rt, tails::DATES)
 }
 
@@ -127,6 +144,16 @@ fn calls_of_a_check(rt: HostRuntime) -> Result<(), Fail> {
 }
 
 #[test]
+fn puts_of_a_check(rt: HostRuntime) -> Result<(), Fail> {
+    run_failing(&rt, CHECK, checking::PUTS)
+}
+
+#[test]
 fn calls_of_a_solve(rt: HostRuntime) -> Result<(), Fail> {
     run_failing(&rt, SOLVE, solving::CALLS)
+}
+
+#[test]
+fn late_calls_of_a_solve(rt: HostRuntime) -> Result<(), Fail> {
+    run_failing(&rt, SOLVE, solving::LATE_CALLS)
 }

@@ -1,6 +1,6 @@
 //! Solves, each followed by a check of the files that it leaves.
-use crate::assertions::assert_same_at;
-use crate::rows::{CHECK, Laid, files, status_of};
+use crate::assertions::{assert_holds, assert_same_at};
+use crate::rows::{CHECK, Laid, files, split, status_of};
 use crate::statuses::DONE;
 use plan_desk::{MemoryDesk, MemorySink};
 use std::alloc::Global;
@@ -23,8 +23,8 @@ pub enum Known {
 pub struct Search {
     /// What is laid over the files of the first run.
     pub laid: &'static [Laid<'static>],
-    /// The words of the solve.
-    pub words: &'static [&'static str],
+    /// The line of the solve.
+    pub line: &'static str,
     pub status: u8,
     /// What the solve prints.
     pub text: Known,
@@ -56,19 +56,16 @@ fn run_search<R: Abort + Alloc<A = Global>>(
         rt,
         number,
         &mut desk,
-        search.words,
+        search.line,
         search.status,
         search.text,
     )?;
-    let plan = desk.file("d/plan.csv");
-    assert!(rt; stands(plan, search.plan), "search {number}: plan.csv");
-    let proof = desk.file("d/proof.txt");
-    assert!(rt; stands(proof, search.proof), "search {number}: proof.txt");
-    let rotation = desk.file("d/rotation.csv");
-    assert!(rt;
-        stands(rotation, search.rotation),
-        "search {number}: rotation.csv"
-    );
+    let plan = stands(desk.file("d/plan.csv"), search.plan);
+    assert_holds(rt, number, "plan.csv", plan);
+    let proof = stands(desk.file("d/proof.txt"), search.proof);
+    assert_holds(rt, number, "proof.txt", proof);
+    let rotation = stands(desk.file("d/rotation.csv"), search.rotation);
+    assert_holds(rt, number, "rotation.csv", rotation);
     run_quietly(
         rt,
         number,
@@ -79,19 +76,20 @@ fn run_search<R: Abort + Alloc<A = Global>>(
     )
 }
 
-/// Runs words over what stands on a desk, and compares status and output.
+/// Runs the words of a line over what stands on a desk, and compares status and output.
 pub fn run_quietly<R: Abort + Alloc<A = Global>>(
     rt: &R,
     number: usize,
     desk: &mut MemoryDesk,
-    asked: &[&'static str],
+    line: &'static str,
     status: u8,
     text: Known,
 ) -> Result<(), Fail> {
     let alloc = rt.alloc();
+    let words = split(alloc, line)?;
     let mut sink = MemorySink::new(Vec::new(alloc));
-    let seen = status_of(alloc, asked, desk, &mut sink)?;
-    assert!(rt; is_known(sink.put_bytes(), text), "search {number}: output");
+    let seen = status_of(alloc, words.as_slice(), desk, &mut sink)?;
+    assert_holds(rt, number, "output", is_known(sink.put_bytes(), text));
     assert_same_at(rt, number, seen, status);
     Ok(())
 }

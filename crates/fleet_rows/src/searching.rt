@@ -8,38 +8,13 @@ use crate::tables::{NO_ROTATION, OPEN, OPTIMAL, PLAN, ROTATION};
 use plan_desk::DeskFile::{Costs, Fleets, Legs, Plan, Stations, Throughs};
 use std::test::Fail;
 
-pub const NO_NODES: &[&str] = &[
-    "fleetplan",
-    "solve",
-    "d",
-    "--day-start",
-    "00:00",
-    "--nodes",
-    "0",
-];
+pub const NO_NODES: &str = "fleetplan solve d --day-start 00:00 --nodes 0";
 
-const ONE_NODE: &[&str] = &[
-    "fleetplan",
-    "solve",
-    "d",
-    "--day-start",
-    "00:00",
-    "--nodes",
-    "1",
-];
+const ONE_NODE: &str = "fleetplan solve d --day-start 00:00 --nodes 1";
 
-const ONE_NODE_AS_JSON: &[&str] = &[
-    "fleetplan",
-    "solve",
-    "d",
-    "--day-start",
-    "00:00",
-    "--nodes",
-    "1",
-    "--json",
-];
+const ONE_NODE_AS_JSON: &str = "fleetplan solve d --day-start 00:00 --nodes 1 --json";
 
-const SOLVE_AS_JSON: &[&str] = &["fleetplan", "solve", "d", "--json", "--day-start", "00:00"];
+const SOLVE_AS_JSON: &str = "fleetplan solve d --json --day-start 00:00";
 
 // A plan of an earlier run, which is no plan of these tables.
 pub const OLD_PLAN: &[u8] = b"flight,fleet\nX1,F9\n";
@@ -94,7 +69,7 @@ const EARNING: &[Laid<'static>] = &[OLD, HUB, TWO_FLEETS, TRIPS, BELOW_0];
 // Two legs that one fleet flies at least cost, though each leg alone is cheaper with another.
 const ROUND_TRIP: Search = Search {
     laid: &[OLD],
-    words: SOLVE,
+    line: SOLVE,
     status: DONE,
     text: Whole(OPTIMAL),
     plan: Whole(PLAN),
@@ -143,7 +118,7 @@ const MAINTAINED_ELSEWHERE: Search = Search {
 };
 
 const AS_JSON: Search = Search {
-    words: SOLVE_AS_JSON,
+    line: SOLVE_AS_JSON,
     text: Whole(
         b"{\"bound\":\"200\",\"cost\":\"200\",\"fleets\":[{\"has\":1,\"name\":\"F1\",\"used\":1},\
             {\"has\":1,\"name\":\"F2\",\"used\":0}],\"open\":{\"grew\":0,\"nodes\":0,\"pivots\":0},\
@@ -161,7 +136,7 @@ const NO_THROUGHS: Search = Search {
 // Without pivots the run stops at its first table, and the bound is the sum of the least costs.
 const NO_PIVOTS: Search = Search {
     laid: &[OLD],
-    words: SOLVE_AT_ONCE,
+    line: SOLVE_AT_ONCE,
     status: UNSETTLED,
     text: Whole(OPEN),
     plan: Whole(OLD_PLAN),
@@ -176,7 +151,7 @@ const NO_AIRCRAFT: Search = Search {
         OLD,
         Laid::Bytes(Fleets, b"fleet,aircraft,turn\nF1,0,30\nF2,0,30\n"),
     ],
-    words: SOLVE,
+    line: SOLVE,
     status: INFEASIBLE,
     text: Whole(
         b"outcome: infeasible\ncost: none\nbound: none\nsplits: 0\n\
@@ -198,7 +173,7 @@ const NO_AIRCRAFT: Search = Search {
 // Half of each pair fits, and no legal assignment does.
 const TWO_AIRCRAFT: Search = Search {
     laid: TWO,
-    words: SOLVE,
+    line: SOLVE,
     status: INFEASIBLE,
     text: Whole(
         b"outcome: infeasible\ncost: none\nbound: none\nsplits: 1\n\
@@ -211,7 +186,7 @@ const TWO_AIRCRAFT: Search = Search {
 };
 
 pub const TWO_UNSPLIT: Search = Search {
-    words: NO_NODES,
+    line: NO_NODES,
     status: UNSETTLED,
     text: Whole(
         b"outcome: unsettled\ncost: none\nbound: 60\nsplits: 0\n\
@@ -229,7 +204,7 @@ pub const TWO_UNSPLIT: Search = Search {
 // Each leg costs 0, but for one that earns 6 or 7: the bound -13/2 is rounded towards the greater number.
 const EARNING_UNSPLIT: Search = Search {
     laid: EARNING,
-    words: NO_NODES,
+    line: NO_NODES,
     status: UNSETTLED,
     text: Whole(
         b"outcome: unsettled\ncost: none\nbound: -6\nsplits: 0\n\
@@ -245,7 +220,7 @@ const EARNING_UNSPLIT: Search = Search {
 // with a night at HUB, and the others are aloft over the day start, so have none: which fleet has the tour is open.
 const THREE_AIRCRAFT: Search = Search {
     laid: THREE,
-    words: SOLVE,
+    line: SOLVE,
     status: DONE,
     text: Begin(
         b"outcome: optimal\ncost: 140\nbound: 140\nsplits: 2\n\
@@ -259,7 +234,7 @@ const THREE_AIRCRAFT: Search = Search {
 };
 
 const THREE_SPLIT_ONCE: Search = Search {
-    words: ONE_NODE,
+    line: ONE_NODE,
     status: GAP,
     text: Begin(
         b"outcome: gap\ncost: 140\nbound: 100\nsplits: 1\n\
@@ -271,7 +246,7 @@ const THREE_SPLIT_ONCE: Search = Search {
 };
 
 const THREE_UNSPLIT: Search = Search {
-    words: NO_NODES,
+    line: NO_NODES,
     status: UNSETTLED,
     text: Whole(
         b"outcome: unsettled\ncost: none\nbound: 60\nsplits: 0\n\
@@ -291,7 +266,7 @@ const NO_MAINTENANCE: Laid<'static> = Laid::Bytes(
 // Where no station maintains aircraft, whichever fleet flies a trip has too few nights.
 const NONE_MAINTAINED: Search = Search {
     laid: &[OLD, NO_MAINTENANCE, THREE_FLEETS, TRIPS, TENS_AND_FIFTIES],
-    words: ONE_NODE_AS_JSON,
+    line: ONE_NODE_AS_JSON,
     text: Whole(
         b"{\"bound\":\"100\",\"cost\":\"140\",\"fleets\":[{\"has\":1,\"name\":\"F1\",\"used\":1},\
             {\"has\":1,\"name\":\"F2\",\"used\":1},{\"has\":1,\"name\":\"F3\",\"used\":1}],\
@@ -320,7 +295,7 @@ const PRUNING_COSTS: Laid<'static> = Laid::Bytes(
 // it isn't split.
 const PRUNED: Search = Search {
     laid: &[OLD, HUB, THREE_FLEETS, TRIPS, PRUNING_COSTS],
-    words: SOLVE,
+    line: SOLVE,
     status: DONE,
     text: Whole(
         b"outcome: optimal\ncost: 6000000001\nbound: 6000000001\nsplits: 1\n\

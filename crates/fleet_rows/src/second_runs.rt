@@ -8,39 +8,19 @@ use crate::tables::NO_ROTATION;
 use plan_desk::DeskFile::Legs;
 use std::test::Fail;
 
-const NO_NODES_AND_12_PIVOTS: &[&str] = &[
-    "fleetplan",
-    "solve",
-    "d",
-    "--day-start",
-    "00:00",
-    "--nodes",
-    "0",
-    "--pivots",
-    "12",
-];
+const NO_NODES_AND_12_PIVOTS: &str = "fleetplan solve d --day-start 00:00 --nodes 0 --pivots 12";
 
-const NO_NODES_AND_13_PIVOTS: &[&str] = &[
-    "fleetplan",
-    "solve",
-    "d",
-    "--day-start",
-    "00:00",
-    "--nodes",
-    "0",
-    "--pivots",
-    "13",
-];
+const NO_NODES_AND_13_PIVOTS: &str = "fleetplan solve d --day-start 00:00 --nodes 0 --pivots 13";
 
 // The prescribed run needs 13 pivots, and the one before it 14: with 13 the second that is tried settles what the first
 // doesn't, and with 12 neither does.
 const TWO_WITH_13_PIVOTS: Search = Search {
-    words: NO_NODES_AND_13_PIVOTS,
+    line: NO_NODES_AND_13_PIVOTS,
     ..TWO_UNSPLIT
 };
 
 const TWO_WITH_12_PIVOTS: Search = Search {
-    words: NO_NODES_AND_12_PIVOTS,
+    line: NO_NODES_AND_12_PIVOTS,
     text: Whole(
         b"outcome: unsettled\ncost: none\nbound: 60\nsplits: 0\n\
             open: 0 nodes, 1 pivots, 0 grew\n",
@@ -63,7 +43,7 @@ const THREE_AT_ONCE: Search = Search {
         ),
         TENS,
     ],
-    words: NO_NODES,
+    line: NO_NODES,
     status: INFEASIBLE,
     text: Whole(
         b"outcome: infeasible\ncost: none\nbound: none\nsplits: 0\n\

@@ -103,6 +103,10 @@ pub const SOLVED: &[Writing] = &[
             UNROTATED,
         ],
     ),
+];
+
+/// Tables that presolve or the reader refuses: the old plan stays.
+pub const UNSOLVED: &[Writing] = &[
     // The first leg's one fleet is removed, and the leg is bare.
     (
         &[OLD, CROSSED],
@@ -148,9 +152,8 @@ const CUT_PROOF: Laid<'static> = Laid::Bytes(Proof, b"");
 
 const CUT_ROTATION: Laid<'static> = Laid::Bytes(Rotation, b"");
 
-/// The plan isn't read: there are five reads, and then the plan, the proof and the rotations are written. There is no
-/// call after the last write, and no put after the first. What was written before a call that fails stands, and so do
-/// the first bytes of what it was to write.
+/// The plan isn't read: there are five reads, and then the plan, the proof and the rotations are written. What was
+/// written before a call that fails stands, and so do the first bytes of what it was to write.
 pub const CALLS: &[Failing] = &[
     (
         (
@@ -188,6 +191,10 @@ pub const CALLS: &[Failing] = &[
         1,
         0,
     ),
+];
+
+/// Further calls that fail. There is no call after the last write, and no put after the first.
+pub const LATE_CALLS: &[Failing] = &[
     // All of the file stands, and the write failed all the same.
     (
         (

@@ -174,6 +174,10 @@ pub const REFUSED_FIELDS: &[Text] = &[
         b"code,extra,maintenance\nAAA,\"0\r\n\",yes\nBBB,0,no\n",
         b"bad input: stations.csv record 2 kind 4\n",
     ),
+];
+
+/// Records that are refused for others.
+pub const REFUSED_RECORDS: &[Text] = &[
     // A station twice.
     (
         b"code,extra,maintenance\nAAA,0,yes\nAAA,0,yes\n",

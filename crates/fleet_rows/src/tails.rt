@@ -204,16 +204,8 @@ pub const REFUSALS: &[Asked] = &[
     ),
 ];
 
-/// The words of the lines of tails of the first run on one date.
-pub const TAILS: &[&str] = &[
-    "fleetplan",
-    "tails",
-    "d",
-    "2025-02-28",
-    "1",
-    "--day-start",
-    "00:00",
-];
+/// What asks for the tails of the first run on one date.
+pub const TAILS: &str = "fleetplan tails d 2025-02-28 1 --day-start 00:00";
 
 const FLOWN: &[u8] = b"2025-02-28 F1/1: X1 X2\nF2: unused\n";
 

@@ -16,8 +16,18 @@ fn fields_of_stations_that_are_refused(rt: HostRuntime) -> Result<(), Fail> {
 }
 
 #[test]
+fn records_of_stations_that_are_refused(rt: HostRuntime) -> Result<(), Fail> {
+    run_texts(&rt, JUDGE, Stations, BAD_INPUT, stations::REFUSED_RECORDS)
+}
+
+#[test]
 fn fleets_that_are_refused(rt: HostRuntime) -> Result<(), Fail> {
     run_texts(&rt, JUDGE, Fleets, BAD_INPUT, fleets::REFUSALS)
+}
+
+#[test]
+fn fields_of_fleets_that_are_refused(rt: HostRuntime) -> Result<(), Fail> {
+    run_texts(&rt, JUDGE, Fleets, BAD_INPUT, fleets::REFUSED_FIELDS)
 }
 
 #[test]
@@ -31,8 +41,18 @@ fn fields_of_legs_that_are_refused(rt: HostRuntime) -> Result<(), Fail> {
 }
 
 #[test]
+fn records_of_legs_that_are_refused(rt: HostRuntime) -> Result<(), Fail> {
+    run_texts(&rt, JUDGE, Legs, BAD_INPUT, legs::REFUSED_RECORDS)
+}
+
+#[test]
 fn costs_that_are_refused(rt: HostRuntime) -> Result<(), Fail> {
     run_texts(&rt, JUDGE, Costs, BAD_INPUT, costs::REFUSALS)
+}
+
+#[test]
+fn fields_of_costs_that_are_refused(rt: HostRuntime) -> Result<(), Fail> {
+    run_texts(&rt, JUDGE, Costs, BAD_INPUT, costs::REFUSED_FIELDS)
 }
 
 #[test]
@@ -46,8 +66,17 @@ fn plans_that_are_refused(rt: HostRuntime) -> Result<(), Fail> {
 }
 
 #[test]
+fn further_plans_that_are_refused(rt: HostRuntime) -> Result<(), Fail> {
+    run_texts(&rt, JUDGE, Plan, REFUSED, plans::FURTHER_REFUSALS)
+}
+
+#[test]
 fn proofs_that_are_refused(rt: HostRuntime) -> Result<(), Fail> {
-    run_texts(&rt, CHECK, Proof, REFUSED, proofs::REFUSALS)?;
+    run_texts(&rt, CHECK, Proof, REFUSED, proofs::REFUSALS)
+}
+
+#[test]
+fn trees_that_break_a_rule(rt: HostRuntime) -> Result<(), Fail> {
     run_texts(&rt, CHECK, Proof, REFUSED, proofs::BROKEN)
 }
 

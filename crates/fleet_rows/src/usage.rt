@@ -251,7 +251,11 @@ fn run_lines<R: Abort + Alloc<A = Global>>(
 #[test]
 fn lines_that_ask_for_nothing(rt: HostRuntime) -> Result<(), Fail> {
     run_lines(&rt, NO_COMMAND, REFUSED_WORDS)?;
-    run_lines(&rt, NOTHING_TO_JUDGE, REFUSED_WORDS)?;
+    run_lines(&rt, NOTHING_TO_JUDGE, REFUSED_WORDS)
+}
+
+#[test]
+fn lines_that_ask_for_no_search(rt: HostRuntime) -> Result<(), Fail> {
     run_lines(&rt, NOTHING_TO_CHECK, REFUSED_WORDS)?;
     run_lines(&rt, NOTHING_TO_SOLVE, REFUSED_WORDS)
 }
@@ -276,30 +280,28 @@ fn lines_that_ask_for_something(rt: HostRuntime) -> Result<(), Fail> {
     run_lines(&rt, FOLDERS_WITH_A_DASH, NO_SUCH_FOLDER)
 }
 
-// Words that no line of words is, and times of a wrong form.
-const WORDS: &[&[&str]] = &[
-    &[],
-    &["fleetplan"],
-    &["fleetplan", ""],
-    &["fleetplan", "judge", "d", "--day-start", "24:00"],
-    &["fleetplan", "judge", "d", "--day-start", "8:00"],
-    &["fleetplan", "judge", "d", "--day-start", "08:60"],
-    &["fleetplan", "judge", "d", "--day-start", "08:0"],
-    &["fleetplan", "judge", "d", "--day-start", "008:00"],
-    &["fleetplan", "judge", "d", "--day-start", "08-00"],
-    &["fleetplan", "judge", "d", "--day-start", "08:00 "],
-    &["fleetplan", "judge", "d", "--day-start", " 08:00"],
-    &["fleetplan", "judge", "d", "--day-start", "0800"],
-    &["fleetplan", "judge", "d", "--day-start", "-8:00"],
-    &["fleetplan", "judge", "d", "--day-start", "08:00:00"],
-    &["fleetplan", "judge", "d", "--day-start", "ab:cd"],
-    &["fleetplan", "judge", "d", "--day-start", ""],
-];
+// Words that no line of words is.
+const WORDS: &[&[&str]] = &[&[], &["fleetplan"], &["fleetplan", ""]];
 
 #[test]
 fn words_that_ask_for_nothing(rt: HostRuntime) -> Result<(), Fail> {
     for (number, words) in WORDS.iter().enumerate() {
         run_row(&rt, number, &row_left(words, REFUSED_WORDS))?;
+    }
+    Ok(())
+}
+
+// Times of a wrong form.
+const NO_TIMES: &[&str] = &[
+    "24:00", "8:00", "08:60", "08:0", "008:00", "08-00", "08:00 ", " 08:00", "0800", "-8:00",
+    "08:00:00", "ab:cd", "",
+];
+
+#[test]
+fn times_of_a_wrong_form(rt: HostRuntime) -> Result<(), Fail> {
+    for (number, time) in NO_TIMES.iter().enumerate() {
+        let words = ["fleetplan", "judge", "d", "--day-start", *time];
+        run_row(&rt, number, &row_left(&words, REFUSED_WORDS))?;
     }
     Ok(())
 }
