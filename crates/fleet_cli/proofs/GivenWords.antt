@@ -21,7 +21,7 @@ pub ran_on : (steady_desk steady_sink : Type 0) (given : Option (List (List ℕ)
     → Ran steady_desk steady_sink (asked same) code before after → IfSome given (λ all. Ran steady_desk steady_sink (asked all) exit before after)
 ran_on steady_desk steady_sink given words same code exit before after taken alike is ran =
     of_given (λ all. Ran steady_desk steady_sink (asked all) exit before after) given words taken
-      (subst (λ xs. Ran steady_desk steady_sink (asked xs) exit before after) alike (subst (λ n. Ran steady_desk steady_sink (asked same) n before after) (sym is) ran))
+    (subst (λ xs. Ran steady_desk steady_sink (asked xs) exit before after) alike (subst (λ n. Ran steady_desk steady_sink (asked same) n before after) (sym is) ran))
 
 -- a run that did nothing for want of memory
 pub did_nothing : (steady_desk steady_sink : Type 0) (asked : Option Asked) (code : ℕ) (told : Told) → code ≡ NO_MEMORY → Ran steady_desk steady_sink asked code told told
@@ -49,5 +49,6 @@ did_nothing steady_desk steady_sink asked code told is = record {
   where
     two : USAGE ≡ NO_MEMORY → ⊥
     two e = omega arith
+
     seven : FAULT ≡ NO_MEMORY → ⊥
     seven e = omega arith

@@ -50,12 +50,12 @@ pub record Ran (steady_desk steady_sink : Type 0) (asked : Option Asked) (code :
   pub steady : steady_desk → steady_sink → IsSomeAnd before.holds (NamesStand asked) → code ≢ FAULT
   pub missing : code ≡ FAULT → steady_desk → steady_sink → IfSome before.holds (BlamesMissing asked after.blamed)
   pub fault_line :
-    code ≡ FAULT
-    → PutsFault (Rose before.desk_faults after.desk_faults) after.blamed before.output after.output × FailsAt steady_desk before.holds asked after.holds after.blamed
+      code ≡ FAULT
+      → PutsFault (Rose before.desk_faults after.desk_faults) after.blamed before.output after.output × FailsAt steady_desk before.holds asked after.holds after.blamed
       ⊎ (after.desk_faults ≡ before.desk_faults) × PutsPart before.holds asked after.holds before.output after.output
   pub no_memory :
-    code ≡ NO_MEMORY
-    → (after.output ≡ before.output) × LeavesFiles before.holds asked after.holds ⊎ PutsPart before.holds asked after.holds before.output after.output
+      code ≡ NO_MEMORY
+      → (after.output ≡ before.output) × LeavesFiles before.holds asked after.holds ⊎ PutsPart before.holds asked after.holds before.output after.output
   pub one_put : code ≢ NO_MEMORY → after.puts ≡ once_more before.puts
   pub one_put_at_most : (after.puts ≡ before.puts) ⊎ (after.puts ≡ once_more before.puts)
   pub refusals : IsRefusal code → after.holds ≡ before.holds
