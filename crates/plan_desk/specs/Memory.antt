@@ -1,5 +1,5 @@
 -- What is seen of a desk and a sink in memory.
-use Rattle.std.specs.Prelude.{◌≡◌, ℕ, Bool, List, ◌++◌, take, Vec, String, fold, Option, Some, option_map, string_bytes, IfSome, MatchBool, Result, Ok, Err}
+use Rattle.std.specs.Prelude.{◌≡◌, ℕ, Bool, List, ◌++◌, take, Vec, String, fold, Option, Some, option_map, string_bytes, IfSome, MatchBool}
 use Rattle.std.specs.declared.alloc.Global.{Global}
 use Rattle.std.specs.BTreeMap.{BTreeMap, get_by_text}
 use Rattle.plan_desk.specs.Desk.{Files, no_files, with_file}
@@ -9,8 +9,6 @@ use Rattle.plan_desk.specs.declared.file.DeskFile.{DeskFile}
 use Rattle.plan_desk.specs.declared.failing.FailingCall.{FailingCall}
 use Rattle.plan_desk.specs.declared.memory_desk.MemoryDesk.{MemoryDesk}
 use Rattle.plan_desk.specs.declared.memory_sink.MemorySink.{MemorySink}
-use Rattle.plan_desk.specs.declared.sink.SinkError.{SinkError}
-use Rattle.plan_desk.specs.declared.sink.SinkError.TheVariants.{Failed, NoMemory}
 
 -- what stands under each name of a map
 abbrev pub files_in : BTreeMap (String Global) (Vec ℕ Global) → Files
@@ -93,9 +91,3 @@ next_put_bytes_left sink = bytes_left (counted (puts_of sink) 1) (failing_puts_o
 abbrev pub IsCutPut : List ℕ → MemorySink → MemorySink → Type 0
 IsCutPut piece old new =
     IfSome (next_put_bytes_left old) (λ n. MatchBool (put_had_no_memory new) (put_bytes_of new ≡ put_bytes_of old) (put_bytes_of new ≡ put_bytes_of old ++ take n piece))
-
--- P where the answer is want of memory
-abbrev pub OnPutNoMemory : {T : Type 0} → Result T SinkError → Type 0 → Type 0
-OnPutNoMemory (Ok _) P = Unit {0}
-OnPutNoMemory (Err Failed) P = Unit {0}
-OnPutNoMemory (Err NoMemory) P = P

@@ -38,3 +38,9 @@ IsPutFailed result = MatchPutFailed result (Unit {0}) ⊥
 -- the answer isn't `Failed`
 abbrev pub IsPutNotFailed : {T : Type 0} → Result T SinkError → Type 0
 IsPutNotFailed result = OnPutFailed result ⊥
+
+-- P where the answer is want of memory
+abbrev pub OnPutNoMemory : {T : Type 0} → Result T SinkError → Type 0 → Type 0
+OnPutNoMemory (Ok _) P = Unit {0}
+OnPutNoMemory (Err Failed) P = Unit {0}
+OnPutNoMemory (Err NoMemory) P = P

@@ -1,7 +1,7 @@
 ghost use Rattle.std.specs.Prelude.{◌≡◌, ◌≤◌, None, OnErr, OnOk};
 ghost use Rattle.std.specs.Io.KnownBytes.{Appends};
 ghost use Rattle.plan_desk.specs.Counts.{Rose};
-ghost use Rattle.plan_desk.specs.Sink.{MatchPutFailed, TakesFront};
+ghost use Rattle.plan_desk.specs.Sink.{MatchPutFailed, OnPutNoMemory, TakesFront};
 ghost use Rattle.plan_desk.specs.Writer.{faults_counted, writer_of};
 
 use crate::counts::count_up;
@@ -50,12 +50,14 @@ impl<W: Write> Sink for WriterSink<W> {
 
     ghost is_steady = { λ sink. ⊥ };
 
-    /// Also says that the writer took the whole piece, or some first bytes of it where the put failed.
+    /// Also says that the writer took the whole piece, or some first bytes of it where the put failed. It takes no memory, so
+    /// whatever the writer refuses is a counted fault.
     fn put(&mut self, bytes: &[u8]) -> Result<(), SinkError>
         ensures whole { OnOk result (Appends (W.contents (writer_of self.old)) (W.contents (writer_of self.new)) bytes.now) }
         ensures part { OnErr result (TakesFront (W.contents (writer_of self.old)) (W.contents (writer_of self.new)) bytes.now) }
         ensures faults { MatchPutFailed result (Rose (faults_counted self.old) (faults_counted self.new)) (faults_counted self.new ≡ faults_counted self.old) }
         ensures faults_never_fall { faults_counted self.old ≤ faults_counted self.new }
+        ensures wants_none { OnPutNoMemory result ⊥ }
     {
         if write_whole(&mut self.writer, bytes).is_err() {
             count_up(&mut self.faults, 1);
