@@ -1,14 +1,14 @@
 -- What is true of any run, by what desk and sink told before it and after it.
 use Rattle.std.specs.Prelude.{◌≡◌, ◌≢◌, ◌⊎◌, ◌+◌, ℕ, List, Option, None, IfSome, IsSomeAnd}
 use Rattle.command_words.specs.Words.{Asked}
-use Rattle.plan_desk.specs.Counts.{Rose, RoseBy}
+use Rattle.plan_desk.specs.Counts.{RoseBy, counted}
 use Rattle.plan_desk.specs.Desk.{Files}
 use Rattle.plan_desk.specs.Sink.{once_more, output_with}
 use Rattle.plan_desk.specs.declared.file.DeskFile.{DeskFile}
 use Rattle.plan_desk.specs.declared.file.TheConstants.{TABLE_LIMIT}
 use Rattle.fleet_cli.specs.Headline.{Headline}
 use Rattle.fleet_cli.specs.Reading.{NamesStand}
-use Rattle.fleet_cli.specs.Run.{AnswersExactly, AnswersInFull, BlamesMissing, FailsAt, IsAnswered, IsComplete, IsRefusal, KeepsOthers, LeavesFiles, PutsFault, PutsPart, SomeInFull}
+use Rattle.fleet_cli.specs.Run.{AnswersExactly, AnswersInFull, BlamesMissing, CountsOneFault, FailsAt, IsAnswered, IsComplete, IsRefusal, KeepsOthers, LeavesFiles, PutsFault, PutsPart, SomeInFull}
 use Rattle.fleet_cli.specs.Texts.{usage_text}
 use Rattle.fleet_cli.specs.declared.status.TheConstants.{FAULT, NO_MEMORY, USAGE}
 
@@ -44,14 +44,14 @@ pub record Ran (steady_desk steady_sink : Type 0) (asked : Option Asked) (code :
   pub usage : asked ≡ None → IsAnswered code (code ≡ USAGE)
   pub only_usage : code ≡ USAGE → asked ≡ None
   pub usage_line : code ≡ USAGE → after.output ≡ output_with before.output usage_text
-  pub fault : code ≡ FAULT → Rose before.desk_faults after.desk_faults ⊎ Rose before.sink_faults after.sink_faults
+  pub one_fault : code ≡ FAULT → CountsOneFault before.desk_faults after.desk_faults before.sink_faults after.sink_faults
   pub quiet_desk : code ≢ FAULT → after.desk_faults ≡ before.desk_faults
   pub quiet_sink : code ≢ FAULT → after.sink_faults ≡ before.sink_faults
   pub steady : steady_desk → steady_sink → IsSomeAnd before.holds (NamesStand asked) → code ≢ FAULT
   pub missing : code ≡ FAULT → steady_desk → steady_sink → IfSome before.holds (BlamesMissing asked after.blamed)
   pub fault_line :
       code ≡ FAULT
-      → PutsFault (Rose before.desk_faults after.desk_faults) after.blamed before.output after.output × FailsAt steady_desk before.holds asked after.holds after.blamed
+      → (after.desk_faults ≡ counted before.desk_faults 1) × PutsFault after.blamed before.output after.output × FailsAt steady_desk before.holds asked after.holds after.blamed
       ⊎ (after.desk_faults ≡ before.desk_faults) × PutsPart before.holds asked after.holds before.output after.output
   pub no_memory :
       code ≡ NO_MEMORY

@@ -7,6 +7,7 @@ use Rattle.csv_fields.specs.Record.{records_of}
 use Rattle.fleet_model.specs.Legal.{IsLegal, total_cost}
 use Rattle.fleet_model.specs.declared.parts.Settings.{Settings}
 use Rattle.fleet_model.specs.declared.tables.Tables.{Tables}
+use Rattle.plan_desk.specs.Counts.{IsOneMoreAtMost, counted}
 use Rattle.plan_desk.specs.Desk.{Files}
 use Rattle.plan_desk.specs.Sink.{AppendsPrefix, output_with}
 use Rattle.plan_desk.specs.DeskFile.{path_of}
@@ -151,9 +152,13 @@ pub record BlamesMissing (asked : Option Asked) (blamed : Option DeskFile) (held
 abbrev pub LeavesFiles : Option Files → Option Asked → Option Files → Type 0
 LeavesFiles told asked stands = (stands ≡ told) ⊎ StopsWriting told asked stands
 
--- the desk failed, and a part of the line that tells the file to blame, from its front on, was put
-pub record PutsFault (rose : Type 0) (blamed : Option DeskFile) (before after : Option (List ℕ)) : Type 0 where
-  pub failed : rose
+-- the desk counted one fault, and the sink one at most, of the line that tells it; or the sink alone counted one
+abbrev pub CountsOneFault : ℕ → ℕ → ℕ → ℕ → Type 0
+CountsOneFault desk_before desk_after sink_before sink_after =
+    (desk_after ≡ counted desk_before 1) × IsOneMoreAtMost sink_before sink_after ⊎ (desk_after ≡ desk_before) × (sink_after ≡ counted sink_before 1)
+
+-- a part of the line that tells the file to blame, from its front on, was put
+pub record PutsFault (blamed : Option DeskFile) (before after : Option (List ℕ)) : Type 0 where
   pub file : DeskFile
   pub blame : blamed ≡ Some file
   pub part : AppendsPrefix (fault_text file) before after

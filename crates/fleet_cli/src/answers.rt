@@ -7,7 +7,7 @@ ghost use Rattle.fleet_cli.specs.Gathered.{ReadFails};
 ghost use Rattle.fleet_cli.specs.Reading.{IsMissing, IsRead, folder_of};
 ghost use Rattle.fleet_cli.specs.Texts.{usage_text};
 ghost use Rattle.fleet_cli.specs.declared.status.TheConstants.{USAGE};
-ghost use Rattle.plan_desk.specs.Counts.{Rose, RoseBy};
+ghost use Rattle.plan_desk.specs.Counts.{RoseBy, counted};
 ghost use Rattle.plan_desk.specs.declared.file.TheConstants.{TABLE_LIMIT};
 
 use crate::answer::{Answer, Failure};
@@ -40,7 +40,7 @@ pub fn reply_to<'a, D: Desk>(
     ensures some { IfOk result (λ reply. AnswersSome (RoseBy (TABLE_LIMIT + 1) (D.taken desk.old) (D.taken desk.new)) (asked (map string_bytes words.now)) reply.answer) }
     ensures folder { IfOk result (λ reply. reply.dir.now ≡ folder_of (asked (map string_bytes words.now))) }
     ensures holds { D.holds desk.new ≡ D.holds desk.old }
-    ensures faults { MatchFailure result (λ _. D.faults desk.new ≡ D.faults desk.old) (Rose (D.faults desk.old) (D.faults desk.new)) (D.faults desk.new ≡ D.faults desk.old) }
+    ensures faults { MatchFailure result (λ _. D.faults desk.new ≡ D.faults desk.old) (D.faults desk.new ≡ counted (D.faults desk.old) 1) (D.faults desk.new ≡ D.faults desk.old) }
     ensures blamed { MatchFailure result (λ _. ⊤) (ReadFails (D.is_steady desk.old) (D.holds desk.old) (IsRead (asked (map string_bytes words.now))) (IsMissing (asked (map string_bytes words.now))) (D.blamed desk.new)) ⊤ }
     ensures stays_steady { D.is_steady desk.old → D.is_steady desk.new }
 {
@@ -68,7 +68,7 @@ fn answer_to<D: Desk>(alloc: Global, command: &Command<'_>, desk: &mut D) -> Res
     ensures told { IfSome (D.holds desk.old) (λ held. IfOk result (Answers held (Some (asked_by command.now)))) }
     ensures some { IfOk result (AnswersSome (RoseBy (TABLE_LIMIT + 1) (D.taken desk.old) (D.taken desk.new)) (Some (asked_by command.now))) }
     ensures holds { D.holds desk.new ≡ D.holds desk.old }
-    ensures faults { MatchFailure result (λ _. D.faults desk.new ≡ D.faults desk.old) (Rose (D.faults desk.old) (D.faults desk.new)) (D.faults desk.new ≡ D.faults desk.old) }
+    ensures faults { MatchFailure result (λ _. D.faults desk.new ≡ D.faults desk.old) (D.faults desk.new ≡ counted (D.faults desk.old) 1) (D.faults desk.new ≡ D.faults desk.old) }
     ensures blamed { MatchFailure result (λ _. ⊤) (ReadFails (D.is_steady desk.old) (D.holds desk.old) (IsRead (Some (asked_by command.now))) (IsMissing (Some (asked_by command.now))) (D.blamed desk.new)) ⊤ }
     ensures stays_steady { D.is_steady desk.old → D.is_steady desk.new }
 {

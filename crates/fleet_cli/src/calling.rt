@@ -1,12 +1,12 @@
 //! What the program does with the words of its call.
-ghost use Rattle.std.specs.Prelude.{◌≡◌, ◌≢◌, ◌⊎◌, None, IfErr, IfOk, IfSome, IsErr, IsOk, map, string_bytes, true};
+ghost use Rattle.std.specs.Prelude.{◌≡◌, ◌≢◌, None, IfErr, IfOk, IfSome, IsErr, IsOk, map, string_bytes, true};
 ghost use Rattle.std.specs.IoError.{error_kind};
 ghost use Rattle.std.specs.Process.{exit_status};
 ghost use Rattle.command_words.specs.Words.{asked};
 ghost use Rattle.fleet_cli.specs.Program.{given_words, is_no_text, words_in};
 ghost use Rattle.fleet_cli.specs.Ran.{Ran, telling};
+ghost use Rattle.fleet_cli.specs.Run.{CountsOneFault};
 ghost use Rattle.fleet_cli.specs.declared.status.TheConstants.{FAULT, NO_MEMORY};
-ghost use Rattle.plan_desk.specs.Counts.{Rose};
 
 use crate::running::run;
 use crate::status::NO_MEMORY;
@@ -30,7 +30,7 @@ pub fn program<D: Desk, S: Sink>(
     ensures ran { IfSome (given_words given) (λ words. Ran (D.is_steady desk.old) (S.is_steady out.old) (asked words) (exit_status result)
         (telling (D.holds desk.old) (D.blamed desk.old) (D.faults desk.old) (D.taken desk.old) (S.output out.old) (S.puts out.old) (S.faults out.old))
         (telling (D.holds desk.new) (D.blamed desk.new) (D.faults desk.new) (D.taken desk.new) (S.output out.new) (S.puts out.new) (S.faults out.new))) }
-    ensures fault { exit_status result ≡ FAULT → Rose (D.faults desk.old) (D.faults desk.new) ⊎ Rose (S.faults out.old) (S.faults out.new) }
+    ensures one_fault { exit_status result ≡ FAULT → CountsOneFault (D.faults desk.old) (D.faults desk.new) (S.faults out.old) (S.faults out.new) }
     ensures quiet_desk { exit_status result ≢ FAULT → D.faults desk.new ≡ D.faults desk.old }
     ensures quiet_sink { exit_status result ≢ FAULT → S.faults out.new ≡ S.faults out.old }
 

@@ -3,7 +3,7 @@ ghost use Rattle.std.specs.Prelude.{◌≡◌, ◌≢◌, ◌+◌, ◌<◌, ◌�
 ghost use Rattle.fleet_cli.specs.Contents.{content_of};
 ghost use Rattle.fleet_cli.specs.Gathered.{AllHeld, CalledTooLong, ComesTo, IsAmong, IsFirstTooLong, MatchStop, ReadFailsAmong, limit_of};
 ghost use Rattle.fleet_cli.specs.declared.gathering.Stop.TheVariants as stop;
-ghost use Rattle.plan_desk.specs.Counts.{Rose, RoseBy};
+ghost use Rattle.plan_desk.specs.Counts.{RoseBy, counted};
 ghost use Rattle.plan_desk.specs.DeskFile.{path_of};
 ghost use Rattle.plan_desk.specs.declared.file.DeskFile.TheVariants as desk_file;
 ghost use Rattle.plan_desk.specs.declared.file.TheConstants.{PROOF_LIMIT, TABLE_LIMIT};
@@ -36,8 +36,8 @@ pub fn read_files<D: Desk>(
     ensures taken { D.taken desk.old ≤ D.taken desk.new }
     ensures holds { D.holds desk.new ≡ D.holds desk.old }
 
-    // The count rises exactly with a fault, and then a file of the list is blamed.
-    ensures faults { MatchStop result (λ _. D.faults desk.new ≡ D.faults desk.old) (Rose (D.faults desk.old) (D.faults desk.new))
+    // One fault is counted exactly where reading stops at one, and then a file of the list is blamed.
+    ensures faults { MatchStop result (λ _. D.faults desk.new ≡ D.faults desk.old) (D.faults desk.new ≡ counted (D.faults desk.old) 1)
         (λ _. D.faults desk.new ≡ D.faults desk.old) (D.faults desk.new ≡ D.faults desk.old) }
     ensures blamed { MatchStop result (λ _. ⊤) (ReadFailsAmong (D.is_steady desk.old) (D.holds desk.old) dir.now files.now (D.blamed desk.new)) (λ _. ⊤) ⊤ }
     ensures stays_steady { D.is_steady desk.old → D.is_steady desk.new }
@@ -64,7 +64,7 @@ pub fn read_file<D: Desk>(
     ensures not_proof { MatchStop result (λ _. ⊤) ⊤ (λ _. file ≢ desk_file.Proof) ⊤ }
     ensures taken { D.taken desk.old ≤ D.taken desk.new }
     ensures holds { D.holds desk.new ≡ D.holds desk.old }
-    ensures faults { MatchStop result (λ _. D.faults desk.new ≡ D.faults desk.old) (Rose (D.faults desk.old) (D.faults desk.new))
+    ensures faults { MatchStop result (λ _. D.faults desk.new ≡ D.faults desk.old) (D.faults desk.new ≡ counted (D.faults desk.old) 1)
         (λ _. D.faults desk.new ≡ D.faults desk.old) (D.faults desk.new ≡ D.faults desk.old) }
     ensures blamed { MatchStop result (λ _. ⊤) (D.blamed desk.new ≡ Some file) (λ _. ⊤) ⊤ }
     ensures missing { MatchStop result (λ _. ⊤) (D.is_steady desk.old → IfSome (D.holds desk.old) (λ held. held (path_of dir.now file) ≡ None)) (λ _. ⊤) ⊤ }

@@ -1,14 +1,13 @@
-ghost use Rattle.std.specs.Prelude.{◌≡◌, ◌≢◌, ◌⊎◌, ◌+◌, Some, None, IfSome, IsSome, IsSomeAnd, map, string_bytes};
+ghost use Rattle.std.specs.Prelude.{◌≡◌, ◌≢◌, ◌⊎◌, ◌+◌, None, IfSome, IsSome, IsSomeAnd, map, string_bytes};
 ghost use Rattle.fleet_cli.specs.Reading.{NamesStand};
 ghost use Rattle.fleet_cli.specs.Headline.{Headline};
-ghost use Rattle.fleet_cli.specs.Run.{AnswersExactly, AnswersInFull, BlamesMissing, FailsAt, IsAnswered, IsComplete, IsEnd, IsRefusal, KeepsOthers, LeavesFiles, PutsFault, PutsPart, SomeInFull};
-ghost use Rattle.fleet_cli.specs.Texts.{fault_text, usage_text};
+ghost use Rattle.fleet_cli.specs.Run.{AnswersExactly, AnswersInFull, BlamesMissing, CountsOneFault, FailsAt, IsAnswered, IsComplete, IsEnd, IsRefusal, KeepsOthers, LeavesFiles, PutsFault, PutsPart, SomeInFull};
+ghost use Rattle.fleet_cli.specs.Texts.{usage_text};
 ghost use Rattle.command_words.specs.Words.{asked};
 ghost use Rattle.fleet_cli.specs.Written.{HaveLengths, StandsAfter, WriteFails, WritesPart, held_with_texts};
 ghost use Rattle.fleet_cli.specs.declared.status.TheConstants.{FAULT, NO_MEMORY, USAGE};
-ghost use Rattle.plan_desk.specs.Counts.{Rose, RoseBy};
+ghost use Rattle.plan_desk.specs.Counts.{IsOneMoreAtMost, RoseBy, counted};
 ghost use Rattle.plan_desk.specs.Sink.{AppendsPrefix, once_more, output_with};
-ghost use Rattle.plan_desk.specs.declared.file.DeskFile.{DeskFile};
 ghost use Rattle.plan_desk.specs.declared.file.TheConstants.{TABLE_LIMIT};
 
 use crate::answer::{Answer, Failure};
@@ -54,8 +53,9 @@ pub fn run<D: Desk, S: Sink>(alloc: Global, words: &[String], desk: &mut D, out:
     ensures only_usage { result.code ≡ USAGE → asked (map string_bytes words.now) ≡ None }
     ensures usage_line { result.code ≡ USAGE → S.output out.new ≡ output_with (S.output out.old) usage_text }
 
-    // A fault comes only where a count rose, and every other status only where neither did.
-    ensures fault { result.code ≡ FAULT → Rose (D.faults desk.old) (D.faults desk.new) ⊎ Rose (S.faults out.old) (S.faults out.new) }
+    // A run stops at its first fault: it counts one of the desk, and of the sink one at most, whose put is that of the
+    // fault's line; or one of the sink alone. At every other status neither count moves.
+    ensures one_fault { result.code ≡ FAULT → CountsOneFault (D.faults desk.old) (D.faults desk.new) (S.faults out.old) (S.faults out.new) }
     ensures quiet_desk { result.code ≢ FAULT → D.faults desk.new ≡ D.faults desk.old }
     ensures quiet_sink { result.code ≢ FAULT → S.faults out.new ≡ S.faults out.old }
     ensures steady { D.is_steady desk.old → S.is_steady out.old → IsSomeAnd (D.holds desk.old) (NamesStand (asked (map string_bytes words.now))) → result.code ≢ FAULT }
@@ -70,7 +70,7 @@ pub fn run<D: Desk, S: Sink>(alloc: Global, words: &[String], desk: &mut D, out:
     // the sink did: all files stand, and a part of the answer was put. After want of memory some first files stand, or
     // all of them and a part of the answer was put.
     ensures fault_line { result.code ≡ FAULT →
-        PutsFault (Rose (D.faults desk.old) (D.faults desk.new)) (D.blamed desk.new) (S.output out.old) (S.output out.new) × FailsAt (D.is_steady desk.old) (D.holds desk.old) (asked (map string_bytes words.now)) (D.holds desk.new) (D.blamed desk.new)
+        (D.faults desk.new ≡ counted (D.faults desk.old) 1) × PutsFault (D.blamed desk.new) (S.output out.old) (S.output out.new) × FailsAt (D.is_steady desk.old) (D.holds desk.old) (asked (map string_bytes words.now)) (D.holds desk.new) (D.blamed desk.new)
         ⊎ (D.faults desk.new ≡ D.faults desk.old) × PutsPart (D.holds desk.old) (asked (map string_bytes words.now)) (D.holds desk.new) (S.output out.old) (S.output out.new) }
     ensures no_memory { result.code ≡ NO_MEMORY →
         (S.output out.new ≡ S.output out.old) × LeavesFiles (D.holds desk.old) (asked (map string_bytes words.now)) (D.holds desk.new)
@@ -106,12 +106,12 @@ fn give<D: Desk, S: Sink>(
     ensures stands { StandsAfter dir.now answer.now.files (D.holds desk.old) (D.holds desk.new) }
     ensures put { IsAnswered result.code (S.output out.new ≡ output_with (S.output out.old) answer.now.text) }
     ensures stopped_by_fault { result.code ≡ FAULT →
-        PutsFault (Rose (D.faults desk.old) (D.faults desk.new)) (D.blamed desk.new) (S.output out.old) (S.output out.new) × WriteFails dir.now answer.now.files (D.holds desk.old) (D.holds desk.new) (D.blamed desk.new)
+        (D.faults desk.new ≡ counted (D.faults desk.old) 1) × PutsFault (D.blamed desk.new) (S.output out.old) (S.output out.new) × WriteFails dir.now answer.now.files (D.holds desk.old) (D.holds desk.new) (D.blamed desk.new)
         ⊎ (D.faults desk.new ≡ D.faults desk.old) × (D.holds desk.new ≡ held_with_texts (D.holds desk.old) dir.now answer.now.files) × AppendsPrefix answer.now.text (S.output out.old) (S.output out.new) }
     ensures stopped_by_memory { result.code ≡ NO_MEMORY →
         (S.output out.new ≡ S.output out.old) × WritesPart dir.now answer.now.files (D.holds desk.old) (D.holds desk.new)
         ⊎ (D.holds desk.new ≡ held_with_texts (D.holds desk.old) dir.now answer.now.files) × AppendsPrefix answer.now.text (S.output out.old) (S.output out.new) }
-    ensures fault { result.code ≡ FAULT → Rose (D.faults desk.old) (D.faults desk.new) ⊎ Rose (S.faults out.old) (S.faults out.new) }
+    ensures one_fault { result.code ≡ FAULT → CountsOneFault (D.faults desk.old) (D.faults desk.new) (S.faults out.old) (S.faults out.new) }
     ensures quiet_desk { result.code ≢ FAULT → D.faults desk.new ≡ D.faults desk.old }
     ensures quiet_sink { result.code ≢ FAULT → S.faults out.new ≡ S.faults out.old }
     ensures taken { D.taken desk.new ≡ D.taken desk.old }
@@ -132,7 +132,7 @@ fn put_answer<S: Sink>(out: &mut S, text: &[u8], status: Status) -> Status
     ensures status { IsAnswered result.code (result ≡ status) }
     ensures put { IsAnswered result.code (S.output out.new ≡ output_with (S.output out.old) text.now) }
     ensures part { AppendsPrefix text.now (S.output out.old) (S.output out.new) }
-    ensures fault { result.code ≡ FAULT → Rose (S.faults out.old) (S.faults out.new) }
+    ensures one_fault { result.code ≡ FAULT → S.faults out.new ≡ counted (S.faults out.old) 1 }
     ensures quiet { result.code ≢ FAULT → S.faults out.new ≡ S.faults out.old }
     ensures steady { S.is_steady out.old → result.code ≢ FAULT }
     ensures one_put { S.puts out.new ≡ once_more (S.puts out.old) }
@@ -148,7 +148,8 @@ fn put_answer<S: Sink>(out: &mut S, text: &[u8], status: Status) -> Status
 fn put_fault<D: Desk, S: Sink>(desk: &D, out: &mut S) -> Status
     requires { IsSome (D.blamed desk.now) }
     ensures status { result.code ≡ FAULT }
-    ensures put { (f : DeskFile) × (D.blamed desk.now ≡ Some f) × AppendsPrefix (fault_text f) (S.output out.old) (S.output out.new) }
+    ensures put { PutsFault (D.blamed desk.now) (S.output out.old) (S.output out.new) }
+    ensures one_fault { IsOneMoreAtMost (S.faults out.old) (S.faults out.new) }
     ensures one_put { S.puts out.new ≡ once_more (S.puts out.old) }
 {
     if let Some(file) = desk.blamed() {

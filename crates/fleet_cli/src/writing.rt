@@ -2,7 +2,7 @@
 ghost use Rattle.std.specs.Prelude.{◌≡◌, ◌≤◌, OnErr, OnOk, length, ⊤};
 ghost use Rattle.fleet_cli.specs.Failed.{MatchFailure};
 ghost use Rattle.fleet_cli.specs.Written.{HaveLengths, WriteFails, WritesPart, held_with_texts};
-ghost use Rattle.plan_desk.specs.Counts.{Rose};
+ghost use Rattle.plan_desk.specs.Counts.{counted};
 ghost use Rattle.plan_desk.specs.Desk.{ChangesOnly, held_with};
 ghost use Rattle.plan_desk.specs.DeskFile.{path_of};
 ghost use Rattle.plan_desk.specs.declared.file.TheConstants.{PROOF_LIMIT};
@@ -23,7 +23,7 @@ pub fn write_all<D: Desk>(
     ensures part { OnErr result (WritesPart dir.now texts.now (D.holds desk.old) (D.holds desk.new)) }
     ensures stopped { MatchFailure result (λ _. ⊤) (WriteFails dir.now texts.now (D.holds desk.old) (D.holds desk.new) (D.blamed desk.new)) ⊤ }
     ensures lengths { OnOk result (HaveLengths texts.now) }
-    ensures faults { MatchFailure result (λ _. D.faults desk.new ≡ D.faults desk.old) (Rose (D.faults desk.old) (D.faults desk.new)) (D.faults desk.new ≡ D.faults desk.old) }
+    ensures faults { MatchFailure result (λ _. D.faults desk.new ≡ D.faults desk.old) (D.faults desk.new ≡ counted (D.faults desk.old) 1) (D.faults desk.new ≡ D.faults desk.old) }
     ensures taken { D.taken desk.new ≡ D.taken desk.old }
     ensures steady { D.is_steady desk.old → MatchFailure result (λ _. ⊤) ⊥ ⊤ }
 {
@@ -44,7 +44,7 @@ fn write_one<D: Desk>(
 ) -> Result<(), Failure>
     ensures written { OnOk result (D.holds desk.new ≡ held_with (D.holds desk.old) (path_of dir.now text.now.file) (Some text.now.bytes)) }
     ensures others { OnErr result (ChangesOnly (path_of dir.now text.now.file) (D.holds desk.old) (D.holds desk.new)) }
-    ensures faults { MatchFailure result (λ _. D.faults desk.new ≡ D.faults desk.old) (Rose (D.faults desk.old) (D.faults desk.new)) (D.faults desk.new ≡ D.faults desk.old) }
+    ensures faults { MatchFailure result (λ _. D.faults desk.new ≡ D.faults desk.old) (D.faults desk.new ≡ counted (D.faults desk.old) 1) (D.faults desk.new ≡ D.faults desk.old) }
     ensures blamed { MatchFailure result (λ _. ⊤) (D.blamed desk.new ≡ Some text.now.file) ⊤ }
     ensures length { length text.now.bytes ≤ PROOF_LIMIT }
     ensures taken { D.taken desk.new ≡ D.taken desk.old }

@@ -1,5 +1,5 @@
 -- Counts of 64 bits, which stay at their last value once there.
-use Rattle.std.specs.Prelude.{ℕ, ◌+◌, ◌-◌, ◌^◌, ◌≤◌, min}
+use Rattle.std.specs.Prelude.{◌≡◌, ◌⊎◌, ℕ, ◌+◌, ◌-◌, ◌^◌, ◌≤◌, min}
 
 -- a count after n more
 abbrev pub counted : ℕ → ℕ → ℕ
@@ -9,6 +9,6 @@ counted before n = min (before + n) (2 ^ 64 - 1)
 abbrev pub RoseBy : ℕ → ℕ → ℕ → Type 0
 RoseBy n before now = counted before n ≤ now
 
--- the count rose, or stands at its last value
-abbrev pub Rose : ℕ → ℕ → Type 0
-Rose before now = RoseBy 1 before now
+-- the count is as it was, or after one more
+abbrev pub IsOneMoreAtMost : ℕ → ℕ → Type 0
+IsOneMoreAtMost before now = (now ≡ before) ⊎ (now ≡ counted before 1)

@@ -2,7 +2,7 @@ ghost use Rattle.std.specs.Prelude.{◌≡◌, ◌+◌, ◌-◌, ◌<◌, ◌≤
 ghost use Rattle.plan_desk.specs.declared.file.DeskFile.{DeskFile};
 ghost use Rattle.plan_desk.specs.declared.desk.DeskError.TheVariants.{NoMemory};
 ghost use Rattle.plan_desk.specs.DeskFile.{path_of};
-ghost use Rattle.plan_desk.specs.Counts.{counted, Rose, RoseBy};
+ghost use Rattle.plan_desk.specs.Counts.{counted, RoseBy};
 ghost use Rattle.plan_desk.specs.Desk.{Files, held_with, ChangesOnly, MatchFailed, OnTooLong, IsFailed, IsNotFailed};
 
 use crate::DeskFile;
@@ -82,7 +82,7 @@ pub trait Desk {
         ensures taken { IfOk result (λ bytes. taken self.new ≡ counted (taken self.old) (length bytes.items)) }
         ensures taken_never_falls { taken self.old ≤ taken self.new }
 
-        ensures faults { MatchFailed result (Rose (faults self.old) (faults self.new)) (faults self.new ≡ faults self.old) }
+        ensures faults { MatchFailed result (faults self.new ≡ counted (faults self.old) 1) (faults self.new ≡ faults self.old) }
         ensures faults_never_fall { faults self.old ≤ faults self.new }
         ensures blamed { MatchFailed result (blamed self.new ≡ Some file) (blamed self.new ≡ blamed self.old) }
         ensures planned { fails_next self.old → IsFailed result }
@@ -102,7 +102,7 @@ pub trait Desk {
         ensures never_too_long { OnTooLong result ⊥ }
         ensures taken { taken self.new ≡ taken self.old }
 
-        ensures faults { MatchFailed result (Rose (faults self.old) (faults self.new)) (faults self.new ≡ faults self.old) }
+        ensures faults { MatchFailed result (faults self.new ≡ counted (faults self.old) 1) (faults self.new ≡ faults self.old) }
         ensures faults_never_fall { faults self.old ≤ faults self.new }
         ensures blamed { MatchFailed result (blamed self.new ≡ Some file) (blamed self.new ≡ blamed self.old) }
         ensures planned { fails_next self.old → IsFailed result }

@@ -1,7 +1,7 @@
 ghost use Rattle.std.specs.Prelude.{◌≡◌, ◌+◌, ◌-◌, ◌<◌, ◌≤◌, ◌^◌, ◌⊎◌, ◌↔◌, ℕ, List, [], Option, Some, None, length, option_copied, string_bytes, IsSome, IsNone, IfSome, IsSomeAnd, IfOk, OnOk, OnErr, ⊤};
 ghost use Rattle.std.proofs.Common.{rules};
 ghost use Rattle.plan_desk.specs.DeskFile.{path_of};
-ghost use Rattle.plan_desk.specs.Counts.{counted, Rose, RoseBy};
+ghost use Rattle.plan_desk.specs.Counts.{counted, RoseBy};
 ghost use Rattle.plan_desk.specs.Desk.{Files, with_file, held_with, ChangesOnly, MatchAnswer, MatchFailed, OnFailed, OnTooLong, IsFailed, IsNotFailed};
 ghost use Rattle.plan_desk.specs.Failing.{IsListed};
 ghost use Rattle.plan_desk.specs.Memory.{files_in, laid_down, files_of, calls_of, failing_of, faults_of, blamed_of, taken_of, had_no_memory, IsToFail, IsCutWrite};

@@ -1,5 +1,5 @@
 ghost use Rattle.std.specs.Prelude.{◌≡◌, ◌+◌, ◌≤◌, ◌↔◌, ℕ, List, [], ◌++◌, Option, Some, OnOk, OnErr, ⊤};
-ghost use Rattle.plan_desk.specs.Counts.{counted, Rose};
+ghost use Rattle.plan_desk.specs.Counts.{counted};
 ghost use Rattle.plan_desk.specs.Sink.{output_with, AppendsPrefix, MatchPutFailed, OnPutFailed, OnPutNoMemory, IsPutFailed, IsPutNotFailed};
 ghost use Rattle.plan_desk.specs.Failing.{IsListed};
 ghost use Rattle.plan_desk.specs.Memory.{put_bytes_of, puts_of, failing_puts_of, put_faults_of, put_had_no_memory, IsPutToFail, IsCutPut};

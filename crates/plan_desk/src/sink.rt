@@ -1,6 +1,6 @@
 ghost use Rattle.std.specs.Prelude.{◌≡◌, ◌≤◌, ℕ, List, Option, OnOk, OnErr};
 ghost use Rattle.plan_desk.specs.declared.sink.SinkError.TheVariants.{NoMemory};
-ghost use Rattle.plan_desk.specs.Counts.{Rose};
+ghost use Rattle.plan_desk.specs.Counts.{counted};
 ghost use Rattle.plan_desk.specs.Sink.{output_with, once_more, AppendsPrefix, MatchPutFailed, IsPutFailed, IsPutNotFailed};
 
 use std::alloc::AllocError;
@@ -51,7 +51,7 @@ pub trait Sink {
         ensures prefix { OnErr result (AppendsPrefix bytes.now (output self.old) (output self.new)) }
         ensures puts { puts self.new ≡ once_more (puts self.old) }
 
-        ensures faults { MatchPutFailed result (Rose (faults self.old) (faults self.new)) (faults self.new ≡ faults self.old) }
+        ensures faults { MatchPutFailed result (faults self.new ≡ counted (faults self.old) 1) (faults self.new ≡ faults self.old) }
         ensures faults_never_fall { faults self.old ≤ faults self.new }
         ensures planned { fails_next self.old → IsPutFailed result }
         ensures steady { is_steady self.old → IsPutNotFailed result }

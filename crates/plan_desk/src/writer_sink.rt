@@ -1,6 +1,6 @@
 ghost use Rattle.std.specs.Prelude.{◌≡◌, ◌≤◌, None, OnErr, OnOk};
 ghost use Rattle.std.specs.Io.KnownBytes.{Appends};
-ghost use Rattle.plan_desk.specs.Counts.{Rose};
+ghost use Rattle.plan_desk.specs.Counts.{counted};
 ghost use Rattle.plan_desk.specs.Sink.{MatchPutFailed, OnPutNoMemory, TakesFront};
 ghost use Rattle.plan_desk.specs.Writer.{faults_counted, writer_of};
 
@@ -55,7 +55,7 @@ impl<W: Write> Sink for WriterSink<W> {
     fn put(&mut self, bytes: &[u8]) -> Result<(), SinkError>
         ensures whole { OnOk result (Appends (W.contents (writer_of self.old)) (W.contents (writer_of self.new)) bytes.now) }
         ensures part { OnErr result (TakesFront (W.contents (writer_of self.old)) (W.contents (writer_of self.new)) bytes.now) }
-        ensures faults { MatchPutFailed result (Rose (faults_counted self.old) (faults_counted self.new)) (faults_counted self.new ≡ faults_counted self.old) }
+        ensures faults { MatchPutFailed result (faults_counted self.new ≡ counted (faults_counted self.old) 1) (faults_counted self.new ≡ faults_counted self.old) }
         ensures faults_never_fall { faults_counted self.old ≤ faults_counted self.new }
         ensures wants_none { OnPutNoMemory result ⊥ }
     {
