@@ -1,6 +1,7 @@
--- One text more is written.
+-- One text more is written, and where writing stops.
 use Rattle.std.proofs.Common.{◌≡◌, ◌∙◌, ap, ℕ, ◌+◌, ◌<◌, ◌≤◌, List, [], ◌∷◌, ◌++◌, length, take, get_or, Option, Some, None, Err, refl, inl, inr, arith}
 use Rattle.std.specs.Prelude.{⊤}
+use Rattle.std.proofs.Math.Seq.{take-length}
 use Rattle.std.proofs.lemmas.Bool.{cases_lt}
 use Rattle.std.proofs.lemmas.List.{get_or_default, take_more}
 use Rattle.plan_desk.specs.Desk.{ChangesOnly, Files, held_with, with_file}
@@ -8,7 +9,7 @@ use Rattle.plan_desk.specs.DeskFile.{path_of}
 use Rattle.plan_desk.specs.declared.file.DeskFile.{DeskFile}
 use Rattle.plan_desk.specs.declared.file.TheConstants.{PROOF_LIMIT}
 use Rattle.fleet_cli.specs.Failed.{MatchFailure}
-use Rattle.fleet_cli.specs.Written.{WriteFails, held_with_texts, no_text, with_texts}
+use Rattle.fleet_cli.specs.Written.{WriteFails, WritesFirst, held_with_texts, no_text, with_texts}
 use Rattle.fleet_cli.specs.declared.answer.Failure.{Failure}
 use Rattle.fleet_cli.specs.declared.answer.Failure.TheVariants as failure
 use Rattle.fleet_cli.specs.declared.answer.FileText.{FileText}
@@ -36,6 +37,16 @@ stopped_at S T failure.Fault dir texts k d item told before stands blamed is wit
     let same : item ≡ get_or texts k no_text = is ∙ get_or_default texts k d no_text within in
     record { stopped = record { written = k; place = within; part = rw (← same, ← so_far) changes }; blame = blame ∙ ap (λ (t : FileText). Some t.file) same }
 stopped_at S T failure.NoMemory dir texts k d item told before stands blamed is within so_far changes blame = tt
+
+-- want of memory stopped the writing at the text at a place
+pub stopped_first : (S T : Type 0) (why : Failure) (dir : List ℕ) (texts : List FileText) (k : ℕ) (told before stands : Option Files) → k < length texts → before ≡ held_with_texts told dir (take k texts)
+    → MatchFailure {T = S} (Err why) (λ _. ⊤) ⊤ (stands ≡ before) → MatchFailure {T = T} (Err why) (λ _. ⊤) ⊤ (WritesFirst dir texts told stands)
+stopped_first S T failure.Fault dir texts k told before stands within so_far same = tt
+stopped_first S T failure.NoMemory dir texts k told before stands within so_far same = record { written = k; within = omega arith; first = same ∙ so_far }
+
+-- all texts are the first of them, as many as there are
+pub all_first : (dir : List ℕ) (texts : List FileText) (told stands : Option Files) → stands ≡ held_with_texts told dir texts → WritesFirst dir texts told stands
+all_first dir texts told stands all = record { written = length texts; within = omega arith; first = rw (take-length texts) all }
 
 -- one text more that is no longer than a list of bytes can be
 pub one_longer : (texts : List FileText) (n : ℕ) (d item : FileText) → item ≡ get_or texts n d → n < length texts → length item.bytes ≤ PROOF_LIMIT

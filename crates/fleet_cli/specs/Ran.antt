@@ -53,9 +53,8 @@ pub record Ran (steady_desk steady_sink : Type 0) (asked : Option Asked) (code :
       code ≡ FAULT
       → (after.desk_faults ≡ counted before.desk_faults 1) × PutsFault after.blamed before.output after.output × FailsAt steady_desk before.holds asked after.holds after.blamed
       ⊎ (after.desk_faults ≡ before.desk_faults) × PutsPart before.holds asked after.holds before.output after.output
-  pub no_memory :
-      code ≡ NO_MEMORY
-      → (after.output ≡ before.output) × LeavesFiles before.holds asked after.holds ⊎ PutsPart before.holds asked after.holds before.output after.output
+  pub no_memory : code ≡ NO_MEMORY → LeavesFiles before.holds asked after.holds
+  pub nothing_put : code ≡ NO_MEMORY → after.output ≡ before.output
   pub one_put : code ≢ NO_MEMORY → after.puts ≡ once_more before.puts
   pub one_put_at_most : (after.puts ≡ before.puts) ⊎ (after.puts ≡ once_more before.puts)
   pub refusals : IsRefusal code → after.holds ≡ before.holds

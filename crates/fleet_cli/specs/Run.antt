@@ -22,7 +22,7 @@ use Rattle.fleet_cli.specs.Laws.{IsFixed}
 use Rattle.fleet_cli.specs.Reading.{IsMissing, IsRead, folder_of, judge_files, proof_files, table_files, written_files}
 use Rattle.fleet_cli.specs.Texts.{fault_text}
 use Rattle.command_words.specs.Words.{Asked, check, judge, make, solve, tails}
-use Rattle.fleet_cli.specs.Written.{HaveLengths, WriteFails, WritesPart, held_with_texts, under}
+use Rattle.fleet_cli.specs.Written.{HaveLengths, WriteFails, WritesFirst, held_with_texts, under}
 use Rattle.fleet_cli.specs.declared.answer.Answer.{Answer}
 use Rattle.fleet_cli.specs.declared.status.TheConstants.{BAD_INPUT, DONE, FAULT, GAP, INFEASIBLE, NO_MEMORY, REFUSED, UNSETTLED, USAGE}
 
@@ -125,11 +125,11 @@ pub record PutsPart (told : Option Files) (asked : Option Asked) (stands : Optio
   pub written : stands ≡ held_with_texts told (folder_of asked) answer.files
   pub part : AppendsPrefix answer.text before after
 
--- some first files of an answer were written, and the next may hold anything
+-- some first files of an answer were written, all of them at most, and nothing else changed
 pub record StopsWriting (told : Option Files) (asked : Option Asked) (stands : Option Files) : Type 0 where
   pub answer : Answer
   pub answers : IfSome told (λ held. Answers held asked answer)
-  pub part : WritesPart (folder_of asked) answer.files told stands
+  pub first : WritesFirst (folder_of asked) answer.files told stands
 
 -- the writing of an answer's files stopped at the file that the desk blames
 pub record FailsWriting (told : Option Files) (asked : Option Asked) (stands : Option Files) (blamed : Option DeskFile) : Type 0 where
@@ -148,7 +148,7 @@ pub record BlamesMissing (asked : Option Asked) (blamed : Option DeskFile) (held
   pub blame : blamed ≡ Some file
   pub missing : IsMissing asked held file
 
--- no file was written, or the writing of an answer's files stopped
+-- no file was written, or some first ones of an answer
 abbrev pub LeavesFiles : Option Files → Option Asked → Option Files → Type 0
 LeavesFiles told asked stands = (stands ≡ told) ⊎ StopsWriting told asked stands
 

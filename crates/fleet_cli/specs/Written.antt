@@ -30,7 +30,13 @@ pub record WritesPart (dir : List ℕ) (texts : List FileText) (told stands : Op
   pub place : written < length texts
   pub part : ChangesOnly (text_name dir texts written) (held_with_texts told dir (take written texts)) stands
 
--- the same, and the file of the next text is blamed
+-- some first texts were written, all of them at most, and nothing else changed
+pub record WritesFirst (dir : List ℕ) (texts : List FileText) (told stands : Option Files) : Type 0 where
+  pub written : ℕ
+  pub within : written ≤ length texts
+  pub first : stands ≡ held_with_texts told dir (take written texts)
+
+-- some first texts were written and a part of the next, whose file is blamed
 pub record WriteFails (dir : List ℕ) (texts : List FileText) (told stands : Option Files) (blamed : Option DeskFile) : Type 0 where
   pub stopped : WritesPart dir texts told stands
   pub blame : blamed ≡ Some (slice_index_or texts stopped.written no_text).file

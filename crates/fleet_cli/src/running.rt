@@ -4,7 +4,7 @@ ghost use Rattle.fleet_cli.specs.Headline.{Headline};
 ghost use Rattle.fleet_cli.specs.Run.{AnswersExactly, AnswersInFull, BlamesMissing, CountsOneFault, FailsAt, IsAnswered, IsComplete, IsEnd, IsRefusal, KeepsOthers, LeavesFiles, PutsFault, PutsPart, SomeInFull};
 ghost use Rattle.fleet_cli.specs.Texts.{usage_text};
 ghost use Rattle.command_words.specs.Words.{asked};
-ghost use Rattle.fleet_cli.specs.Written.{HaveLengths, StandsAfter, WriteFails, WritesPart, held_with_texts};
+ghost use Rattle.fleet_cli.specs.Written.{HaveLengths, StandsAfter, WriteFails, WritesFirst, held_with_texts};
 ghost use Rattle.fleet_cli.specs.declared.status.TheConstants.{FAULT, NO_MEMORY, USAGE};
 ghost use Rattle.plan_desk.specs.Counts.{IsOneMoreAtMost, RoseBy, counted};
 ghost use Rattle.plan_desk.specs.Sink.{AppendsPrefix, once_more, output_with};
@@ -67,14 +67,14 @@ pub fn run<D: Desk, S: Sink>(alloc: Global, words: &[String], desk: &mut D, out:
 
     // After a fault of the desk a part of its line was put and nothing else. The file to blame is one that is read, and
     // then no file was written; or the next file to be written, and those before it stand. Where the desk didn't fail
-    // the sink did: all files stand, and a part of the answer was put. After want of memory some first files stand, or
-    // all of them and a part of the answer was put.
+    // the sink did: all files stand, and a part of the answer was put.
     ensures fault_line { result.code ≡ FAULT →
         (D.faults desk.new ≡ counted (D.faults desk.old) 1) × PutsFault (D.blamed desk.new) (S.output out.old) (S.output out.new) × FailsAt (D.is_steady desk.old) (D.holds desk.old) (asked (map string_bytes words.now)) (D.holds desk.new) (D.blamed desk.new)
         ⊎ (D.faults desk.new ≡ D.faults desk.old) × PutsPart (D.holds desk.old) (asked (map string_bytes words.now)) (D.holds desk.new) (S.output out.old) (S.output out.new) }
-    ensures no_memory { result.code ≡ NO_MEMORY →
-        (S.output out.new ≡ S.output out.old) × LeavesFiles (D.holds desk.old) (asked (map string_bytes words.now)) (D.holds desk.new)
-        ⊎ PutsPart (D.holds desk.old) (asked (map string_bytes words.now)) (D.holds desk.new) (S.output out.old) (S.output out.new) }
+
+    // After want of memory some first files of the answer stand, or all of them; nothing else changed, and nothing was put.
+    ensures no_memory { result.code ≡ NO_MEMORY → LeavesFiles (D.holds desk.old) (asked (map string_bytes words.now)) (D.holds desk.new) }
+    ensures nothing_put { result.code ≡ NO_MEMORY → S.output out.new ≡ S.output out.old }
 
     // There is one put in a run, and none but where memory is wanted.
     ensures one_put { result.code ≢ NO_MEMORY → S.puts out.new ≡ once_more (S.puts out.old) }
@@ -108,9 +108,8 @@ fn give<D: Desk, S: Sink>(
     ensures stopped_by_fault { result.code ≡ FAULT →
         (D.faults desk.new ≡ counted (D.faults desk.old) 1) × PutsFault (D.blamed desk.new) (S.output out.old) (S.output out.new) × WriteFails dir.now answer.now.files (D.holds desk.old) (D.holds desk.new) (D.blamed desk.new)
         ⊎ (D.faults desk.new ≡ D.faults desk.old) × (D.holds desk.new ≡ held_with_texts (D.holds desk.old) dir.now answer.now.files) × AppendsPrefix answer.now.text (S.output out.old) (S.output out.new) }
-    ensures stopped_by_memory { result.code ≡ NO_MEMORY →
-        (S.output out.new ≡ S.output out.old) × WritesPart dir.now answer.now.files (D.holds desk.old) (D.holds desk.new)
-        ⊎ (D.holds desk.new ≡ held_with_texts (D.holds desk.old) dir.now answer.now.files) × AppendsPrefix answer.now.text (S.output out.old) (S.output out.new) }
+    ensures stopped_by_memory { result.code ≡ NO_MEMORY → WritesFirst dir.now answer.now.files (D.holds desk.old) (D.holds desk.new) }
+    ensures nothing_put { result.code ≡ NO_MEMORY → S.output out.new ≡ S.output out.old }
     ensures one_fault { result.code ≡ FAULT → CountsOneFault (D.faults desk.old) (D.faults desk.new) (S.faults out.old) (S.faults out.new) }
     ensures quiet_desk { result.code ≢ FAULT → D.faults desk.new ≡ D.faults desk.old }
     ensures quiet_sink { result.code ≢ FAULT → S.faults out.new ≡ S.faults out.old }
@@ -132,6 +131,7 @@ fn put_answer<S: Sink>(out: &mut S, text: &[u8], status: Status) -> Status
     ensures status { IsAnswered result.code (result ≡ status) }
     ensures put { IsAnswered result.code (S.output out.new ≡ output_with (S.output out.old) text.now) }
     ensures part { AppendsPrefix text.now (S.output out.old) (S.output out.new) }
+    ensures nothing_put { result.code ≡ NO_MEMORY → S.output out.new ≡ S.output out.old }
     ensures one_fault { result.code ≡ FAULT → S.faults out.new ≡ counted (S.faults out.old) 1 }
     ensures quiet { result.code ≢ FAULT → S.faults out.new ≡ S.faults out.old }
     ensures steady { S.is_steady out.old → result.code ≢ FAULT }

@@ -1,7 +1,7 @@
 //! Writing the files of an answer, in their order.
 ghost use Rattle.std.specs.Prelude.{◌≡◌, ◌≤◌, OnErr, OnOk, length, ⊤};
 ghost use Rattle.fleet_cli.specs.Failed.{MatchFailure};
-ghost use Rattle.fleet_cli.specs.Written.{HaveLengths, WriteFails, WritesPart, held_with_texts};
+ghost use Rattle.fleet_cli.specs.Written.{HaveLengths, WriteFails, WritesFirst, WritesPart, held_with_texts};
 ghost use Rattle.plan_desk.specs.Counts.{counted};
 ghost use Rattle.plan_desk.specs.Desk.{ChangesOnly, held_with};
 ghost use Rattle.plan_desk.specs.DeskFile.{path_of};
@@ -12,7 +12,7 @@ use crate::answer::{Failure, FileText};
 use plan_desk::{Desk, DeskError};
 use std::alloc::Global;
 
-/// Writes files into a folder, in their order, up to the first that fails.
+/// Writes files into a folder, in their order, up to the first that fails. Want of memory leaves those before it alone.
 pub fn write_all<D: Desk>(
     alloc: Global,
     desk: &mut D,
@@ -22,6 +22,7 @@ pub fn write_all<D: Desk>(
     ensures written { OnOk result (D.holds desk.new ≡ held_with_texts (D.holds desk.old) dir.now texts.now) }
     ensures part { OnErr result (WritesPart dir.now texts.now (D.holds desk.old) (D.holds desk.new)) }
     ensures stopped { MatchFailure result (λ _. ⊤) (WriteFails dir.now texts.now (D.holds desk.old) (D.holds desk.new) (D.blamed desk.new)) ⊤ }
+    ensures first { MatchFailure result (λ _. ⊤) ⊤ (WritesFirst dir.now texts.now (D.holds desk.old) (D.holds desk.new)) }
     ensures lengths { OnOk result (HaveLengths texts.now) }
     ensures faults { MatchFailure result (λ _. D.faults desk.new ≡ D.faults desk.old) (D.faults desk.new ≡ counted (D.faults desk.old) 1) (D.faults desk.new ≡ D.faults desk.old) }
     ensures taken { D.taken desk.new ≡ D.taken desk.old }
@@ -44,6 +45,7 @@ fn write_one<D: Desk>(
 ) -> Result<(), Failure>
     ensures written { OnOk result (D.holds desk.new ≡ held_with (D.holds desk.old) (path_of dir.now text.now.file) (Some text.now.bytes)) }
     ensures others { OnErr result (ChangesOnly (path_of dir.now text.now.file) (D.holds desk.old) (D.holds desk.new)) }
+    ensures unchanged { MatchFailure result (λ _. ⊤) ⊤ (D.holds desk.new ≡ D.holds desk.old) }
     ensures faults { MatchFailure result (λ _. D.faults desk.new ≡ D.faults desk.old) (D.faults desk.new ≡ counted (D.faults desk.old) 1) (D.faults desk.new ≡ D.faults desk.old) }
     ensures blamed { MatchFailure result (λ _. ⊤) (D.blamed desk.new ≡ Some text.now.file) ⊤ }
     ensures length { length text.now.bytes ≤ PROOF_LIMIT }

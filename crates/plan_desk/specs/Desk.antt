@@ -46,6 +46,13 @@ OnTooLong (Err Failed) P = Unit {0}
 OnTooLong (Err TooLong) P = P
 OnTooLong (Err NoMemory) P = Unit {0}
 
+-- P where the answer is want of memory
+abbrev pub OnNoMemory : {T : Type 0} → Result T DeskError → Type 0 → Type 0
+OnNoMemory (Ok _) P = Unit {0}
+OnNoMemory (Err Failed) P = Unit {0}
+OnNoMemory (Err TooLong) P = Unit {0}
+OnNoMemory (Err NoMemory) P = P
+
 -- P where the answer is `Failed`
 abbrev pub OnFailed : {T : Type 0} → Result T DeskError → Type 0 → Type 0
 OnFailed result P = MatchFailed result P (Unit {0})

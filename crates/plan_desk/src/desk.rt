@@ -3,7 +3,7 @@ ghost use Rattle.plan_desk.specs.declared.file.DeskFile.{DeskFile};
 ghost use Rattle.plan_desk.specs.declared.desk.DeskError.TheVariants.{NoMemory};
 ghost use Rattle.plan_desk.specs.DeskFile.{path_of};
 ghost use Rattle.plan_desk.specs.Counts.{counted, RoseBy};
-ghost use Rattle.plan_desk.specs.Desk.{Files, held_with, ChangesOnly, MatchFailed, OnTooLong, IsFailed, IsNotFailed};
+ghost use Rattle.plan_desk.specs.Desk.{Files, held_with, ChangesOnly, MatchFailed, OnNoMemory, OnTooLong, IsFailed, IsNotFailed};
 
 use crate::DeskFile;
 use std::alloc::{AllocError, AllocFailed, Global};
@@ -42,7 +42,7 @@ impl<T: Drop> From<AllocFailed<T>> for DeskError {
 /// Files under names, read and written whole. A name is a folder, a slash and the name of a `DeskFile`.
 ///
 /// A desk may tell what it holds; one over real files does not, and then the clauses on content say nothing.
-/// `NoMemory` may come from `read` and `write` at any time, and no clause ties it to a cause.
+/// `NoMemory` may come from `read` and `write` at any time, and no clause ties it to a cause. Nothing changes then.
 pub trait Desk {
     /// What stands under each name, where the desk tells.
     ghost holds: { Self → Option Files };
@@ -99,6 +99,7 @@ pub trait Desk {
     ) -> Result<(), DeskError>
         ensures written { OnOk result (holds self.new ≡ held_with (holds self.old) (path_of dir.now file) (Some bytes.now)) }
         ensures others_stay { OnErr result (ChangesOnly (path_of dir.now file) (holds self.old) (holds self.new)) }
+        ensures unchanged { OnNoMemory result (holds self.new ≡ holds self.old) }
         ensures never_too_long { OnTooLong result ⊥ }
         ensures taken { taken self.new ≡ taken self.old }
 

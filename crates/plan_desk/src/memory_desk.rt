@@ -2,7 +2,7 @@ ghost use Rattle.std.specs.Prelude.{◌≡◌, ◌+◌, ◌-◌, ◌<◌, ◌≤
 ghost use Rattle.std.proofs.Common.{rules};
 ghost use Rattle.plan_desk.specs.DeskFile.{path_of};
 ghost use Rattle.plan_desk.specs.Counts.{counted, RoseBy};
-ghost use Rattle.plan_desk.specs.Desk.{Files, with_file, held_with, ChangesOnly, MatchAnswer, MatchFailed, OnFailed, OnTooLong, IsFailed, IsNotFailed};
+ghost use Rattle.plan_desk.specs.Desk.{Files, with_file, held_with, ChangesOnly, MatchAnswer, MatchFailed, OnFailed, OnNoMemory, OnTooLong, IsFailed, IsNotFailed};
 ghost use Rattle.plan_desk.specs.Failing.{IsListed};
 ghost use Rattle.plan_desk.specs.Memory.{files_in, laid_down, files_of, calls_of, failing_of, faults_of, blamed_of, taken_of, had_no_memory, IsToFail, IsCutWrite};
 
@@ -182,7 +182,7 @@ impl Desk for MemoryDesk {
     ) -> Result<(), DeskError>
         ensures written { OnOk result (files_of self.new ≡ with_file (files_of self.old) (path_of dir.now file) (Some bytes.now)) }
         ensures cut { OnFailed result (IsCutWrite (path_of dir.now file) bytes.now self.old self.new) }
-        ensures unchanged { MatchAnswer result (λ done. ⊤) ⊤ ⊤ (files_of self.new ≡ files_of self.old) }
+        ensures unchanged { OnNoMemory result (files_of self.new ≡ files_of self.old) }
         ensures others_stay { OnErr result (ChangesOnly (path_of dir.now file) (Some (files_of self.old)) (Some (files_of self.new))) }
         ensures never_too_long { OnTooLong result ⊥ }
         ensures taken { taken_of self.new ≡ taken_of self.old }

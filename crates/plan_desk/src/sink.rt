@@ -1,7 +1,7 @@
 ghost use Rattle.std.specs.Prelude.{◌≡◌, ◌≤◌, ℕ, List, Option, OnOk, OnErr};
 ghost use Rattle.plan_desk.specs.declared.sink.SinkError.TheVariants.{NoMemory};
 ghost use Rattle.plan_desk.specs.Counts.{counted};
-ghost use Rattle.plan_desk.specs.Sink.{output_with, once_more, AppendsPrefix, MatchPutFailed, IsPutFailed, IsPutNotFailed};
+ghost use Rattle.plan_desk.specs.Sink.{output_with, once_more, AppendsPrefix, MatchPutFailed, OnPutNoMemory, IsPutFailed, IsPutNotFailed};
 
 use std::alloc::AllocError;
 use thiserror::Error;
@@ -28,7 +28,7 @@ impl From<AllocError> for SinkError {
 /// What takes the output, piece by piece.
 ///
 /// A sink may tell what was put; the real output does not, and then the clauses on content say nothing.
-/// `NoMemory` may come from `put` at any time, and no clause ties it to a cause.
+/// `NoMemory` may come from `put` at any time, and no clause ties it to a cause. Nothing is put then.
 pub trait Sink {
     /// The bytes that were put, where the sink tells.
     ghost output: { Self → Option (List ℕ) };
@@ -49,6 +49,7 @@ pub trait Sink {
     fn put(&mut self, bytes: &[u8]) -> Result<(), SinkError>
         ensures put { OnOk result (output self.new ≡ output_with (output self.old) bytes.now) }
         ensures prefix { OnErr result (AppendsPrefix bytes.now (output self.old) (output self.new)) }
+        ensures unchanged { OnPutNoMemory result (output self.new ≡ output self.old) }
         ensures puts { puts self.new ≡ once_more (puts self.old) }
 
         ensures faults { MatchPutFailed result (faults self.new ≡ counted (faults self.old) 1) (faults self.new ≡ faults self.old) }

@@ -28,6 +28,7 @@ returns-in-Ok-clause-ran g c =
       missing = c.run.ensures.missing;
       fault_line = c.run.ensures.fault_line;
       no_memory = c.run.ensures.no_memory;
+      nothing_put = c.run.ensures.nothing_put;
       one_put = c.run.ensures.one_put;
       one_put_at_most = c.run.ensures.one_put_at_most;
       refusals = c.run.ensures.refusals;

@@ -36,7 +36,5 @@ pub give-requires : goal.give-requires
 give-requires g c = answer_ends _ (asked (map string_bytes c.args.words.now)) c.in-Ok.reply.answer c.in-Ok.ensures.some
 
 pub returns-in-Ok-clause-no_memory : goal.returns-in-Ok-clause-no_memory
-returns-in-Ok-clause-no_memory g c = λ memory. elim (c.give.ensures.stopped_by_memory memory) [
-  | inl stopped ↦ inl (stopped.0, inr (record { answer = c.in-Ok.reply.answer; answers = c.in-Ok.ensures.told; part = rw (c.in-Ok.ensures.folder, c.in-Ok.ensures.holds) at stopped.1 }))
-  | inr put ↦ inr (record { answer = c.in-Ok.reply.answer; answers = c.in-Ok.ensures.told; written = rw (c.in-Ok.ensures.folder, c.in-Ok.ensures.holds) at put.0; part = put.1 })
-]
+returns-in-Ok-clause-no_memory g c = λ memory.
+    inr (record { answer = c.in-Ok.reply.answer; answers = c.in-Ok.ensures.told; first = rw (c.in-Ok.ensures.folder, c.in-Ok.ensures.holds) at (c.give.ensures.stopped_by_memory memory) })

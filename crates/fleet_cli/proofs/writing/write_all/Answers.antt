@@ -1,5 +1,5 @@
 use Rattle.std.proofs.Common.{arith, rules}
-use Rattle.fleet_cli.proofs.WrittenFacts.{held_with_more, one_longer, stopped_at}
+use Rattle.fleet_cli.proofs.WrittenFacts.{held_with_more, one_longer, stopped_at, stopped_first}
 use Rattle.fleet_cli.proofs.writing.write_all.Goals as goal
 
 pub loop-text-preserved : goal.loop-text-preserved
@@ -14,6 +14,9 @@ loop-text-preserved g c = record {
 pub returns-in-Err-clause-stopped : goal.returns-in-Err-clause-stopped
 returns-in-Err-clause-stopped g c =
     stopped_at _ _ c.in-Err.failure c.args.dir.now c.args.texts.now c.loop-text.text-index _ _ _ _ _ _ c.text-item.is c.loop-text-test.true c.loop-text.invariant.holds c.in-Err.ensures.others c.in-Err.ensures.blamed
+
+pub returns-in-Err-clause-first : goal.returns-in-Err-clause-first
+returns-in-Err-clause-first g c = stopped_first _ _ c.in-Err.failure c.args.dir.now c.args.texts.now c.loop-text.text-index _ _ _ c.loop-text-test.true c.loop-text.invariant.holds c.in-Err.ensures.unchanged
 
 pub returns-clause-lengths : goal.returns-clause-lengths
 returns-clause-lengths g c = let past = c.loop-text-test.false in record { each = λ k e below. c.loop-text.invariant.lengths k e (omega arith) }
