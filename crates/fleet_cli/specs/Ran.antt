@@ -20,16 +20,18 @@ pub record Told : Type 0 where
   pub taken : ℕ
   pub output : Option (List ℕ)
   pub puts : Option ℕ
+  pub handed : Option ℕ
   pub sink_faults : ℕ
 
-abbrev pub telling : Option Files → Option DeskFile → ℕ → ℕ → Option (List ℕ) → Option ℕ → ℕ → Told
-telling holds blamed desk_faults taken output puts sink_faults = record {
+abbrev pub telling : Option Files → Option DeskFile → ℕ → ℕ → Option (List ℕ) → Option ℕ → Option ℕ → ℕ → Told
+telling holds blamed desk_faults taken output puts handed sink_faults = record {
   holds = holds;
   blamed = blamed;
   desk_faults = desk_faults;
   taken = taken;
   output = output;
   puts = puts;
+  handed = handed;
   sink_faults = sink_faults;
 }
 
@@ -40,7 +42,7 @@ pub record Ran (steady_desk steady_sink : Type 0) (asked : Option Asked) (code :
   pub headline : IsAnswered code (IfSome before.holds (λ held. Headline held asked code after.holds before.output after.output))
   pub exactly : IsAnswered code (IfSome before.holds (λ held. AnswersExactly held asked code before.output after.output))
   pub complete : IsAnswered code (IsComplete before.holds asked code)
-  pub some_answer : IsAnswered code (SomeInFull (RoseBy (TABLE_LIMIT + 1) before.taken after.taken) asked code before.output after.output)
+  pub some_answer : IsAnswered code (SomeInFull (RoseBy (TABLE_LIMIT + 1) before.taken after.taken) asked code before.output after.output before.handed after.handed)
   pub usage : asked ≡ None → IsAnswered code (code ≡ USAGE)
   pub only_usage : code ≡ USAGE → asked ≡ None
   pub usage_line : code ≡ USAGE → after.output ≡ output_with before.output usage_text
@@ -51,8 +53,8 @@ pub record Ran (steady_desk steady_sink : Type 0) (asked : Option Asked) (code :
   pub missing : code ≡ FAULT → steady_desk → steady_sink → IfSome before.holds (BlamesMissing asked after.blamed)
   pub fault_line :
       code ≡ FAULT
-      → (after.desk_faults ≡ counted before.desk_faults 1) × PutsFault after.blamed before.output after.output × FailsAt steady_desk before.holds asked after.holds after.blamed
-      ⊎ (after.desk_faults ≡ before.desk_faults) × PutsPart before.holds asked after.holds before.output after.output
+      → (after.desk_faults ≡ counted before.desk_faults 1) × PutsFault after.blamed before.output after.output before.handed after.handed × FailsAt steady_desk before.holds asked after.holds after.blamed
+      ⊎ (after.desk_faults ≡ before.desk_faults) × PutsPart before.holds asked after.holds before.output after.output before.handed after.handed
   pub no_memory : code ≡ NO_MEMORY → LeavesFiles before.holds asked after.holds
   pub nothing_put : code ≡ NO_MEMORY → after.output ≡ before.output
   pub one_put : code ≢ NO_MEMORY → after.puts ≡ once_more before.puts

@@ -9,7 +9,7 @@ use Rattle.fleet_model.specs.declared.parts.Settings.{Settings}
 use Rattle.fleet_model.specs.declared.tables.Tables.{Tables}
 use Rattle.plan_desk.specs.Counts.{IsOneMoreAtMost, counted}
 use Rattle.plan_desk.specs.Desk.{Files}
-use Rattle.plan_desk.specs.Sink.{AppendsPrefix, output_with}
+use Rattle.plan_desk.specs.Sink.{AppendsPrefix, handed_with, output_with}
 use Rattle.plan_desk.specs.DeskFile.{path_of}
 use Rattle.plan_desk.specs.declared.file.DeskFile.{DeskFile}
 use Rattle.plan_desk.specs.declared.file.DeskFile.TheVariants as desk_file
@@ -111,19 +111,21 @@ IsComplete told (Some (check dir settings)) code = IsSomeAnd told (λ held. Proo
 IsComplete told (Some (tails dir settings limits dates)) code = IsSomeAnd told (λ held. LegalThere held dir settings) → code ≡ DONE
 IsComplete told (Some (make dir number legs)) code = IsFlyable code
 
--- an answer that is right of some contents, all of which was put
-pub record SomeInFull (longer : Type 0) (asked : Option Asked) (code : ℕ) (before after : Option (List ℕ)) : Type 0 where
+-- an answer that is right of some contents, all of which was put, and the sink was handed nothing else
+pub record SomeInFull (longer : Type 0) (asked : Option Asked) (code : ℕ) (before after : Option (List ℕ)) (handed_before handed_after : Option ℕ) : Type 0 where
   pub answer : Answer
   pub answers : AnswersSome longer asked answer
   pub code_is : code ≡ answer.status.code
   pub put : after ≡ output_with before answer.text
+  pub handed : handed_after ≡ handed_with handed_before answer.text
 
--- all files of an answer were written, and a part of its text, from its front on, was put
-pub record PutsPart (told : Option Files) (asked : Option Asked) (stands : Option Files) (before after : Option (List ℕ)) : Type 0 where
+-- all files of an answer were written, and of its text, which the sink was handed whole, a part from its front on was put
+pub record PutsPart (told : Option Files) (asked : Option Asked) (stands : Option Files) (before after : Option (List ℕ)) (handed_before handed_after : Option ℕ) : Type 0 where
   pub answer : Answer
   pub answers : IfSome told (λ held. Answers held asked answer)
   pub written : stands ≡ held_with_texts told (folder_of asked) answer.files
   pub part : AppendsPrefix answer.text before after
+  pub handed : handed_after ≡ handed_with handed_before answer.text
 
 -- some first files of an answer were written, all of them at most, and nothing else changed
 pub record StopsWriting (told : Option Files) (asked : Option Asked) (stands : Option Files) : Type 0 where
@@ -157,11 +159,12 @@ abbrev pub CountsOneFault : ℕ → ℕ → ℕ → ℕ → Type 0
 CountsOneFault desk_before desk_after sink_before sink_after =
     (desk_after ≡ counted desk_before 1) × IsOneMoreAtMost sink_before sink_after ⊎ (desk_after ≡ desk_before) × (sink_after ≡ counted sink_before 1)
 
--- a part of the line that tells the file to blame, from its front on, was put
-pub record PutsFault (blamed : Option DeskFile) (before after : Option (List ℕ)) : Type 0 where
+-- of the line that tells the file to blame, which the sink was handed whole, a part from its front on was put
+pub record PutsFault (blamed : Option DeskFile) (before after : Option (List ℕ)) (handed_before handed_after : Option ℕ) : Type 0 where
   pub file : DeskFile
   pub blame : blamed ≡ Some file
   pub part : AppendsPrefix (fault_text file) before after
+  pub handed : handed_after ≡ handed_with handed_before (fault_text file)
 
 -- a status that refuses what was read, or the words
 abbrev pub IsRefusal : ℕ → Type 0

@@ -7,7 +7,7 @@ ghost use Rattle.command_words.specs.Words.{asked};
 ghost use Rattle.fleet_cli.specs.Written.{HaveLengths, StandsAfter, WriteFails, WritesFirst, held_with_texts};
 ghost use Rattle.fleet_cli.specs.declared.status.TheConstants.{FAULT, NO_MEMORY, USAGE};
 ghost use Rattle.plan_desk.specs.Counts.{IsOneMoreAtMost, RoseBy, counted};
-ghost use Rattle.plan_desk.specs.Sink.{AppendsPrefix, once_more, output_with};
+ghost use Rattle.plan_desk.specs.Sink.{AppendsPrefix, handed_with, once_more, output_with};
 ghost use Rattle.plan_desk.specs.declared.file.TheConstants.{TABLE_LIMIT};
 
 use crate::answer::{Answer, Failure};
@@ -46,7 +46,7 @@ pub fn run<D: Desk, S: Sink>(alloc: Global, words: &[String], desk: &mut D, out:
     // The same of a desk that tells nothing: the answer is right of some contents, and a file is called too long
     // only where more than the limit was taken.
     ensures some_answer { IsAnswered result.code (SomeInFull (RoseBy (TABLE_LIMIT + 1) (D.taken desk.old) (D.taken desk.new))
-        (asked (map string_bytes words.now)) result.code (S.output out.old) (S.output out.new)) }
+        (asked (map string_bytes words.now)) result.code (S.output out.old) (S.output out.new) (S.handed out.old) (S.handed out.new)) }
 
     // Usage comes exactly where the words ask for nothing, and its line was put.
     ensures usage { asked (map string_bytes words.now) ≡ None → IsAnswered result.code (result.code ≡ USAGE) }
@@ -65,12 +65,12 @@ pub fn run<D: Desk, S: Sink>(alloc: Global, words: &[String], desk: &mut D, out:
     ensures missing { result.code ≡ FAULT → D.is_steady desk.old → S.is_steady out.old →
         IfSome (D.holds desk.old) (BlamesMissing (asked (map string_bytes words.now)) (D.blamed desk.new)) }
 
-    // After a fault of the desk a part of its line was put and nothing else. The file to blame is one that is read, and
+    // After a fault of the desk its whole line was handed over, a part of it was put, and nothing else. The file to blame is one that is read, and
     // then no file was written; or the next file to be written, and those before it stand. Where the desk didn't fail
-    // the sink did: all files stand, and a part of the answer was put.
+    // the sink did: all files stand, the whole answer was handed over, and a part of it was put.
     ensures fault_line { result.code ≡ FAULT →
-        (D.faults desk.new ≡ counted (D.faults desk.old) 1) × PutsFault (D.blamed desk.new) (S.output out.old) (S.output out.new) × FailsAt (D.is_steady desk.old) (D.holds desk.old) (asked (map string_bytes words.now)) (D.holds desk.new) (D.blamed desk.new)
-        ⊎ (D.faults desk.new ≡ D.faults desk.old) × PutsPart (D.holds desk.old) (asked (map string_bytes words.now)) (D.holds desk.new) (S.output out.old) (S.output out.new) }
+        (D.faults desk.new ≡ counted (D.faults desk.old) 1) × PutsFault (D.blamed desk.new) (S.output out.old) (S.output out.new) (S.handed out.old) (S.handed out.new) × FailsAt (D.is_steady desk.old) (D.holds desk.old) (asked (map string_bytes words.now)) (D.holds desk.new) (D.blamed desk.new)
+        ⊎ (D.faults desk.new ≡ D.faults desk.old) × PutsPart (D.holds desk.old) (asked (map string_bytes words.now)) (D.holds desk.new) (S.output out.old) (S.output out.new) (S.handed out.old) (S.handed out.new) }
 
     // After want of memory some first files of the answer stand, or all of them; nothing else changed, and nothing was put.
     ensures no_memory { result.code ≡ NO_MEMORY → LeavesFiles (D.holds desk.old) (asked (map string_bytes words.now)) (D.holds desk.new) }
@@ -105,9 +105,10 @@ fn give<D: Desk, S: Sink>(
     ensures lengths { IsAnswered result.code (HaveLengths answer.now.files) }
     ensures stands { StandsAfter dir.now answer.now.files (D.holds desk.old) (D.holds desk.new) }
     ensures put { IsAnswered result.code (S.output out.new ≡ output_with (S.output out.old) answer.now.text) }
+    ensures handed { IsAnswered result.code (S.handed out.new ≡ handed_with (S.handed out.old) answer.now.text) }
     ensures stopped_by_fault { result.code ≡ FAULT →
-        (D.faults desk.new ≡ counted (D.faults desk.old) 1) × PutsFault (D.blamed desk.new) (S.output out.old) (S.output out.new) × WriteFails dir.now answer.now.files (D.holds desk.old) (D.holds desk.new) (D.blamed desk.new)
-        ⊎ (D.faults desk.new ≡ D.faults desk.old) × (D.holds desk.new ≡ held_with_texts (D.holds desk.old) dir.now answer.now.files) × AppendsPrefix answer.now.text (S.output out.old) (S.output out.new) }
+        (D.faults desk.new ≡ counted (D.faults desk.old) 1) × PutsFault (D.blamed desk.new) (S.output out.old) (S.output out.new) (S.handed out.old) (S.handed out.new) × WriteFails dir.now answer.now.files (D.holds desk.old) (D.holds desk.new) (D.blamed desk.new)
+        ⊎ (D.faults desk.new ≡ D.faults desk.old) × (D.holds desk.new ≡ held_with_texts (D.holds desk.old) dir.now answer.now.files) × AppendsPrefix answer.now.text (S.output out.old) (S.output out.new) × (S.handed out.new ≡ handed_with (S.handed out.old) answer.now.text) }
     ensures stopped_by_memory { result.code ≡ NO_MEMORY → WritesFirst dir.now answer.now.files (D.holds desk.old) (D.holds desk.new) }
     ensures nothing_put { result.code ≡ NO_MEMORY → S.output out.new ≡ S.output out.old }
     ensures one_fault { result.code ≡ FAULT → CountsOneFault (D.faults desk.old) (D.faults desk.new) (S.faults out.old) (S.faults out.new) }
@@ -131,6 +132,7 @@ fn put_answer<S: Sink>(out: &mut S, text: &[u8], status: Status) -> Status
     ensures status { IsAnswered result.code (result ≡ status) }
     ensures put { IsAnswered result.code (S.output out.new ≡ output_with (S.output out.old) text.now) }
     ensures part { AppendsPrefix text.now (S.output out.old) (S.output out.new) }
+    ensures handed { S.handed out.new ≡ handed_with (S.handed out.old) text.now }
     ensures nothing_put { result.code ≡ NO_MEMORY → S.output out.new ≡ S.output out.old }
     ensures one_fault { result.code ≡ FAULT → S.faults out.new ≡ counted (S.faults out.old) 1 }
     ensures quiet { result.code ≢ FAULT → S.faults out.new ≡ S.faults out.old }
@@ -148,7 +150,7 @@ fn put_answer<S: Sink>(out: &mut S, text: &[u8], status: Status) -> Status
 fn put_fault<D: Desk, S: Sink>(desk: &D, out: &mut S) -> Status
     requires { IsSome (D.blamed desk.now) }
     ensures status { result.code ≡ FAULT }
-    ensures put { PutsFault (D.blamed desk.now) (S.output out.old) (S.output out.new) }
+    ensures put { PutsFault (D.blamed desk.now) (S.output out.old) (S.output out.new) (S.handed out.old) (S.handed out.new) }
     ensures one_fault { IsOneMoreAtMost (S.faults out.old) (S.faults out.new) }
     ensures one_put { S.puts out.new ≡ once_more (S.puts out.old) }
 {

@@ -67,6 +67,10 @@ put_bytes_of sink = sink.output.items
 abbrev pub puts_of : MemorySink → ℕ
 puts_of sink = sink.plan.made
 
+-- how many bytes the puts were handed
+abbrev pub handed_of : MemorySink → ℕ
+handed_of sink = sink.handed
+
 -- the puts that are to fail
 abbrev pub failing_puts_of : MemorySink → List FailingCall
 failing_puts_of sink = sink.plan.failing.items

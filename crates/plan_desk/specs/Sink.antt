@@ -1,5 +1,5 @@
 -- How a put changes the output, and facts by a sink's answer.
-use Rattle.std.specs.Prelude.{◌≡◌, ℕ, List, ◌++◌, take, Option, option_map, Result, Ok, Err}
+use Rattle.std.specs.Prelude.{◌≡◌, ℕ, List, ◌++◌, length, take, Option, option_map, Result, Ok, Err}
 use Rattle.std.specs.Io.KnownBytes.{Appends}
 use Rattle.plan_desk.specs.Counts.{counted}
 use Rattle.plan_desk.specs.declared.sink.SinkError.{SinkError}
@@ -16,6 +16,10 @@ AppendsPrefix piece old new = (n : ℕ) × (new ≡ output_with old (take n piec
 -- one put more than before, where the sink counts them
 abbrev pub once_more : Option ℕ → Option ℕ
 once_more puts = option_map (λ n. counted n 1) puts
+
+-- a piece's bytes more than before, where the sink counts those that it is handed
+abbrev pub handed_with : Option ℕ → List ℕ → Option ℕ
+handed_with handed piece = option_map (λ n. counted n (length piece)) handed
 
 -- what a writer of std holds, where that is known, grew by some first bytes of the piece, and by no others
 abbrev pub TakesFront : Option (List ℕ) → Option (List ℕ) → List ℕ → Type 0

@@ -1,8 +1,8 @@
-ghost use Rattle.std.specs.Prelude.{◌≡◌, ◌+◌, ◌≤◌, ◌↔◌, ℕ, List, [], ◌++◌, Option, Some, OnOk, OnErr, ⊤};
+ghost use Rattle.std.specs.Prelude.{◌≡◌, ◌+◌, ◌≤◌, ◌↔◌, ℕ, List, [], ◌++◌, Option, Some, length, OnOk, OnErr, ⊤};
 ghost use Rattle.plan_desk.specs.Counts.{counted};
 ghost use Rattle.plan_desk.specs.Sink.{output_with, AppendsPrefix, MatchPutFailed, OnPutFailed, OnPutNoMemory, IsPutFailed, IsPutNotFailed};
 ghost use Rattle.plan_desk.specs.Failing.{IsListed};
-ghost use Rattle.plan_desk.specs.Memory.{put_bytes_of, puts_of, failing_puts_of, put_faults_of, put_had_no_memory, IsPutToFail, IsCutPut};
+ghost use Rattle.plan_desk.specs.Memory.{put_bytes_of, puts_of, handed_of, failing_puts_of, put_faults_of, put_had_no_memory, IsPutToFail, IsCutPut};
 
 use crate::counts::count_up;
 use crate::failing::{CallPlan, first_bytes};
@@ -10,11 +10,13 @@ use crate::{FailingCall, Sink, SinkError};
 
 /// A sink that keeps the output in memory. It tells what was put, and puts of its own choice fail, for tests.
 ///
-/// Puts are counted from 1. A put that is to fail appends its first bytes, as many as the list says.
+/// Puts are counted from 1, and so are the bytes that they are handed. A put that is to fail appends its first bytes, as
+/// many as the list says.
 #[derive(Debug, Drop)]
 pub struct MemorySink {
     output: Vec<u8>,
     plan: CallPlan,
+    handed: u64,
     faults: u64,
     no_memory: bool,
 }
@@ -26,6 +28,7 @@ impl MemorySink {
         ensures failing { failing_puts_of result ≡ failing.items }
         ensures puts { puts_of result ≡ 0 }
         ensures counts { ⟦<MemorySink as Sink>⟧.puts result ≡ Some 0 }
+        ensures handed { ⟦<MemorySink as Sink>⟧.handed result ≡ Some 0 }
         ensures tells { ⟦<MemorySink as Sink>⟧.output result ≡ Some [] }
         ensures faults { ⟦<MemorySink as Sink>⟧.faults result ≡ 0 }
         ensures fails_next { ⟦<MemorySink as Sink>⟧.fails_next result ↔ IsListed 1 failing.items }
@@ -34,6 +37,7 @@ impl MemorySink {
         MemorySink {
             output: Vec::new(*failing.allocator()),
             plan: CallPlan::new(failing),
+            handed: 0,
             faults: 0,
             no_memory: false,
         }
@@ -59,6 +63,8 @@ impl Sink for MemorySink {
 
     ghost puts = { λ sink. Some (puts_of sink) };
 
+    ghost handed = { λ sink. Some (handed_of sink) };
+
     ghost faults = { put_faults_of };
 
     ghost fails_next = { IsPutToFail };
@@ -77,9 +83,11 @@ impl Sink for MemorySink {
         ensures planned { IsPutToFail self.old → IsPutFailed result }
         ensures failed_only { OnPutFailed result (IsPutToFail self.old) }
         ensures puts { puts_of self.new ≡ counted (puts_of self.old) 1 }
+        ensures handed { handed_of self.new ≡ counted (handed_of self.old) (length bytes.now) }
         ensures failing { failing_puts_of self.new ≡ failing_puts_of self.old }
         ensures no_memory { MatchPutFailed result ⊤ (put_had_no_memory self.new ≡ put_had_no_memory self.old) }
     {
+        count_up(&mut self.handed, bytes.len() as u64);
         if let Some(count) = self.plan.next_failing() {
             let left = first_bytes(bytes, count);
             self.no_memory = self.output.extend_from_slice(left).is_err();

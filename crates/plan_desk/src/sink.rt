@@ -1,7 +1,7 @@
 ghost use Rattle.std.specs.Prelude.{◌≡◌, ◌≤◌, ℕ, List, Option, OnOk, OnErr};
 ghost use Rattle.plan_desk.specs.declared.sink.SinkError.TheVariants.{NoMemory};
 ghost use Rattle.plan_desk.specs.Counts.{counted};
-ghost use Rattle.plan_desk.specs.Sink.{output_with, once_more, AppendsPrefix, MatchPutFailed, OnPutNoMemory, IsPutFailed, IsPutNotFailed};
+ghost use Rattle.plan_desk.specs.Sink.{handed_with, output_with, once_more, AppendsPrefix, MatchPutFailed, OnPutNoMemory, IsPutFailed, IsPutNotFailed};
 
 use std::alloc::AllocError;
 use thiserror::Error;
@@ -36,6 +36,10 @@ pub trait Sink {
     /// How many puts were made, where the sink counts them. The count stays at 2^64 - 1 once there.
     ghost puts: { Self → Option ℕ };
 
+    /// How many bytes the sink was handed, whatever became of them, where it counts them. The count stays at 2^64 - 1 once
+    /// there.
+    ghost handed: { Self → Option ℕ };
+
     /// How many faults were counted.
     ghost faults: { Self → ℕ };
 
@@ -51,6 +55,7 @@ pub trait Sink {
         ensures prefix { OnErr result (AppendsPrefix bytes.now (output self.old) (output self.new)) }
         ensures unchanged { OnPutNoMemory result (output self.new ≡ output self.old) }
         ensures puts { puts self.new ≡ once_more (puts self.old) }
+        ensures handed { handed self.new ≡ handed_with (handed self.old) bytes.now }
 
         ensures faults { MatchPutFailed result (faults self.new ≡ counted (faults self.old) 1) (faults self.new ≡ faults self.old) }
         ensures faults_never_fall { faults self.old ≤ faults self.new }

@@ -44,6 +44,8 @@ impl<W: Write> Sink for WriterSink<W> {
 
     ghost puts = { λ sink. None };
 
+    ghost handed = { λ sink. None };
+
     ghost faults = { faults_counted };
 
     ghost fails_next = { λ sink. ⊥ };

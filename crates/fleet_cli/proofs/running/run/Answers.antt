@@ -24,7 +24,7 @@ returns-in-Ok-clause-files g c = keeps_others _ (asked (map string_bytes c.args.
 pub returns-in-Ok-clause-fault_line : goal.returns-in-Ok-clause-fault_line
 returns-in-Ok-clause-fault_line g c = λ fault. elim (c.give.ensures.stopped_by_fault fault) [
   | inl stopped ↦ inl (rw c.in-Ok.ensures.faults at stopped.0, stopped.1, inr (record { answer = c.in-Ok.reply.answer; answers = c.in-Ok.ensures.told; part = rw (c.in-Ok.ensures.folder, c.in-Ok.ensures.holds) at stopped.2 }))
-  | inr put ↦ inr (put.0 ∙ c.in-Ok.ensures.faults, record { answer = c.in-Ok.reply.answer; answers = c.in-Ok.ensures.told; written = rw (c.in-Ok.ensures.folder, c.in-Ok.ensures.holds) at put.1; part = put.2 })
+  | inr put ↦ inr (put.0 ∙ c.in-Ok.ensures.faults, record { answer = c.in-Ok.reply.answer; answers = c.in-Ok.ensures.told; written = rw (c.in-Ok.ensures.folder, c.in-Ok.ensures.holds) at put.1; part = put.2; handed = put.3 })
 ]
 
 pub returns-in-Ok-clause-headline : goal.returns-in-Ok-clause-headline
