@@ -1,4 +1,4 @@
-ghost use Rattle.std.specs.Prelude.{◌≡◌, ◌+◌, ◌-◌, ◌<◌, ◌≤◌, ◌^◌, ◌⊎◌, ◌↔◌, ℕ, List, [], Option, Some, None, length, option_copied, string_bytes, IsSome, IsNone, IfSome, IsSomeAnd, IfOk, OnOk, OnErr, ⊤};
+ghost use Rattle.std.specs.Prelude.{◌≡◌, ◌+◌, ◌-◌, ◌<◌, ◌≤◌, ◌^◌, ◌⊎◌, ◌↔◌, ℕ, false, List, [], Option, Some, None, length, option_copied, string_bytes, IsSome, IsNone, IfSome, IsSomeAnd, IfOk, OnOk, OnErr, ⊤};
 ghost use Rattle.std.proofs.Common.{rules};
 ghost use Rattle.plan_desk.specs.DeskFile.{path_of};
 ghost use Rattle.plan_desk.specs.Counts.{counted, RoseBy};
@@ -39,6 +39,7 @@ impl MemoryDesk {
         ensures files { IfOk result (λ desk. files_of desk ≡ laid_down files.items) }
         ensures failing { IfOk result (λ desk. failing_of desk ≡ failing.items) }
         ensures calls { IfOk result (λ desk. calls_of desk ≡ 0) }
+        ensures no_memory { IfOk result (λ desk. had_no_memory desk ≡ false) }
         ensures holds { IfOk result (λ desk. ⟦<MemoryDesk as Desk>⟧.holds desk ≡ Some (laid_down files.items)) }
         ensures faults { IfOk result (λ desk. ⟦<MemoryDesk as Desk>⟧.faults desk ≡ 0) }
         ensures blamed { IfOk result (λ desk. ⟦<MemoryDesk as Desk>⟧.blamed desk ≡ None) }

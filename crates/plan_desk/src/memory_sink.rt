@@ -1,4 +1,4 @@
-ghost use Rattle.std.specs.Prelude.{◌≡◌, ◌+◌, ◌≤◌, ◌↔◌, ℕ, List, [], ◌++◌, Option, Some, length, OnOk, OnErr, ⊤};
+ghost use Rattle.std.specs.Prelude.{◌≡◌, ◌+◌, ◌≤◌, ◌↔◌, ℕ, false, List, [], ◌++◌, Option, Some, length, OnOk, OnErr, ⊤};
 ghost use Rattle.plan_desk.specs.Counts.{counted};
 ghost use Rattle.plan_desk.specs.Sink.{output_with, AppendsPrefix, MatchPutFailed, OnPutFailed, OnPutNoMemory, IsPutFailed, IsPutNotFailed};
 ghost use Rattle.plan_desk.specs.Failing.{IsListed};
@@ -27,6 +27,7 @@ impl MemorySink {
         ensures output { put_bytes_of result ≡ [] }
         ensures failing { failing_puts_of result ≡ failing.items }
         ensures puts { puts_of result ≡ 0 }
+        ensures no_memory { put_had_no_memory result ≡ false }
         ensures counts { ⟦<MemorySink as Sink>⟧.puts result ≡ Some 0 }
         ensures handed { ⟦<MemorySink as Sink>⟧.handed result ≡ Some 0 }
         ensures tells { ⟦<MemorySink as Sink>⟧.output result ≡ Some [] }
