@@ -10,7 +10,7 @@ use Rattle.fleet_model.specs.declared.tables.Tables.{Tables}
 use Rattle.dual_bound.specs.declared.trees.Tree.{Tree}
 use Rattle.dual_bound.specs.declared.trees.Tree.TheVariants as tree
 use Rattle.node_bounding.specs.Examined.{IsDoneLeaf}
-use Rattle.branch_bound.specs.History.{AreGathered, AreLinked, Chronicle, ComesTo, IsDone, IsGrownTree, IsReachedNode, IsRightAt, IsSingle, gathered, gathered_at, prices_above}
+use Rattle.branch_bound.specs.History.{AreGathered, AreLinked, Chronicle, ComesTo, IsDone, IsGrownTree, IsReachedNode, IsRightAt, IsSingle, IsTold, gathered, gathered_at, prices_above}
 use Rattle.branch_bound.specs.Ranks.{IsOver, IsReachedBy, IsWaitingAt}
 use Rattle.node_bounding.specs.Subproblems.{IsFractional, IsNoMore, IsRight, cost_of, node_of}
 use Rattle.branch_bound.specs.Search.{at}
@@ -88,7 +88,7 @@ module _ (t : Tables) (nodes pivots : ℕ) (root : Domains) (s : Search) (done :
     count = length all;
     twice = done.search.count;
     chronicle = c;
-    told = done.search.told;
+    told = subst (λ p. IsTold t p s.best (length all) c) done.pivots_allowed done.search.told;
     grown = grown;
     over = over done.over;
   })

@@ -69,13 +69,13 @@ IsFound t (solved.Infeasible tree) = ⊤
 IsFound t (solved.Unsettled bound tree) = ⊤
 
 -- The tree as the search left it, with so many pivots allowed for each subproblem, whose cheapest plan has this cost. Its
--- nodes keep all rules, its leaves and splits have their causes, and in the end open leaves were closed whose rounded
--- worth reaches the cost.
+-- nodes keep all rules, its leaves and splits have their causes, its subproblems were made one by one, and in the end open
+-- leaves were closed whose rounded worth reaches the cost.
 pub record IsLeft (t : Tables) (pivots : ℕ) (cost : Option ℤ) (tree : Tree) : Type 0 where
   pub left : Tree
   pub sound : AreSound t cost (all_pairs t) left
   pub caused : AreCaused t pivots (all_pairs t) (zero_prices t) left
-  pub made : AreMade t cost left
+  pub made : AreMade t pivots cost left
   pub closed : tree ≡ closed_by t cost left
 
 -- No split has a greater rounded worth than a leaf that is open for splits, or than the plan costs.

@@ -1,5 +1,5 @@
 -- What the second run over the lines of a subproblem, and the lift of its last table, settle.
-use Rattle.std.proofs.Common.{◌≡◌, ℕ, List, Option, Some, None, Result, Ok, Err, IfOk, IfErr, IsSomeAnd, refl, sym, subst}
+use Rattle.std.proofs.Common.{◌≡◌, ℕ, List, Option, Some, None, Result, Ok, Err, IfOk, IfErr, IsSomeAnd, inr, refl, sym, subst}
 use mathlib.Core.Bool.{false≢true}
 use Rattle.std.specs.Prelude.{IsErr}
 use Rattle.entries.specs.declared.memory.NoMemory.{NoMemory}
@@ -25,8 +25,10 @@ use Rattle.price_lift.specs.Ends.{EndsByRow, EndsBySigns}
 use Rattle.price_lift.specs.Lifted.{AreLiftedPrices, IsLiftedPoint, IsLiftedRefusal}
 use Rattle.price_lift.specs.TooLarge.{row_excess, sign_excess}
 use Rattle.price_lift.specs.declared.lift.Lifted.{Lifted}
-use Rattle.node_bounding.specs.Relaxed.{AreGood}
-use Rattle.node_bounding.specs.SecondRun.{IsTried, IsTriedAtBest, IsTriedAtRefusal, SecondEnds, SettlesNothing}
+use Rattle.node_bounding.specs.Relaxed.{AreGood, IsRelaxed}
+use Rattle.node_bounding.specs.RunPrices.{IsPricedBySecond}
+use Rattle.node_bounding.specs.Runs.{SecondEnds}
+use Rattle.node_bounding.specs.SecondRun.{IsTried, IsTriedAtBest, IsTriedAtRefusal, SettlesNothing}
 use Rattle.node_bounding.specs.declared.relaxing.Relaxed.{Relaxed}
 use Rattle.node_bounding.specs.declared.relaxing.Relaxed.TheVariants as relaxed
 use Rattle.node_bounding.proofs.SignEnds.{best_by_signs, refused_by_row}
@@ -56,16 +58,16 @@ module _ (t : Tables) (keeps : Domains) (steps : ℕ) where
   unsettled : (table : List FracRow) (found : Outcome) (r : Result (Option Relaxed) NoMemory) → SecondEnds t keeps steps table found → SettlesNothing t keeps table found → r ≡ Ok None → Tries r
   unsettled table found r ends nothing is = subst Tries (sym is) (record { table = table; found = found; ends = ends; nothing = nothing })
 
-  by_mixed : (prices : Prices) (m : Option Mixed) (r : Result (Option Relaxed) NoMemory) → AreGood t prices → IsSomeAnd m (IsMixedOf t) → IsSomeAnd m (IsMixedInOrder t) → IsSomeAnd m (IsMixedAt t keeps) → IsSomeAnd m (IsWorth t keeps prices)
-      → IsSomeAnd m (λ mixed. r ≡ Ok (Some (relaxed.Bounded prices mixed))) → Tries r
-  by_mixed prices None r good known in_order at value is = absurd is
-  by_mixed prices (Some mixed) r good known in_order at value is =
-      subst Tries (sym is) (record { good = good; known = known; in_order = in_order; mixed_at = at; value = value })
+  by_mixed : (prices : Prices) (m : Option Mixed) (r : Result (Option Relaxed) NoMemory) → AreGood t prices → IsPricedBySecond t keeps steps prices
+      → IsSomeAnd m (IsMixedOf t) → IsSomeAnd m (IsMixedInOrder t) → IsSomeAnd m (IsMixedAt t keeps) → IsSomeAnd m (IsWorth t keeps prices) → IsSomeAnd m (λ mixed. r ≡ Ok (Some (relaxed.Bounded prices mixed))) → Tries r
+  by_mixed prices None r good priced known in_order at value is = absurd is
+  by_mixed prices (Some mixed) r good priced known in_order at value is =
+      subst Tries (sym is) (record { good = good; known = known; in_order = in_order; mixed_at = at; value = value }, priced)
 
   best_tries : (table : List FracRow) (basis : List ℕ) (made : ℕ) (lifted : Result Lifted LiftError) (r : Result (Option Relaxed) NoMemory) → SecondEnds t keeps steps table (outcome.Best basis made)
       → IfOk lifted (IsLiftedPoint t keeps table basis (sign_duals t table)) → IfErr lifted (IsLiftErrorBy t keeps (sign_excess t keeps table basis)) → IsTriedAtBest lifted r → Tries r
   best_tries table basis made (Ok l) r ends is excess found =
-      by_mixed l.prices l.mixed r (good t keeps _ l.prices is.prices) is.known is.weights_in_order is.plan is.value found
+      by_mixed l.prices l.mixed r (good t keeps _ l.prices is.prices) (record { table = table; basis = basis; made = made; run = ends; lifted = is.prices }) is.known is.weights_in_order is.plan is.value found
   best_tries table basis made (Err (lift.TooLarge step at)) r ends is excess found =
       unsettled table (outcome.Best basis made) r ends (record { step = step; at = at }, excess) found
   best_tries table basis made (Err lift.NoMemory) r ends is excess found = none_tries r found
@@ -73,7 +75,10 @@ module _ (t : Tables) (keeps : Domains) (steps : ℕ) where
   refusal_tries : (table : List FracRow) (row : ℕ) (basis : List ℕ) (made : ℕ) (lifted : Result Lifted LiftError) (r : Result (Option Relaxed) NoMemory) → SecondEnds t keeps steps table (outcome.Refused row basis made) → ((l : ℕ) → ¬ (IsBare t keeps l))
       → IfOk lifted (IsLiftedRefusal t keeps (row_duals t table row)) → IfErr lifted (IsLiftErrorBy t keeps (row_excess t keeps table row)) → IsTriedAtRefusal lifted r → Tries r
   refusal_tries table row basis made (Ok l) r ends pairs is excess found =
-      subst Tries (sym found) (record { good = good t keeps _ l.prices is.prices; refute = is.refutes pairs })
+      subst Tries (sym found) (
+        record { good = good t keeps _ l.prices is.prices; refute = is.refutes pairs },
+        record { table = table; row = row; basis = basis; made = made; run = ends; lifted = is.prices },
+      )
   refusal_tries table row basis made (Err (lift.TooLarge step at)) r ends pairs is excess found =
       unsettled table (outcome.Refused row basis made) r ends (record { step = step; at = at }, excess) found
   refusal_tries table row basis made (Err lift.NoMemory) r ends pairs is excess found = none_tries r found
@@ -97,3 +102,9 @@ module _ (t : Tables) (keeps : Domains) (steps : ℕ) (table : List FracRow) (fo
       → IfOk lifted (IsLiftedRefusal t keeps (row_duals t table row)) → IfErr lifted (IsLiftErrorBy t keeps (row_excess t keeps table row)) → IsTriedAtRefusal lifted r → IfOk r (IsTried t keeps steps)
   after_refusal lifted row basis made r e pairs is excess tried =
       refusal_tries t keeps steps table row basis made lifted r (subst (SecondEnds t keeps steps table) e has) pairs is excess tried
+
+-- what the second run settles is settled
+pub tried_relaxes : (t : Tables) (keeps : Domains) (pivots : ℕ) (found : Relaxed) → IsTried t keeps pivots (Some found) → IsRelaxed t keeps pivots found
+tried_relaxes t keeps pivots (relaxed.Refuted prices) tried = (tried.0, inr tried.1)
+tried_relaxes t keeps pivots (relaxed.Bounded prices mixed) tried = (tried.0, inr tried.1)
+tried_relaxes t keeps pivots (relaxed.Stopped why) tried = absurd tried

@@ -4,10 +4,6 @@ use Rattle.entries.specs.declared.memory.NoMemory.{NoMemory}
 use Rattle.fleet_model.specs.Kept.{Domains}
 use Rattle.fleet_model.specs.declared.tables.Tables.{Tables}
 use Rattle.frac_row.specs.declared.row.FracRow.{FracRow}
-use Rattle.row_store.specs.Problem.{IsProblem, first_table}
-use Rattle.row_store.specs.declared.problem.Rows.{Rows}
-use Rattle.lp_rows.specs.Points.{AreLinesOf}
-use Rattle.dual_simplex.specs.Outcomes.{IsOutcome}
 use Rattle.dual_simplex.specs.declared.outcome.Outcome.{Outcome}
 use Rattle.dual_simplex.specs.declared.outcome.Outcome.TheVariants as outcome
 use Rattle.dual_lift.specs.declared.error.LiftError.{LiftError}
@@ -17,15 +13,10 @@ use Rattle.price_lift.specs.PaidBack.{IsFirstBy}
 use Rattle.price_lift.specs.TooLarge.{row_excess, sign_excess}
 use Rattle.price_lift.specs.declared.lift.Lifted.{Lifted}
 use Rattle.node_bounding.specs.Relaxed.{AreBest, AreRefuting}
+use Rattle.node_bounding.specs.RunPrices.{IsPricedBySecond, IsRefutedBySecond}
+use Rattle.node_bounding.specs.Runs.{SecondEnds}
 use Rattle.node_bounding.specs.declared.relaxing.Relaxed.{Relaxed}
 use Rattle.node_bounding.specs.declared.relaxing.Relaxed.TheVariants as relaxed
-
--- a run by the dual simplex method over some lines of the subproblem, with so many steps allowed, ends so at this table
-pub record SecondEnds (t : Tables) (keeps : Domains) (steps : ℕ) (table : List FracRow) (found : Outcome) : Type 0 where
-  pub rows : Rows
-  pub problem : IsProblem rows
-  pub lines : AreLinesOf t keeps rows
-  pub ends : IsOutcome (first_table rows) rows.columns steps table found
 
 -- an end that settles nothing: the run gave up, or a number is too large on the way from its table to prices and weights
 abbrev pub SettlesNothing : Tables → Domains → List FracRow → Outcome → Type 0
@@ -42,11 +33,11 @@ pub record IsUnsettled (t : Tables) (keeps : Domains) (steps : ℕ) : Type 0 whe
   pub ends : SecondEnds t keeps steps table found
   pub nothing : SettlesNothing t keeps table found
 
--- prices that refute the subproblem; or its best fractional assignment, with prices that are worth as much; or nothing,
--- where the run settles nothing. It never tells why a subproblem is left open
+-- Prices that refute the subproblem; or its best fractional assignment, with prices that are worth as much; or nothing,
+-- where the run settles nothing. The prices are those of its last table. It never tells why a subproblem is left open.
 abbrev pub IsTried : Tables → Domains → ℕ → Option Relaxed → Type 0
-IsTried t keeps steps (Some (relaxed.Refuted prices)) = AreRefuting t keeps prices
-IsTried t keeps steps (Some (relaxed.Bounded prices mixed)) = AreBest t keeps prices mixed
+IsTried t keeps steps (Some (relaxed.Refuted prices)) = AreRefuting t keeps prices × IsRefutedBySecond t keeps steps prices
+IsTried t keeps steps (Some (relaxed.Bounded prices mixed)) = AreBest t keeps prices mixed × IsPricedBySecond t keeps steps prices
 IsTried t keeps steps (Some (relaxed.Stopped why)) = ⊥
 IsTried t keeps steps None = IsUnsettled t keeps steps
 

@@ -3,7 +3,8 @@
 ghost use Rattle.std.specs.Prelude.{◌≡◌, ℕ, IfOk, IsSome};
 ghost use Rattle.fleet_model.specs.Kept.{IsBare, kept_by};
 ghost use Rattle.lp_rows.specs.Outline.{IsOutline};
-ghost use Rattle.node_bounding.specs.SecondRun.{IsGivenUp, IsTried, IsTriedAtBest, IsTriedAtRefusal, SecondEnds};
+ghost use Rattle.node_bounding.specs.Runs.{SecondEnds};
+ghost use Rattle.node_bounding.specs.SecondRun.{IsGivenUp, IsTried, IsTriedAtBest, IsTriedAtRefusal};
 
 use crate::relaxing::Relaxed;
 use dual_lift::LiftError;
