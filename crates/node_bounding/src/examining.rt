@@ -26,7 +26,8 @@ use frac_row::ceil_div;
 use std::alloc::Global;
 
 /// Examines a subproblem, whose nearest split above has these prices, with at most so many pivots. A plan that is found
-/// at it takes the place of the best one where it is cheaper. One with a bare leg, or with one assignment, takes no memory.
+/// at it takes the place of the best one where it is cheaper, and where memory is wanting the best one is as it was. A
+/// subproblem with a bare leg, or with one assignment, takes no memory.
 pub fn examine(
     alloc: Global,
     tables: &Tables,
@@ -39,6 +40,7 @@ pub fn examine(
     requires allowed { KeepAllowed tables.now (kept_by kept.now) }
     requires above { AreGood tables.now above.now }
     ensures examined { IfOk result (IsExamined tables.now pivots best.old best.new (kept_by kept.now) above.now) }
+    ensures unchanged { OnErr result (best.new ≡ best.old) }
     ensures memory { OnErr result (IsSearched tables.now (kept_by kept.now)) }
 {
     if let Some(leg) = kept.bare_leg(tables) {
