@@ -1,7 +1,11 @@
 pub mod AfterDashes
 pub mod Civil
+pub mod Entered
+pub mod Fails
 pub mod Match
 pub mod Numbers
+pub mod OtherWords
+pub mod OwnOptions
 pub mod PlainFolder
 pub mod PlainMake
 pub mod PlainTails

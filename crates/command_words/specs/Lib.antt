@@ -2,5 +2,6 @@ pub mod Arguments
 pub mod Days
 pub mod Laws
 pub mod Program
+pub mod Refusals
 pub mod Values
 pub mod Words

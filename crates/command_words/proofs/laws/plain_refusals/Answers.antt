@@ -1,0 +1,12 @@
+use Rattle.command_words.proofs.OtherWords.{name_alone, no_words, other_words}
+use Rattle.command_words.proofs.OwnOptions.{json_without_value, own_options}
+use Rattle.command_words.proofs.laws.plain_refusals.Goals as goal
+
+pub returns : goal.returns
+returns c = record {
+  no_words = no_words;
+  name_alone = name_alone;
+  other_words = other_words;
+  own_options = own_options;
+  json_without_value = json_without_value;
+}
