@@ -2,6 +2,7 @@ pub mod AfterDashes
 pub mod Civil
 pub mod Entered
 pub mod Fails
+pub mod GivenRows
 pub mod Match
 pub mod Numbers
 pub mod OtherWords
@@ -10,3 +11,4 @@ pub mod PlainFolder
 pub mod PlainMake
 pub mod PlainTails
 pub mod PlainWords
+pub mod Twice

@@ -57,12 +57,12 @@ TakesNoValue command flag = (program value : Text) (before after : List Text) �
 -- the option is refused where it is given twice before `--`, whatever its values
 abbrev pub TakesOnce : Text → Text → Type 0
 TakesOnce command option = (program one two : Text) (before between after : List Text) → has_dashes before ≡ false → has_dashes between ≡ false
-    → asked (program ∷ command ∷ before ++ (codes "--" ++ option ++ codes "=" ++ one) ∷ between ++ (codes "--" ++ option ++ codes "=" ++ two) ∷ after) ≡ None
+    → asked (program ∷ command ∷ before ++ (codes "--" ++ option ++ codes "=" ++ one) ∷ (between ++ (codes "--" ++ option ++ codes "=" ++ two) ∷ after)) ≡ None
 
 -- and so is the flag
 abbrev pub TakesFlagOnce : Text → Text → Type 0
 TakesFlagOnce command flag = (program : Text) (before between after : List Text) → has_dashes before ≡ false → has_dashes between ≡ false
-    → asked (program ∷ command ∷ before ++ (codes "--" ++ flag) ∷ between ++ (codes "--" ++ flag) ∷ after) ≡ None
+    → asked (program ∷ command ∷ before ++ (codes "--" ++ flag) ∷ (between ++ (codes "--" ++ flag) ∷ after)) ≡ None
 
 -- ---- the commands' options
 

@@ -3,7 +3,7 @@ ghost use Rattle.std.specs.Prelude.{◌≡◌, true, codes};
 ghost use Rattle.clap.specs.Words.{is_simple_and_free};
 ghost use Rattle.command_words.specs.Laws.{ChecksByDefault, ChecksFrom, ChecksPlainly, JudgesByDefault, JudgesFrom, JudgesPlainly, MakesByDefault, MakesPlainly, MakesWithoutOptions, SolvesByDefault, SolvesPlainly, SolvesWithin, TailsByDefault, TailsPlainly, TailsWithin};
 ghost use Rattle.command_words.specs.Program.{our_app};
-ghost use Rattle.command_words.specs.Refusals.{NameAloneAsksNothing, NoWordsAskNothing, OtherWordsAskNothing, TakeOwnOptions, TakesNoValue};
+ghost use Rattle.command_words.specs.Refusals.{NameAloneAsksNothing, NoWordsAskNothing, OtherWordsAskNothing, TakeOptionsOnce, TakeOwnOptions, TakesNoValue};
 ghost use Rattle.command_words.specs.declared.command.TheConstants.{DEFAULT_DAY_START, DEFAULT_DAYS, DEFAULT_NODES, DEFAULT_PIVOTS, DEFAULT_THROUGH_MAX, DEFAULT_VISITS, MAX_DATES, MAX_DAYS, MAX_MADE_LEGS, MAX_NODES, MAX_NUMBER, MAX_PIVOTS, MAX_THROUGH_MAX, MAX_VISITS, MIN_DATES, MIN_DAYS};
 
 /// The command line is of the kind for which clap's definition of a match is exact: by it alone clap tells a match
@@ -32,13 +32,14 @@ pub fn plain_reading()
     ensures makes_without_options { MakesWithoutOptions }
 {}
 
-/// What asks for nothing, whatever other words stand there: no command, another option than the command's own, and a
-/// value for `--json`.
+/// What asks for nothing, whatever other words stand there: no command, another option than the command's own, one
+/// that is given twice, and a value for `--json`.
 pub fn plain_refusals()
     ensures no_words { NoWordsAskNothing }
     ensures name_alone { NameAloneAsksNothing }
     ensures other_words { OtherWordsAskNothing }
     ensures own_options { TakeOwnOptions }
+    ensures options_once { TakeOptionsOnce }
     ensures json_without_value { TakesNoValue (codes "solve") (codes "json") }
 {}
 

@@ -1,5 +1,6 @@
 use Rattle.command_words.proofs.OtherWords.{name_alone, no_words, other_words}
 use Rattle.command_words.proofs.OwnOptions.{json_without_value, own_options}
+use Rattle.command_words.proofs.Twice.{options_once}
 use Rattle.command_words.proofs.laws.plain_refusals.Goals as goal
 
 pub returns : goal.returns
@@ -8,5 +9,6 @@ returns c = record {
   name_alone = name_alone;
   other_words = other_words;
   own_options = own_options;
+  options_once = options_once;
   json_without_value = json_without_value;
 }
