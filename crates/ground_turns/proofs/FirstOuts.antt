@@ -43,7 +43,7 @@ last_before p x q d m h = elim (cases_eq m q) [
     at_last : (p : Bool) (x q d m : ℕ) → m ≡ q → p ≡ true → x ≡ d → bit (p && is_before x q d m) + bit (m == q) ≤ bit (p && nat_le x d)
     at_last p x q d m same passes equal = grind (arith, nat_tests)
 
-all_before : (p : Bool) (x q d r l : ℕ) → d < r → bit (p && nat_le x d) ≤ bit (p && is_before x q r l)
+pub all_before : (p : Bool) (x q d r l : ℕ) → d < r → bit (p && nat_le x d) ≤ bit (p && is_before x q r l)
 all_before p x q d r l less = grind (arith, nat_tests)
 
 and_le : (b c d : Bool) → (b ≡ true → c ≡ true → d ≡ true) → bit (b && c) ≤ bit (b && d)
@@ -56,7 +56,7 @@ module _ (t : Tables) (a : List ℕ) (f : ℕ) (given turns : List Connection) (
   crossings = free_crossings t a f given turns map holds
 
   -- no more cross than there are
-  few_cross : (s : ℕ) → crossings s ≤ free_landings t a f given s
+  pub few_cross : (s : ℕ) → crossings s ≤ free_landings t a f given s
   unfolding free_crossings
   few_cross s =
       let less = sum_below-le (λ k. bit (there t a f given turns map holds s k && crosses t f (turn_at turns k))) (λ k. bit (there t a f given turns map holds s k)) (length turns)
@@ -64,11 +64,11 @@ module _ (t : Tables) (a : List ℕ) (f : ℕ) (given turns : List Connection) (
       omega (arith, less, all_there t a f given turns map holds s)
 
   -- the legs of a free turn are free
-  lands_free : (k : ℕ) → k < length turns → is_free t a f given turns map holds k ≡ true → is_free_landing t a f given (station_at t (turn_at turns k)) (turn_at turns k).arriving ≡ true
+  pub lands_free : (k : ℕ) → k < length turns → is_free t a f given turns map holds k ≡ true → is_free_landing t a f given (station_at t (turn_at turns k)) (turn_at turns k).arriving ≡ true
   unfolding is_free
   lands_free k lt free = and_from _ _ (and_from _ _ (eq-eqb _ _ (map.each k lt).comes_on) (eq-eqb _ _ refl)) free
 
-  departs_free : (k : ℕ) → k < length turns → is_free t a f given turns map holds k ≡ true → is_free_departure t a f given (station_at t (turn_at turns k)) (turn_at turns k).departing ≡ true
+  pub departs_free : (k : ℕ) → k < length turns → is_free t a f given turns map holds k ≡ true → is_free_departure t a f given (station_at t (turn_at turns k)) (turn_at turns k).departing ≡ true
   departs_free k lt free =
       and_from _ _ (and_from _ _ (eq-eqb _ _ (map.each k lt).leaves_on) (eq-eqb _ _ (sym (map.each k lt).meets))) (sym (free_both t a f given turns map holds k lt) ∙ free)
 
@@ -104,11 +104,11 @@ module _ (t : Tables) (a : List ℕ) (f : ℕ) (given turns : List Connection) (
             (ltb-true _ _ crossing);
       })
 
-  free_zero : (k : ℕ) → is_free t a f given turns map holds k ≡ true → arrivals_of given (turn_at turns k).arriving ≡ 0
+  pub free_zero : (k : ℕ) → is_free t a f given turns map holds k ≡ true → arrivals_of given (turn_at turns k).arriving ≡ 0
   unfolding is_free
   free_zero k free = eqb-true _ _ free
 
-  within_landings : (k : ℕ) → k < length turns → is_free t a f given turns map holds k ≡ true
+  pub within_landings : (k : ℕ) → k < length turns → is_free t a f given turns map holds k ≡ true
       → landing_place t a f given (station_at t (turn_at turns k)) (turn_at turns k).arriving < free_landings t a f given (station_at t (turn_at turns k))
   unfolding free_landings
   within_landings k lt free =
@@ -118,7 +118,7 @@ module _ (t : Tables) (a : List ℕ) (f : ℕ) (given turns : List Connection) (
       (place_within (is_free_landing t a f given s) (landing_key t a f given s) (legs_in t) (landings_differ t a f given s) l (map.each k lt).arriving (lands_free k lt free))
 
   -- a free turn that crosses has a departure of a low place
-  low_place : AreFirstOut t a f given turns → (k : ℕ) → k < length turns → is_free t a f given turns map holds k ≡ true → crosses t f (turn_at turns k) ≡ true
+  pub low_place : AreFirstOut t a f given turns → (k : ℕ) → k < length turns → is_free t a f given turns map holds k ≡ true → crosses t f (turn_at turns k) ≡ true
       → departure_place t a f given (station_at t (turn_at turns k)) (turn_at turns k).departing < free_need t a f given (station_at t (turn_at turns k))
   low_place first k lt free crossing =
       let s = station_at t (turn_at turns k) in

@@ -140,7 +140,7 @@ module _ (t : Tables) (a : List ℕ) (f : ℕ) (given turns : List Connection) (
       ap (λ at. (at == s) && is_free k) (map.each k lt).meets
       ∙ ap (λ free. ((leg_of t (turn_at turns k).departing).from == s) && free) (free_both k lt)
 
-  all_departed : (s m : ℕ) → count_below (λ k. there s k && nat_le (departs_at t f (turn_at turns k)) m) (length turns) ≡ free_departed t a f given s m
+  pub all_departed : (s m : ℕ) → count_below (λ k. there s k && nat_le (departs_at t f (turn_at turns k)) m) (length turns) ≡ free_departed t a f given s m
   unfolding free_departed there
   all_departed s m =
       sum_below-agree _ _ (length turns) (record { each = λ k lt. ap (λ free. bit (free && nat_le (departs_at t f (turn_at turns k)) m)) (there_is s k lt) })

@@ -2,6 +2,7 @@ pub mod ApartMaps
 pub mod CleanTurns
 pub mod DayStarts
 pub mod Exchanges
+pub mod FirstOrder
 pub mod FirstOuts
 pub mod Fits
 pub mod FleetTurns

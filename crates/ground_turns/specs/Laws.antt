@@ -13,7 +13,7 @@ use Rattle.ground_turns.specs.Nights.{IsKeptFor, maintained_in, nights_in_turns}
 use Rattle.ground_turns.specs.Parts.{KeepsPart, NeverTouches}
 use Rattle.ground_turns.specs.Segments.{EndAt, NoneEnds, is_among, minutes_of}
 use Rattle.ground_turns.specs.declared.nights.Night.{Night}
-use Rattle.ground_turns.specs.Turns.{IsClean, days_in, departs_at, nights_waited, period_of, ready_at, station_at, touches}
+use Rattle.ground_turns.specs.Turns.{IsClean, days_in, departs_at, minutes_until, nights_waited, period_of, ready_at, station_at, touches, wait_of}
 
 -- by how many the turns at a station that cross the period's start pass its need
 abbrev pub surplus_at : Tables → List ℕ → ℕ → List Connection → ℕ → ℕ
@@ -109,6 +109,23 @@ ExchangedHolds = (given old new : List Connection) (i j : ℕ) → Holds old giv
 abbrev pub FirstOutFits : Type 0
 FirstOutFits = (t : Tables) (a : List ℕ) (f : ℕ) (given turns : List Connection) → IsHeld t a f given → IsSuccessorMap t a f turns → Holds turns given
     → AreFirstOut t a f given turns → IsFitting t a f turns
+
+-- two turns at a station that are none of the given pairs; where both aircraft become ready in one minute, the first has
+-- the lower leg
+pub record FreeTogether (t : Tables) (f : ℕ) (given turns : List Connection) (j k : ℕ) : Type 0 where
+  pub first : j < length turns
+  pub second : k < length turns
+  pub first_free : arrivals_of given (turn_at turns j).arriving ≡ 0
+  pub second_free : arrivals_of given (turn_at turns k).arriving ≡ 0
+  pub together : station_at t (turn_at turns j) ≡ station_at t (turn_at turns k)
+  pub lower : ready_at t f (turn_at turns j) ≡ ready_at t f (turn_at turns k) → (turn_at turns j).arriving < (turn_at turns k).arriving
+
+-- where aircraft depart first in, first out, one that becomes ready some minutes after another one departs no sooner,
+-- counted from when the other one is ready
+abbrev pub ReadyFirstDepartsFirst : Type 0
+ReadyFirstDepartsFirst = (t : Tables) (a : List ℕ) (f : ℕ) (given turns : List Connection) (j k : ℕ) → IsSuccessorMap t a f turns → Holds turns given
+    → AreFirstOut t a f given turns → FreeTogether t f given turns j k
+    → wait_of t f (turn_at turns j) ≤ minutes_until t (ready_at t f (turn_at turns j)) (ready_at t f (turn_at turns k)) + wait_of t f (turn_at turns k)
 
 -- where beside given pairs no turn of a part touches one outside, each fitting map that holds the pairs keeps the part
 abbrev pub ApartForAll : Type 0

@@ -1,6 +1,6 @@
 //! The laws of turns and successor maps. Each function is a law: its contract is the statement, and it does nothing.
 ghost use Rattle.ground_turns.specs.Laws.{ApartForAll, ExchangedFits, ExchangedHolds, FirstOutFits, FitsWhereClean, KeptHasNights, MaintainedAreStands, NextIsMap};
-ghost use Rattle.ground_turns.specs.Laws.{NightsAreNeed, NightsAreStands, NightsAreUse, PeriodsBeyondUse, SegmentsTellClean, SomeFits, TourIsWhole, WaitingIsStand, WaitingLaw};
+ghost use Rattle.ground_turns.specs.Laws.{NightsAreNeed, NightsAreStands, NightsAreUse, PeriodsBeyondUse, ReadyFirstDepartsFirst, SegmentsTellClean, SomeFits, TourIsWhole, WaitingIsStand, WaitingLaw};
 
 /// In a successor map the aircraft that wait at a station are, at each moment, those that stand there and one number
 /// more: by which the turns that cross the period's start pass the need.
@@ -65,6 +65,12 @@ pub fn exchanged_holds()
 /// each station in the order in which they became ready there.
 pub fn first_out_fits()
     ensures { FirstOutFits }
+{}
+
+/// Where aircraft depart first in, first out beside given pairs, one that becomes ready after another one departs no
+/// sooner. Of two that become ready in one minute the lower leg's goes first.
+pub fn ready_first_departs_first()
+    ensures { ReadyFirstDepartsFirst }
 {}
 
 /// Where beside given pairs no turn of a part of a fitting map touches one outside, each fitting map that holds the pairs
