@@ -69,7 +69,8 @@ short_help c again false rest after = tt
 short_help c again true rest after = tt
 
 -- a character of `-abc`
-flags_stop : (k : ℕ) (first : Option ℕ) (flags word : Text) → Fails (turn_met (bundle_step_fault ours.top.rules ours.top.args_override_self first flags 0 nothing_held (flags_fault ours.top.rules ours.top.args_override_self k))
+flags_stop : (k : ℕ) (first : Option ℕ) (flags word : Text) → Fails (turn_met
+    (bundle_step_fault ours.top.rules ours.top.args_override_self first flags 0 nothing_held (flags_fault ours.top.rules ours.top.args_override_self k))
     (after_flag ours.top.rules idle word (bundle_step ours.top.rules first flags 0 plain nothing_held (bundle_met ours.top.rules k)).0
     (bundle_step ours.top.rules first flags 0 plain nothing_held (bundle_met ours.top.rules k)).1))
 unfolding our_app

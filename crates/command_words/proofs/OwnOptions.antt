@@ -11,7 +11,7 @@ use Rattle.clap.specs.Lexer.{has_byte, long_of}
 use Rattle.clap.specs.Simple.{Shape, filled, filled_from, help_rule}
 use Rattle.clap.specs.Walk.{Held, Rule, Text, Walk, arg_by_long, has_long, nothing_held, walk_from}
 use Rattle.command_words.specs.Program.{check_app, judge_app, make_app, our_app, solve_app, tails_app}
-use Rattle.command_words.specs.Refusals.{TakeOwnOptions, TakesNoValue, TakesOnly, ends_name, has_dashes, is_one_of, is_option_name, judge_options, solve_options, tails_options}
+use Rattle.command_words.specs.Refusals.{TakeOwnOptions, TakesNoValue, TakesOnly, ends_name, has_dashes, is_one_of, is_option_name, folder_options, solve_options, tails_options}
 use Rattle.command_words.proofs.Entered.{IsEntered, check_entered, fails_within, judge_entered, make_entered, solve_entered, tails_entered}
 use Rattle.command_words.proofs.Fails.{Fails, GoesOn, is_untrailed, not_false, reaches, second_fails, stays_on, word_refused}
 use Rattle.command_words.proofs.PlainFolder.{built_command}
@@ -103,7 +103,7 @@ takes_only command names shape entered has program (first ∷ rest) ending befor
 
 -- ---- the commands
 
-judge_has : HasOptions judge_options (built_command judge_app)
+judge_has : HasOptions folder_options (built_command judge_app)
 unfolding our_app clap_on_literals
 judge_has = record { own = filled_from 1 judge_app.top.rules; rules = refl; all = refl; untrailed = refl }
 
@@ -111,7 +111,7 @@ solve_has : HasOptions solve_options (built_command solve_app)
 unfolding our_app clap_on_literals
 solve_has = record { own = filled_from 1 solve_app.top.rules; rules = refl; all = refl; untrailed = refl }
 
-check_has : HasOptions judge_options (built_command check_app)
+check_has : HasOptions folder_options (built_command check_app)
 unfolding our_app clap_on_literals
 check_has = record { own = filled_from 1 check_app.top.rules; rules = refl; all = refl; untrailed = refl }
 
@@ -125,9 +125,9 @@ make_has = record { own = filled_from 1 make_app.top.rules; rules = refl; all = 
 
 pub own_options : TakeOwnOptions
 own_options = record {
-  judge = takes_only (codes "judge") judge_options (built_command judge_app) judge_entered judge_has;
+  judge = takes_only (codes "judge") folder_options (built_command judge_app) judge_entered judge_has;
   solve = takes_only (codes "solve") solve_options (built_command solve_app) solve_entered solve_has;
-  check = takes_only (codes "check") judge_options (built_command check_app) check_entered check_has;
+  check = takes_only (codes "check") folder_options (built_command check_app) check_entered check_has;
   tails = takes_only (codes "tails") tails_options (built_command tails_app) tails_entered tails_has;
   make = takes_only (codes "make") [] (built_command make_app) make_entered make_has;
 }

@@ -66,7 +66,7 @@ option_gives shape name text is =
     let a : Rule = filled (option_named name) in
     record {
       no_dashes = is.no_dashes text;
-      comes = λ w goes. 
+      comes = λ w goes.
           let next_is : walked c [] w word ≡ record w { held = reacted c a (text ∷ []) w.held; waiting = idle } =
           walked_is c w word (is.no_dashes text) goes
           ∙ ap (λ long. after_step c word w (long_or_other c w.waiting word long w.held).0 (long_or_other c w.waiting word long w.held).1) (is.reads text)
@@ -77,7 +77,7 @@ option_gives shape name text is =
       repeats = λ h has.
           let fault_is : flag_word_fault c shape.args_override_self (long_of word) word h ≡ long_fault c shape.args_override_self (Some a) (Some text) h =
           ap (λ long. flag_word_fault c shape.args_override_self long word h) (is.reads text) ∙ ap (λ arg. long_fault c shape.args_override_self arg (Some text) h) is.found in
-          subst Fails (sym fault_is) 
+          subst Fails (sym fault_is)
           (set_fails (settle_fault c shape.args_override_self h) (range_kinds (unwrap_or_range a.range).start_inclusive (most_values a) (length {A = Text} (text ∷ [])))
           (values_fault a (values_or_missing a (text ∷ []))) shape.args_override_self (has_row name (settled c h).rows) is.once (settled_has name c h has));
     }
@@ -100,7 +100,7 @@ flag_gives shape name is =
     let a : Rule = filled (flag_named name) in
     record {
       no_dashes = is.no_dashes;
-      comes = λ w goes. 
+      comes = λ w goes.
           let next_is : walked c [] w word ≡ record w { held = reacted c a [] w.held; waiting = idle } =
           walked_is c w word is.no_dashes goes
           ∙ ap (λ long. after_step c word w (long_or_other c w.waiting word long w.held).0 (long_or_other c w.waiting word long w.held).1) is.reads
@@ -111,7 +111,7 @@ flag_gives shape name is =
       repeats = λ h has.
           let fault_is : flag_word_fault c shape.args_override_self (long_of word) word h ≡ long_fault c shape.args_override_self (Some a) None h =
           ap (λ long. flag_word_fault c shape.args_override_self long word h) is.reads ∙ ap (λ arg. long_fault c shape.args_override_self arg None h) is.found in
-          subst Fails (sym fault_is) 
+          subst Fails (sym fault_is)
           (set_fails (settle_fault c shape.args_override_self h) (range_kinds (unwrap_or_range a.range).start_inclusive (most_values a) (length {A = Text} []))
           (values_fault a (values_or_missing a [])) shape.args_override_self (has_row name (settled c h).rows) is.once (settled_has name c h has));
     }

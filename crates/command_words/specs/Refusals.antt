@@ -66,8 +66,8 @@ TakesFlagOnce command flag = (program : Text) (before between after : List Text)
 
 -- ---- the commands' options
 
-abbrev pub judge_options : List Text
-judge_options = codes "day-start" ∷ []
+abbrev pub folder_options : List Text
+folder_options = codes "day-start" ∷ []
 
 abbrev pub tails_options : List Text
 tails_options = codes "day-start" ∷ codes "through-max" ∷ codes "days" ∷ codes "visits" ∷ []
@@ -77,9 +77,9 @@ solve_options = codes "day-start" ∷ codes "through-max" ∷ codes "days" ∷ c
 
 -- each command takes its own options alone, so it refuses those of the others, `--help`, and what is misspelt
 pub record TakeOwnOptions : Type 0 where
-  pub judge : TakesOnly (codes "judge") judge_options
+  pub judge : TakesOnly (codes "judge") folder_options
   pub solve : TakesOnly (codes "solve") solve_options
-  pub check : TakesOnly (codes "check") judge_options
+  pub check : TakesOnly (codes "check") folder_options
   pub tails : TakesOnly (codes "tails") tails_options
   pub make : TakesOnly (codes "make") []
 
