@@ -50,10 +50,10 @@ impl<'a> Numbers<'a> {
         }
     }
 
-    /// The next number.
+    /// The next number, or none where none is left, before and after.
     #[inline(always)]
     pub fn next(&mut self) -> Option<Entry>
-        ensures { MatchOption result (self.old ≡ []) (λ entry. self.old ≡ entry ∷ self.new) }
+        ensures { MatchOption result ((self.old ≡ []) × (self.new ≡ [])) (λ entry. self.old ≡ entry ∷ self.new) }
     {
         if let Some((number, rest)) = self.full.split_first() {
             let column = self.from;

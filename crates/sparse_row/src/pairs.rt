@@ -19,10 +19,10 @@ pub struct Pairs<'a> {
 }
 
 impl Pairs<'_> {
-    /// The next column in which either row has a number.
+    /// The next column in which either row has a number, or none where none is left, before and after.
     #[inline(always)]
     pub fn next(&mut self) -> Option<Pair>
-        ensures { MatchOption result (pairs_of self.old.row.now self.old.pivot_row.now ≡ []) (λ pair. (pairs_of self.old.row.now self.old.pivot_row.now ≡ pair ∷ pairs_of self.new.row.now self.new.pivot_row.now) × (length self.new.row.now + length self.new.pivot_row.now < length self.old.row.now + length self.old.pivot_row.now)) }
+        ensures { MatchOption result ((pairs_of self.old.row.now self.old.pivot_row.now ≡ []) × (pairs_of self.new.row.now self.new.pivot_row.now ≡ [])) (λ pair. (pairs_of self.old.row.now self.old.pivot_row.now ≡ pair ∷ pairs_of self.new.row.now self.new.pivot_row.now) × (length self.new.row.now + length self.new.pivot_row.now < length self.old.row.now + length self.old.pivot_row.now)) }
     {
         match (self.row.split_first(), self.pivot_row.split_first()) {
             (None, None) => None,

@@ -47,4 +47,4 @@ loop-entry-preserved c =
     (sum_is _ _ fx fy is.1 ∙ ap (λ z. z +ℤ c.in-Some.entry.number) is.0)
 
 pub returns : goal.returns
-returns c = adding_done _ c.loop-entry.sums.items c.loop-entry.left c.loop-entry.invariant c.in_default.ensures
+returns c = adding_done _ c.loop-entry.sums.items c.loop-entry.left c.loop-entry.invariant c.in_default.ensures.0

@@ -26,7 +26,7 @@ returns-then-total-gt-LIMIT c =
 
 pub returns : goal.returns
 returns c =
-    let none : c.loop-entry.left ≡ [] = c.in_default.ensures in
+    let none : c.loop-entry.left ≡ [] = c.in_default.ensures.0 in
     let rest : sizes_of c.loop-entry.left ≡ 0 = ap sizes_of none in
     let all = sizes_in c.args.line.now c.numbers-left.result c.numbers-left.ensures.rising c.numbers-left.ensures.numbers in
     (omega (arith, c.loop-entry.invariant.sum, all), c.loop-entry.invariant.within)
