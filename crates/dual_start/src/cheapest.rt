@@ -1,11 +1,19 @@
-ghost use Rattle.std.specs.Prelude.{◌≡◌, ◌⊎◌, ◌<◌, length, Some, IfSome, MatchOption};
+ghost use Rattle.std.specs.Prelude.{◌≡◌, ◌≤◌, length, MatchOption};
+ghost use Rattle.dual_start.specs.Cheapest.{ArePairsOfLeg, IsCheaper, IsCheapestOf, cost_of};
 
 use lp_rows::Outline;
 
-/// The number of the cheapest kept pair of a leg, at a tie the least, where it has one. The kept pairs go by leg, so the
-/// search begins at the next one that was not yet looked at.
-pub fn cheapest_pair(outline: &Outline, costs: &[i128], leg: u32, next: &mut u32) -> Option<u32>
-    ensures { IfSome result (λ number. number < length outline.now.pairs) }
+/// The number of the cheapest kept pair of a leg from the next one on, at a tie the least, and none where the next one isn't
+/// of the leg. The kept pairs go by leg, so the next one is then the first that was not yet looked at.
+pub(crate) fn cheapest_pair(
+    outline: &Outline,
+    costs: &[i128],
+    leg: u32,
+    next: &mut u32,
+) -> Option<u32>
+    requires { next.old ≤ length outline.now.pairs }
+    ensures passed { ArePairsOfLeg outline.now leg next.old next.new }
+    ensures cheapest { MatchOption result (next.new ≡ next.old) (IsCheapestOf costs.now next.old next.new) }
 {
     let pairs = outline.pairs.as_slice();
     let mut best = None;
@@ -20,9 +28,9 @@ pub fn cheapest_pair(outline: &Outline, costs: &[i128], leg: u32, next: &mut u32
     best
 }
 
-// The one of the best pair so far and the next that costs less.
+// The one of the best pair so far and the next that costs less, at a tie the best one so far.
 fn cheaper(costs: &[i128], best: Option<u32>, next: u32) -> Option<u32>
-    ensures { MatchOption best (result ≡ Some next) (λ other. (result ≡ Some next) ⊎ (result ≡ Some other)) }
+    ensures { MatchOption best (result ≡ Some next) (λ other. IsCheaper costs.now other next result) }
 {
     let Some(other) = best else {
         return Some(next);
@@ -34,7 +42,9 @@ fn cheaper(costs: &[i128], best: Option<u32>, next: u32) -> Option<u32>
     }
 }
 
-fn cost(costs: &[i128], number: u32) -> i128 {
+fn cost(costs: &[i128], number: u32) -> i128
+    ensures { result ≡ cost_of costs.now number }
+{
     match costs.get(number as usize) {
         Some(cost) => *cost,
         None => 0,

@@ -1,7 +1,7 @@
 //! Where the dual simplex method begins on the lines of a subproblem.
 #![tactic(auto)]
 
-pub mod cheapest;
+mod cheapest;
 pub mod start;
 
 pub use start::start_places;
