@@ -1,5 +1,5 @@
 -- What the second run over the lines of a subproblem, and the lift of its last table, settle.
-use Rattle.std.proofs.Common.{◌≡◌, ℕ, List, Option, Some, None, Result, Ok, Err, IfOk, IfErr, IsSomeAnd, inr, refl, sym, subst}
+use Rattle.std.proofs.Common.{◌≡◌, ℕ, List, Option, Some, None, Result, Ok, Err, IfOk, IfErr, IsSomeAnd, refl, sym, subst}
 use mathlib.Core.Bool.{false≢true}
 use Rattle.std.specs.Prelude.{IsErr}
 use Rattle.entries.specs.declared.memory.NoMemory.{NoMemory}
@@ -25,7 +25,7 @@ use Rattle.price_lift.specs.Ends.{EndsByRow, EndsBySigns}
 use Rattle.price_lift.specs.Lifted.{AreLiftedPrices, IsLiftedPoint, IsLiftedRefusal}
 use Rattle.price_lift.specs.TooLarge.{row_excess, sign_excess}
 use Rattle.price_lift.specs.declared.lift.Lifted.{Lifted}
-use Rattle.node_bounding.specs.Relaxed.{AreGood, IsRelaxed}
+use Rattle.node_bounding.specs.Relaxed.{AreGood}
 use Rattle.node_bounding.specs.RunPrices.{IsPricedBySecond}
 use Rattle.node_bounding.specs.Runs.{SecondEnds}
 use Rattle.node_bounding.specs.SecondRun.{IsTried, IsTriedAtBest, IsTriedAtRefusal, SettlesNothing}
@@ -102,9 +102,3 @@ module _ (t : Tables) (keeps : Domains) (steps : ℕ) (table : List FracRow) (fo
       → IfOk lifted (IsLiftedRefusal t keeps (row_duals t table row)) → IfErr lifted (IsLiftErrorBy t keeps (row_excess t keeps table row)) → IsTriedAtRefusal lifted r → IfOk r (IsTried t keeps steps)
   after_refusal lifted row basis made r e pairs is excess tried =
       refusal_tries t keeps steps table row basis made lifted r (subst (SecondEnds t keeps steps table) e has) pairs is excess tried
-
--- what the second run settles is settled
-pub tried_relaxes : (t : Tables) (keeps : Domains) (pivots : ℕ) (found : Relaxed) → IsTried t keeps pivots (Some found) → IsRelaxed t keeps pivots found
-tried_relaxes t keeps pivots (relaxed.Refuted prices) tried = (tried.0, inr tried.1)
-tried_relaxes t keeps pivots (relaxed.Bounded prices mixed) tried = (tried.0, inr tried.1)
-tried_relaxes t keeps pivots (relaxed.Stopped why) tried = absurd tried
