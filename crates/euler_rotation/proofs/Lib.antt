@@ -16,3 +16,5 @@ pub mod LeastPlaces
 pub mod FewStand
 pub mod Answering
 pub mod FoundTours
+pub mod EntriesKept
+pub mod EntriesDiffer

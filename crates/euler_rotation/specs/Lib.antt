@@ -1,6 +1,7 @@
 pub mod Often
 pub mod Tours
 pub mod Prefixes
+pub mod PrefixLaws
 pub mod Answers
 pub mod Asked
 pub mod Walks

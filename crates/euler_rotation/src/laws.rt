@@ -1,5 +1,6 @@
 //! The laws of prefixes. Each function is a law: its contract is the statement, and it does nothing.
 ghost use Rattle.euler_rotation.specs.Laws.{BelowIsOften, TestedIsClean};
+ghost use Rattle.euler_rotation.specs.PrefixLaws.{EntriesArePrefixes, NoEntryTwice};
 
 /// Nights stay below so many days without maintenance exactly where of any so many one after another one is for
 /// maintenance.
@@ -10,4 +11,11 @@ pub fn below_is_often()
 /// The test of a turn passes exactly where the turn is clean.
 pub fn tested_is_clean()
     ensures { TestedIsClean }
+{}
+
+/// What the preorder lists are prefixes: legs of the order from its first one on, each once, by clean turns beside the
+/// pairs, with nights that come to maintenance often enough. None of them stands twice.
+pub fn entries_are_prefixes()
+    ensures prefixes { EntriesArePrefixes }
+    ensures once { NoEntryTwice }
 {}

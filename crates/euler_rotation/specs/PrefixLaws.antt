@@ -1,0 +1,40 @@
+-- What prefixes are, in plain words, as a statement on the order in which they are visited.
+use Rattle.std.specs.Prelude.{◌≡◌, ◌≢◌, ℕ, suc, ◌<◌, ◌↔◌, IsTrue, List, length, slice_index}
+use Rattle.fleet_model.specs.declared.parts.Connection.{Connection}
+use Rattle.fleet_model.specs.declared.tables.Tables.{Tables}
+use Rattle.fleet_model.specs.Schedule.{leg_of}
+use Rattle.ground_turns.specs.Maps.{turn_at}
+use Rattle.ground_turns.specs.Turns.{IsClean, station_at}
+use Rattle.euler_rotation.specs.Often.{MaintainedOften}
+use Rattle.euler_rotation.specs.Prefixes.{entry_of, has_leg, nights_along, preorder, turn_to}
+use Rattle.euler_rotation.specs.Tours.{IsOrder}
+
+-- the turn has the leg of the pair exactly where it has its partner
+abbrev pub AgreesWith : Connection → Connection → Type 0
+AgreesWith turn pair = (pair.arriving ≡ turn.arriving) ↔ (pair.departing ≡ turn.departing)
+
+-- a clean turn at a station, with no leg of a pair but beside its partner
+pub record IsTurnBeside (t : Tables) (a : List ℕ) (f : ℕ) (pairs : List Connection) (turn : Connection) : Type 0 where
+  pub meets : station_at t turn ≡ (leg_of t turn.departing).from
+  pub clean : IsClean t a f turn
+  pub agrees : (k : ℕ) → k < length pairs → AgreesWith turn (turn_at pairs k)
+
+-- some legs of the order, from its first one on, each once, with such a turn from each to the next and nights between
+-- them that come to maintenance often enough
+pub record IsPrefix (t : Tables) (a : List ℕ) (f : ℕ) (pairs : List Connection) (days : ℕ) (order legs : List ℕ) : Type 0 where
+  pub some : 0 < length legs
+  pub begins : slice_index legs 0 ≡ slice_index order 0
+  pub own : (k : ℕ) → k < length legs → IsTrue (has_leg order (slice_index legs k))
+  pub once : (j k : ℕ) → j < k → k < length legs → slice_index legs j ≢ slice_index legs k
+  pub turn : (k : ℕ) → suc k < length legs → IsTurnBeside t a f pairs (turn_to (slice_index legs k) (slice_index legs (suc k)))
+  pub maintained : MaintainedOften t (nights_along t f legs) days
+
+-- what is visited are prefixes
+abbrev pub EntriesArePrefixes : Type 0
+EntriesArePrefixes = (t : Tables) (a : List ℕ) (f : ℕ) (pairs : List Connection) (days : ℕ) (order : List ℕ) (k : ℕ) → 0 < days
+    → k < length (preorder t a f pairs days order) → IsPrefix t a f pairs days order (entry_of (preorder t a f pairs days order) k)
+
+-- and none of them is visited twice
+abbrev pub NoEntryTwice : Type 0
+NoEntryTwice = (t : Tables) (a : List ℕ) (f : ℕ) (pairs : List Connection) (days : ℕ) (order : List ℕ) (j k : ℕ) → IsOrder t a f order → j < k
+    → k < length (preorder t a f pairs days order) → entry_of (preorder t a f pairs days order) j ≢ entry_of (preorder t a f pairs days order) k
