@@ -1,15 +1,15 @@
 -- A first word that is no command's name asks for nothing.
-use Rattle.std.proofs.Common.{◌≡◌, ◌∙◌, ◌&&◌, ◌||◌, not, is_some, ℕ, zero, suc, Bool, true, false, List, [], ◌∷◌, Option, Some, None, refl, sym, ap, subst, codes, bytes_eq, if◌then◌else◌, cond, length, slice_get, chars, inl, inr, option_map}
+use Rattle.std.proofs.Common.{◌≡◌, ◌∙◌, ◌&&◌, ◌||◌, not, is_some, ℕ, zero, suc, Bool, true, false, List, [], ◌∷◌, Option, Some, None, refl, sym, subst, codes, bytes_eq, if◌then◌else◌, cond, length, slice_get, chars, inl, inr, option_map}
 use Rattle.std.specs.Prelude.{drop, encode_utf8, option_and_then}
 use Rattle.std.specs.Option.{option_map_or}
 use Rattle.std.proofs.lemmas.Bool.{cases_Bool, true≢false}
 use Rattle.std.proofs.lemmas.Slice.Eq.{bytes_eq-Decides}
 use Rattle.clap.proofs.OnLiterals.{clap_on_literals}
-use Rattle.clap.specs.Faults.{bundle_fault, bundle_step_fault, fault_of, flag_word_fault, flags_fault, long_fault, other_fault, short_fault, step_fault, turn_fault, walk_fault}
+use Rattle.clap.specs.Faults.{bundle_fault, bundle_step_fault, fault_of, flag_word_fault, flags_fault, other_fault, short_fault, step_fault, turn_fault, walk_fault}
 use Rattle.clap.specs.Kinds.{Kinds, or_else}
 use Rattle.clap.specs.Lexer.{long_of, short_of}
 use Rattle.clap.specs.Simple.{names_of, subcommand_of}
-use Rattle.clap.specs.Walk.{Held, Rule, Step, Text, after_flag, bundle_met, bundle_step, has_long, has_short, idle, long_or_other, nothing_held, plain, short_met, short_or_plain, subcommand_met, subcommand_or_other, trailing, value, walk, walk_from}
+use Rattle.clap.specs.Walk.{Held, Rule, Step, Text, after_flag, bundle_met, bundle_step, has_long, has_short, idle, long_or_other, nothing_held, plain, short_or_plain, subcommand_met, subcommand_or_other, trailing, walk, walk_from}
 use Rattle.command_words.specs.Program.{our_app}
 use Rattle.command_words.specs.Refusals.{NameAloneAsksNothing, NoWordsAskNothing, OtherWordsAskNothing, is_command}
 use Rattle.command_words.specs.Words.{asked, command_in}

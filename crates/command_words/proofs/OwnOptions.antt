@@ -1,17 +1,17 @@
 -- A command refuses each option that isn't its own.
-use Rattle.std.proofs.Common.{◌≡◌, ◌≢◌, ◌<◌, ◌∙◌, ◌==◌, ◌&&◌, ◌||◌, not, ℕ, zero, suc, Bool, true, false, List, [], ◌∷◌, ◌++◌, Option, Some, None, is_some, refl, sym, ap, subst, codes, bytes_eq, if◌then◌else◌, find, cond, append-nil, arith, get_or, length}
+use Rattle.std.proofs.Common.{◌≡◌, ◌≢◌, ◌∙◌, ◌==◌, ◌&&◌, ◌||◌, not, ℕ, zero, suc, Bool, true, false, List, [], ◌∷◌, ◌++◌, Option, Some, None, is_some, refl, sym, ap, subst, codes, bytes_eq, if◌then◌else◌, cond, append-nil, arith}
 use Rattle.std.specs.List.{after_first, before_first, list_all, list_any}
 use Rattle.std.specs.Option.{option_map_or}
 use Rattle.std.proofs.lemmas.Bool.{and_parts, cond-false, eq-eqb, eqb-true, false_from_ne_true, or_from, or_parts, true≢false}
 use Rattle.std.proofs.lemmas.Slice.Eq.{bytes_eq-Decides}
 use Rattle.clap.proofs.CutLemmas.{Lacks, before_first-Lacks, before_first-at}
 use Rattle.clap.proofs.OnLiterals.{clap_on_literals}
-use Rattle.clap.specs.Faults.{flag_word_fault, long_fault, settle_fault, walk_fault}
+use Rattle.clap.specs.Faults.{flag_word_fault, long_fault, settle_fault}
 use Rattle.clap.specs.Lexer.{has_byte, long_of}
 use Rattle.clap.specs.Simple.{Shape, filled, filled_from, help_rule}
-use Rattle.clap.specs.Walk.{Held, Rule, Text, Walk, arg_by_long, has_long, nothing_held, walk_from}
+use Rattle.clap.specs.Walk.{Held, Rule, Text, arg_by_long, has_long, nothing_held, walk_from}
 use Rattle.command_words.specs.Program.{check_app, judge_app, make_app, our_app, solve_app, tails_app}
-use Rattle.command_words.specs.Refusals.{TakeOwnOptions, TakesNoValue, TakesOnly, ends_name, has_dashes, is_one_of, is_option_name, folder_options, solve_options, tails_options}
+use Rattle.command_words.specs.Refusals.{TakeOwnOptions, TakesNoValue, TakesOnly, ends_name, is_one_of, folder_options, solve_options, tails_options}
 use Rattle.command_words.proofs.Entered.{IsEntered, check_entered, fails_within, judge_entered, make_entered, solve_entered, tails_entered}
 use Rattle.command_words.proofs.Fails.{Fails, GoesOn, is_untrailed, not_false, reaches, second_fails, stays_on, word_refused}
 use Rattle.command_words.proofs.PlainFolder.{built_command}
