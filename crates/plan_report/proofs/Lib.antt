@@ -3,5 +3,6 @@ pub mod NextDays
 pub mod NoFloats
 pub mod Pieces
 pub mod PlainText
+pub mod RoundLines
 pub mod RowWriting
 pub mod TourLegs

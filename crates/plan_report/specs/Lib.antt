@@ -5,5 +5,6 @@ pub mod RotationWords
 pub mod Rotations
 pub mod RoundRows
 pub mod Summary
+pub mod TailLaws
 pub mod Tails
 pub mod TextLines

@@ -13,6 +13,7 @@ ghost use Rattle.plan_report.specs.Dates.{day_after, day_on};
 ghost use Rattle.plan_report.specs.RotationRecords.{rotation_records, rotation_text};
 ghost use Rattle.plan_report.specs.Rotations.{AreRotations};
 ghost use Rattle.plan_report.specs.RotationWords.{days_of};
+ghost use Rattle.plan_report.specs.TailLaws.{ComesToNextLine, EachAircraftFliesAll, EachLegEachDate, FollowsNextAircraft};
 ghost use Rattle.plan_report.specs.declared.fleet_rotations.FleetRotation.{FleetRotation};
 
 /// The days that are told of a tour are those of the period, for each aircraft that the fleet uses.
@@ -29,4 +30,13 @@ pub fn rotations_are_written_as_csv()
 /// A date that comes so many days after another by the day numbers of `jiff` is so many days later by the calendar.
 pub fn days_go_by_number()
     ensures { (first later : Date) (n : ℕ) → epoch_day later ≡ epoch_day first +ℤ pos n → day_on later ≡ day_after (day_on first) n }
+{}
+
+/// The lines of tails, over the tour. On each date its legs are flown once each, each aircraft comes to the next line
+/// each day and so flies the whole tour, and a period later it flies what the next aircraft flew.
+pub fn tails_fly_the_tour()
+    ensures each_date { EachLegEachDate }
+    ensures each_aircraft { EachAircraftFliesAll }
+    ensures next_line { ComesToNextLine }
+    ensures next_aircraft { FollowsNextAircraft }
 {}
