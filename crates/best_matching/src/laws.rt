@@ -1,4 +1,6 @@
 //! The laws of dual numbers. Each function is a law: its contract is the statement, and it does nothing.
+ghost use Rattle.std.specs.Prelude.{◌≡◌};
+ghost use Rattle.best_matching.specs.declared.matching.TheConstants.{MAX_WORTH};
 ghost use Rattle.best_matching.specs.Worths.{DualsBound, DualsSumToWorth, NoneIsWorthMore};
 
 /// Where dual numbers meet the worths that a one-to-one map has, they sum to what it is worth.
@@ -14,4 +16,9 @@ pub fn duals_bound()
 /// So a one-to-one map at which they are met is worth most.
 pub fn none_is_worth_more()
     ensures { NoneIsWorthMore }
+{}
+
+/// The greatest worth of a row at a column, in numbers.
+pub fn limits_in_numbers()
+    ensures { MAX_WORTH ≡ 4611686018427387904 }
 {}

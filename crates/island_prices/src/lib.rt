@@ -3,6 +3,7 @@
 #![tactic(auto)]
 
 mod growing;
+pub mod laws;
 pub mod least;
 pub mod paying;
 mod priced;

@@ -1,10 +1,16 @@
 //! The laws of counts: each function's contract is the statement, and it does nothing.
-ghost use Rattle.std.specs.Prelude.{ℕ};
+ghost use Rattle.std.specs.Prelude.{◌≡◌, ℕ};
 ghost use Rattle.fleet_model.specs.declared.tables.Tables.{Tables};
 ghost use Rattle.fleet_model.specs.Counts.{Weights};
 ghost use Rattle.stand_counts.specs.Laws.{AreFleetCounts};
+ghost use Rattle.stand_counts.specs.declared.flights.TheConstants.{MAX_WEIGHT};
 
 /// The counts of a fleet's flights are those of the fleet.
 pub fn counts_of_a_fleet()
     ensures { (t : Tables) (w : Weights) (f : ℕ) → AreFleetCounts t w f }
+{}
+
+/// The greatest weight of a pair, in numbers.
+pub fn limits_in_numbers()
+    ensures { MAX_WEIGHT ≡ 1000000000000000000 }
 {}
