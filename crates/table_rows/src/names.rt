@@ -1,4 +1,4 @@
-ghost use Rattle.std.specs.Prelude.{◌≡◌, ◌++◌, ◌↔◌, [], ◌∷◌, length, not, if◌then◌else◌, IfOk, IsTrue};
+ghost use Rattle.std.specs.Prelude.{◌≡◌, ◌++◌, ◌↔◌, [], ◌∷◌, length, not, if◌then◌else◌, IfOk, IsTrue, OnErr};
 ghost use Rattle.table_rows.specs.Names.{is_among, number_of};
 
 use entries::NoMemory;
@@ -34,6 +34,7 @@ impl Names {
     pub fn add(&mut self, alloc: Global, name: &[u8]) -> Result<bool, NoMemory>
         ensures added { IfOk result (λ added. added ≡ not (is_among name.now self.old)) }
         ensures appended { IfOk result (λ added. self.new ≡ (if added then self.old ++ name.now ∷ [] else self.old)) }
+        ensures unchanged { OnErr result (self.new ≡ self.old) }
     {
         let (_, added) = self.names.insert_full(Vec::from_slice(alloc, name)?)?;
         Ok(added)
