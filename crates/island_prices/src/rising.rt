@@ -1,5 +1,5 @@
 //! Rises of prices over ground arcs that went.
-ghost use Rattle.std.specs.Prelude.{◌≡◌, ◌<◌, ◌++◌, ℕ, length, slice_index, ◌-ℤ◌, OnOk, Some};
+ghost use Rattle.std.specs.Prelude.{◌≡◌, ◌<◌, ◌++◌, ℕ, length, slice_index, ◌-ℤ◌, OnErr, OnOk, Some};
 ghost use Rattle.fleet_model.specs.Schedule.{fleets_in, stations_in};
 ghost use Rattle.fleet_model.specs.declared.limits.TheConstants.{MINUTES_PER_PERIOD};
 ghost use Rattle.dual_bound.specs.Prices.{AreWithin, price_of, rent_of};
@@ -38,7 +38,8 @@ pub fn push_rise(
 ) -> Result<(), NoMemory>
     requires within { AreWithin tables.now prices.now }
     requires arc { IsArc tables.now arc.now.starts.now arc.now.fleet arc.now.station arc.now.place }
-    ensures { OnOk result (rises.new.items ≡ rises.old.items ++ rise_where prices.now arc.now.starts.now arc.now.fleet arc.now.station arc.now.place moment) }
+    ensures pushed { OnOk result (rises.new.items ≡ rises.old.items ++ rise_where prices.now arc.now.starts.now arc.now.fleet arc.now.station arc.now.place moment) }
+    ensures unchanged { OnErr result (rises.new.items ≡ rises.old.items) }
 {
     match moment {
         Some(moment) => push_over(rises, tables, prices, arc, moment),
@@ -56,7 +57,8 @@ fn push_over(
 ) -> Result<(), NoMemory>
     requires within { AreWithin tables.now prices.now }
     requires arc { IsArc tables.now arc.now.starts.now arc.now.fleet arc.now.station arc.now.place }
-    ensures { OnOk result (rises.new.items ≡ rises.old.items ++ rise_where prices.now arc.now.starts.now arc.now.fleet arc.now.station arc.now.place (Some moment)) }
+    ensures pushed { OnOk result (rises.new.items ≡ rises.old.items ++ rise_where prices.now arc.now.starts.now arc.now.fleet arc.now.station arc.now.place (Some moment)) }
+    ensures unchanged { OnErr result (rises.new.items ≡ rises.old.items) }
 {
     let amount = rise_over(tables, prices, arc);
     if amount <= 0 {
