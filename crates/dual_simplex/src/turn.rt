@@ -1,7 +1,7 @@
-ghost use Rattle.std.specs.Prelude.{◌≡◌, length, MatchResult, IfSome, IsTrue, ◌↔◌};
+ghost use Rattle.std.specs.Prelude.{◌≡◌, ◌↔◌, length, IfOk, MatchOption, MatchResult, IsTrue, OnErr};
 ghost use Rattle.row_store.specs.StepChoice.{AreSettled};
 ghost use Rattle.row_store.specs.Table.{HasColumns, height_of};
-ghost use Rattle.dual_simplex.specs.Turns.{IsPlace, IsEndBySigns, IsPlaceBySigns};
+ghost use Rattle.dual_simplex.specs.Turns.{IsEndBySigns, IsNextOfStart, IsNextPlace, IsPlace, IsPlaceBySigns, IsUsedUp};
 
 use row_store::{Place, RowStore};
 
@@ -16,7 +16,7 @@ pub enum End {
     Refused { row: u32 },
 }
 
-/// The place of the next step: the start's next one, or where there is none, by the rule.
+/// The place of the next step: the start's next one at which a step can be made, or where there is none, by the rule.
 pub fn next_place<R: RowStore>(
     store: &R,
     basis: &[u32],
@@ -26,7 +26,9 @@ pub fn next_place<R: RowStore>(
 ) -> Result<Place, End>
     requires columns { HasColumns (R.content store.now) columns }
     requires basis { length basis.now ≡ height_of (R.content store.now) }
-    ensures { MatchResult result (IsPlace (R.content store.now) columns) (IsEndBySigns (R.content store.now) basis.now columns) }
+    ensures place { MatchResult result (IsPlace (R.content store.now) columns) (IsEndBySigns (R.content store.now) basis.now columns) }
+    ensures next { IfOk result (IsNextPlace (R.content store.now) basis.now columns start.now next.old next.new) }
+    ensures used_up { OnErr result (IsUsedUp (R.content store.now) columns start.now next.old next.new) }
 {
     if let Some(place) = start_place(store, columns, start, next) {
         return Ok(place);
@@ -45,7 +47,7 @@ fn start_place<R: RowStore>(
     next: &mut usize,
 ) -> Option<Place>
     requires { HasColumns (R.content store.now) columns }
-    ensures { IfSome result (IsPlace (R.content store.now) columns) }
+    ensures { MatchOption result (IsUsedUp (R.content store.now) columns start.now next.old next.new) (IsNextOfStart (R.content store.now) columns start.now next.old next.new) }
 {
     for at in *next..start.len() {
         let place = start[at];
@@ -54,7 +56,7 @@ fn start_place<R: RowStore>(
             return Some(place);
         }
     }
-    *next = start.len();
+    *next = (*next).max(start.len());
     None
 }
 

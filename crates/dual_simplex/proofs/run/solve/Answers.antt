@@ -16,11 +16,11 @@ loop-made-init g c =
 pub returns-in-Err-clause-outcome : goal.returns-in-Err-clause-outcome
 returns-in-Err-clause-outcome g c =
     ends_so (g.R.RowStore.content c.args.store.now) c.args.columns c.args.steps c.loop-made.made (g.R.RowStore.content c.loop-made.store) c.loop-made.basis.items c.in-Err.end c.ended.result (omega arith) c.loop-made.invariant.reached
-    (subst (λ b. IsEndBySigns (g.R.RowStore.content c.loop-made.store) b c.args.columns c.in-Err.end) c.as_slice.ensures.value c.in-Err.ensures) c.ended.ensures
+    (subst (λ b. IsEndBySigns (g.R.RowStore.content c.loop-made.store) b c.args.columns c.in-Err.end) c.as_slice.ensures.value c.in-Err.ensures.place) c.ended.ensures
 
 pub loop-made-preserved : goal.loop-made-preserved
 loop-made-preserved g c =
-    goes_on (g.R.RowStore.content c.args.store.now) c.args.columns c.loop-made.made (g.R.RowStore.content c.loop-made.store) (g.R.RowStore.content c.step.new.self) c.loop-made.basis.items c.in-Ok-next_place.place (g.met.R.RowStore.is_table c.args.store.now) c.requires c.loop-made.invariant c.in-Ok-next_place.ensures c.in-Ok-step.ensures.fits c.in-Ok-step.ensures.stepped
+    goes_on (g.R.RowStore.content c.args.store.now) c.args.columns c.loop-made.made (g.R.RowStore.content c.loop-made.store) (g.R.RowStore.content c.step.new.self) c.loop-made.basis.items c.in-Ok-next_place.place (g.met.R.RowStore.is_table c.args.store.now) c.requires c.loop-made.invariant c.in-Ok-next_place.ensures.place c.in-Ok-step.ensures.fits c.in-Ok-step.ensures.stepped
 
 pub returns-in-Ok-place_by_signs-clause-outcome : goal.returns-in-Ok-place_by_signs-clause-outcome
 returns-in-Ok-place_by_signs-clause-outcome g c =
