@@ -9,6 +9,7 @@ use Rattle.fleet_model.specs.Limits.{IsCost}
 use Rattle.dual_bound.specs.Prices.{max_scale}
 use Rattle.dual_bound.specs.Sizes.{IsUpTo}
 use Rattle.dual_bound.proofs.Numbers.{held, is_held}
+use Rattle.dual_bound.proofs.Sizes.{cost_size}
 use Rattle.cert_check.specs.MixedRules.{IsSmallWeight}
 
 -- a weight times a cost
@@ -27,12 +28,9 @@ weight_times (pos n) c small cost =
 small_up_to : (w : ℤ) → IsSmallWeight w → IsUpTo 1 w
 small_up_to w small = record { no_less = omega (arith, ints, small.some, small.small); no_more = omega (arith, ints, small.some, small.small) }
 
-cost_up_to : (c : ℤ) → IsCost c → IsUpTo 1 c
-cost_up_to c cost = record { no_less = omega (arith, ints, cost.no_less, cost.no_more); no_more = omega (arith, ints, cost.no_less, cost.no_more) }
-
 is_product : (w c : ℤ) → IsSmallWeight w → IsCost c → held (held w *ℤ held c) ≡ w *ℤ c
 is_product w c small cost =
-    ap (λ z. held (z *ℤ held c)) (is_held 1 w (small_up_to w small) (omega arith)) ∙ ap (λ z. held (w *ℤ z)) (is_held 1 c (cost_up_to c cost) (omega arith))
+    ap (λ z. held (z *ℤ held c)) (is_held 1 w (small_up_to w small) (omega arith)) ∙ ap (λ z. held (w *ℤ z)) (is_held 1 c (cost_size c cost) (omega arith))
     ∙ is_held 1 (w *ℤ c) (weight_times w c small cost) (omega arith)
 
 pub weighed : (w weight c units : ℤ) → w ≡ weight → IsSmallWeight w → c ≡ units → IsCost c → held (held w *ℤ held c) ≡ pos (unsigned_abs weight) *ℤ units

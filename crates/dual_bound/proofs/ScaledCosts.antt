@@ -16,7 +16,7 @@ use Rattle.dual_bound.specs.Rising.{IsIdle}
 use Rattle.dual_bound.specs.Sizes.{IsUpTo}
 use Rattle.dual_bound.specs.Worth.{cost_units, pair_worth}
 use Rattle.dual_bound.proofs.Numbers.{fits, held, is_held, many}
-use Rattle.dual_bound.proofs.Sizes.{scaled}
+use Rattle.dual_bound.proofs.Sizes.{cost_size, scaled}
 
 pub zero_size : IsUpTo 1 (pos 0)
 zero_size = record { no_less = omega (arith, ints); no_more = omega (arith, ints) }
@@ -27,9 +27,6 @@ not_at_all k s c none = sym (ap (λ n. pos n *ℤ s *ℤ c) none ∙ ap (λ z. z
 -- ---- once
 scale_size : (s : ℤ) → IsScale s → IsUpTo 1 s
 scale_size s scale = record { no_less = omega (arith, ints); no_more = omega (arith, ints) }
-
-cost_size : (c : ℤ) → IsCost c → IsUpTo 1 c
-cost_size c cost = record { no_less = omega (arith, ints); no_more = omega (arith, ints) }
 
 product_size : (s c : ℤ) → IsScale s → IsCost c → IsUpTo 1 (s *ℤ c)
 product_size s c scale cost = scaled s c scale.some scale.within cost

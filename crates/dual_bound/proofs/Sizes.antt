@@ -24,6 +24,10 @@ up_to_times z n most small few =
       no_more = omega (arith, ints, ends.1, wide, *ℤ_comm z (pos n));
     }
 
+-- a cost alone
+pub cost_size : (c : ℤ) → IsCost c → IsUpTo 1 c
+cost_size c cost = record { no_less = omega (arith, ints, cost.no_less, cost.no_more); no_more = omega (arith, ints, cost.no_less, cost.no_more) }
+
 -- a scale times a cost
 pub scaled : (s c : ℤ) → pos 1 ≤ℤ s → s ≤ℤ pos max_scale → IsCost c → IsUpTo 1 (s *ℤ c)
 scaled (negsuc n) c some within small = absurd (omega (arith, ints))

@@ -7,6 +7,7 @@ use Rattle.fleet_model.specs.declared.tables.Tables.{Tables}
 use Rattle.dual_bound.specs.Prices.{ArePrices, price_after, price_of, rent_of}
 use Rattle.dual_bound.specs.declared.prices.Prices.{Prices}
 use Rattle.dual_bound.specs.declared.prices.PriceStep.{PriceStep}
+use Rattle.dual_bound.proofs.ZeroPrices.{rent_zero}
 
 -- a step at the first station
 abbrev pub step_at : ℕ → ℕ → ℤ → PriceStep
@@ -21,21 +22,18 @@ between : (b : Bool) → (pos 0 ≤ℤ (if b then pos 20 else pos 0)) × ((if b 
 between true = (omega (arith, ints), omega (arith, ints))
 between false = (omega (arith, ints), omega (arith, ints))
 
-no_rent : (prices : Prices) → prices.rents ≡ [] → (f : ℕ) → rent_of prices f ≡ pos 0
-no_rent prices none f = rw none refl
-
 pub proper_all_day : (t : Tables) (prices : Prices) → prices.scale ≡ pos 1 → prices.rents ≡ [] → prices.steps ≡ step_at 1 0 (pos 20) ∷ [] → ArePrices t prices
 proper_all_day t prices one none e = record {
   scale = record { some = omega (arith, ints, one); within = omega (arith, ints, one) };
   within = record {
-    rents = λ f below. record { some = omega (arith, ints, no_rent prices none f); within = omega (arith, ints, no_rent prices none f) };
+    rents = λ f below. record { some = omega (arith, ints, rent_zero prices none f); within = omega (arith, ints, rent_zero prices none f) };
     each = λ f s m known there early. record {
       no_less = rw (all_day prices e f s m) (omega (arith, ints, between ((1 == f) && (0 == s))));
       no_more = rw (all_day prices e f s m) (omega (arith, ints, between ((1 == f) && (0 == s))));
     };
   };
   fall = record { each = λ f s m known there early. rw (all_day prices e f s m, all_day prices e f s (m + 1)) (omega (arith, ints)) };
-  rise = record { each = λ f s known there. rw (all_day prices e f s 0, all_day prices e f s last_minute) (omega (arith, ints, no_rent prices none f)) };
+  rise = record { each = λ f s known there. rw (all_day prices e f s 0, all_day prices e f s last_minute) (omega (arith, ints, rent_zero prices none f)) };
 }
 
 -- what four steps of 1, 0, 1 and 0 say, of which some have come
