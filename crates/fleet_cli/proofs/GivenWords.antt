@@ -1,6 +1,7 @@
 -- What holds of the words of a call, where they are given.
 use Rattle.std.proofs.Common.{◌≡◌, ℕ, List, Option, Some, None, IfSome, inl, inr, refl, sym, ◌∙◌, subst, arith}
 use Rattle.command_words.specs.Words.{Asked, asked}
+use Rattle.fleet_cli.proofs.CallFacts.{no_calls}
 use Rattle.fleet_cli.proofs.Others.{nothing_written, refusal_ends}
 use Rattle.fleet_cli.specs.Ran.{Ran, Told}
 use Rattle.fleet_cli.specs.Reading.{folder_of, written_files}
@@ -45,6 +46,7 @@ did_nothing steady_desk steady_sink asked code told is = record {
   one_put = λ memory. absurd (memory is);
   one_put_at_most = inl refl;
   refusals = λ refused. refl;
+  calls = no_calls _ told.calls;
   files = nothing_written (folder_of asked) (written_files asked) told.holds told.holds refl;
 }
   where

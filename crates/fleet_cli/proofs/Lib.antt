@@ -1,5 +1,6 @@
 pub mod AnswerFacts
 pub mod BoundFacts
+pub mod CallFacts
 pub mod CheckedByDay
 pub mod FileNames
 pub mod FrontFacts

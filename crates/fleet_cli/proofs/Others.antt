@@ -1,5 +1,5 @@
 -- What an answer is, and the names that keep what they hold after it.
-use Rattle.std.proofs.Common.{◌≡◌, ◌≢◌, ◌⊎◌, ℕ, suc, Bool, true, false, List, [], ◌∷◌, ◌++◌, take, All, Option, Some, None, IfSome, ℤ, inl, inr, refl, sym, ap, subst, ◌∙◌, arith}
+use Rattle.std.proofs.Common.{◌≡◌, ◌≢◌, ◌⊎◌, ℕ, suc, Bool, true, false, List, [], ◌∷◌, ◌++◌, length, length-append, ◌+◌, ◌≤◌, take, All, Option, Some, None, IfSome, ℤ, inl, inr, refl, sym, ap, subst, ◌∙◌, arith}
 use Rattle.std.specs.Str.{bytes_eq}
 use Rattle.std.proofs.lemmas.List.Elements.{All-append, All-from_recursion, All-take}
 use Rattle.std.proofs.lemmas.Map.{update_other}
@@ -75,6 +75,17 @@ made_others made dir name differ =
     All-from_recursion (IsOther dir name) (made_files made)
     (differ 0 desk_file.Stations (omega arith), (differ 1 desk_file.Stations (omega arith), (differ 2 desk_file.Stations (omega arith), (differ 3 desk_file.Stations (omega arith), (differ 4 desk_file.Stations (omega arith), tt)))))
 
+-- how many they are
+solved_few : (t : Tables) (rotations : List FleetRotation) (visits : ℕ) (s : Solved) → length (solved_files t s rotations visits) ≤ 3
+unfolding solved_files
+solved_few t rotations visits (solved.Planned plan cost bound tree) = omega arith
+solved_few t rotations visits (solved.Infeasible tree) = omega arith
+solved_few t rotations visits (solved.Unsettled bound tree) = omega arith
+
+made_few : (made : MadeTables) (more : List FileText) → length more ≤ 3 → length (made_files made ++ more) ≤ 8
+unfolding made_files
+made_few made more few = let five : length (made_files made ++ more) ≡ 5 + length more = length-append (made_files made) more in omega arith
+
 -- ---- what an answer is
 
 -- a status that ends a run, a text, and no file
@@ -95,6 +106,7 @@ record IsSolved (asked : Option Asked) (answer : Answer) : Type 0 where
   one : DeskFile
   names : List DeskFile
   writes : written_files asked ≡ one ∷ names
+  few : length (first ++ solved_files tables solution rotations options.rotations.visits) ≤ length (one ∷ names)
   others : (dir name : List ℕ) → All (λ other. name ≢ path_of dir other) (one ∷ names) → All (IsOther dir name) (first ++ solved_files tables solution rotations options.rotations.visits)
 
 -- the answer of a solution of what was made
@@ -109,6 +121,7 @@ made_kind dir number legs answer x = let given = x.solves.gives in record {
   one = desk_file.Stations;
   names = desk_file.Fleets ∷ desk_file.Legs ∷ desk_file.Costs ∷ desk_file.Throughs ∷ solution_files;
   writes = refl;
+  few = made_few (made_tables number legs) (solved_files x.solves.tables given.solution given.rotations DEFAULT_OPTIONS.rotations.visits) (solved_few x.solves.tables given.rotations DEFAULT_OPTIONS.rotations.visits given.solution);
   others = λ folder name differ. All-append (IsOther folder name) _ _ (made_others (made_tables number legs) folder name differ)
       (solved_others x.solves.tables given.rotations DEFAULT_OPTIONS.rotations.visits folder name (differ 5 desk_file.Plan (omega arith)) (differ 6 desk_file.Proof (omega arith)) (differ 7 desk_file.Rotation (omega arith)) given.solution);
 }
@@ -125,6 +138,7 @@ solved_kind dir settings options bytes answer x = let given = x.gives in record 
   one = desk_file.Plan;
   names = desk_file.Proof ∷ desk_file.Rotation ∷ [];
   writes = refl;
+  few = solved_few x.tables given.rotations options.rotations.visits given.solution;
   others = λ folder name differ.
       solved_others x.tables given.rotations options.rotations.visits folder name (differ 0 desk_file.Plan (omega arith)) (differ 1 desk_file.Proof (omega arith)) (differ 2 desk_file.Rotation (omega arith)) given.solution;
 }
@@ -205,6 +219,15 @@ module _ (answer : Answer) where
 pub answer_ends : (longer : Type 0) (asked : Option Asked) (answer : Answer) → AnswersSome longer asked answer → IsEnd answer.status.code
 answer_ends longer asked answer (inl long) = kind_ends answer asked (inl (bad answer _ long.is))
 answer_ends longer asked answer (inr read) = kind_ends answer asked (kind_of answer asked read.0 read.1)
+
+-- an answer has no more files than what is asked for may write
+few_files : (asked : Option Asked) (answer : Answer) → IsSaid answer ⊎ IsSolved asked answer → length answer.files ≤ length (written_files asked)
+few_files asked answer (inl said) = let none : length answer.files ≡ 0 = ap (λ (a : Answer). length a.files) said.is in omega arith
+few_files asked answer (inr given) = rw (given.writes, given.is) given.few
+
+pub writes_few : (longer : Type 0) (asked : Option Asked) (answer : Answer) → AnswersSome longer asked answer → length answer.files ≤ length (written_files asked)
+writes_few longer asked answer (inl long) = few_files asked answer (inl (bad answer _ long.is))
+writes_few longer asked answer (inr read) = few_files asked answer (kind_of answer asked read.0 read.1)
 
 -- ---- where nothing is written, all stands as it was
 

@@ -1,13 +1,13 @@
 -- What is true of any run, by what desk and sink told before it and after it.
 use Rattle.std.specs.Prelude.{◌≡◌, ◌≢◌, ◌⊎◌, ◌+◌, ℕ, List, Option, None, IfSome, IsSomeAnd}
 use Rattle.command_words.specs.Words.{Asked}
-use Rattle.plan_desk.specs.Counts.{RoseBy, counted}
+use Rattle.plan_desk.specs.Counts.{CallsAtMost, RoseBy, counted, once_more}
 use Rattle.plan_desk.specs.Desk.{Files}
-use Rattle.plan_desk.specs.Sink.{once_more, output_with}
+use Rattle.plan_desk.specs.Sink.{output_with}
 use Rattle.plan_desk.specs.declared.file.DeskFile.{DeskFile}
 use Rattle.plan_desk.specs.declared.file.TheConstants.{TABLE_LIMIT}
 use Rattle.fleet_cli.specs.Headline.{Headline}
-use Rattle.fleet_cli.specs.Reading.{NamesStand}
+use Rattle.fleet_cli.specs.Reading.{NamesStand, most_calls}
 use Rattle.fleet_cli.specs.Run.{AnswersExactly, AnswersInFull, BlamesMissing, CountsOneFault, FailsAt, IsAnswered, IsComplete, IsRefusal, KeepsOthers, LeavesFiles, PutsFault, PutsPart, SomeInFull}
 use Rattle.fleet_cli.specs.Texts.{usage_text}
 use Rattle.fleet_cli.specs.declared.status.TheConstants.{FAULT, NO_MEMORY, USAGE}
@@ -18,17 +18,19 @@ pub record Told : Type 0 where
   pub blamed : Option DeskFile
   pub desk_faults : ℕ
   pub taken : ℕ
+  pub calls : Option ℕ
   pub output : Option (List ℕ)
   pub puts : Option ℕ
   pub handed : Option ℕ
   pub sink_faults : ℕ
 
-abbrev pub telling : Option Files → Option DeskFile → ℕ → ℕ → Option (List ℕ) → Option ℕ → Option ℕ → ℕ → Told
-telling holds blamed desk_faults taken output puts handed sink_faults = record {
+abbrev pub telling : Option Files → Option DeskFile → ℕ → ℕ → Option ℕ → Option (List ℕ) → Option ℕ → Option ℕ → ℕ → Told
+telling holds blamed desk_faults taken calls output puts handed sink_faults = record {
   holds = holds;
   blamed = blamed;
   desk_faults = desk_faults;
   taken = taken;
+  calls = calls;
   output = output;
   puts = puts;
   handed = handed;
@@ -60,4 +62,5 @@ pub record Ran (steady_desk steady_sink : Type 0) (asked : Option Asked) (code :
   pub one_put : code ≢ NO_MEMORY → after.puts ≡ once_more before.puts
   pub one_put_at_most : (after.puts ≡ before.puts) ⊎ (after.puts ≡ once_more before.puts)
   pub refusals : IsRefusal code → after.holds ≡ before.holds
+  pub calls : CallsAtMost (most_calls asked) before.calls after.calls
   pub files : KeepsOthers asked before.holds after.holds

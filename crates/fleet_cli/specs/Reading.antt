@@ -1,5 +1,5 @@
 -- What a command reads, in what order, and what it writes. One case for each command.
-use Rattle.std.specs.Prelude.{◌≡◌, ◌⊎◌, ℕ, true, List, [], ◌∷◌, Option, Some, None, IsSome}
+use Rattle.std.specs.Prelude.{◌≡◌, ◌⊎◌, ℕ, ◌+◌, true, List, [], ◌∷◌, length, Option, Some, None, IsSome}
 use Rattle.bound_cert.specs.ReadProof.{ReadsAs}
 use Rattle.bound_cert.specs.declared.reading.Proof.{Proof}
 use Rattle.command_words.specs.Words.{Asked, check, judge, make, solve, tails}
@@ -75,7 +75,24 @@ written_files (Some (check dir settings)) = []
 written_files (Some (tails dir settings limits dates)) = []
 written_files (Some (make dir number legs)) = tables_and solution_files
 
+-- how many files the first ones may ask for
+abbrev pub most_further : Option Asked → ℕ
+most_further None = 0
+most_further (Some (judge dir settings)) = 0
+most_further (Some (solve dir settings options)) = 0
+most_further (Some (check dir settings)) = 1
+most_further (Some (tails dir settings limits dates)) = 0
+most_further (Some (make dir number legs)) = 0
+
 -- ---- what follows of each command
+
+-- how many files are read at most
+abbrev pub most_reads : Option Asked → ℕ
+most_reads asked = length (first_files asked) + most_further asked
+
+-- how many files are read and written at most
+abbrev pub most_calls : Option Asked → ℕ
+most_calls asked = most_reads asked + length (written_files asked)
 
 -- the file may be read
 abbrev pub IsRead : Option Asked → DeskFile → Type 0

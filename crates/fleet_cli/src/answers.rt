@@ -4,10 +4,10 @@ ghost use Rattle.command_words.specs.Words.{HasDates, HasLimits, HasSettings, as
 ghost use Rattle.fleet_cli.specs.Answer.{Answers, AnswersSome, says};
 ghost use Rattle.fleet_cli.specs.Failed.{MatchFailure, StopsAs};
 ghost use Rattle.fleet_cli.specs.Gathered.{ReadFails};
-ghost use Rattle.fleet_cli.specs.Reading.{IsMissing, IsRead, folder_of};
+ghost use Rattle.fleet_cli.specs.Reading.{IsMissing, IsRead, folder_of, most_reads};
 ghost use Rattle.fleet_cli.specs.Texts.{usage_text};
 ghost use Rattle.fleet_cli.specs.declared.status.TheConstants.{USAGE};
-ghost use Rattle.plan_desk.specs.Counts.{RoseBy, counted};
+ghost use Rattle.plan_desk.specs.Counts.{CallsAtMost, RoseBy, counted};
 ghost use Rattle.plan_desk.specs.declared.file.TheConstants.{TABLE_LIMIT};
 
 use crate::answer::{Answer, Failure};
@@ -31,6 +31,7 @@ pub struct Reply<'a> {
 }
 
 /// The answer to words, the first of them the program's name. It writes nothing yet.
+#[tactic(auto, using(crate::proofs::CallFacts::no_calls))]
 pub fn reply_to<'a, D: Desk>(
     alloc: Global,
     words: &'a [String],
@@ -40,6 +41,7 @@ pub fn reply_to<'a, D: Desk>(
     ensures some { IfOk result (λ reply. AnswersSome (RoseBy (TABLE_LIMIT + 1) (D.taken desk.old) (D.taken desk.new)) (asked (map string_bytes words.now)) reply.answer) }
     ensures folder { IfOk result (λ reply. reply.dir.now ≡ folder_of (asked (map string_bytes words.now))) }
     ensures holds { D.holds desk.new ≡ D.holds desk.old }
+    ensures calls { CallsAtMost (most_reads (asked (map string_bytes words.now))) (D.calls desk.old) (D.calls desk.new) }
     ensures faults { MatchFailure result (λ _. D.faults desk.new ≡ D.faults desk.old) (D.faults desk.new ≡ counted (D.faults desk.old) 1) (D.faults desk.new ≡ D.faults desk.old) }
     ensures blamed { MatchFailure result (λ _. ⊤) (ReadFails (D.is_steady desk.old) (D.holds desk.old) (IsRead (asked (map string_bytes words.now))) (IsMissing (asked (map string_bytes words.now))) (D.blamed desk.new)) ⊤ }
     ensures stays_steady { D.is_steady desk.old → D.is_steady desk.new }
@@ -68,6 +70,7 @@ fn answer_to<D: Desk>(alloc: Global, command: &Command<'_>, desk: &mut D) -> Res
     ensures told { IfSome (D.holds desk.old) (λ held. IfOk result (Answers held (Some (asked_by command.now)))) }
     ensures some { IfOk result (AnswersSome (RoseBy (TABLE_LIMIT + 1) (D.taken desk.old) (D.taken desk.new)) (Some (asked_by command.now))) }
     ensures holds { D.holds desk.new ≡ D.holds desk.old }
+    ensures calls { CallsAtMost (most_reads (Some (asked_by command.now))) (D.calls desk.old) (D.calls desk.new) }
     ensures faults { MatchFailure result (λ _. D.faults desk.new ≡ D.faults desk.old) (D.faults desk.new ≡ counted (D.faults desk.old) 1) (D.faults desk.new ≡ D.faults desk.old) }
     ensures blamed { MatchFailure result (λ _. ⊤) (ReadFails (D.is_steady desk.old) (D.holds desk.old) (IsRead (Some (asked_by command.now))) (IsMissing (Some (asked_by command.now))) (D.blamed desk.new)) ⊤ }
     ensures stays_steady { D.is_steady desk.old → D.is_steady desk.new }

@@ -28,8 +28,8 @@ pub fn program<D: Desk, S: Sink>(
 ) -> ExitCode
     // All that `run` says, the headline among it, of the words that were given.
     ensures ran { IfSome (given_words given) (λ words. Ran (D.is_steady desk.old) (S.is_steady out.old) (asked words) (exit_status result)
-        (telling (D.holds desk.old) (D.blamed desk.old) (D.faults desk.old) (D.taken desk.old) (S.output out.old) (S.puts out.old) (S.handed out.old) (S.faults out.old))
-        (telling (D.holds desk.new) (D.blamed desk.new) (D.faults desk.new) (D.taken desk.new) (S.output out.new) (S.puts out.new) (S.handed out.new) (S.faults out.new))) }
+        (telling (D.holds desk.old) (D.blamed desk.old) (D.faults desk.old) (D.taken desk.old) (D.calls desk.old) (S.output out.old) (S.puts out.old) (S.handed out.old) (S.faults out.old))
+        (telling (D.holds desk.new) (D.blamed desk.new) (D.faults desk.new) (D.taken desk.new) (D.calls desk.new) (S.output out.new) (S.puts out.new) (S.handed out.new) (S.faults out.new))) }
     ensures one_fault { exit_status result ≡ FAULT → CountsOneFault (D.faults desk.old) (D.faults desk.new) (S.faults out.old) (S.faults out.new) }
     ensures quiet_desk { exit_status result ≢ FAULT → D.faults desk.new ≡ D.faults desk.old }
     ensures quiet_sink { exit_status result ≢ FAULT → S.faults out.new ≡ S.faults out.old }

@@ -3,7 +3,7 @@ ghost use Rattle.std.specs.Prelude.{◌≡◌, ◌≢◌, ◌+◌, ◌<◌, ◌�
 ghost use Rattle.fleet_cli.specs.Contents.{content_of};
 ghost use Rattle.fleet_cli.specs.Gathered.{AllHeld, CalledTooLong, ComesTo, IsAmong, IsFirstTooLong, MatchStop, ReadFailsAmong, limit_of};
 ghost use Rattle.fleet_cli.specs.declared.gathering.Stop.TheVariants as stop;
-ghost use Rattle.plan_desk.specs.Counts.{RoseBy, counted};
+ghost use Rattle.plan_desk.specs.Counts.{CallsAtMost, RoseBy, counted, once_more};
 ghost use Rattle.plan_desk.specs.DeskFile.{path_of};
 ghost use Rattle.plan_desk.specs.declared.file.DeskFile.TheVariants as desk_file;
 ghost use Rattle.plan_desk.specs.declared.file.TheConstants.{PROOF_LIMIT, TABLE_LIMIT};
@@ -35,6 +35,7 @@ pub fn read_files<D: Desk>(
     ensures too_long { MatchStop result (λ _. ⊤) ⊤ (CalledTooLong (RoseBy (TABLE_LIMIT + 1) (D.taken desk.old) (D.taken desk.new)) (IsAmong files.now)) ⊤ }
     ensures taken { D.taken desk.old ≤ D.taken desk.new }
     ensures holds { D.holds desk.new ≡ D.holds desk.old }
+    ensures calls { CallsAtMost (length files.now) (D.calls desk.old) (D.calls desk.new) }
 
     // One fault is counted exactly where reading stops at one, and then a file of the list is blamed.
     ensures faults { MatchStop result (λ _. D.faults desk.new ≡ D.faults desk.old) (D.faults desk.new ≡ counted (D.faults desk.old) 1)
@@ -64,6 +65,7 @@ pub fn read_file<D: Desk>(
     ensures not_proof { MatchStop result (λ _. ⊤) ⊤ (λ _. file ≢ desk_file.Proof) ⊤ }
     ensures taken { D.taken desk.old ≤ D.taken desk.new }
     ensures holds { D.holds desk.new ≡ D.holds desk.old }
+    ensures calls { D.calls desk.new ≡ once_more (D.calls desk.old) }
     ensures faults { MatchStop result (λ _. D.faults desk.new ≡ D.faults desk.old) (D.faults desk.new ≡ counted (D.faults desk.old) 1)
         (λ _. D.faults desk.new ≡ D.faults desk.old) (D.faults desk.new ≡ D.faults desk.old) }
     ensures blamed { MatchStop result (λ _. ⊤) (D.blamed desk.new ≡ Some file) (λ _. ⊤) ⊤ }

@@ -1,13 +1,13 @@
-ghost use Rattle.std.specs.Prelude.{◌≡◌, ◌≢◌, ◌⊎◌, ◌+◌, None, IfSome, IsSome, IsSomeAnd, map, string_bytes};
-ghost use Rattle.fleet_cli.specs.Reading.{NamesStand};
+ghost use Rattle.std.specs.Prelude.{◌≡◌, ◌≢◌, ◌⊎◌, ◌+◌, None, IfSome, IsSome, IsSomeAnd, length, map, string_bytes};
+ghost use Rattle.fleet_cli.specs.Reading.{NamesStand, most_calls};
 ghost use Rattle.fleet_cli.specs.Headline.{Headline};
 ghost use Rattle.fleet_cli.specs.Run.{AnswersExactly, AnswersInFull, BlamesMissing, CountsOneFault, FailsAt, IsAnswered, IsComplete, IsEnd, IsRefusal, KeepsOthers, LeavesFiles, PutsFault, PutsPart, SomeInFull};
 ghost use Rattle.fleet_cli.specs.Texts.{usage_text};
 ghost use Rattle.command_words.specs.Words.{asked};
 ghost use Rattle.fleet_cli.specs.Written.{HaveLengths, StandsAfter, WriteFails, WritesFirst, held_with_texts};
 ghost use Rattle.fleet_cli.specs.declared.status.TheConstants.{FAULT, NO_MEMORY, USAGE};
-ghost use Rattle.plan_desk.specs.Counts.{IsOneMoreAtMost, RoseBy, counted};
-ghost use Rattle.plan_desk.specs.Sink.{AppendsPrefix, handed_with, once_more, output_with};
+ghost use Rattle.plan_desk.specs.Counts.{CallsAtMost, IsOneMoreAtMost, RoseBy, counted, once_more};
+ghost use Rattle.plan_desk.specs.Sink.{AppendsPrefix, handed_with, output_with};
 ghost use Rattle.plan_desk.specs.declared.file.TheConstants.{TABLE_LIMIT};
 
 use crate::answer::{Answer, Failure};
@@ -80,6 +80,9 @@ pub fn run<D: Desk, S: Sink>(alloc: Global, words: &[String], desk: &mut D, out:
     ensures one_put { result.code ≢ NO_MEMORY → S.puts out.new ≡ once_more (S.puts out.old) }
     ensures one_put_at_most { (S.puts out.new ≡ S.puts out.old) ⊎ (S.puts out.new ≡ once_more (S.puts out.old)) }
 
+    // There are no more calls of the desk than files that may be read and written.
+    ensures calls { CallsAtMost (most_calls (asked (map string_bytes words.now))) (D.calls desk.old) (D.calls desk.new) }
+
     // A refusal writes no file, and no name changes but those that what is asked for writes.
     ensures refusals { IsRefusal result.code → D.holds desk.new ≡ D.holds desk.old }
     ensures files { KeepsOthers (asked (map string_bytes words.now)) (D.holds desk.old) (D.holds desk.new) }
@@ -115,6 +118,7 @@ fn give<D: Desk, S: Sink>(
     ensures quiet_desk { result.code ≢ FAULT → D.faults desk.new ≡ D.faults desk.old }
     ensures quiet_sink { result.code ≢ FAULT → S.faults out.new ≡ S.faults out.old }
     ensures taken { D.taken desk.new ≡ D.taken desk.old }
+    ensures calls { CallsAtMost (length answer.now.files) (D.calls desk.old) (D.calls desk.new) }
     ensures steady { D.is_steady desk.old → S.is_steady out.old → result.code ≢ FAULT }
     ensures one_put { result.code ≢ NO_MEMORY → S.puts out.new ≡ once_more (S.puts out.old) }
     ensures one_put_at_most { (S.puts out.new ≡ S.puts out.old) ⊎ (S.puts out.new ≡ once_more (S.puts out.old)) }

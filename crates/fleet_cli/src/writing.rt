@@ -2,7 +2,7 @@
 ghost use Rattle.std.specs.Prelude.{◌≡◌, ◌≤◌, OnErr, OnOk, length, ⊤};
 ghost use Rattle.fleet_cli.specs.Failed.{MatchFailure};
 ghost use Rattle.fleet_cli.specs.Written.{HaveLengths, WriteFails, WritesFirst, WritesPart, held_with_texts};
-ghost use Rattle.plan_desk.specs.Counts.{counted};
+ghost use Rattle.plan_desk.specs.Counts.{CallsAtMost, counted, once_more};
 ghost use Rattle.plan_desk.specs.Desk.{ChangesOnly, held_with};
 ghost use Rattle.plan_desk.specs.DeskFile.{path_of};
 ghost use Rattle.plan_desk.specs.declared.file.TheConstants.{PROOF_LIMIT};
@@ -26,6 +26,7 @@ pub fn write_all<D: Desk>(
     ensures lengths { OnOk result (HaveLengths texts.now) }
     ensures faults { MatchFailure result (λ _. D.faults desk.new ≡ D.faults desk.old) (D.faults desk.new ≡ counted (D.faults desk.old) 1) (D.faults desk.new ≡ D.faults desk.old) }
     ensures taken { D.taken desk.new ≡ D.taken desk.old }
+    ensures calls { CallsAtMost (length texts.now) (D.calls desk.old) (D.calls desk.new) }
     ensures steady { D.is_steady desk.old → MatchFailure result (λ _. ⊤) ⊥ ⊤ }
 {
     for text in texts {
@@ -50,6 +51,7 @@ fn write_one<D: Desk>(
     ensures blamed { MatchFailure result (λ _. ⊤) (D.blamed desk.new ≡ Some text.now.file) ⊤ }
     ensures length { length text.now.bytes ≤ PROOF_LIMIT }
     ensures taken { D.taken desk.new ≡ D.taken desk.old }
+    ensures calls { D.calls desk.new ≡ once_more (D.calls desk.old) }
     ensures steady { D.is_steady desk.old → MatchFailure result (λ _. ⊤) ⊥ ⊤ }
     ensures stays_steady { D.is_steady desk.old → D.is_steady desk.new }
 {

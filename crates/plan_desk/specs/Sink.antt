@@ -13,10 +13,6 @@ output_with output piece = option_map (λ put. put ++ piece) output
 abbrev pub AppendsPrefix : List ℕ → Option (List ℕ) → Option (List ℕ) → Type 0
 AppendsPrefix piece old new = (n : ℕ) × (new ≡ output_with old (take n piece))
 
--- one put more than before, where the sink counts them
-abbrev pub once_more : Option ℕ → Option ℕ
-once_more puts = option_map (λ n. counted n 1) puts
-
 -- a piece's bytes more than before, where the sink counts those that it is handed
 abbrev pub handed_with : Option ℕ → List ℕ → Option ℕ
 handed_with handed piece = option_map (λ n. counted n (length piece)) handed

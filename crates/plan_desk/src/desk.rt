@@ -2,7 +2,7 @@ ghost use Rattle.std.specs.Prelude.{◌≡◌, ◌+◌, ◌-◌, ◌<◌, ◌≤
 ghost use Rattle.plan_desk.specs.declared.file.DeskFile.{DeskFile};
 ghost use Rattle.plan_desk.specs.declared.desk.DeskError.TheVariants.{NoMemory};
 ghost use Rattle.plan_desk.specs.DeskFile.{path_of};
-ghost use Rattle.plan_desk.specs.Counts.{counted, RoseBy};
+ghost use Rattle.plan_desk.specs.Counts.{counted, once_more, RoseBy};
 ghost use Rattle.plan_desk.specs.Desk.{Files, held_with, ChangesOnly, MatchFailed, OnNoMemory, OnTooLong, IsFailed, IsNotFailed};
 
 use crate::DeskFile;
@@ -56,6 +56,10 @@ pub trait Desk {
     /// How many bytes reads took.
     ghost taken: { Self → ℕ };
 
+    /// How many calls were made, reads and writes together, where the desk counts them. The count stays at 2^64 - 1 once
+    /// there.
+    ghost calls: { Self → Option ℕ };
+
     /// The next call is planned to fail.
     ghost fails_next: { Self → Type 0 };
 
@@ -81,6 +85,7 @@ pub trait Desk {
 
         ensures taken { IfOk result (λ bytes. taken self.new ≡ counted (taken self.old) (length bytes.items)) }
         ensures taken_never_falls { taken self.old ≤ taken self.new }
+        ensures calls { calls self.new ≡ once_more (calls self.old) }
 
         ensures faults { MatchFailed result (faults self.new ≡ counted (faults self.old) 1) (faults self.new ≡ faults self.old) }
         ensures faults_never_fall { faults self.old ≤ faults self.new }
@@ -102,6 +107,7 @@ pub trait Desk {
         ensures unchanged { OnNoMemory result (holds self.new ≡ holds self.old) }
         ensures never_too_long { OnTooLong result ⊥ }
         ensures taken { taken self.new ≡ taken self.old }
+        ensures calls { calls self.new ≡ once_more (calls self.old) }
 
         ensures faults { MatchFailed result (faults self.new ≡ counted (faults self.old) 1) (faults self.new ≡ faults self.old) }
         ensures faults_never_fall { faults self.old ≤ faults self.new }

@@ -43,6 +43,8 @@ impl<R: Files> Desk for FileDesk<R> {
 
     ghost taken = { λ desk. desk.taken };
 
+    ghost calls = { λ desk. None };
+
     ghost fails_next = { λ desk. ⊥ };
 
     ghost is_steady = { λ desk. ⊥ };

@@ -44,6 +44,7 @@ impl MemoryDesk {
         ensures faults { IfOk result (λ desk. ⟦<MemoryDesk as Desk>⟧.faults desk ≡ 0) }
         ensures blamed { IfOk result (λ desk. ⟦<MemoryDesk as Desk>⟧.blamed desk ≡ None) }
         ensures taken { IfOk result (λ desk. ⟦<MemoryDesk as Desk>⟧.taken desk ≡ 0) }
+        ensures counts { IfOk result (λ desk. ⟦<MemoryDesk as Desk>⟧.calls desk ≡ Some 0) }
         ensures fails_next { IfOk result (λ desk. ⟦<MemoryDesk as Desk>⟧.fails_next desk ↔ IsListed 1 failing.items) }
         ensures steady { IfOk result (λ desk. ⟦<MemoryDesk as Desk>⟧.is_steady desk ↔ (failing.items ≡ [])) }
     {
@@ -115,6 +116,8 @@ impl Desk for MemoryDesk {
     ghost blamed = { blamed_of };
 
     ghost taken = { taken_of };
+
+    ghost calls = { λ desk. Some (calls_of desk) };
 
     ghost fails_next = { IsToFail };
 

@@ -1,7 +1,7 @@
 ghost use Rattle.std.specs.Prelude.{◌≡◌, ◌≤◌, ℕ, List, Option, OnOk, OnErr};
 ghost use Rattle.plan_desk.specs.declared.sink.SinkError.TheVariants.{NoMemory};
-ghost use Rattle.plan_desk.specs.Counts.{counted};
-ghost use Rattle.plan_desk.specs.Sink.{handed_with, output_with, once_more, AppendsPrefix, MatchPutFailed, OnPutNoMemory, IsPutFailed, IsPutNotFailed};
+ghost use Rattle.plan_desk.specs.Counts.{counted, once_more};
+ghost use Rattle.plan_desk.specs.Sink.{handed_with, output_with, AppendsPrefix, MatchPutFailed, OnPutNoMemory, IsPutFailed, IsPutNotFailed};
 
 use std::alloc::AllocError;
 use thiserror::Error;

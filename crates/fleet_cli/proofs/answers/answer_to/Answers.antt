@@ -7,6 +7,7 @@ use Rattle.fleet_cli.specs.Gathered.{ComesTo, IsAmong}
 use Rattle.fleet_cli.specs.Reading.{IsReached, IsRead, first_files, folder_of}
 use Rattle.fleet_cli.specs.declared.contents.Contents.{Contents}
 use Rattle.fleet_cli.proofs.AnswerFacts.{told_awaited, told_reached, told_settled}
+use Rattle.fleet_cli.proofs.CallFacts.{reads_first, reads_plan}
 use Rattle.fleet_cli.proofs.FrontFacts.{held_if}
 use Rattle.fleet_cli.proofs.StopFacts.{called, fails, rose_before, some_stopped, stopped_as, told_stopped, too_long, weaker_called, weaker_fails, weaker_long}
 use Rattle.fleet_cli.proofs.answers.answer_to.Goals as goal
@@ -63,3 +64,29 @@ returns-clause-blamed g c =
     stopped_as Contents c.in-Err.stop c.stopped-in-Err.result ⊤ _ c.stopped-in-Err.ensures
     (weaker_fails Contents _ _ (folder_of asked) (IsAmong (first_files asked)) (IsRead asked) (λ held. ComesTo held (folder_of asked) (first_files asked)) (IsReached asked) _ c.in-Err.stop (λ f among. inl among) (λ held f comes. inl comes)
     (rw (c.folder-dir.ensures, c.first_files.ensures) at c.in-Err.ensures.blamed))
+
+-- ---- calls
+
+pub returns-in-Answered-clause-calls : goal.returns-in-Answered-clause-calls
+returns-in-Answered-clause-calls g c = reads_first (Some (asked_by c.args.command.now)) _ _ (rw c.first_files.ensures at c.in-Ok.ensures.calls)
+
+pub returns-in-Ok-read_file-clause-calls : goal.returns-in-Ok-read_file-clause-calls
+returns-in-Ok-read_file-clause-calls g c =
+    let awaits = rw c.in-WantsPlan.is at c.in_ok-answer-in-Ok.ensures in
+    reads_plan (Some (asked_by c.args.command.now)) (content_of c.in-Ok.contents) _ _ _ awaits.wanted (rw c.first_files.ensures at c.in-Ok.ensures.calls) c.in-Ok-read_file.ensures.calls
+
+pub returns-in-Ok-clause-calls : goal.returns-in-Ok-clause-calls
+returns-in-Ok-clause-calls g c =
+    let awaits = rw c.in-WantsPlan.is at c.in_ok-answer-in-Ok.ensures in
+    reads_plan (Some (asked_by c.args.command.now)) (content_of c.in-Ok.contents) _ _ _ awaits.wanted (rw c.first_files.ensures at c.in-Ok.ensures.calls) c.in-Err-read_file.ensures.calls
+
+pub returns-clause-calls : goal.returns-clause-calls
+returns-clause-calls g c = reads_first (Some (asked_by c.args.command.now)) _ _ (rw c.first_files.ensures at c.in-Err.ensures.calls)
+
+pub returns-in_err-answer-in-Ok-clause-calls : goal.returns-in_err-answer-in-Ok-clause-calls
+returns-in_err-answer-in-Ok-clause-calls g c = reads_first (Some (asked_by c.args.command.now)) _ _ (rw c.first_files.ensures at c.in-Ok.ensures.calls)
+
+pub returns-in_err-check_plan-in-Ok-read_file-clause-calls : goal.returns-in_err-check_plan-in-Ok-read_file-clause-calls
+returns-in_err-check_plan-in-Ok-read_file-clause-calls g c =
+    let awaits = rw c.in-WantsPlan.is at c.in_ok-answer-in-Ok.ensures in
+    reads_plan (Some (asked_by c.args.command.now)) (content_of c.in-Ok.contents) _ _ _ awaits.wanted (rw c.first_files.ensures at c.in-Ok.ensures.calls) c.in-Ok-read_file.ensures.calls

@@ -9,8 +9,8 @@ use Rattle.fleet_cli.proofs.calling.program.Goals as goal
 pub returns-in-Ok-clause-ran : goal.returns-in-Ok-clause-ran
 returns-in-Ok-clause-ran g c =
     ran_on (g.D.Desk.is_steady c.args.desk.now) (g.S.Sink.is_steady c.args.out.now) (given_words c.args.given) (map string_bytes c.in-Ok.words.items) (map string_bytes c.as_slice.result.now) c.run.result.code _
-    (telling (g.D.Desk.holds c.args.desk.now) (g.D.Desk.blamed c.args.desk.now) (g.D.Desk.faults c.args.desk.now) (g.D.Desk.taken c.args.desk.now) (g.S.Sink.output c.args.out.now) (g.S.Sink.puts c.args.out.now) (g.S.Sink.handed c.args.out.now) (g.S.Sink.faults c.args.out.now))
-    (telling (g.D.Desk.holds c.run.new.desk) (g.D.Desk.blamed c.run.new.desk) (g.D.Desk.faults c.run.new.desk) (g.D.Desk.taken c.run.new.desk) (g.S.Sink.output c.run.new.out) (g.S.Sink.puts c.run.new.out) (g.S.Sink.handed c.run.new.out) (g.S.Sink.faults c.run.new.out))
+    (telling (g.D.Desk.holds c.args.desk.now) (g.D.Desk.blamed c.args.desk.now) (g.D.Desk.faults c.args.desk.now) (g.D.Desk.taken c.args.desk.now) (g.D.Desk.calls c.args.desk.now) (g.S.Sink.output c.args.out.now) (g.S.Sink.puts c.args.out.now) (g.S.Sink.handed c.args.out.now) (g.S.Sink.faults c.args.out.now))
+    (telling (g.D.Desk.holds c.run.new.desk) (g.D.Desk.blamed c.run.new.desk) (g.D.Desk.faults c.run.new.desk) (g.D.Desk.taken c.run.new.desk) (g.D.Desk.calls c.run.new.desk) (g.S.Sink.output c.run.new.out) (g.S.Sink.puts c.run.new.out) (g.S.Sink.handed c.run.new.out) (g.S.Sink.faults c.run.new.out))
     c.in-Ok.ensures.words (ap (map string_bytes) c.as_slice.ensures.value) c.from.ensures
     (record {
       answer = c.run.ensures.answer;
@@ -32,11 +32,12 @@ returns-in-Ok-clause-ran g c =
       one_put = c.run.ensures.one_put;
       one_put_at_most = c.run.ensures.one_put_at_most;
       refusals = c.run.ensures.refusals;
+      calls = c.run.ensures.calls;
       files = c.run.ensures.files;
     })
 
 pub returns-in-Err-clause-ran : goal.returns-in-Err-clause-ran
 returns-in-Err-clause-ran g c =
-    let told = (telling (g.D.Desk.holds c.args.desk.now) (g.D.Desk.blamed c.args.desk.now) (g.D.Desk.faults c.args.desk.now) (g.D.Desk.taken c.args.desk.now) (g.S.Sink.output c.args.out.now) (g.S.Sink.puts c.args.out.now) (g.S.Sink.handed c.args.out.now) (g.S.Sink.faults c.args.out.now)) in
+    let told = (telling (g.D.Desk.holds c.args.desk.now) (g.D.Desk.blamed c.args.desk.now) (g.D.Desk.faults c.args.desk.now) (g.D.Desk.taken c.args.desk.now) (g.D.Desk.calls c.args.desk.now) (g.S.Sink.output c.args.out.now) (g.S.Sink.puts c.args.out.now) (g.S.Sink.handed c.args.out.now) (g.S.Sink.faults c.args.out.now)) in
     of_any (λ words. Ran (g.D.Desk.is_steady c.args.desk.now) (g.S.Sink.is_steady c.args.out.now) (asked words) (exit_status c.from-in-Err.result) told told) (given_words c.args.given)
     (λ words. did_nothing (g.D.Desk.is_steady c.args.desk.now) (g.S.Sink.is_steady c.args.out.now) (asked words) (exit_status c.from-in-Err.result) told c.from-in-Err.ensures)

@@ -1,5 +1,6 @@
-use Rattle.std.proofs.Common.{rules}
+use Rattle.std.proofs.Common.{arith, rules}
 use Rattle.std.proofs.lemmas.Result.{err_from_is_err_and}
+use Rattle.fleet_cli.proofs.CallFacts.{after_one_more, one_more_call}
 use Rattle.fleet_cli.proofs.FrontFacts.{at_place, comes_to_if, front_put_if}
 use Rattle.fleet_cli.proofs.StopFacts.{called, fails, rose_before, too_long}
 use Rattle.fleet_cli.specs.Contents.{content_of}
@@ -27,11 +28,19 @@ returns-in_err-bytes-clause-blamed g c =
     (at_place c.args.files.now c.loop-file.file-index _ c.loop-file-test.true) invariant.steady (comes_to_if _ _ _ c.loop-file.file-index _ (content_of c.loop-file.contents) invariant.front c.loop-file-test.true)
     c.in_err-bytes.ensures.blamed (rw invariant.holds at c.in_err-bytes.ensures.missing))
 
+pub returns-in_err-bytes-clause-calls : goal.returns-in_err-bytes-clause-calls
+returns-in_err-bytes-clause-calls g c = one_more_call _ _ _ _ _ c.loop-file-test.true c.loop-file.invariant.calls c.in_err-bytes.ensures.calls
+
+pub returns-clause-calls : goal.returns-clause-calls
+returns-clause-calls g c = record { calls = c.loop-file.file-index; within = c.loop-file.invariant.within; made = c.loop-file.invariant.calls }
+
 pub loop-file-preserved : goal.loop-file-preserved
 loop-file-preserved g c = record {
   holds = search rules;
   faults = search rules;
   taken = search rules;
+  calls = after_one_more c.loop-file.file-index (g.D.Desk.calls c.args.desk.now) _ _ c.loop-file.invariant.calls c.in_ok-bytes.ensures.calls;
+  within = let below = c.loop-file-test.true in omega arith;
   steady = search rules;
   front = rw c.put.ensures (front_put_if _ _ _ _ _ _ _ c.loop-file.invariant.front c.loop-file-test.true (rw c.loop-file.invariant.holds at c.in_ok-bytes.ensures.told) c.in_ok-bytes.ensures.within);
 }

@@ -1,8 +1,10 @@
-use Rattle.std.proofs.Common.{ap, map, string_bytes, inl, inr, ◌∙◌}
+use Rattle.std.proofs.Common.{ap, arith, map, string_bytes, inl, inr, ◌∙◌}
 use Rattle.command_words.specs.Words.{asked}
+use Rattle.fleet_cli.proofs.CallFacts.{calls_then, reads_alone}
 use Rattle.fleet_cli.proofs.Headlines.{headline}
 use Rattle.fleet_cli.proofs.OneAnswer.{complete, exactly}
-use Rattle.fleet_cli.proofs.Others.{answer_ends, keeps_others, refusal_ends, refusal_leaves}
+use Rattle.fleet_cli.proofs.Others.{answer_ends, keeps_others, writes_few, refusal_ends, refusal_leaves}
+use Rattle.fleet_cli.specs.Reading.{most_calls, most_reads}
 use Rattle.fleet_cli.proofs.running.run.Goals as goal
 
 pub returns-in-Ok-clause-exactly : goal.returns-in-Ok-clause-exactly
@@ -38,3 +40,14 @@ give-requires g c = answer_ends _ (asked (map string_bytes c.args.words.now)) c.
 pub returns-in-Ok-clause-no_memory : goal.returns-in-Ok-clause-no_memory
 returns-in-Ok-clause-no_memory g c = λ memory.
     inr (record { answer = c.in-Ok.reply.answer; answers = c.in-Ok.ensures.told; first = rw (c.in-Ok.ensures.folder, c.in-Ok.ensures.holds) at (c.give.ensures.stopped_by_memory memory) })
+
+pub returns-in-Ok-clause-calls : goal.returns-in-Ok-clause-calls
+returns-in-Ok-clause-calls g c =
+    let few = writes_few _ (asked (map string_bytes c.args.words.now)) c.in-Ok.reply.answer c.in-Ok.ensures.some in
+    calls_then _ _ _ (most_reads (asked (map string_bytes c.args.words.now))) _ (most_calls (asked (map string_bytes c.args.words.now))) (omega arith) c.in-Ok.ensures.calls c.give.ensures.calls
+
+pub returns-in-Err-Fault-clause-calls : goal.returns-in-Err-Fault-clause-calls
+returns-in-Err-Fault-clause-calls g c = reads_alone _ _ _ c.in-Err-Fault.ensures.calls
+
+pub returns-in-Err-NoMemory-clause-calls : goal.returns-in-Err-NoMemory-clause-calls
+returns-in-Err-NoMemory-clause-calls g c = reads_alone _ _ _ c.in-Err-NoMemory.ensures.calls

@@ -1,4 +1,5 @@
 use Rattle.std.proofs.Common.{◌≡◌, ◌<◌, ◌≤◌, ℕ, get_or, length, take}
+use Rattle.plan_desk.specs.Counts.{more_times}
 use Rattle.plan_desk.specs.declared.file.TheConstants.{PROOF_LIMIT}
 use Rattle.fleet_cli.specs.declared.answer.FileText.{FileText}
 use Rattle.fleet_cli.specs.Written.{held_with_texts}
@@ -9,6 +10,8 @@ invariant-loop-text g l = record {
   holds : g.D.Desk.holds l.desk ≡ held_with_texts (g.D.Desk.holds l.fn.desk) l.dir (take l.text-index l.texts);
   faults : g.D.Desk.faults l.desk ≡ g.D.Desk.faults l.fn.desk;
   taken : g.D.Desk.taken l.desk ≡ g.D.Desk.taken l.fn.desk;
+  calls : g.D.Desk.calls l.desk ≡ more_times l.text-index (g.D.Desk.calls l.fn.desk);
+  within : l.text-index ≤ length l.texts;
   lengths : (k : ℕ) (e : FileText) → k < l.text-index → length (get_or l.texts k e).bytes ≤ PROOF_LIMIT;
   steady : g.D.Desk.is_steady l.fn.desk → g.D.Desk.is_steady l.desk;
 }

@@ -1,0 +1,57 @@
+-- How often the desk is called.
+use Rattle.std.proofs.Common.{◌≡◌, ℕ, zero, suc, ◌+◌, ◌<◌, ◌≤◌, List, length, Option, Some, None, refl, sym, ap, ◌∙◌, arith}
+use Rattle.command_words.specs.Words.{Asked, check, judge, make, solve, tails}
+use Rattle.plan_desk.specs.Counts.{CallsAtMost, more_times, once_more}
+use Rattle.plan_desk.specs.declared.file.DeskFile.TheVariants as file
+use Rattle.fleet_cli.specs.Contents.{FileBytes}
+use Rattle.fleet_cli.specs.Reading.{Follows, first_files, most_calls, most_reads, written_files}
+
+-- one call after n of them
+pub after_one_more : (n : ℕ) (before mid now : Option ℕ) → mid ≡ more_times n before → now ≡ once_more mid → now ≡ more_times (n + 1) before
+after_one_more n before mid now so_far one = let next : suc n ≡ n + 1 = omega arith in one ∙ ap (λ c. once_more c) so_far ∙ ap (λ k. more_times k before) next
+
+-- calls after calls
+times_after : (m n : ℕ) (count : Option ℕ) → more_times m (more_times n count) ≡ more_times (m + n) count
+times_after zero n count = let same : n ≡ 0 + n = omega arith in ap (λ k. more_times k count) same
+times_after (suc m) n count = let next : suc (m + n) ≡ suc m + n = omega arith in ap (λ c. once_more c) (times_after m n count) ∙ ap (λ k. more_times k count) next
+
+module _ (before mid now : Option ℕ) where
+  -- n calls, and then one more
+  pub one_more_call : (n most : ℕ) → n < most → mid ≡ more_times n before → now ≡ once_more mid → CallsAtMost most before now
+  one_more_call n most below so_far one = record { calls = n + 1; within = omega arith; made = after_one_more n before mid now so_far one }
+
+  -- so many at most, and then so many more at most
+  pub calls_then : (first more most : ℕ) → first + more ≤ most → CallsAtMost first before mid → CallsAtMost more mid now → CallsAtMost most before now
+  calls_then first more most within one two =
+      let w = one.within in
+      let v = two.within in
+      record { calls = two.calls + one.calls; within = omega arith; made = two.made ∙ ap (λ c. more_times two.calls c) one.made ∙ times_after two.calls one.calls before }
+
+  pub then_one : (first most : ℕ) → first < most → CallsAtMost first before mid → now ≡ once_more mid → CallsAtMost most before now
+  then_one first most within one two = let w = one.within in one_more_call one.calls most (omega arith) one.made two
+
+pub weaker_calls : (before now : Option ℕ) (few most : ℕ) → few ≤ most → CallsAtMost few before now → CallsAtMost most before now
+weaker_calls before now few most less calls = let w = calls.within in record { calls = calls.calls; within = omega arith; made = calls.made }
+
+-- the first files alone
+pub reads_first : (asked : Option Asked) (before now : Option ℕ) → CallsAtMost (length (first_files asked)) before now → CallsAtMost (most_reads asked) before now
+reads_first asked before now = weaker_calls before now (length (first_files asked)) (most_reads asked) (omega arith)
+
+-- and the plan, which they ask for
+pub reads_plan : (asked : Option Asked) (bytes : FileBytes) (before mid now : Option ℕ) → Follows asked bytes file.Plan → CallsAtMost (length (first_files asked)) before mid → now ≡ once_more mid
+    → CallsAtMost (most_reads asked) before now
+reads_plan None bytes before mid now follows first one = absurd follows
+reads_plan (Some (judge dir settings)) bytes before mid now follows first one = absurd follows
+reads_plan (Some (solve dir settings options)) bytes before mid now follows first one = absurd follows
+reads_plan (Some (check dir settings)) bytes before mid now follows first one =
+    then_one before mid now (length (first_files (Some (check dir settings)))) (most_reads (Some (check dir settings))) (omega arith) first one
+reads_plan (Some (tails dir settings limits dates)) bytes before mid now follows first one = absurd follows
+reads_plan (Some (make dir number legs)) bytes before mid now follows first one = absurd follows
+
+-- no file is written
+pub reads_alone : (asked : Option Asked) (before now : Option ℕ) → CallsAtMost (most_reads asked) before now → CallsAtMost (most_calls asked) before now
+reads_alone asked before now = weaker_calls before now (most_reads asked) (most_calls asked) (omega arith)
+
+-- no call
+pub no_calls : (most : ℕ) (now : Option ℕ) → CallsAtMost most now now
+no_calls most now = record { calls = 0; within = omega arith; made = refl }
