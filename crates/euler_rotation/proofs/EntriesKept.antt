@@ -5,7 +5,7 @@ use Rattle.std.proofs.Math.Seq.{get_or-append_seam}
 use Rattle.std.proofs.lemmas.Bool.{cases_lt, eq-eqb, eqb-true, or_left, or_parts, or_right}
 use Rattle.std.proofs.lemmas.List.{get_or_append_left}
 use Rattle.std.proofs.lemmas.List.Elements.{All-append, All-cons}
-use Rattle.sums.proofs.Tests.{by_test, no_both, parts_true}
+use Rattle.sums.proofs.Tests.{by_test, no_both, not_true, parts_true}
 use Rattle.fleet_model.specs.declared.parts.Connection.{Connection}
 use Rattle.fleet_model.specs.declared.tables.Tables.{Tables}
 use Rattle.ground_turns.specs.Maps.{turn_at}
@@ -38,10 +38,6 @@ each_passes : (p : Connection → Bool) (xs : List Connection) → list_all p xs
 each_passes p [] all k lt = absurd (omega arith)
 each_passes p (x ∷ xs) all zero lt = (parts_true (p x) (list_all p xs) all).0
 each_passes p (x ∷ xs) all (suc k) lt = each_passes p xs (parts_true (p x) (list_all p xs) all).1 k (omega arith)
-
-not_true : (b : Bool) → not b ≡ true → b ≡ false
-not_true true e = sym e
-not_true false e = refl
 
 agrees_with : (turn pair : Connection) → keeps_pair turn pair ≡ true → AgreesWith turn pair
 agrees_with turn pair keeps = by_test (pair.arriving == turn.arriving)
