@@ -1,5 +1,6 @@
 pub mod AfterDashes
 pub mod Civil
+pub mod CommandParts
 pub mod Entered
 pub mod Fails
 pub mod GivenRows

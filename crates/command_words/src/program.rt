@@ -1,5 +1,5 @@
 //! The command line that `specs/Program.antt` writes down, built of clap's parts.
-ghost use Rattle.std.specs.Prelude.{◌≡◌, IfOk, codes, false};
+ghost use Rattle.std.specs.Prelude.{◌≡◌, IfOk, IsOkAnd, codes, false};
 ghost use Rattle.clap.specs.Words.{app_of, rule_of, shape_of, with_subcommand};
 ghost use Rattle.clap.specs.declared.builder.command.Command.TheViews.{out-Command};
 ghost use Rattle.command_words.specs.Program.{Builds, BuildsRotationOptions, BuildsRule, IsRule, bare_app, check_app, flag_named, folder_app, judge_app, make_app, option_named, our_app, solve_app, tails_app, word_named};
@@ -11,16 +11,11 @@ use std::alloc::{AllocError, Global};
 pub(crate) fn program<'a>(alloc: Global) -> Result<Command<'a>, AllocError>
     ensures { IfOk result (λ command. app_of command ≡ our_app) }
 {
-    let judge = judge_command(alloc)?;
-    let solve = solve_command(alloc)?;
-    let check = check_command(alloc)?;
-    let tails = tails_command(alloc)?;
-    let make = make_command(alloc)?;
-    let with_judge = with_command(bare_program(alloc), judge)?;
-    let with_solve = with_command(with_judge, solve)?;
-    let with_check = with_command(with_solve, check)?;
-    let with_tails = with_command(with_check, tails)?;
-    with_command(with_tails, make)
+    let with_judge = with_command(Ok(bare_program(alloc)), judge_command(alloc));
+    let with_solve = with_command(with_judge, solve_command(alloc));
+    let with_check = with_command(with_solve, check_command(alloc));
+    let with_tails = with_command(with_check, tails_command(alloc));
+    with_command(with_tails, make_command(alloc))
 }
 
 /// The program without commands. It does nothing where no command is named.
@@ -30,12 +25,14 @@ fn bare_program<'a>(alloc: Global) -> Command<'a>
     Command::new(alloc, "fleetplan").subcommand_required(true)
 }
 
-/// The program with one more command.
-fn with_command<'a>(program: Command<'a>, command: Command<'a>) -> Result<Command<'a>, AllocError>
-    requires { (out-Command command).has_globals ≡ false }
-    ensures { IfOk result (λ more. app_of more ≡ with_subcommand (app_of program.entry) (shape_of command.entry)) }
+/// The program with one more command, where there was memory for both.
+fn with_command<'a>(
+    program: Result<Command<'a>, AllocError>,
+    command: Result<Command<'a>, AllocError>,
+) -> Result<Command<'a>, AllocError>
+    ensures { IfOk result (λ more. IsOkAnd program.entry (λ old. IsOkAnd command.entry (λ below. (out-Command below).has_globals ≡ false → app_of more ≡ with_subcommand (app_of old) (shape_of below)))) }
 {
-    program.subcommand(command)
+    program?.subcommand(command?)
 }
 
 /// `judge DIR [--day-start HH:MM]`
@@ -49,10 +46,10 @@ fn judge_command<'a>(alloc: Global) -> Result<Command<'a>, AllocError>
 fn solve_command<'a>(alloc: Global) -> Result<Command<'a>, AllocError>
     ensures { IfOk result (Builds solve_app) }
 {
-    let bare = folder_command(alloc, "solve")?;
-    let with_rotations = with_rotation_options(alloc, bare)?;
-    let with_nodes = with_argument(with_rotations, option(alloc, "nodes"))?;
-    let with_pivots = with_argument(with_nodes, option(alloc, "pivots"))?;
+    let bare = folder_command(alloc, "solve");
+    let with_rotations = with_rotation_options(alloc, bare);
+    let with_nodes = with_argument(with_rotations, option(alloc, "nodes"));
+    let with_pivots = with_argument(with_nodes, option(alloc, "pivots"));
     with_argument(with_pivots, flag(alloc, "json"))
 }
 
@@ -67,9 +64,9 @@ fn check_command<'a>(alloc: Global) -> Result<Command<'a>, AllocError>
 fn tails_command<'a>(alloc: Global) -> Result<Command<'a>, AllocError>
     ensures { IfOk result (Builds tails_app) }
 {
-    let bare = folder_command(alloc, "tails")?;
-    let with_date = with_argument(bare, word(alloc, "date"))?;
-    let with_count = with_argument(with_date, word(alloc, "count"))?;
+    let bare = folder_command(alloc, "tails");
+    let with_date = with_argument(bare, word(alloc, "date"));
+    let with_count = with_argument(with_date, word(alloc, "count"));
     with_rotation_options(alloc, with_count)
 }
 
@@ -77,8 +74,8 @@ fn tails_command<'a>(alloc: Global) -> Result<Command<'a>, AllocError>
 fn make_command<'a>(alloc: Global) -> Result<Command<'a>, AllocError>
     ensures { IfOk result (Builds make_app) }
 {
-    let with_folder = with_argument(Command::new(alloc, "make"), word(alloc, "dir"))?;
-    let with_number = with_argument(with_folder, word(alloc, "number"))?;
+    let with_folder = with_argument(Ok(Command::new(alloc, "make")), word(alloc, "dir"));
+    let with_number = with_argument(with_folder, word(alloc, "number"));
     with_argument(with_number, word(alloc, "legs"))
 }
 
@@ -86,25 +83,31 @@ fn make_command<'a>(alloc: Global) -> Result<Command<'a>, AllocError>
 fn folder_command<'a>(alloc: Global, name: &'a str) -> Result<Command<'a>, AllocError>
     ensures { IfOk result (Builds (folder_app name.now)) }
 {
-    let with_folder = with_argument(Command::new(alloc, name), word(alloc, "dir"))?;
+    let with_folder = with_argument(Ok(Command::new(alloc, name)), word(alloc, "dir"));
     with_argument(with_folder, option(alloc, "day-start"))
 }
 
 /// The command with `[--through-max M] [--days D] [--visits V]`.
-fn with_rotation_options<'a>(alloc: Global, command: Command<'a>) -> Result<Command<'a>, AllocError>
-    ensures { IfOk result (BuildsRotationOptions command.entry) }
+fn with_rotation_options<'a>(
+    alloc: Global,
+    command: Result<Command<'a>, AllocError>,
+) -> Result<Command<'a>, AllocError>
+    ensures { IfOk result (λ more. IsOkAnd command.entry (λ old. BuildsRotationOptions old more)) }
 {
-    let with_wait = with_argument(command, option(alloc, "through-max"))?;
-    let with_days = with_argument(with_wait, option(alloc, "days"))?;
+    let with_wait = with_argument(command, option(alloc, "through-max"));
+    let with_days = with_argument(with_wait, option(alloc, "days"));
     with_argument(with_days, option(alloc, "visits"))
 }
 
-/// The command with one more argument.
-fn with_argument<'a>(command: Command<'a>, argument: Arg<'a>) -> Result<Command<'a>, AllocError>
+/// The command with one more argument, where there was memory for it.
+fn with_argument<'a>(
+    command: Result<Command<'a>, AllocError>,
+    argument: Arg<'a>,
+) -> Result<Command<'a>, AllocError>
     requires { argument.global ≡ false }
-    ensures { IfOk result (BuildsRule command.entry (rule_of argument.entry)) }
+    ensures { IfOk result (λ more. IsOkAnd command.entry (λ old. BuildsRule old (rule_of argument.entry) more)) }
 {
-    command.arg(argument)
+    command?.arg(argument)
 }
 
 /// A word of a command, which has to be there.
