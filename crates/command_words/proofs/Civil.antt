@@ -1,15 +1,16 @@
 -- Dates of the calendar, by their year, month and day.
 use Rattle.std.proofs.Common.{◌≡◌, ◌≤◌, ◌<◌, ◌∙◌, ◌-◌, ◌↔◌, ℕ, ℤ, pos, ◌+ℤ◌, true, refl, sym, subst, arith, inl, inr}
-use Rattle.std.specs.Prelude.{Bool, Some, None, nat_le, int_le}
-use Rattle.std.proofs.lemmas.Bool.{and_parts, cases_Bool}
+use Rattle.std.specs.Prelude.{◌&&◌, ◌*◌, ◌+◌, ◌==◌, if◌then◌else◌, Bool, List, Option, Some, None, false, length, nat_le, int_le, option_and_then, slice_index}
+use Rattle.std.proofs.lemmas.Bool.{and_parts, cases_Bool, eq-eqb, true≢false}
 use Rattle.std.proofs.lemmas.Bool.Decides.{nat_tests}
 use Rattle.jiff_core.specs.declared.civil.date.Date.{Date}
 use Rattle.jiff_core.specs.Calendar.{IsDate, IsEpochDay, days_from_civil, days_in_month}
 use Rattle.jiff_core.specs.Date.{epoch_day}
 use Rattle.jiff_core.proofs.DateLemmas.{days_from_civil-max, epoch_day_range}
 use Rattle.jiff_core.proofs.SignedLemmas.{signed_arith}
-use Rattle.jiff_fmt.specs.Temporal.{date_parts}
-use Rattle.command_words.specs.Days.{civil_of, ends_in_calendar, is_civil}
+use Rattle.jiff_fmt.specs.Temporal.{DateParts, date_parts}
+use Rattle.csv_fields.specs.Time.{digits_at, number_at}
+use Rattle.command_words.specs.Days.{civil_of, date_read, ends_in_calendar, is_civil}
 
 -- a date that the calendar has passes the test
 passes : (year month day : ℕ) → 1 ≤ year → 1 ≤ month → month ≤ 12 → 1 ≤ day → day ≤ days_in_month (pos year) month → is_civil year month day ≡ true
@@ -74,3 +75,35 @@ ends_where first count test told = elim (cases_Bool (int_le (epoch_day first +�
 pub is_date_by : (y m d y₂ m₂ d₂ : ℤ) → y ≡ y₂ → m ≡ m₂ → d ≡ d₂ → IsDate y m d → IsDate y₂ m₂ d₂
 is_date_by y m d y₂ m₂ d₂ year month day date =
     subst (λ x. IsDate y₂ m₂ x) day (subst (λ x. IsDate y₂ x d) month (subst (λ x. IsDate x m d) year date))
+
+-- the number that two digits at a place write, where they are digits
+abbrev pub two_read : List ℕ → ℕ → Option ℕ
+two_read text place = if digits_at text place then Some (number_at text place) else None
+
+-- the date of such numbers, where all four are there
+abbrev pub date_of_parts : Option ℕ → Option ℕ → Option ℕ → Option ℕ → Option DateParts
+date_of_parts hundreds years month day =
+    option_and_then (λ h. option_and_then (λ y. option_and_then (λ m. option_and_then (λ d. civil_of (100 * h + y) m d) day) month) years) hundreds
+
+-- where the other tests hold, the date is there where all four are digits
+all_digits : (long first last a b c d : Bool) (x y z w : ℕ) → long ≡ true → first ≡ true → last ≡ true
+    → date_of_parts (if a then Some x else None) (if b then Some y else None) (if c then Some z else None) (if d then Some w else None)
+    ≡ (if long && a && b && first && c && last && d then civil_of (100 * x + y) z w else None)
+all_digits false first last a b c d x y z w is dash second = absurd (true≢false (sym is))
+all_digits true false last a b c d x y z w is dash second = absurd (true≢false (sym dash))
+all_digits true true false a b c d x y z w is dash second = absurd (true≢false (sym second))
+all_digits true true true false b c d x y z w is dash second = refl
+all_digits true true true true false c d x y z w is dash second = refl
+all_digits true true true true true false d x y z w is dash second = refl
+all_digits true true true true true true false x y z w is dash second = refl
+all_digits true true true true true true true x y z w is dash second = refl
+
+-- a text of ten bytes with both dashes reads as the date of its digits
+pub date_by_parts : (text : List ℕ) (hundreds years month day : Option ℕ) → length text ≡ 10 → slice_index text 4 ≡ 45 → slice_index text 7 ≡ 45
+    → hundreds ≡ two_read text 0 → years ≡ two_read text 2 → month ≡ two_read text 5 → day ≡ two_read text 8
+    → date_of_parts hundreds years month day ≡ date_read text
+unfolding date_read
+date_by_parts text hundreds years month day ten dash second is_hundreds are_years is_month is_day =
+    rw (is_hundreds, are_years, is_month, is_day) (all_digits (length text == 10) (slice_index text 4 == 45) (slice_index text 7 == 45)
+    (digits_at text 0) (digits_at text 2) (digits_at text 5) (digits_at text 8) (number_at text 0) (number_at text 2) (number_at text 5) (number_at text 8)
+    (eq-eqb (length text) 10 ten) (eq-eqb (slice_index text 4) 45 dash) (eq-eqb (slice_index text 7) 45 second))

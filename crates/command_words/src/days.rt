@@ -1,5 +1,5 @@
 //! Dates, YYYY-MM-DD.
-ghost use Rattle.std.specs.Prelude.{◌≡◌, ◌≤◌, ◌<◌, ◌+◌, ◌-◌, ◌*◌, ◌&&◌, ◌↔◌, ◌+ℤ◌, ◌≤ℤ◌, IfSome, Some, None, if◌then◌else◌, option_map, pos, true};
+ghost use Rattle.std.specs.Prelude.{◌≡◌, ◌≤◌, ◌<◌, ◌+◌, ◌-◌, ◌*◌, ◌&&◌, ◌↔◌, ◌+ℤ◌, ◌≤ℤ◌, IfSome, Some, None, if◌then◌else◌, option_and_then, option_map, pos, true};
 ghost use Rattle.std.specs.Char.{is_ascii_digit};
 ghost use Rattle.jiff_core.specs.Calendar.{IsEpochDay};
 ghost use Rattle.jiff_core.specs.Date.{epoch_day};
@@ -28,14 +28,32 @@ pub(crate) fn civil_date(text: &str) -> Option<Date>
             day_tens,
             day_ones,
         ] => {
-            let hundreds = two_digits(*hundreds_tens, *hundreds_ones)?;
-            let years = two_digits(*year_tens, *year_ones)?;
-            let month = two_digits(*month_tens, *month_ones)?;
-            let day = two_digits(*day_tens, *day_ones)?;
-            civil_day(100 * u16::from(hundreds) + u16::from(years), month, day)
+            let hundreds = two_digits(*hundreds_tens, *hundreds_ones);
+            let years = two_digits(*year_tens, *year_ones);
+            let month = two_digits(*month_tens, *month_ones);
+            let day = two_digits(*day_tens, *day_ones);
+            date_by_digits(hundreds, years, month, day)
         }
         _ => None,
     }
+}
+
+/// The date by what the digits of its year, in two parts, of its month and of its day write, where all are digits.
+fn date_by_digits(
+    hundreds: Option<u8>,
+    years: Option<u8>,
+    month: Option<u8>,
+    day: Option<u8>,
+) -> Option<Date>
+    requires hundreds { IfSome hundreds (λ number. number < 100) }
+    requires years { IfSome years (λ number. number < 100) }
+    requires month { IfSome month (λ number. number < 100) }
+    requires day { IfSome day (λ number. number < 100) }
+    ensures read { option_map date_parts result ≡ option_and_then (λ h. option_and_then (λ y. option_and_then (λ m. option_and_then (λ d. civil_of (100 * h + y) m d) day) month) years) hundreds }
+    ensures year { IfSome result (λ date. pos 1 ≤ℤ date.year) }
+{
+    let year = 100 * u16::from(hundreds?) + u16::from(years?);
+    civil_day(year, month?, day?)
 }
 
 /// The date with this year, month and day, where the calendar has it.
