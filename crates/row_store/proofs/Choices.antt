@@ -134,15 +134,19 @@ leaving_is table basis column row e = of_best (best_below table basis column (he
         let same : best.row ≡ row = cc in
         (subst (λ r. r < height_of table) same is.line, subst (λ r. pos 0 <ℤ number_at table r column) same (rw (ap (λ b. b.entry) is.is) at is.positive))
 
+-- the next line, as it is read
+pub next_is : (table : List FracRow) (basis : List ℕ) (column row right : ℕ) (best outcome : Option Candidate) (p q : ℤ) → p ≡ number_at table row column → q ≡ number_at table row right → right + 1 ≡ columns_of table → outcome ≡ better best (record { row = row; basic = get_or basis row 0; entry = p; right_side = q }) → outcome ≡ better best (candidate_at table basis column row)
+next_is table basis column row right best outcome p q ep eq er e =
+    let last : right ≡ columns_of table - 1 = omega arith in
+    let side : q ≡ number_at table row (columns_of table - 1) = subst (λ j. q ≡ number_at table row j) last eq in
+    e ∙ ap (λ x. better best (record { row = row; basic = get_or basis row 0; entry = x; right_side = q })) ep
+    ∙ ap (λ x. better best (record { row = row; basic = get_or basis row 0; entry = number_at table row column; right_side = x })) side
+
 -- one line more
 pub best_more : (table : List FracRow) (basis : List ℕ) (column row right : ℕ) (best outcome : Option Candidate) (p q : ℤ) → best ≡ best_below table basis column row → p ≡ number_at table row column → q ≡ number_at table row right → right + 1 ≡ columns_of table → outcome ≡ better best (record { row = row; basic = get_or basis row 0; entry = p; right_side = q }) → outcome ≡ best_below table basis column (row + 1)
 best_more table basis column row right best outcome p q eb ep eq er e =
-    let last : right ≡ columns_of table - 1 = omega arith in
-    let side : q ≡ number_at table row (columns_of table - 1) = subst (λ j. q ≡ number_at table row j) last eq in
-    e ∙ ap (λ o. better o (record { row = row; basic = get_or basis row 0; entry = p; right_side = q })) eb
-    ∙ ap (λ x. better (best_below table basis column row) (record { row = row; basic = get_or basis row 0; entry = x; right_side = q })) ep
-    ∙ ap (λ x. better (best_below table basis column row) (record { row = row; basic = get_or basis row 0; entry = number_at table row column; right_side = x })) side
-    ∙ ap (best_below table basis column) (sym (add-one row))
+    next_is table basis column row right best outcome p q ep eq er e
+    ∙ ap (λ o. better o (candidate_at table basis column row)) eb ∙ ap (best_below table basis column) (sym (add-one row))
 
 pub leaving_from : (table : List FracRow) (basis : List ℕ) (column row : ℕ) (best : Option Candidate) → best ≡ best_below table basis column row → row ≡ height_of table → option_map (λ b. b.row) best ≡ leaving table basis column
 unfolding leaving

@@ -16,3 +16,5 @@ pub mod SmallTables
 pub mod CopiedRows
 pub mod SignTests
 pub mod Squares
+pub mod RowReads
+pub mod NoneNegative

@@ -14,12 +14,26 @@ pub fn first_rows(alloc: Global, rows: &Rows) -> Result<Vec<SparseRow>, NoMemory
     ensures { IfOk result (λ made. made.items ≡ first_table rows.now) }
 {
     let mut made = Vec::new(alloc);
-    for line in 0..rows.lines.len() as u32 {
-        made.push(line_row(alloc, rows, line)?)?;
+    for row in 0..rows.lines.len() as u32 + 2 {
+        made.push(first_row(alloc, rows, row)?)?;
     }
-    made.push(phase_row(alloc, rows)?)?;
-    made.push(cost_row(alloc, rows)?)?;
     Ok(made)
+}
+
+/// The row of this number: that of a line, and after all lines the phase row and the cost row.
+fn first_row(alloc: Global, rows: &Rows, row: u32) -> Result<SparseRow, NoMemory>
+    requires problem { IsProblem rows.now }
+    requires row { row < length rows.now.lines + 2 }
+    ensures { IfOk result (λ made. made ≡ first_row rows.now row) }
+{
+    let height = rows.lines.len() as u32;
+    if row < height {
+        return line_row(alloc, rows, row);
+    }
+    if row == height {
+        return phase_row(alloc, rows);
+    }
+    cost_row(alloc, rows)
 }
 
 /// The numbers of a line, its 1 in the identity block, its right side.

@@ -14,3 +14,13 @@ one_more table row column next other before here lt =
 pub loop-other-preserved : goal.loop-other-preserved
 loop-other-preserved c other lt =
     one_more c.args.rows.now c.args.row c.args.column c.loop-other.other other c.loop-other.invariant (c.if-not-row_fits.ensures refl) lt
+
+pub row_fits-requires : goal.row_fits-requires
+row_fits-requires c = record {
+  table = c.requires.table;
+  row = c.requires.row;
+  column = c.requires.column;
+  pivot_row = c.requires.pivot_row;
+  positive = c.requires.positive;
+  other = omega arith;
+}

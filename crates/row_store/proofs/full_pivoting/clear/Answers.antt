@@ -6,6 +6,7 @@ use Rattle.frac_row.specs.Combined.{combination, combined_row}
 use Rattle.frac_row.proofs.Combinations.{factors_are}
 use Rattle.row_store.proofs.Pivots.{cleared_same, cleared_combined}
 use Rattle.row_store.proofs.full_pivoting.clear.Goals as goal
+use Rattle.std.proofs.Common.{◌<◌, subst}
 
 pub combine_in_place-requires-clause-own : goal.combine_in_place-requires-clause-own
 combine_in_place-requires-clause-own c =
@@ -25,3 +26,12 @@ returns-then-number-ne0 c =
 
 pub returns-else-number-ne0 : goal.returns-else-number-ne0
 returns-else-number-ne0 c = cleared_same c.args.row.now c.args.pivot_row.now c.args.column (omega (arith, ints, c.number.ensures))
+
+pub factors_between-factors-requires : goal.factors_between-factors-requires
+factors_between-factors-requires c = record {
+  row = c.requires.row;
+  pivot_row = c.requires.pivot_row;
+  in_row = c.requires.in_row;
+  in_pivot_row = subst (λ w. c.args.column < w) c.requires.same_width c.requires.in_row;
+  positive = c.requires.positive;
+}

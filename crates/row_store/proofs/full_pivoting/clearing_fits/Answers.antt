@@ -10,3 +10,12 @@ pub returns : goal.returns
 returns c holds = record {
   fits = λ ne. subst (λ f. FitsInPlace f c.args.row.now c.args.pivot_row.now) c.factors_between-factors.ensures (subst (λ r. FitsInPlace c.factors_between-factors.result c.args.row.now r) c.requires.same (c.fits.ensures holds));
 }
+
+pub factors_between-factors-requires : goal.factors_between-factors-requires
+factors_between-factors-requires c = record {
+  row = c.requires.row;
+  pivot_row = c.requires.pivot_row;
+  in_row = c.requires.in_row;
+  in_pivot_row = c.requires.in_pivot_row;
+  positive = c.requires.positive;
+}

@@ -5,6 +5,7 @@ use Rattle.row_store.specs.Changes.{value_or}
 use Rattle.row_store.proofs.Changed.{made_same, made_more}
 use Rattle.row_store.proofs.sparse_pivoting.changed_rows.Goals as goal
 use Rattle.row_store.proofs.sparse_pivoting.changed_rows.Goals.{in-Some+in_ok-push, in_default}
+use Rattle.std.proofs.Common.{arith}
 
 pub loop-other-preserved : goal.loop-other-preserved
 loop-other-preserved c =
@@ -15,3 +16,13 @@ loop-other-preserved c =
       | in_default w ↦ rw w.changes-is (made_same c.args.rows.now (new_row c.args.rows.now c.args.row c.args.column) c.loop-other.changes.items c.loop-other.other c.loop-other.invariant
           (ap (λ o. value_or o (row_at c.args.rows.now c.loop-other.other)) (sym w.in_default.is) ∙ c.in_ok-fresh.ensures))
     ]
+
+pub changed_row-requires : goal.changed_row-requires
+changed_row-requires c = record {
+  table = c.requires.table;
+  row = c.requires.row;
+  column = c.requires.column;
+  positive = c.requires.positive;
+  fits = c.requires.fits;
+  other = omega arith;
+}

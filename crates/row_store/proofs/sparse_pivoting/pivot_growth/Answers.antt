@@ -1,6 +1,10 @@
 use Rattle.std.proofs.Common.{arith, sym, ◌∙◌}
 use Rattle.row_store.proofs.Pivots.{pivot_growth_found, pivot_growth_none}
 use Rattle.row_store.proofs.sparse_pivoting.pivot_growth.Goals as goal
+use Rattle.std.proofs.Common.{subst}
+use Rattle.std.proofs.lemmas.List.{get_or_read}
+use Rattle.frac_row.specs.Row.{IsSmall}
+use Rattle.row_store.specs.Table.{no_row}
 
 pub returns-then-is_some : goal.returns-then-is_some
 returns-then-is_some c =
@@ -8,3 +12,13 @@ returns-then-is_some c =
 
 pub returns : goal.returns
 returns c = pivot_growth_none c.args.rows.now c.args.row c.args.column c.loop-other.other c.loop-other.invariant (omega arith)
+
+pub row_growth-growth-requires : goal.row_growth-growth-requires
+row_growth-growth-requires c = record {
+  table = c.requires.table;
+  row = c.requires.row;
+  column = c.requires.column;
+  positive = c.requires.positive;
+  other = omega arith;
+  small = λ t. subst IsSmall (get_or_read c.args.rows.now c.args.row c.index-rows-row.result c.requires.row c.index-rows-row.is no_row) (c.is_small-is_pivot_small.ensures.0 t);
+}
