@@ -18,3 +18,4 @@ pub mod SignTests
 pub mod Squares
 pub mod RowReads
 pub mod NoneNegative
+pub mod AllPlaces

@@ -32,13 +32,23 @@ fn have_width(lines: &[Line], columns: u32) -> bool
     ensures { IsTrue result ↔ All (λ line. length line ≡ columns + 1) lines.now }
 {
     let width = columns as usize + 1;
-    lines.iter().all(|line| line.len() == width)
+    for place in 0..lines.len() {
+        if lines[place].len() != width {
+            return false;
+        }
+    }
+    true
 }
 
 fn are_within(costs: &[i128]) -> bool
     ensures { IsTrue result ↔ All IsWithin costs.now }
 {
-    costs.iter().all(|cost| *cost != i128::MIN)
+    for place in 0..costs.len() {
+        if costs[place] == i128::MIN {
+            return false;
+        }
+    }
+    true
 }
 
 /// Whether the sizes of all numbers of the lines come to no outgrown number, so that those of no column do:
