@@ -1,4 +1,4 @@
-ghost use Rattle.std.specs.Prelude.{◌≡◌, pos, ◌<ℤ◌, Some};
+ghost use Rattle.std.specs.Prelude.{◌≡◌, pos, ◌<ℤ◌, Some, option_map};
 ghost use Rattle.row_store.specs.declared.choice.Candidate.{Candidate};
 ghost use Rattle.row_store.specs.Choice.{improves, goes_first, better};
 
@@ -40,6 +40,13 @@ pub fn better(best: Option<Candidate>, next: Candidate) -> Option<Candidate>
     } else {
         Some(other)
     }
+}
+
+/// The row of the best line, where there is one.
+pub(crate) fn row_of(best: Option<Candidate>) -> Option<u32>
+    ensures { result ≡ option_map (λ best. best.row) best }
+{
+    Some(best?.row)
 }
 
 /// Whether one line leaves before another.

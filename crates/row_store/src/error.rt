@@ -1,3 +1,6 @@
+ghost use Rattle.std.specs.Prelude.{◌≡◌, option_map};
+
+use frac_row::Growth;
 use thiserror::Error;
 
 /// A place of a table. The denominator stands in the column after the right side.
@@ -5,6 +8,14 @@ use thiserror::Error;
 pub struct Place {
     pub row: u32,
     pub column: u32,
+}
+
+/// The place of what is outgrown in a row.
+pub(crate) fn place_in(row: u32, growth: Option<Growth>) -> Option<Place>
+    ensures { result ≡ option_map (λ growth. record { row = row; column = growth.column }) growth }
+{
+    let column = growth?.column;
+    Some(Place { row, column })
 }
 
 /// Why a pivot was refused.

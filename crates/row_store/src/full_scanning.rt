@@ -7,7 +7,7 @@ ghost use Rattle.row_store.specs.Choice.{improves, better, candidate_at, enterin
 ghost use Rattle.row_store.specs.StepChoice.{are_alike, AreUnlike, IsAlike, AreCostsAtLeast0};
 ghost use Rattle.row_store.specs.Weights.{squares_of, weight_of};
 
-use crate::choice::{Candidate, better, improves};
+use crate::choice::{Candidate, better, improves, row_of};
 use crate::steering::{Enterer, are_alike, cheaper, size, with_square};
 use full_row::FullRow;
 
@@ -58,7 +58,7 @@ pub fn least_ratio(rows: &[FullRow], basis: &[u32], column: u32, right_side: u32
     for row in 0..rows.len() - 2 {
         best = next_best(best, rows, basis, row as u32, column, right_side);
     }
-    best.map(|best| best.row)
+    row_of(best)
 }
 
 /// The best line so far, or the next one where that goes first.

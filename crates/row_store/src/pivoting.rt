@@ -4,7 +4,7 @@ ghost use Rattle.row_store.specs.Small.{IsSmallFor};
 ghost use Rattle.row_store.specs.Table.{IsTable, row_at, number_at, columns_of};
 ghost use Rattle.row_store.specs.Pivot.{scaled_row, cleared_row, clearing_growth, pivoted, row_growth, pivot_growth};
 
-use crate::error::Place;
+use crate::error::{Place, place_in};
 use frac_row::{
     Factors, FracRow, Growth, combine_in_place, growth_by, is_small, is_small_beside, reduce,
 };
@@ -52,10 +52,7 @@ fn row_growth(
         column,
         is_pivot_small,
     );
-    growth.map(|growth| Place {
-        row: other,
-        column: growth.column,
-    })
+    place_in(other, growth)
 }
 
 /// The first outgrown product or difference on the way to a row without its number in the column. Two

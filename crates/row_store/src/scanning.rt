@@ -7,7 +7,7 @@ ghost use Rattle.row_store.specs.Table.{IsTable, columns_of, height_of};
 ghost use Rattle.row_store.specs.Choice.{improves, is_negative, better, candidate_at, entering, leaving};
 ghost use Rattle.row_store.specs.Scan.{first_where};
 
-use crate::choice::{Candidate, better};
+use crate::choice::{Candidate, better, row_of};
 use sparse_row::{Entry, SparseRow};
 
 /// The least improving one of the first columns of a table.
@@ -78,7 +78,7 @@ pub fn least_ratio(rows: &[SparseRow], basis: &[u32], column: u32, right_side: u
     for row in 0..rows.len() - 2 {
         best = next_best(best, rows, basis, row as u32, column, right_side);
     }
-    best.map(|best| best.row)
+    row_of(best)
 }
 
 /// The best line so far, or the next one where that goes first.

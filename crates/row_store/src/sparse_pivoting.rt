@@ -6,7 +6,7 @@ ghost use Rattle.row_store.specs.Changes.{row_after, value_or};
 ghost use Rattle.row_store.specs.Steps.{turned_row};
 
 use crate::changes::Change;
-use crate::error::Place;
+use crate::error::{Place, place_in};
 use entries::NoMemory;
 use frac_row::Growth;
 use sparse_row::{SparseRow, combine, factors_between, growth_by, is_small, scaled, turn};
@@ -55,10 +55,7 @@ fn row_growth(
         column,
         is_pivot_small,
     );
-    growth.map(|growth| Place {
-        row: other,
-        column: growth.column,
-    })
+    place_in(other, growth)
 }
 
 /// The first outgrown product or difference on the way to a row without its number in the column. Two

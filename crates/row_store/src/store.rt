@@ -9,7 +9,7 @@ ghost use Rattle.row_store.specs.StepChoice.{AreSettled, IsUnsettled, AreUnlike,
 ghost use Rattle.row_store.specs.Choice.{entering, leaving};
 ghost use Rattle.row_store.specs.Weights.{squares_of, weight_of};
 
-use crate::choice::{Candidate, better, improves};
+use crate::choice::{Candidate, better, improves, row_of};
 use crate::error::PivotError;
 use crate::problem::Rows;
 use crate::steering::{
@@ -90,7 +90,7 @@ pub trait RowStore: Sized {
             };
             best = better(best, next);
         }
-        best.map(|best| best.row)
+        row_of(best)
     }
 
     /// Turns the sign of all numbers of a line's row. Takes no memory.

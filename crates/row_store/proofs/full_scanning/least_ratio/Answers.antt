@@ -14,5 +14,5 @@ loop-row-preserved c =
 
 pub returns : goal.returns
 returns c =
-    let mapped : c.map.result ≡ option_map (λ b. b.row) c.loop-row.best = search rules in
+    let mapped : c.row_of.result ≡ option_map (λ b. b.row) c.loop-row.best = c.row_of.ensures in
     mapped ∙ leaving_from c.args.rows.now c.args.basis.now c.args.column c.loop-row.row c.loop-row.best c.loop-row.invariant (omega arith)

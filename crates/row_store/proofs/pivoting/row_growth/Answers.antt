@@ -13,7 +13,7 @@ returns-then-other-row c = row_growth_self c.args.rows.now c.args.row c.args.col
 
 pub returns : goal.returns
 returns c =
-    let mapped : c.map.result ≡ option_map (λ growth. record { row = c.args.other; column = growth.column }) c.clearing_growth-growth.result = search rules in
+    let mapped : c.place_in.result ≡ option_map (λ growth. record { row = c.args.other; column = growth.column }) c.clearing_growth-growth.result = c.place_in.ensures in
     mapped ∙ row_growth_other c.args.rows.now c.args.row c.args.column c.args.other c.clearing_growth-growth.result (λ e. c.if-other-row.false e)
     (c.clearing_growth-growth.ensures ∙ ap (λ r. clearing_growth r c.index-rows-row.result c.args.column) (get_or_read c.args.rows.now c.args.other c.index-rows-other.result c.requires.other c.index-rows-other.is no_row)
     ∙ ap (λ r. clearing_growth (row_at c.args.rows.now c.args.other) r c.args.column) (get_or_read c.args.rows.now c.args.row c.index-rows-row.result c.requires.row c.index-rows-row.is no_row))
