@@ -8,7 +8,7 @@ ghost use Rattle.row_store.specs.StepChoice.{are_alike, AreUnlike, IsAlike, AreC
 ghost use Rattle.row_store.specs.Weights.{squares_of, weight_of};
 
 use crate::choice::{Candidate, better, improves, row_of};
-use crate::steering::{Enterer, are_alike, cheaper, size, with_square};
+use crate::steering::{Enterer, are_alike, cheaper, enterer_column, size, with_square};
 use full_row::FullRow;
 
 /// The least improving one of the first columns of a table.
@@ -140,7 +140,7 @@ fn cheapest_in(line: &FullRow, side: &i128, cost: &FullRow, columns: u32) -> Opt
             best = cheaper(best, next);
         }
     }
-    best.map(|best| best.column)
+    enterer_column(best)
 }
 
 /// Whether the cost row has no number below 0 in the first columns.

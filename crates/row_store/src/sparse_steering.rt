@@ -7,7 +7,7 @@ ghost use Rattle.row_store.specs.StepChoice.{are_alike, AreUnlike, IsAlike, AreC
 ghost use Rattle.row_store.specs.Weights.{square_between, squares_in, weight_of};
 
 use crate::scanning::first_negative;
-use crate::steering::{Enterer, are_alike, cheaper, size, with_square};
+use crate::steering::{Enterer, are_alike, cheaper, enterer_column, size, with_square};
 use sparse_row::{Entry, SparseRow};
 
 /// The sum of squares of the numbers from a column up to another, or 0 where that is outgrown.
@@ -66,7 +66,7 @@ fn cheapest_in(line: &SparseRow, side: &i128, cost: &SparseRow, columns: u32) ->
             best = cheaper(best, next);
         }
     }
-    best.map(|best| best.column)
+    enterer_column(best)
 }
 
 /// Whether the cost row has no number below 0 in the first columns.

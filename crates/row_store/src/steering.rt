@@ -1,7 +1,7 @@
 //! The choices of a dual simplex method. Which of several rows or columns is chosen decides how many steps a run
 //! takes, and nothing that is claimed of it.
 
-ghost use Rattle.std.specs.Prelude.{◌≡◌, ◌⊎◌, ◌+◌, ◌-◌, ◌^◌, ◌<◌, pos, ◌≤ℤ◌, ◌≤◌, Some, MatchOption, IsTrue, ◌↔◌};
+ghost use Rattle.std.specs.Prelude.{◌≡◌, ◌⊎◌, ◌+◌, ◌-◌, ◌^◌, ◌<◌, pos, ◌≤ℤ◌, ◌≤◌, Some, MatchOption, option_map, IsTrue, ◌↔◌};
 ghost use Rattle.row_store.specs.StepChoice.{are_alike};
 ghost use Rattle.row_store.specs.Weights.{held_size, square_of, weight_of};
 
@@ -99,6 +99,13 @@ pub fn farther(best: Option<Leaver>, next: Leaver) -> Option<Leaver>
     }
 }
 
+/// The row of the best line, where there is one.
+pub(crate) fn leaver_row(best: Option<Leaver>) -> Option<u32>
+    ensures { result ≡ option_map (λ best. best.row) best }
+{
+    Some(best?.row)
+}
+
 fn is_farther(one: &Leaver, other: &Leaver) -> bool {
     one.norm > 0
         && other.norm > 0
@@ -117,6 +124,13 @@ pub fn cheaper(best: Option<Enterer>, next: Enterer) -> Option<Enterer>
     } else {
         Some(other)
     }
+}
+
+/// The column that is best, where there is one.
+pub(crate) fn enterer_column(best: Option<Enterer>) -> Option<u32>
+    ensures { result ≡ option_map (λ best. best.column) best }
+{
+    Some(best?.column)
 }
 
 fn is_cheaper(one: &Enterer, other: &Enterer) -> bool {

@@ -13,7 +13,8 @@ use crate::choice::{Candidate, better, improves, row_of};
 use crate::error::PivotError;
 use crate::problem::Rows;
 use crate::steering::{
-    Enterer, Leaver, are_alike, cheaper, farther, is_settled, size, square, with_square,
+    Enterer, Leaver, are_alike, cheaper, enterer_column, farther, is_settled, leaver_row, size,
+    square, with_square,
 };
 use entries::NoMemory;
 use frac_row::FracRow;
@@ -143,7 +144,7 @@ pub trait RowStore: Sized {
                 best = farther(best, next);
             }
         }
-        best.map(|best| best.row)
+        leaver_row(best)
     }
 
     /// The sum of squares of a row's identity block, or 0 where that is outgrown. It only helps to choose.
@@ -185,7 +186,7 @@ pub trait RowStore: Sized {
                 best = cheaper(best, next);
             }
         }
-        best.map(|best| best.column)
+        enterer_column(best)
     }
 
     /// Whether the cost row has no number below 0 in a real column.

@@ -20,5 +20,5 @@ loop-place-preserved c =
 
 pub returns : goal.returns
 returns c =
-    let mapped : c.map.result ≡ option_map (λ best. best.column) c.loop-place.best = search rules in
-    so_far_all c.args.side.now c.entries-entries.result.now c.args.columns c.loop-place.place (number_of c.args.line.now) c.loop-place.best c.map.result c.entries-entries.ensures.numbers (omega arith) c.loop-place.invariant mapped
+    let mapped : c.enterer_column.result ≡ option_map (λ best. best.column) c.loop-place.best = c.enterer_column.ensures in
+    so_far_all c.args.side.now c.entries-entries.result.now c.args.columns c.loop-place.place (number_of c.args.line.now) c.loop-place.best c.enterer_column.result c.entries-entries.ensures.numbers (omega arith) c.loop-place.invariant mapped
