@@ -1,5 +1,5 @@
 -- Numbers of at least 0, one after another, and the tests of single signs.
-use Rattle.std.proofs.Common.{◌≡◌, ℕ, ◌+◌, ◌<◌, ◌≤◌, Bool, true, false, ltb, ℤ, pos, ◌<ℤ◌, ◌≤ℤ◌, ◌⊎◌, List, length, refl, sym, ◌∙◌, ap, subst, inl, inr, arith}
+use Rattle.std.proofs.Common.{◌≡◌, ℕ, ◌+◌, ◌<◌, ◌≤◌, Bool, true, false, ltb, ℤ, pos, ◌<ℤ◌, ◌≤ℤ◌, ◌⊎◌, List, length, sym, ◌∙◌, ap, subst, inl, inr, arith}
 use Rattle.std.specs.Prelude.{IsTrue, ◌↔◌}
 use Rattle.std.proofs.lemmas.Bool.{cases_lt, lt-ltb, ltb-true}
 use lib.Signed.{≤ℤ_refl, clash_ℤ}

@@ -1,4 +1,4 @@
-use Rattle.std.proofs.Common.{ℕ, ◌≡◌, ◌+◌, ◌<◌, ◌≤◌, ◌-◌, ◌^◌, suc, rules, arith, ◌∙◌, ap, unsigned_abs, true, false, length}
+use Rattle.std.proofs.Common.{ℕ, ◌≡◌, ◌+◌, ◌<◌, ◌≤◌, ◌-◌, ◌^◌, suc, rules, arith, ◌∙◌, ap, unsigned_abs, true, false, length, sym, add-one}
 use Rattle.std.proofs.lemmas.Int.{to_z-of_z}
 use mir.Val.{SFits}
 use mir.Syntax.{w128}
@@ -6,7 +6,6 @@ use Rattle.sums.specs.Below.{sum_below}
 use Rattle.sums.proofs.SumBounds.{sum_below-le}
 use Rattle.row_store.specs.Problem.{entry}
 use Rattle.row_store.proofs.checks.is_column_within.Goals as goal
-use Rattle.std.proofs.Common.{sym, add-one}
 
 -- the sum with the next term
 one_more : (f : ℕ → ℕ) (k sum size : ℕ) → sum ≡ sum_below f k → size ≡ f k → sum + size ≡ sum_below f (k + 1)

@@ -1,10 +1,9 @@
-use Rattle.std.proofs.Common.{rules, ◌∙◌}
+use Rattle.std.proofs.Common.{rules, ◌∙◌, ◌≡◌, ℕ, ◌+◌, ℤ, pos, List, length, ap, arith}
 use Rattle.std.proofs.lemmas.Int.{to_z-of_z}
 use mir.Val.{SFits}
 use mir.Syntax.{w128}
 use Rattle.sums.proofs.Places.{list_below-push}
 use Rattle.row_store.proofs.first.first_row.Goals as goal
-use Rattle.std.proofs.Common.{◌≡◌, ℕ, ◌+◌, ℤ, pos, List, length, ap, arith}
 use Rattle.sums.specs.Places.{list_below}
 use Rattle.frac_row.specs.declared.row.FracRow.{FracRow}
 use Rattle.row_store.specs.declared.problem.Rows.{Rows}
@@ -13,7 +12,6 @@ use Rattle.row_store.specs.Problem.{first_number, first_row}
 -- the row of all numbers
 made_is : (rows : Rows) (row n : ℕ) (numbers items : List ℤ) → numbers ≡ items → items ≡ list_below (first_number rows row) n → n ≡ rows.columns + length rows.lines + 1 → ◌≡◌ {A = FracRow} (record { numbers = numbers; den = pos 1 }) (first_row rows row)
 made_is rows row n numbers items e h same = ap (λ xs. record { numbers = xs; den = pos 1 }) (e ∙ h ∙ ap (list_below (first_number rows row)) same)
-
 
 pub loop-column-preserved : goal.loop-column-preserved
 loop-column-preserved c =

@@ -1,4 +1,4 @@
-use Rattle.std.proofs.Common.{◌≢◌, pos, arith, ◌∙◌, ap, of_z}
+use Rattle.std.proofs.Common.{◌≢◌, pos, arith, ◌∙◌, ap, of_z, ◌<◌, subst}
 use mir.Syntax.{w128}
 use Rattle.std.proofs.lemmas.Int.{ints}
 use Rattle.frac_row.specs.Row.{number_of, reduced}
@@ -6,7 +6,6 @@ use Rattle.frac_row.specs.Combined.{combination, combined_row}
 use Rattle.frac_row.proofs.Combinations.{factors_are}
 use Rattle.row_store.proofs.Pivots.{cleared_same, cleared_combined}
 use Rattle.row_store.proofs.full_pivoting.clear.Goals as goal
-use Rattle.std.proofs.Common.{◌<◌, subst}
 
 pub combine_in_place-requires-clause-own : goal.combine_in_place-requires-clause-own
 combine_in_place-requires-clause-own c =

@@ -1,4 +1,4 @@
-use Rattle.std.proofs.Common.{◌≡◌, arith, rules, sym, ◌∙◌, ap, option_map, add-one}
+use Rattle.std.proofs.Common.{◌≡◌, arith, sym, ◌∙◌, ap, option_map, add-one}
 use Rattle.row_store.specs.Choice.{best_below, better, candidate_at}
 use Rattle.row_store.proofs.Choices.{best_is, leaving_from}
 use Rattle.row_store.proofs.full_scanning.least_ratio.Goals as goal

@@ -1,7 +1,6 @@
-use Rattle.std.proofs.Common.{arith, sym, ◌∙◌}
+use Rattle.std.proofs.Common.{arith, sym, ◌∙◌, subst}
 use Rattle.row_store.proofs.Pivots.{pivot_growth_found, pivot_growth_none}
 use Rattle.row_store.proofs.pivoting.pivot_growth.Goals as goal
-use Rattle.std.proofs.Common.{subst}
 use Rattle.std.proofs.lemmas.List.{get_or_read}
 use Rattle.frac_row.specs.Row.{IsSmall}
 use Rattle.row_store.specs.Table.{no_row}

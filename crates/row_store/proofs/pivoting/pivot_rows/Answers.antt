@@ -1,4 +1,4 @@
-use Rattle.std.proofs.Common.{◌≡◌, ◌<◌, length, rules, ◌∙◌, ap}
+use Rattle.std.proofs.Common.{◌<◌, length, rules, ◌∙◌, ap}
 use Rattle.std.proofs.lemmas.Bool.{ne_eqb}
 use Rattle.sums.proofs.Places.{filled_none, filled_more, filled_all}
 use Rattle.row_store.specs.Table.{row_at}

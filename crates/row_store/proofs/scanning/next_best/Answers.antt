@@ -1,16 +1,14 @@
 use Rattle.std.proofs.Common.{pos, rules, arith, subst, ◌∙◌, ap}
 use Rattle.std.specs.Prelude.{◌≤ℤ◌}
-use Rattle.std.proofs.lemmas.Int.{ints}
+use Rattle.std.proofs.lemmas.Int.{ints, to_z-of_z}
 use Rattle.std.proofs.lemmas.List.{get_or_read}
 use mir.Val.{SFits}
 use mir.Syntax.{w128}
 use Rattle.frac_row.specs.Row.{number_of}
 use Rattle.row_store.specs.Table.{no_row}
 use Rattle.row_store.specs.Choice.{candidate_at}
-use Rattle.row_store.proofs.Choices.{better_stays}
+use Rattle.row_store.proofs.Choices.{better_stays, next_is}
 use Rattle.row_store.proofs.scanning.next_best.Goals as goal
-use Rattle.std.proofs.lemmas.Int.{to_z-of_z}
-use Rattle.row_store.proofs.Choices.{next_is}
 
 pub returns-then-entry-le0 : goal.returns-then-entry-le0
 returns-then-entry-le0 c =

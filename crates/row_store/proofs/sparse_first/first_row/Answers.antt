@@ -1,4 +1,4 @@
-use Rattle.std.proofs.Common.{◌≡◌, ◌+◌, length, sym, subst, arith}
+use Rattle.std.proofs.Common.{◌≡◌, ◌+◌, length, subst, arith}
 use Rattle.std.specs.Prelude.{IfOk}
 use Rattle.row_store.specs.Problem.{first_row}
 use Rattle.row_store.proofs.sparse_first.first_row.Goals as goal

@@ -1,11 +1,10 @@
-use Rattle.std.proofs.Common.{◌<◌, length, rules, refl, sym, ◌∙◌, ap}
+use Rattle.std.proofs.Common.{◌<◌, length, rules, refl, sym, ◌∙◌, ap, arith}
 use Rattle.row_store.specs.Table.{row_at}
 use Rattle.row_store.specs.Pivot.{new_row}
 use Rattle.row_store.specs.Changes.{value_or}
 use Rattle.row_store.proofs.Changed.{made_same, made_more}
 use Rattle.row_store.proofs.sparse_pivoting.changed_rows.Goals as goal
 use Rattle.row_store.proofs.sparse_pivoting.changed_rows.Goals.{in-Some+in_ok-push, in_default}
-use Rattle.std.proofs.Common.{arith}
 
 pub loop-other-preserved : goal.loop-other-preserved
 loop-other-preserved c =

@@ -1,11 +1,10 @@
-use Rattle.std.proofs.Common.{◌≢◌, pos, arith, rules, ◌∙◌, ap, of_z, inl}
+use Rattle.std.proofs.Common.{◌≢◌, pos, arith, rules, ◌∙◌, ap, of_z, inl, ◌<◌, subst}
 use mir.Syntax.{w128}
 use Rattle.std.proofs.lemmas.Int.{ints}
 use Rattle.frac_row.specs.Row.{number_of, IsSmall}
 use Rattle.frac_row.specs.Combined.{growth_by}
 use Rattle.row_store.proofs.Pivots.{growth_zero, growth_small, growth_other}
 use Rattle.row_store.proofs.sparse_pivoting.clearing_growth.Goals as goal
-use Rattle.std.proofs.Common.{◌<◌, subst}
 
 pub returns-then-number-eq0 : goal.returns-then-number-eq0
 returns-then-number-eq0 c = growth_zero c.args.row.now c.args.pivot_row.now c.args.column (omega (arith, ints, c.number.ensures))

@@ -1,12 +1,11 @@
-use Rattle.std.proofs.Common.{◌≡◌, arith, rules, ◌∙◌, ap, option_map}
+use Rattle.std.proofs.Common.{◌≡◌, arith, ◌∙◌, ap, option_map, sym, subst}
 use Rattle.std.proofs.lemmas.List.{get_or_read}
 use Rattle.row_store.specs.Table.{no_row, row_at}
 use Rattle.row_store.specs.Pivot.{clearing_growth}
 use Rattle.row_store.proofs.Pivots.{row_growth_self, row_growth_other}
 use Rattle.row_store.proofs.sparse_pivoting.row_growth.Goals as goal
-use Rattle.std.proofs.Common.{◌<◌, ◌^◌, sym, subst}
 use Rattle.frac_row.specs.Row.{IsSmall}
-use Rattle.row_store.proofs.RowReads.{is_row, is_wide, has_column, as_wide, is_positive_at}
+use Rattle.row_store.proofs.RowReads.{is_row, has_column, as_wide, is_positive_at}
 
 pub returns-then-other-row : goal.returns-then-other-row
 returns-then-other-row c = row_growth_self c.args.rows.now c.args.row c.args.column c.args.other (omega arith)

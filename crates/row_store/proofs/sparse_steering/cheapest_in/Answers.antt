@@ -1,4 +1,4 @@
-use Rattle.std.proofs.Common.{◌≡◌, ◌<◌, ◌≤◌, ℕ, rules, arith, refl, sym, ◌∙◌, option_map}
+use Rattle.std.proofs.Common.{◌≡◌, ◌<◌, ◌≤◌, ℕ, arith, refl, sym, ◌∙◌, option_map}
 use Rattle.frac_row.specs.Row.{number_of, width_of}
 use Rattle.row_store.proofs.AlikeEntries.{so_far_same, so_far_next, so_far_all}
 use Rattle.row_store.proofs.sparse_steering.cheapest_in.Goals as goal

@@ -8,4 +8,3 @@ returns c = all_turned c.args.numbers.now c.loop-column.numbers c.loop-column.co
 
 pub loop-column-init : goal.loop-column-init
 loop-column-init c = filled_none _ _ _
-

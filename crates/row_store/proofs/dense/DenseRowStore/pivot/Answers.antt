@@ -1,9 +1,8 @@
-use Rattle.std.proofs.Common.{◌≡◌}
+use Rattle.std.proofs.Common.{◌≡◌, refl, sym, subst, ◌∙◌, Some}
 use Rattle.std.specs.Prelude.{None}
 use Rattle.row_store.specs.Pivot.{pivot_growth}
 use Rattle.row_store.proofs.Tables.{pivoted_is_table}
 use Rattle.row_store.proofs.dense.DenseRowStore.pivot.Goals as goal
-use Rattle.std.proofs.Common.{refl, sym, subst, ◌∙◌, Some}
 use Rattle.std.proofs.lemmas.List.{get_or_read}
 use Rattle.row_store.specs.Table.{no_row}
 

@@ -1,12 +1,10 @@
-use Rattle.std.proofs.Common.{◌<◌, ℕ, length, subst}
+use Rattle.std.proofs.Common.{◌<◌, ℕ, length, subst, ◌≡◌, refl, ◌∙◌, None}
 use Rattle.frac_row.specs.Row.{IsSmall}
-use Rattle.row_store.specs.Table.{row_at}
+use Rattle.row_store.specs.Table.{row_at, no_row}
 use Rattle.row_store.proofs.Tables.{pivoted_is_table}
 use Rattle.row_store.proofs.SmallTables.{small_growth}
 use Rattle.row_store.proofs.full.FullTable.pivot.Goals as goal
-use Rattle.std.proofs.Common.{◌≡◌, refl, ◌∙◌, None}
 use Rattle.std.proofs.lemmas.List.{get_or_read}
-use Rattle.row_store.specs.Table.{no_row}
 use Rattle.row_store.specs.Pivot.{pivoted, pivot_growth}
 use Rattle.row_store.specs.InPlace.{CanClearAll}
 

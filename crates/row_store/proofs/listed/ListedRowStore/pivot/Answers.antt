@@ -1,4 +1,4 @@
-use Rattle.std.proofs.Common.{◌≡◌, ◌<◌, ℕ, None, List, length, get_or, rules, sym, ◌∙◌}
+use Rattle.std.proofs.Common.{◌≡◌, ◌<◌, ℕ, None, List, length, get_or, sym, ◌∙◌, refl, subst, Some}
 use Rattle.std.proofs.lemmas.List.{ext_get_or}
 use Rattle.sums.specs.Places.{list_below}
 use Rattle.sums.proofs.Places.{length-list_below, get_or-list_below}
@@ -9,7 +9,6 @@ use Rattle.row_store.specs.Pivot.{new_row, pivoted, pivot_growth}
 use Rattle.row_store.specs.declared.changes.Change.{Change}
 use Rattle.row_store.proofs.Tables.{pivoted_is_table}
 use Rattle.row_store.proofs.listed.ListedRowStore.pivot.Goals as goal
-use Rattle.std.proofs.Common.{refl, subst, Some}
 
 put_is : (table new slice : List FracRow) (changes : List Change) (row column : ℕ) → new ≡ list_below (row_after table changes) (length table) → slice ≡ table → ((place : ℕ) → place < length slice → row_after slice changes place ≡ new_row slice row column place) → new ≡ pivoted table row column
 unfolding pivoted

@@ -1,8 +1,8 @@
-use Rattle.std.proofs.Common.{◌≡◌, ◌+◌, pos, ◌<ℤ◌, ◌≤ℤ◌, ◌∙◌, ap, rules, arith}
+use Rattle.std.proofs.Common.{pos, ◌<ℤ◌, ◌≤ℤ◌, rules, arith}
 use Rattle.std.proofs.lemmas.Int.{ints}
 use mir.Val.{SFits}
 use mir.Syntax.{w128}
-use Rattle.row_store.specs.Table.{number_at, cost_row, height_of}
+use Rattle.row_store.specs.Table.{number_at, cost_row}
 use Rattle.row_store.proofs.NoneNegative.{one_more, one_below, cost_number_is}
 use Rattle.row_store.proofs.store.RowStore.are_costs_at_least_0.Goals as goal
 
