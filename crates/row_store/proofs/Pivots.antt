@@ -1,8 +1,8 @@
 -- The steps of a pivot.
-use Rattle.std.proofs.Common.{◌≡◌, ℕ, ◌<◌, ◌≢◌, true, false, eqb, ℤ, pos, ◌<ℤ◌, List, length, Option, Some, None, option_map, unsigned_abs, sym, ◌∙◌, ap, arith}
+use Rattle.std.proofs.Common.{◌≡◌, ℕ, ◌+◌, ◌<◌, ◌≢◌, true, false, eqb, ℤ, pos, ◌<ℤ◌, List, length, Option, Some, None, option_map, unsigned_abs, sym, ◌∙◌, ap, arith, add-one}
 use Rattle.std.specs.Prelude.{is_some}
 use Rattle.std.proofs.lemmas.Bool.Decides.{nat_tests}
-use Rattle.sums.specs.Places.{first_below}
+use Rattle.sums.specs.Places.{first_below, or_else}
 use Rattle.sums.proofs.Places.{first_found}
 use Rattle.sums.proofs.Sizes.{zero_size, zero_size_tested}
 use Rattle.sums.proofs.Tests.{passed_over, picked, unlike}
@@ -74,6 +74,11 @@ pub pivot_growth_found : (table : List FracRow) (row column place : ℕ) (growth
 unfolding pivot_growth
 pivot_growth_found table row column place (Some x) none lt e some = sym (first_found (row_growth table row column) place (length table) x none (sym e) lt)
 pivot_growth_found table row column place None none lt e some = unlike (sym some)
+
+-- one row more
+pub pivot_growth_more : (table : List FracRow) (row column place : ℕ) (growth : Option Place) → first_below (row_growth table row column) place ≡ None → growth ≡ row_growth table row column place → is_some growth ≡ false → first_below (row_growth table row column) (place + 1) ≡ None
+pivot_growth_more table row column place None none e t = ap (first_below (row_growth table row column)) (add-one place) ∙ ap (λ o. or_else o (row_growth table row column place)) none ∙ sym e
+pivot_growth_more table row column place (Some x) none e t = unlike t
 
 pub pivot_growth_none : (table : List FracRow) (row column place : ℕ) → first_below (row_growth table row column) place ≡ None → place ≡ length table → None ≡ pivot_growth table row column
 unfolding pivot_growth
