@@ -53,16 +53,26 @@ fn idles_of(alloc: Global, stretches: &[(u32, u16, u16)]) -> Result<Vec<Idle>, L
     Ok(idles)
 }
 
+/// Asserts where stations are idle.
+fn assert_idle<R: Abort + Alloc<A = Global>>(
+    rt: &R,
+    tables: &Tables,
+    stretches: &[(u32, u16, u16)],
+) -> Result<(), Fail> {
+    let want = idles_of(rt.alloc(), stretches)?;
+    let seen = idle(rt.alloc(), tables)?;
+    assert_same(rt, seen.as_slice(), want.as_slice());
+    Ok(())
+}
+
 /// Files, and the stretches in which a station is idle.
 type IdleCase = (Files, &'static [(u32, u16, u16)]);
 
 /// Asserts where the stations of each row are idle.
 fn assert_idles<R: Abort + Alloc<A = Global>>(rt: &R, cases: &[IdleCase]) -> Result<(), Fail> {
     for (files, stretches) in cases {
-        let want = idles_of(rt.alloc(), *stretches)?;
         let tables = read(rt.alloc(), files)?;
-        let seen = idle(rt.alloc(), &tables)?;
-        assert_same(rt, seen.as_slice(), want.as_slice());
+        assert_idle(rt, &tables, *stretches)?;
     }
     Ok(())
 }

@@ -45,15 +45,27 @@ fn joined_of(
 ) -> Result<Option<Joined>, LoadError> {
     let (files, fleets, fleet, pairs) = row;
     let tables = read(alloc, files)?;
-    let pairs = connections(alloc, *pairs)?;
-    let witness = connections(alloc, witness)?;
-    let Some(plan) = assignment(&tables, *fleets) else {
+    joined_in(alloc, &tables, *fleets, *fleet, *pairs, witness)
+}
+
+/// The same in tables.
+fn joined_in(
+    alloc: Global,
+    tables: &Tables,
+    fleets: &[u32],
+    fleet: u32,
+    pairs: &[(u32, u32)],
+    witness: &[(u32, u32)],
+) -> Result<Option<Joined>, LoadError> {
+    let Some(plan) = assignment(tables, fleets) else {
         return Ok(None);
     };
-    if *fleet >= tables.fleet_count() {
+    if fleet >= tables.fleet_count() {
         return Ok(None);
     }
-    Ok(witnessed(alloc, &tables, &plan, *fleet, &pairs, &witness)?)
+    let pairs = connections(alloc, pairs)?;
+    let witness = connections(alloc, witness)?;
+    Ok(witnessed(alloc, tables, &plan, fleet, &pairs, &witness)?)
 }
 
 /// What the cycles of a fleet come to, where the witness is a fitting map that holds the pairs.

@@ -69,17 +69,34 @@ fn rotation_of(
 ) -> Result<Option<Rotation>, LoadError> {
     let (files, fleets, fleet, pairs) = row;
     let tables = read(alloc, files)?;
-    let pairs = connections(alloc, *pairs)?;
-    let witness = connections(alloc, witness)?;
     let Some(plan) = assignment(&tables, *fleets) else {
         return Ok(None);
     };
     if *fleet >= tables.fleet_count() || days == 0 || days > 30 {
         return Ok(None);
     }
-    Ok(witnessed(
-        alloc, &tables, &plan, *fleet, &pairs, &witness, days, visits,
-    )?)
+    rotation_in(alloc, &tables, &plan, *fleet, *pairs, witness, days, visits)
+}
+
+/// The same in tables, of a plan.
+fn rotation_in(
+    alloc: Global,
+    tables: &Tables,
+    plan: &Assignment,
+    fleet: u32,
+    pairs: &[(u32, u32)],
+    witness: &[(u32, u32)],
+    days: u32,
+    visits: u32,
+) -> Result<Option<Rotation>, LoadError>
+    requires plan { IsAssignment tables.now plan.now }
+    requires fleet { fleet < fleets_in tables.now }
+    requires some_days { 0 < days }
+    requires few_days { days ≤ 30 }
+{
+    let pairs = connections(alloc, pairs)?;
+    let witness = connections(alloc, witness)?;
+    Ok(witnessed(alloc, tables, plan, fleet, &pairs, &witness, days, visits)?)
 }
 
 /// The rotation, where the witness is a fitting map that holds the pairs.

@@ -20,13 +20,24 @@ fn zeros(
     station: u32,
 ) -> Result<Option<Vec<u16>>, LoadError> {
     let tables = read(alloc, files)?;
-    let Some(plan) = assignment(&tables, fleets) else {
+    zeros_in(alloc, &tables, fleets, fleet, station)
+}
+
+/// The same in tables.
+fn zeros_in(
+    alloc: Global,
+    tables: &Tables,
+    fleets: &[u32],
+    fleet: u32,
+    station: u32,
+) -> Result<Option<Vec<u16>>, LoadError> {
+    let Some(plan) = assignment(tables, fleets) else {
         return Ok(None);
     };
     if fleet >= tables.fleet_count() {
         return Ok(None);
     }
-    let minutes = zero_minutes(alloc, &tables, &plan, fleet, station)?;
+    let minutes = zero_minutes(alloc, tables, &plan, fleet, station)?;
     Ok(Some(minutes.into_vec()))
 }
 

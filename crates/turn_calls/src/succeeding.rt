@@ -48,15 +48,27 @@ fn successors_of(
 ) -> Result<Option<Vec<Connection>>, LoadError> {
     let (files, fleets, fleet, pairs) = row;
     let tables = read(alloc, files)?;
-    let pairs = connections(alloc, *pairs)?;
-    let witness = connections(alloc, witness)?;
-    let Some(plan) = assignment(&tables, *fleets) else {
+    successors_in(alloc, &tables, *fleets, *fleet, *pairs, witness)
+}
+
+/// The same in tables.
+fn successors_in(
+    alloc: Global,
+    tables: &Tables,
+    fleets: &[u32],
+    fleet: u32,
+    pairs: &[(u32, u32)],
+    witness: &[(u32, u32)],
+) -> Result<Option<Vec<Connection>>, LoadError> {
+    let Some(plan) = assignment(tables, fleets) else {
         return Ok(None);
     };
-    if *fleet >= tables.fleet_count() {
+    if fleet >= tables.fleet_count() {
         return Ok(None);
     }
-    Ok(witnessed(alloc, &tables, &plan, *fleet, &pairs, &witness)?)
+    let pairs = connections(alloc, pairs)?;
+    let witness = connections(alloc, witness)?;
+    Ok(witnessed(alloc, tables, &plan, fleet, &pairs, &witness)?)
 }
 
 /// Successors of given pairs, where the witness is a fitting map that holds them.
@@ -165,13 +177,23 @@ fn lines_of(
     tour: &[u32],
 ) -> Result<Option<Entries<Entries<u32>>>, LoadError> {
     let tables = read(alloc, files)?;
-    let Some(plan) = assignment(&tables, fleets) else {
+    Ok(lines_in(alloc, &tables, fleets, tour)?)
+}
+
+/// The same in tables.
+fn lines_in(
+    alloc: Global,
+    tables: &Tables,
+    fleets: &[u32],
+    tour: &[u32],
+) -> Result<Option<Entries<Entries<u32>>>, NoMemory> {
+    let Some(plan) = assignment(tables, fleets) else {
         return Ok(None);
     };
     if tables.fleet_count() == 0 {
         return Ok(None);
     }
-    Ok(toured(alloc, &tables, &plan, tour)?)
+    toured(alloc, tables, &plan, tour)
 }
 
 /// The lines of a tour, where the legs are one.

@@ -5,7 +5,7 @@ ghost use Rattle.fleet_model.specs.Legal.{IsLegal};
 
 use crate::assertions::assert_same;
 use best_matching::best_matching;
-use entries::Entries;
+use entries::{Entries, NoMemory};
 use fleet_model::{Assignment, Connection, LoadError, Settings, Tables};
 use plan_judge::{Verdict, judge};
 use sched_read::load;
@@ -76,13 +76,23 @@ fn chosen(
     requires { through_max < MINUTES_PER_DAY }
 {
     let tables = read(alloc, files, through_max)?;
-    let Some(plan) = legal(&tables, fleets) else {
+    Ok(chosen_in(alloc, &tables, fleets, fleet)?)
+}
+
+/// The same in tables.
+fn chosen_in(
+    alloc: Global,
+    tables: &Tables,
+    fleets: &[u32],
+    fleet: u32,
+) -> Result<Option<Throughs>, NoMemory> {
+    let Some(plan) = legal(tables, fleets) else {
         return Ok(None);
     };
     if fleet >= tables.fleet_count() {
         return Ok(None);
     }
-    Ok(Some(choose(alloc, &tables, &plan, fleet)?))
+    Ok(Some(choose(alloc, tables, &plan, fleet)?))
 }
 
 /// All numbers of a list, summed.
