@@ -1,5 +1,5 @@
 use Rattle.cert_check.proofs.SplitsAbove.{are_sound_but_priced}
-use Rattle.fleet_calls.proofs.solving.first_split_above.Goals as goal
+use Rattle.bound_calls.proofs.solving.first_split_in.Goals as goal
 
 pub split_above-requires-clause-known : goal.split_above-requires-clause-known
 split_above-requires-clause-known c = rw c.tree.ensures c.in_ok-solved.ensures.proved.of_tables

@@ -4,7 +4,8 @@ use crate::lifts::assert_halves;
 use branch_bound::{Solved, solve};
 use cert_check::split_above;
 use dual_bound::{Cause, Mixed, Tree};
-use fleet_model::LoadError;
+use entries::NoMemory;
+use fleet_model::{LoadError, Tables};
 use std::alloc::Global;
 use std::process::Abort;
 use std::test::Fail;
@@ -78,24 +79,17 @@ fn solution(alloc: Global, files: &Files, nodes: u64, pivots: u64) -> Result<Sol
 
 fn answer_of(alloc: Global, files: &Files, nodes: u64) -> Result<Answer, LoadError> {
     let solved = solution(alloc, files, nodes, ENOUGH)?;
+    Ok(told(&solved))
+}
+
+/// The answer of a solution.
+fn told(solved: &Solved) -> Answer {
     let splits = solved.tree().counts().splits;
-    Ok(match solved {
-        Solved::Planned { cost, bound, .. } => Answer {
-            cost: Some(cost),
-            bound: Some(bound),
-            splits,
-        },
-        Solved::Infeasible { .. } => Answer {
-            cost: None,
-            bound: None,
-            splits,
-        },
-        Solved::Unsettled { bound, .. } => Answer {
-            cost: None,
-            bound: Some(bound),
-            splits,
-        },
-    })
+    match solved {
+        Solved::Planned { cost, bound, .. } => planned(*cost, *bound, splits),
+        Solved::Infeasible { .. } => infeasible(splits),
+        Solved::Unsettled { bound, .. } => unsettled(*bound, splits),
+    }
 }
 
 const fn planned(cost: i128, bound: i128, splits: u64) -> Answer {
@@ -234,8 +228,13 @@ fn a_third_fleet_flies_what_is_left(rt: HostRuntime) -> Result<(), Fail> {
 /// The first split of a solution's tree whose rounded worth is above a cost.
 fn first_split_above(alloc: Global, files: &Files, cost: i128) -> Result<Option<u64>, LoadError> {
     let tables = read(alloc, files)?;
-    let solved = solve(alloc, &tables, ENOUGH, ENOUGH)?;
-    Ok(split_above(&tables, solved.tree(), cost))
+    Ok(first_split_in(alloc, &tables, cost)?)
+}
+
+/// The same in tables.
+fn first_split_in(alloc: Global, tables: &Tables, cost: i128) -> Result<Option<u64>, NoMemory> {
+    let solved = solve(alloc, tables, ENOUGH, ENOUGH)?;
+    Ok(split_above(tables, solved.tree(), cost))
 }
 
 /// A cost, and the first split above it.

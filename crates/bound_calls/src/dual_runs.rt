@@ -1,12 +1,11 @@
 //! Runs of the dual simplex method, from places given by hand and from those of a subproblem.
-ghost use Rattle.std.specs.Prelude.{IfOk};
 ghost use Rattle.row_store.specs.Problem.{IsProblem};
 
 use crate::assertions::assert_same;
 use dual_simplex::{Outcome, solve};
 use dual_start::start_places;
 use entries::{Entries, NoMemory};
-use fleet_model::{Kept, LoadError};
+use fleet_model::{Kept, LoadError, Tables};
 use lp_rows::Program;
 use row_store::{Dense, Line, Place, RowStore, Rows, is_problem};
 use std::alloc::Global;
@@ -141,12 +140,10 @@ fn dual_runs_and_their_ends(rt: HostRuntime) -> Result<(), Fail> {
     Ok(())
 }
 
-/// The program of all pairs of a schedule.
-fn program_of(alloc: Global, files: &Files) -> Result<Program, LoadError>
-    ensures { IfOk result (λ program. IsProblem program.rows) }
-{
-    let tables = read(alloc, files)?;
-    Ok(Program::new(alloc, &tables, &Kept::all(&tables))?)
+/// Where a run over all pairs of tables begins.
+fn start_in(alloc: Global, tables: &Tables) -> Result<Vec<Place>, NoMemory> {
+    let program = Program::new(alloc, tables, &Kept::all(tables))?;
+    start_places(alloc, &program)
 }
 
 /// The slacks, then each leg on the first fleet; no arc stays.
@@ -169,8 +166,8 @@ const OVERLAPPING_START: &[Place] = &[
 
 #[test]
 fn a_start_on_overlapping_trips(rt: HostRuntime) -> Result<(), Fail> {
-    let program = program_of(rt.alloc(), &TWO_FLEETS)?;
-    let places = start_places(rt.alloc(), &program)?;
+    let tables = read(rt.alloc(), &TWO_FLEETS)?;
+    let places = start_in(rt.alloc(), &tables)?;
     assert_same(&rt, places.as_slice(), OVERLAPPING_START);
     Ok(())
 }
@@ -183,8 +180,14 @@ const AT_ONCE: Files = Files {
 
 /// The kind of the end and the steps made of a run over all pairs of a schedule, within a budget.
 fn end_within(alloc: Global, files: &Files, steps: u64) -> Result<(&'static str, u64), LoadError> {
-    let program = program_of(alloc, files)?;
-    Ok(end_of(alloc, &program, steps)?)
+    let tables = read(alloc, files)?;
+    Ok(end_in(alloc, &tables, steps)?)
+}
+
+/// The same in tables.
+fn end_in(alloc: Global, tables: &Tables, steps: u64) -> Result<(&'static str, u64), NoMemory> {
+    let program = Program::new(alloc, tables, &Kept::all(tables))?;
+    end_of(alloc, &program, steps)
 }
 
 /// The kind of the end and the steps made of a run over a program, within a budget.

@@ -1,17 +1,20 @@
 //! Trips that need every aircraft, so that stations are empty at known minutes and prices that rise over ground arcs there
 //! are paid back.
+ghost use Rattle.dual_bound.specs.OfTables.{IsOfTables};
+
 use crate::assertions::assert_same;
-use crate::checking::checked;
 use crate::lifts::{Way, assert_worth, lifted_by};
+use crate::network::shape_of;
 use branch_bound::solve;
-use cert_check::Checked;
+use cert_check::{Checked, check};
 use dual_bound::{Prices, Tree};
-use fleet_model::Kept;
-use lp_rows::rows;
-use price_lift::Lifted;
+use entries::NoMemory;
+use fleet_model::{Kept, Tables};
+use plan_judge::{Verdict, judge};
 use std::alloc::Global;
 use std::process::Abort;
 use std::test::Fail;
+use worked_tables::plans::assignment;
 use worked_tables::schedules::{Files, ROUND_TRIP, read};
 
 /// Six legs that three aircraft can fly, and two can't. Each station is empty at some minutes, as BBB from 08:00, when L1
@@ -45,27 +48,30 @@ fn is_paid_back(prices: &Prices) -> bool {
 #[test]
 fn arcs_that_have_an_idle_minute_go(rt: HostRuntime) -> Result<(), Fail> {
     let tables = read(rt.alloc(), &NONE_TO_SPARE)?;
-    let seen = rows(rt.alloc(), &tables, &Kept::all(&tables))?;
-    assert_same(&rt, (seen.columns, seen.lines.len()), (16, 16));
+    let shape = shape_of(rt.alloc(), &tables, &Kept::all(&tables))?;
+    assert_same(&rt, shape, (16, 16));
     Ok(())
 }
 
-/// Prices that are paid back are worth what the cheapest assignment costs, after either run.
-fn assert_least_cost<R: Abort + Alloc<A = Global>>(rt: &R, way: Way) -> Result<Prices, Fail> {
-    let tables = read(rt.alloc(), &NONE_TO_SPARE)?;
-    let kept = Kept::all(&tables);
-    let Some(Lifted { prices, .. }) = lifted_by(rt.alloc(), &tables, &kept, way)? else {
+/// Whether prices are paid back, which are worth what the cheapest assignment costs.
+fn is_least_cost_paid_back<R: Abort + Alloc<A = Global>>(
+    rt: &R,
+    tables: &Tables,
+    way: Way,
+) -> Result<bool, Fail> {
+    let kept = Kept::all(tables);
+    let Some(lifted) = lifted_by(rt.alloc(), tables, &kept, way)? else {
         panic!(rt; "given up");
     };
-    assert_worth(rt, &tables, &kept, &prices, LEAST_COST);
-    Ok(prices)
+    assert_worth(rt, tables, &kept, &lifted.prices, LEAST_COST);
+    Ok(is_paid_back(&lifted.prices))
 }
 
 #[test]
 fn prices_that_are_paid_back_are_worth_as_much(rt: HostRuntime) -> Result<(), Fail> {
-    assert_least_cost(&rt, Way::Prescribed)?;
-    let prices = assert_least_cost(&rt, Way::BySigns)?;
-    assert!(rt; is_paid_back(&prices));
+    let tables = read(rt.alloc(), &NONE_TO_SPARE)?;
+    is_least_cost_paid_back(&rt, &tables, Way::Prescribed)?;
+    assert!(rt; is_least_cost_paid_back(&rt, &tables, Way::BySigns)?);
     Ok(())
 }
 
@@ -77,18 +83,34 @@ fn is_paid_back_leaf(tree: &Tree) -> bool {
     }
 }
 
+/// What the checker says of a tree that comes with the cheapest assignment.
+fn checked_with_cheapest(tables: &Tables, tree: &Tree) -> Option<Checked>
+    requires { IsOfTables tables.now tree.now }
+{
+    let plan = assignment(tables, CHEAPEST)?;
+    match judge(tables, &plan) {
+        Verdict::Legal { .. } => Some(check(tables, Some(&plan), tree)),
+        _ => None,
+    }
+}
+
+/// What the checker says of the tree of a solution without splits; nothing where it isn't a leaf that is paid back.
+fn checked_solution(alloc: Global, tables: &Tables) -> Result<Option<Checked>, NoMemory> {
+    let solved = solve(alloc, tables, 0, 1_000)?;
+    let tree = solved.tree();
+    if is_paid_back_leaf(tree) {
+        Ok(checked_with_cheapest(tables, tree))
+    } else {
+        Ok(None)
+    }
+}
+
 #[test]
 fn a_proof_with_prices_that_are_paid_back_holds(rt: HostRuntime) -> Result<(), Fail> {
     let tables = read(rt.alloc(), &NONE_TO_SPARE)?;
-    let solved = solve(rt.alloc(), &tables, 0, 1000)?;
-    let tree = solved.tree();
-    assert!(rt; is_paid_back_leaf(tree));
-    assert_same(
-        &rt,
-        checked(rt.alloc(), &NONE_TO_SPARE, Some(CHEAPEST), tree)?,
-        Some(Checked::Holds {
-            bound: Some(LEAST_COST),
-        }),
-    );
+    let wanted = Checked::Holds {
+        bound: Some(LEAST_COST),
+    };
+    assert_same(&rt, checked_solution(rt.alloc(), &tables)?, Some(wanted));
     Ok(())
 }

@@ -32,7 +32,17 @@ fn starts_at(
     station: u32,
 ) -> Result<Option<Vec<u16>>, LoadError> {
     let tables = read(alloc, files)?;
-    match events_at(alloc, &tables, fleet, station)? {
+    starts_in(alloc, &tables, fleet, station)
+}
+
+/// The same in tables.
+fn starts_in(
+    alloc: Global,
+    tables: &Tables,
+    fleet: u32,
+    station: u32,
+) -> Result<Option<Vec<u16>>, LoadError> {
+    match events_at(alloc, tables, fleet, station)? {
         Some(happening) => Ok(Some(nodes(alloc, &happening)?)),
         None => Ok(None),
     }
@@ -67,6 +77,12 @@ fn places_in(alloc: Global, tables: &Tables, minutes: &[u16]) -> Result<Vec<u32>
 fn all_rows(alloc: Global, files: &Files) -> Result<Rows, LoadError> {
     let tables = read(alloc, files)?;
     Ok(rows(alloc, &tables, &Kept::all(&tables))?)
+}
+
+/// How many columns and lines a subproblem has.
+pub fn shape_of(alloc: Global, tables: &Tables, kept: &Kept) -> Result<(u32, usize), LoadError> {
+    let seen = rows(alloc, tables, kept)?;
+    Ok((seen.columns, seen.lines.len()))
 }
 
 /// A minute, whether an aircraft is ready then and not departing, and its leg.
@@ -182,7 +198,6 @@ fn lines_of_fewer_pairs(rt: HostRuntime) -> Result<(), Fail> {
         fleet: 0,
         yes: true,
     });
-    let seen = rows(rt.alloc(), &tables, &kept)?;
-    assert_same(&rt, (seen.columns, seen.lines.len()), (10, 9));
+    assert_same(&rt, shape_of(rt.alloc(), &tables, &kept)?, (10, 9));
     Ok(())
 }

@@ -1,0 +1,26 @@
+//! Calls of the libraries that find bounds and plans, from the network to the tree, on worked sets of tables: each public call
+//! once, with the answer that is wanted. There is no code here but that of the tests.
+#![tactic(auto)]
+
+#[cfg(test)]
+mod assertions;
+#[cfg(test)]
+mod dual_runs;
+#[cfg(test)]
+mod islands;
+#[cfg(test)]
+mod lifting;
+#[cfg(test)]
+mod lifts;
+#[cfg(test)]
+mod lines;
+#[cfg(test)]
+mod network;
+#[cfg(test)]
+mod pivoting;
+#[cfg(test)]
+mod presolving;
+#[cfg(test)]
+mod sign_lifts;
+#[cfg(test)]
+mod solving;
