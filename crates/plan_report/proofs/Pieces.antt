@@ -1,5 +1,5 @@
 -- Pieces joined, one more at a time.
-use Rattle.std.proofs.Common.{◌≡◌, ℕ, ◌+◌, ◌<◌, List, [], ◌∷◌, ◌++◌, length, map, take, get_or, Bor, sym, ap, ◌∙◌, append_assoc, rules}
+use Rattle.std.proofs.Common.{◌≡◌, ℕ, suc, ◌+◌, ◌<◌, List, [], ◌∷◌, ◌++◌, length, map, take, get_or, Bor, sym, ap, ◌∙◌, add-one, append_assoc, rules}
 use Rattle.std.proofs.lemmas.Grind.{common_steps}
 use Rattle.std.specs.List.{concat}
 use Rattle.std.proofs.lemmas.List.{map_push, take_more}
@@ -17,3 +17,8 @@ pub piece_more : (pieces : List (Bor (List ℕ))) (i : ℕ) (d : Bor (List ℕ))
 piece_more pieces i d start text grown within so_far added =
     rw (take_more pieces i d within, map_push (λ (piece : Bor (List ℕ)). piece.now) (take i pieces) (get_or pieces i d), concat_one (shown (take i pieces)) (get_or pieces i d).now)
     (added ∙ ap (λ t. t ++ (get_or pieces i d).now) so_far ∙ append_assoc start (concat (shown (take i pieces))) (get_or pieces i d).now)
+
+-- a text that has the first lines of many has one more
+pub lines_more : (lines : ℕ → List ℕ) (n : ℕ) (line start text grown : List ℕ) → lines (suc n) ≡ lines n ++ line → text ≡ start ++ lines n → grown ≡ text ++ line → grown ≡ start ++ lines (n + 1)
+lines_more lines n line start text grown step so_far added =
+    added ∙ ap (λ t. t ++ line) so_far ∙ append_assoc start (lines n) line ∙ ap (λ xs. start ++ xs) (sym step ∙ ap lines (sym (add-one n)))

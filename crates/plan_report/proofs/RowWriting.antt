@@ -1,5 +1,6 @@
 -- Rows of rounds written one after the other.
 use Rattle.std.proofs.Common.{◌≡◌, ℕ, zero, suc, ◌+◌, ◌<◌, List, [], ◌∷◌, ◌++◌, length, map, replicate, take, get_or, refl, sym, ap, subst, ◌∙◌, add-one, append_assoc, codes, slice_index}
+use Rattle.std.specs.Fmt.{decimal, digits}
 use Rattle.std.proofs.lemmas.List.{map-append, map_push, take_more}
 use Rattle.fleet_model.specs.declared.tables.Tables.{Tables}
 use Rattle.fleet_model.specs.Schedule.{leg_on, station_of}
@@ -14,6 +15,11 @@ use Rattle.plan_text.specs.CsvText.{HasWritten, TextWriter, csv_text, text_in}
 use Rattle.plan_report.specs.RotationRecords.{Row, begun_tour_rows, fleet_records, fleets_records, leg_row, night_row, rotation_header, round_records, row_record, yes_no}
 use Rattle.plan_report.specs.Rotations.{rotation_of}
 use Rattle.plan_report.specs.declared.fleet_rotations.FleetRotation.{FleetRotation}
+
+-- nought in decimal
+pub zero_digit : decimal 0 ≡ codes "0"
+unfolding digits
+zero_digit = refl
 
 -- rows of a round, and then more
 pub rows_more : (name number : List ℕ) (a b c : TextWriter) (xs ys : List Row) → HasWritten a b (round_records name number xs)

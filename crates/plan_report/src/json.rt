@@ -1,5 +1,5 @@
 //! The summary of a solution and its rotations as JSON.
-ghost use Rattle.std.specs.Prelude.{◌≡◌, ◌<◌, IfOk, length, map};
+ghost use Rattle.std.specs.Prelude.{◌≡◌, ◌<◌, IfOk, OnOk, length, map};
 ghost use Rattle.dual_bound.specs.Leaves.{counts_of};
 ghost use Rattle.branch_bound.specs.Solved.{PlanFits, plan_cost, tree_of};
 ghost use Rattle.fleet_model.specs.Legal.{IsAssignment};
@@ -7,8 +7,8 @@ ghost use Rattle.fleet_model.specs.Schedule.{fleet_of, fleets_in};
 ghost use Rattle.plan_report.specs.Json.{fleet_data, fleets_data, json_text, number_data, open_data, rotation_data, rotations_data, summary_data};
 ghost use Rattle.plan_report.specs.Rotations.{AreRotations};
 ghost use Rattle.plan_report.specs.Summary.{outcome_word, printed_bound};
-ghost use Rattle.serde_json.specs.Data.{array, string};
-ghost use Rattle.serde_json.specs.View.{items_of, view};
+ghost use Rattle.serde_json.specs.Data.{array, no_members, object, string};
+ghost use Rattle.serde_json.specs.View.{items_of, members_view, view};
 ghost use Rattle.sums.specs.Places.{list_below};
 
 use crate::fleet_rotations::FleetRotation;
@@ -52,22 +52,35 @@ fn summary_value(
     requires rotations { AreRotations tables.now rotations.now }
     ensures { IfOk result (λ value. view value ≡ summary_data tables.now solved.now rotations.now) }
 {
-    let counts = solved.tree().counts();
-    let bound = bound_value(alloc, solved)?;
-    let cost = cost_value(alloc, solved)?;
-    let fleets = fleets_value(alloc, tables, solved)?;
-    let open = open_value(alloc, &counts)?;
-    let ended = outcome_value(alloc, solved)?;
-    let words = rotations_value(alloc, tables, solved, rotations)?;
     let mut object = Map::new(alloc);
-    put(&mut object, alloc, "bound", bound)?;
-    put(&mut object, alloc, "cost", cost)?;
-    put(&mut object, alloc, "fleets", fleets)?;
-    put(&mut object, alloc, "open", open)?;
-    put(&mut object, alloc, "outcome", ended)?;
-    put(&mut object, alloc, "rotations", words)?;
-    put(&mut object, alloc, "splits", Value::from(counts.splits))?;
+    put_members(alloc, &mut object, tables, solved, rotations)?;
     Ok(Value::Object(object))
+}
+
+/// Puts the members of a summary into an object that has none.
+fn put_members(
+    alloc: Global,
+    members: &mut Map<String, Value>,
+    tables: &Tables,
+    solved: &Solved,
+    rotations: &[FleetRotation],
+) -> Result<(), NoMemory>
+    requires plan { PlanFits tables.now solved.now }
+    requires rotations { AreRotations tables.now rotations.now }
+    requires none { members_view members.old.entries ≡ no_members }
+    ensures { OnOk result (object (members_view members.new.entries) ≡ summary_data tables.now solved.now rotations.now) }
+{
+    let counts = solved.tree().counts();
+    put(members, alloc, "bound", bound_value(alloc, solved)?)?;
+    put(members, alloc, "cost", cost_value(alloc, solved)?)?;
+    let fleets = fleets_value(alloc, tables, solved)?;
+    put(members, alloc, "fleets", fleets)?;
+    put(members, alloc, "open", open_value(alloc, &counts)?)?;
+    put(members, alloc, "outcome", outcome_value(alloc, solved)?)?;
+    let words = rotations_value(alloc, tables, solved, rotations)?;
+    put(members, alloc, "rotations", words)?;
+    put(members, alloc, "splits", Value::from(counts.splits))?;
+    Ok(())
 }
 
 /// How the search ended, as text.

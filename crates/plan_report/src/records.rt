@@ -1,13 +1,13 @@
 //! The records of rotations, written by `csv`.
 ghost use Rattle.std.specs.Prelude.{◌≡◌, ◌<◌, ◌++◌, [], ◌∷◌, IfOk, IfSome, OnOk, codes, length, map};
 ghost use Rattle.fleet_model.specs.Schedule.{fleet_of, fleets_in};
-ghost use Rattle.plan_text.specs.CsvText.{HasWritten, IsBetweenRecords};
+ghost use Rattle.plan_text.specs.CsvText.{HasWritten, IsBetweenRecords, csv_text, text_in};
 ghost use Rattle.plan_report.specs.RoundRows.{HasRows};
-ghost use Rattle.plan_report.specs.RotationRecords.{apart_rows, fleet_records, listed_row, pair_row, rotation_rows, rotation_text, second_round, spent_rows};
+ghost use Rattle.plan_report.specs.RotationRecords.{apart_rows, fleet_records, listed_row, pair_row, rotation_header, rotation_records, rotation_rows, rotation_text, second_round, spent_rows};
 ghost use Rattle.plan_report.specs.Rotations.{AreConnections, AreListed, AreRotations, IsFleetRotation, IsOfLegs};
 
 use crate::fleet_rotations::FleetRotation;
-use crate::record_writer::{Round, put_row};
+use crate::record_writer::{Round, put_numbers, put_row};
 use crate::tour_records::put_tour;
 use csv::{Writer, WriterBuilder};
 use entries::NoMemory;
@@ -38,20 +38,32 @@ pub fn rotation_csv(
             b"b".as_slice(),
         ],
     )?;
-    for fleet in 0..rotations.len() as u32 {
-        put_fleet(
-            alloc,
-            &mut writer,
-            tables,
-            &rotations[fleet as usize],
-            fleet,
-            visits,
-        )?;
-    }
+    put_fleets(alloc, &mut writer, tables, rotations, visits)?;
     match writer.into_inner() {
         Ok(text) => Ok(text),
         Err(error) => Err(want_of_memory(error.into_error())),
     }
+}
+
+/// Writes the rounds of all fleets, behind the header.
+fn put_fleets(
+    alloc: Global,
+    writer: &mut Writer<Vec<u8>>,
+    tables: &Tables,
+    rotations: &[FleetRotation],
+    visits: u64,
+) -> Result<(), NoMemory>
+    requires between { IsBetweenRecords writer.old }
+    requires header { text_in writer.old ≡ csv_text (rotation_header ∷ []) }
+    requires rotations { AreRotations tables.now rotations.now }
+    ensures between { OnOk result (IsBetweenRecords writer.new) }
+    ensures text { OnOk result (text_in writer.new ≡ csv_text (rotation_records tables.now rotations.now visits)) }
+{
+    for fleet in 0..rotations.len() as u32 {
+        let made = &rotations[fleet as usize];
+        put_fleet(alloc, writer, tables, made, fleet, visits)?;
+    }
+    Ok(())
 }
 
 /// Writes the rounds of a fleet.
@@ -141,9 +153,8 @@ fn put_rotation(
     match rotation {
         Rotation::Unused => put_row(writer, round, b"unused", b"0", b"0"),
         Rotation::TooFewNights { have, used } => {
-            let have = have.to_string(alloc)?;
-            let used = used.to_string(alloc)?;
-            put_row(writer, round, b"nights", have.as_bytes(), used.as_bytes())
+            let (have, used) = (u64::from(*have), u64::from(*used));
+            put_numbers(alloc, writer, round, b"nights", have, used)
         }
         Rotation::Apart { legs } => put_apart(alloc, writer, round, tables, legs.as_slice()),
         Rotation::Tour(tour) => put_tour(alloc, writer, round, tables, fleet, tour.as_slice()),
@@ -172,8 +183,7 @@ fn put_apart(
     requires legs { AreListed tables.now legs.now }
     ensures { OnOk result (HasRows writer.old writer.new round.entry (apart_rows tables.now legs.now)) }
 {
-    let count = legs.len().to_string(alloc)?;
-    put_row(writer, round, b"apart", count.as_bytes(), b"0")?;
+    put_numbers(alloc, writer, round, b"apart", legs.len() as u64, 0)?;
     put_legs(writer, round, b"leg", tables, legs)?;
     Ok(())
 }
@@ -193,15 +203,7 @@ fn put_spent(
     requires prefix { AreListed tables.now prefix.now }
     ensures { OnOk result (HasRows writer.old writer.new round.entry (spent_rows tables.now visits order.now prefix.now)) }
 {
-    let visits = visits.to_string(alloc)?;
-    let length = prefix.len().to_string(alloc)?;
-    put_row(
-        writer,
-        round,
-        b"visits",
-        visits.as_bytes(),
-        length.as_bytes(),
-    )?;
+    put_numbers(alloc, writer, round, b"visits", visits, prefix.len() as u64)?;
     put_legs(writer, round, b"order", tables, order)?;
     put_legs(writer, round, b"leg", tables, prefix)?;
     Ok(())

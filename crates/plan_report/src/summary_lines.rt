@@ -1,5 +1,6 @@
 //! The summary of a solution and its rotations, in lines.
 ghost use Rattle.std.specs.Prelude.{◌≡◌, ◌++◌, ◌<◌, [], ◌∷◌, IfOk, OnOk, codes, length};
+ghost use Rattle.std.specs.Fmt.{decimal};
 ghost use Rattle.branch_bound.specs.Solved.{PlanFits, plan_cost};
 ghost use Rattle.plan_report.specs.Rotations.{AreRotations};
 ghost use Rattle.plan_report.specs.Summary.{count_lines, outcome_word, printed_bound, result_lines, rotation_line, rotation_lines, summary_text};
@@ -91,23 +92,22 @@ fn push_bound(alloc: Global, text: &mut Vec<u8>, solved: &Solved) -> Result<(), 
 fn push_counts(alloc: Global, text: &mut Vec<u8>, counts: TreeCounts) -> Result<(), NoMemory>
     ensures { OnOk result (text.new.items ≡ text.old.items ++ count_lines counts) }
 {
-    let splits = counts.splits.to_string(alloc)?;
-    let nodes = counts.open_nodes.to_string(alloc)?;
-    let pivots = counts.open_pivots.to_string(alloc)?;
-    let grew = counts.open_grew.to_string(alloc)?;
-    push_line(text, &[b"splits: ".as_slice(), splits.as_bytes()])?;
-    push_line(
-        text,
-        &[
-            b"open: ".as_slice(),
-            nodes.as_bytes(),
-            b" nodes, ".as_slice(),
-            pivots.as_bytes(),
-            b" pivots, ".as_slice(),
-            grew.as_bytes(),
-            b" grew".as_slice(),
-        ],
-    )
+    push_count(alloc, text, b"splits: ", counts.splits)?;
+    push_count(alloc, text, b"\nopen: ", counts.open_nodes)?;
+    push_count(alloc, text, b" nodes, ", counts.open_pivots)?;
+    push_count(alloc, text, b" pivots, ", counts.open_grew)?;
+    text.extend_from_slice(b" grew\n")?;
+    Ok(())
+}
+
+/// Appends some words and a count.
+fn push_count(alloc: Global, text: &mut Vec<u8>, before: &[u8], count: u64) -> Result<(), NoMemory>
+    ensures { OnOk result (text.new.items ≡ text.old.items ++ before.now ++ decimal count) }
+{
+    text.extend_from_slice(before)?;
+    let digits = count.to_string(alloc)?;
+    text.extend_from_slice(digits.as_bytes())?;
+    Ok(())
 }
 
 /// Appends the line `rotation F: A` of each rotation.

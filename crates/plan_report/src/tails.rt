@@ -7,7 +7,7 @@ ghost use Rattle.ground_turns.specs.Maps.{IsTour};
 ghost use Rattle.lines_of_flying.specs.Lines.{AreLegs, BeginsAfterNight};
 ghost use Rattle.plan_report.specs.Dates.{HasDays, day_on};
 ghost use Rattle.plan_report.specs.Rotations.{AreRotations, IsFleetRotation, last_made};
-ghost use Rattle.plan_report.specs.Tails.{AreFlown, AreLinesOf, IsFlown, dated_line, day_lines, days_lines, fleet_tails, flights_text, line_on, lines_by, no_tour_line, spaced_flight, tails_text};
+ghost use Rattle.plan_report.specs.Tails.{AreFlown, AreLinesOf, IsFlown, dated_line, day_lines, days_lines, fleet_tails, fleets_tails, flights_text, line_on, lines_by, no_tour_line, spaced_flight, tails_text};
 
 use crate::dates::dates_from;
 use crate::fleet_rotations::FleetRotation;
@@ -41,10 +41,27 @@ pub fn tail_lines(
     ensures { IfOk result (λ text. text.items ≡ tails_text tables.now plan.now rotations.now (day_on date) count) }
 {
     let dates = dates_from(alloc, date, count)?;
+    tails_on(alloc, tables, plan, rotations, &dates)
+}
+
+/// The lines of tails on some dates.
+fn tails_on(
+    alloc: Global,
+    tables: &Tables,
+    plan: &Assignment,
+    rotations: &[FleetRotation],
+    dates: &[Date],
+) -> Result<Vec<u8>, NoMemory>
+    requires plan { IsAssignment tables.now plan.now }
+    requires rotations { AreRotations tables.now rotations.now }
+    requires tours { AreFlown tables.now plan.now rotations.now }
+    requires few { length dates.now < 2 ^ 32 }
+    ensures { IfOk result (λ text. text.items ≡ fleets_tails tables.now plan.now rotations.now (map day_on dates.now) (length rotations.now)) }
+{
     let mut text = Vec::new(alloc);
     for fleet in 0..rotations.len() as u32 {
         let made = &rotations[fleet as usize];
-        push_tails(alloc, &mut text, tables, plan, fleet, made, &dates)?;
+        push_tails(alloc, &mut text, tables, plan, fleet, made, dates)?;
     }
     Ok(text)
 }
@@ -68,11 +85,31 @@ fn push_tails(
 {
     match last_made(made) {
         Rotation::Tour(tour) => {
-            let flown = lines_by(alloc, tables, plan, fleet, tour.as_slice())?;
-            push_days(alloc, text, tables, &flown, dates)
+            push_tour(alloc, text, tables, plan, fleet, tour.as_slice(), dates)
         }
         _ => push_no_tour(alloc, text, tables, fleet, made),
     }
+}
+
+/// Appends the lines of a fleet that has a tour.
+fn push_tour(
+    alloc: Global,
+    text: &mut Vec<u8>,
+    tables: &Tables,
+    plan: &Assignment,
+    fleet: u32,
+    tour: &[u32],
+    dates: &[Date],
+) -> Result<(), NoMemory>
+    requires plan { IsAssignment tables.now plan.now }
+    requires fleet { fleet < fleets_in tables.now }
+    requires tour { IsTour tables.now plan.now fleet tour.now }
+    requires begins { BeginsAfterNight tables.now fleet tour.now }
+    requires few { length dates.now < 2 ^ 32 }
+    ensures { OnOk result (text.new.items ≡ text.old.items ++ days_lines tables.now (lines_by tables.now plan.now fleet tour.now) (map day_on dates.now) (length (map day_on dates.now))) }
+{
+    let flown = lines_by(alloc, tables, plan, fleet, tour)?;
+    push_days(alloc, text, tables, &flown, dates)
 }
 
 /// The rotation that was made last: without through pairs, where these were given up.

@@ -8,7 +8,7 @@ ghost use Rattle.plan_report.specs.RoundRows.{HasRows};
 ghost use Rattle.plan_report.specs.RotationRecords.{begun_tour_rows, leg_row, night_row, yes_no};
 ghost use Rattle.plan_report.specs.Rotations.{AreListed};
 
-use crate::record_writer::{Round, put_row};
+use crate::record_writer::{Round, put_numbers, put_row};
 use crate::words::days_of;
 use csv::Writer;
 use entries::NoMemory;
@@ -30,9 +30,8 @@ pub fn put_tour(
     requires tour { AreListed tables.now tour.now }
     ensures { OnOk result (HasRows writer.old writer.new round.entry (begun_tour_rows tables.now fleet tour.now (length tour.now))) }
 {
-    let days = days_of(tables, fleet, tour).to_string(alloc)?;
-    let legs = tour.len().to_string(alloc)?;
-    put_row(writer, round, b"tour", days.as_bytes(), legs.as_bytes())?;
+    let days = days_of(tables, fleet, tour);
+    put_numbers(alloc, writer, round, b"tour", days, tour.len() as u64)?;
     for place in 0..tour.len() {
         put_leg(alloc, writer, round, tables, fleet, tour, place)?;
         put_nights(writer, round, tables, fleet, tour, place)?;

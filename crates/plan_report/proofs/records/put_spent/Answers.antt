@@ -1,17 +1,15 @@
-use Rattle.std.proofs.Common.{◌∷◌, ◌++◌, [], codes, length, map, rules}
+use Rattle.std.proofs.Common.{◌∷◌, ◌++◌, [], codes, length, map}
 use Rattle.std.specs.Fmt.{decimal}
-use Rattle.plan_text.specs.CsvText.{HasWritten}
-use Rattle.plan_report.specs.RotationRecords.{Row, listed_row, round_records}
+use Rattle.plan_report.specs.RotationRecords.{Row, listed_row}
 use Rattle.plan_report.proofs.RowWriting.{rows_more}
 use Rattle.plan_report.proofs.records.put_spent.Goals as goal
 
 pub returns : goal.returns
 returns c =
     let row : Row = record { kind = codes "visits"; a = decimal c.args.visits; b = decimal (length c.args.prefix.now) } in
-    let one : HasWritten c.args.writer.now c.put_row.new.writer (round_records c.args.round.name.now c.args.round.number.now (row ∷ [])) = search rules in
     let order = map (listed_row (codes "order") c.args.tables.now) c.args.order.now in
     let prefix = map (listed_row (codes "leg") c.args.tables.now) c.args.prefix.now in
     let name = c.args.round.name.now in
     let number = c.args.round.number.now in
-    rows_more name number c.args.writer.now c.put_row.new.writer c.put_legs-2.new.writer (row ∷ []) (order ++ prefix) one
-    (rows_more name number c.put_row.new.writer c.put_legs.new.writer c.put_legs-2.new.writer order prefix c.in_ok-put_legs.ensures c.in_ok-put_legs-2.ensures)
+    rows_more name number c.args.writer.now c.put_numbers.new.writer c.put_legs-2.new.writer (row ∷ []) (order ++ prefix) c.in_ok-put_numbers.ensures
+    (rows_more name number c.put_numbers.new.writer c.put_legs.new.writer c.put_legs-2.new.writer order prefix c.in_ok-put_legs.ensures c.in_ok-put_legs-2.ensures)

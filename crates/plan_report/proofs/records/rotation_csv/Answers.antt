@@ -1,21 +1,7 @@
-use Rattle.std.proofs.Common.{◌≡◌, ◌<◌, ◌∙◌, sym, subst, length, arith, rules}
-use Rattle.std.proofs.lemmas.List.{get_or_default}
-use Rattle.plan_text.specs.CsvText.{HasWritten, csv_text, text_in}
-use Rattle.plan_report.specs.RotationRecords.{fleet_records, rotation_records}
-use Rattle.plan_report.specs.Rotations.{no_rotation, rotation_of}
-use Rattle.plan_report.proofs.RowWriting.{fleet_more}
+use Rattle.std.proofs.Common.{◌∙◌, sym}
 use Rattle.plan_report.proofs.PlainText.{written_as_csv}
 use Rattle.plan_report.proofs.records.rotation_csv.Goals as goal
 
-pub loop-fleet-preserved : goal.loop-fleet-preserved
-loop-fleet-preserved c =
-    let rotations = c.args.rotations.now in
-    let within : c.loop-fleet.fleet < length rotations = omega arith in
-    let same : c.index-rotations-fleet.result ≡ rotation_of rotations c.loop-fleet.fleet = c.index-rotations-fleet.is ∙ get_or_default rotations c.loop-fleet.fleet c.index-rotations-fleet.result no_rotation within in
-    let one = subst (λ made. HasWritten c.loop-fleet.writer c.put_fleet.new.writer (fleet_records c.args.tables.now c.args.visits made c.loop-fleet.fleet)) same c.in_ok-put_fleet.ensures in
-    record { between = one.between; text = fleet_more c.args.tables.now c.args.visits c.args.rotations.now c.loop-fleet.fleet c.loop-fleet.writer c.put_fleet.new.writer c.loop-fleet.invariant.text one }
-
 pub returns-in-Ok : goal.returns-in-Ok
 returns-in-Ok c =
-    let all : text_in c.loop-fleet.writer ≡ csv_text (rotation_records c.args.tables.now c.args.rotations.now c.args.visits) = search rules in
-    c.in-Ok.ensures.ok ∙ all ∙ sym (written_as_csv c.args.tables.now c.args.rotations.now c.args.visits c.requires)
+    c.in-Ok.ensures.ok ∙ c.in_ok-put_fleets.ensures.text ∙ sym (written_as_csv c.args.tables.now c.args.rotations.now c.args.visits c.requires)

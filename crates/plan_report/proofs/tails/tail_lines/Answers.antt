@@ -4,8 +4,8 @@ use Rattle.sums.proofs.Places.{length-list_below}
 use Rattle.plan_report.specs.Dates.{day_after, day_on}
 use Rattle.plan_report.proofs.tails.tail_lines.Goals as goal
 
-pub push_tails-requires-clause-few : goal.push_tails-requires-clause-few
-push_tails-requires-clause-few c =
+pub tails_on-requires-clause-few : goal.tails_on-requires-clause-few
+tails_on-requires-clause-few c =
     let many : length c.deref.result.now ≡ c.args.count =
     ap length c.deref.ensures.value ∙ sym (length-map c.in_ok-dates.dates.items day_on) ∙ ap length c.in_ok-dates.ensures
     ∙ length-list_below (day_after (day_on c.args.date)) c.args.count in

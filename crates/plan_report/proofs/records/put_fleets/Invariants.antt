@@ -1,7 +1,7 @@
 use Rattle.std.proofs.Common.{◌≡◌, ◌∷◌}
 use Rattle.plan_text.specs.CsvText.{IsBetweenRecords, csv_text, text_in}
 use Rattle.plan_report.specs.RotationRecords.{fleets_records, rotation_header}
-use Rattle.plan_report.proofs.records.rotation_csv.Given as goal
+use Rattle.plan_report.proofs.records.put_fleets.Given as goal
 
 abbrev pub invariant-loop-fleet : goal.invariant-loop-fleet
 invariant-loop-fleet l = record {

@@ -1,7 +1,7 @@
 use Rattle.std.proofs.Common.{◌≡◌, map}
 use Rattle.plan_report.specs.Dates.{day_on}
 use Rattle.plan_report.specs.Tails.{fleets_tails}
-use Rattle.plan_report.proofs.tails.tail_lines.Given as goal
+use Rattle.plan_report.proofs.tails.tails_on.Given as goal
 
 abbrev pub invariant-loop-fleet : goal.invariant-loop-fleet
-invariant-loop-fleet l = l.text.items ≡ fleets_tails l.tables l.plan l.rotations (map day_on l.dates.items) l.fleet
+invariant-loop-fleet l = l.text.items ≡ fleets_tails l.tables l.plan l.rotations (map day_on l.dates) l.fleet

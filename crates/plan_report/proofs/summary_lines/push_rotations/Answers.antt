@@ -1,0 +1,11 @@
+use Rattle.std.proofs.Common.{refl}
+use Rattle.plan_report.specs.Summary.{rotation_line, rotation_lines}
+use Rattle.plan_report.proofs.Pieces.{lines_more}
+use Rattle.plan_report.proofs.summary_lines.push_rotations.Goals as goal
+
+pub loop-fleet-preserved : goal.loop-fleet-preserved
+loop-fleet-preserved c =
+    let t = c.args.tables.now in
+    let rotations = c.args.rotations.now in
+    let n = c.loop-fleet.fleet in
+    lines_more (rotation_lines t rotations) n (rotation_line t rotations n) c.args.text.now.items c.loop-fleet.text.items c.push_rotation.new.text.items refl c.loop-fleet.invariant c.in_ok-push_rotation.ensures

@@ -1,0 +1,11 @@
+use Rattle.std.proofs.Common.{refl}
+use Rattle.plan_report.specs.TextLines.{fleet_line, fleet_lines}
+use Rattle.plan_report.proofs.Pieces.{lines_more}
+use Rattle.plan_report.proofs.text_lines.push_fleets.Goals as goal
+
+pub loop-fleet-preserved : goal.loop-fleet-preserved
+loop-fleet-preserved c =
+    let t = c.args.tables.now in
+    let plan = c.args.plan.now in
+    let n = c.loop-fleet.fleet in
+    lines_more (fleet_lines t plan) n (fleet_line t plan n) c.args.text.now.items c.loop-fleet.text.items c.push_fleet.new.text.items refl c.loop-fleet.invariant c.in_ok-push_fleet.ensures
