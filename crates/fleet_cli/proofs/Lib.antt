@@ -17,6 +17,7 @@ pub mod OpenFacts
 pub mod Others
 pub mod Parts
 pub mod PlanLength
+pub mod RunFacts
 pub mod SameBytes
 pub mod SolvedFiles
 pub mod SolvedHolds

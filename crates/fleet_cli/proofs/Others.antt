@@ -88,12 +88,17 @@ made_few made more few = let five : length (made_files made ++ more) ≡ 5 + len
 
 -- ---- what an answer is
 
--- a status that ends a run, a text, and no file
-record IsSaid (answer : Answer) : Type 0 where
+-- a status that ends a run, and that of usage only where nothing is asked
+record Ends (asked : Option Asked) (code : ℕ) : Type 0 where
+  ends : IsEnd code
+  usage : code ≡ USAGE → asked ≡ None
+
+-- such a status, a text, and no file
+record IsSaid (asked : Option Asked) (answer : Answer) : Type 0 where
   code : ℕ
   text : List ℕ
   is : answer ≡ says code text
-  ends : IsEnd code
+  ends : Ends asked code
 
 -- the answer of a solution behind files that are written before, of a command that may write all of these
 record IsSolved (asked : Option Asked) (answer : Answer) : Type 0 where
@@ -143,21 +148,33 @@ solved_kind dir settings options bytes answer x = let given = x.gives in record 
       solved_others x.tables given.rotations options.rotations.visits folder name (differ 0 desk_file.Plan (omega arith)) (differ 1 desk_file.Proof (omega arith)) (differ 2 desk_file.Rotation (omega arith)) given.solution;
 }
 
-refused : (answer : Answer) (text : List ℕ) → answer ≡ says REFUSED text → IsSaid answer
-refused answer text is = record { code = REFUSED; text = text; is = is; ends = (λ e. omega arith, λ e. omega arith) }
+done_ends : (asked : Option Asked) → Ends asked DONE
+done_ends asked = record { ends = (λ e. omega arith, λ e. omega arith); usage = λ e. absurd (omega arith) }
 
-bad : (answer : Answer) (text : List ℕ) → answer ≡ says BAD_INPUT text → IsSaid answer
-bad answer text is = record { code = BAD_INPUT; text = text; is = is; ends = (λ e. omega arith, λ e. omega arith) }
+refused_ends : (asked : Option Asked) → Ends asked REFUSED
+refused_ends asked = record { ends = (λ e. omega arith, λ e. omega arith); usage = λ e. absurd (omega arith) }
 
-verdict_ends : (v : Verdict) → IsEnd (verdict_status v)
-verdict_ends (verdict.Legal cost) = (λ e. omega arith, λ e. omega arith)
-verdict_ends (verdict.NotAllowed leg) = (λ e. omega arith, λ e. omega arith)
-verdict_ends (verdict.Unbalanced f s came left) = (λ e. omega arith, λ e. omega arith)
-verdict_ends (verdict.TooMany f used has) = (λ e. omega arith, λ e. omega arith)
+bad_ends : (asked : Option Asked) → Ends asked BAD_INPUT
+bad_ends asked = record { ends = (λ e. omega arith, λ e. omega arith); usage = λ e. absurd (omega arith) }
 
-checked_ends : (v : Checked) → IsEnd (checked_status v)
-checked_ends (checked.Holds bound) = (λ e. omega arith, λ e. omega arith)
-checked_ends (checked.Broken node rule) = (λ e. omega arith, λ e. omega arith)
+usage_ends : Ends None USAGE
+usage_ends = record { ends = (λ e. omega arith, λ e. omega arith); usage = λ e. refl }
+
+refused : (asked : Option Asked) (answer : Answer) (text : List ℕ) → answer ≡ says REFUSED text → IsSaid asked answer
+refused asked answer text is = record { code = REFUSED; text = text; is = is; ends = refused_ends asked }
+
+bad : (asked : Option Asked) (answer : Answer) (text : List ℕ) → answer ≡ says BAD_INPUT text → IsSaid asked answer
+bad asked answer text is = record { code = BAD_INPUT; text = text; is = is; ends = bad_ends asked }
+
+verdict_ends : (asked : Option Asked) (v : Verdict) → Ends asked (verdict_status v)
+verdict_ends asked (verdict.Legal cost) = done_ends asked
+verdict_ends asked (verdict.NotAllowed leg) = refused_ends asked
+verdict_ends asked (verdict.Unbalanced f s came left) = refused_ends asked
+verdict_ends asked (verdict.TooMany f used has) = refused_ends asked
+
+checked_ends : (asked : Option Asked) (v : Checked) → Ends asked (checked_status v)
+checked_ends asked (checked.Holds bound) = done_ends asked
+checked_ends asked (checked.Broken node rule) = refused_ends asked
 
 solution_ends : (code : ℕ) → IsSolution code → IsEnd code
 solution_ends code (inl is) = (λ e. let bad : ◌≡◌ {A = ℕ} 0 7 = sym is ∙ e in omega arith, λ e. let bad : ◌≡◌ {A = ℕ} 0 8 = sym is ∙ e in omega arith)
@@ -165,69 +182,72 @@ solution_ends code (inr (inl is)) = (λ e. let bad : ◌≡◌ {A = ℕ} 3 7 = s
 solution_ends code (inr (inr (inl is))) = (λ e. let bad : ◌≡◌ {A = ℕ} 4 7 = sym is ∙ e in omega arith, λ e. let bad : ◌≡◌ {A = ℕ} 4 8 = sym is ∙ e in omega arith)
 solution_ends code (inr (inr (inr is))) = (λ e. let bad : ◌≡◌ {A = ℕ} 5 7 = sym is ∙ e in omega arith, λ e. let bad : ◌≡◌ {A = ℕ} 5 8 = sym is ∙ e in omega arith)
 
-module _ (answer : Answer) where
-  judged : (t : Tables) (bytes : List ℕ) → RefusesPlan t bytes answer ⊎ JudgesPlan t bytes answer → IsSaid answer
-  judged t bytes (inl x) = refused answer _ x.is
-  judged t bytes (inr x) = record { code = verdict_status x.verdict; text = _; is = x.is; ends = verdict_ends x.verdict }
+module _ (asked : Option Asked) (answer : Answer) where
+  judged : (t : Tables) (bytes : List ℕ) → RefusesPlan t bytes answer ⊎ JudgesPlan t bytes answer → IsSaid asked answer
+  judged t bytes (inl x) = refused asked answer _ x.is
+  judged t bytes (inr x) = record { code = verdict_status x.verdict; text = _; is = x.is; ends = verdict_ends asked x.verdict }
 
-  tails_said : (t : Tables) (limits : RotationLimits) (dates : AskedDates) (bytes : List ℕ) → RefusesPlan t bytes answer ⊎ TailsOfPlan t limits dates bytes answer → IsSaid answer
-  tails_said t limits dates bytes (inl x) = refused answer _ x.is
+  tails_said : (t : Tables) (limits : RotationLimits) (dates : AskedDates) (bytes : List ℕ) → RefusesPlan t bytes answer ⊎ TailsOfPlan t limits dates bytes answer → IsSaid asked answer
+  tails_said t limits dates bytes (inl x) = refused asked answer _ x.is
   tails_said t limits dates bytes (inr x) = elim x.answers [
-    | inl ill ↦ record { code = verdict_status ill.verdict; text = _; is = ill.is; ends = verdict_ends ill.verdict }
-    | inr legal ↦ record { code = DONE; text = _; is = legal.is; ends = (λ e. omega arith, λ e. omega arith) }
+    | inl ill ↦ record { code = verdict_status ill.verdict; text = _; is = ill.is; ends = verdict_ends asked ill.verdict }
+    | inr legal ↦ record { code = DONE; text = _; is = legal.is; ends = done_ends asked }
   ]
 
-  tree_said : (t : Tables) (cost : Option ℤ) (tree : Tree) → ChecksTree t cost tree answer → IsSaid answer
-  tree_said t cost tree x = record { code = checked_status x.verdict; text = _; is = x.is; ends = checked_ends x.verdict }
+  tree_said : (t : Tables) (cost : Option ℤ) (tree : Tree) → ChecksTree t cost tree answer → IsSaid asked answer
+  tree_said t cost tree x = record { code = checked_status x.verdict; text = _; is = x.is; ends = checked_ends asked x.verdict }
 
-  plan_said : (t : Tables) (tree : Tree) (plan : List ℕ) → ChecksPlan t tree plan answer → IsSaid answer
+  plan_said : (t : Tables) (tree : Tree) (plan : List ℕ) → ChecksPlan t tree plan answer → IsSaid asked answer
   plan_said t tree plan x = elim x.answers [
-    | inl ill ↦ record { code = verdict_status ill.verdict; text = _; is = ill.is; ends = verdict_ends ill.verdict }
+    | inl ill ↦ record { code = verdict_status ill.verdict; text = _; is = ill.is; ends = verdict_ends asked ill.verdict }
     | inr legal ↦ tree_said t _ tree legal.checks
   ]
 
-  proof_said : (t : Tables) (planned : Bool) (tree : Tree) (plan : List ℕ) → ChecksProof t planned tree plan answer → IsSaid answer
+  proof_said : (t : Tables) (planned : Bool) (tree : Tree) (plan : List ℕ) → ChecksProof t planned tree plan answer → IsSaid asked answer
   proof_said t false tree plan x = tree_said t None tree x
-  proof_said t true tree plan (inl x) = refused answer _ x.is
+  proof_said t true tree plan (inl x) = refused asked answer _ x.is
   proof_said t true tree plan (inr x) = plan_said t tree plan x
 
-  text_said : (t : Tables) (text plan : List ℕ) → RefusesProof t text answer ⊎ ReadsProof t text plan answer → IsSaid answer
-  text_said t text plan (inl x) = refused answer _ x.is
+  text_said : (t : Tables) (text plan : List ℕ) → RefusesProof t text answer ⊎ ReadsProof t text plan answer → IsSaid asked answer
+  text_said t text plan (inl x) = refused asked answer _ x.is
   text_said t text plan (inr x) = proof_said t x.proof.planned x.proof.tree plan x.checks
 
-  kind_of : (asked : Option Asked) (bytes : FileBytes) → AnswersOf asked bytes answer → IsSaid answer ⊎ IsSolved asked answer
-  kind_of None bytes x = inl (record { code = USAGE; text = _; is = x; ends = (λ e. omega arith, λ e. omega arith) })
-  kind_of (Some (judge dir settings)) bytes (inl x) = inl (bad answer _ x.is)
-  kind_of (Some (judge dir settings)) bytes (inr x) = inl (judged x.tables _ x.answers)
-  kind_of (Some (solve dir settings options)) bytes (inl x) = inl (bad answer _ x.is)
+module _ (answer : Answer) where
+  kind_of : (asked : Option Asked) (bytes : FileBytes) → AnswersOf asked bytes answer → IsSaid asked answer ⊎ IsSolved asked answer
+  kind_of None bytes x = inl (record { code = USAGE; text = _; is = x; ends = usage_ends })
+  kind_of (Some (judge dir settings)) bytes (inl x) = inl (bad (Some (judge dir settings)) answer _ x.is)
+  kind_of (Some (judge dir settings)) bytes (inr x) = inl (judged (Some (judge dir settings)) answer x.tables _ x.answers)
+  kind_of (Some (solve dir settings options)) bytes (inl x) = inl (bad (Some (solve dir settings options)) answer _ x.is)
   kind_of (Some (solve dir settings options)) bytes (inr x) = inr (solved_kind dir settings options (table_bytes bytes) answer x)
-  kind_of (Some (check dir settings)) bytes (inl x) = inl (bad answer _ x.is)
-  kind_of (Some (check dir settings)) bytes (inr x) = inl (text_said x.tables _ _ x.answers)
-  kind_of (Some (tails dir settings limits dates)) bytes (inl x) = inl (bad answer _ x.is)
-  kind_of (Some (tails dir settings limits dates)) bytes (inr x) = inl (tails_said x.tables limits dates _ x.answers)
+  kind_of (Some (check dir settings)) bytes (inl x) = inl (bad (Some (check dir settings)) answer _ x.is)
+  kind_of (Some (check dir settings)) bytes (inr x) = inl (text_said (Some (check dir settings)) answer x.tables _ _ x.answers)
+  kind_of (Some (tails dir settings limits dates)) bytes (inl x) = inl (bad (Some (tails dir settings limits dates)) answer _ x.is)
+  kind_of (Some (tails dir settings limits dates)) bytes (inr x) = inl (tails_said (Some (tails dir settings limits dates)) answer x.tables limits dates _ x.answers)
   kind_of (Some (make dir number legs)) bytes x = inr (made_kind dir number legs answer x)
 
-  kind : (held : Files) (asked : Option Asked) → Answers held asked answer → IsSaid answer ⊎ IsSolved asked answer
-  kind held asked (inl long) = inl (bad answer _ long.is)
+  kind : (held : Files) (asked : Option Asked) → Answers held asked answer → IsSaid asked answer ⊎ IsSolved asked answer
+  kind held asked (inl long) = inl (bad asked answer _ long.is)
   kind held asked (inr read) = kind_of asked _ read.answers
 
-  kind_ends : (asked : Option Asked) → IsSaid answer ⊎ IsSolved asked answer → IsEnd answer.status.code
-  kind_ends asked (inl x) = subst (λ (a : Answer). IsEnd a.status.code) (sym x.is) x.ends
+  some_kind : (longer : Type 0) (asked : Option Asked) → AnswersSome longer asked answer → IsSaid asked answer ⊎ IsSolved asked answer
+  some_kind longer asked (inl long) = inl (bad asked answer _ long.is)
+  some_kind longer asked (inr read) = kind_of asked read.0 read.1
+
+  kind_ends : (asked : Option Asked) → IsSaid asked answer ⊎ IsSolved asked answer → IsEnd answer.status.code
+  kind_ends asked (inl x) = subst (λ (a : Answer). IsEnd a.status.code) (sym x.is) x.ends.ends
   kind_ends asked (inr x) = subst (λ (a : Answer). IsEnd a.status.code) (sym x.is) (solution_ends (solved_status x.solution) (solution_status x.solution))
 
 -- the status of an answer ends a run
 pub answer_ends : (longer : Type 0) (asked : Option Asked) (answer : Answer) → AnswersSome longer asked answer → IsEnd answer.status.code
-answer_ends longer asked answer (inl long) = kind_ends answer asked (inl (bad answer _ long.is))
-answer_ends longer asked answer (inr read) = kind_ends answer asked (kind_of answer asked read.0 read.1)
+answer_ends longer asked answer some = kind_ends answer asked (some_kind answer longer asked some)
 
 -- an answer has no more files than what is asked for may write
-few_files : (asked : Option Asked) (answer : Answer) → IsSaid answer ⊎ IsSolved asked answer → length answer.files ≤ length (written_files asked)
+few_files : (asked : Option Asked) (answer : Answer) → IsSaid asked answer ⊎ IsSolved asked answer → length answer.files ≤ length (written_files asked)
 few_files asked answer (inl said) = let none : length answer.files ≡ 0 = ap (λ (a : Answer). length a.files) said.is in omega arith
 few_files asked answer (inr given) = rw (given.writes, given.is) given.few
 
 pub writes_few : (longer : Type 0) (asked : Option Asked) (answer : Answer) → AnswersSome longer asked answer → length answer.files ≤ length (written_files asked)
-writes_few longer asked answer (inl long) = few_files asked answer (inl (bad answer _ long.is))
-writes_few longer asked answer (inr read) = few_files asked answer (kind_of answer asked read.0 read.1)
+writes_few longer asked answer some = few_files asked answer (some_kind answer longer asked some)
 
 -- ---- where nothing is written, all stands as it was
 
@@ -283,3 +303,11 @@ refusal_leaves (Some held) asked answer code stands answers is refuses after = e
   | inl said ↦ nothing_by (folder_of asked) answer.files (Some held) stands (ap (λ (a : Answer). a.files) said.is) after
   | inr given ↦ absurd (not_both code (rw (is ∙ ap (λ (a : Answer). a.status.code) given.is) (solution_status given.solution)) refuses)
 ]
+
+-- the status of usage comes only where nothing is asked
+kind_usage : (asked : Option Asked) (answer : Answer) → IsSaid asked answer ⊎ IsSolved asked answer → answer.status.code ≡ USAGE → asked ≡ None
+kind_usage asked answer (inl said) usage = said.ends.usage (sym (ap (λ (a : Answer). a.status.code) said.is) ∙ usage)
+kind_usage asked answer (inr given) usage = absurd (not_both (solved_status given.solution) (solution_status given.solution) (inl (sym (ap (λ (a : Answer). a.status.code) given.is) ∙ usage)))
+
+pub only_usage : (longer : Type 0) (asked : Option Asked) (answer : Answer) (code : ℕ) → AnswersSome longer asked answer → code ≡ answer.status.code → code ≡ USAGE → asked ≡ None
+only_usage longer asked answer code some is usage = kind_usage asked answer (some_kind answer longer asked some) (sym is ∙ usage)

@@ -1,5 +1,5 @@
 -- Where reading stops: which file is too long, which is called so, and which is blamed.
-use Rattle.std.proofs.Common.{◌≡◌, ◌≢◌, ℕ, ◌<◌, ◌≤◌, Bool, true, false, List, [], length, Option, Some, None, IfSome, IsSome, IsSomeAnd, IfOk, Result, Ok, Err, inl, inr, subst, arith}
+use Rattle.std.proofs.Common.{◌≡◌, ◌≢◌, ℕ, ◌<◌, ◌≤◌, Bool, true, false, List, [], length, Option, Some, None, IfSome, IsSome, IsSomeAnd, IfOk, Result, Ok, Err, inl, inr, refl, subst, arith}
 use Rattle.std.specs.Prelude.{⊤}
 use Rattle.plan_desk.specs.Counts.{RoseBy}
 use Rattle.plan_desk.specs.Desk.{Files}
@@ -58,6 +58,20 @@ module _ (file : DeskFile) (S T : Type 0) where
   fails told dir is_read comes steady now blamed (stop.TooLong other) read keeps reached blame gone = tt
   fails told dir is_read comes steady now blamed stop.NoMemory read keeps reached blame gone = tt
 
+-- what is true holds of a desk that may not tell
+pub told_true : (told : Option Files) → IfSome told (λ held. ⊤)
+told_true None = tt
+told_true (Some held) = tt
+
+-- a name under which not something stands is missing, where the desk tells
+pub none_missing : (told : Option Files) (name : List ℕ) → ¬ (IsSomeAnd told (λ held. IsSome (held name))) → IfSome told (λ held. held name ≡ None)
+none_missing None name never = tt
+none_missing (Some held) name never = by_name (held name) never
+  where
+    by_name : (o : Option (List ℕ)) → ¬ (IsSome o) → o ≡ None
+    by_name None never = refl
+    by_name (Some bytes) never = absurd (never refl)
+
 -- ---- the first files of a command are among those that it reads
 
 pub weaker_long : (T : Type 0) (told : Option Files) (dir : List ℕ) (one other : Files → DeskFile → Type 0) (P : Files → T → Type 0) (why : Stop) → ((held : Files) (f : DeskFile) → one held f → other held f)
@@ -115,6 +129,31 @@ stopped_as T stop.NoMemory r P Q is fact = rw is fact
 stopped_as T (stop.TooLong f) (Ok answer) P Q is fact = fact
 stopped_as T (stop.TooLong f) (Err failure.Fault) P Q is fact = absurd is
 stopped_as T (stop.TooLong f) (Err failure.NoMemory) P Q is fact = fact
+
+-- there is no answer for want of memory
+module _ (r : Result Answer Failure) (why : Failure) (is : r ≡ Err why) (lacks : why ≡ failure.NoMemory) where
+  pub lacking_told : (told : Option Files) (asked : Option Asked) → IfSome told (λ held. IfOk r (Answers held asked))
+  lacking_told None asked = tt
+  lacking_told (Some held) asked = rw is tt
+
+  pub lacking_some : (longer : Type 0) (asked : Option Asked) → IfOk r (AnswersSome longer asked)
+  lacking_some longer asked = rw is tt
+
+  pub lacking : (P Q R : Type 0) → R → MatchFailure r (λ _. P) Q R
+  lacking P Q R fact = rw (is, lacks) fact
+
+-- more bytes taken after some are more taken from before
+pub some_sooner : (later sooner : Type 0) (asked : Option Asked) (r : Result Answer Failure) → (later → sooner) → IfOk r (AnswersSome later asked) → IfOk r (AnswersSome sooner asked)
+some_sooner later sooner asked (Err e) weaker some = tt
+some_sooner later sooner asked (Ok answer) weaker (inl long) = inl (record { file = long.file; longer = record { taken = weaker long.longer.taken; read = long.longer.read; not_proof = long.longer.not_proof }; is = long.is })
+some_sooner later sooner asked (Ok answer) weaker (inr some) = inr some
+
+-- a desk that was steady before is so after
+pub fails_sooner : (before after : Type 0) (told : Option Files) (is_read : DeskFile → Type 0) (is_missing : Files → DeskFile → Type 0) (blamed : Option DeskFile) (r : Result Answer Failure) → (before → after)
+    → MatchFailure r (λ _. ⊤) (ReadFails after told is_read is_missing blamed) ⊤ → MatchFailure r (λ _. ⊤) (ReadFails before told is_read is_missing blamed) ⊤
+fails_sooner before after told is_read is_missing blamed (Ok answer) stays fails = tt
+fails_sooner before after told is_read is_missing blamed (Err failure.Fault) stays fails = record { file = fails.file; blame = fails.blame; read = fails.read; missing = λ steady. fails.missing (stays steady) }
+fails_sooner before after told is_read is_missing blamed (Err failure.NoMemory) stays fails = tt
 
 -- a steady desk doesn't fail where each name that reading comes to stands there
 pub none_fails : (told : Option Files) (asked : Option Asked) (steady : Type 0) (blamed : Option DeskFile) → ReadFails steady told (IsRead asked) (IsMissing asked) blamed → steady → IsSomeAnd told (NamesStand asked) → ⊥

@@ -1,4 +1,5 @@
 pub mod Answer
+pub mod Awaited
 pub mod Contents
 pub mod Failed
 pub mod Gathered

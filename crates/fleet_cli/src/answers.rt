@@ -1,20 +1,24 @@
 //! The answer to the words of a call, by what the desk holds.
-ghost use Rattle.std.specs.Prelude.{◌≡◌, ◌+◌, Some, IfOk, IfSome, map, string_bytes, ⊤};
-ghost use Rattle.command_words.specs.Words.{HasDates, HasLimits, HasSettings, asked, asked_by};
+ghost use Rattle.std.specs.Prelude.{◌≡◌, ◌+◌, Option, Some, IfOk, IfSome, map, string_bytes, ⊤};
+ghost use Rattle.command_words.specs.Words.{Asked, HasDates, HasLimits, HasSettings, asked, asked_by};
 ghost use Rattle.fleet_cli.specs.Answer.{Answers, AnswersSome, says};
+ghost use Rattle.dual_bound.specs.OfTables.{IsOfTables};
+ghost use Rattle.fleet_cli.specs.Awaited.{AwaitsThere};
+ghost use Rattle.fleet_cli.specs.Contents.{FileBytes};
 ghost use Rattle.fleet_cli.specs.Failed.{MatchFailure, StopsAs};
 ghost use Rattle.fleet_cli.specs.Gathered.{ReadFails};
+ghost use Rattle.fleet_cli.specs.Opened.{Awaits};
 ghost use Rattle.fleet_cli.specs.Reading.{IsMissing, IsRead, folder_of, most_reads};
 ghost use Rattle.fleet_cli.specs.Texts.{usage_text};
 ghost use Rattle.fleet_cli.specs.declared.status.TheConstants.{USAGE};
-ghost use Rattle.plan_desk.specs.Counts.{CallsAtMost, RoseBy, counted};
+ghost use Rattle.plan_desk.specs.Counts.{CallsAtMost, RoseBy, counted, once_more};
 ghost use Rattle.plan_desk.specs.declared.file.TheConstants.{TABLE_LIMIT};
 
 use crate::answer::{Answer, Failure};
 use crate::checking::check_plan;
 use crate::commands::{first_files, folder, open};
 use crate::gathering::{Stop, read_file, read_files};
-use crate::opened::Opened;
+use crate::opened::{Checking, Opened};
 use crate::refusing::too_long;
 use crate::status::USAGE;
 use crate::texts::USAGE_LINE;
@@ -24,7 +28,7 @@ use plan_desk::{Desk, DeskFile};
 use std::alloc::Global;
 
 /// An answer, and the folder that its files are written into.
-#[derive(Debug, Drop)]
+#[derive(Drop)]
 pub struct Reply<'a> {
     pub dir: &'a str,
     pub answer: Answer,
@@ -79,16 +83,36 @@ fn answer_to<D: Desk>(alloc: Global, command: &Command<'_>, desk: &mut D) -> Res
     match read_files(alloc, desk, dir, first_files(command)) {
         Ok(contents) => match open(alloc, command, contents)? {
             Opened::Answered(answer) => Ok(answer),
-            Opened::WantsPlan(checking) => match read_file(alloc, desk, dir, DeskFile::Plan) {
-                Ok(plan) => Ok(check_plan(
-                    alloc,
-                    &checking.tables,
-                    &checking.proof.tree,
-                    plan.as_slice(),
-                )?),
-                Err(stop) => stopped(alloc, stop),
-            },
+            Opened::WantsPlan(checking) => answer_with_plan(alloc, &checking, desk, dir),
         },
+        Err(stop) => stopped(alloc, stop),
+    }
+}
+
+/// The answer to a command whose first files ask for the plan, which is read.
+fn answer_with_plan<D: Desk>(
+    alloc: Global,
+    checking: &Checking,
+    desk: &mut D,
+    dir: &str,
+) -> Result<Answer, Failure>
+    requires { IsOfTables checking.now.tables checking.now.proof.tree }
+    ensures told { (call : Option Asked) → (bytes : FileBytes) → AwaitsThere (D.holds desk.old) dir.now call bytes checking.now → IfSome (D.holds desk.old) (λ held. IfOk result (Answers held call)) }
+    ensures some { (call : Option Asked) → (bytes : FileBytes) → Awaits call bytes checking.now → IfOk result (AnswersSome (RoseBy (TABLE_LIMIT + 1) (D.taken desk.old) (D.taken desk.new)) call) }
+    ensures holds { D.holds desk.new ≡ D.holds desk.old }
+    ensures calls { D.calls desk.new ≡ once_more (D.calls desk.old) }
+    ensures faults { MatchFailure result (λ _. D.faults desk.new ≡ D.faults desk.old) (D.faults desk.new ≡ counted (D.faults desk.old) 1) (D.faults desk.new ≡ D.faults desk.old) }
+    ensures blamed { (call : Option Asked) → (bytes : FileBytes) → AwaitsThere (D.holds desk.old) dir.now call bytes checking.now →
+        MatchFailure result (λ _. ⊤) (ReadFails (D.is_steady desk.old) (D.holds desk.old) (IsRead call) (IsMissing call) (D.blamed desk.new)) ⊤ }
+    ensures stays_steady { D.is_steady desk.old → D.is_steady desk.new }
+{
+    match read_file(alloc, desk, dir, DeskFile::Plan) {
+        Ok(plan) => Ok(check_plan(
+            alloc,
+            &checking.tables,
+            &checking.proof.tree,
+            plan.as_slice(),
+        )?),
         Err(stop) => stopped(alloc, stop),
     }
 }

@@ -37,7 +37,7 @@ pub fn open_check(
 {
     match load_tables(alloc, settings, contents)? {
         Loaded::Refused(answer) => Ok(Opened::Answered(answer)),
-        Loaded::Read(tables) => Ok(open_proof(alloc, tables, contents.proof.as_slice())?),
+        Loaded::Read(tables) => open_proof(alloc, tables, contents.proof.as_slice()),
     }
 }
 

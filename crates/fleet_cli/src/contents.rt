@@ -7,7 +7,7 @@ use plan_desk::DeskFile;
 use std::alloc::Global;
 
 /// What the files of a folder hold, as far as they were read: nothing of one that wasn't.
-#[derive(Debug, Drop)]
+#[derive(Drop)]
 pub struct Contents {
     pub stations: Entries<u8>,
     pub fleets: Entries<u8>,

@@ -14,7 +14,7 @@ use plan_desk::{Desk, DeskError, DeskFile, PROOF_LIMIT, TABLE_LIMIT};
 use std::alloc::Global;
 
 /// Why reading ends before its end.
-#[derive(Clone, Copy, Debug, PartialEq, Eq)]
+#[derive(Clone, Copy)]
 pub enum Stop {
     /// The desk failed; it tells which file is to blame.
     Fault,

@@ -30,7 +30,7 @@ pub fn judge_contents(
 {
     match load_tables(alloc, settings, contents)? {
         Loaded::Refused(answer) => Ok(answer),
-        Loaded::Read(tables) => Ok(judge_plan(alloc, &tables, contents.plan.as_slice())?),
+        Loaded::Read(tables) => judge_plan(alloc, &tables, contents.plan.as_slice()),
     }
 }
 

@@ -13,7 +13,7 @@ use sched_read::load;
 use std::alloc::Global;
 
 /// What the bytes of tables come to.
-#[derive(Debug, Drop)]
+#[derive(Drop)]
 pub enum Loaded {
     /// They are refused.
     Refused(Answer),

@@ -1,7 +1,7 @@
 //! The command `make`: tables of a number, and a plan for them with a bound, its proof and its rotations.
-ghost use Rattle.std.specs.Prelude.{◌≡◌, IfOk};
-ghost use Rattle.command_words.specs.declared.command.TheConstants.{DEFAULT_SETTINGS};
-ghost use Rattle.fleet_cli.specs.Answer.{Makes};
+ghost use Rattle.std.specs.Prelude.{◌≡◌, ◌++◌, [], ◌∷◌, IfOk};
+ghost use Rattle.command_words.specs.declared.command.TheConstants.{DEFAULT_OPTIONS, DEFAULT_SETTINGS};
+ghost use Rattle.fleet_cli.specs.Answer.{Makes, SolvesTables};
 ghost use Rattle.fleet_cli.specs.Making.{after_files, made_files};
 ghost use Rattle.sched_read.specs.Reading.{Reads};
 ghost use Rattle.table_maker.specs.Laws.{bytes_of};
@@ -23,9 +23,18 @@ pub fn make_and_solve(alloc: Global, number: u32, legs: u32) -> Result<Answer, N
     ensures { IfOk result (Makes number legs) }
 {
     let made = make_tables(alloc, number, legs)?;
-    let tables = load_made(alloc, number, legs, &made)?;
-    let solving = solve_tables(alloc, &tables, DEFAULT_OPTIONS)?;
+    let solving = solve_made(alloc, number, legs, &made)?;
     after_tables(alloc, made, solving)
+}
+
+/// Solves the tables that made texts read as, by the defaults.
+fn solve_made(alloc: Global, number: u32, legs: u32, made: &MadeTables) -> Result<Answer, NoMemory>
+    requires can { CanBeMade number legs }
+    requires made { made.now ≡ made_tables number legs }
+    ensures { IfOk result (SolvesTables (bytes_of made.now) DEFAULT_SETTINGS DEFAULT_OPTIONS) }
+{
+    let tables = load_made(alloc, number, legs, made)?;
+    solve_tables(alloc, &tables, DEFAULT_OPTIONS)
 }
 
 /// The tables that made texts read as.
@@ -69,19 +78,21 @@ fn after_tables(alloc: Global, made: MadeTables, solving: Answer) -> Result<Answ
 fn made_files(alloc: Global, made: MadeTables) -> Result<Vec<FileText>, NoMemory>
     ensures { IfOk result (λ files. files.items ≡ made_files made) }
 {
-    let mut files = Vec::new(alloc);
-    files.push(file_text(DeskFile::Stations, made.stations))?;
-    files.push(file_text(DeskFile::Fleets, made.fleets))?;
-    files.push(file_text(DeskFile::Legs, made.legs))?;
-    files.push(file_text(DeskFile::Costs, made.costs))?;
-    files.push(file_text(DeskFile::Throughs, made.throughs))?;
-    Ok(files)
+    let files = with_file(Vec::new(alloc), DeskFile::Stations, made.stations)?;
+    let files = with_file(files, DeskFile::Fleets, made.fleets)?;
+    let files = with_file(files, DeskFile::Legs, made.legs)?;
+    let files = with_file(files, DeskFile::Costs, made.costs)?;
+    with_file(files, DeskFile::Throughs, made.throughs)
 }
 
-/// A file of these bytes.
-fn file_text(file: DeskFile, bytes: Entries<u8>) -> FileText
-    ensures file { result.file ≡ file }
-    ensures bytes { result.bytes ≡ bytes }
+/// The files, and one of these bytes behind them.
+fn with_file(
+    mut files: Vec<FileText>,
+    file: DeskFile,
+    bytes: Entries<u8>,
+) -> Result<Vec<FileText>, NoMemory>
+    ensures { IfOk result (λ all. all.items ≡ files.items ++ record { file = file; bytes = bytes } ∷ []) }
 {
-    FileText { file, bytes }
+    files.push(FileText { file, bytes })?;
+    Ok(files)
 }

@@ -3,7 +3,7 @@ use bound_cert::Proof;
 use fleet_model::Tables;
 
 /// What the first files of a command come to.
-#[derive(Debug, Drop)]
+#[derive(Drop)]
 pub enum Opened {
     /// The answer.
     Answered(Answer),
@@ -12,7 +12,7 @@ pub enum Opened {
 }
 
 /// A proof, and the tables that it is of.
-#[derive(Debug, Drop)]
+#[derive(Drop)]
 pub struct Checking {
     pub tables: Tables,
     pub proof: Proof,

@@ -35,7 +35,7 @@ pub fn solve_contents(
 {
     match load_tables(alloc, settings, contents)? {
         Loaded::Refused(answer) => Ok(answer),
-        Loaded::Read(tables) => Ok(solve_tables(alloc, &tables, options)?),
+        Loaded::Read(tables) => solve_tables(alloc, &tables, options),
     }
 }
 
@@ -50,7 +50,7 @@ pub fn solve_tables(
 {
     let solved = solve(alloc, tables, options.search.nodes, options.search.pivots)?;
     let made = rotations_of(alloc, tables, &solved, options.rotations)?;
-    Ok(answer_of(alloc, tables, options, &solved, made.as_slice())?)
+    answer_of(alloc, tables, options, &solved, made.as_slice())
 }
 
 /// The rotations of a solution: those of its plan, and none where it has none.

@@ -37,13 +37,9 @@ pub fn tails_of_contents(
 {
     match load_tables(alloc, settings, contents)? {
         Loaded::Refused(answer) => Ok(answer),
-        Loaded::Read(tables) => Ok(tails_of_plan(
-            alloc,
-            &tables,
-            limits,
-            dates,
-            contents.plan.as_slice(),
-        )?),
+        Loaded::Read(tables) => {
+            tails_of_plan(alloc, &tables, limits, dates, contents.plan.as_slice())
+        }
     }
 }
 

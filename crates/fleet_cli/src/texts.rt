@@ -50,34 +50,29 @@ pub fn bad_input(alloc: Global, file: DeskFile, row: u64, kind: u8) -> Result<Ve
 pub fn plan_refused(alloc: Global, row: u64, kind: u8) -> Result<Vec<u8>, NoMemory>
     ensures { IfOk result (λ text. text.items ≡ plan_refused_text row kind) }
 {
-    let row = row.to_string(alloc)?;
-    let kind = kind.to_string(alloc)?;
-    line(
-        alloc,
-        &[
-            b"plan refused: record ".as_slice(),
-            row.as_bytes(),
-            b" kind ".as_slice(),
-            kind.as_bytes(),
-        ],
-    )
+    two_numbers(alloc, b"plan refused: record ", row, b" kind ", kind)
 }
 
 /// `proof refused: line N kind K`.
 pub fn proof_refused(alloc: Global, number: u64, kind: u8) -> Result<Vec<u8>, NoMemory>
     ensures { IfOk result (λ text. text.items ≡ proof_refused_text number kind) }
 {
-    let number = number.to_string(alloc)?;
-    let kind = kind.to_string(alloc)?;
-    line(
-        alloc,
-        &[
-            b"proof refused: line ".as_slice(),
-            number.as_bytes(),
-            b" kind ".as_slice(),
-            kind.as_bytes(),
-        ],
-    )
+    two_numbers(alloc, b"proof refused: line ", number, b" kind ", kind)
+}
+
+/// The line of two numbers, each behind its words.
+fn two_numbers(
+    alloc: Global,
+    front: &[u8],
+    one: u64,
+    middle: &[u8],
+    other: u8,
+) -> Result<Vec<u8>, NoMemory>
+    ensures { IfOk result (λ text. text.items ≡ line_of (front.now ∷ decimal one ∷ middle.now ∷ decimal other ∷ [])) }
+{
+    let one = one.to_string(alloc)?;
+    let other = other.to_string(alloc)?;
+    line(alloc, &[front, one.as_bytes(), middle, other.as_bytes()])
 }
 
 /// `fault: FILE`. It takes no memory.
@@ -233,15 +228,5 @@ fn bound_line(alloc: Global, cost: Option<i128>, bound: i128) -> Result<Vec<u8>,
 fn broken(alloc: Global, node: u64, rule: u8) -> Result<Vec<u8>, NoMemory>
     ensures { IfOk result (λ text. text.items ≡ line_of (codes "broken: node " ∷ decimal node ∷ codes " rule " ∷ decimal rule ∷ [])) }
 {
-    let node = node.to_string(alloc)?;
-    let rule = rule.to_string(alloc)?;
-    line(
-        alloc,
-        &[
-            b"broken: node ".as_slice(),
-            node.as_bytes(),
-            b" rule ".as_slice(),
-            rule.as_bytes(),
-        ],
-    )
+    two_numbers(alloc, b"broken: node ", node, b" rule ", rule)
 }

@@ -1,92 +1,128 @@
-use Rattle.std.proofs.Common.{Some, inl, inr}
+use Rattle.std.proofs.Common.{◌∙◌, Some, inl, inr}
 use Rattle.std.specs.Prelude.{⊤}
+use Rattle.std.proofs.lemmas.Result.{err_from_is_err_and}
 use Rattle.command_words.specs.Words.{asked_by}
-use Rattle.plan_desk.specs.declared.file.DeskFile.TheVariants as file
 use Rattle.fleet_cli.specs.Contents.{content_of}
 use Rattle.fleet_cli.specs.Gathered.{ComesTo, IsAmong}
 use Rattle.fleet_cli.specs.Reading.{IsReached, IsRead, first_files, folder_of}
 use Rattle.fleet_cli.specs.declared.contents.Contents.{Contents}
-use Rattle.fleet_cli.proofs.AnswerFacts.{told_awaited, told_reached, told_settled}
+use Rattle.fleet_cli.proofs.AnswerFacts.{told_settled}
 use Rattle.fleet_cli.proofs.CallFacts.{reads_first, reads_plan}
-use Rattle.fleet_cli.proofs.FrontFacts.{held_if}
-use Rattle.fleet_cli.proofs.StopFacts.{called, fails, rose_before, some_stopped, stopped_as, told_stopped, too_long, weaker_called, weaker_fails, weaker_long}
+use Rattle.fleet_cli.proofs.StopFacts.{fails_sooner, lacking, lacking_some, lacking_told, rose_before, some_sooner, some_stopped, stopped_as, told_stopped, weaker_called, weaker_fails, weaker_long}
 use Rattle.fleet_cli.proofs.answers.answer_to.Goals as goal
+
+-- ---- the first files are enough
 
 pub returns-in-Answered-clause-told : goal.returns-in-Answered-clause-told
 returns-in-Answered-clause-told g c =
     told_settled _ (Some (asked_by c.args.command.now)) (content_of c.in-Ok.contents) (rw (c.folder-dir.ensures, c.first_files.ensures) at c.in-Ok.ensures.told) _ (rw c.in-Answered.is at c.in_ok-answer-in-Ok.ensures)
 
-pub returns-in-Ok-read_file-clause-told : goal.returns-in-Ok-read_file-clause-told
-returns-in-Ok-read_file-clause-told g c =
-    told_awaited _ (Some (asked_by c.args.command.now)) (content_of c.in-Ok.contents) (rw (c.folder-dir.ensures, c.first_files.ensures) at c.in-Ok.ensures.told) c.in-WantsPlan.checking (rw c.in-WantsPlan.is at c.in_ok-answer-in-Ok.ensures)
-    c.in-Ok-read_file.plan _ (held_if _ _ file.Plan c.in-Ok-read_file.plan (rw (c.in-Ok.ensures.holds, c.folder-dir.ensures) at c.in-Ok-read_file.ensures.told) c.in-Ok-read_file.ensures.within)
-    (rw c.as_slice.ensures at c.in_ok-check_plan-in-Ok-read_file.ensures)
+pub returns-in-Answered-clause-some : goal.returns-in-Answered-clause-some
+returns-in-Answered-clause-some g c = let settles = rw c.in-Answered.is at c.in_ok-answer-in-Ok.ensures in inr (content_of c.in-Ok.contents, settles.answers)
 
-pub returns-in-Ok-clause-told : goal.returns-in-Ok-clause-told
-returns-in-Ok-clause-told g c =
-    let asked = Some (asked_by c.args.command.now) in
-    let reached = told_reached _ asked (content_of c.in-Ok.contents) (rw (c.folder-dir.ensures, c.first_files.ensures) at c.in-Ok.ensures.told) c.in-WantsPlan.checking (rw c.in-WantsPlan.is at c.in_ok-answer-in-Ok.ensures) in
-    told_stopped Contents asked c.in-Err-read_file.stop c.stopped.result c.stopped.ensures _
-    (too_long file.Plan _ Contents _ (folder_of asked) (IsReached asked) _ _ (λ _ _. ⊤) c.in-Err-read_file.stop reached (rw (c.in-Ok.ensures.holds, c.folder-dir.ensures) at c.in-Err-read_file.ensures.told) c.in-Err-read_file.ensures.within)
-
-pub returns-in-Ok-clause-some : goal.returns-in-Ok-clause-some
-returns-in-Ok-clause-some g c =
-    let asked = Some (asked_by c.args.command.now) in
-    let awaits = rw c.in-WantsPlan.is at c.in_ok-answer-in-Ok.ensures in
-    some_stopped Contents asked c.in-Err-read_file.stop c.stopped.result c.stopped.ensures _
-    (called file.Plan _ Contents (IsRead asked) _ _ _ c.in-Err-read_file.stop (inr (content_of c.in-Ok.contents, awaits.wanted)) (rose_before _ _ _ _ c.in-Ok.ensures.taken)
-    c.in-Err-read_file.ensures.too_long_taken c.in-Err-read_file.ensures.not_proof c.in-Err-read_file.ensures.within)
-
-pub returns-in-Ok-clause-blamed : goal.returns-in-Ok-clause-blamed
-returns-in-Ok-clause-blamed g c =
-    let asked = Some (asked_by c.args.command.now) in
-    let awaits = rw c.in-WantsPlan.is at c.in_ok-answer-in-Ok.ensures in
-    let reached = told_reached _ asked (content_of c.in-Ok.contents) (rw (c.folder-dir.ensures, c.first_files.ensures) at c.in-Ok.ensures.told) c.in-WantsPlan.checking awaits in
-    stopped_as Contents c.in-Err-read_file.stop c.stopped.result ⊤ _ c.stopped.ensures
-    (fails file.Plan _ Contents _ (folder_of asked) (IsRead asked) (IsReached asked) _ _ _ c.in-Err-read_file.stop (inr (content_of c.in-Ok.contents, awaits.wanted)) c.in-Ok.ensures.stays_steady reached
-    c.in-Err-read_file.ensures.blamed (rw (c.in-Ok.ensures.holds, c.folder-dir.ensures) at c.in-Err-read_file.ensures.missing))
-
-pub returns-clause-told : goal.returns-clause-told
-returns-clause-told g c =
-    let asked = Some (asked_by c.args.command.now) in
-    told_stopped Contents asked c.in-Err.stop c.stopped-in-Err.result c.stopped-in-Err.ensures _
-    (weaker_long Contents _ (folder_of asked) (λ held. ComesTo held (folder_of asked) (first_files asked)) (IsReached asked) _ c.in-Err.stop (λ held f comes. inl comes) (rw (c.folder-dir.ensures, c.first_files.ensures) at c.in-Err.ensures.told))
-
-pub returns-clause-some : goal.returns-clause-some
-returns-clause-some g c =
-    let asked = Some (asked_by c.args.command.now) in
-    some_stopped Contents asked c.in-Err.stop c.stopped-in-Err.result c.stopped-in-Err.ensures _
-    (weaker_called Contents _ (IsAmong (first_files asked)) (IsRead asked) c.in-Err.stop (λ f among. inl among) (rw c.first_files.ensures at c.in-Err.ensures.too_long))
-
-pub returns-clause-blamed : goal.returns-clause-blamed
-returns-clause-blamed g c =
-    let asked = Some (asked_by c.args.command.now) in
-    stopped_as Contents c.in-Err.stop c.stopped-in-Err.result ⊤ _ c.stopped-in-Err.ensures
-    (weaker_fails Contents _ _ (folder_of asked) (IsAmong (first_files asked)) (IsRead asked) (λ held. ComesTo held (folder_of asked) (first_files asked)) (IsReached asked) _ c.in-Err.stop (λ f among. inl among) (λ held f comes. inl comes)
-    (rw (c.folder-dir.ensures, c.first_files.ensures) at c.in-Err.ensures.blamed))
-
--- ---- calls
+pub returns-in-Answered-clause-holds : goal.returns-in-Answered-clause-holds
+returns-in-Answered-clause-holds g c = c.in-Ok.ensures.holds
 
 pub returns-in-Answered-clause-calls : goal.returns-in-Answered-clause-calls
 returns-in-Answered-clause-calls g c = reads_first (Some (asked_by c.args.command.now)) _ _ (rw c.first_files.ensures at c.in-Ok.ensures.calls)
 
-pub returns-in-Ok-read_file-clause-calls : goal.returns-in-Ok-read_file-clause-calls
-returns-in-Ok-read_file-clause-calls g c =
-    let awaits = rw c.in-WantsPlan.is at c.in_ok-answer-in-Ok.ensures in
-    reads_plan (Some (asked_by c.args.command.now)) (content_of c.in-Ok.contents) _ _ _ awaits.wanted (rw c.first_files.ensures at c.in-Ok.ensures.calls) c.in-Ok-read_file.ensures.calls
+pub returns-in-Answered-clause-faults : goal.returns-in-Answered-clause-faults
+returns-in-Answered-clause-faults g c = c.in-Ok.ensures.faults
 
-pub returns-in-Ok-clause-calls : goal.returns-in-Ok-clause-calls
-returns-in-Ok-clause-calls g c =
-    let awaits = rw c.in-WantsPlan.is at c.in_ok-answer-in-Ok.ensures in
-    reads_plan (Some (asked_by c.args.command.now)) (content_of c.in-Ok.contents) _ _ _ awaits.wanted (rw c.first_files.ensures at c.in-Ok.ensures.calls) c.in-Err-read_file.ensures.calls
+pub returns-in-Answered-clause-blamed : goal.returns-in-Answered-clause-blamed
+returns-in-Answered-clause-blamed g c = tt
 
-pub returns-clause-calls : goal.returns-clause-calls
-returns-clause-calls g c = reads_first (Some (asked_by c.args.command.now)) _ _ (rw c.first_files.ensures at c.in-Err.ensures.calls)
+pub returns-in-Answered-clause-stays_steady : goal.returns-in-Answered-clause-stays_steady
+returns-in-Answered-clause-stays_steady g c = c.in-Ok.ensures.stays_steady
+
+-- ---- they ask for the plan
+
+pub answer_with_plan-requires : goal.answer_with_plan-requires
+answer_with_plan-requires g c = let awaits = rw c.in-WantsPlan.is at c.in_ok-answer-in-Ok.ensures in awaits.of_tables
+
+pub returns-in-WantsPlan-clause-told : goal.returns-in-WantsPlan-clause-told
+returns-in-WantsPlan-clause-told g c =
+    let told = rw c.in-Ok.ensures.holds at c.answer_with_plan.ensures.told in
+    told (Some (asked_by c.args.command.now)) (content_of c.in-Ok.contents)
+    (record { awaits = rw c.in-WantsPlan.is at c.in_ok-answer-in-Ok.ensures; folder = c.folder-dir.ensures; first = rw (c.folder-dir.ensures, c.first_files.ensures) at c.in-Ok.ensures.told })
+
+pub returns-in-WantsPlan-clause-some : goal.returns-in-WantsPlan-clause-some
+returns-in-WantsPlan-clause-some g c =
+    some_sooner _ _ (Some (asked_by c.args.command.now)) c.answer_with_plan.result (rose_before _ _ _ _ c.in-Ok.ensures.taken)
+    (c.answer_with_plan.ensures.some (Some (asked_by c.args.command.now)) (content_of c.in-Ok.contents) (rw c.in-WantsPlan.is at c.in_ok-answer-in-Ok.ensures))
+
+pub returns-in-WantsPlan-clause-holds : goal.returns-in-WantsPlan-clause-holds
+returns-in-WantsPlan-clause-holds g c = c.answer_with_plan.ensures.holds ∙ c.in-Ok.ensures.holds
+
+pub returns-in-WantsPlan-clause-calls : goal.returns-in-WantsPlan-clause-calls
+returns-in-WantsPlan-clause-calls g c =
+    let awaits = rw c.in-WantsPlan.is at c.in_ok-answer-in-Ok.ensures in
+    reads_plan (Some (asked_by c.args.command.now)) (content_of c.in-Ok.contents) _ _ _ awaits.wanted (rw c.first_files.ensures at c.in-Ok.ensures.calls) c.answer_with_plan.ensures.calls
+
+pub returns-in-WantsPlan-clause-faults : goal.returns-in-WantsPlan-clause-faults
+returns-in-WantsPlan-clause-faults g c = rw c.in-Ok.ensures.faults at c.answer_with_plan.ensures.faults
+
+pub returns-in-WantsPlan-clause-blamed : goal.returns-in-WantsPlan-clause-blamed
+returns-in-WantsPlan-clause-blamed g c =
+    let blamed = rw c.in-Ok.ensures.holds at c.answer_with_plan.ensures.blamed in
+    fails_sooner _ _ _ _ _ _ c.answer_with_plan.result c.in-Ok.ensures.stays_steady (blamed (Some (asked_by c.args.command.now)) (content_of c.in-Ok.contents)
+    (record { awaits = rw c.in-WantsPlan.is at c.in_ok-answer-in-Ok.ensures; folder = c.folder-dir.ensures; first = rw (c.folder-dir.ensures, c.first_files.ensures) at c.in-Ok.ensures.told }))
+
+pub returns-in-WantsPlan-clause-stays_steady : goal.returns-in-WantsPlan-clause-stays_steady
+returns-in-WantsPlan-clause-stays_steady g c = λ steady. c.answer_with_plan.ensures.stays_steady (c.in-Ok.ensures.stays_steady steady)
+
+-- ---- reading them stopped
+
+pub returns-in-Err-clause-told : goal.returns-in-Err-clause-told
+returns-in-Err-clause-told g c =
+    let asked = Some (asked_by c.args.command.now) in
+    told_stopped Contents asked c.in-Err.stop c.stopped.result c.stopped.ensures _
+    (weaker_long Contents _ (folder_of asked) (λ held. ComesTo held (folder_of asked) (first_files asked)) (IsReached asked) _ c.in-Err.stop (λ held f comes. inl comes) (rw (c.folder-dir.ensures, c.first_files.ensures) at c.in-Err.ensures.told))
+
+pub returns-in-Err-clause-some : goal.returns-in-Err-clause-some
+returns-in-Err-clause-some g c =
+    let asked = Some (asked_by c.args.command.now) in
+    some_stopped Contents asked c.in-Err.stop c.stopped.result c.stopped.ensures _
+    (weaker_called Contents _ (IsAmong (first_files asked)) (IsRead asked) c.in-Err.stop (λ f among. inl among) (rw c.first_files.ensures at c.in-Err.ensures.too_long))
+
+pub returns-in-Err-clause-blamed : goal.returns-in-Err-clause-blamed
+returns-in-Err-clause-blamed g c =
+    let asked = Some (asked_by c.args.command.now) in
+    stopped_as Contents c.in-Err.stop c.stopped.result ⊤ _ c.stopped.ensures
+    (weaker_fails Contents _ _ (folder_of asked) (IsAmong (first_files asked)) (IsRead asked) (λ held. ComesTo held (folder_of asked) (first_files asked)) (IsReached asked) _ c.in-Err.stop (λ f among. inl among) (λ held f comes. inl comes)
+    (rw (c.folder-dir.ensures, c.first_files.ensures) at c.in-Err.ensures.blamed))
+
+pub returns-in-Err-clause-calls : goal.returns-in-Err-clause-calls
+returns-in-Err-clause-calls g c = reads_first (Some (asked_by c.args.command.now)) _ _ (rw c.first_files.ensures at c.in-Err.ensures.calls)
+
+pub returns-in-Err-clause-holds : goal.returns-in-Err-clause-holds
+returns-in-Err-clause-holds g c = c.in-Err.ensures.holds
+
+pub returns-in-Err-clause-faults : goal.returns-in-Err-clause-faults
+returns-in-Err-clause-faults g c = stopped_as _ c.in-Err.stop c.stopped.result _ _ c.stopped.ensures c.in-Err.ensures.faults
+
+pub returns-in-Err-clause-stays_steady : goal.returns-in-Err-clause-stays_steady
+returns-in-Err-clause-stays_steady g c = c.in-Err.ensures.stays_steady
+
+-- ---- want of memory
 
 pub returns-in_err-answer-in-Ok-clause-calls : goal.returns-in_err-answer-in-Ok-clause-calls
 returns-in_err-answer-in-Ok-clause-calls g c = reads_first (Some (asked_by c.args.command.now)) _ _ (rw c.first_files.ensures at c.in-Ok.ensures.calls)
 
-pub returns-in_err-check_plan-in-Ok-read_file-clause-calls : goal.returns-in_err-check_plan-in-Ok-read_file-clause-calls
-returns-in_err-check_plan-in-Ok-read_file-clause-calls g c =
-    let awaits = rw c.in-WantsPlan.is at c.in_ok-answer-in-Ok.ensures in
-    reads_plan (Some (asked_by c.args.command.now)) (content_of c.in-Ok.contents) _ _ _ awaits.wanted (rw c.first_files.ensures at c.in-Ok.ensures.calls) c.in-Ok-read_file.ensures.calls
+pub returns-in_err-answer-in-Ok-clause-told : goal.returns-in_err-answer-in-Ok-clause-told
+returns-in_err-answer-in-Ok-clause-told g c = let p = err_from_is_err_and c.from_residual.result c.from_residual.ensures.1 in lacking_told c.from_residual.result p.0 p.1 p.2 _ (Some (asked_by c.args.command.now))
+
+pub returns-in_err-answer-in-Ok-clause-some : goal.returns-in_err-answer-in-Ok-clause-some
+returns-in_err-answer-in-Ok-clause-some g c = let p = err_from_is_err_and c.from_residual.result c.from_residual.ensures.1 in lacking_some c.from_residual.result p.0 p.1 p.2 _ (Some (asked_by c.args.command.now))
+
+pub returns-in_err-answer-in-Ok-clause-holds : goal.returns-in_err-answer-in-Ok-clause-holds
+returns-in_err-answer-in-Ok-clause-holds g c = c.in-Ok.ensures.holds
+
+pub returns-in_err-answer-in-Ok-clause-faults : goal.returns-in_err-answer-in-Ok-clause-faults
+returns-in_err-answer-in-Ok-clause-faults g c = let p = err_from_is_err_and c.from_residual.result c.from_residual.ensures.1 in lacking c.from_residual.result p.0 p.1 p.2 _ _ _ c.in-Ok.ensures.faults
+
+pub returns-in_err-answer-in-Ok-clause-blamed : goal.returns-in_err-answer-in-Ok-clause-blamed
+returns-in_err-answer-in-Ok-clause-blamed g c = let p = err_from_is_err_and c.from_residual.result c.from_residual.ensures.1 in lacking c.from_residual.result p.0 p.1 p.2 ⊤ _ ⊤ tt
+
+pub returns-in_err-answer-in-Ok-clause-stays_steady : goal.returns-in_err-answer-in-Ok-clause-stays_steady
+returns-in_err-answer-in-Ok-clause-stays_steady g c = c.in-Ok.ensures.stays_steady

@@ -1,0 +1,15 @@
+-- A command whose first files ask for the plan.
+use Rattle.std.specs.Prelude.{◌≡◌, ℕ, List, Option, IfSome}
+use Rattle.command_words.specs.Words.{Asked}
+use Rattle.plan_desk.specs.Desk.{Files}
+use Rattle.fleet_cli.specs.Contents.{FileBytes}
+use Rattle.fleet_cli.specs.Gathered.{AllHeld}
+use Rattle.fleet_cli.specs.Opened.{Awaits}
+use Rattle.fleet_cli.specs.Reading.{first_files, folder_of}
+use Rattle.fleet_cli.specs.declared.opened.Checking.{Checking}
+
+-- the first files of what is asked hold these bytes in this folder, and ask for the plan
+pub record AwaitsThere (told : Option Files) (dir : List ℕ) (asked : Option Asked) (bytes : FileBytes) (checking : Checking) : Type 0 where
+  pub awaits : Awaits asked bytes checking
+  pub folder : dir ≡ folder_of asked
+  pub first : IfSome told (λ held. AllHeld held (folder_of asked) (first_files asked) bytes)
