@@ -1,11 +1,12 @@
 -- What holds of the words of a call, where they are given.
-use Rattle.std.proofs.Common.{◌≡◌, ℕ, List, Option, Some, None, IfSome, inl, inr, refl, sym, ◌∙◌, subst, arith}
+use Rattle.std.proofs.Common.{◌≡◌, ℕ, List, Option, Some, None, IfSome, inl, inr, refl, sym, ◌∙◌, subst}
 use Rattle.command_words.specs.Words.{Asked, asked}
 use Rattle.fleet_cli.proofs.CallFacts.{no_calls}
 use Rattle.fleet_cli.proofs.Others.{nothing_written, refusal_ends}
+use Rattle.fleet_cli.proofs.RunFacts.{fault_not_memory, usage_known}
 use Rattle.fleet_cli.specs.Ran.{Ran, Told}
 use Rattle.fleet_cli.specs.Reading.{folder_of, written_files}
-use Rattle.fleet_cli.specs.declared.status.TheConstants.{FAULT, NO_MEMORY, USAGE}
+use Rattle.fleet_cli.specs.declared.status.TheConstants.{NO_MEMORY}
 
 -- what holds of the words in hand, holds of those that were given
 pub of_given : (P : List (List ℕ) → Type 0) (given : Option (List (List ℕ))) (words : List (List ℕ)) → IfSome given (λ all. words ≡ all) → P words → IfSome given P
@@ -33,14 +34,14 @@ did_nothing steady_desk steady_sink asked code told is = record {
   complete = λ quiet memory. absurd (memory is);
   some_answer = λ quiet memory. absurd (memory is);
   usage = λ none quiet memory. absurd (memory is);
-  only_usage = λ usage. absurd (two (sym usage ∙ is));
-  usage_line = λ usage. absurd (two (sym usage ∙ is));
-  one_fault = λ fault. absurd (seven (sym fault ∙ is));
+  only_usage = λ usage. absurd (usage_known code usage is);
+  usage_line = λ usage. absurd (usage_known code usage is);
+  one_fault = λ fault. absurd (fault_not_memory (sym fault ∙ is));
   quiet_desk = λ quiet. refl;
   quiet_sink = λ quiet. refl;
-  steady = λ desk sink there fault. seven (sym fault ∙ is);
-  missing = λ fault. absurd (seven (sym fault ∙ is));
-  fault_line = λ fault. absurd (seven (sym fault ∙ is));
+  steady = λ desk sink there fault. fault_not_memory (sym fault ∙ is);
+  missing = λ fault. absurd (fault_not_memory (sym fault ∙ is));
+  fault_line = λ fault. absurd (fault_not_memory (sym fault ∙ is));
   no_memory = λ memory. inl refl;
   nothing_put = λ memory. refl;
   one_put = λ memory. absurd (memory is);
@@ -49,9 +50,3 @@ did_nothing steady_desk steady_sink asked code told is = record {
   calls = no_calls _ told.calls;
   files = nothing_written (folder_of asked) (written_files asked) told.holds told.holds refl;
 }
-  where
-    two : USAGE ≡ NO_MEMORY → ⊥
-    two e = omega arith
-
-    seven : FAULT ≡ NO_MEMORY → ⊥
-    seven e = omega arith
