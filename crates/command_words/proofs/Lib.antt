@@ -1,5 +1,4 @@
 pub mod AfterDashes
-pub mod Civil
 pub mod CommandParts
 pub mod Entered
 pub mod Fails

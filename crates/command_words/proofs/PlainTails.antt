@@ -4,7 +4,7 @@ use Rattle.clap.proofs.OnLiterals.{clap_on_literals}
 use Rattle.clap.specs.Simple.{Shape}
 use Rattle.clap.specs.Walk.{Text, nothing_held, walk}
 use Rattle.command_words.specs.Arguments.{count_read, dates_at}
-use Rattle.command_words.specs.Days.{date_read}
+use Rattle.calendar_dates.specs.Reading.{date_read}
 use Rattle.command_words.specs.Laws.{TailsPlainly, default_rotations, default_settings}
 use Rattle.command_words.specs.Program.{our_app, tails_app}
 use Rattle.command_words.specs.Words.{asked, tails_at}

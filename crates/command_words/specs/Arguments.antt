@@ -3,11 +3,9 @@ use Rattle.std.specs.Prelude.{◌≡◌, ◌≤◌, ◌-◌, ◌%◌, ◌==◌, 
 use Rattle.std.specs.Option.{option_map_or}
 use Rattle.clap.specs.Words.{Row, Text, first_of, found_of, rows_of}
 use Rattle.clap.specs.declared.parser.matches.ArgMatches.{ArgMatches}
-use Rattle.jiff_core.specs.Calendar.{IsEpochDay}
-use Rattle.jiff_core.specs.Date.{epoch_day}
-use Rattle.jiff_fmt.specs.Temporal.{DateParts}
+use Rattle.calendar_dates.specs.Days.{Day, HasDays}
 use Rattle.fleet_model.specs.declared.parts.Settings.{Settings}
-use Rattle.command_words.specs.Days.{date_read, ends_in_calendar}
+use Rattle.calendar_dates.specs.Reading.{date_read, ends_in_calendar}
 use Rattle.command_words.specs.Values.{minute_read, number_read, value_or}
 use Rattle.command_words.specs.declared.command.Dates.{Dates}
 use Rattle.command_words.specs.declared.command.RotationLimits.{RotationLimits}
@@ -103,7 +101,7 @@ options_in found = options_at (search_in found) (rotations_in found) (is_given (
 
 -- so many dates, from the first on
 pub record AskedDates : Type 0 where
-  pub first : DateParts
+  pub first : Day
   pub count : ℕ
 
 -- the number of dates that a text writes
@@ -111,7 +109,7 @@ abbrev pub count_read : Text → Option ℕ
 count_read text = number_read MIN_DATES MAX_DATES text
 
 -- so many dates from a first one on, where both are there and the calendar has all of them
-abbrev pub dates_at : Option DateParts → Option ℕ → Option AskedDates
+abbrev pub dates_at : Option Day → Option ℕ → Option AskedDates
 dates_at (Some date) (Some n) = if ends_in_calendar date n then Some (record { first = date; count = n }) else None
 dates_at (Some date) None = None
 dates_at None n = None
@@ -175,4 +173,4 @@ pub record AreDates (dates : Dates) : Type 0 where
   pub year : pos 1 ≤ℤ dates.first.year
   pub some : MIN_DATES ≤ dates.count
   pub few : dates.count ≤ MAX_DATES
-  pub last : IsEpochDay (epoch_day dates.first +ℤ pos (dates.count - 1))
+  pub last : HasDays dates.first dates.count

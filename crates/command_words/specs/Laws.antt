@@ -4,7 +4,7 @@ use Rattle.std.specs.Prelude.{◌≡◌, ◌==◌, ◌||◌, Bool, true, false, 
 use Rattle.clap.specs.Words.{Text}
 use Rattle.fleet_model.specs.declared.parts.Settings.{Settings}
 use Rattle.command_words.specs.Arguments.{count_read, dates_at, legs_read, made_number_read, options_at, rotations_at, search_at, settings_at}
-use Rattle.command_words.specs.Days.{date_read}
+use Rattle.calendar_dates.specs.Reading.{date_read}
 use Rattle.command_words.specs.Values.{minute_read, number_read}
 use Rattle.command_words.specs.Words.{asked, check_at, judge_at, make_at, solve_at, tails_at}
 use Rattle.command_words.specs.declared.command.RotationLimits.{RotationLimits}

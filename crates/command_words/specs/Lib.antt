@@ -1,5 +1,4 @@
 pub mod Arguments
-pub mod Days
 pub mod Laws
 pub mod Program
 pub mod Refusals

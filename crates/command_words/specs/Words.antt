@@ -2,7 +2,7 @@
 use Rattle.std.specs.Prelude.{⊤, if◌then◌else◌, List, [], ◌∷◌, ℕ, codes, bytes_eq, Option, None, option_and_then, option_map}
 use Rattle.clap.specs.Kinds.{Kinds}
 use Rattle.clap.specs.Words.{Row, Text, fault_of, subcommand_of}
-use Rattle.jiff_fmt.specs.Temporal.{date_parts}
+use Rattle.calendar_dates.specs.Days.{day_on}
 use Rattle.fleet_model.specs.Limits.{AreSettings}
 use Rattle.fleet_model.specs.declared.parts.Settings.{Settings}
 use Rattle.command_words.specs.Arguments.{AreDates, AreOptions, AreRotationLimits, AskedDates, CanBeAsked, dates_in, day_settings_in, dir_in, legs_in, number_in, options_in, rotations_in, settings_in}
@@ -88,7 +88,7 @@ asked words = without_fault (fault_of our_app words) (option_and_then command_in
 
 -- what dates of the code are
 abbrev pub dates_by : Dates → AskedDates
-dates_by dates = record { first = date_parts dates.first; count = dates.count }
+dates_by dates = record { first = day_on dates.first; count = dates.count }
 
 -- what a command of the code asks for
 abbrev pub asked_by : Command → Asked

@@ -12,8 +12,8 @@ use crate::command::{
     DEFAULT_VISITS, Dates, MAX_DATES, MAX_DAYS, MAX_MADE_LEGS, MAX_NODES, MAX_NUMBER, MAX_PIVOTS,
     MAX_THROUGH_MAX, MAX_VISITS, MIN_DATES, MIN_DAYS, RotationLimits, SearchLimits, SolveOptions,
 };
-use crate::days::{civil_date, ends_in_calendar};
 use crate::values::{minute_of_day, number_between};
+use calendar_dates::{civil_date, ends_in_calendar};
 use clap::ArgMatches;
 use fleet_model::Settings;
 

@@ -3,7 +3,6 @@
 
 mod arguments;
 mod command;
-mod days;
 pub mod laws;
 mod program;
 mod values;

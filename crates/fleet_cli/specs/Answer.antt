@@ -21,14 +21,12 @@ use Rattle.fleet_model.specs.declared.parts.Settings.{Settings}
 use Rattle.fleet_model.specs.declared.refusals.TableFile.{TableFile}
 use Rattle.fleet_model.specs.declared.refusals.TheConstants.{TOO_LONG}
 use Rattle.fleet_model.specs.declared.tables.Tables.{Tables}
-use Rattle.jiff_fmt.specs.Temporal.{DateParts}
 use Rattle.plan_desk.specs.Desk.{Files}
 use Rattle.plan_desk.specs.declared.file.DeskFile.{DeskFile}
 use Rattle.plan_desk.specs.declared.file.DeskFile.TheVariants as file
 use Rattle.plan_judge.specs.Verdicts.{IsVerdict}
 use Rattle.plan_judge.specs.declared.verdicts.Verdict.{Verdict}
 use Rattle.plan_judge.specs.declared.verdicts.Verdict.TheVariants as verdict
-use Rattle.plan_report.specs.Dates.{Day}
 use Rattle.plan_report.specs.Tails.{tails_text}
 use Rattle.plan_report.specs.declared.fleet_rotations.FleetRotation.{FleetRotation}
 use Rattle.plan_rotations.specs.Rotations.{ArePlanRotations}
@@ -187,16 +185,12 @@ Checks settings bytes proof plan answer = RefusesTables bytes settings answer �
 
 -- ---- tails
 
--- the first of the dates that are asked for
-abbrev pub first_day : DateParts → Day
-first_day date = record { year = date.year; month = date.month; day = date.day }
-
 -- the plan is legal, and the tails of its rotations on the dates are told
 pub record TellsTails (t : Tables) (limits : RotationLimits) (dates : AskedDates) (plan : List ℕ) (answer : Answer) : Type 0 where
   pub rotations : List FleetRotation
   pub legal : IsLegal t plan
   pub rotates : ArePlanRotations t plan limits.days limits.visits rotations
-  pub is : answer ≡ says DONE (tails_text t plan rotations (first_day dates.first) dates.count)
+  pub is : answer ≡ says DONE (tails_text t plan rotations dates.first dates.count)
 
 -- the plan reads; its verdict comes before the tails
 pub record TailsOfPlan (t : Tables) (limits : RotationLimits) (dates : AskedDates) (bytes : List ℕ) (answer : Answer) : Type 0 where

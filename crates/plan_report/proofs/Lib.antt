@@ -1,5 +1,4 @@
 pub mod Members
-pub mod NextDays
 pub mod NoFloats
 pub mod Pieces
 pub mod PlainText

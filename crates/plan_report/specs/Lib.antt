@@ -1,4 +1,3 @@
-pub mod Dates
 pub mod Json
 pub mod RotationRecords
 pub mod RotationWords

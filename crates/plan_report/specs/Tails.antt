@@ -11,7 +11,7 @@ use Rattle.fleet_model.specs.declared.tables.Tables.{Tables}
 use Rattle.ground_turns.specs.Maps.{IsTour}
 use Rattle.ground_turns.specs.Turns.{days_in}
 use Rattle.lines_of_flying.specs.Lines.{AreLegs, BeginsAfterNight, lines_of}
-use Rattle.plan_report.specs.Dates.{Day, day_text, days_from, no_day}
+use Rattle.calendar_dates.specs.Days.{Day, day_text, days_from, no_day}
 use Rattle.plan_report.specs.Rotations.{last_made, rotation_of}
 use Rattle.plan_report.specs.RotationWords.{rotation_words}
 use Rattle.plan_report.specs.TextLines.{line_of}

@@ -1,5 +1,5 @@
 //! The laws of reports, over all tables. Each function is a law: its contract is the statement, and it does nothing.
-ghost use Rattle.std.specs.Prelude.{◌≡◌, ◌*◌, ◌+ℤ◌, ℕ, List, pos};
+ghost use Rattle.std.specs.Prelude.{◌≡◌, ◌*◌, ℕ, List};
 ghost use Rattle.std.specs.List.{flat_map};
 ghost use Rattle.csv.specs.Writing.{default_writer, row_text};
 ghost use Rattle.fleet_model.specs.Counts.{weights_of};
@@ -7,9 +7,6 @@ ghost use Rattle.fleet_model.specs.Use.{used_of};
 ghost use Rattle.fleet_model.specs.declared.tables.Tables.{Tables};
 ghost use Rattle.ground_turns.specs.Maps.{IsTour};
 ghost use Rattle.ground_turns.specs.Turns.{days_in};
-ghost use Rattle.jiff_core.specs.Date.{epoch_day};
-ghost use Rattle.jiff_core.specs.declared.civil.date.Date.{Date};
-ghost use Rattle.plan_report.specs.Dates.{day_after, day_on};
 ghost use Rattle.plan_report.specs.RotationRecords.{rotation_records, rotation_text};
 ghost use Rattle.plan_report.specs.Rotations.{AreRotations};
 ghost use Rattle.plan_report.specs.RotationWords.{days_of};
@@ -25,11 +22,6 @@ pub fn tour_days_are_use()
 pub fn rotations_are_written_as_csv()
     ensures { (t : Tables) (rotations : List FleetRotation) (visits : ℕ) → AreRotations t rotations
         → rotation_text t rotations visits ≡ flat_map (row_text default_writer) (rotation_records t rotations visits) }
-{}
-
-/// A date that comes so many days after another by the day numbers of `jiff` is so many days later by the calendar.
-pub fn days_go_by_number()
-    ensures { (first later : Date) (n : ℕ) → epoch_day later ≡ epoch_day first +ℤ pos n → day_on later ≡ day_after (day_on first) n }
 {}
 
 /// The lines of tails, over the tour. On each date its legs are flown once each, each aircraft comes to the next line

@@ -1,7 +1,6 @@
 //! All texts of a result: the summary, in lines or as JSON, the records of the rotations and the lines of tails.
 #![tactic(auto)]
 
-mod dates;
 pub mod fleet_rotations;
 mod flying;
 pub mod json;

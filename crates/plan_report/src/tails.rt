@@ -5,15 +5,15 @@ ghost use Rattle.fleet_model.specs.Legal.{IsAssignment};
 ghost use Rattle.fleet_model.specs.Schedule.{fleets_in};
 ghost use Rattle.ground_turns.specs.Maps.{IsTour};
 ghost use Rattle.lines_of_flying.specs.Lines.{AreLegs, BeginsAfterNight};
-ghost use Rattle.plan_report.specs.Dates.{HasDays, day_on};
+ghost use Rattle.calendar_dates.specs.Days.{HasDays, day_on};
 ghost use Rattle.plan_report.specs.Rotations.{AreRotations, IsFleetRotation, last_made};
 ghost use Rattle.plan_report.specs.Tails.{AreFlown, AreLinesOf, IsFlown, dated_line, day_lines, days_lines, fleet_tails, fleets_tails, flights_text, line_on, lines_by, no_tour_line, spaced_flight, tails_text};
 
-use crate::dates::dates_from;
 use crate::fleet_rotations::FleetRotation;
 use crate::flying::FleetLines;
 use crate::text_lines::push_line;
 use crate::words::rotation_words;
+use calendar_dates::dates_from;
 use entries::NoMemory;
 use euler_rotation::Rotation;
 use fleet_model::limits::{MINUTES_PER_DAY, MINUTES_PER_PERIOD};

@@ -1,5 +1,5 @@
 use Rattle.std.proofs.Common.{refl, rules}
-use Rattle.plan_report.specs.Dates.{day_on, day_text}
+use Rattle.calendar_dates.specs.Days.{day_on, day_text}
 use Rattle.plan_report.specs.Tails.{dated_line, day_lines}
 use Rattle.plan_report.proofs.Pieces.{lines_more}
 use Rattle.plan_report.proofs.tails.push_day.Goals as goal

@@ -1,5 +1,5 @@
 use Rattle.std.proofs.Common.{◌≡◌, ◌++◌}
-use Rattle.plan_report.specs.Dates.{day_on}
+use Rattle.calendar_dates.specs.Days.{day_on}
 use Rattle.plan_report.specs.Tails.{day_lines}
 use Rattle.plan_report.proofs.tails.push_day.Given as goal
 

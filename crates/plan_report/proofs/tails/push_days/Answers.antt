@@ -1,6 +1,6 @@
 use Rattle.std.proofs.Common.{◌≡◌, ◌++◌, ◌<◌, length, map, slice_index_or, refl, sym, ap, ◌∙◌, arith}
 use Rattle.std.proofs.lemmas.List.{get_or-map}
-use Rattle.plan_report.specs.Dates.{day_on, no_day}
+use Rattle.calendar_dates.specs.Days.{day_on, no_day}
 use Rattle.plan_report.specs.Tails.{day_lines, days_lines}
 use Rattle.plan_report.proofs.Pieces.{lines_more}
 use Rattle.plan_report.proofs.tails.push_days.Goals as goal

@@ -1,7 +1,7 @@
 use Rattle.std.proofs.Common.{◌≡◌, length, sym, ap, ◌∙◌, arith}
 use Rattle.std.proofs.lemmas.List.{length-map}
 use Rattle.sums.proofs.Places.{length-list_below}
-use Rattle.plan_report.specs.Dates.{day_after, day_on}
+use Rattle.calendar_dates.specs.Days.{day_after, day_on}
 use Rattle.plan_report.proofs.tails.tail_lines.Goals as goal
 
 pub tails_on-requires-clause-few : goal.tails_on-requires-clause-few

@@ -1,6 +1,6 @@
 use Rattle.std.proofs.Common.{◌≡◌, ◌++◌, ◌<◌, length, map, sym, subst, ap, ◌∙◌, add-one, arith}
 use Rattle.std.proofs.lemmas.List.{get_or_default}
-use Rattle.plan_report.specs.Dates.{day_on}
+use Rattle.calendar_dates.specs.Days.{day_on}
 use Rattle.plan_report.specs.Rotations.{IsFleetRotation, last_made, no_rotation, rotation_of}
 use Rattle.plan_report.specs.Tails.{IsFlown, fleet_tails, fleets_tails}
 use Rattle.plan_report.proofs.tails.tails_on.Goals as goal

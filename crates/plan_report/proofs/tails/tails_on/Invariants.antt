@@ -1,5 +1,5 @@
 use Rattle.std.proofs.Common.{◌≡◌, map}
-use Rattle.plan_report.specs.Dates.{day_on}
+use Rattle.calendar_dates.specs.Days.{day_on}
 use Rattle.plan_report.specs.Tails.{fleets_tails}
 use Rattle.plan_report.proofs.tails.tails_on.Given as goal
 

@@ -8,9 +8,9 @@ use Rattle.jiff_core.specs.Calendar.{IsDate, IsEpochDay, days_from_civil, days_i
 use Rattle.jiff_core.specs.Date.{epoch_day}
 use Rattle.jiff_core.proofs.DateLemmas.{days_from_civil-max, epoch_day_range}
 use Rattle.jiff_core.proofs.SignedLemmas.{signed_arith}
-use Rattle.jiff_fmt.specs.Temporal.{DateParts, date_parts}
 use Rattle.csv_fields.specs.Time.{digits_at, number_at}
-use Rattle.command_words.specs.Days.{civil_of, date_read, ends_in_calendar, is_civil}
+use Rattle.calendar_dates.specs.Days.{Day, day_on}
+use Rattle.calendar_dates.specs.Reading.{civil_of, date_read, ends_in_calendar, is_civil}
 
 -- a date that the calendar has passes the test
 passes : (year month day : ℕ) → 1 ≤ year → 1 ≤ month → month ≤ 12 → 1 ≤ day → day ≤ days_in_month (pos year) month → is_civil year month day ≡ true
@@ -20,7 +20,7 @@ passes year month day some first last early late =
 
 -- a date of the library, by numbers that are its year, month and day
 pub is_read : (year month day : ℕ) (date : Date) → 1 ≤ year → date.year ≡ pos year → date.month ≡ month → date.day ≡ day
-    → Some (date_parts date) ≡ civil_of year month day
+    → Some (day_on date) ≡ civil_of year month day
 unfolding civil_of
 is_read year month day date some same_year same_month same_day =
     let lo : 1 ≤ month = subst (λ m. 1 ≤ m) same_month date.month_in.0 in
@@ -59,7 +59,7 @@ no_year_zero month day = refl
 
 -- so many dates from one on end in the calendar where the library has the last of them
 pub ends_where : (first : Date) (count : ℕ) (test : Bool) → (test ≡ true) ↔ IsEpochDay (epoch_day first +ℤ pos (count - 1))
-    → test ≡ ends_in_calendar (date_parts first) count
+    → test ≡ ends_in_calendar (day_on first) count
 unfolding ends_in_calendar
 ends_where first count test told = elim (cases_Bool (int_le (epoch_day first +ℤ pos (count - 1)) (days_from_civil (pos 9999) 12 31))) [
   | inl within ↦
@@ -81,7 +81,7 @@ abbrev pub two_read : List ℕ → ℕ → Option ℕ
 two_read text place = if digits_at text place then Some (number_at text place) else None
 
 -- the date of such numbers, where all four are there
-abbrev pub date_of_parts : Option ℕ → Option ℕ → Option ℕ → Option ℕ → Option DateParts
+abbrev pub date_of_parts : Option ℕ → Option ℕ → Option ℕ → Option ℕ → Option Day
 date_of_parts hundreds years month day =
     option_and_then (λ h. option_and_then (λ y. option_and_then (λ m. option_and_then (λ d. civil_of (100 * h + y) m d) day) month) years) hundreds
 

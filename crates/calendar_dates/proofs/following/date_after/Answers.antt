@@ -3,8 +3,8 @@ use Rattle.std.proofs.lemmas.Int.{to_z-of_z}
 use Rattle.jiff.proofs.SpanFacts.{signed_arith, date_add-days, can_add-days}
 use Rattle.jiff_core.specs.Date.{epoch_day}
 use Rattle.jiff_core.proofs.DateLemmas.{epoch_day_range}
-use Rattle.plan_report.proofs.NextDays.{days_later}
-use Rattle.plan_report.proofs.dates.date_after.Goals as goal
+use Rattle.calendar_dates.proofs.NextDays.{days_later}
+use Rattle.calendar_dates.proofs.following.date_after.Goals as goal
 
 pub days-requires : goal.days-requires
 days-requires c =

@@ -3,8 +3,8 @@ use Rattle.std.proofs.lemmas.List.{map_push}
 use Rattle.jiff_core.proofs.SignedLemmas.{signed_arith}
 use Rattle.jiff_core.proofs.DateLemmas.{epoch_day_range}
 use Rattle.sums.proofs.Places.{list_below-push}
-use Rattle.plan_report.specs.Dates.{day_after, day_on}
-use Rattle.plan_report.proofs.dates.dates_from.Goals as goal
+use Rattle.calendar_dates.specs.Days.{day_after, day_on}
+use Rattle.calendar_dates.proofs.following.dates_from.Goals as goal
 
 pub date_after-requires : goal.date_after-requires
 date_after-requires c = (omega (arith, signed_arith, epoch_day_range c.args.first), omega (arith, signed_arith, c.requires.last))

@@ -7,7 +7,7 @@ use Rattle.jiff_core.specs.Date.{epoch_day}
 use Rattle.jiff_core.proofs.SignedLemmas.{signed_arith}
 use Rattle.jiff_core.proofs.CalendarLemmas.{days_in_month_bounds}
 use Rattle.jiff_core.proofs.DateLemmas.{days_from_civil-day, days_from_civil-max, days_from_civil-next_month, days_from_civil-next_year, epoch_day_injective, epoch_day_range}
-use Rattle.plan_report.specs.Dates.{Day, day_after, day_on, next_day}
+use Rattle.calendar_dates.specs.Days.{Day, day_after, day_on, next_day}
 
 -- the date of the next day
 record IsNextDate (a b : Date) : Type 0 where

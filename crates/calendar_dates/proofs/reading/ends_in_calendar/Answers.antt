@@ -3,10 +3,9 @@ use Rattle.std.proofs.lemmas.Int.{to_z-of_z}
 use Rattle.jiff.proofs.SpanFacts.{can_add-days, signed_arith}
 use Rattle.jiff_core.specs.Calendar.{IsEpochDay}
 use Rattle.jiff_core.specs.Date.{epoch_day}
-use Rattle.command_words.proofs.Civil.{ends_where}
-use Rattle.command_words.proofs.days.ends_in_calendar.Goals as goal
+use Rattle.calendar_dates.proofs.Civil.{ends_where}
+use Rattle.calendar_dates.proofs.reading.ends_in_calendar.Goals as goal
 
--- src/days.rt:60:1
 pub returns-clause-told : goal.returns-clause-told
 returns-clause-told c =
     let fits : FitsSigned w64 (pos (c.args.count - 1)) = omega (arith, signed_arith) in
@@ -17,10 +16,9 @@ returns-clause-told c =
     (λ is. can.0 (succeeds.0 (sym c.is_ok.ensures.value ∙ is)), λ day. c.is_ok.ensures.value ∙ succeeds.1 (can.1 day)) in
     ends_where c.args.first c.args.count c.is_ok.result told
 
--- src/days.rt:60:1
 pub returns-clause-last : goal.returns-clause-last
 returns-clause-last c =
     let fits : FitsSigned w64 (pos (c.args.count - 1)) = omega (arith, signed_arith) in
     let only = simp (c.from.ensures, to_z-of_z) at c.days.ensures in
-    λ is. (can_add-days c.args.first (pos (c.args.count - 1)) c.days.result only).0
-    (c.checked_add.ensures.succeeds.0 (sym c.is_ok.ensures.value ∙ is))
+    λ is. record { last = (can_add-days c.args.first (pos (c.args.count - 1)) c.days.result only).0
+    (c.checked_add.ensures.succeeds.0 (sym c.is_ok.ensures.value ∙ is)) }

@@ -1,18 +1,16 @@
-//! Dates, YYYY-MM-DD.
+//! Dates in texts, YYYY-MM-DD.
 ghost use Rattle.std.specs.Prelude.{◌≡◌, ◌≤◌, ◌<◌, ◌+◌, ◌-◌, ◌*◌, ◌&&◌, ◌↔◌, ◌+ℤ◌, ◌≤ℤ◌, IfSome, Some, None, if◌then◌else◌, option_and_then, option_map, pos, true};
 ghost use Rattle.std.specs.Char.{is_ascii_digit};
-ghost use Rattle.jiff_core.specs.Calendar.{IsEpochDay};
-ghost use Rattle.jiff_core.specs.Date.{epoch_day};
-ghost use Rattle.jiff_fmt.specs.Temporal.{date_parts};
-ghost use Rattle.command_words.specs.Days.{civil_of, date_read, ends_in_calendar};
+ghost use Rattle.calendar_dates.specs.Days.{HasDays, day_on};
+ghost use Rattle.calendar_dates.specs.Reading.{civil_of, date_read, ends_in_calendar};
 
 use jiff::ToSpan;
 use jiff::civil::Date;
 
 /// The date that a text writes as YYYY-MM-DD, of the years 1 to 9999.
-#[tactic(auto, unfolding(crate::specs::Days::date_read))]
-pub(crate) fn civil_date(text: &str) -> Option<Date>
-    ensures read { option_map date_parts result ≡ date_read text.now }
+#[tactic(auto, unfolding(crate::specs::Reading::date_read))]
+pub fn civil_date(text: &str) -> Option<Date>
+    ensures read { option_map day_on result ≡ date_read text.now }
     ensures year { IfSome result (λ date. pos 1 ≤ℤ date.year) }
 {
     match text.as_bytes() {
@@ -49,7 +47,7 @@ fn date_by_digits(
     requires years { IfSome years (λ number. number < 100) }
     requires month { IfSome month (λ number. number < 100) }
     requires day { IfSome day (λ number. number < 100) }
-    ensures read { option_map date_parts result ≡ option_and_then (λ h. option_and_then (λ y. option_and_then (λ m. option_and_then (λ d. civil_of (100 * h + y) m d) day) month) years) hundreds }
+    ensures read { option_map day_on result ≡ option_and_then (λ h. option_and_then (λ y. option_and_then (λ m. option_and_then (λ d. civil_of (100 * h + y) m d) day) month) years) hundreds }
     ensures year { IfSome result (λ date. pos 1 ≤ℤ date.year) }
 {
     let year = 100 * u16::from(hundreds?) + u16::from(years?);
@@ -61,7 +59,7 @@ fn civil_day(year: u16, month: u8, day: u8) -> Option<Date>
     requires year { year < 10000 }
     requires month { month < 100 }
     requires day { day < 100 }
-    ensures read { option_map date_parts result ≡ civil_of year month day }
+    ensures read { option_map day_on result ≡ civil_of year month day }
     ensures year { IfSome result (λ date. pos 1 ≤ℤ date.year) }
 {
     if year == 0 {
@@ -86,12 +84,12 @@ fn two_digits(tens: u8, ones: u8) -> Option<u8>
 }
 
 /// Whether so many dates, from the first on, end on 9999-12-31 at the latest.
-pub(crate) fn ends_in_calendar(first: Date, count: u32) -> bool
+pub fn ends_in_calendar(first: Date, count: u32) -> bool
     requires year { pos 1 ≤ℤ first.year }
     requires some { 1 ≤ count }
     requires few { count ≤ 366 }
-    ensures told { result ≡ ends_in_calendar (date_parts first) count }
-    ensures last { (result ≡ true) → IsEpochDay (epoch_day first +ℤ pos (count - 1)) }
+    ensures told { result ≡ ends_in_calendar (day_on first) count }
+    ensures last { (result ≡ true) → HasDays first count }
 {
     first.checked_add(i64::from(count - 1).days()).is_ok()
 }

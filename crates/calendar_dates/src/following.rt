@@ -1,8 +1,8 @@
-//! Days one after the other, reckoned with `jiff`.
+//! Dates one after the other.
 ghost use Rattle.std.specs.Prelude.{◌≡◌, ◌+ℤ◌, IfOk, map, pos};
 ghost use Rattle.jiff_core.specs.Calendar.{IsEpochDay};
 ghost use Rattle.jiff_core.specs.Date.{epoch_day};
-ghost use Rattle.plan_report.specs.Dates.{HasDays, day_after, day_on, days_from};
+ghost use Rattle.calendar_dates.specs.Days.{HasDays, day_after, day_on, days_from};
 
 use entries::NoMemory;
 use jiff::ToSpan;

@@ -2,16 +2,14 @@ use Rattle.std.proofs.Common.{◌≡◌, sym, ◌∙◌, arith, rules, pos, to_z
 use Rattle.std.proofs.lemmas.Int.{to_z_pos}
 use Rattle.jiff_core.proofs.SignedLemmas.{signed_arith}
 use mir.Syntax.{w8, w16}
-use Rattle.command_words.proofs.Civil.{is_date_by, is_read, is_unread, no_year_zero}
-use Rattle.command_words.proofs.days.civil_day.Goals as goal
+use Rattle.calendar_dates.proofs.Civil.{is_date_by, is_read, is_unread, no_year_zero}
+use Rattle.calendar_dates.proofs.reading.civil_day.Goals as goal
 
--- src/days.rt:39:9
 pub returns-then-year-eq0-clause-read : goal.returns-then-year-eq0-clause-read
 returns-then-year-eq0-clause-read c =
     let zero : c.args.year ≡ 0 = search rules in
     rw zero (no_year_zero c.args.month c.args.day)
 
--- src/days.rt:31:1
 pub returns-in-Ok-clause-read : goal.returns-in-Ok-clause-read
 returns-in-Ok-clause-read c =
     let year : to_z w16 c.args.year ≡ pos c.args.year = to_z_pos w16 c.args.year (omega arith) in
@@ -22,7 +20,6 @@ returns-in-Ok-clause-read c =
     let same_day = value.2 ∙ day in
     is_read c.args.year c.args.month c.args.day c.in-Ok.date (omega arith) (value.0 ∙ year) (omega (arith, signed_arith)) (omega (arith, signed_arith))
 
--- src/days.rt:31:1
 pub returns-in-Err-clause-read : goal.returns-in-Err-clause-read
 returns-in-Err-clause-read c =
     let year : to_z w16 c.args.year ≡ pos c.args.year = to_z_pos w16 c.args.year (omega arith) in

@@ -1,7 +1,7 @@
 use Rattle.std.proofs.Common.{◌≡◌, ◌∙◌, rules, arith}
 use Rattle.std.specs.Prelude.{length, slice_index}
-use Rattle.command_words.proofs.Civil.{date_by_parts, two_read}
-use Rattle.command_words.proofs.days.civil_date.Goals as goal
+use Rattle.calendar_dates.proofs.Civil.{date_by_parts, two_read}
+use Rattle.calendar_dates.proofs.reading.civil_date.Goals as goal
 
 pub returns-in-45-clause-read : goal.returns-in-45-clause-read
 returns-in-45-clause-read c =

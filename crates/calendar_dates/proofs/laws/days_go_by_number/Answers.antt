@@ -1,0 +1,5 @@
+use Rattle.calendar_dates.proofs.NextDays.{days_later}
+use Rattle.calendar_dates.proofs.laws.days_go_by_number.Goals as goal
+
+pub returns : goal.returns
+returns c first later n = days_later n first later

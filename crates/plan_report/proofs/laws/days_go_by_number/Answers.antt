@@ -1,5 +1,0 @@
-use Rattle.plan_report.proofs.NextDays.{days_later}
-use Rattle.plan_report.proofs.laws.days_go_by_number.Goals as goal
-
-pub returns : goal.returns
-returns c first later n = days_later n first later
