@@ -1,5 +1,5 @@
 //! Dates in texts, YYYY-MM-DD.
-ghost use Rattle.std.specs.Prelude.{◌≡◌, ◌≤◌, ◌<◌, ◌+◌, ◌-◌, ◌*◌, ◌&&◌, ◌↔◌, ◌+ℤ◌, ◌≤ℤ◌, IfSome, Some, None, if◌then◌else◌, option_and_then, option_map, pos, true};
+ghost use Rattle.std.specs.Prelude.{◌≡◌, ◌≤◌, ◌<◌, ◌+◌, ◌-◌, ◌*◌, ◌&&◌, ◌≤ℤ◌, IfSome, Some, None, if◌then◌else◌, option_and_then, option_map, pos, true};
 ghost use Rattle.std.specs.Char.{is_ascii_digit};
 ghost use Rattle.calendar_dates.specs.Days.{HasDays, day_on};
 ghost use Rattle.calendar_dates.specs.Reading.{civil_of, date_read, ends_in_calendar};

@@ -1,5 +1,5 @@
 -- The values of a command's arguments, by what clap found for them.
-use Rattle.std.specs.Prelude.{◌≡◌, ◌≤◌, ◌-◌, ◌%◌, ◌==◌, ℕ, Bool, false, if◌then◌else◌, List, codes, bytes_eq, Option, Some, None, option_and_then, pos, ◌+ℤ◌, ◌≤ℤ◌}
+use Rattle.std.specs.Prelude.{◌≡◌, ◌≤◌, ◌%◌, ◌==◌, ℕ, Bool, false, if◌then◌else◌, List, codes, bytes_eq, Option, Some, None, option_and_then, pos, ◌≤ℤ◌}
 use Rattle.std.specs.Option.{option_map_or}
 use Rattle.clap.specs.Words.{Row, Text, first_of, found_of, rows_of}
 use Rattle.clap.specs.declared.parser.matches.ArgMatches.{ArgMatches}

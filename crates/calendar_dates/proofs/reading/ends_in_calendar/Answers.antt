@@ -20,5 +20,7 @@ pub returns-clause-last : goal.returns-clause-last
 returns-clause-last c =
     let fits : FitsSigned w64 (pos (c.args.count - 1)) = omega (arith, signed_arith) in
     let only = simp (c.from.ensures, to_z-of_z) at c.days.ensures in
-    λ is. record { last = (can_add-days c.args.first (pos (c.args.count - 1)) c.days.result only).0
-    (c.checked_add.ensures.succeeds.0 (sym c.is_ok.ensures.value ∙ is)) }
+    λ is. record {
+      last = (can_add-days c.args.first (pos (c.args.count - 1)) c.days.result only).0
+          (c.checked_add.ensures.succeeds.0 (sym c.is_ok.ensures.value ∙ is));
+    }
