@@ -10,8 +10,9 @@ use entries::NoMemory;
 use fleet_model::{Kept, Tables};
 use lp_rows::rows;
 use price_lift::{LiftError, Lifted, lift_best, lift_refusal};
-use row_store::{RowStore, Sparse};
+use row_store::RowStore;
 use simplex_frac::{Outcome, solve};
+use sparse_store::Sparse;
 use std::alloc::Global;
 
 /// What the linear relaxation of a subproblem comes to.

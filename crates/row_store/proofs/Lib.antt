@@ -5,15 +5,9 @@ pub mod Points
 pub mod Tables
 pub mod LeastRatio
 pub mod PivotNumbers
-pub mod Changed
-pub mod Scans
 pub mod Turns
 pub mod StepChoices
-pub mod AlikeEntries
 pub mod LineSums
-pub mod FirstRows
-pub mod SmallTables
-pub mod CopiedRows
 pub mod SignTests
 pub mod Squares
 pub mod RowReads

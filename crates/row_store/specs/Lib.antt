@@ -5,11 +5,6 @@ pub mod Choice
 pub mod PivotAnswers
 pub mod Points
 pub mod Small
-pub mod Changes
-pub mod Scan
 pub mod Steps
 pub mod StepChoice
-pub mod Layouts
-pub mod InPlace
-pub mod Listing
 pub mod Weights

@@ -43,7 +43,7 @@ pub fn better(best: Option<Candidate>, next: Candidate) -> Option<Candidate>
 }
 
 /// The row of the best line, where there is one.
-pub(crate) fn row_of(best: Option<Candidate>) -> Option<u32>
+pub fn row_of(best: Option<Candidate>) -> Option<u32>
     ensures { result ≡ option_map (λ best. best.row) best }
 {
     Some(best?.row)

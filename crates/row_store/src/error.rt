@@ -11,7 +11,7 @@ pub struct Place {
 }
 
 /// The place of what is outgrown in a row.
-pub(crate) fn place_in(row: u32, growth: Option<Growth>) -> Option<Place>
+pub fn place_in(row: u32, growth: Option<Growth>) -> Option<Place>
     ensures { result ≡ option_map (λ growth. record { row = row; column = growth.column }) growth }
 {
     let column = growth?.column;

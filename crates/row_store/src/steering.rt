@@ -127,7 +127,7 @@ pub fn cheaper(best: Option<Enterer>, next: Enterer) -> Option<Enterer>
 }
 
 /// The column that is best, where there is one.
-pub(crate) fn enterer_column(best: Option<Enterer>) -> Option<u32>
+pub fn enterer_column(best: Option<Enterer>) -> Option<u32>
     ensures { result ≡ option_map (λ best. best.column) best }
 {
     Some(best?.column)

@@ -1,0 +1,87 @@
+ghost use Rattle.row_store.specs.Table.{IsTable};
+
+use crate::changes::put_rows;
+use crate::sparse_first::first_rows;
+use crate::sparse_pivoting::{changed_rows, pivot_growth, turn_row};
+use crate::sparse_scanning::{first_entering, least_ratio};
+use crate::sparse_steering::{are_costs_at_least_0, cheapest_alike, squares_between};
+use entries::NoMemory;
+use row_store::{PivotError, RowStore, Rows};
+use sparse_row::SparseRow;
+use std::alloc::Global;
+
+/// A table that holds of each row the numbers that are not 0.
+#[derive(Debug, Drop)]
+pub struct Listed {
+    pub(crate) rows: Vec<SparseRow>,
+    pub(crate) alloc: Global,
+    ghost is_table: { IsTable rows.items },
+}
+
+impl RowStore for Listed {
+    ghost content = { λ store. store.rows.items };
+
+    fn start(alloc: Global, rows: &Rows) -> Result<Listed, NoMemory> {
+        Ok(Listed {
+            rows: first_rows(alloc, rows)?,
+            alloc,
+        })
+    }
+
+    fn height(&self) -> u32 {
+        self.rows.len() as u32 - 2
+    }
+
+    fn number(&self, row: u32, column: u32) -> i128 {
+        self.rows[row as usize].number(column)
+    }
+
+    fn den(&self, row: u32) -> i128 {
+        self.rows[row as usize].den()
+    }
+
+    /// All rows that change are made before the first one is put in its place, so that want of memory
+    /// leaves the table as it was.
+    fn pivot(&mut self, row: u32, column: u32) -> Result<(), PivotError> {
+        if let Some(place) = pivot_growth(self.rows.as_slice(), row, column) {
+            return Err(PivotError::Grew {
+                row: place.row,
+                column: place.column,
+            });
+        }
+        let Ok(changes) = changed_rows(self.alloc, self.rows.as_slice(), row, column) else {
+            return Err(PivotError::NoMemory);
+        };
+        put_rows(&mut self.rows, changes);
+        Ok(())
+    }
+
+    fn turn(&mut self, row: u32) {
+        turn_row(&mut self.rows[row as usize]);
+    }
+
+    /// Reads the numbers of the phase row and the cost row one after another.
+    fn entering(&self, columns: u32) -> Option<u32> {
+        first_entering(self.rows.as_slice(), columns)
+    }
+
+    /// Looks at the right side only where the number in the column is positive.
+    fn leaving(&self, basis: &[u32], column: u32, right_side: u32) -> Option<u32> {
+        least_ratio(self.rows.as_slice(), basis, column, right_side)
+    }
+
+    fn norm(&self, row: u32, columns: u32) -> i128 {
+        let right_side = columns + self.height();
+        squares_between(self.rows[row as usize].entries(), columns, right_side)
+    }
+
+    fn entering_at(&self, row: u32, columns: u32) -> Option<u32> {
+        cheapest_alike(self.rows.as_slice(), row, columns)
+    }
+
+    fn are_costs_at_least_0(&self, columns: u32) -> bool {
+        are_costs_at_least_0(self.rows.as_slice(), columns)
+    }
+
+    ghost is_table = { λ store. store.is_table };
+}
