@@ -1,5 +1,5 @@
 -- What becomes of a fleet's rotation: the cases, and that the search is complete.
-use Rattle.std.proofs.Common.{◌≡◌, ℕ, ◌*◌, ◌<◌, ◌≤◌, Bool, IsTrue, true, false, ◌||◌, ◌==◌, if◌then◌else◌, List, [], ◌∷◌, length, slice_index, sym, ◌∙◌, ap, subst, inl, inr, arith}
+use Rattle.std.proofs.Common.{◌≡◌, ℕ, ◌*◌, ◌<◌, ◌≤◌, Bool, IsTrue, true, false, ◌||◌, ◌==◌, if◌then◌else◌, List, [], ◌∷◌, Result, Ok, Err, IfOk, length, slice_index, sym, ◌∙◌, ap, subst, inl, inr, arith}
 use Rattle.std.specs.List.{list_any}
 use Rattle.std.proofs.Math.Nat.{mul_comm}
 use Rattle.std.proofs.lemmas.Bool.{cases_lt, eq-eqb, eqb-true}
@@ -9,6 +9,7 @@ use mathlib.Core.Bool.{false≢true}
 use Rattle.sums.proofs.Tests.{by_test}
 use Rattle.fleet_model.specs.declared.parts.Connection.{Connection}
 use Rattle.fleet_model.specs.declared.tables.Tables.{Tables}
+use Rattle.entries.specs.declared.memory.NoMemory.{NoMemory}
 use Rattle.ground_turns.specs.Maps.{IsTour, turns_round}
 use Rattle.ground_turns.specs.Nights.{IsMaintainedFrom, can_maintain, maintained_in, nights_of_tour}
 use Rattle.ground_turns.specs.declared.nights.Night.{Night}
@@ -126,26 +127,26 @@ module _ (t : Tables) (a : List ℕ) (f : ℕ) where
         spent (inl many) = omega (arith, many, is.few)
         spent (inr few) = omega (arith, few order is.visited.each_leg, is.visited.more)
 
+    pub complete_all : (visits : ℕ) (answer : Result Rotation NoMemory) → IfOk answer (IsRotation t a f pairs days visits) → IfOk answer (IsComplete t a f pairs days visits)
+    complete_all visits (Ok answer) is = complete visits answer is
+    complete_all visits (Err error) is = is
+
 -- ---- what was tried in vain
 unfoldable pub kept_for : Asked → List ℕ → Type 0
 kept_for asked legs = IsKeptTour asked.tables.now asked.plan.now asked.fleet asked.pairs.now asked.days legs
 
 -- a list that isn't a kept tour
-pub not_kept : (asked other : Asked) (legs joined : List ℕ) (b : Bool) → other ≡ asked → legs ≡ joined
-    → (IsTrue b → IsKeptTour other.tables.now other.plan.now other.fleet other.pairs.now other.days legs) × (IsKeptTour other.tables.now other.plan.now other.fleet other.pairs.now other.days legs → IsTrue b)
-    → b ≡ false → IsKeptTour asked.tables.now asked.plan.now asked.fleet asked.pairs.now asked.days joined → ⊥
-unfolding kept_for
-not_kept asked other legs joined b same list told fails kept =
-    false≢true (sym fails ∙ told.1 (subst (λ (q : Asked). kept_for q legs) (sym same) (subst (kept_for asked) (sym list) kept)))
+pub not_kept : (asked : Asked) (legs : List ℕ) (b : Bool) → (IsKeptTour asked.tables.now asked.plan.now asked.fleet asked.pairs.now asked.days legs → IsTrue b) → b ≡ false
+    → IsKeptTour asked.tables.now asked.plan.now asked.fleet asked.pairs.now asked.days legs → ⊥
+not_kept asked legs b told fails kept = false≢true (sym fails ∙ told kept)
 
 -- a search that found nothing
 unfoldable pub found_for : Asked → List ℕ → ℕ → Found → Type 0
 found_for asked order visits found = IsFoundUnder asked.tables.now asked.plan.now asked.fleet asked.pairs.now asked.days order visits found
 
-pub none_found : (asked other : Asked) (order joined : List ℕ) (visits : ℕ) (it : Found) → other ≡ asked → order ≡ joined
-    → IsFoundUnder other.tables.now other.plan.now other.fleet other.pairs.now other.days order visits it → it ≡ found.Nothing → IsAsked asked
-    → IsTourWith asked.tables.now asked.plan.now asked.fleet asked.pairs.now joined → (legs : List ℕ) → IsKeptTour asked.tables.now asked.plan.now asked.fleet asked.pairs.now asked.days legs → ⊥
+pub none_found : (asked : Asked) (order : List ℕ) (visits : ℕ) (it : Found) → IsFoundUnder asked.tables.now asked.plan.now asked.fleet asked.pairs.now asked.days order visits it → it ≡ found.Nothing → IsAsked asked
+    → IsTourWith asked.tables.now asked.plan.now asked.fleet asked.pairs.now order → (legs : List ℕ) → IsKeptTour asked.tables.now asked.plan.now asked.fleet asked.pairs.now asked.days legs → ⊥
 unfolding found_for
-none_found asked other order joined visits it same list is nothing is_asked tour legs kept =
-    none_ends asked.tables.now asked.plan.now asked.fleet asked.pairs.now asked.days joined legs (tour_order asked.tables.now asked.plan.now asked.fleet joined tour.tour) tour.tour.some is_asked.some_days
-    (subst (found_for asked joined visits) nothing (subst (λ (legs : List ℕ). found_for asked legs visits it) list (subst (λ (q : Asked). found_for q order visits it) same is))) kept
+none_found asked order visits it is nothing is_asked tour legs kept =
+    none_ends asked.tables.now asked.plan.now asked.fleet asked.pairs.now asked.days order legs (tour_order asked.tables.now asked.plan.now asked.fleet order tour.tour) tour.tour.some is_asked.some_days
+    (subst (found_for asked order visits) nothing is) kept

@@ -1,44 +1,53 @@
 -- What is known of the legs and prefixes that were found, told of what was asked.
-use Rattle.std.proofs.Common.{◌≡◌, ℕ, Bool, IsTrue, true, List, sym, subst}
+use Rattle.std.proofs.Common.{◌≡◌, ℕ, ◌*◌, ◌≤◌, List, Result, IfOk, sym, subst}
+use Rattle.entries.specs.declared.memory.NoMemory.{NoMemory}
+use Rattle.cycle_join.specs.Joins.{FliesSome, IsApart, IsJoined, Joins}
+use Rattle.cycle_join.specs.declared.joined.Joined.{Joined}
+use Rattle.cycle_join.specs.declared.joined.Joined.TheVariants as joined
 use Rattle.euler_rotation.specs.declared.asked.Asked.{Asked}
 use Rattle.euler_rotation.specs.declared.search.Found.{Found}
 use Rattle.euler_rotation.specs.declared.search.Found.TheVariants as found
-use Rattle.euler_rotation.specs.Answers.{AreVisited}
-use Rattle.euler_rotation.specs.Searches.{IsFoundUnder}
-use Rattle.euler_rotation.specs.Tours.{IsKeptTour, IsTourWith}
+use Rattle.euler_rotation.specs.Answers.{AreEnough, AreVisited}
+use Rattle.euler_rotation.specs.Searches.{IsFoundUnder, IsTold}
+use Rattle.euler_rotation.specs.Tours.{IsKeptTour, IsTourWith, nights_maintained, nights_used}
 use Rattle.euler_rotation.proofs.Answering.{found_for, kept_for}
 
--- a list that is a kept tour
-pub is_kept : (asked other : Asked) (legs joined again : List ℕ) (b : Bool) → other ≡ asked → legs ≡ joined → again ≡ joined
-    → (IsTrue b → IsKeptTour other.tables.now other.plan.now other.fleet other.pairs.now other.days legs) × (IsKeptTour other.tables.now other.plan.now other.fleet other.pairs.now other.days legs → IsTrue b)
-    → b ≡ true → IsKeptTour asked.tables.now asked.plan.now asked.fleet asked.pairs.now asked.days again
-unfolding kept_for
-is_kept asked other legs joined again b same list back told holds = subst (kept_for asked) (sym back) (subst (kept_for asked) list (subst (λ (q : Asked). kept_for q legs) same (told.0 holds)))
-
-unfoldable tour_for : Asked → List ℕ → Type 0
-tour_for asked legs = IsTourWith asked.tables.now asked.plan.now asked.fleet asked.pairs.now legs
-
--- the tour to begin with
-pub holds_pairs : (asked other : Asked) (legs joined : List ℕ) → other ≡ asked → legs ≡ joined → IsTourWith asked.tables.now asked.plan.now asked.fleet asked.pairs.now joined
-    → IsTourWith other.tables.now other.plan.now other.fleet other.pairs.now legs
-unfolding tour_for
-holds_pairs asked other legs joined same list tour = subst (λ (q : Asked). tour_for q legs) (sym same) (subst (tour_for asked) (sym list) tour)
-
--- what a search found, under what was asked
-found_under : (asked other : Asked) (order joined : List ℕ) (visits : ℕ) (it same_it : Found) → other ≡ asked → order ≡ joined
-    → IsFoundUnder other.tables.now other.plan.now other.fleet other.pairs.now other.days order visits it → it ≡ same_it → found_for asked joined visits same_it
-unfolding found_for
-found_under asked other order joined visits it same_it same list is e =
-    subst (found_for asked joined visits) e (subst (λ (legs : List ℕ). found_for asked legs visits it) list (subst (λ (q : Asked). found_for q order visits it) same is))
-
-pub tour_found : (asked other : Asked) (order joined legs again : List ℕ) (visits : ℕ) (it : Found) → other ≡ asked → order ≡ joined
-    → IsFoundUnder other.tables.now other.plan.now other.fleet other.pairs.now other.days order visits it → it ≡ found.Tour legs → again ≡ legs
+-- what a search found, by its cases
+pub tour_found : (asked : Asked) (order legs again : List ℕ) (visits : ℕ) (it : Found) → IsFoundUnder asked.tables.now asked.plan.now asked.fleet asked.pairs.now asked.days order visits it → it ≡ found.Tour legs → again ≡ legs
     → IsKeptTour asked.tables.now asked.plan.now asked.fleet asked.pairs.now asked.days again
 unfolding found_for kept_for
-tour_found asked other order joined legs again visits it same list is e back = subst (kept_for asked) (sym back) (found_under asked other order joined visits it (found.Tour legs) same list is e)
+tour_found asked order legs again visits it is e back = subst (kept_for asked) (sym back) (subst (found_for asked order visits) e is)
 
-pub spent_found : (asked other : Asked) (order joined prefix : List ℕ) (visits : ℕ) (it : Found) → other ≡ asked → order ≡ joined
-    → IsFoundUnder other.tables.now other.plan.now other.fleet other.pairs.now other.days order visits it → it ≡ found.Spent prefix
-    → AreVisited asked.tables.now asked.plan.now asked.fleet asked.pairs.now asked.days visits joined prefix
+pub spent_found : (asked : Asked) (order prefix : List ℕ) (visits : ℕ) (it : Found) → IsFoundUnder asked.tables.now asked.plan.now asked.fleet asked.pairs.now asked.days order visits it → it ≡ found.Spent prefix
+    → AreVisited asked.tables.now asked.plan.now asked.fleet asked.pairs.now asked.days visits order prefix
 unfolding found_for
-spent_found asked other order joined prefix visits it same list is e = found_under asked other order joined visits it (found.Spent prefix) same list is e
+spent_found asked order prefix visits it is e = subst (found_for asked order visits) e is
+
+unfoldable told_for : List ℕ → ℕ → Result Found NoMemory → Asked → Type 0
+told_for tour visits it asked = IfOk it (IsTold asked tour visits)
+
+-- what is told of the same that was asked
+pub told_again : (asked other : Asked) (tour : List ℕ) (visits : ℕ) (it : Result Found NoMemory) → other ≡ asked → IfOk it (IsTold other tour visits) → IfOk it (IsTold asked tour visits)
+unfolding told_for
+told_again asked other tour visits it same is = subst (told_for tour visits it) same is
+
+-- ---- what the joined cycles tell
+pub are_enough : (asked : Asked) (have used : ℕ) → FliesSome asked.tables.now asked.plan.now asked.fleet → have ≡ nights_maintained asked.tables.now asked.plan.now asked.fleet
+    → used ≡ nights_used asked.tables.now asked.plan.now asked.fleet → used ≤ have * asked.days → AreEnough asked.tables.now asked.plan.now asked.fleet asked.days
+are_enough asked have used flies have_is used_is enough = record {
+  flies = flies;
+  enough = subst (λ n. n ≤ nights_maintained asked.tables.now asked.plan.now asked.fleet * asked.days) used_is (subst (λ n. used ≤ n * asked.days) have_is enough);
+}
+
+unfoldable joins_for : Asked → Joined → Type 0
+joins_for asked it = Joins asked.tables.now asked.plan.now asked.fleet asked.pairs.now it
+
+pub apart_answer : (asked : Asked) (it : Joined) (legs : List ℕ) → Joins asked.tables.now asked.plan.now asked.fleet asked.pairs.now it → it ≡ joined.Apart legs
+    → IsApart asked.tables.now asked.plan.now asked.fleet asked.pairs.now legs
+unfolding joins_for
+apart_answer asked it legs joins e = subst (joins_for asked) e joins
+
+pub joined_tour : (asked : Asked) (it : Joined) (legs : List ℕ) → Joins asked.tables.now asked.plan.now asked.fleet asked.pairs.now it → it ≡ joined.Tour legs
+    → IsTourWith asked.tables.now asked.plan.now asked.fleet asked.pairs.now legs
+unfolding joins_for
+joined_tour asked it legs joins e = let is : IsJoined asked.tables.now asked.plan.now asked.fleet asked.pairs.now legs = subst (joins_for asked) e joins in record { tour = is.tour; holds = is.holds }

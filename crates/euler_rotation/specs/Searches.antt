@@ -2,13 +2,15 @@
 use Rattle.std.specs.Prelude.{◌≡◌, ℕ, ◌<◌, List, ◌∷◌, drop, length, Option, Some, None}
 use Rattle.fleet_model.specs.declared.parts.Connection.{Connection}
 use Rattle.fleet_model.specs.declared.tables.Tables.{Tables}
+use Rattle.euler_rotation.specs.declared.asked.Asked.{Asked}
 use Rattle.euler_rotation.specs.declared.field.Field.{Field}
 use Rattle.euler_rotation.specs.declared.search.Found.{Found}
 use Rattle.euler_rotation.specs.declared.search.Found.TheVariants as found
 use Rattle.euler_rotation.specs.declared.walk.Walk.{Walk}
-use Rattle.euler_rotation.specs.Answers.{AreVisited}
+use Rattle.euler_rotation.specs.Answers.{AreEnough, AreVisited, IsNone, IsRight, IsSpent}
+use Rattle.euler_rotation.specs.Asked.{IsAsked}
 use Rattle.euler_rotation.specs.Prefixes.{entry_of, preorder}
-use Rattle.euler_rotation.specs.Tours.{IsKeptTour}
+use Rattle.euler_rotation.specs.Tours.{IsKeptTour, IsTourWith, nights_used}
 use Rattle.euler_rotation.specs.Walks.{IsWalk, legs_of, pending_in, preorder_in}
 
 -- none of the first prefixes ends a kept tour
@@ -20,6 +22,19 @@ abbrev pub IsFoundUnder : Tables → List ℕ → ℕ → List Connection → �
 IsFoundUnder t a f pairs days order visits (found.Tour legs) = IsKeptTour t a f pairs days legs
 IsFoundUnder t a f pairs days order visits found.Nothing = EndNoneOf t a f pairs days order (length (preorder t a f pairs days order))
 IsFoundUnder t a f pairs days order visits (found.Spent prefix) = AreVisited t a f pairs days visits order prefix
+
+-- a tour that holds the pairs, where the nights at maintenance stations are not too few
+pub record MayTell (asked : Asked) (tour : List ℕ) (used : ℕ) : Type 0 where
+  pub is_asked : IsAsked asked
+  pub nights : AreEnough asked.tables.now asked.plan.now asked.fleet asked.days
+  pub used_is : used ≡ nights_used asked.tables.now asked.plan.now asked.fleet
+  pub holds : IsTourWith asked.tables.now asked.plan.now asked.fleet asked.pairs.now tour
+
+-- what is said then of the answer: of a kept tour, that there is none, or of a search under the order of that tour
+abbrev pub IsTold : Asked → List ℕ → ℕ → Found → Type 0
+IsTold asked tour visits (found.Tour legs) = IsRight asked.tables.now asked.plan.now asked.fleet asked.pairs.now asked.days legs
+IsTold asked tour visits found.Nothing = IsNone asked.tables.now asked.plan.now asked.fleet asked.pairs.now asked.days
+IsTold asked tour visits (found.Spent prefix) = IsSpent asked.tables.now asked.plan.now asked.fleet asked.pairs.now asked.days visits tour prefix
 
 -- the same of what is looked up
 abbrev pub is_kept_in : Field → List ℕ → Type 0

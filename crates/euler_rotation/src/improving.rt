@@ -6,8 +6,9 @@ ghost use Rattle.std.specs.Prelude.{◌<◌, ◌↔◌, IsTrue};
 ghost use Rattle.fleet_model.specs.Schedule.{legs_in};
 ghost use Rattle.euler_rotation.specs.Asked.{IsAsked, TellClean};
 
+use crate::asked::Asked;
 use crate::clean::{CleanTurns, may_turn};
-use crate::stays::{excess_of, is_known, is_overdue, stays_of};
+use crate::stays::{Stay, excess_of, is_known, is_overdue, stays_of};
 use entries::NoMemory;
 use std::alloc::Global;
 
@@ -43,9 +44,22 @@ fn better(
     requires { TellClean clean.now }
 {
     let stays = stays_of(alloc, clean.asked, legs)?;
-    let most = excess_of(&stays, clean.asked.days);
+    better_than(alloc, clean, legs, &stays, tries)
+}
+
+// The same, with the nights between the legs.
+fn better_than(
+    alloc: Global,
+    clean: &CleanTurns<'_>,
+    legs: &[u32],
+    stays: &[Stay],
+    tries: &mut u32,
+) -> Result<Option<Vec<u32>>, NoMemory>
+    requires { TellClean clean.now }
+{
+    let most = excess_of(stays, clean.asked.days);
     for place in 0..stays.len() {
-        if is_overdue(&stays, place, clean.asked.days) {
+        if is_overdue(stays, place, clean.asked.days) {
             if let Some(next) = better_at(alloc, clean, legs, place, most, tries)? {
                 return Ok(Some(next));
             }
@@ -91,15 +105,39 @@ fn better_with(
             let change = in_order(places.0, places.1, third);
             if may_change(clean, legs, change) {
                 *tries -= 1;
-                let next = changed(alloc, legs, change)?;
-                let stays = stays_of(alloc, clean.asked, &next)?;
-                if excess_of(&stays, clean.asked.days) < most {
+                if let Some(next) = if_less(alloc, clean.asked, legs, change, most)? {
                     return Ok(Some(next));
                 }
             }
         }
     }
     Ok(None)
+}
+
+// The changed tour, where fewer nights are overdue than so many.
+fn if_less(
+    alloc: Global,
+    asked: &Asked<'_>,
+    legs: &[u32],
+    change: Change,
+    most: u32,
+) -> Result<Option<Vec<u32>>, NoMemory>
+    requires { IsAsked asked.now }
+{
+    let next = changed(alloc, legs, change)?;
+    if overdue(alloc, asked, &next)? < most {
+        Ok(Some(next))
+    } else {
+        Ok(None)
+    }
+}
+
+// How many nights of a tour are overdue.
+fn overdue(alloc: Global, asked: &Asked<'_>, legs: &[u32]) -> Result<u32, NoMemory>
+    requires { IsAsked asked.now }
+{
+    let stays = stays_of(alloc, asked, legs)?;
+    Ok(excess_of(&stays, asked.days))
 }
 
 /// Three turns of a tour by their places, rising: what lies between the first two and what lies between the last two

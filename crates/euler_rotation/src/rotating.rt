@@ -6,7 +6,7 @@ ghost use Rattle.ground_turns.specs.Maps.{IsHeld};
 ghost use Rattle.cycle_join.specs.Joins.{FliesSome};
 ghost use Rattle.euler_rotation.specs.Answers.{AreEnough, IsComplete, IsRotation};
 ghost use Rattle.euler_rotation.specs.Asked.{IsAsked, TellClean};
-ghost use Rattle.euler_rotation.specs.Searches.{IsFoundUnder};
+ghost use Rattle.euler_rotation.specs.Searches.{IsFoundUnder, IsTold, MayTell};
 ghost use Rattle.euler_rotation.specs.Tours.{IsTourWith, nights_used};
 
 use crate::asked::Asked;
@@ -53,7 +53,7 @@ pub fn rotate(
         pairs,
         days,
     };
-    Ok(rotation_of(alloc, &asked, visits)?)
+    rotation_of(alloc, &asked, visits)
 }
 
 // The rotation that is asked for.
@@ -81,7 +81,7 @@ fn flown(alloc: Global, asked: &Asked<'_>, visits: u32) -> Result<Rotation, NoMe
         return Ok(Rotation::TooFewNights { have, used });
     }
     match join(alloc, asked.tables, asked.plan, asked.fleet, asked.pairs)? {
-        Joined::Tour(legs) => Ok(settled(alloc, asked, legs, used, visits)?),
+        Joined::Tour(legs) => settled(alloc, asked, legs, used, visits),
         Joined::Apart(legs) => Ok(Rotation::Apart { legs }),
     }
 }
@@ -100,20 +100,53 @@ fn settled(
     requires tour { IsTourWith asked.now.tables.now asked.now.plan.now asked.now.fleet asked.now.pairs.now joined }
     ensures { IfOk result (IsRotation asked.now.tables.now asked.now.plan.now asked.now.fleet asked.now.pairs.now asked.now.days visits) }
 {
-    let clean = clean_turns(alloc, asked)?;
-    if is_kept_tour(&clean, joined.as_slice()) {
-        return Ok(Rotation::Tour(begun(alloc, asked, joined.as_slice())?));
-    }
-    if asked.days >= used {
-        return Ok(Rotation::None);
-    }
-    match found(alloc, &clean, joined.as_slice(), visits)? {
-        Found::Tour(legs) => Ok(Rotation::Tour(begun(alloc, asked, legs.as_slice())?)),
+    match told(alloc, asked, joined.as_slice(), used, visits)? {
+        Found::Tour(legs) => Ok(Rotation::Tour(legs)),
         Found::Nothing => Ok(Rotation::None),
         Found::Spent(prefix) => Ok(Rotation::Spent {
             order: joined,
             prefix,
         }),
+    }
+}
+
+// The kept tour that is told, or why none is.
+fn told(
+    alloc: Global,
+    asked: &Asked<'_>,
+    tour: &[u32],
+    used: u32,
+    visits: u32,
+) -> Result<Found, NoMemory>
+    requires { MayTell asked.now tour.now used }
+    ensures { IfOk result (IsTold asked.now tour.now visits) }
+{
+    let clean = clean_turns(alloc, asked)?;
+    told_by(alloc, &clean, tour, used, visits)
+}
+
+// The same by the fleet's clean turns.
+fn told_by(
+    alloc: Global,
+    clean: &CleanTurns<'_>,
+    tour: &[u32],
+    used: u32,
+    visits: u32,
+) -> Result<Found, NoMemory>
+    requires clean { TellClean clean.now }
+    requires told { MayTell clean.now.asked.now tour.now used }
+    ensures { IfOk result (IsTold clean.now.asked.now tour.now visits) }
+{
+    if is_kept_tour(clean, tour) {
+        return Ok(Found::Tour(begun(alloc, clean.asked, tour)?));
+    }
+    if clean.asked.days >= used {
+        return Ok(Found::Nothing);
+    }
+    match found(alloc, clean, tour, visits)? {
+        Found::Tour(legs) => Ok(Found::Tour(begun(alloc, clean.asked, legs.as_slice())?)),
+        Found::Nothing => Ok(Found::Nothing),
+        Found::Spent(prefix) => Ok(Found::Spent(prefix)),
     }
 }
 
@@ -133,6 +166,21 @@ fn found(
     if is_kept_tour(clean, &legs) {
         return Ok(Found::Tour(Entries::from_vec(legs)));
     }
+    searched(alloc, clean, tour, visits)
+}
+
+// What a search under the order of a tour finds.
+fn searched(
+    alloc: Global,
+    clean: &CleanTurns<'_>,
+    tour: &[u32],
+    visits: u32,
+) -> Result<Found, NoMemory>
+    requires clean { TellClean clean.now }
+    requires tour { IsTourWith clean.now.asked.now.tables.now clean.now.asked.now.plan.now clean.now.asked.now.fleet clean.now.asked.now.pairs.now tour.now }
+    ensures { IfOk result (IsFoundUnder clean.now.asked.now.tables.now clean.now.asked.now.plan.now clean.now.asked.now.fleet
+        clean.now.asked.now.pairs.now clean.now.asked.now.days tour.now visits) }
+{
     let field = field_of(alloc, clean, tour)?;
-    Ok(search(alloc, &field, visits)?)
+    search(alloc, &field, visits)
 }

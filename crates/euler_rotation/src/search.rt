@@ -1,7 +1,7 @@
 //! The search for a kept tour among all prefixes.
-ghost use Rattle.std.specs.Prelude.{IfOk};
+ghost use Rattle.std.specs.Prelude.{◌<◌, IfOk};
 ghost use Rattle.euler_rotation.specs.Searches.{EndsOrNot, IsFound};
-ghost use Rattle.euler_rotation.specs.Walks.{IsField, legs_of};
+ghost use Rattle.euler_rotation.specs.Walks.{IsField, StandsAt, legs_of, preorder_in};
 
 use crate::field::Field;
 use crate::kept::is_kept_tour;
@@ -29,19 +29,34 @@ pub(crate) fn search(alloc: Global, field: &Field<'_>, visits: u32) -> Result<Fo
         return Ok(Found::Spent(Entries::from_vec(Vec::new(alloc))));
     }
     let mut walk = begin(alloc, field)?;
+    visited(alloc, field, &mut walk, visits)
+}
+
+// The same by a walk that stands at the first of them, where some may be visited.
+fn visited(
+    alloc: Global,
+    field: &Field<'_>,
+    walk: &mut Walk,
+    visits: u32,
+) -> Result<Found, NoMemory>
+    requires field { IsField field.now }
+    requires walk { StandsAt field.now (preorder_in field.now) walk.old }
+    requires some { 0 < visits }
+    ensures { IfOk result (IsFound field.now visits) }
+{
     for visited in 0..visits - 1 {
-        if let Some(tour) = ended(alloc, field, &walk)? {
+        if let Some(tour) = ended(alloc, field, walk)? {
             return Ok(Found::Tour(tour));
         }
-        if !advance(field, &mut walk)? {
+        if !advance(field, walk)? {
             return Ok(Found::Nothing);
         }
     }
-    if let Some(tour) = ended(alloc, field, &walk)? {
+    if let Some(tour) = ended(alloc, field, walk)? {
         return Ok(Found::Tour(tour));
     }
     let prefix = walk.path.legs(alloc)?;
-    if advance(field, &mut walk)? {
+    if advance(field, walk)? {
         Ok(Found::Spent(prefix))
     } else {
         Ok(Found::Nothing)

@@ -1,6 +1,6 @@
-use Rattle.euler_rotation.proofs.Answering.{complete}
+use Rattle.euler_rotation.proofs.Answering.{complete_all}
 use Rattle.euler_rotation.proofs.rotating.rotate.Goals as goal
 
 pub returns-clause-complete : goal.returns-clause-complete
 returns-clause-complete c =
-    complete c.args.tables.now c.args.plan.now c.args.fleet c.args.pairs.now c.args.days c.args.visits c.in_ok-rotation_of.field-0 c.in_ok-rotation_of.ensures
+    complete_all c.args.tables.now c.args.plan.now c.args.fleet c.args.pairs.now c.args.days c.args.visits c.rotation_of.result c.rotation_of.ensures

@@ -1,5 +1,5 @@
 use Rattle.euler_rotation.specs.Searches.{HasVisited}
-use Rattle.euler_rotation.proofs.search.search.Given as goal
+use Rattle.euler_rotation.proofs.search.visited.Given as goal
 
 abbrev pub invariant-loop-visited : goal.invariant-loop-visited
 invariant-loop-visited l = HasVisited l.field l.visited l.walk
