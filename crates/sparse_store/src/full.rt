@@ -42,6 +42,19 @@ impl FullTable {
             pivot_rows(&mut self.rows, &pivot_row, row, column);
             return Ok(None);
         }
+        self.pivoted_by_lists(row, column)
+    }
+
+    /// The same table by lists, after a pivot.
+    fn pivoted_by_lists(&self, row: u32, column: u32) -> Result<Option<Listed>, PivotError>
+        requires row { row < length self.now.rows.items }
+        requires column { column < columns_of self.now.rows.items }
+        requires positive { pos 0 <ℤ number_at self.now.rows.items row column }
+        requires small { pivot_growth self.now.rows.items row column ≡ None }
+        ensures pivoted { IfOk result (λ other. table_after other self.now.rows.items ≡ pivoted self.now.rows.items row column) }
+        ensures fits { IfOk result (λ _. pivot_growth self.now.rows.items row column ≡ None) }
+        ensures grew { IfErr result (IsPivotError self.now.rows.items row column) }
+    {
         let Ok(mut table) = self.listed() else {
             return Err(PivotError::NoMemory);
         };

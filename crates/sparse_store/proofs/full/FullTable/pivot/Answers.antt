@@ -1,11 +1,10 @@
-use Rattle.std.proofs.Common.{◌<◌, ℕ, length, subst, ◌≡◌, refl, ◌∙◌, None}
+use Rattle.std.proofs.Common.{◌<◌, ℕ, length, subst, refl, ◌∙◌}
 use Rattle.frac_row.specs.Row.{IsSmall}
 use Rattle.row_store.specs.Table.{row_at, no_row}
 use Rattle.row_store.proofs.Tables.{pivoted_is_table}
 use Rattle.sparse_store.proofs.SmallTables.{small_growth}
 use Rattle.sparse_store.proofs.full.FullTable.pivot.Goals as goal
 use Rattle.std.proofs.lemmas.List.{get_or_read}
-use Rattle.row_store.specs.Pivot.{pivoted, pivot_growth}
 use Rattle.sparse_store.specs.InPlace.{CanClearAll}
 
 pub returns-in_default-clause-grew : goal.returns-in_default-clause-grew
@@ -25,8 +24,8 @@ returns-then-all_fit-clause-fits c =
     small_growth c.args.self.now.rows.items c.args.row c.args.column c.args.self.now.is_table c.requires.row c.requires.column c.requires.positive
     (subst (λ xs. (k : ℕ) → k < length xs → IsSmall (row_at xs k)) c.as_slice.ensures.value c.all_small.ensures)
 
-pub returns-in_default-listed-clause-grew : goal.returns-in_default-listed-clause-grew
-returns-in_default-listed-clause-grew c =
+pub pivoted_by_lists-requires-clause-small : goal.pivoted_by_lists-requires-clause-small
+pivoted_by_lists-requires-clause-small c =
     small_growth c.args.self.now.rows.items c.args.row c.args.column c.args.self.now.is_table c.requires.row c.requires.column c.requires.positive
     (subst (λ xs. (k : ℕ) → k < length xs → IsSmall (row_at xs k)) c.as_slice.ensures.value c.all_small.ensures)
 
@@ -44,22 +43,6 @@ pivot_rows-requires-clause-pivot_row c = c.in-Ok.ensures ∙ get_or_read c.args.
 
 pub pivot_rows-requires-clause-fits : goal.pivot_rows-requires-clause-fits
 pivot_rows-requires-clause-fits c = subst (λ t. CanClearAll t c.args.row c.args.column) c.as_slice-2.ensures.value (c.if-all_fit.ensures refl)
-
-pub pivot-requires : goal.pivot-requires
-pivot-requires c = record {
-  row = rw c.in-Ok-listed.ensures c.requires.row;
-  column = rw c.in-Ok-listed.ensures c.requires.column;
-  positive = rw c.in-Ok-listed.ensures c.requires.positive;
-}
-
-pub returns-in-Ok-pivot : goal.returns-in-Ok-pivot
-returns-in-Ok-pivot c = record {
-  pivoted = subst (λ t. c.pivot.new.self.rows.items ≡ pivoted t c.args.row c.args.column) c.in-Ok-listed.ensures c.in-Ok-pivot.ensures.pivoted;
-  fits = subst (λ t. pivot_growth t c.args.row c.args.column ≡ None) c.in-Ok-listed.ensures c.in-Ok-pivot.ensures.fits;
-  grew = tt;
-  unchanged = tt;
-  stays = refl;
-}
 
 pub returns-then-all_fit-clause-pivoted : goal.returns-then-all_fit-clause-pivoted
 returns-then-all_fit-clause-pivoted c = c.pivot_rows.ensures
