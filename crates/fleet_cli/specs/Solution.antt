@@ -10,7 +10,7 @@ use Rattle.command_words.specs.declared.command.SolveOptions.{SolveOptions}
 use Rattle.fleet_model.specs.declared.tables.Tables.{Tables}
 use Rattle.plan_desk.specs.declared.file.DeskFile.TheVariants as desk_file
 use Rattle.plan_report.specs.Json.{json_text}
-use Rattle.plan_report.specs.RotationRecords.{rotation_text}
+use Rattle.rotation_report.specs.RotationRecords.{rotation_text}
 use Rattle.plan_report.specs.Summary.{summary_text}
 use Rattle.plan_report.specs.declared.fleet_rotations.FleetRotation.{FleetRotation}
 use Rattle.plan_rotations.specs.Rotations.{ArePlanRotations}

@@ -14,8 +14,9 @@ use dual_bound::Tree;
 use entries::{Entries, NoMemory};
 use fleet_model::{Assignment, Tables};
 use plan_desk::DeskFile;
-use plan_report::{FleetRotation, rotation_csv, summary, summary_json};
+use plan_report::{FleetRotation, summary, summary_json};
 use plan_text::write_plan;
+use rotation_report::rotation_csv;
 use std::alloc::Global;
 
 /// The exit status of a solution.

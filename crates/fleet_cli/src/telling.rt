@@ -17,9 +17,9 @@ use command_words::{Dates, RotationLimits};
 use entries::NoMemory;
 use fleet_model::{Assignment, Settings, Tables};
 use plan_judge::{Verdict, judge};
-use plan_report::tail_lines;
 use plan_rotations::rotations;
 use plan_text::{PlanError, read_plan};
+use rotation_report::tail_lines;
 use std::alloc::Global;
 
 /// Tells the tails by what the tables and the plan hold.

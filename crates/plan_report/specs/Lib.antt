@@ -1,9 +1,5 @@
 pub mod Json
-pub mod RotationRecords
 pub mod RotationWords
 pub mod Rotations
-pub mod RoundRows
 pub mod Summary
-pub mod TailLaws
-pub mod Tails
 pub mod TextLines

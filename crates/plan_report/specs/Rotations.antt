@@ -5,8 +5,8 @@ use Rattle.euler_rotation.specs.declared.rotation.Rotation.TheVariants as rotati
 use Rattle.fleet_model.specs.declared.parts.Connection.{Connection}
 use Rattle.fleet_model.specs.declared.tables.Tables.{Tables}
 use Rattle.fleet_model.specs.Schedule.{fleets_in, legs_in}
-use Rattle.ground_turns.specs.Maps.{turn_at}
-use Rattle.lines_of_flying.specs.Lines.{AreLegs}
+use Rattle.ground_turns.specs.Maps.{IsTour, turn_at}
+use Rattle.lines_of_flying.specs.Lines.{AreLegs, BeginsAfterNight}
 use Rattle.plan_report.specs.declared.fleet_rotations.FleetRotation.{FleetRotation}
 
 -- the rotation of a fleet
@@ -51,3 +51,15 @@ pub record IsFleetRotation (t : Tables) (made : FleetRotation) : Type 0 where
 pub record AreRotations (t : Tables) (rotations : List FleetRotation) : Type 0 where
   pub few : length rotations ≤ fleets_in t
   pub each : (f : ℕ) → f < length rotations → IsFleetRotation t (rotation_of rotations f)
+
+-- a tour is one of the fleet's by the assignment, and begins after a night
+abbrev pub IsFlown : Tables → List ℕ → ℕ → Rotation → Type 0
+IsFlown t a f rotation.Unused = ⊤
+IsFlown t a f (rotation.TooFewNights have used) = ⊤
+IsFlown t a f (rotation.Apart legs) = ⊤
+IsFlown t a f (rotation.Tour tour) = IsTour t a f tour × BeginsAfterNight t f tour
+IsFlown t a f rotation.None = ⊤
+IsFlown t a f (rotation.Spent order prefix) = ⊤
+
+pub record AreFlown (t : Tables) (a : List ℕ) (rotations : List FleetRotation) : Type 0 where
+  pub each : (f : ℕ) → f < length rotations → IsFlown t a f (last_made (rotation_of rotations f))

@@ -2,8 +2,7 @@ ghost use Rattle.std.specs.Prelude.{◌≡◌, ◌<◌, ◌≤◌, ◌==◌, not
 ghost use Rattle.fleet_model.specs.Legal.{IsLegal};
 ghost use Rattle.fleet_model.specs.Schedule.{fleets_in};
 ghost use Rattle.ground_turns.specs.Maps.{IsHeld};
-ghost use Rattle.plan_report.specs.Rotations.{AreRotations, rotation_of};
-ghost use Rattle.plan_report.specs.Tails.{AreFlown};
+ghost use Rattle.plan_report.specs.Rotations.{AreFlown, AreRotations, rotation_of};
 ghost use Rattle.plan_rotations.specs.Rotations.{ArePlanRotations, AreWorthMost, IsMadeRotation, IsRotationWith, IsSecond, are_some, is_given_up};
 
 use entries::{Entries, NoMemory};

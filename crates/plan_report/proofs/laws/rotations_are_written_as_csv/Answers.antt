@@ -1,7 +1,0 @@
-use Rattle.plan_text.specs.CsvText.{csv_text}
-use Rattle.plan_report.proofs.PlainText.{written_as_csv}
-use Rattle.plan_report.proofs.laws.rotations_are_written_as_csv.Goals as goal
-
-pub returns : goal.returns
-unfolding csv_text
-returns c = written_as_csv

@@ -1,7 +1,0 @@
-use Rattle.std.proofs.Common.{◌≡◌, ◌++◌}
-use Rattle.calendar_dates.specs.Days.{day_on}
-use Rattle.plan_report.specs.Tails.{day_lines}
-use Rattle.plan_report.proofs.tails.push_day.Given as goal
-
-abbrev pub invariant-loop-aircraft : goal.invariant-loop-aircraft
-invariant-loop-aircraft l = l.text.items ≡ l.fn.text.items ++ day_lines l.tables l.flown (day_on l.fn.date) l.day l.aircraft

@@ -1,7 +1,0 @@
-use Rattle.std.proofs.Common.{◌≡◌, take}
-use Rattle.std.specs.List.{flat_map}
-use Rattle.plan_report.specs.Tails.{spaced_flight}
-use Rattle.plan_report.proofs.tails.spaced_flights.Given as goal
-
-abbrev pub invariant-loop-leg : goal.invariant-loop-leg
-invariant-loop-leg l = l.text.items ≡ flat_map (spaced_flight l.tables) (take l.leg-index l.legs)

@@ -1,0 +1,4 @@
+pub mod PlainText
+pub mod RoundLines
+pub mod RowWriting
+pub mod TourLegs

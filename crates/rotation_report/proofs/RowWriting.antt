@@ -1,0 +1,90 @@
+-- Rows of rounds written one after the other.
+use Rattle.std.proofs.Common.{◌≡◌, ℕ, zero, suc, ◌+◌, ◌<◌, List, [], ◌∷◌, ◌++◌, length, map, replicate, take, get_or, refl, sym, ap, subst, ◌∙◌, add-one, append_assoc, codes, slice_index}
+use Rattle.std.specs.Fmt.{decimal, digits}
+use Rattle.std.proofs.lemmas.List.{map-append, map_push, take_more}
+use Rattle.fleet_model.specs.declared.tables.Tables.{Tables}
+use Rattle.fleet_model.specs.Schedule.{leg_on, station_of}
+use Rattle.fleet_model.specs.Times.{nights_of}
+use Rattle.ground_turns.specs.Maps.{turn_after}
+use Rattle.ground_turns.specs.Nights.{nights_in_turn}
+use Rattle.ground_turns.specs.Turns.{nights_waited, station_at}
+use Rattle.ground_turns.specs.declared.nights.Night.{Night}
+use Rattle.ground_turns.specs.declared.nights.Night.TheVariants as night
+use Rattle.plan_text.proofs.CsvWriting.{text_more, written_more}
+use Rattle.plan_text.specs.CsvText.{HasWritten, TextWriter, csv_text, text_in}
+use Rattle.rotation_report.specs.RotationRecords.{Row, begun_tour_rows, fleet_records, fleets_records, leg_row, night_row, rotation_header, round_records, row_record, yes_no}
+use Rattle.plan_report.specs.Rotations.{rotation_of}
+use Rattle.plan_report.specs.declared.fleet_rotations.FleetRotation.{FleetRotation}
+
+-- nought in decimal
+pub zero_digit : decimal 0 ≡ codes "0"
+unfolding digits
+zero_digit = refl
+
+-- rows of a round, and then more
+pub rows_more : (name number : List ℕ) (a b c : TextWriter) (xs ys : List Row) → HasWritten a b (round_records name number xs)
+    → HasWritten b c (round_records name number ys) → HasWritten a c (round_records name number (xs ++ ys))
+rows_more name number a b c xs ys front rest =
+    subst (HasWritten a c) (sym (map-append (row_record name number) xs ys))
+    (written_more a b c (round_records name number xs) (round_records name number ys) front rest)
+
+-- a row for each entry of a list, and that of the next entry
+pub row_more : {X : Type 0} (row : X → Row) (entries : List X) (name number : List ℕ) (a b c : TextWriter) (i : ℕ) (d : X) → i < length entries
+    → HasWritten a b (round_records name number (map row (take i entries)))
+    → HasWritten b c (round_records name number (row (get_or entries i d) ∷ []))
+    → HasWritten a c (round_records name number (map row (take (i + 1) entries)))
+row_more row entries name number a b c i d within front rest =
+    let next : map row (take (i + 1) entries) ≡ map row (take i entries) ++ row (get_or entries i d) ∷ [] =
+    ap (map row) (take_more entries i d within) ∙ map_push row (take i entries) (get_or entries i d) in
+    subst (λ rows. HasWritten a c (round_records name number rows)) (sym next)
+    (rows_more name number a b c (map row (take i entries)) (row (get_or entries i d) ∷ []) front rest)
+
+-- the nights of a turn, the same ones together
+pub night_rows : (t : Tables) (n m s : ℕ) → map (night_row t) (replicate n night.Aloft ++ replicate m (night.At s)) ≡ replicate n (night_row t night.Aloft) ++ replicate m (night_row t (night.At s))
+night_rows t n m s =
+    map-append (night_row t) (replicate n night.Aloft) (replicate m (night.At s))
+    ∙ ap (λ rows. rows ++ map (night_row t) (replicate m (night.At s))) (map-replicate n night.Aloft)
+    ∙ ap (λ rows. replicate n (night_row t night.Aloft) ++ rows) (map-replicate m (night.At s))
+  where
+    map-replicate : (k : ℕ) (x : Night) → map (night_row t) (replicate k x) ≡ replicate k (night_row t x)
+    map-replicate zero x = refl
+    map-replicate (suc k) x = ap (λ rows. night_row t x ∷ rows) (map-replicate k x)
+
+-- a leg of a tour more, and the nights after it
+pub tour_more : (t : Tables) (f : ℕ) (tour : List ℕ) (n : ℕ) (name number : List ℕ) (a b c d : TextWriter)
+    → HasWritten a b (round_records name number (begun_tour_rows t f tour n))
+    → HasWritten b c (round_records name number (leg_row t f tour n ∷ []))
+    → HasWritten c d (round_records name number (map (night_row t) (nights_in_turn t f (turn_after tour n))))
+    → HasWritten a d (round_records name number (begun_tour_rows t f tour (n + 1)))
+tour_more t f tour n name number a b c d front leg nights =
+    let begun = begun_tour_rows t f tour n in
+    let after = map (night_row t) (nights_in_turn t f (turn_after tour n)) in
+    let all : begun_tour_rows t f tour (n + 1) ≡ (begun ++ leg_row t f tour n ∷ []) ++ after =
+    ap (begun_tour_rows t f tour) (add-one n) ∙ sym (append_assoc begun (leg_row t f tour n ∷ []) after) in
+    subst (λ rows. HasWritten a d (round_records name number rows)) (sym all)
+    (rows_more name number a c d (begun ++ leg_row t f tour n ∷ []) after (rows_more name number a b c begun (leg_row t f tour n ∷ []) front leg) nights)
+
+-- the records of a fleet more
+pub fleet_more : (t : Tables) (visits : ℕ) (rotations : List FleetRotation) (n : ℕ) (b c : TextWriter)
+    → text_in b ≡ csv_text (rotation_header ∷ fleets_records t visits rotations n)
+    → HasWritten b c (fleet_records t visits (rotation_of rotations n) n)
+    → text_in c ≡ csv_text (rotation_header ∷ fleets_records t visits rotations (n + 1))
+fleet_more t visits rotations n b c front rest =
+    text_more b c (rotation_header ∷ fleets_records t visits rotations n) (fleet_records t visits (rotation_of rotations n) n) front rest
+    ∙ ap (λ k. csv_text (rotation_header ∷ fleets_records t visits rotations k)) (sym (add-one n))
+
+-- the nights after a leg of a tour, by their numbers and the fields of the station
+pub nights_written : (t : Tables) (f : ℕ) (tour : List ℕ) (place : ℕ) (name number : List ℕ) (a b c : TextWriter) (n m : ℕ) (code maintained : List ℕ)
+    → HasWritten a b (round_records name number (replicate n (record { kind = codes "night"; a = codes "-"; b = codes "aloft" })))
+    → HasWritten b c (round_records name number (replicate m (record { kind = codes "night"; a = code; b = maintained })))
+    → n ≡ nights_of t (leg_on (slice_index tour place) f) → m ≡ nights_waited t f (turn_after tour place)
+    → code ≡ (station_of t (station_at t (turn_after tour place))).code
+    → maintained ≡ yes_no (station_of t (station_at t (turn_after tour place))).maintenance
+    → HasWritten a c (round_records name number (map (night_row t) (nights_in_turn t f (turn_after tour place))))
+nights_written t f tour place name number a b c n m code maintained aloft waited is_n is_m is_code is_maintained =
+    let up : Row = record { kind = codes "night"; a = codes "-"; b = codes "aloft" } in
+    let down : Row = record { kind = codes "night"; a = code; b = maintained } in
+    let all : replicate n up ++ replicate m down ≡ map (night_row t) (nights_in_turn t f (turn_after tour place)) =
+    rw (is_n, is_m, is_code, is_maintained) (sym (night_rows t (nights_of t (leg_on (slice_index tour place) f)) (nights_waited t f (turn_after tour place)) (station_at t (turn_after tour place)))) in
+    subst (λ rows. HasWritten a c (round_records name number rows)) all
+    (rows_more name number a b c (replicate n up) (replicate m down) aloft waited)

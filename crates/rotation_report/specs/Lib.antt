@@ -1,0 +1,4 @@
+pub mod RotationRecords
+pub mod RoundRows
+pub mod TailLaws
+pub mod Tails

@@ -1,0 +1,48 @@
+-- What the lines of tails come to: which legs are flown on a date, and which by an aircraft.
+use Rattle.std.specs.Prelude.{ℕ, suc, ◌+◌, ◌*◌, ◌%◌, ◌<◌, ◌≡◌, IsPermutation, List, [], length, slice_index_or}
+use Rattle.std.specs.List.{concat}
+use Rattle.fleet_model.specs.declared.limits.TheConstants.{MINUTES_PER_DAY}
+use Rattle.fleet_model.specs.declared.tables.Tables.{Tables}
+use Rattle.fleet_model.specs.Counts.{weights_of}
+use Rattle.fleet_model.specs.Use.{used_of}
+use Rattle.ground_turns.specs.Maps.{IsTour}
+use Rattle.ground_turns.specs.Turns.{days_in, period_of}
+use Rattle.lines_of_flying.specs.Lines.{BeginsAfterNight, lines_of}
+use Rattle.rotation_report.specs.Tails.{line_on, lines_by}
+use Rattle.rotation_report.specs.declared.flying.FleetLines.{FleetLines}
+use Rattle.sums.specs.Places.{list_below}
+
+-- what all aircraft fly so many days after the first date, one aircraft after another
+abbrev pub flown_on : Tables → FleetLines → ℕ → List ℕ
+flown_on t flown d = concat (list_below (line_on t flown d) flown.used)
+
+-- what an aircraft flies on the first so many dates, one date after another
+abbrev pub flown_by : Tables → FleetLines → ℕ → ℕ → List ℕ
+flown_by t flown k days = concat (list_below (λ d. line_on t flown d k) days)
+
+-- where the period is a day, each leg of a fleet's tour is flown on each date, by one aircraft
+abbrev pub EachLegEachDate : Type 0
+EachLegEachDate = (t : Tables) (a : List ℕ) (f : ℕ) (tour : List ℕ) (d : ℕ) → IsTour t a f tour → BeginsAfterNight t f tour → period_of t ≡ MINUTES_PER_DAY
+    → IsPermutation (flown_on t (lines_by t a f tour) d) tour
+
+-- each aircraft flies each leg of the tour once, in as many days as the tour has
+abbrev pub EachAircraftFliesAll : Type 0
+EachAircraftFliesAll = (t : Tables) (a : List ℕ) (f : ℕ) (tour : List ℕ) (k : ℕ) → IsTour t a f tour → BeginsAfterNight t f tour
+    → IsPermutation (flown_by t (lines_by t a f tour) k (used_of t (weights_of a) f * days_in t)) tour
+
+-- of a list of lines the one that is flown on a date, and on the next date the one after it, going round
+pub record IsNextLine (lines : List (List ℕ)) (today tomorrow : List ℕ) : Type 0 where
+  pub place : ℕ
+  pub within : place < length lines
+  pub today_is : today ≡ slice_index_or lines place []
+  pub tomorrow_is : tomorrow ≡ slice_index_or lines (suc place % length lines) []
+
+-- an aircraft comes to the tour's next line each day
+abbrev pub ComesToNextLine : Type 0
+ComesToNextLine = (t : Tables) (a : List ℕ) (f : ℕ) (tour : List ℕ) (d k : ℕ) → IsTour t a f tour → BeginsAfterNight t f tour
+    → IsNextLine (lines_of t f tour) (line_on t (lines_by t a f tour) d k) (line_on t (lines_by t a f tour) (suc d) k)
+
+-- a period later an aircraft flies what the next one flew
+abbrev pub FollowsNextAircraft : Type 0
+FollowsNextAircraft = (t : Tables) (flown : FleetLines) (d k : ℕ) → k < flown.used
+    → line_on t flown (d + days_in t) k ≡ line_on t flown d (suc k % flown.used)

@@ -1,0 +1,25 @@
+//! The laws of what is told leg by leg and date by date. Each function is a law: its contract is the statement, and it does
+//! nothing.
+ghost use Rattle.std.specs.Prelude.{◌≡◌, ℕ, List};
+ghost use Rattle.std.specs.List.{flat_map};
+ghost use Rattle.csv.specs.Writing.{default_writer, row_text};
+ghost use Rattle.fleet_model.specs.declared.tables.Tables.{Tables};
+ghost use Rattle.plan_report.specs.Rotations.{AreRotations};
+ghost use Rattle.plan_report.specs.declared.fleet_rotations.FleetRotation.{FleetRotation};
+ghost use Rattle.rotation_report.specs.RotationRecords.{rotation_records, rotation_text};
+ghost use Rattle.rotation_report.specs.TailLaws.{ComesToNextLine, EachAircraftFliesAll, EachLegEachDate, FollowsNextAircraft};
+
+/// The text of rotations is what the default writer of `csv` writes of its records: no field calls for quotes.
+pub fn rotations_are_written_as_csv()
+    ensures { (t : Tables) (rotations : List FleetRotation) (visits : ℕ) → AreRotations t rotations
+        → rotation_text t rotations visits ≡ flat_map (row_text default_writer) (rotation_records t rotations visits) }
+{}
+
+/// The lines of tails, over the tour. On each date its legs are flown once each, each aircraft comes to the next line
+/// each day and so flies the whole tour, and a period later it flies what the next aircraft flew.
+pub fn tails_fly_the_tour()
+    ensures each_date { EachLegEachDate }
+    ensures each_aircraft { EachAircraftFliesAll }
+    ensures next_line { ComesToNextLine }
+    ensures next_aircraft { FollowsNextAircraft }
+{}

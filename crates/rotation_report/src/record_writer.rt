@@ -1,0 +1,50 @@
+//! Records of a round: five fields each.
+ghost use Rattle.std.specs.Prelude.{[], ◌∷◌, OnOk};
+ghost use Rattle.std.specs.Fmt.{decimal};
+ghost use Rattle.plan_text.specs.CsvText.{IsBetweenRecords};
+ghost use Rattle.rotation_report.specs.RoundRows.{HasRows};
+
+use csv::Writer;
+use entries::NoMemory;
+use plan_text::record_writer::put_record;
+use std::alloc::Global;
+
+/// A round of a fleet, as its records begin.
+#[derive(Clone, Copy)]
+pub struct Round<'a> {
+    /// The name of the fleet.
+    pub name: &'a [u8],
+    /// The number of the round.
+    pub number: &'a [u8],
+}
+
+/// Writes what a record says of a round: a kind, and two fields.
+pub fn put_row(
+    writer: &mut Writer<Vec<u8>>,
+    round: Round<'_>,
+    kind: &[u8],
+    a: &[u8],
+    b: &[u8],
+) -> Result<(), NoMemory>
+    requires { IsBetweenRecords writer.old }
+    ensures { OnOk result (HasRows writer.old writer.new round.entry (record { kind = kind.now; a = a.now; b = b.now } ∷ [])) }
+{
+    put_record(writer, &[round.name, round.number, kind, a, b])
+}
+
+/// Writes what a record says of a round: a kind, and two numbers.
+pub fn put_numbers(
+    alloc: Global,
+    writer: &mut Writer<Vec<u8>>,
+    round: Round<'_>,
+    kind: &[u8],
+    a: u64,
+    b: u64,
+) -> Result<(), NoMemory>
+    requires { IsBetweenRecords writer.old }
+    ensures { OnOk result (HasRows writer.old writer.new round.entry (record { kind = kind.now; a = decimal a; b = decimal b } ∷ [])) }
+{
+    let first = a.to_string(alloc)?;
+    let second = b.to_string(alloc)?;
+    put_row(writer, round, kind, first.as_bytes(), second.as_bytes())
+}

@@ -1,0 +1,275 @@
+//! What each aircraft of a fleet, by its tail, flies on each date.
+ghost use Rattle.std.specs.Prelude.{◌≡◌, ◌++◌, ◌<◌, ◌^◌, IfOk, OnOk, length, map};
+ghost use Rattle.std.specs.List.{flat_map};
+ghost use Rattle.fleet_model.specs.Legal.{IsAssignment};
+ghost use Rattle.fleet_model.specs.Schedule.{fleets_in};
+ghost use Rattle.ground_turns.specs.Maps.{IsTour};
+ghost use Rattle.lines_of_flying.specs.Lines.{AreLegs, BeginsAfterNight};
+ghost use Rattle.calendar_dates.specs.Days.{HasDays, day_on};
+ghost use Rattle.plan_report.specs.Rotations.{AreFlown, AreRotations, IsFleetRotation, IsFlown, last_made};
+ghost use Rattle.rotation_report.specs.Tails.{AreLinesOf, dated_line, day_lines, days_lines, fleet_tails, fleets_tails, flights_text, line_on, lines_by, no_tour_line, spaced_flight, tails_text};
+
+use crate::flying::FleetLines;
+use calendar_dates::dates_from;
+use entries::NoMemory;
+use euler_rotation::Rotation;
+use fleet_model::limits::{MINUTES_PER_DAY, MINUTES_PER_PERIOD};
+use fleet_model::{Assignment, Tables};
+use jiff::civil::Date;
+use lines_of_flying::lines;
+use plan_judge::used;
+use plan_report::text_lines::push_line;
+use plan_report::{FleetRotation, rotation_words};
+use std::alloc::Global;
+
+/// The lines of tails for so many dates, from the first on: of each fleet with a tour what each of its aircraft flies on
+/// each date, and of each other fleet what became of its rotation. An aircraft comes to the next line of the tour each day.
+#[tactic(auto, unfolding(crate::specs::Tails::tails_text))]
+pub fn tail_lines(
+    alloc: Global,
+    tables: &Tables,
+    plan: &Assignment,
+    rotations: &[FleetRotation],
+    date: Date,
+    count: u32,
+) -> Result<Vec<u8>, NoMemory>
+    requires plan { IsAssignment tables.now plan.now }
+    requires rotations { AreRotations tables.now rotations.now }
+    requires tours { AreFlown tables.now plan.now rotations.now }
+    requires dates { HasDays date count }
+    ensures { IfOk result (λ text. text.items ≡ tails_text tables.now plan.now rotations.now (day_on date) count) }
+{
+    let dates = dates_from(alloc, date, count)?;
+    tails_on(alloc, tables, plan, rotations, &dates)
+}
+
+/// The lines of tails on some dates.
+fn tails_on(
+    alloc: Global,
+    tables: &Tables,
+    plan: &Assignment,
+    rotations: &[FleetRotation],
+    dates: &[Date],
+) -> Result<Vec<u8>, NoMemory>
+    requires plan { IsAssignment tables.now plan.now }
+    requires rotations { AreRotations tables.now rotations.now }
+    requires tours { AreFlown tables.now plan.now rotations.now }
+    requires few { length dates.now < 2 ^ 32 }
+    ensures { IfOk result (λ text. text.items ≡ fleets_tails tables.now plan.now rotations.now (map day_on dates.now) (length rotations.now)) }
+{
+    let mut text = Vec::new(alloc);
+    for fleet in 0..rotations.len() as u32 {
+        let made = &rotations[fleet as usize];
+        push_tails(alloc, &mut text, tables, plan, fleet, made, dates)?;
+    }
+    Ok(text)
+}
+
+/// Appends the lines of a fleet.
+fn push_tails(
+    alloc: Global,
+    text: &mut Vec<u8>,
+    tables: &Tables,
+    plan: &Assignment,
+    fleet: u32,
+    made: &FleetRotation,
+    dates: &[Date],
+) -> Result<(), NoMemory>
+    requires plan { IsAssignment tables.now plan.now }
+    requires fleet { fleet < fleets_in tables.now }
+    requires made { IsFleetRotation tables.now made.now }
+    requires tour { IsFlown tables.now plan.now fleet (last_made made.now) }
+    requires few { length dates.now < 2 ^ 32 }
+    ensures { OnOk result (text.new.items ≡ text.old.items ++ fleet_tails tables.now plan.now fleet made.now (map day_on dates.now)) }
+{
+    match last_made(made) {
+        Rotation::Tour(tour) => {
+            push_tour(alloc, text, tables, plan, fleet, tour.as_slice(), dates)
+        }
+        _ => push_no_tour(alloc, text, tables, fleet, made),
+    }
+}
+
+/// Appends the lines of a fleet that has a tour.
+fn push_tour(
+    alloc: Global,
+    text: &mut Vec<u8>,
+    tables: &Tables,
+    plan: &Assignment,
+    fleet: u32,
+    tour: &[u32],
+    dates: &[Date],
+) -> Result<(), NoMemory>
+    requires plan { IsAssignment tables.now plan.now }
+    requires fleet { fleet < fleets_in tables.now }
+    requires tour { IsTour tables.now plan.now fleet tour.now }
+    requires begins { BeginsAfterNight tables.now fleet tour.now }
+    requires few { length dates.now < 2 ^ 32 }
+    ensures { OnOk result (text.new.items ≡ text.old.items ++ days_lines tables.now (lines_by tables.now plan.now fleet tour.now) (map day_on dates.now) (length (map day_on dates.now))) }
+{
+    let flown = lines_by(alloc, tables, plan, fleet, tour)?;
+    push_days(alloc, text, tables, &flown, dates)
+}
+
+/// The rotation that was made last: without through pairs, where these were given up.
+fn last_made(made: &FleetRotation) -> &Rotation
+    ensures { result.now ≡ last_made made.now }
+{
+    match &made.second {
+        Some(second) => second,
+        None => &made.first,
+    }
+}
+
+/// Appends `F: A` of a fleet that has no tour.
+fn push_no_tour(
+    alloc: Global,
+    text: &mut Vec<u8>,
+    tables: &Tables,
+    fleet: u32,
+    made: &FleetRotation,
+) -> Result<(), NoMemory>
+    requires fleet { fleet < fleets_in tables.now }
+    requires made { IsFleetRotation tables.now made.now }
+    ensures { OnOk result (text.new.items ≡ text.old.items ++ no_tour_line tables.now fleet made.now) }
+{
+    let words = rotation_words(alloc, tables, fleet, made)?;
+    push_line(
+        text,
+        &[
+            tables.fleet(fleet).name.as_slice(),
+            b": ".as_slice(),
+            words.as_bytes(),
+        ],
+    )
+}
+
+/// The lines of a tour, and the aircraft that fly them.
+fn lines_by(
+    alloc: Global,
+    tables: &Tables,
+    plan: &Assignment,
+    fleet: u32,
+    tour: &[u32],
+) -> Result<FleetLines, NoMemory>
+    requires plan { IsAssignment tables.now plan.now }
+    requires fleet { fleet < fleets_in tables.now }
+    requires tour { IsTour tables.now plan.now fleet tour.now }
+    requires begins { BeginsAfterNight tables.now fleet tour.now }
+    ensures value { IfOk result (λ flown. flown ≡ lines_by tables.now plan.now fleet tour.now) }
+    ensures fits { IfOk result (AreLinesOf tables.now) }
+{
+    Ok(FleetLines {
+        fleet,
+        used: used(tables, plan, fleet),
+        lines: lines(alloc, tables, plan, fleet, tour)?,
+    })
+}
+
+/// Appends the lines of all aircraft on some days.
+fn push_days(
+    alloc: Global,
+    text: &mut Vec<u8>,
+    tables: &Tables,
+    flown: &FleetLines,
+    dates: &[Date],
+) -> Result<(), NoMemory>
+    requires flown { AreLinesOf tables.now flown.now }
+    requires few { length dates.now < 2 ^ 32 }
+    ensures { OnOk result (text.new.items ≡ text.old.items ++ days_lines tables.now flown.now (map day_on dates.now) (length dates.now)) }
+{
+    for day in 0..dates.len() as u32 {
+        push_day(alloc, text, tables, flown, dates[day as usize], day)?;
+    }
+    Ok(())
+}
+
+/// Appends the lines of all aircraft on a date, so many days after the first one.
+fn push_day(
+    alloc: Global,
+    text: &mut Vec<u8>,
+    tables: &Tables,
+    flown: &FleetLines,
+    date: Date,
+    day: u32,
+) -> Result<(), NoMemory>
+    requires { AreLinesOf tables.now flown.now }
+    ensures { OnOk result (text.new.items ≡ text.old.items ++ day_lines tables.now flown.now (day_on date) day flown.now.used) }
+{
+    let date = date.to_string(alloc)?;
+    for aircraft in 0..flown.used {
+        push_tail(alloc, text, tables, flown, &date, day, aircraft)?;
+    }
+    Ok(())
+}
+
+/// Appends `DATE F/K: FLIGHTS` of the aircraft after so many, so many days after the first date.
+fn push_tail(
+    alloc: Global,
+    text: &mut Vec<u8>,
+    tables: &Tables,
+    flown: &FleetLines,
+    date: &str,
+    day: u32,
+    aircraft: u32,
+) -> Result<(), NoMemory>
+    requires flown { AreLinesOf tables.now flown.now }
+    requires aircraft { aircraft < flown.now.used }
+    ensures { OnOk result (text.new.items ≡ text.old.items ++ dated_line tables.now flown.now date.now day aircraft) }
+{
+    let number = (aircraft + 1).to_string(alloc)?;
+    let flights = flights_text(alloc, tables, line_on(tables, flown, day, aircraft))?;
+    push_line(
+        text,
+        &[
+            date.as_bytes(),
+            b" ".as_slice(),
+            tables.fleet(flown.fleet).name.as_slice(),
+            b"/".as_slice(),
+            number.as_bytes(),
+            b":".as_slice(),
+            flights.as_slice(),
+        ],
+    )
+}
+
+/// The line that an aircraft flies so many days after the first date: it begins a period after the one before it, and
+/// comes to the next line each day. Takes no memory.
+fn line_on<'a>(tables: &Tables, flown: &'a FleetLines, day: u32, aircraft: u32) -> &'a [u32]
+    requires flown { AreLinesOf tables.now flown.now }
+    requires aircraft { aircraft < flown.now.used }
+    ensures value { result.now ≡ line_on tables.now flown.now day aircraft }
+    ensures legs { AreLegs tables.now result.now }
+{
+    let days = usize::from(MINUTES_PER_PERIOD / MINUTES_PER_DAY);
+    let place = (aircraft as usize * days + day as usize) % (flown.used as usize * days);
+    flown.lines.as_slice()[place].as_slice()
+}
+
+/// The flights of a line, each after a space, and a dash where it has none.
+fn flights_text(alloc: Global, tables: &Tables, legs: &[u32]) -> Result<Vec<u8>, NoMemory>
+    requires { AreLegs tables.now legs.now }
+    ensures { IfOk result (λ text. text.items ≡ flights_text tables.now legs.now) }
+{
+    match legs.split_first() {
+        None => {
+            let mut dash = Vec::new(alloc);
+            dash.extend_from_slice(b" -")?;
+            Ok(dash)
+        }
+        Some(_) => spaced_flights(alloc, tables, legs),
+    }
+}
+
+/// The flights of legs, each after a space.
+fn spaced_flights(alloc: Global, tables: &Tables, legs: &[u32]) -> Result<Vec<u8>, NoMemory>
+    requires { AreLegs tables.now legs.now }
+    ensures { IfOk result (λ text. text.items ≡ flat_map (spaced_flight tables.now) legs.now) }
+{
+    let mut text = Vec::new(alloc);
+    for leg in legs {
+        text.push(b' ')?;
+        text.extend_from_slice(tables.leg(*leg).flight.as_slice())?;
+    }
+    Ok(text)
+}

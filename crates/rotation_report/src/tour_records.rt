@@ -1,0 +1,115 @@
+//! The records of a tour: its legs, and the nights after each.
+ghost use Rattle.std.specs.Prelude.{◌≡◌, ◌<◌, [], ◌∷◌, OnOk, codes, length, map, replicate};
+ghost use Rattle.fleet_model.specs.Schedule.{fleets_in};
+ghost use Rattle.ground_turns.specs.Maps.{turn_after};
+ghost use Rattle.ground_turns.specs.Nights.{nights_in_turn};
+ghost use Rattle.plan_text.specs.CsvText.{IsBetweenRecords};
+ghost use Rattle.rotation_report.specs.RoundRows.{HasRows};
+ghost use Rattle.rotation_report.specs.RotationRecords.{begun_tour_rows, leg_row, night_row, yes_no};
+ghost use Rattle.plan_report.specs.Rotations.{AreListed};
+
+use crate::record_writer::{Round, put_numbers, put_row};
+use csv::Writer;
+use entries::NoMemory;
+use fleet_model::{Tables, nights};
+use lines_of_flying::nights_after;
+use plan_report::words::days_of;
+use std::alloc::Global;
+
+/// Writes a tour.
+pub fn put_tour(
+    alloc: Global,
+    writer: &mut Writer<Vec<u8>>,
+    round: Round<'_>,
+    tables: &Tables,
+    fleet: u32,
+    tour: &[u32],
+) -> Result<(), NoMemory>
+    requires between { IsBetweenRecords writer.old }
+    requires fleet { fleet < fleets_in tables.now }
+    requires tour { AreListed tables.now tour.now }
+    ensures { OnOk result (HasRows writer.old writer.new round.entry (begun_tour_rows tables.now fleet tour.now (length tour.now))) }
+{
+    let days = days_of(tables, fleet, tour);
+    put_numbers(alloc, writer, round, b"tour", days, tour.len() as u64)?;
+    for place in 0..tour.len() {
+        put_leg(alloc, writer, round, tables, fleet, tour, place)?;
+        put_nights(writer, round, tables, fleet, tour, place)?;
+    }
+    Ok(())
+}
+
+/// Writes a leg of a tour.
+fn put_leg(
+    alloc: Global,
+    writer: &mut Writer<Vec<u8>>,
+    round: Round<'_>,
+    tables: &Tables,
+    fleet: u32,
+    tour: &[u32],
+    place: usize,
+) -> Result<(), NoMemory>
+    requires between { IsBetweenRecords writer.old }
+    requires fleet { fleet < fleets_in tables.now }
+    requires tour { AreListed tables.now tour.now }
+    requires place { place < length tour.now }
+    ensures { OnOk result (HasRows writer.old writer.new round.entry (leg_row tables.now fleet tour.now place ∷ [])) }
+{
+    let flight = tables.leg(tour[place]).flight.as_slice();
+    let nights = nights_after(tables, fleet, tour, place).to_string(alloc)?;
+    put_row(writer, round, b"leg", flight, nights.as_bytes())
+}
+
+/// Writes the nights after a leg of a tour: those in its flight and its turn, and those in the wait that follows.
+fn put_nights(
+    writer: &mut Writer<Vec<u8>>,
+    round: Round<'_>,
+    tables: &Tables,
+    fleet: u32,
+    tour: &[u32],
+    place: usize,
+) -> Result<(), NoMemory>
+    requires between { IsBetweenRecords writer.old }
+    requires fleet { fleet < fleets_in tables.now }
+    requires tour { AreListed tables.now tour.now }
+    requires place { place < length tour.now }
+    ensures { OnOk result (HasRows writer.old writer.new round.entry (map (night_row tables.now) (nights_in_turn tables.now fleet (turn_after tour.now place)))) }
+{
+    let leg = tour[place];
+    let aloft = nights(tables, leg, fleet);
+    let waited = nights_after(tables, fleet, tour, place) - aloft;
+    let station = tables.station(tables.leg(leg).to);
+    put_same(writer, round, aloft, b"-", b"aloft")?;
+    put_same(
+        writer,
+        round,
+        waited,
+        station.code.as_slice(),
+        yes_no(station.maintenance),
+    )?;
+    Ok(())
+}
+
+/// `yes` or `no`.
+fn yes_no(maintained: bool) -> &'static [u8]
+    ensures { result.now ≡ yes_no maintained }
+{
+    if maintained { b"yes" } else { b"no" }
+}
+
+/// Writes one night so many times.
+fn put_same(
+    writer: &mut Writer<Vec<u8>>,
+    round: Round<'_>,
+    count: u32,
+    a: &[u8],
+    b: &[u8],
+) -> Result<(), NoMemory>
+    requires between { IsBetweenRecords writer.old }
+    ensures { OnOk result (HasRows writer.old writer.new round.entry (replicate count (record { kind = codes "night"; a = a.now; b = b.now }))) }
+{
+    for _ in 0..count {
+        put_row(writer, round, b"night", a, b)?;
+    }
+    Ok(())
+}
