@@ -1,13 +1,12 @@
 //! The summary of a solution and its rotations as JSON.
-ghost use Rattle.std.specs.Prelude.{◌≡◌, ◌<◌, IfOk, OnOk, length, map};
-ghost use Rattle.dual_bound.specs.Leaves.{counts_of};
-ghost use Rattle.branch_bound.specs.Solved.{PlanFits, plan_cost, tree_of};
+ghost use Rattle.std.specs.Prelude.{◌≡◌, ◌<◌, IfOk, IsOkAnd, OnOk, length, map};
+ghost use Rattle.branch_bound.specs.Solved.{PlanFits, plan_cost};
 ghost use Rattle.fleet_model.specs.Legal.{IsAssignment};
 ghost use Rattle.fleet_model.specs.Schedule.{fleet_of, fleets_in};
-ghost use Rattle.plan_report.specs.Json.{fleet_data, fleets_data, json_text, number_data, open_data, rotation_data, rotations_data, summary_data};
+ghost use Rattle.plan_report.specs.Json.{count_data, fleet_data, fleets_data, json_text, number_data, open_data, rotation_data, rotations_data, summary_data};
 ghost use Rattle.plan_report.specs.Rotations.{AreRotations};
 ghost use Rattle.plan_report.specs.Summary.{outcome_word, printed_bound};
-ghost use Rattle.serde_json.specs.Data.{array, no_members, object, string};
+ghost use Rattle.serde_json.specs.Data.{array, no_members, object, put as put_member, string};
 ghost use Rattle.serde_json.specs.View.{items_of, members_view, view};
 ghost use Rattle.sums.specs.Places.{list_below};
 
@@ -19,7 +18,7 @@ use dual_bound::TreeCounts;
 use entries::NoMemory;
 use fleet_model::{Assignment, Tables};
 use plan_judge::used;
-use serde_json::{Map, Value, json, put};
+use serde_json::{Map, Value, put};
 use std::alloc::Global;
 
 /// The summary of a solution and its rotations as JSON: one object in one line. Cost and bound are texts, since they may be
@@ -71,15 +70,49 @@ fn put_members(
     ensures { OnOk result (object (members_view members.new.entries) ≡ summary_data tables.now solved.now rotations.now) }
 {
     let counts = solved.tree().counts();
-    put(members, alloc, "bound", bound_value(alloc, solved)?)?;
-    put(members, alloc, "cost", cost_value(alloc, solved)?)?;
-    let fleets = fleets_value(alloc, tables, solved)?;
-    put(members, alloc, "fleets", fleets)?;
-    put(members, alloc, "open", open_value(alloc, &counts)?)?;
-    put(members, alloc, "outcome", outcome_value(alloc, solved)?)?;
-    let words = rotations_value(alloc, tables, solved, rotations)?;
-    put(members, alloc, "rotations", words)?;
-    put(members, alloc, "splits", Value::from(counts.splits))?;
+    put_made(alloc, members, "bound", bound_value(alloc, solved))?;
+    put_made(alloc, members, "cost", cost_value(alloc, solved))?;
+    put_made(
+        alloc,
+        members,
+        "fleets",
+        fleets_value(alloc, tables, solved),
+    )?;
+    put_made(alloc, members, "open", open_value(alloc, &counts))?;
+    put_made(alloc, members, "outcome", outcome_value(alloc, solved))?;
+    put_made(
+        alloc,
+        members,
+        "rotations",
+        rotations_value(alloc, tables, solved, rotations),
+    )?;
+    put_count(alloc, members, "splits", counts.splits)?;
+    Ok(())
+}
+
+/// Puts what was made under a key.
+fn put_made(
+    alloc: Global,
+    members: &mut Map<String, Value>,
+    key: &str,
+    made: Result<Value, NoMemory>,
+) -> Result<(), NoMemory>
+    ensures { OnOk result (IsOkAnd made (λ value. members_view members.new.entries ≡ put_member key.now (view value) (members_view members.old.entries))) }
+{
+    put(members, alloc, key, made?)?;
+    Ok(())
+}
+
+/// Puts a count under a key.
+fn put_count(
+    alloc: Global,
+    members: &mut Map<String, Value>,
+    key: &str,
+    count: u64,
+) -> Result<(), NoMemory>
+    ensures { OnOk result (members_view members.new.entries ≡ put_member key.now (count_data count) (members_view members.old.entries)) }
+{
+    put(members, alloc, key, Value::from(count))?;
     Ok(())
 }
 
@@ -116,12 +149,24 @@ fn cost_value(alloc: Global, solved: &Solved) -> Result<Value, NoMemory>
 fn open_value(alloc: Global, counts: &TreeCounts) -> Result<Value, NoMemory>
     ensures { IfOk result (λ value. view value ≡ open_data counts.now) }
 {
-    let object = json!(in alloc; {
-        "grew": counts.open_grew,
-        "nodes": counts.open_nodes,
-        "pivots": counts.open_pivots
-    })?;
-    Ok(object)
+    let mut object = Map::new(alloc);
+    put_open(alloc, &mut object, counts)?;
+    Ok(Value::Object(object))
+}
+
+/// Puts the open leaves by cause into an object that has no members.
+fn put_open(
+    alloc: Global,
+    members: &mut Map<String, Value>,
+    counts: &TreeCounts,
+) -> Result<(), NoMemory>
+    requires { members_view members.old.entries ≡ no_members }
+    ensures { OnOk result (object (members_view members.new.entries) ≡ open_data counts.now) }
+{
+    put_count(alloc, members, "grew", counts.open_grew)?;
+    put_count(alloc, members, "nodes", counts.open_nodes)?;
+    put_count(alloc, members, "pivots", counts.open_pivots)?;
+    Ok(())
 }
 
 /// The fleets, where there is a plan.
@@ -160,12 +205,41 @@ fn fleet_value(
     requires fleet { fleet < fleets_in tables.now }
     ensures { IfOk result (λ value. view value ≡ fleet_data tables.now plan.now fleet) }
 {
-    let object = json!(in alloc; {
-        "has": tables.fleet(fleet).aircraft,
-        "name": fleet_name(tables, fleet),
-        "used": used(tables, plan, fleet)
-    })?;
-    Ok(object)
+    let mut object = Map::new(alloc);
+    put_fleet(alloc, &mut object, tables, plan, fleet)?;
+    Ok(Value::Object(object))
+}
+
+/// Puts a fleet's aircraft into an object that has no members.
+fn put_fleet(
+    alloc: Global,
+    members: &mut Map<String, Value>,
+    tables: &Tables,
+    plan: &Assignment,
+    fleet: u32,
+) -> Result<(), NoMemory>
+    requires plan { IsAssignment tables.now plan.now }
+    requires fleet { fleet < fleets_in tables.now }
+    requires none { members_view members.old.entries ≡ no_members }
+    ensures { OnOk result (object (members_view members.new.entries) ≡ fleet_data tables.now plan.now fleet) }
+{
+    put_count(
+        alloc,
+        members,
+        "has",
+        u64::from(tables.fleet(fleet).aircraft),
+    )?;
+    put_made(alloc, members, "name", name_value(alloc, tables, fleet))?;
+    put_count(alloc, members, "used", u64::from(used(tables, plan, fleet)))?;
+    Ok(())
+}
+
+/// The name of a fleet as a value.
+fn name_value(alloc: Global, tables: &Tables, fleet: u32) -> Result<Value, NoMemory>
+    requires { fleet < fleets_in tables.now }
+    ensures { IfOk result (λ value. view value ≡ string (fleet_of tables.now fleet).name) }
+{
+    Ok(Value::String(String::from_str(alloc, fleet_name(tables, fleet))?))
 }
 
 /// The name of a fleet as text.
