@@ -1,10 +1,10 @@
 -- How often the desk is called.
-use Rattle.std.proofs.Common.{◌≡◌, ℕ, zero, suc, ◌+◌, ◌<◌, ◌≤◌, List, length, Option, Some, None, refl, sym, ap, ◌∙◌, arith}
+use Rattle.std.proofs.Common.{◌≡◌, ℕ, zero, suc, ◌+◌, ◌<◌, ◌≤◌, length, Option, Some, None, refl, ap, ◌∙◌, arith}
 use Rattle.command_words.specs.Words.{Asked, check, judge, make, solve, tails}
 use Rattle.plan_desk.specs.Counts.{CallsAtMost, more_times, once_more}
 use Rattle.plan_desk.specs.declared.file.DeskFile.TheVariants as file
 use Rattle.fleet_cli.specs.Contents.{FileBytes}
-use Rattle.fleet_cli.specs.Reading.{Follows, first_files, most_calls, most_reads, written_files}
+use Rattle.fleet_cli.specs.Reading.{Follows, first_files, most_calls, most_reads}
 
 -- one call after n of them
 pub after_one_more : (n : ℕ) (before mid now : Option ℕ) → mid ≡ more_times n before → now ≡ once_more mid → now ≡ more_times (n + 1) before

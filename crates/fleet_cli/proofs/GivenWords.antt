@@ -1,8 +1,8 @@
 -- What holds of the words of a call, where they are given.
-use Rattle.std.proofs.Common.{◌≡◌, ℕ, List, Option, Some, None, IfSome, inl, inr, refl, sym, ◌∙◌, subst}
+use Rattle.std.proofs.Common.{◌≡◌, ℕ, List, Option, Some, None, IfSome, inl, refl, sym, ◌∙◌, subst}
 use Rattle.command_words.specs.Words.{Asked, asked}
 use Rattle.fleet_cli.proofs.CallFacts.{no_calls}
-use Rattle.fleet_cli.proofs.Others.{nothing_written, refusal_ends}
+use Rattle.fleet_cli.proofs.Others.{nothing_written}
 use Rattle.fleet_cli.proofs.RunFacts.{fault_not_memory, usage_known}
 use Rattle.fleet_cli.specs.Ran.{Ran, Told}
 use Rattle.fleet_cli.specs.Reading.{folder_of, written_files}

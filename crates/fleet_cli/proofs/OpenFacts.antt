@@ -1,5 +1,5 @@
 -- What the tables and the proof of a folder come to.
-use Rattle.std.proofs.Common.{◌≡◌, ◌⊎◌, ℕ, Bool, true, false, List, Some, Ok, refl, sym, ap, subst, ◌∙◌, inl, inr}
+use Rattle.std.proofs.Common.{◌≡◌, ◌⊎◌, ℕ, Bool, true, false, List, Some, None, Result, Ok, Err, IfOk, IsOkAnd, refl, sym, ap, subst, ◌∙◌, inl, inr}
 use Rattle.bound_cert.specs.Lines.{Reading}
 use Rattle.dual_bound.specs.Nodes.{nodes_of}
 use Rattle.bound_cert.specs.ReadProof.{ReadsAs}
@@ -11,7 +11,8 @@ use Rattle.fleet_model.specs.declared.tables.Tables.{Tables}
 use Rattle.plan_desk.specs.declared.file.DeskFile.TheVariants as file
 use Rattle.sched_read.proofs.ReadLaws as tables
 use Rattle.sched_read.specs.Reading.{Reads, TableBytes}
-use Rattle.fleet_cli.specs.Answer.{ChecksProof, RefusesProof, RefusesTables}
+use Rattle.entries.specs.declared.memory.NoMemory.{NoMemory}
+use Rattle.fleet_cli.specs.Answer.{ChecksProof, ChecksTree, RefusesProof, RefusesTables}
 use Rattle.fleet_cli.specs.Contents.{FileBytes, table_bytes}
 use Rattle.fleet_cli.specs.Opened.{ChecksAlone, IsOpened, IsOpenedBy, Settles}
 use Rattle.fleet_cli.specs.Reading.{WantsPlan}
@@ -81,3 +82,20 @@ module _ (dir : List ℕ) (settings : Settings) (bytes : FileBytes) where
         });
       });
     }
+
+-- ---- an answer as what a proof comes to
+unfoldable comes_to : Tables → List ℕ → Opened → Type 0
+comes_to t text o = IsOpenedBy t text o
+
+pub opens_answer : (t : Tables) (text : List ℕ) (given : Result Answer NoMemory) (result : Result Opened NoMemory) → IfOk given (λ answer. RefusesProof t text answer ⊎ ChecksAlone t text answer)
+    → IfOk result (λ o. IsOkAnd given (λ answer. o ≡ opened.Answered answer)) → IfOk result (IsOpenedBy t text)
+unfolding comes_to
+opens_answer t text (Ok answer) (Ok o) by is = subst (comes_to t text) (sym is) by
+opens_answer t text (Err error) (Ok o) by is = absurd is
+opens_answer t text given (Err other) by is = tt
+
+-- a proof that reads, and says that no plan comes with it
+pub opens_alone : (t : Tables) (text : List ℕ) (proof : Proof) (given : Result Answer NoMemory) → ReadsAs t text proof → proof.planned ≡ false → IfOk given (ChecksTree t None proof.tree)
+    → IfOk given (λ answer. RefusesProof t text answer ⊎ ChecksAlone t text answer)
+opens_alone t text proof (Ok answer) reads alone checks = inr (record { proof = proof; reads = reads; alone = alone; checks = checks })
+opens_alone t text proof (Err error) reads alone checks = tt

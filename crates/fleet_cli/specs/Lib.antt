@@ -3,6 +3,7 @@ pub mod Awaited
 pub mod Contents
 pub mod Failed
 pub mod Gathered
+pub mod Gave
 pub mod Headline
 pub mod Laws
 pub mod MadeSolved

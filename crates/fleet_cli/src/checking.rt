@@ -1,10 +1,12 @@
 //! The command `check`: whether the proof of a folder proves its bound, and whether the plan that comes with it is legal.
-ghost use Rattle.std.specs.Prelude.{◌≡◌, ◌⊎◌, ℕ, List, Some, IfOk, IfSome, option_map, true};
+ghost use Rattle.std.specs.Prelude.{◌≡◌, ◌⊎◌, ℕ, List, Some, IfOk, IfSome, IsOkAnd, option_map, true};
 ghost use Rattle.dual_bound.specs.OfTables.{IsOfTables};
+ghost use Rattle.bound_cert.specs.ReadProof.{ReadsAs};
 ghost use Rattle.command_words.specs.Words.{check};
 ghost use Rattle.fleet_cli.specs.Answer.{ChecksLegal, ChecksProof, ChecksTree, RefusesVerdict, checked_status};
 ghost use Rattle.fleet_cli.specs.Contents.{content_of};
 ghost use Rattle.fleet_cli.specs.Opened.{IsOpened, IsOpenedBy};
+ghost use Rattle.fleet_cli.specs.declared.opened.Opened.TheVariants.{Answered};
 ghost use Rattle.fleet_model.specs.Legal.{IsAssignment, IsLegal, total_cost};
 ghost use Rattle.fleet_model.specs.Limits.{AreSettings};
 
@@ -16,7 +18,7 @@ use crate::opened::{Checking, Opened};
 use crate::refusing::{plan_fault, proof_fault};
 use crate::status::{DONE, REFUSED};
 use crate::texts::checked_line;
-use bound_cert::{CertError, read_proof};
+use bound_cert::{CertError, Proof, read_proof};
 use cert_check::{Checked, check};
 use dual_bound::Tree;
 use entries::NoMemory;
@@ -46,17 +48,29 @@ fn open_proof(alloc: Global, tables: Tables, bytes: &[u8]) -> Result<Opened, NoM
     ensures { IfOk result (IsOpenedBy tables bytes.now) }
 {
     match read_proof(alloc, &tables, bytes) {
-        Ok(proof) => {
-            if proof.planned {
-                Ok(Opened::WantsPlan(Checking { tables, proof }))
-            } else {
-                let answer = check_tree(alloc, &tables, None, None, &proof.tree)?;
-                Ok(Opened::Answered(answer))
-            }
-        }
-        Err(CertError::Fault(fault)) => Ok(Opened::Answered(proof_fault(alloc, fault)?)),
+        Ok(proof) => open_read(alloc, tables, proof),
+        Err(CertError::Fault(fault)) => answered(proof_fault(alloc, fault)),
         Err(CertError::NoMemory) => Err(NoMemory),
     }
+}
+
+/// What a proof that reads comes to.
+fn open_read(alloc: Global, tables: Tables, proof: Proof) -> Result<Opened, NoMemory>
+    requires { IsOfTables tables proof.tree }
+    ensures { (text : List ℕ) → ReadsAs tables text proof → IfOk result (IsOpenedBy tables text) }
+{
+    if proof.planned {
+        Ok(Opened::WantsPlan(Checking { tables, proof }))
+    } else {
+        answered(check_tree(alloc, &tables, None, None, &proof.tree))
+    }
+}
+
+/// An answer, where there was memory for it, as what the first files come to.
+fn answered(answer: Result<Answer, NoMemory>) -> Result<Opened, NoMemory>
+    ensures { IfOk result (λ opened. IsOkAnd answer (λ given. opened ≡ Answered given)) }
+{
+    Ok(Opened::Answered(answer?))
 }
 
 /// Checks a tree with a plan, by the plan's bytes. The plan is judged before the tree.

@@ -1,5 +1,5 @@
 //! The command `make`: tables of a number, and a plan for them with a bound, its proof and its rotations.
-ghost use Rattle.std.specs.Prelude.{◌≡◌, ◌++◌, [], ◌∷◌, IfOk};
+ghost use Rattle.std.specs.Prelude.{◌≡◌, ◌++◌, [], ◌∷◌, IfOk, IsOkAnd};
 ghost use Rattle.command_words.specs.declared.command.TheConstants.{DEFAULT_OPTIONS, DEFAULT_SETTINGS};
 ghost use Rattle.fleet_cli.specs.Answer.{Makes, SolvesTables};
 ghost use Rattle.fleet_cli.specs.Making.{after_files, made_files};
@@ -78,21 +78,22 @@ fn after_tables(alloc: Global, made: MadeTables, solving: Answer) -> Result<Answ
 fn made_files(alloc: Global, made: MadeTables) -> Result<Vec<FileText>, NoMemory>
     ensures { IfOk result (λ files. files.items ≡ made_files made) }
 {
-    let files = with_file(Vec::new(alloc), DeskFile::Stations, made.stations)?;
-    let files = with_file(files, DeskFile::Fleets, made.fleets)?;
-    let files = with_file(files, DeskFile::Legs, made.legs)?;
-    let files = with_file(files, DeskFile::Costs, made.costs)?;
+    let files = with_file(Ok(Vec::new(alloc)), DeskFile::Stations, made.stations);
+    let files = with_file(files, DeskFile::Fleets, made.fleets);
+    let files = with_file(files, DeskFile::Legs, made.legs);
+    let files = with_file(files, DeskFile::Costs, made.costs);
     with_file(files, DeskFile::Throughs, made.throughs)
 }
 
-/// The files, and one of these bytes behind them.
+/// The files, and one of these bytes behind them, where there was memory for those before.
 fn with_file(
-    mut files: Vec<FileText>,
+    files: Result<Vec<FileText>, NoMemory>,
     file: DeskFile,
     bytes: Entries<u8>,
 ) -> Result<Vec<FileText>, NoMemory>
-    ensures { IfOk result (λ all. all.items ≡ files.items ++ record { file = file; bytes = bytes } ∷ []) }
+    ensures { IfOk result (λ all. IsOkAnd files (λ old. all.items ≡ old.items ++ record { file = file; bytes = bytes } ∷ [])) }
 {
+    let mut files = files?;
     files.push(FileText { file, bytes })?;
     Ok(files)
 }

@@ -1,6 +1,8 @@
 ghost use Rattle.std.specs.Prelude.{◌≡◌, ◌≢◌, ◌⊎◌, ◌+◌, None, IfSome, IsSome, IsSomeAnd, length, map, string_bytes};
 ghost use Rattle.fleet_cli.specs.Reading.{NamesStand, most_calls};
+ghost use Rattle.fleet_cli.specs.Gave.{Gave};
 ghost use Rattle.fleet_cli.specs.Headline.{Headline};
+ghost use Rattle.fleet_cli.specs.Ran.{telling};
 ghost use Rattle.fleet_cli.specs.Run.{AnswersExactly, AnswersInFull, BlamesMissing, CountsOneFault, FailsAt, IsAnswered, IsComplete, IsEnd, IsRefusal, KeepsOthers, LeavesFiles, PutsFault, PutsPart, SomeInFull};
 ghost use Rattle.fleet_cli.specs.Texts.{usage_text};
 ghost use Rattle.command_words.specs.Words.{asked};
@@ -103,25 +105,9 @@ fn give<D: Desk, S: Sink>(
     answer: &Answer,
 ) -> Status
     requires { IsEnd answer.now.status.code }
-    ensures status { IsAnswered result.code (result ≡ answer.now.status) }
-    ensures written { IsAnswered result.code (D.holds desk.new ≡ held_with_texts (D.holds desk.old) dir.now answer.now.files) }
-    ensures lengths { IsAnswered result.code (HaveLengths answer.now.files) }
-    ensures stands { StandsAfter dir.now answer.now.files (D.holds desk.old) (D.holds desk.new) }
-    ensures put { IsAnswered result.code (S.output out.new ≡ output_with (S.output out.old) answer.now.text) }
-    ensures handed { IsAnswered result.code (S.handed out.new ≡ handed_with (S.handed out.old) answer.now.text) }
-    ensures stopped_by_fault { result.code ≡ FAULT →
-        (D.faults desk.new ≡ counted (D.faults desk.old) 1) × PutsFault (D.blamed desk.new) (S.output out.old) (S.output out.new) (S.handed out.old) (S.handed out.new) × WriteFails dir.now answer.now.files (D.holds desk.old) (D.holds desk.new) (D.blamed desk.new)
-        ⊎ (D.faults desk.new ≡ D.faults desk.old) × (D.holds desk.new ≡ held_with_texts (D.holds desk.old) dir.now answer.now.files) × AppendsPrefix answer.now.text (S.output out.old) (S.output out.new) × (S.handed out.new ≡ handed_with (S.handed out.old) answer.now.text) }
-    ensures stopped_by_memory { result.code ≡ NO_MEMORY → WritesFirst dir.now answer.now.files (D.holds desk.old) (D.holds desk.new) }
-    ensures nothing_put { result.code ≡ NO_MEMORY → S.output out.new ≡ S.output out.old }
-    ensures one_fault { result.code ≡ FAULT → CountsOneFault (D.faults desk.old) (D.faults desk.new) (S.faults out.old) (S.faults out.new) }
-    ensures quiet_desk { result.code ≢ FAULT → D.faults desk.new ≡ D.faults desk.old }
-    ensures quiet_sink { result.code ≢ FAULT → S.faults out.new ≡ S.faults out.old }
-    ensures taken { D.taken desk.new ≡ D.taken desk.old }
-    ensures calls { CallsAtMost (length answer.now.files) (D.calls desk.old) (D.calls desk.new) }
-    ensures steady { D.is_steady desk.old → S.is_steady out.old → result.code ≢ FAULT }
-    ensures one_put { result.code ≢ NO_MEMORY → S.puts out.new ≡ once_more (S.puts out.old) }
-    ensures one_put_at_most { (S.puts out.new ≡ S.puts out.old) ⊎ (S.puts out.new ≡ once_more (S.puts out.old)) }
+    ensures { Gave (D.is_steady desk.old) (S.is_steady out.old) dir.now answer.now result
+        (telling (D.holds desk.old) (D.blamed desk.old) (D.faults desk.old) (D.taken desk.old) (D.calls desk.old) (S.output out.old) (S.puts out.old) (S.handed out.old) (S.faults out.old))
+        (telling (D.holds desk.new) (D.blamed desk.new) (D.faults desk.new) (D.taken desk.new) (D.calls desk.new) (S.output out.new) (S.puts out.new) (S.handed out.new) (S.faults out.new)) }
 {
     match write_all(alloc, desk, dir, answer.files.as_slice()) {
         Ok(()) => put_answer(out, answer.text.as_slice(), answer.status),

@@ -1,5 +1,5 @@
 //! What is printed and written of a solution and the rotations of its plan.
-ghost use Rattle.std.specs.Prelude.{◌≡◌, IfOk};
+ghost use Rattle.std.specs.Prelude.{◌≡◌, ◌++◌, [], ◌∷◌, IfOk, OnOk};
 ghost use Rattle.dual_bound.specs.OfTables.{IsOfTables};
 ghost use Rattle.branch_bound.specs.Solved.{PlanFits, tree_of};
 ghost use Rattle.fleet_cli.specs.Solution.{plan_file, printed_text, proof_file, rotation_file, solved_files, solved_status};
@@ -65,6 +65,25 @@ pub fn solved_files(
     ensures { IfOk result (λ files. files.items ≡ solved_files tables.now solved.now rotations.now visits) }
 {
     let mut files = Vec::new(alloc);
+    add_files(alloc, &mut files, tables, solved, rotations, visits)?;
+    Ok(files)
+}
+
+/// Puts these files behind those so far.
+#[tactic(auto, unfolding(crate::specs::Solution::solved_files))]
+fn add_files(
+    alloc: Global,
+    files: &mut Vec<FileText>,
+    tables: &Tables,
+    solved: &Solved,
+    rotations: &[FleetRotation],
+    visits: u32,
+) -> Result<(), NoMemory>
+    requires plan { PlanFits tables.now solved.now }
+    requires tree { IsOfTables tables.now (tree_of solved.now) }
+    requires rotations { AreRotations tables.now rotations.now }
+    ensures { OnOk result (files.new.items ≡ files.old.items ++ solved_files tables.now solved.now rotations.now visits) }
+{
     match solved {
         Solved::Planned {
             assignment,
@@ -72,15 +91,31 @@ pub fn solved_files(
             ..
         } => {
             files.push(plan_file(alloc, tables, assignment)?)?;
-            files.push(proof_file(alloc, tables, true, tree)?)?;
-            files.push(rotation_file(alloc, tables, rotations, visits)?)?;
+            add_proof(alloc, files, tables, true, tree, rotations, visits)
         }
         Solved::Infeasible { tree } | Solved::Unsettled { tree, .. } => {
-            files.push(proof_file(alloc, tables, false, tree)?)?;
-            files.push(rotation_file(alloc, tables, rotations, visits)?)?;
+            add_proof(alloc, files, tables, false, tree, rotations, visits)
         }
     }
-    Ok(files)
+}
+
+/// Puts the files of a proof and of rotations behind those so far.
+fn add_proof(
+    alloc: Global,
+    files: &mut Vec<FileText>,
+    tables: &Tables,
+    planned: bool,
+    tree: &Tree,
+    rotations: &[FleetRotation],
+    visits: u32,
+) -> Result<(), NoMemory>
+    requires tree { IsOfTables tables.now tree.now }
+    requires rotations { AreRotations tables.now rotations.now }
+    ensures { OnOk result (files.new.items ≡ files.old.items ++ proof_file tables.now planned tree.now ∷ rotation_file tables.now rotations.now visits ∷ []) }
+{
+    files.push(proof_file(alloc, tables, planned, tree)?)?;
+    files.push(rotation_file(alloc, tables, rotations, visits)?)?;
+    Ok(())
 }
 
 /// The file of a plan.
