@@ -12,7 +12,7 @@ use Rattle.plan_desk.specs.declared.file.DeskFile.{DeskFile}
 use Rattle.plan_desk.specs.declared.file.DeskFile.TheVariants as file
 use Rattle.plan_judge.specs.declared.verdicts.Verdict.{Verdict}
 use Rattle.plan_judge.specs.declared.verdicts.Verdict.TheVariants as verdict
-use Rattle.plan_report.specs.TextLines.{fleet_lines, line_of}
+use Rattle.rotation_report.specs.TextLines.{fleet_lines, line_of}
 
 -- the file of a table
 abbrev pub desk_file_of : TableFile → DeskFile

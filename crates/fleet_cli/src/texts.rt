@@ -5,14 +5,14 @@ ghost use Rattle.fleet_cli.specs.Texts.{bad_input_text, bound_text, checked_text
 ghost use Rattle.fleet_model.specs.Legal.{IsAssignment};
 ghost use Rattle.fleet_model.specs.Schedule.{fleet_of, fleets_in, station_of, stations_in};
 ghost use Rattle.plan_judge.specs.Verdicts.{IsVerdict};
-ghost use Rattle.plan_report.specs.TextLines.{fleet_lines, line_of};
+ghost use Rattle.rotation_report.specs.TextLines.{fleet_lines, line_of};
 
 use cert_check::Checked;
 use entries::NoMemory;
 use fleet_model::{Assignment, Tables};
 use plan_desk::DeskFile;
 use plan_judge::Verdict;
-use plan_report::text_lines::{push_fleets, push_line};
+use rotation_report::text_lines::{push_fleets, push_line};
 use std::alloc::Global;
 
 /// The line of a call whose words match no command.

@@ -4,20 +4,19 @@ ghost use Rattle.branch_bound.specs.Solved.{PlanFits, plan_cost};
 ghost use Rattle.fleet_model.specs.Legal.{IsAssignment};
 ghost use Rattle.fleet_model.specs.Schedule.{fleet_of, fleets_in};
 ghost use Rattle.plan_report.specs.Json.{count_data, fleet_data, fleets_data, json_text, number_data, open_data, rotation_data, rotations_data, summary_data};
-ghost use Rattle.plan_report.specs.Rotations.{AreRotations};
+ghost use Rattle.rotation_report.specs.Rotations.{AreRotations};
 ghost use Rattle.plan_report.specs.Summary.{outcome_word, printed_bound};
 ghost use Rattle.serde_json.specs.Data.{array, no_members, object, put as put_member, string};
 ghost use Rattle.serde_json.specs.View.{items_of, members_view, view};
 ghost use Rattle.sums.specs.Places.{list_below};
 
-use crate::fleet_rotations::FleetRotation;
 use crate::summary_lines::outcome;
-use crate::words::rotation_words;
 use branch_bound::Solved;
 use dual_bound::TreeCounts;
 use entries::NoMemory;
 use fleet_model::{Assignment, Tables};
 use plan_judge::used;
+use rotation_report::{FleetRotation, rotation_words};
 use serde_json::{Map, Value, put};
 use std::alloc::Global;
 

@@ -5,4 +5,4 @@
 pub mod making;
 
 pub use making::rotations;
-pub use plan_report::FleetRotation;
+pub use rotation_report::FleetRotation;

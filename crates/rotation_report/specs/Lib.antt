@@ -1,4 +1,7 @@
 pub mod RotationRecords
+pub mod RotationWords
+pub mod Rotations
 pub mod RoundRows
 pub mod TailLaws
 pub mod Tails
+pub mod TextLines

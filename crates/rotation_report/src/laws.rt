@@ -1,13 +1,22 @@
-//! The laws of what is told leg by leg and date by date. Each function is a law: its contract is the statement, and it does
-//! nothing.
-ghost use Rattle.std.specs.Prelude.{◌≡◌, ℕ, List};
+//! The laws of what is told of rotations. Each function is a law: its contract is the statement, and it does nothing.
+ghost use Rattle.std.specs.Prelude.{◌≡◌, ◌*◌, ℕ, List};
 ghost use Rattle.std.specs.List.{flat_map};
 ghost use Rattle.csv.specs.Writing.{default_writer, row_text};
+ghost use Rattle.fleet_model.specs.Counts.{weights_of};
+ghost use Rattle.fleet_model.specs.Use.{used_of};
 ghost use Rattle.fleet_model.specs.declared.tables.Tables.{Tables};
-ghost use Rattle.plan_report.specs.Rotations.{AreRotations};
-ghost use Rattle.plan_report.specs.declared.fleet_rotations.FleetRotation.{FleetRotation};
+ghost use Rattle.ground_turns.specs.Maps.{IsTour};
+ghost use Rattle.ground_turns.specs.Turns.{days_in};
+ghost use Rattle.rotation_report.specs.Rotations.{AreRotations};
+ghost use Rattle.rotation_report.specs.declared.fleet_rotations.FleetRotation.{FleetRotation};
 ghost use Rattle.rotation_report.specs.RotationRecords.{rotation_records, rotation_text};
+ghost use Rattle.rotation_report.specs.RotationWords.{days_of};
 ghost use Rattle.rotation_report.specs.TailLaws.{ComesToNextLine, EachAircraftFliesAll, EachLegEachDate, FollowsNextAircraft};
+
+/// The days that are told of a tour are those of the period, for each aircraft that the fleet uses.
+pub fn tour_days_are_use()
+    ensures { (t : Tables) (a : List ℕ) (f : ℕ) (tour : List ℕ) → IsTour t a f tour → days_of t f tour ≡ used_of t (weights_of a) f * days_in t }
+{}
 
 /// The text of rotations is what the default writer of `csv` writes of its records: no field calls for quotes.
 pub fn rotations_are_written_as_csv()

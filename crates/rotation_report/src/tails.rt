@@ -6,10 +6,13 @@ ghost use Rattle.fleet_model.specs.Schedule.{fleets_in};
 ghost use Rattle.ground_turns.specs.Maps.{IsTour};
 ghost use Rattle.lines_of_flying.specs.Lines.{AreLegs, BeginsAfterNight};
 ghost use Rattle.calendar_dates.specs.Days.{HasDays, day_on};
-ghost use Rattle.plan_report.specs.Rotations.{AreFlown, AreRotations, IsFleetRotation, IsFlown, last_made};
+ghost use Rattle.rotation_report.specs.Rotations.{AreFlown, AreRotations, IsFleetRotation, IsFlown, last_made};
 ghost use Rattle.rotation_report.specs.Tails.{AreLinesOf, dated_line, day_lines, days_lines, fleet_tails, fleets_tails, flights_text, line_on, lines_by, no_tour_line, spaced_flight, tails_text};
 
+use crate::fleet_rotations::FleetRotation;
 use crate::flying::FleetLines;
+use crate::text_lines::push_line;
+use crate::words::rotation_words;
 use calendar_dates::dates_from;
 use entries::NoMemory;
 use euler_rotation::Rotation;
@@ -18,8 +21,6 @@ use fleet_model::{Assignment, Tables};
 use jiff::civil::Date;
 use lines_of_flying::lines;
 use plan_judge::used;
-use plan_report::text_lines::push_line;
-use plan_report::{FleetRotation, rotation_words};
 use std::alloc::Global;
 
 /// The lines of tails for so many dates, from the first on: of each fleet with a tour what each of its aircraft flies on

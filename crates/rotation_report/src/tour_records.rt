@@ -6,14 +6,14 @@ ghost use Rattle.ground_turns.specs.Nights.{nights_in_turn};
 ghost use Rattle.plan_text.specs.CsvText.{IsBetweenRecords};
 ghost use Rattle.rotation_report.specs.RoundRows.{HasRows};
 ghost use Rattle.rotation_report.specs.RotationRecords.{begun_tour_rows, leg_row, night_row, yes_no};
-ghost use Rattle.plan_report.specs.Rotations.{AreListed};
+ghost use Rattle.rotation_report.specs.Rotations.{AreListed};
 
 use crate::record_writer::{Round, put_numbers, put_row};
+use crate::words::days_of;
 use csv::Writer;
 use entries::NoMemory;
 use fleet_model::{Tables, nights};
 use lines_of_flying::nights_after;
-use plan_report::words::days_of;
 use std::alloc::Global;
 
 /// Writes a tour.

@@ -1,6 +1,6 @@
 use Rattle.std.proofs.Common.{refl}
 use Rattle.plan_report.specs.Summary.{rotation_line, rotation_lines}
-use Rattle.plan_report.proofs.Pieces.{lines_more}
+use Rattle.rotation_report.proofs.Pieces.{lines_more}
 use Rattle.plan_report.proofs.summary_lines.push_rotations.Goals as goal
 
 pub loop-fleet-preserved : goal.loop-fleet-preserved

@@ -1,6 +1,6 @@
 use Rattle.std.proofs.Common.{◌≡◌, ◌≤◌, ◌*◌}
 use Rattle.lines_of_flying.specs.Lines.{day_of}
-use Rattle.plan_report.proofs.words.days_of.Given as goal
+use Rattle.rotation_report.proofs.words.days_of.Given as goal
 
 abbrev pub invariant-loop-place : goal.invariant-loop-place
 invariant-loop-place l = record {

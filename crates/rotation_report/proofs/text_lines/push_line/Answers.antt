@@ -1,5 +1,5 @@
-use Rattle.plan_report.proofs.Pieces.{piece_more}
-use Rattle.plan_report.proofs.text_lines.push_line.Goals as goal
+use Rattle.rotation_report.proofs.Pieces.{piece_more}
+use Rattle.rotation_report.proofs.text_lines.push_line.Goals as goal
 
 pub loop-piece-preserved : goal.loop-piece-preserved
 loop-piece-preserved c =

@@ -1,6 +1,6 @@
 use Rattle.std.proofs.Common.{◌++◌, codes, string_bytes, ap, ◌∙◌}
 use Rattle.std.specs.Fmt.{decimal}
-use Rattle.plan_report.proofs.words.push_nights.Goals as goal
+use Rattle.rotation_report.proofs.words.push_nights.Goals as goal
 
 pub returns : goal.returns
 returns c =

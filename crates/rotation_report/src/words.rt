@@ -2,8 +2,8 @@
 ghost use Rattle.std.specs.Prelude.{◌≡◌, ◌++◌, ◌<◌, IfOk, OnOk, codes, length, string_bytes};
 ghost use Rattle.std.specs.Fmt.{decimal};
 ghost use Rattle.fleet_model.specs.Schedule.{fleets_in};
-ghost use Rattle.plan_report.specs.RotationWords.{days_of, rotation_words, words_of};
-ghost use Rattle.plan_report.specs.Rotations.{AreListed, IsFleetRotation, IsOfLegs};
+ghost use Rattle.rotation_report.specs.RotationWords.{days_of, rotation_words, words_of};
+ghost use Rattle.rotation_report.specs.Rotations.{AreListed, IsFleetRotation, IsOfLegs};
 
 use crate::fleet_rotations::FleetRotation;
 use entries::NoMemory;

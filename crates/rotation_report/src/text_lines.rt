@@ -1,6 +1,6 @@
 //! Lines of text, put together from pieces.
 ghost use Rattle.std.specs.Prelude.{◌≡◌, ◌++◌, ◌<◌, OnOk, map};
-ghost use Rattle.plan_report.specs.TextLines.{fleet_line, fleet_lines, line_of};
+ghost use Rattle.rotation_report.specs.TextLines.{fleet_line, fleet_lines, line_of};
 ghost use Rattle.fleet_model.specs.Legal.{IsAssignment};
 ghost use Rattle.fleet_model.specs.Schedule.{fleets_in};
 
