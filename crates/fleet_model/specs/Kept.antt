@@ -7,7 +7,7 @@ use Rattle.fleet_model.specs.declared.undoing.Undo.{Undo}
 use Rattle.fleet_model.specs.declared.tables.Tables.{Tables}
 use Rattle.fleet_model.specs.Counts.{pair_at}
 use Rattle.fleet_model.specs.Legal.{IsAssignment, cost_of}
-use Rattle.fleet_model.specs.Schedule.{fleets_in, leg_on, legs_in}
+use Rattle.fleet_model.specs.Schedule.{choices_in, leg_on, legs_in}
 
 -- which pairs are kept; for each leg, its domain
 abbrev pub Domains : Type 0
@@ -25,9 +25,9 @@ leaves step p = if p.leg == step.leg then (if step.yes then p.fleet == step.flee
 abbrev pub narrowed : Domains → Step → Domains
 narrowed keeps step p = keeps p && leaves step p
 
--- how many fleets a leg keeps
+-- how many choices a leg keeps
 abbrev pub kept_on : Tables → Domains → ℕ → ℕ
-kept_on t keeps l = count_below (λ f. keeps (leg_on l f)) (fleets_in t)
+kept_on t keeps l = count_below (λ c. keeps (leg_on l c)) (choices_in t l)
 
 -- how many pairs are kept
 abbrev pub pairs_kept : Tables → Domains → ℕ
@@ -38,27 +38,27 @@ pub record IsKeptAssignment (t : Tables) (keeps : Domains) (a : List ℕ) : Type
   pub assignment : IsAssignment t a
   pub kept : (l : ℕ) → l < legs_in t → IsTrue (keeps (pair_at a l))
 
--- each leg keeps one fleet
+-- each leg keeps one choice
 pub record IsSole (t : Tables) (keeps : Domains) : Type 0 where
   pub each : (l : ℕ) → l < legs_in t → kept_on t keeps l ≡ 1
 
--- the leg keeps this fleet and no other
+-- the leg keeps this choice and no other
 pub record IsSoleOn (t : Tables) (keeps : Domains) (leg fleet : ℕ) : Type 0 where
   pub one : kept_on t keeps leg ≡ 1
-  pub known : fleet < fleets_in t
+  pub known : fleet < choices_in t leg
   pub kept : IsTrue (keeps (leg_on leg fleet))
 
--- the leg keeps no fleet
+-- the leg keeps no choice
 pub record IsBare (t : Tables) (keeps : Domains) (leg : ℕ) : Type 0 where
   pub within : leg < legs_in t
   pub none : kept_on t keeps leg ≡ 0
 
--- the first leg that keeps no fleet
+-- the first leg that keeps no choice
 pub record IsFirstBare (t : Tables) (keeps : Domains) (leg : ℕ) : Type 0 where
   pub bare : IsBare t keeps leg
   pub first : (l : ℕ) → l < leg → ¬ (IsBare t keeps l)
 
--- the pairs that rows keep: a row for each leg, and in it a place for each fleet
+-- the pairs that rows keep: a row for each leg, and in it a place for each choice
 abbrev pub kept_by : List (List Bool) → Domains
 kept_by rows p = slice_index_or (slice_index_or rows p.leg []) p.fleet false
 

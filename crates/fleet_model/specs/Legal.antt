@@ -3,7 +3,7 @@ use Rattle.std.specs.Prelude.{◌≡◌, ℕ, ◌<◌, ◌≤◌, List, length, 
 use Rattle.sums.specs.Below.{sum_below_ℤ}
 use Rattle.fleet_model.specs.declared.parts.Pair.{Pair}
 use Rattle.fleet_model.specs.declared.tables.Tables.{Tables}
-use Rattle.fleet_model.specs.Schedule.{fleet_of, fleets_in, legs_in}
+use Rattle.fleet_model.specs.Schedule.{choices_in, fleet_of, fleets_in, legs_in}
 use Rattle.fleet_model.specs.Costs.{cost_in}
 use Rattle.fleet_model.specs.Counts.{fleet_at, pair_at, weights_of}
 use Rattle.fleet_model.specs.Use.{IsBalanced, used_of}
@@ -12,10 +12,10 @@ use Rattle.fleet_model.specs.Use.{IsBalanced, used_of}
 abbrev pub cost_of : Tables → Pair → Option ℤ
 cost_of t p = cost_in t.costs p
 
--- a list of fleets, one a leg
+-- a list of choices, one a leg
 pub record IsAssignment (t : Tables) (a : List ℕ) : Type 0 where
   pub each_leg : length a ≡ legs_in t
-  pub known : (l : ℕ) → l < legs_in t → fleet_at a l < fleets_in t
+  pub known : (l : ℕ) → l < legs_in t → fleet_at a l < choices_in t l
 
 -- each leg may be flown by its fleet
 pub record IsAllowed (t : Tables) (a : List ℕ) : Type 0 where

@@ -6,12 +6,12 @@ use Rattle.fleet_model.specs.declared.tables.Tables.{Tables}
 use Rattle.fleet_model.specs.Counts.{Weights, weights_of}
 use Rattle.fleet_model.specs.Kept.{Domains, IsKeptAssignment}
 use Rattle.fleet_model.specs.Legal.{IsLegal, cost_of, total_cost}
-use Rattle.fleet_model.specs.Schedule.{IsPair, fleet_of, fleets_in, leg_on, legs_in}
+use Rattle.fleet_model.specs.Schedule.{IsPair, choices_in, fleet_of, fleets_in, leg_on, legs_in}
 use Rattle.fleet_model.specs.Use.{IsBalanced, used_of}
 
 -- the weights of a leg's pairs, added up
 abbrev pub weight_on : Tables → Weights → ℕ → ℕ
-weight_on t w l = sum_below (λ f. w (leg_on l f)) (fleets_in t)
+weight_on t w l = sum_below (λ c. w (leg_on l c)) (choices_in t l)
 
 -- A mixed plan in a subproblem, of some scale: of each leg so many parts in all, on kept pairs alone, balanced, and
 -- no fleet uses more aircraft than it has, so many parts each.
@@ -23,11 +23,11 @@ pub record IsMixedPlan (t : Tables) (keeps : Domains) (scale : ℕ) (w : Weights
 
 -- what a pair costs by its weight; a pair that may not be flown adds 0
 abbrev pub weighted_cost : Tables → Weights → ℕ → ℕ → ℤ
-weighted_cost t w l f = pos (w (leg_on l f)) *ℤ unwrap_or (cost_of t (leg_on l f)) (pos 0)
+weighted_cost t w l c = pos (w (leg_on l c)) *ℤ unwrap_or (cost_of t (leg_on l c)) (pos 0)
 
 -- the cost of a mixed plan, times its scale: the costs of pairs by their weights, added up
 unfoldable pub mixed_cost : Tables → Weights → ℤ
-mixed_cost t w = sum_below_ℤ (λ l. sum_below_ℤ (weighted_cost t w l) (fleets_in t)) (legs_in t)
+mixed_cost t w = sum_below_ℤ (λ l. sum_below_ℤ (weighted_cost t w l) (choices_in t l)) (legs_in t)
 
 -- the weights of a legal assignment of kept pairs are a mixed plan of scale 1, of the same cost
 pub record IsWholePlan (t : Tables) (keeps : Domains) (a : List ℕ) : Type 0 where

@@ -1,8 +1,9 @@
--- The parts of tables by their numbers.
-use Rattle.std.specs.Prelude.{ℕ, ◌<◌, [], length, slice_index_or, false}
+-- The parts of tables by their numbers, the period, and the words in which a leg's choices and departures are told.
+use Rattle.std.specs.Prelude.{ℕ, ◌+◌, ◌-◌, ◌*◌, ◌<◌, [], length, slice_index_or, false, Option, None}
 use Rattle.fleet_model.specs.declared.parts.Station.{Station}
 use Rattle.fleet_model.specs.declared.parts.Fleet.{Fleet}
 use Rattle.fleet_model.specs.declared.parts.Leg.{Leg}
+use Rattle.fleet_model.specs.declared.limits.TheConstants.{MINUTES_PER_DAY, MINUTES_PER_PERIOD}
 use Rattle.fleet_model.specs.declared.parts.Pair.{Pair}
 use Rattle.fleet_model.specs.declared.tables.Tables.{Tables}
 
@@ -35,11 +36,62 @@ fleets_in t = length t.fleets
 abbrev pub legs_in : Tables → ℕ
 legs_in t = length t.legs
 
--- the pair of a leg and a fleet
-abbrev pub leg_on : ℕ → ℕ → Pair
-leg_on l f = record { leg = l; fleet = f }
+-- ---- the period
+-- the minutes of the period, and its last one
+abbrev pub period_of : Tables → ℕ
+period_of t = MINUTES_PER_PERIOD
 
--- a leg of the tables on a fleet of theirs
+abbrev pub last_of : Tables → ℕ
+last_of t = period_of t - 1
+
+-- how many days the period has
+abbrev pub days_in : Tables → ℕ
+days_in t = 1
+
+-- the last minute of a day of the period, days counted from 1
+abbrev pub day_end : ℕ → ℕ
+day_end d = d * MINUTES_PER_DAY - 1
+
+-- how many aircraft may stand at a station at the end of a day, where there is a limit
+abbrev pub parking_of : Tables → ℕ → Option ℕ
+parking_of t s = None
+
+-- ---- choices: what an assignment chooses of for each leg
+-- how many choices a leg has
+abbrev pub choices_in : Tables → ℕ → ℕ
+choices_in t l = fleets_in t
+
+-- the pair of a leg and one of its choices
+abbrev pub leg_on : ℕ → ℕ → Pair
+leg_on l c = record { leg = l; fleet = c }
+
+-- the fleet that a pair is flown by
+abbrev pub fleet_by : Tables → Pair → ℕ
+fleet_by t p = p.fleet
+
+-- a leg of the tables with one of its choices
 pub record IsPair (t : Tables) (p : Pair) : Type 0 where
   pub leg : p.leg < legs_in t
-  pub fleet : p.fleet < fleets_in t
+  pub fleet : p.fleet < choices_in t p.leg
+
+-- .. by which a fleet flies the leg
+pub record IsFlown (t : Tables) (p : Pair) : Type 0 where
+  pub pair : IsPair t p
+  pub by : fleet_by t p < fleets_in t
+
+-- ---- departures: the minutes at which legs may depart, in one list
+-- how many departures there are
+abbrev pub departures_in : Tables → ℕ
+departures_in t = legs_in t
+
+-- the leg of a departure
+abbrev pub leg_at : Tables → ℕ → ℕ
+leg_at t d = d
+
+-- the choice of its leg by which a fleet flies a departure
+abbrev pub choice_on : Tables → ℕ → ℕ → ℕ
+choice_on t d f = f
+
+-- the pair by which a fleet flies a departure
+abbrev pub pair_on : Tables → ℕ → ℕ → Pair
+pair_on t d f = leg_on (leg_at t d) (choice_on t d f)

@@ -3,11 +3,11 @@ use Rattle.std.specs.Prelude.{◌≡◌, ℕ, ◌+◌, ◌-◌, ◌*◌, ◌<◌
 use Rattle.sums.specs.Below.{sum_below, max_below}
 use Rattle.fleet_model.specs.declared.tables.Tables.{Tables}
 use Rattle.fleet_model.specs.declared.limits.TheConstants.{MINUTES_PER_PERIOD}
-use Rattle.fleet_model.specs.Schedule.{stations_in, fleets_in, legs_in, leg_on}
+use Rattle.fleet_model.specs.Schedule.{departures_in, fleets_in, last_of, pair_on, period_of, stations_in}
 use Rattle.fleet_model.specs.Times.{laps_of}
 use Rattle.fleet_model.specs.Counts.{Weights, departed, arrived}
 
--- the last minute of the period
+-- the last minute of a period of one day
 abbrev pub last_minute : ℕ
 last_minute = MINUTES_PER_PERIOD - 1
 
@@ -17,18 +17,18 @@ excess t w f s m = departed t w f s m - arrived t w f s m
 
 -- the aircraft of a fleet that must be at a station at the day start: the greatest excess of any minute
 unfoldable pub need_of : Tables → Weights → ℕ → ℕ → ℕ
-need_of t w f s = max_below (excess t w f s) MINUTES_PER_PERIOD
+need_of t w f s = max_below (excess t w f s) (period_of t)
 
 -- the aircraft of a fleet on the ground at a station at the end of a minute
 unfoldable pub stand_of : Tables → Weights → ℕ → ℕ → ℕ → ℕ
 stand_of t w f s m = need_of t w f s + arrived t w f s m - departed t w f s m
 
--- what a leg adds to a fleet's laps: the period starts between its departure and readiness
+-- what a departure adds to a fleet's laps: the period starts between it and readiness
 abbrev pub laps_at : Tables → Weights → ℕ → ℕ → ℕ
-laps_at t w f l = w (leg_on l f) * laps_of t (leg_on l f)
+laps_at t w f d = w (pair_on t d f) * laps_of t (pair_on t d f)
 
 unfoldable pub laps_flown : Tables → Weights → ℕ → ℕ
-laps_flown t w f = sum_below (laps_at t w f) (legs_in t)
+laps_flown t w f = sum_below (laps_at t w f) (departures_in t)
 
 -- the aircraft that a fleet uses: those on the ground at the day start, and those aloft or in their turn then
 unfoldable pub used_of : Tables → Weights → ℕ → ℕ
@@ -36,4 +36,4 @@ used_of t w f = sum_below (need_of t w f) (stations_in t) + laps_flown t w f
 
 -- at each station as many aircraft of each fleet come as leave
 pub record IsBalanced (t : Tables) (w : Weights) : Type 0 where
-  pub each : (f s : ℕ) → f < fleets_in t → s < stations_in t → arrived t w f s last_minute ≡ departed t w f s last_minute
+  pub each : (f s : ℕ) → f < fleets_in t → s < stations_in t → arrived t w f s (last_of t) ≡ departed t w f s (last_of t)

@@ -19,3 +19,4 @@ pub mod Naturals
 pub mod NumberTests
 pub mod Sizes
 pub mod Turned
+pub mod Blocks

@@ -3,11 +3,12 @@ use Rattle.std.proofs.Common.{◌≡◌, ℕ, zero, suc, ◌+◌, ◌-◌, ◌<�
 use mathlib.Core.Bool.{false≢true}
 use Rattle.std.proofs.lemmas.Bool.Decides.{nat_tests}
 use Rattle.std.proofs.lemmas.Int.{ints}
-use lib.IntN.{zero-*ℤ}
+use lib.IntN.{*ℤ-zero, zero-*ℤ}
 use Rattle.sums.specs.Below.{sum_below, sum_below_ℤ}
+use Rattle.sums.proofs.Integers.{*ℤ-+ℤ}
 use Rattle.sums.proofs.Orders.{same_times, times_le}
 use Rattle.sums.proofs.WholeSums.{sum_below_ℤ-same}
-use Rattle.sums.proofs.WholeSwaps.{sum_below-times, sum_below_ℤ-+ℤ, where_true}
+use Rattle.sums.proofs.WholeSwaps.{sum_below-times, sum_below_ℤ-+ℤ, sum_below_ℤ-zero, where_true}
 
 -- value is what each unit of count adds when it comes, by the price of that minute
 pub record IsPriced (count : ℕ → ℕ) (value price : ℕ → ℤ) : Type 0 where
@@ -66,25 +67,45 @@ legs_priced passes minute weight price legs = record {
     at_next b t m e f = grind (arith, nat_tests)
 
 -- one minute more, over plain numbers
-one_minute : (need d a d' a' : ℕ) (l r l' r' p0 p p' : ℤ) → d ≤ need + a → p' ≤ℤ p
+one_minute : (need d a d' a' : ℕ) (l r l' r' p0 p p' rise paid : ℤ) → d ≤ need + a → p' ≤ℤ (p +ℤ rise)
     → l' +ℤ (pos d *ℤ p') ≡ l +ℤ (pos d' *ℤ p') → r' +ℤ (pos a *ℤ p') ≡ r +ℤ (pos a' *ℤ p')
-    → (l +ℤ (pos need *ℤ p) +ℤ (pos a *ℤ p)) ≤ℤ (r +ℤ (pos need *ℤ p0) +ℤ (pos d *ℤ p))
-    → (l' +ℤ (pos need *ℤ p') +ℤ (pos a' *ℤ p')) ≤ℤ (r' +ℤ (pos need *ℤ p0) +ℤ (pos d' *ℤ p'))
-one_minute need d a d' a' l r l' r' p0 p p' enough falls left right before =
+    → (l +ℤ (pos need *ℤ p) +ℤ (pos a *ℤ p)) ≤ℤ (r +ℤ (pos need *ℤ p0) +ℤ (pos d *ℤ p) +ℤ paid)
+    → (l' +ℤ (pos need *ℤ p') +ℤ (pos a' *ℤ p')) ≤ℤ (r' +ℤ (pos need *ℤ p0) +ℤ (pos d' *ℤ p') +ℤ (paid +ℤ (pos (need + a - d) *ℤ rise)))
+one_minute need d a d' a' l r l' r' p0 p p' rise paid enough falls left right before =
     let spare : ℕ = need + a - d in
     let all : need + a ≡ spare + d = omega arith in
     let old = same_times need a spare d p all in
     let new = same_times need a spare d p' all in
-    let less = times_le spare p' p falls in
-    omega (arith, ints, old, new, less)
+    let less = times_le spare p' (p +ℤ rise) falls in
+    let parts = *ℤ-+ℤ (pos spare) p rise in
+    omega (arith, ints, old, new, less, parts)
 
--- Where departures by a minute are at most a stock and the arrivals by then, and the price never rises, departures
--- are worth no more than arrivals, the fall of the price on the stock, and the price then on those still away.
+-- what stands at the end of a minute, of a stock
+abbrev pub stands : ℕ → (ℕ → ℕ) → (ℕ → ℕ) → ℕ → ℕ
+stands stock departed arrived m = stock + arrived m - departed m
+
+-- Where departures by a minute are at most a stock and the arrivals by then, and the price rises from a minute to the next
+-- by no more than is said for it, departures are worth no more than arrivals, the fall of the price on the stock, the price
+-- then on those still away, and the rises so far, each on what stood.
+pub by_parts_rising : (departed arrived : ℕ → ℕ) (out back price rise : ℕ → ℤ) (stock minutes : ℕ) → IsPriced departed out price → IsPriced arrived back price
+    → ((m : ℕ) → m < minutes → departed m ≤ stock + arrived m) → ((m : ℕ) → suc m < minutes → price (suc m) ≤ℤ (price m +ℤ rise m))
+    → (m : ℕ) → m < minutes
+    → (out m +ℤ (pos stock *ℤ price m) +ℤ (pos (arrived m) *ℤ price m))
+    ≤ℤ (back m +ℤ (pos stock *ℤ price 0) +ℤ (pos (departed m) *ℤ price m) +ℤ sum_below_ℤ (λ k. pos (stands stock departed arrived k) *ℤ rise k) m)
+by_parts_rising departed arrived out back price rise stock minutes left right enough rises zero within = omega (arith, ints, left.first, right.first)
+by_parts_rising departed arrived out back price rise stock minutes left right enough rises (suc m) within =
+    one_minute stock (departed m) (arrived m) (departed (suc m)) (arrived (suc m)) (out m) (back m) (out (suc m)) (back (suc m)) (price 0) (price m) (price (suc m)) (rise m)
+    (sum_below_ℤ (λ k. pos (stands stock departed arrived k) *ℤ rise k) m)
+    (enough m (omega arith)) (rises m within) (left.next m) (right.next m) (by_parts_rising departed arrived out back price rise stock minutes left right enough rises m (omega arith))
+
+-- .. and where the price never rises, nothing for rises
 pub by_parts : (departed arrived : ℕ → ℕ) (out back price : ℕ → ℤ) (stock minutes : ℕ) → IsPriced departed out price → IsPriced arrived back price
     → ((m : ℕ) → m < minutes → departed m ≤ stock + arrived m) → ((m : ℕ) → suc m < minutes → price (suc m) ≤ℤ price m)
     → (m : ℕ) → m < minutes
     → (out m +ℤ (pos stock *ℤ price m) +ℤ (pos (arrived m) *ℤ price m)) ≤ℤ (back m +ℤ (pos stock *ℤ price 0) +ℤ (pos (departed m) *ℤ price m))
-by_parts departed arrived out back price stock minutes left right enough falls zero within = omega (arith, ints, left.first, right.first)
-by_parts departed arrived out back price stock minutes left right enough falls (suc m) within =
-    one_minute stock (departed m) (arrived m) (departed (suc m)) (arrived (suc m)) (out m) (back m) (out (suc m)) (back (suc m)) (price 0) (price m) (price (suc m))
-    (enough m (omega arith)) (falls m within) (left.next m) (right.next m) (by_parts departed arrived out back price stock minutes left right enough falls m (omega arith))
+by_parts departed arrived out back price stock minutes left right enough falls m within =
+    let rising = by_parts_rising departed arrived out back price (λ k. pos 0) stock minutes left right enough (λ k below. omega (arith, ints, falls k below)) m within in
+    omega (arith, ints, rising, none)
+  where
+    none : sum_below_ℤ (λ k. pos (stands stock departed arrived k) *ℤ pos 0) m ≡ pos 0
+    none = sum_below_ℤ-same (λ k. pos (stands stock departed arrived k) *ℤ pos 0) (λ k. pos 0) m (λ k below. *ℤ-zero (pos (stands stock departed arrived k))) ∙ sum_below_ℤ-zero m
