@@ -1,3 +1,4 @@
+pub mod Choices
 pub mod CostLookup
 pub mod KeptLaws
 pub mod KeptRows
@@ -5,6 +6,7 @@ pub mod Minutes
 pub mod MixedPlans
 pub mod NeedAtDepartures
 pub mod NightsUsed
+pub mod PeriodMinutes
 pub mod Periods
 pub mod SoleFleets
 pub mod UseLaws

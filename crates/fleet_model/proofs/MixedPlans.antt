@@ -14,7 +14,7 @@ use Rattle.fleet_model.specs.Counts.{fleet_at, weights_of}
 use Rattle.fleet_model.specs.Kept.{Domains, IsKeptAssignment}
 use Rattle.fleet_model.specs.Legal.{IsAssignment, cost_of, leg_cost, total_cost}
 use Rattle.fleet_model.specs.Mixed.{LegalIsMixed, mixed_cost, weighted_cost}
-use Rattle.fleet_model.specs.Schedule.{fleets_in, leg_on, legs_in}
+use Rattle.fleet_model.specs.Schedule.{choices_in, leg_on, legs_in}
 
 -- a weight of 1 where a test passes, times a number
 test_times : (b : Bool) (z : ℤ) → pos (if b then 1 else 0) *ℤ z ≡ where_true b z
@@ -32,10 +32,10 @@ no_weight t keeps a kept l f below not_kept = by_test (fleet_at a l == f) refl
     by_test true e = absurd (differs (grind (arith, nat_tests)))
     by_test false e = rw e refl
 
-cost_on : (t : Tables) (a : List ℕ) → IsAssignment t a → (l : ℕ) → l < legs_in t → sum_below_ℤ (weighted_cost t (weights_of a) l) (fleets_in t) ≡ leg_cost t a l
+cost_on : (t : Tables) (a : List ℕ) → IsAssignment t a → (l : ℕ) → l < legs_in t → sum_below_ℤ (weighted_cost t (weights_of a) l) (choices_in t l) ≡ leg_cost t a l
 cost_on t a known l below =
-    sum_below_ℤ-same (weighted_cost t (weights_of a) l) (λ f. where_true (fleet_at a l == f) (units f)) (fleets_in t) (λ f lt. test_times (fleet_at a l == f) (units f))
-    ∙ sum_below_ℤ-one (fleet_at a l) units (fleets_in t) (known.known l below)
+    sum_below_ℤ-same (weighted_cost t (weights_of a) l) (λ f. where_true (fleet_at a l == f) (units f)) (choices_in t l) (λ f lt. test_times (fleet_at a l == f) (units f))
+    ∙ sum_below_ℤ-one (fleet_at a l) units (choices_in t l) (known.known l below)
   where
     units : ℕ → ℤ
     units f = unwrap_or (cost_of t (leg_on l f)) (pos 0)
@@ -45,9 +45,10 @@ unfolding mixed_cost total_cost
 legal_is_mixed t keeps a kept legal = record {
   plan = record {
     kept = λ p known not_kept. no_weight t keeps a kept p.leg p.fleet known.leg not_kept;
-    cover = λ l below. sum_below-one (fleet_at a l) 1 (fleets_in t) (kept.assignment.known l below);
+    cover = λ l below. sum_below-one (fleet_at a l) 1 (choices_in t l) (kept.assignment.known l below);
     balanced = legal.balanced;
     within = λ f below. omega (arith, legal.within.each f below);
+    room = legal.room;
   };
-  cost = sum_below_ℤ-same (λ l. sum_below_ℤ (weighted_cost t (weights_of a) l) (fleets_in t)) (leg_cost t a) (legs_in t) (cost_on t a kept.assignment);
+  cost = sum_below_ℤ-same (λ l. sum_below_ℤ (weighted_cost t (weights_of a) l) (choices_in t l)) (leg_cost t a) (legs_in t) (cost_on t a kept.assignment);
 }

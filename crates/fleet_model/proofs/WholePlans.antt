@@ -1,5 +1,5 @@
 -- A whole mixed plan is a legal assignment of kept pairs.
-use Rattle.std.proofs.Common.{◌≡◌, ◌≢◌, ℕ, zero, suc, ◌*◌, ◌<◌, max, Bool, true, false, not, if◌then◌else◌, ◌==◌, List, sym, ◌∙◌, ap, subst, inl, inr, arith, mul-add}
+use Rattle.std.proofs.Common.{◌≡◌, ◌≢◌, ℕ, zero, suc, ◌+◌, ◌*◌, ◌<◌, max, Bool, true, false, not, if◌then◌else◌, ◌==◌, List, sym, ◌∙◌, ap, subst, inl, inr, arith, mul-add}
 use Rattle.std.proofs.Math.Nat.{mul-sub}
 use Rattle.std.proofs.lemmas.Bool.{cases_lt}
 use Rattle.std.proofs.lemmas.Bool.Decides.{nat_tests}
@@ -10,17 +10,17 @@ use Rattle.sums.proofs.Places.{get_or-list_below, length-list_below}
 use Rattle.sums.proofs.SumBounds.{term_le}
 use Rattle.sums.proofs.Naturals.{by_number, cancel_le, cancel_same, times_below, times_max}
 use Rattle.sums.proofs.Tests.{by_test}
-use Rattle.fleet_model.specs.declared.limits.TheConstants.{MINUTES_PER_PERIOD}
 use Rattle.fleet_model.specs.declared.parts.Pair.{Pair}
 use Rattle.fleet_model.specs.declared.tables.Tables.{Tables}
 use Rattle.fleet_model.specs.Counts.{Weights, arrived, coming, departed, fleet_at, has_come, has_left, leaving, pair_at, weights_of}
 use Rattle.fleet_model.specs.Kept.{Domains}
 use Rattle.fleet_model.specs.Legal.{IsAssignment, IsLegal}
 use Rattle.fleet_model.specs.Mixed.{IsMixedPlan}
-use Rattle.fleet_model.specs.Schedule.{IsPair, fleet_of, fleets_in, leg_on, legs_in, stations_in}
+use Rattle.fleet_model.specs.Schedule.{IsPair, choices_in, day_end, departures_in, fleet_of, fleets_in, last_of, leg_on, legs_in, pair_on, period_of, stations_in}
 use Rattle.fleet_model.specs.Times.{laps_of}
-use Rattle.fleet_model.specs.Use.{excess, laps_at, laps_flown, last_minute, need_of, used_of}
+use Rattle.fleet_model.specs.Use.{excess, laps_at, laps_flown, need_of, parked, stand_of, used_of}
 use Rattle.fleet_model.specs.Whole.{IsLegalBy, IsWhole, KeepAllowed, WholeIsLegal}
+use Rattle.fleet_model.proofs.Choices.{on_departure}
 
 -- ---- products with a factor
 
@@ -38,22 +38,22 @@ times_if true c v n e = e
 times_if false c v n e = omega arith
 
 -- ---- counts of weights that are so many times others
-module _ (t : Tables) (c : ℕ) (w u : Weights) (f : ℕ) (same : (l : ℕ) → l < legs_in t → w (leg_on l f) ≡ c * u (leg_on l f)) where
+module _ (t : Tables) (c : ℕ) (w u : Weights) (f : ℕ) (same : (d : ℕ) → d < departures_in t → w (pair_on t d f) ≡ c * u (pair_on t d f)) where
   times_departed : (s m : ℕ) → departed t w f s m ≡ c * departed t u f s m
   unfolding departed
-  times_departed s m = times_below c (leaving t w f s m) (leaving t u f s m) (legs_in t) (λ l below. times_if (has_left t (leg_on l f) s m) c (u (leg_on l f)) (w (leg_on l f)) (same l below))
+  times_departed s m = times_below c (leaving t w f s m) (leaving t u f s m) (departures_in t) (λ d below. times_if (has_left t (pair_on t d f) s m) c (u (pair_on t d f)) (w (pair_on t d f)) (same d below))
 
   times_arrived : (s m : ℕ) → arrived t w f s m ≡ c * arrived t u f s m
   unfolding arrived
-  times_arrived s m = times_below c (coming t w f s m) (coming t u f s m) (legs_in t) (λ l below. times_if (has_come t (leg_on l f) s m) c (u (leg_on l f)) (w (leg_on l f)) (same l below))
+  times_arrived s m = times_below c (coming t w f s m) (coming t u f s m) (departures_in t) (λ d below. times_if (has_come t (pair_on t d f) s m) c (u (pair_on t d f)) (w (pair_on t d f)) (same d below))
 
   times_need : (s : ℕ) → need_of t w f s ≡ c * need_of t u f s
   unfolding need_of excess
-  times_need s = times_most c (excess t w f s) (excess t u f s) MINUTES_PER_PERIOD (λ m within. omega (arith, times_departed s m, times_arrived s m, mul-sub c (departed t u f s m) (arrived t u f s m)))
+  times_need s = times_most c (excess t w f s) (excess t u f s) (period_of t) (λ m within. omega (arith, times_departed s m, times_arrived s m, mul-sub c (departed t u f s m) (arrived t u f s m)))
 
   times_laps : laps_flown t w f ≡ c * laps_flown t u f
   unfolding laps_flown
-  times_laps = times_below c (laps_at t w f) (laps_at t u f) (legs_in t) (λ l below. ap (λ n. n * laps_of t (leg_on l f)) (same l below) ∙ regroup c (u (leg_on l f)) (laps_of t (leg_on l f)))
+  times_laps = times_below c (laps_at t w f) (laps_at t u f) (departures_in t) (λ d below. ap (λ n. n * laps_of t (pair_on t d f)) (same d below) ∙ regroup c (u (pair_on t d f)) (laps_of t (pair_on t d f)))
     where
       regroup : (a b d : ℕ) → a * b * d ≡ a * (b * d)
       regroup zero b d = omega arith
@@ -63,7 +63,24 @@ module _ (t : Tables) (c : ℕ) (w u : Weights) (f : ℕ) (same : (l : ℕ) → 
   unfolding used_of
   times_used = omega (arith, times_below c (need_of t w f) (need_of t u f) (stations_in t) (λ s within. times_need s), times_laps, mul-add c (sum_below (need_of t u f) (stations_in t)) (laps_flown t u f))
 
--- ---- the fleet of a leg
+-- ---- .. at all fleets
+module _ (t : Tables) (c : ℕ) (w u : Weights) (same : (f d : ℕ) → f < fleets_in t → d < departures_in t → w (pair_on t d f) ≡ c * u (pair_on t d f)) where
+  times_stand : (f s m : ℕ) → f < fleets_in t → stand_of t w f s m ≡ c * stand_of t u f s m
+  unfolding stand_of
+  times_stand f s m known = omega (
+    arith,
+    times_need t c w u f (λ d. same f d known) s,
+    times_arrived t c w u f (λ d. same f d known) s m,
+    times_departed t c w u f (λ d. same f d known) s m,
+    mul-add c (need_of t u f s) (arrived t u f s m),
+    mul-sub c (need_of t u f s + arrived t u f s m) (departed t u f s m),
+  )
+
+  times_parked : (s d : ℕ) → parked t w s d ≡ c * parked t u s d
+  unfolding parked
+  times_parked s d = times_below c (λ f. stand_of t w f s (day_end d)) (λ f. stand_of t u f s (day_end d)) (fleets_in t) (λ f known. times_stand f s (day_end d) known)
+
+-- ---- the choice of a leg
 -- the last number below n that passes
 abbrev chosen : (ℕ → Bool) → ℕ → ℕ
 chosen p zero = 0
@@ -117,13 +134,13 @@ one_of g scale (suc n) some whole sum = by_number (g n)
 
 module _ (t : Tables) (keeps : Domains) (scale : ℕ) (w : Weights) (some : 0 < scale) (allowed : KeepAllowed t keeps) (plan : IsMixedPlan t keeps scale w) (whole : IsWhole t scale w) where
   abbrev fleet_for : ℕ → ℕ
-  fleet_for l = chosen (λ f. not (w (leg_on l f) == 0)) (fleets_in t)
+  fleet_for l = chosen (λ c. not (w (leg_on l c) == 0)) (choices_in t l)
 
   abbrev fleets : List ℕ
   fleets = list_below fleet_for (legs_in t)
 
-  one_fleet : (l : ℕ) → l < legs_in t → IsOneOf (λ f. w (leg_on l f)) scale (fleets_in t) (fleet_for l)
-  one_fleet l below = one_of (λ f. w (leg_on l f)) scale (fleets_in t) some (λ f known. whole.each (leg_on l f) (record { leg = below; fleet = known })) (plan.cover l below)
+  one_fleet : (l : ℕ) → l < legs_in t → IsOneOf (λ c. w (leg_on l c)) scale (choices_in t l) (fleet_for l)
+  one_fleet l below = one_of (λ c. w (leg_on l c)) scale (choices_in t l) some (λ c known. whole.each (leg_on l c) (record { leg = below; fleet = known })) (plan.cover l below)
 
   fleet_there : (l : ℕ) → l < legs_in t → fleet_at fleets l ≡ fleet_for l
   fleet_there l below = get_or-list_below fleet_for (legs_in t) l 0 below
@@ -132,16 +149,16 @@ module _ (t : Tables) (keeps : Domains) (scale : ℕ) (w : Weights) (some : 0 < 
   weights_there p known =
       subst (λ j. w p ≡ scale * (if j == p.fleet then 1 else 0)) (sym (fleet_there p.leg known.leg)) ((one_fleet p.leg known.leg).each p.fleet known.fleet)
 
-  known_there : (l : ℕ) → l < legs_in t → fleet_at fleets l < fleets_in t
-  known_there l below = subst (λ j. j < fleets_in t) (sym (fleet_there l below)) (one_fleet l below).within
+  known_there : (l : ℕ) → l < legs_in t → fleet_at fleets l < choices_in t l
+  known_there l below = subst (λ j. j < choices_in t l) (sym (fleet_there l below)) (one_fleet l below).within
 
   kept_there : (l : ℕ) → l < legs_in t → keeps (pair_at fleets l) ≡ true
   kept_there l below = by_test (keeps (pair_at fleets l)) (λ kept. kept) (λ not_kept.
       let pair : IsPair t (pair_at fleets l) = record { leg = below; fleet = known_there l below } in
       absurd (omega (arith, plan.kept (pair_at fleets l) pair not_kept, weights_there (pair_at fleets l) pair, at_itself scale (fleet_at fleets l))))
 
-  same_weights : (f l : ℕ) → f < fleets_in t → l < legs_in t → w (leg_on l f) ≡ scale * weights_of fleets (leg_on l f)
-  same_weights f l known below = weights_there (leg_on l f) (record { leg = below; fleet = known })
+  same_weights : (f d : ℕ) → f < fleets_in t → d < departures_in t → w (pair_on t d f) ≡ scale * weights_of fleets (pair_on t d f)
+  same_weights f d known below = weights_there (pair_on t d f) (on_departure t d f below known).pair
 
   is_assignment : IsAssignment t fleets
   is_assignment = record { each_leg = length-list_below fleet_for (legs_in t); known = known_there }
@@ -151,13 +168,20 @@ module _ (t : Tables) (keeps : Domains) (scale : ℕ) (w : Weights) (some : 0 < 
     assignment = is_assignment;
     allowed = record { each = λ l below. allowed.each (pair_at fleets l) (record { leg = below; fleet = known_there l below }) (kept_there l below) };
     balanced = record {
-      each = λ f s known within. cancel_same scale (arrived t (weights_of fleets) f s last_minute) (departed t (weights_of fleets) f s last_minute) some
-          (sym (times_arrived t scale w (weights_of fleets) f (λ l. same_weights f l known) s last_minute) ∙ plan.balanced.each f s known within
-          ∙ times_departed t scale w (weights_of fleets) f (λ l. same_weights f l known) s last_minute);
+      each = λ f s known within. cancel_same scale (arrived t (weights_of fleets) f s (last_of t)) (departed t (weights_of fleets) f s (last_of t)) some
+          (sym (times_arrived t scale w (weights_of fleets) f (λ d. same_weights f d known) s (last_of t)) ∙ plan.balanced.each f s known within
+          ∙ times_departed t scale w (weights_of fleets) f (λ d. same_weights f d known) s (last_of t));
     };
     within = record {
       each = λ f known. cancel_le scale (used_of t (weights_of fleets) f) (fleet_of t f).aircraft some
-          (omega (arith, times_used t scale w (weights_of fleets) f (λ l. same_weights f l known), plan.within f known));
+          (omega (arith, times_used t scale w (weights_of fleets) f (λ d. same_weights f d known), plan.within f known));
+    };
+    room = record {
+      each = λ s d limit known first within is. omega (
+        arith,
+        cancel_le scale (parked t (weights_of fleets) s d) limit some
+            (omega (arith, times_parked t scale w (weights_of fleets) same_weights s d, plan.room.each s d limit known first within is)),
+      );
     };
   }
 

@@ -5,7 +5,7 @@ use Rattle.fleet_model.specs.declared.parts.Pair.{Pair}
 use Rattle.fleet_model.specs.declared.tables.Tables.{Tables}
 use Rattle.fleet_model.specs.Counts.{Weights, weights_of}
 use Rattle.fleet_model.specs.Kept.{Domains, IsKeptAssignment}
-use Rattle.fleet_model.specs.Legal.{IsLegal, cost_of, total_cost}
+use Rattle.fleet_model.specs.Legal.{HasRoom, IsLegal, cost_of, total_cost}
 use Rattle.fleet_model.specs.Schedule.{IsPair, choices_in, fleet_of, fleets_in, leg_on, legs_in}
 use Rattle.fleet_model.specs.Use.{IsBalanced, used_of}
 
@@ -13,13 +13,14 @@ use Rattle.fleet_model.specs.Use.{IsBalanced, used_of}
 abbrev pub weight_on : Tables → Weights → ℕ → ℕ
 weight_on t w l = sum_below (λ c. w (leg_on l c)) (choices_in t l)
 
--- A mixed plan in a subproblem, of some scale: of each leg so many parts in all, on kept pairs alone, balanced, and
--- no fleet uses more aircraft than it has, so many parts each.
+-- A mixed plan in a subproblem, of some scale: of each leg so many parts in all, on kept pairs alone, balanced, no fleet
+-- uses more aircraft than it has and no station has more at night than it may, so many parts each.
 pub record IsMixedPlan (t : Tables) (keeps : Domains) (scale : ℕ) (w : Weights) : Type 0 where
   pub kept : (p : Pair) → IsPair t p → keeps p ≡ false → w p ≡ 0
   pub cover : (l : ℕ) → l < legs_in t → weight_on t w l ≡ scale
   pub balanced : IsBalanced t w
   pub within : (f : ℕ) → f < fleets_in t → used_of t w f ≤ scale * (fleet_of t f).aircraft
+  pub room : HasRoom t scale w
 
 -- what a pair costs by its weight; a pair that may not be flown adds 0
 abbrev pub weighted_cost : Tables → Weights → ℕ → ℕ → ℤ

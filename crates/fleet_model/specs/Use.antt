@@ -3,7 +3,7 @@ use Rattle.std.specs.Prelude.{◌≡◌, ℕ, ◌+◌, ◌-◌, ◌*◌, ◌<◌
 use Rattle.sums.specs.Below.{sum_below, max_below}
 use Rattle.fleet_model.specs.declared.tables.Tables.{Tables}
 use Rattle.fleet_model.specs.declared.limits.TheConstants.{MINUTES_PER_PERIOD}
-use Rattle.fleet_model.specs.Schedule.{departures_in, fleets_in, last_of, pair_on, period_of, stations_in}
+use Rattle.fleet_model.specs.Schedule.{day_end, departures_in, fleets_in, last_of, pair_on, period_of, stations_in}
 use Rattle.fleet_model.specs.Times.{laps_of}
 use Rattle.fleet_model.specs.Counts.{Weights, departed, arrived}
 
@@ -22,6 +22,10 @@ need_of t w f s = max_below (excess t w f s) (period_of t)
 -- the aircraft of a fleet on the ground at a station at the end of a minute
 unfoldable pub stand_of : Tables → Weights → ℕ → ℕ → ℕ → ℕ
 stand_of t w f s m = need_of t w f s + arrived t w f s m - departed t w f s m
+
+-- the aircraft of all fleets on the ground at a station at the end of a day, days counted from 1
+unfoldable pub parked : Tables → Weights → ℕ → ℕ → ℕ
+parked t w s d = sum_below (λ f. stand_of t w f s (day_end d)) (fleets_in t)
 
 -- what a departure adds to a fleet's laps: the period starts between it and readiness
 abbrev pub laps_at : Tables → Weights → ℕ → ℕ → ℕ

@@ -1,9 +1,11 @@
-//! Stations, fleets and legs by their numbers.
-ghost use Rattle.std.specs.Prelude.{◌≡◌, ◌<◌, IfSome};
+//! Stations, fleets and legs by their numbers, the period, and the choices and departures of legs.
+ghost use Rattle.std.specs.Prelude.{◌≡◌, ◌<◌, ◌≤◌, IfSome};
+ghost use Rattle.fleet_model.specs.declared.limits.TheConstants.{MAX_CHOICES, MAX_DEPARTURES};
 ghost use Rattle.fleet_model.specs.Legal.{cost_of};
 ghost use Rattle.fleet_model.specs.Limits.{IsCost, IsFleet, IsLeg, IsStation};
-ghost use Rattle.fleet_model.specs.Schedule.{station_of, fleet_of, leg_of, stations_in, fleets_in, legs_in};
+ghost use Rattle.fleet_model.specs.Schedule.{IsFlown, IsPair, choices_in, days_in, departures_in, fleet_by, fleet_of, fleets_in, leg_of, legs_in, pair_on, parking_of, period_of, station_of, stations_in};
 
+use crate::limits::MINUTES_PER_PERIOD;
 use crate::parts::{Fleet, Leg, Pair, Station};
 use crate::tables::Tables;
 
@@ -62,5 +64,79 @@ impl Tables {
         ensures { result ≡ legs_in self.now }
     {
         self.legs.len() as u32
+    }
+
+    /// The minutes of the period after which the schedule repeats.
+    #[tactic(auto, unfolding(crate::specs::Schedule::period_of))]
+    pub fn period(&self) -> u16
+        ensures value { result ≡ period_of self.now }
+        ensures some { 1440 ≤ result }
+        ensures week { result ≤ 10080 }
+    {
+        MINUTES_PER_PERIOD
+    }
+
+    /// How many days the period has.
+    #[tactic(auto, unfolding(crate::specs::Schedule::days_in))]
+    pub fn day_count(&self) -> u32
+        ensures value { result ≡ days_in self.now }
+        ensures some { 1 ≤ result }
+        ensures week { result ≤ 7 }
+    {
+        1
+    }
+
+    /// How many aircraft may stand at a station at the end of a day, where there is a limit.
+    #[tactic(auto, unfolding(crate::specs::Schedule::parking_of))]
+    pub fn parking(&self, station: u32) -> Option<u32>
+        requires { station < stations_in self.now }
+        ensures { result ≡ parking_of self.now station }
+    {
+        let _station = station;
+        None
+    }
+
+    /// How many choices a leg has: the fleets that may fly it, each at each of its times.
+    #[tactic(auto, unfolding(crate::specs::Schedule::choices_in))]
+    pub fn choice_count(&self, leg: u32) -> u32
+        requires { leg < legs_in self.now }
+        ensures value { result ≡ choices_in self.now leg }
+        ensures few { result ≤ MAX_CHOICES }
+    {
+        let _leg = leg;
+        self.fleet_count()
+    }
+
+    /// The fleet that a pair is flown by.
+    #[tactic(auto, unfolding(crate::specs::Schedule::fleet_by, crate::specs::Schedule::choices_in))]
+    pub fn fleet_by(&self, pair: Pair) -> u32
+        requires { IsPair self.now pair }
+        ensures value { result ≡ fleet_by self.now pair }
+        ensures known { result < fleets_in self.now }
+    {
+        pair.fleet
+    }
+
+    /// How many departures all legs have together, each at each of its times.
+    #[tactic(auto, unfolding(crate::specs::Schedule::departures_in))]
+    pub fn departure_count(&self) -> u32
+        ensures value { result ≡ departures_in self.now }
+        ensures few { result ≤ MAX_DEPARTURES }
+    {
+        self.leg_count()
+    }
+
+    /// The pair by which a fleet flies a departure.
+    #[tactic(auto, unfolding(crate::specs::Schedule::departures_in, crate::specs::Schedule::leg_at, crate::specs::Schedule::choice_on, crate::specs::Schedule::choices_in, crate::specs::Schedule::fleet_by))]
+    pub fn pair_on(&self, departure: u32, fleet: u32) -> Pair
+        requires departure { departure < departures_in self.now }
+        requires fleet { fleet < fleets_in self.now }
+        ensures value { result ≡ pair_on self.now departure fleet }
+        ensures flown { IsFlown self.now result }
+    {
+        Pair {
+            leg: departure,
+            fleet,
+        }
     }
 }

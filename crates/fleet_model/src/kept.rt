@@ -1,10 +1,10 @@
 ghost use Rattle.std.specs.Prelude.{◌≡◌, ◌<◌, ℕ, ◌==◌, ◌&&◌, ◌||◌, false, slice_index_or};
-ghost use Rattle.fleet_model.specs.declared.limits.TheConstants.{MAX_FLEETS, MAX_LEGS};
+ghost use Rattle.fleet_model.specs.declared.limits.TheConstants.{MAX_CHOICES, MAX_LEGS};
 ghost use Rattle.fleet_model.specs.declared.parts.Pair.{Pair};
 ghost use Rattle.fleet_model.specs.Kept.{all_pairs, kept_by, leaves, narrowed, put_back};
 ghost use Rattle.fleet_model.specs.Schedule.{leg_on};
 
-use crate::limits::{MAX_FLEETS, MAX_LEGS};
+use crate::limits::{MAX_CHOICES, MAX_LEGS};
 use crate::parts::Pair;
 use crate::tables::Tables;
 use crate::undoing::Undo;
@@ -24,7 +24,7 @@ pub struct Step {
 /// It lies in rows of fixed size, so that no call on it takes memory.
 #[derive(Clone, Copy, Debug)]
 pub struct Kept {
-    rows: [[bool; MAX_FLEETS]; MAX_LEGS],
+    rows: [[bool; MAX_CHOICES]; MAX_LEGS],
 }
 
 impl Model for Kept {
@@ -52,7 +52,7 @@ impl Kept {
     /// Whether a pair is kept. Takes constant time and no memory.
     pub fn kept(&self, leg: u32, fleet: u32) -> bool
         requires leg { leg < MAX_LEGS }
-        requires fleet { fleet < MAX_FLEETS }
+        requires fleet { fleet < MAX_CHOICES }
         ensures { result ≡ kept_by self.now (leg_on leg fleet) }
     {
         self.rows[leg as usize][fleet as usize]
@@ -61,7 +61,7 @@ impl Kept {
     /// Takes a step into a part of the subproblem, and answers how to take it back. Takes no memory.
     pub fn narrow(&mut self, step: Step) -> Undo
         requires leg { step.leg < MAX_LEGS }
-        requires fleet { step.fleet < MAX_FLEETS }
+        requires fleet { step.fleet < MAX_CHOICES }
         ensures kept { kept_by self.new ≡ narrowed (kept_by self.old) step }
         ensures leg { result.leg ≡ step.leg }
         ensures way_back { put_back self.new result ≡ self.old }
@@ -86,30 +86,30 @@ impl Kept {
         ensures { (p : Pair) → kept_by result p ≡ false }
     {
         Kept {
-            rows: [[false; MAX_FLEETS]; MAX_LEGS],
+            rows: [[false; MAX_CHOICES]; MAX_LEGS],
         }
     }
 
     // Keeps one more pair.
     fn keep(&mut self, pair: Pair)
         requires leg { pair.leg < MAX_LEGS }
-        requires fleet { pair.fleet < MAX_FLEETS }
+        requires fleet { pair.fleet < MAX_CHOICES }
         ensures { (p : Pair) → kept_by self.new p ≡ (kept_by self.old p || (p.leg == pair.leg) && (p.fleet == pair.fleet)) }
     {
         self.rows[pair.leg as usize] = with_fleet(self.rows[pair.leg as usize], pair.fleet);
     }
 }
 
-// The row of no fleet.
-fn no_fleets() -> [bool; MAX_FLEETS]
+// The row of no choice.
+fn no_fleets() -> [bool; MAX_CHOICES]
     ensures { (f : ℕ) → slice_index_or result f false ≡ false }
 {
-    [false; MAX_FLEETS]
+    [false; MAX_CHOICES]
 }
 
-// The row with one more fleet.
-fn with_fleet(row: [bool; MAX_FLEETS], fleet: u32) -> [bool; MAX_FLEETS]
-    requires { fleet < MAX_FLEETS }
+// The row with one more choice.
+fn with_fleet(row: [bool; MAX_CHOICES], fleet: u32) -> [bool; MAX_CHOICES]
+    requires { fleet < MAX_CHOICES }
     ensures { (f : ℕ) → slice_index_or result f false ≡ (slice_index_or row f false || (f == fleet)) }
 {
     let mut more = row;
@@ -118,8 +118,8 @@ fn with_fleet(row: [bool; MAX_FLEETS], fleet: u32) -> [bool; MAX_FLEETS]
 }
 
 // The row of a step's leg after the step.
-fn row_after(row: [bool; MAX_FLEETS], step: Step) -> [bool; MAX_FLEETS]
-    requires { step.fleet < MAX_FLEETS }
+fn row_after(row: [bool; MAX_CHOICES], step: Step) -> [bool; MAX_CHOICES]
+    requires { step.fleet < MAX_CHOICES }
     ensures { (f : ℕ) → slice_index_or result f false ≡ (slice_index_or row f false && leaves step (leg_on step.leg f)) }
 {
     let fleet = step.fleet as usize;

@@ -1,9 +1,11 @@
 //! The laws of need and use, over all tables and weights, of kept pairs and of mixed plans. Each function is a law:
 //! its contract is the statement, and it does nothing.
-ghost use Rattle.std.specs.Prelude.{◌≡◌, ℕ, List, pos};
-ghost use Rattle.fleet_model.specs.declared.limits.TheConstants.{MAX_AIRCRAFT, MAX_COST, MAX_FLEETS, MAX_GROUND_MINUTES, MAX_LEGS, MAX_STATIONS, MAX_THROUGHS, MINUTES_PER_DAY, MINUTES_PER_PERIOD};
+ghost use Rattle.std.specs.Prelude.{◌≡◌, ◌<◌, ℕ, List, pos};
+ghost use Rattle.fleet_model.specs.declared.limits.TheConstants.{MAX_AIRCRAFT, MAX_CHOICES, MAX_COST, MAX_DEPARTURES, MAX_FLEETS, MAX_GROUND_MINUTES, MAX_LEGS, MAX_STATIONS, MAX_THROUGHS, MINUTES_PER_DAY, MINUTES_PER_PERIOD};
 ghost use Rattle.fleet_model.specs.declared.refusals.TheConstants.{BAD_FIELD, DUPLICATE, NOT_TEXT, TOO_LONG, TOO_MANY, TO_ITSELF, UNKNOWN_FLEET, UNKNOWN_FLIGHT, UNKNOWN_STATION, WRONG_HEADER, WRONG_WIDTH, ZERO_BLOCK};
 ghost use Rattle.fleet_model.specs.declared.tables.Tables.{Tables};
+ghost use Rattle.fleet_model.specs.Legal.{IsAssignment};
+ghost use Rattle.fleet_model.specs.Schedule.{fleets_in};
 ghost use Rattle.fleet_model.specs.Laws.{AllowedIsKept, BareHasNone, CountsAreLegs, KeptIsAllowed, NeedIsAtDepartures, NeedIsLeast, NeedSuffices, LapsAreNights, SoleIsOne, UseIsConstant, UseIsNeedAndNights};
 ghost use Rattle.fleet_model.specs.Mixed.{LegalIsMixed};
 ghost use Rattle.fleet_model.specs.Whole.{WholeIsLegal};
@@ -29,20 +31,20 @@ pub fn use_is_constant()
     ensures { UseIsConstant }
 {}
 
-/// A period is one day, so laps are nights.
+/// Where the period is one day, laps are nights.
 pub fn laps_are_nights()
     ensures { LapsAreNights }
 {}
 
-/// By an assignment a fleet uses the aircraft that it needs at all stations at the day start, and one for each night
-/// of its legs.
+/// Where the period is one day, a fleet uses by an assignment the aircraft that it needs at all stations at the day start,
+/// and one for each night of its legs.
 pub fn use_is_need_and_nights()
     ensures { UseIsNeedAndNights }
 {}
 
 /// By the weights of an assignment, departures and arrivals are numbers of its legs.
 pub fn counts_are_legs()
-    ensures { (t : Tables) (a : List ℕ) (f s m : ℕ) → CountsAreLegs t a f s m }
+    ensures { (t : Tables) (a : List ℕ) (f s m : ℕ) → IsAssignment t a → f < fleets_in t → CountsAreLegs t a f s m }
 {}
 
 /// An assignment that is allowed, as each legal one is, is of kept pairs where all pairs are kept.
@@ -55,12 +57,12 @@ pub fn kept_is_allowed()
     ensures { KeptIsAllowed }
 {}
 
-/// Where a leg keeps no fleet, no assignment is of kept pairs.
+/// Where a leg keeps no choice, no assignment is of kept pairs.
 pub fn bare_has_none()
     ensures { BareHasNone }
 {}
 
-/// Where each leg keeps one fleet, any two assignments of kept pairs are equal.
+/// Where each leg keeps one choice, any two assignments of kept pairs are equal.
 pub fn sole_is_one()
     ensures { SoleIsOne }
 {}
@@ -80,6 +82,8 @@ pub fn limits_in_numbers()
     ensures stations { MAX_STATIONS ≡ 200 }
     ensures fleets { MAX_FLEETS ≡ 20 }
     ensures legs { MAX_LEGS ≡ 1000 }
+    ensures choices { MAX_CHOICES ≡ 20 }
+    ensures departures { MAX_DEPARTURES ≡ 1000 }
     ensures throughs { MAX_THROUGHS ≡ 2000 }
     ensures aircraft { MAX_AIRCRAFT ≡ 500 }
     ensures ground_minutes { MAX_GROUND_MINUTES ≡ 600 }

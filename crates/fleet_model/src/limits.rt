@@ -14,6 +14,12 @@ pub const MAX_FLEETS: usize = 20;
 /// The most legs that tables have.
 pub const MAX_LEGS: usize = 1000;
 
+/// The most choices of a leg.
+pub const MAX_CHOICES: usize = MAX_FLEETS;
+
+/// The most departures that legs have.
+pub const MAX_DEPARTURES: usize = MAX_LEGS;
+
 /// The most through pairs that tables have.
 pub const MAX_THROUGHS: usize = 2000;
 

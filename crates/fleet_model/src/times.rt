@@ -1,51 +1,109 @@
+//! When the aircraft of a pair departs, and when it can depart again.
 ghost use Rattle.std.specs.Prelude.{◌≡◌, ◌<◌, ◌≤◌};
-ghost use Rattle.fleet_model.specs.Schedule.{fleets_in, leg_on, legs_in};
-ghost use Rattle.fleet_model.specs.Times.{busy_minutes, laps_of, nights_of, ready_minute};
+ghost use Rattle.fleet_model.specs.Schedule.{IsPair, fleets_in, leg_on, legs_in, period_of};
+ghost use Rattle.fleet_model.specs.Times.{busy_minutes, departure, laps_of, nights_of, ready_minute};
 ghost use Rattle.fleet_model.specs.declared.limits.TheConstants.{MINUTES_PER_PERIOD};
 
-use crate::limits::{MINUTES_PER_DAY, MINUTES_PER_PERIOD};
+use crate::limits::MINUTES_PER_DAY;
+use crate::parts::Pair;
 use crate::tables::Tables;
 
-/// The minutes from a leg's departure until its aircraft, of this fleet, can depart again: the flight, the
-/// fleet's turn and the extra of the station where it lands. Takes no memory.
+impl Tables {
+    /// The minute at which a pair departs, counted from the start of the period. Takes no memory.
+    #[tactic(auto, unfolding(crate::specs::Times::departure, crate::specs::Schedule::period_of))]
+    pub fn departure(&self, pair: Pair) -> u16
+        requires pair { IsPair self.now pair }
+        ensures value { result ≡ departure self.now pair }
+        ensures within { result < period_of self.now }
+        ensures week { result < 10080 }
+    {
+        self.leg(pair.leg).dep
+    }
+
+    /// The minutes from a pair's departure until its aircraft can depart again: the flight, the fleet's turn and the extra
+    /// of the station where it lands. Takes no memory.
+    pub fn busy(&self, pair: Pair) -> u16
+        requires pair { IsPair self.now pair }
+        ensures value { result ≡ busy_minutes self.now pair }
+        ensures few { result < 2880 }
+    {
+        let flown = self.leg(pair.leg);
+        flown.block + self.fleet(self.fleet_by(pair)).turn + self.station(flown.to).extra
+    }
+
+    /// The minute at which the aircraft of a pair can depart again, counted from the start of the period. Takes no memory.
+    pub fn ready(&self, pair: Pair) -> u16
+        requires pair { IsPair self.now pair }
+        ensures value { result ≡ ready_minute self.now pair }
+        ensures within { result < period_of self.now }
+    {
+        (self.departure(pair) + self.busy(pair)) % self.period()
+    }
+
+    /// How many day starts lie between a pair's departure and the minute at which its aircraft can depart again: 0, 1 or 2.
+    /// Takes no memory.
+    pub fn nights(&self, pair: Pair) -> u32
+        requires pair { IsPair self.now pair }
+        ensures value { result ≡ nights_of self.now pair }
+        ensures few { result ≤ 2 }
+    {
+        let departure = self.departure(pair);
+        u32::from((departure + self.busy(pair)) / MINUTES_PER_DAY - departure / MINUTES_PER_DAY)
+    }
+
+    /// How many period starts lie between a pair's departure and the minute at which its aircraft can depart again. Takes no
+    /// memory.
+    pub fn laps(&self, pair: Pair) -> u32
+        requires pair { IsPair self.now pair }
+        ensures value { result ≡ laps_of self.now pair }
+        ensures few { result ≤ 2 }
+    {
+        u32::from((self.departure(pair) + self.busy(pair)) / self.period())
+    }
+}
+
+/// The minutes from a leg's departure until its aircraft, of this fleet, can depart again. Takes no memory.
+#[tactic(auto, unfolding(crate::specs::Schedule::choices_in))]
 pub fn busy(tables: &Tables, leg: u32, fleet: u32) -> u16
     requires leg { leg < legs_in tables.now }
     requires fleet { fleet < fleets_in tables.now }
     ensures { result ≡ busy_minutes tables.now (leg_on leg fleet) }
 {
-    let flown = tables.leg(leg);
-    flown.block + tables.fleet(fleet).turn + tables.station(flown.to).extra
+    tables.busy(Pair { leg, fleet })
 }
 
 /// The minute at which the aircraft of a leg, of this fleet, can depart again, counted from the day start.
 /// Takes no memory.
+#[tactic(auto, unfolding(crate::specs::Schedule::choices_in, crate::specs::Schedule::period_of))]
 pub fn ready(tables: &Tables, leg: u32, fleet: u32) -> u16
     requires leg { leg < legs_in tables.now }
     requires fleet { fleet < fleets_in tables.now }
     ensures value { result ≡ ready_minute tables.now (leg_on leg fleet) }
     ensures within { result < MINUTES_PER_PERIOD }
 {
-    (tables.leg(leg).dep + busy(tables, leg, fleet)) % MINUTES_PER_PERIOD
+    tables.ready(Pair { leg, fleet })
 }
 
 /// How many day starts lie between a leg's departure and the minute at which its aircraft, of this fleet, can
 /// depart again: 0, 1 or 2. Takes no memory.
+#[tactic(auto, unfolding(crate::specs::Schedule::choices_in))]
 pub fn nights(tables: &Tables, leg: u32, fleet: u32) -> u32
     requires leg { leg < legs_in tables.now }
     requires fleet { fleet < fleets_in tables.now }
     ensures value { result ≡ nights_of tables.now (leg_on leg fleet) }
     ensures few { result ≤ 2 }
 {
-    u32::from((tables.leg(leg).dep + busy(tables, leg, fleet)) / MINUTES_PER_DAY)
+    tables.nights(Pair { leg, fleet })
 }
 
 /// How many period starts lie between a leg's departure and the minute at which its aircraft, of this fleet, can
-/// depart again. A period is a day, so these are the nights. Takes no memory.
+/// depart again. Takes no memory.
+#[tactic(auto, unfolding(crate::specs::Schedule::choices_in))]
 pub fn laps(tables: &Tables, leg: u32, fleet: u32) -> u32
     requires leg { leg < legs_in tables.now }
     requires fleet { fleet < fleets_in tables.now }
     ensures value { result ≡ laps_of tables.now (leg_on leg fleet) }
     ensures few { result ≤ 2 }
 {
-    u32::from((tables.leg(leg).dep + busy(tables, leg, fleet)) / MINUTES_PER_PERIOD)
+    tables.laps(Pair { leg, fleet })
 }
