@@ -28,7 +28,7 @@ use Rattle.dual_bound.specs.declared.nodes.Node.{Node}
 -- ---- of the pairs that a part keeps, the whole keeps each
 -- a mixed plan of a part is one of the whole
 whole_plan : (t : Tables) (keeps : Domains) (step : Step) (q : ℕ) (w : Weights) → IsMixedPlan t (narrowed keeps step) q w → IsMixedPlan t keeps q w
-whole_plan t keeps step q w plan = record { kept = λ p pair other. plan.kept p pair (not_kept (keeps p) (leaves step p) other); cover = plan.cover; balanced = plan.balanced; within = plan.within }
+whole_plan t keeps step q w plan = record { kept = λ p pair other. plan.kept p pair (not_kept (keeps p) (leaves step p) other); cover = plan.cover; balanced = plan.balanced; within = plan.within; room = plan.room }
   where
     not_kept : (a b : Bool) → a ≡ false → a && b ≡ false
     not_kept false b e = refl

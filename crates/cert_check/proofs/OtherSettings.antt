@@ -11,6 +11,7 @@ use Rattle.fleet_model.specs.declared.parts.PairCost.{PairCost}
 use Rattle.fleet_model.specs.declared.parts.Station.{Station}
 use Rattle.fleet_model.specs.declared.parts.Through.{Through}
 use Rattle.fleet_model.specs.declared.tables.Tables.{Tables}
+use Rattle.fleet_model.proofs.Choices.{nothing_parked}
 use Rattle.dual_bound.specs.Bound.{IsBoundIn, IsPriceBound, IsSoleBound, part}
 use Rattle.dual_bound.specs.Fractions.{IsFraction, IsMixedAt}
 use Rattle.dual_bound.specs.Prices.{AreWithin, NeverRise, RiseByRent}
@@ -59,6 +60,7 @@ module _ (s : List Station) (f : List Fleet) (l : List Leg) (c : List PairCost) 
     allowed = record { each = is.allowed.each };
     balanced = balanced a b (weights_of plan) is.balanced;
     within = record { each = is.within.each };
+    room = nothing_parked (by b) 1 (weights_of plan);
   }
 
   kept_plan : (a b : Settled) (keeps : Domains) (plan : List ℕ) → IsKeptAssignment (by a) keeps plan → IsKeptAssignment (by b) keeps plan
@@ -102,6 +104,7 @@ module _ (s : List Station) (f : List Fleet) (l : List Leg) (c : List PairCost) 
       cover = is.plan.cover;
       balanced = balanced a b _ is.plan.balanced;
       within = is.plan.within;
+      room = nothing_parked (by b) _ _;
     };
   }
 

@@ -19,6 +19,7 @@ use stand_counts::{arrivals, departures, used};
 
 /// Whether a fractional assignment is one of a subproblem: scale and weights within their limits, weights on kept
 /// pairs alone, which sum to the scale for each leg, balanced, and within the fleets. Takes no memory.
+#[tactic(auto, using(fleet_model::proofs::Choices::nothing_parked))]
 pub(crate) fn is_mixed(tables: &Tables, kept: &Kept, mixed: &Mixed) -> bool
     ensures { MatchBool result (IsMixedAt tables.now (kept_by kept.now) mixed.now) (¬ (IsMixedAt tables.now (kept_by kept.now) mixed.now)) }
 {

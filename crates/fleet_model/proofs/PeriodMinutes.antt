@@ -93,10 +93,10 @@ pub few_nights : (t : Tables) (p : Pair) → IsPair t p → nights_of t p ≤ 2
 few_nights t p known = omega (arith, few_minutes t p known)
 
 -- where the period is one day, laps are nights
-pub nights_are_laps : (t : Tables) (p : Pair) → days_in t ≡ 1 → IsPair t p → nights_of t p ≡ laps_of t p
-nights_are_laps t p one known =
+pub nights_are_laps : (t : Tables) (p : Pair) → days_in t ≡ 1 → departure t p < period_of t → nights_of t p ≡ laps_of t p
+nights_are_laps t p one departs =
     let day : period_of t ≡ MINUTES_PER_DAY = omega (arith, days_are_period t, one) in
-    let within : departure t p < MINUTES_PER_DAY = omega (arith, day, departs_in t p known) in
+    let within : departure t p < MINUTES_PER_DAY = omega (arith, day, departs) in
     let none : departure t p / MINUTES_PER_DAY ≡ 0 = omega arith in
     let same : (departure t p + busy_minutes t p) / MINUTES_PER_DAY ≡ laps_of t p = ap (λ n. (departure t p + busy_minutes t p) / n) (sym day) in
     omega (arith, none, same)

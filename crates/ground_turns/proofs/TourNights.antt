@@ -8,9 +8,10 @@ use Rattle.fleet_model.specs.declared.limits.TheConstants.{MINUTES_PER_DAY}
 use Rattle.fleet_model.specs.declared.parts.Connection.{Connection}
 use Rattle.fleet_model.specs.declared.tables.Tables.{Tables}
 use Rattle.fleet_model.specs.Counts.{weights_of}
-use Rattle.fleet_model.specs.Schedule.{leg_on}
+use Rattle.fleet_model.specs.Schedule.{leg_on, legs_in}
 use Rattle.fleet_model.specs.Times.{nights_of}
-use Rattle.fleet_model.specs.Use.{laps_flown}
+use Rattle.fleet_model.specs.Use.{laps_at, laps_flown}
+use Rattle.fleet_model.proofs.PeriodMinutes.{departs_on, nights_are_laps}
 use Rattle.ground_turns.specs.Laws.{NightsAreUse}
 use Rattle.ground_turns.specs.Maps.{IsSuccessorMap, crossings_of, turn_at}
 use Rattle.ground_turns.specs.Nights.{nights_in_turn, nights_in_turns}
@@ -57,8 +58,10 @@ module _ (t : Tables) (a : List ℕ) (f : ℕ) (turns : List Connection) (map : 
   all_nights =
       let parts = sum_below-add (λ k. nights_of t (leg_on (turn_at turns k).arriving f)) (λ k. nights_waited t f (turn_at turns k)) (length turns) in
       let flown = over_arrivals t a f turns map (λ l. nights_of t (leg_on l f)) in
+      let laps = sum_below-agree (λ l. weights_of a (leg_on l f) * nights_of t (leg_on l f)) (laps_at t (weights_of a) f) (legs_in t)
+      (record { each = λ l below. ap (λ n. weights_of a (leg_on l f) * n) (nights_are_laps t (leg_on l f) refl (departs_on t l f below)) }) in
       let stood = sum_below-agree (λ k. nights_waited t f (turn_at turns k)) (λ k. bit (crosses t f (turn_at turns k))) (length turns) (record { each = λ k lt. waited k lt }) in
-      omega (arith, parts, flown, stood)
+      omega (arith, parts, flown, laps, stood)
 
 pub nights_are_use : NightsAreUse
 nights_are_use t a f turns h = omega (arith, nights_long t f turns, all_nights t a f turns h.map, h.fits)

@@ -11,6 +11,7 @@ use Rattle.fleet_model.specs.Kept.{Domains}
 use Rattle.fleet_model.specs.Mixed.{IsMixedPlan, weight_on}
 use Rattle.fleet_model.specs.Schedule.{fleet_of, fleets_in, legs_in, stations_in}
 use Rattle.fleet_model.specs.Use.{excess, last_minute, laps_flown, need_of, used_of}
+use Rattle.fleet_model.proofs.Choices.{nothing_parked}
 use Rattle.node_aggregate.specs.Laws.{WeighKept, excess_at_end}
 use Rattle.node_aggregate.specs.Nodes.{node_end}
 use Rattle.node_aggregate.proofs.NodeEnds.{end_at_last, need_is_at_node_ends}
@@ -104,4 +105,5 @@ module _ (t : Tables) (keeps : Domains) (starts : Starts) (q : ℕ) (v : Column 
     cover = flow.cover;
     balanced = record { each = balanced };
     within = within_fleet;
+    room = nothing_parked t q (flown v);
   }

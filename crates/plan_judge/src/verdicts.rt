@@ -35,6 +35,7 @@ pub enum Verdict {
 }
 
 /// Judges an assignment, which has a known fleet for each leg. Takes no memory.
+#[tactic(auto, using(fleet_model::proofs::Choices::nothing_parked))]
 pub fn judge(tables: &Tables, plan: &Assignment) -> Verdict
     requires { IsAssignment tables.now plan.now }
 

@@ -16,6 +16,7 @@ use Rattle.fleet_model.specs.Mixed.{IsMixedPlan, mixed_cost, weight_on, weighted
 use Rattle.fleet_model.specs.Schedule.{IsPair, fleet_of, fleets_in, leg_on, legs_in, stations_in}
 use Rattle.fleet_model.specs.Times.{laps_of}
 use Rattle.fleet_model.specs.Use.{excess, laps_at, laps_flown, last_minute, need_of, used_of}
+use Rattle.fleet_model.proofs.Choices.{nothing_parked}
 use Rattle.dual_lift.proofs.Multiples.{of_difference, of_maximum}
 use Rattle.lp_rows.proofs.PairParts.{of_test}
 
@@ -59,6 +60,7 @@ module _ (t : Tables) (k : ℕ) (x w : Weights) (same : (p : Pair) → IsPair t 
           (omega (arith, of_arrived f s last_minute known, of_departed f s last_minute known, plan.balanced.each f s known within));
     };
     within = λ f known. cancel_le k (used_of t w f) (q * (fleet_of t f).aircraft) some (omega (arith, of_used f known, plan.within f known));
+    room = nothing_parked t q w;
   }
 
 -- a mixed plan gives no pair more than its scale

@@ -15,6 +15,7 @@ use Rattle.fleet_model.specs.declared.parts.Connection.{Connection}
 use Rattle.fleet_model.specs.declared.parts.Leg.{Leg}
 use Rattle.fleet_model.specs.declared.parts.Settings.{Settings}
 use Rattle.fleet_model.specs.declared.tables.Tables.{Tables}
+use Rattle.fleet_model.proofs.Choices.{nothing_parked}
 use Rattle.fleet_model.proofs.CostLookup.{cost_found}
 use Rattle.ground_turns.specs.Maps.{IsNext, IsSuccessorMap, crossings_of, no_turn, periods_of, turn_by, turns_by}
 use Rattle.ground_turns.specs.Turns.{crosses}
@@ -205,4 +206,5 @@ module _ (trips : List RoundTrip) (settings : Settings) (are : AreTrips trips) (
     allowed = allowed;
     balanced = record { each = λ f s known station. balanced_fleet f s known };
     within = record { each = λ f known. used_within f known };
+    room = nothing_parked t 1 (weights_of a);
   }
