@@ -19,3 +19,5 @@ pub mod Naturals
 pub mod NumberTests
 pub mod Sizes
 pub mod Turned
+pub mod Ways
+pub mod Ranks
