@@ -4,3 +4,5 @@ pub mod Ends
 pub mod Laws
 pub mod Duality
 pub mod LastTables
+pub mod Bases
+pub mod Finished

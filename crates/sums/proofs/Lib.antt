@@ -20,3 +20,5 @@ pub mod NumberTests
 pub mod Sizes
 pub mod Turned
 pub mod Blocks
+pub mod Ways
+pub mod Ranks

@@ -1,3 +1,4 @@
 pub mod Below
 pub mod Divisors
 pub mod Places
+pub mod Ways
