@@ -6,10 +6,7 @@ pub mod Tables
 pub mod LeastRatio
 pub mod PivotNumbers
 pub mod Turns
-pub mod StepChoices
 pub mod LineSums
 pub mod SignTests
-pub mod Squares
 pub mod RowReads
-pub mod NoneNegative
 pub mod AllPlaces

@@ -1,5 +1,5 @@
 use Rattle.node_bounding.proofs.Lifts.{has_ended}
-use Rattle.bound_calls.proofs.sign_lifts.lifted_with.Goals as goal
+use Rattle.bound_calls.proofs.hint_lifts.lifted_with.Goals as goal
 
 pub lifted_from_prescribed-requires-clause-ended : goal.lifted_from_prescribed-requires-clause-ended
 lifted_from_prescribed-requires-clause-ended c =
