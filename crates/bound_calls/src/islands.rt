@@ -71,7 +71,7 @@ fn is_least_cost_paid_back<R: Abort + Alloc<A = Global>>(
 fn prices_that_are_paid_back_are_worth_as_much(rt: HostRuntime) -> Result<(), Fail> {
     let tables = read(rt.alloc(), &NONE_TO_SPARE)?;
     is_least_cost_paid_back(&rt, &tables, Way::Prescribed)?;
-    assert!(rt; is_least_cost_paid_back(&rt, &tables, Way::BySigns)?);
+    assert!(rt; is_least_cost_paid_back(&rt, &tables, Way::ByHint)?);
     Ok(())
 }
 

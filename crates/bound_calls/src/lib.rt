@@ -5,7 +5,7 @@
 #[cfg(test)]
 mod assertions;
 #[cfg(test)]
-mod dual_runs;
+mod hint_lifts;
 #[cfg(test)]
 mod finishing;
 #[cfg(test)]
@@ -22,7 +22,5 @@ mod network;
 mod pivoting;
 #[cfg(test)]
 mod presolving;
-#[cfg(test)]
-mod sign_lifts;
 #[cfg(test)]
 mod solving;

@@ -3,8 +3,8 @@ ghost use Rattle.std.specs.Prelude.{IfOk, IfSome};
 ghost use Rattle.dual_bound.specs.Prices.{ArePrices};
 
 use crate::assertions::assert_same;
+use crate::hint_lifts::{lifted_by_hint, lifted_with};
 use crate::lifting::lifted;
-use crate::sign_lifts::{lifted_by_signs, lifted_with};
 use dual_bound::worth::worth;
 use dual_bound::{Mixed, Prices, Weight};
 use fleet_model::{Kept, Step, Tables};
@@ -21,8 +21,8 @@ pub enum Way {
     Prescribed,
     /// By the same and the outline of the subproblem.
     ByOutline,
-    /// By the dual simplex method.
-    BySigns,
+    /// By a hint that is checked.
+    ByHint,
 }
 
 /// What a run over a subproblem's lines gives; nothing where it gives up.
@@ -37,7 +37,7 @@ pub fn lifted_by(
     match way {
         Way::Prescribed => Ok(lifted(alloc, tables, kept)?),
         Way::ByOutline => Ok(lifted_with(alloc, tables, kept)?),
-        Way::BySigns => Ok(lifted_by_signs(alloc, tables, kept)?),
+        Way::ByHint => Ok(lifted_by_hint(alloc, tables, kept)?),
     }
 }
 
@@ -165,19 +165,18 @@ fn a_part_of_a_split_is_refuted(rt: HostRuntime) -> Result<(), Fail> {
 }
 
 #[test]
-fn a_round_trip_is_worth_its_cost_by_signs(rt: HostRuntime) -> Result<(), Fail> {
-    assert_round_trip(&rt, Way::BySigns)
+fn a_round_trip_is_worth_its_cost_by_a_hint(rt: HostRuntime) -> Result<(), Fail> {
+    assert_round_trip(&rt, Way::ByHint)
 }
 
 #[test]
-fn half_weights_fly_overlapping_trips_by_signs(rt: HostRuntime) -> Result<(), Fail> {
-    assert_overlapping(&rt, Way::BySigns)
+fn half_weights_fly_overlapping_trips_by_a_hint(rt: HostRuntime) -> Result<(), Fail> {
+    assert_overlapping(&rt, Way::ByHint)
 }
 
-/// A row refuses it.
 #[test]
-fn a_row_refutes_a_part_of_a_split(rt: HostRuntime) -> Result<(), Fail> {
-    assert_refuted(&rt, Way::BySigns)
+fn a_hint_refutes_a_part_of_a_split(rt: HostRuntime) -> Result<(), Fail> {
+    assert_refuted(&rt, Way::ByHint)
 }
 
 #[test]

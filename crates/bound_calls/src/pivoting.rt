@@ -5,7 +5,7 @@ use crate::assertions::assert_same;
 use entries::{Entries, NoMemory};
 use row_store::{Dense, Line, RowStore, Rows, is_problem};
 use simplex_frac::{Outcome, solve};
-use sparse_store::{Listed, Sparse};
+use sparse_store::Sparse;
 use std::alloc::Global;
 use std::test::Fail;
 
@@ -51,7 +51,7 @@ const RUNS: &[Run] = &[
         pivots: 5,
         end: ("no point", &[1], 0, 0, 0),
     },
-    // The product 5 * 2 ^ 62 outgrows 64 bits, so the table goes on by lists.
+    // The product 5 * 2 ^ 62 takes more than 64 bits.
     Run {
         lines: &[&[3, MIDDLE, 1], &[5, 1, 2]],
         costs: &[0, 0],
@@ -114,9 +114,7 @@ fn runs_and_their_ends(rt: HostRuntime) -> Result<(), Fail> {
         assert!(rt; is_problem(&rows));
         let dense = outcome_over::<Dense>(rt.alloc(), &rows, run.pivots)?;
         let sparse = outcome_over::<Sparse>(rt.alloc(), &rows, run.pivots)?;
-        let listed = outcome_over::<Listed>(rt.alloc(), &rows, run.pivots)?;
         assert_same(&rt, (told(&dense), told(&sparse)), (run.end, run.end));
-        assert_same(&rt, told(&listed), run.end);
     }
     Ok(())
 }

@@ -42,10 +42,9 @@ module _ (t : Tables) (root : Domains) (best : Option Plan) (before after : Sear
   at_first : (P : ℕ → Type 0) → P 0 → (k : ℕ) → k < 1 → P k
   at_first P here k less = let same : k ≡ 0 = omega (arith, less) in subst P (sym same) here
 
-  told : IsTold t before.pivots best 1 begins
+  told : IsTold t best 1 begins
   told = record {
     each = at_first _ is.is;
-    priced = at_first _ is.priced;
     turns = at_first _ (fresh_turn t 1 begins.made begins.found begins.parts 0 one is.fresh);
     cheapest = is.cheapest;
     levels = at_first _ (no_level t root one is.fresh);
@@ -79,8 +78,7 @@ module _ (t : Tables) (root : Domains) (best : Option Plan) (before after : Sear
         within = omega (arith, put.splits, splits_is);
         count = omega (arith, count, put.splits, splits_is);
         chronicle = begins;
-        told = subst (λ p. IsTold t p after.best (length after.made.items) begins) (sym put.pivots)
-            (subst (λ x. IsTold t before.pivots x (length after.made.items) begins) (sym best_after) (subst (λ n. IsTold t before.pivots best n begins) (sym count) told));
+        told = subst (λ x. IsTold t x (length after.made.items) begins) (sym best_after) (subst (λ n. IsTold t best n begins) (sym count) told);
         numbered = λ k below. subst (λ xs. IsNumbered t root xs begins k) (sym all_is) (numbered k (subst (λ n. k < n) count below));
         right = λ final less k below.
             subst (λ p. IsRightAt t p final after.made.items begins k) (sym put.pivots) (subst (λ xs. IsRightAt t before.pivots final xs begins k) (sym all_is)

@@ -88,7 +88,7 @@ module _ (t : Tables) (nodes pivots : ℕ) (root : Domains) (s : Search) (done :
     count = length all;
     twice = done.search.count;
     chronicle = c;
-    told = subst (λ p. IsTold t p s.best (length all) c) done.pivots_allowed done.search.told;
+    told = done.search.told;
     grown = grown;
     over = over done.over;
   })

@@ -168,8 +168,7 @@ module _ (t : Tables) (root : Domains) (s : Search) (rank : Rank) (search : IsSe
       within = omega (arith, is.splits, is.nodes, nodes, splits, next.room);
       count = omega (arith, list_grown.longer, search.count, is.splits, splits);
       chronicle = grown.chronicle;
-      told = subst (λ p. IsTold t p after.best (length after.made.items) grown.chronicle) (sym (is.pivots ∙ pivots))
-          (subst (λ x. IsTold t s.pivots x (length after.made.items) grown.chronicle) (sym is.best) (subst (λ count. IsTold t s.pivots between.best count grown.chronicle) (sym list_grown.longer) grown.told));
+      told = subst (λ x. IsTold t x (length after.made.items) grown.chronicle) (sym is.best) (subst (λ count. IsTold t between.best count grown.chronicle) (sym list_grown.longer) grown.told);
       numbered = λ k below. grown.numbered k (subst (λ m. k < m) list_grown.longer below);
       right = λ final less k below. subst (λ p. IsRightAt t p final after.made.items grown.chronicle k) (sym (is.pivots ∙ pivots))
           (grown.right final (subst (λ x. IsNoMore (cost_of x) final) is.best less) k (subst (λ m. k < m) list_grown.longer below));

@@ -91,7 +91,7 @@ module _ (t : Tables) (nodes pivots : ℕ) (best : Option Plan) (whole : Tree) (
   few : splits_in whole ≤ nodes
   few = omega (arith, splits_are, is.comes.few)
 
-  are_made : AreMade t pivots (cost_of best) whole
+  are_made : AreMade t (cost_of best) whole
   are_made = record {
     count = is.comes.count;
     made = is.comes.chronicle.made;
@@ -99,7 +99,6 @@ module _ (t : Tables) (nodes pivots : ℕ) (best : Option Plan) (whole : Tree) (
     parts = is.comes.chronicle.parts;
     all = subst (IsPermutation (list_below is.comes.chronicle.made is.comes.count)) (sym (searched_below t (all_pairs t) is.removals is.rest whole is.below grown.searched)) grown.all;
     each = is.comes.told.each;
-    priced = is.comes.told.priced;
     turns = is.comes.told.turns;
     best = is.comes.told.cheapest;
   }

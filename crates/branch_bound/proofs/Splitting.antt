@@ -19,7 +19,6 @@ use Rattle.node_bounding.specs.Examined.{IsExamined, IsFoundHere}
 use Rattle.node_bounding.specs.Found.{EndsAt, IsEndOf}
 use Rattle.branch_bound.specs.History.{Chronicle, IsAtLevel, IsFrom, IsGrown, IsNumbered, IsPlaced, IsRightAt, IsSingle, IsTold, prices_above, prices_in, split_state}
 use Rattle.node_bounding.specs.Made.{IsBelowBest, IsInTurn, IsMadeAs, IsNextBefore, IsSplitInTurn, WaitsAs, best_before}
-use Rattle.node_bounding.specs.RunPrices.{HasRunPrices}
 use Rattle.branch_bound.specs.Ranks.{AreRanks, IsNoLater, IsWaitingAt}
 use Rattle.node_bounding.specs.Subproblems.{IsFractional, IsNoMore, IsRight, cost_of, node_of}
 use Rattle.branch_bound.specs.Search.{at, step_into}
@@ -40,13 +39,13 @@ use Rattle.branch_bound.proofs.Numbering.{no_parent, numbered_grown as numbers_g
 -- a list of so many subproblems of a search, whose cheapest plan this is
 pub record HasGrown (t : Tables) (root : Domains) (pivots : ℕ) (best : Option Plan) (count : ℕ) (all : List Subproblem) : Type 0 where
   pub chronicle : Chronicle
-  pub told : IsTold t pivots best count chronicle
+  pub told : IsTold t best count chronicle
   pub numbered : (k : ℕ) → k < count → IsNumbered t root all chronicle k
   pub right : (final : Option ℤ) → IsNoMore (cost_of best) final → (k : ℕ) → k < count → IsRightAt t pivots final all chronicle k
   pub singles : (k : ℕ) → k < count → IsSingle (at all k).state
 
 module _ (t : Tables) (root : Domains) (pivots : ℕ) (best mid after : Option Plan) (all grown : List Subproblem) (c : Chronicle) (rank : Rank) (ranks : List Rank) (f : Fraction) (pair : Pair) (yes no : State)
-    (told : IsTold t pivots best (length all) c) (numbered : (k : ℕ) → k < length all → IsNumbered t root all c k)
+    (told : IsTold t best (length all) c) (numbered : (k : ℕ) → k < length all → IsNumbered t root all c k)
     (right : (final : Option ℤ) → IsNoMore (cost_of best) final → (k : ℕ) → k < length all → IsRightAt t pivots final all c k) (singles : (k : ℕ) → k < length all → IsSingle (at all k).state)
     (ranked : AreRanks all ranks) (least : All (IsNoLater rank) ranks) (below : IfSome (cost_of best) (λ cost. rank.worth <ℤ cost)) (within : rank.number < length all)
     (state_is : (at all rank.number).state ≡ state.Waiting f) (worth_is : f.worth ≡ rank.worth) (pair_is : pair ≡ leg_on f.leg f.fleet) (is : IsGrown all grown rank.number pair yes no)
@@ -180,11 +179,6 @@ module _ (t : Tables) (root : Domains) (pivots : ℕ) (best mid after : Option P
 
       at_second : As t (best_before found (suc n)) (made (suc n)) (found (suc n))
       at_second = moved t _ _ _ second _ _ best_mid made_second found_second two.is
-
-  -- ---- the runs that give the prices
-  priced_grown : (k : ℕ) → k < suc (suc n) → HasRunPrices t pivots (made k).keeps (made k).node
-  priced_grown = each_three c.made b n here first second (λ w. HasRunPrices t pivots w.keeps w.node) within
-      (subst (HasRunPrices t pivots keeps) old_node (told.priced b within)) (λ k less other. told.priced k less) one.priced two.priced
 
   -- ---- the turns of the splits
   -- at another subproblem what waits now waited before
@@ -341,8 +335,8 @@ module _ (t : Tables) (root : Domains) (pivots : ℕ) (best mid after : Option P
       by_second (inl same) = subst (λ x. IfSome x (λ plan. IsPlaced t plan (suc (suc n)) goes_on)) (sym same) (by_first one.place)
       by_second (inr found_here) = at_new after (suc n) _ _ (omega arith) made_second found_here
 
-  told_grown : IsTold t pivots after (suc (suc n)) goes_on
-  told_grown = record { each = each_grown; priced = priced_grown; turns = turns_grown; cheapest = sym best_after; levels = levels_grown; cost_from = cost_grown; place = place_grown }
+  told_grown : IsTold t after (suc (suc n)) goes_on
+  told_grown = record { each = each_grown; turns = turns_grown; cheapest = sym best_after; levels = levels_grown; cost_from = cost_grown; place = place_grown }
 
   -- ---- the list
   numbered_grown : (k : ℕ) → k < suc (suc n) → IsNumbered t root grown goes_on k

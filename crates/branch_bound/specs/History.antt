@@ -20,7 +20,6 @@ use Rattle.node_bounding.specs.Causes.{zero_prices}
 use Rattle.node_bounding.specs.Examined.{IsDoneLeaf}
 use Rattle.node_bounding.specs.Found.{IsEndOf}
 use Rattle.node_bounding.specs.Made.{IsInTurn, IsMadeAs, best_before}
-use Rattle.node_bounding.specs.RunPrices.{HasRunPrices}
 use Rattle.branch_bound.specs.Ranks.{AreRanks, ComesBefore, IsOver, ranks_with}
 use Rattle.node_bounding.specs.Subproblems.{IsNoMore, IsPart, IsPlan, IsRight, cost_of, node_of}
 use Rattle.branch_bound.specs.Search.{IsSplitBy, at, step_into}
@@ -59,11 +58,9 @@ pub record IsPlaced (t : Tables) (plan : Plan) (count : ℕ) (c : Chronicle) : T
   pub within : number < count
   pub end : IsEndOf t plan.assignment plan.cost (c.made number)
 
--- what so many subproblems were made as, in which order, by runs with so many pivots allowed, and what the cheapest plan is
--- behind them
-pub record IsTold (t : Tables) (pivots : ℕ) (best : Option Plan) (count : ℕ) (c : Chronicle) : Type 0 where
+-- what so many subproblems were made as, in which order, and what the cheapest plan is behind them
+pub record IsTold (t : Tables) (best : Option Plan) (count : ℕ) (c : Chronicle) : Type 0 where
   pub each : (k : ℕ) → k < count → IsMadeAs t (best_before c.found k) (c.made k).keeps (c.made k).node (c.found k)
-  pub priced : (k : ℕ) → k < count → HasRunPrices t pivots (c.made k).keeps (c.made k).node
   pub turns : (k : ℕ) → k < count → IsInTurn t count c.made c.found c.parts k (c.made k).node
   pub cheapest : cost_of best ≡ best_before c.found count
   pub levels : (k : ℕ) → k < count → IsAtLevel t c.level (c.made k).keeps (c.made k).node
@@ -135,7 +132,7 @@ pub record IsSearch (t : Tables) (root : Domains) (s : Search) : Type 0 where
   pub within : s.splits ≤ s.nodes
   pub count : length s.made.items ≡ suc (s.splits + s.splits)
   pub chronicle : Chronicle
-  pub told : IsTold t s.pivots s.best (length s.made.items) chronicle
+  pub told : IsTold t s.best (length s.made.items) chronicle
   pub numbered : (k : ℕ) → k < length s.made.items → IsNumbered t root s.made.items chronicle k
   pub right : (final : Option ℤ) → IsNoMore (cost_of s.best) final → (k : ℕ) → k < length s.made.items → IsRightAt t s.pivots final s.made.items chronicle k
   pub singles : (k : ℕ) → k < length s.made.items → IsSingle (at s.made.items k).state
@@ -265,6 +262,6 @@ pub record ComesTo (t : Tables) (nodes pivots : ℕ) (root : Domains) (best : Op
   pub count : ℕ
   pub twice : count ≡ suc (splits + splits)
   pub chronicle : Chronicle
-  pub told : IsTold t pivots best count chronicle
+  pub told : IsTold t best count chronicle
   pub grown : (final : Option ℤ) → IsNoMore (cost_of best) final → IsGrownTree t root pivots final count chronicle tree
   pub over : (splits ≡ nodes) ⊎ ((k : ℕ) → k < count → IsReachedNode t (cost_of best) (chronicle.made k).keeps (chronicle.made k).node)

@@ -75,7 +75,7 @@ pub record IsLeft (t : Tables) (pivots : ℕ) (cost : Option ℤ) (tree : Tree) 
   pub left : Tree
   pub sound : AreSound t cost (all_pairs t) left
   pub caused : AreCaused t pivots (all_pairs t) (zero_prices t) left
-  pub made : AreMade t pivots cost left
+  pub made : AreMade t cost left
   pub closed : tree ≡ closed_by t cost left
 
 -- No split has a greater rounded worth than a leaf that is open for splits, or than the plan costs.

@@ -2,6 +2,7 @@
 use Rattle.std.specs.Prelude.{◌≡◌, ℕ, ◌<◌, List, length, slice_index_or, ℤ, pos, neg_ℤ, ◌*ℤ◌, ◌<ℤ◌, ◌≤ℤ◌}
 use Rattle.frac_row.specs.declared.row.FracRow.{FracRow}
 use Rattle.row_store.specs.Problem.{IsProblem}
+pub use Rattle.row_store.specs.DualValues.{AreDualValues, WeighMore}
 use Rattle.row_store.specs.Table.{cost_row, right_side}
 use Rattle.row_store.specs.declared.problem.Rows.{Rows}
 use Rattle.reached_tables.specs.Duality.{HasUnitColumns, IsTableOf, ReadsOff, den_at, weighed}
@@ -39,15 +40,6 @@ counts_costs PhaseRow = 0
 counts_costs CostRow = 1
 counts_costs (LineRow row) = 0
 
--- dual values over a scale: with them no real column weighs more than it costs, and more than 0 where costs don't count
-pub record AreDualValues (rows : Rows) (counted : ℕ) (scale : ℤ) (value : ℕ → ℤ) : Type 0 where
-  pub some : pos 0 <ℤ scale
-  pub under : (column : ℕ) → column < rows.columns → weighed rows value column ≤ℤ ((pos counted *ℤ scale) *ℤ slice_index_or rows.costs column (pos 0))
-
 -- the right sides weigh what the cost row tells, each over its own scale
 pub record WeighTheCost (rows : Rows) (table : List FracRow) (scale : ℤ) (value : ℕ → ℤ) : Type 0 where
   pub sides : weighed rows value rows.columns *ℤ den_at table (cost_row table) ≡ neg_ℤ (right_side table (cost_row table)) *ℤ scale
-
--- .. more than 0, where no column does: so no point meets the lines
-pub record WeighMore (rows : Rows) (value : ℕ → ℤ) : Type 0 where
-  pub sides : pos 0 <ℤ weighed rows value rows.columns

@@ -1,4 +1,4 @@
-//! Subproblems that the dual simplex method settles, refutes, or leaves to the prescribed run.
+//! Subproblems that a hint settles or refutes, or that are left to the prescribed run.
 use crate::rows::Laid;
 use crate::searches::Known::{Begin, End, Whole};
 use crate::searches::{Search, run_searches};
@@ -8,24 +8,24 @@ use crate::tables::NO_ROTATION;
 use plan_desk::DeskFile::Legs;
 use std::test::Fail;
 
-const NO_NODES_AND_12_PIVOTS: &str = "fleetplan solve d --day-start 00:00 --nodes 0 --pivots 12";
+const NO_NODES_AND_5_PIVOTS: &str = "fleetplan solve d --day-start 00:00 --nodes 0 --pivots 5";
 
-const NO_NODES_AND_13_PIVOTS: &str = "fleetplan solve d --day-start 00:00 --nodes 0 --pivots 13";
+const NO_NODES_AND_6_PIVOTS: &str = "fleetplan solve d --day-start 00:00 --nodes 0 --pivots 6";
 
-// The prescribed run needs 13 pivots, and the one before it 14: with 13 the second that is tried settles what the first
-// doesn't, and with 12 neither does.
-const TWO_WITH_13_PIVOTS: Search = Search {
-    line: NO_NODES_AND_13_PIVOTS,
+// A hint takes 6 pivots after its start, and the prescribed run needs 13: with 6 the hint settles what that run doesn't, and
+// with 5 neither does.
+const TWO_WITH_6_PIVOTS: Search = Search {
+    line: NO_NODES_AND_6_PIVOTS,
     ..TWO_UNSPLIT
 };
 
-const TWO_WITH_12_PIVOTS: Search = Search {
-    line: NO_NODES_AND_12_PIVOTS,
+const TWO_WITH_5_PIVOTS: Search = Search {
+    line: NO_NODES_AND_5_PIVOTS,
     text: Whole(
         b"outcome: unsettled\ncost: none\nbound: 60\nsplits: 0\n\
             open: 0 nodes, 1 pivots, 0 grew\n",
     ),
-    proof: End(b"open pivots 12\nscale 1\nend\n"),
+    proof: End(b"open pivots 5\nscale 1\nend\n"),
     ..TWO_UNSPLIT
 };
 
@@ -56,13 +56,13 @@ const THREE_AT_ONCE: Search = Search {
 };
 
 #[test]
-fn halves_within_thirteen_pivots(rt: HostRuntime) -> Result<(), Fail> {
-    run_searches(&rt, &[TWO_WITH_13_PIVOTS])
+fn halves_within_six_pivots(rt: HostRuntime) -> Result<(), Fail> {
+    run_searches(&rt, &[TWO_WITH_6_PIVOTS])
 }
 
 #[test]
-fn halves_within_twelve_pivots(rt: HostRuntime) -> Result<(), Fail> {
-    run_searches(&rt, &[TWO_WITH_12_PIVOTS])
+fn halves_within_five_pivots(rt: HostRuntime) -> Result<(), Fail> {
+    run_searches(&rt, &[TWO_WITH_5_PIVOTS])
 }
 
 #[test]

@@ -25,9 +25,8 @@ use Rattle.node_bounding.specs.Found.{EndsAt}
 use Rattle.node_bounding.specs.Made.{CouldBeSplit, IsMadeAs}
 use Rattle.node_bounding.specs.Offers.{IsNoSole, IsOffered, IsPlanOf, IsSoleOffered, IsTaken}
 use Rattle.node_bounding.specs.Relaxed.{AreBest, AreGood, AreRefuting, IsWhyStopped}
-use Rattle.node_bounding.specs.RunPrices.{HasRunPrices, IsPricedWithin, IsRefutedWithin}
 use Rattle.node_bounding.specs.Runs.{IsSearched}
-use Rattle.node_bounding.specs.Subproblems.{IsNoMore, IsPart, IsPlan, cost_of}
+use Rattle.node_bounding.specs.Subproblems.{IsLess, IsNoMore, IsPart, IsPlan, cost_of}
 use Rattle.node_bounding.specs.Splits.{IsSplit}
 use Rattle.node_bounding.specs.Trims.{AreSearched}
 use Rattle.node_bounding.specs.Wholes.{FliesParts}
@@ -45,27 +44,27 @@ use Rattle.node_bounding.proofs.WholePlans.{whole_kept, whole_legal, whole_worth
 -- ---- nothing was found
 module _ (t : Tables) (pivots : ℕ) (best : Option Plan) (plan : IfSome best (IsPlan t)) (keeps : Domains) (above : Prices) where
   -- a leaf
-  at_leaf : (leaf : Tree) → IsDoneLeaf leaf → IsMadeAs t (cost_of best) keeps (own_node leaf) None → HasRunPrices t pivots keeps (own_node leaf) → AreSearched t keeps leaf
+  at_leaf : (leaf : Tree) → IsDoneLeaf leaf → IsMadeAs t (cost_of best) keeps (own_node leaf) None → AreSearched t keeps leaf
       → ((final : Option ℤ) → IsNoMore (cost_of best) final → IsPart t pivots final keeps above leaf) → IsExamined t pivots best best keeps above (state.Leaf leaf)
-  at_leaf leaf done made priced searched part = record {
+  at_leaf leaf done made searched part = record {
     found = None;
     fresh = done;
     plan = plan;
     cheapest = refl;
     is = made;
-    priced = priced;
     right = λ final less. (part final less, searched);
     place = inl refl;
+    replaced = inl refl;
   }
 
-  pub refuted_leaf : (prices : Prices) → IsSearched t keeps → AreRefuting t keeps prices → IsRefutedWithin t keeps pivots prices → IsExamined t pivots best best keeps above (state.Leaf (tree.Refuted prices))
-  refuted_leaf prices searched refuting priced = at_leaf (tree.Refuted prices) tt refl priced searched
+  pub refuted_leaf : (prices : Prices) → IsSearched t keeps → AreRefuting t keeps prices → IsExamined t pivots best best keeps above (state.Leaf (tree.Refuted prices))
+  refuted_leaf prices searched refuting = at_leaf (tree.Refuted prices) tt refl searched
       (λ final less. leaf_part t pivots final keeps above (tree.Refuted prices) refl refl refuting.good.known (all_one (IsNodeInOrder t) (ordered.Refuted prices) refuting.good.in_order)
       (refuted_sound t final keeps prices refuting.good.proper searched.some_pair refuting.refute) (answers_none t final keeps (tree.Refuted prices) (λ e. cc)) tt)
 
-  pub priced_leaf : (prices : Prices) (mixed : Mixed) → IsSearched t keeps → AreBest t keeps prices mixed → IsSomeAnd (cost_of best) (Reaches t keeps prices) → IsPricedWithin t keeps pivots prices
+  pub priced_leaf : (prices : Prices) (mixed : Mixed) → IsSearched t keeps → AreBest t keeps prices mixed → IsSomeAnd (cost_of best) (Reaches t keeps prices)
       → IsExamined t pivots best best keeps above (state.Leaf (tree.Priced prices))
-  priced_leaf prices mixed searched is reached priced = at_leaf (tree.Priced prices) tt (inl (record { reaches = reached; none = refl })) priced searched
+  priced_leaf prices mixed searched is reached = at_leaf (tree.Priced prices) tt (inl (record { reaches = reached; none = refl })) searched
       (λ final less. leaf_part t pivots final keeps above (tree.Priced prices) refl refl is.good.known (all_one (IsNodeInOrder t) (ordered.Priced prices) is.good.in_order)
       (priced_sound t final keeps prices is.good.proper searched.some_pair (reaches_on t keeps prices (cost_of best) final reached less)) (answers_none t final keeps (tree.Priced prices) (λ e. cc)) tt)
 
@@ -74,32 +73,32 @@ module _ (t : Tables) (pivots : ℕ) (best : Option Plan) (plan : IfSome best (I
   stopped_leaf prices (cause.Nodes mixed) searched good same is = absurd is.stopped
   stopped_leaf prices (cause.Pivots made) searched good same is =
       let own : AreGood t prices = subst (AreGood t) (sym same) good in
-      at_leaf (tree.Open prices (cause.Pivots made)) tt (tt, refl) tt searched
+      at_leaf (tree.Open prices (cause.Pivots made)) tt (tt, refl) searched
       (λ final less. leaf_part t pivots final keeps above (tree.Open prices (cause.Pivots made)) refl refl (own.known, tt) (all_one (IsNodeInOrder t) (ordered.Open prices (cause.Pivots made)) (own.in_order, is.in_order))
       (open_sound t final keeps prices (cause.Pivots made) own.proper searched.some_pair tt tt) (answers_none t final keeps (tree.Open prices (cause.Pivots made)) (λ e. cc)) (record { searched = searched; stopped = is.stopped; nearest = same }))
   stopped_leaf prices (cause.Grew made row column) searched good same is =
       let own : AreGood t prices = subst (AreGood t) (sym same) good in
-      at_leaf (tree.Open prices (cause.Grew made row column)) tt (tt, refl) tt searched
+      at_leaf (tree.Open prices (cause.Grew made row column)) tt (tt, refl) searched
       (λ final less. leaf_part t pivots final keeps above (tree.Open prices (cause.Grew made row column)) refl refl (own.known, tt) (all_one (IsNodeInOrder t) (ordered.Open prices (cause.Grew made row column)) (own.in_order, is.in_order))
       (open_sound t final keeps prices (cause.Grew made row column) own.proper searched.some_pair tt tt) (answers_none t final keeps (tree.Open prices (cause.Grew made row column)) (λ e. cc)) (record { searched = searched; stopped = is.stopped; nearest = same }))
   stopped_leaf prices (cause.Lift step at) searched good same is =
       let own : AreGood t prices = subst (AreGood t) (sym same) good in
-      at_leaf (tree.Open prices (cause.Lift step at)) tt (tt, refl) tt searched
+      at_leaf (tree.Open prices (cause.Lift step at)) tt (tt, refl) searched
       (λ final less. leaf_part t pivots final keeps above (tree.Open prices (cause.Lift step at)) refl refl (own.known, tt) (all_one (IsNodeInOrder t) (ordered.Open prices (cause.Lift step at)) (own.in_order, is.in_order))
       (open_sound t final keeps prices (cause.Lift step at) own.proper searched.some_pair tt tt) (answers_none t final keeps (tree.Open prices (cause.Lift step at)) (λ e. cc)) (record { searched = searched; stopped = is.stopped; nearest = same }))
 
   -- it waits to be split
   pub waiting : (f : Fraction) → IsSplit t keeps f.leg f.fleet f.prices f.mixed → IsCeiling (worth_of t keeps f.prices 1) f.prices.scale f.worth → IfSome (cost_of best) (λ c. f.worth <ℤ c)
-      → IsPricedWithin t keeps pivots f.prices → IsExamined t pivots best best keeps above (state.Waiting f)
-  waiting f split rounded below priced = record {
+      → IsExamined t pivots best best keeps above (state.Waiting f)
+  waiting f split rounded below = record {
     found = None;
     fresh = tt;
     plan = plan;
     cheapest = refl;
     is = (by_cost (cost_of best) below, refl);
-    priced = priced;
     right = λ final less. record { split = split; rounded = rounded };
     place = inl refl;
+    replaced = inl refl;
   }
     where
       by_cost : (c : Option ℤ) → IfSome c (λ c. f.worth <ℤ c) → CouldBeSplit t keeps f.prices (cause.Nodes f.mixed) c
@@ -122,6 +121,15 @@ module _ (t : Tables) (pivots : ℕ) (before after : Option Plan) (keeps : Domai
       by_plan None is = absurd is
       by_plan (Some plan) is = record { kept = subst (IsKeptAssignment t keeps) (sym is.assignment) kept; ends = subst (λ c. EndsAt t keeps c node) (sym is.exact) ends }
 
+  -- .. and it is strictly cheaper than the cheapest plan before
+  replaced : (a : List ℕ) → (after ≡ before) ⊎ IsTaken t a before after → (after ≡ before) ⊎ IsLess (cost_of before) (cost_of after)
+  replaced a (inl same) = inl same
+  replaced a (inr taken) = inr (by_plan after taken.plan)
+    where
+      by_plan : (best : Option Plan) → IsSomeAnd best (IsPlanOf t a) → IsLess (cost_of before) (cost_of best)
+      by_plan None is = absurd is
+      by_plan (Some plan) is = subst (λ c. IfSome (cost_of before) (λ e. c <ℤ e)) (sym is.exact) taken.cheaper
+
   -- a legal assignment that was offered costs no less than the cheapest plan
   no_less : (a : List ℕ) → IsOffered t a before after → IsLegal t a → IsNoMore (Some (total_cost t a)) (cost_of after)
   no_less a offered legal =
@@ -141,9 +149,9 @@ module _ (t : Tables) (pivots : ℕ) (before after : Option Plan) (keeps : Domai
       illegal = λ a kept other. sole.offered.illegal (λ legal. other (subst (IsLegal t) (sym (one a kept)) legal));
       none = λ other. absurd (other sole.plan sole.kept);
     };
-    priced = tt;
     right = λ final less. (leaf_part t pivots final keeps above tree.Sole refl refl tt (all_one (IsNodeInOrder t) ordered.Sole tt) (sole_sound t final keeps sole.sole) (record { answers = λ e a kept legal. answer final less a kept legal }) tt, tt);
     place = placed sole.plan ordered.Sole sole.kept tt sole.offered.taken;
+    replaced = replaced sole.plan sole.offered.taken;
   }
     where
       one : (a : List ℕ) → IsKeptAssignment t keeps a → a ≡ sole.plan
@@ -153,15 +161,14 @@ module _ (t : Tables) (pivots : ℕ) (before after : Option Plan) (keeps : Domai
       answer final less a kept legal =
           no_more_on (Some (total_cost t a)) (cost_of after) final (subst (λ b. IsNoMore (Some (total_cost t b)) (cost_of after)) (sym (one a kept)) (no_less sole.plan sole.offered (subst (IsLegal t) (one a kept) legal))) less
 
-  pub whole_leaf : (prices : Prices) (mixed : Mixed) → IsSearched t keeps → AreBest t keeps prices mixed → IsWholeOffered t keeps prices before after → IsPricedWithin t keeps pivots prices
+  pub whole_leaf : (prices : Prices) (mixed : Mixed) → IsSearched t keeps → AreBest t keeps prices mixed → IsWholeOffered t keeps prices before after
       → IsExamined t pivots before after keeps above (state.Leaf (tree.Priced prices))
-  whole_leaf prices mixed searched best whole priced = record {
+  whole_leaf prices mixed searched best whole = record {
     found = whole.offered.found;
     fresh = tt;
     plan = whole.offered.plan;
     cheapest = whole.offered.cheapest;
     is = inr (record { plan = whole.plan; kept = whole.kept; legal = whole.legal; worth = whole.worth; is = whole.offered.legal whole.legal });
-    priced = priced;
     right = λ final less. (
       leaf_part t pivots final keeps above (tree.Priced prices) refl refl best.good.known (all_one (IsNodeInOrder t) (ordered.Priced prices) best.good.in_order)
           (priced_sound t final keeps prices best.good.proper searched.some_pair (reaches_less t keeps prices (total_cost t whole.plan) final reaches (no_more_on (Some (total_cost t whole.plan)) (cost_of after) final (no_less whole.plan whole.offered whole.legal) less)))
@@ -169,6 +176,7 @@ module _ (t : Tables) (pivots : ℕ) (before after : Option Plan) (keeps : Domai
       searched,
     );
     place = placed whole.plan (ordered.Priced prices) whole.kept whole.worth whole.offered.taken;
+    replaced = replaced whole.plan whole.offered.taken;
   }
     where
       reaches : Reaches t keeps prices (total_cost t whole.plan)

@@ -10,7 +10,5 @@ pub mod Orders
 pub mod PairsKept
 pub mod Parts
 pub mod RemovedPairs
-pub mod SecondRuns
-pub mod SignEnds
 pub mod SplitPairs
 pub mod WholePlans

@@ -3,7 +3,6 @@ use Rattle.std.proofs.Common.{◌≡◌, ℕ, List, Option, Some, None, Result, 
 use mathlib.Core.Bool.{false≢true}
 use Rattle.std.specs.Prelude.{IsErr}
 use Rattle.entries.specs.declared.memory.NoMemory.{NoMemory}
-use Rattle.frac_row.specs.Row.{reduced}
 use Rattle.frac_row.specs.declared.row.FracRow.{FracRow}
 use Rattle.fleet_model.specs.Kept.{Domains, IsBare}
 use Rattle.fleet_model.specs.declared.tables.Tables.{Tables}
@@ -21,17 +20,14 @@ use Rattle.dual_bound.specs.Worth.{worth_of}
 use Rattle.dual_bound.specs.WrittenOrder.{ArePricesInOrder, IsMixedInOrder}
 use Rattle.dual_bound.specs.declared.mixed.Mixed.{Mixed}
 use Rattle.dual_bound.specs.declared.prices.Prices.{Prices}
-use Rattle.price_lift.specs.Duals.{best_duals, refusal_duals}
 use Rattle.price_lift.specs.Ends.{Ends}
 use Rattle.price_lift.specs.Laws.{NoRays}
-use Rattle.price_lift.specs.Lifted.{AreLiftedPrices}
 use Rattle.price_lift.specs.TooLarge.{best_excess, refusal_excess}
-use Rattle.price_lift.specs.PaidBack.{ArePaidBack, IsLiftErrorBy}
+use Rattle.price_lift.specs.PaidBack.{IsLiftErrorBy}
 use Rattle.dual_lift.specs.declared.error.LiftError.{LiftError}
 use Rattle.dual_lift.specs.declared.error.LiftError.TheVariants as lift
 use Rattle.price_lift.specs.declared.lift.Lifted.{Lifted}
 use Rattle.node_bounding.specs.Relaxed.{AreGood, IsAtBest, IsAtNoPoint, IsLiftStopped, IsRelaxed}
-use Rattle.node_bounding.specs.RunPrices.{IsPricedByPrescribed}
 use Rattle.node_bounding.specs.Runs.{HasEnded, RunEnds}
 use Rattle.node_bounding.specs.declared.relaxing.Relaxed.{Relaxed}
 use Rattle.node_bounding.specs.declared.relaxing.Relaxed.TheVariants as relaxed
@@ -46,10 +42,9 @@ has_ended t keeps pivots rows first table found lines problem is ends = record {
 }
 
 -- the prices of a lift, by its clauses
-pub as_lifted : (t : Tables) (keeps : Domains) (duals : FracRow) (lifted : Result Lifted LiftError) → IfOk lifted (λ l. l.prices.scale ≡ (reduced duals).den) → IfOk lifted (λ l. ArePaidBack t keeps duals l.prices)
-    → IfOk lifted (λ l. ArePricesOf t l.prices) → IfOk lifted (λ l. ArePrices t l.prices) → IfOk lifted (λ l. ArePricesInOrder t l.prices) → IfOk lifted (λ l. AreLiftedPrices t keeps duals l.prices)
-as_lifted t keeps duals (Ok l) scale paid of_tables proper in_order = record { scale = scale; paid = paid; of_tables = of_tables; proper = proper; in_order = in_order }
-as_lifted t keeps duals (Err error) scale paid of_tables proper in_order = tt
+pub as_good : (t : Tables) (lifted : Result Lifted LiftError) → IfOk lifted (λ l. ArePricesOf t l.prices) → IfOk lifted (λ l. ArePrices t l.prices) → IfOk lifted (λ l. ArePricesInOrder t l.prices) → IfOk lifted (λ l. AreGood t l.prices)
+as_good t (Ok l) known proper in_order = record { proper = proper; known = known; in_order = in_order }
+as_good t (Err error) known proper in_order = tt
 
 -- the lift of the last table
 module _ (t : Tables) (keeps : Domains) (pivots : ℕ) (table : List FracRow) (basis : List ℕ) (made : ℕ) where
@@ -59,9 +54,6 @@ module _ (t : Tables) (keeps : Domains) (pivots : ℕ) (table : List FracRow) (b
   none_relaxes : (r : Result Relaxed NoMemory) → IsErr r → Relaxes r
   none_relaxes (Ok found) e = absurd (false≢true e)
   none_relaxes (Err error) e = tt
-
-  good : (duals : FracRow) (prices : Prices) → AreLiftedPrices t keeps duals prices → AreGood t prices
-  good duals prices is = record { proper = is.proper; known = is.of_tables; in_order = is.in_order }
 
   stopped_best : (step at : ℕ) (r : Result Relaxed NoMemory) → HasEnded t keeps pivots table (outcome.Best basis made)
       → IsLiftErrorBy t keeps (best_excess t keeps table basis) (lift.TooLarge step at) → IsOkAnd r (IsLiftStopped step at) → Relaxes r
@@ -77,25 +69,25 @@ module _ (t : Tables) (keeps : Domains) (pivots : ℕ) (table : List FracRow) (b
       (record { stopped = inr (record { rows = has.rows; table = table; basis = basis; made = made; run = has.run; first = excess }); in_order = (is.step_held, is.at_held) })
   stopped_no_point step at (Err error) has excess is = absurd is
 
-  by_mixed : (prices : Prices) (m : Option Mixed) (r : Result Relaxed NoMemory) → AreGood t prices → IsPricedByPrescribed t keeps pivots prices
+  by_mixed : (prices : Prices) (m : Option Mixed) (r : Result Relaxed NoMemory) → AreGood t prices
       → IsSomeAnd m (IsMixedOf t) → IsSomeAnd m (IsMixedInOrder t) → IsSomeAnd m (IsMixedAt t keeps) → IsSomeAnd m (IsWorth t keeps prices) → IsSomeAnd m (λ mixed. r ≡ Ok (relaxed.Bounded prices mixed)) → Relaxes r
-  by_mixed prices None r good priced known in_order at value is = absurd is
-  by_mixed prices (Some mixed) r good priced known in_order at value is =
-      subst Relaxes (sym is) (record { good = good; known = known; in_order = in_order; mixed_at = at; value = value }, inl priced)
+  by_mixed prices None r good known in_order at value is = absurd is
+  by_mixed prices (Some mixed) r good known in_order at value is =
+      subst Relaxes (sym is) (record { good = good; known = known; in_order = in_order; mixed_at = at; value = value })
 
-  best_relaxed : (lifted : Result Lifted LiftError) (r : Result Relaxed NoMemory) → HasEnded t keeps pivots table (outcome.Best basis made) → IfOk lifted (λ l. AreLiftedPrices t keeps (best_duals t table) l.prices)
+  best_relaxed : (lifted : Result Lifted LiftError) (r : Result Relaxed NoMemory) → HasEnded t keeps pivots table (outcome.Best basis made) → IfOk lifted (λ l. AreGood t l.prices)
       → IfOk lifted (λ l. IsSomeAnd l.mixed (IsMixedOf t)) → IfOk lifted (λ l. IsSomeAnd l.mixed (IsMixedInOrder t)) → IfOk lifted (λ l. IsSomeAnd l.mixed (IsMixedAt t keeps)) → IfOk lifted (λ l. IsSomeAnd l.mixed (IsWorth t keeps l.prices))
       → IfErr lifted (IsLiftErrorBy t keeps (best_excess t keeps table basis)) → IsAtBest lifted r → Relaxes r
-  best_relaxed (Ok l) r has prices known mixed_order at value excess is =
-      by_mixed l.prices l.mixed r (good _ l.prices prices) (record { table = table; basis = basis; made = made; run = has; lifted = prices }) known mixed_order at value is
+  best_relaxed (Ok l) r has good known mixed_order at value excess is =
+      by_mixed l.prices l.mixed r good known mixed_order at value is
   best_relaxed (Err (lift.TooLarge step at)) r has prices known mixed_order mixed_at value excess is = stopped_best step at r has excess is
   best_relaxed (Err lift.NoMemory) r has prices known mixed_order at value excess is = none_relaxes r is
 
   no_point_relaxed : (lifted : Result Lifted LiftError) (r : Result Relaxed NoMemory) → HasEnded t keeps pivots table (outcome.NoPoint basis made) → ((l : ℕ) → ¬ (IsBare t keeps l))
-      → IfOk lifted (λ l. AreLiftedPrices t keeps (refusal_duals t table) l.prices) → IfOk lifted (λ l. ((leg : ℕ) → ¬ (IsBare t keeps leg)) → pos 0 <ℤ worth_of t keeps l.prices 0)
+      → IfOk lifted (λ l. AreGood t l.prices) → IfOk lifted (λ l. ((leg : ℕ) → ¬ (IsBare t keeps leg)) → pos 0 <ℤ worth_of t keeps l.prices 0)
       → IfErr lifted (IsLiftErrorBy t keeps (refusal_excess t keeps table)) → IsAtNoPoint lifted r → Relaxes r
-  no_point_relaxed (Ok l) r has pairs prices refutes excess is =
-      subst Relaxes (sym is) (record { good = good _ l.prices prices; refute = refutes pairs }, inl (record { table = table; basis = basis; made = made; run = has; lifted = prices }))
+  no_point_relaxed (Ok l) r has pairs good refutes excess is =
+      subst Relaxes (sym is) (record { good = good; refute = refutes pairs })
   no_point_relaxed (Err (lift.TooLarge step at)) r has pairs prices refutes excess is = stopped_no_point step at r has excess is
   no_point_relaxed (Err lift.NoMemory) r has pairs prices refutes excess is = none_relaxes r is
 
@@ -121,7 +113,7 @@ module _ (t : Tables) (keeps : Domains) (pivots : ℕ) (table : List FracRow) (f
           never t keeps table at.1 column (record { rows = has.rows; lines = run.lines; made = at.0; turn = record { problem = has.problem; turns = at.3 } })
 
   pub after_best : (lifted : Result Lifted LiftError) (basis slice : List ℕ) (made : ℕ) (r : Result Relaxed NoMemory) → found ≡ outcome.Best basis made → slice ≡ basis
-      → IfOk lifted (λ l. AreLiftedPrices t keeps (best_duals t table) l.prices)
+      → IfOk lifted (λ l. AreGood t l.prices)
       → IfOk lifted (λ l. IsSomeAnd l.mixed (IsMixedOf t)) → IfOk lifted (λ l. IsSomeAnd l.mixed (IsMixedInOrder t)) → IfOk lifted (λ l. IsSomeAnd l.mixed (IsMixedAt t keeps)) → IfOk lifted (λ l. IsSomeAnd l.mixed (IsWorth t keeps l.prices))
       → IfErr lifted (IsLiftErrorBy t keeps (best_excess t keeps table slice)) → IsAtBest lifted r → IfOk r (IsRelaxed t keeps pivots)
   after_best lifted basis slice made r e same prices known in_order at value excess is =
@@ -129,7 +121,7 @@ module _ (t : Tables) (keeps : Domains) (pivots : ℕ) (table : List FracRow) (f
       prices known in_order at value (subst (λ b. IfErr lifted (IsLiftErrorBy t keeps (best_excess t keeps table b))) same excess) is
 
   pub after_no_point : (lifted : Result Lifted LiftError) (basis : List ℕ) (made : ℕ) (r : Result Relaxed NoMemory) → found ≡ outcome.NoPoint basis made → ((l : ℕ) → ¬ (IsBare t keeps l))
-      → IfOk lifted (λ l. AreLiftedPrices t keeps (refusal_duals t table) l.prices) → IfOk lifted (λ l. ((leg : ℕ) → ¬ (IsBare t keeps leg)) → pos 0 <ℤ worth_of t keeps l.prices 0)
+      → IfOk lifted (λ l. AreGood t l.prices) → IfOk lifted (λ l. ((leg : ℕ) → ¬ (IsBare t keeps leg)) → pos 0 <ℤ worth_of t keeps l.prices 0)
       → IfErr lifted (IsLiftErrorBy t keeps (refusal_excess t keeps table)) → IsAtNoPoint lifted r → IfOk r (IsRelaxed t keeps pivots)
   after_no_point lifted basis made r e pairs prices refutes excess is =
       no_point_relaxed t keeps pivots table basis made lifted r (subst (HasEnded t keeps pivots table) e has) pairs prices refutes excess is

@@ -15,8 +15,7 @@ use Rattle.dual_bound.specs.declared.trees.Tree.TheVariants as tree
 use Rattle.node_bounding.specs.Found.{IsEndOf}
 use Rattle.node_bounding.specs.Made.{IsMadeAs}
 use Rattle.node_bounding.specs.Offers.{IsOffered}
-use Rattle.node_bounding.specs.RunPrices.{HasRunPrices, IsPricedWithin}
-use Rattle.node_bounding.specs.Subproblems.{IsNoMore, IsPlan, IsRight, cost_of, node_of}
+use Rattle.node_bounding.specs.Subproblems.{IsLess, IsNoMore, IsPlan, IsRight, cost_of, node_of}
 use Rattle.node_bounding.specs.declared.plans.Plan.{Plan}
 use Rattle.node_bounding.specs.declared.states.State.{State}
 use Rattle.node_bounding.specs.declared.states.State.TheVariants as state
@@ -48,21 +47,21 @@ abbrev pub IsFoundHere : Tables → Domains → Node → Option Plan → Type 0
 IsFoundHere t keeps node best = IsSomeAnd best (λ plan. IsEndOf t plan.assignment plan.cost (record { keeps = keeps; node = node }))
 
 -- A subproblem was made, with so many pivots allowed, whose nearest split above has these prices. Before and after it
--- this is the cheapest plan.
+-- this is the cheapest plan, which another one replaces only where it is strictly cheaper.
 pub record IsExamined (t : Tables) (pivots : ℕ) (before after : Option Plan) (keeps : Domains) (above : Prices) (made : State) : Type 0 where
   pub found : Option ℤ
   pub fresh : IsFresh made
   pub plan : IfSome after (IsPlan t)
   pub cheapest : cost_of after ≡ lesser_bound (cost_of before) found
   pub is : IsMadeAs t (cost_of before) keeps (node_of made) found
-  pub priced : HasRunPrices t pivots keeps (node_of made)
   pub right : (final : Option ℤ) → IsNoMore (cost_of after) final → IsRight t pivots final keeps above made
   pub place : (after ≡ before) ⊎ IsFoundHere t keeps (node_of made) after
+  pub replaced : (after ≡ before) ⊎ IsLess (cost_of before) (cost_of after)
 
--- The same of a subproblem whose best fractional assignment is known, and prices that are worth as much: for any pivots
--- within which a run gives these prices, whatever the prices above.
-abbrev pub IsBounded : Tables → Option Plan → Option Plan → Domains → Prices → State → Type 0
-IsBounded t before after keeps prices made = (pivots : ℕ) (above : Prices) → IsPricedWithin t keeps pivots prices → IsExamined t pivots before after keeps above made
+-- The same of a subproblem whose best fractional assignment is known, and prices that are worth as much: for any pivots,
+-- whatever the prices above.
+abbrev pub IsBounded : Tables → Option Plan → Option Plan → Domains → State → Type 0
+IsBounded t before after keeps made = (pivots : ℕ) (above : Prices) → IsExamined t pivots before after keeps above made
 
 -- a legal assignment of kept pairs that costs what prices are worth was offered
 pub record IsWholeOffered (t : Tables) (keeps : Domains) (prices : Prices) (before after : Option Plan) : Type 0 where

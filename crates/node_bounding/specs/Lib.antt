@@ -5,7 +5,6 @@ pub mod Found
 pub mod Made
 pub mod Offers
 pub mod Relaxed
-pub mod RunPrices
 pub mod Runs
 pub mod SecondRun
 pub mod Splits

@@ -16,7 +16,6 @@ use Rattle.dual_bound.specs.declared.trees.Cause.TheVariants as cause
 use Rattle.dual_bound.specs.declared.trees.Tree.{Tree}
 use Rattle.cert_check.specs.Rules.{Reaches}
 use Rattle.node_bounding.specs.Found.{FallsShort}
-use Rattle.node_bounding.specs.RunPrices.{HasRunPrices}
 use Rattle.node_bounding.specs.Worked.{IsOpenWorth, Worked, searched_in}
 
 -- What the cheapest plan costs when a subproblem is made, by its number: the least of what was found before.
@@ -91,15 +90,13 @@ IsInTurn t count made found parts k (node.Split leg fleet prices mixed) = IsSpli
 IsInTurn t count made found parts k other = ⊤
 
 -- The subproblems of a tree, below its trims, were made one by one: `made` has them by their numbers, `found` what a plan
--- costs that was found at each, and `parts` where the parts of each split are. The prices of each are those of a run over
--- its own lines, with so many pivots allowed. In the end the cheapest plan costs `cost`.
-pub record AreMade (t : Tables) (pivots : ℕ) (cost : Option ℤ) (tree : Tree) : Type 0 where
+-- costs that was found at each, and `parts` where the parts of each split are. In the end the cheapest plan costs `cost`.
+pub record AreMade (t : Tables) (cost : Option ℤ) (tree : Tree) : Type 0 where
   pub count : ℕ
   pub made : ℕ → Worked
   pub found : ℕ → Option ℤ
   pub parts : ℕ → ℕ
   pub all : IsPermutation (list_below made count) (searched_in (all_pairs t) tree)
   pub each : (k : ℕ) → k < count → IsMadeAs t (best_before found k) (made k).keeps (made k).node (found k)
-  pub priced : (k : ℕ) → k < count → HasRunPrices t pivots (made k).keeps (made k).node
   pub turns : (k : ℕ) → k < count → IsInTurn t count made found parts k (made k).node
   pub best : cost ≡ best_before found count

@@ -18,7 +18,6 @@ use Rattle.price_lift.specs.declared.lift.Lifted.{Lifted}
 use Rattle.simplex_frac.specs.declared.outcome.Outcome.{Outcome}
 use Rattle.simplex_frac.specs.declared.outcome.Outcome.TheVariants as outcome
 use Rattle.node_bounding.specs.Causes.{IsStopped}
-use Rattle.node_bounding.specs.RunPrices.{IsPricedWithin, IsRefutedWithin}
 use Rattle.node_bounding.specs.declared.relaxing.Relaxed.{Relaxed}
 use Rattle.node_bounding.specs.declared.relaxing.Relaxed.TheVariants as relaxed
 
@@ -46,11 +45,11 @@ pub record IsWhyStopped (t : Tables) (keeps : Domains) (pivots : ℕ) (why : Cau
   pub stopped : IsStopped t keeps pivots why
   pub in_order : IsCauseInOrder t why
 
--- Prices that refute the subproblem; or its best fractional assignment, with prices that are worth as much; or why
--- there is neither. A run gives the prices within the pivots that are allowed.
+-- prices that refute the subproblem; or its best fractional assignment, with prices that are worth as much; or why there is
+-- neither
 abbrev pub IsRelaxed : Tables → Domains → ℕ → Relaxed → Type 0
-IsRelaxed t keeps pivots (relaxed.Refuted prices) = AreRefuting t keeps prices × IsRefutedWithin t keeps pivots prices
-IsRelaxed t keeps pivots (relaxed.Bounded prices mixed) = AreBest t keeps prices mixed × IsPricedWithin t keeps pivots prices
+IsRelaxed t keeps pivots (relaxed.Refuted prices) = AreRefuting t keeps prices
+IsRelaxed t keeps pivots (relaxed.Bounded prices mixed) = AreBest t keeps prices mixed
 IsRelaxed t keeps pivots (relaxed.Stopped why) = IsWhyStopped t keeps pivots why
 
 -- there are no prices, since a number was too large for the lift

@@ -1,4 +1,4 @@
--- What the runs over the lines of a subproblem come to.
+-- What the prescribed run over the lines of a subproblem comes to.
 use Rattle.std.specs.Prelude.{ℕ, ◌⊎◌, List}
 use Rattle.fleet_model.specs.Kept.{Domains, IsBare, IsSole}
 use Rattle.fleet_model.specs.declared.tables.Tables.{Tables}
@@ -9,8 +9,6 @@ use Rattle.lp_rows.specs.Points.{AreLinesOf}
 use Rattle.simplex_frac.specs.Outcomes.{IsOutcome}
 use Rattle.simplex_frac.specs.declared.outcome.Outcome.{Outcome}
 use Rattle.simplex_frac.specs.declared.outcome.Outcome.TheVariants as outcome
-use Rattle.dual_simplex.specs.Outcomes.{IsOutcome as IsSecondOutcome}
-use Rattle.dual_simplex.specs.declared.outcome.Outcome.{Outcome as SecondOutcome}
 use Rattle.price_lift.specs.PaidBack.{IsFirstBy}
 use Rattle.price_lift.specs.TooLarge.{best_excess, refusal_excess}
 use Rattle.dual_lift.specs.declared.error.Excess.{Excess}
@@ -30,13 +28,6 @@ pub record HasEnded (t : Tables) (keeps : Domains) (pivots : ℕ) (table : List 
   pub rows : Rows
   pub problem : IsProblem rows
   pub run : RunEnds t keeps pivots rows table outcome
-
--- a run by the dual simplex method over some lines of the subproblem, with so many steps allowed, ends so at this table
-pub record SecondEnds (t : Tables) (keeps : Domains) (steps : ℕ) (table : List FracRow) (found : SecondOutcome) : Type 0 where
-  pub rows : Rows
-  pub problem : IsProblem rows
-  pub lines : AreLinesOf t keeps rows
-  pub ends : IsSecondOutcome (first_table rows) rows.columns steps table found
 
 -- the run of the subproblem spends all its pivots
 pub record SpendsPivots (t : Tables) (keeps : Domains) (pivots made : ℕ) : Type 0 where

@@ -1,5 +1,5 @@
 -- Plans, and what is known of a subproblem.
-use Rattle.std.specs.Prelude.{◌≡◌, ℕ, ◌≤◌, All, ⊤, Option, Some, None, IsSomeAnd, ℤ, ◌≤ℤ◌}
+use Rattle.std.specs.Prelude.{◌≡◌, ℕ, ◌≤◌, All, ⊤, Option, Some, None, IfSome, IsSomeAnd, ℤ, ◌≤ℤ◌, ◌<ℤ◌}
 use Rattle.frac_row.specs.Ratio.{IsCeiling}
 use Rattle.fleet_model.specs.Kept.{Domains, pairs_kept}
 use Rattle.fleet_model.specs.Legal.{IsLegal, total_cost}
@@ -39,6 +39,10 @@ cost_of (Some plan) = Some plan.cost
 abbrev pub IsNoMore : Option ℤ → Option ℤ → Type 0
 IsNoMore None later = ⊤
 IsNoMore (Some cost) later = IsSomeAnd later (λ c. c ≤ℤ cost)
+
+-- there is a later cost, and it is strictly less than an earlier one, if there was one
+abbrev pub IsLess : Option ℤ → Option ℤ → Type 0
+IsLess earlier later = IsSomeAnd later (λ c. IfSome earlier (λ e. c <ℤ e))
 
 -- the node that a subproblem is in the tree, as it stands
 abbrev pub node_of : State → Node

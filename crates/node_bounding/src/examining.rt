@@ -68,7 +68,7 @@ fn bounded(
     requires allowed { KeepAllowed tables.now (kept_by kept.now) }
     requires searched { IsSearched tables.now (kept_by kept.now) }
     requires best { AreBest tables.now (kept_by kept.now) prices mixed }
-    ensures { IsBounded tables.now best.old best.new (kept_by kept.now) prices result }
+    ensures { IsBounded tables.now best.old best.new (kept_by kept.now) result }
 {
     match first_partial(tables, &mixed) {
         None => {
@@ -92,7 +92,7 @@ fn divided(
     requires searched { IsSearched tables.now (kept_by kept.now) }
     requires best { AreBest tables.now (kept_by kept.now) prices mixed }
     requires pair { IsSplitPair tables.now mixed pair }
-    ensures { IsBounded tables.now best.now best.now (kept_by kept.now) prices result }
+    ensures { IsBounded tables.now best.now best.now (kept_by kept.now) result }
 {
     let worth = rounded_worth(tables, kept, &prices);
     if is_reached(&worth, best) {

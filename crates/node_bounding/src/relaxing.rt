@@ -26,9 +26,9 @@ pub(crate) enum Relaxed {
     Stopped(Cause),
 }
 
-/// Solves the linear relaxation of a subproblem, with at most so many pivots in each of two runs. The dual simplex method is
-/// tried first, since it is mostly the sooner one; where it settles nothing, the prescribed run decides, from the first table
-/// on. So why a subproblem is left open is told by the prescribed run alone.
+/// Solves the linear relaxation of a subproblem, with at most so many pivots in each of two runs. The second one is a hint
+/// that is checked, and is tried first, since it is mostly the sooner one; where it settles nothing, the prescribed run
+/// decides, from the first table on. So why a subproblem is left open is told by the prescribed run alone.
 pub(crate) fn relax(
     alloc: Global,
     tables: &Tables,
@@ -38,7 +38,7 @@ pub(crate) fn relax(
     requires { (leg : ℕ) → ¬ (IsBare tables.now (kept_by kept.now) leg) }
     ensures { IfOk result (IsRelaxed tables.now (kept_by kept.now) pivots) }
 {
-    match second_run::<Sparse>(alloc, tables, kept, pivots)? {
+    match second_run(alloc, tables, kept, pivots)? {
         Some(settled) => Ok(settled),
         None => prescribed_run::<Sparse>(alloc, tables, kept, pivots),
     }

@@ -1,81 +1,95 @@
-//! The second run over a subproblem's lines, by the dual simplex method. It is trusted in nothing: what it settles is told by
-//! prices, and where it settles nothing the prescribed run decides.
-ghost use Rattle.std.specs.Prelude.{◌≡◌, ℕ, IfOk, IsSome};
+//! The second run over a subproblem's lines: a search that is trusted in nothing finds a hint, and a check decides whether it
+//! is an end of the lines. What it settles is told by prices, and where it settles nothing the prescribed run decides.
+ghost use Rattle.std.specs.Prelude.{◌≡◌, ℕ, IfOk, IfSome, IsSome, IsTrue};
 ghost use Rattle.fleet_model.specs.Kept.{IsBare, kept_by};
+ghost use Rattle.row_store.specs.Problem.{IsProblem};
 ghost use Rattle.lp_rows.specs.Outline.{IsOutline};
-ghost use Rattle.node_bounding.specs.Runs.{SecondEnds};
-ghost use Rattle.node_bounding.specs.SecondRun.{IsGivenUp, IsTried, IsTriedAtBest, IsTriedAtRefusal};
+ghost use Rattle.node_bounding.specs.SecondRun.{EndsLines, IsEndIn, IsGivenUp, IsTried, IsTriedAtBest, IsTriedAtRefusal};
 
 use crate::relaxing::Relaxed;
 use dual_lift::LiftError;
-use dual_simplex::{Outcome, solve};
-use dual_start::start_places;
+use end_check::{Hint, is_end, refuses};
+use end_search::find;
 use entries::NoMemory;
 use fleet_model::{Kept, Tables};
 use lp_rows::{Outline, Program};
-use price_lift::Lifted;
-use price_lift::lifting::{lift_best_by_signs, lift_refusal_by_row};
-use row_store::RowStore;
+use price_lift::{Lifted, lift_end, lift_refusing_end};
+use row_store::Rows;
 use std::alloc::Global;
 
-/// Tries to solve the linear relaxation of a subproblem by the dual simplex method, with at most so many steps, those of
-/// its start among them. None where the run gives up, or where prices or weights are too large to be lifted from its end.
+/// Tries to solve the linear relaxation of a subproblem by a hint, which takes at most so many steps after its start. None
+/// where no steps are allowed, where there is no hint, where it is no end of the lines, or where prices or weights are too
+/// large to be lifted from it.
 ///
-/// Its table is dropped before it answers, so that the prescribed run has the memory.
-pub(crate) fn second_run<R: RowStore + Drop>(
+/// The lines are dropped before the lift, and all else before it answers, so that the prescribed run has the memory.
+pub(crate) fn second_run(
     alloc: Global,
     tables: &Tables,
     kept: &Kept,
     steps: u64,
 ) -> Result<Option<Relaxed>, NoMemory>
     requires { (leg : ℕ) → ¬ (IsBare tables.now (kept_by kept.now) leg) }
-    ensures { IfOk result (IsTried tables.now (kept_by kept.now) steps) }
+    ensures { IfOk result (IsTried tables.now (kept_by kept.now)) }
 {
+    if steps == 0 {
+        return Ok(None);
+    }
     let program = Program::new(alloc, tables, kept)?;
-    let start = start_places(alloc, &program)?;
+    let hint = find(alloc, &program, steps)?;
     let Program { outline, rows } = program;
-    let columns = rows.columns;
-    let mut table = R::start(alloc, &rows)?;
+    let end = checked(alloc, &rows, hint)?;
     drop(rows);
-    let outcome = solve(alloc, &mut table, columns, start.as_slice(), steps)?;
-    settled(alloc, &table, outcome, tables, kept, &outline)
+    settled(alloc, end, tables, kept, &outline)
 }
 
-// What the end of the second run settles.
-fn settled<R: RowStore>(
+// The hint, where there is one and it is an end of the lines.
+fn checked(alloc: Global, rows: &Rows, hint: Option<Hint>) -> Result<Option<Hint>, NoMemory>
+    requires { IsProblem rows.now }
+    ensures ends { IfOk result (λ end. IfSome end (IsEndIn rows.now)) }
+    ensures given_up { IsGivenUp hint result }
+{
+    let Some(hint) = hint else {
+        return Ok(None);
+    };
+    let ends = ends_in(alloc, rows, &hint)?;
+    Ok(ends.then_some(hint))
+}
+
+// Whether a hint is an end of the lines, by its kind.
+fn ends_in(alloc: Global, rows: &Rows, hint: &Hint) -> Result<bool, NoMemory>
+    requires { IsProblem rows.now }
+    ensures { IfOk result (λ is. IsTrue is → IsEndIn rows.now hint.now) }
+{
+    match hint {
+        Hint::Point(point) => is_end(alloc, rows, point),
+        Hint::Refusal(refusal) => refuses(alloc, rows, refusal),
+    }
+}
+
+// What an end settles.
+fn settled(
     alloc: Global,
-    table: &R,
-    outcome: Outcome,
+    end: Option<Hint>,
     tables: &Tables,
     kept: &Kept,
     outline: &Outline,
 ) -> Result<Option<Relaxed>, NoMemory>
     requires pairs { (leg : ℕ) → ¬ (IsBare tables.now (kept_by kept.now) leg) }
     requires outline { IsOutline tables.now (kept_by kept.now) outline.now }
-    requires ended { (steps : ℕ) × SecondEnds tables.now (kept_by kept.now) steps (R.content table.now) outcome }
-    ensures tried { (steps : ℕ) → SecondEnds tables.now (kept_by kept.now) steps (R.content table.now) outcome → IfOk result (IsTried tables.now (kept_by kept.now) steps) }
-    ensures given_up { IsGivenUp outcome result }
+    requires ends { IfSome end (EndsLines tables.now (kept_by kept.now)) }
+    ensures tried { IfOk result (IsTried tables.now (kept_by kept.now)) }
+    ensures given_up { IsGivenUp end result }
 {
-    match outcome {
-        Outcome::Best { basis, .. } => {
-            let lifted = lift_best_by_signs(alloc, table, basis.as_slice(), tables, kept, outline);
+    match end {
+        None => Ok(None),
+        Some(Hint::Point(point)) => {
+            let lifted = lift_end(alloc, &point, tables, kept, outline);
             at_best(lifted)
         }
-        Outcome::Refused { row, basis, .. } => {
-            let lifted = lift_refusal_by_row(
-                alloc,
-                table,
-                basis.as_slice(),
-                row,
-                tables,
-                kept,
-                outline,
-            );
+        Some(Hint::Refusal(refusal)) => {
+            let lifted = lift_refusing_end(alloc, &refusal, tables, kept, outline);
             at_refusal(lifted)
         }
-        Outcome::CostBelow0 { .. } => Ok(None),
-        Outcome::Spent { .. } => Ok(None),
-        Outcome::Grew { .. } => Ok(None),
     }
 }
 

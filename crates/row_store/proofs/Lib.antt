@@ -7,10 +7,7 @@ pub mod LeastRatio
 pub mod Ties
 pub mod PivotNumbers
 pub mod Turns
-pub mod StepChoices
 pub mod LineSums
 pub mod SignTests
-pub mod Squares
 pub mod RowReads
-pub mod NoneNegative
 pub mod AllPlaces

@@ -6,5 +6,4 @@ pub mod PivotAnswers
 pub mod Points
 pub mod Small
 pub mod Steps
-pub mod StepChoice
-pub mod Weights
+pub mod DualValues

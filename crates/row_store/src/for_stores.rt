@@ -3,4 +3,3 @@
 
 pub use crate::choice::{Candidate, better, improves, row_of};
 pub use crate::error::place_in;
-pub use crate::steering::{Enterer, are_alike, cheaper, enterer_column, size, with_square};

@@ -10,7 +10,6 @@ pub mod for_stores;
 pub mod laws;
 pub mod pivoting;
 pub mod problem;
-pub mod steering;
 pub mod store;
 pub mod turning;
 

@@ -1,21 +1,15 @@
-ghost use Rattle.std.specs.Prelude.{◌≡◌, ◌≢◌, ◌+◌, ◌<◌, ◌≤◌, ◌↔◌, List, ℤ, pos, ◌<ℤ◌, None, Some, length, IfOk, OnErr, IfErr, IsTrue, MatchOption};
+ghost use Rattle.std.specs.Prelude.{◌≡◌, ◌≢◌, ◌+◌, ◌<◌, ◌≤◌, List, pos, ◌<ℤ◌, None, length, IfOk, OnErr, IfErr};
 ghost use Rattle.frac_row.specs.declared.row.FracRow.{FracRow};
 ghost use Rattle.row_store.specs.Table.{IsTable, number_at, row_at, columns_of, height_of, HasColumns};
 ghost use Rattle.row_store.specs.Problem.{IsProblem, first_table};
 ghost use Rattle.row_store.specs.Pivot.{pivoted, pivot_growth};
 ghost use Rattle.row_store.specs.PivotAnswers.{IsPivotError, IsStepError};
 ghost use Rattle.row_store.specs.Steps.{turned, stepped, step_growth};
-ghost use Rattle.row_store.specs.StepChoice.{AreSettled, IsUnsettled, AreUnlike, IsAlike, AreCostsAtLeast0};
 ghost use Rattle.row_store.specs.Choice.{entering, leaving};
-ghost use Rattle.row_store.specs.Weights.{squares_of, weight_of};
 
 use crate::choice::{Candidate, better, improves, row_of};
 use crate::error::PivotError;
 use crate::problem::Rows;
-use crate::steering::{
-    Enterer, Leaver, are_alike, cheaper, enterer_column, farther, is_settled, leaver_row, size,
-    square, with_square,
-};
 use entries::NoMemory;
 use frac_row::FracRow;
 use std::alloc::Global;
@@ -121,86 +115,6 @@ pub trait RowStore: Sized {
                 Err(error)
             }
         }
-    }
-
-    /// A line that isn't settled, where there is one: its right side is below 0, or it is other than 0 and
-    /// the line's basic column is one of the identity block. Which of several is free; here it is mostly the
-    /// one with the greatest square of the right side over the sum of squares of its identity block.
-    fn unsettled(&self, basis: &[u32], columns: u32) -> Option<u32>
-        requires columns { HasColumns (content self.now) columns }
-        requires basis { length basis.now ≡ height_of (content self.now) }
-        ensures { MatchOption result (AreSettled (content self.now) basis.now columns) (IsUnsettled (content self.now) basis.now columns) }
-    {
-        let right_side = columns + self.height();
-        let mut best = None;
-        for row in 0..self.height() {
-            let side = self.number(row, right_side);
-            if !is_settled(&side, basis[row as usize], columns) {
-                let next = Leaver {
-                    row,
-                    square: square(&side),
-                    norm: self.norm(row, columns),
-                };
-                best = farther(best, next);
-            }
-        }
-        leaver_row(best)
-    }
-
-    /// The sum of squares of a row's identity block, or 0 where that is outgrown. It only helps to choose.
-    fn norm(&self, row: u32, columns: u32) -> i128
-        requires row { row < height_of (content self.now) }
-        requires columns { HasColumns (content self.now) columns }
-        ensures { result ≡ weight_of (squares_of (row_at (content self.now) row) columns (height_of (content self.now))) }
-    {
-        let mut sum = 0;
-        for line in 0..self.height() {
-            let number = self.number(row, columns + line);
-            match with_square(sum, &number) {
-                Some(more) => sum = more,
-                None => return 0,
-            }
-        }
-        sum as i128
-    }
-
-    /// A real column whose number in the row has the sign of the row's right side, where there is one. Which
-    /// of several is free; here it is the one with the least cost number over the size of that number, at a
-    /// tie with the greatest size, then the least column.
-    fn entering_at(&self, row: u32, columns: u32) -> Option<u32>
-        requires row { row < height_of (content self.now) }
-        requires columns { HasColumns (content self.now) columns }
-        ensures { MatchOption result (AreUnlike (content self.now) row columns) (IsAlike (content self.now) row columns) }
-    {
-        let cost_row = self.height() + 1;
-        let side = self.number(row, columns + self.height());
-        let mut best = None;
-        for column in 0..columns {
-            let number = self.number(row, column);
-            if are_alike(&side, &number) {
-                let next = Enterer {
-                    column,
-                    size: size(&number),
-                    cost: self.number(cost_row, column),
-                };
-                best = cheaper(best, next);
-            }
-        }
-        enterer_column(best)
-    }
-
-    /// Whether the cost row has no number below 0 in a real column.
-    fn are_costs_at_least_0(&self, columns: u32) -> bool
-        requires { columns ≤ columns_of (content self.now) }
-        ensures { IsTrue result ↔ AreCostsAtLeast0 (content self.now) columns }
-    {
-        let cost_row = self.height() + 1;
-        for column in 0..columns {
-            if self.number(cost_row, column) < 0 {
-                return false;
-            }
-        }
-        true
     }
 
     ghost is_table: { (store : Self) → IsTable (content store) };

@@ -1,9 +1,6 @@
 -- The search for the entering column along two lists of numbers.
 use Rattle.std.proofs.Common.{◌≡◌, ℕ, ◌+◌, ◌<◌, ◌≤◌, ◌≢◌, Bool, true, false, cond, ◌&&◌, ◌||◌, ◌==◌, if◌then◌else◌, ltb, ℤ, pos, List, [], ◌∷◌, Some, None, unsigned_abs, refl, sym, ◌∙◌, ap, subst, arith, inl, inr, ◌⊎◌}
 use Rattle.std.proofs.lemmas.Bool.{and_left, cases_eq, cases_lt, ltb-false, ltb-true}
-use Rattle.std.proofs.lemmas.Bool.Decides.{nat_tests}
-use Rattle.std.specs.Prelude.{IsTrue, ◌↔◌, ◌≤ℤ◌}
-use Rattle.std.proofs.lemmas.Int.{ints}
 use Rattle.sums.specs.Places.{first_below}
 use Rattle.sums.proofs.Places.{first_found, all_nothing}
 use Rattle.sums.proofs.Tests.{by_choice, unlike}
@@ -13,7 +10,6 @@ use Rattle.sparse_row.specs.Content.{number_in, AreEntries}
 use Rattle.sparse_row.proofs.Contents.{nothing_before}
 use Rattle.row_store.specs.Choice.{improves, is_negative}
 use Rattle.sparse_store.specs.Scan.{first_where}
-use Rattle.row_store.proofs.SignTests.{not_negative_is}
 
 -- what the search tells: none passes before its answer, and one stands there where that is below the bound
 pub record IsFirst (test : Entry → Bool) (bound : ℕ) (entries : List Entry) (from answer : ℕ) : Type 0 where
@@ -157,34 +153,3 @@ pub scan_none : (phase cost : ℕ → ℤ) (columns bound answer : ℕ) → IsSc
 scan_none phase cost columns bound answer h le =
     let same : answer ≡ columns = omega (arith, h.answer_fits, h.bound_fits) in
     sym (subst (λ k. first_below (λ column. if improves (phase column) (cost column) then Some column else None) k ≡ None) same (none_before phase cost columns bound answer h))
-
--- ---- whether no number is below 0
-
-not_negative : (z : ℤ) → pos 0 ≤ℤ z → is_negative z ≡ true → ⊥
-not_negative z le t = grind (arith, ints)
-
-pub none_negative : (number : ℕ → ℤ) (width columns answer : ℕ) (entries : List Entry) → AreEntries 0 width entries → ((column : ℕ) → number_in entries column ≡ number column) → answer ≡ first_where (λ entry. is_negative entry.number) columns entries → IsTrue (answer == columns) ↔ ((column : ℕ) → column < columns → pos 0 ≤ℤ number column)
-none_negative number width columns answer entries h is e =
-    (λ t column lt. not_negative_is (number column) (each column (subst (λ n. column < n) (sym (same answer columns t)) lt)), λ none. equal (no_answer none))
-  where
-    first : IsFirst (λ entry. is_negative entry.number) columns entries 0 answer
-    first = subst (IsFirst (λ entry. is_negative entry.number) columns entries 0) (sym e) (first_where_is (λ entry. is_negative entry.number) columns 0 width entries h)
-
-    same : (m n : ℕ) → IsTrue (m == n) → m ≡ n
-    same m n t = grind (arith, nat_tests)
-
-    each : (column : ℕ) → column < answer → is_negative (number column) ≡ false
-    each column lt = elim (first.none column (omega arith) lt) [ inl z ↦ negative_zero (number column) (sym (is column) ∙ z) | inr t ↦ ap is_negative (sym (is column)) ∙ t ]
-
-    no_answer : ((column : ℕ) → column < columns → pos 0 ≤ℤ number column) → answer < columns → ⊥
-    no_answer none lt = not_negative (number answer) (none answer lt) (ap is_negative (sym (is answer)) ∙ (first.found lt).1)
-
-    equal : (answer < columns → ⊥) → IsTrue (answer == columns)
-    equal never = same_test (cases_lt answer columns)
-      where
-        same_test : (answer < columns) ⊎ (columns ≤ answer) → IsTrue (answer == columns)
-        same_test (inl lt) = absurd (never lt)
-        same_test (inr ge) = let eq : answer ≡ columns = omega (arith, first.bounded) in reflexive answer columns eq
-          where
-            reflexive : (m n : ℕ) → m ≡ n → IsTrue (m == n)
-            reflexive m n s = grind (arith, nat_tests)

@@ -8,13 +8,13 @@ pub returns-then-offer_sole-clause-examined : goal.returns-then-offer_sole-claus
 returns-then-offer_sole-clause-examined c = sole_leaf _ _ _ _ _ _ c.if-offer_sole.ensures
 
 pub bounded-requires-clause-best : goal.bounded-requires-clause-best
-bounded-requires-clause-best c = (subst (IsRelaxed c.args.tables.now (kept_by c.args.kept.now) c.args.pivots) c.in-Bounded.is c.in_ok-prices.ensures).0
+bounded-requires-clause-best c = (subst (IsRelaxed c.args.tables.now (kept_by c.args.kept.now) c.args.pivots) c.in-Bounded.is c.in_ok-prices.ensures)
 
 pub returns-in-Refuted-clause-examined : goal.returns-in-Refuted-clause-examined
 returns-in-Refuted-clause-examined c =
     let refuted = subst (IsRelaxed c.args.tables.now (kept_by c.args.kept.now) c.args.pivots) c.in-Refuted.is c.in_ok-prices.ensures in
     after_no_sole _ _ _ _ _ _ _ c.if-offer_sole.ensures
-    (refuted_leaf _ c.args.pivots _ c.requires.best _ _ _ (record { some_pair = c.in_default.ensures; some_choice = c.if-offer_sole.ensures.not_sole }) refuted.0 refuted.1)
+    (refuted_leaf _ c.args.pivots _ c.requires.best _ _ _ (record { some_pair = c.in_default.ensures; some_choice = c.if-offer_sole.ensures.not_sole }) refuted)
 
 pub returns-in_ok-copied-in-Stopped-clause-examined : goal.returns-in_ok-copied-in-Stopped-clause-examined
 returns-in_ok-copied-in-Stopped-clause-examined c =
@@ -24,5 +24,4 @@ returns-in_ok-copied-in-Stopped-clause-examined c =
 
 pub returns-in-Bounded-clause-examined : goal.returns-in-Bounded-clause-examined
 returns-in-Bounded-clause-examined c =
-    let bounded = subst (IsRelaxed c.args.tables.now (kept_by c.args.kept.now) c.args.pivots) c.in-Bounded.is c.in_ok-prices.ensures in
-    before_no_sole _ _ _ _ _ _ _ _ c.if-offer_sole.ensures (c.bounded.ensures c.args.pivots c.args.above.now bounded.1)
+    before_no_sole _ _ _ _ _ _ _ _ c.if-offer_sole.ensures (c.bounded.ensures c.args.pivots c.args.above.now)

@@ -1,3 +1,0 @@
-pub mod Alike
-pub mod Runs
-pub mod SignLaws
