@@ -1,5 +1,5 @@
 -- Records that read as through pairs keep what through pairs keep.
-use Rattle.std.proofs.Common.{◌≡◌, ◌<◌, ◌&&◌, ℕ, pos, false, not, nat_le, List, [], ◌∷◌, ◌++◌, length, map, slice_index_or, Ok, refl, subst, inl, inr, arith}
+use Rattle.std.proofs.Common.{◌≡◌, ◌<◌, ◌&&◌, ℕ, pos, false, not, nat_le, List, [], ◌∷◌, length, map, slice_index_or, Ok, refl, subst, inl, inr, arith}
 use Rattle.std.proofs.lemmas.List.{length-map}
 use Rattle.std.specs.Str.{is_utf8}
 use Rattle.csv_fields.specs.Name.{name_of}
