@@ -49,8 +49,8 @@ new_cost flights fleets earlier fields entry reads =
 pairs_equal : (a b : PairCost) → SamePair a b → pair_of a ≡ pair_of b
 pairs_equal a b same = rw (same.leg, same.fleet) refl
 
-pub costs_keep : (flights fleets : List (List ℕ)) (records : List Fields) (costs : List PairCost) → CostsRead flights fleets records costs → AreCosts (length flights) (length fleets) costs
-costs_keep flights fleets records costs reads =
+by_names : (flights fleets : List (List ℕ)) (records : List Fields) (costs : List PairCost) → CostsRead flights fleets records costs → AreCosts (length flights) (length fleets) costs
+by_names flights fleets records costs reads =
     let read = cost_read flights fleets in
     let differ = front_differ pair_of read (λ e f s r. (new_cost flights fleets e f s r).fresh) reads.rest costs reads.rows.reads in
     record {
@@ -58,9 +58,8 @@ costs_keep flights fleets records costs reads =
       differ = λ i j d order within same. differ i j d order within (pairs_equal (slice_index_or costs i d) (slice_index_or costs j d) same);
     }
 
--- by the legs and fleets that have these names
-pub costs_keep_of : (legs : List Leg) (fleets : List Fleet) (records : List Fields) (costs : List PairCost) → CostsRead (map flight_of legs) (map fleet_name_of fleets) records costs
+pub costs_keep : (legs : List Leg) (fleets : List Fleet) (records : List Fields) (costs : List PairCost) → CostsRead (map flight_of legs) (map fleet_name_of fleets) records costs
     → AreCosts (length legs) (length fleets) costs
-costs_keep_of legs fleets records costs reads =
+costs_keep legs fleets records costs reads =
     subst (λ n. AreCosts (length legs) n costs) (length-map fleets fleet_name_of)
-    (subst (λ n. AreCosts n (length (map fleet_name_of fleets)) costs) (length-map legs flight_of) (costs_keep (map flight_of legs) (map fleet_name_of fleets) records costs reads))
+    (subst (λ n. AreCosts n (length (map fleet_name_of fleets)) costs) (length-map legs flight_of) (by_names (map flight_of legs) (map fleet_name_of fleets) records costs reads))

@@ -63,8 +63,8 @@ new_leg stations settings earlier fields leg reads =
       fresh = subst (λ (l : Leg). is_among l.flight earlier ≡ false) same fresh.0;
     }
 
-pub legs_keep : (stations : List (List ℕ)) (settings : Settings) (records : List Fields) (legs : List Leg) → LegsRead stations settings records legs → AreLegs (length stations) legs
-legs_keep stations settings records legs reads =
+by_codes : (stations : List (List ℕ)) (settings : Settings) (records : List Fields) (legs : List Leg) → LegsRead stations settings records legs → AreLegs (length stations) legs
+by_codes stations settings records legs reads =
     let read = leg_read stations settings in
     record {
       few = front_few flight_of read MAX_LEGS (λ e f l r. (new_leg stations settings e f l r).room) reads.rest legs reads.rows.reads;
@@ -72,6 +72,5 @@ legs_keep stations settings records legs reads =
       differ = front_differ flight_of read (λ e f l r. (new_leg stations settings e f l r).fresh) reads.rest legs reads.rows.reads;
     }
 
--- by the stations that have these codes
-pub legs_keep_of : (stations : List Station) (settings : Settings) (records : List Fields) (legs : List Leg) → LegsRead (map code_of stations) settings records legs → AreLegs (length stations) legs
-legs_keep_of stations settings records legs reads = subst (λ n. AreLegs n legs) (length-map stations code_of) (legs_keep (map code_of stations) settings records legs reads)
+pub legs_keep : (stations : List Station) (settings : Settings) (records : List Fields) (legs : List Leg) → LegsRead (map code_of stations) settings records legs → AreLegs (length stations) legs
+legs_keep stations settings records legs reads = subst (λ n. AreLegs n legs) (length-map stations code_of) (by_codes (map code_of stations) settings records legs reads)

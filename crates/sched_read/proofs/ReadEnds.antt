@@ -2,7 +2,7 @@
 use Rattle.std.proofs.Common.{◌⊎◌, ℕ, List, [], ◌∷◌, length, map, refl, subst, inl, inr}
 use Rattle.std.proofs.lemmas.List.{length-map}
 use Rattle.csv_fields.specs.Record.{records_of}
-use Rattle.fleet_model.specs.Limits.{AreSettings, AreThroughs}
+use Rattle.fleet_model.specs.Limits.{AreSettings}
 use Rattle.fleet_model.specs.declared.parts.Fleet.{Fleet}
 use Rattle.fleet_model.specs.declared.parts.Leg.{Leg}
 use Rattle.fleet_model.specs.declared.parts.PairCost.{PairCost}
@@ -12,13 +12,13 @@ use Rattle.fleet_model.specs.declared.parts.Through.{Through}
 use Rattle.fleet_model.specs.declared.refusals.TableFile.TheVariants as file
 use Rattle.fleet_tables.specs.Costs.{cost_header, cost_read, pair_of}
 use Rattle.fleet_tables.specs.Fleets.{fleet_header, fleet_name_of, fleet_read}
-use Rattle.fleet_tables.proofs.CostsFit.{costs_keep_of}
+use Rattle.fleet_tables.proofs.CostsFit.{costs_keep}
 use Rattle.fleet_tables.proofs.FleetsFit.{fleets_keep}
 use Rattle.sched_read.specs.Laws.{HaveFirstFault, ReadAsTables}
 use Rattle.sched_read.specs.Legs.{flight_of, leg_header, leg_read}
 use Rattle.sched_read.specs.Reading.{ReadCosts, TableBytes}
 use Rattle.sched_read.specs.Throughs.{ThroughsBad, ThroughsRead, connection_of, through_header, through_read}
-use Rattle.sched_read.proofs.LegsFit.{legs_keep_of}
+use Rattle.sched_read.proofs.LegsFit.{legs_keep}
 use Rattle.sched_read.proofs.ThroughsFit.{throughs_keep}
 use Rattle.station_table.specs.Stations.{code_of, station_header, station_read}
 use Rattle.station_table.proofs.StationsFit.{stations_keep}
@@ -37,27 +37,25 @@ throughs_end flights (b ∷ bytes) = elim (table_end_exists connection_of (throu
 -- lists that five files read as are tables
 tables_of : (bytes : TableBytes) (settings : Settings) → AreSettings settings → (s : List Station) (f : List Fleet) (l : List Leg) (c : List PairCost) (h : List Through)
     → ReadCosts bytes settings s f l c → ThroughsRead (map flight_of l) bytes.throughs h → ReadAsTables bytes settings
-tables_of bytes settings fit s f l c h reads throughs =
-    let throughs_fit : AreThroughs (length l) h = subst (λ n. AreThroughs n h) (length-map l flight_of) (throughs_keep (map flight_of l) bytes.throughs h throughs) in
-    record {
-      tables = record {
-        stations = s;
-        fleets = f;
-        legs = l;
-        costs = c;
-        throughs = h;
-        settings = settings;
-        in_range = record {
-          stations_fit = stations_keep (records_of bytes.stations) s reads.stations;
-          fleets_fit = fleets_keep (records_of bytes.fleets) f reads.fleets;
-          legs_fit = legs_keep_of s settings (records_of bytes.legs) l reads.legs;
-          costs_fit = costs_keep_of l f (records_of bytes.costs) c reads.costs;
-          throughs_fit = throughs_fit;
-          settings_fit = fit;
-        };
-      };
-      reads = record { stations = reads.stations; fleets = reads.fleets; legs = reads.legs; costs = reads.costs; throughs = throughs; settings_are = refl };
-    }
+tables_of bytes settings fit s f l c h reads throughs = record {
+  tables = record {
+    stations = s;
+    fleets = f;
+    legs = l;
+    costs = c;
+    throughs = h;
+    settings = settings;
+    in_range = record {
+      stations_fit = stations_keep (records_of bytes.stations) s reads.stations;
+      fleets_fit = fleets_keep (records_of bytes.fleets) f reads.fleets;
+      legs_fit = legs_keep s settings (records_of bytes.legs) l reads.legs;
+      costs_fit = costs_keep l f (records_of bytes.costs) c reads.costs;
+      throughs_fit = throughs_keep l bytes.throughs h throughs;
+      settings_fit = fit;
+    };
+  };
+  reads = record { stations = reads.stations; fleets = reads.fleets; legs = reads.legs; costs = reads.costs; throughs = throughs; settings_are = refl };
+}
 
 pub read_or_fault : (bytes : TableBytes) (settings : Settings) → AreSettings settings → End bytes settings
 read_or_fault bytes settings fit = elim (table_end_exists code_of station_read station_header (records_of bytes.stations)) [

@@ -53,8 +53,8 @@ new_through flights earlier fields entry reads =
 connections_equal : (a b : Through) → SameThrough a b → connection_of a ≡ connection_of b
 connections_equal a b same = rw (same.arriving, same.departing) refl
 
-pub table_keeps : (flights : List (List ℕ)) (records : List Fields) (throughs : List Through) → ThroughTableReads flights records throughs → AreThroughs (length flights) throughs
-table_keeps flights records throughs reads =
+by_flights : (flights : List (List ℕ)) (records : List Fields) (throughs : List Through) → ThroughTableReads flights records throughs → AreThroughs (length flights) throughs
+by_flights flights records throughs reads =
     let read = through_read flights in
     let differ = front_differ connection_of read (λ e f s r. (new_through flights e f s r).fresh) reads.rest throughs reads.rows.reads in
     record {
@@ -63,11 +63,10 @@ table_keeps flights records throughs reads =
       differ = λ i j d order within same. differ i j d order within (connections_equal (slice_index_or throughs i d) (slice_index_or throughs j d) same);
     }
 
--- by the legs that have these flights
-pub table_keeps_of : (legs : List Leg) (records : List Fields) (throughs : List Through) → ThroughTableReads (map flight_of legs) records throughs → AreThroughs (length legs) throughs
-table_keeps_of legs records throughs reads = subst (λ n. AreThroughs n throughs) (length-map legs flight_of) (table_keeps (map flight_of legs) records throughs reads)
+pub table_keeps : (legs : List Leg) (records : List Fields) (throughs : List Through) → ThroughTableReads (map flight_of legs) records throughs → AreThroughs (length legs) throughs
+table_keeps legs records throughs reads = subst (λ n. AreThroughs n throughs) (length-map legs flight_of) (by_flights (map flight_of legs) records throughs reads)
 
-pub throughs_keep : (flights : List (List ℕ)) (bytes : List ℕ) (throughs : List Through) → ThroughsRead flights bytes throughs → AreThroughs (length flights) throughs
-throughs_keep flights bytes throughs (inl none) =
+pub throughs_keep : (legs : List Leg) (bytes : List ℕ) (throughs : List Through) → ThroughsRead (map flight_of legs) bytes throughs → AreThroughs (length legs) throughs
+throughs_keep legs bytes throughs (inl none) =
     rw none.1 (record { few = omega arith; each = λ k d within. absurd (omega arith); differ = λ i j d order within. absurd (omega arith) })
-throughs_keep flights bytes throughs (inr reads) = table_keeps flights (records_of bytes) throughs reads
+throughs_keep legs bytes throughs (inr reads) = table_keeps legs (records_of bytes) throughs reads

@@ -112,10 +112,10 @@ flown_reads settings stations earlier flight false trip few is form new room =
     form (code_is_code (suc trip.spoke) (omega (arith, is.there))) (code_is_code 0 (omega arith)) spoke hub (not_hub trip.spoke) new room
     (between leaves lands trip.block (omega arith) (omega (arith, is.block_most))) (some_minutes trip.block is.block_least)
 
-another_pair : (p q : ℕ) → q < p → bytes_eq (p / 2 ∷ p % 2 ∷ []) (q / 2 ∷ q % 2 ∷ []) ≡ false
+another_pair : (p q : ℕ) → q < p → bytes_eq ((p / 2) ∷ (p % 2) ∷ []) ((q / 2) ∷ (q % 2) ∷ []) ≡ false
 another_pair p q before = grind (arith, nat_tests)
 
-another_trip : (i j : ℕ) → j < i → bytes_eq (2 * i + 1 ∷ 2 * i + 2 ∷ []) (2 * j + 1 ∷ 2 * j + 2 ∷ []) ≡ false
+another_trip : (i j : ℕ) → j < i → bytes_eq ((2 * i + 1) ∷ (2 * i + 2) ∷ []) ((2 * j + 1) ∷ (2 * j + 2) ∷ []) ≡ false
 another_trip i j before = grind (arith, nat_tests)
 
 -- round trips of a list, each to one of the spokes
@@ -132,7 +132,7 @@ module _ (trips : List RoundTrip) (n stations : ℕ) (few : n ≤ 500) (there : 
       let cost = slice_index (trip_of trips (p / 4)).costs (p % 4) in
       let small = (fit (p / 4) (omega arith)).costs_fit (p % 4) in
       let earlier = list_below (λ j. pair_of (cost_entry trips j)) p in
-      let new : is_among (p / 2 ∷ p % 2 ∷ []) earlier ≡ false = list_any_none (bytes_eq (p / 2 ∷ p % 2 ∷ [])) earlier (λ q d below.
+      let new : is_among ((p / 2) ∷ (p % 2) ∷ []) earlier ≡ false = list_any_none (bytes_eq ((p / 2) ∷ (p % 2) ∷ [])) earlier (λ q d below.
       (let before : q < p = omega (arith, length-list_below (λ j. pair_of (cost_entry trips j)) p, below) in
       rw (get_or-list_below (λ j. pair_of (cost_entry trips j)) p q d before) (another_pair p q before))) in
       cost_one (list_below flight_name (2 * n)) (list_below fleet_name 2) earlier (flight_name (p / 2)) (fleet_name (p % 2)) (p / 2) (p % 2) cost
@@ -143,7 +143,7 @@ module _ (trips : List RoundTrip) (n stations : ℕ) (few : n ≤ 500) (there : 
       → through_read (list_below flight_name (2 * n)) (list_below (λ j. connection_of (through_entry trips j)) i) (through_fields trips i) ≡ Ok (through_entry trips i)
   through_reads i within =
       let small = (fit i (omega arith)).value_fits in
-      let pair : List ℕ = 2 * i + 1 ∷ 2 * i + 2 ∷ [] in
+      let pair : List ℕ = (2 * i + 1) ∷ (2 * i + 2) ∷ [] in
       let earlier = list_below (λ j. connection_of (through_entry trips j)) i in
       let new : is_among pair earlier ≡ false = list_any_none (bytes_eq pair) earlier (λ j d below.
       (let before : j < i = omega (arith, length-list_below (λ j. connection_of (through_entry trips j)) i, below) in

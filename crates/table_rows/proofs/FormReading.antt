@@ -74,6 +74,7 @@ module _ {E : Type 0} (key : E → List ℕ) (read : Form → List (List ℕ) �
       lacking : LacksHeader (header form.New) records → ((IsAllowed old_allowed form.Old) → LacksHeader (header form.Old) records) → LacksForm header old_allowed records
       lacking not_new not_old form.Old allowed = not_old allowed
       lacking not_new not_old form.New allowed = not_new
+
       by_old : (allowed : Bool) → old_allowed ≡ allowed → LacksHeader (header form.New) records
           → ((rest : List Fields) × IsUnder (header form.Old) records rest) ⊎ LacksHeader (header form.Old) records → FormEnd records
       by_old true is not_new (inl old) = found_end records old.0 form.Old is old.1

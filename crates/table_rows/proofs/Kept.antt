@@ -22,7 +22,7 @@ module _ {E : Type 0} (key : E → List ℕ) (read : List (List ℕ) → Fields 
       let new = fresh (map key earlier) (row_at rows j) (slice_index_or entries j d) (reads.each j d within) in
       let there : i < length earlier = omega (arith, length-take-le j entries (omega arith)) in
       let at : slice_index_or (map key earlier) i [] ≡ key (slice_index_or entries j d) =
-          get_or-map key earlier i d [] there ∙ (rw (get_or-take j entries i d order) same) in
+      get_or-map key earlier i d [] there ∙ (rw (get_or-take j entries i d order) same) in
       false≢true (sym new ∙ list_any_at (bytes_eq (key (slice_index_or entries j d))) (map key earlier) i [] (omega (arith, length-map earlier key)) (rw at (bytes_eq-self (key (slice_index_or entries j d)))))
 
   -- where a record reads only below fewer keys than a limit, there are no more entries than that
