@@ -1,13 +1,14 @@
 //! Where two turns touch one minute at one station.
 ghost use Rattle.std.specs.Prelude.{◌≡◌, ◌<◌};
 ghost use Rattle.fleet_model.specs.Schedule.{fleets_in, legs_in};
-ghost use Rattle.ground_turns.specs.Turns.{IsTurn, minutes_round, touches};
+ghost use Rattle.ground_turns.specs.Turns.{IsTurn, period_of, touches};
 ghost use Rattle.cycle_join.specs.Labels.{AreLabels};
 ghost use Rattle.cycle_join.specs.Meetings.{IsGround, meets, share_minute};
 
 use crate::ground::Ground;
 use fleet_model::limits::MINUTES_PER_PERIOD;
 use fleet_model::{Connection, Tables, ready};
+use ground_turns::{minutes_until, wait};
 
 /// Whether a turn meets another: one of a cycle with a lower label, neither of a given pair, at the same station, and
 /// both touch one minute.
@@ -48,19 +49,9 @@ fn touches(tables: &Tables, fleet: u32, turn: Connection, minute: u16) -> bool
     requires fleet { fleet < fleets_in tables.now }
     requires arrives { turn.arriving < legs_in tables.now }
     requires departs { turn.departing < legs_in tables.now }
-    requires minute { minute < MINUTES_PER_PERIOD }
+    requires minute { minute < period_of tables.now }
     ensures { result ≡ touches tables.now fleet turn minute }
 {
     let ready = ready(tables, turn.arriving, fleet);
-    let departure = tables.leg(turn.departing).dep;
-    minutes_until(ready, minute) <= minutes_until(ready, departure)
-}
-
-// How many minutes after one minute another comes, going round.
-fn minutes_until(from: u16, to: u16) -> u16
-    requires from { from < MINUTES_PER_PERIOD }
-    requires to { to < MINUTES_PER_PERIOD }
-    ensures { result ≡ minutes_round MINUTES_PER_PERIOD from to }
-{
-    (to + MINUTES_PER_PERIOD - from) % MINUTES_PER_PERIOD
+    minutes_until(MINUTES_PER_PERIOD, ready, minute) <= wait(tables, fleet, turn)
 }

@@ -3,13 +3,13 @@ ghost use Rattle.std.specs.Prelude.{◌≡◌, ◌+◌, ◌<◌, ◌≤◌, true
 ghost use Rattle.std.specs.List.{list_any};
 ghost use Rattle.fleet_model.specs.Schedule.{legs_in, station_of};
 ghost use Rattle.ground_turns.specs.Nights.{can_maintain, nights_in_turn};
-ghost use Rattle.ground_turns.specs.Turns.{nights_waited, station_at};
+ghost use Rattle.ground_turns.specs.Turns.{station_at};
 ghost use Rattle.euler_rotation.specs.Asked.{IsAsked};
 ghost use Rattle.euler_rotation.specs.Often.{GoesOn, nights_since, stays_below};
 
 use crate::asked::Asked;
 use fleet_model::{Connection, nights};
-use lines_of_flying::nights_after;
+use ground_turns::nights_waited;
 
 /// The nights without maintenance after those of a turn, where so many came before; nothing where they come to the days
 /// that are asked for. Takes no memory.
@@ -24,7 +24,7 @@ pub(crate) fn since_after(asked: &Asked<'_>, since: u32, turn: Connection) -> Op
     if aloft >= asked.days {
         return None;
     }
-    let waited = nights_waited(asked, turn);
+    let waited = nights_waited(asked.tables, asked.fleet, turn);
     if waited == 0 {
         return Some(aloft);
     }
@@ -55,7 +55,7 @@ pub(crate) fn has_maintenance(asked: &Asked<'_>, turn: Connection) -> bool
     requires departing { turn.departing < legs_in asked.now.tables.now }
     ensures { result ≡ list_any (can_maintain asked.now.tables.now) (nights_in_turn asked.now.tables.now asked.now.fleet turn) }
 {
-    nights_waited(asked, turn) > 0 && is_maintained(asked, turn)
+    nights_waited(asked.tables, asked.fleet, turn) > 0 && is_maintained(asked, turn)
 }
 
 /// The nights of a turn but those at a maintenance station. Takes no memory.
@@ -68,20 +68,6 @@ pub(crate) fn nights_without(asked: &Asked<'_>, turn: Connection) -> u32
     if is_maintained(asked, turn) {
         aloft
     } else {
-        aloft + nights_waited(asked, turn)
+        aloft + nights_waited(asked.tables, asked.fleet, turn)
     }
-}
-
-// The day starts in the wait of a turn.
-#[tactic(auto, unfolding(lines_of_flying::specs::Lines::nights_after))]
-fn nights_waited(asked: &Asked<'_>, turn: Connection) -> u32
-    requires asked { IsAsked asked.now }
-    requires arriving { turn.arriving < legs_in asked.now.tables.now }
-    requires departing { turn.departing < legs_in asked.now.tables.now }
-    ensures value { result ≡ nights_waited asked.now.tables.now asked.now.fleet turn }
-    ensures few { result ≤ 20160 }
-{
-    let legs = [turn.arriving, turn.departing];
-    nights_after(asked.tables, asked.fleet, &legs, 0)
-        - nights(asked.tables, turn.arriving, asked.fleet)
 }

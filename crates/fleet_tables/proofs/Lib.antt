@@ -1,4 +1,2 @@
 pub mod CostsFit
-pub mod CostsKept
 pub mod FleetsFit
-pub mod FleetsKept

@@ -1,19 +1,15 @@
 -- What a file of costs reads as.
-use Rattle.std.specs.Prelude.{◌≡◌, ℕ, Bool, neg_ℤ, ◌++◌, false, not, ◌&&◌, ◌==◌, List, ◌∷◌, [], length, codes, Result, Ok}
-use Rattle.std.specs.List.{list_any}
+use Rattle.std.specs.Prelude.{ℕ, neg_ℤ, not, ◌&&◌, List, ◌∷◌, [], codes, Result, Ok}
 use Rattle.std.specs.Str.{is_utf8}
 use Rattle.csv_fields.specs.Name.{name_of}
 use Rattle.csv_fields.specs.Number.{whole_of}
-use Rattle.fleet_model.specs.Limits.{AreCosts, IsPairCost}
-use Rattle.fleet_model.specs.Schedule.{leg_on}
 use Rattle.fleet_model.specs.declared.limits.TheConstants.{MAX_COST}
 use Rattle.fleet_model.specs.declared.parts.Leg.{Leg}
-use Rattle.fleet_model.specs.declared.parts.Pair.{Pair}
 use Rattle.fleet_model.specs.declared.parts.PairCost.{PairCost}
 use Rattle.fleet_model.specs.declared.refusals.TheConstants.{DUPLICATE, NOT_TEXT, UNKNOWN_FLEET, UNKNOWN_FLIGHT}
 use Rattle.table_rows.specs.Fields.{known, of_width, refused_where, three_of, well_formed}
-use Rattle.table_rows.specs.Names.{number_of}
-use Rattle.table_rows.specs.Rows.{Fields, RowsBad, RowsRead, TableBad, TableReads}
+use Rattle.table_rows.specs.Names.{is_among, number_of}
+use Rattle.table_rows.specs.Rows.{Fields, TableBad, TableReads}
 
 -- flight,fleet,cost
 abbrev pub cost_header : Fields
@@ -23,16 +19,13 @@ cost_header = codes "flight" ∷ codes "fleet" ∷ codes "cost" ∷ []
 abbrev pub flight_of : Leg → List ℕ
 flight_of leg = leg.flight
 
--- the pair of a cost, which no other has
-abbrev pub pair_of : PairCost → Pair
-pair_of entry = leg_on entry.leg entry.fleet
-
-abbrev pub same_pair : Pair → Pair → Bool
-same_pair a b = (a.leg == b.leg) && (a.fleet == b.fleet)
+-- the leg and the fleet of a cost, which no other has
+abbrev pub pair_of : PairCost → List ℕ
+pair_of entry = entry.leg ∷ entry.fleet ∷ []
 
 -- A record read as a cost, by the flights and the names of the fleets, below costs of these pairs, or the least
 -- kind of its faults. A pair of an earlier record has a known flight and a known fleet.
-unfoldable pub cost_read : List (List ℕ) → List (List ℕ) → List Pair → Fields → Result PairCost ℕ
+unfoldable pub cost_read : List (List ℕ) → List (List ℕ) → List (List ℕ) → Fields → Result PairCost ℕ
 cost_read flights fleets earlier fields =
     of_width (three_of fields) (λ (flight, fleet, cost).
     refused_where (not (is_utf8 flight && is_utf8 fleet && is_utf8 cost)) NOT_TEXT
@@ -41,12 +34,8 @@ cost_read flights fleets earlier fields =
     well_formed (whole_of cost (neg_ℤ MAX_COST) MAX_COST) (λ units.
     known (number_of flight flights) UNKNOWN_FLIGHT (λ l.
     known (number_of fleet fleets) UNKNOWN_FLEET (λ f.
-    refused_where (list_any (same_pair (leg_on l f)) earlier) DUPLICATE
+    refused_where (is_among (l ∷ f ∷ []) earlier) DUPLICATE
     (Ok (record { leg = l; fleet = f; cost = units })))))))))
-
--- the first record below the header that reads as no cost
-abbrev pub CostRowsBad : List (List ℕ) → List (List ℕ) → List Fields → ℕ → ℕ → Type 0
-CostRowsBad flights fleets = RowsBad pair_of (cost_read flights fleets)
 
 -- the records of a file are the header and these costs
 abbrev pub CostsRead : List (List ℕ) → List (List ℕ) → List Fields → List PairCost → Type 0
@@ -55,15 +44,3 @@ CostsRead flights fleets = TableReads pair_of (cost_read flights fleets) cost_he
 -- the first fault of a file of costs
 abbrev pub CostsBad : List (List ℕ) → List (List ℕ) → List Fields → ℕ → ℕ → Type 0
 CostsBad flights fleets = TableBad pair_of (cost_read flights fleets) cost_header
-
--- a cost that was read below others, and their pairs with its own
-pub record IsNewCost (flights fleets : List (List ℕ)) (old new : List Pair) (fields : Fields) (entry : PairCost) : Type 0 where
-  pub reads : cost_read flights fleets old fields ≡ Ok entry
-  pub fits : IsPairCost (length flights) (length fleets) entry
-  pub fresh : list_any (same_pair (pair_of entry)) old ≡ false
-  pub numbered : new ≡ old ++ pair_of entry ∷ []
-
--- the records below the header read as these costs
-pub record CostRowsRead (flights fleets : List (List ℕ)) (rows : List Fields) (costs : List PairCost) : Type 0 where
-  pub read : RowsRead pair_of (cost_read flights fleets) rows costs
-  pub kept : AreCosts (length flights) (length fleets) costs

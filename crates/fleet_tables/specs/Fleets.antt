@@ -1,14 +1,13 @@
 -- What a file of fleets reads as.
-use Rattle.std.specs.Prelude.{◌≡◌, ℕ, ◌<◌, ◌++◌, false, not, ◌&&◌, nat_le, List, ◌∷◌, [], length, codes, Result, Ok}
+use Rattle.std.specs.Prelude.{ℕ, not, ◌&&◌, nat_le, List, ◌∷◌, [], length, codes, Result, Ok}
 use Rattle.std.specs.Str.{is_utf8}
 use Rattle.csv_fields.specs.Name.{name_of}
-use Rattle.fleet_model.specs.Limits.{AreFleets, IsFleet}
 use Rattle.fleet_model.specs.declared.limits.TheConstants.{MAX_AIRCRAFT, MAX_FLEETS, MAX_GROUND_MINUTES}
 use Rattle.fleet_model.specs.declared.parts.Fleet.{Fleet}
 use Rattle.fleet_model.specs.declared.refusals.TheConstants.{DUPLICATE, NOT_TEXT, TOO_MANY}
 use Rattle.table_rows.specs.Fields.{natural_of, of_width, refused_where, three_of, well_formed}
 use Rattle.table_rows.specs.Names.{is_among}
-use Rattle.table_rows.specs.Rows.{Fields, RowsBad, RowsRead, TableBad, TableReads}
+use Rattle.table_rows.specs.Rows.{Fields, TableBad, TableReads}
 
 -- fleet,aircraft,turn
 abbrev pub fleet_header : Fields
@@ -30,10 +29,6 @@ fleet_read earlier fields =
     (refused_where (nat_le MAX_FLEETS (length earlier)) TOO_MANY
     (Ok (record { name = name; aircraft = count; turn = minutes }))))))))
 
--- the first record below the header that reads as no fleet
-abbrev pub FleetRowsBad : List Fields → ℕ → ℕ → Type 0
-FleetRowsBad = RowsBad fleet_name_of fleet_read
-
 -- the records of a file are the header and these fleets
 abbrev pub FleetsRead : List Fields → List Fleet → Type 0
 FleetsRead = TableReads fleet_name_of fleet_read fleet_header
@@ -41,16 +36,3 @@ FleetsRead = TableReads fleet_name_of fleet_read fleet_header
 -- the first fault of a file of fleets
 abbrev pub FleetsBad : List Fields → ℕ → ℕ → Type 0
 FleetsBad = TableBad fleet_name_of fleet_read fleet_header
-
--- a fleet that was read below others, and their names with its own
-pub record IsNewFleet (old new : List (List ℕ)) (fields : Fields) (fleet : Fleet) : Type 0 where
-  pub reads : fleet_read old fields ≡ Ok fleet
-  pub fits : IsFleet fleet
-  pub room : length old < MAX_FLEETS
-  pub fresh : is_among fleet.name old ≡ false
-  pub numbered : new ≡ old ++ fleet.name ∷ []
-
--- the records below the header read as these fleets
-pub record FleetRowsRead (rows : List Fields) (fleets : List Fleet) : Type 0 where
-  pub read : RowsRead fleet_name_of fleet_read rows fleets
-  pub kept : AreFleets fleets

@@ -4,6 +4,8 @@
 pub mod laws;
 pub mod nights;
 pub mod segments;
+pub mod turns;
 
 pub use nights::Night;
 pub use segments::Segments;
+pub use turns::{crosses, minutes_until, nights_waited, wait};

@@ -5,12 +5,12 @@ ghost use Rattle.fleet_model.specs.Legal.{IsAssignment};
 ghost use Rattle.fleet_model.specs.Schedule.{fleets_in, legs_in};
 ghost use Rattle.fleet_model.specs.Use.{used_of};
 ghost use Rattle.ground_turns.specs.Maps.{IsTour};
-ghost use Rattle.ground_turns.specs.Turns.{days_in, nights_waited};
+ghost use Rattle.ground_turns.specs.Turns.{days_in};
 ghost use Rattle.lines_of_flying.specs.Lines.{AreLegs, BeginsAfterNight, line_after, lines_ended, lines_of, nights_after};
 
 use entries::{Entries, NoMemory};
-use fleet_model::limits::{MINUTES_PER_DAY, MINUTES_PER_PERIOD};
-use fleet_model::{Assignment, Connection, Tables, nights, ready};
+use fleet_model::{Assignment, Connection, Tables, nights};
+use ground_turns::nights_waited;
 use std::alloc::Global;
 
 /// The lines of a tour: the legs of each of its days, in their order. A day ends with each night, in a leg's flight or
@@ -86,18 +86,4 @@ pub fn nights_after(tables: &Tables, fleet: u32, tour: &[u32], place: usize) -> 
         departing: tour[(place + 1) % tour.len()],
     };
     nights(tables, turn.arriving, fleet) + nights_waited(tables, fleet, turn)
-}
-
-// The day starts in the wait of a turn.
-fn nights_waited(tables: &Tables, fleet: u32, turn: Connection) -> u32
-    requires fleet { fleet < fleets_in tables.now }
-    requires arriving { turn.arriving < legs_in tables.now }
-    requires departing { turn.departing < legs_in tables.now }
-    ensures value { result ≡ nights_waited tables.now fleet turn }
-    ensures few { result ≤ 20160 }
-{
-    let ready = ready(tables, turn.arriving, fleet);
-    let departure = tables.leg(turn.departing).dep;
-    let wait = (departure + MINUTES_PER_PERIOD - ready) % MINUTES_PER_PERIOD;
-    u32::from((ready + wait) / MINUTES_PER_DAY - ready / MINUTES_PER_DAY)
 }

@@ -2,7 +2,7 @@
 use Rattle.std.proofs.Common.{◌⊎◌, ℕ, List, [], ◌∷◌, length, map, refl, subst, inl, inr}
 use Rattle.std.proofs.lemmas.List.{length-map}
 use Rattle.csv_fields.specs.Record.{records_of}
-use Rattle.fleet_model.specs.Limits.{AreCosts, AreLegs, AreSettings, AreThroughs}
+use Rattle.fleet_model.specs.Limits.{AreSettings}
 use Rattle.fleet_model.specs.declared.parts.Fleet.{Fleet}
 use Rattle.fleet_model.specs.declared.parts.Leg.{Leg}
 use Rattle.fleet_model.specs.declared.parts.PairCost.{PairCost}
@@ -37,30 +37,25 @@ throughs_end flights (b ∷ bytes) = elim (table_end_exists connection_of (throu
 -- lists that five files read as are tables
 tables_of : (bytes : TableBytes) (settings : Settings) → AreSettings settings → (s : List Station) (f : List Fleet) (l : List Leg) (c : List PairCost) (h : List Through)
     → ReadCosts bytes settings s f l c → ThroughsRead (map flight_of l) bytes.throughs h → ReadAsTables bytes settings
-tables_of bytes settings fit s f l c h reads throughs =
-    let legs_fit : AreLegs (length s) l = subst (λ n. AreLegs n l) (length-map s code_of) (legs_keep (map code_of s) settings (records_of bytes.legs) l reads.legs) in
-    let costs_fit : AreCosts (length l) (length f) c = subst (λ n. AreCosts (length l) n c) (length-map f fleet_name_of)
-    (subst (λ n. AreCosts n (length (map fleet_name_of f)) c) (length-map l flight_of) (costs_keep (map flight_of l) (map fleet_name_of f) (records_of bytes.costs) c reads.costs)) in
-    let throughs_fit : AreThroughs (length l) h = subst (λ n. AreThroughs n h) (length-map l flight_of) (throughs_keep (map flight_of l) bytes.throughs h throughs) in
-    record {
-      tables = record {
-        stations = s;
-        fleets = f;
-        legs = l;
-        costs = c;
-        throughs = h;
-        settings = settings;
-        in_range = record {
-          stations_fit = stations_keep (records_of bytes.stations) s reads.stations;
-          fleets_fit = fleets_keep (records_of bytes.fleets) f reads.fleets;
-          legs_fit = legs_fit;
-          costs_fit = costs_fit;
-          throughs_fit = throughs_fit;
-          settings_fit = fit;
-        };
-      };
-      reads = record { stations = reads.stations; fleets = reads.fleets; legs = reads.legs; costs = reads.costs; throughs = throughs; settings_are = refl };
-    }
+tables_of bytes settings fit s f l c h reads throughs = record {
+  tables = record {
+    stations = s;
+    fleets = f;
+    legs = l;
+    costs = c;
+    throughs = h;
+    settings = settings;
+    in_range = record {
+      stations_fit = stations_keep (records_of bytes.stations) s reads.stations;
+      fleets_fit = fleets_keep (records_of bytes.fleets) f reads.fleets;
+      legs_fit = legs_keep s settings (records_of bytes.legs) l reads.legs;
+      costs_fit = costs_keep l f (records_of bytes.costs) c reads.costs;
+      throughs_fit = throughs_keep l bytes.throughs h throughs;
+      settings_fit = fit;
+    };
+  };
+  reads = record { stations = reads.stations; fleets = reads.fleets; legs = reads.legs; costs = reads.costs; throughs = throughs; settings_are = refl };
+}
 
 pub read_or_fault : (bytes : TableBytes) (settings : Settings) → AreSettings settings → End bytes settings
 read_or_fault bytes settings fit = elim (table_end_exists code_of station_read station_header (records_of bytes.stations)) [

@@ -1,16 +1,15 @@
 -- What a file of legs reads as.
-use Rattle.std.specs.Prelude.{◌≡◌, ℕ, ◌+◌, ◌-◌, ◌%◌, ◌<◌, ◌++◌, false, not, ◌==◌, ◌&&◌, nat_le, List, ◌∷◌, [], length, codes, Result, Ok}
+use Rattle.std.specs.Prelude.{ℕ, ◌+◌, ◌-◌, ◌%◌, not, ◌==◌, ◌&&◌, nat_le, List, ◌∷◌, [], length, codes, Result, Ok}
 use Rattle.std.specs.Str.{is_utf8}
 use Rattle.csv_fields.specs.Name.{name_of, station_code_of}
 use Rattle.csv_fields.specs.Time.{clock_time_of}
-use Rattle.fleet_model.specs.Limits.{AreLegs, IsLeg}
 use Rattle.fleet_model.specs.declared.limits.TheConstants.{MAX_LEGS, MINUTES_PER_DAY, MINUTES_PER_PERIOD}
 use Rattle.fleet_model.specs.declared.parts.Leg.{Leg}
 use Rattle.fleet_model.specs.declared.parts.Settings.{Settings}
 use Rattle.fleet_model.specs.declared.refusals.TheConstants.{DUPLICATE, NOT_TEXT, TOO_MANY, TO_ITSELF, UNKNOWN_STATION, ZERO_BLOCK}
 use Rattle.table_rows.specs.Fields.{five_of, known, of_width, refused_where, well_formed}
 use Rattle.table_rows.specs.Names.{is_among, number_of}
-use Rattle.table_rows.specs.Rows.{Fields, RowsBad, RowsRead, TableBad, TableReads}
+use Rattle.table_rows.specs.Rows.{Fields, TableBad, TableReads}
 
 -- flight,from,dep,to,arr
 abbrev pub leg_header : Fields
@@ -47,10 +46,6 @@ leg_read stations settings earlier fields =
     (refused_where (nat_le MAX_LEGS (length earlier)) TOO_MANY
     (Ok (record { flight = flight; from = a; dep = from_day_start settings leaves; to = b; block = block_between leaves lands }))))))))))))))
 
--- the first record below the header that reads as no leg
-abbrev pub LegRowsBad : List (List ℕ) → Settings → List Fields → ℕ → ℕ → Type 0
-LegRowsBad stations settings = RowsBad flight_of (leg_read stations settings)
-
 -- the records of a file are the header and these legs
 abbrev pub LegsRead : List (List ℕ) → Settings → List Fields → List Leg → Type 0
 LegsRead stations settings = TableReads flight_of (leg_read stations settings) leg_header
@@ -58,16 +53,3 @@ LegsRead stations settings = TableReads flight_of (leg_read stations settings) l
 -- the first fault of a file of legs
 abbrev pub LegsBad : List (List ℕ) → Settings → List Fields → ℕ → ℕ → Type 0
 LegsBad stations settings = TableBad flight_of (leg_read stations settings) leg_header
-
--- a leg that was read below others, and their flights with its own
-pub record IsNewLeg (stations : List (List ℕ)) (settings : Settings) (old new : List (List ℕ)) (fields : Fields) (leg : Leg) : Type 0 where
-  pub reads : leg_read stations settings old fields ≡ Ok leg
-  pub fits : IsLeg (length stations) leg
-  pub room : length old < MAX_LEGS
-  pub fresh : is_among leg.flight old ≡ false
-  pub numbered : new ≡ old ++ leg.flight ∷ []
-
--- the records below the header read as these legs
-pub record LegRowsRead (stations : List (List ℕ)) (settings : Settings) (rows : List Fields) (legs : List Leg) : Type 0 where
-  pub read : RowsRead flight_of (leg_read stations settings) rows legs
-  pub kept : AreLegs (length stations) legs

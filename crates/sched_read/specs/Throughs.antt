@@ -1,33 +1,27 @@
 -- What a file of through pairs reads as.
-use Rattle.std.specs.Prelude.{◌≡◌, ◌≢◌, ◌⊎◌, ℕ, Bool, pos, ◌<◌, ◌++◌, false, not, ◌&&◌, ◌==◌, nat_le, List, ◌∷◌, [], length, codes, Result, Ok}
-use Rattle.std.specs.List.{list_any}
+use Rattle.std.specs.Prelude.{◌≡◌, ◌≢◌, ◌⊎◌, ℕ, pos, not, ◌&&◌, nat_le, List, ◌∷◌, [], length, codes, Result, Ok}
 use Rattle.std.specs.Str.{is_utf8}
 use Rattle.csv_fields.specs.Name.{name_of}
 use Rattle.csv_fields.specs.Number.{whole_of}
 use Rattle.csv_fields.specs.Record.{records_of}
-use Rattle.fleet_model.specs.Limits.{AreThroughs, IsThrough}
 use Rattle.fleet_model.specs.declared.limits.TheConstants.{MAX_COST, MAX_THROUGHS}
-use Rattle.fleet_model.specs.declared.parts.Connection.{Connection}
 use Rattle.fleet_model.specs.declared.parts.Through.{Through}
 use Rattle.fleet_model.specs.declared.refusals.TheConstants.{DUPLICATE, NOT_TEXT, TOO_MANY, UNKNOWN_FLIGHT}
 use Rattle.table_rows.specs.Fields.{known, of_width, refused_where, three_of, well_formed}
-use Rattle.table_rows.specs.Names.{number_of}
-use Rattle.table_rows.specs.Rows.{Fields, RowsBad, RowsRead, TableBad, TableReads}
+use Rattle.table_rows.specs.Names.{is_among, number_of}
+use Rattle.table_rows.specs.Rows.{Fields, TableBad, TableReads}
 
 -- in,out,value
 abbrev pub through_header : Fields
 through_header = codes "in" ∷ codes "out" ∷ codes "value" ∷ []
 
 -- the two legs of a through pair, which no other has
-abbrev pub connection_of : Through → Connection
-connection_of entry = record { arriving = entry.arriving; departing = entry.departing }
-
-abbrev pub same_connection : Connection → Connection → Bool
-same_connection a b = (a.arriving == b.arriving) && (a.departing == b.departing)
+abbrev pub connection_of : Through → List ℕ
+connection_of entry = entry.arriving ∷ entry.departing ∷ []
 
 -- A record read as a through pair, by the flights, below through pairs of these legs, or the least kind of its
 -- faults. A pair of an earlier record has two known flights.
-unfoldable pub through_read : List (List ℕ) → List Connection → Fields → Result Through ℕ
+unfoldable pub through_read : List (List ℕ) → List (List ℕ) → Fields → Result Through ℕ
 through_read flights earlier fields =
     of_width (three_of fields) (λ (arriving, departing, value).
     refused_where (not (is_utf8 arriving && is_utf8 departing && is_utf8 value)) NOT_TEXT
@@ -36,13 +30,9 @@ through_read flights earlier fields =
     well_formed (whole_of value (pos 0) MAX_COST) (λ units.
     known (number_of arriving flights) UNKNOWN_FLIGHT (λ l.
     known (number_of departing flights) UNKNOWN_FLIGHT (λ m.
-    refused_where (list_any (same_connection (record { arriving = l; departing = m })) earlier) DUPLICATE
+    refused_where (is_among (l ∷ m ∷ []) earlier) DUPLICATE
     (refused_where (nat_le MAX_THROUGHS (length earlier)) TOO_MANY
     (Ok (record { arriving = l; departing = m; value = units }))))))))))
-
--- the first record below the header that reads as no through pair
-abbrev pub ThroughRowsBad : List (List ℕ) → List Fields → ℕ → ℕ → Type 0
-ThroughRowsBad flights = RowsBad connection_of (through_read flights)
 
 -- the records of a file are the header and these through pairs
 abbrev pub ThroughTableReads : List (List ℕ) → List Fields → List Through → Type 0
@@ -58,16 +48,3 @@ ThroughsRead flights bytes throughs = ((bytes ≡ []) × (throughs ≡ [])) ⊎ 
 -- the first fault of a file of through pairs
 abbrev pub ThroughsBad : List (List ℕ) → List ℕ → ℕ → ℕ → Type 0
 ThroughsBad flights bytes row kind = (bytes ≢ []) × ThroughTableBad flights (records_of bytes) row kind
-
--- a through pair that was read below others, and their legs with its own
-pub record IsNewThrough (flights : List (List ℕ)) (old new : List Connection) (fields : Fields) (entry : Through) : Type 0 where
-  pub reads : through_read flights old fields ≡ Ok entry
-  pub fits : IsThrough (length flights) entry
-  pub room : length old < MAX_THROUGHS
-  pub fresh : list_any (same_connection (connection_of entry)) old ≡ false
-  pub numbered : new ≡ old ++ connection_of entry ∷ []
-
--- the records below the header read as these through pairs
-pub record ThroughRowsRead (flights : List (List ℕ)) (rows : List Fields) (throughs : List Through) : Type 0 where
-  pub read : RowsRead connection_of (through_read flights) rows throughs
-  pub kept : AreThroughs (length flights) throughs

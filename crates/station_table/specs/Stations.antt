@@ -1,15 +1,14 @@
 -- What a file of stations reads as.
-use Rattle.std.specs.Prelude.{◌≡◌, ℕ, ◌<◌, ◌++◌, false, not, ◌&&◌, nat_le, List, ◌∷◌, [], length, codes, Result, Ok}
+use Rattle.std.specs.Prelude.{ℕ, not, ◌&&◌, nat_le, List, ◌∷◌, [], length, codes, Result, Ok}
 use Rattle.std.specs.Str.{is_utf8}
 use Rattle.csv_fields.specs.Flag.{yes_no_of}
 use Rattle.csv_fields.specs.Name.{station_code_of}
-use Rattle.fleet_model.specs.Limits.{AreStations, IsStation}
 use Rattle.fleet_model.specs.declared.limits.TheConstants.{MAX_GROUND_MINUTES, MAX_STATIONS}
 use Rattle.fleet_model.specs.declared.parts.Station.{Station}
 use Rattle.fleet_model.specs.declared.refusals.TheConstants.{DUPLICATE, NOT_TEXT, TOO_MANY}
 use Rattle.table_rows.specs.Fields.{natural_of, of_width, refused_where, three_of, well_formed}
 use Rattle.table_rows.specs.Names.{is_among}
-use Rattle.table_rows.specs.Rows.{Fields, RowsBad, RowsRead, TableBad, TableReads}
+use Rattle.table_rows.specs.Rows.{Fields, TableBad, TableReads}
 
 -- code,extra,maintenance
 abbrev pub station_header : Fields
@@ -31,10 +30,6 @@ station_read earlier fields =
     (refused_where (nat_le MAX_STATIONS (length earlier)) TOO_MANY
     (Ok (record { code = code; extra = minutes; maintenance = maintenance }))))))))
 
--- the first record below the header that reads as no station
-abbrev pub StationRowsBad : List Fields → ℕ → ℕ → Type 0
-StationRowsBad = RowsBad code_of station_read
-
 -- the records of a file are the header and these stations
 abbrev pub StationsRead : List Fields → List Station → Type 0
 StationsRead = TableReads code_of station_read station_header
@@ -42,16 +37,3 @@ StationsRead = TableReads code_of station_read station_header
 -- the first fault of a file of stations
 abbrev pub StationsBad : List Fields → ℕ → ℕ → Type 0
 StationsBad = TableBad code_of station_read station_header
-
--- a station that was read below others, and their codes with its own
-pub record IsNewStation (old new : List (List ℕ)) (fields : Fields) (station : Station) : Type 0 where
-  pub reads : station_read old fields ≡ Ok station
-  pub fits : IsStation station
-  pub room : length old < MAX_STATIONS
-  pub fresh : is_among station.code old ≡ false
-  pub numbered : new ≡ old ++ station.code ∷ []
-
--- the records below the header read as these stations
-pub record StationRowsRead (rows : List Fields) (stations : List Station) : Type 0 where
-  pub read : RowsRead code_of station_read rows stations
-  pub kept : AreStations stations

@@ -1,23 +1,20 @@
 -- The entries that the records of made tables read as.
-use Rattle.std.proofs.Common.{◌≡◌, ◌==◌, ◌&&◌, ℕ, zero, suc, ◌+◌, ◌-◌, ◌*◌, ◌/◌, ◌%◌, ◌<◌, ◌≤◌, pos, Bool, true, false, List, [], ◌∷◌, length, codes, slice_index, Ok, refl, arith}
+use Rattle.std.proofs.Common.{◌≡◌, ◌==◌, bytes_eq, ℕ, zero, suc, ◌+◌, ◌-◌, ◌*◌, ◌/◌, ◌%◌, ◌<◌, ◌≤◌, pos, Bool, true, false, List, [], ◌∷◌, length, codes, slice_index, Ok, refl, arith}
 use Rattle.std.specs.Prelude.{if◌then◌else◌}
 use Rattle.std.specs.Fmt.{digits}
-use Rattle.std.specs.List.{list_any}
 use Rattle.std.proofs.lemmas.Bool.Decides.{nat_tests}
 use Rattle.std.proofs.lemmas.List.Folds.{list_any_none}
 use Rattle.fleet_model.specs.declared.limits.TheConstants.{MINUTES_PER_DAY}
-use Rattle.fleet_model.specs.declared.parts.Connection.{Connection}
 use Rattle.fleet_model.specs.declared.parts.Fleet.{Fleet}
 use Rattle.fleet_model.specs.declared.parts.Leg.{Leg}
 use Rattle.fleet_model.specs.declared.parts.PairCost.{PairCost}
 use Rattle.fleet_model.specs.declared.parts.Settings.{Settings}
 use Rattle.fleet_model.specs.declared.parts.Station.{Station}
 use Rattle.fleet_model.specs.declared.parts.Through.{Through}
-use Rattle.fleet_model.specs.Schedule.{leg_on}
-use Rattle.fleet_tables.specs.Costs.{cost_read, pair_of, same_pair}
+use Rattle.fleet_tables.specs.Costs.{cost_read, pair_of}
 use Rattle.fleet_tables.specs.Fleets.{fleet_name_of, fleet_read}
 use Rattle.sched_read.specs.Legs.{block_between, flight_of, from_day_start, leg_read}
-use Rattle.sched_read.specs.Throughs.{connection_of, same_connection, through_read}
+use Rattle.sched_read.specs.Throughs.{connection_of, through_read}
 use Rattle.station_table.specs.Stations.{code_of, station_read}
 use Rattle.sums.specs.Places.{list_below}
 use Rattle.sums.proofs.Places.{get_or-list_below, length-list_below}
@@ -115,10 +112,10 @@ flown_reads settings stations earlier flight false trip few is form new room =
     form (code_is_code (suc trip.spoke) (omega (arith, is.there))) (code_is_code 0 (omega arith)) spoke hub (not_hub trip.spoke) new room
     (between leaves lands trip.block (omega arith) (omega (arith, is.block_most))) (some_minutes trip.block is.block_least)
 
-another_pair : (p q : ℕ) → q < p → ((p / 2 == q / 2) && (p % 2 == q % 2)) ≡ false
+another_pair : (p q : ℕ) → q < p → bytes_eq ((p / 2) ∷ (p % 2) ∷ []) ((q / 2) ∷ (q % 2) ∷ []) ≡ false
 another_pair p q before = grind (arith, nat_tests)
 
-another_trip : (i j : ℕ) → j < i → ((2 * i + 1 == 2 * j + 1) && (2 * i + 2 == 2 * j + 2)) ≡ false
+another_trip : (i j : ℕ) → j < i → bytes_eq ((2 * i + 1) ∷ (2 * i + 2) ∷ []) ((2 * j + 1) ∷ (2 * j + 2) ∷ []) ≡ false
 another_trip i j before = grind (arith, nat_tests)
 
 -- round trips of a list, each to one of the spokes
@@ -135,7 +132,7 @@ module _ (trips : List RoundTrip) (n stations : ℕ) (few : n ≤ 500) (there : 
       let cost = slice_index (trip_of trips (p / 4)).costs (p % 4) in
       let small = (fit (p / 4) (omega arith)).costs_fit (p % 4) in
       let earlier = list_below (λ j. pair_of (cost_entry trips j)) p in
-      let new : list_any (same_pair (leg_on (p / 2) (p % 2))) earlier ≡ false = list_any_none (same_pair (leg_on (p / 2) (p % 2))) earlier (λ q d below.
+      let new : is_among ((p / 2) ∷ (p % 2) ∷ []) earlier ≡ false = list_any_none (bytes_eq ((p / 2) ∷ (p % 2) ∷ [])) earlier (λ q d below.
       (let before : q < p = omega (arith, length-list_below (λ j. pair_of (cost_entry trips j)) p, below) in
       rw (get_or-list_below (λ j. pair_of (cost_entry trips j)) p q d before) (another_pair p q before))) in
       cost_one (list_below flight_name (2 * n)) (list_below fleet_name 2) earlier (flight_name (p / 2)) (fleet_name (p % 2)) (p / 2) (p % 2) cost
@@ -146,9 +143,9 @@ module _ (trips : List RoundTrip) (n stations : ℕ) (few : n ≤ 500) (there : 
       → through_read (list_below flight_name (2 * n)) (list_below (λ j. connection_of (through_entry trips j)) i) (through_fields trips i) ≡ Ok (through_entry trips i)
   through_reads i within =
       let small = (fit i (omega arith)).value_fits in
-      let pair : Connection = record { arriving = 2 * i + 1; departing = 2 * i + 2 } in
+      let pair : List ℕ = (2 * i + 1) ∷ (2 * i + 2) ∷ [] in
       let earlier = list_below (λ j. connection_of (through_entry trips j)) i in
-      let new : list_any (same_connection pair) earlier ≡ false = list_any_none (same_connection pair) earlier (λ j d below.
+      let new : is_among pair earlier ≡ false = list_any_none (bytes_eq pair) earlier (λ j d below.
       (let before : j < i = omega (arith, length-list_below (λ j. connection_of (through_entry trips j)) i, below) in
       rw (get_or-list_below (λ j. connection_of (through_entry trips j)) i j d before) (another_trip i j before))) in
       let differ = flights_differ (2 * n) (omega arith) in

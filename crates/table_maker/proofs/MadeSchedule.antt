@@ -1,6 +1,5 @@
 -- The tables that the texts of round trips read as.
 use Rattle.std.proofs.Common.{◌≡◌, ℕ, ◌+◌, ◌-◌, ◌*◌, ◌<◌, ◌≤◌, List, length, map, refl, sym, subst, arith}
-use Rattle.std.proofs.lemmas.List.{length-map}
 use Rattle.csv_fields.specs.Record.{records_of}
 use Rattle.fleet_model.specs.Limits.{AreCosts, AreLegs, AreSettings, AreThroughs}
 use Rattle.fleet_model.specs.declared.parts.Fleet.{Fleet}
@@ -82,16 +81,13 @@ module _ (trips : List RoundTrip) (settings : Settings) (are : AreTrips trips) w
 
   module _ (settings_fit : AreSettings settings) where
     pub legs_fit : AreLegs (length (station_list trips)) (leg_list settings trips)
-    legs_fit = subst (λ n. AreLegs n (leg_list settings trips)) (length-map (station_list trips) code_of)
-        (legs_keep (map code_of (station_list trips)) settings (records_of (bytes trips).legs) (leg_list settings trips) legs_read)
+    legs_fit = legs_keep (station_list trips) settings (records_of (bytes trips).legs) (leg_list settings trips) legs_read
 
     pub costs_fit : AreCosts (length (leg_list settings trips)) (length (fleet_list trips)) (cost_list trips)
-    costs_fit = subst (λ n. AreCosts n (length (fleet_list trips)) (cost_list trips)) (length-map (leg_list settings trips) flight_of)
-        (costs_keep (map flight_of (leg_list settings trips)) (map fleet_name_of (fleet_list trips)) (records_of (bytes trips).costs) (cost_list trips) costs_read)
+    costs_fit = costs_keep (leg_list settings trips) (fleet_list trips) (records_of (bytes trips).costs) (cost_list trips) costs_read
 
     pub throughs_fit : AreThroughs (length (leg_list settings trips)) (through_list trips)
-    throughs_fit = subst (λ n. AreThroughs n (through_list trips)) (length-map (leg_list settings trips) flight_of)
-        (throughs_keep (map flight_of (leg_list settings trips)) (bytes trips).throughs (through_list trips) throughs_read)
+    throughs_fit = throughs_keep (leg_list settings trips) (bytes trips).throughs (through_list trips) throughs_read
 
     abbrev pub made_schedule : Tables
     made_schedule = record {

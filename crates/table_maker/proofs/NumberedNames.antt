@@ -40,7 +40,7 @@ numbered name_at n j differ within =
     rw (first, test) refl
 
 -- rows by number read as entries by number, where each reads below the keys of those before it
-pub rows_read : {E K : Type 0} (key : E → K) (read : List K → Fields → Result E ℕ) (header : Fields) (records : List Fields) (fields_at : ℕ → Fields) (entry_at : ℕ → E) (n : ℕ)
+pub rows_read : {E : Type 0} (key : E → List ℕ) (read : List (List ℕ) → Fields → Result E ℕ) (header : Fields) (records : List Fields) (fields_at : ℕ → Fields) (entry_at : ℕ → E) (n : ℕ)
     → records ≡ header ∷ list_below fields_at n → ((k : ℕ) → k < n → read (list_below (λ j. key (entry_at j)) k) (fields_at k) ≡ Ok (entry_at k))
     → TableReads key read header records (list_below entry_at n)
 rows_read key read header records fields_at entry_at n are each = record {

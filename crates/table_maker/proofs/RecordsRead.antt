@@ -1,20 +1,16 @@
 -- A record whose fields have their forms reads as its entry, below entries with other names.
 use Rattle.std.proofs.Common.{◌≡◌, ◌==◌, ℕ, ◌%◌, ◌<◌, ◌≤◌, pos, neg_ℤ, Bool, false, List, [], ◌∷◌, length, codes, Some, Ok, refl, arith}
 use Rattle.std.specs.Fmt.{decimal, digits}
-use Rattle.std.specs.List.{list_any}
 use Rattle.std.proofs.lemmas.Int.{ints}
 use Rattle.std.proofs.lemmas.Bool.{lt-leb}
 use Rattle.csv_fields.specs.Flag.{flag_text}
 use Rattle.entries.specs.Names.{IsName, IsStationCode}
 use Rattle.fleet_model.specs.declared.limits.TheConstants.{MAX_AIRCRAFT, MAX_COST, MAX_FLEETS, MAX_GROUND_MINUTES, MAX_LEGS, MAX_STATIONS, MAX_THROUGHS, MINUTES_PER_DAY}
-use Rattle.fleet_model.specs.declared.parts.Connection.{Connection}
-use Rattle.fleet_model.specs.declared.parts.Pair.{Pair}
 use Rattle.fleet_model.specs.declared.parts.Settings.{Settings}
-use Rattle.fleet_model.specs.Schedule.{leg_on}
-use Rattle.fleet_tables.specs.Costs.{cost_read, same_pair}
+use Rattle.fleet_tables.specs.Costs.{cost_read}
 use Rattle.fleet_tables.specs.Fleets.{fleet_read}
 use Rattle.sched_read.specs.Legs.{block_between, from_day_start, leg_read}
-use Rattle.sched_read.specs.Throughs.{same_connection, through_read}
+use Rattle.sched_read.specs.Throughs.{through_read}
 use Rattle.station_table.specs.Stations.{station_read}
 use Rattle.table_rows.specs.Fields.{natural_of}
 use Rattle.table_rows.specs.Names.{is_among, number_of}
@@ -55,8 +51,8 @@ leg_one stations settings earlier flight from to a b leaves lands block form fro
     (rw (name_reads flight form, code_reads from from_form, clock_reads leaves, code_reads to to_form, clock_reads lands)
     (rw (fresh, from_is, to_is, is, some, away, lt-leb MAX_LEGS (length earlier) few) refl))
 
-pub cost_one : (flights fleets : List (List ℕ)) (earlier : List Pair) (flight fleet : List ℕ) (l f cost : ℕ) → IsName flight → IsName fleet
-    → number_of flight flights ≡ Some l → number_of fleet fleets ≡ Some f → cost < 10000 → list_any (same_pair (leg_on l f)) earlier ≡ false
+pub cost_one : (flights fleets earlier : List (List ℕ)) (flight fleet : List ℕ) (l f cost : ℕ) → IsName flight → IsName fleet
+    → number_of flight flights ≡ Some l → number_of fleet fleets ≡ Some f → cost < 10000 → is_among (l ∷ f ∷ []) earlier ≡ false
     → cost_read flights fleets earlier (flight ∷ fleet ∷ decimal cost ∷ []) ≡ Ok (record { leg = l; fleet = f; cost = pos cost })
 unfolding cost_read
 cost_one flights fleets earlier flight fleet l f cost form fleet_form leg_is fleet_is small fresh =
@@ -66,9 +62,9 @@ cost_one flights fleets earlier flight fleet l f cost form fleet_form leg_is fle
     rw (text, fleet_text, cost_text, name_reads flight form, name_reads fleet fleet_form)
     (rw (whole_reads cost (neg_ℤ MAX_COST) MAX_COST small (omega (arith, ints)) (omega (arith, ints)), leg_is, fleet_is, fresh) refl)
 
-pub through_one : (flights : List (List ℕ)) (earlier : List Connection) (arriving departing : List ℕ) (l m value : ℕ) → IsName arriving → IsName departing
+pub through_one : (flights earlier : List (List ℕ)) (arriving departing : List ℕ) (l m value : ℕ) → IsName arriving → IsName departing
     → number_of arriving flights ≡ Some l → number_of departing flights ≡ Some m → value < 10000
-    → list_any (same_connection (record { arriving = l; departing = m })) earlier ≡ false → length earlier < 2000
+    → is_among (l ∷ m ∷ []) earlier ≡ false → length earlier < 2000
     → through_read flights earlier (arriving ∷ departing ∷ decimal value ∷ []) ≡ Ok (record { arriving = l; departing = m; value = pos value })
 unfolding through_read
 through_one flights earlier arriving departing l m value form other_form leg_is next_is small fresh few =

@@ -1,4 +1,6 @@
+pub mod FormReading
 pub mod FrontReading
+pub mod Kept
 pub mod Numbered
 pub mod OneReading
 pub mod Places

@@ -3,7 +3,7 @@ use Rattle.std.proofs.Common.{◌≡◌, ◌≢◌, ◌⊎◌, ℕ, zero, suc, �
 use Rattle.std.proofs.lemmas.Slice.Eq.{bytes_eq-Decides}
 use Rattle.std.proofs.lemmas.Bool.{cases_lt}
 use mathlib.Core.Bool.{false≢true}
-use Rattle.std.proofs.lemmas.List.{length-append, take_all, take_more, take_more_same}
+use Rattle.std.proofs.lemmas.List.{length-append, take_all, take_more_same}
 use Rattle.table_rows.specs.Rows.{Fields, FrontReads, IsUnder, LacksHeader, RowsBad, RowsRead, TableBad, TableReads, row_at}
 use Rattle.fleet_model.specs.declared.refusals.TheConstants.{WRONG_HEADER}
 use Rattle.table_rows.proofs.FrontReading.{front_none, front_push}
@@ -42,11 +42,11 @@ under_same : (header : Fields) (records a b : List Fields) → IsUnder header re
 under_same header records a b under_a under_b = cc
 
 -- the first of some entries
-first_of_some : {X : Type 0} (xs : List X) → 0 < length xs → X
+pub first_of_some : {X : Type 0} (xs : List X) → 0 < length xs → X
 first_of_some [] some = absurd (omega arith)
 first_of_some (x ∷ xs) some = x
 
-module _ {E K : Type 0} (key : E → K) (read : List K → Fields → Result E ℕ) where
+module _ {E : Type 0} (key : E → List ℕ) (read : List (List ℕ) → Fields → Result E ℕ) where
   -- two ways to read the first records agree as far as both go
   pub front_same : (rows : List Fields) (a b : List E) → FrontReads key read rows a → FrontReads key read rows b → (n : ℕ) → n ≤ length a → n ≤ length b → take n a ≡ take n b
   front_same rows a b reads_a reads_b zero in_a in_b = refl
@@ -92,7 +92,7 @@ module _ {E K : Type 0} (key : E → K) (read : List K → Fields → Result E �
   ]
 
   -- what a record reads as, or its fault
-  answer_of : (keys : List K) (fields : Fields) → ((entry : E) × (read keys fields ≡ Ok entry)) ⊎ ((kind : ℕ) × (read keys fields ≡ Err kind))
+  answer_of : (keys : List (List ℕ)) (fields : Fields) → ((entry : E) × (read keys fields ≡ Ok entry)) ⊎ ((kind : ℕ) × (read keys fields ≡ Err kind))
   answer_of keys fields = by_answer (read keys fields) refl
     where
       by_answer : (answer : Result E ℕ) → read keys fields ≡ answer → ((entry : E) × (read keys fields ≡ Ok entry)) ⊎ ((kind : ℕ) × (read keys fields ≡ Err kind))
@@ -112,18 +112,6 @@ module _ {E K : Type 0} (key : E → K) (read : List K → Fields → Result E �
 
   pub rows_end_exists : (rows : List Fields) → RowsEnd rows
   rows_end_exists rows = rest_end rows (length rows) [] (front_none key read rows) (omega arith)
-
-  -- what holds of no entry, and of one more where a record reads as it, holds of entries that were read
-  pub front_keeps : (P : List E → Type 0) → P [] → ((entries : List E) (entry : E) (fields : Fields) → P entries → read (map key entries) fields ≡ Ok entry → P (entries ++ entry ∷ []))
-      → (rows : List Fields) (entries : List E) → FrontReads key read rows entries → P entries
-  front_keeps P none push rows entries reads = subst P (take_all (length entries) entries (omega arith)) (of_first (length entries) (omega arith))
-    where
-      of_first : (n : ℕ) → n ≤ length entries → P (take n entries)
-      of_first zero within = none
-      of_first (suc n) within =
-          let d = first_of_some entries (omega arith) in
-          let here : n < length entries = omega arith in
-          subst P (sym (take_more entries n d here) ∙ ap (λ k. take k entries) (add-one n)) (push (take n entries) (slice_index_or entries n d) (row_at rows n) (of_first n (omega arith)) (reads.each n d here))
 
   pub table_reads_same : (header : Fields) (records : List Fields) (a b : List E) → TableReads key read header records a → TableReads key read header records b → a ≡ b
   table_reads_same header records a b ra rb =

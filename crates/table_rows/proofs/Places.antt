@@ -1,8 +1,11 @@
--- A search among vectors is a search among their items.
-use Rattle.std.proofs.Common.{◌≡◌, ℕ, Bool, List, [], ◌∷◌, map, Vec, Global, bytes_eq, not, refl, sym}
+-- A search among vectors is a search among their items, and one among pairs of numbers a search among their lists.
+use Rattle.std.proofs.Common.{◌≡◌, ◌==◌, ◌&&◌, ℕ, Bool, List, [], ◌∷◌, map, Vec, Global, bytes_eq, not, refl, sym, arith}
 use Rattle.std.specs.List.{list_any, position, prefix_len}
+use Rattle.std.proofs.lemmas.Bool.Decides.{nat_tests}
 use Rattle.std.proofs.lemmas.List.{length-map}
 use Rattle.table_rows.specs.Names.{is_among, number_of}
+use Rattle.table_rows.specs.Pairs.{numbers_of_pair}
+use Rattle.table_rows.specs.declared.number_pairs.NumberPair.{NumberPair}
 
 -- what a vector holds
 abbrev pub items_of : Vec ℕ Global → List ℕ
@@ -24,3 +27,10 @@ among_vectors keys key name is = rw (list_any-map items_of (bytes_eq name) keys,
 
 pub number_in_vectors : (keys : List (Vec ℕ Global)) (name : List ℕ) → position (λ key. bytes_eq name key.items) keys ≡ number_of name (map items_of keys)
 number_in_vectors keys name = sym (position-map items_of (bytes_eq name) keys)
+
+same_pair : (a b : NumberPair) → ((a.first == b.first) && (a.second == b.second)) ≡ bytes_eq (numbers_of_pair a) (numbers_of_pair b)
+same_pair a b = grind (arith, nat_tests)
+
+pub among_pairs : (keys : List NumberPair) (pair : NumberPair) → list_any (λ other. (pair.first == other.first) && (pair.second == other.second)) keys ≡ is_among (numbers_of_pair pair) (map numbers_of_pair keys)
+among_pairs [] pair = refl
+among_pairs (key ∷ keys) pair = rw (same_pair pair key, among_pairs keys pair) refl

@@ -1,11 +1,17 @@
 -- What the reader of a record answers.
-use Rattle.std.specs.Prelude.{◌≡◌, ℕ, ◌+◌, Result, Err, ⊤}
+use Rattle.std.specs.Prelude.{◌≡◌, ℕ, ◌+◌, ◌++◌, List, [], ◌∷◌, Result, Ok, Err, ⊤}
 use Rattle.fleet_model.specs.declared.refusals.LoadError.{LoadError}
 use Rattle.fleet_model.specs.declared.refusals.LoadError.TheVariants as load
 use Rattle.fleet_model.specs.declared.refusals.TableFile.{TableFile}
 use Rattle.fleet_model.specs.declared.refusals.TheConstants.{WRONG_HEADER}
 use Rattle.table_rows.specs.declared.faults.RecordError.{RecordError}
 use Rattle.table_rows.specs.declared.faults.RecordError.TheVariants as refused
+use Rattle.table_rows.specs.Rows.{Fields}
+
+-- an entry that a record was read as below others, and the keys of all of them with its own
+pub record IsNewEntry {E : Type 0} (key : E → List ℕ) (read : List (List ℕ) → Fields → Result E ℕ) (old new : List (List ℕ)) (fields : Fields) (entry : E) : Type 0 where
+  pub reads : read old fields ≡ Ok entry
+  pub numbered : new ≡ old ++ key entry ∷ []
 
 -- the error is that of the record, unless memory ran out
 abbrev pub IsFaultOf : {E : Type 0} → Result E ℕ → RecordError → Type 0

@@ -27,9 +27,10 @@ IsUnder header records rest = records ≡ header ∷ rest
 abbrev pub LacksHeader : Fields → List Fields → Type 0
 LacksHeader header records = (rest : List Fields) → records ≢ header ∷ rest
 
-module _ {E K : Type 0} (key : E → K) (read : List K → Fields → Result E ℕ) where
-  -- The first records read as these entries, one each. What a record reads as, or its fault, depends on the keys
-  -- of the entries before it.
+-- What a table says of its records: the key of an entry, which is a list of numbers, as its name or the numbers of
+-- two names, and what a record reads as below entries with such keys, or the least kind of its faults.
+module _ {E : Type 0} (key : E → List ℕ) (read : List (List ℕ) → Fields → Result E ℕ) where
+  -- the first records read as these entries, one each, below the keys of the entries before it
   pub record FrontReads (rows : List Fields) (entries : List E) : Type 0 where
     pub each : (k : ℕ) (d : E) → k < length entries → read (map key (take k entries)) (row_at rows k) ≡ Ok (slice_index_or entries k d)
 

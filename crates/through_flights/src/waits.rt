@@ -1,16 +1,18 @@
 //! How long the aircraft of each landing can wait in a clean turn.
-ghost use Rattle.std.specs.Prelude.{◌≡◌, ◌<◌, ◌≤◌, ◌+◌, ◌-◌, ◌%◌, ℕ, length, slice_index, All, IfOk};
+ghost use Rattle.std.specs.Prelude.{◌≡◌, ◌<◌, ◌≤◌, ℕ, length, slice_index, All, IfOk};
 ghost use Rattle.sums.specs.Places.{list_below};
 ghost use Rattle.fleet_model.specs.declared.limits.TheConstants.{MINUTES_PER_PERIOD};
 ghost use Rattle.fleet_model.specs.Counts.{weights_of};
 ghost use Rattle.fleet_model.specs.Legal.{IsAssignment};
 ghost use Rattle.fleet_model.specs.Schedule.{fleets_in, legs_in, stations_in};
+ghost use Rattle.ground_turns.specs.Turns.{minutes_round};
 ghost use Rattle.island_cut.specs.Zeros.{zeros_of};
 ghost use Rattle.through_flights.specs.Waits.{AreLongestWaits, IsLongestWait};
 
 use entries::{Entries, NoMemory};
 use fleet_model::limits::MINUTES_PER_PERIOD;
 use fleet_model::{Assignment, Tables, ready};
+use ground_turns::minutes_until;
 use island_cut::zero_minutes;
 use std::alloc::Global;
 
@@ -56,25 +58,15 @@ fn all_zero_minutes(
 fn longest_wait(ready: u16, zeros: &[u16]) -> u16
     requires ready { ready < MINUTES_PER_PERIOD }
     requires zeros { All (λ zero. zero < MINUTES_PER_PERIOD) zeros.now }
-    ensures no_more { (k : ℕ) → k < length zeros.now → result ≤ (slice_index zeros.now k + MINUTES_PER_PERIOD - ready) % MINUTES_PER_PERIOD }
-    ensures all { (wait : ℕ) → wait < MINUTES_PER_PERIOD → ((k : ℕ) → k < length zeros.now → wait ≤ (slice_index zeros.now k + MINUTES_PER_PERIOD - ready) % MINUTES_PER_PERIOD) → wait ≤ result }
+    ensures no_more { (k : ℕ) → k < length zeros.now → result ≤ minutes_round MINUTES_PER_PERIOD ready (slice_index zeros.now k) }
+    ensures all { (wait : ℕ) → wait < MINUTES_PER_PERIOD → ((k : ℕ) → k < length zeros.now → wait ≤ minutes_round MINUTES_PER_PERIOD ready (slice_index zeros.now k)) → wait ≤ result }
 {
     let mut longest = MINUTES_PER_PERIOD - 1;
     for zero in zeros {
-        let until = minutes_until(ready, *zero);
+        let until = minutes_until(MINUTES_PER_PERIOD, ready, *zero);
         if until < longest {
             longest = until;
         }
     }
     longest
-}
-
-/// How many minutes after one minute another comes, going round.
-pub fn minutes_until(from: u16, to: u16) -> u16
-    requires from { from < MINUTES_PER_PERIOD }
-    requires to { to < MINUTES_PER_PERIOD }
-    ensures value { result ≡ (to + MINUTES_PER_PERIOD - from) % MINUTES_PER_PERIOD }
-    ensures within { result < MINUTES_PER_PERIOD }
-{
-    (to + MINUTES_PER_PERIOD - from) % MINUTES_PER_PERIOD
 }

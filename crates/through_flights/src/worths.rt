@@ -1,17 +1,14 @@
 //! What the turns of a fleet are worth.
 ghost use Rattle.std.specs.Prelude.{◌≡◌, ◌<◌, ◌↔◌, ℕ, IsTrue, length, slice_index, IfOk};
-ghost use Rattle.fleet_model.specs.declared.limits.TheConstants.{MINUTES_PER_PERIOD};
 ghost use Rattle.fleet_model.specs.Counts.{fleet_at};
 ghost use Rattle.fleet_model.specs.Schedule.{legs_in};
-ghost use Rattle.ground_turns.specs.Turns.{wait_of};
 ghost use Rattle.through_flights.specs.Known.{AreFleetTurns};
 ghost use Rattle.through_flights.specs.Worths.{AreTurnWorths, IsCleanTurn, IsShort, IsTurnWorth, listed_value, pair_of};
 
 use crate::values::values_from;
-use crate::waits::minutes_until;
 use entries::{Entries, NoMemory};
-use fleet_model::limits::MINUTES_PER_DAY;
-use fleet_model::{Assignment, Connection, Tables, ready};
+use fleet_model::{Assignment, Connection, Tables};
+use ground_turns::{nights_waited, wait};
 use std::alloc::Global;
 
 /// The greatest sum of through values: of as many pairs as there can be legs.
@@ -102,7 +99,7 @@ fn is_clean_turn(turns: &FleetTurns<'_>, pair: Connection) -> bool
 {
     turns.plan.fleet(pair.departing) == turns.fleet
         && turns.tables.leg(pair.arriving).to == turns.tables.leg(pair.departing).from
-        && wait(turns, pair) <= turns.longest.as_slice()[pair.arriving as usize]
+        && wait(turns.tables, turns.fleet, pair) <= turns.longest.as_slice()[pair.arriving as usize]
 }
 
 /// Whether no night lies in a turn's wait, and it is no longer than a through pair may wait.
@@ -112,20 +109,6 @@ fn is_short(turns: &FleetTurns<'_>, pair: Connection) -> bool
     requires departing { pair.departing < legs_in turns.now.tables.now }
     ensures { IsTrue result ↔ IsShort turns.now.tables.now turns.now.fleet pair }
 {
-    let ready = ready(turns.tables, pair.arriving, turns.fleet);
-    let wait = wait(turns, pair);
-    (ready + wait) / MINUTES_PER_DAY == ready / MINUTES_PER_DAY
-        && wait <= turns.tables.settings.through_max
-}
-
-/// The minutes that an aircraft waits between two legs.
-fn wait(turns: &FleetTurns<'_>, pair: Connection) -> u16
-    requires turns { AreFleetTurns turns.now }
-    requires arriving { pair.arriving < legs_in turns.now.tables.now }
-    requires departing { pair.departing < legs_in turns.now.tables.now }
-    ensures value { result ≡ wait_of turns.now.tables.now turns.now.fleet pair }
-    ensures within { result < MINUTES_PER_PERIOD }
-{
-    let ready = ready(turns.tables, pair.arriving, turns.fleet);
-    minutes_until(ready, turns.tables.leg(pair.departing).dep)
+    nights_waited(turns.tables, turns.fleet, pair) == 0
+        && wait(turns.tables, turns.fleet, pair) <= turns.tables.settings.through_max
 }

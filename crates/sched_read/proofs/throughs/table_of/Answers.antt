@@ -1,9 +1,8 @@
-use Rattle.fleet_model.specs.declared.refusals.TableFile.TheVariants as file
-use Rattle.table_rows.proofs.SoFar.{headless_refused}
-use Rattle.sched_read.specs.Throughs.{through_header, through_read, connection_of}
+use Rattle.std.proofs.lemmas.Result.{MatchResult-weaker}
+use Rattle.sched_read.proofs.ThroughsFit.{table_keeps}
 use Rattle.sched_read.proofs.throughs.table_of.Goals as goal
 
-pub returns-clause-reads : goal.returns-clause-reads
-returns-clause-reads c =
-    headless_refused connection_of (through_read _) file.Throughs through_header _ _
-    (rw (← c.in_ok-records.ensures, ← c.deref.ensures.value) c.in-None.ensures) c.without_header.ensures
+pub returns-clause-kept : goal.returns-clause-kept
+returns-clause-kept c =
+    let reads = rw c.in_ok-reader.ensures.flights at c.read_table.ensures in
+    MatchResult-weaker c.read_table.result reads (λ throughs reads. table_keeps c.args.legs.now _ throughs.items reads) (λ _ _. tt)

@@ -1,0 +1,65 @@
+ghost use Rattle.std.specs.Prelude.{◌≡◌, ◌++◌, ◌↔◌, [], ◌∷◌, length, not, if◌then◌else◌, IfOk, IsTrue, OnErr};
+ghost use Rattle.table_rows.specs.Names.{is_among};
+
+use entries::NoMemory;
+use indexmap::IndexSet;
+use std::alloc::Global;
+use std::marker::Model;
+
+/// Two numbers.
+#[derive(Clone, Copy, PartialEq, Eq, Hash)]
+pub struct NumberPair {
+    pub first: u32,
+    pub second: u32,
+}
+
+/// Pairs of numbers, each once, in the order in which they were added. Contracts see the list of pairs, each as
+/// the list of its two numbers.
+#[derive(Drop)]
+pub struct NumberPairs {
+    pairs: IndexSet<NumberPair>,
+}
+
+impl Model for NumberPairs {
+    ghost use Rattle.std.specs.Prelude.{List, ℕ, map};
+    ghost use Rattle.table_rows.specs.Pairs.{numbers_of_pair};
+
+    ghost Value = { List (List ℕ) };
+
+    ghost view = { λ pairs. map numbers_of_pair pairs.pairs.keys };
+}
+
+impl NumberPairs {
+    /// No pair yet.
+    pub fn new(alloc: Global) -> Self
+        ensures { result ≡ [] }
+    {
+        NumberPairs {
+            pairs: IndexSet::new(alloc),
+        }
+    }
+
+    /// Adds a pair, where it isn't there yet, and answers whether it was added.
+    pub fn add(&mut self, first: u32, second: u32) -> Result<bool, NoMemory>
+        ensures added { IfOk result (λ added. added ≡ not (is_among (first ∷ second ∷ []) self.old)) }
+        ensures appended { IfOk result (λ added. self.new ≡ (if added then self.old ++ (first ∷ second ∷ []) ∷ [] else self.old)) }
+        ensures unchanged { OnErr result (self.new ≡ self.old) }
+    {
+        let added = self.pairs.insert(NumberPair { first, second })?;
+        Ok(added)
+    }
+
+    /// How many pairs there are.
+    pub fn len(&self) -> usize
+        ensures { result ≡ length self.now }
+    {
+        self.pairs.len()
+    }
+
+    /// Whether there is no pair.
+    pub fn is_empty(&self) -> bool
+        ensures { IsTrue result ↔ (self.now ≡ []) }
+    {
+        self.pairs.is_empty()
+    }
+}
