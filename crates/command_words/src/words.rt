@@ -1,16 +1,15 @@
-ghost use Rattle.std.specs.Prelude.{◌≡◌, ◌↔◌, IfOk, IfSome, IsErr, None, map, option_and_then, option_map, string_bytes};
+ghost use Rattle.std.specs.Prelude.{◌≡◌, IfOk, IfSome, map, option_and_then, option_map, string_bytes};
 ghost use Rattle.clap.specs.Words.{subcommand_rows_of};
 ghost use Rattle.command_words.specs.Arguments.{rows_in};
 ghost use Rattle.command_words.specs.Words.{HasDates, HasLimits, HasSettings, asked, asked_by, check_in, command_in, judge_in, make_in, solve_in, tails_in};
 
 use crate::arguments::{
-    dates_of, day_settings_of, made_legs_of, made_number_of, options_of, rotations_of, settings_of,
+    dates_of, made_legs_of, made_number_of, options_of, rotations_of, settings_of,
     value_of,
 };
 use crate::command::Command;
-use crate::program::program;
 use clap::ArgMatches;
-use clap::error::ErrorKind;
+use command_line::matched;
 use entries::NoMemory;
 use std::alloc::Global;
 
@@ -23,20 +22,9 @@ pub fn command_of<'a>(alloc: Global, words: &'a [String]) -> Result<Option<Comma
     ensures limits { IfOk result (λ command. IfSome command HasLimits) }
     ensures dates { IfOk result (λ command. IfSome command HasDates) }
 {
-    match program(alloc)?.try_get_matches_from(words) {
-        Ok(matches) => Ok(command_met(&matches)),
-        Err(error) => no_match(error.kind()),
-    }
-}
-
-/// What an error of clap comes to: want of memory, or no command, whatever the fault of the words.
-fn no_match<'a>(kind: ErrorKind) -> Result<Option<Command<'a>>, NoMemory>
-    ensures memory { IsErr result ↔ (kind ≡ ErrorKind.OutOfMemory) }
-    ensures none { IfOk result (λ command. command ≡ None) }
-{
-    match kind {
-        ErrorKind::OutOfMemory => Err(NoMemory),
-        _ => Ok(None),
+    match matched(alloc, words)? {
+        Some(matches) => Ok(command_met(&matches)),
+        None => Ok(None),
     }
 }
 
@@ -73,7 +61,7 @@ fn judge_of<'a>(found: &ArgMatches<'a>) -> Option<Command<'a>>
     ensures dates { IfSome result HasDates }
 {
     let dir = value_of(found, "dir")?;
-    let settings = day_settings_of(found)?;
+    let settings = settings_of(found)?;
     Some(Command::Judge { dir, settings })
 }
 
@@ -102,7 +90,7 @@ fn check_of<'a>(found: &ArgMatches<'a>) -> Option<Command<'a>>
     ensures dates { IfSome result HasDates }
 {
     let dir = value_of(found, "dir")?;
-    let settings = day_settings_of(found)?;
+    let settings = settings_of(found)?;
     Some(Command::Check { dir, settings })
 }
 

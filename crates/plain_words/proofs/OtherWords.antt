@@ -10,23 +10,24 @@ use Rattle.clap.specs.Kinds.{Kinds, or_else}
 use Rattle.clap.specs.Lexer.{long_of, short_of}
 use Rattle.clap.specs.Simple.{names_of, subcommand_of}
 use Rattle.clap.specs.Walk.{Held, Rule, Step, Text, after_flag, bundle_met, bundle_step, has_long, has_short, idle, long_or_other, nothing_held, plain, short_or_plain, subcommand_met, subcommand_or_other, trailing, walk, walk_from}
-use Rattle.command_words.specs.Program.{our_app}
-use Rattle.command_words.specs.Refusals.{NameAloneAsksNothing, NoWordsAskNothing, OtherWordsAskNothing, is_command}
+use Rattle.command_line.specs.Found.{found}
+use Rattle.command_line.specs.Program.{our_app}
+use Rattle.plain_words.specs.Refusals.{NameAloneAsksNothing, NoWordsAskNothing, OtherWordsAskNothing, is_command}
 use Rattle.command_words.specs.Words.{asked, command_in}
-use Rattle.command_words.proofs.Entered.{ours, whole_fault}
-use Rattle.command_words.proofs.Fails.{Fails, asks_nothing, first_fails}
-use Rattle.command_words.proofs.OwnOptions.{help_fails, help_row}
+use Rattle.plain_words.proofs.Entered.{ours, whole_fault}
+use Rattle.plain_words.proofs.Fails.{Fails, asks_nothing, first_fails}
+use Rattle.plain_words.proofs.OwnOptions.{help_fails, help_row}
 
 pub no_words : NoWordsAskNothing
-unfolding asked our_app clap_on_literals
+unfolding asked found our_app clap_on_literals
 no_words = refl
 
 pub name_alone : NameAloneAsksNothing
-unfolding asked our_app clap_on_literals
+unfolding asked found our_app clap_on_literals
 name_alone program = refl
 
 dashes_alone : (program : Text) (after : List Text) → asked (program ∷ codes "--" ∷ after) ≡ None
-unfolding asked our_app clap_on_literals
+unfolding asked found our_app clap_on_literals
 dashes_alone program [] = refl
 dashes_alone program (word ∷ after) = refl
 
@@ -122,9 +123,9 @@ unfolding our_app
 from_start program words = refl
 
 starts_badly : (program word : Text) (after : List Text) → is_command word ≡ false → bytes_eq word (codes "--") ≡ false → asked (program ∷ word ∷ after) ≡ None
-unfolding asked walk_fault
+unfolding asked found walk_fault
 starts_badly program word after none other =
-    asks_nothing (fault_of our_app (program ∷ word ∷ after)) (option_and_then command_in (subcommand_of our_app (program ∷ word ∷ after)))
+    asks_nothing (fault_of our_app (program ∷ word ∷ after)) (subcommand_of our_app (program ∷ word ∷ after))
     (subst Fails (sym (from_start program (word ∷ after))) (first_fails (walk_fault ours.top (names_of ours) (walk_from nothing_held) (word ∷ after)) _
     (first_fails (turn_fault ours.top (names_of ours) (walk_from nothing_held) word) _ (turn_fails word none other))))
 

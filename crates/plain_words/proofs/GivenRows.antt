@@ -10,7 +10,7 @@ use Rattle.clap.specs.declared.builder.action.ArgAction.TheVariants.{Set, Append
 use Rattle.clap.specs.declared.builder.value_parser.Reading.{Reading}
 use Rattle.clap.specs.declared.parser.matches.ValueSource.{ValueSource}
 use Rattle.clap.specs.declared.parser.matches.ValueSource.TheVariants.{CommandLine}
-use Rattle.command_words.proofs.Fails.{GoesOn, is_untrailed, stays_on, walked_is}
+use Rattle.plain_words.proofs.Fails.{GoesOn, is_untrailed, stays_on, walked_is}
 
 -- ---- rows that stay
 

@@ -1,8 +1,8 @@
-use Rattle.command_words.proofs.AfterDashes.{checks_by_default, checks_from, judges_by_default, judges_from, makes_by_default, makes_without_options, solves_by_default, solves_within, tails_by_default, tails_within}
-use Rattle.command_words.proofs.PlainFolder.{checks_plainly, judges_plainly, solves_plainly}
-use Rattle.command_words.proofs.PlainMake.{makes_plainly}
-use Rattle.command_words.proofs.PlainTails.{tails_plainly}
-use Rattle.command_words.proofs.laws.plain_reading.Goals as goal
+use Rattle.plain_words.proofs.AfterDashes.{checks_by_default, checks_from, judges_by_default, judges_from, makes_by_default, makes_without_options, solves_by_default, solves_within, tails_by_default, tails_within}
+use Rattle.plain_words.proofs.PlainFolder.{checks_plainly, judges_plainly, solves_plainly}
+use Rattle.plain_words.proofs.PlainMake.{makes_plainly}
+use Rattle.plain_words.proofs.PlainTails.{tails_plainly}
+use Rattle.plain_words.proofs.laws.plain_reading.Goals as goal
 
 -- src/laws.rt:14:1
 pub returns : goal.returns

@@ -1,6 +1,6 @@
 -- A folder that is no option needs no `--` before it.
-use Rattle.std.proofs.Common.{◌≡◌, ◌==◌, ◌∙◌, ℕ, true, false, List, [], ◌∷◌, Option, None, refl, ap, ap₂, codes, sym, true≢false, arith, inl, inr}
-use Rattle.std.specs.Prelude.{if◌then◌else◌, bytes_eq}
+use Rattle.std.proofs.Common.{◌≡◌, ◌==◌, ◌∙◌, ℕ, true, false, List, [], ◌∷◌, Option, Some, None, refl, ap, ap₂, codes, sym, true≢false, arith, inl, inr}
+use Rattle.std.specs.Prelude.{if◌then◌else◌, bytes_eq, option_and_then}
 use Rattle.std.specs.Option.{option_map_or}
 use Rattle.std.proofs.lemmas.Bool.{cases_Bool}
 use Rattle.std.proofs.lemmas.Bool.Decides.{nat_tests}
@@ -10,9 +10,10 @@ use Rattle.clap.specs.Kinds.{Kinds, or_else}
 use Rattle.clap.specs.Lexer.{long_of, short_of}
 use Rattle.clap.specs.Simple.{App, Shape, built_leaf, inherited, marked_built, on_top, with_leaf_noted}
 use Rattle.clap.specs.Walk.{Held, Row, Rule, Step, Text, Walk, after_step, finished, idle, long_or_other, nothing_held, settled, short_or_plain, trailing, value, walk_from, walked, word_met}
-use Rattle.command_words.specs.Laws.{ChecksPlainly, JudgesPlainly, SolvesPlainly, default_options, default_settings, is_alone, is_plain_name}
-use Rattle.command_words.specs.Program.{check_app, judge_app, our_app, solve_app}
-use Rattle.command_words.specs.Words.{Asked, asked, check_at, command_in, judge_at, solve_at, without_fault}
+use Rattle.plain_words.specs.Plain.{ChecksPlainly, JudgesPlainly, SolvesPlainly, default_options, default_settings, is_alone, is_plain_name}
+use Rattle.command_line.specs.Found.{found, without_fault}
+use Rattle.command_line.specs.Program.{check_app, judge_app, our_app, solve_app}
+use Rattle.command_words.specs.Words.{Asked, asked, check_at, command_in, judge_at, solve_at}
 
 -- no option, by clap's reading of a word
 pub record IsPlain (word : Text) : Type 0 where
@@ -81,7 +82,7 @@ abbrev pub rows_by : Shape → Walk → Text × List Row
 rows_by shape end = (shape.name, finished shape.rules end.held)
 
 abbrev pub answer : Kinds → Text × List Row → Option Asked
-answer fault found = without_fault (or_else fault []) (command_in found)
+answer fault named = option_and_then command_in (without_fault (or_else fault []) (Some named))
 
 abbrev pub built_command : App → Shape
 built_command app = built_leaf (inherited (on_top with_leaf_noted (on_top marked_built our_app)).top app.top)
@@ -98,7 +99,7 @@ judge_ends word = refl
 
 judge_parts : (program word : Text) → asked (program ∷ codes "judge" ∷ word ∷ [])
     ≡ answer (level_fault (built_command judge_app) [] nothing_held (word ∷ []) false []) (rows_by (built_command judge_app) (walked (built_command judge_app).rules [] at_start word))
-unfolding asked our_app clap_on_literals
+unfolding asked found our_app clap_on_literals
 judge_parts program word = refl
 
 judge_answer : (word : Text) → answer [] (rows_by (built_command judge_app) (at_end (built_command judge_app) word)) ≡ judge_at default_settings word
@@ -124,7 +125,7 @@ solve_ends word = refl
 
 solve_parts : (program word : Text) → asked (program ∷ codes "solve" ∷ word ∷ [])
     ≡ answer (level_fault (built_command solve_app) [] nothing_held (word ∷ []) false []) (rows_by (built_command solve_app) (walked (built_command solve_app).rules [] at_start word))
-unfolding asked our_app clap_on_literals
+unfolding asked found our_app clap_on_literals
 solve_parts program word = refl
 
 solve_answer : (word : Text) → answer [] (rows_by (built_command solve_app) (at_end (built_command solve_app) word))
@@ -151,7 +152,7 @@ check_ends word = refl
 
 check_parts : (program word : Text) → asked (program ∷ codes "check" ∷ word ∷ [])
     ≡ answer (level_fault (built_command check_app) [] nothing_held (word ∷ []) false []) (rows_by (built_command check_app) (walked (built_command check_app).rules [] at_start word))
-unfolding asked our_app clap_on_literals
+unfolding asked found our_app clap_on_literals
 check_parts program word = refl
 
 check_answer : (word : Text) → answer [] (rows_by (built_command check_app) (at_end (built_command check_app) word)) ≡ check_at default_settings word

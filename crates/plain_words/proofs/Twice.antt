@@ -8,14 +8,14 @@ use Rattle.clap.specs.Lexer.{long_of}
 use Rattle.clap.specs.Simple.{Shape, filled}
 use Rattle.clap.specs.Walk.{Held, Rule, Text, Walk, after_flag, after_step, arg_by_long, has_row, idle, long_met, long_or_other, most_values, values_or_missing, nothing_held, reacted, settled, walk_from, walked, without}
 use Rattle.clap.specs.declared.error.kind.ErrorKind.TheVariants as kind
-use Rattle.command_words.specs.Program.{check_app, flag_named, judge_app, option_named, our_app, solve_app, tails_app}
-use Rattle.command_words.specs.Refusals.{TakeOptionsOnce, TakesFlagOnce, TakesOnce, TakesRotationsOnce, has_dashes}
+use Rattle.command_line.specs.Program.{check_app, flag_named, judge_app, option_named, our_app, solve_app, tails_app}
+use Rattle.plain_words.specs.Refusals.{TakeOptionsOnce, TakesFlagOnce, TakesOnce, TakesRotationsOnce, has_dashes}
 use Rattle.command_words.specs.Words.{asked}
 use Rattle.std.proofs.lemmas.Bool.{true≢false}
-use Rattle.command_words.proofs.Entered.{IsEntered, check_entered, fails_within, judge_entered, solve_entered, tails_entered}
-use Rattle.command_words.proofs.Fails.{Fails, GoesOn, first_fails, is_untrailed, reaches, second_fails, stays_on, walked_is, word_refused}
-use Rattle.command_words.proofs.GivenRows.{IsGiven, settled_has, stays_given, values_come}
-use Rattle.command_words.proofs.PlainFolder.{built_command}
+use Rattle.plain_words.proofs.Entered.{IsEntered, check_entered, fails_within, judge_entered, solve_entered, tails_entered}
+use Rattle.plain_words.proofs.Fails.{Fails, GoesOn, first_fails, is_untrailed, reaches, second_fails, stays_on, walked_is, word_refused}
+use Rattle.plain_words.proofs.GivenRows.{IsGiven, settled_has, stays_given, values_come}
+use Rattle.plain_words.proofs.PlainFolder.{built_command}
 
 -- the word gives the argument, and is refused where it was given
 record Gives (shape : Shape) (name word : Text) : Type 0 where

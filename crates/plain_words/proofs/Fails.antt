@@ -1,6 +1,6 @@
 -- Faults of a walk: where a word before `--` is refused, there is one.
 use Rattle.std.proofs.Common.{◌≡◌, ◌∙◌, not, Bool, true, false, List, [], ◌∷◌, ◌++◌, Option, Some, None, is_some, refl, sym, ap, subst, codes, bytes_eq, if◌then◌else◌, find}
-use Rattle.std.specs.Prelude.{⊤}
+use Rattle.std.specs.Prelude.{⊤, option_and_then}
 use Rattle.std.specs.List.{list_all}
 use Rattle.std.proofs.lemmas.Bool.{and_parts, cond_both, or_from, or_parts, true≢false}
 use Rattle.clap.specs.Faults.{flag_word_fault, other_fault, step_fault, turn_fault, walk_fault, word_fault}
@@ -8,8 +8,10 @@ use Rattle.clap.specs.Kinds.{Kinds, or_else}
 use Rattle.clap.specs.Lexer.{long_of, short_of}
 use Rattle.clap.specs.Simple.{Shape}
 use Rattle.clap.specs.Walk.{Held, Outcome, Rule, Step, Text, Waiting, Walk, after_flag, after_step, arg_by_index, done, idle, long_or_other, next, option, plain, plain_word, positional, refused, short_or_plain, subcommand, subcommand_met, subcommand_or_other, to_positional, trailing, value, waits, walked, walked_from, word_met}
-use Rattle.command_words.specs.Refusals.{has_dashes}
-use Rattle.command_words.specs.Words.{Asked, without_fault}
+use Rattle.plain_words.specs.Refusals.{has_dashes}
+use Rattle.clap.specs.Words.{Row}
+use Rattle.command_line.specs.Found.{without_fault}
+use Rattle.command_words.specs.Words.{command_in}
 
 -- there is a fault
 abbrev pub Fails : Kinds → Type 0
@@ -24,9 +26,9 @@ pub second_fails : (fault after : Kinds) → Fails after → Fails (or_else faul
 second_fails [] after fails = fails
 second_fails (fault ∷ more) after fails = tt
 
-pub asks_nothing : (fault : Kinds) (command : Option Asked) → Fails fault → without_fault fault command ≡ None
-asks_nothing [] command fails = absurd fails
-asks_nothing (fault ∷ more) command fails = refl
+pub asks_nothing : (fault : Kinds) (named : Option (Text × List Row)) → Fails fault → option_and_then command_in (without_fault fault named) ≡ None
+asks_nothing [] named fails = absurd fails
+asks_nothing (fault ∷ more) named fails = refl
 
 pub not_false : (b : Bool) → not b ≡ true → b ≡ false
 not_false true e = absurd (true≢false (sym e))

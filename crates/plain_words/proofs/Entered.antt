@@ -6,10 +6,11 @@ use Rattle.clap.specs.Faults.{check_fault, defaults_fault, entered_fault, fault_
 use Rattle.clap.specs.Kinds.{Kinds, or_else}
 use Rattle.clap.specs.Simple.{App, Shape, built, entered, names_of, subcommand_of}
 use Rattle.clap.specs.Walk.{Names, Rule, Text, Walk, finished, nothing_held, settled, walk_from, walked}
-use Rattle.command_words.specs.Program.{check_app, judge_app, make_app, our_app, solve_app, tails_app}
+use Rattle.command_line.specs.Found.{found}
+use Rattle.command_line.specs.Program.{check_app, judge_app, make_app, our_app, solve_app, tails_app}
 use Rattle.command_words.specs.Words.{asked, command_in}
-use Rattle.command_words.proofs.Fails.{Fails, asks_nothing, first_fails}
-use Rattle.command_words.proofs.PlainFolder.{built_command}
+use Rattle.plain_words.proofs.Fails.{Fails, asks_nothing, first_fails}
+use Rattle.plain_words.proofs.PlainFolder.{built_command}
 
 abbrev pub ours : App
 ours = built our_app
@@ -45,12 +46,12 @@ pub record IsEntered (name : Text) (shape : Shape) : Type 0 where
 
 pub fails_within : (name : Text) (shape : Shape) (program : Text) (words : List Text) → IsEntered name shape → Fails (walk_fault shape [] (walk_from nothing_held) words)
     → asked (program ∷ name ∷ words) ≡ None
-unfolding asked
+unfolding asked found
 fails_within name shape program words enters fails =
     let same : fault_of our_app (program ∷ name ∷ words) ≡ whole_fault [] (halted name words) =
     enters.starts program words ∙ ap₂ whole_fault (silent ours.top (names_of ours) name [] words) (collects ours.top.rules (names_of ours) name [] words) in
     let below : Fails (entered_fault ours (Some (name, words))) = subst Fails (sym (enters.enters words)) (first_fails (walk_fault shape [] (walk_from nothing_held) words) _ fails) in
-    asks_nothing (fault_of our_app (program ∷ name ∷ words)) (option_and_then command_in (subcommand_of our_app (program ∷ name ∷ words)))
+    asks_nothing (fault_of our_app (program ∷ name ∷ words)) (subcommand_of our_app (program ∷ name ∷ words))
     (subst Fails (sym same) (first_fails (entered_fault ours (Some (name, words))) _ below))
 
 pub judge_entered : IsEntered (codes "judge") (built_command judge_app)

@@ -5,7 +5,7 @@ use Rattle.clap.specs.Faults.{check_fault, defaults_fault, level_fault, settle_f
 use Rattle.clap.specs.Kinds.{Kinds, or_else}
 use Rattle.clap.specs.Simple.{Shape}
 use Rattle.clap.specs.Walk.{Held, Text, Walk, after_step, finished, nothing_held, settled, value, walk, walk_from, walked}
-use Rattle.command_words.proofs.PlainFolder.{IsPlain, answer, is_value, no_flag, rows_by}
+use Rattle.plain_words.proofs.PlainFolder.{IsPlain, answer, is_value, no_flag, rows_by}
 
 -- a walk that waits for no value, at a position
 abbrev at : ℕ → Held → Walk

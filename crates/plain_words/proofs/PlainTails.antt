@@ -5,11 +5,12 @@ use Rattle.clap.specs.Simple.{Shape}
 use Rattle.clap.specs.Walk.{Text, nothing_held, walk}
 use Rattle.command_words.specs.Arguments.{count_read, dates_at}
 use Rattle.calendar_dates.specs.Reading.{date_read}
-use Rattle.command_words.specs.Laws.{TailsPlainly, default_rotations, default_settings}
-use Rattle.command_words.specs.Program.{our_app, tails_app}
+use Rattle.plain_words.specs.Plain.{TailsPlainly, default_rotations, default_settings}
+use Rattle.command_line.specs.Found.{found}
+use Rattle.command_line.specs.Program.{our_app, tails_app}
 use Rattle.command_words.specs.Words.{asked, tails_at}
-use Rattle.command_words.proofs.PlainFolder.{answer, built_command, is_plain, rows_by}
-use Rattle.command_words.proofs.PlainWords.{TakesThree, level_of, three_plainly, with_three}
+use Rattle.plain_words.proofs.PlainFolder.{answer, built_command, is_plain, rows_by}
+use Rattle.plain_words.proofs.PlainWords.{TakesThree, level_of, three_plainly, with_three}
 
 abbrev tails_shape : Shape
 tails_shape = built_command tails_app
@@ -20,7 +21,7 @@ takes dir date count = record { one_stays = refl; two_stays = refl; three_stays 
 
 parts : (program dir date count : Text) → asked (program ∷ codes "tails" ∷ dir ∷ date ∷ count ∷ [])
     ≡ answer (level_of tails_shape (dir ∷ date ∷ count ∷ [])) (rows_by tails_shape (walk tails_shape.rules [] nothing_held (dir ∷ date ∷ count ∷ [])))
-unfolding asked our_app clap_on_literals
+unfolding asked found our_app clap_on_literals
 parts program dir date count = refl
 
 answers : (dir date count : Text) → answer [] (rows_by tails_shape (with_three tails_shape dir date count))

@@ -4,11 +4,12 @@ use Rattle.clap.proofs.OnLiterals.{clap_on_literals}
 use Rattle.clap.specs.Simple.{Shape}
 use Rattle.clap.specs.Walk.{Text, nothing_held, walk}
 use Rattle.command_words.specs.Arguments.{legs_read, made_number_read}
-use Rattle.command_words.specs.Laws.{MakesPlainly}
-use Rattle.command_words.specs.Program.{make_app, our_app}
+use Rattle.plain_words.specs.Plain.{MakesPlainly}
+use Rattle.command_line.specs.Found.{found}
+use Rattle.command_line.specs.Program.{make_app, our_app}
 use Rattle.command_words.specs.Words.{asked, make_at}
-use Rattle.command_words.proofs.PlainFolder.{answer, built_command, is_plain, rows_by}
-use Rattle.command_words.proofs.PlainWords.{TakesThree, level_of, three_plainly, with_three}
+use Rattle.plain_words.proofs.PlainFolder.{answer, built_command, is_plain, rows_by}
+use Rattle.plain_words.proofs.PlainWords.{TakesThree, level_of, three_plainly, with_three}
 
 abbrev make_shape : Shape
 make_shape = built_command make_app
@@ -19,7 +20,7 @@ takes dir number legs = record { one_stays = refl; two_stays = refl; three_stays
 
 parts : (program dir number legs : Text) → asked (program ∷ codes "make" ∷ dir ∷ number ∷ legs ∷ [])
     ≡ answer (level_of make_shape (dir ∷ number ∷ legs ∷ [])) (rows_by make_shape (walk make_shape.rules [] nothing_held (dir ∷ number ∷ legs ∷ [])))
-unfolding asked our_app clap_on_literals
+unfolding asked found our_app clap_on_literals
 parts program dir number legs = refl
 
 answers : (dir number legs : Text) → answer [] (rows_by make_shape (with_three make_shape dir number legs))
