@@ -4,8 +4,7 @@ ghost use Rattle.command_words.specs.Arguments.{rows_in};
 ghost use Rattle.command_words.specs.Words.{HasDates, HasLimits, HasSettings, asked, asked_by, check_in, command_in, judge_in, make_in, solve_in, tails_in};
 
 use crate::arguments::{
-    dates_of, made_legs_of, made_number_of, options_of, rotations_of, settings_of,
-    value_of,
+    dates_of, made_legs_of, made_number_of, options_of, rotations_of, settings_of, value_of,
 };
 use crate::command::Command;
 use clap::ArgMatches;

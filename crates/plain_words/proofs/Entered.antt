@@ -1,6 +1,6 @@
 -- The words behind a command's name are its own: where they fail, nothing is asked for.
 use Rattle.std.proofs.Common.{◌≡◌, ◌∙◌, Bool, false, List, [], ◌∷◌, ◌++◌, Some, None, is_some, refl, sym, ap, ap₂, subst, codes, append-nil, append_assoc}
-use Rattle.std.specs.Prelude.{fold, option_and_then}
+use Rattle.std.specs.Prelude.{fold}
 use Rattle.clap.proofs.OnLiterals.{clap_on_literals}
 use Rattle.clap.specs.Faults.{check_fault, defaults_fault, entered_fault, fault_of, level_fault, settle_fault, walk_fault}
 use Rattle.clap.specs.Kinds.{Kinds, or_else}
@@ -8,7 +8,7 @@ use Rattle.clap.specs.Simple.{App, Shape, built, entered, names_of, subcommand_o
 use Rattle.clap.specs.Walk.{Names, Rule, Text, Walk, finished, nothing_held, settled, walk_from, walked}
 use Rattle.command_line.specs.Found.{found}
 use Rattle.command_line.specs.Program.{check_app, judge_app, make_app, our_app, solve_app, tails_app}
-use Rattle.command_words.specs.Words.{asked, command_in}
+use Rattle.command_words.specs.Words.{asked}
 use Rattle.plain_words.proofs.Fails.{Fails, asks_nothing, first_fails}
 use Rattle.plain_words.proofs.PlainFolder.{built_command}
 

@@ -1,6 +1,6 @@
 -- A first word that is no command's name asks for nothing.
 use Rattle.std.proofs.Common.{◌≡◌, ◌∙◌, ◌&&◌, ◌||◌, not, is_some, ℕ, zero, suc, Bool, true, false, List, [], ◌∷◌, Option, Some, None, refl, sym, subst, codes, bytes_eq, if◌then◌else◌, cond, length, slice_get, chars, inl, inr, option_map}
-use Rattle.std.specs.Prelude.{drop, encode_utf8, option_and_then}
+use Rattle.std.specs.Prelude.{drop, encode_utf8}
 use Rattle.std.specs.Option.{option_map_or}
 use Rattle.std.proofs.lemmas.Bool.{cases_Bool, true≢false}
 use Rattle.std.proofs.lemmas.Slice.Eq.{bytes_eq-Decides}
@@ -13,7 +13,7 @@ use Rattle.clap.specs.Walk.{Held, Rule, Step, Text, after_flag, bundle_met, bund
 use Rattle.command_line.specs.Found.{found}
 use Rattle.command_line.specs.Program.{our_app}
 use Rattle.plain_words.specs.Refusals.{NameAloneAsksNothing, NoWordsAskNothing, OtherWordsAskNothing, is_command}
-use Rattle.command_words.specs.Words.{asked, command_in}
+use Rattle.command_words.specs.Words.{asked}
 use Rattle.plain_words.proofs.Entered.{ours, whole_fault}
 use Rattle.plain_words.proofs.Fails.{Fails, asks_nothing, first_fails}
 use Rattle.plain_words.proofs.OwnOptions.{help_fails, help_row}

@@ -1,17 +1,17 @@
 -- A command refuses each option that isn't its own.
-use Rattle.std.proofs.Common.{◌≡◌, ◌∙◌, ◌==◌, ◌&&◌, ◌||◌, not, ℕ, zero, suc, Bool, true, false, List, [], ◌∷◌, ◌++◌, Option, Some, None, is_some, refl, sym, ap, subst, codes, bytes_eq, if◌then◌else◌, cond, append-nil, arith}
+use Rattle.std.proofs.Common.{◌≡◌, ◌∙◌, ◌==◌, ◌&&◌, ◌||◌, not, ℕ, zero, suc, Bool, true, false, List, [], ◌∷◌, ◌++◌, Option, Some, None, is_some, refl, sym, ap, subst, codes, bytes_eq, if◌then◌else◌, cond, append-nil, append_assoc, arith}
 use Rattle.std.specs.List.{after_first, before_first, list_all, list_any}
 use Rattle.std.specs.Option.{option_map_or}
 use Rattle.std.proofs.lemmas.Bool.{and_parts, cond-false, eq-eqb, eqb-true, false_from_ne_true, or_from, or_parts, true≢false}
 use Rattle.std.proofs.lemmas.Slice.Eq.{bytes_eq-Decides}
-use Rattle.clap.proofs.CutLemmas.{Lacks, before_first-Lacks, before_first-at}
+use Rattle.clap.proofs.CutLemmas.{Lacks, after_first-at, before_first-Lacks, before_first-at, list_any-at}
 use Rattle.clap.proofs.OnLiterals.{clap_on_literals}
 use Rattle.clap.specs.Faults.{flag_word_fault, long_fault, settle_fault}
 use Rattle.clap.specs.Lexer.{has_byte, long_of}
 use Rattle.clap.specs.Simple.{Shape, filled, filled_from, help_rule}
 use Rattle.clap.specs.Walk.{Held, Rule, Text, arg_by_long, has_long, nothing_held, walk_from}
 use Rattle.command_line.specs.Program.{check_app, judge_app, make_app, our_app, solve_app, tails_app}
-use Rattle.plain_words.specs.Refusals.{TakeOwnOptions, TakesNoValue, TakesOnly, ends_name, is_one_of, folder_options, solve_options, tails_options}
+use Rattle.plain_words.specs.Refusals.{TakeOwnOptions, TakesNoValue, TakesOnly, ends_name, is_one_of, is_option_name, solve_flags, solve_options, table_options, tails_options}
 use Rattle.plain_words.proofs.Entered.{IsEntered, check_entered, fails_within, judge_entered, make_entered, solve_entered, tails_entered}
 use Rattle.plain_words.proofs.Fails.{Fails, GoesOn, is_untrailed, not_false, reaches, second_fails, stays_on, word_refused}
 use Rattle.plain_words.proofs.PlainFolder.{built_command}
@@ -35,6 +35,26 @@ value_behind text = if has_byte 61 text then Some (after_first (λ x. x == 61) t
 long_is : (first : ℕ) (rest ending : Text) → list_any (λ x. x == 61) (first ∷ rest) ≡ false → ends_name ending ≡ true
     → long_of (codes "--" ++ (first ∷ rest) ++ ending) ≡ Some (first ∷ rest, value_behind ((first ∷ rest) ++ ending))
 long_is first rest ending none ends = ap (λ name. Some (name, value_behind ((first ∷ rest) ++ ending))) (name_before (first ∷ rest) ending none ends)
+
+-- `--NAME=VALUE`
+abbrev pub option_word : Text → Text → Text
+option_word name text = codes "--" ++ name ++ codes "=" ++ text
+
+value_is : (name text : Text) → list_any (λ x. x == 61) name ≡ false → value_behind (name ++ 61 ∷ text) ≡ Some text
+value_is name text none =
+    ap (λ has. if has then Some (after_first (λ x. x == 61) (name ++ 61 ∷ text)) else None) (list_any-at 61 name text)
+    ∙ ap (λ value. Some value) (after_first-at 61 name text (lacks name none))
+
+pub option_reads : (name text : Text) → is_option_name name ≡ true → long_of (option_word name text) ≡ Some (name, Some text)
+option_reads [] text named = absurd (true≢false (sym named))
+option_reads (first ∷ rest) text named =
+    let none : list_any (λ x. x == 61) (first ∷ rest) ≡ false = not_false _ named in
+    let whole : option_word (first ∷ rest) text ≡ codes "--" ++ (first ∷ rest) ++ 61 ∷ text = ap (λ more. codes "--" ++ more) (append_assoc (first ∷ rest) (61 ∷ []) text) in
+    ap long_of whole ∙ long_is first rest (61 ∷ text) none refl ∙ ap (λ value. Some (first ∷ rest, value)) (value_is (first ∷ rest) text none)
+
+pub option_is_on : (name text : Text) → bytes_eq (option_word name text) (codes "--") ≡ false
+option_is_on [] text = refl
+option_is_on (first ∷ rest) text = refl
 
 -- ---- the command's arguments
 
@@ -103,15 +123,15 @@ takes_only command names shape entered has program (first ∷ rest) ending befor
 
 -- ---- the commands
 
-judge_has : HasOptions folder_options (built_command judge_app)
+judge_has : HasOptions table_options (built_command judge_app)
 unfolding our_app clap_on_literals
 judge_has = record { own = filled_from 1 judge_app.top.rules; rules = refl; all = refl; untrailed = refl }
 
-solve_has : HasOptions solve_options (built_command solve_app)
+solve_has : HasOptions (solve_options ++ solve_flags) (built_command solve_app)
 unfolding our_app clap_on_literals
 solve_has = record { own = filled_from 1 solve_app.top.rules; rules = refl; all = refl; untrailed = refl }
 
-check_has : HasOptions folder_options (built_command check_app)
+check_has : HasOptions table_options (built_command check_app)
 unfolding our_app clap_on_literals
 check_has = record { own = filled_from 1 check_app.top.rules; rules = refl; all = refl; untrailed = refl }
 
@@ -125,9 +145,9 @@ make_has = record { own = filled_from 1 make_app.top.rules; rules = refl; all = 
 
 pub own_options : TakeOwnOptions
 own_options = record {
-  judge = takes_only (codes "judge") folder_options (built_command judge_app) judge_entered judge_has;
-  solve = takes_only (codes "solve") solve_options (built_command solve_app) solve_entered solve_has;
-  check = takes_only (codes "check") folder_options (built_command check_app) check_entered check_has;
+  judge = takes_only (codes "judge") table_options (built_command judge_app) judge_entered judge_has;
+  solve = takes_only (codes "solve") (solve_options ++ solve_flags) (built_command solve_app) solve_entered solve_has;
+  check = takes_only (codes "check") table_options (built_command check_app) check_entered check_has;
   tails = takes_only (codes "tails") tails_options (built_command tails_app) tails_entered tails_has;
   make = takes_only (codes "make") [] (built_command make_app) make_entered make_has;
 }

@@ -1,5 +1,8 @@
 -- An option that is given twice is refused.
-use Rattle.std.proofs.Common.{◌≡◌, ◌∙◌, ◌&&◌, not, Bool, true, false, List, [], ◌∷◌, ◌++◌, Some, None, refl, sym, ap, subst, codes, bytes_eq, if◌then◌else◌, length}
+use Rattle.std.proofs.Common.{◌≡◌, ◌∙◌, ◌&&◌, inl, inr, not, Bool, true, false, List, [], ◌∷◌, ◌++◌, Some, None, refl, sym, ap, subst, codes, bytes_eq, if◌then◌else◌, length}
+use Rattle.std.specs.Prelude.{⊤}
+use Rattle.std.specs.List.{list_all}
+use Rattle.std.proofs.lemmas.Slice.Eq.{bytes_eq-Decides}
 use Rattle.clap.proofs.OnLiterals.{clap_on_literals}
 use Rattle.clap.specs.Facts.{unwrap_or_range}
 use Rattle.clap.specs.Faults.{flag_word_fault, long_fault, settle_fault, turn_fault, values_fault, walk_fault}
@@ -9,12 +12,13 @@ use Rattle.clap.specs.Simple.{Shape, filled}
 use Rattle.clap.specs.Walk.{Held, Rule, Text, Walk, after_flag, after_step, arg_by_long, has_row, idle, long_met, long_or_other, most_values, values_or_missing, nothing_held, reacted, settled, walk_from, walked, without}
 use Rattle.clap.specs.declared.error.kind.ErrorKind.TheVariants as kind
 use Rattle.command_line.specs.Program.{check_app, flag_named, judge_app, option_named, our_app, solve_app, tails_app}
-use Rattle.plain_words.specs.Refusals.{TakeOptionsOnce, TakesFlagOnce, TakesOnce, TakesRotationsOnce, has_dashes}
+use Rattle.plain_words.specs.Refusals.{TakeOptionsOnce, TakesEachOnce, TakesFlagOnce, has_dashes, is_one_of, is_option_name, solve_options, table_options, tails_options}
 use Rattle.command_words.specs.Words.{asked}
-use Rattle.std.proofs.lemmas.Bool.{true≢false}
+use Rattle.std.proofs.lemmas.Bool.{and_parts, or_cases, true≢false}
 use Rattle.plain_words.proofs.Entered.{IsEntered, check_entered, fails_within, judge_entered, solve_entered, tails_entered}
 use Rattle.plain_words.proofs.Fails.{Fails, GoesOn, first_fails, is_untrailed, reaches, second_fails, stays_on, walked_is, word_refused}
 use Rattle.plain_words.proofs.GivenRows.{IsGiven, settled_has, stays_given, values_come}
+use Rattle.plain_words.proofs.OwnOptions.{option_is_on, option_reads, option_word}
 use Rattle.plain_words.proofs.PlainFolder.{built_command}
 
 -- the word gives the argument, and is refused where it was given
@@ -50,37 +54,59 @@ set_fails settles range reads again has none given =
 
 -- ---- an option
 
-abbrev option_word : Text → Text → Text
-option_word name text = codes "--" ++ name ++ codes "=" ++ text
+record IsOption (rules : List Rule) (name : Text) : Type 0 where
+  found : arg_by_long rules name ≡ Some (filled (option_named name))
+  named : is_option_name name ≡ true
 
-record IsOption (shape : Shape) (name : Text) : Type 0 where
-  found : arg_by_long shape.rules name ≡ Some (filled (option_named name))
-  reads : (text : Text) → long_of (option_word name text) ≡ Some (name, Some text)
-  no_dashes : (text : Text) → bytes_eq (option_word name text) (codes "--") ≡ false
-  once : shape.args_override_self ≡ false
-
-option_gives : (shape : Shape) (name text : Text) → IsOption shape name → Gives shape name (option_word name text)
-option_gives shape name text is =
+option_gives : (shape : Shape) (name text : Text) → shape.args_override_self ≡ false → IsOption shape.rules name → Gives shape name (option_word name text)
+option_gives shape name text once is =
     let c : List Rule = shape.rules in
     let word : Text = option_word name text in
     let a : Rule = filled (option_named name) in
+    let reads : long_of word ≡ Some (name, Some text) = option_reads name text is.named in
     record {
-      no_dashes = is.no_dashes text;
+      no_dashes = option_is_on name text;
       comes = λ w goes.
           let next_is : walked c [] w word ≡ record w { held = reacted c a (text ∷ []) w.held; waiting = idle } =
-          walked_is c w word (is.no_dashes text) goes
-          ∙ ap (λ long. after_step c word w (long_or_other c w.waiting word long w.held).0 (long_or_other c w.waiting word long w.held).1) (is.reads text)
+          walked_is c w word (option_is_on name text) goes
+          ∙ ap (λ long. after_step c word w (long_or_other c w.waiting word long w.held).0 (long_or_other c w.waiting word long w.held).1) reads
           ∙ ap (λ arg. after_step c word w (after_flag c w.waiting word (long_met c arg (Some text) w.held).0 (long_met c arg (Some text) w.held).1).0
           (after_flag c w.waiting word (long_met c arg (Some text) w.held).0 (long_met c arg (Some text) w.held).1).1) is.found in
           subst (λ (after : Walk). has_row name after.held.rows ≡ true) (sym next_is)
           (values_come name name _ _ (text ∷ []) (without name (settled c w.held).rows) refl);
       repeats = λ h has.
           let fault_is : flag_word_fault c shape.args_override_self (long_of word) word h ≡ long_fault c shape.args_override_self (Some a) (Some text) h =
-          ap (λ long. flag_word_fault c shape.args_override_self long word h) (is.reads text) ∙ ap (λ arg. long_fault c shape.args_override_self arg (Some text) h) is.found in
+          ap (λ long. flag_word_fault c shape.args_override_self long word h) reads ∙ ap (λ arg. long_fault c shape.args_override_self arg (Some text) h) is.found in
           subst Fails (sym fault_is)
           (set_fails (settle_fault c shape.args_override_self h) (range_kinds (unwrap_or_range a.range).start_inclusive (most_values a) (length {A = Text} (text ∷ [])))
-          (values_fault a (values_or_missing a (text ∷ []))) shape.args_override_self (has_row name (settled c h).rows) is.once (settled_has name c h has));
+          (values_fault a (values_or_missing a (text ∷ []))) shape.args_override_self (has_row name (settled c h).rows) once (settled_has name c h has));
     }
+
+-- ---- a list of options
+
+abbrev AreFound : List Rule → List Text → Type 0
+AreFound rules [] = ⊤
+AreFound rules (name ∷ names) = (arg_by_long rules name ≡ Some (filled (option_named name))) × AreFound rules names
+
+-- these are options of the command
+record HasAll (shape : Shape) (names : List Text) : Type 0 where
+  untrailed : is_untrailed shape.rules ≡ true
+  once : shape.args_override_self ≡ false
+  named : list_all is_option_name names ≡ true
+  found : AreFound shape.rules names
+
+among_found : (rules : List Rule) (names : List Text) (name : Text) → list_all is_option_name names ≡ true → AreFound rules names → is_one_of name names ≡ true → IsOption rules name
+among_found rules [] name named found among = absurd (true≢false (sym among))
+among_found rules (other ∷ names) name named found among = elim (or_cases (bytes_eq other name) (is_one_of name names) among) [
+  | inl here ↦ subst (IsOption rules) ((bytes_eq-Decides other name).0 here) (record { found = found.0; named = (and_parts _ _ named).0 })
+  | inr later ↦ among_found rules names name (and_parts _ _ named).1 found.1 later
+]
+
+takes_each_once : (command : Text) (shape : Shape) (names : List Text) → IsEntered command shape → HasAll shape names → TakesEachOnce command names
+takes_each_once command shape names entered has name among program one two before between after none_before none_between =
+    let is = among_found shape.rules names name has.named has.found among in
+    given_twice command shape name (option_word name one) (option_word name two) program before between after entered has.untrailed
+    (option_gives shape name one has.once is) (option_gives shape name two has.once is) none_before none_between
 
 -- ---- a flag
 
@@ -118,63 +144,21 @@ flag_gives shape name is =
 
 -- ---- the commands
 
-takes_once : (command : Text) (shape : Shape) (name : Text) → IsEntered command shape → is_untrailed shape.rules ≡ true → IsOption shape name → TakesOnce command name
-takes_once command shape name entered untrailed is program one two before between after none_before none_between =
-    given_twice command shape name (option_word name one) (option_word name two) program before between after entered untrailed
-    (option_gives shape name one is) (option_gives shape name two is) none_before none_between
-
-judge_once : TakesOnce (codes "judge") (codes "day-start")
+judge_has : HasAll (built_command judge_app) table_options
 unfolding our_app clap_on_literals
-judge_once = takes_once (codes "judge") (built_command judge_app) (codes "day-start") judge_entered refl
-    (record { found = refl; reads = λ text. refl; no_dashes = λ text. refl; once = refl })
+judge_has = record { untrailed = refl; once = refl; named = refl; found = (refl, tt) }
 
-check_once : TakesOnce (codes "check") (codes "day-start")
+solve_has : HasAll (built_command solve_app) solve_options
 unfolding our_app clap_on_literals
-check_once = takes_once (codes "check") (built_command check_app) (codes "day-start") check_entered refl
-    (record { found = refl; reads = λ text. refl; no_dashes = λ text. refl; once = refl })
+solve_has = record { untrailed = refl; once = refl; named = refl; found = (refl, (refl, (refl, (refl, (refl, (refl, tt)))))) }
 
-record AreRotationOptions (shape : Shape) : Type 0 where
-  untrailed : is_untrailed shape.rules ≡ true
-  day_start : IsOption shape (codes "day-start")
-  through_max : IsOption shape (codes "through-max")
-  days : IsOption shape (codes "days")
-  visits : IsOption shape (codes "visits")
-
-rotations_once : (command : Text) (shape : Shape) → IsEntered command shape → AreRotationOptions shape → TakesRotationsOnce command
-rotations_once command shape entered are = record {
-  day_start = takes_once command shape (codes "day-start") entered are.untrailed are.day_start;
-  through_max = takes_once command shape (codes "through-max") entered are.untrailed are.through_max;
-  days = takes_once command shape (codes "days") entered are.untrailed are.days;
-  visits = takes_once command shape (codes "visits") entered are.untrailed are.visits;
-}
-
-tails_are : AreRotationOptions (built_command tails_app)
+check_has : HasAll (built_command check_app) table_options
 unfolding our_app clap_on_literals
-tails_are = record {
-  untrailed = refl;
-  day_start = record { found = refl; reads = λ text. refl; no_dashes = λ text. refl; once = refl };
-  through_max = record { found = refl; reads = λ text. refl; no_dashes = λ text. refl; once = refl };
-  days = record { found = refl; reads = λ text. refl; no_dashes = λ text. refl; once = refl };
-  visits = record { found = refl; reads = λ text. refl; no_dashes = λ text. refl; once = refl };
-}
+check_has = record { untrailed = refl; once = refl; named = refl; found = (refl, tt) }
 
-solve_are : AreRotationOptions (built_command solve_app)
+tails_has : HasAll (built_command tails_app) tails_options
 unfolding our_app clap_on_literals
-solve_are = record {
-  untrailed = refl;
-  day_start = record { found = refl; reads = λ text. refl; no_dashes = λ text. refl; once = refl };
-  through_max = record { found = refl; reads = λ text. refl; no_dashes = λ text. refl; once = refl };
-  days = record { found = refl; reads = λ text. refl; no_dashes = λ text. refl; once = refl };
-  visits = record { found = refl; reads = λ text. refl; no_dashes = λ text. refl; once = refl };
-}
-
-nodes_is : IsOption (built_command solve_app) (codes "nodes")
-unfolding our_app clap_on_literals
-nodes_is = record { found = refl; reads = λ text. refl; no_dashes = λ text. refl; once = refl }
-
-pivots_is : IsOption (built_command solve_app) (codes "pivots")
-unfolding our_app clap_on_literals
-pivots_is = record { found = refl; reads = λ text. refl; no_dashes = λ text. refl; once = refl }
+tails_has = record { untrailed = refl; once = refl; named = refl; found = (refl, (refl, (refl, (refl, tt)))) }
 
 json_is : IsFlag (built_command solve_app) (codes "json")
 unfolding our_app clap_on_literals
@@ -184,15 +168,13 @@ json_once : TakesFlagOnce (codes "solve") (codes "json")
 json_once program before between after none_before none_between =
     let gives : Gives (built_command solve_app) (codes "json") (flag_word (codes "json")) = flag_gives (built_command solve_app) (codes "json") json_is in
     given_twice (codes "solve") (built_command solve_app) (codes "json") (flag_word (codes "json")) (flag_word (codes "json")) program before between after solve_entered
-    solve_are.untrailed gives gives none_before none_between
+    solve_has.untrailed gives gives none_before none_between
 
 pub options_once : TakeOptionsOnce
 options_once = record {
-  judge = judge_once;
-  check = check_once;
-  tails = rotations_once (codes "tails") (built_command tails_app) tails_entered tails_are;
-  solve = rotations_once (codes "solve") (built_command solve_app) solve_entered solve_are;
-  nodes = takes_once (codes "solve") (built_command solve_app) (codes "nodes") solve_entered solve_are.untrailed nodes_is;
-  pivots = takes_once (codes "solve") (built_command solve_app) (codes "pivots") solve_entered solve_are.untrailed pivots_is;
+  judge = takes_each_once (codes "judge") (built_command judge_app) table_options judge_entered judge_has;
+  solve = takes_each_once (codes "solve") (built_command solve_app) solve_options solve_entered solve_has;
+  check = takes_each_once (codes "check") (built_command check_app) table_options check_entered check_has;
+  tails = takes_each_once (codes "tails") (built_command tails_app) tails_options tails_entered tails_has;
   json = json_once;
 }

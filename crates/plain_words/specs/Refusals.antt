@@ -59,6 +59,10 @@ abbrev pub TakesOnce : Text → Text → Type 0
 TakesOnce command option = (program one two : Text) (before between after : List Text) → has_dashes before ≡ false → has_dashes between ≡ false
     → asked (program ∷ command ∷ before ++ (codes "--" ++ option ++ codes "=" ++ one) ∷ (between ++ (codes "--" ++ option ++ codes "=" ++ two) ∷ after)) ≡ None
 
+-- each of these options is
+abbrev pub TakesEachOnce : Text → List Text → Type 0
+TakesEachOnce command options = (option : Text) → is_one_of option options ≡ true → TakesOnce command option
+
 -- and so is the flag
 abbrev pub TakesFlagOnce : Text → Text → Type 0
 TakesFlagOnce command flag = (program : Text) (before between after : List Text) → has_dashes before ≡ false → has_dashes between ≡ false
@@ -66,36 +70,39 @@ TakesFlagOnce command flag = (program : Text) (before between after : List Text)
 
 -- ---- the commands' options
 
-abbrev pub folder_options : List Text
-folder_options = codes "day-start" ∷ []
+-- by which the tables of a folder are read
+abbrev pub table_options : List Text
+table_options = codes "day-start" ∷ []
+
+-- by which rotations are looked for
+abbrev pub rotation_options : List Text
+rotation_options = codes "through-max" ∷ codes "days" ∷ codes "visits" ∷ []
+
+-- by which a plan is looked for
+abbrev pub search_options : List Text
+search_options = codes "nodes" ∷ codes "pivots" ∷ []
 
 abbrev pub tails_options : List Text
-tails_options = codes "day-start" ∷ codes "through-max" ∷ codes "days" ∷ codes "visits" ∷ []
+tails_options = table_options ++ rotation_options
 
 abbrev pub solve_options : List Text
-solve_options = codes "day-start" ∷ codes "through-max" ∷ codes "days" ∷ codes "visits" ∷ codes "nodes" ∷ codes "pivots" ∷ codes "json" ∷ []
+solve_options = table_options ++ rotation_options ++ search_options
+
+abbrev pub solve_flags : List Text
+solve_flags = codes "json" ∷ []
 
 -- each command takes its own options alone, so it refuses those of the others, `--help`, and what is misspelt
 pub record TakeOwnOptions : Type 0 where
-  pub judge : TakesOnly (codes "judge") folder_options
-  pub solve : TakesOnly (codes "solve") solve_options
-  pub check : TakesOnly (codes "check") folder_options
+  pub judge : TakesOnly (codes "judge") table_options
+  pub solve : TakesOnly (codes "solve") (solve_options ++ solve_flags)
+  pub check : TakesOnly (codes "check") table_options
   pub tails : TakesOnly (codes "tails") tails_options
   pub make : TakesOnly (codes "make") []
 
--- a command takes the options of rotations once at most
-pub record TakesRotationsOnce (command : Text) : Type 0 where
-  pub day_start : TakesOnce command (codes "day-start")
-  pub through_max : TakesOnce command (codes "through-max")
-  pub days : TakesOnce command (codes "days")
-  pub visits : TakesOnce command (codes "visits")
-
 -- each command takes each of its options once at most
 pub record TakeOptionsOnce : Type 0 where
-  pub judge : TakesOnce (codes "judge") (codes "day-start")
-  pub check : TakesOnce (codes "check") (codes "day-start")
-  pub tails : TakesRotationsOnce (codes "tails")
-  pub solve : TakesRotationsOnce (codes "solve")
-  pub nodes : TakesOnce (codes "solve") (codes "nodes")
-  pub pivots : TakesOnce (codes "solve") (codes "pivots")
+  pub judge : TakesEachOnce (codes "judge") table_options
+  pub solve : TakesEachOnce (codes "solve") solve_options
+  pub check : TakesEachOnce (codes "check") table_options
+  pub tails : TakesEachOnce (codes "tails") tails_options
   pub json : TakesFlagOnce (codes "solve") (codes "json")
