@@ -115,3 +115,9 @@ HasDates (command.Solve dir settings options) = ⊤
 HasDates (command.Check dir settings) = ⊤
 HasDates (command.Tails dir settings rotations dates) = AreDates dates
 HasDates (command.Make dir number legs) = ⊤
+
+-- all that a command holds is within its limits
+pub record IsInRange (c : Command) : Type 0 where
+  pub settings : HasSettings c
+  pub limits : HasLimits c
+  pub dates : HasDates c

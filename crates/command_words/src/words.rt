@@ -1,7 +1,7 @@
 ghost use Rattle.std.specs.Prelude.{◌≡◌, IfOk, IfSome, map, option_and_then, option_map, string_bytes};
 ghost use Rattle.clap.specs.Words.{subcommand_rows_of};
 ghost use Rattle.command_words.specs.Arguments.{rows_in};
-ghost use Rattle.command_words.specs.Words.{HasDates, HasLimits, HasSettings, asked, asked_by, check_in, command_in, judge_in, make_in, solve_in, tails_in};
+ghost use Rattle.command_words.specs.Words.{HasDates, HasLimits, HasSettings, IsInRange, asked, asked_by, check_in, command_in, judge_in, make_in, solve_in, tails_in};
 
 use crate::arguments::{
     dates_of, made_legs_of, made_number_of, options_of, rotations_of, settings_of, value_of,
@@ -30,9 +30,7 @@ pub fn command_of<'a>(alloc: Global, words: &'a [String]) -> Result<Option<Comma
 /// The command of a match.
 fn command_met<'a>(matches: &ArgMatches<'a>) -> Option<Command<'a>>
     ensures asked { option_map asked_by result ≡ option_and_then command_in (subcommand_rows_of matches.now) }
-    ensures settings { IfSome result HasSettings }
-    ensures limits { IfSome result HasLimits }
-    ensures dates { IfSome result HasDates }
+    ensures fit { IfSome result IsInRange }
 {
     let (name, found) = named(matches)?;
     match name {
@@ -55,9 +53,7 @@ fn named<'a, 'm>(matches: &'m ArgMatches<'a>) -> Option<(&'a str, &'m ArgMatches
 /// Judging, with what was found for it.
 fn judge_of<'a>(found: &ArgMatches<'a>) -> Option<Command<'a>>
     ensures asked { option_map asked_by result ≡ judge_in (rows_in found.now) }
-    ensures settings { IfSome result HasSettings }
-    ensures limits { IfSome result HasLimits }
-    ensures dates { IfSome result HasDates }
+    ensures fit { IfSome result IsInRange }
 {
     let dir = value_of(found, "dir")?;
     let settings = settings_of(found)?;
@@ -67,9 +63,7 @@ fn judge_of<'a>(found: &ArgMatches<'a>) -> Option<Command<'a>>
 /// Solving, with what was found for it.
 fn solve_of<'a>(found: &ArgMatches<'a>) -> Option<Command<'a>>
     ensures asked { option_map asked_by result ≡ solve_in (rows_in found.now) }
-    ensures settings { IfSome result HasSettings }
-    ensures limits { IfSome result HasLimits }
-    ensures dates { IfSome result HasDates }
+    ensures fit { IfSome result IsInRange }
 {
     let dir = value_of(found, "dir")?;
     let settings = settings_of(found)?;
@@ -84,9 +78,7 @@ fn solve_of<'a>(found: &ArgMatches<'a>) -> Option<Command<'a>>
 /// Checking, with what was found for it.
 fn check_of<'a>(found: &ArgMatches<'a>) -> Option<Command<'a>>
     ensures asked { option_map asked_by result ≡ check_in (rows_in found.now) }
-    ensures settings { IfSome result HasSettings }
-    ensures limits { IfSome result HasLimits }
-    ensures dates { IfSome result HasDates }
+    ensures fit { IfSome result IsInRange }
 {
     let dir = value_of(found, "dir")?;
     let settings = settings_of(found)?;
@@ -96,9 +88,7 @@ fn check_of<'a>(found: &ArgMatches<'a>) -> Option<Command<'a>>
 /// Printing tails, with what was found for it.
 fn tails_of<'a>(found: &ArgMatches<'a>) -> Option<Command<'a>>
     ensures asked { option_map asked_by result ≡ tails_in (rows_in found.now) }
-    ensures settings { IfSome result HasSettings }
-    ensures limits { IfSome result HasLimits }
-    ensures dates { IfSome result HasDates }
+    ensures fit { IfSome result IsInRange }
 {
     let dir = value_of(found, "dir")?;
     let settings = settings_of(found)?;
@@ -115,9 +105,7 @@ fn tails_of<'a>(found: &ArgMatches<'a>) -> Option<Command<'a>>
 /// Making tables, with what was found for it.
 fn make_of<'a>(found: &ArgMatches<'a>) -> Option<Command<'a>>
     ensures asked { option_map asked_by result ≡ make_in (rows_in found.now) }
-    ensures settings { IfSome result HasSettings }
-    ensures limits { IfSome result HasLimits }
-    ensures dates { IfSome result HasDates }
+    ensures fit { IfSome result IsInRange }
 {
     let dir = value_of(found, "dir")?;
     let number = made_number_of(found)?;
