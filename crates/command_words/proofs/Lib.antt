@@ -1,14 +1,1 @@
-pub mod AfterDashes
-pub mod CommandParts
-pub mod Entered
-pub mod Fails
-pub mod GivenRows
-pub mod Match
 pub mod Numbers
-pub mod OtherWords
-pub mod OwnOptions
-pub mod PlainFolder
-pub mod PlainMake
-pub mod PlainTails
-pub mod PlainWords
-pub mod Twice

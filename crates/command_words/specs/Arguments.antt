@@ -31,7 +31,7 @@ is_given name found = option_map_or (λ text. bytes_eq text (codes "true")) (fir
 abbrev pub day_start_in : List Row → Option ℕ
 day_start_in found = value_or DEFAULT_DAY_START minute_read (first_of (codes "day-start") found)
 
--- the longest wait of a through pair, where it reads
+-- the longest wait of a through pair, where it reads; a command without the option has its default
 abbrev pub through_max_in : List Row → Option ℕ
 through_max_in found = value_or DEFAULT_THROUGH_MAX (number_read 0 MAX_THROUGH_MAX) (first_of (codes "through-max") found)
 
@@ -41,11 +41,7 @@ settings_at (Some minute) (Some wait) = Some (record { day_start = minute; throu
 settings_at (Some minute) None = None
 settings_at None wait = None
 
--- the settings of a command that has no option for the longest wait
-abbrev pub day_settings_in : List Row → Option Settings
-day_settings_in found = settings_at (day_start_in found) (Some DEFAULT_THROUGH_MAX)
-
--- the settings of a command that has one, where both values read
+-- how the tables are read, where all values read
 abbrev pub settings_in : List Row → Option Settings
 settings_in found = settings_at (day_start_in found) (through_max_in found)
 

@@ -1,12 +1,11 @@
 -- What the words of a call ask for.
-use Rattle.std.specs.Prelude.{⊤, if◌then◌else◌, List, [], ◌∷◌, ℕ, codes, bytes_eq, Option, None, option_and_then, option_map}
-use Rattle.clap.specs.Kinds.{Kinds}
-use Rattle.clap.specs.Words.{Row, Text, fault_of, subcommand_of}
+use Rattle.std.specs.Prelude.{⊤, if◌then◌else◌, List, ℕ, codes, bytes_eq, Option, None, option_and_then, option_map}
+use Rattle.clap.specs.Words.{Row, Text}
 use Rattle.calendar_dates.specs.Days.{day_on}
 use Rattle.fleet_model.specs.Limits.{AreSettings}
 use Rattle.fleet_model.specs.declared.parts.Settings.{Settings}
-use Rattle.command_words.specs.Arguments.{AreDates, AreOptions, AreRotationLimits, AskedDates, CanBeAsked, dates_in, day_settings_in, dir_in, legs_in, number_in, options_in, rotations_in, settings_in}
-use Rattle.command_words.specs.Program.{our_app}
+use Rattle.command_words.specs.Arguments.{AreDates, AreOptions, AreRotationLimits, AskedDates, CanBeAsked, dates_in, dir_in, legs_in, number_in, options_in, rotations_in, settings_in}
+use Rattle.command_line.specs.Found.{found}
 use Rattle.command_words.specs.declared.command.Command.{Command}
 use Rattle.command_words.specs.declared.command.Command.TheVariants as command
 use Rattle.command_words.specs.declared.command.Dates.{Dates}
@@ -29,7 +28,7 @@ judge_at settings dir = option_map (judge dir) settings
 
 -- judging, where all values read
 abbrev pub judge_in : List Row → Option Asked
-judge_in found = option_and_then (judge_at (day_settings_in found)) (dir_in found)
+judge_in found = option_and_then (judge_at (settings_in found)) (dir_in found)
 
 -- solving a folder by settings and options, where they are there
 abbrev pub solve_at : Option Settings → Option SolveOptions → Text → Option Asked
@@ -45,7 +44,7 @@ check_at settings dir = option_map (check dir) settings
 
 -- checking, where all values read
 abbrev pub check_in : List Row → Option Asked
-check_in found = option_and_then (check_at (day_settings_in found)) (dir_in found)
+check_in found = option_and_then (check_at (settings_in found)) (dir_in found)
 
 -- printing the tails of a folder's plan by settings and limits of rotations on some dates, where they are there
 abbrev pub tails_at : Option Settings → Option RotationLimits → Option AskedDates → Text → Option Asked
@@ -74,15 +73,10 @@ command_in (name, found) =
     else if bytes_eq name (codes "make") then make_in found
     else None
 
--- nothing where there is a fault
-abbrev pub without_fault : Kinds → Option Asked → Option Asked
-without_fault [] command = command
-without_fault (fault ∷ more) command = None
-
 -- what words ask for, the first of them the program's name: nothing where clap finds a fault, as it does where they
 -- ask for help, and else what they give the arguments, where all values read
 unfoldable pub asked : List Text → Option Asked
-asked words = without_fault (fault_of our_app words) (option_and_then command_in (subcommand_of our_app words))
+asked words = option_and_then command_in (found words)
 
 -- ---- the commands of the code
 
@@ -121,3 +115,9 @@ HasDates (command.Solve dir settings options) = ⊤
 HasDates (command.Check dir settings) = ⊤
 HasDates (command.Tails dir settings rotations dates) = AreDates dates
 HasDates (command.Make dir number legs) = ⊤
+
+-- all that a command holds is within its limits
+pub record IsInRange (c : Command) : Type 0 where
+  pub settings : HasSettings c
+  pub limits : HasLimits c
+  pub dates : HasDates c

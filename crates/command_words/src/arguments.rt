@@ -1,7 +1,7 @@
 //! The values of a command's arguments, by what clap found for them.
 ghost use Rattle.std.specs.Prelude.{◌≡◌, ◌≤◌, ◌<◌, IfSome, option_map};
 ghost use Rattle.clap.specs.Words.{first_of};
-ghost use Rattle.command_words.specs.Arguments.{AreDates, AreLimits, AreOptions, AreRotationLimits, IsLegCount, dates_in, day_settings_in, day_start_in, is_given, legs_in, legs_read, number_in, options_in, rotations_in, rows_in, search_in, settings_in, through_max_in};
+ghost use Rattle.command_words.specs.Arguments.{AreDates, AreLimits, AreOptions, AreRotationLimits, IsLegCount, dates_in, day_start_in, is_given, legs_in, legs_read, number_in, options_in, rotations_in, rows_in, search_in, settings_in, through_max_in};
 ghost use Rattle.command_words.specs.Values.{number_read, value_or};
 ghost use Rattle.command_words.specs.Words.{dates_by};
 ghost use Rattle.fleet_model.specs.Limits.{AreSettings};
@@ -17,19 +17,7 @@ use calendar_dates::{civil_date, ends_in_calendar};
 use clap::ArgMatches;
 use fleet_model::Settings;
 
-/// The settings of a command that has no option for the longest wait.
-pub(crate) fn day_settings_of(found: &ArgMatches<'_>) -> Option<Settings>
-    ensures read { result ≡ day_settings_in (rows_in found.now) }
-    ensures fit { IfSome result AreSettings }
-{
-    let day_start = day_start_of(found)?;
-    Some(Settings {
-        day_start,
-        through_max: DEFAULT_THROUGH_MAX,
-    })
-}
-
-/// The settings of a command that has one.
+/// How the tables are read, as the options say.
 pub(crate) fn settings_of(found: &ArgMatches<'_>) -> Option<Settings>
     ensures read { result ≡ settings_in (rows_in found.now) }
     ensures fit { IfSome result AreSettings }
@@ -53,7 +41,7 @@ fn day_start_of(found: &ArgMatches<'_>) -> Option<u16>
     }
 }
 
-/// The longest wait of a through pair that an option gives, or its default.
+/// The longest wait of a through pair that an option gives, or its default, as where the command has no such option.
 fn through_max_of(found: &ArgMatches<'_>) -> Option<u16>
     ensures read { result ≡ through_max_in (rows_in found.now) }
     ensures fits { IfSome result (λ wait. wait < MINUTES_PER_DAY) }

@@ -1,47 +1,6 @@
-//! The laws of the command line: each contract is the statement, and the functions do nothing.
-ghost use Rattle.std.specs.Prelude.{◌≡◌, true, codes};
-ghost use Rattle.clap.specs.Words.{is_simple_and_free};
-ghost use Rattle.command_words.specs.Laws.{ChecksByDefault, ChecksFrom, ChecksPlainly, JudgesByDefault, JudgesFrom, JudgesPlainly, MakesByDefault, MakesPlainly, MakesWithoutOptions, SolvesByDefault, SolvesPlainly, SolvesWithin, TailsByDefault, TailsPlainly, TailsWithin};
-ghost use Rattle.command_words.specs.Program.{our_app};
-ghost use Rattle.command_words.specs.Refusals.{NameAloneAsksNothing, NoWordsAskNothing, OtherWordsAskNothing, TakeOptionsOnce, TakeOwnOptions, TakesNoValue};
+//! The numbers of the words: each contract is the statement, and the function does nothing.
+ghost use Rattle.std.specs.Prelude.{◌≡◌};
 ghost use Rattle.command_words.specs.declared.command.TheConstants.{DEFAULT_DAY_START, DEFAULT_DAYS, DEFAULT_NODES, DEFAULT_PIVOTS, DEFAULT_THROUGH_MAX, DEFAULT_VISITS, MAX_DATES, MAX_DAYS, MAX_MADE_LEGS, MAX_NODES, MAX_NUMBER, MAX_PIVOTS, MAX_THROUGH_MAX, MAX_VISITS, MIN_DATES, MIN_DAYS};
-
-/// The command line is of the kind for which clap's definition of a match is exact: by it alone clap tells a match
-/// from a fault, and what the words give each argument.
-pub fn match_is_exact()
-    ensures { is_simple_and_free our_app ≡ true }
-{}
-
-/// What the definition of a match comes to, for words that don't begin with a dash, or are a dash alone; for
-/// words of any kind behind `--`; and for any text behind `=`.
-pub fn plain_reading()
-    ensures judges_plainly { JudgesPlainly }
-    ensures solves_plainly { SolvesPlainly }
-    ensures checks_plainly { ChecksPlainly }
-    ensures tails_plainly { TailsPlainly }
-    ensures makes_plainly { MakesPlainly }
-    ensures judges_by_default { JudgesByDefault }
-    ensures judges_from { JudgesFrom }
-    ensures solves_by_default { SolvesByDefault }
-    ensures solves_within { SolvesWithin }
-    ensures checks_by_default { ChecksByDefault }
-    ensures checks_from { ChecksFrom }
-    ensures tails_by_default { TailsByDefault }
-    ensures tails_within { TailsWithin }
-    ensures makes_by_default { MakesByDefault }
-    ensures makes_without_options { MakesWithoutOptions }
-{}
-
-/// What asks for nothing, whatever other words stand there: no command, another option than the command's own, one
-/// that is given twice, and a value for `--json`.
-pub fn plain_refusals()
-    ensures no_words { NoWordsAskNothing }
-    ensures name_alone { NameAloneAsksNothing }
-    ensures other_words { OtherWordsAskNothing }
-    ensures own_options { TakeOwnOptions }
-    ensures options_once { TakeOptionsOnce }
-    ensures json_without_value { TakesNoValue (codes "solve") (codes "json") }
-{}
 
 /// The defaults of the options, and the least and greatest values that words take, in numbers.
 pub fn values_in_numbers()

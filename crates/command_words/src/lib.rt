@@ -1,10 +1,9 @@
-//! What the words of a call ask for, by clap's own definition of a match.
+//! What the words of a call ask for, by what `command_line` finds for them.
 #![tactic(auto)]
 
 mod arguments;
 mod command;
 pub mod laws;
-mod program;
 mod values;
 mod words;
 

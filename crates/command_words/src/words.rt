@@ -1,16 +1,14 @@
-ghost use Rattle.std.specs.Prelude.{◌≡◌, ◌↔◌, IfOk, IfSome, IsErr, None, map, option_and_then, option_map, string_bytes};
+ghost use Rattle.std.specs.Prelude.{◌≡◌, IfOk, IfSome, map, option_and_then, option_map, string_bytes};
 ghost use Rattle.clap.specs.Words.{subcommand_rows_of};
 ghost use Rattle.command_words.specs.Arguments.{rows_in};
-ghost use Rattle.command_words.specs.Words.{HasDates, HasLimits, HasSettings, asked, asked_by, check_in, command_in, judge_in, make_in, solve_in, tails_in};
+ghost use Rattle.command_words.specs.Words.{HasDates, HasLimits, HasSettings, IsInRange, asked, asked_by, check_in, command_in, judge_in, make_in, solve_in, tails_in};
 
 use crate::arguments::{
-    dates_of, day_settings_of, made_legs_of, made_number_of, options_of, rotations_of, settings_of,
-    value_of,
+    dates_of, made_legs_of, made_number_of, options_of, rotations_of, settings_of, value_of,
 };
 use crate::command::Command;
-use crate::program::program;
 use clap::ArgMatches;
-use clap::error::ErrorKind;
+use command_line::matched;
 use entries::NoMemory;
 use std::alloc::Global;
 
@@ -23,29 +21,16 @@ pub fn command_of<'a>(alloc: Global, words: &'a [String]) -> Result<Option<Comma
     ensures limits { IfOk result (λ command. IfSome command HasLimits) }
     ensures dates { IfOk result (λ command. IfSome command HasDates) }
 {
-    match program(alloc)?.try_get_matches_from(words) {
-        Ok(matches) => Ok(command_met(&matches)),
-        Err(error) => no_match(error.kind()),
-    }
-}
-
-/// What an error of clap comes to: want of memory, or no command, whatever the fault of the words.
-fn no_match<'a>(kind: ErrorKind) -> Result<Option<Command<'a>>, NoMemory>
-    ensures memory { IsErr result ↔ (kind ≡ ErrorKind.OutOfMemory) }
-    ensures none { IfOk result (λ command. command ≡ None) }
-{
-    match kind {
-        ErrorKind::OutOfMemory => Err(NoMemory),
-        _ => Ok(None),
+    match matched(alloc, words)? {
+        Some(matches) => Ok(command_met(&matches)),
+        None => Ok(None),
     }
 }
 
 /// The command of a match.
 fn command_met<'a>(matches: &ArgMatches<'a>) -> Option<Command<'a>>
     ensures asked { option_map asked_by result ≡ option_and_then command_in (subcommand_rows_of matches.now) }
-    ensures settings { IfSome result HasSettings }
-    ensures limits { IfSome result HasLimits }
-    ensures dates { IfSome result HasDates }
+    ensures fit { IfSome result IsInRange }
 {
     let (name, found) = named(matches)?;
     match name {
@@ -68,21 +53,17 @@ fn named<'a, 'm>(matches: &'m ArgMatches<'a>) -> Option<(&'a str, &'m ArgMatches
 /// Judging, with what was found for it.
 fn judge_of<'a>(found: &ArgMatches<'a>) -> Option<Command<'a>>
     ensures asked { option_map asked_by result ≡ judge_in (rows_in found.now) }
-    ensures settings { IfSome result HasSettings }
-    ensures limits { IfSome result HasLimits }
-    ensures dates { IfSome result HasDates }
+    ensures fit { IfSome result IsInRange }
 {
     let dir = value_of(found, "dir")?;
-    let settings = day_settings_of(found)?;
+    let settings = settings_of(found)?;
     Some(Command::Judge { dir, settings })
 }
 
 /// Solving, with what was found for it.
 fn solve_of<'a>(found: &ArgMatches<'a>) -> Option<Command<'a>>
     ensures asked { option_map asked_by result ≡ solve_in (rows_in found.now) }
-    ensures settings { IfSome result HasSettings }
-    ensures limits { IfSome result HasLimits }
-    ensures dates { IfSome result HasDates }
+    ensures fit { IfSome result IsInRange }
 {
     let dir = value_of(found, "dir")?;
     let settings = settings_of(found)?;
@@ -97,21 +78,17 @@ fn solve_of<'a>(found: &ArgMatches<'a>) -> Option<Command<'a>>
 /// Checking, with what was found for it.
 fn check_of<'a>(found: &ArgMatches<'a>) -> Option<Command<'a>>
     ensures asked { option_map asked_by result ≡ check_in (rows_in found.now) }
-    ensures settings { IfSome result HasSettings }
-    ensures limits { IfSome result HasLimits }
-    ensures dates { IfSome result HasDates }
+    ensures fit { IfSome result IsInRange }
 {
     let dir = value_of(found, "dir")?;
-    let settings = day_settings_of(found)?;
+    let settings = settings_of(found)?;
     Some(Command::Check { dir, settings })
 }
 
 /// Printing tails, with what was found for it.
 fn tails_of<'a>(found: &ArgMatches<'a>) -> Option<Command<'a>>
     ensures asked { option_map asked_by result ≡ tails_in (rows_in found.now) }
-    ensures settings { IfSome result HasSettings }
-    ensures limits { IfSome result HasLimits }
-    ensures dates { IfSome result HasDates }
+    ensures fit { IfSome result IsInRange }
 {
     let dir = value_of(found, "dir")?;
     let settings = settings_of(found)?;
@@ -128,9 +105,7 @@ fn tails_of<'a>(found: &ArgMatches<'a>) -> Option<Command<'a>>
 /// Making tables, with what was found for it.
 fn make_of<'a>(found: &ArgMatches<'a>) -> Option<Command<'a>>
     ensures asked { option_map asked_by result ≡ make_in (rows_in found.now) }
-    ensures settings { IfSome result HasSettings }
-    ensures limits { IfSome result HasLimits }
-    ensures dates { IfSome result HasDates }
+    ensures fit { IfSome result IsInRange }
 {
     let dir = value_of(found, "dir")?;
     let number = made_number_of(found)?;

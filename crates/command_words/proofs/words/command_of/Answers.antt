@@ -1,16 +1,15 @@
-use Rattle.std.proofs.Common.{◌∙◌, map, string_bytes}
-use Rattle.clap.specs.Words.{app_of}
-use Rattle.command_words.proofs.Match.{is_met, is_unmet}
+use Rattle.std.proofs.Common.{◌∙◌, ap, sym}
+use Rattle.std.specs.Prelude.{option_and_then}
+use Rattle.clap.specs.Words.{subcommand_rows_of}
+use Rattle.command_words.specs.Words.{asked, command_in}
 use Rattle.command_words.proofs.words.command_of.Goals as goal
 
--- src/words.rt:24:1
-pub returns-in-Ok-clause-asked : goal.returns-in-Ok-clause-asked
-returns-in-Ok-clause-asked c =
-    c.command_met.ensures.asked
-    ∙ is_met (app_of c.in_ok-program.field-0) (map string_bytes c.args.words.now) c.in-Ok.matches c.in_ok-program.ensures c.in-Ok.ensures.kinds c.in-Ok.ensures.matches
+pub returns-in-Some-clause-asked : goal.returns-in-Some-clause-asked
+unfolding asked
+returns-in-Some-clause-asked c =
+    c.command_met.ensures.asked ∙ ap (option_and_then command_in) (ap (option_and_then subcommand_rows_of) (sym c.in-Some.is) ∙ c.in_ok-matches.ensures)
 
--- src/words.rt:22:1
-pub returns-in-Err-clause-asked : goal.returns-in-Err-clause-asked
-returns-in-Err-clause-asked c =
-    is_unmet (app_of c.in_ok-program.field-0) (map string_bytes c.args.words.now) c.in-Err.error c.kind.result c.no_match.result
-    c.in_ok-program.ensures c.in-Err.ensures.kinds c.kind.ensures c.no_match.ensures.memory c.no_match.ensures.none
+pub returns-in-None-clause-asked : goal.returns-in-None-clause-asked
+unfolding asked
+returns-in-None-clause-asked c =
+    ap (option_and_then command_in) (ap (option_and_then subcommand_rows_of) (sym c.in-None.is) ∙ c.in_ok-matches.ensures)

@@ -1,6 +1,0 @@
-use Rattle.command_words.proofs.Match.{exact}
-use Rattle.command_words.proofs.laws.match_is_exact.Goals as goal
-
--- src/laws.rt:8:1
-pub returns : goal.returns
-returns c = exact

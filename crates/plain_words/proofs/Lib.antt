@@ -1,0 +1,11 @@
+pub mod AfterDashes
+pub mod Entered
+pub mod Fails
+pub mod GivenRows
+pub mod OtherWords
+pub mod OwnOptions
+pub mod PlainFolder
+pub mod PlainMake
+pub mod PlainTails
+pub mod PlainWords
+pub mod Twice

@@ -1,0 +1,14 @@
+use Rattle.plain_words.proofs.OtherWords.{name_alone, no_words, other_words}
+use Rattle.plain_words.proofs.OwnOptions.{json_without_value, own_options}
+use Rattle.plain_words.proofs.Twice.{options_once}
+use Rattle.plain_words.proofs.laws.plain_refusals.Goals as goal
+
+pub returns : goal.returns
+returns c = record {
+  no_words = no_words;
+  name_alone = name_alone;
+  other_words = other_words;
+  own_options = own_options;
+  options_once = options_once;
+  json_without_value = json_without_value;
+}

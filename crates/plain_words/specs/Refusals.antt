@@ -1,0 +1,108 @@
+-- What the command line refuses: words that ask for nothing.
+use Rattle.std.specs.Prelude.{◌≡◌, ◌==◌, ◌||◌, Bool, true, false, not, List, [], ◌∷◌, ◌++◌, None, bytes_eq, codes}
+use Rattle.std.specs.List.{list_any}
+use Rattle.clap.specs.Words.{Text}
+use Rattle.command_words.specs.Words.{asked}
+
+-- ---- the command
+
+-- no words at all, not even the program's name
+abbrev pub NoWordsAskNothing : Type 0
+NoWordsAskNothing = asked [] ≡ None
+
+-- the program's name alone
+abbrev pub NameAloneAsksNothing : Type 0
+NameAloneAsksNothing = (program : Text) → asked (program ∷ []) ≡ None
+
+-- the word is a command's name
+abbrev pub is_command : Text → Bool
+is_command word =
+    bytes_eq (codes "judge") word || bytes_eq (codes "solve") word || bytes_eq (codes "check") word || bytes_eq (codes "tails") word || bytes_eq (codes "make") word
+
+-- a first word that is no command's name, as `help`, `--help` or `--`, whatever follows
+abbrev pub OtherWordsAskNothing : Type 0
+OtherWordsAskNothing = (program word : Text) (after : List Text) → is_command word ≡ false → asked (program ∷ word ∷ after) ≡ None
+
+-- ---- its options
+
+-- one of the words is `--`, behind which no word is an option
+abbrev pub has_dashes : List Text → Bool
+has_dashes words = list_any (λ word. bytes_eq word (codes "--")) words
+
+-- the name is one of these
+abbrev pub is_one_of : Text → List Text → Bool
+is_one_of name names = list_any (λ other. bytes_eq other name) names
+
+-- some text with no `=`
+abbrev pub is_option_name : Text → Bool
+is_option_name [] = false
+is_option_name (first ∷ rest) = not (list_any (λ byte. byte == 61) (first ∷ rest))
+
+-- what may stand behind an option's name in its word: nothing, or `=` and a value
+abbrev pub ends_name : Text → Bool
+ends_name [] = true
+ends_name (first ∷ value) = first == 61
+
+-- the command takes no option but these: any other one is refused wherever it stands before `--`, with a value or alone
+abbrev pub TakesOnly : Text → List Text → Type 0
+TakesOnly command options = (program name ending : Text) (before after : List Text)
+    → is_option_name name ≡ true → is_one_of name options ≡ false → ends_name ending ≡ true → has_dashes before ≡ false
+    → asked (program ∷ command ∷ before ++ (codes "--" ++ name ++ ending) ∷ after) ≡ None
+
+-- the flag is refused with a value, wherever it stands before `--`
+abbrev pub TakesNoValue : Text → Text → Type 0
+TakesNoValue command flag = (program value : Text) (before after : List Text) → has_dashes before ≡ false
+    → asked (program ∷ command ∷ before ++ (codes "--" ++ flag ++ codes "=" ++ value) ∷ after) ≡ None
+
+-- the option is refused where it is given twice before `--`, whatever its values
+abbrev pub TakesOnce : Text → Text → Type 0
+TakesOnce command option = (program one two : Text) (before between after : List Text) → has_dashes before ≡ false → has_dashes between ≡ false
+    → asked (program ∷ command ∷ before ++ (codes "--" ++ option ++ codes "=" ++ one) ∷ (between ++ (codes "--" ++ option ++ codes "=" ++ two) ∷ after)) ≡ None
+
+-- each of these options is
+abbrev pub TakesEachOnce : Text → List Text → Type 0
+TakesEachOnce command options = (option : Text) → is_one_of option options ≡ true → TakesOnce command option
+
+-- and so is the flag
+abbrev pub TakesFlagOnce : Text → Text → Type 0
+TakesFlagOnce command flag = (program : Text) (before between after : List Text) → has_dashes before ≡ false → has_dashes between ≡ false
+    → asked (program ∷ command ∷ before ++ (codes "--" ++ flag) ∷ (between ++ (codes "--" ++ flag) ∷ after)) ≡ None
+
+-- ---- the commands' options
+
+-- by which the tables of a folder are read
+abbrev pub table_options : List Text
+table_options = codes "day-start" ∷ []
+
+-- by which rotations are looked for
+abbrev pub rotation_options : List Text
+rotation_options = codes "through-max" ∷ codes "days" ∷ codes "visits" ∷ []
+
+-- by which a plan is looked for
+abbrev pub search_options : List Text
+search_options = codes "nodes" ∷ codes "pivots" ∷ []
+
+abbrev pub tails_options : List Text
+tails_options = table_options ++ rotation_options
+
+abbrev pub solve_options : List Text
+solve_options = table_options ++ rotation_options ++ search_options
+
+abbrev pub solve_flags : List Text
+solve_flags = codes "json" ∷ []
+
+-- each command takes its own options alone, so it refuses those of the others, `--help`, and what is misspelt
+pub record TakeOwnOptions : Type 0 where
+  pub judge : TakesOnly (codes "judge") table_options
+  pub solve : TakesOnly (codes "solve") (solve_options ++ solve_flags)
+  pub check : TakesOnly (codes "check") table_options
+  pub tails : TakesOnly (codes "tails") tails_options
+  pub make : TakesOnly (codes "make") []
+
+-- each command takes each of its options once at most
+pub record TakeOptionsOnce : Type 0 where
+  pub judge : TakesEachOnce (codes "judge") table_options
+  pub solve : TakesEachOnce (codes "solve") solve_options
+  pub check : TakesEachOnce (codes "check") table_options
+  pub tails : TakesEachOnce (codes "tails") tails_options
+  pub json : TakesFlagOnce (codes "solve") (codes "json")

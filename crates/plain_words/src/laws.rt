@@ -1,0 +1,35 @@
+//! The laws of words: each contract is the statement, and the functions do nothing.
+ghost use Rattle.std.specs.Prelude.{codes};
+ghost use Rattle.plain_words.specs.Plain.{ChecksByDefault, ChecksFrom, ChecksPlainly, JudgesByDefault, JudgesFrom, JudgesPlainly, MakesByDefault, MakesPlainly, MakesWithoutOptions, SolvesByDefault, SolvesPlainly, SolvesWithin, TailsByDefault, TailsPlainly, TailsWithin};
+ghost use Rattle.plain_words.specs.Refusals.{NameAloneAsksNothing, NoWordsAskNothing, OtherWordsAskNothing, TakeOptionsOnce, TakeOwnOptions, TakesNoValue};
+
+/// What the definition of a match comes to, for words that don't begin with a dash, or are a dash alone; for
+/// words of any kind behind `--`; and for any text behind `=`.
+pub fn plain_reading()
+    ensures judges_plainly { JudgesPlainly }
+    ensures solves_plainly { SolvesPlainly }
+    ensures checks_plainly { ChecksPlainly }
+    ensures tails_plainly { TailsPlainly }
+    ensures makes_plainly { MakesPlainly }
+    ensures judges_by_default { JudgesByDefault }
+    ensures judges_from { JudgesFrom }
+    ensures solves_by_default { SolvesByDefault }
+    ensures solves_within { SolvesWithin }
+    ensures checks_by_default { ChecksByDefault }
+    ensures checks_from { ChecksFrom }
+    ensures tails_by_default { TailsByDefault }
+    ensures tails_within { TailsWithin }
+    ensures makes_by_default { MakesByDefault }
+    ensures makes_without_options { MakesWithoutOptions }
+{}
+
+/// What asks for nothing, whatever other words stand there: no command, another option than the command's own, one
+/// that is given twice, and a value for `--json`.
+pub fn plain_refusals()
+    ensures no_words { NoWordsAskNothing }
+    ensures name_alone { NameAloneAsksNothing }
+    ensures other_words { OtherWordsAskNothing }
+    ensures own_options { TakeOwnOptions }
+    ensures options_once { TakeOptionsOnce }
+    ensures json_without_value { TakesNoValue (codes "solve") (codes "json") }
+{}
