@@ -6,4 +6,6 @@ pub mod UnitColumns
 pub mod ReadOff
 pub mod BasicSums
 pub mod MetPoints
+pub mod Rises
+pub mod SameBases
 pub mod SignEnds

@@ -38,7 +38,7 @@ unfolding real_value
 value_of_identity rows basis x line ge = cond-false (ltb (basic basis line) rows.columns) (pos (x (basic basis line))) (pos 0) (le-ltb (basic basis line) rows.columns ge)
 
 -- nothing where no line's place is
-nothing_at_place : (place : ℕ → ℕ) (value : ℕ → ℤ) (lines column : ℕ) → ((line : ℕ) → line < lines → place line ≡ column → value line ≡ pos 0) → at_place place value lines column ≡ pos 0
+pub nothing_at_place : (place : ℕ → ℕ) (value : ℕ → ℤ) (lines column : ℕ) → ((line : ℕ) → line < lines → place line ≡ column → value line ≡ pos 0) → at_place place value lines column ≡ pos 0
 unfolding at_place
 nothing_at_place place value lines column h =
     sum_below_ℤ-same (λ k. where_true (place k == column) (value k)) (λ k. pos 0) lines (λ k lt. term k lt) ∙ sum_below_ℤ-zero lines
@@ -50,7 +50,7 @@ nothing_at_place place value lines column h =
     ]
 
 -- the value of the one line whose place it is
-one_at_place : (place : ℕ → ℕ) (value : ℕ → ℤ) (lines line : ℕ) → line < lines → ((other : ℕ) → other < lines → place line ≡ place other → line ≡ other) → at_place place value lines (place line) ≡ value line
+pub one_at_place : (place : ℕ → ℕ) (value : ℕ → ℤ) (lines line : ℕ) → line < lines → ((other : ℕ) → other < lines → place line ≡ place other → line ≡ other) → at_place place value lines (place line) ≡ value line
 unfolding at_place
 one_at_place place value lines line below apart =
     sum_below_ℤ-same (λ k. where_true (place k == place line) (value k)) (λ k. where_true (line == k) (value k)) lines (λ k lt. term k lt) ∙ sum_below_ℤ-one line value lines below

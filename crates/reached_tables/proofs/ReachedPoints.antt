@@ -87,7 +87,7 @@ point_of_first rows table basis point scale h met =
     meets_first rows point scale (same.0 (λ line lt. ap (λ k. surplus (row_at table line) k point scale) (last_is t) ∙ met line (subst (λ n. line < n) (phase_is t) lt)))
 
 -- the surplus of each row is that of the first table, as many times as the denominator
-kept : (rows : Rows) (table : List FracRow) (basis : List ℕ) (point : ℕ → ℤ) (scale : ℤ) (row : ℕ) → IsReachedBySteps rows table basis → MeetsFirst rows point scale → row < length rows.lines + 2
+pub kept : (rows : Rows) (table : List FracRow) (basis : List ℕ) (point : ℕ → ℤ) (scale : ℤ) (row : ℕ) → IsReachedBySteps rows table basis → MeetsFirst rows point scale → row < length rows.lines + 2
     → surplus (row_at table row) (rows.columns + length rows.lines) point scale ≡ surplus (row_at (first_table rows) row) (rows.columns + length rows.lines) point scale *ℤ den_at table row
 kept rows table basis point scale row h met lt =
     let first : List FracRow = first_table rows in

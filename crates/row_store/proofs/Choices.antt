@@ -1,7 +1,7 @@
 -- The steps of a search for the entering column and the leaving row.
 use Rattle.std.proofs.Common.{◌≡◌, ℕ, ◌+◌, ◌<◌, Bool, true, false, cond, if◌then◌else◌, zero, suc, ◌&&◌, ℤ, pos, ◌<ℤ◌, ◌≤ℤ◌, get_or, ◌-◌, length, List, Option, Some, None, ◌⊎◌, inl, inr, option_map, refl, sym, ◌∙◌, ap, subst, arith, add-one}
 use Rattle.sums.specs.Places.{first_below, or_else}
-use Rattle.sums.proofs.Places.{first_found}
+use Rattle.sums.proofs.Places.{first_found, nothing_at}
 use Rattle.sums.proofs.Tests.{none_some, passed_over, picked, unlike}
 use Rattle.frac_row.specs.declared.row.FracRow.{FracRow}
 use Rattle.row_store.specs.Choice.{entering, is_improving, improves, is_positive, goes_first, better, candidate_at, best_below, leaving}
@@ -184,3 +184,29 @@ entering_is table columns column e = among columns e
 
         at_last : (n : ℕ) → (n ≡ column) × (is_improving table n ≡ true) → (column < suc n) × (is_improving table column ≡ true)
         at_last n (e, t) = (omega arith, subst (λ k. is_improving table k ≡ true) e t)
+
+-- no column before it improves
+pub before_entering : (table : List FracRow) (columns column other : ℕ) → entering table columns ≡ Some column → other < column → is_improving table other ≡ false
+unfolding entering
+before_entering table columns column other e before = among columns e
+  where
+    passed : (b : Bool) → cond b (Some other) None ≡ None → b ≡ false
+    passed false h = refl
+    passed true h = cc
+
+    one : (b : Bool) (k : ℕ) → cond b (Some k) None ≡ Some column → k ≡ column
+    one true k e = cc
+    one false k e = absurd (none_some e)
+
+    either : (o p : Option ℕ) → or_else o p ≡ Some column → (o ≡ Some column) ⊎ ((o ≡ None) × (p ≡ Some column))
+    either (Some k) p e = inl e
+    either None p e = inr (refl, e)
+
+    among : (n : ℕ) → first_below (λ j. if is_improving table j then Some j else None) n ≡ Some column → is_improving table other ≡ false
+    among zero e = absurd (none_some e)
+    among (suc n) e =
+        elim (either (first_below (λ j. if is_improving table j then Some j else None) n) (if is_improving table n then Some n else None) e) [
+          | inl found ↦ among n found
+          | inr last ↦ let same : n ≡ column = one (is_improving table n) n last.1 in
+              passed (is_improving table other) (nothing_at (λ j. if is_improving table j then Some j else None) n other last.0 (subst (λ k. other < k) (sym same) before))
+        ]

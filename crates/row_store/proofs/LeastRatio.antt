@@ -30,7 +30,7 @@ abbrev AreBest : List FracRow → ℕ → ℕ → Option Candidate → Type 0
 AreBest table column bound None = (line : ℕ) → line < bound → number_at table line column ≤ℤ pos 0
 AreBest table column bound (Some best) = IsLeast table column bound best
 
-test_other : (z : ℤ) → is_positive z ≡ false → z ≤ℤ pos 0
+pub test_other : (z : ℤ) → is_positive z ≡ false → z ≤ℤ pos 0
 test_other z h = grind (arith, ints)
 
 -- what goes first has no greater number, what does not no lesser one
@@ -44,11 +44,11 @@ other_is_no_less Less a b m n e t = absurd (both_ways true t refl)
 other_is_no_less Equal a b m n e t = let same : a ≡ b = int_ranked a b Equal e in omega (arith, ints)
 other_is_no_less Greater a b m n e t = let lt : b <ℤ a = int_ranked a b Greater e in omega (arith, ints)
 
-goes_before : (one other : Candidate) → goes_first one other ≡ true → (one.right_side *ℤ other.entry) ≤ℤ (other.right_side *ℤ one.entry)
+pub goes_before : (one other : Candidate) → goes_first one other ≡ true → (one.right_side *ℤ other.entry) ≤ℤ (other.right_side *ℤ one.entry)
 unfolding goes_first
 goes_before one other t = first_is_no_more (ratio_cmp one.right_side one.entry other.right_side other.entry) _ _ one.basic other.basic refl t
 
-goes_after : (one other : Candidate) → goes_first one other ≡ false → (other.right_side *ℤ one.entry) ≤ℤ (one.right_side *ℤ other.entry)
+pub goes_after : (one other : Candidate) → goes_first one other ≡ false → (other.right_side *ℤ one.entry) ≤ℤ (one.right_side *ℤ other.entry)
 unfolding goes_first
 goes_after one other t = other_is_no_less (ratio_cmp one.right_side one.entry other.right_side other.entry) _ _ one.basic other.basic refl t
 

@@ -4,6 +4,7 @@ pub mod Pivots
 pub mod Points
 pub mod Tables
 pub mod LeastRatio
+pub mod Ties
 pub mod PivotNumbers
 pub mod Turns
 pub mod StepChoices

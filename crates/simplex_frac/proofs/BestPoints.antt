@@ -16,11 +16,12 @@ use Rattle.simplex_frac.specs.Duality.{den_at, IsReached, AreRightSidesAtLeast0}
 use Rattle.simplex_frac.specs.LastTables.{IsTurn, BestTells, NoPointTells}
 use Rattle.simplex_frac.specs.declared.turn.Turn.{Turn}
 use Rattle.simplex_frac.proofs.TurnCauses.{EndsBest, EndsNoPoint, ImprovesNot, best_ends, no_point_ends, none_improves}
-use Rattle.reached_tables.proofs.FirstPoints.{rest_sum, MeetsFirst}
-use Rattle.reached_tables.proofs.ReachedPoints.{phase_is, last_is, point_of_first, phase_kept}
+use Rattle.reached_tables.proofs.FirstPoints.{rest_sum}
+use Rattle.reached_tables.proofs.ReachedPoints.{phase_is, last_is, phase_kept}
 use Rattle.simplex_frac.proofs.RunPoints.{run_is_reached}
 use Rattle.simplex_frac.proofs.RightSides.{run_keeps_right_sides}
-use Rattle.reached_tables.proofs.BasicSums.{IsBasicTable, basic_table, basic, basic_point, surplus_of_line, surplus_below_lines, common_scale, scale_over, scale_positive, scale_over_positive, over_scale}
+use Rattle.reached_tables.proofs.BasicSums.{IsBasicTable, basic_table, basic, basic_point, surplus_below_lines, common_scale, scale_over, scale_positive, scale_over_positive}
+use Rattle.reached_tables.proofs.SameBases.{basic_value, whole_point, whole_meets}
 
 pub reached_of : {rows : Rows} {made : ℕ} {table : List FracRow} {basis : List ℕ} {does : Turn} → IsTurn rows made table basis does → IsReached rows made table basis
 reached_of h = record { problem = h.problem; reaches = h.turns.reaches }
@@ -52,21 +53,7 @@ best_tells rows made table basis h =
     above : (p q : ℤ) → ImprovesNot p q → q <ℤ pos 0 → pos 0 <ℤ p
     above p q n below = more p n.phase (not_zero p q n.phase n.cost below)
 
--- ---- the basic point over the common scale
--- each line's right side, so many parts
-basic_value : Rows → List FracRow → ℕ → ℤ
-basic_value rows table line = number_at table line (rows.columns + length rows.lines) *ℤ scale_over table (length rows.lines) line
-
-whole_point : Rows → List FracRow → List ℕ → ℕ → ℤ
-whole_point rows table basis = basic_point basis (basic_value rows table) (length rows.lines)
-
-whole_meets : (rows : Rows) (made : ℕ) (table : List FracRow) (basis : List ℕ) → IsReached rows made table basis → MeetsFirst rows (whole_point rows table basis) (common_scale table (length rows.lines))
-unfolding whole_point basic_value
-whole_meets rows made table basis h =
-    point_of_first rows table basis _ _ (run_is_reached rows made table basis h)
-    (λ line lt. surplus_of_line rows table basis (λ l. number_at table l (rows.columns + length rows.lines) *ℤ scale_over table (length rows.lines) l) (common_scale table (length rows.lines)) line (basic_table rows table basis (run_is_reached rows made table basis h)) lt
-    ∙ no_difference _ _ (over_scale rows table line (number_at table line (rows.columns + length rows.lines)) lt))
-
+-- ---- the basic point over the common scale, from right sides of at least 0
 value_at_least_0 : (rows : Rows) (made : ℕ) (table : List FracRow) (basis : List ℕ) → IsReached rows made table basis → AreRightSidesAtLeast0 rows → (line : ℕ) → line < length rows.lines → pos 0 ≤ℤ basic_value rows table line
 unfolding basic_value
 value_at_least_0 rows made table basis h sides line lt =
@@ -92,7 +79,7 @@ phase_side rows made table basis h =
     let t : IsBasicTable rows table basis = basic_table rows table basis (run_is_reached rows made table basis h) in
     ap (λ c. pos 0 -ℤ (number_at table (phase_row table) c *ℤ common_scale table (length rows.lines))) (last_is t.is)
     ∙ sym (surplus_below_lines rows table basis (basic_value rows table) (common_scale table (length rows.lines)) (phase_row table) t (rw (phase_is t.is) (omega arith)) (rw (phase_is t.is) (omega arith)))
-    ∙ phase_kept rows table basis (whole_point rows table basis) (common_scale table (length rows.lines)) (run_is_reached rows made table basis h) (whole_meets rows made table basis h)
+    ∙ phase_kept rows table basis (whole_point rows table basis) (common_scale table (length rows.lines)) (run_is_reached rows made table basis h) (whole_meets rows table basis (run_is_reached rows made table basis h))
 
 phase_den : (rows : Rows) (made : ℕ) (table : List FracRow) (basis : List ℕ) → IsReached rows made table basis → pos 0 <ℤ den_at table (phase_row table)
 phase_den rows made table basis h =

@@ -10,3 +10,7 @@ pub mod RightSides
 pub mod BestPoints
 pub mod MetPoints
 pub mod RayPoints
+pub mod OnePivot
+pub mod Pairs
+pub mod Cycles
+pub mod NoBasisTwice

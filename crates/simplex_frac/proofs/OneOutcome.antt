@@ -25,7 +25,7 @@ record EndsAt (first : List FracRow) (columns budget pivots : ℕ) (now : Tablea
   last : (next_tableau columns now ≡ None) ⊎ (pivots ≡ budget)
 
 -- a stage comes after all before it
-reached_before : (first : List FracRow) (columns early late : ℕ) (now : Tableau) → early ≤ late → stage first columns late ≡ Some now → (before : Tableau) × (stage first columns early ≡ Some before)
+pub reached_before : (first : List FracRow) (columns early late : ℕ) (now : Tableau) → early ≤ late → stage first columns late ≡ Some now → (before : Tableau) × (stage first columns early ≡ Some before)
 reached_before first columns early zero now le e = (now, subst (λ k. stage first columns k ≡ Some now) (zero_at_most early le) e)
 reached_before first columns early (suc late) now le e =
     elim (cases_lt early (suc late)) [

@@ -22,10 +22,11 @@ use Rattle.simplex_frac.specs.Duality.{den_at, IsReached}
 use Rattle.simplex_frac.specs.LastTables.{IsTurn, IsDirection, RayIsDirection}
 use Rattle.simplex_frac.specs.declared.turn.Turn.TheVariants.{Ray}
 use Rattle.simplex_frac.proofs.TurnCauses.{EndsRay, Improves, ray_ends, entering_improves}
-use Rattle.reached_tables.proofs.FirstPoints.{line_sum, cost_sum, rest_sum, MeetsFirst}
-use Rattle.reached_tables.proofs.ReachedPoints.{phase_is, cost_is, point_of_first, phase_kept, cost_kept}
+use Rattle.reached_tables.proofs.FirstPoints.{line_sum, cost_sum, rest_sum}
+use Rattle.reached_tables.proofs.ReachedPoints.{phase_is, cost_is, phase_kept, cost_kept}
 use Rattle.simplex_frac.proofs.RunPoints.{run_is_reached}
-use Rattle.reached_tables.proofs.BasicSums.{IsBasicTable, basic_table, basic, basic_point, sum_of_line, sum_below_lines, common_scale, scale_over, scale_positive, scale_over_positive, over_scale}
+use Rattle.reached_tables.proofs.BasicSums.{IsBasicTable, basic_table, basic, basic_point, common_scale, scale_over, scale_positive, scale_over_positive}
+use Rattle.reached_tables.proofs.Rises.{rise_value, rise_point, rise_below, rise_meets}
 use Rattle.simplex_frac.proofs.BestPoints.{reached_of}
 
 -- a column that may rise without end
@@ -48,54 +49,6 @@ ray_is rows made table basis column h =
       improves = entering_improves table rows.columns column ends.enters;
     }
 
--- ---- the direction: the column rises by the common scale, and the basic columns by what keeps the lines met
-rise_value : Rows → List FracRow → ℕ → ℕ → ℤ
-rise_value rows table column line = neg_ℤ (number_at table line column) *ℤ scale_over table (length rows.lines) line
-
-ray_point : Rows → List FracRow → List ℕ → ℕ → ℕ → ℤ
-ray_point rows table basis column c =
-    basic_point basis (rise_value rows table column) (length rows.lines) c +ℤ where_true (column == c) (common_scale table (length rows.lines))
-
--- a sum over it: the basic part, and the column's own
-ray_sum : (rows : Rows) (table : List FracRow) (basis : List ℕ) (column : ℕ) (f : ℕ → ℤ) → column < rows.columns
-    → sum_below_ℤ (λ c. f c *ℤ ray_point rows table basis column c) (rows.columns + length rows.lines) ≡ sum_below_ℤ (λ c. f c *ℤ basic_point basis (rise_value rows table column) (length rows.lines) c) (rows.columns + length rows.lines) +ℤ (f column *ℤ common_scale table (length rows.lines))
-unfolding ray_point
-ray_sum rows table basis column f lt =
-    sum_below_ℤ-same _ (λ c. (f c *ℤ basic_point basis (rise_value rows table column) (length rows.lines) c) +ℤ where_true (column == c) (f c *ℤ common_scale table (length rows.lines))) (rows.columns + length rows.lines)
-    (λ c less. *ℤ-+ℤ (f c) (basic_point basis (rise_value rows table column) (length rows.lines) c) (where_true (column == c) (common_scale table (length rows.lines)))
-    ∙ ap (λ x. (f c *ℤ basic_point basis (rise_value rows table column) (length rows.lines) c) +ℤ x) (*ℤ-where_true (f c) (column == c) (common_scale table (length rows.lines))))
-    ∙ sum_below_ℤ-+ℤ (λ c. f c *ℤ basic_point basis (rise_value rows table column) (length rows.lines) c) (λ c. where_true (column == c) (f c *ℤ common_scale table (length rows.lines))) (rows.columns + length rows.lines)
-    ∙ ap (λ x. sum_below_ℤ (λ c. f c *ℤ basic_point basis (rise_value rows table column) (length rows.lines) c) (rows.columns + length rows.lines) +ℤ x)
-    (sum_below_ℤ-one column (λ c. f c *ℤ common_scale table (length rows.lines)) (rows.columns + length rows.lines) (omega arith))
-
-ray_line : (rows : Rows) (made : ℕ) (table : List FracRow) (basis : List ℕ) (column line : ℕ) → IsRay rows made table basis column → line < length rows.lines
-    → surplus (row_at table line) (rows.columns + length rows.lines) (ray_point rows table basis column) (pos 0) ≡ pos 0
-unfolding surplus rise_value
-ray_line rows made table basis column line r lt =
-    ap (λ x. x -ℤ (number_at table line (rows.columns + length rows.lines) *ℤ pos 0)) (ray_sum rows table basis column (number_at table line) r.real ∙ ap (λ x. x +ℤ (number_at table line column *ℤ common_scale table (length rows.lines)))
-    (sum_of_line rows table basis (rise_value rows table column) line r.is lt ∙ over_scale rows table line (neg_ℤ (number_at table line column)) lt ∙ neg_ℤ-*ℤ (number_at table line column) (common_scale table (length rows.lines))))
-    ∙ none (number_at table line column *ℤ common_scale table (length rows.lines)) _ (*ℤ-zero (number_at table line (rows.columns + length rows.lines)))
-  where
-    none : (a b : ℤ) → b ≡ pos 0 → (neg_ℤ a +ℤ a) -ℤ b ≡ pos 0
-    none a b e = omega (arith, ints)
-
--- the rows below the lines come to their number in the column
-ray_below : (rows : Rows) (made : ℕ) (table : List FracRow) (basis : List ℕ) (column row : ℕ) → IsRay rows made table basis column → length rows.lines ≤ row → row < length rows.lines + 2
-    → surplus (row_at table row) (rows.columns + length rows.lines) (ray_point rows table basis column) (pos 0) ≡ common_scale table (length rows.lines) *ℤ number_at table row column
-unfolding surplus
-ray_below rows made table basis column row r ge lt =
-    ap (λ x. x -ℤ (number_at table row (rows.columns + length rows.lines) *ℤ pos 0)) (ray_sum rows table basis column (number_at table row) r.real ∙ ap (λ x. x +ℤ (number_at table row column *ℤ common_scale table (length rows.lines)))
-    (sum_below_lines rows table basis (rise_value rows table column) row r.is ge lt))
-    ∙ alone (number_at table row column *ℤ common_scale table (length rows.lines)) _ (*ℤ-zero (number_at table row (rows.columns + length rows.lines)))
-    ∙ *ℤ_comm (number_at table row column) (common_scale table (length rows.lines))
-  where
-    alone : (a b : ℤ) → b ≡ pos 0 → (pos 0 +ℤ a) -ℤ b ≡ a
-    alone a b e = omega (arith, ints)
-
-ray_meets : (rows : Rows) (made : ℕ) (table : List FracRow) (basis : List ℕ) (column : ℕ) → IsRay rows made table basis column → MeetsFirst rows (ray_point rows table basis column) (pos 0)
-ray_meets rows made table basis column r =
-    point_of_first rows table basis (ray_point rows table basis column) (pos 0) (run_is_reached rows made table basis r.reached) (λ line lt. ray_line rows made table basis column line r lt)
-
 -- ---- nothing falls below 0
 
 basic_at_least_0 : (rows : Rows) (made : ℕ) (table : List FracRow) (basis : List ℕ) (column : ℕ) → IsRay rows made table basis column → (c : ℕ) → pos 0 ≤ℤ basic_point basis (rise_value rows table column) (length rows.lines) c
@@ -104,16 +57,16 @@ basic_at_least_0 rows made table basis column r c =
     at_place-at_least_0 (basic basis) (rise_value rows table column) (length rows.lines) c
     (λ line lt. product_at_least_0 (neg_ℤ (number_at table line column)) (scale_over table (length rows.lines) line) (opposite_some _ (r.falls line lt)) (above_is_some _ (scale_over_positive rows table basis line r.is)))
 
-ray_at_least_0 : (rows : Rows) (made : ℕ) (table : List FracRow) (basis : List ℕ) (column : ℕ) → IsRay rows made table basis column → (c : ℕ) → pos 0 ≤ℤ ray_point rows table basis column c
-unfolding ray_point
+ray_at_least_0 : (rows : Rows) (made : ℕ) (table : List FracRow) (basis : List ℕ) (column : ℕ) → IsRay rows made table basis column → (c : ℕ) → pos 0 ≤ℤ rise_point rows table basis column c
+unfolding rise_point
 ray_at_least_0 rows made table basis column r c =
     both _ _ (basic_at_least_0 rows made table basis column r c) (where_true-at_least_0 (column == c) (common_scale table (length rows.lines)) (above_is_some _ (scale_positive rows table basis r.is)))
   where
     both : (a b : ℤ) → pos 0 ≤ℤ a → pos 0 ≤ℤ b → pos 0 ≤ℤ (a +ℤ b)
     both a b p q = omega (arith, ints)
 
-ray_rises : (rows : Rows) (made : ℕ) (table : List FracRow) (basis : List ℕ) (column : ℕ) → IsRay rows made table basis column → pos 0 <ℤ ray_point rows table basis column column
-unfolding ray_point
+ray_rises : (rows : Rows) (made : ℕ) (table : List FracRow) (basis : List ℕ) (column : ℕ) → IsRay rows made table basis column → pos 0 <ℤ rise_point rows table basis column column
+unfolding rise_point
 ray_rises rows made table basis column r =
     both _ _ (basic_at_least_0 rows made table basis column r column)
     (subst (λ x. pos 0 <ℤ x) (sym (cond-true (column == column) (common_scale table (length rows.lines)) (pos 0) (eq-eqb column column refl))) (scale_positive rows table basis r.is))
@@ -122,16 +75,16 @@ ray_rises rows made table basis column r =
     both a b p q = omega (arith, ints)
 
 -- ---- the identity columns stay empty, for they could only rise, and the phase row does not
-rest_at_least_0 : (rows : Rows) (made : ℕ) (table : List FracRow) (basis : List ℕ) (column : ℕ) → IsRay rows made table basis column → pos 0 ≤ℤ rest_sum rows (ray_point rows table basis column)
+rest_at_least_0 : (rows : Rows) (made : ℕ) (table : List FracRow) (basis : List ℕ) (column : ℕ) → IsRay rows made table basis column → pos 0 ≤ℤ rest_sum rows (rise_point rows table basis column)
 unfolding rest_sum
 rest_at_least_0 rows made table basis column r =
-    at_least_0 (λ line. ray_point rows table basis column (rows.columns + line)) (length rows.lines) (λ line lt. ray_at_least_0 rows made table basis column r (rows.columns + line))
+    at_least_0 (λ line. rise_point rows table basis column (rows.columns + line)) (length rows.lines) (λ line lt. ray_at_least_0 rows made table basis column r (rows.columns + line))
 
 phase_rise : (rows : Rows) (made : ℕ) (table : List FracRow) (basis : List ℕ) (column : ℕ) → IsRay rows made table basis column
-    → common_scale table (length rows.lines) *ℤ number_at table (phase_row table) column ≡ rest_sum rows (ray_point rows table basis column) *ℤ den_at table (phase_row table)
+    → common_scale table (length rows.lines) *ℤ number_at table (phase_row table) column ≡ rest_sum rows (rise_point rows table basis column) *ℤ den_at table (phase_row table)
 phase_rise rows made table basis column r =
-    sym (ray_below rows made table basis column (phase_row table) r (rw (phase_is r.is.is) (omega arith)) (rw (phase_is r.is.is) (omega arith)))
-    ∙ phase_kept rows table basis (ray_point rows table basis column) (pos 0) (run_is_reached rows made table basis r.reached) (ray_meets rows made table basis column r)
+    sym (rise_below rows table basis column (phase_row table) r.is r.real (rw (phase_is r.is.is) (omega arith)) (rw (phase_is r.is.is) (omega arith)))
+    ∙ phase_kept rows table basis (rise_point rows table basis column) (pos 0) (run_is_reached rows made table basis r.reached) (rise_meets rows table basis column (run_is_reached rows made table basis r.reached) r.real)
 
 phase_den : (rows : Rows) (made : ℕ) (table : List FracRow) (basis : List ℕ) (column : ℕ) → IsRay rows made table basis column → pos 0 <ℤ den_at table (phase_row table)
 phase_den rows made table basis column r = r.is.is.dens (phase_row table) (rw (phase_is r.is.is) (omega arith))
@@ -145,29 +98,29 @@ phase_is_0 rows made table basis column r =
     between : (x : ℤ) → x ≤ℤ pos 0 → pos 0 ≤ℤ x → x ≡ pos 0
     between x p q = omega (arith, ints)
 
-identity_is_0 : (rows : Rows) (made : ℕ) (table : List FracRow) (basis : List ℕ) (column line : ℕ) → IsRay rows made table basis column → line < length rows.lines → ray_point rows table basis column (rows.columns + line) ≡ pos 0
+identity_is_0 : (rows : Rows) (made : ℕ) (table : List FracRow) (basis : List ℕ) (column line : ℕ) → IsRay rows made table basis column → line < length rows.lines → rise_point rows table basis column (rows.columns + line) ≡ pos 0
 unfolding rest_sum
 identity_is_0 rows made table basis column line r lt =
-    each_is_0 (λ l. ray_point rows table basis column (rows.columns + l)) (length rows.lines) line (λ l below. ray_at_least_0 rows made table basis column r (rows.columns + l))
-    (zero_factor (den_at table (phase_row table)) (rest_sum rows (ray_point rows table basis column)) (phase_den rows made table basis column r)
-    (*ℤ_comm (den_at table (phase_row table)) (rest_sum rows (ray_point rows table basis column)) ∙ sym (phase_rise rows made table basis column r)
+    each_is_0 (λ l. rise_point rows table basis column (rows.columns + l)) (length rows.lines) line (λ l below. ray_at_least_0 rows made table basis column r (rows.columns + l))
+    (zero_factor (den_at table (phase_row table)) (rest_sum rows (rise_point rows table basis column)) (phase_den rows made table basis column r)
+    (*ℤ_comm (den_at table (phase_row table)) (rest_sum rows (rise_point rows table basis column)) ∙ sym (phase_rise rows made table basis column r)
     ∙ ap (λ x. common_scale table (length rows.lines) *ℤ x) (phase_is_0 rows made table basis column r) ∙ *ℤ-zero (common_scale table (length rows.lines)))) lt
 
 -- ---- and the cost falls
-cost_falls : (rows : Rows) (made : ℕ) (table : List FracRow) (basis : List ℕ) (column : ℕ) → IsRay rows made table basis column → cost_sum rows (ray_point rows table basis column) <ℤ pos 0
+cost_falls : (rows : Rows) (made : ℕ) (table : List FracRow) (basis : List ℕ) (column : ℕ) → IsRay rows made table basis column → cost_sum rows (rise_point rows table basis column) <ℤ pos 0
 cost_falls rows made table basis column r =
-    factor_below_0 (den_at table (cost_row table)) (cost_sum rows (ray_point rows table basis column)) (r.is.is.dens (cost_row table) (rw (cost_is r.is.is) (omega arith)))
+    factor_below_0 (den_at table (cost_row table)) (cost_sum rows (rise_point rows table basis column)) (r.is.is.dens (cost_row table) (rw (cost_is r.is.is) (omega arith)))
     (subst (λ x. x <ℤ pos 0)
-    (sym (ray_below rows made table basis column (cost_row table) r (rw (cost_is r.is.is) (omega arith)) (rw (cost_is r.is.is) (omega arith)))
-    ∙ cost_kept rows table basis (ray_point rows table basis column) (pos 0) (run_is_reached rows made table basis r.reached) (ray_meets rows made table basis column r)
-    ∙ *ℤ_comm (cost_sum rows (ray_point rows table basis column)) (den_at table (cost_row table)))
+    (sym (rise_below rows table basis column (cost_row table) r.is r.real (rw (cost_is r.is.is) (omega arith)) (rw (cost_is r.is.is) (omega arith)))
+    ∙ cost_kept rows table basis (rise_point rows table basis column) (pos 0) (run_is_reached rows made table basis r.reached) (rise_meets rows table basis column (run_is_reached rows made table basis r.reached) r.real)
+    ∙ *ℤ_comm (cost_sum rows (rise_point rows table basis column)) (den_at table (cost_row table)))
     (product_below_0 (common_scale table (length rows.lines)) (number_at table (cost_row table) column) (scale_positive rows table basis r.is) (r.improves.cost (phase_is_0 rows made table basis column r))))
 
 -- the point in whole numbers of at least 0
 direction : Rows → List FracRow → List ℕ → ℕ → ℕ → ℕ
-direction rows table basis column c = unsigned_abs (ray_point rows table basis column c)
+direction rows table basis column c = unsigned_abs (rise_point rows table basis column c)
 
-same_direction : (rows : Rows) (made : ℕ) (table : List FracRow) (basis : List ℕ) (column : ℕ) → IsRay rows made table basis column → (c : ℕ) → pos (direction rows table basis column c) ≡ ray_point rows table basis column c
+same_direction : (rows : Rows) (made : ℕ) (table : List FracRow) (basis : List ℕ) (column : ℕ) → IsRay rows made table basis column → (c : ℕ) → pos (direction rows table basis column c) ≡ rise_point rows table basis column c
 unfolding direction
 same_direction rows made table basis column r c = size_is _ (ray_at_least_0 rows made table basis column r c)
 
@@ -184,10 +137,10 @@ direction_is rows made table basis column r = record {
 
     each : (line : ℕ) → line < length rows.lines → sum_below_ℤ (λ c. entry rows line c *ℤ pos (direction rows table basis column c)) rows.columns ≡ entry rows line rows.columns *ℤ pos 0
     each line lt =
-        sum_below_ℤ-same _ (λ c. entry rows line c *ℤ ray_point rows table basis column c) rows.columns (λ c real. ap (λ v. entry rows line c *ℤ v) (same_direction rows made table basis column r c))
-        ∙ nothing_added _ _ (identity_is_0 rows made table basis column line r lt) ∙ (ray_meets rows made table basis column r).each line lt
+        sum_below_ℤ-same _ (λ c. entry rows line c *ℤ rise_point rows table basis column c) rows.columns (λ c real. ap (λ v. entry rows line c *ℤ v) (same_direction rows made table basis column r c))
+        ∙ nothing_added _ _ (identity_is_0 rows made table basis column line r lt) ∙ (rise_meets rows table basis column (run_is_reached rows made table basis r.reached) r.real).each line lt
 
-    same_cost : point_cost rows (direction rows table basis column) ≡ cost_sum rows (ray_point rows table basis column)
+    same_cost : point_cost rows (direction rows table basis column) ≡ cost_sum rows (rise_point rows table basis column)
     same_cost = sum_below_ℤ-same _ _ rows.columns (λ c real. ap (λ v. get_or rows.costs c (pos 0) *ℤ v) (same_direction rows made table basis column r c))
 
 pub ray_is_direction : RayIsDirection

@@ -30,6 +30,18 @@ pivot_leaves now columns row column e = by_entering (entering now.table columns)
     by_entering None q = absurd (no_end_pivots (eqb (unsigned_abs (right_side now.table (phase_row now.table))) 0) q)
     by_entering (Some entered) q = by_leaving entered (leaving now.table now.basis entered) refl q
 
+pub pivot_enters : (now : Tableau) (columns row column : ℕ) → turn now columns ≡ Pivot row column → entering now.table columns ≡ Some column
+unfolding turn
+pivot_enters now columns row column e = by_entering (entering now.table columns) refl e
+  where
+    by_leaving : (entered : ℕ) (o : Option ℕ) → turn_at entered o ≡ Pivot row column → entered ≡ column
+    by_leaving entered None q = absurd (no_ray_pivots q)
+    by_leaving entered (Some left) q = cc
+
+    by_entering : (o : Option ℕ) → entering now.table columns ≡ o → turn_by now o ≡ Pivot row column → entering now.table columns ≡ Some column
+    by_entering None p q = absurd (no_end_pivots (eqb (unsigned_abs (right_side now.table (phase_row now.table))) 0) q)
+    by_entering (Some entered) p q = p ∙ ap Some (by_leaving entered (leaving now.table now.basis entered) q)
+
 -- ---- the ends
 -- no column enters, and the right side of the phase row is 0
 pub record EndsBest (now : Tableau) (columns : ℕ) : Type 0 where
@@ -130,7 +142,7 @@ pub record ImprovesNot (p q : ℤ) : Type 0 where
   pub phase : pos 0 ≤ℤ p
   pub cost : p ≡ pos 0 → pos 0 ≤ℤ q
 
-improves_not : (p q : ℤ) → improves p q ≡ false → ImprovesNot p q
+pub improves_not : (p q : ℤ) → improves p q ≡ false → ImprovesNot p q
 unfolding improves
 improves_not p q t =
     let parts = or_parts _ _ t in

@@ -4,3 +4,4 @@ pub mod Ends
 pub mod Laws
 pub mod Duality
 pub mod LastTables
+pub mod Bases

@@ -1,5 +1,6 @@
 //! Laws of the run, each a function whose contract is the law.
 
+ghost use Rattle.simplex_frac.specs.Bases.{NoBasisTwice, PivotsAreFew};
 ghost use Rattle.simplex_frac.specs.Duality.{RunHasTables, RunHasUnitColumns, RunIsReached, RunKeepsRightSides, RunReadsOff};
 ghost use Rattle.simplex_frac.specs.LastTables.{BasicPointMeets, BestTells, NoPointTells, RayIsDirection};
 ghost use Rattle.simplex_frac.specs.Laws.{HasOneOutcome, RunKeepsPoints, RunKeepsShape, RunKeepsSurplus};
@@ -52,6 +53,17 @@ pub fn run_has_unit_columns()
 /// Where no right side of the lines is below 0, none of any table of the run is.
 pub fn run_keeps_right_sides()
     ensures { RunKeepsRightSides }
+{}
+
+/// Where no right side of the lines is below 0, no two tables of the run have the same columns in their bases
+/// (Bland 1977), so the run ends.
+pub fn no_basis_twice()
+    ensures { NoBasisTwice }
+{}
+
+/// There the run has fewer pivots than there are ways to choose a column for each line.
+pub fn pivots_are_few()
+    ensures { PivotsAreFew }
 {}
 
 /// At the best the phase row and, where that is 0, the cost row are below 0 in no real column, and the right

@@ -1,5 +1,6 @@
 ghost use Rattle.std.specs.Prelude.{◌≡◌, length, IfOk, OnErr};
 ghost use Rattle.row_store.specs.Table.{HasColumns};
+ghost use Rattle.simplex_frac.specs.Bases.{IsSpentEarly};
 ghost use Rattle.simplex_frac.specs.Outcomes.{IsOutcome, MayWantMemory};
 ghost use Rattle.simplex_frac.specs.Ends.{IsRefused, end_of};
 
@@ -12,7 +13,8 @@ use std::alloc::Global;
 
 /// Runs the simplex method from a first table of so many real columns, with Bland's rule and at most so
 /// many pivots. Columns of the identity block never enter. The store then holds the table that the run
-/// has reached; after want of memory it is the first table, or one of the run at which a pivot is due that is not
+/// has reached. From right sides of at least 0 no basis comes twice, so a budget as great as the number of bases is
+/// never spent. After want of memory it is the first table, or one of the run at which a pivot is due that is not
 /// outgrown.
 pub fn solve<R: RowStore>(
     alloc: Global,
@@ -22,6 +24,7 @@ pub fn solve<R: RowStore>(
 ) -> Result<Outcome, NoMemory>
     requires { HasColumns (R.content store.old) columns }
     ensures outcome { IfOk result (IsOutcome (R.content store.old) columns pivots (R.content store.new)) }
+    ensures few { IfOk result (IsSpentEarly (R.content store.old) columns) }
     ensures shape { HasColumns (R.content store.new) columns }
     ensures height { length (R.content store.new) ≡ length (R.content store.old) }
     ensures stopped { OnErr result (MayWantMemory (R.content store.old) columns pivots (R.content store.new)) }

@@ -35,3 +35,13 @@ max_below-zero f = refl
 pub max_below-suc : (f : ℕ → ℕ) (n : ℕ) → max_below f (suc n) ≡ max (max_below f n) (f n)
 unfolding max_below
 max_below-suc f n = refl
+
+-- one of them is the maximum
+pub max_below-attained : (f : ℕ → ℕ) (n : ℕ) → 0 < n → (k : ℕ) × (k < n) × (f k ≡ max_below f n)
+unfolding max_below
+max_below-attained f zero some = absurd (omega arith)
+max_below-attained f (suc zero) some = (0, omega arith, omega arith)
+max_below-attained f (suc (suc n)) some = elim (cases_lt (max_below f (suc n)) (f (suc n))) [
+  | inl less ↦ (suc n, omega arith, omega arith)
+  | inr more ↦ let found = max_below-attained f (suc n) (omega arith) in (found.0, omega (arith, found.1), omega (arith, found.2))
+]

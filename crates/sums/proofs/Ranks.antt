@@ -1,11 +1,12 @@
 -- Sets of so many numbers below a bound, each with a number of its own (the combinatorial number system).
-use Rattle.std.proofs.Common.{◌≡◌, ℕ, zero, suc, ◌+◌, ◌*◌, ◌<◌, ◌≤◌, ◌==◌, Bool, true, false, if◌then◌else◌, nat_lt, refl, sym, ◌∙◌, ap, subst, inl, inr, arith}
-use Rattle.std.proofs.lemmas.Bool.{cases_lt, cases_order, eqb-true}
+use Rattle.std.proofs.Common.{◌≡◌, ℕ, zero, suc, ◌+◌, ◌*◌, ◌<◌, ◌≤◌, ◌≢◌, ◌==◌, Bool, true, false, if◌then◌else◌, nat_lt, refl, sym, ◌∙◌, ap, subst, inl, inr, arith}
+use Rattle.std.proofs.lemmas.Bool.{cases_lt, cases_order, eqb-true, eq-eqb, lt-ltb, ltb-true}
 use Rattle.std.proofs.lemmas.Bool.Decides.{nat_tests}
 use Rattle.sums.specs.Below.{sum_below, count_below}
 use Rattle.sums.specs.Ways.{ways_to_choose}
 use Rattle.sums.proofs.Sums.{sum_below-agree, sum_below-swap, sum_below-one, sum_below-ones, sum_below-bound}
-use Rattle.sums.proofs.Counts.{count_below-no_two}
+use Rattle.sums.proofs.Counts.{count_below-no_two, count_below-some, count_below-none, find_below}
+use Rattle.sums.proofs.Tests.{no_both}
 use Rattle.sums.proofs.Ways.{ways_none_chosen, ways_next, ways_more}
 
 -- the number of a set among those of its size
@@ -79,6 +80,21 @@ sets_few set count n size sized apart =
 -- some number's place
 unfoldable pub is_place : (ℕ → ℕ) → ℕ → ℕ → Bool
 is_place place count here = nat_lt 0 (count_below (λ k. place k == here) count)
+
+pub place_found : (place : ℕ → ℕ) (count here : ℕ) → is_place place count here ≡ true → (k : ℕ) × (k < count) × (place k ≡ here)
+unfolding is_place
+place_found place count here e = elim (find_below (λ k. place k == here) count) [
+  | inl found ↦ (found.0, found.1, eqb-true (place found.0) here found.2)
+  | inr none ↦ absurd (omega (arith, ltb-true 0 (count_below (λ k. place k == here) count) e, count_below-none (λ k. place k == here) count none))
+]
+
+pub place_is : (place : ℕ → ℕ) (count here k : ℕ) → k < count → place k ≡ here → is_place place count here ≡ true
+unfolding is_place
+place_is place count here k below e =
+    lt-ltb 0 (count_below (λ j. place j == here) count) (count_below-some (λ j. place j == here) count k below (eq-eqb (place k) here e))
+
+pub no_place : (place : ℕ → ℕ) (count here k : ℕ) → is_place place count here ≡ false → k < count → place k ≢ here
+no_place place count here k e below same = no_both e (place_is place count here k below same)
 
 -- so many different places
 pub count_of_places : (place : ℕ → ℕ) (count bound : ℕ) → ((k : ℕ) → k < count → place k < bound) → ((j k : ℕ) → j < count → k < count → place j ≡ place k → j ≡ k)

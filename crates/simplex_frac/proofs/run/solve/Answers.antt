@@ -1,11 +1,13 @@
-use Rattle.std.proofs.Common.{◌≡◌, arith, refl, sym, ◌∙◌, ap, inl}
+use Rattle.std.proofs.Common.{◌≡◌, arith, refl, sym, ◌∙◌, ap, subst, inl}
 use Rattle.std.specs.Prelude.{length, None}
 use Rattle.sums.proofs.Places.{length-list_below}
 use Rattle.row_store.specs.Table.{IsTable}
 use Rattle.row_store.specs.Pivot.{pivot_growth}
+use Rattle.simplex_frac.specs.Outcomes.{Reaches}
 use Rattle.simplex_frac.specs.Run.{turn}
 use Rattle.row_store.proofs.Tables.{length-pivoted}
 use Rattle.simplex_frac.proofs.Turns.{IsPivotPlace, pivot_place}
+use Rattle.simplex_frac.proofs.NoBasisTwice.{spent_early}
 use Rattle.simplex_frac.proofs.Stages.{reaches_first, reaches_next, columns_next, lines_next}
 use Rattle.simplex_frac.proofs.run.solve.Goals as goal
 
@@ -51,3 +53,9 @@ loop-made-preserved g c =
       height = ap length c.in-Ok-pivot.ensures.pivoted ∙ length-pivoted (g.R.RowStore.content c.loop-made.store) c.in-Pivot.row c.in-Pivot.column ∙ c.loop-made.invariant.height;
       lines = lines_next (g.R.RowStore.content c.loop-made.store) _ c.loop-made.basis.items c.in-Pivot.row c.in-Pivot.column c.loop-made.invariant.lines c.in-Ok-pivot.ensures.pivoted;
     }
+
+pub returns-clause-few : goal.returns-clause-few
+returns-clause-few g c =
+    let all : c.loop-made.made ≡ c.args.pivots = omega arith in
+    spent_early (g.R.RowStore.content c.args.store.now) c.args.columns c.args.pivots (g.R.RowStore.content c.loop-made.store) c.loop-made.basis.items _ _ _
+    (subst (λ k. Reaches (g.R.RowStore.content c.args.store.now) c.args.columns k (g.R.RowStore.content c.loop-made.store) c.loop-made.basis.items) all c.loop-made.invariant.reaches) c.end-2.ensures
