@@ -14,3 +14,6 @@ pub mod OnePivot
 pub mod Pairs
 pub mod Cycles
 pub mod NoBasisTwice
+pub mod PivotsLeft
+pub mod BasisCounts
+pub mod UnboundedRuns

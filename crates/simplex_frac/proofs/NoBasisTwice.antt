@@ -187,7 +187,7 @@ pub pivots_are_few : PivotsAreFew
 pivots_are_few rows made table basis h sides = let enough : suc made ≤ bases_of rows.columns (length rows.lines) = few rows made (record { table = table; basis = basis }) h.problem sides h.reaches.reached in omega arith
 
 -- ---- the outcome at a table that the run has reached
-reached_is_few : (rows : Rows) (first : List FracRow) (columns made : ℕ) (table : List FracRow) (basis : List ℕ) → IsStartedBy rows first columns → Reaches first columns made table basis → made < bases_of columns (length rows.lines)
+pub reached_is_few : (rows : Rows) (first : List FracRow) (columns made : ℕ) (table : List FracRow) (basis : List ℕ) → IsStartedBy rows first columns → Reaches first columns made table basis → made < bases_of columns (length rows.lines)
 reached_is_few rows first columns made table basis h r =
     subst (λ n. made < bases_of n (length rows.lines)) h.columns_in
     (pivots_are_few rows made table basis (record { problem = h.problem; reaches = record { reached = back } }) h.right_sides)

@@ -5,3 +5,4 @@ pub mod Laws
 pub mod Duality
 pub mod LastTables
 pub mod Bases
+pub mod Finished

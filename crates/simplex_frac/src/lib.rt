@@ -1,10 +1,14 @@
 //! The simplex method in exact fractions, with Bland's rule, over any store of tables.
 #![tactic(auto)]
 
+pub mod basis_count;
+pub mod finishing;
 pub mod laws;
 pub mod outcome;
 pub mod run;
 pub mod turn;
 
-pub use outcome::Outcome;
+pub use basis_count::bases;
+pub use finishing::finish;
+pub use outcome::{End, Outcome};
 pub use run::solve;
