@@ -17,3 +17,4 @@ pub mod NoBasisTwice
 pub mod PivotsLeft
 pub mod BasisCounts
 pub mod UnboundedRuns
+pub mod OneEnd

@@ -19,10 +19,10 @@ use Rattle.simplex_frac.specs.declared.outcome.Outcome.TheVariants as outcomes
 use Rattle.simplex_frac.proofs.RunLaws.{IsStep, stage_step}
 
 -- the run goes no further: there is no next tableau, or the budget is spent
-record EndsAt (first : List FracRow) (columns budget pivots : ℕ) (now : Tableau) : Type 0 where
-  reached : stage first columns pivots ≡ Some now
-  within : pivots ≤ budget
-  last : (next_tableau columns now ≡ None) ⊎ (pivots ≡ budget)
+pub record EndsAt (first : List FracRow) (columns budget pivots : ℕ) (now : Tableau) : Type 0 where
+  pub reached : stage first columns pivots ≡ Some now
+  pub within : pivots ≤ budget
+  pub last : (next_tableau columns now ≡ None) ⊎ (pivots ≡ budget)
 
 -- a stage comes after all before it
 pub reached_before : (first : List FracRow) (columns early late : ℕ) (now : Tableau) → early ≤ late → stage first columns late ≡ Some now → (before : Tableau) × (stage first columns early ≡ Some before)
@@ -46,7 +46,7 @@ not_later first columns budget early late one other h k lt =
     beyond : (before : Tableau) × (stage first columns (suc early) ≡ Some before) → next_tableau columns one ≡ None → ⊥
     beyond (before, e) none = none_some (sym none ∙ ap (option_and_then (next_tableau columns)) (sym h.reached) ∙ e)
 
-same_end : (first : List FracRow) (columns budget early late : ℕ) (one other : Tableau) → EndsAt first columns budget early one → EndsAt first columns budget late other → (early ≡ late) × (one ≡ other)
+pub same_end : (first : List FracRow) (columns budget early late : ℕ) (one other : Tableau) → EndsAt first columns budget early one → EndsAt first columns budget late other → (early ≡ late) × (one ≡ other)
 same_end first columns budget early late one other h k =
     elim (cases_lt early late) [
       | inl lt ↦ absurd (not_later first columns budget early late one other h k lt)

@@ -2,6 +2,7 @@
 
 ghost use Rattle.simplex_frac.specs.Bases.{NoBasisTwice, PivotsAreFew};
 ghost use Rattle.simplex_frac.specs.Duality.{RunHasTables, RunHasUnitColumns, RunIsReached, RunKeepsRightSides, RunReadsOff};
+ghost use Rattle.simplex_frac.specs.Finished.{HasOneEnd};
 ghost use Rattle.simplex_frac.specs.LastTables.{BasicPointMeets, BestTells, NoPointTells, RayIsDirection};
 ghost use Rattle.simplex_frac.specs.Laws.{HasOneOutcome, RunKeepsPoints, RunKeepsShape, RunKeepsSurplus};
 
@@ -30,6 +31,11 @@ pub fn run_keeps_shape()
 /// A run within a budget has one outcome, so that `solve` answers each one exactly where its cause holds.
 pub fn has_one_outcome()
     ensures { HasOneOutcome }
+{}
+
+/// A run without a budget has one end, so that `finish` answers each one exactly where its cause holds.
+pub fn has_one_end()
+    ensures { HasOneEnd }
 {}
 
 /// Each table of the run of a problem has a row for each line and two more, a column for each real one and
