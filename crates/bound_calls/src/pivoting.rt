@@ -16,11 +16,11 @@ struct Run {
     lines: &'static [&'static [i128]],
     costs: &'static [i128],
     pivots: u64,
-    end: End,
+    end: Told,
 }
 
 /// The end of a run: its kind, the basis, how many pivots were made, and a row and a column.
-type End = (&'static str, &'static [u32], u64, u32, u32);
+pub type Told = (&'static str, &'static [u32], u64, u32, u32);
 
 const LARGE: i128 = 1 << 126;
 
@@ -67,20 +67,21 @@ const RUNS: &[Run] = &[
     },
 ];
 
-fn rows(alloc: Global, run: &Run) -> Result<Rows, Fail> {
+/// Lines of such numbers, with their costs.
+pub fn rows_of(alloc: Global, numbers: &[&'static [i128]], costs: &[i128]) -> Result<Rows, Fail> {
     let mut lines = Vec::new(alloc);
-    for line in run.lines {
+    for line in numbers {
         lines.push(Line::from_vec(Vec::from_slice(alloc, line)?))?;
     }
     Ok(Rows {
-        columns: run.costs.len().try_into()?,
+        columns: costs.len().try_into()?,
         lines: Entries::from_vec(lines),
-        costs: Entries::from_vec(Vec::from_slice(alloc, run.costs)?),
+        costs: Entries::from_vec(Vec::from_slice(alloc, costs)?),
     })
 }
 
 /// The end of a run, with its numbers in their order.
-fn told(outcome: &Outcome) -> (&'static str, &[u32], u64, u32, u32) {
+pub fn told(outcome: &Outcome) -> (&'static str, &[u32], u64, u32, u32) {
     match outcome {
         Outcome::Best { basis, made } => ("best", basis.as_slice(), *made, 0, 0),
         Outcome::NoPoint { basis, made } => ("no point", basis.as_slice(), *made, 0, 0),
@@ -109,7 +110,7 @@ fn outcome_over<R: RowStore + Drop>(
 #[test]
 fn runs_and_their_ends(rt: HostRuntime) -> Result<(), Fail> {
     for run in RUNS {
-        let rows = rows(rt.alloc(), run)?;
+        let rows = rows_of(rt.alloc(), run.lines, run.costs)?;
         assert!(rt; is_problem(&rows));
         let dense = outcome_over::<Dense>(rt.alloc(), &rows, run.pivots)?;
         let sparse = outcome_over::<Sparse>(rt.alloc(), &rows, run.pivots)?;

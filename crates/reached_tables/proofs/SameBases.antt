@@ -4,8 +4,7 @@ use Rattle.std.proofs.Common.{◌≡◌, ℕ, ◌+◌, ◌<◌, ◌≤◌, lengt
 use Rattle.std.specs.Prelude.{neg_ℤ}
 use Rattle.std.proofs.lemmas.Int.{ints}
 use lib.IntN.{*ℤ_comm, zero-*ℤ}
-use Rattle.sums.specs.Below.{sum_below_ℤ}
-use Rattle.sums.proofs.Integers.{*ℤ_assoc, *ℤ_left_comm, *ℤ_cancel, neg_ℤ-*ℤ}
+use Rattle.sums.proofs.Integers.{*ℤ_assoc, *ℤ_cancel, neg_ℤ-*ℤ}
 use Rattle.sums.proofs.WholeSums.{sum_below_ℤ-same}
 use Rattle.sums.proofs.WholeSwaps.{sum_below_ℤ-zero}
 use Rattle.sums.proofs.WholeTerms.{over_each}
@@ -15,7 +14,6 @@ use Rattle.frac_row.specs.declared.row.FracRow.{FracRow}
 use Rattle.row_store.specs.declared.problem.Rows.{Rows}
 use Rattle.row_store.specs.Table.{row_at, number_at}
 use Rattle.row_store.specs.Points.{surplus}
-use Rattle.row_store.specs.Problem.{first_table}
 use Rattle.reached_tables.specs.Duality.{den_at, IsReachedBySteps}
 use Rattle.reached_tables.proofs.FirstPoints.{MeetsFirst}
 use Rattle.reached_tables.proofs.ReachedPoints.{point_of_first, kept}

@@ -2,9 +2,8 @@
 use Rattle.std.proofs.Common.{◌≡◌, ℕ, zero, suc, ◌<◌, ◌≤◌, Bool, true, false, cond, ◌&&◌, nat_lt, get_or, ℤ, pos, ◌*ℤ◌, ◌<ℤ◌, ◌≤ℤ◌, List, Option, Some, None, option_map, int_cmp, refl, sym, ◌∙◌, ap, subst, inl, inr, arith}
 use Rattle.std.proofs.lemmas.Int.{ints}
 use Rattle.std.proofs.lemmas.Bool.{cases_lt, ltb-true, ltb-false}
-use lib.IntN.{zero-*ℤ, *ℤ_comm}
+use lib.IntN.{zero-*ℤ}
 use Rattle.sums.proofs.Naturals.{none_below_0}
-use Rattle.sums.proofs.Signs.{product_below_0}
 use Rattle.sums.proofs.Integers.{positive_product}
 use Rattle.sums.proofs.Tests.{none_some}
 use Rattle.frac_row.specs.declared.row.FracRow.{FracRow}

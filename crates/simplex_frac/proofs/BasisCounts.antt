@@ -1,9 +1,8 @@
 -- The count of bases, one column more after another.
-use Rattle.std.proofs.Common.{◌≡◌, ℕ, ◌+◌, ◌-◌, ◌*◌, ◌/◌, ◌%◌, ◌^◌, ◌<◌, ◌≤◌, Option, Some, None, MatchOption, max, min, refl, sym, ◌∙◌, ap, subst, inl, inr, arith}
+use Rattle.std.proofs.Common.{◌≡◌, ℕ, ◌+◌, ◌-◌, ◌*◌, ◌/◌, ◌%◌, ◌^◌, ◌<◌, ◌≤◌, Option, Some, None, MatchOption, max, min, refl, ◌∙◌, ap, inl, inr, arith}
 use Rattle.std.proofs.lemmas.Bool.{cases_lt}
 use Rattle.sums.specs.Ways.{ways_to_choose}
 use Rattle.sums.proofs.Ways.{ways_step, ways_rise, ways_of_lesser}
-use Rattle.sums.proofs.Naturals.{plus_0}
 
 -- one more, by the quotient and the rest
 pub step_by : (others chosen count d o : ℕ) → d ≡ chosen → o ≡ others → count ≡ ways_to_choose (others + chosen) chosen

@@ -8,7 +8,7 @@ use Rattle.sums.proofs.Integers.{zero_factor, *ℤ-neg_ℤ}
 use Rattle.sums.proofs.Signs.{product_at_least_0, factor_at_least_0}
 use Rattle.sums.proofs.WholeSwaps.{where_true}
 use Rattle.sums.proofs.WholeTerms.{at_least_0, each_is_0, at_place, at_place-at_least_0, where_true-at_least_0}
-use Rattle.sums.proofs.Sizes.{above_is_some, no_difference}
+use Rattle.sums.proofs.Sizes.{above_is_some}
 use Rattle.frac_row.specs.declared.row.FracRow.{FracRow}
 use Rattle.row_store.specs.declared.problem.Rows.{Rows}
 use Rattle.row_store.specs.Table.{number_at, phase_row, right_side}

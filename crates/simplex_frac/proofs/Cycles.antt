@@ -1,19 +1,18 @@
 -- Pivots that come back to the same basic columns: there are none, by the greatest column that enters among them.
-use Rattle.std.proofs.Common.{◌≡◌, ◌≢◌, ℕ, zero, suc, ◌+◌, ◌<◌, ◌≤◌, Bool, true, false, length, List, get_or, ℤ, pos, ◌-ℤ◌, ◌*ℤ◌, ◌<ℤ◌, ◌≤ℤ◌, refl, sym, ◌∙◌, ap, subst, inl, inr, arith, get_or-set_same, get_or-set_other}
+use Rattle.std.proofs.Common.{◌≡◌, ◌≢◌, ℕ, zero, suc, ◌+◌, ◌<◌, ◌≤◌, Bool, true, false, length, ℤ, pos, ◌-ℤ◌, ◌*ℤ◌, ◌<ℤ◌, ◌≤ℤ◌, refl, sym, ◌∙◌, ap, subst, inl, inr, arith, get_or-set_same, get_or-set_other}
 use Rattle.std.specs.Prelude.{neg_ℤ}
 use Rattle.std.proofs.lemmas.Int.{ints, by_lt_z}
 use Rattle.std.proofs.lemmas.Bool.{cases_eq, cases_lt}
-use lib.IntN.{*ℤ_comm, *ℤ-zero, zero-*ℤ}
+use lib.IntN.{*ℤ_comm, *ℤ-zero}
 use Rattle.sums.specs.Below.{sum_below_ℤ, max_below}
-use Rattle.sums.proofs.Integers.{*ℤ_assoc, *ℤ_left_comm, *ℤ_cancel, neg_ℤ-*ℤ, *ℤ-neg_ℤ, zero_factor}
+use Rattle.sums.proofs.Integers.{*ℤ_assoc}
 use Rattle.sums.proofs.Maxima.{max_below-upper, max_below-attained}
 use Rattle.sums.proofs.Naturals.{zero_at_most, past_is_other}
 use Rattle.sums.proofs.Products.{product_below, product_beside, product_positive, beside_times}
 use Rattle.sums.proofs.Ranks.{is_place, place_found, place_is, no_place}
-use Rattle.sums.proofs.Signs.{product_at_least_0, product_below_0, factor_at_least_0, factor_below_0}
-use Rattle.sums.proofs.Sizes.{above_is_some, opposite_some, opposite_above}
+use Rattle.sums.proofs.Signs.{product_at_least_0, product_below_0}
+use Rattle.sums.proofs.Sizes.{above_is_some, opposite_some}
 use Rattle.sums.proofs.Tests.{by_test, no_both, never_passes}
-use Rattle.sums.proofs.WholeTerms.{at_least_0, each_is_0}
 use Rattle.row_store.specs.declared.problem.Rows.{Rows}
 use Rattle.row_store.specs.Table.{row_at, number_at}
 use Rattle.row_store.specs.Points.{surplus}
@@ -215,9 +214,9 @@ module _ (rows : Rows) (now : ℕ → Tableau) (row column : ℕ → ℕ) (pivot
   term : (l k c : ℕ) → IsGreatest now row column pivots l k
       → ImprovesNot (number_at (now l).table (length rows.lines) c *ℤ rise_point rows (now k).table (now k).basis (column k) c) (number_at (now l).table (length rows.lines + 1) c *ℤ rise_point rows (now k).table (now k).basis (column k) c)
   term l k c g = by_test (is_basic rows (now l) c) at_basic (λ off. elim (cases_eq (column k) c) [
-        | inl same_column ↦ at_entering same_column
-        | inr other ↦ by_test (is_basic rows (now k) c) (λ on. at_line off other on (place_found (basic (now k).basis) (length rows.lines) c on)) (λ none. at_neither other none)
-      ])
+    | inl same_column ↦ at_entering same_column
+    | inr other ↦ by_test (is_basic rows (now k) c) (λ on. at_line off other on (place_found (basic (now k).basis) (length rows.lines) c on)) (λ none. at_neither other none)
+  ])
     where
       t : IsBasicTable rows (now k).table (now k).basis
       t = basic_table rows (now k).table (now k).basis (each k g.leaves_in).reached
@@ -343,8 +342,8 @@ module _ (rows : Rows) (now : ℕ → Tableau) (row column : ℕ → ℕ) (pivot
         where
           of_leaving : (k : ℕ) × (k < pivots) × (basic (now k).basis (row k) ≡ column l) → ⊥
           of_leaving (k, k_in, leaves) = impossible l k (record {
-                enters_in = l_in;
-                leaves_in = k_in;
-                most = λ i i_in. subst (λ m. column i ≤ m) (sym is) (max_below-upper column pivots i i_in);
-                is = leaves;
-              })
+            enters_in = l_in;
+            leaves_in = k_in;
+            most = λ i i_in. subst (λ m. column i ≤ m) (sym is) (max_below-upper column pivots i i_in);
+            is = leaves;
+          })

@@ -1,16 +1,14 @@
 -- No basis comes twice in a run from right sides of at least 0, so it has no more tables than there are bases.
-use Rattle.std.proofs.Common.{◌≡◌, ℕ, zero, suc, ◌+◌, ◌-◌, ◌<◌, ◌≤◌, Bool, true, false, length, List, get_or, Option, Some, ℤ, pos, ◌≤ℤ◌, refl, sym, ◌∙◌, ap, subst, inl, inr, arith}
+use Rattle.std.proofs.Common.{◌≡◌, ℕ, suc, ◌+◌, ◌-◌, ◌<◌, ◌≤◌, true, length, List, Some, ℤ, pos, ◌≤ℤ◌, sym, ◌∙◌, ap, subst, inl, inr, arith}
 use Rattle.std.specs.Prelude.{Contains, unwrap_or}
 use Rattle.std.proofs.lemmas.Bool.{cases_lt}
 use Rattle.std.proofs.lemmas.List.{get_or_default}
-use Rattle.sums.specs.Below.{count_below}
-use Rattle.sums.specs.Ways.{ways_to_choose}
 use Rattle.sums.proofs.Naturals.{plus_0, plus_suc}
 use Rattle.sums.proofs.Ranks.{is_place, place_found, place_is, count_of_places, sets_few}
 use Rattle.sums.proofs.Tests.{some_is, same_tests, never_passes}
 use Rattle.frac_row.specs.declared.row.FracRow.{FracRow}
 use Rattle.row_store.specs.declared.problem.Rows.{Rows}
-use Rattle.row_store.specs.Table.{number_at, right_side, phase_row, cost_row}
+use Rattle.row_store.specs.Table.{number_at, phase_row, cost_row}
 use Rattle.row_store.specs.Choice.{entering}
 use Rattle.row_store.specs.Problem.{IsProblem, first_table}
 use Rattle.row_store.proofs.Choices.{before_entering}
@@ -19,8 +17,8 @@ use Rattle.reached_tables.specs.Tableaux.{Tableau, first_tableau}
 use Rattle.reached_tables.specs.Duality.{IsReachedBySteps, IsTableOf}
 use Rattle.reached_tables.proofs.BasicSums.{IsBasicTable, basic_table, basic, basic_apart}
 use Rattle.reached_tables.proofs.ReachedPoints.{has_tables, phase_is, cost_is, last_is}
-use Rattle.simplex_frac.specs.Bases.{HaveSameColumns, NoBasisTwice, PivotsAreFew, IsStartedBy, IsSpentEarly, bases_of}
-use Rattle.simplex_frac.specs.Duality.{IsReached, AreRightSidesAtLeast0}
+use Rattle.simplex_frac.specs.Bases.{NoBasisTwice, PivotsAreFew, IsStartedBy, IsSpentEarly, bases_of}
+use Rattle.simplex_frac.specs.Duality.{AreRightSidesAtLeast0}
 use Rattle.simplex_frac.specs.Ends.{end_of}
 use Rattle.simplex_frac.specs.Outcomes.{Reaches}
 use Rattle.simplex_frac.specs.Run.{turn, stage}
@@ -177,11 +175,11 @@ few : (rows : Rows) (made : ℕ) (last : Tableau) → IsProblem rows → AreRigh
 few rows made last p sides e =
     sets_few (λ k. is_basic rows (now_at rows k)) (suc made) (rows.columns + length rows.lines) (length rows.lines)
     (λ k below. let t : IsBasicTable rows (now_at rows k).table (now_at rows k).basis = basic_of rows made last p e k (omega arith) in
-        count_of_places (basic (now_at rows k).basis) (length rows.lines) (rows.columns + length rows.lines) t.units.within
-        (λ j i lt less same. basic_apart rows (now_at rows k).table (now_at rows k).basis j i t lt less same))
+    count_of_places (basic (now_at rows k).basis) (length rows.lines) (rows.columns + length rows.lines) t.units.within
+    (λ j i lt less same. basic_apart rows (now_at rows k).table (now_at rows k).basis j i t lt less same))
     (λ early late order below same.
-        never_twice rows early late (now_at rows late) p sides order (stage_now rows made last e late (omega arith))
-        (all_alike rows (now_at rows early) (now_at rows late) (basic_of rows made last p e early (omega arith)) (basic_of rows made last p e late (omega arith)) same))
+    never_twice rows early late (now_at rows late) p sides order (stage_now rows made last e late (omega arith))
+    (all_alike rows (now_at rows early) (now_at rows late) (basic_of rows made last p e early (omega arith)) (basic_of rows made last p e late (omega arith)) same))
 
 pub pivots_are_few : PivotsAreFew
 pivots_are_few rows made table basis h sides = let enough : suc made ≤ bases_of rows.columns (length rows.lines) = few rows made (record { table = table; basis = basis }) h.problem sides h.reaches.reached in omega arith

@@ -1,5 +1,5 @@
 -- A run without a budget has one end.
-use Rattle.std.proofs.Common.{◌≡◌, ℕ, ◌+◌, ◌≤◌, List, Option, Some, None, inl, refl, sym, ◌∙◌, ap, arith}
+use Rattle.std.proofs.Common.{◌≡◌, ℕ, ◌+◌, List, Option, Some, None, inl, refl, sym, ◌∙◌, ap, arith}
 use Rattle.frac_row.specs.declared.row.FracRow.{FracRow}
 use Rattle.row_store.specs.declared.error.Place.{Place}
 use Rattle.row_store.specs.Pivot.{pivot_growth}
@@ -11,7 +11,7 @@ use Rattle.simplex_frac.specs.declared.turn.Turn.{Turn}
 use Rattle.simplex_frac.specs.declared.turn.Turn.TheVariants as turns
 use Rattle.simplex_frac.specs.declared.outcome.End.{End}
 use Rattle.simplex_frac.specs.declared.outcome.End.TheVariants as ends
-use Rattle.simplex_frac.proofs.OneOutcome.{EndsAt, same_end}
+use Rattle.simplex_frac.proofs.OneOutcome.{same_end}
 
 -- the end at a tableau; nothing is asked of a pivot that is made
 by_growth : ℕ → Option Place → End
@@ -58,7 +58,7 @@ has_one_end first columns table other_table end other h k =
     let a : IsLast first columns table end = is_last first columns table end h in
     let b : IsLast first columns other_table other = is_last first columns other_table other k in
     let same : (a.pivots ≡ b.pivots) × (a.now ≡ b.now) = same_end first columns (a.pivots + b.pivots) a.pivots b.pivots a.now b.now
-        (record { reached = a.reached; within = omega arith; last = inl a.last }) (record { reached = b.reached; within = omega arith; last = inl b.last }) in (
+    (record { reached = a.reached; within = omega arith; last = inl a.last }) (record { reached = b.reached; within = omega arith; last = inl b.last }) in (
       a.is_end ∙ ap (λ n. by_turn n a.now (turn a.now columns)) same.0 ∙ ap (λ t. by_turn b.pivots t (turn t columns)) same.1 ∙ sym b.is_end,
       a.same_table ∙ ap (λ t. t.table) same.1 ∙ sym b.same_table,
     )

@@ -1,20 +1,18 @@
 -- At a ray there is a direction in which the cost falls.
-use Rattle.std.proofs.Common.{◌≡◌, ℕ, ◌+◌, ◌<◌, ◌≤◌, ◌==◌, length, get_or, List, unsigned_abs, ℤ, pos, ◌+ℤ◌, ◌-ℤ◌, ◌*ℤ◌, ◌<ℤ◌, ◌≤ℤ◌, refl, sym, ◌∙◌, ap, subst, arith}
+use Rattle.std.proofs.Common.{◌≡◌, ℕ, ◌+◌, ◌<◌, ◌==◌, length, get_or, List, unsigned_abs, ℤ, pos, ◌+ℤ◌, ◌*ℤ◌, ◌<ℤ◌, ◌≤ℤ◌, refl, sym, ◌∙◌, ap, subst, arith}
 use Rattle.std.specs.Prelude.{neg_ℤ}
 use Rattle.std.proofs.lemmas.Int.{ints}
 use Rattle.std.proofs.lemmas.Bool.{eq-eqb, cond-true}
 use lib.IntN.{*ℤ_comm, *ℤ-zero}
 use Rattle.sums.specs.Below.{sum_below_ℤ}
-use Rattle.sums.proofs.Integers.{*ℤ-+ℤ, neg_ℤ-*ℤ, zero_factor}
+use Rattle.sums.proofs.Integers.{zero_factor}
 use Rattle.sums.proofs.Signs.{product_at_least_0, product_below_0, factor_at_least_0, factor_below_0}
 use Rattle.sums.proofs.WholeSums.{sum_below_ℤ-same}
-use Rattle.sums.proofs.WholeSwaps.{where_true, sum_below_ℤ-one, sum_below_ℤ-+ℤ}
-use Rattle.sums.proofs.WholeTerms.{*ℤ-where_true, where_true-at_least_0, at_least_0, each_is_0, at_place-at_least_0}
+use Rattle.sums.proofs.WholeTerms.{where_true-at_least_0, at_least_0, each_is_0, at_place-at_least_0}
 use Rattle.sums.proofs.Sizes.{above_is_some, nothing_added, opposite_some, size_is}
 use Rattle.frac_row.specs.declared.row.FracRow.{FracRow}
 use Rattle.row_store.specs.declared.problem.Rows.{Rows}
-use Rattle.row_store.specs.Table.{row_at, number_at, phase_row, cost_row}
-use Rattle.row_store.specs.Points.{surplus}
+use Rattle.row_store.specs.Table.{number_at, phase_row, cost_row}
 use Rattle.row_store.specs.Problem.{entry, point_cost}
 use Rattle.row_store.proofs.Choices.{entering_is}
 use Rattle.row_store.proofs.LeastRatio.{none_leaves}

@@ -1,22 +1,20 @@
 -- A run without a budget, pivot by pivot.
-use Rattle.std.proofs.Common.{◌≡◌, ℕ, suc, ◌+◌, ◌-◌, ◌^◌, ◌<◌, ◌≤◌, min, List, length, set, Option, Some, None, Ok, Err, Result, inr, refl, sym, ◌∙◌, ap, subst, arith}
-use Rattle.std.specs.Prelude.{option_and_then, OnErr}
+use Rattle.std.proofs.Common.{◌≡◌, ℕ, ◌+◌, ◌-◌, ◌^◌, ◌<◌, min, List, set, Some, None, Ok, Err, Result, inr, sym, ◌∙◌, ap, subst, arith}
+use Rattle.std.specs.Prelude.{OnErr}
 use Rattle.entries.specs.declared.memory.NoMemory.{NoMemory}
 use Rattle.frac_row.specs.declared.row.FracRow.{FracRow}
 use Rattle.row_store.specs.PivotAnswers.{IsPivotError}
 use Rattle.row_store.specs.declared.error.PivotError.{PivotError}
 use Rattle.row_store.specs.declared.error.PivotError.TheVariants as refusals
-use Rattle.row_store.specs.declared.problem.Rows.{Rows}
 use Rattle.row_store.specs.Table.{HasColumns, height_of}
 use Rattle.row_store.specs.Pivot.{pivoted, pivot_growth}
-use Rattle.row_store.specs.Problem.{first_table}
 use Rattle.row_store.proofs.FirstTables.{first_has_columns}
 use Rattle.reached_tables.specs.Tableaux.{Tableau}
 use Rattle.reached_tables.proofs.ReachedPoints.{first_height}
-use Rattle.simplex_frac.specs.Bases.{IsStartedBy, bases_of}
+use Rattle.simplex_frac.specs.Bases.{bases_of}
 use Rattle.simplex_frac.specs.Finished.{IsStarted, IsCutOff, WantsMemory, counted}
-use Rattle.simplex_frac.specs.Outcomes.{Reaches, TurnsAt, IsAtPivot}
-use Rattle.simplex_frac.specs.Run.{turn, after_turn, unless_outgrown, next_tableau, stage}
+use Rattle.simplex_frac.specs.Outcomes.{Reaches, TurnsAt}
+use Rattle.simplex_frac.specs.Run.{turn, after_turn, unless_outgrown, next_tableau}
 use Rattle.simplex_frac.specs.declared.outcome.End.{End}
 use Rattle.simplex_frac.specs.declared.turn.Turn.TheVariants.{Pivot}
 use Rattle.simplex_frac.proofs.NoBasisTwice.{reached_is_few}
@@ -66,15 +64,18 @@ measure_falls first columns made table after basis row column (rows, s) h t none
 pub stopped_at : (first : List FracRow) (columns made count : ℕ) (table after : List FracRow) (basis : List ℕ) (row column : ℕ) (error : PivotError) (result : Result End NoMemory) → HasMade first columns made table basis
     → Pivot row column ≡ turn (record { table = table; basis = basis }) columns → IsPivotError table row column error → after ≡ table → IsCutOff error count result → OnErr result (WantsMemory first columns after)
 stopped_at first columns made count table after basis row column (refusals.Grew place_row place_column) result h t grew e cut = subst (λ r. OnErr r (WantsMemory first columns after)) (sym cut) tt
-stopped_at first columns made count table after basis row column refusals.NoMemory result h t none e cut = on_err result (h.pivots + 1, inr (record {
-      made = h.pivots;
-      basis = basis;
-      row = row;
-      column = column;
-      within = omega arith;
-      turns = subst (λ x. TurnsAt first columns h.pivots x basis (Pivot row column)) (sym e) (record { reaches = h.reaches; turns = sym t });
-      fits = subst (λ x. pivot_growth x row column ≡ None) (sym e) none;
-    }))
+stopped_at first columns made count table after basis row column refusals.NoMemory result h t none e cut = on_err result (
+  h.pivots + 1,
+  inr (record {
+    made = h.pivots;
+    basis = basis;
+    row = row;
+    column = column;
+    within = omega arith;
+    turns = subst (λ x. TurnsAt first columns h.pivots x basis (Pivot row column)) (sym e) (record { reaches = h.reaches; turns = sym t });
+    fits = subst (λ x. pivot_growth x row column ≡ None) (sym e) none;
+  }),
+)
   where
     on_err : (r : Result End NoMemory) → WantsMemory first columns after → OnErr r (WantsMemory first columns after)
     on_err (Ok x) w = tt

@@ -23,10 +23,8 @@ pub fn bases(lines: u32, columns: u32) -> Option<u128>
 /// that nothing past the result is computed.
 fn one_more(count: u128, others: u32, chosen: u32) -> Option<u128>
     requires { count ≡ ways_to_choose (others + chosen) chosen }
-    ensures {
-        MatchOption result (2 ^ 127 - 1 < ways_to_choose (others + chosen + 1) (chosen + 1))
-        (λ more. (more ≡ ways_to_choose (others + chosen + 1) (chosen + 1)) × (more ≤ 2 ^ 127 - 1))
-    }
+    ensures { MatchOption result (2 ^ 127 - 1 < ways_to_choose (others + chosen + 1) (chosen + 1))
+        (λ more. (more ≡ ways_to_choose (others + chosen + 1) (chosen + 1)) × (more ≤ 2 ^ 127 - 1)) }
 {
     let divisor = u128::from(chosen) + 1;
     let factor = u128::from(others) + divisor;

@@ -2,6 +2,7 @@
 #![tactic(auto)]
 
 pub mod basis_count;
+pub mod checks;
 pub mod finishing;
 pub mod laws;
 pub mod outcome;
@@ -9,6 +10,7 @@ pub mod run;
 pub mod turn;
 
 pub use basis_count::bases;
+pub use checks::are_right_sides_at_least_0;
 pub use finishing::finish;
 pub use outcome::{End, Outcome};
 pub use run::solve;

@@ -102,8 +102,10 @@ pub count_of_places : (place : ℕ → ℕ) (count bound : ℕ) → ((k : ℕ) �
 unfolding is_place
 count_of_places place count bound within apart =
     sum_below-agree (λ here. if nat_lt 0 (count_below (λ k. place k == here) count) then 1 else 0) (λ here. count_below (λ k. place k == here) count) bound
-    (record { each = λ here below. as_test (count_below (λ k. place k == here) count)
-    (count_below-no_two (λ k. place k == here) count (λ j k lt less p q. apart j k lt less (eqb-true (place j) here p ∙ sym (eqb-true (place k) here q)))) })
+    (record {
+      each = λ here below. as_test (count_below (λ k. place k == here) count)
+          (count_below-no_two (λ k. place k == here) count (λ j k lt less p q. apart j k lt less (eqb-true (place j) here p ∙ sym (eqb-true (place k) here q))));
+    })
     ∙ sym (sum_below-swap (λ k here. if place k == here then 1 else 0) bound count)
     ∙ sum_below-agree (λ k. sum_below (λ here. if place k == here then 1 else 0) bound) (λ k. 1) count (record { each = λ k below. sum_below-one (place k) 1 bound (within k below) })
     ∙ sum_below-ones count

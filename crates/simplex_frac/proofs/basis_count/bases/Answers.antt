@@ -1,4 +1,4 @@
-use Rattle.std.proofs.Common.{◌≡◌, min, arith, ap, ◌∙◌, sym}
+use Rattle.std.proofs.Common.{arith}
 use Rattle.simplex_frac.proofs.BasisCounts.{none_past, all_chosen, past_at_last, none_chosen}
 use Rattle.simplex_frac.proofs.basis_count.bases.Goals as goal
 

@@ -14,9 +14,9 @@ returns-in_err-more c =
 
 pub returns-then-more-le-MOST_BASES : goal.returns-then-more-le-MOST_BASES
 returns-then-more-le-MOST_BASES c = (
-      total_is _ _ c.in_ok-whole.whole _ c.in_ok-more.more (step_by c.args.others c.args.chosen c.args.count c.from-divisor.result c.from.result c.from-divisor.ensures c.from.ensures c.requires) c.in_ok-whole.ensures.1 c.in_ok-more.ensures.1,
-      c.if-more-le-MOST_BASES.true,
-    )
+  total_is _ _ c.in_ok-whole.whole _ c.in_ok-more.more (step_by c.args.others c.args.chosen c.args.count c.from-divisor.result c.from.result c.from-divisor.ensures c.from.ensures c.requires) c.in_ok-whole.ensures.1 c.in_ok-more.ensures.1,
+  c.if-more-le-MOST_BASES.true,
+)
 
 pub returns-else-more-le-MOST_BASES : goal.returns-else-more-le-MOST_BASES
 returns-else-more-le-MOST_BASES c =

@@ -1,4 +1,4 @@
-use Rattle.std.proofs.Common.{◌≡◌, arith, refl, sym, ◌∙◌, ap, inl}
+use Rattle.std.proofs.Common.{◌≡◌, arith, refl, sym, ◌∙◌, ap}
 use Rattle.std.specs.Prelude.{length, None}
 use Rattle.sums.proofs.Places.{length-list_below}
 use Rattle.row_store.specs.Table.{HasColumns, IsTable}
