@@ -9,6 +9,8 @@ mod hint_lifts;
 #[cfg(test)]
 mod finishing;
 #[cfg(test)]
+mod finishing;
+#[cfg(test)]
 mod islands;
 #[cfg(test)]
 mod lifting;
