@@ -2,6 +2,7 @@
 ghost use Rattle.std.specs.Prelude.{IfOk, IsTrue};
 ghost use Rattle.row_store.specs.Problem.{IsProblem};
 ghost use Rattle.end_check.specs.Ends.{IsPricedEnd, IsRefusedEnd};
+ghost use Rattle.end_check.specs.Sums.{IsCheckable, IsRefusalCheckable};
 
 use crate::hint::{PointHint, RefusalHint};
 use entries::NoMemory;
@@ -12,7 +13,8 @@ use std::alloc::Global;
 /// way. The memory is that of a number for each column.
 pub fn is_end(alloc: Global, rows: &Rows, hint: &PointHint) -> Result<bool, NoMemory>
     requires { IsProblem rows.now }
-    ensures { IfOk result (λ is. IsTrue is → IsPricedEnd rows.now hint.now) }
+    ensures end { IfOk result (λ is. IsTrue is → IsPricedEnd rows.now hint.now) }
+    ensures found { IfOk result (λ is. IsPricedEnd rows.now hint.now → IsCheckable rows.now hint.now → IsTrue is) }
 {
     Ok(false)
 }
@@ -21,7 +23,8 @@ pub fn is_end(alloc: Global, rows: &Rows, hint: &PointHint) -> Result<bool, NoMe
 /// memory is that of a number for each column.
 pub fn refuses(alloc: Global, rows: &Rows, hint: &RefusalHint) -> Result<bool, NoMemory>
     requires { IsProblem rows.now }
-    ensures { IfOk result (λ is. IsTrue is → IsRefusedEnd rows.now hint.now) }
+    ensures end { IfOk result (λ is. IsTrue is → IsRefusedEnd rows.now hint.now) }
+    ensures found { IfOk result (λ is. IsRefusedEnd rows.now hint.now → IsRefusalCheckable rows.now hint.now → IsTrue is) }
 {
     Ok(false)
 }
