@@ -1,0 +1,109 @@
+#!/usr/bin/env python3
+"""Writes a hub and spoke schedule with costs for several fleets, always the same for a number.
+
+usage: hubs.py FOLDER LEGS FLEETS [NUMBER [MOST]]
+
+Aircraft go to and fro between hubs and spokes in tours of a day, each back where it began, until LEGS legs are flown or a few more.
+A leg has a demand that changes over the day. A fleet may fly it if it has the range, and pays for minutes, seats and those
+that it leaves behind. Each tour goes to a fleet that may fly all of it, at least cost and at times another one, and a fleet has
+the aircraft of its tours and some more: so there is a legal plan. With MOST the costs are drawn from 1 to MOST in place of that.
+"""
+import csv
+import random
+import sys
+from pathlib import Path
+
+DAY = 1440
+START = 180
+LEGS_A_STATION = 11
+# seats, turn in minutes, range in minutes, cost of a minute
+KINDS = (
+    (50, 25, 130, 30), (70, 30, 150, 36), (100, 35, 200, 44), (150, 40, 280, 58),
+    (180, 45, 300, 66), (220, 55, 330, 80), (250, 60, 400, 92), (300, 70, 500, 110),
+)
+
+
+def clock(minute):
+    return f"{minute // 60 % 24:02}:{minute % 60:02}"
+
+
+def name(place, hubs):
+    return f"HU{chr(65 + place)}" if place < hubs else f"S{chr(65 + (place - hubs) // 26)}{chr(65 + (place - hubs) % 26)}"
+
+
+def tours_of(draw, legs, stations, hubs):
+    """Tours of legs (from, departure, to, block, demand)."""
+    block = {}
+    for hub in range(hubs):
+        for other in range(stations):
+            block[hub, other] = block[other, hub] = 5 * draw.randrange(9, 27 if other < hubs else 46)
+    weight = [draw.choice((1, 1, 2, 3, 5)) for _ in range(stations)]
+    tours, flown = [], 0
+    while flown < legs:
+        at = home = draw.choices(range(stations), weight)[0]
+        minute, tour = START + 5 * draw.randrange(24, 70), []
+        while True:
+            to = draw.choices(range(hubs, stations), weight[hubs:])[0] if at < hubs and draw.random() < 0.9 else draw.randrange(hubs)
+            if to == at:
+                continue
+            if len(tour) >= 2 and (at < hubs and home >= hubs or home < hubs <= at or draw.random() < 0.4):
+                to = home
+            if to == at or (at, to) not in block:
+                continue
+            peak = 1.4 if minute % DAY in range(400, 560) or minute % DAY in range(960, 1140) else 0.8
+            tour.append((at, minute, to, block[at, to], int(draw.uniform(30, 170) * peak * (1.3 if to < hubs else 1))))
+            minute += block[at, to] + 75 + 5 * draw.randrange(0, 14)
+            at = to
+            if at == home and (minute > START + 1000 or draw.random() < 0.3) or len(tour) > 8 and at == home:
+                break
+            if minute > START + DAY + 300:
+                tour = []
+                break
+        if tour and minute <= START + DAY + 200:
+            tours.append(tour)
+            flown += len(tour)
+    return tours
+
+
+def cost(leg, kind):
+    """What a kind of aircraft costs on a leg; none where it is out of its range."""
+    _, _, _, block, demand = leg
+    seats, _, reach, minute = kind
+    return block * minute + 30 * seats + 190 * max(0, demand - seats) if block <= reach else None
+
+
+def write(folder, legs, fleets, number=1, most=None):
+    draw = random.Random(number)
+    stations, kinds = max(6, legs // LEGS_A_STATION), KINDS[:2] + KINDS[-(fleets - 2):] if fleets > 4 else KINDS[1 : fleets + 1]
+    kinds = KINDS[len(KINDS) - fleets :] if fleets > 6 else kinds
+    hubs = 2 if legs < 150 else 3
+    tours, aircraft = tours_of(draw, legs, stations, hubs), [2] * fleets
+    kept = []
+    for tour in tours:
+        sums = [(sum(costs), place) for place, kind in enumerate(kinds) if None not in (costs := [cost(leg, kind) for leg in tour])]
+        if sums:
+            kept.append(tour)
+            aircraft[min(sums)[1] if draw.random() < 0.7 else draw.choice(sums)[1]] += 1 if draw.random() < 0.7 else 2
+    flown = [leg for tour in kept for leg in tour]
+    pairs = [(f"L{at}", f"F{kind[0]}", paid) for at, leg in enumerate(flown) for kind in kinds if (paid := cost(leg, kind)) is not None]
+    tables = {
+        "stations.csv": [("code", "extra", "maintenance"), *((name(s, hubs), 5 if s < hubs else 0, "yes" if s % 3 == 0 else "no") for s in range(stations))],
+        "fleets.csv": [("fleet", "aircraft", "turn"), *((f"F{kind[0]}", count, kind[1]) for kind, count in zip(kinds, aircraft))],
+        "legs.csv": [("flight", "from", "dep", "to", "arr"), *((f"L{at}", name(a, hubs), clock(dep), name(b, hubs), clock(dep + block)) for at, (a, dep, b, block, _) in enumerate(flown))],
+        "costs.csv": [("flight", "fleet", "cost"), *((leg, fleet, draw.randint(1, most) if most else paid) for leg, fleet, paid in pairs)],
+        "throughs.csv": [("in", "out", "value")],
+    }
+    Path(folder).mkdir(parents=True, exist_ok=True)
+    for file, rows in tables.items():
+        with open(Path(folder, file), "w", newline="") as out:
+            csv.writer(out, lineterminator="\n").writerows(rows)
+
+
+def main():
+    if len(sys.argv) not in (4, 5, 6):
+        sys.exit(__doc__)
+    write(sys.argv[1], *map(int, sys.argv[2:]))
+
+
+if __name__ == "__main__":
+    main()

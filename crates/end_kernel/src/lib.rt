@@ -1,0 +1,17 @@
+//! What a search for an end of lines reckons with: the columns by their units, the start, and the rows of the columns that
+//! came. Safe and ending for all numbers, and nothing else is promised: what a search finds is checked by others.
+#![tactic(auto)]
+
+pub mod columns;
+pub mod kernel;
+pub mod lists;
+pub mod number;
+pub mod row;
+pub mod start;
+
+pub use columns::{Columns, Unit};
+pub use kernel::Kernel;
+pub use lists::{at, filled, put};
+pub use number::{Number, common_divisor};
+pub use row::{Part, Row};
+pub use start::{NONE, Place, Start};

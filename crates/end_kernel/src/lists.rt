@@ -1,0 +1,37 @@
+//! Reads and writes by number that ask for no proof where a list ends.
+use entries::NoMemory;
+use std::alloc::Global;
+
+/// The entry at a place, or the one that is given where there is none.
+#[inline(always)]
+pub fn at<T: Copy>(list: &[T], place: usize, other: T) -> T {
+    if place < list.len() {
+        list[place]
+    } else {
+        other
+    }
+}
+
+/// Writes an entry where the list has the place.
+#[inline(always)]
+pub fn put<T: Copy + Drop>(list: &mut [T], place: usize, entry: T) {
+    if place < list.len() {
+        list[place] = entry;
+    }
+}
+
+/// A list of so many equal entries.
+pub fn filled<T: Copy + Drop>(alloc: Global, entry: T, count: usize) -> Result<Vec<T>, NoMemory> {
+    let mut list = Vec::new(alloc);
+    for _place in 0..count {
+        list.push(entry)?;
+    }
+    Ok(list)
+}
+
+/// Makes all entries equal to one.
+pub fn fill<T: Copy + Drop>(list: &mut [T], entry: T) {
+    for place in 0..list.len() {
+        list[place] = entry;
+    }
+}

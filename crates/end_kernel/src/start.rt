@@ -1,0 +1,139 @@
+use crate::columns::Columns;
+use crate::lists::{at, filled, put};
+use crate::number::Number;
+use entries::NoMemory;
+use std::alloc::Global;
+
+/// No line, or no column.
+pub const NONE: u32 = 0xffff_ffff;
+
+/// A column that the start makes basic, and its line.
+#[derive(Clone, Copy)]
+pub struct Place {
+    pub line: u32,
+    pub column: u32,
+}
+
+/// The basis that a search starts from: columns in an order in which each has 1 or -1 in its own line, and no number in
+/// the line of an earlier one; in all other lines stands what the line lacks.
+#[derive(Drop)]
+pub struct Start {
+    steps: Vec<Step>,
+    columns: Vec<u32>,
+    lines: Vec<u32>,
+}
+
+#[derive(Clone, Copy)]
+struct Step {
+    line: u32,
+    column: u32,
+    /// Its number in its own line.
+    own: i32,
+}
+
+impl Start {
+    /// The start at places in their order; those that don't fit the order are passed over.
+    pub fn new(alloc: Global, columns: &Columns, places: &[Place]) -> Result<Start, NoMemory> {
+        let mut start = Start {
+            steps: Vec::new(alloc),
+            columns: filled(alloc, NONE, columns.line_count())?,
+            lines: filled(alloc, NONE, columns.count())?,
+        };
+        for place in places {
+            start.add(columns, *place)?;
+        }
+        Ok(start)
+    }
+
+    // Puts a column behind those so far, where the order lets it.
+    fn add(&mut self, columns: &Columns, place: Place) -> Result<(), NoMemory> {
+        let own = self.own_number(columns, place);
+        if own == 1 || own == -1 {
+            put(&mut self.columns, place.line as usize, place.column);
+            put(&mut self.lines, place.column as usize, place.line);
+            self.steps.push(Step {
+                line: place.line,
+                column: place.column,
+                own,
+            })?;
+        }
+        Ok(())
+    }
+
+    // The number of a column in its own line, or 0 where it or its line stands already, or it has a number in the line
+    // of an earlier one.
+    fn own_number(&self, columns: &Columns, place: Place) -> i32 {
+        let mut own = 0;
+        if self.line_of(place.column) != NONE {
+            return 0;
+        }
+        for unit in columns.of(place.column as usize) {
+            if self.column_of(unit.line) != NONE {
+                return 0;
+            }
+            if unit.line == place.line {
+                own = unit.number;
+            }
+        }
+        own
+    }
+
+    /// The column that starts in a line, or `NONE`.
+    #[inline(always)]
+    pub fn column_of(&self, line: u32) -> u32 {
+        at(&self.columns, line as usize, NONE)
+    }
+
+    /// The line that a column starts in, or `NONE`.
+    #[inline(always)]
+    pub fn line_of(&self, column: u32) -> u32 {
+        at(&self.lines, column as usize, NONE)
+    }
+
+    /// Of a sum over lines how much of each basic column makes it, by the lines of these.
+    pub fn forward<N: Number>(&self, columns: &Columns, sums: &mut [N]) {
+        for step in &self.steps {
+            let own = at(sums, step.line as usize, N::of(0));
+            if !own.is_zero() {
+                let part = own.times(N::of(step.own));
+                take_column(columns, step.column, part, sums);
+                put(sums, step.line as usize, part);
+            }
+        }
+    }
+
+    /// Of what the basic columns weigh, by their lines, the multipliers of the lines by which they do.
+    pub fn backward<N: Number>(&self, columns: &Columns, weighed: &mut [N]) {
+        for step in self.steps.iter().rev() {
+            let mut own = at(weighed, step.line as usize, N::of(0));
+            for unit in columns.of(step.column as usize) {
+                if unit.line != step.line {
+                    let other = at(weighed, unit.line as usize, N::of(0));
+                    own = own.minus(other.times(N::of(unit.number)));
+                }
+            }
+            put(weighed, step.line as usize, own.times(N::of(step.own)));
+        }
+    }
+}
+
+/// Takes a column, so many times, from a sum over lines.
+#[inline(always)]
+pub fn take_column<N: Number>(columns: &Columns, column: u32, times: N, sums: &mut [N]) {
+    for unit in columns.of(column as usize) {
+        let line = unit.line as usize;
+        let sum = at(sums, line, N::of(0));
+        put(sums, line, sum.minus(times.times(N::of(unit.number))));
+    }
+}
+
+/// What multipliers of the lines weigh in a column.
+#[inline(always)]
+pub fn weighed<N: Number>(columns: &Columns, column: usize, multipliers: &[N]) -> N {
+    let mut sum = N::of(0);
+    for unit in columns.of(column) {
+        let multiplier = at(multipliers, unit.line as usize, N::of(0));
+        sum = sum.plus(multiplier.times(N::of(unit.number)));
+    }
+    sum
+}

@@ -1,0 +1,195 @@
+use crate::frame::Frame;
+use crate::pivot_row::PivotRow;
+use end_kernel::row::{divide, multiply};
+use end_kernel::start::weighed;
+use end_kernel::{Columns, NONE, Number, Part, Start, at, common_divisor, filled, put};
+use entries::NoMemory;
+use std::alloc::Global;
+
+// Where a cost number has no more bits, nothing is outgrown in the start.
+const MOST_COST_BITS: u32 = 90;
+
+/// What each real column costs above what the basis weighs, and how the slots' lines weigh more than at the start, over one
+/// denominator.
+#[derive(Drop)]
+pub(crate) struct Costs {
+    pub columns: Vec<i128>,
+    pub slots: Vec<i128>,
+    pub den: i128,
+}
+
+/// By which the cost row is multiplied, and how many times the pivot row is added to it.
+#[derive(Clone, Copy)]
+pub(crate) struct CostStep {
+    factor: i128,
+    times: i128,
+}
+
+impl Costs {
+    /// Those of the start, where none is below 0.
+    pub(crate) fn new(
+        alloc: Global,
+        frame: &Frame,
+        costs: &[i128],
+    ) -> Result<Option<Costs>, NoMemory> {
+        let mut lines = first_costs(alloc, &frame.start, costs, frame.columns.line_count(), 1)?;
+        frame.start.backward(&frame.columns, lines.as_mut_slice());
+        let mut columns = filled(alloc, 0, frame.columns.count())?;
+        let fits = lay_costs(&frame.columns, costs, &lines, columns.as_mut_slice());
+        Ok(if fits {
+            Some(Costs {
+                columns,
+                slots: filled(alloc, 0, 1)?,
+                den: 1,
+            })
+        } else {
+            None
+        })
+    }
+
+    /// What the pivot on a column of a row does to the costs, where it fits.
+    pub(crate) fn step<N: Number>(&self, row: &PivotRow<N>, entering: u32) -> Option<CostStep> {
+        let cost = at(&self.columns, entering as usize, 0);
+        let size = at(&row.columns, entering as usize, N::of(1)).size().wide();
+        let divisor = common_divisor(cost, size);
+        let step = CostStep {
+            factor: size.over(divisor),
+            times: cost.over(divisor),
+        };
+        let most = sizes_of(&self.columns)
+            .either(sizes_of(&self.slots))
+            .either(self.den);
+        let others = sizes_of(&row.columns).either(row.sizes.wide());
+        let grown = most.bits().wrapping_add(step.factor.bits());
+        let added = others.bits().wrapping_add(step.times.bits());
+        if grown > 125 || added > 125 {
+            None
+        } else {
+            Some(step)
+        }
+    }
+
+    /// Makes the step, and brings the costs to lowest terms.
+    pub(crate) fn change<N: Number>(&mut self, row: &PivotRow<N>, step: CostStep) {
+        if step.times == 0 {
+            return;
+        }
+        if step.factor != 1 {
+            multiply(self.columns.as_mut_slice(), step.factor);
+            multiply(self.slots.as_mut_slice(), step.factor);
+            self.den = self.den.wrapping_mul(step.factor);
+        }
+        add_numbers(self.columns.as_mut_slice(), &row.columns, step.times);
+        take_parts(self.slots.as_mut_slice(), &row.parts, step.times);
+        self.reduce();
+    }
+
+    /// Makes room for one more slot.
+    pub(crate) fn open_slot(&mut self) -> Result<(), NoMemory> {
+        self.slots.push(0)?;
+        Ok(())
+    }
+
+    /// Lets a slot go; the last one takes its place.
+    pub(crate) fn close_slot(&mut self, slot: usize) {
+        if slot < self.slots.len() {
+            let _number = self.slots.swap_remove(slot);
+        }
+    }
+
+    fn reduce(&mut self) {
+        if self.den == 1 {
+            return;
+        }
+        let divisor = shared(&self.slots, shared(&self.columns, self.den));
+        if divisor > 1 {
+            divide(self.columns.as_mut_slice(), divisor);
+            divide(self.slots.as_mut_slice(), divisor);
+            self.den = self.den.over(divisor);
+        }
+    }
+}
+
+/// What the first column of each line costs, so many times, and 0 where there is none.
+pub(crate) fn first_costs(
+    alloc: Global,
+    start: &Start,
+    costs: &[i128],
+    lines: usize,
+    times: i128,
+) -> Result<Vec<i128>, NoMemory> {
+    let mut first = Vec::new(alloc);
+    for place in 0..lines {
+        let column = start.column_of((place & 0xffff_ffff) as u32);
+        let cost = if column == NONE {
+            0
+        } else {
+            at(costs, column as usize, 0)
+        };
+        first.push(cost.wrapping_mul(times))?;
+    }
+    Ok(first)
+}
+
+// Lays what each column costs above what multipliers of the lines weigh, and answers whether all fit and none is below 0.
+fn lay_costs(columns: &Columns, costs: &[i128], lines: &[i128], above: &mut [i128]) -> bool {
+    if costs.len() != above.len() {
+        return false;
+    }
+    for column in 0..above.len() {
+        let cost = costs[column];
+        if cost.bits() > MOST_COST_BITS {
+            return false;
+        }
+        above[column] = cost.wrapping_sub(weighed(columns, column, lines));
+        if above[column] < 0 {
+            return false;
+        }
+    }
+    true
+}
+
+fn sizes_of<N: Number>(numbers: &[N]) -> i128 {
+    let mut sizes = N::of(0);
+    for number in numbers {
+        sizes = sizes.either(number.size());
+    }
+    sizes.wide()
+}
+
+// The greatest number that divides a divisor and all numbers.
+fn shared(numbers: &[i128], divisor: i128) -> i128 {
+    let mut divisor = divisor;
+    for number in numbers {
+        if divisor == 1 {
+            return divisor;
+        }
+        if *number != 0 {
+            divisor = common_divisor(divisor, *number);
+        }
+    }
+    divisor
+}
+
+fn add_numbers<N: Number>(numbers: &mut [i128], others: &[N], times: i128) {
+    if others.len() != numbers.len() {
+        return;
+    }
+    for place in 0..numbers.len() {
+        if !others[place].is_zero() {
+            numbers[place] = numbers[place].wrapping_add(others[place].wide().wrapping_mul(times));
+        }
+    }
+}
+
+fn take_parts<N: Number>(numbers: &mut [i128], parts: &[Part<N>], times: i128) {
+    for part in parts {
+        let place = part.slot as usize;
+        let number = at(numbers, place, 0);
+        put(
+            numbers,
+            place,
+            number.wrapping_sub(part.number.wide().wrapping_mul(times)),
+        );
+    }
+}

@@ -1,0 +1,73 @@
+use crate::frame::{Frame, Leaving};
+use crate::pricing::{distance, weight};
+use crate::values::{Values, at_first};
+use crate::weights::Weights;
+use end_kernel::{Kernel, NONE, Number};
+
+// Somebody who may leave: the square of how far it is from what it may be, and the weight of its row.
+#[derive(Clone, Copy)]
+struct Candidate {
+    leaving: Leaving,
+    square: i128,
+    weight: i128,
+}
+
+/// What leaves: of all that are below 0, and of what lines lack and shouldn't, the one whose square is most for its weight, at a
+/// tie the first. None where all is as it may be.
+pub(crate) fn leaving<N: Number>(
+    frame: &Frame,
+    kernel: &Kernel<N>,
+    values: &Values<N>,
+    weights: &Weights,
+) -> Option<Leaving> {
+    let mut best = None;
+    for place in 0..kernel.rows.len() {
+        let row = &kernel.rows[place];
+        let own = at_first(&row.numbers);
+        if own.is_below_0() {
+            let next = rated(
+                Leaving::Row(place),
+                distance(own, row.den),
+                weight(row.squares, row.den),
+            );
+            best = better(best, next);
+        }
+    }
+    let numbers = values.numbers.as_slice();
+    for place in 0..numbers.len() {
+        let line = (place & 0xffff_ffff) as u32;
+        let own = numbers[place];
+        if is_out(frame, line, own) && kernel.slot_of(line) == 0 {
+            let next = rated(
+                Leaving::Line(line),
+                distance(own, values.scale),
+                i128::from(weights.of(line)),
+            );
+            best = better(best, next);
+        }
+    }
+    let best: Candidate = best?;
+    Some(best.leaving)
+}
+
+// Whether what stands in a line since the start isn't what it may be.
+#[inline(always)]
+fn is_out<N: Number>(frame: &Frame, line: u32, own: N) -> bool {
+    own.is_below_0() || !own.is_zero() && frame.start.column_of(line) == NONE
+}
+
+fn rated(leaving: Leaving, distance: i128, weight: i128) -> Candidate {
+    Candidate {
+        leaving,
+        square: distance.wrapping_mul(distance),
+        weight,
+    }
+}
+
+fn better(best: Option<Candidate>, next: Candidate) -> Option<Candidate> {
+    let Some(other) = best else {
+        return Some(next);
+    };
+    let more = next.square.wrapping_mul(other.weight) > other.square.wrapping_mul(next.weight);
+    Some(if more { next } else { other })
+}

@@ -1,0 +1,101 @@
+use crate::frame::Frame;
+use crate::pivot_row::PivotRow;
+use end_kernel::lists::fill;
+use end_kernel::start::take_column;
+use end_kernel::{Kernel, Number, Part, at, common_divisor, filled};
+use entries::NoMemory;
+use std::alloc::Global;
+
+/// The column that enters, in the rows of the kernel.
+#[derive(Drop)]
+pub(crate) struct PivotColumn<N> {
+    pub entering: u32,
+    /// The size of its number in the pivot row.
+    pub size: N,
+    /// Its number in each row, times the row's denominator.
+    pub products: Vec<N>,
+    /// Its numbers in the slots as the start has them.
+    parts: Vec<Part<N>>,
+    sums: Vec<N>,
+}
+
+impl<N: Number> PivotColumn<N> {
+    pub(crate) fn new(alloc: Global, frame: &Frame) -> Result<PivotColumn<N>, NoMemory> {
+        Ok(PivotColumn {
+            entering: 0,
+            size: N::of(1),
+            products: Vec::new(alloc),
+            parts: Vec::new(alloc),
+            sums: filled(alloc, N::of(0), frame.columns.line_count())?,
+        })
+    }
+
+    /// Takes a column, and answers whether its products fit.
+    pub(crate) fn take(
+        &mut self,
+        frame: &Frame,
+        kernel: &Kernel<N>,
+        row: &PivotRow<N>,
+        entering: u32,
+    ) -> Result<bool, NoMemory> {
+        self.entering = entering;
+        self.size = at(&row.columns, entering as usize, N::of(1)).size();
+        fill(self.sums.as_mut_slice(), N::of(0));
+        take_column(
+            &frame.columns,
+            entering,
+            N::of(-1),
+            self.sums.as_mut_slice(),
+        );
+        frame
+            .start
+            .forward(&frame.columns, self.sums.as_mut_slice());
+        let sizes = self.gather(kernel)?;
+        self.products.clear();
+        for row in &kernel.rows {
+            if row.sizes.bits().wrapping_add(sizes.bits()).wrapping_add(10) > N::room() {
+                return Ok(false);
+            }
+            self.products.push(row.against(&self.parts))?;
+        }
+        Ok(self.fits(kernel, row))
+    }
+
+    // Gathers the parts, and answers all bits of their sizes.
+    fn gather(&mut self, kernel: &Kernel<N>) -> Result<N, NoMemory> {
+        self.parts.clear();
+        let mut sizes = N::of(0);
+        for slot in 1..kernel.lines.len() {
+            let line = kernel.lines[slot] as usize;
+            let number = at(&self.sums, line, N::of(0));
+            if !number.is_zero() {
+                sizes = sizes.either(number.size());
+                let slot = (slot & 0xffff_ffff) as u32;
+                self.parts.push(Part { slot, number })?;
+            }
+        }
+        Ok(sizes)
+    }
+
+    // Whether each row fits once it is changed.
+    fn fits(&self, kernel: &Kernel<N>, pivot: &PivotRow<N>) -> bool {
+        for place in 0..kernel.rows.len() {
+            let product = at(&self.products, place, N::of(0));
+            if !product.is_zero() {
+                let divisor = common_divisor(product, self.size);
+                let grown = kernel.rows[place]
+                    .sizes
+                    .bits()
+                    .wrapping_add(self.size.over(divisor).bits());
+                let added = pivot
+                    .sizes
+                    .bits()
+                    .wrapping_add(product.over(divisor).bits());
+                if grown > N::room() || added > N::room() {
+                    return false;
+                }
+            }
+        }
+        true
+    }
+}
