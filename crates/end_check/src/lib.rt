@@ -2,8 +2,11 @@
 //! that refuse all points. Whoever finds it is trusted in nothing.
 #![tactic(auto)]
 
+pub mod adding;
 pub mod checks;
 pub mod hint;
+pub mod meeting;
+pub mod weighing;
 
 pub use checks::{is_end, refuses};
 pub use hint::{Hint, PointHint, RefusalHint};
