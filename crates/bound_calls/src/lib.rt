@@ -5,6 +5,8 @@
 #[cfg(test)]
 mod assertions;
 #[cfg(test)]
+mod end_finds;
+#[cfg(test)]
 mod hint_lifts;
 #[cfg(test)]
 mod finishing;
