@@ -7,7 +7,7 @@ use entries::NoMemory;
 use std::alloc::Global;
 
 // How many numbers of rows may be written or multiplied: about a minute's on one processor.
-const MOST_WORK: u64 = 30_000_000_000;
+const MOST_WORK: u64 = 6_000_000_000;
 
 /// What a run came to.
 #[derive(Drop)]

@@ -113,7 +113,8 @@ fn pivot<N: Number>(
     Ok(Turn::Pivoted)
 }
 
-// Takes the pivot row from all rows that the column meets, and answers how many numbers that was.
+// Takes the pivot row from all rows that the column meets, and answers how many numbers the pivot was: those of the pivot
+// row by lines and columns, its parts against each row, and the rows that changed.
 fn change_rows<N: Number>(
     kernel: &mut Kernel<N>,
     row: &PivotRow<N>,
@@ -124,7 +125,7 @@ fn change_rows<N: Number>(
         Leaving::Row(place) => place,
         Leaving::Line(_) => usize::MAX,
     };
-    let mut work = 0u64;
+    let mut work = (row.columns.len() as u64).wrapping_add(row.lines.len() as u64);
     for place in 0..kernel.rows.len() {
         let product = at(&column.products, place, N::of(0));
         work = work.wrapping_add(row.parts.len() as u64);
