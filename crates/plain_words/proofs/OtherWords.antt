@@ -1,18 +1,18 @@
 -- A first word that is no command's name asks for nothing.
-use Rattle.std.proofs.Common.{◌≡◌, ◌∙◌, ◌&&◌, ◌||◌, not, is_some, ℕ, zero, suc, Bool, true, false, List, [], ◌∷◌, Option, Some, None, refl, sym, subst, codes, bytes_eq, if◌then◌else◌, cond, length, slice_get, chars, inl, inr, option_map}
+use Rattle.std.proofs.Common.{◌≡◌, ◌∙◌, ◌&&◌, ◌||◌, not, is_some, ℕ, zero, suc, Bool, true, false, List, [], ◌∷◌, ◌++◌, map, find, Option, Some, None, refl, sym, ap, subst, codes, bytes_eq, if◌then◌else◌, cond, length, slice_get, chars, inl, inr, option_map}
 use Rattle.std.specs.Prelude.{drop, encode_utf8}
 use Rattle.std.specs.Option.{option_map_or}
-use Rattle.std.proofs.lemmas.Bool.{cases_Bool, true≢false}
+use Rattle.std.proofs.lemmas.Bool.{cases_Bool, cond-false, or_from, or_parts}
 use Rattle.std.proofs.lemmas.Slice.Eq.{bytes_eq-Decides}
 use Rattle.clap.proofs.OnLiterals.{clap_on_literals}
 use Rattle.clap.specs.Faults.{bundle_fault, bundle_step_fault, fault_of, flag_word_fault, flags_fault, other_fault, short_fault, step_fault, turn_fault, walk_fault}
 use Rattle.clap.specs.Kinds.{Kinds, or_else}
 use Rattle.clap.specs.Lexer.{long_of, short_of}
 use Rattle.clap.specs.Simple.{names_of, subcommand_of}
-use Rattle.clap.specs.Walk.{Held, Rule, Step, Text, after_flag, bundle_met, bundle_step, has_long, has_short, idle, long_or_other, nothing_held, plain, short_or_plain, subcommand_met, subcommand_or_other, trailing, walk, walk_from}
+use Rattle.clap.specs.Walk.{Held, Rule, Step, Text, after_flag, answers_to, bundle_met, bundle_step, has_long, has_short, idle, long_or_other, nothing_held, plain, short_or_plain, subcommand_met, subcommand_or_other, trailing, walk, walk_from}
 use Rattle.command_line.specs.Found.{found}
 use Rattle.command_line.specs.Program.{our_app}
-use Rattle.plain_words.specs.Refusals.{NameAloneAsksNothing, NoWordsAskNothing, OtherWordsAskNothing, is_command}
+use Rattle.plain_words.specs.Refusals.{NameAloneAsksNothing, NoWordsAskNothing, OtherWordsAskNothing, commands, is_one_of}
 use Rattle.command_words.specs.Words.{asked}
 use Rattle.plain_words.proofs.Entered.{ours, whole_fault}
 use Rattle.plain_words.proofs.Fails.{Fails, asks_nothing, first_fails}
@@ -33,29 +33,35 @@ dashes_alone program (word ∷ after) = refl
 
 -- ---- the name
 
--- the subcommand that a word names, by what it is compared with
-abbrev named_by : Bool → Bool → Bool → Bool → Bool → Bool → Option Text
-named_by judge solve check tails make help = option_map (λ (label : Text × List Text). label.0)
-    (cond (judge || false) (Some (codes "judge", [])) (cond (solve || false) (Some (codes "solve", [])) (cond (check || false) (Some (codes "check", []))
-    (cond (tails || false) (Some (codes "tails", [])) (cond (make || false) (Some (codes "make", [])) (cond (help || false) (Some (codes "help", [])) None))))))
+-- a name without another
+abbrev alone : Text → Text × List Text
+alone name = (name, [])
 
-names_are : (word : Text) → subcommand_met (names_of ours) idle word
-    ≡ named_by (bytes_eq (codes "judge") word) (bytes_eq (codes "solve") word) (bytes_eq (codes "check") word) (bytes_eq (codes "tails") word) (bytes_eq (codes "make") word) (bytes_eq (codes "help") word)
+-- the subcommand that a word names among some
+abbrev named_among : List (Text × List Text) → Text → Option Text
+named_among names word = option_map (λ (label : Text × List Text). label.0) (find (answers_to word) names)
+
+-- the commands, and help
+names_are : names_of ours ≡ map alone (commands ++ codes "help" ∷ [])
 unfolding our_app
-names_are word = refl
+names_are = refl
 
 abbrev help_named : Bool → Option Text
 help_named help = if help then Some (codes "help") else None
 
-none_named : (judge solve check tails make help : Bool) → (judge || solve || check || tails || make) ≡ false
-    → named_by judge solve check tails make help ≡ help_named help
-none_named true solve check tails make help none = absurd (true≢false none)
-none_named false true check tails make help none = absurd (true≢false none)
-none_named false false true tails make help none = absurd (true≢false none)
-none_named false false false true make help none = absurd (true≢false none)
-none_named false false false false true help none = absurd (true≢false none)
-none_named false false false false false true none = refl
-none_named false false false false false false none = refl
+none_among : (names : List Text) (word : Text) → is_one_of word names ≡ false → named_among (map alone (names ++ codes "help" ∷ [])) word ≡ help_named (bytes_eq (codes "help") word)
+none_among [] word none = elim (bytes_eq (codes "help") word) as (λ b. option_map (λ (label : Text × List Text). label.0) (cond (b || false) (Some (alone (codes "help"))) None) ≡ help_named b) [
+  | true ↦ refl
+  | false ↦ refl
+]
+none_among (name ∷ names) word none =
+    let parts = or_parts (bytes_eq name word) (is_one_of word names) none in
+    ap (option_map (λ (label : Text × List Text). label.0))
+    (cond-false (bytes_eq name word || false) (Some (alone name)) (find (answers_to word) (map alone (names ++ codes "help" ∷ []))) (or_from _ _ parts.0 refl))
+    ∙ none_among names word parts.1
+
+none_named : (word : Text) → is_one_of word commands ≡ false → subcommand_met (names_of ours) idle word ≡ help_named (bytes_eq (codes "help") word)
+none_named word none = ap (λ names. named_among names word) names_are ∙ none_among commands word none
 
 -- ---- the first word
 
@@ -110,11 +116,10 @@ unfolding our_app
 word_fails word true other = tt
 word_fails word false other = option_fails word (bytes_eq word (codes "--")) other
 
-turn_fails : (word : Text) → is_command word ≡ false → bytes_eq word (codes "--") ≡ false → Fails (turn_fault ours.top (names_of ours) (walk_from nothing_held) word)
+turn_fails : (word : Text) → is_one_of word commands ≡ false → bytes_eq word (codes "--") ≡ false → Fails (turn_fault ours.top (names_of ours) (walk_from nothing_held) word)
 turn_fails word none other =
     subst (λ named. Fails (turn_met (other_fault ours.top named word nothing_held) (subcommand_or_other ours.top.rules named idle 1 word nothing_held)))
-    (sym (names_are word ∙ none_named (bytes_eq (codes "judge") word) (bytes_eq (codes "solve") word) (bytes_eq (codes "check") word) (bytes_eq (codes "tails") word)
-    (bytes_eq (codes "make") word) (bytes_eq (codes "help") word) none))
+    (sym (none_named word none))
     (word_fails word (bytes_eq (codes "help") word) other)
 
 from_start : (program : Text) (words : List Text) → fault_of our_app (program ∷ words)
@@ -122,7 +127,7 @@ from_start : (program : Text) (words : List Text) → fault_of our_app (program 
 unfolding our_app
 from_start program words = refl
 
-starts_badly : (program word : Text) (after : List Text) → is_command word ≡ false → bytes_eq word (codes "--") ≡ false → asked (program ∷ word ∷ after) ≡ None
+starts_badly : (program word : Text) (after : List Text) → is_one_of word commands ≡ false → bytes_eq word (codes "--") ≡ false → asked (program ∷ word ∷ after) ≡ None
 unfolding asked found walk_fault
 starts_badly program word after none other =
     asks_nothing (fault_of our_app (program ∷ word ∷ after)) (subcommand_of our_app (program ∷ word ∷ after))

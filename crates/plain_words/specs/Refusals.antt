@@ -1,5 +1,5 @@
 -- What the command line refuses: words that ask for nothing.
-use Rattle.std.specs.Prelude.{◌≡◌, ◌==◌, ◌||◌, Bool, true, false, not, List, [], ◌∷◌, ◌++◌, None, bytes_eq, codes}
+use Rattle.std.specs.Prelude.{◌≡◌, ◌==◌, Bool, true, false, not, List, [], ◌∷◌, ◌++◌, None, bytes_eq, codes}
 use Rattle.std.specs.List.{list_any}
 use Rattle.clap.specs.Words.{Text}
 use Rattle.command_words.specs.Words.{asked}
@@ -14,24 +14,23 @@ NoWordsAskNothing = asked [] ≡ None
 abbrev pub NameAloneAsksNothing : Type 0
 NameAloneAsksNothing = (program : Text) → asked (program ∷ []) ≡ None
 
--- the word is a command's name
-abbrev pub is_command : Text → Bool
-is_command word =
-    bytes_eq (codes "judge") word || bytes_eq (codes "solve") word || bytes_eq (codes "check") word || bytes_eq (codes "tails") word || bytes_eq (codes "make") word
+-- the name is one of these
+abbrev pub is_one_of : Text → List Text → Bool
+is_one_of name names = list_any (λ other. bytes_eq other name) names
+
+-- the commands' names
+abbrev pub commands : List Text
+commands = codes "judge" ∷ codes "solve" ∷ codes "check" ∷ codes "tails" ∷ codes "make" ∷ []
 
 -- a first word that is no command's name, as `help`, `--help` or `--`, whatever follows
 abbrev pub OtherWordsAskNothing : Type 0
-OtherWordsAskNothing = (program word : Text) (after : List Text) → is_command word ≡ false → asked (program ∷ word ∷ after) ≡ None
+OtherWordsAskNothing = (program word : Text) (after : List Text) → is_one_of word commands ≡ false → asked (program ∷ word ∷ after) ≡ None
 
 -- ---- its options
 
 -- one of the words is `--`, behind which no word is an option
 abbrev pub has_dashes : List Text → Bool
 has_dashes words = list_any (λ word. bytes_eq word (codes "--")) words
-
--- the name is one of these
-abbrev pub is_one_of : Text → List Text → Bool
-is_one_of name names = list_any (λ other. bytes_eq other name) names
 
 -- some text with no `=`
 abbrev pub is_option_name : Text → Bool
