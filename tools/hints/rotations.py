@@ -66,7 +66,8 @@ def plain_advice(found, days, visits):
             return f"{nights}: let a station maintain where it stands at the day start, or take another --day-start"
         least = math.ceil(of / has)
         more = f"--days {least} is the least that can do" if least <= MOST_DAYS else "no --days is enough"
-        return f"{has} of its {of} nights are at a station with maintenance: {more}, or let a further station maintain"
+        are = "is" if has == 1 else "are"
+        return f"{has} of its {of} nights {are} at a station with maintenance: {more}, or let a further station maintain"
     if words.startswith("apart"):
         return f"{found[5]} of its flights never meet the others: let two aircraft meet at a station, or make two fleets of it"
     if words == "none":
