@@ -7,6 +7,8 @@ mod assertions;
 #[cfg(test)]
 mod dual_runs;
 #[cfg(test)]
+mod end_checks;
+#[cfg(test)]
 mod islands;
 #[cfg(test)]
 mod lifting;
