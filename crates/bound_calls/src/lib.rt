@@ -13,6 +13,8 @@ mod finishing;
 #[cfg(test)]
 mod finishing;
 #[cfg(test)]
+mod end_checks;
+#[cfg(test)]
 mod islands;
 #[cfg(test)]
 mod lifting;
