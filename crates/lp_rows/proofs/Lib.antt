@@ -21,3 +21,4 @@ pub mod Problems
 pub mod Together
 pub mod Outlines
 pub mod HeldLines
+pub mod OtherFleets

@@ -4,3 +4,4 @@ pub mod Outline
 pub mod Points
 pub mod Program
 pub mod Staying
+pub mod Meeting

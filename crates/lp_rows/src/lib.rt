@@ -6,6 +6,7 @@ pub mod entry;
 pub mod kinds;
 pub mod laws;
 pub mod layout;
+mod meeting;
 pub mod network;
 pub mod outline;
 pub mod positions;

@@ -1,4 +1,4 @@
-use Rattle.std.proofs.Common.{◌≡◌, ◌++◌, ◌∙◌, map, length, ap, rules}
+use Rattle.std.proofs.Common.{◌≡◌, ◌++◌, ◌∙◌, length, ap, rules}
 use Rattle.fleet_model.specs.Kept.{kept_by}
 use Rattle.island_arcs.specs.Moments.{moment_of}
 use Rattle.sums.specs.Places.{list_below}
