@@ -6,4 +6,3 @@ pub mod UnitColumns
 pub mod ReadOff
 pub mod BasicSums
 pub mod MetPoints
-pub mod SignEnds
