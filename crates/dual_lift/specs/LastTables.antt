@@ -9,9 +9,8 @@ use Rattle.reached_tables.specs.Duality.{HasUnitColumns, IsTableOf, ReadsOff, de
 use Rattle.simplex_frac.specs.LastTables.{IsBestTable, IsNoPointTable}
 use Rattle.reached_tables.specs.BasicPoints.{IsBasicPoint, MeetsAtCost}
 use Rattle.dual_lift.specs.Mixture.{IsMixture}
-use Rattle.reached_tables.specs.Signs.{IsBestBySigns, IsRefusedByRow}
 use Rattle.dual_lift.specs.declared.reading.Reading.{Reading}
-use Rattle.dual_lift.specs.declared.reading.Reading.TheVariants.{BothRows, CostRow, LineRow, PhaseRow}
+use Rattle.dual_lift.specs.declared.reading.Reading.TheVariants.{BothRows, PhaseRow}
 
 -- what is known of a table, with its basis, that steps reach from the lines: its shape, each row read off the identity
 -- block, and unit columns
@@ -30,15 +29,11 @@ pub record HasBasicPoint (rows : Rows) (table : List FracRow) (basis : List ℕ)
 abbrev pub IsEndBy : Rows → List FracRow → List ℕ → Reading → Type 0
 IsEndBy rows table basis (BothRows mixture) = IsBestTable rows table × IsMixture table mixture
 IsEndBy rows table basis PhaseRow = IsNoPointTable rows table
-IsEndBy rows table basis CostRow = IsBestBySigns rows table basis
-IsEndBy rows table basis (LineRow row) = IsRefusedByRow rows table row
 
 -- whether costs count there: at a cheapest point they do, and not where there is no point
 abbrev pub counts_costs : Reading → ℕ
 counts_costs (BothRows mixture) = 1
 counts_costs PhaseRow = 0
-counts_costs CostRow = 1
-counts_costs (LineRow row) = 0
 
 -- the right sides weigh what the cost row tells, each over its own scale
 pub record WeighTheCost (rows : Rows) (table : List FracRow) (scale : ℤ) (value : ℕ → ℤ) : Type 0 where

@@ -1,5 +1,5 @@
 -- What is lifted from an end that was checked, and what is first too large there.
-use Rattle.std.specs.Prelude.{◌≡◌, ℕ, int_lt, IsSomeAnd, None, List, drop, Option, ℤ, pos, ◌<ℤ◌}
+use Rattle.std.specs.Prelude.{◌≡◌, ℕ, int_lt, IsSomeAnd, None, List, length, drop, Option, ℤ, pos, ◌<ℤ◌}
 use Rattle.sums.specs.Places.{list_below, or_else}
 use Rattle.frac_row.specs.Row.{reduced}
 use Rattle.frac_row.specs.declared.row.FracRow.{FracRow}
@@ -11,14 +11,18 @@ use Rattle.end_check.specs.declared.hint.PointHint.{PointHint}
 use Rattle.end_check.specs.declared.hint.RefusalHint.{RefusalHint}
 use Rattle.dual_lift.specs.TooLarge.{excess_if}
 use Rattle.dual_lift.specs.declared.error.Excess.{Excess}
-use Rattle.lp_rows.specs.Layout.{Starts}
+use Rattle.fleet_model.specs.declared.parts.Pair.{Pair}
+use Rattle.lp_rows.specs.Layout.{Starts, all_kept, concat_below}
 use Rattle.dual_bound.specs.Fractions.{IsMixedAt, IsWorth}
 use Rattle.dual_bound.specs.OfTables.{ArePricesOf, IsMixedOf}
 use Rattle.dual_bound.specs.Prices.{ArePrices, max_scale}
 use Rattle.dual_bound.specs.Worth.{worth_of}
 use Rattle.dual_bound.specs.WrittenOrder.{ArePricesInOrder, IsMixedInOrder}
+use Rattle.dual_bound.specs.declared.mixed.Mixed.{Mixed}
 use Rattle.dual_bound.specs.declared.prices.Prices.{Prices}
+use Rattle.price_lift.specs.Lifted.{AreLiftedPrices}
 use Rattle.price_lift.specs.PaidBack.{payback_excess_by}
+use Rattle.price_lift.specs.Parts.{weights_at}
 use Rattle.price_lift.specs.TooLarge.{prices_excess}
 use Rattle.price_lift.specs.declared.lift.Lifted.{Lifted}
 
@@ -32,11 +36,19 @@ end_duals t hint = priced_values t hint.duals hint.dual_scale
 abbrev pub refusing_duals : Tables → RefusalHint → FracRow
 refusing_duals t hint = priced_values t hint.multipliers (pos 1)
 
--- the parts of the pairs, whose columns are the first, over the scale of all columns
-abbrev pub pair_parts : Tables → Domains → PointHint → FracRow
-pair_parts t keeps hint = record { numbers = list_below (λ column. pos (part_in hint.point column)) (pairs_kept t keeps); den = pos hint.scale }
+-- the parts of the first columns, which are those of the pairs, over the scale of all columns
+abbrev pub first_parts : List ℕ → ℕ → ℕ → FracRow
+first_parts point scale count = record { numbers = list_below (λ column. pos (part_in point column)) count; den = pos scale }
 
--- step 6: the scale of the weights, which are the parts in lowest terms
+abbrev pub pair_parts : Tables → Domains → PointHint → FracRow
+pair_parts t keeps hint = first_parts hint.point hint.scale (pairs_kept t keeps)
+
+-- the weights of pairs: their parts in lowest terms
+pub record IsMixedOfParts (parts : FracRow) (pairs : List Pair) (mixed : Mixed) : Type 0 where
+  pub scale : mixed.scale ≡ (reduced parts).den
+  pub weights : mixed.weights ≡ concat_below (weights_at pairs (reduced parts).numbers) (length pairs)
+
+-- step 6: the scale of the weights
 abbrev pub parts_excess : FracRow → Option Excess
 parts_excess parts = excess_if (int_lt (pos max_scale) (reduced parts).den) 6 0
 
@@ -67,3 +79,13 @@ pub record IsLiftedRefusingEnd (t : Tables) (keeps : Domains) (lifted : Lifted) 
   pub prices : AreProperPrices t lifted.prices
   pub no_plan : lifted.mixed ≡ None
   pub refutes : ((l : ℕ) → ¬ (IsBare t keeps l)) → pos 0 <ℤ worth_of t keeps lifted.prices 0
+
+-- what a lift of an end gives: its dual values in lowest terms, paid back, and the parts of its pairs
+pub record IsLiftOf (t : Tables) (keeps : Domains) (hint : PointHint) (lifted : Lifted) : Type 0 where
+  pub prices : AreLiftedPrices t keeps (end_duals t hint) lifted.prices
+  pub weights : IsSomeAnd lifted.mixed (IsMixedOfParts (pair_parts t keeps hint) (all_kept t keeps))
+  pub end : IsLiftedEnd t keeps lifted
+
+pub record IsLiftOfRefusing (t : Tables) (keeps : Domains) (hint : RefusalHint) (lifted : Lifted) : Type 0 where
+  pub prices : AreLiftedPrices t keeps (refusing_duals t hint) lifted.prices
+  pub end : IsLiftedRefusingEnd t keeps lifted
