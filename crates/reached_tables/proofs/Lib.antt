@@ -8,4 +8,3 @@ pub mod BasicSums
 pub mod MetPoints
 pub mod Rises
 pub mod SameBases
-pub mod SignEnds

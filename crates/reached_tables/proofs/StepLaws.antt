@@ -1,8 +1,7 @@
 -- Laws of steps over any first table.
-use Rattle.std.proofs.Common.{◌≡◌, ℕ, ◌+◌, ◌-◌, ◌<◌, ℤ, pos, ◌*ℤ◌, ◌<ℤ◌, List, [], ◌∷◌, length, set, None, refl, sym, ◌∙◌, ap, subst, arith, length-set}
+use Rattle.std.proofs.Common.{◌≡◌, ℕ, ◌+◌, ◌-◌, ◌<◌, ℤ, pos, ◌*ℤ◌, ◌<ℤ◌, List, [], ◌∷◌, length, None, refl, sym, ◌∙◌, ap, subst, arith, length-set}
 use Rattle.std.specs.Prelude.{◌↔◌}
 use lib.IntN.{*ℤ_comm}
-use Rattle.sums.specs.Places.{list_below}
 use Rattle.sums.proofs.Places.{length-list_below}
 use Rattle.sums.proofs.Integers.{*ℤ_assoc, *ℤ_left_comm, *ℤ_cancel}
 use Rattle.frac_row.specs.declared.row.FracRow.{FracRow}
@@ -13,7 +12,7 @@ use Rattle.row_store.specs.Points.{surplus, MeetsLines}
 use Rattle.row_store.specs.Steps.{made_positive, stepped, step_growth}
 use Rattle.row_store.proofs.Tables.{pivoted_is_table, length-pivoted, columns_of-pivoted, in_table}
 use Rattle.row_store.proofs.Points.{keeps_points, keeps_surplus}
-use Rattle.reached_tables.specs.Tableaux.{Tableau, first_tableau, IsStep, after_step, tableau_after, AreSteps, IsReachedFrom}
+use Rattle.reached_tables.specs.Tableaux.{Tableau, first_tableau, IsStep, after_step, tableau_after, AreSteps}
 use Rattle.reached_tables.specs.Laws.{KeepsShape, StepsKeepPoints, StepsKeepSurplus, StepsKeepShape}
 use Rattle.reached_tables.proofs.Uprights.{IsUpright, upright, upright_height, upright_points, upright_den, upright_surplus}
 
@@ -143,22 +142,3 @@ pub steps_keep_surplus : StepsKeepSurplus
 steps_keep_surplus first columns table basis point scale row is shape r meets lt =
     subst (λ t. (surplus (row_at t.table row) (columns_of first - 1) point scale *ℤ (row_at first row).den) ≡ (surplus (row_at first row) (columns_of first - 1) point scale *ℤ (row_at t.table row).den)) r.is
     (surplus_after first columns r.places point scale row is shape r.steps meets lt)
-
--- ---- what is reached, by how many steps
--- the first table
-pub reached_first : (table : List FracRow) (columns : ℕ) (basis : List ℕ) → basis ≡ list_below (λ line. columns + line) (height_of table) → (r : IsReachedFrom table columns table basis) × (r.places ≡ [])
-unfolding first_tableau
-reached_first table columns basis e = (record { places = []; steps = tt; is = ap (λ b. record { table = table; basis = b }) (sym e) }, refl)
-
--- .. and the table after one step more
-pub reached_next : (first : List FracRow) (columns : ℕ) (table after : List FracRow) (basis : List ℕ) (place : Place) (r : IsReachedFrom first columns table basis) → IsStep table columns place.row place.column → after ≡ stepped table place.row place.column
-    → (next : IsReachedFrom first columns after (set basis place.row place.column)) × (next.places ≡ place ∷ r.places)
-unfolding after_step
-reached_next first columns table after basis place r s e = (
-  record {
-    places = place ∷ r.places;
-    steps = (r.steps, subst (λ t. IsStep t.table columns place.row place.column) (sym r.is) s);
-    is = ap (λ t. after_step t place) r.is ∙ ap (λ t. record { table = t; basis = set basis place.row place.column }) (sym e);
-  },
-  refl,
-)

@@ -2,4 +2,3 @@ pub mod Tableaux
 pub mod Laws
 pub mod Duality
 pub mod BasicPoints
-pub mod Signs

@@ -3,7 +3,6 @@
 ghost use Rattle.reached_tables.specs.BasicPoints.{StepsMeetAtCost};
 ghost use Rattle.reached_tables.specs.Duality.{StepsHaveTables, StepsHaveUnitColumns, StepsReadOff};
 ghost use Rattle.reached_tables.specs.Laws.{StepsKeepPoints, StepsKeepShape, StepsKeepSurplus};
-ghost use Rattle.reached_tables.specs.Signs.{BestBySignsIsLeast, BestBySignsMeets, RowRefuses};
 
 /// A point meets the lines of a reached table exactly where it meets those of the first table.
 pub fn steps_keep_points()
@@ -43,19 +42,4 @@ pub fn steps_have_unit_columns()
 /// that the cost row tells.
 pub fn steps_meet_at_cost()
     ensures { StepsMeetAtCost }
-{}
-
-/// So it does at the best by signs.
-pub fn best_by_signs_meets()
-    ensures { BestBySignsMeets }
-{}
-
-/// No point of the lines costs less than the cost row tells there.
-pub fn best_by_signs_is_least()
-    ensures { BestBySignsIsLeast }
-{}
-
-/// No point meets the lines where a row has a right side other than 0 and no real column with a number of its sign.
-pub fn row_refuses()
-    ensures { RowRefuses }
 {}

@@ -11,6 +11,3 @@ not_negative_is z e = grind (arith, ints)
 
 pub negative_tested : (z : ℤ) → z <ℤ pos 0 → is_negative z ≡ true
 negative_tested z less = grind (arith, ints)
-
-pub not_negative_tested : (z : ℤ) → pos 0 ≤ℤ z → is_negative z ≡ false
-not_negative_tested z some = grind (arith, ints)
