@@ -3,7 +3,7 @@ ghost use Rattle.sums.specs.Ways.{ways_to_choose};
 ghost use Rattle.simplex_frac.specs.Bases.{bases_of};
 
 /// The greatest count that is told.
-pub const MOST_BASES: u128 = (1 << 127) - 1;
+const MOST_BASES: u128 = (1 << 127) - 1;
 
 /// How many bases there are: in how many ways a column for each line can be chosen, of so many real ones and the
 /// identity block. None exactly where that is past 2^127 - 1.
