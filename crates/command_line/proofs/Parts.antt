@@ -7,8 +7,8 @@ use Rattle.clap.specs.declared.builder.arg.Arg.{Arg}
 use Rattle.clap.specs.declared.builder.command.Command.{Command}
 use Rattle.clap.specs.declared.builder.command.Command.TheViews.{out-Command}
 use Rattle.command_line.specs.declared.arguments.Argument.{Argument}
-use Rattle.command_line.specs.declared.commands.CommandLine.{CommandLine}
-use Rattle.command_line.specs.Program.{Builds, BuildsArguments, BuildsCommands, IsRule, app_by, bare_app, our_app, rule_by, with_argument, with_command, with_group, with_line}
+use Rattle.command_line.specs.declared.commands.CommandRow.{CommandRow}
+use Rattle.command_line.specs.Program.{Builds, BuildsArguments, BuildsCommands, IsRule, app_by, bare_app, our_app, rule_by, with_argument, with_command, with_group, with_row}
 
 no_global : (before after global : Bool) → global ≡ false → after ≡ (before || global) → after ≡ before
 no_global true after global none same = same
@@ -24,11 +24,11 @@ argument_more first before after arguments k a arg within builds is adds = recor
 }
 
 -- one more command
-pub command_more : (first before below after : Command) (commands : List CommandLine) (k : ℕ) (line : CommandLine) → k < length commands
-    → BuildsCommands first (take k commands) before → Builds (app_by (get_or commands k line)) below → AddsSubcommand before below after
+pub command_more : (first before below after : Command) (commands : List CommandRow) (k : ℕ) (row : CommandRow) → k < length commands
+    → BuildsCommands first (take k commands) before → Builds (app_by (get_or commands k row)) below → AddsSubcommand before below after
     → BuildsCommands first (take (k + 1) commands) after
-command_more first before below after commands k line within builds is adds = record {
-  shape = adds.shape is.local ∙ ap₂ with_command builds.shape is.shape ∙ sym (fold_more with_line (app_of first) commands k line within);
+command_more first before below after commands k row within builds is adds = record {
+  shape = adds.shape is.local ∙ ap₂ with_command builds.shape is.shape ∙ sym (fold_more with_row (app_of first) commands k row within);
 }
 
 -- one more group of arguments
@@ -41,7 +41,7 @@ group_more start before after groups k group within builds adds = record {
 }
 
 -- a program with all commands
-pub all_commands : {E : Type 0} (bare : Command) (made : Result Command E) (commands : List CommandLine) → app_of bare ≡ bare_app
-    → fold with_line bare_app commands ≡ our_app → IfOk made (BuildsCommands bare commands) → IfOk made (λ command. app_of command ≡ our_app)
+pub all_commands : {E : Type 0} (bare : Command) (made : Result Command E) (commands : List CommandRow) → app_of bare ≡ bare_app
+    → fold with_row bare_app commands ≡ our_app → IfOk made (BuildsCommands bare commands) → IfOk made (λ command. app_of command ≡ our_app)
 all_commands bare (Err fault) commands is ours builds = tt
-all_commands bare (Ok command) commands is ours builds = builds.shape ∙ ap (λ app. fold with_line app commands) is ∙ ours
+all_commands bare (Ok command) commands is ours builds = builds.shape ∙ ap (λ app. fold with_row app commands) is ∙ ours

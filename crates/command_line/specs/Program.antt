@@ -8,7 +8,7 @@ use Rattle.clap.specs.declared.builder.command.Command.{Command}
 use Rattle.clap.specs.declared.builder.command.Command.TheViews.{out-Command}
 use Rattle.command_line.specs.declared.arguments.Argument.{Argument}
 use Rattle.command_line.specs.declared.arguments.Argument.TheVariants as argument
-use Rattle.command_line.specs.declared.commands.CommandLine.{CommandLine}
+use Rattle.command_line.specs.declared.commands.CommandRow.{CommandRow}
 
 -- a word that has to be there
 abbrev pub word_named : Text → Rule
@@ -98,12 +98,12 @@ abbrev pub with_group : App → List Argument → App
 with_group app arguments = fold with_argument app arguments
 
 -- a command of the code
-abbrev pub app_by : CommandLine → App
-app_by line = fold (λ app group. with_group app group.now) (new_app line.name.now) line.groups.now
+abbrev pub app_by : CommandRow → App
+app_by row = fold (λ app group. with_group app group.now) (new_app row.name.now) row.groups.now
 
 -- a program with one more of them
-abbrev pub with_line : App → CommandLine → App
-with_line app line = with_command app (app_by line)
+abbrev pub with_row : App → CommandRow → App
+with_row app row = with_command app (app_by row)
 
 -- the command is read as this one, and none of its arguments holds for other commands too
 pub record Builds (app : App) (command : Command) : Type 0 where
@@ -116,8 +116,8 @@ pub record BuildsArguments (old : Command) (arguments : List Argument) (new : Co
   pub globals : (out-Command new).has_globals ≡ (out-Command old).has_globals
 
 -- the same with these commands too
-pub record BuildsCommands (old : Command) (commands : List CommandLine) (new : Command) : Type 0 where
-  pub shape : app_of new ≡ fold with_line (app_of old) commands
+pub record BuildsCommands (old : Command) (commands : List CommandRow) (new : Command) : Type 0 where
+  pub shape : app_of new ≡ fold with_row (app_of old) commands
 
 -- the argument is read by this rule, and holds for its command alone
 pub record IsRule (rule : Rule) (argument : Arg) : Type 0 where

@@ -3,7 +3,7 @@ use crate::arguments::Argument;
 
 /// A command: its name, and what it takes, group by group.
 #[derive(Clone, Copy)]
-pub(crate) struct CommandLine<'a> {
+pub(crate) struct CommandRow<'a> {
     pub(crate) name: &'a str,
     pub(crate) groups: &'a [&'a [Argument<'a>]],
 }
@@ -35,24 +35,24 @@ const DATES: &[Argument<'static>] = &[Argument::Word("date"), Argument::Word("co
 const MADE: &[Argument<'static>] = &[Argument::Word("number"), Argument::Word("legs")];
 
 /// The commands in the order in which they are told.
-pub(crate) const COMMANDS: &[CommandLine<'static>] = &[
-    CommandLine {
+pub(crate) const COMMANDS: &[CommandRow<'static>] = &[
+    CommandRow {
         name: "judge",
         groups: &[FOLDER, TABLE_OPTIONS],
     },
-    CommandLine {
+    CommandRow {
         name: "solve",
         groups: &[FOLDER, TABLE_OPTIONS, ROTATION_OPTIONS, SEARCH_OPTIONS],
     },
-    CommandLine {
+    CommandRow {
         name: "check",
         groups: &[FOLDER, TABLE_OPTIONS],
     },
-    CommandLine {
+    CommandRow {
         name: "tails",
         groups: &[FOLDER, TABLE_OPTIONS, DATES, ROTATION_OPTIONS],
     },
-    CommandLine {
+    CommandRow {
         name: "make",
         groups: &[FOLDER, MADE],
     },

@@ -4,7 +4,7 @@ ghost use Rattle.clap.specs.Words.{app_of};
 ghost use Rattle.command_line.specs.Program.{Builds, BuildsArguments, BuildsCommands, app_by, bare_app, our_app};
 
 use crate::arguments::{Argument, arg_of};
-use crate::commands::{COMMANDS, CommandLine};
+use crate::commands::{COMMANDS, CommandRow};
 use clap::Command;
 use std::alloc::{AllocError, Global};
 
@@ -26,24 +26,24 @@ fn bare_program<'a>(alloc: Global) -> Command<'a>
 fn with_commands<'a>(
     alloc: Global,
     program: Command<'a>,
-    commands: &[CommandLine<'a>],
+    commands: &[CommandRow<'a>],
 ) -> Result<Command<'a>, AllocError>
     ensures { IfOk result (BuildsCommands program.entry commands.now) }
 {
     let mut program = program;
-    for line in commands {
-        let command = command_of(alloc, line)?;
+    for row in commands {
+        let command = command_of(alloc, row)?;
         program = program.subcommand(command)?;
     }
     Ok(program)
 }
 
 /// One command.
-fn command_of<'a>(alloc: Global, line: &CommandLine<'a>) -> Result<Command<'a>, AllocError>
-    ensures { IfOk result (Builds (app_by line.now)) }
+fn command_of<'a>(alloc: Global, row: &CommandRow<'a>) -> Result<Command<'a>, AllocError>
+    ensures { IfOk result (Builds (app_by row.now)) }
 {
-    let mut command = Command::new(alloc, line.name);
-    for group in line.groups {
+    let mut command = Command::new(alloc, row.name);
+    for group in row.groups {
         command = with_arguments(alloc, command, group)?;
     }
     Ok(command)
