@@ -1,0 +1,101 @@
+"""Which hint belongs to an answer."""
+
+import os
+import subprocess
+import sys
+
+from hints.saying import Hint, quietly, typed
+from hints.words import Call
+
+TOP = os.path.dirname(os.path.dirname(os.path.dirname(os.path.realpath(__file__))))
+PROGRAM = os.path.join(TOP, "crates", "fleetplan", "out", "fleetplan")
+# What one more run of the program may take.
+SECONDS = 5
+# What an answer of `tails` may hold that is looked through.
+MOST_LETTERS = 1 << 22
+
+
+def put(hint):
+    """Writes a hint to standard error, also where a name of a table has letters that the terminal lacks."""
+    sys.stderr.flush()
+    sys.stderr.buffer.write(str(hint).encode(sys.stderr.encoding or "utf-8", "backslashreplace"))
+    sys.stderr.flush()
+
+
+def hint_for(status, said, command, words):
+    """Returns the hint for a status, what was said, and the words. What fails on the way leaves what was found before."""
+    hint, call = Hint(), Call(words)
+    try:
+        tell(hint, status, said, command, call)
+    except (Exception, MemoryError, RecursionError):  # pylint: disable=broad-except
+        pass
+    return hint
+
+
+def tell(hint, status, said, command, call):
+    # Each module is loaded where it speaks alone, since most answers need none.
+    if status == "building":
+        tell_preview(hint, command, call)
+    elif status == "2":
+        from hints import usage
+
+        usage.explain(hint, command, call)
+    elif call.folder is None or call.faults:
+        return
+    elif status == "7":
+        from hints import files
+
+        files.explain(hint, command, call)
+    elif status in ("6", "9"):
+        tell_refusal(hint, command, call, said or once_more(call))
+    elif status == "4":
+        from hints import infeasible
+
+        infeasible.explain(hint, call)
+    elif status in ("0", "3", "5"):
+        tell_answer(hint, status, said, command, call)
+
+
+def once_more(call):
+    """Returns what the program prints for the same words: where it refused something, or writes nothing, a further run changes
+    nothing."""
+    how = {"stdin": subprocess.DEVNULL, "stdout": subprocess.PIPE, "stderr": subprocess.DEVNULL, "timeout": SECONDS}
+    ran = subprocess.run([PROGRAM, *call.all], check=False, **how)
+    return ran.stdout[:MOST_LETTERS].decode("utf-8", "replace")
+
+
+def tell_refusal(hint, command, call, said):
+    from hints import refused_plans, refused_proofs, refused_tables
+
+    line = said.strip()
+    refused_tables.explain(hint, call.folder, line)
+    refused_plans.explain(hint, command, call, line)
+    refused_proofs.explain(hint, call.folder, line, call)
+
+
+def tell_answer(hint, status, said, command, call):
+    """Says of a plan what stayed open, and of its rotations what helps."""
+    if status != "0":
+        from hints import open_ends
+
+        quietly(open_ends.explain, hint, command, call, PROGRAM)
+    if call.command in ("solve", "make", "tails"):
+        from hints import rotations
+
+        if call.command == "tails":
+            answers = rotations.of_summary(said or once_more(call))
+        else:
+            answers = rotations.of_file(call.folder)
+        rotations.explain(hint, command, call, answers)
+
+
+def tell_preview(hint, command, call):
+    """Says, before the program is built, how to have a look until then, or that the words are no call in any case."""
+    if call.faults or call.wants_help:
+        from hints import usage
+
+        usage.explain(hint, command, call)
+        return
+    hint.say("the program isn't built yet, or is older than its code. For an answer before it is, not proved, on a copy of the folder,")
+    hint.say("call in another terminal:")
+    hint.show(typed([os.path.join(os.path.dirname(command), "tools", "preview"), *call.all]))

@@ -1,0 +1,168 @@
+"""What is said where a file couldn't be read or written (status 7): which one, and what stands in its place."""
+
+import difflib
+import os
+import shutil
+import stat
+
+from hints.records import TABLES
+from hints.saying import listed, typed
+
+SECTION = "the-files-of-a-folder"
+READS = {
+    "judge": (*TABLES, "plan.csv"),
+    "tails": (*TABLES, "plan.csv"),
+    "solve": TABLES,
+    "check": (*TABLES, "proof.txt", "plan.csv"),
+    "make": (),
+}
+WRITES = {"solve": ("plan.csv", "proof.txt", "rotation.csv"), "make": (*TABLES, "plan.csv", "proof.txt", "rotation.csv")}
+# How many names of a folder are looked through.
+MOST_NAMES = 2000
+
+
+def explain(hint, command, call):
+    """Says which file of the call is missing, is a folder, or may not be read or written."""
+    if tell_folder(hint, call.folder, call) or tell_reads(hint, command, call) or tell_writes(hint, call):
+        hint.see(SECTION)
+        return
+    hint.say("no file of this call stands in the way now.")
+    hint.say("The status is the same where the output could not be put: a full disk, or a pipe whose reader has gone.")
+
+
+def names_in(folder):
+    """Returns the names in a folder, or none where it may not be listed."""
+    try:
+        return sorted(os.listdir(folder or "/"))[:MOST_NAMES]
+    except OSError:
+        return []
+
+
+def kind_of(path):
+    """Returns what stands under a path: 'nothing', 'folder', 'file', 'other', or 'hidden' where that may not be known."""
+    try:
+        mode = os.stat(path).st_mode
+    except (FileNotFoundError, NotADirectoryError):
+        return "nothing"
+    except (OSError, ValueError):
+        return "hidden"
+    return "folder" if stat.S_ISDIR(mode) else "file" if stat.S_ISREG(mode) else "other"
+
+
+def tell_folder(hint, folder, call):
+    """Says what is wrong with the folder itself, and returns whether anything is."""
+    kind = kind_of(folder or "/")
+    if kind == "folder":
+        if os.access(folder or "/", os.X_OK):
+            return False
+        hint.say(f"you may not enter the folder {folder}")
+    elif kind == "nothing":
+        hint.say(f"there is no folder {folder}")
+        above, name = os.path.split(folder.rstrip("/"))
+        beside = [it for it in names_in(above or ".") if os.path.isdir(os.path.join(above, it))]
+        near = difflib.get_close_matches(name, beside, 1, 0.6)
+        if call.command == "make":
+            hint.say("make writes into a folder that is there:")
+            hint.show(typed(["mkdir", "-p", folder]))
+        elif near:
+            hint.say(f"the nearest folder is {os.path.join(above, near[0])}")
+    elif kind == "hidden":
+        hint.say(f"you may not look at {folder}")
+    else:
+        hint.say(f"{folder} is a file, and DIR is the folder that holds the tables")
+        if os.path.basename(folder) in (*TABLES, "plan.csv", "proof.txt"):
+            hint.say(f"give its folder: {os.path.dirname(folder) or '.'}")
+    return True
+
+
+def tell_reads(hint, command, call):
+    """Says which file can't be read, the first in the order of reading, and returns whether one can't."""
+    folder = call.folder
+    bad = [it for it in READS[call.command] if wrong_to_read(os.path.join(folder, it))]
+    if call.command == "check" and bad == ["plan.csv"] and not says_plan(os.path.join(folder, "proof.txt")):
+        bad = []
+    if not bad:
+        return False
+    name = bad[0]
+    hint.say(f"{os.path.join(folder, name)} {wrong_to_read(os.path.join(folder, name))}")
+    missing = [it for it in bad[1:] if kind_of(os.path.join(folder, it)) == "nothing"]
+    if missing and not set(TABLES) <= set(bad) and kind_of(os.path.join(folder, name)) == "nothing":
+        hint.say(f"missing too: {listed(missing)}")
+    if set(TABLES) <= set(bad):
+        tell_other_folders(hint, command, call)
+    elif kind_of(os.path.join(folder, name)) == "nothing":
+        tell_missing(hint, command, call, name)
+    return True
+
+
+def wrong_to_read(path):
+    """Returns why a file can't be read, or None."""
+    kind = kind_of(path)
+    if kind == "file":
+        return None if os.access(path, os.R_OK) else "may not be read by you"
+    return {"nothing": "is missing", "folder": "is a folder, and a file is wanted", "hidden": "may not be looked at"}.get(kind)
+
+
+def says_plan(path):
+    """Returns whether a proof says that a plan comes with it."""
+    try:
+        with open(path, "rb") as it:
+            return it.read(64).split(b"\n")[1:2] == [b"plan yes"]
+    except OSError:
+        return False
+
+
+def tell_other_folders(hint, command, call):
+    """Says that no table stands in the folder, and in which folders below it there are tables."""
+    hint.say(f"none of the five tables stands in {call.folder}: {listed(TABLES)}")
+    below = [os.path.join(call.folder, it) for it in names_in(call.folder)]
+    below = [it for it in below if os.path.isfile(os.path.join(it, "legs.csv"))]
+    if below:
+        hint.say("tables stand in folders below it, such as:")
+        words = list(call.all)
+        words[call.words[0][0]] = below[0]
+        hint.show(typed([command, *words]))
+
+
+def tell_missing(hint, command, call, name):
+    """Says what may stand for a missing file, and how to come by it."""
+    has = names_in(call.folder)
+    like = [it for it in has if it.lower() == name]
+    near = like or [it for it in difflib.get_close_matches(name, has, 3, 0.75) if it not in READS["check"] + ("rotation.csv",)]
+    if near:
+        why = "in other letters" if like else "with a name like it"
+        hint.say(f"there is {near[0]}, {why}: names are taken letter by letter")
+        hint.show(typed(["mv", os.path.join(call.folder, near[0]), os.path.join(call.folder, name)]))
+    elif name == "throughs.csv":
+        hint.say("where there are no through pairs an empty file will do:")
+        hint.show(typed(["touch", os.path.join(call.folder, name)]))
+    elif name in ("plan.csv", "proof.txt"):
+        hint.say("solve writes it, where it has a plan:" if name == "plan.csv" else "solve writes it:")
+        start = ["--day-start", call.given["day-start"][0]] if "day-start" in call.given else []
+        hint.show(typed([command, "solve", call.folder, *start]))
+
+
+def tell_writes(hint, call):
+    """Says which file can't be written, and returns whether one can't."""
+    for name in WRITES.get(call.command, ()):
+        path = os.path.join(call.folder, name)
+        why = wrong_to_write(path)
+        if why:
+            hint.say(f"{path} {why}")
+            return True
+    if call.command in WRITES and shutil.disk_usage(call.folder or "/").free == 0:
+        hint.say(f"the disk of {call.folder} is full")
+        return True
+    return False
+
+
+def wrong_to_write(path):
+    """Returns why a file can't be written, or None."""
+    kind = kind_of(path)
+    if kind == "folder":
+        return "is a folder, and a file of this name is to be written: move it away"
+    if kind == "file":
+        return None if os.access(path, os.W_OK) else "may not be written by you"
+    if kind == "nothing" and not os.access(os.path.dirname(path) or "/", os.W_OK):
+        return "can't be made: you may not write in its folder"
+    return None

@@ -1,0 +1,64 @@
+"""What is wrong with the first record of a table."""
+
+from hints.forms import FIELDS
+from hints.records import HEADERS, MARK, bytes_of, records_in
+from hints.saying import plain
+
+# How a file begins that is no table.
+KINDS = (
+    (b"PK\x03\x04", "it is a spreadsheet or another packed file, and no text: save it as CSV (UTF-8, comma delimited)"),
+    (b"\xd0\xcf\x11\xe0", "it is a spreadsheet, and no text: save it as CSV (UTF-8, comma delimited)"),
+    (b"\xff\xfe", "it is in UTF-16: save it as CSV in UTF-8"),
+    (b"\xfe\xff", "it is in UTF-16: save it as CSV in UTF-8"),
+    (MARK + MARK, "two byte order marks stand at its beginning: save it without one"),
+)
+# What stands between fields in the place of commas.
+OTHERS = ((";", "semicolons"), ("\t", "tabs"), ("|", "bars"))
+
+
+def explain_header(path, name):
+    """Returns what is wrong with the header of a table, in sentences."""
+    data = bytes_of(path)
+    wanted = HEADERS[name]
+    begins = f"its first line has to be {','.join(wanted)}"
+    if not data:
+        return [f"{path} is empty", begins]
+    for start, told in KINDS:
+        if data.startswith(start):
+            return [f"{path}: {told}", begins]
+    first = next(records_in(data), None)
+    if first is None:
+        return [f"{path} has blank lines alone", begins]
+    has = tuple(first.texts)
+    if has == wanted:
+        return []
+    why = difference(has, wanted, name)
+    return [f"{path} begins with {plain(str(first))}", *([why] if why else []), begins]
+
+
+def difference(has, wanted, name):
+    """Says in what a header differs from the one that is wanted, where that is plain."""
+    trimmed = tuple(it.strip().strip("\ufeff") for it in has)
+    if any("\ufeff" in it for it in has):
+        return "a byte order mark stands in the midst of it, which can't be seen: type the line anew"
+    for letter, told in OTHERS:
+        if len(has) == 1 and tuple(it.strip().lower() for it in has[0].split(letter)) == wanted:
+            return f"there are {told} where commas are wanted, most likely in each line: save it as CSV with commas"
+    if has[: len(wanted)] == wanted and not any(has[len(wanted) :]):
+        return "there are commas at its end, most likely in each line: a column is empty there, so take it away"
+    if has[: len(wanted)] == wanted:
+        return f"there are more columns than {len(wanted)}: take away {plain(','.join(has[len(wanted):]))}, in each line"
+    if trimmed == wanted:
+        return "there are blanks beside its commas: nothing may stand there, in no line"
+    if tuple(it.lower() for it in trimmed) == wanted:
+        return "it has capital letters, and small ones are wanted"
+    if sorted(it.lower() for it in trimmed) == sorted(wanted):
+        return "its columns stand in another order: bring them into this one, in each line"
+    if has[0].lower().startswith("sep="):
+        return "take this line away: the header comes first"
+    others = [it for it, header in HEADERS.items() if header == has and it != name]
+    if others:
+        return f"that is the header of {others[0]}"
+    if len(has) == len(wanted) and not any(wrong(text) for wrong, text in zip(FIELDS[name], has)):
+        return "that is a good record: write the header above it"
+    return None

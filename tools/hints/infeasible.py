@@ -1,0 +1,111 @@
+"""What is said where no plan is legal (status 4): the first causes that simple counts show, and what to try."""
+
+import os
+
+from hints.records import Unread
+from hints.saying import counted, listed
+from hints.schedule import Schedule, under_way
+
+SECTION = "what-solve-prints-and-writes"
+# The most groups of fleets that are counted one by one.
+MOST_GROUPS = 60
+# The most causes of one kind that are told.
+MOST_CAUSES = 3
+
+
+def explain(hint, call):
+    """Says why no plan is legal, as far as it is plain, and what to try."""
+    try:
+        causes = list(causes_of(Schedule(call.folder, call.value("day-start"))))
+    except Unread:
+        causes = []
+    for text in causes:
+        hint.say(text)
+    if not causes:
+        hint.say("the tables don't show the cause at a look: proof.txt has it, as prices by which no plan can be legal.")
+        hint.say("Try more pairs in costs.csv, more aircraft in fleets.csv, or other times in legs.csv.")
+    if os.path.exists(os.path.join(call.folder, "plan.csv")):
+        hint.say(f"{os.path.join(call.folder, 'plan.csv')} is of an earlier call: this one has found no plan, and left it as it was")
+    hint.see(SECTION)
+
+
+def causes_of(schedule):
+    """Returns the causes that hold for certain, those of the first kind that has any."""
+    for find in (legs_without_pair, legs_out_of_balance, legs_without_aircraft, pairs_out_of_balance, aircraft_wanted):
+        causes = list(find(schedule))
+        if causes:
+            more = [f"and {len(causes) - MOST_CAUSES} more of this kind"] if len(causes) > MOST_CAUSES else []
+            return causes[:MOST_CAUSES] + more
+    return []
+
+
+def legs_without_pair(schedule):
+    """A leg that no fleet may fly."""
+    none = [flight for flight, fleets in schedule.fleets_of.items() if not fleets]
+    if none:
+        yield f"no fleet may fly {listed(none)}: costs.csv has no record of {'it' if len(none) == 1 else 'them'}"
+
+
+def legs_out_of_balance(schedule):
+    """A station at which more legs arrive each day than depart, or fewer."""
+    for station in schedule.extra:
+        comes = [it.flight for it in schedule.legs.values() if it.end == station]
+        goes = [it.flight for it in schedule.legs.values() if it.start == station]
+        if len(comes) != len(goes):
+            yield (
+                f"each day {counted(len(comes), 'flight')} arrive{'s' if len(comes) == 1 else ''} at {station} and {len(goes)} "
+                f"depart{'s' if len(goes) == 1 else ''}, and as many have to depart as arrive"
+                f" (arriving {listed(comes) or 'none'}; departing {listed(goes) or 'none'})"
+            )
+
+
+def legs_without_aircraft(schedule):
+    """A leg whose fleets all have no aircraft."""
+    for fleets in {tuple(it): None for it in schedule.fleets_of.values()}:
+        if not any(schedule.aircraft[it] for it in fleets):
+            flights = [flight for flight, own in schedule.fleets_of.items() if tuple(own) == fleets]
+            has = "has no aircraft" if len(fleets) == 1 else "have no aircraft"
+            yield f"{listed(flights)} may be flown by {listed(fleets)} alone, which {has} in fleets.csv"
+
+
+def groups(schedule):
+    """Returns the groups of fleets that are all that may fly some leg, single fleets first, and all fleets."""
+    found = {tuple(sorted(it)): None for it in schedule.fleets_of.values()}
+    found[tuple(sorted(schedule.aircraft))] = None
+    return sorted(found, key=lambda it: (len(it), it))[:MOST_GROUPS]
+
+
+def pairs_out_of_balance(schedule):
+    """A station and a group of fleets that have to bring more legs there than they may fly away, or the other way round."""
+    for group in groups(schedule):
+        own = set(group)
+        for at, other, arrive, depart in (("end", "start", "arrive", "depart"), ("start", "end", "depart", "arrive")):
+            forced, free = {}, {}
+            for leg in schedule.legs.values():
+                if own.issuperset(schedule.fleets_of[leg.flight]):
+                    forced.setdefault(getattr(leg, at), []).append(leg.flight)
+                if not own.isdisjoint(schedule.fleets_of[leg.flight]):
+                    free.setdefault(getattr(leg, other), []).append(leg.flight)
+            for station, flights in forced.items():
+                if len(flights) > len(free.get(station, ())):
+                    yield (
+                        f"at {station} {listed(flights)} {arrive}{'s' if len(flights) == 1 else ''}, which {listed(group)} alone may "
+                        f"fly, and of those that {depart} there {listed(group)} may fly {listed(free.get(station, ())) or 'none'}"
+                    )
+
+
+def aircraft_wanted(schedule):
+    """A minute in which more aircraft of a group of fleets are wanted than there are."""
+    for group in groups(schedule):
+        own, has = set(group), sum(schedule.aircraft[it] for it in group)
+        legs = [leg for leg in schedule.legs.values() if schedule.fleets_of[leg.flight] and own.issuperset(schedule.fleets_of[leg.flight])]
+        flown = [(leg, min(schedule.busy(leg, it) for it in schedule.fleets_of[leg.flight])) for leg in legs]
+        minutes = under_way(flown)
+        most = max(minutes)
+        is_all = len(group) == len(schedule.aircraft)
+        which = "" if is_all else f" that {listed(group)} alone may fly"
+        have = f"and fleets.csv has {has} aircraft {'in all' if is_all else f'of {listed(group)}'}"
+        if most > has:
+            yield f"at {schedule.clock(minutes.index(most))} {most} flights{which} are in the air or in their turn, {have}"
+        elif len(legs) == len(schedule.legs) and schedule.used(flown) > has:
+            yield f"the flights need {schedule.used(flown)} aircraft, however they are shared out, {have}"

@@ -1,0 +1,63 @@
+"""What is said of a proof that is refused (status 9 of check)."""
+
+import os
+import re
+import stat
+
+from hints.saying import plain, quietly
+
+TEXT = "what-is-wrong-with-the-text-of-a-proof-kinds-1-to-9"
+RULES = "what-check-prints"
+UNREAD = re.compile(r"proof refused: line (\d+) kind (\d+)")
+BROKEN = re.compile(r"broken: node (\d+) rule (\d+)")
+KINDS = {
+    1: "the first line of proof.txt isn't its head",
+    2: "this line has no line feed, or a byte that no proof has",
+    3: "proof.txt ends where this line is due",
+    4: "this line may not stand here",
+    5: "this line has too many or too few words, or spaces",
+    6: "a number of this line hasn't its form, or is out of its range",
+    7: "this line names a flight, fleet or station that the tables don't have",
+    8: "this line isn't in its order",
+    9: "too many lines trim and split stand above this node",
+}
+RULE = {
+    1: "the scale of this node's prices is out of its range",
+    2: "a rent or a price of this node is out of its range",
+    3: "a price of this node rises in the course of the day",
+    4: "a price at the day start is above the day's last one and the rent",
+    5: "legs of this node keep more or fewer fleets than its line claims",
+    6: "the prices of this node don't refute it",
+    7: "the bound of this node is below the plan's cost, or there is no plan",
+    8: "this trim or split names a pair that it may not, or no part of the trim ends at once",
+    9: "the fractional assignment isn't one of this node",
+    10: "the fractional assignment is whole, or doesn't cost what the prices are worth, or doesn't part the pair",
+}
+# Proofs have no limit of their length; this many lines are looked through for the one that is told.
+MOST_LINES = 1_000_000
+
+
+def explain(hint, folder, said, call):
+    """Says what the line of a refused proof means, and shows the line of the text."""
+    unread, broken = UNREAD.fullmatch(said), BROKEN.fullmatch(said)
+    if unread and int(unread[2]) in KINDS:
+        hint.say(KINDS[int(unread[2])])
+        quietly(show_line, hint, os.path.join(folder, "proof.txt"), int(unread[1]))
+        hint.see(TEXT)
+    elif broken and int(broken[2]) in RULE:
+        hint.say(RULE[int(broken[2])])
+        start = call.given["day-start"][0] if "day-start" in call.given else "03:00, where none is given"
+        hint.say(f"a proof counts minutes from the day start that it was made for, and these words say {start}")
+        hint.see(RULES)
+
+
+def show_line(hint, path, number):
+    """Shows a line of the proof, where it has one and it is within reach."""
+    if number > MOST_LINES or not stat.S_ISREG(os.stat(path).st_mode):
+        return
+    with open(path, "rb") as lines:
+        for at in range(1, number + 1):
+            line = lines.readline(1 << 20)
+            if at == number and line:
+                hint.say(f"{path}, line {number}:")
+                hint.show(plain(line.rstrip(b"\n").decode("latin-1")))

@@ -1,0 +1,182 @@
+"""What is said of a table that doesn't read (status 6): the record as it stands, what is wrong in it, and what would do."""
+
+import difflib
+import os
+import re
+
+from hints.forms import FIELDS
+from hints.headers import explain_header
+from hints.records import HEADERS, MOST_BYTES, bytes_of, record_of, records_in
+from hints.saying import listed, plain, quietly
+
+SECTION = "what-is-wrong-with-a-table-kinds-1-to-12"
+REFUSAL = re.compile(r"bad input: (\S+) record (\d+) kind (\d+)")
+MEANS = {
+    1: "the first record of this file isn't its header",
+    2: "this record has too many or too few fields",
+    3: "a field of this record isn't UTF-8",
+    4: "a field of this record hasn't its form, or is out of its range",
+    5: "what this record names stands in an earlier record too",
+    6: "this record names a station that stations.csv doesn't have",
+    7: "this record names a flight that legs.csv doesn't have",
+    8: "this record names a fleet that fleets.csv doesn't have",
+    9: "this flight arrives in the minute in which it departs",
+    10: "this flight arrives at the station that it departs from",
+    11: "the file has more records than it may have, and this is the first of them",
+    12: "the file is too long",
+}
+# Of each table the most records, where there is a limit, and how many of its first fields may stand there once.
+LIMITS = {"stations.csv": 200, "fleets.csv": 20, "legs.csv": 1000, "throughs.csv": 2000}
+KEYS = {"stations.csv": 1, "fleets.csv": 1, "legs.csv": 1, "costs.csv": 2, "throughs.csv": 2}
+# Of each kind that looks a name up, where, and the fields of each table that hold such names.
+LOOKUPS = {
+    6: ("stations.csv", {"legs.csv": (1, 3)}),
+    7: ("legs.csv", {"costs.csv": (0,), "throughs.csv": (0, 1)}),
+    8: ("fleets.csv", {"costs.csv": (1,)}),
+}
+
+
+def explain(hint, folder, said):
+    """Says what the line of a refused table means, with what stands there."""
+    found = REFUSAL.fullmatch(said)
+    if not found or int(found[3]) not in MEANS:
+        return
+    name, number, kind = found[1], int(found[2]), int(found[3])
+    path = os.path.join(folder, name)
+    record, told = quietly(look, path, name, number, kind) or (None, [])
+    show(hint, path, record, told or [MEANS[kind]])
+    hint.see("limits" if kind in (11, 12) else SECTION)
+
+
+def show(hint, path, record, told):
+    """Says what is wrong with a record, where it stands, and shows it."""
+    first, *more = told
+    hint.say(f"{path}, {place(record)}: {first}" if record else first)
+    if record:
+        hint.show(plain(str(record)))
+    for text in more:
+        hint.say(text)
+
+
+def look(path, name, number, kind):
+    """Returns the record and what is wrong with it, or nothing where the file doesn't show this fault (any more)."""
+    if kind == 12:
+        size = os.stat(path).st_size
+        return None, [f"{path} has {size:,} bytes, and may have {MOST_BYTES:,}"] if size > MOST_BYTES else []
+    if kind == 1:
+        return None, explain_header(path, name)
+    record = record_of(path, number)
+    told = TELLERS[kind](path, name, record) if record else []
+    return (record, told) if told else None
+
+
+def place(record):
+    """Returns where a record stands in its file."""
+    if record.line != record.last:
+        return f"lines {record.line} to {record.last}"
+    return f"line {record.line}" + (f" (record {record.number})" if record.number != record.line else "")
+
+
+def tell_width(path, name, record):
+    wanted, has = len(HEADERS[name]), len(record.fields)
+    if has == wanted:
+        return None
+    told = [f"it has {has} field{'' if has == 1 else 's'}, and {wanted} are wanted: {','.join(HEADERS[name])}"]
+    if record.last > record.line:
+        told.append(f"a quote is opened in line {record.line}, and the record goes on to line {record.last}: is a quote missing?")
+    elif has == 1 and not record.fields[0].strip():
+        told.append("the line holds blanks alone: take it away, or leave it wholly empty")
+    elif has == 1 and any(it in record.fields[0] for it in (b";", b"\t")):
+        told.append("its fields are apart by semicolons or tabs, and commas are wanted")
+    elif has > wanted and not any(record.fields[wanted:]):
+        told.append("there are commas at its end: take them away")
+    return told
+
+
+def tell_text(path, name, record):
+    for heading, field in zip(HEADERS[name], record.fields):
+        try:
+            field.decode("utf-8")
+        except UnicodeDecodeError as error:
+            told = f"{heading} has the byte {field[error.start]:02X}, which isn't UTF-8"
+            return [f"{told}: write it anew in plain letters, and save the file as UTF-8"]
+    return None
+
+
+def tell_form(path, name, record):
+    told = []
+    for heading, text, wrong in zip(HEADERS[name], record.texts, FIELDS[name]):
+        why = wrong(text)
+        if why:
+            shown = plain(text) if text == text.strip() else f"'{plain(text)}'"
+            told.append(f"{heading} is {shown}, and {why}" if text else f"{heading} is empty")
+    return told
+
+
+def key_of(name, record):
+    return tuple(record.fields[: KEYS[name]])
+
+
+def tell_twice(path, name, record):
+    key = key_of(name, record)
+    for it in records_in(bytes_of(path)):
+        if it.number >= record.number:
+            return None
+        if it.number > 1 and key_of(name, it) == key:
+            stand = "stands" if KEYS[name] == 1 else "stand"
+            return [f"{listed(record.texts[: KEYS[name]])} {stand} in {place(it)} too: take one of the two away", f"there it is {plain(str(it))}"]
+    return None
+
+
+def teller_of_names(kind):
+    """Returns what tells which name of a record another table doesn't have."""
+    table, columns = LOOKUPS[kind]
+
+    def tell(path, name, record):
+        has = names_in(os.path.join(os.path.dirname(path), table))
+        wrong = [record.texts[it] for it in columns[name] if record.texts[it] not in has]
+        return [unknown(it, table, has) for it in dict.fromkeys(wrong)]
+
+    return tell
+
+
+def names_in(path):
+    """Returns the names in the first column of a table, in their order."""
+    return [it.texts[0] for it in records_in(bytes_of(path)) if it.number > 1]
+
+
+def unknown(text, table, has):
+    """Says that a table doesn't have a name, and which ones it has that are like it."""
+    near = difflib.get_close_matches(text, has, 3, 0.6)
+    if near:
+        return f"{text} isn't in {table}: the nearest there {'is' if len(near) == 1 else 'are'} {listed(near)}"
+    return f"{text} isn't in {table}, which has {listed(has)}" if has else f"{text} isn't in {table}, which has no record"
+
+
+def tell_block(path, name, record):
+    flight, _, dep, _, arr = record.texts
+    return [f"{flight} departs and arrives at {dep}: a flight takes 1 to 1439 minutes"] if dep == arr else []
+
+
+def tell_station(path, name, record):
+    flight, start, _, end, _ = record.texts
+    return [f"{flight} departs from {start} and arrives there: write another station"] if start == end else []
+
+
+def tell_many(path, name, record):
+    number, limit = sum(1 for _ in records_in(bytes_of(path))) - 1, LIMITS[name]
+    return [f"the file has {number:,} records below its header, and may have {limit:,}"] if number > limit else []
+
+
+TELLERS = {
+    2: tell_width,
+    3: tell_text,
+    4: tell_form,
+    5: tell_twice,
+    6: teller_of_names(6),
+    7: teller_of_names(7),
+    8: teller_of_names(8),
+    9: tell_block,
+    10: tell_station,
+    11: tell_many,
+}

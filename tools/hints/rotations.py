@@ -1,0 +1,107 @@
+"""What is said of the rotations that are refused, one line for each: what helps."""
+
+import math
+import re
+
+from hints.records import Unread, rows_of
+from hints.saying import listed, typed
+
+SECTION = "what-became-of-a-rotation-and-what-to-do"
+MOST_DAYS = 30
+MOST_VISITS = 1_000_000
+# The words of a refused rotation, as they are printed.
+REFUSED = re.compile(
+    r"(?:rotation )?([A-Z0-9]{1,8}): "
+    r"(too few nights (\d+) of (\d+)|apart (\d+) legs|none|visits spent|tour of \d+ legs in \d+ days|unused)( without throughs)?"
+)
+
+
+def explain(hint, command, call, answers):
+    """Says of each refused rotation what helps. `answers` are the fleets and what was said of their rotations."""
+    told = {}
+    for fleet, answer in answers:
+        text = advice(answer, call)
+        if text:
+            told.setdefault(text, []).append(fleet)
+    for text, fleets in told.items():
+        hint.say(f"{listed(fleets)}: {text}")
+    days = more_days(answers, call)
+    if days and call.command in ("solve", "tails"):
+        hint.show(typed([command, *call.with_option("days", str(days))]))
+    if told:
+        hint.see(SECTION)
+
+
+def more_days(answers, call):
+    """Returns the days that are worth a try for all fleets that lack nights or have no tour, or None."""
+    days, wanted = call.value("days"), []
+    for _, answer in answers:
+        found = REFUSED.fullmatch(f"F: {answer}")
+        if found and found[3] and int(found[3]):
+            wanted.append(math.ceil(int(found[4]) / int(found[3])))
+        elif found and found[2] == "none":
+            wanted.append(days + 1)
+    best = max(wanted, default=0)
+    return best if days < best <= MOST_DAYS else None
+
+
+def advice(answer, call):
+    """Returns what helps against an answer, or None where the fleet has a tour or no flights."""
+    found = REFUSED.fullmatch(f"F: {answer}")
+    if not found:
+        return None
+    text = plain_advice(found, call.value("days"), call.value("visits"))
+    if found[6] and text is None:
+        return "no tour with its chosen through flights was found: fly this one, or take a pair of it away from throughs.csv"
+    return f"{text}; nor was there a tour with its chosen through flights" if found[6] else text
+
+
+def plain_advice(found, days, visits):
+    """Returns what helps against an answer, whatever was said of through flights."""
+    words = found[2]
+    if words.startswith("too few"):
+        has, of = int(found[3]), int(found[4])
+        if has == 0:
+            nights = "no night is at a station with maintenance, so no --days helps"
+            return f"{nights}: let a station maintain where it stands at the day start, or take another --day-start"
+        least = math.ceil(of / has)
+        more = f"--days {least} is the least that can do" if least <= MOST_DAYS else "no --days is enough"
+        are = "is" if has == 1 else "are"
+        return f"{has} of its {of} nights {are} at a station with maintenance: {more}, or let a further station maintain"
+    if words.startswith("apart"):
+        return f"{found[5]} of its flights never meet the others: let two aircraft meet at a station, or make two fleets of it"
+    if words == "none":
+        more = f"--days {days + 1}" if days < MOST_DAYS else "maintenance at a further station"
+        return f"every tour goes {days} nights without maintenance somewhere: allow {more}, or let a further station maintain"
+    if words == "visits spent":
+        more = "more --visits" if visits < MOST_VISITS else "one more of --days"
+        return f"the search was cut off, so there may be a tour: allow {more}"
+    return None
+
+
+def of_summary(text):
+    """Returns the fleets and what became of their rotations, as a summary or tails tell it, in lines."""
+    return [(it[1], it[0].partition(": ")[2]) for it in map(REFUSED.fullmatch, text.splitlines()) if it]
+
+
+def of_file(folder):
+    """Returns the same by rotation.csv, or nothing where that doesn't read."""
+    try:
+        rows = rows_of(folder, "rotation.csv")
+    except Unread:
+        return []
+    last = {}
+    for fleet, turn, kind, a, b in rows:
+        if kind in ("tour", "unused", "nights", "apart", "none", "visits"):
+            last[fleet] = told(kind, a, b) + (" without throughs" if turn == "2" else "")
+    return list(last.items())
+
+
+def told(kind, a, b):
+    """Returns the words of an answer, by its record."""
+    return {
+        "tour": f"tour of {b} legs in {a} days",
+        "nights": f"too few nights {a} of {b}",
+        "apart": f"apart {a} legs",
+        "visits": "visits spent",
+    }.get(kind, kind)

@@ -1,0 +1,125 @@
+"""A schedule as its tables tell it, in minutes from the day start, and what a plan of it uses."""
+
+import os
+
+from hints.forms import FIELDS
+from hints.records import TABLES, Unread, rows_of
+from hints.words import Time
+
+DAY = 1440
+
+
+class Leg:
+    """A flight: from where to where, its minute of departure from the day start, and its minutes in the air."""
+
+    def __init__(self, row, day_start):
+        clock = Time()
+        self.flight, self.start, self.dep, self.end, self.arr = row
+        dep, arr = clock.read(self.dep), clock.read(self.arr)
+        self.departure = (dep - day_start) % DAY
+        self.block = (arr - dep) % DAY
+
+
+class Schedule:
+    """The tables of a folder. Each name is a key: `extra` and `maintains` of stations, `aircraft` and `turn` of fleets, `legs` of
+    flights, `cost` of pairs of flight and fleet, `fleets_of` of flights."""
+
+    def __init__(self, folder, day_start):
+        rows = {it: checked(folder, it) for it in TABLES}
+        self.folder, self.day_start = folder, day_start
+        self.extra = {code: int(extra) for code, extra, _ in rows["stations.csv"]}
+        self.maintains = {code: flag == "yes" for code, _, flag in rows["stations.csv"]}
+        self.aircraft = {name: int(number) for name, number, _ in rows["fleets.csv"]}
+        self.turn = {name: int(minutes) for name, _, minutes in rows["fleets.csv"]}
+        self.legs = {row[0]: Leg(row, day_start) for row in rows["legs.csv"]}
+        self.cost = {(flight, fleet): int(cost) for flight, fleet, cost in rows["costs.csv"]}
+        self.fleets_of = {it: [] for it in self.legs}
+        for flight, fleet in self.cost:
+            self.known(folder, flight, fleet)
+            self.fleets_of[flight].append(fleet)
+        for leg in self.legs.values():
+            if leg.start not in self.extra or leg.end not in self.extra or leg.block == 0 or leg.start == leg.end:
+                raise Unread(f"{os.path.join(folder, 'legs.csv')}: {leg.flight} isn't a flight between two stations of stations.csv")
+
+    def known(self, folder, flight, fleet):
+        if flight not in self.legs or fleet not in self.aircraft:
+            raise Unread(f"{os.path.join(folder, 'costs.csv')}: {flight},{fleet} isn't a flight and a fleet of the tables")
+
+    def busy(self, leg, fleet):
+        """Returns the minutes from departure until an aircraft of the fleet is ready again."""
+        return leg.block + self.turn[fleet] + self.extra[leg.end]
+
+    def clock(self, minute):
+        """Returns the clock time of a minute counted from the day start."""
+        at = (minute + self.day_start) % DAY
+        return f"{at // 60:02}:{at % 60:02}"
+
+    def plan(self):
+        """Returns the fleet of each flight that plan.csv tells, or raises Unread where it isn't a plan of these tables."""
+        path = os.path.join(self.folder, "plan.csv")
+        rows = rows_of(self.folder, "plan.csv")
+        if [flight for flight, _ in rows] != list(self.legs):
+            raise Unread(f"{path} doesn't tell the flights of legs.csv in their order")
+        for flight, fleet in rows:
+            if fleet not in self.aircraft:
+                raise Unread(f"{path}: {fleet} is no fleet of fleets.csv")
+        return dict(rows)
+
+    def needs(self, flown):
+        """Returns how many aircraft these flights want at the day start at each station, and the minutes of their departures and
+        readiness there, as ones. `flown` are pairs of a leg and its minutes until the aircraft is ready."""
+        goes = {it: [0] * DAY for it in self.extra}
+        comes = {it: [0] * DAY for it in self.extra}
+        for leg, busy in flown:
+            goes[leg.start][leg.departure] += 1
+            comes[leg.end][(leg.departure + busy) % DAY] += 1
+        need = {}
+        for station in self.extra:
+            lacking = most = 0
+            for gone, come in zip(goes[station], comes[station]):
+                lacking += gone - come
+                most = max(most, lacking)
+            need[station] = most
+        return need, goes, comes
+
+    def used(self, flown):
+        """Returns how many aircraft these flights use: those at stations at the day start, and those aloft or in a turn then."""
+        flown = list(flown)
+        need, _, _ = self.needs(flown)
+        return sum(need.values()) + sum((leg.departure + busy) // DAY for leg, busy in flown)
+
+    def flown_by(self, plan, fleet):
+        """Returns the fleet's flights by a plan, each with its minutes until the aircraft is ready."""
+        return [(leg, self.busy(leg, fleet)) for leg in self.legs.values() if plan[leg.flight] == fleet]
+
+
+def checked(folder, name):
+    """Returns the records of a table whose fields all have their form."""
+    rows = rows_of(folder, name)
+    for row in rows:
+        for text, wrong in zip(row, FIELDS[name]):
+            if wrong(text):
+                raise Unread(f"{os.path.join(folder, name)}: {','.join(row)}: {wrong(text)}")
+    keys = 2 if name in ("costs.csv", "throughs.csv") else 1
+    if len({tuple(it[:keys]) for it in rows}) != len(rows):
+        raise Unread(f"{os.path.join(folder, name)} has a record twice")
+    return rows
+
+
+def under_way(flown):
+    """Returns of each minute of the day how many of these flights are in the air or in their turn, each flown once a day."""
+    changes = [0] * (DAY + 1)
+    always = 0
+    for leg, busy in flown:
+        always += busy // DAY
+        start, end = leg.departure, leg.departure + busy % DAY
+        changes[start] += 1
+        changes[min(end, DAY)] -= 1
+        if end > DAY:
+            changes[0] += 1
+            changes[end - DAY] -= 1
+    total, minutes = always, []
+    for change in changes[:DAY]:
+        total += change
+        minutes.append(total)
+    return minutes

@@ -1,0 +1,104 @@
+"""What is said after words that are no call (status 2): which word is wrong, and the command's options; or a page of help."""
+
+import os
+import re
+
+from hints.saying import typed
+from hints.words import COMMANDS, OPTIONS, OPTIONS_OF, WORDS, Call
+
+TOP = os.path.dirname(os.path.dirname(os.path.dirname(os.path.realpath(__file__))))
+# What tools/build notes of the kit beside the program that it builds.
+KIT = os.path.join(TOP, "crates", "fleetplan", "out", "kit")
+SECTION = "the-words-of-a-call"
+FILES = (
+    ("stations.csv", "stations: code, extra minutes of a turn there, maintenance yes or no"),
+    ("fleets.csv", "fleets: name, aircraft, minutes of a turn"),
+    ("legs.csv", "the flights of a day: from, departure, to, arrival, in UTC"),
+    ("costs.csv", "which fleet may fly which flight, and what it costs"),
+    ("throughs.csv", "pairs of flights that one aircraft should fly in turn; an empty file will do"),
+    ("plan.csv", "a fleet for each flight: solve writes it"),
+    ("proof.txt", "why no legal plan costs less: solve writes it"),
+    ("rotation.csv", "in what order each fleet flies its flights: solve writes it"),
+)
+HELPERS = (
+    ("./fleetplan judge examples/two-legs --day-start 00:00", "judges the plan of an example"),
+    ("tools/preview solve examples/split --day-start 00:00", "answers before the proofs are done, on a copy"),
+    ("tools/draw DIR", "draws what solve wrote as DIR/plan.html"),
+)
+
+
+def explain(hint, command, call):
+    """Says what is wrong with a call, or what the program can do where it was asked for help."""
+    if any("\udc80" <= letter <= "\udcff" for word in call.all for letter in word):
+        hint.say("a word of this call isn't UTF-8")
+        return
+    if call.wants_help and call.command is None:
+        show_page(hint, command)
+        return
+    for fault in call.faults:
+        hint.say(fault.text)
+        if fault.mended and len(call.faults) == 1 and is_good(fault.mended):
+            hint.show(typed([command, *fault.mended]))
+    if call.command:
+        show_command(hint, command, call.command)
+    else:
+        show_commands(hint, command)
+    hint.see(SECTION)
+
+
+def is_good(words):
+    """Returns whether these words are a call in which nothing is wrong."""
+    call = Call(words)
+    return not call.wants_help and not call.faults
+
+
+def show_command(hint, command, name):
+    """Shows a command with its words and options."""
+    form, does = COMMANDS[name]
+    hint.say(f"{typed([command])} {form} {does}.")
+    for word in form.split()[2:]:
+        hint.show(f"{word:<18} {WORDS[word][1]}: {WORDS[word][0].form}")
+    for option in OPTIONS_OF[name]:
+        placeholder, _, default, means = OPTIONS[option]
+        without = f" (without it {default})" if default else ""
+        hint.show(f"{f'--{option} {placeholder}':<18} {means}{without}")
+
+
+def show_commands(hint, command):
+    hint.say("The commands:")
+    for form, does in COMMANDS.values():
+        hint.show(f"{typed([command])} {form:<22} {does}")
+
+
+def show_page(hint, command):
+    """Shows what there is to know before a first call."""
+    hint.say("an airline's fleet assignment and maintenance routing, proved from bytes to bytes.")
+    show_commands(hint, command)
+    hint.say("The options, with what they are where they aren't given:")
+    for option, (placeholder, _, default, means) in OPTIONS.items():
+        of = ", ".join(it for it in COMMANDS if option in OPTIONS_OF[it])
+        without = f" ({default})" if default else ""
+        hint.show(f"{f'--{option} {placeholder}':<18} {means}{without}; of {of}")
+    hint.say("The files in the folder DIR:")
+    for name, holds in FILES:
+        hint.show(f"{name:<14} {holds}")
+    hint.say("A first call, and two helpers beside it:")
+    for words, does in HELPERS:
+        hint.show(f"{words:<54} {does}")
+    kit = proving_kit()
+    if kit:
+        hint.say(f"Proved with {kit}.")
+    hint.say("Read on in README.md, and in docs/formats.md of each file, word and refusal.")
+
+
+def proving_kit():
+    """Returns the kit that proved the program, as it was noted when it was built, or else as the README names it."""
+    for file, form in ((KIT, r"(rattle-kit-.*)"), (os.path.join(TOP, "README.md"), r"Proved with `(.*?)`")):
+        try:
+            with open(file, encoding="utf-8") as it:
+                found = re.search(form, it.read())
+        except OSError:
+            continue
+        if found:
+            return found[1]
+    return None
