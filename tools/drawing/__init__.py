@@ -1,0 +1,1 @@
+"""How tools/draw reads what `solve` wrote, and draws it."""

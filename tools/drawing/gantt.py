@@ -1,0 +1,162 @@
+"""A fleet's flights as a chart: one row for each day of its tour, or where it has none, rows in which no two overlap."""
+
+from drawing.svg import DAY_WIDTH, INK, LEFT, MINUTES, box, grid, group, line, picture, width_of, words, x_of
+
+TOP, ROW, ABOVE, BAR = 24, 57, 24, 19
+TIE, NIGHT, GROUND = "#b3005e", "#1f3a5f", "#9aa3af"
+# What the rows end with: nights.
+NIGHT_AT = LEFT + DAY_WIDTH + 12
+
+
+class Bar:
+    """A flight in its row, with its minutes until the aircraft is ready, and the nights after it."""
+
+    def __init__(self, leg, busy, row, nights=()):
+        self.leg, self.busy, self.row, self.nights = leg, busy, row, nights
+        self.lands = leg.departure + leg.block
+
+
+class Chart:
+    """The chart of a fleet. The rows of a tour follow each other, and after the last one comes the first; other rows stand by
+    themselves, and a flight over the day's end goes on in the same row."""
+
+    def __init__(self, schedule, rotation, plan, palette):
+        self.schedule, self.rotation, self.palette = schedule, rotation, palette
+        self.fleet, self.has_tour = rotation.fleet, bool(rotation.tour)
+        if self.has_tour:
+            self.bars = [Bar(it.leg, it.busy, it.day, it.nights) for it in rotation.tour]
+            self.rows = rotation.days
+        else:
+            self.bars, self.rows = packed(schedule.flown_by(plan, self.fleet))
+        self.labels = {}
+
+    def drawn(self):
+        """Returns the drawing, which stands by itself."""
+        height = TOP + ROW * self.rows + 8
+        parts = grid(self.schedule, TOP, height - 8)
+        for row in range(self.rows):
+            bottom = TOP + ROW * (row + 1)
+            parts.append(line(LEFT, bottom, LEFT + DAY_WIDTH, bottom, "#c3c9d2"))
+            label = f"day {row + 1}" if self.has_tour else f"row {row + 1}"
+            parts.append(words(LEFT - 10, bottom - 19, label, 12, "end", "strong" if self.has_tour else "faint"))
+        if self.has_tour:
+            parts += [part for it in zip(self.bars, self.bars[1:] + self.bars[:1]) for part in self.ground(*it)]
+        parts += [self.flight(it) for it in sorted(self.bars, key=lambda it: (it.row, it.leg.departure))]
+        if self.has_tour and self.rotation.keeps:
+            parts += self.ties()
+        parts += [part for it in self.bars for part in self.nights(it)]
+        return picture(height, f"{self.fleet}: {self.rotation.words}", parts)
+
+    def row_at(self, bar, minute):
+        """Returns the row of a minute that is counted from the start of the flight's own day."""
+        return (bar.row + minute // MINUTES) % self.rows if self.has_tour else bar.row
+
+    def pieces(self, bar, start, end):
+        """Yields a span of minutes, counted from the start of the flight's own day, as rows with their first and last minute."""
+        while start < end:
+            stop = min(end, start - start % MINUTES + MINUTES)
+            yield self.row_at(bar, start), start % MINUTES, start % MINUTES + stop - start
+            start = stop
+
+    def flight(self, bar):
+        """Returns a flight with its number, its stations, and its turn."""
+        leg, parts = bar.leg, []
+        for row, start, end in self.pieces(bar, bar.lands, leg.departure + bar.busy):
+            parts.append(box(x_of(start), y_of(row) + BAR - 5, x_of(end) - x_of(start), 5, self.palette.pale(self.fleet)))
+        spans = list(self.pieces(bar, leg.departure, bar.lands))
+        for at, (row, start, end) in enumerate(spans):
+            x, y, width = x_of(start), y_of(row), x_of(end) - x_of(start)
+            parts.append(box(x, y, width, BAR, self.palette.fill(self.fleet), 'rx="2"'))
+            parts += self.palette.hatching(self.fleet, x, y, width, BAR)
+            parts += codes(leg, x, y, width, at == 0, at == len(spans) - 1)
+        longest = max(spans, key=lambda it: it[2] - it[1])
+        for it in spans:
+            if it == longest or width_of(leg.flight, 9) + 3 <= x_of(it[2]) - x_of(it[1]):
+                parts += self.number(leg.flight, x_of(it[1]), x_of(it[2]), it[0])
+        schedule = self.schedule
+        title = f"{leg.flight}: {leg.start} {leg.dep} to {leg.end} {leg.arr}, ready {schedule.clock(leg.departure + bar.busy)}"
+        return group("leg", leg.flight, title, parts)
+
+    def number(self, flight, left, right, row):
+        """Returns the flight's number in its bar where it fits there, else above it where no other one stands."""
+        middle, y, ink = (left + right) / 2, y_of(row), self.palette.ink(self.fleet)
+        for size in (11, 9):
+            if width_of(flight, size) + 3 <= right - left:
+                back = []
+                if self.palette.is_hatched(self.fleet):
+                    width = width_of(flight, size)
+                    back = [box(middle - width / 2, y + 3, width, BAR - 6, "#ffffff", 'rx="2"')]
+                return [*back, words(middle, y + 14, flight, size, "middle", ink)]
+        half = width_of(flight, 9) / 2
+        for level in (0, 1):
+            if self.labels.get((row, level), 0) <= middle - half:
+                self.labels[row, level] = middle + half + 2
+                return [words(middle, y - 3 - 9 * level, flight, 9, "middle")]
+        return []
+
+    def ground(self, bar, following):
+        """Yields the time on the ground from a flight to the next as a thin line."""
+        end = len(bar.nights) * MINUTES + following.leg.departure
+        for row, first, last in self.pieces(bar, bar.lands, end):
+            y = y_of(row) + BAR / 2
+            yield line(x_of(first), y, x_of(last), y, GROUND, 1.4)
+
+    def ties(self):
+        """Yields the chosen through flights, each tied to the flight that follows it."""
+        at = {it.leg.flight: it for it in self.bars}
+        for into, out in self.rotation.pairs:
+            first, second = at[into], at[out]
+            spans = list(self.pieces(first, first.lands, len(first.nights) * MINUTES + second.leg.departure))
+            parts = []
+            for row, start, end in spans:
+                parts.append(line(x_of(start), y_of(row) + BAR / 2, x_of(end), y_of(row) + BAR / 2, TIE, 3.6))
+            # The knots stand in the gap, so that they cover no number.
+            knots = [(spans[0][0], x_of(spans[0][1]) + 3.5), (spans[-1][0], x_of(spans[-1][2]) - 3.5)] if spans else []
+            for row, x in knots:
+                parts.append(f'<circle cx="{x:.1f}" cy="{y_of(row) + BAR / 2:.1f}" r="4" fill="{TIE}" stroke="#ffffff"/>')
+            yield group("through", f"{into} {out}", f"through flight: {into} and {out} by one aircraft", parts)
+
+    def nights(self, bar):
+        """Yields the nights after a flight, each at the end of its day: filled where the aircraft can be maintained."""
+        for at, (station, maintains) in enumerate(bar.nights):
+            y, width = y_of((bar.row + at) % self.rows) - 1, 100 if maintains else 58
+            if station is None:
+                title, fill, more, text = "a night aloft or in its turn", "#ffffff", f'stroke="{INK}" stroke-dasharray="3 3"', "aloft"
+            elif maintains:
+                title, fill, more, text = f"a night at {station}, with maintenance", NIGHT, f'stroke="{NIGHT}"', f"{station} maint."
+            else:
+                title, fill, more, text = f"a night at {station}", "#ffffff", f'stroke="{NIGHT}"', station
+            drawn = box(NIGHT_AT, y, width, 21, fill, f'rx="10" {more}')
+            told = words(NIGHT_AT + width / 2, y + 15, text, 11, "middle", "light strong" if maintains else "")
+            yield group("night", station or "aloft", title, [drawn, told])
+
+
+def y_of(row):
+    """Returns where the bars of a row begin."""
+    return TOP + ROW * row + ABOVE
+
+
+def codes(leg, x, y, width, is_first, is_last):
+    """Returns the codes of the stations below a bar, where there is room for both; else the first alone."""
+    parts = [words(x + 2, y + BAR + 10, leg.start, 9, "start", "faint")] if is_first else []
+    if is_last and (width >= 2 * width_of("AAA", 9) + 8 or not is_first and width >= width_of("AAA", 9) + 4):
+        parts.append(words(x + width - 2, y + BAR + 10, leg.end, 9, "end", "faint"))
+    return parts
+
+
+def packed(flown):
+    """Returns flights in rows in which no two are in the air at once, each in the first row where it fits."""
+    rows, bars = [], []
+    for leg, busy in sorted(flown, key=lambda it: it[0].departure):
+        lands = leg.departure + leg.block
+        spans = [(leg.departure, min(lands, MINUTES))] + ([(0, lands - MINUTES)] if lands > MINUTES else [])
+        row = next((at for at, taken in enumerate(rows) if all(is_apart(it, other) for it in spans for other in taken)), len(rows))
+        if row == len(rows):
+            rows.append([])
+        rows[row] += spans
+        bars.append(Bar(leg, busy, row))
+    return bars, len(rows)
+
+
+def is_apart(one, other):
+    return one[1] <= other[0] or other[1] <= one[0]

@@ -1,0 +1,65 @@
+"""The aircraft on the ground at a station through the day: a lane for each fleet that comes there, as high as they are many."""
+
+from drawing.svg import DAY_WIDTH, FAINT, LEFT, MINUTES, box, grid, group, line, picture, width_of, words, x_of
+
+TOP, LANE, HIGH = 22, 24, 17
+
+
+class Grounds:
+    """The aircraft of each fleet on the ground at each station, at the end of each minute of the day."""
+
+    def __init__(self, schedule, plan):
+        self.schedule = schedule
+        self.stands = {it: {} for it in schedule.extra}
+        for fleet in schedule.aircraft:
+            flown = schedule.flown_by(plan, fleet)
+            need, goes, comes = schedule.needs(flown)
+            for station in schedule.extra:
+                if any(goes[station]) or any(comes[station]):
+                    self.stands[station][fleet] = stands_from(need[station], goes[station], comes[station])
+
+    def chart(self, station, palette):
+        """Returns the drawing of a station, or None where no flight comes."""
+        lanes = self.stands[station]
+        if not lanes:
+            return None
+        most = max(max(it) for it in lanes.values())
+        height = TOP + LANE * len(lanes) + 6
+        parts = grid(self.schedule, TOP, height - 6)
+        for at, (fleet, minutes) in enumerate(lanes.items()):
+            parts += lane(fleet, minutes, most, TOP + LANE * (at + 1), palette)
+        return picture(height, f"aircraft on the ground at {station}", parts)
+
+
+def stands_from(need, goes, comes):
+    """Returns the aircraft on the ground at the end of each minute: those at the day start, and what came less what went."""
+    stand, minutes = need, []
+    for gone, come in zip(goes, comes):
+        stand += come - gone
+        minutes.append(stand)
+    return minutes
+
+
+def steps(minutes):
+    """Yields the spans of minutes in which the number stays the same."""
+    start = 0
+    for at in range(1, MINUTES + 1):
+        if at == MINUTES or minutes[at] != minutes[start]:
+            yield start, at, minutes[start]
+            start = at
+
+
+def lane(fleet, minutes, most, bottom, palette):
+    """Returns the lane of a fleet at a station."""
+    parts = [words(LEFT - 10, bottom - 6, fleet, 11, "end"), line(LEFT, bottom, LEFT + DAY_WIDTH, bottom, FAINT, 0.8)]
+    spans = []
+    for start, end, number in steps(minutes):
+        if not number:
+            continue
+        x, width, high = x_of(start), x_of(end) - x_of(start), HIGH * number / max(most, 1)
+        spans.append(box(x, bottom - high, width, high, palette.pale(fleet)))
+        spans.append(line(x, bottom - high, x + width, bottom - high, palette.fill(fleet), 2))
+        if width >= width_of(str(number), 10) + 2:
+            spans.append(words(x + width / 2, bottom - (3 if high >= 11 else high + 2), str(number), 10, "middle"))
+    parts.append(group("lane", fleet, f"{fleet}: at most {max(minutes)} on the ground", spans))
+    return parts

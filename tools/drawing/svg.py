@@ -1,0 +1,99 @@
+"""The parts of a drawing: boxes, lines and words as SVG, colours, and the scale of a day."""
+
+from html import escape
+
+# Colours that are told apart in print and by most eyes. Further fleets have the same ones, hatched.
+COLOURS = ("#0072b2", "#e69f00", "#009e73", "#cc79a7", "#56b4e9", "#d55e00", "#7b3fa0", "#b8a900", "#8c564b", "#5f6b7a")
+INK, FAINT, RULE = "#1c2330", "#6a7280", "#dfe3e8"
+# Pixels: what stands left of a day, a day, and what stands right of it.
+LEFT, DAY_WIDTH, RIGHT = 96, 1152, 132
+WIDTH = LEFT + DAY_WIDTH + RIGHT
+MINUTES = 1440
+STYLE = (
+    "text{font-family:'DejaVu Sans',Verdana,Arial,sans-serif;fill:#1c2330}"
+    ".faint{fill:#6a7280}.strong{font-weight:bold}.light{fill:#ffffff}"
+)
+
+
+def x_of(minute):
+    """Returns where a minute from the day start stands."""
+    return LEFT + minute * DAY_WIDTH / MINUTES
+
+
+def box(x, y, width, height, fill, more=""):
+    return f'<rect x="{x:.1f}" y="{y:.1f}" width="{max(width, 0.6):.1f}" height="{height:.1f}" fill="{fill}"{" " + more if more else ""}/>'
+
+
+def line(x1, y1, x2, y2, colour, width=1, more=""):
+    more = " " + more if more else ""
+    return f'<line x1="{x1:.1f}" y1="{y1:.1f}" x2="{x2:.1f}" y2="{y2:.1f}" stroke="{colour}" stroke-width="{width}"{more}/>'
+
+
+def words(x, y, text, size=11, anchor="start", kind=""):
+    kind = f' class="{kind}"' if kind else ""
+    return f'<text x="{x:.1f}" y="{y:.1f}" font-size="{size}" text-anchor="{anchor}"{kind}>{escape(text)}</text>'
+
+
+def width_of(text, size):
+    """Returns about how wide a text is; the letters of names are wide ones."""
+    return len(text) * size * 0.68
+
+
+def group(kind, name, title, parts):
+    """Returns parts that belong together, under a name and with words that are shown below the pointer."""
+    return f'<g class="{kind}" data-name="{escape(name)}"><title>{escape(title)}</title>{"".join(parts)}</g>'
+
+
+def picture(height, title, parts, width=WIDTH):
+    """Returns a whole drawing, which stands by itself."""
+    return (
+        f'<svg xmlns="http://www.w3.org/2000/svg" viewBox="0 0 {width} {height:.0f}" width="{width}" height="{height:.0f}" role="img">'
+        f"<title>{escape(title)}</title><style>{STYLE}</style>"
+        f'<rect width="100%" height="100%" fill="#ffffff"/>{"".join(parts)}</svg>'
+    )
+
+
+def grid(schedule, top, bottom, every=120):
+    """Returns the hours of the day as lines, with the clock above them."""
+    parts = []
+    for minute in range(0, MINUTES + 1, 60):
+        strong = minute % every == 0
+        parts.append(line(x_of(minute), top, x_of(minute), bottom, "#c3c9d2" if strong else RULE))
+        if strong:
+            parts.append(words(x_of(minute), top - 5, schedule.clock(minute), 10, "middle", "faint"))
+    return parts
+
+
+class Palette:
+    """The colour of each fleet, and the words that are readable on it."""
+
+    def __init__(self, fleets):
+        self.place = {it: at for at, it in enumerate(fleets)}
+
+    def fill(self, fleet):
+        return COLOURS[self.place[fleet] % len(COLOURS)]
+
+    def is_hatched(self, fleet):
+        return self.place[fleet] >= len(COLOURS)
+
+    def ink(self, fleet):
+        """Returns the kind of words that are readable on the colour."""
+        return "light" if luminance(self.fill(fleet)) < 0.21 and not self.is_hatched(fleet) else ""
+
+    def pale(self, fleet):
+        """Returns the colour mixed with much white, for what stands below dark words."""
+        mixed = (int(self.fill(fleet)[at : at + 2], 16) * 0.42 + 255 * 0.58 for at in (1, 3, 5))
+        return "#" + "".join(f"{int(it):02x}" for it in mixed)
+
+    def hatching(self, fleet, x, y, width, height):
+        """Returns light lines across a box of a fleet whose colour another one has too."""
+        if not self.is_hatched(fleet):
+            return []
+        return [line(x + at, y + height, min(x + at + 5, x + width), y, "#ffffff", 2) for at in range(1, int(width) - 1, 9)]
+
+
+def luminance(colour):
+    """Returns how light a colour is, from 0 to 1."""
+    parts = (int(colour[at : at + 2], 16) / 255 for at in (1, 3, 5))
+    linear = [it / 12.92 if it <= 0.04 else ((it + 0.055) / 1.055) ** 2.4 for it in parts]
+    return 0.2126 * linear[0] + 0.7152 * linear[1] + 0.0722 * linear[2]
