@@ -26,13 +26,17 @@ LEGEND = (
     "the ground. A red tie joins a through flight with the flight that the same aircraft flies next. At the end of a day stands the "
     "night: filled where the aircraft can be maintained, dashed where it is aloft."
 )
+LANES = (
+    "At each station through the day, a lane for each fleet: the number stands in it, and the step is as high. An aircraft in its turn "
+    "isn't on the ground yet."
+)
 
 
 class Plan:
-    """What is drawn: the schedule, its plan, the rotations, and what a check of the proof says, where it was made."""
+    """What is drawn: the schedule, its plan, the rotations, and rows of what the proof says, where it was checked."""
 
-    def __init__(self, name, schedule, plan, rotations, checked):
-        self.name, self.schedule, self.plan, self.rotations, self.checked = name, schedule, plan, rotations, checked
+    def __init__(self, name, schedule, plan, rotations, proved):
+        self.name, self.schedule, self.plan, self.rotations, self.proved = name, schedule, plan, rotations, proved
         self.palette = Palette(schedule.aircraft)
         self.cost = sum(schedule.cost[it] for it in plan.items())
         self.used = {it: schedule.used(schedule.flown_by(plan, it)) for it in schedule.aircraft}
@@ -49,12 +53,13 @@ def page(plan):
     parts = [f"<h1>{escape(plan.name)}</h1>", summary(plan), "<h2>Rotations</h2>", f'<p class="note">{LEGEND}</p>']
     for rotation, drawn in plan.charts():
         kind = ' class="long"' if rotation.days > 12 or not rotation.days else ""
-        parts.append(f'<section{kind} data-fleet="{rotation.fleet}"><h3>{key(plan, rotation.fleet)}{rotation.fleet}: {told(rotation)}</h3>{drawn}</section>')
+        head = f"<h3>{key(plan, rotation.fleet)}{rotation.fleet}: {told(rotation)}</h3>"
+        parts.append(f'<section{kind} data-fleet="{rotation.fleet}">{head}{drawn}</section>')
     unused = [it.fleet for it in plan.rotations if it.words == "unused"]
     if unused:
         parts.append(f"<p>Without a flight: {', '.join(unused)}.</p>")
     parts.append("<h2>Aircraft on the ground</h2>")
-    parts.append('<p class="note">At each station through the day, a lane for each fleet: the number stands in it, and the step is as high. An aircraft in its turn isn\'t on the ground yet.</p>')
+    parts.append(f'<p class="note">{LANES}</p>')
     grounds = Grounds(plan.schedule, plan.plan)
     for station in plan.schedule.extra:
         drawn = grounds.chart(station, plan.palette)
@@ -62,7 +67,8 @@ def page(plan):
             what = "with maintenance at night" if plan.schedule.maintains[station] else "without maintenance"
             parts.append(f'<section data-station="{station}"><h3>{station}, {what}</h3>{drawn}</section>')
     title = f"<title>{escape(plan.name)}: the plan</title>"
-    return f'<!doctype html>\n<html lang="en"><head><meta charset="utf-8">{title}<style>{STYLE}</style></head>\n<body>\n' + "\n".join(parts) + "\n</body></html>\n"
+    head = f'<head><meta charset="utf-8">{title}<style>{STYLE}</style></head>'
+    return f'<!doctype html>\n<html lang="en">{head}\n<body>\n' + "\n".join(parts) + "\n</body></html>\n"
 
 
 def key(plan, fleet):
@@ -84,10 +90,7 @@ def told(rotation):
 def summary(plan):
     """Returns the numbers of the summary."""
     schedule = plan.schedule
-    rows = [("cost", f"{plan.cost:,}")]
-    if plan.checked:
-        rows.append(("no legal plan costs less than", plan.checked))
-    rows += [("flights", f"{len(schedule.legs):,}"), ("day start", f"{schedule.clock(0)} UTC")]
+    rows = [("cost", f"{plan.cost:,}"), *plan.proved, ("flights", f"{len(schedule.legs):,}"), ("day start", f"{schedule.clock(0)} UTC")]
     head = "".join(f'<tr><th>{name}</th><td class="n">{value}</td></tr>' for name, value in rows)
     fleets = "".join(
         f"<tr><td>{key(plan, it.fleet)}{it.fleet}</td><td class='n'>{plan.used[it.fleet]} of {schedule.aircraft[it.fleet]}</td>"

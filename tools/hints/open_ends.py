@@ -5,21 +5,21 @@ import re
 import stat
 import subprocess
 
-from hints.saying import counted, typed
+from hints.saying import counted, quietly, typed
 from hints.words import OPTIONS
 
 SECTION = "what-solve-prints-and-writes"
 HOLDS = re.compile(r"holds: (?:cost (-?\d+) )?bound (-?\d+)")
 MOST = 1_000_000
 SECONDS = 5
-# How the lines of leaves that stayed open begin, by what was too little.
-OPEN = {"nodes": (b"open nodes\n",), "pivots": (b"open pivots ",), "grew": (b"open grew ", b"open lift ")}
+# How the lines of splits begin, and those of leaves that stayed open, by what was too little.
+OPEN = {"splits": (b"split ",), "nodes": (b"open nodes\n",), "pivots": (b"open pivots ",), "grew": (b"open grew ", b"open lift ")}
 
 
 def explain(hint, command, call, program):
     """Says how many subproblems stayed open by which limit, and the words of the same call with more."""
     counts = counts_of(os.path.join(call.folder, "proof.txt"))
-    if not any(counts.values()):
+    if not any(counts[it] for it in ("nodes", "pivots", "grew")):
         return
     told = []
     if counts["nodes"]:
@@ -27,22 +27,23 @@ def explain(hint, command, call, program):
     if counts["pivots"]:
         told.append(f"{counted(counts['pivots'], 'subproblem')} stayed open since it might take no more pivots (--pivots)")
     if counts["grew"]:
-        told.append(f"{counted(counts['grew'], 'subproblem')} stayed open since an exact number outgrew its limit, and no option helps there")
+        why = "an exact number outgrew its limit, and no option helps there"
+        told.append(f"{counted(counts['grew'], 'subproblem')} stayed open since {why}")
     for text in told:
         hint.say(text)
-    tell_gap(hint, call, program)
+    quietly(tell_gap, hint, call, program)
     tell_more(hint, command, call, counts)
     hint.see(SECTION)
 
 
 def counts_of(path):
-    """Returns how many leaves of the proof that was written stayed open, by what was too little."""
+    """Returns how many splits the proof has that was written, and how many leaves that stayed open, by what was too little."""
     counts = dict.fromkeys(OPEN, 0)
     if not stat.S_ISREG(os.stat(path).st_mode):
         return counts
     with open(path, "rb") as lines:
         for line in lines:
-            if line.startswith(b"open "):
+            if line.startswith((b"open ", b"split ")):
                 for name, starts in OPEN.items():
                     counts[name] += line.startswith(starts)
     return counts
