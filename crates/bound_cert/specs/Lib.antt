@@ -1,11 +1,10 @@
-pub mod Figures
+pub mod Builder
 pub mod FirstFault
-pub mod Known
+pub mod Grammar
 pub mod Lines
 pub mod Nodes
 pub mod ProofText
 pub mod ReadProof
-pub mod ReadTree
-pub mod Reading
-pub mod Wants
+pub mod Said
 pub mod Words
+pub mod Written

@@ -1,0 +1,11 @@
+pub mod Appended
+pub mod Binds
+pub mod Bytes
+pub mod FigureWords
+pub mod KnownNames
+pub mod LinesOfWords
+pub mod LinesRead
+pub mod LinesWritten
+pub mod Words
+pub mod WrittenNames
+pub mod WrittenNumbers
