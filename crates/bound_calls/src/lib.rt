@@ -9,6 +9,8 @@ mod end_finds;
 #[cfg(test)]
 mod hint_lifts;
 #[cfg(test)]
+mod end_checks;
+#[cfg(test)]
 mod islands;
 #[cfg(test)]
 mod lifting;

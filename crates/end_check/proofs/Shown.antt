@@ -1,5 +1,5 @@
 -- What the tests of a check come to.
-use Rattle.std.proofs.Common.{◌≡◌, ℕ, suc, ◌+◌, ◌-◌, ◌<◌, ◌≤◌, Bool, true, false, cond, ltb, MatchBool, IsTrue, ℤ, pos, negsuc, ◌+ℤ◌, ◌*ℤ◌, ◌<ℤ◌, ◌≤ℤ◌, List, [], length, get_or, All, refl, sym, ◌∙◌, ap, subst, arith, inl, inr}
+use Rattle.std.proofs.Common.{◌≡◌, ℕ, suc, ◌+◌, ◌<◌, ◌≤◌, Bool, true, false, cond, ltb, MatchBool, IsTrue, ℤ, pos, ◌+ℤ◌, ◌*ℤ◌, ◌<ℤ◌, ◌≤ℤ◌, List, length, All, refl, sym, ◌∙◌, ap, subst, arith, inl, inr}
 use Rattle.std.specs.Prelude.{neg_ℤ, ◌↔◌}
 use Rattle.std.proofs.lemmas.Bool.{cases_lt}
 use Rattle.std.proofs.lemmas.Bool.Decides.{nat_tests}
@@ -11,12 +11,12 @@ use Rattle.sums.proofs.Integers.{neg_ℤ-*ℤ, one-*ℤ}
 use Rattle.sums.proofs.Tests.{unlike}
 use Rattle.sums.proofs.WholeSums.{sum_below_ℤ-same}
 use Rattle.frac_row.specs.Outgrown.{IsWithin}
-use Rattle.row_store.specs.DualValues.{AreDualValues, WeighMore, weighed}
-use Rattle.row_store.specs.Problem.{MeetsRows, entry, IsProblem, point_cost}
+use Rattle.row_store.specs.DualValues.{weighed}
+use Rattle.row_store.specs.Problem.{MeetsRows, entry, IsProblem}
 use Rattle.row_store.specs.declared.problem.Rows.{Rows}
 use Rattle.end_check.specs.Ends.{AreByLine, IsPricedEnd, IsRefusedEnd, part_in, value_in}
 use Rattle.end_check.specs.Shown.{CostsTheWeight, HasShape, ShowsEnd, ShowsRefusal}
-use Rattle.end_check.specs.Sums.{IsCheckable, IsRefusalCheckable, MeetsLine, SumsWithin, WeighsWithin, share_in, weights_of}
+use Rattle.end_check.specs.Sums.{IsCheckable, MeetsLine, SumsWithin, share_in, weights_of}
 use Rattle.end_check.specs.declared.hint.PointHint.{PointHint}
 use Rattle.end_check.specs.declared.hint.RefusalHint.{RefusalHint}
 use Rattle.end_check.proofs.Weights.{weight_is}

@@ -1,7 +1,7 @@
 use Rattle.std.proofs.Common.{◌≡◌, ◌∙◌, ap, length}
 use Rattle.end_check.specs.Ends.{value_in}
 use Rattle.end_check.specs.Sums.{weights_of}
-use Rattle.end_check.proofs.Shown.{end_has_shape, end_shows, found, shown_end, told}
+use Rattle.end_check.proofs.Shown.{end_shows, found, shown_end, told}
 use Rattle.end_check.proofs.checks.is_end.Goals as goal
 
 pub returns-clause-end : goal.returns-clause-end

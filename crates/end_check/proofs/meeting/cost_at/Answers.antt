@@ -1,9 +1,9 @@
-use Rattle.std.proofs.Common.{rules, pos, ap, subst, sym, ◌∙◌, arith, refl, add-one, of_z, to_z}
+use Rattle.std.proofs.Common.{rules, pos, subst, sym, ◌∙◌, refl, add-one, of_z, to_z}
 use Rattle.std.proofs.lemmas.Int.{to_z-of_z}
 use mir.Val.{SFits}
 use mir.Syntax.{w128}
 use Rattle.end_check.specs.Ends.{part_in, value_in}
-use Rattle.end_check.proofs.Products.{IsSumUpTo, sum_fails, sum_more, sum_none}
+use Rattle.end_check.proofs.Products.{IsSumUpTo, sum_more}
 use Rattle.end_check.proofs.meeting.cost_at.Goals as goal
 
 pub loop-column-preserved : goal.loop-column-preserved

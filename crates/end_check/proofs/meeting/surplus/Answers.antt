@@ -1,9 +1,9 @@
-use Rattle.std.proofs.Common.{rules, ap, subst, sym, ◌∙◌, arith}
+use Rattle.std.proofs.Common.{rules, ◌∙◌}
 use Rattle.std.proofs.lemmas.Int.{to_z-of_z}
 use mir.Val.{SFits}
 use mir.Syntax.{w128}
 use Rattle.end_check.specs.Sums.{share_in}
-use Rattle.end_check.proofs.Products.{summing_begun, summing_done, summing_fails, summing_more}
+use Rattle.end_check.proofs.Products.{summing_begun, summing_more}
 use Rattle.end_check.proofs.meeting.surplus.Goals as goal
 
 pub loop-entry-init : goal.loop-entry-init

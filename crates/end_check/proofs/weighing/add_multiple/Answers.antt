@@ -1,10 +1,10 @@
-use Rattle.std.proofs.Common.{◌≡◌, ◌+ℤ◌, ◌*ℤ◌, rules, pos, get_or, ap, subst, sym, ◌∙◌, arith}
+use Rattle.std.proofs.Common.{◌≡◌, ◌+ℤ◌, ◌*ℤ◌, rules, pos, get_or, ap, subst, ◌∙◌, arith}
 use Rattle.std.proofs.lemmas.List.{get_or_default}
 use Rattle.std.proofs.lemmas.Int.{to_z-of_z}
 use mir.Val.{SFits}
 use mir.Syntax.{w128}
 use Rattle.end_check.specs.Sums.{AddsWithin}
-use Rattle.end_check.proofs.Multiples.{column_in, times_begun, times_done, times_fails, times_more}
+use Rattle.end_check.proofs.Multiples.{column_in, times_done, times_fails, times_more}
 use Rattle.end_check.proofs.weighing.add_multiple.Goals as goal
 
 pub returns-in_default-plus_product : goal.returns-in_default-plus_product

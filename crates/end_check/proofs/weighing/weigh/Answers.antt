@@ -1,7 +1,6 @@
-use Rattle.std.proofs.Common.{◌≡◌, rules, [], length, get_or, ap, subst, sym, refl, ◌∙◌, arith, add-one}
+use Rattle.std.proofs.Common.{◌≡◌, [], length, get_or, ap, subst, sym, refl, ◌∙◌, arith, add-one}
 use Rattle.std.proofs.lemmas.List.{get_or_read}
 use Rattle.end_check.specs.Ends.{value_in}
-use Rattle.end_check.specs.Sums.{WeighsWithin, weights_of}
 use Rattle.end_check.proofs.Weights.{IsWeighing, weighing_all, weighing_begun, weighing_fails, weighing_more, weighing_within, weights_long}
 use Rattle.end_check.proofs.weighing.weigh.Goals as goal
 
