@@ -5,11 +5,11 @@
 #[cfg(test)]
 mod assertions;
 #[cfg(test)]
+mod end_checks;
+#[cfg(test)]
 mod end_finds;
 #[cfg(test)]
 mod hint_lifts;
-#[cfg(test)]
-mod end_checks;
 #[cfg(test)]
 mod islands;
 #[cfg(test)]
