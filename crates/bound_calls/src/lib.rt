@@ -7,6 +7,10 @@ mod assertions;
 #[cfg(test)]
 mod dual_runs;
 #[cfg(test)]
+mod end_checks;
+#[cfg(test)]
+mod end_finds;
+#[cfg(test)]
 mod islands;
 #[cfg(test)]
 mod lifting;

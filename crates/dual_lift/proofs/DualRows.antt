@@ -1,5 +1,5 @@
 -- Dual values that are not outgrown are a row of fractions.
-use Rattle.std.proofs.Common.{◌≡◌, ℕ, ◌+◌, ◌-◌, ◌<◌, Bool, true, false, ◌||◌, if◌then◌else◌, List, get_or, None, ℤ, pos, neg_ℤ, ◌<ℤ◌, refl, sym, subst, inl, inr, arith}
+use Rattle.std.proofs.Common.{◌≡◌, ℕ, ◌+◌, ◌-◌, ◌<◌, ◌||◌, List, get_or, None, ℤ, pos, ◌<ℤ◌, refl, sym, subst, inl, inr, arith}
 use Rattle.std.proofs.lemmas.Bool.{cases_lt, or_parts}
 use Rattle.std.proofs.lemmas.List.{get_or_past}
 use Rattle.sums.specs.Places.{list_below}
@@ -7,20 +7,15 @@ use Rattle.sums.proofs.Places.{get_or-list_below, length-list_below, nothing_at}
 use Rattle.frac_row.specs.Outgrown.{IsWithin, is_outgrown}
 use Rattle.frac_row.specs.Row.{IsRow, number_of, width_of}
 use Rattle.frac_row.specs.declared.row.FracRow.{FracRow}
-use Rattle.frac_row.proofs.Combinations.{opposite_within, within_from}
-use Rattle.row_store.specs.Choice.{is_negative}
-use Rattle.row_store.specs.Table.{IsTable, cost_row, height_of, number_at, phase_row, right_side}
-use Rattle.dual_lift.specs.Duals.{best_scale, best_value, cost_den, cost_value, identity_column, phase_den, phase_value}
+use Rattle.frac_row.proofs.Combinations.{within_from}
+use Rattle.row_store.specs.Table.{IsTable, cost_row, height_of, phase_row}
+use Rattle.dual_lift.specs.Duals.{best_scale, best_value, cost_den, cost_value, phase_den, phase_value}
 use Rattle.dual_lift.specs.Readings.{IsReadingOf, duals_by, duals_excess, scale_by, scale_excess_by, value_by, value_excess_by}
 use Rattle.dual_lift.specs.TooLarge.{best_value_outgrown, phases_outgrown}
 use Rattle.dual_lift.specs.declared.reading.Reading.{Reading}
-use Rattle.dual_lift.specs.declared.reading.Reading.TheVariants.{BothRows, CostRow, LineRow, PhaseRow}
+use Rattle.dual_lift.specs.declared.reading.Reading.TheVariants.{BothRows, PhaseRow}
 use Rattle.dual_lift.proofs.BestDuals.{scale_some}
 use Rattle.dual_lift.proofs.Excesses.{first_none, not_excess, second_none}
-
-either_within : (b : Bool) (z : ℤ) → IsWithin z → IsWithin (if b then neg_ℤ z else z)
-either_within true z w = opposite_within z w
-either_within false z w = w
 
 phase_above : (table : List FracRow) → IsTable table → pos 0 <ℤ phase_den table
 phase_above table is = (is.rows (phase_row table) (omega (arith, is.tall))).positive
@@ -40,22 +35,15 @@ value_within : (table : List FracRow) (reading : Reading) (line : ℕ) → IsTab
 value_within table (BothRows mixture) line is reads fits =
     within_from (best_value table line) (or_parts (is_outgrown (cost_value table line)) (is_outgrown (best_value table line)) (or_parts (phases_outgrown table line) (is_outgrown (cost_value table line) || is_outgrown (best_value table line)) (not_excess (best_value_outgrown table line) 3 line fits)).1).1
 value_within table PhaseRow line is reads fits = within_from (phase_value table line) (not_excess (is_outgrown (phase_value table line)) 3 line fits)
-value_within table CostRow line is reads fits = opposite_within (number_at table (cost_row table) (identity_column table line)) ((is.rows (cost_row table) (omega (arith, is.tall))).within (identity_column table line))
-value_within table (LineRow row) line is reads fits =
-    either_within (is_negative (right_side table row)) (number_at table row (identity_column table line)) ((is.rows row (omega (arith, is.tall, reads))).within (identity_column table line))
 
 -- the scale
 scale_within : (table : List FracRow) (reading : Reading) → IsTable table → IsReadingOf table reading → scale_excess_by table reading ≡ None → IsWithin (scale_by table reading)
 scale_within table (BothRows mixture) is reads fits = within_from (best_scale table) (not_excess (is_outgrown (best_scale table)) 2 0 fits)
 scale_within table PhaseRow is reads fits = (is.rows (phase_row table) (omega (arith, is.tall))).den_within
-scale_within table CostRow is reads fits = (is.rows (cost_row table) (omega (arith, is.tall))).den_within
-scale_within table (LineRow row) is reads fits = (is.rows row (omega (arith, is.tall, reads))).den_within
 
 pub scale_above : (table : List FracRow) (reading : Reading) → IsTable table → IsReadingOf table reading → pos 0 <ℤ scale_by table reading
 scale_above table (BothRows mixture) is reads = scale_some table (phase_above table is) (cost_above table is)
 scale_above table PhaseRow is reads = phase_above table is
-scale_above table CostRow is reads = cost_above table is
-scale_above table (LineRow row) is reads = (is.rows row (omega (arith, is.tall, reads))).positive
 
 pub duals_are_row : (table : List FracRow) (reading : Reading) (first : ℕ) → IsTable table → IsReadingOf table reading → duals_excess table reading first ≡ None → IsRow (duals_by table reading first)
 unfolding duals_by duals_excess

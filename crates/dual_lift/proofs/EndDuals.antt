@@ -7,16 +7,14 @@ use Rattle.row_store.specs.Table.{cost_row, right_side}
 use Rattle.row_store.specs.declared.problem.Rows.{Rows}
 use Rattle.simplex_frac.specs.LastTables.{IsBestTable, IsNoPointTable}
 use Rattle.reached_tables.specs.Duality.{weighed}
-use Rattle.dual_lift.specs.Duals.{best_scale, best_value, cost_den, phase_den, phase_part, phase_value, row_value, sign_value}
+use Rattle.dual_lift.specs.Duals.{best_scale, best_value, cost_den, phase_den, phase_part, phase_value}
 use Rattle.dual_lift.specs.LastTables.{AreDualValues, IsEndBy, IsReachedTable, WeighMore, WeighTheCost, counts_costs}
 use Rattle.dual_lift.specs.Mixture.{HasPhases}
 use Rattle.dual_lift.specs.Readings.{IsReadingOf, scale_by, value_by}
-use Rattle.reached_tables.specs.Signs.{IsRefusedByRow}
 use Rattle.dual_lift.specs.declared.reading.Reading.{Reading}
-use Rattle.dual_lift.specs.declared.reading.Reading.TheVariants.{BothRows, CostRow, LineRow, PhaseRow}
-use Rattle.dual_lift.proofs.BestDuals.{best_dual, best_sides, lines_in, real_is, refusal_dual, refusal_sides}
+use Rattle.dual_lift.specs.declared.reading.Reading.TheVariants.{BothRows, PhaseRow}
+use Rattle.dual_lift.proofs.BestDuals.{best_dual, best_sides, real_is, refusal_dual, refusal_sides}
 use Rattle.dual_lift.proofs.DualRows.{scale_above}
-use Rattle.dual_lift.proofs.SignDuals.{row_dual, row_sides, sign_dual, sign_sides}
 
 counted_once : (w s c : ℤ) → w ≤ℤ (s *ℤ c) → w ≤ℤ ((pos 1 *ℤ s) *ℤ c)
 counted_once w s c le = subst (λ z. w ≤ℤ (z *ℤ c)) (sym (one-*ℤ s)) le
@@ -28,8 +26,6 @@ module _ (rows : Rows) (table : List FracRow) (basis : List ℕ) (last : IsReach
   pub read_so : (reading : Reading) → IsEndBy rows table basis reading → IsReadingOf table reading
   read_so (BothRows mixture) ends = ends.1
   read_so PhaseRow ends = tt
-  read_so CostRow ends = tt
-  read_so (LineRow row) ends = omega (arith, ends.row_in, lines_in rows table basis last.shape last.reads)
 
   under : (reading : Reading) → IsEndBy rows table basis reading → (column : ℕ) → column < rows.columns
       → weighed rows (value_by table reading) column ≤ℤ ((pos (counts_costs reading) *ℤ scale_by table reading) *ℤ get_or rows.costs column (pos 0))
@@ -37,10 +33,6 @@ module _ (rows : Rows) (table : List FracRow) (basis : List ℕ) (last : IsReach
       counted_once (weighed rows (best_value table) column) (best_scale table) (get_or rows.costs column (pos 0)) (best_dual rows table basis last.shape last.reads ends.0 column real)
   under PhaseRow ends column real =
       not_counted (weighed rows (phase_value table) column) (phase_den table) (get_or rows.costs column (pos 0)) (refusal_dual rows table basis last.shape last.reads ends column real)
-  under CostRow ends column real =
-      counted_once (weighed rows (sign_value table) column) (cost_den table) (get_or rows.costs column (pos 0)) (sign_dual rows table basis last.shape last.reads ends column real)
-  under (LineRow row) ends column real =
-      not_counted (weighed rows (row_value table row) column) (scale_by table (LineRow row)) (get_or rows.costs column (pos 0)) (row_dual rows table basis last.shape last.reads row ends column real)
 
   pub are_duals : (reading : Reading) → IsEndBy rows table basis reading → AreDualValues rows (counts_costs reading) (scale_by table reading) (value_by table reading)
   are_duals reading ends = record { some = scale_above table reading last.shape.is_table (read_so reading ends); under = under reading ends }
@@ -57,12 +49,6 @@ module _ (rows : Rows) (table : List FracRow) (basis : List ℕ) (last : IsReach
       moved : (p r c : ℤ) → neg_ℤ (p *ℤ r) *ℤ c ≡ neg_ℤ r *ℤ (p *ℤ c)
       moved p r c = neg_ℤ-*ℤ (p *ℤ r) c ∙ ap neg_ℤ (ap (λ z. z *ℤ c) (*ℤ_comm p r) ∙ *ℤ_assoc r p c) ∙ sym (neg_ℤ-*ℤ r (p *ℤ c))
 
-  pub signs_weigh : WeighTheCost rows table (cost_den table) (sign_value table)
-  signs_weigh = record { sides = ap (λ z. z *ℤ cost_den table) (sign_sides rows table basis last.shape last.reads last.problem.costs) }
-
   -- ---- where no point meets the lines
   pub phases_weigh : IsNoPointTable rows table → WeighMore rows (phase_value table)
   phases_weigh none = record { sides = refusal_sides rows table basis last.shape last.reads none }
-
-  pub row_weighs : (row : ℕ) → IsRefusedByRow rows table row → WeighMore rows (row_value table row)
-  row_weighs row refused = record { sides = row_sides rows table basis last.shape last.reads row refused }

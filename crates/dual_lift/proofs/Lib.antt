@@ -12,4 +12,3 @@ pub mod PartLists
 pub mod Quotients
 pub mod Reached
 pub mod ScaleSteps
-pub mod SignDuals

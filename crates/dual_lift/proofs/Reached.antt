@@ -3,17 +3,11 @@ use Rattle.std.proofs.Common.{ℕ, List}
 use Rattle.frac_row.specs.declared.row.FracRow.{FracRow}
 use Rattle.row_store.specs.declared.problem.Rows.{Rows}
 use Rattle.reached_tables.specs.Duality.{IsReachedBySteps}
-use Rattle.reached_tables.specs.Signs.{IsBestBySigns}
 use Rattle.reached_tables.proofs.ReachedPoints.{has_tables}
 use Rattle.reached_tables.proofs.ReadOff.{reads_off}
-use Rattle.reached_tables.proofs.SignEnds.{best_meets}
 use Rattle.reached_tables.proofs.UnitColumns.{has_unit_columns}
-use Rattle.dual_lift.specs.LastTables.{HasBasicPoint, IsReachedTable}
+use Rattle.dual_lift.specs.LastTables.{IsReachedTable}
 
 module _ (rows : Rows) (table : List FracRow) (basis : List ℕ) (reached : IsReachedBySteps rows table basis) where
   pub known : IsReachedTable rows table basis
   known = record { problem = reached.problem; shape = has_tables rows table basis reached; reads = reads_off rows table basis reached; units = has_unit_columns rows table basis reached }
-
-  -- .. and of its basic point, where it is a cheapest one by signs
-  pub point_by_signs : IsBestBySigns rows table basis → HasBasicPoint rows table basis
-  point_by_signs signs = record { sides = signs.right_sides; meets = λ scale x is. best_meets rows table basis scale x reached signs is }

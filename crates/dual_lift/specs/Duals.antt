@@ -1,10 +1,10 @@
 -- Dual values of the lines, read off the identity block of the last table of a run.
-use Rattle.std.specs.Prelude.{ℕ, ◌+◌, ◌-◌, ◌/◌, if◌then◌else◌, List, ℤ, pos, neg_ℤ, ◌-ℤ◌, ◌*ℤ◌, unsigned_abs, int_div}
+use Rattle.std.specs.Prelude.{ℕ, ◌+◌, ◌-◌, ◌/◌, if◌then◌else◌, List, ℤ, pos, ◌-ℤ◌, ◌*ℤ◌, unsigned_abs, int_div}
 use Rattle.sums.specs.Below.{max_below}
 use Rattle.sums.specs.Divisors.{gcd}
 use Rattle.frac_row.specs.declared.row.FracRow.{FracRow}
 use Rattle.row_store.specs.Choice.{is_negative}
-use Rattle.row_store.specs.Table.{columns_of, cost_row, height_of, number_at, phase_row, right_side, row_at}
+use Rattle.row_store.specs.Table.{columns_of, cost_row, height_of, number_at, phase_row, row_at}
 
 -- the column of a line in the identity block, which stands after the real columns
 abbrev pub real_columns : List FracRow → ℕ
@@ -70,12 +70,3 @@ cost_value table line = cost_number table (identity_column table line) *ℤ phas
 -- the dual value of a line at a cheapest point
 abbrev pub best_value : List FracRow → ℕ → ℤ
 best_value table line = phases_value table line -ℤ cost_value table line
-
--- the dual value of a line at a point that is a cheapest one by signs: the cost row's number, with the other sign
-abbrev pub sign_value : List FracRow → ℕ → ℤ
-sign_value table line = neg_ℤ (cost_number table (identity_column table line))
-
--- the dual value of a line where a row refuses all points: the row's number, by the sign of its right side
-abbrev pub row_value : List FracRow → ℕ → ℕ → ℤ
-row_value table row line =
-    if is_negative (right_side table row) then neg_ℤ (number_at table row (identity_column table line)) else number_at table row (identity_column table line)

@@ -1,16 +1,16 @@
 -- What is known of the last table of a run, and what its dual values say of the lines.
-use Rattle.std.specs.Prelude.{◌≡◌, ℕ, ◌<◌, List, length, slice_index_or, ℤ, pos, neg_ℤ, ◌*ℤ◌, ◌<ℤ◌, ◌≤ℤ◌}
+use Rattle.std.specs.Prelude.{◌≡◌, ℕ, ◌<◌, List, length, ℤ, pos, neg_ℤ, ◌*ℤ◌, ◌≤ℤ◌}
 use Rattle.frac_row.specs.declared.row.FracRow.{FracRow}
 use Rattle.row_store.specs.Problem.{IsProblem}
+pub use Rattle.row_store.specs.DualValues.{AreDualValues, WeighMore}
 use Rattle.row_store.specs.Table.{cost_row, right_side}
 use Rattle.row_store.specs.declared.problem.Rows.{Rows}
 use Rattle.reached_tables.specs.Duality.{HasUnitColumns, IsTableOf, ReadsOff, den_at, weighed}
 use Rattle.simplex_frac.specs.LastTables.{IsBestTable, IsNoPointTable}
 use Rattle.reached_tables.specs.BasicPoints.{IsBasicPoint, MeetsAtCost}
 use Rattle.dual_lift.specs.Mixture.{IsMixture}
-use Rattle.reached_tables.specs.Signs.{IsBestBySigns, IsRefusedByRow}
 use Rattle.dual_lift.specs.declared.reading.Reading.{Reading}
-use Rattle.dual_lift.specs.declared.reading.Reading.TheVariants.{BothRows, CostRow, LineRow, PhaseRow}
+use Rattle.dual_lift.specs.declared.reading.Reading.TheVariants.{BothRows, PhaseRow}
 
 -- what is known of a table, with its basis, that steps reach from the lines: its shape, each row read off the identity
 -- block, and unit columns
@@ -29,25 +29,12 @@ pub record HasBasicPoint (rows : Rows) (table : List FracRow) (basis : List ℕ)
 abbrev pub IsEndBy : Rows → List FracRow → List ℕ → Reading → Type 0
 IsEndBy rows table basis (BothRows mixture) = IsBestTable rows table × IsMixture table mixture
 IsEndBy rows table basis PhaseRow = IsNoPointTable rows table
-IsEndBy rows table basis CostRow = IsBestBySigns rows table basis
-IsEndBy rows table basis (LineRow row) = IsRefusedByRow rows table row
 
 -- whether costs count there: at a cheapest point they do, and not where there is no point
 abbrev pub counts_costs : Reading → ℕ
 counts_costs (BothRows mixture) = 1
 counts_costs PhaseRow = 0
-counts_costs CostRow = 1
-counts_costs (LineRow row) = 0
-
--- dual values over a scale: with them no real column weighs more than it costs, and more than 0 where costs don't count
-pub record AreDualValues (rows : Rows) (counted : ℕ) (scale : ℤ) (value : ℕ → ℤ) : Type 0 where
-  pub some : pos 0 <ℤ scale
-  pub under : (column : ℕ) → column < rows.columns → weighed rows value column ≤ℤ ((pos counted *ℤ scale) *ℤ slice_index_or rows.costs column (pos 0))
 
 -- the right sides weigh what the cost row tells, each over its own scale
 pub record WeighTheCost (rows : Rows) (table : List FracRow) (scale : ℤ) (value : ℕ → ℤ) : Type 0 where
   pub sides : weighed rows value rows.columns *ℤ den_at table (cost_row table) ≡ neg_ℤ (right_side table (cost_row table)) *ℤ scale
-
--- .. more than 0, where no column does: so no point meets the lines
-pub record WeighMore (rows : Rows) (value : ℕ → ℤ) : Type 0 where
-  pub sides : pos 0 <ℤ weighed rows value rows.columns

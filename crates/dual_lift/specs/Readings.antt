@@ -1,47 +1,37 @@
 -- The dual values of lines, by how they are read off a last table.
-use Rattle.std.specs.Prelude.{ℕ, ◌+◌, ◌-◌, ◌<◌, ⊤, List, ℤ, Option, None}
+use Rattle.std.specs.Prelude.{ℕ, ◌+◌, ◌-◌, ⊤, List, ℤ, Option, None}
 use Rattle.sums.specs.Places.{first_below, list_below, or_else}
 use Rattle.frac_row.specs.declared.row.FracRow.{FracRow}
-use Rattle.row_store.specs.Table.{height_of, row_at}
-use Rattle.dual_lift.specs.Duals.{best_scale, best_value, cost_den, phase_den, phase_value, row_value, sign_value}
+use Rattle.row_store.specs.Table.{height_of}
+use Rattle.dual_lift.specs.Duals.{best_scale, best_value, phase_den, phase_value}
 use Rattle.dual_lift.specs.Mixture.{IsMixture}
 use Rattle.dual_lift.specs.TooLarge.{best_value_excess, refusal_value_excess, scale_excess}
 use Rattle.dual_lift.specs.declared.error.Excess.{Excess}
 use Rattle.dual_lift.specs.declared.reading.Reading.{Reading}
-use Rattle.dual_lift.specs.declared.reading.Reading.TheVariants.{BothRows, CostRow, LineRow, PhaseRow}
+use Rattle.dual_lift.specs.declared.reading.Reading.TheVariants.{BothRows, PhaseRow}
 
 -- the table can be read so
 abbrev pub IsReadingOf : List FracRow → Reading → Type 0
 IsReadingOf table (BothRows mixture) = IsMixture table mixture
 IsReadingOf table PhaseRow = ⊤
-IsReadingOf table CostRow = ⊤
-IsReadingOf table (LineRow row) = row < height_of table
 
 -- the dual value of a line, and the scale of all of them
 abbrev pub value_by : List FracRow → Reading → ℕ → ℤ
 value_by table (BothRows mixture) line = best_value table line
 value_by table PhaseRow line = phase_value table line
-value_by table CostRow line = sign_value table line
-value_by table (LineRow row) line = row_value table row line
 
 abbrev pub scale_by : List FracRow → Reading → ℤ
 scale_by table (BothRows mixture) = best_scale table
 scale_by table PhaseRow = phase_den table
-scale_by table CostRow = cost_den table
-scale_by table (LineRow row) = (row_at table row).den
 
--- what is too large on the way to them; where one row is read, nothing but the phase row's differences can be
+-- what is too large on the way to them; where one row is read, nothing but its differences can be
 abbrev pub value_excess_by : List FracRow → Reading → ℕ → Option Excess
 value_excess_by table (BothRows mixture) line = best_value_excess table line
 value_excess_by table PhaseRow line = refusal_value_excess table line
-value_excess_by table CostRow line = None
-value_excess_by table (LineRow row) line = None
 
 abbrev pub scale_excess_by : List FracRow → Reading → Option Excess
 scale_excess_by table (BothRows mixture) = scale_excess table
 scale_excess_by table PhaseRow = None
-scale_excess_by table CostRow = None
-scale_excess_by table (LineRow row) = None
 
 -- the dual values of the lines from one on, over their scale
 unfoldable pub duals_by : List FracRow → Reading → ℕ → FracRow

@@ -9,8 +9,4 @@ pub enum Reading {
     BothRows(Mixture),
     /// Where no point meets the lines: the phase row.
     PhaseRow,
-    /// At a point that is a cheapest one by signs: the cost row.
-    CostRow,
-    /// Where the row of a line refuses all points: that row.
-    LineRow { line: u32 },
 }

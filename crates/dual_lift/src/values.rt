@@ -4,19 +4,15 @@ ghost use Rattle.sums.specs.Places.{first_below, list_below};
 ghost use Rattle.frac_row.specs.Outgrown.{is_outgrown};
 ghost use Rattle.frac_row.specs.Row.{IsRow};
 ghost use Rattle.row_store.specs.Table.{HasColumns, height_of};
-ghost use Rattle.dual_lift.specs.Duals.{best_value, phase_value, phases_value, row_value, sign_value};
+ghost use Rattle.dual_lift.specs.Duals.{best_value, phase_value, phases_value};
 ghost use Rattle.dual_lift.specs.Mixture.{IsMixture};
 ghost use Rattle.dual_lift.specs.Readings.{IsReadingOf, duals_by, duals_excess, scale_by, scale_excess_by, value_by, value_excess_by};
 ghost use Rattle.dual_lift.specs.TooLarge.{IsLiftError, best_value_excess, best_value_outgrown, phases_outgrown, refusal_value_excess};
 
 use crate::error::{Excess, LiftError, VALUES_STEP};
 use crate::mixture::{Mixture, best_scale};
-use crate::numbers::opposite;
 use crate::reading::Reading;
-use crate::rows::{
-    cost_den, cost_number, identity_column, line_den, line_number, phase_den, phase_number,
-    right_side,
-};
+use crate::rows::{cost_number, identity_column, phase_den, phase_number};
 use entries::Entries;
 use frac_row::FracRow;
 use frac_row::growth::{difference, product};
@@ -56,8 +52,6 @@ fn scale<R: RowStore>(table: &R, reading: &Reading) -> Result<i128, Excess>
     match reading {
         Reading::BothRows(mixture) => best_scale(table, mixture),
         Reading::PhaseRow => Ok(phase_den(table)),
-        Reading::CostRow => Ok(cost_den(table)),
-        Reading::LineRow { line } => Ok(line_den(table, *line)),
     }
 }
 
@@ -96,8 +90,6 @@ fn value<R: RowStore>(table: &R, reading: &Reading, columns: u32, line: u32) -> 
     match reading {
         Reading::BothRows(mixture) => mixed_value(table, mixture, columns, line),
         Reading::PhaseRow => refusal_value(table, columns, line),
-        Reading::CostRow => Ok(sign_value(table, columns, line)),
-        Reading::LineRow { line: row } => Ok(row_value(table, columns, *row, line)),
     }
 }
 
@@ -142,30 +134,6 @@ fn too_large(line: u32) -> Excess
     Excess {
         step: VALUES_STEP,
         at: line.into(),
-    }
-}
-
-// The dual value of a line by the cost row alone.
-fn sign_value<R: RowStore>(table: &R, columns: u32, line: u32) -> i128
-    requires columns { HasColumns (R.content table.now) columns }
-    requires line { line < height_of (R.content table.now) }
-    ensures { result ≡ sign_value (R.content table.now) line }
-{
-    opposite(&cost_number(table, identity_column(table, columns, line)))
-}
-
-// The dual value of a line by the row of another, which refuses all points.
-fn row_value<R: RowStore>(table: &R, columns: u32, row: u32, line: u32) -> i128
-    requires columns { HasColumns (R.content table.now) columns }
-    requires row { row < height_of (R.content table.now) }
-    requires line { line < height_of (R.content table.now) }
-    ensures { result ≡ row_value (R.content table.now) row line }
-{
-    let number = line_number(table, row, identity_column(table, columns, line));
-    if right_side(table, columns, row) < 0 {
-        opposite(&number)
-    } else {
-        number
     }
 }
 

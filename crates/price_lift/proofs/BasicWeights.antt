@@ -101,7 +101,24 @@ module _ (pairs : List Pair) (parts : List ℤ) (p : Pair) where
         ))
   ]
 
--- ---- the weights
+-- ---- the weights of pairs, by the parts of their columns
+module _ (t : Tables) (keeps : Domains) (starts : Starts) (mixed : Mixed) (part : ℕ → ℕ) (parts : List ℤ) (are : AreParts part (pairs_kept t keeps) parts)
+    (list : mixed.weights ≡ concat_below (weights_at (all_kept t keeps) parts) (pairs_kept t keeps)) where
+  weight_is : (p : Pair) → weight_in mixed p ≡ weight_after (pos 0) (concat_below (weights_at (all_kept t keeps) parts) (pairs_kept t keeps)) p
+  weight_is p = ap (λ ws. weight_after (pos 0) ws p) list
+
+  found : (p : Pair) → IsFound (all_kept t keeps) parts p (pairs_kept t keeps) ⊎ IsMissing (all_kept t keeps) parts p (pairs_kept t keeps)
+  found p = find (all_kept t keeps) parts p (pairs_kept t keeps) (pair_once t keeps starts)
+
+  -- the weight of a pair: at its column, or 0 where it has none
+  pub by_column : (p : Pair) (P : ℤ → Type 0) → ((c : ℕ) → c < pairs_kept t keeps → pair_at_column t keeps c ≡ p → P (pos (part c)))
+      → (((c : ℕ) → c < pairs_kept t keeps → pair_at_column t keeps c ≢ p) → P (pos 0)) → P (weight_in mixed p)
+  by_column p P there missing = elim (found p) [
+    | inl here ↦ subst P (sym (weight_is p ∙ here.3 ∙ are.each here.0 here.1)) (there here.0 here.1 here.2)
+    | inr none ↦ subst P (sym (weight_is p ∙ none.1)) (missing none.0)
+  ]
+
+-- ---- .. at a basic point
 module _ (t : Tables) (keeps : Domains) (starts : Starts) (table : List FracRow) (basis : List ℕ) (mixed : Mixed) (parts : List ℤ)
     (own : HaveColumns basis (height_of table)) (dens : HaveDens table (height_of table)) (sides : (line : ℕ) → line < height_of table → pos 0 ≤ℤ right_side table line) where
   abbrev scale : ℕ
@@ -109,36 +126,21 @@ module _ (t : Tables) (keeps : Domains) (starts : Starts) (table : List FracRow)
 
   module _ (is_scale : mixed.scale ≡ pos scale) (are : AreParts (part_below table basis scale (height_of table)) (pairs_kept t keeps) parts)
       (list : mixed.weights ≡ concat_below (weights_at (all_kept t keeps) parts) (pairs_kept t keeps)) where
-    weight_is : (p : Pair) → weight_in mixed p ≡ weight_after (pos 0) (concat_below (weights_at (all_kept t keeps) parts) (pairs_kept t keeps)) p
-    weight_is p = ap (λ ws. weight_after (pos 0) ws p) list
-
-    found : (p : Pair) → IsFound (all_kept t keeps) parts p (pairs_kept t keeps) ⊎ IsMissing (all_kept t keeps) parts p (pairs_kept t keeps)
-    found p = find (all_kept t keeps) parts p (pairs_kept t keeps) (pair_once t keeps starts)
-
-    -- the weight of a pair: at its column, or 0 where it has none
-    pub by_column : (p : Pair) (P : ℤ → Type 0) → ((c : ℕ) → c < pairs_kept t keeps → pair_at_column t keeps c ≡ p → P (pos (part_below table basis scale (height_of table) c)))
-        → (((c : ℕ) → c < pairs_kept t keeps → pair_at_column t keeps c ≢ p) → P (pos 0)) → P (weight_in mixed p)
-    by_column p P there missing = elim (found p) [
-      | inl here ↦ subst P (sym (weight_is p ∙ here.3 ∙ are.each here.0 here.1)) (there here.0 here.1 here.2)
-      | inr none ↦ subst P (sym (weight_is p ∙ none.1)) (missing none.0)
-    ]
-
     -- the weight of a line's basic pair
     pub basic_weight : (line : ℕ) (p : Pair) → line < height_of table → IsBasicIn t keeps basis line p → weight_in mixed p ≡ pos (part_of table scale line)
-    basic_weight line p below basic = weight_is p ∙ elim (found p) [
-      | inl there ↦
-          let same : there.0 ≡ get_or basis line 0 = pair_once t keeps starts there.0 (get_or basis line 0) there.1 basic.of_pair (there.2 ∙ sym basic.same) in
-          there.3 ∙ are.each there.0 there.1 ∙ ap (λ c. pos (part_below table basis scale (height_of table) c)) same ∙ ap pos (part_there table basis scale (height_of table) line own below)
-      | inr missing ↦ absurd (missing.0 (get_or basis line 0) basic.of_pair basic.same)
-    ]
+    basic_weight line p below basic =
+        by_column t keeps starts mixed (part_below table basis scale (height_of table)) parts are list p (λ w. w ≡ pos (part_of table scale line))
+        (λ c there same.
+        let at : c ≡ get_or basis line 0 = pair_once t keeps starts c (get_or basis line 0) there basic.of_pair (same ∙ sym basic.same) in
+        ap (λ k. pos (part_below table basis scale (height_of table) k)) at ∙ ap pos (part_there table basis scale (height_of table) line own below))
+        (λ missing. absurd (missing (get_or basis line 0) basic.of_pair basic.same))
 
     no_weight : (p : Pair) → ((line : ℕ) → line < height_of table → ¬ (IsBasicIn t keeps basis line p)) → weight_in mixed p ≡ pos 0
-    no_weight p other = weight_is p ∙ elim (found p) [
-      | inl there ↦
-          there.3 ∙ are.each there.0 there.1 ∙ ap pos (no_part table basis scale (height_of table) there.0 (λ line below same.
-          other line below (record { of_pair = subst (λ c. c < pairs_kept t keeps) (sym same) there.1; same = ap (pair_at_column t keeps) same ∙ there.2 })))
-      | inr missing ↦ missing.1
-    ]
+    no_weight p other =
+        by_column t keeps starts mixed (part_below table basis scale (height_of table)) parts are list p (λ w. w ≡ pos 0)
+        (λ c there same. ap pos (no_part table basis scale (height_of table) c (λ line below at.
+        other line below (record { of_pair = subst (λ k. k < pairs_kept t keeps) (sym at) there; same = ap (pair_at_column t keeps) at ∙ same }))))
+        (λ missing. refl)
 
     pub are_basic : AreBasicWeights t keeps table basis mixed
     are_basic = record {

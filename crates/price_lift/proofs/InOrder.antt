@@ -13,8 +13,7 @@ use Rattle.fleet_model.specs.Schedule.{fleets_in}
 use Rattle.fleet_model.specs.Use.{last_minute}
 use Rattle.node_aggregate.specs.Nodes.{AreNodesAt}
 use Rattle.node_aggregate.proofs.EventsAmong.{happens_within}
-use Rattle.dual_lift.specs.Parts.{AreParts, HaveParts, part_below}
-use Rattle.dual_lift.proofs.BasicPoints.{few_parts}
+use Rattle.dual_lift.specs.Parts.{AreParts}
 use Rattle.lp_rows.specs.Layout.{Starts, all_kept, all_nodes, concat_below}
 use Rattle.dual_bound.specs.Prices.{max_scale}
 use Rattle.dual_bound.specs.WrittenOrder.{ArePricesInOrder, IsFigure, IsMixedInOrder, IsWeightInOrder, WeightsFollow}
@@ -25,7 +24,6 @@ use Rattle.price_lift.specs.Steps.{ArePricesBy, prices_by}
 use Rattle.price_lift.proofs.Minutes.{nodes_rise}
 use Rattle.price_lift.proofs.StepOrder.{steps_in_order}
 use Rattle.price_lift.proofs.WeightOrder.{weights_follow, weights_in_order}
-use Rattle.row_store.specs.Table.{height_of}
 
 -- ---- numbers that a text may hold
 figure : (z : ℤ) → IsWithin z → IsFigure z
@@ -69,12 +67,11 @@ prices_in_order t keeps duals prices row by = subst (ArePricesInOrder t) (sym by
     }
 
 -- ---- weights
-pub mixed_in_order : (t : Tables) (keeps : Domains) (starts : Starts) (table : List FracRow) (basis : List ℕ) (scale : ℕ) (mixed : Mixed) (parts : List ℤ)
-    → HaveParts table basis (pairs_kept t keeps) scale → scale ≤ max_scale → mixed.scale ≡ pos scale → AreParts (part_below table basis scale (height_of table)) (pairs_kept t keeps) parts
+pub mixed_in_order : (t : Tables) (keeps : Domains) (starts : Starts) (part : ℕ → ℕ) (scale : ℕ) (mixed : Mixed) (parts : List ℤ)
+    → ((c : ℕ) → c < pairs_kept t keeps → IsWithin (pos (part c))) → scale ≤ max_scale → mixed.scale ≡ pos scale → AreParts part (pairs_kept t keeps) parts
     → mixed.weights ≡ concat_below (weights_at (all_kept t keeps) parts) (pairs_kept t keeps) → IsMixedInOrder t mixed
-mixed_in_order t keeps starts table basis scale mixed parts have within is_scale are list = record {
+mixed_in_order t keeps starts part scale mixed parts few within is_scale are list = record {
   scale = subst IsFigure (sym is_scale) (small_figure scale within);
-  each = subst (λ ws. All (IsWeightInOrder t) ws) (sym list) (weights_in_order t keeps starts parts (λ c below.
-      subst IsFigure (sym (are.each c below)) (figure (pos (part_below table basis scale (height_of table) c)) (few_parts table basis (pairs_kept t keeps) scale have (height_of table) c (omega arith) below))));
+  each = subst (λ ws. All (IsWeightInOrder t) ws) (sym list) (weights_in_order t keeps starts parts (λ c below. subst IsFigure (sym (are.each c below)) (figure (pos (part c)) (few c below))));
   follow = subst (λ ws. WeightsFollow None ws) (sym list) (weights_follow t keeps parts);
 }

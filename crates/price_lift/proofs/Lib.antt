@@ -3,6 +3,8 @@ pub mod BasicWeights
 pub mod ByLines
 pub mod Columns
 pub mod DownColumns
+pub mod DualPrices
+pub mod EndLifts
 pub mod InOrder
 pub mod IslandMoments
 pub mod Lagrangian
@@ -15,6 +17,7 @@ pub mod Networks
 pub mod OfTables
 pub mod Orders
 pub mod PointEnds
+pub mod PointPlans
 pub mod RunEnds
 pub mod ScaledPlans
 pub mod StepOrder

@@ -11,13 +11,13 @@ use Rattle.dual_lift.specs.TooLarge.{IsLiftError, best_value_excess, phases_exce
 use Rattle.dual_lift.specs.declared.error.Excess.{Excess}
 use Rattle.dual_lift.specs.declared.error.LiftError.{LiftError}
 use Rattle.dual_lift.specs.declared.mixture.Mixture.{Mixture}
-use Rattle.dual_lift.specs.declared.reading.Reading.TheVariants.{BothRows, CostRow, LineRow, PhaseRow}
+use Rattle.dual_lift.specs.declared.reading.Reading.TheVariants.{BothRows, PhaseRow}
 use Rattle.dual_lift.specs.declared.error.LiftError.TheVariants.{NoMemory, TooLarge}
 use Rattle.lp_rows.specs.Layout.{IsNetwork, Starts}
 use Rattle.price_lift.specs.PaidBack.{FitsBy, IsLiftErrorBy, payback_excess_by}
-use Rattle.price_lift.specs.Duals.{best_duals, refusal_duals, row_duals, sign_duals}
+use Rattle.price_lift.specs.Duals.{best_duals, refusal_duals}
 use Rattle.price_lift.specs.LastTables.{none_excess, point_excess, prices_excess_by}
-use Rattle.price_lift.specs.TooLarge.{best_excess, first_priced, point_ends, prices_excess, refusal_excess, row_excess, sign_excess}
+use Rattle.price_lift.specs.TooLarge.{best_excess, first_priced, point_ends, prices_excess, refusal_excess}
 use Rattle.price_lift.specs.declared.lift.Lifted.{Lifted}
 
 -- what holds of a result that is well, in other words
@@ -57,18 +57,6 @@ pub same_refusal : (t : Tables) (table : List FracRow) → duals_by table PhaseR
 unfolding duals_by refusal_duals
 same_refusal t table = refl
 
-pub same_signs : (t : Tables) (table : List FracRow) → duals_by table CostRow (legs_in t) ≡ sign_duals t table
-unfolding duals_by sign_duals
-same_signs t table = refl
-
-pub same_row : (t : Tables) (table : List FracRow) (row : ℕ) → duals_by table (LineRow row) (legs_in t) ≡ row_duals t table row
-unfolding duals_by row_duals
-same_row t table row = refl
-
-none_first : (f : ℕ → Option Excess) (n : ℕ) → ((k : ℕ) → f k ≡ None) → first_below f n ≡ None
-none_first f zero each = refl
-none_first f (suc n) each = rw (none_first f n each, each n) refl
-
 pub best_excess_is : (t : Tables) (keeps : Domains) (table : List FracRow) (basis : List ℕ) (mixture : Mixture) (starts : Starts) → first_below (phases_excess table) (real_columns table) ≡ None
     → point_excess t keeps table basis (BothRows mixture) starts ≡ best_excess t keeps table basis starts
 unfolding point_excess prices_excess_by duals_excess best_excess best_duals duals_by
@@ -89,14 +77,6 @@ pub refusal_excess_is : (t : Tables) (keeps : Domains) (table : List FracRow) (s
 unfolding none_excess prices_excess_by duals_excess refusal_excess refusal_duals duals_by
 refusal_excess_is t keeps table starts =
     nested (first_priced t table (refusal_value_excess table)) (prices_excess (legs_in t) (refusal_duals t table)) (payback_excess_by t keeps starts (refusal_duals t table))
-
-pub sign_excess_is : (t : Tables) (keeps : Domains) (table : List FracRow) (basis : List ℕ) (starts : Starts) → point_excess t keeps table basis CostRow starts ≡ sign_excess t keeps table basis starts
-unfolding point_excess prices_excess_by duals_excess sign_excess sign_duals duals_by
-sign_excess_is t keeps table basis starts = rw (none_first (λ k. None) _ (λ k. refl)) refl
-
-pub row_excess_is : (t : Tables) (keeps : Domains) (table : List FracRow) (row : ℕ) (starts : Starts) → none_excess t keeps table (LineRow row) starts ≡ row_excess t keeps table row starts
-unfolding none_excess prices_excess_by duals_excess row_excess row_duals duals_by
-row_excess_is t keeps table row starts = rw (none_first (λ k. None) _ (λ k. refl)) refl
 
 -- ---- by the network of an outline
 module _ (t : Tables) (keeps : Domains) (excess : Starts → Option Excess) (starts : Starts) (network : IsNetwork t keeps starts) where

@@ -1,5 +1,5 @@
--- What a lift comes to by the outline of the kept pairs, with its prices paid back.
-use Rattle.std.proofs.Common.{◌≡◌, ℕ, List, Some, None, sym, ◌∙◌, ap, subst}
+-- What a lift of a last table comes to by the outline of the kept pairs, with its prices paid back.
+use Rattle.std.proofs.Common.{◌≡◌, ℕ, List, Some, None, refl, ◌∙◌, sym, subst}
 use Rattle.sums.specs.Places.{first_below}
 use Rattle.frac_row.specs.declared.row.FracRow.{FracRow}
 use Rattle.fleet_model.specs.Kept.{Domains, pairs_kept}
@@ -10,7 +10,7 @@ use Rattle.lp_rows.specs.Layout.{starts_in}
 use Rattle.lp_rows.specs.Outline.{IsOutline}
 use Rattle.lp_rows.specs.declared.outline.Outline.{Outline}
 use Rattle.dual_lift.specs.LastTables.{counts_costs}
-use Rattle.dual_lift.specs.Readings.{duals_by}
+use Rattle.dual_lift.specs.Readings.{duals_by, value_by}
 use Rattle.dual_lift.specs.TooLarge.{IsLiftError}
 use Rattle.dual_lift.specs.declared.error.LiftError.{LiftError}
 use Rattle.dual_lift.specs.declared.reading.Reading.{Reading}
@@ -23,34 +23,33 @@ use Rattle.price_lift.specs.Lifted.{AreNodePrices, IsLiftedPoint, IsLiftedRefusa
 use Rattle.price_lift.specs.PaidBack.{paid_back, payback_excess, payback_excess_by}
 use Rattle.price_lift.specs.Parts.{IsBasicMixed}
 use Rattle.price_lift.specs.TooLarge.{weights_excess}
-use Rattle.price_lift.proofs.Lifts.{excess_is, point_is, prices_fit, refusal_is}
-use Rattle.price_lift.proofs.OutlineRises.{few_there, outline_rises_are}
+use Rattle.price_lift.proofs.DualPrices.{excess_none, paid_grows, paid_scale, prices_lifted, same_excess, worth_refutes}
+use Rattle.price_lift.proofs.Lifts.{dual_row, mixed_is, more, no_leg_bare, prices_fit, weights_are, weights_in_order, weights_of_tables, worth_is}
 
 module _ (t : Tables) (keeps : Domains) (table : List FracRow) (basis : List ℕ) (reading : Reading) (last : IsLastBy t keeps table basis reading) (o : Outline) (is : IsOutline t keeps o)
     (before : Prices) (are : AreNodePrices t keeps (starts_in o.network) (duals_by table reading (legs_in t)) before) (well : prices_excess_by t table reading ≡ None) where
   -- what is first too large by the outline is so by the dual values
-  pub same_excess : payback_excess t before (outline_rises o before) ≡ payback_excess_by t keeps (starts_in o.network) (duals_by table reading (legs_in t))
-  same_excess =
-      ap (payback_excess t before) (outline_rises_are t keeps o is before)
-      ∙ excess_is t keeps table basis reading last (starts_in o.network) is.network (few_there t keeps o is before) before are (prices_fit t keeps table basis reading last well)
+  pub same_there : payback_excess t before (outline_rises o before) ≡ payback_excess_by t keeps (starts_in o.network) (duals_by table reading (legs_in t))
+  same_there =
+      same_excess t keeps last.rows last.lines (counts_costs reading) (value_by table reading) (duals_by table reading (legs_in t)) (dual_row t keeps table basis reading last) (prices_fit t keeps table basis reading last well) o is before are
 
   -- ---- where no point meets the lines
   pub none_fails : (e : LiftError) → IsLiftError (payback_excess t before (outline_rises o before)) e → IsLiftError (none_excess t keeps table reading (starts_in o.network)) e
   unfolding none_excess
-  none_fails e fails = then_fails _ _ e well (subst (λ x. IsLiftError x e) same_excess fails)
+  none_fails e fails = then_fails _ _ e well (subst (λ x. IsLiftError x e) same_there fails)
 
-  module _ (paid : Prices) (facts : (payback_excess t before (outline_rises o before) ≡ None) × (paid ≡ paid_back t before (outline_rises o before))) where
-    pub small : payback_excess t before (outline_rises o before) ≡ None
-    small = facts.0
-
-    pub refusal_of : counts_costs reading ≡ 0 → (none_excess t keeps table reading (starts_in o.network) ≡ None) × IsLiftedRefusal t keeps (duals_by table reading (legs_in t)) (record { prices = paid; mixed = None })
-    unfolding none_excess
-    refusal_of none = (
-      both_well _ _ well (sym same_excess ∙ facts.0),
-      subst (λ p. IsLiftedRefusal t keeps (duals_by table reading (legs_in t)) (record { prices = p; mixed = None })) (sym (facts.1 ∙ ap (paid_back t before) (outline_rises_are t keeps o is before)))
-          (refusal_is t keeps table basis reading last (starts_in o.network) is.network (few_there t keeps o is before) before are none well
-          (sym (ap (payback_excess t before) (outline_rises_are t keeps o is before)) ∙ facts.0)),
-    )
+  pub refusal_of : (paid : Prices) → (payback_excess t before (outline_rises o before) ≡ None) × (paid ≡ paid_back t before (outline_rises o before)) → counts_costs reading ≡ 0
+      → (none_excess t keeps table reading (starts_in o.network) ≡ None) × IsLiftedRefusal t keeps (duals_by table reading (legs_in t)) (record { prices = paid; mixed = None })
+  unfolding none_excess
+  refusal_of paid facts none = (
+    both_well _ _ well (sym same_there ∙ facts.0),
+    record {
+      prices = prices_lifted t keeps last.rows last.lines (counts_costs reading) (value_by table reading) (duals_by table reading (legs_in t)) (dual_row t keeps table basis reading last) (prices_fit t keeps table basis reading last well) o is before are paid facts;
+      no_plan = refl;
+      refutes = worth_refutes t keeps last.rows last.lines (counts_costs reading) (value_by table reading) (duals_by table reading (legs_in t)) (dual_row t keeps table basis reading last) (prices_fit t keeps table basis reading last well) o is before are paid facts
+          none (more t keeps table basis reading last none);
+    },
+  )
 
 -- ---- at a cheapest point
 module _ (t : Tables) (keeps : Domains) (table : List FracRow) (basis : List ℕ) (reading : Reading) (point : IsPointBy t keeps table basis reading) (o : Outline) (is : IsOutline t keeps o)
@@ -58,14 +57,26 @@ module _ (t : Tables) (keeps : Domains) (table : List FracRow) (basis : List ℕ
     (weighed : first_below (weights_excess table basis (pairs_kept t keeps)) (height_of table) ≡ None) where
   pub point_fails : (e : LiftError) → IsLiftError (payback_excess t before (outline_rises o before)) e → IsLiftError (point_excess t keeps table basis reading (starts_in o.network)) e
   unfolding point_excess
-  point_fails e fails = then_fails _ _ e well (then_fails _ _ e weighed (subst (λ x. IsLiftError x e) (same_excess t keeps table basis reading point.last o is before are well) fails))
+  point_fails e fails = then_fails _ _ e well (then_fails _ _ e weighed (subst (λ x. IsLiftError x e) (same_there t keeps table basis reading point.last o is before are well) fails))
 
   pub point_of : (paid : Prices) → (payback_excess t before (outline_rises o before) ≡ None) × (paid ≡ paid_back t before (outline_rises o before)) → (mixed : Mixed) → IsBasicMixed table basis o.pairs mixed
       → (point_excess t keeps table basis reading (starts_in o.network) ≡ None) × IsLiftedPoint t keeps table basis (duals_by table reading (legs_in t)) (record { prices = paid; mixed = Some mixed })
   unfolding point_excess
-  point_of paid facts mixed basic = (
-    both_well _ _ well (both_well _ _ weighed (sym (same_excess t keeps table basis reading point.last o is before are well) ∙ facts.0)),
-    subst (λ p. IsLiftedPoint t keeps table basis (duals_by table reading (legs_in t)) (record { prices = p; mixed = Some mixed })) (sym (facts.1 ∙ ap (paid_back t before) (outline_rises_are t keeps o is before)))
-        (point_is t keeps table basis reading point (starts_in o.network) is.network (few_there t keeps o is before) before are (prices_fit t keeps table basis reading point.last well)
-        (sym (ap (payback_excess t before) (outline_rises_are t keeps o is before)) ∙ facts.0) o.pairs is.pairs mixed basic),
-  )
+  point_of paid facts mixed basic =
+      let duals = duals_by table reading (legs_in t) in
+      let row = dual_row t keeps table basis reading point.last in
+      let fits = prices_fit t keeps table basis reading point.last well in
+      let lifted = prices_lifted t keeps point.last.rows point.last.lines (counts_costs reading) (value_by table reading) duals row fits o is before are paid facts in
+      let same_scale = paid_scale t keeps point.last.rows point.last.lines (counts_costs reading) (value_by table reading) duals row fits o is before are paid facts in
+      let grows = paid_grows t keeps point.last.rows point.last.lines (counts_costs reading) (value_by table reading) duals row fits o is before are paid facts in (
+        both_well _ _ well (both_well _ _ weighed (sym (same_there t keeps table basis reading point.last o is before are well) ∙ facts.0)),
+        record {
+          prices = lifted;
+          weights = weights_are t keeps table basis reading point o.pairs is.pairs mixed basic;
+          known = weights_of_tables t keeps table basis reading point o.pairs is.pairs mixed basic;
+          weights_in_order = weights_in_order t keeps table basis reading point o.pairs is.pairs mixed basic;
+          plan = mixed_is t keeps table basis reading point o.pairs is.pairs mixed basic;
+          value = worth_is t keeps table basis reading point o.pairs is.pairs mixed basic fits before are.scale (are.by_lines point.last.lines.starts point.last.lines.lines.network) paid same_scale lifted.proper
+              (grows (no_leg_bare t keeps table basis reading point o.pairs is.pairs mixed basic) 1);
+        },
+      )

@@ -31,10 +31,10 @@ use Rattle.price_lift.proofs.LastTables.{counted_columns}
 use Rattle.dual_lift.specs.LastTables.{HasBasicPoint, IsReachedTable}
 use Rattle.dual_lift.specs.Mixture.{HasPhases, IsMixture}
 use Rattle.dual_lift.specs.declared.mixture.Mixture.{Mixture}
-use Rattle.dual_lift.specs.declared.reading.Reading.TheVariants.{BothRows, CostRow, LineRow, PhaseRow}
+use Rattle.dual_lift.specs.declared.reading.Reading.TheVariants.{BothRows, PhaseRow}
 use Rattle.dual_lift.proofs.EndDuals.{best_has_phases}
-use Rattle.dual_lift.proofs.Reached.{known, point_by_signs}
-use Rattle.price_lift.specs.Ends.{Ends, EndsByRow, EndsBySigns}
+use Rattle.dual_lift.proofs.Reached.{known}
+use Rattle.price_lift.specs.Ends.{Ends}
 use Rattle.price_lift.specs.LastTables.{IsPointBy, IsRefusalBy}
 use Rattle.price_lift.proofs.Columns.{sides_at_least}
 
@@ -69,13 +69,6 @@ module _ (t : Tables) (keeps : Domains) (table : List FracRow) (basis : List ℕ
     costs = refl;
   }
 
-pub is_best_by_signs : (t : Tables) (keeps : Domains) (table : List FracRow) (basis : List ℕ) → EndsBySigns t keeps table basis → IsPointBy t keeps table basis CostRow
-is_best_by_signs t keeps table basis ends = record {
-  last = record { rows = ends.rows; lines = ends.lines; reached = known ends.rows table basis ends.reached; ends = ends.signs };
-  point = point_by_signs ends.rows table basis ends.reached ends.signs;
-  costs = refl;
-}
-
 -- ---- where no point meets the lines
 pub is_refusal : (t : Tables) (keeps : Domains) (table : List FracRow) (basis : List ℕ) → Ends t keeps turns.NoPoint table basis → IsRefusalBy t keeps table basis PhaseRow
 is_refusal t keeps table basis ends = record {
@@ -87,9 +80,6 @@ is_refusal t keeps table basis ends = record {
   };
   no_costs = refl;
 }
-
-pub is_refusal_by_row : (t : Tables) (keeps : Domains) (table : List FracRow) (basis : List ℕ) (row : ℕ) → EndsByRow t keeps table basis row → IsRefusalBy t keeps table basis (LineRow row)
-is_refusal_by_row t keeps table basis row ends = record { last = record { rows = ends.rows; lines = ends.lines; reached = known ends.rows table basis ends.reached; ends = ends.signs }; no_costs = refl }
 
 -- ---- rays
 -- a plan of scale 0 weighs no pair

@@ -6,8 +6,8 @@ use Rattle.frac_row.specs.Row.{number_of}
 use Rattle.frac_row.specs.declared.row.FracRow.{FracRow}
 use Rattle.fleet_model.specs.Schedule.{legs_in}
 use Rattle.fleet_model.specs.declared.tables.Tables.{Tables}
-use Rattle.row_store.specs.Table.{height_of, row_at}
-use Rattle.dual_lift.specs.Duals.{best_scale, best_value, cost_den, phase_den, phase_value, row_value, sign_value}
+use Rattle.row_store.specs.Table.{height_of}
+use Rattle.dual_lift.specs.Duals.{best_scale, best_value, phase_den, phase_value}
 
 abbrev pub priced_lines : Tables → List FracRow → ℕ
 priced_lines t table = height_of table - legs_in t
@@ -23,19 +23,6 @@ unfoldable pub refusal_duals : Tables → List FracRow → FracRow
 refusal_duals t table = record {
   numbers = list_below (λ k. phase_value table (legs_in t + k)) (priced_lines t table);
   den = phase_den table;
-}
-
--- at a point that is a cheapest one by signs, and where a row refuses all points
-unfoldable pub sign_duals : Tables → List FracRow → FracRow
-sign_duals t table = record {
-  numbers = list_below (λ k. sign_value table (legs_in t + k)) (priced_lines t table);
-  den = cost_den table;
-}
-
-unfoldable pub row_duals : Tables → List FracRow → ℕ → FracRow
-row_duals t table row = record {
-  numbers = list_below (λ k. row_value table row (legs_in t + k)) (priced_lines t table);
-  den = (row_at table row).den;
 }
 
 -- the dual value that they have of a line

@@ -7,8 +7,6 @@ use Rattle.row_store.specs.declared.problem.Rows.{Rows}
 use Rattle.simplex_frac.specs.LastTables.{IsTurn}
 use Rattle.simplex_frac.specs.declared.turn.Turn.{Turn}
 use Rattle.lp_rows.specs.Points.{AreLinesOf}
-use Rattle.reached_tables.specs.Duality.{IsReachedBySteps}
-use Rattle.reached_tables.specs.Signs.{IsBestBySigns, IsRefusedByRow}
 
 -- after some pivots the prescribed run over the lines of the subproblem has this table and this basis, and does this there
 pub record Ends (t : Tables) (keeps : Domains) (does : Turn) (table : List FracRow) (basis : List ℕ) : Type 0 where
@@ -16,18 +14,3 @@ pub record Ends (t : Tables) (keeps : Domains) (does : Turn) (table : List FracR
   pub lines : AreLinesOf t keeps rows
   pub made : ℕ
   pub turn : IsTurn rows made table basis does
-
--- steps reach this table with this basis from the lines of the subproblem, and its signs say that the basic point is a
--- cheapest one
-pub record EndsBySigns (t : Tables) (keeps : Domains) (table : List FracRow) (basis : List ℕ) : Type 0 where
-  pub rows : Rows
-  pub lines : AreLinesOf t keeps rows
-  pub reached : IsReachedBySteps rows table basis
-  pub signs : IsBestBySigns rows table basis
-
--- .. or that the row of a line refuses all points
-pub record EndsByRow (t : Tables) (keeps : Domains) (table : List FracRow) (basis : List ℕ) (row : ℕ) : Type 0 where
-  pub rows : Rows
-  pub lines : AreLinesOf t keeps rows
-  pub reached : IsReachedBySteps rows table basis
-  pub signs : IsRefusedByRow rows table row

@@ -1,5 +1,6 @@
 pub mod ArcRises
 pub mod Duals
+pub mod EndLifts
 pub mod Ends
 pub mod LastTables
 pub mod Laws

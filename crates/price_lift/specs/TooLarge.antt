@@ -12,7 +12,7 @@ use Rattle.dual_lift.specs.declared.error.Excess.{Excess}
 use Rattle.dual_bound.specs.Prices.{max_price, max_scale}
 use Rattle.lp_rows.specs.Layout.{Starts}
 use Rattle.price_lift.specs.PaidBack.{payback_excess_by}
-use Rattle.price_lift.specs.Duals.{best_duals, priced_lines, refusal_duals, row_duals, sign_duals}
+use Rattle.price_lift.specs.Duals.{best_duals, priced_lines, refusal_duals}
 
 -- step 6, line by line: the scale of the weights
 abbrev pub weights_excess : List FracRow → List ℕ → ℕ → ℕ → Option Excess
@@ -49,12 +49,3 @@ unfoldable pub refusal_excess : Tables → Domains → List FracRow → Starts �
 refusal_excess t keeps table starts =
     or_else (first_priced t table (refusal_value_excess table))
     (or_else (prices_excess (legs_in t) (refusal_duals t table)) (payback_excess_by t keeps starts (refusal_duals t table)))
-
--- .. of all at a point that is a cheapest one by signs: nothing is outgrown where the cost row is read
-unfoldable pub sign_excess : Tables → Domains → List FracRow → List ℕ → Starts → Option Excess
-sign_excess t keeps table basis starts =
-    or_else (prices_excess (legs_in t) (sign_duals t table)) (point_ends t keeps table basis starts (sign_duals t table))
-
--- .. of all where a row refuses all points
-unfoldable pub row_excess : Tables → Domains → List FracRow → ℕ → Starts → Option Excess
-row_excess t keeps table row starts = or_else (prices_excess (legs_in t) (row_duals t table row)) (payback_excess_by t keeps starts (row_duals t table row))

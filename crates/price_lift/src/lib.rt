@@ -1,6 +1,8 @@
-//! From the last table of a run over a subproblem's lines to prices, and to a fractional assignment of the same value.
+//! From the last table of a run over a subproblem's lines, or from an end of them that was checked, to prices, and to a
+//! fractional assignment of the same value.
 #![tactic(auto)]
 
+pub mod end_lifts;
 pub mod laws;
 pub mod lift;
 pub mod lifting;
@@ -11,5 +13,6 @@ pub mod stepping;
 pub mod weighing;
 
 pub use dual_lift::LiftError;
+pub use end_lifts::{lift_end, lift_refusing_end};
 pub use lift::{Lifted, lift_best, lift_refusal};
-pub use lifting::{lift_best_by_signs, lift_best_with, lift_refusal_by_row, lift_refusal_with};
+pub use lifting::{lift_best_with, lift_refusal_with};

@@ -7,12 +7,12 @@ ghost use Rattle.lp_rows.specs.Layout.{starts_in};
 ghost use Rattle.lp_rows.specs.Outline.{IsOutline};
 ghost use Rattle.dual_lift.specs.Readings.{duals_by};
 ghost use Rattle.dual_lift.specs.TooLarge.{IsLiftError};
-ghost use Rattle.price_lift.specs.Duals.{best_duals, refusal_duals, row_duals, sign_duals};
-ghost use Rattle.price_lift.specs.Ends.{Ends, EndsByRow, EndsBySigns};
+ghost use Rattle.price_lift.specs.Duals.{best_duals, refusal_duals};
+ghost use Rattle.price_lift.specs.Ends.{Ends};
 ghost use Rattle.price_lift.specs.LastTables.{IsLastBy, IsPointBy, IsRefusalBy, none_excess, point_excess, prices_excess_by};
 ghost use Rattle.price_lift.specs.Lifted.{AreNodePrices, IsLiftedPoint, IsLiftedRefusal};
 ghost use Rattle.price_lift.specs.PaidBack.{FitsBy, IsLiftErrorBy};
-ghost use Rattle.price_lift.specs.TooLarge.{best_excess, refusal_excess, row_excess, sign_excess};
+ghost use Rattle.price_lift.specs.TooLarge.{best_excess, refusal_excess};
 
 use crate::lift::Lifted;
 use crate::paying::paid_back;
@@ -61,63 +61,6 @@ pub fn lift_refusal_with<R: RowStore>(
     ensures too_large { IfErr result (IsLiftErrorBy tables.now (kept_by kept.now) (refusal_excess tables.now (kept_by kept.now) (R.content table.now))) }
 {
     lift_none(alloc, table, &Reading::PhaseRow, tables, kept, outline)
-}
-
-/// Prices and a cheapest fractional assignment from a table, with its basis, that steps reach from a subproblem's
-/// lines, and whose signs say that its basic point is a cheapest one. The prices are the numbers of the cost row in the
-/// identity block, with the other sign, over its denominator, in lowest terms, paid back where they
-/// rise over arcs that went. Their worth is the cost of the fractional assignment, both over their scales (linear duality).
-///
-/// The outline is that of the kept pairs. No number is outgrown on the way; prices, their scale and that of the weights
-/// may pass their limits.
-pub fn lift_best_by_signs<R: RowStore>(
-    alloc: Global,
-    table: &R,
-    basis: &[u32],
-    tables: &Tables,
-    kept: &Kept,
-    outline: &Outline,
-) -> Result<Lifted, LiftError>
-    requires outline { IsOutline tables.now (kept_by kept.now) outline.now }
-    requires ends { EndsBySigns tables.now (kept_by kept.now) (R.content table.now) basis.now }
-    ensures lifted { IfOk result (IsLiftedPoint tables.now (kept_by kept.now) (R.content table.now) basis.now (sign_duals tables.now (R.content table.now))) }
-    ensures fits { IfOk result (λ _. FitsBy tables.now (kept_by kept.now) (sign_excess tables.now (kept_by kept.now) (R.content table.now) basis.now)) }
-    ensures too_large { IfErr result (IsLiftErrorBy tables.now (kept_by kept.now) (sign_excess tables.now (kept_by kept.now) (R.content table.now) basis.now)) }
-{
-    lift_point(
-        alloc,
-        table,
-        basis,
-        &Reading::CostRow,
-        tables,
-        kept,
-        outline,
-    )
-}
-
-/// Prices that show that nothing in a subproblem is legal, from a table, with its basis, that steps reach from its
-/// lines, and in which the row of a line refuses all points. The prices are the numbers of that row in the identity
-/// block, by the sign of its right side, over its denominator, in lowest terms. Their worth without costs is above 0
-/// where each leg keeps a pair.
-///
-/// The outline is that of the kept pairs. No number is outgrown on the way; prices and their scale may pass their limits.
-pub fn lift_refusal_by_row<R: RowStore>(
-    alloc: Global,
-    table: &R,
-    basis: &[u32],
-    row: u32,
-    tables: &Tables,
-    kept: &Kept,
-    outline: &Outline,
-) -> Result<Lifted, LiftError>
-    requires outline { IsOutline tables.now (kept_by kept.now) outline.now }
-    requires ends { EndsByRow tables.now (kept_by kept.now) (R.content table.now) basis.now row }
-    ensures lifted { IfOk result (IsLiftedRefusal tables.now (kept_by kept.now) (row_duals tables.now (R.content table.now) row)) }
-    ensures fits { IfOk result (λ _. FitsBy tables.now (kept_by kept.now) (row_excess tables.now (kept_by kept.now) (R.content table.now) row)) }
-    ensures too_large { IfErr result (IsLiftErrorBy tables.now (kept_by kept.now) (row_excess tables.now (kept_by kept.now) (R.content table.now) row)) }
-{
-    let reading = Reading::LineRow { line: row };
-    lift_none(alloc, table, &reading, tables, kept, outline)
 }
 
 // Prices, and the weights of the basic point, where it is a cheapest one.

@@ -47,8 +47,8 @@ pub(crate) fn basic_mixed<R: RowStore>(
     })
 }
 
-// How many pairs there are, whose columns are the first.
-fn pair_count(outline: &Outline) -> u32
+/// How many pairs there are, whose columns are the first.
+pub(crate) fn pair_count(outline: &Outline) -> u32
     ensures { result ≡ length outline.now.pairs }
 {
     outline.pairs.len() as u32
@@ -61,8 +61,12 @@ fn scale_limit() -> u64
     MAX_SCALE as u64
 }
 
-// The weights of the pairs, by the parts of their columns, of those that are not 0.
-fn weights(alloc: Global, outline: &Outline, parts: &[i128]) -> Result<Vec<Weight>, NoMemory>
+/// The weights of the pairs, by the parts of their columns, of those that are not 0.
+pub(crate) fn weights(
+    alloc: Global,
+    outline: &Outline,
+    parts: &[i128],
+) -> Result<Vec<Weight>, NoMemory>
     requires { length parts.now ≡ length outline.now.pairs }
     ensures { IfOk result (λ weights. weights.items ≡ concat_below (weights_at outline.now.pairs parts.now) (length outline.now.pairs)) }
 {

@@ -1,10 +1,10 @@
 -- What the tables that steps reach tell of the lines and costs of the first one.
 use Rattle.std.specs.Prelude.{ℕ, ℤ, pos, ◌+◌, ◌+ℤ◌, ◌-ℤ◌, ◌*ℤ◌, ◌<◌, ◌≤◌, ◌≡◌, ◌≢◌, ◌<ℤ◌, nat_lt, List, length, slice_index, slice_index_or, if◌then◌else◌}
-use Rattle.sums.specs.Below.{sum_below_ℤ}
 use Rattle.frac_row.specs.declared.row.FracRow.{FracRow}
 use Rattle.row_store.specs.declared.problem.Rows.{Rows}
 use Rattle.row_store.specs.Table.{row_at, number_at, phase_row, cost_row, columns_of, right_side, IsTable}
-use Rattle.row_store.specs.Problem.{entry, IsProblem, first_table}
+use Rattle.row_store.specs.Problem.{IsProblem, first_table}
+pub use Rattle.row_store.specs.DualValues.{weighed}
 use Rattle.reached_tables.specs.Tableaux.{IsReachedFrom}
 
 -- the denominator of a row
@@ -19,10 +19,6 @@ amount_at table columns row column =
 -- the number of a row in the identity column of a line
 abbrev pub identity_at : List FracRow → ℕ → ℕ → ℕ → ℤ
 identity_at table columns row line = number_at table row (columns + line)
-
--- what the lines come to in a column, each times its weight
-abbrev pub weighed : Rows → (ℕ → ℤ) → ℕ → ℤ
-weighed rows weight column = sum_below_ℤ (λ line. weight line *ℤ entry rows line column) (length rows.lines)
 
 -- a problem, and a table with its basis that steps reach from its first one
 pub record IsReachedBySteps (rows : Rows) (table : List FracRow) (basis : List ℕ) : Type 0 where

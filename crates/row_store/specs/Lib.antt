@@ -8,3 +8,4 @@ pub mod Small
 pub mod Steps
 pub mod StepChoice
 pub mod Weights
+pub mod DualValues

@@ -40,7 +40,8 @@ fn have_width(lines: &[Line], columns: u32) -> bool
     true
 }
 
-fn are_within(costs: &[i128]) -> bool
+/// Whether none of the numbers is outgrown.
+pub fn are_within(costs: &[i128]) -> bool
     ensures { IsTrue result ↔ All IsWithin costs.now }
 {
     for place in 0..costs.len() {

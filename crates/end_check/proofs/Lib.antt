@@ -1,0 +1,4 @@
+pub mod Multiples
+pub mod Products
+pub mod Shown
+pub mod Weights

@@ -1,0 +1,227 @@
+//! Prices and fractional assignments from ends that were checked.
+ghost use Rattle.std.specs.Prelude.{◌≡◌, ◌+◌, ◌<◌, ◌≤◌, ℕ, pos, int_lt, ◌<ℤ◌, drop, length, IfOk, IfErr, IsSomeAnd, None, MatchResult};
+ghost use Rattle.frac_row.specs.Outgrown.{IsWithin};
+ghost use Rattle.frac_row.specs.Row.{reduced};
+ghost use Rattle.fleet_model.specs.Kept.{kept_by};
+ghost use Rattle.fleet_model.specs.Schedule.{legs_in};
+ghost use Rattle.row_store.specs.declared.problem.Rows.{Rows};
+ghost use Rattle.end_check.specs.Ends.{IsPricedEnd, IsRefusedEnd, value_in};
+ghost use Rattle.lp_rows.specs.Layout.{all_kept, starts_in};
+ghost use Rattle.lp_rows.specs.Outline.{IsOutline, IsOutlineOver};
+ghost use Rattle.lp_rows.specs.Points.{AreLinesOf};
+ghost use Rattle.dual_bound.specs.Prices.{max_scale};
+ghost use Rattle.dual_lift.specs.TooLarge.{IsLiftError};
+ghost use Rattle.price_lift.specs.EndLifts.{IsLiftOf, IsLiftOfRefusing, IsLiftedEnd, IsLiftedRefusingEnd, IsMixedOfParts, end_duals, end_excess, first_parts, pair_parts, parts_excess, priced_values, refusing_duals, refusing_excess};
+ghost use Rattle.price_lift.specs.Lifted.{AreLiftedPrices};
+ghost use Rattle.price_lift.specs.PaidBack.{FitsBy, IsLiftErrorBy};
+ghost use Rattle.price_lift.specs.Steps.{prices_by};
+ghost use Rattle.price_lift.specs.TooLarge.{prices_excess};
+
+use crate::lift::Lifted;
+use crate::paying::paid_back;
+use crate::pricing::prices_of;
+use crate::weighing::{pair_count, weights};
+use dual_bound::prices::MAX_SCALE;
+use dual_bound::{Mixed, Prices};
+use dual_lift::LiftError;
+use dual_lift::error::WEIGHTS_STEP;
+use end_check::{PointHint, RefusalHint};
+use entries::{Entries, NoMemory};
+use fleet_model::{Kept, Tables};
+use frac_row::{FracRow, reduce};
+use lp_rows::Outline;
+use std::alloc::Global;
+
+/// Prices and a cheapest fractional assignment from an end of a subproblem's lines. The prices are the dual values of the
+/// lines with a price, in lowest terms, paid back where they rise over arcs that went. The weights are the parts of the
+/// pairs, in lowest terms. The worth of the prices is the cost of the fractional assignment, both over their scales (linear
+/// duality).
+///
+/// The outline is that of the kept pairs. No number is outgrown on the way; prices, their scale and that of the weights
+/// may pass their limits.
+pub fn lift_end(
+    alloc: Global,
+    hint: &PointHint,
+    tables: &Tables,
+    kept: &Kept,
+    outline: &Outline,
+) -> Result<Lifted, LiftError>
+    requires outline { IsOutline tables.now (kept_by kept.now) outline.now }
+    requires ends { (rows : Rows) × AreLinesOf tables.now (kept_by kept.now) rows × IsPricedEnd rows hint.now }
+    ensures lifted { IfOk result (IsLiftedEnd tables.now (kept_by kept.now)) }
+    ensures prices { IfOk result (λ lifted. AreLiftedPrices tables.now (kept_by kept.now) (end_duals tables.now hint.now) lifted.prices) }
+    ensures weights { IfOk result (λ lifted. IsSomeAnd lifted.mixed (IsMixedOfParts (pair_parts tables.now (kept_by kept.now) hint.now) (all_kept tables.now (kept_by kept.now)))) }
+    ensures fits { IfOk result (λ _. FitsBy tables.now (kept_by kept.now) (end_excess tables.now (kept_by kept.now) hint.now)) }
+    ensures too_large { IfErr result (IsLiftErrorBy tables.now (kept_by kept.now) (end_excess tables.now (kept_by kept.now) hint.now)) }
+{
+    lifted_end(alloc, hint, tables, kept, outline)
+}
+
+/// Prices that show that nothing in a subproblem is legal, from multipliers that refuse all points of its lines. The prices
+/// are the multipliers of the lines with a price, in lowest terms, paid back where they rise over arcs that went. Their
+/// worth without costs is above 0 where each leg keeps a pair.
+///
+/// The outline is that of the kept pairs. No number is outgrown on the way; prices may pass their limits.
+pub fn lift_refusing_end(
+    alloc: Global,
+    hint: &RefusalHint,
+    tables: &Tables,
+    kept: &Kept,
+    outline: &Outline,
+) -> Result<Lifted, LiftError>
+    requires outline { IsOutline tables.now (kept_by kept.now) outline.now }
+    requires ends { (rows : Rows) × AreLinesOf tables.now (kept_by kept.now) rows × IsRefusedEnd rows hint.now }
+    ensures lifted { IfOk result (IsLiftedRefusingEnd tables.now (kept_by kept.now)) }
+    ensures prices { IfOk result (λ lifted. AreLiftedPrices tables.now (kept_by kept.now) (refusing_duals tables.now hint.now) lifted.prices) }
+    ensures fits { IfOk result (λ _. FitsBy tables.now (kept_by kept.now) (refusing_excess tables.now (kept_by kept.now) hint.now)) }
+    ensures too_large { IfErr result (IsLiftErrorBy tables.now (kept_by kept.now) (refusing_excess tables.now (kept_by kept.now) hint.now)) }
+{
+    lifted_refusing(alloc, hint, tables, kept, outline)
+}
+
+// Prices and weights of an end.
+fn lifted_end(
+    alloc: Global,
+    hint: &PointHint,
+    tables: &Tables,
+    kept: &Kept,
+    outline: &Outline,
+) -> Result<Lifted, LiftError>
+    requires outline { IsOutline tables.now (kept_by kept.now) outline.now }
+    requires ends { (rows : Rows) × AreLinesOf tables.now (kept_by kept.now) rows × IsPricedEnd rows hint.now }
+    ensures { MatchResult result
+        (λ lifted. (end_excess tables.now (kept_by kept.now) hint.now (starts_in outline.now.network) ≡ None) × IsLiftOf tables.now (kept_by kept.now) hint.now lifted)
+        (IsLiftError (end_excess tables.now (kept_by kept.now) hint.now (starts_in outline.now.network))) }
+{
+    let before = end_prices(
+        alloc,
+        hint.duals.as_slice(),
+        hint.dual_scale,
+        tables,
+        outline,
+    )?;
+    let mixed = end_mixed(alloc, hint, outline)?;
+    let prices = paid_back(alloc, tables, outline, before)?;
+    Ok(Lifted {
+        prices,
+        mixed: Some(mixed),
+    })
+}
+
+// Prices alone, where no point meets the lines.
+fn lifted_refusing(
+    alloc: Global,
+    hint: &RefusalHint,
+    tables: &Tables,
+    kept: &Kept,
+    outline: &Outline,
+) -> Result<Lifted, LiftError>
+    requires outline { IsOutline tables.now (kept_by kept.now) outline.now }
+    requires ends { (rows : Rows) × AreLinesOf tables.now (kept_by kept.now) rows × IsRefusedEnd rows hint.now }
+    ensures { MatchResult result
+        (λ lifted. (refusing_excess tables.now (kept_by kept.now) hint.now (starts_in outline.now.network) ≡ None) × IsLiftOfRefusing tables.now (kept_by kept.now) hint.now lifted)
+        (IsLiftError (refusing_excess tables.now (kept_by kept.now) hint.now (starts_in outline.now.network))) }
+{
+    let before = end_prices(alloc, hint.multipliers.as_slice(), 1, tables, outline)?;
+    let prices = paid_back(alloc, tables, outline, before)?;
+    Ok(Lifted {
+        prices,
+        mixed: None,
+    })
+}
+
+// The prices by the nodes of values of the lines, over their scale.
+fn end_prices(
+    alloc: Global,
+    values: &[i128],
+    scale: i128,
+    tables: &Tables,
+    outline: &Outline,
+) -> Result<Prices, LiftError>
+    requires outline { IsOutlineOver tables.now outline.now }
+    requires long { length values.now ≡ legs_in tables.now + (length outline.now.nodes + outline.now.fleets) }
+    requires within { (line : ℕ) → IsWithin (value_in values.now line) }
+    requires scale { pos 0 <ℤ scale }
+    ensures { MatchResult result
+        (λ prices. (prices_excess (legs_in tables.now) (priced_values tables.now values.now scale) ≡ None)
+        × (prices ≡ prices_by tables.now (starts_in outline.now.network) (reduced (priced_values tables.now values.now scale))))
+        (IsLiftError (prices_excess (legs_in tables.now) (priced_values tables.now values.now scale))) }
+{
+    let duals = priced_row(alloc, values, scale, outline.first_priced_line())?;
+    prices_of(alloc, tables, outline, duals)
+}
+
+// The values from a line on, over a scale.
+fn priced_row(alloc: Global, values: &[i128], scale: i128, first: u32) -> Result<FracRow, NoMemory>
+    requires { first ≤ length values.now }
+    ensures { IfOk result (λ row. row ≡ record { numbers = drop first values.now; den = scale }) }
+{
+    let numbers = Vec::from_slice(alloc, &values[first as usize..])?;
+    Ok(FracRow {
+        numbers: Entries::from_vec(numbers),
+        den: scale,
+    })
+}
+
+// The weights of the pairs: their parts of the point, in lowest terms.
+fn end_mixed(alloc: Global, hint: &PointHint, outline: &Outline) -> Result<Mixed, LiftError>
+    requires some { 0 < hint.now.scale }
+    requires long { length outline.now.pairs ≤ length hint.now.point }
+    ensures { MatchResult result
+        (λ mixed. (parts_excess (first_parts hint.now.point hint.now.scale (length outline.now.pairs)) ≡ None) × IsMixedOfParts (first_parts hint.now.point hint.now.scale (length outline.now.pairs)) outline.now.pairs mixed)
+        (IsLiftError (parts_excess (first_parts hint.now.point hint.now.scale (length outline.now.pairs)))) }
+{
+    let count = pair_count(outline);
+    let parts = lowest_parts(alloc, hint.point.as_slice(), hint.scale, count)?;
+    if is_past_scale(&parts.den) {
+        return Err(LiftError::TooLarge {
+            step: WEIGHTS_STEP,
+            at: 0,
+        });
+    }
+    let weights = weights(alloc, outline, parts.numbers.as_slice())?;
+    Ok(Mixed {
+        scale: parts.den,
+        weights: Entries::from_vec(weights),
+    })
+}
+
+// Whether a scale is past the limit of scales.
+fn is_past_scale(scale: &i128) -> bool
+    ensures { result ≡ int_lt (pos max_scale) scale.now }
+{
+    *scale > i128::from(MAX_SCALE)
+}
+
+// The parts of the first columns, over the scale, in lowest terms.
+fn lowest_parts(alloc: Global, point: &[u64], scale: u64, count: u32) -> Result<FracRow, NoMemory>
+    requires some { 0 < scale }
+    requires long { count ≤ length point.now }
+    ensures { IfOk result (λ row. row ≡ reduced (first_parts point.now scale count)) }
+{
+    let mut parts = first_parts(alloc, point, scale, count)?;
+    reduce(&mut parts);
+    Ok(parts)
+}
+
+// .. before that.
+fn first_parts(alloc: Global, point: &[u64], scale: u64, count: u32) -> Result<FracRow, NoMemory>
+    requires { count ≤ length point.now }
+    ensures { IfOk result (λ row. row ≡ first_parts point.now scale count) }
+{
+    let mut numbers = Vec::new(alloc);
+    for column in 0..count {
+        numbers.push(whole(point[column as usize]))?;
+    }
+    Ok(FracRow {
+        numbers: Entries::from_vec(numbers),
+        den: whole(scale),
+    })
+}
+
+// A number of 64 bits in 128.
+fn whole(number: u64) -> i128
+    ensures { result ≡ pos number }
+{
+    i128::from(number)
+}
