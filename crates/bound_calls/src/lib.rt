@@ -5,15 +5,13 @@
 #[cfg(test)]
 mod assertions;
 #[cfg(test)]
+mod end_checks;
+#[cfg(test)]
 mod end_finds;
 #[cfg(test)]
+mod finishing;
+#[cfg(test)]
 mod hint_lifts;
-#[cfg(test)]
-mod finishing;
-#[cfg(test)]
-mod finishing;
-#[cfg(test)]
-mod end_checks;
 #[cfg(test)]
 mod islands;
 #[cfg(test)]
