@@ -1,17 +1,16 @@
 -- What a lift of an end that was checked comes to, from the parts that the calls give.
-use Rattle.std.proofs.Common.{◌≡◌, ℕ, zero, suc, ◌+◌, ◌-◌, ◌*◌, ◌^◌, ◌<◌, ◌≤◌, false, List, length, drop, get_or, All, Some, None, ℤ, pos, ◌*ℤ◌, ◌<ℤ◌, ◌≤ℤ◌, unsigned_abs, refl, sym, ◌∙◌, ap, subst, inl, inr, arith}
+use Rattle.std.proofs.Common.{◌≡◌, ℕ, zero, suc, ◌+◌, ◌*◌, ◌^◌, ◌<◌, ◌≤◌, false, List, length, All, Some, None, ℤ, pos, ◌*ℤ◌, ◌<ℤ◌, ◌≤ℤ◌, unsigned_abs, refl, sym, ◌∙◌, ap, subst, inl, inr, arith}
 use Rattle.std.specs.Prelude.{int_lt}
 use Rattle.std.proofs.lemmas.Int.{ints}
 use Rattle.std.proofs.lemmas.List.{get_or-drop, get_or_past, length-drop}
 use Rattle.sums.specs.Places.{list_below}
-use Rattle.sums.proofs.Integers.{*ℤ_assoc}
 use Rattle.sums.proofs.Places.{get_or-list_below, length-list_below}
 use Rattle.sums.proofs.Signs.{factor_le_cancel}
 use Rattle.sums.proofs.Sizes.{pos_above, size_is}
 use Rattle.frac_row.specs.Outgrown.{IsWithin}
 use Rattle.frac_row.specs.Row.{IsRow, common_divisor, number_of, reduced, width_of}
 use Rattle.frac_row.specs.declared.row.FracRow.{FracRow}
-use Rattle.frac_row.proofs.Rows.{common_divisor_positive, den_times, number_times, reduced_is_row, width_of-reduced}
+use Rattle.frac_row.proofs.Rows.{common_divisor_positive, den_times, number_times, width_of-reduced}
 use Rattle.fleet_model.specs.declared.tables.Tables.{Tables}
 use Rattle.fleet_model.specs.Kept.{Domains, IsBare, pairs_kept}
 use Rattle.fleet_model.specs.Schedule.{fleets_in, legs_in}
@@ -21,7 +20,7 @@ use Rattle.row_store.specs.declared.problem.Rows.{Rows}
 use Rattle.end_check.specs.Ends.{AreByLine, IsPricedEnd, IsRefusedEnd, part_in, value_in}
 use Rattle.end_check.specs.declared.hint.PointHint.{PointHint}
 use Rattle.end_check.specs.declared.hint.RefusalHint.{RefusalHint}
-use Rattle.lp_rows.specs.Layout.{all_kept, all_nodes, concat_below, pair_at_column, starts_in}
+use Rattle.lp_rows.specs.Layout.{all_kept, concat_below, pair_at_column, starts_in}
 use Rattle.lp_rows.specs.Outline.{IsOutline}
 use Rattle.lp_rows.specs.Points.{AreLinesOf, node_count}
 use Rattle.lp_rows.specs.declared.outline.Outline.{Outline}
@@ -36,7 +35,7 @@ use Rattle.dual_bound.specs.Prices.{max_scale}
 use Rattle.dual_bound.specs.declared.mixed.Mixed.{Mixed}
 use Rattle.dual_bound.specs.declared.prices.Prices.{Prices}
 use Rattle.price_lift.specs.ArcRises.{outline_rises}
-use Rattle.price_lift.specs.EndLifts.{AreProperPrices, IsLiftOf, IsLiftOfRefusing, IsMixedOfParts, end_duals, end_excess, first_parts, pair_parts, parts_excess, priced_values, refusing_duals, refusing_excess}
+use Rattle.price_lift.specs.EndLifts.{IsLiftOf, IsLiftOfRefusing, IsMixedOfParts, end_duals, end_excess, first_parts, pair_parts, parts_excess, priced_values, refusing_duals, refusing_excess}
 use Rattle.price_lift.specs.Lifted.{AreLiftedPrices, AreNodePrices}
 use Rattle.price_lift.specs.PaidBack.{paid_back, payback_excess}
 use Rattle.price_lift.specs.Parts.{weights_at}

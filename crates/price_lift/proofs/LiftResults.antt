@@ -1,5 +1,5 @@
 -- What calls give on, by their results.
-use Rattle.std.proofs.Common.{◌≡◌, ℕ, zero, suc, List, Option, Some, None, Result, Ok, Err, IfOk, IfErr, MatchResult, refl, subst}
+use Rattle.std.proofs.Common.{◌≡◌, ℕ, List, Option, Some, None, Result, Ok, Err, IfOk, IfErr, MatchResult, refl, subst}
 use Rattle.sums.specs.Places.{first_below, or_else}
 use Rattle.frac_row.specs.declared.row.FracRow.{FracRow}
 use Rattle.fleet_model.specs.declared.tables.Tables.{Tables}

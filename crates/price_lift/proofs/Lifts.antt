@@ -1,7 +1,6 @@
 -- What the last table of a run gives to a lift: the row of its dual values, and the weights of its basic point.
-use Rattle.std.proofs.Common.{◌≡◌, ℕ, ◌+◌, ◌<◌, ◌≤◌, List, length, All, None, Result, Ok, Err, MatchResult, pos, neg_ℤ, ◌*ℤ◌, ◌≤ℤ◌, refl, sym, ◌∙◌, ap, subst, arith}
-use Rattle.frac_row.specs.Outgrown.{IsWithin}
-use Rattle.frac_row.specs.Row.{IsRow, number_of, reduced, width_of}
+use Rattle.std.proofs.Common.{◌≡◌, ℕ, ◌+◌, ◌≤◌, List, length, All, None, Result, Ok, Err, MatchResult, pos, neg_ℤ, ◌≤ℤ◌, sym, ◌∙◌, ap, subst, arith}
+use Rattle.frac_row.specs.Row.{IsRow, reduced, width_of}
 use Rattle.frac_row.specs.declared.row.FracRow.{FracRow}
 use Rattle.fleet_model.specs.declared.parts.Pair.{Pair}
 use Rattle.fleet_model.specs.declared.tables.Tables.{Tables}
@@ -47,7 +46,7 @@ use Rattle.price_lift.proofs.DualPrices.{IsDualRow, node_prices}
 use Rattle.price_lift.proofs.InOrder.{mixed_in_order}
 use Rattle.price_lift.proofs.LastTables.{all_long, basis_long, counted_columns, have_dens, height_is, own_columns, priced_are}
 use Rattle.price_lift.proofs.OfTables.{weights_known}
-use Rattle.price_lift.proofs.PointEnds.{dens, divides, have_parts, meets, parts, point, scale_above, sides, some_dens}
+use Rattle.price_lift.proofs.PointEnds.{dens, divides, have_parts, meets, point, scale_above, sides, some_dens}
 use Rattle.price_lift.proofs.PointPlans as plans
 
 pub pairs_long : (t : Tables) (keeps : Domains) (pairs : List Pair) → pairs ≡ all_kept t keeps → length pairs ≡ pairs_kept t keeps

@@ -23,7 +23,7 @@ use Rattle.price_lift.specs.Lifted.{AreNodePrices, IsLiftedPoint, IsLiftedRefusa
 use Rattle.price_lift.specs.PaidBack.{paid_back, payback_excess, payback_excess_by}
 use Rattle.price_lift.specs.Parts.{IsBasicMixed}
 use Rattle.price_lift.specs.TooLarge.{weights_excess}
-use Rattle.price_lift.proofs.DualPrices.{excess_none, paid_grows, paid_scale, prices_lifted, same_excess, worth_refutes}
+use Rattle.price_lift.proofs.DualPrices.{paid_grows, paid_scale, prices_lifted, same_excess, worth_refutes}
 use Rattle.price_lift.proofs.Lifts.{dual_row, mixed_is, more, no_leg_bare, prices_fit, weights_are, weights_in_order, weights_of_tables, worth_is}
 
 module _ (t : Tables) (keeps : Domains) (table : List FracRow) (basis : List ℕ) (reading : Reading) (last : IsLastBy t keeps table basis reading) (o : Outline) (is : IsOutline t keeps o)

@@ -1,17 +1,15 @@
-use Rattle.std.proofs.Common.{◌≡◌, ◌∙◌, rules, None, pos, ap, subst, length, arith, of_z, to_z}
+use Rattle.std.proofs.Common.{◌∙◌, rules, ap, subst, length, arith, of_z, to_z}
 use Rattle.std.proofs.lemmas.Int.{ints, to_z-of_z}
 use Rattle.std.proofs.lemmas.Result.{err_from_is_err_and}
 use mir.Val.{SFits}
 use mir.Syntax.{w128}
 use Rattle.frac_row.specs.Outgrown.{IsWithin}
-use Rattle.frac_row.specs.Row.{IsRow, reduced}
+use Rattle.frac_row.specs.Row.{IsRow}
 use Rattle.fleet_model.specs.Kept.{kept_by}
 use Rattle.fleet_model.specs.Schedule.{legs_in}
-use Rattle.lp_rows.specs.Layout.{starts_in}
 use Rattle.dual_lift.specs.TooLarge.{IsLiftError}
 use Rattle.dual_lift.proofs.Excesses.{first_fails}
 use Rattle.price_lift.specs.EndLifts.{end_duals, end_excess, priced_values}
-use Rattle.price_lift.specs.Steps.{prices_by}
 use Rattle.price_lift.specs.TooLarge.{prices_excess}
 use Rattle.price_lift.proofs.EndLifts.{end_lifted, mixed_fails, nodes_priced, pairs_within, paying_fails, priced_by, priced_is_row, values_long}
 use Rattle.price_lift.proofs.end_lifts.lifted_end.Goals as goal
