@@ -1,6 +1,7 @@
 pub mod Allowed
 pub mod ClosedParts
 pub mod Closings
+pub mod EndsSettled
 pub mod Examined
 pub mod FlownParts
 pub mod Leaves
