@@ -4,11 +4,14 @@ import contextlib
 import importlib.machinery
 import importlib.util
 import io
+import os
 import tempfile
 from pathlib import Path
 
 TOP = Path(__file__).resolve().parent.parent.parent
 EXAMPLE = TOP / "examples" / "ssim"
+# Many small files are written: in memory, where there is such a place.
+MEMORY = "/dev/shm" if os.access("/dev/shm", os.W_OK) else None
 
 
 def load_tool():
@@ -49,8 +52,8 @@ def call(*words):
 
 
 @contextlib.contextmanager
-def scratch():
-    with tempfile.TemporaryDirectory(prefix="fleetplan-ssim-") as folder:
+def scratch(place=MEMORY):
+    with tempfile.TemporaryDirectory(prefix="fleetplan-ssim-", dir=place) as folder:
         yield Path(folder)
 
 

@@ -95,9 +95,11 @@ def try_programs(tally):
         ("a program that refuses the tables", "echo bad input: legs.csv record 1 kind 1; exit 6",
          "judge ended with status 6: bad input: legs.csv record 1 kind 1, it should judge the plan as filed"),
         ("a program that couldn't be built", "echo building >&2; exit 1", "judge ended with status 1, it should judge the plan as filed"),
+        ("a program that forgets fleets", "echo legal: cost 0", "judge ended with status 0: legal: cost 0, it should judge the plan as filed"),
         ("a program that says something else", "echo legal: cost 0; echo fleet F", "judge ended with status 0: legal: cost 0, it should judge the plan as filed"),
     ):  # fmt: skip
-        with scratch() as folder:
+        # Where memory holds files programs may not run.
+        with scratch(None) as folder:
             program = folder / "program"
             if text:
                 program.write_text(f"#!/bin/sh\n{text}\n", encoding="ascii")

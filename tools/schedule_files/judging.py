@@ -17,8 +17,8 @@ def program():
     return os.environ.get("FLEETPLAN") or os.path.join(TOP, "fleetplan")
 
 
-def used_by(texts):
-    """Returns how many aircraft each fleet uses by the plan of tables, and None; or None, and the program's reason why not."""
+def used_by(texts, fleets):
+    """Returns how many aircraft each of the fleets uses by the plan of tables, and None; or None, and the program's reason why not."""
     with tempfile.TemporaryDirectory(prefix="ssim-") as scratch:
         folder = os.path.join(scratch, "filed")
         write_all(folder, texts)
@@ -26,7 +26,7 @@ def used_by(texts):
     lines = said.splitlines()
     if status == 0 and lines and lines[0].startswith("legal: "):
         found = [re.fullmatch(r"fleet (\w+): used (\d+) of \d+", it) for it in lines[1:]]
-        if all(found):
+        if all(found) and [it[1] for it in found] == fleets:
             return {it[1]: int(it[2]) for it in found}, None
     if status == 9 and len(lines) == 1 and re.match("unbalanced|too many", lines[0]):
         return None, lines[0]

@@ -38,7 +38,7 @@ class Day:
         most = [(fleet, costing.MOST_AIRCRAFT, turn) for fleet, _, turn in self.fleets]
         asked = {**self.texts(), "fleets.csv": encoded("fleets.csv", most)}
         asked["costs.csv"] = encoded("costs.csv", costing.costs_of(None, self.schedule, self.flown, most))
-        used, self.unjudged = judging.used_by(asked)
+        used, self.unjudged = judging.used_by(asked, [fleet for fleet, *_ in most])
         self.fleets = most if used is None else [(fleet, used[fleet], turn) for fleet, _, turn in most]
 
     def texts(self):
