@@ -177,7 +177,7 @@ def try_all(tally):
             tally.note(name, wrong(folder, wanted, status, told, TOLD.get(name)))
     with scratch() as folder:
         status, told = make(folder, by_season([out(1)], [out(2), back(3)]), "")
-        line = "left out: 1 of another season (line 2's validity, or that of a later carrier record)"
+        line = "left out: 1 of another season, by their carrier record"
         tally.note("two seasons", wrong(folder, {"legs.csv": ["ZZ2,ZRH,08:00,LHR,09:50", "ZZ3,LHR,11:00,ZRH,12:50"]}, status, told, line))
     try_limits(tally)
 

@@ -37,7 +37,7 @@ CHANGES = (
     (4, 29, " " * 7, 'days of operation is "       " (bytes 29 to 35), it should be each day\'s digit in its place or a blank, one digit at least'),
     (4, 36, "3", 'frequency rate is "3" (byte 36), it should be a blank, or 2 for every second week'),
     (4, 37, "ZR1", 'departure station is "ZR1" (bytes 37 to 39), it should be three letters A to Z'),
-    (4, 40, "0860", 'passengers\' time of departure is "0860" (bytes 40 to 43), it should be 0000 to 2400'),
+    (4, 40, "0860", 'passengers\' time of departure is "0860" (bytes 40 to 43), it should be 0000 to 2400, or blank'),
     (4, 44, "2401", 'aircraft\'s time of departure is "2401" (bytes 44 to 47), it should be 0000 to 2400'),
     (4, 48, "+0160", 'departure\'s variation from UTC is "+0160" (bytes 48 to 52), it should be + or -, and hours and minutes to 1459'),
     (4, 55, "ZRH", 'arrival station is "ZRH" (bytes 55 to 57), it should be another than the departure station'),

@@ -78,6 +78,9 @@ def try_places(tally):
         came = call("plan", FILE, folder / "day", folder / "day")
         line = f"ssim: {folder}/day can't be written: it is a folder\n"
         tally.equal("a folder in the new file's place", (7, line), came)
+        came = call("plan", FILE, folder / "day", folder / "no" / "season")
+        line = f"ssim: {folder}/no/season can't be written: its folder is missing\n"
+        tally.equal("a new file in no folder", (7, line, False), (*came, (folder / "no").exists()))
         new = folder / "season"
         new.write_bytes(FILE.read_bytes())
         came = call("plan", new, folder / "day", new)

@@ -58,13 +58,16 @@ def table(header, records):
 
 
 def write_whole(path, data):
-    """Writes a file whole or not at all."""
-    write_all(os.path.dirname(path) or ".", {os.path.basename(path): data})
+    """Writes a file whole or not at all, into a folder that is there."""
+    folder, name = os.path.split(path)
+    if not os.path.isdir(folder or ".") or not name:
+        raise Unread(f"{path} can't be written: {'it is a folder' if os.path.isdir(path) else 'its folder is missing'}", 7)
+    write_all(folder or ".", {name: data})
 
 
 def write_all(folder, texts):
-    """Writes files of a folder, each whole or not at all: none stands in its place before all are written beside. A folder that isn't
-    there comes with its files."""
+    """Writes files of a folder, each whole or not at all: none stands in its place before all are written beside. A folder that
+    isn't there comes with its files."""
     place, is_new = folder, not os.path.lexists(folder)
     try:
         if is_new:

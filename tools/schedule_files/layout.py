@@ -86,6 +86,10 @@ def a_time(name, first):
     return Field(name, first, first + 3, TIME, "0000 to 2400")
 
 
+def a_passengers_time(name, first):
+    return Field(name, first, first + 3, f"{TIME}| {{4}}", "0000 to 2400, or blank")
+
+
 def a_station(name, first):
     return Field(name, first, first + 2, STATION, "three letters A to Z")
 
@@ -98,6 +102,7 @@ SEQUENCE = Field("leg sequence", 12, 13, "0[1-9]|[1-9][0-9]| [1-9]", "01 to 99")
 SERVICE = Field("service type", 14, 14, "[A-Z]", "a letter")
 SERIAL = Field("serial number", 195, 200, "[0-9]{6}", "six digits")
 VARIED = "+ or -, and hours and minutes to 1459"
+EACH_DAY = "each day's digit in its place or a blank, one digit at least"
 DAYS_OFF = "0 to 7, A for the day before, or a blank"
 
 HEADER = Layout(Field("title", 2, 35, TITLE, TITLE), SERIAL)
@@ -119,15 +124,15 @@ LEG = Layout(
     SERVICE,
     a_date("first date of the period", 15),
     an_end("last date of the period", 22),
-    Field("days of operation", 29, 35, "(?! {7})[1 ][2 ][3 ][4 ][5 ][6 ][7 ]", "each day's digit in its place or a blank, one digit at least"),
+    Field("days of operation", 29, 35, "(?! {7})[1 ][2 ][3 ][4 ][5 ][6 ][7 ]", EACH_DAY),
     Field("frequency rate", 36, 36, "[12 ]", "a blank, or 2 for every second week"),
     a_station("departure station", 37),
-    a_time("passengers' time of departure", 40),
+    a_passengers_time("passengers' time of departure", 40),
     a_time("aircraft's time of departure", 44),
     Field("departure's variation from UTC", 48, 52, VARIATION, VARIED),
     a_station("arrival station", 55),
     a_time("aircraft's time of arrival", 58),
-    a_time("passengers' time of arrival", 62),
+    a_passengers_time("passengers' time of arrival", 62),
     Field("arrival's variation from UTC", 66, 70, VARIATION, VARIED),
     Field("aircraft type", 73, 75, "[A-Z0-9]{3}", "three letters A to Z and digits"),
     Field("itinerary variation overflow", 128, 128, "[A-Z0-9 ]", "a letter, a digit or a blank"),

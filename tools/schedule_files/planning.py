@@ -96,9 +96,17 @@ def pieces_of(schedule, changes, cut):
         while end < len(schedule.legs) and itinerary_of(schedule.legs[end]) == itinerary:
             end += 1
         for part in parts[itinerary]:
-            pieces.extend(Piece(leg, part, part.of(leg)) for leg in schedule.legs[at:end] if part.of(leg))
+            held = ((leg, held_by(leg, part, parts[itinerary])) for leg in schedule.legs[at:end])
+            pieces.extend(Piece(leg, part, it) for leg, it in held if it)
         at = end
     return pieces
+
+
+def held_by(leg, part, parts):
+    """Returns what a leg has in a part of its itinerary, or None. A record without a date of operation stays as it is in the first."""
+    if part is parts[0] and not any(it.of(leg) for it in parts):
+        return leg.start, leg.end, leg.days
+    return part.of(leg)
 
 
 def variations_of(pieces):
@@ -196,5 +204,5 @@ def write_plan(schedule, folder, is_whole_season):
     more = len(pieces) - len(schedule.legs)
     told = [f"{changed} legs have another aircraft type, and {more} records are new"]
     if changed:
-        told.append("aircraft configurations (bytes 173 to 192) and classes (bytes 76 to 100) stay as filed: mend them where types changed")
+        told.append("configurations (bytes 173 to 192) and classes (bytes 76 to 100) stay as filed: mend them where types changed")
     return data, told

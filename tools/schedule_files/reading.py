@@ -188,11 +188,12 @@ class Reader:
         if layout.SEGMENT.form.fullmatch(line) is None:
             layout.SEGMENT.judge(self.path, number, line)
         of = self.lines[self.leg.number - 1]
-        if line[1:14] != of[1:14]:
-            what = f'the flight and its leg are "{line[1:14]}"'
+        if line[1:14] != of[1:14] and line[1:14].replace(" ", "0") != of[1:14].replace(" ", "0"):
+            what = f'the flight and its leg are "{layout.printed(line[1:14])}"'
             raise BadLine(self.path, number, what, "bytes 2 to 14", f'"{of[1:14]}" as in line {self.leg.number}')
         if line[27] != of[127]:
-            raise layout.SEGMENT["itinerary variation overflow"].fault(self.path, number, line, f'"{of[127]}" as in line {self.leg.number}')
+            field = layout.SEGMENT["itinerary variation overflow"]
+            raise field.fault(self.path, number, line, f'"{of[127]}" as in line {self.leg.number}')
         self.count(number, line)
         self.leg.last = number
         self.leg.is_duplicate |= line[30:33] == OPERATIONAL_LEG
@@ -202,7 +203,8 @@ class Reader:
         self.airline(number, line)
         self.created(layout.TRAILER["release date"], number, line)
         if int(line[187:193]) != self.serial:
-            raise layout.TRAILER["serial number check"].fault(self.path, number, line, f"{self.serial:06}, the last serial number before it")
+            field = layout.TRAILER["serial number check"]
+            raise field.fault(self.path, number, line, f"{self.serial:06}, the last serial number before it")
         self.count(number, line)
         self.state = line[193]
 

@@ -65,6 +65,8 @@ class Day:
         if self.unjudged:
             yield f"the plan as filed doesn't say how many aircraft it uses: {self.unjudged}"
             yield f"so fleets.csv has {costing.MOST_AIRCRAFT} of each: write how many there are, or give --fleets"
+            if self.unjudged.startswith("too many"):
+                yield "no fleet may have more: ask for fewer legs, with --types, --stations-only or --service"
             yield from self.unbalanced()
         elif self.sources.fleets is None and self.fleets:
             yield "aircraft that the plan as filed uses: " + ", ".join(f"{fleet} {count}" for fleet, count, _ in self.fleets)
