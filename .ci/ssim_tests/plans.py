@@ -110,6 +110,35 @@ def try_blocks(tally):
         tally.equal("a plan as filed leaves the file as it is", lines, same)
 
 
+def try_ends(tally):
+    """Lines end as they did, and so does the last one."""
+    lines = file_of(ONE, TWO, leg("ZZ", 99, WAY, "E90", "7"))
+    for end in ("\n", "\r\n"):
+        for last in (end, ""):
+            with scratch() as folder:
+                new = planned(folder, lines, {"ZZ1": "E90"})
+                (folder / "season").write_bytes((end.join(lines) + last).encode("ascii"))
+                status, told = call("plan", folder / "season", folder / "day", folder / "new")
+                came = (folder / "new").read_bytes().decode("ascii")
+                tally.equal(f"lines that end with {end!r}, the last with {last!r}", (0, end.join(new) + last), (status, came) if not status else told)
+
+
+def try_carriers(tally):
+    """A second carrier record goes on with serial numbers as it did, from the first one's on or anew."""
+    first, second = carrier("ZZ", "L", ("25OCT26", "29NOV26")), carrier("ZZ", "L", ("30NOV26", "27MAR27"))
+    legs = [leg("ZZ", 1, WAY, "320", "12345", ("30NOV26", "27MAR27")), TWO, leg("ZZ", 99, WAY, "E90", "7")]
+    lines = numbered([header(), first, ONE, trailer("ZZ", "C"), second, *legs, trailer("ZZ")])
+    anew = [*lines[:4], *numbered([header(), second, *legs, trailer("ZZ")])[1:]]
+    for name, own in (("on", lines), ("anew", anew)):
+        with scratch() as folder:
+            new = planned(folder, own, {"ZZ1": "E90"})
+            serials = [int(it[194:]) for it in new]
+            tally.equal(f"serial numbers go {name}", [*range(1, 5), *(range(5, 11) if name == "on" else range(2, 8))], serials)
+            kinds = [short(it) for it in new if it[:9] == "3 ZZ 0001"]
+            wanted = [short(ONE), "00010101  30NOV2630NOV261 E90", "00010201  01DEC2627MAR2712345 320"]
+            tally.equal(f"the carrier of the date is changed alone, {name}", wanted, kinds)
+
+
 def try_hundreds(tally):
     """More than 99 variations of a flight: the hundreds stand in byte 128 as a letter."""
     starts = [datetime.date(2026, 10, 26) + datetime.timedelta(it) for it in range(150)]
@@ -200,6 +229,8 @@ def try_refusals(tally):
 def try_all(tally):
     try_cases(tally)
     try_blocks(tally)
+    try_ends(tally)
+    try_carriers(tally)
     try_hundreds(tally)
     try_draws(tally)
     try_refusals(tally)
