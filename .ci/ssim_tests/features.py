@@ -101,6 +101,23 @@ TABLES = {
         [out(), out(variation=2, way="ZRH 1800 +0100 LHR 1950 +0000")], "L", "",
         {"legs.csv": ["ZZ1,ZRH,07:00,LHR,09:50", "N1,ZRH,17:00,LHR,19:50"], "names.csv": [f"ZZ1,ZZ,1,,01,1,3,{DATE}", f"N1,ZZ,1,,02,1,4,{DATE}"]},
     ),
+    "numbers that are names already": (
+        [out(1, airline="N1"), *(out(5, f"ZRH {it:02}30 +0100 LHR {it:02}50 +0000", airline="N1", variation=it) for it in range(8, 20))], "L", "",
+        {"plan.csv": [f"{it},320" for it in ("N11", "N15", *(f"N{number}" for number in range(1, 11)), "N12")]},
+    ),
+    "two variations of a flight of two legs in a day": (
+        [
+            out(7, "ZRH 0700 +0100 GVA 0745 +0100"), out(7, "GVA 1830 +0100 LIS 2010 +0000", sequence=2),
+            out(7, "ZRH 0600 +0100 GVA 0645 +0100", variation=2), out(7, "GVA 0930 +0100 LIS 1110 +0000", variation=2, sequence=2),
+            out(7, "ZRH 0500 +0100 GVA 0545 +0100", variation=3),
+        ], "L", "",
+        {
+            "names.csv": [
+                f"ZZ7A,ZZ,7,,03,1,7,{DATE}", f"N1,ZZ,7,,02,1,5,{DATE}", f"N2,ZZ,7,,01,1,3,{DATE}", f"ZZ7B,ZZ,7,,02,2,6,{DATE}", f"N3,ZZ,7,,01,2,4,{DATE}",
+            ],
+            "throughs.csv": ["ZZ7A,ZZ7B,0", "N1,ZZ7B,0", "N2,N3,0"],
+        },
+    ),
     "shared flights": (
         [*with_segment(out(5), "050"), *with_segment(out(6), "010"), out(7, b149="Z")], "L", "", {"plan.csv": ["ZZ6,320"]},
     ),

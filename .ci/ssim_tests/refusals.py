@@ -77,6 +77,10 @@ WHOLES = {
         numbered([header(), carrier("ZZ"), LEG, trailer("ZZ", "C"), carrier("YY"), trailer("YY")]), 5,
         'airline is "YY " (bytes 3 to 5), it should be ZZ as in line 2',
     ),
+    "a leg of 24 hours": (
+        [*LINES[:3], f"{LINES[3][:57]}0700{LINES[3][61:193]}1{LINES[3][194:]}", *LINES[4:]], 4,
+        f"the leg takes 1440 minutes from departure to arrival ({AT_TIMES}), it should be 1 to 1439 minutes",
+    ),
     "an empty file": ([], 1, "the file is empty (bytes 1 to 200), it should be 1, the header"),
 }  # fmt: skip
 # Of each case the words behind FILE DIR, the status, and the first line that is told.
