@@ -1,198 +1,258 @@
 -- The first fault of a text rests on the lines up to its own, and behind a step of 0 at minute 0 on the next one.
-use Rattle.std.proofs.Common.{◌≡◌, ℕ, zero, suc, ◌+◌, ◌-◌, ◌<◌, ◌≤◌, ◌==◌, ◌&&◌, Bool, true, false, not, cond, List, [], ◌∷◌, ◌++◌, length, codes, pos, Option, Some, None, Result, Ok, Err, refl, sym, ap, subst, ◌∙◌, length-append, arith}
-use Rattle.std.specs.Ordering.{int_eq}
-use Rattle.std.specs.Fmt.{decimal, digits, signed_decimal}
-use Rattle.std.proofs.lemmas.Bool.Decides.{Decides-int_eq, nat_tests}
-use Rattle.sums.proofs.Tests.{both_true, by_test, first_true, second_true}
+use Rattle.std.proofs.Common.{◌≡◌, ◌⊎◌, ℕ, zero, suc, ◌<◌, ◌≤◌, Bool, true, false, cond, ◌==◌, List, [], ◌∷◌, ◌++◌, length, drop, codes, ℤ, Option, Some, None, Ok, Err, inl, inr, refl, sym, ap, subst, ◌∙◌, length-append, arith}
+use Rattle.std.specs.Prelude.{⊤}
 use Rattle.fleet_model.specs.declared.tables.Tables.{Tables}
-use Rattle.dual_bound.specs.Order.{step_follows}
-use Rattle.dual_bound.specs.declared.prices.PriceStep.{PriceStep}
-use Rattle.proof_lines.specs.Forms.{form_of}
-use Rattle.proof_lines.specs.LineWords.{line_words}
-use Rattle.proof_lines.specs.Reading.{line_of}
-use Rattle.proof_lines.specs.Text.{Left, WordList, is_plain, stands, words_of}
-use Rattle.proof_lines.specs.declared.flaws.Flaw.{Flaw}
-use Rattle.proof_lines.specs.declared.forms.Form.{Form}
-use Rattle.proof_lines.specs.declared.lines.Line.{Line}
-use Rattle.proof_lines.specs.declared.lines.Line.TheVariants as line
-use Rattle.proof_lines.proofs.Bytes.{line_was}
-use Rattle.proof_lines.proofs.FigureWords.{bytes_same}
 use Rattle.bound_cert.specs.FirstFault.{FirstFaultIsFixed, is_zero_step}
-use Rattle.bound_cert.specs.Grammar.{Next, Place, after_step, behind_line, ends, goes_on_at, goes_on_by, headed, in_order, is_head, is_zero, judged, kind_of, kinded, line_in, next, of_form, start, step_fits, takes}
-use Rattle.bound_cert.specs.Lines.{Reading, Stopped, ◌>>=◌, at_first, stopped}
-use Rattle.bound_cert.specs.Nodes.{proof_at}
-use Rattle.bound_cert.specs.ReadProof.{IsFirstFault}
-use Rattle.bound_cert.specs.Said.{said_by}
-use Rattle.bound_cert.specs.declared.due.Due.{Due}
-use Rattle.bound_cert.specs.declared.due.Due.TheVariants as due
-use Rattle.bound_cert.specs.declared.faults.CertFault.{CertFault}
-use Rattle.bound_cert.specs.declared.faults.TheConstants.{BAD_LINE, WRONG_WORD}
-use Rattle.bound_cert.proofs.Accepted.{first_words, judged_more}
+use Rattle.bound_cert.specs.Lines.{Left, Reading, ◌>>=◌, first_words, line_due, stands, stopped, words_of}
+use Rattle.bound_cert.specs.Nodes.{Above, after_node, end_at, head_is, nodes_from, nothing, plan_at, proof_at, rest_at, tree_at}
+use Rattle.bound_cert.specs.Reading.{body_at, head_at, mixed_at, node_at, padded, prices_at, rent_at, rents_from, scale_at, step_at, steps_from, weight_at, weights_from}
+use Rattle.dual_bound.specs.declared.mixed.Weight.{Weight}
+use Rattle.bound_cert.specs.declared.nodes.Head.{Head}
+use Rattle.bound_cert.specs.declared.nodes.Head.TheVariants as head
+use Rattle.dual_bound.specs.declared.nodes.Node.{Node}
+use Rattle.dual_bound.specs.declared.prices.PriceStep.{PriceStep}
+use Rattle.bound_cert.specs.declared.reading_lines.Due.TheVariants as due
+use Rattle.bound_cert.proofs.LineTwins.{Alike, Twin, alike_first, head_twin, line_twin, plan_twin, rent_twin, scale_twin, step_twin, weight_twin}
+use Rattle.bound_cert.proofs.Shrinking.{Shrinks, Stops, body_shrinks, end_stops, headed_twin, mixed_shrinks, node_takes, nodes_shrink, nothing_stops, proof_stops, rents_shrink, rest_stops, shrinks_bind, shrinks_if, steps_shrink, stops_then, tree_stops, weights_shrink}
 
--- ---- a line is read alike before any others, unless it is a step of 0 at minute 0
-zero_text : decimal 0 ≡ codes "0"
-unfolding digits
-zero_text = refl
+-- what is read before the line is read of both; what stops at it stops both, for one reason; else the line is passed
+record Ahead {A : Type 0} (end other_end : Left) (read : A × Left) (other : Reading (A × Left)) : Type 0 where
+  before : Left
+  left_is : read.1 ≡ before ++ end
+  other_is : other ≡ Ok (read.0, before ++ other_end)
 
-zero_signed : signed_decimal (pos 0) ≡ codes "0"
-unfolding digits
-zero_signed = refl
+abbrev Follows : {A : Type 0} → Left → Left → Reading (A × Left) → Reading (A × Left) → Type 0
+Follows end other_end (Ok read) other = Ahead end other_end read other ⊎ (length read.1 < length end)
+Follows end other_end (Err e) other = e.left ≡ length end → other ≡ stopped other_end e.kind
 
-pub zero_words : (t : Tables) (step : PriceStep) → is_zero step ≡ true → is_zero_step (line_words t (line.At step)) ≡ true
-zero_words t step e =
-    let none : step.minute ≡ 0 = grind (arith, nat_tests, first_true (step.minute == 0) (int_eq step.value (pos 0)) e) in
-    let zero_value : step.value ≡ pos 0 = (Decides-int_eq step.value (pos 0)).0 (second_true (step.minute == 0) (int_eq step.value (pos 0)) e) in
-    both_true _ _ (bytes_same (decimal step.minute) (codes "0") (ap (λ n. decimal n) none ∙ zero_text)) (bytes_same (signed_decimal step.value) (codes "0") (ap (λ z. signed_decimal z) zero_value ∙ zero_signed))
+-- the same where nothing is left to be told
+abbrev Ends : {A : Type 0} → Left → Left → Reading A → Reading A → Type 0
+Ends end other_end (Ok read) other = ⊤
+Ends end other_end (Err e) other = e.left ≡ length end → other ≡ stopped other_end e.kind
 
-fits_alike : (before : Option PriceStep) (step : PriceStep) (x y : Bool) → is_zero step ≡ false → step_fits before step x ≡ step_fits before step y
-fits_alike before step x y e = ap (λ z. step_follows before step && not (z && not x)) e ∙ ap (λ z. step_follows before step && not (z && not y)) (sym e)
+at_end : (p end other_end : Left) → length (p ++ end) ≡ length end → length (p ++ other_end) ≡ length other_end
+at_end p end other_end e = omega (arith, e, length-append p end, length-append p other_end)
 
-pub step_alike : (d : Due) (depths : List ℕ) (step : PriceStep) (x y : Bool) → is_zero step ≡ false → after_step d depths step x ≡ after_step d depths step y
-unfolding after_step
-step_alike due.Head depths step x y e = refl
-step_alike due.Plan depths step x y e = refl
-step_alike due.Node depths step x y e = refl
-step_alike (due.Scale mixed) depths step x y e = refl
-step_alike (due.Rents before mixed) depths step x y e = ap (λ b. in_order b (record { due = due.Steps step mixed; depths = depths })) (fits_alike None step x y e)
-step_alike (due.Steps before mixed) depths step x y e = ap (λ b. in_order b (record { due = due.Steps step mixed; depths = depths })) (fits_alike (Some before) step x y e)
-step_alike due.Mixed depths step x y e = refl
-step_alike (due.Weights before) depths step x y e = refl
-step_alike due.Over depths step x y e = refl
+module _ (end other_end : Left) where
+  follows_line : {A B : Type 0} (p : Left) (r s : Reading A) (f g : A → Reading (B × Left)) → Twin (p ++ end) (p ++ other_end) r s → ((x : A) → Follows end other_end (f x) (g x)) → Follows end other_end (r >>= f) (s >>= g)
+  follows_line p (Ok x) s f g twin on = subst (λ s. Follows end other_end (f x) (s >>= g)) (sym twin) (on x)
+  follows_line p (Err e) s f g twin on = λ there.
+      ap (λ s. s >>= g) twin.1 ∙ ap (λ n. Err (record { left = n; kind = e.kind })) (at_end p end other_end (sym twin.0 ∙ there))
 
-module _ (t : Tables) (p : Place) (a b : WordList) where
-  behind_alike : (l : Line) (words : WordList) → words ≡ line_words t l → (is_zero_step words ≡ true → a ≡ b) → behind_line p l words a ≡ behind_line p l words b
-  unfolding behind_line next
-  behind_alike line.Head words are look = refl
-  behind_alike (line.Plan planned) words are look = refl
-  behind_alike (line.Bare leg) words are look = refl
-  behind_alike line.Sole words are look = refl
-  behind_alike line.Refuted words are look = refl
-  behind_alike line.Priced words are look = refl
-  behind_alike line.Nodes words are look = refl
-  behind_alike (line.Pivots made) words are look = refl
-  behind_alike (line.Grew pivots row column) words are look = refl
-  behind_alike (line.Lift step at) words are look = refl
-  behind_alike (line.Trim leg fleet) words are look = refl
-  behind_alike (line.Split leg fleet) words are look = refl
-  behind_alike (line.Scale scale) words are look = refl
-  behind_alike (line.Rent fleet rent) words are look = refl
-  behind_alike (line.At step) words are look =
-      by_test (is_zero step)
-      (λ e. ap (λ w. next p (line.At step) (goes_on_at w words) >>= λ q. Ok (line.At step, q)) (look (ap is_zero_step are ∙ zero_words t step e)))
-      (λ e. ap (λ r. r >>= λ q. Ok (line.At step, q)) (step_alike p.due p.depths step (goes_on_at a words) (goes_on_at b words) e))
-  behind_alike (line.Mixed scale) words are look = refl
-  behind_alike (line.Weight entry) words are look = refl
-  behind_alike line.End words are look = refl
+  ends_line : {A B : Type 0} (p : Left) (r s : Reading A) (f g : A → Reading B) → Twin (p ++ end) (p ++ other_end) r s → ((x : A) → Ends end other_end (f x) (g x)) → Ends end other_end (r >>= f) (s >>= g)
+  ends_line p (Ok x) s f g twin on = subst (λ s. Ends end other_end (f x) (s >>= g)) (sym twin) (on x)
+  ends_line p (Err e) s f g twin on = λ there.
+      ap (λ s. s >>= g) twin.1 ∙ ap (λ n. Err (record { left = n; kind = e.kind })) (at_end p end other_end (sym twin.0 ∙ there))
 
-  form_alike : (bytes : List ℕ) (f : Option Form) → form_of (words_of bytes) ≡ f → (is_zero_step (words_of bytes) ≡ true → a ≡ b) → of_form t p f bytes a ≡ of_form t p f bytes b
-  unfolding of_form
-  form_alike bytes None told look = refl
-  form_alike bytes (Some f) told look = ap (λ r. cond (takes p f) r (Err WRONG_WORD)) (by_line (line_of t f bytes) refl)
+  passed : {A : Type 0} (n : ℕ) (r s : Reading (A × Left)) → Shrinks n r → n < length end → Follows end other_end r s
+  passed n (Ok read) s is short = inr (omega (arith, is, short))
+  passed n (Err e) s is short = λ there. absurd (omega (arith, is, short, there))
+
+  follows_bind : {A B : Type 0} (r s : Reading (A × Left)) (f : A × Left → Reading (B × Left)) → Follows end other_end r s
+      → ((x : A) (p : Left) → Follows end other_end (f (x, p ++ end)) (f (x, p ++ other_end))) → ((x : A) (a : Left) → Shrinks (length a) (f (x, a))) → Follows end other_end (r >>= f) (s >>= f)
+  follows_bind (Ok read) s f (inl ahead) on shrinks =
+      subst (λ s. Follows end other_end (f read) (s >>= f)) (sym ahead.other_is)
+      (subst (λ a. Follows end other_end (f (read.0, a)) (f (read.0, ahead.before ++ other_end))) (sym ahead.left_is) (on read.0 ahead.before))
+  follows_bind (Ok read) s f (inr short) on shrinks = passed (length read.1) (f read) (s >>= f) (shrinks read.0 read.1) short
+  follows_bind (Err e) s f follows on shrinks = λ there. ap (λ s. s >>= f) (follows there)
+
+  follows_if : {A : Type 0} (c : Bool) (x y x' y' : Reading (A × Left)) → Follows end other_end x x' → Follows end other_end y y' → Follows end other_end (cond c x y) (cond c x' y')
+  follows_if true x y x' y' first second = first
+  follows_if false x y x' y' first second = second
+
+  same_end : {A : Type 0} (x : A) (p : Left) → Follows end other_end (Ok (x, p ++ end)) (Ok (x, p ++ other_end))
+  same_end x p = inl (record { before = p; left_is = refl; other_is = refl })
+
+module _ (end other_end : Left) where
+  ends_then : {A B : Type 0} (r s : Reading A) (f : A → B) → Ends end other_end r s → Ends end other_end (r >>= λ x. Ok (f x)) (s >>= λ x. Ok (f x))
+  ends_then (Ok x) s f ends = tt
+  ends_then (Err e) s f ends = λ there. ap (λ s. s >>= λ x. Ok (f x)) (ends there)
+
+  over : {A : Type 0} (n : ℕ) (r s : Reading A) → Stops n r → n < length end → Ends end other_end r s
+  over n (Ok x) s is short = tt
+  over n (Err e) s is short = λ there. absurd (omega (arith, is, short, there))
+
+  ends_bind : {A B : Type 0} (r s : Reading (A × Left)) (f : A × Left → Reading B) → Follows end other_end r s
+      → ((x : A) (p : Left) → Ends end other_end (f (x, p ++ end)) (f (x, p ++ other_end))) → ((x : A) (a : Left) → Stops (length a) (f (x, a))) → Ends end other_end (r >>= f) (s >>= f)
+  ends_bind (Ok read) s f (inl ahead) on stops =
+      subst (λ s. Ends end other_end (f read) (s >>= f)) (sym ahead.other_is)
+      (subst (λ a. Ends end other_end (f (read.0, a)) (f (read.0, ahead.before ++ other_end))) (sym ahead.left_is) (on read.0 ahead.before))
+  ends_bind (Ok read) s f (inr short) on stops = over (length read.1) (f read) (s >>= f) (stops read.0 read.1) short
+  ends_bind (Err e) s f follows on stops = λ there. ap (λ s. s >>= f) (follows there)
+
+module _ (t : Tables) (line next other : List ℕ) (rest others : Left) (look : is_zero_step (words_of line) ≡ true → next ≡ other) where
+  abbrev end : Left
+  end = line ∷ next ∷ rest
+
+  abbrev other_end : Left
+  other_end = line ∷ other ∷ others
+
+  alike : (p : Left) → Alike (p ++ end) (p ++ other_end)
+  alike [] = alike_first line next other rest others
+  alike (x ∷ []) = alike_first x line line (next ∷ rest) (other ∷ others)
+  alike (x ∷ y ∷ p) = alike_first x y y (p ++ end) (p ++ other_end)
+
+  looks : (p : Left) → is_zero_step (first_words (p ++ end)) ≡ true → first_words (drop 1 (p ++ end)) ≡ first_words (drop 1 (p ++ other_end))
+  looks [] is = ap words_of (look is)
+  looks (x ∷ []) is = refl
+  looks (x ∷ y ∷ p) is = refl
+
+  -- behind the first line, where what goes on there is known
+  follows_behind : {A : Type 0} (h : Left → Reading (A × Left)) (p : Left) → ((q : Left) → Follows end other_end (h (q ++ end)) (h (q ++ other_end))) → ((a : Left) → Shrinks (length a) (h a))
+      → Follows end other_end (h (drop 1 (p ++ end))) (h (drop 1 (p ++ other_end)))
+  follows_behind h [] on shrinks = passed end other_end (length (next ∷ rest)) (h (next ∷ rest)) (h (other ∷ others)) (shrinks (next ∷ rest)) (omega arith)
+  follows_behind h (x ∷ p) on shrinks = on p
+
+  rents_follow : (rents : List ℤ) (p : Left) → Follows end other_end (rents_from t rents (p ++ end)) (rents_from t rents (p ++ other_end))
+  unfolding rents_from
+  rents_follow rents [] =
+      follows_if end other_end (stands (words_of line) 0 (codes "rent")) _ _ _ _
+      (follows_line end other_end [] (rent_at t (length rents) end) (rent_at t (length rents) other_end) _ _ (rent_twin t end other_end (alike []) (length rents))
+      (λ entry. passed end other_end (length (next ∷ rest)) _ _ (rents_shrink t (padded rents entry.0 ++ entry.1 ∷ []) (next ∷ rest)) (omega arith)))
+      (same_end end other_end _ [])
+  rents_follow rents (x ∷ p) =
+      follows_if end other_end (stands (words_of x) 0 (codes "rent")) _ _ _ _
+      (follows_line end other_end (x ∷ p) (rent_at t (length rents) (x ∷ (p ++ end))) (rent_at t (length rents) (x ∷ (p ++ other_end))) _ _
+      (rent_twin t (x ∷ (p ++ end)) (x ∷ (p ++ other_end)) (alike (x ∷ p)) (length rents))
+      (λ entry. rents_follow (padded rents entry.0 ++ entry.1 ∷ []) p))
+      (same_end end other_end _ (x ∷ p))
+
+  steps_follow : (steps : List PriceStep) (before : Option PriceStep) (p : Left) → Follows end other_end (steps_from t steps before (p ++ end)) (steps_from t steps before (p ++ other_end))
+  unfolding steps_from
+  steps_follow steps before [] =
+      follows_if end other_end (stands (words_of line) 0 (codes "at")) _ _ _ _
+      (follows_line end other_end [] (step_at t before end) (step_at t before other_end) _ _ (step_twin t end other_end (alike []) before (looks []))
+      (λ step. passed end other_end (length (next ∷ rest)) _ _ (steps_shrink t (steps ++ step ∷ []) (Some step) (next ∷ rest)) (omega arith)))
+      (same_end end other_end _ [])
+  steps_follow steps before (x ∷ p) =
+      follows_if end other_end (stands (words_of x) 0 (codes "at")) _ _ _ _
+      (follows_line end other_end (x ∷ p) (step_at t before (x ∷ (p ++ end))) (step_at t before (x ∷ (p ++ other_end))) _ _
+      (step_twin t (x ∷ (p ++ end)) (x ∷ (p ++ other_end)) (alike (x ∷ p)) before (looks (x ∷ p)))
+      (λ step. steps_follow (steps ++ step ∷ []) (Some step) p))
+      (same_end end other_end _ (x ∷ p))
+
+  weights_follow : (weights : List Weight) (before : Option Weight) (p : Left) → Follows end other_end (weights_from t weights before (p ++ end)) (weights_from t weights before (p ++ other_end))
+  unfolding weights_from
+  weights_follow weights before [] =
+      follows_if end other_end (stands (words_of line) 0 (codes "weight")) _ _ _ _
+      (follows_line end other_end [] (weight_at t before end) (weight_at t before other_end) _ _ (weight_twin t end other_end (alike []) before)
+      (λ entry. passed end other_end (length (next ∷ rest)) _ _ (weights_shrink t (weights ++ entry ∷ []) (Some entry) (next ∷ rest)) (omega arith)))
+      (same_end end other_end _ [])
+  weights_follow weights before (x ∷ p) =
+      follows_if end other_end (stands (words_of x) 0 (codes "weight")) _ _ _ _
+      (follows_line end other_end (x ∷ p) (weight_at t before (x ∷ (p ++ end))) (weight_at t before (x ∷ (p ++ other_end))) _ _
+      (weight_twin t (x ∷ (p ++ end)) (x ∷ (p ++ other_end)) (alike (x ∷ p)) before)
+      (λ entry. weights_follow (weights ++ entry ∷ []) (Some entry) p))
+      (same_end end other_end _ (x ∷ p))
+
+  prices_follow : (p : Left) → Follows end other_end (prices_at t (p ++ end)) (prices_at t (p ++ other_end))
+  unfolding prices_at
+  prices_follow p =
+      follows_line end other_end p (scale_at due.Scale (p ++ end)) (scale_at due.Scale (p ++ other_end)) _ _ (scale_twin t (p ++ end) (p ++ other_end) (alike p) due.Scale) (λ scale.
+      follows_bind end other_end (rents_from t [] (drop 1 (p ++ end))) (rents_from t [] (drop 1 (p ++ other_end))) _ (follows_behind (rents_from t []) p (rents_follow []) (rents_shrink t []))
+      (λ rents q. follows_bind end other_end (steps_from t [] None (q ++ end)) (steps_from t [] None (q ++ other_end)) _ (steps_follow [] None q) (λ steps. same_end end other_end _) (λ steps a. omega arith))
+      (λ rents a. shrinks_bind (length a) (steps_from t [] None a) _ (steps_shrink t [] None a) (λ steps b. omega arith)))
+
+  mixed_follows : (p : Left) → Follows end other_end (mixed_at t (p ++ end)) (mixed_at t (p ++ other_end))
+  unfolding mixed_at
+  mixed_follows p =
+      follows_line end other_end p (scale_at due.Mixed (p ++ end)) (scale_at due.Mixed (p ++ other_end)) _ _ (scale_twin t (p ++ end) (p ++ other_end) (alike p) due.Mixed) (λ scale.
+      follows_bind end other_end (weights_from t [] None (drop 1 (p ++ end))) (weights_from t [] None (drop 1 (p ++ other_end))) _ (follows_behind (weights_from t [] None) p (weights_follow [] None) (weights_shrink t [] None))
+      (λ weights. same_end end other_end _) (λ weights a. omega arith))
+
+  body_follows : (h : Head) (p : Left) → Follows end other_end (body_at t h (p ++ end)) (body_at t h (p ++ other_end))
+  unfolding body_at
+  body_follows (head.Alone h) p = same_end end other_end _ p
+  body_follows (head.Priced h) p = follows_bind end other_end (prices_at t (p ++ end)) (prices_at t (p ++ other_end)) _ (prices_follow p) (λ prices. same_end end other_end _) (λ prices a. omega arith)
+  body_follows (head.Mixed h) p =
+      follows_bind end other_end (prices_at t (p ++ end)) (prices_at t (p ++ other_end)) _ (prices_follow p)
+      (λ prices q. follows_bind end other_end (mixed_at t (q ++ end)) (mixed_at t (q ++ other_end)) _ (mixed_follows q) (λ mixed. same_end end other_end _) (λ mixed a. omega arith))
+      (λ prices a. shrinks_bind (length a) (mixed_at t a) _ (mixed_shrinks t a) (λ mixed b. omega arith))
+
+  node_follows : (above : ℕ) (p : Left) → Follows end other_end (node_at t above (p ++ end)) (node_at t above (p ++ other_end))
+  unfolding node_at
+  node_follows above p =
+      follows_line end other_end p (head_at t above (p ++ end)) (head_at t above (p ++ other_end)) _ _ (head_twin t (p ++ end) (p ++ other_end) (alike p) above) (λ h.
+      follows_behind (body_at t h) p (body_follows h) (body_shrinks t h))
+
+  node_then : (m k : ℕ) (nodes : List Node) (above : Above) (p : Left)
+      → ((n : Node) (q : Left) → length q < length p → Follows end other_end (nodes_from t m (nodes ++ n ∷ []) (after_node n above) (q ++ end)) (nodes_from t k (nodes ++ n ∷ []) (after_node n above) (q ++ other_end)))
+      → (r s : Reading (Node × Left)) → node_at t (length above) (p ++ end) ≡ r → Follows end other_end r s
+      → Follows end other_end
+      (r >>= λ read. cond (length (after_node read.0 above) == 0) (Ok (nodes ++ read.0 ∷ [], read.1)) (nodes_from t m (nodes ++ read.0 ∷ []) (after_node read.0 above) read.1))
+      (s >>= λ read. cond (length (after_node read.0 above) == 0) (Ok (nodes ++ read.0 ∷ [], read.1)) (nodes_from t k (nodes ++ read.0 ∷ []) (after_node read.0 above) read.1))
+  node_then m k nodes above p on (Ok read) s e (inl ahead) =
+      let taken = node_takes t (length above) (p ++ end) read e in
+      let shorter : length ahead.before < length p = omega (arith, taken, ap length ahead.left_is, length-append ahead.before end, length-append p end) in
+      subst (λ s. Follows end other_end (f m read) (s >>= f k)) (sym ahead.other_is)
+      (subst (λ a. Follows end other_end (f m (read.0, a)) (f k (read.0, ahead.before ++ other_end))) (sym ahead.left_is)
+      (follows_if end other_end (length (after_node read.0 above) == 0) _ _ _ _ (same_end end other_end _ ahead.before) (on read.0 ahead.before shorter)))
     where
-      by_line : (r : Result Line Flaw) → line_of t f bytes ≡ r → (kinded r >>= λ l. behind_line p l (words_of bytes) a) ≡ (kinded r >>= λ l. behind_line p l (words_of bytes) b)
-      by_line (Ok l) read = behind_alike l (words_of bytes) (line_was t f bytes l told read).words look
-      by_line (Err flaw) read = refl
+      f : ℕ → Node × Left → Reading (List Node × Left)
+      f n read = cond (length (after_node read.0 above) == 0) (Ok (nodes ++ read.0 ∷ [], read.1)) (nodes_from t n (nodes ++ read.0 ∷ []) (after_node read.0 above) read.1)
+  node_then m k nodes above p on (Ok read) s e (inr short) =
+      passed end other_end (length read.1) _ _
+      (shrinks_if (length read.1) (length (after_node read.0 above) == 0) _ _ (omega arith) (nodes_shrink t m (nodes ++ read.0 ∷ []) (after_node read.0 above) read.1)) short
+  node_then m k nodes above p on (Err e) s same follows = λ there.
+      ap (λ s. s >>= λ read. cond (length (after_node read.0 above) == 0) (Ok (nodes ++ read.0 ∷ [], read.1)) (nodes_from t k (nodes ++ read.0 ∷ []) (after_node read.0 above) read.1)) (follows there)
 
-  pub line_alike : (bytes : List ℕ) → (is_zero_step (words_of bytes) ≡ true → a ≡ b) → line_in t p bytes a ≡ line_in t p bytes b
-  unfolding line_in
-  line_alike bytes look = ap (λ r. cond (is_head p.due) (headed p bytes) (cond (is_plain bytes) r (Err BAD_LINE))) (form_alike bytes (form_of (words_of bytes)) refl look)
+  nodes_follow : (m k : ℕ) (nodes : List Node) (above : Above) (p : Left) → length (p ++ end) ≤ m → length (p ++ other_end) ≤ k
+      → Follows end other_end (nodes_from t m nodes above (p ++ end)) (nodes_from t k nodes above (p ++ other_end))
+  unfolding nodes_from
+  nodes_follow zero k nodes above p few other_few = absurd (omega (arith, few, length-append p end))
+  nodes_follow (suc m) zero nodes above p few other_few = absurd (omega (arith, other_few, length-append p other_end))
+  nodes_follow (suc m) (suc k) nodes above p few other_few =
+      node_then m k nodes above p
+      (λ n q shorter.
+      nodes_follow m k (nodes ++ n ∷ []) (after_node n above) q (omega (arith, few, shorter, length-append p end, length-append q end)) (omega (arith, other_few, shorter, length-append p other_end, length-append q other_end)))
+      (node_at t (length above) (p ++ end)) (node_at t (length above) (p ++ other_end)) refl (node_follows (length above) p)
 
--- ---- where reading stops
-pub err_same : {A : Type 0} (d e : Stopped) → ◌≡◌ {A = Reading A} (Err d) (Err e) → d ≡ e
-err_same d e same = cc same
+  -- ---- the end of a text, and all of it
+  nothing_ends : (p : Left) → Ends end other_end (nothing (p ++ end)) (nothing (p ++ other_end))
+  unfolding nothing
+  nothing_ends [] = λ there. refl
+  nothing_ends (x ∷ []) = λ there. absurd (omega (arith, there))
+  nothing_ends (x ∷ y ∷ p) = λ there. absurd (omega (arith, there, length-append p end))
 
--- what was read goes on, and stops behind; or stops at the first line
-pub record StopsLater {A B : Type 0} (r : Result A ℕ) (f : A → Reading B) (e : Stopped) : Type 0 where
-  pub value : A
-  pub is : r ≡ Ok value
-  pub stops : f value ≡ Err e
-
--- the line stops reading, or what is behind it does
-pub by_line : {A B P : Type 0} (left : Left) (r : Result A ℕ) (f : A → Reading B) (e : Stopped) → (at_first left r >>= f) ≡ Err e → ((kind : ℕ) → r ≡ Err kind → record { left = length left; kind = kind } ≡ e → P)
-    → (StopsLater r f e → P) → P
-by_line left (Ok x) f e is here later = later (record { value = x; is = refl; stops = is })
-by_line left (Err kind) f e is here later = here kind refl (err_same _ e is)
-
-pub err_then : {A B : Type 0} (r : Reading A) (f : A → B) (e : Stopped) → (r >>= λ x. Ok (f x)) ≡ Err e → r ≡ Err e
-err_then (Ok x) f e is = absurd (cc is)
-err_then (Err d) f e is = ap (λ d. Err d) (err_same d e is)
-
-module _ (t : Tables) where
-  pub stops_within : (left : Left) (p : Place) (e : Stopped) → judged t p left ≡ Err e → e.left ≤ length left
-  unfolding judged
-  stops_within [] p e is = let same : record { left = zero; kind = _ } ≡ e = err_same _ e is in omega (arith, ap (λ s. s.left) same)
-  stops_within (bytes ∷ []) p e is = ends_stop (ends p bytes) is
+  end_ends : (p : Left) → Ends end other_end (end_at (p ++ end)) (end_at (p ++ other_end))
+  unfolding end_at
+  end_ends p = ends_line end other_end p (line_due due.End (p ++ end)) (line_due due.End (p ++ other_end)) _ _ (line_twin due.End (p ++ end) (p ++ other_end) (alike p)) (λ words. behind p)
     where
-      ends_stop : (r : Result (List Line) ℕ) → at_first (bytes ∷ []) r ≡ Err e → e.left ≤ 1
-      ends_stop (Ok lines) is = absurd (cc is)
-      ends_stop (Err kind) is = let same : record { left = 1; kind = kind } ≡ e = err_same _ e is in omega (arith, ap (λ s. s.left) same)
-  stops_within (bytes ∷ second ∷ rest) p e is =
-      by_line (bytes ∷ second ∷ rest) (line_in t p bytes (words_of second)) _ e is
-      (λ kind read same. omega (arith, ap (λ s. s.left) same))
-      (λ later.
-      let less = stops_within (second ∷ rest) later.value.1 e (err_then (judged t later.value.1 (second ∷ rest)) (λ lines. later.value.0 ∷ lines) e later.stops) in
-      omega (arith, less))
+      behind : (p : Left) → Ends end other_end (nothing (drop 1 (p ++ end))) (nothing (drop 1 (p ++ other_end)))
+      behind [] = over end other_end (length (next ∷ rest)) (nothing (next ∷ rest)) (nothing (other ∷ others)) (nothing_stops (next ∷ rest)) (omega arith)
+      behind (x ∷ p) = nothing_ends p
 
-  -- ---- the same first lines
-  module _ (line following other : List ℕ) (rest others : Left) (look : is_zero_step (words_of line) ≡ true → following ≡ other) where
-    abbrev end : Left
-    end = line ∷ following ∷ rest
+  tree_ends : (p : Left) → Ends end other_end (tree_at t (p ++ end)) (tree_at t (p ++ other_end))
+  unfolding tree_at
+  tree_ends p =
+      ends_bind end other_end (nodes_from t (length (p ++ end)) [] [] (p ++ end)) (nodes_from t (length (p ++ other_end)) [] [] (p ++ other_end)) _
+      (nodes_follow (length (p ++ end)) (length (p ++ other_end)) [] [] p (omega arith) (omega arith))
+      (λ nodes q. ends_then end other_end (end_at (q ++ end)) (end_at (q ++ other_end)) (λ ended. nodes) (end_ends q))
+      (λ nodes a. stops_then (length a) (end_at a) (λ ended. nodes) (end_stops a))
 
-    abbrev other_end : Left
-    other_end = line ∷ other ∷ others
+  rest_ends : (p : Left) → Ends end other_end (rest_at t (p ++ end)) (rest_at t (p ++ other_end))
+  unfolding rest_at
+  rest_ends p = ends_line end other_end p (plan_at (p ++ end)) (plan_at (p ++ other_end)) _ _ (plan_twin t (p ++ end) (p ++ other_end) (alike p)) (λ planned. behind planned p)
+    where
+      behind : (planned : Bool) (p : Left) → Ends {A = Bool × List Node} end other_end (tree_at t (drop 1 (p ++ end)) >>= λ nodes. Ok (planned, nodes)) (tree_at t (drop 1 (p ++ other_end)) >>= λ nodes. Ok (planned, nodes))
+      behind planned [] =
+          over end other_end (length (next ∷ rest)) _ _ (stops_then (length (next ∷ rest)) (tree_at t (next ∷ rest)) (λ nodes. (planned, nodes)) (tree_stops t (next ∷ rest))) (omega arith)
+      behind planned (x ∷ p) = ends_then end other_end (tree_at t (p ++ end)) (tree_at t (p ++ other_end)) (λ nodes. (planned, nodes)) (tree_ends p)
 
-    first_same : (before : Left) → first_words (before ++ end) ≡ first_words (before ++ other_end)
-    first_same [] = refl
-    first_same (x ∷ before) = refl
-
-    some : (before end : Left) → 0 < length end → 0 < length (before ++ end)
-    some before end is = omega (arith, is, length-append before end)
-
-    fixed : (before : Left) (p : Place) (e : Stopped) → judged t p (before ++ end) ≡ Err e → e.left ≡ length end → judged t p (before ++ other_end) ≡ stopped other_end e.kind
-    unfolding judged
-    fixed [] p e is there =
-        let alike = line_alike t p (words_of following) (words_of other) line (λ zero_step. ap words_of (look zero_step)) in
-        by_line end (line_in t p line (words_of following)) _ e is
-        (λ kind read same.
-        ap (λ r. at_first other_end r >>= λ read. judged t read.1 (other ∷ others) >>= λ lines. Ok (read.0 ∷ lines)) (sym alike ∙ read)
-        ∙ ap (λ k. stopped other_end k) (ap (λ s. s.kind) same))
-        (λ later.
-        let less = stops_within (following ∷ rest) later.value.1 e (err_then (judged t later.value.1 (following ∷ rest)) (λ lines. later.value.0 ∷ lines) e later.stops) in
-        absurd (omega (arith, less, there)))
-    fixed (x ∷ before) p e is there =
-        let left = before ++ end in
-        let other_left = before ++ other_end in
-        by_line (x ∷ left) (line_in t p x (first_words left)) _ e (sym (judged_more t p x left (some before end (omega arith))) ∙ is)
-        (λ kind read same. absurd (omega (arith, ap (λ s. s.left) same, there, length-append before end)))
-        (λ later.
-        let on = fixed before later.value.1 e (err_then (judged t later.value.1 left) (λ lines. later.value.0 ∷ lines) e later.stops) there in
-        judged_more t p x other_left (some before other_end (omega arith))
-        ∙ ap (λ r. at_first (x ∷ other_left) r >>= λ read. judged t read.1 other_left >>= λ lines. Ok (read.0 ∷ lines)) (ap (line_in t p x) (sym (first_same before)) ∙ later.is)
-        ∙ ap (λ r. r >>= λ lines. Ok (later.value.0 ∷ lines)) on)
-
--- where the first fault of lines is
-pub record FaultAt (t : Tables) (before end : Left) (fault : CertFault) : Type 0 where
-  pub e : Stopped
-  pub kind_is : e.kind ≡ fault.kind
-  pub there : e.left ≡ length end
-  pub stops : judged t start (before ++ end) ≡ Err e
-
-pub fault_at : (t : Tables) (before : Left) (line : List ℕ) (rest : Left) (fault : CertFault) → fault.line ≡ length before + 1 → IsFirstFault t (before ++ line ∷ rest) fault → FaultAt t before (line ∷ rest) fault
-unfolding proof_at
-fault_at t before line rest fault number first =
-    let end : Left = line ∷ rest in
-    let e : Stopped = record { left = first.left; kind = fault.kind } in
-    let stops = err_then (judged t start (before ++ end)) (λ lines. ((said_by t lines).planned, (said_by t lines).nodes)) e first.stops in
-    record { e = e; kind_is = refl; there = omega (arith, number, first.line, stops_within t (before ++ end) start e stops, length-append before end); stops = stops }
+  all_ends : (p : Left) → Ends end other_end (proof_at t (p ++ end)) (proof_at t (p ++ other_end))
+  unfolding proof_at
+  all_ends p = ends_line end other_end p (head_is (p ++ end)) (head_is (p ++ other_end)) _ _ (headed_twin (p ++ end) (p ++ other_end) (alike p)) (λ headed. behind p)
+    where
+      behind : (p : Left) → Ends end other_end (rest_at t (drop 1 (p ++ end))) (rest_at t (drop 1 (p ++ other_end)))
+      behind [] = over end other_end (length (next ∷ rest)) _ _ (rest_stops t (next ∷ rest)) (omega arith)
+      behind (x ∷ p) = rest_ends p
 
 pub first_fault_is_fixed : FirstFaultIsFixed
-unfolding proof_at
-first_fault_is_fixed t before line following other rest others fault look number first =
-    let was = fault_at t before line (following ∷ rest) fault number first in
+first_fault_is_fixed t before line next other rest others fault look here is =
+    let end : Left = line ∷ next ∷ rest in
     let other_end : Left = line ∷ other ∷ others in
-    let stops = fixed t line following other rest others look before start was.e was.stops was.there in
-    record {
-      left = length other_end;
-      stops = ap (λ r. r >>= λ lines. Ok ((said_by t lines).planned, (said_by t lines).nodes)) stops ∙ ap (λ k. stopped other_end k) was.kind_is;
-      line = number ∙ omega (arith, length-append before other_end);
-    }
+    let within : is.left ≤ length (before ++ end) = subst (Stops (length (before ++ end))) is.stops (proof_stops t (before ++ end)) in
+    let left_is : is.left ≡ length end = omega (arith, within, is.line, here, length-append before end) in
+    let ends : is.left ≡ length end → proof_at t (before ++ other_end) ≡ stopped other_end fault.kind =
+    subst (λ r. Ends end other_end r (proof_at t (before ++ other_end))) is.stops (all_ends t line next other rest others look before) in
+    record { left = length other_end; stops = ends left_is; line = omega (arith, here, length-append before other_end) }

@@ -14,8 +14,9 @@ use Rattle.bound_cert.specs.declared.faults.Stop.{Stop}
 use Rattle.bound_cert.specs.declared.faults.Stop.TheVariants as stop
 use Rattle.bound_cert.specs.declared.reading.Proof.{Proof}
 use Rattle.dual_bound.specs.declared.trees.Tree.{Tree}
-use Rattle.proof_lines.proofs.Binds.{ok_same}
-use Rattle.bound_cert.proofs.Texts.{in_order_of_tables, reads_what_was_written, text_of_reading}
+use Rattle.bound_cert.proofs.ReadBack.{ok_same}
+use Rattle.bound_cert.proofs.TextTrees.{text_of_reading}
+use Rattle.bound_cert.proofs.WrittenTrees.{in_order_of_tables, reads_what_was_written}
 
 -- the answer to what was read of lines
 pub answered : (t : Tables) (lines : List (Bor (List ℕ))) (read : Result Proof Stop) (result : Result Proof CertError) → Gives (λ proof. (proof.planned, nodes_of proof.tree)) read (proof_at t (seen lines))

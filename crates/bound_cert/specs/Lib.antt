@@ -1,10 +1,11 @@
-pub mod Builder
+pub mod Figures
 pub mod FirstFault
-pub mod Grammar
+pub mod Known
 pub mod Lines
 pub mod Nodes
 pub mod ProofText
 pub mod ReadProof
-pub mod Said
+pub mod ReadTree
+pub mod Reading
+pub mod Wants
 pub mod Words
-pub mod Written

@@ -1,11 +1,107 @@
--- What a text reads as.
-use Rattle.std.specs.Prelude.{Bool, List, Ok}
+-- A tree as its nodes, each before its children.
+use Rattle.std.specs.Prelude.{ℕ, zero, suc, ◌==◌, Bool, true, false, if◌then◌else◌, List, [], ◌∷◌, ◌++◌, length, drop, codes, bytes_eq, Option, Some, None, Ok, ⊤}
+use Rattle.std.specs.List.{flat_map}
 use Rattle.fleet_model.specs.declared.tables.Tables.{Tables}
+use Rattle.bound_cert.specs.Lines.{Left, Reading, ◌>>=◌, is_plain, is_word, line_due, stands, stopped}
+use Rattle.bound_cert.specs.Reading.{node_at}
+use Rattle.bound_cert.specs.declared.faults.TheConstants.{BAD_LINE, TEXT_ENDS, WRONG_HEAD, WRONG_WORD}
+use Rattle.bound_cert.specs.declared.nodes.Inner.{Inner}
+use Rattle.bound_cert.specs.declared.nodes.Inner.TheVariants as inner
+use Rattle.dual_bound.specs.Nodes.{nodes_of}
 use Rattle.dual_bound.specs.declared.nodes.Node.{Node}
-use Rattle.bound_cert.specs.Grammar.{judged, start}
-use Rattle.bound_cert.specs.Lines.{Left, Reading, ◌>>=◌}
-use Rattle.bound_cert.specs.Said.{said_by}
+use Rattle.dual_bound.specs.declared.nodes.Node.TheVariants as node
+use Rattle.bound_cert.specs.declared.nodes.Parent.{Parent}
+use Rattle.bound_cert.specs.declared.reading_lines.Due.TheVariants as due
+use Rattle.dual_bound.specs.declared.trees.Tree.{Tree}
 
--- whether a plan comes with the proof, and the nodes of its tree, as its lines say
+-- for each trim and split above, the nearest first, whether its first child is complete
+abbrev pub Above : Type 0
+Above = List Bool
+
+-- what stands above the next node behind a tree
+abbrev pub after_tree : Above → Above
+after_tree [] = []
+after_tree (true ∷ above) = after_tree above
+after_tree (false ∷ above) = true ∷ above
+
+-- what stands above the next node behind a node
+abbrev pub after_node : Node → Above → Above
+after_node (node.Bare leg) above = after_tree above
+after_node node.Sole above = after_tree above
+after_node (node.Refuted prices) above = after_tree above
+after_node (node.Priced prices) above = after_tree above
+after_node (node.Open prices why) above = after_tree above
+after_node (node.Trim leg fleet) above = false ∷ above
+after_node (node.Split leg fleet prices mixed) above = false ∷ above
+
+-- the nodes of a tree, from those that are read so far, and what is left behind their lines; at most so many
+unfoldable pub nodes_from : Tables → ℕ → List Node → Above → Left → Reading (List Node × Left)
+nodes_from t zero nodes above left = stopped left TEXT_ENDS
+nodes_from t (suc most) nodes above left =
+    node_at t (length above) left >>= λ read.
+    if length (after_node read.0 above) == 0 then Ok (nodes ++ read.0 ∷ [], read.1)
+    else nodes_from t most (nodes ++ read.0 ∷ []) (after_node read.0 above) read.1
+
+-- the head
+unfoldable pub head_is : Left → Reading ⊤
+head_is [] = stopped [] WRONG_HEAD
+head_is (line ∷ []) = stopped (line ∷ []) WRONG_HEAD
+head_is (line ∷ next ∷ rest) = if bytes_eq line (codes "fleet proof 1") then Ok tt else stopped (line ∷ next ∷ rest) WRONG_HEAD
+
+-- whether a plan comes with the proof
+unfoldable pub plan_at : Left → Reading Bool
+plan_at left = line_due due.Plan left >>= λ words. Ok (stands words 1 (codes "yes"))
+
+-- nothing is left
+unfoldable pub nothing : Left → Reading ⊤
+nothing [] = Ok tt
+nothing (line ∷ []) = if is_word line then stopped (line ∷ []) BAD_LINE else Ok tt
+nothing (line ∷ next ∷ rest) = stopped (line ∷ next ∷ rest) (if is_plain line then WRONG_WORD else BAD_LINE)
+
+-- the end, and nothing behind it
+unfoldable pub end_at : Left → Reading ⊤
+end_at left = line_due due.End left >>= λ words. nothing (drop 1 left)
+
+-- the nodes of a tree, and the end behind them
+unfoldable pub tree_at : Tables → Left → Reading (List Node)
+tree_at t left = nodes_from t (length left) [] [] left >>= λ read. end_at read.1 >>= λ ended. Ok read.0
+
+-- whether a plan comes, and the nodes of the tree
+unfoldable pub rest_at : Tables → Left → Reading (Bool × List Node)
+rest_at t left = plan_at left >>= λ planned. tree_at t (drop 1 left) >>= λ nodes. Ok (planned, nodes)
+
+-- what a text reads as
 unfoldable pub proof_at : Tables → Left → Reading (Bool × List Node)
-proof_at t left = judged t start left >>= λ lines. Ok ((said_by t lines).planned, (said_by t lines).nodes)
+proof_at t left = head_is left >>= λ headed. rest_at t (drop 1 left)
+
+-- a trim or a split as a node
+abbrev pub inner_node : Inner → Node
+inner_node (inner.Trim leg fleet) = node.Trim leg fleet
+inner_node (inner.Split leg fleet prices mixed) = node.Split leg fleet prices mixed
+
+-- the nodes of a first child, where it is complete
+abbrev pub first_nodes : Option Tree → List Node
+first_nodes None = []
+first_nodes (Some tree) = nodes_of tree
+
+-- whether the first child is complete
+abbrev pub has_first : Option Tree → Bool
+has_first None = false
+has_first (Some tree) = true
+
+-- the nodes of a trim or split that waits for children, with those of its first child
+abbrev pub parent_nodes : Parent → List Node
+parent_nodes parent = inner_node parent.inner ∷ first_nodes parent.yes
+
+-- the nodes of all that wait, the first of them highest
+abbrev pub waiting_nodes : List Parent → List Node
+waiting_nodes = flat_map parent_nodes
+
+-- what stands above, with parents below it, the first of them highest
+abbrev pub above_with : Above → List Parent → Above
+above_with above [] = above
+above_with above (parent ∷ parents) = above_with (has_first parent.yes ∷ above) parents
+
+-- what stands above the next node
+abbrev pub above_of : List Parent → Above
+above_of = above_with []

@@ -1,7 +1,6 @@
 ghost use Rattle.std.specs.Prelude.{◌≡◌};
 ghost use Rattle.bound_cert.specs.declared.faults.CertError.TheVariants as cert;
 ghost use Rattle.bound_cert.specs.declared.faults.Stop.TheVariants as stop;
-ghost use Rattle.bound_cert.specs.declared.faults.Wrong.TheVariants as wrong;
 
 use entries::NoMemory as OutOfMemory;
 use std::alloc::{AllocError, AllocFailed};
@@ -103,38 +102,5 @@ impl<T: Drop> From<AllocFailed<T>> for Stop {
 
     fn from(_: AllocFailed<T>) -> Stop {
         Stop::NoMemory
-    }
-}
-
-/// What is wrong with a line.
-#[derive(Clone, Copy)]
-pub enum Wrong {
-    /// A fault of this kind.
-    Kind(u8),
-    /// No more memory.
-    NoMemory,
-}
-
-impl From<OutOfMemory> for Wrong {
-    ghost from_gives = { λ _ e. e ≡ wrong.NoMemory };
-
-    fn from(_: OutOfMemory) -> Wrong {
-        Wrong::NoMemory
-    }
-}
-
-impl From<AllocError> for Wrong {
-    ghost from_gives = { λ _ e. e ≡ wrong.NoMemory };
-
-    fn from(_: AllocError) -> Wrong {
-        Wrong::NoMemory
-    }
-}
-
-impl<T: Drop> From<AllocFailed<T>> for Wrong {
-    ghost from_gives = { λ _ e. e ≡ wrong.NoMemory };
-
-    fn from(_: AllocFailed<T>) -> Wrong {
-        Wrong::NoMemory
     }
 }

@@ -1,13 +1,18 @@
 //! The text of the proof of a bound, and its reader.
 #![tactic(auto)]
 
-pub mod building;
-pub mod due;
 pub mod faults;
-pub mod grammar;
-pub mod judging;
+pub mod figures;
+pub mod known;
 pub mod laws;
+pub mod line_reading;
+pub mod node_reading;
+pub mod nodes;
+pub mod price_reading;
 pub mod reading;
+pub mod reading_lines;
+pub mod reading_words;
+pub mod tree_reading;
 pub mod writing;
 
 pub use dual_bound::{Cause, Mixed, PriceStep, Prices, Tree, TreeCounts, Weight};

@@ -1,20 +1,21 @@
 //! The text of a proof, read.
-ghost use Rattle.std.specs.Prelude.{◌≡◌, Bool, length, IfOk, MatchResult};
+ghost use Rattle.std.specs.Prelude.{◌≡◌, Bool, drop, length, IfOk, MatchResult};
+ghost use Rattle.bound_cert.specs.Known.{IsKnownOf};
 ghost use Rattle.bound_cert.specs.Lines.{Gives, left_of, seen};
-ghost use Rattle.bound_cert.specs.Nodes.{proof_at};
-ghost use Rattle.bound_cert.specs.ReadProof.{AnswersProof, FaultIn, FaultOf, IsTextOf, LinesRead, ReadsAs, answer_of};
+ghost use Rattle.bound_cert.specs.Nodes.{end_at, head_is, nothing, plan_at, proof_at, rest_at, tree_at};
 ghost use Rattle.dual_bound.specs.Nodes.{nodes_of};
 ghost use Rattle.dual_bound.specs.OfTables.{IsOfTables};
+ghost use Rattle.bound_cert.specs.Wants.{WantsNone};
+ghost use Rattle.bound_cert.specs.ReadProof.{AnswersProof, FaultIn, FaultOf, IsTextOf, LinesRead, ReadsAs, answer_of};
 ghost use Rattle.dual_bound.specs.declared.trees.Tree.{Tree};
-ghost use Rattle.proof_lines.specs.Known.{IsKnownOf};
 
-use crate::building::built;
-use crate::faults::{CertError, CertFault, Stop};
-use crate::judging::judged;
+use crate::faults::{BAD_LINE, CertError, CertFault, Stop, WRONG_HEAD, WRONG_WORD};
+use crate::known::Known;
+use crate::price_reading::behind;
+use crate::reading_lines::{Due, is_plain, left_of, line_due, stands, stopped};
+use crate::tree_reading::tree_from;
 use dual_bound::Tree;
 use fleet_model::Tables;
-use proof_lines::Known;
-use proof_lines::text::left_of;
 use std::alloc::Global;
 
 /// A proof of a bound.
@@ -77,7 +78,84 @@ fn proof_at(alloc: Global, tables: &Tables, known: &Known, left: &[&[u8]]) -> Re
     requires { IsKnownOf tables.now known.now }
     ensures { Gives (λ proof. (proof.planned, nodes_of proof.tree)) result (proof_at tables.now (seen left.now)) }
 {
-    let lines = judged(alloc, tables, known, left)?;
-    let (planned, tree) = built(alloc, tables, lines)?;
+    head_is(left)?;
+    Ok(rest_at(alloc, tables, known, behind(left))?)
+}
+
+/// Goes on where the first line is the head. Takes no memory.
+#[tactic(auto, unfolding(crate::specs::Nodes::head_is))]
+fn head_is(left: &[&[u8]]) -> Result<(), Stop>
+    ensures gives { Gives (λ _. tt) result (head_is (seen left.now)) }
+    ensures wants_none { WantsNone result }
+{
+    let Some((line, rest)) = left.split_first() else {
+        return stopped(left, WRONG_HEAD);
+    };
+    if rest.is_empty() {
+        return stopped(left, WRONG_HEAD);
+    }
+    if *line == b"fleet proof 1".as_slice() {
+        Ok(())
+    } else {
+        stopped(left, WRONG_HEAD)
+    }
+}
+
+/// Whether a plan comes, and the tree.
+#[tactic(auto, unfolding(crate::specs::Nodes::rest_at))]
+fn rest_at(alloc: Global, tables: &Tables, known: &Known, left: &[&[u8]]) -> Result<Proof, Stop>
+    requires { IsKnownOf tables.now known.now }
+    ensures { Gives (λ proof. (proof.planned, nodes_of proof.tree)) result (rest_at tables.now (seen left.now)) }
+{
+    let planned = plan_at(alloc, left)?;
+    let tree = tree_at(alloc, tables, known, behind(left))?;
     Ok(Proof { planned, tree })
+}
+
+/// Whether a plan comes with the proof.
+#[tactic(auto, unfolding(crate::specs::Nodes::plan_at))]
+fn plan_at(alloc: Global, left: &[&[u8]]) -> Result<bool, Stop>
+    ensures { Gives (λ planned. planned) result (plan_at (seen left.now)) }
+{
+    let words = line_due(alloc, Due::Plan, left)?;
+    Ok(stands(words.as_slice(), 1, b"yes"))
+}
+
+/// The tree, and the end behind it.
+#[tactic(auto, unfolding(crate::specs::Nodes::tree_at))]
+fn tree_at(alloc: Global, tables: &Tables, known: &Known, left: &[&[u8]]) -> Result<Tree, Stop>
+    requires { IsKnownOf tables.now known.now }
+    ensures { Gives (λ tree. nodes_of tree) result (tree_at tables.now (seen left.now)) }
+{
+    let (tree, rest) = tree_from(alloc, tables, known, left)?;
+    end_at(alloc, rest)?;
+    Ok(tree)
+}
+
+/// Goes on where the first line is the end and nothing stands behind it.
+#[tactic(auto, unfolding(crate::specs::Nodes::end_at))]
+fn end_at(alloc: Global, left: &[&[u8]]) -> Result<(), Stop>
+    ensures { Gives (λ _. tt) result (end_at (seen left.now)) }
+{
+    line_due(alloc, Due::End, left)?;
+    Ok(nothing(behind(left))?)
+}
+
+/// Goes on where nothing is left. Takes no memory.
+#[tactic(auto, unfolding(crate::specs::Nodes::nothing))]
+fn nothing(left: &[&[u8]]) -> Result<(), Stop>
+    ensures gives { Gives (λ _. tt) result (nothing (seen left.now)) }
+    ensures wants_none { WantsNone result }
+{
+    let Some((line, rest)) = left.split_first() else {
+        return Ok(());
+    };
+    if rest.is_empty() {
+        return if line.is_empty() {
+            Ok(())
+        } else {
+            stopped(left, BAD_LINE)
+        };
+    }
+    stopped(left, if is_plain(line) { WRONG_WORD } else { BAD_LINE })
 }

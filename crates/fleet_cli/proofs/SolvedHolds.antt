@@ -1,7 +1,7 @@
 -- The proof of a solution, written and read again, holds.
 use Rattle.std.proofs.Common.{ℕ, refl}
 use Rattle.fleet_model.specs.declared.tables.Tables.{Tables}
-use Rattle.bound_cert.proofs.Texts.{reads_what_was_written}
+use Rattle.bound_cert.proofs.WrittenTrees.{reads_what_was_written}
 use Rattle.dual_bound.specs.Bound.{IsBound}
 use Rattle.branch_bound.specs.Solved.{IsSolved, tree_of}
 use Rattle.branch_bound.specs.declared.solved.Solved.{Solved}

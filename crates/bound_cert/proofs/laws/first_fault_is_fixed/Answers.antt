@@ -1,5 +1,5 @@
-use Rattle.bound_cert.proofs.FixedFaults as lemmas
+use Rattle.bound_cert.proofs.FixedFaults as laws
 use Rattle.bound_cert.proofs.laws.first_fault_is_fixed.Goals as goal
 
 pub returns : goal.returns
-returns c = lemmas.first_fault_is_fixed
+returns c = laws.first_fault_is_fixed

@@ -1,5 +1,5 @@
-use Rattle.bound_cert.proofs.LinesOf as lemmas
+use Rattle.bound_cert.proofs.LinesOfWords as laws
 use Rattle.bound_cert.proofs.laws.lines_are_plain.Goals as goal
 
 pub returns : goal.returns
-returns c = lemmas.lines_are_plain
+returns c = laws.lines_are_plain

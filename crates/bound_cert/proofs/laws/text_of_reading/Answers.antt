@@ -1,5 +1,5 @@
-use Rattle.bound_cert.proofs.Texts as lemmas
+use Rattle.bound_cert.proofs.TextTrees as laws
 use Rattle.bound_cert.proofs.laws.text_of_reading.Goals as goal
 
 pub returns : goal.returns
-returns c = lemmas.text_of_reading
+returns c = laws.text_of_reading

@@ -1,7 +1,6 @@
-use Rattle.std.proofs.Common.{◌≡◌, ◌++◌, take}
-use Rattle.bound_cert.specs.ProofText.{rent_lines}
-use Rattle.bound_cert.specs.Written.{lines_text}
+use Rattle.std.proofs.Common.{◌≡◌, ◌++◌}
+use Rattle.bound_cert.specs.ProofText.{lines_of, rent_lines}
 use Rattle.bound_cert.proofs.writing.push_rents.Given as goal
 
 abbrev pub invariant-loop-fleet : goal.invariant-loop-fleet
-invariant-loop-fleet l = l.text.items ≡ l.initial.text.items ++ lines_text l.tables (rent_lines 0 (take l.fleet l.rents))
+invariant-loop-fleet l = l.text.items ≡ l.initial.text.items ++ lines_of (rent_lines l.tables l.prices l.fleet)

@@ -1,0 +1,377 @@
+-- Prices and fractional assignments of which a first part was read go on to whole ones.
+use Rattle.std.proofs.Common.{◌≡◌, ◌⊎◌, ℕ, ◌<◌, ◌≤◌, ◌==◌, ◌&&◌, Bool, true, false, not, cond, List, [], ◌∷◌, ◌++◌, length, codes, ℤ, pos, Option, Some, None, Ok, Err, inl, inr, refl, sym, ap, subst, ◌∙◌, append_assoc, length-append, arith}
+use Rattle.std.specs.Prelude.{⊤, All}
+use Rattle.std.specs.Ordering.{int_eq}
+use Rattle.std.proofs.lemmas.Bool.Decides.{Decides-int_eq, nat_tests}
+use Rattle.std.proofs.lemmas.List.Elements.{All-cons, All-nil}
+use Rattle.sums.proofs.Naturals.{first_same}
+use Rattle.fleet_model.specs.Schedule.{fleets_in}
+use Rattle.fleet_model.specs.declared.tables.Tables.{Tables}
+use Rattle.bound_cert.specs.Lines.{Left, Reading, Stopped, ◌>>=◌, first_words, stands, words_of}
+use Rattle.dual_bound.specs.OfTables.{IsStepOf}
+use Rattle.bound_cert.specs.ProofText.{at_line, mixed_line, scale_line}
+use Rattle.bound_cert.specs.Reading.{goes_on_at, is_needless, mixed_at, padded, prices_at, rent_at, rents_from, scale_at, step_at, steps_from, weight_at, weights_from}
+use Rattle.dual_bound.specs.Order.{same_place, step_follows}
+use Rattle.dual_bound.specs.WrittenOrder.{IsStepInOrder, goes_on}
+use Rattle.dual_bound.specs.declared.mixed.Weight.{Weight}
+use Rattle.dual_bound.specs.declared.prices.PriceStep.{PriceStep}
+use Rattle.dual_bound.proofs.StepOrder.{one_figure, same_place_by}
+use Rattle.bound_cert.specs.declared.reading_lines.Due.TheVariants as due
+use Rattle.bound_cert.proofs.LineTwins.{Alike, Twin, alike_first, alike_self, rent_twin, scale_twin, step_twin, weight_twin}
+use Rattle.bound_cert.proofs.LinesOfWords.{mixed_line_is}
+use Rattle.bound_cert.proofs.ReadOn.{begins, bound, rents_end, rents_more, steps_end, steps_more, weights_end, weights_more}
+use Rattle.bound_cert.proofs.Shrinking.{Shrinks, rents_shrink, shrinks_bind, steps_shrink, weights_shrink}
+use Rattle.bound_cert.proofs.TextPrices.{StepWas, step_was}
+use Rattle.bound_cert.proofs.WrittenLines.{joined}
+use Rattle.bound_cert.proofs.WrittenNodes.{behind_line}
+use Rattle.bound_cert.proofs.WrittenPrices.{IsBehind, mixed_scale_read, needed_by, next_begins, of_step, scale_read, step_read, steps_read}
+
+-- some line, which doesn't begin with the word
+pub record MayFollow (word : List ℕ) (left : Left) : Type 0 where
+  pub some : 0 < length left
+  pub other : begins left word ≡ false
+
+-- where nothing of the lines before is left, these may stand
+abbrev pub MayAt : (Left → Type 0) → Left → Left → Type 0
+MayAt May [] m = May m
+MayAt May (x ∷ p) m = ⊤
+
+pub any_at : (p m : Left) → MayAt (λ m. ⊤) p m
+any_at [] m = tt
+any_at (x ∷ p) m = tt
+
+-- what was read stays as it is with any other lines behind it that may follow
+pub record Stays {A : Type 0} (May : Left → Type 0) (end : Left) (f : Left → Reading (A × Left)) (p : Left) (read : A × Left) : Type 0 where
+  pub rest : Left
+  pub left_is : read.1 ≡ rest ++ end
+  pub stays : (m : Left) → 0 < length m → MayAt May rest m → f (p ++ m) ≡ Ok (read.0, rest ++ m)
+
+-- lines go on to such that read, whatever of another kind stands behind them
+pub record Completes {A : Type 0} (Need : Left → Type 0) (f : Left → Reading (A × Left)) (p : Left) : Type 0 where
+  pub more : Left
+  pub value : A
+  pub reads : (z : Left) → IsBehind z → f (p ++ (more ++ z)) ≡ Ok (value, z)
+  pub need : (z : Left) → IsBehind z → MayAt Need p (more ++ z)
+
+-- what is read of lines before an end stays, or reading went beyond its first line; and what stops at the end goes on
+abbrev pub EndsBy : {A : Type 0} → (Left → Type 0) → (Left → Type 0) → Left → (Left → Reading (A × Left)) → Left → Reading (A × Left) → Type 0
+EndsBy May Need end f p (Ok read) = Stays May end f p read ⊎ (length read.1 < length end)
+EndsBy May Need end f p (Err e) = e.left ≡ length end → Completes Need f p
+
+pub some_more : (more z : Left) → 0 < length z → 0 < length (more ++ z)
+some_more more z some = omega (arith, some, length-append more z)
+
+alike_behind : (x : List ℕ) (a b : Left) → 0 < length a → 0 < length b → Alike (x ∷ a) (x ∷ b)
+alike_behind x [] b some other = absurd (omega (arith, some))
+alike_behind x (y ∷ a) [] some other = absurd (omega (arith, other))
+alike_behind x (y ∷ a) (z ∷ b) some other = alike_first x y z a b
+
+pub alike_after : (x line : List ℕ) (p after m : Left) → 0 < length m → Alike (x ∷ (p ++ line ∷ after)) (x ∷ (p ++ m))
+alike_after x line p after m some = alike_behind x (p ++ line ∷ after) (p ++ m) (some_more p (line ∷ after) (omega arith)) (some_more p m some)
+
+pub value_of : {A : Type 0} (a b : Left) (r s : Reading A) (x : A) → Twin a b r s → r ≡ Ok x → s ≡ Ok x
+value_of a b (Ok y) s x twin is = twin ∙ is
+value_of a b (Err e) s x twin is = absurd (cc is)
+
+-- a line before the end that fails doesn't fail at the end
+pub not_there : {A P : Type 0} (x : List ℕ) (p end : Left) (r : Reading A) (e : Stopped) → Twin (x ∷ (p ++ end)) (x ∷ (p ++ end)) r r → r ≡ Err e → e.left ≡ length end → P
+not_there x p end (Ok y) e twin is there = absurd (cc is)
+not_there x p end (Err d) e twin is there =
+    let one : d ≡ e = cc is in
+    let same : d.left ≡ e.left = ap (λ s. s.left) one in
+    absurd (omega (arith, twin.0, same, there, length-append p end))
+
+module _ {A : Type 0} (May Need : Left → Type 0) (end : Left) (f : Left → Reading (A × Left)) (p : Left) where
+  pub ends_if : (c : Bool) (x y : Reading (A × Left)) → (c ≡ true → EndsBy May Need end f p x) → (c ≡ false → EndsBy May Need end f p y) → EndsBy May Need end f p (cond c x y)
+  ends_if true x y first second = first refl
+  ends_if false x y first second = second refl
+
+  pub ends_read : {B : Type 0} (r : Reading B) (g : B → Reading (A × Left)) → ((e : Stopped) → r ≡ Err e → e.left ≡ length end → Completes Need f p) → ((x : B) → r ≡ Ok x → EndsBy May Need end f p (g x))
+      → EndsBy May Need end f p (r >>= g)
+  ends_read (Ok x) g stops on = on x refl
+  ends_read (Err e) g stops on = λ there. stops e refl there
+
+  pub beyond : (n : ℕ) (r : Reading (A × Left)) → Shrinks n r → n < length end → EndsBy May Need end f p r
+  beyond n (Ok read) is short = inr (omega (arith, is, short))
+  beyond n (Err e) is short = λ there. absurd (omega (arith, is, short, there))
+
+  -- the same of what is read in another way of other lines
+  pub ends_lift : (h : Left → Reading (A × Left)) (q : Left) (r : Reading (A × Left)) → ((m : Left) → MayAt Need q m → MayAt Need p m) → ((m : Left) → 0 < length m → f (p ++ m) ≡ h (q ++ m)) → EndsBy May Need end h q r
+      → EndsBy May Need end f p r
+  ends_lift h q (Ok read) wider onward (inl is) = inl (record { rest = is.rest; left_is = is.left_is; stays = λ m some may. onward m some ∙ is.stays m some may })
+  ends_lift h q (Ok read) wider onward (inr short) = inr short
+  ends_lift h q (Err e) wider onward is = λ there.
+      let done = is there in
+      record {
+        more = done.more;
+        value = done.value;
+        reads = λ z ends. onward (done.more ++ z) (some_more done.more z ends.some) ∙ done.reads z ends;
+        need = λ z ends. wider (done.more ++ z) (done.need z ends);
+      }
+
+-- what is read and then put into another form
+pub ends_map : {A C : Type 0} (May Need : Left → Type 0) (end : Left) (f : Left → Reading (A × Left)) (h : A → C) (g : Left → Reading (C × Left)) (p q : Left) (r : Reading (A × Left)) → ((m : Left) → MayAt Need q m → MayAt Need p m)
+    → ((m : Left) → 0 < length m → g (p ++ m) ≡ (f (q ++ m) >>= λ x. Ok (h x.0, x.1))) → EndsBy May Need end f q r → EndsBy May Need end g p (r >>= λ x. Ok (h x.0, x.1))
+ends_map May Need end f h g p q (Ok read) wider onward (inl is) =
+    inl (record { rest = is.rest; left_is = is.left_is; stays = λ m some may. onward m some ∙ ap (λ r. r >>= λ x. Ok (h x.0, x.1)) (is.stays m some may) })
+ends_map May Need end f h g p q (Ok read) wider onward (inr short) = inr short
+ends_map May Need end f h g p q (Err e) wider onward is = λ there.
+    let done = is there in
+    record {
+      more = done.more;
+      value = h done.value;
+      reads = λ z ends. onward (done.more ++ z) (some_more done.more z ends.some) ∙ ap (λ r. r >>= λ x. Ok (h x.0, x.1)) (done.reads z ends);
+      need = λ z ends. wider (done.more ++ z) (done.need z ends);
+    }
+
+-- one part read behind another
+module _ {A B C : Type 0} (MayFirst NeedFirst May : Left → Type 0) (end : Left) (f : Left → Reading (A × Left)) (g : A → Left → Reading (B × Left)) (h : A → B → C) (whole : Left → Reading (C × Left)) (p q : Left)
+    (weaker : (m : Left) → IsBehind m → MayFirst m) (last : (m : Left) → IsBehind m → May m)
+    (onward : (m : Left) → 0 < length m → whole (p ++ m) ≡ (f (q ++ m) >>= λ x. g x.0 x.1 >>= λ y. Ok (h x.0 y.0, y.1)))
+    (empty : (a : A) → Completes IsBehind (g a) [])
+    (shrinks : (a : A) (b : Left) → Shrinks (length b) (g a b)) where
+  -- what may follow the second part may follow the first
+  may_first : (rest left m : Left) (read : Left) → read ≡ left ++ end → length read ≤ length (rest ++ end) → MayAt IsBehind left m → MayAt MayFirst rest m
+  may_first [] [] m read is less may = weaker m may
+  may_first [] (x ∷ left) m read is less may = absurd (omega (arith, ap length is, less, length-append left end))
+  may_first (x ∷ rest) left m read is less may = tt
+
+  may_last : (left m : Left) → MayAt IsBehind left m → MayAt May left m
+  may_last [] m may = last m may
+  may_last (x ∷ left) m may = tt
+
+  second_ends : (a : A) (rest : Left) → ((m : Left) → 0 < length m → MayAt MayFirst rest m → f (q ++ m) ≡ Ok (a, rest ++ m)) → (r : Reading (B × Left)) → Shrinks (length (rest ++ end)) r
+      → EndsBy May MayFirst end (g a) rest r → EndsBy IsBehind (λ m. ⊤) end whole p (r >>= λ y. Ok (h a y.0, y.1))
+  second_ends a rest stays (Ok read) less (inl is) = inl (record {
+    rest = is.rest;
+    left_is = is.left_is;
+    stays = λ m some may.
+        onward m some ∙ bound (f (q ++ m)) (a, rest ++ m) _ (stays m some (may_first rest is.rest m read.1 is.left_is less may))
+        ∙ bound (g a (rest ++ m)) (read.0, is.rest ++ m) _ (is.stays m some (may_last is.rest m may));
+  })
+  second_ends a rest stays (Ok read) less (inr short) = inr short
+  second_ends a rest stays (Err e) less is = λ there.
+      let done = is there in
+      record {
+        more = done.more;
+        value = h a done.value;
+        reads = λ z ends.
+            let some = some_more done.more z ends.some in
+            onward (done.more ++ z) some
+            ∙ bound (f (q ++ (done.more ++ z))) (a, rest ++ (done.more ++ z)) _ (stays (done.more ++ z) some (done.need z ends))
+            ∙ bound (g a (rest ++ (done.more ++ z))) (done.value, z) _ (done.reads z ends);
+        need = λ z ends. any_at p (done.more ++ z);
+      }
+
+  pub ends_then : ((a : A) (rest : Left) → EndsBy May MayFirst end (g a) rest (g a (rest ++ end))) → (r : Reading (A × Left)) → EndsBy MayFirst NeedFirst end f q r
+      → EndsBy IsBehind (λ m. ⊤) end whole p (r >>= λ x. g x.0 x.1 >>= λ y. Ok (h x.0 y.0, y.1))
+  ends_then second (Ok read) (inl is) =
+      subst (λ b. EndsBy IsBehind (λ m. ⊤) end whole p (g read.0 b >>= λ y. Ok (h read.0 y.0, y.1))) (sym is.left_is)
+      (second_ends read.0 is.rest is.stays (g read.0 (is.rest ++ end)) (shrinks read.0 (is.rest ++ end)) (second read.0 is.rest))
+  ends_then second (Ok read) (inr short) =
+      beyond IsBehind (λ m. ⊤) end whole p (length read.1) _ (shrinks_bind (length read.1) (g read.0 read.1) _ (shrinks read.0 read.1) (λ b rest. omega arith)) short
+  ends_then second (Err e) is = λ there.
+      let done = is there in
+      let behind = (empty done.value) in
+      record {
+        more = done.more ++ behind.more;
+        value = h done.value behind.value;
+        reads = λ z ends.
+            let lines : (done.more ++ behind.more) ++ z ≡ done.more ++ (behind.more ++ z) = append_assoc done.more behind.more z in
+            ap (λ m. whole (p ++ m)) lines
+            ∙ onward (done.more ++ (behind.more ++ z)) (some_more done.more (behind.more ++ z) (some_more behind.more z ends.some))
+            ∙ bound (f (q ++ (done.more ++ (behind.more ++ z)))) (done.value, behind.more ++ z) _ (done.reads (behind.more ++ z) (behind.need z ends))
+            ∙ bound (g done.value (behind.more ++ z)) (behind.value, z) _ (behind.reads z ends);
+        need = λ z ends. any_at p ((done.more ++ behind.more) ++ z);
+      }
+
+no_rent : (m : Left) → IsBehind m → MayFollow (codes "rent") m
+no_rent m behind = record { some = behind.some; other = behind.no_rent }
+
+no_step : (m : Left) → IsBehind m → MayFollow (codes "at") m
+no_step m behind = record { some = behind.some; other = behind.no_step }
+
+module _ (t : Tables) (line : List ℕ) (after : Left) where
+  abbrev end : Left
+  end = line ∷ after
+
+  rents_go : (rents : List ℤ) (p : Left) → EndsBy (MayFollow (codes "rent")) IsBehind end (rents_from t rents) p (rents_from t rents (p ++ end))
+  unfolding rents_from
+  rents_go rents [] =
+      ends_if _ _ end _ [] (stands (words_of line) 0 (codes "rent")) _ _
+      (λ is. ends_read _ _ end _ [] (rent_at t (length rents) end) _
+      (λ e failed there. record { more = []; value = padded rents (fleets_in t); reads = λ z ends. rents_end t rents z ends.no_rent; need = λ z ends. ends })
+      (λ entry read. beyond _ _ end _ [] (length after) _ (rents_shrink t (padded rents entry.0 ++ entry.1 ∷ []) after) (omega arith)))
+      (λ is. inl (record { rest = []; left_is = refl; stays = λ m some may. rents_end t rents m may.other }))
+  rents_go rents (x ∷ p) =
+      ends_if _ _ end _ (x ∷ p) (stands (words_of x) 0 (codes "rent")) _ _
+      (λ is. ends_read _ _ end _ (x ∷ p) (rent_at t (length rents) (x ∷ (p ++ end))) _
+      (λ e failed there. not_there x p end (rent_at t (length rents) (x ∷ (p ++ end))) e (rent_twin t (x ∷ (p ++ end)) (x ∷ (p ++ end)) (alike_self (x ∷ (p ++ end))) (length rents)) failed there)
+      (λ entry read. ends_lift _ _ end (rents_from t rents) (x ∷ p) (rents_from t (padded rents entry.0 ++ entry.1 ∷ [])) p _ (λ m may. tt)
+      (λ m some. rents_more t rents (x ∷ (p ++ m)) entry is
+      (value_of (x ∷ (p ++ end)) (x ∷ (p ++ m)) (rent_at t (length rents) (x ∷ (p ++ end))) (rent_at t (length rents) (x ∷ (p ++ m))) entry
+      (rent_twin t (x ∷ (p ++ end)) (x ∷ (p ++ m)) (alike_after x line p after m some) (length rents)) read))
+      (rents_go (padded rents entry.0 ++ entry.1 ∷ []) p)))
+      (λ is. inl (record { rest = x ∷ p; left_is = refl; stays = λ m some may. rents_end t rents (x ∷ (p ++ m)) is }))
+
+  weights_go : (weights : List Weight) (before : Option Weight) (p : Left) → EndsBy IsBehind IsBehind end (weights_from t weights before) p (weights_from t weights before (p ++ end))
+  unfolding weights_from
+  weights_go weights before [] =
+      ends_if _ _ end _ [] (stands (words_of line) 0 (codes "weight")) _ _
+      (λ is. ends_read _ _ end _ [] (weight_at t before end) _
+      (λ e failed there. record { more = []; value = weights; reads = λ z ends. weights_end t weights before z ends.no_weight; need = λ z ends. ends })
+      (λ entry read. beyond _ _ end _ [] (length after) _ (weights_shrink t (weights ++ entry ∷ []) (Some entry) after) (omega arith)))
+      (λ is. inl (record { rest = []; left_is = refl; stays = λ m some may. weights_end t weights before m may.no_weight }))
+  weights_go weights before (x ∷ p) =
+      ends_if _ _ end _ (x ∷ p) (stands (words_of x) 0 (codes "weight")) _ _
+      (λ is. ends_read _ _ end _ (x ∷ p) (weight_at t before (x ∷ (p ++ end))) _
+      (λ e failed there. not_there x p end (weight_at t before (x ∷ (p ++ end))) e (weight_twin t (x ∷ (p ++ end)) (x ∷ (p ++ end)) (alike_self (x ∷ (p ++ end))) before) failed there)
+      (λ entry read. ends_lift _ _ end (weights_from t weights before) (x ∷ p) (weights_from t (weights ++ entry ∷ []) (Some entry)) p _ (λ m may. tt)
+      (λ m some. weights_more t weights before (x ∷ (p ++ m)) entry is
+      (value_of (x ∷ (p ++ end)) (x ∷ (p ++ m)) (weight_at t before (x ∷ (p ++ end))) (weight_at t before (x ∷ (p ++ m))) entry
+      (weight_twin t (x ∷ (p ++ end)) (x ∷ (p ++ m)) (alike_after x line p after m some) before) read))
+      (weights_go (weights ++ entry ∷ []) (Some entry) p)))
+      (λ is. inl (record { rest = x ∷ p; left_is = refl; stays = λ m some may. weights_end t weights before (x ∷ (p ++ m)) is }))
+
+  -- a step that other lines may follow: it needs no other step of its place, or has one
+  module _ (steps : List PriceStep) (before : Option PriceStep) (x : List ℕ) (is : begins (x ∷ []) (codes "at") ≡ true) (step : PriceStep) (was : StepWas t before (x ∷ end) step) where
+    onward : (m : Left) → 0 < length m → is_needless step (at_line t step) m ≡ false → steps_from t steps before (x ∷ m) ≡ steps_from t (steps ++ step ∷ []) (Some step) m
+    onward m some needed =
+        let first : x ≡ joined (at_line t step) = first_same x (joined (at_line t step)) end end was.line_is.is in
+        steps_more t steps before (x ∷ m) step is (ap (λ y. step_at t before (y ∷ m)) first ∙ step_read t before step m was.order was.follows needed some)
+
+    -- behind lines of another kind it is needed as little as behind such
+    stays_needed : (m : Left) → begins end (codes "at") ≡ false → begins m (codes "at") ≡ false → is_needless step (at_line t step) m ≡ false
+    stays_needed m here there = by_zero (step.minute == 0) (int_eq step.value (pos 0)) (goes_on_at (first_words end) (at_line t step)) (goes_on_at (first_words m) (at_line t step)) (rw here refl) was.needed
+      where
+        by_zero : (c d g h : Bool) → g ≡ false → (c && d && not g) ≡ false → (c && d && not h) ≡ false
+        by_zero false d g h off needed = refl
+        by_zero true false g h off needed = refl
+        by_zero true true g h off needed = absurd (cc (off, needed))
+
+    next : PriceStep
+    next = record { fleet = step.fleet; station = step.station; minute = 1; value = pos 1 }
+
+    completed : Completes (MayFollow (codes "rent")) (steps_from t steps before) (x ∷ [])
+    unfolding next
+    completed = by_zero (step.minute == 0) (int_eq step.value (pos 0)) refl refl
+      where
+        plain : (c d : Bool) → (step.minute == 0) ≡ c → int_eq step.value (pos 0) ≡ d → (c && d) ≡ false → Completes (MayFollow (codes "rent")) (steps_from t steps before) (x ∷ [])
+        plain c d minute value off = record {
+          more = [];
+          value = steps ++ step ∷ [];
+          reads = λ z ends. onward z ends.some (rw (minute, value) (needless_off c d (goes_on_at (first_words z) (at_line t step)) off)) ∙ steps_end t (steps ++ step ∷ []) (Some step) z ends.no_step;
+          need = λ z ends. tt;
+        }
+          where
+            needless_off : (c d g : Bool) → (c && d) ≡ false → (c && d && not g) ≡ false
+            needless_off false d g off = refl
+            needless_off true false g off = refl
+            needless_off true true g off = absurd (cc off)
+
+        by_zero : (c d : Bool) → (step.minute == 0) ≡ c → int_eq step.value (pos 0) ≡ d → Completes (MayFollow (codes "rent")) (steps_from t steps before) (x ∷ [])
+        by_zero false d minute value = plain false d minute value refl
+        by_zero true false minute value = plain true false minute value refl
+        by_zero true true minute value =
+            let none : step.minute ≡ 0 = grind (arith, nat_tests, minute) in
+            let zero : step.value ≡ pos 0 = (Decides-int_eq step.value (pos 0)).0 value in
+            let order : IsStepInOrder t next = record { fleet = was.order.fleet; station = was.order.station; minute = omega arith; value = one_figure } in
+            let place : same_place step next ≡ true = same_place_by step next refl refl in
+            let follows : step_follows (Some step) next ≡ true = rw place (rw (none, zero) refl) in
+            let each : All (IsStepInOrder t) (next ∷ []) = All-cons (IsStepInOrder t) next [] order (All-nil (IsStepInOrder t)) in
+            let of : All (IsStepOf t) (next ∷ []) = All-cons (IsStepOf t) next [] (of_step t next order) (All-nil (IsStepOf t)) in
+            record {
+              more = joined (at_line t next) ∷ [];
+              value = (steps ++ step ∷ []) ++ next ∷ [];
+              reads = λ z ends.
+                  onward (joined (at_line t next) ∷ z) (omega arith)
+                  (needed_by t (step.minute == 0) (int_eq step.value (pos 0)) (goes_on step (next ∷ [])) (goes_on_at (first_words (joined (at_line t next) ∷ z)) (at_line t step)) (rw (place, minute, value) refl)
+                  (next_begins t step (next ∷ []) z of))
+                  ∙ steps_read t (next ∷ []) (steps ++ step ∷ []) (Some step) z each of (rw follows refl, tt) (refl, tt) ends.some ends.no_step;
+              need = λ z ends. tt;
+            }
+
+  steps_go : (steps : List PriceStep) (before : Option PriceStep) (p : Left) → EndsBy (MayFollow (codes "at")) (MayFollow (codes "rent")) end (steps_from t steps before) p (steps_from t steps before (p ++ end))
+  unfolding steps_from
+  steps_go steps before [] =
+      ends_if _ _ end _ [] (stands (words_of line) 0 (codes "at")) _ _
+      (λ is. ends_read _ _ end _ [] (step_at t before end) _
+      (λ e failed there. record { more = []; value = steps; reads = λ z ends. steps_end t steps before z ends.no_step; need = λ z ends. no_rent z ends })
+      (λ step read. beyond _ _ end _ [] (length after) _ (steps_shrink t (steps ++ step ∷ []) (Some step) after) (omega arith)))
+      (λ is. inl (record { rest = []; left_is = refl; stays = λ m some may. steps_end t steps before m may.other }))
+  steps_go steps before (x ∷ []) =
+      ends_if _ _ end _ (x ∷ []) (stands (words_of x) 0 (codes "at")) _ _
+      (λ is. ends_read _ _ end _ (x ∷ []) (step_at t before (x ∷ end)) _
+      (λ e failed there. not_there x [] end (step_at t before (x ∷ end)) e (step_twin t (x ∷ end) (x ∷ end) (alike_self (x ∷ end)) before (λ zero_step. refl)) failed there)
+      (λ step read.
+      let was = step_was t before (x ∷ end) step read in
+      ends_if _ _ end _ (x ∷ []) (stands (words_of line) 0 (codes "at")) _ _
+      (λ on. ends_read _ _ end _ (x ∷ []) (step_at t (Some step) end) _ (λ e failed there. completed steps before x is step was)
+      (λ other read. beyond _ _ end _ (x ∷ []) (length after) _ (steps_shrink t ((steps ++ step ∷ []) ++ other ∷ []) (Some other) after) (omega arith)))
+      (λ off. inl (record {
+        rest = [];
+        left_is = refl;
+        stays = λ m some may. onward steps before x is step was m some (stays_needed steps before x is step was m off may.other) ∙ steps_end t (steps ++ step ∷ []) (Some step) m may.other;
+      }))))
+      (λ is. inl (record { rest = x ∷ []; left_is = refl; stays = λ m some may. steps_end t steps before (x ∷ m) is }))
+  steps_go steps before (x ∷ y ∷ p) =
+      ends_if _ _ end _ (x ∷ y ∷ p) (stands (words_of x) 0 (codes "at")) _ _
+      (λ is. ends_read _ _ end _ (x ∷ y ∷ p) (step_at t before (x ∷ y ∷ (p ++ end))) _
+      (λ e failed there. not_there x (y ∷ p) end (step_at t before (x ∷ y ∷ (p ++ end))) e (step_twin t (x ∷ y ∷ (p ++ end)) (x ∷ y ∷ (p ++ end)) (alike_self (x ∷ y ∷ (p ++ end))) before (λ zero_step. refl)) failed there)
+      (λ step read. ends_lift _ _ end (steps_from t steps before) (x ∷ y ∷ p) (steps_from t (steps ++ step ∷ []) (Some step)) (y ∷ p) _ (λ m may. tt)
+      (λ m some. steps_more t steps before (x ∷ y ∷ (p ++ m)) step is
+      (value_of (x ∷ y ∷ (p ++ end)) (x ∷ y ∷ (p ++ m)) (step_at t before (x ∷ y ∷ (p ++ end))) (step_at t before (x ∷ y ∷ (p ++ m))) step
+      (step_twin t (x ∷ y ∷ (p ++ end)) (x ∷ y ∷ (p ++ m)) (alike_first x y y (p ++ end) (p ++ m)) before (λ zero_step. refl)) read))
+      (steps_go (steps ++ step ∷ []) (Some step) (y ∷ p))))
+      (λ is. inl (record { rest = x ∷ y ∷ p; left_is = refl; stays = λ m some may. steps_end t steps before (x ∷ y ∷ (p ++ m)) is }))
+
+  pub prices_go : (p : Left) → EndsBy IsBehind (λ m. ⊤) end (prices_at t) p (prices_at t (p ++ end))
+  unfolding prices_at
+  prices_go [] =
+      ends_read _ _ end _ [] (scale_at due.Scale end) _
+      (λ e failed there. record {
+        more = joined (scale_line (pos 1)) ∷ [];
+        value = record { scale = pos 1; rents = padded [] (fleets_in t); steps = [] };
+        reads = λ z ends.
+            bound (scale_at due.Scale (joined (scale_line (pos 1)) ∷ z)) (pos 1) _ (scale_read (pos 1) z one_figure ends.some)
+            ∙ bound (rents_from t [] z) (padded [] (fleets_in t), z) _ (rents_end t [] z ends.no_rent)
+            ∙ bound (steps_from t [] None z) ([], z) _ (steps_end t [] None z ends.no_step);
+        need = λ z ends. tt;
+      })
+      (λ scale read. beyond _ _ end _ [] (length after) _
+      (shrinks_bind (length after) (rents_from t [] after) _ (rents_shrink t [] after) (λ rents b. shrinks_bind (length b) (steps_from t [] None b) _ (steps_shrink t [] None b) (λ steps c. omega arith))) (omega arith))
+  prices_go (x ∷ p) =
+      ends_read _ _ end _ (x ∷ p) (scale_at due.Scale (x ∷ (p ++ end))) _
+      (λ e failed there. not_there x p end (scale_at due.Scale (x ∷ (p ++ end))) e (scale_twin t (x ∷ (p ++ end)) (x ∷ (p ++ end)) (alike_self (x ∷ (p ++ end))) due.Scale) failed there)
+      (λ scale read. ends_then (MayFollow (codes "rent")) IsBehind (MayFollow (codes "at")) end (rents_from t []) (λ rents. steps_from t [] None) (λ rents steps. record { scale = scale; rents = rents; steps = steps }) (prices_at t) (x ∷ p) p
+      no_rent no_step
+      (λ m some. bound (scale_at due.Scale (x ∷ (p ++ m))) scale _
+      (value_of (x ∷ (p ++ end)) (x ∷ (p ++ m)) (scale_at due.Scale (x ∷ (p ++ end))) (scale_at due.Scale (x ∷ (p ++ m))) scale (scale_twin t (x ∷ (p ++ end)) (x ∷ (p ++ m)) (alike_after x line p after m some) due.Scale) read))
+      (λ rents. record { more = []; value = []; reads = λ z ends. steps_end t [] None z ends.no_step; need = λ z ends. ends })
+      (λ rents. steps_shrink t [] None)
+      (λ rents. steps_go [] None) (rents_from t [] (p ++ end)) (rents_go [] p))
+
+  pub one_mixed : Completes IsBehind (mixed_at t) []
+  unfolding mixed_at
+  one_mixed = record {
+    more = joined (mixed_line (pos 1)) ∷ [];
+    value = record { scale = pos 1; weights = [] };
+    reads = λ z ends.
+        bound (scale_at due.Mixed (joined (mixed_line (pos 1)) ∷ z)) (pos 1) _ (mixed_scale_read (pos 1) z one_figure ends.some)
+        ∙ bound (weights_from t [] None z) ([], z) _ (weights_end t [] None z ends.no_weight);
+    need = λ z ends. behind_line (mixed_line (pos 1)) z (mixed_line_is (pos 1)) refl refl refl;
+  }
+
+  pub mixed_goes : (p : Left) → EndsBy IsBehind IsBehind end (mixed_at t) p (mixed_at t (p ++ end))
+  unfolding mixed_at
+  mixed_goes [] =
+      ends_read _ _ end _ [] (scale_at due.Mixed end) _
+      (λ e failed there. one_mixed)
+      (λ scale read. beyond _ _ end _ [] (length after) _ (shrinks_bind (length after) (weights_from t [] None after) _ (weights_shrink t [] None after) (λ weights b. omega arith)) (omega arith))
+  mixed_goes (x ∷ p) =
+      ends_read _ _ end _ (x ∷ p) (scale_at due.Mixed (x ∷ (p ++ end))) _
+      (λ e failed there. not_there x p end (scale_at due.Mixed (x ∷ (p ++ end))) e (scale_twin t (x ∷ (p ++ end)) (x ∷ (p ++ end)) (alike_self (x ∷ (p ++ end))) due.Mixed) failed there)
+      (λ scale read. ends_map IsBehind IsBehind end (weights_from t [] None) (λ weights. record { scale = scale; weights = weights }) (mixed_at t) (x ∷ p) p (weights_from t [] None (p ++ end)) (λ m may. tt)
+      (λ m some. bound (scale_at due.Mixed (x ∷ (p ++ m))) scale _
+      (value_of (x ∷ (p ++ end)) (x ∷ (p ++ m)) (scale_at due.Mixed (x ∷ (p ++ end))) (scale_at due.Mixed (x ∷ (p ++ m))) scale (scale_twin t (x ∷ (p ++ end)) (x ∷ (p ++ m)) (alike_after x line p after m some) due.Mixed) read))
+      (weights_go [] None p))

@@ -1,0 +1,62 @@
+-- Names that are known are of the tables, and so is a tree whose nodes are.
+use Rattle.std.proofs.Common.{◌≡◌, ℕ, ◌<◌, List, [], ◌∷◌, ◌++◌, bytes_eq, Some, subst}
+use Rattle.std.specs.Prelude.{All, ⊤}
+use Rattle.std.proofs.lemmas.List.{length-map}
+use Rattle.std.proofs.lemmas.List.Elements.{All-cons, All-head, All-nil, All-tail}
+use Rattle.std.proofs.lemmas.List.Quantifiers.{position-Some}
+use Rattle.fleet_model.specs.Schedule.{IsPair, fleets_in, leg_on, legs_in, stations_in}
+use Rattle.fleet_model.specs.declared.tables.Tables.{Tables}
+use Rattle.bound_cert.specs.Known.{codes_of, fleet_named, fleet_names, flights_of, leg_named, station_named}
+use Rattle.dual_bound.specs.Nodes.{nodes_of}
+use Rattle.dual_bound.specs.OfTables.{ArePricesOf, IsCauseOf, IsMixedOf, IsOfTables}
+use Rattle.dual_bound.specs.declared.nodes.Node.{Node}
+use Rattle.dual_bound.specs.declared.nodes.Node.TheVariants as node
+use Rattle.dual_bound.specs.declared.trees.Tree.{Tree}
+use Rattle.dual_bound.specs.declared.trees.Tree.TheVariants as tree
+
+-- names that are known are of the tables
+
+pub leg_known : (t : Tables) (word : List ℕ) (l : ℕ) → leg_named t word ≡ Some l → l < legs_in t
+leg_known t word l is = subst (λ n. l < n) (length-map t.legs (λ leg. leg.flight)) (position-Some (bytes_eq word) (flights_of t) l [] is).0
+
+pub fleet_known : (t : Tables) (word : List ℕ) (f : ℕ) → fleet_named t word ≡ Some f → f < fleets_in t
+fleet_known t word f is = subst (λ n. f < n) (length-map t.fleets (λ fleet. fleet.name)) (position-Some (bytes_eq word) (fleet_names t) f [] is).0
+
+pub station_known : (t : Tables) (word : List ℕ) (s : ℕ) → station_named t word ≡ Some s → s < stations_in t
+station_known t word s is = subst (λ n. s < n) (length-map t.stations (λ station. station.code)) (position-Some (bytes_eq word) (codes_of t) s [] is).0
+
+-- what a node names without its children is of the tables
+abbrev pub IsNodeOf : Tables → Node → Type 0
+IsNodeOf t (node.Bare leg) = leg < legs_in t
+IsNodeOf t node.Sole = ⊤
+IsNodeOf t (node.Refuted prices) = ArePricesOf t prices
+IsNodeOf t (node.Priced prices) = ArePricesOf t prices
+IsNodeOf t (node.Open prices why) = ArePricesOf t prices × IsCauseOf t why
+IsNodeOf t (node.Trim leg fleet) = IsPair t (leg_on leg fleet)
+IsNodeOf t (node.Split leg fleet prices mixed) = IsPair t (leg_on leg fleet) × ArePricesOf t prices × IsMixedOf t mixed
+
+-- a tree whose nodes are of the tables is
+pub left_part : {X : Type 0} (P : X → Type 0) (xs ys : List X) → All P (xs ++ ys) → All P xs
+left_part P [] ys all = All-nil P
+left_part P (x ∷ xs) ys all = All-cons P x xs (All-head P x (xs ++ ys) all) (left_part P xs ys (All-tail P x (xs ++ ys) all))
+
+pub right_part : {X : Type 0} (P : X → Type 0) (xs ys : List X) → All P (xs ++ ys) → All P ys
+right_part P [] ys all = all
+right_part P (x ∷ xs) ys all = right_part P xs ys (All-tail P x (xs ++ ys) all)
+
+pub tree_of : (t : Tables) (whole : Tree) → All (IsNodeOf t) (nodes_of whole) → IsOfTables t whole
+tree_of t (tree.Bare leg) are = All-head (IsNodeOf t) (node.Bare leg) [] are
+tree_of t tree.Sole are = tt
+tree_of t (tree.Refuted prices) are = All-head (IsNodeOf t) (node.Refuted prices) [] are
+tree_of t (tree.Priced prices) are = All-head (IsNodeOf t) (node.Priced prices) [] are
+tree_of t (tree.Open prices why) are = All-head (IsNodeOf t) (node.Open prices why) [] are
+tree_of t (tree.Trim' leg fleet p with_pair q without) are =
+    let nodes = nodes_of with_pair ++ nodes_of without in
+    let first = All-head (IsNodeOf t) (node.Trim leg fleet) nodes are in
+    let others = All-tail (IsNodeOf t) (node.Trim leg fleet) nodes are in
+    (first, tree_of t with_pair (left_part (IsNodeOf t) (nodes_of with_pair) (nodes_of without) others), tree_of t without (right_part (IsNodeOf t) (nodes_of with_pair) (nodes_of without) others))
+tree_of t (tree.Split' leg fleet prices mixed p with_pair q without) are =
+    let nodes = nodes_of with_pair ++ nodes_of without in
+    let first = All-head (IsNodeOf t) (node.Split leg fleet prices mixed) nodes are in
+    let others = All-tail (IsNodeOf t) (node.Split leg fleet prices mixed) nodes are in
+    (first.0, first.1, first.2, tree_of t with_pair (left_part (IsNodeOf t) (nodes_of with_pair) (nodes_of without) others), tree_of t without (right_part (IsNodeOf t) (nodes_of with_pair) (nodes_of without) others))
