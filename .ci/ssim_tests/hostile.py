@@ -1,0 +1,127 @@
+"""Lines changed at random: each file ends in a refusal by name with nothing written, or in tables that the program reads."""
+
+import os
+import random
+import re
+import subprocess
+
+from schedule_lines import leg, segment, text, whole
+from ssim_tests.trying import call, scratch, standing
+
+LINES = 2000
+DATE = "2026-11-30"
+REFUSED = re.compile(r"ssim: \S+/season line [1-9][0-9]*: .+ \(bytes? \d[\d, toand]*\), it should be .+\n")
+LIMIT = re.compile(r"ssim: \S+/season: [0-9,]+ [a-z ]+ on 2026-11-30, and tables have .+\n")
+TYPES = ("320", "E90", "333", "BUS")
+# Values of a form that may stand at some first bytes of a leg, with which its meaning changes.
+VALUES = (
+    (15, ("30NOV26", "01DEC26", "29FEB28", "31NOV26", "01JAN99")), (22, ("30NOV26", "29NOV26", "00XXX00", "30FEB27")),
+    (29, ("1      ", "1234567", "       ", "      7")), (36, ("2", " ", "1")), (37, ("ZRH", "LHR", "AAA")), (44, ("0000", "2400", "2359", "1200")),
+    (48, ("+0000", "-0330", "+0545", "+1400", "-1200")), (55, ("ZRH", "LHR", "BBB")), (58, ("0000", "2400", "0001", "1800")), (66, ("+0000", "-1200", "+1300")),
+    (12, ("01", "02", "99")), (10, ("01", "02", "99")), (6, ("0001", "   7", "9999")), (14, ("J", "U", "F")), (73, TYPES), (149, ("Z", " ")),
+    (193, ("00", "01", "11", "A0", "7A", "  ")), (2, ("D", " ")), (128, ("A", " ")), (195, ("000007", "000001")), (1, ("3", "4", "5", "2", "1", "0")),
+)  # fmt: skip
+# How many faults are told.
+TOLD = 10
+LETTERS = "ABZ019 +-?\x00\xe4\t"
+
+
+def base():
+    """A small schedule with a flight of two legs, over midnight, shared flights and a bus."""
+    far = leg("ZZ", 9, "ZRH 2155 +0100 KTM 1110 +0545", "333", shifts="01")
+    legs = [
+        leg("ZZ", 1, "ZRH 0800 +0100 LHR 0950 +0000", "320"),
+        leg("ZZ", 2, "LHR 1100 +0000 ZRH 1250 +0100", "320"),
+        leg("ZZ", 1, "ZRH 0900 +0100 LHR 1050 +0000", "E90", "67", variation=2),
+        leg("ZZ", 7, "ZRH 2000 +0100 GVA 2045 +0100", "E90"),
+        leg("ZZ", 7, "GVA 2130 +0100 LIS 2310 +0000", "E90", sequence=2),
+        far,
+        segment(far, "010", "XY 7009"),
+        leg("ZZ", 10, "KTM 1310 +0545 ZRH 1740 +0100", "333"),
+        leg("ZZ", 11, "YYT 2230 -0330 ZRH 0915 +0100", "333", shifts="01", b36="2"),
+        leg("ZZ", 80, "ZRH 0700 +0100 BSL 0830 +0100", "BUS", service="U"),
+    ]
+    return whole("ZZ", legs)
+
+
+def changed(chance, lines):
+    """Changes one to three lines, and returns how many."""
+    count = chance.randint(1, 3)
+    for _ in range(count):
+        at = chance.choice([it for it, line in enumerate(lines) if line[:1] != "0"] or [0])
+        line, way = lines[at], chance.random()
+        if way < 0.6:
+            first, values = chance.choice(VALUES)
+            put = chance.choice(values)
+        else:
+            first, put = chance.randint(1, 200), chance.choice(LETTERS)
+        lines[at] = line[: first - 1] + put + line[first - 1 + len(put) :]
+        if way > 0.9:
+            lines[at] = chance.choice((lines[at] + " ", lines[at][:-1], ""))
+        elif way > 0.85:
+            other = chance.randrange(len(lines))
+            lines[at], lines[other] = lines[other], lines[at]
+        elif way > 0.8:
+            del lines[at]
+        elif way > 0.75:
+            lines.insert(at, lines[at])
+    return count
+
+
+class Hostile:
+    """The folder of the runs, the tables that the program has read, and what was wrong."""
+
+    def __init__(self, folder):
+        self.folder, self.known, self.wrong, self.refused = folder, set(), [], 0
+        fleets = "".join(f"{it},500,30\n" for it in TYPES)
+        (folder / "fleets").write_text(f"fleet,aircraft,turn\n{fleets}", encoding="ascii")
+
+    def run(self, number, lines):
+        folder = self.folder
+        data = text(lines).encode("latin-1")
+        (folder / "season").write_bytes(data)
+        words = ["--fleets", folder / "fleets", *(["--surface"] if number % 3 == 0 else [])]
+        before = standing(folder / "day")
+        status, told = call("tables", folder / "season", folder / "day", "--date", DATE, *words)
+        after = standing(folder / "day")
+        if status == 6 and (REFUSED.fullmatch(told) or LIMIT.fullmatch(told)):
+            self.refused += 1
+            if before != after:
+                self.wrong.append(f"run {number} is refused and writes: {told}")
+        elif status:
+            self.wrong.append(f"run {number}: status {status}: {told}")
+        else:
+            self.judge(number, after)
+            status, told = call("plan", folder / "season", folder / "day", folder / "new")
+            if status or (folder / "new").read_bytes() != data:
+                self.wrong.append(f"run {number}: the plan as filed changes the file, status {status}: {told}")
+        beside = sorted(it for it in os.listdir(folder) if it not in ("fleets", "season", "day", "new"))
+        if beside:
+            self.wrong.append(f"run {number} leaves {beside}")
+
+    def judge(self, number, held):
+        """Has the program read tables that it hasn't read yet."""
+        tables = tuple(held[it] for it in sorted(held) if it != "names.csv")
+        if tables in self.known:
+            return
+        self.known.add(tables)
+        words = [os.environ["FLEETPLAN"], "judge", str(self.folder / "day")]
+        ran = subprocess.run(words, stdin=subprocess.DEVNULL, stdout=subprocess.PIPE, stderr=subprocess.STDOUT, check=False)
+        said = ran.stdout.decode("utf-8", "replace")
+        if ran.returncode not in (0, 9) or said.startswith("plan refused"):
+            self.wrong.append(f"run {number}: judge has status {ran.returncode}: {said}")
+
+
+def try_all(tally):
+    with scratch() as folder:
+        hostile, chance, done, number = Hostile(folder), random.Random(49), 0, 0
+        lines = base()
+        while done < LINES:
+            number += 1
+            now = list(lines)
+            done += changed(chance, now)
+            hostile.run(number, now)
+        why = "\n".join(hostile.wrong[:TOLD]) or None
+        tally.note(f"{done} lines changed at random", why)
+        enough = number // 4 < hostile.refused < number and len(hostile.known) > 50
+        tally.note("some are refused and some are read", None if enough else f"{hostile.refused} of {number}, {len(hostile.known)} tables")

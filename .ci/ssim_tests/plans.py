@@ -1,0 +1,236 @@
+"""Plans written back: the records that they change, and that nothing else changes on any date."""
+
+import datetime
+import random
+
+from schedule_lines import ZEROS, carrier, header, leg, numbered, segment, text, trailer
+from ssim_tests.trying import EXAMPLE, call, records, scratch, standing
+
+DATE = "2026-11-30"
+WAY = "ZRH 0800 +0100 LHR 0950 +0000"
+# Plans that are drawn, each by a number.
+DRAWS = 12
+# Days before and after a planned date whose tables are compared.
+NEAR = (-14, -8, -7, -2, -1, 0, 1, 2, 6, 7, 8, 14, 21, 28)
+
+
+def short(line):
+    """What a plan may change of a leg's line: flight, variation, leg, period, days and type; and of segment data the flight."""
+    return line[5:13] + line[127] + " " + line[14:35].rstrip() + " " + line[72:75] if line[0] == "3" else f"{line[5:13]}{line[27]} {line[30:33]}"
+
+
+def planned(folder, lines, changes, words=()):
+    """Writes a plan with some fleets changed, and returns the lines of legs and segments of the new file."""
+    (folder / "season").write_bytes(text(lines).encode("ascii"))
+    fleets = "".join(f"{it},9,30\n" for it in sorted({it[72:75] for it in lines if it[0] == "3"}))
+    (folder / "fleets").write_text(f"fleet,aircraft,turn\n{fleets}", encoding="ascii")
+    made = call("tables", folder / "season", folder / "day", "--date", DATE, "--fleets", folder / "fleets")
+    rows = dict(it.split(",") for it in records(folder / "day", "plan.csv"))
+    rows.update(changes)
+    (folder / "day" / "plan.csv").write_text("flight,fleet\n" + "".join(f"{it},{to}\n" for it, to in rows.items()), encoding="ascii")
+    status, told = call("plan", folder / "season", folder / "day", folder / "new", *words)
+    if made[0] or status:
+        return [made[1], told]
+    return (folder / "new").read_bytes().decode("ascii").split("\r\n")[:-1]
+
+
+def body(lines):
+    return [short(it) for it in lines if it[0] in "34"]
+
+
+def file_of(*legs):
+    return numbered([header(), carrier("ZZ"), *legs, trailer("ZZ")])
+
+
+ONE = leg("ZZ", 1, WAY, "320", "12345")
+TWO = leg("ZZ", 2, "LHR 1100 +0000 ZRH 1250 +0100", "320", "12345", variation=1)
+LATER = leg("ZZ", 1, WAY, "320", "67", variation=2)
+FORTNIGHT = leg("ZZ", 1, WAY, "320", "123", period=("27OCT26", "22MAR27"), b36="2")
+THREE = [
+    leg("ZZ", 7, "ZRH 2230 +0100 GVA 2315 +0100", "320"),
+    leg("ZZ", 7, "GVA 0130 +0100 LIS 0310 +0000", "320", sequence=2, shifts="11"),
+]
+# Of each case the legs, the fleets of the plan, the options, and the records of the new file.
+CASES = {
+    "by date": ([ONE, TWO, LATER], {"ZZ1": "E90"}, (), [
+        "00010101  25OCT2627NOV2612345 320", "00010201  30NOV2630NOV261 E90", "00010301  01DEC2627MAR2712345 320",
+        "00020101  25OCT2627MAR2712345 320", "00010401  25OCT2627MAR27     67 320",
+    ]),
+    "by day of operation": ([ONE, TWO, LATER], {"ZZ1": "E90"}, ("--whole-season",), [
+        "00010101  25OCT2627MAR271 E90", "00010201  25OCT2627MAR27 2345 320", "00020101  25OCT2627MAR2712345 320",
+        "00010301  25OCT2627MAR27     67 320",
+    ]),
+    "a record of that date alone": (
+        [leg("ZZ", 1, WAY, "320", "1", ("30NOV26", "30NOV26"), 7)], {"ZZ1": "E90"}, (), ["00010701  30NOV2630NOV261 E90"],
+    ),
+    "a record of that day of the week alone": (
+        [leg("ZZ", 1, WAY, "320", "1", variation=7)], {"ZZ1": "E90"}, ("--whole-season",), ["00010701  25OCT2627MAR271 E90"],
+    ),
+    "the first date of a period": ([leg("ZZ", 1, WAY, "320", "14", ("30NOV26", "00XXX00"))], {"ZZ1": "E90"}, (), [
+        "00010101  30NOV2630NOV261 E90", "00010201  03DEC2600XXX001  4 320",
+    ]),
+    "the last date of a period": ([leg("ZZ", 1, WAY, "320", "14", ("22NOV26", "02DEC26"))], {"ZZ1": "E90"}, (), [
+        "00010101  22NOV2626NOV261  4 320", "00010201  30NOV2630NOV261 E90",
+    ]),
+    "every second week": ([FORTNIGHT], {"ZZ1": "E90"}, (), [
+        "00010101  27OCT2625NOV26123 320", "00010201  30NOV2630NOV261 E90", "00010301  08DEC2622MAR27123 320",
+    ]),
+    "the rest of a second week": ([leg("ZZ", 1, WAY, "320", "136", ("30NOV26", "22MAR27"), b36="2")], {"ZZ1": "E90"}, (), [
+        "00010101  30NOV2630NOV261 E90", "00010201  02DEC2605DEC26  3  6 320", "00010301  14DEC2622MAR271 3  6 320",
+    ]),
+    "two legs of one flight, of two dates": (THREE, {"ZZ7A": "E90", "ZZ7B": "E90"}, (), [
+        "00070101  25OCT2628NOV261234567 320", "00070102  25OCT2628NOV261234567 320",
+        "00070201  29NOV2629NOV26      7 320", "00070202  29NOV2629NOV26      7 E90",
+        "00070301  30NOV2630NOV261 E90", "00070302  30NOV2630NOV261 320",
+        "00070401  01DEC2627MAR271234567 320", "00070402  01DEC2627MAR271234567 320",
+    ]),
+    "segment data goes along": ([ONE, segment(ONE, "010", "XY 1")], {"ZZ1": "E90"}, ("--whole-season",), [
+        "00010101  25OCT2627MAR271 E90", "00010101  010", "00010201  25OCT2627MAR27 2345 320", "00010201  010",
+    ]),
+    "nothing": ([ONE, TWO, LATER], {}, (), [short(ONE), short(TWO), short(LATER)]),
+}  # fmt: skip
+
+
+def try_cases(tally):
+    for name, (legs, changes, words, wanted) in CASES.items():
+        with scratch() as folder:
+            lines = file_of(*legs, leg("ZZ", 99, WAY, "E90", "7"))
+            lines = planned(folder, lines, changes, words)
+            tally.equal(f"a plan: {name}", [*wanted, "00990101  25OCT2627MAR27      7 E90"], body(lines))
+            tally.equal(f"a plan: {name}, counted", numbered([f"{it[:194]}000000" for it in lines]), lines)
+
+
+def try_blocks(tally):
+    """Where zeros fill the last block of five before a trailer they fill it again."""
+    with scratch() as folder:
+        lines = numbered([header(), carrier("ZZ"), ONE, leg("ZZ", 99, WAY, "E90", "7"), ZEROS, trailer("ZZ"), *[ZEROS] * 4])
+        new = planned(folder, lines, {"ZZ1": "E90"})
+        tally.equal("blocks of five", "12" + "3" * 4 + "0" * 4 + "50000", "".join(it[0] for it in new))
+        same = planned(folder, lines, {"ZZ1": "320"})
+        tally.equal("a plan as filed leaves the file as it is", lines, same)
+
+
+def try_ends(tally):
+    """Lines end as they did, and so does the last one."""
+    lines = file_of(ONE, TWO, leg("ZZ", 99, WAY, "E90", "7"))
+    for end in ("\n", "\r\n"):
+        for last in (end, ""):
+            with scratch() as folder:
+                new = planned(folder, lines, {"ZZ1": "E90"})
+                (folder / "season").write_bytes((end.join(lines) + last).encode("ascii"))
+                status, told = call("plan", folder / "season", folder / "day", folder / "new")
+                came = (folder / "new").read_bytes().decode("ascii")
+                tally.equal(f"lines that end with {end!r}, the last with {last!r}", (0, end.join(new) + last), (status, came) if not status else told)
+
+
+def try_carriers(tally):
+    """A second carrier record goes on with serial numbers as it did, from the first one's on or anew."""
+    first, second = carrier("ZZ", "L", ("25OCT26", "29NOV26")), carrier("ZZ", "L", ("30NOV26", "27MAR27"))
+    legs = [leg("ZZ", 1, WAY, "320", "12345", ("30NOV26", "27MAR27")), TWO, leg("ZZ", 99, WAY, "E90", "7")]
+    lines = numbered([header(), first, ONE, trailer("ZZ", "C"), second, *legs, trailer("ZZ")])
+    anew = [*lines[:4], *numbered([header(), second, *legs, trailer("ZZ")])[1:]]
+    for name, own in (("on", lines), ("anew", anew)):
+        with scratch() as folder:
+            new = planned(folder, own, {"ZZ1": "E90"})
+            serials = [int(it[194:]) for it in new]
+            tally.equal(f"serial numbers go {name}", [*range(1, 5), *(range(5, 11) if name == "on" else range(2, 8))], serials)
+            kinds = [short(it) for it in new if it[:9] == "3 ZZ 0001"]
+            wanted = [short(ONE), "00010101  30NOV2630NOV261 E90", "00010201  01DEC2627MAR2712345 320"]
+            tally.equal(f"the carrier of the date is changed alone, {name}", wanted, kinds)
+
+
+def try_hundreds(tally):
+    """More than 99 variations of a flight: the hundreds stand in byte 128 as a letter."""
+    starts = [datetime.date(2026, 10, 26) + datetime.timedelta(it) for it in range(150)]
+    dates = [it.strftime("%d%b%y").upper() for it in starts]
+    legs = [leg("ZZ", 1, WAY, "320", period=(it, it), variation=at, b128="A" if at > 99 else " ") for at, it in enumerate(dates, 1)]
+    long = leg("ZZ", 1, WAY, "E90", "1", period=("26OCT26", "00XXX00"), variation=151, b128="A")
+    with scratch() as folder:
+        new = planned(folder, file_of(*legs, long), {"N1": "320"})
+        came = [it[127] + it[9:11] for it in new if it[0] == "3"]
+        wanted = [(" A"[it // 100]) + f"{it % 100:02}" for it in range(1, 154)]
+        tally.equal("variations beyond 99", wanted, came)
+
+
+def tables_on(file, folder, day, fleets):
+    """Returns the legs and the plan of a day as texts, without their names."""
+    status, told = call("tables", file, folder, "--date", day.isoformat(), "--fleets", fleets)
+    if status:
+        return told
+    legs, plan = records(folder, "legs.csv"), records(folder, "plan.csv")
+    return sorted(f"{leg.split(',', 1)[1]},{fleet.split(',')[1]}" for leg, fleet in zip(legs, plan))
+
+
+def try_draws(tally):
+    """Plans of the example that are drawn: their tables have them again, and all other dates stay."""
+    types = ["223", "320", "333", "E90"]
+    with scratch() as folder:
+        fleets = folder / "fleets"
+        fleets.write_text("fleet,aircraft,turn\n" + "".join(f"{it},99,30\n" for it in types), encoding="ascii")
+        for draw in range(DRAWS):
+            chance = random.Random(draw)
+            first = datetime.date(2026, 11, chance.randrange(20, 30))
+            words = ["--whole-season"] if draw % 2 else []
+            file, day, new = EXAMPLE / "season.ssim", folder / "day", folder / f"new{draw}"
+            call("tables", file, day, "--date", first.isoformat(), "--fleets", fleets)
+            rows = [it.split(",") for it in records(day, "plan.csv")]
+            rows = [(it, chance.choice(types) if chance.random() < 0.4 else kind) for it, kind in rows]
+            plan = "flight,fleet\n" + "".join(f"{it},{kind}\n" for it, kind in rows)
+            (day / "plan.csv").write_text(plan, encoding="ascii")
+            status, told = call("plan", file, day, new, *words)
+            again = call("tables", new, folder / "again", "--date", first.isoformat(), "--fleets", fleets)
+            why = told if status else again[1] if again[0] else None
+            tally.note(f"plan {draw} is written and read", why)
+            came = (folder / "again" / "plan.csv").read_text(encoding="ascii")
+            tally.equal(f"plan {draw} of {first} {words} is that plan again", plan, came)
+            tally.note(f"plan {draw} of {first} {words} leaves other dates", others(folder, file, new, first, bool(words), fleets))
+
+
+def others(folder, file, new, first, is_whole_season, fleets):
+    """Returns on which near date the legs of two files differ that may not, or None."""
+    for shift in NEAR:
+        if not shift % 7 and (is_whole_season or not shift):
+            continue
+        day = first + datetime.timedelta(shift)
+        before, after = (tables_on(it, folder / "other", day, fleets) for it in (file, new))
+        if before != after:
+            return f"{day}: {sorted(set(before) ^ set(after))}"
+    return None
+
+
+def try_refusals(tally):
+    """Files of DIR that don't belong together: one line, and no new file."""
+    for name, line, put in (
+        ("plan.csv", "plan.csv record 2: the flight is ZZ2, it should be ZZ1 as in names.csv", "flight,fleet\nZZ2,320\nZZ1,320\n"),
+        ("plan.csv", "plan.csv has 1 flights, it should have the 2 of names.csv", "flight,fleet\nZZ1,320\n"),
+        ("plan.csv", "plan.csv record 3: the fleet of ZZ2 is A320, it should be an aircraft type of three letters A to Z and digits",
+         "flight,fleet\nZZ1,320\nZZ2,A320\n"),
+        ("plan.csv", "plan.csv is empty, it should begin with flight,fleet", ""),
+        ("names.csv", "names.csv record 2: ZZ 1  01 1 on 2026-11-30 isn't the leg of line 4 of season, it should be the file that the tables are of",
+         "flight,airline,number,suffix,variation,leg,line,operates\nZZ1,ZZ,1,,01,1,4,2026-11-30\nZZ2,ZZ,2,,01,1,4,2026-11-30\n"),
+        ("names.csv", None, None),
+    ):  # fmt: skip
+        with scratch() as folder:
+            planned(folder, file_of(ONE, TWO), {})
+            (folder / "new").unlink()
+            if put is None:
+                (folder / "day" / name).unlink()
+                line = "names.csv can't be read: No such file or directory"
+            else:
+                (folder / "day" / name).write_text(put, encoding="ascii")
+            before = standing(folder)
+            status, told = call("plan", folder / "season", folder / "day", folder / "new")
+            told = told.replace(f"{folder}/", "")
+            came = status, told, standing(folder) == before
+            tally.equal(f"plan: {line}", (7 if put is None else 6, f"ssim: day/{line}\n", True), came)
+    tally.equal("plan --week", (2, "ssim: --week: periods of several days are not there yet\n"), call("plan", "a", "b", "c", "--week"))
+
+
+def try_all(tally):
+    try_cases(tally)
+    try_blocks(tally)
+    try_ends(tally)
+    try_carriers(tally)
+    try_hundreds(tally)
+    try_draws(tally)
+    try_refusals(tally)

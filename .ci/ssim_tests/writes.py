@@ -1,0 +1,120 @@
+"""Writes that fail, and a program that doesn't judge: each file stands whole, as it was or as it should be, and nothing beside it."""
+
+import os
+from unittest import mock
+
+from ssim_tests.trying import EXAMPLE, call, scratch, standing
+
+DATE = "2026-11-30"
+FILE = EXAMPLE / "season.ssim"
+# The files that `tables` writes.
+COUNT = 7
+
+
+def tables(folder, *words, fleets=True):
+    given = ["--fleets", folder / "fleets"] if fleets else []
+    return call("tables", FILE, folder / "day", "--date", DATE, *given, *words)
+
+
+def lay(folder):
+    (folder / "fleets").write_text("fleet,aircraft,turn\n223,9,30\n320,9,30\n333,9,30\nE90,9,30\n", encoding="ascii")
+
+
+def failing(name, number):
+    """Has a call of os fail, that of a number, and those before and behind it not."""
+    real, seen = getattr(os, name), []
+
+    def fails(*words, **more):
+        seen.append(words)
+        if len(seen) == number:
+            raise OSError(28, "No space left on device")
+        return real(*words, **more)
+
+    return mock.patch.object(os, name, fails)
+
+
+def try_failing(tally):
+    """Each step of a write fails once, in a new folder and in one that holds older tables."""
+    steps = [("chmod", it) for it in range(1, COUNT + 1)] + [("replace", it) for it in range(1, COUNT + 1)]
+    for is_new in (True, False):
+        for name, number in [*steps, *([("rename", 1)] if is_new else [])]:
+            with scratch() as folder:
+                lay(folder)
+                if not is_new:
+                    tables(folder, "--types", "E90")
+                before = standing(folder / "day")
+                with failing(name, number):
+                    status, told = tables(folder)
+                after, beside = standing(folder / "day"), [it for it in os.listdir(folder) if it not in ("fleets", "day")]
+                line = f"ssim: {folder}/day can't be written: No space left on device\n"
+                wanted = before
+                if name == "replace" and not is_new:
+                    tables(folder)
+                    whole = standing(folder / "day")
+                    wanted = {it: whole[it] if after[it] == whole[it] else before[it] for it in before}
+                what = f"os.{name} {number} fails{' in a new folder' if is_new else ''}"
+                tally.equal(what, (7, line, wanted, []), (status, told, after, beside))
+
+
+def try_places(tally):
+    """Files and folders that stand where others are to be written."""
+    with scratch() as folder:
+        lay(folder)
+        (folder / "day" / "costs.csv").mkdir(parents=True)
+        before = standing(folder / "day")
+        came = tables(folder)
+        line = f"ssim: {folder}/day/costs.csv can't be written: it is a folder\n"
+        tally.equal("a folder in a table's place", (7, line, before), (*came, standing(folder / "day")))
+    with scratch() as folder:
+        lay(folder)
+        (folder / "day").write_text("mine", encoding="ascii")
+        came = tables(folder)
+        tally.equal("a file in the folder's place", (7, "mine"), (came[0], (folder / "day").read_text(encoding="ascii")))
+    with scratch() as folder:
+        lay(folder)
+        came = call("tables", FILE, folder / "no" / "day", "--date", DATE, "--fleets", folder / "fleets")
+        tally.equal("a folder in no folder", (7, ["fleets"]), (came[0], os.listdir(folder)))
+        tables(folder)
+        came = call("plan", FILE, folder / "day", folder / "day")
+        line = f"ssim: {folder}/day can't be written: it is a folder\n"
+        tally.equal("a folder in the new file's place", (7, line), came)
+        came = call("plan", FILE, folder / "day", folder / "no" / "season")
+        line = f"ssim: {folder}/no/season can't be written: its folder is missing\n"
+        tally.equal("a new file in no folder", (7, line, False), (*came, (folder / "no").exists()))
+        new = folder / "season"
+        new.write_bytes(FILE.read_bytes())
+        came = call("plan", new, folder / "day", new)
+        tally.equal("the new file is the old one", (0, FILE.read_bytes()), (came[0], new.read_bytes()))
+        with failing("replace", 1):
+            came = call("plan", FILE, folder / "day", new)
+        kept = sorted(os.listdir(folder)), new.read_bytes()
+        tally.equal("a new file that can't be put in its place", (7, (["day", "fleets", "season"], FILE.read_bytes())), (came[0], kept))
+
+
+def try_programs(tally):
+    """Programs that don't judge: nothing is written."""
+    for name, text, line in (
+        ("no program", None, "can't be run: No such file or directory"),
+        ("a program that refuses the tables", "echo bad input: legs.csv record 1 kind 1; exit 6",
+         "judge ended with status 6: bad input: legs.csv record 1 kind 1, it should judge the plan as filed"),
+        ("a program that couldn't be built", "echo building >&2; exit 1", "judge ended with status 1, it should judge the plan as filed"),
+        ("a program that forgets fleets", "echo legal: cost 0", "judge ended with status 0: legal: cost 0, it should judge the plan as filed"),
+        ("a program that says something else", "echo legal: cost 0; echo fleet F", "judge ended with status 0: legal: cost 0, it should judge the plan as filed"),
+    ):  # fmt: skip
+        # Where memory holds files programs may not run.
+        with scratch(None) as folder:
+            program = folder / "program"
+            if text:
+                program.write_text(f"#!/bin/sh\n{text}\n", encoding="ascii")
+                program.chmod(0o755)
+            with mock.patch.dict(os.environ, FLEETPLAN=str(program)):
+                status, told = tables(folder, fleets=False)
+            said = "building\n" if "building" in str(text) else ""
+            wanted = 7, f"{said}ssim: {program} {line}\n", None
+            tally.equal(name, wanted, (status, told, standing(folder / "day")))
+
+
+def try_all(tally):
+    try_failing(tally)
+    try_places(tally)
+    try_programs(tally)

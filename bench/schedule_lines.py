@@ -1,0 +1,67 @@
+"""Lines of schedule files (chapter 7 of the Standard Schedules Information Manual), for made airlines. It shares no code with
+tools/schedule_files: it puts texts at bytes."""
+
+LENGTH = 200
+ZEROS = "0" * LENGTH
+SEASON = ("25OCT26", "27MAR27")
+EVERY_DAY = "1234567"
+
+
+def line(*texts):
+    """A line with texts at their first bytes, counted from 1, and blanks between."""
+    row = [" "] * LENGTH
+    for at, text in texts:
+        row[at - 1 : at - 1 + len(text)] = text
+    return "".join(row)
+
+
+def header():
+    return line((1, "1AIRLINE STANDARD SCHEDULE DATA SET"), (41, "1"), (192, "001"))
+
+
+def carrier(airline, mode="L", period=SEASON, season="W26"):
+    return line((1, "2" + mode), (3, airline), (11, season), (15, "".join(period)), (29, "01OCT26"), (36, "MADE SCHEDULE"), (72, "P"))
+
+
+def leg(airline, flight, way, kind, days=EVERY_DAY, period=SEASON, variation=1, sequence=1, service="J", shifts="00", **more):
+    """A leg's record. `way` is a station with its time and its variation from UTC, twice. `more` are texts at bytes, as b149="Z"."""
+    origin, dep, dep_zone, destination, arr, arr_zone = way.split()
+    operates = "".join(it if it in days else " " for it in EVERY_DAY)
+    texts = [
+        (1, "3"), (3, airline), (6, f"{flight:04}"), (10, f"{variation % 100:02}"), (12, f"{sequence:02}"), (14, service), (15, "".join(period)),
+        (29, operates), (37, origin + dep + dep + dep_zone), (55, destination + arr + arr + arr_zone), (73, kind), (76, "CDMY"),
+        (173, "C20Y150"), (193, shifts),
+    ]  # fmt: skip
+    return line(*texts, *((int(at[1:]), text) for at, text in more.items()))
+
+
+def segment(of, element, text):
+    """A record of segment data below the leg's."""
+    return line((1, "4" + of[1:14]), (28, of[127]), (29, "AB"), (31, element), (34, of[36:39] + of[54:57]), (40, text))
+
+
+def trailer(airline, end="E"):
+    return line((1, "5"), (3, airline), (6, "01OCT26"), (194, end))
+
+
+def numbered(lines):
+    """The lines with serial numbers, and the trailers' checks of them."""
+    serial, done = 0, []
+    for it in lines:
+        if it != ZEROS:
+            check = f"{serial:06}{it[193]}" if it[0] == "5" else it[187:194]
+            serial += 1
+            it = f"{it[:187]}{check}{serial:06}"
+        done.append(it)
+    return done
+
+
+def whole(airline, legs, mode="L"):
+    """The lines of a file of one carrier, with zeros that fill its blocks of five."""
+    body = list(legs)
+    fill = [ZEROS] * (-len(body) % 5)
+    return numbered([header(), *[ZEROS] * 4, carrier(airline, mode), *[ZEROS] * 4, *body, *fill, trailer(airline), *[ZEROS] * 4])
+
+
+def text(lines, end="\r\n"):
+    return "".join(it + end for it in lines)

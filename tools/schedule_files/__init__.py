@@ -1,0 +1,14 @@
+"""Schedule files by chapter 7 of IATA's Standard Schedules Information Manual, for tools/ssim: fixed lines of 200 bytes.
+
+layout      which bytes of a line are what, and their forms
+days        dates, times and variations from UTC as the lines write them
+reading     a whole file, each line judged
+selecting   the legs of a date
+naming      their names, and which follow each other as one flight
+costing     what a plan may use, and what it costs, by files of the caller's
+tables      the tables of a folder
+splitting   an itinerary whose aircraft type changes on some of its dates, in parts
+planning    a plan written back into the file
+judging     what the program says of a plan
+files       files read, and written whole
+words       the words of a call"""

@@ -1,0 +1,96 @@
+"""Stations, fleets and costs of the tables, as files of the caller's say or as the schedule file has them."""
+
+from hints.forms import FIELDS, TRILLION, code, name, whole
+from hints.records import HEADERS, Unread
+from schedule_files.files import judged
+from schedule_files.layout import LEG, BadLine
+
+PRICES = ("fleet", "departure", "minute", "longest", "closed")
+TURN = 30
+MOST_AIRCRAFT = 500
+MOST_FLEETS = 20
+
+
+def stations_of(path, schedule, flown):
+    """Returns the records of the stations that occur, by the file of the caller's or by code."""
+    occurs = {}
+    for it in flown:
+        occurs.setdefault(it.leg.origin, (it.leg, "departure station"))
+        occurs.setdefault(it.leg.destination, (it.leg, "arrival station"))
+    if path is None:
+        return [(it, 0, "no") for it in sorted(occurs)]
+    found = judged(path, HEADERS["stations.csv"], FIELDS["stations.csv"])
+    check_all(path, schedule, occurs, {it[0] for it in found})
+    return [it for it in found if it[0] in occurs]
+
+
+def fleets_of(path, schedule, flown):
+    """Returns the records of the fleets: those of the caller's file, or the aircraft types with no count yet."""
+    occurs = {}
+    for it in flown:
+        occurs.setdefault(it.leg.type, (it.leg, "aircraft type"))
+    if path is None:
+        return [(it, None, TURN) for it in sorted(occurs)]
+    found = judged(path, HEADERS["fleets.csv"], FIELDS["fleets.csv"])
+    if len(found) > MOST_FLEETS:
+        raise Unread(f"{path} record {MOST_FLEETS + 2}: {len(found)} fleets, it should be {MOST_FLEETS} at most")
+    check_all(path, schedule, occurs, {it[0] for it in found})
+    return found
+
+
+def check_all(path, schedule, occurs, known):
+    """Refuses a leg whose station or aircraft type a file of the caller's doesn't have."""
+    for text, (leg, field) in sorted(occurs.items(), key=lambda it: it[1][0].number):
+        if text not in known:
+            raise LEG[field].fault(schedule.path, leg.number, schedule.lines[leg.number - 1], f"one of {path}")
+
+
+class Prices:
+    """What a fleet costs: a departure and a minute of block; and where it may not fly."""
+
+    def __init__(self, row):
+        self.departure, self.minute = int(row[1]), int(row[2])
+        self.longest = int(row[3]) if row[3] else None
+        self.closed = frozenset(row[4].split())
+
+    def allows(self, flown):
+        is_closed = flown.leg.origin in self.closed or flown.leg.destination in self.closed
+        return not is_closed and (self.longest is None or flown.block <= self.longest)
+
+    def cost(self, flown):
+        return self.departure + self.minute * flown.block
+
+
+def codes(text):
+    """Says what is wrong with stations that blanks are between, or returns None."""
+    return next((wrong for wrong in map(code, text.split()) if wrong), None)
+
+
+def longest(text):
+    return whole(0, 1439)(text) if text else None
+
+
+def prices_of(path, fleets):
+    """Returns the prices of each fleet by the caller's file."""
+    price = whole(-TRILLION, TRILLION)
+    found = {it[0]: Prices(it) for it in judged(path, PRICES, (name, price, price, longest, codes))}
+    for it, *_ in fleets:
+        if it not in found:
+            raise Unread(f"{path} has no record of {it}, it should have one of each fleet")
+    return found
+
+
+def costs_of(path, schedule, flown, fleets):
+    """Returns the records of costs: by the caller's file, or 0 for each leg with its filed type alone."""
+    if path is None:
+        return [(it.name, it.leg.type, 0) for it in flown]
+    prices, found = prices_of(path, fleets), []
+    for it in flown:
+        for fleet, *_ in fleets:
+            if prices[fleet].allows(it):
+                cost = prices[fleet].cost(it)
+                if abs(cost) > TRILLION:
+                    what = f"{fleet} costs {cost} by {path}"
+                    raise BadLine(schedule.path, it.leg.number, what, "bytes 44 to 61", f"{TRILLION} at most")
+                found.append((it.name, fleet, cost))
+    return found

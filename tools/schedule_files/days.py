@@ -1,0 +1,50 @@
+"""Dates, times and variations from UTC, as the lines of a schedule file write them. A day is a number: that of Python's calendar."""
+
+import datetime
+
+from schedule_files.layout import MONTHS, OPEN_END
+
+DAY = 1440
+# The day of an open end, later than any other.
+OPEN = datetime.date.max.toordinal()
+TIMES = {f"{it // 60:02}{it % 60:02}": it for it in range(DAY + 1)}
+VARIATIONS = {
+    f"{sign}{it // 60:02}{it % 60:02}": it if sign == "+" else -it for it in range(15 * 60) for sign in "+-"
+}
+DATE_VARIATIONS = {" ": 0, "A": -1, **{str(it): it for it in range(8)}}
+
+known_days = {OPEN_END: OPEN}
+
+
+def day_of(text):
+    """Returns the day that DDMMMYY writes, or None where the calendar hasn't it."""
+    if text not in known_days:
+        try:
+            date = datetime.date(2000 + int(text[5:]), MONTHS.index(text[2:5]) + 1, int(text[:2]))
+            known_days[text] = date.toordinal()
+        except ValueError:
+            known_days[text] = None
+    return known_days[text]
+
+
+def text_of(day):
+    """Returns a day as DDMMMYY."""
+    if day == OPEN:
+        return OPEN_END
+    date = datetime.date.fromordinal(day)
+    return f"{date.day:02}{MONTHS[date.month - 1]}{date.year % 100:02}"
+
+
+def weekday_of(day):
+    """Returns 1 for a Monday to 7 for a Sunday."""
+    return (day - 1) % 7 + 1
+
+
+def iso(day):
+    """Returns a day as YYYY-MM-DD."""
+    return datetime.date.fromordinal(day).isoformat()
+
+
+def clock(minute):
+    """Returns a minute of the day as HH:MM."""
+    return f"{minute // 60:02}:{minute % 60:02}"

@@ -1,0 +1,216 @@
+"""A whole schedule file, each of its lines judged."""
+
+from hints.records import Unread
+from schedule_files import layout
+from schedule_files.days import DATE_VARIATIONS, DAY, TIMES, VARIATIONS, day_of, weekday_of
+from schedule_files.layout import LENGTH, ZEROS, BadLine
+
+MOST_RECORDS = 999_999
+# Which record types may stand behind one; 0 are lines of zeros behind the legs, C and E a trailer's end code.
+FOLLOWS = {"": "1", "1": "2", "2": "35", "3": "345", "4": "345", "0": "5", "C": "2", "E": ""}
+WORDS = {
+    "": "no record: the one before is the last trailer's",
+    "1": "1, the header",
+    "2": "2, a carrier",
+    "35": "3, a leg, or 5, the trailer",
+    "5": "5, the trailer, behind lines of zeros",
+    "345": "3, a leg, 4, data of a segment, or 5, the trailer",
+}
+# The segment data of a leg that is flown under another number.
+OPERATIONAL_LEG = "050"
+
+
+class Carrier:
+    """A carrier's part of a file: its time mode, its validity as days, and its legs."""
+
+    def __init__(self, number, line):
+        self.number, self.is_local, self.airline = number, line[1] == "L", line[2:5]
+        self.start, self.end = day_of(line[14:21]), day_of(line[21:28])
+        self.legs = []
+
+    def is_valid(self, day):
+        return self.start <= day <= self.end
+
+
+class Leg:
+    """A leg as its record has it. Its departure and arrival are minutes in UTC, counted from the midnight (in UTC) that begins a date
+    of operation. `number` is that of its line, and `last` that of the last line of its segment data."""
+
+    __slots__ = (
+        "carrier", "number", "last", "suffix", "airline", "flight", "variation", "sequence", "service", "start", "end", "days", "rate",
+        "origin", "destination", "departure", "arrival", "type", "disclosure", "is_duplicate",
+    )  # fmt: skip
+
+    def operates(self, day):
+        """Returns whether a day is a date of operation. The weeks of a rate of 2 are counted from the first day of the period."""
+        if not self.start <= day <= self.end or self.days[weekday_of(day) - 1] == " ":
+            return False
+        return self.rate != "2" or (day - self.start) // 7 % 2 == 0
+
+    @property
+    def name(self):
+        """The flight without a suffix or a variation."""
+        return self.airline, self.flight, self.suffix
+
+    def __str__(self):
+        suffix = "" if self.suffix == " " else self.suffix
+        return f"{self.airline.strip()} {self.flight}{suffix}, variation {self.variation}, leg {self.sequence}"
+
+
+class Schedule:
+    """A schedule file: its path, its lines without their ends, how they end, whether the last one does, and its carriers."""
+
+    def __init__(self, path, data):
+        self.path = path
+        lines = data.decode("latin-1").split("\n")
+        self.is_ended = lines[-1] == ""
+        if self.is_ended:
+            lines.pop()
+        self.end = "\n"
+        if lines and all(it.endswith("\r") for it in lines[: None if self.is_ended else -1]) and lines[0].endswith("\r"):
+            self.end = "\r\n"
+            lines = [it[:-1] if it.endswith("\r") else it for it in lines]
+        self.lines = lines
+        self.carriers = Reader(path, lines).read()
+        self.legs = [it for carrier in self.carriers for it in carrier.legs]
+
+
+class Reader:
+    """Reads the lines of a file one after another. `serial` is that of the last record, and `known` has the line of each leg."""
+
+    def __init__(self, path, lines):
+        self.path, self.lines = path, lines
+        self.serial, self.state, self.carriers, self.known, self.leg = 0, "", [], {}, None
+        self.takes = {"1": self.header, "2": self.carrier, "3": self.leg_record, "4": self.segment, "5": self.trailer}
+
+    def read(self):
+        """Returns the carriers of the file, or raises its first fault."""
+        for number, line in enumerate(self.lines, 1):
+            if len(line) != LENGTH:
+                raise BadLine(self.path, number, f"the line has {len(line)} bytes", f"bytes 1 to {len(line)}", f"{LENGTH} bytes long")
+            if line == ZEROS and self.state:
+                self.state = "0" if self.state in "34" else self.state
+                continue
+            kind = line[0]
+            if kind not in FOLLOWS[self.state]:
+                what = f'record type is "{layout.printed(kind)}"'
+                raise BadLine(self.path, number, what, "byte 1", WORDS[FOLLOWS[self.state]])
+            self.state = kind
+            self.takes[kind](number, line)
+        if self.state != "E":
+            at = len(self.lines) + 1
+            raise BadLine(self.path, at, "the file ends", f"bytes 1 to {LENGTH}", WORDS[FOLLOWS[self.state]])
+        return self.carriers
+
+    def count(self, number, line, may_begin_anew=False):
+        """Judges the serial number of a record, the one after the last, and counts it."""
+        serial = int(line[194:])
+        self.serial += 1
+        if serial == 2 and may_begin_anew:
+            self.serial = 2
+        if serial != self.serial or serial > MOST_RECORDS:
+            raise layout.SERIAL.fault(self.path, number, line, f"{self.serial:06}" if self.serial <= MOST_RECORDS else "999999 at most")
+
+    def day(self, field, number, line):
+        """Returns the day that a field writes."""
+        found = day_of(field.of(line))
+        if found is None:
+            raise field.fault(self.path, number, line, "a day of the calendar")
+        return found
+
+    def period(self, fields, names, number, line):
+        """Judges a first and a last date."""
+        first, last = (fields[it] for it in names)
+        if self.day(first, number, line) > self.day(last, number, line):
+            raise last.fault(self.path, number, line, f"{first.of(line)} or later")
+
+    def header(self, number, line):
+        layout.HEADER.judge(self.path, number, line)
+        self.count(number, line)
+
+    def carrier(self, number, line):
+        layout.CARRIER.judge(self.path, number, line)
+        self.period(layout.CARRIER, ("first date of validity", "last date of validity"), number, line)
+        self.created(layout.CARRIER["creation date"], number, line)
+        if self.carriers and line[2:5] != self.carriers[0].airline:
+            first = self.carriers[0]
+            raise layout.AN_AIRLINE.fault(self.path, number, line, f"{first.airline.strip()} as in line {first.number}")
+        self.count(number, line, bool(self.carriers))
+        self.carriers.append(Carrier(number, line))
+        self.known = {}
+
+    def created(self, field, number, line):
+        if field.of(line).strip():
+            self.day(field, number, line)
+
+    def leg_record(self, number, line):
+        if layout.LEG.form.fullmatch(line) is None:
+            layout.LEG.judge(self.path, number, line)
+        carrier = self.carriers[-1]
+        self.airline(number, line)
+        leg = Leg()
+        leg.carrier, leg.number, leg.last = carrier, number, number
+        leg.suffix, leg.airline, leg.flight = line[1], line[2:5], int(line[5:9])
+        leg.variation, leg.sequence, leg.service = (line[127] + line[9:11].replace(" ", "0")).strip(), int(line[11:13]), line[13]
+        leg.start, leg.end, leg.days, leg.rate = day_of(line[14:21]), day_of(line[21:28]), line[28:35], line[35]
+        if leg.start is None or leg.end is None or leg.start > leg.end:
+            self.period(layout.LEG, ("first date of the period", "last date of the period"), number, line)
+        leg.origin, leg.destination, leg.type = line[36:39], line[54:57], line[72:75]
+        leg.disclosure, leg.is_duplicate = line[148], False
+        leg.departure = DATE_VARIATIONS[line[192]] * DAY + TIMES[line[43:47]]
+        leg.arrival = DATE_VARIATIONS[line[193]] * DAY + TIMES[line[57:61]]
+        if carrier.is_local:
+            leg.departure -= VARIATIONS[line[47:52]]
+            leg.arrival -= VARIATIONS[line[65:70]]
+        self.flown(leg, number, line)
+        key = line[1:5], leg.flight, leg.variation, leg.sequence
+        if self.known.setdefault(key, number) != number:
+            raise BadLine(self.path, number, f"{leg} stands twice", "bytes 2 to 13 and 128", f"another than in line {self.known[key]}")
+        self.count(number, line)
+        carrier.legs.append(leg)
+        self.leg = leg
+
+    def flown(self, leg, number, line):
+        """Judges a leg's way and its time."""
+        if leg.origin == leg.destination:
+            raise layout.LEG["arrival station"].fault(self.path, number, line, "another than the departure station")
+        block = leg.arrival - leg.departure
+        if not 0 < block < DAY:
+            what = f"the leg takes {block} minutes from departure to arrival"
+            raise BadLine(self.path, number, what, "bytes 44 to 52, 58 to 70 and 193 to 194", f"1 to {DAY - 1} minutes")
+
+    def airline(self, number, line):
+        carrier = self.carriers[-1]
+        if line[2:5] != carrier.airline:
+            raise layout.AN_AIRLINE.fault(self.path, number, line, f"{carrier.airline.strip()} as in line {carrier.number}")
+
+    def segment(self, number, line):
+        if layout.SEGMENT.form.fullmatch(line) is None:
+            layout.SEGMENT.judge(self.path, number, line)
+        of = self.lines[self.leg.number - 1]
+        if line[1:14] != of[1:14] and line[1:14].replace(" ", "0") != of[1:14].replace(" ", "0"):
+            what = f'the flight and its leg are "{layout.printed(line[1:14])}"'
+            raise BadLine(self.path, number, what, "bytes 2 to 14", f'"{of[1:14]}" as in line {self.leg.number}')
+        if line[27] != of[127]:
+            field = layout.SEGMENT["itinerary variation overflow"]
+            raise field.fault(self.path, number, line, f'"{of[127]}" as in line {self.leg.number}')
+        self.count(number, line)
+        self.leg.last = number
+        self.leg.is_duplicate |= line[30:33] == OPERATIONAL_LEG
+
+    def trailer(self, number, line):
+        layout.TRAILER.judge(self.path, number, line)
+        self.airline(number, line)
+        self.created(layout.TRAILER["release date"], number, line)
+        if int(line[187:193]) != self.serial:
+            field = layout.TRAILER["serial number check"]
+            raise field.fault(self.path, number, line, f"{self.serial:06}, the last serial number before it")
+        self.count(number, line)
+        self.state = line[193]
+
+
+def read_schedule(path, data):
+    """Returns the schedule that the bytes of a file hold, or raises its first fault."""
+    if not data:
+        raise Unread(f"{path} line 1: the file is empty (bytes 1 to {LENGTH}), it should be {WORDS['1']}")
+    return Schedule(path, data)

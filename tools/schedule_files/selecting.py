@@ -1,0 +1,87 @@
+"""The legs that depart on a date in UTC, and how many are left out for which reason."""
+
+from collections import Counter
+
+from hints.records import Unread
+from schedule_files.days import DAY, iso
+
+# Service types of surface vehicles, and the codes of such vehicles where aircraft types stand.
+SURFACE_SERVICES = frozenset("UV")
+SURFACE_TYPES = frozenset(("BUS", "LCH", "LMO", "RFS", "TRN"))
+ELSEWHERE = "flown under another number (segment data 050)"
+DISCLOSED = "operated by another airline (byte 149)"
+SURFACE = "by surface (--surface keeps them)"
+SEASON = "of another season, by their carrier record"
+UNASKED = {"services": "of another service type", "types": "of another aircraft type", "stations": "to or from another station"}
+MOST_LEGS = 1000
+MOST_STATIONS = 200
+MOST_FLEETS = 20
+# How many counts of a smaller set are told.
+TOLD = 6
+
+
+class Flown:
+    """A leg on one of its dates of operation: the minute of the day in UTC at which it departs, and its block in minutes."""
+
+    def __init__(self, leg, operates):
+        self.leg, self.operates = leg, operates
+        self.minute, self.block = leg.departure % DAY, leg.arrival - leg.departure
+        self.name = None
+
+
+class Choice:
+    """What a call asks for. `services`, `types` and `stations` are sets, or None where all will do."""
+
+    def __init__(self, with_surface=False, services=None, types=None, stations=None):
+        self.with_surface, self.services, self.types, self.stations = with_surface, services, types, stations
+
+    def refused(self, leg):
+        """Returns why a leg is left out, or None."""
+        if leg.is_duplicate:
+            return ELSEWHERE
+        if leg.disclosure != " ":
+            return DISCLOSED
+        if not self.with_surface and (leg.service in SURFACE_SERVICES or leg.type in SURFACE_TYPES):
+            return SURFACE
+        if self.services is not None and leg.service not in self.services:
+            return UNASKED["services"]
+        if self.types is not None and leg.type not in self.types:
+            return UNASKED["types"]
+        if self.stations is not None and not {leg.origin, leg.destination} <= self.stations:
+            return UNASKED["stations"]
+        return None
+
+
+def flown_on(schedule, day, choice):
+    """Returns the legs that depart on a day in UTC, in order of departure, and the counts of those that are left out."""
+    flown, left_out = [], Counter()
+    for leg in schedule.legs:
+        operates = day - leg.departure // DAY
+        if not leg.operates(operates):
+            continue
+        why = choice.refused(leg) if leg.carrier.is_valid(operates) else SEASON
+        if why:
+            left_out[why] += 1
+        else:
+            flown.append(Flown(leg, operates))
+    flown.sort(key=lambda it: (it.minute, it.leg.number))
+    return flown, left_out
+
+
+def check_size(path, day, flown):
+    """Refuses more legs, stations or fleets than tables may have, with the counts that help to ask for fewer."""
+    stations = Counter(code for it in flown for code in (it.leg.origin, it.leg.destination))
+    counts = (("legs", len(flown), MOST_LEGS), ("stations", len(stations), MOST_STATIONS))
+    for what, count, most in (*counts, ("aircraft types", len({it.leg.type for it in flown}), MOST_FLEETS)):
+        if count > most:
+            types, services = (Counter(it) for it in zip(*((it.leg.type, it.leg.service) for it in flown)))
+            ways = (("types", types), ("stations-only", stations), ("service", services))
+            told = "; ".join(f"--{option}: {listed(counter)}" for option, counter in ways)
+            raise Unread(f"{path}: {count:,} {what} on {iso(day)}, and tables have {most:,} at most: ask for fewer ({told})")
+
+
+def listed(counter):
+    """Returns the greatest counts, as `320 in 800 legs`."""
+    most = sorted(counter.items(), key=lambda it: (-it[1], it[0]))
+    rest = f" and {len(most) - TOLD} more" if len(most) > TOLD else ""
+    return ", ".join(f"{name} {count}" for name, count in most[:TOLD]) + rest

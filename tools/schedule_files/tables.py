@@ -1,0 +1,103 @@
+"""The tables of a folder, made of the legs of a date, and what is told of them."""
+
+from collections import Counter
+
+from hints.records import HEADERS
+from schedule_files import costing, judging, naming, selecting
+from schedule_files.days import clock, iso
+from schedule_files.files import table, write_all
+
+NAMES = ("flight", "airline", "number", "suffix", "variation", "leg", "line", "operates")
+
+
+class Sources:
+    """The files of the caller's, each a path or None, and the value of a through pair."""
+
+    def __init__(self, stations=None, fleets=None, costs=None, through_value=0):
+        self.stations, self.fleets, self.costs, self.through_value = stations, fleets, costs, through_value
+
+
+class Day:
+    """The legs of a date with their stations and fleets. Everything that can be refused is judged here, before anything is written."""
+
+    def __init__(self, schedule, day, choice, sources):
+        self.schedule, self.day, self.sources = schedule, day, sources
+        self.flown, self.left_out = selecting.flown_on(schedule, day, choice)
+        selecting.check_size(schedule.path, day, self.flown)
+        naming.name_all(schedule, self.flown)
+        self.stations = costing.stations_of(sources.stations, schedule, self.flown)
+        self.fleets = costing.fleets_of(sources.fleets, schedule, self.flown)
+        self.costs = costing.costs_of(sources.costs, schedule, self.flown, self.fleets)
+        self.throughs = naming.throughs(self.flown)
+        self.unjudged = None
+        if sources.fleets is None:
+            self.count_aircraft()
+
+    def count_aircraft(self):
+        """Gives each fleet as many aircraft as the plan as filed uses, by the program; or as many as a fleet may have."""
+        most = [(fleet, costing.MOST_AIRCRAFT, turn) for fleet, _, turn in self.fleets]
+        asked = {**self.texts(), "fleets.csv": encoded("fleets.csv", most)}
+        asked["costs.csv"] = encoded("costs.csv", costing.costs_of(None, self.schedule, self.flown, most))
+        used, self.unjudged = judging.used_by(asked, [fleet for fleet, *_ in most])
+        self.fleets = most if used is None else [(fleet, used[fleet], turn) for fleet, _, turn in most]
+
+    def texts(self):
+        """Returns the bytes of each file by its name."""
+        records = {
+            "stations.csv": self.stations,
+            "fleets.csv": self.fleets,
+            "legs.csv": [
+                (it.name, it.leg.origin, clock(it.minute), it.leg.destination, clock((it.minute + it.block) % 1440)) for it in self.flown
+            ],
+            "costs.csv": self.costs,
+            "throughs.csv": [(it.name, to.name, self.sources.through_value) for it, to in self.throughs],
+            "plan.csv": [(it.name, it.leg.type) for it in self.flown],
+        }
+        texts = {name: encoded(name, records[name]) for name in records}
+        return {**texts, "names.csv": table(NAMES, [named(it) for it in self.flown]).encode("ascii")}
+
+    def told(self):
+        """Returns what standard error is told, in lines."""
+        stations, types = len(self.stations), len({it.leg.type for it in self.flown})
+        yield f"{len(self.flown)} legs depart on {iso(self.day)} in UTC: {stations} stations, {types} aircraft types"
+        if self.left_out:
+            yield "left out: " + ", ".join(f"{count} {why}" for why, count in self.left_out.items())
+        if self.unjudged:
+            yield f"the plan as filed doesn't say how many aircraft it uses: {self.unjudged}"
+            yield f"so fleets.csv has {costing.MOST_AIRCRAFT} of each: write how many there are, or give --fleets"
+            if self.unjudged.startswith("too many"):
+                yield "no fleet may have more: ask for fewer legs, with --types, --stations-only or --service"
+            yield from self.unbalanced()
+        elif self.sources.fleets is None and self.fleets:
+            yield "aircraft that the plan as filed uses: " + ", ".join(f"{fleet} {count}" for fleet, count, _ in self.fleets)
+        allowed = {(flight, fleet) for flight, fleet, _ in self.costs}
+        lacking = [it.name for it in self.flown if (it.name, it.leg.type) not in allowed]
+        if lacking:
+            yield f"{len(lacking)} legs may not be flown by their filed type by {self.sources.costs}, the first is {lacking[0]}"
+
+    def unbalanced(self):
+        """Tells the aircraft types that don't leave a station as often as they come to it."""
+        more = Counter((it.leg.type, it.leg.destination) for it in self.flown)
+        more.subtract((it.leg.type, it.leg.origin) for it in self.flown)
+        lacks = sorted((*it, count) for it, count in more.items() if count)
+        if lacks:
+            told = ", ".join(f"{fleet} at {station} {count:+}" for fleet, station, count in lacks[: selecting.TOLD])
+            rest = len(lacks) - selecting.TOLD
+            yield f"arrivals less departures: {told}{f' and {rest} more' if rest > 0 else ''}"
+
+
+def encoded(name, records):
+    return table(HEADERS[name], records).encode("ascii")
+
+
+def named(it):
+    """Returns the record of names.csv of a leg."""
+    leg = it.leg
+    return it.name, leg.airline.strip(), leg.flight, leg.suffix.strip(), leg.variation, leg.sequence, leg.number, iso(it.operates)
+
+
+def make_tables(schedule, folder, day, choice, sources):
+    """Writes the tables of a date into a folder, and returns what is told of them."""
+    made = Day(schedule, day, choice, sources)
+    write_all(folder, made.texts())
+    return list(made.told())

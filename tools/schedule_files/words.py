@@ -1,0 +1,121 @@
+"""The words of a call of tools/ssim."""
+
+import datetime
+import re
+
+from hints.forms import TRILLION
+from schedule_files.selecting import Choice
+from schedule_files.tables import Sources
+
+TABLES = {
+    "date": "YYYY-MM-DD",
+    "stations": "FILE",
+    "fleets": "FILE",
+    "costs": "FILE",
+    "types": "T,..",
+    "stations-only": "S,..",
+    "service": "LETTERS",
+    "through-value": "V",
+    "surface": None,
+}
+PLAN = {"whole-season": None}
+
+
+def shown(options):
+    return " ".join(f"[--{name}{f' {form}' if form else ''}]" for name, form in options.items() if name != "date")
+
+
+USAGE = f"""usage: tools/ssim tables FILE DIR --date {TABLES["date"]} {shown(TABLES)}
+       tools/ssim plan FILE DIR NEW {shown(PLAN)}"""
+
+
+class Usage(Exception):
+    """Words that are no call, with what is wrong with them, and what a call looks like where that helps."""
+
+    def __init__(self, text="", has_usage=True):
+        super().__init__("\n".join(([f"ssim: {text}"] if text else []) + ([USAGE] if has_usage else [])))
+
+
+def given(words, options):
+    """Returns the plain words and the values of options."""
+    rest, found, words = [], {}, iter(words)
+    for word in words:
+        name, has_value, value = word[2:].partition("=")
+        if word == "--":
+            rest.extend(words)
+        elif not word.startswith("-") or word == "-":
+            rest.append(word)
+        elif word.startswith("--week"):
+            raise Usage("--week: periods of several days are not there yet", has_usage=False)
+        elif not word.startswith("--") or name not in options:
+            raise Usage(f"{word.partition('=')[0]} is no option")
+        elif name in found:
+            raise Usage(f"--{name} stands twice")
+        elif options[name] is None:
+            if has_value:
+                raise Usage(f"--{name} takes no value")
+            found[name] = True
+        else:
+            found[name] = value if has_value else next(words, "")
+            if not found[name]:
+                raise Usage(f"--{name} wants a value: {options[name]}")
+    return rest, found
+
+
+def day(text):
+    """Returns the day of YYYY-MM-DD, within the century that schedule files know."""
+    if re.fullmatch(r"20[0-9]{2}-[0-9]{2}-[0-9]{2}", text):
+        try:
+            return datetime.date.fromisoformat(text).toordinal()
+        except ValueError:
+            pass
+    raise Usage(f"--date {text}: a day as 2026-11-30 is wanted, of the years 2000 to 2099")
+
+
+def listed(found, name, form):
+    """Returns the set of an option's values between commas, or None where it isn't given."""
+    if name not in found:
+        return None
+    values = frozenset(found[name].split(","))
+    bad = [it for it in sorted(values) if not re.fullmatch(form, it)]
+    if bad:
+        raise Usage(f"--{name} {found[name]}: {bad[0] or 'nothing'} is none of its form")
+    return values
+
+
+class TablesCall:
+    """A call of `tables`: its file, its folder, the day, the choice of legs and the caller's files."""
+
+    def __init__(self, words):
+        rest, found = given(words, TABLES)
+        if len(rest) != 2 or "date" not in found:
+            raise Usage
+        self.path, self.folder = rest
+        self.day = day(found["date"])
+        services = listed(found, "service", "[A-Z]+")
+        services = services and frozenset("".join(services))
+        types, stations = listed(found, "types", "[A-Z0-9]{3}"), listed(found, "stations-only", "[A-Z]{3}")
+        self.choice = Choice("surface" in found, services, types, stations)
+        value = found.get("through-value", "0")
+        if not re.fullmatch("[0-9]{1,20}", value) or int(value) > TRILLION:
+            raise Usage(f"--through-value {value}: a whole number from 0 to {TRILLION} is wanted")
+        self.sources = Sources(found.get("stations"), found.get("fleets"), found.get("costs"), int(value))
+
+
+class PlanCall:
+    """A call of `plan`: its file, its folder, the new file, and whether the whole season is changed."""
+
+    def __init__(self, words):
+        rest, found = given(words, PLAN)
+        if len(rest) != 3:
+            raise Usage
+        self.path, self.folder, self.new = rest
+        self.is_whole_season = "whole-season" in found
+
+
+def read_words(words):
+    """Returns the call that words are, or raises Usage."""
+    calls = {"tables": TablesCall, "plan": PlanCall}
+    if not words or words[0] not in calls:
+        raise Usage
+    return calls[words[0]](words[1:])
