@@ -7,7 +7,7 @@ use crate::pivoting::{Told, rows_of, told};
 use entries::NoMemory;
 use row_store::{Dense, RowStore, Rows, is_problem};
 use simplex_frac::{Outcome, are_right_sides_at_least_0, bases, finish};
-use sparse_store::{Listed, Sparse};
+use sparse_store::Sparse;
 use std::alloc::Global;
 use std::test::Fail;
 
@@ -75,9 +75,7 @@ fn runs_without_a_budget(rt: HostRuntime) -> Result<(), Fail> {
         assert!(rt; are_right_sides_at_least_0(&rows));
         let dense = end_over::<Dense>(rt.alloc(), &rows)?;
         let sparse = end_over::<Sparse>(rt.alloc(), &rows)?;
-        let listed = end_over::<Listed>(rt.alloc(), &rows)?;
         assert_same(&rt, (told(&dense), told(&sparse)), (run.end, run.end));
-        assert_same(&rt, told(&listed), run.end);
     }
     Ok(())
 }
