@@ -53,12 +53,12 @@ pub fn assert_worth<R: Abort>(rt: &R, tables: &Tables, kept: &Kept, prices: &Pri
 const FLOWN: &[Weight] = &[
     Weight {
         leg: 0,
-        fleet: 0,
+        choice: 0,
         weight: 1,
     },
     Weight {
         leg: 1,
-        fleet: 0,
+        choice: 0,
         weight: 1,
     },
 ];
@@ -132,7 +132,7 @@ fn assert_refuted_in<R: Abort + Alloc<A = Global>>(
     let mut kept = Kept::all(tables);
     let undo = kept.narrow(Step {
         leg: 0,
-        fleet: 0,
+        choice: 0,
         yes: true,
     });
     let Some(Lifted { prices, mixed }) = lifted_by(rt.alloc(), tables, &kept, way)? else {

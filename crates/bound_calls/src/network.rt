@@ -101,7 +101,7 @@ fn events_stand_by_minute_readies_first(rt: HostRuntime) -> Result<(), Fail> {
     let seen = events_at(rt.alloc(), &tables, 0, 0)?.ok_or("no fleet")?;
     assert_same(&rt, seen.len(), EVENTS.len());
     for (event, (minute, ready, leg)) in seen.iter().zip(EVENTS) {
-        let told = (event.minute, event.ready, event.leg);
+        let told = (event.minute, event.ready, event.departure);
         assert_same(&rt, told, (*minute, *ready, *leg));
     }
     Ok(())
@@ -195,7 +195,7 @@ fn lines_of_fewer_pairs(rt: HostRuntime) -> Result<(), Fail> {
     let mut kept = Kept::all(&tables);
     kept.narrow(Step {
         leg: 0,
-        fleet: 0,
+        choice: 0,
         yes: true,
     });
     assert_same(&rt, shape_of(rt.alloc(), &tables, &kept)?, (10, 9));

@@ -85,7 +85,7 @@ fn assert_removals<R: Abort + Alloc<A = Global>>(
     assert_same(rt, trims.len(), wanted.len());
     for (trim, (leg, fleet, rents, steps)) in trims.as_slice().iter().zip(wanted) {
         let steps = steps_of(rt.alloc(), *steps)?;
-        assert_same(rt, (trim.leg, trim.fleet), (*leg, *fleet));
+        assert_same(rt, (trim.leg, trim.choice), (*leg, *fleet));
         assert_same(rt, trim.reason.scale, 1);
         assert_same(rt, trim.reason.rents.as_slice(), *rents);
         assert_same(rt, trim.reason.steps.as_slice(), steps.as_slice());
@@ -149,7 +149,7 @@ fn a_pass_goes_on_behind_a_removal(rt: HostRuntime) -> Result<(), Fail> {
     let wanted = [(1, 1), (5, 1), (0, 1)];
     assert_same(&rt, trims.len(), wanted.len());
     for (trim, pair) in trims.as_slice().iter().zip(wanted) {
-        assert_same(&rt, (trim.leg, trim.fleet), pair);
+        assert_same(&rt, (trim.leg, trim.choice), pair);
     }
     Ok(())
 }

@@ -68,8 +68,8 @@ split_is t l f is =
 pub weight_is : (t : Tables) (entry : Weight) → IsWeightOf t entry → IsOfWords (weight_line t entry)
 weight_is t entry is =
     of_words _ _ (written _ _ refl)
-    (All-from_recursion IsWord ((leg_of t entry.leg).flight ∷ (fleet_of t entry.fleet).name ∷ signed_decimal entry.weight ∷ [])
-    (flight_word t entry.leg is.leg, (fleet_word t entry.fleet is.fleet, (signed_word entry.weight, tt))))
+    (All-from_recursion IsWord ((leg_of t entry.leg).flight ∷ (fleet_of t entry.choice).name ∷ signed_decimal entry.weight ∷ [])
+    (flight_word t entry.leg is.leg, (fleet_word t entry.choice is.fleet, (signed_word entry.weight, tt))))
 
 pub scale_is : (scale : ℤ) → IsOfWords (scale_line scale)
 scale_is scale = of_words _ _ (written _ _ refl) (All-from_recursion IsWord (signed_decimal scale ∷ []) (signed_word scale, tt))

@@ -209,7 +209,7 @@ module _ (t : Tables) where
       let named_fleet = there (fleet_named t (word_at words 2)) left UNKNOWN_NAME fleet.value fleet.is in
       subst (λ p. PairWas words p) (ok_same (leg.value, fleet.value) pair fleet.on)
       (record {
-        is = record { leg = leg_known t (word_at words 1) leg.value named_leg; fleet = fleet_known t (word_at words 2) fleet.value named_fleet };
+        is = record { leg = leg_known t (word_at words 1) leg.value named_leg; choice = fleet_known t (word_at words 2) fleet.value named_fleet };
         flight = leg_read t (word_at words 1) leg.value named_leg;
         name = fleet_read t (word_at words 2) fleet.value named_fleet;
       })
@@ -227,7 +227,7 @@ module _ (t : Tables) where
       let pair = goes (pair_at t words.value left) _ made.value weight.on in
       let was = pair_was words.value left pair.value pair.is in
       let number = number_read weight.value (word_at words.value 3) (there (number_in (word_at words.value 3)) left WRONG_NUMBER weight.value weight.is) in
-      let put : Weight = record { leg = pair.value.0; fleet = pair.value.1; weight = weight.value } in
+      let put : Weight = record { leg = pair.value.0; choice = pair.value.1; weight = weight.value } in
       let put_is : put ≡ entry = ok_same put made.value pair.on ∙ back in
       record {
         line_is = line_by left words.value (weight_line t entry) line.line

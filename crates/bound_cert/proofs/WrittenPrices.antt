@@ -258,7 +258,7 @@ module _ (t : Tables) where
   weight_by_words entry left is =
       bound (present (number_in (signed_decimal entry.weight)) left WRONG_NUMBER) entry.weight _
       (here (number_in (signed_decimal entry.weight)) entry.weight left WRONG_NUMBER (number_written entry.weight is.weight))
-      ∙ bound (pair_at t (weight_line t entry) left) (entry.leg, entry.fleet) _ (pair_read entry.leg entry.fleet (weight_line t entry) left is.pair refl refl)
+      ∙ bound (pair_at t (weight_line t entry) left) (entry.leg, entry.choice) _ (pair_read entry.leg entry.choice (weight_line t entry) left is.pair refl refl)
 
   weight_read : (before : Option Weight) (entry : Weight) (rest : Left) → IsWeightInOrder t entry → weight_follows before entry ≡ true → 0 < length rest
       → weight_at t before (joined (weight_line t entry) ∷ rest) ≡ Ok entry

@@ -92,7 +92,7 @@ at_line t step = codes "at" ∷ (fleet_of t step.fleet).name ∷ (station_of t s
 
 -- weight FLIGHT FLEET W
 abbrev pub weight_line : Tables → Weight → Line
-weight_line t entry = codes "weight" ∷ (leg_of t entry.leg).flight ∷ (fleet_of t entry.fleet).name ∷ signed_decimal entry.weight ∷ []
+weight_line t entry = codes "weight" ∷ (leg_of t entry.leg).flight ∷ (fleet_of t entry.choice).name ∷ signed_decimal entry.weight ∷ []
 
 -- end
 abbrev pub end_line : Line

@@ -141,7 +141,7 @@ unfoldable pub weight_by : Tables → List (List ℕ) → Left → Reading Weigh
 weight_by t words left = do
   weight ← present (number_in (word_at words 3)) left WRONG_NUMBER
   pair ← pair_at t words left
-  Ok (record { leg = pair.0; fleet = pair.1; weight = weight })
+  Ok (record { leg = pair.0; choice = pair.1; weight = weight })
 
 -- the same in its order, behind the weight before
 unfoldable pub weight_of : Tables → Option Weight → List (List ℕ) → Left → Reading Weight

@@ -280,7 +280,7 @@ fn weight_by(
 {
     let weight = number_at(alloc, words, 3, left)?;
     let (leg, fleet) = pair_at(tables, known, words, left)?;
-    Ok(Weight { leg, fleet, weight })
+    Ok(Weight { leg, choice: fleet, weight })
 }
 
 /// A leg and a fleet by the second word and the third. Takes no memory.
@@ -307,7 +307,7 @@ fn weight_follows(before: &Option<Weight>, entry: &Weight) -> bool
     match before {
         None => entry.weight != 0,
         Some(before) => {
-            (before.leg < entry.leg || (before.leg == entry.leg && before.fleet < entry.fleet))
+            (before.leg < entry.leg || (before.leg == entry.leg && before.choice < entry.choice))
                 && entry.weight != 0
         }
     }

@@ -88,11 +88,11 @@ fn head_of(
     } else if stands(words, 0, b"open") {
         Ok(open_head(alloc, words, left)?)
     } else if stands(words, 0, b"trim") {
-        let (leg, fleet) = pair_at(tables, known, words, left)?;
-        Ok(Head::Alone(Alone::Trim { leg, fleet }))
+        let (leg, choice) = pair_at(tables, known, words, left)?;
+        Ok(Head::Alone(Alone::Trim { leg, choice }))
     } else {
-        let (leg, fleet) = pair_at(tables, known, words, left)?;
-        Ok(Head::Mixed(Fraction::Split { leg, fleet }))
+        let (leg, choice) = pair_at(tables, known, words, left)?;
+        Ok(Head::Mixed(Fraction::Split { leg, choice }))
     }
 }
 
@@ -171,7 +171,7 @@ fn alone_node(alone: Alone) -> Node
     match alone {
         Alone::Bare { leg } => Node::Bare { leg },
         Alone::Sole => Node::Sole,
-        Alone::Trim { leg, fleet } => Node::Trim { leg, fleet },
+        Alone::Trim { leg, choice } => Node::Trim { leg, choice },
     }
 }
 
@@ -205,9 +205,9 @@ fn mixed_node(fraction: Fraction, prices: Prices, mixed: Mixed) -> Node
 {
     match fraction {
         Fraction::Nodes => Node::Open(prices, Cause::Nodes(mixed)),
-        Fraction::Split { leg, fleet } => Node::Split {
+        Fraction::Split { leg, choice } => Node::Split {
             leg,
-            fleet,
+            choice,
             prices,
             mixed,
         },

@@ -19,7 +19,7 @@ pub enum Alone {
     /// `sole`.
     Sole,
     /// `trim`, of this pair.
-    Trim { leg: u32, fleet: u32 },
+    Trim { leg: u32, choice: u32 },
 }
 
 /// The first line of a leaf of which prices follow.
@@ -43,7 +43,7 @@ pub enum Fraction {
     /// `open nodes`.
     Nodes,
     /// `split`, of this pair.
-    Split { leg: u32, fleet: u32 },
+    Split { leg: u32, choice: u32 },
 }
 
 /// A trim or a split without its children.
@@ -52,12 +52,12 @@ pub enum Inner {
     /// A pair is set aside.
     Trim {
         leg: u32,
-        fleet: u32,
+        choice: u32,
     },
     /// The subproblem is split by a pair.
     Split {
         leg: u32,
-        fleet: u32,
+        choice: u32,
         prices: Prices,
         mixed: Mixed,
     },

@@ -129,15 +129,15 @@ fn place_of(node: Node) -> Place
         Node::Refuted(prices) => Place::Leaf(Tree::Refuted(prices)),
         Node::Priced(prices) => Place::Leaf(Tree::Priced(prices)),
         Node::Open(prices, cause) => Place::Leaf(Tree::Open(prices, cause)),
-        Node::Trim { leg, fleet } => Place::Inner(Inner::Trim { leg, fleet }),
+        Node::Trim { leg, choice } => Place::Inner(Inner::Trim { leg, choice }),
         Node::Split {
             leg,
-            fleet,
+            choice,
             prices,
             mixed,
         } => Place::Inner(Inner::Split {
             leg,
-            fleet,
+            choice,
             prices,
             mixed,
         }),
@@ -173,20 +173,20 @@ fn joined(alloc: Global, inner: Inner, yes: Tree, no: Tree) -> Result<Tree, NoMe
     let yes = Box::new(alloc, yes)?;
     let no = Box::new(alloc, no)?;
     match inner {
-        Inner::Trim { leg, fleet } => Ok(Tree::Trim {
+        Inner::Trim { leg, choice } => Ok(Tree::Trim {
             leg,
-            fleet,
+            choice,
             yes,
             no,
         }),
         Inner::Split {
             leg,
-            fleet,
+            choice,
             prices,
             mixed,
         } => Ok(Tree::Split {
             leg,
-            fleet,
+            choice,
             prices,
             mixed,
             yes,

@@ -110,15 +110,15 @@ fn push_node(
             push_prices(alloc, text, tables, prices)?;
             push_cause(alloc, text, tables, cause)
         }
-        Tree::Trim { leg, fleet, .. } => push_pair(text, tables, b"trim", *leg, *fleet),
+        Tree::Trim { leg, choice, .. } => push_pair(text, tables, b"trim", *leg, *choice),
         Tree::Split {
             leg,
-            fleet,
+            choice,
             prices,
             mixed,
             ..
         } => {
-            push_pair(text, tables, b"split", *leg, *fleet)?;
+            push_pair(text, tables, b"split", *leg, *choice)?;
             push_prices(alloc, text, tables, prices)?;
             push_mixed(alloc, text, tables, mixed)
         }
@@ -273,7 +273,7 @@ fn push_weight(
         b"weight",
         &[
             tables.leg(weight.leg).flight.as_slice(),
-            tables.fleet(weight.fleet).name.as_slice(),
+            tables.fleet(weight.choice).name.as_slice(),
             parts.as_bytes(),
         ],
     )

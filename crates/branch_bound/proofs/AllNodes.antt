@@ -106,15 +106,15 @@ pub all_below : (P : TreeNode → Type 0) → ((d : Domains) (prices : Prices) �
 all_below P refuted trim keeps [] rest whole same all = subst (λ x. All P (nodes_in keeps x)) (sym same) all
 all_below P refuted trim keeps (removal ∷ removals) rest whole (inner, below, is) all =
     subst (λ x. All P (nodes_in keeps x)) (sym is.is)
-    (all_more P _ _ _ (trim keeps (Trim removal.leg removal.fleet is.with_pair is.without) removal.leg removal.fleet is.with_pair is.without refl)
-    (subst (λ x. All P (nodes_in (part keeps removal.leg removal.fleet true) x)) (sym is.yes_is) (all_one P (node (part keeps removal.leg removal.fleet true) (tree.Refuted removal.reason)) (refuted _ removal.reason)))
+    (all_more P _ _ _ (trim keeps (Trim removal.leg removal.choice is.with_pair is.without) removal.leg removal.choice is.with_pair is.without refl)
+    (subst (λ x. All P (nodes_in (part keeps removal.leg removal.choice true) x)) (sym is.yes_is) (all_one P (node (part keeps removal.leg removal.choice true) (tree.Refuted removal.reason)) (refuted _ removal.reason)))
     (subst (λ x. All P (nodes_in (without keeps removal) x)) (sym is.no_is) (all_below P refuted trim (without keeps removal) removals rest inner below all)))
 
 pub any_below : (P : TreeNode → Type 0) (keeps : Domains) (removals : List Removal) (rest whole : Tree) → AreBelow removals rest whole → Any P (nodes_in (kept_after keeps removals) rest) → Any P (nodes_in keeps whole)
 any_below P keeps [] rest whole same any = subst (λ x. Any P (nodes_in keeps x)) (sym same) any
 any_below P keeps (removal ∷ removals) rest whole (inner, below, is) any =
     subst (λ x. Any P (nodes_in keeps x)) (sym is.is)
-    (any_after P _ _ (any_second P (nodes_in (part keeps removal.leg removal.fleet true) is.with_pair.value) _
+    (any_after P _ _ (any_second P (nodes_in (part keeps removal.leg removal.choice true) is.with_pair.value) _
     (subst (λ x. Any P (nodes_in (without keeps removal) x)) (sym is.no_is) (any_below P (without keeps removal) removals rest inner below any))))
 
 -- ---- of a closed tree

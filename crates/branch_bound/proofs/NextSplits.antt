@@ -87,8 +87,8 @@ module _ (t : Tables) (root : Domains) (s : Search) (rank : Rank) (search : IsSe
       by_origin k None from by = tt
       by_origin k (Some origin) from by = record { earlier = from.earlier; pair = by.0 }
 
-  pub pair_known : (pair : Pair) → WaitsWith (λ f. pair ≡ leg_on f.leg f.fleet) (at all rank.number).state → IsPair t (leg_on pair.leg pair.fleet)
-  pair_known pair is = let same : pair ≡ leg_on fraction.leg fraction.fleet = waits_so (λ f. pair ≡ leg_on f.leg f.fleet) is in subst (λ p. IsPair t (leg_on p.leg p.fleet)) (sym same) its_fraction.split.pair
+  pub pair_known : (pair : Pair) → WaitsWith (λ f. pair ≡ leg_on f.leg f.choice) (at all rank.number).state → IsPair t (leg_on pair.leg pair.choice)
+  pair_known pair is = let same : pair ≡ leg_on fraction.leg fraction.choice = waits_so (λ f. pair ≡ leg_on f.leg f.choice) is in subst (λ p. IsPair t (leg_on p.leg p.choice)) (sym same) its_fraction.split.pair
 
   pub allowed : KeepAllowed t (search.chronicle.made rank.number).keeps
   allowed = (search.numbered rank.number ready.within).allowed
@@ -109,11 +109,11 @@ module _ (t : Tables) (root : Domains) (s : Search) (rank : Rank) (search : IsSe
   allowed_there slice kept same is = subst (KeepAllowed t) (sym (keeps_there slice kept same is)) allowed
 
   -- the step into a part
-  pub step_known : (pair : Pair) (step : Step) (taken : Bool) → step ≡ step_into pair taken → WaitsWith (λ f. pair ≡ leg_on f.leg f.fleet) (at all rank.number).state → IsPair t (leg_on step.leg step.fleet)
-  step_known pair step taken same is = subst (λ (x : Step). IsPair t (leg_on x.leg x.fleet)) (sym same) (pair_known pair is)
+  pub step_known : (pair : Pair) (step : Step) (taken : Bool) → step ≡ step_into pair taken → WaitsWith (λ f. pair ≡ leg_on f.leg f.choice) (at all rank.number).state → IsPair t (leg_on step.leg step.choice)
+  step_known pair step taken same is = subst (λ (x : Step). IsPair t (leg_on x.leg x.choice)) (sym same) (pair_known pair is)
 
   -- ---- after the split
-  module _ (middle between after : Search) (pair : Pair) (yes no : State) (first_step second_step : Step) (first_keeps second_keeps : Domains) (pair_is : WaitsWith (λ f. pair ≡ leg_on f.leg f.fleet) (at all rank.number).state)
+  module _ (middle between after : Search) (pair : Pair) (yes no : State) (first_step second_step : Step) (first_keeps second_keeps : Domains) (pair_is : WaitsWith (λ f. pair ≡ leg_on f.leg f.choice) (at all rank.number).state)
       (first_step_is : first_step ≡ step_into pair true) (second_step_is : second_step ≡ step_into pair false) (first_keeps_is : first_keeps ≡ (search.chronicle.made rank.number).keeps) (second_keeps_is : second_keeps ≡ first_keeps)
       (middle_is : middle ≡ record s { best = middle.best }) (between_is : between ≡ record middle { best = between.best })
       (one : WaitsWith (λ f. IsExamined t s.pivots s.best middle.best (narrowed first_keeps first_step) f.prices yes) (at all rank.number).state)
@@ -160,7 +160,7 @@ module _ (t : Tables) (root : Domains) (s : Search) (rank : Rank) (search : IsSe
     grown : HasGrown t root s.pivots between.best (suc (suc (length all))) after.made.items
     grown =
         has_grown t root s.pivots s.best middle.best between.best all after.made.items search.chronicle rank s.waiting.keys fraction pair yes no search.told search.numbered search.right search.singles search.ranks next.least next.below
-        ready.within ready.state_is ready.worth_is (waits_so (λ f. pair ≡ leg_on f.leg f.fleet) pair_is) list_grown first_part second_part
+        ready.within ready.state_is ready.worth_is (waits_so (λ f. pair ≡ leg_on f.leg f.choice) pair_is) list_grown first_part second_part
 
     pub split_search : IsSearch t root after
     split_search = record {

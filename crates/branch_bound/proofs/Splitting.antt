@@ -48,7 +48,7 @@ module _ (t : Tables) (root : Domains) (pivots : ℕ) (best mid after : Option P
     (told : IsTold t best (length all) c) (numbered : (k : ℕ) → k < length all → IsNumbered t root all c k)
     (right : (final : Option ℤ) → IsNoMore (cost_of best) final → (k : ℕ) → k < length all → IsRightAt t pivots final all c k) (singles : (k : ℕ) → k < length all → IsSingle (at all k).state)
     (ranked : AreRanks all ranks) (least : All (IsNoLater rank) ranks) (below : IfSome (cost_of best) (λ cost. rank.worth <ℤ cost)) (within : rank.number < length all)
-    (state_is : (at all rank.number).state ≡ state.Waiting f) (worth_is : f.worth ≡ rank.worth) (pair_is : pair ≡ leg_on f.leg f.fleet) (is : IsGrown all grown rank.number pair yes no)
+    (state_is : (at all rank.number).state ≡ state.Waiting f) (worth_is : f.worth ≡ rank.worth) (pair_is : pair ≡ leg_on f.leg f.choice) (is : IsGrown all grown rank.number pair yes no)
     (one : IsExamined t pivots best mid (narrowed (c.made rank.number).keeps (step_into pair true)) f.prices yes)
     (two : IsExamined t pivots mid after (narrowed (c.made rank.number).keeps (step_into pair false)) f.prices no) where
   abbrev n : ℕ
@@ -62,7 +62,7 @@ module _ (t : Tables) (root : Domains) (pivots : ℕ) (best mid after : Option P
 
   -- ---- the chronicle goes on
   abbrev here : Worked
-  here = record { keeps = keeps; node = node.Split f.leg f.fleet f.prices f.mixed }
+  here = record { keeps = keeps; node = node.Split f.leg f.choice f.prices f.mixed }
 
   abbrev first : Worked
   first = record { keeps = narrowed keeps (step_into pair true); node = node_of yes }
@@ -141,8 +141,8 @@ module _ (t : Tables) (root : Domains) (pivots : ℕ) (best mid after : Option P
   its_worth : (worth : ℤ) → IsCeiling (worth_of t keeps f.prices 1) f.prices.scale worth → worth ≡ f.worth
   its_worth worth rounded = one_ceiling _ _ worth f.worth fraction.split.best.good.proper.scale.some rounded fraction.rounded
 
-  pair_known : IsPair t (leg_on pair.leg pair.fleet)
-  pair_known = subst (λ p. IsPair t (leg_on p.leg p.fleet)) (sym pair_is) fraction.split.pair
+  pair_known : IsPair t (leg_on pair.leg pair.choice)
+  pair_known = subst (λ p. IsPair t (leg_on p.leg p.choice)) (sym pair_is) fraction.split.pair
 
   -- ---- those that wait
   -- another subproblem that waits is behind the one that is next
@@ -185,7 +185,7 @@ module _ (t : Tables) (root : Domains) (pivots : ℕ) (best mid after : Option P
   waited : (j k : ℕ) (worth : ℤ) → j < n → k < n → WaitsAs t (made j).keeps (made j).node (parts j) k worth → WaitsAs t (c.made j).keeps (c.made j).node (c.parts j) k worth
   waited j k worth less early waits = elim (cases_eq j b) [
     | inl same ↦
-        let now : WaitsAs t keeps (node.Split f.leg f.fleet f.prices f.mixed) (parts b) k worth = subst (λ w. WaitsAs t w.keeps w.node (parts b) k worth) made_here (subst (λ i. WaitsAs t (made i).keeps (made i).node (parts i) k worth) same waits) in
+        let now : WaitsAs t keeps (node.Split f.leg f.choice f.prices f.mixed) (parts b) k worth = subst (λ w. WaitsAs t w.keeps w.node (parts b) k worth) made_here (subst (λ i. WaitsAs t (made i).keeps (made i).node (parts i) k worth) same waits) in
         subst (λ i. WaitsAs t (c.made i).keeps (c.made i).node (c.parts i) k worth) (sym same) (subst (λ m. WaitsAs t keeps m (c.parts b) k worth) (sym old_node) now.1)
     | inr other ↦ subst (λ w. WaitsAs t w.keeps w.node (c.parts j) k worth) (made_old j less other) (subst (λ p. WaitsAs t (made j).keeps (made j).node p k worth) (parts_old j other) waits)
   ]
@@ -222,22 +222,22 @@ module _ (t : Tables) (root : Domains) (pivots : ℕ) (best mid after : Option P
   waits_behind j (state.Leaf leaf) worth less other own single waits = absurd (leaf_waits_not t (c.made j).keeps leaf (c.parts j) n worth single waits)
   waits_behind j (state.Waiting g) worth less other own single waits = behind j g worth less other own waits
   waits_behind j (state.Split g) worth less other own single waits =
-      let turn : IsSplitInTurn t n c.made c.found c.parts j g.leg g.fleet g.prices = subst (λ m. IsInTurn t n c.made c.found c.parts j m) ((numbered j less).node ∙ ap node_of own) (told.turns j less) in
+      let turn : IsSplitInTurn t n c.made c.found c.parts j g.leg g.choice g.prices = subst (λ m. IsInTurn t n c.made c.found c.parts j m) ((numbered j less).node ∙ ap node_of own) (told.turns j less) in
       absurd (omega (arith, turn.within, waits.0))
 
   below_now : (x : Option ℤ) → IfSome x (λ cost. rank.worth <ℤ cost) → IsBelowBest t keeps f.prices x
   below_now None less = tt
   below_now (Some x) less = record { least = f.worth; rounded = fraction.rounded; short = omega (arith, ints, less, worth_is) }
 
-  turn_here : IsSplitInTurn t (suc (suc n)) made found parts b f.leg f.fleet f.prices
+  turn_here : IsSplitInTurn t (suc (suc n)) made found parts b f.leg f.choice f.prices
   turn_here =
       let own : (made b).keeps ≡ keeps = ap (λ w. w.keeps) made_here in
-      let step : (taken : Bool) → narrowed keeps (step_into pair taken) ≡ part keeps f.leg f.fleet taken = λ taken. ap (λ p. narrowed keeps (step_into p taken)) pair_is in
+      let step : (taken : Bool) → narrowed keeps (step_into pair taken) ≡ part keeps f.leg f.choice taken = λ taken. ap (λ p. narrowed keeps (step_into p taken)) pair_is in
       record {
         later = omega (arith, parts_here, within);
         within = omega (arith, parts_here);
-        with_pair = ap (λ i. (made i).keeps) parts_here ∙ ap (λ w. w.keeps) made_first ∙ step true ∙ ap (λ d. part d f.leg f.fleet true) (sym own);
-        without = ap (λ i. (made (suc i)).keeps) parts_here ∙ ap (λ w. w.keeps) made_second ∙ step false ∙ ap (λ d. part d f.leg f.fleet false) (sym own);
+        with_pair = ap (λ i. (made i).keeps) parts_here ∙ ap (λ w. w.keeps) made_first ∙ step true ∙ ap (λ d. part d f.leg f.choice true) (sym own);
+        without = ap (λ i. (made (suc i)).keeps) parts_here ∙ ap (λ w. w.keeps) made_second ∙ step false ∙ ap (λ d. part d f.leg f.choice false) (sym own);
         below = subst (λ i. IsBelowBest t (made b).keeps f.prices (best_before found i)) (sym parts_here)
             (subst (λ x. IsBelowBest t (made b).keeps f.prices x) (sym best_now) (subst (λ d. IsBelowBest t d f.prices (cost_of best)) (sym own) (below_now (cost_of best) below)));
         first = λ j worth another before rounded waits.
@@ -249,7 +249,7 @@ module _ (t : Tables) (root : Domains) (pivots : ℕ) (best mid after : Option P
       by_place : (j : ℕ) (worth : ℤ) → j < n → WaitsAs t (made j).keeps (made j).node (parts j) n worth → IsNextBefore f.worth b worth j
       by_place j worth less waits = elim (cases_eq j b) [
         | inl same ↦
-            let now : WaitsAs t keeps (node.Split f.leg f.fleet f.prices f.mixed) (parts b) n worth = subst (λ w. WaitsAs t w.keeps w.node (parts b) n worth) made_here (subst (λ i. WaitsAs t (made i).keeps (made i).node (parts i) n worth) same waits) in
+            let now : WaitsAs t keeps (node.Split f.leg f.choice f.prices f.mixed) (parts b) n worth = subst (λ w. WaitsAs t w.keeps w.node (parts b) n worth) made_here (subst (λ i. WaitsAs t (made i).keeps (made i).node (parts i) n worth) same waits) in
             absurd (omega (arith, now.0, parts_here))
         | inr other ↦
             let old : WaitsAs t (c.made j).keeps (c.made j).node (c.parts j) n worth = subst (λ w. WaitsAs t w.keeps w.node (c.parts j) n worth) (made_old j less other) (subst (λ p. WaitsAs t (made j).keeps (made j).node p n worth) (parts_old j other) waits) in

@@ -68,5 +68,5 @@ later_at t all here origin have within from = subst (λ o. IfSome o (IsLater t h
 pub leg_fits : (t : Tables) (here : ℕ) (origin : Origin) → IsLater t here origin → origin.step.leg < MAX_LEGS
 leg_fits t here origin later = omega (arith, later.pair.leg, t.in_range.legs_fit.few)
 
-pub fleet_fits : (t : Tables) (here : ℕ) (origin : Origin) → IsLater t here origin → origin.step.fleet < MAX_FLEETS
-fleet_fits t here origin later = omega (arith, later.pair.fleet, t.in_range.fleets_fit.few)
+pub fleet_fits : (t : Tables) (here : ℕ) (origin : Origin) → IsLater t here origin → origin.step.choice < MAX_FLEETS
+fleet_fits t here origin later = omega (arith, later.pair.choice, t.in_range.fleets_fit.few)

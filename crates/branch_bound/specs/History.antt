@@ -87,7 +87,7 @@ pub record HasParts (all : List Subproblem) (parts : ℕ → ℕ) (k : ℕ) (pai
 abbrev pub HasItsParts : List Subproblem → (ℕ → ℕ) → ℕ → State → Type 0
 HasItsParts all parts k (state.Leaf leaf) = ⊤
 HasItsParts all parts k (state.Waiting f) = ⊤
-HasItsParts all parts k (state.Split f) = HasParts all parts k (leg_on f.leg f.fleet)
+HasItsParts all parts k (state.Split f) = HasParts all parts k (leg_on f.leg f.choice)
 
 -- a subproblem is linked to what it is a part of, and to its own parts
 pub record IsLinked (all : List Subproblem) (parts : ℕ → ℕ) (k : ℕ) : Type 0 where
@@ -97,7 +97,7 @@ pub record IsLinked (all : List Subproblem) (parts : ℕ → ℕ) (k : ℕ) : Ty
 -- which pairs a subproblem keeps
 abbrev pub KeepsBy : Tables → Domains → (ℕ → Worked) → ℕ → Option Origin → Type 0
 KeepsBy t root made k None = (made k).keeps ≡ root
-KeepsBy t root made k (Some origin) = IsPair t (leg_on origin.step.leg origin.step.fleet) × ((made k).keeps ≡ narrowed (made origin.parent).keeps origin.step)
+KeepsBy t root made k (Some origin) = IsPair t (leg_on origin.step.leg origin.step.choice) × ((made k).keeps ≡ narrowed (made origin.parent).keeps origin.step)
 
 -- the subproblem with a number, in the list and in the chronicle
 pub record IsNumbered (t : Tables) (root : Domains) (all : List Subproblem) (c : Chronicle) (k : ℕ) : Type 0 where
@@ -197,7 +197,7 @@ tree_of_state (state.Split f) = tree.Open f.prices (cause.Nodes f.mixed)
 pub record IsJoined (f : Fraction) (with_pair without : Tree) (joined : State) : Type 0 where
   pub yes_box : Box Tree Global
   pub no_box : Box Tree Global
-  pub is : joined ≡ state.Leaf (Split f.leg f.fleet f.prices f.mixed yes_box no_box)
+  pub is : joined ≡ state.Leaf (Split f.leg f.choice f.prices f.mixed yes_box no_box)
   pub yes_is : yes_box.value ≡ with_pair
   pub no_is : no_box.value ≡ without
 

@@ -19,18 +19,18 @@ at all k = slice_index_or all k nothing
 
 -- the step into a part by a pair
 abbrev pub step_into : Pair → Bool → Step
-step_into pair taken = record { leg = pair.leg; fleet = pair.fleet; yes = taken }
+step_into pair taken = record { leg = pair.leg; choice = pair.choice; yes = taken }
 
 -- a subproblem is split by the pair of a step
 abbrev pub IsSplitBy : Step → State → Type 0
 IsSplitBy step (state.Leaf leaf) = ⊥
 IsSplitBy step (state.Waiting f) = ⊥
-IsSplitBy step (state.Split f) = (step.leg ≡ f.leg) × (step.fleet ≡ f.fleet)
+IsSplitBy step (state.Split f) = (step.leg ≡ f.leg) × (step.choice ≡ f.choice)
 
 -- a part was made after the subproblem that it is a part of, by a step of a pair of the tables
 pub record IsLater (t : Tables) (k : ℕ) (origin : Origin) : Type 0 where
   pub earlier : origin.parent < k
-  pub pair : IsPair t (leg_on origin.step.leg origin.step.fleet)
+  pub pair : IsPair t (leg_on origin.step.leg origin.step.choice)
 
 pub record HaveOrigins (t : Tables) (all : List Subproblem) : Type 0 where
   pub each : (k : ℕ) → k < length all → IfSome (at all k).origin (IsLater t k)

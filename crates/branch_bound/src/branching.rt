@@ -109,7 +109,7 @@ fn split_next(
         search,
         &mut kept,
         number,
-        with(pair.leg, pair.fleet),
+        with(pair.leg, pair.choice),
     )?;
     let no = part(
         alloc,
@@ -117,7 +117,7 @@ fn split_next(
         search,
         &mut kept,
         number,
-        without(pair.leg, pair.fleet),
+        without(pair.leg, pair.choice),
     )?;
     add(search, number, pair, yes, no)
 }
@@ -125,12 +125,12 @@ fn split_next(
 // The pair by which a subproblem that waits is split.
 fn split_pair(subproblem: &Subproblem) -> Pair
     requires { WaitsWith (λ f. ⊤) subproblem.now.state }
-    ensures { WaitsWith (λ f. result ≡ leg_on f.leg f.fleet) subproblem.now.state }
+    ensures { WaitsWith (λ f. result ≡ leg_on f.leg f.choice) subproblem.now.state }
 {
     match &subproblem.state {
         State::Waiting(fraction) => Pair {
             leg: fraction.leg,
-            fleet: fraction.fleet,
+            choice: fraction.choice,
         },
         State::Leaf(_) | State::Split(_) => unreachable!(),
     }
@@ -149,7 +149,7 @@ fn part(
     requires number { number < length search.old.made.items }
     requires waits { WaitsWith (λ f. AreGood tables.now f.prices) (at search.old.made.items number).state }
     requires allowed { KeepAllowed tables.now (kept_by kept.old) }
-    requires pair { IsPair tables.now (leg_on step.leg step.fleet) }
+    requires pair { IsPair tables.now (leg_on step.leg step.choice) }
     ensures same { OnOk result (kept.new ≡ kept.old) }
     ensures search { OnOk result (search.new ≡ record search.old { best = search.new.best }) }
     ensures examined { IfOk result (λ made. WaitsWith (λ f. IsExamined tables.now search.old.pivots search.old.best search.new.best (narrowed (kept_by kept.old) step) f.prices made) (at search.old.made.items number).state) }
@@ -185,8 +185,8 @@ fn add(
     search.splits += 1;
     search.waiting.pop_first();
     split(&mut search.made[number]);
-    put(search, part_of(number, with(pair.leg, pair.fleet)), yes)?;
-    put(search, part_of(number, without(pair.leg, pair.fleet)), no)
+    put(search, part_of(number, with(pair.leg, pair.choice)), yes)?;
+    put(search, part_of(number, without(pair.leg, pair.choice)), no)
 }
 
 fn part_of(parent: usize, step: Step) -> Option<Origin>

@@ -59,7 +59,7 @@ fn joined(alloc: Global, state: State, with_pair: Tree, without: Tree) -> Result
     match state {
         State::Split(fraction) => Ok(State::Leaf(Tree::Split {
             leg: fraction.leg,
-            fleet: fraction.fleet,
+            choice: fraction.choice,
             prices: fraction.prices,
             mixed: fraction.mixed,
             yes: Box::new(alloc, with_pair)?,

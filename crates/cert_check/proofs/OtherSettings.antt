@@ -100,7 +100,7 @@ module _ (s : List Station) (f : List Fleet) (l : List Leg) (c : List PairCost) 
   mixed a b keeps m is = record {
     parts = record { scale = is.parts.scale; each = is.parts.each };
     plan = record {
-      kept = λ p pair. is.plan.kept p (record { leg = pair.leg; fleet = pair.fleet });
+      kept = λ p pair. is.plan.kept p (record { leg = pair.leg; choice = pair.choice });
       cover = is.plan.cover;
       balanced = balanced a b _ is.plan.balanced;
       within = is.plan.within;

@@ -63,7 +63,7 @@ module _ (t : Tables) (a : List ℕ) where
       by_leg l true same = by_taken taken (fleet_at a l == fleet) (e ∙ ap (λ m. fleet_at a m == fleet) (sym (same refl)))
       by_leg l false same = refl
 
-      stays : (l : ℕ) → leaves (record { leg = leg; fleet = fleet; yes = taken }) (pair_at a l) ≡ true
+      stays : (l : ℕ) → leaves (record { leg = leg; choice = fleet; yes = taken }) (pair_at a l) ≡ true
       stays l = by_leg l (l == leg) (λ same. grind (arith, nat_tests))
 
 -- each of two lists

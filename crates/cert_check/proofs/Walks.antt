@@ -139,12 +139,12 @@ module _ (t : Tables) (cost : Option ℤ) (first second : List Node) (before mid
 
 -- both children of a trim or a split
 pub broken_first : (t : Tables) (cost : Option ℤ) (keeps : Domains) (pair : Pair) (with_pair without : Tree) (from to : ℕ) (rule : Rule)
-    → AreBrokenAt t cost (nodes_in (part keeps pair.leg pair.fleet true) with_pair) from to rule → AreBrokenAt t cost (nodes_below keeps pair with_pair without) from to rule
+    → AreBrokenAt t cost (nodes_in (part keeps pair.leg pair.choice true) with_pair) from to rule → AreBrokenAt t cost (nodes_below keeps pair with_pair without) from to rule
 broken_first t cost keeps pair with_pair without from to rule broken = first_broken t cost _ _ from to rule broken
 
 module _ (t : Tables) (cost : Option ℤ) (keeps : Domains) (pair : Pair) (with_pair without : Tree) (before mid after : Reached) where
-  pub both_walked : (found : Option Rule) → IsWalked t cost (part keeps pair.leg pair.fleet true) with_pair before mid None
-      → IsWalked t cost (part keeps pair.leg pair.fleet false) without mid after found → AreBothWalked t cost keeps pair with_pair without before after found
+  pub both_walked : (found : Option Rule) → IsWalked t cost (part keeps pair.leg pair.choice true) with_pair before mid None
+      → IsWalked t cost (part keeps pair.leg pair.choice false) without mid after found → AreBothWalked t cost keeps pair with_pair without before after found
   both_walked None one other =
       both_passed t cost _ _ before mid after _ _ (IsBoundBelow t keeps pair with_pair without) (λ x y yes_is no_is. record { with_pair = x; without = y; yes_is = yes_is; no_is = no_is; lesser = refl }) one other
   both_walked (Some rule) one other = second_broken t cost _ _ before.number mid.number after.number rule one.fine other

@@ -33,7 +33,7 @@ nodes_of t tree = nodes_in (all_pairs t) tree
 -- the nodes below a trim or a split by a pair
 abbrev pub nodes_below : Domains → Pair → Tree → Tree → List Node
 nodes_below keeps pair with_pair without =
-    nodes_in (part keeps pair.leg pair.fleet true) with_pair ++ nodes_in (part keeps pair.leg pair.fleet false) without
+    nodes_in (part keeps pair.leg pair.choice true) with_pair ++ nodes_in (part keeps pair.leg pair.choice false) without
 
 -- the prices of a node that has them
 abbrev pub prices_at : Tree → Option Prices

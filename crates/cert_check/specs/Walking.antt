@@ -53,7 +53,7 @@ IsEntered t cost node before after (Some rule) = AreBrokenAt t cost (node ∷ []
 -- the bound of a trim or a split by a pair
 abbrev pub IsBoundBelow : Tables → Domains → Pair → Tree → Tree → Option ℤ → Type 0
 IsBoundBelow t keeps pair with_pair without bound =
-    IsLesserBound (IsBoundIn t (part keeps pair.leg pair.fleet true) with_pair) (IsBoundIn t (part keeps pair.leg pair.fleet false) without) bound
+    IsLesserBound (IsBoundIn t (part keeps pair.leg pair.choice true) with_pair) (IsBoundIn t (part keeps pair.leg pair.choice false) without) bound
 
 -- what a walk over both children of a trim or a split finds
 abbrev pub AreBothWalked : Tables → Option ℤ → Domains → Pair → Tree → Tree → Reached → Reached → Option Rule → Type 0

@@ -33,7 +33,7 @@ pub(crate) fn is_fraction(tables: &Tables, kept: &Kept, prices: &Prices, mixed: 
 pub(crate) fn is_whole_pair(mixed: &WeightFinder<'_>, leg: u32, fleet: u32) -> bool
     ensures { MatchBool result (IsWholePair mixed.now leg fleet) (¬ (IsWholePair mixed.now leg fleet)) }
 {
-    is_end(mixed.scale(), &mixed.weight(Pair { leg, fleet }))
+    is_end(mixed.scale(), &mixed.weight(Pair { leg, choice: fleet }))
 }
 
 // Whether a weight is 0 or the scale.
@@ -104,7 +104,7 @@ fn leg_cost(tables: &Tables, mixed: &WeightFinder<'_>, leg: u32) -> i128
 {
     let mut sum = 0;
     for fleet in 0..tables.fleet_count() {
-        sum += weighted_cost(tables, mixed, Pair { leg, fleet });
+        sum += weighted_cost(tables, mixed, Pair { leg, choice: fleet });
     }
     sum
 }
@@ -113,7 +113,7 @@ fn leg_cost(tables: &Tables, mixed: &WeightFinder<'_>, leg: u32) -> i128
 fn weighted_cost(tables: &Tables, mixed: &WeightFinder<'_>, pair: Pair) -> i128
     requires parts { AreParts tables.now mixed.now }
     requires pair { IsPair tables.now pair }
-    ensures value { result ≡ weighted_cost tables.now (parts_in mixed.now) pair.leg pair.fleet }
+    ensures value { result ≡ weighted_cost tables.now (parts_in mixed.now) pair.leg pair.choice }
     ensures size { IsUpTo 1 result }
 {
     weight(tables, mixed, pair) * units(tables, pair)

@@ -28,7 +28,7 @@ pub(crate) fn weight_on(tables: &Tables, mixed: &WeightFinder<'_>, leg: u32) -> 
 {
     let mut sum = 0;
     for fleet in 0..tables.fleet_count() {
-        sum += parts(tables, mixed, Pair { leg, fleet });
+        sum += parts(tables, mixed, Pair { leg, choice: fleet });
     }
     sum
 }
@@ -50,7 +50,7 @@ impl Flights for Parted<'_, '_> {
     fn pair(&self, _tables: &Tables, leg: u32) -> Pair {
         Pair {
             leg,
-            fleet: self.fleet,
+            choice: self.fleet,
         }
     }
 

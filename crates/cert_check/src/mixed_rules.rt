@@ -55,7 +55,7 @@ fn has_weights(tables: &Tables, mixed: &WeightFinder<'_>, leg: u32) -> bool
     ensures { MatchBool result (HasWeights tables.now mixed.now leg) (¬ (HasWeights tables.now mixed.now leg)) }
 {
     for fleet in 0..tables.fleet_count() {
-        if !is_weight(mixed.scale(), &mixed.weight(Pair { leg, fleet })) {
+        if !is_weight(mixed.scale(), &mixed.weight(Pair { leg, choice: fleet })) {
             return false;
         }
     }
@@ -89,7 +89,7 @@ fn flies_kept_on(tables: &Tables, kept: &Kept, mixed: &WeightFinder<'_>, leg: u3
     ensures { MatchBool result (FliesKeptOn tables.now (kept_by kept.now) mixed.now leg) (¬ (FliesKeptOn tables.now (kept_by kept.now) mixed.now leg)) }
 {
     for fleet in 0..tables.fleet_count() {
-        if !kept.kept(leg, fleet) && parts(tables, mixed, Pair { leg, fleet }) != 0 {
+        if !kept.kept(leg, fleet) && parts(tables, mixed, Pair { leg, choice: fleet }) != 0 {
             return false;
         }
     }

@@ -193,11 +193,11 @@ fn has_parts(tables: &Tables, kept: &Kept, node: &Tree) -> bool
     match node {
         Tree::Trim {
             leg,
-            fleet,
+            choice: fleet,
             yes,
             no,
         } => kept.kept(*leg, *fleet) && one_ends(tables, kept, *leg, *fleet, yes, no),
-        Tree::Split { leg, fleet, .. } => {
+        Tree::Split { leg, choice: fleet, .. } => {
             kept.kept(*leg, *fleet) && kept.count_on(tables, *leg) != 1
         }
         _ => true,
@@ -221,7 +221,7 @@ fn one_ends(
         kept,
         Step {
             leg,
-            fleet,
+            choice: fleet,
             yes: true,
         },
         with_pair,
@@ -230,7 +230,7 @@ fn one_ends(
         kept,
         Step {
             leg,
-            fleet,
+            choice: fleet,
             yes: false,
         },
         without,
@@ -239,7 +239,7 @@ fn one_ends(
 
 // Whether a child of a trim ends at once, in its part of the subproblem.
 fn ends_at_once(tables: &Tables, kept: &Kept, step: Step, child: &Tree) -> bool
-    requires { IsPair tables.now (leg_on step.leg step.fleet) }
+    requires { IsPair tables.now (leg_on step.leg step.choice) }
     ensures { MatchBool result (EndsAtOnce tables.now (narrowed (kept_by kept.now) step) child.now) (¬ (EndsAtOnce tables.now (narrowed (kept_by kept.now) step) child.now)) }
 {
     match child {
@@ -254,7 +254,7 @@ fn ends_at_once(tables: &Tables, kept: &Kept, step: Step, child: &Tree) -> bool
 // It has the part on the stack, and so is kept out of the walk's own frames.
 #[inline(never)]
 fn is_sole_legal(tables: &Tables, kept: &Kept, step: Step) -> bool
-    requires { IsPair tables.now (leg_on step.leg step.fleet) }
+    requires { IsPair tables.now (leg_on step.leg step.choice) }
     ensures { MatchBool result (IsSoleLegal tables.now (narrowed (kept_by kept.now) step)) (¬ (IsSoleLegal tables.now (narrowed (kept_by kept.now) step))) }
 {
     let mut part = *kept;
@@ -282,7 +282,7 @@ fn has_fraction(tables: &Tables, kept: &Kept, node: &Tree) -> bool
         Tree::Open(prices, cause) => open_fraction(tables, kept, prices, cause),
         Tree::Split {
             leg,
-            fleet,
+            choice: fleet,
             prices,
             mixed,
             ..

@@ -62,13 +62,13 @@ fn seek(tables: &Tables, seeker: &mut Seeker, tree: &Tree) -> bool
     match tree {
         Tree::Trim {
             leg,
-            fleet,
+            choice: fleet,
             yes,
             no,
         } => seek_both(tables, seeker, *leg, *fleet, yes, no),
         Tree::Split {
             leg,
-            fleet,
+            choice: fleet,
             yes,
             no,
             ..
@@ -100,7 +100,7 @@ fn seek_both(
 {
     let yes = Step {
         leg,
-        fleet,
+        choice: fleet,
         yes: true,
     };
     if seek_in_part(tables, seeker, yes, with_pair) {
@@ -108,7 +108,7 @@ fn seek_both(
     }
     let no = Step {
         leg,
-        fleet,
+        choice: fleet,
         yes: false,
     };
     seek_in_part(tables, seeker, no, without)
@@ -117,7 +117,7 @@ fn seek_both(
 /// Seeks it in a child, in its part of the subproblem.
 #[cycle(seek)]
 fn seek_in_part(tables: &Tables, seeker: &mut Seeker, step: Step, child: &Tree) -> bool
-    requires pair { IsPair tables.now (leg_on step.leg step.fleet) }
+    requires pair { IsPair tables.now (leg_on step.leg step.choice) }
     requires known { IsOfTables tables.now child.now }
     requires sound { AreSoundButPriced tables.now (narrowed (kept_by seeker.old.kept) step) child.now }
     ensures kept { seeker.new.kept ≡ seeker.old.kept }

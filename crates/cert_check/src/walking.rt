@@ -39,7 +39,7 @@ pub(crate) fn walk(tables: &Tables, walker: &mut Walker, tree: &Tree) -> Option<
     match tree {
         Tree::Trim {
             leg,
-            fleet,
+            choice: fleet,
             yes,
             no,
         } => match enter(tables, walker, tree) {
@@ -48,7 +48,7 @@ pub(crate) fn walk(tables: &Tables, walker: &mut Walker, tree: &Tree) -> Option<
         },
         Tree::Split {
             leg,
-            fleet,
+            choice: fleet,
             yes,
             no,
             ..
@@ -81,7 +81,7 @@ fn walk_both(
 {
     let yes = Step {
         leg,
-        fleet,
+        choice: fleet,
         yes: true,
     };
     match walk_part(tables, walker, yes, with_pair) {
@@ -89,7 +89,7 @@ fn walk_both(
         None => {
             let no = Step {
                 leg,
-                fleet,
+                choice: fleet,
                 yes: false,
             };
             walk_part(tables, walker, no, without)
@@ -101,7 +101,7 @@ fn walk_both(
 #[cycle(walk)]
 fn walk_part(tables: &Tables, walker: &mut Walker, step: Step, child: &Tree) -> Option<Rule>
     requires tree { IsOfTables tables.now child.now }
-    requires pair { IsPair tables.now (leg_on step.leg step.fleet) }
+    requires pair { IsPair tables.now (leg_on step.leg step.choice) }
     ensures kept { walker.new.kept ≡ walker.old.kept }
     ensures cost { walker.new.cost ≡ walker.old.cost }
     ensures walked { IsWalked tables.now walker.old.cost (narrowed (kept_by walker.old.kept) step) child.now walker.old.reached walker.new.reached result }

@@ -64,7 +64,7 @@ module _ (t : Tables) (keeps : Domains) (prices : Prices) (q k : ℕ) (w : Weigh
   unfolding leg_worth weighted
   at_leg l below =
       let least = weighted_least (λ f. keeps (leg_on l f)) (λ f. pair_worth t prices k (leg_on l f)) (λ f. w (leg_on l f)) (fleets_in t) (pos 0)
-      (λ f lt e. plan.kept (leg_on l f) (record { leg = below; fleet = lt }) e) in
+      (λ f lt e. plan.kept (leg_on l f) (record { leg = below; choice = lt }) e) in
       rw (plan.cover l below) at least
 
   -- a pair's weighted worth, by its cost and its flow

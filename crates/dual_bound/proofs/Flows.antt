@@ -25,8 +25,8 @@ use Rattle.dual_bound.specs.declared.prices.Prices.{Prices}
 -- what a pair adds to the worth beside its cost
 abbrev pub flow_worth : Tables → Prices → Pair → ℤ
 flow_worth t prices p =
-    (price_of prices p.fleet (leg_of t p.leg).from (departure t p) -ℤ price_of prices p.fleet (leg_of t p.leg).to (ready_minute t p))
-    +ℤ (rent_of prices p.fleet *ℤ pos (laps_of t p))
+    (price_of prices p.choice (leg_of t p.leg).from (departure t p) -ℤ price_of prices p.choice (leg_of t p.leg).to (ready_minute t p))
+    +ℤ (rent_of prices p.choice *ℤ pos (laps_of t p))
 
 -- at the end of the period, where what comes is what leaves
 at_the_end : (need count : ℕ) (out back first last rent : ℤ) → first ≤ℤ (last +ℤ rent)

@@ -61,7 +61,7 @@ pub one_as_five : (z : ℤ) → IsUpTo 1 z → IsUpTo 5 (held z)
 one_as_five z small = five_held z (record { no_less = omega (arith, ints); no_more = omega (arith, ints) })
 
 -- the cost alone, where rent and prices are 0
-pub idle_worth : (t : Tables) (prices : Prices) (k : ℕ) (p : Pair) (s z : ℤ) → IsIdle prices p.fleet → s ≡ prices.scale → z ≡ pos k *ℤ s *ℤ cost_units t p → IsUpTo 1 z → held z ≡ pair_worth t prices k p
+pub idle_worth : (t : Tables) (prices : Prices) (k : ℕ) (p : Pair) (s z : ℤ) → IsIdle prices p.choice → s ≡ prices.scale → z ≡ pos k *ℤ s *ℤ cost_units t p → IsUpTo 1 z → held z ≡ pair_worth t prices k p
 idle_worth t prices k p s z none scale is small =
     worth_held 1 z _ small (omega arith) (is ∙ ap (λ y. pos k *ℤ y *ℤ cost_units t p) scale)
     ∙ added (pos k *ℤ prices.scale *ℤ cost_units t p) _ _ _ (pos (laps_of t p)) (none.each (leg_of t p.leg).from (departure t p)) (none.each (leg_of t p.leg).to (ready_minute t p)) none.rent

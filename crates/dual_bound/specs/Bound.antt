@@ -36,7 +36,7 @@ pub record IsLesserBound (yes_has no_has : Option ℤ → Type 0) (bound : Optio
 
 -- a subproblem's part in which a leg takes a fleet, and the part in which it takes another
 abbrev pub part : Domains → ℕ → ℕ → Bool → Domains
-part keeps leg fleet kept = narrowed keeps (record { leg = leg; fleet = fleet; yes = kept })
+part keeps leg fleet kept = narrowed keeps (record { leg = leg; choice = fleet; yes = kept })
 
 -- the least bound of a tree's leaves in their subproblems, and nothing where no leaf has one
 abbrev pub IsBoundIn : Tables → Domains → Tree → Option ℤ → Type 0

@@ -6,7 +6,7 @@ use Rattle.dual_bound.specs.declared.mixed.Weight.{Weight}
 
 -- the entry is the pair's
 abbrev pub is_weight_of : Pair → Weight → Bool
-is_weight_of p entry = (entry.leg == p.leg) && (entry.fleet == p.fleet)
+is_weight_of p entry = (entry.leg == p.leg) && (entry.choice == p.choice)
 
 -- the weight after entries, from a weight before them: what the pair's last entry says
 unfoldable pub weight_after : ℤ → List Weight → Pair → ℤ

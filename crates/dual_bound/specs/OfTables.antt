@@ -22,7 +22,7 @@ ArePricesOf t prices = All (IsStepOf t) prices.steps
 
 -- a weight of a leg on a fleet of the tables
 abbrev pub IsWeightOf : Tables → Weight → Type 0
-IsWeightOf t weight = IsPair t (leg_on weight.leg weight.fleet)
+IsWeightOf t weight = IsPair t (leg_on weight.leg weight.choice)
 
 -- all weights of a fractional assignment are of the tables
 abbrev pub IsMixedOf : Tables → Mixed → Type 0

@@ -23,4 +23,4 @@ step_follows (Some before) step =
 abbrev pub weight_follows : Option Weight → Weight → Bool
 weight_follows None entry = not (int_eq entry.weight (pos 0))
 weight_follows (Some before) entry =
-    (nat_lt before.leg entry.leg || ((before.leg == entry.leg) && nat_lt before.fleet entry.fleet)) && not (int_eq entry.weight (pos 0))
+    (nat_lt before.leg entry.leg || ((before.leg == entry.leg) && nat_lt before.choice entry.choice)) && not (int_eq entry.weight (pos 0))

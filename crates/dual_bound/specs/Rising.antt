@@ -11,7 +11,7 @@ abbrev pub no_step : PriceStep
 no_step = record { fleet = 0; station = 0; minute = 0; value = pos 0 }
 
 abbrev pub no_weight : Weight
-no_weight = record { leg = 0; fleet = 0; weight = pos 0 }
+no_weight = record { leg = 0; choice = 0; weight = pos 0 }
 
 -- a step comes before another: by fleet, then station, then minute
 abbrev pub step_before : PriceStep → PriceStep → Bool
@@ -68,7 +68,7 @@ pub record AreOfOthers (steps : List PriceStep) (f : ℕ) : Type 0 where
 
 -- a weight is of a pair or of one before it: by leg, then fleet
 abbrev pub is_weight_by : Pair → Weight → Bool
-is_weight_by p entry = nat_lt entry.leg p.leg || ((entry.leg == p.leg) && nat_le entry.fleet p.fleet)
+is_weight_by p entry = nat_lt entry.leg p.leg || ((entry.leg == p.leg) && nat_le entry.choice p.choice)
 
 -- a place that parts weights by a pair: those before it are of it or of one before it, those from it on are not
 pub record IsPairParting (weights : List Weight) (p : Pair) (place : ℕ) : Type 0 where
@@ -78,7 +78,7 @@ pub record IsPairParting (weights : List Weight) (p : Pair) (place : ℕ) : Type
 
 -- the weight of a pair by the entry before a place: its weight where it is the pair's, else 0, and 0 at the first place
 abbrev pub weight_of_entry : Weight → Pair → ℤ
-weight_of_entry entry p = if (entry.leg == p.leg) && (entry.fleet == p.fleet) then entry.weight else pos 0
+weight_of_entry entry p = if (entry.leg == p.leg) && (entry.choice == p.choice) then entry.weight else pos 0
 
 abbrev pub weight_before_place : List Weight → ℕ → Pair → ℤ
 weight_before_place weights place p = if place == 0 then pos 0 else weight_of_entry (slice_index_or weights (place - 1) no_weight) p

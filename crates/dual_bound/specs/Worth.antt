@@ -30,8 +30,8 @@ cost_units t p = unwrap_or (cost_of t p) (pos 0)
 abbrev pub pair_worth : Tables → Prices → ℕ → Pair → ℤ
 pair_worth t prices k p =
     (pos k *ℤ prices.scale *ℤ cost_units t p)
-    +ℤ (price_of prices p.fleet (leg_of t p.leg).from (departure t p) -ℤ price_of prices p.fleet (leg_of t p.leg).to (ready_minute t p))
-    +ℤ (rent_of prices p.fleet *ℤ pos (laps_of t p))
+    +ℤ (price_of prices p.choice (leg_of t p.leg).from (departure t p) -ℤ price_of prices p.choice (leg_of t p.leg).to (ready_minute t p))
+    +ℤ (rent_of prices p.choice *ℤ pos (laps_of t p))
 
 -- the least such cost of a leg's kept pairs
 unfoldable pub leg_worth : Tables → Domains → Prices → ℕ → ℕ → ℤ

@@ -65,7 +65,7 @@ pub record ArePricesInOrder (t : Tables) (prices : Prices) : Type 0 where
 
 -- a weight of a leg on a fleet of the tables
 pub record IsWeightInOrder (t : Tables) (entry : Weight) : Type 0 where
-  pub pair : IsPair t (leg_on entry.leg entry.fleet)
+  pub pair : IsPair t (leg_on entry.leg entry.choice)
   pub weight : IsFigure entry.weight
 
 -- each weight may follow the one before it: it isn't 0, and its pair comes later, by leg and then by fleet

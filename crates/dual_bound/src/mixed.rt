@@ -10,7 +10,7 @@ pub struct Weight {
     /// The leg, by its number.
     pub leg: u32,
     /// The fleet, by its number.
-    pub fleet: u32,
+    pub choice: u32,
     /// How many parts.
     pub weight: i128,
 }
@@ -40,7 +40,7 @@ pub(crate) fn last_weight(weights: &[Weight], pair: Pair) -> i128
 {
     let mut last = 0;
     for weight in weights {
-        if weight.leg == pair.leg && weight.fleet == pair.fleet {
+        if weight.leg == pair.leg && weight.choice == pair.choice {
             last = weight.weight;
         }
     }

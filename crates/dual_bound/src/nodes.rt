@@ -20,12 +20,12 @@ pub enum Node {
     /// A pair is set aside.
     Trim {
         leg: u32,
-        fleet: u32,
+        choice: u32,
     },
     /// The subproblem is split by a pair.
     Split {
         leg: u32,
-        fleet: u32,
+        choice: u32,
         prices: Prices,
         mixed: Mixed,
     },

@@ -27,7 +27,7 @@ pub(crate) fn bisect_weights(weights: &[Weight], pair: Pair) -> i128
 fn comes_before(a: &Weight, b: &Weight) -> bool
     ensures { result ≡ weight_before a.now b.now }
 {
-    a.leg < b.leg || a.leg == b.leg && a.fleet < b.fleet
+    a.leg < b.leg || a.leg == b.leg && a.choice < b.choice
 }
 
 // How many of the weights that rise are of a pair or of one before it.
@@ -42,7 +42,7 @@ fn parting(weights: &[Weight], pair: Pair) -> usize
 fn is_by(weight: &Weight, pair: Pair) -> bool
     ensures { result ≡ is_weight_by pair weight.now }
 {
-    weight.leg < pair.leg || weight.leg == pair.leg && weight.fleet <= pair.fleet
+    weight.leg < pair.leg || weight.leg == pair.leg && weight.choice <= pair.choice
 }
 
 // The weight of a pair by the entry before a place: its weight where it is the pair's, and else 0.
@@ -60,7 +60,7 @@ fn weight_before(weights: &[Weight], place: usize, pair: Pair) -> i128
 fn weight_of(weight: &Weight, pair: Pair) -> i128
     ensures { result ≡ weight_of_entry weight.now pair }
 {
-    if weight.leg == pair.leg && weight.fleet == pair.fleet {
+    if weight.leg == pair.leg && weight.choice == pair.choice {
         weight.weight
     } else {
         0

@@ -56,7 +56,7 @@ pub enum Tree {
         /// The leg, by its number.
         leg: u32,
         /// The fleet, by its number.
-        fleet: u32,
+        choice: u32,
         /// The part in which the fleet flies the leg.
         yes: Box<Tree>,
         /// The part in which it doesn't.
@@ -67,7 +67,7 @@ pub enum Tree {
         /// The leg, by its number.
         leg: u32,
         /// The fleet, by its number.
-        fleet: u32,
+        choice: u32,
         /// The prices of the subproblem.
         prices: Prices,
         /// The fractional assignment of the subproblem.
@@ -91,13 +91,13 @@ impl Drop for Tree {
                 Tree::Open(_, _) => return,
                 Tree::Trim {
                     leg: _,
-                    fleet: _,
+                    choice: _,
                     yes,
                     no,
                 } => self = without_parent(yes, no),
                 Tree::Split {
                     leg: _,
-                    fleet: _,
+                    choice: _,
                     prices: _,
                     mixed: _,
                     yes,
@@ -118,7 +118,7 @@ fn without_parent(yes: Box<Tree>, no: Box<Tree>) -> Tree
     if exchange(&mut first, &mut second) {
         Tree::Trim {
             leg: 0,
-            fleet: 0,
+            choice: 0,
             yes: second,
             no: first,
         }
@@ -158,13 +158,13 @@ impl Tree {
             Tree::Open(_, _) => {}
             Tree::Trim {
                 leg: _,
-                fleet: _,
+                choice: _,
                 yes: _yes,
                 no: _no,
             } => unreachable!(),
             Tree::Split {
                 leg: _,
-                fleet: _,
+                choice: _,
                 prices: _,
                 mixed: _,
                 yes: _yes,

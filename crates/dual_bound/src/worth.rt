@@ -59,7 +59,7 @@ fn leg_worth(tables: &Tables, kept: &Kept, prices: &PriceFinder<'_>, k: u8, leg:
     let mut least = None;
     for fleet in 0..tables.fleet_count() {
         if kept.kept(leg, fleet) {
-            let worth = pair_worth(tables, prices, k, Pair { leg, fleet });
+            let worth = pair_worth(tables, prices, k, Pair { leg, choice: fleet });
             least = Some(lesser(&least, &worth));
         }
     }
@@ -85,7 +85,7 @@ fn pair_worth(tables: &Tables, prices: &PriceFinder<'_>, k: u8, pair: Pair) -> i
     ensures value { result ≡ pair_worth tables.now prices.now k pair }
     ensures size { IsUpTo 5 result }
 {
-    if prices.is_idle(pair.fleet) {
+    if prices.is_idle(pair.choice) {
         return scaled_cost(tables, prices.scale(), k, pair);
     }
     priced_worth(tables, prices, k, pair)
@@ -130,14 +130,14 @@ fn cost_units(tables: &Tables, pair: Pair) -> i128
 fn price_fall(tables: &Tables, prices: &PriceFinder<'_>, pair: Pair) -> i128
     requires within { AreWithin tables.now prices.now }
     requires pair { IsPair tables.now pair }
-    ensures value { result ≡ price_of prices.now pair.fleet (leg_of tables.now pair.leg).from (departure tables.now pair)
-        -ℤ price_of prices.now pair.fleet (leg_of tables.now pair.leg).to (ready_minute tables.now pair) }
+    ensures value { result ≡ price_of prices.now pair.choice (leg_of tables.now pair.leg).from (departure tables.now pair)
+        -ℤ price_of prices.now pair.choice (leg_of tables.now pair.leg).to (ready_minute tables.now pair) }
     ensures size { IsUpTo 2 result }
 {
     let flown = tables.leg(pair.leg);
-    let back = ready(tables, pair.leg, pair.fleet);
-    price(tables, prices, pair.fleet, flown.from, flown.dep)
-        - price(tables, prices, pair.fleet, flown.to, back)
+    let back = ready(tables, pair.leg, pair.choice);
+    price(tables, prices, pair.choice, flown.from, flown.dep)
+        - price(tables, prices, pair.choice, flown.to, back)
 }
 
 // A price, with its size.
@@ -166,10 +166,10 @@ fn rent(tables: &Tables, prices: &PriceFinder<'_>, fleet: u32) -> i128
 fn lap_rents(tables: &Tables, prices: &PriceFinder<'_>, pair: Pair) -> i128
     requires within { AreWithin tables.now prices.now }
     requires pair { IsPair tables.now pair }
-    ensures value { result ≡ rent_of prices.now pair.fleet *ℤ pos (laps_of tables.now pair) }
+    ensures value { result ≡ rent_of prices.now pair.choice *ℤ pos (laps_of tables.now pair) }
     ensures size { IsUpTo 2 result }
 {
-    rent(tables, prices, pair.fleet) * i128::from(laps(tables, pair.leg, pair.fleet))
+    rent(tables, prices, pair.choice) * i128::from(laps(tables, pair.leg, pair.choice))
 }
 
 // The rents of all aircraft.

@@ -55,7 +55,7 @@ fn is_of_tables(tables: &Tables, tree: &Tree) -> bool
         Tree::Open(prices, cause) => are_prices_of(tables, prices) && is_cause_of(tables, cause),
         Tree::Trim {
             leg,
-            fleet,
+            choice: fleet,
             yes,
             no,
         } => {
@@ -66,7 +66,7 @@ fn is_of_tables(tables: &Tables, tree: &Tree) -> bool
         }
         Tree::Split {
             leg,
-            fleet,
+            choice: fleet,
             prices,
             mixed,
             yes,
@@ -117,7 +117,7 @@ fn is_mixed_of(tables: &Tables, mixed: &Mixed) -> bool
 fn is_weight_of(tables: &Tables, weight: &Weight) -> bool
     ensures { MatchBool result (IsWeightOf tables.now weight.now) (¬ (IsWeightOf tables.now weight.now)) }
 {
-    weight.leg < tables.leg_count() && weight.fleet < tables.fleet_count()
+    weight.leg < tables.leg_count() && weight.choice < tables.fleet_count()
 }
 
 /// Whether all that a cause names is of the tables.
@@ -173,12 +173,12 @@ fn mixed(alloc: Global, scale: i128, legs: u32, weights: [i128; 2]) -> Result<Mi
     for leg in 0..legs {
         entries.push(Weight {
             leg,
-            fleet: 0,
+            choice: 0,
             weight: weights[0],
         })?;
         entries.push(Weight {
             leg,
-            fleet: 1,
+            choice: 1,
             weight: weights[1],
         })?;
     }
@@ -319,7 +319,7 @@ fn a_pair_set_aside_without_a_reason(rt: HostRuntime) -> Result<(), Fail> {
 fn trim(alloc: Global, yes: Tree, no: Tree) -> Result<Tree, NoMemory> {
     Ok(Tree::Trim {
         leg: 0,
-        fleet: 1,
+        choice: 1,
         yes: Box::new(alloc, yes)?,
         no: Box::new(alloc, no)?,
     })
@@ -353,7 +353,7 @@ fn split(alloc: Global, yes: Tree, cause: Cause) -> Result<Tree, NoMemory> {
     let no = Tree::Open(Prices::zero(alloc), cause);
     Ok(Tree::Split {
         leg: 0,
-        fleet: 0,
+        choice: 0,
         prices: Prices::zero(alloc),
         mixed: mixed(alloc, 2, 6, [1, 1])?,
         yes: Box::new(alloc, yes)?,

@@ -88,11 +88,11 @@ fn costs_are_found_in_any_order(rt: HostRuntime) -> Result<(), Fail> {
         for (leg, fleet, cost) in RISING {
             let pair = Pair {
                 leg: *leg,
-                fleet: *fleet,
+                choice: *fleet,
             };
             assert_same(&rt, costs.get(pair), Some(*cost));
         }
-        assert_same(&rt, costs.get(Pair { leg: 2, fleet: 0 }), None);
+        assert_same(&rt, costs.get(Pair { leg: 2, choice: 0 }), None);
         assert_same(&rt, costs.as_slice(), entries.as_slice());
     }
     Ok(())

@@ -67,9 +67,9 @@ fn a_round_trip_reads_as_its_parts(rt: HostRuntime) -> Result<(), Fail> {
 fn a_round_trip_reads_as_its_costs(rt: HostRuntime) -> Result<(), Fail> {
     let tables = read(rt.alloc(), &ROUND_TRIP)?;
     for (leg, fleet, cost) in [(0, 0, 100), (0, 1, 80), (1, 0, 100), (1, 1, 130)] {
-        assert_same(&rt, tables.cost(Pair { leg, fleet }), Some(cost));
+        assert_same(&rt, tables.cost(Pair { leg, choice: fleet }), Some(cost));
     }
-    assert_same(&rt, tables.cost(Pair { leg: 2, fleet: 0 }), None);
+    assert_same(&rt, tables.cost(Pair { leg: 2, choice: 0 }), None);
     assert!(rt; tables.throughs.is_empty());
     assert_same(&rt, tables.settings, starting(0));
     Ok(())

@@ -58,7 +58,7 @@ fn ends_of(tables: &Tables, kept: &Kept) -> Ends {
 fn seen_after(tables: &Tables, kept: &mut Kept, step: Step) -> Option<(Pairs, Ends)>
     ensures taken_back { kept.new ≡ kept.old }
 {
-    if step.leg as usize >= MAX_LEGS || step.fleet as usize >= MAX_FLEETS {
+    if step.leg as usize >= MAX_LEGS || step.choice as usize >= MAX_FLEETS {
         return None;
     }
     let undo = kept.narrow(step);
@@ -116,7 +116,7 @@ fn steps_are_taken_and_taken_back(rt: HostRuntime) -> Result<(), Fail> {
         (1, 1, true, [[true, true], [false, false]], Some(1), None),
     ];
     for (leg, fleet, yes, left, bare_leg, sole) in cases {
-        let seen = seen_after(&tables, &mut kept, Step { leg, fleet, yes });
+        let seen = seen_after(&tables, &mut kept, Step { leg, choice: fleet, yes });
         assert_same(&rt, seen, Some((left, Ends { bare_leg, sole })));
         assert_same(&rt, pairs_of(&kept), [[true, true], [true, false]]);
     }
@@ -129,17 +129,17 @@ fn steps_below_steps_are_taken_back_in_turn(rt: HostRuntime) -> Result<(), Fail>
     let mut kept = Kept::all(&tables);
     let first = kept.narrow(Step {
         leg: 1,
-        fleet: 0,
+        choice: 0,
         yes: false,
     });
     let second = kept.narrow(Step {
         leg: 0,
-        fleet: 0,
+        choice: 0,
         yes: false,
     });
     let third = kept.narrow(Step {
         leg: 0,
-        fleet: 1,
+        choice: 1,
         yes: false,
     });
     assert_same(&rt, pairs_of(&kept), [[false, false], [false, false]]);

@@ -78,7 +78,7 @@ fn a_pair_that_is_not_kept_does_not_count(rt: HostRuntime) -> Result<(), Fail> {
     let mut kept = Kept::all(&tables);
     let undo = kept.narrow(Step {
         leg: 0,
-        fleet: 1,
+        choice: 1,
         yes: false,
     });
     let prices = zero(rt.alloc(), &tables);

@@ -23,7 +23,7 @@ of_departure t d below = below
 -- a fleet flies a departure by a choice of its leg
 pub on_departure : (t : Tables) (d f : ℕ) → d < departures_in t → f < fleets_in t → IsFlown t (pair_on t d f)
 unfolding departures_in leg_at choice_on choices_in fleet_by
-on_departure t d f below known = record { pair = record { leg = below; fleet = known }; by = known }
+on_departure t d f below known = record { pair = record { leg = below; choice = known }; by = known }
 
 pub by_fleet : (t : Tables) (d f : ℕ) → d < departures_in t → f < fleets_in t → fleet_by t (pair_on t d f) ≡ f
 unfolding choice_on fleet_by

@@ -77,11 +77,11 @@ steps_from_answer entries false answer holds = absurd (false≢true holds)
 
 -- the pair of an entry
 abbrev pub pair_of : PairCost → Pair
-pair_of entry = record { leg = entry.leg; fleet = entry.fleet }
+pair_of entry = record { leg = entry.leg; choice = entry.fleet }
 
 -- how an entry's pair compares with a pair
 abbrev pub order_of : Pair → PairCost → Ordering
-order_of pair entry = ordering_then (nat_cmp entry.leg pair.leg) (nat_cmp entry.fleet pair.fleet)
+order_of pair entry = ordering_then (nat_cmp entry.leg pair.leg) (nat_cmp entry.fleet pair.choice)
 
 order_equal : (a : PairCost) (pair : Pair) → order_of pair a ≡ Equal → is_of pair a ≡ true
 order_equal a pair e = grind (arith, nat_tests)

@@ -15,7 +15,7 @@ no_fleet_kept fleets f = elim (cases_lt f fleets) [
 
 pub no_pair_kept : (legs fleets : ℕ) (p : Pair) → kept_by (replicate legs (replicate fleets false)) p ≡ false
 no_pair_kept legs fleets p = elim (cases_lt p.leg legs) [
-  | inl within ↦ ap (λ row. slice_index_or row p.fleet false) (get_or-replicate legs p.leg (replicate fleets false) [] within) ∙ no_fleet_kept fleets p.fleet
+  | inl within ↦ ap (λ row. slice_index_or row p.choice false) (get_or-replicate legs p.leg (replicate fleets false) [] within) ∙ no_fleet_kept fleets p.choice
   | inr past ↦ grind (arith, common_steps, get_or_past)
 ]
 

@@ -44,7 +44,7 @@ pub legal_is_mixed : LegalIsMixed
 unfolding mixed_cost total_cost
 legal_is_mixed t keeps a kept legal = record {
   plan = record {
-    kept = λ p known not_kept. no_weight t keeps a kept p.leg p.fleet known.leg not_kept;
+    kept = λ p known not_kept. no_weight t keeps a kept p.leg p.choice known.leg not_kept;
     cover = λ l below. sum_below-one (fleet_at a l) 1 (choices_in t l) (kept.assignment.known l below);
     balanced = legal.balanced;
     within = λ f below. omega (arith, legal.within.each f below);

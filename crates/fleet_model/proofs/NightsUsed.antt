@@ -18,4 +18,4 @@ unfolding used_of laps_flown
 use_is_need_and_nights t a f one assignment known = ap (λ n. sum_below (need_of t (weights_of a) f) (stations_in t) + n)
     (planned t a f assignment known (laps_of t)
     ∙ sum_below-agree (λ l. if fleet_by t (pair_at a l) == f then laps_of t (pair_at a l) else 0) (night_of_fleet t a f) (legs_in t)
-    (record { each = λ l below. ap (λ n. if fleet_by t (pair_at a l) == f then n else 0) (sym (nights_are_laps t (pair_at a l) one (departs_in t (pair_at a l) (record { leg = below; fleet = assignment.known l below })))) }))
+    (record { each = λ l below. ap (λ n. if fleet_by t (pair_at a l) == f then n else 0) (sym (nights_are_laps t (pair_at a l) one (departs_in t (pair_at a l) (record { leg = below; choice = assignment.known l below })))) }))

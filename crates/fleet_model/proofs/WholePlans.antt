@@ -140,21 +140,21 @@ module _ (t : Tables) (keeps : Domains) (scale : ℕ) (w : Weights) (some : 0 < 
   fleets = list_below fleet_for (legs_in t)
 
   one_fleet : (l : ℕ) → l < legs_in t → IsOneOf (λ c. w (leg_on l c)) scale (choices_in t l) (fleet_for l)
-  one_fleet l below = one_of (λ c. w (leg_on l c)) scale (choices_in t l) some (λ c known. whole.each (leg_on l c) (record { leg = below; fleet = known })) (plan.cover l below)
+  one_fleet l below = one_of (λ c. w (leg_on l c)) scale (choices_in t l) some (λ c known. whole.each (leg_on l c) (record { leg = below; choice = known })) (plan.cover l below)
 
   fleet_there : (l : ℕ) → l < legs_in t → fleet_at fleets l ≡ fleet_for l
   fleet_there l below = get_or-list_below fleet_for (legs_in t) l 0 below
 
   weights_there : (p : Pair) → IsPair t p → w p ≡ scale * weights_of fleets p
   weights_there p known =
-      subst (λ j. w p ≡ scale * (if j == p.fleet then 1 else 0)) (sym (fleet_there p.leg known.leg)) ((one_fleet p.leg known.leg).each p.fleet known.fleet)
+      subst (λ j. w p ≡ scale * (if j == p.choice then 1 else 0)) (sym (fleet_there p.leg known.leg)) ((one_fleet p.leg known.leg).each p.choice known.choice)
 
   known_there : (l : ℕ) → l < legs_in t → fleet_at fleets l < choices_in t l
   known_there l below = subst (λ j. j < choices_in t l) (sym (fleet_there l below)) (one_fleet l below).within
 
   kept_there : (l : ℕ) → l < legs_in t → keeps (pair_at fleets l) ≡ true
   kept_there l below = by_test (keeps (pair_at fleets l)) (λ kept. kept) (λ not_kept.
-      let pair : IsPair t (pair_at fleets l) = record { leg = below; fleet = known_there l below } in
+      let pair : IsPair t (pair_at fleets l) = record { leg = below; choice = known_there l below } in
       absurd (omega (arith, plan.kept (pair_at fleets l) pair not_kept, weights_there (pair_at fleets l) pair, at_itself scale (fleet_at fleets l))))
 
   same_weights : (f d : ℕ) → f < fleets_in t → d < departures_in t → w (pair_on t d f) ≡ scale * weights_of fleets (pair_on t d f)
@@ -166,7 +166,7 @@ module _ (t : Tables) (keeps : Domains) (scale : ℕ) (w : Weights) (some : 0 < 
   is_legal : IsLegal t fleets
   is_legal = record {
     assignment = is_assignment;
-    allowed = record { each = λ l below. allowed.each (pair_at fleets l) (record { leg = below; fleet = known_there l below }) (kept_there l below) };
+    allowed = record { each = λ l below. allowed.each (pair_at fleets l) (record { leg = below; choice = known_there l below }) (kept_there l below) };
     balanced = record {
       each = λ f s known within. cancel_same scale (arrived t (weights_of fleets) f s (last_of t)) (departed t (weights_of fleets) f s (last_of t)) some
           (sym (times_arrived t scale w (weights_of fleets) f (λ d. same_weights f d known) s (last_of t)) ∙ plan.balanced.each f s known within

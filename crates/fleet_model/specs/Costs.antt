@@ -5,7 +5,7 @@ use Rattle.fleet_model.specs.declared.parts.PairCost.{PairCost}
 
 -- the entry is of the pair
 abbrev pub is_of : Pair → PairCost → Bool
-is_of pair entry = (entry.leg == pair.leg) && (entry.fleet == pair.fleet)
+is_of pair entry = (entry.leg == pair.leg) && (entry.fleet == pair.choice)
 
 -- what the first entry of a pair says, and nothing where there is none
 abbrev pub cost_in : List PairCost → Pair → Option ℤ

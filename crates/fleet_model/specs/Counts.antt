@@ -20,7 +20,7 @@ abbrev pub pair_at : List ℕ → ℕ → Pair
 pair_at a l = leg_on l (fleet_at a l)
 
 abbrev pub weights_of : List ℕ → Weights
-weights_of a p = if fleet_at a p.leg == p.fleet then 1 else 0
+weights_of a p = if fleet_at a p.leg == p.choice then 1 else 0
 
 -- the leg departs from the station by the end of the minute
 abbrev pub has_left : Tables → Pair → ℕ → ℕ → Bool

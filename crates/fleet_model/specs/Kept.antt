@@ -19,7 +19,7 @@ all_pairs t p = is_some (cost_of t p)
 
 -- a step leaves a pair: `yes` leaves only its own pair on its leg, `no` removes that
 abbrev pub leaves : Step → Pair → Bool
-leaves step p = if p.leg == step.leg then (if step.yes then p.fleet == step.fleet else not (p.fleet == step.fleet)) else true
+leaves step p = if p.leg == step.leg then (if step.yes then p.choice == step.choice else not (p.choice == step.choice)) else true
 
 -- the pairs that are kept after a step
 abbrev pub narrowed : Domains → Step → Domains
@@ -60,7 +60,7 @@ pub record IsFirstBare (t : Tables) (keeps : Domains) (leg : ℕ) : Type 0 where
 
 -- the pairs that rows keep: a row for each leg, and in it a place for each choice
 abbrev pub kept_by : List (List Bool) → Domains
-kept_by rows p = slice_index_or (slice_index_or rows p.leg []) p.fleet false
+kept_by rows p = slice_index_or (slice_index_or rows p.leg []) p.choice false
 
 -- the rows with one leg's as they were before a step
 unfoldable pub put_back : List (List Bool) → Undo → List (List Bool)

@@ -63,16 +63,16 @@ choices_in t l = fleets_in t
 
 -- the pair of a leg and one of its choices
 abbrev pub leg_on : ℕ → ℕ → Pair
-leg_on l c = record { leg = l; fleet = c }
+leg_on l c = record { leg = l; choice = c }
 
 -- the fleet that a pair is flown by
 abbrev pub fleet_by : Tables → Pair → ℕ
-fleet_by t p = p.fleet
+fleet_by t p = p.choice
 
 -- a leg of the tables with one of its choices
 pub record IsPair (t : Tables) (p : Pair) : Type 0 where
   pub leg : p.leg < legs_in t
-  pub fleet : p.fleet < choices_in t p.leg
+  pub choice : p.choice < choices_in t p.leg
 
 -- .. by which a fleet flies the leg
 pub record IsFlown (t : Tables) (p : Pair) : Type 0 where

@@ -114,7 +114,7 @@ impl Tables {
         ensures value { result ≡ fleet_by self.now pair }
         ensures known { result < fleets_in self.now }
     {
-        pair.fleet
+        pair.choice
     }
 
     /// How many departures all legs have together, each at each of its times.
@@ -136,7 +136,7 @@ impl Tables {
     {
         Pair {
             leg: departure,
-            fleet,
+            choice: fleet,
         }
     }
 }

@@ -31,11 +31,11 @@ impl PairCost {
     /// The pair that the cost is for.
     pub fn pair(&self) -> Pair
         ensures leg { result.leg ≡ self.now.leg }
-        ensures fleet { result.fleet ≡ self.now.fleet }
+        ensures fleet { result.choice ≡ self.now.fleet }
     {
         Pair {
             leg: self.leg,
-            fleet: self.fleet,
+            choice: self.fleet,
         }
     }
 }

@@ -15,7 +15,7 @@ use std::marker::Model;
 #[derive(Clone, Copy, Debug, PartialEq, Eq)]
 pub struct Step {
     pub leg: u32,
-    pub fleet: u32,
+    pub choice: u32,
     pub yes: bool,
 }
 
@@ -61,7 +61,7 @@ impl Kept {
     /// Takes a step into a part of the subproblem, and answers how to take it back. Takes no memory.
     pub fn narrow(&mut self, step: Step) -> Undo
         requires leg { step.leg < MAX_LEGS }
-        requires fleet { step.fleet < MAX_CHOICES }
+        requires fleet { step.choice < MAX_CHOICES }
         ensures kept { kept_by self.new ≡ narrowed (kept_by self.old) step }
         ensures leg { result.leg ≡ step.leg }
         ensures way_back { put_back self.new result ≡ self.old }
@@ -93,10 +93,10 @@ impl Kept {
     // Keeps one more pair.
     fn keep(&mut self, pair: Pair)
         requires leg { pair.leg < MAX_LEGS }
-        requires fleet { pair.fleet < MAX_CHOICES }
-        ensures { (p : Pair) → kept_by self.new p ≡ (kept_by self.old p || (p.leg == pair.leg) && (p.fleet == pair.fleet)) }
+        requires fleet { pair.choice < MAX_CHOICES }
+        ensures { (p : Pair) → kept_by self.new p ≡ (kept_by self.old p || (p.leg == pair.leg) && (p.choice == pair.choice)) }
     {
-        self.rows[pair.leg as usize] = with_fleet(self.rows[pair.leg as usize], pair.fleet);
+        self.rows[pair.leg as usize] = with_fleet(self.rows[pair.leg as usize], pair.choice);
     }
 }
 
@@ -119,10 +119,10 @@ fn with_fleet(row: [bool; MAX_CHOICES], fleet: u32) -> [bool; MAX_CHOICES]
 
 // The row of a step's leg after the step.
 fn row_after(row: [bool; MAX_CHOICES], step: Step) -> [bool; MAX_CHOICES]
-    requires { step.fleet < MAX_CHOICES }
+    requires { step.choice < MAX_CHOICES }
     ensures { (f : ℕ) → slice_index_or result f false ≡ (slice_index_or row f false && leaves step (leg_on step.leg f)) }
 {
-    let fleet = step.fleet as usize;
+    let fleet = step.choice as usize;
     if step.yes {
         let mut only = no_fleets();
         only[fleet] = row[fleet];

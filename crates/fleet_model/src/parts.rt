@@ -42,7 +42,7 @@ pub struct Leg {
 #[derive(Clone, Copy, Debug, PartialEq, Eq, PartialOrd, Ord, Hash)]
 pub struct Pair {
     pub leg: u32,
-    pub fleet: u32,
+    pub choice: u32,
 }
 
 /// What it costs to fly a leg with a fleet, in cost units.

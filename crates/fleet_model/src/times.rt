@@ -69,7 +69,7 @@ pub fn busy(tables: &Tables, leg: u32, fleet: u32) -> u16
     requires fleet { fleet < fleets_in tables.now }
     ensures { result ≡ busy_minutes tables.now (leg_on leg fleet) }
 {
-    tables.busy(Pair { leg, fleet })
+    tables.busy(Pair { leg, choice: fleet })
 }
 
 /// The minute at which the aircraft of a leg, of this fleet, can depart again, counted from the day start.
@@ -81,7 +81,7 @@ pub fn ready(tables: &Tables, leg: u32, fleet: u32) -> u16
     ensures value { result ≡ ready_minute tables.now (leg_on leg fleet) }
     ensures within { result < MINUTES_PER_PERIOD }
 {
-    tables.ready(Pair { leg, fleet })
+    tables.ready(Pair { leg, choice: fleet })
 }
 
 /// How many day starts lie between a leg's departure and the minute at which its aircraft, of this fleet, can
@@ -93,7 +93,7 @@ pub fn nights(tables: &Tables, leg: u32, fleet: u32) -> u32
     ensures value { result ≡ nights_of tables.now (leg_on leg fleet) }
     ensures few { result ≤ 2 }
 {
-    tables.nights(Pair { leg, fleet })
+    tables.nights(Pair { leg, choice: fleet })
 }
 
 /// How many period starts lie between a leg's departure and the minute at which its aircraft, of this fleet, can
@@ -105,5 +105,5 @@ pub fn laps(tables: &Tables, leg: u32, fleet: u32) -> u32
     ensures value { result ≡ laps_of tables.now (leg_on leg fleet) }
     ensures few { result ≤ 2 }
 {
-    tables.laps(Pair { leg, fleet })
+    tables.laps(Pair { leg, choice: fleet })
 }

@@ -19,5 +19,5 @@ allowed_tested t keeps e = record {
       (λ allowed. allowed)
       (λ off.
       let none : (strange_on t keeps p.leg == 0) ≡ true = let most = term_le (strange_on t keeps) p.leg (legs_in t) pair.leg in let all = zero_number (sum_below (strange_on t keeps) (legs_in t)) e in grind (arith, nat_tests) in
-      absurd (no_both (none_counted (is_strange t keeps p.leg) (fleets_in t) p.fleet none pair.fleet) (both_true _ _ kept (rw off refl))));
+      absurd (no_both (none_counted (is_strange t keeps p.leg) (fleets_in t) p.choice none pair.choice) (both_true _ _ kept (rw off refl))));
 }

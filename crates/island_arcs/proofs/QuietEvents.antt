@@ -21,7 +21,7 @@ use Rattle.island_arcs.proofs.QuietMinutes.{departs_elsewhere, ready_elsewhere}
 -- what happens in a minute stands at a place
 happens_there : (events : List Event) (ready : Bool) (m : ℕ) → HappensAt events ready m → (k : ℕ) × (k < length events) × (minute_at events k ≡ m)
 happens_there events ready m h =
-    let e : Event = record { minute = m; ready = ready; leg = h.by } in
+    let e : Event = record { minute = m; ready = ready; departure = h.by } in
     (h.among.0, h.among.1, ap (λ (x : Event). x.minute) (get_or_default events h.among.0 no_event e h.among.1 ∙ h.among.2))
 
 all_where : (b : Bool) (e : Event) (P : Event → Type 0) → (b ≡ true → P e) → All P (if b then e ∷ [] else [])

@@ -48,7 +48,7 @@ no_weight_at_all false w e = refl
 
 module _ (t : Tables) (keeps : Domains) (w : Weights) (f s : ℕ) (known : f < fleets_in t) (weigh : WeighKept t keeps w) where
   not_kept : (l : ℕ) → l < legs_in t → keeps (leg_on l f) ≡ false → w (leg_on l f) ≡ 0
-  not_kept l below off = weigh.each (leg_on l f) (record { leg = below; fleet = known }) off
+  not_kept l below off = weigh.each (leg_on l f) (record { leg = below; choice = known }) off
 
   module _ (low high : ℕ) (order : low ≤ high) (quiet : is_quiet t keeps f s (low + 1) high ≡ true) where
     pub none_leave : departed t w f s high ≡ departed t w f s low

@@ -6,7 +6,7 @@ use Rattle.island_cut.specs.Islands.{idle_at}
 use Rattle.timeline_net.specs.declared.timeline.Event.{Event}
 
 abbrev pub no_event : Event
-no_event = record { minute = 0; ready = false; leg = 0 }
+no_event = record { minute = 0; ready = false; departure = 0 }
 
 abbrev pub minute_at : List Event → ℕ → ℕ
 minute_at events k = (slice_index_or events k no_event).minute

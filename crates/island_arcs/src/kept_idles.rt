@@ -42,7 +42,7 @@ fn strange_on(tables: &Tables, kept: &Kept, leg: u32) -> u32
 {
     let mut strange = 0;
     for fleet in 0..tables.fleet_count() {
-        if kept.kept(leg, fleet) && tables.cost(Pair { leg, fleet }).is_none() {
+        if kept.kept(leg, fleet) && tables.cost(Pair { leg, choice: fleet }).is_none() {
             strange += 1;
         }
     }

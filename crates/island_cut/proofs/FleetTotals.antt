@@ -39,7 +39,7 @@ none_stands_at q need arr dep needs come gone laps joined_laps total none is par
 module _ (t : Tables) (keeps : Domains) (q : ℕ) (w : Weights) (fleets : ℕ → ℕ) (allowed : KeepAllowed t keeps) (plan : IsMixedPlan t keeps q w) (quick : AreQuickest t fleets) where
   no_slower : (l f : ℕ) → l < legs_in t → f < fleets_in t → w (leg_on l f) ≢ 0 → busy_minutes t (leg_on l (fleets l)) ≤ busy_minutes t (leg_on l f)
   no_slower l f below known some =
-      let pair : IsPair t (leg_on l f) = record { leg = below; fleet = known } in
+      let pair : IsPair t (leg_on l f) = record { leg = below; choice = known } in
       by_test (keeps (leg_on l f))
       (λ kept. (quick.each l below).quickest f known (allowed.each (leg_on l f) pair kept))
       (λ not_kept. absurd (some (plan.kept (leg_on l f) pair not_kept)))

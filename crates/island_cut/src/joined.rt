@@ -24,7 +24,7 @@ impl Flights for Joined<'_> {
     fn pair(&self, _tables: &Tables, leg: u32) -> Pair {
         Pair {
             leg,
-            fleet: self.plan.fleet(leg),
+            choice: self.plan.fleet(leg),
         }
     }
 
@@ -66,7 +66,7 @@ fn quicker(tables: &Tables, leg: u32, fleet: u32, best: Option<u32>) -> Option<u
     requires best { IsBest tables.now leg fleet best }
     ensures { IsBest tables.now leg (fleet + 1) result }
 {
-    if tables.cost(Pair { leg, fleet }).is_none() {
+    if tables.cost(Pair { leg, choice: fleet }).is_none() {
         return best;
     }
     match best {

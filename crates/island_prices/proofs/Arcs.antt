@@ -69,7 +69,7 @@ module _ (t : Tables) (keeps : Domains) (f s : ℕ) where
   first_departs starts nodes several =
       let may = (nodes.nodes.next 0 (omega arith)).may in
       let all = All-permutation OfPair _ _ nodes.happen.each_once (all_so (legs_in t) (omega arith)) in
-      let is = All-contains OfPair nodes.events (record { minute = may.departure; ready = false; leg = may.departs.by }) all may.departs.among refl in
+      let is = All-contains OfPair nodes.events (record { minute = may.departure; ready = false; departure = may.departs.by }) all may.departs.among refl in
       (is.leg, is.within, is.kept, is.from, omega (arith, may.later, is.minute))
 
 -- ---- by how much prices rise over an arc: to a next node, and from the last one
@@ -384,6 +384,6 @@ module _ (t : Tables) (keeps : Domains) (prices : Prices) (starts : NodeStarts) 
 
   pub are_quiet : AreQuiet t keeps rises
   are_quiet = record {
-    departs = λ p pair kept. stays_there p.fleet (leg_of t p.leg).from (departure t p) (λ low high quiet from to. quiet.departs p.leg pair.leg kept refl from to);
-    lands = λ p pair kept. stays_there p.fleet (leg_of t p.leg).to (ready_minute t p) (λ low high quiet from to. quiet.lands p.leg pair.leg kept refl from to);
+    departs = λ p pair kept. stays_there p.choice (leg_of t p.leg).from (departure t p) (λ low high quiet from to. quiet.departs p.leg pair.leg kept refl from to);
+    lands = λ p pair kept. stays_there p.choice (leg_of t p.leg).to (ready_minute t p) (λ low high quiet from to. quiet.lands p.leg pair.leg kept refl from to);
   }

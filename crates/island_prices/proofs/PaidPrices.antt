@@ -195,7 +195,7 @@ module _ (t : Tables) (prices : Prices) (rises : List Rise) (least : List ℕ) (
         (λ l f below known kept.
         let p = leg_on l f in
         let leg = t.in_range.legs_fit.each l no_leg below in
-        let pair : IsPair t p = record { leg = below; fleet = known } in
+        let pair : IsPair t p = record { leg = below; choice = known } in
         let out : price_of (prices_after 0) f (leg_of t l).from (departure t p) ≡ price_of prices f (leg_of t l).from (departure t p) =
         omega (arith, ints, told_price 0 f (leg_of t l).from (departure t p) known leg.from leg.dep, quiet.departs p pair kept, not_grown (leg_of t l).from (departure t p)) in
         let back : price_of (prices_after 0) f (leg_of t l).to (ready_minute t p) ≡ price_of prices f (leg_of t l).to (ready_minute t p) =

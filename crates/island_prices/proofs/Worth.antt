@@ -187,7 +187,7 @@ module _ (t : Tables) (keeps : Domains) (k : ℕ) (some_pair : (l : ℕ) → ¬ 
     known = λ l below. (is_chosen t keeps k some_pair prices other extra pair_gains l below).within;
     allowed = λ l below.
         let is = is_chosen t keeps k some_pair prices other extra pair_gains l below in
-        allowed (leg_on l (fleets l)) (record { leg = below; fleet = is.within }) is.kept;
+        allowed (leg_on l (fleets l)) (record { leg = below; choice = is.within }) is.kept;
   }
 
   abbrev laps : ℕ → ℕ

@@ -47,8 +47,8 @@ pub record AreApart (rises : List Rise) : Type 0 where
 
 -- no rise changes the price where and when a kept pair departs or is ready
 pub record AreQuiet (t : Tables) (keeps : Domains) (rises : List Rise) : Type 0 where
-  pub departs : (p : Pair) → IsPair t p → keeps p ≡ true → shift_by rises p.fleet (leg_of t p.leg).from (departure t p) ≡ pos 0
-  pub lands : (p : Pair) → IsPair t p → keeps p ≡ true → shift_by rises p.fleet (leg_of t p.leg).to (ready_minute t p) ≡ pos 0
+  pub departs : (p : Pair) → IsPair t p → keeps p ≡ true → shift_by rises p.choice (leg_of t p.leg).from (departure t p) ≡ pos 0
+  pub lands : (p : Pair) → IsPair t p → keeps p ≡ true → shift_by rises p.choice (leg_of t p.leg).to (ready_minute t p) ≡ pos 0
 
 -- a minute of each station such that a rent and prices up to and with it may grow by the same: whichever fleets fly the
 -- legs, the laps and the legs that have left come to all aircraft and the legs that are ready at least

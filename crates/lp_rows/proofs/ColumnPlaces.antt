@@ -64,12 +64,12 @@ module _ (t : Tables) (keeps : Domains) (starts : Starts) where
   -- the column of a kept pair
   pub pair_column : (p : Pair) → IsPair t p → keeps p ≡ true → (c : ℕ) × (c < pairs_kept t keeps) × (pair_at_column t keeps c ≡ p)
   pair_column p known kept =
-      let rest = sum_below (λ f. if keeps (leg_on p.leg f) then 1 else 0) p.fleet + 0 in
-      let inner : rest < kept_on t keeps p.leg = within_sum (λ f. if keeps (leg_on p.leg f) then 1 else 0) (fleets_in t) p.fleet 0 known.fleet (one_there (keeps p) kept) in (
+      let rest = sum_below (λ f. if keeps (leg_on p.leg f) then 1 else 0) p.choice + 0 in
+      let inner : rest < kept_on t keeps p.leg = within_sum (λ f. if keeps (leg_on p.leg f) then 1 else 0) (fleets_in t) p.choice 0 known.choice (one_there (keeps p) kept) in (
         sum_below (kept_on t keeps) p.leg + rest,
         within_sum (kept_on t keeps) (legs_in t) p.leg rest known.leg inner,
         at_concat (pairs_of t keeps) (kept_on t keeps) (leg_on 0 0) (legs_in t) p.leg rest (λ l less. long_of l) known.leg inner
-            ∙ at_concat (pair_of keeps p.leg) (λ f. if keeps (leg_on p.leg f) then 1 else 0) (leg_on 0 0) (fleets_in t) p.fleet 0 (λ f less. one_long (keeps (leg_on p.leg f)) (leg_on p.leg f)) known.fleet (one_there (keeps p) kept)
+            ∙ at_concat (pair_of keeps p.leg) (λ f. if keeps (leg_on p.leg f) then 1 else 0) (leg_on 0 0) (fleets_in t) p.choice 0 (λ f less. one_long (keeps (leg_on p.leg f)) (leg_on p.leg f)) known.choice (one_there (keeps p) kept)
             ∙ there (keeps p) kept,
       )
     where

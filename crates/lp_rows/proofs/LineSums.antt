@@ -54,7 +54,7 @@ module _ (t : Tables) (keeps : Domains) (starts : Starts) (v : Column → ℕ) (
   unmasked e l f below known = by_test (keeps (leg_on l f))
       (λ kept. ap (λ b. where_true b (e *ℤ pos (w (leg_on l f)))) kept)
       (λ not_kept. ap (λ b. where_true b (e *ℤ pos (w (leg_on l f)))) not_kept
-      ∙ sym (ap (λ n. e *ℤ pos n) (weigh.each (leg_on l f) (record { leg = below; fleet = known }) not_kept) ∙ *ℤ-zero e))
+      ∙ sym (ap (λ n. e *ℤ pos n) (weigh.each (leg_on l f) (record { leg = below; choice = known }) not_kept) ∙ *ℤ-zero e))
 
   pub over_flights : (e : Column → ℤ) (u : ℕ → ℕ → ℤ) → ((l f : ℕ) → e (Flight (leg_on l f)) *ℤ pos (w (leg_on l f)) ≡ u l f)
       → flights t keeps (λ k. e k *ℤ pos (v k)) ≡ sum_below_ℤ (λ l. sum_below_ℤ (u l) (fleets_in t)) (legs_in t)

@@ -84,7 +84,7 @@ module _ (t : Tables) (keeps : Domains) (w : Weights) (f s : ℕ) (starts : Star
         let some : 0 < length (starts f s) = at.nodes.some (λ e. let empty : length at.events ≡ 0 = ap length e in omega (arith, ready.among.1)) in
         absurd (omega (arith, some, none)))
         (λ elsewhere. ap (λ b. if b && nat_le (ready_minute t (leg_on l f)) m then w (leg_on l f) else 0) elsewhere))
-        (λ not_kept. weightless ((leg_of t l).to == s && nat_le (ready_minute t (leg_on l f)) m) (w (leg_on l f)) (weigh.each (leg_on l f) (record { leg = below; fleet = known }) not_kept));
+        (λ not_kept. weightless ((leg_of t l).to == s && nat_le (ready_minute t (leg_on l f)) m) (w (leg_on l f)) (weigh.each (leg_on l f) (record { leg = below; choice = known }) not_kept));
   })
       ∙ sum_below-zero (legs_in t)
     where

@@ -30,7 +30,7 @@ IsKept t keeps starts (Ground a) = IsNode t starts a × (arc_stays t keeps start
 IsKept t keeps starts (Slack f) = f < fleets_in t
 
 pub columns_are_kept : (t : Tables) (keeps : Domains) (starts : Starts) → All (IsKept t keeps starts) (columns_of t keeps starts)
-columns_are_kept t keeps starts = all_columns t keeps starts (IsKept t keeps starts) (λ l f below known kept. (record { leg = below; fleet = known }, kept)) (λ n fits stays. (fits, stays)) (λ f known. known)
+columns_are_kept t keeps starts = all_columns t keeps starts (IsKept t keeps starts) (λ l f below known kept. (record { leg = below; choice = known }, kept)) (λ n fits stays. (fits, stays)) (λ f known. known)
 
 three_tests : (k a b : Bool) → where_true k (one_if (a && b)) ≡ where_true a (where_true b (where_true k (pos 1)))
 three_tests true true true = refl
@@ -66,11 +66,11 @@ module _ (t : Tables) (keeps : Domains) (starts : Starts) where
   -- a column stands once
   once : (column : Column) → IsKept t keeps starts column → flights t keeps (λ k. one_if (same_column column k)) +ℤ grounds t keeps starts (λ k. one_if (same_column column k)) +ℤ slacks t (λ k. one_if (same_column column k)) ≡ pos 1
   once (Flight p) kept =
-      let pairs = sum_below_ℤ-same (λ l. sum_below_ℤ (λ f. where_true (keeps (leg_on l f)) (one_if ((p.leg == l) && (p.fleet == f)))) (fleets_in t))
-      (λ l. sum_below_ℤ (λ f. where_true (p.leg == l) (where_true (p.fleet == f) (where_true (keeps (leg_on l f)) (pos 1)))) (fleets_in t)) (legs_in t)
-      (λ l below. sum_below_ℤ-same (λ f. where_true (keeps (leg_on l f)) (one_if ((p.leg == l) && (p.fleet == f)))) (λ f. where_true (p.leg == l) (where_true (p.fleet == f) (where_true (keeps (leg_on l f)) (pos 1)))) (fleets_in t)
-      (λ f known. three_tests (keeps (leg_on l f)) (p.leg == l) (p.fleet == f)))
-      ∙ pick_pair (legs_in t) (fleets_in t) p.leg p.fleet (λ l f. where_true (keeps (leg_on l f)) (pos 1)) kept.0.leg kept.0.fleet
+      let pairs = sum_below_ℤ-same (λ l. sum_below_ℤ (λ f. where_true (keeps (leg_on l f)) (one_if ((p.leg == l) && (p.choice == f)))) (fleets_in t))
+      (λ l. sum_below_ℤ (λ f. where_true (p.leg == l) (where_true (p.choice == f) (where_true (keeps (leg_on l f)) (pos 1)))) (fleets_in t)) (legs_in t)
+      (λ l below. sum_below_ℤ-same (λ f. where_true (keeps (leg_on l f)) (one_if ((p.leg == l) && (p.choice == f)))) (λ f. where_true (p.leg == l) (where_true (p.choice == f) (where_true (keeps (leg_on l f)) (pos 1)))) (fleets_in t)
+      (λ f known. three_tests (keeps (leg_on l f)) (p.leg == l) (p.choice == f)))
+      ∙ pick_pair (legs_in t) (fleets_in t) p.leg p.choice (λ l f. where_true (keeps (leg_on l f)) (pos 1)) kept.0.leg kept.0.fleet
       ∙ ap (λ b. where_true b (pos 1)) kept.1 in
       omega (arith, ints, pairs, no_grounds (λ k. one_if (same_column (Flight p) k)) (λ n. refl), no_slacks (λ k. one_if (same_column (Flight p) k)) (λ f. refl))
   once (Ground a) kept =
@@ -138,9 +138,9 @@ nothing_there t keeps starts x p not_kept =
     ∙ sum_below-zero (length columns)
   where
     differs : (column : Column) → IsKept t keeps starts column → same_column (Flight p) column ≡ false
-    differs (Flight q) kept = by_test ((p.leg == q.leg) && (p.fleet == q.fleet))
-        (λ e. let leg : p.leg ≡ q.leg = grind (arith, nat_tests) in let fleet : p.fleet ≡ q.fleet = grind (arith, nat_tests) in
-        let kept_too : keeps p ≡ true = ap (λ l. keeps (leg_on l p.fleet)) leg ∙ ap (λ f. keeps (leg_on q.leg f)) fleet ∙ kept.1 in absurd (false≢true (sym not_kept ∙ kept_too)))
+    differs (Flight q) kept = by_test ((p.leg == q.leg) && (p.choice == q.choice))
+        (λ e. let leg : p.leg ≡ q.leg = grind (arith, nat_tests) in let fleet : p.choice ≡ q.choice = grind (arith, nat_tests) in
+        let kept_too : keeps p ≡ true = ap (λ l. keeps (leg_on l p.choice)) leg ∙ ap (λ f. keeps (leg_on q.leg f)) fleet ∙ kept.1 in absurd (false≢true (sym not_kept ∙ kept_too)))
         (λ e. e)
     differs (Ground a) kept = refl
     differs (Slack f) kept = refl

@@ -164,12 +164,12 @@ value_of_pair : (t : Tables) (keeps : Domains) (starts : Starts) (v : Column →
 value_of_pair t keeps starts v p known kept =
     let columns = columns_of t keeps starts in
     let here = λ (k : Column). pos (if same_column (Flight p) k then v k else 0) in
-    let pairs = sum_below_ℤ-same (λ l. sum_below_ℤ (λ f. where_true (keeps (leg_on l f)) (pos (if (p.leg == l) && (p.fleet == f) then v (Flight (leg_on l f)) else 0))) (fleets_in t))
-    (λ l. sum_below_ℤ (λ f. where_true (p.leg == l) (where_true (p.fleet == f) (where_true (keeps (leg_on l f)) (pos (v (Flight (leg_on l f))))))) (fleets_in t)) (legs_in t)
-    (λ l below. sum_below_ℤ-same (λ f. where_true (keeps (leg_on l f)) (pos (if (p.leg == l) && (p.fleet == f) then v (Flight (leg_on l f)) else 0)))
-    (λ f. where_true (p.leg == l) (where_true (p.fleet == f) (where_true (keeps (leg_on l f)) (pos (v (Flight (leg_on l f))))))) (fleets_in t)
-    (λ f lt. masked_tests (keeps (leg_on l f)) (p.leg == l) (p.fleet == f) (v (Flight (leg_on l f)))))
-    ∙ pick_pair (legs_in t) (fleets_in t) p.leg p.fleet (λ l f. where_true (keeps (leg_on l f)) (pos (v (Flight (leg_on l f))))) known.leg known.fleet
+    let pairs = sum_below_ℤ-same (λ l. sum_below_ℤ (λ f. where_true (keeps (leg_on l f)) (pos (if (p.leg == l) && (p.choice == f) then v (Flight (leg_on l f)) else 0))) (fleets_in t))
+    (λ l. sum_below_ℤ (λ f. where_true (p.leg == l) (where_true (p.choice == f) (where_true (keeps (leg_on l f)) (pos (v (Flight (leg_on l f))))))) (fleets_in t)) (legs_in t)
+    (λ l below. sum_below_ℤ-same (λ f. where_true (keeps (leg_on l f)) (pos (if (p.leg == l) && (p.choice == f) then v (Flight (leg_on l f)) else 0)))
+    (λ f. where_true (p.leg == l) (where_true (p.choice == f) (where_true (keeps (leg_on l f)) (pos (v (Flight (leg_on l f))))))) (fleets_in t)
+    (λ f lt. masked_tests (keeps (leg_on l f)) (p.leg == l) (p.choice == f) (v (Flight (leg_on l f)))))
+    ∙ pick_pair (legs_in t) (fleets_in t) p.leg p.choice (λ l f. where_true (keeps (leg_on l f)) (pos (v (Flight (leg_on l f))))) known.leg known.choice
     ∙ ap (λ b. where_true b (pos (v (Flight p)))) kept in
     let all = sym (sum_below_ℤ-pos (λ c. if same_column (Flight p) (column_at columns c) then v (column_at columns c) else 0) (length columns)) ∙ over_columns t keeps starts here in
     omega (arith, ints, all, pairs, no_grounds t keeps starts here (λ n. refl), no_slacks t keeps starts here (λ f. refl))

@@ -50,7 +50,7 @@ small_entry t starts (Cover l) (Slack f) known = omega arith
 small_entry t starts (Balance n) (Flight p) known = small_two (comes_to_node t starts n p) (leaves_node t starts n p)
 small_entry t starts (Balance n) (Ground a) known = small_two (gets_arc starts n a) (same_node n a)
 small_entry t starts (Balance n) (Slack f) known = omega arith
-small_entry t starts (Count f) (Flight p) known = small_laps (f == p.fleet) (laps_of t p) (few_laps t p known)
+small_entry t starts (Count f) (Flight p) known = small_laps (f == p.choice) (laps_of t p) (few_laps t p known)
 small_entry t starts (Count f) (Ground a) known = small_one (passes_day_start starts f a)
 small_entry t starts (Count f) (Slack g) known = small_one (f == g)
 

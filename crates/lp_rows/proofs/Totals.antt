@@ -105,7 +105,7 @@ all_columns t keeps starts P of_pairs of_arcs of_fleets =
     (all_list P Slack (fleets_in t) of_fleets)
 
 pub columns_are_known : (t : Tables) (keeps : Domains) (starts : Starts) → All (IsColumn t starts) (columns_of t keeps starts)
-columns_are_known t keeps starts = all_columns t keeps starts (IsColumn t starts) (λ l f below known kept. record { leg = below; fleet = known }) (λ n fits stays. fits) (λ f known. known)
+columns_are_known t keeps starts = all_columns t keeps starts (IsColumn t starts) (λ l f below known kept. record { leg = below; choice = known }) (λ n fits stays. fits) (λ f known. known)
 
 pub lines_are_known : (t : Tables) (starts : Starts) → All (IsLine t starts) (lines_of t starts)
 lines_are_known t starts =

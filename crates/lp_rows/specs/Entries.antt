@@ -41,11 +41,11 @@ is_in starts place minute = nat_le (slice_index starts place) minute && nat_le m
 
 -- a pair departs in a node
 abbrev pub leaves_node : Tables → Starts → Node → Pair → Bool
-leaves_node t starts n p = (n.fleet == p.fleet) && (((leg_of t p.leg).from == n.station) && is_in (starts n.fleet n.station) n.place (departure t p))
+leaves_node t starts n p = (n.fleet == p.choice) && (((leg_of t p.leg).from == n.station) && is_in (starts n.fleet n.station) n.place (departure t p))
 
 -- the aircraft of a pair is ready in a node
 abbrev pub comes_to_node : Tables → Starts → Node → Pair → Bool
-comes_to_node t starts n p = (n.fleet == p.fleet) && (((leg_of t p.leg).to == n.station) && is_in (starts n.fleet n.station) n.place (ready_minute t p))
+comes_to_node t starts n p = (n.fleet == p.choice) && (((leg_of t p.leg).to == n.station) && is_in (starts n.fleet n.station) n.place (ready_minute t p))
 
 abbrev pub same_node : Node → Node → Bool
 same_node n a = (n.fleet == a.fleet) && ((n.station == a.station) && (n.place == a.place))
@@ -75,7 +75,7 @@ balance_entry t starts n (Slack f) = pos 0
 
 -- the aircraft aloft and on the ground at the day start, and those that are not used
 abbrev pub count_entry : Tables → Starts → ℕ → Column → ℤ
-count_entry t starts f (Flight p) = if f == p.fleet then pos (laps_of t p) else pos 0
+count_entry t starts f (Flight p) = if f == p.choice then pos (laps_of t p) else pos 0
 count_entry t starts f (Ground a) = one_if (passes_day_start starts f a)
 count_entry t starts f (Slack g) = one_if (f == g)
 

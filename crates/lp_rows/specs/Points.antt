@@ -16,7 +16,7 @@ use Rattle.lp_rows.specs.Layout.{Starts, arc_stays, columns_of, node_at}
 use Rattle.lp_rows.specs.Program.{AreRows}
 
 abbrev pub same_column : Column → Column → Bool
-same_column (Flight p) (Flight q) = (p.leg == q.leg) && (p.fleet == q.fleet)
+same_column (Flight p) (Flight q) = (p.leg == q.leg) && (p.choice == q.choice)
 same_column (Ground a) (Ground b) = same_node a b
 same_column (Slack f) (Slack g) = f == g
 same_column a b = false

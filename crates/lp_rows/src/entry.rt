@@ -84,8 +84,8 @@ fn count_entry(tables: &Tables, network: &Network, fleet: u32, column: Column) -
 {
     match column {
         Column::Flight(pair) => {
-            if fleet == pair.fleet {
-                i128::from(laps(tables, pair.leg, pair.fleet))
+            if fleet == pair.choice {
+                i128::from(laps(tables, pair.leg, pair.choice))
             } else {
                 0
             }
@@ -108,7 +108,7 @@ fn leaves_node(tables: &Tables, network: &Network, node: Node, pair: Pair) -> bo
     requires pair { IsPair tables.now pair }
     ensures { result ≡ leaves_node tables.now (starts_in network.now) node pair }
 {
-    if node.fleet != pair.fleet {
+    if node.fleet != pair.choice {
         return false;
     }
     let flown = tables.leg(pair.leg);
@@ -123,12 +123,12 @@ fn comes_to_node(tables: &Tables, network: &Network, node: Node, pair: Pair) -> 
     requires pair { IsPair tables.now pair }
     ensures { result ≡ comes_to_node tables.now (starts_in network.now) node pair }
 {
-    if node.fleet != pair.fleet {
+    if node.fleet != pair.choice {
         return false;
     }
     let flown = tables.leg(pair.leg);
     let starts = network.starts(tables, node.fleet, node.station);
-    flown.to == node.station && is_in(starts, node.place, ready(tables, pair.leg, pair.fleet))
+    flown.to == node.station && is_in(starts, node.place, ready(tables, pair.leg, pair.choice))
 }
 
 // The arc from another node leads to this one.

@@ -111,7 +111,7 @@ fn push_pairs(pairs: &mut Vec<Pair>, tables: &Tables, kept: &Kept, leg: u32) -> 
     ensures { OnOk result (pairs.new.items ≡ pairs.old.items ++ pairs_of tables.now (kept_by kept.now) leg) }
 {
     for fleet in 0..tables.fleet_count() {
-        push_pair(pairs, kept, Pair { leg, fleet })?;
+        push_pair(pairs, kept, Pair { leg, choice: fleet })?;
     }
     Ok(())
 }
@@ -119,10 +119,10 @@ fn push_pairs(pairs: &mut Vec<Pair>, tables: &Tables, kept: &Kept, leg: u32) -> 
 // Puts a pair behind those so far, where it is kept.
 fn push_pair(pairs: &mut Vec<Pair>, kept: &Kept, pair: Pair) -> Result<(), NoMemory>
     requires leg { pair.leg < MAX_LEGS }
-    requires fleet { pair.fleet < MAX_FLEETS }
-    ensures { OnOk result (pairs.new.items ≡ pairs.old.items ++ pair_of (kept_by kept.now) pair.leg pair.fleet) }
+    requires fleet { pair.choice < MAX_FLEETS }
+    ensures { OnOk result (pairs.new.items ≡ pairs.old.items ++ pair_of (kept_by kept.now) pair.leg pair.choice) }
 {
-    if !kept.kept(pair.leg, pair.fleet) {
+    if !kept.kept(pair.leg, pair.choice) {
         return Ok(());
     }
     pairs.push(pair)?;

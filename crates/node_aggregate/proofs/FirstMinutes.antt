@@ -9,7 +9,7 @@ use Rattle.timeline_net.specs.declared.timeline.Event.{Event}
 use Rattle.node_aggregate.specs.Nodes.{HappensAt, IsFirstMinute, sooner}
 
 abbrev no_event : Event
-no_event = record { minute = 0; ready = false; leg = 0 }
+no_event = record { minute = 0; ready = false; departure = 0 }
 
 -- both are ready, or both depart
 abbrev pub same_kind : Bool → Bool → Bool
@@ -99,18 +99,18 @@ same_kind_true false false e = refl
 same_kind_true false true e = cc
 
 -- an event that happens no earlier passes
-passes_there : (ready : Bool) (from minute by : ℕ) → from ≤ minute → passes ready from (record { minute = minute; ready = ready; leg = by }) ≡ true
+passes_there : (ready : Bool) (from minute by : ℕ) → from ≤ minute → passes ready from (record { minute = minute; ready = ready; departure = by }) ≡ true
 passes_there true from minute by later = grind (arith, nat_tests)
 passes_there false from minute by later = grind (arith, nat_tests)
 
 -- the event at a place, where it happens
-at_place : (events : List Event) (ready : Bool) (minute : ℕ) → (h : HappensAt events ready minute) → get_or events h.among.0 no_event ≡ record { minute = minute; ready = ready; leg = h.by }
+at_place : (events : List Event) (ready : Bool) (minute : ℕ) → (h : HappensAt events ready minute) → get_or events h.among.0 no_event ≡ record { minute = minute; ready = ready; departure = h.by }
 at_place events ready minute h = get_or_default events h.among.0 no_event _ h.among.1 ∙ h.among.2
 
 happens_at : (events : List Event) (ready : Bool) (minute k : ℕ) → k < length events → (get_or events k no_event).ready ≡ ready → (get_or events k no_event).minute ≡ minute → HappensAt events ready minute
 happens_at events ready minute k within kind is = record {
-  by = (get_or events k no_event).leg;
-  among = (k, within, get_or_default events k _ no_event within ∙ ap (λ m. record { minute = m; ready = (get_or events k no_event).ready; leg = (get_or events k no_event).leg }) is ∙ ap (λ r. record { minute = minute; ready = r; leg = (get_or events k no_event).leg }) kind);
+  by = (get_or events k no_event).departure;
+  among = (k, within, get_or_default events k _ no_event within ∙ ap (λ m. record { minute = m; ready = (get_or events k no_event).ready; departure = (get_or events k no_event).departure }) is ∙ ap (λ r. record { minute = minute; ready = r; departure = (get_or events k no_event).departure }) kind);
 }
 
 in_words : (events : List Event) (ready : Bool) (from n : ℕ) (o : Option ℕ) → length events ≤ n → n ≤ length events → Says events ready from n o

@@ -78,7 +78,7 @@ module _ (t : Tables) (keeps : Domains) (w : Weights) (f s : ℕ) (starts : List
         if_same _ _ (w (leg_on m f)) (λ come not_come. by_test (keeps (leg_on m f))
         (λ keeps_it. absurd (none_ready k (leg_of t l).dep (ready_minute t (leg_on m f)) holds (departs_at t keeps f s at.events at.happen l below kept from)
         (grind (arith, nat_tests)) (grind (arith, nat_tests)) (ready_at t keeps f s at.events at.happen m within keeps_it (grind (arith, nat_tests)))))
-        (λ not_kept. weigh.each (leg_on m f) (record { leg = within; fleet = known }) not_kept));
+        (λ not_kept. weigh.each (leg_on m f) (record { leg = within; choice = known }) not_kept));
   })
 
   departures_rise : (m n : ℕ) → m ≤ n → departed t w f s m ≤ departed t w f s n
@@ -92,7 +92,7 @@ module _ (t : Tables) (keeps : Domains) (w : Weights) (f s : ℕ) (starts : List
   kept_where_it_leaves : (l : ℕ) → l < legs_in t → leaves l ≡ true → keeps (leg_on l f) ≡ true
   unfolding leaves
   kept_where_it_leaves l below e = by_test (keeps (leg_on l f)) (λ kept. kept)
-      (λ not_kept. let none = weigh.each (leg_on l f) (record { leg = below; fleet = known }) not_kept in absurd (false≢true (grind (arith, nat_tests))))
+      (λ not_kept. let none = weigh.each (leg_on l f) (record { leg = below; choice = known }) not_kept in absurd (false≢true (grind (arith, nat_tests))))
 
   from_where_it_leaves : (l : ℕ) → leaves l ≡ true → (leg_of t l).from ≡ s
   unfolding leaves

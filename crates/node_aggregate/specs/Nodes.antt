@@ -9,7 +9,7 @@ use Rattle.timeline_net.specs.Events.{AreEvents}
 -- in this minute an aircraft is ready, or one departs
 pub record HappensAt (events : List Event) (ready : Bool) (minute : ℕ) : Type 0 where
   pub by : ℕ
-  pub among : Contains events (record { minute = minute; ready = ready; leg = by })
+  pub among : Contains events (record { minute = minute; ready = ready; departure = by })
 
 -- the first minute from one on in which it happens
 pub record IsFirstMinute (events : List Event) (ready : Bool) (from minute : ℕ) : Type 0 where

@@ -35,11 +35,11 @@ open_proper t cost keeps whole prices why e sound =
     prices_known t cost (node keeps (tree.Open prices why)) prices (All-head (IsSound t cost) (node keeps (tree.Open prices why)) [] (subst (AreSound t cost keeps) e sound)) refl
 
 abbrev step_of : ℕ → ℕ → Bool → Step
-step_of leg fleet taken = record { leg = leg; fleet = fleet; yes = taken }
+step_of leg fleet taken = record { leg = leg; choice = fleet; yes = taken }
 
 -- what is asked of a child in its part
 abbrev IsReady : Tables → Option ℤ → List (List Bool) → Step → Tree → Type 0
-IsReady t cost rows step child = IsPair t (leg_on step.leg step.fleet) × (IsOfTables t child × AreSound t cost (narrowed (kept_by rows) step) child)
+IsReady t cost rows step child = IsPair t (leg_on step.leg step.choice) × (IsOfTables t child × AreSound t cost (narrowed (kept_by rows) step) child)
 
 module _ (t : Tables) (cost : Option ℤ) (rows before : List (List Bool)) (same : rows ≡ before) (whole child : Tree) (step : Step) (leg fleet : ℕ) (yes no : Box Tree Global) (known : IsOfTables t whole) (sound : AreSound t cost (kept_by before) whole) where
   ready : (taken : Bool) (own : Tree) → step ≡ step_of leg fleet taken → child ≡ own → IsPair t (leg_on leg fleet) → IsOfTables t own → AreSound t cost (part (kept_by before) leg fleet taken) own → IsReady t cost rows step child

@@ -88,7 +88,7 @@ module _ (t : Tables) (pivots : ℕ) (best : Option Plan) (plan : IfSome best (I
       (open_sound t final keeps prices (cause.Lift step at) own.proper searched.some_pair tt tt) (answers_none t final keeps (tree.Open prices (cause.Lift step at)) (λ e. cc)) (record { searched = searched; stopped = is.stopped; nearest = same }))
 
   -- it waits to be split
-  pub waiting : (f : Fraction) → IsSplit t keeps f.leg f.fleet f.prices f.mixed → IsCeiling (worth_of t keeps f.prices 1) f.prices.scale f.worth → IfSome (cost_of best) (λ c. f.worth <ℤ c)
+  pub waiting : (f : Fraction) → IsSplit t keeps f.leg f.choice f.prices f.mixed → IsCeiling (worth_of t keeps f.prices 1) f.prices.scale f.worth → IfSome (cost_of best) (λ c. f.worth <ℤ c)
       → IsExamined t pivots best best keeps above (state.Waiting f)
   waiting f split rounded below = record {
     found = None;

@@ -25,9 +25,9 @@ flies_more t mixed a fleet flies part = record {
 
 -- the first pair of a leg, where all legs before are whole, is the first of all
 pub first_of_all : (t : Tables) (mixed : Mixed) (leg fleet : ℕ) → leg < legs_in t → ((k : ℕ) → k < leg → IsWholeLeg t mixed k) → IsFirstPartialOn t mixed leg fleet
-    → IsSplitPair t mixed (record { leg = leg; fleet = fleet })
+    → IsSplitPair t mixed (record { leg = leg; choice = fleet })
 first_of_all t mixed leg fleet within before here = record {
-  known = record { leg = within; fleet = here.known };
+  known = record { leg = within; choice = here.known };
   first = record { some = here.partial.some; not_all = here.partial.not_all; first = each };
 }
   where

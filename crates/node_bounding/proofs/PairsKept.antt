@@ -60,7 +60,7 @@ module _ (t : Tables) (keeps : Domains) (step : Step) where
 -- the part in which a leg takes a fleet, where it keeps another too
 module _ (t : Tables) (keeps : Domains) (leg fleet : ℕ) where
   pub fewer_with : leg < legs_in t → KeepsOther t keeps leg fleet → pairs_kept t (part keeps leg fleet true) < pairs_kept t keeps
-  fewer_with within other = fewer_by t keeps (record { leg = leg; fleet = fleet; yes = true }) leg other.other within (record {
+  fewer_with within other = fewer_by t keeps (record { leg = leg; choice = fleet; yes = true }) leg other.other within (record {
     known = other.known;
     kept = other.kept;
     left_out = grind (arith, nat_tests, other.differs);
@@ -68,8 +68,8 @@ module _ (t : Tables) (keeps : Domains) (leg fleet : ℕ) where
 
   -- the part in which it does not take a fleet that it keeps
   pub fewer_without : IsPair t (leg_on leg fleet) → IsTrue (keeps (leg_on leg fleet)) → pairs_kept t (part keeps leg fleet false) < pairs_kept t keeps
-  fewer_without pair kept = fewer_by t keeps (record { leg = leg; fleet = fleet; yes = false }) leg fleet pair.leg (record {
-    known = pair.fleet;
+  fewer_without pair kept = fewer_by t keeps (record { leg = leg; choice = fleet; yes = false }) leg fleet pair.leg (record {
+    known = pair.choice;
     kept = kept;
     left_out = grind (arith, nat_tests);
   })

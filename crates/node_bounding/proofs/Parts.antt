@@ -50,23 +50,23 @@ split_part t pivots final keeps above leg fleet prices mixed first second is wit
 -- a trim whose part with the pair is refuted, of the other part
 module _ (t : Tables) (pivots : ℕ) (final : Option ℤ) (keeps : Domains) (above : Prices) (trim : Trimmed) (first second : Box Tree Global)
     (refuted : IsRefuted t keeps trim) (is : first.value ≡ tree.Refuted trim.reason)
-    (without : IsPart t pivots final (part keeps trim.leg trim.fleet false) above second.value) where
+    (without : IsPart t pivots final (part keeps trim.leg trim.choice false) above second.value) where
   abbrev whole : Tree
-  whole = Trim trim.leg trim.fleet first second
+  whole = Trim trim.leg trim.choice first second
 
   -- what holds at the refuted leaf and at the trim itself holds at all nodes
-  at_all : (P : Node → Type 0) → P (node keeps whole) → P (node (part keeps trim.leg trim.fleet true) (tree.Refuted trim.reason)) → All P (nodes_in (part keeps trim.leg trim.fleet false) second.value)
+  at_all : (P : Node → Type 0) → P (node keeps whole) → P (node (part keeps trim.leg trim.choice true) (tree.Refuted trim.reason)) → All P (nodes_in (part keeps trim.leg trim.choice false) second.value)
       → All P (nodes_in keeps whole)
   at_all P here leaf others =
-      all_more P (node keeps whole) _ _ here (subst (λ y. All P (nodes_in (part keeps trim.leg trim.fleet true) y)) (sym is) (all_one P (node (part keeps trim.leg trim.fleet true) (tree.Refuted trim.reason)) leaf)) others
+      all_more P (node keeps whole) _ _ here (subst (λ y. All P (nodes_in (part keeps trim.leg trim.choice true) y)) (sym is) (all_one P (node (part keeps trim.leg trim.choice true) (tree.Refuted trim.reason)) leaf)) others
 
   pub trim_part : IsPart t pivots final keeps above whole
   trim_part = record {
     of_tables = (refuted.pair, subst (IsOfTables t) (sym is) refuted.of_tables, without.of_tables);
     in_order = all_more (IsNodeInOrder t) _ _ _ refuted.pair (subst (InWrittenOrder t) (sym is) (all_one (IsNodeInOrder t) (ordered.Refuted trim.reason) refuted.in_order)) without.in_order;
-    shallow = omega (arith, ap depth_of is, without.shallow, fewer_without t keeps trim.leg trim.fleet refuted.pair refuted.kept);
-    sound = at_all (IsSound t final) (trim_sound t final keeps trim.leg trim.fleet first second trim.reason is refuted.kept)
-        (refuted_sound t final (part keeps trim.leg trim.fleet true) trim.reason refuted.proper refuted.none_bare refuted.above) without.sound;
+    shallow = omega (arith, ap depth_of is, without.shallow, fewer_without t keeps trim.leg trim.choice refuted.pair refuted.kept);
+    sound = at_all (IsSound t final) (trim_sound t final keeps trim.leg trim.choice first second trim.reason is refuted.kept)
+        (refuted_sound t final (part keeps trim.leg trim.choice true) trim.reason refuted.proper refuted.none_bare refuted.above) without.sound;
     soles = at_all (AnswersSole t final) (answers_none t final keeps whole (λ e. cc)) (answers_none t final _ (tree.Refuted trim.reason) (λ e. cc)) without.soles;
-    caused = (subst (AreCaused t pivots (part keeps trim.leg trim.fleet true) above) (sym is) tt, without.caused);
+    caused = (subst (AreCaused t pivots (part keeps trim.leg trim.choice true) above) (sym is) tt, without.caused);
   }

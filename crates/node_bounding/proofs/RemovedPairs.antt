@@ -28,12 +28,12 @@ pub removals_within : (t : Tables) (keeps : Domains) (removals : List Removal) �
 removals_within t keeps [] refuted = All-nil IsWithin
 removals_within t keeps (removal ∷ removals) refuted =
     All-cons IsWithin removal removals
-    (record { leg = omega (arith, refuted.0.pair.leg, t.in_range.legs_fit.few); fleet = omega (arith, refuted.0.pair.fleet, t.in_range.fleets_fit.few) })
+    (record { leg = omega (arith, refuted.0.pair.leg, t.in_range.legs_fit.few); choice = omega (arith, refuted.0.pair.choice, t.in_range.fleets_fit.few) })
     (removals_within t (without keeps removal) removals refuted.1)
 
 pub allowed_after : (t : Tables) (keeps : Domains) (removals : List Removal) → KeepAllowed t keeps → KeepAllowed t (kept_after keeps removals)
 allowed_after t keeps [] allowed = allowed
-allowed_after t keeps (removal ∷ removals) allowed = allowed_after t (without keeps removal) removals (allowed_part t keeps (record { leg = removal.leg; fleet = removal.fleet; yes = false }) allowed)
+allowed_after t keeps (removal ∷ removals) allowed = allowed_after t (without keeps removal) removals (allowed_part t keeps (record { leg = removal.leg; choice = removal.choice; yes = false }) allowed)
 
 pub allowed_all : (t : Tables) → KeepAllowed t (all_pairs t)
 allowed_all t = record { each = λ p pair kept. kept }

@@ -57,27 +57,27 @@ module _ (t : Tables) (keeps : Domains) (mixed : Mixed) (is : IsMixedAt t keeps 
   flown_kept : (p : Pair) → IsPair t p → parts_in mixed p ≢ 0 → IsTrue (keeps p)
   flown_kept p pair some = by_test (keeps p) (λ kept. kept) (λ not_kept. absurd (some (is.plan.kept p pair not_kept)))
 
-  module _ (pair : Pair) (known : IsPair t pair) (first : IsFirstPartial t mixed pair.leg pair.fleet) where
-    pub split_kept : IsKeptPair keeps pair.leg pair.fleet
+  module _ (pair : Pair) (known : IsPair t pair) (first : IsFirstPartial t mixed pair.leg pair.choice) where
+    pub split_kept : IsKeptPair keeps pair.leg pair.choice
     split_kept = flown_kept pair known (λ none. absurd (omega (arith, ints, first.some, none)))
 
-    pub split_other : KeepsOther t keeps pair.leg pair.fleet
+    pub split_other : KeepsOther t keeps pair.leg pair.choice
     split_other =
         let less : parts_in mixed pair < parts_of_leg mixed = omega (arith, ints, first.some, first.not_all) in
-        let found = other_term (λ f. parts_in mixed (leg_on pair.leg f)) (fleets_in t) pair.fleet (λ past. absurd (omega (arith, past, known.fleet))) (λ there. omega (arith, less, is.plan.cover pair.leg known.leg)) in
+        let found = other_term (λ f. parts_in mixed (leg_on pair.leg f)) (fleets_in t) pair.choice (λ past. absurd (omega (arith, past, known.choice))) (λ there. omega (arith, less, is.plan.cover pair.leg known.leg)) in
         record {
           other = found.place;
           known = found.within;
-          kept = flown_kept (leg_on pair.leg found.place) (record { leg = known.leg; fleet = found.within }) found.some;
+          kept = flown_kept (leg_on pair.leg found.place) (record { leg = known.leg; choice = found.within }) found.some;
           differs = found.differs;
         }
 
 -- a subproblem whose best fractional assignment flies a pair in part may be split by it
-pub may_split : (t : Tables) (keeps : Domains) (prices : Prices) (mixed : Mixed) (pair : Pair) → IsSearched t keeps → AreBest t keeps prices mixed → IsSplitPair t mixed pair → IsSplit t keeps pair.leg pair.fleet prices mixed
+pub may_split : (t : Tables) (keeps : Domains) (prices : Prices) (mixed : Mixed) (pair : Pair) → IsSearched t keeps → AreBest t keeps prices mixed → IsSplitPair t mixed pair → IsSplit t keeps pair.leg pair.choice prices mixed
 may_split t keeps prices mixed pair searched best split = record {
   searched = searched;
   best = best;
-  fraction = record { partial = λ whole. not_whole (whole pair.leg split.known.leg pair.fleet split.known.fleet); value = best.value };
+  fraction = record { partial = λ whole. not_whole (whole pair.leg split.known.leg pair.choice split.known.choice); value = best.value };
   first = split.first;
   pair = split.known;
   kept = split_kept t keeps mixed best.mixed_at pair split.known split.first;

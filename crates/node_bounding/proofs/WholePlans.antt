@@ -37,7 +37,7 @@ times_cost : (t : Tables) (c : ℕ) (w u : Weights) → ((p : Pair) → IsPair t
 unfolding mixed_cost
 times_cost t c w u same =
     sum_below_ℤ-same _ _ (legs_in t) (λ l leg.
-    sum_below_ℤ-same _ _ (fleets_in t) (λ f fleet. ap (λ n. pos n *ℤ unwrap_or (cost_of t (leg_on l f)) (pos 0)) (same (leg_on l f) (record { leg = leg; fleet = fleet }))
+    sum_below_ℤ-same _ _ (fleets_in t) (λ f fleet. ap (λ n. pos n *ℤ unwrap_or (cost_of t (leg_on l f)) (pos 0)) (same (leg_on l f) (record { leg = leg; choice = fleet }))
     ∙ regroup c (u (leg_on l f)) (unwrap_or (cost_of t (leg_on l f)) (pos 0)))
     ∙ sym (*ℤ-sum_below_ℤ (pos c) (weighted_cost t u l) (fleets_in t)))
     ∙ sym (*ℤ-sum_below_ℤ (pos c) (λ l. sum_below_ℤ (weighted_cost t u l) (fleets_in t)) (legs_in t))
@@ -63,7 +63,7 @@ module _ (t : Tables) (keeps : Domains) (mixed : Mixed) (is : IsMixedAt t keeps 
 -- ---- a whole one
 module _ (t : Tables) (keeps : Domains) (mixed : Mixed) (a : List ℕ) (allowed : KeepAllowed t keeps) (is : IsMixedAt t keeps mixed) (ends : IsWhole t mixed) (flies : FliesParts t mixed a) where
   all_or_none : whole.IsWhole t (parts_of_leg mixed) (parts_in mixed)
-  all_or_none = record { each = λ p pair some. by_end p some (ends p.leg pair.leg p.fleet pair.fleet) }
+  all_or_none = record { each = λ p pair some. by_end p some (ends p.leg pair.leg p.choice pair.choice) }
     where
       by_end : (p : Pair) → parts_in mixed p ≢ 0 → IsEnd mixed.scale (weight_in mixed p) → parts_in mixed p ≡ parts_of_leg mixed
       by_end p some (inl none) = absurd (some (size_of_zero (weight_in mixed p) none))
@@ -84,7 +84,7 @@ module _ (t : Tables) (keeps : Domains) (mixed : Mixed) (a : List ℕ) (allowed 
       within = omega (arith, below, flies.each_leg)
 
       there : parts_in mixed (leg_on l (fleet_at a l)) ≡ parts_of_leg mixed * weights_of other (leg_on l (fleet_at a l))
-      there = legal_by.1.weights (leg_on l (fleet_at a l)) (record { leg = below; fleet = (flies.parts l within).known })
+      there = legal_by.1.weights (leg_on l (fleet_at a l)) (record { leg = below; choice = (flies.parts l within).known })
 
       by_test : (b : Bool) → (fleet_at other l == fleet_at a l) ≡ b → fleet_at a l ≡ fleet_at other l
       by_test true e = grind (arith, nat_tests)

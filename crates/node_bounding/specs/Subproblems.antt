@@ -48,11 +48,11 @@ IsLess earlier later = IsSomeAnd later (λ c. IfSome earlier (λ e. c <ℤ e))
 abbrev pub node_of : State → Node
 node_of (state.Leaf leaf) = own_node leaf
 node_of (state.Waiting f) = node.Open f.prices (cause.Nodes f.mixed)
-node_of (state.Split f) = node.Split f.leg f.fleet f.prices f.mixed
+node_of (state.Split f) = node.Split f.leg f.choice f.prices f.mixed
 
 -- a subproblem that may be split, with the rounded worth of its prices
 pub record IsFractional (t : Tables) (keeps : Domains) (f : Fraction) : Type 0 where
-  pub split : IsSplit t keeps f.leg f.fleet f.prices f.mixed
+  pub split : IsSplit t keeps f.leg f.choice f.prices f.mixed
   pub rounded : IsCeiling (worth_of t keeps f.prices 1) f.prices.scale f.worth
 
 -- the tree of a part of a search, over the pairs that its subproblem keeps, where the plan in the end has this cost;

@@ -14,13 +14,13 @@ use Rattle.node_bounding.specs.Runs.{IsSearched}
 -- a removal of a pair that there may be
 pub record IsWithin (removal : Removal) : Type 0 where
   pub leg : removal.leg < MAX_LEGS
-  pub fleet : removal.fleet < MAX_FLEETS
+  pub fleet : removal.choice < MAX_FLEETS
 
 -- a tree below a removal: the part with the pair is refuted by its reason, and the tree is that of the other part
 pub record IsBelow (removal : Removal) (rest whole : Tree) : Type 0 where
   pub with_pair : Box Tree Global
   pub without : Box Tree Global
-  pub is : whole ≡ Trim removal.leg removal.fleet with_pair without
+  pub is : whole ≡ Trim removal.leg removal.choice with_pair without
   pub yes_is : with_pair.value ≡ tree.Refuted removal.reason
   pub no_is : without.value ≡ rest
 
@@ -45,7 +45,7 @@ AreSearched t keeps (tree.Split' leg fleet prices mixed p with_pair q without) =
 abbrev pub AreOnTop : Tables → Domains → List Removal → Tree → Type 0
 AreOnTop t keeps [] whole = AreSearched t keeps whole
 AreOnTop t keeps (removal ∷ removals) (tree.Trim' leg fleet p with_pair q without) =
-    (leg ≡ removal.leg) × (fleet ≡ removal.fleet) × (with_pair ≡ tree.Refuted removal.reason) × AreOnTop t (part keeps leg fleet false) removals without
+    (leg ≡ removal.leg) × (fleet ≡ removal.choice) × (with_pair ≡ tree.Refuted removal.reason) × AreOnTop t (part keeps leg fleet false) removals without
 AreOnTop t keeps (removal ∷ removals) other = ⊥
 
 -- the trims of a tree are the removals that presolve gives for the tables

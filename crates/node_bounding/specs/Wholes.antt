@@ -23,7 +23,7 @@ pub record IsFirstPartialOn (t : Tables) (mixed : Mixed) (leg fleet : ℕ) : Typ
 -- the first pair of all that is flown in part
 pub record IsSplitPair (t : Tables) (mixed : Mixed) (pair : Pair) : Type 0 where
   pub known : IsPair t pair
-  pub first : IsFirstPartial t mixed pair.leg pair.fleet
+  pub first : IsFirstPartial t mixed pair.leg pair.choice
 
 -- a leg's fleet flies a part of it
 pub record FliesPart (t : Tables) (mixed : Mixed) (leg fleet : ℕ) : Type 0 where

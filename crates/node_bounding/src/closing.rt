@@ -35,7 +35,7 @@ pub fn close(alloc: Global, tables: &Tables, kept: &mut Kept, cost: &i128, tree:
         }
         Tree::Trim {
             leg,
-            fleet,
+            choice: fleet,
             yes,
             no,
         } => {
@@ -45,7 +45,7 @@ pub fn close(alloc: Global, tables: &Tables, kept: &mut Kept, cost: &i128, tree:
         }
         Tree::Split {
             leg,
-            fleet,
+            choice: fleet,
             yes,
             no,
             ..
@@ -67,7 +67,7 @@ fn close_part(
     step: Step,
     child: &mut Tree,
 )
-    requires pair { IsPair tables.now (leg_on step.leg step.fleet) }
+    requires pair { IsPair tables.now (leg_on step.leg step.choice) }
     requires known { IsOfTables tables.now child.old }
     requires sound { AreSound tables.now (Some cost.now) (narrowed (kept_by kept.old) step) child.old }
     ensures same { kept.new ≡ kept.old }

@@ -100,7 +100,7 @@ fn divided(
     }
     State::Waiting(Fraction {
         leg: pair.leg,
-        fleet: pair.fleet,
+        choice: pair.choice,
         prices,
         mixed,
         worth,

@@ -17,7 +17,7 @@ pub fn remove(kept: &mut Kept, removals: &[Trim])
     ensures { kept_by kept.new ≡ kept_after (kept_by kept.old) removals.now }
 {
     for removal in removals {
-        kept.narrow(without(removal.leg, removal.fleet));
+        kept.narrow(without(removal.leg, removal.choice));
     }
 }
 
@@ -39,7 +39,7 @@ fn below_one(alloc: Global, removal: Trim, rest: Tree) -> Result<Tree, NoMemory>
 {
     Ok(Tree::Trim {
         leg: removal.leg,
-        fleet: removal.fleet,
+        choice: removal.choice,
         yes: Box::new(alloc, Tree::Refuted(removal.reason))?,
         no: Box::new(alloc, rest)?,
     })

@@ -7,7 +7,7 @@ pub struct Fraction {
     /// The leg of the first such pair.
     pub leg: u32,
     /// Its fleet.
-    pub fleet: u32,
+    pub choice: u32,
     pub prices: Prices,
     pub mixed: Mixed,
     /// The worth of the prices, rounded up, in cost units.

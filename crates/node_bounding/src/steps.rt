@@ -5,22 +5,22 @@ use fleet_model::Step;
 
 /// The step into the part in which the leg takes the fleet.
 pub fn with(leg: u32, fleet: u32) -> Step
-    ensures { result ≡ record { leg = leg; fleet = fleet; yes = true } }
+    ensures { result ≡ record { leg = leg; choice = fleet; yes = true } }
 {
     Step {
         leg,
-        fleet,
+        choice: fleet,
         yes: true,
     }
 }
 
 /// The step into the part in which the leg takes another fleet.
 pub fn without(leg: u32, fleet: u32) -> Step
-    ensures { result ≡ record { leg = leg; fleet = fleet; yes = false } }
+    ensures { result ≡ record { leg = leg; choice = fleet; yes = false } }
 {
     Step {
         leg,
-        fleet,
+        choice: fleet,
         yes: false,
     }
 }

@@ -14,7 +14,7 @@ pub(crate) fn first_partial(tables: &Tables, mixed: &Mixed) -> Option<Pair>
 {
     for leg in 0..tables.leg_count() {
         if let Some(fleet) = first_partial_on(tables, mixed, leg) {
-            return Some(Pair { leg, fleet });
+            return Some(Pair { leg, choice: fleet });
         }
     }
     None
@@ -27,7 +27,7 @@ fn first_partial_on(tables: &Tables, mixed: &Mixed, leg: u32) -> Option<u32>
     ensures { MatchOption result (IsWholeLeg tables.now mixed.now leg) (IsFirstPartialOn tables.now mixed.now leg) }
 {
     for fleet in 0..tables.fleet_count() {
-        if is_partial(tables, mixed, Pair { leg, fleet }) {
+        if is_partial(tables, mixed, Pair { leg, choice: fleet }) {
             return Some(fleet);
         }
     }
@@ -38,7 +38,7 @@ fn first_partial_on(tables: &Tables, mixed: &Mixed, leg: u32) -> Option<u32>
 fn is_partial(tables: &Tables, mixed: &Mixed, pair: Pair) -> bool
     requires parts { AreParts tables.now mixed.now }
     requires pair { IsPair tables.now pair }
-    ensures { MatchBool result (IsPartial mixed.now pair.leg pair.fleet) (IsWholePair mixed.now pair.leg pair.fleet) }
+    ensures { MatchBool result (IsPartial mixed.now pair.leg pair.choice) (IsWholePair mixed.now pair.leg pair.choice) }
 {
     let weight = mixed.weight(pair);
     0 < weight && weight < mixed.scale
@@ -63,7 +63,7 @@ fn flown_part(tables: &Tables, mixed: &Mixed, leg: u32) -> u32
     ensures { FliesPart tables.now mixed.now leg result }
 {
     for fleet in 0..tables.fleet_count() {
-        if mixed.weight(Pair { leg, fleet }) != 0 {
+        if mixed.weight(Pair { leg, choice: fleet }) != 0 {
             return fleet;
         }
     }

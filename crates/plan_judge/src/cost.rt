@@ -14,7 +14,7 @@ pub(crate) fn first_not_allowed(tables: &Tables, plan: &Assignment) -> Option<u3
 {
     for leg in 0..tables.leg_count() {
         let fleet = plan.fleet(leg);
-        if tables.cost(Pair { leg, fleet }).is_none() {
+        if tables.cost(Pair { leg, choice: fleet }).is_none() {
             return Some(leg);
         }
     }
@@ -44,5 +44,5 @@ fn leg_units(tables: &Tables, plan: &Assignment, leg: u32) -> i128
     ensures fits { IsCost result }
 {
     let fleet = plan.fleet(leg);
-    tables.cost(Pair { leg, fleet }).unwrap()
+    tables.cost(Pair { leg, choice: fleet }).unwrap()
 }

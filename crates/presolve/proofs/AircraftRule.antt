@@ -53,42 +53,42 @@ some_count n = omega (arith, ints)
 
 module _ (t : Tables) (keeps : Domains) (p : Pair) (pair : IsPair t p) (is_kept : keeps p ≡ true) where
   abbrev flown : Domains
-  flown = part keeps p.leg p.fleet true
+  flown = part keeps p.leg p.choice true
 
   abbrev minute : ℕ
   minute = departure t p
 
-  flow : (q : Pair) → reason_flow t rule.TooFewAircraft p q ≡ pos (if q.fleet == p.fleet then busy_at t q minute else 0)
-  flow q = by_fleet (q.fleet == p.fleet) (nat_le (departure t q) minute) (nat_le (ready_minute t q) minute) (laps_of t q) (no_less_busy t q minute)
+  flow : (q : Pair) → reason_flow t rule.TooFewAircraft p q ≡ pos (if q.fleet == p.choice then busy_at t q minute else 0)
+  flow q = by_fleet (q.fleet == p.choice) (nat_le (departure t q) minute) (nat_le (ready_minute t q) minute) (laps_of t q) (no_less_busy t q minute)
 
   -- nothing adds less than 0
   some : (l : ℕ) → NoneAddsLess t flown rule.TooFewAircraft p l (pos 0)
   some l = record { each = λ f known kept. rw (flow (leg_on l f)) (some_count _) }
 
   -- on a leg that the fleet surely flies it is the only one that is kept
-  only_fleet : (l f : ℕ) → l < legs_in t → f < fleets_in t → surely_flies t keeps p l ≡ true → flown (leg_on l f) ≡ true → f ≡ p.fleet
-  only_fleet l f within known sure kept = by_either (l == p.leg) (has_only t keeps l p.fleet) sure
-      (λ e. let same : l ≡ p.leg = grind (arith, nat_tests) in is_own_fleet keeps p.leg p.fleet f (rw same at kept))
+  only_fleet : (l f : ℕ) → l < legs_in t → f < fleets_in t → surely_flies t keeps p l ≡ true → flown (leg_on l f) ≡ true → f ≡ p.choice
+  only_fleet l f within known sure kept = by_either (l == p.leg) (has_only t keeps l p.choice) sure
+      (λ e. let same : l ≡ p.leg = grind (arith, nat_tests) in is_own_fleet keeps p.leg p.choice f (rw same at kept))
       (λ e.
-      let parts = parts_true (keeps (leg_on l p.fleet)) (kept_on t keeps l == 1) e in
+      let parts = parts_true (keeps (leg_on l p.choice)) (kept_on t keeps l == 1) e in
       let one : kept_on t keeps l ≡ 1 = counted (kept_on t keeps l) parts.1 in
-      count_below-one (λ g. keeps (leg_on l g)) (fleets_in t) f p.fleet one known pair.fleet (was_kept keeps p.leg p.fleet true (leg_on l f) kept) parts.0)
+      count_below-one (λ g. keeps (leg_on l g)) (fleets_in t) f p.choice one known pair.fleet (was_kept keeps p.leg p.choice true (leg_on l f) kept) parts.0)
     where
       counted : (n : ℕ) → (n == 1) ≡ true → n ≡ 1
       counted n e = grind (arith, nat_tests)
 
-  surely_adds : (l : ℕ) → l < legs_in t → surely_flies t keeps p l ≡ true → NoneAddsLess t flown rule.TooFewAircraft p l (pos (busy_at t (leg_on l p.fleet) minute))
+  surely_adds : (l : ℕ) → l < legs_in t → surely_flies t keeps p l ≡ true → NoneAddsLess t flown rule.TooFewAircraft p l (pos (busy_at t (leg_on l p.choice) minute))
   surely_adds l within sure = record {
     each = λ f known kept.
-        let own : f ≡ p.fleet = only_fleet l f within known sure kept in
-        rw (own, flow (leg_on l p.fleet)) (rw (same_number p.fleet) (omega (arith, ints)));
+        let own : f ≡ p.choice = only_fleet l f within known sure kept in
+        rw (own, flow (leg_on l p.choice)) (rw (same_number p.choice) (omega (arith, ints)));
   }
 
   -- and it keeps it
-  surely_kept : (l : ℕ) → surely_flies t keeps p l ≡ true → flown (leg_on l p.fleet) ≡ true
-  surely_kept l sure = by_test (l == p.leg) (has_only t keeps l p.fleet) sure
-      (λ e. let same : l ≡ p.leg = grind (arith, nat_tests) in rw same (is_flown keeps p.leg p.fleet is_kept))
-      (λ e f. let other : l ≢ p.leg = grind (arith, nat_tests) in on_others keeps p.leg p.fleet true (leg_on l p.fleet) other ∙ first_true (keeps (leg_on l p.fleet)) _ f)
+  surely_kept : (l : ℕ) → surely_flies t keeps p l ≡ true → flown (leg_on l p.choice) ≡ true
+  surely_kept l sure = by_test (l == p.leg) (has_only t keeps l p.choice) sure
+      (λ e. let same : l ≡ p.leg = grind (arith, nat_tests) in rw same (is_flown keeps p.leg p.choice is_kept))
+      (λ e f. let other : l ≢ p.leg = grind (arith, nat_tests) in on_others keeps p.leg p.choice true (leg_on l p.choice) other ∙ first_true (keeps (leg_on l p.choice)) _ f)
     where
       by_test : {X : Type 0} (a b : Bool) → (a || b) ≡ true → (a ≡ true → X) → (a ≡ false → b ≡ true → X) → X
       by_test true b e x y = x refl
@@ -97,8 +97,8 @@ module _ (t : Tables) (keeps : Domains) (p : Pair) (pair : IsPair t p) (is_kept 
 
   -- so each leg is worth what it surely keeps busy, or more
   leg_bound : (prices : Prices) → IsReason t rule.TooFewAircraft p prices → (l : ℕ) → l < legs_in t → pos (busy_on t keeps p minute l) ≤ℤ leg_worth t flown prices 0 l
-  leg_bound prices reason l within = by_test (surely_flies t keeps p l) (busy_at t (leg_on l p.fleet) minute)
-      (λ sure. leg_of_kept t flown rule.TooFewAircraft p prices l p.fleet _ reason within (surely_adds l within sure) pair.fleet (surely_kept l sure))
+  leg_bound prices reason l within = by_test (surely_flies t keeps p l) (busy_at t (leg_on l p.choice) minute)
+      (λ sure. leg_of_kept t flown rule.TooFewAircraft p prices l p.choice _ reason within (surely_adds l within sure) pair.fleet (surely_kept l sure))
       (leg_low t flown rule.TooFewAircraft p prices l reason within (some l))
     where
       by_test : (b : Bool) (n : ℕ) → (b ≡ true → pos n ≤ℤ leg_worth t flown prices 0 l) → pos 0 ≤ℤ leg_worth t flown prices 0 l → pos (if b then n else 0) ≤ℤ leg_worth t flown prices 0 l
@@ -106,12 +106,12 @@ module _ (t : Tables) (keeps : Domains) (p : Pair) (pair : IsPair t p) (is_kept 
       by_test false n x y = y
 
   -- and the rents are the fleet's aircraft
-  all_rents : sum_below_ℤ (reason_rents t rule.TooFewAircraft p) (fleets_in t) ≡ pos (fleet_of t p.fleet).aircraft
+  all_rents : sum_below_ℤ (reason_rents t rule.TooFewAircraft p) (fleets_in t) ≡ pos (fleet_of t p.choice).aircraft
   all_rents =
-      sum_below_ℤ-same (reason_rents t rule.TooFewAircraft p) (λ f. where_true (p.fleet == f) (pos (fleet_of t f).aircraft)) (fleets_in t) (λ f known. at_fleet (f == p.fleet) (p.fleet == f) (fleet_of t f).aircraft (turned f))
-      ∙ sum_below_ℤ-one p.fleet (λ f. pos (fleet_of t f).aircraft) (fleets_in t) pair.fleet
+      sum_below_ℤ-same (reason_rents t rule.TooFewAircraft p) (λ f. where_true (p.choice == f) (pos (fleet_of t f).aircraft)) (fleets_in t) (λ f known. at_fleet (f == p.choice) (p.choice == f) (fleet_of t f).aircraft (turned f))
+      ∙ sum_below_ℤ-one p.choice (λ f. pos (fleet_of t f).aircraft) (fleets_in t) pair.fleet
     where
-      turned : (f : ℕ) → (f == p.fleet) ≡ (p.fleet == f)
+      turned : (f : ℕ) → (f == p.choice) ≡ (p.choice == f)
       turned f = grind (arith, nat_tests)
 
       at_fleet : (a b : Bool) (n : ℕ) → a ≡ b → (if a then pos 1 else pos 0) *ℤ pos n ≡ where_true b (pos n)
@@ -120,12 +120,12 @@ module _ (t : Tables) (keeps : Domains) (p : Pair) (pair : IsPair t p) (is_kept 
       at_fleet true false n e = cc
       at_fleet false true n e = cc
 
-  refuted : (prices : Prices) → IsReason t rule.TooFewAircraft p prices → (fleet_of t p.fleet).aircraft < surely_busy t keeps p minute → pos 0 <ℤ worth_of t flown prices 0
+  refuted : (prices : Prices) → IsReason t rule.TooFewAircraft p prices → (fleet_of t p.choice).aircraft < surely_busy t keeps p minute → pos 0 <ℤ worth_of t flown prices 0
   unfolding surely_busy
   refuted prices reason too_few =
       let each = sum_below_ℤ-le (λ l. pos (busy_on t keeps p minute l)) (leg_worth t flown prices 0) (legs_in t) (leg_bound prices reason) in
       above_zero t flown prices (omega (arith, ints, each, sum_below_ℤ-pos (busy_on t keeps p minute) (legs_in t), rents_are t rule.TooFewAircraft p prices reason, all_rents, too_few))
 
-pub too_few_refutes : (t : Tables) (keeps : Domains) (p : Pair) (prices : Prices) → IsPair t p → keeps p ≡ true → (fleet_of t p.fleet).aircraft < surely_busy t keeps p (departure t p)
-    → IsReason t rule.TooFewAircraft p prices → pos 0 <ℤ worth_of t (part keeps p.leg p.fleet true) prices 0
+pub too_few_refutes : (t : Tables) (keeps : Domains) (p : Pair) (prices : Prices) → IsPair t p → keeps p ≡ true → (fleet_of t p.choice).aircraft < surely_busy t keeps p (departure t p)
+    → IsReason t rule.TooFewAircraft p prices → pos 0 <ℤ worth_of t (part keeps p.leg p.choice true) prices 0
 too_few_refutes t keeps p prices pair kept too_few reason = refuted t keeps p pair kept prices reason too_few

@@ -32,15 +32,15 @@ pub few_alone : (t : Tables) (keeps : Domains) (f m : ℕ) → f < fleets_in t �
 unfolding all_busy_alone
 few_alone t keeps f m known =
     let bound = sum_below-bound (busy_alone t keeps f m) 3 (legs_in t)
-    (record { each = λ l below. where_counted (has_only t keeps l f) (busy_at t (leg_on l f) m) (few_busy t (leg_on l f) m (record { leg = below; fleet = known })) }) in
+    (record { each = λ l below. where_counted (has_only t keeps l f) (busy_at t (leg_on l f) m) (few_busy t (leg_on l f) m (record { leg = below; choice = known })) }) in
     let legs = t.in_range.legs_fit.few in
     omega (arith, bound, legs)
 
 -- ---- without a pair
 -- of other legs all is as it was
-other_alone : (t : Tables) (keeps : Domains) (p : Pair) (f m l : ℕ) → l ≢ p.leg → busy_alone t (part keeps p.leg p.fleet false) f m l ≡ busy_alone t keeps f m l
+other_alone : (t : Tables) (keeps : Domains) (p : Pair) (f m l : ℕ) → l ≢ p.leg → busy_alone t (part keeps p.leg p.choice false) f m l ≡ busy_alone t keeps f m l
 other_alone t keeps p f m l other =
-    ap (λ b. if b then busy_at t (leg_on l f) m else 0) (both _ _ _ _ (on_others keeps p.leg p.fleet false (leg_on l f) other) (other_leg_same t keeps p false l other))
+    ap (λ b. if b then busy_at t (leg_on l f) m else 0) (both _ _ _ _ (on_others keeps p.leg p.choice false (leg_on l f) other) (other_leg_same t keeps p false l other))
   where
     both : (a b : Bool) (j k : ℕ) → a ≡ b → j ≡ k → (a && (j == 1)) ≡ (b && (k == 1))
     both a b j k e h = rw (e, h) refl
@@ -51,29 +51,29 @@ not_alone true n k other = grind (arith, nat_tests)
 not_alone false n k other = refl
 
 -- as long as its leg keeps a pair, what it keeps busy alone is what is more
-pub more_alone : (t : Tables) (keeps : Domains) (p : Pair) (f m : ℕ) → IsPair t p → keeps p ≡ true → kept_on t (part keeps p.leg p.fleet false) p.leg ≢ 0
-    → all_busy_alone t (part keeps p.leg p.fleet false) f m ≡ all_busy_alone t keeps f m + busy_alone t (part keeps p.leg p.fleet false) f m p.leg
+pub more_alone : (t : Tables) (keeps : Domains) (p : Pair) (f m : ℕ) → IsPair t p → keeps p ≡ true → kept_on t (part keeps p.leg p.choice false) p.leg ≢ 0
+    → all_busy_alone t (part keeps p.leg p.choice false) f m ≡ all_busy_alone t keeps f m + busy_alone t (part keeps p.leg p.choice false) f m p.leg
 unfolding all_busy_alone
 more_alone t keeps p f m pair kept left =
     let two = own_leg_fewer t keeps p pair kept in
     let none = not_alone (keeps (leg_on p.leg f)) (busy_at t (leg_on p.leg f) m) (kept_on t keeps p.leg) (omega arith) in
-    sum_below-more (busy_alone t (part keeps p.leg p.fleet false) f m) (busy_alone t keeps f m) (legs_in t) p.leg (busy_alone t (part keeps p.leg p.fleet false) f m p.leg) pair.leg
+    sum_below-more (busy_alone t (part keeps p.leg p.choice false) f m) (busy_alone t keeps f m) (legs_in t) p.leg (busy_alone t (part keeps p.leg p.choice false) f m p.leg) pair.leg
     (omega (arith, none)) (record { each = λ l below other. other_alone t keeps p f m l other })
 
 -- and where it keeps two yet, nothing is more
-pub same_alone : (t : Tables) (keeps : Domains) (p : Pair) (f m : ℕ) → IsPair t p → keeps p ≡ true → kept_on t (part keeps p.leg p.fleet false) p.leg ≢ 0
-    → kept_on t (part keeps p.leg p.fleet false) p.leg ≢ 1 → all_busy_alone t (part keeps p.leg p.fleet false) f m ≡ all_busy_alone t keeps f m
+pub same_alone : (t : Tables) (keeps : Domains) (p : Pair) (f m : ℕ) → IsPair t p → keeps p ≡ true → kept_on t (part keeps p.leg p.choice false) p.leg ≢ 0
+    → kept_on t (part keeps p.leg p.choice false) p.leg ≢ 1 → all_busy_alone t (part keeps p.leg p.choice false) f m ≡ all_busy_alone t keeps f m
 same_alone t keeps p f m pair kept left other =
-    let none = not_alone (part keeps p.leg p.fleet false (leg_on p.leg f)) (busy_at t (leg_on p.leg f) m) (kept_on t (part keeps p.leg p.fleet false) p.leg) other in
+    let none = not_alone (part keeps p.leg p.choice false (leg_on p.leg f)) (busy_at t (leg_on p.leg f) m) (kept_on t (part keeps p.leg p.choice false) p.leg) other in
     omega (arith, more_alone t keeps p f m pair kept left, none)
 
 -- ---- where a pair is flown
 -- what is surely busy is what legs without a choice keep busy, and the pair where it isn't among them
 pub surely_is : (t : Tables) (keeps : Domains) (p : Pair) (m : ℕ) → IsPair t p → keeps p ≡ true
-    → surely_busy t keeps p m ≡ all_busy_alone t keeps p.fleet m + (if kept_on t keeps p.leg == 1 then 0 else busy_at t p m)
+    → surely_busy t keeps p m ≡ all_busy_alone t keeps p.choice m + (if kept_on t keeps p.leg == 1 then 0 else busy_at t p m)
 unfolding surely_busy all_busy_alone
 surely_is t keeps p m pair kept =
-    sum_below-more (busy_on t keeps p m) (busy_alone t keeps p.fleet m) (legs_in t) p.leg (if kept_on t keeps p.leg == 1 then 0 else busy_at t p m) pair.leg
+    sum_below-more (busy_on t keeps p m) (busy_alone t keeps p.choice m) (legs_in t) p.leg (if kept_on t keeps p.leg == 1 then 0 else busy_at t p m) pair.leg
     (own (p.leg == p.leg) (keeps p) (kept_on t keeps p.leg == 1) (busy_at t p m) (grind (arith, nat_tests)) kept)
     (record { each = λ l below other. others l (l == p.leg) (grind (arith, nat_tests)) })
   where
@@ -83,7 +83,7 @@ surely_is t keeps p m pair kept =
     own false b c n e h = cc
     own true false c n e h = cc
 
-    others : (l : ℕ) (a : Bool) → a ≡ false → ◌≡◌ {A = ℕ} (if a || has_only t keeps l p.fleet then busy_at t (leg_on l p.fleet) m else 0) (busy_alone t keeps p.fleet m l)
+    others : (l : ℕ) (a : Bool) → a ≡ false → ◌≡◌ {A = ℕ} (if a || has_only t keeps l p.choice then busy_at t (leg_on l p.choice) m else 0) (busy_alone t keeps p.choice m l)
     others l false e = refl
     others l true e = cc
 
@@ -114,13 +114,13 @@ some_fleet t keeps leg one none =
     omega (arith, one, zeros, sum_below-zero (fleets_in t))
 
 -- the same, as it is looked up
-pub surely_alone : (t : Tables) (keeps : Domains) (p : Pair) (minute alone : ℕ) → IsPair t p → keeps p ≡ true → minute ≡ departure t p → alone ≡ all_busy_alone t keeps p.fleet minute
+pub surely_alone : (t : Tables) (keeps : Domains) (p : Pair) (minute alone : ℕ) → IsPair t p → keeps p ≡ true → minute ≡ departure t p → alone ≡ all_busy_alone t keeps p.choice minute
     → true ≡ (kept_on t keeps p.leg == 1) → alone ≡ surely_busy t keeps p (departure t p)
 surely_alone t keeps p minute alone pair kept at is one =
-    is ∙ ap (all_busy_alone t keeps p.fleet) at ∙ sym (surely_is t keeps p (departure t p) pair kept ∙ rw (← one) (omega arith))
+    is ∙ ap (all_busy_alone t keeps p.choice) at ∙ sym (surely_is t keeps p (departure t p) pair kept ∙ rw (← one) (omega arith))
 
-pub surely_more : (t : Tables) (keeps : Domains) (p : Pair) (minute alone busy : ℕ) → IsPair t p → keeps p ≡ true → minute ≡ departure t p → alone ≡ all_busy_alone t keeps p.fleet minute → busy ≡ busy_at t p minute
+pub surely_more : (t : Tables) (keeps : Domains) (p : Pair) (minute alone busy : ℕ) → IsPair t p → keeps p ≡ true → minute ≡ departure t p → alone ≡ all_busy_alone t keeps p.choice minute → busy ≡ busy_at t p minute
     → false ≡ (kept_on t keeps p.leg == 1) → alone + busy ≡ surely_busy t keeps p (departure t p)
 surely_more t keeps p minute alone busy pair kept at is own one =
     let sure = rw (← one) at (surely_is t keeps p (departure t p) pair kept) in
-    omega (arith, is, own, ap (all_busy_alone t keeps p.fleet) at, ap (busy_at t p) at, sure)
+    omega (arith, is, own, ap (all_busy_alone t keeps p.choice) at, ap (busy_at t p) at, sure)

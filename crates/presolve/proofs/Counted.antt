@@ -22,7 +22,7 @@ pub some_there : (t : Tables) (keeps : Domains) (p : Pair) (count : ℕ) → IsP
 some_there t keeps p count pair kept is = omega (arith, own_leg_fewer t keeps p pair kept, is)
 
 -- without the pair it is one less, and all others are as they were
-pub counted_without : (t : Tables) (keeps after : Domains) (p : Pair) (counts : List ℕ) → IsPair t p → keeps p ≡ true → after ≡ part keeps p.leg p.fleet false → p.leg < length counts
+pub counted_without : (t : Tables) (keeps after : Domains) (p : Pair) (counts : List ℕ) → IsPair t p → keeps p ≡ true → after ≡ part keeps p.leg p.choice false → p.leg < length counts
     → ((l : ℕ) → l < legs_in t → slice_index counts l ≡ kept_on t keeps l)
     → (l : ℕ) → l < legs_in t → slice_index (set counts p.leg (slice_index counts p.leg - 1)) l ≡ kept_on t after l
 counted_without t keeps after p counts pair kept is within counted l below =
@@ -31,12 +31,12 @@ counted_without t keeps after p counts pair kept is within counted l below =
       | inr other ↦ others (elim other [ inl before ↦ omega arith | inr after ↦ omega arith ])
     ])
   where
-    own : l ≡ p.leg → slice_index (set counts p.leg (slice_index counts p.leg - 1)) l ≡ kept_on t (part keeps p.leg p.fleet false) l
+    own : l ≡ p.leg → slice_index (set counts p.leg (slice_index counts p.leg - 1)) l ≡ kept_on t (part keeps p.leg p.choice false) l
     own same =
         let here = get_or-set_same counts p.leg (slice_index counts p.leg - 1) 0 within in
         let fewer = own_leg_fewer t keeps p pair kept in
-        subst (λ i. slice_index (set counts p.leg (slice_index counts p.leg - 1)) i ≡ kept_on t (part keeps p.leg p.fleet false) i) (sym same)
+        subst (λ i. slice_index (set counts p.leg (slice_index counts p.leg - 1)) i ≡ kept_on t (part keeps p.leg p.choice false) i) (sym same)
         (here ∙ omega (arith, fewer, counted p.leg pair.leg))
 
-    others : l ≢ p.leg → slice_index (set counts p.leg (slice_index counts p.leg - 1)) l ≡ kept_on t (part keeps p.leg p.fleet false) l
+    others : l ≢ p.leg → slice_index (set counts p.leg (slice_index counts p.leg - 1)) l ≡ kept_on t (part keeps p.leg p.choice false) l
     others other = get_or-set_other counts p.leg l (slice_index counts p.leg - 1) 0 other ∙ counted l below ∙ sym (other_leg_same t keeps p false l other)

@@ -98,17 +98,17 @@ module _ (t : Tables) (keeps : Domains) (leg fleet : ℕ) where
       by_test true p q = p refl
       by_test false p q = q refl
 
-pub own_leg_fewer : (t : Tables) (keeps : Domains) (p : Pair) → IsPair t p → keeps p ≡ true → kept_on t keeps p.leg ≡ kept_on t (part keeps p.leg p.fleet false) p.leg + 1
-own_leg_fewer t keeps p pair kept = own_leg t keeps p.leg p.fleet pair.fleet kept
+pub own_leg_fewer : (t : Tables) (keeps : Domains) (p : Pair) → IsPair t p → keeps p ≡ true → kept_on t keeps p.leg ≡ kept_on t (part keeps p.leg p.choice false) p.leg + 1
+own_leg_fewer t keeps p pair kept = own_leg t keeps p.leg p.choice pair.choice kept
 
-pub other_leg_same : (t : Tables) (keeps : Domains) (p : Pair) (kept : Bool) (l : ℕ) → l ≢ p.leg → kept_on t (part keeps p.leg p.fleet kept) l ≡ kept_on t keeps l
-other_leg_same t keeps p kept l other = other_leg t keeps p.leg p.fleet kept l other
+pub other_leg_same : (t : Tables) (keeps : Domains) (p : Pair) (kept : Bool) (l : ℕ) → l ≢ p.leg → kept_on t (part keeps p.leg p.choice kept) l ≡ kept_on t keeps l
+other_leg_same t keeps p kept l other = other_leg t keeps p.leg p.choice kept l other
 
-pub one_fewer : (t : Tables) (keeps : Domains) (p : Pair) → IsPair t p → keeps p ≡ true → pairs_kept t keeps ≡ pairs_kept t (part keeps p.leg p.fleet false) + 1
-one_fewer t keeps p pair kept = fewer t keeps p.leg p.fleet pair.leg pair.fleet kept
+pub one_fewer : (t : Tables) (keeps : Domains) (p : Pair) → IsPair t p → keeps p ≡ true → pairs_kept t keeps ≡ pairs_kept t (part keeps p.leg p.choice false) + 1
+one_fewer t keeps p pair kept = fewer t keeps p.leg p.choice pair.leg pair.choice kept
 
-pub flown_none_bare : (t : Tables) (keeps : Domains) (p : Pair) → IsPair t p → keeps p ≡ true → NoneBare t keeps → NoneBare t (part keeps p.leg p.fleet true)
-flown_none_bare t keeps p pair kept none = still_none_bare t keeps p.leg p.fleet pair.fleet kept none
+pub flown_none_bare : (t : Tables) (keeps : Domains) (p : Pair) → IsPair t p → keeps p ≡ true → NoneBare t keeps → NoneBare t (part keeps p.leg p.choice true)
+flown_none_bare t keeps p pair kept none = still_none_bare t keeps p.leg p.choice pair.choice kept none
 
 -- there are as many kept pairs as legs times fleets at most
 pub pairs_are_few : PairsAreFew

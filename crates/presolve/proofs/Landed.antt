@@ -21,23 +21,23 @@ module _ (keeps : Domains) (p : Pair) (place : ℕ → ℕ) where
   counts keeps f s l = keeps (leg_on l f) && (place l == s)
 
   abbrev after : Domains
-  after = part keeps p.leg p.fleet false
+  after = part keeps p.leg p.choice false
 
   other_leg : (f s l : ℕ) → l ≢ p.leg → counts keeps f s l ≡ counts after f s l
-  other_leg f s l other = ap (λ b. b && (place l == s)) (sym (on_others keeps p.leg p.fleet false (leg_on l f) other))
+  other_leg f s l other = ap (λ b. b && (place l == s)) (sym (on_others keeps p.leg p.choice false (leg_on l f) other))
 
   -- where its own leg is counted, it is so no longer
-  fewer : (n : ℕ) → p.leg < n → keeps p ≡ true → count_below (counts keeps p.fleet (place p.leg)) n ≡ count_below (counts after p.fleet (place p.leg)) n + 1
+  fewer : (n : ℕ) → p.leg < n → keeps p ≡ true → count_below (counts keeps p.choice (place p.leg)) n ≡ count_below (counts after p.choice (place p.leg)) n + 1
   fewer n within kept =
-      count_below-fewer (counts keeps p.fleet (place p.leg)) (counts after p.fleet (place p.leg)) n p.leg within
-      (both (keeps p) (place p.leg) kept) (ap (λ b. b && (place p.leg == place p.leg)) (is_removed keeps p.leg p.fleet)) (λ l below other. other_leg p.fleet (place p.leg) l other)
+      count_below-fewer (counts keeps p.choice (place p.leg)) (counts after p.choice (place p.leg)) n p.leg within
+      (both (keeps p) (place p.leg) kept) (ap (λ b. b && (place p.leg == place p.leg)) (is_removed keeps p.leg p.choice)) (λ l below other. other_leg p.choice (place p.leg) l other)
     where
       both : (b : Bool) (s : ℕ) → b ≡ true → (b && (s == s)) ≡ true
       both b s e = grind (arith, nat_tests)
 
   -- and nothing else changes
-  own_leg : (f s : ℕ) → (f ≡ p.fleet → s ≡ place p.leg → ⊥) → counts keeps f s p.leg ≡ counts after f s p.leg
-  own_leg f s other = by_fleet (f == p.fleet) refl
+  own_leg : (f s : ℕ) → (f ≡ p.choice → s ≡ place p.leg → ⊥) → counts keeps f s p.leg ≡ counts after f s p.leg
+  own_leg f s other = by_fleet (f == p.choice) refl
     where
       no_place : (b c : Bool) (k : ℕ) → (k == s) ≡ false → (b && (k == s)) ≡ (c && (k == s))
       no_place b c k e = rw e (none b c)
@@ -48,14 +48,14 @@ module _ (keeps : Domains) (p : Pair) (place : ℕ → ℕ) where
           none false true = refl
           none false false = refl
 
-      by_fleet : (b : Bool) → (f == p.fleet) ≡ b → counts keeps f s p.leg ≡ counts after f s p.leg
+      by_fleet : (b : Bool) → (f == p.choice) ≡ b → counts keeps f s p.leg ≡ counts after f s p.leg
       by_fleet true e =
-          let same : f ≡ p.fleet = grind (arith, nat_tests) in
+          let same : f ≡ p.choice = grind (arith, nat_tests) in
           let elsewhere : (place p.leg == s) ≡ false = never_passes (place p.leg == s) (λ h. other same (grind (arith, nat_tests))) in
           no_place (keeps (leg_on p.leg f)) (after (leg_on p.leg f)) (place p.leg) elsewhere
-      by_fleet false e = let another : f ≢ p.fleet = grind (arith, nat_tests) in ap (λ b. b && (place p.leg == s)) (sym (on_other_fleets keeps p.leg p.fleet f another))
+      by_fleet false e = let another : f ≢ p.choice = grind (arith, nat_tests) in ap (λ b. b && (place p.leg == s)) (sym (on_other_fleets keeps p.leg p.choice f another))
 
-  same : (f s n : ℕ) → (f ≡ p.fleet → s ≡ place p.leg → ⊥) → count_below (counts keeps f s) n ≡ count_below (counts after f s) n
+  same : (f s n : ℕ) → (f ≡ p.choice → s ≡ place p.leg → ⊥) → count_below (counts keeps f s) n ≡ count_below (counts after f s) n
   same f s n other = sum_below-agree (λ l. if counts keeps f s l then 1 else 0) (λ l. if counts after f s l then 1 else 0) n (record { each = λ l below. ap (λ b. if b then 1 else 0) (each l (l == p.leg) refl) })
     where
       each : (l : ℕ) (b : Bool) → (l == p.leg) ≡ b → counts keeps f s l ≡ counts after f s l
@@ -63,20 +63,20 @@ module _ (keeps : Domains) (p : Pair) (place : ℕ → ℕ) where
       each l false e = other_leg f s l (grind (arith, nat_tests))
 
 pub landing_fewer : (t : Tables) (keeps : Domains) (p : Pair) → IsPair t p → keeps p ≡ true
-    → landings t keeps p.fleet (leg_of t p.leg).to ≡ landings t (part keeps p.leg p.fleet false) p.fleet (leg_of t p.leg).to + 1
+    → landings t keeps p.choice (leg_of t p.leg).to ≡ landings t (part keeps p.leg p.choice false) p.choice (leg_of t p.leg).to + 1
 unfolding landings
 landing_fewer t keeps p pair kept = fewer keeps p (λ l. (leg_of t l).to) (legs_in t) pair.leg kept
 
-pub landing_same : (t : Tables) (keeps : Domains) (p : Pair) (f s : ℕ) → (f ≡ p.fleet → s ≡ (leg_of t p.leg).to → ⊥) → landings t keeps f s ≡ landings t (part keeps p.leg p.fleet false) f s
+pub landing_same : (t : Tables) (keeps : Domains) (p : Pair) (f s : ℕ) → (f ≡ p.choice → s ≡ (leg_of t p.leg).to → ⊥) → landings t keeps f s ≡ landings t (part keeps p.leg p.choice false) f s
 unfolding landings
 landing_same t keeps p f s other = same keeps p (λ l. (leg_of t l).to) f s (legs_in t) other
 
 pub departure_fewer : (t : Tables) (keeps : Domains) (p : Pair) → IsPair t p → keeps p ≡ true
-    → departures t keeps p.fleet (leg_of t p.leg).from ≡ departures t (part keeps p.leg p.fleet false) p.fleet (leg_of t p.leg).from + 1
+    → departures t keeps p.choice (leg_of t p.leg).from ≡ departures t (part keeps p.leg p.choice false) p.choice (leg_of t p.leg).from + 1
 unfolding departures
 departure_fewer t keeps p pair kept = fewer keeps p (λ l. (leg_of t l).from) (legs_in t) pair.leg kept
 
-pub departure_same : (t : Tables) (keeps : Domains) (p : Pair) (f s : ℕ) → (f ≡ p.fleet → s ≡ (leg_of t p.leg).from → ⊥) → departures t keeps f s ≡ departures t (part keeps p.leg p.fleet false) f s
+pub departure_same : (t : Tables) (keeps : Domains) (p : Pair) (f s : ℕ) → (f ≡ p.choice → s ≡ (leg_of t p.leg).from → ⊥) → departures t keeps f s ≡ departures t (part keeps p.leg p.choice false) f s
 unfolding departures
 departure_same t keeps p f s other = same keeps p (λ l. (leg_of t l).from) f s (legs_in t) other
 

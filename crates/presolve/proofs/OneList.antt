@@ -15,7 +15,7 @@ use Rattle.presolve.specs.declared.trims.Trim.{Trim}
 same_leg : (place p q : Pair) → is_sooner place p q ≡ false → is_sooner place q p ≡ false → p.leg ≡ q.leg
 same_leg place p q e f = grind (arith, nat_tests)
 
-same_fleet : (place p q : Pair) → is_sooner place p q ≡ false → is_sooner place q p ≡ false → p.fleet ≡ q.fleet
+same_fleet : (place p q : Pair) → is_sooner place p q ≡ false → is_sooner place q p ≡ false → p.choice ≡ q.choice
 same_fleet place p q e f = grind (arith, nat_tests)
 
 -- what is removed isn't met sooner than what is removed first
@@ -40,7 +40,7 @@ ended t keeps place trim done next = different next.first_rule (done.each next.n
 
 -- what is kept after a removal, and the place behind it, are those of its pair
 abbrev After : Tables → Domains → Pair → List Trim → Type 0
-After t keeps p trims = AreRemovals t (part keeps p.leg p.fleet false) p trims
+After t keeps p trims = AreRemovals t (part keeps p.leg p.choice false) p trims
 
 pub removals_are_one : RemovalsAreOne
 removals_are_one t keeps place [] [] left right = refl

@@ -26,7 +26,7 @@ less_figure = record { no_less = omega (arith, ints); no_more = omega (arith, in
 rent_figure : (why : Rule) (p : Pair) (f : ℕ) → IsFigure (reason_rent why p f)
 rent_figure rule.NoArrival p f = zero_figure
 rent_figure rule.NoDeparture p f = zero_figure
-rent_figure rule.TooFewAircraft p f = either (f == p.fleet)
+rent_figure rule.TooFewAircraft p f = either (f == p.choice)
   where
     either : (b : Bool) → IsFigure (if b then pos 1 else pos 0)
     either true = one_figure
@@ -157,12 +157,12 @@ one_in_order t fleet station z known there figure some = record {
 }
 
 steps_in_order : (t : Tables) (why : Rule) (p : Pair) → IsPair t p → AreStepsInOrder t (reason_steps t why p)
-steps_in_order t rule.NoArrival p pair = one_in_order t p.fleet (leg_of t p.leg).from (pos 1) pair.fleet (t.in_range.legs_fit.each p.leg no_leg pair.leg).from one_figure refl
-steps_in_order t rule.NoDeparture p pair = one_in_order t p.fleet (leg_of t p.leg).to (negsuc 0) pair.fleet (t.in_range.legs_fit.each p.leg no_leg pair.leg).to less_figure refl
+steps_in_order t rule.NoArrival p pair = one_in_order t p.choice (leg_of t p.leg).from (pos 1) pair.choice (t.in_range.legs_fit.each p.leg no_leg pair.leg).from one_figure refl
+steps_in_order t rule.NoDeparture p pair = one_in_order t p.choice (leg_of t p.leg).to (negsuc 0) pair.choice (t.in_range.legs_fit.each p.leg no_leg pair.leg).to less_figure refl
 steps_in_order t rule.TooFewAircraft p pair = record {
-  each = each_in_order t p.fleet (departure t p) (stations_in t) pair.fleet (omega arith);
-  follow = all_follow p.fleet (departure t p) (stations_in t);
-  no_lone_zero = none_alone (steps_until p.fleet (departure t p) (stations_in t)) (none_zero p.fleet (departure t p) (stations_in t));
+  each = each_in_order t p.choice (departure t p) (stations_in t) pair.choice (omega arith);
+  follow = all_follow p.choice (departure t p) (stations_in t);
+  no_lone_zero = none_alone (steps_until p.choice (departure t p) (stations_in t)) (none_zero p.choice (departure t p) (stations_in t));
 }
 
 pub reason_in_order : (t : Tables) (why : Rule) (p : Pair) (prices : Prices) → IsPair t p → prices.scale ≡ pos 1 → prices.rents ≡ list_below (reason_rent why p) (fleets_in t)

@@ -66,17 +66,17 @@ of_all t fleet minute (suc n) known within =
 
 steps_of_tables : (t : Tables) (why : Rule) (p : Pair) → IsPair t p → All (IsStepOf t) (reason_steps t why p)
 steps_of_tables t rule.NoArrival p pair =
-    All-from_recursion (IsStepOf t) (step_of p.fleet (leg_of t p.leg).from (pos 1) ∷ []) (record { fleet = pair.fleet; station = (t.in_range.legs_fit.each p.leg no_leg pair.leg).from }, tt)
+    All-from_recursion (IsStepOf t) (step_of p.choice (leg_of t p.leg).from (pos 1) ∷ []) (record { fleet = pair.choice; station = (t.in_range.legs_fit.each p.leg no_leg pair.leg).from }, tt)
 steps_of_tables t rule.NoDeparture p pair =
-    All-from_recursion (IsStepOf t) (step_of p.fleet (leg_of t p.leg).to (negsuc 0) ∷ []) (record { fleet = pair.fleet; station = (t.in_range.legs_fit.each p.leg no_leg pair.leg).to }, tt)
-steps_of_tables t rule.TooFewAircraft p pair = of_all t p.fleet (departure t p) (stations_in t) pair.fleet (omega arith)
+    All-from_recursion (IsStepOf t) (step_of p.choice (leg_of t p.leg).to (negsuc 0) ∷ []) (record { fleet = pair.choice; station = (t.in_range.legs_fit.each p.leg no_leg pair.leg).to }, tt)
+steps_of_tables t rule.TooFewAircraft p pair = of_all t p.choice (departure t p) (stations_in t) pair.choice (omega arith)
 
 -- what the steps say
 steps_say : (t : Tables) (why : Rule) (p : Pair) (f s m : ℕ) → s < stations_in t → m < MINUTES_PER_PERIOD → price_after (pos 0) (reason_steps t why p) f s m ≡ reason_price t why p f s m
-steps_say t rule.NoArrival p f s m there within = price_one p.fleet (leg_of t p.leg).from (pos 1) f s m
-steps_say t rule.NoDeparture p f s m there within = price_one p.fleet (leg_of t p.leg).to (negsuc 0) f s m
+steps_say t rule.NoArrival p f s m there within = price_one p.choice (leg_of t p.leg).from (pos 1) f s m
+steps_say t rule.NoDeparture p f s m there within = price_one p.choice (leg_of t p.leg).to (negsuc 0) f s m
 steps_say t rule.TooFewAircraft p f s m there within =
-    price_until p.fleet (departure t p) (stations_in t) f s m within ∙ of_station (f == p.fleet) (nat_lt s (stations_in t)) (nat_le m (departure t p)) (grind (arith, nat_tests))
+    price_until p.choice (departure t p) (stations_in t) f s m within ∙ of_station (f == p.choice) (nat_lt s (stations_in t)) (nat_le m (departure t p)) (grind (arith, nat_tests))
   where
     of_station : (a b c : Bool) → b ≡ true → (if a && (b && c) then pos 1 else pos 0) ≡ (if a && c then pos 1 else pos 0)
     of_station a true c e = refl

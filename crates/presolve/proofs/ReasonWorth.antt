@@ -22,8 +22,8 @@ use Rattle.presolve.proofs.ReasonsProper.{rent_is}
 -- what a pair adds to the worth by a reason's prices
 abbrev pub reason_flow : Tables → Rule → Pair → Pair → ℤ
 reason_flow t why p q =
-    (reason_price t why p q.fleet (leg_of t q.leg).from (departure t q) -ℤ reason_price t why p q.fleet (leg_of t q.leg).to (ready_minute t q))
-    +ℤ (reason_rent why p q.fleet *ℤ pos (laps_of t q))
+    (reason_price t why p q.choice (leg_of t q.leg).from (departure t q) -ℤ reason_price t why p q.choice (leg_of t q.leg).to (ready_minute t q))
+    +ℤ (reason_rent why p q.choice *ℤ pos (laps_of t q))
 
 -- no cost is put in
 no_cost : (s c d r : ℤ) → (((pos 0 *ℤ s) *ℤ c) +ℤ d) +ℤ r ≡ d +ℤ r
@@ -34,7 +34,7 @@ flow_is t why p q prices reason pair =
     let fits : IsLeg (stations_in t) (leg_of t q.leg) = t.in_range.legs_fit.each q.leg no_leg pair.leg in
     let early : ready_minute t q < MINUTES_PER_PERIOD = mod_below (departure t q + busy_minutes t q) MINUTES_PER_PERIOD (omega arith) in
     no_cost prices.scale (cost_units t q) _ _
-    ∙ rw (reason.each_price q.fleet (leg_of t q.leg).from (departure t q) pair.fleet fits.from fits.dep, reason.each_price q.fleet (leg_of t q.leg).to (ready_minute t q) pair.fleet fits.to early, rent_is t why p prices reason q.fleet pair.fleet)
+    ∙ rw (reason.each_price q.choice (leg_of t q.leg).from (departure t q) pair.choice fits.from fits.dep, reason.each_price q.choice (leg_of t q.leg).to (ready_minute t q) pair.choice fits.to early, rent_is t why p prices reason q.choice pair.choice)
 
 -- each kept pair of a leg adds no less
 pub record NoneAddsLess (t : Tables) (keeps : Domains) (why : Rule) (p : Pair) (l : ℕ) (low : ℤ) : Type 0 where
@@ -43,7 +43,7 @@ pub record NoneAddsLess (t : Tables) (keeps : Domains) (why : Rule) (p : Pair) (
 none_less : (t : Tables) (keeps : Domains) (why : Rule) (p : Pair) (prices : Prices) (l : ℕ) (low : ℤ) → IsReason t why p prices → l < legs_in t → NoneAddsLess t keeps why p l low
     → NoneLess (λ f. keeps (leg_on l f)) (λ f. pair_worth t prices 0 (leg_on l f)) low (fleets_in t)
 none_less t keeps why p prices l low reason within none = record {
-  each = λ f known kept. rw (flow_is t why p (leg_on l f) prices reason (record { leg = within; fleet = known })) (none.each f known kept);
+  each = λ f known kept. rw (flow_is t why p (leg_on l f) prices reason (record { leg = within; choice = known })) (none.each f known kept);
 }
 
 -- and neither does the leg, by a bound that is 0 at most, or by any where it keeps a pair

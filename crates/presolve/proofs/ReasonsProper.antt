@@ -29,12 +29,12 @@ less_or_none false = (omega (arith, ints), omega (arith, ints))
 rent_small : (why : Rule) (p : Pair) (f : ℕ) → (pos 0 ≤ℤ reason_rent why p f) × (reason_rent why p f ≤ℤ pos 1)
 rent_small rule.NoArrival p f = (omega (arith, ints), omega (arith, ints))
 rent_small rule.NoDeparture p f = (omega (arith, ints), omega (arith, ints))
-rent_small rule.TooFewAircraft p f = one_or_none (f == p.fleet)
+rent_small rule.TooFewAircraft p f = one_or_none (f == p.choice)
 
 price_small : (t : Tables) (why : Rule) (p : Pair) (f s m : ℕ) → (negsuc 0 ≤ℤ reason_price t why p f s m) × (reason_price t why p f s m ≤ℤ pos 1)
-price_small t rule.NoArrival p f s m = let small = one_or_none ((f == p.fleet) && (s == (leg_of t p.leg).from)) in (omega (arith, ints, small), omega (arith, ints, small))
-price_small t rule.NoDeparture p f s m = let small = less_or_none ((f == p.fleet) && (s == (leg_of t p.leg).to)) in (omega (arith, ints, small), omega (arith, ints, small))
-price_small t rule.TooFewAircraft p f s m = let small = one_or_none ((f == p.fleet) && nat_le m (departure t p)) in (omega (arith, ints, small), omega (arith, ints, small))
+price_small t rule.NoArrival p f s m = let small = one_or_none ((f == p.choice) && (s == (leg_of t p.leg).from)) in (omega (arith, ints, small), omega (arith, ints, small))
+price_small t rule.NoDeparture p f s m = let small = less_or_none ((f == p.choice) && (s == (leg_of t p.leg).to)) in (omega (arith, ints, small), omega (arith, ints, small))
+price_small t rule.TooFewAircraft p f s m = let small = one_or_none ((f == p.choice) && nat_le m (departure t p)) in (omega (arith, ints, small), omega (arith, ints, small))
 
 -- a price of 1 until a minute never rises
 falls : (b c d : Bool) → (d ≡ true → c ≡ true) → (if b && d then pos 1 else pos 0) ≤ℤ (if b && c then pos 1 else pos 0)
@@ -50,7 +50,7 @@ falls b c true h = rw (h refl) (omega (arith, ints))
 never_rises : (t : Tables) (why : Rule) (p : Pair) (f s m : ℕ) → reason_price t why p f s (m + 1) ≤ℤ reason_price t why p f s m
 never_rises t rule.NoArrival p f s m = omega (arith, ints)
 never_rises t rule.NoDeparture p f s m = omega (arith, ints)
-never_rises t rule.TooFewAircraft p f s m = falls (f == p.fleet) (nat_le m (departure t p)) (nat_le (m + 1) (departure t p)) (λ e. grind (arith, nat_tests))
+never_rises t rule.TooFewAircraft p f s m = falls (f == p.choice) (nat_le m (departure t p)) (nat_le (m + 1) (departure t p)) (λ e. grind (arith, nat_tests))
 
 -- over the end of the period it rises by the rent
 rises_by_rent : (b c d : Bool) → (if b && c then pos 1 else pos 0) ≤ℤ ((if b && d then pos 1 else pos 0) +ℤ (if b then pos 1 else pos 0))
@@ -63,7 +63,7 @@ rises_by_rent false c d = omega (arith, ints)
 overnight : (t : Tables) (why : Rule) (p : Pair) (f s : ℕ) → reason_price t why p f s 0 ≤ℤ (reason_price t why p f s last_minute +ℤ reason_rent why p f)
 overnight t rule.NoArrival p f s = omega (arith, ints)
 overnight t rule.NoDeparture p f s = omega (arith, ints)
-overnight t rule.TooFewAircraft p f s = rises_by_rent (f == p.fleet) (nat_le 0 (departure t p)) (nat_le last_minute (departure t p))
+overnight t rule.TooFewAircraft p f s = rises_by_rent (f == p.choice) (nat_le 0 (departure t p)) (nat_le last_minute (departure t p))
 
 pub reason_is_proper : (t : Tables) (why : Rule) (p : Pair) (prices : Prices) → IsReason t why p prices → ArePrices t prices
 reason_is_proper t why p prices reason = record {

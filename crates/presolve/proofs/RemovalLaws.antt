@@ -53,14 +53,14 @@ is_kept t keeps p why e = (kept_rule (keeps p) (rule_of t keeps p) why e).0
 
 -- by the first rule that a pair meets, its reason shows that nothing legal is left where it is flown
 by_rule : (t : Tables) (keeps : Domains) (p : Pair) (why : Rule) (prices : Prices) → IsPair t p → keeps p ≡ true → IsReason t why p prices
-    → PassesAs (landings t keeps p.fleet (leg_of t p.leg).from == 0) (departures t keeps p.fleet (leg_of t p.leg).to == 0) (nat_lt (fleet_of t p.fleet).aircraft (surely_busy t keeps p (departure t p))) why
-    → pos 0 <ℤ worth_of t (part keeps p.leg p.fleet true) prices 0
-by_rule t keeps p rule.NoArrival prices pair kept reason test = no_arrival_refutes t keeps p prices pair kept (zero_number (landings t keeps p.fleet (leg_of t p.leg).from) test) reason
-by_rule t keeps p rule.NoDeparture prices pair kept reason test = no_departure_refutes t keeps p prices pair kept (zero_number (departures t keeps p.fleet (leg_of t p.leg).to) test) reason
-by_rule t keeps p rule.TooFewAircraft prices pair kept reason test = too_few_refutes t keeps p prices pair kept (ltb-true (fleet_of t p.fleet).aircraft (surely_busy t keeps p (departure t p)) test) reason
+    → PassesAs (landings t keeps p.choice (leg_of t p.leg).from == 0) (departures t keeps p.choice (leg_of t p.leg).to == 0) (nat_lt (fleet_of t p.choice).aircraft (surely_busy t keeps p (departure t p))) why
+    → pos 0 <ℤ worth_of t (part keeps p.leg p.choice true) prices 0
+by_rule t keeps p rule.NoArrival prices pair kept reason test = no_arrival_refutes t keeps p prices pair kept (zero_number (landings t keeps p.choice (leg_of t p.leg).from) test) reason
+by_rule t keeps p rule.NoDeparture prices pair kept reason test = no_departure_refutes t keeps p prices pair kept (zero_number (departures t keeps p.choice (leg_of t p.leg).to) test) reason
+by_rule t keeps p rule.TooFewAircraft prices pair kept reason test = too_few_refutes t keeps p prices pair kept (ltb-true (fleet_of t p.choice).aircraft (surely_busy t keeps p (departure t p)) test) reason
 
 rule_refutes : (t : Tables) (keeps : Domains) (p : Pair) (why : Rule) (prices : Prices) → IsPair t p → removed_by t keeps p ≡ Some why → IsReason t why p prices
-    → pos 0 <ℤ worth_of t (part keeps p.leg p.fleet true) prices 0
+    → pos 0 <ℤ worth_of t (part keeps p.leg p.choice true) prices 0
 unfolding rule_of by_three
 rule_refutes t keeps p why prices pair e reason =
     let parts = kept_rule (keeps p) (rule_of t keeps p) why e in

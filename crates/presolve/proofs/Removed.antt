@@ -16,33 +16,33 @@ use Rattle.presolve.proofs.AloneLaws.{few_alone, more_alone, same_alone}
 use Rattle.presolve.proofs.CellLaws.{more_there, one_less, same_there}
 use Rattle.presolve.proofs.Landed.{departure_fewer, departure_same, landing_fewer, landing_same}
 
-module _ (t : Tables) (keeps after : Domains) (p : Pair) (pair : IsPair t p) (kept : keeps p ≡ true) (is : after ≡ part keeps p.leg p.fleet false) where
+module _ (t : Tables) (keeps after : Domains) (p : Pair) (pair : IsPair t p) (kept : keeps p ≡ true) (is : after ≡ part keeps p.leg p.choice false) where
   -- landings: one fewer where the leg lands
-  pub some_landing_there : (station : ℕ) (cells : List ℕ) → AreCells cells (landings t keeps) (fleets_in t) (stations_in t) → station ≡ (leg_of t p.leg).to → 0 < cell_of cells p.fleet station
+  pub some_landing_there : (station : ℕ) (cells : List ℕ) → AreCells cells (landings t keeps) (fleets_in t) (stations_in t) → station ≡ (leg_of t p.leg).to → 0 < cell_of cells p.choice station
   some_landing_there station cells are there =
-      let value = are.each p.fleet (leg_of t p.leg).to pair.fleet (t.in_range.legs_fit.each p.leg no_leg pair.leg).to in
+      let value = are.each p.choice (leg_of t p.leg).to pair.choice (t.in_range.legs_fit.each p.leg no_leg pair.leg).to in
       rw there (omega (arith, value, landing_fewer t keeps p pair kept))
 
   pub landings_after : (station : ℕ) (cells new : List ℕ) → AreCells cells (landings t keeps) (fleets_in t) (stations_in t) → station ≡ (leg_of t p.leg).to
-      → new ≡ set cells (p.fleet * CELL_WIDTH + station) (cell_of cells p.fleet station - 1) → AreCells new (landings t after) (fleets_in t) (stations_in t)
+      → new ≡ set cells (p.choice * CELL_WIDTH + station) (cell_of cells p.choice station - 1) → AreCells new (landings t after) (fleets_in t) (stations_in t)
   landings_after station cells new are there made =
       subst (λ k. AreCells new (landings t k) (fleets_in t) (stations_in t)) (sym is)
-      (one_less cells new (landings t keeps) (landings t (part keeps p.leg p.fleet false)) (fleets_in t) (stations_in t) p.fleet (leg_of t p.leg).to (few_stations t) are
-      (made ∙ ap (λ s. set cells (p.fleet * CELL_WIDTH + s) (cell_of cells p.fleet s - 1)) there) pair.fleet (t.in_range.legs_fit.each p.leg no_leg pair.leg).to
+      (one_less cells new (landings t keeps) (landings t (part keeps p.leg p.choice false)) (fleets_in t) (stations_in t) p.choice (leg_of t p.leg).to (few_stations t) are
+      (made ∙ ap (λ s. set cells (p.choice * CELL_WIDTH + s) (cell_of cells p.choice s - 1)) there) pair.choice (t.in_range.legs_fit.each p.leg no_leg pair.leg).to
       (landing_fewer t keeps p pair kept) (λ f s other. landing_same t keeps p f s other))
 
   -- departures: one fewer where it departs
-  pub some_departure_there : (station : ℕ) (cells : List ℕ) → AreCells cells (departures t keeps) (fleets_in t) (stations_in t) → station ≡ (leg_of t p.leg).from → 0 < cell_of cells p.fleet station
+  pub some_departure_there : (station : ℕ) (cells : List ℕ) → AreCells cells (departures t keeps) (fleets_in t) (stations_in t) → station ≡ (leg_of t p.leg).from → 0 < cell_of cells p.choice station
   some_departure_there station cells are there =
-      let value = are.each p.fleet (leg_of t p.leg).from pair.fleet (t.in_range.legs_fit.each p.leg no_leg pair.leg).from in
+      let value = are.each p.choice (leg_of t p.leg).from pair.choice (t.in_range.legs_fit.each p.leg no_leg pair.leg).from in
       rw there (omega (arith, value, departure_fewer t keeps p pair kept))
 
   pub departures_after : (station : ℕ) (cells new : List ℕ) → AreCells cells (departures t keeps) (fleets_in t) (stations_in t) → station ≡ (leg_of t p.leg).from
-      → new ≡ set cells (p.fleet * CELL_WIDTH + station) (cell_of cells p.fleet station - 1) → AreCells new (departures t after) (fleets_in t) (stations_in t)
+      → new ≡ set cells (p.choice * CELL_WIDTH + station) (cell_of cells p.choice station - 1) → AreCells new (departures t after) (fleets_in t) (stations_in t)
   departures_after station cells new are there made =
       subst (λ k. AreCells new (departures t k) (fleets_in t) (stations_in t)) (sym is)
-      (one_less cells new (departures t keeps) (departures t (part keeps p.leg p.fleet false)) (fleets_in t) (stations_in t) p.fleet (leg_of t p.leg).from (few_stations t) are
-      (made ∙ ap (λ s. set cells (p.fleet * CELL_WIDTH + s) (cell_of cells p.fleet s - 1)) there) pair.fleet (t.in_range.legs_fit.each p.leg no_leg pair.leg).from
+      (one_less cells new (departures t keeps) (departures t (part keeps p.leg p.choice false)) (fleets_in t) (stations_in t) p.choice (leg_of t p.leg).from (few_stations t) are
+      (made ∙ ap (λ s. set cells (p.choice * CELL_WIDTH + s) (cell_of cells p.choice s - 1)) there) pair.choice (t.in_range.legs_fit.each p.leg no_leg pair.leg).from
       (departure_fewer t keeps p pair kept) (λ f s other. departure_same t keeps p f s other))
 
   -- where the leg keeps one pair then, what it keeps busy is more

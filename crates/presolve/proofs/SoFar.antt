@@ -15,7 +15,7 @@ use Rattle.presolve.proofs.RemovalLaws.{is_kept}
 
 -- the removal of a pair that was found, with its reason
 abbrev pub trim_of : Removable → Prices → Trim
-trim_of found prices = record { leg = found.pair.leg; fleet = found.pair.fleet; reason = prices }
+trim_of found prices = record { leg = found.pair.leg; choice = found.pair.choice; reason = prices }
 
 -- a pair that is next, with its reason, is the next removal
 is_next : (t : Tables) (keeps : Domains) (place : Pair) (found : Removable) (prices : Prices) → IsNextPair t keeps place found → IsReason t found.rule found.pair prices
@@ -32,15 +32,15 @@ is_next t keeps place found prices next reason = record {
 -- one more behind those so far
 pub one_more : (t : Tables) (start keeps after : Domains) (from place : Pair) (found : Removable) (prices : Prices) (so_far grown rest : List Trim) → grown ≡ so_far ++ trim_of found prices ∷ []
     → ((others : List Trim) → AreRemovals t keeps place others → AreRemovals t start from (so_far ++ others))
-    → IsNextPair t keeps place found → IsReason t found.rule found.pair prices → after ≡ part keeps found.pair.leg found.pair.fleet false
+    → IsNextPair t keeps place found → IsReason t found.rule found.pair prices → after ≡ part keeps found.pair.leg found.pair.choice false
     → AreRemovals t after found.pair rest → AreRemovals t start from (grown ++ rest)
 one_more t start keeps after from place found prices so_far grown rest is before next reason same removals =
-    let behind : AreRemovals t (part keeps found.pair.leg found.pair.fleet false) found.pair rest = subst (λ k. AreRemovals t k found.pair rest) same removals in
+    let behind : AreRemovals t (part keeps found.pair.leg found.pair.choice false) found.pair rest = subst (λ k. AreRemovals t k found.pair rest) same removals in
     let all = before (trim_of found prices ∷ rest) (is_next t keeps place found prices next reason, behind) in
     subst (λ xs. AreRemovals t start from xs) (sym (ap (λ xs. xs ++ rest) is ∙ append_assoc so_far (trim_of found prices ∷ []) rest)) all
 
 -- and then one pair fewer is kept
-pub smaller : (t : Tables) (keeps after : Domains) (place : Pair) (found : Removable) → IsNextPair t keeps place found → after ≡ part keeps found.pair.leg found.pair.fleet false
+pub smaller : (t : Tables) (keeps after : Domains) (place : Pair) (found : Removable) → IsNextPair t keeps place found → after ≡ part keeps found.pair.leg found.pair.choice false
     → pairs_kept t after < pairs_kept t keeps
 smaller t keeps after place found next same =
     let fewer = one_fewer t keeps found.pair next.pair (is_kept t keeps found.pair found.rule next.by_rule) in

@@ -71,40 +71,40 @@ same_fleet keeps l f g kept same = let e : f ≡ g = grind (arith, nat_tests) in
 module _ (t : Tables) (keeps : Domains) (p : Pair) (pair : IsPair t p) where
   -- by the first rule
   abbrev flown : Domains
-  flown = part keeps p.leg p.fleet true
+  flown = part keeps p.leg p.choice true
 
-  arrival_adds : landings t keeps p.fleet (leg_of t p.leg).from ≡ 0 → (l : ℕ) → l < legs_in t → NoneAddsLess t flown rule.NoArrival p l (pos 0)
+  arrival_adds : landings t keeps p.choice (leg_of t p.leg).from ≡ 0 → (l : ℕ) → l < legs_in t → NoneAddsLess t flown rule.NoArrival p l (pos 0)
   arrival_adds none l within = record {
-    each = λ f known kept. of_arrival (f == p.fleet) ((leg_of t l).from == (leg_of t p.leg).from) ((leg_of t l).to == (leg_of t p.leg).from) (laps_of t (leg_on l f))
-        (λ own. not_there t keeps p.fleet (leg_of t p.leg).from l none within (same_fleet keeps l f p.fleet (was_kept keeps p.leg p.fleet true (leg_on l f) kept) own));
+    each = λ f known kept. of_arrival (f == p.choice) ((leg_of t l).from == (leg_of t p.leg).from) ((leg_of t l).to == (leg_of t p.leg).from) (laps_of t (leg_on l f))
+        (λ own. not_there t keeps p.choice (leg_of t p.leg).from l none within (same_fleet keeps l f p.choice (was_kept keeps p.leg p.choice true (leg_on l f) kept) own));
   }
 
-  own_arrival_adds : keeps p ≡ true → landings t keeps p.fleet (leg_of t p.leg).from ≡ 0 → NoneAddsLess t flown rule.NoArrival p p.leg (pos 1)
+  own_arrival_adds : keeps p ≡ true → landings t keeps p.choice (leg_of t p.leg).from ≡ 0 → NoneAddsLess t flown rule.NoArrival p p.leg (pos 1)
   own_arrival_adds is_kept none = record {
-    each = λ f known kept. own_arrival (f == p.fleet) ((leg_of t p.leg).from == (leg_of t p.leg).from) ((leg_of t p.leg).to == (leg_of t p.leg).from) (laps_of t (leg_on p.leg f))
-        (rw (is_own_fleet keeps p.leg p.fleet f kept) (same_number p.fleet)) (same_number (leg_of t p.leg).from)
-        (not_there t keeps p.fleet (leg_of t p.leg).from p.leg none pair.leg is_kept);
+    each = λ f known kept. own_arrival (f == p.choice) ((leg_of t p.leg).from == (leg_of t p.leg).from) ((leg_of t p.leg).to == (leg_of t p.leg).from) (laps_of t (leg_on p.leg f))
+        (rw (is_own_fleet keeps p.leg p.choice f kept) (same_number p.choice)) (same_number (leg_of t p.leg).from)
+        (not_there t keeps p.choice (leg_of t p.leg).from p.leg none pair.leg is_kept);
   }
 
   -- by the second
-  departure_adds : departures t keeps p.fleet (leg_of t p.leg).to ≡ 0 → (l : ℕ) → l < legs_in t → NoneAddsLess t flown rule.NoDeparture p l (pos 0)
+  departure_adds : departures t keeps p.choice (leg_of t p.leg).to ≡ 0 → (l : ℕ) → l < legs_in t → NoneAddsLess t flown rule.NoDeparture p l (pos 0)
   departure_adds none l within = record {
-    each = λ f known kept. of_departure (f == p.fleet) ((leg_of t l).from == (leg_of t p.leg).to) ((leg_of t l).to == (leg_of t p.leg).to) (laps_of t (leg_on l f))
-        (λ own. not_from_there t keeps p.fleet (leg_of t p.leg).to l none within (same_fleet keeps l f p.fleet (was_kept keeps p.leg p.fleet true (leg_on l f) kept) own));
+    each = λ f known kept. of_departure (f == p.choice) ((leg_of t l).from == (leg_of t p.leg).to) ((leg_of t l).to == (leg_of t p.leg).to) (laps_of t (leg_on l f))
+        (λ own. not_from_there t keeps p.choice (leg_of t p.leg).to l none within (same_fleet keeps l f p.choice (was_kept keeps p.leg p.choice true (leg_on l f) kept) own));
   }
 
-  own_departure_adds : keeps p ≡ true → departures t keeps p.fleet (leg_of t p.leg).to ≡ 0 → NoneAddsLess t flown rule.NoDeparture p p.leg (pos 1)
+  own_departure_adds : keeps p ≡ true → departures t keeps p.choice (leg_of t p.leg).to ≡ 0 → NoneAddsLess t flown rule.NoDeparture p p.leg (pos 1)
   own_departure_adds is_kept none = record {
-    each = λ f known kept. own_departure (f == p.fleet) ((leg_of t p.leg).from == (leg_of t p.leg).to) ((leg_of t p.leg).to == (leg_of t p.leg).to) (laps_of t (leg_on p.leg f))
-        (rw (is_own_fleet keeps p.leg p.fleet f kept) (same_number p.fleet))
-        (not_from_there t keeps p.fleet (leg_of t p.leg).to p.leg none pair.leg is_kept) (same_number (leg_of t p.leg).to);
+    each = λ f known kept. own_departure (f == p.choice) ((leg_of t p.leg).from == (leg_of t p.leg).to) ((leg_of t p.leg).to == (leg_of t p.leg).to) (laps_of t (leg_on p.leg f))
+        (rw (is_own_fleet keeps p.leg p.choice f kept) (same_number p.choice))
+        (not_from_there t keeps p.choice (leg_of t p.leg).to p.leg none pair.leg is_kept) (same_number (leg_of t p.leg).to);
   }
 
   -- where each leg adds 0 or more, and the pair's own adds 1 or more, and no rent is taken off
   refuted : (why : Rule) (prices : Prices) → ((f : ℕ) → reason_rent why p f ≡ pos 0) → IsReason t why p prices → keeps p ≡ true
       → ((l : ℕ) → l < legs_in t → NoneAddsLess t flown why p l (pos 0)) → NoneAddsLess t flown why p p.leg (pos 1) → pos 0 <ℤ worth_of t flown prices 0
   refuted why prices free reason is_kept others own =
-      let own_worth = leg_of_kept t flown why p prices p.leg p.fleet (pos 1) reason pair.leg own pair.fleet (is_flown keeps p.leg p.fleet is_kept) in
+      let own_worth = leg_of_kept t flown why p prices p.leg p.choice (pos 1) reason pair.leg own pair.choice (is_flown keeps p.leg p.choice is_kept) in
       let each = sum_below_ℤ-le (λ l. where_true (p.leg == l) (pos 1)) (leg_worth t flown prices 0) (legs_in t)
       (λ l within. at_leg l (p.leg == l) (leg_low t flown why p prices l reason within (others l within)) (λ e. let same : l ≡ p.leg = grind (arith, nat_tests) in rw same own_worth)) in
       let one = sum_below_ℤ-one p.leg (λ l. pos 1) (legs_in t) pair.leg in
@@ -115,12 +115,12 @@ module _ (t : Tables) (keeps : Domains) (p : Pair) (pair : IsPair t p) where
       at_leg l true low high = high refl
       at_leg l false low high = low
 
-pub no_arrival_refutes : (t : Tables) (keeps : Domains) (p : Pair) (prices : Prices) → IsPair t p → keeps p ≡ true → landings t keeps p.fleet (leg_of t p.leg).from ≡ 0
-    → IsReason t rule.NoArrival p prices → pos 0 <ℤ worth_of t (part keeps p.leg p.fleet true) prices 0
+pub no_arrival_refutes : (t : Tables) (keeps : Domains) (p : Pair) (prices : Prices) → IsPair t p → keeps p ≡ true → landings t keeps p.choice (leg_of t p.leg).from ≡ 0
+    → IsReason t rule.NoArrival p prices → pos 0 <ℤ worth_of t (part keeps p.leg p.choice true) prices 0
 no_arrival_refutes t keeps p prices pair kept none reason =
     refuted t keeps p pair rule.NoArrival prices (λ f. refl) reason kept (arrival_adds t keeps p pair none) (own_arrival_adds t keeps p pair kept none)
 
-pub no_departure_refutes : (t : Tables) (keeps : Domains) (p : Pair) (prices : Prices) → IsPair t p → keeps p ≡ true → departures t keeps p.fleet (leg_of t p.leg).to ≡ 0
-    → IsReason t rule.NoDeparture p prices → pos 0 <ℤ worth_of t (part keeps p.leg p.fleet true) prices 0
+pub no_departure_refutes : (t : Tables) (keeps : Domains) (p : Pair) (prices : Prices) → IsPair t p → keeps p ≡ true → departures t keeps p.choice (leg_of t p.leg).to ≡ 0
+    → IsReason t rule.NoDeparture p prices → pos 0 <ℤ worth_of t (part keeps p.leg p.choice true) prices 0
 no_departure_refutes t keeps p prices pair kept none reason =
     refuted t keeps p pair rule.NoDeparture prices (λ f. refl) reason kept (departure_adds t keeps p pair none) (own_departure_adds t keeps p pair kept none)

@@ -19,14 +19,14 @@ use Rattle.presolve.specs.declared.rule.Rule.TheVariants as rule
 abbrev pub reason_rent : Rule → Pair → ℕ → ℤ
 reason_rent rule.NoArrival p f = pos 0
 reason_rent rule.NoDeparture p f = pos 0
-reason_rent rule.TooFewAircraft p f = if f == p.fleet then pos 1 else pos 0
+reason_rent rule.TooFewAircraft p f = if f == p.choice then pos 1 else pos 0
 
 -- the price of a fleet at a station at a minute: of the pair's own 1 where the leg departs, or -1 where it lands, or
 -- 1 everywhere until the leg departs
 abbrev pub reason_price : Tables → Rule → Pair → ℕ → ℕ → ℕ → ℤ
-reason_price t rule.NoArrival p f s m = if (f == p.fleet) && (s == (leg_of t p.leg).from) then pos 1 else pos 0
-reason_price t rule.NoDeparture p f s m = if (f == p.fleet) && (s == (leg_of t p.leg).to) then negsuc 0 else pos 0
-reason_price t rule.TooFewAircraft p f s m = if (f == p.fleet) && nat_le m (departure t p) then pos 1 else pos 0
+reason_price t rule.NoArrival p f s m = if (f == p.choice) && (s == (leg_of t p.leg).from) then pos 1 else pos 0
+reason_price t rule.NoDeparture p f s m = if (f == p.choice) && (s == (leg_of t p.leg).to) then negsuc 0 else pos 0
+reason_price t rule.TooFewAircraft p f s m = if (f == p.choice) && nat_le m (departure t p) then pos 1 else pos 0
 
 -- prices are the reason by which a rule removes a pair: these rents and prices over the scale 1, written in order
 pub record IsReason (t : Tables) (why : Rule) (p : Pair) (prices : Prices) : Type 0 where
@@ -49,6 +49,6 @@ steps_until f m (suc s) = steps_until f m s ++ steps_at f m s
 
 -- the steps of a rule's prices
 abbrev pub reason_steps : Tables → Rule → Pair → List PriceStep
-reason_steps t rule.NoArrival p = record { fleet = p.fleet; station = (leg_of t p.leg).from; minute = 0; value = pos 1 } ∷ []
-reason_steps t rule.NoDeparture p = record { fleet = p.fleet; station = (leg_of t p.leg).to; minute = 0; value = negsuc 0 } ∷ []
-reason_steps t rule.TooFewAircraft p = steps_until p.fleet (departure t p) (stations_in t)
+reason_steps t rule.NoArrival p = record { fleet = p.choice; station = (leg_of t p.leg).from; minute = 0; value = pos 1 } ∷ []
+reason_steps t rule.NoDeparture p = record { fleet = p.choice; station = (leg_of t p.leg).to; minute = 0; value = negsuc 0 } ∷ []
+reason_steps t rule.TooFewAircraft p = steps_until p.choice (departure t p) (stations_in t)

@@ -16,7 +16,7 @@ use Rattle.presolve.specs.declared.rule.Rule.{Rule}
 
 -- a pair comes before another, by leg, then fleet
 abbrev pub before : Pair → Pair → Bool
-before p q = nat_lt p.leg q.leg || ((p.leg == q.leg) && nat_lt p.fleet q.fleet)
+before p q = nat_lt p.leg q.leg || ((p.leg == q.leg) && nat_lt p.choice q.choice)
 
 -- of two pairs the first is met sooner, going over the pairs from a place to the last, and then over those before it
 abbrev pub is_sooner : Pair → Pair → Pair → Bool
@@ -28,11 +28,11 @@ first_place = leg_on 0 0
 
 -- the pair that is removed
 abbrev pub pair_of : Trim → Pair
-pair_of trim = leg_on trim.leg trim.fleet
+pair_of trim = leg_on trim.leg trim.choice
 
 -- the pairs that are kept after it
 abbrev pub without : Domains → Trim → Domains
-without keeps trim = part keeps trim.leg trim.fleet false
+without keeps trim = part keeps trim.leg trim.choice false
 
 -- each leg keeps a pair
 abbrev pub NoneBare : Tables → Domains → Type 0
@@ -68,11 +68,11 @@ kept_after keeps (trim ∷ trims) = kept_after (without keeps trim) trims
 pub record IsRefuted (t : Tables) (keeps : Domains) (trim : Trim) : Type 0 where
   pub pair : IsPair t (pair_of trim)
   pub kept : IsTrue (keeps (pair_of trim))
-  pub none_bare : NoneBare t (part keeps trim.leg trim.fleet true)
+  pub none_bare : NoneBare t (part keeps trim.leg trim.choice true)
   pub proper : ArePrices t trim.reason
   pub of_tables : ArePricesOf t trim.reason
   pub in_order : ArePricesInOrder t trim.reason
-  pub above : pos 0 <ℤ worth_of t (part keeps trim.leg trim.fleet true) trim.reason 0
+  pub above : pos 0 <ℤ worth_of t (part keeps trim.leg trim.choice true) trim.reason 0
 
 -- and so does each, among the pairs that are kept by then
 abbrev pub AreRefuted : Tables → Domains → List Trim → Type 0

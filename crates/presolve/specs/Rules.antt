@@ -41,11 +41,11 @@ has_only t keeps l f = keeps (leg_on l f) && (kept_on t keeps l == 1)
 
 -- where a pair is flown, its fleet surely flies the leg: it is the pair's own, or keeps no other fleet
 abbrev pub surely_flies : Tables → Domains → Pair → ℕ → Bool
-surely_flies t keeps p l = (l == p.leg) || has_only t keeps l p.fleet
+surely_flies t keeps p l = (l == p.leg) || has_only t keeps l p.choice
 
 -- the aircraft that a leg keeps busy at the end of a minute, where the fleet surely flies it
 abbrev pub busy_on : Tables → Domains → Pair → ℕ → ℕ → ℕ
-busy_on t keeps p m l = if surely_flies t keeps p l then busy_at t (leg_on l p.fleet) m else 0
+busy_on t keeps p m l = if surely_flies t keeps p l then busy_at t (leg_on l p.choice) m else 0
 
 -- the aircraft of a pair's fleet that are surely busy at the end of a minute, where the pair is flown
 unfoldable pub surely_busy : Tables → Domains → Pair → ℕ → ℕ
@@ -54,9 +54,9 @@ surely_busy t keeps p m = sum_below (busy_on t keeps p m) (legs_in t)
 -- the first rule that a pair meets among the kept pairs
 unfoldable pub rule_of : Tables → Domains → Pair → Option Rule
 rule_of t keeps p =
-    if landings t keeps p.fleet (leg_of t p.leg).from == 0 then Some rule.NoArrival
-    else if departures t keeps p.fleet (leg_of t p.leg).to == 0 then Some rule.NoDeparture
-    else if nat_lt (fleet_of t p.fleet).aircraft (surely_busy t keeps p (departure t p)) then Some rule.TooFewAircraft
+    if landings t keeps p.choice (leg_of t p.leg).from == 0 then Some rule.NoArrival
+    else if departures t keeps p.choice (leg_of t p.leg).to == 0 then Some rule.NoDeparture
+    else if nat_lt (fleet_of t p.choice).aircraft (surely_busy t keeps p (departure t p)) then Some rule.TooFewAircraft
     else None
 
 -- the rule by which a kept pair may be removed

@@ -15,10 +15,10 @@ NoneOn t keeps leg start = (f : ℕ) → start ≤ f → f < fleets_in t → rem
 -- the first pair of the leg from a fleet on that is removed
 pub record IsFirstOn (t : Tables) (keeps : Domains) (leg start : ℕ) (found : Removable) : Type 0 where
   pub on_leg : found.pair.leg ≡ leg
-  pub from_start : start ≤ found.pair.fleet
-  pub known : found.pair.fleet < fleets_in t
+  pub from_start : start ≤ found.pair.choice
+  pub known : found.pair.choice < fleets_in t
   pub by_rule : removed_by t keeps found.pair ≡ Some found.rule
-  pub first : (f : ℕ) → start ≤ f → f < found.pair.fleet → removed_by t keeps (leg_on leg f) ≡ None
+  pub first : (f : ℕ) → start ≤ f → f < found.pair.choice → removed_by t keeps (leg_on leg f) ≡ None
 
 -- no pair from a place on is removed
 abbrev pub NoneFrom : Tables → Domains → Pair → Type 0

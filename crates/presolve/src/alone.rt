@@ -22,8 +22,8 @@ pub(crate) fn busy_at(tables: &Tables, pair: Pair, minute: u16) -> u32
     ensures few { result ≤ 3 }
 {
     let departed = u32::from(tables.leg(pair.leg).dep <= minute);
-    let back = u32::from(ready(tables, pair.leg, pair.fleet) <= minute);
-    (laps(tables, pair.leg, pair.fleet) + departed).saturating_sub(back)
+    let back = u32::from(ready(tables, pair.leg, pair.choice) <= minute);
+    (laps(tables, pair.leg, pair.choice) + departed).saturating_sub(back)
 }
 
 /// The aircraft of each fleet that legs which keep no other keep busy, by minutes.
@@ -63,7 +63,7 @@ fn alone(tables: &Tables, kept: &Kept, counts: &[u32; MAX_LEGS], fleet: u32, min
     let mut sum = 0;
     for leg in 0..tables.leg_count() {
         if kept.kept(leg, fleet) && counts[leg as usize] == 1 {
-            sum += busy_at(tables, Pair { leg, fleet }, minute);
+            sum += busy_at(tables, Pair { leg, choice: fleet }, minute);
         }
     }
     sum
@@ -79,7 +79,7 @@ pub(crate) fn add_alone(cells: &mut Vec<u32>, tables: &Tables, kept: &Kept, leg:
 {
     for fleet in 0..tables.fleet_count() {
         if kept.kept(leg, fleet) {
-            add_busy(cells, tables, Pair { leg, fleet });
+            add_busy(cells, tables, Pair { leg, choice: fleet });
             return;
         }
     }
@@ -89,10 +89,10 @@ pub(crate) fn add_alone(cells: &mut Vec<u32>, tables: &Tables, kept: &Kept, leg:
 fn add_busy(cells: &mut Vec<u32>, tables: &Tables, pair: Pair)
     requires width { length cells.old.items ≡ fleets_in tables.now * CELL_WIDTH }
     requires pair { IsPair tables.now pair }
-    requires small { (m : ℕ) → m < MINUTES_PER_PERIOD → cell_of cells.old.items pair.fleet m ≤ 3 * MAX_LEGS }
-    ensures { AreMore (λ f m. if f == pair.fleet then busy_at tables.now pair m else 0) (fleets_in tables.now) cells.old.items cells.new.items }
+    requires small { (m : ℕ) → m < MINUTES_PER_PERIOD → cell_of cells.old.items pair.choice m ≤ 3 * MAX_LEGS }
+    ensures { AreMore (λ f m. if f == pair.choice then busy_at tables.now pair m else 0) (fleets_in tables.now) cells.old.items cells.new.items }
 {
     for minute in 0..MINUTES_PER_PERIOD {
-        cells[pair.fleet as usize * CELL_WIDTH + minute as usize] += busy_at(tables, pair, minute);
+        cells[pair.choice as usize * CELL_WIDTH + minute as usize] += busy_at(tables, pair, minute);
     }
 }

@@ -77,17 +77,17 @@ impl Choices {
         requires pair { IsPair tables.now pair }
         requires kept { IsTrue (kept_by self.old.kept pair) }
         ensures choices { AreChoices tables.now self.new }
-        ensures removed { kept_by self.new.kept ≡ part (kept_by self.old.kept) pair.leg pair.fleet false }
+        ensures removed { kept_by self.new.kept ≡ part (kept_by self.old.kept) pair.leg pair.choice false }
     {
         let flown = tables.leg(pair.leg);
         self.kept.narrow(Step {
             leg: pair.leg,
-            fleet: pair.fleet,
+            choice: pair.choice,
             yes: false,
         });
         self.counts[pair.leg as usize] -= 1;
-        take_one(&mut self.landings, pair.fleet, flown.to);
-        take_one(&mut self.departures, pair.fleet, flown.from);
+        take_one(&mut self.landings, pair.choice, flown.to);
+        take_one(&mut self.departures, pair.choice, flown.from);
         if self.counts[pair.leg as usize] == 1 {
             add_alone(&mut self.busy, tables, &self.kept, pair.leg);
         }

@@ -21,7 +21,7 @@ pub(crate) fn removed_by(tables: &Tables, choices: &Choices, pair: Pair) -> Opti
     requires pair { IsPair tables.now pair }
     ensures { result ≡ removed_by tables.now (kept_by choices.now.kept) pair }
 {
-    if choices.kept.kept(pair.leg, pair.fleet) {
+    if choices.kept.kept(pair.leg, pair.choice) {
         rule_of(tables, choices, pair)
     } else {
         None
@@ -38,13 +38,13 @@ fn rule_of(tables: &Tables, choices: &Choices, pair: Pair) -> Option<Rule>
     ensures { result ≡ rule_of tables.now (kept_by choices.now.kept) pair }
 {
     let flown = tables.leg(pair.leg);
-    if landings(tables, choices, pair.fleet, flown.from) == 0 {
+    if landings(tables, choices, pair.choice, flown.from) == 0 {
         return Some(Rule::NoArrival);
     }
-    if departures(tables, choices, pair.fleet, flown.to) == 0 {
+    if departures(tables, choices, pair.choice, flown.to) == 0 {
         return Some(Rule::NoDeparture);
     }
-    if surely_busy(tables, choices, pair) > tables.fleet(pair.fleet).aircraft {
+    if surely_busy(tables, choices, pair) > tables.fleet(pair.choice).aircraft {
         return Some(Rule::TooFewAircraft);
     }
     None
@@ -79,7 +79,7 @@ fn surely_busy(tables: &Tables, choices: &Choices, pair: Pair) -> u32
     ensures { result ≡ surely_busy tables.now (kept_by choices.now.kept) pair (departure tables.now pair) }
 {
     let minute = tables.leg(pair.leg).dep;
-    let alone = alone(tables, choices, pair.fleet, minute);
+    let alone = alone(tables, choices, pair.choice, minute);
     if choices.has_one(tables, pair.leg) {
         alone
     } else {

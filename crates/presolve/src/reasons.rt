@@ -37,7 +37,7 @@ fn steps(alloc: Global, tables: &Tables, rule: Rule, pair: Pair) -> Result<Vec<P
     ensures { IfOk result (λ steps. steps.items ≡ reason_steps tables.now rule pair) }
 {
     let leg = tables.leg(pair.leg);
-    let fleet = pair.fleet;
+    let fleet = pair.choice;
     let minute = 0;
     match rule {
         Rule::NoArrival => Ok(vec![in alloc;
@@ -107,7 +107,7 @@ fn rent(rule: Rule, pair: Pair, fleet: u32) -> i128
     ensures { result ≡ reason_rent rule pair fleet }
 {
     match rule {
-        Rule::TooFewAircraft if fleet == pair.fleet => 1,
+        Rule::TooFewAircraft if fleet == pair.choice => 1,
         _ => 0,
     }
 }

@@ -31,12 +31,12 @@ pub fn trim(alloc: Global, tables: &Tables) -> Result<Entries<Trim>, NoMemory>
 {
     let mut choices = Choices::all(alloc, tables)?;
     let mut trims = Vec::new(alloc);
-    let mut place = Pair { leg: 0, fleet: 0 };
+    let mut place = Pair { leg: 0, choice: 0 };
     while let Some(found) = next_removal(tables, &choices, place) {
         let pair = found.pair;
         trims.push(Trim {
             leg: pair.leg,
-            fleet: pair.fleet,
+            choice: pair.choice,
             reason: reason(alloc, tables, found.rule, pair)?,
         })?;
         choices.remove(tables, pair);

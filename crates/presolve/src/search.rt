@@ -28,7 +28,7 @@ pub(crate) fn next_removal(tables: &Tables, choices: &Choices, place: Pair) -> O
     }
     match first_from(tables, choices, place) {
         Some(found) => Some(found),
-        None => first_from(tables, choices, Pair { leg: 0, fleet: 0 }),
+        None => first_from(tables, choices, Pair { leg: 0, choice: 0 }),
     }
 }
 
@@ -39,7 +39,7 @@ fn first_from(tables: &Tables, choices: &Choices, place: Pair) -> Option<Removab
     ensures { MatchOption result (NoneFrom tables.now (kept_by choices.now.kept) place) (IsFirstFrom tables.now (kept_by choices.now.kept) place) }
 {
     for leg in place.leg..tables.leg_count() {
-        let start = if leg == place.leg { place.fleet } else { 0 };
+        let start = if leg == place.leg { place.choice } else { 0 };
         if let Some(found) = first_on(tables, choices, leg, start) {
             return Some(found);
         }
@@ -55,7 +55,7 @@ fn first_on(tables: &Tables, choices: &Choices, leg: u32, start: u32) -> Option<
     ensures { MatchOption result (NoneOn tables.now (kept_by choices.now.kept) leg start) (IsFirstOn tables.now (kept_by choices.now.kept) leg start) }
 {
     for fleet in start..tables.fleet_count() {
-        let pair = Pair { leg, fleet };
+        let pair = Pair { leg, choice: fleet };
         if let Some(rule) = removed_by(tables, choices, pair) {
             return Some(Removable { pair, rule });
         }

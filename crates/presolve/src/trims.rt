@@ -6,7 +6,7 @@ pub struct Trim {
     /// The leg, by its number.
     pub leg: u32,
     /// The fleet, by its number.
-    pub fleet: u32,
+    pub choice: u32,
     /// Prices which show that nothing legal is left where the fleet flies the leg, among the pairs kept before.
     pub reason: Prices,
 }

@@ -29,31 +29,31 @@ unfolding weight_after
 after_append w [] ys p = refl
 after_append w (x ∷ xs) ys p = after_append (if is_weight_of p x then x.weight else w) xs ys p
 
-same_pair : (q p : Pair) → ((q.leg == p.leg) && (q.fleet == p.fleet)) ≡ true → q ≡ p
+same_pair : (q p : Pair) → ((q.leg == p.leg) && (q.choice == p.choice)) ≡ true → q ≡ p
 same_pair q p e =
     let leg : q.leg ≡ p.leg = grind (arith, nat_tests) in
-    let fleet : q.fleet ≡ p.fleet = grind (arith, nat_tests) in
-    ap (λ l. leg_on l q.fleet) leg ∙ ap (λ f. leg_on p.leg f) fleet
+    let fleet : q.choice ≡ p.choice = grind (arith, nat_tests) in
+    ap (λ l. leg_on l q.choice) leg ∙ ap (λ f. leg_on p.leg f) fleet
 
-at_itself : (p : Pair) → ((p.leg == p.leg) && (p.fleet == p.fleet)) ≡ true
+at_itself : (p : Pair) → ((p.leg == p.leg) && (p.choice == p.choice)) ≡ true
 at_itself p = grind (arith, nat_tests)
 
 zero_size : (z : ℤ) → (unsigned_abs z == 0) ≡ true → z ≡ pos 0
 zero_size z e = let none : unsigned_abs z ≡ 0 = grind (arith, nat_tests) in omega (arith, ints)
 
-another : (q p : Pair) (z w : ℤ) → ((q.leg == p.leg) && (q.fleet == p.fleet)) ≡ false → weight_after w (weight_where q z) p ≡ w
+another : (q p : Pair) (z w : ℤ) → ((q.leg == p.leg) && (q.choice == p.choice)) ≡ false → weight_after w (weight_where q z) p ≡ w
 unfolding weight_after
 another q p z w other = by_zero (unsigned_abs z == 0)
   where
-    by_zero : (b : Bool) → weight_after w (if b then [] else record { leg = q.leg; fleet = q.fleet; weight = z } ∷ []) p ≡ w
+    by_zero : (b : Bool) → weight_after w (if b then [] else record { leg = q.leg; choice = q.choice; weight = z } ∷ []) p ≡ w
     by_zero true = refl
     by_zero false = ap (λ b. cond b z w) other
 
-itself : (q p : Pair) (z : ℤ) → ((q.leg == p.leg) && (q.fleet == p.fleet)) ≡ true → weight_after (pos 0) (weight_where q z) p ≡ z
+itself : (q p : Pair) (z : ℤ) → ((q.leg == p.leg) && (q.choice == p.choice)) ≡ true → weight_after (pos 0) (weight_where q z) p ≡ z
 unfolding weight_after
 itself q p z same = by_test (unsigned_abs z == 0)
-    (λ e. ap (λ b. weight_after (pos 0) (if b then [] else record { leg = q.leg; fleet = q.fleet; weight = z } ∷ []) p) e ∙ sym (zero_size z e))
-    (λ e. ap (λ b. weight_after (pos 0) (if b then [] else record { leg = q.leg; fleet = q.fleet; weight = z } ∷ []) p) e ∙ ap (λ b. cond b z (pos 0)) same)
+    (λ e. ap (λ b. weight_after (pos 0) (if b then [] else record { leg = q.leg; choice = q.choice; weight = z } ∷ []) p) e ∙ sym (zero_size z e))
+    (λ e. ap (λ b. weight_after (pos 0) (if b then [] else record { leg = q.leg; choice = q.choice; weight = z } ∷ []) p) e ∙ ap (λ b. cond b z (pos 0)) same)
 
 -- the pair of a column has the weight there, and any other pair 0
 module _ (pairs : List Pair) (parts : List ℤ) (p : Pair) where
@@ -76,26 +76,26 @@ module _ (pairs : List Pair) (parts : List ℤ) (p : Pair) where
   more : (n : ℕ) → weight_below (suc n) ≡ weight_after (weight_below n) (weight_where (pair n) (get_or parts n (pos 0))) p
   more n = after_append (pos 0) (concat_below (weights_at pairs parts) n) (weights_at pairs parts n) p
 
-  here : (n : ℕ) → ((pair n).leg == p.leg && ((pair n).fleet == p.fleet)) ≡ true → weight_below n ≡ pos 0 → IsFound (suc n)
+  here : (n : ℕ) → ((pair n).leg == p.leg && ((pair n).choice == p.choice)) ≡ true → weight_below n ≡ pos 0 → IsFound (suc n)
   here n same before =
       (n, omega arith, same_pair (pair n) p same, more n ∙ ap (λ w. weight_after w (weight_where (pair n) (get_or parts n (pos 0))) p) before ∙ itself (pair n) p (get_or parts n (pos 0)) same)
 
   pub find : (n : ℕ) → ((c d : ℕ) → c < n → d < n → pair c ≡ pair d → c ≡ d) → IsFound n ⊎ IsMissing n
   find zero once = inr (λ c below. absurd (omega arith), none)
   find (suc n) once = elim (find n (λ c d less there. once c d (omega arith) (omega arith))) [
-    | inl found ↦ by_test ((pair n).leg == p.leg && ((pair n).fleet == p.fleet))
+    | inl found ↦ by_test ((pair n).leg == p.leg && ((pair n).choice == p.choice))
         (λ e.
         let twice : found.0 ≡ n = once found.0 n (omega (arith, found.1)) (omega arith) (found.2 ∙ sym (same_pair (pair n) p e)) in
         absurd (omega (arith, found.1, twice)))
         (λ e. inl (found.0, omega (arith, found.1), found.2, more n ∙ another (pair n) p (get_or parts n (pos 0)) (weight_below n) e ∙ found.3))
-    | inr missing ↦ by_test ((pair n).leg == p.leg && ((pair n).fleet == p.fleet))
+    | inr missing ↦ by_test ((pair n).leg == p.leg && ((pair n).choice == p.choice))
         (λ e. inl (here n e missing.1))
         (λ e. inr (
           λ c below same. elim (cases_lt c n) [
             | inl before ↦ missing.0 c before same
             | inr last ↦
                 let at : c ≡ n = omega arith in
-                absurd (false≢true (sym e ∙ subst (λ q. (q.leg == p.leg && (q.fleet == p.fleet)) ≡ true) (sym (ap pair (sym at) ∙ same)) (at_itself p)))
+                absurd (false≢true (sym e ∙ subst (λ q. (q.leg == p.leg && (q.choice == p.choice)) ≡ true) (sym (ap pair (sym at) ∙ same)) (at_itself p)))
           ],
           more n ∙ another (pair n) p (get_or parts n (pos 0)) (weight_below n) e ∙ missing.1,
         ))

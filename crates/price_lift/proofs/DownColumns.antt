@@ -115,24 +115,24 @@ module _ (t : Tables) (starts : Starts) (y : ℕ → ℤ) where
         ∙ sum_below_ℤ-one p.leg y (legs_in t) is_pair.leg
 
     flight_balances : over_nodes (λ f s k. of_node f s k *ℤ balance_entry t starts (node_at f s k) (Flight p))
-        ≡ at_minute p.fleet (leg_of t p.leg).to (ready_minute t p) -ℤ at_minute p.fleet (leg_of t p.leg).from (departure t p)
+        ≡ at_minute p.choice (leg_of t p.leg).to (ready_minute t p) -ℤ at_minute p.choice (leg_of t p.leg).from (departure t p)
     flight_balances =
         let come = λ (f s k : ℕ). comes_to_node t starts (node_at f s k) p in
         let leave = λ (f s k : ℕ). leaves_node t starts (node_at f s k) p in
         over_nodes-same (λ f s k. of_node f s k *ℤ (one_if (come f s k) -ℤ one_if (leave f s k))) (λ f s k. (of_node f s k *ℤ one_if (come f s k)) -ℤ (of_node f s k *ℤ one_if (leave f s k)))
         (λ f s k known within below. *ℤ--ℤ (of_node f s k) (one_if (come f s k)) (one_if (leave f s k)))
         ∙ over_nodes--ℤ (λ f s k. of_node f s k *ℤ one_if (come f s k)) (λ f s k. of_node f s k *ℤ one_if (leave f s k))
-        ∙ ap (λ z. z -ℤ over_nodes (λ f s k. of_node f s k *ℤ one_if (leave f s k))) (pick come p.fleet (leg_of t p.leg).to (ready_minute t p) is_pair.fleet to (λ f s k. refl))
-        ∙ ap (λ z. at_minute p.fleet (leg_of t p.leg).to (ready_minute t p) -ℤ z) (pick leave p.fleet (leg_of t p.leg).from (departure t p) is_pair.fleet from (λ f s k. refl))
+        ∙ ap (λ z. z -ℤ over_nodes (λ f s k. of_node f s k *ℤ one_if (leave f s k))) (pick come p.choice (leg_of t p.leg).to (ready_minute t p) is_pair.choice to (λ f s k. refl))
+        ∙ ap (λ z. at_minute p.choice (leg_of t p.leg).to (ready_minute t p) -ℤ z) (pick leave p.choice (leg_of t p.leg).from (departure t p) is_pair.choice from (λ f s k. refl))
 
-    flight_counts : sum_below_ℤ (λ f. of_fleet f *ℤ count_entry t starts f (Flight p)) (fleets_in t) ≡ of_fleet p.fleet *ℤ pos (laps_of t p)
+    flight_counts : sum_below_ℤ (λ f. of_fleet f *ℤ count_entry t starts f (Flight p)) (fleets_in t) ≡ of_fleet p.choice *ℤ pos (laps_of t p)
     flight_counts =
-        sum_below_ℤ-same (λ f. of_fleet f *ℤ (if f == p.fleet then pos (laps_of t p) else pos 0)) (λ f. where_true (p.fleet == f) (of_fleet f *ℤ pos (laps_of t p))) (fleets_in t)
-        (λ f known. times_test (f == p.fleet) (of_fleet f) (pos (laps_of t p)) ∙ ap (λ b. where_true b (of_fleet f *ℤ pos (laps_of t p))) (flip f p.fleet))
-        ∙ sum_below_ℤ-one p.fleet (λ f. of_fleet f *ℤ pos (laps_of t p)) (fleets_in t) is_pair.fleet
+        sum_below_ℤ-same (λ f. of_fleet f *ℤ (if f == p.choice then pos (laps_of t p) else pos 0)) (λ f. where_true (p.choice == f) (of_fleet f *ℤ pos (laps_of t p))) (fleets_in t)
+        (λ f known. times_test (f == p.choice) (of_fleet f) (pos (laps_of t p)) ∙ ap (λ b. where_true b (of_fleet f *ℤ pos (laps_of t p))) (flip f p.choice))
+        ∙ sum_below_ℤ-one p.choice (λ f. of_fleet f *ℤ pos (laps_of t p)) (fleets_in t) is_pair.choice
 
     pub down_flight : down (λ line. entry_of t starts line (Flight p))
-        ≡ y p.leg +ℤ ((at_minute p.fleet (leg_of t p.leg).to (ready_minute t p) -ℤ at_minute p.fleet (leg_of t p.leg).from (departure t p)) +ℤ (of_fleet p.fleet *ℤ pos (laps_of t p)))
+        ≡ y p.leg +ℤ ((at_minute p.choice (leg_of t p.leg).to (ready_minute t p) -ℤ at_minute p.choice (leg_of t p.leg).from (departure t p)) +ℤ (of_fleet p.choice *ℤ pos (laps_of t p)))
     down_flight = by_kinds (λ line. entry_of t starts line (Flight p)) ∙ omega (arith, ints, flight_covers, flight_balances, flight_counts)
 
   -- ---- a ground arc

@@ -111,12 +111,12 @@ module _ (t : Tables) (keeps : Domains) (starts : Starts) (network : IsNetwork t
         let departs_in : departure t p ≤ last_minute = omega (arith, leg.dep) in
         let one = minute_is f to (ready_minute t p) known leg.to ready_in (some_nodes f to true (ready_minute t p) known leg.to back) in
         let two = minute_is f from (departure t p) known leg.from departs_in (some_nodes f from false (departure t p) known leg.from out) in
-        let sum = down_flight t starts y p (record { leg = below; fleet = known }) leg.from leg.to
+        let sum = down_flight t starts y p (record { leg = below; choice = known }) leg.from leg.to
         ∙ ap (λ z. y l +ℤ ((z -ℤ at_minute t starts y f from (departure t p)) +ℤ (of_fleet t starts y f *ℤ pos (laps_of t p)))) one
         ∙ ap (λ z. y l +ℤ (((h *ℤ price_of prices f to (ready_minute t p)) -ℤ z) +ℤ (of_fleet t starts y f *ℤ pos (laps_of t p)))) two
         ∙ ap (λ z. y l +ℤ (((h *ℤ price_of prices f to (ready_minute t p)) -ℤ (h *ℤ price_of prices f from (departure t p))) +ℤ (z *ℤ pos (laps_of t p)))) (fleet_is f known) in
         gather h (pos k *ℤ prices.scale *ℤ cost_units t p) (price_of prices f from (departure t p)) (price_of prices f to (ready_minute t p)) (rent_of prices f) (pos (laps_of t p)) (y l)
-        (down t starts y (λ line. entry_of t starts line (Flight p))) sum (dual (Flight p) (record { leg = below; fleet = known }, kept))
+        (down t starts y (λ line. entry_of t starts line (Flight p))) sum (dual (Flight p) (record { leg = below; choice = known }, kept))
 
     leg_reaches : (l : ℕ) → l < legs_in t → ¬ (IsBare t keeps l) → y l ≤ℤ (h *ℤ leg_worth t keeps prices k l)
     unfolding leg_worth

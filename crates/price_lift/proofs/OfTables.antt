@@ -31,4 +31,4 @@ pub weights_known : (t : Tables) (keeps : Domains) (starts : Starts) (parts : Li
 weights_known t keeps starts parts = all_concat (IsWeightOf t) (weights_at (all_kept t keeps) parts) (pairs_kept t keeps) (λ c below.
     let p = get_or (all_kept t keeps) c (leg_on 0 0) in
     let w = get_or parts c (pos 0) in
-    all_other (IsWeightOf t) (unsigned_abs w == 0) (record { leg = p.leg; fleet = p.fleet; weight = w }) (is_pair t keeps starts c below))
+    all_other (IsWeightOf t) (unsigned_abs w == 0) (record { leg = p.leg; choice = p.choice; weight = w }) (is_pair t keeps starts c below))

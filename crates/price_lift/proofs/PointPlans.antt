@@ -75,7 +75,7 @@ no_bare t keeps scale w some plan l bare = omega (arith, some, plan.cover l bare
     not_kept f known = never_passes (keeps (leg_on l f)) (λ kept. omega (arith, bare.none, count_below-some (λ g. keeps (leg_on l g)) (fleets_in t) f known kept))
 
     nothing : weight_on t w l ≡ 0
-    nothing = sum_below-agree (λ f. w (leg_on l f)) (λ f. 0) (fleets_in t) (record { each = λ f known. plan.kept (leg_on l f) (record { leg = bare.within; fleet = known }) (not_kept f known) }) ∙ sum_below-zero (fleets_in t)
+    nothing = sum_below-agree (λ f. w (leg_on l f)) (λ f. 0) (fleets_in t) (record { each = λ f known. plan.kept (leg_on l f) (record { leg = bare.within; choice = known }) (not_kept f known) }) ∙ sum_below-zero (fleets_in t)
 
 -- ---- a point of a multiple of a scale, whose pairs have the same multiple of parts
 module _ (t : Tables) (keeps : Domains) (rows : Rows) (lines : AreLinesOf t keeps rows) (factor scale : ℕ) (many : 0 < factor) (scale_above : 0 < scale) (point parts : ℕ → ℕ)
@@ -127,7 +127,7 @@ module _ (t : Tables) (keeps : Domains) (rows : Rows) (lines : AreLinesOf t keep
         scale = subst IsScale (sym is_scale) (record { some = at_least scale scale_above; within = at_most scale within });
         each = λ l below f known.
             let p = leg_on l f in
-            let pair : IsPair t p = record { leg = below; fleet = known } in
+            let pair : IsPair t p = record { leg = below; choice = known } in
             subst (λ w. IsWeight mixed.scale w) (sym (weight_is p pair)) (subst (λ s. IsWeight s (pos (share p))) (sym is_scale) (some_weight (share p) scale (no_more_parts t keeps scale share plan p pair)));
       };
       plan = subst (λ s. IsMixedPlan t keeps (unsigned_abs s) (parts_in mixed)) (sym is_scale) mixed_plan;

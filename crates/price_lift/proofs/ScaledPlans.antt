@@ -22,7 +22,7 @@ use Rattle.lp_rows.proofs.PairParts.{of_test}
 
 module _ (t : Tables) (k : ℕ) (x w : Weights) (same : (p : Pair) → IsPair t p → x p ≡ k * w p) where
   of_pair : (l f : ℕ) → l < legs_in t → f < fleets_in t → x (leg_on l f) ≡ k * w (leg_on l f)
-  of_pair l f below known = same (leg_on l f) (record { leg = below; fleet = known })
+  of_pair l f below known = same (leg_on l f) (record { leg = below; choice = known })
 
   of_weights : (l : ℕ) → l < legs_in t → weight_on t x l ≡ k * weight_on t w l
   of_weights l below = times_below k (λ f. x (leg_on l f)) (λ f. w (leg_on l f)) (fleets_in t) (λ f known. of_pair l f below known)
@@ -65,7 +65,7 @@ module _ (t : Tables) (k : ℕ) (x w : Weights) (same : (p : Pair) → IsPair t 
 
 -- a mixed plan gives no pair more than its scale
 pub no_more_parts : (t : Tables) (keeps : Domains) (scale : ℕ) (w : Weights) → IsMixedPlan t keeps scale w → (p : Pair) → IsPair t p → w p ≤ scale
-no_more_parts t keeps scale w plan p pair = omega (arith, plan.cover p.leg pair.leg, term_le (λ f. w (leg_on p.leg f)) p.fleet (fleets_in t) pair.fleet)
+no_more_parts t keeps scale w plan p pair = omega (arith, plan.cover p.leg pair.leg, term_le (λ f. w (leg_on p.leg f)) p.choice (fleets_in t) pair.choice)
 
 -- a multiple of all weights costs so many times as much
 pub multiple_costs : (t : Tables) (k : ℕ) (x w : Weights) → ((p : Pair) → IsPair t p → x p ≡ k * w p) → mixed_cost t x ≡ pos k *ℤ mixed_cost t w
@@ -73,6 +73,6 @@ unfolding mixed_cost
 multiple_costs t k x w same =
     sum_below_ℤ-same (λ l. sum_below_ℤ (weighted_cost t x l) (fleets_in t)) (λ l. pos k *ℤ sum_below_ℤ (weighted_cost t w l) (fleets_in t)) (legs_in t)
     (λ l below. sum_below_ℤ-same (weighted_cost t x l) (λ f. pos k *ℤ weighted_cost t w l f) (fleets_in t)
-    (λ f known. ap (λ n. pos n *ℤ unwrap_or (cost_of t (leg_on l f)) (pos 0)) (same (leg_on l f) (record { leg = below; fleet = known })) ∙ *ℤ_assoc (pos k) (pos (w (leg_on l f))) (unwrap_or (cost_of t (leg_on l f)) (pos 0)))
+    (λ f known. ap (λ n. pos n *ℤ unwrap_or (cost_of t (leg_on l f)) (pos 0)) (same (leg_on l f) (record { leg = below; choice = known })) ∙ *ℤ_assoc (pos k) (pos (w (leg_on l f))) (unwrap_or (cost_of t (leg_on l f)) (pos 0)))
     ∙ sym (*ℤ-sum_below_ℤ (pos k) (weighted_cost t w l) (fleets_in t)))
     ∙ sym (*ℤ-sum_below_ℤ (pos k) (λ l. sum_below_ℤ (weighted_cost t w l) (fleets_in t)) (legs_in t))

@@ -20,7 +20,7 @@ use Rattle.price_lift.proofs.Orders.{Follow, at_number, concat_same, follow_all,
 
 -- ---- pairs by leg, then fleet
 abbrev pub PairBefore : Pair → Pair → Type 0
-PairBefore p q = (p.leg < q.leg) ⊎ ((p.leg ≡ q.leg) × (p.fleet < q.fleet))
+PairBefore p q = (p.leg < q.leg) ⊎ ((p.leg ≡ q.leg) × (p.choice < q.choice))
 
 one_pair : (keeps : Domains) (l f : ℕ) → AllPairs PairBefore (pair_of keeps l f)
 one_pair keeps l f = of_test (keeps (leg_on l f))
@@ -31,26 +31,26 @@ one_pair keeps l f = of_test (keeps (leg_on l f))
 
 record IsOn (l f : ℕ) (p : Pair) : Type 0 where
   leg : p.leg ≡ l
-  fleet : p.fleet ≡ f
+  fleet : p.choice ≡ f
 
 is_on : (keeps : Domains) (l f : ℕ) → All (IsOn l f) (pair_of keeps l f)
 is_on keeps l f = of_test (keeps (leg_on l f))
   where
     of_test : (b : Bool) → All (IsOn l f) (if b then leg_on l f ∷ [] else [])
-    of_test true = λ k d below. let first : 0 ≡ k = omega arith in subst (λ j. IsOn l f (get_or (leg_on l f ∷ []) j d)) first (record { leg = refl; fleet = refl })
+    of_test true = λ k d below. let first : 0 ≡ k = omega arith in subst (λ j. IsOn l f (get_or (leg_on l f ∷ []) j d)) first (record { leg = refl; choice = refl })
     of_test false = λ k d below. absurd (omega arith)
 
 kept_in_order : (t : Tables) (keeps : Domains) → AllPairs PairBefore (all_kept t keeps)
 kept_in_order t keeps =
     pairs_concat PairBefore (λ l p. p.leg ≡ l) (pairs_of t keeps) (legs_in t)
     (λ l below. pairs_concat PairBefore (IsOn l) (pair_of keeps l) (fleets_in t) (λ f known. one_pair keeps l f) (λ f known. is_on keeps l f)
-    (λ i k p q order here there. inr (omega (arith, here.leg, there.leg), omega (arith, order, here.fleet, there.fleet))))
+    (λ i k p q order here there. inr (omega (arith, here.leg, there.leg), omega (arith, order, here.choice, there.choice))))
     (λ l below. all_concat (λ p. p.leg ≡ l) (pair_of keeps l) (fleets_in t) (λ f known k d there. (is_on keeps l f k d there).leg))
     (λ i k p q order here there. inl (omega (arith, order, here, there)))
 
 -- ---- the weights
 abbrev weight_at : List Pair → List ℤ → ℕ → Weight
-weight_at pairs parts c = record { leg = (get_or pairs c (leg_on 0 0)).leg; fleet = (get_or pairs c (leg_on 0 0)).fleet; weight = get_or parts c (pos 0) }
+weight_at pairs parts c = record { leg = (get_or pairs c (leg_on 0 0)).leg; choice = (get_or pairs c (leg_on 0 0)).choice; weight = get_or parts c (pos 0) }
 
 abbrev some_at : List ℤ → ℕ → Bool
 some_at parts c = not (unsigned_abs (get_or parts c (pos 0)) == 0)
@@ -70,10 +70,10 @@ not_zero z e = by (int_eq z (pos 0)) refl
     by false same = refl
 
 follows : (p q : Pair) (w z : ℤ) → PairBefore p q → not (int_eq z (pos 0)) ≡ true
-    → weight_follows (Some (record { leg = p.leg; fleet = p.fleet; weight = w })) (record { leg = q.leg; fleet = q.fleet; weight = z }) ≡ true
-follows p q w z before some = both_true (nat_lt p.leg q.leg || ((p.leg == q.leg) && nat_lt p.fleet q.fleet)) (not (int_eq z (pos 0))) (order before) some
+    → weight_follows (Some (record { leg = p.leg; choice = p.choice; weight = w })) (record { leg = q.leg; choice = q.choice; weight = z }) ≡ true
+follows p q w z before some = both_true (nat_lt p.leg q.leg || ((p.leg == q.leg) && nat_lt p.choice q.choice)) (not (int_eq z (pos 0))) (order before) some
   where
-    order : PairBefore p q → (nat_lt p.leg q.leg || ((p.leg == q.leg) && nat_lt p.fleet q.fleet)) ≡ true
+    order : PairBefore p q → (nat_lt p.leg q.leg || ((p.leg == q.leg) && nat_lt p.choice q.choice)) ≡ true
     order (inl less) = grind (arith, nat_tests)
     order (inr same) = let leg = same.0 in let fleet = same.1 in grind (arith, nat_tests)
 

@@ -13,7 +13,7 @@ use Rattle.dual_bound.specs.declared.mixed.Weight.{Weight}
 
 -- the weight of a column's pair, where it is not 0
 abbrev pub weight_where : Pair → ℤ → List Weight
-weight_where p weight = if unsigned_abs weight == 0 then [] else record { leg = p.leg; fleet = p.fleet; weight = weight } ∷ []
+weight_where p weight = if unsigned_abs weight == 0 then [] else record { leg = p.leg; choice = p.choice; weight = weight } ∷ []
 
 abbrev pub weights_at : List Pair → List ℤ → ℕ → List Weight
 weights_at pairs parts column = weight_where (slice_index_or pairs column (leg_on 0 0)) (slice_index_or parts column (pos 0))

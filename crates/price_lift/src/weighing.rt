@@ -92,7 +92,7 @@ fn push_weight(weights: &mut Vec<Weight>, pair: Pair, weight: &i128) -> Result<(
     }
     weights.push(Weight {
         leg: pair.leg,
-        fleet: pair.fleet,
+        choice: pair.choice,
         weight: *weight,
     })?;
     Ok(())

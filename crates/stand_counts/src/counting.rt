@@ -36,7 +36,7 @@ pub fn arrivals<F: Flights>(tables: &Tables, flights: &F, station: u32, minute: 
     let mut sum = 0;
     for leg in 0..tables.leg_count() {
         let pair = flights.pair(tables, leg);
-        if tables.leg(pair.leg).to == station && ready(tables, pair.leg, pair.fleet) <= minute {
+        if tables.leg(pair.leg).to == station && ready(tables, pair.leg, pair.choice) <= minute {
             sum += flights.weight(tables, pair);
         }
     }

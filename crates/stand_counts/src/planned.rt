@@ -24,11 +24,11 @@ impl Flights for Planned<'_> {
     fn pair(&self, _tables: &Tables, leg: u32) -> Pair {
         Pair {
             leg,
-            fleet: self.fleet,
+            choice: self.fleet,
         }
     }
 
     fn weight(&self, _tables: &Tables, pair: Pair) -> u128 {
-        u128::from(self.plan.fleet(pair.leg) == pair.fleet)
+        u128::from(self.plan.fleet(pair.leg) == pair.choice)
     }
 }

@@ -58,5 +58,5 @@ fn leg_laps<F: Flights>(tables: &Tables, flights: &F, pair: Pair) -> u128
     ensures few { result ≤ F.most * 2 }
     ensures small { result ≤ MAX_WEIGHT * 2 }
 {
-    flights.weight(tables, pair) * u128::from(laps(tables, pair.leg, pair.fleet))
+    flights.weight(tables, pair) * u128::from(laps(tables, pair.leg, pair.choice))
 }

@@ -29,4 +29,4 @@ seek-returns-in-Split-clause-sought t c =
 pub seek_both-returns-clause-sought : goal.seek_both-returns-clause-sought
 seek_both-returns-clause-sought t c =
     in_second _ _ _ _ _ _ _ _ c.if-seek_in_part.ensures.sought
-    (in_same _ _ _ _ _ (record { leg = c.args.leg; fleet = c.args.fleet; yes = false }) _ _ _ _ c.if-seek_in_part.ensures.kept c.if-seek_in_part.ensures.cost c.seek_in_part-2.ensures.sought)
+    (in_same _ _ _ _ _ (record { leg = c.args.leg; choice = c.args.fleet; yes = false }) _ _ _ _ c.if-seek_in_part.ensures.kept c.if-seek_in_part.ensures.cost c.seek_in_part-2.ensures.sought)
