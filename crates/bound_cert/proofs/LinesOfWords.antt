@@ -58,18 +58,18 @@ open_is (cause.Lift step at) =
 pub trim_is : (t : Tables) (l f : ℕ) → IsPair t (leg_on l f) → IsOfWords (trim_line t l f)
 trim_is t l f is =
     of_words _ _ (written _ _ refl)
-    (All-from_recursion IsWord ((leg_of t l).flight ∷ (fleet_of t f).name ∷ []) (flight_word t l is.leg, (fleet_word t f is.fleet, tt)))
+    (All-from_recursion IsWord ((leg_of t l).flight ∷ (fleet_of t f).name ∷ []) (flight_word t l is.leg, (fleet_word t f is.choice, tt)))
 
 pub split_is : (t : Tables) (l f : ℕ) → IsPair t (leg_on l f) → IsOfWords (split_line t l f)
 split_is t l f is =
     of_words _ _ (written _ _ refl)
-    (All-from_recursion IsWord ((leg_of t l).flight ∷ (fleet_of t f).name ∷ []) (flight_word t l is.leg, (fleet_word t f is.fleet, tt)))
+    (All-from_recursion IsWord ((leg_of t l).flight ∷ (fleet_of t f).name ∷ []) (flight_word t l is.leg, (fleet_word t f is.choice, tt)))
 
 pub weight_is : (t : Tables) (entry : Weight) → IsWeightOf t entry → IsOfWords (weight_line t entry)
 weight_is t entry is =
     of_words _ _ (written _ _ refl)
     (All-from_recursion IsWord ((leg_of t entry.leg).flight ∷ (fleet_of t entry.choice).name ∷ signed_decimal entry.weight ∷ [])
-    (flight_word t entry.leg is.leg, (fleet_word t entry.choice is.fleet, (signed_word entry.weight, tt))))
+    (flight_word t entry.leg is.leg, (fleet_word t entry.choice is.choice, (signed_word entry.weight, tt))))
 
 pub scale_is : (scale : ℤ) → IsOfWords (scale_line scale)
 scale_is scale = of_words _ _ (written _ _ refl) (All-from_recursion IsWord (signed_decimal scale ∷ []) (signed_word scale, tt))

@@ -251,7 +251,7 @@ module _ (t : Tables) where
       bound (present (leg_named t (word_at words 1)) left UNKNOWN_NAME) leg _
       (here (leg_named t (word_at words 1)) leg left UNKNOWN_NAME (ap (leg_named t) first ∙ leg_written t leg is.leg))
       ∙ bound (present (fleet_named t (word_at words 2)) left UNKNOWN_NAME) fleet _
-      (here (fleet_named t (word_at words 2)) fleet left UNKNOWN_NAME (ap (fleet_named t) second ∙ fleet_written t fleet is.fleet))
+      (here (fleet_named t (word_at words 2)) fleet left UNKNOWN_NAME (ap (fleet_named t) second ∙ fleet_written t fleet is.choice))
 
   weight_by_words : (entry : Weight) (left : Left) → IsWeightInOrder t entry → weight_by t (weight_line t entry) left ≡ Ok entry
   unfolding weight_by

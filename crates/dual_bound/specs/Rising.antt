@@ -19,7 +19,7 @@ step_before a b = nat_lt a.fleet b.fleet || ((a.fleet == b.fleet) && (nat_lt a.s
 
 -- a weight's pair comes before another's: by leg, then fleet
 abbrev pub weight_before : Weight → Weight → Bool
-weight_before a b = nat_lt a.leg b.leg || ((a.leg == b.leg) && nat_lt a.fleet b.fleet)
+weight_before a b = nat_lt a.leg b.leg || ((a.leg == b.leg) && nat_lt a.choice b.choice)
 
 -- each step comes before all those after it
 abbrev pub StepsRise : List PriceStep → Type 0

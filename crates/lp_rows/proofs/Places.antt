@@ -70,7 +70,7 @@ module _ (t : Tables) (keeps : Domains) (starts : Starts) where
       (λ l. sum_below_ℤ (λ f. where_true (p.leg == l) (where_true (p.choice == f) (where_true (keeps (leg_on l f)) (pos 1)))) (fleets_in t)) (legs_in t)
       (λ l below. sum_below_ℤ-same (λ f. where_true (keeps (leg_on l f)) (one_if ((p.leg == l) && (p.choice == f)))) (λ f. where_true (p.leg == l) (where_true (p.choice == f) (where_true (keeps (leg_on l f)) (pos 1)))) (fleets_in t)
       (λ f known. three_tests (keeps (leg_on l f)) (p.leg == l) (p.choice == f)))
-      ∙ pick_pair (legs_in t) (fleets_in t) p.leg p.choice (λ l f. where_true (keeps (leg_on l f)) (pos 1)) kept.0.leg kept.0.fleet
+      ∙ pick_pair (legs_in t) (fleets_in t) p.leg p.choice (λ l f. where_true (keeps (leg_on l f)) (pos 1)) kept.0.leg kept.0.choice
       ∙ ap (λ b. where_true b (pos 1)) kept.1 in
       omega (arith, ints, pairs, no_grounds (λ k. one_if (same_column (Flight p) k)) (λ n. refl), no_slacks (λ k. one_if (same_column (Flight p) k)) (λ f. refl))
   once (Ground a) kept =

@@ -7,7 +7,7 @@ use Rattle.lp_rows.specs.declared.kinds.Line.TheVariants.{Balance, Count, Cover}
 
 -- the fleet of a column
 abbrev pub column_fleet : Column → ℕ
-column_fleet (Flight p) = p.fleet
+column_fleet (Flight p) = p.choice
 column_fleet (Ground a) = a.fleet
 column_fleet (Slack f) = f
 

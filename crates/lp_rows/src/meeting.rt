@@ -21,7 +21,7 @@ fn column_fleet(column: Column) -> u32
     ensures { result ≡ column_fleet column }
 {
     match column {
-        Column::Flight(pair) => pair.fleet,
+        Column::Flight(pair) => pair.choice,
         Column::Ground(arc) => arc.fleet,
         Column::Slack { fleet } => fleet,
     }

@@ -121,6 +121,6 @@ module _ (t : Tables) (cost : Option ℤ) (keeps : Domains) (leg fleet : ℕ) (y
       each rule.Pairs = is.searched.some_pair
       each rule.Refuted = tt
       each rule.Priced = tt
-      each rule.Parts = (is.kept, not_one t keeps leg fleet is.pair.fleet is.kept is.other)
+      each rule.Parts = (is.kept, not_one t keeps leg fleet is.pair.choice is.kept is.other)
       each rule.Mixed = is.best.mixed_at
       each rule.Fraction = (is.fraction, is_partial mixed is.first)

@@ -14,7 +14,7 @@ use Rattle.node_bounding.specs.Runs.{IsSearched}
 -- a removal of a pair that there may be
 pub record IsWithin (removal : Removal) : Type 0 where
   pub leg : removal.leg < MAX_LEGS
-  pub fleet : removal.choice < MAX_FLEETS
+  pub choice : removal.choice < MAX_FLEETS
 
 -- a tree below a removal: the part with the pair is refuted by its reason, and the tree is that of the other part
 pub record IsBelow (removal : Removal) (rest whole : Tree) : Type 0 where

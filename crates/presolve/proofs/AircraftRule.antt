@@ -58,8 +58,8 @@ module _ (t : Tables) (keeps : Domains) (p : Pair) (pair : IsPair t p) (is_kept 
   abbrev minute : ℕ
   minute = departure t p
 
-  flow : (q : Pair) → reason_flow t rule.TooFewAircraft p q ≡ pos (if q.fleet == p.choice then busy_at t q minute else 0)
-  flow q = by_fleet (q.fleet == p.choice) (nat_le (departure t q) minute) (nat_le (ready_minute t q) minute) (laps_of t q) (no_less_busy t q minute)
+  flow : (q : Pair) → reason_flow t rule.TooFewAircraft p q ≡ pos (if q.choice == p.choice then busy_at t q minute else 0)
+  flow q = by_fleet (q.choice == p.choice) (nat_le (departure t q) minute) (nat_le (ready_minute t q) minute) (laps_of t q) (no_less_busy t q minute)
 
   -- nothing adds less than 0
   some : (l : ℕ) → NoneAddsLess t flown rule.TooFewAircraft p l (pos 0)
@@ -72,7 +72,7 @@ module _ (t : Tables) (keeps : Domains) (p : Pair) (pair : IsPair t p) (is_kept 
       (λ e.
       let parts = parts_true (keeps (leg_on l p.choice)) (kept_on t keeps l == 1) e in
       let one : kept_on t keeps l ≡ 1 = counted (kept_on t keeps l) parts.1 in
-      count_below-one (λ g. keeps (leg_on l g)) (fleets_in t) f p.choice one known pair.fleet (was_kept keeps p.leg p.choice true (leg_on l f) kept) parts.0)
+      count_below-one (λ g. keeps (leg_on l g)) (fleets_in t) f p.choice one known pair.choice (was_kept keeps p.leg p.choice true (leg_on l f) kept) parts.0)
     where
       counted : (n : ℕ) → (n == 1) ≡ true → n ≡ 1
       counted n e = grind (arith, nat_tests)
@@ -98,7 +98,7 @@ module _ (t : Tables) (keeps : Domains) (p : Pair) (pair : IsPair t p) (is_kept 
   -- so each leg is worth what it surely keeps busy, or more
   leg_bound : (prices : Prices) → IsReason t rule.TooFewAircraft p prices → (l : ℕ) → l < legs_in t → pos (busy_on t keeps p minute l) ≤ℤ leg_worth t flown prices 0 l
   leg_bound prices reason l within = by_test (surely_flies t keeps p l) (busy_at t (leg_on l p.choice) minute)
-      (λ sure. leg_of_kept t flown rule.TooFewAircraft p prices l p.choice _ reason within (surely_adds l within sure) pair.fleet (surely_kept l sure))
+      (λ sure. leg_of_kept t flown rule.TooFewAircraft p prices l p.choice _ reason within (surely_adds l within sure) pair.choice (surely_kept l sure))
       (leg_low t flown rule.TooFewAircraft p prices l reason within (some l))
     where
       by_test : (b : Bool) (n : ℕ) → (b ≡ true → pos n ≤ℤ leg_worth t flown prices 0 l) → pos 0 ≤ℤ leg_worth t flown prices 0 l → pos (if b then n else 0) ≤ℤ leg_worth t flown prices 0 l
@@ -109,7 +109,7 @@ module _ (t : Tables) (keeps : Domains) (p : Pair) (pair : IsPair t p) (is_kept 
   all_rents : sum_below_ℤ (reason_rents t rule.TooFewAircraft p) (fleets_in t) ≡ pos (fleet_of t p.choice).aircraft
   all_rents =
       sum_below_ℤ-same (reason_rents t rule.TooFewAircraft p) (λ f. where_true (p.choice == f) (pos (fleet_of t f).aircraft)) (fleets_in t) (λ f known. at_fleet (f == p.choice) (p.choice == f) (fleet_of t f).aircraft (turned f))
-      ∙ sum_below_ℤ-one p.choice (λ f. pos (fleet_of t f).aircraft) (fleets_in t) pair.fleet
+      ∙ sum_below_ℤ-one p.choice (λ f. pos (fleet_of t f).aircraft) (fleets_in t) pair.choice
     where
       turned : (f : ℕ) → (f == p.choice) ≡ (p.choice == f)
       turned f = grind (arith, nat_tests)

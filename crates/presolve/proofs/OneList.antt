@@ -29,7 +29,7 @@ one_pair : (t : Tables) (keeps : Domains) (place : Pair) (x y : Trim) → IsNext
 one_pair t keeps place x y first other =
     let ahead = not_sooner t keeps place x y first other in
     let behind = not_sooner t keeps place y x other first in
-    ap (λ l. leg_on l y.fleet) (same_leg place (pair_of y) (pair_of x) behind ahead) ∙ ap (λ f. leg_on x.leg f) (same_fleet place (pair_of y) (pair_of x) behind ahead)
+    ap (λ l. leg_on l y.choice) (same_leg place (pair_of y) (pair_of x) behind ahead) ∙ ap (λ f. leg_on x.leg f) (same_fleet place (pair_of y) (pair_of x) behind ahead)
 
 -- a list that ends has no next removal
 ended : (t : Tables) (keeps : Domains) (place : Pair) (trim : Trim) → IsDone t keeps → IsNext t keeps place trim → ⊥

@@ -31,7 +31,7 @@ one_pair keeps l f = of_test (keeps (leg_on l f))
 
 record IsOn (l f : ℕ) (p : Pair) : Type 0 where
   leg : p.leg ≡ l
-  fleet : p.choice ≡ f
+  choice : p.choice ≡ f
 
 is_on : (keeps : Domains) (l f : ℕ) → All (IsOn l f) (pair_of keeps l f)
 is_on keeps l f = of_test (keeps (leg_on l f))

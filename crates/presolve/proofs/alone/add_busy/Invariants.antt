@@ -10,5 +10,5 @@ abbrev pub invariant-loop-minute : goal.invariant-loop-minute
 invariant-loop-minute l = record {
   width : length l.cells.items ≡ length l.fn.cells.items;
   each : (f m : ℕ) → f < fleets_in l.tables → m < MINUTES_PER_PERIOD
-      → cell_of l.cells.items f m ≡ cell_of l.fn.cells.items f m + (if (f == l.pair.fleet) && nat_lt m l.minute then busy_at l.tables l.pair m else 0);
+      → cell_of l.cells.items f m ≡ cell_of l.fn.cells.items f m + (if (f == l.pair.choice) && nat_lt m l.minute then busy_at l.tables l.pair m else 0);
 }
