@@ -3,8 +3,8 @@ use Rattle.std.specs.Prelude.{◌≡◌, ℕ, ◌*◌, ◌<◌, ◌≤◌, false
 use Rattle.fleet_model.specs.Counts.{arrived, departed}
 use Rattle.fleet_model.specs.Kept.{Domains}
 use Rattle.fleet_model.specs.Mixed.{weight_on}
-use Rattle.fleet_model.specs.Schedule.{fleet_of, fleets_in, leg_on, legs_in, stations_in}
-use Rattle.fleet_model.specs.Use.{last_minute, used_of}
+use Rattle.fleet_model.specs.Schedule.{fleet_of, fleets_in, last_of, leg_on, legs_in, stations_in}
+use Rattle.fleet_model.specs.Use.{used_of}
 use Rattle.fleet_model.specs.declared.tables.Tables.{Tables}
 use Rattle.dual_bound.specs.Fractions.{parts_in, parts_of_leg}
 use Rattle.dual_bound.specs.Prices.{max_scale}
@@ -28,7 +28,7 @@ Covers t mixed = (l : ℕ) → l < legs_in t → weight_on t (parts_in mixed) l 
 
 -- a fleet balances at each station
 abbrev pub BalancesFleet : Tables → Mixed → ℕ → Type 0
-BalancesFleet t mixed f = (s : ℕ) → s < stations_in t → arrived t (parts_in mixed) f s last_minute ≡ departed t (parts_in mixed) f s last_minute
+BalancesFleet t mixed f = (s : ℕ) → s < stations_in t → arrived t (parts_in mixed) f s (last_of t) ≡ departed t (parts_in mixed) f s (last_of t)
 
 -- no fleet uses more aircraft than it has, so many parts each
 abbrev pub UsesNoMore : Tables → Mixed → Type 0

@@ -41,17 +41,18 @@ pub(crate) struct Parted<'a, 'b> {
 }
 
 impl Flights for Parted<'_, '_> {
-    ghost flights = { λ it. of_fleet (parts_in it.mixed.now) it.fleet };
+    ghost flights = { λ t it. of_fleet t (parts_in it.mixed.now) it.fleet };
 
     ghost fit = { λ t it. AreParts t it.mixed.now × (it.fleet < fleets_in t) };
 
     ghost most = { max_scale };
 
-    fn pair(&self, _tables: &Tables, leg: u32) -> Pair {
-        Pair {
-            leg,
-            choice: self.fleet,
-        }
+    fn count(&self, tables: &Tables) -> u32 {
+        tables.departure_count()
+    }
+
+    fn pair(&self, tables: &Tables, departure: u32) -> Pair {
+        tables.pair_on(departure, self.fleet)
     }
 
     fn weight(&self, tables: &Tables, pair: Pair) -> u128 {

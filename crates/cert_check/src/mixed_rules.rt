@@ -13,7 +13,6 @@ ghost use Rattle.cert_check.specs.MixedRules.{BalancesFleet, Covers, FliesKept, 
 use crate::mixed_counts::{Parted, parts, weight_on};
 use crate::price_rules::is_scale;
 use dual_bound::{Mixed, WeightFinder};
-use fleet_model::limits::MINUTES_PER_PERIOD;
 use fleet_model::{Kept, Pair, Tables};
 use stand_counts::{arrivals, departures, used};
 
@@ -131,7 +130,7 @@ fn balances(tables: &Tables, mixed: &WeightFinder<'_>, fleet: u32) -> bool
     ensures { MatchBool result (BalancesFleet tables.now mixed.now fleet) (¬ (BalancesFleet tables.now mixed.now fleet)) }
 {
     let flights = Parted { mixed, fleet };
-    let last = MINUTES_PER_PERIOD - 1;
+    let last = tables.period() - 1;
     for station in 0..tables.station_count() {
         let came = arrivals(tables, &flights, station, last);
         if came != departures(tables, &flights, station, last) {

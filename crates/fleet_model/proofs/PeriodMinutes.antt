@@ -1,16 +1,17 @@
 -- Minutes and days of the period, and the times of a pair in it. What the words for them stand for is looked at here and in
 -- `Choices` alone; all else goes by these facts.
-use Rattle.std.proofs.Common.{◌≡◌, true, ℕ, ◌+◌, ◌-◌, ◌*◌, ◌/◌, ◌%◌, ◌<◌, ◌≤◌, nat_le, sym, ap, inl, inr, arith}
+use Rattle.std.proofs.Common.{◌≡◌, true, ℕ, ◌+◌, ◌-◌, ◌*◌, ◌/◌, ◌%◌, ◌<◌, ◌≤◌, nat_le, sym, ap, subst, inl, inr, arith}
 use Rattle.std.proofs.Math.Nat.{div-add-mod, mod-lt, mul-le-mul_left}
 use Rattle.std.proofs.lemmas.Bool.{cases_lt}
 use Rattle.std.proofs.lemmas.Bool.Decides.{nat_tests}
 use Rattle.std.proofs.lemmas.Grind.{common_steps}
 use Rattle.std.proofs.lemmas.List.{get_or_past}
 use Rattle.fleet_model.specs.declared.limits.TheConstants.{MAX_GROUND_MINUTES, MINUTES_PER_DAY}
+use Rattle.fleet_model.specs.declared.parts.Leg.{Leg}
 use Rattle.fleet_model.specs.declared.parts.Pair.{Pair}
 use Rattle.fleet_model.specs.declared.tables.Tables.{Tables}
 use Rattle.fleet_model.specs.Limits.{IsFleet, IsLeg, IsStation}
-use Rattle.fleet_model.specs.Schedule.{IsPair, day_end, days_in, departures_in, fleet_by, fleet_of, fleets_in, last_of, leg_at, leg_of, no_fleet, no_leg, no_station, pair_on, period_of, station_of, stations_in}
+use Rattle.fleet_model.specs.Schedule.{IsPair, day_end, days_in, departures_in, fleet_by, fleet_of, fleets_in, last_of, leg_at, leg_of, legs_in, no_fleet, no_leg, no_station, pair_on, period_of, station_of, stations_in}
 use Rattle.fleet_model.specs.Times.{busy_minutes, departure, laps_of, nights_of, ready_minute}
 
 -- ---- the period
@@ -56,6 +57,14 @@ last_day_ends t = ap (λ n. n - 1) (sym (days_are_period t))
 pub departs_in : (t : Tables) (p : Pair) → IsPair t p → departure t p < period_of t
 unfolding departure period_of
 departs_in t p known = (t.in_range.legs_fit.each p.leg no_leg known.leg).dep
+
+-- .. and what stands for no pair
+pub departs_always : (t : Tables) (p : Pair) → departure t p < period_of t
+unfolding departure period_of
+departs_always t p = elim (cases_lt p.leg (legs_in t)) [
+  | inl below ↦ (t.in_range.legs_fit.each p.leg no_leg below).dep
+  | inr past ↦ subst (λ (leg : Leg). leg.dep < period_of t) (sym (get_or_past t.legs p.leg no_leg past)) (some_minutes t)
+]
 
 -- a departure is within the period, whichever fleet flies it
 pub departs_on : (t : Tables) (d f : ℕ) → d < departures_in t → departure t (pair_on t d f) < period_of t

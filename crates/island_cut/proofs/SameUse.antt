@@ -25,32 +25,32 @@ module _ (t : Tables) (some other : ℕ → ℕ) (first : AreQuickest t some) (s
   same_laps : (l : ℕ) → l < legs_in t → laps_of t (leg_on l (some l)) ≡ laps_of t (leg_on l (other l))
   same_laps l below = ap (λ n. ((leg_of t l).dep + n) / MINUTES_PER_PERIOD) (same_busy l below)
 
-  pub same_departed : (s m : ℕ) → departed_by t (joined some) s m ≡ departed_by t (joined other) s m
+  pub same_departed : (s m : ℕ) → departed_by t (joined t some) s m ≡ departed_by t (joined t other) s m
   unfolding departed_by
   same_departed s m = refl
 
-  pub same_arrived : (s m : ℕ) → arrived_by t (joined some) s m ≡ arrived_by t (joined other) s m
+  pub same_arrived : (s m : ℕ) → arrived_by t (joined t some) s m ≡ arrived_by t (joined t other) s m
   unfolding arrived_by
-  same_arrived s m = sum_below-agree (coming_by t (joined some) s m) (coming_by t (joined other) s m) (legs_in t)
+  same_arrived s m = sum_below-agree (coming_by t (joined t some) s m) (coming_by t (joined t other) s m) (legs_in t)
       (record { each = λ l below. let same = same_ready l below in rw same refl })
 
-  same_excess : (s m : ℕ) → excess_by t (joined some) s m ≡ excess_by t (joined other) s m
+  same_excess : (s m : ℕ) → excess_by t (joined t some) s m ≡ excess_by t (joined t other) s m
   unfolding excess_by
   same_excess s m = rw (same_departed s m, same_arrived s m) refl
 
-  pub same_need : (s : ℕ) → need_by t (joined some) s ≡ need_by t (joined other) s
+  pub same_need : (s : ℕ) → need_by t (joined t some) s ≡ need_by t (joined t other) s
   unfolding need_by
-  same_need s = max_below-agree (excess_by t (joined some) s) (excess_by t (joined other) s) MINUTES_PER_PERIOD (record { each = λ m within. same_excess s m })
+  same_need s = max_below-agree (excess_by t (joined t some) s) (excess_by t (joined t other) s) MINUTES_PER_PERIOD (record { each = λ m within. same_excess s m })
 
-  pub same_laps_flown : laps_by t (joined some) ≡ laps_by t (joined other)
+  pub same_laps_flown : laps_by t (joined t some) ≡ laps_by t (joined t other)
   unfolding laps_by
-  same_laps_flown = sum_below-agree (laps_at_by t (joined some)) (laps_at_by t (joined other)) (legs_in t)
+  same_laps_flown = sum_below-agree (laps_at_by t (joined t some)) (laps_at_by t (joined t other)) (legs_in t)
       (record { each = λ l below. ap (λ n. 1 * n) (same_laps l below) })
 
-  same_needs : sum_below (need_by t (joined some)) (stations_in t) ≡ sum_below (need_by t (joined other)) (stations_in t)
-  same_needs = sum_below-agree (need_by t (joined some)) (need_by t (joined other)) (stations_in t) (record { each = λ s below. same_need s })
+  same_needs : sum_below (need_by t (joined t some)) (stations_in t) ≡ sum_below (need_by t (joined t other)) (stations_in t)
+  same_needs = sum_below-agree (need_by t (joined t some)) (need_by t (joined t other)) (stations_in t) (record { each = λ s below. same_need s })
 
-  pub same_use : used_by t (joined some) ≡ used_by t (joined other)
+  pub same_use : used_by t (joined t some) ≡ used_by t (joined t other)
   unfolding used_by
   same_use = rw (same_needs, same_laps_flown) refl
 

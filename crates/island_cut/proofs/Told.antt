@@ -27,7 +27,7 @@ module _ (t : Tables) (fleets : ℕ → ℕ) (pairs : have_pairs t ≡ true) (qu
   others : AreQuickest t (quickest_of t)
   others = quickest_are t (pairs_tested t pairs)
 
-  module _ (s : ℕ) (departed arrived : List ℕ) (left : TellEach (departed_by t (joined_legs t) s) departed) (come : TellEach (arrived_by t (joined fleets) s) arrived) where
+  module _ (s : ℕ) (departed arrived : List ℕ) (left : TellEach (departed_by t (joined_legs t) s) departed) (come : TellEach (arrived_by t (joined t fleets) s) arrived) where
     come_same : (m : ℕ) → m < MINUTES_PER_PERIOD → slice_index arrived m ≡ arrived_by t (joined_legs t) s m
     come_same m within = come.each m within ∙ same_arrived t fleets (quickest_of t) quick others s m
 
@@ -55,7 +55,7 @@ module _ (t : Tables) (fleets : ℕ → ℕ) (pairs : have_pairs t ≡ true) (qu
     even_found d a even d_is a_is even_is = ap not even_is ∙ rw (d_is, a_is) even_told
 
   pub islands_told : (uneven needed laps aircraft : ℕ) → uneven ≡ count_below (is_uneven t (joined_legs t)) (stations_in t) → needed ≡ sum_below (need_by t (joined_legs t)) (stations_in t)
-      → laps ≡ laps_by t (joined fleets) → aircraft ≡ aircraft_in t → ((uneven == 0) && (needed + laps == aircraft)) ≡ has_islands t
+      → laps ≡ laps_by t (joined t fleets) → aircraft ≡ aircraft_in t → ((uneven == 0) && (needed + laps == aircraft)) ≡ has_islands t
   unfolding has_islands used_by
   islands_told uneven needed laps aircraft first second third fourth = with_two (have_pairs t) _ _ _ _ pairs (ap (λ n. n == 0) first)
       (let same = third ∙ same_laps_flown t fleets (quickest_of t) quick others in rw (second, same, fourth) refl)

@@ -31,7 +31,7 @@ quickest_of t l = first_where (is_quickest t l) (fleets_in t)
 
 -- the joined schedule: each leg as its quickest fleet flies it, and all legs by the same aircraft
 abbrev pub joined_legs : Tables → Flights
-joined_legs t = joined (quickest_of t)
+joined_legs t = joined t (quickest_of t)
 
 -- some fleet may fly each leg
 abbrev pub have_pairs : Tables → Bool

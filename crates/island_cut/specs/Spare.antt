@@ -28,8 +28,8 @@ pub record AreQuickest (t : Tables) (fleets : ℕ → ℕ) : Type 0 where
   pub each : (l : ℕ) → l < legs_in t → IsQuickest t l (fleets_in t) (fleets l)
 
 -- each leg flown once, as by its fleet, and all by the same aircraft
-abbrev pub joined : (ℕ → ℕ) → Flights
-joined fleets = record { pair = λ l. leg_on l (fleets l); weight = λ p. 1 }
+abbrev pub joined : Tables → (ℕ → ℕ) → Flights
+joined t fleets = record { count = legs_in t; pair = λ l. leg_on l (fleets l); weight = λ p. 1 }
 
 -- the aircraft of all fleets
 abbrev pub aircraft_in : Tables → ℕ
@@ -37,7 +37,7 @@ aircraft_in t = sum_below (λ f. (fleet_of t f).aircraft) (fleets_in t)
 
 -- the aircraft that the joined schedule leaves over; below 0 where it lacks some
 abbrev pub spare_of : Tables → (ℕ → ℕ) → ℤ
-spare_of t fleets = pos (aircraft_in t) -ℤ pos (used_by t (joined fleets))
+spare_of t fleets = pos (aircraft_in t) -ℤ pos (used_by t (joined t fleets))
 
 -- the aircraft left over, whichever quickest fleets are taken
 pub record IsSpare (t : Tables) (spare : ℤ) : Type 0 where

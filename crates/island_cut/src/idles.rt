@@ -67,7 +67,7 @@ fn has_islands(alloc: Global, tables: &Tables, plan: &Assignment) -> Result<bool
 #[tactic(auto, unfolding(stand_counts::specs::Flights::laps_by))]
 fn lapping(tables: &Tables, plan: &Assignment) -> u32
     requires { IsAssignment tables.now plan.now }
-    ensures value { result ≡ laps_by tables.now (joined (fleet_at plan.now)) }
+    ensures value { result ≡ laps_by tables.now (joined tables.now (fleet_at plan.now)) }
     ensures few { result ≤ 2 * MAX_LEGS }
 {
     let mut sum = 0;

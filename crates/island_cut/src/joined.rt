@@ -15,11 +15,15 @@ pub(crate) struct Joined<'a> {
 }
 
 impl Flights for Joined<'_> {
-    ghost flights = { λ it. joined (fleet_at it.plan.now) };
+    ghost flights = { λ t it. joined t (fleet_at it.plan.now) };
 
     ghost fit = { λ t it. IsAssignment t it.plan.now };
 
     ghost most = { 1 };
+
+    fn count(&self, tables: &Tables) -> u32 {
+        tables.leg_count()
+    }
 
     fn pair(&self, _tables: &Tables, leg: u32) -> Pair {
         Pair {

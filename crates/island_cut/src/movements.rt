@@ -38,7 +38,7 @@ pub(crate) fn arrivals(
 ) -> Result<Vec<u32>, NoMemory>
     requires { IsAssignment tables.now plan.now }
     ensures counts { IfOk result (λ counts. AreCounts MAX_LEGS counts.items) }
-    ensures value { IfOk result (λ counts. TellEach (arrived_by tables.now (joined (fleet_at plan.now)) station) counts.items) }
+    ensures value { IfOk result (λ counts. TellEach (arrived_by tables.now (joined tables.now (fleet_at plan.now)) station) counts.items) }
 {
     let mut counts = no_counts(alloc)?;
     for leg in 0..tables.leg_count() {

@@ -1,9 +1,10 @@
 ghost use Rattle.std.specs.Prelude.{◌≡◌, ◌<◌, ◌≤◌, ◌*◌, ◌++◌, ◌∷◌, [], if◌then◌else◌, IfOk, OnOk};
 ghost use Rattle.fleet_model.specs.Counts.{weights_of};
 ghost use Rattle.fleet_model.specs.Legal.{IsAssignment};
-ghost use Rattle.fleet_model.specs.Schedule.{fleets_in, legs_in};
+ghost use Rattle.fleet_model.specs.Schedule.{fleets_in};
+ghost use Rattle.fleet_model.specs.declared.limits.TheConstants.{MAX_DEPARTURES};
 ghost use Rattle.island_cut.specs.Zeros.{none_stands, zeros_of};
-ghost use Rattle.stand_counts.specs.Flights.{need_by, of_fleet};
+ghost use Rattle.stand_counts.specs.Flights.{need_by, planned};
 ghost use Rattle.stand_counts.specs.declared.flights.TheConstants.{MAX_WEIGHT};
 
 use entries::{Entries, NoMemory};
@@ -47,7 +48,7 @@ fn push_where(minutes: &mut Vec<u16>, minute: u16, is_one: bool) -> Result<(), N
 
 // Whether none of a fleet's aircraft stands at a station at the end of a minute, where so many must be there at the
 // day start.
-#[tactic(auto, using(stand_counts::proofs::FleetCounts::stand_of_fleet))]
+#[tactic(auto, using(stand_counts::proofs::PlanCounts::stand_of_plan))]
 fn none_stands(
     tables: &Tables,
     flights: &Planned<'_>,
@@ -57,8 +58,8 @@ fn none_stands(
 ) -> bool
     requires plan { IsAssignment tables.now flights.now.plan.now }
     requires fleet { flights.now.fleet < fleets_in tables.now }
-    requires need { need ≡ need_by tables.now (of_fleet (weights_of flights.now.plan.now) flights.now.fleet) station }
-    requires small { need ≤ MAX_WEIGHT * legs_in tables.now }
+    requires need { need ≡ need_by tables.now (planned tables.now flights.now.plan.now flights.now.fleet) station }
+    requires small { need ≤ MAX_WEIGHT * MAX_DEPARTURES }
     ensures { result ≡ none_stands tables.now (weights_of flights.now.plan.now) flights.now.fleet station minute }
 {
     stand(tables, flights, station, minute, need) == 0

@@ -2,8 +2,7 @@
 use Rattle.std.specs.Prelude.{◌≡◌, ◌≢◌, ℕ, ◌<◌, List}
 use Rattle.fleet_model.specs.declared.tables.Tables.{Tables}
 use Rattle.fleet_model.specs.Counts.{arrived, departed, weights_of}
-use Rattle.fleet_model.specs.Schedule.{stations_in}
-use Rattle.fleet_model.specs.Use.{last_minute}
+use Rattle.fleet_model.specs.Schedule.{last_of, stations_in}
 use Rattle.plan_judge.specs.declared.balance.Imbalance.{Imbalance}
 use Rattle.plan_judge.specs.declared.limits.Overuse.{Overuse}
 use Rattle.plan_judge.specs.Verdicts.{Balances, FirstUnbalanced, FirstTooMany}
@@ -15,8 +14,8 @@ IsFirstUnbalanced t a found = FirstUnbalanced t a found.fleet found.station foun
 pub record FirstAtFleet (t : Tables) (a : List ℕ) (fleet : ℕ) (found : Imbalance) : Type 0 where
   pub same_fleet : found.fleet ≡ fleet
   pub within : found.station < stations_in t
-  pub came_there : found.came ≡ arrived t (weights_of a) fleet found.station last_minute
-  pub left_there : found.left ≡ departed t (weights_of a) fleet found.station last_minute
+  pub came_there : found.came ≡ arrived t (weights_of a) fleet found.station (last_of t)
+  pub left_there : found.left ≡ departed t (weights_of a) fleet found.station (last_of t)
   pub differ : found.came ≢ found.left
   pub first : (s : ℕ) → s < found.station → Balances t a fleet s
 

@@ -3,8 +3,8 @@ use Rattle.std.specs.Prelude.{◌≡◌, ◌≢◌, ℕ, ◌<◌, ◌≤◌, Lis
 use Rattle.fleet_model.specs.declared.tables.Tables.{Tables}
 use Rattle.fleet_model.specs.Counts.{arrived, departed, pair_at, weights_of}
 use Rattle.fleet_model.specs.Legal.{IsAllowed, IsLegal, cost_of, total_cost}
-use Rattle.fleet_model.specs.Schedule.{fleet_of, fleets_in, legs_in, stations_in}
-use Rattle.fleet_model.specs.Use.{IsBalanced, last_minute, used_of}
+use Rattle.fleet_model.specs.Schedule.{fleet_of, fleets_in, last_of, legs_in, stations_in}
+use Rattle.fleet_model.specs.Use.{IsBalanced, used_of}
 use Rattle.plan_judge.specs.declared.verdicts.Verdict.{Verdict}
 use Rattle.plan_judge.specs.declared.verdicts.Verdict.TheVariants as verdict
 
@@ -16,14 +16,14 @@ pub record FirstNotAllowed (t : Tables) (a : List ℕ) (leg : ℕ) : Type 0 wher
 
 -- at the end of the period as many aircraft of the fleet have come to the station as have left it
 abbrev pub Balances : Tables → List ℕ → ℕ → ℕ → Type 0
-Balances t a f s = arrived t (weights_of a) f s last_minute ≡ departed t (weights_of a) f s last_minute
+Balances t a f s = arrived t (weights_of a) f s (last_of t) ≡ departed t (weights_of a) f s (last_of t)
 
 -- the first fleet, and there the first station, that does not balance, with the aircraft that come and leave
 pub record FirstUnbalanced (t : Tables) (a : List ℕ) (fleet station came left : ℕ) : Type 0 where
   pub fleet_within : fleet < fleets_in t
   pub station_within : station < stations_in t
-  pub came_there : came ≡ arrived t (weights_of a) fleet station last_minute
-  pub left_there : left ≡ departed t (weights_of a) fleet station last_minute
+  pub came_there : came ≡ arrived t (weights_of a) fleet station (last_of t)
+  pub left_there : left ≡ departed t (weights_of a) fleet station (last_of t)
   pub differ : came ≢ left
   pub first_fleet : (f s : ℕ) → f < fleet → s < stations_in t → Balances t a f s
   pub first_station : (s : ℕ) → s < station → Balances t a fleet s

@@ -8,7 +8,6 @@ ghost use Rattle.plan_judge.specs.Verdicts.{Balances};
 ghost use Rattle.plan_judge.specs.Firsts.{FirstAtFleet, IsFirstUnbalanced};
 
 use crate::counting::{arrivals, departures};
-use fleet_model::limits::MINUTES_PER_PERIOD;
 use fleet_model::{Assignment, Tables};
 
 /// A fleet and a station at which as many aircraft do not come as leave.
@@ -39,9 +38,10 @@ fn first_at(tables: &Tables, plan: &Assignment, fleet: u32) -> Option<Imbalance>
     requires fleet { fleet < fleets_in tables.now }
     ensures { MatchOption result ((s : ℕ) → s < stations_in tables.now → Balances tables.now plan.now fleet s) (FirstAtFleet tables.now plan.now fleet) }
 {
+    let last = tables.period() - 1;
     for station in 0..tables.station_count() {
-        let came = arrivals(tables, plan, fleet, station, MINUTES_PER_PERIOD - 1);
-        let left = departures(tables, plan, fleet, station, MINUTES_PER_PERIOD - 1);
+        let came = arrivals(tables, plan, fleet, station, last);
+        let left = departures(tables, plan, fleet, station, last);
         if came != left {
             return Some(Imbalance {
                 fleet,

@@ -13,8 +13,8 @@ pub(crate) fn first_not_allowed(tables: &Tables, plan: &Assignment) -> Option<u3
     ensures { MatchOption result (IsAllowed tables.now plan.now) (FirstNotAllowed tables.now plan.now) }
 {
     for leg in 0..tables.leg_count() {
-        let fleet = plan.fleet(leg);
-        if tables.cost(Pair { leg, choice: fleet }).is_none() {
+        let choice = plan.fleet(leg);
+        if tables.cost(Pair { leg, choice }).is_none() {
             return Some(leg);
         }
     }
@@ -43,6 +43,6 @@ fn leg_units(tables: &Tables, plan: &Assignment, leg: u32) -> i128
     ensures value { result ≡ leg_cost tables.now plan.now leg }
     ensures fits { IsCost result }
 {
-    let fleet = plan.fleet(leg);
-    tables.cost(Pair { leg, choice: fleet }).unwrap()
+    let choice = plan.fleet(leg);
+    tables.cost(Pair { leg, choice }).unwrap()
 }

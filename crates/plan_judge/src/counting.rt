@@ -9,7 +9,7 @@ use fleet_model::{Assignment, Tables};
 use stand_counts::Planned;
 
 /// How many legs of a fleet have left a station by the end of a minute.
-#[tactic(auto, using(stand_counts::proofs::FleetCounts::departures_of_fleet))]
+#[tactic(auto, using(stand_counts::proofs::PlanCounts::departures_of_plan))]
 pub(crate) fn departures(
     tables: &Tables,
     plan: &Assignment,
@@ -25,7 +25,7 @@ pub(crate) fn departures(
 }
 
 /// How many legs of a fleet have brought an aircraft to a station that is ready by the end of a minute.
-#[tactic(auto, using(stand_counts::proofs::FleetCounts::arrivals_of_fleet))]
+#[tactic(auto, using(stand_counts::proofs::PlanCounts::arrivals_of_plan))]
 pub(crate) fn arrivals(
     tables: &Tables,
     plan: &Assignment,
@@ -40,9 +40,9 @@ pub(crate) fn arrivals(
     stand_counts::arrivals(tables, &Planned { plan, fleet }, station, minute) as u32
 }
 
-/// The aircraft of a fleet that must be at a station at the day start, so that none is ever lacking there.
+/// The aircraft of a fleet that must be at a station at the start of the period, so that none is ever lacking there.
 /// Takes no memory.
-#[tactic(auto, using(stand_counts::proofs::FleetCounts::need_of_fleet))]
+#[tactic(auto, using(stand_counts::proofs::PlanCounts::need_of_plan))]
 pub fn need(tables: &Tables, plan: &Assignment, fleet: u32, station: u32) -> u32
     requires plan { IsAssignment tables.now plan.now }
     requires fleet { fleet < fleets_in tables.now }
@@ -53,8 +53,8 @@ pub fn need(tables: &Tables, plan: &Assignment, fleet: u32, station: u32) -> u32
 }
 
 /// The aircraft that a fleet uses: its need at all stations, and its laps, which are the aircraft aloft or in
-/// their turn at the day start. Takes no memory.
-#[tactic(auto, using(stand_counts::proofs::FleetCounts::use_of_fleet))]
+/// their turn at the start of the period. Takes no memory.
+#[tactic(auto, using(stand_counts::proofs::PlanCounts::use_of_plan))]
 pub fn used(tables: &Tables, plan: &Assignment, fleet: u32) -> u32
     requires plan { IsAssignment tables.now plan.now }
     requires fleet { fleet < fleets_in tables.now }

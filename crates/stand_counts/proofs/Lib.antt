@@ -1,3 +1,4 @@
 pub mod FleetCounts
 pub mod NeedFound
 pub mod Peaks
+pub mod PlanCounts

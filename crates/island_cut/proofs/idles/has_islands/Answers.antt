@@ -37,8 +37,8 @@ returns-then-uneven-eq0 c =
 pub returns-else-uneven-eq0 : goal.returns-else-uneven-eq0
 returns-else-uneven-eq0 c =
     let t = c.args.tables.now in
-    by_first c.loop-station.uneven (c.loop-station.needed + laps_by t (joined (fleet_at c.args.plan.now)) == aircraft_in t) c.if-uneven-eq0.false
-    ∙ islands_told t (fleet_at c.args.plan.now) c.requires.pairs c.requires.quickest c.loop-station.uneven c.loop-station.needed (laps_by t (joined (fleet_at c.args.plan.now))) (aircraft_in t)
+    by_first c.loop-station.uneven (c.loop-station.needed + laps_by t (joined c.args.tables.now (fleet_at c.args.plan.now)) == aircraft_in t) c.if-uneven-eq0.false
+    ∙ islands_told t (fleet_at c.args.plan.now) c.requires.pairs c.requires.quickest c.loop-station.uneven c.loop-station.needed (laps_by t (joined c.args.tables.now (fleet_at c.args.plan.now))) (aircraft_in t)
     (c.loop-station.invariant.uneven ∙ ap (count_below (is_uneven t (joined_legs t))) (omega (arith, c.loop-station-test.false, c.loop-station.auto.station-end, c.station_count-station-end.ensures)))
     (c.loop-station.invariant.needed ∙ ap (sum_below (need_by t (joined_legs t))) (omega (arith, c.loop-station-test.false, c.loop-station.auto.station-end, c.station_count-station-end.ensures)))
     refl refl

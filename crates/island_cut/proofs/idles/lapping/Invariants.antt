@@ -7,6 +7,6 @@ use Rattle.island_cut.proofs.idles.lapping.Given as goal
 
 abbrev pub invariant-loop-leg : goal.invariant-loop-leg
 invariant-loop-leg l = record {
-  added : l.sum ≡ sum_below (laps_at_by l.tables (joined (fleet_at l.plan))) l.leg;
+  added : l.sum ≡ sum_below (laps_at_by l.tables (joined l.tables (fleet_at l.plan))) l.leg;
   few : l.sum ≤ 2 * l.leg;
 }

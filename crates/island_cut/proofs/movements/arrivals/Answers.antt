@@ -17,7 +17,7 @@ loop-leg-preserved c =
     let leg = leg_of c.args.tables.now c.loop-leg.leg in
     record {
       counts = c.raise_from.ensures.counts;
-      value = leg_more (coming_by c.args.tables.now (joined (fleet_at c.args.plan.now)) c.args.station) _ _ (leg.to == c.args.station) (ready_minute c.args.tables.now (leg_on c.loop-leg.leg (fleet_at c.args.plan.now c.loop-leg.leg))) c.there_from.result c.loop-leg.leg
+      value = leg_more (coming_by c.args.tables.now (joined c.args.tables.now (fleet_at c.args.plan.now)) c.args.station) _ _ (leg.to == c.args.station) (ready_minute c.args.tables.now (leg_on c.loop-leg.leg (fleet_at c.args.plan.now c.loop-leg.leg))) c.there_from.result c.loop-leg.leg
           (c.there_from.ensures.value ∙ ap (λ f. if leg.to == c.args.station then ready_minute c.args.tables.now (leg_on c.loop-leg.leg f) else MINUTES_PER_PERIOD) c.fleet.ensures) c.loop-leg.invariant.value (λ m. refl) c.raise_from.ensures.raised;
     }
 
@@ -28,5 +28,5 @@ pub returns-clause-value : goal.returns-clause-value
 unfolding arrived_by
 returns-clause-value c = record {
   each = λ m within.
-      c.loop-leg.invariant.value m within ∙ ap (sum_below (coming_by c.args.tables.now (joined (fleet_at c.args.plan.now)) c.args.station m)) (omega (arith, c.loop-leg.auto.leg-end, c.loop-leg-test.false, c.leg_count-leg-end.ensures));
+      c.loop-leg.invariant.value m within ∙ ap (sum_below (coming_by c.args.tables.now (joined c.args.tables.now (fleet_at c.args.plan.now)) c.args.station m)) (omega (arith, c.loop-leg.auto.leg-end, c.loop-leg-test.false, c.leg_count-leg-end.ensures));
 }

@@ -10,5 +10,5 @@ use Rattle.island_cut.proofs.movements.arrivals.Given as goal
 abbrev pub invariant-loop-leg : goal.invariant-loop-leg
 invariant-loop-leg l = record {
   counts : AreCounts l.leg l.counts.items;
-  value : (m : ℕ) → m < MINUTES_PER_PERIOD → slice_index l.counts.items m ≡ sum_below (coming_by l.tables (joined (fleet_at l.plan)) l.station m) l.leg;
+  value : (m : ℕ) → m < MINUTES_PER_PERIOD → slice_index l.counts.items m ≡ sum_below (coming_by l.tables (joined l.tables (fleet_at l.plan)) l.station m) l.leg;
 }

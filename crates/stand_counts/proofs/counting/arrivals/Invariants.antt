@@ -4,9 +4,9 @@ use Rattle.stand_counts.specs.Flights.{coming_by}
 use Rattle.stand_counts.specs.declared.flights.TheConstants.{MAX_WEIGHT}
 use Rattle.stand_counts.proofs.counting.arrivals.Given as goal
 
-abbrev pub invariant-loop-leg : goal.invariant-loop-leg
-invariant-loop-leg g l = record {
-  added : l.sum ≡ sum_below (coming_by l.tables (g.F.Flights.flights l.flights) l.station l.minute) l.leg;
-  few : l.sum ≤ g.F.Flights.most * l.leg;
-  small : l.sum ≤ MAX_WEIGHT * l.leg;
+abbrev pub invariant-loop-place : goal.invariant-loop-place
+invariant-loop-place g l = record {
+  added : l.sum ≡ sum_below (coming_by l.tables (g.F.Flights.flights l.tables l.flights) l.station l.minute) l.place;
+  few : l.sum ≤ g.F.Flights.most * l.place;
+  small : l.sum ≤ MAX_WEIGHT * l.place;
 }
