@@ -197,9 +197,11 @@ fn has_parts(tables: &Tables, kept: &Kept, node: &Tree) -> bool
             yes,
             no,
         } => kept.kept(*leg, *fleet) && one_ends(tables, kept, *leg, *fleet, yes, no),
-        Tree::Split { leg, choice: fleet, .. } => {
-            kept.kept(*leg, *fleet) && kept.count_on(tables, *leg) != 1
-        }
+        Tree::Split {
+            leg,
+            choice: fleet,
+            ..
+        } => { kept.kept(*leg, *fleet) && kept.count_on(tables, *leg) != 1 }
         _ => true,
     }
 }

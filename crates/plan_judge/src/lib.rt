@@ -4,6 +4,7 @@
 mod balance;
 mod cost;
 pub mod counting;
+mod crowds;
 pub mod laws;
 mod limits;
 pub mod verdicts;

@@ -4,6 +4,7 @@ ghost use Rattle.plan_judge.specs.Verdicts.{IsVerdict};
 
 use crate::balance::first_unbalanced;
 use crate::cost::{cost, first_not_allowed};
+use crate::crowds::first_crowded;
 use crate::limits::first_too_many;
 use fleet_model::{Assignment, Tables};
 
@@ -28,6 +29,14 @@ pub enum Verdict {
         used: u32,
         has: u32,
     },
+    /// The first station, and there the first day, counted from 1, at whose end more aircraft stand than may, with both
+    /// numbers.
+    Crowded {
+        station: u32,
+        day: u32,
+        parked: u32,
+        cap: u32,
+    },
     /// Legal, and what it costs, in cost units.
     Legal {
         cost: i128,
@@ -35,7 +44,6 @@ pub enum Verdict {
 }
 
 /// Judges an assignment, which has a known fleet for each leg. Takes no memory.
-#[tactic(auto, using(fleet_model::proofs::Choices::nothing_parked))]
 pub fn judge(tables: &Tables, plan: &Assignment) -> Verdict
     requires { IsAssignment tables.now plan.now }
 
@@ -59,6 +67,14 @@ pub fn judge(tables: &Tables, plan: &Assignment) -> Verdict
             fleet: found.fleet,
             used: found.used,
             has: found.has,
+        };
+    }
+    if let Some(found) = first_crowded(tables, plan) {
+        return Verdict::Crowded {
+            station: found.station,
+            day: found.day,
+            parked: found.parked,
+            cap: found.cap,
         };
     }
     Verdict::Legal {

@@ -1,5 +1,5 @@
 //! Arrivals, departures, need and stands at a station.
-ghost use Rattle.std.specs.Prelude.{◌≡◌, ◌<◌, ◌≤◌, ◌*◌};
+ghost use Rattle.std.specs.Prelude.{◌≡◌, ◌+◌, ◌<◌, ◌≤◌, ◌*◌};
 ghost use Rattle.fleet_model.specs.declared.limits.TheConstants.{MAX_DEPARTURES};
 ghost use Rattle.stand_counts.specs.Flights.{arrived_by, departed_by, excess_by, need_by, stand_by};
 
@@ -87,7 +87,8 @@ pub fn stand<F: Flights>(
     requires fit { F.fit tables.now flights.now }
     requires need { need ≡ need_by tables.now (F.flights tables.now flights.now) station }
     requires small { need ≤ MAX_WEIGHT * MAX_DEPARTURES }
-    ensures { result ≡ stand_by tables.now (F.flights tables.now flights.now) station minute }
+    ensures value { result ≡ stand_by tables.now (F.flights tables.now flights.now) station minute }
+    ensures few { result ≤ need + F.most * (F.flights tables.now flights.now).count }
 {
     let came = need + arrivals(tables, flights, station, minute);
     came.saturating_sub(departures(tables, flights, station, minute))
