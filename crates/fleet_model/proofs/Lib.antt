@@ -8,6 +8,7 @@ pub mod NeedAtDepartures
 pub mod NightsUsed
 pub mod PeriodMinutes
 pub mod Periods
+pub mod PlainTables
 pub mod SoleFleets
 pub mod UseLaws
 pub mod WholePlans

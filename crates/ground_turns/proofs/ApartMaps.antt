@@ -2,21 +2,20 @@
 -- they lead from its leg that arrives to its leg that departs.
 use Rattle.std.proofs.Common.{◌≡◌, ℕ, zero, suc, ◌+◌, ◌%◌, ◌<◌, ◌≤◌, inl, inr, Bool, true, false, ◌==◌, ◌&&◌, nat_lt, List, length, slice_index, refl, sym, ◌∙◌, ap, subst, arith}
 use Rattle.std.proofs.Math.Nat.{mod-eq_of_lt}
-use Rattle.std.proofs.lemmas.Nat.{mod_below}
 use Rattle.std.proofs.lemmas.Bool.{and_from, and_parts, cases_Bool, eq-eqb, eqb-true, lt-ltb}
 use Rattle.sums.proofs.Places.{get_or-list_below, length-list_below}
 use Rattle.sums.proofs.Counts.{count_below-some}
 use Rattle.sums.proofs.NumberTests.{some_tested}
-use Rattle.fleet_model.specs.declared.limits.TheConstants.{MINUTES_PER_PERIOD}
 use Rattle.fleet_model.specs.declared.parts.Connection.{Connection}
 use Rattle.fleet_model.specs.declared.tables.Tables.{Tables}
 use Rattle.fleet_model.specs.Counts.{fleet_at}
-use Rattle.fleet_model.specs.Schedule.{leg_of, leg_on, legs_in, no_leg, stations_in}
+use Rattle.fleet_model.specs.Schedule.{leg_of, leg_on, legs_in, no_leg, period_of, stations_in}
 use Rattle.fleet_model.specs.Times.{departure, ready_minute}
+use Rattle.fleet_model.proofs.PeriodMinutes.{in_period}
 use Rattle.ground_turns.specs.Laws.{ApartForAll, TourIsWhole}
 use Rattle.ground_turns.specs.Maps.{Holds, IsFitting, arrivals_of, departures_of, no_turn, turn_at, turn_after}
 use Rattle.ground_turns.specs.Parts.{KeepsPart, NeverTouches, TouchesFreely}
-use Rattle.ground_turns.specs.Turns.{departs_at, period_of, ready_at, station_at, touches, wait_of, waits_at}
+use Rattle.ground_turns.specs.Turns.{departs_at, ready_at, station_at, touches, wait_of, waits_at}
 use Rattle.ground_turns.proofs.Fits.{no_surplus}
 use Rattle.ground_turns.proofs.FreeTurns.{by_arriving, crossings_are, free_both, free_turns_law, free_waiting, is_free, there}
 use Rattle.ground_turns.proofs.Rounds.{bit}
@@ -65,14 +64,14 @@ module _ (t : Tables) (a : List ℕ) (f : ℕ) (given turns other : List Connect
 
   -- the minute so many minutes after the turn of the other map is ready
   minute_at : ℕ → ℕ → ℕ
-  minute_at k j = (ready_at t f (turn_at other k) + j) % MINUTES_PER_PERIOD
+  minute_at k j = (ready_at t f (turn_at other k) + j) % period_of t
 
   minute_within : (k j : ℕ) → minute_at k j < period_of t
   unfolding minute_at
-  minute_within k j = mod_below _ MINUTES_PER_PERIOD (omega arith)
+  minute_within k j = in_period t _
 
-  wait_within : (turn : Connection) → wait_of t f turn < MINUTES_PER_PERIOD
-  wait_within turn = mod_below _ MINUTES_PER_PERIOD (omega arith)
+  wait_within : (turn : Connection) → wait_of t f turn < period_of t
+  wait_within turn = in_period t _
 
   -- a free turn of the first map that touches a minute at a station
   abbrev Touching : ℕ → ℕ → ℕ → Type 0
@@ -100,19 +99,22 @@ module _ (t : Tables) (a : List ℕ) (f : ℕ) (given turns other : List Connect
             free = ap (arrivals_of given) found.2 ∙ eqb-true _ _ free;
             there = ap (λ q. (leg_of t q).to) found.2;
             touching = subst (λ m. touches t f (turn_at turns found.0) m ≡ true) here
-                (touches_ready MINUTES_PER_PERIOD (ready_at t f (turn_at turns found.0)) (wait_of t f (turn_at turns found.0)) ready);
+                (touches_ready (period_of t) (ready_at t f (turn_at turns found.0)) (wait_of t f (turn_at turns found.0)) ready);
           },
           ap inside found.2,
         )
       where
-        at_first : (r : ℕ) → r < MINUTES_PER_PERIOD → r ≡ (r + 0) % MINUTES_PER_PERIOD
-        at_first r ready = omega arith
+        none_more : (r : ℕ) → r + 0 ≡ r
+        none_more r = omega arith
+
+        at_first : (r : ℕ) → r < period_of t → r ≡ (r + 0) % period_of t
+        at_first r ready = sym (ap (λ n. n % period_of t) (none_more r) ∙ mod-eq_of_lt ready)
     reaches k (suc j) lt free steps =
         let before = reaches k j lt free (omega arith) in
         let few = wait_within (turn_at other k) in
         let ready = ready_within t a f other fitting'.map k in
         let waits : waits_at t f (turn_at other k) (minute_at k j) ≡ true =
-        ap (λ n. nat_lt n (wait_of t f (turn_at other k))) (walked MINUTES_PER_PERIOD (ready_at t f (turn_at other k)) j ready (omega (arith, few, steps)))
+        ap (λ n. nat_lt n (wait_of t f (turn_at other k))) (walked (period_of t) (ready_at t f (turn_at other k)) j ready (omega (arith, few, steps)))
         ∙ lt-ltb j (wait_of t f (turn_at other k)) steps in
         let found = one_waits k (minute_at k j) lt free (minute_within k j) waits in
         let parts = and_parts _ _ (opened k found.0 found.2) in
@@ -124,9 +126,9 @@ module _ (t : Tables) (a : List ℕ) (f : ℕ) (given turns other : List Connect
             within = found.1;
             free = eqb-true _ _ parts.1;
             there = here;
-            touching = touches_next MINUTES_PER_PERIOD (ready_at t f (turn_at turns found.0)) (minute_at k j) (minute_at k (suc j)) (wait_of t f (turn_at turns found.0))
+            touching = touches_next (period_of t) (ready_at t f (turn_at turns found.0)) (minute_at k j) (minute_at k (suc j)) (wait_of t f (turn_at turns found.0))
                 (ready_within t a f turns fitting.map found.0) (minute_within k j) (wait_within (turn_at turns found.0))
-                (next_step MINUTES_PER_PERIOD (ready_at t f (turn_at other k)) j ready (omega (arith, few, steps))) found.3;
+                (next_step (period_of t) (ready_at t f (turn_at other k)) j ready (omega (arith, few, steps))) found.3;
           },
           sym (apart.each (station_at t (turn_at other k)) (minute_at k j) before.0 found.0 (minute_within k j) before.1 now) ∙ before.2,
         )
@@ -138,7 +140,7 @@ module _ (t : Tables) (a : List ℕ) (f : ℕ) (given turns other : List Connect
         let d = departs_at t f (turn_at other k) in
         let walk = reaches k (wait_of t f (turn_at other k)) lt free (omega arith) in
         let end : minute_at k (wait_of t f (turn_at other k)) ≡ d =
-        walk_end MINUTES_PER_PERIOD (ready_at t f (turn_at other k)) d (ready_within t a f other fitting'.map k) (departs_within t a f other fitting'.map k lt) in
+        walk_end (period_of t) (ready_at t f (turn_at other k)) d (ready_within t a f other fitting'.map k) (departs_within t a f other fitting'.map k lt) in
         let first : Touching s d walk.0 = subst (λ m. Touching s m walk.0) end walk.1 in
         let found = departs_in (turn_at other k).departing (fitting'.map.each k lt).departing (fitting'.map.each k lt).leaves_on in
         let second : Touching s d found.0 = record {

@@ -10,9 +10,10 @@ use Rattle.sums.specs.Places.{list_below}
 use Rattle.sums.proofs.Places.{list_below-more}
 use Rattle.fleet_model.specs.Counts.{weights_of}
 use Rattle.fleet_model.specs.Use.{stand_of}
+use Rattle.fleet_model.specs.Schedule.{period_of}
 use Rattle.ground_turns.specs.Laws.{SegmentsTellClean}
 use Rattle.ground_turns.specs.Segments.{is_among, minutes_of}
-use Rattle.ground_turns.specs.Turns.{departs_at, minutes_round, period_of, ready_at, station_at, waits_at}
+use Rattle.ground_turns.specs.Turns.{departs_at, minutes_round, ready_at, station_at, waits_at}
 
 is_some : (n : ℕ) → n ≢ 0 → (n == 0) ≡ false
 is_some n h = grind (arith, nat_tests)

@@ -44,7 +44,7 @@ ends_after d x n some within =
     omega (arith, same, from_day (x / d) n, few)
 
 -- periods more
-div-more : (x d n : ℕ) → 0 < d → (x + n * d) / d ≡ x / d + n
+pub div-more : (x d n : ℕ) → 0 < d → (x + n * d) / d ≡ x / d + n
 div-more x d n some = ap (λ k. k / d) (turned x d n) ∙ div-mul-add (x / d + n) d (x % d) (mod_below x d some)
   where
     parts : (q r d n : ℕ) → q * d + r + n * d ≡ (q + n) * d + r

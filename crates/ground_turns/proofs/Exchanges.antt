@@ -4,9 +4,9 @@ use Rattle.std.proofs.lemmas.Bool.{cases_eq, eq-eqb}
 use Rattle.sums.specs.Below.{sum_below, count_below}
 use Rattle.sums.proofs.Counts.{count_below-some}
 use Rattle.sums.proofs.Sums.{sum_below-agree}
-use Rattle.fleet_model.specs.declared.limits.TheConstants.{MINUTES_PER_PERIOD}
 use Rattle.fleet_model.specs.declared.parts.Connection.{Connection}
 use Rattle.fleet_model.specs.declared.tables.Tables.{Tables}
+use Rattle.fleet_model.specs.Schedule.{period_of}
 use Rattle.ground_turns.specs.Laws.{ExchangedFits, ExchangedHolds, Touch}
 use Rattle.ground_turns.specs.Maps.{AreExchanged, IsSuccessorMap, arrivals_of, crossings_of, departures_of, exchanged, turn_at}
 use Rattle.ground_turns.specs.Turns.{IsTurn, crosses, departs_at, ready_at, station_at}
@@ -60,6 +60,7 @@ module _ (t : Tables) (a : List ℕ) (f : ℕ) (old new : List Connection) (i j 
 
   new_map : IsSuccessorMap t a f new
   new_map = record {
+    plain = map.plain;
     each = λ k lt. by_turn (λ q turn. IsTurn t a f turn)
         (crossed t a f (turn_at old i) (turn_at old j) (map.each i meet.first) (map.each j meet.second) meet.together)
         (crossed t a f (turn_at old j) (turn_at old i) (map.each j meet.second) (map.each i meet.first) (sym meet.together))
@@ -71,7 +72,7 @@ module _ (t : Tables) (a : List ℕ) (f : ℕ) (old new : List Connection) (i j 
   no_more_cross : crossings_of t f new ≤ crossings_of t f old
   no_more_cross =
       let law = changed (λ turn. bit (crosses t f turn)) in
-      let less = exchange_law MINUTES_PER_PERIOD (ready_at t f (turn_at old i)) (departs_at t f (turn_at old i)) (ready_at t f (turn_at old j)) (departs_at t f (turn_at old j)) m
+      let less = exchange_law (period_of t) (ready_at t f (turn_at old i)) (departs_at t f (turn_at old i)) (ready_at t f (turn_at old j)) (departs_at t f (turn_at old j)) m
       (ready_within t a f old map i) (departs_within t a f old map i meet.first) (ready_within t a f old map j) (departs_within t a f old map j meet.second) meet.minute
       meet.first_touches meet.second_touches in
       omega (arith, law, less)

@@ -5,15 +5,14 @@ use Rattle.std.proofs.lemmas.Bool.Decides.{nat_tests}
 use Rattle.sums.specs.Below.{max_below}
 use Rattle.sums.proofs.Maxima.{max_below-suc, max_below-zero}
 use Rattle.sums.proofs.Sums.{sum_below-add, sum_below-le, sum_below-one}
-use Rattle.fleet_model.specs.declared.limits.TheConstants.{MINUTES_PER_PERIOD}
 use Rattle.fleet_model.specs.declared.parts.Connection.{Connection}
 use Rattle.fleet_model.specs.declared.tables.Tables.{Tables}
-use Rattle.fleet_model.specs.Schedule.{leg_on, legs_in}
+use Rattle.fleet_model.specs.Schedule.{leg_on, legs_in, period_of}
 use Rattle.fleet_model.specs.Times.{departure, ready_minute}
 use Rattle.ground_turns.specs.FirstOut.{AreFirstOut, departs_before, departure_place, free_departed, free_excess, free_landed, free_landings, free_need, is_before, is_free_departure, is_free_landing, landing_place, lands_before}
 use Rattle.ground_turns.specs.Laws.{FreeTogether, ReadyFirstDepartsFirst}
 use Rattle.ground_turns.specs.Maps.{Holds, IsSuccessorMap, arrivals_of, turn_at}
-use Rattle.ground_turns.specs.Turns.{crosses, departs_at, period_of, ready_at, station_at}
+use Rattle.ground_turns.specs.Turns.{crosses, departs_at, ready_at, station_at}
 use Rattle.ground_turns.proofs.FirstOuts.{all_before, departs_free, few_cross, free_zero, lands_free, low_place, mod_cases, within_landings}
 use Rattle.ground_turns.proofs.FreeTurns.{all_departed, all_there, is_free, need_crosses, there}
 use Rattle.ground_turns.proofs.Rounds.{bit, part_at_most, until_later, until_next}

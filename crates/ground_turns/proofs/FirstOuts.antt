@@ -10,12 +10,12 @@ use Rattle.sums.proofs.Sums.{sum_below-agree, sum_below-add, sum_below-le, sum_b
 use Rattle.fleet_model.specs.declared.parts.Connection.{Connection}
 use Rattle.fleet_model.specs.declared.tables.Tables.{Tables}
 use Rattle.fleet_model.specs.Counts.{fleet_at, weights_of}
-use Rattle.fleet_model.specs.Schedule.{leg_of, leg_on, legs_in, stations_in}
+use Rattle.fleet_model.specs.Schedule.{leg_of, leg_on, legs_in, period_of, stations_in}
 use Rattle.fleet_model.specs.Times.{departure, ready_minute}
 use Rattle.ground_turns.specs.FirstOut.{AreFirstOut, departs_before, departure_place, free_departed, free_excess, free_landed, free_landings, free_need, is_before, is_free_departure, is_free_landing, landing_place, lands_before}
 use Rattle.ground_turns.specs.Laws.{FirstOutFits, surplus_at}
 use Rattle.ground_turns.specs.Maps.{Holds, IsSuccessorMap, arrivals_of, departures_of, turn_at}
-use Rattle.ground_turns.specs.Turns.{crosses, departs_at, period_of, ready_at, station_at}
+use Rattle.ground_turns.specs.Turns.{crosses, departs_at, ready_at, station_at}
 use Rattle.ground_turns.proofs.Fits.{no_surplus, periods_beyond_use}
 use Rattle.ground_turns.proofs.FreeTurns.{all_there, crossings_are, free_both, free_crossings, is_free, landed_part, need_crosses, there, there_is}
 use Rattle.ground_turns.proofs.Places.{departure_is, departure_key, departures_differ, landing_is, landing_key, landings_differ}

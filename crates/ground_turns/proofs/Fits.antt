@@ -1,20 +1,20 @@
 -- A map fits exactly where its turns are clean: at each station a moment has stand 0.
-use Rattle.std.proofs.Common.{◌≡◌, ℕ, ◌+◌, ◌<◌, inl, inr, Bool, true, false, ◌==◌, ◌&&◌, nat_lt, nat_le, List, length, refl, sym, subst, arith}
+use Rattle.std.proofs.Common.{◌≡◌, ◌+◌, ◌<◌, ◌==◌, ◌&&◌, ◌∙◌, Bool, List, ℕ, ap, arith, false, inl, inr, length, nat_le, nat_lt, refl, subst, sym, true}
 use Rattle.std.proofs.lemmas.Bool.{cases_lt, and_from, and_parts, eqb-true, eq-eqb}
 use Rattle.std.proofs.lemmas.Bool.Decides.{nat_tests}
 use Rattle.sums.specs.Below.{sum_below}
 use Rattle.sums.proofs.Counts.{count_below-some}
 use Rattle.sums.proofs.Sums.{sum_below-agree, sum_below-add, sum_below-zero}
 use Rattle.sums.proofs.SumBounds.{term_le}
-use Rattle.fleet_model.specs.declared.limits.TheConstants.{MINUTES_PER_PERIOD}
 use Rattle.fleet_model.specs.declared.parts.Connection.{Connection}
 use Rattle.fleet_model.specs.declared.tables.Tables.{Tables}
 use Rattle.fleet_model.specs.Counts.{Weights, arrived, departed, weights_of}
-use Rattle.fleet_model.specs.Schedule.{no_leg, stations_in}
-use Rattle.fleet_model.specs.Use.{excess, last_minute, need_of, stand_of, used_of}
+use Rattle.fleet_model.specs.Schedule.{last_of, no_leg, period_of, stations_in}
+use Rattle.fleet_model.specs.Use.{excess, need_of, stand_of, used_of}
+use Rattle.fleet_model.proofs.PeriodMinutes.{by_last, last_in}
 use Rattle.ground_turns.specs.Laws.{FitsWhereClean, PeriodsBeyondUse, WaitingIsStand, surplus_at}
 use Rattle.ground_turns.specs.Maps.{AreClean, IsFitting, IsSuccessorMap, crosses_there, crossings_at, crossings_of, turn_at, waiting_at, waits_there}
-use Rattle.ground_turns.specs.Turns.{crosses, departs_at, period_of, ready_at, station_at, waits_at}
+use Rattle.ground_turns.specs.Turns.{crosses, departs_at, ready_at, station_at, waits_at}
 use Rattle.ground_turns.proofs.Rounds.{bit, moment_law}
 use Rattle.ground_turns.proofs.Totals.{over_places, some_counted, some_greatest}
 use Rattle.ground_turns.proofs.Waits.{all_turns, crossings_suffice, departs_within, ready_within, waiting_law}
@@ -33,33 +33,35 @@ module _ (t : Tables) (a : List ℕ) (f : ℕ) (turns : List Connection) (map : 
       omega (arith, same, parts, all_crossings)
 
   -- at the last moment those wait that cross
-  all_cross : (s k : ℕ) → k < length turns → bit (waits_there t f turns s last_minute k) ≡ bit (crosses_there t f turns s k)
-  all_cross s k lt = by_station (station_at t (turn_at turns k) == s) (waits_at t f (turn_at turns k) last_minute) (crosses t f (turn_at turns k))
+  all_cross : (s k : ℕ) → k < length turns → bit (waits_there t f turns s (last_of t) k) ≡ bit (crosses_there t f turns s k)
+  all_cross s k lt = by_station (station_at t (turn_at turns k) == s) (waits_at t f (turn_at turns k) (last_of t)) (crosses t f (turn_at turns k))
       (at_last (ready_at t f (turn_at turns k)) (departs_at t f (turn_at turns k)) _ (ready_within t a f turns map k) (departs_within t a f turns map k lt)
-      (moment_law MINUTES_PER_PERIOD (ready_at t f (turn_at turns k)) (departs_at t f (turn_at turns k)) last_minute
-      (ready_within t a f turns map k) (departs_within t a f turns map k lt) (omega arith)))
+      (moment_law (period_of t) (ready_at t f (turn_at turns k)) (departs_at t f (turn_at turns k)) (last_of t)
+      (ready_within t a f turns map k) (departs_within t a f turns map k lt) (last_in t)))
     where
       by_station : (c x y : Bool) → bit x ≡ bit y → bit (c && x) ≡ bit (c && y)
       by_station true x y e = e
       by_station false x y e = refl
 
-      at_last : (r d : ℕ) (waits : Bool) → r < MINUTES_PER_PERIOD → d < MINUTES_PER_PERIOD
-          → bit waits + bit (nat_le d last_minute) ≡ bit (nat_le r last_minute) + bit (nat_lt d r) → bit waits ≡ bit (nat_lt d r)
-      at_last r d waits ready departs law = grind (arith, nat_tests)
+      at_last : (r d : ℕ) (waits : Bool) → r < period_of t → d < period_of t
+          → bit waits + bit (nat_le d (last_of t)) ≡ bit (nat_le r (last_of t)) + bit (nat_lt d r) → bit waits ≡ bit (nat_lt d r)
+      at_last r d waits ready departs law =
+          let both : bit (nat_le d (last_of t)) ≡ bit (nat_le r (last_of t)) = ap bit (by_last t d departs) ∙ sym (ap bit (by_last t r ready)) in
+          omega (arith, law, both, ap bit (by_last t r ready))
 
   -- so as many of the fleet's aircraft come to a station as leave it
-  pub balances : (s : ℕ) → arrived t (weights_of a) f s last_minute ≡ departed t (weights_of a) f s last_minute
+  pub balances : (s : ℕ) → arrived t (weights_of a) f s (last_of t) ≡ departed t (weights_of a) f s (last_of t)
   balances s =
-      let same = sum_below-agree (λ k. bit (waits_there t f turns s last_minute k)) (λ k. bit (crosses_there t f turns s k)) (length turns) (record { each = λ k lt. all_cross s k lt }) in
-      omega (arith, same, all_turns t a f turns map s last_minute (omega arith))
+      let same = sum_below-agree (λ k. bit (waits_there t f turns s (last_of t) k)) (λ k. bit (crosses_there t f turns s k)) (length turns) (record { each = λ k lt. all_cross s k lt }) in
+      omega (arith, same, all_turns t a f turns map s (last_of t) (last_in t))
 
 -- where as many come as leave, a moment has stand 0
-pub none_stands : (t : Tables) (w : Weights) (f s : ℕ) → arrived t w f s last_minute ≡ departed t w f s last_minute
-    → (m : ℕ) × (m < MINUTES_PER_PERIOD) × (stand_of t w f s m ≡ 0)
+pub none_stands : (t : Tables) (w : Weights) (f s : ℕ) → arrived t w f s (last_of t) ≡ departed t w f s (last_of t)
+    → (m : ℕ) × (m < period_of t) × (stand_of t w f s m ≡ 0)
 unfolding need_of excess stand_of
 none_stands t w f s balanced = elim (cases_lt 0 (need_of t w f s)) [
-  | inl some ↦ let found = some_greatest (excess t w f s) MINUTES_PER_PERIOD some in (found.0, found.1, omega (arith, found.2))
-  | inr none ↦ (last_minute, omega arith, omega arith)
+  | inl some ↦ let found = some_greatest (excess t w f s) (period_of t) some in (found.0, found.1, omega (arith, found.2))
+  | inr none ↦ (last_of t, last_in t, omega (arith, none, balanced))
 ]
 
 pub periods_beyond_use : PeriodsBeyondUse

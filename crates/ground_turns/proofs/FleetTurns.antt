@@ -13,6 +13,7 @@ use Rattle.fleet_model.specs.declared.parts.Connection.{Connection}
 use Rattle.fleet_model.specs.declared.tables.Tables.{Tables}
 use Rattle.fleet_model.specs.Counts.{fleet_at, weights_of}
 use Rattle.fleet_model.specs.Schedule.{leg_on, legs_in}
+use Rattle.fleet_model.specs.Plain.{IsPlain}
 use Rattle.ground_turns.specs.Laws.{NextIsMap}
 use Rattle.ground_turns.specs.Maps.{IsNext, IsSuccessorMap, arrivals_of, departures_of, no_turn, turn_at, turn_by, turns_by}
 use Rattle.ground_turns.specs.Turns.{IsTurn}
@@ -94,7 +95,7 @@ pub both : (b c : Bool) → bit b * bit c ≡ bit (b && c)
 both true c = omega arith
 both false c = omega arith
 
-module _ (t : Tables) (a : List ℕ) (f : ℕ) (next : ℕ → ℕ) (leads : IsNext t a f next) where
+module _ (t : Tables) (a : List ℕ) (f : ℕ) (next : ℕ → ℕ) (plain : IsPlain t) (leads : IsNext t a f next) where
   abbrev in_fleet : ℕ → Bool
   in_fleet l = fleet_at a l == f
 
@@ -140,10 +141,10 @@ module _ (t : Tables) (a : List ℕ) (f : ℕ) (next : ℕ → ℕ) (leads : IsN
 
   pub is_map : IsSuccessorMap t a f (turns_by a f next (legs_in t))
   unfolding turns
-  is_map = record { each = each_turn a f next (IsTurn t a f) (legs_in t) leads.turn; arrives = arrivals; departs = departures }
+  is_map = record { plain = plain; each = each_turn a f next (IsTurn t a f) (legs_in t) leads.turn; arrives = arrivals; departs = departures }
 
 pub next_is_map : NextIsMap
-next_is_map t a f next leads = is_map t a f next leads
+next_is_map t a f next plain leads = is_map t a f next plain leads
 
 -- a number below n that passes, where there is one
 pub pick : (ℕ → Bool) → ℕ → ℕ

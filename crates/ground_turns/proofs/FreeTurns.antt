@@ -8,15 +8,14 @@ use Rattle.sums.proofs.Maxima.{max_below-least}
 use Rattle.sums.proofs.Sums.{sum_below-agree, sum_below-add}
 use Rattle.sums.proofs.Tests.{not_true, same_tests}
 use Rattle.sums.proofs.NumberTests.{some_tested}
-use Rattle.fleet_model.specs.declared.limits.TheConstants.{MINUTES_PER_PERIOD}
 use Rattle.fleet_model.specs.declared.parts.Connection.{Connection}
 use Rattle.fleet_model.specs.declared.tables.Tables.{Tables}
 use Rattle.fleet_model.specs.Counts.{fleet_at, weights_of}
-use Rattle.fleet_model.specs.Schedule.{leg_of, leg_on, legs_in}
+use Rattle.fleet_model.specs.Schedule.{leg_of, leg_on, legs_in, period_of}
 use Rattle.fleet_model.specs.Times.{departure, ready_minute}
 use Rattle.ground_turns.specs.FirstOut.{free_departed, free_excess, free_landed, free_landings, free_need}
 use Rattle.ground_turns.specs.Maps.{Holds, IsSuccessorMap, arrivals_of, crosses_there, crossings_at, departures_of, turn_at}
-use Rattle.ground_turns.specs.Turns.{crosses, departs_at, period_of, ready_at, station_at, waits_at}
+use Rattle.ground_turns.specs.Turns.{crosses, departs_at, ready_at, station_at, waits_at}
 use Rattle.ground_turns.proofs.Rounds.{bit, bit_times_both, moment_law}
 use Rattle.ground_turns.proofs.Totals.{some_counted}
 use Rattle.ground_turns.proofs.Waits.{at_station, departs_within, over_arrivals, over_departures, ready_within}
@@ -160,7 +159,7 @@ module _ (t : Tables) (a : List ℕ) (f : ℕ) (given turns : List Connection) (
       (record {
         each = λ k lt. at_station (there s k) (waits_at t f (turn_at turns k) m) (nat_le (departs_at t f (turn_at turns k)) m)
             (nat_le (ready_at t f (turn_at turns k)) m) (crosses t f (turn_at turns k))
-            (moment_law MINUTES_PER_PERIOD (ready_at t f (turn_at turns k)) (departs_at t f (turn_at turns k)) m (ready_within t a f turns map k) (departs_within t a f turns map k lt) moment);
+            (moment_law (period_of t) (ready_at t f (turn_at turns k)) (departs_at t f (turn_at turns k)) m (ready_within t a f turns map k) (departs_within t a f turns map k lt) moment);
       }) in
       let left = sum_below-add (λ k. bit (there s k && waits_at t f (turn_at turns k) m)) (λ k. bit (there s k && nat_le (departs_at t f (turn_at turns k)) m)) (length turns) in
       let right = sum_below-add (λ k. bit (there s k && nat_le (ready_at t f (turn_at turns k)) m)) (λ k. bit (there s k && crosses t f (turn_at turns k))) (length turns) in

@@ -1,15 +1,17 @@
 -- The nights of the turns at a station.
-use Rattle.std.proofs.Common.{◌≡◌, ℕ, ◌<◌, Bool, true, false, if◌then◌else◌, ◌==◌, ◌&&◌, List, length, refl, sym, ◌∙◌, ap, arith}
+use Rattle.std.proofs.Common.{◌≡◌, ◌<◌, ◌==◌, ◌&&◌, ◌∙◌, ◌-◌, ◌*◌, ◌+◌, Bool, List, ℕ, ap, arith, false, if◌then◌else◌, length, refl, sym, true}
 use Rattle.sums.specs.Below.{sum_below, count_below}
 use Rattle.sums.proofs.Sums.{sum_below-agree, sum_below-swap, sum_below-zero}
-use Rattle.fleet_model.specs.declared.limits.TheConstants.{MINUTES_PER_DAY, MINUTES_PER_PERIOD}
+use Rattle.fleet_model.specs.declared.limits.TheConstants.{MINUTES_PER_DAY}
 use Rattle.fleet_model.specs.declared.parts.Connection.{Connection}
 use Rattle.fleet_model.specs.declared.tables.Tables.{Tables}
-use Rattle.fleet_model.specs.Schedule.{stations_in}
-use Rattle.fleet_model.specs.Use.{stand_of}
+use Rattle.fleet_model.specs.Schedule.{days_in, last_of, period_of, stations_in}
+use Rattle.fleet_model.specs.Use.{need_of, stand_of}
+use Rattle.fleet_model.proofs.PeriodMinutes.{days_are_period}
+use Rattle.fleet_model.specs.Counts.{arrived, departed, weights_of}
 use Rattle.ground_turns.specs.Laws.{NightsAreNeed, NightsAreStands, nights_at, nights_there, stand_by_day, stands_by_day}
 use Rattle.ground_turns.specs.Maps.{IsFitting, turn_at, waiting_at, waits_there}
-use Rattle.ground_turns.specs.Turns.{days_in, departs_at, period_of, ready_at, station_at, waits_at}
+use Rattle.ground_turns.specs.Turns.{departs_at, ready_at, station_at, waits_at}
 use Rattle.ground_turns.proofs.DayStarts.{day_end, day_starts}
 use Rattle.ground_turns.proofs.Fits.{balances, waiting_is_stand}
 use Rattle.ground_turns.proofs.Rounds.{bit}
@@ -25,7 +27,7 @@ module _ (t : Tables) (a : List ℕ) (f : ℕ) (turns : List Connection) (s : �
   one_turn : (k : ℕ) → k < length turns → nights_there t f turns s k ≡ count_below (λ j. waits_there t f turns s (day_end MINUTES_PER_DAY j) k) (days_in t)
   one_turn k lt =
       ap (λ n. if station_at t (turn_at turns k) == s then n else 0)
-      (day_starts MINUTES_PER_DAY (days_in t) MINUTES_PER_PERIOD (ready_at t f (turn_at turns k)) (departs_at t f (turn_at turns k)) (omega arith) refl
+      (day_starts MINUTES_PER_DAY (days_in t) (period_of t) (ready_at t f (turn_at turns k)) (departs_at t f (turn_at turns k)) (omega arith) (days_are_period t)
       (ready_within t a f turns h.map k) (departs_within t a f turns h.map k lt))
       ∙ count_where (station_at t (turn_at turns k) == s) (λ j. waits_at t f (turn_at turns k) (day_end MINUTES_PER_DAY j)) (days_in t)
 
@@ -42,7 +44,7 @@ module _ (t : Tables) (a : List ℕ) (f : ℕ) (turns : List Connection) (s : �
       (record { each = λ j lt. waiting_is_stand t a f turns s (day_end MINUTES_PER_DAY j) h below (within j lt) })
     where
       within : (j : ℕ) → j < days_in t → day_end MINUTES_PER_DAY j < period_of t
-      within j lt = omega arith
+      within j lt = omega (arith, days_are_period t)
 
 pub nights_are_stands : NightsAreStands
 nights_are_stands t a f turns s h below = nights_stand t a f turns s h below
@@ -51,5 +53,13 @@ pub nights_are_need : NightsAreNeed
 unfolding stand_of
 nights_are_need t a f turns s h below one =
     let law = nights_stand t a f turns s h below in
-    let even = balances t a f turns h.map s in
-    omega (arith, law, even)
+    let stands : stands_by_day t a f s ≡ stand_by_day t a f s 0 = ap (sum_below (stand_by_day t a f s)) one ∙ only (stand_by_day t a f s 0) in
+    let last : MINUTES_PER_DAY * 1 - 1 ≡ last_of t = omega (arith, days_are_period t, one) in
+    let there : stand_by_day t a f s 0 ≡ stand_of t (weights_of a) f s (last_of t) = ap (stand_of t (weights_of a) f s) last in
+    law ∙ stands ∙ there ∙ as_needed (need_of t (weights_of a) f s) (arrived t (weights_of a) f s (last_of t)) (departed t (weights_of a) f s (last_of t)) (balances t a f turns h.map s)
+  where
+    only : (n : ℕ) → 0 + n ≡ n
+    only n = omega arith
+
+    as_needed : (need come gone : ℕ) → come ≡ gone → need + come - gone ≡ need
+    as_needed need come gone even = omega arith

@@ -7,18 +7,19 @@ use Rattle.sums.specs.Below.{count_below}
 use Rattle.sums.proofs.Maxima.{max_below-agree, max_below-least}
 use Rattle.sums.proofs.Sums.{sum_below-agree, sum_below-le, sum_below-zero}
 use Rattle.sums.proofs.Naturals.{none_below_0, some_above}
-use Rattle.fleet_model.specs.declared.limits.TheConstants.{MINUTES_PER_PERIOD}
 use Rattle.fleet_model.specs.declared.parts.Connection.{Connection}
 use Rattle.fleet_model.specs.declared.tables.Tables.{Tables}
 use Rattle.fleet_model.specs.Counts.{arrived, departed, fleet_at, weights_of}
-use Rattle.fleet_model.specs.Schedule.{fleets_in, leg_of, leg_on, legs_in, no_leg, stations_in}
+use Rattle.fleet_model.specs.Schedule.{fleets_in, last_of, leg_of, leg_on, legs_in, no_leg, period_of, stations_in}
 use Rattle.fleet_model.specs.Times.{departure, ready_minute}
-use Rattle.fleet_model.specs.Use.{IsBalanced, excess, last_minute, need_of}
-use Rattle.fleet_model.proofs.Minutes.{by_last_minute}
+use Rattle.fleet_model.specs.Use.{IsBalanced, excess, need_of}
+use Rattle.fleet_model.specs.Plain.{IsPlain}
+use Rattle.fleet_model.proofs.PeriodMinutes.{by_last, in_period}
+use Rattle.fleet_model.proofs.PlainTables.{plain_arrived, plain_departed, plain_departs}
 use Rattle.ground_turns.specs.FirstOut.{AreFirstOut, IsFirstOut, departure_place, free_departed, free_excess, free_landed, free_landings, free_need, is_free_departure, is_free_landing, landing_place}
 use Rattle.ground_turns.specs.Laws.{SomeFits, surplus_at}
 use Rattle.ground_turns.specs.Maps.{Holds, IsFitting, IsHeld, IsNext, IsSuccessorMap, crossings_at, turn_by, turns_by}
-use Rattle.ground_turns.specs.Turns.{IsTurn, period_of}
+use Rattle.ground_turns.specs.Turns.{IsTurn}
 use Rattle.ground_turns.proofs.Fits.{periods_beyond_use}
 use Rattle.ground_turns.proofs.FirstOuts.{mod_cases, no_more_cross}
 use Rattle.ground_turns.proofs.FleetTurns.{each_turn, is_map, pick, picked}
@@ -49,46 +50,53 @@ none_part : (w : ℕ) (b c : Bool) → w * bit ((b && false) && c) ≡ 0
 none_part w true c = omega arith
 none_part w false c = omega arith
 
-module _ (t : Tables) (a : List ℕ) (f : ℕ) (s : ℕ) where
+module _ (t : Tables) (a : List ℕ) (f : ℕ) (s : ℕ) (plain : IsPlain t) where
   landed_all : (m : ℕ) → free_landed t a f [] s m ≡ arrived t (weights_of a) f s m
-  unfolding free_landed arrived
-  landed_all m = sum_below-agree _ _ (legs_in t) (record { each = λ l below. free_part (fleet_at a l == f) ((leg_of t l).to == s) (nat_le (ready_minute t (leg_on l f)) m) })
+  unfolding free_landed
+  landed_all m =
+      sum_below-agree _ _ (legs_in t) (record { each = λ l below. free_part (fleet_at a l == f) ((leg_of t l).to == s) (nat_le (ready_minute t (leg_on l f)) m) })
+      ∙ sym (plain_arrived t (weights_of a) f s m plain)
 
   departed_all : (m : ℕ) → free_departed t a f [] s m ≡ departed t (weights_of a) f s m
-  unfolding free_departed departed
-  departed_all m = sum_below-agree _ _ (legs_in t) (record { each = λ l below. free_part (fleet_at a l == f) ((leg_of t l).from == s) (nat_le (departure t (leg_on l f)) m) })
+  unfolding free_departed
+  departed_all m =
+      sum_below-agree _ _ (legs_in t) (record { each = λ l below. free_part (fleet_at a l == f) ((leg_of t l).from == s) (nat_le (departure t (leg_on l f)) m) })
+      ∙ sym (plain_departed t (weights_of a) f s m plain)
 
   need_all : free_need t a f [] s ≡ need_of t (weights_of a) f s
   unfolding free_need need_of excess
-  need_all = max_below-agree _ _ MINUTES_PER_PERIOD (record { each = λ m moment. omega (arith, landed_all m, departed_all m) })
+  need_all = max_below-agree _ _ (period_of t) (record { each = λ m moment. omega (arith, landed_all m, departed_all m) })
 
-  landings_all : free_landings t a f [] s ≡ arrived t (weights_of a) f s last_minute
-  unfolding free_landings arrived
-  landings_all = sum_below-agree _ _ (legs_in t) (record {
-    each = λ l below.
-        all_part (fleet_at a l == f) ((leg_of t l).to == s) (nat_le (ready_minute t (leg_on l f)) last_minute)
-        (by_last_minute _ (mod_below _ MINUTES_PER_PERIOD (omega arith)));
-  })
+  landings_all : free_landings t a f [] s ≡ arrived t (weights_of a) f s (last_of t)
+  unfolding free_landings
+  landings_all =
+      sum_below-agree _ _ (legs_in t) (record {
+        each = λ l below.
+            all_part (fleet_at a l == f) ((leg_of t l).to == s) (nat_le (ready_minute t (leg_on l f)) (last_of t))
+            (by_last t (ready_minute t (leg_on l f)) (in_period t _));
+      })
+      ∙ sym (plain_arrived t (weights_of a) f s (last_of t) plain)
 
-  departures_all : count_below (is_free_departure t a f [] s) (legs_in t) ≡ departed t (weights_of a) f s last_minute
-  unfolding departed
-  departures_all = sum_below-agree _ _ (legs_in t) (record {
-    each = λ l below.
-        all_part (fleet_at a l == f) ((leg_of t l).from == s) (nat_le (departure t (leg_on l f)) last_minute)
-        (by_last_minute _ (t.in_range.legs_fit.each l no_leg below).dep);
-  })
+  departures_all : count_below (is_free_departure t a f [] s) (legs_in t) ≡ departed t (weights_of a) f s (last_of t)
+  departures_all =
+      sum_below-agree _ _ (legs_in t) (record {
+        each = λ l below.
+            all_part (fleet_at a l == f) ((leg_of t l).from == s) (nat_le (departure t (leg_on l f)) (last_of t))
+            (by_last t (departure t (leg_on l f)) (plain_departs t l f plain below));
+      })
+      ∙ sym (plain_departed t (weights_of a) f s (last_of t) plain)
 
   departed_few : (m : ℕ) → free_departed t a f [] s m ≤ count_below (is_free_departure t a f [] s) (legs_in t)
   unfolding free_departed
   departed_few m = sum_below-le _ (λ l. bit (is_free_departure t a f [] s l)) (legs_in t) (record { each = λ l below. part_at_most (is_free_departure t a f [] s l) (nat_le (departure t (leg_on l f)) m) })
 
-  few_needed : arrived t (weights_of a) f s last_minute ≡ departed t (weights_of a) f s last_minute → free_need t a f [] s ≤ free_landings t a f [] s
+  few_needed : arrived t (weights_of a) f s (last_of t) ≡ departed t (weights_of a) f s (last_of t) → free_need t a f [] s ≤ free_landings t a f [] s
   unfolding free_need
   few_needed balanced =
       max_below-least (free_excess t a f [] s) (free_landings t a f [] s) (period_of t)
       (record { each = λ m moment. omega (arith, departed_few m, departures_all, landings_all, balanced) })
 
-module _ (t : Tables) (a : List ℕ) (f : ℕ) (balanced : IsBalanced t (weights_of a)) (known : f < fleets_in t) where
+module _ (t : Tables) (a : List ℕ) (f : ℕ) (plain : IsPlain t) (balanced : IsBalanced t (weights_of a)) (known : f < fleets_in t) where
   abbrev in_fleet : ℕ → Bool
   in_fleet l = fleet_at a l == f
 
@@ -102,7 +110,7 @@ module _ (t : Tables) (a : List ℕ) (f : ℕ) (balanced : IsBalanced t (weights
   next : ℕ → ℕ
   next l = pick (follows (leg_of t l).to l) (legs_in t)
 
-  even : (s : ℕ) → s < stations_in t → arrived t (weights_of a) f s last_minute ≡ departed t (weights_of a) f s last_minute
+  even : (s : ℕ) → s < stations_in t → arrived t (weights_of a) f s (last_of t) ≡ departed t (weights_of a) f s (last_of t)
   even s below = balanced.each f s known below
 
   lands : (l : ℕ) → in_fleet l ≡ true → is_free_landing t a f [] (leg_of t l).to l ≡ true
@@ -123,7 +131,7 @@ module _ (t : Tables) (a : List ℕ) (f : ℕ) (balanced : IsBalanced t (weights
   next_is l below flies =
       let s = (leg_of t l).to in
       let low : next_place s l < free_landings t a f [] s = mod_below _ (free_landings t a f [] s) (some_above (place_low l below flies)) in
-      let fits : next_place s l < count_below (is_free_departure t a f [] s) (legs_in t) = omega (arith, low, departures_all t a f s, landings_all t a f s, even s (station_known l below)) in
+      let fits : next_place s l < count_below (is_free_departure t a f [] s) (legs_in t) = omega (arith, low, departures_all t a f s plain, landings_all t a f s plain, even s (station_known l below)) in
       let found = place_taken (is_free_departure t a f [] s) (departure_key t a f [] s) (legs_in t) (departures_differ t a f [] s) (next_place s l) fits in
       picked (follows s l) (legs_in t) found.0 found.1 (and_from _ _ found.2 (eq-eqb _ _ (departure_is t a f [] s found.0 found.1 ∙ found.3)))
 
@@ -151,7 +159,7 @@ module _ (t : Tables) (a : List ℕ) (f : ℕ) (balanced : IsBalanced t (weights
       let round : next_place s l ≡ next_place s k = sym (next_at l below flies) ∙ ap (departure_place t a f [] s) e ∙ there in
       let low : landing_place t a f [] s k < free_landings t a f [] s = subst (λ at. landing_place t a f [] at k < free_landings t a f [] at) same (place_low k within flies') in
       let places = same_round (landing_place t a f [] s l) (landing_place t a f [] s k) (free_need t a f [] s) (free_landings t a f [] s)
-      (place_low l below flies) low (few_needed t a f s (even s (station_known l below))) round in
+      (place_low l below flies) low (few_needed t a f s plain (even s (station_known l below))) round in
       one_place (is_free_landing t a f [] s) (landing_key t a f [] s) (legs_in t) (landings_differ t a f [] s) l k below within
       (lands l flies) (subst (λ at. is_free_landing t a f [] at k ≡ true) same (lands k flies'))
       (sym (landing_is t a f [] s l below) ∙ places ∙ landing_is t a f [] s k within)
@@ -176,7 +184,7 @@ module _ (t : Tables) (a : List ℕ) (f : ℕ) (balanced : IsBalanced t (weights
 
   map : IsSuccessorMap t a f turns
   unfolding turns
-  map = is_map t a f next leads
+  map = is_map t a f next plain leads
 
   first_out : AreFirstOut t a f [] turns
   unfolding turns next_place
@@ -192,7 +200,7 @@ module _ (t : Tables) (a : List ℕ) (f : ℕ) (balanced : IsBalanced t (weights
       let few = no_more_cross t a f [] turns map holds first_out s in
       let zeros = sum_below-agree (λ l. weights_of a (leg_on l f) * bit (given_at t f [] s l)) (λ l. 0) (legs_in t)
       (record { each = λ l below. none_part (weights_of a (leg_on l f)) ((leg_of t l).to == s) (crosses_by_given t f [] l) }) in
-      omega (arith, parts, few, zeros, sum_below-zero (legs_in t), need_all t a f s)
+      omega (arith, parts, few, zeros, sum_below-zero (legs_in t), need_all t a f s plain)
 
   fitting : IsFitting t a f turns
   fitting =
@@ -203,4 +211,4 @@ module _ (t : Tables) (a : List ℕ) (f : ℕ) (balanced : IsBalanced t (weights
   is_held = record { turns = turns; fitting = fitting; holds = holds }
 
 pub some_fits : SomeFits
-some_fits t a f balanced known = is_held t a f balanced known
+some_fits t a f plain balanced known = is_held t a f plain balanced known

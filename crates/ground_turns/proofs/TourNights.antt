@@ -1,6 +1,7 @@
 -- The nights of a fitting map, all in all.
-use Rattle.std.proofs.Common.{◌≡◌, ℕ, ◌+◌, ◌-◌, ◌*◌, ◌/◌, ◌%◌, ◌<◌, Bool, true, false, nat_lt, List, [], ◌∷◌, length, replicate, refl, ◌∙◌, ap, arith, length-append}
+use Rattle.std.proofs.Common.{◌≡◌, ◌+◌, ◌-◌, ◌*◌, ◌/◌, ◌<◌, [], ◌∷◌, ◌∙◌, ◌≤◌, Bool, List, ℕ, ap, arith, length, length-append, refl, replicate, suc, sym, zero}
 use Rattle.std.proofs.lemmas.List.{length-replicate}
+use Rattle.std.proofs.Math.Nat.{mul_comm}
 use Rattle.sums.specs.Below.{sum_below}
 use Rattle.sums.proofs.Sums.{sum_below-add, sum_below-agree}
 use Rattle.sums.proofs.Turned.{shifted}
@@ -8,60 +9,92 @@ use Rattle.fleet_model.specs.declared.limits.TheConstants.{MINUTES_PER_DAY}
 use Rattle.fleet_model.specs.declared.parts.Connection.{Connection}
 use Rattle.fleet_model.specs.declared.tables.Tables.{Tables}
 use Rattle.fleet_model.specs.Counts.{weights_of}
-use Rattle.fleet_model.specs.Schedule.{leg_on, legs_in}
-use Rattle.fleet_model.specs.Times.{nights_of}
-use Rattle.fleet_model.specs.Use.{laps_at, laps_flown}
-use Rattle.fleet_model.proofs.PeriodMinutes.{departs_on, nights_are_laps}
-use Rattle.ground_turns.specs.Laws.{NightsAreUse}
-use Rattle.ground_turns.specs.Maps.{IsSuccessorMap, crossings_of, turn_at}
-use Rattle.ground_turns.specs.Nights.{nights_in_turn, nights_in_turns}
-use Rattle.ground_turns.specs.Turns.{crosses, departs_at, nights_waited, ready_at, station_at}
+use Rattle.fleet_model.specs.Schedule.{days_in, leg_on, period_of}
+use Rattle.fleet_model.specs.Times.{busy_minutes, departure, laps_of, nights_of}
+use Rattle.fleet_model.specs.Use.{used_of}
+use Rattle.fleet_model.proofs.PeriodMinutes.{days_are_period, lap_split}
+use Rattle.fleet_model.proofs.PlainTables.{plain_laps}
+use Rattle.ground_turns.specs.Laws.{NightsAreUse, NightsByDays}
+use Rattle.ground_turns.specs.Maps.{IsSuccessorMap, periods_in_turn, periods_of, turn_at}
+use Rattle.ground_turns.specs.Nights.{nights_in, nights_in_turn, nights_in_turns}
+use Rattle.ground_turns.specs.Turns.{crosses, departs_at, nights_waited, ready_at, station_at, wait_of}
 use Rattle.ground_turns.specs.declared.nights.Night.TheVariants as night
-use Rattle.ground_turns.proofs.DayStarts.{wait_end}
+use Rattle.ground_turns.proofs.DayStarts.{div-more, wait_end}
 use Rattle.ground_turns.proofs.Rounds.{bit}
-use Rattle.ground_turns.proofs.Waits.{departs_within, over_arrivals, ready_within}
+use Rattle.ground_turns.proofs.Waits.{departs_within, over_arrivals, over_departures, ready_within}
 
--- the nights of one turn
-abbrev pub nights_at_turn : Tables → ℕ → Connection → ℕ
-nights_at_turn t f turn = nights_of t (leg_on turn.arriving f) + nights_waited t f turn
-
-pub nights_long : (t : Tables) (f : ℕ) (turns : List Connection) → length (nights_in_turns t f turns) ≡ sum_below (λ k. nights_at_turn t f (turn_at turns k)) (length turns)
+pub nights_long : (t : Tables) (f : ℕ) (turns : List Connection) → length (nights_in_turns t f turns) ≡ sum_below (λ k. nights_in t f (turn_at turns k)) (length turns)
 nights_long t f [] = refl
 nights_long t f (turn ∷ turns) =
     let front = length-append (nights_in_turn t f turn) (nights_in_turns t f turns) in
     let parts = length-append (replicate (nights_of t (leg_on turn.arriving f)) night.Aloft) (replicate (nights_waited t f turn) (night.At (station_at t turn))) in
     let aloft = length-replicate (nights_of t (leg_on turn.arriving f)) night.Aloft in
     let stood = length-replicate (nights_waited t f turn) (night.At (station_at t turn)) in
-    omega (arith, front, parts, aloft, stood, nights_long t f turns, shifted (λ k. nights_at_turn t f (turn_at (turn ∷ turns) k)) (length turns))
+    omega (arith, front, parts, aloft, stood, nights_long t f turns, shifted (λ k. nights_in t f (turn_at (turn ∷ turns) k)) (length turns))
 
-one_day : (d : ℕ) (b : Bool) → d < MINUTES_PER_DAY → (d + bit b * MINUTES_PER_DAY) / MINUTES_PER_DAY ≡ bit b
-one_day d true within = omega arith
-one_day d false within = omega arith
+times_sum : (n a b : ℕ) → n * (a + b) ≡ n * a + n * b
+times_sum n a b = grind arith
 
-in_one_day : (r d : ℕ) → r < MINUTES_PER_DAY → d < MINUTES_PER_DAY
-    → (r + (d + MINUTES_PER_DAY - r) % MINUTES_PER_DAY) / MINUTES_PER_DAY - r / MINUTES_PER_DAY ≡ bit (nat_lt d r)
-in_one_day r d ready departs =
-    let end = ap (λ n. n / MINUTES_PER_DAY) (wait_end MINUTES_PER_DAY r d ready departs) ∙ one_day d (nat_lt d r) departs in
-    let none : r / MINUTES_PER_DAY ≡ 0 = omega arith in
-    rw (end, none) (less_0 (bit (nat_lt d r)))
+-- a sum of which each term is so many times another
+sum_scaled : (scale : ℕ) (g : ℕ → ℕ) (n : ℕ) → sum_below (λ k. scale * g k) n ≡ scale * sum_below g n
+sum_scaled scale g zero = omega arith
+sum_scaled scale g (suc n) = omega (arith, sum_scaled scale g n, times_sum scale (sum_below g n) (g n))
+
+-- the nights of a flight and of the wait behind it, by the days of what departs
+by_days : (dep busy ready wait next laps crossings n : ℕ) → dep + busy ≡ n * MINUTES_PER_DAY * laps + ready → ready + wait ≡ next + crossings * (n * MINUTES_PER_DAY)
+    → ((dep + busy) / MINUTES_PER_DAY - dep / MINUTES_PER_DAY) + ((ready + wait) / MINUTES_PER_DAY - ready / MINUTES_PER_DAY) + dep / MINUTES_PER_DAY
+    ≡ n * (laps + crossings) + next / MINUTES_PER_DAY
+by_days dep busy ready wait next laps crossings n flight turn =
+    let flown : (dep + busy) / MINUTES_PER_DAY ≡ ready / MINUTES_PER_DAY + n * laps =
+    ap (λ k. k / MINUTES_PER_DAY) (flight ∙ periods n laps ready) ∙ div-more ready MINUTES_PER_DAY (n * laps) (omega arith) in
+    let waited : (ready + wait) / MINUTES_PER_DAY ≡ next / MINUTES_PER_DAY + n * crossings =
+    ap (λ k. k / MINUTES_PER_DAY) (turn ∙ starts n crossings next) ∙ div-more next MINUTES_PER_DAY (n * crossings) (omega arith) in
+    let parts : n * (laps + crossings) ≡ n * laps + n * crossings = times_sum n laps crossings in
+    let later : dep / MINUTES_PER_DAY ≤ (dep + busy) / MINUTES_PER_DAY = omega arith in
+    let on : ready / MINUTES_PER_DAY ≤ (ready + wait) / MINUTES_PER_DAY = omega arith in
+    omega (arith, flown, waited, parts, later, on)
   where
-    less_0 : (n : ℕ) → n - 0 ≡ n
-    less_0 n = omega arith
+    periods : (n laps ready : ℕ) → n * MINUTES_PER_DAY * laps + ready ≡ ready + n * laps * MINUTES_PER_DAY
+    periods n laps ready = grind arith
+
+    starts : (n crossings next : ℕ) → next + crossings * (n * MINUTES_PER_DAY) ≡ next + n * crossings * MINUTES_PER_DAY
+    starts n crossings next = grind arith
 
 module _ (t : Tables) (a : List ℕ) (f : ℕ) (turns : List Connection) (map : IsSuccessorMap t a f turns) where
-  -- where the period is a day, an aircraft stands for a night where it waits past the period's start
-  waited : (k : ℕ) → k < length turns → nights_waited t f (turn_at turns k) ≡ bit (crosses t f (turn_at turns k))
-  waited k lt = in_one_day (ready_at t f (turn_at turns k)) (departs_at t f (turn_at turns k)) (ready_within t a f turns map k) (departs_within t a f turns map k lt)
+  turn_nights : (k : ℕ) → k < length turns
+      → nights_in t f (turn_at turns k) + departure t (leg_on (turn_at turns k).arriving f) / MINUTES_PER_DAY
+      ≡ days_in t * periods_in_turn t f (turn_at turns k) + departs_at t f (turn_at turns k) / MINUTES_PER_DAY
+  turn_nights k lt =
+      let pair = leg_on (turn_at turns k).arriving f in
+      let ready = ready_at t f (turn_at turns k) in
+      let departs = departs_at t f (turn_at turns k) in
+      by_days (departure t pair) (busy_minutes t pair) ready (wait_of t f (turn_at turns k)) departs (laps_of t pair) (bit (crosses t f (turn_at turns k))) (days_in t)
+      (lap_split t pair ∙ ap (λ w. w * laps_of t pair + ready) (days_are_period t))
+      (wait_end (period_of t) ready departs (ready_within t a f turns map k) (departs_within t a f turns map k lt) ∙ ap (λ w. departs + bit (crosses t f (turn_at turns k)) * w) (days_are_period t))
 
-  all_nights : sum_below (λ k. nights_at_turn t f (turn_at turns k)) (length turns) ≡ laps_flown t (weights_of a) f + crossings_of t f turns
-  unfolding laps_flown
+  -- the days of the flights that arrive are those of the flights that depart
+  same_days : sum_below (λ k. departure t (leg_on (turn_at turns k).arriving f) / MINUTES_PER_DAY) (length turns) ≡ sum_below (λ k. departs_at t f (turn_at turns k) / MINUTES_PER_DAY) (length turns)
+  same_days = over_arrivals t a f turns map (λ l. departure t (leg_on l f) / MINUTES_PER_DAY) ∙ sym (over_departures t a f turns map (λ l. departure t (leg_on l f) / MINUTES_PER_DAY))
+
+  all_periods : sum_below (λ k. periods_in_turn t f (turn_at turns k)) (length turns) ≡ periods_of t a f turns
+  all_periods =
+      let parts = sum_below-add (λ k. laps_of t (leg_on (turn_at turns k).arriving f)) (λ k. bit (crosses t f (turn_at turns k))) (length turns) in
+      let flown = over_arrivals t a f turns map (λ l. laps_of t (leg_on l f)) in
+      omega (arith, parts, flown, plain_laps t (weights_of a) f map.plain)
+
+  pub all_nights : sum_below (λ k. nights_in t f (turn_at turns k)) (length turns) ≡ days_in t * periods_of t a f turns
   all_nights =
-      let parts = sum_below-add (λ k. nights_of t (leg_on (turn_at turns k).arriving f)) (λ k. nights_waited t f (turn_at turns k)) (length turns) in
-      let flown = over_arrivals t a f turns map (λ l. nights_of t (leg_on l f)) in
-      let laps = sum_below-agree (λ l. weights_of a (leg_on l f) * nights_of t (leg_on l f)) (laps_at t (weights_of a) f) (legs_in t)
-      (record { each = λ l below. ap (λ n. weights_of a (leg_on l f) * n) (nights_are_laps t (leg_on l f) refl (departs_on t l f below)) }) in
-      let stood = sum_below-agree (λ k. nights_waited t f (turn_at turns k)) (λ k. bit (crosses t f (turn_at turns k))) (length turns) (record { each = λ k lt. waited k lt }) in
-      omega (arith, parts, flown, laps, stood)
+      let same = sum_below-agree (λ k. nights_in t f (turn_at turns k) + departure t (leg_on (turn_at turns k).arriving f) / MINUTES_PER_DAY)
+      (λ k. days_in t * periods_in_turn t f (turn_at turns k) + departs_at t f (turn_at turns k) / MINUTES_PER_DAY) (length turns) (record { each = turn_nights }) in
+      let left = sum_below-add (λ k. nights_in t f (turn_at turns k)) (λ k. departure t (leg_on (turn_at turns k).arriving f) / MINUTES_PER_DAY) (length turns) in
+      let right = sum_below-add (λ k. days_in t * periods_in_turn t f (turn_at turns k)) (λ k. departs_at t f (turn_at turns k) / MINUTES_PER_DAY) (length turns) in
+      let times = sum_scaled (days_in t) (λ k. periods_in_turn t f (turn_at turns k)) (length turns) in
+      let periods : days_in t * sum_below (λ k. periods_in_turn t f (turn_at turns k)) (length turns) ≡ days_in t * periods_of t a f turns = ap (λ n. days_in t * n) all_periods in
+      omega (arith, same, left, right, times, periods, same_days)
+
+pub nights_by_days : NightsByDays
+nights_by_days t a f turns k map lt = turn_nights t a f turns map k lt
 
 pub nights_are_use : NightsAreUse
-nights_are_use t a f turns h = omega (arith, nights_long t f turns, all_nights t a f turns h.map, h.fits)
+nights_are_use t a f turns h =
+    nights_long t f turns ∙ all_nights t a f turns h.map ∙ ap (λ n. days_in t * n) h.fits ∙ mul_comm (days_in t) (used_of t (weights_of a) f)

@@ -1,19 +1,18 @@
 -- The waiting law, and the periods that a map takes.
-use Rattle.std.proofs.Common.{◌≡◌, ℕ, ◌+◌, ◌*◌, ◌<◌, ◌≤◌, Bool, true, false, ◌==◌, ◌&&◌, nat_le, List, length, refl, ◌∙◌, ap, arith}
-use Rattle.std.proofs.lemmas.Nat.{mod_below}
+use Rattle.std.proofs.Common.{◌≡◌, ◌+◌, ◌*◌, ◌<◌, ◌≤◌, ◌==◌, ◌&&◌, ◌∙◌, Bool, List, ℕ, ap, arith, false, length, nat_le, refl, sym, true}
 use Rattle.sums.specs.Below.{sum_below, count_below}
 use Rattle.sums.proofs.Sums.{sum_below-agree, sum_below-add}
-use Rattle.fleet_model.specs.declared.limits.TheConstants.{MINUTES_PER_PERIOD}
 use Rattle.fleet_model.specs.declared.parts.Connection.{Connection}
 use Rattle.fleet_model.specs.declared.tables.Tables.{Tables}
 use Rattle.fleet_model.specs.Counts.{arrived, departed, has_come, has_left, weights_of}
-use Rattle.fleet_model.specs.Schedule.{leg_on, legs_in, no_leg}
+use Rattle.fleet_model.specs.Schedule.{leg_on, legs_in, period_of}
 use Rattle.fleet_model.specs.Use.{need_of, stand_of}
 use Rattle.fleet_model.proofs.UseLaws.{need_is_least, need_suffices}
-use Rattle.fleet_model.proofs.Minutes.{some_minutes}
+use Rattle.fleet_model.proofs.PeriodMinutes.{in_period}
+use Rattle.fleet_model.proofs.PlainTables.{plain_arrived, plain_departed, plain_departs}
 use Rattle.ground_turns.specs.Laws.{WaitingLaw}
 use Rattle.ground_turns.specs.Maps.{IsSuccessorMap, crosses_there, crossings_at, turn_at, waiting_at, waits_there}
-use Rattle.ground_turns.specs.Turns.{crosses, departs_at, period_of, ready_at, station_at, waits_at}
+use Rattle.ground_turns.specs.Turns.{crosses, departs_at, ready_at, station_at, waits_at}
 use Rattle.ground_turns.proofs.Regroup.{by_places}
 use Rattle.ground_turns.proofs.Rounds.{bit, moment_law, times_bit}
 
@@ -35,10 +34,10 @@ module _ (t : Tables) (a : List ℕ) (f : ℕ) (turns : List Connection) (map : 
       ∙ sum_below-agree _ (λ l. weights_of a (leg_on l f) * g l) (legs_in t) (record { each = λ l below. ap (λ n. n * g l) (map.departs l below) })
 
   pub ready_within : (k : ℕ) → ready_at t f (turn_at turns k) < period_of t
-  ready_within k = mod_below _ MINUTES_PER_PERIOD some_minutes
+  ready_within k = in_period t _
 
   pub departs_within : (k : ℕ) → k < length turns → departs_at t f (turn_at turns k) < period_of t
-  departs_within k lt = (t.in_range.legs_fit.each (turn_at turns k).departing no_leg (map.each k lt).departing).dep
+  departs_within k lt = plain_departs t (turn_at turns k).departing f map.plain (map.each k lt).departing
 
   -- the turn is at the station, and its aircraft is ready or has departed by the end of the minute
   was_ready : ℕ → ℕ → ℕ → Bool
@@ -48,18 +47,20 @@ module _ (t : Tables) (a : List ℕ) (f : ℕ) (turns : List Connection) (map : 
   has_gone s m k = (station_at t (turn_at turns k) == s) && nat_le (departs_at t f (turn_at turns k)) m
 
   all_ready : (s m : ℕ) → count_below (was_ready s m) (length turns) ≡ arrived t (weights_of a) f s m
-  unfolding was_ready arrived
+  unfolding was_ready
   all_ready s m =
       over_arrivals (λ l. bit (has_come t (leg_on l f) s m))
       ∙ sum_below-agree _ _ (legs_in t) (record { each = λ l below. times_bit (weights_of a (leg_on l f)) (has_come t (leg_on l f) s m) })
+      ∙ sym (plain_arrived t (weights_of a) f s m map.plain)
 
   all_gone : (s m : ℕ) → count_below (has_gone s m) (length turns) ≡ departed t (weights_of a) f s m
-  unfolding has_gone departed
+  unfolding has_gone
   all_gone s m =
       sum_below-agree (λ k. bit (has_gone s m k)) (λ k. bit (has_left t (leg_on (turn_at turns k).departing f) s m)) (length turns)
       (record { each = λ k lt. ap (λ at. bit ((at == s) && nat_le (departs_at t f (turn_at turns k)) m)) (map.each k lt).meets })
       ∙ over_departures (λ l. bit (has_left t (leg_on l f) s m))
       ∙ sum_below-agree _ _ (legs_in t) (record { each = λ l below. times_bit (weights_of a (leg_on l f)) (has_left t (leg_on l f) s m) })
+      ∙ sym (plain_departed t (weights_of a) f s m map.plain)
 
   -- one turn at a moment
   one_turn : (s m k : ℕ) → m < period_of t → k < length turns
@@ -68,7 +69,7 @@ module _ (t : Tables) (a : List ℕ) (f : ℕ) (turns : List Connection) (map : 
   one_turn s m k moment lt =
       at_station (station_at t (turn_at turns k) == s) (waits_at t f (turn_at turns k) m) (nat_le (departs_at t f (turn_at turns k)) m)
       (nat_le (ready_at t f (turn_at turns k)) m) (crosses t f (turn_at turns k))
-      (moment_law MINUTES_PER_PERIOD (ready_at t f (turn_at turns k)) (departs_at t f (turn_at turns k)) m (ready_within k) (departs_within k lt) moment)
+      (moment_law (period_of t) (ready_at t f (turn_at turns k)) (departs_at t f (turn_at turns k)) m (ready_within k) (departs_within k lt) moment)
 
   -- those that wait, with what has departed, are those that cross, with what was ready
   pub all_turns : (s m : ℕ) → m < period_of t

@@ -4,10 +4,10 @@ use Rattle.sums.specs.Below.{count_below, max_below}
 use Rattle.fleet_model.specs.declared.parts.Connection.{Connection}
 use Rattle.fleet_model.specs.declared.tables.Tables.{Tables}
 use Rattle.fleet_model.specs.Counts.{fleet_at}
-use Rattle.fleet_model.specs.Schedule.{leg_of, leg_on, legs_in}
+use Rattle.fleet_model.specs.Schedule.{leg_of, leg_on, legs_in, period_of}
 use Rattle.fleet_model.specs.Times.{departure, ready_minute}
 use Rattle.ground_turns.specs.Maps.{arrivals_of, departures_of, turn_at}
-use Rattle.ground_turns.specs.Turns.{period_of, station_at}
+use Rattle.ground_turns.specs.Turns.{station_at}
 
 -- a leg of the fleet lands at the station, and no given pair says what follows
 abbrev pub is_free_landing : Tables → List ℕ → ℕ → List Connection → ℕ → ℕ → Bool

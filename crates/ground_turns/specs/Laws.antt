@@ -1,19 +1,21 @@
 -- The laws of turns and successor maps, as statements.
-use Rattle.std.specs.Prelude.{◌≡◌, ◌≢◌, ℕ, suc, ◌+◌, ◌-◌, ◌*◌, ◌<◌, ◌≤◌, ◌==◌, ◌↔◌, if◌then◌else◌, Bool, IsTrue, List, [], length, slice_index}
+use Rattle.std.specs.Prelude.{◌≡◌, ◌≢◌, ◌+◌, ◌-◌, ◌*◌, ◌<◌, ◌≤◌, ◌==◌, ◌↔◌, [], ◌/◌, Bool, IsTrue, List, ℕ, if◌then◌else◌, length, slice_index, suc}
 use Rattle.sums.specs.Below.{sum_below}
 use Rattle.fleet_model.specs.declared.limits.TheConstants.{MINUTES_PER_DAY}
 use Rattle.fleet_model.specs.declared.parts.Connection.{Connection}
 use Rattle.fleet_model.specs.declared.tables.Tables.{Tables}
 use Rattle.fleet_model.specs.Counts.{weights_of}
-use Rattle.fleet_model.specs.Schedule.{fleets_in, legs_in, station_of, stations_in}
+use Rattle.fleet_model.specs.Schedule.{days_in, fleets_in, leg_on, legs_in, period_of, station_of, stations_in}
 use Rattle.fleet_model.specs.Use.{IsBalanced, need_of, stand_of, used_of}
+use Rattle.fleet_model.specs.Plain.{IsPlain}
+use Rattle.fleet_model.specs.Times.{departure}
 use Rattle.ground_turns.specs.FirstOut.{AreFirstOut}
-use Rattle.ground_turns.specs.Maps.{AreClean, AreExchanged, Holds, IsFitting, IsHeld, IsNext, IsSuccessorMap, IsTour, arrivals_of, crossings_at, periods_of, turn_at, turns_by, turns_round, waiting_at}
-use Rattle.ground_turns.specs.Nights.{IsKeptFor, maintained_in, nights_in_turns}
+use Rattle.ground_turns.specs.Maps.{AreClean, AreExchanged, Holds, IsFitting, IsHeld, IsNext, IsSuccessorMap, IsTour, arrivals_of, crossings_at, periods_in_turn, periods_of, turn_at, turns_by, turns_round, waiting_at}
+use Rattle.ground_turns.specs.Nights.{IsKeptFor, maintained_in, nights_in, nights_in_turns}
 use Rattle.ground_turns.specs.Parts.{KeepsPart, NeverTouches}
 use Rattle.ground_turns.specs.Segments.{EndAt, NoneEnds, is_among, minutes_of}
 use Rattle.ground_turns.specs.declared.nights.Night.{Night}
-use Rattle.ground_turns.specs.Turns.{IsClean, days_in, departs_at, minutes_until, nights_waited, period_of, ready_at, station_at, touches, wait_of}
+use Rattle.ground_turns.specs.Turns.{IsClean, departs_at, minutes_until, nights_waited, ready_at, station_at, touches, wait_of}
 
 -- by how many the turns at a station that cross the period's start pass its need
 abbrev pub surplus_at : Tables → List ℕ → ℕ → List Connection → ℕ → ℕ
@@ -65,7 +67,14 @@ NightsAreStands = (t : Tables) (a : List ℕ) (f : ℕ) (turns : List Connection
 -- where the period is a day, they number the need
 abbrev pub NightsAreNeed : Type 0
 NightsAreNeed = (t : Tables) (a : List ℕ) (f : ℕ) (turns : List Connection) (s : ℕ) → IsFitting t a f turns → s < stations_in t
-    → period_of t ≡ MINUTES_PER_DAY → nights_at t f turns s ≡ need_of t (weights_of a) f s
+    → days_in t ≡ 1 → nights_at t f turns s ≡ need_of t (weights_of a) f s
+
+-- the nights of a turn by days: from the day of the flight that arrives to that of the one that departs, in a later period
+-- by as many as start in the turn
+abbrev pub NightsByDays : Type 0
+NightsByDays = (t : Tables) (a : List ℕ) (f : ℕ) (turns : List Connection) (k : ℕ) → IsSuccessorMap t a f turns → k < length turns
+    → nights_in t f (turn_at turns k) + departure t (leg_on (turn_at turns k).arriving f) / MINUTES_PER_DAY
+    ≡ days_in t * periods_in_turn t f (turn_at turns k) + departs_at t f (turn_at turns k) / MINUTES_PER_DAY
 
 -- the nights of a fitting map, so of a tour, are the aircraft that the fleet uses times the days of the period
 abbrev pub NightsAreUse : Type 0
@@ -137,9 +146,9 @@ abbrev pub TourIsWhole : Type 0
 TourIsWhole = (t : Tables) (a : List ℕ) (f : ℕ) (legs : List ℕ) (inside : ℕ → Bool) → IsTour t a f legs → KeepsPart (turns_round legs) inside
     → (j k : ℕ) → j < length legs → k < length legs → inside (slice_index legs j) ≡ inside (slice_index legs k)
 
--- where as many aircraft of a fleet come to each station as leave it, some map fits
+-- where as many aircraft of a fleet come to each station as leave it, some map fits on plain tables
 abbrev pub SomeFits : Type 0
-SomeFits = (t : Tables) (a : List ℕ) (f : ℕ) → IsBalanced t (weights_of a) → f < fleets_in t → IsHeld t a f []
+SomeFits = (t : Tables) (a : List ℕ) (f : ℕ) → IsPlain t → IsBalanced t (weights_of a) → f < fleets_in t → IsHeld t a f []
 
 -- the list has those minutes at whose end none of the fleet's aircraft stands at the station
 pub record AreBareMinutes (t : Tables) (a : List ℕ) (f s : ℕ) (minutes : List ℕ) : Type 0 where
@@ -150,6 +159,6 @@ abbrev pub SegmentsTellClean : Type 0
 SegmentsTellClean = (t : Tables) (a : List ℕ) (f : ℕ) (turn : Connection) (minutes numbers : List ℕ) → AreBareMinutes t a f (station_at t turn) minutes
     → minutes_of numbers ≡ period_of t → EndAt minutes numbers → (NoneEnds numbers (ready_at t f turn) (departs_at t f turn) ↔ IsClean t a f turn)
 
--- where the next of each leg makes a turn with it and no two have the same, these turns are a successor map
+-- where the next of each leg makes a turn with it and no two have the same, these turns are a successor map on plain tables
 abbrev pub NextIsMap : Type 0
-NextIsMap = (t : Tables) (a : List ℕ) (f : ℕ) (next : ℕ → ℕ) → IsNext t a f next → IsSuccessorMap t a f (turns_by a f next (legs_in t))
+NextIsMap = (t : Tables) (a : List ℕ) (f : ℕ) (next : ℕ → ℕ) → IsPlain t → IsNext t a f next → IsSuccessorMap t a f (turns_by a f next (legs_in t))

@@ -7,6 +7,8 @@ use Rattle.fleet_model.specs.declared.tables.Tables.{Tables}
 use Rattle.fleet_model.specs.Counts.{fleet_at, weights_of}
 use Rattle.fleet_model.specs.Schedule.{leg_on, legs_in}
 use Rattle.fleet_model.specs.Use.{laps_flown, used_of}
+use Rattle.fleet_model.specs.Plain.{IsPlain}
+use Rattle.fleet_model.specs.Times.{laps_of}
 use Rattle.ground_turns.specs.Turns.{IsClean, IsTurn, crosses, station_at, waits_at}
 
 -- the turn at a place of a list
@@ -23,8 +25,9 @@ arrivals_of turns l = count_below (λ k. (turn_at turns k).arriving == l) (lengt
 abbrev pub departures_of : List Connection → ℕ → ℕ
 departures_of turns l = count_below (λ k. (turn_at turns k).departing == l) (length turns)
 
--- turns in which each of the fleet's legs arrives once and departs once
+-- on plain tables, turns in which each of the fleet's legs arrives once and departs once
 pub record IsSuccessorMap (t : Tables) (a : List ℕ) (f : ℕ) (turns : List Connection) : Type 0 where
+  pub plain : IsPlain t
   pub each : (k : ℕ) → k < length turns → IsTurn t a f (turn_at turns k)
   pub arrives : (l : ℕ) → l < legs_in t → arrivals_of turns l ≡ weights_of a (leg_on l f)
   pub departs : (l : ℕ) → l < legs_in t → departures_of turns l ≡ weights_of a (leg_on l f)
@@ -55,6 +58,10 @@ crosses_there t f turns s k = (station_at t (turn_at turns k) == s) && crosses t
 
 abbrev pub crossings_at : Tables → ℕ → List Connection → ℕ → ℕ
 crossings_at t f turns s = count_below (crosses_there t f turns s) (length turns)
+
+-- the period starts in a turn: those in the flight that arrives, and that in the wait
+abbrev pub periods_in_turn : Tables → ℕ → Connection → ℕ
+periods_in_turn t f turn = laps_of t (leg_on turn.arriving f) + (if crosses t f turn then 1 else 0)
 
 -- how many aircraft wait at a station at the end of a minute
 abbrev pub waits_there : Tables → ℕ → List Connection → ℕ → ℕ → ℕ → Bool

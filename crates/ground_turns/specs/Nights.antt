@@ -13,6 +13,10 @@ use Rattle.ground_turns.specs.declared.nights.Night.TheVariants as night
 abbrev pub nights_in_turn : Tables → ℕ → Connection → List Night
 nights_in_turn t f turn = replicate (nights_of t (leg_on turn.arriving f)) night.Aloft ++ replicate (nights_waited t f turn) (night.At (station_at t turn))
 
+-- how many they are
+abbrev pub nights_in : Tables → ℕ → Connection → ℕ
+nights_in t f turn = nights_of t (leg_on turn.arriving f) + nights_waited t f turn
+
 abbrev pub nights_in_turns : Tables → ℕ → List Connection → List Night
 nights_in_turns t f [] = []
 nights_in_turns t f (turn ∷ turns) = nights_in_turn t f turn ++ nights_in_turns t f turns

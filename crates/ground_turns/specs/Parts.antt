@@ -2,8 +2,9 @@
 use Rattle.std.specs.Prelude.{◌≡◌, ℕ, ◌<◌, Bool, IsTrue, List, length}
 use Rattle.fleet_model.specs.declared.parts.Connection.{Connection}
 use Rattle.fleet_model.specs.declared.tables.Tables.{Tables}
+use Rattle.fleet_model.specs.Schedule.{period_of}
 use Rattle.ground_turns.specs.Maps.{arrivals_of, turn_at}
-use Rattle.ground_turns.specs.Turns.{period_of, station_at, touches}
+use Rattle.ground_turns.specs.Turns.{station_at, touches}
 
 -- no turn of the map leads into the part or out of it
 pub record KeepsPart (turns : List Connection) (inside : ℕ → Bool) : Type 0 where

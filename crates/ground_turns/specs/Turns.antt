@@ -1,20 +1,13 @@
 -- Turns of a fleet's aircraft at a station: from a leg that lands there to one that departs. Minutes are those of the
 -- period, and time goes round from its last minute to its first.
 use Rattle.std.specs.Prelude.{◌≡◌, ◌≢◌, ℕ, ◌+◌, ◌-◌, ◌/◌, ◌%◌, ◌<◌, Bool, IsTrue, nat_lt, nat_le, List}
-use Rattle.fleet_model.specs.declared.limits.TheConstants.{MINUTES_PER_DAY, MINUTES_PER_PERIOD}
+use Rattle.fleet_model.specs.declared.limits.TheConstants.{MINUTES_PER_DAY}
 use Rattle.fleet_model.specs.declared.parts.Connection.{Connection}
 use Rattle.fleet_model.specs.declared.tables.Tables.{Tables}
 use Rattle.fleet_model.specs.Counts.{fleet_at, weights_of}
-use Rattle.fleet_model.specs.Schedule.{leg_of, leg_on, legs_in}
+use Rattle.fleet_model.specs.Schedule.{leg_of, leg_on, legs_in, period_of}
 use Rattle.fleet_model.specs.Times.{departure, ready_minute}
 use Rattle.fleet_model.specs.Use.{stand_of}
-
--- the minutes of the period, and its days
-abbrev pub period_of : Tables → ℕ
-period_of t = MINUTES_PER_PERIOD
-
-abbrev pub days_in : Tables → ℕ
-days_in t = period_of t / MINUTES_PER_DAY
 
 -- how many minutes after one minute another comes, going round in so many minutes
 abbrev pub minutes_round : ℕ → ℕ → ℕ → ℕ

@@ -1,6 +1,6 @@
 //! The laws of turns and successor maps. Each function is a law: its contract is the statement, and it does nothing.
-ghost use Rattle.ground_turns.specs.Laws.{ApartForAll, ExchangedFits, ExchangedHolds, FirstOutFits, FitsWhereClean, KeptHasNights, MaintainedAreStands, NextIsMap};
-ghost use Rattle.ground_turns.specs.Laws.{NightsAreNeed, NightsAreStands, NightsAreUse, PeriodsBeyondUse, ReadyFirstDepartsFirst, SegmentsTellClean, SomeFits, TourIsWhole, WaitingIsStand, WaitingLaw};
+ghost use Rattle.ground_turns.specs.Laws.{ApartForAll, ExchangedFits, ExchangedHolds, FirstOutFits, FitsWhereClean, KeptHasNights, MaintainedAreStands, NextIsMap, NightsAreNeed};
+ghost use Rattle.ground_turns.specs.Laws.{NightsAreStands, NightsAreUse, NightsByDays, PeriodsBeyondUse, ReadyFirstDepartsFirst, SegmentsTellClean, SomeFits, TourIsWhole, WaitingIsStand, WaitingLaw};
 
 /// In a successor map the aircraft that wait at a station are, at each moment, those that stand there and one number
 /// more: by which the turns that cross the period's start pass the need.
@@ -32,6 +32,12 @@ pub fn nights_are_stands()
 /// Where the period is a day, the nights of the turns at a station number its need in a fitting map.
 pub fn nights_are_need()
     ensures { NightsAreNeed }
+{}
+
+/// The nights of a turn lead from the day of the flight that arrives to that of the one that departs, in a later period by
+/// as many as start in the turn.
+pub fn nights_by_days()
+    ensures { NightsByDays }
 {}
 
 /// The nights of a fitting map, so of a tour, number the aircraft that the fleet uses times the days of the period.
@@ -85,7 +91,7 @@ pub fn tour_is_whole()
     ensures { TourIsWhole }
 {}
 
-/// Some map fits for each fleet of a balanced assignment, as each legal one is: the one that goes first in, first out.
+/// On plain tables some map fits for each fleet of a balanced assignment, as each legal one is: the one that goes first in, first out.
 pub fn some_fits()
     ensures { SomeFits }
 {}
@@ -96,8 +102,8 @@ pub fn segments_tell_clean()
     ensures { SegmentsTellClean }
 {}
 
-/// Where the next of each of the fleet's legs makes a turn with it and no two have the same, these turns are a
-/// successor map.
+/// On plain tables, where the next of each of the fleet's legs makes a turn with it and no two have the same, these turns
+/// are a successor map.
 pub fn next_is_map()
     ensures { NextIsMap }
 {}

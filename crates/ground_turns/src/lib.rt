@@ -8,4 +8,4 @@ pub mod turns;
 
 pub use nights::Night;
 pub use segments::Segments;
-pub use turns::{crosses, minutes_until, nights_waited, wait};
+pub use turns::{crosses, flight, minutes_until, nights_waited, wait};

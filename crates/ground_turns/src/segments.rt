@@ -1,11 +1,9 @@
 ghost use Rattle.std.specs.Prelude.{◌≡◌, ◌<◌, ◌≤◌, ◌+◌, ◌↔◌, ◌^◌, IfOk, IsTrue, false, length, slice_index_or, suc};
 ghost use Rattle.sums.specs.Below.{count_below};
 ghost use Rattle.sums.specs.Places.{list_below};
-ghost use Rattle.fleet_model.specs.declared.limits.TheConstants.{MINUTES_PER_PERIOD};
 ghost use Rattle.ground_turns.specs.Segments.{EndAt, NoneBetween, NoneEnds, is_among, marked_before, minutes_of};
 
 use entries::NoMemory;
-use fleet_model::limits::MINUTES_PER_PERIOD;
 use std::alloc::Global;
 use std::marker::Model;
 
@@ -29,12 +27,14 @@ impl Model for Segments {
 }
 
 impl Segments {
-    /// The segments that end with some minutes of the period.
-    pub fn new(alloc: Global, ends: &[u16]) -> Result<Segments, NoMemory>
-        ensures minutes { IfOk result (λ segments. minutes_of segments ≡ MINUTES_PER_PERIOD) }
+    /// The segments that end with some minutes of a period of so many.
+    pub fn new(alloc: Global, minutes: u16, ends: &[u16]) -> Result<Segments, NoMemory>
+        requires some { 0 < minutes }
+        requires few { minutes ≤ 20160 }
+        ensures minutes { IfOk result (λ segments. minutes_of segments ≡ minutes) }
         ensures ends { IfOk result (λ segments. EndAt ends.now segments) }
     {
-        let marks = marks(alloc, MINUTES_PER_PERIOD, ends)?;
+        let marks = marks(alloc, minutes, ends)?;
         let numbers = numbers(alloc, &marks)?;
         Ok(Segments { numbers })
     }

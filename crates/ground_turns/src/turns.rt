@@ -1,9 +1,19 @@
 ghost use Rattle.std.specs.Prelude.{◌≡◌, ◌<◌, ◌≤◌, ◌^◌};
-ghost use Rattle.fleet_model.specs.Schedule.{fleets_in, legs_in};
-ghost use Rattle.ground_turns.specs.Turns.{crosses, days_in, minutes_round, nights_waited, period_of, wait_of};
+ghost use Rattle.fleet_model.specs.Schedule.{IsPair, days_in, fleets_in, leg_on, legs_in, period_of};
+ghost use Rattle.ground_turns.specs.Turns.{crosses, minutes_round, nights_waited, wait_of};
 
-use fleet_model::limits::{MINUTES_PER_DAY, MINUTES_PER_PERIOD};
-use fleet_model::{Connection, Tables, ready};
+use fleet_model::limits::MINUTES_PER_DAY;
+use fleet_model::{Connection, Pair, Tables};
+
+/// A leg with the choice that has a fleet's number, by which the fleet flies it on plain tables. Takes no memory.
+pub fn flight(tables: &Tables, leg: u32, fleet: u32) -> Pair
+    requires leg { leg < legs_in tables.now }
+    requires fleet { fleet < fleets_in tables.now }
+    ensures value { result ≡ leg_on leg fleet }
+    ensures pair { IsPair tables.now result }
+{
+    Pair { leg, choice: fleet }
+}
 
 /// How many minutes after one minute another comes, going round in a period of so many. Takes no memory.
 pub fn minutes_until(period: u16, from: u16, to: u16) -> u16
@@ -24,8 +34,9 @@ pub fn wait(tables: &Tables, fleet: u32, turn: Connection) -> u16
     ensures value { result ≡ wait_of tables.now fleet turn }
     ensures within { result < period_of tables.now }
 {
-    let ready = ready(tables, turn.arriving, fleet);
-    minutes_until(MINUTES_PER_PERIOD, ready, tables.leg(turn.departing).dep)
+    let ready = tables.ready(flight(tables, turn.arriving, fleet));
+    let departure = tables.departure(flight(tables, turn.departing, fleet));
+    minutes_until(tables.period(), ready, departure)
 }
 
 /// Whether a fleet's turn crosses the period's start. Takes no memory.
@@ -35,7 +46,8 @@ pub fn crosses(tables: &Tables, fleet: u32, turn: Connection) -> bool
     requires departing { turn.departing < legs_in tables.now }
     ensures { result ≡ crosses tables.now fleet turn }
 {
-    tables.leg(turn.departing).dep < ready(tables, turn.arriving, fleet)
+    let ready = tables.ready(flight(tables, turn.arriving, fleet));
+    tables.departure(flight(tables, turn.departing, fleet)) < ready
 }
 
 /// The nights that an aircraft of a fleet waits in a turn: the day starts in its wait. Takes no memory.
@@ -45,8 +57,9 @@ pub fn nights_waited(tables: &Tables, fleet: u32, turn: Connection) -> u32
     requires departing { turn.departing < legs_in tables.now }
     ensures value { result ≡ nights_waited tables.now fleet turn }
     ensures few { result ≤ days_in tables.now }
+    ensures week { result ≤ 7 }
 {
-    let ready = ready(tables, turn.arriving, fleet);
+    let ready = tables.ready(flight(tables, turn.arriving, fleet));
     let wait = wait(tables, fleet, turn);
     u32::from((ready + wait) / MINUTES_PER_DAY - ready / MINUTES_PER_DAY)
 }

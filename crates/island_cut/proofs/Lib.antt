@@ -8,6 +8,7 @@ pub mod Listed
 pub mod NonePairs
 pub mod Passing
 pub mod QuickestFleets
+pub mod QuietMinutes
 pub mod Raised
 pub mod SameUse
 pub mod Slower

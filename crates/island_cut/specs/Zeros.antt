@@ -1,9 +1,11 @@
 -- The minutes at whose end no aircraft of a fleet stands at a station.
-use Rattle.std.specs.Prelude.{ℕ, Bool, ◌==◌, List, filter}
+use Rattle.std.specs.Prelude.{ℕ, suc, ◌≡◌, ◌<◌, ◌≤◌, Bool, not, ◌==◌, ◌&&◌, if◌then◌else◌, List, filter}
 use Rattle.sums.specs.Places.{list_below}
-use Rattle.fleet_model.specs.declared.limits.TheConstants.{MINUTES_PER_PERIOD}
+use Rattle.fleet_model.specs.declared.parts.Pair.{Pair}
 use Rattle.fleet_model.specs.declared.tables.Tables.{Tables}
 use Rattle.fleet_model.specs.Counts.{Weights}
+use Rattle.fleet_model.specs.Schedule.{leg_of, pair_on, period_of}
+use Rattle.fleet_model.specs.Times.{departure, ready_minute}
 use Rattle.fleet_model.specs.Use.{stand_of}
 
 -- none stands there at the end of the minute
@@ -16,4 +18,25 @@ zeros_below t w f s n = filter (none_stands t w f s) (list_below (λ m. m) n)
 
 -- those of the period
 abbrev pub zeros_of : Tables → Weights → ℕ → ℕ → List ℕ
-zeros_of t w f s = zeros_below t w f s MINUTES_PER_PERIOD
+zeros_of t w f s = zeros_below t w f s (period_of t)
+
+-- the minute in which a pair's aircraft becomes ready at the station, and that in which it departs from there; the end of the
+-- period where it doesn't
+abbrev pub comes_in : Tables → Weights → ℕ → Pair → ℕ
+comes_in t w s p = if ((leg_of t p.leg).to == s) && not (w p == 0) then ready_minute t p else period_of t
+
+abbrev pub leaves_in : Tables → Weights → ℕ → Pair → ℕ
+leaves_in t w s p = if ((leg_of t p.leg).from == s) && not (w p == 0) then departure t p else period_of t
+
+-- a pair neither comes nor leaves after one minute and before another
+pub record MovesOutside (t : Tables) (w : Weights) (s minute next : ℕ) (p : Pair) : Type 0 where
+  pub comes : minute < comes_in t w s p → next ≤ comes_in t w s p
+  pub leaves : minute < leaves_in t w s p → next ≤ leaves_in t w s p
+
+-- so do the fleet's first departures
+pub record MoveOutside (t : Tables) (w : Weights) (f s minute next n : ℕ) : Type 0 where
+  pub each : (d : ℕ) → d < n → MovesOutside t w s minute next (pair_on t d f)
+
+-- until then it stays as it is whether one stands there
+pub record StaysSo (t : Tables) (w : Weights) (f s minute next : ℕ) : Type 0 where
+  pub each : (m : ℕ) → minute ≤ m → suc m < next → none_stands t w f s (suc m) ≡ none_stands t w f s m

@@ -72,7 +72,7 @@ module _ (t : Tables) (a : List ℕ) (f : ℕ) (given : List Connection) (held :
 
   pub are_successors : AreSuccessors t a f given turns
   are_successors = record {
-    fitting = first_out_fits t a f given turns held (is_map t a f (next t a f given) (is_next t a f given held)) holds first_out;
+    fitting = first_out_fits t a f given turns held (is_map t a f (next t a f given) held.fitting.map.plain (is_next t a f given held)) holds first_out;
     holds = holds;
     first_out = first_out;
     order = order;

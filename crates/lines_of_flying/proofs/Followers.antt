@@ -12,11 +12,11 @@ use Rattle.sums.proofs.Naturals.{none_is_some, some_above, zero_number}
 use Rattle.fleet_model.specs.declared.parts.Connection.{Connection}
 use Rattle.fleet_model.specs.declared.tables.Tables.{Tables}
 use Rattle.fleet_model.specs.Counts.{fleet_at}
-use Rattle.fleet_model.specs.Schedule.{leg_of, leg_on, legs_in}
+use Rattle.fleet_model.specs.Schedule.{leg_of, leg_on, legs_in, period_of}
 use Rattle.fleet_model.specs.Times.{departure}
 use Rattle.ground_turns.specs.FirstOut.{departure_place, free_departed, free_excess, free_landings, free_need, is_free_departure, is_free_landing, landing_place}
 use Rattle.ground_turns.specs.Maps.{IsNext, HasTurn, IsHeld, IsSuccessorMap, arrivals_of, departures_of, turn_at}
-use Rattle.ground_turns.specs.Turns.{IsTurn, period_of}
+use Rattle.ground_turns.specs.Turns.{IsTurn}
 use Rattle.ground_turns.proofs.FleetTurns.{pick, picked}
 use Rattle.ground_turns.proofs.FreeTurns.{all_there, by_arriving, by_departing, there, there_is}
 use Rattle.ground_turns.proofs.Places.{departure_is, departure_key, departures_differ, landing_is, landing_key, landings_differ}

@@ -1,15 +1,29 @@
--- The lines of a tour that begins after a night, one after another, are the tour.
-use Rattle.std.proofs.Common.{◌≡◌, ℕ, zero, suc, ◌+◌, ◌-◌, ◌<◌, ◌≤◌, List, [], ◌∷◌, ◌++◌, length, slice_index, take, refl, sym, ◌∙◌, ap, add-one, append_assoc, arith, take_all}
+-- The lines of a tour that begins after a period's start, one after another, are the tour.
+use Rattle.std.proofs.Common.{◌≡◌, ◌+◌, ◌-◌, ◌<◌, ◌≤◌, [], ◌∷◌, ◌++◌, ◌∙◌, ◌*◌, ◌/◌, ◌%◌, List, ℕ, add-one, ap, append_assoc, arith, length, refl, slice_index, subst, suc, sym, take, take_all, zero}
 use Rattle.std.specs.List.{concat}
 use Rattle.std.proofs.Math.Seq.{take-suc}
 use Rattle.std.proofs.lemmas.List.{append-nil}
 use Rattle.std.proofs.lemmas.List.Folds.{concat-append}
+use Rattle.std.proofs.lemmas.Nat.{mod-mul-add}
+use Rattle.std.proofs.Math.Nat.{mul-le-mul_left}
 use Rattle.sums.specs.Places.{list_below}
-use Rattle.sums.proofs.Places.{list_below-agree, list_below-more}
+use Rattle.sums.proofs.Places.{get_or-list_below, length-list_below, list_below-agree, list_below-more}
 use Rattle.sums.proofs.SumBounds.{sum_below-le}
+use Rattle.sums.specs.Below.{sum_below}
 use Rattle.fleet_model.specs.declared.tables.Tables.{Tables}
-use Rattle.lines_of_flying.specs.Lines.{BeginsAfterNight, day_of, lines_of, nights_after}
-use Rattle.lines_of_flying.proofs.TourLines.{first_on, its_day, later_day, other_early_day}
+use Rattle.fleet_model.specs.declared.parts.Connection.{Connection}
+use Rattle.fleet_model.specs.declared.limits.TheConstants.{MINUTES_PER_DAY}
+use Rattle.fleet_model.specs.Schedule.{days_in, leg_on, period_of}
+use Rattle.fleet_model.specs.Times.{departure}
+use Rattle.fleet_model.proofs.PeriodMinutes.{days_are_period}
+use Rattle.fleet_model.proofs.PlainTables.{plain_departs}
+use Rattle.lines_of_flying.specs.Lines.{BeginsAfterStart, day_of, days_of_tour, first_day, lines_of, nights_after, periods_after}
+use Rattle.lines_of_flying.proofs.TourLines.{first_on, its_day, known_legs, later_day, other_early_day}
+use Rattle.ground_turns.specs.Maps.{IsTour, no_turn, periods_in_turn, turn_after, turn_at, turns_round}
+use Rattle.ground_turns.specs.Nights.{nights_in}
+use Rattle.ground_turns.specs.Turns.{departs_at}
+use Rattle.ground_turns.proofs.TourNights.{nights_by_days}
+use Rattle.ground_turns.proofs.Waits.{departs_within}
 
 -- one list more
 joined_more : (f : ℕ → List ℕ) (n : ℕ) → concat (list_below f (suc n)) ≡ concat (list_below f n) ++ f n
@@ -25,6 +39,27 @@ joined_all f n (suc more) none =
     ap (λ k. concat (list_below f k)) next ∙ joined_more f (n + more)
     ∙ ap (λ xs. concat (list_below f (n + more)) ++ xs) (none (n + more) (omega arith))
     ∙ append-nil (concat (list_below f (n + more))) ∙ joined_all f n more none
+
+-- what the law of nights by days says of a turn
+abbrev TurnByDays : Tables → ℕ → Connection → Type 0
+TurnByDays t f turn = nights_in t f turn + departure t (leg_on turn.arriving f) / MINUTES_PER_DAY ≡ days_in t * periods_in_turn t f turn + departs_at t f turn / MINUTES_PER_DAY
+
+early_enough : (nights dep next first days minutes periods : ℕ) → nights + dep / MINUTES_PER_DAY ≡ days * periods + next / MINUTES_PER_DAY → next ≡ first
+    → minutes ≡ days * MINUTES_PER_DAY → dep < minutes → 0 < periods → first / MINUTES_PER_DAY < nights
+early_enough nights dep next first days minutes periods law same whole within some =
+    let low : dep / MINUTES_PER_DAY < days = omega (arith, whole, within) in
+    let rows : days * 1 ≤ days * periods = mul-le-mul_left days some in
+    let day : next / MINUTES_PER_DAY ≡ first / MINUTES_PER_DAY = ap (λ n. n / MINUTES_PER_DAY) same in
+    omega (arith, law, low, rows, day)
+
+all_but_one : (n : ℕ) → 0 < n → suc (n - 1) ≡ n
+all_but_one n some = omega arith
+
+none_left : (n : ℕ) → 0 < n → n % n ≡ 0
+none_left n some = ap (λ k. k % n) (once n) ∙ mod-mul-add 1 n 0 some
+  where
+    once : (n : ℕ) → n ≡ 1 * n + 0
+    once n = omega arith
 
 module _ (t : Tables) (f : ℕ) (tour : List ℕ) where
   none_first : (d : ℕ) → first_on t f tour 0 d ≡ []
@@ -51,12 +86,27 @@ module _ (t : Tables) (f : ℕ) (tour : List ℕ) where
       ∙ ap (λ xs. xs ++ slice_index tour n ∷ []) (sym (joined_more (first_on t f tour n) today) ∙ earlier)
       ∙ sym (take-suc tour n 0 (omega arith))
 
-  pub lines_are_tour : BeginsAfterNight t f tour → 0 < length tour → concat (lines_of t f tour) ≡ tour
+  -- more nights lie before a first leg that a period's start lies before than days before it in its period
+  first_day_early : (a : List ℕ) → IsTour t a f tour → BeginsAfterStart t f tour → first_day t f tour < nights_after t f tour (length tour - 1)
+  unfolding nights_after periods_after
+  first_day_early a is begins =
+      let last = length tour - 1 in
+      let within : last < length (turns_round tour) = rw (length-list_below (turn_after tour) (length tour)) (omega (arith, is.some)) in
+      let there : turn_at (turns_round tour) last ≡ turn_after tour last = get_or-list_below (turn_after tour) (length tour) last no_turn (omega (arith, is.some)) in
+      let law = subst (TurnByDays t f) there (nights_by_days t a f (turns_round tour) last is.fitting.map within) in
+      let round : suc last % length tour ≡ 0 = ap (λ n. n % length tour) (all_but_one (length tour) is.some) ∙ none_left (length tour) is.some in
+      let first : departs_at t f (turn_after tour last) ≡ departure t (leg_on (slice_index tour 0) f) = ap (λ n. departure t (leg_on (slice_index tour n) f)) round in
+      let first_within = subst (λ d. d < period_of t) first (subst (λ turn. departs_at t f turn < period_of t) there (departs_within t a f (turns_round tour) is.fitting.map last within)) in
+      let arrives : departure t (leg_on (slice_index tour last) f) < period_of t = plain_departs t (slice_index tour last) f is.fitting.map.plain ((known_legs t a f tour is).each last (omega (arith, is.some))) in
+      early_enough (nights_in t f (turn_after tour last)) (departure t (leg_on (slice_index tour last) f)) (departs_at t f (turn_after tour last)) (departure t (leg_on (slice_index tour 0) f))
+      (days_in t) (period_of t) (periods_in_turn t f (turn_after tour last)) law first (days_are_period t) arrives begins.before
+
+  pub lines_are_tour : (a : List ℕ) → IsTour t a f tour → BeginsAfterStart t f tour → concat (lines_of t f tour) ≡ tour
   unfolding first_on
-  lines_are_tour begins some =
-      let last : suc (length tour - 1) ≡ length tour = omega arith in
-      let more = ap (day_of t f tour) last in
-      let night = begins.before in
-      first_legs (length tour) (day_of t f tour (length tour)) (omega arith)
-      (λ k below. omega (arith, sum_below-le (nights_after t f tour) k (length tour - 1) (omega arith), more, night))
+  lines_are_tour a is begins =
+      let last : suc (length tour - 1) ≡ length tour = omega (arith, is.some) in
+      let more = ap (sum_below (nights_after t f tour)) last in
+      let early = first_day_early a is begins in
+      first_legs (length tour) (days_of_tour t f tour) (omega arith)
+      (λ k below. omega (arith, sum_below-le (nights_after t f tour) k (length tour - 1) (omega arith), more, early))
       ∙ take_all (length tour) tour (omega arith)

@@ -5,8 +5,7 @@ ghost use Rattle.fleet_model.specs.Times.{ready_minute};
 ghost use Rattle.ground_turns.specs.FirstOut.{is_before};
 ghost use Rattle.lines_of_flying.specs.Grounds.{IsGround, comes_before, departs_free, lands_free, landings_at, place_of_departure, place_of_landing};
 
-use crate::ground::Ground;
-use fleet_model::ready;
+use crate::ground::{Ground, departure, ready};
 
 /// Whether a leg of the fleet lands at a station, and no given pair says what follows.
 pub(crate) fn lands_free(ground: &Ground<'_>, station: u32, leg: u32) -> bool
@@ -62,8 +61,7 @@ fn lands_before(ground: &Ground<'_>, leg: u32, minute: u16, other: u32) -> bool
     ensures { result ≡ comes_before ground.now leg other }
 {
     let station = ground.tables.leg(leg).to;
-    let ready = ready(ground.tables, other, ground.fleet);
-    lands_free(ground, station, other) && is_before(ready, other, minute, leg)
+    lands_free(ground, station, other) && is_before(ready(ground, other), other, minute, leg)
 }
 
 /// How many free landings come before that of a leg where it lands, by ready minute and leg.
@@ -74,7 +72,7 @@ pub(crate) fn landing_place(ground: &Ground<'_>, leg: u32) -> u32
     ensures value { result ≡ place_of_landing ground.now leg }
     ensures few { result ≤ legs_in ground.now.tables.now }
 {
-    let minute = ready(ground.tables, leg, ground.fleet);
+    let minute = ready(ground, leg);
     let mut count = 0;
     for other in 0..ground.tables.leg_count() {
         if lands_before(ground, leg, minute, other) {
@@ -92,11 +90,12 @@ pub(crate) fn departure_place(ground: &Ground<'_>, leg: u32) -> u32
     ensures value { result ≡ place_of_departure ground.now leg }
     ensures few { result ≤ legs_in ground.now.tables.now }
 {
-    let flown = ground.tables.leg(leg);
+    let station = ground.tables.leg(leg).from;
+    let minute = departure(ground, leg);
     let mut count = 0;
     for other in 0..ground.tables.leg_count() {
-        if departs_free(ground, flown.from, other)
-            && is_before(ground.tables.leg(other).dep, other, flown.dep, leg)
+        if departs_free(ground, station, other)
+            && is_before(departure(ground, other), other, minute, leg)
         {
             count += 1;
         }

@@ -1,12 +1,14 @@
 //! What is known of a fleet's aircraft on the ground beside given pairs.
 ghost use Rattle.std.specs.Prelude.{◌≡◌, ◌<◌, ◌≤◌, IfOk};
 ghost use Rattle.fleet_model.specs.Legal.{IsAssignment};
-ghost use Rattle.fleet_model.specs.Schedule.{fleets_in};
+ghost use Rattle.fleet_model.specs.Schedule.{fleets_in, leg_on, legs_in};
+ghost use Rattle.fleet_model.specs.Times.{departure, ready_minute};
 ghost use Rattle.ground_turns.specs.Maps.{arrivals_of, departures_of};
 ghost use Rattle.lines_of_flying.specs.Grounds.{AreMarks, IsGround};
 
 use entries::NoMemory;
 use fleet_model::{Assignment, Connection, Tables};
+use ground_turns::flight;
 use std::alloc::Global;
 
 /// A fleet by an assignment, given pairs, and which legs none of them has.
@@ -49,6 +51,28 @@ pub(crate) fn ground_of<'a>(
         lands,
         departs,
     })
+}
+
+/// The minute at which the fleet's aircraft can depart again after a leg.
+pub(crate) fn ready(ground: &Ground<'_>, leg: u32) -> u16
+    requires ground { IsGround ground.now }
+    requires leg { leg < legs_in ground.now.tables.now }
+    ensures { result ≡ ready_minute ground.now.tables.now (leg_on leg ground.now.fleet) }
+{
+    ground
+        .tables
+        .ready(flight(ground.tables, leg, ground.fleet))
+}
+
+/// The minute at which the fleet departs on a leg.
+pub(crate) fn departure(ground: &Ground<'_>, leg: u32) -> u16
+    requires ground { IsGround ground.now }
+    requires leg { leg < legs_in ground.now.tables.now }
+    ensures { result ≡ departure ground.now.tables.now (leg_on leg ground.now.fleet) }
+{
+    ground
+        .tables
+        .departure(flight(ground.tables, leg, ground.fleet))
 }
 
 // By leg, whether no given pair says what follows it.

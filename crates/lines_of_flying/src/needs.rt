@@ -4,8 +4,7 @@ ghost use Rattle.fleet_model.specs.Schedule.{legs_in};
 ghost use Rattle.lines_of_flying.specs.Grounds.{IsGround, departed_by, landed_by, need_at};
 
 use crate::free::{departs_free, lands_free};
-use crate::ground::Ground;
-use fleet_model::ready;
+use crate::ground::{Ground, departure, ready};
 
 /// The aircraft that must be at a station at the period's start, so that none of its free departures ever lacks one.
 ///
@@ -19,7 +18,7 @@ pub(crate) fn need(ground: &Ground<'_>, station: u32) -> u32
     let mut most = 0;
     for leg in 0..ground.tables.leg_count() {
         if departs_free(ground, station, leg) {
-            most = most.max(excess(ground, station, ground.tables.leg(leg).dep));
+            most = most.max(excess(ground, station, departure(ground, leg)));
         }
     }
     most
@@ -43,7 +42,7 @@ fn departed(ground: &Ground<'_>, station: u32, minute: u16) -> u32
 {
     let mut count = 0;
     for leg in 0..ground.tables.leg_count() {
-        if departs_free(ground, station, leg) && ground.tables.leg(leg).dep <= minute {
+        if departs_free(ground, station, leg) && departure(ground, leg) <= minute {
             count += 1;
         }
     }
@@ -59,7 +58,7 @@ fn landed(ground: &Ground<'_>, station: u32, minute: u16) -> u32
 {
     let mut count = 0;
     for leg in 0..ground.tables.leg_count() {
-        if lands_free(ground, station, leg) && ready(ground.tables, leg, ground.fleet) <= minute {
+        if lands_free(ground, station, leg) && ready(ground, leg) <= minute {
             count += 1;
         }
     }

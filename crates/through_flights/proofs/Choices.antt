@@ -10,6 +10,7 @@ use Rattle.fleet_model.specs.declared.tables.Tables.{Tables}
 use Rattle.fleet_model.specs.Counts.{weights_of}
 use Rattle.fleet_model.specs.Schedule.{fleets_in, legs_in}
 use Rattle.fleet_model.specs.Use.{IsBalanced}
+use Rattle.fleet_model.specs.Plain.{IsPlain}
 use Rattle.ground_turns.specs.Maps.{AreClean, HasTurn, IsHeld, turn_at}
 use Rattle.ground_turns.specs.Throughs.{IsThroughSet, IsThroughTurn, value_of, value_of_set}
 use Rattle.ground_turns.proofs.Fits.{fits_where_clean}
@@ -28,14 +29,15 @@ fails_at_most : (a b : ℕ) → nat_lt a b ≡ false → b - a ≡ 0
 fails_at_most a b e = grind (arith, nat_tests)
 
 -- the matched legs go on in clean turns
-pub matched_followers : (t : Tables) (a : List ℕ) (f : ℕ) (worths : List (List ℕ)) (rows columns next : ℕ → ℕ) → IsBalanced t (weights_of a) → f < fleets_in t
+pub matched_followers : (t : Tables) (a : List ℕ) (f : ℕ) (worths : List (List ℕ)) (rows columns next : ℕ → ℕ) → IsPlain t → IsBalanced t (weights_of a) → f < fleets_in t
     → AreTurnWorths t a f worths → IsOneToOne next (length worths) → AreDuals worths rows columns → AreTight worths rows columns next (length worths) → AreFollowers t a f next
-matched_followers t a f worths rows columns next balanced f_lt w one duals tight =
-    let held : IsHeld t a f [] = some_fits t a f balanced f_lt in
+matched_followers t a f worths rows columns next plain balanced f_lt w one duals tight =
+    let held : IsHeld t a f [] = some_fits t a f plain balanced f_lt in
     let clean : AreClean t a f held.turns = (fits_where_clean t a f held.turns held.fitting.map).0 held.fitting in
     let known = are_followers t a f held.turns held.fitting.map clean in
     let here : IsOneToOne next (legs_in t) = subst (IsOneToOne next) w.size one in
     record {
+      plain = plain;
       one_to_one = here;
       each = λ l lt. goes_on t a f _ l (next l) (w.each l (next l) lt (here.within l lt)) (all_clean t a f worths rows columns next (follower t a f held.turns) w one duals tight known l lt);
     }

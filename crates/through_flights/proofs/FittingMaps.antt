@@ -20,7 +20,7 @@ module _ (t : Tables) (a : List ℕ) (f : ℕ) (next : ℕ → ℕ) (known : Are
 
   map : IsSuccessorMap t a f turns
   unfolding turns
-  map = next_is_map t a f next (record {
+  map = next_is_map t a f next known.plain (record {
     turn = λ l lt own. ((known.each l lt).own own).turn;
     once = λ l k l_lt k_lt _ _ same. known.one_to_one.distinct l k l_lt k_lt same;
   })

@@ -9,6 +9,7 @@ use Rattle.fleet_model.specs.declared.parts.Connection.{Connection}
 use Rattle.fleet_model.specs.declared.tables.Tables.{Tables}
 use Rattle.fleet_model.specs.Counts.{fleet_at}
 use Rattle.fleet_model.specs.Schedule.{legs_in}
+use Rattle.fleet_model.specs.Plain.{IsPlain}
 use Rattle.ground_turns.specs.Maps.{AreClean, IsSuccessorMap, arrivals_of, departures_of, turn_at}
 use Rattle.ground_turns.proofs.FleetTurns.{pick, picked}
 use Rattle.ground_turns.proofs.Totals.{some_counted}
@@ -19,8 +20,9 @@ pub record GoesOn (t : Tables) (a : List ℕ) (f leg next : ℕ) : Type 0 where
   pub own : fleet_at a leg ≡ f → IsCleanTurn t a f (pair_of leg next)
   pub other : fleet_at a leg ≢ f → leg ≡ next
 
--- each leg goes on, no two with one leg
+-- on plain tables each leg goes on, no two with one leg
 pub record AreFollowers (t : Tables) (a : List ℕ) (f : ℕ) (next : ℕ → ℕ) : Type 0 where
+  pub plain : IsPlain t
   pub one_to_one : IsOneToOne next (legs_in t)
   pub each : (leg : ℕ) → leg < legs_in t → GoesOn t a f leg (next leg)
 
@@ -103,4 +105,4 @@ module _ (t : Tables) (a : List ℕ) (f : ℕ) (turns : List Connection) where
     ]
 
     pub are_followers : AreFollowers t a f follower
-    are_followers = record { one_to_one = record { within = within; distinct = follows_once }; each = goes_on }
+    are_followers = record { plain = map.plain; one_to_one = record { within = within; distinct = follows_once }; each = goes_on }

@@ -6,6 +6,7 @@ ghost use Rattle.best_matching.specs.Worths.{worth_at};
 ghost use Rattle.fleet_model.specs.declared.limits.TheConstants.{MAX_LEGS};
 ghost use Rattle.fleet_model.specs.Legal.{IsLegal};
 ghost use Rattle.fleet_model.specs.Schedule.{fleets_in, legs_in};
+ghost use Rattle.fleet_model.specs.Plain.{IsPlain};
 ghost use Rattle.ground_turns.specs.Throughs.{IsThroughSet, value_of_set};
 ghost use Rattle.through_flights.specs.Choice.{AreListed, ReachTurns, sum_of, turns_below};
 ghost use Rattle.through_flights.specs.Chosen.{chosen_value, is_chosen, own_number};
@@ -33,7 +34,7 @@ pub struct Throughs {
 }
 
 /// Through pairs of a fleet of greatest value in sum, with no leg twice in one role, such that some fitting map of the
-/// fleet holds them all. Pairs of value 0 are left out. At each clean turn `u` of the leg that arrives and `v` of the
+/// fleet holds them all, on plain tables. Pairs of value 0 are left out. At each clean turn `u` of the leg that arrives and `v` of the
 /// one that departs sum to at least the pair's value, and both lists together to what the chosen pairs are worth.
 pub fn choose(
     alloc: Global,
@@ -41,6 +42,7 @@ pub fn choose(
     plan: &Assignment,
     fleet: u32,
 ) -> Result<Throughs, NoMemory>
+    requires plain { IsPlain tables.now }
     requires plan { IsLegal tables.now plan.now }
     requires fleet { fleet < fleets_in tables.now }
     ensures through_set { IfOk result (λ chosen. IsThroughSet tables.now plan.now fleet chosen.pairs) }

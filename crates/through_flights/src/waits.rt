@@ -1,7 +1,6 @@
 //! How long the aircraft of each landing can wait in a clean turn.
-ghost use Rattle.std.specs.Prelude.{◌≡◌, ◌<◌, ◌≤◌, ℕ, length, slice_index, All, IfOk};
+ghost use Rattle.std.specs.Prelude.{◌≡◌, ◌<◌, ◌≤◌, ◌^◌, ℕ, length, slice_index, All, IfOk};
 ghost use Rattle.sums.specs.Places.{list_below};
-ghost use Rattle.fleet_model.specs.declared.limits.TheConstants.{MINUTES_PER_PERIOD};
 ghost use Rattle.fleet_model.specs.Counts.{weights_of};
 ghost use Rattle.fleet_model.specs.Legal.{IsAssignment};
 ghost use Rattle.fleet_model.specs.Schedule.{fleets_in, legs_in, stations_in};
@@ -10,9 +9,8 @@ ghost use Rattle.island_cut.specs.Zeros.{zeros_of};
 ghost use Rattle.through_flights.specs.Waits.{AreLongestWaits, IsLongestWait};
 
 use entries::{Entries, NoMemory};
-use fleet_model::limits::MINUTES_PER_PERIOD;
-use fleet_model::{Assignment, Tables, ready};
-use ground_turns::minutes_until;
+use fleet_model::{Assignment, Tables};
+use ground_turns::{flight, minutes_until};
 use island_cut::zero_minutes;
 use std::alloc::Global;
 
@@ -28,10 +26,12 @@ pub fn longest_waits(
     ensures { IfOk result (AreLongestWaits tables.now plan.now fleet) }
 {
     let zeros = all_zero_minutes(alloc, tables, plan, fleet)?;
+    let period = tables.period();
     let mut longest = Vec::new(alloc);
     for leg in 0..tables.leg_count() {
         let station = tables.leg(leg).to as usize;
-        longest.push(longest_wait(ready(tables, leg, fleet), zeros[station].as_slice()))?;
+        let ready = tables.ready(flight(tables, leg, fleet));
+        longest.push(longest_wait(period, ready, zeros[station].as_slice()))?;
     }
     Ok(Entries::from_vec(longest))
 }
@@ -54,16 +54,18 @@ fn all_zero_minutes(
     Ok(all)
 }
 
-/// The longest wait from a ready minute that ends before the end of the first of some minutes, going round.
-fn longest_wait(ready: u16, zeros: &[u16]) -> u16
-    requires ready { ready < MINUTES_PER_PERIOD }
-    requires zeros { All (λ zero. zero < MINUTES_PER_PERIOD) zeros.now }
-    ensures no_more { (k : ℕ) → k < length zeros.now → result ≤ minutes_round MINUTES_PER_PERIOD ready (slice_index zeros.now k) }
-    ensures all { (wait : ℕ) → wait < MINUTES_PER_PERIOD → ((k : ℕ) → k < length zeros.now → wait ≤ minutes_round MINUTES_PER_PERIOD ready (slice_index zeros.now k)) → wait ≤ result }
+/// The longest wait from a ready minute that ends before the end of the first of some minutes, going round in a period of
+/// so many.
+fn longest_wait(period: u16, ready: u16, zeros: &[u16]) -> u16
+    requires period { period ≤ 2 ^ 15 }
+    requires ready { ready < period }
+    requires zeros { All (λ zero. zero < period) zeros.now }
+    ensures no_more { (k : ℕ) → k < length zeros.now → result ≤ minutes_round period ready (slice_index zeros.now k) }
+    ensures all { (wait : ℕ) → wait < period → ((k : ℕ) → k < length zeros.now → wait ≤ minutes_round period ready (slice_index zeros.now k)) → wait ≤ result }
 {
-    let mut longest = MINUTES_PER_PERIOD - 1;
+    let mut longest = period - 1;
     for zero in zeros {
-        let until = minutes_until(MINUTES_PER_PERIOD, ready, *zero);
+        let until = minutes_until(period, ready, *zero);
         if until < longest {
             longest = until;
         }

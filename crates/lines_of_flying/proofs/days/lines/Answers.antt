@@ -13,4 +13,4 @@ returns-clause-days c =
 
 pub returns-clause-whole : goal.returns-clause-whole
 returns-clause-whole c =
-    ap concat (c.from_vec.ensures ∙ c.in_ok-cut.ensures) ∙ lines_are_tour c.args.tables.now c.args.fleet c.args.tour.now c.requires.begins c.requires.tour.some
+    ap concat (c.from_vec.ensures ∙ c.in_ok-cut.ensures) ∙ lines_are_tour c.args.tables.now c.args.fleet c.args.tour.now c.args.plan.now c.requires.tour c.requires.begins

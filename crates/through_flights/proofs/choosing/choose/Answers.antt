@@ -19,13 +19,13 @@ pub returns-clause-through_set : goal.returns-clause-through_set
 returns-clause-through_set c =
     let m = c.in_ok-matching.ensures in
     let w = worths_of c.args.tables.now c.args.plan.now c.args.fleet _ _ c.as_slice-worths.ensures.value c.in_ok-table.ensures in
-    through_set _ _ _ _ _ w (matched_followers _ _ _ _ _ _ _ c.requires.plan.balanced c.requires.fleet w m.one_to_one m.reach m.meet) _ _ w.size c.in_ok-chosen_pairs.ensures
+    through_set _ _ _ _ _ w (matched_followers _ _ _ _ _ _ _ c.requires.plain c.requires.plan.balanced c.requires.fleet w m.one_to_one m.reach m.meet) _ _ w.size c.in_ok-chosen_pairs.ensures
 
 pub returns-clause-listed : goal.returns-clause-listed
 returns-clause-listed c =
     let m = c.in_ok-matching.ensures in
     let w = worths_of c.args.tables.now c.args.plan.now c.args.fleet _ _ c.as_slice-worths.ensures.value c.in_ok-table.ensures in
-    are_listed _ _ _ _ _ w (matched_followers _ _ _ _ _ _ _ c.requires.plan.balanced c.requires.fleet w m.one_to_one m.reach m.meet) _ _ w.size c.in_ok-chosen_pairs.ensures
+    are_listed _ _ _ _ _ w (matched_followers _ _ _ _ _ _ _ c.requires.plain c.requires.plan.balanced c.requires.fleet w m.one_to_one m.reach m.meet) _ _ w.size c.in_ok-chosen_pairs.ensures
 
 pub returns-clause-value : goal.returns-clause-value
 returns-clause-value c =
@@ -33,7 +33,7 @@ returns-clause-value c =
     let w = worths_of c.args.tables.now c.args.plan.now c.args.fleet _ _ c.as_slice-worths.ensures.value c.in_ok-table.ensures in
     let fits : SFits w128 c.chosen_value.result = search rules in
     to_z-of_z w128 c.chosen_value.result fits
-    ∙ set_value _ _ _ _ _ w (matched_followers _ _ _ _ _ _ _ c.requires.plan.balanced c.requires.fleet w m.one_to_one m.reach m.meet) _ _ _ w.size c.in_ok-chosen_pairs.ensures c.chosen_value.ensures
+    ∙ set_value _ _ _ _ _ w (matched_followers _ _ _ _ _ _ _ c.requires.plain c.requires.plan.balanced c.requires.fleet w m.one_to_one m.reach m.meet) _ _ _ w.size c.in_ok-chosen_pairs.ensures c.chosen_value.ensures
 
 pub returns-clause-reach : goal.returns-clause-reach
 returns-clause-reach c =
@@ -46,7 +46,7 @@ pub returns-clause-sums : goal.returns-clause-sums
 returns-clause-sums c =
     let m = c.in_ok-matching.ensures in
     let w = worths_of c.args.tables.now c.args.plan.now c.args.fleet _ _ c.as_slice-worths.ensures.value c.in_ok-table.ensures in
-    let known = matched_followers _ _ _ _ _ _ _ c.requires.plan.balanced c.requires.fleet w m.one_to_one m.reach m.meet in
+    let known = matched_followers _ _ _ _ _ _ _ c.requires.plain c.requires.plan.balanced c.requires.fleet w m.one_to_one m.reach m.meet in
     let fits : SFits w128 c.chosen_value.result = search rules in
     numbers_sum _ _ _ _ _ _ _ w m.meet known _ _ (c.in_ok-own_numbers.ensures ∙ ap (list_below _) c.requires.plan.assignment.each_leg)
     (c.in_ok-own_numbers-2.ensures ∙ ap (list_below _) c.requires.plan.assignment.each_leg)

@@ -2,11 +2,11 @@ use Rattle.std.proofs.Common.{◌≡◌, ◌<◌, ℕ, List, length, slice_index
 use Rattle.std.proofs.lemmas.Grind.{get_or_default_zero}
 use Rattle.sums.specs.Places.{list_below}
 use Rattle.sums.proofs.Places.{get_or-list_below, length-list_below}
-use Rattle.fleet_model.specs.declared.limits.TheConstants.{MINUTES_PER_PERIOD}
 use Rattle.fleet_model.specs.declared.parts.Leg.{Leg}
 use Rattle.fleet_model.specs.declared.tables.Tables.{Tables}
 use Rattle.fleet_model.specs.Counts.{weights_of}
 use Rattle.fleet_model.specs.Schedule.{leg_of, stations_in}
+use Rattle.fleet_model.specs.Times.{ready_minute}
 use Rattle.island_cut.specs.Zeros.{zeros_of}
 use Rattle.through_flights.specs.Waits.{IsLongestWait}
 use Rattle.through_flights.proofs.LongestWaits.{longest_is, zeros_within}
@@ -27,10 +27,10 @@ index-requires c = let h : c.leg.result.now.to < length c.in_ok-zeros.zeros.item
 
 pub longest_wait-requires-clause-zeros : goal.longest_wait-requires-clause-zeros
 longest_wait-requires-clause-zeros c k d lt =
-    any_default _ k d lt (zeros_within _ _ _ _ _ (zeros_there _ _ _ _ _ _ _ _ c.in_ok-zeros.ensures c.leg.ensures.value c.leg.ensures.fits.to c.index.ensures c.as_slice.ensures) k lt)
+    subst (λ (p : ℕ). get_or c.as_slice.result.now k d < p) (sym c.period-period.ensures.value) (any_default _ _ k d lt (zeros_within _ _ _ _ _ (zeros_there _ _ _ _ _ _ _ _ c.in_ok-zeros.ensures c.leg.ensures.value c.leg.ensures.fits.to c.index.ensures c.as_slice.ensures) k lt))
   where
-    any_default : (xs : List ℕ) (k d : ℕ) → k < length xs → slice_index xs k < MINUTES_PER_PERIOD → get_or xs k d < MINUTES_PER_PERIOD
-    any_default xs k d lt below = rw (get_or_default_zero xs k d lt) below
+    any_default : (period : ℕ) (xs : List ℕ) (k d : ℕ) → k < length xs → slice_index xs k < period → get_or xs k d < period
+    any_default period xs k d lt below = rw (get_or_default_zero xs k d lt) below
 
 pub loop-leg-preserved : goal.loop-leg-preserved
 loop-leg-preserved c =
@@ -39,5 +39,5 @@ loop-leg-preserved c =
       size = one_longer _ _ _ _ c.in_ok-push.ensures.items c.loop-leg.invariant.size;
       each = pushed (λ k x. IsLongestWait c.args.tables.now c.args.plan.now c.args.fleet k x) 0 _ _ _ _
           c.in_ok-push.ensures.items c.loop-leg.invariant.size c.loop-leg.invariant.each
-          (longest_is _ _ _ _ _ _ _ zeros c.ready.ensures.value c.longest_wait.ensures.no_more c.longest_wait.ensures.all);
+          (longest_is _ _ _ _ _ _ _ _ c.period-period.ensures.value zeros (c.ready-ready.ensures.value ∙ ap (ready_minute c.args.tables.now) c.flight.ensures.value) c.longest_wait.ensures.no_more c.longest_wait.ensures.all);
     }
