@@ -41,8 +41,8 @@ def refusal_of(tables):
 def answer_of(program, folder, words, limits):
     """Returns the answer of `solve` in a folder, with the day start for which it holds."""
     call = Call(["solve", folder, *words])
-    asked = words if "json" in call.given else [*words, "--json"]
-    ran = run(program, ["solve", folder, *asked], limits)
+    as_json = [] if "json" in call.given else ["--json"]
+    ran = run(program, ["solve", *as_json, folder, *words], limits)
     answer = {"status": ran.status, "told": ran.told, "seconds": ran.seconds, "memory": ran.memory}
     if ran.status in PROVED:
         answer["solved"] = json.loads(ran.told)
