@@ -9,7 +9,7 @@ import tempfile
 ANSWERS = (0, 2, 3, 4, 5, 6, 9)
 WHY = {7: "a file couldn't be read or written", 8: "memory ran out", 152: "the time ran out"}
 # Limits hold for the program alone, and no process of ours.
-WITHIN = 'ulimit -v "$1" && ulimit -S -t "$2" && shift 2 && exec "$@"'
+WITHIN = 'ulimit -S -v "$1" && ulimit -S -t "$2" && shift 2 && exec "$@"'
 
 
 class Fault(Exception):
@@ -42,7 +42,8 @@ def run(program, words, limits):
     with tempfile.NamedTemporaryFile("r", encoding="ascii") as note:
         timed = [timer, "-q", "-f", "%U %S %M", "-o", note.name, os.path.abspath(program), *words]
         ran = subprocess.run([*limits.words, *timed], stdin=subprocess.DEVNULL, stdout=subprocess.PIPE, check=False)
-        if ran.returncode not in ANSWERS:
+        # A shell that may not set its limits ends with 2 as well, and without the program's line.
+        if ran.returncode not in ANSWERS or (ran.returncode == 2 and not ran.stdout.startswith(b"usage: ")):
             raise Fault(f"{words[0]} ended with {ran.returncode}: {why(ran)} (it might take {limits.memory} MB, {limits.minutes} minutes)")
         user, system, memory = note.read().split()
     return Ran(ran.returncode, ran.stdout.decode("utf-8", "replace").rstrip("\n"), float(user) + float(system), int(memory))

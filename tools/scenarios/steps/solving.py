@@ -20,12 +20,12 @@ CLAIMED = (*TABLES, "plan.csv", "proof.txt")
 PROVED = (0, 3, 4, 5)
 
 
-def solve(program, tables, words, place, limits):
-    """Makes the folder of the solution: the tables, what `solve` writes, and its answer."""
+def solve(program, tables, words, place, limits, is_last):
+    """Makes the folder of the solution: the tables, what `solve` writes, and its answer, which may be a fault at the last try."""
     with whole.folder(place) as beside:
         for name in TABLES:
             shutil.copyfile(os.path.join(tables, name), os.path.join(beside, name))
-        answer = refusal_of(tables) or answer_of(program, beside, words, limits)
+        answer = refusal_of(tables) or answer_or_fault(lambda: answer_of(program, beside, words, limits), is_last)
         write_json(os.path.join(beside, ANSWER), answer)
 
 
@@ -50,15 +50,29 @@ def answer_of(program, folder, words, limits):
     return answer
 
 
-def check(program, solved, place, limits):
+def check(program, solved, place, limits, is_last):
     """Has the program check the proof that stands in a folder, and notes what it says, and of which files."""
     answer = read_json(os.path.join(solved, ANSWER))
     checked = {}
     if "solved" in answer:
-        sums = sums_of(solved)
-        ran = run(program, ["check", "--day-start", answer["day_start"], solved], limits)
-        checked = {"told": ran.told, "seconds": ran.seconds, "memory": ran.memory, "sums": sums}
+        checked = answer_or_fault(lambda: checked_of(program, solved, answer["day_start"], limits), is_last)
     write_json(place, checked)
+
+
+def checked_of(program, solved, day_start, limits):
+    sums = sums_of(solved)
+    ran = run(program, ["check", "--day-start", day_start, solved], limits)
+    return {"told": ran.told, "seconds": ran.seconds, "memory": ran.memory, "sums": sums}
+
+
+def answer_or_fault(call, is_last):
+    """Returns what a call answers. At the last try a fault is an answer."""
+    try:
+        return call()
+    except Fault as error:
+        if not is_last:
+            raise
+        return {"fault": str(error)}
 
 
 def sums_of(folder):
@@ -76,7 +90,7 @@ def draw(solved, name, place):
     """Makes the folder of the picture, which stays empty where there is no plan."""
     answer = read_json(os.path.join(solved, ANSWER))
     with whole.folder(place) as beside:
-        if answer["status"] not in (0, 3):
+        if answer.get("status") not in (0, 3):
             return
         # The page is called by its folder.
         own = os.path.join(beside, name)

@@ -3,6 +3,7 @@
 import csv
 import io
 import os
+import shutil
 import sys
 from collections import Counter
 
@@ -54,26 +55,31 @@ class Row:
 
 def row_of(name, folder):
     """Returns the row of a scenario by what stands in its folder."""
-    solved, checked = os.path.join(folder, "solved"), os.path.join(folder, CHECK)
-    if not os.path.exists(os.path.join(solved, ANSWER)):
-        return Row(name, UNSOLVED, "its tables or its solution are missing: the log has the fault")
-    answer = read_json(os.path.join(solved, ANSWER))
-    check = read_json(checked) if os.path.exists(checked) else None
+    solved = os.path.join(folder, "solved")
+    answer = answer_in(os.path.join(solved, ANSWER))
+    check = answer_in(os.path.join(folder, CHECK))
+    if "fault" in answer:
+        return Row(name, UNSOLVED, answer["fault"])
     if "solved" not in answer:
         row = Row(name, REFUSED, answer["told"])
     else:
         wrong = wrong_with(answer["solved"], check, solved)
-        said = check["told"] if check else ""
+        said = check.get("told", "")
         row = Row(name, UNPROVED, wrong, said) if wrong else Row(name, answer["solved"]["outcome"], "", said, answer["solved"])
-    row.seconds = answer["seconds"] + (check or {}).get("seconds", 0)
-    row.memory = max(answer["memory"], (check or {}).get("memory", 0))
+    row.seconds = answer["seconds"] + check.get("seconds", 0)
+    row.memory = max(answer["memory"], check.get("memory", 0))
     return row
+
+
+def answer_in(path):
+    """Returns the answer that stands in a file, or a fault where there is none."""
+    return read_json(path) if os.path.exists(path) else {"fault": "a step failed: the log says which and why"}
 
 
 def wrong_with(solved, check, folder):
     """Returns why an answer isn't proved, or None."""
-    if not check:
-        return "it wasn't checked: the log has the fault"
+    if "fault" in check:
+        return f"it wasn't checked: {check['fault']}"
     if not check["told"].startswith("holds: "):
         return "its proof does not hold"
     if check["told"] != claim(solved):
@@ -111,10 +117,21 @@ def summarize(names, folder):
     rows.sort(key=lambda it: it.is_sound)
     whole.write("summary.csv", text_of(rows))
     whole.write("summary.html", page(rows, folder))
+    for it in names:
+        forget_faults(os.path.join(folder, it))
     unsound = [it for it in rows if not it.is_sound]
     counts = ", ".join(f"{number} {outcome}" for outcome, number in Counter(it.outcome for it in rows).items())
     print(warning(unsound) if unsound else f"{len(rows)} scenarios: {counts}. Each proof holds.", file=sys.stderr)
     return not unsound
+
+
+def forget_faults(folder):
+    """Takes away what a fault has left, so that the next run does it again."""
+    solved, check = os.path.join(folder, "solved"), os.path.join(folder, CHECK)
+    if "fault" in answer_in(os.path.join(solved, ANSWER)):
+        shutil.rmtree(solved, ignore_errors=True)
+    if "fault" in answer_in(check) and os.path.exists(check):
+        os.remove(check)
 
 
 def warning(unsound):
