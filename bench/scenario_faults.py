@@ -1,0 +1,112 @@
+"""Faults of the machine, and slips of a planner's, in runs of tools/scenarios."""
+
+import contextlib
+import shutil
+import subprocess
+
+from scenario_runs import BUILT, HUB_DAY, Run, is_root
+
+AS_IS = ("as-is", "", "", "")
+THREE = [AS_IS, ("less", "", "", "aircraft A320 -1"), ("dearer", "", "", "cost E190 *1.1")]
+
+
+def faults(tries, scratch, _):
+    sound = Run(scratch / "sound", HUB_DAY, THREE)
+    tries("three scenarios", sound.on(2) == 0)
+    slips(tries, scratch)
+    too_little_memory(tries, scratch, sound)
+    changed_proofs(tries, scratch, sound)
+    if is_root():
+        full_disk(tries, scratch, sound)
+        no_writing(tries, scratch, sound)
+    else:
+        tries.without("a full disk, and a folder that may not be written", "root, who mounts them")
+
+
+def slips(tries, scratch):
+    """Tables that don't read and changes that can't be are rows of the summary, and no fault of the run."""
+    bad = scratch / "slips" / "bad"
+    bad.mkdir(parents=True)
+    lines = (HUB_DAY / "costs.csv").read_text(encoding="utf-8").splitlines()
+    (bad / "costs.csv").write_text("\n".join([*lines[:3], "FP999,A320,1", *lines[3:]]) + "\n", encoding="utf-8")
+    rows = [AS_IS, ("bad", "", "bad", ""), ("many", "", "", "aircraft A320 -7"), ("who", "", "", "cost B747 *1.1")]
+    rows += [("words", "--days 31", "", ""), ("none", "", "", "aircraft A320 0; aircraft A220 0; aircraft E190 0")]
+    run = Run(scratch / "slips", HUB_DAY, rows)
+    tries("slips are rows, and the run ends well", run.on(2) == 0)
+    told = {it["scenario"]: (it["outcome"], it["told"]) for it in run.summary()}
+    tries("a bad table", told["bad"] == ("refused", "bad input: costs.csv record 4 kind 9"), told["bad"][1])
+    tries("fewer aircraft than none", told["many"][0] == "refused", told["many"][1])
+    tries("a fleet that isn't there", told["who"] == ("refused", "cost B747 *1.1: fleets.csv has no B747"), told["who"][1])
+    tries("words that are no call", told["words"][0] == "refused" and "usage" in told["words"][1], told["words"][1])
+    tries("no aircraft at all", told["none"] == ("infeasible", "") and run.row("none")["check"] == "holds: infeasible")
+    for change in ("parking ZRH 2", "aircraft A320", "cost A320 1.1", "turn A320 +5"):
+        other = Run(scratch / "slips", HUB_DAY, [AS_IS, ("new", "", "", change)])
+        refused = other.on(1) != 0 and change.split()[0] in (other.folder / "engine").read_text(encoding="utf-8").rsplit("WorkflowError", 1)[-1]
+        tries(f"a change that doesn't read ends the run before it begins: {change}", refused)
+
+
+def too_little_memory(tries, scratch, sound):
+    """Each further try has twice the memory."""
+    run = Run(scratch / "memory", HUB_DAY, THREE, memory_mb=3, memory_kb_a_pair=0, pictures="false")
+    status, told = run.on(2), (run.folder / "engine").read_text(encoding="utf-8")
+    tries("too little memory at first", status == 0 and "memory ran out" in told and run.summary() == sound.summary())
+    run = Run(scratch / "never", HUB_DAY, THREE, pictures="false", program=starved(scratch))
+    status = run.on(2)
+    outcomes = [it["outcome"] for it in run.summary()]
+    tries("memory that never suffices", status != 0 and outcomes == ["NOT SOLVED", "optimal", "optimal"], ", ".join(outcomes))
+
+
+def starved(scratch):
+    """Returns a program that has no memory for one scenario, whatever it is given."""
+    path = scratch / "starved"
+    path.write_text(f'#!/bin/sh\ncase "$1 $2" in solve*/less/*) exit 8 ;; esac\nexec {BUILT} "$@"\n', encoding="utf-8")
+    path.chmod(0o755)
+    return path
+
+
+def changed_proofs(tries, scratch, sound):
+    """A proof that was changed by hand is told first, whether it was changed before its check or after."""
+    for name, is_checked in (("before its check", False), ("after its check", True)):
+        run = Run(scratch / f"proof-{is_checked}", HUB_DAY, THREE)
+        tries("three scenarios once more", run.on(2) == 0 and run.summary() == sound.summary())
+        proof = run.place("less", "solved/proof.txt")
+        proof.write_text(proof.read_text(encoding="ascii").replace("rent ", "rent  ", 1).replace("scale ", "scale 1", 1), encoding="ascii")
+        if not is_checked:
+            run.place("less", "check.json").unlink()
+        (run.folder / "engine").unlink()
+        status, first, told = run.on(2), run.summary()[0], (run.folder / "engine").read_text(encoding="utf-8")
+        is_told = "DON'T RELY ON 1" in told and "less: NOT PROVED" in told
+        is_first = first["scenario"] == "less" and first["outcome"] == "NOT PROVED" and not first["cost"]
+        tries(f"a proof changed by hand {name}", status != 0 and is_told and is_first, f"{first['told']} ({first['check']})")
+        shutil.rmtree(run.place("less"))
+        tries("its folder deleted and run again: the same summary", run.on(2) == 0 and run.summary() == sound.summary())
+
+
+@contextlib.contextmanager
+def mounted(place, options):
+    """Gives a folder a disk of its own."""
+    place.mkdir(parents=True)
+    subprocess.run(["mount", "-t", "tmpfs", "-o", options, "none", place], check=True)
+    try:
+        yield
+    finally:
+        subprocess.run(["umount", place], check=True)
+
+
+def full_disk(tries, scratch, sound):
+    with mounted(scratch / "disk", "size=400k"):
+        run = Run(scratch / "disk" / "run", HUB_DAY, THREE)
+        status = run.on(2)
+        tries("a full disk ends the run, and no folder is half written", status != 0 and not run.half_written())
+        subprocess.run(["mount", "-o", "remount,size=100m", scratch / "disk"], check=True)
+        run.unlock()
+        tries("with more room: the same summary", run.on(2) == 0 and run.summary() == sound.summary())
+
+
+def no_writing(tries, scratch, sound):
+    run = Run(scratch / "closed", HUB_DAY, THREE)
+    with mounted(run.place("less"), "ro"):
+        status, outcomes = run.on(2), [(it["scenario"], it["outcome"]) for it in run.summary()]
+        wanted = [("less", "NOT SOLVED"), ("as-is", "optimal"), ("dearer", "optimal")]
+        tries("a folder that may not be written", status != 0 and outcomes == wanted, f"{outcomes[0]}")
+    tries("opened again: the same summary", run.on(2) == 0 and run.summary() == sound.summary())

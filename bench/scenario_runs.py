@@ -1,0 +1,151 @@
+"""Runs of tools/scenarios in scratch folders, and what stands there afterwards."""
+
+import csv
+import os
+import random
+import resource
+import shutil
+import signal
+import subprocess
+import sys
+import time
+from pathlib import Path
+
+TOP = Path(__file__).resolve().parent.parent
+PLACE = TOP / "tools" / "scenarios"
+BUILT = TOP / "crates" / "fleetplan" / "out" / "fleetplan"
+HUB_DAY = TOP / "examples" / "hub-day"
+# Columns of the summary that may differ from run to run.
+TAKEN = ("seconds", "memory MB")
+
+
+def records(path):
+    with open(path, newline="", encoding="utf-8") as file:
+        return list(csv.DictReader(file))
+
+
+def drawn(base, count, seed=1):
+    """Returns so many scenarios of a schedule, drawn from a number: other costs, other numbers of aircraft, a leg or two not flown."""
+    draw = random.Random(seed)
+    fleets = [it["fleet"] for it in records(base / "fleets.csv")]
+    legs = records(base / "legs.csv")
+    rows = []
+    for at in range(count):
+        changes = [f"cost {draw.choice(fleets)} *{draw.randrange(80, 130) / 100:.2f}"]
+        changes += [f"aircraft {draw.choice(fleets)} {draw.choice(('-1', '+1', '+2'))}"] * (draw.random() < 0.7)
+        if draw.random() < 0.3:
+            out = draw.choice(legs)
+            back = next((it for it in legs if (it["from"], it["to"]) == (out["to"], out["from"])), None)
+            changes += [f"drop-leg {it['flight']}" for it in (out, back) if it]
+        rows.append((f"s{at}", draw.choice(("", "--days 4", "--day-start 04:00")), "", "; ".join(changes)))
+    return rows
+
+
+class Run:
+    """A run's folder, with the tables of a base and scenarios of it."""
+
+    def __init__(self, folder, base, rows, **config):
+        self.folder = Path(folder)
+        self.folder.mkdir(parents=True, exist_ok=True)
+        lines = {"base": base, "program": BUILT, **config}
+        (self.folder / "config.yaml").write_text("".join(f"{name}: {value}\n" for name, value in lines.items()), encoding="utf-8")
+        with open(self.folder / "scenarios.csv", "w", newline="", encoding="utf-8") as out:
+            csv.writer(out, lineterminator="\n").writerows([("scenario", "words", "folder", "changes"), *rows])
+        self.count = len(rows)
+
+    def words(self, profile, *more):
+        return ["snakemake", "-s", PLACE / "Snakefile", "--profile", PLACE / profile, "--directory", self.folder, *more]
+
+    def start(self, profile, *more, environment=None):
+        """Starts the engine, whose output stands in the file `engine` of the folder."""
+        with open(self.folder / "engine", "ab") as out:
+            how = {"stdin": subprocess.DEVNULL, "stdout": out, "stderr": out, "env": environment, "start_new_session": True}
+            return subprocess.Popen(list(map(str, self.words(profile, *more))), **how)
+
+    def go(self, profile, *more, environment=None):
+        """Runs the engine to its end, and returns its status."""
+        return self.start(profile, *more, environment=environment).wait()
+
+    def on(self, cores):
+        return self.go("cores", "--cores", str(cores))
+
+    def unlock(self):
+        return self.go("cores", "--cores", "1", "--unlock")
+
+    def summary(self):
+        """Returns the records of the summary without what differs from run to run, or None where there is none."""
+        path = self.folder / "summary.csv"
+        if not path.exists():
+            return None
+        return [{name: text for name, text in it.items() if name not in TAKEN} for it in records(path)]
+
+    def row(self, name):
+        return next(it for it in self.summary() if it["scenario"] == name)
+
+    def place(self, name, file=""):
+        return self.folder / "scenarios" / name / file
+
+    def done(self):
+        """Returns of each output that stands there which file it is, and its time."""
+        outputs = [it for name in ("tables", "solved", "check.json", "drawn") for it in self.folder.glob(f"scenarios/*/{name}")]
+        return {it: (it.stat().st_ino, (it / ".snakemake_timestamp" if it.is_dir() else it).stat().st_mtime_ns) for it in finished(outputs)}
+
+    def wait_until_done(self, number, engine):
+        """Waits until so many scenarios are checked, and returns whether the engine is still at work then."""
+        while engine.poll() is None and len(list(self.folder.glob("scenarios/*/check.json"))) < number:
+            time.sleep(0.05)
+        return engine.poll() is None
+
+    def half_written(self):
+        """Returns the folders that are neither absent nor complete."""
+        solved = [it for it in self.folder.glob("scenarios/*/solved") if not (it / "answer.json").exists()]
+        tables = [it for it in self.folder.glob("scenarios/*/tables") if len(list(it.glob("*.csv"))) != 5]
+        return solved + tables
+
+
+def finished(outputs):
+    return [it for it in outputs if not it.is_dir() or (it / ".snakemake_timestamp").exists()]
+
+
+def timed(call):
+    """Returns what a call returns, the seconds that passed, and those of the processor of all that it ran."""
+    before, start = resource.getrusage(resource.RUSAGE_CHILDREN), time.monotonic()
+    answer = call()
+    after = resource.getrusage(resource.RUSAGE_CHILDREN)
+    used = after.ru_utime + after.ru_stime - before.ru_utime - before.ru_stime
+    return answer, time.monotonic() - start, used
+
+
+def without_engine(run):
+    """Does the steps of a run's scenarios one after another, with no engine."""
+    sys.path[:0] = [str(PLACE), str(PLACE.parent)]
+    from steps.listing import scenarios_of
+
+    step, limits = [python_of_engine(), PLACE / "step"], ["512", "10"]
+    for name, it in scenarios_of(str(run.folder / "scenarios.csv")).items():
+        place = run.place(name)
+        place.mkdir(parents=True)
+        base = next(line.split(": ", 1)[1] for line in (run.folder / "config.yaml").read_text().splitlines() if line.startswith("base"))
+        for words in (
+            ["tables", BUILT, place / "tables", *limits, *it.files(base), *it.changes],
+            ["solve", BUILT, place / "solved", *limits, place / "tables", *it.words],
+            ["check", BUILT, place / "check.json", *limits, place / "solved"],
+            ["draw", place / "drawn", place / "solved", name],
+        ):
+            subprocess.run([*step, *words], stdin=subprocess.DEVNULL, check=True)
+
+
+def python_of_engine():
+    """Returns the Python that the engine runs by, and so its steps."""
+    with open(shutil.which("snakemake"), encoding="utf-8") as it:
+        return it.readline()[len("#!") :].strip()
+
+
+def kill(process):
+    """Ends a process by its id, by a signal that it can't hear."""
+    os.kill(process.pid, signal.SIGKILL)
+    process.wait()
+
+
+def is_root():
+    return os.geteuid() == 0 and shutil.which("mount") is not None

@@ -1,0 +1,96 @@
+"""The changes of tables that a scenario tells in a few words each."""
+
+import re
+from fractions import Fraction
+
+from hints.forms import TRILLION
+from hints.records import Unread
+
+MOST_AIRCRAFT = 500
+
+
+def read_change(text):
+    """Returns what a text changes, as a function on tables (of each file's name its records), or raises Unread."""
+    name, *words = text.split() or [""]
+    if name not in CHANGES:
+        raise Unread(f'no change is named "{name}", there are: {", ".join(form for form, _ in CHANGES.values())}')
+    form, change = CHANGES[name]
+    found = change(words)
+    if not found:
+        raise Unread(f'"{text}" doesn\'t read, it should be as {form}')
+    return found
+
+
+def aircraft(words):
+    """Another number of aircraft: so many more or less, or just so many."""
+    found = re.fullmatch(r"([A-Z0-9]{1,8}) ([+-]?)([0-9]{1,3})", " ".join(words))
+    if not found:
+        return None
+    fleet, sign, number = found[1], found[2], int(found[3])
+
+    def change(tables):
+        row = record_of(tables, "fleets.csv", fleet)
+        has = int(row[1])
+        count = {"": number, "+": has + number, "-": has - number}[sign]
+        if not 0 <= count <= MOST_AIRCRAFT:
+            raise Unread(f"fleets.csv gives {fleet} {has} aircraft, and it may have 0 to {MOST_AIRCRAFT}")
+        row[1] = str(count)
+
+    return change
+
+
+def cost(words):
+    """All costs of a fleet times a factor."""
+    found = re.fullmatch(r"([A-Z0-9]{1,8}) \*([0-9]{1,6}(?:\.[0-9]{1,6})?)", " ".join(words))
+    if not found:
+        return None
+    fleet, factor = found[1], Fraction(found[2])
+
+    def change(tables):
+        record_of(tables, "fleets.csv", fleet)
+        for row in tables["costs.csv"]:
+            if row[1] == fleet:
+                price = times(int(row[2]), factor)
+                if abs(price) > TRILLION:
+                    raise Unread(f"{row[0]} would cost {price} with {fleet}, and a cost is {TRILLION} at most")
+                row[2] = str(price)
+
+    return change
+
+
+def drop_leg(words):
+    """A leg that isn't flown, so that no cost and no through pair speaks of it."""
+    if len(words) != 1:
+        return None
+    flight = words[0]
+
+    def change(tables):
+        record_of(tables, "legs.csv", flight)
+        tables["legs.csv"][:] = [it for it in tables["legs.csv"] if it[0] != flight]
+        tables["costs.csv"][:] = [it for it in tables["costs.csv"] if it[0] != flight]
+        tables["throughs.csv"][:] = [it for it in tables["throughs.csv"] if flight not in it[:2]]
+
+    return change
+
+
+# Of each change the form that is told, and what reads its words.
+CHANGES = {
+    "aircraft": ("aircraft FLEET -1 (or +1, or 5)", aircraft),
+    "cost": ("cost FLEET *1.1", cost),
+    "drop-leg": ("drop-leg FLIGHT", drop_leg),
+}
+
+
+def times(price, factor):
+    """Returns a cost times a factor, as the nearest whole number, and of two as near the one further from 0."""
+    count, rest = divmod(abs(price) * factor.numerator, factor.denominator)
+    count += 2 * rest >= factor.denominator
+    return count if price >= 0 else -count
+
+
+def record_of(tables, name, key):
+    """Returns the record of a fleet or a flight, or raises Unread."""
+    found = next((it for it in tables[name] if it[0] == key), None)
+    if found is None:
+        raise Unread(f"{name} has no {key}")
+    return found

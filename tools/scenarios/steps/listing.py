@@ -1,0 +1,71 @@
+"""The scenarios of a run, as the records of scenarios.csv tell them."""
+
+import os
+import re
+import shlex
+
+from hints.records import TABLES, Unread, bytes_of, records_in
+from steps.changes import read_change
+
+HEADER = ("scenario", "words", "folder", "changes")
+NAME = re.compile(r"[A-Za-z0-9][A-Za-z0-9_.+-]{0,63}")
+
+
+class Scenario:
+    """A scenario: its name, the words for `solve`, the folder that is laid over the base (None: none), and the texts of its changes."""
+
+    def __init__(self, name, words, folder, changes):
+        self.name, self.words, self.folder, self.changes = name, words, folder, changes
+
+    def files(self, base):
+        """Returns the five files that its tables come from: those of its own folder, and for the others those of the base."""
+        return [self.own(it) or os.path.join(base, it) for it in TABLES]
+
+    def own(self, table):
+        """Returns the path of a table in its own folder, or None where none stands there."""
+        path = self.folder and os.path.join(self.folder, table)
+        return path if path and os.path.lexists(path) else None
+
+
+def scenarios_of(path):
+    """Returns the scenarios of a file by their names, in its order, or raises Unread with the record that is wrong."""
+    found = {}
+    for record in records_in(bytes_of(path)):
+        if record.number == 1:
+            if tuple(record.texts) != HEADER:
+                raise Unread(f"{path} record 1: {record}, it should be {','.join(HEADER)}")
+            continue
+        try:
+            scenario = scenario_of(record.texts, os.path.dirname(path))
+            if scenario.name in found:
+                raise Unread(f"{scenario.name} stands twice")
+        except Unread as error:
+            raise Unread(f"{path} record {record.number}: {error}") from None
+        found[scenario.name] = scenario
+    if not found:
+        raise Unread(f"{path} has no scenario below a header {','.join(HEADER)}")
+    return found
+
+
+def scenario_of(fields, beside):
+    """Returns the scenario of a record. Its folder counts from the file's own one."""
+    if len(fields) != len(HEADER):
+        raise Unread(f"it has {len(fields)} fields, it should have {len(HEADER)}")
+    name, words, folder, changes = fields
+    if not NAME.fullmatch(name):
+        raise Unread(f'a scenario is named "{name}", it should be 1 to 64 of A to Z, a to z, 0 to 9, ".", "_", "+" and "-"')
+    place = os.path.join(beside, folder) if folder else None
+    if place and not any(os.path.isfile(os.path.join(place, it)) for it in TABLES):
+        raise Unread(f"the folder {place} has none of {', '.join(TABLES)}")
+    texts = [it.strip() for it in changes.split(";") if it.strip()]
+    for it in texts:
+        read_change(it)
+    return Scenario(name, words_of(words), place, texts)
+
+
+def words_of(text):
+    """Returns the words of a call, as a shell reads them."""
+    try:
+        return shlex.split(text)
+    except ValueError as error:
+        raise Unread(f"the words {text} don't read: {error}") from None

@@ -1,0 +1,113 @@
+"""The solution of a scenario, the check of it in a process of its own, and its picture."""
+
+import hashlib
+import json
+import os
+import shutil
+import subprocess
+import sys
+
+from hints.records import TABLES
+from hints.words import Call
+from steps import whole
+from steps.laying import REFUSED
+from steps.running import Fault, run
+
+TOP = os.path.dirname(os.path.dirname(os.path.dirname(os.path.dirname(os.path.realpath(__file__)))))
+ANSWER = "answer.json"
+CLAIMED = (*TABLES, "plan.csv", "proof.txt")
+# The statuses with which `solve` has written a proof.
+PROVED = (0, 3, 4, 5)
+
+
+def solve(program, tables, words, place, limits, is_last):
+    """Makes the folder of the solution: the tables, what `solve` writes, and its answer, which may be a fault at the last try."""
+    with whole.folder(place) as beside:
+        for name in TABLES:
+            shutil.copyfile(os.path.join(tables, name), os.path.join(beside, name))
+        answer = refusal_of(tables) or answer_or_fault(lambda: answer_of(program, beside, words, limits), is_last)
+        write_json(os.path.join(beside, ANSWER), answer)
+
+
+def refusal_of(tables):
+    """Returns the answer where tables can't be solved, or None."""
+    path = os.path.join(tables, REFUSED)
+    if not os.path.exists(path):
+        return None
+    with open(path, encoding="utf-8") as it:
+        return {"status": 6, "told": it.read(), "seconds": 0, "memory": 0}
+
+
+def answer_of(program, folder, words, limits):
+    """Returns the answer of `solve` in a folder, with the day start for which it holds."""
+    call = Call(["solve", folder, *words])
+    as_json = [] if "json" in call.given else ["--json"]
+    ran = run(program, ["solve", *as_json, folder, *words], limits)
+    answer = {"status": ran.status, "told": ran.told, "seconds": ran.seconds, "memory": ran.memory}
+    if ran.status in PROVED:
+        answer["solved"] = json.loads(ran.told)
+        answer["day_start"] = call.given["day-start"][0] if "day-start" in call.given else "03:00"
+    return answer
+
+
+def check(program, solved, place, limits, is_last):
+    """Has the program check the proof that stands in a folder, and notes what it says, and of which files."""
+    answer = read_json(os.path.join(solved, ANSWER))
+    checked = {}
+    if "solved" in answer:
+        checked = answer_or_fault(lambda: checked_of(program, solved, answer["day_start"], limits), is_last)
+    write_json(place, checked)
+
+
+def checked_of(program, solved, day_start, limits):
+    sums = sums_of(solved)
+    ran = run(program, ["check", "--day-start", day_start, solved], limits)
+    return {"told": ran.told, "seconds": ran.seconds, "memory": ran.memory, "sums": sums}
+
+
+def answer_or_fault(call, is_last):
+    """Returns what a call answers. At the last try a fault is an answer."""
+    try:
+        return call()
+    except Fault as error:
+        if not is_last:
+            raise
+        return {"fault": str(error)}
+
+
+def sums_of(folder):
+    """Returns the sums of the files that a check reads, of those that stand there."""
+    found = {}
+    for name in CLAIMED:
+        path = os.path.join(folder, name)
+        if os.path.lexists(path):
+            with open(path, "rb") as it:
+                found[name] = hashlib.sha256(it.read()).hexdigest()
+    return found
+
+
+def draw(solved, name, place):
+    """Makes the folder of the picture, which stays empty where there is no plan."""
+    answer = read_json(os.path.join(solved, ANSWER))
+    with whole.folder(place) as beside:
+        if answer.get("status") not in (0, 3):
+            return
+        # The page is called by its folder.
+        own = os.path.join(beside, name)
+        os.mkdir(own)
+        for it in (*CLAIMED, "rotation.csv"):
+            shutil.copyfile(os.path.join(solved, it), os.path.join(own, it))
+        words = [os.path.join(TOP, "tools", "draw"), own, "--day-start", answer["day_start"]]
+        if subprocess.run([sys.executable, *words], stdin=subprocess.DEVNULL, check=False).returncode:
+            raise Fault("tools/draw couldn't draw it")
+        os.rename(os.path.join(own, "plan.html"), os.path.join(beside, "plan.html"))
+        shutil.rmtree(own)
+
+
+def read_json(path):
+    with open(path, encoding="utf-8") as it:
+        return json.load(it)
+
+
+def write_json(path, value):
+    whole.write(path, json.dumps(value, sort_keys=True) + "\n")
