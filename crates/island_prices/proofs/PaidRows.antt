@@ -3,7 +3,7 @@ use Rattle.std.proofs.Common.{◌≡◌, ◌≢◌, ℕ, zero, suc, ◌+◌, ◌
 use Rattle.std.specs.Ordering.{int_eq}
 use Rattle.std.proofs.lemmas.Bool.{cases_lt, or_right}
 use Rattle.sums.specs.Places.{list_below, or_else}
-use Rattle.sums.proofs.Places.{first_found, get_or-list_below, length-list_below}
+use Rattle.sums.proofs.Places.{first_found, get_or-list_below, length-list_below, nothing_at}
 use Rattle.sums.proofs.Tests.{never_passes}
 use Rattle.fleet_model.specs.Schedule.{fleets_in, stations_in}
 use Rattle.fleet_model.specs.declared.limits.TheConstants.{MINUTES_PER_PERIOD}
@@ -11,7 +11,7 @@ use Rattle.fleet_model.specs.declared.tables.Tables.{Tables}
 use Rattle.dual_bound.specs.declared.prices.Prices.{Prices}
 use Rattle.dual_bound.specs.declared.prices.PriceStep.{PriceStep}
 use Rattle.island_prices.specs.Rounds.{rounds_of}
-use Rattle.island_prices.specs.Paid.{HasBeyond, IsPaybackError, any_below, beyond_at, beyond_of, first_beyond, fleet_if, has_beyond, is_beyond, paid_price, paid_prices, paid_rent}
+use Rattle.island_prices.specs.Paid.{HasBeyond, IsPaybackError, IsWantedBehind, any_below, beyond_at, beyond_of, first_beyond, fleet_if, has_beyond, is_beyond, paid_price, paid_prices, paid_rent}
 use Rattle.island_prices.specs.Steps.{all_zero, fleet_steps, is_step, station_steps, step_where, steps_below, steps_of}
 use Rattle.island_prices.specs.declared.paying.PaybackError.{PaybackError}
 use Rattle.island_prices.specs.declared.rises.Rise.{Rise}
@@ -119,6 +119,29 @@ unfolding has_beyond beyond_of
 beyond_there t rent price f n row is below passes =
     or_right (is_beyond (rent f)) _ (any_found (λ s. beyond_at (price f s) MINUTES_PER_PERIOD) (stations_in t) n below (sym (beyond_by_row (price f n) row is) ∙ passes))
 
+-- .. and only so its row fails
+pub row_fails : (t : Tables) (rent : ℕ → ℤ) (price : ℕ → ℕ → ℕ → ℤ) (f n : ℕ) (row : List ℤ) (e : PaybackError) → row ≡ list_below (price f n) MINUTES_PER_PERIOD → n < stations_in t
+    → HasBeyond (beyond_at (λ m. get_or row m (pos 0)) (length row)) f e → HasBeyond (has_beyond t rent price f) f e
+row_fails t rent price f n row (Beyond fleet) is below fails = (beyond_there t rent price f n row is below fails.0, fails.1)
+row_fails t rent price f n row NoMemory is below fails = tt
+
+-- memory is wanting only behind the rent
+pub behind_rent : (beyond : Bool) (e : PaybackError) → beyond ≡ false → IsWantedBehind beyond e
+behind_rent beyond (Beyond fleet) fine = tt
+behind_rent beyond NoMemory fine = fine
+
+rent_fine : (t : Tables) (rent : ℕ → ℤ) (price : ℕ → ℕ → ℕ → ℤ) (f : ℕ) → fleet_if (has_beyond t rent price f) f ≡ None → is_beyond (rent f) ≡ false
+unfolding has_beyond
+rent_fine t rent price f fine = either_not (is_beyond (rent f)) _ (none_if (is_beyond (rent f) || beyond_of (price f) (stations_in t)) fine)
+  where
+    none_if : (b : Bool) → fleet_if b f ≡ None → b ≡ false
+    none_if false none = refl
+    none_if true none = cc
+
+    either_not : (a b : Bool) → (a || b) ≡ false → a ≡ false
+    either_not false b e = refl
+    either_not true b e = e
+
 pub rent_beyond : (t : Tables) (rent : ℕ → ℤ) (price : ℕ → ℕ → ℕ → ℤ) (f : ℕ) → is_beyond (rent f) ≡ true → has_beyond t rent price f ≡ true
 unfolding has_beyond
 rent_beyond t rent price f passes = ap (λ b. b || beyond_of (price f) (stations_in t)) passes
@@ -157,6 +180,12 @@ unfolding first_beyond
 fleet_fails t rent price steps n (Beyond fleet) so_far below fails =
     first_found (λ f. fleet_if (has_beyond t rent price f) f) n (fleets_in t) fleet so_far.none (ap (λ b. fleet_if b n) fails.0 ∙ ap Some (sym fails.1)) below
 fleet_fails t rent price steps n NoMemory so_far below fails = tt
+
+-- memory is wanting only behind the first fleet's rent
+pub behind_first : (t : Tables) (rent : ℕ → ℤ) (price : ℕ → ℕ → ℕ → ℤ) (steps : List PriceStep) (n : ℕ) (e : PaybackError) → AreFleetsSoFar t rent price steps n → IsWantedBehind (is_beyond (rent n)) e → IsWantedBehind (is_beyond (rent 0)) e
+unfolding first_beyond
+behind_first t rent price steps zero e so_far is = is
+behind_first t rent price steps (suc n) e so_far is = behind_rent (is_beyond (rent 0)) e (rent_fine t rent price 0 (nothing_at (λ f. fleet_if (has_beyond t rent price f) f) (suc n) 0 so_far.none (omega arith)))
 
 pub all_done : (t : Tables) (rent : ℕ → ℤ) (price : ℕ → ℕ → ℕ → ℤ) (steps : List PriceStep) (n : ℕ) → n ≡ fleets_in t → AreFleetsSoFar t rent price steps n
     → (first_beyond t rent price (fleets_in t) ≡ None) × (steps ≡ steps_of t price)

@@ -8,7 +8,6 @@ use Rattle.fleet_model.specs.declared.tables.Tables.{Tables}
 use Rattle.node_aggregate.specs.Nodes.{AreNodesAt, node_end}
 use Rattle.dual_bound.specs.Prices.{price_of, rent_of}
 use Rattle.dual_bound.specs.declared.prices.Prices.{Prices}
-use Rattle.island_prices.specs.Payback.{end_of}
 use Rattle.island_prices.specs.Rises.{rise_in}
 use Rattle.island_prices.specs.declared.rises.Rise.{Rise}
 use Rattle.island_prices.specs.declared.rises.Shift.{Shift}

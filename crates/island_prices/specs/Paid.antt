@@ -1,5 +1,5 @@
 -- Prices after rises went to their moments and all rounds are over.
-use Rattle.std.specs.Prelude.{◌≡◌, ℕ, zero, suc, ◌<◌, Bool, true, false, ◌||◌, nat_lt, if◌then◌else◌, List, length, ℤ, ◌+ℤ◌, unsigned_abs, Option, Some, None}
+use Rattle.std.specs.Prelude.{◌≡◌, ℕ, zero, suc, Bool, true, false, ◌||◌, nat_lt, if◌then◌else◌, List, length, ℤ, ◌+ℤ◌, unsigned_abs, Option, Some, None}
 use Rattle.sums.specs.Places.{first_below, list_below}
 use Rattle.fleet_model.specs.Schedule.{fleets_in, stations_in}
 use Rattle.fleet_model.specs.declared.limits.TheConstants.{MINUTES_PER_PERIOD}
@@ -63,3 +63,8 @@ IsPaybackError first NoMemory = Unit {0}
 abbrev pub HasBeyond : Bool → ℕ → PaybackError → Type 0
 HasBeyond has f (Beyond fleet) = (has ≡ true) × (fleet ≡ f)
 HasBeyond has f NoMemory = Unit {0}
+
+-- memory is wanting only where what is looked at before isn't beyond the limit
+abbrev pub IsWantedBehind : Bool → PaybackError → Type 0
+IsWantedBehind beyond (Beyond fleet) = Unit {0}
+IsWantedBehind beyond NoMemory = beyond ≡ false

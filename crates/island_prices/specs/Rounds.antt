@@ -1,5 +1,5 @@
 -- Rounds, in which rents and prices grow so that no price rises at a moment.
-use Rattle.std.specs.Prelude.{◌≡◌, ℕ, zero, suc, ◌<◌, ◌≤◌, ◌==◌, ◌&&◌, nat_le, nat_lt, Bool, if◌then◌else◌, List, [], length, filter, slice_index_or, ℤ, pos, int_lt, max}
+use Rattle.std.specs.Prelude.{◌≡◌, ℕ, zero, suc, ◌<◌, ◌≤◌, ◌==◌, ◌&&◌, nat_le, nat_lt, Bool, if◌then◌else◌, List, [], length, filter, slice_index_or, ℤ, pos, int_lt}
 use Rattle.std.specs.Int.{int_max}
 use Rattle.sums.specs.Below.{max_below, sum_below_ℤ}
 use Rattle.sums.specs.Places.{list_below}

@@ -1,13 +1,13 @@
 //! Prices after rises went to their moments and were paid back.
-ghost use Rattle.std.specs.Prelude.{◌≡◌, ◌<◌, ◌≤◌, ◌*◌, ◌++◌, length, slice_index_or, pos, false, true, None, Some, IfOk, MatchResult};
+ghost use Rattle.std.specs.Prelude.{◌≡◌, ◌<◌, ◌≤◌, ◌*◌, ◌++◌, length, slice_index_or, pos, false, true, None, Some, IfErr, IfOk, MatchResult};
 ghost use Rattle.sums.specs.Places.{list_below};
 ghost use Rattle.fleet_model.specs.Schedule.{fleets_in, stations_in};
 ghost use Rattle.fleet_model.specs.declared.limits.TheConstants.{MINUTES_PER_PERIOD};
 ghost use Rattle.dual_bound.specs.Prices.{AreWithin};
-ghost use Rattle.island_prices.specs.Paid.{HasBeyond, IsPaybackError, beyond_at, first_beyond, has_beyond, is_beyond, paid_price, paid_prices, paid_rent};
+ghost use Rattle.island_prices.specs.Paid.{HasBeyond, IsPaybackError, IsWantedBehind, beyond_at, first_beyond, has_beyond, is_beyond, paid_price, paid_prices, paid_rent};
 ghost use Rattle.island_prices.specs.Rises.{AreRises};
 ghost use Rattle.island_prices.specs.Rounds.{AreSmall, rounds_of};
-ghost use Rattle.island_prices.specs.Steps.{station_steps, steps_of};
+ghost use Rattle.island_prices.specs.Steps.{station_steps, steps_below, steps_of};
 ghost use Rattle.island_prices.specs.declared.paying.PaybackError.TheVariants as payback;
 
 use crate::growing::{price_grown, rent_grown};
@@ -105,10 +105,11 @@ fn steps(alloc: Global, tables: &Tables, paid: &Paid<'_>) -> Result<Vec<PriceSte
     requires rises { AreRises tables.now paid.now.rises.now }
     requires rounds { AreSmall paid.now.rounds.now }
     requires stations { length paid.now.rounds.now.moments ≡ stations_in tables.now }
-    ensures { MatchResult result
+    ensures steps { MatchResult result
         (λ steps. (first_beyond tables.now (paid_rent paid.now.before paid.now.rounds.now) (paid_price paid.now.before paid.now.rises.now paid.now.rounds.now) (fleets_in tables.now) ≡ None)
         × (steps.items ≡ steps_of tables.now (paid_price paid.now.before paid.now.rises.now paid.now.rounds.now)))
         (IsPaybackError (first_beyond tables.now (paid_rent paid.now.before paid.now.rounds.now) (paid_price paid.now.before paid.now.rises.now paid.now.rounds.now) (fleets_in tables.now))) }
+    ensures memory { IfErr result (IsWantedBehind (is_beyond (paid_rent paid.now.before paid.now.rounds.now 0))) }
 {
     let mut steps = Vec::new(alloc);
     for fleet in 0..tables.fleet_count() {
@@ -133,22 +134,44 @@ fn push_fleet(
     requires rounds { AreSmall paid.now.rounds.now }
     requires stations { length paid.now.rounds.now.moments ≡ stations_in tables.now }
     requires fleet { fleet < fleets_in tables.now }
-    ensures { MatchResult result
+    ensures pushed { MatchResult result
         (λ _. (has_beyond tables.now (paid_rent paid.now.before paid.now.rounds.now) (paid_price paid.now.before paid.now.rises.now paid.now.rounds.now) fleet ≡ false)
         × (steps.new.items ≡ steps.old.items ++ station_steps (paid_price paid.now.before paid.now.rises.now paid.now.rounds.now fleet) fleet (stations_in tables.now)))
         (HasBeyond (has_beyond tables.now (paid_rent paid.now.before paid.now.rounds.now) (paid_price paid.now.before paid.now.rises.now paid.now.rounds.now) fleet) fleet) }
+    ensures memory { IfErr result (IsWantedBehind (is_beyond (paid_rent paid.now.before paid.now.rounds.now fleet))) }
 {
     if is_beyond(&paid_rent(tables, paid, fleet)) {
         return Err(PaybackError::Beyond { fleet });
     }
     for station in 0..tables.station_count() {
         let row = row(alloc, tables, paid, fleet, station)?;
-        if has_beyond(&row) {
-            return Err(PaybackError::Beyond { fleet });
+        match push_row(steps, &row, fleet, station) {
+            Ok(()) => {}
+            Err(why) => return Err(why),
         }
-        push_steps(steps, &row, fleet, station)?;
     }
     Ok(())
+}
+
+// Puts the steps of a fleet's prices at a station behind those so far, where none is beyond the limit.
+fn push_row(
+    steps: &mut Vec<PriceStep>,
+    row: &[i128],
+    fleet: u32,
+    station: u32,
+) -> Result<(), PaybackError>
+    requires { length row.now ≡ MINUTES_PER_PERIOD }
+    ensures pushed { MatchResult result
+        (λ _. (beyond_at (λ m. slice_index_or row.now m (pos 0)) (length row.now) ≡ false)
+        × (steps.new.items ≡ steps.old.items ++ steps_below (λ m. slice_index_or row.now m (pos 0)) fleet station MINUTES_PER_PERIOD))
+        (HasBeyond (beyond_at (λ m. slice_index_or row.now m (pos 0)) (length row.now)) fleet) }
+    ensures memory { IfErr result (IsWantedBehind (beyond_at (λ m. slice_index_or row.now m (pos 0)) (length row.now))) }
+{
+    if has_beyond(row) {
+        Err(PaybackError::Beyond { fleet })
+    } else {
+        Ok(push_steps(steps, row, fleet, station)?)
+    }
 }
 
 // The prices of a fleet at a station, minute by minute.

@@ -1,4 +1,4 @@
-use Rattle.std.proofs.Common.{◌≡◌, ◌∙◌, ap}
+use Rattle.std.proofs.Common.{◌∙◌, ap}
 use Rattle.sums.proofs.Places.{list_below-push}
 use Rattle.island_cut.specs.Islands.{idles_of}
 use Rattle.island_prices.specs.Least.{least_in}

@@ -1,4 +1,4 @@
-use Rattle.std.proofs.Common.{◌≡◌, true, get_or, pos, sym, ◌∙◌}
+use Rattle.std.proofs.Common.{get_or, pos, sym, ◌∙◌}
 use Rattle.island_prices.proofs.PaidRows.{one_beyond}
 use Rattle.island_prices.proofs.paying.has_beyond.Goals as goal
 

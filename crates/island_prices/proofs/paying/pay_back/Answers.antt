@@ -1,4 +1,4 @@
-use Rattle.std.proofs.Common.{◌≡◌, ◌∙◌, sym, subst, ap, length, rules}
+use Rattle.std.proofs.Common.{◌≡◌, ◌∙◌, sym, subst, length, rules}
 use Rattle.std.proofs.lemmas.Int.{to_z-of_z}
 use mir.Val.{SFits}
 use mir.Syntax.{w128}
@@ -21,4 +21,4 @@ pub returns : goal.returns
 returns c =
     let fs : SFits w128 c.args.prices.now.scale = search rules in
     paid_from c.args.tables.now c.args.prices.now c.new-2.result c.args.rises.now c.args.least c.in_ok-rounds.rounds _ _ _ c.new-2.ensures c.in_ok-rounds.ensures (to_z-of_z w128 c.args.prices.now.scale fs)
-    (c.from_vec.ensures ∙ c.in_ok-rents.ensures) (c.in_ok-steps.ensures.0, c.from_vec-2.ensures ∙ c.in_ok-steps.ensures.1)
+    (c.from_vec.ensures ∙ c.in_ok-rents.ensures) (c.in_ok-steps.ensures.steps.0, c.from_vec-2.ensures ∙ c.in_ok-steps.ensures.steps.1)

@@ -1,4 +1,4 @@
-use Rattle.std.proofs.Common.{◌≡◌, ◌*◌, pos, ◌≤ℤ◌}
+use Rattle.std.proofs.Common.{◌≡◌, pos, ◌≤ℤ◌}
 use Rattle.dual_bound.specs.Sizes.{IsUpTo}
 use Rattle.island_prices.specs.Rounds.{greatest_below, rise_taken}
 use Rattle.island_prices.proofs.rounds.number.Given as goal

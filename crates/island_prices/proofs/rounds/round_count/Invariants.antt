@@ -1,4 +1,4 @@
-use Rattle.std.proofs.Common.{◌≡◌, length}
+use Rattle.std.proofs.Common.{◌≡◌}
 use Rattle.island_prices.specs.Rounds.{round_count}
 use Rattle.island_prices.proofs.rounds.round_count.Given as goal
 

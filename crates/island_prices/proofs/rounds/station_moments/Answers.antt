@@ -1,4 +1,4 @@
-use Rattle.std.proofs.Common.{◌≡◌, ◌∙◌, subst, sym}
+use Rattle.std.proofs.Common.{◌∙◌}
 use Rattle.sums.proofs.Places.{list_below-push}
 use Rattle.island_prices.specs.Rounds.{moments_of}
 use Rattle.island_prices.proofs.rounds.station_moments.Goals as goal

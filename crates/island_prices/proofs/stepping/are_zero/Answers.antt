@@ -1,4 +1,4 @@
-use Rattle.std.proofs.Common.{◌≡◌, ◌≢◌, true, ap, sym, subst, get_or, pos, of_z, length, arith}
+use Rattle.std.proofs.Common.{◌≡◌, ◌≢◌, true, ap, sym, subst, get_or, pos, of_z, arith}
 use mir.Syntax.{w128}
 use Rattle.fleet_model.specs.declared.limits.TheConstants.{MINUTES_PER_PERIOD}
 use Rattle.island_prices.specs.Steps.{all_zero}
