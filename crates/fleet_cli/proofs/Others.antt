@@ -171,6 +171,7 @@ verdict_ends asked (verdict.Legal cost) = done_ends asked
 verdict_ends asked (verdict.NotAllowed leg) = refused_ends asked
 verdict_ends asked (verdict.Unbalanced f s came left) = refused_ends asked
 verdict_ends asked (verdict.TooMany f used has) = refused_ends asked
+verdict_ends asked (verdict.Crowded s d stands limit) = refused_ends asked
 
 checked_ends : (asked : Option Asked) (v : Checked) → Ends asked (checked_status v)
 checked_ends asked (checked.Holds bound) = done_ends asked

@@ -83,6 +83,7 @@ verdict_status (verdict.Legal cost) = DONE
 verdict_status (verdict.NotAllowed leg) = REFUSED
 verdict_status (verdict.Unbalanced f s came left) = REFUSED
 verdict_status (verdict.TooMany f used has) = REFUSED
+verdict_status (verdict.Crowded s d stands cap) = REFUSED
 
 -- the plan reads and has its verdict
 pub record JudgesPlan (t : Tables) (bytes : List ℕ) (answer : Answer) : Type 0 where

@@ -44,6 +44,8 @@ verdict_text t a (verdict.Unbalanced f s came left) =
     line_of (codes "unbalanced: " ∷ (fleet_of t f).name ∷ codes " at " ∷ (station_of t s).code ∷ codes ", in " ∷ decimal came ∷ codes ", out " ∷ decimal left ∷ [])
 verdict_text t a (verdict.TooMany f used has) =
     line_of (codes "too many: " ∷ (fleet_of t f).name ∷ codes " used " ∷ decimal used ∷ codes " of " ∷ decimal has ∷ [])
+verdict_text t a (verdict.Crowded s d stands cap) =
+    line_of (codes "crowded: " ∷ (station_of t s).code ∷ codes " day " ∷ decimal d ∷ codes " parked " ∷ decimal stands ∷ codes " of " ∷ decimal cap ∷ [])
 verdict_text t a (verdict.Legal cost) = line_of (codes "legal: cost " ∷ signed_decimal cost ∷ []) ++ fleet_lines t a (fleets_in t)
 
 -- the bound of a tree that holds, with the plan's cost where one comes with it

@@ -66,8 +66,9 @@ fn status_of(verdict: Verdict) -> u8
 {
     match verdict {
         Verdict::Legal { .. } => DONE,
-        Verdict::NotAllowed { .. } | Verdict::Unbalanced { .. } | Verdict::TooMany { .. } => {
-            REFUSED
-        }
+        Verdict::NotAllowed { .. }
+        | Verdict::Unbalanced { .. }
+        | Verdict::TooMany { .. }
+        | Verdict::Crowded { .. } => REFUSED,
     }
 }

@@ -114,6 +114,12 @@ pub fn verdict_lines(
             left,
         } => unbalanced(alloc, tables, fleet, station, came, left),
         Verdict::TooMany { fleet, used, has } => too_many(alloc, tables, fleet, used, has),
+        Verdict::Crowded {
+            station,
+            day,
+            parked,
+            cap,
+        } => crowded(alloc, tables, station, day, parked, cap),
         Verdict::Legal { cost } => legal(alloc, tables, plan, cost),
     }
 }
@@ -145,6 +151,37 @@ fn unbalanced(
             came.as_bytes(),
             b", out ".as_slice(),
             left.as_bytes(),
+        ],
+    )
+}
+
+/// `crowded: S day D parked N of M`.
+fn crowded(
+    alloc: Global,
+    tables: &Tables,
+    station: u32,
+    day: u32,
+    parked: u32,
+    cap: u32,
+) -> Result<Vec<u8>, NoMemory>
+    requires { station < stations_in tables.now }
+    ensures { IfOk result (λ text. text.items ≡ line_of (codes "crowded: " ∷ (station_of tables.now station).code ∷ codes " day " ∷ decimal day
+        ∷ codes " parked " ∷ decimal parked ∷ codes " of " ∷ decimal cap ∷ [])) }
+{
+    let day = day.to_string(alloc)?;
+    let parked = parked.to_string(alloc)?;
+    let cap = cap.to_string(alloc)?;
+    line(
+        alloc,
+        &[
+            b"crowded: ".as_slice(),
+            tables.station(station).code.as_slice(),
+            b" day ".as_slice(),
+            day.as_bytes(),
+            b" parked ".as_slice(),
+            parked.as_bytes(),
+            b" of ".as_slice(),
+            cap.as_bytes(),
         ],
     )
 }
