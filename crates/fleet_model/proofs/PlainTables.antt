@@ -20,7 +20,7 @@ unfolding choices_in
 fleet_chooses t l f known = known
 
 pub fleet_pair : (t : Tables) (l f : ℕ) → l < legs_in t → f < fleets_in t → IsPair t (leg_on l f)
-fleet_pair t l f below known = record { leg = below; fleet = fleet_chooses t l f known }
+fleet_pair t l f below known = record { leg = below; choice = fleet_chooses t l f known }
 
 -- .. and by that the fleet flies it, where it departs at one time
 pub plain_fleet : (t : Tables) (l f : ℕ) → IsPlain t → fleet_by t (leg_on l f) ≡ f
