@@ -41,8 +41,8 @@ def slips(tries, scratch):
     tries("no aircraft at all", told["none"] == ("infeasible", "") and run.row("none")["check"] == "holds: infeasible")
     for change in ("parking ZRH 2", "aircraft A320", "cost A320 1.1", "turn A320 +5"):
         other = Run(scratch / "slips", HUB_DAY, [AS_IS, ("new", "", "", change)])
-        refused = other.on(1) != 0 and change.split()[0] in (other.folder / "engine").read_text(encoding="utf-8").rsplit("WorkflowError", 1)[-1]
-        tries(f"a change that doesn't read ends the run before it begins: {change}", refused)
+        status, told = other.on(1), (other.folder / "engine").read_text(encoding="utf-8").rsplit("WorkflowError", 1)[-1]
+        tries(f"a change that doesn't read ends the run before it begins: {change}", status != 0 and change.split()[0] in told)
 
 
 def too_little_memory(tries, scratch, sound):
@@ -59,7 +59,7 @@ def too_little_memory(tries, scratch, sound):
 def starved(scratch):
     """Returns a program that has no memory for one scenario, whatever it is given."""
     path = scratch / "starved"
-    path.write_text(f'#!/bin/sh\ncase "$1 $2" in solve*/less/*) exit 8 ;; esac\nexec {BUILT} "$@"\n', encoding="utf-8")
+    path.write_text(f'#!/bin/sh\ncase "$*" in solve*/less/*) exit 8 ;; esac\nexec {BUILT} "$@"\n', encoding="utf-8")
     path.chmod(0o755)
     return path
 
@@ -94,7 +94,7 @@ def mounted(place, options):
 
 
 def full_disk(tries, scratch, sound):
-    with mounted(scratch / "disk", "size=400k"):
+    with mounted(scratch / "disk", "size=200k"):
         run = Run(scratch / "disk" / "run", HUB_DAY, THREE)
         status = run.on(2)
         tries("a full disk ends the run, and no folder is half written", status != 0 and not run.half_written())

@@ -90,9 +90,9 @@ class Run:
         outputs = [it for name in ("tables", "solved", "check.json", "drawn") for it in self.folder.glob(f"scenarios/*/{name}")]
         return {it: (it.stat().st_ino, (it / ".snakemake_timestamp" if it.is_dir() else it).stat().st_mtime_ns) for it in finished(outputs)}
 
-    def wait_until_done(self, number, engine):
-        """Waits until so many scenarios are checked, and returns whether the engine is still at work then."""
-        while engine.poll() is None and len(list(self.folder.glob("scenarios/*/check.json"))) < number:
+    def wait_until_done(self, number, engine, output="check.json"):
+        """Waits until an output of so many scenarios stands there, and returns whether the engine is still at work then."""
+        while engine.poll() is None and len(list(self.folder.glob(f"scenarios/*/{output}"))) < number:
             time.sleep(0.05)
         return engine.poll() is None
 
@@ -128,8 +128,8 @@ def without_engine(run):
         base = next(line.split(": ", 1)[1] for line in (run.folder / "config.yaml").read_text().splitlines() if line.startswith("base"))
         for words in (
             ["tables", BUILT, place / "tables", *limits, *it.files(base), *it.changes],
-            ["solve", BUILT, place / "solved", *limits, place / "tables", *it.words],
-            ["check", BUILT, place / "check.json", *limits, place / "solved"],
+            ["solve", BUILT, place / "solved", *limits, "0", place / "tables", *it.words],
+            ["check", BUILT, place / "check.json", *limits, "0", place / "solved"],
             ["draw", place / "drawn", place / "solved", name],
         ):
             subprocess.run([*step, *words], stdin=subprocess.DEVNULL, check=True)

@@ -36,7 +36,7 @@ SlurmctldPidFile={folder}/slurmctld.pid
 SlurmdPidFile={folder}/%n.pid
 SlurmctldLogFile={folder}/slurmctld.log
 SlurmdLogFile={folder}/%n.log
-SlurmdTimeout=10
+SlurmdTimeout=5
 ReturnToService=2
 ProctrackType=proctrack/linuxproc
 TaskPlugin=task/none
@@ -99,7 +99,8 @@ class Slurm:
         key = self.folder / "munge.key"
         key.write_bytes(secrets.token_bytes(128))
         key.chmod(0o400)
-        own = {"socket": "munge.socket", "pid-file": "munged.pid", "log-file": "munged.log", "seed-file": "munged.seed", "key-file": key.name}
+        own = {"socket": "munge.socket", "key-file": key.name}
+        own.update({"pid-file": "munged.pid", "log-file": "munged.log", "seed-file": "munged.seed"})
         self.start("munged", "munged", "--foreground", *(f"--{name}={self.folder / file}" for name, file in own.items()))
         self.wait_for(lambda: (self.folder / "munge.socket").exists())
         self.start("slurmctld", "slurmctld", "-D")
