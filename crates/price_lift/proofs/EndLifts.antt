@@ -1,5 +1,5 @@
 -- What a lift of an end that was checked comes to, from the parts that the calls give.
-use Rattle.std.proofs.Common.{◌≡◌, ℕ, zero, suc, ◌+◌, ◌*◌, ◌^◌, ◌<◌, ◌≤◌, false, List, length, All, Some, None, ℤ, pos, ◌*ℤ◌, ◌<ℤ◌, ◌≤ℤ◌, unsigned_abs, refl, sym, ◌∙◌, ap, subst, inl, inr, arith}
+use Rattle.std.proofs.Common.{◌≡◌, ℕ, zero, suc, ◌+◌, ◌*◌, ◌^◌, ◌<◌, ◌≤◌, false, List, length, All, Some, None, Result, Ok, Err, IfOk, ℤ, pos, ◌*ℤ◌, ◌<ℤ◌, ◌≤ℤ◌, unsigned_abs, refl, sym, ◌∙◌, ap, subst, inl, inr, arith}
 use Rattle.std.specs.Prelude.{int_lt}
 use Rattle.std.proofs.lemmas.Int.{ints}
 use Rattle.std.proofs.lemmas.List.{get_or-drop, get_or_past, length-drop}
@@ -11,6 +11,7 @@ use Rattle.frac_row.specs.Outgrown.{IsWithin}
 use Rattle.frac_row.specs.Row.{IsRow, common_divisor, number_of, reduced, width_of}
 use Rattle.frac_row.specs.declared.row.FracRow.{FracRow}
 use Rattle.frac_row.proofs.Rows.{common_divisor_positive, den_times, number_times, width_of-reduced}
+use Rattle.entries.specs.declared.memory.NoMemory.{NoMemory}
 use Rattle.fleet_model.specs.declared.tables.Tables.{Tables}
 use Rattle.fleet_model.specs.Kept.{Domains, IsBare, pairs_kept}
 use Rattle.fleet_model.specs.Schedule.{fleets_in, legs_in}
@@ -141,6 +142,11 @@ module _ (point : List ℕ) (scale count : ℕ) (some : 0 < scale) where
     where
       small : (n : ℕ) → int_lt (pos max_scale) (pos n) ≡ false → n ≤ max_scale
       small n e = grind (arith, ints)
+
+-- what is known to be a row is one
+pub is_row_of : (row : FracRow) (r : Result FracRow NoMemory) → IfOk r (λ made. made ≡ row) → IsRow row → IfOk r IsRow
+is_row_of _ (Ok made) same is = subst IsRow (sym same) is
+is_row_of _ (Err e) same is = tt
 
 -- it is a row where the numbers have 64 bits
 pub parts_row : (point : List ℕ) (scale count : ℕ) → 0 < scale → scale < 2 ^ 64 → ((k : ℕ) → part_in point k < 2 ^ 64) → IsRow (first_parts point scale count)

@@ -18,6 +18,7 @@ use Rattle.price_lift.specs.PaidBack.{FitsBy, IsLiftErrorBy, payback_excess_by}
 use Rattle.price_lift.specs.Duals.{best_duals, refusal_duals}
 use Rattle.price_lift.specs.LastTables.{none_excess, point_excess, prices_excess_by}
 use Rattle.price_lift.specs.TooLarge.{best_excess, first_priced, point_ends, prices_excess, refusal_excess}
+use Rattle.price_lift.specs.Wanted.{IsWantedBehind}
 use Rattle.price_lift.specs.declared.lift.Lifted.{Lifted}
 
 -- what holds of a result that is well, in other words
@@ -47,6 +48,12 @@ module _ (P : Lifted → Type 0) (o : Option Excess) (r : Result Lifted LiftErro
       by_result : (r : Result Lifted LiftError) → MatchResult r (λ lifted. (o ≡ None) × P lifted) (IsLiftError o) → IfErr r (IsLiftError p)
       by_result (Ok lifted) is = tt
       by_result (Err e) is = subst (λ q. IsLiftError q e) same is
+
+-- memory may be wanting behind what fits
+pub behind : (o : Option Excess) (r : Result Lifted LiftError) → o ≡ None → IfErr r (IsWantedBehind o)
+behind o (Ok lifted) fits = tt
+behind o (Err (TooLarge step at)) fits = tt
+behind o (Err NoMemory) fits = fits
 
 -- ---- the same in the words of each end
 pub same_best : (t : Tables) (table : List FracRow) (mixture : Mixture) → duals_by table (BothRows mixture) (legs_in t) ≡ best_duals t table

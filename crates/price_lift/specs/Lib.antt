@@ -10,4 +10,5 @@ pub mod PaidBack
 pub mod Prices
 pub mod Steps
 pub mod TooLarge
+pub mod Wanted
 pub mod Weights

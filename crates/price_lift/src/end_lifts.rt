@@ -1,7 +1,7 @@
 //! Prices and fractional assignments from ends that were checked.
 ghost use Rattle.std.specs.Prelude.{◌≡◌, ◌+◌, ◌<◌, ◌≤◌, ℕ, pos, int_lt, ◌<ℤ◌, drop, length, IfOk, IfErr, IsSomeAnd, None, MatchResult};
 ghost use Rattle.frac_row.specs.Outgrown.{IsWithin};
-ghost use Rattle.frac_row.specs.Row.{reduced};
+ghost use Rattle.frac_row.specs.Row.{IsRow, reduced, width_of};
 ghost use Rattle.fleet_model.specs.Kept.{kept_by};
 ghost use Rattle.fleet_model.specs.Schedule.{legs_in};
 ghost use Rattle.row_store.specs.declared.problem.Rows.{Rows};
@@ -16,6 +16,7 @@ ghost use Rattle.price_lift.specs.Lifted.{AreLiftedPrices};
 ghost use Rattle.price_lift.specs.PaidBack.{FitsBy, IsLiftErrorBy};
 ghost use Rattle.price_lift.specs.Steps.{prices_by};
 ghost use Rattle.price_lift.specs.TooLarge.{prices_excess};
+ghost use Rattle.price_lift.specs.Wanted.{IsWantedBehind};
 
 use crate::lift::Lifted;
 use crate::paying::paid_back;
@@ -172,16 +173,30 @@ fn end_mixed(alloc: Global, hint: &PointHint, outline: &Outline) -> Result<Mixed
         (IsLiftError (parts_excess (first_parts hint.now.point hint.now.scale (length outline.now.pairs)))) }
 {
     let count = pair_count(outline);
-    let parts = lowest_parts(alloc, hint.point.as_slice(), hint.scale, count)?;
-    if is_past_scale(&parts.den) {
+    let parts = row_of_parts(alloc, hint.point.as_slice(), hint.scale, count)?;
+    mixed_of(alloc, outline, parts)
+}
+
+// The same of their parts.
+fn mixed_of(alloc: Global, outline: &Outline, parts: FracRow) -> Result<Mixed, LiftError>
+    requires row { IsRow parts }
+    requires width { width_of parts ≡ length outline.now.pairs }
+    ensures mixed { MatchResult result
+        (λ mixed. (parts_excess parts ≡ None) × IsMixedOfParts parts outline.now.pairs mixed)
+        (IsLiftError (parts_excess parts)) }
+    ensures memory { IfErr result (IsWantedBehind (parts_excess parts)) }
+{
+    let mut lowest = parts;
+    reduce(&mut lowest);
+    if is_past_scale(&lowest.den) {
         return Err(LiftError::TooLarge {
             step: WEIGHTS_STEP,
             at: 0,
         });
     }
-    let weights = weights(alloc, outline, parts.numbers.as_slice())?;
+    let weights = weights(alloc, outline, lowest.numbers.as_slice())?;
     Ok(Mixed {
-        scale: parts.den,
+        scale: lowest.den,
         weights: Entries::from_vec(weights),
     })
 }
@@ -193,18 +208,17 @@ fn is_past_scale(scale: &i128) -> bool
     *scale > i128::from(MAX_SCALE)
 }
 
-// The parts of the first columns, over the scale, in lowest terms.
-fn lowest_parts(alloc: Global, point: &[u64], scale: u64, count: u32) -> Result<FracRow, NoMemory>
+// The parts of the first columns, over the scale, each of which has 64 bits.
+fn row_of_parts(alloc: Global, point: &[u64], scale: u64, count: u32) -> Result<FracRow, NoMemory>
     requires some { 0 < scale }
     requires long { count ≤ length point.now }
-    ensures { IfOk result (λ row. row ≡ reduced (first_parts point.now scale count)) }
+    ensures parts { IfOk result (λ row. row ≡ first_parts point.now scale count) }
+    ensures row { IfOk result IsRow }
 {
-    let mut parts = first_parts(alloc, point, scale, count)?;
-    reduce(&mut parts);
-    Ok(parts)
+    first_parts(alloc, point, scale, count)
 }
 
-// .. before that.
+// The parts, column by column.
 fn first_parts(alloc: Global, point: &[u64], scale: u64, count: u32) -> Result<FracRow, NoMemory>
     requires { count ≤ length point.now }
     ensures { IfOk result (λ row. row ≡ first_parts point.now scale count) }

@@ -1,18 +1,21 @@
 //! Prices and fractional assignments from last tables, by the outline of the subproblem's linear program.
 ghost use Rattle.std.specs.Prelude.{◌≡◌, ℕ, List, None, IfOk, IfErr, MatchResult};
+ghost use Rattle.sums.specs.Places.{first_below};
 ghost use Rattle.fleet_model.specs.Kept.{kept_by};
 ghost use Rattle.fleet_model.specs.Schedule.{legs_in};
 ghost use Rattle.simplex_frac.specs.declared.turn.Turn.TheVariants as turns;
 ghost use Rattle.lp_rows.specs.Layout.{starts_in};
 ghost use Rattle.lp_rows.specs.Outline.{IsOutline};
+ghost use Rattle.dual_lift.specs.Duals.{real_columns};
 ghost use Rattle.dual_lift.specs.Readings.{duals_by};
-ghost use Rattle.dual_lift.specs.TooLarge.{IsLiftError};
+ghost use Rattle.dual_lift.specs.TooLarge.{IsLiftError, phases_excess};
 ghost use Rattle.price_lift.specs.Duals.{best_duals, refusal_duals};
 ghost use Rattle.price_lift.specs.Ends.{Ends};
 ghost use Rattle.price_lift.specs.LastTables.{IsLastBy, IsPointBy, IsRefusalBy, none_excess, point_excess, prices_excess_by};
 ghost use Rattle.price_lift.specs.Lifted.{AreNodePrices, IsLiftedPoint, IsLiftedRefusal};
 ghost use Rattle.price_lift.specs.PaidBack.{FitsBy, IsLiftErrorBy};
 ghost use Rattle.price_lift.specs.TooLarge.{best_excess, refusal_excess};
+ghost use Rattle.price_lift.specs.Wanted.{IsWantedBehind};
 
 use crate::lift::Lifted;
 use crate::paying::paid_back;
@@ -39,6 +42,7 @@ pub fn lift_best_with<R: RowStore>(
     ensures lifted { IfOk result (IsLiftedPoint tables.now (kept_by kept.now) (R.content table.now) basis.now (best_duals tables.now (R.content table.now))) }
     ensures fits { IfOk result (λ _. FitsBy tables.now (kept_by kept.now) (best_excess tables.now (kept_by kept.now) (R.content table.now) basis.now)) }
     ensures too_large { IfErr result (IsLiftErrorBy tables.now (kept_by kept.now) (best_excess tables.now (kept_by kept.now) (R.content table.now) basis.now)) }
+    ensures memory { IfErr result (IsWantedBehind (first_below (phases_excess (R.content table.now)) (real_columns (R.content table.now)))) }
 {
     let mixture = Mixture::of(table, outline.column_count())?;
     let reading = Reading::BothRows(mixture);

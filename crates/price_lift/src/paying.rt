@@ -6,6 +6,7 @@ ghost use Rattle.dual_lift.specs.TooLarge.{IsLiftError};
 ghost use Rattle.dual_bound.specs.Prices.{AreWithin};
 ghost use Rattle.price_lift.specs.ArcRises.{outline_rises, rise_of_number};
 ghost use Rattle.price_lift.specs.PaidBack.{lift_error, paid_back, payback_excess};
+ghost use Rattle.price_lift.specs.Wanted.{handed_on};
 
 use dual_bound::{PriceFinder, Prices};
 use dual_lift::LiftError;
@@ -35,8 +36,15 @@ pub(crate) fn paid_back(
         return Ok(prices);
     }
     let least = least_idle(alloc, tables)?;
-    match pay_back(alloc, tables, &prices, &rises, least) {
-        Ok(paid) => Ok(paid),
+    handed_on(pay_back(alloc, tables, &prices, &rises, least))
+}
+
+// What paying back comes to, as a lift tells it.
+fn handed_on(paid: Result<Prices, PaybackError>) -> Result<Prices, LiftError>
+    ensures { result ≡ handed_on paid }
+{
+    match paid {
+        Ok(prices) => Ok(prices),
         Err(error) => Err(lift_error(error)),
     }
 }

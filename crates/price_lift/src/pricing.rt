@@ -1,5 +1,5 @@
 //! Prices of dual values.
-ghost use Rattle.std.specs.Prelude.{◌≡◌, ◌+◌, ◌<◌, ◌^◌, ℕ, neg_ℤ, length, slice_index_or, pos, None, IfOk, MatchResult};
+ghost use Rattle.std.specs.Prelude.{◌≡◌, ◌+◌, ◌<◌, ◌^◌, ℕ, neg_ℤ, length, slice_index_or, pos, None, IfErr, IfOk, MatchResult};
 ghost use Rattle.sums.specs.Places.{list_below};
 ghost use Rattle.frac_row.specs.Outgrown.{IsWithin};
 ghost use Rattle.frac_row.specs.Row.{IsRow, reduced, width_of};
@@ -9,6 +9,7 @@ ghost use Rattle.lp_rows.specs.Outline.{IsOutlineOver};
 ghost use Rattle.dual_lift.specs.TooLarge.{IsLiftError};
 ghost use Rattle.price_lift.specs.Steps.{prices_by};
 ghost use Rattle.price_lift.specs.TooLarge.{prices_excess};
+ghost use Rattle.price_lift.specs.Wanted.{IsWantedBehind};
 
 use crate::lowest::lowest;
 use crate::stepping::price_steps;
@@ -32,9 +33,10 @@ pub(crate) fn prices_of(
     requires outline { IsOutlineOver tables.now outline.now }
     requires row { IsRow duals }
     requires width { width_of duals ≡ length outline.now.nodes + outline.now.fleets }
-    ensures { MatchResult result
+    ensures prices { MatchResult result
         (λ prices. (prices_excess (legs_in tables.now) duals ≡ None) × (prices ≡ prices_by tables.now (starts_in outline.now.network) (reduced duals)))
         (IsLiftError (prices_excess (legs_in tables.now) duals)) }
+    ensures memory { IfErr result (IsWantedBehind (prices_excess (legs_in tables.now) duals)) }
 {
     let lowest = lowest(outline.first_priced_line(), duals)?;
     let prices = prices(alloc, tables, outline, &lowest)?;

@@ -1,5 +1,5 @@
 //! The weights of pairs at the last table's basic point.
-ghost use Rattle.std.specs.Prelude.{◌≡◌, ◌≤◌, pos, length, None, Some, IfOk, OnOk, ◌++◌, MatchResult};
+ghost use Rattle.std.specs.Prelude.{◌≡◌, ◌≤◌, pos, length, None, Some, IfErr, IfOk, OnOk, ◌++◌, MatchResult};
 ghost use Rattle.sums.specs.Places.{first_below};
 ghost use Rattle.row_store.specs.Table.{HasColumns, height_of};
 ghost use Rattle.lp_rows.specs.Layout.{concat_below};
@@ -10,6 +10,7 @@ ghost use Rattle.dual_lift.specs.Scales.{scale_below};
 ghost use Rattle.dual_lift.specs.TooLarge.{IsLiftError};
 ghost use Rattle.price_lift.specs.Parts.{IsBasicMixed, weight_where, weights_at};
 ghost use Rattle.price_lift.specs.TooLarge.{weights_excess};
+ghost use Rattle.price_lift.specs.Wanted.{IsWantedBehind};
 
 use dual_bound::prices::MAX_SCALE;
 use dual_bound::{Mixed, Weight};
@@ -31,10 +32,11 @@ pub(crate) fn basic_mixed<R: RowStore>(
     requires columns { HasColumns (R.content table.now) (column_count outline.now) }
     requires parts { scale_below (R.content table.now) basis.now (length outline.now.pairs) (height_of (R.content table.now)) ≤ max_scale
         → HaveParts (R.content table.now) basis.now (length outline.now.pairs) (scale_below (R.content table.now) basis.now (length outline.now.pairs) (height_of (R.content table.now))) }
-    ensures { MatchResult result
+    ensures mixed { MatchResult result
         (λ mixed. (first_below (weights_excess (R.content table.now) basis.now (length outline.now.pairs)) (height_of (R.content table.now)) ≡ None)
         × IsBasicMixed (R.content table.now) basis.now outline.now.pairs mixed)
         (IsLiftError (first_below (weights_excess (R.content table.now) basis.now (length outline.now.pairs)) (height_of (R.content table.now)))) }
+    ensures memory { IfErr result (IsWantedBehind (first_below (weights_excess (R.content table.now) basis.now (length outline.now.pairs)) (height_of (R.content table.now)))) }
 {
     let columns = outline.column_count();
     let pairs = pair_count(outline);

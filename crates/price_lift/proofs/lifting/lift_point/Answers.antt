@@ -31,7 +31,7 @@ unfolding point_excess
 returns-in_err-mixed g c =
     let p = err_from_is_err_and c.from_residual-in_err-mixed.result c.from_residual-in_err-mixed.ensures.1 in
     let table = g.R.RowStore.content c.args.table.now in
-    let last = subst (λ n. IsLiftError (first_below (weights_excess table c.args.basis.now n) (height_of table)) c.in_err-mixed.field-0.0) (pairs_long c.args.tables.now (kept_by c.args.kept.now) _ c.requires.outline.pairs) c.in_err-mixed.ensures in
+    let last = subst (λ n. IsLiftError (first_below (weights_excess table c.args.basis.now n) (height_of table)) c.in_err-mixed.field-0.0) (pairs_long c.args.tables.now (kept_by c.args.kept.now) _ c.requires.outline.pairs) c.in_err-mixed.ensures.mixed in
     rw (p.1, p.2) (then_fails _ _ c.in_err-mixed.field-0.0 c.in_ok-before.ensures.0 (first_fails _ _ c.in_err-mixed.field-0.0 last))
 
 pub paid_back-requires-clause-outline : goal.paid_back-requires-clause-outline
@@ -44,11 +44,11 @@ pub returns-in_err-prices : goal.returns-in_err-prices
 returns-in_err-prices g c =
     let p = err_from_is_err_and c.from_residual-in_err-prices.result c.from_residual-in_err-prices.ensures.1 in
     let table = g.R.RowStore.content c.args.table.now in
-    let weighed = subst (λ n. first_below (weights_excess table c.args.basis.now n) (height_of table) ≡ None) (pairs_long c.args.tables.now (kept_by c.args.kept.now) _ c.requires.outline.pairs) c.in_ok-mixed.ensures.0 in
+    let weighed = subst (λ n. first_below (weights_excess table c.args.basis.now n) (height_of table) ≡ None) (pairs_long c.args.tables.now (kept_by c.args.kept.now) _ c.requires.outline.pairs) c.in_ok-mixed.ensures.mixed.0 in
     rw (p.1, p.2) (point_fails _ _ _ _ _ c.requires.ends c.args.outline.now c.requires.outline _ c.in_ok-before.ensures.1 c.in_ok-before.ensures.0 weighed c.in_err-prices.field-0.0 c.in_err-prices.ensures)
 
 pub returns : goal.returns
 returns g c =
     let table = g.R.RowStore.content c.args.table.now in
-    let weighed = subst (λ n. first_below (weights_excess table c.args.basis.now n) (height_of table) ≡ None) (pairs_long c.args.tables.now (kept_by c.args.kept.now) _ c.requires.outline.pairs) c.in_ok-mixed.ensures.0 in
-    point_of _ _ _ _ _ c.requires.ends c.args.outline.now c.requires.outline _ c.in_ok-before.ensures.1 c.in_ok-before.ensures.0 weighed _ c.in_ok-prices.ensures _ c.in_ok-mixed.ensures.1
+    let weighed = subst (λ n. first_below (weights_excess table c.args.basis.now n) (height_of table) ≡ None) (pairs_long c.args.tables.now (kept_by c.args.kept.now) _ c.requires.outline.pairs) c.in_ok-mixed.ensures.mixed.0 in
+    point_of _ _ _ _ _ c.requires.ends c.args.outline.now c.requires.outline _ c.in_ok-before.ensures.1 c.in_ok-before.ensures.0 weighed _ c.in_ok-prices.ensures _ c.in_ok-mixed.ensures.mixed.1

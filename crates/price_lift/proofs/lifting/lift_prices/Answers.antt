@@ -32,4 +32,4 @@ returns g c =
     let first : c.first_priced_line.result ≡ legs_in c.args.tables.now = c.first_priced_line.ensures ∙ c.requires.outline.over.legs in
     let table = g.R.RowStore.content c.args.table.now in
     lifted_prices _ _ _ _ _ c.requires.ends.1 _ c.requires.outline.network _ c.in_ok-duals.ensures.row (c.in_ok-duals.ensures.duals.1 ∙ ap (duals_by table c.args.reading.now) first)
-    (subst (λ n. duals_excess table c.args.reading.now n ≡ None) first c.in_ok-duals.ensures.duals.0) c.prices_of.result c.prices_of.ensures
+    (subst (λ n. duals_excess table c.args.reading.now n ≡ None) first c.in_ok-duals.ensures.duals.0) c.prices_of.result c.prices_of.ensures.prices
