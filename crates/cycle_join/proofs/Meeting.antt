@@ -2,13 +2,13 @@
 use Rattle.std.proofs.Common.{◌≡◌, ◌≢◌, ℕ, ◌<◌, ◌⊎◌, inl, inr, Bool, true, false, List, length, sym, ◌∙◌, ap, arith}
 use Rattle.std.proofs.lemmas.Bool.{and_from, and_parts, cases_order, eq-eqb, eqb-true, lt-ltb, ltb-true}
 use Rattle.sums.proofs.Tests.{by_either, no_both}
-use Rattle.fleet_model.specs.declared.limits.TheConstants.{MINUTES_PER_PERIOD}
 use Rattle.fleet_model.specs.declared.parts.Connection.{Connection}
 use Rattle.fleet_model.specs.declared.tables.Tables.{Tables}
+use Rattle.fleet_model.specs.Schedule.{period_of}
 use Rattle.ground_turns.specs.Laws.{Touch}
 use Rattle.ground_turns.specs.Maps.{IsSuccessorMap, arrivals_of, turn_at}
 use Rattle.ground_turns.specs.Parts.{NeverTouches, TouchesFreely}
-use Rattle.ground_turns.specs.Turns.{period_of, ready_at, station_at, touches, wait_of}
+use Rattle.ground_turns.specs.Turns.{ready_at, station_at, touches, wait_of}
 use Rattle.ground_turns.proofs.Waits.{ready_within}
 use Rattle.ground_turns.proofs.WalkRound.{touches_ready}
 use Rattle.cycle_join.specs.Labels.{label_of}
@@ -72,7 +72,7 @@ module _ (t : Tables) (a : List ℕ) (f : ℕ) (pairs turns : List Connection) (
       ))
     where
       at_ready : (k : ℕ) → touches t f (turn_at turns k) (ready_at t f (turn_at turns k)) ≡ true
-      at_ready k = touches_ready MINUTES_PER_PERIOD (ready_at t f (turn_at turns k)) (wait_of t f (turn_at turns k)) (ready_within t a f turns map k)
+      at_ready k = touches_ready (period_of t) (ready_at t f (turn_at turns k)) (wait_of t f (turn_at turns k)) (ready_within t a f turns map k)
 
       others : i ≢ j
       others same = let e = ap (λ k. label_of labels (turn_at turns k).arriving) same in absurd (omega (arith, e, h.lower))
@@ -80,7 +80,7 @@ module _ (t : Tables) (a : List ℕ) (f : ℕ) (pairs turns : List Connection) (
   -- turns that touch a minute share one
   shared : (s m j k : ℕ) → m < period_of t → TouchesFreely t f pairs turns s m j → TouchesFreely t f pairs turns s m k → share_minute t f (turn_at turns j) (turn_at turns k) ≡ true
   shared s m j k moment p q =
-      one_touches MINUTES_PER_PERIOD (ready_at t f (turn_at turns j)) (ready_at t f (turn_at turns k)) m (wait_of t f (turn_at turns j)) (wait_of t f (turn_at turns k))
+      one_touches (period_of t) (ready_at t f (turn_at turns j)) (ready_at t f (turn_at turns k)) m (wait_of t f (turn_at turns j)) (wait_of t f (turn_at turns k))
       (ready_within t a f turns map j) (ready_within t a f turns map k) moment p.touching q.touching
 
   meeting : (s m j k : ℕ) → m < period_of t → TouchesFreely t f pairs turns s m j → TouchesFreely t f pairs turns s m k

@@ -116,6 +116,7 @@ module _ (t : Tables) (a : List ℕ) (f : ℕ) (turns : List Connection) (map : 
 
     tour_map : IsSuccessorMap t a f (turns_round legs)
     tour_map = record {
+      plain = map.plain;
       each = by_map (IsTurn t a f) (its_turn t a f turns map);
       arrives = λ l below.
           counted_once (λ k. (turn_at (turns_round legs) k).arriving == l) (length (turns_round legs)) (fleet_at a l == f)

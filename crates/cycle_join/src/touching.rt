@@ -1,14 +1,13 @@
 //! Where two turns touch one minute at one station.
 ghost use Rattle.std.specs.Prelude.{◌≡◌, ◌<◌};
-ghost use Rattle.fleet_model.specs.Schedule.{fleets_in, legs_in};
-ghost use Rattle.ground_turns.specs.Turns.{IsTurn, period_of, touches};
+ghost use Rattle.fleet_model.specs.Schedule.{fleets_in, legs_in, period_of};
+ghost use Rattle.ground_turns.specs.Turns.{IsTurn, ready_at, touches};
 ghost use Rattle.cycle_join.specs.Labels.{AreLabels};
 ghost use Rattle.cycle_join.specs.Meetings.{IsGround, meets, share_minute};
 
 use crate::ground::Ground;
-use fleet_model::limits::MINUTES_PER_PERIOD;
-use fleet_model::{Connection, Tables, ready};
-use ground_turns::{minutes_until, wait};
+use fleet_model::{Connection, Tables};
+use ground_turns::{flight, minutes_until, wait};
 
 /// Whether a turn meets another: one of a cycle with a lower label, neither of a given pair, at the same station, and
 /// both touch one minute.
@@ -40,8 +39,8 @@ fn share_minute(tables: &Tables, fleet: u32, turn: Connection, other: Connection
     requires other_departs { other.departing < legs_in tables.now }
     ensures { result ≡ share_minute tables.now fleet turn other }
 {
-    touches(tables, fleet, turn, ready(tables, other.arriving, fleet))
-        || touches(tables, fleet, other, ready(tables, turn.arriving, fleet))
+    touches(tables, fleet, turn, ready(tables, fleet, other))
+        || touches(tables, fleet, other, ready(tables, fleet, turn))
 }
 
 // Whether a turn touches a minute.
@@ -52,6 +51,16 @@ fn touches(tables: &Tables, fleet: u32, turn: Connection, minute: u16) -> bool
     requires minute { minute < period_of tables.now }
     ensures { result ≡ touches tables.now fleet turn minute }
 {
-    let ready = ready(tables, turn.arriving, fleet);
-    minutes_until(MINUTES_PER_PERIOD, ready, minute) <= wait(tables, fleet, turn)
+    let ready = ready(tables, fleet, turn);
+    minutes_until(tables.period(), ready, minute) <= wait(tables, fleet, turn)
+}
+
+// The minute at which a turn's aircraft can depart again.
+fn ready(tables: &Tables, fleet: u32, turn: Connection) -> u16
+    requires fleet { fleet < fleets_in tables.now }
+    requires arrives { turn.arriving < legs_in tables.now }
+    ensures value { result ≡ ready_at tables.now fleet turn }
+    ensures within { result < period_of tables.now }
+{
+    tables.ready(flight(tables, turn.arriving, fleet))
 }

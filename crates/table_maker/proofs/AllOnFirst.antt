@@ -17,6 +17,7 @@ use Rattle.fleet_model.specs.declared.parts.Settings.{Settings}
 use Rattle.fleet_model.specs.declared.tables.Tables.{Tables}
 use Rattle.fleet_model.proofs.Choices.{nothing_parked}
 use Rattle.fleet_model.proofs.CostLookup.{cost_found}
+use Rattle.fleet_model.proofs.PlainTables.{are_plain}
 use Rattle.ground_turns.specs.Maps.{IsNext, IsSuccessorMap, crossings_of, no_turn, periods_of, turn_by, turns_by}
 use Rattle.ground_turns.specs.Turns.{crosses}
 use Rattle.ground_turns.proofs.FleetTurns.{next_is_map}
@@ -112,7 +113,7 @@ module _ (trips : List RoundTrip) (settings : Settings) (are : AreTrips trips) (
   turns = turns_by a 0 partner (legs_in t)
 
   first_map : IsSuccessorMap t a 0 turns
-  first_map = next_is_map t a 0 partner is_next
+  first_map = next_is_map t a 0 partner (are_plain t) is_next
 
   turns_are : (m : ℕ) → turns_by a 0 partner m ≡ list_below (turn_by partner) m
   turns_are zero = refl
@@ -180,6 +181,7 @@ module _ (trips : List RoundTrip) (settings : Settings) (are : AreTrips trips) (
   -- the second fleet flies nothing
   second_map : IsSuccessorMap t a 1 []
   second_map = record {
+    plain = are_plain t;
     each = λ k below. absurd (omega (arith, below));
     arrives = λ l within. rw (on_first l) refl;
     departs = λ l within. rw (on_first l) refl;
