@@ -16,11 +16,14 @@ use Rattle.plan_desk.specs.Desk.{Files}
 use Rattle.plan_desk.specs.Sink.{output_with}
 use Rattle.plan_desk.specs.declared.file.DeskFile.TheVariants as file
 use Rattle.sched_read.specs.Reading.{Reads}
-use Rattle.fleet_cli.specs.Answer.{Answers, Checks, ChecksPlan, ChecksProof, ChecksTree, ReadsProof, RefusesProof, checked_status, says}
+use Rattle.fleet_cli.proofs.Skeletons.{either_legal, either_plan, either_proof, either_tables}
+use Rattle.fleet_cli.specs.Answer.{Answers, ChecksOn, ChecksProof, ChecksRead, ChecksTree, ChecksWith, checked_status}
 use Rattle.fleet_cli.specs.Contents.{bytes_in, table_bytes}
 use Rattle.fleet_cli.specs.Gathered.{AllStand, IsHeld}
 use Rattle.fleet_cli.specs.Headline.{IsUnder, TellsBound}
 use Rattle.fleet_cli.specs.Reading.{AllWithin, proof_files}
+use Rattle.fleet_cli.specs.Refusals.{says}
+use Rattle.fleet_cli.specs.Skeletons.{OnLegal, OnPlan, OnProof}
 use Rattle.fleet_cli.specs.Texts.{checked_text}
 use Rattle.fleet_cli.specs.declared.answer.Answer.{Answer}
 use Rattle.fleet_cli.specs.declared.status.TheConstants.{DONE}
@@ -64,37 +67,36 @@ module _ (answer : Answer) (done : answer.status.code ≡ DONE) where
       put = put ∙ ap (output_with before) holds.text_is;
     }
 
-    with_plan : (whole : Tree) → IsHeld held dir file.Plan (bytes_in held dir file.Plan) → (plan : ChecksPlan t whole (bytes_in held dir file.Plan) answer) → TellsBound held dir settings before after
-    with_plan whole stands plan = elim plan.answers [
-      | inl refused ↦ absurd (other _ _ refused.is (λ e. let bad : ◌≡◌ {A = ℕ} 9 0 = sym refused.refused ∙ e in omega arith))
-      | inr checks ↦ let holds = tree_holds t (Some (total_cost t plan.plan)) whole checks.checks in record {
-        tables = t;
-        cost = Some (total_cost t plan.plan);
-        bound = holds.bound;
-        there = there;
-        reads = reads;
-        plan = record { plan = plan.plan; there = stands; reads = plan.reads; legal = checks.legal; costs = refl };
-        proven = holds.proven;
-        under = under_cost t plan.plan holds.bound checks.legal holds.proven;
-        put = put ∙ ap (output_with before) holds.text_is;
-      }
-    ]
+    with_plan : (whole : Tree) → IsHeld held dir file.Plan (bytes_in held dir file.Plan) → OnPlan t (bytes_in held dir file.Plan) (OnLegal t (ChecksWith t whole)) answer → TellsBound held dir settings before after
+    with_plan whole stands =
+        either_plan answer (TellsBound held dir settings before after) t (bytes_in held dir file.Plan) (OnLegal t (ChecksWith t whole)) (λ refused. absurd (other 9 _ refused.is (λ e. omega arith)))
+        (λ plan plan_reads. either_legal answer (TellsBound held dir settings before after) t (ChecksWith t whole) plan
+        (λ refused. absurd (other _ _ refused.is (λ e. let bad : ◌≡◌ {A = ℕ} 9 0 = sym refused.refused ∙ e in omega arith)))
+        (λ legal checks. let holds = tree_holds t (Some (total_cost t plan)) whole checks in record {
+          tables = t;
+          cost = Some (total_cost t plan);
+          bound = holds.bound;
+          there = there;
+          reads = reads;
+          plan = record { plan = plan; there = stands; reads = plan_reads; legal = legal; costs = refl };
+          proven = holds.proven;
+          under = under_cost t plan holds.bound legal holds.proven;
+          put = put ∙ ap (output_with before) holds.text_is;
+        }))
 
     by_plan : (proof : Proof) (planned : Bool) → ReadsAs t (bytes_in held dir file.Proof) proof → proof.planned ≡ planned → ChecksProof t planned proof.tree (bytes_in held dir file.Plan) answer → TellsBound held dir settings before after
     by_plan proof false text_reads says checks = alone (tree_holds t None proof.tree checks)
-    by_plan proof true text_reads says (inl refused) = absurd (other 9 _ refused.is (λ e. omega arith))
-    by_plan proof true text_reads says (inr plan) =
-        with_plan proof.tree (within.further file.Plan (refl, record { tables = t; proof = proof; reads = reads; proof_reads = text_reads; planned = says })) plan
+    by_plan proof true text_reads says checks =
+        with_plan proof.tree (within.further file.Plan (refl, record { tables = t; proof = proof; reads = reads; proof_reads = text_reads; planned = says })) checks
 
-    by_proof : RefusesProof t (bytes_in held dir file.Proof) answer ⊎ ReadsProof t (bytes_in held dir file.Proof) (bytes_in held dir file.Plan) answer → TellsBound held dir settings before after
-    by_proof (inl refused) = absurd (other 9 _ refused.is (λ e. omega arith))
-    by_proof (inr read) = by_plan read.proof read.proof.planned read.reads refl read.checks
+    by_proof : OnProof t (bytes_in held dir file.Proof) (ChecksRead t (bytes_in held dir file.Plan)) answer → TellsBound held dir settings before after
+    by_proof =
+        either_proof answer (TellsBound held dir settings before after) t (bytes_in held dir file.Proof) (ChecksRead t (bytes_in held dir file.Plan))
+        (λ refused. absurd (other 9 _ refused.is (λ e. omega arith))) (λ proof text_reads. by_plan proof proof.planned text_reads refl)
 
   pub checked_tells : (held : Files) (dir : List ℕ) (settings : Settings) (before after : Option (List ℕ)) → Answers held (Some (check dir settings)) answer → after ≡ output_with before answer.text
       → TellsBound held dir settings before after
   checked_tells held dir settings before after (inl long) put = absurd (other 6 _ long.is (λ e. omega arith))
-  checked_tells held dir settings before after (inr read) put = by_tables read.answers
-    where
-      by_tables : Checks settings (table_bytes (bytes_in held dir)) (bytes_in held dir file.Proof) (bytes_in held dir file.Plan) answer → TellsBound held dir settings before after
-      by_tables (inl refused) = absurd (other 6 _ refused.is (λ e. omega arith))
-      by_tables (inr x) = by_proof held dir settings before after put read.within read.within.first x.tables x.reads x.answers
+  checked_tells held dir settings before after (inr read) put =
+      either_tables answer (TellsBound held dir settings before after) settings (table_bytes (bytes_in held dir)) (ChecksOn (bytes_in held dir file.Proof) (bytes_in held dir file.Plan))
+      (λ refused. absurd (other 6 _ refused.is (λ e. omega arith))) (by_proof held dir settings before after put read.within read.within.first) read.answers

@@ -97,7 +97,7 @@ module _ (held : Files) (dir : List ℕ) (settings : Settings) (options : SolveO
     where
       by_tables : Solves settings options (table_bytes (bytes_in held dir)) answer → TellsSolution held told dir settings options code before after
       by_tables (inl refused) = absurd (not_refused code solution (is ∙ ap (λ (a : Answer). a.status.code) refused.is))
-      by_tables (inr solves) = let given = solves.gives in record {
+      by_tables (inr solves) = let given = solves.finishes in record {
         stands = with_texts held dir (solved_files solves.tables given.solution given.rotations options.rotations.visits);
         tells = written ∙ ap (λ (a : Answer). held_with_texts (Some held) dir a.files) given.is;
         leaves = record {

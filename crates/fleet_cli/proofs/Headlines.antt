@@ -30,7 +30,7 @@ module _ (held : Files) (dir : List ℕ) (number legs : ℕ) (answer : Answer) (
       → TellsMade held told dir number legs code before after
   leaves_made x is written put =
       let made = made_tables number legs in
-      let given = x.solves.gives in
+      let given = x.solves.finishes in
       let solution : IsSolution code = rw is (is_solution answer.status.code (flyable number legs answer x)) in
       let solved = solved_leaves (with_texts held dir (made_files made)) dir DEFAULT_SETTINGS DEFAULT_OPTIONS x.solving code told before after (solving_answers held dir number legs answer x)
       (is ∙ ap (λ (a : Answer). a.status.code) x.is) (written ∙ written_over held dir number legs answer x) (put ∙ ap (λ (a : Answer). output_with before a.text) x.is) solution in

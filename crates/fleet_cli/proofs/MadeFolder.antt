@@ -31,13 +31,14 @@ use Rattle.table_maker.specs.Made.{CanBeMade, made_tables}
 use Rattle.table_maker.specs.declared.made.MadeTables.{MadeTables}
 use Rattle.fleet_cli.proofs.FrontFacts.{held_in}
 use Rattle.fleet_cli.proofs.TextsStand.{stands_last, with_more}
-use Rattle.fleet_cli.specs.Answer.{Answers, Makes, SolvesTables}
+use Rattle.fleet_cli.specs.Answer.{Answers, GivesSolution, Makes}
 use Rattle.fleet_cli.specs.Contents.{bytes_in, table_bytes}
 use Rattle.fleet_cli.specs.Gathered.{AllStand, IsHeld, limit_of}
 use Rattle.fleet_cli.specs.MadeSolved.{MadeIsSolved}
 use Rattle.fleet_cli.specs.Making.{made_files}
 use Rattle.fleet_cli.specs.Reading.{IsReached, IsRead, table_files}
 use Rattle.fleet_cli.specs.Run.{IsFlyable}
+use Rattle.fleet_cli.specs.Skeletons.{TablesRead}
 use Rattle.fleet_cli.specs.Solution.{solved_files, solved_status}
 use Rattle.fleet_cli.specs.Written.{HaveLengths, held_with_texts, with_texts}
 use Rattle.fleet_cli.specs.declared.answer.Answer.{Answer}
@@ -126,7 +127,7 @@ module _ (held : Files) (dir : List ℕ) (number legs : ℕ) (answer : Answer) (
       let there = made_stand held dir (made_tables number legs) in
       inr (record {
         within = record { first = all_stand with_made dir (made_tables number legs) there (made_short number legs x.can); further = λ f follows. absurd follows };
-        answers = inr (subst (λ b. SolvesTables b DEFAULT_SETTINGS DEFAULT_OPTIONS x.solving) (sym (tables_are with_made dir (made_tables number legs) there)) x.solves);
+        answers = inr (subst (λ b. TablesRead DEFAULT_SETTINGS b (GivesSolution DEFAULT_OPTIONS) x.solving) (sym (tables_are with_made dir (made_tables number legs) there)) x.solves);
       })
 
   -- and its files are written over them
@@ -183,5 +184,5 @@ flyable number legs answer x =
     let made = made_read number legs DEFAULT_SETTINGS x.can defaults_fit in
     let same = tables.one_reading (bytes_of (made_tables number legs)) DEFAULT_SETTINGS made.tables x.solves.tables made.reads x.solves.reads in
     let legal = subst (λ t. IsLegal t (all_on_first legs)) same made.legal in
-    rw (ap (λ (a : Answer). a.status.code) x.is ∙ ap (λ (a : Answer). a.status.code) x.solves.gives.is)
-    (by_plan x.solves.tables (all_on_first legs) x.solves.gives.solution legal x.solves.gives.solves.right)
+    rw (ap (λ (a : Answer). a.status.code) x.is ∙ ap (λ (a : Answer). a.status.code) x.solves.finishes.is)
+    (by_plan x.solves.tables (all_on_first legs) x.solves.finishes.solution legal x.solves.finishes.solves.right)

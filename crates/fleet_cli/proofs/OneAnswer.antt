@@ -1,9 +1,14 @@
 -- What is held and what is asked fix the answer, and what is good is answered as such.
-use Rattle.std.proofs.Common.{◌≡◌, ℕ, List, Option, Some, None, IfSome, ℤ, refl, sym, ap, subst, ◌∙◌, inl, inr, arith}
+use Rattle.std.proofs.Common.{◌≡◌, ℕ, Bool, true, false, List, Option, Some, None, IfSome, ℤ, refl, sym, ap, subst, ◌∙◌, inl, inr, arith}
 use Rattle.std.proofs.lemmas.Bool.{cases_Bool}
+use Rattle.bound_cert.specs.declared.reading.Proof.{Proof}
 use Rattle.dual_bound.specs.Leaves.{has_open}
+use Rattle.dual_bound.specs.Nodes.{nodes_of}
+use Rattle.dual_bound.specs.declared.trees.Tree.{Tree}
 use Rattle.branch_bound.specs.declared.solved.Solved.{Solved}
 use Rattle.branch_bound.specs.declared.solved.Solved.TheVariants as solved
+use Rattle.cert_check.proofs.OneVerdict as tree
+use Rattle.cert_check.specs.Verdicts.{HoldsWith}
 use Rattle.cert_check.specs.declared.checked.Checked.TheVariants as checked
 use Rattle.command_words.specs.Arguments.{AskedDates}
 use Rattle.command_words.specs.Words.{Asked, check, judge, make, solve, tails}
@@ -12,25 +17,25 @@ use Rattle.command_words.specs.declared.command.SolveOptions.{SolveOptions}
 use Rattle.fleet_model.specs.Legal.{total_cost}
 use Rattle.fleet_model.specs.declared.parts.Settings.{Settings}
 use Rattle.fleet_model.specs.declared.refusals.TheConstants.{TOO_LONG}
+use Rattle.fleet_model.specs.declared.tables.Tables.{Tables}
 use Rattle.plan_desk.specs.Desk.{Files}
 use Rattle.plan_desk.specs.Sink.{output_with}
 use Rattle.plan_desk.specs.declared.file.DeskFile.TheVariants as file
+use Rattle.plan_judge.proofs.OneVerdict.{one_verdict}
 use Rattle.plan_judge.specs.declared.verdicts.Verdict.TheVariants as verdict
-use Rattle.sched_read.proofs.ReadLaws as tables
-use Rattle.sched_read.specs.Reading.{TableBytes}
 use Rattle.fleet_cli.proofs.MadeFolder.{flyable, none_reached, none_read}
-use Rattle.fleet_cli.proofs.OneChecking.{checks}
-use Rattle.fleet_cli.proofs.OneJudging.{judges, refuses_tables}
 use Rattle.fleet_cli.proofs.OneReading.{one_too_long, within_or_long}
-use Rattle.fleet_cli.proofs.OneTelling.{tells, tells_legal}
 use Rattle.fleet_cli.proofs.OpenFacts.{no_plan_alone}
 use Rattle.fleet_cli.proofs.SameBytes.{follows_plan}
-use Rattle.fleet_cli.specs.Answer.{Answers, AnswersOf, AnswersSome, ChecksProof, ChecksTree, Solves, says}
+use Rattle.fleet_cli.proofs.Skeletons.{one_legal, one_plan, one_proof, one_tables, there_legal, there_plan, there_proof, there_tables}
+use Rattle.fleet_cli.specs.Answer.{Answers, AnswersOf, AnswersSome, Checks, ChecksOn, ChecksProof, ChecksRead, ChecksTree, ChecksWith, GivesSolution, Judges, JudgesOn, JudgesPlan, Solves, TailsOf, TailsOn, TellsTails, checked_status}
 use Rattle.fleet_cli.specs.Contents.{FileBytes, bytes_in, table_bytes}
 use Rattle.fleet_cli.specs.Gathered.{AllStand, IsHeld}
 use Rattle.fleet_cli.specs.Laws.{IsFixed}
 use Rattle.fleet_cli.specs.Reading.{AllWithin, Follows, first_files, folder_of}
+use Rattle.fleet_cli.specs.Refusals.{says, verdict_status}
 use Rattle.fleet_cli.specs.Run.{AnswersExactly, IsComplete, IsCostThere, IsSolution, LegalThere, ProofThere, TablesThere}
+use Rattle.fleet_cli.specs.Skeletons.{OnLegal}
 use Rattle.fleet_cli.specs.Solution.{solved_status}
 use Rattle.fleet_cli.specs.Texts.{bad_input_text, checked_text, verdict_text}
 use Rattle.fleet_cli.specs.declared.answer.Answer.{Answer}
@@ -56,18 +61,39 @@ never_refused s refused = not_refused (solved_status s) (solution_status s) refu
 
 -- the bytes that are read fix the answer
 module _ (answer other : Answer) where
-  solves : (settings : Settings) (options : SolveOptions) → other.status.code ≡ BAD_INPUT → (bytes : TableBytes) → Solves settings options bytes answer → Solves settings options bytes other → answer ≡ other
-  solves settings options refused bytes (inl x) (inl y) = refuses_tables answer other settings bytes x y
-  solves settings options refused bytes (inl x) (inr y) = absurd (tables.reads_no_fault bytes settings y.tables x.file x.row x.kind y.reads x.bad)
-  solves settings options refused bytes (inr x) (inl y) = absurd (tables.reads_no_fault bytes settings x.tables y.file y.row y.kind x.reads y.bad)
-  solves settings options refused bytes (inr x) (inr y) = absurd (never_refused y.gives.solution (sym (ap (λ (a : Answer). a.status.code) y.gives.is) ∙ refused))
+  module _ (t : Tables) where
+    judges : (plan : List ℕ) → JudgesPlan t plan answer → JudgesPlan t plan other → answer ≡ other
+    judges plan x y = x.is ∙ ap (λ v. says (verdict_status v) (verdict_text t plan v)) (one_verdict t plan x.verdict y.verdict x.judged y.judged) ∙ sym y.is
+
+    -- trees of one list of nodes
+    module _ (one two : Tree) (nodes : nodes_of one ≡ nodes_of two) where
+      checks_tree : (cost : Option ℤ) → ChecksTree t cost one answer → ChecksTree t cost two other → answer ≡ other
+      checks_tree cost x y =
+          x.is ∙ ap (λ v. says (checked_status v) (checked_text cost v)) (tree.one_verdict t cost one two x.verdict y.verdict nodes x.checked y.checked) ∙ sym y.is
+
+      checks_proof : (planned : Bool) (plan : List ℕ) → ChecksProof t planned one plan answer → ChecksProof t planned two plan other → answer ≡ other
+      checks_proof false plan x y = checks_tree None x y
+      checks_proof true plan x y =
+          one_plan answer other t plan (OnLegal t (ChecksWith t one)) (OnLegal t (ChecksWith t two))
+          (λ p. one_legal answer other t (ChecksWith t one) (ChecksWith t two) p (checks_tree (Some (total_cost t p)))) x y
+
+    checks_read : (plan : List ℕ) (p q : Proof) → p.planned ≡ q.planned → nodes_of p.tree ≡ nodes_of q.tree → ChecksRead t plan p answer → ChecksRead t plan q other → answer ≡ other
+    checks_read plan p q same nodes x y = checks_proof p.tree q.tree nodes q.planned plan (subst (λ planned. ChecksProof t planned p.tree plan answer) same x) y
 
   one_of : (asked : Option Asked) (bytes : FileBytes) → AnswersOf asked bytes answer → AnswersOf asked bytes other → IsFixed asked other → answer ≡ other
   one_of None bytes x y fixed = x ∙ sym y
-  one_of (Some (judge dir settings)) bytes x y fixed = judges answer other settings (table_bytes bytes) (bytes file.Plan) x y
-  one_of (Some (solve dir settings options)) bytes x y fixed = solves settings options fixed (table_bytes bytes) x y
-  one_of (Some (check dir settings)) bytes x y fixed = checks answer other settings (table_bytes bytes) (bytes file.Proof) (bytes file.Plan) x y
-  one_of (Some (tails dir settings limits dates)) bytes x y fixed = tells limits dates answer other fixed settings (table_bytes bytes) (bytes file.Plan) x y
+  one_of (Some (judge dir settings)) bytes x y fixed =
+      one_tables answer other settings (table_bytes bytes) (JudgesOn (bytes file.Plan))
+      (λ t. one_plan answer other t (bytes file.Plan) (JudgesPlan t) (JudgesPlan t) (judges t)) x y
+  one_of (Some (solve dir settings options)) bytes x y fixed =
+      one_tables answer other settings (table_bytes bytes) (GivesSolution options) (λ t a b. absurd (never_refused b.solution (sym (ap (λ (a : Answer). a.status.code) b.is) ∙ fixed))) x y
+  one_of (Some (check dir settings)) bytes x y fixed =
+      one_tables answer other settings (table_bytes bytes) (ChecksOn (bytes file.Proof) (bytes file.Plan))
+      (λ t. one_proof answer other t (bytes file.Proof) (ChecksRead t (bytes file.Plan)) (checks_read t (bytes file.Plan))) x y
+  one_of (Some (tails dir settings limits dates)) bytes x y fixed =
+      one_tables answer other settings (table_bytes bytes) (TailsOn limits dates (bytes file.Plan))
+      (λ t. one_plan answer other t (bytes file.Plan) (OnLegal t (TellsTails t limits dates)) (OnLegal t (TellsTails t limits dates))
+      (λ p. one_legal answer other t (TellsTails t limits dates) (TellsTails t limits dates) p (λ a b. absurd (fixed (ap (λ (a : Answer). a.status.code) b.is))))) x y
   one_of (Some (make dir number legs)) bytes x y fixed = absurd fixed
 
 pub one_answer : (held : Files) (asked : Option Asked) (answer other : Answer) → Answers held asked answer → Answers held asked other → IsFixed asked other → answer ≡ other
@@ -94,74 +120,75 @@ all_within held asked stand further = record {
       subst (λ g. IsHeld held (folder_of asked) g (bytes_in held (folder_of asked) g)) (sym plan) (further (subst (λ g. Follows asked (bytes_in held (folder_of asked)) g) plan follows));
 }
 
--- a legal plan is answered as one
-legal_answer : (held : Files) (dir : List ℕ) (settings : Settings) → LegalThere held dir settings → (text : List ℕ) × Answers held (Some (judge dir settings)) (says DONE text)
-legal_answer held dir settings legal =
-    let right = verdict.Legal (total_cost legal.tables legal.plan) in (
-      verdict_text legal.tables legal.plan right,
-      inr (record {
-        within = all_within held (Some (judge dir settings)) legal.there (λ follows. absurd follows);
-        answers = inr (record {
-          tables = legal.tables;
-          reads = legal.reads;
-          answers = inr (record { plan = legal.plan; verdict = right; reads = legal.plan_reads; judged = (legal.legal, refl); is = refl });
-        });
-      }),
-    )
+-- what the files answer, where those stand there that are read
+module _ (held : Files) (asked : Option Asked) (answer : Answer) where
+  read_there : Answers held asked answer → AllStand held (folder_of asked) (first_files asked)
+      → (Follows asked (bytes_in held (folder_of asked)) file.Plan → IsHeld held (folder_of asked) file.Plan (bytes_in held (folder_of asked) file.Plan))
+      → AnswersOf asked (bytes_in held (folder_of asked)) answer
+  read_there (inl x) stand further = absurd (within_or_long asked held x.file (all_within held asked stand further) x.longer)
+  read_there (inr x) stand further = x.answers
 
--- a proof that holds is answered so
-proof_answer : (held : Files) (dir : List ℕ) (settings : Settings) → ProofThere held dir settings → (text : List ℕ) × Answers held (Some (check dir settings)) (says DONE text)
-proof_answer held dir settings x = (
-  checked_text x.cost (checked.Holds x.bound),
-  inr (record {
-    within = all_within held (Some (check dir settings)) x.there (λ follows. further x.cost x.plan follows);
-    answers = inr (record {
-      tables = x.tables;
-      reads = x.reads;
-      answers = inr (record { proof = x.proof; reads = x.proof_reads; checks = by_cost x.cost x.plan holds });
-    });
-  }),
-)
-  where
-    holds : ChecksTree x.tables x.cost x.proof.tree (says DONE (checked_text x.cost (checked.Holds x.bound)))
-    holds = record { verdict = checked.Holds x.bound; checked = x.holds; is = refl }
+module _ (held : Files) (dir : List ℕ) (settings : Settings) (answer : Answer) where
+  -- a legal plan is judged so
+  legal_there : (x : LegalThere held dir settings) → Judges settings (table_bytes (bytes_in held dir)) (bytes_in held dir file.Plan) answer → answer.status.code ≡ DONE
+  legal_there x answers =
+      let read = there_tables answer settings (table_bytes (bytes_in held dir)) (JudgesOn (bytes_in held dir file.Plan)) x.tables x.reads answers in
+      let told = there_plan answer x.tables (bytes_in held dir file.Plan) (JudgesPlan x.tables) x.plan x.plan_reads read in
+      ap (λ (a : Answer). a.status.code) told.is
+      ∙ ap verdict_status (one_verdict x.tables x.plan told.verdict (verdict.Legal (total_cost x.tables x.plan)) told.judged (x.legal, refl))
 
-    further : (cost : Option ℤ) → IsCostThere held dir x.tables x.proof.planned cost → Follows (Some (check dir settings)) (bytes_in held dir) file.Plan → IsHeld held dir file.Plan (bytes_in held dir file.Plan)
-    further None none follows = absurd (no_plan_alone settings (table_bytes (bytes_in held dir)) (bytes_in held dir file.Proof) x.tables x.reads x.proof x.proof_reads none follows.1)
-    further (Some cost) some follows = some.1.there
+  -- and its tails are told
+  tails_there : (limits : RotationLimits) (dates : AskedDates) (x : LegalThere held dir settings)
+      → TailsOf settings limits dates (table_bytes (bytes_in held dir)) (bytes_in held dir file.Plan) answer → answer.status.code ≡ DONE
+  tails_there limits dates x answers =
+      let read = there_tables answer settings (table_bytes (bytes_in held dir)) (TailsOn limits dates (bytes_in held dir file.Plan)) x.tables x.reads answers in
+      let judged = there_plan answer x.tables (bytes_in held dir file.Plan) (OnLegal x.tables (TellsTails x.tables limits dates)) x.plan x.plan_reads read in
+      let told = there_legal answer x.tables (TellsTails x.tables limits dates) x.plan x.legal judged in
+      ap (λ (a : Answer). a.status.code) told.is
 
-    by_cost : (cost : Option ℤ) → IsCostThere held dir x.tables x.proof.planned cost → {answer : Answer} → ChecksTree x.tables cost x.proof.tree answer
-        → ChecksProof x.tables x.proof.planned x.proof.tree (bytes_in held dir file.Plan) answer
-    by_cost None none checks = rw none checks
-    by_cost (Some cost) some checks = rw some.0 (inr (record { plan = some.1.plan; reads = some.1.reads; answers = inr (record { legal = some.1.legal; checks = rw (← some.1.costs) checks }) }))
+  -- tables that read are solved
+  solved_there : (options : SolveOptions) (x : TablesThere held dir settings) → Solves settings options (table_bytes (bytes_in held dir)) answer → IsSolution answer.status.code
+  solved_there options x answers =
+      let gives = there_tables answer settings (table_bytes (bytes_in held dir)) (GivesSolution options) x.tables x.reads answers in
+      rw (ap (λ (a : Answer). a.status.code) gives.is) (solution_status gives.solution)
 
--- tables that read are solved
-solved_there : (held : Files) (dir : List ℕ) (settings : Settings) (options : SolveOptions) (answer : Answer) → Answers held (Some (solve dir settings options)) answer → TablesThere held dir settings → IsSolution answer.status.code
-solved_there held dir settings options answer (inl x) there =
-    absurd (within_or_long (Some (solve dir settings options)) held x.file (all_within held (Some (solve dir settings options)) there.there (λ follows. absurd follows)) x.longer)
-solved_there held dir settings options answer (inr x) there = by_tables x.answers
-  where
-    by_tables : Solves settings options (table_bytes (bytes_in held dir)) answer → IsSolution answer.status.code
-    by_tables (inl refused) = absurd (tables.reads_no_fault (table_bytes (bytes_in held dir)) settings there.tables refused.file refused.row refused.kind there.reads refused.bad)
-    by_tables (inr solves) = rw (ap (λ (a : Answer). a.status.code) solves.gives.is) (solution_status solves.gives.solution)
+  -- a proof that holds is said to hold
+  module _ (t : Tables) (one two : Tree) (nodes : nodes_of two ≡ nodes_of one) where
+    tree_there : (cost : Option ℤ) (bound : Option ℤ) → HoldsWith t cost one bound → ChecksTree t cost two answer → answer.status.code ≡ DONE
+    tree_there cost bound holds x =
+        ap (λ (a : Answer). a.status.code) x.is ∙ ap checked_status (tree.one_verdict t cost two one x.verdict (checked.Holds bound) nodes x.checked holds)
 
--- the tails of a legal plan are told
-tails_there : (held : Files) (dir : List ℕ) (settings : Settings) (limits : RotationLimits) (dates : AskedDates) (answer : Answer) → Answers held (Some (tails dir settings limits dates)) answer
-    → LegalThere held dir settings → answer.status.code ≡ DONE
-tails_there held dir settings limits dates answer (inl x) legal =
-    absurd (within_or_long (Some (tails dir settings limits dates)) held x.file (all_within held (Some (tails dir settings limits dates)) legal.there (λ follows. absurd follows)) x.longer)
-tails_there held dir settings limits dates answer (inr x) legal = tells_legal limits dates answer held dir settings legal x.answers
+    cost_there : (planned : Bool) (cost bound : Option ℤ) → IsCostThere held dir t planned cost → HoldsWith t cost one bound → ChecksProof t planned two (bytes_in held dir file.Plan) answer
+        → answer.status.code ≡ DONE
+    cost_there planned None bound none holds answers = tree_there None bound holds (subst (λ p. ChecksProof t p two (bytes_in held dir file.Plan) answer) none answers)
+    cost_there planned (Some cost) bound some holds answers =
+        let with_plan = subst (λ p. ChecksProof t p two (bytes_in held dir file.Plan) answer) some.0 answers in
+        let judged = there_plan answer t (bytes_in held dir file.Plan) (OnLegal t (ChecksWith t two)) some.1.plan some.1.reads with_plan in
+        tree_there (Some (total_cost t some.1.plan)) bound (rw some.1.costs at holds) (there_legal answer t (ChecksWith t two) some.1.plan some.1.legal judged)
+
+  proof_there : (x : ProofThere held dir settings) → Checks settings (table_bytes (bytes_in held dir)) (bytes_in held dir file.Proof) (bytes_in held dir file.Plan) answer → answer.status.code ≡ DONE
+  proof_there x answers =
+      let read = there_tables answer settings (table_bytes (bytes_in held dir)) (ChecksOn (bytes_in held dir file.Proof) (bytes_in held dir file.Plan)) x.tables x.reads answers in
+      let own = there_proof answer x.tables (bytes_in held dir file.Proof) (ChecksRead x.tables (bytes_in held dir file.Plan)) x.proof x.proof_reads read in
+      cost_there x.tables x.proof.tree own.0.tree own.2 x.proof.planned x.cost x.bound x.plan x.holds
+      (subst (λ p. ChecksProof x.tables p own.0.tree (bytes_in held dir file.Plan) answer) own.1 own.3)
+
+-- the plan stands there where the proof asks for it
+plan_further : (held : Files) (dir : List ℕ) (settings : Settings) (x : ProofThere held dir settings) → (cost : Option ℤ) → IsCostThere held dir x.tables x.proof.planned cost
+    → Follows (Some (check dir settings)) (bytes_in held dir) file.Plan → IsHeld held dir file.Plan (bytes_in held dir file.Plan)
+plan_further held dir settings x None none follows = absurd (no_plan_alone settings (table_bytes (bytes_in held dir)) (bytes_in held dir file.Proof) x.tables x.reads x.proof x.proof_reads none follows.1)
+plan_further held dir settings x (Some cost) some follows = some.1.there
 
 pub complete_there : (held : Files) (asked : Option Asked) (answer : Answer) → Answers held asked answer → IsComplete (Some held) asked answer.status.code
 complete_there held None answer answers = tt
-complete_there held (Some (judge dir settings)) answer answers = λ legal.
-    let right = legal_answer held dir settings legal in
-    ap (λ (a : Answer). a.status.code) (one_answer held (Some (judge dir settings)) answer (says DONE right.0) answers right.1 tt)
-complete_there held (Some (solve dir settings options)) answer answers = solved_there held dir settings options answer answers
-complete_there held (Some (check dir settings)) answer answers = λ proof.
-    let right = proof_answer held dir settings proof in
-    ap (λ (a : Answer). a.status.code) (one_answer held (Some (check dir settings)) answer (says DONE right.0) answers right.1 tt)
-complete_there held (Some (tails dir settings limits dates)) answer answers = tails_there held dir settings limits dates answer answers
+complete_there held (Some (judge dir settings)) answer answers =
+    λ legal. legal_there held dir settings answer legal (read_there held (Some (judge dir settings)) answer answers legal.there (λ follows. absurd follows))
+complete_there held (Some (solve dir settings options)) answer answers =
+    λ there. solved_there held dir settings answer options there (read_there held (Some (solve dir settings options)) answer answers there.there (λ follows. absurd follows))
+complete_there held (Some (check dir settings)) answer answers =
+    λ there. proof_there held dir settings answer there (read_there held (Some (check dir settings)) answer answers there.there (plan_further held dir settings there there.cost there.plan))
+complete_there held (Some (tails dir settings limits dates)) answer answers =
+    λ legal. tails_there held dir settings answer limits dates legal (read_there held (Some (tails dir settings limits dates)) answer answers legal.there (λ follows. absurd follows))
 complete_there held (Some (make dir number legs)) answer (inl long) = absurd (none_reached held dir number legs long.file long.longer.reached)
 complete_there held (Some (make dir number legs)) answer (inr read) = flyable number legs answer read.answers
 

@@ -1,9 +1,6 @@
 -- What the tables and the proof of a folder come to.
 use Rattle.std.proofs.Common.{◌≡◌, ◌⊎◌, ℕ, Bool, true, false, List, Some, None, Result, Ok, Err, IfOk, IsOkAnd, refl, sym, ap, subst, ◌∙◌, inl, inr}
-use Rattle.bound_cert.specs.Lines.{Reading}
-use Rattle.dual_bound.specs.Nodes.{nodes_of}
 use Rattle.bound_cert.specs.ReadProof.{ReadsAs}
-use Rattle.dual_bound.specs.declared.nodes.Node.{Node}
 use Rattle.bound_cert.specs.declared.reading.Proof.{Proof}
 use Rattle.command_words.specs.Words.{check}
 use Rattle.fleet_model.specs.declared.parts.Settings.{Settings}
@@ -12,26 +9,15 @@ use Rattle.plan_desk.specs.declared.file.DeskFile.TheVariants as file
 use Rattle.sched_read.proofs.ReadLaws as tables
 use Rattle.sched_read.specs.Reading.{Reads, TableBytes}
 use Rattle.entries.specs.declared.memory.NoMemory.{NoMemory}
-use Rattle.fleet_cli.specs.Answer.{ChecksProof, ChecksTree, RefusesProof, RefusesTables}
+use Rattle.fleet_cli.proofs.Skeletons.{never_read, says_one}
+use Rattle.fleet_cli.specs.Answer.{ChecksProof, ChecksTree}
+use Rattle.fleet_cli.specs.Refusals.{RefusesProof, RefusesTables}
 use Rattle.fleet_cli.specs.Contents.{FileBytes, table_bytes}
 use Rattle.fleet_cli.specs.Opened.{ChecksAlone, IsOpened, IsOpenedBy, Settles}
 use Rattle.fleet_cli.specs.Reading.{WantsPlan}
 use Rattle.fleet_cli.specs.declared.answer.Answer.{Answer}
 use Rattle.fleet_cli.specs.declared.opened.Opened.{Opened}
 use Rattle.fleet_cli.specs.declared.opened.Opened.TheVariants as opened
-
--- a text reads as one proof, or has a fault
-pub one_value : {A : Type 0} (one other : A) → ◌≡◌ {A = Reading A} (Ok one) (Ok other) → one ≡ other
-one_value one other e = cc
-
-pub never_read : (t : Tables) (text : List ℕ) (answer : Answer) (proof : Proof) → RefusesProof t text answer → ReadsAs t text proof → ⊥
-never_read t text answer proof x reads = let both = sym x.bad.stops ∙ reads in let never : ⊥ = cc in never
-
--- what the one proof of a text says
-pub says_one : (t : Tables) (text : List ℕ) (one other : Proof) → ReadsAs t text one → ReadsAs t text other → (one.planned ≡ other.planned) × (nodes_of one.tree ≡ nodes_of other.tree)
-says_one t text one other x y =
-    let read = one_value _ _ (sym x ∙ y) in
-    (ap (λ (p : Bool × List Node). p.0) read, ap (λ (p : Bool × List Node). p.1) read)
 
 -- where the proof says that no plan comes with it, none is wanted
 module _ (settings : Settings) (bytes : TableBytes) (text : List ℕ) (t : Tables) (reads : Reads bytes settings t) where
@@ -56,14 +42,14 @@ module _ (dir : List ℕ) (settings : Settings) (bytes : FileBytes) where
     answered : (answer : Answer) → RefusesProof t (bytes file.Proof) answer ⊎ ChecksAlone t (bytes file.Proof) answer → Settles (Some (check dir settings)) bytes answer
     answered answer (inl refused) = record {
       no_more = λ f follows. no_plan_of_fault settings (table_bytes bytes) (bytes file.Proof) t reads answer refused follows.1;
-      answers = inr (record { tables = t; reads = reads; answers = inl refused });
+      answers = inr (record { tables = t; reads = reads; finishes = inl refused });
     }
     answered answer (inr x) = record {
       no_more = λ f follows. no_plan_alone settings (table_bytes bytes) (bytes file.Proof) t reads x.proof x.reads x.alone follows.1;
       answers = inr (record {
         tables = t;
         reads = reads;
-        answers = inr (record { proof = x.proof; reads = x.reads; checks = subst (λ p. ChecksProof t p x.proof.tree (bytes file.Plan) answer) (sym x.alone) x.checks });
+        finishes = inr (record { proof = x.proof; reads = x.reads; finishes = subst (λ p. ChecksProof t p x.proof.tree (bytes file.Plan) answer) (sym x.alone) x.checks });
       });
     }
 
@@ -75,10 +61,10 @@ module _ (dir : List ℕ) (settings : Settings) (bytes : FileBytes) where
       answers = λ plan answer checks. inr (record {
         tables = t;
         reads = reads;
-        answers = inr (record {
+        finishes = inr (record {
           proof = checking.proof;
           reads = by.reads;
-          checks = subst (λ p. ChecksProof t p checking.proof.tree plan answer) (sym by.planned) (subst (λ u. ChecksProof u true checking.proof.tree plan answer) by.tables_are checks);
+          finishes = subst (λ p. ChecksProof t p checking.proof.tree plan answer) (sym by.planned) (subst (λ u. ChecksProof u true checking.proof.tree plan answer) by.tables_are checks);
         });
       });
     }

@@ -5,6 +5,7 @@ use Rattle.std.proofs.lemmas.List.Elements.{All-append, All-from_recursion, All-
 use Rattle.std.proofs.lemmas.Map.{update_other}
 use Rattle.table_rows.proofs.Numbered.{bytes_eq-differ}
 use Rattle.dual_bound.specs.declared.trees.Tree.{Tree}
+use Rattle.bound_cert.specs.declared.reading.Proof.{Proof}
 use Rattle.branch_bound.specs.declared.solved.Solved.{Solved}
 use Rattle.branch_bound.specs.declared.solved.Solved.TheVariants as solved
 use Rattle.cert_check.specs.declared.checked.Checked.{Checked}
@@ -14,6 +15,7 @@ use Rattle.command_words.specs.Arguments.{AskedDates}
 use Rattle.command_words.specs.declared.command.RotationLimits.{RotationLimits}
 use Rattle.command_words.specs.declared.command.SolveOptions.{SolveOptions}
 use Rattle.command_words.specs.declared.command.TheConstants.{DEFAULT_OPTIONS}
+use Rattle.fleet_model.specs.Legal.{total_cost}
 use Rattle.fleet_model.specs.declared.parts.Settings.{Settings}
 use Rattle.sched_read.specs.Reading.{TableBytes}
 use Rattle.table_maker.specs.Made.{made_tables}
@@ -27,11 +29,14 @@ use Rattle.plan_judge.specs.declared.verdicts.Verdict.{Verdict}
 use Rattle.plan_judge.specs.declared.verdicts.Verdict.TheVariants as verdict
 use Rattle.rotation_report.specs.declared.fleet_rotations.FleetRotation.{FleetRotation}
 use Rattle.fleet_cli.proofs.OneAnswer.{solution_status}
-use Rattle.fleet_cli.specs.Answer.{Answers, AnswersOf, AnswersSome, ChecksPlan, ChecksProof, ChecksTree, JudgesPlan, Makes, ReadsProof, RefusesPlan, RefusesProof, SolvesTables, TailsOfPlan, checked_status, says, verdict_status}
+use Rattle.fleet_cli.proofs.Skeletons.{either_legal, either_plan, either_proof, either_tables}
+use Rattle.fleet_cli.specs.Answer.{Answers, AnswersOf, AnswersSome, ChecksOn, ChecksProof, ChecksRead, ChecksTree, ChecksWith, GivesSolution, JudgesOn, JudgesPlan, Makes, TailsOn, TellsTails, checked_status}
 use Rattle.fleet_cli.specs.Contents.{FileBytes, table_bytes}
 use Rattle.fleet_cli.specs.Making.{after_files, made_files}
 use Rattle.fleet_cli.specs.Reading.{folder_of, solution_files, tables_and, written_files}
+use Rattle.fleet_cli.specs.Refusals.{says, verdict_status}
 use Rattle.fleet_cli.specs.Run.{IsEnd, IsRefusal, IsSolution, KeepsAllBut, KeepsOthers}
+use Rattle.fleet_cli.specs.Skeletons.{OnLegal, OnPlan, OnProof, OnTables, TablesRead}
 use Rattle.fleet_cli.specs.Solution.{solved_answer, solved_files, solved_status}
 use Rattle.fleet_cli.specs.Written.{StandsAfter, no_text, text_name, under, with_texts}
 use Rattle.fleet_cli.specs.declared.answer.Answer.{Answer}
@@ -116,7 +121,7 @@ record IsSolved (asked : Option Asked) (answer : Answer) : Type 0 where
 
 -- the answer of a solution of what was made
 made_kind : (dir : List ℕ) (number legs : ℕ) (answer : Answer) → Makes number legs answer → IsSolved (Some (make dir number legs)) answer
-made_kind dir number legs answer x = let given = x.solves.gives in record {
+made_kind dir number legs answer x = let given = x.solves.finishes in record {
   first = made_files (made_tables number legs);
   tables = x.solves.tables;
   options = DEFAULT_OPTIONS;
@@ -132,8 +137,8 @@ made_kind dir number legs answer x = let given = x.solves.gives in record {
 }
 
 -- the answer of a solution of what was read
-solved_kind : (dir : List ℕ) (settings : Settings) (options : SolveOptions) (bytes : TableBytes) (answer : Answer) → SolvesTables bytes settings options answer → IsSolved (Some (solve dir settings options)) answer
-solved_kind dir settings options bytes answer x = let given = x.gives in record {
+solved_kind : (dir : List ℕ) (settings : Settings) (options : SolveOptions) (bytes : TableBytes) (answer : Answer) → TablesRead settings bytes (GivesSolution options) answer → IsSolved (Some (solve dir settings options)) answer
+solved_kind dir settings options bytes answer x = let given = x.finishes in record {
   first = [];
   tables = x.tables;
   options = options;
@@ -184,46 +189,53 @@ solution_ends code (inr (inr (inl is))) = (λ e. let bad : ◌≡◌ {A = ℕ} 4
 solution_ends code (inr (inr (inr is))) = (λ e. let bad : ◌≡◌ {A = ℕ} 5 7 = sym is ∙ e in omega arith, λ e. let bad : ◌≡◌ {A = ℕ} 5 8 = sym is ∙ e in omega arith)
 
 module _ (asked : Option Asked) (answer : Answer) where
-  judged : (t : Tables) (bytes : List ℕ) → RefusesPlan t bytes answer ⊎ JudgesPlan t bytes answer → IsSaid asked answer
-  judged t bytes (inl x) = refused asked answer _ x.is
-  judged t bytes (inr x) = record { code = verdict_status x.verdict; text = _; is = x.is; ends = verdict_ends asked x.verdict }
+  -- what is said of all that is answered on what was read is said of the refusals too
+  said_tables : (settings : Settings) (bytes : TableBytes) (finish : Tables → Answer → Type 0) → ((t : Tables) → finish t answer → IsSaid asked answer) → OnTables settings bytes finish answer → IsSaid asked answer
+  said_tables settings bytes finish more = either_tables answer (IsSaid asked answer) settings bytes finish (λ x. bad asked answer _ x.is) (λ t reads. more t)
 
-  tails_said : (t : Tables) (limits : RotationLimits) (dates : AskedDates) (bytes : List ℕ) → RefusesPlan t bytes answer ⊎ TailsOfPlan t limits dates bytes answer → IsSaid asked answer
-  tails_said t limits dates bytes (inl x) = refused asked answer _ x.is
-  tails_said t limits dates bytes (inr x) = elim x.answers [
-    | inl ill ↦ record { code = verdict_status ill.verdict; text = _; is = ill.is; ends = verdict_ends asked ill.verdict }
-    | inr legal ↦ record { code = DONE; text = _; is = legal.is; ends = done_ends asked }
-  ]
+  module _ (t : Tables) where
+    said_plan : (bytes : List ℕ) (finish : List ℕ → Answer → Type 0) → ((plan : List ℕ) → finish plan answer → IsSaid asked answer) → OnPlan t bytes finish answer → IsSaid asked answer
+    said_plan bytes finish more = either_plan answer (IsSaid asked answer) t bytes finish (λ x. refused asked answer _ x.is) (λ plan reads. more plan)
 
-  tree_said : (t : Tables) (cost : Option ℤ) (tree : Tree) → ChecksTree t cost tree answer → IsSaid asked answer
-  tree_said t cost tree x = record { code = checked_status x.verdict; text = _; is = x.is; ends = checked_ends asked x.verdict }
+    said_legal : (finish : List ℕ → Answer → Type 0) (plan : List ℕ) → (finish plan answer → IsSaid asked answer) → OnLegal t finish plan answer → IsSaid asked answer
+    said_legal finish plan more =
+        either_legal answer (IsSaid asked answer) t finish plan (λ x. record { code = verdict_status x.verdict; text = _; is = x.is; ends = verdict_ends asked x.verdict }) (λ legal. more)
 
-  plan_said : (t : Tables) (tree : Tree) (plan : List ℕ) → ChecksPlan t tree plan answer → IsSaid asked answer
-  plan_said t tree plan x = elim x.answers [
-    | inl ill ↦ record { code = verdict_status ill.verdict; text = _; is = ill.is; ends = verdict_ends asked ill.verdict }
-    | inr legal ↦ tree_said t _ tree legal.checks
-  ]
+    said_proof : (bytes : List ℕ) (finish : Proof → Answer → Type 0) → ((proof : Proof) → finish proof answer → IsSaid asked answer) → OnProof t bytes finish answer → IsSaid asked answer
+    said_proof bytes finish more = either_proof answer (IsSaid asked answer) t bytes finish (λ x. refused asked answer _ x.is) (λ proof reads. more proof)
 
-  proof_said : (t : Tables) (planned : Bool) (tree : Tree) (plan : List ℕ) → ChecksProof t planned tree plan answer → IsSaid asked answer
-  proof_said t false tree plan x = tree_said t None tree x
-  proof_said t true tree plan (inl x) = refused asked answer _ x.is
-  proof_said t true tree plan (inr x) = plan_said t tree plan x
+    judged : (plan : List ℕ) → JudgesPlan t plan answer → IsSaid asked answer
+    judged plan x = record { code = verdict_status x.verdict; text = _; is = x.is; ends = verdict_ends asked x.verdict }
 
-  text_said : (t : Tables) (text plan : List ℕ) → RefusesProof t text answer ⊎ ReadsProof t text plan answer → IsSaid asked answer
-  text_said t text plan (inl x) = refused asked answer _ x.is
-  text_said t text plan (inr x) = proof_said t x.proof.planned x.proof.tree plan x.checks
+    tails_said : (limits : RotationLimits) (dates : AskedDates) (plan : List ℕ) → TellsTails t limits dates plan answer → IsSaid asked answer
+    tails_said limits dates plan x = record { code = DONE; text = _; is = x.is; ends = done_ends asked }
+
+    tree_said : (cost : Option ℤ) (tree : Tree) → ChecksTree t cost tree answer → IsSaid asked answer
+    tree_said cost tree x = record { code = checked_status x.verdict; text = _; is = x.is; ends = checked_ends asked x.verdict }
+
+    proof_said : (plan : List ℕ) (planned : Bool) (tree : Tree) → ChecksProof t planned tree plan answer → IsSaid asked answer
+    proof_said plan false tree = tree_said None tree
+    proof_said plan true tree = said_plan plan (OnLegal t (ChecksWith t tree)) (λ p. said_legal (ChecksWith t tree) p (tree_said (Some (total_cost t p)) tree))
 
 module _ (answer : Answer) where
   kind_of : (asked : Option Asked) (bytes : FileBytes) → AnswersOf asked bytes answer → IsSaid asked answer ⊎ IsSolved asked answer
   kind_of None bytes x = inl (record { code = USAGE; text = _; is = x; ends = usage_ends })
-  kind_of (Some (judge dir settings)) bytes (inl x) = inl (bad (Some (judge dir settings)) answer _ x.is)
-  kind_of (Some (judge dir settings)) bytes (inr x) = inl (judged (Some (judge dir settings)) answer x.tables _ x.answers)
+  kind_of (Some (judge dir settings)) bytes x = inl (
+      let asked = Some (judge dir settings) in
+      said_tables asked answer settings (table_bytes bytes) (JudgesOn (bytes desk_file.Plan)) (λ t. said_plan asked answer t (bytes desk_file.Plan) (JudgesPlan t) (judged asked answer t)) x
+      )
   kind_of (Some (solve dir settings options)) bytes (inl x) = inl (bad (Some (solve dir settings options)) answer _ x.is)
   kind_of (Some (solve dir settings options)) bytes (inr x) = inr (solved_kind dir settings options (table_bytes bytes) answer x)
-  kind_of (Some (check dir settings)) bytes (inl x) = inl (bad (Some (check dir settings)) answer _ x.is)
-  kind_of (Some (check dir settings)) bytes (inr x) = inl (text_said (Some (check dir settings)) answer x.tables _ _ x.answers)
-  kind_of (Some (tails dir settings limits dates)) bytes (inl x) = inl (bad (Some (tails dir settings limits dates)) answer _ x.is)
-  kind_of (Some (tails dir settings limits dates)) bytes (inr x) = inl (tails_said (Some (tails dir settings limits dates)) answer x.tables limits dates _ x.answers)
+  kind_of (Some (check dir settings)) bytes x = inl (
+      let asked = Some (check dir settings) in
+      said_tables asked answer settings (table_bytes bytes) (ChecksOn (bytes desk_file.Proof) (bytes desk_file.Plan))
+      (λ t. said_proof asked answer t (bytes desk_file.Proof) (ChecksRead t (bytes desk_file.Plan)) (λ proof. proof_said asked answer t (bytes desk_file.Plan) proof.planned proof.tree)) x
+      )
+  kind_of (Some (tails dir settings limits dates)) bytes x = inl (
+      let asked = Some (tails dir settings limits dates) in
+      said_tables asked answer settings (table_bytes bytes) (TailsOn limits dates (bytes desk_file.Plan))
+      (λ t. said_plan asked answer t (bytes desk_file.Plan) (OnLegal t (TellsTails t limits dates)) (λ p. said_legal asked answer t (TellsTails t limits dates) p (tails_said asked answer t limits dates p))) x
+      )
   kind_of (Some (make dir number legs)) bytes x = inr (made_kind dir number legs answer x)
 
   kind : (held : Files) (asked : Option Asked) → Answers held asked answer → IsSaid asked answer ⊎ IsSolved asked answer

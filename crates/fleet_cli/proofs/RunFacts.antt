@@ -7,7 +7,8 @@ use Rattle.plan_desk.specs.Sink.{handed_with, output_with}
 use Rattle.plan_desk.specs.declared.file.DeskFile.{DeskFile}
 use Rattle.plan_desk.specs.declared.file.TheConstants.{TABLE_LIMIT}
 use Rattle.fleet_cli.proofs.Others.{only_usage}
-use Rattle.fleet_cli.specs.Answer.{Answers, AnswersSome, says}
+use Rattle.fleet_cli.specs.Answer.{Answers, AnswersSome}
+use Rattle.fleet_cli.specs.Refusals.{says}
 use Rattle.fleet_cli.specs.Gathered.{ReadFails}
 use Rattle.fleet_cli.specs.Reading.{IsMissing, IsRead, folder_of}
 use Rattle.fleet_cli.specs.Run.{AnswersInFull, BlamesMissing, CountsOneFault, SomeInFull}

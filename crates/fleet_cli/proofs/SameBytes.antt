@@ -8,26 +8,31 @@ use Rattle.plan_desk.specs.declared.file.DeskFile.{DeskFile}
 use Rattle.plan_desk.specs.declared.file.DeskFile.TheVariants as file
 use Rattle.bound_cert.specs.ReadProof.{ReadsAs}
 use Rattle.sched_read.specs.Reading.{Reads, TableBytes}
-use Rattle.fleet_cli.specs.Answer.{AnswersOf, Checks, ChecksProof, Judges, ReadsProof, RefusesProof, Solves, TailsOf}
+use Rattle.fleet_cli.proofs.Members.{among_left, among_right}
+use Rattle.fleet_cli.proofs.Skeletons.{map_proof, map_tables}
+use Rattle.fleet_cli.specs.Answer.{AnswersOf, Checks, ChecksOn, ChecksProof, ChecksRead, Judges, Solves, TailsOf}
 use Rattle.fleet_cli.specs.Contents.{FileBytes, table_bytes}
 use Rattle.fleet_cli.specs.Gathered.{IsAmong}
-use Rattle.fleet_cli.specs.Reading.{Follows, WantsPlan, first_files, tables_and}
+use Rattle.fleet_cli.specs.Reading.{Follows, WantsPlan, first_files, table_files, tables_and}
 use Rattle.fleet_cli.specs.declared.answer.Answer.{Answer}
 
--- a list that begins with the tables
-module _ (bytes other : FileBytes) (more : List DeskFile) (same : (f : DeskFile) → IsAmong (tables_and more) f → bytes f ≡ other f) where
-  tables_same : table_bytes bytes ≡ table_bytes other
-  tables_same = rw (
-    same file.Stations (record { place = 0; within = omega arith; is = λ d. refl }),
-    same file.Fleets (record { place = 1; within = omega arith; is = λ d. refl }),
-    same file.Legs (record { place = 2; within = omega arith; is = λ d. refl }),
-    same file.Costs (record { place = 3; within = omega arith; is = λ d. refl }),
-    same file.Throughs (record { place = 4; within = omega arith; is = λ d. refl }),
-  ) refl
+-- the tables
+tables_same : (bytes other : FileBytes) → ((f : DeskFile) → IsAmong table_files f → bytes f ≡ other f) → table_bytes bytes ≡ table_bytes other
+tables_same bytes other same = rw (
+  same file.Stations (record { place = 0; within = omega arith; is = λ d. refl }),
+  same file.Fleets (record { place = 1; within = omega arith; is = λ d. refl }),
+  same file.Legs (record { place = 2; within = omega arith; is = λ d. refl }),
+  same file.Costs (record { place = 3; within = omega arith; is = λ d. refl }),
+  same file.Throughs (record { place = 4; within = omega arith; is = λ d. refl }),
+) refl
 
--- and ends with one file more
-last_same : (bytes other : FileBytes) (last : DeskFile) → ((f : DeskFile) → IsAmong (tables_and (last ∷ [])) f → bytes f ≡ other f) → bytes last ≡ other last
-last_same bytes other last same = same last (record { place = 5; within = omega arith; is = λ d. refl })
+-- a list that begins with the tables, and ends with one file more
+module _ (bytes other : FileBytes) (last : DeskFile) (same : (f : DeskFile) → IsAmong (tables_and (last ∷ [])) f → bytes f ≡ other f) where
+  front_same : table_bytes bytes ≡ table_bytes other
+  front_same = tables_same bytes other (λ f among. same f (among_left table_files (last ∷ []) f among))
+
+  last_same : bytes last ≡ other last
+  last_same = same last (among_right table_files (last ∷ []) last (record { place = 0; within = omega arith; is = λ d. refl }))
 
 -- checking looks at the plan only where the proof says that one comes with it
 module _ (settings : Settings) (bytes : TableBytes) (text plan other : List ℕ) (same : WantsPlan settings bytes text → plan ≡ other) (answer : Answer) where
@@ -36,13 +41,10 @@ module _ (settings : Settings) (bytes : TableBytes) (text plan other : List ℕ)
   by_says t proof true reads text_reads says checks =
       subst (λ p. ChecksProof t true proof.tree p answer) (same (record { tables = t; proof = proof; reads = reads; proof_reads = text_reads; planned = says })) checks
 
-  by_proof : (t : Tables) → Reads bytes settings t → RefusesProof t text answer ⊎ ReadsProof t text plan answer → RefusesProof t text answer ⊎ ReadsProof t text other answer
-  by_proof t reads (inl refused) = inl refused
-  by_proof t reads (inr read) = inr (record { proof = read.proof; reads = read.reads; checks = by_says t read.proof read.proof.planned reads read.reads refl read.checks })
-
   pub other_plan : Checks settings bytes text plan answer → Checks settings bytes text other answer
-  other_plan (inl refused) = inl refused
-  other_plan (inr x) = inr (record { tables = x.tables; reads = x.reads; answers = by_proof x.tables x.reads x.answers })
+  other_plan =
+      map_tables answer settings bytes (ChecksOn text plan) (ChecksOn text other)
+      (λ t reads. map_proof answer t text (ChecksRead t plan) (ChecksRead t other) (λ proof text_reads. by_says t proof proof.planned reads text_reads refl))
 
 pub same_follows : (asked : Option Asked) (bytes other : FileBytes) → ((f : DeskFile) → IsAmong (first_files asked) f → bytes f ≡ other f) → (f : DeskFile) → Follows asked bytes f → Follows asked other f
 same_follows None bytes other same f follows = follows
@@ -50,7 +52,7 @@ same_follows (Some (judge dir settings)) bytes other same f follows = follows
 same_follows (Some (solve dir settings options)) bytes other same f follows = follows
 same_follows (Some (check dir settings)) bytes other same f follows = (
   follows.0,
-  subst (λ t. WantsPlan settings t (other file.Proof)) (tables_same bytes other (file.Proof ∷ []) same) (subst (λ p. WantsPlan settings (table_bytes bytes) p) (last_same bytes other file.Proof same) follows.1),
+  subst (λ t. WantsPlan settings t (other file.Proof)) (front_same bytes other file.Proof same) (subst (λ p. WantsPlan settings (table_bytes bytes) p) (last_same bytes other file.Proof same) follows.1),
 )
 same_follows (Some (tails dir settings limits dates)) bytes other same f follows = follows
 same_follows (Some (make dir number legs)) bytes other same f follows = follows
@@ -68,13 +70,13 @@ pub same_answer : (asked : Option Asked) (bytes other : FileBytes) → ((f : Des
     → (answer : Answer) → AnswersOf asked bytes answer → AnswersOf asked other answer
 same_answer None bytes other first further answer x = x
 same_answer (Some (judge dir settings)) bytes other first further answer x =
-    subst (λ t. Judges settings t (other file.Plan) answer) (tables_same bytes other (file.Plan ∷ []) first) (subst (λ p. Judges settings (table_bytes bytes) p answer) (last_same bytes other file.Plan first) x)
-same_answer (Some (solve dir settings options)) bytes other first further answer x = subst (λ t. Solves settings options t answer) (tables_same bytes other [] first) x
+    subst (λ t. Judges settings t (other file.Plan) answer) (front_same bytes other file.Plan first) (subst (λ p. Judges settings (table_bytes bytes) p answer) (last_same bytes other file.Plan first) x)
+same_answer (Some (solve dir settings options)) bytes other first further answer x = subst (λ t. Solves settings options t answer) (tables_same bytes other first) x
 same_answer (Some (check dir settings)) bytes other first further answer x =
-    subst (λ t. Checks settings t (other file.Proof) (other file.Plan) answer) (tables_same bytes other (file.Proof ∷ []) first)
+    subst (λ t. Checks settings t (other file.Proof) (other file.Plan) answer) (front_same bytes other file.Proof first)
     (subst (λ p. Checks settings (table_bytes bytes) p (other file.Plan) answer) (last_same bytes other file.Proof first)
     (other_plan settings (table_bytes bytes) (bytes file.Proof) (bytes file.Plan) (other file.Plan) (λ wants. further file.Plan (refl, wants)) answer x))
 same_answer (Some (tails dir settings limits dates)) bytes other first further answer x =
-    subst (λ t. TailsOf settings limits dates t (other file.Plan) answer) (tables_same bytes other (file.Plan ∷ []) first)
+    subst (λ t. TailsOf settings limits dates t (other file.Plan) answer) (front_same bytes other file.Plan first)
     (subst (λ p. TailsOf settings limits dates (table_bytes bytes) p answer) (last_same bytes other file.Plan first) x)
 same_answer (Some (make dir number legs)) bytes other first further answer x = x

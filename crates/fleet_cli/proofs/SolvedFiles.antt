@@ -152,7 +152,7 @@ module _ (held : Files) (dir : List ℕ) (solving checking : Settings) (same : s
       by_tables : Solves solving options (table_bytes (bytes_in held dir)) solved_as → checked_as.status.code ≡ 0
       by_tables (inl refused) = absurd (not_refused _ solution (ap (λ (a : Answer). a.status.code) refused.is))
       by_tables (inr solves) =
-          let given = solves.gives in
+          let given = solves.finishes in
           let files = ap (λ (a : Answer). a.files) given.is in
           let stands = with_texts held dir (solved_files solves.tables given.solution given.rotations options.rotations.visits) in
           let there = proof_stays solves.tables given.rotations options.rotations.visits held dir solving given.solution read.within.first solves.reads given.solves.right

@@ -7,7 +7,8 @@ use Rattle.plan_desk.specs.DeskFile.{path_of}
 use Rattle.plan_desk.specs.declared.file.DeskFile.{DeskFile}
 use Rattle.plan_desk.specs.declared.file.DeskFile.TheVariants as desk_file
 use Rattle.command_words.specs.Words.{Asked}
-use Rattle.fleet_cli.specs.Answer.{Answers, AnswersSome, says}
+use Rattle.fleet_cli.specs.Answer.{Answers, AnswersSome}
+use Rattle.fleet_cli.specs.Refusals.{says}
 use Rattle.fleet_cli.specs.Failed.{MatchFailure, StopsAs}
 use Rattle.fleet_cli.specs.Gathered.{CalledTooLong, IsFirstMissing, IsFirstTooLong, MatchStop, ReadFails, limit_of}
 use Rattle.fleet_cli.specs.Reading.{IsMissing, IsRead, IsTooLong, NamesStand}

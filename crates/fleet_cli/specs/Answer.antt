@@ -1,8 +1,5 @@
 -- The program's answer to its words, by what files hold. One case for each command.
-use Rattle.std.specs.Prelude.{◌≡◌, ◌⊎◌, ℕ, Bool, true, false, List, [], ℤ, Option, Some, None}
-use Rattle.bound_cert.specs.Lines.{left_of}
-use Rattle.bound_cert.specs.ReadProof.{IsFirstFault, ReadsAs}
-use Rattle.bound_cert.specs.declared.faults.CertFault.{CertFault}
+use Rattle.std.specs.Prelude.{◌≡◌, ◌⊎◌, ℕ, Bool, true, false, List, ℤ, Option, Some, None}
 use Rattle.bound_cert.specs.declared.reading.Proof.{Proof}
 use Rattle.dual_bound.specs.declared.trees.Tree.{Tree}
 use Rattle.branch_bound.specs.Solved.{IsSolved}
@@ -15,113 +12,59 @@ use Rattle.command_words.specs.Words.{Asked, check, judge, make, solve, tails}
 use Rattle.command_words.specs.declared.command.RotationLimits.{RotationLimits}
 use Rattle.command_words.specs.declared.command.SolveOptions.{SolveOptions}
 use Rattle.command_words.specs.declared.command.TheConstants.{DEFAULT_OPTIONS, DEFAULT_SETTINGS}
-use Rattle.csv_fields.specs.Record.{records_of}
-use Rattle.fleet_model.specs.Legal.{IsLegal, total_cost}
+use Rattle.fleet_model.specs.Legal.{total_cost}
 use Rattle.fleet_model.specs.declared.parts.Settings.{Settings}
-use Rattle.fleet_model.specs.declared.refusals.TableFile.{TableFile}
-use Rattle.fleet_model.specs.declared.refusals.TheConstants.{TOO_LONG}
 use Rattle.fleet_model.specs.declared.tables.Tables.{Tables}
+use Rattle.rotation_report.specs.declared.fleet_rotations.FleetRotation.{FleetRotation}
 use Rattle.plan_desk.specs.Desk.{Files}
-use Rattle.plan_desk.specs.declared.file.DeskFile.{DeskFile}
 use Rattle.plan_desk.specs.declared.file.DeskFile.TheVariants as file
 use Rattle.plan_judge.specs.Verdicts.{IsVerdict}
 use Rattle.plan_judge.specs.declared.verdicts.Verdict.{Verdict}
-use Rattle.plan_judge.specs.declared.verdicts.Verdict.TheVariants as verdict
-use Rattle.rotation_report.specs.Tails.{tails_text}
-use Rattle.rotation_report.specs.declared.fleet_rotations.FleetRotation.{FleetRotation}
 use Rattle.plan_rotations.specs.Rotations.{ArePlanRotations}
-use Rattle.plan_text.specs.Reading.{PlanBad, PlanReads}
-use Rattle.sched_read.specs.Reading.{BadAt, Reads, TableBytes}
+use Rattle.rotation_report.specs.Tails.{tails_text}
+use Rattle.sched_read.specs.Reading.{TableBytes}
 use Rattle.table_maker.specs.Laws.{bytes_of}
 use Rattle.table_maker.specs.Made.{CanBeMade, made_tables}
 use Rattle.fleet_cli.specs.Contents.{FileBytes, bytes_in, table_bytes}
 use Rattle.fleet_cli.specs.Gathered.{CalledTooLong}
 use Rattle.fleet_cli.specs.Making.{after_files, made_files}
 use Rattle.fleet_cli.specs.Reading.{AllWithin, IsRead, IsTooLong, folder_of}
+use Rattle.fleet_cli.specs.Refusals.{RefusesLength, says, verdict_status}
+use Rattle.fleet_cli.specs.Skeletons.{OnLegal, OnPlan, OnProof, OnTables, TablesRead}
 use Rattle.fleet_cli.specs.Solution.{AreRotationsOf, solved_answer}
-use Rattle.fleet_cli.specs.Texts.{bad_input_text, checked_text, desk_file_of, plan_refused_text, proof_refused_text, usage_text, verdict_text}
+use Rattle.fleet_cli.specs.Texts.{checked_text, usage_text, verdict_text}
 use Rattle.fleet_cli.specs.declared.answer.Answer.{Answer}
-use Rattle.fleet_cli.specs.declared.status.TheConstants.{BAD_INPUT, DONE, REFUSED, USAGE}
-
--- a status and a text, and no file
-abbrev pub says : ℕ → List ℕ → Answer
-says code text = record { status = record { code = code }; text = text; files = [] }
-
--- ---- refusals
-
--- a file is too long
-pub record RefusesLength (too_long : DeskFile → Type 0) (answer : Answer) : Type 0 where
-  pub file : DeskFile
-  pub longer : too_long file
-  pub is : answer ≡ says BAD_INPUT (bad_input_text file 0 TOO_LONG)
-
--- the tables have a first fault
-pub record RefusesTables (bytes : TableBytes) (settings : Settings) (answer : Answer) : Type 0 where
-  pub file : TableFile
-  pub row : ℕ
-  pub kind : ℕ
-  pub bad : BadAt bytes settings file row kind
-  pub is : answer ≡ says BAD_INPUT (bad_input_text (desk_file_of file) row kind)
-
--- the plan's text has a first fault
-pub record RefusesPlan (t : Tables) (bytes : List ℕ) (answer : Answer) : Type 0 where
-  pub row : ℕ
-  pub kind : ℕ
-  pub bad : PlanBad t (records_of bytes) row kind
-  pub is : answer ≡ says REFUSED (plan_refused_text row kind)
-
--- the proof's text has a first fault
-pub record RefusesProof (t : Tables) (bytes : List ℕ) (answer : Answer) : Type 0 where
-  pub fault : CertFault
-  pub bad : IsFirstFault t (left_of bytes) fault
-  pub is : answer ≡ says REFUSED (proof_refused_text fault.line fault.kind)
+use Rattle.fleet_cli.specs.declared.status.TheConstants.{DONE, REFUSED, USAGE}
 
 -- ---- judging
 
-abbrev pub verdict_status : Verdict → ℕ
-verdict_status (verdict.Legal cost) = DONE
-verdict_status (verdict.NotAllowed leg) = REFUSED
-verdict_status (verdict.Unbalanced f s came left) = REFUSED
-verdict_status (verdict.TooMany f used has) = REFUSED
-verdict_status (verdict.Crowded s d stands cap) = REFUSED
-
--- the plan reads and has its verdict
-pub record JudgesPlan (t : Tables) (bytes : List ℕ) (answer : Answer) : Type 0 where
-  pub plan : List ℕ
+-- the plan has its verdict
+pub record JudgesPlan (t : Tables) (plan : List ℕ) (answer : Answer) : Type 0 where
   pub verdict : Verdict
-  pub reads : PlanReads t (records_of bytes) plan
   pub judged : IsVerdict t plan verdict
   pub is : answer ≡ says (verdict_status verdict) (verdict_text t plan verdict)
 
--- the tables read, and the plan is answered on them
-pub record AnswersPlan (bytes : TableBytes) (settings : Settings) (plan : List ℕ) (answer : Answer) : Type 0 where
-  pub tables : Tables
-  pub reads : Reads bytes settings tables
-  pub answers : RefusesPlan tables plan answer ⊎ JudgesPlan tables plan answer
+-- judging on tables, by the bytes of the plan
+abbrev pub JudgesOn : List ℕ → Tables → Answer → Type 0
+JudgesOn plan t = OnPlan t plan (JudgesPlan t)
 
 -- judging by the bytes of the tables and of the plan
 abbrev pub Judges : Settings → TableBytes → List ℕ → Answer → Type 0
-Judges settings bytes plan answer = RefusesTables bytes settings answer ⊎ AnswersPlan bytes settings plan answer
+Judges settings bytes plan = OnTables settings bytes (JudgesOn plan)
 
 -- ---- solving
 
 -- a solution of the tables is given, found within the limits of the search, with rotations of its plan
-pub record GivesSolution (t : Tables) (options : SolveOptions) (answer : Answer) : Type 0 where
+pub record GivesSolution (options : SolveOptions) (t : Tables) (answer : Answer) : Type 0 where
   pub solution : Solved
   pub rotations : List FleetRotation
   pub solves : IsSolved t options.search.nodes options.search.pivots solution
   pub rotates : AreRotationsOf t options.rotations solution rotations
   pub is : answer ≡ solved_answer t options solution rotations
 
--- the tables read, and a solution of them is given
-pub record SolvesTables (bytes : TableBytes) (settings : Settings) (options : SolveOptions) (answer : Answer) : Type 0 where
-  pub tables : Tables
-  pub reads : Reads bytes settings tables
-  pub gives : GivesSolution tables options answer
-
 -- solving by the bytes of the tables
 abbrev pub Solves : Settings → SolveOptions → TableBytes → Answer → Type 0
-Solves settings options bytes answer = RefusesTables bytes settings answer ⊎ SolvesTables bytes settings options answer
+Solves settings options bytes = OnTables settings bytes (GivesSolution options)
 
 -- ---- making
 
@@ -130,7 +73,7 @@ Solves settings options bytes answer = RefusesTables bytes settings answer ⊎ S
 pub record Makes (number legs : ℕ) (answer : Answer) : Type 0 where
   pub solving : Answer
   pub can : CanBeMade number legs
-  pub solves : SolvesTables (bytes_of (made_tables number legs)) DEFAULT_SETTINGS DEFAULT_OPTIONS solving
+  pub solves : TablesRead DEFAULT_SETTINGS (bytes_of (made_tables number legs)) (GivesSolution DEFAULT_OPTIONS) solving
   pub is : answer ≡ after_files (made_files (made_tables number legs)) solving
 
 -- ---- checking
@@ -145,69 +88,42 @@ pub record ChecksTree (t : Tables) (cost : Option ℤ) (tree : Tree) (answer : A
   pub checked : IsChecked t cost tree verdict
   pub is : answer ≡ says (checked_status verdict) (checked_text cost verdict)
 
--- the plan's verdict refuses it
-pub record RefusesVerdict (t : Tables) (plan : List ℕ) (answer : Answer) : Type 0 where
-  pub verdict : Verdict
-  pub judged : IsVerdict t plan verdict
-  pub refused : verdict_status verdict ≡ REFUSED
-  pub is : answer ≡ says (verdict_status verdict) (verdict_text t plan verdict)
-
--- the plan is legal, and the tree is checked with its cost
-pub record ChecksLegal (t : Tables) (plan : List ℕ) (tree : Tree) (answer : Answer) : Type 0 where
-  pub legal : IsLegal t plan
-  pub checks : ChecksTree t (Some (total_cost t plan)) tree answer
-
--- the plan reads; its verdict comes before the tree
-pub record ChecksPlan (t : Tables) (tree : Tree) (bytes : List ℕ) (answer : Answer) : Type 0 where
-  pub plan : List ℕ
-  pub reads : PlanReads t (records_of bytes) plan
-  pub answers : RefusesVerdict t plan answer ⊎ ChecksLegal t plan tree answer
+-- the tree is checked with a plan's cost
+abbrev pub ChecksWith : Tables → Tree → List ℕ → Answer → Type 0
+ChecksWith t tree plan = ChecksTree t (Some (total_cost t plan)) tree
 
 -- checking a tree, with the plan of these bytes where one comes with it
 abbrev pub ChecksProof : Tables → Bool → Tree → List ℕ → Answer → Type 0
-ChecksProof t false tree plan answer = ChecksTree t None tree answer
-ChecksProof t true tree plan answer = RefusesPlan t plan answer ⊎ ChecksPlan t tree plan answer
+ChecksProof t false tree plan = ChecksTree t None tree
+ChecksProof t true tree plan = OnPlan t plan (OnLegal t (ChecksWith t tree))
 
--- the proof's text reads, and its tree is checked
-pub record ReadsProof (t : Tables) (bytes plan : List ℕ) (answer : Answer) : Type 0 where
-  pub proof : Proof
-  pub reads : ReadsAs t bytes proof
-  pub checks : ChecksProof t proof.planned proof.tree plan answer
+-- checking a proof, which says whether a plan comes with it
+abbrev pub ChecksRead : Tables → List ℕ → Proof → Answer → Type 0
+ChecksRead t plan proof = ChecksProof t proof.planned proof.tree plan
 
--- the tables read, and the proof is answered on them
-pub record AnswersProof (bytes : TableBytes) (settings : Settings) (proof plan : List ℕ) (answer : Answer) : Type 0 where
-  pub tables : Tables
-  pub reads : Reads bytes settings tables
-  pub answers : RefusesProof tables proof answer ⊎ ReadsProof tables proof plan answer
+-- checking on tables, by the bytes of the proof and of the plan
+abbrev pub ChecksOn : List ℕ → List ℕ → Tables → Answer → Type 0
+ChecksOn proof plan t = OnProof t proof (ChecksRead t plan)
 
 -- checking by the bytes of the tables, of the proof and of the plan
 abbrev pub Checks : Settings → TableBytes → List ℕ → List ℕ → Answer → Type 0
-Checks settings bytes proof plan answer = RefusesTables bytes settings answer ⊎ AnswersProof bytes settings proof plan answer
+Checks settings bytes proof plan = OnTables settings bytes (ChecksOn proof plan)
 
 -- ---- tails
 
--- the plan is legal, and the tails of its rotations on the dates are told
+-- the tails of the plan's rotations on the dates are told
 pub record TellsTails (t : Tables) (limits : RotationLimits) (dates : AskedDates) (plan : List ℕ) (answer : Answer) : Type 0 where
   pub rotations : List FleetRotation
-  pub legal : IsLegal t plan
   pub rotates : ArePlanRotations t plan limits.days limits.visits rotations
   pub is : answer ≡ says DONE (tails_text t plan rotations dates.first dates.count)
 
--- the plan reads; its verdict comes before the tails
-pub record TailsOfPlan (t : Tables) (limits : RotationLimits) (dates : AskedDates) (bytes : List ℕ) (answer : Answer) : Type 0 where
-  pub plan : List ℕ
-  pub reads : PlanReads t (records_of bytes) plan
-  pub answers : RefusesVerdict t plan answer ⊎ TellsTails t limits dates plan answer
-
--- the tables read, and the tails of the plan are told on them
-pub record TailsOfTables (bytes : TableBytes) (settings : Settings) (limits : RotationLimits) (dates : AskedDates) (plan : List ℕ) (answer : Answer) : Type 0 where
-  pub tables : Tables
-  pub reads : Reads bytes settings tables
-  pub answers : RefusesPlan tables plan answer ⊎ TailsOfPlan tables limits dates plan answer
+-- telling tails on tables, by the bytes of the plan
+abbrev pub TailsOn : RotationLimits → AskedDates → List ℕ → Tables → Answer → Type 0
+TailsOn limits dates plan t = OnPlan t plan (OnLegal t (TellsTails t limits dates))
 
 -- telling tails by the bytes of the tables and of the plan
 abbrev pub TailsOf : Settings → RotationLimits → AskedDates → TableBytes → List ℕ → Answer → Type 0
-TailsOf settings limits dates bytes plan answer = RefusesTables bytes settings answer ⊎ TailsOfTables bytes settings limits dates plan answer
+TailsOf settings limits dates bytes plan = OnTables settings bytes (TailsOn limits dates plan)
 
 -- ---- what the program answers
 

@@ -1,7 +1,7 @@
 -- A run that has no answer.
 use Rattle.std.specs.Prelude.{◌≡◌, Result, Ok, Err, ⊤}
 use Rattle.fleet_model.specs.declared.refusals.TheConstants.{TOO_LONG}
-use Rattle.fleet_cli.specs.Answer.{says}
+use Rattle.fleet_cli.specs.Refusals.{says}
 use Rattle.fleet_cli.specs.Texts.{bad_input_text}
 use Rattle.fleet_cli.specs.declared.answer.Answer.{Answer}
 use Rattle.fleet_cli.specs.declared.answer.Failure.{Failure}

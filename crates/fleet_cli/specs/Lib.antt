@@ -12,7 +12,9 @@ pub mod Opened
 pub mod Program
 pub mod Ran
 pub mod Reading
+pub mod Refusals
 pub mod Run
+pub mod Skeletons
 pub mod Solution
 pub mod SolvedChecked
 pub mod Texts

@@ -9,9 +9,10 @@ use Rattle.fleet_model.specs.declared.tables.Tables.{Tables}
 use Rattle.plan_desk.specs.declared.file.DeskFile.{DeskFile}
 use Rattle.plan_desk.specs.declared.file.DeskFile.TheVariants as file
 use Rattle.sched_read.specs.Reading.{Reads, TableBytes}
-use Rattle.fleet_cli.specs.Answer.{AnswersOf, ChecksProof, ChecksTree, RefusesProof, RefusesTables}
+use Rattle.fleet_cli.specs.Answer.{AnswersOf, ChecksProof, ChecksTree}
 use Rattle.fleet_cli.specs.Contents.{FileBytes, with_plan}
 use Rattle.fleet_cli.specs.Reading.{Follows}
+use Rattle.fleet_cli.specs.Refusals.{RefusesProof, RefusesTables}
 use Rattle.fleet_cli.specs.declared.answer.Answer.{Answer}
 use Rattle.fleet_cli.specs.declared.loading.Loaded.{Loaded}
 use Rattle.fleet_cli.specs.declared.loading.Loaded.TheVariants as loaded

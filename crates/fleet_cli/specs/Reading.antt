@@ -1,5 +1,5 @@
 -- What a command reads, in what order, and what it writes. One case for each command.
-use Rattle.std.specs.Prelude.{◌≡◌, ◌⊎◌, ℕ, ◌+◌, true, List, [], ◌∷◌, length, Option, Some, None, IsSome}
+use Rattle.std.specs.Prelude.{◌≡◌, ◌⊎◌, ℕ, ◌+◌, true, List, [], ◌∷◌, ◌++◌, length, Option, Some, None, IsSome}
 use Rattle.bound_cert.specs.ReadProof.{ReadsAs}
 use Rattle.bound_cert.specs.declared.reading.Proof.{Proof}
 use Rattle.command_words.specs.Words.{Asked, check, judge, make, solve, tails}
@@ -13,16 +13,17 @@ use Rattle.sched_read.specs.Reading.{Reads, TableBytes}
 use Rattle.fleet_cli.specs.Contents.{FileBytes, bytes_in, table_bytes}
 use Rattle.fleet_cli.specs.Gathered.{AllStand, ComesTo, IsAmong, IsFirstMissing, IsFirstTooLong, IsHeld}
 
--- the five tables, and files that are read after them
-abbrev pub tables_and : List DeskFile → List DeskFile
-tables_and more = file.Stations ∷ file.Fleets ∷ file.Legs ∷ file.Costs ∷ file.Throughs ∷ more
+-- the five tables, in the order in which they are read
+abbrev pub table_files : List DeskFile
+table_files = file.Stations ∷ file.Fleets ∷ file.Legs ∷ file.Costs ∷ file.Throughs ∷ []
 
--- the files that judging (and telling tails), solving and checking read first, in their order
+-- and files that are read after them
+abbrev pub tables_and : List DeskFile → List DeskFile
+tables_and more = table_files ++ more
+
+-- the files that judging (and telling tails) and checking read first, in their order
 abbrev pub judge_files : List DeskFile
 judge_files = tables_and (file.Plan ∷ [])
-
-abbrev pub table_files : List DeskFile
-table_files = tables_and []
 
 abbrev pub proof_files : List DeskFile
 proof_files = tables_and (file.Proof ∷ [])

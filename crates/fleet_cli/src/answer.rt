@@ -1,5 +1,5 @@
 ghost use Rattle.std.specs.Prelude.{◌≡◌};
-ghost use Rattle.fleet_cli.specs.Answer.{says};
+ghost use Rattle.fleet_cli.specs.Refusals.{says};
 ghost use Rattle.fleet_cli.specs.declared.answer.Failure.TheVariants as failure;
 
 use crate::status::Status;

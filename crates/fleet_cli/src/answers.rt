@@ -1,7 +1,8 @@
 //! The answer to the words of a call, by what the desk holds.
 ghost use Rattle.std.specs.Prelude.{◌≡◌, ◌+◌, Option, Some, IfOk, IfSome, map, string_bytes, ⊤};
 ghost use Rattle.command_words.specs.Words.{Asked, HasDates, HasLimits, HasSettings, asked, asked_by};
-ghost use Rattle.fleet_cli.specs.Answer.{Answers, AnswersSome, says};
+ghost use Rattle.fleet_cli.specs.Answer.{Answers, AnswersSome};
+ghost use Rattle.fleet_cli.specs.Refusals.{says};
 ghost use Rattle.dual_bound.specs.OfTables.{IsOfTables};
 ghost use Rattle.fleet_cli.specs.Awaited.{AwaitsThere};
 ghost use Rattle.fleet_cli.specs.Contents.{FileBytes};
@@ -80,7 +81,8 @@ fn answer_to<D: Desk>(alloc: Global, command: &Command<'_>, desk: &mut D) -> Res
     ensures stays_steady { D.is_steady desk.old → D.is_steady desk.new }
 {
     let dir = folder(command);
-    match read_files(alloc, desk, dir, first_files(command)) {
+    let files = first_files(command);
+    match read_files(alloc, desk, dir, files.as_slice()) {
         Ok(contents) => match open(alloc, command, contents)? {
             Opened::Answered(answer) => Ok(answer),
             Opened::WantsPlan(checking) => answer_with_plan(alloc, &checking, desk, dir),

@@ -1,9 +1,10 @@
 //! The command `check`: whether the proof of a folder proves its bound, and whether the plan that comes with it is legal.
-ghost use Rattle.std.specs.Prelude.{◌≡◌, ◌⊎◌, ℕ, List, Some, IfOk, IfSome, IsOkAnd, option_map, true};
+ghost use Rattle.std.specs.Prelude.{◌≡◌, ℕ, List, Some, IfOk, IfSome, IsOkAnd, option_map, true};
 ghost use Rattle.dual_bound.specs.OfTables.{IsOfTables};
 ghost use Rattle.bound_cert.specs.ReadProof.{ReadsAs};
 ghost use Rattle.command_words.specs.Words.{check};
-ghost use Rattle.fleet_cli.specs.Answer.{ChecksLegal, ChecksProof, ChecksTree, RefusesVerdict, checked_status};
+ghost use Rattle.fleet_cli.specs.Answer.{ChecksProof, ChecksTree, ChecksWith, checked_status};
+ghost use Rattle.fleet_cli.specs.Skeletons.{OnLegal};
 ghost use Rattle.fleet_cli.specs.Contents.{content_of};
 ghost use Rattle.fleet_cli.specs.Opened.{IsOpened, IsOpenedBy};
 ghost use Rattle.fleet_cli.specs.declared.opened.Opened.TheVariants.{Answered};
@@ -99,7 +100,7 @@ fn check_judged(
 ) -> Result<Answer, NoMemory>
     requires tree { IsOfTables tables.now tree.now }
     requires plan { IsAssignment tables.now plan.now }
-    ensures { IfOk result (λ answer. RefusesVerdict tables.now plan.now answer ⊎ ChecksLegal tables.now plan.now tree.now answer) }
+    ensures { IfOk result (OnLegal tables.now (ChecksWith tables.now tree.now) plan.now) }
 {
     match judge(tables, plan) {
         Verdict::Legal { cost } => check_tree(alloc, tables, Some(plan), Some(cost), tree),

@@ -7,6 +7,7 @@ ghost use Rattle.fleet_cli.specs.Reading.{first_files, folder_of};
 
 use crate::checking::open_check;
 use crate::contents::Contents;
+use crate::files::FileList;
 use crate::judging::judge_contents;
 use crate::making::make_and_solve;
 use crate::opened::Opened;
@@ -16,35 +17,6 @@ use command_words::Command;
 use entries::NoMemory;
 use plan_desk::DeskFile;
 use std::alloc::Global;
-
-/// The files that judging reads, and telling tails, in their order.
-const JUDGE_FILES: &[DeskFile] = &[
-    DeskFile::Stations,
-    DeskFile::Fleets,
-    DeskFile::Legs,
-    DeskFile::Costs,
-    DeskFile::Throughs,
-    DeskFile::Plan,
-];
-
-/// The files that solving reads, in their order.
-const TABLE_FILES: &[DeskFile] = &[
-    DeskFile::Stations,
-    DeskFile::Fleets,
-    DeskFile::Legs,
-    DeskFile::Costs,
-    DeskFile::Throughs,
-];
-
-/// The files that checking reads first, in their order.
-const PROOF_FILES: &[DeskFile] = &[
-    DeskFile::Stations,
-    DeskFile::Fleets,
-    DeskFile::Legs,
-    DeskFile::Costs,
-    DeskFile::Throughs,
-    DeskFile::Proof,
-];
 
 /// The folder of a command.
 pub fn folder<'a>(command: &Command<'a>) -> &'a str
@@ -60,14 +32,14 @@ pub fn folder<'a>(command: &Command<'a>) -> &'a str
 }
 
 /// The files that a command reads first, in their order.
-pub fn first_files(command: &Command<'_>) -> &'static [DeskFile]
-    ensures { result.now ≡ first_files (Some (asked_by command.now)) }
+pub fn first_files(command: &Command<'_>) -> FileList
+    ensures { result ≡ first_files (Some (asked_by command.now)) }
 {
     match command {
-        Command::Judge { .. } | Command::Tails { .. } => JUDGE_FILES,
-        Command::Solve { .. } => TABLE_FILES,
-        Command::Check { .. } => PROOF_FILES,
-        Command::Make { .. } => &[],
+        Command::Judge { .. } | Command::Tails { .. } => FileList::tables_and(DeskFile::Plan),
+        Command::Solve { .. } => FileList::tables(),
+        Command::Check { .. } => FileList::tables_and(DeskFile::Proof),
+        Command::Make { .. } => FileList::empty(),
     }
 }
 

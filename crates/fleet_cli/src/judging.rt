@@ -1,6 +1,7 @@
 //! The command `judge`: the verdict on the plan of a folder.
-ghost use Rattle.std.specs.Prelude.{◌≡◌, ◌⊎◌, IfOk};
-ghost use Rattle.fleet_cli.specs.Answer.{Judges, JudgesPlan, RefusesPlan, says, verdict_status};
+ghost use Rattle.std.specs.Prelude.{◌≡◌, IfOk};
+ghost use Rattle.fleet_cli.specs.Answer.{Judges, JudgesOn};
+ghost use Rattle.fleet_cli.specs.Refusals.{says, verdict_status};
 ghost use Rattle.fleet_cli.specs.Contents.{content_of, table_bytes};
 ghost use Rattle.fleet_cli.specs.Texts.{verdict_text};
 ghost use Rattle.fleet_model.specs.Legal.{IsAssignment};
@@ -36,7 +37,7 @@ pub fn judge_contents(
 
 /// Judges a plan by its bytes.
 fn judge_plan(alloc: Global, tables: &Tables, bytes: &[u8]) -> Result<Answer, NoMemory>
-    ensures { IfOk result (λ answer. RefusesPlan tables.now bytes.now answer ⊎ JudgesPlan tables.now bytes.now answer) }
+    ensures { IfOk result (JudgesOn bytes.now tables.now) }
 {
     match read_plan(alloc, tables, bytes) {
         Ok(plan) => tell_verdict(alloc, tables, &plan, judge(tables, &plan)),

@@ -7,6 +7,7 @@ mod calling;
 mod checking;
 mod commands;
 mod contents;
+mod files;
 mod gathering;
 mod judging;
 pub mod laws;

@@ -1,7 +1,8 @@
 //! The command `make`: tables of a number, and a plan for them with a bound, its proof and its rotations.
 ghost use Rattle.std.specs.Prelude.{◌≡◌, ◌++◌, [], ◌∷◌, IfOk, IsOkAnd};
 ghost use Rattle.command_words.specs.declared.command.TheConstants.{DEFAULT_OPTIONS, DEFAULT_SETTINGS};
-ghost use Rattle.fleet_cli.specs.Answer.{Makes, SolvesTables};
+ghost use Rattle.fleet_cli.specs.Answer.{GivesSolution, Makes};
+ghost use Rattle.fleet_cli.specs.Skeletons.{TablesRead};
 ghost use Rattle.fleet_cli.specs.Making.{after_files, made_files};
 ghost use Rattle.sched_read.specs.Reading.{Reads};
 ghost use Rattle.table_maker.specs.Laws.{bytes_of};
@@ -31,7 +32,7 @@ pub fn make_and_solve(alloc: Global, number: u32, legs: u32) -> Result<Answer, N
 fn solve_made(alloc: Global, number: u32, legs: u32, made: &MadeTables) -> Result<Answer, NoMemory>
     requires can { CanBeMade number legs }
     requires made { made.now ≡ made_tables number legs }
-    ensures { IfOk result (SolvesTables (bytes_of made.now) DEFAULT_SETTINGS DEFAULT_OPTIONS) }
+    ensures { IfOk result (TablesRead DEFAULT_SETTINGS (bytes_of made.now) (GivesSolution DEFAULT_OPTIONS)) }
 {
     let tables = load_made(alloc, number, legs, made)?;
     solve_tables(alloc, &tables, DEFAULT_OPTIONS)

@@ -1,6 +1,6 @@
 //! Refusals of what was read.
 ghost use Rattle.std.specs.Prelude.{◌≡◌, IfOk};
-ghost use Rattle.fleet_cli.specs.Answer.{says};
+ghost use Rattle.fleet_cli.specs.Refusals.{says};
 ghost use Rattle.fleet_cli.specs.Texts.{bad_input_text, desk_file_of, plan_refused_text, proof_refused_text};
 ghost use Rattle.fleet_cli.specs.declared.status.TheConstants.{BAD_INPUT, REFUSED};
 ghost use Rattle.fleet_model.specs.declared.refusals.TheConstants.{TOO_LONG};

@@ -46,7 +46,7 @@ pub fn solve_tables(
     options: SolveOptions,
 ) -> Result<Answer, NoMemory>
     requires { AreOptions options }
-    ensures { IfOk result (GivesSolution tables.now options) }
+    ensures { IfOk result (GivesSolution options tables.now) }
 {
     let solved = solve(alloc, tables, options.search.nodes, options.search.pivots)?;
     let made = rotations_of(alloc, tables, &solved, options.rotations)?;

@@ -1,8 +1,9 @@
 //! The command `tails`: what each aircraft of a folder's plan flies on some dates.
-ghost use Rattle.std.specs.Prelude.{◌≡◌, ◌⊎◌, IfOk};
+ghost use Rattle.std.specs.Prelude.{◌≡◌, IfOk};
 ghost use Rattle.command_words.specs.Arguments.{AreDates, AreRotationLimits};
 ghost use Rattle.command_words.specs.Words.{dates_by};
-ghost use Rattle.fleet_cli.specs.Answer.{RefusesPlan, RefusesVerdict, TailsOf, TailsOfPlan, TellsTails};
+ghost use Rattle.fleet_cli.specs.Answer.{TailsOf, TailsOn, TellsTails};
+ghost use Rattle.fleet_cli.specs.Skeletons.{OnLegal};
 ghost use Rattle.fleet_cli.specs.Contents.{content_of, table_bytes};
 ghost use Rattle.fleet_model.specs.Legal.{IsAssignment, IsLegal};
 ghost use Rattle.fleet_model.specs.Limits.{AreSettings};
@@ -53,7 +54,7 @@ fn tails_of_plan(
 ) -> Result<Answer, NoMemory>
     requires limits { AreRotationLimits limits }
     requires dates { AreDates dates.now }
-    ensures { IfOk result (λ answer. RefusesPlan tables.now bytes.now answer ⊎ TailsOfPlan tables.now limits (dates_by dates.now) bytes.now answer) }
+    ensures { IfOk result (TailsOn limits (dates_by dates.now) bytes.now tables.now) }
 {
     match read_plan(alloc, tables, bytes) {
         Ok(plan) => tails_of_judged(alloc, tables, limits, dates, &plan),
@@ -73,7 +74,7 @@ fn tails_of_judged(
     requires limits { AreRotationLimits limits }
     requires dates { AreDates dates.now }
     requires plan { IsAssignment tables.now plan.now }
-    ensures { IfOk result (λ answer. RefusesVerdict tables.now plan.now answer ⊎ TellsTails tables.now limits (dates_by dates.now) plan.now answer) }
+    ensures { IfOk result (OnLegal tables.now (TellsTails tables.now limits (dates_by dates.now)) plan.now) }
 {
     match judge(tables, plan) {
         Verdict::Legal { .. } => tails_of_legal(alloc, tables, limits, dates, plan),

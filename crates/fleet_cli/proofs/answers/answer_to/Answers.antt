@@ -15,7 +15,7 @@ use Rattle.fleet_cli.proofs.answers.answer_to.Goals as goal
 
 pub returns-in-Answered-clause-told : goal.returns-in-Answered-clause-told
 returns-in-Answered-clause-told g c =
-    told_settled _ (Some (asked_by c.args.command.now)) (content_of c.in-Ok.contents) (rw (c.folder-dir.ensures, c.first_files.ensures) at c.in-Ok.ensures.told) _ (rw c.in-Answered.is at c.in_ok-answer-in-Ok.ensures)
+    told_settled _ (Some (asked_by c.args.command.now)) (content_of c.in-Ok.contents) (rw (c.folder-dir.ensures, c.as_slice.ensures, c.first_files-files.ensures) at c.in-Ok.ensures.told) _ (rw c.in-Answered.is at c.in_ok-answer-in-Ok.ensures)
 
 pub returns-in-Answered-clause-some : goal.returns-in-Answered-clause-some
 returns-in-Answered-clause-some g c = let settles = rw c.in-Answered.is at c.in_ok-answer-in-Ok.ensures in inr (content_of c.in-Ok.contents, settles.answers)
@@ -24,7 +24,7 @@ pub returns-in-Answered-clause-holds : goal.returns-in-Answered-clause-holds
 returns-in-Answered-clause-holds g c = c.in-Ok.ensures.holds
 
 pub returns-in-Answered-clause-calls : goal.returns-in-Answered-clause-calls
-returns-in-Answered-clause-calls g c = reads_first (Some (asked_by c.args.command.now)) _ _ (rw c.first_files.ensures at c.in-Ok.ensures.calls)
+returns-in-Answered-clause-calls g c = reads_first (Some (asked_by c.args.command.now)) _ _ (rw (c.as_slice.ensures, c.first_files-files.ensures) at c.in-Ok.ensures.calls)
 
 pub returns-in-Answered-clause-faults : goal.returns-in-Answered-clause-faults
 returns-in-Answered-clause-faults g c = c.in-Ok.ensures.faults
@@ -44,7 +44,7 @@ pub returns-in-WantsPlan-clause-told : goal.returns-in-WantsPlan-clause-told
 returns-in-WantsPlan-clause-told g c =
     let told = rw c.in-Ok.ensures.holds at c.answer_with_plan.ensures.told in
     told (Some (asked_by c.args.command.now)) (content_of c.in-Ok.contents)
-    (record { awaits = rw c.in-WantsPlan.is at c.in_ok-answer-in-Ok.ensures; folder = c.folder-dir.ensures; first = rw (c.folder-dir.ensures, c.first_files.ensures) at c.in-Ok.ensures.told })
+    (record { awaits = rw c.in-WantsPlan.is at c.in_ok-answer-in-Ok.ensures; folder = c.folder-dir.ensures; first = rw (c.folder-dir.ensures, c.as_slice.ensures, c.first_files-files.ensures) at c.in-Ok.ensures.told })
 
 pub returns-in-WantsPlan-clause-some : goal.returns-in-WantsPlan-clause-some
 returns-in-WantsPlan-clause-some g c =
@@ -57,7 +57,7 @@ returns-in-WantsPlan-clause-holds g c = c.answer_with_plan.ensures.holds ∙ c.i
 pub returns-in-WantsPlan-clause-calls : goal.returns-in-WantsPlan-clause-calls
 returns-in-WantsPlan-clause-calls g c =
     let awaits = rw c.in-WantsPlan.is at c.in_ok-answer-in-Ok.ensures in
-    reads_plan (Some (asked_by c.args.command.now)) (content_of c.in-Ok.contents) _ _ _ awaits.wanted (rw c.first_files.ensures at c.in-Ok.ensures.calls) c.answer_with_plan.ensures.calls
+    reads_plan (Some (asked_by c.args.command.now)) (content_of c.in-Ok.contents) _ _ _ awaits.wanted (rw (c.as_slice.ensures, c.first_files-files.ensures) at c.in-Ok.ensures.calls) c.answer_with_plan.ensures.calls
 
 pub returns-in-WantsPlan-clause-faults : goal.returns-in-WantsPlan-clause-faults
 returns-in-WantsPlan-clause-faults g c = rw c.in-Ok.ensures.faults at c.answer_with_plan.ensures.faults
@@ -66,7 +66,7 @@ pub returns-in-WantsPlan-clause-blamed : goal.returns-in-WantsPlan-clause-blamed
 returns-in-WantsPlan-clause-blamed g c =
     let blamed = rw c.in-Ok.ensures.holds at c.answer_with_plan.ensures.blamed in
     fails_sooner _ _ _ _ _ _ c.answer_with_plan.result c.in-Ok.ensures.stays_steady (blamed (Some (asked_by c.args.command.now)) (content_of c.in-Ok.contents)
-    (record { awaits = rw c.in-WantsPlan.is at c.in_ok-answer-in-Ok.ensures; folder = c.folder-dir.ensures; first = rw (c.folder-dir.ensures, c.first_files.ensures) at c.in-Ok.ensures.told }))
+    (record { awaits = rw c.in-WantsPlan.is at c.in_ok-answer-in-Ok.ensures; folder = c.folder-dir.ensures; first = rw (c.folder-dir.ensures, c.as_slice.ensures, c.first_files-files.ensures) at c.in-Ok.ensures.told }))
 
 pub returns-in-WantsPlan-clause-stays_steady : goal.returns-in-WantsPlan-clause-stays_steady
 returns-in-WantsPlan-clause-stays_steady g c = λ steady. c.answer_with_plan.ensures.stays_steady (c.in-Ok.ensures.stays_steady steady)
@@ -77,23 +77,23 @@ pub returns-in-Err-clause-told : goal.returns-in-Err-clause-told
 returns-in-Err-clause-told g c =
     let asked = Some (asked_by c.args.command.now) in
     told_stopped Contents asked c.in-Err.stop c.stopped.result c.stopped.ensures _
-    (weaker_long Contents _ (folder_of asked) (λ held. ComesTo held (folder_of asked) (first_files asked)) (IsReached asked) _ c.in-Err.stop (λ held f comes. inl comes) (rw (c.folder-dir.ensures, c.first_files.ensures) at c.in-Err.ensures.told))
+    (weaker_long Contents _ (folder_of asked) (λ held. ComesTo held (folder_of asked) (first_files asked)) (IsReached asked) _ c.in-Err.stop (λ held f comes. inl comes) (rw (c.folder-dir.ensures, c.as_slice.ensures, c.first_files-files.ensures) at c.in-Err.ensures.told))
 
 pub returns-in-Err-clause-some : goal.returns-in-Err-clause-some
 returns-in-Err-clause-some g c =
     let asked = Some (asked_by c.args.command.now) in
     some_stopped Contents asked c.in-Err.stop c.stopped.result c.stopped.ensures _
-    (weaker_called Contents _ (IsAmong (first_files asked)) (IsRead asked) c.in-Err.stop (λ f among. inl among) (rw c.first_files.ensures at c.in-Err.ensures.too_long))
+    (weaker_called Contents _ (IsAmong (first_files asked)) (IsRead asked) c.in-Err.stop (λ f among. inl among) (rw (c.as_slice.ensures, c.first_files-files.ensures) at c.in-Err.ensures.too_long))
 
 pub returns-in-Err-clause-blamed : goal.returns-in-Err-clause-blamed
 returns-in-Err-clause-blamed g c =
     let asked = Some (asked_by c.args.command.now) in
     stopped_as Contents c.in-Err.stop c.stopped.result ⊤ _ c.stopped.ensures
     (weaker_fails Contents _ _ (folder_of asked) (IsAmong (first_files asked)) (IsRead asked) (λ held. ComesTo held (folder_of asked) (first_files asked)) (IsReached asked) _ c.in-Err.stop (λ f among. inl among) (λ held f comes. inl comes)
-    (rw (c.folder-dir.ensures, c.first_files.ensures) at c.in-Err.ensures.blamed))
+    (rw (c.folder-dir.ensures, c.as_slice.ensures, c.first_files-files.ensures) at c.in-Err.ensures.blamed))
 
 pub returns-in-Err-clause-calls : goal.returns-in-Err-clause-calls
-returns-in-Err-clause-calls g c = reads_first (Some (asked_by c.args.command.now)) _ _ (rw c.first_files.ensures at c.in-Err.ensures.calls)
+returns-in-Err-clause-calls g c = reads_first (Some (asked_by c.args.command.now)) _ _ (rw (c.as_slice.ensures, c.first_files-files.ensures) at c.in-Err.ensures.calls)
 
 pub returns-in-Err-clause-holds : goal.returns-in-Err-clause-holds
 returns-in-Err-clause-holds g c = c.in-Err.ensures.holds
@@ -107,7 +107,7 @@ returns-in-Err-clause-stays_steady g c = c.in-Err.ensures.stays_steady
 -- ---- want of memory
 
 pub returns-in_err-answer-in-Ok-clause-calls : goal.returns-in_err-answer-in-Ok-clause-calls
-returns-in_err-answer-in-Ok-clause-calls g c = reads_first (Some (asked_by c.args.command.now)) _ _ (rw c.first_files.ensures at c.in-Ok.ensures.calls)
+returns-in_err-answer-in-Ok-clause-calls g c = reads_first (Some (asked_by c.args.command.now)) _ _ (rw (c.as_slice.ensures, c.first_files-files.ensures) at c.in-Ok.ensures.calls)
 
 pub returns-in_err-answer-in-Ok-clause-told : goal.returns-in_err-answer-in-Ok-clause-told
 returns-in_err-answer-in-Ok-clause-told g c = let p = err_from_is_err_and c.from_residual.result c.from_residual.ensures.1 in lacking_told c.from_residual.result p.0 p.1 p.2 _ (Some (asked_by c.args.command.now))

@@ -2,7 +2,8 @@ use Rattle.std.proofs.Common.{◌∙◌, ap, subst}
 use Rattle.std.proofs.lemmas.Result.{IfOk-weaker}
 use Rattle.command_words.specs.declared.command.TheConstants.{DEFAULT_OPTIONS, DEFAULT_SETTINGS}
 use Rattle.table_maker.specs.Laws.{bytes_of}
-use Rattle.fleet_cli.specs.Answer.{SolvesTables}
+use Rattle.fleet_cli.specs.Answer.{GivesSolution}
+use Rattle.fleet_cli.specs.Skeletons.{TablesRead}
 use Rattle.fleet_cli.specs.Making.{after_files, made_files}
 use Rattle.fleet_cli.proofs.making.make_and_solve.Goals as goal
 
@@ -10,6 +11,6 @@ pub returns : goal.returns
 returns c = IfOk-weaker c.after_tables.result _ _ (λ answer is. record {
   solving = c.in_ok-solving.solving;
   can = c.requires;
-  solves = subst (λ made. SolvesTables (bytes_of made) DEFAULT_SETTINGS DEFAULT_OPTIONS c.in_ok-solving.solving) c.in_ok-made.ensures.made c.in_ok-solving.ensures;
+  solves = subst (λ made. TablesRead DEFAULT_SETTINGS (bytes_of made) (GivesSolution DEFAULT_OPTIONS) c.in_ok-solving.solving) c.in_ok-made.ensures.made c.in_ok-solving.ensures;
   is = is ∙ ap (λ made. after_files (made_files made) c.in_ok-solving.solving) c.in_ok-made.ensures.made;
 }) c.after_tables.ensures

@@ -1,0 +1,173 @@
+-- What is read one after the other: one answer, what follows of it, and that what is good is not refused. Each of these
+-- once, for whatever is answered on what was read.
+use Rattle.std.proofs.Common.{◌≡◌, ℕ, ◌+◌, ◌-◌, Bool, List, length, Err, Ok, refl, sym, ap, subst, ◌∙◌, inl, inr, arith}
+use Rattle.bound_cert.specs.Lines.{Reading, Stopped, left_of}
+use Rattle.bound_cert.specs.ReadProof.{IsFirstFault, ReadsAs}
+use Rattle.bound_cert.specs.declared.faults.CertFault.{CertFault}
+use Rattle.bound_cert.specs.declared.reading.Proof.{Proof}
+use Rattle.csv_fields.specs.Record.{records_of}
+use Rattle.dual_bound.specs.Nodes.{nodes_of}
+use Rattle.dual_bound.specs.declared.nodes.Node.{Node}
+use Rattle.fleet_model.specs.Legal.{IsLegal, total_cost}
+use Rattle.fleet_model.specs.declared.parts.Settings.{Settings}
+use Rattle.fleet_model.specs.declared.tables.Tables.{Tables}
+use Rattle.plan_judge.proofs.OneVerdict.{one_verdict}
+use Rattle.plan_judge.specs.declared.verdicts.Verdict.TheVariants as verdict
+use Rattle.plan_text.proofs.ReadOrNot.{reads_or_not}
+use Rattle.plan_text.specs.Reading.{PlanReads}
+use Rattle.sched_read.proofs.ReadLaws as tables
+use Rattle.sched_read.specs.Reading.{Reads, TableBytes}
+use Rattle.fleet_cli.specs.Refusals.{RefusesPlan, RefusesProof, RefusesTables, RefusesVerdict, says, verdict_status}
+use Rattle.fleet_cli.specs.Skeletons.{OnLegal, OnPlan, OnProof, OnTables}
+use Rattle.fleet_cli.specs.Texts.{verdict_text}
+use Rattle.fleet_cli.specs.declared.answer.Answer.{Answer}
+
+-- ---- what a text reads as
+
+-- a text has one first fault
+record SameFault (one other : CertFault) : Type 0 where
+  line_is : one.line ≡ other.line
+  kind_is : one.kind ≡ other.kind
+
+one_error : {A : Type 0} (one other : Stopped) → ◌≡◌ {A = Reading A} (Err one) (Err other) → one ≡ other
+one_error one other e = cc
+
+one_fault : (t : Tables) (bytes : List ℕ) (one other : CertFault) → IsFirstFault t (left_of bytes) one → IsFirstFault t (left_of bytes) other → SameFault one other
+one_fault t bytes one other x y =
+    let same = one_error _ _ (sym x.stops ∙ y.stops) in
+    record { line_is = x.line ∙ ap (λ (s : Stopped). length (left_of bytes) - s.left + 1) same ∙ sym y.line; kind_is = ap (λ (s : Stopped). s.kind) same }
+
+-- a text reads as one proof, or has a fault
+one_value : {A : Type 0} (one other : A) → ◌≡◌ {A = Reading A} (Ok one) (Ok other) → one ≡ other
+one_value one other e = cc
+
+pub never_read : (t : Tables) (text : List ℕ) (answer : Answer) (proof : Proof) → RefusesProof t text answer → ReadsAs t text proof → ⊥
+never_read t text answer proof x reads = let both = sym x.bad.stops ∙ reads in let never : ⊥ = cc in never
+
+-- what the one proof of a text says
+pub says_one : (t : Tables) (text : List ℕ) (one other : Proof) → ReadsAs t text one → ReadsAs t text other → (one.planned ≡ other.planned) × (nodes_of one.tree ≡ nodes_of other.tree)
+says_one t text one other x y =
+    let read = one_value _ _ (sym x ∙ y) in
+    (ap (λ (p : Bool × List Node). p.0) read, ap (λ (p : Bool × List Node). p.1) read)
+
+-- a plan that its verdict refuses isn't legal
+never_legal : (t : Tables) (plan : List ℕ) (answer : Answer) → RefusesVerdict t plan answer → ¬ (IsLegal t plan)
+never_legal t plan answer x legal =
+    let same : x.verdict ≡ verdict.Legal (total_cost t plan) = one_verdict t plan x.verdict (verdict.Legal (total_cost t plan)) x.judged (legal, refl) in
+    let bad : ◌≡◌ {A = ℕ} 0 9 = sym (ap verdict_status same) ∙ x.refused in
+    omega arith
+
+-- ---- one answer
+
+module _ (answer other : Answer) where
+  refuses_tables : (settings : Settings) (bytes : TableBytes) → RefusesTables bytes settings answer → RefusesTables bytes settings other → answer ≡ other
+  refuses_tables settings bytes x y =
+      let same = tables.one_first_fault bytes settings x.file y.file x.row y.row x.kind y.kind x.bad y.bad in
+      x.is ∙ rw (same.file_is, same.row_is, same.kind_is) refl ∙ sym y.is
+
+  refuses_plan : (t : Tables) (bytes : List ℕ) → RefusesPlan t bytes answer → RefusesPlan t bytes other → answer ≡ other
+  refuses_plan t bytes x y =
+      let same = (reads_or_not t (records_of bytes)).one_fault x.row x.kind y.row y.kind x.bad y.bad in
+      x.is ∙ rw (same.0, same.1) refl ∙ sym y.is
+
+  refuses_verdict : (t : Tables) (plan : List ℕ) → RefusesVerdict t plan answer → RefusesVerdict t plan other → answer ≡ other
+  refuses_verdict t plan x y =
+      let same = one_verdict t plan x.verdict y.verdict x.judged y.judged in
+      x.is ∙ ap (λ v. says (verdict_status v) (verdict_text t plan v)) same ∙ sym y.is
+
+  refuses_proof : (t : Tables) (bytes : List ℕ) → RefusesProof t bytes answer → RefusesProof t bytes other → answer ≡ other
+  refuses_proof t bytes x y =
+      let same = one_fault t bytes x.fault y.fault x.bad y.bad in
+      x.is ∙ rw (same.line_is, same.kind_is) refl ∙ sym y.is
+
+  pub one_tables : (settings : Settings) (bytes : TableBytes) (finish : Tables → Answer → Type 0) → ((t : Tables) → finish t answer → finish t other → answer ≡ other)
+      → OnTables settings bytes finish answer → OnTables settings bytes finish other → answer ≡ other
+  one_tables settings bytes finish one (inl x) (inl y) = refuses_tables settings bytes x y
+  one_tables settings bytes finish one (inl x) (inr y) = absurd (tables.reads_no_fault bytes settings y.tables x.file x.row x.kind y.reads x.bad)
+  one_tables settings bytes finish one (inr x) (inl y) = absurd (tables.reads_no_fault bytes settings x.tables y.file y.row y.kind x.reads y.bad)
+  one_tables settings bytes finish one (inr x) (inr y) =
+      one y.tables (subst (λ t. finish t answer) (tables.one_reading bytes settings x.tables y.tables x.reads y.reads) x.finishes) y.finishes
+
+  module _ (t : Tables) where
+    pub one_plan : (bytes : List ℕ) (first second : List ℕ → Answer → Type 0) → ((plan : List ℕ) → first plan answer → second plan other → answer ≡ other)
+        → OnPlan t bytes first answer → OnPlan t bytes second other → answer ≡ other
+    one_plan bytes first second one (inl x) (inl y) = refuses_plan t bytes x y
+    one_plan bytes first second one (inl x) (inr y) = absurd ((reads_or_not t (records_of bytes)).not_both y.plan x.row x.kind y.reads x.bad)
+    one_plan bytes first second one (inr x) (inl y) = absurd ((reads_or_not t (records_of bytes)).not_both x.plan y.row y.kind x.reads y.bad)
+    one_plan bytes first second one (inr x) (inr y) =
+        one y.plan (subst (λ p. first p answer) ((reads_or_not t (records_of bytes)).one_plan x.plan y.plan x.reads y.reads) x.finishes) y.finishes
+
+    pub one_legal : (first second : List ℕ → Answer → Type 0) (plan : List ℕ) → (first plan answer → second plan other → answer ≡ other) → OnLegal t first plan answer → OnLegal t second plan other → answer ≡ other
+    one_legal first second plan one (inl x) (inl y) = refuses_verdict t plan x y
+    one_legal first second plan one (inl x) (inr y) = absurd (never_legal t plan answer x y.legal)
+    one_legal first second plan one (inr x) (inl y) = absurd (never_legal t plan other y x.legal)
+    one_legal first second plan one (inr x) (inr y) = one x.finishes y.finishes
+
+    -- a text gives one list of nodes, and no one tree
+    pub one_proof : (bytes : List ℕ) (finish : Proof → Answer → Type 0)
+        → ((p q : Proof) → p.planned ≡ q.planned → nodes_of p.tree ≡ nodes_of q.tree → finish p answer → finish q other → answer ≡ other)
+        → OnProof t bytes finish answer → OnProof t bytes finish other → answer ≡ other
+    one_proof bytes finish one (inl x) (inl y) = refuses_proof t bytes x y
+    one_proof bytes finish one (inl x) (inr y) = absurd (never_read t bytes answer y.proof x y.reads)
+    one_proof bytes finish one (inr x) (inl y) = absurd (never_read t bytes other x.proof y x.reads)
+    one_proof bytes finish one (inr x) (inr y) =
+        let same = says_one t bytes x.proof y.proof x.reads y.reads in
+        one x.proof y.proof same.0 same.1 x.finishes y.finishes
+
+-- ---- what follows of a refusal, and of all that is answered else, follows
+
+module _ (answer : Answer) (K : Type 0) where
+  pub either_tables : (settings : Settings) (bytes : TableBytes) (finish : Tables → Answer → Type 0) → (RefusesTables bytes settings answer → K)
+      → ((t : Tables) → Reads bytes settings t → finish t answer → K) → OnTables settings bytes finish answer → K
+  either_tables settings bytes finish refused read (inl x) = refused x
+  either_tables settings bytes finish refused read (inr x) = read x.tables x.reads x.finishes
+
+  module _ (t : Tables) where
+    pub either_plan : (bytes : List ℕ) (finish : List ℕ → Answer → Type 0) → (RefusesPlan t bytes answer → K)
+        → ((plan : List ℕ) → PlanReads t (records_of bytes) plan → finish plan answer → K) → OnPlan t bytes finish answer → K
+    either_plan bytes finish refused read (inl x) = refused x
+    either_plan bytes finish refused read (inr x) = read x.plan x.reads x.finishes
+
+    pub either_legal : (finish : List ℕ → Answer → Type 0) (plan : List ℕ) → (RefusesVerdict t plan answer → K) → (IsLegal t plan → finish plan answer → K) → OnLegal t finish plan answer → K
+    either_legal finish plan refused read (inl x) = refused x
+    either_legal finish plan refused read (inr x) = read x.legal x.finishes
+
+    pub either_proof : (bytes : List ℕ) (finish : Proof → Answer → Type 0) → (RefusesProof t bytes answer → K) → ((proof : Proof) → ReadsAs t bytes proof → finish proof answer → K)
+        → OnProof t bytes finish answer → K
+    either_proof bytes finish refused read (inl x) = refused x
+    either_proof bytes finish refused read (inr x) = read x.proof x.reads x.finishes
+
+-- ---- what reads and is legal isn't refused
+
+module _ (answer : Answer) where
+  pub there_tables : (settings : Settings) (bytes : TableBytes) (finish : Tables → Answer → Type 0) (t : Tables) → Reads bytes settings t → OnTables settings bytes finish answer → finish t answer
+  there_tables settings bytes finish t reads (inl x) = absurd (tables.reads_no_fault bytes settings t x.file x.row x.kind reads x.bad)
+  there_tables settings bytes finish t reads (inr x) = subst (λ u. finish u answer) (tables.one_reading bytes settings x.tables t x.reads reads) x.finishes
+
+  module _ (t : Tables) where
+    pub there_plan : (bytes : List ℕ) (finish : List ℕ → Answer → Type 0) (plan : List ℕ) → PlanReads t (records_of bytes) plan → OnPlan t bytes finish answer → finish plan answer
+    there_plan bytes finish plan reads (inl x) = absurd ((reads_or_not t (records_of bytes)).not_both plan x.row x.kind reads x.bad)
+    there_plan bytes finish plan reads (inr x) = subst (λ p. finish p answer) ((reads_or_not t (records_of bytes)).one_plan x.plan plan x.reads reads) x.finishes
+
+    pub there_legal : (finish : List ℕ → Answer → Type 0) (plan : List ℕ) → IsLegal t plan → OnLegal t finish plan answer → finish plan answer
+    there_legal finish plan legal (inl x) = absurd (never_legal t plan answer x legal)
+    there_legal finish plan legal (inr x) = x.finishes
+
+    -- the proof that was read has the same nodes
+    pub there_proof : (bytes : List ℕ) (finish : Proof → Answer → Type 0) (proof : Proof) → ReadsAs t bytes proof → OnProof t bytes finish answer
+        → (read : Proof) × (read.planned ≡ proof.planned) × (nodes_of read.tree ≡ nodes_of proof.tree) × finish read answer
+    there_proof bytes finish proof reads (inl x) = absurd (never_read t bytes answer proof x reads)
+    there_proof bytes finish proof reads (inr x) = let same = says_one t bytes x.proof proof x.reads reads in (x.proof, same.0, same.1, x.finishes)
+
+-- ---- other answers on what was read
+
+module _ (answer : Answer) where
+  pub map_tables : (settings : Settings) (bytes : TableBytes) (finish other : Tables → Answer → Type 0) → ((t : Tables) → Reads bytes settings t → finish t answer → other t answer)
+      → OnTables settings bytes finish answer → OnTables settings bytes other answer
+  map_tables settings bytes finish other more (inl x) = inl x
+  map_tables settings bytes finish other more (inr x) = inr (record { tables = x.tables; reads = x.reads; finishes = more x.tables x.reads x.finishes })
+
+  pub map_proof : (t : Tables) (bytes : List ℕ) (finish other : Proof → Answer → Type 0) → ((proof : Proof) → ReadsAs t bytes proof → finish proof answer → other proof answer)
+      → OnProof t bytes finish answer → OnProof t bytes other answer
+  map_proof t bytes finish other more (inl x) = inl x
+  map_proof t bytes finish other more (inr x) = inr (record { proof = x.proof; reads = x.reads; finishes = more x.proof x.reads x.finishes })

@@ -1,0 +1,65 @@
+-- What the program answers where it refuses what it reads.
+use Rattle.std.specs.Prelude.{◌≡◌, ℕ, List, []}
+use Rattle.bound_cert.specs.Lines.{left_of}
+use Rattle.bound_cert.specs.ReadProof.{IsFirstFault}
+use Rattle.bound_cert.specs.declared.faults.CertFault.{CertFault}
+use Rattle.csv_fields.specs.Record.{records_of}
+use Rattle.fleet_model.specs.declared.parts.Settings.{Settings}
+use Rattle.fleet_model.specs.declared.refusals.TableFile.{TableFile}
+use Rattle.fleet_model.specs.declared.refusals.TheConstants.{TOO_LONG}
+use Rattle.fleet_model.specs.declared.tables.Tables.{Tables}
+use Rattle.plan_desk.specs.declared.file.DeskFile.{DeskFile}
+use Rattle.plan_judge.specs.Verdicts.{IsVerdict}
+use Rattle.plan_judge.specs.declared.verdicts.Verdict.{Verdict}
+use Rattle.plan_judge.specs.declared.verdicts.Verdict.TheVariants as verdict
+use Rattle.plan_text.specs.Reading.{PlanBad}
+use Rattle.sched_read.specs.Reading.{BadAt, TableBytes}
+use Rattle.fleet_cli.specs.Texts.{bad_input_text, desk_file_of, plan_refused_text, proof_refused_text, verdict_text}
+use Rattle.fleet_cli.specs.declared.answer.Answer.{Answer}
+use Rattle.fleet_cli.specs.declared.status.TheConstants.{BAD_INPUT, DONE, REFUSED}
+
+-- a status and a text, and no file
+abbrev pub says : ℕ → List ℕ → Answer
+says code text = record { status = record { code = code }; text = text; files = [] }
+
+-- a file is too long
+pub record RefusesLength (too_long : DeskFile → Type 0) (answer : Answer) : Type 0 where
+  pub file : DeskFile
+  pub longer : too_long file
+  pub is : answer ≡ says BAD_INPUT (bad_input_text file 0 TOO_LONG)
+
+-- the tables have a first fault
+pub record RefusesTables (bytes : TableBytes) (settings : Settings) (answer : Answer) : Type 0 where
+  pub file : TableFile
+  pub row : ℕ
+  pub kind : ℕ
+  pub bad : BadAt bytes settings file row kind
+  pub is : answer ≡ says BAD_INPUT (bad_input_text (desk_file_of file) row kind)
+
+-- the plan's text has a first fault
+pub record RefusesPlan (t : Tables) (bytes : List ℕ) (answer : Answer) : Type 0 where
+  pub row : ℕ
+  pub kind : ℕ
+  pub bad : PlanBad t (records_of bytes) row kind
+  pub is : answer ≡ says REFUSED (plan_refused_text row kind)
+
+-- the proof's text has a first fault
+pub record RefusesProof (t : Tables) (bytes : List ℕ) (answer : Answer) : Type 0 where
+  pub fault : CertFault
+  pub bad : IsFirstFault t (left_of bytes) fault
+  pub is : answer ≡ says REFUSED (proof_refused_text fault.line fault.kind)
+
+-- the status that tells a verdict
+abbrev pub verdict_status : Verdict → ℕ
+verdict_status (verdict.Legal cost) = DONE
+verdict_status (verdict.NotAllowed leg) = REFUSED
+verdict_status (verdict.Unbalanced f s came left) = REFUSED
+verdict_status (verdict.TooMany f used has) = REFUSED
+verdict_status (verdict.Crowded s d stands cap) = REFUSED
+
+-- the plan's verdict refuses it
+pub record RefusesVerdict (t : Tables) (plan : List ℕ) (answer : Answer) : Type 0 where
+  pub verdict : Verdict
+  pub judged : IsVerdict t plan verdict
+  pub refused : verdict_status verdict ≡ REFUSED
+  pub is : answer ≡ says (verdict_status verdict) (verdict_text t plan verdict)

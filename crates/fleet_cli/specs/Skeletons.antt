@@ -1,0 +1,48 @@
+-- What commands have in common: tables are read, a plan, a verdict on it, a proof. Each of these is refused, or the rest is
+-- answered on what it comes to. So the order of the refusals is the order in which a command names them.
+use Rattle.std.specs.Prelude.{◌⊎◌, ℕ, List}
+use Rattle.bound_cert.specs.ReadProof.{ReadsAs}
+use Rattle.bound_cert.specs.declared.reading.Proof.{Proof}
+use Rattle.csv_fields.specs.Record.{records_of}
+use Rattle.fleet_model.specs.Legal.{IsLegal}
+use Rattle.fleet_model.specs.declared.parts.Settings.{Settings}
+use Rattle.fleet_model.specs.declared.tables.Tables.{Tables}
+use Rattle.plan_text.specs.Reading.{PlanReads}
+use Rattle.sched_read.specs.Reading.{Reads, TableBytes}
+use Rattle.fleet_cli.specs.Refusals.{RefusesPlan, RefusesProof, RefusesTables, RefusesVerdict}
+use Rattle.fleet_cli.specs.declared.answer.Answer.{Answer}
+
+-- the tables read, and the rest is answered on them
+pub record TablesRead (settings : Settings) (bytes : TableBytes) (finish : Tables → Answer → Type 0) (answer : Answer) : Type 0 where
+  pub tables : Tables
+  pub reads : Reads bytes settings tables
+  pub finishes : finish tables answer
+
+abbrev pub OnTables : Settings → TableBytes → (Tables → Answer → Type 0) → Answer → Type 0
+OnTables settings bytes finish answer = RefusesTables bytes settings answer ⊎ TablesRead settings bytes finish answer
+
+-- the plan's text reads, and the rest is answered on the plan
+pub record PlanRead (t : Tables) (bytes : List ℕ) (finish : List ℕ → Answer → Type 0) (answer : Answer) : Type 0 where
+  pub plan : List ℕ
+  pub reads : PlanReads t (records_of bytes) plan
+  pub finishes : finish plan answer
+
+abbrev pub OnPlan : Tables → List ℕ → (List ℕ → Answer → Type 0) → Answer → Type 0
+OnPlan t bytes finish answer = RefusesPlan t bytes answer ⊎ PlanRead t bytes finish answer
+
+-- the plan is legal, and the rest is answered
+pub record PlanLegal (t : Tables) (finish : List ℕ → Answer → Type 0) (plan : List ℕ) (answer : Answer) : Type 0 where
+  pub legal : IsLegal t plan
+  pub finishes : finish plan answer
+
+abbrev pub OnLegal : Tables → (List ℕ → Answer → Type 0) → List ℕ → Answer → Type 0
+OnLegal t finish plan answer = RefusesVerdict t plan answer ⊎ PlanLegal t finish plan answer
+
+-- the proof's text reads, and the rest is answered on the proof
+pub record ProofRead (t : Tables) (bytes : List ℕ) (finish : Proof → Answer → Type 0) (answer : Answer) : Type 0 where
+  pub proof : Proof
+  pub reads : ReadsAs t bytes proof
+  pub finishes : finish proof answer
+
+abbrev pub OnProof : Tables → List ℕ → (Proof → Answer → Type 0) → Answer → Type 0
+OnProof t bytes finish answer = RefusesProof t bytes answer ⊎ ProofRead t bytes finish answer

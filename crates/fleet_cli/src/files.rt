@@ -1,0 +1,78 @@
+//! Files of a folder in the order in which they are read.
+ghost use Rattle.std.specs.Prelude.{◌≡◌, ◌<◌, ◌≤◌, ◌++◌, [], ◌∷◌, List, length, take};
+ghost use Rattle.plan_desk.specs.declared.file.DeskFile.{DeskFile};
+ghost use Rattle.fleet_cli.specs.declared.files.TheConstants.{MOST_FILES};
+ghost use Rattle.fleet_cli.specs.Reading.{table_files, tables_and};
+
+use plan_desk::DeskFile;
+use std::marker::Model;
+
+/// The most files of a list: each that a desk holds, once.
+pub const MOST_FILES: usize = 8;
+
+/// Files of a folder, in the order in which they are read. Contracts see the list.
+///
+/// It lies in a row of fixed size, so that no call on it takes memory.
+#[derive(Drop)]
+pub struct FileList {
+    files: [DeskFile; MOST_FILES],
+    count: usize,
+}
+
+impl Model for FileList {
+    ghost Value = { List DeskFile };
+
+    ghost view = { λ list. take list.count list.files };
+
+    ghost invariant = { λ list. list.count ≤ MOST_FILES };
+}
+
+impl FileList {
+    /// No file.
+    pub fn empty() -> Self
+        ensures { result ≡ [] }
+    {
+        FileList {
+            files: [DeskFile::Stations; MOST_FILES],
+            count: 0,
+        }
+    }
+
+    /// The five tables.
+    pub fn tables() -> Self
+        ensures { result ≡ table_files }
+    {
+        let mut files = FileList::empty();
+        files.push(DeskFile::Stations);
+        files.push(DeskFile::Fleets);
+        files.push(DeskFile::Legs);
+        files.push(DeskFile::Costs);
+        files.push(DeskFile::Throughs);
+        files
+    }
+
+    /// The five tables, and a file after them.
+    pub fn tables_and(last: DeskFile) -> Self
+        ensures { result ≡ tables_and (last ∷ []) }
+    {
+        let mut files = FileList::tables();
+        files.push(last);
+        files
+    }
+
+    /// Reads a file after these.
+    pub fn push(&mut self, file: DeskFile)
+        requires { length self.old < MOST_FILES }
+        ensures { self.new ≡ self.old ++ file ∷ [] }
+    {
+        self.files[self.count] = file;
+        self.count += 1;
+    }
+
+    /// The files in their order.
+    pub fn as_slice(&self) -> &[DeskFile]
+        ensures { result.now ≡ self.now }
+    {
+        &self.files[..self.count]
+    }
+}
