@@ -25,7 +25,7 @@ use Rattle.plan_desk.specs.declared.file.DeskFile.{DeskFile}
 use Rattle.plan_desk.specs.declared.file.DeskFile.TheVariants as desk_file
 use Rattle.plan_judge.specs.declared.verdicts.Verdict.{Verdict}
 use Rattle.plan_judge.specs.declared.verdicts.Verdict.TheVariants as verdict
-use Rattle.rotation_report.specs.declared.fleet_rotations.FleetRotation.{FleetRotation}
+use Rattle.fleet_rotations.specs.declared.made.FleetRotation.{FleetRotation}
 use Rattle.fleet_cli.proofs.OneAnswer.{solution_status}
 use Rattle.fleet_cli.specs.Answer.{Answers, AnswersOf, AnswersSome, ChecksPlan, ChecksProof, ChecksTree, JudgesPlan, Makes, ReadsProof, RefusesPlan, RefusesProof, SolvesTables, TailsOfPlan, checked_status, says, verdict_status}
 use Rattle.fleet_cli.specs.Contents.{FileBytes, table_bytes}

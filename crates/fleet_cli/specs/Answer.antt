@@ -28,7 +28,7 @@ use Rattle.plan_judge.specs.Verdicts.{IsVerdict}
 use Rattle.plan_judge.specs.declared.verdicts.Verdict.{Verdict}
 use Rattle.plan_judge.specs.declared.verdicts.Verdict.TheVariants as verdict
 use Rattle.rotation_report.specs.Tails.{tails_text}
-use Rattle.rotation_report.specs.declared.fleet_rotations.FleetRotation.{FleetRotation}
+use Rattle.fleet_rotations.specs.declared.made.FleetRotation.{FleetRotation}
 use Rattle.plan_rotations.specs.Rotations.{ArePlanRotations}
 use Rattle.plan_text.specs.Reading.{PlanBad, PlanReads}
 use Rattle.sched_read.specs.Reading.{BadAt, Reads, TableBytes}
