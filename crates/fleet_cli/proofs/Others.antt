@@ -27,7 +27,7 @@ use Rattle.plan_desk.specs.declared.file.DeskFile.{DeskFile}
 use Rattle.plan_desk.specs.declared.file.DeskFile.TheVariants as desk_file
 use Rattle.plan_judge.specs.declared.verdicts.Verdict.{Verdict}
 use Rattle.plan_judge.specs.declared.verdicts.Verdict.TheVariants as verdict
-use Rattle.rotation_report.specs.declared.fleet_rotations.FleetRotation.{FleetRotation}
+use Rattle.fleet_rotations.specs.declared.made.FleetRotation.{FleetRotation}
 use Rattle.fleet_cli.proofs.OneAnswer.{solution_status}
 use Rattle.fleet_cli.proofs.Skeletons.{either_legal, either_plan, either_proof, either_tables}
 use Rattle.fleet_cli.specs.Answer.{Answers, AnswersOf, AnswersSome, ChecksOn, ChecksProof, ChecksRead, ChecksTree, ChecksWith, GivesSolution, JudgesOn, JudgesPlan, Makes, TailsOn, TellsTails, checked_status}

@@ -4,7 +4,7 @@ ghost use Rattle.dual_bound.specs.OfTables.{IsOfTables};
 ghost use Rattle.branch_bound.specs.Solved.{PlanFits, tree_of};
 ghost use Rattle.fleet_cli.specs.Solution.{plan_file, printed_text, proof_file, rotation_file, solved_files, solved_status};
 ghost use Rattle.fleet_model.specs.Legal.{IsAssignment};
-ghost use Rattle.rotation_report.specs.Rotations.{AreRotations};
+ghost use Rattle.fleet_rotations.specs.Rotations.{AreRotations};
 
 use crate::answer::FileText;
 use crate::status::{DONE, GAP, INFEASIBLE, UNSETTLED};
@@ -13,10 +13,11 @@ use branch_bound::Solved;
 use dual_bound::Tree;
 use entries::{Entries, NoMemory};
 use fleet_model::{Assignment, Tables};
+use fleet_rotations::FleetRotation;
 use plan_desk::DeskFile;
 use plan_report::{summary, summary_json};
 use plan_text::write_plan;
-use rotation_report::{FleetRotation, rotation_csv};
+use rotation_report::rotation_csv;
 use std::alloc::Global;
 
 /// The exit status of a solution.

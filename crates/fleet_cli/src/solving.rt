@@ -7,7 +7,7 @@ ghost use Rattle.fleet_cli.specs.Answer.{GivesSolution, Solves};
 ghost use Rattle.fleet_cli.specs.Contents.{content_of, table_bytes};
 ghost use Rattle.fleet_cli.specs.Solution.{AreRotationsOf, solved_answer};
 ghost use Rattle.fleet_model.specs.Limits.{AreSettings};
-ghost use Rattle.rotation_report.specs.Rotations.{AreRotations};
+ghost use Rattle.fleet_rotations.specs.Rotations.{AreRotations};
 
 use crate::answer::Answer;
 use crate::contents::Contents;
@@ -18,8 +18,8 @@ use branch_bound::{Solved, solve};
 use command_words::{RotationLimits, SolveOptions};
 use entries::{Entries, NoMemory};
 use fleet_model::{Settings, Tables};
+use fleet_rotations::FleetRotation;
 use plan_rotations::rotations;
-use rotation_report::FleetRotation;
 use std::alloc::Global;
 
 /// Solves by what the tables hold.

@@ -8,10 +8,10 @@ use Rattle.branch_bound.specs.declared.solved.Solved.{Solved}
 use Rattle.branch_bound.specs.declared.solved.Solved.TheVariants as solved
 use Rattle.fleet_model.specs.Schedule.{fleet_of, fleets_in}
 use Rattle.fleet_model.specs.declared.tables.Tables.{Tables}
-use Rattle.rotation_report.specs.Rotations.{rotation_of}
+use Rattle.fleet_rotations.specs.Rotations.{rotation_of}
 use Rattle.rotation_report.specs.RotationWords.{rotation_words}
 use Rattle.rotation_report.specs.TextLines.{fleet_lines, line_of, number_word}
-use Rattle.rotation_report.specs.declared.fleet_rotations.FleetRotation.{FleetRotation}
+use Rattle.fleet_rotations.specs.declared.made.FleetRotation.{FleetRotation}
 
 -- how the search ended
 abbrev pub outcome_word : Solved → List ℕ

@@ -2,7 +2,7 @@
 ghost use Rattle.std.specs.Prelude.{◌≡◌, ◌++◌, ◌<◌, [], ◌∷◌, IfOk, OnOk, codes, length};
 ghost use Rattle.std.specs.Fmt.{decimal};
 ghost use Rattle.branch_bound.specs.Solved.{PlanFits, plan_cost};
-ghost use Rattle.rotation_report.specs.Rotations.{AreRotations};
+ghost use Rattle.fleet_rotations.specs.Rotations.{AreRotations};
 ghost use Rattle.plan_report.specs.Summary.{count_lines, outcome_word, printed_bound, result_lines, rotation_line, rotation_lines, summary_text};
 ghost use Rattle.rotation_report.specs.TextLines.{line_of, number_word};
 
@@ -10,8 +10,9 @@ use branch_bound::Solved;
 use dual_bound::TreeCounts;
 use entries::NoMemory;
 use fleet_model::Tables;
+use fleet_rotations::FleetRotation;
+use rotation_report::rotation_words;
 use rotation_report::text_lines::{push_fleets, push_line};
-use rotation_report::{FleetRotation, rotation_words};
 use std::alloc::Global;
 
 /// The summary of a solution and its rotations: how the search ended, cost, bound, splits and open leaves, and where there

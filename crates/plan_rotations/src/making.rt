@@ -2,13 +2,13 @@ ghost use Rattle.std.specs.Prelude.{◌≡◌, ◌<◌, ◌≤◌, ◌==◌, not
 ghost use Rattle.fleet_model.specs.Legal.{IsLegal};
 ghost use Rattle.fleet_model.specs.Schedule.{fleets_in};
 ghost use Rattle.ground_turns.specs.Maps.{IsHeld};
-ghost use Rattle.rotation_report.specs.Rotations.{AreFlown, AreRotations, rotation_of};
+ghost use Rattle.fleet_rotations.specs.Rotations.{AreFlown, AreRotations, rotation_of};
 ghost use Rattle.plan_rotations.specs.Rotations.{ArePlanRotations, AreWorthMost, IsMadeRotation, IsRotationWith, IsSecond, are_some, is_given_up};
 
 use entries::{Entries, NoMemory};
 use euler_rotation::{Rotation, rotate};
 use fleet_model::{Assignment, Connection, Tables};
-use rotation_report::FleetRotation;
+use fleet_rotations::FleetRotation;
 use std::alloc::Global;
 use through_flights::choose;
 

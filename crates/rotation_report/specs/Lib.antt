@@ -1,6 +1,5 @@
 pub mod RotationRecords
 pub mod RotationWords
-pub mod Rotations
 pub mod RoundRows
 pub mod TailLaws
 pub mod Tails

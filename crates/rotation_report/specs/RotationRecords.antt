@@ -14,9 +14,9 @@ use Rattle.ground_turns.specs.Nights.{nights_in_turn}
 use Rattle.ground_turns.specs.declared.nights.Night.{Night}
 use Rattle.ground_turns.specs.declared.nights.Night.TheVariants as night
 use Rattle.lines_of_flying.specs.Lines.{nights_after}
-use Rattle.rotation_report.specs.Rotations.{rotation_of}
+use Rattle.fleet_rotations.specs.Rotations.{rotation_of}
 use Rattle.rotation_report.specs.RotationWords.{days_of}
-use Rattle.rotation_report.specs.declared.fleet_rotations.FleetRotation.{FleetRotation}
+use Rattle.fleet_rotations.specs.declared.made.FleetRotation.{FleetRotation}
 
 abbrev pub Fields : Type 0
 Fields = List (List ℕ)

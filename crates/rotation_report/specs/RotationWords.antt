@@ -5,7 +5,7 @@ use Rattle.euler_rotation.specs.declared.rotation.Rotation.{Rotation}
 use Rattle.euler_rotation.specs.declared.rotation.Rotation.TheVariants as rotation
 use Rattle.fleet_model.specs.declared.tables.Tables.{Tables}
 use Rattle.lines_of_flying.specs.Lines.{day_of}
-use Rattle.rotation_report.specs.declared.fleet_rotations.FleetRotation.{FleetRotation}
+use Rattle.fleet_rotations.specs.declared.made.FleetRotation.{FleetRotation}
 
 -- the days of a tour: the nights from its first leg until it comes back to it
 abbrev pub days_of : Tables → ℕ → List ℕ → ℕ

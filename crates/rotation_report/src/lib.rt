@@ -2,7 +2,6 @@
 //! tails.
 #![tactic(auto)]
 
-pub mod fleet_rotations;
 mod flying;
 pub mod laws;
 mod record_writer;

@@ -6,7 +6,7 @@ ghost use Rattle.ground_turns.specs.Nights.{nights_in_turn};
 ghost use Rattle.plan_text.specs.CsvText.{IsBetweenRecords};
 ghost use Rattle.rotation_report.specs.RoundRows.{HasRows};
 ghost use Rattle.rotation_report.specs.RotationRecords.{begun_tour_rows, leg_row, night_row, yes_no};
-ghost use Rattle.rotation_report.specs.Rotations.{AreListed};
+ghost use Rattle.fleet_rotations.specs.Rotations.{AreListed};
 
 use crate::record_writer::{Round, put_numbers, put_row};
 use crate::words::days_of;

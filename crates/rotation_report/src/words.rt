@@ -3,12 +3,12 @@ ghost use Rattle.std.specs.Prelude.{◌≡◌, ◌++◌, ◌<◌, IfOk, OnOk, co
 ghost use Rattle.std.specs.Fmt.{decimal};
 ghost use Rattle.fleet_model.specs.Schedule.{fleets_in};
 ghost use Rattle.rotation_report.specs.RotationWords.{days_of, rotation_words, words_of};
-ghost use Rattle.rotation_report.specs.Rotations.{AreListed, IsFleetRotation, IsOfLegs};
+ghost use Rattle.fleet_rotations.specs.Rotations.{AreListed, IsFleetRotation, IsOfLegs};
 
-use crate::fleet_rotations::FleetRotation;
 use entries::NoMemory;
 use euler_rotation::Rotation;
 use fleet_model::Tables;
+use fleet_rotations::FleetRotation;
 use lines_of_flying::nights_after;
 use std::alloc::Global;
 

@@ -7,7 +7,7 @@ use Rattle.fleet_model.specs.declared.tables.Tables.{Tables}
 use Rattle.fleet_model.specs.Schedule.{fleets_in, legs_in}
 use Rattle.ground_turns.specs.Maps.{IsTour, turn_at}
 use Rattle.lines_of_flying.specs.Lines.{AreLegs, BeginsAfterNight}
-use Rattle.rotation_report.specs.declared.fleet_rotations.FleetRotation.{FleetRotation}
+use Rattle.fleet_rotations.specs.declared.made.FleetRotation.{FleetRotation}
 
 -- the rotation of a fleet
 abbrev pub no_rotation : FleetRotation
