@@ -1,18 +1,21 @@
 use crate::lists::{at, filled, put};
 use crate::number::Number;
-use crate::row::{Part, Row, multiply};
+use crate::row::Row;
+use crate::start::NONE;
 use entries::NoMemory;
 use std::alloc::Global;
 
-/// The rows of the columns that came, over the slots: the lines whose first columns left. The first slot is no line but what
-/// the rows come to.
+/// The rows of the columns that came, over the slots: the lines whose first columns left. A slot that no line has any more is
+/// free for another one.
 #[derive(Drop)]
 pub struct Kernel<N> {
     pub rows: Vec<Row<N>>,
-    /// The line of each slot.
+    /// The line of each slot, or `NONE`.
     pub lines: Vec<u32>,
-    /// The slot of each line, or 0.
+    /// The slot of each line, or `NONE`.
     slots: Vec<u32>,
+    /// The slots that are free.
+    free: Vec<u32>,
 }
 
 impl<N: Number> Kernel<N> {
@@ -20,48 +23,47 @@ impl<N: Number> Kernel<N> {
     pub fn new(alloc: Global, lines: usize) -> Result<Kernel<N>, NoMemory> {
         Ok(Kernel {
             rows: Vec::new(alloc),
-            lines: filled(alloc, 0, 1)?,
-            slots: filled(alloc, 0, lines)?,
+            lines: Vec::new(alloc),
+            slots: filled(alloc, NONE, lines)?,
+            free: Vec::new(alloc),
         })
     }
 
-    /// The slot of a line, or 0 where its first column is still basic.
+    /// The slot of a line, or `NONE` where its first column is still basic.
     #[inline(always)]
     pub fn slot_of(&self, line: u32) -> u32 {
-        at(&self.slots, line as usize, 0)
+        at(&self.slots, line as usize, NONE)
     }
 
-    /// Makes a slot of a line, and answers its number.
-    pub fn open_slot(&mut self, line: u32) -> Result<u32, NoMemory> {
-        let slot = (self.lines.len() & 0xffff_ffff) as u32;
-        self.lines.push(line)?;
-        put(&mut self.slots, line as usize, slot);
-        for place in 0..self.rows.len() {
-            if place < self.rows.len() {
-                self.rows[place].numbers.push(N::of(0))?;
-            }
+    /// The slot that the next line gets.
+    pub fn next_slot(&self) -> u32 {
+        let count = (self.lines.len() & 0xffff_ffff) as u32;
+        at(&self.free, self.free.len().wrapping_sub(1), count)
+    }
+
+    /// Makes a slot of a line.
+    pub fn open_slot(&mut self, line: u32) -> Result<(), NoMemory> {
+        let slot = self.next_slot();
+        put(self.slots.as_mut_slice(), line as usize, slot);
+        if self.free.pop().is_some() {
+            put(self.lines.as_mut_slice(), slot as usize, line);
+        } else {
+            self.lines.push(line)?;
         }
-        Ok(slot)
+        Ok(())
     }
 
     /// Lets a column go whose first line is a slot's, and the slot with it: all other rows have 0 there.
-    pub fn close_slot(&mut self, row: usize, line: u32) {
-        let slot = self.slot_of(line) as usize;
-        if slot == 0 || slot >= self.lines.len() || row >= self.rows.len() {
-            return;
+    pub fn close_slot(&mut self, row: usize, line: u32) -> Result<(), NoMemory> {
+        let slot = self.slot_of(line);
+        if slot == NONE || row >= self.rows.len() {
+            return Ok(());
         }
         let _row = self.rows.swap_remove(row);
-        let _line = self.lines.swap_remove(slot);
-        put(&mut self.slots, line as usize, 0);
-        let moved = at(&self.lines, slot, line);
-        if moved != line {
-            put(&mut self.slots, moved as usize, (slot & 0xffff_ffff) as u32);
-        }
-        for place in 0..self.rows.len() {
-            if place < self.rows.len() {
-                self.rows[place].let_go(slot);
-            }
-        }
+        put(self.lines.as_mut_slice(), slot as usize, NONE);
+        put(self.slots.as_mut_slice(), line as usize, NONE);
+        self.free.push(slot)?;
+        Ok(())
     }
 
     /// The same rows in wide numbers.
@@ -74,6 +76,7 @@ impl<N: Number> Kernel<N> {
             rows,
             lines: Vec::from_slice(alloc, &self.lines)?,
             slots: Vec::from_slice(alloc, &self.slots)?,
+            free: Vec::from_slice(alloc, &self.free)?,
         })
     }
 }

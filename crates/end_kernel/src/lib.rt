@@ -13,5 +13,5 @@ pub use columns::{Columns, Unit};
 pub use kernel::Kernel;
 pub use lists::{at, filled, put};
 pub use number::{Number, common_divisor};
-pub use row::{Part, Row};
+pub use row::{Part, Row, Taken};
 pub use start::{NONE, Place, Start};

@@ -20,6 +20,9 @@ pub trait Number: Copy + Drop {
     /// The quotient, or 0 where the divisor is 0.
     fn over(self, divisor: Self) -> Self;
 
+    /// The quotient by a power of 2, given by its exponent, that divides the number.
+    fn shifted(self, bits: u32) -> Self;
+
     /// What the division leaves, or 0 where the divisor is 0.
     fn rest(self, divisor: Self) -> Self;
 
@@ -31,6 +34,9 @@ pub trait Number: Copy + Drop {
 
     /// How many bits the size has.
     fn bits(self) -> u32;
+
+    /// The greatest power of 2 that divides the number, and 0 where it is 0.
+    fn lowest_bit(self) -> Self;
 
     fn is_zero(self) -> bool;
 
@@ -86,6 +92,11 @@ impl Number for i64 {
     }
 
     #[inline(always)]
+    fn shifted(self, bits: u32) -> Self {
+        self.wrapping_shr(bits)
+    }
+
+    #[inline(always)]
     fn rest(self, divisor: Self) -> Self {
         self.checked_rem(divisor).unwrap_or(0)
     }
@@ -103,6 +114,11 @@ impl Number for i64 {
     #[inline(always)]
     fn bits(self) -> u32 {
         64u32.wrapping_sub(self.unsigned_abs().leading_zeros())
+    }
+
+    #[inline(always)]
+    fn lowest_bit(self) -> Self {
+        self & self.wrapping_neg()
     }
 
     #[inline(always)]
@@ -168,6 +184,11 @@ impl Number for i128 {
     }
 
     #[inline(always)]
+    fn shifted(self, bits: u32) -> Self {
+        self.wrapping_shr(bits)
+    }
+
+    #[inline(always)]
     fn rest(self, divisor: Self) -> Self {
         self.checked_rem(divisor).unwrap_or(0)
     }
@@ -185,6 +206,11 @@ impl Number for i128 {
     #[inline(always)]
     fn bits(self) -> u32 {
         128u32.wrapping_sub(self.unsigned_abs().leading_zeros())
+    }
+
+    #[inline(always)]
+    fn lowest_bit(self) -> Self {
+        self & self.wrapping_neg()
     }
 
     #[inline(always)]

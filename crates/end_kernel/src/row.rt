@@ -10,131 +10,198 @@ pub struct Part<N> {
     pub number: N,
 }
 
-/// The row of a column that came: whole numbers over one positive number. The first is what the column comes to, and each
-/// other one is of a slot.
+/// The row of a column that came: whole numbers over one positive number. Most rows have few numbers other than 0.
 #[derive(Drop)]
 pub struct Row<N> {
     pub column: u32,
-    pub numbers: Vec<N>,
+    /// What the column comes to, times the denominator.
+    pub own: N,
+    /// Its numbers other than 0, in no order.
+    pub parts: Vec<Part<N>>,
     pub den: N,
-    /// All bits that one of its sizes has.
+    /// All bits that one of its sizes has, that of the denominator too.
     pub sizes: N,
-    /// The sum of the squares of its slots' numbers.
+    /// The sum of the squares of its parts, where the row comes to less than 0.
     pub squares: i128,
-    /// The place of a number that has shown that the row is in lowest terms.
-    witness: usize,
+}
+
+/// A row that others take, so many times: its parts, and its numbers by all slots.
+#[derive(Clone, Copy)]
+pub struct Taken<'a, N> {
+    pub own: N,
+    pub parts: &'a [Part<N>],
+    pub numbers: &'a [N],
 }
 
 impl<N: Number> Row<N> {
     /// The row of a column, brought to lowest terms.
-    pub fn new(column: u32, numbers: Vec<N>, den: N) -> Row<N> {
+    pub fn new(column: u32, own: N, parts: Vec<Part<N>>, den: N) -> Row<N> {
         let mut row = Row {
             column,
-            numbers,
+            own,
+            parts,
             den,
             sizes: den,
             squares: 0,
-            witness: 0,
         };
         row.survey();
         row.reduce();
+        row.lay_squares();
         row
     }
 
-    /// Adds a multiple of a row's parts, and leaves the denominator.
-    pub fn add(&mut self, parts: &[Part<N>], times: N) {
-        let mut sizes = self.sizes;
-        let mut squares = self.squares;
-        let numbers = self.numbers.as_mut_slice();
-        for part in parts {
+    /// Multiplies all numbers and the denominator, adds a row so many times, and brings the row to lowest terms. What was seen has
+    /// a place for each slot, which remembers the last turn in which it was; each call has a turn of its own.
+    pub fn combine(
+        &mut self,
+        taken: Taken<'_, N>,
+        factor: N,
+        times: N,
+        seen: &mut [u64],
+        turn: u64,
+    ) -> Result<(), NoMemory> {
+        self.den = self.den.times(factor);
+        self.own = self.own.times(factor).plus(taken.own.times(times));
+        self.sizes = self.den.either(self.own.size());
+        self.add_where_it_has(taken.numbers, factor, times, seen, turn);
+        self.add_where_it_lacks(taken.parts, times, seen, turn)?;
+        self.reduce();
+        if self.own.is_below_0() {
+            self.lay_squares();
+        }
+        Ok(())
+    }
+
+    /// What the row's parts and each of two lists of numbers by all slots come to, slot by slot.
+    pub fn across(&self, first: &[N], second: &[N]) -> (N, N) {
+        let mut one = N::of(0);
+        let mut other = N::of(0);
+        for part in &self.parts {
+            let place = part.slot as usize;
+            one = one.plus(at(first, place, N::of(0)).times(part.number));
+            other = other.plus(at(second, place, N::of(0)).times(part.number));
+        }
+        (one, other)
+    }
+
+    /// Subtracts the row's parts, so many times, from numbers by all slots.
+    pub fn subtract_from(&self, numbers: &mut [N], times: N) {
+        for part in &self.parts {
             let place = part.slot as usize;
             let old = at(numbers, place, N::of(0));
-            let new = old.plus(times.times(part.number));
-            put(numbers, place, new);
-            sizes = sizes.either(new.size());
-            if place > 0 {
-                squares = squares.wrapping_add(square(new)).wrapping_sub(square(old));
-            }
-        }
-        self.sizes = sizes;
-        self.squares = squares;
-    }
-
-    /// Multiplies all numbers and the denominator, adds a multiple of a row's parts, and brings the row to lowest terms.
-    pub fn combine(&mut self, parts: &[Part<N>], factor: N, times: N) {
-        if factor.is_one() {
-            self.add(parts, times);
-        } else {
-            multiply(self.numbers.as_mut_slice(), factor);
-            self.den = self.den.times(factor);
-            self.add(parts, times);
-            self.survey();
-        }
-        self.reduce();
-    }
-
-    /// What the row's slots and those of parts come to, slot by slot.
-    pub fn against(&self, parts: &[Part<N>]) -> N {
-        let mut sum = N::of(0);
-        let numbers = self.numbers.as_slice();
-        for part in parts {
-            sum = sum.plus(at(numbers, part.slot as usize, N::of(0)).times(part.number));
-        }
-        sum
-    }
-
-    /// Lets a slot go; the last one takes its place.
-    pub fn let_go(&mut self, slot: usize) {
-        if slot < self.numbers.len() {
-            let _number = self.numbers.swap_remove(slot);
+            put(numbers, place, old.minus(times.times(part.number)));
         }
     }
 
     /// The same row in wide numbers.
     pub fn widened(&self, alloc: Global) -> Result<Row<i128>, NoMemory> {
-        let mut numbers = Vec::new(alloc);
-        for number in &self.numbers {
-            numbers.push(number.wide())?;
+        let mut parts = Vec::new(alloc);
+        for part in &self.parts {
+            parts.push(Part {
+                slot: part.slot,
+                number: part.number.wide(),
+            })?;
         }
-        Ok(Row::new(self.column, numbers, self.den.wide()))
+        Ok(Row::new(self.column, self.own.wide(), parts, self.den.wide()))
     }
 
-    // Looks at all numbers.
-    fn survey(&mut self) {
-        let mut sizes = self.den;
-        let mut squares = 0i128;
-        let numbers = self.numbers.as_slice();
-        for place in 0..numbers.len() {
-            sizes = sizes.either(numbers[place].size());
-            if place > 0 {
-                squares = squares.wrapping_add(square(numbers[place]));
+    /// Reckons the squares anew.
+    pub fn lay_squares(&mut self) {
+        self.squares = squares(&self.parts);
+    }
+
+    // Changes the parts that the row has, and takes those away that become 0. A part is written also where the next one takes
+    // its place, since what becomes 0 can't be foretold.
+    fn add_where_it_has(
+        &mut self,
+        numbers: &[N],
+        factor: N,
+        times: N,
+        seen: &mut [u64],
+        turn: u64,
+    ) {
+        let mut kept = 0usize;
+        let mut sizes = self.sizes;
+        let parts = self.parts.as_mut_slice();
+        for place in 0..parts.len() {
+            let Part { slot, number } = parts[place];
+            let more = at(numbers, slot as usize, N::of(0));
+            put(seen, slot as usize, turn);
+            let number = number.times(factor).plus(more.times(times));
+            sizes = sizes.either(number.size());
+            put(parts, kept, Part { slot, number });
+            kept = kept.wrapping_add(usize::from(!number.is_zero()));
+        }
+        self.sizes = sizes;
+        self.parts.truncate(kept);
+    }
+
+    // Adds the parts of slots that weren't seen in the turn.
+    fn add_where_it_lacks(
+        &mut self,
+        parts: &[Part<N>],
+        times: N,
+        seen: &[u64],
+        turn: u64,
+    ) -> Result<(), NoMemory> {
+        let mut end = self.parts.len();
+        let none = Part {
+            slot: 0,
+            number: N::of(0),
+        };
+        self.parts.resize(end.wrapping_add(parts.len()), none)?;
+        let own = self.parts.as_mut_slice();
+        let mut sizes = self.sizes;
+        for part in parts {
+            let slot = part.slot;
+            let number = part.number.times(times);
+            put(own, end, Part { slot, number });
+            if at(seen, slot as usize, 0) != turn {
+                end = end.wrapping_add(1);
+                sizes = sizes.either(number.size());
             }
         }
         self.sizes = sizes;
-        self.squares = squares;
+        self.parts.truncate(end);
+        Ok(())
     }
 
-    // Brings the row to lowest terms.
+    // Looks at all sizes.
+    fn survey(&mut self) {
+        self.sizes = sizes(&self.parts).either(self.own.size()).either(self.den);
+    }
+
+    // Brings the row to lowest terms. What divides a power of 2 and all numbers is told by the bits of their sizes.
     fn reduce(&mut self) {
         if self.den.is_one() {
             return;
         }
-        let known = at(&self.numbers, self.witness, N::of(0));
-        if common_divisor(self.den, known).is_one() {
-            return;
-        }
-        let divisor = shared(&self.numbers, self.den, &mut self.witness);
+        let divisor = if self.den.lowest_bit().is_less(self.den) {
+            shared(&self.parts, common_divisor(self.den, self.own))
+        } else {
+            self.sizes.lowest_bit()
+        };
         if !divisor.is_one() {
-            divide(self.numbers.as_mut_slice(), divisor);
+            divide_parts(self.parts.as_mut_slice(), divisor);
+            self.own = self.own.over(divisor);
             self.den = self.den.over(divisor);
             self.survey();
         }
     }
 }
 
-/// A square, for prices; those of large numbers are capped.
+/// The sum of the squares of parts.
+pub fn squares<N: Number>(parts: &[Part<N>]) -> i128 {
+    let mut sum = 0i128;
+    for part in parts {
+        sum = sum.wrapping_add(square(part.number));
+    }
+    sum
+}
+
+// A square, for prices; those of large numbers are capped.
 #[inline(always)]
-pub fn square<N: Number>(number: N) -> i128 {
+fn square<N: Number>(number: N) -> i128 {
     if number.bits() > 55 {
         return 1 << 110;
     }
@@ -142,33 +209,55 @@ pub fn square<N: Number>(number: N) -> i128 {
     wide.wrapping_mul(wide)
 }
 
-// The greatest number that divides a denominator and all numbers; the place of that which shows that it is 1.
-fn shared<N: Number>(numbers: &[N], den: N, witness: &mut usize) -> N {
-    let mut divisor = den;
-    for place in 0..numbers.len() {
-        if !numbers[place].is_zero() {
-            divisor = common_divisor(divisor, numbers[place]);
-            if divisor.is_one() {
-                *witness = place;
-                return divisor;
-            }
+/// All bits that one of the parts' sizes has.
+pub fn sizes<N: Number>(parts: &[Part<N>]) -> N {
+    let mut sizes = N::of(0);
+    for part in parts {
+        sizes = sizes.either(part.number.size());
+    }
+    sizes
+}
+
+/// The greatest number that divides a divisor and all parts.
+pub fn shared<N: Number>(parts: &[Part<N>], divisor: N) -> N {
+    let mut divisor = divisor;
+    for part in parts {
+        if divisor.is_one() {
+            return divisor;
+        }
+        if !part.number.rest(divisor).is_zero() || divisor.is_zero() {
+            divisor = common_divisor(divisor, part.number);
         }
     }
     divisor
 }
 
-/// Multiplies all numbers.
-pub fn multiply<N: Number>(numbers: &mut [N], factor: N) {
-    for place in 0..numbers.len() {
-        numbers[place] = numbers[place].times(factor);
+/// Divides all parts by what divides them.
+pub fn divide_parts<N: Number>(parts: &mut [Part<N>], divisor: N) {
+    if divisor.lowest_bit().is_less(divisor) {
+        divide_each(parts, divisor);
+    } else {
+        shift_each(parts, divisor.bits().wrapping_sub(1));
     }
 }
 
-/// Divides all numbers, which a divisor divides.
-pub fn divide<N: Number>(numbers: &mut [N], divisor: N) {
-    for place in 0..numbers.len() {
-        if !numbers[place].is_zero() {
-            numbers[place] = numbers[place].over(divisor);
-        }
+// The same by a power of 2, which is sooner.
+fn shift_each<N: Number>(parts: &mut [Part<N>], bits: u32) {
+    for place in 0..parts.len() {
+        let Part { slot, number } = parts[place];
+        parts[place] = Part {
+            slot,
+            number: number.shifted(bits),
+        };
+    }
+}
+
+fn divide_each<N: Number>(parts: &mut [Part<N>], divisor: N) {
+    for place in 0..parts.len() {
+        let Part { slot, number } = parts[place];
+        parts[place] = Part {
+            slot,
+            number: number.over(divisor),
+        };
     }
 }

@@ -90,6 +90,15 @@ impl Start {
         at(&self.lines, column as usize, NONE)
     }
 
+    /// Which columns the start makes basic.
+    pub fn basic_columns(&self, alloc: Global) -> Result<Vec<bool>, NoMemory> {
+        let mut basic = Vec::new(alloc);
+        for line in &self.lines {
+            basic.push(*line != NONE)?;
+        }
+        Ok(basic)
+    }
+
     /// Of a sum over lines how much of each basic column makes it, by the lines of these.
     pub fn forward<N: Number>(&self, columns: &Columns, sums: &mut [N]) {
         for step in &self.steps {

@@ -1,9 +1,7 @@
-use crate::costs::{Costs, first_costs};
-use crate::frame::Frame;
-use crate::pivot_row::PivotRow;
-use crate::values::{Values, at_first};
 use end_check::{Hint, PointHint, RefusalHint};
-use end_kernel::{Kernel, Number, at, filled, put};
+use end_kernel::{Kernel, NONE, Number, at, filled, put};
+use end_pivots::costs::first_costs;
+use end_pivots::{Costs, Frame, PivotRow, Values};
 use entries::{Entries, NoMemory};
 use std::alloc::Global;
 
@@ -58,7 +56,7 @@ fn lay_first<N: Number>(
     let numbers = values.numbers.as_slice();
     for place in 0..numbers.len() {
         let line = (place & 0xffff_ffff) as u32;
-        if kernel.slot_of(line) == 0 {
+        if kernel.slot_of(line) == NONE {
             let Ok(part) = u64::try_from(numbers[place].wide()) else {
                 return false;
             };
@@ -71,7 +69,7 @@ fn lay_first<N: Number>(
 // Lays what the columns come to that came, and answers whether all fit.
 fn lay_came<N: Number>(kernel: &Kernel<N>, scale: N, point: &mut [u64]) -> bool {
     for row in &kernel.rows {
-        let number = at_first(&row.numbers).times(scale.over(row.den));
+        let number = row.own.times(scale.over(row.den));
         let Ok(part) = u64::try_from(number.wide()) else {
             return false;
         };
@@ -82,7 +80,7 @@ fn lay_came<N: Number>(kernel: &Kernel<N>, scale: N, point: &mut [u64]) -> bool 
 
 // Adds how the slots' lines weigh more than at the start.
 fn add_slots<N: Number>(kernel: &Kernel<N>, more: &[i128], weighed: &mut [i128]) {
-    for slot in 1..kernel.lines.len() {
+    for slot in 0..kernel.lines.len() {
         let line = kernel.lines[slot] as usize;
         let sum = at(weighed, line, 0).wrapping_add(at(more, slot, 0));
         put(weighed, line, sum);

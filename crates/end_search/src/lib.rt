@@ -3,18 +3,12 @@
 #![tactic(auto)]
 
 mod answer;
-mod costs;
-mod entering;
-mod frame;
-mod leaving;
-mod pivot_column;
-mod pivot_row;
+mod cleaning;
+mod pivot;
 mod places;
-mod pricing;
+mod progress;
 mod run;
 pub mod search;
 mod turn;
-mod values;
-mod weights;
 
 pub use search::find;

@@ -1,13 +1,12 @@
 use crate::answer::{point_hint, refusal_hint};
-use crate::frame::{Frame, Progress};
-use crate::turn::{Desk, Turn, take_turn};
+use crate::cleaning::make_whole;
+use crate::progress::{Progress, Workspace};
+use crate::turn::{Turn, take_turn};
 use end_check::Hint;
 use end_kernel::{Kernel, Number};
+use end_pivots::Frame;
 use entries::NoMemory;
 use std::alloc::Global;
-
-// How many numbers of rows may be written or multiplied: about a minute's on one processor.
-const MOST_WORK: u64 = 6_000_000_000;
 
 /// What a run came to.
 #[derive(Drop)]
@@ -18,7 +17,8 @@ pub(crate) enum Ended {
     Outgrown,
 }
 
-/// Pivots until there is an end, a number is outgrown, so many steps are made, or the work is done that may be.
+/// Pivots until there is an end, a number is outgrown, so many steps are made, or the work is done that may be. The first cheapest
+/// point is made whole, as far as that goes, before it is told: the turns after it lead back to one if that went wrong.
 pub(crate) fn run<N: Number>(
     alloc: Global,
     frame: &Frame,
@@ -27,15 +27,33 @@ pub(crate) fn run<N: Number>(
     progress: &mut Progress,
     steps: u64,
 ) -> Result<Ended, NoMemory> {
-    let mut desk = Desk::new(alloc, frame)?;
+    let mut workspace = Workspace::new(alloc, frame)?;
+    let end = last_turn(alloc, frame, kernel, progress, &mut workspace, steps)?;
+    if let Turn::Best = end {
+        make_whole(alloc, frame, kernel, progress, &mut workspace, steps)?;
+        let end = last_turn(alloc, frame, kernel, progress, &mut workspace, steps)?;
+        return told(alloc, frame, costs, kernel, progress, &workspace, end);
+    }
+    told(alloc, frame, costs, kernel, progress, &workspace, end)
+}
+
+// The first turn that makes no pivot.
+fn last_turn<N: Number>(
+    alloc: Global,
+    frame: &Frame,
+    kernel: &mut Kernel<N>,
+    progress: &mut Progress,
+    workspace: &mut Workspace<N>,
+    steps: u64,
+) -> Result<Turn, NoMemory> {
     for _turn in 0..u64::MAX {
-        let may_pivot = progress.made < steps && progress.work < MOST_WORK;
-        match take_turn(alloc, frame, kernel, progress, &mut desk, may_pivot)? {
-            Turn::Pivoted => progress.made = progress.made.wrapping_add(1),
-            end => return told(alloc, frame, costs, kernel, progress, &desk, end),
+        let may_pivot = progress.may_pivot(steps);
+        match take_turn(alloc, frame, kernel, progress, workspace, may_pivot)? {
+            Turn::Pivoted => {}
+            end => return Ok(end),
         }
     }
-    Ok(Ended::Answer(None))
+    Ok(Turn::Spent)
 }
 
 // What a run is told as that ends with a turn.
@@ -45,7 +63,7 @@ fn told<N: Number>(
     costs: &[i128],
     kernel: &Kernel<N>,
     progress: &Progress,
-    desk: &Desk<N>,
+    workspace: &Workspace<N>,
     end: Turn,
 ) -> Result<Ended, NoMemory> {
     match end {
@@ -55,9 +73,9 @@ fn told<N: Number>(
             costs,
             kernel,
             &progress.costs,
-            &desk.values,
+            &workspace.values,
         )?)),
-        Turn::Refused => Ok(Ended::Answer(Some(refusal_hint(alloc, &desk.row)?))),
+        Turn::Refused => Ok(Ended::Answer(Some(refusal_hint(alloc, &workspace.row)?))),
         Turn::Outgrown => Ok(Ended::Outgrown),
         Turn::Spent => Ok(Ended::Answer(None)),
         Turn::Pivoted => Ok(Ended::Answer(None)),

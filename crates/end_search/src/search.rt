@@ -1,10 +1,9 @@
-use crate::costs::Costs;
-use crate::frame::{Frame, Progress};
 use crate::places::start_places;
+use crate::progress::Progress;
 use crate::run::{Ended, run};
-use crate::weights::Weights;
 use end_check::Hint;
 use end_kernel::{Columns, Kernel, Start};
+use end_pivots::{Costs, Frame, Weights};
 use entries::NoMemory;
 use lp_rows::Program;
 use std::alloc::Global;
@@ -41,6 +40,7 @@ fn search(
     let mut progress = Progress {
         costs: above,
         weights: Weights::new(alloc, frame.columns.line_count())?,
+        basic: frame.start.basic_columns(alloc)?,
         made: 0,
         work: 0,
     };

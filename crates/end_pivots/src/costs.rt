@@ -1,6 +1,5 @@
 use crate::frame::Frame;
 use crate::pivot_row::PivotRow;
-use end_kernel::row::{divide, multiply};
 use end_kernel::start::weighed;
 use end_kernel::{Columns, NONE, Number, Part, Start, at, common_divisor, filled, put};
 use entries::NoMemory;
@@ -12,7 +11,7 @@ const MOST_COST_BITS: u32 = 90;
 /// What each real column costs above what the basis weighs, and how the slots' lines weigh more than at the start, over one
 /// denominator.
 #[derive(Drop)]
-pub(crate) struct Costs {
+pub struct Costs {
     pub columns: Vec<i128>,
     pub slots: Vec<i128>,
     pub den: i128,
@@ -20,18 +19,14 @@ pub(crate) struct Costs {
 
 /// By which the cost row is multiplied, and how many times the pivot row is added to it.
 #[derive(Clone, Copy)]
-pub(crate) struct CostStep {
+pub struct CostStep {
     factor: i128,
     times: i128,
 }
 
 impl Costs {
     /// Those of the start, where none is below 0.
-    pub(crate) fn new(
-        alloc: Global,
-        frame: &Frame,
-        costs: &[i128],
-    ) -> Result<Option<Costs>, NoMemory> {
+    pub fn new(alloc: Global, frame: &Frame, costs: &[i128]) -> Result<Option<Costs>, NoMemory> {
         let mut lines = first_costs(alloc, &frame.start, costs, frame.columns.line_count(), 1)?;
         frame.start.backward(&frame.columns, lines.as_mut_slice());
         let mut columns = filled(alloc, 0, frame.columns.count())?;
@@ -39,7 +34,7 @@ impl Costs {
         Ok(if fits {
             Some(Costs {
                 columns,
-                slots: filled(alloc, 0, 1)?,
+                slots: Vec::new(alloc),
                 den: 1,
             })
         } else {
@@ -48,7 +43,7 @@ impl Costs {
     }
 
     /// What the pivot on a column of a row does to the costs, where it fits.
-    pub(crate) fn step<N: Number>(&self, row: &PivotRow<N>, entering: u32) -> Option<CostStep> {
+    pub fn step<N: Number>(&self, row: &PivotRow<N>, entering: u32) -> Option<CostStep> {
         let cost = at(&self.columns, entering as usize, 0);
         let size = at(&row.columns, entering as usize, N::of(1)).size().wide();
         let divisor = common_divisor(cost, size);
@@ -70,7 +65,7 @@ impl Costs {
     }
 
     /// Makes the step, and brings the costs to lowest terms.
-    pub(crate) fn change<N: Number>(&mut self, row: &PivotRow<N>, step: CostStep) {
+    pub fn change<N: Number>(&mut self, row: &PivotRow<N>, step: CostStep) {
         if step.times == 0 {
             return;
         }
@@ -84,17 +79,15 @@ impl Costs {
         self.reduce();
     }
 
-    /// Makes room for one more slot.
-    pub(crate) fn open_slot(&mut self) -> Result<(), NoMemory> {
-        self.slots.push(0)?;
+    /// Makes room for as many slots.
+    pub fn open_slots(&mut self, count: usize) -> Result<(), NoMemory> {
+        self.slots.resize(count, 0)?;
         Ok(())
     }
 
-    /// Lets a slot go; the last one takes its place.
-    pub(crate) fn close_slot(&mut self, slot: usize) {
-        if slot < self.slots.len() {
-            let _number = self.slots.swap_remove(slot);
-        }
+    /// Lets a slot go.
+    pub fn close_slot(&mut self, slot: u32) {
+        put(self.slots.as_mut_slice(), slot as usize, 0);
     }
 
     fn reduce(&mut self) {
@@ -111,7 +104,7 @@ impl Costs {
 }
 
 /// What the first column of each line costs, so many times, and 0 where there is none.
-pub(crate) fn first_costs(
+pub fn first_costs(
     alloc: Global,
     start: &Start,
     costs: &[i128],
@@ -169,6 +162,18 @@ fn shared(numbers: &[i128], divisor: i128) -> i128 {
         }
     }
     divisor
+}
+
+fn multiply(numbers: &mut [i128], factor: i128) {
+    for place in 0..numbers.len() {
+        numbers[place] = numbers[place].wrapping_mul(factor);
+    }
+}
+
+fn divide(numbers: &mut [i128], divisor: i128) {
+    for place in 0..numbers.len() {
+        numbers[place] = numbers[place].over(divisor);
+    }
 }
 
 fn add_numbers<N: Number>(numbers: &mut [i128], others: &[N], times: i128) {

@@ -4,7 +4,7 @@ use end_kernel::{Number, at};
 
 /// What a row says of the column that may enter.
 #[derive(Clone, Copy)]
-pub(crate) enum Choice {
+pub enum Choice {
     /// This one.
     Column(u32),
     /// None may: the row refuses all points.
@@ -23,7 +23,7 @@ struct Candidate {
 
 /// The column that enters: of those with a number below 0 in the row the one that costs least for its size, at a tie
 /// the one with the greatest size, and then the first.
-pub(crate) fn entering<N: Number>(row: &PivotRow<N>, costs: &Costs) -> Choice {
+pub fn entering<N: Number>(row: &PivotRow<N>, costs: &Costs) -> Choice {
     let mut best: Option<Candidate> = None;
     let columns = row.columns.as_slice();
     for place in 0..columns.len() {

@@ -1,14 +1,14 @@
 use end_kernel::Number;
 
 /// Fixed-point numbers of prices have parts of 2^20.
-pub(crate) const PART_BITS: u32 = 20;
+pub const PART_BITS: u32 = 20;
 /// One.
-pub(crate) const WHOLE: i128 = 1 << PART_BITS;
+pub const WHOLE: i128 = 1 << PART_BITS;
 /// The most that a weight is.
-pub(crate) const MOST_WEIGHT: i128 = 1 << 44;
+pub const MOST_WEIGHT: i128 = 1 << 44;
 
 /// How far a value is from 0, in parts.
-pub(crate) fn distance<N: Number>(value: N, den: N) -> i128 {
+pub fn distance<N: Number>(value: N, den: N) -> i128 {
     if value.bits() > 60 {
         return 1 << 40;
     }
@@ -17,7 +17,7 @@ pub(crate) fn distance<N: Number>(value: N, den: N) -> i128 {
 }
 
 /// The weight of a row: the sum of the squares of its numbers, over that of its denominator, in parts.
-pub(crate) fn weight<N: Number>(squares: i128, den: N) -> i128 {
+pub fn weight<N: Number>(squares: i128, den: N) -> i128 {
     if den.is_one() {
         return squares.clamp(1, 1 << 24).wrapping_mul(WHOLE);
     }
@@ -37,9 +37,12 @@ pub(crate) fn weight<N: Number>(squares: i128, den: N) -> i128 {
 
 /// A quotient of wide numbers, at once where the divisor is 1, and 0 where it is 0.
 #[inline(always)]
-pub(crate) fn quotient(number: i128, divisor: i128) -> i128 {
+pub fn quotient(number: i128, divisor: i128) -> i128 {
     if divisor == 1 {
         return number;
+    }
+    if let (Ok(narrow), Ok(by)) = (i64::try_from(number), i64::try_from(divisor)) {
+        return i128::from(narrow.checked_div(by).unwrap_or(0));
     }
     number.checked_div(divisor).unwrap_or(0)
 }

@@ -8,13 +8,13 @@ use std::alloc::Global;
 
 /// What the first column of each line comes to, over one scale; of a line that is a slot, nothing.
 #[derive(Drop)]
-pub(crate) struct Values<N> {
+pub struct Values<N> {
     pub numbers: Vec<N>,
     pub scale: N,
 }
 
 impl<N: Number> Values<N> {
-    pub(crate) fn new(alloc: Global, lines: usize) -> Result<Values<N>, NoMemory> {
+    pub fn new(alloc: Global, lines: usize) -> Result<Values<N>, NoMemory> {
         Ok(Values {
             numbers: filled(alloc, N::of(0), lines)?,
             scale: N::of(1),
@@ -22,7 +22,7 @@ impl<N: Number> Values<N> {
     }
 
     /// Reckons all values anew, and answers whether they fit.
-    pub(crate) fn reckon(&mut self, frame: &Frame, kernel: &Kernel<N>) -> bool {
+    pub fn reckon(&mut self, frame: &Frame, kernel: &Kernel<N>) -> bool {
         let Some(scale) = scale_of(kernel) else {
             return false;
         };
@@ -32,29 +32,24 @@ impl<N: Number> Values<N> {
         let right = (frame.columns.count() & 0xffff_ffff) as u32;
         take_column(&frame.columns, right, N::of(0).minus(scale), numbers);
         for row in &kernel.rows {
-            let own = at_first(&row.numbers);
-            let factor = scale.over(row.den);
-            if own.bits().wrapping_add(factor.bits()).wrapping_add(20) > N::room() {
-                return false;
+            if !row.own.is_zero() {
+                let factor = scale.over(row.den);
+                if row.own.bits().wrapping_add(factor.bits()).wrapping_add(20) > N::room() {
+                    return false;
+                }
+                take_column(&frame.columns, row.column, row.own.times(factor), numbers);
             }
-            take_column(&frame.columns, row.column, own.times(factor), numbers);
         }
         frame.start.forward(&frame.columns, numbers);
         true
     }
 }
 
-/// What a row comes to, times its denominator.
-#[inline(always)]
-pub(crate) fn at_first<N: Number>(numbers: &[N]) -> N {
-    end_kernel::at(numbers, 0, N::of(0))
-}
-
 // A scale of what all rows come to.
 fn scale_of<N: Number>(kernel: &Kernel<N>) -> Option<N> {
     let mut scale = N::of(1);
     for row in &kernel.rows {
-        if !at_first(&row.numbers).is_zero() {
+        if !row.own.is_zero() {
             scale = common_scale(scale, row.den, N::room() / 3 * 2)?;
         }
     }

@@ -2,36 +2,39 @@ use crate::frame::Frame;
 use crate::pivot_row::PivotRow;
 use end_kernel::lists::fill;
 use end_kernel::start::take_column;
-use end_kernel::{Kernel, Number, Part, at, common_divisor, filled};
+use end_kernel::{Kernel, Number, at, common_divisor, filled};
 use entries::NoMemory;
 use std::alloc::Global;
 
 /// The column that enters, in the rows of the kernel.
 #[derive(Drop)]
-pub(crate) struct PivotColumn<N> {
+pub struct PivotColumn<N> {
     pub entering: u32,
     /// The size of its number in the pivot row.
     pub size: N,
     /// Its number in each row, times the row's denominator.
     pub products: Vec<N>,
+    /// What the pivot row and each row come to, slot by slot, times both denominators.
+    pub crossings: Vec<N>,
     /// Its numbers in the slots as the start has them.
-    parts: Vec<Part<N>>,
+    slots: Vec<N>,
     sums: Vec<N>,
 }
 
 impl<N: Number> PivotColumn<N> {
-    pub(crate) fn new(alloc: Global, frame: &Frame) -> Result<PivotColumn<N>, NoMemory> {
+    pub fn new(alloc: Global, frame: &Frame) -> Result<PivotColumn<N>, NoMemory> {
         Ok(PivotColumn {
             entering: 0,
             size: N::of(1),
             products: Vec::new(alloc),
-            parts: Vec::new(alloc),
+            crossings: Vec::new(alloc),
+            slots: Vec::new(alloc),
             sums: filled(alloc, N::of(0), frame.columns.line_count())?,
         })
     }
 
-    /// Takes a column, and answers whether its products fit.
-    pub(crate) fn take(
+    /// Takes a column, and answers whether its products fit. The pivot row is for the crossings.
+    pub fn take(
         &mut self,
         frame: &Frame,
         kernel: &Kernel<N>,
@@ -52,33 +55,38 @@ impl<N: Number> PivotColumn<N> {
             .forward(&frame.columns, self.sums.as_mut_slice());
         let sizes = self.gather(kernel)?;
         self.products.clear();
-        for row in &kernel.rows {
-            if row.sizes.bits().wrapping_add(sizes.bits()).wrapping_add(10) > N::room() {
+        self.crossings.clear();
+        for other in &kernel.rows {
+            if other
+                .sizes
+                .bits()
+                .wrapping_add(sizes.bits())
+                .wrapping_add(10)
+                > N::room()
+            {
                 return Ok(false);
             }
-            self.products.push(row.against(&self.parts))?;
+            let (product, crossing) = other.across(&self.slots, &row.numbers);
+            self.products.push(product)?;
+            self.crossings.push(crossing)?;
         }
-        Ok(self.fits(kernel, row))
+        Ok(true)
     }
 
-    // Gathers the parts, and answers all bits of their sizes.
+    // Gathers the numbers in the slots, and answers all bits of their sizes.
     fn gather(&mut self, kernel: &Kernel<N>) -> Result<N, NoMemory> {
-        self.parts.clear();
+        self.slots.clear();
         let mut sizes = N::of(0);
-        for slot in 1..kernel.lines.len() {
-            let line = kernel.lines[slot] as usize;
-            let number = at(&self.sums, line, N::of(0));
-            if !number.is_zero() {
-                sizes = sizes.either(number.size());
-                let slot = (slot & 0xffff_ffff) as u32;
-                self.parts.push(Part { slot, number })?;
-            }
+        for line in &kernel.lines {
+            let number = at(&self.sums, *line as usize, N::of(0));
+            sizes = sizes.either(number.size());
+            self.slots.push(number)?;
         }
         Ok(sizes)
     }
 
-    // Whether each row fits once it is changed.
-    fn fits(&self, kernel: &Kernel<N>, pivot: &PivotRow<N>) -> bool {
+    /// Whether each row fits once it is changed.
+    pub fn fits(&self, kernel: &Kernel<N>, pivot: &PivotRow<N>) -> bool {
         for place in 0..kernel.rows.len() {
             let product = at(&self.products, place, N::of(0));
             if !product.is_zero() {

@@ -1,6 +1,6 @@
 use crate::frame::{Frame, Leaving};
 use crate::pricing::{distance, weight};
-use crate::values::{Values, at_first};
+use crate::values::Values;
 use crate::weights::Weights;
 use end_kernel::{Kernel, NONE, Number};
 
@@ -14,7 +14,7 @@ struct Candidate {
 
 /// What leaves: of all that are below 0, and of what lines lack and shouldn't, the one whose square is most for its weight, at a
 /// tie the first. None where all is as it may be.
-pub(crate) fn leaving<N: Number>(
+pub fn leaving<N: Number>(
     frame: &Frame,
     kernel: &Kernel<N>,
     values: &Values<N>,
@@ -23,11 +23,10 @@ pub(crate) fn leaving<N: Number>(
     let mut best = None;
     for place in 0..kernel.rows.len() {
         let row = &kernel.rows[place];
-        let own = at_first(&row.numbers);
-        if own.is_below_0() {
+        if row.own.is_below_0() {
             let next = rated(
                 Leaving::Row(place),
-                distance(own, row.den),
+                distance(row.own, row.den),
                 weight(row.squares, row.den),
             );
             best = better(best, next);
@@ -37,7 +36,7 @@ pub(crate) fn leaving<N: Number>(
     for place in 0..numbers.len() {
         let line = (place & 0xffff_ffff) as u32;
         let own = numbers[place];
-        if is_out(frame, line, own) && kernel.slot_of(line) == 0 {
+        if is_out(frame, line, own) && kernel.slot_of(line) == NONE {
             let next = rated(
                 Leaving::Line(line),
                 distance(own, values.scale),

@@ -1,0 +1,99 @@
+use crate::pivot::{pivot, take_row};
+use crate::progress::{Progress, Workspace};
+use end_kernel::{Kernel, Number, at};
+use end_pivots::{Frame, Leaving, Trial, lay_column};
+use entries::NoMemory;
+use std::alloc::Global;
+
+// How often all columns are tried.
+const MOST_PASSES: u64 = 10;
+
+/// Pivots among ends of equal cost, each of which makes more columns come to whole numbers, so that fewer pairs are flown in part.
+/// At most so many pivots are made together. The values are those of the kernel before.
+pub(crate) fn make_whole<N: Number>(
+    alloc: Global,
+    frame: &Frame,
+    kernel: &mut Kernel<N>,
+    progress: &mut Progress,
+    workspace: &mut Workspace<N>,
+    steps: u64,
+) -> Result<(), NoMemory> {
+    for _pass in 0..MOST_PASSES {
+        let before = progress.made;
+        if !pass(alloc, frame, kernel, progress, workspace, steps)? || progress.made == before {
+            return Ok(());
+        }
+    }
+    Ok(())
+}
+
+// Tries each column once, and answers whether more may be tried.
+fn pass<N: Number>(
+    alloc: Global,
+    frame: &Frame,
+    kernel: &mut Kernel<N>,
+    progress: &mut Progress,
+    workspace: &mut Workspace<N>,
+    steps: u64,
+) -> Result<bool, NoMemory> {
+    for place in 0..progress.basic.len() {
+        if progress.is_free(place) {
+            let column = (place & 0xffff_ffff) as u32;
+            let leaves = trial(frame, kernel, progress, workspace, column)?;
+            if let Some(leaves) = leaves {
+                if !progress.may_pivot(steps)
+                    || !enter(alloc, frame, kernel, progress, workspace, leaves, column)?
+                {
+                    return Ok(false);
+                }
+            }
+        }
+    }
+    Ok(true)
+}
+
+// What leaves where a column enters, if more columns come to whole numbers then.
+fn trial<N: Number>(
+    frame: &Frame,
+    kernel: &Kernel<N>,
+    progress: &mut Progress,
+    workspace: &mut Workspace<N>,
+    column: u32,
+) -> Result<Option<Leaving>, NoMemory> {
+    progress.work = progress.work.wrapping_add(workspace.row.work());
+    if !workspace
+        .column
+        .take(frame, kernel, &workspace.row, column)?
+    {
+        return Ok(None);
+    }
+    let numbers = workspace.row.lines.as_mut_slice();
+    let Some(scale) = lay_column(frame, kernel, &workspace.column, numbers) else {
+        return Ok(None);
+    };
+    let tried = Trial {
+        products: &workspace.column.products,
+        numbers: &workspace.row.lines,
+        scale,
+    };
+    Ok(tried.gaining(frame, kernel, &workspace.values))
+}
+
+// Brings the column in, and answers whether all fits and the values are those after it.
+fn enter<N: Number>(
+    alloc: Global,
+    frame: &Frame,
+    kernel: &mut Kernel<N>,
+    progress: &mut Progress,
+    workspace: &mut Workspace<N>,
+    leaves: Leaving,
+    column: u32,
+) -> Result<bool, NoMemory> {
+    if !take_row(frame, kernel, progress, &mut workspace.row, leaves)?
+        || !at(&workspace.row.columns, column as usize, N::of(0)).is_below_0()
+        || !pivot(alloc, frame, kernel, progress, workspace, leaves, column)?
+    {
+        return Ok(false);
+    }
+    Ok(workspace.values.reckon(frame, kernel))
+}

@@ -1,0 +1,134 @@
+use crate::progress::{Progress, Workspace};
+use end_kernel::{Kernel, NONE, Number, at, common_divisor, put};
+use end_pivots::pricing::weight;
+use end_pivots::{Frame, Leaving, PivotRow};
+use entries::NoMemory;
+use std::alloc::Global;
+
+/// Makes the row of what leaves, with what it weighs in lines and columns, and answers whether it fits.
+pub(crate) fn take_row<N: Number>(
+    frame: &Frame,
+    kernel: &Kernel<N>,
+    progress: &mut Progress,
+    row: &mut PivotRow<N>,
+    leaves: Leaving,
+) -> Result<bool, NoMemory> {
+    let column = leaves.column(frame, kernel);
+    put(progress.basic.as_mut_slice(), column as usize, false);
+    if !row.take(frame, kernel, leaves)? {
+        return Ok(false);
+    }
+    Ok(row.price(frame, kernel, leaves, &progress.basic))
+}
+
+/// Brings a column into the basis, where all fits, and answers whether it does.
+pub(crate) fn pivot<N: Number>(
+    alloc: Global,
+    frame: &Frame,
+    kernel: &mut Kernel<N>,
+    progress: &mut Progress,
+    workspace: &mut Workspace<N>,
+    leaves: Leaving,
+    column: u32,
+) -> Result<bool, NoMemory> {
+    if !workspace
+        .column
+        .take(frame, kernel, &workspace.row, column)?
+        || !workspace.column.fits(kernel, &workspace.row)
+    {
+        return Ok(false);
+    }
+    let Some(step) = progress.costs.step(&workspace.row, column) else {
+        return Ok(false);
+    };
+    let numbers = workspace.values.numbers.as_mut_slice();
+    progress
+        .weights
+        .change(frame, kernel, &workspace.row, &workspace.column, numbers);
+    let place = open(kernel, leaves)?;
+    progress.costs.open_slots(kernel.lines.len())?;
+    progress.costs.change(&workspace.row, step);
+    put(progress.basic.as_mut_slice(), column as usize, true);
+    progress.work = change_rows(kernel, workspace, place, progress.work)?;
+    lay_entered(alloc, kernel, &workspace.row, column, place)?;
+    come_back(frame, kernel, progress, place)?;
+    progress.made = progress.made.wrapping_add(1);
+    Ok(true)
+}
+
+// The place of the row that enters, with a slot for a line that leaves.
+fn open<N: Number>(kernel: &mut Kernel<N>, leaves: Leaving) -> Result<usize, NoMemory> {
+    match leaves {
+        Leaving::Row(place) => Ok(place),
+        Leaving::Line(line) => {
+            kernel.open_slot(line)?;
+            Ok(kernel.rows.len())
+        }
+    }
+}
+
+// Takes the pivot row from all rows that the column meets but that of what leaves. Answers the work that was done before with that
+// of the pivot: the numbers of the pivot row by lines and columns, its parts against each row, and the rows that changed.
+fn change_rows<N: Number>(
+    kernel: &mut Kernel<N>,
+    workspace: &mut Workspace<N>,
+    leaves: usize,
+    before: u64,
+) -> Result<u64, NoMemory> {
+    workspace.seen.resize(kernel.lines.len(), 0)?;
+    let row = &workspace.row;
+    let column = &workspace.column;
+    let seen = workspace.seen.as_mut_slice();
+    let mut work = before.wrapping_add(row.work());
+    for place in 0..kernel.rows.len() {
+        let product = at(&column.products, place, N::of(0));
+        work = work.wrapping_add(row.parts.len() as u64).wrapping_add(1);
+        if !product.is_zero() && place != leaves && place < kernel.rows.len() {
+            let divisor = common_divisor(product, column.size);
+            let factor = column.size.over(divisor);
+            let times = product.over(divisor);
+            kernel.rows[place].combine(row.taken(), factor, times, seen, work)?;
+            work = work.wrapping_add(kernel.rows[place].parts.len() as u64);
+        }
+    }
+    Ok(work)
+}
+
+// Lays the row of the column that enters at its place.
+fn lay_entered<N: Number>(
+    alloc: Global,
+    kernel: &mut Kernel<N>,
+    row: &PivotRow<N>,
+    column: u32,
+    place: usize,
+) -> Result<(), NoMemory> {
+    let entered = row.entered(alloc, column)?;
+    if place < kernel.rows.len() {
+        kernel.rows[place] = entered;
+        return Ok(());
+    }
+    kernel.rows.push(entered)?;
+    Ok(())
+}
+
+// Where the column that entered is the first one of a line, its row and the line's slot go.
+fn come_back<N: Number>(
+    frame: &Frame,
+    kernel: &mut Kernel<N>,
+    progress: &mut Progress,
+    place: usize,
+) -> Result<(), NoMemory> {
+    if place >= kernel.rows.len() {
+        return Ok(());
+    }
+    let line = frame.start.line_of(kernel.rows[place].column);
+    let slot = kernel.slot_of(line);
+    if line == NONE || slot == NONE {
+        return Ok(());
+    }
+    kernel.rows[place].lay_squares();
+    let weight = weight(kernel.rows[place].squares, kernel.rows[place].den);
+    progress.weights.lay(line, weight);
+    progress.costs.close_slot(slot);
+    kernel.close_slot(place, line)
+}

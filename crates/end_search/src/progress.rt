@@ -1,0 +1,53 @@
+use end_kernel::{Number, at};
+use end_pivots::{Costs, Frame, PivotColumn, PivotRow, Values, Weights};
+use entries::NoMemory;
+use std::alloc::Global;
+
+// How many numbers of rows may be written or multiplied: about a minute's on one processor.
+const MOST_WORK: u64 = 6_000_000_000;
+
+/// What a search has come to, but for the rows of the columns that came.
+#[derive(Drop)]
+pub(crate) struct Progress {
+    pub costs: Costs,
+    pub weights: Weights,
+    /// Which real columns are in the basis for sure, so that all other rows have 0 there.
+    pub basic: Vec<bool>,
+    /// How many pivots were made after the start.
+    pub made: u64,
+    /// How many numbers of rows were written or multiplied.
+    pub work: u64,
+}
+
+impl Progress {
+    /// Whether a column is out of the basis and may come in at no cost.
+    pub(crate) fn is_free(&self, column: usize) -> bool {
+        !at(&self.basic, column, true) && at(&self.costs.columns, column, 1) == 0
+    }
+
+    /// Whether one more pivot may be made of so many, and with the work that may be done.
+    pub(crate) fn may_pivot(&self, steps: u64) -> bool {
+        self.made < steps && self.work < MOST_WORK
+    }
+}
+
+/// What a turn reckons with, which the next one writes anew.
+#[derive(Drop)]
+pub(crate) struct Workspace<N> {
+    pub values: Values<N>,
+    pub row: PivotRow<N>,
+    pub column: PivotColumn<N>,
+    /// Of each slot the work that was done when it was last seen.
+    pub seen: Vec<u64>,
+}
+
+impl<N: Number> Workspace<N> {
+    pub(crate) fn new(alloc: Global, frame: &Frame) -> Result<Workspace<N>, NoMemory> {
+        Ok(Workspace {
+            values: Values::new(alloc, frame.columns.line_count())?,
+            row: PivotRow::new(alloc, frame)?,
+            column: PivotColumn::new(alloc, frame)?,
+            seen: Vec::new(alloc),
+        })
+    }
+}
