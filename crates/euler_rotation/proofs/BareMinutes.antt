@@ -5,9 +5,8 @@ use mathlib.Core.Bool.{false≢true}
 use Rattle.sums.proofs.Tests.{by_test}
 use Rattle.fleet_model.specs.declared.parts.Connection.{Connection}
 use Rattle.fleet_model.specs.declared.tables.Tables.{Tables}
-use Rattle.fleet_model.specs.declared.limits.TheConstants.{MINUTES_PER_PERIOD}
 use Rattle.fleet_model.specs.Counts.{weights_of}
-use Rattle.fleet_model.specs.Schedule.{legs_in, no_leg, stations_in}
+use Rattle.fleet_model.specs.Schedule.{legs_in, no_leg, period_of, stations_in}
 use Rattle.ground_turns.specs.Laws.{AreBareMinutes}
 use Rattle.ground_turns.specs.Segments.{NoneEnds, is_among}
 use Rattle.ground_turns.specs.Turns.{IsClean, departs_at, ready_at, station_at}
@@ -20,7 +19,7 @@ use Rattle.euler_rotation.proofs.TourTurns.{clean_from, clean_to}
 pub are_bare : (t : Tables) (a : List ℕ) (f s : ℕ) (minutes : List ℕ) → minutes ≡ zeros_of t (weights_of a) f s → AreBareMinutes t a f s minutes
 unfolding zeros_below
 are_bare t a f s minutes is = record {
-  each = λ m lt. ap (λ xs. is_among xs m) is ∙ among_filtered (none_stands t (weights_of a) f s) MINUTES_PER_PERIOD m lt;
+  each = λ m lt. ap (λ xs. is_among xs m) is ∙ among_filtered (none_stands t (weights_of a) f s) (period_of t) m lt;
 }
 
 -- segments of its station tell whether a turn is clean

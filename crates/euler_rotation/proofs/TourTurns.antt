@@ -14,11 +14,12 @@ use Rattle.sums.proofs.Turned.{turned}
 use Rattle.fleet_model.specs.declared.parts.Connection.{Connection}
 use Rattle.fleet_model.specs.declared.tables.Tables.{Tables}
 use Rattle.fleet_model.specs.Counts.{fleet_at, weights_of}
-use Rattle.fleet_model.specs.Schedule.{leg_on, legs_in}
+use Rattle.fleet_model.specs.Schedule.{leg_on, legs_in, period_of}
 use Rattle.fleet_model.specs.Use.{stand_of}
+use Rattle.fleet_model.specs.Plain.{IsPlain}
 use Rattle.ground_turns.specs.Maps.{AreClean, Holds, IsSuccessorMap, IsTour, arrivals_of, departures_of, no_turn, turn_after, turn_at, turns_round}
 use Rattle.ground_turns.specs.Nights.{IsKeptFor, nights_of_tour}
-use Rattle.ground_turns.specs.Turns.{IsClean, IsTurn, period_of, station_at, waits_at}
+use Rattle.ground_turns.specs.Turns.{IsClean, IsTurn, station_at, waits_at}
 use Rattle.ground_turns.proofs.Fits.{fits_where_clean}
 use Rattle.ground_turns.proofs.Regroup.{by_places}
 use Rattle.euler_rotation.specs.Asked.{AreKnown, AreMet}
@@ -126,8 +127,8 @@ module _ (t : Tables) (a : List ℕ) (f : ℕ) where
         clean = (fits_where_clean t a f (turns_round legs) tour.fitting.map).0 tour.fitting
 
   -- ---- and a tour of its parts
-  pub tour_from : (legs : List ℕ) → 0 < length legs → AreMet t a f legs (length legs) → IsOrder t a f legs → IsTour t a f legs
-  tour_from legs some met order = record { some = some; fitting = (fits_where_clean t a f (turns_round legs) map).1 clean }
+  pub tour_from : IsPlain t → (legs : List ℕ) → 0 < length legs → AreMet t a f legs (length legs) → IsOrder t a f legs → IsTour t a f legs
+  tour_from plain legs some met order = record { some = some; fitting = (fits_where_clean t a f (turns_round legs) map).1 clean }
     where
       parts : (k : ℕ) → k < length legs → (meets t (turn_after legs k) ≡ true) × (is_clean t a f (turn_after legs k) ≡ true)
       parts k lt = parts_true (meets t (turn_after legs k)) (is_clean t a f (turn_after legs k)) (met.each k lt)
@@ -143,6 +144,7 @@ module _ (t : Tables) (a : List ℕ) (f : ℕ) where
 
       map : IsSuccessorMap t a f (turns_round legs)
       map = record {
+        plain = plain;
         each = λ k lt. let low : k < length legs = omega (arith, length_round legs) in subst (IsTurn t a f) (sym (turn_round legs k low)) (turn k low);
         arrives = λ l lt. arrivals_round legs l ∙ order.once l lt;
         departs = λ l lt. departures_round legs l ∙ order.once l lt;
@@ -153,6 +155,6 @@ module _ (t : Tables) (a : List ℕ) (f : ℕ) where
         each = λ k lt. let low : k < length legs = omega (arith, length_round legs) in subst (IsClean t a f) (sym (turn_round legs k low)) (clean_to t a f (turn_after legs k) (parts k low).1);
       }
 
-  pub kept_from : (pairs : List Connection) (days : ℕ) (legs : List ℕ) → 0 < length legs → AreMet t a f legs (length legs)
+  pub kept_from : IsPlain t → (pairs : List Connection) (days : ℕ) (legs : List ℕ) → 0 < length legs → AreMet t a f legs (length legs)
       → IsKeptFor t (nights_of_tour t f legs) days → Holds (turns_round legs) pairs → IsOrder t a f legs → IsKeptTour t a f pairs days legs
-  kept_from pairs days legs some met kept holds order = record { tour = tour_from legs some met order; holds = holds; kept = kept }
+  kept_from plain pairs days legs some met kept holds order = record { tour = tour_from plain legs some met order; holds = holds; kept = kept }

@@ -179,7 +179,7 @@ module _ (legs : List ℕ) (r : ℕ) (less : r < length legs) where
   -- ---- the kept tour
   pub kept_turned : (t : Tables) (a : List ℕ) (f : ℕ) (pairs : List Connection) (days : ℕ) → IsKeptTour t a f pairs days legs → IsKeptTour t a f pairs days (turned r legs)
   kept_turned t a f pairs days kept = record {
-    tour = tour_from t a f (turned r legs) (omega (arith, length_turned)) met order;
+    tour = tour_from t a f kept.tour.fitting.map.plain (turned r legs) (omega (arith, length_turned)) met order;
     holds = record { each = holds };
     kept = nights;
   }

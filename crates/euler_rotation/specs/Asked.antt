@@ -5,16 +5,17 @@ use Rattle.fleet_model.specs.declared.parts.Connection.{Connection}
 use Rattle.fleet_model.specs.declared.tables.Tables.{Tables}
 use Rattle.fleet_model.specs.Counts.{fleet_at}
 use Rattle.fleet_model.specs.Legal.{IsAssignment}
-use Rattle.fleet_model.specs.Schedule.{fleets_in, legs_in, stations_in}
+use Rattle.fleet_model.specs.Schedule.{fleets_in, legs_in, period_of, stations_in}
+use Rattle.fleet_model.specs.Plain.{IsPlain}
 use Rattle.ground_turns.specs.Laws.{AreBareMinutes}
 use Rattle.ground_turns.specs.Maps.{turn_after}
 use Rattle.ground_turns.specs.Segments.{EndAt, minutes_of}
-use Rattle.ground_turns.specs.Turns.{period_of}
 use Rattle.euler_rotation.specs.declared.asked.Asked.{Asked}
 use Rattle.euler_rotation.specs.declared.clean.CleanTurns.{CleanTurns}
 use Rattle.euler_rotation.specs.Prefixes.{is_clean, may_turn, meets}
 
 pub record IsAsked (asked : Asked) : Type 0 where
+  pub plain : IsPlain asked.tables.now
   pub plan : IsAssignment asked.tables.now asked.plan.now
   pub fleet : asked.fleet < fleets_in asked.tables.now
   pub some_days : 0 < asked.days

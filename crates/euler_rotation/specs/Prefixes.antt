@@ -6,11 +6,11 @@ use Rattle.sums.specs.Places.{list_below}
 use Rattle.fleet_model.specs.declared.parts.Connection.{Connection}
 use Rattle.fleet_model.specs.declared.tables.Tables.{Tables}
 use Rattle.fleet_model.specs.Counts.{weights_of}
-use Rattle.fleet_model.specs.Schedule.{leg_of}
+use Rattle.fleet_model.specs.Schedule.{leg_of, period_of}
 use Rattle.fleet_model.specs.Use.{stand_of}
 use Rattle.ground_turns.specs.Maps.{turn_after}
 use Rattle.ground_turns.specs.Nights.{nights_in_turns}
-use Rattle.ground_turns.specs.Turns.{period_of, station_at, waits_at}
+use Rattle.ground_turns.specs.Turns.{station_at, waits_at}
 use Rattle.ground_turns.specs.declared.nights.Night.{Night}
 use Rattle.euler_rotation.specs.Often.{stays_below}
 

@@ -5,13 +5,12 @@ use Rattle.sums.specs.Places.{list_below}
 use Rattle.fleet_model.specs.declared.parts.Connection.{Connection}
 use Rattle.fleet_model.specs.declared.tables.Tables.{Tables}
 use Rattle.fleet_model.specs.Counts.{weights_of}
-use Rattle.fleet_model.specs.Schedule.{leg_on, legs_in, stations_in}
+use Rattle.fleet_model.specs.Schedule.{days_in, leg_on, legs_in, stations_in}
 use Rattle.fleet_model.specs.Use.{used_of}
 use Rattle.ground_turns.specs.Laws.{maintained_at}
 use Rattle.ground_turns.specs.Maps.{Holds, IsTour, turns_round}
 use Rattle.ground_turns.specs.Nights.{IsKeptFor, nights_of_tour}
-use Rattle.ground_turns.specs.Turns.{days_in}
-use Rattle.lines_of_flying.specs.Lines.{BeginsAfterNight, nights_after}
+use Rattle.lines_of_flying.specs.Lines.{BeginsAfterStart, periods_after}
 
 -- a tour that holds the pairs
 pub record IsTourWith (t : Tables) (a : List ℕ) (f : ℕ) (pairs : List Connection) (legs : List ℕ) : Type 0 where
@@ -41,17 +40,17 @@ pub record IsOrder (t : Tables) (a : List ℕ) (f : ℕ) (order : List ℕ) : Ty
   pub known : (k : ℕ) → k < length order → slice_index order k < legs_in t
   pub once : (l : ℕ) → l < legs_in t → times_in order l ≡ weights_of a (leg_on l f)
 
--- the nights before the leg at a place of a tour: from the leg before it
+-- the period starts before the leg at a place of a tour: from the leg before it
 abbrev pub place_before : List ℕ → ℕ → ℕ
 place_before legs k = (k + (length legs - 1)) % length legs
 
-abbrev pub nights_before : Tables → ℕ → List ℕ → ℕ → ℕ
-nights_before t f legs k = nights_after t f legs (place_before legs k)
+abbrev pub periods_before : Tables → ℕ → List ℕ → ℕ → ℕ
+periods_before t f legs k = periods_after t f legs (place_before legs k)
 
--- the tour begins with the least leg that has a night before it
+-- the tour begins with the least leg that has a period's start before it
 pub record BeginsLeast (t : Tables) (f : ℕ) (legs : List ℕ) : Type 0 where
-  pub begins : BeginsAfterNight t f legs
-  pub least : (k : ℕ) → k < length legs → 0 < nights_before t f legs k → slice_index legs 0 ≤ slice_index legs k
+  pub begins : BeginsAfterStart t f legs
+  pub least : (k : ℕ) → k < length legs → 0 < periods_before t f legs k → slice_index legs 0 ≤ slice_index legs k
 
 -- the nights at maintenance stations, of each fitting map: what stands there at the ends of the period's days
 abbrev pub nights_maintained : Tables → List ℕ → ℕ → ℕ

@@ -7,8 +7,8 @@ ghost use Rattle.euler_rotation.specs.Prefixes.{is_clean, keeps_pair, may_turn};
 
 use crate::asked::Asked;
 use entries::NoMemory;
-use fleet_model::{Connection, ready};
-use ground_turns::Segments;
+use fleet_model::Connection;
+use ground_turns::{Segments, flight};
 use island_cut::zero_minutes;
 use std::alloc::Global;
 
@@ -51,7 +51,7 @@ fn segments_at(alloc: Global, asked: &Asked<'_>, station: u32) -> Result<Segment
     ensures { IfOk result (AreSegments asked.now.tables.now asked.now.plan.now asked.now.fleet station) }
 {
     let bare = zero_minutes(alloc, asked.tables, asked.plan, asked.fleet, station)?;
-    Ok(Segments::new(alloc, bare.as_slice())?)
+    Ok(Segments::new(alloc, asked.tables.period(), bare.as_slice())?)
 }
 
 /// Whether a turn is clean. Takes no memory.
@@ -62,8 +62,9 @@ pub(crate) fn is_clean(clean: &CleanTurns<'_>, turn: Connection) -> bool
     ensures { result ≡ is_clean clean.now.asked.now.tables.now clean.now.asked.now.plan.now clean.now.asked.now.fleet turn }
 {
     let tables = clean.asked.tables;
-    let ready = ready(tables, turn.arriving, clean.asked.fleet);
-    let departure = tables.leg(turn.departing).dep;
+    let fleet = clean.asked.fleet;
+    let ready = tables.ready(flight(tables, turn.arriving, fleet));
+    let departure = tables.departure(flight(tables, turn.departing, fleet));
     let station = tables.leg(turn.arriving).to;
     clean.segments[station as usize].is_clean(ready, departure)
 }

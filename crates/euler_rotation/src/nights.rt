@@ -8,8 +8,8 @@ ghost use Rattle.euler_rotation.specs.Asked.{IsAsked};
 ghost use Rattle.euler_rotation.specs.Often.{GoesOn, nights_since, stays_below};
 
 use crate::asked::Asked;
-use fleet_model::{Connection, nights};
-use ground_turns::nights_waited;
+use fleet_model::Connection;
+use ground_turns::{flight, nights_waited};
 
 /// The nights without maintenance after those of a turn, where so many came before; nothing where they come to the days
 /// that are asked for. Takes no memory.
@@ -20,7 +20,10 @@ pub(crate) fn since_after(asked: &Asked<'_>, since: u32, turn: Connection) -> Op
     requires departing { turn.departing < legs_in asked.now.tables.now }
     ensures { GoesOn asked.now.tables.now asked.now.days since (nights_in_turn asked.now.tables.now asked.now.fleet turn) result }
 {
-    let aloft = since + nights(asked.tables, turn.arriving, asked.fleet);
+    let aloft = since
+        + asked
+            .tables
+            .nights(flight(asked.tables, turn.arriving, asked.fleet));
     if aloft >= asked.days {
         return None;
     }
@@ -64,7 +67,9 @@ pub(crate) fn nights_without(asked: &Asked<'_>, turn: Connection) -> u32
     requires arriving { turn.arriving < legs_in asked.now.tables.now }
     requires departing { turn.departing < legs_in asked.now.tables.now }
 {
-    let aloft = nights(asked.tables, turn.arriving, asked.fleet);
+    let aloft = asked
+        .tables
+        .nights(flight(asked.tables, turn.arriving, asked.fleet));
     if is_maintained(asked, turn) {
         aloft
     } else {

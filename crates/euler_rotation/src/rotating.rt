@@ -36,7 +36,7 @@ pub fn rotate(
     fleet: u32,
     pairs: &[Connection],
     days: u32,
-    visits: u32,
+    visits: u64,
 ) -> Result<Rotation, NoMemory>
     requires plan { IsAssignment tables.now plan.now }
     requires fleet { fleet < fleets_in tables.now }
@@ -57,7 +57,7 @@ pub fn rotate(
 }
 
 // The rotation that is asked for.
-fn rotation_of(alloc: Global, asked: &Asked<'_>, visits: u32) -> Result<Rotation, NoMemory>
+fn rotation_of(alloc: Global, asked: &Asked<'_>, visits: u64) -> Result<Rotation, NoMemory>
     requires asked { IsAsked asked.now }
     requires held { IsHeld asked.now.tables.now asked.now.plan.now asked.now.fleet asked.now.pairs.now }
     ensures { IfOk result (IsRotation asked.now.tables.now asked.now.plan.now asked.now.fleet asked.now.pairs.now asked.now.days visits) }
@@ -69,7 +69,7 @@ fn rotation_of(alloc: Global, asked: &Asked<'_>, visits: u32) -> Result<Rotation
 }
 
 // The rotation of a fleet that has a leg.
-fn flown(alloc: Global, asked: &Asked<'_>, visits: u32) -> Result<Rotation, NoMemory>
+fn flown(alloc: Global, asked: &Asked<'_>, visits: u64) -> Result<Rotation, NoMemory>
     requires asked { IsAsked asked.now }
     requires held { IsHeld asked.now.tables.now asked.now.plan.now asked.now.fleet asked.now.pairs.now }
     requires flies { FliesSome asked.now.tables.now asked.now.plan.now asked.now.fleet }
@@ -92,7 +92,7 @@ fn settled(
     asked: &Asked<'_>,
     joined: Entries<u32>,
     used: u32,
-    visits: u32,
+    visits: u64,
 ) -> Result<Rotation, NoMemory>
     requires asked { IsAsked asked.now }
     requires nights { AreEnough asked.now.tables.now asked.now.plan.now asked.now.fleet asked.now.days }
@@ -116,7 +116,7 @@ fn told(
     asked: &Asked<'_>,
     tour: &[u32],
     used: u32,
-    visits: u32,
+    visits: u64,
 ) -> Result<Found, NoMemory>
     requires { MayTell asked.now tour.now used }
     ensures { IfOk result (IsTold asked.now tour.now visits) }
@@ -131,7 +131,7 @@ fn told_by(
     clean: &CleanTurns<'_>,
     tour: &[u32],
     used: u32,
-    visits: u32,
+    visits: u64,
 ) -> Result<Found, NoMemory>
     requires clean { TellClean clean.now }
     requires told { MayTell clean.now.asked.now tour.now used }
@@ -155,7 +155,7 @@ fn found(
     alloc: Global,
     clean: &CleanTurns<'_>,
     tour: &[u32],
-    visits: u32,
+    visits: u64,
 ) -> Result<Found, NoMemory>
     requires clean { TellClean clean.now }
     requires tour { IsTourWith clean.now.asked.now.tables.now clean.now.asked.now.plan.now clean.now.asked.now.fleet clean.now.asked.now.pairs.now tour.now }
@@ -174,7 +174,7 @@ fn searched(
     alloc: Global,
     clean: &CleanTurns<'_>,
     tour: &[u32],
-    visits: u32,
+    visits: u64,
 ) -> Result<Found, NoMemory>
     requires clean { TellClean clean.now }
     requires tour { IsTourWith clean.now.asked.now.tables.now clean.now.asked.now.plan.now clean.now.asked.now.fleet clean.now.asked.now.pairs.now tour.now }

@@ -21,7 +21,7 @@ pub(crate) enum Found {
 }
 
 /// Visits so many prefixes at most, each before those that extend it, until one ends a kept tour.
-pub(crate) fn search(alloc: Global, field: &Field<'_>, visits: u32) -> Result<Found, NoMemory>
+pub(crate) fn search(alloc: Global, field: &Field<'_>, visits: u64) -> Result<Found, NoMemory>
     requires { IsField field.now }
     ensures { IfOk result (IsFound field.now visits) }
 {
@@ -37,7 +37,7 @@ fn visited(
     alloc: Global,
     field: &Field<'_>,
     walk: &mut Walk,
-    visits: u32,
+    visits: u64,
 ) -> Result<Found, NoMemory>
     requires field { IsField field.now }
     requires walk { StandsAt field.now (preorder_in field.now) walk.old }

@@ -1,15 +1,15 @@
 //! Where a tour begins.
 ghost use Rattle.std.specs.Prelude.{◌≡◌, ◌+◌, ◌<◌, IfOk, length};
 ghost use Rattle.euler_rotation.specs.Asked.{AreKnown, IsAsked};
-ghost use Rattle.euler_rotation.specs.Tours.{BeginsLeast, IsKeptTour, nights_before, turned};
+ghost use Rattle.euler_rotation.specs.Tours.{BeginsLeast, IsKeptTour, periods_before, turned};
 ghost use Rattle.euler_rotation.specs.Starts.{IsLeastPlace, LeastOrNone};
 
 use crate::asked::Asked;
 use entries::{Entries, NoMemory};
-use lines_of_flying::nights_after;
+use lines_of_flying::periods_after;
 use std::alloc::Global;
 
-/// A kept tour from the least leg that has a night before it.
+/// A kept tour from the least leg that has a period's start before it.
 pub(crate) fn begun(
     alloc: Global,
     asked: &Asked<'_>,
@@ -37,7 +37,7 @@ fn turned(alloc: Global, tour: &[u32], place: usize) -> Result<Vec<u32>, NoMemor
     Ok(legs)
 }
 
-// The place of the least leg of a tour that has a night before it.
+// The place of the least leg of a tour that has a period's start before it.
 fn first_place(asked: &Asked<'_>, tour: &[u32]) -> usize
     requires asked { IsAsked asked.now }
     requires kept { IsKeptTour asked.now.tables.now asked.now.plan.now asked.now.fleet asked.now.pairs.now asked.now.days tour.now }
@@ -70,7 +70,7 @@ fn lesser(asked: &Asked<'_>, tour: &[u32], least: Option<usize>, place: usize) -
     requires least { LeastOrNone asked.now.tables.now asked.now.fleet tour.now place least }
     ensures { LeastOrNone asked.now.tables.now asked.now.fleet tour.now (place + 1) result }
 {
-    if nights_before(asked, tour, place) == 0 {
+    if periods_before(asked, tour, place) == 0 {
         return least;
     }
     if let Some(other) = least {
@@ -81,14 +81,14 @@ fn lesser(asked: &Asked<'_>, tour: &[u32], least: Option<usize>, place: usize) -
     Some(place)
 }
 
-// The nights before the leg at a place of a tour.
-fn nights_before(asked: &Asked<'_>, tour: &[u32], place: usize) -> u32
+// The period starts before the leg at a place of a tour.
+fn periods_before(asked: &Asked<'_>, tour: &[u32], place: usize) -> u32
     requires asked { IsAsked asked.now }
     requires known { AreKnown asked.now.tables.now tour.now }
     requires place { place < length tour.now }
-    ensures { result ≡ nights_before asked.now.tables.now asked.now.fleet tour.now place }
+    ensures { result ≡ periods_before asked.now.tables.now asked.now.fleet tour.now place }
 {
-    nights_after(
+    periods_after(
         asked.tables,
         asked.fleet,
         tour,

@@ -2,17 +2,15 @@
 ghost use Rattle.std.specs.Prelude.{◌≡◌, ◌*◌, ◌<◌, ◌≤◌, MatchOption};
 ghost use Rattle.fleet_model.specs.Counts.{weights_of};
 ghost use Rattle.fleet_model.specs.Schedule.{stations_in};
-ghost use Rattle.fleet_model.specs.Use.{need_of, stand_of};
-ghost use Rattle.fleet_model.specs.declared.limits.TheConstants.{MINUTES_PER_PERIOD};
+ghost use Rattle.fleet_model.specs.Use.{stand_of};
 ghost use Rattle.ground_turns.specs.Laws.{maintained_at, stands_by_day};
-ghost use Rattle.ground_turns.specs.Turns.{days_in};
 ghost use Rattle.cycle_join.specs.Joins.{Flies};
 ghost use Rattle.euler_rotation.specs.Answers.{IsUnused};
 ghost use Rattle.euler_rotation.specs.Asked.{IsAsked};
 ghost use Rattle.euler_rotation.specs.Tours.{nights_maintained, nights_used};
 
 use crate::asked::Asked;
-use fleet_model::limits::{MINUTES_PER_DAY, MINUTES_PER_PERIOD};
+use fleet_model::limits::MINUTES_PER_DAY;
 use stand_counts::{Planned, need, stand, used};
 
 /// A leg of the fleet. Takes no memory.
@@ -38,7 +36,7 @@ pub(crate) fn nights_used(asked: &Asked<'_>) -> u32
         plan: asked.plan,
         fleet: asked.fleet,
     };
-    used(asked.tables, &flights) as u32 * u32::from(MINUTES_PER_PERIOD / MINUTES_PER_DAY)
+    used(asked.tables, &flights) as u32 * asked.tables.day_count()
 }
 
 /// The nights of each fitting map at maintenance stations: what stands there at the ends of the period's days. Takes no
@@ -46,7 +44,7 @@ pub(crate) fn nights_used(asked: &Asked<'_>) -> u32
 pub(crate) fn nights_maintained(asked: &Asked<'_>) -> u32
     requires { IsAsked asked.now }
     ensures value { result ≡ nights_maintained asked.now.tables.now asked.now.plan.now asked.now.fleet }
-    ensures few { result ≤ 400000 * days_in asked.now.tables.now }
+    ensures few { result ≤ 2800000 }
 {
     let mut nights = 0;
     for station in 0..asked.tables.station_count() {
@@ -60,7 +58,7 @@ fn maintained_at(asked: &Asked<'_>, station: u32) -> u32
     requires asked { IsAsked asked.now }
     requires station { station < stations_in asked.now.tables.now }
     ensures value { result ≡ maintained_at asked.now.tables.now asked.now.plan.now asked.now.fleet station }
-    ensures few { result ≤ 2000 * days_in asked.now.tables.now }
+    ensures few { result ≤ 14000 }
 {
     if asked.tables.station(station).maintenance {
         stands_by_day(asked, station)
@@ -73,17 +71,17 @@ fn maintained_at(asked: &Asked<'_>, station: u32) -> u32
 fn stands_by_day(asked: &Asked<'_>, station: u32) -> u32
     requires { IsAsked asked.now }
     ensures value { result ≡ stands_by_day asked.now.tables.now asked.now.plan.now asked.now.fleet station }
-    ensures few { result ≤ 2000 * days_in asked.now.tables.now }
+    ensures few { result ≤ 14000 }
 {
     let mut stands = 0;
-    for day in 0..MINUTES_PER_PERIOD / MINUTES_PER_DAY {
+    for day in 0..asked.tables.day_count() as u16 {
         stands += stand_at(asked, station, MINUTES_PER_DAY * (day + 1) - 1);
     }
     stands
 }
 
 // What stands at a station at the end of a minute.
-#[tactic(auto, using(stand_counts::proofs::FleetCounts::stand_of_fleet, crate::proofs::FewStand::stand_few))]
+#[tactic(auto, using(stand_counts::proofs::FleetCounts::stand_of_fleet))]
 fn stand_at(asked: &Asked<'_>, station: u32, minute: u16) -> u32
     requires { IsAsked asked.now }
     ensures value { result ≡ stand_of asked.now.tables.now (weights_of asked.now.plan.now) asked.now.fleet station minute }

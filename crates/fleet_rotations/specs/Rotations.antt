@@ -6,7 +6,7 @@ use Rattle.fleet_model.specs.declared.parts.Connection.{Connection}
 use Rattle.fleet_model.specs.declared.tables.Tables.{Tables}
 use Rattle.fleet_model.specs.Schedule.{fleets_in, legs_in}
 use Rattle.ground_turns.specs.Maps.{IsTour, turn_at}
-use Rattle.lines_of_flying.specs.Lines.{AreLegs, BeginsAfterNight}
+use Rattle.lines_of_flying.specs.Lines.{AreLegs, BeginsAfterStart}
 use Rattle.fleet_rotations.specs.declared.made.FleetRotation.{FleetRotation}
 
 -- the rotation of a fleet
@@ -57,7 +57,7 @@ abbrev pub IsFlown : Tables → List ℕ → ℕ → Rotation → Type 0
 IsFlown t a f rotation.Unused = ⊤
 IsFlown t a f (rotation.TooFewNights have used) = ⊤
 IsFlown t a f (rotation.Apart legs) = ⊤
-IsFlown t a f (rotation.Tour tour) = IsTour t a f tour × BeginsAfterNight t f tour
+IsFlown t a f (rotation.Tour tour) = IsTour t a f tour × BeginsAfterStart t f tour
 IsFlown t a f rotation.None = ⊤
 IsFlown t a f (rotation.Spent order prefix) = ⊤
 

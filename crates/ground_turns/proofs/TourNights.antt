@@ -76,7 +76,7 @@ module _ (t : Tables) (a : List ℕ) (f : ℕ) (turns : List Connection) (map : 
   same_days : sum_below (λ k. departure t (leg_on (turn_at turns k).arriving f) / MINUTES_PER_DAY) (length turns) ≡ sum_below (λ k. departs_at t f (turn_at turns k) / MINUTES_PER_DAY) (length turns)
   same_days = over_arrivals t a f turns map (λ l. departure t (leg_on l f) / MINUTES_PER_DAY) ∙ sym (over_departures t a f turns map (λ l. departure t (leg_on l f) / MINUTES_PER_DAY))
 
-  all_periods : sum_below (λ k. periods_in_turn t f (turn_at turns k)) (length turns) ≡ periods_of t a f turns
+  pub all_periods : sum_below (λ k. periods_in_turn t f (turn_at turns k)) (length turns) ≡ periods_of t a f turns
   all_periods =
       let parts = sum_below-add (λ k. laps_of t (leg_on (turn_at turns k).arriving f)) (λ k. bit (crosses t f (turn_at turns k))) (length turns) in
       let flown = over_arrivals t a f turns map (λ l. laps_of t (leg_on l f)) in

@@ -4,6 +4,7 @@ use Rattle.fleet_model.specs.declared.parts.Connection.{Connection}
 use Rattle.fleet_model.specs.declared.tables.Tables.{Tables}
 use Rattle.fleet_model.specs.Legal.{IsLegal}
 use Rattle.fleet_model.specs.Schedule.{fleets_in, legs_in}
+use Rattle.fleet_model.specs.Plain.{IsPlain}
 use Rattle.ground_turns.specs.Maps.{IsHeld}
 use Rattle.ground_turns.specs.Throughs.{IsThroughSet, value_of_set}
 use Rattle.ground_turns.proofs.SomeMap.{some_fits}
@@ -26,5 +27,5 @@ worth_most t a f pairs value u v chosen = record {
   listed = chosen.listed;
 }
 
-pub held_without : (t : Tables) (a : List ℕ) (f : ℕ) → IsLegal t a → f < fleets_in t → IsHeld t a f []
-held_without t a f legal known = some_fits t a f legal.balanced known
+pub held_without : (t : Tables) (a : List ℕ) (f : ℕ) → IsPlain t → IsLegal t a → f < fleets_in t → IsHeld t a f []
+held_without t a f plain legal known = some_fits t a f plain legal.balanced known

@@ -1,6 +1,7 @@
 ghost use Rattle.std.specs.Prelude.{◌≡◌, ◌<◌, ◌≤◌, ◌==◌, not, length, IfOk, []};
 ghost use Rattle.fleet_model.specs.Legal.{IsLegal};
 ghost use Rattle.fleet_model.specs.Schedule.{fleets_in};
+ghost use Rattle.fleet_model.specs.Plain.{IsPlain};
 ghost use Rattle.ground_turns.specs.Maps.{IsHeld};
 ghost use Rattle.fleet_rotations.specs.Rotations.{AreFlown, AreRotations, rotation_of};
 ghost use Rattle.plan_rotations.specs.Rotations.{ArePlanRotations, AreWorthMost, IsMadeRotation, IsRotationWith, IsSecond, are_some, is_given_up};
@@ -12,7 +13,7 @@ use fleet_rotations::FleetRotation;
 use std::alloc::Global;
 use through_flights::choose;
 
-/// The rotation of each fleet of a legal plan, in the order of the table: its through pairs of greatest value, what
+/// The rotation of each fleet of a legal plan on plain tables, in the order of the table: its through pairs of greatest value, what
 /// becomes of the rotation with them and, where no tour or no kept one holds them or the search is given up, what becomes
 /// of the one without. Each tour comes to maintenance at least every `days` nights; a search visits at most so many
 /// beginnings of tours.
@@ -23,6 +24,7 @@ pub fn rotations(
     days: u32,
     visits: u32,
 ) -> Result<Entries<FleetRotation>, NoMemory>
+    requires plain { IsPlain tables.now }
     requires plan { IsLegal tables.now plan.now }
     requires some_days { 0 < days }
     requires few_days { days ≤ 30 }
@@ -41,6 +43,7 @@ fn of_fleets(
     days: u32,
     visits: u32,
 ) -> Result<Entries<FleetRotation>, NoMemory>
+    requires plain { IsPlain tables.now }
     requires plan { IsLegal tables.now plan.now }
     requires some_days { 0 < days }
     requires few_days { days ≤ 30 }
@@ -62,6 +65,7 @@ fn rotation_of(
     days: u32,
     visits: u32,
 ) -> Result<FleetRotation, NoMemory>
+    requires plain { IsPlain tables.now }
     requires plan { IsLegal tables.now plan.now }
     requires fleet { fleet < fleets_in tables.now }
     requires some_days { 0 < days }
@@ -89,6 +93,7 @@ fn pairs_of(
     plan: &Assignment,
     fleet: u32,
 ) -> Result<Entries<Connection>, NoMemory>
+    requires plain { IsPlain tables.now }
     requires plan { IsLegal tables.now plan.now }
     requires fleet { fleet < fleets_in tables.now }
     ensures { IfOk result (AreWorthMost tables.now plan.now fleet) }
@@ -113,7 +118,7 @@ fn rotated(
     requires few_days { days ≤ 30 }
     ensures { IfOk result (IsRotationWith tables.now plan.now fleet pairs.now days visits) }
 {
-    Ok(rotate(alloc, tables, plan, fleet, pairs, days, visits)?)
+    Ok(rotate(alloc, tables, plan, fleet, pairs, days, u64::from(visits))?)
 }
 
 /// What becomes of it without pairs.
@@ -126,6 +131,7 @@ fn rotated_freely(
     days: u32,
     visits: u32,
 ) -> Result<Rotation, NoMemory>
+    requires plain { IsPlain tables.now }
     requires plan { IsLegal tables.now plan.now }
     requires fleet { fleet < fleets_in tables.now }
     requires some_days { 0 < days }

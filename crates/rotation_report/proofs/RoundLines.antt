@@ -1,5 +1,5 @@
 -- The lines of a tour, begun at any of them, are its legs.
-use Rattle.std.proofs.Common.{◌≡◌, ℕ, suc, ◌+◌, ◌-◌, ◌*◌, ◌/◌, ◌%◌, ◌<◌, ◌≤◌, IsPermutation, List, [], ◌∷◌, ◌++◌, length, slice_index_or, get_or, take, drop, refl, sym, ◌∙◌, ap, subst, subst₂, inl, inr, arith, length-append, add_comm, add-sub_cancel, mod-eq_of_lt}
+use Rattle.std.proofs.Common.{◌≡◌, ℕ, suc, ◌+◌, ◌-◌, ◌*◌, ◌%◌, ◌<◌, ◌≤◌, IsPermutation, List, [], ◌∷◌, ◌++◌, length, slice_index_or, get_or, take, drop, refl, sym, ◌∙◌, ap, subst, subst₂, inl, inr, arith, length-append, add_comm, add-sub_cancel, mod-eq_of_lt}
 use Rattle.std.specs.List.{concat}
 use Rattle.std.proofs.Math.Nat.{add-mod_right, mod-add-mod}
 use Rattle.std.proofs.lemmas.Bool.{cases_lt}
@@ -8,14 +8,13 @@ use Rattle.std.proofs.lemmas.List.Folds.{concat-append}
 use Rattle.std.proofs.lemmas.List.FromFn.{fill_by_all}
 use Rattle.std.proofs.lemmas.List.Sorted.{IsPermutation-append_comm}
 use Rattle.std.proofs.lemmas.Nat.{mod_below}
-use Rattle.fleet_model.specs.declared.limits.TheConstants.{MINUTES_PER_DAY}
 use Rattle.fleet_model.specs.declared.tables.Tables.{Tables}
 use Rattle.fleet_model.specs.Counts.{weights_of}
 use Rattle.fleet_model.specs.Use.{used_of}
+use Rattle.fleet_model.specs.Schedule.{days_in}
 use Rattle.ground_turns.specs.Maps.{IsTour}
-use Rattle.ground_turns.specs.Turns.{days_in, period_of}
 use Rattle.ground_turns.proofs.FirstOuts.{mod_cases}
-use Rattle.lines_of_flying.specs.Lines.{BeginsAfterNight, lines_of}
+use Rattle.lines_of_flying.specs.Lines.{BeginsAfterStart, lines_of}
 use Rattle.lines_of_flying.proofs.TourLines.{days_are_use}
 use Rattle.lines_of_flying.proofs.WholeTours.{lines_are_tour}
 use Rattle.rotation_report.specs.TailLaws.{ComesToNextLine, EachAircraftFliesAll, EachLegEachDate, FollowsNextAircraft, flown_by, flown_on}
@@ -91,7 +90,7 @@ some_lines (line ∷ lines) tour same some = omega arith
 
 -- ---- the lines of a tour
 
-module _ (t : Tables) (a : List ℕ) (f : ℕ) (tour : List ℕ) (is : IsTour t a f tour) (begins : BeginsAfterNight t f tour) where
+module _ (t : Tables) (a : List ℕ) (f : ℕ) (tour : List ℕ) (is : IsTour t a f tour) (begins : BeginsAfterStart t f tour) where
   lines : List (List ℕ)
   lines = lines_of t f tour
 
@@ -104,7 +103,7 @@ module _ (t : Tables) (a : List ℕ) (f : ℕ) (tour : List ℕ) (is : IsTour t 
 
   whole : concat lines ≡ tour
   unfolding lines
-  whole = lines_are_tour t f tour begins is.some
+  whole = lines_are_tour t f tour a is begins
 
   some : 0 < length lines
   some = some_lines lines tour whole is.some
@@ -147,12 +146,8 @@ module _ (t : Tables) (a : List ℕ) (f : ℕ) (tour : List ℕ) (is : IsTour t 
       next : (m d : ℕ) → m + d + 1 ≡ m + suc d
       next m d = omega arith
 
--- a period that is a day has one
-one_day : (t : Tables) → period_of t ≡ MINUTES_PER_DAY → days_in t ≡ 1
-one_day t day = ap (λ minutes. minutes / MINUTES_PER_DAY) day
-
 pub each_leg_each_date : EachLegEachDate
-each_leg_each_date t a f tour d is begins day = each_date t a f tour is begins d (one_day t day)
+each_leg_each_date t a f tour d is begins one = each_date t a f tour is begins d one
 
 pub each_aircraft_flies_all : EachAircraftFliesAll
 unfolding used

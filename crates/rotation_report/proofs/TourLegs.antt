@@ -5,7 +5,7 @@ use Rattle.std.proofs.lemmas.List.{append-nil}
 use Rattle.sums.proofs.Places.{get_or-list_below, length-list_below}
 use Rattle.fleet_model.specs.declared.tables.Tables.{Tables}
 use Rattle.fleet_model.specs.Schedule.{legs_in}
-use Rattle.lines_of_flying.specs.Lines.{AreLegs, day_of, legs_on_day, lines_of}
+use Rattle.lines_of_flying.specs.Lines.{AreLegs, day_of, days_of_tour, legs_on_day, lines_of}
 
 legs-append : (t : Tables) (xs ys : List ℕ) → AreLegs t xs → AreLegs t ys → AreLegs t (xs ++ ys)
 legs-append t xs ys front rest = record { each = at xs front }
@@ -30,7 +30,7 @@ day_legs t f tour known d (suc n) within =
 
 pub line_legs : (t : Tables) (f : ℕ) (tour : List ℕ) → AreLegs t tour → (k : ℕ) → k < length (lines_of t f tour) → AreLegs t (slice_index_or (lines_of t f tour) k [])
 line_legs t f tour known k below =
-    let nights = day_of t f tour (length tour) in
+    let nights = days_of_tour t f tour in
     let line = λ (d : ℕ). legs_on_day t f tour d (length tour) in
     let within : k < nights = rw (length-list_below line nights) at below in
     subst (AreLegs t) (sym (get_or-list_below line nights k [] within)) (day_legs t f tour known k (length tour) (omega arith))

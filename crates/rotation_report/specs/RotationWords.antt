@@ -4,12 +4,12 @@ use Rattle.std.specs.Fmt.{decimal}
 use Rattle.euler_rotation.specs.declared.rotation.Rotation.{Rotation}
 use Rattle.euler_rotation.specs.declared.rotation.Rotation.TheVariants as rotation
 use Rattle.fleet_model.specs.declared.tables.Tables.{Tables}
-use Rattle.lines_of_flying.specs.Lines.{day_of}
+use Rattle.lines_of_flying.specs.Lines.{days_of_tour}
 use Rattle.fleet_rotations.specs.declared.made.FleetRotation.{FleetRotation}
 
 -- the days of a tour: the nights from its first leg until it comes back to it
 abbrev pub days_of : Tables → ℕ → List ℕ → ℕ
-days_of t f tour = day_of t f tour (length tour)
+days_of t f tour = days_of_tour t f tour
 
 -- a rotation of a fleet in words
 abbrev pub words_of : Tables → ℕ → Rotation → List ℕ

@@ -1,13 +1,12 @@
 -- What the lines of tails come to: which legs are flown on a date, and which by an aircraft.
 use Rattle.std.specs.Prelude.{ℕ, suc, ◌+◌, ◌*◌, ◌%◌, ◌<◌, ◌≡◌, IsPermutation, List, [], length, slice_index_or}
 use Rattle.std.specs.List.{concat}
-use Rattle.fleet_model.specs.declared.limits.TheConstants.{MINUTES_PER_DAY}
 use Rattle.fleet_model.specs.declared.tables.Tables.{Tables}
 use Rattle.fleet_model.specs.Counts.{weights_of}
 use Rattle.fleet_model.specs.Use.{used_of}
+use Rattle.fleet_model.specs.Schedule.{days_in}
 use Rattle.ground_turns.specs.Maps.{IsTour}
-use Rattle.ground_turns.specs.Turns.{days_in, period_of}
-use Rattle.lines_of_flying.specs.Lines.{BeginsAfterNight, lines_of}
+use Rattle.lines_of_flying.specs.Lines.{BeginsAfterStart, lines_of}
 use Rattle.rotation_report.specs.Tails.{line_on, lines_by}
 use Rattle.rotation_report.specs.declared.flying.FleetLines.{FleetLines}
 use Rattle.sums.specs.Places.{list_below}
@@ -22,12 +21,12 @@ flown_by t flown k days = concat (list_below (λ d. line_on t flown d k) days)
 
 -- where the period is a day, each leg of a fleet's tour is flown on each date, by one aircraft
 abbrev pub EachLegEachDate : Type 0
-EachLegEachDate = (t : Tables) (a : List ℕ) (f : ℕ) (tour : List ℕ) (d : ℕ) → IsTour t a f tour → BeginsAfterNight t f tour → period_of t ≡ MINUTES_PER_DAY
+EachLegEachDate = (t : Tables) (a : List ℕ) (f : ℕ) (tour : List ℕ) (d : ℕ) → IsTour t a f tour → BeginsAfterStart t f tour → days_in t ≡ 1
     → IsPermutation (flown_on t (lines_by t a f tour) d) tour
 
 -- each aircraft flies each leg of the tour once, in as many days as the tour has
 abbrev pub EachAircraftFliesAll : Type 0
-EachAircraftFliesAll = (t : Tables) (a : List ℕ) (f : ℕ) (tour : List ℕ) (k : ℕ) → IsTour t a f tour → BeginsAfterNight t f tour
+EachAircraftFliesAll = (t : Tables) (a : List ℕ) (f : ℕ) (tour : List ℕ) (k : ℕ) → IsTour t a f tour → BeginsAfterStart t f tour
     → IsPermutation (flown_by t (lines_by t a f tour) k (used_of t (weights_of a) f * days_in t)) tour
 
 -- of a list of lines the one that is flown on a date, and on the next date the one after it, going round
@@ -39,7 +38,7 @@ pub record IsNextLine (lines : List (List ℕ)) (today tomorrow : List ℕ) : Ty
 
 -- an aircraft comes to the tour's next line each day
 abbrev pub ComesToNextLine : Type 0
-ComesToNextLine = (t : Tables) (a : List ℕ) (f : ℕ) (tour : List ℕ) (d k : ℕ) → IsTour t a f tour → BeginsAfterNight t f tour
+ComesToNextLine = (t : Tables) (a : List ℕ) (f : ℕ) (tour : List ℕ) (d k : ℕ) → IsTour t a f tour → BeginsAfterStart t f tour
     → IsNextLine (lines_of t f tour) (line_on t (lines_by t a f tour) d k) (line_on t (lines_by t a f tour) (suc d) k)
 
 -- a period later an aircraft flies what the next one flew

@@ -5,10 +5,9 @@ use Rattle.std.specs.List.{flat_map}
 use Rattle.euler_rotation.specs.declared.rotation.Rotation.{Rotation}
 use Rattle.euler_rotation.specs.declared.rotation.Rotation.TheVariants as rotation
 use Rattle.fleet_model.specs.Counts.{weights_of}
-use Rattle.fleet_model.specs.Schedule.{fleet_of, fleets_in, leg_of}
+use Rattle.fleet_model.specs.Schedule.{days_in, fleet_of, fleets_in, leg_of}
 use Rattle.fleet_model.specs.Use.{used_of}
 use Rattle.fleet_model.specs.declared.tables.Tables.{Tables}
-use Rattle.ground_turns.specs.Turns.{days_in}
 use Rattle.lines_of_flying.specs.Lines.{AreLegs, lines_of}
 use Rattle.calendar_dates.specs.Days.{Day, day_text, days_from, no_day}
 use Rattle.fleet_rotations.specs.Rotations.{last_made, rotation_of}

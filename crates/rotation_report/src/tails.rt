@@ -4,7 +4,7 @@ ghost use Rattle.std.specs.List.{flat_map};
 ghost use Rattle.fleet_model.specs.Legal.{IsAssignment};
 ghost use Rattle.fleet_model.specs.Schedule.{fleets_in};
 ghost use Rattle.ground_turns.specs.Maps.{IsTour};
-ghost use Rattle.lines_of_flying.specs.Lines.{AreLegs, BeginsAfterNight};
+ghost use Rattle.lines_of_flying.specs.Lines.{AreLegs, BeginsAfterStart};
 ghost use Rattle.calendar_dates.specs.Days.{HasDays, day_on};
 ghost use Rattle.fleet_rotations.specs.Rotations.{AreFlown, AreRotations, IsFleetRotation, IsFlown, last_made};
 ghost use Rattle.rotation_report.specs.Tails.{AreLinesOf, dated_line, day_lines, days_lines, fleet_tails, fleets_tails, flights_text, line_on, lines_by, no_tour_line, spaced_flight, tails_text};
@@ -15,7 +15,6 @@ use crate::words::rotation_words;
 use calendar_dates::dates_from;
 use entries::NoMemory;
 use euler_rotation::Rotation;
-use fleet_model::limits::{MINUTES_PER_DAY, MINUTES_PER_PERIOD};
 use fleet_model::{Assignment, Tables};
 use fleet_rotations::FleetRotation;
 use jiff::civil::Date;
@@ -104,7 +103,7 @@ fn push_tour(
     requires plan { IsAssignment tables.now plan.now }
     requires fleet { fleet < fleets_in tables.now }
     requires tour { IsTour tables.now plan.now fleet tour.now }
-    requires begins { BeginsAfterNight tables.now fleet tour.now }
+    requires begins { BeginsAfterStart tables.now fleet tour.now }
     requires few { length dates.now < 2 ^ 32 }
     ensures { OnOk result (text.new.items ≡ text.old.items ++ days_lines tables.now (lines_by tables.now plan.now fleet tour.now) (map day_on dates.now) (length (map day_on dates.now))) }
 {
@@ -156,7 +155,7 @@ fn lines_by(
     requires plan { IsAssignment tables.now plan.now }
     requires fleet { fleet < fleets_in tables.now }
     requires tour { IsTour tables.now plan.now fleet tour.now }
-    requires begins { BeginsAfterNight tables.now fleet tour.now }
+    requires begins { BeginsAfterStart tables.now fleet tour.now }
     ensures value { IfOk result (λ flown. flown ≡ lines_by tables.now plan.now fleet tour.now) }
     ensures fits { IfOk result (AreLinesOf tables.now) }
 {
@@ -242,7 +241,7 @@ fn line_on<'a>(tables: &Tables, flown: &'a FleetLines, day: u32, aircraft: u32) 
     ensures value { result.now ≡ line_on tables.now flown.now day aircraft }
     ensures legs { AreLegs tables.now result.now }
 {
-    let days = usize::from(MINUTES_PER_PERIOD / MINUTES_PER_DAY);
+    let days = tables.day_count() as usize;
     let place = (aircraft as usize * days + day as usize) % (flown.used as usize * days);
     flown.lines.as_slice()[place].as_slice()
 }

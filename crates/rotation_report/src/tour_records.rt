@@ -1,6 +1,7 @@
 //! The records of a tour: its legs, and the nights after each.
-ghost use Rattle.std.specs.Prelude.{◌≡◌, ◌<◌, [], ◌∷◌, OnOk, codes, length, map, replicate};
-ghost use Rattle.fleet_model.specs.Schedule.{fleets_in};
+ghost use Rattle.std.specs.Prelude.{◌≡◌, ◌<◌, ◌≤◌, [], ◌∷◌, OnOk, codes, length, map, replicate};
+ghost use Rattle.fleet_model.specs.Schedule.{fleets_in, leg_on, legs_in};
+ghost use Rattle.fleet_model.specs.Times.{nights_of};
 ghost use Rattle.ground_turns.specs.Maps.{turn_after};
 ghost use Rattle.ground_turns.specs.Nights.{nights_in_turn};
 ghost use Rattle.plan_text.specs.CsvText.{IsBetweenRecords};
@@ -12,7 +13,8 @@ use crate::record_writer::{Round, put_numbers, put_row};
 use crate::words::days_of;
 use csv::Writer;
 use entries::NoMemory;
-use fleet_model::{Tables, nights};
+use fleet_model::Tables;
+use ground_turns::flight;
 use lines_of_flying::nights_after;
 use std::alloc::Global;
 
@@ -76,7 +78,7 @@ fn put_nights(
     ensures { OnOk result (HasRows writer.old writer.new round.entry (map (night_row tables.now) (nights_in_turn tables.now fleet (turn_after tour.now place)))) }
 {
     let leg = tour[place];
-    let aloft = nights(tables, leg, fleet);
+    let aloft = nights_aloft(tables, fleet, leg);
     let waited = nights_after(tables, fleet, tour, place) - aloft;
     let station = tables.station(tables.leg(leg).to);
     put_same(writer, round, aloft, b"-", b"aloft")?;
@@ -88,6 +90,16 @@ fn put_nights(
         yes_no(station.maintenance),
     )?;
     Ok(())
+}
+
+/// The nights in the flight and the turn of a leg.
+fn nights_aloft(tables: &Tables, fleet: u32, leg: u32) -> u32
+    requires fleet { fleet < fleets_in tables.now }
+    requires leg { leg < legs_in tables.now }
+    ensures value { result ≡ nights_of tables.now (leg_on leg fleet) }
+    ensures few { result ≤ 2 }
+{
+    tables.nights(flight(tables, leg, fleet))
 }
 
 /// `yes` or `no`.

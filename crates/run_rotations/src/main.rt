@@ -23,7 +23,7 @@ use through_flights::choose;
 
 const DAYS: u32 = 3;
 
-const VISITS: u32 = 200_000;
+const VISITS: u64 = 200_000;
 
 fn main(rt: HostRuntime) -> Result<()> {
     let mut bytes = Vec::new(rt.alloc());

@@ -65,7 +65,7 @@ fn rotation_of(
     row: &Row,
     witness: &[(u32, u32)],
     days: u32,
-    visits: u32,
+    visits: u64,
 ) -> Result<Option<Rotation>, LoadError> {
     let (files, fleets, fleet, pairs) = row;
     let tables = read(alloc, files)?;
@@ -87,7 +87,7 @@ fn rotation_in(
     pairs: &[(u32, u32)],
     witness: &[(u32, u32)],
     days: u32,
-    visits: u32,
+    visits: u64,
 ) -> Result<Option<Rotation>, LoadError>
     requires plan { IsAssignment tables.now plan.now }
     requires fleet { fleet < fleets_in tables.now }
@@ -108,7 +108,7 @@ fn witnessed(
     pairs: &[Connection],
     witness: &[Connection],
     days: u32,
-    visits: u32,
+    visits: u64,
 ) -> Result<Option<Rotation>, NoMemory>
     requires plan { IsAssignment tables.now plan.now }
     requires fleet { fleet < fleets_in tables.now }

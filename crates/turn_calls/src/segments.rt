@@ -5,7 +5,7 @@ use std::test::Fail;
 
 #[test]
 fn turns_beside_moments_without_aircraft(rt: HostRuntime) -> Result<(), Fail> {
-    let segments = Segments::new(rt.alloc(), &[0, 539, 580, 1439])?;
+    let segments = Segments::new(rt.alloc(), 1440, &[0, 539, 580, 1439])?;
     let within = (segments.is_clean(540, 580), segments.is_clean(539, 560));
     assert_same(&rt, within, (true, false));
     let without_wait = (segments.is_clean(580, 580), segments.is_clean(580, 581));

@@ -9,7 +9,7 @@ use crate::turns::{fits, holds, turns_round};
 use entries::{Entries, NoMemory};
 use fleet_model::limits::MAX_LEGS;
 use fleet_model::{Assignment, Connection, LoadError, Tables};
-use lines_of_flying::{lines, nights_after, successors};
+use lines_of_flying::{lines, periods_after, successors};
 use std::alloc::Global;
 use std::process::Abort;
 use std::test::Fail;
@@ -213,7 +213,7 @@ fn toured(
     begun(alloc, tables, plan, tour)
 }
 
-/// The lines of a tour, where it begins after a night.
+/// The lines of a tour, where it begins after a period's start.
 fn begun(
     alloc: Global,
     tables: &Tables,
@@ -224,7 +224,7 @@ fn begun(
     requires fleet { 0 < fleets_in tables.now }
     requires tour { IsTour tables.now plan.now 0 tour.now }
 {
-    if nights_after(tables, 0, tour, tour.len() - 1) == 0 {
+    if periods_after(tables, 0, tour, tour.len() - 1) == 0 {
         return Ok(None);
     }
     Ok(Some(lines(alloc, tables, plan, 0, tour)?))

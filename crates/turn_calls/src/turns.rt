@@ -9,7 +9,8 @@ ghost use Rattle.ground_turns.specs.Maps.{HasTurn, Holds, IsFitting, arrivals_of
 ghost use Rattle.ground_turns.specs.Turns.{IsTurn};
 
 use entries::NoMemory;
-use fleet_model::{Assignment, Connection, Tables, laps, ready};
+use fleet_model::{Assignment, Connection, Tables};
+use ground_turns::flight;
 use plan_judge::used;
 use std::alloc::Global;
 
@@ -103,7 +104,8 @@ fn crossings(tables: &Tables, fleet: u32, turns: &[Connection]) -> u32
 {
     let mut count = 0;
     for turn in turns {
-        if tables.leg(turn.departing).dep < ready(tables, turn.arriving, fleet) {
+        let ready = tables.ready(flight(tables, turn.arriving, fleet));
+        if tables.departure(flight(tables, turn.departing, fleet)) < ready {
             count += 1;
         }
     }
@@ -121,7 +123,7 @@ fn lapping(tables: &Tables, plan: &Assignment, fleet: u32) -> u32
     let mut sum = 0;
     for leg in 0..tables.leg_count() {
         if plan.fleet(leg) == fleet {
-            sum += laps(tables, leg, fleet);
+            sum += tables.laps(flight(tables, leg, fleet));
         }
     }
     sum

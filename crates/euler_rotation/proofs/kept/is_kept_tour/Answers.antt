@@ -24,7 +24,7 @@ returns-then-not-are_met c = fails (λ kept. refuted c.if-not-are_met.ensures
 pub returns : goal.returns
 returns c = (
   (λ passed.
-      kept_from c.args.clean.now.asked.now.tables.now c.args.clean.now.asked.now.plan.now c.args.clean.now.asked.now.fleet c.args.clean.now.asked.now.pairs.now
+      kept_from c.args.clean.now.asked.now.tables.now c.args.clean.now.asked.now.plan.now c.args.clean.now.asked.now.fleet c.requires.asked.plain c.args.clean.now.asked.now.pairs.now
       c.args.clean.now.asked.now.days c.args.legs.now (some_flown c.is_empty.result (length c.args.legs.now) c.is_empty.ensures c.if-is_empty.false)
       (c.if-not-are_met.ensures.0 refl) (c.if-not-is_often.ensures.0 refl) (c.if-not-hold.ensures.0 refl) (c.is_order.ensures.0 passed)),
   (λ kept. c.is_order.ensures.1 (tour_order c.args.clean.now.asked.now.tables.now c.args.clean.now.asked.now.plan.now c.args.clean.now.asked.now.fleet c.args.legs.now kept.tour)),

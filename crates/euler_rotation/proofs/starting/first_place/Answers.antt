@@ -6,4 +6,4 @@ pub least_place-requires-clause-known : goal.least_place-requires-clause-known
 least_place-requires-clause-known c = tour_known c.args.asked.now.tables.now c.args.asked.now.plan.now c.args.asked.now.fleet c.args.tour.now c.requires.kept.tour
 
 pub unreachable-requires : goal.unreachable-requires
-unreachable-requires c = no_place c.args.asked.now.tables.now c.args.asked.now.fleet c.args.tour.now c.in-None.ensures c.requires.kept.kept.some
+unreachable-requires c = no_place c.args.asked.now.tables.now c.args.asked.now.fleet c.args.tour.now c.in-None.ensures c.args.asked.now.plan.now c.requires.kept.tour c.requires.kept.kept.some

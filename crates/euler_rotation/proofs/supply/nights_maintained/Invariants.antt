@@ -1,11 +1,10 @@
 use Rattle.std.proofs.Common.{◌≡◌, ◌≤◌, ◌*◌}
 use Rattle.sums.specs.Below.{sum_below}
 use Rattle.ground_turns.specs.Laws.{maintained_at}
-use Rattle.ground_turns.specs.Turns.{days_in}
 use Rattle.euler_rotation.proofs.supply.nights_maintained.Given as goal
 
 abbrev pub invariant-loop-station : goal.invariant-loop-station
 invariant-loop-station l = record {
   added : l.nights ≡ sum_below (maintained_at l.asked.tables.now l.asked.plan.now l.asked.fleet) l.station;
-  few : l.nights ≤ 2000 * days_in l.asked.tables.now * l.station;
+  few : l.nights ≤ 14000 * l.station;
 }

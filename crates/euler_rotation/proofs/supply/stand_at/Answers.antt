@@ -14,13 +14,13 @@ pub overflow_cast-result : goal.overflow_cast-result
 overflow_cast-result c = omega (
   arith,
   few _ _ _ _ (c.stand.ensures ∙ stand_of_fleet c.args.asked.now.tables.now (weights_of c.args.asked.now.plan.now) c.args.asked.now.fleet c.args.station c.args.minute)
-      (stand_few c.args.asked.now.tables.now c.args.asked.now.plan.now c.args.asked.now.fleet c.args.station c.args.minute)
+      (stand_few c.args.asked.now.tables.now c.args.asked.now.plan.now c.args.asked.now.fleet c.args.station c.args.minute c.requires.plain)
       (needed c.need-need.result _ _ (sym (need_of_fleet c.args.asked.now.tables.now (weights_of c.args.asked.now.plan.now) c.args.asked.now.fleet c.args.station) ∙ sym c.need-need.ensures.value) c.need-need.ensures.few)
       c.args.asked.now.tables.now.in_range.legs_fit.few,
 )
 
 pub returns-clause-few : goal.returns-clause-few
 returns-clause-few c = few _ _ _ _ (c.stand.ensures ∙ stand_of_fleet c.args.asked.now.tables.now (weights_of c.args.asked.now.plan.now) c.args.asked.now.fleet c.args.station c.args.minute)
-    (stand_few c.args.asked.now.tables.now c.args.asked.now.plan.now c.args.asked.now.fleet c.args.station c.args.minute)
+    (stand_few c.args.asked.now.tables.now c.args.asked.now.plan.now c.args.asked.now.fleet c.args.station c.args.minute c.requires.plain)
     (needed c.need-need.result _ _ (sym (need_of_fleet c.args.asked.now.tables.now (weights_of c.args.asked.now.plan.now) c.args.asked.now.fleet c.args.station) ∙ sym c.need-need.ensures.value) c.need-need.ensures.few)
     c.args.asked.now.tables.now.in_range.legs_fit.few

@@ -1,9 +1,9 @@
 use Rattle.std.proofs.Common.{◌*◌, ◌<◌, ℕ, [], List, length, slice_index_or, sym, ap, subst, ◌∙◌}
-use Rattle.ground_turns.specs.Turns.{days_in}
 use Rattle.lines_of_flying.proofs.TourLines.{known_legs}
 use Rattle.lines_of_flying.specs.Lines.{AreLegs}
 use Rattle.rotation_report.proofs.TourLegs.{line_legs}
 use Rattle.rotation_report.proofs.tails.lines_by.Goals as goal
+use Rattle.fleet_model.specs.Schedule.{days_in}
 
 pub returns-clause-fits : goal.returns-clause-fits
 returns-clause-fits c =

@@ -1,5 +1,5 @@
 use Rattle.lines_of_flying.proofs.TourLines.{known_legs}
 use Rattle.turn_calls.proofs.succeeding.begun.Goals as goal
 
-pub nights_after-requires-clause-known : goal.nights_after-requires-clause-known
-nights_after-requires-clause-known c = known_legs c.args.tables.now c.args.plan.now 0 c.args.tour.now c.requires.tour
+pub periods_after-requires-clause-known : goal.periods_after-requires-clause-known
+periods_after-requires-clause-known c = known_legs c.args.tables.now c.args.plan.now 0 c.args.tour.now c.requires.tour
