@@ -35,7 +35,7 @@ pub fn lifted_by_hint(
 }
 
 /// What a point gives, where it is an end.
-fn lifted_point(
+pub fn lifted_point(
     alloc: Global,
     program: &Program,
     point: &PointHint,
@@ -55,7 +55,7 @@ fn lifted_point(
 }
 
 /// What multipliers give, where they refuse all points.
-fn lifted_refusal(
+pub fn lifted_refusal(
     alloc: Global,
     program: &Program,
     refusal: &RefusalHint,

@@ -15,6 +15,8 @@ mod hint_lifts;
 #[cfg(test)]
 mod islands;
 #[cfg(test)]
+mod lift_limits;
+#[cfg(test)]
 mod lifting;
 #[cfg(test)]
 mod lifts;
