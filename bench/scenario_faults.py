@@ -1,11 +1,13 @@
 """Faults of the machine, and slips of a planner's, in runs of tools/scenarios."""
 
 import contextlib
+import os
 import shutil
 import subprocess
 
 from scenario_runs import BUILT, HUB_DAY, Run, is_root
 
+NOBODY = 65534
 AS_IS = ("as-is", "", "", "")
 THREE = [AS_IS, ("less", "", "", "aircraft A320 -1"), ("dearer", "", "", "cost E190 *1.1")]
 
@@ -20,7 +22,7 @@ def faults(tries, scratch, _):
         full_disk(tries, scratch, sound)
         no_writing(tries, scratch, sound)
     else:
-        tries.without("a full disk, and a folder that may not be written", "root, who mounts them")
+        tries.without("a full disk, and a folder that may not be written", "root, who mounts a disk and gives folders away")
 
 
 def slips(tries, scratch):
@@ -104,9 +106,17 @@ def full_disk(tries, scratch, sound):
 
 
 def no_writing(tries, scratch, sound):
+    """One scenario's folder belongs to somebody else. Root may write everywhere, so nobody runs it."""
     run = Run(scratch / "closed", HUB_DAY, THREE)
-    with mounted(run.place("less"), "ro"):
-        status, outcomes = run.on(2), [(it["scenario"], it["outcome"]) for it in run.summary()]
-        wanted = [("less", "NOT SOLVED"), ("as-is", "optimal"), ("dearer", "optimal")]
-        tries("a folder that may not be written", status != 0 and outcomes == wanted, f"{outcomes[0]}")
+    own = run.place("less")
+    own.mkdir(parents=True)
+    scratch.chmod(0o755)
+    for it in (run.folder, own.parent):
+        os.chown(it, NOBODY, NOBODY)
+    as_nobody = ["setpriv", f"--reuid={NOBODY}", f"--regid={NOBODY}", "--clear-groups"]
+    run.before = [*as_nobody, "env", f"HOME={run.folder}", f"XDG_CACHE_HOME={run.folder}", f"TMPDIR={run.folder}"]
+    status, outcomes = run.on(2), [(it["scenario"], it["outcome"]) for it in run.summary() or []]
+    wanted = [("less", "NOT SOLVED"), ("as-is", "optimal"), ("dearer", "optimal")]
+    tries("a folder that may not be written", status != 0 and outcomes == wanted, f"{outcomes[:1]}")
+    shutil.rmtree(own, ignore_errors=True)
     tries("opened again: the same summary", run.on(2) == 0 and run.summary() == sound.summary())
