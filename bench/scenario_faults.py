@@ -1,11 +1,13 @@
 """Faults of the machine, and slips of a planner's, in runs of tools/scenarios."""
 
 import contextlib
+import os
 import shutil
 import subprocess
 
 from scenario_runs import BUILT, HUB_DAY, Run, is_root
 
+NOBODY = 65534
 AS_IS = ("as-is", "", "", "")
 THREE = [AS_IS, ("less", "", "", "aircraft A320 -1"), ("dearer", "", "", "cost E190 *1.1")]
 
@@ -20,7 +22,7 @@ def faults(tries, scratch, _):
         full_disk(tries, scratch, sound)
         no_writing(tries, scratch, sound)
     else:
-        tries.without("a full disk, and a folder that may not be written", "root, who mounts them")
+        tries.without("a full disk, and a folder that may not be written", "root, who mounts a disk and gives folders away")
 
 
 def slips(tries, scratch):
@@ -34,7 +36,7 @@ def slips(tries, scratch):
     run = Run(scratch / "slips", HUB_DAY, rows)
     tries("slips are rows, and the run ends well", run.on(2) == 0)
     told = {it["scenario"]: (it["outcome"], it["told"]) for it in run.summary()}
-    tries("a bad table", told["bad"] == ("refused", "bad input: costs.csv record 4 kind 9"), told["bad"][1])
+    tries("a bad table", told["bad"] == ("refused", "bad input: costs.csv record 4 kind 7"), told["bad"][1])
     tries("fewer aircraft than none", told["many"][0] == "refused", told["many"][1])
     tries("a fleet that isn't there", told["who"] == ("refused", "cost B747 *1.1: fleets.csv has no B747"), told["who"][1])
     tries("words that are no call", told["words"][0] == "refused" and "usage" in told["words"][1], told["words"][1])
@@ -47,19 +49,21 @@ def slips(tries, scratch):
 
 def too_little_memory(tries, scratch, sound):
     """Each further try has twice the memory."""
-    run = Run(scratch / "memory", HUB_DAY, THREE, memory_mb=3, memory_kb_a_pair=0, pictures="false")
+    hungry = wrapped(scratch / "hungry", '[ "$(ulimit -S -v)" -ge 100000 ] || exit 8')
+    run = Run(scratch / "memory", HUB_DAY, THREE, memory_mb=64, memory_kb_a_pair=0, pictures="false", program=hungry)
     status, told = run.on(2), (run.folder / "engine").read_text(encoding="utf-8")
-    tries("too little memory at first", status == 0 and "memory ran out" in told and run.summary() == sound.summary())
-    run = Run(scratch / "never", HUB_DAY, THREE, pictures="false", program=starved(scratch))
+    is_told = "memory ran out (it might take 64 MB" in told and "128 MB" not in told
+    tries("too little memory at first", status == 0 and is_told and run.summary() == sound.summary())
+    starved = wrapped(scratch / "starved", 'case "$*" in solve*/less/*) exit 8 ;; esac')
+    run = Run(scratch / "never", HUB_DAY, THREE, pictures="false", program=starved)
     status = run.on(2)
     outcomes = [it["outcome"] for it in run.summary()]
     tries("memory that never suffices", status != 0 and outcomes == ["NOT SOLVED", "optimal", "optimal"], ", ".join(outcomes))
 
 
-def starved(scratch):
-    """Returns a program that has no memory for one scenario, whatever it is given."""
-    path = scratch / "starved"
-    path.write_text(f'#!/bin/sh\ncase "$*" in solve*/less/*) exit 8 ;; esac\nexec {BUILT} "$@"\n', encoding="utf-8")
+def wrapped(path, line):
+    """Returns a program that does a line of shell before it is the real one."""
+    path.write_text(f'#!/bin/sh\n{line}\nexec {BUILT} "$@"\n', encoding="utf-8")
     path.chmod(0o755)
     return path
 
@@ -104,9 +108,17 @@ def full_disk(tries, scratch, sound):
 
 
 def no_writing(tries, scratch, sound):
+    """One scenario's folder belongs to somebody else. Root may write everywhere, so nobody runs it."""
     run = Run(scratch / "closed", HUB_DAY, THREE)
-    with mounted(run.place("less"), "ro"):
-        status, outcomes = run.on(2), [(it["scenario"], it["outcome"]) for it in run.summary()]
-        wanted = [("less", "NOT SOLVED"), ("as-is", "optimal"), ("dearer", "optimal")]
-        tries("a folder that may not be written", status != 0 and outcomes == wanted, f"{outcomes[0]}")
+    own = run.place("less")
+    own.mkdir(parents=True)
+    scratch.chmod(0o755)
+    for it in (run.folder, own.parent):
+        os.chown(it, NOBODY, NOBODY)
+    as_nobody = ["setpriv", f"--reuid={NOBODY}", f"--regid={NOBODY}", "--clear-groups"]
+    run.before = [*as_nobody, "env", f"HOME={run.folder}", f"XDG_CACHE_HOME={run.folder}", f"TMPDIR={run.folder}"]
+    status, outcomes = run.on(2), [(it["scenario"], it["outcome"]) for it in run.summary() or []]
+    wanted = [("less", "NOT SOLVED"), ("as-is", "optimal"), ("dearer", "optimal")]
+    tries("a folder that may not be written", status != 0 and outcomes == wanted, f"{outcomes[:1]}")
+    shutil.rmtree(own, ignore_errors=True)
     tries("opened again: the same summary", run.on(2) == 0 and run.summary() == sound.summary())

@@ -51,10 +51,10 @@ class Run:
         (self.folder / "config.yaml").write_text("".join(f"{name}: {value}\n" for name, value in lines.items()), encoding="utf-8")
         with open(self.folder / "scenarios.csv", "w", newline="", encoding="utf-8") as out:
             csv.writer(out, lineterminator="\n").writerows([("scenario", "words", "folder", "changes"), *rows])
-        self.count = len(rows)
+        self.count, self.before = len(rows), []
 
     def words(self, profile, *more):
-        return ["snakemake", "-s", PLACE / "Snakefile", "--profile", PLACE / profile, "--directory", self.folder, *more]
+        return [*self.before, "snakemake", "-s", PLACE / "Snakefile", "--profile", PLACE / profile, "--directory", self.folder, *more]
 
     def start(self, profile, *more, environment=None):
         """Starts the engine, whose output stands in the file `engine` of the folder."""
