@@ -280,7 +280,11 @@ fn weight_by(
 {
     let weight = number_at(alloc, words, 3, left)?;
     let (leg, fleet) = pair_at(tables, known, words, left)?;
-    Ok(Weight { leg, choice: fleet, weight })
+    Ok(Weight {
+        leg,
+        choice: fleet,
+        weight,
+    })
 }
 
 /// A leg and a fleet by the second word and the third. Takes no memory.
