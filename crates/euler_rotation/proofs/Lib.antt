@@ -13,7 +13,6 @@ pub mod Marks
 pub mod WalkSteps
 pub mod Visiting
 pub mod LeastPlaces
-pub mod FewStand
 pub mod Answering
 pub mod FoundTours
 pub mod EntriesKept

@@ -27,7 +27,7 @@ pub(crate) fn first_leg(asked: &Asked<'_>) -> Option<u32>
 }
 
 /// The nights of each fitting map. Takes no memory.
-#[tactic(auto, using(stand_counts::proofs::FleetCounts::use_of_fleet))]
+#[tactic(auto, using(stand_counts::proofs::PlanCounts::use_of_plan))]
 pub(crate) fn nights_used(asked: &Asked<'_>) -> u32
     requires { IsAsked asked.now }
     ensures { result ≡ nights_used asked.now.tables.now asked.now.plan.now asked.now.fleet }
@@ -81,7 +81,7 @@ fn stands_by_day(asked: &Asked<'_>, station: u32) -> u32
 }
 
 // What stands at a station at the end of a minute.
-#[tactic(auto, using(stand_counts::proofs::FleetCounts::stand_of_fleet))]
+#[tactic(auto, using(stand_counts::proofs::PlanCounts::stand_of_plan))]
 fn stand_at(asked: &Asked<'_>, station: u32, minute: u16) -> u32
     requires { IsAsked asked.now }
     ensures value { result ≡ stand_of asked.now.tables.now (weights_of asked.now.plan.now) asked.now.fleet station minute }
