@@ -129,7 +129,7 @@ fn answers(
     limits: (u32, u32),
     wanted: Wanted,
 ) -> Result<bool, LoadError> {
-    let rotation = rotation_of(alloc, row, witness, limits.0, limits.1)?;
+    let rotation = rotation_of(alloc, row, witness, limits.0, u64::from(limits.1))?;
     match rotation {
         Some(rotation) => Ok(is_wanted(&rotation, wanted)),
         None => Ok(false),
