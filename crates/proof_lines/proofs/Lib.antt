@@ -1,0 +1,12 @@
+pub mod Choosing
+pub mod FigureWords
+pub mod LineWords
+pub mod Naming
+pub mod OneText
+pub mod ReadLines
+pub mod Shapes
+pub mod ShortestDigits
+pub mod Spaces
+pub mod WordForms
+pub mod WrittenLines
+pub mod WrittenNumbers

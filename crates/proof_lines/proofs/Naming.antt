@@ -1,0 +1,70 @@
+-- The numbers of names, and the names of numbers.
+use Rattle.std.proofs.Common.{◌≡◌, ◌≢◌, ℕ, zero, suc, ◌+◌, ◌<◌, Bool, true, false, cond, List, [], ◌∷◌, length, map, slice_index_or, bytes_eq, nat_lt, Some, None, Ok, AllPairs, refl, sym, ap, subst, ◌∙◌, arith}
+use Rattle.std.specs.List.{position, position_or_len}
+use Rattle.std.proofs.lemmas.Bool.Decides.{nat_tests}
+use Rattle.std.proofs.lemmas.List.{get_or-map, length-map}
+use Rattle.std.proofs.lemmas.List.Quantifiers.{position-Some}
+use Rattle.fleet_model.specs.Schedule.{fleets_in, legs_in, no_fleet, no_leg, no_station, stations_in}
+use Rattle.fleet_model.specs.declared.tables.Tables.{Tables}
+use Rattle.table_rows.specs.Names.{number_of}
+use Rattle.table_rows.proofs.Numbered.{bytes_eq-differ}
+use Rattle.proof_lines.specs.Known.{IsGrammarOf, fleet_in, leg_in, named, station_in}
+use Rattle.proof_lines.specs.LineText.{fleet_word, leg_word, station_word}
+use Rattle.proof_lines.specs.declared.grammar.Grammar.{Grammar}
+use Rattle.proof_lines.specs.declared.line.Version.{Version}
+use Rattle.proof_lines.proofs.Choosing.{named_some}
+use Rattle.proof_lines.proofs.FigureWords.{bytes_same, same_bytes}
+
+place_is : {E : Type 0} (name_of : E → List ℕ) (entries : List E) (d : E) (k : ℕ) → AllPairs (λ a b. name_of a ≢ name_of b) entries → k < length entries
+    → position_or_len (bytes_eq (name_of (slice_index_or entries k d))) (map name_of entries) ≡ k
+place_is name_of [] d k apart within = absurd (omega (arith, within))
+place_is name_of (entry ∷ entries) d zero apart within = rw (bytes_same (name_of entry) (name_of entry) refl) refl
+place_is name_of (entry ∷ entries) d (suc k) apart within =
+    rw (bytes_eq-differ (name_of (slice_index_or entries k d)) (name_of entry) (λ same. apart 0 (suc k) d (omega arith) within (sym same)))
+    (ap (λ n. 1 + n) (place_is name_of entries d k (λ i j d before within. apart (suc i) (suc j) d (omega arith) (omega arith)) (omega arith)) ∙ omega arith)
+
+named_at : {E : Type 0} (name_of : E → List ℕ) (entries : List E) (d : E) (k : ℕ) → AllPairs (λ a b. name_of a ≢ name_of b) entries → k < length entries
+    → position (bytes_eq (name_of (slice_index_or entries k d))) (map name_of entries) ≡ Some k
+named_at name_of entries d k apart within =
+    rw (place_is name_of entries d k apart within, length-map entries name_of) (by_test (nat_lt k (length entries)) (grind (arith, nat_tests, within)))
+  where
+    by_test : (b : Bool) → b ≡ true → cond b (Some k) None ≡ Some k
+    by_test true e = refl
+    by_test false e = absurd (cc e)
+
+-- a word that is known is the name of its number
+pub record NameOf (word name : List ℕ) (number many : ℕ) : Type 0 where
+  pub is : word ≡ name
+  pub known : number < many
+
+name_of_number : {E : Type 0} (name_of : E → List ℕ) (entries : List E) (d : E) (word : List ℕ) (k : ℕ) → position (bytes_eq word) (map name_of entries) ≡ Some k
+    → NameOf word (name_of (slice_index_or entries k d)) k (length entries)
+name_of_number name_of entries d word k is =
+    let found = position-Some (bytes_eq word) (map name_of entries) k [] is in
+    let within : k < length entries = subst (λ n. k < n) (length-map entries name_of) found.0 in
+    record { is = same_bytes word (name_of (slice_index_or entries k d)) (ap (bytes_eq word) (sym (get_or-map name_of entries k d [] within)) ∙ found.1); known = within }
+
+module _ (v : Version) (t : Tables) (grammar : Grammar) (of_tables : IsGrammarOf v t grammar) where
+  pub leg_written : (l : ℕ) → l < legs_in t → leg_in grammar (leg_word t l) ≡ Ok l
+  leg_written l is =
+      ap (λ names. named (number_of (leg_word t l) names)) of_tables.legs_are ∙ ap named (named_at (λ leg. leg.flight) t.legs no_leg l t.in_range.legs_fit.differ is)
+
+  pub fleet_written : (f : ℕ) → f < fleets_in t → fleet_in grammar (fleet_word t f) ≡ Ok f
+  fleet_written f is =
+      ap (λ names. named (number_of (fleet_word t f) names)) of_tables.fleets_are ∙ ap named (named_at (λ fleet. fleet.name) t.fleets no_fleet f t.in_range.fleets_fit.differ is)
+
+  pub station_written : (s : ℕ) → s < stations_in t → station_in grammar (station_word t s) ≡ Ok s
+  station_written s is =
+      ap (λ names. named (number_of (station_word t s) names)) of_tables.stations_are ∙ ap named (named_at (λ station. station.code) t.stations no_station s t.in_range.stations_fit.differ is)
+
+  pub leg_read : (word : List ℕ) (l : ℕ) → leg_in grammar word ≡ Ok l → NameOf word (leg_word t l) l (legs_in t)
+  leg_read word l is =
+      name_of_number (λ leg. leg.flight) t.legs no_leg word l (ap (λ names. number_of word names) (sym of_tables.legs_are) ∙ named_some (number_of word grammar.legs) l is)
+
+  pub fleet_read : (word : List ℕ) (f : ℕ) → fleet_in grammar word ≡ Ok f → NameOf word (fleet_word t f) f (fleets_in t)
+  fleet_read word f is =
+      name_of_number (λ fleet. fleet.name) t.fleets no_fleet word f (ap (λ names. number_of word names) (sym of_tables.fleets_are) ∙ named_some (number_of word grammar.fleets) f is)
+
+  pub station_read : (word : List ℕ) (s : ℕ) → station_in grammar word ≡ Ok s → NameOf word (station_word t s) s (stations_in t)
+  station_read word s is =
+      name_of_number (λ station. station.code) t.stations no_station word s (ap (λ names. number_of word names) (sym of_tables.stations_are) ∙ named_some (number_of word grammar.stations) s is)

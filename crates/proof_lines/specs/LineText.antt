@@ -1,0 +1,103 @@
+-- The text of a line: its words.
+use Rattle.std.specs.Prelude.{ℕ, ◌<◌, ◌≤◌, ◌^◌, ⊤, List, [], ◌∷◌, ◌++◌}
+use Rattle.std.specs.Fmt.{decimal, signed_decimal}
+use Rattle.fleet_model.specs.Schedule.{fleet_of, fleets_in, leg_of, legs_in, station_of, stations_in}
+use Rattle.fleet_model.specs.Use.{last_minute}
+use Rattle.fleet_model.specs.declared.tables.Tables.{Tables}
+use Rattle.dual_bound.specs.WrittenOrder.{IsFigure}
+use Rattle.proof_lines.specs.Figures.{version_word}
+use Rattle.proof_lines.specs.Forms.{form_of, keywords}
+use Rattle.proof_lines.specs.Words.{Word, joined, line_feed}
+use Rattle.proof_lines.specs.declared.line.Line.{Line}
+use Rattle.proof_lines.specs.declared.line.Line.TheVariants as line
+
+-- the word of a leg, a fleet, a choice and a station
+abbrev pub leg_word : Tables → ℕ → Word
+leg_word t leg = (leg_of t leg).flight
+
+abbrev pub fleet_word : Tables → ℕ → Word
+fleet_word t fleet = (fleet_of t fleet).name
+
+abbrev pub choice_word : Tables → ℕ → Word
+choice_word t choice = fleet_word t choice
+
+abbrev pub station_word : Tables → ℕ → Word
+station_word t station = (station_of t station).code
+
+-- the words behind those with which a line begins
+abbrev pub fields_of : Tables → Line → List Word
+fields_of t (line.Head version) = version_word version ∷ []
+fields_of t (line.Plan planned) = []
+fields_of t (line.Bare leg) = leg_word t leg ∷ []
+fields_of t line.Sole = []
+fields_of t line.Refuted = []
+fields_of t line.Priced = []
+fields_of t line.OpenNodes = []
+fields_of t (line.OpenPivots made) = decimal made ∷ []
+fields_of t (line.OpenGrew pivots row column) = decimal pivots ∷ decimal row ∷ decimal column ∷ []
+fields_of t (line.OpenLift step at) = decimal step ∷ decimal at ∷ []
+fields_of t (line.Trim leg choice) = leg_word t leg ∷ choice_word t choice ∷ []
+fields_of t (line.Split leg choice) = leg_word t leg ∷ choice_word t choice ∷ []
+fields_of t (line.Scale scale) = signed_decimal scale ∷ []
+fields_of t (line.Rent fleet rent) = fleet_word t fleet ∷ signed_decimal rent ∷ []
+fields_of t (line.At fleet station minute value) = fleet_word t fleet ∷ station_word t station ∷ decimal minute ∷ signed_decimal value ∷ []
+fields_of t (line.Mixed scale) = signed_decimal scale ∷ []
+fields_of t (line.Weight leg choice weight) = leg_word t leg ∷ choice_word t choice ∷ signed_decimal weight ∷ []
+fields_of t line.End = []
+
+-- the words of a line
+abbrev pub line_words : Tables → Line → List Word
+line_words t line = keywords (form_of line) ++ fields_of t line
+
+-- the bytes of a line, without its line feed and with it
+abbrev pub line_bytes : Tables → Line → List ℕ
+line_bytes t line = joined (line_words t line)
+
+abbrev pub text_of : Tables → Line → List ℕ
+text_of t line = line_bytes t line ++ line_feed ∷ []
+
+-- all that a line names is of the tables
+abbrev pub IsNamed : Tables → Line → Type 0
+IsNamed t (line.Head version) = ⊤
+IsNamed t (line.Plan planned) = ⊤
+IsNamed t (line.Bare leg) = leg < legs_in t
+IsNamed t line.Sole = ⊤
+IsNamed t line.Refuted = ⊤
+IsNamed t line.Priced = ⊤
+IsNamed t line.OpenNodes = ⊤
+IsNamed t (line.OpenPivots made) = ⊤
+IsNamed t (line.OpenGrew pivots row column) = ⊤
+IsNamed t (line.OpenLift step at) = ⊤
+IsNamed t (line.Trim leg choice) = (leg < legs_in t) × (choice < fleets_in t)
+IsNamed t (line.Split leg choice) = (leg < legs_in t) × (choice < fleets_in t)
+IsNamed t (line.Scale scale) = ⊤
+IsNamed t (line.Rent fleet rent) = fleet < fleets_in t
+IsNamed t (line.At fleet station minute value) = (fleet < fleets_in t) × (station < stations_in t)
+IsNamed t (line.Mixed scale) = ⊤
+IsNamed t (line.Weight leg choice weight) = (leg < legs_in t) × (choice < fleets_in t)
+IsNamed t line.End = ⊤
+
+-- a count of 64 bits
+abbrev pub IsCount : ℕ → Type 0
+IsCount n = n < 2 ^ 64
+
+-- all numbers of a line are such as a text may hold
+abbrev pub HasFigures : Line → Type 0
+HasFigures (line.Head version) = ⊤
+HasFigures (line.Plan planned) = ⊤
+HasFigures (line.Bare leg) = ⊤
+HasFigures line.Sole = ⊤
+HasFigures line.Refuted = ⊤
+HasFigures line.Priced = ⊤
+HasFigures line.OpenNodes = ⊤
+HasFigures (line.OpenPivots made) = IsCount made
+HasFigures (line.OpenGrew pivots row column) = IsCount pivots × IsCount row × IsCount column
+HasFigures (line.OpenLift step at) = IsCount step × IsCount at
+HasFigures (line.Trim leg choice) = ⊤
+HasFigures (line.Split leg choice) = ⊤
+HasFigures (line.Scale scale) = IsFigure scale
+HasFigures (line.Rent fleet rent) = IsFigure rent
+HasFigures (line.At fleet station minute value) = (minute ≤ last_minute) × IsFigure value
+HasFigures (line.Mixed scale) = IsFigure scale
+HasFigures (line.Weight leg choice weight) = IsFigure weight
+HasFigures line.End = ⊤

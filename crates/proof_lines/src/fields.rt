@@ -1,0 +1,222 @@
+//! What stands behind the first words of a line, read. Of several flaws of a line the one of the least kind is told.
+ghost use Rattle.std.specs.Prelude.{◌≡◌};
+ghost use Rattle.proof_lines.specs.Reading.{both, fields_in};
+ghost use Rattle.proof_lines.specs.Words.{seen};
+ghost use Rattle.proof_lines.specs.declared.forms.Form.TheVariants as form;
+
+use crate::figures::{count, minute, number, version};
+use crate::flaws::{Flaw, least};
+use crate::forms::Form;
+use crate::grammar::Grammar;
+use crate::line::Line;
+use crate::words::word_at;
+
+/// The line of a form by its words, of which there are as many as the form has. Takes no memory.
+#[tactic(auto, unfolding(crate::specs::Reading::fields_in))]
+pub fn fields(grammar: &Grammar, form: Form, words: &[&[u8]]) -> Result<Line, Flaw>
+    ensures { result ≡ fields_in grammar.now form (seen words.now) }
+{
+    match form {
+        Form::Head => head(grammar, words),
+        Form::PlanYes => Ok(Line::Plan { planned: true }),
+        Form::PlanNo => Ok(Line::Plan { planned: false }),
+        Form::Bare => bare(grammar, words),
+        Form::Sole => Ok(Line::Sole),
+        Form::Refuted => Ok(Line::Refuted),
+        Form::Priced => Ok(Line::Priced),
+        Form::OpenNodes => Ok(Line::OpenNodes),
+        Form::OpenPivots => pivots(grammar, words),
+        Form::OpenGrew => grew(grammar, words),
+        Form::OpenLift => lift(grammar, words),
+        Form::Trim => trim(grammar, words),
+        Form::Split => split(grammar, words),
+        Form::Scale => scale(grammar, words),
+        Form::Rent => rent(grammar, words),
+        Form::At => at(grammar, words),
+        Form::Mixed => mixed(grammar, words),
+        Form::Weight => weight(grammar, words),
+        Form::End => Ok(Line::End),
+    }
+}
+
+/// `fleet proof V`.
+#[tactic(auto, unfolding(crate::specs::Reading::fields_in))]
+fn head(_grammar: &Grammar, words: &[&[u8]]) -> Result<Line, Flaw>
+    ensures { result ≡ fields_in _grammar.now form.Head (seen words.now) }
+{
+    match version(word_at(words, 2)) {
+        Ok(version) => Ok(Line::Head(version)),
+        Err(flaw) => Err(flaw),
+    }
+}
+
+/// `bare FLIGHT`.
+#[tactic(auto, unfolding(crate::specs::Reading::fields_in))]
+fn bare(grammar: &Grammar, words: &[&[u8]]) -> Result<Line, Flaw>
+    ensures { result ≡ fields_in grammar.now form.Bare (seen words.now) }
+{
+    match grammar.leg(word_at(words, 1)) {
+        Ok(leg) => Ok(Line::Bare { leg }),
+        Err(flaw) => Err(flaw),
+    }
+}
+
+/// `open pivots N`.
+#[tactic(auto, unfolding(crate::specs::Reading::fields_in))]
+fn pivots(_grammar: &Grammar, words: &[&[u8]]) -> Result<Line, Flaw>
+    ensures { result ≡ fields_in _grammar.now form.OpenPivots (seen words.now) }
+{
+    match count(word_at(words, 2)) {
+        Ok(made) => Ok(Line::OpenPivots { made }),
+        Err(flaw) => Err(flaw),
+    }
+}
+
+/// `open grew N R C`.
+#[tactic(auto, unfolding(crate::specs::Reading::fields_in))]
+fn grew(_grammar: &Grammar, words: &[&[u8]]) -> Result<Line, Flaw>
+    ensures { result ≡ fields_in _grammar.now form.OpenGrew (seen words.now) }
+{
+    match both(
+        both(count(word_at(words, 2)), count(word_at(words, 3))),
+        count(word_at(words, 4)),
+    ) {
+        Ok(((pivots, row), column)) => Ok(Line::OpenGrew {
+            pivots,
+            row,
+            column,
+        }),
+        Err(flaw) => Err(flaw),
+    }
+}
+
+/// `open lift S A`.
+#[tactic(auto, unfolding(crate::specs::Reading::fields_in))]
+fn lift(_grammar: &Grammar, words: &[&[u8]]) -> Result<Line, Flaw>
+    ensures { result ≡ fields_in _grammar.now form.OpenLift (seen words.now) }
+{
+    match both(count(word_at(words, 2)), count(word_at(words, 3))) {
+        Ok((step, at)) => Ok(Line::OpenLift { step, at }),
+        Err(flaw) => Err(flaw),
+    }
+}
+
+/// `trim FLIGHT FLEET`.
+#[tactic(auto, unfolding(crate::specs::Reading::fields_in))]
+fn trim(grammar: &Grammar, words: &[&[u8]]) -> Result<Line, Flaw>
+    ensures { result ≡ fields_in grammar.now form.Trim (seen words.now) }
+{
+    match both(
+        grammar.leg(word_at(words, 1)),
+        grammar.choice(word_at(words, 2)),
+    ) {
+        Ok((leg, choice)) => Ok(Line::Trim { leg, choice }),
+        Err(flaw) => Err(flaw),
+    }
+}
+
+/// `split FLIGHT FLEET`.
+#[tactic(auto, unfolding(crate::specs::Reading::fields_in))]
+fn split(grammar: &Grammar, words: &[&[u8]]) -> Result<Line, Flaw>
+    ensures { result ≡ fields_in grammar.now form.Split (seen words.now) }
+{
+    match both(
+        grammar.leg(word_at(words, 1)),
+        grammar.choice(word_at(words, 2)),
+    ) {
+        Ok((leg, choice)) => Ok(Line::Split { leg, choice }),
+        Err(flaw) => Err(flaw),
+    }
+}
+
+/// `scale Q`.
+#[tactic(auto, unfolding(crate::specs::Reading::fields_in))]
+fn scale(_grammar: &Grammar, words: &[&[u8]]) -> Result<Line, Flaw>
+    ensures { result ≡ fields_in _grammar.now form.Scale (seen words.now) }
+{
+    match number(word_at(words, 1)) {
+        Ok(scale) => Ok(Line::Scale { scale }),
+        Err(flaw) => Err(flaw),
+    }
+}
+
+/// `rent FLEET R`.
+#[tactic(auto, unfolding(crate::specs::Reading::fields_in))]
+fn rent(grammar: &Grammar, words: &[&[u8]]) -> Result<Line, Flaw>
+    ensures { result ≡ fields_in grammar.now form.Rent (seen words.now) }
+{
+    match both(grammar.fleet(word_at(words, 1)), number(word_at(words, 2))) {
+        Ok((fleet, rent)) => Ok(Line::Rent { fleet, rent }),
+        Err(flaw) => Err(flaw),
+    }
+}
+
+/// `at FLEET STATION MINUTE VALUE`.
+#[tactic(auto, unfolding(crate::specs::Reading::fields_in))]
+fn at(grammar: &Grammar, words: &[&[u8]]) -> Result<Line, Flaw>
+    ensures { result ≡ fields_in grammar.now form.At (seen words.now) }
+{
+    match both(
+        both(
+            grammar.fleet(word_at(words, 1)),
+            grammar.station(word_at(words, 2)),
+        ),
+        both(minute(word_at(words, 3)), number(word_at(words, 4))),
+    ) {
+        Ok(((fleet, station), (minute, value))) => Ok(Line::At {
+            fleet,
+            station,
+            minute,
+            value,
+        }),
+        Err(flaw) => Err(flaw),
+    }
+}
+
+/// `mixed Q`.
+#[tactic(auto, unfolding(crate::specs::Reading::fields_in))]
+fn mixed(_grammar: &Grammar, words: &[&[u8]]) -> Result<Line, Flaw>
+    ensures { result ≡ fields_in _grammar.now form.Mixed (seen words.now) }
+{
+    match number(word_at(words, 1)) {
+        Ok(scale) => Ok(Line::Mixed { scale }),
+        Err(flaw) => Err(flaw),
+    }
+}
+
+/// `weight FLIGHT FLEET W`.
+#[tactic(auto, unfolding(crate::specs::Reading::fields_in))]
+fn weight(grammar: &Grammar, words: &[&[u8]]) -> Result<Line, Flaw>
+    ensures { result ≡ fields_in grammar.now form.Weight (seen words.now) }
+{
+    match both(
+        both(
+            grammar.leg(word_at(words, 1)),
+            grammar.choice(word_at(words, 2)),
+        ),
+        number(word_at(words, 3)),
+    ) {
+        Ok(((leg, choice), weight)) => Ok(Line::Weight {
+            leg,
+            choice,
+            weight,
+        }),
+        Err(flaw) => Err(flaw),
+    }
+}
+
+/// Two readings of one line, or the least of their flaws.
+fn both<A: Copy, B: Copy>(a: Result<A, Flaw>, b: Result<B, Flaw>) -> Result<(A, B), Flaw>
+    ensures { result ≡ both a b }
+{
+    match a {
+        Ok(a) => match b {
+            Ok(b) => Ok((a, b)),
+            Err(flaw) => Err(flaw),
+        },
+        Err(flaw) => match b {
+            Ok(_) => Err(flaw),
+            Err(other) => Err(least(flaw, other)),
+        },
+    }
+}

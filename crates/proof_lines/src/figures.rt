@@ -1,0 +1,85 @@
+//! The numbers that words write. Takes no memory.
+ghost use Rattle.std.specs.Prelude.{◌≡◌, ◌≤◌, IfSome, option_map, pos};
+ghost use Rattle.fleet_model.specs.Use.{last_minute};
+ghost use Rattle.proof_lines.specs.Figures.{count_in, figure, minute_in, natural_in, negative, number_in, signed_in, version_in};
+ghost use Rattle.dual_bound.specs.declared.prices.TheConstants.{MAX_SIZE};
+
+use crate::flaws::Flaw;
+use crate::line::Version;
+use crate::numerals::natural;
+use dual_bound::prices::MAX_SIZE;
+use fleet_model::limits::MINUTES_PER_PERIOD;
+
+/// The version that a word writes.
+pub fn version(word: &[u8]) -> Result<Version, Flaw>
+    ensures { result ≡ version_in word.now }
+{
+    if word == b"1".as_slice() {
+        Ok(Version::One)
+    } else {
+        Err(Flaw::Number)
+    }
+}
+
+/// The count of 64 bits that a word writes.
+pub fn count(word: &[u8]) -> Result<u64, Flaw>
+    ensures { result ≡ count_in word.now }
+{
+    match natural(18_446_744_073_709_551_615, word) {
+        Some(n) => Ok(n as u64),
+        None => Err(Flaw::Number),
+    }
+}
+
+/// The minute of the period that a word writes.
+pub fn minute(word: &[u8]) -> Result<u16, Flaw>
+    ensures { result ≡ minute_in word.now }
+{
+    match natural(u128::from(MINUTES_PER_PERIOD) - 1, word) {
+        Some(n) => Ok(n as u16),
+        None => Err(Flaw::Number),
+    }
+}
+
+/// The signed number that a word writes.
+pub fn number(word: &[u8]) -> Result<i128, Flaw>
+    ensures { result ≡ number_in word.now }
+{
+    match signed(word) {
+        Some(n) => Ok(n),
+        None => Err(Flaw::Number),
+    }
+}
+
+/// The number whose decimal form a word is, where its size is no more than `MAX_SIZE`.
+#[tactic(auto, unfolding(crate::specs::Figures::signed_in))]
+fn signed(word: &[u8]) -> Option<i128>
+    ensures { result ≡ signed_in word.now }
+{
+    match word.split_first() {
+        Some((b'-', digits)) => negative(natural(MAX_SIZE, digits)),
+        _ => positive(natural(MAX_SIZE, word)),
+    }
+}
+
+/// A number of this size with a minus; none of size 0 is written so.
+fn negative(size: Option<u128>) -> Option<i128>
+    requires { IfSome size (λ n. n ≤ MAX_SIZE) }
+    ensures { result ≡ negative size }
+{
+    match size {
+        None | Some(0) => None,
+        Some(n) => Some(-(n as i128)),
+    }
+}
+
+/// A number of this size without a minus.
+fn positive(size: Option<u128>) -> Option<i128>
+    requires { IfSome size (λ n. n ≤ MAX_SIZE) }
+    ensures { result ≡ option_map pos size }
+{
+    match size {
+        None => None,
+        Some(n) => Some(n as i128),
+    }
+}

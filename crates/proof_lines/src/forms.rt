@@ -1,0 +1,144 @@
+//! The forms of lines, told by the words with which they begin.
+ghost use Rattle.std.specs.Prelude.{◌≡◌};
+ghost use Rattle.proof_lines.specs.Forms.{all_forms, first_form, form_in, keywords, opens, width};
+ghost use Rattle.proof_lines.specs.Words.{seen, stands, word_at};
+
+use crate::words::stands;
+
+/// The form of a line: what its first words say.
+#[derive(Clone, Copy, Debug, PartialEq, Eq)]
+pub enum Form {
+    Head,
+    PlanYes,
+    PlanNo,
+    Bare,
+    Sole,
+    Refuted,
+    Priced,
+    OpenNodes,
+    OpenPivots,
+    OpenGrew,
+    OpenLift,
+    Trim,
+    Split,
+    Scale,
+    Rent,
+    At,
+    Mixed,
+    Weight,
+    End,
+}
+
+impl Form {
+    /// The word with which a line begins.
+    pub fn first_word(self) -> &'static [u8]
+        ensures { result.now ≡ word_at (keywords self) 0 }
+    {
+        match self {
+            Form::Head => b"fleet",
+            Form::PlanYes | Form::PlanNo => b"plan",
+            Form::Bare => b"bare",
+            Form::Sole => b"sole",
+            Form::Refuted => b"refuted",
+            Form::Priced => b"priced",
+            Form::OpenNodes | Form::OpenPivots | Form::OpenGrew | Form::OpenLift => b"open",
+            Form::Trim => b"trim",
+            Form::Split => b"split",
+            Form::Scale => b"scale",
+            Form::Rent => b"rent",
+            Form::At => b"at",
+            Form::Mixed => b"mixed",
+            Form::Weight => b"weight",
+            Form::End => b"end",
+        }
+    }
+
+    /// The second word, where that tells the form too, and else none.
+    pub fn second_word(self) -> &'static [u8]
+        ensures { result.now ≡ word_at (keywords self) 1 }
+    {
+        match self {
+            Form::Head => b"proof",
+            Form::PlanYes => b"yes",
+            Form::PlanNo => b"no",
+            Form::OpenNodes => b"nodes",
+            Form::OpenPivots => b"pivots",
+            Form::OpenGrew => b"grew",
+            Form::OpenLift => b"lift",
+            _ => b"",
+        }
+    }
+
+    /// How many words a line has.
+    pub fn width(self) -> usize
+        ensures { result ≡ width self }
+    {
+        match self {
+            Form::Sole | Form::Refuted | Form::Priced | Form::End => 1,
+            Form::PlanYes
+            | Form::PlanNo
+            | Form::Bare
+            | Form::OpenNodes
+            | Form::Scale
+            | Form::Mixed => 2,
+            Form::Head | Form::OpenPivots | Form::Trim | Form::Split | Form::Rent => 3,
+            Form::OpenLift | Form::Weight => 4,
+            Form::OpenGrew | Form::At => 5,
+        }
+    }
+}
+
+/// The form that the first words of a line say, where they begin one. Takes no memory.
+pub fn form_in(words: &[&[u8]]) -> Option<Form>
+    ensures { result ≡ form_in (seen words.now) }
+{
+    first_form(words, &all_forms())
+}
+
+/// All forms. Those of which a proof has most lines stand first, since they are tried in this order.
+#[tactic(auto, unfolding(crate::specs::Forms::all_forms))]
+fn all_forms() -> [Form; 19]
+    ensures { result ≡ all_forms }
+{
+    [
+        Form::At,
+        Form::Weight,
+        Form::Rent,
+        Form::Scale,
+        Form::Mixed,
+        Form::Split,
+        Form::Trim,
+        Form::Bare,
+        Form::Sole,
+        Form::Refuted,
+        Form::Priced,
+        Form::OpenNodes,
+        Form::OpenPivots,
+        Form::OpenGrew,
+        Form::OpenLift,
+        Form::Head,
+        Form::PlanYes,
+        Form::PlanNo,
+        Form::End,
+    ]
+}
+
+/// The first of some forms as whose lines words begin.
+fn first_form(words: &[&[u8]], forms: &[Form]) -> Option<Form>
+    ensures { result ≡ first_form (seen words.now) forms.now }
+{
+    let (form, rest) = forms.split_first()?;
+    if opens(words, *form) {
+        Some(*form)
+    } else {
+        first_form(words, rest)
+    }
+}
+
+/// Whether words begin as those of a form.
+fn opens(words: &[&[u8]], form: Form) -> bool
+    ensures { result ≡ opens (seen words.now) form }
+{
+    stands(words, 0, form.first_word())
+        && (form.second_word().is_empty() || stands(words, 1, form.second_word()))
+}

@@ -1,0 +1,116 @@
+ghost use Rattle.std.specs.Prelude.{◌≡◌};
+ghost use Rattle.proof_lines.specs.Forms.{form_of};
+
+use crate::forms::Form;
+
+/// A version of the text of a proof.
+#[derive(Clone, Copy, Debug, PartialEq, Eq)]
+pub enum Version {
+    /// `1`.
+    One,
+}
+
+/// What a line of the text of a proof says.
+#[derive(Clone, Copy, Debug, PartialEq, Eq)]
+pub enum Line {
+    /// `fleet proof 1`: the first line, with the version of the text.
+    Head(Version),
+    /// `plan yes` or `plan no`: whether a plan comes with the proof.
+    Plan {
+        planned: bool,
+    },
+    /// `bare FLIGHT`: a leaf where this leg keeps no fleet.
+    Bare {
+        leg: u32,
+    },
+    /// `sole`: a leaf where each leg keeps one fleet.
+    Sole,
+    /// `refuted`: a leaf that the prices behind refute.
+    Refuted,
+    /// `priced`: a leaf that the prices behind close.
+    Priced,
+    /// `open nodes`: a leaf that stayed open, since no more splits were allowed.
+    OpenNodes,
+    /// `open pivots N`: a leaf that stayed open, since no more pivots were allowed.
+    OpenPivots {
+        made: u64,
+    },
+    /// `open grew N R C`: a leaf that stayed open, since a number outgrew its range.
+    OpenGrew {
+        pivots: u64,
+        row: u64,
+        column: u64,
+    },
+    /// `open lift S A`: a leaf that stayed open, since its prices outgrew their range.
+    OpenLift {
+        step: u64,
+        at: u64,
+    },
+    /// `trim FLIGHT FLEET`: a pair is set aside.
+    Trim {
+        leg: u32,
+        choice: u32,
+    },
+    /// `split FLIGHT FLEET`: the subproblem is split by a pair.
+    Split {
+        leg: u32,
+        choice: u32,
+    },
+    /// `scale Q`: what the prices behind are over.
+    Scale {
+        scale: i128,
+    },
+    /// `rent FLEET R`: the rent of an aircraft.
+    Rent {
+        fleet: u32,
+        rent: i128,
+    },
+    /// `at FLEET STATION MINUTE VALUE`: a step of a price.
+    At {
+        fleet: u32,
+        station: u32,
+        minute: u16,
+        value: i128,
+    },
+    /// `mixed Q`: what the weights behind are over.
+    Mixed {
+        scale: i128,
+    },
+    /// `weight FLIGHT FLEET W`: the weight of a pair.
+    Weight {
+        leg: u32,
+        choice: u32,
+        weight: i128,
+    },
+    /// `end`: the last line.
+    End,
+}
+
+impl Line {
+    /// The form of a line. Takes no memory.
+    pub fn form(self) -> Form
+        ensures { result ≡ form_of self }
+    {
+        match self {
+            Line::Head(_) => Form::Head,
+            Line::Plan { planned: true } => Form::PlanYes,
+            Line::Plan { planned: false } => Form::PlanNo,
+            Line::Bare { .. } => Form::Bare,
+            Line::Sole => Form::Sole,
+            Line::Refuted => Form::Refuted,
+            Line::Priced => Form::Priced,
+            Line::OpenNodes => Form::OpenNodes,
+            Line::OpenPivots { .. } => Form::OpenPivots,
+            Line::OpenGrew { .. } => Form::OpenGrew,
+            Line::OpenLift { .. } => Form::OpenLift,
+            Line::Trim { .. } => Form::Trim,
+            Line::Split { .. } => Form::Split,
+            Line::Scale { .. } => Form::Scale,
+            Line::Rent { .. } => Form::Rent,
+            Line::At { .. } => Form::At,
+            Line::Mixed { .. } => Form::Mixed,
+            Line::Weight { .. } => Form::Weight,
+            Line::End => Form::End,
+        }
+    }
+}

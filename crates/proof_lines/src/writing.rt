@@ -1,0 +1,149 @@
+//! A line, written.
+ghost use Rattle.std.specs.Prelude.{◌≡◌, ◌++◌, ◌∷◌, ◌<◌, OnOk};
+ghost use Rattle.std.specs.Fmt.{decimal, signed_decimal};
+ghost use Rattle.fleet_model.specs.Schedule.{fleet_of, fleets_in, leg_of, legs_in, station_of, stations_in};
+ghost use Rattle.proof_lines.specs.Forms.{form_of, keywords};
+ghost use Rattle.proof_lines.specs.LineText.{IsNamed, choice_word, fields_of, fleet_word, leg_word, station_word, text_of};
+ghost use Rattle.proof_lines.specs.Words.{joined, spaced, spaced_words};
+ghost use Rattle.proof_lines.specs.declared.line.Line.TheVariants as line;
+
+use crate::forms::Form;
+use crate::line::{Line, Version};
+use entries::NoMemory;
+use fleet_model::Tables;
+use std::alloc::Global;
+
+/// Appends a line with its line feed. The one error is want of memory.
+pub fn push_line(
+    alloc: Global,
+    text: &mut Vec<u8>,
+    tables: &Tables,
+    line: &Line,
+) -> Result<(), NoMemory>
+    requires { IsNamed tables.now line.now }
+    ensures { OnOk result (text.new.items ≡ text.old.items ++ text_of tables.now line.now) }
+{
+    push_keywords(text, line.form())?;
+    push_fields(alloc, text, tables, line)?;
+    text.push(b'\n')?;
+    Ok(())
+}
+
+/// Appends the words with which a line begins.
+fn push_keywords(text: &mut Vec<u8>, form: Form) -> Result<(), NoMemory>
+    ensures { OnOk result (text.new.items ≡ text.old.items ++ joined (keywords form)) }
+{
+    text.extend_from_slice(form.first_word())?;
+    let second = form.second_word();
+    if second.is_empty() {
+        return Ok(());
+    }
+    push_word(text, second)
+}
+
+/// Appends a space and a word.
+fn push_word(text: &mut Vec<u8>, word: &[u8]) -> Result<(), NoMemory>
+    ensures { OnOk result (text.new.items ≡ text.old.items ++ spaced word.now) }
+{
+    text.push(b' ')?;
+    text.extend_from_slice(word)?;
+    Ok(())
+}
+
+/// Appends what stands behind the first words of a line.
+fn push_fields(
+    alloc: Global,
+    text: &mut Vec<u8>,
+    tables: &Tables,
+    line: &Line,
+) -> Result<(), NoMemory>
+    requires { IsNamed tables.now line.now }
+    ensures { OnOk result (text.new.items ≡ text.old.items ++ spaced_words (fields_of tables.now line.now)) }
+{
+    match line {
+        Line::Head(Version::One) => push_word(text, b"1"),
+        Line::Plan { .. }
+        | Line::Sole
+        | Line::Refuted
+        | Line::Priced
+        | Line::OpenNodes
+        | Line::End => Ok(()),
+        Line::Bare { leg } => push_word(text, tables.leg(*leg).flight.as_slice()),
+        Line::OpenPivots { made } => push_count(alloc, text, *made),
+        Line::OpenGrew {
+            pivots,
+            row,
+            column,
+        } => {
+            push_count(alloc, text, *pivots)?;
+            push_count(alloc, text, *row)?;
+            push_count(alloc, text, *column)
+        }
+        Line::OpenLift { step, at } => {
+            push_count(alloc, text, *step)?;
+            push_count(alloc, text, *at)
+        }
+        Line::Trim { leg, choice } | Line::Split { leg, choice } => {
+            push_pair(text, tables, *leg, *choice)
+        }
+        Line::Scale { scale } | Line::Mixed { scale } => push_number(alloc, text, *scale),
+        Line::Rent { fleet, rent } => {
+            push_word(text, tables.fleet(*fleet).name.as_slice())?;
+            push_number(alloc, text, *rent)
+        }
+        Line::At {
+            fleet,
+            station,
+            minute,
+            value,
+        } => {
+            push_place(text, tables, *fleet, *station)?;
+            push_count(alloc, text, u64::from(*minute))?;
+            push_number(alloc, text, *value)
+        }
+        Line::Weight {
+            leg,
+            choice,
+            weight,
+        } => {
+            push_pair(text, tables, *leg, *choice)?;
+            push_number(alloc, text, *weight)
+        }
+    }
+}
+
+/// Appends a flight and a choice.
+fn push_pair(text: &mut Vec<u8>, tables: &Tables, leg: u32, choice: u32) -> Result<(), NoMemory>
+    requires leg { leg < legs_in tables.now }
+    requires choice { choice < fleets_in tables.now }
+    ensures { OnOk result (text.new.items ≡ text.old.items ++ spaced (leg_word tables.now leg) ++ spaced (choice_word tables.now choice)) }
+{
+    push_word(text, tables.leg(leg).flight.as_slice())?;
+    push_word(text, tables.fleet(choice).name.as_slice())
+}
+
+/// Appends a fleet and a station.
+fn push_place(text: &mut Vec<u8>, tables: &Tables, fleet: u32, station: u32) -> Result<(), NoMemory>
+    requires fleet { fleet < fleets_in tables.now }
+    requires station { station < stations_in tables.now }
+    ensures { OnOk result (text.new.items ≡ text.old.items ++ spaced (fleet_word tables.now fleet) ++ spaced (station_word tables.now station)) }
+{
+    push_word(text, tables.fleet(fleet).name.as_slice())?;
+    push_word(text, tables.station(station).code.as_slice())
+}
+
+/// Appends a number without a sign.
+fn push_count(alloc: Global, text: &mut Vec<u8>, count: u64) -> Result<(), NoMemory>
+    ensures { OnOk result (text.new.items ≡ text.old.items ++ spaced (decimal count)) }
+{
+    let digits = count.to_string(alloc)?;
+    push_word(text, digits.as_bytes())
+}
+
+/// Appends a signed number.
+fn push_number(alloc: Global, text: &mut Vec<u8>, number: i128) -> Result<(), NoMemory>
+    ensures { OnOk result (text.new.items ≡ text.old.items ++ spaced (signed_decimal number)) }
+{
+    let digits = number.to_string(alloc)?;
+    push_word(text, digits.as_bytes())
+}
