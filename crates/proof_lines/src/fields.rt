@@ -1,6 +1,6 @@
 //! What stands behind the first words of a line, read. Of several flaws of a line the one of the least kind is told.
 ghost use Rattle.std.specs.Prelude.{◌≡◌};
-ghost use Rattle.proof_lines.specs.Reading.{both, fields_in};
+ghost use Rattle.proof_lines.specs.Reading.{both, fields_in, grew_in, head_in, lift_in, mixed_in, pivots_in, scale_in};
 ghost use Rattle.proof_lines.specs.Words.{seen};
 ghost use Rattle.proof_lines.specs.declared.forms.Form.TheVariants as form;
 
@@ -17,7 +17,7 @@ pub fn fields(grammar: &Grammar, form: Form, words: &[&[u8]]) -> Result<Line, Fl
     ensures { result ≡ fields_in grammar.now form (seen words.now) }
 {
     match form {
-        Form::Head => head(grammar, words),
+        Form::Head => head(words),
         Form::PlanYes => Ok(Line::Plan { planned: true }),
         Form::PlanNo => Ok(Line::Plan { planned: false }),
         Form::Bare => bare(grammar, words),
@@ -25,24 +25,23 @@ pub fn fields(grammar: &Grammar, form: Form, words: &[&[u8]]) -> Result<Line, Fl
         Form::Refuted => Ok(Line::Refuted),
         Form::Priced => Ok(Line::Priced),
         Form::OpenNodes => Ok(Line::OpenNodes),
-        Form::OpenPivots => pivots(grammar, words),
-        Form::OpenGrew => grew(grammar, words),
-        Form::OpenLift => lift(grammar, words),
+        Form::OpenPivots => pivots(words),
+        Form::OpenGrew => grew(words),
+        Form::OpenLift => lift(words),
         Form::Trim => trim(grammar, words),
         Form::Split => split(grammar, words),
-        Form::Scale => scale(grammar, words),
+        Form::Scale => scale(words),
         Form::Rent => rent(grammar, words),
         Form::At => at(grammar, words),
-        Form::Mixed => mixed(grammar, words),
+        Form::Mixed => mixed(words),
         Form::Weight => weight(grammar, words),
         Form::End => Ok(Line::End),
     }
 }
 
 /// `fleet proof V`.
-#[tactic(auto, unfolding(crate::specs::Reading::fields_in))]
-fn head(_grammar: &Grammar, words: &[&[u8]]) -> Result<Line, Flaw>
-    ensures { result ≡ fields_in _grammar.now form.Head (seen words.now) }
+fn head(words: &[&[u8]]) -> Result<Line, Flaw>
+    ensures { result ≡ head_in (seen words.now) }
 {
     match version(word_at(words, 2)) {
         Ok(version) => Ok(Line::Head(version)),
@@ -62,9 +61,8 @@ fn bare(grammar: &Grammar, words: &[&[u8]]) -> Result<Line, Flaw>
 }
 
 /// `open pivots N`.
-#[tactic(auto, unfolding(crate::specs::Reading::fields_in))]
-fn pivots(_grammar: &Grammar, words: &[&[u8]]) -> Result<Line, Flaw>
-    ensures { result ≡ fields_in _grammar.now form.OpenPivots (seen words.now) }
+fn pivots(words: &[&[u8]]) -> Result<Line, Flaw>
+    ensures { result ≡ pivots_in (seen words.now) }
 {
     match count(word_at(words, 2)) {
         Ok(made) => Ok(Line::OpenPivots { made }),
@@ -73,9 +71,8 @@ fn pivots(_grammar: &Grammar, words: &[&[u8]]) -> Result<Line, Flaw>
 }
 
 /// `open grew N R C`.
-#[tactic(auto, unfolding(crate::specs::Reading::fields_in))]
-fn grew(_grammar: &Grammar, words: &[&[u8]]) -> Result<Line, Flaw>
-    ensures { result ≡ fields_in _grammar.now form.OpenGrew (seen words.now) }
+fn grew(words: &[&[u8]]) -> Result<Line, Flaw>
+    ensures { result ≡ grew_in (seen words.now) }
 {
     match both(
         both(count(word_at(words, 2)), count(word_at(words, 3))),
@@ -91,9 +88,8 @@ fn grew(_grammar: &Grammar, words: &[&[u8]]) -> Result<Line, Flaw>
 }
 
 /// `open lift S A`.
-#[tactic(auto, unfolding(crate::specs::Reading::fields_in))]
-fn lift(_grammar: &Grammar, words: &[&[u8]]) -> Result<Line, Flaw>
-    ensures { result ≡ fields_in _grammar.now form.OpenLift (seen words.now) }
+fn lift(words: &[&[u8]]) -> Result<Line, Flaw>
+    ensures { result ≡ lift_in (seen words.now) }
 {
     match both(count(word_at(words, 2)), count(word_at(words, 3))) {
         Ok((step, at)) => Ok(Line::OpenLift { step, at }),
@@ -130,9 +126,8 @@ fn split(grammar: &Grammar, words: &[&[u8]]) -> Result<Line, Flaw>
 }
 
 /// `scale Q`.
-#[tactic(auto, unfolding(crate::specs::Reading::fields_in))]
-fn scale(_grammar: &Grammar, words: &[&[u8]]) -> Result<Line, Flaw>
-    ensures { result ≡ fields_in _grammar.now form.Scale (seen words.now) }
+fn scale(words: &[&[u8]]) -> Result<Line, Flaw>
+    ensures { result ≡ scale_in (seen words.now) }
 {
     match number(word_at(words, 1)) {
         Ok(scale) => Ok(Line::Scale { scale }),
@@ -174,9 +169,8 @@ fn at(grammar: &Grammar, words: &[&[u8]]) -> Result<Line, Flaw>
 }
 
 /// `mixed Q`.
-#[tactic(auto, unfolding(crate::specs::Reading::fields_in))]
-fn mixed(_grammar: &Grammar, words: &[&[u8]]) -> Result<Line, Flaw>
-    ensures { result ≡ fields_in _grammar.now form.Mixed (seen words.now) }
+fn mixed(words: &[&[u8]]) -> Result<Line, Flaw>
+    ensures { result ≡ mixed_in (seen words.now) }
 {
     match number(word_at(words, 1)) {
         Ok(scale) => Ok(Line::Mixed { scale }),
