@@ -115,16 +115,8 @@ fn steps_are_taken_and_taken_back(rt: HostRuntime) -> Result<(), Fail> {
         (1, 0, false, [[true, true], [false, false]], Some(1), None),
         (1, 1, true, [[true, true], [false, false]], Some(1), None),
     ];
-    for (leg, fleet, yes, left, bare_leg, sole) in cases {
-        let seen = seen_after(
-            &tables,
-            &mut kept,
-            Step {
-                leg,
-                choice: fleet,
-                yes,
-            },
-        );
+    for (leg, choice, yes, left, bare_leg, sole) in cases {
+        let seen = seen_after(&tables, &mut kept, Step { leg, choice, yes });
         assert_same(&rt, seen, Some((left, Ends { bare_leg, sole })));
         assert_same(&rt, pairs_of(&kept), [[true, true], [true, false]]);
     }

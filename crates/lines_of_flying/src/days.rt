@@ -4,7 +4,7 @@ ghost use Rattle.fleet_model.specs.Counts.{weights_of};
 ghost use Rattle.fleet_model.specs.Legal.{IsAssignment};
 ghost use Rattle.fleet_model.specs.Schedule.{days_in, fleets_in, legs_in};
 ghost use Rattle.fleet_model.specs.Use.{used_of};
-ghost use Rattle.ground_turns.specs.Maps.{IsTour};
+ghost use Rattle.ground_turns.specs.Maps.{IsTour, turn_after};
 ghost use Rattle.lines_of_flying.specs.Lines.{AreLegs, BeginsAfterStart, first_day, line_after, lines_ended, lines_of, nights_after, periods_after};
 
 use entries::{Entries, NoMemory};
@@ -88,10 +88,7 @@ pub fn nights_after(tables: &Tables, fleet: u32, tour: &[u32], place: usize) -> 
     requires place { place < length tour.now }
     ensures { result ≡ nights_after tables.now fleet tour.now place }
 {
-    let turn = Connection {
-        arriving: tour[place],
-        departing: tour[(place + 1) % tour.len()],
-    };
+    let turn = turn_after(tour, place);
     tables.nights(flight(tables, turn.arriving, fleet)) + nights_waited(tables, fleet, turn)
 }
 
@@ -104,11 +101,19 @@ pub fn periods_after(tables: &Tables, fleet: u32, tour: &[u32], place: usize) ->
     requires place { place < length tour.now }
     ensures { result ≡ periods_after tables.now fleet tour.now place }
 {
-    let turn = Connection {
+    let turn = turn_after(tour, place);
+    tables.laps(flight(tables, turn.arriving, fleet)) + u32::from(crosses(tables, fleet, turn))
+}
+
+// The connection of a leg of a tour with the next one.
+fn turn_after(tour: &[u32], place: usize) -> Connection
+    requires { place < length tour.now }
+    ensures { result ≡ turn_after tour.now place }
+{
+    Connection {
         arriving: tour[place],
         departing: tour[(place + 1) % tour.len()],
-    };
-    tables.laps(flight(tables, turn.arriving, fleet)) + u32::from(crosses(tables, fleet, turn))
+    }
 }
 
 // The day of the period on which a tour's first leg departs.

@@ -4,7 +4,7 @@ use Rattle.fleet_model.specs.declared.tables.Tables.{Tables}
 use Rattle.fleet_model.specs.Counts.{Weights, arrived, departed}
 use Rattle.fleet_model.specs.Use.{excess, laps_flown, need_of, stand_of, used_of}
 use Rattle.stand_counts.specs.Flights.{arrived_by, departed_by, excess_by, laps_by, need_by, of_fleet, stand_by, used_by}
-use Rattle.stand_counts.specs.Laws.{AreFleetCounts}
+use Rattle.stand_counts.specs.Laws.{AreCounts}
 
 module _ (t : Tables) (w : Weights) (f : ℕ) where
   pub departures_of_fleet : (s m : ℕ) → departed_by t (of_fleet t w f) s m ≡ departed t w f s m
@@ -31,7 +31,7 @@ module _ (t : Tables) (w : Weights) (f : ℕ) where
   unfolding used_by used_of laps_by laps_flown need_by need_of excess_by excess departed_by departed arrived_by arrived
   use_of_fleet = refl
 
-  pub counts_of_fleet : AreFleetCounts t w f
+  pub counts_of_fleet : AreCounts t (of_fleet t w f) w f
   counts_of_fleet = record {
     departures = departures_of_fleet;
     arrivals = arrivals_of_fleet;

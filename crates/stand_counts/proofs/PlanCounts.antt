@@ -12,7 +12,7 @@ use Rattle.fleet_model.specs.Times.{laps_of}
 use Rattle.fleet_model.specs.Use.{excess, laps_flown, need_of, stand_of, used_of}
 use Rattle.fleet_model.proofs.Choices.{planned as planned_sum, planned_where}
 use Rattle.stand_counts.specs.Flights.{arrived_by, coming_by, departed_by, excess_by, laps_at_by, laps_by, leaving_by, need_by, planned, stand_by, used_by}
-use Rattle.stand_counts.specs.Laws.{ArePlanCounts}
+use Rattle.stand_counts.specs.Laws.{AreCounts}
 
 -- a weight of 1 where a test passes counts where another passes
 where_both : (mine passes : Bool) → ◌≡◌ {A = ℕ} (if passes then (if mine then 1 else 0) else 0) (if mine && passes then 1 else 0)
@@ -68,7 +68,7 @@ module _ (t : Tables) (a : List ℕ) (f : ℕ) (assignment : IsAssignment t a) (
       ap (λ n. n + laps_by t (planned t a f)) (sum_below-agree (need_by t (planned t a f)) (need_of t (weights_of a) f) (stations_in t) (record { each = λ s within. need_of_plan s }))
       ∙ ap (λ n. sum_below (need_of t (weights_of a) f) (stations_in t) + n) laps_of_plan
 
-  pub counts_of_plan : ArePlanCounts t a f
+  pub counts_of_plan : AreCounts t (planned t a f) (weights_of a) f
   counts_of_plan = record {
     departures = departures_of_plan;
     arrivals = arrivals_of_plan;
