@@ -44,6 +44,7 @@ module _ (t : Tables) (f : ℕ) (pairs : List Connection) (labels : List ℕ) (t
 module _ (t : Tables) (a : List ℕ) (f : ℕ) (pairs turns : List Connection) (labels : List ℕ) (map : IsSuccessorMap t a f turns) where
   -- the minute at which one of them is ready is touched by both
   pub they_touch : (i j : ℕ) → i < length turns → j < length turns → AreMeeting t f pairs labels (turn_at turns i) (turn_at turns j) → (m : ℕ) × (Touch t f turns i j m)
+  unfolding share_minute
   they_touch i j first second h =
       by_either _ _ h.shared
       (λ e. (
@@ -79,6 +80,7 @@ module _ (t : Tables) (a : List ℕ) (f : ℕ) (pairs turns : List Connection) (
 
   -- turns that touch a minute share one
   shared : (s m j k : ℕ) → m < period_of t → TouchesFreely t f pairs turns s m j → TouchesFreely t f pairs turns s m k → share_minute t f (turn_at turns j) (turn_at turns k) ≡ true
+  unfolding share_minute
   shared s m j k moment p q =
       one_touches (period_of t) (ready_at t f (turn_at turns j)) (ready_at t f (turn_at turns k)) m (wait_of t f (turn_at turns j)) (wait_of t f (turn_at turns k))
       (ready_within t a f turns map j) (ready_within t a f turns map k) moment p.touching q.touching

@@ -30,7 +30,7 @@ pub record AreCycles (g : Ground) (c : Cycles) : Type 0 where
 
 -- Two turns share a minute: one of them touches the ready minute of the other. Where both touch a minute, whichever
 -- aircraft was ready later was so while the other waited.
-abbrev pub share_minute : Tables → ℕ → Connection → Connection → Bool
+unfoldable pub share_minute : Tables → ℕ → Connection → Connection → Bool
 share_minute t f turn other = touches t f turn (ready_at t f other) || touches t f other (ready_at t f turn)
 
 -- a turn and one of a cycle with a lower label, neither of a given pair, that touch one minute at one station
