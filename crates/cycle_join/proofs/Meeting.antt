@@ -1,5 +1,5 @@
 -- Turns that meet touch one minute, and turns of different labels that touch one meet.
-use Rattle.std.proofs.Common.{◌≡◌, ◌≢◌, ℕ, ◌<◌, ◌⊎◌, inl, inr, Bool, true, false, List, length, sym, ◌∙◌, ap, arith}
+use Rattle.std.proofs.Common.{◌≡◌, ◌≢◌, ℕ, ◌<◌, ◌⊎◌, inl, inr, Bool, true, false, ◌||◌, List, length, sym, ◌∙◌, ap, arith}
 use Rattle.std.proofs.lemmas.Bool.{and_from, and_parts, cases_order, eq-eqb, eqb-true, lt-ltb, ltb-true}
 use Rattle.sums.proofs.Tests.{by_either, no_both}
 use Rattle.fleet_model.specs.declared.parts.Connection.{Connection}
@@ -40,6 +40,16 @@ module _ (t : Tables) (f : ℕ) (pairs : List Connection) (labels : List ℕ) (t
 
   pub meets_true : AreMeeting t f pairs labels turn other → meets t f pairs labels turn other ≡ true
   meets_true h = and_from _ _ (and_from _ _ (and_from _ _ (and_from _ _ (lt-ltb _ _ h.lower) (eq-eqb _ _ h.free)) (eq-eqb _ _ h.other_free)) (eq-eqb _ _ h.together)) h.shared
+
+-- two turns share a minute where the first touches that of the other, and else just where the other does
+module _ (t : Tables) (f : ℕ) (turn other : Connection) where
+  pub share_first : touches t f turn (ready_at t f other) ≡ true → share_minute t f turn other ≡ true
+  unfolding share_minute
+  share_first e = ap (λ b. b || touches t f other (ready_at t f turn)) e
+
+  pub share_second : touches t f turn (ready_at t f other) ≡ false → share_minute t f turn other ≡ touches t f other (ready_at t f turn)
+  unfolding share_minute
+  share_second e = ap (λ b. b || touches t f other (ready_at t f turn)) e
 
 module _ (t : Tables) (a : List ℕ) (f : ℕ) (pairs turns : List Connection) (labels : List ℕ) (map : IsSuccessorMap t a f turns) where
   -- the minute at which one of them is ready is touched by both
