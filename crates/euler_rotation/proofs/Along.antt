@@ -14,7 +14,7 @@ use Rattle.ground_turns.specs.Nights.{nights_in_turn, nights_in_turns, nights_of
 use Rattle.euler_rotation.specs.Often.{GoesOn, nights_since, stays_below}
 use Rattle.euler_rotation.specs.Prefixes.{nights_along, turn_to, turns_along}
 use Rattle.euler_rotation.proofs.NightsSince.{below_append, since_append}
-use Rattle.euler_rotation.proofs.Turning.{nights_append}
+use Rattle.ground_turns.proofs.NightLists.{nights_append}
 
 -- lists with the same first legs have the same first turns
 turn_agree : (xs ys : List ℕ) (n : ℕ) → n < length xs → n < length ys → ((j : ℕ) → j ≤ n → slice_index xs j ≡ slice_index ys j) → (j : ℕ) → j < n → turn_after xs j ≡ turn_after ys j

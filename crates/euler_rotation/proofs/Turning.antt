@@ -17,17 +17,13 @@ use Rattle.ground_turns.specs.Nights.{IsKeptFor, IsMaintainedFrom, can_maintain,
 use Rattle.ground_turns.specs.declared.nights.Night.{Night}
 use Rattle.ground_turns.specs.declared.nights.Night.TheVariants as night
 use Rattle.ground_turns.proofs.FirstOuts.{mod_cases}
+use Rattle.ground_turns.proofs.NightLists.{nights_append}
 use Rattle.euler_rotation.specs.Asked.{AreMet, is_met}
 use Rattle.euler_rotation.specs.Tours.{IsKeptTour, IsOrder, times_in, turned}
 use Rattle.sums.proofs.Turned as round_sums
 use Rattle.euler_rotation.proofs.TourTurns.{length_round, tour_from, tour_met, tour_order, turn_round}
 
 -- ---- nights, begun later
-pub nights_append : (t : Tables) (f : ℕ) (xs ys : List Connection) → nights_in_turns t f (xs ++ ys) ≡ nights_in_turns t f xs ++ nights_in_turns t f ys
-nights_append t f [] ys = refl
-nights_append t f (x ∷ xs) ys =
-    ap (λ nights. nights_in_turn t f x ++ nights) (nights_append t f xs ys) ∙ sym (append_assoc (nights_in_turn t f x) (nights_in_turns t f xs) (nights_in_turns t f ys))
-
 -- the night at a place, going round, where the second part comes first
 moved_night : (xs ys : List Night) (k : ℕ) → k < length xs + length ys → slice_index_or (ys ++ xs) k night.Aloft ≡ slice_index_or (xs ++ ys) ((k + length xs) % (length xs + length ys)) night.Aloft
 moved_night xs ys k lt = elim (cases_lt k (length ys)) [

@@ -9,6 +9,7 @@ pub mod FleetTurns
 pub mod FreeTurns
 pub mod MaintainedNights
 pub mod NightCounts
+pub mod NightLists
 pub mod OneSegment
 pub mod Places
 pub mod Ranks

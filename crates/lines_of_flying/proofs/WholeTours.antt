@@ -87,7 +87,7 @@ module _ (t : Tables) (f : ℕ) (tour : List ℕ) where
       ∙ sym (take-suc tour n 0 (omega arith))
 
   -- more nights lie before a first leg that a period's start lies before than days before it in its period
-  first_day_early : (a : List ℕ) → IsTour t a f tour → BeginsAfterStart t f tour → first_day t f tour < nights_after t f tour (length tour - 1)
+  pub first_day_early : (a : List ℕ) → IsTour t a f tour → BeginsAfterStart t f tour → first_day t f tour < nights_after t f tour (length tour - 1)
   unfolding nights_after periods_after
   first_day_early a is begins =
       let last = length tour - 1 in

@@ -105,8 +105,8 @@ pub fn periods_after(tables: &Tables, fleet: u32, tour: &[u32], place: usize) ->
     tables.laps(flight(tables, turn.arriving, fleet)) + u32::from(crosses(tables, fleet, turn))
 }
 
-// The connection of a leg of a tour with the next one.
-fn turn_after(tour: &[u32], place: usize) -> Connection
+/// The connection of a leg of a tour with the next one. Takes no memory.
+pub fn turn_after(tour: &[u32], place: usize) -> Connection
     requires { place < length tour.now }
     ensures { result ≡ turn_after tour.now place }
 {
@@ -116,8 +116,8 @@ fn turn_after(tour: &[u32], place: usize) -> Connection
     }
 }
 
-// The day of the period on which a tour's first leg departs.
-fn first_day(tables: &Tables, fleet: u32, tour: &[u32]) -> u32
+/// The day of the period on which a tour's first leg departs. Takes no memory.
+pub fn first_day(tables: &Tables, fleet: u32, tour: &[u32]) -> u32
     requires fleet { fleet < fleets_in tables.now }
     requires some { 0 < length tour.now }
     requires known { AreLegs tables.now tour.now }

@@ -1,0 +1,7 @@
+pub mod Lates
+pub mod Nights
+pub mod Ranking
+pub mod Rounds
+pub mod StartRanks
+pub mod StartReaches
+pub mod InTime

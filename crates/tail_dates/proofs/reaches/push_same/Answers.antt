@@ -1,0 +1,10 @@
+use Rattle.std.proofs.Common.{sym}
+use Rattle.std.proofs.lemmas.List.{append-nil}
+use Rattle.tail_dates.proofs.Nights.{same_more}
+use Rattle.tail_dates.proofs.reaches.push_same.Goals as goal
+
+pub loop-init : goal.loop-init
+loop-init c = sym (append-nil c.args.nights.now.items)
+
+pub loop-preserved : goal.loop-preserved
+loop-preserved c = same_more c.args.nights.now.items c.loop.nights.items c.push.new.self.items c.args.maintained c.loop.counter c.loop.invariant c.in_ok-push.ensures.items

@@ -1,0 +1,5 @@
+pub mod InTime
+pub mod Placing
+pub mod Ranked
+pub mod Reaches
+pub mod Rounds

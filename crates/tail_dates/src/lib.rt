@@ -1,0 +1,11 @@
+//! With which line of a tour each of a fleet's tails begins, so that each comes to maintenance in time.
+#![tactic(auto)]
+
+mod late;
+pub mod placing;
+mod ranks;
+mod reaches;
+pub mod tails;
+
+pub use placing::{Placed, place};
+pub use tails::TailState;

@@ -1,0 +1,112 @@
+//! How many nights pass until an aircraft has come to maintenance.
+ghost use Rattle.std.specs.Prelude.{◌≡◌, ◌<◌, ◌≤◌, ◌+◌, ◌*◌, ◌++◌, ◌^◌, ℕ, IfOk, OnOk, length, map, replicate};
+ghost use Rattle.fleet_model.specs.Counts.{weights_of};
+ghost use Rattle.fleet_model.specs.Legal.{IsAssignment};
+ghost use Rattle.fleet_model.specs.Schedule.{days_in, fleets_in};
+ghost use Rattle.fleet_model.specs.Use.{used_of};
+ghost use Rattle.ground_turns.specs.Maps.{IsTour, turn_after};
+ghost use Rattle.ground_turns.specs.Nights.{IsKeptFor, can_maintain, nights_in_turn, nights_of_tour};
+ghost use Rattle.lines_of_flying.specs.Lines.{AreLegs, BeginsAfterStart};
+ghost use Rattle.tail_dates.specs.Reaches.{AreReaches, IsReach, maintenance_nights};
+ghost use Rattle.tail_dates.specs.Rounds.{HasMaintenance};
+
+use entries::NoMemory;
+use fleet_model::{Assignment, Tables};
+use ground_turns::{flight, nights_waited};
+use lines_of_flying::{first_day, turn_after};
+use std::alloc::Global;
+
+/// The reach of each start of a tour of so many aircraft.
+pub(crate) fn reaches_of(
+    alloc: Global,
+    tables: &Tables,
+    plan: &Assignment,
+    fleet: u32,
+    tour: &[u32],
+    used: u32,
+) -> Result<Vec<u64>, NoMemory>
+    requires plan { IsAssignment tables.now plan.now }
+    requires fleet { fleet < fleets_in tables.now }
+    requires tour { IsTour tables.now plan.now fleet tour.now }
+    requires begins { BeginsAfterStart tables.now fleet tour.now }
+    requires kept { (days : ℕ) × (IsKeptFor tables.now (nights_of_tour tables.now fleet tour.now) days) }
+    requires used { used ≡ used_of tables.now (weights_of plan.now) fleet }
+    ensures { IfOk result (λ reaches. AreReaches tables.now fleet tour.now used reaches.items) }
+{
+    let nights = maintenance_nights(alloc, tables, fleet, tour)?;
+    let first = nights.len() as u64 - u64::from(first_day(tables, fleet, tour));
+    let mut reaches = Vec::new(alloc);
+    for start in 0..used {
+        let line = u64::from(start) * u64::from(tables.day_count());
+        reaches.push(reach(&nights, first + line))?;
+    }
+    Ok(reaches)
+}
+
+/// Of the nights from one on, going round, how many pass to the first for maintenance, it among them. Takes no memory.
+fn reach(nights: &[bool], first: u64) -> u64
+    requires some { HasMaintenance nights.now }
+    requires few { length nights.now < 2 ^ 40 }
+    requires first { first < 2 ^ 40 }
+    ensures { IsReach nights.now first result }
+{
+    let count = nights.len() as u64;
+    for after in 0..count {
+        if nights[((first + after) % count) as usize] {
+            return after + 1;
+        }
+    }
+    unreachable!()
+}
+
+/// Of each night of a tour, going round from its first leg, whether it is for maintenance.
+fn maintenance_nights(
+    alloc: Global,
+    tables: &Tables,
+    fleet: u32,
+    tour: &[u32],
+) -> Result<Vec<bool>, NoMemory>
+    requires fleet { fleet < fleets_in tables.now }
+    requires known { AreLegs tables.now tour.now }
+    ensures { IfOk result (λ nights. nights.items ≡ maintenance_nights tables.now fleet tour.now) }
+{
+    let mut nights = Vec::new(alloc);
+    for place in 0..tour.len() {
+        push_nights(&mut nights, tables, fleet, tour, place)?;
+    }
+    Ok(nights)
+}
+
+/// Appends the nights after a leg of a tour: those in its flight and its turn, and those in the wait that follows.
+fn push_nights(
+    nights: &mut Vec<bool>,
+    tables: &Tables,
+    fleet: u32,
+    tour: &[u32],
+    place: usize,
+) -> Result<(), NoMemory>
+    requires fleet { fleet < fleets_in tables.now }
+    requires known { AreLegs tables.now tour.now }
+    requires place { place < length tour.now }
+    ensures { OnOk result (nights.new.items ≡ nights.old.items ++ map (can_maintain tables.now) (nights_in_turn tables.now fleet (turn_after tour.now place))) }
+{
+    let turn = turn_after(tour, place);
+    let aloft = tables.nights(flight(tables, turn.arriving, fleet));
+    push_same(nights, aloft, false)?;
+    let station = tables.station(tables.leg(turn.arriving).to);
+    push_same(
+        nights,
+        nights_waited(tables, fleet, turn),
+        station.maintenance,
+    )
+}
+
+/// Appends so many nights alike.
+fn push_same(nights: &mut Vec<bool>, count: u32, maintained: bool) -> Result<(), NoMemory>
+    ensures { OnOk result (nights.new.items ≡ nights.old.items ++ replicate count maintained) }
+{
+    for _ in 0..count {
+        nights.push(maintained)?;
+    }
+    Ok(())
+}
