@@ -9,6 +9,8 @@ mod islands;
 #[cfg(test)]
 mod joins;
 #[cfg(test)]
+mod placing;
+#[cfg(test)]
 mod rotations;
 #[cfg(test)]
 mod segments;

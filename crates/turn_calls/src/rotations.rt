@@ -136,9 +136,9 @@ fn answers(
     }
 }
 
-const FOUR: &[u32] = &[0, 0, 0, 0, 0, 0];
+pub(crate) const FOUR: &[u32] = &[0, 0, 0, 0, 0, 0];
 
-const FOUR_MAP: Pairs = &[(0, 1), (1, 0), (2, 3), (3, 4), (4, 5), (5, 2)];
+pub(crate) const FOUR_MAP: Pairs = &[(0, 1), (1, 0), (2, 3), (3, 4), (4, 5), (5, 2)];
 
 const FOUR_TOUR: Pairs = &[(0, 1), (1, 2), (2, 3), (3, 4), (4, 5), (5, 0)];
 
@@ -148,7 +148,7 @@ const HUB_MAP: Pairs = &[(0, 2), (1, 3), (2, 0), (3, 1)];
 
 const HUB_CROSSED: Pairs = &[(0, 3), (1, 2), (2, 0), (3, 1)];
 
-const THERE_AND_BACK: Pairs = &[(0, 1), (1, 0)];
+pub(crate) const THERE_AND_BACK: Pairs = &[(0, 1), (1, 0)];
 
 /// A row, a fitting map that holds its pairs, the most days and visits, and the answer.
 type Case = (Row, Pairs, (u32, u32), Wanted);
