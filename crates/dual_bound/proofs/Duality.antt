@@ -1,25 +1,29 @@
 -- Weak duality: worth is no more than the cost of a mixed plan.
-use Rattle.std.proofs.Common.{◌≡◌, ℕ, zero, suc, ◌+◌, ◌*◌, ◌<◌, Bool, true, false, if◌then◌else◌, Option, Some, None, ℤ, pos, ◌+ℤ◌, ◌-ℤ◌, ◌*ℤ◌, ◌≤ℤ◌, ◌<ℤ◌, List, refl, sym, ◌∙◌, ap, arith}
+use Rattle.std.proofs.Common.{◌≡◌, ℕ, zero, suc, ◌+◌, ◌*◌, ◌<◌, Bool, true, false, if◌then◌else◌, nat_lt, Option, Some, None, ℤ, pos, ◌+ℤ◌, ◌-ℤ◌, ◌*ℤ◌, ◌≤ℤ◌, ◌<ℤ◌, List, refl, sym, ◌∙◌, ap, arith}
 use Rattle.std.specs.Prelude.{unwrap_or, int_le}
 use Rattle.std.proofs.lemmas.Int.{by_lt_z, ints}
-use lib.IntN.{*ℤ_comm, zero-*ℤ}
+use lib.IntN.{*ℤ-zero, *ℤ_comm, zero-*ℤ}
 use Rattle.sums.specs.Below.{sum_below, sum_below_ℤ}
 use Rattle.sums.proofs.Integers.{*ℤ-+ℤ, *ℤ--ℤ, *ℤ_assoc, *ℤ_left_comm, +ℤ-*ℤ, one-*ℤ}
 use Rattle.sums.proofs.Orders.{factor_le, sum_below_ℤ-le, times_le}
 use Rattle.sums.proofs.WholeSums.{*ℤ-sum_below_ℤ, sum_below_ℤ-same}
-use Rattle.sums.proofs.WholeSwaps.{sum_below_ℤ-+ℤ, sum_below_ℤ-swap}
+use Rattle.sums.proofs.WholeSwaps.{sum_below_ℤ-+ℤ, where_true}
 use Rattle.fleet_model.specs.declared.tables.Tables.{Tables}
 use Rattle.fleet_model.specs.Counts.{Weights, weights_of}
 use Rattle.fleet_model.specs.Kept.{Domains}
 use Rattle.fleet_model.specs.Legal.{total_cost}
 use Rattle.fleet_model.specs.Mixed.{IsWholePlan, IsMixedPlan, mixed_cost, weighted_cost}
-use Rattle.fleet_model.specs.Schedule.{fleet_of, fleets_in, leg_on, legs_in}
+use Rattle.fleet_model.specs.Schedule.{IsPair, choices_in, departures_in, fleet_by, fleet_of, fleets_in, leg_of, leg_on, legs_in, pair_on, stations_in}
+use Rattle.fleet_model.specs.Times.{departure, laps_of, ready_minute}
+use Rattle.fleet_model.proofs.Choices.{exchange_ℤ}
 use Rattle.fleet_model.proofs.MixedPlans.{legal_is_mixed}
 use Rattle.dual_bound.specs.Duality.{CeilingIsLowerBound, WeakDuality, WorthIsLowerBound, WorthRefutes}
-use Rattle.dual_bound.specs.Prices.{ArePrices, rent_of}
-use Rattle.dual_bound.specs.Worth.{cost_units, least_below, leg_worth, lesser, pair_worth, rents_of, worth_of}
+use Rattle.dual_bound.specs.Prices.{ArePrices, price_of, rent_of}
+use Rattle.dual_bound.specs.Worth.{cost_units, least_below, leg_worth, lesser, pair_worth, rents_of, where_flown, worth_of}
 use Rattle.dual_bound.specs.declared.prices.Prices.{Prices}
-use Rattle.dual_bound.proofs.Flows.{fleet_bound, flow_worth}
+use Rattle.dual_bound.proofs.Charges.{charges_at, less_charges_is, where_flown_is}
+use Rattle.dual_bound.proofs.Flows.{charges_for, fleet_bound, flow_worth}
+use Rattle.dual_bound.proofs.Parking.{all_charges}
 
 -- the lesser of two, once there is a first
 pub lesser_le : (o : Option ℤ) (z : ℤ) → (lesser o z ≤ℤ unwrap_or o z) × (lesser o z ≤ℤ z)
@@ -55,61 +59,74 @@ weighted_least keeps value w (suc n) z none =
 module _ (t : Tables) (keeps : Domains) (prices : Prices) (q k : ℕ) (w : Weights) (proper : ArePrices t prices) (plan : IsMixedPlan t keeps q w) where
   -- what a leg's pairs are worth by their weights
   weighted : ℕ → ℕ → ℤ
-  weighted l f = pos (w (leg_on l f)) *ℤ pair_worth t prices k (leg_on l f)
+  weighted l c = pos (w (leg_on l c)) *ℤ pair_worth t prices k (leg_on l c)
 
+  -- .. of that what aircraft add, where a fleet flies the pair
   flowing : ℕ → ℕ → ℤ
-  flowing l f = pos (w (leg_on l f)) *ℤ flow_worth t prices (leg_on l f)
+  flowing l c = where_true (nat_lt (fleet_by t (leg_on l c)) (fleets_in t)) (pos (w (leg_on l c)) *ℤ flow_worth t prices (leg_on l c))
 
-  at_leg : (l : ℕ) → l < legs_in t → (pos q *ℤ leg_worth t keeps prices k l) ≤ℤ sum_below_ℤ (weighted l) (fleets_in t)
+  at_leg : (l : ℕ) → l < legs_in t → (pos q *ℤ leg_worth t keeps prices k l) ≤ℤ sum_below_ℤ (weighted l) (choices_in t l)
   unfolding leg_worth weighted
   at_leg l below =
-      let least = weighted_least (λ f. keeps (leg_on l f)) (λ f. pair_worth t prices k (leg_on l f)) (λ f. w (leg_on l f)) (fleets_in t) (pos 0)
-      (λ f lt e. plan.kept (leg_on l f) (record { leg = below; choice = lt }) e) in
+      let least = weighted_least (λ c. keeps (leg_on l c)) (λ c. pair_worth t prices k (leg_on l c)) (λ c. w (leg_on l c)) (choices_in t l) (pos 0)
+      (λ c lt e. plan.kept (leg_on l c) (record { leg = below; choice = lt }) e) in
       rw (plan.cover l below) at least
 
-  -- a pair's weighted worth, by its cost and its flow
-  at_pair : (l f : ℕ) → weighted l f ≡ (pos k *ℤ prices.scale) *ℤ weighted_cost t w l f +ℤ flowing l f
+  -- a pair's weighted worth, by its cost and what aircraft add
+  at_pair : (l c : ℕ) → l < legs_in t → c < choices_in t l → weighted l c ≡ (pos k *ℤ prices.scale) *ℤ weighted_cost t w l c +ℤ flowing l c
   unfolding weighted flowing
-  at_pair l f = parts (pos (w (leg_on l f))) (pos k *ℤ prices.scale) (cost_units t (leg_on l f)) _ _
+  at_pair l c below lt =
+      let p = leg_on l c in
+      let pair : IsPair t p = record { leg = below; choice = lt } in
+      let fall = price_of prices (fleet_by t p) (leg_of t l).from (departure t p) -ℤ price_of prices (fleet_by t p) (leg_of t l).to (ready_minute t p) in
+      let rent = rent_of prices (fleet_by t p) *ℤ pos (laps_of t p) in
+      parts (nat_lt (fleet_by t p) (fleets_in t)) (pos (w p)) (pos k *ℤ prices.scale) (cost_units t p) (where_flown t p fall) (where_flown t p rent) fall rent (where_flown_is t p fall pair) (where_flown_is t p rent pair)
     where
-      parts : (n s c d r : ℤ) → n *ℤ (((s *ℤ c) +ℤ d) +ℤ r) ≡ (s *ℤ (n *ℤ c)) +ℤ (n *ℤ (d +ℤ r))
-      parts n s c d r = omega (arith, ints, *ℤ-+ℤ n ((s *ℤ c) +ℤ d) r, *ℤ-+ℤ n (s *ℤ c) d, *ℤ-+ℤ n d r, *ℤ_left_comm n s c)
+      parts : (b : Bool) (n s c d r fall rent : ℤ) → d ≡ where_true b fall → r ≡ where_true b rent → n *ℤ (((s *ℤ c) +ℤ d) +ℤ r) ≡ (s *ℤ (n *ℤ c)) +ℤ where_true b (n *ℤ (fall +ℤ rent))
+      parts true n s c d r fall rent e g =
+          omega (arith, ints, *ℤ-+ℤ n ((s *ℤ c) +ℤ d) r, *ℤ-+ℤ n (s *ℤ c) d, *ℤ-+ℤ n fall rent, *ℤ_left_comm n s c, ap (λ x. n *ℤ x) e, ap (λ x. n *ℤ x) g)
+      parts false n s c d r fall rent e g =
+          omega (arith, ints, *ℤ-+ℤ n ((s *ℤ c) +ℤ d) r, *ℤ-+ℤ n (s *ℤ c) d, *ℤ_left_comm n s c, ap (λ x. n *ℤ x) e, ap (λ x. n *ℤ x) g, *ℤ-zero n)
 
-  on_leg : (l : ℕ) → sum_below_ℤ (weighted l) (fleets_in t) ≡ ((pos k *ℤ prices.scale) *ℤ sum_below_ℤ (weighted_cost t w l) (fleets_in t)) +ℤ sum_below_ℤ (flowing l) (fleets_in t)
-  on_leg l =
-      sum_below_ℤ-same (weighted l) (λ f. ((pos k *ℤ prices.scale) *ℤ weighted_cost t w l f) +ℤ flowing l f) (fleets_in t) (λ f below. at_pair l f)
-      ∙ sum_below_ℤ-+ℤ (λ f. (pos k *ℤ prices.scale) *ℤ weighted_cost t w l f) (flowing l) (fleets_in t)
-      ∙ ap (λ x. x +ℤ sum_below_ℤ (flowing l) (fleets_in t)) (sym (*ℤ-sum_below_ℤ (pos k *ℤ prices.scale) (weighted_cost t w l) (fleets_in t)))
+  on_leg : (l : ℕ) → l < legs_in t → sum_below_ℤ (weighted l) (choices_in t l) ≡ ((pos k *ℤ prices.scale) *ℤ sum_below_ℤ (weighted_cost t w l) (choices_in t l)) +ℤ sum_below_ℤ (flowing l) (choices_in t l)
+  on_leg l below =
+      sum_below_ℤ-same (weighted l) (λ c. ((pos k *ℤ prices.scale) *ℤ weighted_cost t w l c) +ℤ flowing l c) (choices_in t l) (λ c lt. at_pair l c below lt)
+      ∙ sum_below_ℤ-+ℤ (λ c. (pos k *ℤ prices.scale) *ℤ weighted_cost t w l c) (flowing l) (choices_in t l)
+      ∙ ap (λ x. x +ℤ sum_below_ℤ (flowing l) (choices_in t l)) (sym (*ℤ-sum_below_ℤ (pos k *ℤ prices.scale) (weighted_cost t w l) (choices_in t l)))
 
-  all_legs : sum_below_ℤ (λ l. sum_below_ℤ (weighted l) (fleets_in t)) (legs_in t) ≡ ((pos k *ℤ prices.scale) *ℤ mixed_cost t w) +ℤ sum_below_ℤ (λ l. sum_below_ℤ (flowing l) (fleets_in t)) (legs_in t)
+  all_legs : sum_below_ℤ (λ l. sum_below_ℤ (weighted l) (choices_in t l)) (legs_in t) ≡ ((pos k *ℤ prices.scale) *ℤ mixed_cost t w) +ℤ sum_below_ℤ (λ l. sum_below_ℤ (flowing l) (choices_in t l)) (legs_in t)
   unfolding mixed_cost
   all_legs =
-      let costs : ℕ → ℤ = λ l. sum_below_ℤ (weighted_cost t w l) (fleets_in t) in
-      let flows : ℕ → ℤ = λ l. sum_below_ℤ (flowing l) (fleets_in t) in
-      sum_below_ℤ-same (λ l. sum_below_ℤ (weighted l) (fleets_in t)) (λ l. ((pos k *ℤ prices.scale) *ℤ costs l) +ℤ flows l) (legs_in t) (λ l below. on_leg l)
+      let costs : ℕ → ℤ = λ l. sum_below_ℤ (weighted_cost t w l) (choices_in t l) in
+      let flows : ℕ → ℤ = λ l. sum_below_ℤ (flowing l) (choices_in t l) in
+      sum_below_ℤ-same (λ l. sum_below_ℤ (weighted l) (choices_in t l)) (λ l. ((pos k *ℤ prices.scale) *ℤ costs l) +ℤ flows l) (legs_in t) on_leg
       ∙ sum_below_ℤ-+ℤ (λ l. (pos k *ℤ prices.scale) *ℤ costs l) flows (legs_in t)
       ∙ ap (λ x. x +ℤ sum_below_ℤ flows (legs_in t)) (sym (*ℤ-sum_below_ℤ (pos k *ℤ prices.scale) costs (legs_in t)))
 
-  -- a fleet's flow is no more than the rents of its aircraft, so many parts each
-  at_fleet : (f : ℕ) → f < fleets_in t → sum_below_ℤ (λ l. flowing l f) (legs_in t) ≤ℤ (pos q *ℤ rents_of t prices f)
-  unfolding flowing
+  -- a fleet's flow is no more than the rents of its aircraft, so many parts each, and the charges for them
+  at_fleet : (f : ℕ) → f < fleets_in t → sum_below_ℤ (λ d. pos (w (pair_on t d f)) *ℤ flow_worth t prices (pair_on t d f)) (departures_in t) ≤ℤ ((pos q *ℤ rents_of t prices f) +ℤ charges_for t prices w f)
   at_fleet f below =
       let bound = fleet_bound t prices proper w plan.balanced f (q * (fleet_of t f).aircraft) below (plan.within f below) in
       omega (arith, ints, bound, *ℤ_assoc (pos q) (pos (fleet_of t f).aircraft) (rent_of prices f), ap (λ x. pos q *ℤ x) (*ℤ_comm (pos (fleet_of t f).aircraft) (rent_of prices f)))
 
-  all_flows : sum_below_ℤ (λ l. sum_below_ℤ (flowing l) (fleets_in t)) (legs_in t) ≤ℤ (pos q *ℤ sum_below_ℤ (rents_of t prices) (fleets_in t))
+  all_flows : sum_below_ℤ (λ l. sum_below_ℤ (flowing l) (choices_in t l)) (legs_in t)
+      ≤ℤ ((pos q *ℤ sum_below_ℤ (rents_of t prices) (fleets_in t)) +ℤ (pos q *ℤ sum_below_ℤ (charges_at t prices) (stations_in t)))
+  unfolding flowing
   all_flows =
-      let swapped = sum_below_ℤ-swap flowing (fleets_in t) (legs_in t) in
-      let each = sum_below_ℤ-le (λ f. sum_below_ℤ (λ l. flowing l f) (legs_in t)) (λ f. pos q *ℤ rents_of t prices f) (fleets_in t) at_fleet in
-      omega (arith, ints, swapped, each, *ℤ-sum_below_ℤ (pos q) (rents_of t prices) (fleets_in t))
+      let by_fleets = exchange_ℤ t (λ p. pos (w p) *ℤ flow_worth t prices p) in
+      let each = sum_below_ℤ-le (λ f. sum_below_ℤ (λ d. pos (w (pair_on t d f)) *ℤ flow_worth t prices (pair_on t d f)) (departures_in t)) (λ f. (pos q *ℤ rents_of t prices f) +ℤ charges_for t prices w f) (fleets_in t) at_fleet in
+      let added = sum_below_ℤ-+ℤ (λ f. pos q *ℤ rents_of t prices f) (charges_for t prices w) (fleets_in t) in
+      omega (arith, ints, by_fleets, each, added, *ℤ-sum_below_ℤ (pos q) (rents_of t prices) (fleets_in t), all_charges t prices q w plan.room)
 
   duality : (pos q *ℤ worth_of t keeps prices k) ≤ℤ (pos k *ℤ prices.scale *ℤ mixed_cost t w)
   unfolding worth_of
   duality =
-      let each = sum_below_ℤ-le (λ l. pos q *ℤ leg_worth t keeps prices k l) (λ l. sum_below_ℤ (weighted l) (fleets_in t)) (legs_in t) at_leg in
+      let each = sum_below_ℤ-le (λ l. pos q *ℤ leg_worth t keeps prices k l) (λ l. sum_below_ℤ (weighted l) (choices_in t l)) (legs_in t) at_leg in
       let legs = *ℤ-sum_below_ℤ (pos q) (leg_worth t keeps prices k) (legs_in t) in
+      let before = sum_below_ℤ (leg_worth t keeps prices k) (legs_in t) -ℤ sum_below_ℤ (rents_of t prices) (fleets_in t) in
       let apart = *ℤ--ℤ (pos q) (sum_below_ℤ (leg_worth t keeps prices k) (legs_in t)) (sum_below_ℤ (rents_of t prices) (fleets_in t)) in
-      omega (arith, ints, each, legs, apart, all_legs, all_flows)
+      let less = ap (λ x. pos q *ℤ x) (less_charges_is t prices before) ∙ *ℤ--ℤ (pos q) before (sum_below_ℤ (charges_at t prices) (stations_in t)) in
+      omega (arith, ints, each, legs, apart, less, all_legs, all_flows)
 
 pub weak_duality : WeakDuality
 weak_duality t keeps prices q k w proper plan = duality t keeps prices q k w proper plan

@@ -1,7 +1,9 @@
+pub mod Charges
 pub mod Duality
 pub mod Flows
 pub mod LeastWorth
 pub mod Numbers
+pub mod Parking
 pub mod PriceLists
 pub mod RisingSteps
 pub mod RisingWeights

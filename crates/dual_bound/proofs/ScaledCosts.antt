@@ -1,5 +1,6 @@
 -- What 128 bits hold of a cost over a scale, and what a pair is worth by prices that are all 0.
-use Rattle.std.proofs.Common.{◌≡◌, ℕ, ◌≤◌, ℤ, pos, ◌+ℤ◌, ◌-ℤ◌, ◌*ℤ◌, sym, ◌∙◌, ap, subst, arith}
+use Rattle.std.proofs.Common.{◌≡◌, ℕ, ◌<◌, ◌≤◌, ℤ, pos, ◌+ℤ◌, ◌-ℤ◌, ◌*ℤ◌, sym, ◌∙◌, ap, subst, arith}
+use Rattle.std.proofs.lemmas.Bool.{le-ltb}
 use Rattle.std.proofs.lemmas.Int.{ints}
 use mir.Syntax.{w128}
 use mir.Val.{SFits}
@@ -8,13 +9,14 @@ use Rattle.sums.proofs.Integers.{one-*ℤ}
 use Rattle.fleet_model.specs.declared.parts.Pair.{Pair}
 use Rattle.fleet_model.specs.declared.tables.Tables.{Tables}
 use Rattle.fleet_model.specs.Limits.{IsCost}
-use Rattle.fleet_model.specs.Schedule.{leg_of}
+use Rattle.fleet_model.specs.Schedule.{IsPair, fleet_by, fleets_in, leg_of}
 use Rattle.fleet_model.specs.Times.{departure, laps_of, ready_minute}
 use Rattle.dual_bound.specs.declared.prices.Prices.{Prices}
-use Rattle.dual_bound.specs.Prices.{IsScale}
+use Rattle.dual_bound.specs.Prices.{IsScale, price_of, rent_of}
 use Rattle.dual_bound.specs.Rising.{IsIdle}
 use Rattle.dual_bound.specs.Sizes.{IsUpTo}
-use Rattle.dual_bound.specs.Worth.{cost_units, pair_worth}
+use Rattle.dual_bound.specs.Worth.{cost_units, pair_worth, where_flown}
+use Rattle.dual_bound.proofs.Charges.{flown, not_flown}
 use Rattle.dual_bound.proofs.Numbers.{fits, held, is_held, many}
 use Rattle.dual_bound.proofs.Sizes.{cost_size, scaled}
 
@@ -60,11 +62,42 @@ five_held z small = subst (λ y. IsUpTo 5 y) (sym (is_held 5 z small (omega arit
 pub one_as_five : (z : ℤ) → IsUpTo 1 z → IsUpTo 5 (held z)
 one_as_five z small = five_held z (record { no_less = omega (arith, ints); no_more = omega (arith, ints) })
 
--- the cost alone, where rent and prices are 0
-pub idle_worth : (t : Tables) (prices : Prices) (k : ℕ) (p : Pair) (s z : ℤ) → IsIdle prices p.choice → s ≡ prices.scale → z ≡ pos k *ℤ s *ℤ cost_units t p → IsUpTo 1 z → held z ≡ pair_worth t prices k p
-idle_worth t prices k p s z none scale is small =
-    worth_held 1 z _ small (omega arith) (is ∙ ap (λ y. pos k *ℤ y *ℤ cost_units t p) scale)
-    ∙ added (pos k *ℤ prices.scale *ℤ cost_units t p) _ _ _ (pos (laps_of t p)) (none.each (leg_of t p.leg).from (departure t p)) (none.each (leg_of t p.leg).to (ready_minute t p)) none.rent
+-- the cost alone, where aircraft add nothing
+cost_alone : (t : Tables) (prices : Prices) (k : ℕ) (p : Pair) (s z fall rent : ℤ) → fall ≡ pos 0 → rent ≡ pos 0 → s ≡ prices.scale → z ≡ pos k *ℤ s *ℤ cost_units t p → IsUpTo 1 z
+    → held z ≡ (pos k *ℤ prices.scale *ℤ cost_units t p) +ℤ fall +ℤ rent
+cost_alone t prices k p s z fall rent e g scale is small =
+    worth_held 1 z _ small (omega arith) (is ∙ ap (λ y. pos k *ℤ y *ℤ cost_units t p) scale) ∙ added (pos k *ℤ prices.scale *ℤ cost_units t p) fall rent e g
   where
-    added : (cost from to rent laps : ℤ) → from ≡ pos 0 → to ≡ pos 0 → rent ≡ pos 0 → cost ≡ cost +ℤ (from -ℤ to) +ℤ (rent *ℤ laps)
-    added cost from to rent laps e f g = omega (arith, ints, ap (λ y. y *ℤ laps) g ∙ zero-*ℤ laps)
+    added : (cost fall rent : ℤ) → fall ≡ pos 0 → rent ≡ pos 0 → cost ≡ cost +ℤ fall +ℤ rent
+    added cost fall rent e g = omega (arith, ints, e, g)
+
+-- .. since no fleet flies the pair
+pub left_out_worth : (t : Tables) (prices : Prices) (k : ℕ) (p : Pair) (s z : ℤ) → IsPair t p → fleets_in t ≤ fleet_by t p → s ≡ prices.scale → z ≡ pos k *ℤ s *ℤ cost_units t p → IsUpTo 1 z → held z ≡ pair_worth t prices k p
+left_out_worth t prices k p s z pair none scale is small =
+    cost_alone t prices k p s z _ _ (not_flown t p _ pair (le-ltb _ _ none)) (not_flown t p _ pair (le-ltb _ _ none)) scale is small
+
+-- .. or rent and prices are 0 of its fleet
+pub idle_worth : (t : Tables) (prices : Prices) (k : ℕ) (p : Pair) (f : ℕ) (s z : ℤ) → IsPair t p → f ≡ fleet_by t p → f < fleets_in t → IsIdle prices f → s ≡ prices.scale → z ≡ pos k *ℤ s *ℤ cost_units t p → IsUpTo 1 z → held z ≡ pair_worth t prices k p
+idle_worth t prices k p f s z pair by known none scale is small =
+    let flies : fleet_by t p < fleets_in t = subst (λ n. n < fleets_in t) by known in
+    let idle : IsIdle prices (fleet_by t p) = subst (IsIdle prices) by none in
+    cost_alone t prices k p s z _ _
+    (flown t p _ pair flies ∙ less _ _ (idle.each (leg_of t p.leg).from (departure t p)) (idle.each (leg_of t p.leg).to (ready_minute t p)))
+    (flown t p _ pair flies ∙ ap (λ y. y *ℤ pos (laps_of t p)) idle.rent ∙ zero-*ℤ (pos (laps_of t p))) scale is small
+  where
+    less : (from to : ℤ) → from ≡ pos 0 → to ≡ pos 0 → from -ℤ to ≡ pos 0
+    less from to e g = omega (arith, ints, e, g)
+
+-- what a flown pair costs by prices
+pub priced_worth : (t : Tables) (prices : Prices) (k : ℕ) (p : Pair) (f : ℕ) (z : ℤ) → IsPair t p → f ≡ fleet_by t p → f < fleets_in t
+    → z ≡ (pos k *ℤ prices.scale *ℤ cost_units t p)
+    +ℤ (price_of prices f (leg_of t p.leg).from (departure t p) -ℤ price_of prices f (leg_of t p.leg).to (ready_minute t p)) +ℤ (rent_of prices f *ℤ pos (laps_of t p))
+    → z ≡ pair_worth t prices k p
+priced_worth t prices k p f z pair by known is =
+    let flies : fleet_by t p < fleets_in t = subst (λ n. n < fleets_in t) by known in
+    is
+    ∙ ap (λ n. (pos k *ℤ prices.scale *ℤ cost_units t p)
+    +ℤ (price_of prices n (leg_of t p.leg).from (departure t p) -ℤ price_of prices n (leg_of t p.leg).to (ready_minute t p)) +ℤ (rent_of prices n *ℤ pos (laps_of t p))) by
+    ∙ ap (λ y. (pos k *ℤ prices.scale *ℤ cost_units t p) +ℤ y +ℤ (rent_of prices (fleet_by t p) *ℤ pos (laps_of t p))) (sym (flown t p _ pair flies))
+    ∙ ap (λ y. (pos k *ℤ prices.scale *ℤ cost_units t p)
+    +ℤ where_flown t p (price_of prices (fleet_by t p) (leg_of t p.leg).from (departure t p) -ℤ price_of prices (fleet_by t p) (leg_of t p.leg).to (ready_minute t p)) +ℤ y) (sym (flown t p _ pair flies))

@@ -1,10 +1,11 @@
 -- Prices that are all 0 are proper.
 use Rattle.std.proofs.Common.{◌≡◌, ℕ, ◌+◌, [], pos, refl, arith}
 use Rattle.std.proofs.lemmas.Int.{ints}
-use Rattle.fleet_model.specs.Use.{last_minute}
+use Rattle.fleet_model.specs.Schedule.{last_of}
 use Rattle.dual_bound.specs.Duality.{ZeroIsProper}
 use Rattle.dual_bound.specs.Prices.{price_after, price_of, rent_of}
 use Rattle.dual_bound.specs.declared.prices.Prices.{Prices}
+use Rattle.dual_bound.proofs.Charges.{no_rise}
 
 price_zero : (prices : Prices) → prices.steps ≡ [] → (f s m : ℕ) → price_of prices f s m ≡ pos 0
 unfolding price_after
@@ -20,6 +21,6 @@ zero_is_proper t prices one no_rents no_steps = record {
     rents = λ f below. record { some = omega (arith, ints, rent_zero prices no_rents f); within = omega (arith, ints, rent_zero prices no_rents f) };
     each = λ f s m known there early. record { no_less = omega (arith, ints, price_zero prices no_steps f s m); no_more = omega (arith, ints, price_zero prices no_steps f s m) };
   };
-  fall = record { each = λ f s m known there early. omega (arith, ints, price_zero prices no_steps f s m, price_zero prices no_steps f s (m + 1)) };
-  rise = record { each = λ f s known there. omega (arith, ints, price_zero prices no_steps f s 0, price_zero prices no_steps f s last_minute, rent_zero prices no_rents f) };
+  fall = record { each = λ f s m known there early. no_rise t prices s m _ _ (omega (arith, ints, price_zero prices no_steps f s m, price_zero prices no_steps f s (m + 1))) };
+  rise = record { each = λ f s known there. no_rise t prices s (last_of t) _ _ (omega (arith, ints, price_zero prices no_steps f s 0, price_zero prices no_steps f s (last_of t), rent_zero prices no_rents f)) };
 }

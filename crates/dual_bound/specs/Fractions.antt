@@ -3,7 +3,7 @@ use Rattle.std.specs.Prelude.{◌≡◌, ℕ, ◌<◌, ◌⊎◌, ℤ, pos, ◌�
 use Rattle.fleet_model.specs.Counts.{Weights}
 use Rattle.fleet_model.specs.Kept.{Domains}
 use Rattle.fleet_model.specs.Mixed.{IsMixedPlan, mixed_cost}
-use Rattle.fleet_model.specs.Schedule.{fleets_in, leg_on, legs_in}
+use Rattle.fleet_model.specs.Schedule.{choices_in, leg_on, legs_in}
 use Rattle.fleet_model.specs.declared.tables.Tables.{Tables}
 use Rattle.dual_bound.specs.Mixed.{weight_in}
 use Rattle.dual_bound.specs.Prices.{IsScale}
@@ -11,7 +11,7 @@ use Rattle.dual_bound.specs.Worth.{worth_of}
 use Rattle.dual_bound.specs.declared.mixed.Mixed.{Mixed}
 use Rattle.dual_bound.specs.declared.prices.Prices.{Prices}
 
--- how many parts of a leg a fleet flies
+-- how many parts of a leg a pair has
 abbrev pub parts_in : Mixed → Weights
 parts_in mixed p = unsigned_abs (weight_in mixed p)
 
@@ -26,7 +26,7 @@ pub record IsWeight (scale weight : ℤ) : Type 0 where
 
 -- the weights of a leg's pairs are
 abbrev pub HasWeights : Tables → Mixed → ℕ → Type 0
-HasWeights t mixed l = (f : ℕ) → f < fleets_in t → IsWeight mixed.scale (weight_in mixed (leg_on l f))
+HasWeights t mixed l = (c : ℕ) → c < choices_in t l → IsWeight mixed.scale (weight_in mixed (leg_on l c))
 
 -- and so are those of all legs
 abbrev pub HasAllWeights : Tables → Mixed → Type 0
@@ -48,11 +48,11 @@ IsEnd scale weight = (weight ≡ pos 0) ⊎ (weight ≡ scale)
 
 -- a pair is flown wholly or not at all
 abbrev pub IsWholePair : Mixed → ℕ → ℕ → Type 0
-IsWholePair mixed l f = IsEnd mixed.scale (weight_in mixed (leg_on l f))
+IsWholePair mixed l c = IsEnd mixed.scale (weight_in mixed (leg_on l c))
 
 -- each pair of a leg is
 abbrev pub IsWholeLeg : Tables → Mixed → ℕ → Type 0
-IsWholeLeg t mixed l = (f : ℕ) → f < fleets_in t → IsWholePair mixed l f
+IsWholeLeg t mixed l = (c : ℕ) → c < choices_in t l → IsWholePair mixed l c
 
 -- each pair of all legs is
 abbrev pub IsWhole : Tables → Mixed → Type 0

@@ -1,8 +1,7 @@
 -- What prices say at each minute, and when they are proper.
 use Rattle.std.specs.Prelude.{ℕ, ◌+◌, ◌<◌, ◌^◌, Bool, ◌==◌, ◌&&◌, nat_le, if◌then◌else◌, List, [], ◌∷◌, slice_index_or, ℤ, pos, neg_ℤ, ◌≤ℤ◌, ◌+ℤ◌}
-use Rattle.fleet_model.specs.Schedule.{fleets_in, stations_in}
+use Rattle.fleet_model.specs.Schedule.{fleets_in, last_of, period_of, stations_in}
 use Rattle.fleet_model.specs.Use.{last_minute}
-use Rattle.fleet_model.specs.declared.limits.TheConstants.{MINUTES_PER_PERIOD}
 use Rattle.fleet_model.specs.declared.tables.Tables.{Tables}
 use Rattle.dual_bound.specs.declared.prices.Prices.{Prices}
 use Rattle.dual_bound.specs.declared.prices.PriceStep.{PriceStep}
@@ -24,6 +23,16 @@ price_of prices f s m = price_after (pos 0) prices.steps f s m
 abbrev pub rent_of : Prices → ℕ → ℤ
 rent_of prices f = slice_index_or prices.rents f (pos 0)
 
+-- ---- charges
+-- what it costs that an aircraft stands at a station at the end of a day, days counted from 1; none is made yet
+abbrev pub charge_of : Prices → ℕ → ℕ → ℤ
+charge_of prices s d = pos 0
+
+-- what a price at a minute may be a minute later: itself, and the station's charge where the minute ends a day
+abbrev pub with_charge : Prices → ℕ → ℕ → ℤ → ℤ
+with_charge prices s m price = price
+
+-- ---- limits
 -- the greatest scale of prices, and the greatest size of a rent and of a price
 abbrev pub max_scale : ℕ
 max_scale = 10 ^ 18
@@ -53,21 +62,26 @@ AreRents t prices = (f : ℕ) → f < fleets_in t → IsRent (rent_of prices f)
 -- rents and prices are within their limits
 pub record AreWithin (t : Tables) (prices : Prices) : Type 0 where
   pub rents : AreRents t prices
-  pub each : (f s m : ℕ) → f < fleets_in t → s < stations_in t → m < MINUTES_PER_PERIOD → IsPrice (price_of prices f s m)
+  pub each : (f s m : ℕ) → f < fleets_in t → s < stations_in t → m < period_of t → IsPrice (price_of prices f s m)
 
--- from one minute to the next no price rises
+-- ---- rises
+-- from one minute to the next no price rises, but by a charge
 pub record NeverRise (t : Tables) (prices : Prices) : Type 0 where
-  pub each : (f s m : ℕ) → f < fleets_in t → s < stations_in t → m + 1 < MINUTES_PER_PERIOD → price_of prices f s (m + 1) ≤ℤ price_of prices f s m
+  pub each : (f s m : ℕ) → f < fleets_in t → s < stations_in t → m + 1 < period_of t → price_of prices f s (m + 1) ≤ℤ with_charge prices s m (price_of prices f s m)
 
--- over the end of the period a price rises by the rent at most
+-- over the end of the period a price rises by the rent at most, and the charge of the last day
+abbrev pub RisesOverEnd : Tables → Prices → ℕ → ℕ → Type 0
+RisesOverEnd t prices f s = price_of prices f s 0 ≤ℤ with_charge prices s (last_of t) (price_of prices f s (last_of t) +ℤ rent_of prices f)
+
+-- the same of a period of one day without charges, which some still say
 abbrev pub RisesByRent : Prices → ℕ → ℕ → Type 0
 RisesByRent prices f s = price_of prices f s 0 ≤ℤ (price_of prices f s last_minute +ℤ rent_of prices f)
 
 -- and so does each
 pub record RiseByRent (t : Tables) (prices : Prices) : Type 0 where
-  pub each : (f s : ℕ) → f < fleets_in t → s < stations_in t → RisesByRent prices f s
+  pub each : (f s : ℕ) → f < fleets_in t → s < stations_in t → RisesOverEnd t prices f s
 
--- prices within their limits, which never rise through the period, and rise over its end by the rent at most
+-- prices within their limits, which never rise through the period, and over its end by the rent at most, but for charges
 pub record ArePrices (t : Tables) (prices : Prices) : Type 0 where
   pub scale : IsScale prices.scale
   pub within : AreWithin t prices

@@ -1,8 +1,7 @@
 -- Trees in written order: those that the text of a proof tells, each by one text alone.
 use Rattle.std.specs.Prelude.{◌≡◌, ℕ, ◌<◌, ◌≤◌, ◌^◌, ◌==◌, ◌&&◌, Bool, false, not, List, [], ◌∷◌, length, All, ℤ, pos, neg_ℤ, ◌≤ℤ◌, Option, Some, None, IsTrue, ⊤}
 use Rattle.std.specs.Ordering.{int_eq}
-use Rattle.fleet_model.specs.Schedule.{IsPair, fleets_in, leg_on, legs_in, stations_in}
-use Rattle.fleet_model.specs.Use.{last_minute}
+use Rattle.fleet_model.specs.Schedule.{IsPair, fleets_in, last_of, leg_on, legs_in, stations_in}
 use Rattle.fleet_model.specs.declared.tables.Tables.{Tables}
 use Rattle.dual_bound.specs.Leaves.{depth_of}
 use Rattle.dual_bound.specs.Nodes.{nodes_of}
@@ -28,7 +27,7 @@ pub record IsFigure (z : ℤ) : Type 0 where
 pub record IsStepInOrder (t : Tables) (step : PriceStep) : Type 0 where
   pub fleet : step.fleet < fleets_in t
   pub station : step.station < stations_in t
-  pub minute : step.minute ≤ last_minute
+  pub minute : step.minute ≤ last_of t
   pub value : IsFigure step.value
 
 -- each step may follow the one before it: at its place a later minute and another value, at a later place minute 0

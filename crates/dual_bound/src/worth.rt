@@ -1,10 +1,10 @@
 //! The bound that prices give in a subproblem.
 ghost use Rattle.std.specs.Prelude.{◌≡◌, ◌<◌, ◌≤◌, ◌*◌, ◌-ℤ◌, ◌*ℤ◌, pos};
 ghost use Rattle.sums.specs.Below.{sum_below_ℤ};
-ghost use Rattle.fleet_model.specs.declared.limits.TheConstants.{MAX_AIRCRAFT, MINUTES_PER_PERIOD};
+ghost use Rattle.fleet_model.specs.declared.limits.TheConstants.{MAX_AIRCRAFT};
 ghost use Rattle.fleet_model.specs.Kept.{kept_by};
 ghost use Rattle.fleet_model.specs.Limits.{IsCost};
-ghost use Rattle.fleet_model.specs.Schedule.{IsPair, fleets_in, leg_of, legs_in, stations_in};
+ghost use Rattle.fleet_model.specs.Schedule.{IsPair, fleet_by, fleets_in, leg_of, legs_in, period_of, stations_in};
 ghost use Rattle.fleet_model.specs.Times.{departure, laps_of, ready_minute};
 ghost use Rattle.dual_bound.specs.Prices.{AreWithin, IsScale, price_of, rent_of};
 ghost use Rattle.dual_bound.specs.Sizes.{IsUpTo};
@@ -12,7 +12,7 @@ ghost use Rattle.dual_bound.specs.Worth.{cost_units, leg_worth, lesser, pair_wor
 
 use crate::price_finder::PriceFinder;
 use crate::prices::Prices;
-use fleet_model::{Kept, Pair, Tables, laps, ready};
+use fleet_model::{Kept, Pair, Tables};
 
 /// The worth of prices in a subproblem, over their scale: with `k` = 1 a bound on what each legal assignment of
 /// kept pairs costs; with `k` = 0, where it is above 0, a proof that there is none. A leg that keeps no pair adds 0.
@@ -57,9 +57,9 @@ fn leg_worth(tables: &Tables, kept: &Kept, prices: &PriceFinder<'_>, k: u8, leg:
     ensures size { IsUpTo 5 result }
 {
     let mut least = None;
-    for fleet in 0..tables.fleet_count() {
-        if kept.kept(leg, fleet) {
-            let worth = pair_worth(tables, prices, k, Pair { leg, choice: fleet });
+    for choice in 0..tables.choice_count(leg) {
+        if kept.kept(leg, choice) {
+            let worth = pair_worth(tables, prices, k, Pair { leg, choice });
             least = Some(lesser(&least, &worth));
         }
     }
@@ -76,7 +76,7 @@ fn lesser(first: &Option<i128>, second: &i128) -> i128
     }
 }
 
-// What a pair costs by prices: where they are all 0 of its fleet, its cost alone.
+// What a pair costs by prices: its cost alone where no fleet flies it, or where prices and rents are 0 of its fleet.
 fn pair_worth(tables: &Tables, prices: &PriceFinder<'_>, k: u8, pair: Pair) -> i128
     requires scale { IsScale prices.now.scale }
     requires within { AreWithin tables.now prices.now }
@@ -85,24 +85,44 @@ fn pair_worth(tables: &Tables, prices: &PriceFinder<'_>, k: u8, pair: Pair) -> i
     ensures value { result ≡ pair_worth tables.now prices.now k pair }
     ensures size { IsUpTo 5 result }
 {
-    if prices.is_idle(pair.choice) {
+    let fleet = tables.fleet_by(pair);
+    if fleet >= tables.fleet_count() {
         return scaled_cost(tables, prices.scale(), k, pair);
     }
-    priced_worth(tables, prices, k, pair)
+    flown_worth(tables, prices, k, pair, fleet)
 }
 
-// What a pair costs by prices.
-fn priced_worth(tables: &Tables, prices: &PriceFinder<'_>, k: u8, pair: Pair) -> i128
+// What a pair costs by prices that a fleet flies: where prices and rents are 0 of the fleet, its cost alone.
+fn flown_worth(tables: &Tables, prices: &PriceFinder<'_>, k: u8, pair: Pair, fleet: u32) -> i128
     requires scale { IsScale prices.now.scale }
     requires within { AreWithin tables.now prices.now }
     requires k { k ≤ 1 }
     requires pair { IsPair tables.now pair }
+    requires by { fleet ≡ fleet_by tables.now pair }
+    requires flown { fleet < fleets_in tables.now }
+    ensures value { result ≡ pair_worth tables.now prices.now k pair }
+    ensures size { IsUpTo 5 result }
+{
+    if prices.is_idle(fleet) {
+        return scaled_cost(tables, prices.scale(), k, pair);
+    }
+    priced_worth(tables, prices, k, pair, fleet)
+}
+
+// What a pair costs by prices that a fleet flies.
+fn priced_worth(tables: &Tables, prices: &PriceFinder<'_>, k: u8, pair: Pair, fleet: u32) -> i128
+    requires scale { IsScale prices.now.scale }
+    requires within { AreWithin tables.now prices.now }
+    requires k { k ≤ 1 }
+    requires pair { IsPair tables.now pair }
+    requires by { fleet ≡ fleet_by tables.now pair }
+    requires flown { fleet < fleets_in tables.now }
     ensures value { result ≡ pair_worth tables.now prices.now k pair }
     ensures size { IsUpTo 5 result }
 {
     scaled_cost(tables, prices.scale(), k, pair)
-        + price_fall(tables, prices, pair)
-        + lap_rents(tables, prices, pair)
+        + price_fall(tables, prices, pair, fleet)
+        + lap_rents(tables, prices, pair, fleet)
 }
 
 // k times the cost of a pair, over the scale; 0 where it may not be flown.
@@ -127,17 +147,17 @@ fn cost_units(tables: &Tables, pair: Pair) -> i128
 }
 
 // What an aircraft is worth where and when it departs, less what it is worth where and when it is ready.
-fn price_fall(tables: &Tables, prices: &PriceFinder<'_>, pair: Pair) -> i128
+fn price_fall(tables: &Tables, prices: &PriceFinder<'_>, pair: Pair, fleet: u32) -> i128
     requires within { AreWithin tables.now prices.now }
     requires pair { IsPair tables.now pair }
-    ensures value { result ≡ price_of prices.now pair.choice (leg_of tables.now pair.leg).from (departure tables.now pair)
-        -ℤ price_of prices.now pair.choice (leg_of tables.now pair.leg).to (ready_minute tables.now pair) }
+    requires flown { fleet < fleets_in tables.now }
+    ensures value { result ≡ price_of prices.now fleet (leg_of tables.now pair.leg).from (departure tables.now pair)
+        -ℤ price_of prices.now fleet (leg_of tables.now pair.leg).to (ready_minute tables.now pair) }
     ensures size { IsUpTo 2 result }
 {
     let flown = tables.leg(pair.leg);
-    let back = ready(tables, pair.leg, pair.choice);
-    price(tables, prices, pair.choice, flown.from, flown.dep)
-        - price(tables, prices, pair.choice, flown.to, back)
+    price(tables, prices, fleet, flown.from, tables.departure(pair))
+        - price(tables, prices, fleet, flown.to, tables.ready(pair))
 }
 
 // A price, with its size.
@@ -145,7 +165,7 @@ fn price(tables: &Tables, prices: &PriceFinder<'_>, fleet: u32, station: u32, mi
     requires within { AreWithin tables.now prices.now }
     requires fleet { fleet < fleets_in tables.now }
     requires station { station < stations_in tables.now }
-    requires minute { minute < MINUTES_PER_PERIOD }
+    requires minute { minute < period_of tables.now }
     ensures value { result ≡ price_of prices.now fleet station minute }
     ensures size { IsUpTo 1 result }
 {
@@ -163,13 +183,14 @@ fn rent(tables: &Tables, prices: &PriceFinder<'_>, fleet: u32) -> i128
 }
 
 // The rent of a pair's aircraft for each period start between departure and readiness.
-fn lap_rents(tables: &Tables, prices: &PriceFinder<'_>, pair: Pair) -> i128
+fn lap_rents(tables: &Tables, prices: &PriceFinder<'_>, pair: Pair, fleet: u32) -> i128
     requires within { AreWithin tables.now prices.now }
     requires pair { IsPair tables.now pair }
-    ensures value { result ≡ rent_of prices.now pair.choice *ℤ pos (laps_of tables.now pair) }
+    requires flown { fleet < fleets_in tables.now }
+    ensures value { result ≡ rent_of prices.now fleet *ℤ pos (laps_of tables.now pair) }
     ensures size { IsUpTo 2 result }
 {
-    rent(tables, prices, pair.choice) * i128::from(laps(tables, pair.leg, pair.choice))
+    rent(tables, prices, fleet) * i128::from(tables.laps(pair))
 }
 
 // The rents of all aircraft.

@@ -5,8 +5,8 @@ use Rattle.dual_bound.specs.Sizes.{IsUpTo}
 use Rattle.dual_bound.specs.Worth.{least_below, pair_worth}
 use Rattle.dual_bound.proofs.worth.leg_worth.Given as goal
 
-abbrev pub invariant-loop-fleet : goal.invariant-loop-fleet
-invariant-loop-fleet l = record {
-  least : l.least ≡ least_below (λ f. kept_by l.kept (leg_on l.leg f)) (λ f. pair_worth l.tables l.prices l.k (leg_on l.leg f)) l.fleet;
+abbrev pub invariant-loop-choice : goal.invariant-loop-choice
+invariant-loop-choice l = record {
+  least : l.least ≡ least_below (λ c. kept_by l.kept (leg_on l.leg c)) (λ c. pair_worth l.tables l.prices l.k (leg_on l.leg c)) l.choice;
   size : IfSome l.least (λ z. IsUpTo 5 z);
 }

@@ -1,15 +1,15 @@
 use Rattle.std.proofs.Common.{sym, subst, arith}
 use Rattle.dual_bound.specs.Prices.{IsScale}
 use Rattle.dual_bound.proofs.ScaledCosts.{five_held, idle_worth, one_as_five, worth_held}
-use Rattle.dual_bound.proofs.worth.pair_worth.Goals as goal
+use Rattle.dual_bound.proofs.worth.flown_worth.Goals as goal
 
 pub scaled_cost-requires-clause-scale : goal.scaled_cost-requires-clause-scale
 scaled_cost-requires-clause-scale c = subst (λ z. IsScale z) (sym c.scale.ensures) c.requires.scale
 
 pub returns-then-is_idle-clause-value : goal.returns-then-is_idle-clause-value
 returns-then-is_idle-clause-value c =
-    idle_worth c.args.tables.now c.args.prices.now c.args.k c.args.pair c.scale.result.now c.scaled_cost.result (c.is_idle.ensures c.if-is_idle.true) c.scale.ensures c.scaled_cost.ensures.value
-    c.scaled_cost.ensures.size
+    idle_worth c.args.tables.now c.args.prices.now c.args.k c.args.pair c.args.fleet c.scale.result.now c.scaled_cost.result c.requires.pair c.requires.by c.requires.flown (c.is_idle.ensures c.if-is_idle.true)
+    c.scale.ensures c.scaled_cost.ensures.value c.scaled_cost.ensures.size
 
 pub returns-then-is_idle-clause-size : goal.returns-then-is_idle-clause-size
 returns-then-is_idle-clause-size c = one_as_five c.scaled_cost.result c.scaled_cost.ensures.size
