@@ -2,8 +2,6 @@
 #![tactic(auto)]
 
 pub mod faults;
-pub mod figures;
-pub mod known;
 pub mod laws;
 pub mod line_reading;
 pub mod node_reading;
@@ -11,7 +9,6 @@ pub mod nodes;
 pub mod price_reading;
 pub mod reading;
 pub mod reading_lines;
-pub mod reading_words;
 pub mod tree_reading;
 pub mod writing;
 
