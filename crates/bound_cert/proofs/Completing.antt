@@ -1,35 +1,39 @@
 -- Prices and fractional assignments of which a first part was read go on to whole ones.
-use Rattle.std.proofs.Common.{◌≡◌, ◌⊎◌, ℕ, ◌<◌, ◌≤◌, ◌==◌, ◌&&◌, Bool, true, false, not, cond, List, [], ◌∷◌, ◌++◌, length, codes, ℤ, pos, Option, Some, None, Ok, Err, inl, inr, refl, sym, ap, subst, ◌∙◌, append_assoc, length-append, arith}
-use Rattle.std.specs.Prelude.{⊤, All}
-use Rattle.std.specs.Ordering.{int_eq}
-use Rattle.std.proofs.lemmas.Bool.Decides.{Decides-int_eq, nat_tests}
-use Rattle.std.proofs.lemmas.List.Elements.{All-cons, All-nil}
-use Rattle.sums.proofs.Naturals.{first_same}
-use Rattle.fleet_model.specs.Schedule.{fleets_in}
-use Rattle.fleet_model.specs.declared.tables.Tables.{Tables}
-use Rattle.bound_cert.specs.Lines.{Left, Reading, Stopped, ◌>>=◌, first_words, stands, words_of}
+use Rattle.bound_cert.proofs.LineTwins.{Alike, Twin, alike_first, alike_self, mixed_scale_twin, rent_twin, scale_twin, step_twin, weight_twin}
+use Rattle.bound_cert.proofs.ReadOn.{begins, bound, rents_end, rents_more, steps_end, steps_more, weights_end, weights_more}
+use Rattle.bound_cert.proofs.Shrinking.{Shrinks, rents_shrink, shrinks_bind, steps_shrink, weights_shrink}
+use Rattle.bound_cert.proofs.TextPrices.{StepWas, step_was}
+use Rattle.bound_cert.proofs.WrittenLines.{names, other_words}
+use Rattle.bound_cert.proofs.WrittenNodes.{behind_line}
+use Rattle.bound_cert.proofs.WrittenPrices.{IsBehind, mixed_scale_read, needed_by, next_begins, of_step, scale_read, step_read, steps_read}
+use Rattle.bound_cert.specs.Lines.{◌>>=◌, Left, Reading, Stopped, fits}
+use Rattle.bound_cert.specs.ProofText.{at_line}
+use Rattle.bound_cert.specs.Reading.{first_words, is_needless, mixed_at, mixed_scale_at, padded, prices_at, rent_at, rents_from, scale_at, step_at, steps_from, weight_at, weights_from}
+use Rattle.bound_cert.specs.declared.reading_lines.Due.{Due}
+use Rattle.dual_bound.proofs.StepOrder.{one_figure, same_place_by}
 use Rattle.dual_bound.specs.OfTables.{IsStepOf}
-use Rattle.bound_cert.specs.ProofText.{at_line, mixed_line, scale_line}
-use Rattle.bound_cert.specs.Reading.{goes_on_at, is_needless, mixed_at, padded, prices_at, rent_at, rents_from, scale_at, step_at, steps_from, weight_at, weights_from}
 use Rattle.dual_bound.specs.Order.{same_place, step_follows}
 use Rattle.dual_bound.specs.WrittenOrder.{IsStepInOrder, goes_on}
 use Rattle.dual_bound.specs.declared.mixed.Weight.{Weight}
 use Rattle.dual_bound.specs.declared.prices.PriceStep.{PriceStep}
-use Rattle.dual_bound.proofs.StepOrder.{one_figure, same_place_by}
+use Rattle.fleet_model.specs.declared.tables.Tables.{Tables}
+use Rattle.proof_lines.specs.Forms.{form_in}
+use Rattle.proof_lines.specs.LineText.{line_bytes}
+use Rattle.proof_lines.specs.Reading.{is_step_of}
+use Rattle.proof_lines.specs.Words.{words_of}
+use Rattle.std.proofs.Common.{[], ◌&&◌, ◌++◌, ◌<◌, ◌==◌, ◌∙◌, ◌∷◌, ◌≡◌, ◌≤◌, ◌⊎◌, Bool, Err, List, None, Ok, Option, Some, ap, append_assoc, arith, cond, false, inl, inr, length, length-append, not, pos, refl, subst, sym, true, ℕ, ℤ}
+use Rattle.std.proofs.lemmas.Bool.Decides.{Decides-int_eq, nat_tests}
+use Rattle.std.proofs.lemmas.List.Elements.{All-cons, All-nil}
+use Rattle.std.specs.Ordering.{int_eq}
+use Rattle.std.specs.Prelude.{⊤, All}
+use Rattle.sums.proofs.Naturals.{first_same}
 use Rattle.bound_cert.specs.declared.reading_lines.Due.TheVariants as due
-use Rattle.bound_cert.proofs.LineTwins.{Alike, Twin, alike_first, alike_self, rent_twin, scale_twin, step_twin, weight_twin}
-use Rattle.bound_cert.proofs.LinesOfWords.{mixed_line_is}
-use Rattle.bound_cert.proofs.ReadOn.{begins, bound, rents_end, rents_more, steps_end, steps_more, weights_end, weights_more}
-use Rattle.bound_cert.proofs.Shrinking.{Shrinks, rents_shrink, shrinks_bind, steps_shrink, weights_shrink}
-use Rattle.bound_cert.proofs.TextPrices.{StepWas, step_was}
-use Rattle.bound_cert.proofs.WrittenLines.{joined}
-use Rattle.bound_cert.proofs.WrittenNodes.{behind_line}
-use Rattle.bound_cert.proofs.WrittenPrices.{IsBehind, mixed_scale_read, needed_by, next_begins, of_step, scale_read, step_read, steps_read}
+use Rattle.proof_lines.specs.declared.line.Line.TheVariants as says
 
--- some line, which doesn't begin with the word
-pub record MayFollow (word : List ℕ) (left : Left) : Type 0 where
+-- some line, which doesn't begin as one of this kind
+pub record MayFollow (kind : Due) (left : Left) : Type 0 where
   pub some : 0 < length left
-  pub other : begins left word ≡ false
+  pub other : begins left kind ≡ false
 
 -- where nothing of the lines before is left, these may stand
 abbrev pub MayAt : (Left → Type 0) → Left → Left → Type 0
@@ -185,64 +189,64 @@ module _ {A B C : Type 0} (MayFirst NeedFirst May : Left → Type 0) (end : Left
         need = λ z ends. any_at p ((done.more ++ behind.more) ++ z);
       }
 
-no_rent : (m : Left) → IsBehind m → MayFollow (codes "rent") m
+no_rent : (m : Left) → IsBehind m → MayFollow due.Rent m
 no_rent m behind = record { some = behind.some; other = behind.no_rent }
 
-no_step : (m : Left) → IsBehind m → MayFollow (codes "at") m
+no_step : (m : Left) → IsBehind m → MayFollow due.Step m
 no_step m behind = record { some = behind.some; other = behind.no_step }
 
 module _ (t : Tables) (line : List ℕ) (after : Left) where
   abbrev end : Left
   end = line ∷ after
 
-  rents_go : (rents : List ℤ) (p : Left) → EndsBy (MayFollow (codes "rent")) IsBehind end (rents_from t rents) p (rents_from t rents (p ++ end))
+  rents_go : (rents : List ℤ) (p : Left) → EndsBy (MayFollow due.Rent) IsBehind end (rents_from (names t) rents) p (rents_from (names t) rents (p ++ end))
   unfolding rents_from
   rents_go rents [] =
-      ends_if _ _ end _ [] (stands (words_of line) 0 (codes "rent")) _ _
-      (λ is. ends_read _ _ end _ [] (rent_at t (length rents) end) _
-      (λ e failed there. record { more = []; value = padded rents (fleets_in t); reads = λ z ends. rents_end t rents z ends.no_rent; need = λ z ends. ends })
+      ends_if _ _ end _ [] (fits due.Rent (form_in (words_of line))) _ _
+      (λ is. ends_read _ _ end _ [] (rent_at (names t) (length rents) end) _
+      (λ e failed there. record { more = []; value = padded rents (length (names t).fleets); reads = λ z ends. rents_end (names t) rents z ends.no_rent; need = λ z ends. ends })
       (λ entry read. beyond _ _ end _ [] (length after) _ (rents_shrink t (padded rents entry.0 ++ entry.1 ∷ []) after) (omega arith)))
-      (λ is. inl (record { rest = []; left_is = refl; stays = λ m some may. rents_end t rents m may.other }))
+      (λ is. inl (record { rest = []; left_is = refl; stays = λ m some may. rents_end (names t) rents m may.other }))
   rents_go rents (x ∷ p) =
-      ends_if _ _ end _ (x ∷ p) (stands (words_of x) 0 (codes "rent")) _ _
-      (λ is. ends_read _ _ end _ (x ∷ p) (rent_at t (length rents) (x ∷ (p ++ end))) _
-      (λ e failed there. not_there x p end (rent_at t (length rents) (x ∷ (p ++ end))) e (rent_twin t (x ∷ (p ++ end)) (x ∷ (p ++ end)) (alike_self (x ∷ (p ++ end))) (length rents)) failed there)
-      (λ entry read. ends_lift _ _ end (rents_from t rents) (x ∷ p) (rents_from t (padded rents entry.0 ++ entry.1 ∷ [])) p _ (λ m may. tt)
-      (λ m some. rents_more t rents (x ∷ (p ++ m)) entry is
-      (value_of (x ∷ (p ++ end)) (x ∷ (p ++ m)) (rent_at t (length rents) (x ∷ (p ++ end))) (rent_at t (length rents) (x ∷ (p ++ m))) entry
+      ends_if _ _ end _ (x ∷ p) (fits due.Rent (form_in (words_of x))) _ _
+      (λ is. ends_read _ _ end _ (x ∷ p) (rent_at (names t) (length rents) (x ∷ (p ++ end))) _
+      (λ e failed there. not_there x p end (rent_at (names t) (length rents) (x ∷ (p ++ end))) e (rent_twin t (x ∷ (p ++ end)) (x ∷ (p ++ end)) (alike_self (x ∷ (p ++ end))) (length rents)) failed there)
+      (λ entry read. ends_lift _ _ end (rents_from (names t) rents) (x ∷ p) (rents_from (names t) (padded rents entry.0 ++ entry.1 ∷ [])) p _ (λ m may. tt)
+      (λ m some. rents_more (names t) rents (x ∷ (p ++ m)) entry is
+      (value_of (x ∷ (p ++ end)) (x ∷ (p ++ m)) (rent_at (names t) (length rents) (x ∷ (p ++ end))) (rent_at (names t) (length rents) (x ∷ (p ++ m))) entry
       (rent_twin t (x ∷ (p ++ end)) (x ∷ (p ++ m)) (alike_after x line p after m some) (length rents)) read))
       (rents_go (padded rents entry.0 ++ entry.1 ∷ []) p)))
-      (λ is. inl (record { rest = x ∷ p; left_is = refl; stays = λ m some may. rents_end t rents (x ∷ (p ++ m)) is }))
+      (λ is. inl (record { rest = x ∷ p; left_is = refl; stays = λ m some may. rents_end (names t) rents (x ∷ (p ++ m)) is }))
 
-  weights_go : (weights : List Weight) (before : Option Weight) (p : Left) → EndsBy IsBehind IsBehind end (weights_from t weights before) p (weights_from t weights before (p ++ end))
+  weights_go : (weights : List Weight) (before : Option Weight) (p : Left) → EndsBy IsBehind IsBehind end (weights_from (names t) weights before) p (weights_from (names t) weights before (p ++ end))
   unfolding weights_from
   weights_go weights before [] =
-      ends_if _ _ end _ [] (stands (words_of line) 0 (codes "weight")) _ _
-      (λ is. ends_read _ _ end _ [] (weight_at t before end) _
-      (λ e failed there. record { more = []; value = weights; reads = λ z ends. weights_end t weights before z ends.no_weight; need = λ z ends. ends })
+      ends_if _ _ end _ [] (fits due.Weight (form_in (words_of line))) _ _
+      (λ is. ends_read _ _ end _ [] (weight_at (names t) before end) _
+      (λ e failed there. record { more = []; value = weights; reads = λ z ends. weights_end (names t) weights before z ends.no_weight; need = λ z ends. ends })
       (λ entry read. beyond _ _ end _ [] (length after) _ (weights_shrink t (weights ++ entry ∷ []) (Some entry) after) (omega arith)))
-      (λ is. inl (record { rest = []; left_is = refl; stays = λ m some may. weights_end t weights before m may.no_weight }))
+      (λ is. inl (record { rest = []; left_is = refl; stays = λ m some may. weights_end (names t) weights before m may.no_weight }))
   weights_go weights before (x ∷ p) =
-      ends_if _ _ end _ (x ∷ p) (stands (words_of x) 0 (codes "weight")) _ _
-      (λ is. ends_read _ _ end _ (x ∷ p) (weight_at t before (x ∷ (p ++ end))) _
-      (λ e failed there. not_there x p end (weight_at t before (x ∷ (p ++ end))) e (weight_twin t (x ∷ (p ++ end)) (x ∷ (p ++ end)) (alike_self (x ∷ (p ++ end))) before) failed there)
-      (λ entry read. ends_lift _ _ end (weights_from t weights before) (x ∷ p) (weights_from t (weights ++ entry ∷ []) (Some entry)) p _ (λ m may. tt)
-      (λ m some. weights_more t weights before (x ∷ (p ++ m)) entry is
-      (value_of (x ∷ (p ++ end)) (x ∷ (p ++ m)) (weight_at t before (x ∷ (p ++ end))) (weight_at t before (x ∷ (p ++ m))) entry
+      ends_if _ _ end _ (x ∷ p) (fits due.Weight (form_in (words_of x))) _ _
+      (λ is. ends_read _ _ end _ (x ∷ p) (weight_at (names t) before (x ∷ (p ++ end))) _
+      (λ e failed there. not_there x p end (weight_at (names t) before (x ∷ (p ++ end))) e (weight_twin t (x ∷ (p ++ end)) (x ∷ (p ++ end)) (alike_self (x ∷ (p ++ end))) before) failed there)
+      (λ entry read. ends_lift _ _ end (weights_from (names t) weights before) (x ∷ p) (weights_from (names t) (weights ++ entry ∷ []) (Some entry)) p _ (λ m may. tt)
+      (λ m some. weights_more (names t) weights before (x ∷ (p ++ m)) entry is
+      (value_of (x ∷ (p ++ end)) (x ∷ (p ++ m)) (weight_at (names t) before (x ∷ (p ++ end))) (weight_at (names t) before (x ∷ (p ++ m))) entry
       (weight_twin t (x ∷ (p ++ end)) (x ∷ (p ++ m)) (alike_after x line p after m some) before) read))
       (weights_go (weights ++ entry ∷ []) (Some entry) p)))
-      (λ is. inl (record { rest = x ∷ p; left_is = refl; stays = λ m some may. weights_end t weights before (x ∷ (p ++ m)) is }))
+      (λ is. inl (record { rest = x ∷ p; left_is = refl; stays = λ m some may. weights_end (names t) weights before (x ∷ (p ++ m)) is }))
 
   -- a step that other lines may follow: it needs no other step of its place, or has one
-  module _ (steps : List PriceStep) (before : Option PriceStep) (x : List ℕ) (is : begins (x ∷ []) (codes "at") ≡ true) (step : PriceStep) (was : StepWas t before (x ∷ end) step) where
-    onward : (m : Left) → 0 < length m → is_needless step (at_line t step) m ≡ false → steps_from t steps before (x ∷ m) ≡ steps_from t (steps ++ step ∷ []) (Some step) m
+  module _ (steps : List PriceStep) (before : Option PriceStep) (x : List ℕ) (is : begins (x ∷ []) due.Step ≡ true) (step : PriceStep) (was : StepWas t before (x ∷ end) step) where
+    onward : (m : Left) → 0 < length m → is_needless (names t) step m ≡ false → steps_from (names t) steps before (x ∷ m) ≡ steps_from (names t) (steps ++ step ∷ []) (Some step) m
     onward m some needed =
-        let first : x ≡ joined (at_line t step) = first_same x (joined (at_line t step)) end end was.line_is.is in
-        steps_more t steps before (x ∷ m) step is (ap (λ y. step_at t before (y ∷ m)) first ∙ step_read t before step m was.order was.follows needed some)
+        let first : x ≡ line_bytes t (at_line step) = first_same x (line_bytes t (at_line step)) end end was.line_is.is in
+        steps_more (names t) steps before (x ∷ m) step is (ap (λ y. step_at (names t) before (y ∷ m)) first ∙ step_read t before step m was.order was.follows needed some)
 
     -- behind lines of another kind it is needed as little as behind such
-    stays_needed : (m : Left) → begins end (codes "at") ≡ false → begins m (codes "at") ≡ false → is_needless step (at_line t step) m ≡ false
-    stays_needed m here there = by_zero (step.minute == 0) (int_eq step.value (pos 0)) (goes_on_at (first_words end) (at_line t step)) (goes_on_at (first_words m) (at_line t step)) (rw here refl) was.needed
+    stays_needed : (m : Left) → begins end due.Step ≡ false → begins m due.Step ≡ false → is_needless (names t) step m ≡ false
+    stays_needed m here there = by_zero (step.minute == 0) (int_eq step.value (pos 0)) (is_step_of (names t) step.fleet step.station (first_words end)) (is_step_of (names t) step.fleet step.station (first_words m)) (rw (other_words end here) refl) was.needed
       where
         by_zero : (c d g h : Bool) → g ≡ false → (c && d && not g) ≡ false → (c && d && not h) ≡ false
         by_zero false d g h off needed = refl
@@ -252,15 +256,15 @@ module _ (t : Tables) (line : List ℕ) (after : Left) where
     next : PriceStep
     next = record { fleet = step.fleet; station = step.station; minute = 1; value = pos 1 }
 
-    completed : Completes (MayFollow (codes "rent")) (steps_from t steps before) (x ∷ [])
+    completed : Completes (MayFollow due.Rent) (steps_from (names t) steps before) (x ∷ [])
     unfolding next
     completed = by_zero (step.minute == 0) (int_eq step.value (pos 0)) refl refl
       where
-        plain : (c d : Bool) → (step.minute == 0) ≡ c → int_eq step.value (pos 0) ≡ d → (c && d) ≡ false → Completes (MayFollow (codes "rent")) (steps_from t steps before) (x ∷ [])
+        plain : (c d : Bool) → (step.minute == 0) ≡ c → int_eq step.value (pos 0) ≡ d → (c && d) ≡ false → Completes (MayFollow due.Rent) (steps_from (names t) steps before) (x ∷ [])
         plain c d minute value off = record {
           more = [];
           value = steps ++ step ∷ [];
-          reads = λ z ends. onward z ends.some (rw (minute, value) (needless_off c d (goes_on_at (first_words z) (at_line t step)) off)) ∙ steps_end t (steps ++ step ∷ []) (Some step) z ends.no_step;
+          reads = λ z ends. onward z ends.some (rw (minute, value) (needless_off c d (is_step_of (names t) step.fleet step.station (first_words z)) off)) ∙ steps_end (names t) (steps ++ step ∷ []) (Some step) z ends.no_step;
           need = λ z ends. tt;
         }
           where
@@ -269,7 +273,7 @@ module _ (t : Tables) (line : List ℕ) (after : Left) where
             needless_off true false g off = refl
             needless_off true true g off = absurd (cc off)
 
-        by_zero : (c d : Bool) → (step.minute == 0) ≡ c → int_eq step.value (pos 0) ≡ d → Completes (MayFollow (codes "rent")) (steps_from t steps before) (x ∷ [])
+        by_zero : (c d : Bool) → (step.minute == 0) ≡ c → int_eq step.value (pos 0) ≡ d → Completes (MayFollow due.Rent) (steps_from (names t) steps before) (x ∷ [])
         by_zero false d minute value = plain false d minute value refl
         by_zero true false minute value = plain true false minute value refl
         by_zero true true minute value =
@@ -281,97 +285,97 @@ module _ (t : Tables) (line : List ℕ) (after : Left) where
             let each : All (IsStepInOrder t) (next ∷ []) = All-cons (IsStepInOrder t) next [] order (All-nil (IsStepInOrder t)) in
             let of : All (IsStepOf t) (next ∷ []) = All-cons (IsStepOf t) next [] (of_step t next order) (All-nil (IsStepOf t)) in
             record {
-              more = joined (at_line t next) ∷ [];
+              more = line_bytes t (at_line next) ∷ [];
               value = (steps ++ step ∷ []) ++ next ∷ [];
               reads = λ z ends.
-                  onward (joined (at_line t next) ∷ z) (omega arith)
-                  (needed_by t (step.minute == 0) (int_eq step.value (pos 0)) (goes_on step (next ∷ [])) (goes_on_at (first_words (joined (at_line t next) ∷ z)) (at_line t step)) (rw (place, minute, value) refl)
+                  onward (line_bytes t (at_line next) ∷ z) (omega arith)
+                  (needed_by t (step.minute == 0) (int_eq step.value (pos 0)) (goes_on step (next ∷ [])) (is_step_of (names t) step.fleet step.station (first_words (line_bytes t (at_line next) ∷ z))) (rw (place, minute, value) refl)
                   (next_begins t step (next ∷ []) z of))
                   ∙ steps_read t (next ∷ []) (steps ++ step ∷ []) (Some step) z each of (rw follows refl, tt) (refl, tt) ends.some ends.no_step;
               need = λ z ends. tt;
             }
 
-  steps_go : (steps : List PriceStep) (before : Option PriceStep) (p : Left) → EndsBy (MayFollow (codes "at")) (MayFollow (codes "rent")) end (steps_from t steps before) p (steps_from t steps before (p ++ end))
+  steps_go : (steps : List PriceStep) (before : Option PriceStep) (p : Left) → EndsBy (MayFollow due.Step) (MayFollow due.Rent) end (steps_from (names t) steps before) p (steps_from (names t) steps before (p ++ end))
   unfolding steps_from
   steps_go steps before [] =
-      ends_if _ _ end _ [] (stands (words_of line) 0 (codes "at")) _ _
-      (λ is. ends_read _ _ end _ [] (step_at t before end) _
-      (λ e failed there. record { more = []; value = steps; reads = λ z ends. steps_end t steps before z ends.no_step; need = λ z ends. no_rent z ends })
+      ends_if _ _ end _ [] (fits due.Step (form_in (words_of line))) _ _
+      (λ is. ends_read _ _ end _ [] (step_at (names t) before end) _
+      (λ e failed there. record { more = []; value = steps; reads = λ z ends. steps_end (names t) steps before z ends.no_step; need = λ z ends. no_rent z ends })
       (λ step read. beyond _ _ end _ [] (length after) _ (steps_shrink t (steps ++ step ∷ []) (Some step) after) (omega arith)))
-      (λ is. inl (record { rest = []; left_is = refl; stays = λ m some may. steps_end t steps before m may.other }))
+      (λ is. inl (record { rest = []; left_is = refl; stays = λ m some may. steps_end (names t) steps before m may.other }))
   steps_go steps before (x ∷ []) =
-      ends_if _ _ end _ (x ∷ []) (stands (words_of x) 0 (codes "at")) _ _
-      (λ is. ends_read _ _ end _ (x ∷ []) (step_at t before (x ∷ end)) _
-      (λ e failed there. not_there x [] end (step_at t before (x ∷ end)) e (step_twin t (x ∷ end) (x ∷ end) (alike_self (x ∷ end)) before (λ zero_step. refl)) failed there)
+      ends_if _ _ end _ (x ∷ []) (fits due.Step (form_in (words_of x))) _ _
+      (λ is. ends_read _ _ end _ (x ∷ []) (step_at (names t) before (x ∷ end)) _
+      (λ e failed there. not_there x [] end (step_at (names t) before (x ∷ end)) e (step_twin t (x ∷ end) (x ∷ end) (alike_self (x ∷ end)) before (λ zero_step. refl)) failed there)
       (λ step read.
       let was = step_was t before (x ∷ end) step read in
-      ends_if _ _ end _ (x ∷ []) (stands (words_of line) 0 (codes "at")) _ _
-      (λ on. ends_read _ _ end _ (x ∷ []) (step_at t (Some step) end) _ (λ e failed there. completed steps before x is step was)
+      ends_if _ _ end _ (x ∷ []) (fits due.Step (form_in (words_of line))) _ _
+      (λ on. ends_read _ _ end _ (x ∷ []) (step_at (names t) (Some step) end) _ (λ e failed there. completed steps before x is step was)
       (λ other read. beyond _ _ end _ (x ∷ []) (length after) _ (steps_shrink t ((steps ++ step ∷ []) ++ other ∷ []) (Some other) after) (omega arith)))
       (λ off. inl (record {
         rest = [];
         left_is = refl;
-        stays = λ m some may. onward steps before x is step was m some (stays_needed steps before x is step was m off may.other) ∙ steps_end t (steps ++ step ∷ []) (Some step) m may.other;
+        stays = λ m some may. onward steps before x is step was m some (stays_needed steps before x is step was m off may.other) ∙ steps_end (names t) (steps ++ step ∷ []) (Some step) m may.other;
       }))))
-      (λ is. inl (record { rest = x ∷ []; left_is = refl; stays = λ m some may. steps_end t steps before (x ∷ m) is }))
+      (λ is. inl (record { rest = x ∷ []; left_is = refl; stays = λ m some may. steps_end (names t) steps before (x ∷ m) is }))
   steps_go steps before (x ∷ y ∷ p) =
-      ends_if _ _ end _ (x ∷ y ∷ p) (stands (words_of x) 0 (codes "at")) _ _
-      (λ is. ends_read _ _ end _ (x ∷ y ∷ p) (step_at t before (x ∷ y ∷ (p ++ end))) _
-      (λ e failed there. not_there x (y ∷ p) end (step_at t before (x ∷ y ∷ (p ++ end))) e (step_twin t (x ∷ y ∷ (p ++ end)) (x ∷ y ∷ (p ++ end)) (alike_self (x ∷ y ∷ (p ++ end))) before (λ zero_step. refl)) failed there)
-      (λ step read. ends_lift _ _ end (steps_from t steps before) (x ∷ y ∷ p) (steps_from t (steps ++ step ∷ []) (Some step)) (y ∷ p) _ (λ m may. tt)
-      (λ m some. steps_more t steps before (x ∷ y ∷ (p ++ m)) step is
-      (value_of (x ∷ y ∷ (p ++ end)) (x ∷ y ∷ (p ++ m)) (step_at t before (x ∷ y ∷ (p ++ end))) (step_at t before (x ∷ y ∷ (p ++ m))) step
+      ends_if _ _ end _ (x ∷ y ∷ p) (fits due.Step (form_in (words_of x))) _ _
+      (λ is. ends_read _ _ end _ (x ∷ y ∷ p) (step_at (names t) before (x ∷ y ∷ (p ++ end))) _
+      (λ e failed there. not_there x (y ∷ p) end (step_at (names t) before (x ∷ y ∷ (p ++ end))) e (step_twin t (x ∷ y ∷ (p ++ end)) (x ∷ y ∷ (p ++ end)) (alike_self (x ∷ y ∷ (p ++ end))) before (λ zero_step. refl)) failed there)
+      (λ step read. ends_lift _ _ end (steps_from (names t) steps before) (x ∷ y ∷ p) (steps_from (names t) (steps ++ step ∷ []) (Some step)) (y ∷ p) _ (λ m may. tt)
+      (λ m some. steps_more (names t) steps before (x ∷ y ∷ (p ++ m)) step is
+      (value_of (x ∷ y ∷ (p ++ end)) (x ∷ y ∷ (p ++ m)) (step_at (names t) before (x ∷ y ∷ (p ++ end))) (step_at (names t) before (x ∷ y ∷ (p ++ m))) step
       (step_twin t (x ∷ y ∷ (p ++ end)) (x ∷ y ∷ (p ++ m)) (alike_first x y y (p ++ end) (p ++ m)) before (λ zero_step. refl)) read))
       (steps_go (steps ++ step ∷ []) (Some step) (y ∷ p))))
-      (λ is. inl (record { rest = x ∷ y ∷ p; left_is = refl; stays = λ m some may. steps_end t steps before (x ∷ y ∷ (p ++ m)) is }))
+      (λ is. inl (record { rest = x ∷ y ∷ p; left_is = refl; stays = λ m some may. steps_end (names t) steps before (x ∷ y ∷ (p ++ m)) is }))
 
-  pub prices_go : (p : Left) → EndsBy IsBehind (λ m. ⊤) end (prices_at t) p (prices_at t (p ++ end))
+  pub prices_go : (p : Left) → EndsBy IsBehind (λ m. ⊤) end (prices_at (names t)) p (prices_at (names t) (p ++ end))
   unfolding prices_at
   prices_go [] =
-      ends_read _ _ end _ [] (scale_at due.Scale end) _
+      ends_read _ _ end _ [] (scale_at (names t) end) _
       (λ e failed there. record {
-        more = joined (scale_line (pos 1)) ∷ [];
-        value = record { scale = pos 1; rents = padded [] (fleets_in t); steps = [] };
+        more = line_bytes t (says.Scale (pos 1)) ∷ [];
+        value = record { scale = pos 1; rents = padded [] (length (names t).fleets); steps = [] };
         reads = λ z ends.
-            bound (scale_at due.Scale (joined (scale_line (pos 1)) ∷ z)) (pos 1) _ (scale_read (pos 1) z one_figure ends.some)
-            ∙ bound (rents_from t [] z) (padded [] (fleets_in t), z) _ (rents_end t [] z ends.no_rent)
-            ∙ bound (steps_from t [] None z) ([], z) _ (steps_end t [] None z ends.no_step);
+            bound (scale_at (names t) (line_bytes t (says.Scale (pos 1)) ∷ z)) (pos 1) _ (scale_read t (pos 1) z one_figure ends.some)
+            ∙ bound (rents_from (names t) [] z) (padded [] (length (names t).fleets), z) _ (rents_end (names t) [] z ends.no_rent)
+            ∙ bound (steps_from (names t) [] None z) ([], z) _ (steps_end (names t) [] None z ends.no_step);
         need = λ z ends. tt;
       })
       (λ scale read. beyond _ _ end _ [] (length after) _
-      (shrinks_bind (length after) (rents_from t [] after) _ (rents_shrink t [] after) (λ rents b. shrinks_bind (length b) (steps_from t [] None b) _ (steps_shrink t [] None b) (λ steps c. omega arith))) (omega arith))
+      (shrinks_bind (length after) (rents_from (names t) [] after) _ (rents_shrink t [] after) (λ rents b. shrinks_bind (length b) (steps_from (names t) [] None b) _ (steps_shrink t [] None b) (λ steps c. omega arith))) (omega arith))
   prices_go (x ∷ p) =
-      ends_read _ _ end _ (x ∷ p) (scale_at due.Scale (x ∷ (p ++ end))) _
-      (λ e failed there. not_there x p end (scale_at due.Scale (x ∷ (p ++ end))) e (scale_twin t (x ∷ (p ++ end)) (x ∷ (p ++ end)) (alike_self (x ∷ (p ++ end))) due.Scale) failed there)
-      (λ scale read. ends_then (MayFollow (codes "rent")) IsBehind (MayFollow (codes "at")) end (rents_from t []) (λ rents. steps_from t [] None) (λ rents steps. record { scale = scale; rents = rents; steps = steps }) (prices_at t) (x ∷ p) p
+      ends_read _ _ end _ (x ∷ p) (scale_at (names t) (x ∷ (p ++ end))) _
+      (λ e failed there. not_there x p end (scale_at (names t) (x ∷ (p ++ end))) e (scale_twin t (x ∷ (p ++ end)) (x ∷ (p ++ end)) (alike_self (x ∷ (p ++ end)))) failed there)
+      (λ scale read. ends_then (MayFollow due.Rent) IsBehind (MayFollow due.Step) end (rents_from (names t) []) (λ rents. steps_from (names t) [] None) (λ rents steps. record { scale = scale; rents = rents; steps = steps }) (prices_at (names t)) (x ∷ p) p
       no_rent no_step
-      (λ m some. bound (scale_at due.Scale (x ∷ (p ++ m))) scale _
-      (value_of (x ∷ (p ++ end)) (x ∷ (p ++ m)) (scale_at due.Scale (x ∷ (p ++ end))) (scale_at due.Scale (x ∷ (p ++ m))) scale (scale_twin t (x ∷ (p ++ end)) (x ∷ (p ++ m)) (alike_after x line p after m some) due.Scale) read))
-      (λ rents. record { more = []; value = []; reads = λ z ends. steps_end t [] None z ends.no_step; need = λ z ends. ends })
+      (λ m some. bound (scale_at (names t) (x ∷ (p ++ m))) scale _
+      (value_of (x ∷ (p ++ end)) (x ∷ (p ++ m)) (scale_at (names t) (x ∷ (p ++ end))) (scale_at (names t) (x ∷ (p ++ m))) scale (scale_twin t (x ∷ (p ++ end)) (x ∷ (p ++ m)) (alike_after x line p after m some)) read))
+      (λ rents. record { more = []; value = []; reads = λ z ends. steps_end (names t) [] None z ends.no_step; need = λ z ends. ends })
       (λ rents. steps_shrink t [] None)
-      (λ rents. steps_go [] None) (rents_from t [] (p ++ end)) (rents_go [] p))
+      (λ rents. steps_go [] None) (rents_from (names t) [] (p ++ end)) (rents_go [] p))
 
-  pub one_mixed : Completes IsBehind (mixed_at t) []
+  pub one_mixed : Completes IsBehind (mixed_at (names t)) []
   unfolding mixed_at
   one_mixed = record {
-    more = joined (mixed_line (pos 1)) ∷ [];
+    more = line_bytes t (says.Mixed (pos 1)) ∷ [];
     value = record { scale = pos 1; weights = [] };
     reads = λ z ends.
-        bound (scale_at due.Mixed (joined (mixed_line (pos 1)) ∷ z)) (pos 1) _ (mixed_scale_read (pos 1) z one_figure ends.some)
-        ∙ bound (weights_from t [] None z) ([], z) _ (weights_end t [] None z ends.no_weight);
-    need = λ z ends. behind_line (mixed_line (pos 1)) z (mixed_line_is (pos 1)) refl refl refl;
+        bound (mixed_scale_at (names t) (line_bytes t (says.Mixed (pos 1)) ∷ z)) (pos 1) _ (mixed_scale_read t (pos 1) z one_figure ends.some)
+        ∙ bound (weights_from (names t) [] None z) ([], z) _ (weights_end (names t) [] None z ends.no_weight);
+    need = λ z ends. behind_line t (says.Mixed (pos 1)) z tt refl refl refl;
   }
 
-  pub mixed_goes : (p : Left) → EndsBy IsBehind IsBehind end (mixed_at t) p (mixed_at t (p ++ end))
+  pub mixed_goes : (p : Left) → EndsBy IsBehind IsBehind end (mixed_at (names t)) p (mixed_at (names t) (p ++ end))
   unfolding mixed_at
   mixed_goes [] =
-      ends_read _ _ end _ [] (scale_at due.Mixed end) _
+      ends_read _ _ end _ [] (mixed_scale_at (names t) end) _
       (λ e failed there. one_mixed)
-      (λ scale read. beyond _ _ end _ [] (length after) _ (shrinks_bind (length after) (weights_from t [] None after) _ (weights_shrink t [] None after) (λ weights b. omega arith)) (omega arith))
+      (λ scale read. beyond _ _ end _ [] (length after) _ (shrinks_bind (length after) (weights_from (names t) [] None after) _ (weights_shrink t [] None after) (λ weights b. omega arith)) (omega arith))
   mixed_goes (x ∷ p) =
-      ends_read _ _ end _ (x ∷ p) (scale_at due.Mixed (x ∷ (p ++ end))) _
-      (λ e failed there. not_there x p end (scale_at due.Mixed (x ∷ (p ++ end))) e (scale_twin t (x ∷ (p ++ end)) (x ∷ (p ++ end)) (alike_self (x ∷ (p ++ end))) due.Mixed) failed there)
-      (λ scale read. ends_map IsBehind IsBehind end (weights_from t [] None) (λ weights. record { scale = scale; weights = weights }) (mixed_at t) (x ∷ p) p (weights_from t [] None (p ++ end)) (λ m may. tt)
-      (λ m some. bound (scale_at due.Mixed (x ∷ (p ++ m))) scale _
-      (value_of (x ∷ (p ++ end)) (x ∷ (p ++ m)) (scale_at due.Mixed (x ∷ (p ++ end))) (scale_at due.Mixed (x ∷ (p ++ m))) scale (scale_twin t (x ∷ (p ++ end)) (x ∷ (p ++ m)) (alike_after x line p after m some) due.Mixed) read))
+      ends_read _ _ end _ (x ∷ p) (mixed_scale_at (names t) (x ∷ (p ++ end))) _
+      (λ e failed there. not_there x p end (mixed_scale_at (names t) (x ∷ (p ++ end))) e (mixed_scale_twin t (x ∷ (p ++ end)) (x ∷ (p ++ end)) (alike_self (x ∷ (p ++ end)))) failed there)
+      (λ scale read. ends_map IsBehind IsBehind end (weights_from (names t) [] None) (λ weights. record { scale = scale; weights = weights }) (mixed_at (names t)) (x ∷ p) p (weights_from (names t) [] None (p ++ end)) (λ m may. tt)
+      (λ m some. bound (mixed_scale_at (names t) (x ∷ (p ++ m))) scale _
+      (value_of (x ∷ (p ++ end)) (x ∷ (p ++ m)) (mixed_scale_at (names t) (x ∷ (p ++ end))) (mixed_scale_at (names t) (x ∷ (p ++ m))) scale (mixed_scale_twin t (x ∷ (p ++ end)) (x ∷ (p ++ m)) (alike_after x line p after m some)) read))
       (weights_go [] None p))

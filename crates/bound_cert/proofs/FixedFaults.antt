@@ -1,19 +1,25 @@
 -- The first fault of a text rests on the lines up to its own, and behind a step of 0 at minute 0 on the next one.
-use Rattle.std.proofs.Common.{◌≡◌, ◌⊎◌, ℕ, zero, suc, ◌<◌, ◌≤◌, Bool, true, false, cond, ◌==◌, List, [], ◌∷◌, ◌++◌, length, drop, codes, ℤ, Option, Some, None, Ok, Err, inl, inr, refl, sym, ap, subst, ◌∙◌, length-append, arith}
-use Rattle.std.specs.Prelude.{⊤}
-use Rattle.fleet_model.specs.declared.tables.Tables.{Tables}
+use Rattle.bound_cert.proofs.LineTwins.{Alike, Twin, alike_first, head_twin, line_twin, mixed_scale_twin, plan_twin, rent_twin, scale_twin, step_twin, weight_twin}
+use Rattle.bound_cert.proofs.Shrinking.{Shrinks, Stops, body_shrinks, end_stops, headed_twin, mixed_shrinks, node_takes, nodes_shrink, nothing_stops, proof_stops, rents_shrink, shrinks_bind, shrinks_if, steps_shrink, stops_then, tree_stops, version_stops, weights_shrink}
+use Rattle.bound_cert.proofs.WrittenLines.{names}
 use Rattle.bound_cert.specs.FirstFault.{FirstFaultIsFixed, is_zero_step}
-use Rattle.bound_cert.specs.Lines.{Left, Reading, ◌>>=◌, first_words, line_due, stands, stopped, words_of}
+use Rattle.bound_cert.specs.Lines.{◌>>=◌, Left, Reading, fits, line_due, stopped}
 use Rattle.bound_cert.specs.Nodes.{Above, after_node, end_at, head_is, nodes_from, nothing, plan_at, proof_at, rest_at, tree_at}
-use Rattle.bound_cert.specs.Reading.{body_at, head_at, mixed_at, node_at, padded, prices_at, rent_at, rents_from, scale_at, step_at, steps_from, weight_at, weights_from}
-use Rattle.dual_bound.specs.declared.mixed.Weight.{Weight}
+use Rattle.bound_cert.specs.Reading.{body_at, first_words, head_at, mixed_at, mixed_scale_at, node_at, padded, prices_at, rent_at, rents_from, scale_at, step_at, steps_from, weight_at, weights_from}
 use Rattle.bound_cert.specs.declared.nodes.Head.{Head}
-use Rattle.bound_cert.specs.declared.nodes.Head.TheVariants as head
+use Rattle.dual_bound.specs.declared.mixed.Weight.{Weight}
 use Rattle.dual_bound.specs.declared.nodes.Node.{Node}
 use Rattle.dual_bound.specs.declared.prices.PriceStep.{PriceStep}
+use Rattle.fleet_model.specs.declared.tables.Tables.{Tables}
+use Rattle.proof_lines.specs.Forms.{form_in}
+use Rattle.proof_lines.specs.Known.{names_in}
+use Rattle.proof_lines.specs.Words.{words_of}
+use Rattle.proof_lines.specs.declared.line.Version.{Version}
+use Rattle.std.proofs.Common.{[], ◌++◌, ◌<◌, ◌==◌, ◌∙◌, ◌∷◌, ◌≡◌, ◌≤◌, ◌⊎◌, Bool, Err, List, None, Ok, Option, Some, ap, arith, cond, drop, false, inl, inr, length, length-append, refl, subst, suc, sym, true, zero, ℕ, ℤ}
+use Rattle.std.specs.Prelude.{⊤}
+use Rattle.bound_cert.specs.declared.nodes.Head.TheVariants as head
 use Rattle.bound_cert.specs.declared.reading_lines.Due.TheVariants as due
-use Rattle.bound_cert.proofs.LineTwins.{Alike, Twin, alike_first, head_twin, line_twin, plan_twin, rent_twin, scale_twin, step_twin, weight_twin}
-use Rattle.bound_cert.proofs.Shrinking.{Shrinks, Stops, body_shrinks, end_stops, headed_twin, mixed_shrinks, node_takes, nodes_shrink, nothing_stops, proof_stops, rents_shrink, rest_stops, shrinks_bind, shrinks_if, steps_shrink, stops_then, tree_stops, weights_shrink}
+use Rattle.proof_lines.specs.declared.line.Version.TheVariants as version
 
 -- what is read before the line is read of both; what stops at it stops both, for one reason; else the line is passed
 record Ahead {A : Type 0} (end other_end : Left) (read : A × Left) (other : Reading (A × Left)) : Type 0 where
@@ -103,84 +109,84 @@ module _ (t : Tables) (line next other : List ℕ) (rest others : Left) (look : 
   follows_behind h [] on shrinks = passed end other_end (length (next ∷ rest)) (h (next ∷ rest)) (h (other ∷ others)) (shrinks (next ∷ rest)) (omega arith)
   follows_behind h (x ∷ p) on shrinks = on p
 
-  rents_follow : (rents : List ℤ) (p : Left) → Follows end other_end (rents_from t rents (p ++ end)) (rents_from t rents (p ++ other_end))
+  rents_follow : (rents : List ℤ) (p : Left) → Follows end other_end (rents_from (names t) rents (p ++ end)) (rents_from (names t) rents (p ++ other_end))
   unfolding rents_from
   rents_follow rents [] =
-      follows_if end other_end (stands (words_of line) 0 (codes "rent")) _ _ _ _
-      (follows_line end other_end [] (rent_at t (length rents) end) (rent_at t (length rents) other_end) _ _ (rent_twin t end other_end (alike []) (length rents))
+      follows_if end other_end (fits due.Rent (form_in (words_of line))) _ _ _ _
+      (follows_line end other_end [] (rent_at (names t) (length rents) end) (rent_at (names t) (length rents) other_end) _ _ (rent_twin t end other_end (alike []) (length rents))
       (λ entry. passed end other_end (length (next ∷ rest)) _ _ (rents_shrink t (padded rents entry.0 ++ entry.1 ∷ []) (next ∷ rest)) (omega arith)))
       (same_end end other_end _ [])
   rents_follow rents (x ∷ p) =
-      follows_if end other_end (stands (words_of x) 0 (codes "rent")) _ _ _ _
-      (follows_line end other_end (x ∷ p) (rent_at t (length rents) (x ∷ (p ++ end))) (rent_at t (length rents) (x ∷ (p ++ other_end))) _ _
+      follows_if end other_end (fits due.Rent (form_in (words_of x))) _ _ _ _
+      (follows_line end other_end (x ∷ p) (rent_at (names t) (length rents) (x ∷ (p ++ end))) (rent_at (names t) (length rents) (x ∷ (p ++ other_end))) _ _
       (rent_twin t (x ∷ (p ++ end)) (x ∷ (p ++ other_end)) (alike (x ∷ p)) (length rents))
       (λ entry. rents_follow (padded rents entry.0 ++ entry.1 ∷ []) p))
       (same_end end other_end _ (x ∷ p))
 
-  steps_follow : (steps : List PriceStep) (before : Option PriceStep) (p : Left) → Follows end other_end (steps_from t steps before (p ++ end)) (steps_from t steps before (p ++ other_end))
+  steps_follow : (steps : List PriceStep) (before : Option PriceStep) (p : Left) → Follows end other_end (steps_from (names t) steps before (p ++ end)) (steps_from (names t) steps before (p ++ other_end))
   unfolding steps_from
   steps_follow steps before [] =
-      follows_if end other_end (stands (words_of line) 0 (codes "at")) _ _ _ _
-      (follows_line end other_end [] (step_at t before end) (step_at t before other_end) _ _ (step_twin t end other_end (alike []) before (looks []))
+      follows_if end other_end (fits due.Step (form_in (words_of line))) _ _ _ _
+      (follows_line end other_end [] (step_at (names t) before end) (step_at (names t) before other_end) _ _ (step_twin t end other_end (alike []) before (looks []))
       (λ step. passed end other_end (length (next ∷ rest)) _ _ (steps_shrink t (steps ++ step ∷ []) (Some step) (next ∷ rest)) (omega arith)))
       (same_end end other_end _ [])
   steps_follow steps before (x ∷ p) =
-      follows_if end other_end (stands (words_of x) 0 (codes "at")) _ _ _ _
-      (follows_line end other_end (x ∷ p) (step_at t before (x ∷ (p ++ end))) (step_at t before (x ∷ (p ++ other_end))) _ _
+      follows_if end other_end (fits due.Step (form_in (words_of x))) _ _ _ _
+      (follows_line end other_end (x ∷ p) (step_at (names t) before (x ∷ (p ++ end))) (step_at (names t) before (x ∷ (p ++ other_end))) _ _
       (step_twin t (x ∷ (p ++ end)) (x ∷ (p ++ other_end)) (alike (x ∷ p)) before (looks (x ∷ p)))
       (λ step. steps_follow (steps ++ step ∷ []) (Some step) p))
       (same_end end other_end _ (x ∷ p))
 
-  weights_follow : (weights : List Weight) (before : Option Weight) (p : Left) → Follows end other_end (weights_from t weights before (p ++ end)) (weights_from t weights before (p ++ other_end))
+  weights_follow : (weights : List Weight) (before : Option Weight) (p : Left) → Follows end other_end (weights_from (names t) weights before (p ++ end)) (weights_from (names t) weights before (p ++ other_end))
   unfolding weights_from
   weights_follow weights before [] =
-      follows_if end other_end (stands (words_of line) 0 (codes "weight")) _ _ _ _
-      (follows_line end other_end [] (weight_at t before end) (weight_at t before other_end) _ _ (weight_twin t end other_end (alike []) before)
+      follows_if end other_end (fits due.Weight (form_in (words_of line))) _ _ _ _
+      (follows_line end other_end [] (weight_at (names t) before end) (weight_at (names t) before other_end) _ _ (weight_twin t end other_end (alike []) before)
       (λ entry. passed end other_end (length (next ∷ rest)) _ _ (weights_shrink t (weights ++ entry ∷ []) (Some entry) (next ∷ rest)) (omega arith)))
       (same_end end other_end _ [])
   weights_follow weights before (x ∷ p) =
-      follows_if end other_end (stands (words_of x) 0 (codes "weight")) _ _ _ _
-      (follows_line end other_end (x ∷ p) (weight_at t before (x ∷ (p ++ end))) (weight_at t before (x ∷ (p ++ other_end))) _ _
+      follows_if end other_end (fits due.Weight (form_in (words_of x))) _ _ _ _
+      (follows_line end other_end (x ∷ p) (weight_at (names t) before (x ∷ (p ++ end))) (weight_at (names t) before (x ∷ (p ++ other_end))) _ _
       (weight_twin t (x ∷ (p ++ end)) (x ∷ (p ++ other_end)) (alike (x ∷ p)) before)
       (λ entry. weights_follow (weights ++ entry ∷ []) (Some entry) p))
       (same_end end other_end _ (x ∷ p))
 
-  prices_follow : (p : Left) → Follows end other_end (prices_at t (p ++ end)) (prices_at t (p ++ other_end))
+  prices_follow : (p : Left) → Follows end other_end (prices_at (names t) (p ++ end)) (prices_at (names t) (p ++ other_end))
   unfolding prices_at
   prices_follow p =
-      follows_line end other_end p (scale_at due.Scale (p ++ end)) (scale_at due.Scale (p ++ other_end)) _ _ (scale_twin t (p ++ end) (p ++ other_end) (alike p) due.Scale) (λ scale.
-      follows_bind end other_end (rents_from t [] (drop 1 (p ++ end))) (rents_from t [] (drop 1 (p ++ other_end))) _ (follows_behind (rents_from t []) p (rents_follow []) (rents_shrink t []))
-      (λ rents q. follows_bind end other_end (steps_from t [] None (q ++ end)) (steps_from t [] None (q ++ other_end)) _ (steps_follow [] None q) (λ steps. same_end end other_end _) (λ steps a. omega arith))
-      (λ rents a. shrinks_bind (length a) (steps_from t [] None a) _ (steps_shrink t [] None a) (λ steps b. omega arith)))
+      follows_line end other_end p (scale_at (names t) (p ++ end)) (scale_at (names t) (p ++ other_end)) _ _ (scale_twin t (p ++ end) (p ++ other_end) (alike p)) (λ scale.
+      follows_bind end other_end (rents_from (names t) [] (drop 1 (p ++ end))) (rents_from (names t) [] (drop 1 (p ++ other_end))) _ (follows_behind (rents_from (names t) []) p (rents_follow []) (rents_shrink t []))
+      (λ rents q. follows_bind end other_end (steps_from (names t) [] None (q ++ end)) (steps_from (names t) [] None (q ++ other_end)) _ (steps_follow [] None q) (λ steps. same_end end other_end _) (λ steps a. omega arith))
+      (λ rents a. shrinks_bind (length a) (steps_from (names t) [] None a) _ (steps_shrink t [] None a) (λ steps b. omega arith)))
 
-  mixed_follows : (p : Left) → Follows end other_end (mixed_at t (p ++ end)) (mixed_at t (p ++ other_end))
+  mixed_follows : (p : Left) → Follows end other_end (mixed_at (names t) (p ++ end)) (mixed_at (names t) (p ++ other_end))
   unfolding mixed_at
   mixed_follows p =
-      follows_line end other_end p (scale_at due.Mixed (p ++ end)) (scale_at due.Mixed (p ++ other_end)) _ _ (scale_twin t (p ++ end) (p ++ other_end) (alike p) due.Mixed) (λ scale.
-      follows_bind end other_end (weights_from t [] None (drop 1 (p ++ end))) (weights_from t [] None (drop 1 (p ++ other_end))) _ (follows_behind (weights_from t [] None) p (weights_follow [] None) (weights_shrink t [] None))
+      follows_line end other_end p (mixed_scale_at (names t) (p ++ end)) (mixed_scale_at (names t) (p ++ other_end)) _ _ (mixed_scale_twin t (p ++ end) (p ++ other_end) (alike p)) (λ scale.
+      follows_bind end other_end (weights_from (names t) [] None (drop 1 (p ++ end))) (weights_from (names t) [] None (drop 1 (p ++ other_end))) _ (follows_behind (weights_from (names t) [] None) p (weights_follow [] None) (weights_shrink t [] None))
       (λ weights. same_end end other_end _) (λ weights a. omega arith))
 
-  body_follows : (h : Head) (p : Left) → Follows end other_end (body_at t h (p ++ end)) (body_at t h (p ++ other_end))
+  body_follows : (h : Head) (p : Left) → Follows end other_end (body_at (names t) h (p ++ end)) (body_at (names t) h (p ++ other_end))
   unfolding body_at
   body_follows (head.Alone h) p = same_end end other_end _ p
-  body_follows (head.Priced h) p = follows_bind end other_end (prices_at t (p ++ end)) (prices_at t (p ++ other_end)) _ (prices_follow p) (λ prices. same_end end other_end _) (λ prices a. omega arith)
+  body_follows (head.Priced h) p = follows_bind end other_end (prices_at (names t) (p ++ end)) (prices_at (names t) (p ++ other_end)) _ (prices_follow p) (λ prices. same_end end other_end _) (λ prices a. omega arith)
   body_follows (head.Mixed h) p =
-      follows_bind end other_end (prices_at t (p ++ end)) (prices_at t (p ++ other_end)) _ (prices_follow p)
-      (λ prices q. follows_bind end other_end (mixed_at t (q ++ end)) (mixed_at t (q ++ other_end)) _ (mixed_follows q) (λ mixed. same_end end other_end _) (λ mixed a. omega arith))
-      (λ prices a. shrinks_bind (length a) (mixed_at t a) _ (mixed_shrinks t a) (λ mixed b. omega arith))
+      follows_bind end other_end (prices_at (names t) (p ++ end)) (prices_at (names t) (p ++ other_end)) _ (prices_follow p)
+      (λ prices q. follows_bind end other_end (mixed_at (names t) (q ++ end)) (mixed_at (names t) (q ++ other_end)) _ (mixed_follows q) (λ mixed. same_end end other_end _) (λ mixed a. omega arith))
+      (λ prices a. shrinks_bind (length a) (mixed_at (names t) a) _ (mixed_shrinks t a) (λ mixed b. omega arith))
 
-  node_follows : (above : ℕ) (p : Left) → Follows end other_end (node_at t above (p ++ end)) (node_at t above (p ++ other_end))
+  node_follows : (above : ℕ) (p : Left) → Follows end other_end (node_at (names t) above (p ++ end)) (node_at (names t) above (p ++ other_end))
   unfolding node_at
   node_follows above p =
-      follows_line end other_end p (head_at t above (p ++ end)) (head_at t above (p ++ other_end)) _ _ (head_twin t (p ++ end) (p ++ other_end) (alike p) above) (λ h.
-      follows_behind (body_at t h) p (body_follows h) (body_shrinks t h))
+      follows_line end other_end p (head_at (names t) above (p ++ end)) (head_at (names t) above (p ++ other_end)) _ _ (head_twin t (p ++ end) (p ++ other_end) (alike p) above) (λ h.
+      follows_behind (body_at (names t) h) p (body_follows h) (body_shrinks t h))
 
   node_then : (m k : ℕ) (nodes : List Node) (above : Above) (p : Left)
-      → ((n : Node) (q : Left) → length q < length p → Follows end other_end (nodes_from t m (nodes ++ n ∷ []) (after_node n above) (q ++ end)) (nodes_from t k (nodes ++ n ∷ []) (after_node n above) (q ++ other_end)))
-      → (r s : Reading (Node × Left)) → node_at t (length above) (p ++ end) ≡ r → Follows end other_end r s
+      → ((n : Node) (q : Left) → length q < length p → Follows end other_end (nodes_from (names t) m (nodes ++ n ∷ []) (after_node n above) (q ++ end)) (nodes_from (names t) k (nodes ++ n ∷ []) (after_node n above) (q ++ other_end)))
+      → (r s : Reading (Node × Left)) → node_at (names t) (length above) (p ++ end) ≡ r → Follows end other_end r s
       → Follows end other_end
-      (r >>= λ read. cond (length (after_node read.0 above) == 0) (Ok (nodes ++ read.0 ∷ [], read.1)) (nodes_from t m (nodes ++ read.0 ∷ []) (after_node read.0 above) read.1))
-      (s >>= λ read. cond (length (after_node read.0 above) == 0) (Ok (nodes ++ read.0 ∷ [], read.1)) (nodes_from t k (nodes ++ read.0 ∷ []) (after_node read.0 above) read.1))
+      (r >>= λ read. cond (length (after_node read.0 above) == 0) (Ok (nodes ++ read.0 ∷ [], read.1)) (nodes_from (names t) m (nodes ++ read.0 ∷ []) (after_node read.0 above) read.1))
+      (s >>= λ read. cond (length (after_node read.0 above) == 0) (Ok (nodes ++ read.0 ∷ [], read.1)) (nodes_from (names t) k (nodes ++ read.0 ∷ []) (after_node read.0 above) read.1))
   node_then m k nodes above p on (Ok read) s e (inl ahead) =
       let taken = node_takes t (length above) (p ++ end) read e in
       let shorter : length ahead.before < length p = omega (arith, taken, ap length ahead.left_is, length-append ahead.before end, length-append p end) in
@@ -189,15 +195,15 @@ module _ (t : Tables) (line next other : List ℕ) (rest others : Left) (look : 
       (follows_if end other_end (length (after_node read.0 above) == 0) _ _ _ _ (same_end end other_end _ ahead.before) (on read.0 ahead.before shorter)))
     where
       f : ℕ → Node × Left → Reading (List Node × Left)
-      f n read = cond (length (after_node read.0 above) == 0) (Ok (nodes ++ read.0 ∷ [], read.1)) (nodes_from t n (nodes ++ read.0 ∷ []) (after_node read.0 above) read.1)
+      f n read = cond (length (after_node read.0 above) == 0) (Ok (nodes ++ read.0 ∷ [], read.1)) (nodes_from (names t) n (nodes ++ read.0 ∷ []) (after_node read.0 above) read.1)
   node_then m k nodes above p on (Ok read) s e (inr short) =
       passed end other_end (length read.1) _ _
       (shrinks_if (length read.1) (length (after_node read.0 above) == 0) _ _ (omega arith) (nodes_shrink t m (nodes ++ read.0 ∷ []) (after_node read.0 above) read.1)) short
   node_then m k nodes above p on (Err e) s same follows = λ there.
-      ap (λ s. s >>= λ read. cond (length (after_node read.0 above) == 0) (Ok (nodes ++ read.0 ∷ [], read.1)) (nodes_from t k (nodes ++ read.0 ∷ []) (after_node read.0 above) read.1)) (follows there)
+      ap (λ s. s >>= λ read. cond (length (after_node read.0 above) == 0) (Ok (nodes ++ read.0 ∷ [], read.1)) (nodes_from (names t) k (nodes ++ read.0 ∷ []) (after_node read.0 above) read.1)) (follows there)
 
   nodes_follow : (m k : ℕ) (nodes : List Node) (above : Above) (p : Left) → length (p ++ end) ≤ m → length (p ++ other_end) ≤ k
-      → Follows end other_end (nodes_from t m nodes above (p ++ end)) (nodes_from t k nodes above (p ++ other_end))
+      → Follows end other_end (nodes_from (names t) m nodes above (p ++ end)) (nodes_from (names t) k nodes above (p ++ other_end))
   unfolding nodes_from
   nodes_follow zero k nodes above p few other_few = absurd (omega (arith, few, length-append p end))
   nodes_follow (suc m) zero nodes above p few other_few = absurd (omega (arith, other_few, length-append p other_end))
@@ -205,7 +211,7 @@ module _ (t : Tables) (line next other : List ℕ) (rest others : Left) (look : 
       node_then m k nodes above p
       (λ n q shorter.
       nodes_follow m k (nodes ++ n ∷ []) (after_node n above) q (omega (arith, few, shorter, length-append p end, length-append q end)) (omega (arith, other_few, shorter, length-append p other_end, length-append q other_end)))
-      (node_at t (length above) (p ++ end)) (node_at t (length above) (p ++ other_end)) refl (node_follows (length above) p)
+      (node_at (names t) (length above) (p ++ end)) (node_at (names t) (length above) (p ++ other_end)) refl (node_follows (length above) p)
 
   -- ---- the end of a text, and all of it
   nothing_ends : (p : Left) → Ends end other_end (nothing (p ++ end)) (nothing (p ++ other_end))
@@ -214,38 +220,38 @@ module _ (t : Tables) (line next other : List ℕ) (rest others : Left) (look : 
   nothing_ends (x ∷ []) = λ there. absurd (omega (arith, there))
   nothing_ends (x ∷ y ∷ p) = λ there. absurd (omega (arith, there, length-append p end))
 
-  end_ends : (p : Left) → Ends end other_end (end_at (p ++ end)) (end_at (p ++ other_end))
+  end_ends : (p : Left) → Ends end other_end (end_at (names t) (p ++ end)) (end_at (names t) (p ++ other_end))
   unfolding end_at
-  end_ends p = ends_line end other_end p (line_due due.End (p ++ end)) (line_due due.End (p ++ other_end)) _ _ (line_twin due.End (p ++ end) (p ++ other_end) (alike p)) (λ words. behind p)
+  end_ends p = ends_line end other_end p (line_due (names t) due.End (p ++ end)) (line_due (names t) due.End (p ++ other_end)) _ _ (line_twin (names t) due.End (p ++ end) (p ++ other_end) (alike p)) (λ words. behind p)
     where
       behind : (p : Left) → Ends end other_end (nothing (drop 1 (p ++ end))) (nothing (drop 1 (p ++ other_end)))
       behind [] = over end other_end (length (next ∷ rest)) (nothing (next ∷ rest)) (nothing (other ∷ others)) (nothing_stops (next ∷ rest)) (omega arith)
       behind (x ∷ p) = nothing_ends p
 
-  tree_ends : (p : Left) → Ends end other_end (tree_at t (p ++ end)) (tree_at t (p ++ other_end))
+  tree_ends : (p : Left) → Ends end other_end (tree_at (names t) (p ++ end)) (tree_at (names t) (p ++ other_end))
   unfolding tree_at
   tree_ends p =
-      ends_bind end other_end (nodes_from t (length (p ++ end)) [] [] (p ++ end)) (nodes_from t (length (p ++ other_end)) [] [] (p ++ other_end)) _
+      ends_bind end other_end (nodes_from (names t) (length (p ++ end)) [] [] (p ++ end)) (nodes_from (names t) (length (p ++ other_end)) [] [] (p ++ other_end)) _
       (nodes_follow (length (p ++ end)) (length (p ++ other_end)) [] [] p (omega arith) (omega arith))
-      (λ nodes q. ends_then end other_end (end_at (q ++ end)) (end_at (q ++ other_end)) (λ ended. nodes) (end_ends q))
-      (λ nodes a. stops_then (length a) (end_at a) (λ ended. nodes) (end_stops a))
+      (λ nodes q. ends_then end other_end (end_at (names t) (q ++ end)) (end_at (names t) (q ++ other_end)) (λ ended. nodes) (end_ends q))
+      (λ nodes a. stops_then (length a) (end_at (names t) a) (λ ended. nodes) (end_stops t a))
 
-  rest_ends : (p : Left) → Ends end other_end (rest_at t (p ++ end)) (rest_at t (p ++ other_end))
+  rest_ends : (p : Left) → Ends end other_end (rest_at (names t) (p ++ end)) (rest_at (names t) (p ++ other_end))
   unfolding rest_at
-  rest_ends p = ends_line end other_end p (plan_at (p ++ end)) (plan_at (p ++ other_end)) _ _ (plan_twin t (p ++ end) (p ++ other_end) (alike p)) (λ planned. behind planned p)
+  rest_ends p = ends_line end other_end p (plan_at (names t) (p ++ end)) (plan_at (names t) (p ++ other_end)) _ _ (plan_twin t (p ++ end) (p ++ other_end) (alike p)) (λ planned. behind planned p)
     where
-      behind : (planned : Bool) (p : Left) → Ends {A = Bool × List Node} end other_end (tree_at t (drop 1 (p ++ end)) >>= λ nodes. Ok (planned, nodes)) (tree_at t (drop 1 (p ++ other_end)) >>= λ nodes. Ok (planned, nodes))
+      behind : (planned : Bool) (p : Left) → Ends {A = Bool × List Node} end other_end (tree_at (names t) (drop 1 (p ++ end)) >>= λ nodes. Ok (planned, nodes)) (tree_at (names t) (drop 1 (p ++ other_end)) >>= λ nodes. Ok (planned, nodes))
       behind planned [] =
-          over end other_end (length (next ∷ rest)) _ _ (stops_then (length (next ∷ rest)) (tree_at t (next ∷ rest)) (λ nodes. (planned, nodes)) (tree_stops t (next ∷ rest))) (omega arith)
-      behind planned (x ∷ p) = ends_then end other_end (tree_at t (p ++ end)) (tree_at t (p ++ other_end)) (λ nodes. (planned, nodes)) (tree_ends p)
+          over end other_end (length (next ∷ rest)) _ _ (stops_then (length (next ∷ rest)) (tree_at (names t) (next ∷ rest)) (λ nodes. (planned, nodes)) (tree_stops t (next ∷ rest))) (omega arith)
+      behind planned (x ∷ p) = ends_then end other_end (tree_at (names t) (p ++ end)) (tree_at (names t) (p ++ other_end)) (λ nodes. (planned, nodes)) (tree_ends p)
 
   all_ends : (p : Left) → Ends end other_end (proof_at t (p ++ end)) (proof_at t (p ++ other_end))
   unfolding proof_at
-  all_ends p = ends_line end other_end p (head_is (p ++ end)) (head_is (p ++ other_end)) _ _ (headed_twin (p ++ end) (p ++ other_end) (alike p)) (λ headed. behind p)
+  all_ends p = ends_line end other_end p (head_is (p ++ end)) (head_is (p ++ other_end)) _ _ (headed_twin (p ++ end) (p ++ other_end) (alike p)) (λ version. behind version p)
     where
-      behind : (p : Left) → Ends end other_end (rest_at t (drop 1 (p ++ end))) (rest_at t (drop 1 (p ++ other_end)))
-      behind [] = over end other_end (length (next ∷ rest)) _ _ (rest_stops t (next ∷ rest)) (omega arith)
-      behind (x ∷ p) = rest_ends p
+      behind : (version : Version) (p : Left) → Ends end other_end (rest_at (names_in version t) (drop 1 (p ++ end))) (rest_at (names_in version t) (drop 1 (p ++ other_end)))
+      behind version [] = over end other_end (length (next ∷ rest)) _ _ (version_stops t version (next ∷ rest)) (omega arith)
+      behind version.One (x ∷ p) = rest_ends p
 
 pub first_fault_is_fixed : FirstFaultIsFixed
 first_fault_is_fixed t before line next other rest others fault look here is =

@@ -1,6 +1,5 @@
 pub mod Completing
 pub mod Cut
-pub mod FigureWords
 pub mod FixedFaults
 pub mod LineTwins
 pub mod Lines
@@ -19,10 +18,7 @@ pub mod TextLists
 pub mod TextNodes
 pub mod TextPrices
 pub mod TextTrees
-pub mod Words
 pub mod WrittenLines
-pub mod WrittenNames
 pub mod WrittenNodes
-pub mod WrittenNumbers
 pub mod WrittenPrices
 pub mod WrittenTrees

@@ -1,8 +1,8 @@
 -- Where reading goes well, each of its steps went well too.
-use Rattle.std.proofs.Common.{◌≡◌, Bool, true, false, cond, Option, Some, None, Ok, Err, refl}
-use Rattle.std.specs.Prelude.{⊤}
-use Rattle.bound_cert.specs.Lines.{Left, Reading, Stopped, ◌>>=◌, present}
+use Rattle.bound_cert.specs.Lines.{◌>>=◌, Left, Reading, Stopped}
 use Rattle.bound_cert.specs.Reading.{in_order}
+use Rattle.std.proofs.Common.{◌≡◌, Bool, Err, Ok, cond, false, refl, true}
+use Rattle.std.specs.Prelude.{⊤}
 
 pub ok_same : {A : Type 0} (x y : A) → ◌≡◌ {A = Reading A} (Ok x) (Ok y) → x ≡ y
 ok_same x y e = cc e
@@ -19,10 +19,6 @@ pub record Goes {A B : Type 0} (r : Reading A) (f : A → Reading B) (y : B) : T
 pub goes : {A B : Type 0} (r : Reading A) (f : A → Reading B) (y : B) → (r >>= f) ≡ Ok y → Goes r f y
 goes (Ok x) f y e = record { value = x; is = refl; on = e }
 goes (Err s) f y e = absurd (cc e)
-
-pub there : {A : Type 0} (o : Option A) (left : Left) (kind : _) (x : A) → present o left kind ≡ Ok x → o ≡ Some x
-there (Some y) left kind x e = cc e
-there None left kind x e = absurd (cc e)
 
 pub ordered : (b : Bool) (left : Left) (x : ⊤) → in_order b left ≡ Ok x → b ≡ true
 ordered true left x e = refl

@@ -1,21 +1,24 @@
 -- One line more of rents, steps and weights.
-use Rattle.std.proofs.Common.{◌≡◌, ℕ, zero, suc, ◌+◌, ◌<◌, Bool, true, false, cond, List, [], ◌∷◌, ◌++◌, length, drop, replicate, codes, ℤ, pos, Bor, Option, Some, None, Ok, Err, refl, sym, ap, ◌∙◌, append_assoc, add-one, arith}
-use Rattle.fleet_model.specs.declared.tables.Tables.{Tables}
-use Rattle.fleet_model.specs.Schedule.{fleets_in}
-use Rattle.bound_cert.specs.Lines.{Fails, Left, Reading, Stopped, seen, ◌>>=◌, first_words, stands, words_of}
+use Rattle.bound_cert.specs.Lines.{◌>>=◌, Fails, Left, Reading, Stopped, first_form, fits}
 use Rattle.bound_cert.specs.Reading.{padded, rent_at, rents_from, step_at, steps_from, weight_at, weights_from}
 use Rattle.bound_cert.specs.declared.faults.Stop.{Stop}
-use Rattle.bound_cert.specs.declared.faults.Stop.TheVariants as stop
+use Rattle.bound_cert.specs.declared.reading_lines.Due.{Due}
 use Rattle.dual_bound.specs.declared.mixed.Weight.{Weight}
 use Rattle.dual_bound.specs.declared.prices.PriceStep.{PriceStep}
+use Rattle.proof_lines.specs.Forms.{form_in}
+use Rattle.proof_lines.specs.Known.{Naming}
+use Rattle.proof_lines.specs.Words.{seen, words_of}
+use Rattle.std.proofs.Common.{[], ◌++◌, ◌+◌, ◌<◌, ◌∙◌, ◌∷◌, ◌≡◌, Bool, Bor, Err, List, None, Ok, Option, Some, add-one, ap, append_assoc, arith, cond, drop, false, length, pos, refl, replicate, suc, sym, true, zero, ℕ, ℤ}
+use Rattle.bound_cert.specs.declared.faults.Stop.TheVariants as stop
+use Rattle.bound_cert.specs.declared.reading_lines.Due.TheVariants as due
 
--- a line begins with the word
-abbrev pub begins : Left → List ℕ → Bool
-begins left word = stands (first_words left) 0 word
+-- a line begins as one that may stand where one of this kind is due
+abbrev pub begins : Left → Due → Bool
+begins left kind = fits kind (first_form left)
 
-pub some_left : (left : Left) (byte : ℕ) (bytes : List ℕ) → begins left (byte ∷ bytes) ≡ true → 0 < length left
-some_left [] byte bytes is = absurd (cc is)
-some_left (line ∷ rest) byte bytes is = omega arith
+pub some_left : (left : Left) (kind : Due) → begins left kind ≡ true → 0 < length left
+some_left [] kind is = absurd (cc is)
+some_left (line ∷ rest) kind is = omega arith
 
 pub chosen : {A : Type 0} (b : Bool) (x y : A) → b ≡ true → cond b x y ≡ x
 chosen true x y is = refl
@@ -49,75 +52,75 @@ padded_more old now grown k so_far added =
     replicate_more zero = refl
     replicate_more (suc k) = ap (λ xs. pos 0 ∷ xs) (replicate_more k)
 
-module _ (t : Tables) where
-  pub rents_more : (rents : List ℤ) (left : Left) (entry : ℕ × ℤ) → begins left (codes "rent") ≡ true → rent_at t (length rents) left ≡ Ok entry
-      → rents_from t rents left ≡ rents_from t (padded rents entry.0 ++ entry.1 ∷ []) (drop 1 left)
+module _ (n : Naming) where
+  pub rents_more : (rents : List ℤ) (left : Left) (entry : ℕ × ℤ) → begins left due.Rent ≡ true → rent_at n (length rents) left ≡ Ok entry
+      → rents_from n rents left ≡ rents_from n (padded rents entry.0 ++ entry.1 ∷ []) (drop 1 left)
   unfolding rents_from
   rents_more rents [] entry is read = absurd (cc is)
   rents_more rents (line ∷ rest) entry is read =
-      chosen (stands (words_of line) 0 (codes "rent")) _ _ is ∙ bound (rent_at t (length rents) (line ∷ rest)) entry _ read
+      chosen (fits due.Rent (form_in (words_of line))) _ _ is ∙ bound (rent_at n (length rents) (line ∷ rest)) entry _ read
 
-  pub rents_stop : (rents : List ℤ) (left : Left) (e : Stopped) → begins left (codes "rent") ≡ true → rent_at t (length rents) left ≡ Err e → rents_from t rents left ≡ Err e
+  pub rents_stop : (rents : List ℤ) (left : Left) (e : Stopped) → begins left due.Rent ≡ true → rent_at n (length rents) left ≡ Err e → rents_from n rents left ≡ Err e
   unfolding rents_from
   rents_stop rents [] e is read = absurd (cc is)
   rents_stop rents (line ∷ rest) e is read =
-      chosen (stands (words_of line) 0 (codes "rent")) _ _ is ∙ failed (rent_at t (length rents) (line ∷ rest)) e _ read
+      chosen (fits due.Rent (form_in (words_of line))) _ _ is ∙ failed (rent_at n (length rents) (line ∷ rest)) e _ read
 
-  pub rents_end : (rents : List ℤ) (left : Left) → begins left (codes "rent") ≡ false → rents_from t rents left ≡ Ok (padded rents (fleets_in t), left)
+  pub rents_end : (rents : List ℤ) (left : Left) → begins left due.Rent ≡ false → rents_from n rents left ≡ Ok (padded rents (length n.fleets), left)
   unfolding rents_from
   rents_end rents [] is = refl
-  rents_end rents (line ∷ rest) is = refused (stands (words_of line) 0 (codes "rent")) _ _ is
+  rents_end rents (line ∷ rest) is = refused (fits due.Rent (form_in (words_of line))) _ _ is
 
-  pub steps_more : (steps : List PriceStep) (before : Option PriceStep) (left : Left) (step : PriceStep) → begins left (codes "at") ≡ true → step_at t before left ≡ Ok step
-      → steps_from t steps before left ≡ steps_from t (steps ++ step ∷ []) (Some step) (drop 1 left)
+  pub steps_more : (steps : List PriceStep) (before : Option PriceStep) (left : Left) (step : PriceStep) → begins left due.Step ≡ true → step_at n before left ≡ Ok step
+      → steps_from n steps before left ≡ steps_from n (steps ++ step ∷ []) (Some step) (drop 1 left)
   unfolding steps_from
   steps_more steps before [] step is read = absurd (cc is)
   steps_more steps before (line ∷ rest) step is read =
-      chosen (stands (words_of line) 0 (codes "at")) _ _ is ∙ bound (step_at t before (line ∷ rest)) step _ read
+      chosen (fits due.Step (form_in (words_of line))) _ _ is ∙ bound (step_at n before (line ∷ rest)) step _ read
 
-  pub steps_stop : (steps : List PriceStep) (before : Option PriceStep) (left : Left) (e : Stopped) → begins left (codes "at") ≡ true → step_at t before left ≡ Err e
-      → steps_from t steps before left ≡ Err e
+  pub steps_stop : (steps : List PriceStep) (before : Option PriceStep) (left : Left) (e : Stopped) → begins left due.Step ≡ true → step_at n before left ≡ Err e
+      → steps_from n steps before left ≡ Err e
   unfolding steps_from
   steps_stop steps before [] e is read = absurd (cc is)
   steps_stop steps before (line ∷ rest) e is read =
-      chosen (stands (words_of line) 0 (codes "at")) _ _ is ∙ failed (step_at t before (line ∷ rest)) e _ read
+      chosen (fits due.Step (form_in (words_of line))) _ _ is ∙ failed (step_at n before (line ∷ rest)) e _ read
 
-  pub steps_end : (steps : List PriceStep) (before : Option PriceStep) (left : Left) → begins left (codes "at") ≡ false → steps_from t steps before left ≡ Ok (steps, left)
+  pub steps_end : (steps : List PriceStep) (before : Option PriceStep) (left : Left) → begins left due.Step ≡ false → steps_from n steps before left ≡ Ok (steps, left)
   unfolding steps_from
   steps_end steps before [] is = refl
-  steps_end steps before (line ∷ rest) is = refused (stands (words_of line) 0 (codes "at")) _ _ is
+  steps_end steps before (line ∷ rest) is = refused (fits due.Step (form_in (words_of line))) _ _ is
 
-  pub weights_more : (weights : List Weight) (before : Option Weight) (left : Left) (entry : Weight) → begins left (codes "weight") ≡ true → weight_at t before left ≡ Ok entry
-      → weights_from t weights before left ≡ weights_from t (weights ++ entry ∷ []) (Some entry) (drop 1 left)
+  pub weights_more : (weights : List Weight) (before : Option Weight) (left : Left) (entry : Weight) → begins left due.Weight ≡ true → weight_at n before left ≡ Ok entry
+      → weights_from n weights before left ≡ weights_from n (weights ++ entry ∷ []) (Some entry) (drop 1 left)
   unfolding weights_from
   weights_more weights before [] entry is read = absurd (cc is)
   weights_more weights before (line ∷ rest) entry is read =
-      chosen (stands (words_of line) 0 (codes "weight")) _ _ is ∙ bound (weight_at t before (line ∷ rest)) entry _ read
+      chosen (fits due.Weight (form_in (words_of line))) _ _ is ∙ bound (weight_at n before (line ∷ rest)) entry _ read
 
-  pub weights_stop : (weights : List Weight) (before : Option Weight) (left : Left) (e : Stopped) → begins left (codes "weight") ≡ true → weight_at t before left ≡ Err e
-      → weights_from t weights before left ≡ Err e
+  pub weights_stop : (weights : List Weight) (before : Option Weight) (left : Left) (e : Stopped) → begins left due.Weight ≡ true → weight_at n before left ≡ Err e
+      → weights_from n weights before left ≡ Err e
   unfolding weights_from
   weights_stop weights before [] e is read = absurd (cc is)
   weights_stop weights before (line ∷ rest) e is read =
-      chosen (stands (words_of line) 0 (codes "weight")) _ _ is ∙ failed (weight_at t before (line ∷ rest)) e _ read
+      chosen (fits due.Weight (form_in (words_of line))) _ _ is ∙ failed (weight_at n before (line ∷ rest)) e _ read
 
-  pub weights_end : (weights : List Weight) (before : Option Weight) (left : Left) → begins left (codes "weight") ≡ false → weights_from t weights before left ≡ Ok (weights, left)
+  pub weights_end : (weights : List Weight) (before : Option Weight) (left : Left) → begins left due.Weight ≡ false → weights_from n weights before left ≡ Ok (weights, left)
   unfolding weights_from
   weights_end weights before [] is = refl
-  weights_end weights before (line ∷ rest) is = refused (stands (words_of line) 0 (codes "weight")) _ _ is
+  weights_end weights before (line ∷ rest) is = refused (fits due.Weight (form_in (words_of line))) _ _ is
 
   -- a turn of each loop
-  pub rents_on : (rents grown : List ℤ) (rest after : List (Bor (List ℕ))) (all : Left) (entry : ℕ × ℤ) → begins (seen rest) (codes "rent") ≡ true → rent_at t (length rents) (seen rest) ≡ Ok entry
-      → grown ≡ padded rents entry.0 ++ entry.1 ∷ [] → after ≡ drop 1 rest → rents_from t rents (seen rest) ≡ rents_from t [] all → rents_from t grown (seen after) ≡ rents_from t [] all
+  pub rents_on : (rents grown : List ℤ) (rest after : List (Bor (List ℕ))) (all : Left) (entry : ℕ × ℤ) → begins (seen rest) due.Rent ≡ true → rent_at n (length rents) (seen rest) ≡ Ok entry
+      → grown ≡ padded rents entry.0 ++ entry.1 ∷ [] → after ≡ drop 1 rest → rents_from n rents (seen rest) ≡ rents_from n [] all → rents_from n grown (seen after) ≡ rents_from n [] all
   rents_on rents grown rest after all entry is read grew gone so_far =
       rw (grew, gone, seen_behind rest) (sym (rents_more rents (seen rest) entry is read) ∙ so_far)
 
-  pub steps_on : (steps grown : List PriceStep) (before : Option PriceStep) (rest after : List (Bor (List ℕ))) (all : Left) (step : PriceStep) → begins (seen rest) (codes "at") ≡ true → step_at t before (seen rest) ≡ Ok step
-      → grown ≡ steps ++ step ∷ [] → after ≡ drop 1 rest → steps_from t steps before (seen rest) ≡ steps_from t [] None all → steps_from t grown (Some step) (seen after) ≡ steps_from t [] None all
+  pub steps_on : (steps grown : List PriceStep) (before : Option PriceStep) (rest after : List (Bor (List ℕ))) (all : Left) (step : PriceStep) → begins (seen rest) due.Step ≡ true → step_at n before (seen rest) ≡ Ok step
+      → grown ≡ steps ++ step ∷ [] → after ≡ drop 1 rest → steps_from n steps before (seen rest) ≡ steps_from n [] None all → steps_from n grown (Some step) (seen after) ≡ steps_from n [] None all
   steps_on steps grown before rest after all step is read grew gone so_far =
       rw (grew, gone, seen_behind rest) (sym (steps_more steps before (seen rest) step is read) ∙ so_far)
 
-  pub weights_on : (weights grown : List Weight) (before : Option Weight) (rest after : List (Bor (List ℕ))) (all : Left) (entry : Weight) → begins (seen rest) (codes "weight") ≡ true → weight_at t before (seen rest) ≡ Ok entry
-      → grown ≡ weights ++ entry ∷ [] → after ≡ drop 1 rest → weights_from t weights before (seen rest) ≡ weights_from t [] None all → weights_from t grown (Some entry) (seen after) ≡ weights_from t [] None all
+  pub weights_on : (weights grown : List Weight) (before : Option Weight) (rest after : List (Bor (List ℕ))) (all : Left) (entry : Weight) → begins (seen rest) due.Weight ≡ true → weight_at n before (seen rest) ≡ Ok entry
+      → grown ≡ weights ++ entry ∷ [] → after ≡ drop 1 rest → weights_from n weights before (seen rest) ≡ weights_from n [] None all → weights_from n grown (Some entry) (seen after) ≡ weights_from n [] None all
   weights_on weights grown before rest after all entry is read grew gone so_far =
       rw (grew, gone, seen_behind rest) (sym (weights_more weights before (seen rest) entry is read) ∙ so_far)

@@ -1,22 +1,23 @@
 -- What reading by the definition says of the answer.
-use Rattle.std.proofs.Common.{◌≡◌, ℕ, ◌+◌, ◌-◌, Bool, Bor, List, length, Result, Ok, Err, sym, ap, subst, ◌∙◌}
-use Rattle.std.proofs.lemmas.List.{length-map}
-use Rattle.std.specs.Prelude.{IfOk, MatchResult}
-use Rattle.fleet_model.specs.declared.tables.Tables.{Tables}
-use Rattle.bound_cert.specs.Lines.{Gives, left_of, seen}
-use Rattle.bound_cert.specs.Nodes.{proof_at}
-use Rattle.dual_bound.specs.Nodes.{nodes_of}
-use Rattle.dual_bound.specs.OfTables.{IsOfTables}
-use Rattle.bound_cert.specs.ReadProof.{AnswersProof, FaultIn, FaultOf, IsTextOf, LinesRead, ReadsAs, answer_of}
-use Rattle.bound_cert.specs.declared.faults.CertError.{CertError}
-use Rattle.bound_cert.specs.declared.faults.CertError.TheVariants as cert
-use Rattle.bound_cert.specs.declared.faults.Stop.{Stop}
-use Rattle.bound_cert.specs.declared.faults.Stop.TheVariants as stop
-use Rattle.bound_cert.specs.declared.reading.Proof.{Proof}
-use Rattle.dual_bound.specs.declared.trees.Tree.{Tree}
 use Rattle.bound_cert.proofs.ReadBack.{ok_same}
 use Rattle.bound_cert.proofs.TextTrees.{text_of_reading}
 use Rattle.bound_cert.proofs.WrittenTrees.{in_order_of_tables, reads_what_was_written}
+use Rattle.bound_cert.specs.Lines.{Gives, left_of}
+use Rattle.bound_cert.specs.Nodes.{proof_at}
+use Rattle.bound_cert.specs.ReadProof.{AnswersProof, FaultIn, FaultOf, IsTextOf, LinesRead, ReadsAs, answer_of}
+use Rattle.bound_cert.specs.declared.faults.CertError.{CertError}
+use Rattle.bound_cert.specs.declared.faults.Stop.{Stop}
+use Rattle.bound_cert.specs.declared.reading.Proof.{Proof}
+use Rattle.dual_bound.specs.Nodes.{nodes_of}
+use Rattle.dual_bound.specs.OfTables.{IsOfTables}
+use Rattle.dual_bound.specs.declared.trees.Tree.{Tree}
+use Rattle.fleet_model.specs.declared.tables.Tables.{Tables}
+use Rattle.proof_lines.specs.Words.{seen}
+use Rattle.std.proofs.Common.{◌+◌, ◌-◌, ◌∙◌, ◌≡◌, Bool, Bor, Err, List, Ok, Result, ap, length, subst, sym, ℕ}
+use Rattle.std.proofs.lemmas.List.{length-map}
+use Rattle.std.specs.Prelude.{IfOk, MatchResult}
+use Rattle.bound_cert.specs.declared.faults.CertError.TheVariants as cert
+use Rattle.bound_cert.specs.declared.faults.Stop.TheVariants as stop
 
 -- the answer to what was read of lines
 pub answered : (t : Tables) (lines : List (Bor (List ℕ))) (read : Result Proof Stop) (result : Result Proof CertError) → Gives (λ proof. (proof.planned, nodes_of proof.tree)) read (proof_at t (seen lines))

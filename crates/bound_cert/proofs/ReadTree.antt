@@ -1,21 +1,22 @@
 -- A node or a tree put into its place among those that wait.
-use Rattle.std.proofs.Common.{◌≡◌, ◌≢◌, ℕ, Bor, zero, suc, ◌+◌, ◌-◌, ◌==◌, true, false, List, [], ◌∷◌, ◌++◌, length, Option, Some, None, Result, Ok, Err, refl, sym, ap, subst, ◌∙◌, append_assoc, append-nil, arith}
+use Rattle.bound_cert.proofs.ReadOn.{bound, chosen, failed, fails_by, refused}
+use Rattle.bound_cert.specs.Lines.{Fails, Gives, Left, Reading, Stopped, stopped}
+use Rattle.bound_cert.specs.Nodes.{Above, above_of, above_with, after_node, after_tree, first_nodes, has_first, inner_node, nodes_from, parent_nodes, waiting_nodes}
+use Rattle.bound_cert.specs.ReadTree.{IsGrown, IsInnerOf, NextGives, StillWaits, goes_on}
+use Rattle.bound_cert.specs.Reading.{node_at}
+use Rattle.bound_cert.specs.declared.faults.Stop.{Stop}
+use Rattle.bound_cert.specs.declared.faults.TheConstants.{TEXT_ENDS}
+use Rattle.bound_cert.specs.declared.nodes.Inner.{Inner}
+use Rattle.bound_cert.specs.declared.nodes.Parent.{Parent}
+use Rattle.dual_bound.specs.Nodes.{nodes_of}
+use Rattle.dual_bound.specs.declared.nodes.Node.{Node}
+use Rattle.dual_bound.specs.declared.trees.Tree.{Tree}
+use Rattle.proof_lines.specs.Known.{Naming}
+use Rattle.proof_lines.specs.Words.{joined, seen, stands}
+use Rattle.std.proofs.Common.{[], ◌++◌, ◌+◌, ◌-◌, ◌==◌, ◌∙◌, ◌∷◌, ◌≡◌, ◌≢◌, Bor, Err, List, None, Ok, Option, Result, Some, ap, append-nil, append_assoc, arith, false, length, refl, subst, suc, sym, true, zero, ℕ}
 use Rattle.std.proofs.lemmas.Bool.Decides.{nat_tests}
 use Rattle.std.proofs.lemmas.Grind.{flat_map-append}
-use Rattle.bound_cert.specs.Nodes.{Above, above_of, above_with, after_node, after_tree, first_nodes, has_first, inner_node, nodes_from, parent_nodes, waiting_nodes}
-use Rattle.dual_bound.specs.Nodes.{nodes_of}
-use Rattle.fleet_model.specs.declared.tables.Tables.{Tables}
-use Rattle.bound_cert.specs.Lines.{Fails, Gives, Left, Reading, Stopped, seen, stopped}
-use Rattle.bound_cert.proofs.ReadOn.{bound, chosen, failed, fails_by, refused}
-use Rattle.bound_cert.specs.declared.faults.TheConstants.{TEXT_ENDS}
-use Rattle.bound_cert.specs.Reading.{node_at}
-use Rattle.bound_cert.specs.ReadTree.{IsGrown, IsInnerOf, NextGives, StillWaits, goes_on}
-use Rattle.bound_cert.specs.declared.faults.Stop.{Stop}
 use Rattle.bound_cert.specs.declared.faults.Stop.TheVariants as stop
-use Rattle.bound_cert.specs.declared.nodes.Inner.{Inner}
-use Rattle.dual_bound.specs.declared.nodes.Node.{Node}
-use Rattle.bound_cert.specs.declared.nodes.Parent.{Parent}
-use Rattle.dual_bound.specs.declared.trees.Tree.{Tree}
 
 -- one more parent, below the others
 pub above_last : (above : Above) (parents : List Parent) (last : Parent) → above_with above (parents ++ last ∷ []) ≡ has_first last.yes ∷ above_with above parents
@@ -77,10 +78,10 @@ as_many before = above_len [] before ∙ omega arith
 
 -- Where reading nodes stands: with none whole yet, the nodes so far and those of what is left are all; with a whole
 -- tree, its nodes are all; and a fault is the fault of all.
-abbrev pub Goes : Tables → ℕ → ℕ → List Parent → Left → Left → Result (Option Tree) Stop → Type 0
-Goes t turns most waiting all left (Ok None) = nodes_from t most (waiting_nodes waiting) (above_of waiting) left ≡ nodes_from t turns [] [] all
-Goes t turns most waiting all left (Ok (Some tree)) = nodes_from t turns [] [] all ≡ Ok (nodes_of tree, left)
-Goes t turns most waiting all left (Err e) = Fails e (nodes_from t turns [] [] all)
+abbrev pub Goes : Naming → ℕ → ℕ → List Parent → Left → Left → Result (Option Tree) Stop → Type 0
+Goes n turns most waiting all left (Ok None) = nodes_from n most (waiting_nodes waiting) (above_of waiting) left ≡ nodes_from n turns [] [] all
+Goes n turns most waiting all left (Ok (Some tree)) = nodes_from n turns [] [] all ≡ Ok (nodes_of tree, left)
+Goes n turns most waiting all left (Err e) = Fails e (nodes_from n turns [] [] all)
 
 is_empty : (above : Above) → above ≡ [] → (length above == 0) ≡ true
 is_empty above none = ap (λ a. length a == 0) none
@@ -90,48 +91,48 @@ not_empty [] some = absurd (some refl)
 not_empty (b ∷ above) some = grind (arith, nat_tests)
 
 -- one node more
-module _ (t : Tables) (most : ℕ) (nodes : List Node) (above : Above) (left behind : Left) (node : Node) (read : node_at t (length above) left ≡ Ok (node, behind)) where
-  pub one_more : after_node node above ≢ [] → nodes_from t (suc most) nodes above left ≡ nodes_from t most (nodes ++ node ∷ []) (after_node node above) behind
+module _ (n : Naming) (most : ℕ) (nodes : List Node) (above : Above) (left behind : Left) (node : Node) (read : node_at n (length above) left ≡ Ok (node, behind)) where
+  pub one_more : after_node node above ≢ [] → nodes_from n (suc most) nodes above left ≡ nodes_from n most (nodes ++ node ∷ []) (after_node node above) behind
   unfolding nodes_from
-  one_more some = bound (node_at t (length above) left) (node, behind) _ read ∙ refused (length (after_node node above) == 0) _ _ (not_empty (after_node node above) some)
+  one_more some = bound (node_at n (length above) left) (node, behind) _ read ∙ refused (length (after_node node above) == 0) _ _ (not_empty (after_node node above) some)
 
-  pub last_one : after_node node above ≡ [] → nodes_from t (suc most) nodes above left ≡ Ok (nodes ++ node ∷ [], behind)
+  pub last_one : after_node node above ≡ [] → nodes_from n (suc most) nodes above left ≡ Ok (nodes ++ node ∷ [], behind)
   unfolding nodes_from
-  last_one none = bound (node_at t (length above) left) (node, behind) _ read ∙ chosen (length (after_node node above) == 0) _ _ (is_empty (after_node node above) none)
+  last_one none = bound (node_at n (length above) left) (node, behind) _ read ∙ chosen (length (after_node node above) == 0) _ _ (is_empty (after_node node above) none)
 
-pub none_more : (t : Tables) (most : ℕ) (nodes : List Node) (above : Above) (left : Left) (f : Stopped) → node_at t (length above) left ≡ Err f → nodes_from t (suc most) nodes above left ≡ Err f
+pub none_more : (n : Naming) (most : ℕ) (nodes : List Node) (above : Above) (left : Left) (f : Stopped) → node_at n (length above) left ≡ Err f → nodes_from n (suc most) nodes above left ≡ Err f
 unfolding nodes_from
-none_more t most nodes above left f is = failed (node_at t (length above) left) f _ is
+none_more n most nodes above left f is = failed (node_at n (length above) left) f _ is
 
 -- a turn
-module _ (t : Tables) (turns : ℕ) (all : Left) where
-  read_above : (before : List Parent) (left : Left) (r : Reading (Node × Left)) → node_at t (length before) left ≡ r → node_at t (length (above_of before)) left ≡ r
-  read_above before left r is = ap (λ n. node_at t n left) (as_many before) ∙ is
+module _ (n : Naming) (turns : ℕ) (all : Left) where
+  read_above : (before : List Parent) (left : Left) (r : Reading (Node × Left)) → node_at n (length before) left ≡ r → node_at n (length (above_of before)) left ≡ r
+  read_above before left r is = ap (λ k. node_at n k left) (as_many before) ∙ is
 
-  grown_on : (most : ℕ) (before waiting : List Parent) (left behind : Left) (node : Node) (reached : Option Tree) → node_at t (length before) left ≡ Ok (node, behind)
-      → nodes_from t (suc most) (waiting_nodes before) (above_of before) left ≡ nodes_from t turns [] [] all → IsGrown before node waiting reached
-      → Goes t turns most waiting all behind (Ok reached)
+  grown_on : (most : ℕ) (before waiting : List Parent) (left behind : Left) (node : Node) (reached : Option Tree) → node_at n (length before) left ≡ Ok (node, behind)
+      → nodes_from n (suc most) (waiting_nodes before) (above_of before) left ≡ nodes_from n turns [] [] all → IsGrown before node waiting reached
+      → Goes n turns most waiting all behind (Ok reached)
   grown_on most before waiting left behind node None is so_far grown =
       rw (grown.nodes_are, grown.above_is)
-      (sym (one_more t most (waiting_nodes before) (above_of before) left behind node (read_above before left _ is) grown.some) ∙ so_far)
+      (sym (one_more n most (waiting_nodes before) (above_of before) left behind node (read_above before left _ is) grown.some) ∙ so_far)
   grown_on most before waiting left behind node (Some tree) is so_far grown =
-      sym so_far ∙ last_one t most (waiting_nodes before) (above_of before) left behind node (read_above before left _ is) grown.none
+      sym so_far ∙ last_one n most (waiting_nodes before) (above_of before) left behind node (read_above before left _ is) grown.none
       ∙ ap (λ n. Ok (n, behind)) (sym grown.all)
 
-  pub turn : (most : ℕ) (before waiting : List Parent) (left behind : Left) (reached next : Result (Option Tree) Stop) → Goes t turns most before all left reached → goes_on reached most ≡ true
-      → NextGives t before left waiting behind next → Goes t turns (most - 1) waiting all behind next
+  pub turn : (most : ℕ) (before waiting : List Parent) (left behind : Left) (reached next : Result (Option Tree) Stop) → Goes n turns most before all left reached → goes_on reached most ≡ true
+      → NextGives n before left waiting behind next → Goes n turns (most - 1) waiting all behind next
   turn most before waiting left behind (Err e) next so_far on gives = absurd (cc on)
   turn most before waiting left behind (Ok (Some tree)) next so_far on gives = absurd (cc on)
   turn zero before waiting left behind (Ok None) next so_far on gives = absurd (cc on)
   turn (suc most) before waiting left behind (Ok None) (Ok reached) so_far on gives =
       let one_less : most ≡ suc most - 1 = omega arith in
-      subst (λ k. Goes t turns k waiting all behind (Ok reached)) one_less (grown_on most before waiting left behind gives.node reached gives.read so_far gives.grown)
+      subst (λ k. Goes n turns k waiting all behind (Ok reached)) one_less (grown_on most before waiting left behind gives.node reached gives.read so_far gives.grown)
   turn (suc most) before waiting left behind (Ok None) (Err e) so_far on gives =
-      fails_by e (node_at t (length before) left) (nodes_from t turns [] [] all)
-      (λ f is. sym so_far ∙ none_more t most (waiting_nodes before) (above_of before) left f (read_above before left _ is)) gives
+      fails_by e (node_at n (length before) left) (nodes_from n turns [] [] all)
+      (λ f is. sym so_far ∙ none_more n most (waiting_nodes before) (above_of before) left f (read_above before left _ is)) gives
 
-  pub ended : (most : ℕ) (waiting : List Parent) (left : Left) (reached : Result (Option Tree) Stop) → Goes t turns most waiting all left reached → goes_on reached most ≡ false → reached ≡ Ok None
-      → nodes_from t turns [] [] all ≡ stopped left TEXT_ENDS
+  pub ended : (most : ℕ) (waiting : List Parent) (left : Left) (reached : Result (Option Tree) Stop) → Goes n turns most waiting all left reached → goes_on reached most ≡ false → reached ≡ Ok None
+      → nodes_from n turns [] [] all ≡ stopped left TEXT_ENDS
   unfolding nodes_from
   ended zero waiting left (Ok None) so_far off is = sym so_far
   ended (suc most) waiting left (Ok None) so_far off is = absurd (grind (arith, nat_tests, off))

@@ -1,19 +1,25 @@
 -- What reading leaves, and where it stops, is no more than there was.
-use Rattle.std.proofs.Common.{◌≡◌, ℕ, zero, suc, ◌<◌, ◌≤◌, Bool, true, false, cond, ◌==◌, List, [], ◌∷◌, ◌++◌, length, drop, codes, ℤ, Option, Some, None, Ok, Err, refl, sym, subst, arith}
-use Rattle.std.specs.Prelude.{⊤, bytes_eq}
-use Rattle.fleet_model.specs.declared.tables.Tables.{Tables}
-use Rattle.bound_cert.specs.Lines.{Left, Reading, ◌>>=◌, is_word, line_due, stands, stopped, words_of}
+use Rattle.bound_cert.proofs.LineTwins.{Alike, Twin, alike_self, head_twin, line_twin, mixed_scale_twin, plan_twin, rent_twin, scale_twin, step_twin, twin_if, weight_twin}
+use Rattle.bound_cert.proofs.ReadBack.{goes}
+use Rattle.bound_cert.proofs.WrittenLines.{names}
+use Rattle.bound_cert.specs.Lines.{◌>>=◌, Left, Reading, fits, line_due, stopped}
 use Rattle.bound_cert.specs.Nodes.{Above, after_node, end_at, head_is, nodes_from, nothing, plan_at, proof_at, rest_at, tree_at}
-use Rattle.bound_cert.specs.Reading.{body_at, head_at, mixed_at, node_at, padded, prices_at, rent_at, rents_from, scale_at, step_at, steps_from, weight_at, weights_from}
+use Rattle.bound_cert.specs.Reading.{body_at, head_at, mixed_at, mixed_scale_at, node_at, padded, prices_at, rent_at, rents_from, scale_at, step_at, steps_from, weight_at, weights_from}
 use Rattle.bound_cert.specs.declared.faults.TheConstants.{BAD_LINE}
-use Rattle.dual_bound.specs.declared.mixed.Weight.{Weight}
 use Rattle.bound_cert.specs.declared.nodes.Head.{Head}
-use Rattle.bound_cert.specs.declared.nodes.Head.TheVariants as head
+use Rattle.dual_bound.specs.declared.mixed.Weight.{Weight}
 use Rattle.dual_bound.specs.declared.nodes.Node.{Node}
 use Rattle.dual_bound.specs.declared.prices.PriceStep.{PriceStep}
+use Rattle.fleet_model.specs.declared.tables.Tables.{Tables}
+use Rattle.proof_lines.specs.Forms.{form_in}
+use Rattle.proof_lines.specs.Known.{names_in}
+use Rattle.proof_lines.specs.Words.{is_word, words_of}
+use Rattle.proof_lines.specs.declared.line.Version.{Version}
+use Rattle.std.proofs.Common.{[], ◌++◌, ◌<◌, ◌==◌, ◌∷◌, ◌≡◌, ◌≤◌, Bool, Err, List, None, Ok, Option, Some, arith, codes, cond, drop, false, length, refl, subst, suc, sym, true, zero, ℕ, ℤ}
+use Rattle.std.specs.Prelude.{⊤, bytes_eq}
+use Rattle.bound_cert.specs.declared.nodes.Head.TheVariants as head
 use Rattle.bound_cert.specs.declared.reading_lines.Due.TheVariants as due
-use Rattle.bound_cert.proofs.LineTwins.{Alike, Twin, alike_self, head_twin, line_twin, plan_twin, rent_twin, scale_twin, step_twin, twin_if, weight_twin}
-use Rattle.bound_cert.proofs.ReadBack.{goes}
+use Rattle.proof_lines.specs.declared.line.Version.TheVariants as version
 
 -- what reading leaves, or where it stops, is no more than there was
 abbrev pub Shrinks : {A : Type 0} → ℕ → Reading (A × Left) → Type 0
@@ -44,71 +50,71 @@ pub shrinks_behind : {A : Type 0} (a : Left) (r : Reading (A × Left)) → Shrin
 shrinks_behind a r is = shrinks_less (length (drop 1 a)) (length a) r (behind_first a) is
 
 module _ (t : Tables) where
-  pub rents_shrink : (rents : List ℤ) (a : Left) → Shrinks (length a) (rents_from t rents a)
+  pub rents_shrink : (rents : List ℤ) (a : Left) → Shrinks (length a) (rents_from (names t) rents a)
   unfolding rents_from
   rents_shrink rents [] = omega arith
   rents_shrink rents (line ∷ a) =
-      shrinks_if (length (line ∷ a)) (stands (words_of line) 0 (codes "rent")) _ _
-      (shrinks_line (line ∷ a) (rent_at t (length rents) (line ∷ a)) _ (rent_twin t (line ∷ a) (line ∷ a) (alike_self (line ∷ a)) (length rents))
+      shrinks_if (length (line ∷ a)) (fits due.Rent (form_in (words_of line))) _ _
+      (shrinks_line (line ∷ a) (rent_at (names t) (length rents) (line ∷ a)) _ (rent_twin t (line ∷ a) (line ∷ a) (alike_self (line ∷ a)) (length rents))
       (λ entry. shrinks_behind (line ∷ a) _ (rents_shrink (padded rents entry.0 ++ entry.1 ∷ []) a)))
       (omega arith)
 
-  pub steps_shrink : (steps : List PriceStep) (before : Option PriceStep) (a : Left) → Shrinks (length a) (steps_from t steps before a)
+  pub steps_shrink : (steps : List PriceStep) (before : Option PriceStep) (a : Left) → Shrinks (length a) (steps_from (names t) steps before a)
   unfolding steps_from
   steps_shrink steps before [] = omega arith
   steps_shrink steps before (line ∷ a) =
-      shrinks_if (length (line ∷ a)) (stands (words_of line) 0 (codes "at")) _ _
-      (shrinks_line (line ∷ a) (step_at t before (line ∷ a)) _ (step_twin t (line ∷ a) (line ∷ a) (alike_self (line ∷ a)) before (λ zero. refl))
+      shrinks_if (length (line ∷ a)) (fits due.Step (form_in (words_of line))) _ _
+      (shrinks_line (line ∷ a) (step_at (names t) before (line ∷ a)) _ (step_twin t (line ∷ a) (line ∷ a) (alike_self (line ∷ a)) before (λ zero. refl))
       (λ step. shrinks_behind (line ∷ a) _ (steps_shrink (steps ++ step ∷ []) (Some step) a)))
       (omega arith)
 
-  pub weights_shrink : (weights : List Weight) (before : Option Weight) (a : Left) → Shrinks (length a) (weights_from t weights before a)
+  pub weights_shrink : (weights : List Weight) (before : Option Weight) (a : Left) → Shrinks (length a) (weights_from (names t) weights before a)
   unfolding weights_from
   weights_shrink weights before [] = omega arith
   weights_shrink weights before (line ∷ a) =
-      shrinks_if (length (line ∷ a)) (stands (words_of line) 0 (codes "weight")) _ _
-      (shrinks_line (line ∷ a) (weight_at t before (line ∷ a)) _ (weight_twin t (line ∷ a) (line ∷ a) (alike_self (line ∷ a)) before)
+      shrinks_if (length (line ∷ a)) (fits due.Weight (form_in (words_of line))) _ _
+      (shrinks_line (line ∷ a) (weight_at (names t) before (line ∷ a)) _ (weight_twin t (line ∷ a) (line ∷ a) (alike_self (line ∷ a)) before)
       (λ entry. shrinks_behind (line ∷ a) _ (weights_shrink (weights ++ entry ∷ []) (Some entry) a)))
       (omega arith)
 
-  pub prices_shrink : (a : Left) → Shrinks (length a) (prices_at t a)
+  pub prices_shrink : (a : Left) → Shrinks (length a) (prices_at (names t) a)
   unfolding prices_at
   prices_shrink a =
-      shrinks_line a (scale_at due.Scale a) _ (scale_twin t a a (alike_self a) due.Scale) (λ scale. shrinks_behind a _
-      (shrinks_bind (length (drop 1 a)) (rents_from t [] (drop 1 a)) _ (rents_shrink [] (drop 1 a)) (λ rents b.
-      shrinks_bind (length b) (steps_from t [] None b) _ (steps_shrink [] None b) (λ steps c. omega arith))))
+      shrinks_line a (scale_at (names t) a) _ (scale_twin t a a (alike_self a)) (λ scale. shrinks_behind a _
+      (shrinks_bind (length (drop 1 a)) (rents_from (names t) [] (drop 1 a)) _ (rents_shrink [] (drop 1 a)) (λ rents b.
+      shrinks_bind (length b) (steps_from (names t) [] None b) _ (steps_shrink [] None b) (λ steps c. omega arith))))
 
-  pub mixed_shrinks : (a : Left) → Shrinks (length a) (mixed_at t a)
+  pub mixed_shrinks : (a : Left) → Shrinks (length a) (mixed_at (names t) a)
   unfolding mixed_at
   mixed_shrinks a =
-      shrinks_line a (scale_at due.Mixed a) _ (scale_twin t a a (alike_self a) due.Mixed) (λ scale. shrinks_behind a _
-      (shrinks_bind (length (drop 1 a)) (weights_from t [] None (drop 1 a)) _ (weights_shrink [] None (drop 1 a)) (λ weights b. omega arith)))
+      shrinks_line a (mixed_scale_at (names t) a) _ (mixed_scale_twin t a a (alike_self a)) (λ scale. shrinks_behind a _
+      (shrinks_bind (length (drop 1 a)) (weights_from (names t) [] None (drop 1 a)) _ (weights_shrink [] None (drop 1 a)) (λ weights b. omega arith)))
 
-  pub body_shrinks : (h : Head) (a : Left) → Shrinks (length a) (body_at t h a)
+  pub body_shrinks : (h : Head) (a : Left) → Shrinks (length a) (body_at (names t) h a)
   unfolding body_at
   body_shrinks (head.Alone h) a = omega arith
-  body_shrinks (head.Priced h) a = shrinks_bind (length a) (prices_at t a) _ (prices_shrink a) (λ prices b. omega arith)
+  body_shrinks (head.Priced h) a = shrinks_bind (length a) (prices_at (names t) a) _ (prices_shrink a) (λ prices b. omega arith)
   body_shrinks (head.Mixed h) a =
-      shrinks_bind (length a) (prices_at t a) _ (prices_shrink a) (λ prices b. shrinks_bind (length b) (mixed_at t b) _ (mixed_shrinks b) (λ mixed c. omega arith))
+      shrinks_bind (length a) (prices_at (names t) a) _ (prices_shrink a) (λ prices b. shrinks_bind (length b) (mixed_at (names t) b) _ (mixed_shrinks b) (λ mixed c. omega arith))
 
-  pub node_shrinks : (above : ℕ) (a : Left) → Shrinks (length a) (node_at t above a)
+  pub node_shrinks : (above : ℕ) (a : Left) → Shrinks (length a) (node_at (names t) above a)
   unfolding node_at
-  node_shrinks above a = shrinks_line a (head_at t above a) _ (head_twin t a a (alike_self a) above) (λ h. shrinks_behind a _ (body_shrinks h (drop 1 a)))
+  node_shrinks above a = shrinks_line a (head_at (names t) above a) _ (head_twin t a a (alike_self a) above) (λ h. shrinks_behind a _ (body_shrinks h (drop 1 a)))
 
   -- a node takes a line at least
-  pub node_takes : (above : ℕ) (a : Left) (read : Node × Left) → node_at t above a ≡ Ok read → length read.1 < length a
+  pub node_takes : (above : ℕ) (a : Left) (read : Node × Left) → node_at (names t) above a ≡ Ok read → length read.1 < length a
   unfolding node_at head_at line_due
   node_takes above [] read e = absurd (cc e)
   node_takes above (x ∷ a) read e =
-      let h = goes (head_at t above (x ∷ a)) _ read e in
+      let h = goes (head_at (names t) above (x ∷ a)) _ read e in
       let less : length read.1 ≤ length a = subst (Shrinks (length a)) h.on (body_shrinks h.value a) in
       omega (arith, less)
 
-  pub nodes_shrink : (most : ℕ) (nodes : List Node) (above : Above) (a : Left) → Shrinks (length a) (nodes_from t most nodes above a)
+  pub nodes_shrink : (most : ℕ) (nodes : List Node) (above : Above) (a : Left) → Shrinks (length a) (nodes_from (names t) most nodes above a)
   unfolding nodes_from
   nodes_shrink zero nodes above a = omega arith
   nodes_shrink (suc most) nodes above a =
-      shrinks_bind (length a) (node_at t (length above) a) _ (node_shrinks (length above) a) (λ n b.
+      shrinks_bind (length a) (node_at (names t) (length above) a) _ (node_shrinks (length above) a) (λ n b.
       shrinks_if (length b) (length (after_node n above) == 0) _ _ (omega arith) (nodes_shrink most (nodes ++ n ∷ []) (after_node n above) b))
 
 -- where reading stops is no more than there was
@@ -142,9 +148,9 @@ nothing_stops (line ∷ []) = by_word (is_word line)
     by_word false = tt
 nothing_stops (line ∷ next ∷ rest) = omega arith
 
-pub end_stops : (a : Left) → Stops (length a) (end_at a)
+pub end_stops : (t : Tables) (a : Left) → Stops (length a) (end_at (names t) a)
 unfolding end_at
-end_stops a = stops_line a (line_due due.End a) _ (line_twin due.End a a (alike_self a)) (λ words. nothing_stops (drop 1 a))
+end_stops t a = stops_line a (line_due (names t) due.End a) _ (line_twin (names t) due.End a a (alike_self a)) (λ words. nothing_stops (drop 1 a))
 
 pub headed_twin : (a b : Left) → Alike a b → Twin a b (head_is a) (head_is b)
 unfolding head_is
@@ -155,15 +161,18 @@ headed_twin (line ∷ second ∷ rest) b same =
     (twin_if (line ∷ second ∷ rest) (line ∷ same.second ∷ same.rest) (bytes_eq line (codes "fleet proof 1")) _ _ _ _ refl (refl, refl))
 
 module _ (t : Tables) where
-  pub tree_stops : (a : Left) → Stops (length a) (tree_at t a)
+  pub tree_stops : (a : Left) → Stops (length a) (tree_at (names t) a)
   unfolding tree_at
   tree_stops a =
-      stops_bind (length a) (nodes_from t (length a) [] [] a) _ (nodes_shrink t (length a) [] [] a) (λ nodes b. stops_then (length b) (end_at b) (λ ended. nodes) (end_stops b))
+      stops_bind (length a) (nodes_from (names t) (length a) [] [] a) _ (nodes_shrink t (length a) [] [] a) (λ nodes b. stops_then (length b) (end_at (names t) b) (λ ended. nodes) (end_stops t b))
 
-  pub rest_stops : (a : Left) → Stops (length a) (rest_at t a)
+  pub rest_stops : (a : Left) → Stops (length a) (rest_at (names t) a)
   unfolding rest_at
-  rest_stops a = stops_line a (plan_at a) _ (plan_twin t a a (alike_self a)) (λ planned. stops_then (length (drop 1 a)) (tree_at t (drop 1 a)) (λ nodes. (planned, nodes)) (tree_stops (drop 1 a)))
+  rest_stops a = stops_line a (plan_at (names t) a) _ (plan_twin t a a (alike_self a)) (λ planned. stops_then (length (drop 1 a)) (tree_at (names t) (drop 1 a)) (λ nodes. (planned, nodes)) (tree_stops (drop 1 a)))
+
+  pub version_stops : (version : Version) (a : Left) → Stops (length a) (rest_at (names_in version t) a)
+  version_stops version.One a = rest_stops a
 
   pub proof_stops : (a : Left) → Stops (length a) (proof_at t a)
   unfolding proof_at
-  proof_stops a = stops_line a (head_is a) _ (headed_twin a a (alike_self a)) (λ headed. rest_stops (drop 1 a))
+  proof_stops a = stops_line a (head_is a) _ (headed_twin a a (alike_self a)) (λ version. version_stops version (drop 1 a))

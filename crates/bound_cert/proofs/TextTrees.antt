@@ -1,32 +1,39 @@
 -- A text that reads as a proof is the text of that proof, whose tree is in written order and no deeper than a reader takes.
-use Rattle.std.proofs.Common.{◌≡◌, ℕ, zero, suc, ◌+◌, ◌<◌, ◌≤◌, ◌==◌, ◌&&◌, ◌||◌, Bool, true, false, cond, List, [], ◌∷◌, ◌++◌, length, drop, codes, bytes_eq, Some, None, Ok, Err, refl, sym, ap, subst, ◌∙◌, append_assoc, append-nil, arith}
-use Rattle.std.specs.Prelude.{All, max, ⊤}
-use Rattle.std.specs.List.{flat_map, join_with_byte}
+use Rattle.bound_cert.proofs.ReadBack.{either_way, goes, ok_same}
+use Rattle.bound_cert.proofs.TextLines.{LineIs, line_may, line_was}
+use Rattle.bound_cert.proofs.TextNodes.{node_was}
+use Rattle.bound_cert.proofs.WrittenLines.{names, texts, texts_append}
+use Rattle.bound_cert.proofs.WrittenNodes.{lines_at}
+use Rattle.bound_cert.proofs.WrittenTrees.{last, lines_of_nodes}
+use Rattle.bound_cert.specs.Lines.{Left, Reading, left_of, line_due, may_stand}
+use Rattle.bound_cert.specs.Nodes.{Above, after_node, after_tree, end_at, head_is, nodes_from, nothing, plan_at, plan_of, proof_at, rest_at, tree_at}
+use Rattle.bound_cert.specs.ProofText.{all_lines, lines_of, proof_text, tree_lines}
+use Rattle.bound_cert.specs.Reading.{node_at}
+use Rattle.bound_cert.specs.declared.faults.TheConstants.{BAD_LINE}
+use Rattle.dual_bound.specs.Leaves.{depth_of}
+use Rattle.dual_bound.specs.Nodes.{nodes_of}
+use Rattle.dual_bound.specs.WrittenOrder.{InWrittenOrder, IsNodeInOrder, IsShallow}
+use Rattle.dual_bound.specs.declared.nodes.Node.{Node}
+use Rattle.dual_bound.specs.declared.trees.TheConstants.{MAX_DEPTH}
+use Rattle.dual_bound.specs.declared.trees.Tree.{Tree}
+use Rattle.fleet_model.specs.declared.tables.Tables.{Tables}
+use Rattle.proof_lines.proofs.FigureWords.{same_bytes}
+use Rattle.proof_lines.specs.Forms.{form_of}
+use Rattle.proof_lines.specs.Known.{names_in}
+use Rattle.proof_lines.specs.LineText.{line_bytes}
+use Rattle.proof_lines.specs.Words.{is_word, line_feed}
+use Rattle.proof_lines.specs.declared.line.Line.{Line}
+use Rattle.proof_lines.specs.declared.line.Version.{Version}
+use Rattle.std.proofs.Common.{[], ◌++◌, ◌+◌, ◌<◌, ◌==◌, ◌∙◌, ◌∷◌, ◌≡◌, ◌≤◌, Bool, Err, List, Ok, ap, append-nil, append_assoc, arith, bytes_eq, codes, cond, drop, false, length, refl, subst, suc, sym, true, zero, ℕ}
 use Rattle.std.proofs.lemmas.Bool.Decides.{nat_tests}
 use Rattle.std.proofs.lemmas.List.Elements.{All-cons, All-nil}
 use Rattle.std.proofs.lemmas.List.Splits.{join_with_byte-slice_split}
-use Rattle.sums.proofs.Tests.{other_true}
-use Rattle.fleet_model.specs.declared.tables.Tables.{Tables}
-use Rattle.dual_bound.specs.Leaves.{depth_of}
-use Rattle.bound_cert.specs.Lines.{Left, Reading, is_word, left_of, line_due, stands, width_of, word_at}
-use Rattle.bound_cert.specs.Nodes.{Above, after_node, after_tree, end_at, head_is, nodes_from, nothing, plan_at, proof_at, rest_at, tree_at}
-use Rattle.dual_bound.specs.Nodes.{nodes_of}
-use Rattle.bound_cert.specs.ProofText.{Line, end_line, head_line, line_feed, lines_of, plan_line, proof_lines, proof_text, tree_lines}
-use Rattle.bound_cert.specs.Reading.{node_at}
-use Rattle.dual_bound.specs.WrittenOrder.{InWrittenOrder, IsNodeInOrder, IsShallow}
-use Rattle.bound_cert.specs.declared.faults.TheConstants.{BAD_LINE}
-use Rattle.dual_bound.specs.declared.trees.TheConstants.{MAX_DEPTH}
-use Rattle.dual_bound.specs.declared.nodes.Node.{Node}
+use Rattle.std.specs.List.{flat_map, join_with_byte}
+use Rattle.std.specs.Prelude.{⊤, All, max}
 use Rattle.bound_cert.specs.declared.reading_lines.Due.TheVariants as due
-use Rattle.dual_bound.specs.declared.trees.Tree.{Tree}
 use Rattle.dual_bound.specs.declared.trees.Tree.TheVariants as tree
-use Rattle.bound_cert.proofs.FigureWords.{same_bytes}
-use Rattle.bound_cert.proofs.ReadBack.{either_way, goes, ok_same}
-use Rattle.bound_cert.proofs.TextLines.{LineIs, line_by, line_was, one_word, two_words, width_was}
-use Rattle.bound_cert.proofs.TextNodes.{node_was}
-use Rattle.bound_cert.proofs.WrittenLines.{joined, texts, texts_append}
-use Rattle.bound_cert.proofs.WrittenNodes.{lines_at}
-use Rattle.bound_cert.proofs.WrittenTrees.{last, lines_of_nodes}
+use Rattle.proof_lines.specs.declared.line.Line.TheVariants as says
+use Rattle.proof_lines.specs.declared.line.Version.TheVariants as version
 
 -- no node is too deep below what stands above it
 abbrev Within : Above → List Node → Type 0
@@ -36,15 +43,15 @@ Within above (n ∷ nodes) = (length above ≤ MAX_DEPTH) × Within (after_node 
 record NodesWere (t : Tables) (nodes : List Node) (above : Above) (left : Left) (read : List Node × Left) : Type 0 where
   new : List Node
   list : read.0 ≡ nodes ++ new
-  text : left ≡ texts (flat_map (lines_at t) new) ++ read.1
+  text : left ≡ texts t (flat_map (lines_at t) new) ++ read.1
   each : All (IsNodeInOrder t) new
   deep : Within above new
 
-nodes_were : (t : Tables) (most : ℕ) (nodes : List Node) (above : Above) (left : Left) (read : List Node × Left) → nodes_from t most nodes above left ≡ Ok read → NodesWere t nodes above left read
+nodes_were : (t : Tables) (most : ℕ) (nodes : List Node) (above : Above) (left : Left) (read : List Node × Left) → nodes_from (names t) most nodes above left ≡ Ok read → NodesWere t nodes above left read
 unfolding nodes_from
 nodes_were t zero nodes above left read e = absurd (cc e)
 nodes_were t (suc most) nodes above left read e =
-    let next = goes (node_at t (length above) left) _ read e in
+    let next = goes (node_at (names t) (length above) left) _ read e in
     let n = next.value.0 in
     let was = node_was t (length above) left next.value next.is in
     either_way (length (after_node n above) == 0) _ _ read next.on
@@ -53,7 +60,7 @@ nodes_were t (suc most) nodes above left read e =
     (record {
       new = n ∷ [];
       list = refl;
-      text = was.text ∙ ap (λ lines. texts lines ++ next.value.1) (sym (append-nil (lines_at t n)));
+      text = was.text ∙ ap (λ lines. texts t lines ++ next.value.1) (sym (append-nil (lines_at t n)));
       each = All-cons (IsNodeInOrder t) n [] was.order (All-nil (IsNodeInOrder t));
       deep = (was.deep, tt);
     }))
@@ -62,7 +69,7 @@ nodes_were t (suc most) nodes above left read e =
     record {
       new = n ∷ more.new;
       list = more.list ∙ append_assoc nodes (n ∷ []) more.new;
-      text = was.text ∙ ap (λ rest. texts (lines_at t n) ++ rest) more.text ∙ sym (texts_append (lines_at t n) (flat_map (lines_at t) more.new) read.1);
+      text = was.text ∙ ap (λ rest. texts t (lines_at t n) ++ rest) more.text ∙ sym (texts_append t (lines_at t n) (flat_map (lines_at t) more.new) read.1);
       each = All-cons (IsNodeInOrder t) n more.new was.order more.each;
       deep = (was.deep, more.deep);
     })
@@ -98,37 +105,25 @@ depth_is (tree.Split' leg fleet prices mixed p with_pair q without) above more w
 
 -- the head, the plan and the end
 
-head_was : (left : Left) (x : ⊤) → head_is left ≡ Ok x → LineIs left head_line
+head_was : (t : Tables) (left : Left) (v : Version) → head_is left ≡ Ok v → left ≡ line_bytes t (says.Head version.One) ∷ drop 1 left
 unfolding head_is
-head_was [] x e = absurd (cc e)
-head_was (line ∷ []) x e = absurd (cc e)
-head_was (line ∷ next ∷ rest) x e =
-    either_way (bytes_eq line (codes "fleet proof 1")) _ _ x e (λ is e. record { is = ap (λ l. l ∷ next ∷ rest) (same_bytes line (codes "fleet proof 1") is) }) (λ is e. absurd (cc e))
+head_was t [] v e = absurd (cc e)
+head_was t (line ∷ []) v e = absurd (cc e)
+head_was t (line ∷ next ∷ rest) v e =
+    either_way (bytes_eq line (codes "fleet proof 1")) _ _ v e (λ is e. ap (λ l. l ∷ next ∷ rest) (same_bytes line (codes "fleet proof 1") is)) (λ is e. absurd (cc e))
 
-record PlanWords (words : Line) : Type 0 where
-  first : word_at words 0 ≡ codes "plan"
-  count : length words ≡ 2
-  answer : (stands words 1 (codes "yes") || stands words 1 (codes "no")) ≡ true
+of_version : (t : Tables) (left : Left) (read : Bool × List Node) (v : Version) → rest_at (names_in v t) left ≡ Ok read → rest_at (names t) left ≡ Ok read
+of_version t left read version.One e = e
 
-plan_words : (a b : Bool) (words : Line) → stands words 0 (codes "plan") ≡ a → (stands words 1 (codes "yes") || stands words 1 (codes "no")) ≡ b → cond (a && b) (Some 2) None ≡ Some (length words)
-    → PlanWords words
-plan_words true true words first answer e = record { first = same_bytes (word_at words 0) (codes "plan") first; count = sym (cc e); answer = answer }
-plan_words true false words first answer e = absurd (cc e)
-plan_words false b words first answer e = absurd (cc e)
+plan_is : (line : Line) (left : Left) (planned : Bool) → plan_of line left ≡ Ok planned → line ≡ says.Plan planned
+plan_is (says.Plan b) left planned e = ap (λ b. says.Plan b) (ok_same b planned e)
+plan_is other left planned e = absurd (cc e)
 
-plan_answer : (words : Line) (planned : Bool) → PlanWords words → stands words 1 (codes "yes") ≡ planned → word_at words 1 ≡ cond planned (codes "yes") (codes "no")
-plan_answer words true are is = same_bytes (word_at words 1) (codes "yes") is
-plan_answer words false are is = same_bytes (word_at words 1) (codes "no") (other_true (stands words 1 (codes "yes")) (stands words 1 (codes "no")) are.answer is)
-
-plan_was : (left : Left) (planned : Bool) → plan_at left ≡ Ok planned → LineIs left (plan_line planned)
-unfolding plan_at width_of
-plan_was left planned e =
-    let words = goes (line_due due.Plan left) _ planned e in
-    let line = line_was due.Plan left words.value words.is in
-    let are = plan_words _ _ words.value refl refl line.width in
-    line_by left words.value (plan_line planned) line.line
-    (two_words words.value are.count ∙ ap (λ w. w ∷ word_at words.value 1 ∷ []) are.first
-    ∙ ap (λ w. codes "plan" ∷ w ∷ []) (plan_answer words.value planned are (ok_same (stands words.value 1 (codes "yes")) planned words.on)))
+plan_was : (t : Tables) (left : Left) (planned : Bool) → plan_at (names t) left ≡ Ok planned → LineIs t left (says.Plan planned)
+unfolding plan_at
+plan_was t left planned e =
+    let line = goes (line_due (names t) due.Plan left) _ planned e in
+    subst (LineIs t left) (plan_is line.value left planned line.on) (line_was t due.Plan left line.value line.is)
 
 nothing_was : (left : Left) (x : ⊤) → nothing left ≡ Ok x → 0 < length left → left ≡ [] ∷ []
 unfolding nothing
@@ -141,14 +136,19 @@ nothing_was ((byte ∷ bytes) ∷ []) x e some = absurd (by_test (is_word (byte 
     by_test false s e is = cc is
 nothing_was (line ∷ next ∷ rest) x e some = absurd (cc e)
 
-end_was : (left : Left) (x : ⊤) → end_at left ≡ Ok x → left ≡ last
-unfolding end_at width_of
-end_was left x e =
-    let words = goes (line_due due.End left) _ x e in
-    let line = line_was due.End left words.value words.is in
-    let shape = width_was (codes "end") 1 words.value line.width in
-    let first = line_by left words.value end_line line.line (one_word words.value shape.count ∙ ap (λ w. w ∷ []) shape.first) in
-    first.is ∙ ap (λ rest. joined end_line ∷ rest) (nothing_was (drop 1 left) x words.on line.some)
+end_is : (line : Line) → may_stand due.End (form_of line) ≡ true → line ≡ says.End
+end_is says.End e = refl
+end_is (says.Plan true) e = absurd (cc e)
+end_is (says.Plan false) e = absurd (cc e)
+end_is other e = absurd (cc e)
+
+end_was : (t : Tables) (left : Left) (x : ⊤) → end_at (names t) left ≡ Ok x → left ≡ last t
+unfolding end_at
+end_was t left x e =
+    let line = goes (line_due (names t) due.End left) _ x e in
+    let was = line_was t due.End left line.value line.is in
+    let first = subst (LineIs t left) (end_is line.value (line_may t due.End left line.value line.is)) was in
+    first.is ∙ ap (λ rest. line_bytes t says.End ∷ rest) (nothing_was (drop 1 left) x line.on first.some)
 
 -- a text is its lines, joined
 
@@ -156,13 +156,13 @@ join_more : (first : List ℕ) (others : Left) → 0 < length others → join_wi
 join_more first [] some = absurd (omega (arith, some))
 join_more first (other ∷ others) some = refl
 
-join_lines : (lines : List Line) → join_with_byte line_feed (texts lines ++ [] ∷ []) ≡ lines_of lines
-join_lines [] = refl
-join_lines (line ∷ lines) =
-    join_more (joined line) (texts lines ++ [] ∷ []) (some_last lines) ∙ ap (λ rest. joined line ++ line_feed ∷ rest) (join_lines lines)
-    ∙ sym (append_assoc (joined line) (line_feed ∷ []) (lines_of lines))
+join_lines : (t : Tables) (lines : List Line) → join_with_byte line_feed (texts t lines ++ [] ∷ []) ≡ lines_of t lines
+join_lines t [] = refl
+join_lines t (line ∷ lines) =
+    join_more (line_bytes t line) (texts t lines ++ [] ∷ []) (some_last lines) ∙ ap (λ rest. line_bytes t line ++ line_feed ∷ rest) (join_lines t lines)
+    ∙ sym (append_assoc (line_bytes t line) (line_feed ∷ []) (lines_of t lines))
   where
-    some_last : (lines : List Line) → 0 < length (texts lines ++ [] ∷ [])
+    some_last : (lines : List Line) → 0 < length (texts t lines ++ [] ∷ [])
     some_last [] = omega arith
     some_last (line ∷ lines) = omega arith
 
@@ -172,26 +172,26 @@ unfolding proof_at rest_at tree_at proof_text
 text_of_reading t bytes planned whole e =
     let left = left_of bytes in
     let headed = goes (head_is left) _ (planned, nodes_of whole) e in
-    let answer = goes (plan_at (drop 1 left)) _ (planned, nodes_of whole) headed.on in
+    let answer = goes (plan_at (names t) (drop 1 left)) _ (planned, nodes_of whole) (of_version t (drop 1 left) _ headed.value headed.on) in
     let third : Left = drop 1 (drop 1 left) in
-    let read = goes (tree_at t third) _ (planned, nodes_of whole) answer.on in
-    let all = goes (nodes_from t (length third) [] [] third) _ read.value read.is in
-    let ended = goes (end_at all.value.1) _ read.value all.on in
+    let read = goes (tree_at (names t) third) _ (planned, nodes_of whole) answer.on in
+    let all = goes (nodes_from (names t) (length third) [] [] third) _ read.value read.is in
+    let ended = goes (end_at (names t) all.value.1) _ read.value all.on in
     let same : (answer.value, read.value) ≡ (planned, nodes_of whole) = ok_same (answer.value, read.value) (planned, nodes_of whole) read.on in
     let were = nodes_were t (length third) [] [] third all.value all.is in
     let nodes_are : were.new ≡ nodes_of whole = sym were.list ∙ ok_same all.value.0 read.value ended.on ∙ ap (λ p. p.1) same in
-    let head_line_is = head_was left headed.value headed.is in
-    let plan_line_is = plan_was (drop 1 left) answer.value answer.is in
+    let head_line_is = head_was t left headed.value headed.is in
+    let plan_line_is = plan_was t (drop 1 left) answer.value answer.is in
     let deep = depth_is whole [] [] (subst (λ nodes. Within [] nodes) (nodes_are ∙ sym (append-nil (nodes_of whole))) were.deep) in
-    let tree_text : third ≡ texts (tree_lines t whole) ++ last =
-    were.text ∙ ap (λ nodes. texts (flat_map (lines_at t) nodes) ++ all.value.1) nodes_are ∙ ap (λ lines. texts lines ++ all.value.1) (sym (lines_of_nodes t whole))
-    ∙ ap (λ rest. texts (tree_lines t whole) ++ rest) (end_was all.value.1 ended.value ended.is) in
-    let lines : left ≡ texts (proof_lines t planned whole) ++ [] ∷ [] =
-    head_line_is.is
-    ∙ ap (λ rest. joined head_line ∷ rest)
-    (plan_line_is.is ∙ ap (λ p. joined (plan_line p) ∷ third) (ap (λ p. p.0) same)
-    ∙ ap (λ rest. joined (plan_line planned) ∷ rest) (tree_text ∙ sym (texts_append (tree_lines t whole) (end_line ∷ []) ([] ∷ [])))) in (
-      sym (join_with_byte-slice_split line_feed bytes) ∙ ap (join_with_byte line_feed) lines ∙ join_lines (proof_lines t planned whole),
+    let tree_text : third ≡ texts t (tree_lines t whole) ++ last t =
+    were.text ∙ ap (λ nodes. texts t (flat_map (lines_at t) nodes) ++ all.value.1) nodes_are ∙ ap (λ lines. texts t lines ++ all.value.1) (sym (lines_of_nodes t whole))
+    ∙ ap (λ rest. texts t (tree_lines t whole) ++ rest) (end_was t all.value.1 ended.value ended.is) in
+    let lines : left ≡ texts t (all_lines t planned whole) ++ [] ∷ [] =
+    head_line_is
+    ∙ ap (λ rest. line_bytes t (says.Head version.One) ∷ rest)
+    (plan_line_is.is ∙ ap (λ p. line_bytes t (says.Plan p) ∷ third) (ap (λ p. p.0) same)
+    ∙ ap (λ rest. line_bytes t (says.Plan planned) ∷ rest) (tree_text ∙ sym (texts_append t (tree_lines t whole) (says.End ∷ []) ([] ∷ [])))) in (
+      sym (join_with_byte-slice_split line_feed bytes) ∙ ap (join_with_byte line_feed) lines ∙ join_lines t (all_lines t planned whole),
       subst (λ nodes. All (IsNodeInOrder t) nodes) nodes_are were.each,
       omega (arith, deep.depth),
     )

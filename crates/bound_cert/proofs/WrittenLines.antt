@@ -1,75 +1,72 @@
 -- A line that was written, cut and read again.
-use Rattle.std.proofs.Common.{◌≡◌, ℕ, ◌<◌, ◌==◌, ◌&&◌, Bool, true, List, [], ◌∷◌, ◌++◌, length, map, nat_le, Some, Ok, refl, ap, ◌∙◌, append_assoc, arith}
-use Rattle.std.specs.Prelude.{All, filter}
-use Rattle.std.specs.List.{join_with_byte}
-use Rattle.std.proofs.lemmas.Bool.Decides.{nat_tests}
-use Rattle.std.proofs.lemmas.List.{map-append}
+use Rattle.bound_cert.proofs.Cut.{no_line_feed}
+use Rattle.bound_cert.proofs.ReadOn.{begins, chosen}
+use Rattle.bound_cert.specs.Lines.{Left, fits, left_of, line_due, may_stand, of_seen}
+use Rattle.bound_cert.specs.ProofText.{lines_of}
+use Rattle.bound_cert.specs.Reading.{first_words}
+use Rattle.bound_cert.specs.declared.reading_lines.Due.{Due}
+use Rattle.fleet_model.specs.declared.tables.Tables.{Tables}
+use Rattle.proof_lines.proofs.LineWords.{form_told, of_words}
+use Rattle.proof_lines.proofs.Spaces.{joined_plain, words_back}
+use Rattle.proof_lines.proofs.WrittenLines.{reads_as_written}
+use Rattle.proof_lines.specs.Forms.{all_forms, form_in, form_of}
+use Rattle.proof_lines.specs.Known.{Naming, named, names_in}
+use Rattle.proof_lines.specs.Laws.{IsLineOf}
+use Rattle.proof_lines.specs.LineText.{IsNamed, line_bytes, line_words}
+use Rattle.proof_lines.specs.Words.{line_feed, stands, words_of}
+use Rattle.proof_lines.specs.declared.line.Line.{Line}
+use Rattle.std.proofs.Common.{[], ◌&&◌, ◌++◌, ◌<◌, ◌==◌, ◌∙◌, ◌∷◌, ◌≡◌, Bool, List, Ok, Some, ap, append_assoc, arith, codes, false, length, map, refl, sym, true}
 use Rattle.std.proofs.lemmas.List.Elements.{All-head, All-tail}
 use Rattle.std.proofs.lemmas.List.Splits.{slice_split_at}
-use Rattle.sums.proofs.Tests.{both_true}
-use Rattle.bound_cert.specs.Lines.{Left, is_plain, is_spaced, is_word, left_of, line_due, of_width, parts_of, stands, width_of, words_of}
-use Rattle.bound_cert.specs.ProofText.{Line, line_feed, lines_of, space}
-use Rattle.bound_cert.specs.Words.{IsOfWords, IsPlain, IsWord}
-use Rattle.bound_cert.specs.declared.reading_lines.Due.{Due}
-use Rattle.bound_cert.proofs.Cut.{line_back, no_line_feed}
-use Rattle.bound_cert.proofs.LinesOfWords.{joined_plain}
-use Rattle.bound_cert.proofs.ReadOn.{begins, chosen}
+use Rattle.std.proofs.lemmas.List.{map-append}
+use Rattle.std.specs.Prelude.{All}
+use Rattle.bound_cert.specs.declared.reading_lines.Due.TheVariants as due
+use Rattle.proof_lines.specs.declared.forms.Form.TheVariants as form
+use Rattle.proof_lines.specs.declared.line.Version.TheVariants as version
 
--- the bytes of a line without its line feed, and of lines
-abbrev pub joined : Line → List ℕ
-joined line = join_with_byte space line
+-- what the lines of a text are read by
+abbrev pub names : Tables → Naming
+names t = names_in version.One t
 
-abbrev pub texts : List Line → Left
-texts = map joined
+-- the bytes of lines without their line feeds
+abbrev pub texts : Tables → List Line → Left
+texts t = map (line_bytes t)
 
-pub texts_append : (xs ys : List Line) (behind : Left) → texts (xs ++ ys) ++ behind ≡ texts xs ++ (texts ys ++ behind)
-texts_append xs ys behind = ap (λ lines. lines ++ behind) (map-append joined xs ys) ∙ append_assoc (texts xs) (texts ys) behind
+pub texts_append : (t : Tables) (xs ys : List Line) (behind : Left) → texts t (xs ++ ys) ++ behind ≡ texts t xs ++ (texts t ys ++ behind)
+texts_append t xs ys behind = ap (λ lines. lines ++ behind) (map-append (line_bytes t) xs ys) ∙ append_assoc (texts t xs) (texts t ys) behind
 
 -- the lines of a text, and behind them nothing
-pub left_of_lines : (lines : List Line) → All IsOfWords lines → left_of (lines_of lines) ≡ texts lines ++ [] ∷ []
-left_of_lines [] are = refl
-left_of_lines (line ∷ lines) are =
-    let is = All-head IsOfWords line lines are in
-    rw (append_assoc (joined line) (line_feed ∷ []) (lines_of lines), slice_split_at (λ byte. byte == line_feed) (joined line) line_feed (lines_of lines) (no_line_feed (joined line) (joined_plain line is.words)) refl)
-    (ap (λ rest. joined line ∷ rest) (left_of_lines lines (All-tail IsOfWords line lines are)))
+pub left_of_lines : (t : Tables) (lines : List Line) → All (IsNamed t) lines → left_of (lines_of t lines) ≡ texts t lines ++ [] ∷ []
+left_of_lines t [] are = refl
+left_of_lines t (line ∷ lines) are =
+    let is = of_words t line (All-head (IsNamed t) line lines are) in
+    let bytes = line_bytes t line in
+    rw (append_assoc bytes (line_feed ∷ []) (lines_of t lines), slice_split_at (λ byte. byte == line_feed) bytes line_feed (lines_of t lines) (no_line_feed bytes (joined_plain (line_words t line) is.words)) refl)
+    (ap (λ rest. bytes ∷ rest) (left_of_lines t lines (All-tail (IsNamed t) line lines are)))
 
--- the words of a line
+-- a line that is of another form is no step
+pub other_words : (rest : Left) → begins rest due.Step ≡ false → stands (first_words rest) 0 (codes "at") ≡ false
+unfolding all_forms
+other_words [] off = refl
+other_words (line ∷ rest) off = by_test (stands (words_of line) 0 (codes "at")) refl off
+  where
+    by_test : (b : Bool) → stands (words_of line) 0 (codes "at") ≡ b → fits due.Step (form_in (words_of line)) ≡ false → stands (words_of line) 0 (codes "at") ≡ false
+    by_test false is off = is
+    by_test true is off = let told : form_in (words_of line) ≡ Some form.At = chosen (stands (words_of line) 0 (codes "at") && true) _ _ (rw is refl) in absurd (cc (sym off ∙ ap (fits due.Step) told))
 
-filter_all : (words : List (List ℕ)) → All IsWord words → filter is_word words ≡ words
-filter_all [] are = refl
-filter_all (word ∷ words) are =
-    let some : is_word word ≡ true = grind (arith, nat_tests, (All-head IsWord word words are).some) in
-    chosen (is_word word) (word ∷ filter is_word words) (filter is_word words) some ∙ ap (λ rest. word ∷ rest) (filter_all words (All-tail IsWord word words are))
+-- the form of a line is told by its bytes
+pub form_is : (t : Tables) (line : Line) → IsNamed t line → form_in (words_of (line_bytes t line)) ≡ Some (form_of line)
+form_is t line is = ap form_in (words_back (line_words t line) (of_words t line is)) ∙ form_told t line
 
-pub parts_back : (line : Line) → IsOfWords line → parts_of (joined line) ≡ line
-parts_back line is = line_back line is
+pub begins_as : (t : Tables) (line : Line) (rest : Left) (kind : Due) (is : Bool) → IsNamed t line → may_stand kind (form_of line) ≡ is → begins (line_bytes t line ∷ rest) kind ≡ is
+begins_as t line rest kind is named e = ap (fits kind) (form_is t line named) ∙ e
 
-pub words_back : (line : Line) → IsOfWords line → words_of (joined line) ≡ line
-words_back line is = ap (filter is_word) (line_back line is) ∙ filter_all line is.words
-
-plain_byte : (byte : ℕ) → IsPlain byte → (nat_le 32 byte && nat_le byte 126) ≡ true
-plain_byte byte is = both_true (nat_le 32 byte) (nat_le byte 126) (grind (arith, nat_tests, is.no_less)) (grind (arith, nat_tests, is.no_more))
-
-plain_all : (bytes : List ℕ) → All IsPlain bytes → is_plain bytes ≡ true
-plain_all [] are = refl
-plain_all (byte ∷ bytes) are =
-    both_true (nat_le 32 byte && nat_le byte 126) (is_plain bytes) (plain_byte byte (All-head IsPlain byte bytes are)) (plain_all bytes (All-tail IsPlain byte bytes are))
-
-lengths_same : (m n k : ℕ) → m ≡ k → n ≡ k → ((m == n) && (m == k)) ≡ true
-lengths_same m n k p q = both_true (m == n) (m == k) (grind (arith, nat_tests, p, q)) (grind (arith, nat_tests, p))
-
--- the words of a line that is due and has its width
-pub line_read : (kind : Due) (line : Line) (rest : Left) → IsOfWords line → width_of kind line ≡ Some (length line) → 0 < length rest → line_due kind (joined line ∷ rest) ≡ Ok line
+-- a line that is due
+pub line_read : (t : Tables) (kind : Due) (line : Line) (rest : Left) → IsLineOf t line → may_stand kind (form_of line) ≡ true → 0 < length rest
+    → line_due (names t) kind (line_bytes t line ∷ rest) ≡ Ok line
 unfolding line_due
-line_read kind line [] is width some = absurd (omega (arith, some))
-line_read kind line (next ∷ rest) is width some =
-    let words = words_back line is in
-    let spaced = lengths_same (length (words_of (joined line))) (length (parts_of (joined line))) (length line) (ap length words) (ap length (parts_back line is)) in
-    chosen (is_plain (joined line)) _ _ (plain_all (joined line) (joined_plain line is.words))
-    ∙ ap (λ w. of_width w (joined line ∷ next ∷ rest) (joined line)) (ap (width_of kind) words ∙ width)
-    ∙ chosen (is_spaced (joined line) && (length (words_of (joined line)) == length line)) _ _ spaced
-    ∙ ap (λ w. Ok w) words
-
--- the first word of a line
-pub first_word : (line : Line) (rest : Left) (word : List ℕ) (is : Bool) → IsOfWords line → stands line 0 word ≡ is → begins (joined line ∷ rest) word ≡ is
-first_word line rest word is words e = ap (λ w. stands w 0 word) (words_back line words) ∙ e
+line_read t kind line [] is may some = absurd (omega (arith, some))
+line_read t kind line (next ∷ rest) is may some =
+    let left : Left = line_bytes t line ∷ next ∷ rest in
+    ap (λ r. of_seen (fits kind (form_in (words_of (line_bytes t line)))) r left) (reads_as_written version.One t line is)
+    ∙ ap (λ fit. of_seen fit (Ok line) left) (begins_as t line (next ∷ rest) kind true is.named may)

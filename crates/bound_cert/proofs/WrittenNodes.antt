@@ -1,259 +1,191 @@
 -- A node in written order is what its lines read as.
-use Rattle.std.proofs.Common.{◌≡◌, ℕ, ◌≤◌, false, List, [], ◌∷◌, ◌++◌, length, codes, nat_le, Some, Ok, refl, sym, ap, subst, ◌∙◌, append-nil, arith}
-use Rattle.std.specs.Fmt.{decimal}
-use Rattle.std.proofs.lemmas.Bool.Decides.{nat_tests}
-use Rattle.fleet_model.specs.Schedule.{leg_of}
-use Rattle.fleet_model.specs.declared.tables.Tables.{Tables}
-use Rattle.bound_cert.specs.Figures.{natural_in}
-use Rattle.bound_cert.specs.Known.{leg_named}
-use Rattle.bound_cert.specs.Lines.{Left, line_due, present, stands, width_of, word_at}
-use Rattle.bound_cert.specs.ProofText.{Line, bare_line, cause_lines, mixed_line, mixed_lines, open_line, price_lines, priced_line, refuted_line, sole_line, split_line, trim_line, weight_lines}
-use Rattle.bound_cert.specs.Reading.{body_at, count_at, deep_at, grew_by, head_at, head_of, lift_by, mixed_at, node_at, open_head, pair_at, prices_at}
-use Rattle.bound_cert.specs.Words.{IsOfWords}
-use Rattle.dual_bound.specs.WrittenOrder.{ArePricesInOrder, IsCauseInOrder, IsCount, IsNodeInOrder}
-use Rattle.bound_cert.specs.declared.faults.TheConstants.{UNKNOWN_NAME, WRONG_NUMBER}
-use Rattle.dual_bound.specs.declared.trees.TheConstants.{MAX_DEPTH}
+use Rattle.bound_cert.proofs.ReadOn.{bound, chosen}
+use Rattle.bound_cert.proofs.WrittenLines.{begins_as, line_read, names, texts, texts_append}
+use Rattle.bound_cert.proofs.WrittenPrices.{IsBehind, mixed_read, prices_read, some_behind}
+use Rattle.bound_cert.specs.Lines.{Left, line_due, may_stand}
+use Rattle.bound_cert.specs.ProofText.{cause_lines, mixed_lines, open_line, price_lines, weight_line}
+use Rattle.bound_cert.specs.Reading.{alone_node, body_at, deep_at, head_at, head_of, mixed_at, mixed_node, node_at, priced_node, prices_at}
+use Rattle.bound_cert.specs.declared.nodes.Alone.{Alone}
+use Rattle.bound_cert.specs.declared.nodes.Fraction.{Fraction}
+use Rattle.bound_cert.specs.declared.nodes.Head.{Head}
+use Rattle.bound_cert.specs.declared.nodes.Priced.{Priced}
+use Rattle.dual_bound.specs.WrittenOrder.{ArePricesInOrder, IsMixedInOrder, IsNodeInOrder}
 use Rattle.dual_bound.specs.declared.mixed.Mixed.{Mixed}
+use Rattle.dual_bound.specs.declared.nodes.Node.{Node}
+use Rattle.dual_bound.specs.declared.prices.Prices.{Prices}
+use Rattle.dual_bound.specs.declared.trees.TheConstants.{MAX_DEPTH}
+use Rattle.fleet_model.specs.declared.tables.Tables.{Tables}
+use Rattle.proof_lines.specs.Forms.{form_of}
+use Rattle.proof_lines.specs.Known.{named}
+use Rattle.proof_lines.specs.Laws.{IsLineOf}
+use Rattle.proof_lines.specs.LineText.{IsNamed, line_bytes}
+use Rattle.proof_lines.specs.Reading.{made}
+use Rattle.proof_lines.specs.declared.forms.Form.{Form}
+use Rattle.proof_lines.specs.declared.line.Line.{Line}
+use Rattle.std.proofs.Common.{[], ◌++◌, ◌∙◌, ◌∷◌, ◌≡◌, ◌≤◌, List, Ok, ap, append-nil, arith, false, map, nat_le, refl, subst, sym, true, ℕ}
+use Rattle.std.proofs.lemmas.Bool.Decides.{nat_tests}
 use Rattle.bound_cert.specs.declared.nodes.Alone.TheVariants as alone
 use Rattle.bound_cert.specs.declared.nodes.Fraction.TheVariants as fraction
-use Rattle.bound_cert.specs.declared.nodes.Head.{Head}
 use Rattle.bound_cert.specs.declared.nodes.Head.TheVariants as head
-use Rattle.dual_bound.specs.declared.nodes.Node.{Node}
-use Rattle.dual_bound.specs.declared.nodes.Node.TheVariants as node
 use Rattle.bound_cert.specs.declared.nodes.Priced.TheVariants as priced
-use Rattle.dual_bound.specs.declared.prices.Prices.{Prices}
 use Rattle.bound_cert.specs.declared.reading_lines.Due.TheVariants as due
-use Rattle.dual_bound.specs.declared.trees.Cause.{Cause}
+use Rattle.dual_bound.specs.declared.nodes.Node.TheVariants as node
 use Rattle.dual_bound.specs.declared.trees.Cause.TheVariants as cause
-use Rattle.bound_cert.proofs.LinesOfWords.{bare_is, mixed_line_is, open_is, priced_is, refuted_is, sole_is, split_is, trim_is}
-use Rattle.bound_cert.proofs.ReadOn.{bound, chosen}
-use Rattle.bound_cert.proofs.WrittenLines.{first_word, joined, line_read, texts, texts_append}
-use Rattle.bound_cert.proofs.WrittenNames.{leg_written}
-use Rattle.bound_cert.proofs.WrittenNumbers.{natural_written}
-use Rattle.bound_cert.proofs.WrittenPrices.{IsBehind, here, mixed_read, pair_read, prices_read, some_behind}
+use Rattle.proof_lines.specs.declared.line.Line.TheVariants as says
 
 -- the lines of a node without its children
 abbrev pub lines_at : Tables → Node → List Line
-lines_at t (node.Bare leg) = bare_line t leg ∷ []
-lines_at t node.Sole = sole_line ∷ []
-lines_at t (node.Refuted prices) = refuted_line ∷ price_lines t prices
-lines_at t (node.Priced prices) = priced_line ∷ price_lines t prices
-lines_at t (node.Open prices why) = open_line why ∷ (price_lines t prices ++ cause_lines t why)
-lines_at t (node.Trim leg fleet) = trim_line t leg fleet ∷ []
-lines_at t (node.Split leg fleet prices mixed) = split_line t leg fleet ∷ (price_lines t prices ++ mixed_lines t mixed)
+lines_at t (node.Bare leg) = says.Bare leg ∷ []
+lines_at t node.Sole = says.Sole ∷ []
+lines_at t (node.Refuted prices) = says.Refuted ∷ price_lines t prices
+lines_at t (node.Priced prices) = says.Priced ∷ price_lines t prices
+lines_at t (node.Open prices why) = open_line why ∷ (price_lines t prices ++ cause_lines why)
+lines_at t (node.Trim leg fleet) = says.Trim leg fleet ∷ []
+lines_at t (node.Split leg fleet prices mixed) = says.Split leg fleet ∷ (price_lines t prices ++ mixed_lines mixed)
 
--- what the first line of a node says, and how its other lines read
-pub record NodeReads (t : Tables) (n : Node) : Type 0 where
-  pub line : Line
-  pub others : List Line
-  pub lines : lines_at t n ≡ line ∷ others
-  pub words : IsOfWords line
-  pub width : width_of due.Node line ≡ Some (length line)
-  pub no_rent : stands line 0 (codes "rent") ≡ false
-  pub no_step : stands line 0 (codes "at") ≡ false
-  pub no_weight : stands line 0 (codes "weight") ≡ false
-  pub first : Head
-  pub said : (left : Left) → head_of t line left ≡ Ok first
-  pub body : (behind : Left) → IsBehind behind → body_at t first (texts others ++ behind) ≡ Ok (n, behind)
+-- the first line of a node, by what it says
+abbrev pub first_line : Head → Line
+first_line (head.Alone (alone.Bare leg)) = says.Bare leg
+first_line (head.Alone alone.Sole) = says.Sole
+first_line (head.Alone (alone.Trim leg fleet)) = says.Trim leg fleet
+first_line (head.Priced priced.Refuted) = says.Refuted
+first_line (head.Priced priced.Closed) = says.Priced
+first_line (head.Priced (priced.Pivots made)) = says.OpenPivots made
+first_line (head.Priced (priced.Grew pivots row column)) = says.OpenGrew pivots row column
+first_line (head.Priced (priced.Lift step at)) = says.OpenLift step at
+first_line (head.Mixed fraction.Nodes) = says.OpenNodes
+first_line (head.Mixed (fraction.Split leg fleet)) = says.Split leg fleet
 
-pub behind_line : (line : Line) (rest : Left) → IsOfWords line → stands line 0 (codes "rent") ≡ false → stands line 0 (codes "at") ≡ false → stands line 0 (codes "weight") ≡ false
-    → IsBehind (joined line ∷ rest)
-behind_line line rest words no_rent no_step no_weight = record {
-  some = omega arith;
-  no_rent = first_word line rest (codes "rent") false words no_rent;
-  no_step = first_word line rest (codes "at") false words no_step;
-  no_weight = first_word line rest (codes "weight") false words no_weight;
-}
+head_read : (h : Head) (left : Left) → head_of (first_line h) left ≡ Ok h
+head_read (head.Alone (alone.Bare leg)) left = refl
+head_read (head.Alone alone.Sole) left = refl
+head_read (head.Alone (alone.Trim leg fleet)) left = refl
+head_read (head.Priced priced.Refuted) left = refl
+head_read (head.Priced priced.Closed) left = refl
+head_read (head.Priced (priced.Pivots made)) left = refl
+head_read (head.Priced (priced.Grew pivots row column)) left = refl
+head_read (head.Priced (priced.Lift step at)) left = refl
+head_read (head.Mixed fraction.Nodes) left = refl
+head_read (head.Mixed (fraction.Split leg fleet)) left = refl
 
-count_read : (words : List (List ℕ)) (k n : ℕ) (left : Left) → IsCount n → word_at words k ≡ decimal n → count_at words k left ≡ Ok n
-count_read words k n left is word =
-    here (natural_in 18446744073709551615 (word_at words k)) n left WRONG_NUMBER
-    (ap (natural_in 18446744073709551615) word ∙ natural_written 18446744073709551615 n (omega arith) (omega (arith, is.held)))
+-- it may stand where a node is due, and begins no rent, step or weight
+record BeginsNode (form : Form) : Type 0 where
+  node : may_stand due.Node form ≡ true
+  no_rent : may_stand due.Rent form ≡ false
+  no_step : may_stand due.Step form ≡ false
+  no_weight : may_stand due.Weight form ≡ false
+
+begins_node : (h : Head) → BeginsNode (form_of (first_line h))
+begins_node (head.Alone (alone.Bare leg)) = record { node = refl; no_rent = refl; no_step = refl; no_weight = refl }
+begins_node (head.Alone alone.Sole) = record { node = refl; no_rent = refl; no_step = refl; no_weight = refl }
+begins_node (head.Alone (alone.Trim leg fleet)) = record { node = refl; no_rent = refl; no_step = refl; no_weight = refl }
+begins_node (head.Priced priced.Refuted) = record { node = refl; no_rent = refl; no_step = refl; no_weight = refl }
+begins_node (head.Priced priced.Closed) = record { node = refl; no_rent = refl; no_step = refl; no_weight = refl }
+begins_node (head.Priced (priced.Pivots made)) = record { node = refl; no_rent = refl; no_step = refl; no_weight = refl }
+begins_node (head.Priced (priced.Grew pivots row column)) = record { node = refl; no_rent = refl; no_step = refl; no_weight = refl }
+begins_node (head.Priced (priced.Lift step at)) = record { node = refl; no_rent = refl; no_step = refl; no_weight = refl }
+begins_node (head.Mixed fraction.Nodes) = record { node = refl; no_rent = refl; no_step = refl; no_weight = refl }
+begins_node (head.Mixed (fraction.Split leg fleet)) = record { node = refl; no_rent = refl; no_step = refl; no_weight = refl }
 
 module _ (t : Tables) where
-  priced_body : (prices : Prices) (behind : Left) → ArePricesInOrder t prices → IsBehind behind → prices_at t (texts (price_lines t prices) ++ behind) ≡ Ok (prices, behind)
-  priced_body prices behind are ends = prices_read t prices behind are ends
+  -- what the first line of a node says, and how its other lines read
+  pub record NodeReads (n : Node) : Type 0 where
+    pub first : Head
+    pub others : List Line
+    pub lines : lines_at t n ≡ first_line first ∷ others
+    pub of_tables : IsLineOf t (first_line first)
+    pub body : (behind : Left) → IsBehind behind → body_at (names t) first (texts t others ++ behind) ≡ Ok (n, behind)
+
+  pub behind_line : (line : Line) (rest : Left) → IsNamed t line → may_stand due.Rent (form_of line) ≡ false → may_stand due.Step (form_of line) ≡ false → may_stand due.Weight (form_of line) ≡ false
+      → IsBehind (line_bytes t line ∷ rest)
+  behind_line line rest named no_rent no_step no_weight = record {
+    some = omega arith;
+    no_rent = begins_as t line rest due.Rent false named no_rent;
+    no_step = begins_as t line rest due.Step false named no_step;
+    no_weight = begins_as t line rest due.Weight false named no_weight;
+  }
 
   -- prices that nothing of a cause follows
-  prices_alone : (prices : Prices) (behind : Left) → ArePricesInOrder t prices → IsBehind behind → prices_at t (texts (price_lines t prices ++ []) ++ behind) ≡ Ok (prices, behind)
-  prices_alone prices behind are ends = ap (λ lines. prices_at t (texts lines ++ behind)) (append-nil (price_lines t prices)) ∙ prices_read t prices behind are ends
+  prices_alone : (prices : Prices) (behind : Left) → ArePricesInOrder t prices → IsBehind behind → prices_at (names t) (texts t (price_lines t prices ++ []) ++ behind) ≡ Ok (prices, behind)
+  prices_alone prices behind are ends = ap (λ lines. prices_at (names t) (texts t lines ++ behind)) (append-nil (price_lines t prices)) ∙ prices_read t prices behind are ends
 
-  before_mixed : (mixed : Mixed) (behind : Left) → IsBehind (texts (mixed_lines t mixed) ++ behind)
-  before_mixed mixed behind = behind_line (mixed_line mixed.scale) (texts (weight_lines t mixed.weights) ++ behind) (mixed_line_is mixed.scale) refl refl refl
+  before_mixed : (mixed : Mixed) (behind : Left) → IsBehind (texts t (mixed_lines mixed) ++ behind)
+  before_mixed mixed behind = behind_line (says.Mixed mixed.scale) (texts t (map weight_line mixed.weights) ++ behind) tt refl refl refl
 
   prices_then : (prices : Prices) (mixed : Mixed) (behind : Left) → ArePricesInOrder t prices
-      → prices_at t (texts (price_lines t prices ++ mixed_lines t mixed) ++ behind) ≡ Ok (prices, texts (mixed_lines t mixed) ++ behind)
+      → prices_at (names t) (texts t (price_lines t prices ++ mixed_lines mixed) ++ behind) ≡ Ok (prices, texts t (mixed_lines mixed) ++ behind)
   prices_then prices mixed behind are =
-      ap (prices_at t) (texts_append (price_lines t prices) (mixed_lines t mixed) behind)
-      ∙ prices_read t prices (texts (mixed_lines t mixed) ++ behind) are (before_mixed mixed behind)
+      ap (prices_at (names t)) (texts_append t (price_lines t prices) (mixed_lines mixed) behind)
+      ∙ prices_read t prices (texts t (mixed_lines mixed) ++ behind) are (before_mixed mixed behind)
 
-  open_reads : (prices : Prices) (why : Cause) → ArePricesInOrder t prices → IsCauseInOrder t why → NodeReads t (node.Open prices why)
-  unfolding width_of head_of body_at open_head grew_by lift_by
-  open_reads prices (cause.Nodes mixed) are is = record {
-    line = open_line (cause.Nodes mixed);
-    others = price_lines t prices ++ mixed_lines t mixed;
-    lines = refl;
-    words = open_is (cause.Nodes mixed);
-    width = refl;
-    no_rent = refl;
-    no_step = refl;
-    no_weight = refl;
-    first = head.Mixed fraction.Nodes;
-    said = λ left. refl;
-    body = λ behind ends.
-        bound (prices_at t (texts (price_lines t prices ++ mixed_lines t mixed) ++ behind)) (prices, texts (mixed_lines t mixed) ++ behind) _ (prices_then prices mixed behind are)
-        ∙ bound (mixed_at t (texts (mixed_lines t mixed) ++ behind)) (mixed, behind) _ (mixed_read t mixed behind is ends);
-  }
-  open_reads prices (cause.Pivots made) are is = record {
-    line = open_line (cause.Pivots made);
+  -- a leaf of which prices follow, and a node of which prices and a fractional assignment do
+  priced_body : (said : Priced) (prices : Prices) (behind : Left) → ArePricesInOrder t prices → IsBehind behind
+      → body_at (names t) (head.Priced said) (texts t (price_lines t prices ++ []) ++ behind) ≡ Ok (priced_node said prices, behind)
+  unfolding body_at
+  priced_body said prices behind are ends = bound (prices_at (names t) (texts t (price_lines t prices ++ []) ++ behind)) (prices, behind) _ (prices_alone prices behind are ends)
+
+  mixed_body : (said : Fraction) (prices : Prices) (mixed : Mixed) (behind : Left) → ArePricesInOrder t prices → IsMixedInOrder t mixed → IsBehind behind
+      → body_at (names t) (head.Mixed said) (texts t (price_lines t prices ++ mixed_lines mixed) ++ behind) ≡ Ok (mixed_node said prices mixed, behind)
+  unfolding body_at
+  mixed_body said prices mixed behind are is ends =
+      bound (prices_at (names t) (texts t (price_lines t prices ++ mixed_lines mixed) ++ behind)) (prices, texts t (mixed_lines mixed) ++ behind) _ (prices_then prices mixed behind are)
+      ∙ bound (mixed_at (names t) (texts t (mixed_lines mixed) ++ behind)) (mixed, behind) _ (mixed_read t mixed behind is ends)
+
+  priced_reads : (said : Priced) (prices : Prices) → lines_at t (priced_node said prices) ≡ first_line (head.Priced said) ∷ (price_lines t prices ++ []) → IsLineOf t (first_line (head.Priced said)) → ArePricesInOrder t prices
+      → NodeReads (priced_node said prices)
+  priced_reads said prices lines is are = record {
+    first = head.Priced said;
     others = price_lines t prices ++ [];
-    lines = refl;
-    words = open_is (cause.Pivots made);
-    width = refl;
-    no_rent = refl;
-    no_step = refl;
-    no_weight = refl;
-    first = head.Priced (priced.Pivots made);
-    said = λ left. bound (count_at (open_line (cause.Pivots made)) 2 left) made _ (count_read (open_line (cause.Pivots made)) 2 made left is refl);
-    body = λ behind ends. bound (prices_at t (texts (price_lines t prices ++ []) ++ behind)) (prices, behind) _ (prices_alone prices behind are ends);
-  }
-  open_reads prices (cause.Grew pivots row column) are is =
-      let line = open_line (cause.Grew pivots row column) in
-      record {
-        line = line;
-        others = price_lines t prices ++ [];
-        lines = refl;
-        words = open_is (cause.Grew pivots row column);
-        width = refl;
-        no_rent = refl;
-        no_step = refl;
-        no_weight = refl;
-        first = head.Priced (priced.Grew pivots row column);
-        said = λ left.
-            bound (count_at line 2 left) pivots _ (count_read line 2 pivots left is.0 refl)
-            ∙ bound (count_at line 3 left) row _ (count_read line 3 row left is.1 refl)
-            ∙ bound (count_at line 4 left) column _ (count_read line 4 column left is.2 refl);
-        body = λ behind ends. bound (prices_at t (texts (price_lines t prices ++ []) ++ behind)) (prices, behind) _ (prices_alone prices behind are ends);
-      }
-  open_reads prices (cause.Lift step at) are is =
-      let line = open_line (cause.Lift step at) in
-      record {
-        line = line;
-        others = price_lines t prices ++ [];
-        lines = refl;
-        words = open_is (cause.Lift step at);
-        width = refl;
-        no_rent = refl;
-        no_step = refl;
-        no_weight = refl;
-        first = head.Priced (priced.Lift step at);
-        said = λ left.
-            bound (count_at line 2 left) step _ (count_read line 2 step left is.0 refl)
-            ∙ bound (count_at line 3 left) at _ (count_read line 3 at left is.1 refl);
-        body = λ behind ends. bound (prices_at t (texts (price_lines t prices ++ []) ++ behind)) (prices, behind) _ (prices_alone prices behind are ends);
-      }
-
-  pub node_reads : (n : Node) → IsNodeInOrder t n → NodeReads t n
-  unfolding width_of head_of body_at
-  node_reads (node.Bare leg) is = record {
-    line = bare_line t leg;
-    others = [];
-    lines = refl;
-    words = bare_is t leg is;
-    width = refl;
-    no_rent = refl;
-    no_step = refl;
-    no_weight = refl;
-    first = head.Alone (alone.Bare leg);
-    said = λ left.
-        bound (present (leg_named t (leg_of t leg).flight) left UNKNOWN_NAME) leg _ (here (leg_named t (leg_of t leg).flight) leg left UNKNOWN_NAME (leg_written t leg is));
-    body = λ behind ends. refl;
-  }
-  node_reads node.Sole is = record {
-    line = sole_line;
-    others = [];
-    lines = refl;
-    words = sole_is;
-    width = refl;
-    no_rent = refl;
-    no_step = refl;
-    no_weight = refl;
-    first = head.Alone alone.Sole;
-    said = λ left. refl;
-    body = λ behind ends. refl;
-  }
-  node_reads (node.Refuted prices) is = record {
-    line = refuted_line;
-    others = price_lines t prices;
-    lines = refl;
-    words = refuted_is;
-    width = refl;
-    no_rent = refl;
-    no_step = refl;
-    no_weight = refl;
-    first = head.Priced priced.Refuted;
-    said = λ left. refl;
-    body = λ behind ends. bound (prices_at t (texts (price_lines t prices) ++ behind)) (prices, behind) _ (priced_body prices behind is ends);
-  }
-  node_reads (node.Priced prices) is = record {
-    line = priced_line;
-    others = price_lines t prices;
-    lines = refl;
-    words = priced_is;
-    width = refl;
-    no_rent = refl;
-    no_step = refl;
-    no_weight = refl;
-    first = head.Priced priced.Closed;
-    said = λ left. refl;
-    body = λ behind ends. bound (prices_at t (texts (price_lines t prices) ++ behind)) (prices, behind) _ (priced_body prices behind is ends);
-  }
-  node_reads (node.Open prices why) is = open_reads prices why is.0 is.1
-  node_reads (node.Trim leg fleet) is = record {
-    line = trim_line t leg fleet;
-    others = [];
-    lines = refl;
-    words = trim_is t leg fleet is;
-    width = refl;
-    no_rent = refl;
-    no_step = refl;
-    no_weight = refl;
-    first = head.Alone (alone.Trim leg fleet);
-    said = λ left. bound (pair_at t (trim_line t leg fleet) left) (leg, fleet) _ (pair_read t leg fleet (trim_line t leg fleet) left is refl refl);
-    body = λ behind ends. refl;
-  }
-  node_reads (node.Split leg fleet prices mixed) is = record {
-    line = split_line t leg fleet;
-    others = price_lines t prices ++ mixed_lines t mixed;
-    lines = refl;
-    words = split_is t leg fleet is.0;
-    width = refl;
-    no_rent = refl;
-    no_step = refl;
-    no_weight = refl;
-    first = head.Mixed (fraction.Split leg fleet);
-    said = λ left. bound (pair_at t (split_line t leg fleet) left) (leg, fleet) _ (pair_read t leg fleet (split_line t leg fleet) left is.0 refl refl);
-    body = λ behind ends.
-        bound (prices_at t (texts (price_lines t prices ++ mixed_lines t mixed) ++ behind)) (prices, texts (mixed_lines t mixed) ++ behind) _ (prices_then prices mixed behind is.1)
-        ∙ bound (mixed_at t (texts (mixed_lines t mixed) ++ behind)) (mixed, behind) _ (mixed_read t mixed behind is.2 ends);
+    lines = lines;
+    of_tables = is;
+    body = λ behind ends. priced_body said prices behind are ends;
   }
 
-  pub node_read : (above : ℕ) (n : Node) (behind : Left) → IsNodeInOrder t n → above ≤ MAX_DEPTH → IsBehind behind → node_at t above (texts (lines_at t n) ++ behind) ≡ Ok (n, behind)
+  mixed_reads : (said : Fraction) (prices : Prices) (mixed : Mixed) → lines_at t (mixed_node said prices mixed) ≡ first_line (head.Mixed said) ∷ (price_lines t prices ++ mixed_lines mixed) → IsLineOf t (first_line (head.Mixed said))
+      → ArePricesInOrder t prices → IsMixedInOrder t mixed → NodeReads (mixed_node said prices mixed)
+  mixed_reads said prices mixed lines is are of_mixed = record {
+    first = head.Mixed said;
+    others = price_lines t prices ++ mixed_lines mixed;
+    lines = lines;
+    of_tables = is;
+    body = λ behind ends. mixed_body said prices mixed behind are of_mixed ends;
+  }
+
+  alone_reads : (said : Alone) → lines_at t (alone_node said) ≡ first_line (head.Alone said) ∷ [] → IsLineOf t (first_line (head.Alone said)) → NodeReads (alone_node said)
+  unfolding body_at
+  alone_reads said lines is = record { first = head.Alone said; others = []; lines = lines; of_tables = is; body = λ behind ends. refl }
+
+  pub node_reads : (n : Node) → IsNodeInOrder t n → NodeReads n
+  node_reads (node.Bare leg) is = alone_reads (alone.Bare leg) refl (record { named = is; figures = tt })
+  node_reads node.Sole is = alone_reads alone.Sole refl (record { named = tt; figures = tt })
+  node_reads (node.Trim leg fleet) is = alone_reads (alone.Trim leg fleet) refl (record { named = (is.leg, is.choice); figures = tt })
+  node_reads (node.Refuted prices) is = priced_reads priced.Refuted prices (ap (λ lines. says.Refuted ∷ lines) (sym (append-nil (price_lines t prices)))) (record { named = tt; figures = tt }) is
+  node_reads (node.Priced prices) is = priced_reads priced.Closed prices (ap (λ lines. says.Priced ∷ lines) (sym (append-nil (price_lines t prices)))) (record { named = tt; figures = tt }) is
+  node_reads (node.Open prices (cause.Nodes mixed)) is = mixed_reads fraction.Nodes prices mixed refl (record { named = tt; figures = tt }) is.0 is.1
+  node_reads (node.Open prices (cause.Pivots made)) is = priced_reads (priced.Pivots made) prices refl (record { named = tt; figures = is.1.held }) is.0
+  node_reads (node.Open prices (cause.Grew pivots row column)) is =
+      priced_reads (priced.Grew pivots row column) prices refl (record { named = tt; figures = (is.1.0.held, is.1.1.held, is.1.2.held) }) is.0
+  node_reads (node.Open prices (cause.Lift step at)) is = priced_reads (priced.Lift step at) prices refl (record { named = tt; figures = (is.1.0.held, is.1.1.held) }) is.0
+  node_reads (node.Split leg fleet prices mixed) is = mixed_reads (fraction.Split leg fleet) prices mixed refl (record { named = (is.0.leg, is.0.choice); figures = tt }) is.1 is.2
+
+  pub node_read : (above : ℕ) (n : Node) (behind : Left) → IsNodeInOrder t n → above ≤ MAX_DEPTH → IsBehind behind → node_at (names t) above (texts t (lines_at t n) ++ behind) ≡ Ok (n, behind)
   unfolding node_at head_at
   node_read above n behind is shallow ends =
       let reads = node_reads n is in
-      let rest : Left = texts reads.others ++ behind in
-      let left : Left = joined reads.line ∷ rest in
-      let whole : texts (lines_at t n) ++ behind ≡ left = ap (λ lines. texts lines ++ behind) reads.lines in
+      let line = first_line reads.first in
+      let rest : Left = texts t reads.others ++ behind in
+      let left : Left = line_bytes t line ∷ rest in
+      let whole : texts t (lines_at t n) ++ behind ≡ left = ap (λ lines. texts t lines ++ behind) reads.lines in
       let deep : deep_at above reads.first left ≡ Ok reads.first = chosen (nat_le above MAX_DEPTH) _ _ (grind (arith, nat_tests, shallow)) in
-      let first : head_at t above left ≡ Ok reads.first =
-      bound (line_due due.Node left) reads.line _ (line_read due.Node reads.line rest reads.words reads.width (some_behind reads.others behind ends.some))
-      ∙ bound (head_of t reads.line left) reads.first _ (reads.said left) ∙ deep in
-      ap (node_at t above) whole ∙ bound (head_at t above left) reads.first _ first ∙ reads.body behind ends
+      let first : head_at (names t) above left ≡ Ok reads.first =
+      bound (line_due (names t) due.Node left) line _ (line_read t due.Node line rest reads.of_tables (begins_node reads.first).node (some_behind t reads.others behind ends.some))
+      ∙ bound (head_of line left) reads.first _ (head_read reads.first left) ∙ deep in
+      ap (node_at (names t) above) whole ∙ bound (head_at (names t) above left) reads.first _ first ∙ reads.body behind ends
 
   -- a node's line is of another kind than a rent, a step or a weight
-  pub before_node : (n : Node) (more : List Line) (behind : Left) → IsNodeInOrder t n → IsBehind (texts (lines_at t n ++ more) ++ behind)
+  pub before_node : (n : Node) (more : List Line) (behind : Left) → IsNodeInOrder t n → IsBehind (texts t (lines_at t n ++ more) ++ behind)
   before_node n more behind is =
       let reads = node_reads n is in
-      subst (λ lines. IsBehind (texts (lines ++ more) ++ behind)) (sym reads.lines)
-      (behind_line reads.line (texts (reads.others ++ more) ++ behind) reads.words reads.no_rent reads.no_step reads.no_weight)
+      let begins = begins_node reads.first in
+      subst (λ lines. IsBehind (texts t (lines ++ more) ++ behind)) (sym reads.lines)
+      (behind_line (first_line reads.first) (texts t (reads.others ++ more) ++ behind) reads.of_tables.named begins.no_rent begins.no_step begins.no_weight)

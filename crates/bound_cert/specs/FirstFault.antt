@@ -2,7 +2,8 @@
 -- and what the lines before it are.
 use Rattle.std.specs.Prelude.{◌≡◌, ◌≤◌, ℕ, ◌+◌, ◌&&◌, ◌||◌, Bool, true, List, ◌∷◌, ◌++◌, length, count_by, codes, Ok}
 use Rattle.fleet_model.specs.declared.tables.Tables.{Tables}
-use Rattle.bound_cert.specs.Lines.{Left, stands, words_of}
+use Rattle.bound_cert.specs.Lines.{Left}
+use Rattle.proof_lines.specs.Words.{stands, words_of}
 use Rattle.bound_cert.specs.Nodes.{proof_at}
 use Rattle.bound_cert.specs.ReadProof.{IsFirstFault}
 use Rattle.bound_cert.specs.declared.faults.CertFault.{CertFault}

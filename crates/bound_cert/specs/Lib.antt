@@ -1,6 +1,4 @@
-pub mod Figures
 pub mod FirstFault
-pub mod Known
 pub mod Lines
 pub mod Nodes
 pub mod ProofText

@@ -1,11 +1,19 @@
--- What is left of a text, line by line, and what a line may hold.
-use Rattle.std.specs.Prelude.{◌≡◌, ℕ, ◌==◌, ◌&&◌, ◌||◌, nat_le, Bool, not, if◌then◌else◌, List, [], ◌∷◌, length, codes, bytes_eq, map, filter, slice_index_or, Option, Some, None, Result, Ok, Err, ⊤}
-use Rattle.std.specs.Borrow.{Bor}
-use Rattle.std.specs.List.{list_all, slice_split}
-use Rattle.bound_cert.specs.ProofText.{line_feed, space}
+-- What is left of a text, line by line, and which line may stand where.
+use Rattle.std.specs.Prelude.{◌≡◌, ℕ, ◌==◌, Bool, true, false, if◌then◌else◌, List, [], ◌∷◌, length, Option, Some, None, Result, Ok, Err, ⊤}
+use Rattle.std.specs.List.{slice_split}
+use Rattle.proof_lines.specs.Flaws.{kind_of, least}
+use Rattle.proof_lines.specs.Forms.{form_in}
+use Rattle.proof_lines.specs.Known.{Naming}
+use Rattle.proof_lines.specs.Reading.{seen_in}
+use Rattle.proof_lines.specs.Words.{is_word, line_feed, words_of}
+use Rattle.proof_lines.specs.declared.flaws.Flaw.{Flaw}
+use Rattle.proof_lines.specs.declared.flaws.Flaw.TheVariants as flaw
+use Rattle.proof_lines.specs.declared.forms.Form.{Form}
+use Rattle.proof_lines.specs.declared.forms.Form.TheVariants as form
+use Rattle.proof_lines.specs.declared.line.Line.{Line}
 use Rattle.bound_cert.specs.declared.faults.Stop.{Stop}
 use Rattle.bound_cert.specs.declared.faults.Stop.TheVariants as stop
-use Rattle.bound_cert.specs.declared.faults.TheConstants.{BAD_LINE, TEXT_ENDS, WRONG_WIDTH, WRONG_WORD}
+use Rattle.bound_cert.specs.declared.faults.TheConstants.{BAD_LINE, TEXT_ENDS, WRONG_WORD}
 use Rattle.bound_cert.specs.declared.reading_lines.Due.{Due}
 use Rattle.bound_cert.specs.declared.reading_lines.Due.TheVariants as due
 
@@ -16,75 +24,6 @@ Left = List (List ℕ)
 -- all of a text, as what is left of it
 abbrev pub left_of : List ℕ → Left
 left_of text = slice_split (λ byte. byte == line_feed) text
-
--- the bytes that slices show
-abbrev pub seen : List (Bor (List ℕ)) → List (List ℕ)
-seen slices = map (λ (slice : Bor (List ℕ)). slice.now) slices
-
--- the parts of a line between its spaces
-abbrev pub parts_of : List ℕ → List (List ℕ)
-parts_of line = slice_split (λ byte. byte == space) line
-
--- the part has a byte
-abbrev pub is_word : List ℕ → Bool
-is_word part = not (length part == 0)
-
--- the words of a line: its unbroken runs of bytes other than the space
-abbrev pub words_of : List ℕ → List (List ℕ)
-words_of line = filter is_word (parts_of line)
-
--- one space stands between each two words, and no other
-abbrev pub is_spaced : List ℕ → Bool
-is_spaced line = length (words_of line) == length (parts_of line)
-
--- all bytes of the line are plain text
-abbrev pub is_plain : List ℕ → Bool
-is_plain line = list_all (λ byte. nat_le 32 byte && nat_le byte 126) line
-
--- a word of a line, and none behind the last
-abbrev pub word_at : List (List ℕ) → ℕ → List ℕ
-word_at words k = slice_index_or words k []
-
--- this word stands at a place of the line
-abbrev pub stands : List (List ℕ) → ℕ → List ℕ → Bool
-stands words k word = bytes_eq (word_at words k) word
-
--- how many words the line of an open leaf has, by its cause
-abbrev pub open_width : List (List ℕ) → Option ℕ
-open_width words =
-    if stands words 1 (codes "nodes") then Some 2
-    else if stands words 1 (codes "pivots") then Some 3
-    else if stands words 1 (codes "grew") then Some 5
-    else if stands words 1 (codes "lift") then Some 4
-    else None
-
--- how many words the first line of a node has, by its first words
-abbrev pub node_width : List (List ℕ) → Option ℕ
-node_width words =
-    if stands words 0 (codes "bare") then Some 2
-    else if stands words 0 (codes "sole") || stands words 0 (codes "refuted") || stands words 0 (codes "priced") then Some 1
-    else if stands words 0 (codes "open") then open_width words
-    else if stands words 0 (codes "trim") || stands words 0 (codes "split") then Some 3
-    else None
-
--- so many words, where the line begins with this one
-abbrev pub width_after : List ℕ → ℕ → List (List ℕ) → Option ℕ
-width_after word width words = if stands words 0 word then Some width else None
-
--- how many words the line has that says whether a plan comes
-abbrev pub plan_width : List (List ℕ) → Option ℕ
-plan_width words = if stands words 0 (codes "plan") && (stands words 1 (codes "yes") || stands words 1 (codes "no")) then Some 2 else None
-
--- how many words a line has that is due here, where its first words may stand here
-unfoldable pub width_of : Due → List (List ℕ) → Option ℕ
-width_of due.Plan words = plan_width words
-width_of due.Node words = node_width words
-width_of due.Scale words = width_after (codes "scale") 2 words
-width_of due.Mixed words = width_after (codes "mixed") 2 words
-width_of due.Rent words = width_after (codes "rent") 3 words
-width_of due.Step words = width_after (codes "at") 5 words
-width_of due.Weight words = width_after (codes "weight") 4 words
-width_of due.End words = width_after (codes "end") 1 words
 
 -- where reading stopped: how much was left, and the kind of the fault
 pub record Stopped : Type 0 where
@@ -104,27 +43,48 @@ abbrev pub ◌>>=◌ : {A B : Type 0} → Reading A → (A → Reading B) → Re
 (Ok x) >>= f = f x
 (Err e) >>= f = Err e
 
--- what is there goes on, and where nothing is there the line has this kind
-abbrev pub present : {A : Type 0} → Option A → Left → ℕ → Reading A
-present (Some x) left kind = Ok x
-present None left kind = stopped left kind
+-- a line of this form may stand where one of a kind is due
+abbrev pub may_stand : Due → Form → Bool
+may_stand due.Plan form.PlanYes = true
+may_stand due.Plan form.PlanNo = true
+may_stand due.Node form.Bare = true
+may_stand due.Node form.Sole = true
+may_stand due.Node form.Refuted = true
+may_stand due.Node form.Priced = true
+may_stand due.Node form.OpenNodes = true
+may_stand due.Node form.OpenPivots = true
+may_stand due.Node form.OpenGrew = true
+may_stand due.Node form.OpenLift = true
+may_stand due.Node form.Trim = true
+may_stand due.Node form.Split = true
+may_stand due.Scale form.Scale = true
+may_stand due.Mixed form.Mixed = true
+may_stand due.Rent form.Rent = true
+may_stand due.Step form.At = true
+may_stand due.Weight form.Weight = true
+may_stand due.End form.End = true
+may_stand kind form = false
 
--- the words of a line of so many words, where there may be such a line
-abbrev pub of_width : Option ℕ → Left → List ℕ → Reading (List (List ℕ))
-of_width None left line = stopped left WRONG_WORD
-of_width (Some width) left line = if is_spaced line && (length (words_of line) == width) then Ok (words_of line) else stopped left WRONG_WIDTH
+-- the same, where the first words say a form
+abbrev pub fits : Due → Option Form → Bool
+fits kind None = false
+fits kind (Some form) = may_stand kind form
 
--- the words of the first line that is left, which is due to be of a kind
-unfoldable pub line_due : Due → Left → Reading (List (List ℕ))
-line_due kind [] = stopped [] TEXT_ENDS
-line_due kind (line ∷ []) = stopped (line ∷ []) (if is_word line then BAD_LINE else TEXT_ENDS)
-line_due kind (line ∷ next ∷ rest) =
-    if is_plain line then of_width (width_of kind (words_of line)) (line ∷ next ∷ rest) line else stopped (line ∷ next ∷ rest) BAD_LINE
+-- the form of the first line that is left
+abbrev pub first_form : Left → Option Form
+first_form [] = None
+first_form (line ∷ rest) = form_in (words_of line)
 
--- the words of the first line that is left
-abbrev pub first_words : Left → List (List ℕ)
-first_words [] = []
-first_words (line ∷ rest) = words_of line
+-- a line that may stand here, or its flaw; one that may not has at least the flaw of its first word
+abbrev pub of_seen : Bool → Result Line Flaw → Left → Reading Line
+of_seen fit (Ok line) left = if fit then Ok line else stopped left WRONG_WORD
+of_seen fit (Err bad) left = stopped left (kind_of (if fit then bad else least bad flaw.Word))
+
+-- the first line that is left, which is due to be of a kind
+unfoldable pub line_due : Naming → Due → Left → Reading Line
+line_due n kind [] = stopped [] TEXT_ENDS
+line_due n kind (line ∷ []) = stopped (line ∷ []) (if is_word line then BAD_LINE else TEXT_ENDS)
+line_due n kind (line ∷ next ∷ rest) = of_seen (fits kind (seen_in n line).form) (seen_in n line).line (line ∷ next ∷ rest)
 
 -- what an error says of what is read
 abbrev pub Fails : {Y : Type 0} → Stop → Reading Y → Type 0

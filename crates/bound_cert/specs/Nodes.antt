@@ -2,8 +2,14 @@
 use Rattle.std.specs.Prelude.{ℕ, zero, suc, ◌==◌, Bool, true, false, if◌then◌else◌, List, [], ◌∷◌, ◌++◌, length, drop, codes, bytes_eq, Option, Some, None, Ok, ⊤}
 use Rattle.std.specs.List.{flat_map}
 use Rattle.fleet_model.specs.declared.tables.Tables.{Tables}
-use Rattle.bound_cert.specs.Lines.{Left, Reading, ◌>>=◌, is_plain, is_word, line_due, stands, stopped}
-use Rattle.bound_cert.specs.Reading.{node_at}
+use Rattle.proof_lines.specs.Known.{Naming, names_in}
+use Rattle.proof_lines.specs.Words.{is_plain, is_word}
+use Rattle.proof_lines.specs.declared.line.Line.{Line}
+use Rattle.proof_lines.specs.declared.line.Line.TheVariants as line
+use Rattle.proof_lines.specs.declared.line.Version.{Version}
+use Rattle.proof_lines.specs.declared.line.Version.TheVariants as version
+use Rattle.bound_cert.specs.Lines.{Left, Reading, ◌>>=◌, line_due, stopped}
+use Rattle.bound_cert.specs.Reading.{node_at, other_line}
 use Rattle.bound_cert.specs.declared.faults.TheConstants.{BAD_LINE, TEXT_ENDS, WRONG_HEAD, WRONG_WORD}
 use Rattle.bound_cert.specs.declared.nodes.Inner.{Inner}
 use Rattle.bound_cert.specs.declared.nodes.Inner.TheVariants as inner
@@ -35,22 +41,26 @@ after_node (node.Trim leg fleet) above = false ∷ above
 after_node (node.Split leg fleet prices mixed) above = false ∷ above
 
 -- the nodes of a tree, from those that are read so far, and what is left behind their lines; at most so many
-unfoldable pub nodes_from : Tables → ℕ → List Node → Above → Left → Reading (List Node × Left)
-nodes_from t zero nodes above left = stopped left TEXT_ENDS
-nodes_from t (suc most) nodes above left =
-    node_at t (length above) left >>= λ read.
+unfoldable pub nodes_from : Naming → ℕ → List Node → Above → Left → Reading (List Node × Left)
+nodes_from n zero nodes above left = stopped left TEXT_ENDS
+nodes_from n (suc most) nodes above left =
+    node_at n (length above) left >>= λ read.
     if length (after_node read.0 above) == 0 then Ok (nodes ++ read.0 ∷ [], read.1)
-    else nodes_from t most (nodes ++ read.0 ∷ []) (after_node read.0 above) read.1
+    else nodes_from n most (nodes ++ read.0 ∷ []) (after_node read.0 above) read.1
 
--- the head
-unfoldable pub head_is : Left → Reading ⊤
+-- the head, which says the version of the text
+unfoldable pub head_is : Left → Reading Version
 head_is [] = stopped [] WRONG_HEAD
 head_is (line ∷ []) = stopped (line ∷ []) WRONG_HEAD
-head_is (line ∷ next ∷ rest) = if bytes_eq line (codes "fleet proof 1") then Ok tt else stopped (line ∷ next ∷ rest) WRONG_HEAD
+head_is (line ∷ next ∷ rest) = if bytes_eq line (codes "fleet proof 1") then Ok version.One else stopped (line ∷ next ∷ rest) WRONG_HEAD
 
 -- whether a plan comes with the proof
-unfoldable pub plan_at : Left → Reading Bool
-plan_at left = line_due due.Plan left >>= λ words. Ok (stands words 1 (codes "yes"))
+abbrev pub plan_of : Line → Left → Reading Bool
+plan_of (line.Plan planned) left = Ok planned
+plan_of other left = other_line left
+
+unfoldable pub plan_at : Naming → Left → Reading Bool
+plan_at n left = line_due n due.Plan left >>= λ line. plan_of line left
 
 -- nothing is left
 unfoldable pub nothing : Left → Reading ⊤
@@ -59,20 +69,20 @@ nothing (line ∷ []) = if is_word line then stopped (line ∷ []) BAD_LINE else
 nothing (line ∷ next ∷ rest) = stopped (line ∷ next ∷ rest) (if is_plain line then WRONG_WORD else BAD_LINE)
 
 -- the end, and nothing behind it
-unfoldable pub end_at : Left → Reading ⊤
-end_at left = line_due due.End left >>= λ words. nothing (drop 1 left)
+unfoldable pub end_at : Naming → Left → Reading ⊤
+end_at n left = line_due n due.End left >>= λ line. nothing (drop 1 left)
 
 -- the nodes of a tree, and the end behind them
-unfoldable pub tree_at : Tables → Left → Reading (List Node)
-tree_at t left = nodes_from t (length left) [] [] left >>= λ read. end_at read.1 >>= λ ended. Ok read.0
+unfoldable pub tree_at : Naming → Left → Reading (List Node)
+tree_at n left = nodes_from n (length left) [] [] left >>= λ read. end_at n read.1 >>= λ ended. Ok read.0
 
 -- whether a plan comes, and the nodes of the tree
-unfoldable pub rest_at : Tables → Left → Reading (Bool × List Node)
-rest_at t left = plan_at left >>= λ planned. tree_at t (drop 1 left) >>= λ nodes. Ok (planned, nodes)
+unfoldable pub rest_at : Naming → Left → Reading (Bool × List Node)
+rest_at n left = plan_at n left >>= λ planned. tree_at n (drop 1 left) >>= λ nodes. Ok (planned, nodes)
 
 -- what a text reads as
 unfoldable pub proof_at : Tables → Left → Reading (Bool × List Node)
-proof_at t left = head_is left >>= λ headed. rest_at t (drop 1 left)
+proof_at t left = head_is left >>= λ version. rest_at (names_in version t) (drop 1 left)
 
 -- a trim or a split as a node
 abbrev pub inner_node : Inner → Node

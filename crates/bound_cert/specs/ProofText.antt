@@ -1,9 +1,8 @@
--- The text of a proof of a bound: its lines by their kinds, as they are written and read.
-use Rattle.std.specs.Prelude.{ℕ, Bool, if◌then◌else◌, List, [], ◌∷◌, ◌++◌, codes, map, ℤ, pos}
-use Rattle.std.specs.Fmt.{decimal, signed_decimal}
-use Rattle.std.specs.List.{flat_map, join_with_byte, range_with_len}
+-- The text of a proof of a bound: its lines, as they are written and read.
+use Rattle.std.specs.Prelude.{ℕ, Bool, if◌then◌else◌, List, [], ◌∷◌, ◌++◌, map, pos}
+use Rattle.std.specs.List.{flat_map, range_with_len}
 use Rattle.std.specs.Ordering.{int_eq}
-use Rattle.fleet_model.specs.Schedule.{fleet_of, fleets_in, leg_of, station_of}
+use Rattle.fleet_model.specs.Schedule.{fleets_in}
 use Rattle.fleet_model.specs.declared.tables.Tables.{Tables}
 use Rattle.dual_bound.specs.Prices.{rent_of}
 use Rattle.dual_bound.specs.declared.mixed.Mixed.{Mixed}
@@ -14,130 +13,62 @@ use Rattle.dual_bound.specs.declared.trees.Cause.{Cause}
 use Rattle.dual_bound.specs.declared.trees.Cause.TheVariants as cause
 use Rattle.dual_bound.specs.declared.trees.Tree.{Tree}
 use Rattle.dual_bound.specs.declared.trees.Tree.TheVariants as tree
-
--- a line of the text, as its words
-abbrev pub Line : Type 0
-Line = List (List ℕ)
-
--- the byte between two words
-abbrev pub space : ℕ
-space = 32
-
--- the byte that ends a line
-abbrev pub line_feed : ℕ
-line_feed = 10
-
--- the bytes of a line: its words with a space between each two, and a line feed
-abbrev pub line_of : Line → List ℕ
-line_of words = join_with_byte space words ++ line_feed ∷ []
+use Rattle.proof_lines.specs.LineText.{line_words, text_of}
+use Rattle.proof_lines.specs.Words.{Word}
+use Rattle.proof_lines.specs.declared.line.Line.{Line}
+use Rattle.proof_lines.specs.declared.line.Line.TheVariants as line
+use Rattle.proof_lines.specs.declared.line.Version.TheVariants as version
 
 -- the bytes of lines
-abbrev pub lines_of : List Line → List ℕ
-lines_of = flat_map line_of
+abbrev pub lines_of : Tables → List Line → List ℕ
+lines_of t = flat_map (text_of t)
 
--- fleet proof 1
-abbrev pub head_line : Line
-head_line = codes "fleet" ∷ codes "proof" ∷ codes "1" ∷ []
+-- the line of a step, and of a weight
+abbrev pub at_line : PriceStep → Line
+at_line step = line.At step.fleet step.station step.minute step.value
 
--- plan yes, or plan no
-abbrev pub plan_line : Bool → Line
-plan_line planned = codes "plan" ∷ (if planned then codes "yes" else codes "no") ∷ []
+abbrev pub weight_line : Weight → Line
+weight_line entry = line.Weight entry.leg entry.choice entry.weight
 
--- bare FLIGHT
-abbrev pub bare_line : Tables → ℕ → Line
-bare_line t l = codes "bare" ∷ (leg_of t l).flight ∷ []
-
--- sole
-abbrev pub sole_line : Line
-sole_line = codes "sole" ∷ []
-
--- refuted
-abbrev pub refuted_line : Line
-refuted_line = codes "refuted" ∷ []
-
--- priced
-abbrev pub priced_line : Line
-priced_line = codes "priced" ∷ []
-
--- open and the cause: nodes, pivots N, grew N R C, or lift S A
+-- the first line of an open leaf, by its cause
 abbrev pub open_line : Cause → Line
-open_line (cause.Nodes mixed) = codes "open" ∷ codes "nodes" ∷ []
-open_line (cause.Pivots made) = codes "open" ∷ codes "pivots" ∷ decimal made ∷ []
-open_line (cause.Grew pivots row column) = codes "open" ∷ codes "grew" ∷ decimal pivots ∷ decimal row ∷ decimal column ∷ []
-open_line (cause.Lift step at) = codes "open" ∷ codes "lift" ∷ decimal step ∷ decimal at ∷ []
-
--- trim FLIGHT FLEET
-abbrev pub trim_line : Tables → ℕ → ℕ → Line
-trim_line t l f = codes "trim" ∷ (leg_of t l).flight ∷ (fleet_of t f).name ∷ []
-
--- split FLIGHT FLEET
-abbrev pub split_line : Tables → ℕ → ℕ → Line
-split_line t l f = codes "split" ∷ (leg_of t l).flight ∷ (fleet_of t f).name ∷ []
-
--- scale Q
-abbrev pub scale_line : ℤ → Line
-scale_line scale = codes "scale" ∷ signed_decimal scale ∷ []
-
--- mixed Q
-abbrev pub mixed_line : ℤ → Line
-mixed_line scale = codes "mixed" ∷ signed_decimal scale ∷ []
-
--- rent FLEET R
-abbrev pub rent_line : Tables → ℕ → ℤ → Line
-rent_line t f rent = codes "rent" ∷ (fleet_of t f).name ∷ signed_decimal rent ∷ []
-
--- at FLEET STATION MINUTE VALUE
-abbrev pub at_line : Tables → PriceStep → Line
-at_line t step = codes "at" ∷ (fleet_of t step.fleet).name ∷ (station_of t step.station).code ∷ decimal step.minute ∷ signed_decimal step.value ∷ []
-
--- weight FLIGHT FLEET W
-abbrev pub weight_line : Tables → Weight → Line
-weight_line t entry = codes "weight" ∷ (leg_of t entry.leg).flight ∷ (fleet_of t entry.choice).name ∷ signed_decimal entry.weight ∷ []
-
--- end
-abbrev pub end_line : Line
-end_line = codes "end" ∷ []
+open_line (cause.Nodes mixed) = line.OpenNodes
+open_line (cause.Pivots made) = line.OpenPivots made
+open_line (cause.Grew pivots row column) = line.OpenGrew pivots row column
+open_line (cause.Lift step at) = line.OpenLift step at
 
 -- the line of a fleet's rent, and none where it is 0
-abbrev pub rent_lines_at : Tables → Prices → ℕ → List Line
-rent_lines_at t prices f = if int_eq (rent_of prices f) (pos 0) then [] else (rent_line t f (rent_of prices f) ∷ [])
+abbrev pub rent_lines_at : Prices → ℕ → List Line
+rent_lines_at prices f = if int_eq (rent_of prices f) (pos 0) then [] else (line.Rent f (rent_of prices f) ∷ [])
 
 -- the lines of the rents of so many fleets, from the first on
-abbrev pub rent_lines : Tables → Prices → ℕ → List Line
-rent_lines t prices fleets = flat_map (rent_lines_at t prices) (range_with_len 0 fleets)
+abbrev pub rent_lines : Prices → ℕ → List Line
+rent_lines prices fleets = flat_map (rent_lines_at prices) (range_with_len 0 fleets)
 
--- the lines of steps, in their order
-abbrev pub step_lines : Tables → List PriceStep → List Line
-step_lines t = map (at_line t)
-
--- the lines of prices: the scale, the rents in the order of the fleets, the steps
+-- the lines of prices: the scale, the rents in the order of the fleets, the steps in their order
 abbrev pub price_lines : Tables → Prices → List Line
-price_lines t prices = scale_line prices.scale ∷ (rent_lines t prices (fleets_in t) ++ step_lines t prices.steps)
+price_lines t prices = line.Scale prices.scale ∷ (rent_lines prices (fleets_in t) ++ map at_line prices.steps)
 
--- the lines of weights, in their order
-abbrev pub weight_lines : Tables → List Weight → List Line
-weight_lines t = map (weight_line t)
-
--- the lines of a fractional assignment: the scale, the weights
-abbrev pub mixed_lines : Tables → Mixed → List Line
-mixed_lines t mixed = mixed_line mixed.scale ∷ weight_lines t mixed.weights
+-- the lines of a fractional assignment: the scale, the weights in their order
+abbrev pub mixed_lines : Mixed → List Line
+mixed_lines mixed = line.Mixed mixed.scale ∷ map weight_line mixed.weights
 
 -- the lines of a cause behind the prices of its leaf
-abbrev pub cause_lines : Tables → Cause → List Line
-cause_lines t (cause.Nodes mixed) = mixed_lines t mixed
-cause_lines t (cause.Pivots made) = []
-cause_lines t (cause.Grew pivots row column) = []
-cause_lines t (cause.Lift step at) = []
+abbrev pub cause_lines : Cause → List Line
+cause_lines (cause.Nodes mixed) = mixed_lines mixed
+cause_lines (cause.Pivots made) = []
+cause_lines (cause.Grew pivots row column) = []
+cause_lines (cause.Lift step at) = []
 
 -- the lines of a node itself, without those of its children
 abbrev pub node_lines : Tables → Tree → List Line
-node_lines t (tree.Bare leg) = bare_line t leg ∷ []
-node_lines t tree.Sole = sole_line ∷ []
-node_lines t (tree.Refuted prices) = refuted_line ∷ price_lines t prices
-node_lines t (tree.Priced prices) = priced_line ∷ price_lines t prices
-node_lines t (tree.Open prices why) = open_line why ∷ (price_lines t prices ++ cause_lines t why)
-node_lines t (tree.Trim' leg fleet p with_pair q without) = trim_line t leg fleet ∷ []
-node_lines t (tree.Split' leg fleet prices mixed p with_pair q without) = split_line t leg fleet ∷ (price_lines t prices ++ mixed_lines t mixed)
+node_lines t (tree.Bare leg) = line.Bare leg ∷ []
+node_lines t tree.Sole = line.Sole ∷ []
+node_lines t (tree.Refuted prices) = line.Refuted ∷ price_lines t prices
+node_lines t (tree.Priced prices) = line.Priced ∷ price_lines t prices
+node_lines t (tree.Open prices why) = open_line why ∷ (price_lines t prices ++ cause_lines why)
+node_lines t (tree.Trim' leg fleet p with_pair q without) = line.Trim leg fleet ∷ []
+node_lines t (tree.Split' leg fleet prices mixed p with_pair q without) = line.Split leg fleet ∷ (price_lines t prices ++ mixed_lines mixed)
 
 -- the lines of a tree: each node's before those of its children, and of these those of `yes` first
 abbrev pub tree_lines : Tables → Tree → List Line
@@ -151,10 +82,13 @@ tree_lines t (tree.Trim' leg fleet p with_pair q without) =
 tree_lines t (tree.Split' leg fleet prices mixed p with_pair q without) =
     node_lines t (tree.Split' leg fleet prices mixed p with_pair q without) ++ (tree_lines t with_pair ++ tree_lines t without)
 
--- the lines of a proof: the head, whether a plan comes with it, the tree, the end
-abbrev pub proof_lines : Tables → Bool → Tree → List Line
-proof_lines t planned tree = head_line ∷ plan_line planned ∷ (tree_lines t tree ++ end_line ∷ [])
+-- the lines of a proof: the head, whether a plan comes with it, the tree, the end; and each as its words
+abbrev pub all_lines : Tables → Bool → Tree → List Line
+all_lines t planned tree = line.Head version.One ∷ line.Plan planned ∷ (tree_lines t tree ++ line.End ∷ [])
+
+abbrev pub proof_lines : Tables → Bool → Tree → List (List Word)
+proof_lines t planned tree = map (line_words t) (all_lines t planned tree)
 
 -- the text of a proof
 unfoldable pub proof_text : Tables → Bool → Tree → List ℕ
-proof_text t planned tree = lines_of (proof_lines t planned tree)
+proof_text t planned tree = lines_of t (all_lines t planned tree)

@@ -1,6 +1,6 @@
 -- What reading a node does to the trims and splits that wait for children.
 use Rattle.std.specs.Prelude.{◌≡◌, ◌≢◌, ℕ, Bool, false, List, [], ◌∷◌, ◌++◌, length, Option, Some, None, nat_lt, Result, Ok, Err, MatchOption}
-use Rattle.fleet_model.specs.declared.tables.Tables.{Tables}
+use Rattle.proof_lines.specs.Known.{Naming}
 use Rattle.bound_cert.specs.Lines.{Fails, Left}
 use Rattle.bound_cert.specs.Reading.{node_at}
 use Rattle.bound_cert.specs.declared.faults.Stop.{Stop}
@@ -51,20 +51,20 @@ IsClosed before tree waiting result =
     (IsWhole (waiting_nodes before ++ nodes_of tree) (after_tree (above_of before)))
 
 -- the node that comes next is put into its place
-pub record ReadsNext (t : Tables) (before : List Parent) (left : Left) (waiting : List Parent) (reached : Option Tree) (behind : Left) : Type 0 where
+pub record ReadsNext (n : Naming) (before : List Parent) (left : Left) (waiting : List Parent) (reached : Option Tree) (behind : Left) : Type 0 where
   pub node : Node
-  pub read : node_at t (length before) left ≡ Ok (node, behind)
+  pub read : node_at n (length before) left ≡ Ok (node, behind)
   pub grown : IsGrown before node waiting reached
 
 -- what reading the next node gives
-abbrev pub NextGives : Tables → List Parent → Left → List Parent → Left → Result (Option Tree) Stop → Type 0
-NextGives t before left waiting behind (Ok reached) = ReadsNext t before left waiting reached behind
-NextGives t before left waiting behind (Err e) = Fails e (node_at t (length before) left)
+abbrev pub NextGives : Naming → List Parent → Left → List Parent → Left → Result (Option Tree) Stop → Type 0
+NextGives n before left waiting behind (Ok reached) = ReadsNext n before left waiting reached behind
+NextGives n before left waiting behind (Err e) = Fails e (node_at n (length before) left)
 
 -- what reading a node gives
-abbrev pub NodeGives : Tables → ℕ → Left → Left → Result Node Stop → Type 0
-NodeGives t above left behind (Ok node) = node_at t above left ≡ Ok (node, behind)
-NodeGives t above left behind (Err e) = Fails e (node_at t above left)
+abbrev pub NodeGives : Naming → ℕ → Left → Left → Result Node Stop → Type 0
+NodeGives n above left behind (Ok node) = node_at n above left ≡ Ok (node, behind)
+NodeGives n above left behind (Err e) = Fails e (node_at n above left)
 
 -- what putting into its place gives, of a node that was read or wasn't
 abbrev pub PlacedGives : Result Node Stop → List Parent → List Parent → Result (Option Tree) Stop → Type 0

@@ -1,13 +1,14 @@
 -- What the text of a proof reads as, line by line, or where its first fault is.
-use Rattle.std.specs.Prelude.{ℕ, ◌-◌, ◌==◌, ◌&&◌, nat_le, Bool, true, false, not, if◌then◌else◌, List, [], ◌∷◌, ◌++◌, length, drop, replicate, codes, ℤ, pos, Option, Some, None, Ok, ⊤}
+use Rattle.std.specs.Prelude.{ℕ, ◌-◌, ◌==◌, ◌&&◌, nat_le, Bool, true, false, not, if◌then◌else◌, List, [], ◌∷◌, ◌++◌, length, drop, replicate, ℤ, pos, Option, Some, None, Ok, ⊤}
 use Rattle.std.specs.Ordering.{int_eq}
-use Rattle.fleet_model.specs.Schedule.{fleets_in}
-use Rattle.fleet_model.specs.Use.{last_minute}
-use Rattle.fleet_model.specs.declared.tables.Tables.{Tables}
-use Rattle.bound_cert.specs.Figures.{natural_in, number_in}
-use Rattle.bound_cert.specs.Known.{fleet_named, leg_named, station_named}
-use Rattle.bound_cert.specs.Lines.{Left, Reading, ◌>>=◌, first_words, line_due, present, stands, stopped, word_at, words_of}
-use Rattle.bound_cert.specs.declared.faults.TheConstants.{TOO_DEEP, UNKNOWN_NAME, WRONG_NUMBER, WRONG_ORDER}
+use Rattle.proof_lines.specs.Forms.{form_in}
+use Rattle.proof_lines.specs.Known.{Naming}
+use Rattle.proof_lines.specs.Reading.{is_step_of}
+use Rattle.proof_lines.specs.Words.{Word, words_of}
+use Rattle.proof_lines.specs.declared.line.Line.{Line}
+use Rattle.proof_lines.specs.declared.line.Line.TheVariants as line
+use Rattle.bound_cert.specs.Lines.{Left, Reading, ◌>>=◌, fits, line_due, stopped}
+use Rattle.bound_cert.specs.declared.faults.TheConstants.{TOO_DEEP, WRONG_ORDER, WRONG_WORD}
 use Rattle.dual_bound.specs.Order.{step_follows, weight_follows}
 use Rattle.dual_bound.specs.declared.trees.TheConstants.{MAX_DEPTH}
 use Rattle.dual_bound.specs.declared.mixed.Mixed.{Mixed}
@@ -24,7 +25,6 @@ use Rattle.bound_cert.specs.declared.nodes.Priced.{Priced}
 use Rattle.bound_cert.specs.declared.nodes.Priced.TheVariants as priced
 use Rattle.dual_bound.specs.declared.prices.Prices.{Prices}
 use Rattle.dual_bound.specs.declared.prices.PriceStep.{PriceStep}
-use Rattle.bound_cert.specs.declared.reading_lines.Due.{Due}
 use Rattle.bound_cert.specs.declared.reading_lines.Due.TheVariants as due
 use Rattle.dual_bound.specs.declared.trees.Cause.TheVariants as cause
 
@@ -33,188 +33,135 @@ abbrev pub in_order : Bool → Left → Reading ⊤
 in_order true left = Ok tt
 in_order false left = stopped left WRONG_ORDER
 
+-- a line of another form than is due
+abbrev pub other_line : {A : Type 0} → Left → Reading A
+other_line left = stopped left WRONG_WORD
+
+-- the scale that a line of prices or of a fractional assignment says
+abbrev pub scale_of : Line → Left → Reading ℤ
+scale_of (line.Scale scale) left = Ok scale
+scale_of other left = other_line left
+
+abbrev pub mixed_scale_of : Line → Left → Reading ℤ
+mixed_scale_of (line.Mixed scale) left = Ok scale
+mixed_scale_of other left = other_line left
+
+-- the same of the first line that is left
+unfoldable pub scale_at : Naming → Left → Reading ℤ
+scale_at n left = line_due n due.Scale left >>= λ line. scale_of line left
+
+unfoldable pub mixed_scale_at : Naming → Left → Reading ℤ
+mixed_scale_at n left = line_due n due.Mixed left >>= λ line. mixed_scale_of line left
+
 -- a rent may follow: it isn't 0, and its fleet is no less than this one
 abbrev pub rent_follows : ℕ → ℕ → ℤ → Bool
 rent_follows least fleet rent = nat_le least fleet && not (int_eq rent (pos 0))
 
--- the scale that the first line says, which is due to be of this kind
-unfoldable pub scale_at : Due → Left → Reading ℤ
-scale_at kind left = do
-  words ← line_due kind left
-  present (number_in (word_at words 1)) left WRONG_NUMBER
+-- the rent that a line says in its order, with its fleet, which is no less than this one
+abbrev pub rent_of : ℕ → Line → Left → Reading (ℕ × ℤ)
+rent_of least (line.Rent fleet rent) left = in_order (rent_follows least fleet rent) left >>= λ order. Ok (fleet, rent)
+rent_of least other left = other_line left
 
--- a rent by the words of its line, with its fleet
-unfoldable pub rent_by : Tables → List (List ℕ) → Left → Reading (ℕ × ℤ)
-rent_by t words left = do
-  rent ← present (number_in (word_at words 2)) left WRONG_NUMBER
-  fleet ← present (fleet_named t (word_at words 1)) left UNKNOWN_NAME
-  Ok (fleet, rent)
-
--- the same in its order
-unfoldable pub rent_of : Tables → ℕ → List (List ℕ) → Left → Reading (ℕ × ℤ)
-rent_of t least words left = do
-  entry ← rent_by t words left
-  order ← in_order (rent_follows least entry.0 entry.1) left
-  Ok entry
-
--- the rent that the first line says, with its fleet, which is no less than this one
-unfoldable pub rent_at : Tables → ℕ → Left → Reading (ℕ × ℤ)
-rent_at t least left = line_due due.Rent left >>= λ words. rent_of t least words left
+unfoldable pub rent_at : Naming → ℕ → Left → Reading (ℕ × ℤ)
+rent_at n least left = line_due n due.Rent left >>= λ line. rent_of least line left
 
 -- rents of so many fleets: those that are known, and 0 for the others
 abbrev pub padded : List ℤ → ℕ → List ℤ
 padded rents fleets = rents ++ replicate (fleets - length rents) (pos 0)
 
 -- the rents of all fleets, from those that are read so far, and what is left behind their lines
-unfoldable pub rents_from : Tables → List ℤ → Left → Reading (List ℤ × Left)
-rents_from t rents [] = Ok (padded rents (fleets_in t), [])
-rents_from t rents (line ∷ rest) =
-    if stands (words_of line) 0 (codes "rent")
-    then (rent_at t (length rents) (line ∷ rest) >>= λ entry. rents_from t (padded rents entry.0 ++ entry.1 ∷ []) rest)
-    else Ok (padded rents (fleets_in t), line ∷ rest)
+unfoldable pub rents_from : Naming → List ℤ → Left → Reading (List ℤ × Left)
+rents_from n rents [] = Ok (padded rents (length n.fleets), [])
+rents_from n rents (line ∷ rest) =
+    if fits due.Rent (form_in (words_of line))
+    then (rent_at n (length rents) (line ∷ rest) >>= λ entry. rents_from n (padded rents entry.0 ++ entry.1 ∷ []) rest)
+    else Ok (padded rents (length n.fleets), line ∷ rest)
 
--- the words begin as those of a step at the same place
-abbrev pub goes_on_at : List (List ℕ) → List (List ℕ) → Bool
-goes_on_at next words = stands next 0 (codes "at") && stands next 1 (word_at words 1) && stands next 2 (word_at words 2)
+-- the words of the first line that is left
+abbrev pub first_words : Left → List Word
+first_words [] = []
+first_words (line ∷ rest) = words_of line
 
--- a step of value 0 at minute 0, behind which no other step of its place comes
-abbrev pub is_needless : PriceStep → List (List ℕ) → Left → Bool
-is_needless step words rest = (step.minute == 0) && int_eq step.value (pos 0) && not (goes_on_at (first_words rest) words)
+-- a step of value 0 at minute 0, behind which no other step of its place comes, not even a bad one
+abbrev pub is_needless : Naming → PriceStep → Left → Bool
+is_needless n step rest = (step.minute == 0) && int_eq step.value (pos 0) && not (is_step_of n step.fleet step.station (first_words rest))
 
--- the minute and the value by the words of a step's line
-unfoldable pub figures_by : List (List ℕ) → Left → Reading (ℕ × ℤ)
-figures_by words left = do
-  minute ← present (natural_in last_minute (word_at words 3)) left WRONG_NUMBER
-  value ← present (number_in (word_at words 4)) left WRONG_NUMBER
-  Ok (minute, value)
+-- the step that a line says in its order, behind the step before
+abbrev pub step_in_order : Naming → Option PriceStep → PriceStep → Left → Reading PriceStep
+step_in_order n before step left = in_order (step_follows before step && not (is_needless n step (drop 1 left))) left >>= λ order. Ok step
 
--- the fleet and the station by the words of a step's line
-unfoldable pub place_by : Tables → List (List ℕ) → Left → Reading (ℕ × ℕ)
-place_by t words left = do
-  fleet ← present (fleet_named t (word_at words 1)) left UNKNOWN_NAME
-  station ← present (station_named t (word_at words 2)) left UNKNOWN_NAME
-  Ok (fleet, station)
+abbrev pub step_of : Naming → Option PriceStep → Line → Left → Reading PriceStep
+step_of n before (line.At fleet station minute value) left = step_in_order n before (record { fleet = fleet; station = station; minute = minute; value = value }) left
+step_of n before other left = other_line left
 
--- a step by the words of its line
-unfoldable pub step_by : Tables → List (List ℕ) → Left → Reading PriceStep
-step_by t words left = do
-  figures ← figures_by words left
-  place ← place_by t words left
-  Ok (record { fleet = place.0; station = place.1; minute = figures.0; value = figures.1 })
-
--- the same in its order, behind the step before
-unfoldable pub step_of : Tables → Option PriceStep → List (List ℕ) → Left → Reading PriceStep
-step_of t before words left = do
-  step ← step_by t words left
-  order ← in_order (step_follows before step && not (is_needless step words (drop 1 left))) left
-  Ok step
-
--- the step that the first line says, behind the step before
-unfoldable pub step_at : Tables → Option PriceStep → Left → Reading PriceStep
-step_at t before left = line_due due.Step left >>= λ words. step_of t before words left
+unfoldable pub step_at : Naming → Option PriceStep → Left → Reading PriceStep
+step_at n before left = line_due n due.Step left >>= λ line. step_of n before line left
 
 -- the steps, from those that are read so far and the last of them, and what is left behind their lines
-unfoldable pub steps_from : Tables → List PriceStep → Option PriceStep → Left → Reading (List PriceStep × Left)
-steps_from t steps before [] = Ok (steps, [])
-steps_from t steps before (line ∷ rest) =
-    if stands (words_of line) 0 (codes "at")
-    then (step_at t before (line ∷ rest) >>= λ step. steps_from t (steps ++ step ∷ []) (Some step) rest)
+unfoldable pub steps_from : Naming → List PriceStep → Option PriceStep → Left → Reading (List PriceStep × Left)
+steps_from n steps before [] = Ok (steps, [])
+steps_from n steps before (line ∷ rest) =
+    if fits due.Step (form_in (words_of line))
+    then (step_at n before (line ∷ rest) >>= λ step. steps_from n (steps ++ step ∷ []) (Some step) rest)
     else Ok (steps, line ∷ rest)
 
 -- the prices that the next lines say, and what is left behind them
-unfoldable pub prices_at : Tables → Left → Reading (Prices × Left)
-prices_at t left = do
-  scale ← scale_at due.Scale left
-  rents ← rents_from t [] (drop 1 left)
-  steps ← steps_from t [] None rents.1
+unfoldable pub prices_at : Naming → Left → Reading (Prices × Left)
+prices_at n left = do
+  scale ← scale_at n left
+  rents ← rents_from n [] (drop 1 left)
+  steps ← steps_from n [] None rents.1
   Ok (record { scale = scale; rents = rents.0; steps = steps.0 }, steps.1)
 
--- a leg and a fleet by the second word and the third
-unfoldable pub pair_at : Tables → List (List ℕ) → Left → Reading (ℕ × ℕ)
-pair_at t words left = do
-  leg ← present (leg_named t (word_at words 1)) left UNKNOWN_NAME
-  fleet ← present (fleet_named t (word_at words 2)) left UNKNOWN_NAME
-  Ok (leg, fleet)
+-- the weight that a line says in its order, behind the weight before
+abbrev pub weight_in_order : Option Weight → Weight → Left → Reading Weight
+weight_in_order before entry left = in_order (weight_follows before entry) left >>= λ order. Ok entry
 
--- a weight by the words of its line
-unfoldable pub weight_by : Tables → List (List ℕ) → Left → Reading Weight
-weight_by t words left = do
-  weight ← present (number_in (word_at words 3)) left WRONG_NUMBER
-  pair ← pair_at t words left
-  Ok (record { leg = pair.0; choice = pair.1; weight = weight })
+abbrev pub weight_of : Option Weight → Line → Left → Reading Weight
+weight_of before (line.Weight leg choice weight) left = weight_in_order before (record { leg = leg; choice = choice; weight = weight }) left
+weight_of before other left = other_line left
 
--- the same in its order, behind the weight before
-unfoldable pub weight_of : Tables → Option Weight → List (List ℕ) → Left → Reading Weight
-weight_of t before words left = do
-  entry ← weight_by t words left
-  order ← in_order (weight_follows before entry) left
-  Ok entry
-
--- the weight that the first line says, behind the weight before
-unfoldable pub weight_at : Tables → Option Weight → Left → Reading Weight
-weight_at t before left = line_due due.Weight left >>= λ words. weight_of t before words left
+unfoldable pub weight_at : Naming → Option Weight → Left → Reading Weight
+weight_at n before left = line_due n due.Weight left >>= λ line. weight_of before line left
 
 -- the weights, from those that are read so far and the last of them, and what is left behind their lines
-unfoldable pub weights_from : Tables → List Weight → Option Weight → Left → Reading (List Weight × Left)
-weights_from t weights before [] = Ok (weights, [])
-weights_from t weights before (line ∷ rest) =
-    if stands (words_of line) 0 (codes "weight")
-    then (weight_at t before (line ∷ rest) >>= λ entry. weights_from t (weights ++ entry ∷ []) (Some entry) rest)
+unfoldable pub weights_from : Naming → List Weight → Option Weight → Left → Reading (List Weight × Left)
+weights_from n weights before [] = Ok (weights, [])
+weights_from n weights before (line ∷ rest) =
+    if fits due.Weight (form_in (words_of line))
+    then (weight_at n before (line ∷ rest) >>= λ entry. weights_from n (weights ++ entry ∷ []) (Some entry) rest)
     else Ok (weights, line ∷ rest)
 
 -- the fractional assignment that the next lines say, and what is left behind them
-unfoldable pub mixed_at : Tables → Left → Reading (Mixed × Left)
-mixed_at t left = do
-  scale ← scale_at due.Mixed left
-  weights ← weights_from t [] None (drop 1 left)
+unfoldable pub mixed_at : Naming → Left → Reading (Mixed × Left)
+mixed_at n left = do
+  scale ← mixed_scale_at n left
+  weights ← weights_from n [] None (drop 1 left)
   Ok (record { scale = scale; weights = weights.0 }, weights.1)
 
--- a number of 64 bits
-abbrev pub count_at : List (List ℕ) → ℕ → Left → Reading ℕ
-count_at words k left = present (natural_in 18446744073709551615 (word_at words k)) left WRONG_NUMBER
-
--- the numbers of `open grew`, and of `open lift`
-unfoldable pub grew_by : List (List ℕ) → Left → Reading Head
-grew_by words left = do
-  pivots ← count_at words 2 left
-  row ← count_at words 3 left
-  column ← count_at words 4 left
-  Ok (head.Priced (priced.Grew pivots row column))
-
-unfoldable pub lift_by : List (List ℕ) → Left → Reading Head
-lift_by words left = do
-  step ← count_at words 2 left
-  at ← count_at words 3 left
-  Ok (head.Priced (priced.Lift step at))
-
--- the line of an open leaf, by its cause
-unfoldable pub open_head : List (List ℕ) → Left → Reading Head
-open_head words left =
-    if stands words 1 (codes "nodes") then Ok (head.Mixed fraction.Nodes)
-    else if stands words 1 (codes "pivots") then (count_at words 2 left >>= λ made. Ok (head.Priced (priced.Pivots made)))
-    else if stands words 1 (codes "grew") then grew_by words left
-    else lift_by words left
-
--- the first line of a node, by its words
-unfoldable pub head_of : Tables → List (List ℕ) → Left → Reading Head
-head_of t words left =
-    if stands words 0 (codes "bare") then (present (leg_named t (word_at words 1)) left UNKNOWN_NAME >>= λ leg. Ok (head.Alone (alone.Bare leg)))
-    else if stands words 0 (codes "sole") then Ok (head.Alone alone.Sole)
-    else if stands words 0 (codes "refuted") then Ok (head.Priced priced.Refuted)
-    else if stands words 0 (codes "priced") then Ok (head.Priced priced.Closed)
-    else if stands words 0 (codes "open") then open_head words left
-    else if stands words 0 (codes "trim") then (pair_at t words left >>= λ pair. Ok (head.Alone (alone.Trim pair.0 pair.1)))
-    else (pair_at t words left >>= λ pair. Ok (head.Mixed (fraction.Split pair.0 pair.1)))
+-- what the first line of a node says
+abbrev pub head_of : Line → Left → Reading Head
+head_of (line.Bare leg) left = Ok (head.Alone (alone.Bare leg))
+head_of line.Sole left = Ok (head.Alone alone.Sole)
+head_of line.Refuted left = Ok (head.Priced priced.Refuted)
+head_of line.Priced left = Ok (head.Priced priced.Closed)
+head_of line.OpenNodes left = Ok (head.Mixed fraction.Nodes)
+head_of (line.OpenPivots made) left = Ok (head.Priced (priced.Pivots made))
+head_of (line.OpenGrew pivots row column) left = Ok (head.Priced (priced.Grew pivots row column))
+head_of (line.OpenLift step at) left = Ok (head.Priced (priced.Lift step at))
+head_of (line.Trim leg choice) left = Ok (head.Alone (alone.Trim leg choice))
+head_of (line.Split leg choice) left = Ok (head.Mixed (fraction.Split leg choice))
+head_of other left = other_line left
 
 -- a node goes on where no more trims and splits stand above it than may
 abbrev pub deep_at : ℕ → Head → Left → Reading Head
 deep_at above head left = if nat_le above MAX_DEPTH then Ok head else stopped left TOO_DEEP
 
 -- the first line of a node below so many trims and splits
-unfoldable pub head_at : Tables → ℕ → Left → Reading Head
-head_at t above left = do
-  words ← line_due due.Node left
-  head ← head_of t words left
+unfoldable pub head_at : Naming → ℕ → Left → Reading Head
+head_at n above left = do
+  line ← line_due n due.Node left
+  head ← head_of line left
   deep_at above head left
 
 -- a node by its one line
@@ -237,11 +184,11 @@ mixed_node fraction.Nodes prices mixed = node.Open prices (cause.Nodes mixed)
 mixed_node (fraction.Split leg fleet) prices mixed = node.Split leg fleet prices mixed
 
 -- a node, from what its first line says and the lines behind it
-unfoldable pub body_at : Tables → Head → Left → Reading (Node × Left)
-body_at t (head.Alone said) rest = Ok (alone_node said, rest)
-body_at t (head.Priced said) rest = prices_at t rest >>= λ prices. Ok (priced_node said prices.0, prices.1)
-body_at t (head.Mixed said) rest = prices_at t rest >>= λ prices. mixed_at t prices.1 >>= λ mixed. Ok (mixed_node said prices.0 mixed.0, mixed.1)
+unfoldable pub body_at : Naming → Head → Left → Reading (Node × Left)
+body_at n (head.Alone said) rest = Ok (alone_node said, rest)
+body_at n (head.Priced said) rest = prices_at n rest >>= λ prices. Ok (priced_node said prices.0, prices.1)
+body_at n (head.Mixed said) rest = prices_at n rest >>= λ prices. mixed_at n prices.1 >>= λ mixed. Ok (mixed_node said prices.0 mixed.0, mixed.1)
 
 -- the next node, below so many trims and splits, and what is left behind it
-unfoldable pub node_at : Tables → ℕ → Left → Reading (Node × Left)
-node_at t above left = head_at t above left >>= λ head. body_at t head (drop 1 left)
+unfoldable pub node_at : Naming → ℕ → Left → Reading (Node × Left)
+node_at n above left = head_at n above left >>= λ head. body_at n head (drop 1 left)

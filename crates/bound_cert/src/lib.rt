@@ -2,8 +2,6 @@
 #![tactic(auto)]
 
 pub mod faults;
-pub mod figures;
-pub mod known;
 pub mod laws;
 pub mod line_reading;
 pub mod node_reading;
@@ -11,10 +9,10 @@ pub mod nodes;
 pub mod price_reading;
 pub mod reading;
 pub mod reading_lines;
-pub mod reading_words;
 pub mod tree_reading;
 pub mod writing;
 
+pub use dual_bound::worth::worth;
 pub use dual_bound::{Cause, Mixed, PriceStep, Prices, Tree, TreeCounts, Weight};
 pub use faults::{CertError, CertFault};
 pub use reading::{Proof, read_proof};

@@ -1,78 +1,97 @@
 //! Single lines of prices and fractional assignments, read.
 ghost use Rattle.std.specs.Prelude.{◌≡◌, drop, IfOk};
-ghost use Rattle.bound_cert.specs.Known.{IsKnownOf};
-ghost use Rattle.bound_cert.specs.Lines.{Gives, first_words, seen};
-ghost use Rattle.bound_cert.specs.Reading.{figures_by, goes_on_at, is_needless, pair_at, place_by, rent_at, rent_by, rent_follows, rent_of, scale_at, step_at, step_by, step_of, weight_at, weight_by, weight_of};
+ghost use Rattle.proof_lines.specs.Known.{naming};
+ghost use Rattle.proof_lines.specs.Words.{seen};
+ghost use Rattle.bound_cert.specs.Lines.{Gives};
+ghost use Rattle.bound_cert.specs.Reading.{in_order, is_needless, mixed_scale_at, mixed_scale_of, rent_at, rent_follows, rent_of, scale_at, scale_of, step_at, step_in_order, step_of, weight_at, weight_in_order, weight_of};
 ghost use Rattle.bound_cert.specs.Wants.{WantsNone};
 ghost use Rattle.dual_bound.specs.Order.{place_before, same_place, step_follows, weight_follows};
 
-use crate::faults::Stop;
-use crate::known::Known;
-use crate::reading_lines::{Due, first_words, line_due, stands, word_at};
-use crate::reading_words::{fleet_at, in_order, leg_at, minute_at, number_at, station_at};
+use crate::faults::{Stop, WRONG_ORDER, WRONG_WORD};
+use crate::reading_lines::{Due, line_due, stopped};
 use dual_bound::{PriceStep, Weight};
 use entries::NoMemory;
-use fleet_model::Tables;
+use proof_lines::{Grammar, Line, is_step_of};
 use std::alloc::Global;
 
-/// The scale that the first line says, which is due to be of a kind.
-#[tactic(auto, unfolding(crate::specs::Reading::scale_at))]
-pub fn scale_at(alloc: Global, due: Due, left: &[&[u8]]) -> Result<i128, Stop>
-    ensures { Gives (λ scale. scale) result (scale_at due (seen left.now)) }
+/// Goes on where a line is in order. Takes no memory.
+fn in_order(is: bool, left: &[&[u8]]) -> Result<(), Stop>
+    ensures gives { Gives (λ _. tt) result (in_order is (seen left.now)) }
+    ensures wants_none { WantsNone result }
 {
-    let words = line_due(alloc, due, left)?;
-    Ok(number_at(alloc, words.as_slice(), 1, left)?)
+    if is {
+        Ok(())
+    } else {
+        stopped(left, WRONG_ORDER)
+    }
+}
+
+/// The scale of prices that the first line says.
+#[tactic(auto, unfolding(crate::specs::Reading::scale_at))]
+pub fn scale_at(alloc: Global, grammar: &Grammar, left: &[&[u8]]) -> Result<i128, Stop>
+    ensures { Gives (λ scale. scale) result (scale_at (naming grammar.now) (seen left.now)) }
+{
+    let line = line_due(alloc, grammar, Due::Scale, left)?;
+    Ok(scale_of(line, left)?)
+}
+
+/// The scale that a line of prices says. Takes no memory.
+fn scale_of(line: Line, left: &[&[u8]]) -> Result<i128, Stop>
+    ensures gives { Gives (λ scale. scale) result (scale_of line (seen left.now)) }
+    ensures wants_none { WantsNone result }
+{
+    match line {
+        Line::Scale { scale } => Ok(scale),
+        _ => stopped(left, WRONG_WORD),
+    }
+}
+
+/// The scale of a fractional assignment that the first line says.
+#[tactic(auto, unfolding(crate::specs::Reading::mixed_scale_at))]
+pub fn mixed_scale_at(alloc: Global, grammar: &Grammar, left: &[&[u8]]) -> Result<i128, Stop>
+    ensures { Gives (λ scale. scale) result (mixed_scale_at (naming grammar.now) (seen left.now)) }
+{
+    let line = line_due(alloc, grammar, Due::Mixed, left)?;
+    Ok(mixed_scale_of(line, left)?)
+}
+
+/// The scale that a line of a fractional assignment says. Takes no memory.
+fn mixed_scale_of(line: Line, left: &[&[u8]]) -> Result<i128, Stop>
+    ensures gives { Gives (λ scale. scale) result (mixed_scale_of line (seen left.now)) }
+    ensures wants_none { WantsNone result }
+{
+    match line {
+        Line::Mixed { scale } => Ok(scale),
+        _ => stopped(left, WRONG_WORD),
+    }
 }
 
 /// The rent that the first line says, with its fleet, which is no less than this one.
 #[tactic(auto, unfolding(crate::specs::Reading::rent_at))]
 pub fn rent_at(
     alloc: Global,
-    tables: &Tables,
-    known: &Known,
+    grammar: &Grammar,
     least: usize,
     left: &[&[u8]],
 ) -> Result<(u32, i128), Stop>
-    requires { IsKnownOf tables.now known.now }
-    ensures { Gives (λ entry. entry) result (rent_at tables.now least (seen left.now)) }
+    ensures { Gives (λ entry. entry) result (rent_at (naming grammar.now) least (seen left.now)) }
 {
-    let words = line_due(alloc, Due::Rent, left)?;
-    Ok(rent_of(alloc, tables, known, least, words.as_slice(), left)?)
+    let line = line_due(alloc, grammar, Due::Rent, left)?;
+    Ok(rent_of(least, line, left)?)
 }
 
-/// A rent by the words of its line, in its order.
-#[tactic(auto, unfolding(crate::specs::Reading::rent_of))]
-fn rent_of(
-    alloc: Global,
-    tables: &Tables,
-    known: &Known,
-    least: usize,
-    words: &[&[u8]],
-    left: &[&[u8]],
-) -> Result<(u32, i128), Stop>
-    requires { IsKnownOf tables.now known.now }
-    ensures { Gives (λ entry. entry) result (rent_of tables.now least (seen words.now) (seen left.now)) }
+/// The rent that a line says in its order. Takes no memory.
+fn rent_of(least: usize, line: Line, left: &[&[u8]]) -> Result<(u32, i128), Stop>
+    ensures gives { Gives (λ entry. entry) result (rent_of least line (seen left.now)) }
+    ensures wants_none { WantsNone result }
 {
-    let entry = rent_by(alloc, tables, known, words, left)?;
-    in_order(rent_follows(least, &entry), left)?;
-    Ok(entry)
-}
-
-/// A rent by the words of its line, with its fleet.
-#[tactic(auto, unfolding(crate::specs::Reading::rent_by))]
-fn rent_by(
-    alloc: Global,
-    tables: &Tables,
-    known: &Known,
-    words: &[&[u8]],
-    left: &[&[u8]],
-) -> Result<(u32, i128), Stop>
-    requires { IsKnownOf tables.now known.now }
-    ensures { Gives (λ entry. entry) result (rent_by tables.now (seen words.now) (seen left.now)) }
-{
-    let rent = number_at(alloc, words, 2, left)?;
-    let fleet = fleet_at(tables, known, words, 1, left)?;
-    Ok((fleet, rent))
+    match line {
+        Line::Rent { fleet, rent } => {
+            in_order(rent_follows(least, &(fleet, rent)), left)?;
+            Ok((fleet, rent))
+        }
+        _ => stopped(left, WRONG_WORD),
+    }
 }
 
 /// Whether a rent may follow: it isn't 0, and its fleet is no less than this one.
@@ -86,84 +105,58 @@ fn rent_follows(least: usize, entry: &(u32, i128)) -> bool
 #[tactic(auto, unfolding(crate::specs::Reading::step_at))]
 pub fn step_at(
     alloc: Global,
-    tables: &Tables,
-    known: &Known,
+    grammar: &Grammar,
     before: &Option<PriceStep>,
     left: &[&[u8]],
 ) -> Result<PriceStep, Stop>
-    requires { IsKnownOf tables.now known.now }
-    ensures { Gives (λ step. step) result (step_at tables.now before.now (seen left.now)) }
+    ensures { Gives (λ step. step) result (step_at (naming grammar.now) before.now (seen left.now)) }
 {
-    let words = line_due(alloc, Due::Step, left)?;
-    Ok(step_of(alloc, tables, known, before, words.as_slice(), left)?)
+    let line = line_due(alloc, grammar, Due::Step, left)?;
+    Ok(step_of(alloc, grammar, before, line, left)?)
 }
 
-/// A step by the words of its line, in its order behind the step before.
-#[tactic(auto, unfolding(crate::specs::Reading::step_of))]
+/// The step that a line says in its order, behind the step before.
 fn step_of(
     alloc: Global,
-    tables: &Tables,
-    known: &Known,
+    grammar: &Grammar,
     before: &Option<PriceStep>,
-    words: &[&[u8]],
+    line: Line,
     left: &[&[u8]],
 ) -> Result<PriceStep, Stop>
-    requires { IsKnownOf tables.now known.now }
-    ensures { Gives (λ step. step) result (step_of tables.now before.now (seen words.now) (seen left.now)) }
+    ensures { Gives (λ step. step) result (step_of (naming grammar.now) before.now line (seen left.now)) }
 {
-    let step = step_by(alloc, tables, known, words, left)?;
-    let needless = is_needless(alloc, &step, words, left)?;
+    match line {
+        Line::At {
+            fleet,
+            station,
+            minute,
+            value,
+        } => {
+            let step = PriceStep {
+                fleet,
+                station,
+                minute,
+                value,
+            };
+            step_in_order(alloc, grammar, before, step, left)
+        }
+        _ => stopped(left, WRONG_WORD),
+    }
+}
+
+/// A step that is in its order behind the step before.
+fn step_in_order(
+    alloc: Global,
+    grammar: &Grammar,
+    before: &Option<PriceStep>,
+    step: PriceStep,
+    left: &[&[u8]],
+) -> Result<PriceStep, Stop>
+    ensures { Gives (λ step. step) result (step_in_order (naming grammar.now) before.now step (seen left.now)) }
+{
+    let needless = is_needless(alloc, grammar, &step, left)?;
     in_order(step_follows(before, &step) && !needless, left)?;
     Ok(step)
-}
-
-/// A step by the words of its line.
-#[tactic(auto, unfolding(crate::specs::Reading::step_by))]
-fn step_by(
-    alloc: Global,
-    tables: &Tables,
-    known: &Known,
-    words: &[&[u8]],
-    left: &[&[u8]],
-) -> Result<PriceStep, Stop>
-    requires { IsKnownOf tables.now known.now }
-    ensures { Gives (λ step. step) result (step_by tables.now (seen words.now) (seen left.now)) }
-{
-    let (minute, value) = figures_by(alloc, words, left)?;
-    let (fleet, station) = place_by(tables, known, words, left)?;
-    Ok(PriceStep {
-        fleet,
-        station,
-        minute,
-        value,
-    })
-}
-
-/// The minute and the value by the words of a step's line.
-#[tactic(auto, unfolding(crate::specs::Reading::figures_by))]
-fn figures_by(alloc: Global, words: &[&[u8]], left: &[&[u8]]) -> Result<(u16, i128), Stop>
-    ensures { Gives (λ figures. figures) result (figures_by (seen words.now) (seen left.now)) }
-{
-    let minute = minute_at(alloc, words, 3, left)?;
-    let value = number_at(alloc, words, 4, left)?;
-    Ok((minute, value))
-}
-
-/// The fleet and the station by the words of a step's line. Takes no memory.
-#[tactic(auto, unfolding(crate::specs::Reading::place_by))]
-fn place_by(
-    tables: &Tables,
-    known: &Known,
-    words: &[&[u8]],
-    left: &[&[u8]],
-) -> Result<(u32, u32), Stop>
-    requires { IsKnownOf tables.now known.now }
-    ensures gives { Gives (λ place. place) result (place_by tables.now (seen words.now) (seen left.now)) }
-    ensures wants_none { WantsNone result }
-{
-    let fleet = fleet_at(tables, known, words, 1, left)?;
-    let station = station_at(tables, known, words, 2, left)?;
-    Ok((fleet, station))
 }
 
 /// Whether a step may follow: at its place a later minute and another value, at the next place minute 0.
@@ -197,38 +190,24 @@ fn place_before(a: &PriceStep, b: &PriceStep) -> bool
 }
 
 /// Whether a step is of value 0 at minute 0, and no other step of its place comes behind its line, the first that is
-/// left.
+/// left, not even a bad one.
 fn is_needless(
     alloc: Global,
+    grammar: &Grammar,
     step: &PriceStep,
-    words: &[&[u8]],
     left: &[&[u8]],
 ) -> Result<bool, NoMemory>
-    ensures { IfOk result (λ needless. needless ≡ is_needless step.now (seen words.now) (drop 1 (seen left.now))) }
+    ensures { IfOk result (λ needless. needless ≡ is_needless (naming grammar.now) step.now (drop 1 (seen left.now))) }
 {
     if step.minute != 0 || step.value != 0 {
         return Ok(false);
     }
-    let next = second_words(alloc, left)?;
-    Ok(!goes_on_at(next.as_slice(), words))
-}
-
-/// Whether words begin as those of a step at the same place.
-fn goes_on_at(next: &[&[u8]], words: &[&[u8]]) -> bool
-    ensures { result ≡ goes_on_at (seen next.now) (seen words.now) }
-{
-    stands(next, 0, b"at")
-        && stands(next, 1, word_at(words, 1))
-        && stands(next, 2, word_at(words, 2))
-}
-
-/// The words of the second line that is left.
-fn second_words<'a>(alloc: Global, left: &[&'a [u8]]) -> Result<Vec<&'a [u8]>, NoMemory>
-    ensures { IfOk result (λ words. seen words.items ≡ first_words (drop 1 (seen left.now))) }
-{
-    match left.split_first() {
-        None => Ok(Vec::new(alloc)),
-        Some((_, rest)) => first_words(alloc, rest),
+    match left.get(1) {
+        None => Ok(true),
+        Some(next) => {
+            let goes_on = is_step_of(alloc, grammar, step.fleet, step.station, next)?;
+            Ok(!goes_on)
+        }
     }
 }
 
@@ -236,72 +215,45 @@ fn second_words<'a>(alloc: Global, left: &[&'a [u8]]) -> Result<Vec<&'a [u8]>, N
 #[tactic(auto, unfolding(crate::specs::Reading::weight_at))]
 pub fn weight_at(
     alloc: Global,
-    tables: &Tables,
-    known: &Known,
+    grammar: &Grammar,
     before: &Option<Weight>,
     left: &[&[u8]],
 ) -> Result<Weight, Stop>
-    requires { IsKnownOf tables.now known.now }
-    ensures { Gives (λ entry. entry) result (weight_at tables.now before.now (seen left.now)) }
+    ensures { Gives (λ entry. entry) result (weight_at (naming grammar.now) before.now (seen left.now)) }
 {
-    let words = line_due(alloc, Due::Weight, left)?;
-    Ok(weight_of(alloc, tables, known, before, words.as_slice(), left)?)
+    let line = line_due(alloc, grammar, Due::Weight, left)?;
+    Ok(weight_of(before, line, left)?)
 }
 
-/// A weight by the words of its line, in its order behind the weight before.
-#[tactic(auto, unfolding(crate::specs::Reading::weight_of))]
-fn weight_of(
-    alloc: Global,
-    tables: &Tables,
-    known: &Known,
-    before: &Option<Weight>,
-    words: &[&[u8]],
-    left: &[&[u8]],
-) -> Result<Weight, Stop>
-    requires { IsKnownOf tables.now known.now }
-    ensures { Gives (λ entry. entry) result (weight_of tables.now before.now (seen words.now) (seen left.now)) }
-{
-    let entry = weight_by(alloc, tables, known, words, left)?;
-    in_order(weight_follows(before, &entry), left)?;
-    Ok(entry)
-}
-
-/// A weight by the words of its line.
-#[tactic(auto, unfolding(crate::specs::Reading::weight_by))]
-fn weight_by(
-    alloc: Global,
-    tables: &Tables,
-    known: &Known,
-    words: &[&[u8]],
-    left: &[&[u8]],
-) -> Result<Weight, Stop>
-    requires { IsKnownOf tables.now known.now }
-    ensures { Gives (λ entry. entry) result (weight_by tables.now (seen words.now) (seen left.now)) }
-{
-    let weight = number_at(alloc, words, 3, left)?;
-    let (leg, fleet) = pair_at(tables, known, words, left)?;
-    Ok(Weight {
-        leg,
-        choice: fleet,
-        weight,
-    })
-}
-
-/// A leg and a fleet by the second word and the third. Takes no memory.
-#[tactic(auto, unfolding(crate::specs::Reading::pair_at))]
-pub fn pair_at(
-    tables: &Tables,
-    known: &Known,
-    words: &[&[u8]],
-    left: &[&[u8]],
-) -> Result<(u32, u32), Stop>
-    requires { IsKnownOf tables.now known.now }
-    ensures gives { Gives (λ pair. pair) result (pair_at tables.now (seen words.now) (seen left.now)) }
+/// The weight that a line says in its order, behind the weight before. Takes no memory.
+fn weight_of(before: &Option<Weight>, line: Line, left: &[&[u8]]) -> Result<Weight, Stop>
+    ensures gives { Gives (λ entry. entry) result (weight_of before.now line (seen left.now)) }
     ensures wants_none { WantsNone result }
 {
-    let leg = leg_at(tables, known, words, 1, left)?;
-    let fleet = fleet_at(tables, known, words, 2, left)?;
-    Ok((leg, fleet))
+    match line {
+        Line::Weight {
+            leg,
+            choice,
+            weight,
+        } => {
+            let entry = Weight {
+                leg,
+                choice,
+                weight,
+            };
+            weight_in_order(before, entry, left)
+        }
+        _ => stopped(left, WRONG_WORD),
+    }
+}
+
+/// A weight that is in its order behind the weight before. Takes no memory.
+fn weight_in_order(before: &Option<Weight>, entry: Weight, left: &[&[u8]]) -> Result<Weight, Stop>
+    ensures gives { Gives (λ entry. entry) result (weight_in_order before.now entry (seen left.now)) }
+    ensures wants_none { WantsNone result }
+{
+    in_order(weight_follows(before, &entry), left)?;
+    Ok(entry)
 }
 
 /// Whether a weight may follow: it isn't 0, and its pair comes later, by leg and then by fleet.

@@ -1,8 +1,9 @@
 //! The text of a proof, read.
 ghost use Rattle.std.specs.Prelude.{◌≡◌, Bool, drop, length, IfOk, MatchResult};
-ghost use Rattle.bound_cert.specs.Known.{IsKnownOf};
-ghost use Rattle.bound_cert.specs.Lines.{Gives, left_of, seen};
-ghost use Rattle.bound_cert.specs.Nodes.{end_at, head_is, nothing, plan_at, proof_at, rest_at, tree_at};
+ghost use Rattle.proof_lines.specs.Known.{names_in, naming};
+ghost use Rattle.proof_lines.specs.Words.{seen};
+ghost use Rattle.bound_cert.specs.Lines.{Gives, left_of};
+ghost use Rattle.bound_cert.specs.Nodes.{end_at, head_is, nothing, plan_at, plan_of, proof_at, rest_at, tree_at};
 ghost use Rattle.dual_bound.specs.Nodes.{nodes_of};
 ghost use Rattle.dual_bound.specs.OfTables.{IsOfTables};
 ghost use Rattle.bound_cert.specs.Wants.{WantsNone};
@@ -10,12 +11,12 @@ ghost use Rattle.bound_cert.specs.ReadProof.{AnswersProof, FaultIn, FaultOf, IsT
 ghost use Rattle.dual_bound.specs.declared.trees.Tree.{Tree};
 
 use crate::faults::{BAD_LINE, CertError, CertFault, Stop, WRONG_HEAD, WRONG_WORD};
-use crate::known::Known;
-use crate::price_reading::behind;
-use crate::reading_lines::{Due, is_plain, left_of, line_due, stands, stopped};
+use crate::reading_lines::{Due, behind, left_of, line_due, stopped};
 use crate::tree_reading::tree_from;
 use dual_bound::Tree;
 use fleet_model::Tables;
+use proof_lines::words::is_plain;
+use proof_lines::{Grammar, Line, Version};
 use std::alloc::Global;
 
 /// A proof of a bound.
@@ -51,8 +52,7 @@ fn read(alloc: Global, tables: &Tables, bytes: &[u8]) -> Result<Proof, CertError
 fn of_lines(alloc: Global, tables: &Tables, lines: &[&[u8]]) -> Result<Proof, CertError>
     ensures { MatchResult result (LinesRead tables.now (seen lines.now)) (FaultIn tables.now (seen lines.now)) }
 {
-    let known = Known::of(alloc, tables)?;
-    answer(lines, proof_at(alloc, tables, &known, lines))
+    answer(lines, proof_at(alloc, tables, lines))
 }
 
 /// What was read of a text's lines, with the number of the line at which it stopped.
@@ -74,18 +74,17 @@ fn answer(lines: &[&[u8]], read: Result<Proof, Stop>) -> Result<Proof, CertError
 
 /// What all of a text reads as.
 #[tactic(auto, unfolding(crate::specs::Nodes::proof_at))]
-fn proof_at(alloc: Global, tables: &Tables, known: &Known, left: &[&[u8]]) -> Result<Proof, Stop>
-    requires { IsKnownOf tables.now known.now }
+fn proof_at(alloc: Global, tables: &Tables, left: &[&[u8]]) -> Result<Proof, Stop>
     ensures { Gives (λ proof. (proof.planned, nodes_of proof.tree)) result (proof_at tables.now (seen left.now)) }
 {
-    head_is(left)?;
-    Ok(rest_at(alloc, tables, known, behind(left))?)
+    let version = head_is(left)?;
+    Ok(of_version(alloc, tables, version, behind(left))?)
 }
 
-/// Goes on where the first line is the head. Takes no memory.
+/// The version that the head says, where that is the first line. Takes no memory.
 #[tactic(auto, unfolding(crate::specs::Nodes::head_is))]
-fn head_is(left: &[&[u8]]) -> Result<(), Stop>
-    ensures gives { Gives (λ _. tt) result (head_is (seen left.now)) }
+fn head_is(left: &[&[u8]]) -> Result<Version, Stop>
+    ensures gives { Gives (λ version. version) result (head_is (seen left.now)) }
     ensures wants_none { WantsNone result }
 {
     let Some((line, rest)) = left.split_first() else {
@@ -95,49 +94,71 @@ fn head_is(left: &[&[u8]]) -> Result<(), Stop>
         return stopped(left, WRONG_HEAD);
     }
     if *line == b"fleet proof 1".as_slice() {
-        Ok(())
+        Ok(Version::One)
     } else {
         stopped(left, WRONG_HEAD)
     }
 }
 
+/// Whether a plan comes, and the tree, in a text of this version.
+fn of_version(
+    alloc: Global,
+    tables: &Tables,
+    version: Version,
+    left: &[&[u8]],
+) -> Result<Proof, Stop>
+    ensures { Gives (λ proof. (proof.planned, nodes_of proof.tree)) result (rest_at (names_in version tables.now) (seen left.now)) }
+{
+    let grammar = Grammar::new(alloc, version, tables)?;
+    rest_at(alloc, &grammar, left)
+}
+
 /// Whether a plan comes, and the tree.
 #[tactic(auto, unfolding(crate::specs::Nodes::rest_at))]
-fn rest_at(alloc: Global, tables: &Tables, known: &Known, left: &[&[u8]]) -> Result<Proof, Stop>
-    requires { IsKnownOf tables.now known.now }
-    ensures { Gives (λ proof. (proof.planned, nodes_of proof.tree)) result (rest_at tables.now (seen left.now)) }
+fn rest_at(alloc: Global, grammar: &Grammar, left: &[&[u8]]) -> Result<Proof, Stop>
+    ensures { Gives (λ proof. (proof.planned, nodes_of proof.tree)) result (rest_at (naming grammar.now) (seen left.now)) }
 {
-    let planned = plan_at(alloc, left)?;
-    let tree = tree_at(alloc, tables, known, behind(left))?;
+    let planned = plan_at(alloc, grammar, left)?;
+    let tree = tree_at(alloc, grammar, behind(left))?;
     Ok(Proof { planned, tree })
 }
 
 /// Whether a plan comes with the proof.
 #[tactic(auto, unfolding(crate::specs::Nodes::plan_at))]
-fn plan_at(alloc: Global, left: &[&[u8]]) -> Result<bool, Stop>
-    ensures { Gives (λ planned. planned) result (plan_at (seen left.now)) }
+fn plan_at(alloc: Global, grammar: &Grammar, left: &[&[u8]]) -> Result<bool, Stop>
+    ensures { Gives (λ planned. planned) result (plan_at (naming grammar.now) (seen left.now)) }
 {
-    let words = line_due(alloc, Due::Plan, left)?;
-    Ok(stands(words.as_slice(), 1, b"yes"))
+    let line = line_due(alloc, grammar, Due::Plan, left)?;
+    Ok(plan_of(line, left)?)
+}
+
+/// Whether a line says that a plan comes with the proof. Takes no memory.
+fn plan_of(line: Line, left: &[&[u8]]) -> Result<bool, Stop>
+    ensures gives { Gives (λ planned. planned) result (plan_of line (seen left.now)) }
+    ensures wants_none { WantsNone result }
+{
+    match line {
+        Line::Plan { planned } => Ok(planned),
+        _ => stopped(left, WRONG_WORD),
+    }
 }
 
 /// The tree, and the end behind it.
 #[tactic(auto, unfolding(crate::specs::Nodes::tree_at))]
-fn tree_at(alloc: Global, tables: &Tables, known: &Known, left: &[&[u8]]) -> Result<Tree, Stop>
-    requires { IsKnownOf tables.now known.now }
-    ensures { Gives (λ tree. nodes_of tree) result (tree_at tables.now (seen left.now)) }
+fn tree_at(alloc: Global, grammar: &Grammar, left: &[&[u8]]) -> Result<Tree, Stop>
+    ensures { Gives (λ tree. nodes_of tree) result (tree_at (naming grammar.now) (seen left.now)) }
 {
-    let (tree, rest) = tree_from(alloc, tables, known, left)?;
-    end_at(alloc, rest)?;
+    let (tree, rest) = tree_from(alloc, grammar, left)?;
+    end_at(alloc, grammar, rest)?;
     Ok(tree)
 }
 
 /// Goes on where the first line is the end and nothing stands behind it.
 #[tactic(auto, unfolding(crate::specs::Nodes::end_at))]
-fn end_at(alloc: Global, left: &[&[u8]]) -> Result<(), Stop>
-    ensures { Gives (λ _. tt) result (end_at (seen left.now)) }
+fn end_at(alloc: Global, grammar: &Grammar, left: &[&[u8]]) -> Result<(), Stop>
+    ensures { Gives (λ _. tt) result (end_at (naming grammar.now) (seen left.now)) }
 {
-    line_due(alloc, Due::End, left)?;
+    line_due(alloc, grammar, Due::End, left)?;
     Ok(nothing(behind(left))?)
 }
 

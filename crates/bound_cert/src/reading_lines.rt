@@ -1,11 +1,16 @@
-//! What is left of a text, line by line, and the words of a line.
-ghost use Rattle.std.specs.Prelude.{◌≡◌, filter, length, Err, IfOk};
-ghost use Rattle.bound_cert.specs.Lines.{Gives, first_words, is_plain, is_word, left_of, line_due, node_width, of_width, open_width, parts_of, plan_width, seen, stands, width_after, width_of, word_at, words_of};
+//! What is left of a text, line by line, and which line may stand where.
+ghost use Rattle.std.specs.Prelude.{◌≡◌, drop, length, Err, IfOk};
+ghost use Rattle.proof_lines.specs.Known.{naming};
+ghost use Rattle.proof_lines.specs.Words.{seen};
+ghost use Rattle.bound_cert.specs.Lines.{Gives, first_form, fits, left_of, line_due, may_stand, of_seen};
+ghost use Rattle.bound_cert.specs.Wants.{WantsNone};
 ghost use Rattle.bound_cert.specs.declared.faults.Stop.TheVariants as stop;
 ghost use Rattle.bound_cert.specs.declared.reading_lines.Due.TheVariants as due;
 
-use crate::faults::{BAD_LINE, Stop, TEXT_ENDS, WRONG_WIDTH, WRONG_WORD};
+use crate::faults::{BAD_LINE, Stop, TEXT_ENDS, WRONG_WORD};
 use entries::NoMemory;
+use proof_lines::flaws::{Flaw, least};
+use proof_lines::{Form, Grammar, Line, form_of_bytes, read_line};
 use std::alloc::{AllocError, Global};
 
 /// What kind of line is due.
@@ -36,10 +41,10 @@ pub fn left_of(alloc: Global, text: &[u8]) -> Result<Vec<&[u8]>, AllocError>
     text.split(|byte| *byte == b'\n').collect(alloc)
 }
 
-/// The words of the first line that is left, which is due to be of a kind.
+/// The first line that is left, which is due to be of a kind.
 #[tactic(auto, unfolding(crate::specs::Lines::line_due))]
-pub fn line_due<'a>(alloc: Global, due: Due, left: &[&'a [u8]]) -> Result<Vec<&'a [u8]>, Stop>
-    ensures { Gives (λ words. seen words.items) result (line_due due (seen left.now)) }
+pub fn line_due(alloc: Global, grammar: &Grammar, due: Due, left: &[&[u8]]) -> Result<Line, Stop>
+    ensures { Gives (λ line. line) result (line_due (naming grammar.now) due (seen left.now)) }
 {
     let Some((line, rest)) = left.split_first() else {
         return stopped(left, TEXT_ENDS);
@@ -47,32 +52,84 @@ pub fn line_due<'a>(alloc: Global, due: Due, left: &[&'a [u8]]) -> Result<Vec<&'
     if rest.is_empty() {
         return stopped(left, if line.is_empty() { TEXT_ENDS } else { BAD_LINE });
     }
-    if !is_plain(line) {
-        return stopped(left, BAD_LINE);
-    }
-    of_width(alloc, due, left, line)
+    let read = read_line(alloc, grammar, line)?;
+    of_seen(fits(due, read.form), read.line, left)
 }
 
-/// The words of a line, which is due to be of a kind and is the first that is left.
-#[tactic(auto, unfolding(crate::specs::Lines::width_of))]
-fn of_width<'a>(
-    alloc: Global,
-    due: Due,
-    left: &[&'a [u8]],
-    line: &'a [u8],
-) -> Result<Vec<&'a [u8]>, Stop>
-    ensures { Gives (λ words. seen words.items) result (of_width (width_of due (words_of line.now)) (seen left.now) line.now) }
+/// A line that may stand here, or its flaw. Takes no memory.
+fn of_seen(fit: bool, line: Result<Line, Flaw>, left: &[&[u8]]) -> Result<Line, Stop>
+    ensures gives { Gives (λ line. line) result (of_seen fit line (seen left.now)) }
+    ensures wants_none { WantsNone result }
 {
-    let parts = parts_of(alloc, line)?;
-    let words = words_of(alloc, parts.as_slice())?;
-    match width_of(due, words.as_slice()) {
-        None => stopped(left, WRONG_WORD),
-        Some(width) => {
-            if words.len() == parts.len() && words.len() == width {
-                Ok(words)
+    match line {
+        Ok(line) => {
+            if fit {
+                Ok(line)
             } else {
-                stopped(left, WRONG_WIDTH)
+                stopped(left, WRONG_WORD)
             }
+        }
+        Err(flaw) => {
+            let told = if fit { flaw } else { least(flaw, Flaw::Word) };
+            stopped(left, told.kind())
+        }
+    }
+}
+
+/// Whether a line of this form may stand where one of a kind is due, if its first words say a form. Takes no memory.
+fn fits(due: Due, form: Option<Form>) -> bool
+    ensures { result ≡ fits due form }
+{
+    match form {
+        None => false,
+        Some(form) => may_stand(due, form),
+    }
+}
+
+/// Whether a line of this form may stand where one of a kind is due. Takes no memory.
+fn may_stand(due: Due, form: Form) -> bool
+    ensures { result ≡ may_stand due form }
+{
+    match due {
+        Due::Plan => matches!(form, Form::PlanYes | Form::PlanNo),
+        Due::Node => begins_node(form),
+        Due::Scale => matches!(form, Form::Scale),
+        Due::Mixed => matches!(form, Form::Mixed),
+        Due::Rent => matches!(form, Form::Rent),
+        Due::Step => matches!(form, Form::At),
+        Due::Weight => matches!(form, Form::Weight),
+        Due::End => matches!(form, Form::End),
+    }
+}
+
+/// Whether a node may begin with a line of this form. Takes no memory.
+fn begins_node(form: Form) -> bool
+    ensures { result ≡ may_stand due.Node form }
+{
+    match form {
+        Form::Bare
+        | Form::Sole
+        | Form::Refuted
+        | Form::Priced
+        | Form::OpenNodes
+        | Form::OpenPivots
+        | Form::OpenGrew
+        | Form::OpenLift
+        | Form::Trim
+        | Form::Split => true,
+        _ => false,
+    }
+}
+
+/// Whether the first line that is left begins as one that may stand where one of a kind is due.
+pub fn begins(alloc: Global, left: &[&[u8]], due: Due) -> Result<bool, NoMemory>
+    ensures { IfOk result (λ begins. begins ≡ fits due (first_form (seen left.now))) }
+{
+    match left.split_first() {
+        None => Ok(false),
+        Some((line, _)) => {
+            let form = form_of_bytes(alloc, line)?;
+            Ok(fits(due, form))
         }
     }
 }
@@ -87,135 +144,12 @@ pub fn stopped<T>(left: &[&[u8]], kind: u8) -> Result<T, Stop>
     })
 }
 
-/// The words of the first line that is left.
-pub fn first_words<'a>(alloc: Global, left: &[&'a [u8]]) -> Result<Vec<&'a [u8]>, NoMemory>
-    ensures { IfOk result (λ words. seen words.items ≡ first_words (seen left.now)) }
+/// What is left behind the first line.
+pub fn behind<'a, 'b>(left: &'b [&'a [u8]]) -> &'b [&'a [u8]]
+    ensures { result.now ≡ drop 1 left.now }
 {
-    match left.split_first() {
-        None => Ok(Vec::new(alloc)),
-        Some((line, _)) => {
-            let parts = parts_of(alloc, line)?;
-            words_of(alloc, parts.as_slice())
-        }
-    }
-}
-
-/// The parts of a line between its spaces.
-fn parts_of(alloc: Global, line: &[u8]) -> Result<Vec<&[u8]>, AllocError>
-    ensures { IfOk result (λ parts. seen parts.items ≡ parts_of line.now) }
-{
-    line.split(|byte| *byte == b' ').collect(alloc)
-}
-
-/// The words among the parts of a line.
-fn words_of<'a>(alloc: Global, parts: &[&'a [u8]]) -> Result<Vec<&'a [u8]>, NoMemory>
-    ensures { IfOk result (λ words. seen words.items ≡ filter is_word (seen parts.now)) }
-{
-    let mut words = Vec::new(alloc);
-    for part in parts {
-        if !part.is_empty() {
-            words.push(*part)?;
-        }
-    }
-    Ok(words)
-}
-
-/// Whether all bytes of a line are plain text.
-pub fn is_plain(line: &[u8]) -> bool
-    ensures { result ≡ is_plain line.now }
-{
-    line.iter().all(|byte| 32 <= *byte && *byte <= 126)
-}
-
-/// A word of a line, and none behind the last.
-pub fn word_at<'a>(words: &[&'a [u8]], place: usize) -> &'a [u8]
-    ensures { result.now ≡ word_at (seen words.now) place }
-{
-    match words.get(place) {
-        Some(word) => *word,
-        None => &[],
-    }
-}
-
-/// How many words a line has that is due here, where its first words may stand here.
-#[tactic(auto, unfolding(crate::specs::Lines::width_of))]
-fn width_of(due: Due, words: &[&[u8]]) -> Option<usize>
-    ensures { result ≡ width_of due (seen words.now) }
-{
-    match due {
-        Due::Plan => plan_width(words),
-        Due::Node => node_width(words),
-        Due::Scale => width_after(b"scale", 2, words),
-        Due::Mixed => width_after(b"mixed", 2, words),
-        Due::Rent => width_after(b"rent", 3, words),
-        Due::Step => width_after(b"at", 5, words),
-        Due::Weight => width_after(b"weight", 4, words),
-        Due::End => width_after(b"end", 1, words),
-    }
-}
-
-/// Whether a word stands at a place of the line.
-pub fn stands(words: &[&[u8]], place: usize, word: &[u8]) -> bool
-    ensures { result ≡ stands (seen words.now) place word.now }
-{
-    word_at(words, place) == word
-}
-
-/// So many words, where the line begins with this one.
-fn width_after(word: &[u8], width: usize, words: &[&[u8]]) -> Option<usize>
-    ensures { result ≡ width_after word.now width (seen words.now) }
-{
-    if stands(words, 0, word) {
-        Some(width)
-    } else {
-        None
-    }
-}
-
-/// How many words the line has that says whether a plan comes.
-fn plan_width(words: &[&[u8]]) -> Option<usize>
-    ensures { result ≡ plan_width (seen words.now) }
-{
-    if stands(words, 0, b"plan") && (stands(words, 1, b"yes") || stands(words, 1, b"no")) {
-        Some(2)
-    } else {
-        None
-    }
-}
-
-/// How many words the first line of a node has, by its first words.
-fn node_width(words: &[&[u8]]) -> Option<usize>
-    ensures { result ≡ node_width (seen words.now) }
-{
-    if stands(words, 0, b"bare") {
-        Some(2)
-    } else if stands(words, 0, b"sole")
-        || stands(words, 0, b"refuted")
-        || stands(words, 0, b"priced")
-    {
-        Some(1)
-    } else if stands(words, 0, b"open") {
-        open_width(words)
-    } else if stands(words, 0, b"trim") || stands(words, 0, b"split") {
-        Some(3)
-    } else {
-        None
-    }
-}
-
-/// How many words the line of an open leaf has, by its cause.
-fn open_width(words: &[&[u8]]) -> Option<usize>
-    ensures { result ≡ open_width (seen words.now) }
-{
-    if stands(words, 1, b"nodes") {
-        Some(2)
-    } else if stands(words, 1, b"pivots") {
-        Some(3)
-    } else if stands(words, 1, b"grew") {
-        Some(5)
-    } else if stands(words, 1, b"lift") {
-        Some(4)
-    } else {
-        None
-    }
+    let Some((_, rest)) = left.split_first() else {
+        return left;
+    };
+    rest
 }

@@ -1,40 +1,38 @@
 //! Trees, read from the lines of a proof. The nodes that wait for children stand in a list, so the depth of a tree
 //! takes none of the stack.
 ghost use Rattle.std.specs.Prelude.{◌≡◌, ◌++◌, ◌∷◌, [], length, IfErr, IfOk, MatchOption};
-ghost use Rattle.bound_cert.specs.Known.{IsKnownOf};
-ghost use Rattle.bound_cert.specs.Lines.{Gives, seen};
+ghost use Rattle.proof_lines.specs.Known.{naming};
+ghost use Rattle.proof_lines.specs.Words.{seen};
+ghost use Rattle.bound_cert.specs.Lines.{Gives};
 ghost use Rattle.bound_cert.specs.Nodes.{above_of, after_node, after_tree, inner_node, nodes_from, waiting_nodes};
 ghost use Rattle.dual_bound.specs.Nodes.{nodes_of};
 ghost use Rattle.bound_cert.specs.ReadTree.{IsClosed, IsGrown, IsPlaced, NextGives, NodeGives, PlacedGives, goes_on};
 ghost use Rattle.bound_cert.specs.declared.faults.Stop.TheVariants as stop;
 
 use crate::faults::{Stop, TEXT_ENDS};
-use crate::known::Known;
 use crate::node_reading::node_at;
 use crate::nodes::{Inner, Parent, Place};
 use crate::reading_lines::stopped;
 use dual_bound::Tree;
 use dual_bound::nodes::Node;
 use entries::NoMemory;
-use fleet_model::Tables;
+use proof_lines::Grammar;
 use std::alloc::Global;
 
 /// The next tree, and what is left behind its lines.
 pub fn tree_from<'a, 'b>(
     alloc: Global,
-    tables: &Tables,
-    known: &Known,
+    grammar: &Grammar,
     left: &'b [&'a [u8]],
 ) -> Result<(Tree, &'b [&'a [u8]]), Stop>
-    requires { IsKnownOf tables.now known.now }
-    ensures { Gives (λ r. (nodes_of r.0, seen r.1.now)) result (nodes_from tables.now (length left.now) [] [] (seen left.now)) }
+    ensures { Gives (λ r. (nodes_of r.0, seen r.1.now)) result (nodes_from (naming grammar.now) (length left.now) [] [] (seen left.now)) }
 {
     let mut waiting = Vec::new(alloc);
     let mut reached = Ok(None);
     let mut rest = left;
     let mut most = left.len();
     while goes_on(&reached, most) {
-        rest = next_node(alloc, tables, known, &mut waiting, &mut reached, rest);
+        rest = next_node(alloc, grammar, &mut waiting, &mut reached, rest);
         most -= 1;
     }
     match reached {
@@ -58,16 +56,14 @@ fn goes_on(reached: &Result<Option<Tree>, Stop>, most: usize) -> bool
 /// where that is complete now.
 fn next_node<'a, 'b>(
     alloc: Global,
-    tables: &Tables,
-    known: &Known,
+    grammar: &Grammar,
     waiting: &mut Vec<Parent>,
     reached: &mut Result<Option<Tree>, Stop>,
     left: &'b [&'a [u8]],
 ) -> &'b [&'a [u8]]
-    requires { IsKnownOf tables.now known.now }
-    ensures { NextGives tables.now waiting.old.items (seen left.now) waiting.new.items (seen result.now) reached.new }
+    ensures { NextGives (naming grammar.now) waiting.old.items (seen left.now) waiting.new.items (seen result.now) reached.new }
 {
-    let (node, behind) = read_node(alloc, tables, known, waiting.len(), left);
+    let (node, behind) = read_node(alloc, grammar, waiting.len(), left);
     *reached = placed(alloc, waiting, node);
     behind
 }
@@ -75,15 +71,13 @@ fn next_node<'a, 'b>(
 /// Reads a node, and answers what is left behind it; all, where it isn't read.
 fn read_node<'a, 'b>(
     alloc: Global,
-    tables: &Tables,
-    known: &Known,
+    grammar: &Grammar,
     above: usize,
     left: &'b [&'a [u8]],
 ) -> (Result<Node, Stop>, &'b [&'a [u8]])
-    requires { IsKnownOf tables.now known.now }
-    ensures { NodeGives tables.now above (seen left.now) (seen result.1.now) result.0 }
+    ensures { NodeGives (naming grammar.now) above (seen left.now) (seen result.1.now) result.0 }
 {
-    match node_at(alloc, tables, known, above, left) {
+    match node_at(alloc, grammar, above, left) {
         Ok((node, behind)) => (Ok(node), behind),
         Err(stop) => (Err(stop), left),
     }

@@ -1,13 +1,15 @@
 //! The text of a proof, written.
-ghost use Rattle.std.specs.Prelude.{◌≡◌, ◌++◌, ◌<◌, ◌∷◌, [], All, IfOk, OnOk, map};
-ghost use Rattle.fleet_model.specs.Schedule.{IsPair, fleet_of, fleets_in, leg_of, leg_on};
+ghost use Rattle.std.specs.Prelude.{◌≡◌, ◌++◌, ◌<◌, All, IfOk, OnOk, map};
+ghost use Rattle.fleet_model.specs.Schedule.{fleets_in};
 ghost use Rattle.dual_bound.specs.OfTables.{ArePricesOf, IsCauseOf, IsMixedOf, IsOfTables, IsStepOf, IsWeightOf};
-ghost use Rattle.bound_cert.specs.ProofText.{at_line, cause_lines, line_of, lines_of, mixed_line, mixed_lines, node_lines, open_line, plan_line, price_lines, proof_text, rent_lines, rent_lines_at, scale_line, space, step_lines, tree_lines, weight_line, weight_lines};
-ghost use Rattle.dual_bound.specs.declared.trees.Cause.TheVariants.{Grew, Lift};
+ghost use Rattle.proof_lines.specs.LineText.{IsNamed, text_of};
+ghost use Rattle.proof_lines.specs.declared.line.Line.TheVariants as line;
+ghost use Rattle.bound_cert.specs.ProofText.{at_line, cause_lines, lines_of, mixed_lines, node_lines, open_line, price_lines, proof_text, rent_lines, rent_lines_at, tree_lines, weight_line};
 
 use dual_bound::{Cause, Mixed, PriceStep, Prices, Tree, Weight};
 use entries::NoMemory;
 use fleet_model::Tables;
+use proof_lines::{Line, Version, push_line};
 use std::alloc::Global;
 
 /// The text of a proof, as `proof.txt` holds it: the head, whether a plan comes with it, the tree, and the end. Its
@@ -22,44 +24,11 @@ pub fn write_proof(
     ensures { IfOk result (λ text. text.items ≡ proof_text tables.now planned tree.now) }
 {
     let mut text = Vec::new(alloc);
-    push_line(&mut text, b"fleet", &[b"proof".as_slice(), b"1".as_slice()])?;
-    push_plan(&mut text, planned)?;
+    push_line(alloc, &mut text, tables, &Line::Head(Version::One))?;
+    push_line(alloc, &mut text, tables, &Line::Plan { planned })?;
     push_tree(alloc, &mut text, tables, tree)?;
-    push_line(&mut text, b"end", &[])?;
+    push_line(alloc, &mut text, tables, &Line::End)?;
     Ok(text)
-}
-
-/// Appends a line: a first word and others, with a space between each two, and a line feed.
-fn push_line(text: &mut Vec<u8>, first: &[u8], others: &[&[u8]]) -> Result<(), NoMemory>
-    ensures { OnOk result (text.new.items ≡ text.old.items ++ line_of (first.now ∷ map (λ word. word.now) others.now)) }
-{
-    text.extend_from_slice(first)?;
-    for word in others {
-        push_word(text, word)?;
-    }
-    text.push(b'\n')?;
-    Ok(())
-}
-
-/// Appends a space and a word.
-fn push_word(text: &mut Vec<u8>, word: &[u8]) -> Result<(), NoMemory>
-    ensures { OnOk result (text.new.items ≡ text.old.items ++ space ∷ word.now) }
-{
-    text.push(b' ')?;
-    text.extend_from_slice(word)?;
-    Ok(())
-}
-
-/// Appends `plan yes` or `plan no`.
-fn push_plan(text: &mut Vec<u8>, planned: bool) -> Result<(), NoMemory>
-    ensures { OnOk result (text.new.items ≡ text.old.items ++ line_of (plan_line planned)) }
-{
-    let answer = if planned {
-        b"yes".as_slice()
-    } else {
-        b"no".as_slice()
-    };
-    push_line(text, b"plan", &[answer])
 }
 
 /// Appends the lines of a tree. What it takes of the stack for a level is small, since a tree may be deep.
@@ -70,7 +39,7 @@ fn push_tree(
     tree: &Tree,
 ) -> Result<(), NoMemory>
     requires { IsOfTables tables.now tree.now }
-    ensures { OnOk result (text.new.items ≡ text.old.items ++ lines_of (tree_lines tables.now tree.now)) }
+    ensures { OnOk result (text.new.items ≡ text.old.items ++ lines_of tables.now (tree_lines tables.now tree.now)) }
 {
     push_node(alloc, text, tables, tree)?;
     match tree {
@@ -92,25 +61,31 @@ fn push_node(
     tree: &Tree,
 ) -> Result<(), NoMemory>
     requires { IsOfTables tables.now tree.now }
-    ensures { OnOk result (text.new.items ≡ text.old.items ++ lines_of (node_lines tables.now tree.now)) }
+    ensures { OnOk result (text.new.items ≡ text.old.items ++ lines_of tables.now (node_lines tables.now tree.now)) }
 {
     match tree {
-        Tree::Bare { leg } => push_line(text, b"bare", &[tables.leg(*leg).flight.as_slice()]),
-        Tree::Sole => push_line(text, b"sole", &[]),
+        Tree::Bare { leg } => push_line(alloc, text, tables, &Line::Bare { leg: *leg }),
+        Tree::Sole => push_line(alloc, text, tables, &Line::Sole),
         Tree::Refuted(prices) => {
-            push_line(text, b"refuted", &[])?;
+            push_line(alloc, text, tables, &Line::Refuted)?;
             push_prices(alloc, text, tables, prices)
         }
         Tree::Priced(prices) => {
-            push_line(text, b"priced", &[])?;
+            push_line(alloc, text, tables, &Line::Priced)?;
             push_prices(alloc, text, tables, prices)
         }
         Tree::Open(prices, cause) => {
-            push_open(alloc, text, cause)?;
+            push_open(alloc, text, tables, cause)?;
             push_prices(alloc, text, tables, prices)?;
             push_cause(alloc, text, tables, cause)
         }
-        Tree::Trim { leg, choice, .. } => push_pair(text, tables, b"trim", *leg, *choice),
+        Tree::Trim { leg, choice, .. } => {
+            let line = Line::Trim {
+                leg: *leg,
+                choice: *choice,
+            };
+            push_line(alloc, text, tables, &line)
+        }
         Tree::Split {
             leg,
             choice,
@@ -118,89 +93,54 @@ fn push_node(
             mixed,
             ..
         } => {
-            push_pair(text, tables, b"split", *leg, *choice)?;
+            push_split(alloc, text, tables, *leg, *choice)?;
             push_prices(alloc, text, tables, prices)?;
             push_mixed(alloc, text, tables, mixed)
         }
     }
 }
 
-/// Appends a first word, a leg and a fleet.
-fn push_pair(
+/// Appends the first line of a split.
+fn push_split(
+    alloc: Global,
     text: &mut Vec<u8>,
     tables: &Tables,
-    first: &[u8],
     leg: u32,
-    fleet: u32,
+    choice: u32,
 ) -> Result<(), NoMemory>
-    requires { IsPair tables.now (leg_on leg fleet) }
-    ensures { OnOk result (text.new.items ≡ text.old.items ++ line_of (first.now ∷ (leg_of tables.now leg).flight ∷ (fleet_of tables.now fleet).name ∷ [])) }
+    requires { IsNamed tables.now (line.Split leg choice) }
+    ensures { OnOk result (text.new.items ≡ text.old.items ++ text_of tables.now (line.Split leg choice)) }
 {
-    push_line(
-        text,
-        first,
-        &[
-            tables.leg(leg).flight.as_slice(),
-            tables.fleet(fleet).name.as_slice(),
-        ],
-    )
+    push_line(alloc, text, tables, &Line::Split { leg, choice })
 }
 
-/// Appends `open` and the cause.
-fn push_open(alloc: Global, text: &mut Vec<u8>, cause: &Cause) -> Result<(), NoMemory>
-    ensures { OnOk result (text.new.items ≡ text.old.items ++ line_of (open_line cause.now)) }
+/// Appends the first line of an open leaf.
+fn push_open(
+    alloc: Global,
+    text: &mut Vec<u8>,
+    tables: &Tables,
+    cause: &Cause,
+) -> Result<(), NoMemory>
+    ensures { OnOk result (text.new.items ≡ text.old.items ++ text_of tables.now (open_line cause.now)) }
 {
-    match cause {
-        Cause::Nodes(_) => push_line(text, b"open", &[b"nodes".as_slice()]),
-        Cause::Pivots { made } => {
-            let made = made.to_string(alloc)?;
-            push_line(text, b"open", &[b"pivots".as_slice(), made.as_bytes()])
-        }
+    let line = match cause {
+        Cause::Nodes(_) => Line::OpenNodes,
+        Cause::Pivots { made } => Line::OpenPivots { made: *made },
         Cause::Grew {
             pivots,
             row,
             column,
-        } => push_grew(alloc, text, *pivots, *row, *column),
-        Cause::Lift { step, at } => push_lift(alloc, text, *step, *at),
-    }
-}
-
-/// Appends `open grew N R C`.
-fn push_grew(
-    alloc: Global,
-    text: &mut Vec<u8>,
-    pivots: u64,
-    row: u64,
-    column: u64,
-) -> Result<(), NoMemory>
-    ensures { OnOk result (text.new.items ≡ text.old.items ++ line_of (open_line (Grew pivots row column))) }
-{
-    let pivots = pivots.to_string(alloc)?;
-    let row = row.to_string(alloc)?;
-    let column = column.to_string(alloc)?;
-    push_line(
-        text,
-        b"open",
-        &[
-            b"grew".as_slice(),
-            pivots.as_bytes(),
-            row.as_bytes(),
-            column.as_bytes(),
-        ],
-    )
-}
-
-/// Appends `open lift S A`.
-fn push_lift(alloc: Global, text: &mut Vec<u8>, step: u64, at: u64) -> Result<(), NoMemory>
-    ensures { OnOk result (text.new.items ≡ text.old.items ++ line_of (open_line (Lift step at))) }
-{
-    let step = step.to_string(alloc)?;
-    let at = at.to_string(alloc)?;
-    push_line(
-        text,
-        b"open",
-        &[b"lift".as_slice(), step.as_bytes(), at.as_bytes()],
-    )
+        } => Line::OpenGrew {
+            pivots: *pivots,
+            row: *row,
+            column: *column,
+        },
+        Cause::Lift { step, at } => Line::OpenLift {
+            step: *step,
+            at: *at,
+        },
+    };
+    push_line(alloc, text, tables, &line)
 }
 
 /// Appends the lines of a cause behind the prices of its leaf.
@@ -211,7 +151,7 @@ fn push_cause(
     cause: &Cause,
 ) -> Result<(), NoMemory>
     requires { IsCauseOf tables.now cause.now }
-    ensures { OnOk result (text.new.items ≡ text.old.items ++ lines_of (cause_lines tables.now cause.now)) }
+    ensures { OnOk result (text.new.items ≡ text.old.items ++ lines_of tables.now (cause_lines cause.now)) }
 {
     match cause {
         Cause::Nodes(mixed) => push_mixed(alloc, text, tables, mixed),
@@ -227,18 +167,10 @@ fn push_mixed(
     mixed: &Mixed,
 ) -> Result<(), NoMemory>
     requires { IsMixedOf tables.now mixed.now }
-    ensures { OnOk result (text.new.items ≡ text.old.items ++ lines_of (mixed_lines tables.now mixed.now)) }
+    ensures { OnOk result (text.new.items ≡ text.old.items ++ lines_of tables.now (mixed_lines mixed.now)) }
 {
-    push_mixed_scale(alloc, text, mixed.scale)?;
+    push_line(alloc, text, tables, &Line::Mixed { scale: mixed.scale })?;
     push_weights(alloc, text, tables, mixed.weights.as_slice())
-}
-
-/// Appends `mixed Q`.
-fn push_mixed_scale(alloc: Global, text: &mut Vec<u8>, scale: i128) -> Result<(), NoMemory>
-    ensures { OnOk result (text.new.items ≡ text.old.items ++ line_of (mixed_line scale)) }
-{
-    let scale = scale.to_string(alloc)?;
-    push_line(text, b"mixed", &[scale.as_bytes()])
 }
 
 /// Appends the lines of weights.
@@ -249,7 +181,7 @@ fn push_weights(
     weights: &[Weight],
 ) -> Result<(), NoMemory>
     requires { All (IsWeightOf tables.now) weights.now }
-    ensures { OnOk result (text.new.items ≡ text.old.items ++ lines_of (weight_lines tables.now weights.now)) }
+    ensures { OnOk result (text.new.items ≡ text.old.items ++ lines_of tables.now (map weight_line weights.now)) }
 {
     for weight in weights {
         push_weight(alloc, text, tables, weight)?;
@@ -257,7 +189,7 @@ fn push_weights(
     Ok(())
 }
 
-/// Appends `weight FLIGHT FLEET W`.
+/// Appends the line of a weight.
 fn push_weight(
     alloc: Global,
     text: &mut Vec<u8>,
@@ -265,18 +197,14 @@ fn push_weight(
     weight: &Weight,
 ) -> Result<(), NoMemory>
     requires { IsWeightOf tables.now weight.now }
-    ensures { OnOk result (text.new.items ≡ text.old.items ++ line_of (weight_line tables.now weight.now)) }
+    ensures { OnOk result (text.new.items ≡ text.old.items ++ text_of tables.now (weight_line weight.now)) }
 {
-    let parts = weight.weight.to_string(alloc)?;
-    push_line(
-        text,
-        b"weight",
-        &[
-            tables.leg(weight.leg).flight.as_slice(),
-            tables.fleet(weight.choice).name.as_slice(),
-            parts.as_bytes(),
-        ],
-    )
+    let line = Line::Weight {
+        leg: weight.leg,
+        choice: weight.choice,
+        weight: weight.weight,
+    };
+    push_line(alloc, text, tables, &line)
 }
 
 /// Appends the lines of prices.
@@ -287,19 +215,18 @@ fn push_prices(
     prices: &Prices,
 ) -> Result<(), NoMemory>
     requires { ArePricesOf tables.now prices.now }
-    ensures { OnOk result (text.new.items ≡ text.old.items ++ lines_of (price_lines tables.now prices.now)) }
+    ensures { OnOk result (text.new.items ≡ text.old.items ++ lines_of tables.now (price_lines tables.now prices.now)) }
 {
-    push_scale(alloc, text, prices.scale)?;
+    push_line(
+        alloc,
+        text,
+        tables,
+        &Line::Scale {
+            scale: prices.scale,
+        },
+    )?;
     push_rents(alloc, text, tables, prices)?;
     push_steps(alloc, text, tables, prices.steps.as_slice())
-}
-
-/// Appends `scale Q`.
-fn push_scale(alloc: Global, text: &mut Vec<u8>, scale: i128) -> Result<(), NoMemory>
-    ensures { OnOk result (text.new.items ≡ text.old.items ++ line_of (scale_line scale)) }
-{
-    let scale = scale.to_string(alloc)?;
-    push_line(text, b"scale", &[scale.as_bytes()])
 }
 
 /// Appends the lines of the rents that aren't 0.
@@ -309,7 +236,7 @@ fn push_rents(
     tables: &Tables,
     prices: &Prices,
 ) -> Result<(), NoMemory>
-    ensures { OnOk result (text.new.items ≡ text.old.items ++ lines_of (rent_lines tables.now prices.now (fleets_in tables.now))) }
+    ensures { OnOk result (text.new.items ≡ text.old.items ++ lines_of tables.now (rent_lines prices.now (fleets_in tables.now))) }
 {
     for fleet in 0..tables.fleet_count() {
         push_rent(alloc, text, tables, prices, fleet)?;
@@ -317,7 +244,7 @@ fn push_rents(
     Ok(())
 }
 
-/// Appends `rent FLEET R`, unless the rent is 0.
+/// Appends the line of a rent, unless the rent is 0.
 fn push_rent(
     alloc: Global,
     text: &mut Vec<u8>,
@@ -326,18 +253,13 @@ fn push_rent(
     fleet: u32,
 ) -> Result<(), NoMemory>
     requires { fleet < fleets_in tables.now }
-    ensures { OnOk result (text.new.items ≡ text.old.items ++ lines_of (rent_lines_at tables.now prices.now fleet)) }
+    ensures { OnOk result (text.new.items ≡ text.old.items ++ lines_of tables.now (rent_lines_at prices.now fleet)) }
 {
     let rent = prices.rent(fleet);
     if rent == 0 {
         return Ok(());
     }
-    let rent = rent.to_string(alloc)?;
-    push_line(
-        text,
-        b"rent",
-        &[tables.fleet(fleet).name.as_slice(), rent.as_bytes()],
-    )
+    push_line(alloc, text, tables, &Line::Rent { fleet, rent })
 }
 
 /// Appends the lines of steps.
@@ -348,7 +270,7 @@ fn push_steps(
     steps: &[PriceStep],
 ) -> Result<(), NoMemory>
     requires { All (IsStepOf tables.now) steps.now }
-    ensures { OnOk result (text.new.items ≡ text.old.items ++ lines_of (step_lines tables.now steps.now)) }
+    ensures { OnOk result (text.new.items ≡ text.old.items ++ lines_of tables.now (map at_line steps.now)) }
 {
     for step in steps {
         push_step(alloc, text, tables, step)?;
@@ -356,7 +278,7 @@ fn push_steps(
     Ok(())
 }
 
-/// Appends `at FLEET STATION MINUTE VALUE`.
+/// Appends the line of a step.
 fn push_step(
     alloc: Global,
     text: &mut Vec<u8>,
@@ -364,18 +286,13 @@ fn push_step(
     step: &PriceStep,
 ) -> Result<(), NoMemory>
     requires { IsStepOf tables.now step.now }
-    ensures { OnOk result (text.new.items ≡ text.old.items ++ line_of (at_line tables.now step.now)) }
+    ensures { OnOk result (text.new.items ≡ text.old.items ++ text_of tables.now (at_line step.now)) }
 {
-    let minute = step.minute.to_string(alloc)?;
-    let value = step.value.to_string(alloc)?;
-    push_line(
-        text,
-        b"at",
-        &[
-            tables.fleet(step.fleet).name.as_slice(),
-            tables.station(step.station).code.as_slice(),
-            minute.as_bytes(),
-            value.as_bytes(),
-        ],
-    )
+    let line = Line::At {
+        fleet: step.fleet,
+        station: step.station,
+        minute: step.minute,
+        value: step.value,
+    };
+    push_line(alloc, text, tables, &line)
 }

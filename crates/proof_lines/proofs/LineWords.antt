@@ -1,12 +1,13 @@
 -- The words of a line: none is broken by a space, and the first tell its form.
-use Rattle.std.proofs.Common.{◌≡◌, true, false, List, [], ◌∷◌, ◌++◌, length, ◌≤◌, Some, refl, arith}
-use Rattle.std.specs.Prelude.{All}
+use Rattle.std.proofs.Common.{◌≡◌, ℕ, true, false, List, [], ◌∷◌, ◌++◌, length, ◌≤◌, Some, Result, Ok, Err, refl, ◌∙◌, append_assoc, arith}
+use Rattle.std.specs.Prelude.{All, OnOk}
+use Rattle.std.proofs.lemmas.Grind.{flat_map-append}
 use Rattle.std.proofs.lemmas.List.Elements.{All-append, All-from_recursion, All-nil}
 use Rattle.fleet_model.specs.declared.tables.Tables.{Tables}
 use Rattle.proof_lines.specs.Figures.{version_word}
 use Rattle.proof_lines.specs.Forms.{all_forms, form_in, form_of, keywords, width}
-use Rattle.proof_lines.specs.LineText.{IsNamed, fields_of, line_words}
-use Rattle.proof_lines.specs.Words.{IsOfWords, IsWord, Word}
+use Rattle.proof_lines.specs.LineText.{IsNamed, fields_of, figures_of, line_words, names_of}
+use Rattle.proof_lines.specs.Words.{IsOfWords, IsWord, Word, spaced, spaced_words}
 use Rattle.proof_lines.specs.declared.forms.Form.{Form}
 use Rattle.proof_lines.specs.declared.forms.Form.TheVariants as form
 use Rattle.proof_lines.specs.declared.line.Line.{Line}
@@ -23,9 +24,6 @@ two a b p q = All-from_recursion IsWord (a ∷ b ∷ []) (p, (q, tt))
 
 three : (a b c : Word) → IsWord a → IsWord b → IsWord c → All IsWord (a ∷ b ∷ c ∷ [])
 three a b c p q r = All-from_recursion IsWord (a ∷ b ∷ c ∷ []) (p, (q, (r, tt)))
-
-four : (a b c d : Word) → IsWord a → IsWord b → IsWord c → IsWord d → All IsWord (a ∷ b ∷ c ∷ d ∷ [])
-four a b c d p q r s = All-from_recursion IsWord (a ∷ b ∷ c ∷ d ∷ []) (p, (q, (r, (s, tt))))
 
 keywords_are : (form : Form) → All IsWord (keywords form)
 keywords_are form.Head = two _ _ (written _ _ refl) (written _ _ refl)
@@ -51,25 +49,36 @@ keywords_are form.End = one _ (written _ _ refl)
 version_is : (v : Version) → IsWord (version_word v)
 version_is version.One = written _ _ refl
 
+names_are : (t : Tables) (line : Line) → IsNamed t line → All IsWord (names_of t line)
+names_are t (line.Bare leg) is = one _ (leg_is t leg is)
+names_are t (line.Trim leg choice) is = two _ _ (leg_is t leg is.0) (fleet_is t choice is.1)
+names_are t (line.Split leg choice) is = two _ _ (leg_is t leg is.0) (fleet_is t choice is.1)
+names_are t (line.Rent fleet rent) is = one _ (fleet_is t fleet is)
+names_are t (line.At fleet station minute value) is = two _ _ (fleet_is t fleet is.0) (station_is t station is.1)
+names_are t (line.Weight leg choice weight) is = two _ _ (leg_is t leg is.0) (fleet_is t choice is.1)
+names_are t other is = All-nil IsWord
+
+figures_are : (line : Line) → All IsWord (figures_of line)
+figures_are (line.Head v) = one _ (version_is v)
+figures_are (line.OpenPivots made) = one _ (number_word made)
+figures_are (line.OpenGrew pivots row column) = three _ _ _ (number_word pivots) (number_word row) (number_word column)
+figures_are (line.OpenLift step at) = two _ _ (number_word step) (number_word at)
+figures_are (line.Scale scale) = one _ (signed_word scale)
+figures_are (line.Rent fleet rent) = one _ (signed_word rent)
+figures_are (line.At fleet station minute value) = two _ _ (number_word minute) (signed_word value)
+figures_are (line.Mixed scale) = one _ (signed_word scale)
+figures_are (line.Weight leg choice weight) = one _ (signed_word weight)
+figures_are other = All-nil IsWord
+
+-- names and then figures, appended
+pub both_pushed : {A E : Type 0} (result : Result A E) (old named text : List ℕ) (names figures : List Word) → named ≡ old ++ spaced_words names → OnOk result (text ≡ named ++ spaced_words figures)
+    → OnOk result (text ≡ old ++ spaced_words (names ++ figures))
+both_pushed (Ok x) old named text names figures first second =
+    second ∙ rw (first, flat_map-append spaced names figures) (append_assoc old (spaced_words names) (spaced_words figures))
+both_pushed (Err e) old named text names figures first second = tt
+
 fields_are : (t : Tables) (line : Line) → IsNamed t line → All IsWord (fields_of t line)
-fields_are t (line.Head v) is = one _ (version_is v)
-fields_are t (line.Plan planned) is = All-nil IsWord
-fields_are t (line.Bare leg) is = one _ (leg_is t leg is)
-fields_are t line.Sole is = All-nil IsWord
-fields_are t line.Refuted is = All-nil IsWord
-fields_are t line.Priced is = All-nil IsWord
-fields_are t line.OpenNodes is = All-nil IsWord
-fields_are t (line.OpenPivots made) is = one _ (number_word made)
-fields_are t (line.OpenGrew pivots row column) is = three _ _ _ (number_word pivots) (number_word row) (number_word column)
-fields_are t (line.OpenLift step at) is = two _ _ (number_word step) (number_word at)
-fields_are t (line.Trim leg choice) is = two _ _ (leg_is t leg is.0) (fleet_is t choice is.1)
-fields_are t (line.Split leg choice) is = two _ _ (leg_is t leg is.0) (fleet_is t choice is.1)
-fields_are t (line.Scale scale) is = one _ (signed_word scale)
-fields_are t (line.Rent fleet rent) is = two _ _ (fleet_is t fleet is) (signed_word rent)
-fields_are t (line.At fleet station minute value) is = four _ _ _ _ (fleet_is t fleet is.0) (station_is t station is.1) (number_word minute) (signed_word value)
-fields_are t (line.Mixed scale) is = one _ (signed_word scale)
-fields_are t (line.Weight leg choice weight) is = three _ _ _ (leg_is t leg is.0) (fleet_is t choice is.1) (signed_word weight)
-fields_are t line.End is = All-nil IsWord
+fields_are t line is = All-append IsWord (names_of t line) (figures_of line) (names_are t line is) (figures_are line)
 
 some_words : (form : Form) (fields : List Word) → 1 ≤ length (keywords form ++ fields)
 some_words form.Head fields = omega arith

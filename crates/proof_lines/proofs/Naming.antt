@@ -8,9 +8,8 @@ use Rattle.fleet_model.specs.Schedule.{fleets_in, legs_in, no_fleet, no_leg, no_
 use Rattle.fleet_model.specs.declared.tables.Tables.{Tables}
 use Rattle.table_rows.specs.Names.{number_of}
 use Rattle.table_rows.proofs.Numbered.{bytes_eq-differ}
-use Rattle.proof_lines.specs.Known.{IsGrammarOf, fleet_in, leg_in, named, station_in}
+use Rattle.proof_lines.specs.Known.{codes_of, fleet_in, fleet_names, flights_of, leg_in, named, names_in, station_in}
 use Rattle.proof_lines.specs.LineText.{fleet_word, leg_word, station_word}
-use Rattle.proof_lines.specs.declared.grammar.Grammar.{Grammar}
 use Rattle.proof_lines.specs.declared.line.Version.{Version}
 use Rattle.proof_lines.proofs.Choosing.{named_some}
 use Rattle.proof_lines.proofs.FigureWords.{bytes_same, same_bytes}
@@ -44,27 +43,21 @@ name_of_number name_of entries d word k is =
     let within : k < length entries = subst (λ n. k < n) (length-map entries name_of) found.0 in
     record { is = same_bytes word (name_of (slice_index_or entries k d)) (ap (bytes_eq word) (sym (get_or-map name_of entries k d [] within)) ∙ found.1); known = within }
 
-module _ (v : Version) (t : Tables) (grammar : Grammar) (of_tables : IsGrammarOf v t grammar) where
-  pub leg_written : (l : ℕ) → l < legs_in t → leg_in grammar (leg_word t l) ≡ Ok l
-  leg_written l is =
-      ap (λ names. named (number_of (leg_word t l) names)) of_tables.legs_are ∙ ap named (named_at (λ leg. leg.flight) t.legs no_leg l t.in_range.legs_fit.differ is)
+module _ (v : Version) (t : Tables) where
+  pub leg_written : (l : ℕ) → l < legs_in t → leg_in (names_in v t) (leg_word t l) ≡ Ok l
+  leg_written l is = ap named (named_at (λ leg. leg.flight) t.legs no_leg l t.in_range.legs_fit.differ is)
 
-  pub fleet_written : (f : ℕ) → f < fleets_in t → fleet_in grammar (fleet_word t f) ≡ Ok f
-  fleet_written f is =
-      ap (λ names. named (number_of (fleet_word t f) names)) of_tables.fleets_are ∙ ap named (named_at (λ fleet. fleet.name) t.fleets no_fleet f t.in_range.fleets_fit.differ is)
+  pub fleet_written : (f : ℕ) → f < fleets_in t → fleet_in (names_in v t) (fleet_word t f) ≡ Ok f
+  fleet_written f is = ap named (named_at (λ fleet. fleet.name) t.fleets no_fleet f t.in_range.fleets_fit.differ is)
 
-  pub station_written : (s : ℕ) → s < stations_in t → station_in grammar (station_word t s) ≡ Ok s
-  station_written s is =
-      ap (λ names. named (number_of (station_word t s) names)) of_tables.stations_are ∙ ap named (named_at (λ station. station.code) t.stations no_station s t.in_range.stations_fit.differ is)
+  pub station_written : (s : ℕ) → s < stations_in t → station_in (names_in v t) (station_word t s) ≡ Ok s
+  station_written s is = ap named (named_at (λ station. station.code) t.stations no_station s t.in_range.stations_fit.differ is)
 
-  pub leg_read : (word : List ℕ) (l : ℕ) → leg_in grammar word ≡ Ok l → NameOf word (leg_word t l) l (legs_in t)
-  leg_read word l is =
-      name_of_number (λ leg. leg.flight) t.legs no_leg word l (ap (λ names. number_of word names) (sym of_tables.legs_are) ∙ named_some (number_of word grammar.legs) l is)
+  pub leg_read : (word : List ℕ) (l : ℕ) → leg_in (names_in v t) word ≡ Ok l → NameOf word (leg_word t l) l (legs_in t)
+  leg_read word l is = name_of_number (λ leg. leg.flight) t.legs no_leg word l (named_some (number_of word (flights_of t)) l is)
 
-  pub fleet_read : (word : List ℕ) (f : ℕ) → fleet_in grammar word ≡ Ok f → NameOf word (fleet_word t f) f (fleets_in t)
-  fleet_read word f is =
-      name_of_number (λ fleet. fleet.name) t.fleets no_fleet word f (ap (λ names. number_of word names) (sym of_tables.fleets_are) ∙ named_some (number_of word grammar.fleets) f is)
+  pub fleet_read : (word : List ℕ) (f : ℕ) → fleet_in (names_in v t) word ≡ Ok f → NameOf word (fleet_word t f) f (fleets_in t)
+  fleet_read word f is = name_of_number (λ fleet. fleet.name) t.fleets no_fleet word f (named_some (number_of word (fleet_names t)) f is)
 
-  pub station_read : (word : List ℕ) (s : ℕ) → station_in grammar word ≡ Ok s → NameOf word (station_word t s) s (stations_in t)
-  station_read word s is =
-      name_of_number (λ station. station.code) t.stations no_station word s (ap (λ names. number_of word names) (sym of_tables.stations_are) ∙ named_some (number_of word grammar.stations) s is)
+  pub station_read : (word : List ℕ) (s : ℕ) → station_in (names_in v t) word ≡ Ok s → NameOf word (station_word t s) s (stations_in t)
+  station_read word s is = name_of_number (λ station. station.code) t.stations no_station word s (named_some (number_of word (codes_of t)) s is)

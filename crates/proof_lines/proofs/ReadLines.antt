@@ -7,7 +7,7 @@ use Rattle.fleet_model.specs.Use.{last_minute}
 use Rattle.fleet_model.specs.declared.tables.Tables.{Tables}
 use Rattle.proof_lines.specs.Figures.{count_in, minute_in, natural_in, number_in, signed_in, version_in, version_word}
 use Rattle.proof_lines.specs.Forms.{all_forms, first_form, form_in, keywords, opens, width}
-use Rattle.proof_lines.specs.Known.{IsGrammarOf, choice_in, fleet_in, leg_in, station_in}
+use Rattle.proof_lines.specs.Known.{names_in, choice_in, fleet_in, leg_in, station_in}
 use Rattle.proof_lines.specs.Laws.{AreBytesOf, IsLineOf}
 use Rattle.proof_lines.specs.LineText.{IsCount, line_words}
 use Rattle.proof_lines.specs.Reading.{both, fields_in, line_in, of_form}
@@ -15,7 +15,6 @@ use Rattle.proof_lines.specs.Words.{Word, is_plain, is_word, joined, parts_of, s
 use Rattle.proof_lines.specs.declared.flaws.Flaw.TheVariants as flaw
 use Rattle.proof_lines.specs.declared.forms.Form.{Form}
 use Rattle.proof_lines.specs.declared.forms.Form.TheVariants as form
-use Rattle.proof_lines.specs.declared.grammar.Grammar.{Grammar}
 use Rattle.proof_lines.specs.declared.line.Line.{Line}
 use Rattle.proof_lines.specs.declared.line.Line.TheVariants as line
 use Rattle.proof_lines.specs.declared.line.Version.{Version}
@@ -76,8 +75,8 @@ pub record AreWordsOf (t : Tables) (words : List Word) (line : Line) : Type 0 wh
   pub is : words ≡ line_words t line
   pub of_tables : IsLineOf t line
 
-module _ (v : Version) (t : Tables) (grammar : Grammar) (of_tables : IsGrammarOf v t grammar) (words : List Word) (it : Line) where
-  head_was : opens words form.Head ≡ true → length words ≡ 3 → fields_in grammar form.Head words ≡ Ok it → AreWordsOf t words it
+module _ (v : Version) (t : Tables) (words : List Word) (it : Line) where
+  head_was : opens words form.Head ≡ true → length words ≡ 3 → fields_in (names_in v t) form.Head words ≡ Ok it → AreWordsOf t words it
   unfolding fields_in
   head_was told many e =
       let made = made_by _ (version_in (word_at words 2)) it e in
@@ -87,57 +86,57 @@ module _ (v : Version) (t : Tables) (grammar : Grammar) (of_tables : IsGrammarOf
         of_tables = record { named = tt; figures = tt };
       })
 
-  plan_yes_was : opens words form.PlanYes ≡ true → length words ≡ 2 → fields_in grammar form.PlanYes words ≡ Ok it → AreWordsOf t words it
+  plan_yes_was : opens words form.PlanYes ≡ true → length words ≡ 2 → fields_in (names_in v t) form.PlanYes words ≡ Ok it → AreWordsOf t words it
   unfolding fields_in
   plan_yes_was told many e =
       let same : line.Plan true ≡ it = cc e in
       subst (AreWordsOf t words) same (record { is = two_words words many ∙ (λ i. first_is words form.PlanYes told i ∷ second_is words form.PlanYes refl told i ∷ []); of_tables = record { named = tt; figures = tt } })
 
-  plan_no_was : opens words form.PlanNo ≡ true → length words ≡ 2 → fields_in grammar form.PlanNo words ≡ Ok it → AreWordsOf t words it
+  plan_no_was : opens words form.PlanNo ≡ true → length words ≡ 2 → fields_in (names_in v t) form.PlanNo words ≡ Ok it → AreWordsOf t words it
   unfolding fields_in
   plan_no_was told many e =
       let same : line.Plan false ≡ it = cc e in
       subst (AreWordsOf t words) same (record { is = two_words words many ∙ (λ i. first_is words form.PlanNo told i ∷ second_is words form.PlanNo refl told i ∷ []); of_tables = record { named = tt; figures = tt } })
 
-  bare_was : opens words form.Bare ≡ true → length words ≡ 2 → fields_in grammar form.Bare words ≡ Ok it → AreWordsOf t words it
+  bare_was : opens words form.Bare ≡ true → length words ≡ 2 → fields_in (names_in v t) form.Bare words ≡ Ok it → AreWordsOf t words it
   unfolding fields_in
   bare_was told many e =
-      let made = made_by _ (leg_in grammar (word_at words 1)) it e in
-      let leg = leg_read v t grammar of_tables (word_at words 1) made.value made.is in
+      let made = made_by _ (leg_in (names_in v t) (word_at words 1)) it e in
+      let leg = leg_read v t (word_at words 1) made.value made.is in
       subst (AreWordsOf t words) made.line_is (record { is = two_words words many ∙ (λ i. first_is words form.Bare told i ∷ leg.is i ∷ []); of_tables = record { named = leg.known; figures = tt } })
 
-  sole_was : opens words form.Sole ≡ true → length words ≡ 1 → fields_in grammar form.Sole words ≡ Ok it → AreWordsOf t words it
+  sole_was : opens words form.Sole ≡ true → length words ≡ 1 → fields_in (names_in v t) form.Sole words ≡ Ok it → AreWordsOf t words it
   unfolding fields_in
   sole_was told many e =
       let same : line.Sole ≡ it = cc e in
       subst (AreWordsOf t words) same (record { is = one_word words many ∙ (λ i. first_is words form.Sole told i ∷ []); of_tables = record { named = tt; figures = tt } })
 
-  refuted_was : opens words form.Refuted ≡ true → length words ≡ 1 → fields_in grammar form.Refuted words ≡ Ok it → AreWordsOf t words it
+  refuted_was : opens words form.Refuted ≡ true → length words ≡ 1 → fields_in (names_in v t) form.Refuted words ≡ Ok it → AreWordsOf t words it
   unfolding fields_in
   refuted_was told many e =
       let same : line.Refuted ≡ it = cc e in
       subst (AreWordsOf t words) same (record { is = one_word words many ∙ (λ i. first_is words form.Refuted told i ∷ []); of_tables = record { named = tt; figures = tt } })
 
-  priced_was : opens words form.Priced ≡ true → length words ≡ 1 → fields_in grammar form.Priced words ≡ Ok it → AreWordsOf t words it
+  priced_was : opens words form.Priced ≡ true → length words ≡ 1 → fields_in (names_in v t) form.Priced words ≡ Ok it → AreWordsOf t words it
   unfolding fields_in
   priced_was told many e =
       let same : line.Priced ≡ it = cc e in
       subst (AreWordsOf t words) same (record { is = one_word words many ∙ (λ i. first_is words form.Priced told i ∷ []); of_tables = record { named = tt; figures = tt } })
 
-  nodes_was : opens words form.OpenNodes ≡ true → length words ≡ 2 → fields_in grammar form.OpenNodes words ≡ Ok it → AreWordsOf t words it
+  nodes_was : opens words form.OpenNodes ≡ true → length words ≡ 2 → fields_in (names_in v t) form.OpenNodes words ≡ Ok it → AreWordsOf t words it
   unfolding fields_in
   nodes_was told many e =
       let same : line.OpenNodes ≡ it = cc e in
       subst (AreWordsOf t words) same (record { is = two_words words many ∙ (λ i. first_is words form.OpenNodes told i ∷ second_is words form.OpenNodes refl told i ∷ []); of_tables = record { named = tt; figures = tt } })
 
-  pivots_was : opens words form.OpenPivots ≡ true → length words ≡ 3 → fields_in grammar form.OpenPivots words ≡ Ok it → AreWordsOf t words it
+  pivots_was : opens words form.OpenPivots ≡ true → length words ≡ 3 → fields_in (names_in v t) form.OpenPivots words ≡ Ok it → AreWordsOf t words it
   unfolding fields_in
   pivots_was told many e =
       let made = made_by _ (count_in (word_at words 2)) it e in
       let count = count_was (word_at words 2) made.value made.is in
       subst (AreWordsOf t words) made.line_is (record { is = three_words words many ∙ (λ i. first_is words form.OpenPivots told i ∷ second_is words form.OpenPivots refl told i ∷ count.word_is i ∷ []); of_tables = record { named = tt; figures = count.count } })
 
-  grew_was : opens words form.OpenGrew ≡ true → length words ≡ 5 → fields_in grammar form.OpenGrew words ≡ Ok it → AreWordsOf t words it
+  grew_was : opens words form.OpenGrew ≡ true → length words ≡ 5 → fields_in (names_in v t) form.OpenGrew words ≡ Ok it → AreWordsOf t words it
   unfolding fields_in
   grew_was told many e =
       let made = made_by _ (both (both (count_in (word_at words 2)) (count_in (word_at words 3))) (count_in (word_at words 4))) it e in
@@ -148,7 +147,7 @@ module _ (v : Version) (t : Tables) (grammar : Grammar) (of_tables : IsGrammarOf
       let column = count_was (word_at words 4) made.value.1 read.second in
       subst (AreWordsOf t words) made.line_is (record { is = five_words words many ∙ (λ i. first_is words form.OpenGrew told i ∷ second_is words form.OpenGrew refl told i ∷ pivots.word_is i ∷ row.word_is i ∷ column.word_is i ∷ []); of_tables = record { named = tt; figures = (pivots.count, row.count, column.count) } })
 
-  lift_was : opens words form.OpenLift ≡ true → length words ≡ 4 → fields_in grammar form.OpenLift words ≡ Ok it → AreWordsOf t words it
+  lift_was : opens words form.OpenLift ≡ true → length words ≡ 4 → fields_in (names_in v t) form.OpenLift words ≡ Ok it → AreWordsOf t words it
   unfolding fields_in
   lift_was told many e =
       let made = made_by _ (both (count_in (word_at words 2)) (count_in (word_at words 3))) it e in
@@ -157,78 +156,78 @@ module _ (v : Version) (t : Tables) (grammar : Grammar) (of_tables : IsGrammarOf
       let at = count_was (word_at words 3) made.value.1 counts.second in
       subst (AreWordsOf t words) made.line_is (record { is = four_words words many ∙ (λ i. first_is words form.OpenLift told i ∷ second_is words form.OpenLift refl told i ∷ step.word_is i ∷ at.word_is i ∷ []); of_tables = record { named = tt; figures = (step.count, at.count) } })
 
-  trim_was : opens words form.Trim ≡ true → length words ≡ 3 → fields_in grammar form.Trim words ≡ Ok it → AreWordsOf t words it
+  trim_was : opens words form.Trim ≡ true → length words ≡ 3 → fields_in (names_in v t) form.Trim words ≡ Ok it → AreWordsOf t words it
   unfolding fields_in
   trim_was told many e =
-      let made = made_by _ (both (leg_in grammar (word_at words 1)) (choice_in grammar (word_at words 2))) it e in
-      let pair = both_read (leg_in grammar (word_at words 1)) (choice_in grammar (word_at words 2)) made.value made.is in
-      let leg = leg_read v t grammar of_tables (word_at words 1) made.value.0 pair.first in
-      let choice = fleet_read v t grammar of_tables (word_at words 2) made.value.1 pair.second in
+      let made = made_by _ (both (leg_in (names_in v t) (word_at words 1)) (choice_in (names_in v t) (word_at words 2))) it e in
+      let pair = both_read (leg_in (names_in v t) (word_at words 1)) (choice_in (names_in v t) (word_at words 2)) made.value made.is in
+      let leg = leg_read v t (word_at words 1) made.value.0 pair.first in
+      let choice = fleet_read v t (word_at words 2) made.value.1 pair.second in
       subst (AreWordsOf t words) made.line_is (record { is = three_words words many ∙ (λ i. first_is words form.Trim told i ∷ leg.is i ∷ choice.is i ∷ []); of_tables = record { named = (leg.known, choice.known); figures = tt } })
 
-  split_was : opens words form.Split ≡ true → length words ≡ 3 → fields_in grammar form.Split words ≡ Ok it → AreWordsOf t words it
+  split_was : opens words form.Split ≡ true → length words ≡ 3 → fields_in (names_in v t) form.Split words ≡ Ok it → AreWordsOf t words it
   unfolding fields_in
   split_was told many e =
-      let made = made_by _ (both (leg_in grammar (word_at words 1)) (choice_in grammar (word_at words 2))) it e in
-      let pair = both_read (leg_in grammar (word_at words 1)) (choice_in grammar (word_at words 2)) made.value made.is in
-      let leg = leg_read v t grammar of_tables (word_at words 1) made.value.0 pair.first in
-      let choice = fleet_read v t grammar of_tables (word_at words 2) made.value.1 pair.second in
+      let made = made_by _ (both (leg_in (names_in v t) (word_at words 1)) (choice_in (names_in v t) (word_at words 2))) it e in
+      let pair = both_read (leg_in (names_in v t) (word_at words 1)) (choice_in (names_in v t) (word_at words 2)) made.value made.is in
+      let leg = leg_read v t (word_at words 1) made.value.0 pair.first in
+      let choice = fleet_read v t (word_at words 2) made.value.1 pair.second in
       subst (AreWordsOf t words) made.line_is (record { is = three_words words many ∙ (λ i. first_is words form.Split told i ∷ leg.is i ∷ choice.is i ∷ []); of_tables = record { named = (leg.known, choice.known); figures = tt } })
 
-  scale_was : opens words form.Scale ≡ true → length words ≡ 2 → fields_in grammar form.Scale words ≡ Ok it → AreWordsOf t words it
+  scale_was : opens words form.Scale ≡ true → length words ≡ 2 → fields_in (names_in v t) form.Scale words ≡ Ok it → AreWordsOf t words it
   unfolding fields_in
   scale_was told many e =
       let made = made_by _ (number_in (word_at words 1)) it e in
       let number = number_was (word_at words 1) made.value made.is in
       subst (AreWordsOf t words) made.line_is (record { is = two_words words many ∙ (λ i. first_is words form.Scale told i ∷ number.word_is i ∷ []); of_tables = record { named = tt; figures = number.figure } })
 
-  mixed_was : opens words form.Mixed ≡ true → length words ≡ 2 → fields_in grammar form.Mixed words ≡ Ok it → AreWordsOf t words it
+  mixed_was : opens words form.Mixed ≡ true → length words ≡ 2 → fields_in (names_in v t) form.Mixed words ≡ Ok it → AreWordsOf t words it
   unfolding fields_in
   mixed_was told many e =
       let made = made_by _ (number_in (word_at words 1)) it e in
       let number = number_was (word_at words 1) made.value made.is in
       subst (AreWordsOf t words) made.line_is (record { is = two_words words many ∙ (λ i. first_is words form.Mixed told i ∷ number.word_is i ∷ []); of_tables = record { named = tt; figures = number.figure } })
 
-  rent_was : opens words form.Rent ≡ true → length words ≡ 3 → fields_in grammar form.Rent words ≡ Ok it → AreWordsOf t words it
+  rent_was : opens words form.Rent ≡ true → length words ≡ 3 → fields_in (names_in v t) form.Rent words ≡ Ok it → AreWordsOf t words it
   unfolding fields_in
   rent_was told many e =
-      let made = made_by _ (both (fleet_in grammar (word_at words 1)) (number_in (word_at words 2))) it e in
-      let entry = both_read (fleet_in grammar (word_at words 1)) (number_in (word_at words 2)) made.value made.is in
-      let fleet = fleet_read v t grammar of_tables (word_at words 1) made.value.0 entry.first in
+      let made = made_by _ (both (fleet_in (names_in v t) (word_at words 1)) (number_in (word_at words 2))) it e in
+      let entry = both_read (fleet_in (names_in v t) (word_at words 1)) (number_in (word_at words 2)) made.value made.is in
+      let fleet = fleet_read v t (word_at words 1) made.value.0 entry.first in
       let rent = number_was (word_at words 2) made.value.1 entry.second in
       subst (AreWordsOf t words) made.line_is (record { is = three_words words many ∙ (λ i. first_is words form.Rent told i ∷ fleet.is i ∷ rent.word_is i ∷ []); of_tables = record { named = fleet.known; figures = rent.figure } })
 
-  at_was : opens words form.At ≡ true → length words ≡ 5 → fields_in grammar form.At words ≡ Ok it → AreWordsOf t words it
+  at_was : opens words form.At ≡ true → length words ≡ 5 → fields_in (names_in v t) form.At words ≡ Ok it → AreWordsOf t words it
   unfolding fields_in
   at_was told many e =
-      let made = made_by _ (both (both (fleet_in grammar (word_at words 1)) (station_in grammar (word_at words 2))) (both (minute_in (word_at words 3)) (number_in (word_at words 4)))) it e in
-      let read = both_read (both (fleet_in grammar (word_at words 1)) (station_in grammar (word_at words 2))) (both (minute_in (word_at words 3)) (number_in (word_at words 4))) made.value made.is in
-      let place = both_read (fleet_in grammar (word_at words 1)) (station_in grammar (word_at words 2)) made.value.0 read.first in
+      let made = made_by _ (both (both (fleet_in (names_in v t) (word_at words 1)) (station_in (names_in v t) (word_at words 2))) (both (minute_in (word_at words 3)) (number_in (word_at words 4)))) it e in
+      let read = both_read (both (fleet_in (names_in v t) (word_at words 1)) (station_in (names_in v t) (word_at words 2))) (both (minute_in (word_at words 3)) (number_in (word_at words 4))) made.value made.is in
+      let place = both_read (fleet_in (names_in v t) (word_at words 1)) (station_in (names_in v t) (word_at words 2)) made.value.0 read.first in
       let figures = both_read (minute_in (word_at words 3)) (number_in (word_at words 4)) made.value.1 read.second in
-      let fleet = fleet_read v t grammar of_tables (word_at words 1) made.value.0.0 place.first in
-      let station = station_read v t grammar of_tables (word_at words 2) made.value.0.1 place.second in
+      let fleet = fleet_read v t (word_at words 1) made.value.0.0 place.first in
+      let station = station_read v t (word_at words 2) made.value.0.1 place.second in
       let minute = minute_was (word_at words 3) made.value.1.0 figures.first in
       let number = number_was (word_at words 4) made.value.1.1 figures.second in
       subst (AreWordsOf t words) made.line_is (record { is = five_words words many ∙ (λ i. first_is words form.At told i ∷ fleet.is i ∷ station.is i ∷ minute.word_is i ∷ number.word_is i ∷ []); of_tables = record { named = (fleet.known, station.known); figures = (minute.within, number.figure) } })
 
-  weight_was : opens words form.Weight ≡ true → length words ≡ 4 → fields_in grammar form.Weight words ≡ Ok it → AreWordsOf t words it
+  weight_was : opens words form.Weight ≡ true → length words ≡ 4 → fields_in (names_in v t) form.Weight words ≡ Ok it → AreWordsOf t words it
   unfolding fields_in
   weight_was told many e =
-      let made = made_by _ (both (both (leg_in grammar (word_at words 1)) (choice_in grammar (word_at words 2))) (number_in (word_at words 3))) it e in
-      let read = both_read (both (leg_in grammar (word_at words 1)) (choice_in grammar (word_at words 2))) (number_in (word_at words 3)) made.value made.is in
-      let pair = both_read (leg_in grammar (word_at words 1)) (choice_in grammar (word_at words 2)) made.value.0 read.first in
-      let leg = leg_read v t grammar of_tables (word_at words 1) made.value.0.0 pair.first in
-      let choice = fleet_read v t grammar of_tables (word_at words 2) made.value.0.1 pair.second in
+      let made = made_by _ (both (both (leg_in (names_in v t) (word_at words 1)) (choice_in (names_in v t) (word_at words 2))) (number_in (word_at words 3))) it e in
+      let read = both_read (both (leg_in (names_in v t) (word_at words 1)) (choice_in (names_in v t) (word_at words 2))) (number_in (word_at words 3)) made.value made.is in
+      let pair = both_read (leg_in (names_in v t) (word_at words 1)) (choice_in (names_in v t) (word_at words 2)) made.value.0 read.first in
+      let leg = leg_read v t (word_at words 1) made.value.0.0 pair.first in
+      let choice = fleet_read v t (word_at words 2) made.value.0.1 pair.second in
       let number = number_was (word_at words 3) made.value.1 read.second in
       subst (AreWordsOf t words) made.line_is (record { is = four_words words many ∙ (λ i. first_is words form.Weight told i ∷ leg.is i ∷ choice.is i ∷ number.word_is i ∷ []); of_tables = record { named = (leg.known, choice.known); figures = number.figure } })
 
-  end_was : opens words form.End ≡ true → length words ≡ 1 → fields_in grammar form.End words ≡ Ok it → AreWordsOf t words it
+  end_was : opens words form.End ≡ true → length words ≡ 1 → fields_in (names_in v t) form.End words ≡ Ok it → AreWordsOf t words it
   unfolding fields_in
   end_was told many e =
       let same : line.End ≡ it = cc e in
       subst (AreWordsOf t words) same (record { is = one_word words many ∙ (λ i. first_is words form.End told i ∷ []); of_tables = record { named = tt; figures = tt } })
 
-  words_were : (form : Form) → opens words form ≡ true → length words ≡ width form → fields_in grammar form words ≡ Ok it → AreWordsOf t words it
+  words_were : (form : Form) → opens words form ≡ true → length words ≡ width form → fields_in (names_in v t) form words ≡ Ok it → AreWordsOf t words it
   words_were form.Head = head_was
   words_were form.PlanYes = plan_yes_was
   words_were form.PlanNo = plan_no_was
@@ -249,9 +248,9 @@ module _ (v : Version) (t : Tables) (grammar : Grammar) (of_tables : IsGrammarOf
   words_were form.Weight = weight_was
   words_were form.End = end_was
 
-pub written_as_read : (v : Version) (t : Tables) (grammar : Grammar) (bytes : List ℕ) (line : Line) → IsGrammarOf v t grammar → line_in grammar bytes ≡ Ok line → AreBytesOf t bytes line
+pub written_as_read : (v : Version) (t : Tables) (bytes : List ℕ) (line : Line) → line_in (names_in v t) bytes ≡ Ok line → AreBytesOf t bytes line
 unfolding line_in
-written_as_read v t grammar bytes line of_tables e = by_form (form_in words) refl (chose (is_plain bytes) _ flaw.Byte line e).is
+written_as_read v t bytes line e = by_form (form_in words) refl (chose (is_plain bytes) _ flaw.Byte line e).is
   where
     words : List Word
     words = words_of bytes
@@ -259,11 +258,11 @@ written_as_read v t grammar bytes line of_tables e = by_form (form_in words) ref
     parts : ℕ
     parts = length (parts_of bytes)
 
-    by_form : (o : Option Form) → form_in words ≡ o → of_form grammar parts words o ≡ Ok line → AreBytesOf t bytes line
+    by_form : (o : Option Form) → form_in words ≡ o → of_form (names_in v t) parts words o ≡ Ok line → AreBytesOf t bytes line
     by_form None told e = absurd (cc e)
     by_form (Some form) told e =
         let wide = chose ((length words == parts) && (length words == width form)) _ flaw.Width line e in
         let spaced = first_true (length words == parts) (length words == width form) wide.test in
         let many : length words ≡ width form = grind (arith, nat_tests, second_true (length words == parts) (length words == width form) wide.test) in
-        let were = words_were v t grammar of_tables words line form (found words all_forms form told) many wide.is in
+        let were = words_were v t words line form (found words all_forms form told) many wide.is in
         record { is = line_back bytes spaced ∙ ap joined were.is; of_tables = were.of_tables }

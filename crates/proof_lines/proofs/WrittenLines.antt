@@ -8,13 +8,12 @@ use Rattle.fleet_model.specs.declared.tables.Tables.{Tables}
 use Rattle.dual_bound.specs.WrittenOrder.{IsFigure}
 use Rattle.proof_lines.specs.Figures.{count_in, figure, minute_in, number_in, version_in, version_word}
 use Rattle.proof_lines.specs.Forms.{form_in, form_of, width}
-use Rattle.proof_lines.specs.Known.{IsGrammarOf}
+use Rattle.proof_lines.specs.Known.{Naming, names_in}
 use Rattle.proof_lines.specs.Laws.{IsLineOf}
 use Rattle.proof_lines.specs.LineText.{HasFigures, IsCount, IsNamed, line_bytes, line_words}
 use Rattle.proof_lines.specs.Reading.{fields_in, line_in, made, of_form}
 use Rattle.proof_lines.specs.Words.{IsOfWords, Word, is_plain, joined, words_of}
 use Rattle.proof_lines.specs.declared.forms.Form.{Form}
-use Rattle.proof_lines.specs.declared.grammar.Grammar.{Grammar}
 use Rattle.proof_lines.specs.declared.line.Line.{Line}
 use Rattle.proof_lines.specs.declared.line.Line.TheVariants as line
 use Rattle.proof_lines.specs.declared.line.Version.{Version}
@@ -26,13 +25,13 @@ use Rattle.proof_lines.proofs.Spaces.{joined_plain, parts_back, plain_all, words
 use Rattle.proof_lines.proofs.WrittenNumbers.{natural_written, number_written}
 
 -- words of a form read by what is behind its first words
-words_read : (grammar : Grammar) (words : List Word) (form : Form) → IsOfWords words → form_in words ≡ Some form → length words ≡ width form → line_in grammar (joined words) ≡ fields_in grammar form words
+words_read : (n : Naming) (words : List Word) (form : Form) → IsOfWords words → form_in words ≡ Some form → length words ≡ width form → line_in n (joined words) ≡ fields_in n form words
 unfolding line_in
-words_read grammar words form is told many =
+words_read n words form is told many =
     chosen (is_plain (joined words)) _ _ (plain_all (joined words) (joined_plain words is.words))
-    ∙ ap (λ parts. of_form grammar (length parts) (words_of (joined words)) (form_in (words_of (joined words)))) (parts_back words is)
-    ∙ ap (λ read. of_form grammar (length words) read (form_in read)) (words_back words is)
-    ∙ ap (λ form. of_form grammar (length words) words form) told
+    ∙ ap (λ parts. of_form n (length parts) (words_of (joined words)) (form_in (words_of (joined words)))) (parts_back words is)
+    ∙ ap (λ read. of_form n (length words) read (form_in read)) (words_back words is)
+    ∙ ap (λ form. of_form n (length words) words form) told
     ∙ chosen ((length words == length words) && (length words == width form)) _ _
     (both_true (length words == length words) (length words == width form) (grind (arith, nat_tests)) (grind (arith, nat_tests, many)))
 
@@ -50,13 +49,13 @@ minute_is n is = ap figure (natural_written last_minute n (omega arith) is)
 version_is : (v : Version) → version_in (version_word v) ≡ Ok v
 version_is version.One = refl
 
-module _ (v : Version) (t : Tables) (grammar : Grammar) (of_tables : IsGrammarOf v t grammar) where
-  fields_read : (line : Line) → IsNamed t line → HasFigures line → fields_in grammar (form_of line) (line_words t line) ≡ Ok line
+module _ (v : Version) (t : Tables) where
+  fields_read : (line : Line) → IsNamed t line → HasFigures line → fields_in (names_in v t) (form_of line) (line_words t line) ≡ Ok line
   unfolding fields_in
   fields_read (line.Head version) is has = ap (λ r. made (λ version. line.Head version) r) (version_is version)
   fields_read (line.Plan true) is has = refl
   fields_read (line.Plan false) is has = refl
-  fields_read (line.Bare leg) is has = rw (leg_written v t grammar of_tables leg is) refl
+  fields_read (line.Bare leg) is has = rw (leg_written v t leg is) refl
   fields_read line.Sole is has = refl
   fields_read line.Refuted is has = refl
   fields_read line.Priced is has = refl
@@ -64,18 +63,18 @@ module _ (v : Version) (t : Tables) (grammar : Grammar) (of_tables : IsGrammarOf
   fields_read (line.OpenPivots made) is has = rw (count_is made has) refl
   fields_read (line.OpenGrew pivots row column) is has = rw (count_is pivots has.0, count_is row has.1, count_is column has.2) refl
   fields_read (line.OpenLift step at) is has = rw (count_is step has.0, count_is at has.1) refl
-  fields_read (line.Trim leg choice) is has = rw (leg_written v t grammar of_tables leg is.0, fleet_written v t grammar of_tables choice is.1) refl
-  fields_read (line.Split leg choice) is has = rw (leg_written v t grammar of_tables leg is.0, fleet_written v t grammar of_tables choice is.1) refl
+  fields_read (line.Trim leg choice) is has = rw (leg_written v t leg is.0, fleet_written v t choice is.1) refl
+  fields_read (line.Split leg choice) is has = rw (leg_written v t leg is.0, fleet_written v t choice is.1) refl
   fields_read (line.Scale scale) is has = rw (number_is scale has) refl
-  fields_read (line.Rent fleet rent) is has = rw (fleet_written v t grammar of_tables fleet is, number_is rent has) refl
+  fields_read (line.Rent fleet rent) is has = rw (fleet_written v t fleet is, number_is rent has) refl
   fields_read (line.At fleet station minute value) is has =
-      rw (fleet_written v t grammar of_tables fleet is.0, station_written v t grammar of_tables station is.1, minute_is minute has.0, number_is value has.1) refl
+      rw (fleet_written v t fleet is.0, station_written v t station is.1, minute_is minute has.0, number_is value has.1) refl
   fields_read (line.Mixed scale) is has = rw (number_is scale has) refl
   fields_read (line.Weight leg choice weight) is has =
-      rw (leg_written v t grammar of_tables leg is.0, fleet_written v t grammar of_tables choice is.1, number_is weight has) refl
+      rw (leg_written v t leg is.0, fleet_written v t choice is.1, number_is weight has) refl
   fields_read line.End is has = refl
 
-pub reads_as_written : (v : Version) (t : Tables) (grammar : Grammar) (line : Line) → IsGrammarOf v t grammar → IsLineOf t line → line_in grammar (line_bytes t line) ≡ Ok line
-reads_as_written v t grammar line of_tables is =
-    words_read grammar (line_words t line) (form_of line) (of_words t line is.named) (form_told t line) (as_many t line)
-    ∙ fields_read v t grammar of_tables line is.named is.figures
+pub reads_as_written : (v : Version) (t : Tables) (line : Line) → IsLineOf t line → line_in (names_in v t) (line_bytes t line) ≡ Ok line
+reads_as_written v t line is =
+    words_read (names_in v t) (line_words t line) (form_of line) (of_words t line is.named) (form_told t line) (as_many t line)
+    ∙ fields_read v t line is.named is.figures

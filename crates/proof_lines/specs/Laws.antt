@@ -1,11 +1,10 @@
 -- The laws of lines.
 use Rattle.std.specs.Prelude.{◌≡◌, ℕ, List, Ok}
 use Rattle.fleet_model.specs.declared.tables.Tables.{Tables}
-use Rattle.proof_lines.specs.Known.{IsGrammarOf}
+use Rattle.proof_lines.specs.Known.{names_in}
 use Rattle.proof_lines.specs.LineText.{HasFigures, IsNamed, line_bytes, line_words}
 use Rattle.proof_lines.specs.Reading.{line_in}
 use Rattle.proof_lines.specs.Words.{IsOfWords}
-use Rattle.proof_lines.specs.declared.grammar.Grammar.{Grammar}
 use Rattle.proof_lines.specs.declared.line.Line.{Line}
 use Rattle.proof_lines.specs.declared.line.Version.{Version}
 
@@ -21,11 +20,11 @@ pub record AreBytesOf (t : Tables) (bytes : List ℕ) (line : Line) : Type 0 whe
 
 -- what is written reads as itself
 abbrev pub ReadsAsWritten : Type 0
-ReadsAsWritten = (v : Version) (t : Tables) (grammar : Grammar) (line : Line) → IsGrammarOf v t grammar → IsLineOf t line → line_in grammar (line_bytes t line) ≡ Ok line
+ReadsAsWritten = (v : Version) (t : Tables) (line : Line) → IsLineOf t line → line_in (names_in v t) (line_bytes t line) ≡ Ok line
 
 -- what reads as a line is what that line is written as
 abbrev pub WrittenAsRead : Type 0
-WrittenAsRead = (v : Version) (t : Tables) (grammar : Grammar) (bytes : List ℕ) (line : Line) → IsGrammarOf v t grammar → line_in grammar bytes ≡ Ok line → AreBytesOf t bytes line
+WrittenAsRead = (v : Version) (t : Tables) (bytes : List ℕ) (line : Line) → line_in (names_in v t) bytes ≡ Ok line → AreBytesOf t bytes line
 
 -- no two lines have one text
 abbrev pub OneText : Type 0

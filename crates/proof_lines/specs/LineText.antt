@@ -24,26 +24,30 @@ choice_word t choice = fleet_word t choice
 abbrev pub station_word : Tables → ℕ → Word
 station_word t station = (station_of t station).code
 
--- the words behind those with which a line begins
+-- the words behind those with which a line begins: what it names, and then its figures
+abbrev pub names_of : Tables → Line → List Word
+names_of t (line.Bare leg) = leg_word t leg ∷ []
+names_of t (line.Trim leg choice) = leg_word t leg ∷ choice_word t choice ∷ []
+names_of t (line.Split leg choice) = leg_word t leg ∷ choice_word t choice ∷ []
+names_of t (line.Rent fleet rent) = fleet_word t fleet ∷ []
+names_of t (line.At fleet station minute value) = fleet_word t fleet ∷ station_word t station ∷ []
+names_of t (line.Weight leg choice weight) = leg_word t leg ∷ choice_word t choice ∷ []
+names_of t other = []
+
+abbrev pub figures_of : Line → List Word
+figures_of (line.Head version) = version_word version ∷ []
+figures_of (line.OpenPivots made) = decimal made ∷ []
+figures_of (line.OpenGrew pivots row column) = decimal pivots ∷ decimal row ∷ decimal column ∷ []
+figures_of (line.OpenLift step at) = decimal step ∷ decimal at ∷ []
+figures_of (line.Scale scale) = signed_decimal scale ∷ []
+figures_of (line.Rent fleet rent) = signed_decimal rent ∷ []
+figures_of (line.At fleet station minute value) = decimal minute ∷ signed_decimal value ∷ []
+figures_of (line.Mixed scale) = signed_decimal scale ∷ []
+figures_of (line.Weight leg choice weight) = signed_decimal weight ∷ []
+figures_of other = []
+
 abbrev pub fields_of : Tables → Line → List Word
-fields_of t (line.Head version) = version_word version ∷ []
-fields_of t (line.Plan planned) = []
-fields_of t (line.Bare leg) = leg_word t leg ∷ []
-fields_of t line.Sole = []
-fields_of t line.Refuted = []
-fields_of t line.Priced = []
-fields_of t line.OpenNodes = []
-fields_of t (line.OpenPivots made) = decimal made ∷ []
-fields_of t (line.OpenGrew pivots row column) = decimal pivots ∷ decimal row ∷ decimal column ∷ []
-fields_of t (line.OpenLift step at) = decimal step ∷ decimal at ∷ []
-fields_of t (line.Trim leg choice) = leg_word t leg ∷ choice_word t choice ∷ []
-fields_of t (line.Split leg choice) = leg_word t leg ∷ choice_word t choice ∷ []
-fields_of t (line.Scale scale) = signed_decimal scale ∷ []
-fields_of t (line.Rent fleet rent) = fleet_word t fleet ∷ signed_decimal rent ∷ []
-fields_of t (line.At fleet station minute value) = fleet_word t fleet ∷ station_word t station ∷ decimal minute ∷ signed_decimal value ∷ []
-fields_of t (line.Mixed scale) = signed_decimal scale ∷ []
-fields_of t (line.Weight leg choice weight) = leg_word t leg ∷ choice_word t choice ∷ signed_decimal weight ∷ []
-fields_of t line.End = []
+fields_of t line = names_of t line ++ figures_of line
 
 -- the words of a line
 abbrev pub line_words : Tables → Line → List Word
@@ -58,24 +62,13 @@ text_of t line = line_bytes t line ++ line_feed ∷ []
 
 -- all that a line names is of the tables
 abbrev pub IsNamed : Tables → Line → Type 0
-IsNamed t (line.Head version) = ⊤
-IsNamed t (line.Plan planned) = ⊤
 IsNamed t (line.Bare leg) = leg < legs_in t
-IsNamed t line.Sole = ⊤
-IsNamed t line.Refuted = ⊤
-IsNamed t line.Priced = ⊤
-IsNamed t line.OpenNodes = ⊤
-IsNamed t (line.OpenPivots made) = ⊤
-IsNamed t (line.OpenGrew pivots row column) = ⊤
-IsNamed t (line.OpenLift step at) = ⊤
 IsNamed t (line.Trim leg choice) = (leg < legs_in t) × (choice < fleets_in t)
 IsNamed t (line.Split leg choice) = (leg < legs_in t) × (choice < fleets_in t)
-IsNamed t (line.Scale scale) = ⊤
 IsNamed t (line.Rent fleet rent) = fleet < fleets_in t
 IsNamed t (line.At fleet station minute value) = (fleet < fleets_in t) × (station < stations_in t)
-IsNamed t (line.Mixed scale) = ⊤
 IsNamed t (line.Weight leg choice weight) = (leg < legs_in t) × (choice < fleets_in t)
-IsNamed t line.End = ⊤
+IsNamed t other = ⊤
 
 -- a count of 64 bits
 abbrev pub IsCount : ℕ → Type 0
@@ -83,21 +76,12 @@ IsCount n = n < 2 ^ 64
 
 -- all numbers of a line are such as a text may hold
 abbrev pub HasFigures : Line → Type 0
-HasFigures (line.Head version) = ⊤
-HasFigures (line.Plan planned) = ⊤
-HasFigures (line.Bare leg) = ⊤
-HasFigures line.Sole = ⊤
-HasFigures line.Refuted = ⊤
-HasFigures line.Priced = ⊤
-HasFigures line.OpenNodes = ⊤
 HasFigures (line.OpenPivots made) = IsCount made
 HasFigures (line.OpenGrew pivots row column) = IsCount pivots × IsCount row × IsCount column
 HasFigures (line.OpenLift step at) = IsCount step × IsCount at
-HasFigures (line.Trim leg choice) = ⊤
-HasFigures (line.Split leg choice) = ⊤
 HasFigures (line.Scale scale) = IsFigure scale
 HasFigures (line.Rent fleet rent) = IsFigure rent
 HasFigures (line.At fleet station minute value) = (minute ≤ last_minute) × IsFigure value
 HasFigures (line.Mixed scale) = IsFigure scale
 HasFigures (line.Weight leg choice weight) = IsFigure weight
-HasFigures line.End = ⊤
+HasFigures other = ⊤

@@ -1,17 +1,17 @@
 -- The line that bytes are, or its flaw of the least kind.
-use Rattle.std.specs.Prelude.{ℕ, ◌==◌, ◌&&◌, true, false, if◌then◌else◌, List, length, Option, Some, None, Result, Ok, Err}
+use Rattle.std.specs.Prelude.{ℕ, ◌==◌, ◌&&◌, Bool, true, false, if◌then◌else◌, List, length, codes, Option, Some, None, Result, Ok, Err}
 use Rattle.proof_lines.specs.Figures.{count_in, minute_in, number_in, version_in}
 use Rattle.proof_lines.specs.Flaws.{least}
 use Rattle.proof_lines.specs.Forms.{form_in, width}
-use Rattle.proof_lines.specs.Known.{choice_in, fleet_in, leg_in, station_in}
-use Rattle.proof_lines.specs.Words.{Word, is_plain, parts_of, word_at, words_of}
+use Rattle.proof_lines.specs.Known.{Naming, choice_in, fleet_in, leg_in, station_in}
+use Rattle.proof_lines.specs.Words.{Word, is_plain, parts_of, stands, word_at, words_of}
 use Rattle.proof_lines.specs.declared.flaws.Flaw.{Flaw}
 use Rattle.proof_lines.specs.declared.flaws.Flaw.TheVariants as flaw
 use Rattle.proof_lines.specs.declared.forms.Form.{Form}
 use Rattle.proof_lines.specs.declared.forms.Form.TheVariants as form
-use Rattle.proof_lines.specs.declared.grammar.Grammar.{Grammar}
 use Rattle.proof_lines.specs.declared.line.Line.{Line}
 use Rattle.proof_lines.specs.declared.line.Line.TheVariants as line
+use Rattle.proof_lines.specs.declared.reading.Seen.{Seen}
 
 -- two readings of one line, or the least of their flaws
 abbrev pub both : {A B : Type 0} → Result A Flaw → Result B Flaw → Result (A × B) Flaw
@@ -45,36 +45,52 @@ abbrev pub mixed_in : List Word → Result Line Flaw
 mixed_in words = made (λ scale. line.Mixed scale) (number_in (word_at words 1))
 
 -- the line of a form by its words, of which there are as many as the form has
-unfoldable pub fields_in : Grammar → Form → List Word → Result Line Flaw
-fields_in grammar form.Head words = head_in words
-fields_in grammar form.PlanYes words = Ok (line.Plan true)
-fields_in grammar form.PlanNo words = Ok (line.Plan false)
-fields_in grammar form.Bare words = made (λ leg. line.Bare leg) (leg_in grammar (word_at words 1))
-fields_in grammar form.Sole words = Ok line.Sole
-fields_in grammar form.Refuted words = Ok line.Refuted
-fields_in grammar form.Priced words = Ok line.Priced
-fields_in grammar form.OpenNodes words = Ok line.OpenNodes
-fields_in grammar form.OpenPivots words = pivots_in words
-fields_in grammar form.OpenGrew words = grew_in words
-fields_in grammar form.OpenLift words = lift_in words
-fields_in grammar form.Trim words = made (λ pair. line.Trim pair.0 pair.1) (both (leg_in grammar (word_at words 1)) (choice_in grammar (word_at words 2)))
-fields_in grammar form.Split words = made (λ pair. line.Split pair.0 pair.1) (both (leg_in grammar (word_at words 1)) (choice_in grammar (word_at words 2)))
-fields_in grammar form.Scale words = scale_in words
-fields_in grammar form.Rent words = made (λ entry. line.Rent entry.0 entry.1) (both (fleet_in grammar (word_at words 1)) (number_in (word_at words 2)))
-fields_in grammar form.At words =
+unfoldable pub fields_in : Naming → Form → List Word → Result Line Flaw
+fields_in n form.Head words = head_in words
+fields_in n form.PlanYes words = Ok (line.Plan true)
+fields_in n form.PlanNo words = Ok (line.Plan false)
+fields_in n form.Bare words = made (λ leg. line.Bare leg) (leg_in n (word_at words 1))
+fields_in n form.Sole words = Ok line.Sole
+fields_in n form.Refuted words = Ok line.Refuted
+fields_in n form.Priced words = Ok line.Priced
+fields_in n form.OpenNodes words = Ok line.OpenNodes
+fields_in n form.OpenPivots words = pivots_in words
+fields_in n form.OpenGrew words = grew_in words
+fields_in n form.OpenLift words = lift_in words
+fields_in n form.Trim words = made (λ pair. line.Trim pair.0 pair.1) (both (leg_in n (word_at words 1)) (choice_in n (word_at words 2)))
+fields_in n form.Split words = made (λ pair. line.Split pair.0 pair.1) (both (leg_in n (word_at words 1)) (choice_in n (word_at words 2)))
+fields_in n form.Scale words = scale_in words
+fields_in n form.Rent words = made (λ entry. line.Rent entry.0 entry.1) (both (fleet_in n (word_at words 1)) (number_in (word_at words 2)))
+fields_in n form.At words =
     made (λ step. line.At step.0.0 step.0.1 step.1.0 step.1.1)
-    (both (both (fleet_in grammar (word_at words 1)) (station_in grammar (word_at words 2))) (both (minute_in (word_at words 3)) (number_in (word_at words 4))))
-fields_in grammar form.Mixed words = mixed_in words
-fields_in grammar form.Weight words =
+    (both (both (fleet_in n (word_at words 1)) (station_in n (word_at words 2))) (both (minute_in (word_at words 3)) (number_in (word_at words 4))))
+fields_in n form.Mixed words = mixed_in words
+fields_in n form.Weight words =
     made (λ entry. line.Weight entry.0.0 entry.0.1 entry.1)
-    (both (both (leg_in grammar (word_at words 1)) (choice_in grammar (word_at words 2))) (number_in (word_at words 3)))
-fields_in grammar form.End words = Ok line.End
+    (both (both (leg_in n (word_at words 1)) (choice_in n (word_at words 2))) (number_in (word_at words 3)))
+fields_in n form.End words = Ok line.End
 
 -- the line that words are, of a form that their first words say, where they stand as so many parts between spaces
-abbrev pub of_form : Grammar → ℕ → List Word → Option Form → Result Line Flaw
-of_form grammar parts words None = Err flaw.Word
-of_form grammar parts words (Some form) = if (length words == parts) && (length words == width form) then fields_in grammar form words else Err flaw.Width
+abbrev pub of_form : Naming → ℕ → List Word → Option Form → Result Line Flaw
+of_form n parts words None = Err flaw.Word
+of_form n parts words (Some form) = if (length words == parts) && (length words == width form) then fields_in n form words else Err flaw.Width
 
 -- the line that bytes without a line feed are
-unfoldable pub line_in : Grammar → List ℕ → Result Line Flaw
-line_in grammar bytes = if is_plain bytes then of_form grammar (length (parts_of bytes)) (words_of bytes) (form_in (words_of bytes)) else Err flaw.Byte
+unfoldable pub line_in : Naming → List ℕ → Result Line Flaw
+line_in n bytes = if is_plain bytes then of_form n (length (parts_of bytes)) (words_of bytes) (form_in (words_of bytes)) else Err flaw.Byte
+
+-- a line as it stands in a text: its form, and what it reads as; by its words and its bytes
+abbrev pub of_words : Naming → Bool → ℕ → List Word → Seen
+of_words n plain parts words = record { form = form_in words; line = if plain then of_form n parts words (form_in words) else Err flaw.Byte }
+
+abbrev pub seen_in : Naming → List ℕ → Seen
+seen_in n bytes = record { form = form_in (words_of bytes); line = line_in n bytes }
+
+-- the number that a word names
+abbrev pub is_number : Result ℕ Flaw → ℕ → Bool
+is_number (Ok number) wanted = number == wanted
+is_number (Err flaw) wanted = false
+
+-- the words begin as those of a step of this fleet at this station, whatever stands behind
+abbrev pub is_step_of : Naming → ℕ → ℕ → List Word → Bool
+is_step_of n fleet station words = stands words 0 (codes "at") && is_number (fleet_in n (word_at words 1)) fleet && is_number (station_in n (word_at words 2)) station

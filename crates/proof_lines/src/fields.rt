@@ -1,5 +1,6 @@
 //! What stands behind the first words of a line, read. Of several flaws of a line the one of the least kind is told.
 ghost use Rattle.std.specs.Prelude.{◌≡◌};
+ghost use Rattle.proof_lines.specs.Known.{naming};
 ghost use Rattle.proof_lines.specs.Reading.{both, fields_in, grew_in, head_in, lift_in, mixed_in, pivots_in, scale_in};
 ghost use Rattle.proof_lines.specs.Words.{seen};
 ghost use Rattle.proof_lines.specs.declared.forms.Form.TheVariants as form;
@@ -14,7 +15,7 @@ use crate::words::word_at;
 /// The line of a form by its words, of which there are as many as the form has. Takes no memory.
 #[tactic(auto, unfolding(crate::specs::Reading::fields_in))]
 pub fn fields(grammar: &Grammar, form: Form, words: &[&[u8]]) -> Result<Line, Flaw>
-    ensures { result ≡ fields_in grammar.now form (seen words.now) }
+    ensures { result ≡ fields_in (naming grammar.now) form (seen words.now) }
 {
     match form {
         Form::Head => head(words),
@@ -52,7 +53,7 @@ fn head(words: &[&[u8]]) -> Result<Line, Flaw>
 /// `bare FLIGHT`.
 #[tactic(auto, unfolding(crate::specs::Reading::fields_in))]
 fn bare(grammar: &Grammar, words: &[&[u8]]) -> Result<Line, Flaw>
-    ensures { result ≡ fields_in grammar.now form.Bare (seen words.now) }
+    ensures { result ≡ fields_in (naming grammar.now) form.Bare (seen words.now) }
 {
     match grammar.leg(word_at(words, 1)) {
         Ok(leg) => Ok(Line::Bare { leg }),
@@ -100,7 +101,7 @@ fn lift(words: &[&[u8]]) -> Result<Line, Flaw>
 /// `trim FLIGHT FLEET`.
 #[tactic(auto, unfolding(crate::specs::Reading::fields_in))]
 fn trim(grammar: &Grammar, words: &[&[u8]]) -> Result<Line, Flaw>
-    ensures { result ≡ fields_in grammar.now form.Trim (seen words.now) }
+    ensures { result ≡ fields_in (naming grammar.now) form.Trim (seen words.now) }
 {
     match both(
         grammar.leg(word_at(words, 1)),
@@ -114,7 +115,7 @@ fn trim(grammar: &Grammar, words: &[&[u8]]) -> Result<Line, Flaw>
 /// `split FLIGHT FLEET`.
 #[tactic(auto, unfolding(crate::specs::Reading::fields_in))]
 fn split(grammar: &Grammar, words: &[&[u8]]) -> Result<Line, Flaw>
-    ensures { result ≡ fields_in grammar.now form.Split (seen words.now) }
+    ensures { result ≡ fields_in (naming grammar.now) form.Split (seen words.now) }
 {
     match both(
         grammar.leg(word_at(words, 1)),
@@ -138,7 +139,7 @@ fn scale(words: &[&[u8]]) -> Result<Line, Flaw>
 /// `rent FLEET R`.
 #[tactic(auto, unfolding(crate::specs::Reading::fields_in))]
 fn rent(grammar: &Grammar, words: &[&[u8]]) -> Result<Line, Flaw>
-    ensures { result ≡ fields_in grammar.now form.Rent (seen words.now) }
+    ensures { result ≡ fields_in (naming grammar.now) form.Rent (seen words.now) }
 {
     match both(grammar.fleet(word_at(words, 1)), number(word_at(words, 2))) {
         Ok((fleet, rent)) => Ok(Line::Rent { fleet, rent }),
@@ -149,7 +150,7 @@ fn rent(grammar: &Grammar, words: &[&[u8]]) -> Result<Line, Flaw>
 /// `at FLEET STATION MINUTE VALUE`.
 #[tactic(auto, unfolding(crate::specs::Reading::fields_in))]
 fn at(grammar: &Grammar, words: &[&[u8]]) -> Result<Line, Flaw>
-    ensures { result ≡ fields_in grammar.now form.At (seen words.now) }
+    ensures { result ≡ fields_in (naming grammar.now) form.At (seen words.now) }
 {
     match both(
         both(
@@ -181,7 +182,7 @@ fn mixed(words: &[&[u8]]) -> Result<Line, Flaw>
 /// `weight FLIGHT FLEET W`.
 #[tactic(auto, unfolding(crate::specs::Reading::fields_in))]
 fn weight(grammar: &Grammar, words: &[&[u8]]) -> Result<Line, Flaw>
-    ensures { result ≡ fields_in grammar.now form.Weight (seen words.now) }
+    ensures { result ≡ fields_in (naming grammar.now) form.Weight (seen words.now) }
 {
     match both(
         both(

@@ -1,7 +1,7 @@
 //! The names of tables, found by their bytes.
 ghost use Rattle.std.specs.Prelude.{◌≡◌, ◌<◌, ◌^◌, length, IfOk, IfSome};
 ghost use Rattle.fleet_model.specs.Schedule.{fleets_in, legs_in, stations_in};
-ghost use Rattle.proof_lines.specs.Known.{IsGrammarOf, choice_in, codes_of, fleet_in, fleet_names, flights_of, leg_in, named, station_in};
+ghost use Rattle.proof_lines.specs.Known.{choice_in, codes_of, fleet_in, fleet_names, flights_of, leg_in, named, names_in, naming, station_in};
 
 use crate::flaws::Flaw;
 use crate::grammar::Grammar;
@@ -14,7 +14,7 @@ use table_rows::{Names, numbers_of};
 impl Grammar {
     /// What the lines of a text of this version are read by.
     pub fn new(alloc: Global, version: Version, tables: &Tables) -> Result<Grammar, NoMemory>
-        ensures { IfOk result (IsGrammarOf version tables.now) }
+        ensures { IfOk result (λ grammar. naming grammar ≡ names_in version tables.now) }
     {
         let legs = flights(alloc, tables)?;
         let fleets = fleets(alloc, tables)?;
@@ -29,28 +29,28 @@ impl Grammar {
 
     /// The leg of a flight. Takes no memory.
     pub fn leg(&self, flight: &[u8]) -> Result<u32, Flaw>
-        ensures { result ≡ leg_in self.now flight.now }
+        ensures { result ≡ leg_in (naming self.now) flight.now }
     {
         named(self.legs.number(flight))
     }
 
     /// The fleet of a name. Takes no memory.
     pub fn fleet(&self, name: &[u8]) -> Result<u32, Flaw>
-        ensures { result ≡ fleet_in self.now name.now }
+        ensures { result ≡ fleet_in (naming self.now) name.now }
     {
         named(self.fleets.number(name))
     }
 
     /// The choice that a word names, which is a fleet. Takes no memory.
     pub fn choice(&self, word: &[u8]) -> Result<u32, Flaw>
-        ensures { result ≡ choice_in self.now word.now }
+        ensures { result ≡ choice_in (naming self.now) word.now }
     {
         self.fleet(word)
     }
 
     /// The station of a code. Takes no memory.
     pub fn station(&self, code: &[u8]) -> Result<u32, Flaw>
-        ensures { result ≡ station_in self.now code.now }
+        ensures { result ≡ station_in (naming self.now) code.now }
     {
         named(self.stations.number(code))
     }

@@ -3,7 +3,7 @@ ghost use Rattle.std.specs.Prelude.{◌≡◌, ◌++◌, ◌∷◌, ◌<◌, OnO
 ghost use Rattle.std.specs.Fmt.{decimal, signed_decimal};
 ghost use Rattle.fleet_model.specs.Schedule.{fleet_of, fleets_in, leg_of, legs_in, station_of, stations_in};
 ghost use Rattle.proof_lines.specs.Forms.{form_of, keywords};
-ghost use Rattle.proof_lines.specs.LineText.{IsNamed, choice_word, fields_of, fleet_word, leg_word, station_word, text_of};
+ghost use Rattle.proof_lines.specs.LineText.{IsNamed, choice_word, fields_of, figures_of, fleet_word, leg_word, names_of, station_word, text_of};
 ghost use Rattle.proof_lines.specs.Words.{joined, spaced, spaced_words};
 ghost use Rattle.proof_lines.specs.declared.line.Line.TheVariants as line;
 
@@ -60,15 +60,32 @@ fn push_fields(
     requires { IsNamed tables.now line.now }
     ensures { OnOk result (text.new.items ≡ text.old.items ++ spaced_words (fields_of tables.now line.now)) }
 {
+    push_names(text, tables, line)?;
+    push_figures(alloc, text, line)
+}
+
+/// Appends what a line names.
+fn push_names(text: &mut Vec<u8>, tables: &Tables, line: &Line) -> Result<(), NoMemory>
+    requires { IsNamed tables.now line.now }
+    ensures { OnOk result (text.new.items ≡ text.old.items ++ spaced_words (names_of tables.now line.now)) }
+{
+    match line {
+        Line::Bare { leg } => push_word(text, tables.leg(*leg).flight.as_slice()),
+        Line::Trim { leg, choice }
+        | Line::Split { leg, choice }
+        | Line::Weight { leg, choice, .. } => push_pair(text, tables, *leg, *choice),
+        Line::Rent { fleet, .. } => push_word(text, tables.fleet(*fleet).name.as_slice()),
+        Line::At { fleet, station, .. } => push_place(text, tables, *fleet, *station),
+        _ => Ok(()),
+    }
+}
+
+/// Appends the figures of a line.
+fn push_figures(alloc: Global, text: &mut Vec<u8>, line: &Line) -> Result<(), NoMemory>
+    ensures { OnOk result (text.new.items ≡ text.old.items ++ spaced_words (figures_of line.now)) }
+{
     match line {
         Line::Head(Version::One) => push_word(text, b"1"),
-        Line::Plan { .. }
-        | Line::Sole
-        | Line::Refuted
-        | Line::Priced
-        | Line::OpenNodes
-        | Line::End => Ok(()),
-        Line::Bare { leg } => push_word(text, tables.leg(*leg).flight.as_slice()),
         Line::OpenPivots { made } => push_count(alloc, text, *made),
         Line::OpenGrew {
             pivots,
@@ -83,32 +100,14 @@ fn push_fields(
             push_count(alloc, text, *step)?;
             push_count(alloc, text, *at)
         }
-        Line::Trim { leg, choice } | Line::Split { leg, choice } => {
-            push_pair(text, tables, *leg, *choice)
-        }
         Line::Scale { scale } | Line::Mixed { scale } => push_number(alloc, text, *scale),
-        Line::Rent { fleet, rent } => {
-            push_word(text, tables.fleet(*fleet).name.as_slice())?;
-            push_number(alloc, text, *rent)
-        }
-        Line::At {
-            fleet,
-            station,
-            minute,
-            value,
-        } => {
-            push_place(text, tables, *fleet, *station)?;
+        Line::Rent { rent, .. } => push_number(alloc, text, *rent),
+        Line::At { minute, value, .. } => {
             push_count(alloc, text, u64::from(*minute))?;
             push_number(alloc, text, *value)
         }
-        Line::Weight {
-            leg,
-            choice,
-            weight,
-        } => {
-            push_pair(text, tables, *leg, *choice)?;
-            push_number(alloc, text, *weight)
-        }
+        Line::Weight { weight, .. } => push_number(alloc, text, *weight),
+        _ => Ok(()),
     }
 }
 

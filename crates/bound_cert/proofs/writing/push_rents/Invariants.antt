@@ -3,4 +3,4 @@ use Rattle.bound_cert.specs.ProofText.{lines_of, rent_lines}
 use Rattle.bound_cert.proofs.writing.push_rents.Given as goal
 
 abbrev pub invariant-loop-fleet : goal.invariant-loop-fleet
-invariant-loop-fleet l = l.text.items ≡ l.initial.text.items ++ lines_of (rent_lines l.tables l.prices l.fleet)
+invariant-loop-fleet l = l.text.items ≡ l.initial.text.items ++ lines_of l.tables (rent_lines l.prices l.fleet)

@@ -1,8 +1,0 @@
-use Rattle.std.proofs.Common.{◌≡◌, take}
-use Rattle.std.specs.Prelude.{filter}
-use Rattle.bound_cert.specs.Lines.{is_word, seen}
-use Rattle.bound_cert.proofs.reading_lines.words_of.Given as goal
-
--- the words so far are those of the parts so far
-abbrev pub invariant-loop-part : goal.invariant-loop-part
-invariant-loop-part l = seen l.words.items ≡ filter is_word (seen (take l.part-index l.parts))
