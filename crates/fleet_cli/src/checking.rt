@@ -23,7 +23,7 @@ use bound_cert::{CertError, Proof, read_proof};
 use cert_check::{Checked, check_with_cost};
 use dual_bound::Tree;
 use entries::NoMemory;
-use fleet_model::{Assignment, Settings, Tables};
+use fleet_model::{Assignment, TableOptions, Tables};
 use plan_judge::{Verdict, judge};
 use plan_text::{PlanError, read_plan};
 use std::alloc::Global;
@@ -32,13 +32,13 @@ use std::alloc::Global;
 /// that one comes with it.
 pub fn open_check(
     alloc: Global,
-    settings: Settings,
+    reading: TableOptions,
     contents: &Contents,
 ) -> Result<Opened, NoMemory>
-    requires { AreSettings settings }
-    ensures { (dir : List ℕ) → IfOk result (IsOpened (Some (check dir settings)) (content_of contents.now)) }
+    requires { AreSettings reading.settings }
+    ensures { (dir : List ℕ) → IfOk result (IsOpened (Some (check dir reading)) (content_of contents.now)) }
 {
-    match load_tables(alloc, settings, contents)? {
+    match load_tables(alloc, reading, contents)? {
         Loaded::Refused(answer) => Ok(Opened::Answered(answer)),
         Loaded::Read(tables) => open_proof(alloc, tables, contents.proof.as_slice()),
     }
