@@ -1,5 +1,5 @@
 -- The answer to a command rests on the bytes of the files that it reads, and on nothing else.
-use Rattle.std.proofs.Common.{◌≡◌, ◌⊎◌, ℕ, Bool, true, false, List, [], ◌∷◌, Option, Some, None, refl, subst, inl, inr, arith}
+use Rattle.std.proofs.Common.{◌≡◌, ℕ, Bool, true, false, List, [], ◌∷◌, Option, Some, None, refl, subst, arith}
 use Rattle.bound_cert.specs.declared.reading.Proof.{Proof}
 use Rattle.command_words.specs.Words.{Asked, check, judge, make, solve, tails}
 use Rattle.fleet_model.specs.declared.options.TableOptions.{TableOptions}
