@@ -17,7 +17,6 @@ use Rattle.dual_bound.specs.Worth.{worth_of}
 use Rattle.dual_bound.specs.declared.mixed.Mixed.{Mixed}
 use Rattle.dual_bound.specs.declared.prices.Prices.{Prices}
 use Rattle.dual_bound.specs.declared.trees.Tree.{Split, Tree, Trim}
-use Rattle.dual_bound.specs.declared.trees.Tree.TheVariants as tree
 use Rattle.cert_check.specs.Nodes.{Node, nodes_below, nodes_in}
 use Rattle.cert_check.specs.Rules.{IsSound, IsSoundBut, Keeps}
 use Rattle.cert_check.specs.Splits.{AreNotAbove, AreSought, AreSoundButPriced, IsAboveAt, IsNoneAbove, IsSplitAbove}

@@ -24,9 +24,20 @@ pub fn check(tables: &Tables, plan: Option<&Assignment>, tree: &Tree) -> Checked
     // Where it holds, each legal assignment costs at least the bound, and with no bound there is none.
     ensures proof { IsProof tables.now result }
 {
+    check_with_cost(tables, plan_cost(tables, plan), tree)
+}
+
+/// The same for somebody who has judged the plan: it takes the plan's cost, where there is a plan.
+pub fn check_with_cost(tables: &Tables, cost: Option<i128>, tree: &Tree) -> Checked
+    requires { IsOfTables tables.now tree.now }
+    ensures verdict { IsChecked tables.now cost tree.now result }
+
+    // It asks nothing of the cost.
+    ensures proof { IsProof tables.now result }
+{
     let mut walker = Walker {
         kept: Kept::all(tables),
-        cost: plan_cost(tables, plan),
+        cost,
         reached: Reached {
             number: 1,
             bound: None,

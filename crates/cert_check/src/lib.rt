@@ -15,6 +15,6 @@ pub mod splits;
 mod walking;
 
 pub use checked::Checked;
-pub use checking::check;
+pub use checking::{check, check_with_cost};
 pub use rules::Rule;
 pub use splits::split_above;

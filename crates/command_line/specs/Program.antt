@@ -54,17 +54,21 @@ made = word_named (codes "number") ∷ word_named (codes "legs") ∷ []
 abbrev pub command_named : Text → List Rule → App
 command_named name rules = fold with_rule (new_app name) rules
 
+-- one that reads the tables of a folder, and takes these too
+abbrev pub command_on_tables : Text → List Rule → App
+command_on_tables name rules = command_named name (folder ++ table_options ++ rules)
+
 abbrev pub judge_app : App
-judge_app = command_named (codes "judge") (folder ++ table_options)
+judge_app = command_on_tables (codes "judge") []
 
 abbrev pub solve_app : App
-solve_app = command_named (codes "solve") (folder ++ table_options ++ rotation_options ++ search_options)
+solve_app = command_on_tables (codes "solve") (rotation_options ++ search_options)
 
 abbrev pub check_app : App
-check_app = command_named (codes "check") (folder ++ table_options)
+check_app = command_on_tables (codes "check") []
 
 abbrev pub tails_app : App
-tails_app = command_named (codes "tails") (folder ++ table_options ++ dates ++ rotation_options)
+tails_app = command_on_tables (codes "tails") (dates ++ rotation_options)
 
 abbrev pub make_app : App
 make_app = command_named (codes "make") (folder ++ made)

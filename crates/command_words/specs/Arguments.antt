@@ -4,6 +4,7 @@ use Rattle.std.specs.Option.{option_map_or}
 use Rattle.clap.specs.Words.{Row, Text, first_of, found_of, rows_of}
 use Rattle.clap.specs.declared.parser.matches.ArgMatches.{ArgMatches}
 use Rattle.calendar_dates.specs.Days.{Day, HasDays}
+use Rattle.fleet_model.specs.declared.options.TableOptions.{TableOptions}
 use Rattle.fleet_model.specs.declared.parts.Settings.{Settings}
 use Rattle.calendar_dates.specs.Reading.{date_read, ends_in_calendar}
 use Rattle.command_words.specs.Values.{minute_read, number_read, value_or}
@@ -25,7 +26,7 @@ dir_in found = first_of (codes "dir") found
 abbrev pub is_given : Text → List Row → Bool
 is_given name found = option_map_or (λ text. bytes_eq text (codes "true")) (first_of name found) false
 
--- ---- settings
+-- ---- how tables are read
 
 -- the day start, where it reads
 abbrev pub day_start_in : List Row → Option ℕ
@@ -41,9 +42,18 @@ settings_at (Some minute) (Some wait) = Some (record { day_start = minute; throu
 settings_at (Some minute) None = None
 settings_at None wait = None
 
--- how the tables are read, where all values read
+-- the settings, where both values read
 abbrev pub settings_in : List Row → Option Settings
 settings_in found = settings_at (day_start_in found) (through_max_in found)
+
+-- how the tables are read by settings, where these are there
+abbrev pub reading_at : Option Settings → Option TableOptions
+reading_at (Some s) = Some (record { settings = s })
+reading_at None = None
+
+-- how the tables are read, where all values read
+abbrev pub reading_in : List Row → Option TableOptions
+reading_in found = reading_at (settings_in found)
 
 -- ---- limits
 

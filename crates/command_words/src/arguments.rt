@@ -1,7 +1,7 @@
 //! The values of a command's arguments, by what clap found for them.
 ghost use Rattle.std.specs.Prelude.{◌≡◌, ◌≤◌, ◌<◌, IfSome, option_map};
 ghost use Rattle.clap.specs.Words.{first_of};
-ghost use Rattle.command_words.specs.Arguments.{AreDates, AreLimits, AreOptions, AreRotationLimits, IsLegCount, dates_in, day_start_in, is_given, legs_in, legs_read, number_in, options_in, rotations_in, rows_in, search_in, settings_in, through_max_in};
+ghost use Rattle.command_words.specs.Arguments.{AreDates, AreLimits, AreOptions, AreRotationLimits, IsLegCount, dates_in, day_start_in, is_given, legs_in, legs_read, number_in, options_in, reading_in, rotations_in, rows_in, search_in, settings_in, through_max_in};
 ghost use Rattle.command_words.specs.Values.{number_read, value_or};
 ghost use Rattle.command_words.specs.Words.{dates_by};
 ghost use Rattle.fleet_model.specs.Limits.{AreSettings};
@@ -15,10 +15,19 @@ use crate::command::{
 use crate::values::{minute_of_day, number_between};
 use calendar_dates::{civil_date, ends_in_calendar};
 use clap::ArgMatches;
-use fleet_model::Settings;
+use fleet_model::{Settings, TableOptions};
 
 /// How the tables are read, as the options say.
-pub(crate) fn settings_of(found: &ArgMatches<'_>) -> Option<Settings>
+pub(crate) fn reading_of(found: &ArgMatches<'_>) -> Option<TableOptions>
+    ensures read { result ≡ reading_in (rows_in found.now) }
+    ensures fit { IfSome result (λ reading. AreSettings reading.settings) }
+{
+    let settings = settings_of(found)?;
+    Some(TableOptions { settings })
+}
+
+/// The settings that the options give.
+fn settings_of(found: &ArgMatches<'_>) -> Option<Settings>
     ensures read { result ≡ settings_in (rows_in found.now) }
     ensures fit { IfSome result AreSettings }
 {

@@ -1,5 +1,5 @@
-use fleet_model::Settings;
 use fleet_model::limits::MINUTES_PER_DAY;
+use fleet_model::{Settings, TableOptions};
 use jiff::civil::Date;
 
 /// The clock minute at which the day starts where no option sets it: 03:00.
@@ -79,10 +79,12 @@ pub struct SolveOptions {
     pub json: bool,
 }
 
-/// The settings where no option sets them.
-pub const DEFAULT_SETTINGS: Settings = Settings {
-    day_start: DEFAULT_DAY_START,
-    through_max: DEFAULT_THROUGH_MAX,
+/// How tables are read where no option says it.
+pub const DEFAULT_READING: TableOptions = TableOptions {
+    settings: Settings {
+        day_start: DEFAULT_DAY_START,
+        through_max: DEFAULT_THROUGH_MAX,
+    },
 };
 
 /// How a plan is searched for where no option says it.
@@ -113,23 +115,23 @@ pub enum Command<'a> {
     /// Judge the plan of a folder.
     Judge {
         dir: &'a str,
-        settings: Settings,
+        reading: TableOptions,
     },
     /// Find a plan for the tables of a folder.
     Solve {
         dir: &'a str,
-        settings: Settings,
+        reading: TableOptions,
         options: SolveOptions,
     },
     /// Check the proof of a folder, and its plan where the proof says that one comes with it.
     Check {
         dir: &'a str,
-        settings: Settings,
+        reading: TableOptions,
     },
     /// Print what each aircraft of a folder's plan flies on some dates.
     Tails {
         dir: &'a str,
-        settings: Settings,
+        reading: TableOptions,
         rotations: RotationLimits,
         dates: Dates,
     },

@@ -4,7 +4,7 @@ ghost use Rattle.command_words.specs.Arguments.{rows_in};
 ghost use Rattle.command_words.specs.Words.{HasDates, HasLimits, HasSettings, IsInRange, asked, asked_by, check_in, command_in, judge_in, make_in, solve_in, tails_in};
 
 use crate::arguments::{
-    dates_of, made_legs_of, made_number_of, options_of, rotations_of, settings_of, value_of,
+    dates_of, made_legs_of, made_number_of, options_of, reading_of, rotations_of, value_of,
 };
 use crate::command::Command;
 use clap::ArgMatches;
@@ -56,8 +56,8 @@ fn judge_of<'a>(found: &ArgMatches<'a>) -> Option<Command<'a>>
     ensures fit { IfSome result IsInRange }
 {
     let dir = value_of(found, "dir")?;
-    let settings = settings_of(found)?;
-    Some(Command::Judge { dir, settings })
+    let reading = reading_of(found)?;
+    Some(Command::Judge { dir, reading })
 }
 
 /// Solving, with what was found for it.
@@ -66,11 +66,11 @@ fn solve_of<'a>(found: &ArgMatches<'a>) -> Option<Command<'a>>
     ensures fit { IfSome result IsInRange }
 {
     let dir = value_of(found, "dir")?;
-    let settings = settings_of(found)?;
+    let reading = reading_of(found)?;
     let options = options_of(found)?;
     Some(Command::Solve {
         dir,
-        settings,
+        reading,
         options,
     })
 }
@@ -81,8 +81,8 @@ fn check_of<'a>(found: &ArgMatches<'a>) -> Option<Command<'a>>
     ensures fit { IfSome result IsInRange }
 {
     let dir = value_of(found, "dir")?;
-    let settings = settings_of(found)?;
-    Some(Command::Check { dir, settings })
+    let reading = reading_of(found)?;
+    Some(Command::Check { dir, reading })
 }
 
 /// Printing tails, with what was found for it.
@@ -91,12 +91,12 @@ fn tails_of<'a>(found: &ArgMatches<'a>) -> Option<Command<'a>>
     ensures fit { IfSome result IsInRange }
 {
     let dir = value_of(found, "dir")?;
-    let settings = settings_of(found)?;
+    let reading = reading_of(found)?;
     let rotations = rotations_of(found)?;
     let dates = dates_of(found)?;
     Some(Command::Tails {
         dir,
-        settings,
+        reading,
         rotations,
         dates,
     })

@@ -1,7 +1,7 @@
 //! What words ask for, and that words past a limit ask for nothing. Further words that ask for nothing stand with the
 //! runs of the program.
 use command_words::{Command, RotationLimits, SearchLimits, SolveOptions, command_of};
-use fleet_model::Settings;
+use fleet_model::{Settings, TableOptions};
 use std::alloc::Global;
 use std::process::Abort;
 use std::test::Fail;
@@ -244,18 +244,19 @@ pub fn assert_asks<R: Abort + Alloc<A = Global>>(
     }
 }
 
-pub fn settings(day_start: u16, through_max: u16) -> Settings {
-    Settings {
+pub fn reading(day_start: u16, through_max: u16) -> TableOptions {
+    let settings = Settings {
         day_start,
         through_max,
-    }
+    };
+    TableOptions { settings }
 }
 
 #[test]
 fn lines_that_judge(rt: HostRuntime) -> Result<(), Fail> {
     for (line, dir, day_start) in JUDGE {
-        let settings = settings(*day_start, 60);
-        assert_asks(&rt, line, &Some(Command::Judge { dir, settings }))?;
+        let reading = reading(*day_start, 60);
+        assert_asks(&rt, line, &Some(Command::Judge { dir, reading }))?;
     }
     Ok(())
 }
@@ -263,8 +264,8 @@ fn lines_that_judge(rt: HostRuntime) -> Result<(), Fail> {
 #[test]
 fn lines_that_check(rt: HostRuntime) -> Result<(), Fail> {
     for (line, dir, day_start) in CHECK {
-        let settings = settings(*day_start, 60);
-        assert_asks(&rt, line, &Some(Command::Check { dir, settings }))?;
+        let reading = reading(*day_start, 60);
+        assert_asks(&rt, line, &Some(Command::Check { dir, reading }))?;
     }
     Ok(())
 }
@@ -274,7 +275,7 @@ fn lines_that_solve(rt: HostRuntime) -> Result<(), Fail> {
     for ((line, dir, day_start, through_max, days, visits), nodes, pivots, json) in SOLVE {
         let wanted = Command::Solve {
             dir,
-            settings: settings(*day_start, *through_max),
+            reading: reading(*day_start, *through_max),
             options: SolveOptions {
                 search: SearchLimits {
                     nodes: *nodes,

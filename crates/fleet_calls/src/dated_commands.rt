@@ -1,5 +1,5 @@
 //! What words with a first date and a number of dates ask for.
-use crate::commands::{RotationLine, assert_asks, settings};
+use crate::commands::{RotationLine, assert_asks, reading};
 use command_words::{Command, Dates, RotationLimits};
 use jiff::civil::Date;
 use std::test::Fail;
@@ -136,11 +136,11 @@ fn lines_that_print_tails(rt: HostRuntime) -> Result<(), Fail> {
             days: *days,
             visits: *visits,
         };
-        let settings = settings(*day_start, *through_max);
+        let reading = reading(*day_start, *through_max);
         let wanted = match dates(*year, *month, *day, *count) {
             Some(dates) => Some(Command::Tails {
                 dir,
-                settings,
+                reading,
                 rotations,
                 dates,
             }),

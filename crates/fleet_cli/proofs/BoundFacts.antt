@@ -1,5 +1,5 @@
 -- What it means where checking says that a proof holds.
-use Rattle.std.proofs.Common.{◌≡◌, ◌⊎◌, ℕ, Bool, true, false, List, Option, Some, None, ℤ, refl, sym, ap, ◌∙◌, inl, inr, arith}
+use Rattle.std.proofs.Common.{◌≡◌, ℕ, Bool, true, false, List, Option, Some, None, ℤ, refl, sym, ap, ◌∙◌, inl, inr, arith}
 use Rattle.bound_cert.specs.ReadProof.{ReadsAs}
 use Rattle.bound_cert.specs.declared.reading.Proof.{Proof}
 use Rattle.dual_bound.specs.declared.trees.Tree.{Tree}
@@ -10,7 +10,7 @@ use Rattle.cert_check.specs.declared.checked.Checked.TheVariants as checked
 use Rattle.command_words.specs.Words.{check}
 use Rattle.fleet_model.specs.Kept.{all_pairs}
 use Rattle.fleet_model.specs.Legal.{IsLegal, total_cost}
-use Rattle.fleet_model.specs.declared.parts.Settings.{Settings}
+use Rattle.fleet_model.specs.declared.options.TableOptions.{TableOptions}
 use Rattle.fleet_model.specs.declared.tables.Tables.{Tables}
 use Rattle.plan_desk.specs.Desk.{Files}
 use Rattle.plan_desk.specs.Sink.{output_with}
@@ -52,9 +52,9 @@ module _ (answer : Answer) (done : answer.status.code ≡ DONE) where
           record { bound = bound; proven = bounds_all t cost (all_pairs t) whole bound refl holds.sound holds.bounded; text_is = ap (λ (a : Answer). a.text) is }
       by_verdict (checked.Broken node rule) breaks is = absurd (other 9 _ is (λ e. omega arith))
 
-  module _ (held : Files) (dir : List ℕ) (settings : Settings) (before after : Option (List ℕ)) (put : after ≡ output_with before answer.text)
-      (within : AllWithin (Some (check dir settings)) held) (there : AllStand held dir proof_files) (t : Tables) (reads : Reads (table_bytes (bytes_in held dir)) settings t) where
-    alone : HoldsAs t None answer → TellsBound held dir settings before after
+  module _ (held : Files) (dir : List ℕ) (reading : TableOptions) (before after : Option (List ℕ)) (put : after ≡ output_with before answer.text)
+      (within : AllWithin (Some (check dir reading)) held) (there : AllStand held dir proof_files) (t : Tables) (reads : Reads (table_bytes (bytes_in held dir)) reading.settings t) where
+    alone : HoldsAs t None answer → TellsBound held dir reading before after
     alone holds = record {
       tables = t;
       cost = None;
@@ -67,10 +67,10 @@ module _ (answer : Answer) (done : answer.status.code ≡ DONE) where
       put = put ∙ ap (output_with before) holds.text_is;
     }
 
-    with_plan : (whole : Tree) → IsHeld held dir file.Plan (bytes_in held dir file.Plan) → OnPlan t (bytes_in held dir file.Plan) (OnLegal t (ChecksWith t whole)) answer → TellsBound held dir settings before after
+    with_plan : (whole : Tree) → IsHeld held dir file.Plan (bytes_in held dir file.Plan) → OnPlan t (bytes_in held dir file.Plan) (OnLegal t (ChecksWith t whole)) answer → TellsBound held dir reading before after
     with_plan whole stands =
-        either_plan answer (TellsBound held dir settings before after) t (bytes_in held dir file.Plan) (OnLegal t (ChecksWith t whole)) (λ refused. absurd (other 9 _ refused.is (λ e. omega arith)))
-        (λ plan plan_reads. either_legal answer (TellsBound held dir settings before after) t (ChecksWith t whole) plan
+        either_plan answer (TellsBound held dir reading before after) t (bytes_in held dir file.Plan) (OnLegal t (ChecksWith t whole)) (λ refused. absurd (other 9 _ refused.is (λ e. omega arith)))
+        (λ plan plan_reads. either_legal answer (TellsBound held dir reading before after) t (ChecksWith t whole) plan
         (λ refused. absurd (other _ _ refused.is (λ e. let bad : ◌≡◌ {A = ℕ} 9 0 = sym refused.refused ∙ e in omega arith)))
         (λ legal checks. let holds = tree_holds t (Some (total_cost t plan)) whole checks in record {
           tables = t;
@@ -84,19 +84,19 @@ module _ (answer : Answer) (done : answer.status.code ≡ DONE) where
           put = put ∙ ap (output_with before) holds.text_is;
         }))
 
-    by_plan : (proof : Proof) (planned : Bool) → ReadsAs t (bytes_in held dir file.Proof) proof → proof.planned ≡ planned → ChecksProof t planned proof.tree (bytes_in held dir file.Plan) answer → TellsBound held dir settings before after
+    by_plan : (proof : Proof) (planned : Bool) → ReadsAs t (bytes_in held dir file.Proof) proof → proof.planned ≡ planned → ChecksProof t planned proof.tree (bytes_in held dir file.Plan) answer → TellsBound held dir reading before after
     by_plan proof false text_reads says checks = alone (tree_holds t None proof.tree checks)
     by_plan proof true text_reads says checks =
         with_plan proof.tree (within.further file.Plan (refl, record { tables = t; proof = proof; reads = reads; proof_reads = text_reads; planned = says })) checks
 
-    by_proof : OnProof t (bytes_in held dir file.Proof) (ChecksRead t (bytes_in held dir file.Plan)) answer → TellsBound held dir settings before after
+    by_proof : OnProof t (bytes_in held dir file.Proof) (ChecksRead t (bytes_in held dir file.Plan)) answer → TellsBound held dir reading before after
     by_proof =
-        either_proof answer (TellsBound held dir settings before after) t (bytes_in held dir file.Proof) (ChecksRead t (bytes_in held dir file.Plan))
+        either_proof answer (TellsBound held dir reading before after) t (bytes_in held dir file.Proof) (ChecksRead t (bytes_in held dir file.Plan))
         (λ refused. absurd (other 9 _ refused.is (λ e. omega arith))) (λ proof text_reads. by_plan proof proof.planned text_reads refl)
 
-  pub checked_tells : (held : Files) (dir : List ℕ) (settings : Settings) (before after : Option (List ℕ)) → Answers held (Some (check dir settings)) answer → after ≡ output_with before answer.text
-      → TellsBound held dir settings before after
-  checked_tells held dir settings before after (inl long) put = absurd (other 6 _ long.is (λ e. omega arith))
-  checked_tells held dir settings before after (inr read) put =
-      either_tables answer (TellsBound held dir settings before after) settings (table_bytes (bytes_in held dir)) (ChecksOn (bytes_in held dir file.Proof) (bytes_in held dir file.Plan))
-      (λ refused. absurd (other 6 _ refused.is (λ e. omega arith))) (by_proof held dir settings before after put read.within read.within.first) read.answers
+  pub checked_tells : (held : Files) (dir : List ℕ) (reading : TableOptions) (before after : Option (List ℕ)) → Answers held (Some (check dir reading)) answer → after ≡ output_with before answer.text
+      → TellsBound held dir reading before after
+  checked_tells held dir reading before after (inl long) put = absurd (other 6 _ long.is (λ e. omega arith))
+  checked_tells held dir reading before after (inr read) put =
+      either_tables answer (TellsBound held dir reading before after) reading (table_bytes (bytes_in held dir)) (ChecksOn (bytes_in held dir file.Proof) (bytes_in held dir file.Plan))
+      (λ refused. absurd (other 6 _ refused.is (λ e. omega arith))) (by_proof held dir reading before after put read.within read.within.first) read.answers

@@ -41,11 +41,11 @@ reads_first asked before now = weaker_calls before now (length (first_files aske
 pub reads_plan : (asked : Option Asked) (bytes : FileBytes) (before mid now : Option ℕ) → Follows asked bytes file.Plan → CallsAtMost (length (first_files asked)) before mid → now ≡ once_more mid
     → CallsAtMost (most_reads asked) before now
 reads_plan None bytes before mid now follows first one = absurd follows
-reads_plan (Some (judge dir settings)) bytes before mid now follows first one = absurd follows
-reads_plan (Some (solve dir settings options)) bytes before mid now follows first one = absurd follows
-reads_plan (Some (check dir settings)) bytes before mid now follows first one =
-    then_one before mid now (length (first_files (Some (check dir settings)))) (most_reads (Some (check dir settings))) (omega arith) first one
-reads_plan (Some (tails dir settings limits dates)) bytes before mid now follows first one = absurd follows
+reads_plan (Some (judge dir reading)) bytes before mid now follows first one = absurd follows
+reads_plan (Some (solve dir reading options)) bytes before mid now follows first one = absurd follows
+reads_plan (Some (check dir reading)) bytes before mid now follows first one =
+    then_one before mid now (length (first_files (Some (check dir reading)))) (most_reads (Some (check dir reading))) (omega arith) first one
+reads_plan (Some (tails dir reading limits dates)) bytes before mid now follows first one = absurd follows
 reads_plan (Some (make dir number legs)) bytes before mid now follows first one = absurd follows
 
 -- no file is written

@@ -7,6 +7,7 @@ use Rattle.command_words.specs.Words.{check}
 use Rattle.fleet_model.specs.Legal.{total_cost}
 use Rattle.fleet_model.specs.Limits.{AreSettings}
 use Rattle.fleet_model.specs.declared.limits.TheConstants.{MINUTES_PER_DAY}
+use Rattle.fleet_model.specs.declared.options.TableOptions.{TableOptions}
 use Rattle.fleet_model.specs.declared.parts.Settings.{Settings}
 use Rattle.fleet_model.specs.declared.tables.Tables.{Tables}
 use Rattle.plan_desk.specs.Desk.{Files}
@@ -58,44 +59,44 @@ module _ (held : Files) (dir : List ℕ) where
           },
         )
 
-  module _ (solving checking : Settings) (same : solving.day_start ≡ checking.day_start) where
+  module _ (solving checking : TableOptions) (same : solving.settings.day_start ≡ checking.settings.day_start) where
     -- a proof that stands there stands there by other settings with the same day start
-    proof_by : AreSettings checking → ProofThere held dir solving → ProofThere held dir checking
+    proof_by : AreSettings checking.settings → ProofThere held dir solving → ProofThere held dir checking
     proof_by fit x =
         let t = x.tables in
-        let u = with_settings t checking fit in
+        let u = with_settings t checking.settings fit in
         record {
           tables = u;
           proof = x.proof;
           cost = x.cost;
           bound = x.bound;
           there = x.there;
-          reads = reads_by_day (table_bytes (bytes_in held dir)) solving checking same t fit x.reads;
-          proof_reads = reads_by t.stations t.fleets t.legs t.costs t.throughs (t.settings, t.in_range) (checking, u.in_range) (bytes_in held dir file.Proof) x.proof x.proof_reads;
-          plan = plan_by t checking fit x.proof.planned x.cost x.plan;
-          holds = holds_by t.stations t.fleets t.legs t.costs t.throughs (t.settings, t.in_range) (checking, u.in_range) x.cost x.proof.tree x.bound x.holds;
+          reads = reads_by_day (table_bytes (bytes_in held dir)) solving.settings checking.settings same t fit x.reads;
+          proof_reads = reads_by t.stations t.fleets t.legs t.costs t.throughs (t.settings, t.in_range) (checking.settings, u.in_range) (bytes_in held dir file.Proof) x.proof x.proof_reads;
+          plan = plan_by t checking.settings fit x.proof.planned x.cost x.plan;
+          holds = holds_by t.stations t.fleets t.legs t.costs t.throughs (t.settings, t.in_range) (checking.settings, u.in_range) x.cost x.proof.tree x.bound x.holds;
         }
 
     -- where checking answers at all, its longest wait is within its limit
-    never_answered : (answer : Answer) → ProofThere held dir solving → MINUTES_PER_DAY ≤ checking.through_max → Answers held (Some (check dir checking)) answer → ⊥
+    never_answered : (answer : Answer) → ProofThere held dir solving → MINUTES_PER_DAY ≤ checking.settings.through_max → Answers held (Some (check dir checking)) answer → ⊥
     never_answered answer x great (inl long) =
         within_or_long (Some (check dir checking)) held long.file
         (all_within held (Some (check dir checking)) x.there (λ follows. absurd (unread follows.1.tables follows.1.reads))) long.longer
       where
-        unread : (t : Tables) → Reads (table_bytes (bytes_in held dir)) checking t → ⊥
-        unread t reads = let small = wait_in_day (table_bytes (bytes_in held dir)) checking t reads in omega (arith, great, small)
+        unread : (t : Tables) → Reads (table_bytes (bytes_in held dir)) checking.settings t → ⊥
+        unread t reads = let small = wait_in_day (table_bytes (bytes_in held dir)) checking.settings t reads in omega (arith, great, small)
     never_answered answer x great (inr read) = by_tables read.answers
       where
         by_tables : Checks checking (table_bytes (bytes_in held dir)) (bytes_in held dir file.Proof) (bytes_in held dir file.Plan) answer → ⊥
         by_tables (inl refused) =
-            reads_no_fault (table_bytes (bytes_in held dir)) solving x.tables refused.file refused.row refused.kind x.reads
-            (bad_by_day (table_bytes (bytes_in held dir)) checking solving (sym same) refused.file refused.row refused.kind refused.bad)
-        by_tables (inr answers) = let small = wait_in_day (table_bytes (bytes_in held dir)) checking answers.tables answers.reads in omega (arith, great, small)
+            reads_no_fault (table_bytes (bytes_in held dir)) solving.settings x.tables refused.file refused.row refused.kind x.reads
+            (bad_by_day (table_bytes (bytes_in held dir)) checking.settings solving.settings (sym same) refused.file refused.row refused.kind refused.bad)
+        by_tables (inr answers) = let small = wait_in_day (table_bytes (bytes_in held dir)) checking.settings answers.tables answers.reads in omega (arith, great, small)
 
     -- so a proof that stands there by some settings is one by those of an answer to checking with the same day start
     pub proof_by_day : (answer : Answer) → ProofThere held dir solving → Answers held (Some (check dir checking)) answer → ProofThere held dir checking
-    proof_by_day answer x answers = by_wait (cases_lt checking.through_max MINUTES_PER_DAY)
+    proof_by_day answer x answers = by_wait (cases_lt checking.settings.through_max MINUTES_PER_DAY)
       where
-        by_wait : (checking.through_max < MINUTES_PER_DAY) ⊎ (MINUTES_PER_DAY ≤ checking.through_max) → ProofThere held dir checking
-        by_wait (inl small) = proof_by (record { day_start = rw (← same) (day_in_day (table_bytes (bytes_in held dir)) solving x.tables x.reads); through_max = small }) x
+        by_wait : (checking.settings.through_max < MINUTES_PER_DAY) ⊎ (MINUTES_PER_DAY ≤ checking.settings.through_max) → ProofThere held dir checking
+        by_wait (inl small) = proof_by (record { day_start = rw (← same) (day_in_day (table_bytes (bytes_in held dir)) solving.settings x.tables x.reads); through_max = small }) x
         by_wait (inr great) = absurd (never_answered answer x great answers)

@@ -7,7 +7,7 @@ use Rattle.table_rows.proofs.FrontReading.{bytes_eq-self}
 use Rattle.table_rows.proofs.Numbered.{bytes_eq-differ}
 use Rattle.command_words.specs.Words.{solve}
 use Rattle.command_words.specs.declared.command.SolveOptions.{SolveOptions}
-use Rattle.fleet_model.specs.declared.parts.Settings.{Settings}
+use Rattle.fleet_model.specs.declared.options.TableOptions.{TableOptions}
 use Rattle.fleet_model.specs.declared.tables.Tables.{Tables}
 use Rattle.bound_cert.specs.ProofText.{proof_text}
 use Rattle.dual_bound.specs.declared.trees.Tree.{Tree}
@@ -89,13 +89,13 @@ module _ (held : Files) (dir : List ℕ) (t : Tables) (rotations : List FleetRot
   rotation_stands (solved.Infeasible tree) = here (with_file held (path_of dir desk_file.Proof) (Some (proof_text t false tree))) (path_of dir desk_file.Rotation) _
   rotation_stands (solved.Unsettled bound tree) = here (with_file held (path_of dir desk_file.Proof) (Some (proof_text t false tree))) (path_of dir desk_file.Rotation) _
 
-module _ (held : Files) (dir : List ℕ) (settings : Settings) (options : SolveOptions) (answer : Answer) (code : ℕ) (told : Option Files) (before after : Option (List ℕ)) where
-  pub solved_leaves : Answers held (Some (solve dir settings options)) answer → code ≡ answer.status.code → told ≡ held_with_texts (Some held) dir answer.files → after ≡ output_with before answer.text → IsSolution code
-      → TellsSolution held told dir settings options code before after
+module _ (held : Files) (dir : List ℕ) (reading : TableOptions) (options : SolveOptions) (answer : Answer) (code : ℕ) (told : Option Files) (before after : Option (List ℕ)) where
+  pub solved_leaves : Answers held (Some (solve dir reading options)) answer → code ≡ answer.status.code → told ≡ held_with_texts (Some held) dir answer.files → after ≡ output_with before answer.text → IsSolution code
+      → TellsSolution held told dir reading options code before after
   solved_leaves (inl long) is written put solution = absurd (not_refused code solution (is ∙ ap (λ (a : Answer). a.status.code) long.is))
   solved_leaves (inr read) is written put solution = by_tables read.answers
     where
-      by_tables : Solves settings options (table_bytes (bytes_in held dir)) answer → TellsSolution held told dir settings options code before after
+      by_tables : Solves reading options (table_bytes (bytes_in held dir)) answer → TellsSolution held told dir reading options code before after
       by_tables (inl refused) = absurd (not_refused code solution (is ∙ ap (λ (a : Answer). a.status.code) refused.is))
       by_tables (inr solves) = let given = solves.finishes in record {
         stands = with_texts held dir (solved_files solves.tables given.solution given.rotations options.rotations.visits);

@@ -2,7 +2,7 @@
 use Rattle.std.proofs.Common.{◌≡◌, ℕ, List, ◌++◌, Option, Some, None, IfSome, inl, inr, sym, ap, subst, ◌∙◌}
 use Rattle.std.proofs.lemmas.Option.{same_Some}
 use Rattle.command_words.specs.Words.{Asked, check, judge, make, solve, tails}
-use Rattle.command_words.specs.declared.command.TheConstants.{DEFAULT_OPTIONS, DEFAULT_SETTINGS}
+use Rattle.command_words.specs.declared.command.TheConstants.{DEFAULT_OPTIONS, DEFAULT_READING}
 use Rattle.plan_desk.specs.Desk.{Files}
 use Rattle.plan_desk.specs.Sink.{output_with}
 use Rattle.table_maker.proofs.TextLengths.{made_short}
@@ -32,7 +32,7 @@ module _ (held : Files) (dir : List ℕ) (number legs : ℕ) (answer : Answer) (
       let made = made_tables number legs in
       let given = x.solves.finishes in
       let solution : IsSolution code = rw is (is_solution answer.status.code (flyable number legs answer x)) in
-      let solved = solved_leaves (with_texts held dir (made_files made)) dir DEFAULT_SETTINGS DEFAULT_OPTIONS x.solving code told before after (solving_answers held dir number legs answer x)
+      let solved = solved_leaves (with_texts held dir (made_files made)) dir DEFAULT_READING DEFAULT_OPTIONS x.solving code told before after (solving_answers held dir number legs answer x)
       (is ∙ ap (λ (a : Answer). a.status.code) x.is) (written ∙ written_over held dir number legs answer x) (put ∙ ap (λ (a : Answer). output_with before a.text) x.is) solution in
       let files : answer.files ≡ made_files made ++ solved_files x.solves.tables given.solution given.rotations DEFAULT_OPTIONS.rotations.visits =
       ap (λ (a : Answer). a.files) x.is ∙ ap (λ (a : Answer). made_files made ++ a.files) given.is in
@@ -55,8 +55,8 @@ pub headline : (told stands : Option Files) (asked : Option Asked) (answer : Ans
     → stands ≡ held_with_texts told (folder_of asked) answer.files → after ≡ output_with before answer.text → IfSome told (λ held. Headline held asked code stands before after)
 headline None stands asked answer code before after answers is written put = tt
 headline (Some held) stands None answer code before after answers is written put = tt
-headline (Some held) stands (Some (judge dir settings)) answer code before after answers is written put = tt
-headline (Some held) stands (Some (solve dir settings options)) answer code before after answers is written put = solved_leaves held dir settings options answer code stands before after answers is written put
-headline (Some held) stands (Some (tails dir settings limits dates)) answer code before after answers is written put = tt
+headline (Some held) stands (Some (judge dir reading)) answer code before after answers is written put = tt
+headline (Some held) stands (Some (solve dir reading options)) answer code before after answers is written put = solved_leaves held dir reading options answer code stands before after answers is written put
+headline (Some held) stands (Some (tails dir reading limits dates)) answer code before after answers is written put = tt
 headline (Some held) stands (Some (make dir number legs)) answer code before after answers is written put = made_leaves held dir number legs answer code stands before after answers is written put
-headline (Some held) stands (Some (check dir settings)) answer code before after answers is written put = λ done. checked_tells answer (sym is ∙ done) held dir settings before after answers put
+headline (Some held) stands (Some (check dir reading)) answer code before after answers is written put = λ done. checked_tells answer (sym is ∙ done) held dir reading before after answers put

@@ -8,7 +8,7 @@ use Rattle.branch_bound.specs.Solved.{IsRight}
 use Rattle.branch_bound.specs.declared.solved.Solved.{Solved}
 use Rattle.branch_bound.specs.declared.solved.Solved.TheVariants as solved
 use Rattle.command_words.specs.Words.{make, solve}
-use Rattle.command_words.specs.declared.command.TheConstants.{DEFAULT_OPTIONS, DEFAULT_SETTINGS}
+use Rattle.command_words.specs.declared.command.TheConstants.{DEFAULT_OPTIONS, DEFAULT_READING}
 use Rattle.fleet_model.specs.Legal.{IsLegal}
 use Rattle.fleet_model.specs.Limits.{AreSettings}
 use Rattle.fleet_model.specs.declared.refusals.BadInput.{BadInput}
@@ -122,12 +122,12 @@ module _ (held : Files) (dir : List ℕ) (number legs : ℕ) (answer : Answer) (
   with_made = with_texts held dir (made_files (made_tables number legs))
 
   -- what is solved is what solving answers where the tables stand
-  pub solving_answers : Answers with_made (Some (solve dir DEFAULT_SETTINGS DEFAULT_OPTIONS)) x.solving
+  pub solving_answers : Answers with_made (Some (solve dir DEFAULT_READING DEFAULT_OPTIONS)) x.solving
   solving_answers =
       let there = made_stand held dir (made_tables number legs) in
       inr (record {
         within = record { first = all_stand with_made dir (made_tables number legs) there (made_short number legs x.can); further = λ f follows. absurd follows };
-        answers = inr (subst (λ b. TablesRead DEFAULT_SETTINGS b (GivesSolution DEFAULT_OPTIONS) x.solving) (sym (tables_are with_made dir (made_tables number legs) there)) x.solves);
+        answers = inr (subst (λ b. TablesRead DEFAULT_READING b (GivesSolution DEFAULT_OPTIONS) x.solving) (sym (tables_are with_made dir (made_tables number legs) there)) x.solves);
       })
 
   -- and its files are written over them
@@ -168,21 +168,21 @@ by_plan t plan (solved.Planned found cost bound tree) legal right = elim (cases_
 by_plan t plan (solved.Infeasible tree) legal right = absurd (right.none.none plan legal)
 by_plan t plan (solved.Unsettled bound tree) legal right = inr (inr refl)
 
-defaults_fit : AreSettings DEFAULT_SETTINGS
+defaults_fit : AreSettings DEFAULT_READING.settings
 defaults_fit = record { day_start = omega arith; through_max = omega arith }
 
 -- made tables have no fault
 pub never_bad : (number legs : ℕ) (made : MadeTables) (loaded : Result Tables LoadError) (error : LoadError) (bad : BadInput) → CanBeMade number legs → made ≡ made_tables number legs
-    → MatchResult loaded (Reads (bytes_of made) DEFAULT_SETTINGS) (IsFirstBad (bytes_of made) DEFAULT_SETTINGS) → loaded ≡ Err error → error ≡ load.Bad bad → ⊥
+    → MatchResult loaded (Reads (bytes_of made) DEFAULT_READING.settings) (IsFirstBad (bytes_of made) DEFAULT_READING.settings) → loaded ≡ Err error → error ≡ load.Bad bad → ⊥
 never_bad number legs made loaded error bad can are told failed same =
-    let read = made_read number legs DEFAULT_SETTINGS can defaults_fit in
+    let read = made_read number legs DEFAULT_READING.settings can defaults_fit in
     let first = rw (failed, same, are) at told in
-    tables.reads_no_fault (bytes_of (made_tables number legs)) DEFAULT_SETTINGS read.tables bad.file bad.row bad.kind read.reads first
+    tables.reads_no_fault (bytes_of (made_tables number legs)) DEFAULT_READING.settings read.tables bad.file bad.row bad.kind read.reads first
 
 pub flyable : (number legs : ℕ) (answer : Answer) → Makes number legs answer → IsFlyable answer.status.code
 flyable number legs answer x =
-    let made = made_read number legs DEFAULT_SETTINGS x.can defaults_fit in
-    let same = tables.one_reading (bytes_of (made_tables number legs)) DEFAULT_SETTINGS made.tables x.solves.tables made.reads x.solves.reads in
+    let made = made_read number legs DEFAULT_READING.settings x.can defaults_fit in
+    let same = tables.one_reading (bytes_of (made_tables number legs)) DEFAULT_READING.settings made.tables x.solves.tables made.reads x.solves.reads in
     let legal = subst (λ t. IsLegal t (all_on_first legs)) same made.legal in
     rw (ap (λ (a : Answer). a.status.code) x.is ∙ ap (λ (a : Answer). a.status.code) x.solves.finishes.is)
     (by_plan x.solves.tables (all_on_first legs) x.solves.finishes.solution legal x.solves.finishes.solves.right)

@@ -15,7 +15,7 @@ use Rattle.command_words.specs.Words.{Asked, check, judge, make, solve, tails}
 use Rattle.command_words.specs.declared.command.RotationLimits.{RotationLimits}
 use Rattle.command_words.specs.declared.command.SolveOptions.{SolveOptions}
 use Rattle.fleet_model.specs.Legal.{total_cost}
-use Rattle.fleet_model.specs.declared.parts.Settings.{Settings}
+use Rattle.fleet_model.specs.declared.options.TableOptions.{TableOptions}
 use Rattle.fleet_model.specs.declared.refusals.TheConstants.{TOO_LONG}
 use Rattle.fleet_model.specs.declared.tables.Tables.{Tables}
 use Rattle.plan_desk.specs.Desk.{Files}
@@ -82,16 +82,16 @@ module _ (answer other : Answer) where
 
   one_of : (asked : Option Asked) (bytes : FileBytes) → AnswersOf asked bytes answer → AnswersOf asked bytes other → IsFixed asked other → answer ≡ other
   one_of None bytes x y fixed = x ∙ sym y
-  one_of (Some (judge dir settings)) bytes x y fixed =
-      one_tables answer other settings (table_bytes bytes) (JudgesOn (bytes file.Plan))
+  one_of (Some (judge dir reading)) bytes x y fixed =
+      one_tables answer other reading (table_bytes bytes) (JudgesOn (bytes file.Plan))
       (λ t. one_plan answer other t (bytes file.Plan) (JudgesPlan t) (JudgesPlan t) (judges t)) x y
-  one_of (Some (solve dir settings options)) bytes x y fixed =
-      one_tables answer other settings (table_bytes bytes) (GivesSolution options) (λ t a b. absurd (never_refused b.solution (sym (ap (λ (a : Answer). a.status.code) b.is) ∙ fixed))) x y
-  one_of (Some (check dir settings)) bytes x y fixed =
-      one_tables answer other settings (table_bytes bytes) (ChecksOn (bytes file.Proof) (bytes file.Plan))
+  one_of (Some (solve dir reading options)) bytes x y fixed =
+      one_tables answer other reading (table_bytes bytes) (GivesSolution options) (λ t a b. absurd (never_refused b.solution (sym (ap (λ (a : Answer). a.status.code) b.is) ∙ fixed))) x y
+  one_of (Some (check dir reading)) bytes x y fixed =
+      one_tables answer other reading (table_bytes bytes) (ChecksOn (bytes file.Proof) (bytes file.Plan))
       (λ t. one_proof answer other t (bytes file.Proof) (ChecksRead t (bytes file.Plan)) (checks_read t (bytes file.Plan))) x y
-  one_of (Some (tails dir settings limits dates)) bytes x y fixed =
-      one_tables answer other settings (table_bytes bytes) (TailsOn limits dates (bytes file.Plan))
+  one_of (Some (tails dir reading limits dates)) bytes x y fixed =
+      one_tables answer other reading (table_bytes bytes) (TailsOn limits dates (bytes file.Plan))
       (λ t. one_plan answer other t (bytes file.Plan) (OnLegal t (TellsTails t limits dates)) (OnLegal t (TellsTails t limits dates))
       (λ p. one_legal answer other t (TellsTails t limits dates) (TellsTails t limits dates) p (λ a b. absurd (fixed (ap (λ (a : Answer). a.status.code) b.is))))) x y
   one_of (Some (make dir number legs)) bytes x y fixed = absurd fixed
@@ -128,28 +128,28 @@ module _ (held : Files) (asked : Option Asked) (answer : Answer) where
   read_there (inl x) stand further = absurd (within_or_long asked held x.file (all_within held asked stand further) x.longer)
   read_there (inr x) stand further = x.answers
 
-module _ (held : Files) (dir : List ℕ) (settings : Settings) (answer : Answer) where
+module _ (held : Files) (dir : List ℕ) (reading : TableOptions) (answer : Answer) where
   -- a legal plan is judged so
-  legal_there : (x : LegalThere held dir settings) → Judges settings (table_bytes (bytes_in held dir)) (bytes_in held dir file.Plan) answer → answer.status.code ≡ DONE
+  legal_there : (x : LegalThere held dir reading) → Judges reading (table_bytes (bytes_in held dir)) (bytes_in held dir file.Plan) answer → answer.status.code ≡ DONE
   legal_there x answers =
-      let read = there_tables answer settings (table_bytes (bytes_in held dir)) (JudgesOn (bytes_in held dir file.Plan)) x.tables x.reads answers in
+      let read = there_tables answer reading (table_bytes (bytes_in held dir)) (JudgesOn (bytes_in held dir file.Plan)) x.tables x.reads answers in
       let told = there_plan answer x.tables (bytes_in held dir file.Plan) (JudgesPlan x.tables) x.plan x.plan_reads read in
       ap (λ (a : Answer). a.status.code) told.is
       ∙ ap verdict_status (one_verdict x.tables x.plan told.verdict (verdict.Legal (total_cost x.tables x.plan)) told.judged (x.legal, refl))
 
   -- and its tails are told
-  tails_there : (limits : RotationLimits) (dates : AskedDates) (x : LegalThere held dir settings)
-      → TailsOf settings limits dates (table_bytes (bytes_in held dir)) (bytes_in held dir file.Plan) answer → answer.status.code ≡ DONE
+  tails_there : (limits : RotationLimits) (dates : AskedDates) (x : LegalThere held dir reading)
+      → TailsOf reading limits dates (table_bytes (bytes_in held dir)) (bytes_in held dir file.Plan) answer → answer.status.code ≡ DONE
   tails_there limits dates x answers =
-      let read = there_tables answer settings (table_bytes (bytes_in held dir)) (TailsOn limits dates (bytes_in held dir file.Plan)) x.tables x.reads answers in
+      let read = there_tables answer reading (table_bytes (bytes_in held dir)) (TailsOn limits dates (bytes_in held dir file.Plan)) x.tables x.reads answers in
       let judged = there_plan answer x.tables (bytes_in held dir file.Plan) (OnLegal x.tables (TellsTails x.tables limits dates)) x.plan x.plan_reads read in
       let told = there_legal answer x.tables (TellsTails x.tables limits dates) x.plan x.legal judged in
       ap (λ (a : Answer). a.status.code) told.is
 
   -- tables that read are solved
-  solved_there : (options : SolveOptions) (x : TablesThere held dir settings) → Solves settings options (table_bytes (bytes_in held dir)) answer → IsSolution answer.status.code
+  solved_there : (options : SolveOptions) (x : TablesThere held dir reading) → Solves reading options (table_bytes (bytes_in held dir)) answer → IsSolution answer.status.code
   solved_there options x answers =
-      let gives = there_tables answer settings (table_bytes (bytes_in held dir)) (GivesSolution options) x.tables x.reads answers in
+      let gives = there_tables answer reading (table_bytes (bytes_in held dir)) (GivesSolution options) x.tables x.reads answers in
       rw (ap (λ (a : Answer). a.status.code) gives.is) (solution_status gives.solution)
 
   -- a proof that holds is said to hold
@@ -166,29 +166,29 @@ module _ (held : Files) (dir : List ℕ) (settings : Settings) (answer : Answer)
         let judged = there_plan answer t (bytes_in held dir file.Plan) (OnLegal t (ChecksWith t two)) some.1.plan some.1.reads with_plan in
         tree_there (Some (total_cost t some.1.plan)) bound (rw some.1.costs at holds) (there_legal answer t (ChecksWith t two) some.1.plan some.1.legal judged)
 
-  proof_there : (x : ProofThere held dir settings) → Checks settings (table_bytes (bytes_in held dir)) (bytes_in held dir file.Proof) (bytes_in held dir file.Plan) answer → answer.status.code ≡ DONE
+  proof_there : (x : ProofThere held dir reading) → Checks reading (table_bytes (bytes_in held dir)) (bytes_in held dir file.Proof) (bytes_in held dir file.Plan) answer → answer.status.code ≡ DONE
   proof_there x answers =
-      let read = there_tables answer settings (table_bytes (bytes_in held dir)) (ChecksOn (bytes_in held dir file.Proof) (bytes_in held dir file.Plan)) x.tables x.reads answers in
+      let read = there_tables answer reading (table_bytes (bytes_in held dir)) (ChecksOn (bytes_in held dir file.Proof) (bytes_in held dir file.Plan)) x.tables x.reads answers in
       let own = there_proof answer x.tables (bytes_in held dir file.Proof) (ChecksRead x.tables (bytes_in held dir file.Plan)) x.proof x.proof_reads read in
       cost_there x.tables x.proof.tree own.0.tree own.2 x.proof.planned x.cost x.bound x.plan x.holds
       (subst (λ p. ChecksProof x.tables p own.0.tree (bytes_in held dir file.Plan) answer) own.1 own.3)
 
 -- the plan stands there where the proof asks for it
-plan_further : (held : Files) (dir : List ℕ) (settings : Settings) (x : ProofThere held dir settings) → (cost : Option ℤ) → IsCostThere held dir x.tables x.proof.planned cost
-    → Follows (Some (check dir settings)) (bytes_in held dir) file.Plan → IsHeld held dir file.Plan (bytes_in held dir file.Plan)
-plan_further held dir settings x None none follows = absurd (no_plan_alone settings (table_bytes (bytes_in held dir)) (bytes_in held dir file.Proof) x.tables x.reads x.proof x.proof_reads none follows.1)
-plan_further held dir settings x (Some cost) some follows = some.1.there
+plan_further : (held : Files) (dir : List ℕ) (reading : TableOptions) (x : ProofThere held dir reading) → (cost : Option ℤ) → IsCostThere held dir x.tables x.proof.planned cost
+    → Follows (Some (check dir reading)) (bytes_in held dir) file.Plan → IsHeld held dir file.Plan (bytes_in held dir file.Plan)
+plan_further held dir reading x None none follows = absurd (no_plan_alone reading (table_bytes (bytes_in held dir)) (bytes_in held dir file.Proof) x.tables x.reads x.proof x.proof_reads none follows.1)
+plan_further held dir reading x (Some cost) some follows = some.1.there
 
 pub complete_there : (held : Files) (asked : Option Asked) (answer : Answer) → Answers held asked answer → IsComplete (Some held) asked answer.status.code
 complete_there held None answer answers = tt
-complete_there held (Some (judge dir settings)) answer answers =
-    λ legal. legal_there held dir settings answer legal (read_there held (Some (judge dir settings)) answer answers legal.there (λ follows. absurd follows))
-complete_there held (Some (solve dir settings options)) answer answers =
-    λ there. solved_there held dir settings answer options there (read_there held (Some (solve dir settings options)) answer answers there.there (λ follows. absurd follows))
-complete_there held (Some (check dir settings)) answer answers =
-    λ there. proof_there held dir settings answer there (read_there held (Some (check dir settings)) answer answers there.there (plan_further held dir settings there there.cost there.plan))
-complete_there held (Some (tails dir settings limits dates)) answer answers =
-    λ legal. tails_there held dir settings answer limits dates legal (read_there held (Some (tails dir settings limits dates)) answer answers legal.there (λ follows. absurd follows))
+complete_there held (Some (judge dir reading)) answer answers =
+    λ legal. legal_there held dir reading answer legal (read_there held (Some (judge dir reading)) answer answers legal.there (λ follows. absurd follows))
+complete_there held (Some (solve dir reading options)) answer answers =
+    λ there. solved_there held dir reading answer options there (read_there held (Some (solve dir reading options)) answer answers there.there (λ follows. absurd follows))
+complete_there held (Some (check dir reading)) answer answers =
+    λ there. proof_there held dir reading answer there (read_there held (Some (check dir reading)) answer answers there.there (plan_further held dir reading there there.cost there.plan))
+complete_there held (Some (tails dir reading limits dates)) answer answers =
+    λ legal. tails_there held dir reading answer limits dates legal (read_there held (Some (tails dir reading limits dates)) answer answers legal.there (λ follows. absurd follows))
 complete_there held (Some (make dir number legs)) answer (inl long) = absurd (none_reached held dir number legs long.file long.longer.reached)
 complete_there held (Some (make dir number legs)) answer (inr read) = flyable number legs answer read.answers
 
@@ -196,10 +196,10 @@ complete_there held (Some (make dir number legs)) answer (inr read) = flyable nu
 complete_by : (told : Option Files) (asked : Option Asked) (longer : Type 0) (answer : Answer) → IfSome told (λ held. Answers held asked answer) → AnswersSome longer asked answer → IsComplete told asked answer.status.code
 complete_by (Some held) asked longer answer answers some = complete_there held asked answer answers
 complete_by None None longer answer answers some = tt
-complete_by None (Some (judge dir settings)) longer answer answers some = λ none. absurd none
-complete_by None (Some (solve dir settings options)) longer answer answers some = λ none. absurd none
-complete_by None (Some (check dir settings)) longer answer answers some = λ none. absurd none
-complete_by None (Some (tails dir settings limits dates)) longer answer answers some = λ none. absurd none
+complete_by None (Some (judge dir reading)) longer answer answers some = λ none. absurd none
+complete_by None (Some (solve dir reading options)) longer answer answers some = λ none. absurd none
+complete_by None (Some (check dir reading)) longer answer answers some = λ none. absurd none
+complete_by None (Some (tails dir reading limits dates)) longer answer answers some = λ none. absurd none
 complete_by None (Some (make dir number legs)) longer answer answers (inl long) = absurd (none_read dir number legs long.file long.longer.read)
 complete_by None (Some (make dir number legs)) longer answer answers (inr some) = flyable number legs answer some.1
 

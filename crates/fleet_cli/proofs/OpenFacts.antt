@@ -1,9 +1,9 @@
 -- What the tables and the proof of a folder come to.
-use Rattle.std.proofs.Common.{◌≡◌, ◌⊎◌, ℕ, Bool, true, false, List, Some, None, Result, Ok, Err, IfOk, IsOkAnd, refl, sym, ap, subst, ◌∙◌, inl, inr}
+use Rattle.std.proofs.Common.{◌≡◌, ◌⊎◌, ℕ, Bool, true, false, List, Some, None, Result, Ok, Err, IfOk, IsOkAnd, refl, sym, subst, ◌∙◌, inl, inr}
 use Rattle.bound_cert.specs.ReadProof.{ReadsAs}
 use Rattle.bound_cert.specs.declared.reading.Proof.{Proof}
 use Rattle.command_words.specs.Words.{check}
-use Rattle.fleet_model.specs.declared.parts.Settings.{Settings}
+use Rattle.fleet_model.specs.declared.options.TableOptions.{TableOptions}
 use Rattle.fleet_model.specs.declared.tables.Tables.{Tables}
 use Rattle.plan_desk.specs.declared.file.DeskFile.TheVariants as file
 use Rattle.sched_read.proofs.ReadLaws as tables
@@ -20,32 +20,32 @@ use Rattle.fleet_cli.specs.declared.opened.Opened.{Opened}
 use Rattle.fleet_cli.specs.declared.opened.Opened.TheVariants as opened
 
 -- where the proof says that no plan comes with it, none is wanted
-module _ (settings : Settings) (bytes : TableBytes) (text : List ℕ) (t : Tables) (reads : Reads bytes settings t) where
-  pub no_plan_of_fault : (answer : Answer) → RefusesProof t text answer → ¬ (WantsPlan settings bytes text)
+module _ (reading : TableOptions) (bytes : TableBytes) (text : List ℕ) (t : Tables) (reads : Reads bytes reading.settings t) where
+  pub no_plan_of_fault : (answer : Answer) → RefusesProof t text answer → ¬ (WantsPlan reading bytes text)
   no_plan_of_fault answer refused wants =
-      never_read t text answer wants.proof refused (subst (λ u. ReadsAs u text wants.proof) (tables.one_reading bytes settings wants.tables t wants.reads reads) wants.proof_reads)
+      never_read t text answer wants.proof refused (subst (λ u. ReadsAs u text wants.proof) (tables.one_reading bytes reading.settings wants.tables t wants.reads reads) wants.proof_reads)
 
-  pub no_plan_alone : (proof : Proof) → ReadsAs t text proof → proof.planned ≡ false → ¬ (WantsPlan settings bytes text)
+  pub no_plan_alone : (proof : Proof) → ReadsAs t text proof → proof.planned ≡ false → ¬ (WantsPlan reading bytes text)
   no_plan_alone proof text_reads alone wants =
-      let same = says_one t text wants.proof proof (subst (λ u. ReadsAs u text wants.proof) (tables.one_reading bytes settings wants.tables t wants.reads reads) wants.proof_reads) text_reads in
+      let same = says_one t text wants.proof proof (subst (λ u. ReadsAs u text wants.proof) (tables.one_reading bytes reading.settings wants.tables t wants.reads reads) wants.proof_reads) text_reads in
       let never : ◌≡◌ {A = Bool} true false = sym wants.planned ∙ same.0 ∙ alone in
       let bad : ⊥ = cc in bad
 
-module _ (dir : List ℕ) (settings : Settings) (bytes : FileBytes) where
-  pub refused_settles : (answer : Answer) → RefusesTables (table_bytes bytes) settings answer → Settles (Some (check dir settings)) bytes answer
+module _ (dir : List ℕ) (reading : TableOptions) (bytes : FileBytes) where
+  pub refused_settles : (answer : Answer) → RefusesTables (table_bytes bytes) reading answer → Settles (Some (check dir reading)) bytes answer
   refused_settles answer x = record {
-    no_more = λ f follows. tables.reads_no_fault (table_bytes bytes) settings follows.1.tables x.file x.row x.kind follows.1.reads x.bad;
+    no_more = λ f follows. tables.reads_no_fault (table_bytes bytes) reading.settings follows.1.tables x.file x.row x.kind follows.1.reads x.bad;
     answers = inl x;
   }
 
-  module _ (t : Tables) (reads : Reads (table_bytes bytes) settings t) where
-    answered : (answer : Answer) → RefusesProof t (bytes file.Proof) answer ⊎ ChecksAlone t (bytes file.Proof) answer → Settles (Some (check dir settings)) bytes answer
+  module _ (t : Tables) (reads : Reads (table_bytes bytes) reading.settings t) where
+    answered : (answer : Answer) → RefusesProof t (bytes file.Proof) answer ⊎ ChecksAlone t (bytes file.Proof) answer → Settles (Some (check dir reading)) bytes answer
     answered answer (inl refused) = record {
-      no_more = λ f follows. no_plan_of_fault settings (table_bytes bytes) (bytes file.Proof) t reads answer refused follows.1;
+      no_more = λ f follows. no_plan_of_fault reading (table_bytes bytes) (bytes file.Proof) t reads answer refused follows.1;
       answers = inr (record { tables = t; reads = reads; finishes = inl refused });
     }
     answered answer (inr x) = record {
-      no_more = λ f follows. no_plan_alone settings (table_bytes bytes) (bytes file.Proof) t reads x.proof x.reads x.alone follows.1;
+      no_more = λ f follows. no_plan_alone reading (table_bytes bytes) (bytes file.Proof) t reads x.proof x.reads x.alone follows.1;
       answers = inr (record {
         tables = t;
         reads = reads;
@@ -53,7 +53,7 @@ module _ (dir : List ℕ) (settings : Settings) (bytes : FileBytes) where
       });
     }
 
-    pub is_opened : (o : Opened) → IsOpenedBy t (bytes file.Proof) o → IsOpened (Some (check dir settings)) bytes o
+    pub is_opened : (o : Opened) → IsOpenedBy t (bytes file.Proof) o → IsOpened (Some (check dir reading)) bytes o
     is_opened (opened.Answered answer) by = answered answer by
     is_opened (opened.WantsPlan checking) by = record {
       wanted = (refl, record { tables = t; proof = checking.proof; reads = reads; proof_reads = by.reads; planned = by.planned });

@@ -16,7 +16,7 @@ use Rattle.command_words.specs.declared.command.RotationLimits.{RotationLimits}
 use Rattle.command_words.specs.declared.command.SolveOptions.{SolveOptions}
 use Rattle.command_words.specs.declared.command.TheConstants.{DEFAULT_OPTIONS}
 use Rattle.fleet_model.specs.Legal.{total_cost}
-use Rattle.fleet_model.specs.declared.parts.Settings.{Settings}
+use Rattle.fleet_model.specs.declared.options.TableOptions.{TableOptions}
 use Rattle.sched_read.specs.Reading.{TableBytes}
 use Rattle.table_maker.specs.Made.{made_tables}
 use Rattle.table_maker.specs.declared.made.MadeTables.{MadeTables}
@@ -137,8 +137,8 @@ made_kind dir number legs answer x = let given = x.solves.finishes in record {
 }
 
 -- the answer of a solution of what was read
-solved_kind : (dir : List ℕ) (settings : Settings) (options : SolveOptions) (bytes : TableBytes) (answer : Answer) → TablesRead settings bytes (GivesSolution options) answer → IsSolved (Some (solve dir settings options)) answer
-solved_kind dir settings options bytes answer x = let given = x.finishes in record {
+solved_kind : (dir : List ℕ) (reading : TableOptions) (options : SolveOptions) (bytes : TableBytes) (answer : Answer) → TablesRead reading bytes (GivesSolution options) answer → IsSolved (Some (solve dir reading options)) answer
+solved_kind dir reading options bytes answer x = let given = x.finishes in record {
   first = [];
   tables = x.tables;
   options = options;
@@ -190,8 +190,8 @@ solution_ends code (inr (inr (inr is))) = (λ e. let bad : ◌≡◌ {A = ℕ} 5
 
 module _ (asked : Option Asked) (answer : Answer) where
   -- what is said of all that is answered on what was read is said of the refusals too
-  said_tables : (settings : Settings) (bytes : TableBytes) (finish : Tables → Answer → Type 0) → ((t : Tables) → finish t answer → IsSaid asked answer) → OnTables settings bytes finish answer → IsSaid asked answer
-  said_tables settings bytes finish more = either_tables answer (IsSaid asked answer) settings bytes finish (λ x. bad asked answer _ x.is) (λ t reads. more t)
+  said_tables : (reading : TableOptions) (bytes : TableBytes) (finish : Tables → Answer → Type 0) → ((t : Tables) → finish t answer → IsSaid asked answer) → OnTables reading bytes finish answer → IsSaid asked answer
+  said_tables reading bytes finish more = either_tables answer (IsSaid asked answer) reading bytes finish (λ x. bad asked answer _ x.is) (λ t reads. more t)
 
   module _ (t : Tables) where
     said_plan : (bytes : List ℕ) (finish : List ℕ → Answer → Type 0) → ((plan : List ℕ) → finish plan answer → IsSaid asked answer) → OnPlan t bytes finish answer → IsSaid asked answer
@@ -220,20 +220,20 @@ module _ (asked : Option Asked) (answer : Answer) where
 module _ (answer : Answer) where
   kind_of : (asked : Option Asked) (bytes : FileBytes) → AnswersOf asked bytes answer → IsSaid asked answer ⊎ IsSolved asked answer
   kind_of None bytes x = inl (record { code = USAGE; text = _; is = x; ends = usage_ends })
-  kind_of (Some (judge dir settings)) bytes x = inl (
-      let asked = Some (judge dir settings) in
-      said_tables asked answer settings (table_bytes bytes) (JudgesOn (bytes desk_file.Plan)) (λ t. said_plan asked answer t (bytes desk_file.Plan) (JudgesPlan t) (judged asked answer t)) x
+  kind_of (Some (judge dir reading)) bytes x = inl (
+      let asked = Some (judge dir reading) in
+      said_tables asked answer reading (table_bytes bytes) (JudgesOn (bytes desk_file.Plan)) (λ t. said_plan asked answer t (bytes desk_file.Plan) (JudgesPlan t) (judged asked answer t)) x
       )
-  kind_of (Some (solve dir settings options)) bytes (inl x) = inl (bad (Some (solve dir settings options)) answer _ x.is)
-  kind_of (Some (solve dir settings options)) bytes (inr x) = inr (solved_kind dir settings options (table_bytes bytes) answer x)
-  kind_of (Some (check dir settings)) bytes x = inl (
-      let asked = Some (check dir settings) in
-      said_tables asked answer settings (table_bytes bytes) (ChecksOn (bytes desk_file.Proof) (bytes desk_file.Plan))
+  kind_of (Some (solve dir reading options)) bytes (inl x) = inl (bad (Some (solve dir reading options)) answer _ x.is)
+  kind_of (Some (solve dir reading options)) bytes (inr x) = inr (solved_kind dir reading options (table_bytes bytes) answer x)
+  kind_of (Some (check dir reading)) bytes x = inl (
+      let asked = Some (check dir reading) in
+      said_tables asked answer reading (table_bytes bytes) (ChecksOn (bytes desk_file.Proof) (bytes desk_file.Plan))
       (λ t. said_proof asked answer t (bytes desk_file.Proof) (ChecksRead t (bytes desk_file.Plan)) (λ proof. proof_said asked answer t (bytes desk_file.Plan) proof.planned proof.tree)) x
       )
-  kind_of (Some (tails dir settings limits dates)) bytes x = inl (
-      let asked = Some (tails dir settings limits dates) in
-      said_tables asked answer settings (table_bytes bytes) (TailsOn limits dates (bytes desk_file.Plan))
+  kind_of (Some (tails dir reading limits dates)) bytes x = inl (
+      let asked = Some (tails dir reading limits dates) in
+      said_tables asked answer reading (table_bytes bytes) (TailsOn limits dates (bytes desk_file.Plan))
       (λ t. said_plan asked answer t (bytes desk_file.Plan) (OnLegal t (TellsTails t limits dates)) (λ p. said_legal asked answer t (TellsTails t limits dates) p (tails_said asked answer t limits dates p))) x
       )
   kind_of (Some (make dir number legs)) bytes x = inr (made_kind dir number legs answer x)

@@ -1,8 +1,8 @@
 -- The answer to a command rests on the bytes of the files that it reads, and on nothing else.
-use Rattle.std.proofs.Common.{◌≡◌, ◌⊎◌, ℕ, Bool, true, false, List, [], ◌∷◌, Option, Some, None, refl, subst, inl, inr, arith}
+use Rattle.std.proofs.Common.{◌≡◌, ℕ, Bool, true, false, List, [], ◌∷◌, Option, Some, None, refl, subst, arith}
 use Rattle.bound_cert.specs.declared.reading.Proof.{Proof}
 use Rattle.command_words.specs.Words.{Asked, check, judge, make, solve, tails}
-use Rattle.fleet_model.specs.declared.parts.Settings.{Settings}
+use Rattle.fleet_model.specs.declared.options.TableOptions.{TableOptions}
 use Rattle.fleet_model.specs.declared.tables.Tables.{Tables}
 use Rattle.plan_desk.specs.declared.file.DeskFile.{DeskFile}
 use Rattle.plan_desk.specs.declared.file.DeskFile.TheVariants as file
@@ -35,48 +35,48 @@ module _ (bytes other : FileBytes) (last : DeskFile) (same : (f : DeskFile) → 
   last_same = same last (among_right table_files (last ∷ []) last (record { place = 0; within = omega arith; is = λ d. refl }))
 
 -- checking looks at the plan only where the proof says that one comes with it
-module _ (settings : Settings) (bytes : TableBytes) (text plan other : List ℕ) (same : WantsPlan settings bytes text → plan ≡ other) (answer : Answer) where
-  by_says : (t : Tables) (proof : Proof) (planned : Bool) → Reads bytes settings t → ReadsAs t text proof → proof.planned ≡ planned → ChecksProof t planned proof.tree plan answer → ChecksProof t planned proof.tree other answer
+module _ (reading : TableOptions) (bytes : TableBytes) (text plan other : List ℕ) (same : WantsPlan reading bytes text → plan ≡ other) (answer : Answer) where
+  by_says : (t : Tables) (proof : Proof) (planned : Bool) → Reads bytes reading.settings t → ReadsAs t text proof → proof.planned ≡ planned → ChecksProof t planned proof.tree plan answer → ChecksProof t planned proof.tree other answer
   by_says t proof false reads text_reads says checks = checks
   by_says t proof true reads text_reads says checks =
       subst (λ p. ChecksProof t true proof.tree p answer) (same (record { tables = t; proof = proof; reads = reads; proof_reads = text_reads; planned = says })) checks
 
-  pub other_plan : Checks settings bytes text plan answer → Checks settings bytes text other answer
+  pub other_plan : Checks reading bytes text plan answer → Checks reading bytes text other answer
   other_plan =
-      map_tables answer settings bytes (ChecksOn text plan) (ChecksOn text other)
+      map_tables answer reading bytes (ChecksOn text plan) (ChecksOn text other)
       (λ t reads. map_proof answer t text (ChecksRead t plan) (ChecksRead t other) (λ proof text_reads. by_says t proof proof.planned reads text_reads refl))
 
 pub same_follows : (asked : Option Asked) (bytes other : FileBytes) → ((f : DeskFile) → IsAmong (first_files asked) f → bytes f ≡ other f) → (f : DeskFile) → Follows asked bytes f → Follows asked other f
 same_follows None bytes other same f follows = follows
-same_follows (Some (judge dir settings)) bytes other same f follows = follows
-same_follows (Some (solve dir settings options)) bytes other same f follows = follows
-same_follows (Some (check dir settings)) bytes other same f follows = (
+same_follows (Some (judge dir reading)) bytes other same f follows = follows
+same_follows (Some (solve dir reading options)) bytes other same f follows = follows
+same_follows (Some (check dir reading)) bytes other same f follows = (
   follows.0,
-  subst (λ t. WantsPlan settings t (other file.Proof)) (front_same bytes other file.Proof same) (subst (λ p. WantsPlan settings (table_bytes bytes) p) (last_same bytes other file.Proof same) follows.1),
+  subst (λ t. WantsPlan reading t (other file.Proof)) (front_same bytes other file.Proof same) (subst (λ p. WantsPlan reading (table_bytes bytes) p) (last_same bytes other file.Proof same) follows.1),
 )
-same_follows (Some (tails dir settings limits dates)) bytes other same f follows = follows
+same_follows (Some (tails dir reading limits dates)) bytes other same f follows = follows
 same_follows (Some (make dir number legs)) bytes other same f follows = follows
 
 -- the one file that is read after the first is the plan
 pub follows_plan : (asked : Option Asked) (bytes : FileBytes) (f : DeskFile) → Follows asked bytes f → f ≡ file.Plan
 follows_plan None bytes f follows = absurd follows
-follows_plan (Some (judge dir settings)) bytes f follows = absurd follows
-follows_plan (Some (solve dir settings options)) bytes f follows = absurd follows
-follows_plan (Some (check dir settings)) bytes f follows = follows.0
-follows_plan (Some (tails dir settings limits dates)) bytes f follows = absurd follows
+follows_plan (Some (judge dir reading)) bytes f follows = absurd follows
+follows_plan (Some (solve dir reading options)) bytes f follows = absurd follows
+follows_plan (Some (check dir reading)) bytes f follows = follows.0
+follows_plan (Some (tails dir reading limits dates)) bytes f follows = absurd follows
 follows_plan (Some (make dir number legs)) bytes f follows = absurd follows
 
 pub same_answer : (asked : Option Asked) (bytes other : FileBytes) → ((f : DeskFile) → IsAmong (first_files asked) f → bytes f ≡ other f) → ((f : DeskFile) → Follows asked bytes f → bytes f ≡ other f)
     → (answer : Answer) → AnswersOf asked bytes answer → AnswersOf asked other answer
 same_answer None bytes other first further answer x = x
-same_answer (Some (judge dir settings)) bytes other first further answer x =
-    subst (λ t. Judges settings t (other file.Plan) answer) (front_same bytes other file.Plan first) (subst (λ p. Judges settings (table_bytes bytes) p answer) (last_same bytes other file.Plan first) x)
-same_answer (Some (solve dir settings options)) bytes other first further answer x = subst (λ t. Solves settings options t answer) (tables_same bytes other first) x
-same_answer (Some (check dir settings)) bytes other first further answer x =
-    subst (λ t. Checks settings t (other file.Proof) (other file.Plan) answer) (front_same bytes other file.Proof first)
-    (subst (λ p. Checks settings (table_bytes bytes) p (other file.Plan) answer) (last_same bytes other file.Proof first)
-    (other_plan settings (table_bytes bytes) (bytes file.Proof) (bytes file.Plan) (other file.Plan) (λ wants. further file.Plan (refl, wants)) answer x))
-same_answer (Some (tails dir settings limits dates)) bytes other first further answer x =
-    subst (λ t. TailsOf settings limits dates t (other file.Plan) answer) (front_same bytes other file.Plan first)
-    (subst (λ p. TailsOf settings limits dates (table_bytes bytes) p answer) (last_same bytes other file.Plan first) x)
+same_answer (Some (judge dir reading)) bytes other first further answer x =
+    subst (λ t. Judges reading t (other file.Plan) answer) (front_same bytes other file.Plan first) (subst (λ p. Judges reading (table_bytes bytes) p answer) (last_same bytes other file.Plan first) x)
+same_answer (Some (solve dir reading options)) bytes other first further answer x = subst (λ t. Solves reading options t answer) (tables_same bytes other first) x
+same_answer (Some (check dir reading)) bytes other first further answer x =
+    subst (λ t. Checks reading t (other file.Proof) (other file.Plan) answer) (front_same bytes other file.Proof first)
+    (subst (λ p. Checks reading (table_bytes bytes) p (other file.Plan) answer) (last_same bytes other file.Proof first)
+    (other_plan reading (table_bytes bytes) (bytes file.Proof) (bytes file.Plan) (other file.Plan) (λ wants. further file.Plan (refl, wants)) answer x))
+same_answer (Some (tails dir reading limits dates)) bytes other first further answer x =
+    subst (λ t. TailsOf reading limits dates t (other file.Plan) answer) (front_same bytes other file.Plan first)
+    (subst (λ p. TailsOf reading limits dates (table_bytes bytes) p answer) (last_same bytes other file.Plan first) x)
 same_answer (Some (make dir number legs)) bytes other first further answer x = x

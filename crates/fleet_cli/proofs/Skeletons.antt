@@ -9,7 +9,7 @@ use Rattle.csv_fields.specs.Record.{records_of}
 use Rattle.dual_bound.specs.Nodes.{nodes_of}
 use Rattle.dual_bound.specs.declared.nodes.Node.{Node}
 use Rattle.fleet_model.specs.Legal.{IsLegal, total_cost}
-use Rattle.fleet_model.specs.declared.parts.Settings.{Settings}
+use Rattle.fleet_model.specs.declared.options.TableOptions.{TableOptions}
 use Rattle.fleet_model.specs.declared.tables.Tables.{Tables}
 use Rattle.plan_judge.proofs.OneVerdict.{one_verdict}
 use Rattle.plan_judge.specs.declared.verdicts.Verdict.TheVariants as verdict
@@ -60,9 +60,9 @@ never_legal t plan answer x legal =
 -- ---- one answer
 
 module _ (answer other : Answer) where
-  refuses_tables : (settings : Settings) (bytes : TableBytes) → RefusesTables bytes settings answer → RefusesTables bytes settings other → answer ≡ other
-  refuses_tables settings bytes x y =
-      let same = tables.one_first_fault bytes settings x.file y.file x.row y.row x.kind y.kind x.bad y.bad in
+  refuses_tables : (reading : TableOptions) (bytes : TableBytes) → RefusesTables bytes reading answer → RefusesTables bytes reading other → answer ≡ other
+  refuses_tables reading bytes x y =
+      let same = tables.one_first_fault bytes reading.settings x.file y.file x.row y.row x.kind y.kind x.bad y.bad in
       x.is ∙ rw (same.file_is, same.row_is, same.kind_is) refl ∙ sym y.is
 
   refuses_plan : (t : Tables) (bytes : List ℕ) → RefusesPlan t bytes answer → RefusesPlan t bytes other → answer ≡ other
@@ -80,13 +80,13 @@ module _ (answer other : Answer) where
       let same = one_fault t bytes x.fault y.fault x.bad y.bad in
       x.is ∙ rw (same.line_is, same.kind_is) refl ∙ sym y.is
 
-  pub one_tables : (settings : Settings) (bytes : TableBytes) (finish : Tables → Answer → Type 0) → ((t : Tables) → finish t answer → finish t other → answer ≡ other)
-      → OnTables settings bytes finish answer → OnTables settings bytes finish other → answer ≡ other
-  one_tables settings bytes finish one (inl x) (inl y) = refuses_tables settings bytes x y
-  one_tables settings bytes finish one (inl x) (inr y) = absurd (tables.reads_no_fault bytes settings y.tables x.file x.row x.kind y.reads x.bad)
-  one_tables settings bytes finish one (inr x) (inl y) = absurd (tables.reads_no_fault bytes settings x.tables y.file y.row y.kind x.reads y.bad)
-  one_tables settings bytes finish one (inr x) (inr y) =
-      one y.tables (subst (λ t. finish t answer) (tables.one_reading bytes settings x.tables y.tables x.reads y.reads) x.finishes) y.finishes
+  pub one_tables : (reading : TableOptions) (bytes : TableBytes) (finish : Tables → Answer → Type 0) → ((t : Tables) → finish t answer → finish t other → answer ≡ other)
+      → OnTables reading bytes finish answer → OnTables reading bytes finish other → answer ≡ other
+  one_tables reading bytes finish one (inl x) (inl y) = refuses_tables reading bytes x y
+  one_tables reading bytes finish one (inl x) (inr y) = absurd (tables.reads_no_fault bytes reading.settings y.tables x.file x.row x.kind y.reads x.bad)
+  one_tables reading bytes finish one (inr x) (inl y) = absurd (tables.reads_no_fault bytes reading.settings x.tables y.file y.row y.kind x.reads y.bad)
+  one_tables reading bytes finish one (inr x) (inr y) =
+      one y.tables (subst (λ t. finish t answer) (tables.one_reading bytes reading.settings x.tables y.tables x.reads y.reads) x.finishes) y.finishes
 
   module _ (t : Tables) where
     pub one_plan : (bytes : List ℕ) (first second : List ℕ → Answer → Type 0) → ((plan : List ℕ) → first plan answer → second plan other → answer ≡ other)
@@ -117,10 +117,10 @@ module _ (answer other : Answer) where
 -- ---- what follows of a refusal, and of all that is answered else, follows
 
 module _ (answer : Answer) (K : Type 0) where
-  pub either_tables : (settings : Settings) (bytes : TableBytes) (finish : Tables → Answer → Type 0) → (RefusesTables bytes settings answer → K)
-      → ((t : Tables) → Reads bytes settings t → finish t answer → K) → OnTables settings bytes finish answer → K
-  either_tables settings bytes finish refused read (inl x) = refused x
-  either_tables settings bytes finish refused read (inr x) = read x.tables x.reads x.finishes
+  pub either_tables : (reading : TableOptions) (bytes : TableBytes) (finish : Tables → Answer → Type 0) → (RefusesTables bytes reading answer → K)
+      → ((t : Tables) → Reads bytes reading.settings t → finish t answer → K) → OnTables reading bytes finish answer → K
+  either_tables reading bytes finish refused read (inl x) = refused x
+  either_tables reading bytes finish refused read (inr x) = read x.tables x.reads x.finishes
 
   module _ (t : Tables) where
     pub either_plan : (bytes : List ℕ) (finish : List ℕ → Answer → Type 0) → (RefusesPlan t bytes answer → K)
@@ -140,9 +140,9 @@ module _ (answer : Answer) (K : Type 0) where
 -- ---- what reads and is legal isn't refused
 
 module _ (answer : Answer) where
-  pub there_tables : (settings : Settings) (bytes : TableBytes) (finish : Tables → Answer → Type 0) (t : Tables) → Reads bytes settings t → OnTables settings bytes finish answer → finish t answer
-  there_tables settings bytes finish t reads (inl x) = absurd (tables.reads_no_fault bytes settings t x.file x.row x.kind reads x.bad)
-  there_tables settings bytes finish t reads (inr x) = subst (λ u. finish u answer) (tables.one_reading bytes settings x.tables t x.reads reads) x.finishes
+  pub there_tables : (reading : TableOptions) (bytes : TableBytes) (finish : Tables → Answer → Type 0) (t : Tables) → Reads bytes reading.settings t → OnTables reading bytes finish answer → finish t answer
+  there_tables reading bytes finish t reads (inl x) = absurd (tables.reads_no_fault bytes reading.settings t x.file x.row x.kind reads x.bad)
+  there_tables reading bytes finish t reads (inr x) = subst (λ u. finish u answer) (tables.one_reading bytes reading.settings x.tables t x.reads reads) x.finishes
 
   module _ (t : Tables) where
     pub there_plan : (bytes : List ℕ) (finish : List ℕ → Answer → Type 0) (plan : List ℕ) → PlanReads t (records_of bytes) plan → OnPlan t bytes finish answer → finish plan answer
@@ -162,10 +162,10 @@ module _ (answer : Answer) where
 -- ---- other answers on what was read
 
 module _ (answer : Answer) where
-  pub map_tables : (settings : Settings) (bytes : TableBytes) (finish other : Tables → Answer → Type 0) → ((t : Tables) → Reads bytes settings t → finish t answer → other t answer)
-      → OnTables settings bytes finish answer → OnTables settings bytes other answer
-  map_tables settings bytes finish other more (inl x) = inl x
-  map_tables settings bytes finish other more (inr x) = inr (record { tables = x.tables; reads = x.reads; finishes = more x.tables x.reads x.finishes })
+  pub map_tables : (reading : TableOptions) (bytes : TableBytes) (finish other : Tables → Answer → Type 0) → ((t : Tables) → Reads bytes reading.settings t → finish t answer → other t answer)
+      → OnTables reading bytes finish answer → OnTables reading bytes other answer
+  map_tables reading bytes finish other more (inl x) = inl x
+  map_tables reading bytes finish other more (inr x) = inr (record { tables = x.tables; reads = x.reads; finishes = more x.tables x.reads x.finishes })
 
   pub map_proof : (t : Tables) (bytes : List ℕ) (finish other : Proof → Answer → Type 0) → ((proof : Proof) → ReadsAs t bytes proof → finish proof answer → other proof answer)
       → OnProof t bytes finish answer → OnProof t bytes other answer

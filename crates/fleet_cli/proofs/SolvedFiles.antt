@@ -9,7 +9,7 @@ use Rattle.branch_bound.specs.declared.solved.Solved.{Solved}
 use Rattle.branch_bound.specs.declared.solved.Solved.TheVariants as solved
 use Rattle.command_words.specs.Words.{check, solve}
 use Rattle.command_words.specs.declared.command.SolveOptions.{SolveOptions}
-use Rattle.fleet_model.specs.declared.parts.Settings.{Settings}
+use Rattle.fleet_model.specs.declared.options.TableOptions.{TableOptions}
 use Rattle.fleet_model.specs.declared.tables.Tables.{Tables}
 use Rattle.plan_desk.specs.Desk.{Files}
 use Rattle.plan_desk.specs.DeskFile.{path_of}
@@ -128,22 +128,22 @@ module _ (t : Tables) (rotations : List FleetRotation) (visits : ℕ) where
   proof_short (solved.Infeasible whole) lengths = lengths.each 0 no_text (omega arith)
   proof_short (solved.Unsettled bound whole) lengths = lengths.each 0 no_text (omega arith)
 
-  proof_stays : (held : Files) (dir : List ℕ) (settings : Settings) (s : Solved) → AllStand held dir table_files → Reads (table_bytes (bytes_in held dir)) settings t
-      → IsRight t s → ReadsAndHolds t s → HaveLengths (solved_files t s rotations visits) → ProofThere (with_texts held dir (solved_files t s rotations visits)) dir settings
-  proof_stays held dir settings s there reads right proof lengths = record {
+  proof_stays : (held : Files) (dir : List ℕ) (reading : TableOptions) (s : Solved) → AllStand held dir table_files → Reads (table_bytes (bytes_in held dir)) reading.settings t
+      → IsRight t s → ReadsAndHolds t s → HaveLengths (solved_files t s rotations visits) → ProofThere (with_texts held dir (solved_files t s rotations visits)) dir reading
+  proof_stays held dir reading s there reads right proof lengths = record {
     tables = t;
     proof = proof.proof;
     cost = plan_cost s;
     bound = _;
     there = proof_there held dir t s rotations visits there (proof_short s lengths);
-    reads = subst (λ b. Reads b settings t) (sym (same_tables held dir t s rotations visits)) reads;
+    reads = subst (λ b. Reads b reading.settings t) (sym (same_tables held dir t s rotations visits)) reads;
     proof_reads = subst (λ b. ReadsAs t b proof.proof) (sym (same_proof held dir t s rotations visits)) proof.reads;
     plan = rw proof.says (plan_there held dir s right);
     holds = proof.holds;
   }
 
 -- the answer to solving, with its files as they were written
-module _ (held : Files) (dir : List ℕ) (solving checking : Settings) (same : solving.day_start ≡ checking.day_start) (options : SolveOptions) (solved_as checked_as : Answer)
+module _ (held : Files) (dir : List ℕ) (solving checking : TableOptions) (same : solving.settings.day_start ≡ checking.settings.day_start) (options : SolveOptions) (solved_as checked_as : Answer)
     (solution : IsSolution solved_as.status.code) (lengths : HaveLengths solved_as.files) (checks : Answers (with_texts held dir solved_as.files) (Some (check dir checking)) checked_as) where
   answered : Answers held (Some (solve dir solving options)) solved_as → checked_as.status.code ≡ 0
   answered (inl long) = absurd (not_refused _ solution (ap (λ (a : Answer). a.status.code) long.is))

@@ -11,9 +11,9 @@ use Rattle.command_words.specs.Arguments.{AskedDates}
 use Rattle.command_words.specs.Words.{Asked, check, judge, make, solve, tails}
 use Rattle.command_words.specs.declared.command.RotationLimits.{RotationLimits}
 use Rattle.command_words.specs.declared.command.SolveOptions.{SolveOptions}
-use Rattle.command_words.specs.declared.command.TheConstants.{DEFAULT_OPTIONS, DEFAULT_SETTINGS}
+use Rattle.command_words.specs.declared.command.TheConstants.{DEFAULT_OPTIONS, DEFAULT_READING}
 use Rattle.fleet_model.specs.Legal.{total_cost}
-use Rattle.fleet_model.specs.declared.parts.Settings.{Settings}
+use Rattle.fleet_model.specs.declared.options.TableOptions.{TableOptions}
 use Rattle.fleet_model.specs.declared.tables.Tables.{Tables}
 use Rattle.fleet_rotations.specs.declared.made.FleetRotation.{FleetRotation}
 use Rattle.plan_desk.specs.Desk.{Files}
@@ -49,8 +49,8 @@ abbrev pub JudgesOn : List ℕ → Tables → Answer → Type 0
 JudgesOn plan t = OnPlan t plan (JudgesPlan t)
 
 -- judging by the bytes of the tables and of the plan
-abbrev pub Judges : Settings → TableBytes → List ℕ → Answer → Type 0
-Judges settings bytes plan = OnTables settings bytes (JudgesOn plan)
+abbrev pub Judges : TableOptions → TableBytes → List ℕ → Answer → Type 0
+Judges reading bytes plan = OnTables reading bytes (JudgesOn plan)
 
 -- ---- solving
 
@@ -63,8 +63,8 @@ pub record GivesSolution (options : SolveOptions) (t : Tables) (answer : Answer)
   pub is : answer ≡ solved_answer t options solution rotations
 
 -- solving by the bytes of the tables
-abbrev pub Solves : Settings → SolveOptions → TableBytes → Answer → Type 0
-Solves settings options bytes = OnTables settings bytes (GivesSolution options)
+abbrev pub Solves : TableOptions → SolveOptions → TableBytes → Answer → Type 0
+Solves reading options bytes = OnTables reading bytes (GivesSolution options)
 
 -- ---- making
 
@@ -73,7 +73,7 @@ Solves settings options bytes = OnTables settings bytes (GivesSolution options)
 pub record Makes (number legs : ℕ) (answer : Answer) : Type 0 where
   pub solving : Answer
   pub can : CanBeMade number legs
-  pub solves : TablesRead DEFAULT_SETTINGS (bytes_of (made_tables number legs)) (GivesSolution DEFAULT_OPTIONS) solving
+  pub solves : TablesRead DEFAULT_READING (bytes_of (made_tables number legs)) (GivesSolution DEFAULT_OPTIONS) solving
   pub is : answer ≡ after_files (made_files (made_tables number legs)) solving
 
 -- ---- checking
@@ -106,8 +106,8 @@ abbrev pub ChecksOn : List ℕ → List ℕ → Tables → Answer → Type 0
 ChecksOn proof plan t = OnProof t proof (ChecksRead t plan)
 
 -- checking by the bytes of the tables, of the proof and of the plan
-abbrev pub Checks : Settings → TableBytes → List ℕ → List ℕ → Answer → Type 0
-Checks settings bytes proof plan = OnTables settings bytes (ChecksOn proof plan)
+abbrev pub Checks : TableOptions → TableBytes → List ℕ → List ℕ → Answer → Type 0
+Checks reading bytes proof plan = OnTables reading bytes (ChecksOn proof plan)
 
 -- ---- tails
 
@@ -122,18 +122,18 @@ abbrev pub TailsOn : RotationLimits → AskedDates → List ℕ → Tables → A
 TailsOn limits dates plan t = OnPlan t plan (OnLegal t (TellsTails t limits dates))
 
 -- telling tails by the bytes of the tables and of the plan
-abbrev pub TailsOf : Settings → RotationLimits → AskedDates → TableBytes → List ℕ → Answer → Type 0
-TailsOf settings limits dates bytes plan = OnTables settings bytes (TailsOn limits dates plan)
+abbrev pub TailsOf : TableOptions → RotationLimits → AskedDates → TableBytes → List ℕ → Answer → Type 0
+TailsOf reading limits dates bytes plan = OnTables reading bytes (TailsOn limits dates plan)
 
 -- ---- what the program answers
 
 -- The answer to what words ask, where the files that are read hold these bytes, none too long.
 abbrev pub AnswersOf : Option Asked → FileBytes → Answer → Type 0
 AnswersOf None bytes answer = answer ≡ says USAGE usage_text
-AnswersOf (Some (judge dir settings)) bytes answer = Judges settings (table_bytes bytes) (bytes file.Plan) answer
-AnswersOf (Some (solve dir settings options)) bytes answer = Solves settings options (table_bytes bytes) answer
-AnswersOf (Some (check dir settings)) bytes answer = Checks settings (table_bytes bytes) (bytes file.Proof) (bytes file.Plan) answer
-AnswersOf (Some (tails dir settings limits dates)) bytes answer = TailsOf settings limits dates (table_bytes bytes) (bytes file.Plan) answer
+AnswersOf (Some (judge dir reading)) bytes answer = Judges reading (table_bytes bytes) (bytes file.Plan) answer
+AnswersOf (Some (solve dir reading options)) bytes answer = Solves reading options (table_bytes bytes) answer
+AnswersOf (Some (check dir reading)) bytes answer = Checks reading (table_bytes bytes) (bytes file.Proof) (bytes file.Plan) answer
+AnswersOf (Some (tails dir reading limits dates)) bytes answer = TailsOf reading limits dates (table_bytes bytes) (bytes file.Plan) answer
 AnswersOf (Some (make dir number legs)) bytes answer = Makes number legs answer
 
 -- all files that are read are within their limits, and the answer is by what they hold

@@ -5,8 +5,8 @@ use Rattle.cert_check.specs.Verdicts.{BoundsAll}
 use Rattle.cert_check.specs.declared.checked.Checked.TheVariants as checked
 use Rattle.command_words.specs.Words.{Asked, check, judge, make, solve, tails}
 use Rattle.command_words.specs.declared.command.SolveOptions.{SolveOptions}
-use Rattle.command_words.specs.declared.command.TheConstants.{DEFAULT_OPTIONS, DEFAULT_SETTINGS}
-use Rattle.fleet_model.specs.declared.parts.Settings.{Settings}
+use Rattle.command_words.specs.declared.command.TheConstants.{DEFAULT_OPTIONS, DEFAULT_READING}
+use Rattle.fleet_model.specs.declared.options.TableOptions.{TableOptions}
 use Rattle.fleet_model.specs.declared.tables.Tables.{Tables}
 use Rattle.bound_cert.specs.ProofText.{proof_text}
 use Rattle.plan_desk.specs.Desk.{Files}
@@ -50,12 +50,12 @@ plan_there t (solved.Unsettled bound tree) before = before
 -- it says infeasible, none is legal. Under the rotations' name stands the text of what becomes of each fleet's rotation by
 -- that plan, and the summary tells it: each tour is one of the fleet and is kept, each that is refused has its cause, and
 -- the pairs of the first round are a through set that is worth most. Without a plan there are no rotations.
-pub record LeavesSolution (held stands : Files) (dir : List ℕ) (settings : Settings) (options : SolveOptions) (code : ℕ) (before after : Option (List ℕ)) : Type 0 where
+pub record LeavesSolution (held stands : Files) (dir : List ℕ) (reading : TableOptions) (options : SolveOptions) (code : ℕ) (before after : Option (List ℕ)) : Type 0 where
   pub tables : Tables
   pub solution : Solved
   pub rotations : List FleetRotation
   pub there : AllStand held dir table_files
-  pub reads : Reads (table_bytes (bytes_in held dir)) settings tables
+  pub reads : Reads (table_bytes (bytes_in held dir)) reading.settings tables
   pub solves : IsSolved tables options.search.nodes options.search.pivots solution
   pub rotates : AreRotationsOf tables options.rotations solution rotations
   pub plan : stands (path_of dir desk_file.Plan) ≡ plan_there tables solution (held (path_of dir desk_file.Plan))
@@ -65,10 +65,10 @@ pub record LeavesSolution (held stands : Files) (dir : List ℕ) (settings : Set
   pub code_is : code ≡ solved_status solution
 
 -- the desk still tells what it holds, and it is what solving leaves
-pub record TellsSolution (held : Files) (told : Option Files) (dir : List ℕ) (settings : Settings) (options : SolveOptions) (code : ℕ) (before after : Option (List ℕ)) : Type 0 where
+pub record TellsSolution (held : Files) (told : Option Files) (dir : List ℕ) (reading : TableOptions) (options : SolveOptions) (code : ℕ) (before after : Option (List ℕ)) : Type 0 where
   pub stands : Files
   pub tells : told ≡ Some stands
-  pub leaves : LeavesSolution held stands dir settings options code before after
+  pub leaves : LeavesSolution held stands dir reading options code before after
 
 -- The desk still tells what it holds. The five made tables stand there, and all else is what solving leaves, by the
 -- defaults, where these tables stood before.
@@ -77,7 +77,7 @@ pub record TellsMade (held : Files) (told : Option Files) (dir : List ℕ) (numb
   pub tells : told ≡ Some stands
   pub there : AllStand stands dir table_files
   pub tables : table_bytes (bytes_in stands dir) ≡ bytes_of (made_tables number legs)
-  pub leaves : LeavesSolution (with_texts held dir (made_files (made_tables number legs))) stands dir DEFAULT_SETTINGS DEFAULT_OPTIONS code before after
+  pub leaves : LeavesSolution (with_texts held dir (made_files (made_tables number legs))) stands dir DEFAULT_READING DEFAULT_OPTIONS code before after
 
 -- a bound is there, and it is no more than a cost
 abbrev pub IsUnder : Option ℤ → ℤ → Type 0
@@ -86,12 +86,12 @@ IsUnder bound cost = IsSomeAnd bound (λ least. least ≤ℤ cost)
 -- The five files read as tables. What was put is the line of a tree that holds: its bound, with the cost of the legal plan
 -- that stands there where one comes with it. No legal assignment undercuts the bound, and with no bound none is legal; so
 -- where there is a cost, there is a bound, and it is no more.
-pub record TellsBound (held : Files) (dir : List ℕ) (settings : Settings) (before after : Option (List ℕ)) : Type 0 where
+pub record TellsBound (held : Files) (dir : List ℕ) (reading : TableOptions) (before after : Option (List ℕ)) : Type 0 where
   pub tables : Tables
   pub cost : Option ℤ
   pub bound : Option ℤ
   pub there : AllStand held dir proof_files
-  pub reads : Reads (table_bytes (bytes_in held dir)) settings tables
+  pub reads : Reads (table_bytes (bytes_in held dir)) reading.settings tables
   pub plan : IfSome cost (PlanThere held dir tables)
   pub proven : BoundsAll tables bound
   pub under : IfSome cost (IsUnder bound)
@@ -101,8 +101,8 @@ pub record TellsBound (held : Files) (dir : List ℕ) (settings : Settings) (bef
 -- them; one that checks tells a bound that is proved, where it says that a proof holds
 abbrev pub Headline : Files → Option Asked → ℕ → Option Files → Option (List ℕ) → Option (List ℕ) → Type 0
 Headline held None code told before after = ⊤
-Headline held (Some (judge dir settings)) code told before after = ⊤
-Headline held (Some (check dir settings)) code told before after = code ≡ DONE → TellsBound held dir settings before after
-Headline held (Some (tails dir settings limits dates)) code told before after = ⊤
-Headline held (Some (solve dir settings options)) code told before after = IsSolution code → TellsSolution held told dir settings options code before after
+Headline held (Some (judge dir reading)) code told before after = ⊤
+Headline held (Some (check dir reading)) code told before after = code ≡ DONE → TellsBound held dir reading before after
+Headline held (Some (tails dir reading limits dates)) code told before after = ⊤
+Headline held (Some (solve dir reading options)) code told before after = IsSolution code → TellsSolution held told dir reading options code before after
 Headline held (Some (make dir number legs)) code told before after = TellsMade held told dir number legs code before after

@@ -9,10 +9,10 @@ use Rattle.fleet_cli.specs.declared.status.TheConstants.{BAD_INPUT, DONE}
 -- an answer that what is held and what is asked leave no choice of
 abbrev pub IsFixed : Option Asked → Answer → Type 0
 IsFixed None answer = ⊤
-IsFixed (Some (judge dir settings)) answer = ⊤
-IsFixed (Some (solve dir settings options)) answer = answer.status.code ≡ BAD_INPUT
-IsFixed (Some (check dir settings)) answer = ⊤
-IsFixed (Some (tails dir settings limits dates)) answer = answer.status.code ≢ DONE
+IsFixed (Some (judge dir reading)) answer = ⊤
+IsFixed (Some (solve dir reading options)) answer = answer.status.code ≡ BAD_INPUT
+IsFixed (Some (check dir reading)) answer = ⊤
+IsFixed (Some (tails dir reading limits dates)) answer = answer.status.code ≢ DONE
 IsFixed (Some (make dir number legs)) answer = ⊥
 
 -- what is held and what is asked fix the answer

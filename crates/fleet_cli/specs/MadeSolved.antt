@@ -1,7 +1,7 @@
 -- What making leaves is what solving leaves where the made tables stand.
 use Rattle.std.specs.Prelude.{ℕ, List, Option, Some}
 use Rattle.command_words.specs.Words.{make, solve}
-use Rattle.command_words.specs.declared.command.TheConstants.{DEFAULT_OPTIONS, DEFAULT_SETTINGS}
+use Rattle.command_words.specs.declared.command.TheConstants.{DEFAULT_OPTIONS, DEFAULT_READING}
 use Rattle.plan_desk.specs.Desk.{Files}
 use Rattle.table_maker.specs.Made.{made_tables}
 use Rattle.fleet_cli.specs.Making.{made_files}
@@ -12,4 +12,4 @@ use Rattle.fleet_cli.specs.Written.{with_texts}
 abbrev pub MadeIsSolved : Type 0
 MadeIsSolved = (held : Files) (dir : List ℕ) (number legs code : ℕ) (stands : Option Files) (before after : Option (List ℕ))
     → AnswersInFull held (Some (make dir number legs)) code stands before after
-    → AnswersInFull (with_texts held dir (made_files (made_tables number legs))) (Some (solve dir DEFAULT_SETTINGS DEFAULT_OPTIONS)) code stands before after
+    → AnswersInFull (with_texts held dir (made_files (made_tables number legs))) (Some (solve dir DEFAULT_READING DEFAULT_OPTIONS)) code stands before after

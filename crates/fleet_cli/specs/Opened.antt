@@ -4,7 +4,7 @@ use Rattle.dual_bound.specs.OfTables.{IsOfTables}
 use Rattle.bound_cert.specs.ReadProof.{ReadsAs}
 use Rattle.bound_cert.specs.declared.reading.Proof.{Proof}
 use Rattle.command_words.specs.Words.{Asked}
-use Rattle.fleet_model.specs.declared.parts.Settings.{Settings}
+use Rattle.fleet_model.specs.declared.options.TableOptions.{TableOptions}
 use Rattle.fleet_model.specs.declared.tables.Tables.{Tables}
 use Rattle.plan_desk.specs.declared.file.DeskFile.{DeskFile}
 use Rattle.plan_desk.specs.declared.file.DeskFile.TheVariants as file
@@ -21,9 +21,9 @@ use Rattle.fleet_cli.specs.declared.opened.Opened.{Opened}
 use Rattle.fleet_cli.specs.declared.opened.Opened.TheVariants as opened
 
 -- what the bytes of tables come to
-abbrev pub IsLoaded : Settings → TableBytes → Loaded → Type 0
-IsLoaded settings bytes (loaded.Refused answer) = RefusesTables bytes settings answer
-IsLoaded settings bytes (loaded.Read tables) = Reads bytes settings tables
+abbrev pub IsLoaded : TableOptions → TableBytes → Loaded → Type 0
+IsLoaded reading bytes (loaded.Refused answer) = RefusesTables bytes reading answer
+IsLoaded reading bytes (loaded.Read tables) = Reads bytes reading.settings tables
 
 -- no further file is asked for, and this is the answer
 pub record Settles (asked : Option Asked) (bytes : FileBytes) (answer : Answer) : Type 0 where

@@ -3,7 +3,7 @@ use Rattle.std.specs.Prelude.{◌≡◌, ◌⊎◌, ℕ, ◌+◌, true, List, []
 use Rattle.bound_cert.specs.ReadProof.{ReadsAs}
 use Rattle.bound_cert.specs.declared.reading.Proof.{Proof}
 use Rattle.command_words.specs.Words.{Asked, check, judge, make, solve, tails}
-use Rattle.fleet_model.specs.declared.parts.Settings.{Settings}
+use Rattle.fleet_model.specs.declared.options.TableOptions.{TableOptions}
 use Rattle.fleet_model.specs.declared.tables.Tables.{Tables}
 use Rattle.plan_desk.specs.Desk.{Files}
 use Rattle.plan_desk.specs.DeskFile.{path_of}
@@ -31,36 +31,36 @@ proof_files = tables_and (file.Proof ∷ [])
 -- the folder that words ask about
 abbrev pub folder_of : Option Asked → List ℕ
 folder_of None = []
-folder_of (Some (judge dir settings)) = dir
-folder_of (Some (solve dir settings options)) = dir
-folder_of (Some (check dir settings)) = dir
-folder_of (Some (tails dir settings limits dates)) = dir
+folder_of (Some (judge dir reading)) = dir
+folder_of (Some (solve dir reading options)) = dir
+folder_of (Some (check dir reading)) = dir
+folder_of (Some (tails dir reading limits dates)) = dir
 folder_of (Some (make dir number legs)) = dir
 
 -- the files that are read first, in their order
 abbrev pub first_files : Option Asked → List DeskFile
 first_files None = []
-first_files (Some (judge dir settings)) = judge_files
-first_files (Some (solve dir settings options)) = table_files
-first_files (Some (check dir settings)) = proof_files
-first_files (Some (tails dir settings limits dates)) = judge_files
+first_files (Some (judge dir reading)) = judge_files
+first_files (Some (solve dir reading options)) = table_files
+first_files (Some (check dir reading)) = proof_files
+first_files (Some (tails dir reading limits dates)) = judge_files
 first_files (Some (make dir number legs)) = []
 
 -- the tables and the proof read, and the proof says that a plan comes with it
-pub record WantsPlan (settings : Settings) (bytes : TableBytes) (text : List ℕ) : Type 0 where
+pub record WantsPlan (reading : TableOptions) (bytes : TableBytes) (text : List ℕ) : Type 0 where
   pub tables : Tables
   pub proof : Proof
-  pub reads : Reads bytes settings tables
+  pub reads : Reads bytes reading.settings tables
   pub proof_reads : ReadsAs tables text proof
   pub planned : proof.planned ≡ true
 
 -- the file is read after the first ones, where they hold these bytes
 abbrev pub Follows : Option Asked → FileBytes → DeskFile → Type 0
 Follows None bytes f = ⊥
-Follows (Some (judge dir settings)) bytes f = ⊥
-Follows (Some (solve dir settings options)) bytes f = ⊥
-Follows (Some (check dir settings)) bytes f = (f ≡ file.Plan) × WantsPlan settings (table_bytes bytes) (bytes file.Proof)
-Follows (Some (tails dir settings limits dates)) bytes f = ⊥
+Follows (Some (judge dir reading)) bytes f = ⊥
+Follows (Some (solve dir reading options)) bytes f = ⊥
+Follows (Some (check dir reading)) bytes f = (f ≡ file.Plan) × WantsPlan reading (table_bytes bytes) (bytes file.Proof)
+Follows (Some (tails dir reading limits dates)) bytes f = ⊥
 Follows (Some (make dir number legs)) bytes f = ⊥
 
 -- the files that solving may write
@@ -70,19 +70,19 @@ solution_files = file.Plan ∷ file.Proof ∷ file.Rotation ∷ []
 -- the files that may be written
 abbrev pub written_files : Option Asked → List DeskFile
 written_files None = []
-written_files (Some (judge dir settings)) = []
-written_files (Some (solve dir settings options)) = solution_files
-written_files (Some (check dir settings)) = []
-written_files (Some (tails dir settings limits dates)) = []
+written_files (Some (judge dir reading)) = []
+written_files (Some (solve dir reading options)) = solution_files
+written_files (Some (check dir reading)) = []
+written_files (Some (tails dir reading limits dates)) = []
 written_files (Some (make dir number legs)) = tables_and solution_files
 
 -- how many files the first ones may ask for
 abbrev pub most_further : Option Asked → ℕ
 most_further None = 0
-most_further (Some (judge dir settings)) = 0
-most_further (Some (solve dir settings options)) = 0
-most_further (Some (check dir settings)) = 1
-most_further (Some (tails dir settings limits dates)) = 0
+most_further (Some (judge dir reading)) = 0
+most_further (Some (solve dir reading options)) = 0
+most_further (Some (check dir reading)) = 1
+most_further (Some (tails dir reading limits dates)) = 0
 most_further (Some (make dir number legs)) = 0
 
 -- ---- what follows of each command

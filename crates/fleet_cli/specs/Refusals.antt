@@ -4,7 +4,7 @@ use Rattle.bound_cert.specs.Lines.{left_of}
 use Rattle.bound_cert.specs.ReadProof.{IsFirstFault}
 use Rattle.bound_cert.specs.declared.faults.CertFault.{CertFault}
 use Rattle.csv_fields.specs.Record.{records_of}
-use Rattle.fleet_model.specs.declared.parts.Settings.{Settings}
+use Rattle.fleet_model.specs.declared.options.TableOptions.{TableOptions}
 use Rattle.fleet_model.specs.declared.refusals.TableFile.{TableFile}
 use Rattle.fleet_model.specs.declared.refusals.TheConstants.{TOO_LONG}
 use Rattle.fleet_model.specs.declared.tables.Tables.{Tables}
@@ -29,11 +29,11 @@ pub record RefusesLength (too_long : DeskFile → Type 0) (answer : Answer) : Ty
   pub is : answer ≡ says BAD_INPUT (bad_input_text file 0 TOO_LONG)
 
 -- the tables have a first fault
-pub record RefusesTables (bytes : TableBytes) (settings : Settings) (answer : Answer) : Type 0 where
+pub record RefusesTables (bytes : TableBytes) (reading : TableOptions) (answer : Answer) : Type 0 where
   pub file : TableFile
   pub row : ℕ
   pub kind : ℕ
-  pub bad : BadAt bytes settings file row kind
+  pub bad : BadAt bytes reading.settings file row kind
   pub is : answer ≡ says BAD_INPUT (bad_input_text (desk_file_of file) row kind)
 
 -- the plan's text has a first fault

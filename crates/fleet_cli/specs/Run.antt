@@ -5,7 +5,7 @@ use Rattle.bound_cert.specs.declared.reading.Proof.{Proof}
 use Rattle.cert_check.specs.Verdicts.{HoldsWith}
 use Rattle.csv_fields.specs.Record.{records_of}
 use Rattle.fleet_model.specs.Legal.{IsLegal, total_cost}
-use Rattle.fleet_model.specs.declared.parts.Settings.{Settings}
+use Rattle.fleet_model.specs.declared.options.TableOptions.{TableOptions}
 use Rattle.fleet_model.specs.declared.tables.Tables.{Tables}
 use Rattle.plan_desk.specs.Counts.{IsOneMoreAtMost, counted}
 use Rattle.plan_desk.specs.Desk.{Files}
@@ -53,19 +53,19 @@ abbrev pub AnswersExactly : Files → Option Asked → ℕ → Option (List ℕ)
 AnswersExactly held asked code before after = (answer : Answer) → Answers held asked answer → IsFixed asked answer → PutsAnswer code answer before after
 
 -- the files of a folder are tables that read, and a plan that reads on them and is legal
-pub record LegalThere (held : Files) (dir : List ℕ) (settings : Settings) : Type 0 where
+pub record LegalThere (held : Files) (dir : List ℕ) (reading : TableOptions) : Type 0 where
   pub tables : Tables
   pub plan : List ℕ
   pub there : AllStand held dir judge_files
-  pub reads : Reads (table_bytes (bytes_in held dir)) settings tables
+  pub reads : Reads (table_bytes (bytes_in held dir)) reading.settings tables
   pub plan_reads : PlanReads tables (records_of (bytes_in held dir desk_file.Plan)) plan
   pub legal : IsLegal tables plan
 
 -- the files of a folder are tables that read
-pub record TablesThere (held : Files) (dir : List ℕ) (settings : Settings) : Type 0 where
+pub record TablesThere (held : Files) (dir : List ℕ) (reading : TableOptions) : Type 0 where
   pub tables : Tables
   pub there : AllStand held dir table_files
-  pub reads : Reads (table_bytes (bytes_in held dir)) settings tables
+  pub reads : Reads (table_bytes (bytes_in held dir)) reading.settings tables
 
 -- a plan stands in the folder that reads on the tables and is legal
 pub record PlanThere (held : Files) (dir : List ℕ) (t : Tables) (cost : ℤ) : Type 0 where
@@ -82,13 +82,13 @@ IsCostThere held dir t planned (Some cost) = (planned ≡ true) × PlanThere hel
 
 -- the files of a folder are tables that read, and a proof that reads on them and whose tree holds, with a legal plan
 -- where it says that one comes with it
-pub record ProofThere (held : Files) (dir : List ℕ) (settings : Settings) : Type 0 where
+pub record ProofThere (held : Files) (dir : List ℕ) (reading : TableOptions) : Type 0 where
   pub tables : Tables
   pub proof : Proof
   pub cost : Option ℤ
   pub bound : Option ℤ
   pub there : AllStand held dir proof_files
-  pub reads : Reads (table_bytes (bytes_in held dir)) settings tables
+  pub reads : Reads (table_bytes (bytes_in held dir)) reading.settings tables
   pub proof_reads : ReadsAs tables (bytes_in held dir desk_file.Proof) proof
   pub plan : IsCostThere held dir tables proof.planned cost
   pub holds : HoldsWith tables cost proof.tree bound
@@ -105,10 +105,10 @@ IsFlyable code = (code ≡ DONE) ⊎ (code ≡ GAP) ⊎ (code ≡ UNSETTLED)
 -- are solved, and a proof that holds is said to hold. Tables that are made are solved whatever is held, and have a plan.
 abbrev pub IsComplete : Option Files → Option Asked → ℕ → Type 0
 IsComplete told None code = ⊤
-IsComplete told (Some (judge dir settings)) code = IsSomeAnd told (λ held. LegalThere held dir settings) → code ≡ DONE
-IsComplete told (Some (solve dir settings options)) code = IsSomeAnd told (λ held. TablesThere held dir settings) → IsSolution code
-IsComplete told (Some (check dir settings)) code = IsSomeAnd told (λ held. ProofThere held dir settings) → code ≡ DONE
-IsComplete told (Some (tails dir settings limits dates)) code = IsSomeAnd told (λ held. LegalThere held dir settings) → code ≡ DONE
+IsComplete told (Some (judge dir reading)) code = IsSomeAnd told (λ held. LegalThere held dir reading) → code ≡ DONE
+IsComplete told (Some (solve dir reading options)) code = IsSomeAnd told (λ held. TablesThere held dir reading) → IsSolution code
+IsComplete told (Some (check dir reading)) code = IsSomeAnd told (λ held. ProofThere held dir reading) → code ≡ DONE
+IsComplete told (Some (tails dir reading limits dates)) code = IsSomeAnd told (λ held. LegalThere held dir reading) → code ≡ DONE
 IsComplete told (Some (make dir number legs)) code = IsFlyable code
 
 -- an answer that is right of some contents, all of which was put, and the sink was handed nothing else

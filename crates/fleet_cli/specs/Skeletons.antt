@@ -5,7 +5,7 @@ use Rattle.bound_cert.specs.ReadProof.{ReadsAs}
 use Rattle.bound_cert.specs.declared.reading.Proof.{Proof}
 use Rattle.csv_fields.specs.Record.{records_of}
 use Rattle.fleet_model.specs.Legal.{IsLegal}
-use Rattle.fleet_model.specs.declared.parts.Settings.{Settings}
+use Rattle.fleet_model.specs.declared.options.TableOptions.{TableOptions}
 use Rattle.fleet_model.specs.declared.tables.Tables.{Tables}
 use Rattle.plan_text.specs.Reading.{PlanReads}
 use Rattle.sched_read.specs.Reading.{Reads, TableBytes}
@@ -13,13 +13,13 @@ use Rattle.fleet_cli.specs.Refusals.{RefusesPlan, RefusesProof, RefusesTables, R
 use Rattle.fleet_cli.specs.declared.answer.Answer.{Answer}
 
 -- the tables read, and the rest is answered on them
-pub record TablesRead (settings : Settings) (bytes : TableBytes) (finish : Tables → Answer → Type 0) (answer : Answer) : Type 0 where
+pub record TablesRead (reading : TableOptions) (bytes : TableBytes) (finish : Tables → Answer → Type 0) (answer : Answer) : Type 0 where
   pub tables : Tables
-  pub reads : Reads bytes settings tables
+  pub reads : Reads bytes reading.settings tables
   pub finishes : finish tables answer
 
-abbrev pub OnTables : Settings → TableBytes → (Tables → Answer → Type 0) → Answer → Type 0
-OnTables settings bytes finish answer = RefusesTables bytes settings answer ⊎ TablesRead settings bytes finish answer
+abbrev pub OnTables : TableOptions → TableBytes → (Tables → Answer → Type 0) → Answer → Type 0
+OnTables reading bytes finish answer = RefusesTables bytes reading answer ⊎ TablesRead reading bytes finish answer
 
 -- the plan's text reads, and the rest is answered on the plan
 pub record PlanRead (t : Tables) (bytes : List ℕ) (finish : List ℕ → Answer → Type 0) (answer : Answer) : Type 0 where

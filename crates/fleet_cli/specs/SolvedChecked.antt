@@ -6,7 +6,7 @@ use Rattle.bound_cert.specs.declared.reading.Proof.{Proof}
 use Rattle.cert_check.specs.Verdicts.{HoldsWith}
 use Rattle.command_words.specs.Words.{check, solve}
 use Rattle.command_words.specs.declared.command.SolveOptions.{SolveOptions}
-use Rattle.fleet_model.specs.declared.parts.Settings.{Settings}
+use Rattle.fleet_model.specs.declared.options.TableOptions.{TableOptions}
 use Rattle.fleet_model.specs.declared.tables.Tables.{Tables}
 use Rattle.plan_desk.specs.Desk.{Files}
 use Rattle.fleet_cli.specs.Answer.{Answers}
@@ -29,6 +29,6 @@ pub record ReadsAndHolds (t : Tables) (s : Solved) : Type 0 where
 -- Where a run gave a solution, and checking by the same day start, whatever the longest wait of a through pair, reads what
 -- then stands, it answers that the proof holds.
 abbrev pub SolvedIsChecked : Type 0
-SolvedIsChecked = (held stands : Files) (dir : List ℕ) (solving checking : Settings) (options : SolveOptions) (code : ℕ) (before after : Option (List ℕ)) (answer : Answer)
-    → solving.day_start ≡ checking.day_start → AnswersInFull held (Some (solve dir solving options)) code (Some stands) before after → IsSolution code
+SolvedIsChecked = (held stands : Files) (dir : List ℕ) (solving checking : TableOptions) (options : SolveOptions) (code : ℕ) (before after : Option (List ℕ)) (answer : Answer)
+    → solving.settings.day_start ≡ checking.settings.day_start → AnswersInFull held (Some (solve dir solving options)) code (Some stands) before after → IsSolution code
     → Answers stands (Some (check dir checking)) answer → answer.status.code ≡ DONE

@@ -1,5 +1,5 @@
 //! The command `check`: whether the proof of a folder proves its bound, and whether the plan that comes with it is legal.
-ghost use Rattle.std.specs.Prelude.{◌≡◌, ℕ, List, Some, IfOk, IfSome, IsOkAnd, option_map, true};
+ghost use Rattle.std.specs.Prelude.{◌≡◌, ℕ, List, Some, IfOk, IsOkAnd, true};
 ghost use Rattle.dual_bound.specs.OfTables.{IsOfTables};
 ghost use Rattle.bound_cert.specs.ReadProof.{ReadsAs};
 ghost use Rattle.command_words.specs.Words.{check};
@@ -8,7 +8,7 @@ ghost use Rattle.fleet_cli.specs.Skeletons.{OnLegal};
 ghost use Rattle.fleet_cli.specs.Contents.{content_of};
 ghost use Rattle.fleet_cli.specs.Opened.{IsOpened, IsOpenedBy};
 ghost use Rattle.fleet_cli.specs.declared.opened.Opened.TheVariants.{Answered};
-ghost use Rattle.fleet_model.specs.Legal.{IsAssignment, IsLegal, total_cost};
+ghost use Rattle.fleet_model.specs.Legal.{IsAssignment};
 ghost use Rattle.fleet_model.specs.Limits.{AreSettings};
 
 use crate::answer::Answer;
@@ -20,10 +20,10 @@ use crate::refusing::{plan_fault, proof_fault};
 use crate::status::{DONE, REFUSED};
 use crate::texts::checked_line;
 use bound_cert::{CertError, Proof, read_proof};
-use cert_check::{Checked, check};
+use cert_check::{Checked, check_with_cost};
 use dual_bound::Tree;
 use entries::NoMemory;
-use fleet_model::{Assignment, Settings, Tables};
+use fleet_model::{Assignment, TableOptions, Tables};
 use plan_judge::{Verdict, judge};
 use plan_text::{PlanError, read_plan};
 use std::alloc::Global;
@@ -32,13 +32,13 @@ use std::alloc::Global;
 /// that one comes with it.
 pub fn open_check(
     alloc: Global,
-    settings: Settings,
+    reading: TableOptions,
     contents: &Contents,
 ) -> Result<Opened, NoMemory>
-    requires { AreSettings settings }
-    ensures { (dir : List ℕ) → IfOk result (IsOpened (Some (check dir settings)) (content_of contents.now)) }
+    requires { AreSettings reading.settings }
+    ensures { (dir : List ℕ) → IfOk result (IsOpened (Some (check dir reading)) (content_of contents.now)) }
 {
-    match load_tables(alloc, settings, contents)? {
+    match load_tables(alloc, reading, contents)? {
         Loaded::Refused(answer) => Ok(Opened::Answered(answer)),
         Loaded::Read(tables) => open_proof(alloc, tables, contents.proof.as_slice()),
     }
@@ -63,7 +63,7 @@ fn open_read(alloc: Global, tables: Tables, proof: Proof) -> Result<Opened, NoMe
     if proof.planned {
         Ok(Opened::WantsPlan(Checking { tables, proof }))
     } else {
-        answered(check_tree(alloc, &tables, None, None, &proof.tree))
+        answered(check_tree(alloc, &tables, None, &proof.tree))
     }
 }
 
@@ -103,25 +103,22 @@ fn check_judged(
     ensures { IfOk result (OnLegal tables.now (ChecksWith tables.now tree.now) plan.now) }
 {
     match judge(tables, plan) {
-        Verdict::Legal { cost } => check_tree(alloc, tables, Some(plan), Some(cost), tree),
+        Verdict::Legal { cost } => check_tree(alloc, tables, Some(cost), tree),
         verdict => tell_verdict(alloc, tables, plan, verdict),
     }
 }
 
-/// Checks a tree, with the plan that comes with it, if any, and its cost.
+/// Checks a tree with the cost of the legal plan that comes with it, if any.
 fn check_tree(
     alloc: Global,
     tables: &Tables,
-    plan: Option<&Assignment>,
     cost: Option<i128>,
     tree: &Tree,
 ) -> Result<Answer, NoMemory>
-    requires plan { IfSome plan (λ legal. IsLegal tables.now legal.now) }
-    requires cost { cost ≡ option_map (λ legal. total_cost tables.now legal.now) plan }
-    requires tree { IsOfTables tables.now tree.now }
+    requires { IsOfTables tables.now tree.now }
     ensures { IfOk result (ChecksTree tables.now cost tree.now) }
 {
-    let checked = check(tables, plan, tree);
+    let checked = check_with_cost(tables, cost, tree);
     let text = checked_line(alloc, cost, checked)?;
     Ok(Answer::says(alloc, status_of(checked), text))
 }

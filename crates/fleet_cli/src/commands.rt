@@ -61,26 +61,26 @@ fn outcome_of(alloc: Global, command: &Command<'_>, contents: &Contents) -> Resu
     ensures { IfOk result (IsOpened (Some (asked_by command.now)) (content_of contents.now)) }
 {
     match command {
-        Command::Judge { settings, .. } => {
-            let answer = judge_contents(alloc, *settings, contents)?;
+        Command::Judge { reading, .. } => {
+            let answer = judge_contents(alloc, *reading, contents)?;
             Ok(Opened::Answered(answer))
         }
         Command::Solve {
-            settings,
+            reading,
             options,
             ..
         } => {
-            let answer = solve_contents(alloc, *settings, *options, contents)?;
+            let answer = solve_contents(alloc, *reading, *options, contents)?;
             Ok(Opened::Answered(answer))
         }
-        Command::Check { settings, .. } => open_check(alloc, *settings, contents),
+        Command::Check { reading, .. } => open_check(alloc, *reading, contents),
         Command::Tails {
-            settings,
+            reading,
             rotations,
             dates,
             ..
         } => {
-            let answer = tails_of_contents(alloc, *settings, *rotations, dates, contents)?;
+            let answer = tails_of_contents(alloc, *reading, *rotations, dates, contents)?;
             Ok(Opened::Answered(answer))
         }
         Command::Make { number, legs, .. } => {

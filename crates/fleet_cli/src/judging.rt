@@ -15,7 +15,7 @@ use crate::refusing::plan_fault;
 use crate::status::{DONE, REFUSED};
 use crate::texts::verdict_lines;
 use entries::NoMemory;
-use fleet_model::{Assignment, Settings, Tables};
+use fleet_model::{Assignment, TableOptions, Tables};
 use plan_judge::{Verdict, judge};
 use plan_text::{PlanError, read_plan};
 use std::alloc::Global;
@@ -23,13 +23,13 @@ use std::alloc::Global;
 /// Judges by what the tables and the plan hold.
 pub fn judge_contents(
     alloc: Global,
-    settings: Settings,
+    reading: TableOptions,
     contents: &Contents,
 ) -> Result<Answer, NoMemory>
-    requires { AreSettings settings }
-    ensures { IfOk result (Judges settings (table_bytes (content_of contents.now)) contents.now.plan) }
+    requires { AreSettings reading.settings }
+    ensures { IfOk result (Judges reading (table_bytes (content_of contents.now)) contents.now.plan) }
 {
-    match load_tables(alloc, settings, contents)? {
+    match load_tables(alloc, reading, contents)? {
         Loaded::Refused(answer) => Ok(answer),
         Loaded::Read(tables) => judge_plan(alloc, &tables, contents.plan.as_slice()),
     }

@@ -8,7 +8,7 @@ use crate::answer::Answer;
 use crate::contents::Contents;
 use crate::refusing::tables_refused;
 use entries::NoMemory;
-use fleet_model::{LoadError, Settings, Tables};
+use fleet_model::{LoadError, TableOptions, Tables};
 use sched_read::load;
 use std::alloc::Global;
 
@@ -24,11 +24,11 @@ pub enum Loaded {
 /// Reads the tables, by what was read of their files.
 pub fn load_tables(
     alloc: Global,
-    settings: Settings,
+    reading: TableOptions,
     contents: &Contents,
 ) -> Result<Loaded, NoMemory>
-    requires { AreSettings settings }
-    ensures { IfOk result (IsLoaded settings (table_bytes (content_of contents.now))) }
+    requires { AreSettings reading.settings }
+    ensures { IfOk result (IsLoaded reading (table_bytes (content_of contents.now))) }
 {
     let loaded = load(
         alloc,
@@ -37,7 +37,7 @@ pub fn load_tables(
         contents.legs.as_slice(),
         contents.costs.as_slice(),
         contents.throughs.as_slice(),
-        settings,
+        reading.settings,
     );
     match loaded {
         Ok(tables) => Ok(Loaded::Read(tables)),

@@ -1,6 +1,6 @@
 //! The command `make`: tables of a number, and a plan for them with a bound, its proof and its rotations.
 ghost use Rattle.std.specs.Prelude.{◌≡◌, ◌++◌, [], ◌∷◌, IfOk, IsOkAnd};
-ghost use Rattle.command_words.specs.declared.command.TheConstants.{DEFAULT_OPTIONS, DEFAULT_SETTINGS};
+ghost use Rattle.command_words.specs.declared.command.TheConstants.{DEFAULT_OPTIONS, DEFAULT_READING};
 ghost use Rattle.fleet_cli.specs.Answer.{GivesSolution, Makes};
 ghost use Rattle.fleet_cli.specs.Skeletons.{TablesRead};
 ghost use Rattle.fleet_cli.specs.Making.{after_files, made_files};
@@ -10,7 +10,7 @@ ghost use Rattle.table_maker.specs.Made.{CanBeMade, made_tables};
 
 use crate::answer::{Answer, FileText};
 use crate::solving::solve_tables;
-use command_words::{DEFAULT_OPTIONS, DEFAULT_SETTINGS};
+use command_words::{DEFAULT_OPTIONS, DEFAULT_READING};
 use entries::{Entries, NoMemory};
 use fleet_model::{LoadError, Tables};
 use plan_desk::DeskFile;
@@ -32,7 +32,7 @@ pub fn make_and_solve(alloc: Global, number: u32, legs: u32) -> Result<Answer, N
 fn solve_made(alloc: Global, number: u32, legs: u32, made: &MadeTables) -> Result<Answer, NoMemory>
     requires can { CanBeMade number legs }
     requires made { made.now ≡ made_tables number legs }
-    ensures { IfOk result (TablesRead DEFAULT_SETTINGS (bytes_of made.now) (GivesSolution DEFAULT_OPTIONS)) }
+    ensures { IfOk result (TablesRead DEFAULT_READING (bytes_of made.now) (GivesSolution DEFAULT_OPTIONS)) }
 {
     let tables = load_made(alloc, number, legs, made)?;
     solve_tables(alloc, &tables, DEFAULT_OPTIONS)
@@ -42,7 +42,7 @@ fn solve_made(alloc: Global, number: u32, legs: u32, made: &MadeTables) -> Resul
 fn load_made(alloc: Global, number: u32, legs: u32, made: &MadeTables) -> Result<Tables, NoMemory>
     requires can { CanBeMade number legs }
     requires made { made.now ≡ made_tables number legs }
-    ensures { IfOk result (Reads (bytes_of made.now) DEFAULT_SETTINGS) }
+    ensures { IfOk result (Reads (bytes_of made.now) DEFAULT_READING.settings) }
 {
     let loaded = load(
         alloc,
@@ -51,7 +51,7 @@ fn load_made(alloc: Global, number: u32, legs: u32, made: &MadeTables) -> Result
         made.legs.as_slice(),
         made.costs.as_slice(),
         made.throughs.as_slice(),
-        DEFAULT_SETTINGS,
+        DEFAULT_READING.settings,
     );
     match loaded {
         Ok(tables) => Ok(tables),

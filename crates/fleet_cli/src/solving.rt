@@ -17,7 +17,7 @@ use crate::status::Status;
 use branch_bound::{Solved, solve};
 use command_words::{RotationLimits, SolveOptions};
 use entries::{Entries, NoMemory};
-use fleet_model::{Settings, Tables};
+use fleet_model::{TableOptions, Tables};
 use fleet_rotations::FleetRotation;
 use plan_rotations::rotations;
 use std::alloc::Global;
@@ -25,15 +25,15 @@ use std::alloc::Global;
 /// Solves by what the tables hold.
 pub fn solve_contents(
     alloc: Global,
-    settings: Settings,
+    reading: TableOptions,
     options: SolveOptions,
     contents: &Contents,
 ) -> Result<Answer, NoMemory>
-    requires settings { AreSettings settings }
+    requires settings { AreSettings reading.settings }
     requires options { AreOptions options }
-    ensures { IfOk result (Solves settings options (table_bytes (content_of contents.now))) }
+    ensures { IfOk result (Solves reading options (table_bytes (content_of contents.now))) }
 {
-    match load_tables(alloc, settings, contents)? {
+    match load_tables(alloc, reading, contents)? {
         Loaded::Refused(answer) => Ok(answer),
         Loaded::Read(tables) => solve_tables(alloc, &tables, options),
     }

@@ -16,7 +16,7 @@ use crate::refusing::plan_fault;
 use crate::status::DONE;
 use command_words::{Dates, RotationLimits};
 use entries::NoMemory;
-use fleet_model::{Assignment, Settings, Tables};
+use fleet_model::{Assignment, TableOptions, Tables};
 use plan_judge::{Verdict, judge};
 use plan_rotations::rotations;
 use plan_text::{PlanError, read_plan};
@@ -26,17 +26,17 @@ use std::alloc::Global;
 /// Tells the tails by what the tables and the plan hold.
 pub fn tails_of_contents(
     alloc: Global,
-    settings: Settings,
+    reading: TableOptions,
     limits: RotationLimits,
     dates: &Dates,
     contents: &Contents,
 ) -> Result<Answer, NoMemory>
-    requires settings { AreSettings settings }
+    requires settings { AreSettings reading.settings }
     requires limits { AreRotationLimits limits }
     requires dates { AreDates dates.now }
-    ensures { IfOk result (TailsOf settings limits (dates_by dates.now) (table_bytes (content_of contents.now)) contents.now.plan) }
+    ensures { IfOk result (TailsOf reading limits (dates_by dates.now) (table_bytes (content_of contents.now)) contents.now.plan) }
 {
-    match load_tables(alloc, settings, contents)? {
+    match load_tables(alloc, reading, contents)? {
         Loaded::Refused(answer) => Ok(answer),
         Loaded::Read(tables) => {
             tails_of_plan(alloc, &tables, limits, dates, contents.plan.as_slice())

@@ -10,7 +10,7 @@ use Rattle.clap.specs.Kinds.{Kinds, or_else}
 use Rattle.clap.specs.Lexer.{long_of, short_of}
 use Rattle.clap.specs.Simple.{App, Shape, built_leaf, inherited, marked_built, on_top, with_leaf_noted}
 use Rattle.clap.specs.Walk.{Held, Row, Rule, Step, Text, Walk, after_step, finished, idle, long_or_other, nothing_held, settled, short_or_plain, trailing, value, walk_from, walked, word_met}
-use Rattle.plain_words.specs.Plain.{ChecksPlainly, JudgesPlainly, SolvesPlainly, default_options, default_settings, is_alone, is_plain_name}
+use Rattle.plain_words.specs.Plain.{ChecksPlainly, JudgesPlainly, SolvesPlainly, default_options, default_reading, is_alone, is_plain_name}
 use Rattle.command_line.specs.Found.{found, without_fault}
 use Rattle.command_line.specs.Program.{check_app, judge_app, our_app, solve_app}
 use Rattle.command_words.specs.Words.{Asked, asked, check_at, command_in, judge_at, solve_at}
@@ -102,7 +102,7 @@ judge_parts : (program word : Text) → asked (program ∷ codes "judge" ∷ wor
 unfolding asked found our_app clap_on_literals
 judge_parts program word = refl
 
-judge_answer : (word : Text) → answer [] (rows_by (built_command judge_app) (at_end (built_command judge_app) word)) ≡ judge_at default_settings word
+judge_answer : (word : Text) → answer [] (rows_by (built_command judge_app) (at_end (built_command judge_app) word)) ≡ judge_at default_reading word
 unfolding our_app clap_on_literals
 judge_answer word = refl
 
@@ -129,7 +129,7 @@ unfolding asked found our_app clap_on_literals
 solve_parts program word = refl
 
 solve_answer : (word : Text) → answer [] (rows_by (built_command solve_app) (at_end (built_command solve_app) word))
-    ≡ solve_at default_settings default_options word
+    ≡ solve_at default_reading default_options word
 unfolding our_app clap_on_literals
 solve_answer word = refl
 
@@ -155,7 +155,7 @@ check_parts : (program word : Text) → asked (program ∷ codes "check" ∷ wor
 unfolding asked found our_app clap_on_literals
 check_parts program word = refl
 
-check_answer : (word : Text) → answer [] (rows_by (built_command check_app) (at_end (built_command check_app) word)) ≡ check_at default_settings word
+check_answer : (word : Text) → answer [] (rows_by (built_command check_app) (at_end (built_command check_app) word)) ≡ check_at default_reading word
 unfolding our_app clap_on_literals
 check_answer word = refl
 

@@ -5,7 +5,7 @@ use Rattle.clap.specs.Simple.{Shape}
 use Rattle.clap.specs.Walk.{Text, nothing_held, walk}
 use Rattle.command_words.specs.Arguments.{count_read, dates_at}
 use Rattle.calendar_dates.specs.Reading.{date_read}
-use Rattle.plain_words.specs.Plain.{TailsPlainly, default_rotations, default_settings}
+use Rattle.plain_words.specs.Plain.{TailsPlainly, default_rotations, default_reading}
 use Rattle.command_line.specs.Found.{found}
 use Rattle.command_line.specs.Program.{our_app, tails_app}
 use Rattle.command_words.specs.Words.{asked, tails_at}
@@ -25,7 +25,7 @@ unfolding asked found our_app clap_on_literals
 parts program dir date count = refl
 
 answers : (dir date count : Text) → answer [] (rows_by tails_shape (with_three tails_shape dir date count))
-    ≡ tails_at default_settings default_rotations (dates_at (date_read date) (count_read count)) dir
+    ≡ tails_at default_reading default_rotations (dates_at (date_read date) (count_read count)) dir
 unfolding our_app clap_on_literals
 answers dir date count = refl
 

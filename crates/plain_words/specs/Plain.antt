@@ -2,14 +2,14 @@
 -- word before it.
 use Rattle.std.specs.Prelude.{◌≡◌, ◌==◌, ◌||◌, Bool, true, false, not, [], ◌∷◌, ◌++◌, Option, Some, None, codes}
 use Rattle.clap.specs.Words.{Text}
-use Rattle.fleet_model.specs.declared.parts.Settings.{Settings}
-use Rattle.command_words.specs.Arguments.{count_read, dates_at, legs_read, made_number_read, options_at, rotations_at, search_at, settings_at}
+use Rattle.fleet_model.specs.declared.options.TableOptions.{TableOptions}
+use Rattle.command_words.specs.Arguments.{count_read, dates_at, legs_read, made_number_read, options_at, reading_at, rotations_at, search_at, settings_at}
 use Rattle.calendar_dates.specs.Reading.{date_read}
 use Rattle.command_words.specs.Values.{minute_read, number_read}
 use Rattle.command_words.specs.Words.{asked, check_at, judge_at, make_at, solve_at, tails_at}
 use Rattle.command_words.specs.declared.command.RotationLimits.{RotationLimits}
 use Rattle.command_words.specs.declared.command.SolveOptions.{SolveOptions}
-use Rattle.command_words.specs.declared.command.TheConstants.{DEFAULT_OPTIONS, DEFAULT_SETTINGS, DEFAULT_THROUGH_MAX, MAX_DAYS, MAX_NODES, MAX_PIVOTS, MAX_THROUGH_MAX, MAX_VISITS, MIN_DAYS}
+use Rattle.command_words.specs.declared.command.TheConstants.{DEFAULT_OPTIONS, DEFAULT_READING, DEFAULT_THROUGH_MAX, MAX_DAYS, MAX_NODES, MAX_PIVOTS, MAX_THROUGH_MAX, MAX_VISITS, MIN_DAYS}
 
 -- nothing follows
 abbrev pub is_alone : Text → Bool
@@ -23,8 +23,8 @@ is_plain_name (first ∷ rest) = not (first == 45) || is_alone rest
 
 -- ---- what holds where no option is given
 
-abbrev pub default_settings : Option Settings
-default_settings = Some DEFAULT_SETTINGS
+abbrev pub default_reading : Option TableOptions
+default_reading = Some DEFAULT_READING
 
 abbrev pub default_rotations : Option RotationLimits
 default_rotations = Some DEFAULT_OPTIONS.rotations
@@ -34,13 +34,13 @@ default_options = Some DEFAULT_OPTIONS
 
 -- ---- what options give
 
--- the settings with a day start alone
-abbrev pub settings_from : Text → Option Settings
-settings_from time = settings_at (minute_read time) (Some DEFAULT_THROUGH_MAX)
+-- how tables are read with a day start alone
+abbrev pub reading_from : Text → Option TableOptions
+reading_from time = reading_at (settings_at (minute_read time) (Some DEFAULT_THROUGH_MAX))
 
 -- with a longest wait too
-abbrev pub settings_with : Text → Text → Option Settings
-settings_with time wait = settings_at (minute_read time) (number_read 0 MAX_THROUGH_MAX wait)
+abbrev pub reading_with : Text → Text → Option TableOptions
+reading_with time wait = reading_at (settings_at (minute_read time) (number_read 0 MAX_THROUGH_MAX wait))
 
 abbrev pub rotations_with : Text → Text → Option RotationLimits
 rotations_with days visits = rotations_at (number_read MIN_DAYS MAX_DAYS days) (number_read 0 MAX_VISITS visits)
@@ -50,23 +50,23 @@ rotations_with days visits = rotations_at (number_read MIN_DAYS MAX_DAYS days) (
 -- judge DIR
 abbrev pub JudgesPlainly : Type 0
 JudgesPlainly = (program dir : Text) → is_plain_name dir ≡ true
-    → asked (program ∷ codes "judge" ∷ dir ∷ []) ≡ judge_at default_settings dir
+    → asked (program ∷ codes "judge" ∷ dir ∷ []) ≡ judge_at default_reading dir
 
 -- solve DIR
 abbrev pub SolvesPlainly : Type 0
 SolvesPlainly = (program dir : Text) → is_plain_name dir ≡ true
-    → asked (program ∷ codes "solve" ∷ dir ∷ []) ≡ solve_at default_settings default_options dir
+    → asked (program ∷ codes "solve" ∷ dir ∷ []) ≡ solve_at default_reading default_options dir
 
 -- check DIR
 abbrev pub ChecksPlainly : Type 0
 ChecksPlainly = (program dir : Text) → is_plain_name dir ≡ true
-    → asked (program ∷ codes "check" ∷ dir ∷ []) ≡ check_at default_settings dir
+    → asked (program ∷ codes "check" ∷ dir ∷ []) ≡ check_at default_reading dir
 
 -- tails DIR DATE COUNT
 abbrev pub TailsPlainly : Type 0
 TailsPlainly = (program dir date count : Text) → is_plain_name dir ≡ true → is_plain_name date ≡ true → is_plain_name count ≡ true
     → asked (program ∷ codes "tails" ∷ dir ∷ date ∷ count ∷ [])
-    ≡ tails_at default_settings default_rotations (dates_at (date_read date) (count_read count)) dir
+    ≡ tails_at default_reading default_rotations (dates_at (date_read date) (count_read count)) dir
 
 -- make DIR NUMBER LEGS
 abbrev pub MakesPlainly : Type 0
@@ -78,47 +78,47 @@ MakesPlainly = (program dir number legs : Text) → is_plain_name dir ≡ true �
 -- judge -- DIR
 abbrev pub JudgesByDefault : Type 0
 JudgesByDefault = (program dir : Text) → asked (program ∷ codes "judge" ∷ codes "--" ∷ dir ∷ [])
-    ≡ judge_at default_settings dir
+    ≡ judge_at default_reading dir
 
 -- judge --day-start=HH:MM -- DIR
 abbrev pub JudgesFrom : Type 0
 JudgesFrom = (program time dir : Text) → asked (program ∷ codes "judge" ∷ (codes "--day-start=" ++ time) ∷ codes "--" ∷ dir ∷ [])
-    ≡ judge_at (settings_from time) dir
+    ≡ judge_at (reading_from time) dir
 
 -- solve -- DIR
 abbrev pub SolvesByDefault : Type 0
 SolvesByDefault = (program dir : Text) → asked (program ∷ codes "solve" ∷ codes "--" ∷ dir ∷ [])
-    ≡ solve_at default_settings default_options dir
+    ≡ solve_at default_reading default_options dir
 
 -- solve --day-start=HH:MM --through-max=M --days=D --visits=V --nodes=N --pivots=P --json -- DIR
 abbrev pub SolvesWithin : Type 0
 SolvesWithin = (program time wait days visits nodes pivots dir : Text)
     → asked (program ∷ codes "solve" ∷ (codes "--day-start=" ++ time) ∷ (codes "--through-max=" ++ wait) ∷ (codes "--days=" ++ days) ∷ (codes "--visits=" ++ visits)
     ∷ (codes "--nodes=" ++ nodes) ∷ (codes "--pivots=" ++ pivots) ∷ codes "--json" ∷ codes "--" ∷ dir ∷ [])
-    ≡ solve_at (settings_with time wait)
+    ≡ solve_at (reading_with time wait)
     (options_at (search_at (number_read 0 MAX_NODES nodes) (number_read 0 MAX_PIVOTS pivots)) (rotations_with days visits) true) dir
 
 -- check -- DIR
 abbrev pub ChecksByDefault : Type 0
 ChecksByDefault = (program dir : Text) → asked (program ∷ codes "check" ∷ codes "--" ∷ dir ∷ [])
-    ≡ check_at default_settings dir
+    ≡ check_at default_reading dir
 
 -- check --day-start=HH:MM -- DIR
 abbrev pub ChecksFrom : Type 0
 ChecksFrom = (program time dir : Text) → asked (program ∷ codes "check" ∷ (codes "--day-start=" ++ time) ∷ codes "--" ∷ dir ∷ [])
-    ≡ check_at (settings_from time) dir
+    ≡ check_at (reading_from time) dir
 
 -- tails -- DIR DATE COUNT
 abbrev pub TailsByDefault : Type 0
 TailsByDefault = (program dir date count : Text) → asked (program ∷ codes "tails" ∷ codes "--" ∷ dir ∷ date ∷ count ∷ [])
-    ≡ tails_at default_settings default_rotations (dates_at (date_read date) (count_read count)) dir
+    ≡ tails_at default_reading default_rotations (dates_at (date_read date) (count_read count)) dir
 
 -- tails --day-start=HH:MM --through-max=M --days=D --visits=V -- DIR DATE COUNT
 abbrev pub TailsWithin : Type 0
 TailsWithin = (program time wait days visits dir date count : Text)
     → asked (program ∷ codes "tails" ∷ (codes "--day-start=" ++ time) ∷ (codes "--through-max=" ++ wait) ∷ (codes "--days=" ++ days) ∷ (codes "--visits=" ++ visits)
     ∷ codes "--" ∷ dir ∷ date ∷ count ∷ [])
-    ≡ tails_at (settings_with time wait) (rotations_with days visits) (dates_at (date_read date) (count_read count)) dir
+    ≡ tails_at (reading_with time wait) (rotations_with days visits) (dates_at (date_read date) (count_read count)) dir
 
 -- make -- DIR NUMBER LEGS
 abbrev pub MakesByDefault : Type 0

@@ -260,11 +260,14 @@ fn rotations_value(
     solved: &Solved,
     rotations: &[FleetRotation],
 ) -> Result<Value, NoMemory>
-    requires { AreRotations tables.now rotations.now }
+    requires plan { PlanFits tables.now solved.now }
+    requires rotations { AreRotations tables.now rotations.now }
     ensures { IfOk result (λ value. view value ≡ array (items_of (rotations_data tables.now solved.now rotations.now))) }
 {
     match solved {
-        Solved::Planned { .. } => Ok(Value::Array(made_rotations(alloc, tables, rotations)?)),
+        Solved::Planned { assignment, .. } => {
+            Ok(Value::Array(made_rotations(alloc, tables, assignment, rotations)?))
+        }
         Solved::Infeasible { .. } | Solved::Unsettled { .. } => Ok(Value::Array(Vec::new(alloc))),
     }
 }
@@ -273,14 +276,16 @@ fn rotations_value(
 fn made_rotations(
     alloc: Global,
     tables: &Tables,
+    plan: &Assignment,
     rotations: &[FleetRotation],
 ) -> Result<Vec<Value>, NoMemory>
-    requires { AreRotations tables.now rotations.now }
-    ensures { IfOk result (λ values. map view values.items ≡ list_below (rotation_data tables.now rotations.now) (length rotations.now)) }
+    requires plan { IsAssignment tables.now plan.now }
+    requires rotations { AreRotations tables.now rotations.now }
+    ensures { IfOk result (λ values. map view values.items ≡ list_below (rotation_data tables.now plan.now rotations.now) (length rotations.now)) }
 {
     let mut values = Vec::new(alloc);
     for fleet in 0..rotations.len() as u32 {
-        values.push(rotation_value(alloc, tables, rotations, fleet)?)?;
+        values.push(rotation_value(alloc, tables, plan, rotations, fleet)?)?;
     }
     Ok(values)
 }
@@ -289,12 +294,14 @@ fn made_rotations(
 fn rotation_value(
     alloc: Global,
     tables: &Tables,
+    plan: &Assignment,
     rotations: &[FleetRotation],
     fleet: u32,
 ) -> Result<Value, NoMemory>
+    requires plan { IsAssignment tables.now plan.now }
     requires rotations { AreRotations tables.now rotations.now }
     requires fleet { fleet < length rotations.now }
-    ensures { IfOk result (λ value. view value ≡ rotation_data tables.now rotations.now fleet) }
+    ensures { IfOk result (λ value. view value ≡ rotation_data tables.now plan.now rotations.now fleet) }
 {
-    Ok(Value::String(rotation_words(alloc, tables, fleet, &rotations[fleet as usize])?))
+    Ok(Value::String(rotation_words(alloc, tables, plan, fleet, &rotations[fleet as usize])?))
 }

@@ -2,6 +2,7 @@
 ghost use Rattle.std.specs.Prelude.{◌≡◌, ◌++◌, ◌<◌, [], ◌∷◌, IfOk, OnOk, codes, length};
 ghost use Rattle.std.specs.Fmt.{decimal};
 ghost use Rattle.branch_bound.specs.Solved.{PlanFits, plan_cost};
+ghost use Rattle.fleet_model.specs.Legal.{IsAssignment};
 ghost use Rattle.fleet_rotations.specs.Rotations.{AreRotations};
 ghost use Rattle.plan_report.specs.Summary.{count_lines, outcome_word, printed_bound, result_lines, rotation_line, rotation_lines, summary_text};
 ghost use Rattle.rotation_report.specs.TextLines.{line_of, number_word};
@@ -9,7 +10,7 @@ ghost use Rattle.rotation_report.specs.TextLines.{line_of, number_word};
 use branch_bound::Solved;
 use dual_bound::TreeCounts;
 use entries::NoMemory;
-use fleet_model::Tables;
+use fleet_model::{Assignment, Tables};
 use fleet_rotations::FleetRotation;
 use rotation_report::rotation_words;
 use rotation_report::text_lines::{push_fleets, push_line};
@@ -33,7 +34,7 @@ pub fn summary(
     push_counts(alloc, &mut text, solved.tree().counts())?;
     if let Solved::Planned { assignment, .. } = solved {
         push_fleets(alloc, &mut text, tables, assignment)?;
-        push_rotations(alloc, &mut text, tables, rotations)?;
+        push_rotations(alloc, &mut text, tables, assignment, rotations)?;
     }
     Ok(text)
 }
@@ -115,13 +116,15 @@ fn push_rotations(
     alloc: Global,
     text: &mut Vec<u8>,
     tables: &Tables,
+    plan: &Assignment,
     rotations: &[FleetRotation],
 ) -> Result<(), NoMemory>
-    requires { AreRotations tables.now rotations.now }
-    ensures { OnOk result (text.new.items ≡ text.old.items ++ rotation_lines tables.now rotations.now (length rotations.now)) }
+    requires plan { IsAssignment tables.now plan.now }
+    requires rotations { AreRotations tables.now rotations.now }
+    ensures { OnOk result (text.new.items ≡ text.old.items ++ rotation_lines tables.now plan.now rotations.now (length rotations.now)) }
 {
     for fleet in 0..rotations.len() as u32 {
-        push_rotation(alloc, text, tables, rotations, fleet)?;
+        push_rotation(alloc, text, tables, plan, rotations, fleet)?;
     }
     Ok(())
 }
@@ -131,14 +134,16 @@ fn push_rotation(
     alloc: Global,
     text: &mut Vec<u8>,
     tables: &Tables,
+    plan: &Assignment,
     rotations: &[FleetRotation],
     fleet: u32,
 ) -> Result<(), NoMemory>
+    requires plan { IsAssignment tables.now plan.now }
     requires rotations { AreRotations tables.now rotations.now }
     requires fleet { fleet < length rotations.now }
-    ensures { OnOk result (text.new.items ≡ text.old.items ++ rotation_line tables.now rotations.now fleet) }
+    ensures { OnOk result (text.new.items ≡ text.old.items ++ rotation_line tables.now plan.now rotations.now fleet) }
 {
-    let words = rotation_words(alloc, tables, fleet, &rotations[fleet as usize])?;
+    let words = rotation_words(alloc, tables, plan, fleet, &rotations[fleet as usize])?;
     push_line(
         text,
         &[

@@ -13,9 +13,8 @@ use Rattle.ground_turns.specs.Maps.{turn_after}
 use Rattle.ground_turns.specs.Nights.{nights_in_turn}
 use Rattle.ground_turns.specs.declared.nights.Night.{Night}
 use Rattle.ground_turns.specs.declared.nights.Night.TheVariants as night
-use Rattle.lines_of_flying.specs.Lines.{nights_after}
+use Rattle.lines_of_flying.specs.Lines.{days_of_tour, nights_after}
 use Rattle.fleet_rotations.specs.Rotations.{rotation_of}
-use Rattle.rotation_report.specs.RotationWords.{days_of}
 use Rattle.fleet_rotations.specs.declared.made.FleetRotation.{FleetRotation}
 
 abbrev pub Fields : Type 0
@@ -83,7 +82,7 @@ spent_rows t visits order prefix =
 
 -- a tour: its days and legs, and then its first legs, each with its nights
 abbrev pub begun_tour_rows : Tables → ℕ → List ℕ → ℕ → List Row
-begun_tour_rows t f tour n = record { kind = codes "tour"; a = decimal (days_of t f tour); b = decimal (length tour) } ∷ tour_rows t f tour n
+begun_tour_rows t f tour n = record { kind = codes "tour"; a = decimal (days_of_tour t f tour); b = decimal (length tour) } ∷ tour_rows t f tour n
 
 -- what becomes of a rotation, where the search had so many visits
 abbrev pub rotation_rows : Tables → ℕ → ℕ → Rotation → List Row

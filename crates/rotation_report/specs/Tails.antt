@@ -57,17 +57,17 @@ days_lines t flown days zero = []
 days_lines t flown days (suc d) = days_lines t flown days d ++ day_lines t flown (slice_index_or days d no_day) d flown.used
 
 -- that a fleet has no tour
-abbrev pub no_tour_line : Tables → ℕ → FleetRotation → List ℕ
-no_tour_line t f made = line_of ((fleet_of t f).name ∷ codes ": " ∷ rotation_words t f made ∷ [])
+abbrev pub no_tour_line : Tables → List ℕ → ℕ → FleetRotation → List ℕ
+no_tour_line t a f made = line_of ((fleet_of t f).name ∷ codes ": " ∷ rotation_words t a f made ∷ [])
 
 -- the lines of a fleet on some days
 abbrev pub rotation_tails : Tables → List ℕ → ℕ → FleetRotation → List Day → Rotation → List ℕ
-rotation_tails t a f made days rotation.Unused = no_tour_line t f made
-rotation_tails t a f made days (rotation.TooFewNights have used) = no_tour_line t f made
-rotation_tails t a f made days (rotation.Apart legs) = no_tour_line t f made
+rotation_tails t a f made days rotation.Unused = no_tour_line t a f made
+rotation_tails t a f made days (rotation.TooFewNights have used) = no_tour_line t a f made
+rotation_tails t a f made days (rotation.Apart legs) = no_tour_line t a f made
 rotation_tails t a f made days (rotation.Tour tour) = days_lines t (lines_by t a f tour) days (length days)
-rotation_tails t a f made days rotation.None = no_tour_line t f made
-rotation_tails t a f made days (rotation.Spent order prefix) = no_tour_line t f made
+rotation_tails t a f made days rotation.None = no_tour_line t a f made
+rotation_tails t a f made days (rotation.Spent order prefix) = no_tour_line t a f made
 
 abbrev pub fleet_tails : Tables → List ℕ → ℕ → FleetRotation → List Day → List ℕ
 fleet_tails t a f made days = rotation_tails t a f made days (last_made made)

@@ -1,21 +1,19 @@
 //! The laws of what is told of rotations. Each function is a law: its contract is the statement, and it does nothing.
-ghost use Rattle.std.specs.Prelude.{◌≡◌, ◌*◌, ℕ, List};
+ghost use Rattle.std.specs.Prelude.{◌≡◌, ℕ, List};
 ghost use Rattle.std.specs.List.{flat_map};
 ghost use Rattle.csv.specs.Writing.{default_writer, row_text};
-ghost use Rattle.fleet_model.specs.Counts.{weights_of};
-ghost use Rattle.fleet_model.specs.Use.{used_of};
 ghost use Rattle.fleet_model.specs.declared.tables.Tables.{Tables};
-ghost use Rattle.fleet_model.specs.Schedule.{days_in};
 ghost use Rattle.ground_turns.specs.Maps.{IsTour};
+ghost use Rattle.lines_of_flying.specs.Lines.{days_of_tour};
 ghost use Rattle.fleet_rotations.specs.Rotations.{AreRotations};
 ghost use Rattle.fleet_rotations.specs.declared.made.FleetRotation.{FleetRotation};
 ghost use Rattle.rotation_report.specs.RotationRecords.{rotation_records, rotation_text};
-ghost use Rattle.rotation_report.specs.RotationWords.{days_of};
+ghost use Rattle.rotation_report.specs.RotationWords.{days_used};
 ghost use Rattle.rotation_report.specs.TailLaws.{ComesToNextLine, EachAircraftFliesAll, EachLegEachDate, FollowsNextAircraft};
 
-/// The days that are told of a tour are those of the period, for each aircraft that the fleet uses.
+/// The days that records say of a tour are those that words say of it.
 pub fn tour_days_are_use()
-    ensures { (t : Tables) (a : List ℕ) (f : ℕ) (tour : List ℕ) → IsTour t a f tour → days_of t f tour ≡ used_of t (weights_of a) f * days_in t }
+    ensures { (t : Tables) (a : List ℕ) (f : ℕ) (tour : List ℕ) → IsTour t a f tour → days_of_tour t f tour ≡ days_used t a f }
 {}
 
 /// The text of rotations is what the default writer of `csv` writes of its records: no field calls for quotes.

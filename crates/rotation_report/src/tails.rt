@@ -86,7 +86,7 @@ fn push_tails(
         Rotation::Tour(tour) => {
             push_tour(alloc, text, tables, plan, fleet, tour.as_slice(), dates)
         }
-        _ => push_no_tour(alloc, text, tables, fleet, made),
+        _ => push_no_tour(alloc, text, tables, plan, fleet, made),
     }
 }
 
@@ -126,14 +126,16 @@ fn push_no_tour(
     alloc: Global,
     text: &mut Vec<u8>,
     tables: &Tables,
+    plan: &Assignment,
     fleet: u32,
     made: &FleetRotation,
 ) -> Result<(), NoMemory>
+    requires plan { IsAssignment tables.now plan.now }
     requires fleet { fleet < fleets_in tables.now }
     requires made { IsFleetRotation tables.now made.now }
-    ensures { OnOk result (text.new.items ≡ text.old.items ++ no_tour_line tables.now fleet made.now) }
+    ensures { OnOk result (text.new.items ≡ text.old.items ++ no_tour_line tables.now plan.now fleet made.now) }
 {
-    let words = rotation_words(alloc, tables, fleet, made)?;
+    let words = rotation_words(alloc, tables, plan, fleet, made)?;
     push_line(
         text,
         &[

@@ -4,13 +4,13 @@ ghost use Rattle.fleet_model.specs.Schedule.{fleets_in, leg_on, legs_in};
 ghost use Rattle.fleet_model.specs.Times.{nights_of};
 ghost use Rattle.ground_turns.specs.Maps.{turn_after};
 ghost use Rattle.ground_turns.specs.Nights.{nights_in_turn};
+ghost use Rattle.lines_of_flying.specs.Lines.{days_of_tour};
 ghost use Rattle.plan_text.specs.CsvText.{IsBetweenRecords};
 ghost use Rattle.rotation_report.specs.RoundRows.{HasRows};
 ghost use Rattle.rotation_report.specs.RotationRecords.{begun_tour_rows, leg_row, night_row, yes_no};
 ghost use Rattle.fleet_rotations.specs.Rotations.{AreListed};
 
 use crate::record_writer::{Round, put_numbers, put_row};
-use crate::words::days_of;
 use csv::Writer;
 use entries::NoMemory;
 use fleet_model::Tables;
@@ -39,6 +39,19 @@ pub fn put_tour(
         put_nights(writer, round, tables, fleet, tour, place)?;
     }
     Ok(())
+}
+
+/// The days of a tour: the nights from its first leg until it comes back to it. Takes no memory.
+fn days_of(tables: &Tables, fleet: u32, tour: &[u32]) -> u64
+    requires fleet { fleet < fleets_in tables.now }
+    requires listed { AreListed tables.now tour.now }
+    ensures { result ≡ days_of_tour tables.now fleet tour.now }
+{
+    let mut days: u64 = 0;
+    for place in 0..tour.len() {
+        days += u64::from(nights_after(tables, fleet, tour, place));
+    }
+    days
 }
 
 /// Writes a leg of a tour.

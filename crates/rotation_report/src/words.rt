@@ -1,15 +1,16 @@
 //! What becomes of a fleet's rotation, in words.
-ghost use Rattle.std.specs.Prelude.{◌≡◌, ◌++◌, ◌<◌, IfOk, OnOk, codes, length, string_bytes};
+ghost use Rattle.std.specs.Prelude.{◌≡◌, ◌++◌, ◌<◌, IfOk, OnOk, codes, string_bytes};
 ghost use Rattle.std.specs.Fmt.{decimal};
+ghost use Rattle.fleet_model.specs.Legal.{IsAssignment};
 ghost use Rattle.fleet_model.specs.Schedule.{fleets_in};
-ghost use Rattle.rotation_report.specs.RotationWords.{days_of, rotation_words, words_of};
-ghost use Rattle.fleet_rotations.specs.Rotations.{AreListed, IsFleetRotation, IsOfLegs};
+ghost use Rattle.rotation_report.specs.RotationWords.{days_used, rotation_words, words_of};
+ghost use Rattle.fleet_rotations.specs.Rotations.{IsFleetRotation, IsOfLegs};
 
 use entries::NoMemory;
 use euler_rotation::Rotation;
-use fleet_model::Tables;
+use fleet_model::{Assignment, Tables};
 use fleet_rotations::FleetRotation;
-use lines_of_flying::nights_after;
+use plan_judge::used;
 use std::alloc::Global;
 
 /// What becomes of a fleet's rotation: of the one without through pairs where these were given up, and that they were.
@@ -17,16 +18,18 @@ use std::alloc::Global;
 pub fn rotation_words(
     alloc: Global,
     tables: &Tables,
+    plan: &Assignment,
     fleet: u32,
     made: &FleetRotation,
 ) -> Result<String, NoMemory>
+    requires plan { IsAssignment tables.now plan.now }
     requires fleet { fleet < fleets_in tables.now }
     requires made { IsFleetRotation tables.now made.now }
-    ensures { IfOk result (λ words. string_bytes words ≡ rotation_words tables.now fleet made.now) }
+    ensures { IfOk result (λ words. string_bytes words ≡ rotation_words tables.now plan.now fleet made.now) }
 {
     match &made.second {
-        Some(second) => words_of(alloc, tables, fleet, second, " without throughs"),
-        None => words_of(alloc, tables, fleet, &made.first, ""),
+        Some(second) => words_of(alloc, tables, plan, fleet, second, " without throughs"),
+        None => words_of(alloc, tables, plan, fleet, &made.first, ""),
     }
 }
 
@@ -34,16 +37,18 @@ pub fn rotation_words(
 fn words_of(
     alloc: Global,
     tables: &Tables,
+    plan: &Assignment,
     fleet: u32,
     rotation: &Rotation,
     ending: &str,
 ) -> Result<String, NoMemory>
+    requires plan { IsAssignment tables.now plan.now }
     requires fleet { fleet < fleets_in tables.now }
     requires legs { IsOfLegs tables.now rotation.now }
-    ensures { IfOk result (λ words. string_bytes words ≡ words_of tables.now fleet rotation.now ++ ending.now) }
+    ensures { IfOk result (λ words. string_bytes words ≡ words_of tables.now plan.now fleet rotation.now ++ ending.now) }
 {
     let mut words = String::new(alloc);
-    push_words(alloc, &mut words, tables, fleet, rotation)?;
+    push_words(alloc, &mut words, tables, plan, fleet, rotation)?;
     words.push_str(ending)?;
     Ok(words)
 }
@@ -53,12 +58,14 @@ fn push_words(
     alloc: Global,
     words: &mut String,
     tables: &Tables,
+    plan: &Assignment,
     fleet: u32,
     rotation: &Rotation,
 ) -> Result<(), NoMemory>
+    requires plan { IsAssignment tables.now plan.now }
     requires fleet { fleet < fleets_in tables.now }
     requires legs { IsOfLegs tables.now rotation.now }
-    ensures { OnOk result (string_bytes words.new ≡ string_bytes words.old ++ words_of tables.now fleet rotation.now) }
+    ensures { OnOk result (string_bytes words.new ≡ string_bytes words.old ++ words_of tables.now plan.now fleet rotation.now) }
 {
     match rotation {
         Rotation::Unused => push_plain(words, "unused"),
@@ -67,7 +74,10 @@ fn push_words(
             push_number(alloc, words, "apart ", legs.len() as u64)?;
             push_plain(words, " legs")
         }
-        Rotation::Tour(tour) => push_tour(alloc, words, tables, fleet, tour.as_slice()),
+        Rotation::Tour(tour) => {
+            let days = days_used(tables, plan, fleet);
+            push_tour(alloc, words, tour.len(), days)
+        }
         Rotation::None => push_plain(words, "none"),
         Rotation::Spent { .. } => push_plain(words, "visits spent"),
     }
@@ -82,22 +92,23 @@ fn push_nights(alloc: Global, words: &mut String, have: u32, used: u32) -> Resul
     Ok(())
 }
 
-/// Appends a tour in words.
-fn push_tour(
-    alloc: Global,
-    words: &mut String,
-    tables: &Tables,
-    fleet: u32,
-    tour: &[u32],
-) -> Result<(), NoMemory>
-    requires fleet { fleet < fleets_in tables.now }
-    requires listed { AreListed tables.now tour.now }
-    ensures { OnOk result (string_bytes words.new ≡ string_bytes words.old ++ codes "tour of " ++ decimal (length tour.now) ++ codes " legs in " ++ decimal (days_of tables.now fleet tour.now) ++ codes " days") }
+/// Appends in words that an aircraft comes round a tour of so many legs in so many days.
+fn push_tour(alloc: Global, words: &mut String, legs: usize, days: u64) -> Result<(), NoMemory>
+    ensures { OnOk result (string_bytes words.new ≡ string_bytes words.old ++ codes "tour of " ++ decimal legs ++ codes " legs in " ++ decimal days ++ codes " days") }
 {
-    push_number(alloc, words, "tour of ", tour.len() as u64)?;
-    push_number(alloc, words, " legs in ", days_of(tables, fleet, tour))?;
+    push_number(alloc, words, "tour of ", legs as u64)?;
+    push_number(alloc, words, " legs in ", days)?;
     words.push_str(" days")?;
     Ok(())
+}
+
+/// The days in which an aircraft comes round a tour: those of the period, for each aircraft that the fleet uses.
+fn days_used(tables: &Tables, plan: &Assignment, fleet: u32) -> u64
+    requires plan { IsAssignment tables.now plan.now }
+    requires fleet { fleet < fleets_in tables.now }
+    ensures { result ≡ days_used tables.now plan.now fleet }
+{
+    u64::from(used(tables, plan, fleet)) * u64::from(tables.day_count())
 }
 
 /// Appends some words.
@@ -116,17 +127,4 @@ fn push_number(alloc: Global, words: &mut String, before: &str, number: u64) -> 
     let digits = number.to_string(alloc)?;
     words.push_str(digits.as_str())?;
     Ok(())
-}
-
-/// The days of a tour: the nights from its first leg until it comes back to it. Takes no memory.
-pub fn days_of(tables: &Tables, fleet: u32, tour: &[u32]) -> u64
-    requires fleet { fleet < fleets_in tables.now }
-    requires listed { AreListed tables.now tour.now }
-    ensures { result ≡ days_of tables.now fleet tour.now }
-{
-    let mut days: u64 = 0;
-    for place in 0..tour.len() {
-        days += u64::from(nights_after(tables, fleet, tour, place));
-    }
-    days
 }

@@ -1,7 +1,7 @@
 use Rattle.std.proofs.Common.{◌≡◌, ◌≤◌, ◌*◌}
 use Rattle.sums.specs.Below.{sum_below}
 use Rattle.lines_of_flying.specs.Lines.{nights_after}
-use Rattle.rotation_report.proofs.words.days_of.Given as goal
+use Rattle.rotation_report.proofs.tour_records.days_of.Given as goal
 
 abbrev pub invariant-loop-place : goal.invariant-loop-place
 invariant-loop-place l = record {
