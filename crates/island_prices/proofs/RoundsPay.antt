@@ -84,5 +84,5 @@ module _ (t : Tables) (rises : List Rise) (at_idles : AreAtIdles t rises) where
     -- so each round is paid back
     pub rounds_pay : (j : ℕ) → PaysBack t (λ s. minute_in (rounds_of t rises (least_idle t)) s j)
     rounds_pay j = record {
-      each = λ fleets are. payback_law t (λ s. minute_in (rounds_of t rises (least_idle t)) s j) fleets (record { islands = islands; each = λ s within. idle_taken s j within }) are;
+      each = λ choices are. payback_law t (λ s. minute_in (rounds_of t rises (least_idle t)) s j) choices (record { islands = islands; each = λ s within. idle_taken s j within }) are;
     }

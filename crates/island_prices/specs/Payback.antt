@@ -10,8 +10,7 @@ use Rattle.fleet_model.specs.declared.parts.Pair.{Pair}
 use Rattle.fleet_model.specs.declared.tables.Tables.{Tables}
 use Rattle.dual_bound.specs.Prices.{price_of, rent_of}
 use Rattle.dual_bound.specs.declared.prices.Prices.{Prices}
-use Rattle.island_cut.specs.IslandLaws.{AreFleetsFor, left_by, ready_by}
-use Rattle.island_cut.specs.Spare.{aircraft_in}
+use Rattle.island_cut.specs.IslandLaws.{AreChoicesFor, IsPaidBack}
 use Rattle.island_prices.specs.Rises.{is_of, rise_in, shift_by}
 use Rattle.island_prices.specs.declared.rises.Rise.{Rise}
 use Rattle.island_prices.specs.declared.rises.Shift.{Shift}
@@ -53,5 +52,4 @@ pub record AreQuiet (t : Tables) (keeps : Domains) (rises : List Rise) : Type 0 
 -- a minute of each station such that a rent and prices up to and with it may grow by the same: whichever fleets fly the
 -- legs, the laps and the legs that have left come to all aircraft and the legs that are ready at least
 pub record PaysBack (t : Tables) (at : ℕ → ℕ) : Type 0 where
-  pub each : (fleets : ℕ → ℕ) → AreFleetsFor t fleets
-      → aircraft_in t + sum_below (ready_by t at fleets) (legs_in t) ≤ sum_below (λ l. laps_of t (leg_on l (fleets l))) (legs_in t) + sum_below (left_by t at) (legs_in t)
+  pub each : (choices : ℕ → ℕ) → AreChoicesFor t choices → IsPaidBack t at choices
