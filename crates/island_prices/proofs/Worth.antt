@@ -13,12 +13,11 @@ use Rattle.sums.proofs.WholeSums.{*ℤ-sum_below_ℤ, sum_below_ℤ--ℤ, sum_be
 use Rattle.sums.proofs.WholeSwaps.{sum_below_ℤ-+ℤ, sum_below_ℤ-zero}
 use Rattle.fleet_model.specs.Kept.{Domains, IsBare}
 use Rattle.fleet_model.specs.Legal.{cost_of}
-use Rattle.fleet_model.specs.Schedule.{IsPair, fleet_of, fleets_in, leg_of, leg_on, legs_in, no_leg, stations_in}
+use Rattle.fleet_model.specs.Schedule.{IsPair, fleet_of, fleets_in, leg_of, leg_on, legs_in, no_leg, period_of, stations_in}
 use Rattle.fleet_model.specs.Times.{busy_minutes, departure, laps_of, ready_minute}
-use Rattle.fleet_model.specs.declared.limits.TheConstants.{MINUTES_PER_PERIOD}
 use Rattle.fleet_model.specs.declared.parts.Pair.{Pair}
 use Rattle.fleet_model.specs.declared.tables.Tables.{Tables}
-use Rattle.fleet_model.proofs.Minutes.{in_period}
+use Rattle.fleet_model.proofs.PeriodMinutes.{departs_always, in_period}
 use Rattle.dual_bound.specs.Prices.{price_of, rent_of}
 use Rattle.dual_bound.specs.Worth.{cost_units, least_below, leg_worth, lesser, pair_worth, rents_of, worth_of}
 use Rattle.dual_bound.specs.declared.prices.Prices.{Prices}
@@ -156,7 +155,7 @@ same_worth t keeps k prices other some pairs rents =
 -- ---- a round
 module _ (t : Tables) (keeps : Domains) (k : ℕ) (some_pair : (l : ℕ) → ¬ (IsBare t keeps l)) (allowed : (p : Pair) → IsPair t p → keeps p ≡ true → IsSome (cost_of t p)) (prices other : Prices)
     (number : ℤ) (at_least_0 : pos 0 ≤ℤ number) (at : ℕ → ℕ) (pays : PaysBack t at) (scale : other.scale ≡ prices.scale)
-    (grown : (f s m : ℕ) → f < fleets_in t → s < stations_in t → m < MINUTES_PER_PERIOD → price_of other f s m ≡ price_of prices f s m +ℤ cond (nat_le m (at s)) number (pos 0))
+    (grown : (f s m : ℕ) → f < fleets_in t → s < stations_in t → m < period_of t → price_of other f s m ≡ price_of prices f s m +ℤ cond (nat_le m (at s)) number (pos 0))
     (rents : (f : ℕ) → f < fleets_in t → rent_of other f ≡ rent_of prices f +ℤ number) where
   -- by how much a pair is worth more
   abbrev extra : ℕ → ℕ → ℤ
@@ -172,8 +171,8 @@ module _ (t : Tables) (keeps : Domains) (k : ℕ) (some_pair : (l : ℕ) → ¬ 
   pair_gains l f below known kept =
       let p = leg_on l f in
       let leg = t.in_range.legs_fit.each l no_leg below in
-      let out = grown f (leg_of t l).from (departure t p) known leg.from leg.dep ∙ ap (λ z. price_of prices f (leg_of t l).from (departure t p) +ℤ z) (times_number (nat_le (departure t p) (at (leg_of t l).from))) in
-      let back = grown f (leg_of t l).to (ready_minute t p) known leg.to (in_period (departure t p + busy_minutes t p)) ∙ ap (λ z. price_of prices f (leg_of t l).to (ready_minute t p) +ℤ z) (times_number (nat_le (ready_minute t p) (at (leg_of t l).to))) in
+      let out = grown f (leg_of t l).from (departure t p) known leg.from (departs_always t p) ∙ ap (λ z. price_of prices f (leg_of t l).from (departure t p) +ℤ z) (times_number (nat_le (departure t p) (at (leg_of t l).from))) in
+      let back = grown f (leg_of t l).to (ready_minute t p) known leg.to (in_period t (departure t p + busy_minutes t p)) ∙ ap (λ z. price_of prices f (leg_of t l).to (ready_minute t p) +ℤ z) (times_number (nat_le (ready_minute t p) (at (leg_of t l).to))) in
       ap₂ (λ s z. (pos k *ℤ s *ℤ cost_units t p) +ℤ (z -ℤ price_of other f (leg_of t l).to (ready_minute t p)) +ℤ (rent_of other f *ℤ pos (laps_of t p))) scale out
       ∙ ap₂ (λ z r. (pos k *ℤ prices.scale *ℤ cost_units t p) +ℤ ((price_of prices f (leg_of t l).from (departure t p) +ℤ (number *ℤ pos (left_by t at p))) -ℤ z) +ℤ (r *ℤ pos (laps_of t p))) back (rents f known)
       ∙ parts (pos k *ℤ prices.scale *ℤ cost_units t p) (price_of prices f (leg_of t l).from (departure t p)) (price_of prices f (leg_of t l).to (ready_minute t p)) (rent_of prices f) (pos (laps_of t p))

@@ -1,10 +1,10 @@
 -- The moments of a network's arcs: where they lie, that no event lies between, and that they are idle minutes.
-use Rattle.std.proofs.Common.{◌≡◌, ℕ, ◌+◌, ◌<◌, ◌≤◌, true, ◌==◌, length, get_or, Option, Some, IsSome, is_some, if◌then◌else◌, ap, subst, inl, inr, arith}
+use Rattle.std.proofs.Common.{◌≡◌, ℕ, ◌+◌, ◌<◌, ◌≤◌, true, ◌==◌, length, get_or, Some, IsSome, is_some, if◌then◌else◌, ap, subst, inl, inr, arith}
 use Rattle.std.proofs.lemmas.Bool.{cases_lt, eqb-true}
 use Rattle.sums.proofs.Tests.{no_both, parts_true}
 use Rattle.fleet_model.specs.Kept.{Domains}
 use Rattle.fleet_model.specs.Legal.{cost_of}
-use Rattle.fleet_model.specs.Schedule.{IsPair, days_in, fleets_in, leg_on, stations_in}
+use Rattle.fleet_model.specs.Schedule.{IsPair, days_in, fleets_in, pair_on, stations_in}
 use Rattle.fleet_model.specs.Times.{departure, ready_minute}
 use Rattle.fleet_model.specs.declared.parts.Pair.{Pair}
 use Rattle.fleet_model.specs.declared.tables.Tables.{Tables}
@@ -27,8 +27,8 @@ use Rattle.price_lift.specs.PaidBack.{moments_by}
 
 quiet_so : (t : Tables) (keeps : Domains) (f s low high : ℕ) → is_quiet t keeps f s low high ≡ true → IsQuiet t keeps f s low high
 quiet_so t keeps f s low high quiet = record {
-  departs = λ l below kept from first last. no_both (departs_elsewhere t keeps f s low high quiet l below kept from) (among_where low high (departure t (leg_on l f)) first last);
-  lands = λ l below kept to first last. no_both (ready_elsewhere t keeps f s low high quiet l below kept to) (among_where low high (ready_minute t (leg_on l f)) first last);
+  departs = λ d below kept from first last. no_both (departs_elsewhere t keeps f s low high quiet d below kept from) (among_where low high (departure t (pair_on t d f)) first last);
+  lands = λ d below kept to first last. no_both (ready_elsewhere t keeps f s low high quiet d below kept to) (among_where low high (ready_minute t (pair_on t d f)) first last);
 }
 
 -- where a minute is idle there are islands
