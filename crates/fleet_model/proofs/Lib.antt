@@ -1,5 +1,6 @@
 pub mod Choices
 pub mod CostLookup
+pub mod FewChoices
 pub mod FlownPairs
 pub mod KeptLaws
 pub mod KeptRows
@@ -7,6 +8,7 @@ pub mod Minutes
 pub mod MixedPlans
 pub mod NeedAtDepartures
 pub mod NightsUsed
+pub mod OwnPairs
 pub mod PeriodMinutes
 pub mod Periods
 pub mod PlainTables

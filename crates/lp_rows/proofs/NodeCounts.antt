@@ -15,8 +15,9 @@ use Rattle.fleet_model.specs.Use.{last_minute, need_of}
 use Rattle.fleet_model.proofs.UseLaws.{need_suffices}
 use Rattle.node_aggregate.specs.Laws.{WeighKept, excess_at_end}
 use Rattle.node_aggregate.specs.Nodes.{AreNodesAt, node_end}
-use Rattle.node_aggregate.proofs.EventsAmong.{happens_within, ready_at}
+use Rattle.node_aggregate.proofs.EventsAmong.{ready_at}
 use Rattle.node_aggregate.proofs.NodeEnds.{end_at_last, end_before, need_is_at_node_ends}
+use Rattle.node_aggregate.proofs.Starts.{next_later, start_within}
 use Rattle.lp_rows.specs.Layout.{Starts, node_at}
 use Rattle.lp_rows.proofs.LineSums.{coming_to, leaving_from}
 
@@ -36,12 +37,12 @@ from_start false m low high w zero_low = refl
 module _ (t : Tables) (keeps : Domains) (w : Weights) (f s : ℕ) (starts : Starts) (known : f < fleets_in t) (weigh : WeighKept t keeps w) (at : AreNodesAt t keeps f s (starts f s)) where
   -- a node's end, and the next start
   next_start : (k : ℕ) → k + 1 < length (starts f s) → node_end (starts f s) k + 1 ≡ get_or (starts f s) (k + 1) 0
-  next_start k next = let may = (at.nodes.next k next).may in omega (arith, end_before (starts f s) k next, may.since, may.later)
+  next_start k next = omega (arith, end_before (starts f s) k next, next_later t keeps f s (starts f s) at k next)
 
   ends_rise : (k : ℕ) → k + 1 < length (starts f s) → node_end (starts f s) k ≤ node_end (starts f s) (k + 1)
   ends_rise k next = elim (cases_lt (k + 1 + 1) (length (starts f s))) [
-    | inl more ↦ let may = (at.nodes.next (k + 1) more).may in omega (arith, next_start k next, end_before (starts f s) (k + 1) more, may.since, may.later)
-    | inr last ↦ omega (arith, next_start k next, end_at_last (starts f s) (k + 1) last, happens_within t keeps f s at.events at.happen true (get_or (starts f s) (k + 1) 0) (at.nodes.next k next).may.ready)
+    | inl more ↦ omega (arith, next_start k next, end_before (starts f s) (k + 1) more, next_later t keeps f s (starts f s) at (k + 1) more)
+    | inr last ↦ omega (arith, next_start k next, end_at_last (starts f s) (k + 1) last, start_within t keeps f s (starts f s) at (k + 1) next)
   ]
 
   pub left_next : (k : ℕ) → k + 1 < length (starts f s)

@@ -21,7 +21,8 @@ use Rattle.fleet_model.specs.Use.{last_minute, laps_flown, need_of, stand_of, us
 use Rattle.fleet_model.proofs.UseLaws.{need_suffices}
 use Rattle.node_aggregate.specs.Laws.{WeighKept}
 use Rattle.node_aggregate.specs.Nodes.{node_end}
-use Rattle.node_aggregate.proofs.NodeEnds.{end_at_last, ends_within}
+use Rattle.node_aggregate.proofs.NodeEnds.{end_at_last}
+use Rattle.node_aggregate.proofs.Starts.{end_within}
 use Rattle.island_arcs.proofs.EmptyArcs.{gone_is_empty}
 use Rattle.lp_rows.specs.declared.kinds.Column.{Column}
 use Rattle.lp_rows.specs.declared.kinds.Column.TheVariants.{Flight, Ground, Slack}
@@ -59,7 +60,7 @@ module _ (t : Tables) (keeps : Domains) (starts : Starts) (q : ℕ) (w : Weights
 
   stands_at_end : (f s k : ℕ) → f < fleets_in t → s < stations_in t
       → stand_of t w f s (node_end (starts f s) k) + departed t w f s (node_end (starts f s) k) ≡ need_of t w f s + arrived t w f s (node_end (starts f s) k)
-  stands_at_end f s k known within = stands f s (node_end (starts f s) k) (ends_within t keeps w f s (starts f s) known weighs_kept (network.each f s known within) k)
+  stands_at_end f s k known within = stands f s (node_end (starts f s) k) (end_within t keeps f s (starts f s) (network.each f s known within) k)
 
   abbrev Keeps : ℕ → ℕ → ℕ → Type 0
   Keeps f s k =
