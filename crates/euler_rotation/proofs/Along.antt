@@ -1,4 +1,4 @@
--- The turns and nights between the legs of a list, as legs are put behind it, and as those of a tour's first legs.
+-- The turns and nights between the legs of a list, as legs are put behind it, and as those of its first legs.
 use Rattle.std.proofs.Common.{◌≡◌, ℕ, zero, suc, ◌+◌, ◌-◌, ◌%◌, ◌<◌, ◌≤◌, true, ◌&&◌, Option, Some, None, List, [], ◌∷◌, ◌++◌, length, slice_index, take, sym, ◌∙◌, ap, arith, append_assoc, length-append, add-one}
 use Rattle.std.proofs.Math.Nat.{mod-eq_of_lt}
 use Rattle.std.proofs.lemmas.List.{append-nil, get_or_append_left, get_or-take, length-take-le}
@@ -10,7 +10,7 @@ use Rattle.sums.proofs.Naturals.{plus_0}
 use Rattle.fleet_model.specs.declared.parts.Connection.{Connection}
 use Rattle.fleet_model.specs.declared.tables.Tables.{Tables}
 use Rattle.ground_turns.specs.Maps.{turn_after}
-use Rattle.ground_turns.specs.Nights.{nights_in_turn, nights_in_turns, nights_of_tour}
+use Rattle.ground_turns.specs.Nights.{nights_in_turn, nights_in_turns}
 use Rattle.euler_rotation.specs.Often.{GoesOn, nights_since, stays_below}
 use Rattle.euler_rotation.specs.Prefixes.{nights_along, turn_to, turns_along}
 use Rattle.euler_rotation.proofs.NightsSince.{below_append, since_append}
@@ -98,7 +98,7 @@ module _ (front : List ℕ) (last l : ℕ) where
       few = stays.few;
     }
 
--- ---- the first legs of a tour
+-- ---- the first legs of a list
 split_below : {X : Type 0} (g : ℕ → X) (m r : ℕ) → list_below g (m + r) ≡ list_below g m ++ list_below (λ k. g (m + k)) r
 split_below g m zero = ap (list_below g) (plus_0 m) ∙ sym (append-nil (list_below g m))
 split_below g m (suc r) =
@@ -110,35 +110,36 @@ split_below g m (suc r) =
     one_more : (m r : ℕ) → m + suc r ≡ m + r + 1
     one_more m r = omega arith
 
-module _ (t : Tables) (f : ℕ) (tour : List ℕ) (m : ℕ) (lt : m < length tour) where
-  rest_turns : List Connection
-  rest_turns = list_below (λ k. turn_after tour (m + k)) (length tour - m)
-
-  first_turns : turns_along (take (suc m) tour) ≡ list_below (turn_after tour) m
+module _ (t : Tables) (f : ℕ) (legs : List ℕ) (m : ℕ) (lt : m < length legs) where
+  first_turns : turns_along (take (suc m) legs) ≡ list_below (turn_after legs) m
   first_turns =
-      ap (list_below (turn_after (take (suc m) tour))) (ap (λ n. n - 1) long ∙ less_one m)
-      ∙ turns_agree (take (suc m) tour) tour m (omega (arith, long)) lt (λ j le. get_or-take (suc m) tour j 0 (omega arith))
+      ap (list_below (turn_after (take (suc m) legs))) (ap (λ n. n - 1) long ∙ less_one m)
+      ∙ turns_agree (take (suc m) legs) legs m (omega (arith, long)) lt (λ j le. get_or-take (suc m) legs j 0 (omega arith))
     where
-      long : length (take (suc m) tour) ≡ suc m
-      long = length-take-le (suc m) tour (omega arith)
+      long : length (take (suc m) legs) ≡ suc m
+      long = length-take-le (suc m) legs (omega arith)
 
       less_one : (n : ℕ) → suc n - 1 ≡ n
       less_one n = omega arith
 
-  all_nights : nights_of_tour t f tour ≡ nights_in_turns t f (list_below (turn_after tour) m) ++ nights_in_turns t f rest_turns
-  unfolding rest_turns
-  all_nights =
-      ap (λ n. nights_in_turns t f (list_below (turn_after tour) n)) (all m (length tour) lt)
-      ∙ ap (nights_in_turns t f) (split_below (turn_after tour) m (length tour - m))
-      ∙ nights_append t f (list_below (turn_after tour) m) (list_below (λ k. turn_after tour (m + k)) (length tour - m))
-    where
-      all : (m n : ℕ) → m < n → n ≡ m + (n - m)
-      all m n lt = omega arith
+  module _ (n : ℕ) (within : m ≤ n) where
+    rest_turns : List Connection
+    rest_turns = list_below (λ k. turn_after legs (m + k)) (n - m)
 
-  -- their nights are the first of the tour's
-  pub first_nights : (days : ℕ) → stays_below t days 0 (nights_of_tour t f tour) ≡ true → stays_below t days 0 (nights_along t f (take (suc m) tour)) ≡ true
-  first_nights days below =
-      ap (λ turns. stays_below t days 0 (nights_in_turns t f turns)) first_turns
-      ∙ (parts_true (stays_below t days 0 (nights_in_turns t f (list_below (turn_after tour) m)))
-      (stays_below t days (nights_since t 0 (nights_in_turns t f (list_below (turn_after tour) m))) (nights_in_turns t f rest_turns))
-      (sym (ap (stays_below t days 0) all_nights ∙ below_append t days 0 (nights_in_turns t f (list_below (turn_after tour) m)) (nights_in_turns t f rest_turns)) ∙ below)).0
+    all_nights : nights_in_turns t f (list_below (turn_after legs) n) ≡ nights_in_turns t f (list_below (turn_after legs) m) ++ nights_in_turns t f rest_turns
+    unfolding rest_turns
+    all_nights =
+        ap (λ k. nights_in_turns t f (list_below (turn_after legs) k)) (all m n within)
+        ∙ ap (nights_in_turns t f) (split_below (turn_after legs) m (n - m))
+        ∙ nights_append t f (list_below (turn_after legs) m) (list_below (λ k. turn_after legs (m + k)) (n - m))
+      where
+        all : (m n : ℕ) → m ≤ n → n ≡ m + (n - m)
+        all m n le = omega arith
+
+    -- their nights are the first of those in so many turns
+    pub first_nights : (days : ℕ) → stays_below t days 0 (nights_in_turns t f (list_below (turn_after legs) n)) ≡ true → stays_below t days 0 (nights_along t f (take (suc m) legs)) ≡ true
+    first_nights days below =
+        ap (λ turns. stays_below t days 0 (nights_in_turns t f turns)) first_turns
+        ∙ (parts_true (stays_below t days 0 (nights_in_turns t f (list_below (turn_after legs) m)))
+        (stays_below t days (nights_since t 0 (nights_in_turns t f (list_below (turn_after legs) m))) (nights_in_turns t f rest_turns))
+        (sym (ap (stays_below t days 0) all_nights ∙ below_append t days 0 (nights_in_turns t f (list_below (turn_after legs) m)) (nights_in_turns t f rest_turns)) ∙ below)).0

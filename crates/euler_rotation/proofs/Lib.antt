@@ -7,6 +7,7 @@ pub mod TourGone
 pub mod BareMinutes
 pub mod Turning
 pub mod Along
+pub mod PrefixesThere
 pub mod InPreorder
 pub mod Extending
 pub mod Marks
@@ -16,4 +17,4 @@ pub mod LeastPlaces
 pub mod Answering
 pub mod FoundTours
 pub mod EntriesKept
-pub mod EntriesDiffer
+pub mod EntriesRise

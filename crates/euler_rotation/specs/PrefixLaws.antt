@@ -1,5 +1,5 @@
 -- What prefixes are, in plain words, as a statement on the order in which they are visited.
-use Rattle.std.specs.Prelude.{◌≡◌, ◌≢◌, ℕ, suc, ◌<◌, ◌↔◌, IsTrue, List, length, slice_index}
+use Rattle.std.specs.Prelude.{◌≡◌, ◌≢◌, ℕ, suc, ◌<◌, ◌⊎◌, ◌↔◌, IsTrue, List, ◌∷◌, ◌++◌, length, slice_index}
 use Rattle.fleet_model.specs.declared.parts.Connection.{Connection}
 use Rattle.fleet_model.specs.declared.tables.Tables.{Tables}
 use Rattle.fleet_model.specs.Schedule.{leg_of}
@@ -38,3 +38,39 @@ EntriesArePrefixes = (t : Tables) (a : List ℕ) (f : ℕ) (pairs : List Connect
 abbrev pub NoEntryTwice : Type 0
 NoEntryTwice = (t : Tables) (a : List ℕ) (f : ℕ) (pairs : List Connection) (days : ℕ) (order : List ℕ) (j k : ℕ) → IsOrder t a f order → j < k
     → k < length (preorder t a f pairs days order) → entry_of (preorder t a f pairs days order) j ≢ entry_of (preorder t a f pairs days order) k
+
+-- a prefix is one of the entries
+pub record IsEntry (entries : List (List ℕ)) (legs : List ℕ) : Type 0 where
+  pub place : ℕ
+  pub within : place < length entries
+  pub is : entry_of entries place ≡ legs
+
+-- each prefix is visited
+abbrev pub EachPrefixIsEntry : Type 0
+EachPrefixIsEntry = (t : Tables) (a : List ℕ) (f : ℕ) (pairs : List Connection) (days : ℕ) (order legs : List ℕ) → 0 < days
+    → IsPrefix t a f pairs days order legs → IsEntry (preorder t a f pairs days order) legs
+
+-- a list goes on behind some legs
+pub record GoesOnBehind (legs longer : List ℕ) : Type 0 where
+  pub rest : List ℕ
+  pub some : 0 < length rest
+  pub is : longer ≡ legs ++ rest
+
+-- two lists begin with the same legs, and then the first one has a leg that stands earlier in the order
+pub record PartsEarlier (order first second : List ℕ) : Type 0 where
+  pub same : List ℕ
+  pub earlier : ℕ
+  pub later : ℕ
+  pub less : earlier < later
+  pub within : later < length order
+  pub first_rest : List ℕ
+  pub first_is : first ≡ same ++ slice_index order earlier ∷ first_rest
+  pub second_rest : List ℕ
+  pub second_is : second ≡ same ++ slice_index order later ∷ second_rest
+
+-- of two entries the later one goes on behind the earlier one, or they part so
+abbrev pub EntriesRise : Type 0
+EntriesRise = (t : Tables) (a : List ℕ) (f : ℕ) (pairs : List Connection) (days : ℕ) (order : List ℕ) (j k : ℕ) → j < k
+    → k < length (preorder t a f pairs days order)
+    → GoesOnBehind (entry_of (preorder t a f pairs days order) j) (entry_of (preorder t a f pairs days order) k)
+    ⊎ PartsEarlier order (entry_of (preorder t a f pairs days order) j) (entry_of (preorder t a f pairs days order) k)

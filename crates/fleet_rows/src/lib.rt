@@ -33,6 +33,8 @@ mod plans;
 #[cfg(test)]
 mod proofs;
 #[cfg(test)]
+mod repeats;
+#[cfg(test)]
 mod rotations;
 #[cfg(test)]
 mod rows;

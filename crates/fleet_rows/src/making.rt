@@ -1,13 +1,7 @@
 //! What `make` writes: five tables, and then what `solve` writes by all defaults.
-use crate::assertions::assert_holds;
-use crate::rows::{Asked, Failing, Laid, Writing, files};
-use crate::searches::{Known, run_quietly};
+use crate::rows::{Asked, Failing, Laid, Writing};
 use crate::statuses::{DONE, FAULT};
 use plan_desk::DeskFile::{Costs, Fleets, Legs, Plan, Proof, Rotation, Stations, Throughs};
-use plan_desk::MemoryDesk;
-use std::alloc::Global;
-use std::process::Abort;
-use std::test::Fail;
 
 const TWO_STATIONS: Laid<'static> = Laid::Bytes(
     Stations,
@@ -162,51 +156,3 @@ pub const CALLS: &[Failing] = &[
         1,
     ),
 ];
-
-const FORTY: &str = "fleetplan make d 7 40";
-
-const CHECK_FORTY: &str = "fleetplan check d";
-
-const FORTY_LINES: &[u8] = b"outcome: optimal\ncost: 47956\nbound: 47956\nsplits: 0\n\
-    open: 0 nodes, 0 pivots, 0 grew\nfleet F1: used 9 of 20\nfleet F2: used 6 of 10\n\
-    rotation F1: too few nights 2 of 9\nrotation F2: too few nights 1 of 6\n";
-
-/// Where the files of a folder stand.
-const PATHS: &[&str] = &[
-    "d/stations.csv",
-    "d/fleets.csv",
-    "d/legs.csv",
-    "d/costs.csv",
-    "d/throughs.csv",
-    "d/plan.csv",
-    "d/proof.txt",
-    "d/rotation.csv",
-];
-
-/// A desk on which forty legs were made.
-fn forty_made<R: Abort + Alloc<A = Global>>(rt: &R) -> Result<MemoryDesk, Fail> {
-    let alloc = rt.alloc();
-    let mut desk = MemoryDesk::new(alloc, files(alloc, &[])?, Vec::new(alloc))?;
-    run_quietly(rt, 0, &mut desk, FORTY, DONE, Known::Whole(FORTY_LINES))?;
-    Ok(desk)
-}
-
-// Two runs leave the same bytes, and the proof holds.
-#[test]
-fn forty_legs_are_made_twice(rt: HostRuntime) -> Result<(), Fail> {
-    let first = forty_made(&rt)?;
-    let mut second = forty_made(&rt)?;
-    for path in PATHS {
-        assert_holds(&rt, 0, path, second.file(*path).is_some());
-        let same = first.file(*path) == second.file(*path);
-        assert_holds(&rt, 1, path, same);
-    }
-    run_quietly(
-        &rt,
-        1,
-        &mut second,
-        CHECK_FORTY,
-        DONE,
-        Known::Whole(b"holds: cost 47956 bound 47956\n"),
-    )
-}

@@ -2,7 +2,7 @@
 use crate::rows::{Asked, Laid};
 use crate::schedules::{
     BANK, BANK_APART, BANK_PLAN, EIGHT, EIGHT_PLAN, SIX, SIX_PAIRED, SIX_PLAN, TWO_NIGHTS,
-    TWO_TRIPS, TWO_TRIPS_PAIRED,
+    TWO_TRIPS, TWO_TRIPS_PAIRED, WANTS_A_MOVE,
 };
 use crate::searches::Known::{Begin, Whole};
 use crate::searches::{Search, run_searches};
@@ -85,7 +85,7 @@ pub const IN_NO_DAYS: &[Asked] = &[
     ),
 ];
 
-const ONE_VISIT: &str = "fleetplan solve d --day-start 00:00 --days 2 --visits 1";
+pub const ONE_VISIT: &str = "fleetplan solve d --day-start 00:00 --days 2 --visits 1";
 
 // After one visit the prefix has one leg; in what order the legs are tried is open.
 const VISITED: Search = Search {
@@ -105,6 +105,25 @@ const VISITED: Search = Search {
 #[test]
 fn visits_that_are_spent(rt: HostRuntime) -> Result<(), Fail> {
     run_searches(&rt, &[VISITED])
+}
+
+pub const WITHOUT_VISITS: &str = "fleetplan solve d --day-start 00:00 --days 2 --visits 0";
+
+// A kept tour is found without a search: parts of the joined one change places. Which tour it is, is open.
+const MOVED: Search = Search {
+    laid: WANTS_A_MOVE,
+    line: WITHOUT_VISITS,
+    text: Whole(
+        b"outcome: optimal\ncost: 60\nbound: 60\nsplits: 0\nopen: 0 nodes, 0 pivots, 0 grew\n\
+            fleet F1: used 4 of 4\nrotation F1: tour of 6 legs in 4 days\n",
+    ),
+    rotation: Begin(b"fleet,round,kind,a,b\nF1,1,tour,4,6\nF1,1,leg,"),
+    ..VISITED
+};
+
+#[test]
+fn tours_that_are_improved(rt: HostRuntime) -> Result<(), Fail> {
+    run_searches(&rt, &[MOVED])
 }
 
 const TWO_DAYS: &[u8] = b"outcome: optimal\ncost: 40\nbound: 40\nsplits: 0\n\

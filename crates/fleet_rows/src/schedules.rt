@@ -52,6 +52,22 @@ pub const SIX_PAIRED: &[Laid<'static>] = &[
     Laid::Bytes(Throughs, b"in,out,value\nG1,G2,5\n"),
 ];
 
+/// Six legs between two of three stations, with two nights at the one that maintains aircraft, and two at the other. The
+/// tour as its cycles are joined has these two one after the other, and by another tour they are apart.
+pub const WANTS_A_MOVE: &[Laid<'static>] = &[
+    Laid::Bytes(
+        Stations,
+        b"code,extra,maintenance\nAAA,0,no\nBBB,0,no\nCCC,0,yes\n",
+    ),
+    FOUR_AIRCRAFT,
+    Laid::Bytes(
+        Legs,
+        b"flight,from,dep,to,arr\nG1,AAA,12:00,CCC,14:00\nG2,CCC,16:00,AAA,17:00\nG3,AAA,03:00,CCC,04:00\n\
+        G4,CCC,04:00,AAA,05:00\nG5,AAA,03:30,CCC,04:30\nG6,CCC,02:00,AAA,04:00\n",
+    ),
+    SIX_COSTS,
+];
+
 const HUB: Laid<'static> = Laid::Bytes(
     Stations,
     b"code,extra,maintenance\nHUB,0,no\nAAA,0,yes\nBBB,0,no\n",

@@ -101,7 +101,8 @@ fn stands(bytes: Option<&[u8]>, known: Known) -> bool {
     }
 }
 
-fn is_known(bytes: &[u8], known: Known) -> bool {
+/// Whether bytes are as is known.
+pub fn is_known(bytes: &[u8], known: Known) -> bool {
     match known {
         Known::Whole(text) => bytes == text,
         Known::Begin(text) => bytes.starts_with(text),
