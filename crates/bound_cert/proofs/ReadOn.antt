@@ -1,12 +1,14 @@
 -- One line more of rents, steps and weights.
-use Rattle.bound_cert.specs.Lines.{◌>>=◌, Fails, Left, Reading, Stopped, first_form, fits}
-use Rattle.bound_cert.specs.Reading.{padded, rent_at, rents_from, step_at, steps_from, weight_at, weights_from}
+use Rattle.bound_cert.specs.Lines.{◌>>=◌, Fails, Left, Reading, Stopped, first_form, fits, line_due, next_line}
+use Rattle.bound_cert.specs.Reading.{padded, rent_at, rents_from, step_at, step_of, steps_from, weight_at, weight_of, weights_from}
+use Rattle.bound_cert.specs.Reading as reading
 use Rattle.bound_cert.specs.declared.faults.Stop.{Stop}
 use Rattle.bound_cert.specs.declared.reading_lines.Due.{Due}
 use Rattle.dual_bound.specs.declared.mixed.Weight.{Weight}
 use Rattle.dual_bound.specs.declared.prices.PriceStep.{PriceStep}
 use Rattle.proof_lines.specs.Forms.{form_in}
 use Rattle.proof_lines.specs.Known.{Naming}
+use Rattle.proof_lines.specs.declared.line.Line.{Line}
 use Rattle.proof_lines.specs.Words.{seen, words_of}
 use Rattle.std.proofs.Common.{[], ◌++◌, ◌+◌, ◌<◌, ◌∙◌, ◌∷◌, ◌≡◌, Bool, Bor, Err, List, None, Ok, Option, Some, add-one, ap, append_assoc, arith, cond, drop, false, length, pos, refl, replicate, suc, sym, true, zero, ℕ, ℤ}
 use Rattle.bound_cert.specs.declared.faults.Stop.TheVariants as stop
@@ -53,6 +55,55 @@ padded_more old now grown k so_far added =
     replicate_more (suc k) = ap (λ xs. pos 0 ∷ xs) (replicate_more k)
 
 module _ (n : Naming) where
+  -- what the next line tells, if it begins as one that is due
+  pub next_some : (kind : Due) (left : Left) (o : Option Line) (line : Line) → next_line n kind left ≡ Ok o → o ≡ Some line → (begins left kind ≡ true) × (line_due n kind left ≡ Ok line)
+  next_some kind left o line e some = told (begins left kind) (line_due n kind left) (e ∙ ap (λ o. Ok o) some)
+    where
+      told : (b : Bool) (r : Reading Line) → cond b (r >>= λ line. Ok (Some line)) (Ok None) ≡ Ok (Some line) → (b ≡ true) × (r ≡ Ok line)
+      told true (Ok it) e = let same : it ≡ line = cc e in (refl, ap (λ l. Ok l) same)
+      told true (Err s) e = absurd (cc e)
+      told false r e = absurd (cc e)
+
+  pub next_none : (kind : Due) (left : Left) (o : Option Line) → next_line n kind left ≡ Ok o → o ≡ None → begins left kind ≡ false
+  next_none kind left o e none = told (begins left kind) (line_due n kind left) (e ∙ ap (λ o. Ok o) none)
+    where
+      told : (b : Bool) (r : Reading Line) → cond b (r >>= λ line. Ok (Some line)) (Ok None) ≡ Ok None → b ≡ false
+      told true (Ok it) e = absurd (cc e)
+      told true (Err s) e = absurd (cc e)
+      told false r e = refl
+
+  pub next_fails : (kind : Due) (left : Left) (f : Stopped) → next_line n kind left ≡ Err f → (begins left kind ≡ true) × (line_due n kind left ≡ Err f)
+  next_fails kind left f e = told (begins left kind) (line_due n kind left) e
+    where
+      told : (b : Bool) (r : Reading Line) → cond b (r >>= λ line. Ok (Some line)) (Ok None) ≡ Err f → (b ≡ true) × (r ≡ Err f)
+      told true (Ok it) e = absurd (cc e)
+      told true (Err s) e = let same : s ≡ f = cc e in (refl, ap (λ s. Err s) same)
+      told false r e = absurd (cc e)
+
+  pub rent_said : (least : ℕ) (left : Left) (line : Line) (r : Reading (ℕ × ℤ)) → line_due n due.Rent left ≡ Ok line → reading.rent_of least line left ≡ r → rent_at n least left ≡ r
+  unfolding rent_at
+  rent_said least left line r is said = bound (line_due n due.Rent left) line _ is ∙ said
+
+  pub rent_fails : (least : ℕ) (left : Left) (f : Stopped) → line_due n due.Rent left ≡ Err f → rent_at n least left ≡ Err f
+  unfolding rent_at
+  rent_fails least left f is = failed (line_due n due.Rent left) f _ is
+
+  pub step_said : (before : Option PriceStep) (left : Left) (line : Line) (r : Reading PriceStep) → line_due n due.Step left ≡ Ok line → step_of n before line left ≡ r → step_at n before left ≡ r
+  unfolding step_at
+  step_said before left line r is said = bound (line_due n due.Step left) line _ is ∙ said
+
+  pub step_fails : (before : Option PriceStep) (left : Left) (f : Stopped) → line_due n due.Step left ≡ Err f → step_at n before left ≡ Err f
+  unfolding step_at
+  step_fails before left f is = failed (line_due n due.Step left) f _ is
+
+  pub weight_said : (before : Option Weight) (left : Left) (line : Line) (r : Reading Weight) → line_due n due.Weight left ≡ Ok line → weight_of before line left ≡ r → weight_at n before left ≡ r
+  unfolding weight_at
+  weight_said before left line r is said = bound (line_due n due.Weight left) line _ is ∙ said
+
+  pub weight_fails : (before : Option Weight) (left : Left) (f : Stopped) → line_due n due.Weight left ≡ Err f → weight_at n before left ≡ Err f
+  unfolding weight_at
+  weight_fails before left f is = failed (line_due n due.Weight left) f _ is
+
   pub rents_more : (rents : List ℤ) (left : Left) (entry : ℕ × ℤ) → begins left due.Rent ≡ true → rent_at n (length rents) left ≡ Ok entry
       → rents_from n rents left ≡ rents_from n (padded rents entry.0 ++ entry.1 ∷ []) (drop 1 left)
   unfolding rents_from

@@ -86,6 +86,10 @@ line_due n kind [] = stopped [] TEXT_ENDS
 line_due n kind (line ∷ []) = stopped (line ∷ []) (if is_word line then BAD_LINE else TEXT_ENDS)
 line_due n kind (line ∷ next ∷ rest) = of_seen (fits kind (seen_in n line).form) (seen_in n line).line (line ∷ next ∷ rest)
 
+-- the same, if it begins as one that may stand here
+abbrev pub next_line : Naming → Due → Left → Reading (Option Line)
+next_line n kind left = if fits kind (first_form left) then (line_due n kind left >>= λ line. Ok (Some line)) else Ok None
+
 -- what an error says of what is read
 abbrev pub Fails : {Y : Type 0} → Stop → Reading Y → Type 0
 Fails stop.NoMemory read = ⊤

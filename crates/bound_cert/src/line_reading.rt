@@ -3,7 +3,7 @@ ghost use Rattle.std.specs.Prelude.{◌≡◌, drop, IfOk};
 ghost use Rattle.proof_lines.specs.Known.{naming};
 ghost use Rattle.proof_lines.specs.Words.{seen};
 ghost use Rattle.bound_cert.specs.Lines.{Gives};
-ghost use Rattle.bound_cert.specs.Reading.{in_order, is_needless, mixed_scale_at, mixed_scale_of, rent_at, rent_follows, rent_of, scale_at, scale_of, step_at, step_in_order, step_of, weight_at, weight_in_order, weight_of};
+ghost use Rattle.bound_cert.specs.Reading.{in_order, is_needless, mixed_scale_at, mixed_scale_of, rent_follows, rent_of, scale_at, scale_of, step_in_order, step_of, weight_in_order, weight_of};
 ghost use Rattle.bound_cert.specs.Wants.{WantsNone};
 ghost use Rattle.dual_bound.specs.Order.{place_before, same_place, step_follows, weight_follows};
 
@@ -66,22 +66,8 @@ fn mixed_scale_of(line: Line, left: &[&[u8]]) -> Result<i128, Stop>
     }
 }
 
-/// The rent that the first line says, with its fleet, which is no less than this one.
-#[tactic(auto, unfolding(crate::specs::Reading::rent_at))]
-pub fn rent_at(
-    alloc: Global,
-    grammar: &Grammar,
-    least: usize,
-    left: &[&[u8]],
-) -> Result<(u32, i128), Stop>
-    ensures { Gives (λ entry. entry) result (rent_at (naming grammar.now) least (seen left.now)) }
-{
-    let line = line_due(alloc, grammar, Due::Rent, left)?;
-    Ok(rent_of(least, line, left)?)
-}
-
-/// The rent that a line says in its order. Takes no memory.
-fn rent_of(least: usize, line: Line, left: &[&[u8]]) -> Result<(u32, i128), Stop>
+/// The rent that a line says in its order, with its fleet, which is no less than this one. Takes no memory.
+pub fn rent_of(least: usize, line: Line, left: &[&[u8]]) -> Result<(u32, i128), Stop>
     ensures gives { Gives (λ entry. entry) result (rent_of least line (seen left.now)) }
     ensures wants_none { WantsNone result }
 {
@@ -101,22 +87,8 @@ fn rent_follows(least: usize, entry: &(u32, i128)) -> bool
     least <= entry.0 as usize && entry.1 != 0
 }
 
-/// The step that the first line says, behind the step before.
-#[tactic(auto, unfolding(crate::specs::Reading::step_at))]
-pub fn step_at(
-    alloc: Global,
-    grammar: &Grammar,
-    before: &Option<PriceStep>,
-    left: &[&[u8]],
-) -> Result<PriceStep, Stop>
-    ensures { Gives (λ step. step) result (step_at (naming grammar.now) before.now (seen left.now)) }
-{
-    let line = line_due(alloc, grammar, Due::Step, left)?;
-    Ok(step_of(alloc, grammar, before, line, left)?)
-}
-
 /// The step that a line says in its order, behind the step before.
-fn step_of(
+pub fn step_of(
     alloc: Global,
     grammar: &Grammar,
     before: &Option<PriceStep>,
@@ -211,22 +183,8 @@ fn is_needless(
     }
 }
 
-/// The weight that the first line says, behind the weight before.
-#[tactic(auto, unfolding(crate::specs::Reading::weight_at))]
-pub fn weight_at(
-    alloc: Global,
-    grammar: &Grammar,
-    before: &Option<Weight>,
-    left: &[&[u8]],
-) -> Result<Weight, Stop>
-    ensures { Gives (λ entry. entry) result (weight_at (naming grammar.now) before.now (seen left.now)) }
-{
-    let line = line_due(alloc, grammar, Due::Weight, left)?;
-    Ok(weight_of(before, line, left)?)
-}
-
 /// The weight that a line says in its order, behind the weight before. Takes no memory.
-fn weight_of(before: &Option<Weight>, line: Line, left: &[&[u8]]) -> Result<Weight, Stop>
+pub fn weight_of(before: &Option<Weight>, line: Line, left: &[&[u8]]) -> Result<Weight, Stop>
     ensures gives { Gives (λ entry. entry) result (weight_of before.now line (seen left.now)) }
     ensures wants_none { WantsNone result }
 {

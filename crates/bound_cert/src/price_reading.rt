@@ -6,8 +6,8 @@ ghost use Rattle.bound_cert.specs.Lines.{Gives};
 ghost use Rattle.bound_cert.specs.Reading.{mixed_at, padded, prices_at, rents_from, steps_from, weights_from};
 
 use crate::faults::Stop;
-use crate::line_reading::{mixed_scale_at, rent_at, scale_at, step_at, weight_at};
-use crate::reading_lines::{Due, begins, behind};
+use crate::line_reading::{mixed_scale_at, rent_of, scale_at, step_of, weight_of};
+use crate::reading_lines::{Due, behind, next_line};
 use dual_bound::{Mixed, PriceStep, Prices, Weight};
 use entries::{Entries, NoMemory};
 use proof_lines::Grammar;
@@ -57,8 +57,8 @@ fn rents_from<'a, 'b>(
 {
     let mut rents = Vec::new(alloc);
     let mut rest = left;
-    while begins(alloc, rest, Due::Rent)? {
-        let entry = match rent_at(alloc, grammar, rents.len(), rest) {
+    while let Some(line) = next_line(alloc, grammar, Due::Rent, rest)? {
+        let entry = match rent_of(rents.len(), line, rest) {
             Ok(entry) => entry,
             Err(stop) => return Err(stop),
         };
@@ -100,8 +100,8 @@ fn steps_from<'a, 'b>(
     let mut steps = Vec::new(alloc);
     let mut before = None;
     let mut rest = left;
-    while begins(alloc, rest, Due::Step)? {
-        let step = match step_at(alloc, grammar, &before, rest) {
+    while let Some(line) = next_line(alloc, grammar, Due::Step, rest)? {
+        let step = match step_of(alloc, grammar, &before, line, rest) {
             Ok(step) => step,
             Err(stop) => return Err(stop),
         };
@@ -123,8 +123,8 @@ fn weights_from<'a, 'b>(
     let mut weights = Vec::new(alloc);
     let mut before = None;
     let mut rest = left;
-    while begins(alloc, rest, Due::Weight)? {
-        let entry = match weight_at(alloc, grammar, &before, rest) {
+    while let Some(line) = next_line(alloc, grammar, Due::Weight, rest)? {
+        let entry = match weight_of(&before, line, rest) {
             Ok(entry) => entry,
             Err(stop) => return Err(stop),
         };

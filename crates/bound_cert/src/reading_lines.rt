@@ -2,7 +2,7 @@
 ghost use Rattle.std.specs.Prelude.{◌≡◌, drop, length, Err, IfOk};
 ghost use Rattle.proof_lines.specs.Known.{naming};
 ghost use Rattle.proof_lines.specs.Words.{seen};
-ghost use Rattle.bound_cert.specs.Lines.{Gives, first_form, fits, left_of, line_due, may_stand, of_seen};
+ghost use Rattle.bound_cert.specs.Lines.{Gives, fits, left_of, line_due, may_stand, next_line, of_seen};
 ghost use Rattle.bound_cert.specs.Wants.{WantsNone};
 ghost use Rattle.bound_cert.specs.declared.faults.Stop.TheVariants as stop;
 ghost use Rattle.bound_cert.specs.declared.reading_lines.Due.TheVariants as due;
@@ -10,7 +10,7 @@ ghost use Rattle.bound_cert.specs.declared.reading_lines.Due.TheVariants as due;
 use crate::faults::{BAD_LINE, Stop, TEXT_ENDS, WRONG_WORD};
 use entries::NoMemory;
 use proof_lines::flaws::{Flaw, least};
-use proof_lines::{Form, Grammar, Line, form_of_bytes, read_line};
+use proof_lines::{Form, Grammar, Line, read_line};
 use std::alloc::{AllocError, Global};
 
 /// What kind of line is due.
@@ -121,16 +121,29 @@ fn begins_node(form: Form) -> bool
     }
 }
 
-/// Whether the first line that is left begins as one that may stand where one of a kind is due.
-pub fn begins(alloc: Global, left: &[&[u8]], due: Due) -> Result<bool, NoMemory>
-    ensures { IfOk result (λ begins. begins ≡ fits due (first_form (seen left.now))) }
+/// The first line that is left, if it begins as one that may stand where one of a kind is due.
+#[tactic(auto, unfolding(crate::specs::Lines::line_due))]
+pub fn next_line(
+    alloc: Global,
+    grammar: &Grammar,
+    due: Due,
+    left: &[&[u8]],
+) -> Result<Option<Line>, Stop>
+    ensures { Gives (λ line. line) result (next_line (naming grammar.now) due (seen left.now)) }
 {
-    match left.split_first() {
-        None => Ok(false),
-        Some((line, _)) => {
-            let form = form_of_bytes(alloc, line)?;
-            Ok(fits(due, form))
-        }
+    let Some((line, rest)) = left.split_first() else {
+        return Ok(None);
+    };
+    let read = read_line(alloc, grammar, line)?;
+    if !fits(due, read.form) {
+        return Ok(None);
+    }
+    if rest.is_empty() {
+        return stopped(left, if line.is_empty() { TEXT_ENDS } else { BAD_LINE });
+    }
+    match of_seen(true, read.line, left) {
+        Ok(line) => Ok(Some(line)),
+        Err(stop) => Err(stop),
     }
 }
 

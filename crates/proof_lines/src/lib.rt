@@ -18,5 +18,5 @@ pub use flaws::Flaw;
 pub use forms::Form;
 pub use grammar::Grammar;
 pub use line::{Line, Version};
-pub use reading::{Seen, form_of_bytes, is_step_of, read_line};
+pub use reading::{Seen, is_step_of, read_line};
 pub use writing::push_line;

@@ -67,15 +67,6 @@ fn of_form(
     }
 }
 
-/// The form of the line that bytes are, where their first words say one.
-pub fn form_of_bytes(alloc: Global, bytes: &[u8]) -> Result<Option<Form>, NoMemory>
-    ensures { IfOk result (λ form. form ≡ form_in (words_of bytes.now)) }
-{
-    let parts = parts_of(alloc, bytes)?;
-    let words = words_of(alloc, parts.as_slice())?;
-    Ok(form_in(words.as_slice()))
-}
-
 /// Whether bytes begin as a step of this fleet at this station, whatever stands behind.
 pub fn is_step_of(
     alloc: Global,
