@@ -45,6 +45,6 @@ day_tested t e =
       no_limit = no_limits t front.1;
       flown = λ p pair allowed. elim (cases_lt (fleet_by t p) (fleets_in t)) [
         | inl below ↦ below
-        | inr not_below ↦ absurd (no_both (none_left_out t parts.1 p.leg p.choice pair.leg pair.choice) (both_true _ _ allowed (ap not (le-ltb (fleet_by t p) (fleets_in t) not_below))))
+        | inr not_below ↦ absurd (no_both (none_left_out t parts.1 p.leg p.choice pair.leg pair.choice) (both_true _ _ (ap not (le-ltb (fleet_by t p) (fleets_in t) not_below)) allowed))
       ];
     }

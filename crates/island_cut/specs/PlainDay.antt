@@ -11,7 +11,7 @@ limits_in t = count_below (λ s. is_some (parking_of t s)) (stations_in t)
 
 -- no fleet flies the leg by this choice, and it may be taken
 abbrev pub leaves_out : Tables → ℕ → ℕ → Bool
-leaves_out t l c = all_pairs t (leg_on l c) && not (nat_lt (fleet_by t (leg_on l c)) (fleets_in t))
+leaves_out t l c = not (nat_lt (fleet_by t (leg_on l c)) (fleets_in t)) && all_pairs t (leg_on l c)
 
 -- by how many choices the leg may be left out
 unfoldable pub left_out_on : Tables → ℕ → ℕ

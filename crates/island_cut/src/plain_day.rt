@@ -54,7 +54,7 @@ fn left_out_on(tables: &Tables, leg: u32) -> u32
     let mut count = 0;
     for choice in 0..tables.choice_count(leg) {
         let pair = Pair { leg, choice };
-        if tables.cost(pair).is_some() && tables.fleet_by(pair) >= tables.fleet_count() {
+        if tables.fleet_by(pair) >= tables.fleet_count() && tables.cost(pair).is_some() {
             count += 1;
         }
     }

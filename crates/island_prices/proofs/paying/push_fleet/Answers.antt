@@ -4,8 +4,9 @@ use Rattle.std.proofs.lemmas.Result.{err_from_is_err_and}
 use mir.Val.{SFits}
 use mir.Syntax.{w128}
 use Rattle.fleet_model.specs.Schedule.{period_of, stations_in}
+use Rattle.fleet_model.proofs.PeriodMinutes.{at_most_week}
 use Rattle.island_prices.specs.Paid.{is_beyond, paid_price, paid_rent}
-use Rattle.island_prices.proofs.PaidRows.{behind_rent, fleet_done, no_station, one_station, rent_beyond, row_fails}
+use Rattle.island_prices.proofs.PaidRows.{behind_rent, fleet_done, no_station, one_station, rent_beyond, row_fails, row_long}
 use Rattle.island_prices.proofs.paying.push_fleet.Goals as goal
 
 pub returns-then-is_beyond-clause-pushed : goal.returns-then-is_beyond-clause-pushed
@@ -18,6 +19,13 @@ returns-then-is_beyond-clause-pushed c =
 
 pub loop-station-init : goal.loop-station-init
 loop-station-init c = no_station (period_of c.args.tables.now) (paid_price c.args.paid.now.before c.args.paid.now.rises.now c.args.paid.now.rounds.now c.args.fleet) c.args.fleet c.args.steps.now.items
+
+pub push_row-requires : goal.push_row-requires
+push_row-requires c = omega (
+  arith,
+  row_long (period_of c.args.tables.now) (paid_price c.args.paid.now.before c.args.paid.now.rises.now c.args.paid.now.rounds.now c.args.fleet c.loop-station.station) c.deref.result.now (c.deref.ensures.value ∙ c.in_ok-row.ensures),
+  at_most_week c.args.tables.now,
+)
 
 pub returns-in_err-row-clause-memory : goal.returns-in_err-row-clause-memory
 returns-in_err-row-clause-memory c =
