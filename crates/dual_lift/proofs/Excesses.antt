@@ -2,7 +2,7 @@
 use Rattle.std.proofs.Common.{◌≡◌, ℕ, ◌+◌, ◌<◌, Bool, true, false, Option, Some, None, refl, sym, ap, subst, add-one}
 use Rattle.sums.specs.Places.{first_below, or_else}
 use Rattle.sums.proofs.Places.{first_found}
-use Rattle.dual_lift.specs.TooLarge.{IsLiftError, excess_if}
+use Rattle.dual_lift.specs.TooLarge.{IsLiftError, IsWantedBehind, excess_if}
 use Rattle.dual_lift.specs.declared.error.Excess.{Excess}
 use Rattle.dual_lift.specs.declared.error.LiftError.{LiftError}
 use Rattle.dual_lift.specs.declared.error.LiftError.TheVariants.{TooLarge, NoMemory}
@@ -16,6 +16,15 @@ first_fails o p NoMemory is = tt
 pub then_fails : (o p : Option Excess) (e : LiftError) → o ≡ None → IsLiftError p e → IsLiftError (or_else o p) e
 then_fails o p (TooLarge step at) well is = rw well is
 then_fails o p NoMemory well is = tt
+
+-- memory is wanting behind what is well
+pub wanted_behind : (o : Option Excess) (e : LiftError) → o ≡ None → IsWantedBehind o e
+wanted_behind o (TooLarge step at) well = tt
+wanted_behind o NoMemory well = well
+
+pub then_wanted : (o p : Option Excess) (e : LiftError) → o ≡ None → IsWantedBehind p e → IsWantedBehind (or_else o p) e
+then_wanted o p (TooLarge step at) well is = tt
+then_wanted o p NoMemory well is = rw well is
 
 -- both are well
 pub both_well : (o p : Option Excess) → o ≡ None → p ≡ None → or_else o p ≡ None

@@ -60,3 +60,8 @@ least_scale_excess most table basis columns line = excess_if (nat_lt most (scale
 abbrev pub IsLiftError : Option Excess → LiftError → Type 0
 IsLiftError excess (TooLarge step at) = excess ≡ Some (record { step = step; at = at })
 IsLiftError excess NoMemory = Unit {0}
+
+-- .. which is wanting only where nothing is too large that is looked at before
+abbrev pub IsWantedBehind : Option Excess → LiftError → Type 0
+IsWantedBehind excess (TooLarge step at) = Unit {0}
+IsWantedBehind excess NoMemory = excess ≡ None

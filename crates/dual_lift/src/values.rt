@@ -1,5 +1,5 @@
 //! The dual values of lines, over one scale.
-ghost use Rattle.std.specs.Prelude.{◌≡◌, ◌+◌, ◌-◌, ◌<◌, None, Some, MatchOption, MatchResult, IfOk, true, false};
+ghost use Rattle.std.specs.Prelude.{◌≡◌, ◌+◌, ◌-◌, ◌<◌, None, Some, MatchOption, MatchResult, IfErr, IfOk, true, false};
 ghost use Rattle.sums.specs.Places.{first_below, list_below};
 ghost use Rattle.frac_row.specs.Outgrown.{is_outgrown};
 ghost use Rattle.frac_row.specs.Row.{IsRow};
@@ -7,7 +7,7 @@ ghost use Rattle.row_store.specs.Table.{HasColumns, height_of};
 ghost use Rattle.dual_lift.specs.Duals.{best_value, phase_value, phases_value};
 ghost use Rattle.dual_lift.specs.Mixture.{IsMixture};
 ghost use Rattle.dual_lift.specs.Readings.{IsReadingOf, duals_by, duals_excess, scale_by, scale_excess_by, value_by, value_excess_by};
-ghost use Rattle.dual_lift.specs.TooLarge.{IsLiftError, best_value_excess, best_value_outgrown, phases_outgrown, refusal_value_excess};
+ghost use Rattle.dual_lift.specs.TooLarge.{IsLiftError, IsWantedBehind, best_value_excess, best_value_outgrown, phases_outgrown, refusal_value_excess};
 
 use crate::error::{Excess, LiftError, VALUES_STEP};
 use crate::mixture::{Mixture, best_scale};
@@ -32,6 +32,7 @@ pub fn duals<R: RowStore>(
     ensures duals { MatchResult result
         (λ duals. (duals_excess (R.content table.now) reading.now first ≡ None) × (duals ≡ duals_by (R.content table.now) reading.now first))
         (IsLiftError (duals_excess (R.content table.now) reading.now first)) }
+    ensures memory { IfErr result (IsWantedBehind (duals_excess (R.content table.now) reading.now first)) }
     ensures row { IfOk result IsRow }
 {
     let scale = scale(table, reading)?;
@@ -55,7 +56,7 @@ fn scale<R: RowStore>(table: &R, reading: &Reading) -> Result<i128, Excess>
     }
 }
 
-// The dual values, line by line.
+// The dual values, line by line. That none is too large is found before memory is taken.
 fn values<R: RowStore>(
     alloc: Global,
     table: &R,
@@ -65,17 +66,41 @@ fn values<R: RowStore>(
 ) -> Result<Entries<i128>, LiftError>
     requires columns { HasColumns (R.content table.now) columns }
     requires reading { IsReadingOf (R.content table.now) reading.now }
-    ensures { MatchResult result
+    ensures numbers { MatchResult result
         (λ numbers. (first_below (λ k. value_excess_by (R.content table.now) reading.now (first + k)) (height_of (R.content table.now) - first) ≡ None)
         × (numbers ≡ list_below (λ k. value_by (R.content table.now) reading.now (first + k)) (height_of (R.content table.now) - first)))
         (IsLiftError (first_below (λ k. value_excess_by (R.content table.now) reading.now (first + k)) (height_of (R.content table.now) - first))) }
+    ensures memory { IfErr result (IsWantedBehind (first_below (λ k. value_excess_by (R.content table.now) reading.now (first + k)) (height_of (R.content table.now) - first))) }
 {
+    all_fit(table, reading, columns, first)?;
     let mut numbers = Vec::new(alloc);
     for past in 0..table.height().saturating_sub(first) {
         let line = first + past;
         numbers.push(value(table, reading, columns, line)?)?;
     }
     Ok(Entries::from_vec(numbers))
+}
+
+// That no dual value is too large, or the first that is.
+fn all_fit<R: RowStore>(
+    table: &R,
+    reading: &Reading,
+    columns: u32,
+    first: u32,
+) -> Result<(), Excess>
+    requires columns { HasColumns (R.content table.now) columns }
+    requires reading { IsReadingOf (R.content table.now) reading.now }
+    ensures { MatchResult result
+        (λ _. first_below (λ k. value_excess_by (R.content table.now) reading.now (first + k)) (height_of (R.content table.now) - first) ≡ None)
+        (λ excess. first_below (λ k. value_excess_by (R.content table.now) reading.now (first + k)) (height_of (R.content table.now) - first) ≡ Some excess) }
+{
+    for past in 0..table.height().saturating_sub(first) {
+        match value(table, reading, columns, first + past) {
+            Ok(_) => {}
+            Err(excess) => return Err(excess),
+        }
+    }
+    Ok(())
 }
 
 // The dual value of a line, or that it is too large.

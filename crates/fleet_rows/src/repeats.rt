@@ -89,7 +89,7 @@ fn run_after<R: Abort + Alloc<A = Global>>(
     Ok(())
 }
 
-// 200 and 1,000 legs are more than any other row has; of a thousand each fleet flies hundreds.
+// 200 legs are more than any other row has.
 const MADE: &[Twice] = &[
     (
         &[],
@@ -108,13 +108,6 @@ const MADE: &[Twice] = &[
         DONE,
         Begin(b"outcome: optimal\ncost: 229322\nbound: 229322\nsplits: "),
         &[("fleetplan check d", b"holds: cost 229322 bound 229322\n")],
-    ),
-    (
-        &[],
-        "fleetplan make d 1 1000",
-        DONE,
-        Begin(b"outcome: optimal\ncost: 1159448\nbound: 1159448\nsplits: "),
-        &[("fleetplan check d", b"holds: cost 1159448 bound 1159448\n")],
     ),
 ];
 

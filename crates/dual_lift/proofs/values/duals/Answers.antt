@@ -8,7 +8,7 @@ use Rattle.frac_row.proofs.Rows.{same_row}
 use Rattle.dual_lift.specs.Readings.{duals_by, duals_excess}
 use Rattle.dual_lift.specs.declared.error.LiftError.TheVariants.{TooLarge}
 use Rattle.dual_lift.proofs.DualRows.{duals_are_row}
-use Rattle.dual_lift.proofs.Excesses.{both_well, first_fails, then_fails}
+use Rattle.dual_lift.proofs.Excesses.{both_well, first_fails, then_fails, then_wanted}
 use Rattle.dual_lift.proofs.values.duals.Goals as goal
 
 pub returns-in_err-scale-clause-duals : goal.returns-in_err-scale-clause-duals
@@ -21,14 +21,20 @@ pub returns-in_err-numbers-clause-duals : goal.returns-in_err-numbers-clause-dua
 unfolding duals_excess
 returns-in_err-numbers-clause-duals g c =
     let p = err_from_is_err_and c.from_residual-in_err-numbers.result c.from_residual-in_err-numbers.ensures.1 in
-    rw (p.1, p.2) (then_fails _ _ c.in_err-numbers.field-0.0 c.in_ok-scale.ensures.0 c.in_err-numbers.ensures)
+    rw (p.1, p.2) (then_fails _ _ c.in_err-numbers.field-0.0 c.in_ok-scale.ensures.0 c.in_err-numbers.ensures.numbers)
+
+pub returns-in_err-numbers-clause-memory : goal.returns-in_err-numbers-clause-memory
+unfolding duals_excess
+returns-in_err-numbers-clause-memory g c =
+    let p = err_from_is_err_and c.from_residual-in_err-numbers.result c.from_residual-in_err-numbers.ensures.1 in
+    rw (p.1, p.2) (then_wanted _ _ c.in_err-numbers.field-0.0 c.in_ok-scale.ensures.0 c.in_err-numbers.ensures.memory)
 
 pub returns-clause-duals : goal.returns-clause-duals
 unfolding duals_by duals_excess
 returns-clause-duals g c =
     let fs : SFits w128 c.in_ok-scale.scale = search rules in (
-      both_well _ _ c.in_ok-scale.ensures.0 c.in_ok-numbers.ensures.0,
-      rw (to_z-of_z w128 c.in_ok-scale.scale fs) (same_row _ _ _ _ c.in_ok-numbers.ensures.1 c.in_ok-scale.ensures.1),
+      both_well _ _ c.in_ok-scale.ensures.0 c.in_ok-numbers.ensures.numbers.0,
+      rw (to_z-of_z w128 c.in_ok-scale.scale fs) (same_row _ _ _ _ c.in_ok-numbers.ensures.numbers.1 c.in_ok-scale.ensures.1),
     )
 
 pub returns-clause-row : goal.returns-clause-row

@@ -18,9 +18,14 @@ loop-past-preserved g c =
       fits = place_well (λ k. value_excess_by table c.args.reading.now (c.args.first + k)) c.loop-past.past c.loop-past.invariant.fits c.in_ok-value.ensures.0;
     }
 
-pub returns-in_err-value : goal.returns-in_err-value
-returns-in_err-value g c =
+pub returns-in_err-value-clause-numbers : goal.returns-in_err-value-clause-numbers
+returns-in_err-value-clause-numbers g c =
     let table = g.R.RowStore.content c.args.table.now in
     let below : c.loop-past.past < height_of table - c.args.first = omega arith in
-    let p = err_from_is_err_and c.from_residual.result c.from_residual.ensures.1 in
+    let p = err_from_is_err_and c.from_residual-in_err-value.result c.from_residual-in_err-value.ensures.1 in
     rw (p.1, p.2) (place_found (λ k. value_excess_by table c.args.reading.now (c.args.first + k)) c.loop-past.past (height_of table - c.args.first) _ c.loop-past.invariant.fits below c.in_err-value.ensures)
+
+pub returns-in_err-push-clause-memory : goal.returns-in_err-push-clause-memory
+returns-in_err-push-clause-memory g c =
+    let p = err_from_is_err_and c.from_residual-in_err-push.result c.from_residual-in_err-push.ensures.1 in
+    rw (p.1, p.2) c.in_ok-all_fit.ensures
