@@ -18,7 +18,7 @@ pub(crate) fn take_row<N: Number>(
     if !row.take(frame, kernel, leaves)? {
         return Ok(false);
     }
-    Ok(row.price(frame, kernel, leaves, &progress.basic))
+    row.price(frame, kernel, leaves, &progress.basic)
 }
 
 /// Brings a column into the basis, where all fits, and answers whether it does.
