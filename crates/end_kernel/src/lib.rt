@@ -3,15 +3,17 @@
 #![tactic(auto)]
 
 pub mod columns;
+pub mod divider;
 pub mod kernel;
 pub mod lists;
 pub mod number;
 pub mod row;
 pub mod start;
 
-pub use columns::{Columns, Unit};
+pub use columns::{Columns, Entry, Unit};
+pub use divider::odd_part;
 pub use kernel::Kernel;
 pub use lists::{at, filled, put};
 pub use number::{Number, common_divisor};
-pub use row::{Part, Row, Taken};
+pub use row::{Part, Row, Sides, Taken};
 pub use start::{NONE, Place, Start};

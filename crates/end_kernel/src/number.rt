@@ -26,6 +26,12 @@ pub trait Number: Copy + Drop {
     /// What the division leaves, or 0 where the divisor is 0.
     fn rest(self, divisor: Self) -> Self;
 
+    /// The greatest number.
+    fn most() -> Self;
+
+    /// By what an odd number is to be multiplied so that 1 is left where the bits end.
+    fn inverse(self) -> Self;
+
     /// The size, its sign left out.
     fn size(self) -> Self;
 
@@ -99,6 +105,20 @@ impl Number for i64 {
     #[inline(always)]
     fn rest(self, divisor: Self) -> Self {
         self.checked_rem(divisor).unwrap_or(0)
+    }
+
+    #[inline(always)]
+    fn most() -> Self {
+        i64::MAX
+    }
+
+    fn inverse(self) -> Self {
+        let mut inverse = self | 1;
+        // An odd number is its own inverse in the last three bits, and each turn doubles their number.
+        for _turn in 0..5 {
+            inverse = inverse.wrapping_mul(i64::wrapping_sub(2, self.wrapping_mul(inverse)));
+        }
+        inverse
     }
 
     #[inline(always)]
@@ -191,6 +211,20 @@ impl Number for i128 {
     #[inline(always)]
     fn rest(self, divisor: Self) -> Self {
         self.checked_rem(divisor).unwrap_or(0)
+    }
+
+    #[inline(always)]
+    fn most() -> Self {
+        i128::MAX
+    }
+
+    fn inverse(self) -> Self {
+        let mut inverse = self | 1;
+        // An odd number is its own inverse in the last three bits, and each turn doubles their number.
+        for _turn in 0..6 {
+            inverse = inverse.wrapping_mul(i128::wrapping_sub(2, self.wrapping_mul(inverse)));
+        }
+        inverse
     }
 
     #[inline(always)]

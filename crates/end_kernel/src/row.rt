@@ -1,3 +1,4 @@
+use crate::divider::{Divider, odd_part};
 use crate::lists::{at, put};
 use crate::number::{Number, common_divisor};
 use entries::NoMemory;
@@ -31,6 +32,23 @@ pub struct Taken<'a, N> {
     pub own: N,
     pub parts: &'a [Part<N>],
     pub numbers: &'a [N],
+}
+
+/// A number of the pivot column and one of the pivot row, in one slot.
+#[derive(Clone, Copy)]
+pub struct Sides<N> {
+    pub column: N,
+    pub row: N,
+}
+
+impl<N: Number> Sides<N> {
+    #[inline(always)]
+    fn none() -> Sides<N> {
+        Sides {
+            column: N::of(0),
+            row: N::of(0),
+        }
+    }
 }
 
 impl<N: Number> Row<N> {
@@ -72,16 +90,17 @@ impl<N: Number> Row<N> {
         Ok(())
     }
 
-    /// What the row's parts and each of two lists of numbers by all slots come to, slot by slot.
-    pub fn across(&self, first: &[N], second: &[N]) -> (N, N) {
-        let mut one = N::of(0);
-        let mut other = N::of(0);
+    /// What the row's parts and each of two sides come to, slot by slot.
+    pub fn across(&self, sides: &[Sides<N>]) -> Sides<N> {
+        let mut sum: Sides<N> = Sides::none();
         for part in &self.parts {
-            let place = part.slot as usize;
-            one = one.plus(at(first, place, N::of(0)).times(part.number));
-            other = other.plus(at(second, place, N::of(0)).times(part.number));
+            let other = at(sides, part.slot as usize, Sides::none());
+            sum = Sides {
+                column: sum.column.plus(other.column.times(part.number)),
+                row: sum.row.plus(other.row.times(part.number)),
+            };
         }
-        (one, other)
+        sum
     }
 
     /// Subtracts the row's parts, so many times, from numbers by all slots.
@@ -176,13 +195,16 @@ impl<N: Number> Row<N> {
         if self.den.is_one() {
             return;
         }
-        let divisor = if self.den.lowest_bit().is_less(self.den) {
-            shared(&self.parts, common_divisor(self.den, self.own))
+        let twos = self.sizes.lowest_bit();
+        let odd = odd_part(self.den);
+        let odd = if odd.is_one() {
+            odd
         } else {
-            self.sizes.lowest_bit()
+            shared(&self.parts, odd_part(common_divisor(odd, self.own)))
         };
+        let divisor = twos.times(odd);
         if !divisor.is_one() {
-            divide_parts(self.parts.as_mut_slice(), divisor);
+            divide_parts(self.parts.as_mut_slice(), twos, odd);
             self.own = self.own.over(divisor);
             self.den = self.den.over(divisor);
             self.survey();
@@ -218,46 +240,27 @@ pub fn sizes<N: Number>(parts: &[Part<N>]) -> N {
     sizes
 }
 
-/// The greatest number that divides a divisor and all parts.
+/// The greatest number that divides an odd divisor and all parts.
 pub fn shared<N: Number>(parts: &[Part<N>], divisor: N) -> N {
-    let mut divisor = divisor;
+    let mut divider = Divider::new(divisor);
     for part in parts {
-        if divisor.is_one() {
-            return divisor;
+        if divider.divisor().is_one() {
+            return divider.divisor();
         }
-        if !part.number.rest(divisor).is_zero() || divisor.is_zero() {
-            divisor = common_divisor(divisor, part.number);
-        }
+        divider = divider.with(part.number);
     }
-    divisor
+    divider.divisor()
 }
 
-/// Divides all parts by what divides them.
-pub fn divide_parts<N: Number>(parts: &mut [Part<N>], divisor: N) {
-    if divisor.lowest_bit().is_less(divisor) {
-        divide_each(parts, divisor);
-    } else {
-        shift_each(parts, divisor.bits().wrapping_sub(1));
-    }
-}
-
-// The same by a power of 2, which is sooner.
-fn shift_each<N: Number>(parts: &mut [Part<N>], bits: u32) {
+/// Divides all parts by a power of 2 and an odd number, which divide them.
+pub fn divide_parts<N: Number>(parts: &mut [Part<N>], twos: N, odd: N) {
+    let bits = twos.bits().wrapping_sub(1);
+    let inverse = odd.inverse();
     for place in 0..parts.len() {
         let Part { slot, number } = parts[place];
         parts[place] = Part {
             slot,
-            number: number.shifted(bits),
-        };
-    }
-}
-
-fn divide_each<N: Number>(parts: &mut [Part<N>], divisor: N) {
-    for place in 0..parts.len() {
-        let Part { slot, number } = parts[place];
-        parts[place] = Part {
-            slot,
-            number: number.over(divisor),
+            number: number.shifted(bits).times(inverse),
         };
     }
 }

@@ -1,4 +1,4 @@
-use crate::columns::Columns;
+use crate::columns::{Columns, Unit};
 use crate::lists::{at, filled, put};
 use crate::number::Number;
 use entries::NoMemory;
@@ -19,6 +19,8 @@ pub struct Place {
 #[derive(Drop)]
 pub struct Start {
     steps: Vec<Step>,
+    /// The numbers of the steps' columns in other lines than their own, step by step.
+    others: Vec<Unit>,
     columns: Vec<u32>,
     lines: Vec<u32>,
 }
@@ -26,9 +28,11 @@ pub struct Start {
 #[derive(Clone, Copy)]
 struct Step {
     line: u32,
-    column: u32,
     /// Its number in its own line.
     own: i32,
+    /// Where its other numbers begin and end.
+    begin: u32,
+    end: u32,
 }
 
 impl Start {
@@ -36,6 +40,7 @@ impl Start {
     pub fn new(alloc: Global, columns: &Columns, places: &[Place]) -> Result<Start, NoMemory> {
         let mut start = Start {
             steps: Vec::new(alloc),
+            others: Vec::new(alloc),
             columns: filled(alloc, NONE, columns.line_count())?,
             lines: filled(alloc, NONE, columns.count())?,
         };
@@ -51,13 +56,38 @@ impl Start {
         if own == 1 || own == -1 {
             put(&mut self.columns, place.line as usize, place.column);
             put(&mut self.lines, place.column as usize, place.line);
+            let begin = (self.others.len() & 0xffff_ffff) as u32;
+            self.push_others(columns, place)?;
             self.steps.push(Step {
                 line: place.line,
-                column: place.column,
                 own,
+                begin,
+                end: (self.others.len() & 0xffff_ffff) as u32,
             })?;
         }
         Ok(())
+    }
+
+    // Puts the numbers of a column in other lines than its own behind those so far.
+    fn push_others(&mut self, columns: &Columns, place: Place) -> Result<(), NoMemory> {
+        for unit in columns.of(place.column as usize) {
+            if unit.line != place.line {
+                self.others.push(*unit)?;
+            }
+        }
+        Ok(())
+    }
+
+    // The other numbers of a step's column.
+    #[inline(always)]
+    fn others_of(&self, step: Step) -> &[Unit] {
+        let begin = step.begin as usize;
+        let end = step.end as usize;
+        if begin <= end && end <= self.others.len() {
+            &self.others.as_slice()[begin..end]
+        } else {
+            &[]
+        }
     }
 
     // The number of a column in its own line, or 0 where it or its line stands already, or it has a number in the line
@@ -100,26 +130,24 @@ impl Start {
     }
 
     /// Of a sum over lines how much of each basic column makes it, by the lines of these.
-    pub fn forward<N: Number>(&self, columns: &Columns, sums: &mut [N]) {
+    pub fn forward<N: Number>(&self, sums: &mut [N]) {
         for step in &self.steps {
             let own = at(sums, step.line as usize, N::of(0));
             if !own.is_zero() {
                 let part = own.times(N::of(step.own));
-                take_column(columns, step.column, part, sums);
                 put(sums, step.line as usize, part);
+                take_units(self.others_of(*step), part, sums);
             }
         }
     }
 
     /// Of what the basic columns weigh, by their lines, the multipliers of the lines by which they do.
-    pub fn backward<N: Number>(&self, columns: &Columns, weighed: &mut [N]) {
+    pub fn backward<N: Number>(&self, weighed: &mut [N]) {
         for step in self.steps.iter().rev() {
             let mut own = at(weighed, step.line as usize, N::of(0));
-            for unit in columns.of(step.column as usize) {
-                if unit.line != step.line {
-                    let other = at(weighed, unit.line as usize, N::of(0));
-                    own = own.minus(other.times(N::of(unit.number)));
-                }
+            for unit in self.others_of(*step) {
+                let other = at(weighed, unit.line as usize, N::of(0));
+                own = own.minus(other.times(N::of(unit.number)));
             }
             put(weighed, step.line as usize, own.times(N::of(step.own)));
         }
@@ -129,7 +157,12 @@ impl Start {
 /// Takes a column, so many times, from a sum over lines.
 #[inline(always)]
 pub fn take_column<N: Number>(columns: &Columns, column: u32, times: N, sums: &mut [N]) {
-    for unit in columns.of(column as usize) {
+    take_units(columns.of(column as usize), times, sums);
+}
+
+#[inline(always)]
+fn take_units<N: Number>(units: &[Unit], times: N, sums: &mut [N]) {
+    for unit in units {
         let line = unit.line as usize;
         let sum = at(sums, line, N::of(0));
         put(sums, line, sum.minus(times.times(N::of(unit.number))));

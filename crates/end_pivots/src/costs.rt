@@ -28,7 +28,7 @@ impl Costs {
     /// Those of the start, where none is below 0.
     pub fn new(alloc: Global, frame: &Frame, costs: &[i128]) -> Result<Option<Costs>, NoMemory> {
         let mut lines = first_costs(alloc, &frame.start, costs, frame.columns.line_count(), 1)?;
-        frame.start.backward(&frame.columns, lines.as_mut_slice());
+        frame.start.backward(lines.as_mut_slice());
         let mut columns = filled(alloc, 0, frame.columns.count())?;
         let fits = lay_costs(&frame.columns, costs, &lines, columns.as_mut_slice());
         Ok(if fits {
@@ -54,7 +54,7 @@ impl Costs {
         let most = sizes_of(&self.columns)
             .either(sizes_of(&self.slots))
             .either(self.den);
-        let others = sizes_of(&row.columns).either(row.sizes.wide());
+        let others = sizes_met(row).either(row.sizes.wide());
         let grown = most.bits().wrapping_add(step.factor.bits());
         let added = others.bits().wrapping_add(step.times.bits());
         if grown > 125 || added > 125 {
@@ -74,7 +74,7 @@ impl Costs {
             multiply(self.slots.as_mut_slice(), step.factor);
             self.den = self.den.wrapping_mul(step.factor);
         }
-        add_numbers(self.columns.as_mut_slice(), &row.columns, step.times);
+        add_numbers(self.columns.as_mut_slice(), row, step.times);
         take_parts(self.slots.as_mut_slice(), &row.parts, step.times);
         self.reduce();
     }
@@ -150,6 +150,15 @@ fn sizes_of<N: Number>(numbers: &[N]) -> i128 {
     sizes.wide()
 }
 
+// All bits that one of a row's sizes in columns has.
+fn sizes_met<N: Number>(row: &PivotRow<N>) -> i128 {
+    let mut sizes = N::of(0);
+    for column in &row.met {
+        sizes = sizes.either(at(&row.columns, *column as usize, N::of(0)).size());
+    }
+    sizes.wide()
+}
+
 // The greatest number that divides a divisor and all numbers.
 fn shared(numbers: &[i128], divisor: i128) -> i128 {
     let mut divisor = divisor;
@@ -176,14 +185,16 @@ fn divide(numbers: &mut [i128], divisor: i128) {
     }
 }
 
-fn add_numbers<N: Number>(numbers: &mut [i128], others: &[N], times: i128) {
-    if others.len() != numbers.len() {
-        return;
-    }
-    for place in 0..numbers.len() {
-        if !others[place].is_zero() {
-            numbers[place] = numbers[place].wrapping_add(others[place].wide().wrapping_mul(times));
-        }
+fn add_numbers<N: Number>(numbers: &mut [i128], row: &PivotRow<N>, times: i128) {
+    for column in &row.met {
+        let place = *column as usize;
+        let more = at(&row.columns, place, N::of(0)).wide();
+        let number = at(numbers, place, 0);
+        put(
+            numbers,
+            place,
+            number.wrapping_add(more.wrapping_mul(times)),
+        );
     }
 }
 

@@ -25,13 +25,14 @@ struct Candidate {
 /// the one with the greatest size, and then the first.
 pub fn entering<N: Number>(row: &PivotRow<N>, costs: &Costs) -> Choice {
     let mut best: Option<Candidate> = None;
-    let columns = row.columns.as_slice();
-    for place in 0..columns.len() {
-        if columns[place].is_below_0() {
+    for column in &row.met {
+        let place = *column as usize;
+        let number = at(&row.columns, place, N::of(0));
+        if number.is_below_0() {
             let next = Candidate {
-                column: (place & 0xffff_ffff) as u32,
+                column: *column,
                 cost: at(&costs.columns, place, 0),
-                size: columns[place].size().wide(),
+                size: number.size().wide(),
             };
             match better(best, next) {
                 Some(candidate) => best = Some(candidate),

@@ -2,7 +2,7 @@ use crate::frame::Frame;
 use crate::pivot_row::PivotRow;
 use end_kernel::lists::fill;
 use end_kernel::start::take_column;
-use end_kernel::{Kernel, Number, at, common_divisor, filled};
+use end_kernel::{Kernel, Number, Sides, at, common_divisor, filled};
 use entries::NoMemory;
 use std::alloc::Global;
 
@@ -16,8 +16,8 @@ pub struct PivotColumn<N> {
     pub products: Vec<N>,
     /// What the pivot row and each row come to, slot by slot, times both denominators.
     pub crossings: Vec<N>,
-    /// Its numbers in the slots as the start has them.
-    slots: Vec<N>,
+    /// Its numbers in the slots as the start has them, beside those of the pivot row.
+    slots: Vec<Sides<N>>,
     sums: Vec<N>,
 }
 
@@ -50,10 +50,8 @@ impl<N: Number> PivotColumn<N> {
             N::of(-1),
             self.sums.as_mut_slice(),
         );
-        frame
-            .start
-            .forward(&frame.columns, self.sums.as_mut_slice());
-        let sizes = self.gather(kernel)?;
+        frame.start.forward(self.sums.as_mut_slice());
+        let sizes = self.gather(kernel, row)?;
         self.products.clear();
         self.crossings.clear();
         for other in &kernel.rows {
@@ -66,21 +64,22 @@ impl<N: Number> PivotColumn<N> {
             {
                 return Ok(false);
             }
-            let (product, crossing) = other.across(&self.slots, &row.numbers);
-            self.products.push(product)?;
-            self.crossings.push(crossing)?;
+            let sums = other.across(&self.slots);
+            self.products.push(sums.column)?;
+            self.crossings.push(sums.row)?;
         }
         Ok(true)
     }
 
     // Gathers the numbers in the slots, and answers all bits of their sizes.
-    fn gather(&mut self, kernel: &Kernel<N>) -> Result<N, NoMemory> {
+    fn gather(&mut self, kernel: &Kernel<N>, row: &PivotRow<N>) -> Result<N, NoMemory> {
         self.slots.clear();
         let mut sizes = N::of(0);
-        for line in &kernel.lines {
-            let number = at(&self.sums, *line as usize, N::of(0));
-            sizes = sizes.either(number.size());
-            self.slots.push(number)?;
+        for slot in 0..kernel.lines.len() {
+            let column = at(&self.sums, kernel.lines[slot] as usize, N::of(0));
+            sizes = sizes.either(column.size());
+            let row = at(&row.numbers, slot, N::of(0));
+            self.slots.push(Sides { column, row })?;
         }
         Ok(sizes)
     }

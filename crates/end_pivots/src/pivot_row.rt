@@ -3,7 +3,7 @@ use end_kernel::lists::fill;
 use end_kernel::number::common_scale;
 use end_kernel::row::{divide_parts, shared, sizes};
 use end_kernel::start::weighed;
-use end_kernel::{Kernel, NONE, Number, Part, Row, Taken, at, filled, put};
+use end_kernel::{Kernel, NONE, Number, Part, Row, Taken, at, filled, odd_part, put};
 use entries::NoMemory;
 use std::alloc::Global;
 
@@ -18,8 +18,10 @@ pub struct PivotRow<N> {
     pub numbers: Vec<N>,
     /// The same as multipliers of the lines.
     pub lines: Vec<N>,
-    /// Its number in each real column.
+    /// Its number in each real column, and 0 in those that are basic.
     pub columns: Vec<N>,
+    /// The columns in which it has one.
+    pub met: Vec<u32>,
     /// All bits that one of its sizes has.
     pub sizes: N,
     /// The rows that the row of a line is made of, and how much of each.
@@ -34,6 +36,7 @@ impl<N: Number> PivotRow<N> {
             numbers: Vec::new(alloc),
             lines: filled(alloc, N::of(0), frame.columns.line_count())?,
             columns: filled(alloc, N::of(0), frame.columns.count())?,
+            met: Vec::new(alloc),
             sizes: N::of(0),
             crossing: Vec::new(alloc),
         })
@@ -78,9 +81,9 @@ impl<N: Number> PivotRow<N> {
         kernel: &Kernel<N>,
         leaving: Leaving,
         basic: &[bool],
-    ) -> bool {
+    ) -> Result<bool, NoMemory> {
         if self.sizes.bits().wrapping_add(16) > N::room() {
-            return false;
+            return Ok(false);
         }
         let lines = self.lines.as_mut_slice();
         fill(lines, N::of(0));
@@ -93,9 +96,26 @@ impl<N: Number> PivotRow<N> {
             let line = if line == NONE { other } else { line };
             put(lines, line as usize, part.number);
         }
-        frame.start.backward(&frame.columns, lines);
-        price_columns(frame, lines, basic, self.columns.as_mut_slice());
-        true
+        frame.start.backward(lines);
+        price_columns(frame, lines, self.columns.as_mut_slice());
+        self.note_met(basic)?;
+        Ok(true)
+    }
+
+    // Notes the columns that are met. Basic ones aren't looked at.
+    fn note_met(&mut self, basic: &[bool]) -> Result<(), NoMemory> {
+        self.met.clear();
+        let columns = self.columns.as_mut_slice();
+        for column in 0..columns.len() {
+            if !columns[column].is_zero() {
+                if at(basic, column, false) {
+                    columns[column] = N::of(0);
+                } else {
+                    self.met.push((column & 0xffff_ffff) as u32)?;
+                }
+            }
+        }
+        Ok(())
     }
 
     // The row of a column that came.
@@ -116,9 +136,7 @@ impl<N: Number> PivotRow<N> {
     ) -> Result<bool, NoMemory> {
         fill(self.lines.as_mut_slice(), N::of(0));
         put(self.lines.as_mut_slice(), line as usize, N::of(1));
-        frame
-            .start
-            .backward(&frame.columns, self.lines.as_mut_slice());
+        frame.start.backward(self.lines.as_mut_slice());
         let Some(scale) = self.cross(frame, kernel)? else {
             return Ok(false);
         };
@@ -196,12 +214,15 @@ impl<N: Number> PivotRow<N> {
 
     // Divides all by what divides all.
     fn reduce(&mut self) {
-        let divisor = shared(&self.parts, self.own.size());
-        if !divisor.is_one() {
-            divide_parts(self.parts.as_mut_slice(), divisor);
-            self.own = self.own.over(divisor);
-        }
         self.sizes = sizes(&self.parts).either(self.own.size());
+        let twos = self.sizes.lowest_bit();
+        let odd = shared(&self.parts, odd_part(self.own.size()));
+        let divisor = twos.times(odd);
+        if !divisor.is_one() {
+            divide_parts(self.parts.as_mut_slice(), twos, odd);
+            self.own = self.own.over(divisor);
+            self.sizes = sizes(&self.parts).either(self.own.size());
+        }
     }
 
     /// The row of the column that enters.
@@ -223,14 +244,22 @@ fn with_den<N: Number>(scale: Option<N>, den: N) -> Option<N> {
     common_scale(scale?, den, N::room() / 3 * 2)
 }
 
-// What multipliers weigh in each real column that isn't basic.
-fn price_columns<N: Number>(frame: &Frame, lines: &[N], basic: &[bool], columns: &mut [N]) {
-    for column in 0..columns.len() {
-        columns[column] = if at(basic, column, false) {
-            N::of(0)
-        } else {
-            weighed(&frame.columns, column, lines)
-        };
+// What multipliers weigh in each real column.
+fn price_columns<N: Number>(frame: &Frame, lines: &[N], columns: &mut [N]) {
+    fill(columns, N::of(0));
+    for line in 0..lines.len() {
+        let multiplier = lines[line];
+        if !multiplier.is_zero() {
+            for entry in frame.columns.across(line) {
+                let place = entry.column as usize;
+                let sum = at(columns, place, N::of(0));
+                put(
+                    columns,
+                    place,
+                    sum.plus(multiplier.times(N::of(entry.number))),
+                );
+            }
+        }
     }
 }
 

@@ -40,7 +40,26 @@ impl<N: Number> Values<N> {
                 take_column(&frame.columns, row.column, row.own.times(factor), numbers);
             }
         }
-        frame.start.forward(&frame.columns, numbers);
+        frame.start.forward(numbers);
+        true
+    }
+
+    /// Whether all columns come to whole numbers.
+    pub fn are_whole(&self, kernel: &Kernel<N>) -> bool {
+        for row in &kernel.rows {
+            if !row.own.rest(row.den).is_zero() {
+                return false;
+            }
+        }
+        self.are_whole_in_lines()
+    }
+
+    fn are_whole_in_lines(&self) -> bool {
+        for number in &self.numbers {
+            if !number.rest(self.scale).is_zero() {
+                return false;
+            }
+        }
         true
     }
 }

@@ -62,9 +62,7 @@ impl Weights {
             column.size,
             self.crosses.as_mut_slice(),
         );
-        frame
-            .start
-            .forward(&frame.columns, self.crosses.as_mut_slice());
+        frame.start.forward(self.crosses.as_mut_slice());
         let entered = weight(squares(&row.parts), column.size);
         for place in 0..numbers.len() {
             let number = numbers[place];
@@ -126,7 +124,7 @@ pub fn lay_column<N: Number>(
             );
         }
     }
-    frame.start.forward(&frame.columns, numbers);
+    frame.start.forward(numbers);
     Some(scale)
 }
 

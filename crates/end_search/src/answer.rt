@@ -26,7 +26,7 @@ pub(crate) fn point_hint<N: Number>(
     let lines = frame.columns.line_count();
     let mut duals = first_costs(alloc, &frame.start, costs, lines, above.den)?;
     add_slots(kernel, &above.slots, duals.as_mut_slice());
-    frame.start.backward(&frame.columns, duals.as_mut_slice());
+    frame.start.backward(duals.as_mut_slice());
     Ok(Some(Hint::Point(PointHint {
         duals: Entries::from_vec(duals),
         dual_scale: above.den,

@@ -9,7 +9,7 @@ use std::alloc::Global;
 const MOST_PASSES: u64 = 10;
 
 /// Pivots among ends of equal cost, each of which makes more columns come to whole numbers, so that fewer pairs are flown in part.
-/// At most so many pivots are made together. The values are those of the kernel before.
+/// At most so many pivots are made together. The values are those of the kernel before, and where all are whole nothing is tried.
 pub(crate) fn make_whole<N: Number>(
     alloc: Global,
     frame: &Frame,
@@ -20,7 +20,10 @@ pub(crate) fn make_whole<N: Number>(
 ) -> Result<(), NoMemory> {
     for _pass in 0..MOST_PASSES {
         let before = progress.made;
-        if !pass(alloc, frame, kernel, progress, workspace, steps)? || progress.made == before {
+        if workspace.values.are_whole(kernel)
+            || !pass(alloc, frame, kernel, progress, workspace, steps)?
+            || progress.made == before
+        {
             return Ok(());
         }
     }

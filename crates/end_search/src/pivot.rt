@@ -1,5 +1,5 @@
 use crate::progress::{Progress, Workspace};
-use end_kernel::{Kernel, NONE, Number, at, common_divisor, put};
+use end_kernel::{Kernel, NONE, Number, Row, at, common_divisor, put};
 use end_pivots::pricing::weight;
 use end_pivots::{Frame, Leaving, PivotRow};
 use entries::NoMemory;
@@ -18,7 +18,7 @@ pub(crate) fn take_row<N: Number>(
     if !row.take(frame, kernel, leaves)? {
         return Ok(false);
     }
-    Ok(row.price(frame, kernel, leaves, &progress.basic))
+    row.price(frame, kernel, leaves, &progress.basic)
 }
 
 /// Brings a column into the basis, where all fits, and answers whether it does.
@@ -68,7 +68,8 @@ fn open<N: Number>(kernel: &mut Kernel<N>, leaves: Leaving) -> Result<usize, NoM
 }
 
 // Takes the pivot row from all rows that the column meets but that of what leaves. Answers the work that was done before with that
-// of the pivot: the numbers of the pivot row by lines and columns, its parts against each row, and the rows that changed.
+// of the pivot: the numbers of the pivot row by lines and columns, the parts of all rows, in which the column is looked for, and
+// twice those of each row that changed and of the pivot row. Wide numbers count twice.
 fn change_rows<N: Number>(
     kernel: &mut Kernel<N>,
     workspace: &mut Workspace<N>,
@@ -82,16 +83,29 @@ fn change_rows<N: Number>(
     let mut work = before.wrapping_add(row.work());
     for place in 0..kernel.rows.len() {
         let product = at(&column.products, place, N::of(0));
-        work = work.wrapping_add(row.parts.len() as u64).wrapping_add(1);
+        work = work
+            .wrapping_add(parts_at(&kernel.rows, place))
+            .wrapping_add(1);
         if !product.is_zero() && place != leaves && place < kernel.rows.len() {
             let divisor = common_divisor(product, column.size);
             let factor = column.size.over(divisor);
             let times = product.over(divisor);
             kernel.rows[place].combine(row.taken(), factor, times, seen, work)?;
-            work = work.wrapping_add(kernel.rows[place].parts.len() as u64);
+            let parts = parts_at(&kernel.rows, place).wrapping_add(row.parts.len() as u64);
+            work = work.wrapping_add(parts.wrapping_mul(2));
         }
     }
-    Ok(work)
+    let done = work.wrapping_sub(before);
+    Ok(before.wrapping_add(done.wrapping_mul(u64::from(N::room() / 62))))
+}
+
+// How many parts a row has, or 0 where there is none.
+fn parts_at<N: Number>(rows: &[Row<N>], place: usize) -> u64 {
+    if place < rows.len() {
+        rows[place].parts.len() as u64
+    } else {
+        0
+    }
 }
 
 // Lays the row of the column that enters at its place.

@@ -4,7 +4,7 @@ use entries::NoMemory;
 use std::alloc::Global;
 
 // How many numbers of rows may be written or multiplied: about a minute's on one processor.
-const MOST_WORK: u64 = 6_000_000_000;
+const MOST_WORK: u64 = 20_000_000_000;
 
 /// What a search has come to, but for the rows of the columns that came.
 #[derive(Drop)]

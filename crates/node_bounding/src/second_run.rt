@@ -35,11 +35,25 @@ pub(crate) fn second_run(
         return Ok(None);
     }
     let program = Program::new(alloc, tables, kept)?;
-    let hint = find(alloc, &program, steps)?;
-    let Program { outline, rows } = program;
-    let end = checked(alloc, &rows, hint)?;
-    drop(rows);
-    settled(alloc, end, tables, kept, &outline)
+    let end = found(alloc, &program, steps);
+    let outline = outline_of(program);
+    settled(alloc, end?, tables, kept, &outline)
+}
+
+// The hint that is found in a program's lines, where there is one and it is an end of them.
+fn found(alloc: Global, program: &Program, steps: u64) -> Result<Option<Hint>, NoMemory>
+    requires { IsProblem program.now.rows }
+    ensures { IfOk result (λ end. IfSome end (IsEndIn program.now.rows)) }
+{
+    let hint = find(alloc, program, steps)?;
+    checked(alloc, &program.rows, hint)
+}
+
+// What stands where in a program, whose lines are dropped.
+fn outline_of(program: Program) -> Outline
+    ensures { result ≡ program.outline }
+{
+    program.outline
 }
 
 // The hint, where there is one and it is an end of the lines.
