@@ -9,6 +9,7 @@ pub mod NightsUsed
 pub mod PeriodMinutes
 pub mod Periods
 pub mod PlainTables
+pub mod Sizes
 pub mod SoleFleets
 pub mod UseLaws
 pub mod WholePlans
