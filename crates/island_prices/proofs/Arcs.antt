@@ -21,9 +21,8 @@ use Rattle.fleet_model.specs.declared.tables.Tables.{Tables}
 use Rattle.timeline_net.specs.Events.{departure_event, departures_of, events_below, readies_of, ready_event}
 use Rattle.timeline_net.specs.declared.timeline.Event.{Event}
 use Rattle.node_aggregate.specs.Nodes.{AreNodesAt, RiseFromZero, node_end}
-use Rattle.node_aggregate.proofs.EventsAmong.{happens_within}
-use Rattle.node_aggregate.proofs.Links.{nodes_rise}
 use Rattle.node_aggregate.proofs.NodeEnds.{Holds, end_at_last, end_before, node_that_holds}
+use Rattle.node_aggregate.proofs.Starts.{start_within, starts_rise}
 use Rattle.dual_bound.specs.Prices.{AreWithin, max_price, price_of, rent_of}
 use Rattle.dual_bound.specs.declared.prices.Prices.{Prices}
 use Rattle.island_prices.specs.Arcs.{AreAllNodes, AreArcRises, AreByNodes, AreMoments, ArcMoments, DoStayLow, IsQuiet, NodeStarts, rise_over, shift_over}
@@ -83,7 +82,7 @@ rise_at_last prices xs f s k last = ap (λ b. cond b (price_of prices f s (get_o
 module _ (t : Tables) (keeps : Domains) (prices : Prices) (starts : NodeStarts) (moment : ArcMoments) (rises : List Rise) (nodes : AreAllNodes t keeps starts) (moments : AreMoments t keeps starts moment)
     (are : AreArcRises t prices starts moment rises) (rents : (f : ℕ) → f < fleets_in t → pos 0 ≤ℤ rent_of prices f) where
   rise_from : (f s : ℕ) → f < fleets_in t → s < stations_in t → 0 < length (starts f s) → RiseFromZero (starts f s)
-  rise_from f s known within some = let at = nodes.each f s known within in nodes_rise at.events (starts f s) at.nodes some
+  rise_from f s known within some = starts_rise t keeps f s (starts f s) (nodes.each f s known within) some
 
   -- over the arc of a single node no price rises
   several : (f s k : ℕ) → f < fleets_in t → s < stations_in t → k < length (starts f s) → pos 0 <ℤ rise_over prices (starts f s) f s k → 1 < length (starts f s)
@@ -102,24 +101,15 @@ module _ (t : Tables) (keeps : Domains) (prices : Prices) (starts : NodeStarts) 
       let is = are.each i below in
       several (rise_in rises i).fleet (rise_in rises i).station is.place is.fleet is.station is.within (subst (λ z. pos 0 <ℤ z) is.amount is.some)
 
-  -- ---- the last minutes of nodes
+  -- ---- the first and the last minutes of nodes
+  start_in_period : (f s k : ℕ) → f < fleets_in t → s < stations_in t → k < length (starts f s) → get_or (starts f s) k 0 < MINUTES_PER_PERIOD
+  start_in_period f s k known inside below = start_within t keeps f s (starts f s) (nodes.each f s known inside) k below
+
   end_in_period : (f s k : ℕ) → f < fleets_in t → s < stations_in t → k < length (starts f s) → node_end (starts f s) k ≤ last_minute
   end_in_period f s k known within below = elim (cases_lt (k + 1) (length (starts f s))) [
-    | inl more ↦
-        let at = nodes.each f s known within in
-        let may = (at.nodes.next k more).may in
-        let next = happens_within t keeps f s at.events at.happen true (get_or (starts f s) (k + 1) 0) may.ready in
-        omega (arith, next, end_before (starts f s) k more)
+    | inl more ↦ omega (arith, start_in_period f s (k + 1) known within more, end_before (starts f s) k more)
     | inr last ↦ omega (arith, end_at_last (starts f s) k last)
   ]
-
-  start_in_period : (f s k : ℕ) → f < fleets_in t → s < stations_in t → k < length (starts f s) → get_or (starts f s) k 0 < MINUTES_PER_PERIOD
-  start_in_period f s zero known inside below = omega (arith, (rise_from f s known inside (omega arith)).first)
-  start_in_period f s (suc k) known inside below =
-      let at = nodes.each f s known inside in
-      let next : k + 1 ≡ suc k = omega arith in
-      let may = (at.nodes.next k (omega arith)).may in
-      subst (λ j. get_or (starts f s) j 0 < MINUTES_PER_PERIOD) next (happens_within t keeps f s at.events at.happen true (get_or (starts f s) (k + 1) 0) may.ready)
 
   shift_is : (xs : List ℕ) (k m : ℕ) → ((get_or xs k 0 ≤ m) × (shift_over xs k m ≡ Raised (node_end xs k))) ⊎ ((m < get_or xs k 0) × (shift_over xs k m ≡ Lowered))
   shift_is xs k m = elim (cases_lt m (get_or xs k 0)) [

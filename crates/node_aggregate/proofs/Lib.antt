@@ -4,3 +4,4 @@ pub mod Links
 pub mod NodeEnds
 pub mod OneList
 pub mod Rising
+pub mod Starts

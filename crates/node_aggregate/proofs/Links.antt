@@ -62,7 +62,7 @@ no_nodes events e = record {
 }
 
 -- each start is later than the one before
-rise_next : (events : List Event) (starts : List ℕ) → AreNodes events starts → (k : ℕ) → k + 1 < length starts → get_or starts k 0 < get_or starts (k + 1) 0
+pub rise_next : (events : List Event) (starts : List ℕ) → AreNodes events starts → (k : ℕ) → k + 1 < length starts → get_or starts k 0 < get_or starts (k + 1) 0
 rise_next events starts nodes k within = let may = (nodes.next k within).may in omega (arith, may.since, may.later)
 
 rises : (events : List Event) (starts : List ℕ) → AreNodes events starts → (i j : ℕ) → i < j → j < length starts → get_or starts i 0 < get_or starts j 0

@@ -7,19 +7,20 @@ use Rattle.sums.specs.Below.{max_below}
 use Rattle.sums.proofs.Sums.{sum_below-le}
 use Rattle.sums.proofs.Maxima.{max_below-upper, max_below-least}
 use Rattle.sums.proofs.Tests.{by_test}
-use Rattle.fleet_model.specs.declared.limits.TheConstants.{MINUTES_PER_PERIOD}
 use Rattle.fleet_model.specs.declared.tables.Tables.{Tables}
 use Rattle.fleet_model.specs.Counts.{Weights, arrived, coming, departed, leaving}
 use Rattle.fleet_model.specs.Kept.{Domains}
 use Rattle.fleet_model.specs.Laws.{PassesDepartures, excess_at_departure}
-use Rattle.fleet_model.specs.Schedule.{fleets_in, leg_of, leg_on, legs_in, no_leg}
-use Rattle.fleet_model.specs.Times.{ready_minute}
+use Rattle.fleet_model.specs.Schedule.{fleets_in, leg_of, leg_on, legs_in, period_of}
+use Rattle.fleet_model.specs.Times.{departure, ready_minute}
 use Rattle.fleet_model.specs.Use.{excess, last_minute, need_of}
 use Rattle.fleet_model.proofs.NeedAtDepartures.{need_is_at_departures}
+use Rattle.fleet_model.proofs.PeriodMinutes.{departs_always}
 use Rattle.node_aggregate.specs.Laws.{NeedIsAtNodeEnds, WeighKept, excess_at_end}
-use Rattle.node_aggregate.specs.Nodes.{AreNodesAt, HappensAt, MayStart, node_end}
-use Rattle.node_aggregate.proofs.EventsAmong.{departs_at, happens_within, ready_at}
+use Rattle.node_aggregate.specs.Nodes.{AreNodesAt, HappensAt, MayStart, end_in, node_end}
+use Rattle.node_aggregate.proofs.EventsAmong.{departs_at, ready_at}
 use Rattle.node_aggregate.proofs.Links.{nothing}
+use Rattle.node_aggregate.proofs.Starts.{end_last, end_next, end_within}
 
 -- a place whose start is at most a minute, and the end of whose node is no earlier
 pub record Holds (starts : List ℕ) (minute place : ℕ) : Type 0 where
@@ -27,7 +28,7 @@ pub record Holds (starts : List ℕ) (minute place : ℕ) : Type 0 where
   pub started : get_or starts place 0 ≤ minute
   pub before : place + 1 < length starts → minute < get_or starts (place + 1) 0
 
--- the end of a node that another follows, and of the last one
+-- the end of a node that another follows, and of the last one, in a period of one day
 pub end_before : (starts : List ℕ) (k : ℕ) → k + 1 < length starts → node_end starts k ≡ get_or starts (k + 1) 0 - 1
 end_before starts k within = grind (arith, nat_tests)
 
@@ -59,24 +60,24 @@ if_same false b w h = omega arith
 
 module _ (t : Tables) (keeps : Domains) (w : Weights) (f s : ℕ) (starts : List ℕ) (known : f < fleets_in t) (weigh : WeighKept t keeps w) (at : AreNodesAt t keeps f s starts) where
   -- in the node of a departure no aircraft gets ready later
-  none_ready : (k d r : ℕ) → Holds starts d k → HappensAt at.events false d → d < r → r ≤ node_end starts k → HappensAt at.events true r → ⊥
+  none_ready : (k d r : ℕ) → Holds starts d k → HappensAt at.events false d → d < r → r ≤ end_in t starts k → HappensAt at.events true r → ⊥
   none_ready k d r holds departs later within ready =
       let may : MayStart at.events (get_or starts k 0) r = record { departure = d; since = holds.started; departs = departs; later = later; ready = ready } in
       elim (cases_lt (k + 1) (length starts)) [
-        | inl next ↦ omega (arith, (at.nodes.next k next).first r may, end_before starts k next, holds.before next)
+        | inl next ↦ omega (arith, (at.nodes.next k next).first r may, end_next t starts k next, holds.before next)
         | inr last ↦
             let place : k ≡ length starts - 1 = omega (arith, holds.within) in
             at.nodes.last r (subst (λ j. MayStart at.events (get_or starts j 0) r) place may)
       ]
 
   -- so by the end of the node no more have come
-  none_come : (k l : ℕ) → l < legs_in t → keeps (leg_on l f) ≡ true → (leg_of t l).from ≡ s → Holds starts (leg_of t l).dep k
-      → arrived t w f s (node_end starts k) ≤ arrived t w f s (leg_of t l).dep
+  none_come : (k l : ℕ) → l < legs_in t → keeps (leg_on l f) ≡ true → (leg_of t l).from ≡ s → Holds starts (departure t (leg_on l f)) k
+      → arrived t w f s (end_in t starts k) ≤ arrived t w f s (departure t (leg_on l f))
   unfolding arrived
-  none_come k l below kept from holds = sum_below-le (coming t w f s (node_end starts k)) (coming t w f s (leg_of t l).dep) (legs_in t) (record {
+  none_come k l below kept from holds = sum_below-le (coming t w f s (end_in t starts k)) (coming t w f s (departure t (leg_on l f))) (legs_in t) (record {
     each = λ m within.
         if_same _ _ (w (leg_on m f)) (λ come not_come. by_test (keeps (leg_on m f))
-        (λ keeps_it. absurd (none_ready k (leg_of t l).dep (ready_minute t (leg_on m f)) holds (departs_at t keeps f s at.events at.happen l below kept from)
+        (λ keeps_it. absurd (none_ready k (departure t (leg_on l f)) (ready_minute t (leg_on m f)) holds (departs_at t keeps f s at.events at.happen l below kept from)
         (grind (arith, nat_tests)) (grind (arith, nat_tests)) (ready_at t keeps f s at.events at.happen m within keeps_it (grind (arith, nat_tests)))))
         (λ not_kept. weigh.each (leg_on m f) (record { leg = within; choice = known }) not_kept));
   })
@@ -101,29 +102,22 @@ module _ (t : Tables) (keeps : Domains) (w : Weights) (f s : ℕ) (starts : List
   some_nodes : (ready : Bool) (m : ℕ) → HappensAt at.events ready m → 0 < length starts
   some_nodes ready m happens = at.nodes.some (λ none. nothing at.events none ready m happens)
 
-  -- no node ends after the period
-  pub ends_within : (k : ℕ) → node_end starts k < MINUTES_PER_PERIOD
-  ends_within k = elim (cases_lt (k + 1) (length starts)) [
-    | inl next ↦ omega (arith, end_before starts k next, happens_within t keeps f s at.events at.happen true (get_or starts (k + 1) 0) (at.nodes.next k next).may.ready)
-    | inr last ↦ omega (arith, end_at_last starts k last)
-  ]
-
-  ends_later : (d k : ℕ) → d < MINUTES_PER_PERIOD → Holds starts d k → d ≤ node_end starts k
+  ends_later : (d k : ℕ) → d < period_of t → Holds starts d k → d ≤ end_in t starts k
   ends_later d k within holds = elim (cases_lt (k + 1) (length starts)) [
-    | inl next ↦ omega (arith, end_before starts k next, holds.before next)
-    | inr last ↦ omega (arith, end_at_last starts k last)
+    | inl next ↦ omega (arith, end_next t starts k next, holds.before next)
+    | inr last ↦ omega (arith, end_last t starts k last)
   ]
 
-  no_more : (l : ℕ) → l < legs_in t → leaves l ≡ true → excess t w f s (leg_of t l).dep ≤ max_below (excess_at_end t w f s starts) (length starts)
+  no_more : (l : ℕ) → l < legs_in t → leaves l ≡ true → excess t w f s (departure t (leg_on l f)) ≤ max_below (excess_at_end t w f s starts) (length starts)
   unfolding excess
   no_more l below e =
       let kept = kept_where_it_leaves l below e in
       let from = from_where_it_leaves l e in
       let departs = departs_at t keeps f s at.events at.happen l below kept from in
-      let node = node_that_holds starts (leg_of t l).dep at.nodes.first (some_nodes false (leg_of t l).dep departs) in
-      let later = ends_later (leg_of t l).dep node.0 (t.in_range.legs_fit.each l no_leg below).dep node.1 in
+      let node = node_that_holds starts (departure t (leg_on l f)) at.nodes.first (some_nodes false (departure t (leg_on l f)) departs) in
+      let later = ends_later (departure t (leg_on l f)) node.0 (departs_always t (leg_on l f)) node.1 in
       let upper = max_below-upper (excess_at_end t w f s starts) (length starts) node.0 node.1.within in
-      omega (arith, none_come node.0 l below kept from node.1, departures_rise (leg_of t l).dep (node_end starts node.0) later, upper)
+      omega (arith, none_come node.0 l below kept from node.1, departures_rise (departure t (leg_on l f)) (end_in t starts node.0) later, upper)
 
   all_leave : PassesDepartures t w f s leaves
   unfolding leaves
@@ -136,8 +130,8 @@ module _ (t : Tables) (keeps : Domains) (w : Weights) (f s : ℕ) (starts : List
   unfolding need_of
   need_at_ends =
       let no_greater = max_below-least (excess_at_departure t w f s leaves) (max_below (excess_at_end t w f s starts) (length starts)) (legs_in t) (record { each = where_it_leaves }) in
-      let no_less = max_below-least (excess_at_end t w f s starts) (max_below (excess t w f s) MINUTES_PER_PERIOD) (length starts)
-      (record { each = λ k below. max_below-upper (excess t w f s) MINUTES_PER_PERIOD (node_end starts k) (ends_within k) }) in
+      let no_less = max_below-least (excess_at_end t w f s starts) (max_below (excess t w f s) (period_of t)) (length starts)
+      (record { each = λ k below. max_below-upper (excess t w f s) (period_of t) (end_in t starts k) (end_within t keeps f s starts at k) }) in
       omega (arith, no_greater, no_less, need_is_at_departures t w f s leaves all_leave)
 
 pub need_is_at_node_ends : NeedIsAtNodeEnds

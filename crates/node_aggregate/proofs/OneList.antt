@@ -1,10 +1,15 @@
--- Events have one list of nodes.
-use Rattle.std.proofs.Common.{◌≡◌, ◌≢◌, ℕ, zero, suc, ◌+◌, ◌-◌, ◌<◌, ◌⊎◌, List, [], ◌∷◌, length, get_or, refl, sym, ◌∙◌, ap, subst, inl, inr, arith}
+-- Events have one list of nodes, in whatever order they stand, and so has a fleet at a station.
+use Rattle.std.proofs.Common.{◌≡◌, ◌≢◌, ℕ, zero, suc, ◌+◌, ◌-◌, ◌<◌, ◌⊎◌, Bool, List, [], ◌∷◌, length, get_or, Contains, refl, sym, ◌∙◌, ap, subst, inl, inr, arith}
 use Rattle.std.proofs.lemmas.Bool.{cases_lt}
 use Rattle.std.proofs.lemmas.Grind.{same_number_lists}
+use Rattle.std.proofs.lemmas.List.Sorted.{Contains-permutation, IsPermutation-sym}
+use Rattle.fleet_model.specs.declared.tables.Tables.{Tables}
+use Rattle.fleet_model.specs.Kept.{Domains}
+use Rattle.fleet_model.specs.Schedule.{legs_in}
 use Rattle.timeline_net.specs.declared.timeline.Event.{Event}
+use Rattle.timeline_net.specs.Events.{events_below}
 use Rattle.node_aggregate.specs.Laws.{NodesAreOne}
-use Rattle.node_aggregate.specs.Nodes.{AreNodes, IsNextStart, MayStart}
+use Rattle.node_aggregate.specs.Nodes.{AreNodes, AreNodesAt, HappensAt, IsNextStart, MayStart}
 
 one_next : (events : List Event) (start m n : ℕ) → IsNextStart events start m → IsNextStart events start n → m ≡ n
 one_next events start m n one other = omega (arith, one.first n other.may, other.first m one.may)
@@ -43,3 +48,54 @@ nodes_are_one events one other p q =
       ]
     ] in
     same_number_lists one other even (λ k within. same_start events one other p q k within (omega arith))
+
+-- the same events happen in both lists
+record HaveSame (one other : List Event) : Type 0 where
+  into : (e : Event) → Contains one e → Contains other e
+  back : (e : Event) → Contains other e → Contains one e
+
+happens : (one other : List Event) → HaveSame one other → (ready : Bool) (m : ℕ) → HappensAt one ready m → HappensAt other ready m
+happens one other same ready m h = record { by = h.by; among = same.into _ h.among }
+
+turned : (one other : List Event) → HaveSame one other → HaveSame other one
+turned one other same = record { into = same.back; back = same.into }
+
+may : (one other : List Event) → HaveSame one other → (start m : ℕ) → MayStart one start m → MayStart other start m
+may one other same start m h = record {
+  departure = h.departure;
+  since = h.since;
+  departs = happens one other same _ _ h.departs;
+  later = h.later;
+  ready = happens one other same _ _ h.ready;
+}
+
+next : (one other : List Event) → HaveSame one other → (start m : ℕ) → IsNextStart one start m → IsNextStart other start m
+next one other same start m h = record {
+  may = may one other same start m h.may;
+  first = λ n other_may. h.first n (may other one (turned one other same) start n other_may);
+}
+
+none_there : (one other : List Event) → HaveSame one other → other ≡ [] → one ≡ []
+none_there [] other same e = refl
+none_there (x ∷ one) other same e =
+    let there = same.into x (0, omega arith, refl) in
+    let none : length other ≡ 0 = ap length e in
+    absurd (omega (arith, there.1))
+
+nodes_of_both : (one other : List Event) (starts : List ℕ) → HaveSame one other → AreNodes one starts → AreNodes other starts
+nodes_of_both one other starts same are = record {
+  none = λ e. are.none (none_there one other same e);
+  some = λ some. are.some (λ e. some (none_there other one (turned one other same) e));
+  first = are.first;
+  next = λ k within. next one other same _ _ (are.next k within);
+  last = λ m other_may. are.last m (may other one (turned one other same) _ m other_may);
+}
+
+pub one_list : (t : Tables) (keeps : Domains) (f s : ℕ) (a b : List ℕ) → AreNodesAt t keeps f s a → AreNodesAt t keeps f s b → a ≡ b
+one_list t keeps f s a b one other =
+    let all = events_below t keeps f s (legs_in t) in
+    let same : HaveSame other.events one.events = record {
+      into = λ e h. Contains-permutation _ _ _ one.happen.each_once (Contains-permutation _ _ _ (IsPermutation-sym all other.events other.happen.each_once) h);
+      back = λ e h. Contains-permutation _ _ _ other.happen.each_once (Contains-permutation _ _ _ (IsPermutation-sym all one.events one.happen.each_once) h);
+    } in
+    nodes_are_one one.events a b one.nodes (nodes_of_both other.events one.events b same other.nodes)

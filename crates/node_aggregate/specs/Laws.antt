@@ -8,7 +8,7 @@ use Rattle.fleet_model.specs.Kept.{Domains}
 use Rattle.fleet_model.specs.Schedule.{IsPair, fleets_in}
 use Rattle.fleet_model.specs.Use.{excess, need_of}
 use Rattle.timeline_net.specs.declared.timeline.Event.{Event}
-use Rattle.node_aggregate.specs.Nodes.{AreNodes, AreNodesAt, node_end}
+use Rattle.node_aggregate.specs.Nodes.{AreNodes, AreNodesAt, end_in}
 
 -- pairs that aren't kept weigh 0
 pub record WeighKept (t : Tables) (keeps : Domains) (w : Weights) : Type 0 where
@@ -16,7 +16,7 @@ pub record WeighKept (t : Tables) (keeps : Domains) (w : Weights) : Type 0 where
 
 -- by how much departures pass arrivals at the end of a node
 abbrev pub excess_at_end : Tables → Weights → ℕ → ℕ → List ℕ → ℕ → ℕ
-excess_at_end t w f s starts k = excess t w f s (node_end starts k)
+excess_at_end t w f s starts k = excess t w f s (end_in t starts k)
 
 -- need is the greatest excess at the ends of nodes, and 0 where there is no node
 abbrev pub NeedIsAtNodeEnds : Type 0

@@ -107,8 +107,7 @@ pub are_by_lines : (t : Tables) (keeps : Domains) (starts : Starts) (duals : Fra
 are_by_lines t keeps starts duals network = record {
   balance = λ line minute n e within.
       let at = of_node t starts line n e in
-      let nodes = network.each n.fleet n.station at.fleet at.station in
-      let rise : Rise (starts n.fleet n.station) = nodes_rise nodes.events (starts n.fleet n.station) nodes.nodes in
+      let rise : Rise (starts n.fleet n.station) = nodes_rise t keeps n.fleet n.station (starts n.fleet n.station) (network.each n.fleet n.station at.fleet at.station) in
       through_node t starts (number_of duals) n.fleet n.station minute at.fleet at.station n.place rise (at_place (starts n.fleet n.station) minute n.place rise at.place within)
       ∙ sym (value_there t duals line (before t starts n.fleet n.station + n.place) at.is);
   nowhere = λ f s minute known within none. nowhere t starts (number_of duals) f s minute known within (no_length (starts f s) none);

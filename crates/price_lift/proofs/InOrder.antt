@@ -1,5 +1,5 @@
 -- Prices and weights are in written order.
-use Rattle.std.proofs.Common.{◌≡◌, ℕ, zero, suc, ◌+◌, ◌<◌, ◌≤◌, true, List, length, get_or, All, None, ℤ, pos, neg_ℤ, sym, subst, arith}
+use Rattle.std.proofs.Common.{◌≡◌, ℕ, ◌+◌, ◌<◌, ◌≤◌, List, length, get_or, All, None, ℤ, pos, neg_ℤ, sym, subst, arith}
 use Rattle.std.proofs.lemmas.Int.{ints}
 use Rattle.sums.proofs.Places.{get_or-list_below, length-list_below}
 use Rattle.frac_row.specs.Outgrown.{IsWithin}
@@ -12,7 +12,7 @@ use Rattle.fleet_model.specs.Kept.{Domains, pairs_kept}
 use Rattle.fleet_model.specs.Schedule.{fleets_in}
 use Rattle.fleet_model.specs.Use.{last_minute}
 use Rattle.node_aggregate.specs.Nodes.{AreNodesAt}
-use Rattle.node_aggregate.proofs.EventsAmong.{happens_within}
+use Rattle.node_aggregate.proofs.Starts.{start_within}
 use Rattle.dual_lift.specs.Parts.{AreParts}
 use Rattle.lp_rows.specs.Layout.{Starts, all_kept, all_nodes, concat_below}
 use Rattle.dual_bound.specs.Prices.{max_scale}
@@ -34,12 +34,7 @@ small_figure n small = figure (pos n) (omega (arith, ints))
 
 -- ---- prices
 pub early : (t : Tables) (keeps : Domains) (f s : ℕ) (starts : List ℕ) → AreNodesAt t keeps f s starts → (p : ℕ) → p < length starts → get_or starts p 0 ≤ last_minute
-early t keeps f s starts nodes zero below = omega (arith, nodes.nodes.first)
-early t keeps f s starts nodes (suc p) below =
-    let next : p + 1 ≡ suc p = omega arith in
-    let may = (nodes.nodes.next p (omega arith)).may in
-    let within = happens_within t keeps f s nodes.events nodes.happen true _ may.ready in
-    subst (λ k. get_or starts k 0 ≤ last_minute) next (omega (arith, within))
+early t keeps f s starts nodes p below = omega (arith, start_within t keeps f s starts nodes p below)
 
 pub prices_in_order : (t : Tables) (keeps : Domains) (duals : FracRow) (prices : Prices) → IsRow duals → ArePricesBy t keeps duals prices → ArePricesInOrder t prices
 prices_in_order t keeps duals prices row by = subst (ArePricesInOrder t) (sym by.is) in_order
@@ -61,7 +56,7 @@ prices_in_order t keeps duals prices row by = subst (ArePricesInOrder t) (sym by
           subst IsFigure (sym (get_or-list_below (λ f. neg_ℤ (number_of (reduced duals) (length (all_nodes t by.starts) + f))) (fleets_in t) k d (omega (arith, below, length-list_below (λ f. neg_ℤ (number_of (reduced duals) (length (all_nodes t by.starts) + f))) (fleets_in t)))))
           (figure (neg_ℤ (number_of (reduced duals) (length (all_nodes t by.starts) + k))) (opposite_within (number_of (reduced duals) (length (all_nodes t by.starts) + k)) (is_row.within (length (all_nodes t by.starts) + k))));
       steps = steps_in_order t by.starts (number_of (reduced duals))
-          (λ f s known within some. let nodes = by.network.each f s known within in nodes_rise nodes.events (by.starts f s) nodes.nodes)
+          (λ f s known within some. nodes_rise t keeps f s (by.starts f s) (by.network.each f s known within))
           (λ f s p known within below. early t keeps f s (by.starts f s) (by.network.each f s known within) p below)
           (λ k. figure (number_of (reduced duals) k) (is_row.within k));
     }

@@ -9,7 +9,7 @@ use Rattle.fleet_model.specs.Times.{departure, ready_minute}
 use Rattle.fleet_model.specs.declared.parts.Pair.{Pair}
 use Rattle.fleet_model.specs.declared.tables.Tables.{Tables}
 use Rattle.node_aggregate.specs.Nodes.{node_end}
-use Rattle.node_aggregate.proofs.Links.{nodes_rise}
+use Rattle.node_aggregate.proofs.Starts.{starts_rise}
 use Rattle.island_cut.specs.IslandLaws.{IsIdle}
 use Rattle.island_cut.specs.Islands.{has_islands, is_idle}
 use Rattle.island_arcs.specs.Waits.{is_among, is_quiet}
@@ -39,7 +39,7 @@ module _ (t : Tables) (keeps : Domains) (starts : Starts) (network : IsNetwork t
   not_round f s k m known within below several begun last quiet =
       let at = network.each f s known within in
       let event = first_departs t keeps f s (starts f s) at several in
-      let rise = nodes_rise at.events (starts f s) at.nodes (omega arith) in
+      let rise = starts_rise t keeps f s (starts f s) at (omega arith) in
       quiet.departs event.0 event.1 event.2 event.3 (omega arith) (elim (cases_lt 1 k) [
         | inl more ↦ omega (arith, event.4, begun, rise.rise 1 k more below)
         | inr one ↦ let same : k ≡ 1 = omega arith in omega (arith, event.4, subst (λ j. get_or (starts f s) j 0 ≤ m) same begun)

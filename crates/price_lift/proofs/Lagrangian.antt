@@ -1,6 +1,6 @@
 -- Prices by the nodes whose lines weigh no column above its cost rise over no arc that stays, and are worth what the right sides
 -- come to.
-use Rattle.std.proofs.Common.{◌≡◌, ◌≢◌, ℕ, zero, suc, ◌+◌, ◌<◌, ◌≤◌, Bool, true, false, ◌==◌, length, get_or, None, is_none, ℤ, pos, neg_ℤ, ◌+ℤ◌, ◌-ℤ◌, ◌*ℤ◌, ◌<ℤ◌, ◌≤ℤ◌, unsigned_abs, refl, sym, ◌∙◌, ap, subst, inl, inr, arith, pos_of_ne-zero}
+use Rattle.std.proofs.Common.{◌≡◌, ◌≢◌, ℕ, ◌+◌, ◌<◌, ◌≤◌, Bool, true, false, ◌==◌, length, get_or, None, is_none, ℤ, pos, neg_ℤ, ◌+ℤ◌, ◌-ℤ◌, ◌*ℤ◌, ◌<ℤ◌, ◌≤ℤ◌, unsigned_abs, refl, sym, ◌∙◌, ap, subst, inl, inr, arith, pos_of_ne-zero}
 use Rattle.std.proofs.lemmas.Bool.{cases_lt, eqb-true, ne_eqb}
 use Rattle.std.proofs.lemmas.Bool.Decides.{nat_tests}
 use Rattle.std.proofs.lemmas.Int.{ints}
@@ -21,6 +21,7 @@ use Rattle.fleet_model.specs.Use.{last_minute}
 use Rattle.node_aggregate.specs.Nodes.{HappensAt, node_end}
 use Rattle.node_aggregate.proofs.EventsAmong.{departs_at, happens_within, ready_at}
 use Rattle.node_aggregate.proofs.NodeEnds.{end_at_last, end_before}
+use Rattle.node_aggregate.proofs.Starts.{start_within}
 use Rattle.lp_rows.specs.declared.kinds.Column.{Column}
 use Rattle.lp_rows.specs.declared.kinds.Node.{Node}
 use Rattle.lp_rows.specs.declared.kinds.Column.TheVariants.{Flight, Ground, Slack}
@@ -60,7 +61,7 @@ staying t keeps starts n none = ap is_none none
 module _ (t : Tables) (keeps : Domains) (starts : Starts) (network : IsNetwork t keeps starts) (prices : Prices) (value : ℕ → ℤ) (by : AreByLines t starts value prices)
     (h : ℤ) (above : pos 0 <ℤ h) (y : ℕ → ℤ) (scaled : (j : ℕ) → j < node_count t starts + fleets_in t → y (legs_in t + j) ≡ h *ℤ value (legs_in t + j)) where
   rise : (f s : ℕ) → f < fleets_in t → s < stations_in t → Rise (starts f s)
-  rise f s known within = let at = network.each f s known within in nodes_rise at.events (starts f s) at.nodes
+  rise f s known within = nodes_rise t keeps f s (starts f s) (network.each f s known within)
 
   rent_is : (f : ℕ) → f < fleets_in t → rent_of prices f ≡ neg_ℤ (value (legs_in t + (node_count t starts + f)))
   rent_is f known = by.count (legs_in t + (node_count t starts + f)) f (count_there t starts f known)
@@ -192,12 +193,7 @@ module _ (t : Tables) (keeps : Domains) (starts : Starts) (network : IsNetwork t
     starts_there f s j known within below = record { within = below; begun = omega arith; last = λ i past inside. later (starts f s) (rise f s known within) j i past inside }
 
     start_in_period : (f s j : ℕ) → f < fleets_in t → s < stations_in t → j < length (starts f s) → get_or (starts f s) j 0 ≤ last_minute
-    start_in_period f s zero known within below = omega (arith, (rise f s known within).first)
-    start_in_period f s (suc j) known within below =
-        let at = network.each f s known within in
-        let next : j + 1 ≡ suc j = omega arith in
-        let may = (at.nodes.next j (omega arith)).may in
-        subst (λ i. get_or (starts f s) i 0 ≤ last_minute) next (omega (arith, happens_within t keeps f s at.events at.happen true (get_or (starts f s) (j + 1) 0) may.ready))
+    start_in_period f s j known within below = omega (arith, start_within t keeps f s (starts f s) (network.each f s known within) j below)
 
     price_at_start : (f s j : ℕ) → f < fleets_in t → s < stations_in t → j < length (starts f s) → price_of prices f s (get_or (starts f s) j 0) ≡ value (legs_in t + (before t starts f s + j))
     price_at_start f s j known within below = price_is f s (get_or (starts f s) j 0) j known within (start_in_period f s j known within below) (starts_there f s j known within below)

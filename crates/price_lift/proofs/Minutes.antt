@@ -2,10 +2,12 @@
 use Rattle.std.proofs.Common.{◌≡◌, ℕ, zero, suc, ◌+◌, ◌-◌, ◌<◌, ◌≤◌, true, ◌&&◌, nat_le, List, length, get_or, sym, subst, inl, inr, arith}
 use Rattle.std.proofs.lemmas.Bool.{cases_lt, cases_order}
 use Rattle.std.proofs.lemmas.Bool.Decides.{nat_tests}
+use Rattle.fleet_model.specs.declared.tables.Tables.{Tables}
+use Rattle.fleet_model.specs.Kept.{Domains}
 use Rattle.fleet_model.specs.Use.{last_minute}
-use Rattle.timeline_net.specs.declared.timeline.Event.{Event}
-use Rattle.node_aggregate.specs.Nodes.{AreNodes, node_end}
+use Rattle.node_aggregate.specs.Nodes.{AreNodesAt, node_end}
 use Rattle.node_aggregate.proofs.NodeEnds.{end_at_last, end_before}
+use Rattle.node_aggregate.proofs.Starts.{next_later}
 use Rattle.lp_rows.specs.Entries.{is_in}
 
 -- each start is later than those before, and the first is 0
@@ -13,11 +15,8 @@ pub record Rise (starts : List ℕ) : Type 0 where
   pub first : get_or starts 0 0 ≡ 0
   pub next : (k : ℕ) → k + 1 < length starts → get_or starts k 0 < get_or starts (k + 1) 0
 
-pub nodes_rise : (events : List Event) (starts : List ℕ) → AreNodes events starts → Rise starts
-nodes_rise events starts are = record {
-  first = are.first;
-  next = λ k within. let may = (are.next k within).may in omega (arith, may.since, may.later);
-}
+pub nodes_rise : (t : Tables) (keeps : Domains) (f s : ℕ) (starts : List ℕ) → AreNodesAt t keeps f s starts → Rise starts
+nodes_rise t keeps f s starts at = record { first = at.nodes.first; next = next_later t keeps f s starts at }
 
 pub later : (starts : List ℕ) → Rise starts → (i j : ℕ) → i < j → j < length starts → get_or starts i 0 < get_or starts j 0
 later starts rise i zero order within = absurd (omega arith)

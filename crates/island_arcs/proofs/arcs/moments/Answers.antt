@@ -1,15 +1,15 @@
-use Rattle.std.proofs.Common.{◌∙◌, refl, subst, sym}
+use Rattle.std.proofs.Common.{◌∙◌, subst, sym}
 use Rattle.sums.proofs.Places.{list_below-push}
 use Rattle.fleet_model.specs.Kept.{kept_by}
 use Rattle.timeline_net.specs.Events.{AreEvents}
-use Rattle.node_aggregate.proofs.NodeEnds.{ends_within}
+use Rattle.node_aggregate.proofs.Starts.{end_within}
 use Rattle.island_arcs.specs.Moments.{moment_of}
 use Rattle.island_arcs.proofs.MomentsFound.{idles_rise_in}
 use Rattle.island_arcs.proofs.arcs.moments.Goals as goal
 
 pub moment-requires-clause-end : goal.moment-requires-clause-end
 moment-requires-clause-end c =
-    ends_within c.args.tables.now (kept_by c.args.kept.now) (λ p. 0) c.args.fleet c.args.station c.args.starts.now c.requires.fleet (record { each = λ p pair off. refl }) c.requires.nodes c.loop-place.place
+    end_within c.args.tables.now (kept_by c.args.kept.now) c.args.fleet c.args.station c.args.starts.now c.requires.nodes c.loop-place.place
 
 pub moment-requires-clause-rise : goal.moment-requires-clause-rise
 moment-requires-clause-rise c = idles_rise_in c.args.tables.now (kept_by c.args.kept.now) c.args.idle.now c.requires.idle
