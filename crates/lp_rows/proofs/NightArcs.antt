@@ -63,7 +63,6 @@ module _ (t : Tables) (keeps : Domains) (f s d : ℕ) (starts : Starts) (at : Ar
     pub ends : end_in t (starts f s) place ≡ day_end d
 
   pub night_node : (k : ℕ) × IsNightNode k
-  unfolding days_in
   night_node =
       let one : d ≡ 1 = omega (arith, first, within_days t s d within) in (
         length (starts f s) - 1,
