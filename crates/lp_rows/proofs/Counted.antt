@@ -9,7 +9,6 @@ use Rattle.fleet_model.specs.declared.tables.Tables.{Tables}
 use Rattle.fleet_model.specs.Kept.{Domains, kept_on, pairs_kept}
 use Rattle.fleet_model.specs.Schedule.{choices_in, fleets_in, leg_on, legs_in, stations_in}
 use Rattle.lp_rows.specs.declared.kinds.Column.TheVariants.{Flight, Ground, Room, Slack}
-use Rattle.lp_rows.specs.declared.kinds.Line.TheVariants.{Cover, Balance, Count, Parking}
 use Rattle.sums.specs.Places.{list_below}
 use Rattle.lp_rows.specs.Layout.{Starts, all_arcs, all_kept, all_nodes, all_parks, arc_stays, concat_below, node_at, nodes_at, nodes_of, pair_of, pairs_of, park_at, parking_days, parks_at}
 use Rattle.lp_rows.specs.Points.{RowsAreCounted, arcs_at, arcs_in, node_count, park_count}

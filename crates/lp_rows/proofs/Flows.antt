@@ -10,7 +10,7 @@ use Rattle.fleet_model.specs.declared.tables.Tables.{Tables}
 use Rattle.fleet_model.specs.Counts.{Weights, arrived, departed}
 use Rattle.fleet_model.specs.Kept.{Domains}
 use Rattle.fleet_model.specs.Mixed.{IsMixedPlan, weight_on}
-use Rattle.fleet_model.specs.Schedule.{day_end, days_in, departures_in, fleet_of, fleets_in, last_of, legs_in, parking_of, stations_in}
+use Rattle.fleet_model.specs.Schedule.{day_end, days_in, departures_in, fleet_of, fleets_in, last_of, legs_in, stations_in}
 use Rattle.fleet_model.specs.Legal.{HasRoom}
 use Rattle.fleet_model.specs.Use.{excess, laps_flown, need_of, parked, stand_of, used_of}
 use Rattle.node_aggregate.specs.Laws.{WeighKept, excess_at_end}
@@ -24,7 +24,7 @@ use Rattle.lp_rows.specs.declared.kinds.Column.TheVariants.{Flight, Ground, Room
 use Rattle.lp_rows.specs.Entries.{IsNode, IsPark, limit_of}
 use Rattle.lp_rows.specs.Layout.{IsNetwork, Starts, node_at, parking_days}
 use Rattle.lp_rows.proofs.LineSums.{coming_to, last_arc, leaving_from, night_arc}
-use Rattle.lp_rows.proofs.NightArcs.{night_arc_is, night_node, no_night_arc}
+use Rattle.lp_rows.proofs.NightArcs.{night_arc_is, night_node}
 use Rattle.lp_rows.proofs.NodeCounts.{come_first, come_next, left_first, left_next, no_need, none_move, none_stand}
 use Rattle.lp_rows.proofs.Picks.{place_before}
 

@@ -1,5 +1,5 @@
 -- A line has no number in the columns of a fleet that it doesn't meet.
-use Rattle.std.proofs.Common.{◌≡◌, ℕ, ◌+◌, ◌<◌, false, ℤ, pos, List, length, get_or, map, All, refl, tt, ◌∙◌, ap, subst, arith}
+use Rattle.std.proofs.Common.{◌≡◌, ℕ, ◌+◌, ◌<◌, false, ℤ, pos, List, length, get_or, map, All, refl, ◌∙◌, ap, subst, arith}
 use Rattle.std.proofs.lemmas.List.{get_or-map}
 use Rattle.fleet_model.specs.declared.tables.Tables.{Tables}
 use Rattle.frac_row.specs.declared.row.FracRow.{FracRow}

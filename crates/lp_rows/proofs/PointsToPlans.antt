@@ -10,7 +10,7 @@ use Rattle.fleet_model.specs.declared.tables.Tables.{Tables}
 use Rattle.fleet_model.specs.Kept.{Domains}
 use Rattle.fleet_model.specs.Legal.{cost_of}
 use Rattle.fleet_model.specs.Mixed.{mixed_cost, weight_on, weighted_cost}
-use Rattle.fleet_model.specs.Schedule.{departures_in, fleet_of, fleets_in, leg_on, legs_in, stations_in}
+use Rattle.fleet_model.specs.Schedule.{departures_in, fleet_of, fleets_in, stations_in}
 use Rattle.fleet_model.specs.Use.{laps_flown}
 use Rattle.node_aggregate.specs.Laws.{WeighKept}
 use Rattle.lp_rows.specs.declared.kinds.Column.{Column}

@@ -69,6 +69,10 @@ arcs_in t keeps starts = sum_below (λ f. sum_below (arcs_at t keeps starts f) (
 abbrev pub park_count : Tables → ℕ
 park_count t = sum_below (parking_days t) (stations_in t)
 
+-- how many lines have a price: the balance lines, the count lines and the parking lines
+abbrev pub priced_count : Tables → Starts → ℕ
+priced_count t starts = node_count t starts + (fleets_in t + park_count t)
+
 -- as many columns and lines as there are of each kind
 pub record AreCounted (t : Tables) (keeps : Domains) (starts : Starts) (rows : Rows) : Type 0 where
   pub columns : rows.columns ≡ pairs_kept t keeps + arcs_in t keeps starts + fleets_in t + park_count t

@@ -11,7 +11,7 @@ use Rattle.row_store.specs.DualValues.{AreDualValues, WeighMore}
 use Rattle.row_store.specs.declared.problem.Rows.{Rows}
 use Rattle.lp_rows.specs.Layout.{IsNetwork, Starts, starts_in}
 use Rattle.lp_rows.specs.Outline.{IsOutline}
-use Rattle.lp_rows.specs.Points.{AreLinesOf, node_count}
+use Rattle.lp_rows.specs.Points.{AreLinesOf, node_count, priced_count}
 use Rattle.lp_rows.specs.declared.outline.Outline.{Outline}
 use Rattle.dual_bound.specs.OfTables.{IsStepOf}
 use Rattle.dual_bound.specs.Worth.{worth_of}
@@ -35,8 +35,8 @@ use Rattle.price_lift.proofs.PaidLifts.{ArePaidWell, ArePricesLow, low_by_other,
 -- a row has dual values of the lines with a price
 pub record IsDualRow (t : Tables) (rows : Rows) (starts : Starts) (counted : ℕ) (y : ℕ → ℤ) (duals : FracRow) : Type 0 where
   pub values : AreDualValues rows counted duals.den y
-  pub wide : width_of duals ≡ node_count t starts + fleets_in t
-  pub numbers : (k : ℕ) → k < node_count t starts + fleets_in t → number_of duals k ≡ y (legs_in t + k)
+  pub wide : width_of duals ≡ priced_count t starts
+  pub numbers : (k : ℕ) → k < priced_count t starts → number_of duals k ≡ y (legs_in t + k)
 
 module _ (t : Tables) (keeps : Domains) (rows : Rows) (lines : AreLinesOf t keeps rows) (counted : ℕ) (y : ℕ → ℤ) (duals : FracRow) (is : IsDualRow t rows lines.starts counted y duals)
     (fits : prices_excess (legs_in t) duals ≡ None) where

@@ -14,6 +14,7 @@ pub mod LiftResults
 pub mod Lifts
 pub mod Minutes
 pub mod Networks
+pub mod NoParking
 pub mod OfTables
 pub mod Orders
 pub mod PointEnds
