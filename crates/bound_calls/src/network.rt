@@ -43,7 +43,7 @@ fn starts_in(
     station: u32,
 ) -> Result<Option<Vec<u16>>, LoadError> {
     match events_at(alloc, tables, fleet, station)? {
-        Some(happening) => Ok(Some(nodes(alloc, &happening)?)),
+        Some(happening) => Ok(Some(nodes(alloc, &happening, 1)?)),
         None => Ok(None),
     }
 }
@@ -61,7 +61,7 @@ fn places_in(alloc: Global, tables: &Tables, minutes: &[u16]) -> Result<Vec<u32>
         return Ok(places);
     }
     let happening = events(alloc, tables, &Kept::all(tables), 0, 0)?;
-    let starts = nodes(alloc, &happening)?;
+    let starts = nodes(alloc, &happening, 1)?;
     if starts.is_empty() {
         return Ok(places);
     }

@@ -1,5 +1,6 @@
 pub mod Choices
 pub mod CostLookup
+pub mod FewChoices
 pub mod KeptLaws
 pub mod KeptRows
 pub mod Minutes

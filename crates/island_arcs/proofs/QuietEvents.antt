@@ -50,9 +50,9 @@ module _ (t : Tables) (keeps : Domains) (f s : ℕ) (events : List Event) (are :
   none_below : is_quiet t keeps f s low high ≡ true → (n : ℕ) → n < suc (legs_in t) → All Elsewhere (events_below t keeps f s n)
   none_below quiet zero few = All-nil Elsewhere
   none_below quiet (suc n) few =
-      let departs = all_where (keeps (leg_on n f) && ((leg_of t n).from == s)) (departure_event t (leg_on n f)) Elsewhere
+      let departs = all_where (keeps (leg_on n f) && ((leg_of t n).from == s)) (departure_event t f n) Elsewhere
       (λ e. let parts = parts_true (keeps (leg_on n f)) _ e in departs_elsewhere t keeps f s low high quiet n (omega (arith, few)) parts.0 (eqb-true (leg_of t n).from s parts.1)) in
-      let back = all_where (keeps (leg_on n f) && ((leg_of t n).to == s)) (ready_event t (leg_on n f)) Elsewhere
+      let back = all_where (keeps (leg_on n f) && ((leg_of t n).to == s)) (ready_event t f n) Elsewhere
       (λ e. let parts = parts_true (keeps (leg_on n f)) _ e in ready_elsewhere t keeps f s low high quiet n (omega (arith, few)) parts.0 (eqb-true (leg_of t n).to s parts.1)) in
       All-append Elsewhere _ _ (All-append Elsewhere _ _ (none_below quiet n (omega (arith, few))) departs) back
 

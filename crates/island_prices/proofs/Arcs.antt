@@ -20,7 +20,7 @@ use Rattle.fleet_model.specs.declared.limits.TheConstants.{MINUTES_PER_PERIOD}
 use Rattle.fleet_model.specs.declared.tables.Tables.{Tables}
 use Rattle.timeline_net.specs.Events.{departure_event, departures_of, events_below, readies_of, ready_event}
 use Rattle.timeline_net.specs.declared.timeline.Event.{Event}
-use Rattle.node_aggregate.specs.Nodes.{AreNodesAt, RiseFromZero, node_end}
+use Rattle.node_aggregate.specs.Nodes.{AreNodesAt, MayFollow, MayStart, RiseFromZero, days_at, node_end}
 use Rattle.node_aggregate.proofs.NodeEnds.{Holds, end_at_last, end_before, node_that_holds}
 use Rattle.node_aggregate.proofs.Starts.{start_within, starts_rise}
 use Rattle.dual_bound.specs.Prices.{AreWithin, max_price, price_of, rent_of}
@@ -43,33 +43,37 @@ module _ (t : Tables) (keeps : Domains) (f s : ℕ) where
   abbrev OfPair : Event → Type 0
   OfPair e = e.ready ≡ false → IsKeptDeparture t keeps f s e
 
-  departs_so : (l : ℕ) → l < legs_in t → All OfPair (departures_of t keeps s (leg_on l f))
+  departs_so : (l : ℕ) → l < legs_in t → All OfPair (departures_of t keeps f s l)
   departs_so l below = by_kept (keeps (leg_on l f) && ((leg_of t l).from == s)) refl
     where
-      by_kept : (b : Bool) → (keeps (leg_on l f) && ((leg_of t l).from == s)) ≡ b → All OfPair (if b then departure_event t (leg_on l f) ∷ [] else [])
+      by_kept : (b : Bool) → (keeps (leg_on l f) && ((leg_of t l).from == s)) ≡ b → All OfPair (if b then departure_event t f l ∷ [] else [])
       by_kept true e =
           let both = parts_true (keeps (leg_on l f)) ((leg_of t l).from == s) e in
-          All-cons OfPair (departure_event t (leg_on l f)) [] (λ not_ready. record { leg = l; within = below; kept = both.0; from = eqb-true (leg_of t l).from s both.1; minute = refl }) (All-nil OfPair)
+          All-cons OfPair (departure_event t f l) [] (λ not_ready. record { leg = l; within = below; kept = both.0; from = eqb-true (leg_of t l).from s both.1; minute = refl }) (All-nil OfPair)
       by_kept false e = All-nil OfPair
 
-  readies_so : (l : ℕ) → All OfPair (readies_of t keeps s (leg_on l f))
+  readies_so : (l : ℕ) → All OfPair (readies_of t keeps f s l)
   readies_so l = by_kept (keeps (leg_on l f) && ((leg_of t l).to == s))
     where
-      by_kept : (b : Bool) → All OfPair (if b then ready_event t (leg_on l f) ∷ [] else [])
-      by_kept true = All-cons OfPair (ready_event t (leg_on l f)) [] (λ not_ready. absurd (true≢false not_ready)) (All-nil OfPair)
+      by_kept : (b : Bool) → All OfPair (if b then ready_event t f l ∷ [] else [])
+      by_kept true = All-cons OfPair (ready_event t f l) [] (λ not_ready. absurd (true≢false not_ready)) (All-nil OfPair)
       by_kept false = All-nil OfPair
 
   all_so : (n : ℕ) → n ≤ legs_in t → All OfPair (events_below t keeps f s n)
   all_so zero within = All-nil OfPair
   all_so (suc n) within = All-append OfPair _ _ (All-append OfPair _ _ (all_so n (omega arith)) (departs_so n (omega arith))) (readies_so n)
 
-  -- .. so of several nodes the first has a departure
-  pub first_departs : (starts : List ℕ) → AreNodesAt t keeps f s starts → 1 < length starts → (l : ℕ) × (l < legs_in t) × (keeps (leg_on l f) ≡ true) × ((leg_of t l).from ≡ s) × (departure t (leg_on l f) < get_or starts 1 0)
-  first_departs starts nodes several =
-      let may = (nodes.nodes.next 0 (omega arith)).may in
+  -- .. so of several nodes the first has a departure, where one day alone cuts them
+  pub first_departs : (starts : List ℕ) → AreNodesAt t keeps f s starts → days_at t s ≡ 1 → 1 < length starts → (l : ℕ) × (l < legs_in t) × (keeps (leg_on l f) ≡ true) × ((leg_of t l).from ≡ s) × (departure t (leg_on l f) < get_or starts 1 0)
+  first_departs starts nodes one several =
+      let may = ready_start (get_or starts 0 0) (get_or starts 1 0) (nodes.nodes.next 0 (omega arith)).is in
       let all = All-permutation OfPair _ _ nodes.happen.each_once (all_so (legs_in t) (omega arith)) in
       let is = All-contains OfPair nodes.events (record { minute = may.departure; ready = false; departure = may.departs.by }) all may.departs.among refl in
       (is.leg, is.within, is.kept, is.from, omega (arith, may.later, is.minute))
+    where
+      ready_start : (start minute : ℕ) → MayFollow nodes.events (days_at t s) start minute → MayStart nodes.events start minute
+      ready_start start minute (inl may) = may
+      ready_start start minute (inr day) = absurd (omega (arith, day.at, day.later, day.within, one))
 
 -- ---- by how much prices rise over an arc: to a next node, and from the last one
 pub rise_inside : (prices : Prices) (xs : List ℕ) (f s k : ℕ) → k + 1 < length xs → rise_over prices xs f s k ≡ price_of prices f s (get_or xs (k + 1) 0) -ℤ price_of prices f s (get_or xs k 0)
@@ -187,7 +191,7 @@ module _ (t : Tables) (keeps : Domains) (prices : Prices) (starts : NodeStarts) 
   not_both f s m p q first second begun early =
       let in_node = moments.in_node f s p m first.known first.within first.below first.several_nodes first.went begun in
       let round = moments.round f s q m second.known second.within second.below second.several_nodes second.went early in
-      let event = first_departs t keeps f s (starts f s) (nodes.each f s first.known first.within) first.several_nodes in
+      let event = first_departs t keeps f s (starts f s) (nodes.each f s first.known first.within) (moments.one_day f s p m first.known first.within first.below first.went) first.several_nodes in
       let minute = departure t (leg_on event.0 f) in
       elim (cases_lt m minute) [
         | inl later ↦ elim (cases_lt 0 p) [

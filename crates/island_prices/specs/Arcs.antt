@@ -5,7 +5,7 @@ use Rattle.fleet_model.specs.Schedule.{fleets_in, leg_of, leg_on, legs_in, stati
 use Rattle.fleet_model.specs.Times.{departure, ready_minute}
 use Rattle.fleet_model.specs.declared.limits.TheConstants.{MINUTES_PER_PERIOD}
 use Rattle.fleet_model.specs.declared.tables.Tables.{Tables}
-use Rattle.node_aggregate.specs.Nodes.{AreNodesAt, node_end}
+use Rattle.node_aggregate.specs.Nodes.{AreNodesAt, days_at, node_end}
 use Rattle.dual_bound.specs.Prices.{price_of, rent_of}
 use Rattle.dual_bound.specs.declared.prices.Prices.{Prices}
 use Rattle.island_prices.specs.Rises.{rise_in}
@@ -66,9 +66,10 @@ pub record IsQuiet (t : Tables) (keeps : Domains) (f s low high : ℕ) : Type 0 
   pub departs : (l : ℕ) → l < legs_in t → keeps (leg_on l f) ≡ true → (leg_of t l).from ≡ s → low ≤ departure t (leg_on l f) → departure t (leg_on l f) ≤ high → ⊥
   pub lands : (l : ℕ) → l < legs_in t → keeps (leg_on l f) ≡ true → (leg_of t l).to ≡ s → low ≤ ready_minute t (leg_on l f) → ready_minute t (leg_on l f) ≤ high → ⊥
 
--- moments of arcs between several nodes: each lies in its node with no event behind it there, or the node is the last and
--- it lies behind the day start with no event up to it
+-- moments of arcs between several nodes, which one day alone cuts: each lies in its node with no event behind it there, or the
+-- node is the last and it lies behind the day start with no event up to it
 pub record AreMoments (t : Tables) (keeps : Domains) (starts : NodeStarts) (moment : ArcMoments) : Type 0 where
+  pub one_day : (f s k m : ℕ) → f < fleets_in t → s < stations_in t → k < length (starts f s) → moment f s k ≡ Some m → days_at t s ≡ 1
   pub in_period : (f s k m : ℕ) → f < fleets_in t → s < stations_in t → k < length (starts f s) → moment f s k ≡ Some m → m < MINUTES_PER_PERIOD
   pub in_node : (f s k m : ℕ) → f < fleets_in t → s < stations_in t → k < length (starts f s) → 1 < length (starts f s) → moment f s k ≡ Some m → slice_index (starts f s) k ≤ m
       → (m ≤ node_end (starts f s) k) × IsQuiet t keeps f s (m + 1) (node_end (starts f s) k)

@@ -6,7 +6,7 @@ ghost use Rattle.lp_rows.specs.Layout.{AreByStation, HaveNodes, IsNetwork, start
 
 use entries::{Entries, NoMemory};
 use fleet_model::{Kept, Tables};
-use node_aggregate::nodes;
+use node_aggregate::{days_at, nodes};
 use std::alloc::Global;
 use std::marker::Model;
 use timeline_net::events;
@@ -78,9 +78,11 @@ fn station_nodes(
     fleet: u32,
     station: u32,
 ) -> Result<Entries<u16>, NoMemory>
-    requires { fleet < fleets_in tables.now }
+    requires fleet { fleet < fleets_in tables.now }
+    requires station { station < stations_in tables.now }
     ensures { IfOk result (AreNodesAt tables.now (kept_by kept.now) fleet station) }
 {
     let happening = events(alloc, tables, kept, fleet, station)?;
-    Ok(Entries::from_vec(nodes(alloc, &happening)?))
+    let days = days_at(tables, station);
+    Ok(Entries::from_vec(nodes(alloc, &happening, days)?))
 }

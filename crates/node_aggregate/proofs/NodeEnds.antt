@@ -11,9 +11,10 @@ use Rattle.fleet_model.specs.declared.tables.Tables.{Tables}
 use Rattle.fleet_model.specs.Counts.{Weights, arrived, coming, departed, leaving}
 use Rattle.fleet_model.specs.Kept.{Domains}
 use Rattle.fleet_model.specs.Laws.{PassesDepartures, excess_at_departure}
-use Rattle.fleet_model.specs.Schedule.{fleets_in, leg_of, leg_on, legs_in, period_of}
+use Rattle.fleet_model.specs.Schedule.{departures_in, fleets_in, leg_at, leg_of, pair_on, period_of}
 use Rattle.fleet_model.specs.Times.{departure, ready_minute}
 use Rattle.fleet_model.specs.Use.{excess, last_minute, need_of}
+use Rattle.fleet_model.proofs.Choices.{on_departure}
 use Rattle.fleet_model.proofs.NeedAtDepartures.{need_is_at_departures}
 use Rattle.fleet_model.proofs.PeriodMinutes.{departs_always}
 use Rattle.node_aggregate.specs.Laws.{NeedIsAtNodeEnds, WeighKept, excess_at_end}
@@ -64,40 +65,40 @@ module _ (t : Tables) (keeps : Domains) (w : Weights) (f s : ℕ) (starts : List
   none_ready k d r holds departs later within ready =
       let may : MayStart at.events (get_or starts k 0) r = record { departure = d; since = holds.started; departs = departs; later = later; ready = ready } in
       elim (cases_lt (k + 1) (length starts)) [
-        | inl next ↦ omega (arith, (at.nodes.next k next).first r may, end_next t starts k next, holds.before next)
+        | inl next ↦ omega (arith, (at.nodes.next k next).first r (inl may), end_next t starts k next, holds.before next)
         | inr last ↦
             let place : k ≡ length starts - 1 = omega (arith, holds.within) in
-            at.nodes.last r (subst (λ j. MayStart at.events (get_or starts j 0) r) place may)
+            at.nodes.last (omega (arith, holds.within)) r (inl (subst (λ j. MayStart at.events (get_or starts j 0) r) place may))
       ]
 
   -- so by the end of the node no more have come
-  none_come : (k l : ℕ) → l < legs_in t → keeps (leg_on l f) ≡ true → (leg_of t l).from ≡ s → Holds starts (departure t (leg_on l f)) k
-      → arrived t w f s (end_in t starts k) ≤ arrived t w f s (departure t (leg_on l f))
+  none_come : (k d : ℕ) → d < departures_in t → keeps (pair_on t d f) ≡ true → (leg_of t (leg_at t d)).from ≡ s → Holds starts (departure t (pair_on t d f)) k
+      → arrived t w f s (end_in t starts k) ≤ arrived t w f s (departure t (pair_on t d f))
   unfolding arrived
-  none_come k l below kept from holds = sum_below-le (coming t w f s (end_in t starts k)) (coming t w f s (departure t (leg_on l f))) (legs_in t) (record {
+  none_come k d below kept from holds = sum_below-le (coming t w f s (end_in t starts k)) (coming t w f s (departure t (pair_on t d f))) (departures_in t) (record {
     each = λ m within.
-        if_same _ _ (w (leg_on m f)) (λ come not_come. by_test (keeps (leg_on m f))
-        (λ keeps_it. absurd (none_ready k (departure t (leg_on l f)) (ready_minute t (leg_on m f)) holds (departs_at t keeps f s at.events at.happen l below kept from)
+        if_same _ _ (w (pair_on t m f)) (λ come not_come. by_test (keeps (pair_on t m f))
+        (λ keeps_it. absurd (none_ready k (departure t (pair_on t d f)) (ready_minute t (pair_on t m f)) holds (departs_at t keeps f s at.events at.happen d below kept from)
         (grind (arith, nat_tests)) (grind (arith, nat_tests)) (ready_at t keeps f s at.events at.happen m within keeps_it (grind (arith, nat_tests)))))
-        (λ not_kept. weigh.each (leg_on m f) (record { leg = within; choice = known }) not_kept));
+        (λ not_kept. weigh.each (pair_on t m f) (on_departure t m f within known).pair not_kept));
   })
 
   departures_rise : (m n : ℕ) → m ≤ n → departed t w f s m ≤ departed t w f s n
   unfolding departed
-  departures_rise m n order = sum_below-le (leaving t w f s m) (leaving t w f s n) (legs_in t) (record { each = λ l below. grind (arith, nat_tests) })
+  departures_rise m n order = sum_below-le (leaving t w f s m) (leaving t w f s n) (departures_in t) (record { each = λ d below. grind (arith, nat_tests) })
 
-  -- a leg that departs from the station with some weight
+  -- a departure from the station with some weight
   leaves : ℕ → Bool
-  leaves l = ((leg_of t l).from == s) && not (w (leg_on l f) == 0)
+  leaves d = ((leg_of t (leg_at t d)).from == s) && not (w (pair_on t d f) == 0)
 
-  kept_where_it_leaves : (l : ℕ) → l < legs_in t → leaves l ≡ true → keeps (leg_on l f) ≡ true
+  kept_where_it_leaves : (d : ℕ) → d < departures_in t → leaves d ≡ true → keeps (pair_on t d f) ≡ true
   unfolding leaves
-  kept_where_it_leaves l below e = by_test (keeps (leg_on l f)) (λ kept. kept)
-      (λ not_kept. let none = weigh.each (leg_on l f) (record { leg = below; choice = known }) not_kept in absurd (false≢true (grind (arith, nat_tests))))
+  kept_where_it_leaves d below e = by_test (keeps (pair_on t d f)) (λ kept. kept)
+      (λ not_kept. let none = weigh.each (pair_on t d f) (on_departure t d f below known).pair not_kept in absurd (false≢true (grind (arith, nat_tests))))
 
-  from_where_it_leaves : (l : ℕ) → leaves l ≡ true → (leg_of t l).from ≡ s
+  from_where_it_leaves : (d : ℕ) → leaves d ≡ true → (leg_of t (leg_at t d)).from ≡ s
   unfolding leaves
-  from_where_it_leaves l e = grind (arith, nat_tests)
+  from_where_it_leaves d e = grind (arith, nat_tests)
 
   some_nodes : (ready : Bool) (m : ℕ) → HappensAt at.events ready m → 0 < length starts
   some_nodes ready m happens = at.nodes.some (λ none. nothing at.events none ready m happens)
@@ -108,28 +109,28 @@ module _ (t : Tables) (keeps : Domains) (w : Weights) (f s : ℕ) (starts : List
     | inr last ↦ omega (arith, end_last t starts k last)
   ]
 
-  no_more : (l : ℕ) → l < legs_in t → leaves l ≡ true → excess t w f s (departure t (leg_on l f)) ≤ max_below (excess_at_end t w f s starts) (length starts)
+  no_more : (d : ℕ) → d < departures_in t → leaves d ≡ true → excess t w f s (departure t (pair_on t d f)) ≤ max_below (excess_at_end t w f s starts) (length starts)
   unfolding excess
-  no_more l below e =
-      let kept = kept_where_it_leaves l below e in
-      let from = from_where_it_leaves l e in
-      let departs = departs_at t keeps f s at.events at.happen l below kept from in
-      let node = node_that_holds starts (departure t (leg_on l f)) at.nodes.first (some_nodes false (departure t (leg_on l f)) departs) in
-      let later = ends_later (departure t (leg_on l f)) node.0 (departs_always t (leg_on l f)) node.1 in
+  no_more d below e =
+      let kept = kept_where_it_leaves d below e in
+      let from = from_where_it_leaves d e in
+      let departs = departs_at t keeps f s at.events at.happen d below kept from in
+      let node = node_that_holds starts (departure t (pair_on t d f)) at.nodes.first (some_nodes false (departure t (pair_on t d f)) departs) in
+      let later = ends_later (departure t (pair_on t d f)) node.0 (departs_always t (pair_on t d f)) node.1 in
       let upper = max_below-upper (excess_at_end t w f s starts) (length starts) node.0 node.1.within in
-      omega (arith, none_come node.0 l below kept from node.1, departures_rise (departure t (leg_on l f)) (end_in t starts node.0) later, upper)
+      omega (arith, none_come node.0 d below kept from node.1, departures_rise (departure t (pair_on t d f)) (end_in t starts node.0) later, upper)
 
   all_leave : PassesDepartures t w f s leaves
   unfolding leaves
-  all_leave = record { each = λ l below from some. grind (arith, nat_tests) }
+  all_leave = record { each = λ d below from some. grind (arith, nat_tests) }
 
-  where_it_leaves : (l : ℕ) → l < legs_in t → excess_at_departure t w f s leaves l ≤ max_below (excess_at_end t w f s starts) (length starts)
-  where_it_leaves l below = by_test (leaves l) (λ e. rw e (no_more l below e)) (λ e. rw e (omega arith))
+  where_it_leaves : (d : ℕ) → d < departures_in t → excess_at_departure t w f s leaves d ≤ max_below (excess_at_end t w f s starts) (length starts)
+  where_it_leaves d below = by_test (leaves d) (λ e. rw e (no_more d below e)) (λ e. rw e (omega arith))
 
   need_at_ends : need_of t w f s ≡ max_below (excess_at_end t w f s starts) (length starts)
   unfolding need_of
   need_at_ends =
-      let no_greater = max_below-least (excess_at_departure t w f s leaves) (max_below (excess_at_end t w f s starts) (length starts)) (legs_in t) (record { each = where_it_leaves }) in
+      let no_greater = max_below-least (excess_at_departure t w f s leaves) (max_below (excess_at_end t w f s starts) (length starts)) (departures_in t) (record { each = where_it_leaves }) in
       let no_less = max_below-least (excess_at_end t w f s starts) (max_below (excess t w f s) (period_of t)) (length starts)
       (record { each = λ k below. max_below-upper (excess t w f s) (period_of t) (end_in t starts k) (end_within t keeps f s starts at k) }) in
       omega (arith, no_greater, no_less, need_is_at_departures t w f s leaves all_leave)

@@ -25,4 +25,4 @@ NeedIsAtNodeEnds = (t : Tables) (keeps : Domains) (w : Weights) (f s : ℕ) (sta
 
 -- events have one list of nodes
 abbrev pub NodesAreOne : Type 0
-NodesAreOne = (events : List Event) (one other : List ℕ) → AreNodes events one → AreNodes events other → one ≡ other
+NodesAreOne = (events : List Event) (days : ℕ) (one other : List ℕ) → AreNodes events days one → AreNodes events days other → one ≡ other

@@ -1,8 +1,10 @@
--- Nodes: the minutes of a period, cut where the aircraft on the ground at a station have to be counted.
-use Rattle.std.specs.Prelude.{◌≡◌, ◌≢◌, ℕ, ◌+◌, ◌-◌, ◌<◌, ◌≤◌, Bool, true, false, nat_lt, nat_le, if◌then◌else◌, List, [], Option, Some, None, length, slice_index, Contains}
+-- Nodes: the minutes of a period, cut where the aircraft on the ground at a station have to be counted, and where a day starts
+-- at a station with a limit.
+use Rattle.std.specs.Prelude.{◌≡◌, ◌≢◌, ℕ, ◌+◌, ◌-◌, ◌*◌, ◌<◌, ◌≤◌, ◌⊎◌, Bool, true, false, nat_lt, nat_le, if◌then◌else◌, List, [], Option, Some, None, is_some, length, slice_index, Contains}
+use Rattle.fleet_model.specs.declared.limits.TheConstants.{MINUTES_PER_DAY}
 use Rattle.fleet_model.specs.declared.tables.Tables.{Tables}
 use Rattle.fleet_model.specs.Kept.{Domains}
-use Rattle.fleet_model.specs.Schedule.{last_of}
+use Rattle.fleet_model.specs.Schedule.{days_in, last_of, parking_of}
 use Rattle.fleet_model.specs.Use.{last_minute}
 use Rattle.timeline_net.specs.declared.timeline.Event.{Event}
 use Rattle.timeline_net.specs.Events.{AreEvents}
@@ -31,24 +33,43 @@ pub record MayStart (events : List Event) (start minute : ℕ) : Type 0 where
   pub later : departure < minute
   pub ready : HappensAt events true minute
 
--- the start of the node after one: the first of these minutes
-pub record IsNextStart (events : List Event) (start minute : ℕ) : Type 0 where
-  pub may : MayStart events start minute
-  pub first : (m : ℕ) → MayStart events start m → minute ≤ m
+-- with this minute another of the first days starts, later than a node
+pub record IsDayStart (days start minute : ℕ) : Type 0 where
+  pub day : ℕ
+  pub within : day < days
+  pub at : minute ≡ day * MINUTES_PER_DAY
+  pub later : start < minute
 
--- the starts of the nodes of events
-pub record AreNodes (events : List Event) (starts : List ℕ) : Type 0 where
+-- the next node may start with this minute
+abbrev pub MayFollow : List Event → ℕ → ℕ → ℕ → Type 0
+MayFollow events days start minute = MayStart events start minute ⊎ IsDayStart days start minute
+
+-- the first of the minutes of which something is said
+pub record IsFirst (said : ℕ → Type 0) (minute : ℕ) : Type 0 where
+  pub is : said minute
+  pub first : (m : ℕ) → said m → minute ≤ m
+
+-- the start of the node after one: the first minute with which it may start
+abbrev pub IsNextStart : List Event → ℕ → ℕ → ℕ → Type 0
+IsNextStart events days start minute = IsFirst (MayFollow events days start) minute
+
+-- the starts of the nodes of events, where so many days cut them
+pub record AreNodes (events : List Event) (days : ℕ) (starts : List ℕ) : Type 0 where
   pub none : events ≡ [] → starts ≡ []
   pub some : events ≢ [] → 0 < length starts
   pub first : slice_index starts 0 ≡ 0
-  pub next : (k : ℕ) → k + 1 < length starts → IsNextStart events (slice_index starts k) (slice_index starts (k + 1))
-  pub last : (m : ℕ) → ¬ (MayStart events (slice_index starts (length starts - 1)) m)
+  pub next : (k : ℕ) → k + 1 < length starts → IsNextStart events days (slice_index starts k) (slice_index starts (k + 1))
+  pub last : 0 < length starts → (m : ℕ) → ¬ (MayFollow events days (slice_index starts (length starts - 1)) m)
+
+-- how many days cut the nodes of a station: all of the period where only so many aircraft may stand at a day's end
+abbrev pub days_at : Tables → ℕ → ℕ
+days_at t s = if is_some (parking_of t s) then days_in t else 1
 
 -- the starts of the nodes of a fleet at a station
 pub record AreNodesAt (t : Tables) (keeps : Domains) (f s : ℕ) (starts : List ℕ) : Type 0 where
   pub events : List Event
   pub happen : AreEvents t keeps f s events
-  pub nodes : AreNodes events starts
+  pub nodes : AreNodes events (days_at t s) starts
 
 -- one start or more, of which the first is 0 and each is later than those before
 pub record RiseFromZero (starts : List ℕ) : Type 0 where

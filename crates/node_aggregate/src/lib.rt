@@ -6,5 +6,5 @@ pub mod aggregation;
 pub mod laws;
 pub mod places;
 
-pub use aggregation::nodes;
-pub use places::node_of;
+pub use aggregation::{days_at, nodes};
+pub use places::{node_end, node_of};

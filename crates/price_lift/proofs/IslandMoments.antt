@@ -1,5 +1,5 @@
 -- The moments of a network's arcs: where they lie, that no event lies between, and that they are idle minutes.
-use Rattle.std.proofs.Common.{◌≡◌, ℕ, ◌+◌, ◌<◌, ◌≤◌, true, ◌==◌, length, get_or, Some, IsSome, subst, inl, inr, arith}
+use Rattle.std.proofs.Common.{◌≡◌, ℕ, ◌+◌, ◌<◌, ◌≤◌, true, ◌==◌, length, get_or, Some, IsSome, refl, subst, inl, inr, arith}
 use Rattle.std.proofs.lemmas.Bool.{cases_lt, eqb-true}
 use Rattle.sums.proofs.Tests.{no_both, parts_true}
 use Rattle.fleet_model.specs.Kept.{Domains}
@@ -38,7 +38,7 @@ module _ (t : Tables) (keeps : Domains) (starts : Starts) (network : IsNetwork t
   not_round : (f s k m : ℕ) → f < fleets_in t → s < stations_in t → k < length (starts f s) → 1 < length (starts f s) → get_or (starts f s) k 0 ≤ m → k + 1 ≡ length (starts f s) → IsQuiet t keeps f s 0 m → ⊥
   not_round f s k m known within below several begun last quiet =
       let at = network.each f s known within in
-      let event = first_departs t keeps f s (starts f s) at several in
+      let event = first_departs t keeps f s (starts f s) at refl several in
       let rise = starts_rise t keeps f s (starts f s) at (omega arith) in
       quiet.departs event.0 event.1 event.2 event.3 (omega arith) (elim (cases_lt 1 k) [
         | inl more ↦ omega (arith, event.4, begun, rise.rise 1 k more below)
@@ -47,6 +47,7 @@ module _ (t : Tables) (keeps : Domains) (starts : Starts) (network : IsNetwork t
 
   pub are_moments : AreMoments t keeps starts (moments_by t keeps starts)
   are_moments = record {
+    one_day = λ f s k m known within below went. refl;
     in_period = λ f s k m known within below went. (moment_there f s k m went).minute;
     in_node = λ f s k m known within below several went begun. elim (moment_there f s k m went).waits [
       | inl waits ↦

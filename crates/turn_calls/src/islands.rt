@@ -4,7 +4,7 @@ use entries::Entries;
 use fleet_model::{Kept, LoadError, Tables};
 use island_arcs::{idle_minutes, moments};
 use island_cut::{Idle, idle};
-use node_aggregate::nodes;
+use node_aggregate::{days_at, nodes};
 use std::alloc::Global;
 use std::process::Abort;
 use std::test::Fail;
@@ -149,7 +149,7 @@ fn moments_in(
     let kept = Kept::all(tables);
     let idle = idle_minutes(alloc, tables, &kept)?;
     let happening = events(alloc, tables, &kept, fleet, station)?;
-    let starts = nodes(alloc, &happening)?;
+    let starts = nodes(alloc, &happening, days_at(tables, station))?;
     let found = moments(
         alloc,
         tables,

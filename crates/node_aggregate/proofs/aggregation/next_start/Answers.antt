@@ -1,11 +1,9 @@
-use Rattle.node_aggregate.proofs.Links.{next_is, no_departure}
+use Rattle.node_aggregate.proofs.Links.{next_with_day, next_without}
 use Rattle.node_aggregate.proofs.aggregation.next_start.Goals as goal
 
-pub returns-in_err-departure : goal.returns-in_err-departure
-returns-in_err-departure c =
-    rw c.from_residual.ensures (no_departure c.args.events.now c.args.start (rw c.from.ensures at c.in_err-departure.ensures))
+pub returns-in-Some : goal.returns-in-Some
+returns-in-Some c =
+    rw c.sooner.ensures (next_with_day c.args.events.now c.args.days c.args.start c.in-Some.day c.next_ready-ready.result c.next_ready-ready.ensures c.in-Some.ensures)
 
-pub returns : goal.returns
-returns c =
-    next_is c.args.events.now c.args.start c.in_ok-departure.departure c.first_minute-2.result
-    (rw c.from.ensures at c.in_ok-departure.ensures) (rw c.from-2.ensures at c.first_minute-2.ensures)
+pub returns-in-None : goal.returns-in-None
+returns-in-None c = next_without c.args.events.now c.args.days c.args.start c.next_ready-ready.result c.next_ready-ready.ensures c.in-None.ensures
