@@ -10,7 +10,7 @@ pub mod NightsUsed
 pub mod PeriodMinutes
 pub mod Periods
 pub mod PlainTables
-pub mod Sizes
+pub mod ParkingLimits
 pub mod SoleFleets
 pub mod UseLaws
 pub mod WholePlans

@@ -1,16 +1,18 @@
 -- The arc of a fleet that passes the end of a day: one, where the fleet has nodes at the station.
-use Rattle.std.proofs.Common.{◌≡◌, ℕ, zero, suc, ◌+◌, ◌-◌, ◌<◌, ◌≤◌, Bool, true, false, if◌then◌else◌, ◌==◌, length, is_some, sym, ◌∙◌, ap, subst, inl, inr, arith, add-one}
+use Rattle.std.proofs.Common.{◌≡◌, ℕ, zero, suc, ◌+◌, ◌-◌, ◌*◌, ◌<◌, ◌≤◌, Bool, true, false, if◌then◌else◌, ◌==◌, length, get_or, is_some, refl, sym, ◌∙◌, ap, subst, inl, inr, arith, add-one}
 use Rattle.std.proofs.lemmas.Bool.{cases_lt, cases_order, eqb-true}
 use Rattle.sums.specs.Below.{sum_below}
 use Rattle.sums.proofs.Naturals.{equal_number}
 use Rattle.sums.proofs.Sums.{sum_below-agree, sum_below-at}
 use Rattle.sums.proofs.Tests.{same_tests}
+use Rattle.fleet_model.specs.declared.limits.TheConstants.{MINUTES_PER_DAY}
 use Rattle.fleet_model.specs.declared.tables.Tables.{Tables}
 use Rattle.fleet_model.specs.Kept.{Domains}
 use Rattle.fleet_model.specs.Schedule.{day_end, days_in, parking_of}
 use Rattle.fleet_model.proofs.PeriodMinutes.{last_day_ends}
-use Rattle.node_aggregate.specs.Nodes.{AreNodesAt, end_in}
-use Rattle.node_aggregate.proofs.Starts.{end_last}
+use Rattle.node_aggregate.specs.Nodes.{AreNodesAt, IsDayStart, MayFollow, days_at, end_in}
+use Rattle.node_aggregate.proofs.NodeEnds.{node_that_holds}
+use Rattle.node_aggregate.proofs.Starts.{end_last, end_next}
 use Rattle.lp_rows.specs.declared.kinds.Column.{Column}
 use Rattle.lp_rows.specs.declared.kinds.Column.TheVariants.{Ground}
 use Rattle.lp_rows.specs.Layout.{Starts, node_at, parking_days}
@@ -56,18 +58,45 @@ all_days false n d within = omega (arith, within)
 pub within_days : (t : Tables) (s d : ℕ) → d ≤ parking_days t s → d ≤ days_in t
 within_days t s d within = all_days (is_some (parking_of t s)) (days_in t) d within
 
+-- .. and all of them cut nodes
+all_cut : (b : Bool) (n d : ℕ) → 0 < d → d ≤ (if b then n else 0) → (if b then n else 1) ≡ n
+all_cut true n d first within = refl
+all_cut false n d first within = absurd (omega (arith, first, within))
+
 module _ (t : Tables) (keeps : Domains) (f s d : ℕ) (starts : Starts) (at : AreNodesAt t keeps f s (starts f s)) (first : 0 < d) (within : d ≤ parking_days t s) (some : 0 < length (starts f s)) where
   -- a node ends with the day
   pub record IsNightNode (place : ℕ) : Type 0 where
     pub there : place < length (starts f s)
     pub ends : end_in t (starts f s) place ≡ day_end d
 
+  -- with another day the node that holds the last minute of the day ends
+  before_next_day : d < days_in t → (k : ℕ) × IsNightNode k
+  before_next_day before =
+      let holds = node_that_holds (starts f s) (day_end d) at.nodes.first some in
+      let days : days_at t s ≡ days_in t = all_cut (is_some (parking_of t s)) (days_in t) d first within in
+      let cut : IsDayStart (days_at t s) (get_or (starts f s) holds.0 0) (d * MINUTES_PER_DAY) = record { day = d; within = omega (arith, before, days); at = refl; later = omega (arith, first, holds.1.started) } in
+      elim (cases_lt (holds.0 + 1) (length (starts f s))) [
+        | inl next ↦ (
+          holds.0,
+          record {
+            there = holds.1.within;
+            ends = omega (arith, end_next t (starts f s) holds.0 next, (at.nodes.next holds.0 next).first (d * MINUTES_PER_DAY) (inr cut), holds.1.before next);
+          },
+        )
+        | inr last ↦
+            let place : holds.0 ≡ length (starts f s) - 1 = omega (arith, holds.1.within) in
+            absurd (at.nodes.last some (d * MINUTES_PER_DAY) (subst (λ k. MayFollow at.events (days_at t s) (get_or (starts f s) k 0) (d * MINUTES_PER_DAY)) place (inr cut)))
+      ]
+
   pub night_node : (k : ℕ) × IsNightNode k
-  night_node =
-      let one : d ≡ 1 = omega (arith, first, within_days t s d within) in (
-        length (starts f s) - 1,
-        record { there = omega (arith, some); ends = end_last t (starts f s) (length (starts f s) - 1) (omega arith) ∙ sym (last_day_ends t) ∙ ap day_end (sym one) },
-      )
+  night_node = elim (cases_lt d (days_in t)) [
+    | inl before ↦ before_next_day before
+    | inr last ↦
+        let all : days_in t ≡ d = omega (arith, within_days t s d within) in (
+          length (starts f s) - 1,
+          record { there = omega (arith, some); ends = end_last t (starts f s) (length (starts f s) - 1) (omega arith) ∙ sym (last_day_ends t) ∙ ap day_end all },
+        )
+  ]
 
   -- and its arc alone passes the end of the day
   pub night_arc_is : (v : Column → ℕ) → night_arc t starts v s d f ≡ v (Ground (node_at f s night_node.0))

@@ -15,7 +15,7 @@ use Rattle.fleet_model.specs.Schedule.{fleet_by, fleet_of, fleets_in, legs_in, n
 use Rattle.fleet_model.specs.Times.{laps_of}
 use Rattle.fleet_model.proofs.CostLookup.{found_fits}
 use Rattle.fleet_model.proofs.PeriodMinutes.{few_laps}
-use Rattle.fleet_model.proofs.Sizes.{few_parked}
+use Rattle.fleet_model.proofs.ParkingLimits.{few_parked}
 use Rattle.row_store.specs.Problem.{IsProblem, entry}
 use Rattle.row_store.specs.declared.problem.Rows.{Rows}
 use Rattle.lp_rows.specs.declared.kinds.Column.{Column}

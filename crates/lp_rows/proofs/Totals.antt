@@ -11,7 +11,7 @@ use Rattle.fleet_model.specs.declared.tables.Tables.{Tables}
 use Rattle.fleet_model.specs.Kept.{Domains}
 use Rattle.fleet_model.specs.Schedule.{choices_in, days_in, fleets_in, leg_on, legs_in, parking_of, period_of, stations_in}
 use Rattle.fleet_model.proofs.PeriodMinutes.{at_most_week, few_days}
-use Rattle.fleet_model.proofs.Sizes.{few_choices}
+use Rattle.fleet_model.proofs.FewChoices.{few_choices}
 use Rattle.lp_rows.specs.declared.kinds.Node.{Node}
 use Rattle.lp_rows.specs.declared.kinds.Park.{Park}
 use Rattle.lp_rows.specs.declared.kinds.Column.{Column}
@@ -184,7 +184,7 @@ few_filter {X} p (x ∷ xs) = picked (p x) (filter p xs) (few_filter p xs)
 pub few_parts : (t : Tables) (keeps : Domains) (starts : Starts) → AreFew t starts → length (all_kept t keeps) + length (all_nodes t starts) + fleets_in t + length (all_parks t) ≤ 10 ^ 8
 few_parts t keeps starts few =
     let pairs = few_concat (pairs_of t keeps) (legs_in t) MAX_CHOICES (λ l below.
-    let row = few_concat (pair_of keeps l) (choices_in t l) 1 (λ c known. few_one (keeps (leg_on l c)) (leg_on l c)) in omega (arith, row, few_choices t l below)) in
+    let row = few_concat (pair_of keeps l) (choices_in t l) 1 (λ c known. few_one (keeps (leg_on l c)) (leg_on l c)) in omega (arith, row, few_choices t l)) in
     omega (
       arith,
       pairs,

@@ -1,7 +1,6 @@
 //! The number of a line in a column, by their kinds.
 ghost use Rattle.std.specs.Prelude.{◌≡◌, ◌<◌, ◌≤◌, length};
 ghost use Rattle.fleet_model.specs.Schedule.{IsPair, day_end, fleets_in};
-ghost use Rattle.node_aggregate.specs.Nodes.{end_in};
 ghost use Rattle.lp_rows.specs.Entries.{IsColumn, IsLine, IsNode, IsPark, balance_entry, column_cost, comes_to_node, count_entry, cover_entry, entry_of, gets_arc, is_in, leaves_node, one_if, parking_entry, passes_day_end, passes_start, place_after, right_side_of, same_node, same_park};
 ghost use Rattle.lp_rows.specs.Layout.{AreByStation, starts_in};
 
@@ -9,6 +8,7 @@ use crate::kinds::{Column, Line, Node, Park};
 use crate::network::Network;
 use fleet_model::limits::MINUTES_PER_DAY;
 use fleet_model::{Pair, Tables};
+use node_aggregate::node_end;
 
 /// The number of a line in a column: from -1 to 2. Takes no memory.
 pub fn entry(tables: &Tables, network: &Network, line: Line, column: Column) -> i128
@@ -201,7 +201,7 @@ fn passes_day_end(tables: &Tables, network: &Network, park: Park, arc: Node) -> 
         return false;
     }
     let starts = network.starts(tables, arc.fleet, arc.station);
-    u32::from(node_end(tables, starts, arc.place)) == day_end(park.day)
+    u32::from(node_end(tables, starts, arc.place as usize)) == day_end(park.day)
 }
 
 // The last minute of a day.
@@ -218,19 +218,7 @@ fn is_in(tables: &Tables, starts: &[u16], place: u32, minute: u16) -> bool
     requires { place < length starts.now }
     ensures { result ≡ is_in tables.now starts.now place minute }
 {
-    starts[place as usize] <= minute && minute <= node_end(tables, starts, place)
-}
-
-// The last minute of a node.
-fn node_end(tables: &Tables, starts: &[u16], place: u32) -> u16
-    ensures { result ≡ end_in tables.now starts.now place }
-{
-    let next = place as usize + 1;
-    if next < starts.len() {
-        starts[next].saturating_sub(1)
-    } else {
-        tables.period() - 1
-    }
+    starts[place as usize] <= minute && minute <= node_end(tables, starts, place as usize)
 }
 
 // The place of the node after one.

@@ -3,7 +3,7 @@ use Rattle.std.proofs.Common.{◌≡◌, ℕ, is_some, if◌then◌else◌, ◌�
 use Rattle.sums.proofs.Sums.{sum_below-agree, sum_below-zero}
 use Rattle.fleet_model.specs.declared.tables.Tables.{Tables}
 use Rattle.fleet_model.specs.Schedule.{days_in, stations_in}
-use Rattle.fleet_model.proofs.Sizes.{no_limit}
+use Rattle.fleet_model.proofs.ParkingLimits.{no_limit}
 use Rattle.lp_rows.specs.Layout.{parking_days}
 use Rattle.lp_rows.specs.Points.{park_count}
 
