@@ -167,9 +167,12 @@ all_or_none : (b : Bool) (n most : ℕ) → n ≤ most → (if b then n else 0) 
 all_or_none true n most few = few
 all_or_none false n most few = omega arith
 
+pub few_parking_days : (t : Tables) (s : ℕ) → parking_days t s ≤ 7
+few_parking_days t s = all_or_none (is_some (parking_of t s)) (days_in t) 7 (few_days t)
+
 pub few_parks : (t : Tables) → length (all_parks t) ≤ 1400
 few_parks t =
-    let days = few_concat (parks_at t) (stations_in t) 7 (λ s within. omega (arith, length-list_below (park_at s) (parking_days t s), all_or_none (is_some (parking_of t s)) (days_in t) 7 (few_days t))) in
+    let days = few_concat (parks_at t) (stations_in t) 7 (λ s within. omega (arith, length-list_below (park_at s) (parking_days t s), few_parking_days t s)) in
     omega (arith, days, t.in_range.stations_fit.few)
 
 pub few_filter : {X : Type 0} (p : X → Bool) (xs : List X) → length (filter p xs) ≤ length xs

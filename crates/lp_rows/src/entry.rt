@@ -1,7 +1,7 @@
 //! The number of a line in a column, by their kinds.
 ghost use Rattle.std.specs.Prelude.{◌≡◌, ◌<◌, ◌≤◌, length};
 ghost use Rattle.fleet_model.specs.Schedule.{IsPair, day_end, fleets_in};
-ghost use Rattle.lp_rows.specs.Entries.{IsColumn, IsLine, IsNode, IsPark, balance_entry, column_cost, comes_to_node, count_entry, cover_entry, entry_of, gets_arc, is_in, leaves_node, one_if, parking_entry, passes_day_end, passes_start, place_after, right_side_of, same_node, same_park};
+ghost use Rattle.lp_rows.specs.Entries.{IsColumn, IsLine, IsNode, balance_entry, column_cost, comes_to_node, count_entry, cover_entry, entry_of, gets_arc, is_in, leaves_node, one_if, parking_entry, passes_day_end, passes_start, place_after, right_side_of, same_node, same_park};
 ghost use Rattle.lp_rows.specs.Layout.{AreByStation, starts_in};
 
 use crate::kinds::{Column, Line, Node, Park};
@@ -102,7 +102,8 @@ fn count_entry(tables: &Tables, network: &Network, fleet: u32, column: Column) -
 
 fn parking_entry(tables: &Tables, network: &Network, park: Park, column: Column) -> i128
     requires shape { AreByStation tables.now network.now }
-    requires park { IsPark tables.now park }
+    requires some { 0 < park.day }
+    requires week { park.day ≤ 7 }
     requires column { IsColumn tables.now (starts_in network.now) column }
     ensures { result ≡ parking_entry tables.now (starts_in network.now) park column }
 {
@@ -193,7 +194,8 @@ fn passes_start(tables: &Tables, network: &Network, fleet: u32, arc: Node) -> bo
 // The arc from a node passes the end of a day at a station.
 fn passes_day_end(tables: &Tables, network: &Network, park: Park, arc: Node) -> bool
     requires shape { AreByStation tables.now network.now }
-    requires park { IsPark tables.now park }
+    requires some { 0 < park.day }
+    requires week { park.day ≤ 7 }
     requires arc { IsNode tables.now (starts_in network.now) arc }
     ensures { result ≡ passes_day_end tables.now (starts_in network.now) park arc }
 {

@@ -79,7 +79,7 @@ module _ (t : Tables) (starts : Starts) (y : ℕ → ℤ) where
   down e = sum_below_ℤ (λ i. y i *ℤ e (line_at t starts i)) (legs_in t + priced_count t starts)
 
   pub by_kinds : (e : Line → ℤ) → down e
-      ≡ sum_below_ℤ (λ l. y l *ℤ e (Cover l)) (legs_in t) +ℤ (over_nodes (λ f s k. of_node f s k *ℤ e (Balance (node_at f s k))) 
+      ≡ sum_below_ℤ (λ l. y l *ℤ e (Cover l)) (legs_in t) +ℤ (over_nodes (λ f s k. of_node f s k *ℤ e (Balance (node_at f s k)))
       +ℤ (sum_below_ℤ (λ f. of_fleet f *ℤ e (Count f)) (fleets_in t) +ℤ sum_below_ℤ (λ k. of_park k *ℤ e (Parking (park_of_number t k))) (park_count t)))
   by_kinds e =
       let covers = sum_below_ℤ-same (λ l. y l *ℤ e (line_at t starts l)) (λ l. y l *ℤ e (Cover l)) (legs_in t) (λ l below. ap (λ k. y l *ℤ e k) (cover_there t starts l below)) in

@@ -11,7 +11,7 @@ use Rattle.row_store.specs.DualValues.{AreDualValues, WeighMore}
 use Rattle.row_store.specs.declared.problem.Rows.{Rows}
 use Rattle.lp_rows.specs.Layout.{IsNetwork, Starts, starts_in}
 use Rattle.lp_rows.specs.Outline.{IsOutline}
-use Rattle.lp_rows.specs.Points.{AreLinesOf, node_count, priced_count}
+use Rattle.lp_rows.specs.Points.{AreLinesOf, priced_count}
 use Rattle.lp_rows.specs.declared.outline.Outline.{Outline}
 use Rattle.dual_bound.specs.OfTables.{IsStepOf}
 use Rattle.dual_bound.specs.Worth.{worth_of}

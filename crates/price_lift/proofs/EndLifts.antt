@@ -14,7 +14,7 @@ use Rattle.frac_row.proofs.Rows.{common_divisor_positive, den_times, number_time
 use Rattle.entries.specs.declared.memory.NoMemory.{NoMemory}
 use Rattle.fleet_model.specs.declared.tables.Tables.{Tables}
 use Rattle.fleet_model.specs.Kept.{Domains, IsBare, pairs_kept}
-use Rattle.fleet_model.specs.Schedule.{fleets_in, legs_in}
+use Rattle.fleet_model.specs.Schedule.{legs_in}
 use Rattle.row_store.specs.DualValues.{AreDualValues, weighed}
 use Rattle.row_store.specs.Problem.{MeetsRows}
 use Rattle.row_store.specs.declared.problem.Rows.{Rows}
@@ -23,7 +23,7 @@ use Rattle.end_check.specs.declared.hint.PointHint.{PointHint}
 use Rattle.end_check.specs.declared.hint.RefusalHint.{RefusalHint}
 use Rattle.lp_rows.specs.Layout.{all_kept, concat_below, pair_at_column, starts_in}
 use Rattle.lp_rows.specs.Outline.{IsOutline}
-use Rattle.lp_rows.specs.Points.{AreLinesOf, node_count, priced_count}
+use Rattle.lp_rows.specs.Points.{AreLinesOf, priced_count}
 use Rattle.lp_rows.specs.declared.outline.Outline.{Outline}
 use Rattle.lp_rows.proofs.Counted.{nodes_are, pairs_are, parks_are}
 use Rattle.dual_lift.specs.Parts.{AreParts}

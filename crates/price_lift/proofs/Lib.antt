@@ -12,6 +12,7 @@ pub mod LastTables
 pub mod LeastBounds
 pub mod LiftResults
 pub mod Lifts
+pub mod MadePrices
 pub mod Minutes
 pub mod Networks
 pub mod NoParking

@@ -5,12 +5,12 @@ use Rattle.frac_row.specs.declared.row.FracRow.{FracRow}
 use Rattle.fleet_model.specs.declared.parts.Pair.{Pair}
 use Rattle.fleet_model.specs.declared.tables.Tables.{Tables}
 use Rattle.fleet_model.specs.Kept.{Domains, IsBare, pairs_kept}
-use Rattle.fleet_model.specs.Schedule.{fleets_in, legs_in}
+use Rattle.fleet_model.specs.Schedule.{legs_in}
 use Rattle.row_store.specs.DualValues.{AreDualValues, WeighMore}
 use Rattle.row_store.specs.Table.{HasColumns, cost_row, height_of, right_side}
 use Rattle.lp_rows.specs.Layout.{IsNetwork, Starts, all_kept, concat_below, starts_in}
 use Rattle.lp_rows.specs.Outline.{IsOutline, column_count}
-use Rattle.lp_rows.specs.Points.{node_count, priced_count}
+use Rattle.lp_rows.specs.Points.{priced_count}
 use Rattle.lp_rows.specs.declared.outline.Outline.{Outline}
 use Rattle.lp_rows.proofs.Counted.{pairs_are, parks_are}
 use Rattle.dual_lift.specs.Duals.{cost_den}

@@ -1,13 +1,9 @@
 -- A subproblem has one network.
-use Rattle.std.proofs.Common.{◌≡◌, ℕ, zero, suc, ◌<◌, List, ◌++◌, length, map, is_none, refl, ◌∙◌, ap, ◌+◌, length-append, arith}
+use Rattle.std.proofs.Common.{◌≡◌, ℕ, zero, suc, ◌<◌, List, ◌++◌, length, map, is_none, refl, ◌∙◌, ap, ◌+◌, arith}
 use Rattle.fleet_model.specs.declared.tables.Tables.{Tables}
 use Rattle.fleet_model.specs.Kept.{Domains, pairs_kept}
 use Rattle.fleet_model.specs.Schedule.{fleets_in, legs_in, stations_in}
 use Rattle.node_aggregate.proofs.OneList.{one_list}
-use Rattle.lp_rows.specs.declared.kinds.Column.TheVariants.{Flight, Ground, Room, Slack}
-use Rattle.lp_rows.proofs.Counted.{arcs_are as counted_arcs, pairs_are}
-use Rattle.sums.proofs.Places.{length-list_below}
-use Rattle.std.proofs.lemmas.List.{length-map}
 use Rattle.lp_rows.specs.declared.kinds.Line.TheVariants.{Balance, Count, Cover, Parking}
 use Rattle.sums.specs.Below.{count_below, sum_below}
 use Rattle.sums.specs.Places.{list_below}
@@ -15,7 +11,7 @@ use Rattle.sums.proofs.Sums.{sum_below-agree}
 use Rattle.island_arcs.specs.Moments.{moment_of}
 use Rattle.lp_rows.specs.Points.{arcs_at, arcs_in, park_count}
 use Rattle.lp_rows.proofs.ColumnPlaces.{all_long}
-use Rattle.lp_rows.specs.Layout.{IsNetwork, Starts, all_arcs, all_kept, all_nodes, all_parks, arc_stays, columns_of, concat_below, lines_of, node_at, nodes_at, nodes_of}
+use Rattle.lp_rows.specs.Layout.{IsNetwork, Starts, all_nodes, all_parks, arc_stays, columns_of, concat_below, lines_of, node_at, nodes_at, nodes_of}
 
 -- ---- networks
 concat_same : {X : Type 0} (g h : ℕ → List X) (n : ℕ) → ((k : ℕ) → k < n → g k ≡ h k) → concat_below g n ≡ concat_below h n

@@ -1,5 +1,5 @@
 -- No table has a limit of parking yet, so no parking line has a dual value that prices would leave out.
-use Rattle.std.proofs.Common.{◌≡◌, ℕ, is_some, if◌then◌else◌, ◌∙◌, ap}
+use Rattle.std.proofs.Common.{◌≡◌, is_some, if◌then◌else◌, ◌∙◌, ap}
 use Rattle.sums.proofs.Sums.{sum_below-agree, sum_below-zero}
 use Rattle.fleet_model.specs.declared.tables.Tables.{Tables}
 use Rattle.fleet_model.specs.Schedule.{days_in, stations_in}
