@@ -3,16 +3,15 @@ use Rattle.std.proofs.Common.{◌≡◌, ℕ, ◌+◌, ◌<◌, ◌≤◌, ◌==
 use Rattle.std.proofs.lemmas.Bool.Decides.{nat_tests}
 use Rattle.sums.specs.Places.{first_below, or_else}
 use Rattle.sums.proofs.Tests.{none_some, parts_true, some_is}
-use Rattle.fleet_model.specs.declared.limits.TheConstants.{MINUTES_PER_PERIOD}
 use Rattle.fleet_model.specs.declared.tables.Tables.{Tables}
 use Rattle.fleet_model.specs.Counts.{Weights, arrived, departed}
 use Rattle.fleet_model.specs.Kept.{Domains}
 use Rattle.fleet_model.specs.Mixed.{IsMixedPlan}
-use Rattle.fleet_model.specs.Schedule.{fleets_in, stations_in}
-use Rattle.fleet_model.specs.Use.{last_minute, need_of, stand_of}
+use Rattle.fleet_model.specs.Schedule.{fleets_in, last_of, period_of, stations_in}
+use Rattle.fleet_model.specs.Use.{need_of, stand_of}
 use Rattle.node_aggregate.specs.Laws.{WeighKept}
-use Rattle.node_aggregate.specs.Nodes.{node_end}
-use Rattle.node_aggregate.proofs.NodeEnds.{end_at_last}
+use Rattle.node_aggregate.specs.Nodes.{end_in}
+use Rattle.node_aggregate.proofs.Starts.{end_last}
 use Rattle.island_cut.specs.Islands.{is_idle}
 use Rattle.island_cut.specs.IslandLaws.{IsIdle}
 use Rattle.island_cut.proofs.Counted.{gives_first}
@@ -42,7 +41,7 @@ either_of None other m e = inr e
 
 -- what a moment is: an idle minute in one of the parts of the wait
 pub record IsMoment (t : Tables) (keeps : Domains) (f s : ℕ) (starts : List ℕ) (k m : ℕ) : Type 0 where
-  pub minute : m < MINUTES_PER_PERIOD
+  pub minute : m < period_of t
   pub allowed : keeps_allowed t keeps ≡ true
   pub idle : is_idle t s m ≡ true
   pub waits : (waits_in_node t keeps f s starts k m ≡ true) ⊎ (waits_round t keeps f s starts k m ≡ true)
@@ -50,7 +49,7 @@ pub record IsMoment (t : Tables) (keeps : Domains) (f s : ℕ) (starts : List �
 in_node_is : (t : Tables) (keeps : Domains) (f s : ℕ) (starts : List ℕ) (k m : ℕ) → moment_in_node t keeps f s starts k ≡ Some m → IsMoment t keeps f s starts k m
 unfolding moment_in_node
 in_node_is t keeps f s starts k m e =
-    let found = first_passes (λ n. waits_in_node t keeps f s starts k n && idle_in t keeps s n) MINUTES_PER_PERIOD m e in
+    let found = first_passes (λ n. waits_in_node t keeps f s starts k n && idle_in t keeps s n) (period_of t) m e in
     let parts = parts_true (waits_in_node t keeps f s starts k m) _ found.1 in
     let idle = parts_true (keeps_allowed t keeps) _ parts.1 in
     record { minute = found.0; allowed = idle.0; idle = idle.1; waits = inl parts.0 }
@@ -58,7 +57,7 @@ in_node_is t keeps f s starts k m e =
 round_is : (t : Tables) (keeps : Domains) (f s : ℕ) (starts : List ℕ) (k m : ℕ) → moment_round t keeps f s starts k ≡ Some m → IsMoment t keeps f s starts k m
 unfolding moment_round
 round_is t keeps f s starts k m e =
-    let found = first_passes (λ n. waits_round t keeps f s starts k n && idle_in t keeps s n) MINUTES_PER_PERIOD m e in
+    let found = first_passes (λ n. waits_round t keeps f s starts k n && idle_in t keeps s n) (period_of t) m e in
     let parts = parts_true (waits_round t keeps f s starts k m) _ found.1 in
     let idle = parts_true (keeps_allowed t keeps) _ parts.1 in
     record { minute = found.0; allowed = idle.0; idle = idle.1; waits = inr parts.0 }
@@ -77,22 +76,22 @@ module _ (t : Tables) (keeps : Domains) (scale : ℕ) (w : Weights) (plan : IsMi
   weigh : WeighKept t keeps w
   weigh = record { each = plan.kept }
 
-  empty_in_node : stand_of t w f s m ≡ 0 → waits_in_node t keeps f s starts k m ≡ true → stand_of t w f s (node_end starts k) ≡ 0
+  empty_in_node : stand_of t w f s m ≡ 0 → waits_in_node t keeps f s starts k m ≡ true → stand_of t w f s (end_in t starts k) ≡ 0
   unfolding stand_of
   empty_in_node empty waits =
-      let parts = parts_true (is_among (slice_index starts k) (node_end starts k) m) _ waits in
-      let ends = among_ends (slice_index starts k) (node_end starts k) m parts.0 in
-      omega (arith, empty, none_leave t keeps w f s known weigh m (node_end starts k) ends.1 parts.1, none_come t keeps w f s known weigh m (node_end starts k) ends.1 parts.1)
+      let parts = parts_true (is_among (slice_index starts k) (end_in t starts k) m) _ waits in
+      let ends = among_ends (slice_index starts k) (end_in t starts k) m parts.0 in
+      omega (arith, empty, none_leave t keeps w f s known weigh m (end_in t starts k) ends.1 parts.1, none_come t keeps w f s known weigh m (end_in t starts k) ends.1 parts.1)
 
-  empty_round : stand_of t w f s m ≡ 0 → waits_round t keeps f s starts k m ≡ true → stand_of t w f s (node_end starts k) ≡ 0
+  empty_round : stand_of t w f s m ≡ 0 → waits_round t keeps f s starts k m ≡ true → stand_of t w f s (end_in t starts k) ≡ 0
   unfolding stand_of
   empty_round empty waits =
       let parts = parts_true (k + 1 == length starts) _ waits in
-      let end = end_at_last starts k (is_last_node k (length starts) parts.0) in
-      let at_end : need_of t w f s + arrived t w f s last_minute ≡ need_of t w f s + departed t w f s last_minute = omega (arith, plan.balanced.each f s known station) in
+      let end = end_last t starts k (is_last_node k (length starts) parts.0) in
+      let at_end : need_of t w f s + arrived t w f s (last_of t) ≡ need_of t w f s + departed t w f s (last_of t) = omega (arith, plan.balanced.each f s known station) in
       rw end (omega (arith, empty, at_end, none_left_yet t keeps w f s known weigh m parts.1, none_come_yet t keeps w f s known weigh m parts.1))
 
-  empty_at_end : IsMoment t keeps f s starts k m → stand_of t w f s (node_end starts k) ≡ 0
+  empty_at_end : IsMoment t keeps f s starts k m → stand_of t w f s (end_in t starts k) ≡ 0
   empty_at_end is =
       let idle : IsIdle t s m = record { station = station; minute = is.minute; idle = is.idle } in
       let empty = idle_is_empty t keeps scale w (allowed_tested t keeps is.allowed) plan f s m known idle in

@@ -4,7 +4,6 @@ use Rattle.std.specs.Bool.{then_some}
 use Rattle.std.proofs.lemmas.Bool.{cases_lt, ltb-false, ltb-true}
 use Rattle.sums.proofs.Places.{all_nothing, first_found}
 use Rattle.sums.proofs.Tests.{both_true, by_test, never_passes, parts_true}
-use Rattle.fleet_model.specs.declared.limits.TheConstants.{MINUTES_PER_PERIOD}
 use Rattle.timeline_net.specs.declared.timeline.Event.{Event}
 use Rattle.island_cut.specs.declared.idle_minutes.Idle.{Idle}
 use Rattle.island_cut.specs.Islands.{idle_at}
@@ -31,11 +30,11 @@ last_more events start until n last minute next found is later = record {
       (λ before. let there = all n (omega arith) (omega (arith, is, before)) in omega (arith, is, there));
 }
 
-pub none_first : (events : List Event) → IsFirstAmong events 0 MINUTES_PER_PERIOD
-none_first events = record { within = omega arith; covers = λ k within. absurd (omega (arith, within)); greatest = λ m most all. most }
+pub none_first : (period : ℕ) (events : List Event) (first : ℕ) → first ≡ period → IsFirstAmong period events 0 first
+none_first period events first is = record { within = omega (arith, is); covers = λ k within. absurd (omega (arith, within)); greatest = λ m most all. omega (arith, is, most) }
 
-pub first_more : (events : List Event) (n first minute next : ℕ) → IsFirstAmong events n first → minute ≡ minute_at events n → IsSooner first minute next → IsFirstAmong events (n + 1) next
-first_more events n first minute next found is sooner = record {
+pub first_more : (period : ℕ) (events : List Event) (n first minute next : ℕ) → IsFirstAmong period events n first → minute ≡ minute_at events n → IsSooner first minute next → IsFirstAmong period events (n + 1) next
+first_more period events n first minute next found is sooner = record {
   within = omega (arith, found.within, sooner.no_later);
   covers = λ k within. elim (cases_lt k n) [
     | inl old ↦ omega (arith, found.covers k old, sooner.no_later)
@@ -49,7 +48,7 @@ first_more events n first minute next found is sooner = record {
 
 -- ---- the first idle minute from one on and before another
 
-module _ (idle : List Idle) (s from until : ℕ) (few : until ≤ MINUTES_PER_PERIOD) (test : ℕ → Bool) (lists : ListsAt idle s test) where
+module _ (idle : List Idle) (s from until period : ℕ) (few : until ≤ period) (test : ℕ → Bool) (lists : ListsAt period idle s test) where
   abbrev passes : ℕ → Bool
   passes m = is_within from until m && test m
 
@@ -66,15 +65,15 @@ module _ (idle : List Idle) (s from until : ℕ) (few : until ≤ MINUTES_PER_PE
       let ends = within_ends from until m parts.0 in
       (ends.0, ends.1, lists.has m (omega (arith, ends.1, few)) parts.1)
 
-  pub none_found : ((m : ℕ) → from ≤ m → ¬ (Contains idle (idle_at s m))) → None ≡ first_minute passes
-  none_found none = sym (all_nothing found MINUTES_PER_PERIOD (λ m within. nothing m (never_passes (passes m) (λ e. let there = stands m e in none m there.0 there.2))))
+  pub none_found : ((m : ℕ) → from ≤ m → ¬ (Contains idle (idle_at s m))) → None ≡ first_minute period passes
+  none_found none = sym (all_nothing found period (λ m within. nothing m (never_passes (passes m) (λ e. let there = stands m e in none m there.0 there.2))))
 
-  pub some_found : (minute : ℕ) → IsFirstIdle idle s from minute → then_some (nat_lt minute until) minute ≡ first_minute passes
+  pub some_found : (minute : ℕ) → IsFirstIdle idle s from minute → then_some (nat_lt minute until) minute ≡ first_minute period passes
   some_found minute first = by_test (nat_lt minute until)
       (λ e.
       let before = ltb-true minute until e in
       let none = all_nothing found minute (λ m earlier. nothing m (never_passes (passes m) (λ on. let there = stands m on in omega (arith, first.first m there.0 there.2, earlier)))) in
       let on : passes minute ≡ true = both_true _ _ (within_where from until minute first.no_earlier before) (lists.passes minute first.among) in
-      ap (λ b. then_some b minute) e ∙ sym (first_found found minute MINUTES_PER_PERIOD minute none (ap (λ b. if b then Some minute else None) on) (omega (arith, before, few))))
+      ap (λ b. then_some b minute) e ∙ sym (first_found found minute period minute none (ap (λ b. if b then Some minute else None) on) (omega (arith, before, few))))
       (λ e.
-      ap (λ b. then_some b minute) e ∙ sym (all_nothing found MINUTES_PER_PERIOD (λ m within. nothing m (never_passes (passes m) (λ on. let there = stands m on in omega (arith, first.first m there.0 there.2, there.1, ltb-false minute until e))))))
+      ap (λ b. then_some b minute) e ∙ sym (all_nothing found period (λ m within. nothing m (never_passes (passes m) (λ on. let there = stands m on in omega (arith, first.first m there.0 there.2, there.1, ltb-false minute until e))))))

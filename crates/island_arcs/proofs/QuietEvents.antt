@@ -7,8 +7,8 @@ use Rattle.std.proofs.lemmas.Bool.{eqb-true}
 use Rattle.sums.proofs.Tests.{by_either, never_passes, no_both, parts_true}
 use Rattle.fleet_model.specs.declared.tables.Tables.{Tables}
 use Rattle.fleet_model.specs.Kept.{Domains}
-use Rattle.fleet_model.specs.Schedule.{leg_of, leg_on, legs_in}
-use Rattle.fleet_model.specs.Times.{ready_minute}
+use Rattle.fleet_model.specs.Schedule.{departures_in, leg_at, leg_of, pair_on}
+use Rattle.fleet_model.specs.Times.{departure, ready_minute}
 use Rattle.timeline_net.specs.declared.timeline.Event.{Event}
 use Rattle.timeline_net.specs.Events.{AreEvents, departure_event, events_below, ready_event}
 use Rattle.node_aggregate.specs.Nodes.{HappensAt}
@@ -31,32 +31,32 @@ all_where false e P holds = All-nil P
 module _ (t : Tables) (keeps : Domains) (f s : ℕ) (events : List Event) (are : AreEvents t keeps f s events) (low high : ℕ) where
   pub quiet_where : ((k : ℕ) → k < length events → is_among low high (minute_at events k) ≡ false) → is_quiet t keeps f s low high ≡ true
   unfolding is_quiet
-  quiet_where none = count_none (λ l. keeps (leg_on l f) && happens_among t s low high (leg_on l f)) (legs_in t) (λ l below.
-      never_passes (keeps (leg_on l f) && happens_among t s low high (leg_on l f)) (λ e.
-      let parts = parts_true (keeps (leg_on l f)) _ e in
-      by_either (((leg_of t l).from == s) && is_among low high (leg_of t l).dep) (((leg_of t l).to == s) && is_among low high (ready_minute t (leg_on l f))) parts.1
+  quiet_where none = count_none (λ d. keeps (pair_on t d f) && happens_among t s low high (pair_on t d f)) (departures_in t) (λ d below.
+      never_passes (keeps (pair_on t d f) && happens_among t s low high (pair_on t d f)) (λ e.
+      let parts = parts_true (keeps (pair_on t d f)) _ e in
+      by_either (((leg_of t (leg_at t d)).from == s) && is_among low high (departure t (pair_on t d f))) (((leg_of t (leg_at t d)).to == s) && is_among low high (ready_minute t (pair_on t d f))) parts.1
       (λ leaves.
-      let here = parts_true ((leg_of t l).from == s) _ leaves in
-      let at = happens_there events false (leg_of t l).dep (departs_at t keeps f s events are l below parts.0 (eqb-true (leg_of t l).from s here.0)) in
+      let here = parts_true ((leg_of t (leg_at t d)).from == s) _ leaves in
+      let at = happens_there events false (departure t (pair_on t d f)) (departs_at t keeps f s events are d below parts.0 (eqb-true (leg_of t (leg_at t d)).from s here.0)) in
       no_both (none at.0 at.1) (ap (is_among low high) at.2 ∙ here.1))
       (λ comes.
-      let here = parts_true ((leg_of t l).to == s) _ comes in
-      let at = happens_there events true (ready_minute t (leg_on l f)) (ready_at t keeps f s events are l below parts.0 (eqb-true (leg_of t l).to s here.0)) in
+      let here = parts_true ((leg_of t (leg_at t d)).to == s) _ comes in
+      let at = happens_there events true (ready_minute t (pair_on t d f)) (ready_at t keeps f s events are d below parts.0 (eqb-true (leg_of t (leg_at t d)).to s here.0)) in
       no_both (none at.0 at.1) (ap (is_among low high) at.2 ∙ here.1))))
 
   abbrev Elsewhere : Event → Type 0
   Elsewhere e = is_among low high e.minute ≡ false
 
-  none_below : is_quiet t keeps f s low high ≡ true → (n : ℕ) → n < suc (legs_in t) → All Elsewhere (events_below t keeps f s n)
+  none_below : is_quiet t keeps f s low high ≡ true → (n : ℕ) → n < suc (departures_in t) → All Elsewhere (events_below t keeps f s n)
   none_below quiet zero few = All-nil Elsewhere
   none_below quiet (suc n) few =
-      let departs = all_where (keeps (leg_on n f) && ((leg_of t n).from == s)) (departure_event t f n) Elsewhere
-      (λ e. let parts = parts_true (keeps (leg_on n f)) _ e in departs_elsewhere t keeps f s low high quiet n (omega (arith, few)) parts.0 (eqb-true (leg_of t n).from s parts.1)) in
-      let back = all_where (keeps (leg_on n f) && ((leg_of t n).to == s)) (ready_event t f n) Elsewhere
-      (λ e. let parts = parts_true (keeps (leg_on n f)) _ e in ready_elsewhere t keeps f s low high quiet n (omega (arith, few)) parts.0 (eqb-true (leg_of t n).to s parts.1)) in
+      let departs = all_where (keeps (pair_on t n f) && ((leg_of t (leg_at t n)).from == s)) (departure_event t f n) Elsewhere
+      (λ e. let parts = parts_true (keeps (pair_on t n f)) _ e in departs_elsewhere t keeps f s low high quiet n (omega (arith, few)) parts.0 (eqb-true (leg_of t (leg_at t n)).from s parts.1)) in
+      let back = all_where (keeps (pair_on t n f) && ((leg_of t (leg_at t n)).to == s)) (ready_event t f n) Elsewhere
+      (λ e. let parts = parts_true (keeps (pair_on t n f)) _ e in ready_elsewhere t keeps f s low high quiet n (omega (arith, few)) parts.0 (eqb-true (leg_of t (leg_at t n)).to s parts.1)) in
       All-append Elsewhere _ _ (All-append Elsewhere _ _ (none_below quiet n (omega (arith, few))) departs) back
 
   pub where_quiet : is_quiet t keeps f s low high ≡ true → (k : ℕ) → k < length events → is_among low high (minute_at events k) ≡ false
   where_quiet quiet k within =
-      let all = All-permutation Elsewhere _ _ are.each_once (none_below quiet (legs_in t) (omega arith)) in
+      let all = All-permutation Elsewhere _ _ are.each_once (none_below quiet (departures_in t) (omega arith)) in
       All-contains Elsewhere events (slice_index_or events k no_event) all (k, within, get_or_default events k (slice_index_or events k no_event) no_event within)

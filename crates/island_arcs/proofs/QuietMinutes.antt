@@ -7,26 +7,27 @@ use Rattle.sums.proofs.Tests.{both_true, by_test, never_passes, no_both}
 use Rattle.fleet_model.specs.declared.tables.Tables.{Tables}
 use Rattle.fleet_model.specs.Counts.{Weights, arrived, coming, departed, has_come, has_left, leaving}
 use Rattle.fleet_model.specs.Kept.{Domains}
-use Rattle.fleet_model.specs.Schedule.{fleets_in, leg_of, leg_on, legs_in}
-use Rattle.fleet_model.specs.Times.{ready_minute}
+use Rattle.fleet_model.specs.Schedule.{departures_in, fleets_in, leg_at, leg_of, pair_on}
+use Rattle.fleet_model.specs.Times.{departure, ready_minute}
+use Rattle.fleet_model.proofs.Choices.{on_departure}
 use Rattle.node_aggregate.specs.Laws.{WeighKept}
 use Rattle.island_cut.proofs.Counted.{none_counted}
 use Rattle.island_arcs.specs.Waits.{happens_among, is_among, is_quiet}
 
-pub none_happens : (t : Tables) (keeps : Domains) (f s low high : ℕ) → is_quiet t keeps f s low high ≡ true → (l : ℕ) → l < legs_in t → keeps (leg_on l f) ≡ true → happens_among t s low high (leg_on l f) ≡ false
+pub none_happens : (t : Tables) (keeps : Domains) (f s low high : ℕ) → is_quiet t keeps f s low high ≡ true → (d : ℕ) → d < departures_in t → keeps (pair_on t d f) ≡ true → happens_among t s low high (pair_on t d f) ≡ false
 unfolding is_quiet
-none_happens t keeps f s low high quiet l below kept =
-    never_passes (happens_among t s low high (leg_on l f))
-    (λ happens. no_both (none_counted (λ k. keeps (leg_on k f) && happens_among t s low high (leg_on k f)) (legs_in t) l quiet below) (both_true _ _ kept happens))
+none_happens t keeps f s low high quiet d below kept =
+    never_passes (happens_among t s low high (pair_on t d f))
+    (λ happens. no_both (none_counted (λ k. keeps (pair_on t k f) && happens_among t s low high (pair_on t k f)) (departures_in t) d quiet below) (both_true _ _ kept happens))
 
 -- a kept pair's departure and ready minute, where nothing happens
-pub departs_elsewhere : (t : Tables) (keeps : Domains) (f s low high : ℕ) → is_quiet t keeps f s low high ≡ true → (l : ℕ) → l < legs_in t → keeps (leg_on l f) ≡ true → (leg_of t l).from ≡ s
-    → is_among low high (leg_of t l).dep ≡ false
-departs_elsewhere t keeps f s low high quiet l below kept from = let none = none_happens t keeps f s low high quiet l below kept in grind (arith, nat_tests)
+pub departs_elsewhere : (t : Tables) (keeps : Domains) (f s low high : ℕ) → is_quiet t keeps f s low high ≡ true → (d : ℕ) → d < departures_in t → keeps (pair_on t d f) ≡ true → (leg_of t (leg_at t d)).from ≡ s
+    → is_among low high (departure t (pair_on t d f)) ≡ false
+departs_elsewhere t keeps f s low high quiet d below kept from = let none = none_happens t keeps f s low high quiet d below kept in grind (arith, nat_tests)
 
-pub ready_elsewhere : (t : Tables) (keeps : Domains) (f s low high : ℕ) → is_quiet t keeps f s low high ≡ true → (l : ℕ) → l < legs_in t → keeps (leg_on l f) ≡ true → (leg_of t l).to ≡ s
-    → is_among low high (ready_minute t (leg_on l f)) ≡ false
-ready_elsewhere t keeps f s low high quiet l below kept to = let none = none_happens t keeps f s low high quiet l below kept in grind (arith, nat_tests)
+pub ready_elsewhere : (t : Tables) (keeps : Domains) (f s low high : ℕ) → is_quiet t keeps f s low high ≡ true → (d : ℕ) → d < departures_in t → keeps (pair_on t d f) ≡ true → (leg_of t (leg_at t d)).to ≡ s
+    → is_among low high (ready_minute t (pair_on t d f)) ≡ false
+ready_elsewhere t keeps f s low high quiet d below kept to = let none = none_happens t keeps f s low high quiet d below kept in grind (arith, nat_tests)
 
 -- what is counted by two minutes, where it happens in none between
 same_by : (here : Bool) (minute low high weight : ℕ) → low ≤ high → (here && is_among (low + 1) high minute) ≡ false → ◌≡◌ {A = ℕ} (if here && nat_le minute high then weight else 0) (if here && nat_le minute low then weight else 0)
@@ -47,39 +48,39 @@ no_weight_at_all true w e = e
 no_weight_at_all false w e = refl
 
 module _ (t : Tables) (keeps : Domains) (w : Weights) (f s : ℕ) (known : f < fleets_in t) (weigh : WeighKept t keeps w) where
-  not_kept : (l : ℕ) → l < legs_in t → keeps (leg_on l f) ≡ false → w (leg_on l f) ≡ 0
-  not_kept l below off = weigh.each (leg_on l f) (record { leg = below; choice = known }) off
+  not_kept : (d : ℕ) → d < departures_in t → keeps (pair_on t d f) ≡ false → w (pair_on t d f) ≡ 0
+  not_kept d below off = weigh.each (pair_on t d f) ((on_departure t d f below known).pair) off
 
   module _ (low high : ℕ) (order : low ≤ high) (quiet : is_quiet t keeps f s (low + 1) high ≡ true) where
     pub none_leave : departed t w f s high ≡ departed t w f s low
     unfolding departed
-    none_leave = sum_below-agree (leaving t w f s high) (leaving t w f s low) (legs_in t) (record {
-      each = λ l below. by_test (keeps (leg_on l f))
-          (λ kept. same_by ((leg_of t l).from == s) (leg_of t l).dep low high (w (leg_on l f)) order (or_parts _ _ (none_happens t keeps f s (low + 1) high quiet l below kept)).0)
-          (λ off. no_weight (has_left t (leg_on l f) s high) (has_left t (leg_on l f) s low) (w (leg_on l f)) (not_kept l below off));
+    none_leave = sum_below-agree (leaving t w f s high) (leaving t w f s low) (departures_in t) (record {
+      each = λ d below. by_test (keeps (pair_on t d f))
+          (λ kept. same_by ((leg_of t (leg_at t d)).from == s) (departure t (pair_on t d f)) low high (w (pair_on t d f)) order (or_parts _ _ (none_happens t keeps f s (low + 1) high quiet d below kept)).0)
+          (λ off. no_weight (has_left t (pair_on t d f) s high) (has_left t (pair_on t d f) s low) (w (pair_on t d f)) (not_kept d below off));
     })
 
     pub none_come : arrived t w f s high ≡ arrived t w f s low
     unfolding arrived
-    none_come = sum_below-agree (coming t w f s high) (coming t w f s low) (legs_in t) (record {
-      each = λ l below. by_test (keeps (leg_on l f))
-          (λ kept. same_by ((leg_of t l).to == s) (ready_minute t (leg_on l f)) low high (w (leg_on l f)) order (or_parts _ _ (none_happens t keeps f s (low + 1) high quiet l below kept)).1)
-          (λ off. no_weight (has_come t (leg_on l f) s high) (has_come t (leg_on l f) s low) (w (leg_on l f)) (not_kept l below off));
+    none_come = sum_below-agree (coming t w f s high) (coming t w f s low) (departures_in t) (record {
+      each = λ d below. by_test (keeps (pair_on t d f))
+          (λ kept. same_by ((leg_of t (leg_at t d)).to == s) (ready_minute t (pair_on t d f)) low high (w (pair_on t d f)) order (or_parts _ _ (none_happens t keeps f s (low + 1) high quiet d below kept)).1)
+          (λ off. no_weight (has_come t (pair_on t d f) s high) (has_come t (pair_on t d f) s low) (w (pair_on t d f)) (not_kept d below off));
     })
 
   module _ (high : ℕ) (quiet : is_quiet t keeps f s 0 high ≡ true) where
     pub none_left_yet : departed t w f s high ≡ 0
     unfolding departed
-    none_left_yet = sum_below-agree (leaving t w f s high) (λ l. 0) (legs_in t) (record {
-      each = λ l below. by_test (keeps (leg_on l f))
-          (λ kept. none_by ((leg_of t l).from == s) (leg_of t l).dep high (w (leg_on l f)) (or_parts _ _ (none_happens t keeps f s 0 high quiet l below kept)).0)
-          (λ off. no_weight_at_all (has_left t (leg_on l f) s high) (w (leg_on l f)) (not_kept l below off));
-    }) ∙ sum_below-zero (legs_in t)
+    none_left_yet = sum_below-agree (leaving t w f s high) (λ d. 0) (departures_in t) (record {
+      each = λ d below. by_test (keeps (pair_on t d f))
+          (λ kept. none_by ((leg_of t (leg_at t d)).from == s) (departure t (pair_on t d f)) high (w (pair_on t d f)) (or_parts _ _ (none_happens t keeps f s 0 high quiet d below kept)).0)
+          (λ off. no_weight_at_all (has_left t (pair_on t d f) s high) (w (pair_on t d f)) (not_kept d below off));
+    }) ∙ sum_below-zero (departures_in t)
 
     pub none_come_yet : arrived t w f s high ≡ 0
     unfolding arrived
-    none_come_yet = sum_below-agree (coming t w f s high) (λ l. 0) (legs_in t) (record {
-      each = λ l below. by_test (keeps (leg_on l f))
-          (λ kept. none_by ((leg_of t l).to == s) (ready_minute t (leg_on l f)) high (w (leg_on l f)) (or_parts _ _ (none_happens t keeps f s 0 high quiet l below kept)).1)
-          (λ off. no_weight_at_all (has_come t (leg_on l f) s high) (w (leg_on l f)) (not_kept l below off));
-    }) ∙ sum_below-zero (legs_in t)
+    none_come_yet = sum_below-agree (coming t w f s high) (λ d. 0) (departures_in t) (record {
+      each = λ d below. by_test (keeps (pair_on t d f))
+          (λ kept. none_by ((leg_of t (leg_at t d)).to == s) (ready_minute t (pair_on t d f)) high (w (pair_on t d f)) (or_parts _ _ (none_happens t keeps f s 0 high quiet d below kept)).1)
+          (λ off. no_weight_at_all (has_come t (pair_on t d f) s high) (w (pair_on t d f)) (not_kept d below off));
+    }) ∙ sum_below-zero (departures_in t)

@@ -1,6 +1,5 @@
 -- Minutes of events, and first minutes among those that pass a test.
 use Rattle.std.specs.Prelude.{◌≡◌, ℕ, ◌<◌, ◌≤◌, ◌&&◌, nat_le, nat_lt, Bool, true, false, List, slice_index_or, Contains}
-use Rattle.fleet_model.specs.declared.limits.TheConstants.{MINUTES_PER_PERIOD}
 use Rattle.island_cut.specs.declared.idle_minutes.Idle.{Idle}
 use Rattle.island_cut.specs.Islands.{idle_at}
 use Rattle.timeline_net.specs.declared.timeline.Event.{Event}
@@ -18,10 +17,10 @@ pub record IsLastAmong (events : List Event) (start until n last : ℕ) : Type 0
   pub least : (m : ℕ) → start ≤ m → ((k : ℕ) → k < n → minute_at events k < until → minute_at events k ≤ m) → last ≤ m
 
 -- the first minute of the first n events, or the end of the period where there is none
-pub record IsFirstAmong (events : List Event) (n first : ℕ) : Type 0 where
-  pub within : first ≤ MINUTES_PER_PERIOD
+pub record IsFirstAmong (period : ℕ) (events : List Event) (n first : ℕ) : Type 0 where
+  pub within : first ≤ period
   pub covers : (k : ℕ) → k < n → first ≤ minute_at events k
-  pub greatest : (m : ℕ) → m ≤ MINUTES_PER_PERIOD → ((k : ℕ) → k < n → m ≤ minute_at events k) → m ≤ first
+  pub greatest : (m : ℕ) → m ≤ period → ((k : ℕ) → k < n → m ≤ minute_at events k) → m ≤ first
 
 -- the later of two minutes, the second only where it is before an end
 pub record IsLater (last minute until result : ℕ) : Type 0 where
@@ -40,6 +39,6 @@ abbrev pub is_within : ℕ → ℕ → ℕ → Bool
 is_within from until m = nat_le from m && nat_lt m until
 
 -- the entries of a station are the minutes of the period that pass
-pub record ListsAt (idle : List Idle) (s : ℕ) (test : ℕ → Bool) : Type 0 where
+pub record ListsAt (period : ℕ) (idle : List Idle) (s : ℕ) (test : ℕ → Bool) : Type 0 where
   pub passes : (m : ℕ) → Contains idle (idle_at s m) → test m ≡ true
-  pub has : (m : ℕ) → m < MINUTES_PER_PERIOD → test m ≡ true → Contains idle (idle_at s m)
+  pub has : (m : ℕ) → m < period → test m ≡ true → Contains idle (idle_at s m)

@@ -3,17 +3,17 @@ use Rattle.std.specs.Prelude.{◌≡◌, ℕ, ◌==◌, ◌&&◌, not, Bool, if�
 use Rattle.sums.specs.Below.{count_below, sum_below}
 use Rattle.fleet_model.specs.declared.tables.Tables.{Tables}
 use Rattle.fleet_model.specs.Kept.{Domains, all_pairs}
-use Rattle.fleet_model.specs.Schedule.{fleets_in, leg_on, legs_in}
+use Rattle.fleet_model.specs.Schedule.{choices_in, leg_on, legs_in}
 use Rattle.island_cut.specs.declared.idle_minutes.Idle.{Idle}
 use Rattle.island_cut.specs.Islands.{idles_of, is_idle}
 
 -- the pair is kept and may not be flown
 abbrev pub is_strange : Tables → Domains → ℕ → ℕ → Bool
-is_strange t keeps l f = keeps (leg_on l f) && not (all_pairs t (leg_on l f))
+is_strange t keeps l c = keeps (leg_on l c) && not (all_pairs t (leg_on l c))
 
 -- how many such pairs the leg has
 abbrev pub strange_on : Tables → Domains → ℕ → ℕ
-strange_on t keeps l = count_below (is_strange t keeps l) (fleets_in t)
+strange_on t keeps l = count_below (is_strange t keeps l) (choices_in t l)
 
 -- each kept pair may be flown
 unfoldable pub keeps_allowed : Tables → Domains → Bool

@@ -5,9 +5,9 @@ use Rattle.sums.specs.Below.{count_below}
 use Rattle.fleet_model.specs.declared.parts.Pair.{Pair}
 use Rattle.fleet_model.specs.declared.tables.Tables.{Tables}
 use Rattle.fleet_model.specs.Kept.{Domains}
-use Rattle.fleet_model.specs.Schedule.{leg_of, leg_on, legs_in}
+use Rattle.fleet_model.specs.Schedule.{departures_in, leg_of, pair_on}
 use Rattle.fleet_model.specs.Times.{departure, ready_minute}
-use Rattle.node_aggregate.specs.Nodes.{node_end}
+use Rattle.node_aggregate.specs.Nodes.{end_in}
 
 -- a minute lies among these, both ends included
 abbrev pub is_among : ℕ → ℕ → ℕ → Bool
@@ -20,11 +20,11 @@ happens_among t s low high p =
 
 -- no kept pair of the fleet departs from the station in these minutes, and none is ready there
 unfoldable pub is_quiet : Tables → Domains → ℕ → ℕ → ℕ → ℕ → Bool
-is_quiet t keeps f s low high = count_below (λ l. keeps (leg_on l f) && happens_among t s low high (leg_on l f)) (legs_in t) == 0
+is_quiet t keeps f s low high = count_below (λ d. keeps (pair_on t d f) && happens_among t s low high (pair_on t d f)) (departures_in t) == 0
 
 -- the minute lies in the node, and no event comes after it there
 abbrev pub waits_in_node : Tables → Domains → ℕ → ℕ → List ℕ → ℕ → ℕ → Bool
-waits_in_node t keeps f s starts k m = is_among (slice_index starts k) (node_end starts k) m && is_quiet t keeps f s (m + 1) (node_end starts k)
+waits_in_node t keeps f s starts k m = is_among (slice_index starts k) (end_in t starts k) m && is_quiet t keeps f s (m + 1) (end_in t starts k)
 
 -- the node is the last, and no event comes from the day start up to and with the minute
 abbrev pub waits_round : Tables → Domains → ℕ → ℕ → List ℕ → ℕ → ℕ → Bool

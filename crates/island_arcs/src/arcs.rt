@@ -1,20 +1,18 @@
 //! The moments of ground arcs.
 ghost use Rattle.std.specs.Prelude.{◌≡◌, ◌<◌, ◌≤◌, ◌+◌, ◌&&◌, ℕ, Bool, IfOk, if◌then◌else◌, nat_lt, length, slice_index};
 ghost use Rattle.fleet_model.specs.Kept.{Domains, kept_by};
-ghost use Rattle.fleet_model.specs.Schedule.{fleets_in, stations_in};
-ghost use Rattle.fleet_model.specs.declared.limits.TheConstants.{MINUTES_PER_PERIOD};
-ghost use Rattle.fleet_model.specs.declared.tables.Tables.{Tables};
+ghost use Rattle.fleet_model.specs.Schedule.{fleets_in, period_of, stations_in};
 ghost use Rattle.island_cut.specs.Lookup.{IdlesRise};
-ghost use Rattle.node_aggregate.specs.Nodes.{AreNodesAt, node_end};
+ghost use Rattle.node_aggregate.specs.Nodes.{AreNodesAt, end_in};
 ghost use Rattle.timeline_net.specs.Events.{AreEvents};
 ghost use Rattle.island_arcs.specs.EventMinutes.{IsFirstAmong, IsLastAmong, IsLater, IsSooner, ListsAt, is_within, minute_at};
 ghost use Rattle.island_arcs.specs.KeptIdles.{AreIdleIn};
 ghost use Rattle.island_arcs.specs.Moments.{first_minute, moment_of, moments_of};
 
 use entries::{Entries, NoMemory};
-use fleet_model::limits::MINUTES_PER_PERIOD;
 use fleet_model::{Kept, Tables};
 use island_cut::{Idle, first_idle};
+use node_aggregate::node_end;
 use std::alloc::Global;
 use timeline_net::{Event, events};
 
@@ -41,13 +39,14 @@ pub fn moments(
     let happening = events(alloc, tables, kept, fleet, station)?;
     let mut moments = Vec::new(alloc);
     for place in 0..starts.len() {
-        moments.push(moment(&happening, starts, place, station, idle))?;
+        moments.push(moment(tables, &happening, starts, place, station, idle))?;
     }
     Ok(Entries::from_vec(moments))
 }
 
 // The moment of a node's arc: in the node after its last event, or else, of the last node, before the first event.
 fn moment(
+    tables: &Tables,
     events: &[Event],
     starts: &[u16],
     place: usize,
@@ -55,30 +54,18 @@ fn moment(
     idle: &[Idle],
 ) -> Option<u16>
     requires place { place < length starts.now }
-    requires end { node_end starts.now place < MINUTES_PER_PERIOD }
+    requires end { end_in tables.now starts.now place < period_of tables.now }
     requires rise { IdlesRise idle.now }
-    ensures { (t : Tables) (keeps : Domains) (f : ℕ) → station < stations_in t → AreEvents t keeps f station events.now → AreIdleIn t keeps idle.now
-        → result ≡ moment_of t keeps f station starts.now place }
+    ensures { (keeps : Domains) (f : ℕ) → station < stations_in tables.now → AreEvents tables.now keeps f station events.now → AreIdleIn tables.now keeps idle.now
+        → result ≡ moment_of tables.now keeps f station starts.now place }
 {
-    let until = node_end(starts, place) + 1;
+    let until = node_end(tables, starts, place) + 1;
     let from = last_event(events, starts[place], until);
     let inside = first_within(idle, station, from, until);
     if inside.is_some() || place + 1 < starts.len() {
         return inside;
     }
-    first_within(idle, station, 0, first_event(events))
-}
-
-// The last minute of a node.
-fn node_end(starts: &[u16], place: usize) -> u16
-    requires { place < length starts.now }
-    ensures { result ≡ node_end starts.now place }
-{
-    if place + 1 < starts.len() {
-        starts[place + 1].saturating_sub(1)
-    } else {
-        MINUTES_PER_PERIOD - 1
-    }
+    first_within(idle, station, 0, first_event(tables, events))
 }
 
 // The last event's minute before a minute, or the start where none is later.
@@ -104,10 +91,10 @@ fn later(last: u16, minute: u16, until: u16) -> u16
 }
 
 // The first event's minute, or the end of the period where there is none.
-fn first_event(events: &[Event]) -> u16
-    ensures { IsFirstAmong events.now (length events.now) result }
+fn first_event(tables: &Tables, events: &[Event]) -> u16
+    ensures { IsFirstAmong (period_of tables.now) events.now (length events.now) result }
 {
-    let mut first = MINUTES_PER_PERIOD;
+    let mut first = tables.period();
     for place in 0..events.len() {
         first = sooner(first, minute_at(events, place));
     }
@@ -131,9 +118,8 @@ fn minute_at(events: &[Event], place: usize) -> u16
 
 // The first idle minute of a station from a minute on and before another.
 fn first_within(idle: &[Idle], station: u32, from: u16, until: u16) -> Option<u16>
-    requires rise { IdlesRise idle.now }
-    requires until { until ≤ MINUTES_PER_PERIOD }
-    ensures { (test : ℕ → Bool) → ListsAt idle.now station test → result ≡ first_minute (λ m. is_within from until m && test m) }
+    requires { IdlesRise idle.now }
+    ensures { (period : ℕ) (test : ℕ → Bool) → until ≤ period → ListsAt period idle.now station test → result ≡ first_minute period (λ m. is_within from until m && test m) }
 {
     let minute = first_idle(idle, station, from)?;
     (minute < until).then_some(minute)

@@ -2,7 +2,7 @@
 ghost use Rattle.std.specs.Prelude.{◌≡◌, ◌<◌, ◌≤◌, IfOk};
 ghost use Rattle.fleet_model.specs.Kept.{kept_by};
 ghost use Rattle.fleet_model.specs.Schedule.{legs_in};
-ghost use Rattle.fleet_model.specs.declared.limits.TheConstants.{MAX_FLEETS};
+ghost use Rattle.fleet_model.specs.declared.limits.TheConstants.{MAX_CHOICES};
 ghost use Rattle.island_arcs.specs.KeptIdles.{AreIdleIn, keeps_allowed, strange_on};
 
 use entries::{Entries, NoMemory};
@@ -38,11 +38,11 @@ fn keeps_allowed(tables: &Tables, kept: &Kept) -> bool
 fn strange_on(tables: &Tables, kept: &Kept, leg: u32) -> u32
     requires { leg < legs_in tables.now }
     ensures value { result ≡ strange_on tables.now (kept_by kept.now) leg }
-    ensures few { result ≤ MAX_FLEETS }
+    ensures few { result ≤ MAX_CHOICES }
 {
     let mut strange = 0;
-    for fleet in 0..tables.fleet_count() {
-        if kept.kept(leg, fleet) && tables.cost(Pair { leg, choice: fleet }).is_none() {
+    for choice in 0..tables.choice_count(leg) {
+        if kept.kept(leg, choice) && tables.cost(Pair { leg, choice }).is_none() {
             strange += 1;
         }
     }

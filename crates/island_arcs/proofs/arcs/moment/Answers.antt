@@ -1,4 +1,5 @@
 use Rattle.std.proofs.Common.{◌≡◌, ◌+◌, length, slice_index, ap, ◌∙◌, sym, arith}
+use Rattle.fleet_model.specs.Schedule.{period_of}
 use Rattle.island_arcs.specs.EventMinutes.{IsLastAmong}
 use Rattle.island_arcs.specs.KeptIdles.{idle_in}
 use Rattle.island_arcs.specs.Moments.{moment_in_node}
@@ -7,11 +8,12 @@ use Rattle.island_arcs.proofs.arcs.moment.Goals as goal
 use Rattle.island_arcs.proofs.arcs.moment.Goals.{then-is_some-via-then-is_some, then-is_some-via-else-is_some+then-place-starts}
 
 pub returns-then-is_some : goal.returns-then-is_some
-returns-then-is_some c t keeps f station are idle =
+returns-then-is_some c keeps f station are idle =
+    let t = c.args.tables.now in
     let last : IsLastAmong c.args.events.now (slice_index c.args.starts.now c.args.place) (c.node_end-until.result + 1) (length c.args.events.now) c.last_event-from.result = c.last_event-from.ensures in
     let inside : c.first_within-inside.result ≡ moment_in_node t keeps f c.args.station c.args.starts.now c.args.place =
     in_node_found t keeps f c.args.station c.args.events.now are c.args.starts.now c.args.place c.last_event-from.result (c.node_end-until.result + 1) c.first_within-inside.result
-    (ap (λ n. n + 1) c.node_end-until.ensures) last (c.first_within-inside.ensures (idle_in t keeps c.args.station) (lists_station t keeps c.args.station c.args.idle.now station idle)) in
+    (ap (λ n. n + 1) c.node_end-until.ensures) last (c.first_within-inside.ensures (period_of t) (idle_in t keeps c.args.station) (omega (arith, c.node_end-until.ensures, c.requires.end)) (lists_station t keeps c.args.station c.args.idle.now station idle)) in
     elim c.then-is_some.branch [
       | then-is_some-via-then-is_some w ↦ moment_first t keeps f c.args.station c.args.events.now are c.args.starts.now c.args.place c.first_within-inside.result inside (sym c.is_some.ensures ∙ w.if-is_some.true)
       | then-is_some-via-else-is_some+then-place-starts w ↦ moment_alone t keeps f c.args.station c.args.events.now are c.args.starts.now c.args.place c.first_within-inside.result inside
@@ -19,11 +21,12 @@ returns-then-is_some c t keeps f station are idle =
     ]
 
 pub returns : goal.returns
-returns c t keeps f station are idle =
+returns c keeps f station are idle =
+    let t = c.args.tables.now in
     let last : IsLastAmong c.args.events.now (slice_index c.args.starts.now c.args.place) (c.node_end-until.result + 1) (length c.args.events.now) c.last_event-from.result = c.last_event-from.ensures in
     let inside : c.first_within-inside.result ≡ moment_in_node t keeps f c.args.station c.args.starts.now c.args.place =
     in_node_found t keeps f c.args.station c.args.events.now are c.args.starts.now c.args.place c.last_event-from.result (c.node_end-until.result + 1) c.first_within-inside.result
-    (ap (λ n. n + 1) c.node_end-until.ensures) last (c.first_within-inside.ensures (idle_in t keeps c.args.station) (lists_station t keeps c.args.station c.args.idle.now station idle)) in
+    (ap (λ n. n + 1) c.node_end-until.ensures) last (c.first_within-inside.ensures (period_of t) (idle_in t keeps c.args.station) (omega (arith, c.node_end-until.ensures, c.requires.end)) (lists_station t keeps c.args.station c.args.idle.now station idle)) in
     let round = round_found t keeps f c.args.station c.args.events.now are c.args.starts.now c.args.place c.first_event.result c.first_within.result
-    (omega (arith, c.requires.place, c.if-place-starts.false)) c.first_event.ensures (c.first_within.ensures (idle_in t keeps c.args.station) (lists_station t keeps c.args.station c.args.idle.now station idle)) in
+    (omega (arith, c.requires.place, c.if-place-starts.false)) c.first_event.ensures (c.first_within.ensures (period_of t) (idle_in t keeps c.args.station) c.first_event.ensures.within (lists_station t keeps c.args.station c.args.idle.now station idle)) in
     moment_second t keeps f c.args.station c.args.events.now are c.args.starts.now c.args.place c.first_within-inside.result c.first_within.result inside (sym c.is_some.ensures ∙ c.if-is_some.false) round

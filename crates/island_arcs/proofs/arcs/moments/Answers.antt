@@ -20,4 +20,4 @@ loop-place-preserved c =
     let keeps = kept_by c.args.kept.now in
     let happen : AreEvents t keeps c.args.fleet c.args.station c.deref.result.now = subst (AreEvents t keeps c.args.fleet c.args.station) (sym c.deref.ensures.value) c.in_ok-happening.ensures in
     c.in_ok-push.ensures.items ∙ list_below-push (moment_of t keeps c.args.fleet c.args.station c.args.starts.now) c.loop-place.place c.loop-place.moments.items c.moment.result c.loop-place.invariant
-    (c.moment.ensures t keeps c.args.fleet c.requires.station happen c.requires.idle)
+    (c.moment.ensures keeps c.args.fleet c.requires.station happen c.requires.idle)

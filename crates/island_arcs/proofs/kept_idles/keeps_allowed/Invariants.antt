@@ -1,12 +1,12 @@
 use Rattle.std.proofs.Common.{◌≡◌, ◌≤◌, ◌*◌}
 use Rattle.sums.specs.Below.{sum_below}
 use Rattle.fleet_model.specs.Kept.{kept_by}
-use Rattle.fleet_model.specs.declared.limits.TheConstants.{MAX_FLEETS}
+use Rattle.fleet_model.specs.declared.limits.TheConstants.{MAX_CHOICES}
 use Rattle.island_arcs.specs.KeptIdles.{strange_on}
 use Rattle.island_arcs.proofs.kept_idles.keeps_allowed.Given as goal
 
 abbrev pub invariant-loop-leg : goal.invariant-loop-leg
 invariant-loop-leg l = record {
   counted : l.strange ≡ sum_below (strange_on l.tables (kept_by l.kept)) l.leg;
-  few : l.strange ≤ MAX_FLEETS * l.leg;
+  few : l.strange ≤ MAX_CHOICES * l.leg;
 }

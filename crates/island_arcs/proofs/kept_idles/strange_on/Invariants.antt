@@ -4,8 +4,8 @@ use Rattle.fleet_model.specs.Kept.{kept_by}
 use Rattle.island_arcs.specs.KeptIdles.{is_strange}
 use Rattle.island_arcs.proofs.kept_idles.strange_on.Given as goal
 
-abbrev pub invariant-loop-fleet : goal.invariant-loop-fleet
-invariant-loop-fleet l = record {
-  counted : l.strange ≡ count_below (is_strange l.tables (kept_by l.kept) l.leg) l.fleet;
-  few : l.strange ≤ l.fleet;
+abbrev pub invariant-loop-choice : goal.invariant-loop-choice
+invariant-loop-choice l = record {
+  counted : l.strange ≡ count_below (is_strange l.tables (kept_by l.kept) l.leg) l.choice;
+  few : l.strange ≤ l.choice;
 }
