@@ -5,7 +5,7 @@ use Rattle.std.proofs.Math.Nat.{mul-le-mul_right}
 use mathlib.Core.Bool.{false≢true}
 use Rattle.sums.proofs.Sums.{sum_below-bound}
 use Rattle.sums.proofs.Sizes.{above_tested}
-use Rattle.fleet_model.specs.Schedule.{fleets_in, stations_in}
+use Rattle.fleet_model.specs.Schedule.{fleets_in, period_of, stations_in}
 use Rattle.fleet_model.specs.declared.limits.TheConstants.{MAX_STATIONS, MINUTES_PER_PERIOD}
 use Rattle.fleet_model.specs.declared.tables.Tables.{Tables}
 use Rattle.lp_rows.specs.Layout.{Starts, all_nodes, node_at, node_of_number}
@@ -22,7 +22,7 @@ use Rattle.price_lift.specs.ArcRises.{rises_by}
 use Rattle.price_lift.proofs.OptionalEntries.{few_there, number_at, rank, stands}
 
 -- ---- numbers of nodes
-few_nodes : (t : Tables) (starts : Starts) → ((f s : ℕ) → f < fleets_in t → s < stations_in t → length (starts f s) ≤ MINUTES_PER_PERIOD) → node_count t starts ≤ MAX_RISES
+few_nodes : (t : Tables) (starts : Starts) → ((f s : ℕ) → f < fleets_in t → s < stations_in t → length (starts f s) ≤ period_of t) → node_count t starts ≤ MAX_RISES
 few_nodes t starts few = omega (
   arith,
   sum_below-bound (nodes_in t starts) (MAX_STATIONS * MINUTES_PER_PERIOD) (fleets_in t) (record { each = in_fleet }),
@@ -157,7 +157,7 @@ module _ (t : Tables) (starts : Starts) (moment : ArcMoments) (prices : Prices) 
       let numbers : one.number ≡ other.number = one.is ∙ ap₂ (λ f s. before t starts f s + one.place) fleets stations ∙ ap (λ p. before t starts other.fleet other.station + p) same ∙ sym other.is in
       omega (arith, order, one.ranks, other.ranks, ap (rank there entry) numbers)
 
-  pub are_arc_rises : ((f s : ℕ) → f < fleets_in t → s < stations_in t → length (starts f s) ≤ MINUTES_PER_PERIOD) → AreArcRises t prices starts moment all
+  pub are_arc_rises : ((f s : ℕ) → f < fleets_in t → s < stations_in t → length (starts f s) ≤ period_of t) → AreArcRises t prices starts moment all
   unfolding of_arc is_at
   are_arc_rises few = record {
     few = omega (arith, few_there there entry total, nodes_are t starts, few_nodes t starts few);

@@ -3,10 +3,9 @@ use Rattle.std.proofs.Common.{◌≡◌, ℕ, ◌+◌, ◌<◌, ◌≤◌, List,
 use Rattle.std.proofs.lemmas.Int.{ints}
 use Rattle.frac_row.specs.Row.{IsRow, number_of, reduced, width_of}
 use Rattle.frac_row.specs.declared.row.FracRow.{FracRow}
-use Rattle.fleet_model.specs.declared.limits.TheConstants.{MINUTES_PER_PERIOD}
 use Rattle.fleet_model.specs.declared.tables.Tables.{Tables}
 use Rattle.fleet_model.specs.Kept.{Domains, IsBare}
-use Rattle.fleet_model.specs.Schedule.{fleets_in, legs_in, stations_in}
+use Rattle.fleet_model.specs.Schedule.{fleets_in, legs_in, period_of, stations_in}
 use Rattle.row_store.specs.DualValues.{AreDualValues, WeighMore}
 use Rattle.row_store.specs.declared.problem.Rows.{Rows}
 use Rattle.lp_rows.specs.Layout.{IsNetwork, Starts, starts_in}
@@ -55,7 +54,7 @@ module _ (t : Tables) (keeps : Domains) (rows : Rows) (lines : AreLinesOf t keep
       by_lines other second = subst (AreByLines t other (value_in t (reduced duals))) (sym by) (by_each_network t keeps starts other (reduced duals) network second)
 
   -- ---- paid back
-  module _ (starts : Starts) (network : IsNetwork t keeps starts) (few : (f s : ℕ) → f < fleets_in t → s < stations_in t → length (starts f s) ≤ MINUTES_PER_PERIOD)
+  module _ (starts : Starts) (network : IsNetwork t keeps starts) (few : (f s : ℕ) → f < fleets_in t → s < stations_in t → length (starts f s) ≤ period_of t)
       (prices : Prices) (are : AreNodePrices t keeps starts duals prices) where
     pub low_there : ArePricesLow t keeps starts prices
     low_there =
