@@ -7,6 +7,7 @@ pub mod Minutes
 pub mod MixedPlans
 pub mod NeedAtDepartures
 pub mod NightsUsed
+pub mod OwnPairs
 pub mod PeriodMinutes
 pub mod Periods
 pub mod PlainTables

@@ -3,6 +3,7 @@ ghost use Rattle.std.specs.Prelude.{◌≡◌, ◌<◌, ◌≤◌, IfSome};
 ghost use Rattle.fleet_model.specs.declared.limits.TheConstants.{MAX_CHOICES, MAX_DEPARTURES};
 ghost use Rattle.fleet_model.specs.Legal.{cost_of};
 ghost use Rattle.fleet_model.specs.Limits.{IsCost, IsFleet, IsLeg, IsStation};
+ghost use Rattle.fleet_model.specs.OwnTimes.{own_pair};
 ghost use Rattle.fleet_model.specs.Schedule.{IsFlown, IsPair, choices_in, days_in, departures_in, fleet_by, fleet_of, fleets_in, leg_of, legs_in, pair_on, parking_of, period_of, station_of, stations_in};
 
 use crate::limits::MINUTES_PER_PERIOD;
@@ -138,5 +139,16 @@ impl Tables {
             leg: departure,
             choice: fleet,
         }
+    }
+
+    /// The pair by which a fleet flies a leg at the leg's own time.
+    #[tactic(auto, unfolding(crate::specs::OwnTimes::own_choice, crate::specs::Schedule::choices_in, crate::specs::Schedule::fleet_by))]
+    pub fn own_pair(&self, leg: u32, fleet: u32) -> Pair
+        requires leg { leg < legs_in self.now }
+        requires fleet { fleet < fleets_in self.now }
+        ensures value { result ≡ own_pair self.now leg fleet }
+        ensures flown { IsFlown self.now result }
+    {
+        Pair { leg, choice: fleet }
     }
 }

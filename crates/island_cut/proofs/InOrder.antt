@@ -5,9 +5,8 @@ use Rattle.std.proofs.lemmas.Bool.Decides.{nat_tests}
 use Rattle.std.proofs.lemmas.List.{get_or_append_left, get_or_default, get_or_push, length_push}
 use Rattle.std.proofs.lemmas.List.Elements.{Contains-append_left, Contains-append_right}
 use Rattle.sums.proofs.Tests.{by_test, no_both}
-use Rattle.fleet_model.specs.declared.limits.TheConstants.{MINUTES_PER_PERIOD}
 use Rattle.fleet_model.specs.declared.tables.Tables.{Tables}
-use Rattle.fleet_model.specs.Schedule.{stations_in}
+use Rattle.fleet_model.specs.Schedule.{period_of, stations_in}
 use Rattle.island_cut.specs.declared.idle_minutes.Idle.{Idle}
 use Rattle.island_cut.specs.Islands.{idle_at, idles_below, idles_of, is_idle}
 use Rattle.island_cut.specs.Lookup.{IdlesRise, comes_before}
@@ -25,7 +24,7 @@ pub record AreBefore (t : Tables) (s n : ℕ) (idles : List Idle) : Type 0 where
   pub rise : IdlesRise idles
   pub before : (k : ℕ) → k < length idles → comes_before (entry_of idles k) s n ≡ true
   pub idle : (k : ℕ) → k < length idles → is_idle t (entry_of idles k).station (entry_of idles k).minute ≡ true
-  pub has : (r j : ℕ) → j < MINUTES_PER_PERIOD → is_before r j s n ≡ true → is_idle t r j ≡ true → Contains idles (idle_at r j)
+  pub has : (r j : ℕ) → j < period_of t → is_before r j s n ≡ true → is_idle t r j ≡ true → Contains idles (idle_at r j)
 
 -- ---- orders
 none_earlier : (r j : ℕ) → is_before r j 0 0 ≡ true → ⊥
@@ -117,12 +116,12 @@ minutes_before t s (suc n) front =
     let list = append_assoc (idles_below t s) (entries_below t s n) (if is_idle t s n then idle_at s n ∷ [] else []) ∙ ap (λ xs. idles_below t s ++ xs) (sym (entry_more t s n)) in
     subst (λ k. AreBefore t s k (idles_below t s ++ entries_below t s k)) next (subst (AreBefore t s (n + 1)) list more)
 
-station_done : (t : Tables) (s : ℕ) (idles : List Idle) → AreBefore t s MINUTES_PER_PERIOD idles → AreBefore t (s + 1) 0 idles
+station_done : (t : Tables) (s : ℕ) (idles : List Idle) → AreBefore t s (period_of t) idles → AreBefore t (s + 1) 0 idles
 station_done t s idles are = record {
   rise = are.rise;
-  before = λ k within. next_station (entry_of idles k).station (entry_of idles k).minute s MINUTES_PER_PERIOD (are.before k within);
+  before = λ k within. next_station (entry_of idles k).station (entry_of idles k).minute s (period_of t) (are.before k within);
   idle = are.idle;
-  has = λ r j within e on. are.has r j within (station_before r j s MINUTES_PER_PERIOD within e) on;
+  has = λ r j within e on. are.has r j within (station_before r j s (period_of t) within e) on;
 }
 
 stations_before : (t : Tables) (n : ℕ) → AreBefore t n 0 (idles_below t n)
@@ -134,15 +133,15 @@ stations_before t zero = subst (AreBefore t 0 0) (sym (first_station t)) (record
 })
 stations_before t (suc s) =
     let next : s + 1 ≡ suc s = omega arith in
-    let whole = minutes_before t s MINUTES_PER_PERIOD (stations_before t s) in
-    let list = ap (λ xs. idles_below t s ++ xs) (entries_of_station t s MINUTES_PER_PERIOD refl) ∙ sym (station_more t s) in
-    subst (λ k. AreBefore t k 0 (idles_below t k)) next (station_done t s (idles_below t (s + 1)) (subst (AreBefore t s MINUTES_PER_PERIOD) list whole))
+    let whole = minutes_before t s (period_of t) (stations_before t s) in
+    let list = ap (λ xs. idles_below t s ++ xs) (entries_of_station t s (period_of t) refl) ∙ sym (station_more t s) in
+    subst (λ k. AreBefore t k 0 (idles_below t k)) next (station_done t s (idles_below t (s + 1)) (subst (AreBefore t s (period_of t)) list whole))
 
 -- ---- what the list has
 pub idles_rise : (t : Tables) → IdlesRise (idles_of t)
 idles_rise t = (stations_before t (stations_in t)).rise
 
-pub idle_listed : (t : Tables) (s m : ℕ) → s < stations_in t → m < MINUTES_PER_PERIOD → is_idle t s m ≡ true → Contains (idles_of t) (idle_at s m)
+pub idle_listed : (t : Tables) (s m : ℕ) → s < stations_in t → m < period_of t → is_idle t s m ≡ true → Contains (idles_of t) (idle_at s m)
 idle_listed t s m station minute on = (stations_before t (stations_in t)).has s m minute (of_station_before s m (stations_in t) station) on
 
 pub listed_idle : (t : Tables) (s m : ℕ) → Contains (idles_of t) (idle_at s m) → is_idle t s m ≡ true

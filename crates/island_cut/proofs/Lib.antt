@@ -7,6 +7,7 @@ pub mod LegSums
 pub mod Listed
 pub mod NonePairs
 pub mod Passing
+pub mod PlainDays
 pub mod QuickestFleets
 pub mod QuietMinutes
 pub mod Raised

@@ -3,9 +3,10 @@ use Rattle.std.proofs.Common.{◌≡◌, ℕ, zero, suc, ◌+◌, Bool, true, fa
 use Rattle.std.proofs.lemmas.List.{map-append}
 use Rattle.std.proofs.lemmas.List.FromFn.{filter_of_map_range_with_len_more}
 use Rattle.sums.specs.Places.{list_below}
-use Rattle.fleet_model.specs.declared.limits.TheConstants.{MINUTES_PER_PERIOD}
 use Rattle.fleet_model.specs.declared.tables.Tables.{Tables}
+use Rattle.fleet_model.specs.Schedule.{period_of}
 use Rattle.island_cut.specs.declared.idle_minutes.Idle.{Idle}
+use Rattle.island_cut.specs.PlainDay.{is_plain_day}
 use Rattle.island_cut.specs.Islands.{has_islands, have_pairs, idle_at, idle_minutes, idles_below, is_idle}
 
 -- the entries of a station by its first minutes
@@ -46,11 +47,15 @@ pub no_idles : (t : Tables) (n : ℕ) → has_islands t ≡ false → idles_belo
 unfolding idles_below
 no_idles t zero none = refl
 no_idles t (suc s) none =
-    ap (λ xs. xs ++ map (idle_at s) (idle_minutes t s)) (no_idles t s none) ∙ ap (map (idle_at s)) (none_passes (is_idle t s) MINUTES_PER_PERIOD (λ m. never_idle t s m none))
+    ap (λ xs. xs ++ map (idle_at s) (idle_minutes t s)) (no_idles t s none) ∙ ap (map (idle_at s)) (none_passes (is_idle t s) (period_of t) (λ m. never_idle t s m none))
 
-pub without_pairs : (t : Tables) → have_pairs t ≡ false → has_islands t ≡ false
+pub on_other_days : (t : Tables) → is_plain_day t ≡ false → has_islands t ≡ false
 unfolding has_islands
-without_pairs t none = rw none refl
+on_other_days t other = rw other refl
+
+pub without_pairs : (t : Tables) → is_plain_day t ≡ true → have_pairs t ≡ false → has_islands t ≡ false
+unfolding has_islands
+without_pairs t day none = rw (day, none) refl
 
 pub first_station : (t : Tables) → idles_below t 0 ≡ []
 unfolding idles_below
@@ -66,6 +71,6 @@ station_more t s = ap (idles_below t) next
 pub none_yet : (t : Tables) (s : ℕ) (xs : List Idle) → xs ≡ xs ++ entries_below t s 0
 none_yet t s xs = sym (ap (λ ys. xs ++ ys) (no_entries t s) ∙ append-nil xs)
 
-pub entries_of_station : (t : Tables) (s n : ℕ) → n ≡ MINUTES_PER_PERIOD → entries_below t s n ≡ map (idle_at s) (idle_minutes t s)
+pub entries_of_station : (t : Tables) (s n : ℕ) → n ≡ period_of t → entries_below t s n ≡ map (idle_at s) (idle_minutes t s)
 unfolding entries_below
 entries_of_station t s n end = ap (λ k. map (idle_at s) (filter (is_idle t s) (list_below (λ m. m) k))) end

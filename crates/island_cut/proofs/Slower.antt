@@ -3,10 +3,12 @@ use Rattle.std.proofs.Common.{◌≡◌, ℕ, suc, ◌+◌, ◌*◌, ◌<◌, �
 use Rattle.std.proofs.Math.Nat.{mul-le-mul_left, mul-suc}
 use Rattle.std.proofs.lemmas.Bool.{cases_lt}
 use Rattle.std.proofs.lemmas.Bool.Decides.{nat_tests}
-use Rattle.fleet_model.specs.declared.limits.TheConstants.{MINUTES_PER_PERIOD}
 use Rattle.fleet_model.specs.declared.tables.Tables.{Tables}
-use Rattle.fleet_model.specs.Schedule.{leg_on}
+use Rattle.fleet_model.specs.Schedule.{period_of}
+use Rattle.fleet_model.specs.OwnTimes.{own_pair}
 use Rattle.fleet_model.specs.Times.{busy_minutes, departure, laps_of, ready_minute}
+use Rattle.fleet_model.proofs.OwnPairs.{own_departure}
+use Rattle.fleet_model.proofs.PeriodMinutes.{in_period, lap_split}
 use Rattle.fleet_model.proofs.Periods.{if_le, if_le-most}
 
 -- of two numbers of periods and minutes
@@ -22,14 +24,23 @@ later_ready p m a r b s low high order = elim (cases_lt a b) [
   ]
 ]
 
-module _ (t : Tables) (l quick slow : ℕ) (order : busy_minutes t (leg_on l quick) ≤ busy_minutes t (leg_on l slow)) where
-  pub slower_ready : (m : ℕ) → laps_of t (leg_on l quick) + if_le (ready_minute t (leg_on l slow)) m ≤ laps_of t (leg_on l slow) + if_le (ready_minute t (leg_on l quick)) m
-  slower_ready m =
-      let x = departure t (leg_on l quick) + busy_minutes t (leg_on l quick) in
-      let y = departure t (leg_on l slow) + busy_minutes t (leg_on l slow) in
-      let x_parts : x ≡ MINUTES_PER_PERIOD * laps_of t (leg_on l quick) + ready_minute t (leg_on l quick) = omega arith in
-      let y_parts : y ≡ MINUTES_PER_PERIOD * laps_of t (leg_on l slow) + ready_minute t (leg_on l slow) = omega arith in
-      later_ready MINUTES_PER_PERIOD m (laps_of t (leg_on l quick)) (ready_minute t (leg_on l quick)) (laps_of t (leg_on l slow)) (ready_minute t (leg_on l slow)) (omega arith) (omega arith) (omega (arith, x_parts, y_parts, order))
+-- .. the greater has no fewer periods
+no_fewer_laps : (p a r b s : ℕ) → s < p → p * a + r ≤ p * b + s → a ≤ b
+no_fewer_laps p a r b s high order = elim (cases_lt b a) [
+  | inl more ↦ let row : p * suc b ≤ p * a = mul-le-mul_left p more in absurd (omega (arith, row, mul-suc p b, order, high))
+  | inr no_more ↦ no_more
+]
 
-  pub slower_laps : laps_of t (leg_on l quick) ≤ laps_of t (leg_on l slow)
-  slower_laps = omega (arith, order)
+module _ (t : Tables) (l quick slow : ℕ) (order : busy_minutes t (own_pair t l quick) ≤ busy_minutes t (own_pair t l slow)) where
+  pub slower_ready : (m : ℕ) → laps_of t (own_pair t l quick) + if_le (ready_minute t (own_pair t l slow)) m ≤ laps_of t (own_pair t l slow) + if_le (ready_minute t (own_pair t l quick)) m
+  slower_ready m =
+      let x = own_pair t l quick in
+      let y = own_pair t l slow in
+      later_ready (period_of t) m (laps_of t x) (ready_minute t x) (laps_of t y) (ready_minute t y)
+      (in_period t (departure t x + busy_minutes t x)) (in_period t (departure t y + busy_minutes t y))
+      (omega (arith, lap_split t x, lap_split t y, own_departure t l quick slow, order))
+
+  pub slower_laps : laps_of t (own_pair t l quick) ≤ laps_of t (own_pair t l slow)
+  slower_laps = no_fewer_laps (period_of t) (laps_of t (own_pair t l quick)) (ready_minute t (own_pair t l quick)) (laps_of t (own_pair t l slow)) (ready_minute t (own_pair t l slow))
+      (in_period t (departure t (own_pair t l slow) + busy_minutes t (own_pair t l slow)))
+      (omega (arith, lap_split t (own_pair t l quick), lap_split t (own_pair t l slow), own_departure t l quick slow, order))

@@ -1,14 +1,14 @@
 -- The laws of islands, as statements.
 use Rattle.std.specs.Prelude.{◌≡◌, ℕ, ◌+◌, ◌<◌, ◌≤◌, true, nat_le, IsSome, if◌then◌else◌, List}
 use Rattle.sums.specs.Below.{sum_below}
-use Rattle.fleet_model.specs.declared.limits.TheConstants.{MINUTES_PER_PERIOD}
+use Rattle.fleet_model.specs.declared.parts.Pair.{Pair}
 use Rattle.fleet_model.specs.declared.tables.Tables.{Tables}
 use Rattle.fleet_model.specs.Counts.{Weights, weights_of}
 use Rattle.fleet_model.specs.Kept.{Domains}
 use Rattle.fleet_model.specs.Legal.{IsLegal, cost_of}
 use Rattle.fleet_model.specs.Mixed.{IsMixedPlan}
-use Rattle.fleet_model.specs.Schedule.{fleets_in, leg_of, leg_on, legs_in, stations_in}
-use Rattle.fleet_model.specs.Times.{laps_of, ready_minute}
+use Rattle.fleet_model.specs.Schedule.{IsFlown, fleets_in, leg_of, leg_on, legs_in, period_of, stations_in}
+use Rattle.fleet_model.specs.Times.{departure, laps_of, ready_minute}
 use Rattle.fleet_model.specs.Use.{stand_of}
 use Rattle.fleet_model.specs.Whole.{KeepAllowed}
 use Rattle.island_cut.specs.Islands.{has_islands, is_idle}
@@ -17,7 +17,7 @@ use Rattle.island_cut.specs.Spare.{aircraft_in}
 -- an idle minute of a station
 pub record IsIdle (t : Tables) (s m : ℕ) : Type 0 where
   pub station : s < stations_in t
-  pub minute : m < MINUTES_PER_PERIOD
+  pub minute : m < period_of t
   pub idle : is_idle t s m ≡ true
 
 -- in each mixed plan of pairs that may be flown, none of any fleet's aircraft stands at a station at its idle minutes
@@ -38,21 +38,25 @@ pub record AreIdleAt (t : Tables) (at : ℕ → ℕ) : Type 0 where
   pub islands : has_islands t ≡ true
   pub each : (s : ℕ) → s < stations_in t → IsIdle t s (at s)
 
--- for each leg a fleet that may fly it
-pub record AreFleetsFor (t : Tables) (fleets : ℕ → ℕ) : Type 0 where
-  pub known : (l : ℕ) → l < legs_in t → fleets l < fleets_in t
-  pub allowed : (l : ℕ) → l < legs_in t → IsSome (cost_of t (leg_on l (fleets l)))
+-- for each leg a choice by which a fleet may fly it
+pub record AreChoicesFor (t : Tables) (choices : ℕ → ℕ) : Type 0 where
+  pub known : (l : ℕ) → l < legs_in t → IsFlown t (leg_on l (choices l))
+  pub allowed : (l : ℕ) → l < legs_in t → IsSome (cost_of t (leg_on l (choices l)))
 
--- 1 where the leg's aircraft is ready by the minute of the station that it comes to
-abbrev pub ready_by : Tables → (ℕ → ℕ) → (ℕ → ℕ) → ℕ → ℕ
-ready_by t at fleets l = if nat_le (ready_minute t (leg_on l (fleets l))) (at (leg_of t l).to) then 1 else 0
+-- 1 where the pair's aircraft is ready by the minute of the station that it comes to
+abbrev pub ready_by : Tables → (ℕ → ℕ) → Pair → ℕ
+ready_by t at p = if nat_le (ready_minute t p) (at (leg_of t p.leg).to) then 1 else 0
 
--- 1 where the leg has left by the minute of the station that it leaves
-abbrev pub left_by : Tables → (ℕ → ℕ) → ℕ → ℕ
-left_by t at l = if nat_le (leg_of t l).dep (at (leg_of t l).from) then 1 else 0
+-- 1 where the pair has left by the minute of the station that it leaves
+abbrev pub left_by : Tables → (ℕ → ℕ) → Pair → ℕ
+left_by t at p = if nat_le (departure t p) (at (leg_of t p.leg).from) then 1 else 0
 
--- Whichever fleets fly the legs: the aircraft of all fleets, with the legs that are ready by an idle minute of the station
--- they come to, are no more than the laps and the legs that have left by an idle minute of the station they leave.
+-- The aircraft of all fleets, with the legs that are ready by the minute of the station they come to, are no more than the laps
+-- and the legs that have left by the minute of the station they leave.
+abbrev pub IsPaidBack : Tables → (ℕ → ℕ) → (ℕ → ℕ) → Type 0
+IsPaidBack t at choices = aircraft_in t + sum_below (λ l. ready_by t at (leg_on l (choices l))) (legs_in t)
+    ≤ sum_below (λ l. laps_of t (leg_on l (choices l))) (legs_in t) + sum_below (λ l. left_by t at (leg_on l (choices l))) (legs_in t)
+
+-- at idle minutes they are, whichever fleets fly the legs
 abbrev pub PaybackLaw : Type 0
-PaybackLaw = (t : Tables) (at fleets : ℕ → ℕ) → AreIdleAt t at → AreFleetsFor t fleets
-    → aircraft_in t + sum_below (ready_by t at fleets) (legs_in t) ≤ sum_below (λ l. laps_of t (leg_on l (fleets l))) (legs_in t) + sum_below (left_by t at) (legs_in t)
+PaybackLaw = (t : Tables) (at choices : ℕ → ℕ) → AreIdleAt t at → AreChoicesFor t choices → IsPaidBack t at choices

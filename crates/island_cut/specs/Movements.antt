@@ -1,25 +1,24 @@
 -- Counts by the end of each minute of the period.
 use Rattle.std.specs.Prelude.{◌≡◌, ℕ, ◌+◌, ◌-◌, ◌<◌, ◌≤◌, nat_le, if◌then◌else◌, List, length, slice_index}
 use Rattle.sums.specs.Below.{max_below}
-use Rattle.fleet_model.specs.declared.limits.TheConstants.{MINUTES_PER_PERIOD}
 
--- a count for each minute, none of more than so many
-pub record AreCounts (most : ℕ) (counts : List ℕ) : Type 0 where
-  pub each_minute : length counts ≡ MINUTES_PER_PERIOD
-  pub few : (m : ℕ) → m < MINUTES_PER_PERIOD → slice_index counts m ≤ most
+-- a count for each minute of the period, none of more than so many
+pub record AreCounts (period most : ℕ) (counts : List ℕ) : Type 0 where
+  pub each_minute : length counts ≡ period
+  pub few : (m : ℕ) → m < period → slice_index counts m ≤ most
 
 -- they are what f says of each minute
-pub record TellEach (f : ℕ → ℕ) (counts : List ℕ) : Type 0 where
-  pub each : (m : ℕ) → m < MINUTES_PER_PERIOD → slice_index counts m ≡ f m
+pub record TellEach (period : ℕ) (f : ℕ → ℕ) (counts : List ℕ) : Type 0 where
+  pub each : (m : ℕ) → m < period → slice_index counts m ≡ f m
 
 -- one more from one minute on
-pub record AreRaised (from : ℕ) (old new : List ℕ) : Type 0 where
-  pub each : (m : ℕ) → m < MINUTES_PER_PERIOD → slice_index new m ≡ slice_index old m + (if nat_le from m then 1 else 0)
+pub record AreRaised (period from : ℕ) (old new : List ℕ) : Type 0 where
+  pub each : (m : ℕ) → m < period → slice_index new m ≡ slice_index old m + (if nat_le from m then 1 else 0)
 
 -- by how much the first counts pass the others at a minute
 abbrev pub lead : List ℕ → List ℕ → ℕ → ℕ
 lead departed arrived m = slice_index departed m - slice_index arrived m
 
 -- the greatest of these
-abbrev pub greatest_lead : List ℕ → List ℕ → ℕ
-greatest_lead departed arrived = max_below (lead departed arrived) MINUTES_PER_PERIOD
+abbrev pub greatest_lead : ℕ → List ℕ → List ℕ → ℕ
+greatest_lead period departed arrived = max_below (lead departed arrived) period

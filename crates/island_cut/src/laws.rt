@@ -1,7 +1,6 @@
 //! The laws of islands, over all tables. Each function is a law: its contract is the statement, and it does nothing.
 ghost use Rattle.std.specs.Prelude.{◌≡◌, ◌<◌, ◌↔◌, ℕ, Contains, true};
-ghost use Rattle.fleet_model.specs.Schedule.{stations_in};
-ghost use Rattle.fleet_model.specs.declared.limits.TheConstants.{MINUTES_PER_PERIOD};
+ghost use Rattle.fleet_model.specs.Schedule.{period_of, stations_in};
 ghost use Rattle.fleet_model.specs.declared.tables.Tables.{Tables};
 ghost use Rattle.island_cut.specs.IslandLaws.{IdleIsEmpty, IdleIsEmptyInPlans, PaybackLaw, SomeIdle};
 ghost use Rattle.island_cut.specs.Islands.{idle_at, idles_of, is_idle};
@@ -34,5 +33,5 @@ pub fn idles_rise()
 
 /// The list of idle minutes has each of them, and no others.
 pub fn idles_are_listed()
-    ensures { (t : Tables) (s m : ℕ) → s < stations_in t → m < MINUTES_PER_PERIOD → is_idle t s m ≡ true ↔ Contains (idles_of t) (idle_at s m) }
+    ensures { (t : Tables) (s m : ℕ) → s < stations_in t → m < period_of t → is_idle t s m ≡ true ↔ Contains (idles_of t) (idle_at s m) }
 {}

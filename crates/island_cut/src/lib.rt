@@ -8,11 +8,13 @@ mod joined;
 pub mod laws;
 pub mod lookup;
 mod movements;
+mod plain_day;
 pub mod spares;
 pub mod zeros;
 
 pub use idle_minutes::Idle;
 pub use idles::idle;
+pub use joined::have_pairs;
 pub use lookup::first_idle;
 pub use spares::spare;
 pub use zeros::zero_minutes;

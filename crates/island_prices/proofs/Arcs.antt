@@ -13,16 +13,16 @@ use Rattle.sums.proofs.WholeSums.{sum_below_ℤ-same}
 use Rattle.sums.proofs.WholeSwaps.{sum_below_ℤ-zero}
 use Rattle.sums.proofs.Sizes.{above_tested, not_above_tested}
 use Rattle.fleet_model.specs.Kept.{Domains}
-use Rattle.fleet_model.specs.Schedule.{fleets_in, leg_of, leg_on, legs_in, stations_in}
+use Rattle.fleet_model.specs.Schedule.{departures_in, fleet_by, fleets_in, last_of, leg_at, leg_of, pair_on, period_of, stations_in}
 use Rattle.fleet_model.specs.Times.{departure, ready_minute}
-use Rattle.fleet_model.specs.Use.{last_minute}
-use Rattle.fleet_model.specs.declared.limits.TheConstants.{MINUTES_PER_PERIOD}
 use Rattle.fleet_model.specs.declared.tables.Tables.{Tables}
+use Rattle.fleet_model.proofs.Choices.{of_flown}
+use Rattle.fleet_model.proofs.PeriodMinutes.{some_minutes}
 use Rattle.timeline_net.specs.Events.{departure_event, departures_of, events_below, readies_of, ready_event}
 use Rattle.timeline_net.specs.declared.timeline.Event.{Event}
-use Rattle.node_aggregate.specs.Nodes.{AreNodesAt, MayFollow, MayStart, RiseFromZero, days_at, node_end}
-use Rattle.node_aggregate.proofs.NodeEnds.{Holds, end_at_last, end_before, node_that_holds}
-use Rattle.node_aggregate.proofs.Starts.{start_within, starts_rise}
+use Rattle.node_aggregate.specs.Nodes.{AreNodesAt, MayFollow, MayStart, RiseFromZero, days_at, end_in}
+use Rattle.node_aggregate.proofs.NodeEnds.{Holds, node_that_holds}
+use Rattle.node_aggregate.proofs.Starts.{end_last, end_next, start_within, starts_rise}
 use Rattle.dual_bound.specs.Prices.{AreWithin, max_price, price_of, rent_of}
 use Rattle.dual_bound.specs.declared.prices.Prices.{Prices}
 use Rattle.island_prices.specs.Arcs.{AreAllNodes, AreArcRises, AreByNodes, AreMoments, ArcMoments, DoStayLow, IsQuiet, NodeStarts, rise_over, shift_over}
@@ -33,43 +33,43 @@ use Rattle.island_prices.specs.declared.rises.Shift.TheVariants.{Lowered, Raised
 
 -- ---- a departure among the events is that of a kept pair
 pub record IsKeptDeparture (t : Tables) (keeps : Domains) (f s : ℕ) (e : Event) : Type 0 where
-  pub leg : ℕ
-  pub within : leg < legs_in t
-  pub kept : keeps (leg_on leg f) ≡ true
-  pub from : (leg_of t leg).from ≡ s
-  pub minute : e.minute ≡ departure t (leg_on leg f)
+  pub by : ℕ
+  pub within : by < departures_in t
+  pub kept : keeps (pair_on t by f) ≡ true
+  pub from : (leg_of t (leg_at t by)).from ≡ s
+  pub minute : e.minute ≡ departure t (pair_on t by f)
 
 module _ (t : Tables) (keeps : Domains) (f s : ℕ) where
   abbrev OfPair : Event → Type 0
   OfPair e = e.ready ≡ false → IsKeptDeparture t keeps f s e
 
-  departs_so : (l : ℕ) → l < legs_in t → All OfPair (departures_of t keeps f s l)
-  departs_so l below = by_kept (keeps (leg_on l f) && ((leg_of t l).from == s)) refl
+  departs_so : (d : ℕ) → d < departures_in t → All OfPair (departures_of t keeps f s d)
+  departs_so d below = by_kept (keeps (pair_on t d f) && ((leg_of t (leg_at t d)).from == s)) refl
     where
-      by_kept : (b : Bool) → (keeps (leg_on l f) && ((leg_of t l).from == s)) ≡ b → All OfPair (if b then departure_event t f l ∷ [] else [])
+      by_kept : (b : Bool) → (keeps (pair_on t d f) && ((leg_of t (leg_at t d)).from == s)) ≡ b → All OfPair (if b then departure_event t f d ∷ [] else [])
       by_kept true e =
-          let both = parts_true (keeps (leg_on l f)) ((leg_of t l).from == s) e in
-          All-cons OfPair (departure_event t f l) [] (λ not_ready. record { leg = l; within = below; kept = both.0; from = eqb-true (leg_of t l).from s both.1; minute = refl }) (All-nil OfPair)
+          let both = parts_true (keeps (pair_on t d f)) ((leg_of t (leg_at t d)).from == s) e in
+          All-cons OfPair (departure_event t f d) [] (λ not_ready. record { by = d; within = below; kept = both.0; from = eqb-true (leg_of t (leg_at t d)).from s both.1; minute = refl }) (All-nil OfPair)
       by_kept false e = All-nil OfPair
 
-  readies_so : (l : ℕ) → All OfPair (readies_of t keeps f s l)
-  readies_so l = by_kept (keeps (leg_on l f) && ((leg_of t l).to == s))
+  readies_so : (d : ℕ) → All OfPair (readies_of t keeps f s d)
+  readies_so d = by_kept (keeps (pair_on t d f) && ((leg_of t (leg_at t d)).to == s))
     where
-      by_kept : (b : Bool) → All OfPair (if b then ready_event t f l ∷ [] else [])
-      by_kept true = All-cons OfPair (ready_event t f l) [] (λ not_ready. absurd (true≢false not_ready)) (All-nil OfPair)
+      by_kept : (b : Bool) → All OfPair (if b then ready_event t f d ∷ [] else [])
+      by_kept true = All-cons OfPair (ready_event t f d) [] (λ not_ready. absurd (true≢false not_ready)) (All-nil OfPair)
       by_kept false = All-nil OfPair
 
-  all_so : (n : ℕ) → n ≤ legs_in t → All OfPair (events_below t keeps f s n)
+  all_so : (n : ℕ) → n ≤ departures_in t → All OfPair (events_below t keeps f s n)
   all_so zero within = All-nil OfPair
   all_so (suc n) within = All-append OfPair _ _ (All-append OfPair _ _ (all_so n (omega arith)) (departs_so n (omega arith))) (readies_so n)
 
   -- .. so of several nodes the first has a departure, where one day alone cuts them
-  pub first_departs : (starts : List ℕ) → AreNodesAt t keeps f s starts → days_at t s ≡ 1 → 1 < length starts → (l : ℕ) × (l < legs_in t) × (keeps (leg_on l f) ≡ true) × ((leg_of t l).from ≡ s) × (departure t (leg_on l f) < get_or starts 1 0)
+  pub first_departs : (starts : List ℕ) → AreNodesAt t keeps f s starts → days_at t s ≡ 1 → 1 < length starts → (d : ℕ) × (d < departures_in t) × (keeps (pair_on t d f) ≡ true) × ((leg_of t (leg_at t d)).from ≡ s) × (departure t (pair_on t d f) < get_or starts 1 0)
   first_departs starts nodes one several =
       let may = ready_start (get_or starts 0 0) (get_or starts 1 0) (nodes.nodes.next 0 (omega arith)).is in
-      let all = All-permutation OfPair _ _ nodes.happen.each_once (all_so (legs_in t) (omega arith)) in
+      let all = All-permutation OfPair _ _ nodes.happen.each_once (all_so (departures_in t) (omega arith)) in
       let is = All-contains OfPair nodes.events (record { minute = may.departure; ready = false; departure = may.departs.by }) all may.departs.among refl in
-      (is.leg, is.within, is.kept, is.from, omega (arith, may.later, is.minute))
+      (is.by, is.within, is.kept, is.from, omega (arith, may.later, is.minute))
     where
       ready_start : (start minute : ℕ) → MayFollow nodes.events (days_at t s) start minute → MayStart nodes.events start minute
       ready_start start minute (inl may) = may
@@ -106,19 +106,19 @@ module _ (t : Tables) (keeps : Domains) (prices : Prices) (starts : NodeStarts) 
       several (rise_in rises i).fleet (rise_in rises i).station is.place is.fleet is.station is.within (subst (λ z. pos 0 <ℤ z) is.amount is.some)
 
   -- ---- the first and the last minutes of nodes
-  start_in_period : (f s k : ℕ) → f < fleets_in t → s < stations_in t → k < length (starts f s) → get_or (starts f s) k 0 < MINUTES_PER_PERIOD
+  start_in_period : (f s k : ℕ) → f < fleets_in t → s < stations_in t → k < length (starts f s) → get_or (starts f s) k 0 < period_of t
   start_in_period f s k known inside below = start_within t keeps f s (starts f s) (nodes.each f s known inside) k below
 
-  end_in_period : (f s k : ℕ) → f < fleets_in t → s < stations_in t → k < length (starts f s) → node_end (starts f s) k ≤ last_minute
+  end_in_period : (f s k : ℕ) → f < fleets_in t → s < stations_in t → k < length (starts f s) → end_in t (starts f s) k ≤ last_of t
   end_in_period f s k known within below = elim (cases_lt (k + 1) (length (starts f s))) [
-    | inl more ↦ omega (arith, start_in_period f s (k + 1) known within more, end_before (starts f s) k more)
-    | inr last ↦ omega (arith, end_at_last (starts f s) k last)
+    | inl more ↦ omega (arith, start_in_period f s (k + 1) known within more, end_next t (starts f s) k more)
+    | inr last ↦ omega (arith, end_last t (starts f s) k last)
   ]
 
-  shift_is : (xs : List ℕ) (k m : ℕ) → ((get_or xs k 0 ≤ m) × (shift_over xs k m ≡ Raised (node_end xs k))) ⊎ ((m < get_or xs k 0) × (shift_over xs k m ≡ Lowered))
+  shift_is : (xs : List ℕ) (k m : ℕ) → ((get_or xs k 0 ≤ m) × (shift_over t xs k m ≡ Raised (end_in t xs k))) ⊎ ((m < get_or xs k 0) × (shift_over t xs k m ≡ Lowered))
   shift_is xs k m = elim (cases_lt m (get_or xs k 0)) [
-    | inl early ↦ inr (early, ap (λ b. cond b (Raised (node_end xs k)) Lowered) (lt-leb (get_or xs k 0) m early))
-    | inr begun ↦ inl (begun, ap (λ b. cond b (Raised (node_end xs k)) Lowered) (le-leb (get_or xs k 0) m begun))
+    | inl early ↦ inr (early, ap (λ b. cond b (Raised (end_in t xs k)) Lowered) (lt-leb (get_or xs k 0) m early))
+    | inr begun ↦ inl (begun, ap (λ b. cond b (Raised (end_in t xs k)) Lowered) (le-leb (get_or xs k 0) m begun))
   ]
 
   -- ---- each is a rise
@@ -139,12 +139,12 @@ module _ (t : Tables) (keeps : Domains) (prices : Prices) (starts : NodeStarts) 
           fleet = is.fleet;
           station = is.station;
           moment = in_period;
-          shift = subst (λ x. IsShift x m) (sym is.shift) (elim (shift_is (starts f s) is.place m) [
-            | inl raised ↦ subst (λ x. IsShift x m) (sym raised.1) (
+          shift = subst (λ x. IsShift (period_of t) x m) (sym is.shift) (elim (shift_is (starts f s) is.place m) [
+            | inl raised ↦ subst (λ x. IsShift (period_of t) x m) (sym raised.1) (
               (moments.in_node f s is.place m is.fleet is.station is.within several_nodes is.went raised.0).0,
               omega (arith, end_in_period f s is.place is.fleet is.station is.within),
             )
-            | inr lowered ↦ subst (λ x. IsShift x m) (sym lowered.1) tt
+            | inr lowered ↦ subst (λ x. IsShift (period_of t) x m) (sym lowered.1) tt
           ]);
           amount = record { some = is.some; small = subst (λ z. z ≤ℤ pos (3 * max_price)) (sym is.amount) (small_rise f s is.place is.fleet is.station is.within) };
         };
@@ -159,7 +159,7 @@ module _ (t : Tables) (keeps : Domains) (prices : Prices) (starts : NodeStarts) 
             (small_difference (price_of prices f s (get_or (starts f s) (k + 1) 0)) (price_of prices f s (get_or (starts f s) k 0)) (rent_of prices f) max_price there.no_less there.no_more here.no_less here.no_more (rents f known)).0
         | inr last ↦
             let here = within.each f s (get_or (starts f s) k 0) known inside (start_in_period f s k known inside below) in
-            let there = within.each f s 0 known inside (omega arith) in
+            let there = within.each f s 0 known inside (some_minutes t) in
             subst (λ b. cond b (price_of prices f s (get_or (starts f s) (k + 1) 0) -ℤ price_of prices f s (get_or (starts f s) k 0)) (price_of prices f s 0 -ℤ price_of prices f s (get_or (starts f s) k 0) -ℤ rent_of prices f) ≤ℤ pos (3 * max_price)) (sym (le-ltb (k + 1) (length (starts f s)) last))
             (small_difference (price_of prices f s 0) (price_of prices f s (get_or (starts f s) k 0)) (rent_of prices f) max_price there.no_less there.no_more here.no_less here.no_more (rents f known)).1
       ]
@@ -176,14 +176,14 @@ module _ (t : Tables) (keeps : Domains) (prices : Prices) (starts : NodeStarts) 
   went_so : (i : ℕ) (below : i < length rises) → Went (rise_in rises i).fleet (rise_in rises i).station (rise_in rises i).moment (are.each i below).place
   went_so i below = let is = are.each i below in record { known = is.fleet; within = is.station; below = is.within; several_nodes = one_of_several i below; went = is.went }
 
-  ends_before : (f s k j : ℕ) → f < fleets_in t → s < stations_in t → k < j → j < length (starts f s) → node_end (starts f s) k < get_or (starts f s) j 0
+  ends_before : (f s k j : ℕ) → f < fleets_in t → s < stations_in t → k < j → j < length (starts f s) → end_in t (starts f s) k < get_or (starts f s) j 0
   ends_before f s k j known within order below =
       let rise = rise_from f s known within (omega arith) in
       elim (cases_lt (k + 1) j) [
-        | inl more ↦ omega (arith, end_before (starts f s) k (omega arith), rise.rise (k + 1) j more below, rise.rise k (k + 1) (omega arith) (omega arith))
+        | inl more ↦ omega (arith, end_next t (starts f s) k (omega arith), rise.rise (k + 1) j more below, rise.rise k (k + 1) (omega arith) (omega arith))
         | inr next ↦
             let same : k + 1 ≡ j = omega arith in
-            subst (λ n. node_end (starts f s) k < get_or (starts f s) n 0) same (omega (arith, end_before (starts f s) k (omega arith), rise.rise k (k + 1) (omega arith) (omega arith)))
+            subst (λ n. end_in t (starts f s) k < get_or (starts f s) n 0) same (omega (arith, end_next t (starts f s) k (omega arith), rise.rise k (k + 1) (omega arith) (omega arith)))
       ]
 
   -- a wait in a node and one round the day start have no minute in common, since the first node has a departure
@@ -192,7 +192,7 @@ module _ (t : Tables) (keeps : Domains) (prices : Prices) (starts : NodeStarts) 
       let in_node = moments.in_node f s p m first.known first.within first.below first.several_nodes first.went begun in
       let round = moments.round f s q m second.known second.within second.below second.several_nodes second.went early in
       let event = first_departs t keeps f s (starts f s) (nodes.each f s first.known first.within) (moments.one_day f s p m first.known first.within first.below first.went) first.several_nodes in
-      let minute = departure t (leg_on event.0 f) in
+      let minute = departure t (pair_on t event.0 f) in
       elim (cases_lt m minute) [
         | inl later ↦ elim (cases_lt 0 p) [
           | inl past ↦ elim (cases_lt 1 p) [
@@ -201,7 +201,7 @@ module _ (t : Tables) (keeps : Domains) (prices : Prices) (starts : NodeStarts) 
           ]
           | inr start ↦
               let same : p ≡ 0 = omega arith in
-              in_node.1.departs event.0 event.1 event.2 event.3 (omega (arith, later)) (subst (λ k. minute ≤ node_end (starts f s) k) (sym same) (omega (arith, event.4, end_before (starts f s) 0 (omega (arith, first.several_nodes)))))
+              in_node.1.departs event.0 event.1 event.2 event.3 (omega (arith, later)) (subst (λ k. minute ≤ end_in t (starts f s) k) (sym same) (omega (arith, event.4, end_next t (starts f s) 0 (omega (arith, first.several_nodes)))))
         ]
         | inr by_then ↦ round.1.departs event.0 event.1 event.2 event.3 (omega arith) by_then
       ]
@@ -241,88 +241,88 @@ module _ (t : Tables) (keeps : Domains) (prices : Prices) (starts : NodeStarts) 
   }
 
   -- ---- prices rise by them alone
-  ends_some : (f s m i : ℕ) → i < length rises → pos 0 ≤ℤ ends_at rises f s m i
-  ends_some f s m i below = by_case (is_of (rise_in rises i) f s && (end_of (rise_in rises i).shift == m))
+  ends_some : (f s m i : ℕ) → i < length rises → pos 0 ≤ℤ ends_at t rises f s m i
+  ends_some f s m i below = by_case (is_of (rise_in rises i) f s && (end_of t (rise_in rises i).shift == m))
     where
       by_case : (b : Bool) → pos 0 ≤ℤ cond b (rise_in rises i).amount (pos 0)
       by_case true = omega (arith, ints, (are.each i below).some)
       by_case false = omega (arith, ints)
 
-  ends_at_least_0 : (f s m : ℕ) → pos 0 ≤ℤ ends_by rises f s m
+  ends_at_least_0 : (f s m : ℕ) → pos 0 ≤ℤ ends_by t rises f s m
   unfolding ends_by
-  ends_at_least_0 f s m = at_least_0 (ends_at rises f s m) (length rises) (ends_some f s m)
+  ends_at_least_0 f s m = at_least_0 (ends_at t rises f s m) (length rises) (ends_some f s m)
 
-  end_is : (f s k a : ℕ) → Went f s a k → end_of (shift_over (starts f s) k a) ≡ node_end (starts f s) k
+  end_is : (f s k a : ℕ) → Went f s a k → end_of t (shift_over t (starts f s) k a) ≡ end_in t (starts f s) k
   end_is f s k a went = elim (shift_is (starts f s) k a) [
-    | inl raised ↦ ap end_of raised.1
+    | inl raised ↦ ap (end_of t) raised.1
     | inr lowered ↦
         let last = (moments.round f s k a went.known went.within went.below went.several_nodes went.went lowered.0).0 in
-        ap end_of lowered.1 ∙ sym (end_at_last (starts f s) k (omega (arith, last)))
+        ap (end_of t) lowered.1 ∙ sym (end_last t (starts f s) k (omega (arith, last)))
   ]
 
-  arc_covered : DoStayLow t prices starts moment → (f s k m : ℕ) → f < fleets_in t → s < stations_in t → k < length (starts f s) → node_end (starts f s) k ≡ m → rise_over prices (starts f s) f s k ≤ℤ ends_by rises f s m
+  arc_covered : DoStayLow t prices starts moment → (f s k m : ℕ) → f < fleets_in t → s < stations_in t → k < length (starts f s) → end_in t (starts f s) k ≡ m → rise_over prices (starts f s) f s k ≤ℤ ends_by t rises f s m
   unfolding ends_by
   arc_covered low f s k m known within below ends = by_moment (moment f s k) refl
     where
-      by_moment : (o : Option ℕ) → moment f s k ≡ o → rise_over prices (starts f s) f s k ≤ℤ sum_below_ℤ (ends_at rises f s m) (length rises)
-      by_moment None stays = omega (arith, ints, low.each f s k known within below stays, at_least_0 (ends_at rises f s m) (length rises) (ends_some f s m))
+      by_moment : (o : Option ℕ) → moment f s k ≡ o → rise_over prices (starts f s) f s k ≤ℤ sum_below_ℤ (ends_at t rises f s m) (length rises)
+      by_moment None stays = omega (arith, ints, low.each f s k known within below stays, at_least_0 (ends_at t rises f s m) (length rises) (ends_some f s m))
       by_moment (Some a) went = by_test (int_lt (pos 0) (rise_over prices (starts f s) f s k))
           (λ e.
           let rises_there = above_tested (rise_over prices (starts f s) f s k) e in
           let has = are.all f s k a known within below went rises_there in
           let at : Went f s a k = record { known = known; within = within; below = below; several_nodes = several f s k known within below rises_there; went = went } in
-          let ends_there : end_of (rise_in rises has.at).shift ≡ m = ap end_of has.shift ∙ end_is f s k a at ∙ ends in
-          let passes : (is_of (rise_in rises has.at) f s && (end_of (rise_in rises has.at).shift == m)) ≡ true =
-          both_true (is_of (rise_in rises has.at) f s) (end_of (rise_in rises has.at).shift == m)
+          let ends_there : end_of t (rise_in rises has.at).shift ≡ m = ap (end_of t) has.shift ∙ end_is f s k a at ∙ ends in
+          let passes : (is_of (rise_in rises has.at) f s && (end_of t (rise_in rises has.at).shift == m)) ≡ true =
+          both_true (is_of (rise_in rises has.at) f s) (end_of t (rise_in rises has.at).shift == m)
           (both_true ((rise_in rises has.at).fleet == f) ((rise_in rises has.at).station == s) (equal_number (rise_in rises has.at).fleet f has.fleet) (equal_number (rise_in rises has.at).station s has.station))
-          (equal_number (end_of (rise_in rises has.at).shift) m ends_there) in
-          let term : ends_at rises f s m has.at ≡ rise_over prices (starts f s) f s k = ap (λ b. cond b (rise_in rises has.at).amount (pos 0)) passes ∙ has.amount in
-          omega (arith, ints, term, term_within (ends_at rises f s m) (length rises) has.at has.within (ends_some f s m)))
-          (λ e. omega (arith, ints, not_above_tested (rise_over prices (starts f s) f s k) e, at_least_0 (ends_at rises f s m) (length rises) (ends_some f s m)))
+          (equal_number (end_of t (rise_in rises has.at).shift) m ends_there) in
+          let term : ends_at t rises f s m has.at ≡ rise_over prices (starts f s) f s k = ap (λ b. cond b (rise_in rises has.at).amount (pos 0)) passes ∙ has.amount in
+          omega (arith, ints, term, term_within (ends_at t rises f s m) (length rises) has.at has.within (ends_some f s m)))
+          (λ e. omega (arith, ints, not_above_tested (rise_over prices (starts f s) f s k) e, at_least_0 (ends_at t rises f s m) (length rises) (ends_some f s m)))
 
   module _ (by_nodes : AreByNodes t prices starts) (low : DoStayLow t prices starts moment) where
-    in_its_node : (f s k m : ℕ) → m ≤ last_minute → Holds (starts f s) m k → m ≤ node_end (starts f s) k
+    in_its_node : (f s k m : ℕ) → m ≤ last_of t → Holds (starts f s) m k → m ≤ end_in t (starts f s) k
     in_its_node f s k m period holds = elim (cases_lt (k + 1) (length (starts f s))) [
-      | inl more ↦ omega (arith, holds.before more, end_before (starts f s) k more)
-      | inr last ↦ omega (arith, end_at_last (starts f s) k last)
+      | inl more ↦ omega (arith, holds.before more, end_next t (starts f s) k more)
+      | inr last ↦ omega (arith, end_last t (starts f s) k last)
     ]
 
-    next_covered : (f s m : ℕ) → f < fleets_in t → s < stations_in t → m + 1 < MINUTES_PER_PERIOD → price_of prices f s (m + 1) ≤ℤ (price_of prices f s m +ℤ ends_by rises f s m)
+    next_covered : (f s m : ℕ) → f < fleets_in t → s < stations_in t → m + 1 < period_of t → price_of prices f s (m + 1) ≤ℤ (price_of prices f s m +ℤ ends_by t rises f s m)
     next_covered f s m known within period = elim (cases_lt 0 (length (starts f s))) [
       | inl some ↦
           let at = node_that_holds (starts f s) m (rise_from f s known within some).first some in
           let k = at.0 in
           let here = by_nodes.through f s k m known within at.1.within at.1.started (in_its_node f s k m (omega arith) at.1) in
-          elim (cases_lt m (node_end (starts f s) k)) [
+          elim (cases_lt m (end_in t (starts f s) k)) [
             | inl inside ↦
                 let next = by_nodes.through f s k (m + 1) known within at.1.within (omega (arith, at.1.started)) (omega (arith, inside)) in
                 omega (arith, ints, here, next, ends_at_least_0 f s m)
             | inr outside ↦
-                let ends : node_end (starts f s) k ≡ m = omega (arith, outside, in_its_node f s k m (omega arith) at.1) in
+                let ends : end_in t (starts f s) k ≡ m = omega (arith, outside, in_its_node f s k m (omega arith) at.1) in
                 elim (cases_lt (k + 1) (length (starts f s))) [
                   | inl more ↦
-                      let next : get_or (starts f s) (k + 1) 0 ≡ m + 1 = omega (arith, ends, at.1.before more, end_before (starts f s) k more) in
+                      let next : get_or (starts f s) (k + 1) 0 ≡ m + 1 = omega (arith, ends, at.1.before more, end_next t (starts f s) k more) in
                       omega (arith, ints, here, ap (price_of prices f s) next, rise_inside prices (starts f s) f s k more, arc_covered low f s k m known within at.1.within ends)
-                  | inr last ↦ absurd (omega (arith, ends, end_at_last (starts f s) k last))
+                  | inr last ↦ absurd (omega (arith, ends, end_last t (starts f s) k last))
                 ]
           ]
       | inr none ↦ omega (arith, ints, by_nodes.nowhere f s m known within (omega arith), by_nodes.nowhere f s (m + 1) known within (omega arith), ends_at_least_0 f s m)
     ]
 
-    over_end_covered : (f s : ℕ) → f < fleets_in t → s < stations_in t → price_of prices f s 0 ≤ℤ (price_of prices f s last_minute +ℤ rent_of prices f +ℤ ends_by rises f s last_minute)
+    over_end_covered : (f s : ℕ) → f < fleets_in t → s < stations_in t → price_of prices f s 0 ≤ℤ (price_of prices f s (last_of t) +ℤ rent_of prices f +ℤ ends_by t rises f s (last_of t))
     over_end_covered f s known within = elim (cases_lt 0 (length (starts f s))) [
       | inl some ↦
           let k = length (starts f s) - 1 in
           let below : k < length (starts f s) = omega arith in
-          let ends = end_at_last (starts f s) k (omega arith) in
-          let at = node_that_holds (starts f s) last_minute (rise_from f s known within some).first some in
+          let ends = end_last t (starts f s) k (omega arith) in
+          let at = node_that_holds (starts f s) (last_of t) (rise_from f s known within some).first some in
           let last_place : at.0 ≡ k = only_last at.0 at.1 in
-          let here = by_nodes.through f s k last_minute known within below (subst (λ j. get_or (starts f s) j 0 ≤ last_minute) last_place at.1.started) (omega (arith, ends)) in
-          omega (arith, ints, here, rise_at_last prices (starts f s) f s k (omega arith), arc_covered low f s k last_minute known within below ends)
-      | inr none ↦ omega (arith, ints, by_nodes.nowhere f s 0 known within (omega arith), by_nodes.nowhere f s last_minute known within (omega arith), ends_at_least_0 f s last_minute, rents f known)
+          let here = by_nodes.through f s k (last_of t) known within below (subst (λ j. get_or (starts f s) j 0 ≤ (last_of t)) last_place at.1.started) (omega (arith, ends)) in
+          omega (arith, ints, here, rise_at_last prices (starts f s) f s k (omega arith), arc_covered low f s k (last_of t) known within below ends)
+      | inr none ↦ omega (arith, ints, by_nodes.nowhere f s 0 known within (omega arith), by_nodes.nowhere f s (last_of t) known within (omega arith), ends_at_least_0 f s (last_of t), rents f known)
     ]
       where
-        only_last : (k : ℕ) → Holds (starts f s) last_minute k → k ≡ length (starts f s) - 1
+        only_last : (k : ℕ) → Holds (starts f s) (last_of t) k → k ≡ length (starts f s) - 1
         only_last k holds = elim (cases_lt (k + 1) (length (starts f s))) [
           | inl more ↦ absurd (omega (arith, holds.before more, start_in_period f s (k + 1) known within more))
           | inr last ↦ omega (arith, holds.within)
@@ -347,11 +347,11 @@ module _ (t : Tables) (keeps : Domains) (prices : Prices) (starts : NodeStarts) 
         at_most : (m n : ℕ) → nat_le m n ≡ true → m ≤ n
         at_most m n e = grind (arith, nat_tests)
 
-    not_shifted : (k a : ℕ) (z : ℤ) → Went f s a k → shifted (shift_over (starts f s) k a) a z m ≡ pos 0
+    not_shifted : (k a : ℕ) (z : ℤ) → Went f s a k → shifted (shift_over t (starts f s) k a) a z m ≡ pos 0
     not_shifted k a z went = elim (shift_is (starts f s) k a) [
       | inl raised ↦
           let quiet = (moments.in_node f s k a went.known went.within went.below went.several_nodes went.went raised.0).1 in
-          ap (λ x. shifted x a z m) raised.1 ∙ not_raised a (node_end (starts f s) k) z (λ later ends. no_event (a + 1) (node_end (starts f s) k) quiet (omega arith) ends)
+          ap (λ x. shifted x a z m) raised.1 ∙ not_raised a (end_in t (starts f s) k) z (λ later ends. no_event (a + 1) (end_in t (starts f s) k) quiet (omega arith) ends)
       | inr lowered ↦
           let quiet = (moments.round f s k a went.known went.within went.below went.several_nodes went.went lowered.0).1 in
           ap (λ x. shifted x a z m) lowered.1 ∙ not_lowered a (neg_ℤ z) (λ early. no_event 0 a quiet (omega arith) early)
@@ -365,8 +365,8 @@ module _ (t : Tables) (keeps : Domains) (prices : Prices) (starts : NodeStarts) 
         let station : (rise_in rises i).station ≡ s = eqb-true (rise_in rises i).station s own.1 in
         let k = (are.each i below).place in
         let here = subst (λ r. Went f r (rise_in rises i).moment k) station (subst (λ g. Went g (rise_in rises i).station (rise_in rises i).moment k) fleet (went_so i below)) in
-        let shift : (rise_in rises i).shift ≡ shift_over (starts f s) k (rise_in rises i).moment =
-        (are.each i below).shift ∙ ap₂ (λ g r. shift_over (starts g r) k (rise_in rises i).moment) fleet station in
+        let shift : (rise_in rises i).shift ≡ shift_over t (starts f s) k (rise_in rises i).moment =
+        (are.each i below).shift ∙ ap₂ (λ g r. shift_over t (starts g r) k (rise_in rises i).moment) fleet station in
         ap (λ b. cond b (shift_of (rise_in rises i) m) (pos 0)) e
         ∙ ap (λ x. shifted x (rise_in rises i).moment (rise_in rises i).amount m) shift
         ∙ not_shifted k (rise_in rises i).moment (rise_in rises i).amount here)
@@ -378,6 +378,16 @@ module _ (t : Tables) (keeps : Domains) (prices : Prices) (starts : NodeStarts) 
 
   pub are_quiet : AreQuiet t keeps rises
   are_quiet = record {
-    departs = λ p pair kept. stays_there p.choice (leg_of t p.leg).from (departure t p) (λ low high quiet from to. quiet.departs p.leg pair.leg kept refl from to);
-    lands = λ p pair kept. stays_there p.choice (leg_of t p.leg).to (ready_minute t p) (λ low high quiet from to. quiet.lands p.leg pair.leg kept refl from to);
+    departs = λ p flown kept.
+        let at = of_flown t p flown in
+        let is = at.1.pair in
+        stays_there (fleet_by t p) (leg_of t p.leg).from (departure t p) (λ low high quiet from to.
+        quiet.departs at.0 at.1.within (subst (λ q. keeps q ≡ true) (sym is) kept) (ap (λ q. (leg_of t q.leg).from) is)
+        (subst (λ q. low ≤ departure t q) (sym is) from) (subst (λ q. departure t q ≤ high) (sym is) to));
+    lands = λ p flown kept.
+        let at = of_flown t p flown in
+        let is = at.1.pair in
+        stays_there (fleet_by t p) (leg_of t p.leg).to (ready_minute t p) (λ low high quiet from to.
+        quiet.lands at.0 at.1.within (subst (λ q. keeps q ≡ true) (sym is) kept) (ap (λ q. (leg_of t q.leg).to) is)
+        (subst (λ q. low ≤ ready_minute t q) (sym is) from) (subst (λ q. ready_minute t q ≤ high) (sym is) to));
   }

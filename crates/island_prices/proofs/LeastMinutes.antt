@@ -9,8 +9,7 @@ use Rattle.sums.specs.Places.{list_below}
 use Rattle.sums.proofs.Naturals.{equal_number}
 use Rattle.sums.proofs.Places.{get_or-list_below, length-list_below}
 use Rattle.sums.proofs.Tests.{by_test}
-use Rattle.fleet_model.specs.Schedule.{stations_in}
-use Rattle.fleet_model.specs.declared.limits.TheConstants.{MINUTES_PER_PERIOD}
+use Rattle.fleet_model.specs.Schedule.{period_of, stations_in}
 use Rattle.fleet_model.specs.declared.tables.Tables.{Tables}
 use Rattle.island_cut.specs.IslandLaws.{IsIdle}
 use Rattle.island_cut.specs.Islands.{has_islands, idle_at, idle_minutes, idles_below, idles_of, is_idle}
@@ -77,8 +76,8 @@ module _ (t : Tables) where
   of_station : (s r : ℕ) → r < stations_in t → All (IsIdleEntry s) (map (idle_at r) (idle_minutes t r))
   of_station s r within = All-map (IsIdleEntry s) (idle_at r) (idle_minutes t r) (λ k d below same.
       let m = get_or (idle_minutes t r) k d in
-      let passes = filter_passes (is_idle t r) (list_below (λ m. m) MINUTES_PER_PERIOD) k d below in
-      let early = All-filter (is_idle t r) (λ m. m < MINUTES_PER_PERIOD) (list_below (λ m. m) MINUTES_PER_PERIOD) (below_period MINUTES_PER_PERIOD) k d below in
+      let passes = filter_passes (is_idle t r) (list_below (λ m. m) (period_of t)) k d below in
+      let early = All-filter (is_idle t r) (λ m. m < period_of t) (list_below (λ m. m) (period_of t)) (below_period (period_of t)) k d below in
       subst (λ q. IsIdle t q m) same (record { station = within; minute = early; idle = passes }))
 
   all_idle : (s n : ℕ) → n ≤ stations_in t → All (IsIdleEntry s) (idles_below t n)
@@ -89,7 +88,7 @@ module _ (t : Tables) where
   -- and a station with an idle minute has an entry
   in_station : (s m : ℕ) → IsIdle t s m → Contains (map (idle_at s) (idle_minutes t s)) (idle_at s m)
   in_station s m is =
-      let at = passing_place (is_idle t s) m MINUTES_PER_PERIOD is.minute is.idle in
+      let at = passing_place (is_idle t s) m (period_of t) is.minute is.idle in
       (at.place, omega (arith, at.within, length-map (idle_minutes t s) (idle_at s)), get_or-map (idle_at s) (idle_minutes t s) at.place 0 (idle_at s m) at.within ∙ ap (idle_at s) (at.there 0))
 
   among_all : (s m n : ℕ) → s < n → IsIdle t s m → Contains (idles_below t n) (idle_at s m)

@@ -11,9 +11,7 @@ use Rattle.sums.proofs.Orders.{same_times}
 use Rattle.sums.proofs.Tests.{by_test, never_passes, parts_true}
 use Rattle.sums.proofs.WholeSums.{sum_below_ℤ-same}
 use Rattle.sums.proofs.WholeSwaps.{sum_below_ℤ-+ℤ}
-use Rattle.fleet_model.specs.Schedule.{fleets_in, stations_in}
-use Rattle.fleet_model.specs.Use.{last_minute}
-use Rattle.fleet_model.specs.declared.limits.TheConstants.{MINUTES_PER_PERIOD}
+use Rattle.fleet_model.specs.Schedule.{fleets_in, last_of, period_of, stations_in}
 use Rattle.fleet_model.specs.declared.tables.Tables.{Tables}
 use Rattle.dual_bound.specs.Prices.{rent_of}
 use Rattle.dual_bound.specs.declared.prices.Prices.{Prices}
@@ -40,9 +38,9 @@ opposite true z = refl
 opposite false z = refl
 
 -- ---- from a minute to another one, where the tests of a rise count as often
-pub record IsNext (m n : ℕ) : Type 0 where
-  pub raised : (a last : ℕ) → a ≤ last → last ≤ last_minute → once (nat_lt a n && nat_le n last) + once (last == m) ≡ once (nat_lt a m && nat_le m last) + once (a == m)
-  pub lowered : (a : ℕ) → a ≤ last_minute → once (nat_le m a) + once (last_minute == m) ≡ once (nat_le n a) + once (a == m)
+pub record IsNext (t : Tables) (m n : ℕ) : Type 0 where
+  pub raised : (a last : ℕ) → a ≤ last → last ≤ last_of t → once (nat_lt a n && nat_le n last) + once (last == m) ≡ once (nat_lt a m && nat_le m last) + once (a == m)
+  pub lowered : (a : ℕ) → a ≤ last_of t → once (nat_le m a) + once (last_of t == m) ≡ once (nat_le n a) + once (a == m)
 
 -- .. the next one of the period
 raised_next : (a last m : ℕ) → a ≤ last → once (nat_lt a (m + 1) && nat_le (m + 1) last) + once (last == m) ≡ once (nat_lt a m && nat_le m last) + once (a == m)
@@ -51,10 +49,10 @@ raised_next a last m order = grind (arith, nat_tests)
 lowered_next : (a end m : ℕ) → m + 1 ≤ end → once (nat_le m a) + once (end == m) ≡ once (nat_le (m + 1) a) + once (a == m)
 lowered_next a end m within = grind (arith, nat_tests)
 
-pub next_minute : (m : ℕ) → m + 1 < MINUTES_PER_PERIOD → IsNext m (m + 1)
-next_minute m within = record {
+pub next_minute : (t : Tables) (m : ℕ) → m + 1 < period_of t → IsNext t m (m + 1)
+next_minute t m within = record {
   raised = λ a last order in_period. raised_next a last m order;
-  lowered = λ a in_period. lowered_next a last_minute m (omega arith);
+  lowered = λ a in_period. lowered_next a (last_of t) m (omega (arith, within));
 }
 
 -- .. and the first one of the next period
@@ -64,18 +62,18 @@ raised_over a last end order within = grind (arith, nat_tests)
 lowered_over : (a end : ℕ) → a ≤ end → once (nat_le end a) + once (end == end) ≡ once (nat_le 0 a) + once (a == end)
 lowered_over a end within = grind (arith, nat_tests)
 
-pub next_period : IsNext last_minute 0
-next_period = record {
-  raised = λ a last order in_period. raised_over a last last_minute order in_period;
-  lowered = λ a in_period. lowered_over a last_minute in_period;
+pub next_period : (t : Tables) → IsNext t (last_of t) 0
+next_period t = record {
+  raised = λ a last order in_period. raised_over a last (last_of t) order in_period;
+  lowered = λ a in_period. lowered_over a (last_of t) in_period;
 }
 
-one_shift : (m n : ℕ) → IsNext m n → (shift : Shift) (moment : ℕ) (amount : ℤ) → IsShift shift moment → moment ≤ last_minute
-    → shifted shift moment amount n +ℤ cond (end_of shift == m) amount (pos 0) ≡ shifted shift moment amount m +ℤ cond (moment == m) amount (pos 0)
-one_shift m n next (Raised last) moment amount is within =
+one_shift : (t : Tables) (m n : ℕ) → IsNext t m n → (shift : Shift) (moment : ℕ) (amount : ℤ) → IsShift (period_of t) shift moment → moment ≤ last_of t
+    → shifted shift moment amount n +ℤ cond (end_of t shift == m) amount (pos 0) ≡ shifted shift moment amount m +ℤ cond (moment == m) amount (pos 0)
+one_shift t m n next (Raised last) moment amount is within =
     as_often (nat_lt moment n && nat_le n last) (last == m) (nat_lt moment m && nat_le m last) (moment == m) amount (next.raised moment last is.0 (omega (arith, is.1)))
-one_shift m n next Lowered moment amount is within =
-    let same = as_often (nat_le m moment) (last_minute == m) (nat_le n moment) (moment == m) amount (next.lowered moment within) in
+one_shift t m n next Lowered moment amount is within =
+    let same = as_often (nat_le m moment) (last_of t == m) (nat_le n moment) (moment == m) amount (next.lowered moment within) in
     omega (arith, ints, same, opposite (nat_le n moment) amount, opposite (nat_le m moment) amount)
 
 -- ---- over all rises
@@ -87,20 +85,20 @@ abbrev pub went_by : List Rise → ℕ → ℕ → ℕ → ℤ
 went_by rises f s m = sum_below_ℤ (went_at rises f s m) (length rises)
 
 module _ (t : Tables) (rises : List Rise) (are : AreRises t rises) (f s : ℕ) where
-  one_rise : (m n : ℕ) → IsNext m n → (i : ℕ) → i < length rises → shift_at rises f s n i +ℤ ends_at rises f s m i ≡ shift_at rises f s m i +ℤ went_at rises f s m i
+  one_rise : (m n : ℕ) → IsNext t m n → (i : ℕ) → i < length rises → shift_at rises f s n i +ℤ ends_at t rises f s m i ≡ shift_at rises f s m i +ℤ went_at rises f s m i
   one_rise m n next i below = by_own (is_of (rise_in rises i) f s)
     where
       by_own : (b : Bool)
-          → cond b (shift_of (rise_in rises i) n) (pos 0) +ℤ cond (b && (end_of (rise_in rises i).shift == m)) (rise_in rises i).amount (pos 0)
+          → cond b (shift_of (rise_in rises i) n) (pos 0) +ℤ cond (b && (end_of t (rise_in rises i).shift == m)) (rise_in rises i).amount (pos 0)
           ≡ cond b (shift_of (rise_in rises i) m) (pos 0) +ℤ cond (b && ((rise_in rises i).moment == m)) (rise_in rises i).amount (pos 0)
-      by_own true = one_shift m n next (rise_in rises i).shift (rise_in rises i).moment (rise_in rises i).amount (are.each i below).shift (omega (arith, (are.each i below).moment))
+      by_own true = one_shift t m n next (rise_in rises i).shift (rise_in rises i).moment (rise_in rises i).amount (are.each i below).shift (omega (arith, (are.each i below).moment))
       by_own false = refl
 
-  all_rises : (m n : ℕ) → IsNext m n → shift_by rises f s n +ℤ ends_by rises f s m ≡ shift_by rises f s m +ℤ went_by rises f s m
+  all_rises : (m n : ℕ) → IsNext t m n → shift_by rises f s n +ℤ ends_by t rises f s m ≡ shift_by rises f s m +ℤ went_by rises f s m
   unfolding shift_by ends_by
   all_rises m n next =
-      sym (sum_below_ℤ-+ℤ (shift_at rises f s n) (ends_at rises f s m) (length rises))
-      ∙ sum_below_ℤ-same (λ i. shift_at rises f s n i +ℤ ends_at rises f s m i) (λ i. shift_at rises f s m i +ℤ went_at rises f s m i) (length rises) (one_rise m n next)
+      sym (sum_below_ℤ-+ℤ (shift_at rises f s n) (ends_at t rises f s m) (length rises))
+      ∙ sum_below_ℤ-same (λ i. shift_at rises f s n i +ℤ ends_at t rises f s m i) (λ i. shift_at rises f s m i +ℤ went_at rises f s m i) (length rises) (one_rise m n next)
       ∙ sum_below_ℤ-+ℤ (shift_at rises f s m) (went_at rises f s m) (length rises)
 
 -- ---- one rise of a fleet at a station goes to a moment at most
@@ -165,8 +163,8 @@ module _ (rises : List Rise) (apart : AreApart rises) (f s m : ℕ) where
 
 -- ---- moved prices
 module _ (t : Tables) (prices : Prices) (rises : List Rise) (are : AreRises t rises) (apart : AreApart rises) (covered : AreCovered t prices rises) (f s : ℕ) (known : f < fleets_in t) (within : s < stations_in t) where
-  pub rises_at_moment : (m : ℕ) → m + 1 < MINUTES_PER_PERIOD → moved_price prices rises f s (m + 1) ≤ℤ (moved_price prices rises f s m +ℤ greatest_rise rises s m)
-  rises_at_moment m in_period = omega (arith, ints, covered.within_period f s m known within in_period, all_rises t rises are f s m (m + 1) (next_minute m in_period), went_once rises apart f s m)
+  pub rises_at_moment : (m : ℕ) → m + 1 < period_of t → moved_price prices rises f s (m + 1) ≤ℤ (moved_price prices rises f s m +ℤ greatest_rise rises s m)
+  rises_at_moment m in_period = omega (arith, ints, covered.within_period f s m known within in_period, all_rises t rises are f s m (m + 1) (next_minute t m in_period), went_once rises apart f s m)
 
-  pub rises_over_end : moved_price prices rises f s 0 ≤ℤ (moved_price prices rises f s last_minute +ℤ rent_of prices f +ℤ greatest_rise rises s last_minute)
-  rises_over_end = omega (arith, ints, covered.over_end f s known within, all_rises t rises are f s last_minute 0 next_period, went_once rises apart f s last_minute)
+  pub rises_over_end : moved_price prices rises f s 0 ≤ℤ (moved_price prices rises f s (last_of t) +ℤ rent_of prices f +ℤ greatest_rise rises s (last_of t))
+  rises_over_end = omega (arith, ints, covered.over_end f s known within, all_rises t rises are f s (last_of t) 0 (next_period t), went_once rises apart f s (last_of t))

@@ -7,13 +7,11 @@ use Rattle.sums.proofs.Places.{get_or-list_below, length-list_below, nothing_at}
 use Rattle.sums.proofs.WholeTerms.{at_least_0}
 use Rattle.fleet_model.specs.Kept.{Domains, IsBare}
 use Rattle.fleet_model.specs.Legal.{cost_of}
-use Rattle.fleet_model.specs.Schedule.{IsPair, fleets_in, leg_of, leg_on, no_leg, stations_in}
+use Rattle.fleet_model.specs.Schedule.{IsFlown, IsPair, fleets_in, last_of, leg_of, leg_on, no_leg, period_of, stations_in}
 use Rattle.fleet_model.specs.Times.{busy_minutes, departure, laps_of, ready_minute}
-use Rattle.fleet_model.specs.Use.{last_minute}
-use Rattle.fleet_model.specs.declared.limits.TheConstants.{MINUTES_PER_PERIOD}
 use Rattle.fleet_model.specs.declared.parts.Pair.{Pair}
 use Rattle.fleet_model.specs.declared.tables.Tables.{Tables}
-use Rattle.fleet_model.proofs.Minutes.{in_period}
+use Rattle.fleet_model.proofs.PeriodMinutes.{departs_always, in_period, last_in, some_minutes}
 use Rattle.dual_bound.specs.OfTables.{ArePricesOf}
 use Rattle.dual_bound.specs.Prices.{ArePrices, IsPrice, IsScale, max_price, price_of, rent_of}
 use Rattle.dual_bound.specs.Worth.{cost_units, worth_of}
@@ -55,14 +53,14 @@ module _ (t : Tables) (rent : ℕ → ℤ) (price : ℕ → ℕ → ℕ → ℤ)
 
   pub rent_fits : (f : ℕ) → f < fleets_in t → IsPrice (rent f)
   unfolding has_beyond
-  rent_fits f known = small (rent f) (or_parts (is_beyond (rent f)) (beyond_of (price f) (stations_in t)) (fleet_fits f known)).0
+  rent_fits f known = small (rent f) (or_parts (is_beyond (rent f)) (beyond_of (period_of t) (price f) (stations_in t)) (fleet_fits f known)).0
 
-  pub price_fits : (f s m : ℕ) → f < fleets_in t → s < stations_in t → m < MINUTES_PER_PERIOD → IsPrice (price f s m)
+  pub price_fits : (f s m : ℕ) → f < fleets_in t → s < stations_in t → m < period_of t → IsPrice (price f s m)
   unfolding has_beyond beyond_of beyond_at
   price_fits f s m known within period =
       small (price f s m)
-      (none_below (λ k. is_beyond (price f s k)) MINUTES_PER_PERIOD m
-      (none_below (λ r. any_below (λ k. is_beyond (price f r k)) MINUTES_PER_PERIOD) (stations_in t) s (or_parts (is_beyond (rent f)) (beyond_of (price f) (stations_in t)) (fleet_fits f known)).1 within) period)
+      (none_below (λ k. is_beyond (price f s k)) (period_of t) m
+      (none_below (λ r. any_below (λ k. is_beyond (price f r k)) (period_of t)) (stations_in t) s (or_parts (is_beyond (rent f)) (beyond_of (period_of t) (price f) (stations_in t)) (fleet_fits f known)).1 within) period)
 
 figure : (z : ℤ) → IsPrice z → IsFigure z
 figure z is = record { no_less = omega (arith, ints, is.no_less); no_more = omega (arith, ints, is.no_more) }
@@ -87,7 +85,7 @@ module _ (t : Tables) (prices : Prices) (rises : List Rise) (least : List ℕ) (
   abbrev prices_after : ℕ → Prices
   prices_after n = record { scale = prices.scale; rents = list_below (rent_after_rounds n) (fleets_in t); steps = steps_of t (price_after_rounds n) }
 
-  told_price : (n f s m : ℕ) → f < fleets_in t → s < stations_in t → m < MINUTES_PER_PERIOD → price_of (prices_after n) f s m ≡ moved_price prices rises f s m +ℤ price_grown rounds s m n
+  told_price : (n f s m : ℕ) → f < fleets_in t → s < stations_in t → m < period_of t → price_of (prices_after n) f s m ≡ moved_price prices rises f s m +ℤ price_grown rounds s m n
   unfolding price_after_rounds
   told_price n f s m known within period = price_is t (price_after_rounds n) f s m within period known
 
@@ -107,7 +105,7 @@ module _ (t : Tables) (prices : Prices) (rises : List Rise) (least : List ℕ) (
   unfolding paid_rent
   paid_rent_is f = refl
 
-  pub price_told : (f s m : ℕ) → f < fleets_in t → s < stations_in t → m < MINUTES_PER_PERIOD → price_of (paid_prices t prices rises rounds) f s m ≡ paid_price prices rises rounds f s m
+  pub price_told : (f s m : ℕ) → f < fleets_in t → s < stations_in t → m < period_of t → price_of (paid_prices t prices rises rounds) f s m ≡ paid_price prices rises rounds f s m
   price_told f s m known within period = ap (λ p. price_of p f s m) all_rounds_are ∙ told_price count f s m known within period ∙ sym (paid_price_is f s m)
 
   pub rent_told : (f : ℕ) → f < fleets_in t → rent_of (paid_prices t prices rises rounds) f ≡ paid_rent prices rounds f
@@ -123,7 +121,7 @@ module _ (t : Tables) (prices : Prices) (rises : List Rise) (least : List ℕ) (
 
   module _ (apart : AreApart rises) (covered : AreCovered t prices rises) (scale : IsScale prices.scale) (rents : (f : ℕ) → f < fleets_in t → pos 0 ≤ℤ rent_of prices f)
       (fits : first_beyond t (paid_rent prices rounds) (paid_price prices rises rounds) (fleets_in t) ≡ None) where
-    falls : (f s m : ℕ) → f < fleets_in t → s < stations_in t → m + 1 < MINUTES_PER_PERIOD → paid_price prices rises rounds f s (m + 1) ≤ℤ paid_price prices rises rounds f s m
+    falls : (f s m : ℕ) → f < fleets_in t → s < stations_in t → m + 1 < period_of t → paid_price prices rises rounds f s (m + 1) ≤ℤ paid_price prices rises rounds f s m
     falls f s m known within period = omega (
       arith,
       ints,
@@ -134,16 +132,16 @@ module _ (t : Tables) (prices : Prices) (rises : List Rise) (least : List ℕ) (
       lost_next t rises are least s m,
     )
 
-    over_end : (f s : ℕ) → f < fleets_in t → s < stations_in t → paid_price prices rises rounds f s 0 ≤ℤ (paid_price prices rises rounds f s last_minute +ℤ paid_rent prices rounds f)
+    over_end : (f s : ℕ) → f < fleets_in t → s < stations_in t → paid_price prices rises rounds f s 0 ≤ℤ (paid_price prices rises rounds f s (last_of t) +ℤ paid_rent prices rounds f)
     over_end f s known within = omega (
       arith,
       ints,
       paid_price_is f s 0,
-      paid_price_is f s last_minute,
+      paid_price_is f s (last_of t),
       paid_rent_is f,
       rises_over_end t prices rises are apart covered f s known within,
-      reached t rises are least s last_minute within (omega arith),
-      lost_at_end t rises are least s last_minute,
+      reached t rises are least s (last_of t) within (last_in t),
+      lost_at_end t rises are least s (last_of t),
       grown_at_start t rises are least s,
     )
 
@@ -160,7 +158,7 @@ module _ (t : Tables) (prices : Prices) (rises : List Rise) (least : List ℕ) (
         each = λ f s m known within period. omega (arith, ints, price_told f s (m + 1) known within period, price_told f s m known within (omega arith), falls f s m known within period);
       };
       rise = record {
-        each = λ f s known within. omega (arith, ints, price_told f s 0 known within (omega arith), price_told f s last_minute known within (omega arith), rent_told f known, over_end f s known within);
+        each = λ f s known within. omega (arith, ints, price_told f s 0 known within (some_minutes t), price_told f s (last_of t) known within (last_in t), rent_told f known, over_end f s known within);
       };
     }
 
@@ -195,11 +193,11 @@ module _ (t : Tables) (prices : Prices) (rises : List Rise) (least : List ℕ) (
         (λ l f below known kept.
         let p = leg_on l f in
         let leg = t.in_range.legs_fit.each l no_leg below in
-        let pair : IsPair t p = record { leg = below; choice = known } in
+        let flown : IsFlown t p = record { pair = record { leg = below; choice = known }; by = known } in
         let out : price_of (prices_after 0) f (leg_of t l).from (departure t p) ≡ price_of prices f (leg_of t l).from (departure t p) =
-        omega (arith, ints, told_price 0 f (leg_of t l).from (departure t p) known leg.from leg.dep, quiet.departs p pair kept, not_grown (leg_of t l).from (departure t p)) in
+        omega (arith, ints, told_price 0 f (leg_of t l).from (departure t p) known leg.from (departs_always t p), quiet.departs p flown kept, not_grown (leg_of t l).from (departure t p)) in
         let back : price_of (prices_after 0) f (leg_of t l).to (ready_minute t p) ≡ price_of prices f (leg_of t l).to (ready_minute t p) =
-        omega (arith, ints, told_price 0 f (leg_of t l).to (ready_minute t p) known leg.to (in_period (departure t p + busy_minutes t p)), quiet.lands p pair kept, not_grown (leg_of t l).to (ready_minute t p)) in
+        omega (arith, ints, told_price 0 f (leg_of t l).to (ready_minute t p) known leg.to (in_period t (departure t p + busy_minutes t p)), quiet.lands p flown kept, not_grown (leg_of t l).to (ready_minute t p)) in
         ap₂ (λ x y. (pos k *ℤ prices.scale *ℤ cost_units t p) +ℤ (x -ℤ y) +ℤ (rent_of (prices_after 0) f *ℤ pos (laps_of t p))) out back
         ∙ ap (λ r. (pos k *ℤ prices.scale *ℤ cost_units t p) +ℤ (price_of prices f (leg_of t l).from (departure t p) -ℤ price_of prices f (leg_of t l).to (ready_minute t p)) +ℤ (r *ℤ pos (laps_of t p))) (rent_stays f known))
         rent_stays

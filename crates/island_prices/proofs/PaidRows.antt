@@ -5,8 +5,7 @@ use Rattle.std.proofs.lemmas.Bool.{cases_lt, or_right}
 use Rattle.sums.specs.Places.{list_below, or_else}
 use Rattle.sums.proofs.Places.{first_found, get_or-list_below, length-list_below, nothing_at}
 use Rattle.sums.proofs.Tests.{never_passes}
-use Rattle.fleet_model.specs.Schedule.{fleets_in, stations_in}
-use Rattle.fleet_model.specs.declared.limits.TheConstants.{MINUTES_PER_PERIOD}
+use Rattle.fleet_model.specs.Schedule.{fleets_in, period_of, stations_in}
 use Rattle.fleet_model.specs.declared.tables.Tables.{Tables}
 use Rattle.dual_bound.specs.declared.prices.Prices.{Prices}
 use Rattle.dual_bound.specs.declared.prices.PriceStep.{PriceStep}
@@ -43,84 +42,84 @@ unfolding beyond_at
 one_beyond price n k below passes = sym (any_found (λ m. is_beyond (price m)) n k below passes)
 
 -- ---- steps behind those so far
-pub nothing_pushed : (price : ℕ → ℤ) (f s : ℕ) (old : List PriceStep) → old ≡ old ++ steps_below price f s 0
+pub nothing_pushed : (minutes : ℕ) (price : ℕ → ℤ) (f s : ℕ) (old : List PriceStep) → old ≡ old ++ steps_below minutes price f s 0
 unfolding steps_below
-nothing_pushed price f s old = sym (append-nil old)
+nothing_pushed minutes price f s old = sym (append-nil old)
 
-pub minute_pushed : (price : ℕ → ℤ) (f s m : ℕ) (old steps new : List PriceStep) → steps ≡ old ++ steps_below price f s m → new ≡ steps ++ step_where price f s m → new ≡ old ++ steps_below price f s (m + 1)
+pub minute_pushed : (minutes : ℕ) (price : ℕ → ℤ) (f s m : ℕ) (old steps new : List PriceStep) → steps ≡ old ++ steps_below minutes price f s m → new ≡ steps ++ step_where minutes price f s m → new ≡ old ++ steps_below minutes price f s (m + 1)
 unfolding steps_below
-minute_pushed price f s m old steps new so_far grown =
-    grown ∙ ap (λ xs. xs ++ step_where price f s m) so_far ∙ append_assoc old (steps_below price f s m) (step_where price f s m)
-    ∙ ap (λ k. old ++ steps_below price f s k) (sym (add-one m))
+minute_pushed minutes price f s m old steps new so_far grown =
+    grown ∙ ap (λ xs. xs ++ step_where minutes price f s m) so_far ∙ append_assoc old (steps_below minutes price f s m) (step_where minutes price f s m)
+    ∙ ap (λ k. old ++ steps_below minutes price f s k) (sym (add-one m))
 
 -- ---- a row has the prices of its minutes
-module _ (price : ℕ → ℤ) (row : List ℤ) (is : row ≡ list_below price MINUTES_PER_PERIOD) where
+module _ (minutes : ℕ) (price : ℕ → ℤ) (row : List ℤ) (is : row ≡ list_below price minutes) where
   abbrev pub by_row : ℕ → ℤ
   by_row m = get_or row m (pos 0)
 
-  row_there : (m : ℕ) → m < MINUTES_PER_PERIOD → by_row m ≡ price m
-  row_there m below = ap (λ xs. get_or xs m (pos 0)) is ∙ get_or-list_below price MINUTES_PER_PERIOD m (pos 0) below
+  row_there : (m : ℕ) → m < minutes → by_row m ≡ price m
+  row_there m below = ap (λ xs. get_or xs m (pos 0)) is ∙ get_or-list_below price minutes m (pos 0) below
 
-  pub row_long : length row ≡ MINUTES_PER_PERIOD
-  row_long = ap length is ∙ length-list_below price MINUTES_PER_PERIOD
+  pub row_long : length row ≡ minutes
+  row_long = ap length is ∙ length-list_below price minutes
 
-  zero_same : (n : ℕ) → n ≤ MINUTES_PER_PERIOD → all_zero by_row n ≡ all_zero price n
+  zero_same : (n : ℕ) → n ≤ minutes → all_zero by_row n ≡ all_zero price n
   unfolding all_zero
   zero_same zero within = refl
   zero_same (suc n) within = ap₂ (λ a z. a && int_eq z (pos 0)) (zero_same n (omega arith)) (row_there n (omega arith))
 
-  step_same : (m : ℕ) → m < MINUTES_PER_PERIOD → is_step by_row m ≡ is_step price m
+  step_same : (m : ℕ) → m < minutes → is_step minutes by_row m ≡ is_step minutes price m
   unfolding is_step
-  step_same zero below = ap not (zero_same MINUTES_PER_PERIOD (omega arith))
+  step_same zero below = ap not (zero_same minutes (omega arith))
   step_same (suc m) below = ap₂ (λ x y. not (int_eq x y)) (row_there (suc m) below) (row_there m (omega arith))
 
-  steps_same : (f s n : ℕ) → n ≤ MINUTES_PER_PERIOD → steps_below by_row f s n ≡ steps_below price f s n
+  steps_same : (f s n : ℕ) → n ≤ minutes → steps_below minutes by_row f s n ≡ steps_below minutes price f s n
   unfolding steps_below
   steps_same f s zero within = refl
   steps_same f s (suc n) within =
       ap₂ (λ xs ys. xs ++ ys) (steps_same f s n (omega arith))
       (ap₂ (λ b z. if b then record { fleet = f; station = s; minute = n; value = z } ∷ [] else []) (step_same n (omega arith)) (row_there n (omega arith)))
 
-  pub steps_by_row : (f s : ℕ) → steps_below by_row f s MINUTES_PER_PERIOD ≡ steps_below price f s MINUTES_PER_PERIOD
-  steps_by_row f s = steps_same f s MINUTES_PER_PERIOD (omega arith)
+  pub steps_by_row : (f s : ℕ) → steps_below (length row) by_row f s (length row) ≡ steps_below minutes price f s minutes
+  steps_by_row f s = ap (λ n. steps_below n by_row f s n) row_long ∙ steps_same f s minutes (omega arith)
 
-  beyond_same : (n : ℕ) → n ≤ MINUTES_PER_PERIOD → beyond_at by_row n ≡ beyond_at price n
+  beyond_same : (n : ℕ) → n ≤ minutes → beyond_at by_row n ≡ beyond_at price n
   unfolding beyond_at
   beyond_same zero within = refl
   beyond_same (suc n) within = ap₂ (λ a z. a || is_beyond z) (beyond_same n (omega arith)) (row_there n (omega arith))
 
-  pub beyond_by_row : beyond_at by_row (length row) ≡ beyond_at price MINUTES_PER_PERIOD
-  beyond_by_row = ap (beyond_at by_row) row_long ∙ beyond_same MINUTES_PER_PERIOD (omega arith)
+  pub beyond_by_row : beyond_at by_row (length row) ≡ beyond_at price minutes
+  beyond_by_row = ap (beyond_at by_row) row_long ∙ beyond_same minutes (omega arith)
 
 -- ---- of a fleet, station by station: nothing is beyond, and the steps stand behind those before
-pub record IsFleetSoFar (price : ℕ → ℕ → ℤ) (f : ℕ) (old steps : List PriceStep) (n : ℕ) : Type 0 where
-  pub none : beyond_of price n ≡ false
-  pub pushed : steps ≡ old ++ station_steps price f n
+pub record IsFleetSoFar (minutes : ℕ) (price : ℕ → ℕ → ℤ) (f : ℕ) (old steps : List PriceStep) (n : ℕ) : Type 0 where
+  pub none : beyond_of minutes price n ≡ false
+  pub pushed : steps ≡ old ++ station_steps minutes price f n
 
-pub no_station : (price : ℕ → ℕ → ℤ) (f : ℕ) (old : List PriceStep) → IsFleetSoFar price f old old 0
+pub no_station : (minutes : ℕ) (price : ℕ → ℕ → ℤ) (f : ℕ) (old : List PriceStep) → IsFleetSoFar minutes price f old old 0
 unfolding beyond_of station_steps
-no_station price f old = record { none = refl; pushed = sym (append-nil old) }
+no_station minutes price f old = record { none = refl; pushed = sym (append-nil old) }
 
-pub one_station : (price : ℕ → ℕ → ℤ) (f : ℕ) (old steps new : List PriceStep) (n : ℕ) (row other : List ℤ) → row ≡ list_below (price n) MINUTES_PER_PERIOD → other ≡ list_below (price n) MINUTES_PER_PERIOD → IsFleetSoFar price f old steps n
-    → beyond_at (λ m. get_or row m (pos 0)) (length row) ≡ false → new ≡ steps ++ steps_below (λ m. get_or other m (pos 0)) f n MINUTES_PER_PERIOD → IsFleetSoFar price f old new (n + 1)
+pub one_station : (minutes : ℕ) (price : ℕ → ℕ → ℤ) (f : ℕ) (old steps new : List PriceStep) (n : ℕ) (row other : List ℤ) → row ≡ list_below (price n) minutes → other ≡ list_below (price n) minutes → IsFleetSoFar minutes price f old steps n
+    → beyond_at (λ m. get_or row m (pos 0)) (length row) ≡ false → new ≡ steps ++ steps_below (length other) (λ m. get_or other m (pos 0)) f n (length other) → IsFleetSoFar minutes price f old new (n + 1)
 unfolding beyond_of station_steps
-one_station price f old steps new n row other is are so_far fine grown = record {
-  none = ap (beyond_of price) (add-one n) ∙ ap₂ (λ a b. a || b) so_far.none (sym (beyond_by_row (price n) row is) ∙ fine);
+one_station minutes price f old steps new n row other is are so_far fine grown = record {
+  none = ap (beyond_of minutes price) (add-one n) ∙ ap₂ (λ a b. a || b) so_far.none (sym (beyond_by_row minutes (price n) row is) ∙ fine);
   pushed =
-      grown ∙ ap₂ (λ xs ys. xs ++ ys) so_far.pushed (steps_by_row (price n) other are f n)
-      ∙ append_assoc old (station_steps price f n) (steps_below (price n) f n MINUTES_PER_PERIOD)
-      ∙ ap (λ k. old ++ station_steps price f k) (sym (add-one n));
+      grown ∙ ap₂ (λ xs ys. xs ++ ys) so_far.pushed (steps_by_row minutes (price n) other are f n)
+      ∙ append_assoc old (station_steps minutes price f n) (steps_below minutes (price n) f n minutes)
+      ∙ ap (λ k. old ++ station_steps minutes price f k) (sym (add-one n));
 }
 
 -- where a row is beyond, the fleet is
-pub beyond_there : (t : Tables) (rent : ℕ → ℤ) (price : ℕ → ℕ → ℕ → ℤ) (f n : ℕ) (row : List ℤ) → row ≡ list_below (price f n) MINUTES_PER_PERIOD → n < stations_in t
+pub beyond_there : (t : Tables) (rent : ℕ → ℤ) (price : ℕ → ℕ → ℕ → ℤ) (f n : ℕ) (row : List ℤ) → row ≡ list_below (price f n) (period_of t) → n < stations_in t
     → beyond_at (λ m. get_or row m (pos 0)) (length row) ≡ true → has_beyond t rent price f ≡ true
 unfolding has_beyond beyond_of
 beyond_there t rent price f n row is below passes =
-    or_right (is_beyond (rent f)) _ (any_found (λ s. beyond_at (price f s) MINUTES_PER_PERIOD) (stations_in t) n below (sym (beyond_by_row (price f n) row is) ∙ passes))
+    or_right (is_beyond (rent f)) _ (any_found (λ s. beyond_at (price f s) (period_of t)) (stations_in t) n below (sym (beyond_by_row (period_of t) (price f n) row is) ∙ passes))
 
 -- .. and only so its row fails
-pub row_fails : (t : Tables) (rent : ℕ → ℤ) (price : ℕ → ℕ → ℕ → ℤ) (f n : ℕ) (row : List ℤ) (e : PaybackError) → row ≡ list_below (price f n) MINUTES_PER_PERIOD → n < stations_in t
+pub row_fails : (t : Tables) (rent : ℕ → ℤ) (price : ℕ → ℕ → ℕ → ℤ) (f n : ℕ) (row : List ℤ) (e : PaybackError) → row ≡ list_below (price f n) (period_of t) → n < stations_in t
     → HasBeyond (beyond_at (λ m. get_or row m (pos 0)) (length row)) f e → HasBeyond (has_beyond t rent price f) f e
 row_fails t rent price f n row (Beyond fleet) is below fails = (beyond_there t rent price f n row is below fails.0, fails.1)
 row_fails t rent price f n row NoMemory is below fails = tt
@@ -132,7 +131,7 @@ behind_rent beyond NoMemory fine = fine
 
 rent_fine : (t : Tables) (rent : ℕ → ℤ) (price : ℕ → ℕ → ℕ → ℤ) (f : ℕ) → fleet_if (has_beyond t rent price f) f ≡ None → is_beyond (rent f) ≡ false
 unfolding has_beyond
-rent_fine t rent price f fine = either_not (is_beyond (rent f)) _ (none_if (is_beyond (rent f) || beyond_of (price f) (stations_in t)) fine)
+rent_fine t rent price f fine = either_not (is_beyond (rent f)) _ (none_if (is_beyond (rent f) || beyond_of (period_of t) (price f) (stations_in t)) fine)
   where
     none_if : (b : Bool) → fleet_if b f ≡ None → b ≡ false
     none_if false none = refl
@@ -144,17 +143,17 @@ rent_fine t rent price f fine = either_not (is_beyond (rent f)) _ (none_if (is_b
 
 pub rent_beyond : (t : Tables) (rent : ℕ → ℤ) (price : ℕ → ℕ → ℕ → ℤ) (f : ℕ) → is_beyond (rent f) ≡ true → has_beyond t rent price f ≡ true
 unfolding has_beyond
-rent_beyond t rent price f passes = ap (λ b. b || beyond_of (price f) (stations_in t)) passes
+rent_beyond t rent price f passes = ap (λ b. b || beyond_of (period_of t) (price f) (stations_in t)) passes
 
-pub neither_beyond : (t : Tables) (rent : ℕ → ℤ) (price : ℕ → ℕ → ℕ → ℤ) (f : ℕ) → is_beyond (rent f) ≡ false → beyond_of (price f) (stations_in t) ≡ false → has_beyond t rent price f ≡ false
+pub neither_beyond : (t : Tables) (rent : ℕ → ℤ) (price : ℕ → ℕ → ℕ → ℤ) (f : ℕ) → is_beyond (rent f) ≡ false → beyond_of (period_of t) (price f) (stations_in t) ≡ false → has_beyond t rent price f ≡ false
 unfolding has_beyond
 neither_beyond t rent price f first second = ap₂ (λ a b. a || b) first second
 
-pub fleet_done : (t : Tables) (rent : ℕ → ℤ) (price : ℕ → ℕ → ℕ → ℤ) (f : ℕ) (old steps : List PriceStep) (n : ℕ) → n ≡ stations_in t → IsFleetSoFar (price f) f old steps n → is_beyond (rent f) ≡ false
-    → (has_beyond t rent price f ≡ false) × (steps ≡ old ++ station_steps (price f) f (stations_in t))
+pub fleet_done : (t : Tables) (rent : ℕ → ℤ) (price : ℕ → ℕ → ℕ → ℤ) (f : ℕ) (old steps : List PriceStep) (n : ℕ) → n ≡ stations_in t → IsFleetSoFar (period_of t) (price f) f old steps n → is_beyond (rent f) ≡ false
+    → (has_beyond t rent price f ≡ false) × (steps ≡ old ++ station_steps (period_of t) (price f) f (stations_in t))
 fleet_done t rent price f old steps n all so_far fine = (
-  neither_beyond t rent price f fine (ap (beyond_of (price f)) (sym all) ∙ so_far.none),
-  so_far.pushed ∙ ap (λ k. old ++ station_steps (price f) f k) all,
+  neither_beyond t rent price f fine (ap (beyond_of (period_of t) (price f)) (sym all) ∙ so_far.none),
+  so_far.pushed ∙ ap (λ k. old ++ station_steps (period_of t) (price f) f k) all,
 )
 
 -- ---- fleet by fleet
@@ -167,11 +166,11 @@ unfolding first_beyond fleet_steps
 no_fleet t rent price steps none = record { none = refl; pushed = none }
 
 pub one_fleet : (t : Tables) (rent : ℕ → ℤ) (price : ℕ → ℕ → ℕ → ℤ) (steps new : List PriceStep) (n : ℕ) → AreFleetsSoFar t rent price steps n
-    → has_beyond t rent price n ≡ false → new ≡ steps ++ station_steps (price n) n (stations_in t) → AreFleetsSoFar t rent price new (n + 1)
+    → has_beyond t rent price n ≡ false → new ≡ steps ++ station_steps (period_of t) (price n) n (stations_in t) → AreFleetsSoFar t rent price new (n + 1)
 unfolding first_beyond fleet_steps
 one_fleet t rent price steps new n so_far fine grown = record {
   none = ap (first_beyond t rent price) (add-one n) ∙ ap₂ (λ o b. or_else o (fleet_if b n)) so_far.none fine;
-  pushed = grown ∙ ap (λ xs. xs ++ station_steps (price n) n (stations_in t)) so_far.pushed ∙ ap (fleet_steps t price) (sym (add-one n));
+  pushed = grown ∙ ap (λ xs. xs ++ station_steps (period_of t) (price n) n (stations_in t)) so_far.pushed ∙ ap (fleet_steps t price) (sym (add-one n));
 }
 
 pub fleet_fails : (t : Tables) (rent : ℕ → ℤ) (price : ℕ → ℕ → ℕ → ℤ) (steps : List PriceStep) (n : ℕ) (e : PaybackError) → AreFleetsSoFar t rent price steps n → n < fleets_in t

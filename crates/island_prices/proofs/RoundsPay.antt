@@ -8,8 +8,7 @@ use Rattle.std.proofs.lemmas.List.Elements.{filter_passes}
 use Rattle.sums.specs.Places.{list_below}
 use Rattle.sums.proofs.Places.{get_or-list_below}
 use Rattle.sums.proofs.Tests.{by_test, parts_true}
-use Rattle.fleet_model.specs.Schedule.{stations_in}
-use Rattle.fleet_model.specs.declared.limits.TheConstants.{MINUTES_PER_PERIOD}
+use Rattle.fleet_model.specs.Schedule.{period_of, stations_in}
 use Rattle.fleet_model.specs.declared.tables.Tables.{Tables}
 use Rattle.island_cut.specs.IslandLaws.{IsIdle}
 use Rattle.island_cut.specs.Islands.{has_islands}
@@ -45,9 +44,9 @@ one_above g (suc n) e = by_test (int_lt (pos 0) (g n))
     rest : (a b : ℤ) → int_lt (pos 0) (int_max a b) ≡ true → int_lt (pos 0) b ≡ false → int_lt (pos 0) a ≡ true
     rest a b e other = grind (arith, ints, clamps)
 
-passing : (rises : List Rise) (s j d : ℕ) → j < length (moments_of rises s) → has_rise rises s (get_or (moments_of rises s) j d) ≡ true
+passing : (t : Tables) (rises : List Rise) (s j d : ℕ) → j < length (moments_of t rises s) → has_rise rises s (get_or (moments_of t rises s) j d) ≡ true
 unfolding moments_below
-passing rises s j d below = filter_passes (has_rise rises s) (list_below (λ m. m) MINUTES_PER_PERIOD) j d below
+passing t rises s j d below = filter_passes (has_rise rises s) (list_below (λ m. m) (period_of t)) j d below
 
 module _ (t : Tables) (rises : List Rise) (at_idles : AreAtIdles t rises) where
   -- a moment to which a rise goes is idle
@@ -71,18 +70,18 @@ module _ (t : Tables) (rises : List Rise) (at_idles : AreAtIdles t rises) where
     idle_taken : (s j : ℕ) → s < stations_in t → IsIdle t s (minute_in (rounds_of t rises (least_idle t)) s j)
     unfolding rounds_by
     idle_taken s j within =
-        let own = get_or-list_below (moments_of rises) (stations_in t) s [] within in
+        let own = get_or-list_below (moments_of t rises) (stations_in t) s [] within in
         let taken = ap (λ xs. get_or xs j (get_or (least_idle t) s 0)) own in
-        subst (λ m. IsIdle t s m) (sym taken) (elim (cases_lt j (length (moments_of rises s))) [
-          | inl below ↦ idle_where s (get_or (moments_of rises s) j (get_or (least_idle t) s 0)) (of_list s j (get_or (least_idle t) s 0) below)
-          | inr past ↦ subst (λ m. IsIdle t s m) (sym (get_or_past (moments_of rises s) j (get_or (least_idle t) s 0) past)) (least_is_idle t islands s within)
+        subst (λ m. IsIdle t s m) (sym taken) (elim (cases_lt j (length (moments_of t rises s))) [
+          | inl below ↦ idle_where s (get_or (moments_of t rises s) j (get_or (least_idle t) s 0)) (of_list s j (get_or (least_idle t) s 0) below)
+          | inr past ↦ subst (λ m. IsIdle t s m) (sym (get_or_past (moments_of t rises s) j (get_or (least_idle t) s 0) past)) (least_is_idle t islands s within)
         ])
       where
-        of_list : (s j d : ℕ) → j < length (moments_of rises s) → has_rise rises s (get_or (moments_of rises s) j d) ≡ true
-        of_list s j d below = passing rises s j d below
+        of_list : (s j d : ℕ) → j < length (moments_of t rises s) → has_rise rises s (get_or (moments_of t rises s) j d) ≡ true
+        of_list s j d below = passing t rises s j d below
 
     -- so each round is paid back
     pub rounds_pay : (j : ℕ) → PaysBack t (λ s. minute_in (rounds_of t rises (least_idle t)) s j)
     rounds_pay j = record {
-      each = λ fleets are. payback_law t (λ s. minute_in (rounds_of t rises (least_idle t)) s j) fleets (record { islands = islands; each = λ s within. idle_taken s j within }) are;
+      each = λ choices are. payback_law t (λ s. minute_in (rounds_of t rises (least_idle t)) s j) choices (record { islands = islands; each = λ s within. idle_taken s j within }) are;
     }

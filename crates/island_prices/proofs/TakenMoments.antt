@@ -17,9 +17,9 @@ use Rattle.sums.proofs.WholeSums.{sum_below_ℤ-same}
 use Rattle.sums.proofs.WholeSwaps.{sum_below_ℤ-+ℤ}
 use Rattle.sums.proofs.WholeTerms.{at_least_0, term_within}
 use Rattle.sums.proofs.Sizes.{not_above_tested}
-use Rattle.fleet_model.specs.Schedule.{stations_in}
-use Rattle.fleet_model.specs.declared.limits.TheConstants.{MINUTES_PER_PERIOD}
+use Rattle.fleet_model.specs.Schedule.{period_of, stations_in}
 use Rattle.fleet_model.specs.declared.tables.Tables.{Tables}
+use Rattle.fleet_model.proofs.PeriodMinutes.{at_most_week}
 use Rattle.dual_bound.specs.Prices.{max_price}
 use Rattle.island_prices.specs.Rises.{AreRises, rise_in}
 use Rattle.island_prices.specs.Rounds.{AreSmall, greatest_below, greatest_rise, grown_in, has_rise, minute_in, moments_at, moments_below, moments_of, number_in, number_of_round, price_grown, rent_grown, rise_taken, rise_where, round_count, rounds_by, rounds_of}
@@ -117,7 +117,7 @@ module _ (t : Tables) (rises : List Rise) (are : AreRises t rises) where
   number_some moments stations j = greatest_some (rise_taken rises moments j) stations
 
 -- ---- the rounds of rises
-pub rounds_from : (t : Tables) (rises : List Rise) (least : List ℕ) (moments seen : List (List ℕ)) (numbers : List ℤ) → moments ≡ list_below (moments_of rises) (stations_in t) → seen ≡ moments
+pub rounds_from : (t : Tables) (rises : List Rise) (least : List ℕ) (moments seen : List (List ℕ)) (numbers : List ℤ) → moments ≡ list_below (moments_of t rises) (stations_in t) → seen ≡ moments
     → numbers ≡ list_below (number_of_round rises seen (stations_in t)) (round_count seen (stations_in t))
     → ◌≡◌ {A = Rounds} (record { numbers = numbers; moments = moments; least = least }) (rounds_of t rises least)
 unfolding rounds_by
@@ -128,7 +128,7 @@ rounds_from t rises least moments seen numbers is same are =
 
 module _ (t : Tables) (rises : List Rise) (are : AreRises t rises) (least : List ℕ) where
   abbrev pub all_moments : List (List ℕ)
-  all_moments = list_below (moments_of rises) (stations_in t)
+  all_moments = list_below (moments_of t rises) (stations_in t)
 
   abbrev pub all_rounds : Rounds
   all_rounds = rounds_of t rises least
@@ -144,8 +144,8 @@ module _ (t : Tables) (rises : List Rise) (are : AreRises t rises) (least : List
   unfolding rounds_by
   count_is = length-list_below (number_of_round rises all_moments (stations_in t)) (round_count all_moments (stations_in t))
 
-  own_moments : (s : ℕ) → s < stations_in t → moments_at all_moments s ≡ moments_of rises s
-  own_moments s within = get_or-list_below (moments_of rises) (stations_in t) s [] within
+  own_moments : (s : ℕ) → s < stations_in t → moments_at all_moments s ≡ moments_of t rises s
+  own_moments s within = get_or-list_below (moments_of t rises) (stations_in t) s [] within
 
   pub number_is : (j : ℕ) → j < count → number_in all_rounds j ≡ number_of_round rises all_moments (stations_in t) j
   unfolding rounds_by
@@ -154,23 +154,23 @@ module _ (t : Tables) (rises : List Rise) (are : AreRises t rises) (least : List
   pub number_at_least_0 : (j : ℕ) → j < count → pos 0 ≤ℤ number_in all_rounds j
   number_at_least_0 j below = omega (arith, ints, number_is j below, number_some t rises are all_moments (stations_in t) j)
 
-  few : round_count all_moments (stations_in t) ≤ MINUTES_PER_PERIOD
+  few : round_count all_moments (stations_in t) ≤ period_of t
   unfolding round_count
-  few = max_below-least (λ s. length (moments_at all_moments s)) MINUTES_PER_PERIOD (stations_in t) (record { each = λ s within. omega (arith, ap length (own_moments s within), few_moments rises s MINUTES_PER_PERIOD) })
+  few = max_below-least (λ s. length (moments_at all_moments s)) (period_of t) (stations_in t) (record { each = λ s within. omega (arith, ap length (own_moments s within), few_moments rises s (period_of t)) })
 
   pub are_small : length least ≡ stations_in t → AreSmall all_rounds
   unfolding rounds_by
   are_small all = record {
-    few = omega (arith, few, count_is);
+    few = omega (arith, few, count_is, at_most_week t);
     each = λ j below. record {
       no_less = omega (arith, ints, number_at_least_0 j below);
       no_more = omega (arith, ints, number_is j below, number_small t rises are all_moments (stations_in t) j);
     };
-    stations = all ∙ sym (length-list_below (moments_of rises) (stations_in t));
+    stations = all ∙ sym (length-list_below (moments_of t rises) (stations_in t));
   }
 
   pub moments_long : length all_rounds.moments ≡ stations_in t
-  moments_long = ap length moments_are ∙ length-list_below (moments_of rises) (stations_in t)
+  moments_long = ap length moments_are ∙ length-list_below (moments_of t rises) (stations_in t)
 
   -- ---- what a price loses at the end of a minute
   abbrev pub lost_in : ℕ → ℕ → ℕ → ℤ
@@ -222,7 +222,7 @@ module _ (t : Tables) (rises : List Rise) (are : AreRises t rises) (least : List
       by_case true = number_at_least_0 j below
       by_case false = omega (arith, ints)
 
-  module _ (s m : ℕ) (within : s < stations_in t) (p : HasPlace (moments_of rises s) m) where
+  module _ (s m : ℕ) (within : s < stations_in t) (p : HasPlace (moments_of t rises s) m) where
     place_there : HasPlace (moments_at all_moments s) m
     place_there = subst (λ xs. HasPlace xs m) (sym (own_moments s within)) p
 
@@ -255,7 +255,7 @@ module _ (t : Tables) (rises : List Rise) (are : AreRises t rises) (least : List
     at_its_place : greatest_rise rises s m ≤ℤ lost_at s m
     at_its_place = omega (arith, ints, number_reaches, lost_there, term_within (lost_in s m) count place_there.place in_count (lost_some s m))
 
-  pub reached : (s m : ℕ) → s < stations_in t → m < MINUTES_PER_PERIOD → greatest_rise rises s m ≤ℤ lost_at s m
+  pub reached : (s m : ℕ) → s < stations_in t → m < period_of t → greatest_rise rises s m ≤ℤ lost_at s m
   reached s m within period = by_test (has_rise rises s m)
-      (λ e. at_its_place s m within (has_place rises s m MINUTES_PER_PERIOD period e))
+      (λ e. at_its_place s m within (has_place rises s m (period_of t) period e))
       (λ e. omega (arith, ints, not_above_tested (greatest_rise rises s m) e, at_least_0 (lost_in s m) count (lost_some s m)))

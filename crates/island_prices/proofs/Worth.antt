@@ -13,18 +13,17 @@ use Rattle.sums.proofs.WholeSums.{*ℤ-sum_below_ℤ, sum_below_ℤ--ℤ, sum_be
 use Rattle.sums.proofs.WholeSwaps.{sum_below_ℤ-+ℤ, sum_below_ℤ-zero}
 use Rattle.fleet_model.specs.Kept.{Domains, IsBare}
 use Rattle.fleet_model.specs.Legal.{cost_of}
-use Rattle.fleet_model.specs.Schedule.{IsPair, fleet_of, fleets_in, leg_of, leg_on, legs_in, no_leg, stations_in}
+use Rattle.fleet_model.specs.Schedule.{IsPair, fleet_of, fleets_in, leg_of, leg_on, legs_in, no_leg, period_of, stations_in}
 use Rattle.fleet_model.specs.Times.{busy_minutes, departure, laps_of, ready_minute}
-use Rattle.fleet_model.specs.declared.limits.TheConstants.{MINUTES_PER_PERIOD}
 use Rattle.fleet_model.specs.declared.parts.Pair.{Pair}
 use Rattle.fleet_model.specs.declared.tables.Tables.{Tables}
-use Rattle.fleet_model.proofs.Minutes.{in_period}
+use Rattle.fleet_model.proofs.PeriodMinutes.{departs_always, in_period}
 use Rattle.dual_bound.specs.Prices.{price_of, rent_of}
 use Rattle.dual_bound.specs.Worth.{cost_units, least_below, leg_worth, lesser, pair_worth, rents_of, worth_of}
 use Rattle.dual_bound.specs.declared.prices.Prices.{Prices}
 use Rattle.dual_bound.proofs.Duality.{lesser_le}
 use Rattle.island_cut.specs.Spare.{aircraft_in}
-use Rattle.island_cut.specs.IslandLaws.{AreFleetsFor, left_by, ready_by}
+use Rattle.island_cut.specs.IslandLaws.{AreChoicesFor, left_by, ready_by}
 use Rattle.island_prices.specs.Payback.{PaysBack}
 use Rattle.island_prices.proofs.Moves.{once, times}
 
@@ -156,11 +155,11 @@ same_worth t keeps k prices other some pairs rents =
 -- ---- a round
 module _ (t : Tables) (keeps : Domains) (k : ℕ) (some_pair : (l : ℕ) → ¬ (IsBare t keeps l)) (allowed : (p : Pair) → IsPair t p → keeps p ≡ true → IsSome (cost_of t p)) (prices other : Prices)
     (number : ℤ) (at_least_0 : pos 0 ≤ℤ number) (at : ℕ → ℕ) (pays : PaysBack t at) (scale : other.scale ≡ prices.scale)
-    (grown : (f s m : ℕ) → f < fleets_in t → s < stations_in t → m < MINUTES_PER_PERIOD → price_of other f s m ≡ price_of prices f s m +ℤ cond (nat_le m (at s)) number (pos 0))
+    (grown : (f s m : ℕ) → f < fleets_in t → s < stations_in t → m < period_of t → price_of other f s m ≡ price_of prices f s m +ℤ cond (nat_le m (at s)) number (pos 0))
     (rents : (f : ℕ) → f < fleets_in t → rent_of other f ≡ rent_of prices f +ℤ number) where
   -- by how much a pair is worth more
   abbrev extra : ℕ → ℕ → ℤ
-  extra l f = ((number *ℤ pos (laps_of t (leg_on l f))) +ℤ (number *ℤ pos (left_by t at l))) -ℤ (number *ℤ pos (once (nat_le (ready_minute t (leg_on l f)) (at (leg_of t l).to))))
+  extra l f = ((number *ℤ pos (laps_of t (leg_on l f))) +ℤ (number *ℤ pos (left_by t at (leg_on l f)))) -ℤ (number *ℤ pos (ready_by t at (leg_on l f)))
 
   times_number : (b : Bool) → cond b number (pos 0) ≡ number *ℤ pos (once b)
   times_number b = times b number ∙ *ℤ_comm (pos (once b)) number
@@ -172,19 +171,19 @@ module _ (t : Tables) (keeps : Domains) (k : ℕ) (some_pair : (l : ℕ) → ¬ 
   pair_gains l f below known kept =
       let p = leg_on l f in
       let leg = t.in_range.legs_fit.each l no_leg below in
-      let out = grown f (leg_of t l).from (departure t p) known leg.from leg.dep ∙ ap (λ z. price_of prices f (leg_of t l).from (departure t p) +ℤ z) (times_number (nat_le (leg_of t l).dep (at (leg_of t l).from))) in
-      let back = grown f (leg_of t l).to (ready_minute t p) known leg.to (in_period (departure t p + busy_minutes t p)) ∙ ap (λ z. price_of prices f (leg_of t l).to (ready_minute t p) +ℤ z) (times_number (nat_le (ready_minute t p) (at (leg_of t l).to))) in
+      let out = grown f (leg_of t l).from (departure t p) known leg.from (departs_always t p) ∙ ap (λ z. price_of prices f (leg_of t l).from (departure t p) +ℤ z) (times_number (nat_le (departure t p) (at (leg_of t l).from))) in
+      let back = grown f (leg_of t l).to (ready_minute t p) known leg.to (in_period t (departure t p + busy_minutes t p)) ∙ ap (λ z. price_of prices f (leg_of t l).to (ready_minute t p) +ℤ z) (times_number (nat_le (ready_minute t p) (at (leg_of t l).to))) in
       ap₂ (λ s z. (pos k *ℤ s *ℤ cost_units t p) +ℤ (z -ℤ price_of other f (leg_of t l).to (ready_minute t p)) +ℤ (rent_of other f *ℤ pos (laps_of t p))) scale out
-      ∙ ap₂ (λ z r. (pos k *ℤ prices.scale *ℤ cost_units t p) +ℤ ((price_of prices f (leg_of t l).from (departure t p) +ℤ (number *ℤ pos (left_by t at l))) -ℤ z) +ℤ (r *ℤ pos (laps_of t p))) back (rents f known)
+      ∙ ap₂ (λ z r. (pos k *ℤ prices.scale *ℤ cost_units t p) +ℤ ((price_of prices f (leg_of t l).from (departure t p) +ℤ (number *ℤ pos (left_by t at p))) -ℤ z) +ℤ (r *ℤ pos (laps_of t p))) back (rents f known)
       ∙ parts (pos k *ℤ prices.scale *ℤ cost_units t p) (price_of prices f (leg_of t l).from (departure t p)) (price_of prices f (leg_of t l).to (ready_minute t p)) (rent_of prices f) (pos (laps_of t p))
-      (number *ℤ pos (left_by t at l)) (number *ℤ pos (once (nat_le (ready_minute t p) (at (leg_of t l).to))))
+      (number *ℤ pos (left_by t at p)) (number *ℤ pos (ready_by t at p))
 
   abbrev fleets : ℕ → ℕ
   fleets = chosen t keeps k some_pair prices other extra pair_gains
 
-  are_for : AreFleetsFor t fleets
+  are_for : AreChoicesFor t fleets
   are_for = record {
-    known = λ l below. (is_chosen t keeps k some_pair prices other extra pair_gains l below).within;
+    known = λ l below. let is = is_chosen t keeps k some_pair prices other extra pair_gains l below in record { pair = record { leg = below; choice = is.within }; by = is.within };
     allowed = λ l below.
         let is = is_chosen t keeps k some_pair prices other extra pair_gains l below in
         allowed (leg_on l (fleets l)) (record { leg = below; choice = is.within }) is.kept;
@@ -193,12 +192,18 @@ module _ (t : Tables) (keeps : Domains) (k : ℕ) (some_pair : (l : ℕ) → ¬ 
   abbrev laps : ℕ → ℕ
   laps l = laps_of t (leg_on l (fleets l))
 
+  abbrev left : ℕ → ℕ
+  left l = left_by t at (leg_on l (fleets l))
+
+  abbrev come : ℕ → ℕ
+  come l = ready_by t at (leg_on l (fleets l))
+
   -- the sum over legs of what they gain
   all_extra : sum_below_ℤ (λ l. extra l (fleets l)) (legs_in t)
-      ≡ ((number *ℤ pos (sum_below laps (legs_in t))) +ℤ (number *ℤ pos (sum_below (left_by t at) (legs_in t)))) -ℤ (number *ℤ pos (sum_below (ready_by t at fleets) (legs_in t)))
+      ≡ ((number *ℤ pos (sum_below laps (legs_in t))) +ℤ (number *ℤ pos (sum_below left (legs_in t)))) -ℤ (number *ℤ pos (sum_below come (legs_in t)))
   all_extra =
-      sum_below_ℤ--ℤ (λ l. (number *ℤ pos (laps l)) +ℤ (number *ℤ pos (left_by t at l))) (λ l. number *ℤ pos (ready_by t at fleets l)) (legs_in t)
-      ∙ ap₂ (λ x y. x -ℤ y) (sum_below_ℤ-+ℤ (λ l. number *ℤ pos (laps l)) (λ l. number *ℤ pos (left_by t at l)) (legs_in t) ∙ ap₂ (λ x y. x +ℤ y) (counted laps) (counted (left_by t at))) (counted (ready_by t at fleets))
+      sum_below_ℤ--ℤ (λ l. (number *ℤ pos (laps l)) +ℤ (number *ℤ pos (left l))) (λ l. number *ℤ pos (come l)) (legs_in t)
+      ∙ ap₂ (λ x y. x -ℤ y) (sum_below_ℤ-+ℤ (λ l. number *ℤ pos (laps l)) (λ l. number *ℤ pos (left l)) (legs_in t) ∙ ap₂ (λ x y. x +ℤ y) (counted laps) (counted left)) (counted come)
     where
       counted : (h : ℕ → ℕ) → sum_below_ℤ (λ l. number *ℤ pos (h l)) (legs_in t) ≡ number *ℤ pos (sum_below h (legs_in t))
       counted h = sym (*ℤ-sum_below_ℤ number (λ l. pos (h l)) (legs_in t)) ∙ ap (λ z. number *ℤ z) (sum_below_ℤ-pos h (legs_in t))
@@ -224,5 +229,5 @@ module _ (t : Tables) (keeps : Domains) (k : ℕ) (some_pair : (l : ℕ) → ¬ 
           more : (m n : ℕ) → m ≤ n → pos m ≤ℤ pos n
           more m n order = omega (arith, ints)
 
-      law : ((number *ℤ pos (aircraft_in t)) +ℤ (number *ℤ pos (sum_below (ready_by t at fleets) (legs_in t)))) ≤ℤ ((number *ℤ pos (sum_below laps (legs_in t))) +ℤ (number *ℤ pos (sum_below (left_by t at) (legs_in t))))
-      law = as_whole (aircraft_in t) (sum_below (ready_by t at fleets) (legs_in t)) (sum_below laps (legs_in t)) (sum_below (left_by t at) (legs_in t)) (pays.each fleets are_for)
+      law : ((number *ℤ pos (aircraft_in t)) +ℤ (number *ℤ pos (sum_below come (legs_in t)))) ≤ℤ ((number *ℤ pos (sum_below laps (legs_in t))) +ℤ (number *ℤ pos (sum_below left (legs_in t))))
+      law = as_whole (aircraft_in t) (sum_below come (legs_in t)) (sum_below laps (legs_in t)) (sum_below left (legs_in t)) (pays.each fleets are_for)

@@ -1,11 +1,10 @@
 -- The rises of prices over the ground arcs that went: what they are, by the prices of the nodes.
 use Rattle.std.specs.Prelude.{◌≡◌, ◌≢◌, ℕ, ◌+◌, ◌<◌, ◌≤◌, nat_le, nat_lt, Bool, true, false, if◌then◌else◌, List, [], ◌∷◌, length, slice_index, ℤ, pos, int_lt, ◌-ℤ◌, ◌<ℤ◌, ◌≤ℤ◌, Option, Some, None, unwrap_or}
 use Rattle.fleet_model.specs.Kept.{Domains}
-use Rattle.fleet_model.specs.Schedule.{fleets_in, leg_of, leg_on, legs_in, stations_in}
+use Rattle.fleet_model.specs.Schedule.{departures_in, fleets_in, leg_at, leg_of, pair_on, period_of, stations_in}
 use Rattle.fleet_model.specs.Times.{departure, ready_minute}
-use Rattle.fleet_model.specs.declared.limits.TheConstants.{MINUTES_PER_PERIOD}
 use Rattle.fleet_model.specs.declared.tables.Tables.{Tables}
-use Rattle.node_aggregate.specs.Nodes.{AreNodesAt, days_at, node_end}
+use Rattle.node_aggregate.specs.Nodes.{AreNodesAt, days_at, end_in}
 use Rattle.dual_bound.specs.Prices.{price_of, rent_of}
 use Rattle.dual_bound.specs.declared.prices.Prices.{Prices}
 use Rattle.island_prices.specs.Rises.{rise_in}
@@ -29,8 +28,8 @@ rise_over prices starts f s k =
 
 -- the minutes that take another price: those of the node behind the moment, or where the moment comes behind the day
 -- start those up to it
-abbrev pub shift_over : List ℕ → ℕ → ℕ → Shift
-shift_over starts k m = if nat_le (slice_index starts k) m then Raised (node_end starts k) else Lowered
+abbrev pub shift_over : Tables → List ℕ → ℕ → ℕ → Shift
+shift_over t starts k m = if nat_le (slice_index starts k) m then Raised (end_in t starts k) else Lowered
 
 -- a rise over the arc of a node that went
 pub record IsOfArc (t : Tables) (prices : Prices) (starts : NodeStarts) (moment : ArcMoments) (rise : Rise) : Type 0 where
@@ -39,17 +38,17 @@ pub record IsOfArc (t : Tables) (prices : Prices) (starts : NodeStarts) (moment 
   pub place : ℕ
   pub within : place < length (starts rise.fleet rise.station)
   pub went : moment rise.fleet rise.station place ≡ Some rise.moment
-  pub shift : rise.shift ≡ shift_over (starts rise.fleet rise.station) place rise.moment
+  pub shift : rise.shift ≡ shift_over t (starts rise.fleet rise.station) place rise.moment
   pub amount : rise.amount ≡ rise_over prices (starts rise.fleet rise.station) rise.fleet rise.station place
   pub some : pos 0 <ℤ rise.amount
 
 -- the place of the rise over an arc among rises
-pub record HasRise (prices : Prices) (starts : List ℕ) (f s k m : ℕ) (rises : List Rise) : Type 0 where
+pub record HasRise (t : Tables) (prices : Prices) (starts : List ℕ) (f s k m : ℕ) (rises : List Rise) : Type 0 where
   pub at : ℕ
   pub within : at < length rises
   pub fleet : (rise_in rises at).fleet ≡ f
   pub station : (rise_in rises at).station ≡ s
-  pub shift : (rise_in rises at).shift ≡ shift_over starts k m
+  pub shift : (rise_in rises at).shift ≡ shift_over t starts k m
   pub amount : (rise_in rises at).amount ≡ rise_over prices starts f s k
 
 -- all rises over arcs that went, each once
@@ -57,28 +56,28 @@ pub record AreArcRises (t : Tables) (prices : Prices) (starts : NodeStarts) (mom
   pub few : length rises ≤ MAX_RISES
   pub each : (i : ℕ) → i < length rises → IsOfArc t prices starts moment (rise_in rises i)
   pub all : (f s k m : ℕ) → f < fleets_in t → s < stations_in t → k < length (starts f s) → moment f s k ≡ Some m → pos 0 <ℤ rise_over prices (starts f s) f s k
-      → HasRise prices (starts f s) f s k m rises
+      → HasRise t prices (starts f s) f s k m rises
   pub once : (i j : ℕ) (before : i < length rises) (below : j < length rises) → i < j → (rise_in rises i).fleet ≡ (rise_in rises j).fleet → (rise_in rises i).station ≡ (rise_in rises j).station
       → (each i before).place ≢ (each j below).place
 
 -- no kept pair of the fleet departs from the station in these minutes, and none is ready there
 pub record IsQuiet (t : Tables) (keeps : Domains) (f s low high : ℕ) : Type 0 where
-  pub departs : (l : ℕ) → l < legs_in t → keeps (leg_on l f) ≡ true → (leg_of t l).from ≡ s → low ≤ departure t (leg_on l f) → departure t (leg_on l f) ≤ high → ⊥
-  pub lands : (l : ℕ) → l < legs_in t → keeps (leg_on l f) ≡ true → (leg_of t l).to ≡ s → low ≤ ready_minute t (leg_on l f) → ready_minute t (leg_on l f) ≤ high → ⊥
+  pub departs : (d : ℕ) → d < departures_in t → keeps (pair_on t d f) ≡ true → (leg_of t (leg_at t d)).from ≡ s → low ≤ departure t (pair_on t d f) → departure t (pair_on t d f) ≤ high → ⊥
+  pub lands : (d : ℕ) → d < departures_in t → keeps (pair_on t d f) ≡ true → (leg_of t (leg_at t d)).to ≡ s → low ≤ ready_minute t (pair_on t d f) → ready_minute t (pair_on t d f) ≤ high → ⊥
 
 -- moments of arcs between several nodes, which one day alone cuts: each lies in its node with no event behind it there, or the
 -- node is the last and it lies behind the day start with no event up to it
 pub record AreMoments (t : Tables) (keeps : Domains) (starts : NodeStarts) (moment : ArcMoments) : Type 0 where
   pub one_day : (f s k m : ℕ) → f < fleets_in t → s < stations_in t → k < length (starts f s) → moment f s k ≡ Some m → days_at t s ≡ 1
-  pub in_period : (f s k m : ℕ) → f < fleets_in t → s < stations_in t → k < length (starts f s) → moment f s k ≡ Some m → m < MINUTES_PER_PERIOD
+  pub in_period : (f s k m : ℕ) → f < fleets_in t → s < stations_in t → k < length (starts f s) → moment f s k ≡ Some m → m < period_of t
   pub in_node : (f s k m : ℕ) → f < fleets_in t → s < stations_in t → k < length (starts f s) → 1 < length (starts f s) → moment f s k ≡ Some m → slice_index (starts f s) k ≤ m
-      → (m ≤ node_end (starts f s) k) × IsQuiet t keeps f s (m + 1) (node_end (starts f s) k)
+      → (m ≤ end_in t (starts f s) k) × IsQuiet t keeps f s (m + 1) (end_in t (starts f s) k)
   pub round : (f s k m : ℕ) → f < fleets_in t → s < stations_in t → k < length (starts f s) → 1 < length (starts f s) → moment f s k ≡ Some m → m < slice_index (starts f s) k
       → (k + 1 ≡ length (starts f s)) × IsQuiet t keeps f s 0 m
 
 -- one price through each node, and 0 where a fleet has no node at a station
 pub record AreByNodes (t : Tables) (prices : Prices) (starts : NodeStarts) : Type 0 where
-  pub through : (f s k m : ℕ) → f < fleets_in t → s < stations_in t → k < length (starts f s) → slice_index (starts f s) k ≤ m → m ≤ node_end (starts f s) k
+  pub through : (f s k m : ℕ) → f < fleets_in t → s < stations_in t → k < length (starts f s) → slice_index (starts f s) k ≤ m → m ≤ end_in t (starts f s) k
       → price_of prices f s m ≡ price_of prices f s (slice_index (starts f s) k)
   pub nowhere : (f s m : ℕ) → f < fleets_in t → s < stations_in t → length (starts f s) ≡ 0 → price_of prices f s m ≡ pos 0
 
@@ -95,15 +94,15 @@ abbrev pub goes_up : Prices → List ℕ → ℕ → ℕ → ℕ → Option ℕ 
 goes_up prices starts f s k None = false
 goes_up prices starts f s k (Some m) = int_lt (pos 0) (rise_over prices starts f s k)
 
-abbrev pub arc_rise : Prices → List ℕ → ℕ → ℕ → ℕ → ℕ → Rise
-arc_rise prices starts f s k m = record { fleet = f; station = s; moment = m; shift = shift_over starts k m; amount = rise_over prices starts f s k }
+abbrev pub arc_rise : Tables → Prices → List ℕ → ℕ → ℕ → ℕ → ℕ → Rise
+arc_rise t prices starts f s k m = record { fleet = f; station = s; moment = m; shift = shift_over t starts k m; amount = rise_over prices starts f s k }
 
-abbrev pub rise_where : Prices → List ℕ → ℕ → ℕ → ℕ → Option ℕ → List Rise
-rise_where prices starts f s k moment = if goes_up prices starts f s k moment then arc_rise prices starts f s k (unwrap_or moment 0) ∷ [] else []
+abbrev pub rise_where : Tables → Prices → List ℕ → ℕ → ℕ → ℕ → Option ℕ → List Rise
+rise_where t prices starts f s k moment = if goes_up prices starts f s k moment then arc_rise t prices starts f s k (unwrap_or moment 0) ∷ [] else []
 
 -- an arc of the tables: from a node at a place among starts, all of them minutes of the period
 pub record IsArc (t : Tables) (starts : List ℕ) (f s k : ℕ) : Type 0 where
   pub fleet : f < fleets_in t
   pub station : s < stations_in t
   pub place : k < length starts
-  pub early : (j : ℕ) → j < length starts → slice_index starts j < MINUTES_PER_PERIOD
+  pub early : (j : ℕ) → j < length starts → slice_index starts j < period_of t

@@ -1,8 +1,7 @@
 -- Prices after rises went to their moments and all rounds are over.
 use Rattle.std.specs.Prelude.{◌≡◌, ℕ, zero, suc, Bool, true, false, ◌||◌, nat_lt, if◌then◌else◌, List, length, ℤ, ◌+ℤ◌, unsigned_abs, Option, Some, None}
 use Rattle.sums.specs.Places.{first_below, list_below}
-use Rattle.fleet_model.specs.Schedule.{fleets_in, stations_in}
-use Rattle.fleet_model.specs.declared.limits.TheConstants.{MINUTES_PER_PERIOD}
+use Rattle.fleet_model.specs.Schedule.{fleets_in, period_of, stations_in}
 use Rattle.fleet_model.specs.declared.tables.Tables.{Tables}
 use Rattle.dual_bound.specs.Prices.{max_price, rent_of}
 use Rattle.dual_bound.specs.declared.prices.Prices.{Prices}
@@ -41,11 +40,11 @@ any_below p (suc n) = any_below p n || p n
 unfoldable pub beyond_at : (ℕ → ℤ) → ℕ → Bool
 beyond_at price n = any_below (λ m. is_beyond (price m)) n
 
-unfoldable pub beyond_of : (ℕ → ℕ → ℤ) → ℕ → Bool
-beyond_of price n = any_below (λ s. beyond_at (price s) MINUTES_PER_PERIOD) n
+unfoldable pub beyond_of : ℕ → (ℕ → ℕ → ℤ) → ℕ → Bool
+beyond_of minutes price n = any_below (λ s. beyond_at (price s) minutes) n
 
 unfoldable pub has_beyond : Tables → (ℕ → ℤ) → (ℕ → ℕ → ℕ → ℤ) → ℕ → Bool
-has_beyond t rent price f = is_beyond (rent f) || beyond_of (price f) (stations_in t)
+has_beyond t rent price f = is_beyond (rent f) || beyond_of (period_of t) (price f) (stations_in t)
 
 -- the first fleet that has
 abbrev pub fleet_if : Bool → ℕ → Option ℕ

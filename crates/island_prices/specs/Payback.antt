@@ -1,40 +1,37 @@
 -- What makes prices proper once they are paid back, and worth no less.
-use Rattle.std.specs.Prelude.{◌≡◌, ℕ, ◌+◌, ◌<◌, ◌≤◌, ◌==◌, ◌&&◌, true, if◌then◌else◌, List, length, ℤ, pos, ◌+ℤ◌, ◌≤ℤ◌}
-use Rattle.sums.specs.Below.{sum_below, sum_below_ℤ}
+use Rattle.std.specs.Prelude.{◌≡◌, ℕ, ◌+◌, ◌<◌, ◌==◌, ◌&&◌, true, if◌then◌else◌, List, length, ℤ, pos, ◌+ℤ◌, ◌≤ℤ◌}
+use Rattle.sums.specs.Below.{sum_below_ℤ}
 use Rattle.fleet_model.specs.Kept.{Domains}
-use Rattle.fleet_model.specs.Schedule.{IsPair, fleets_in, leg_of, leg_on, legs_in, stations_in}
-use Rattle.fleet_model.specs.Times.{departure, laps_of, ready_minute}
-use Rattle.fleet_model.specs.Use.{last_minute}
-use Rattle.fleet_model.specs.declared.limits.TheConstants.{MINUTES_PER_PERIOD}
+use Rattle.fleet_model.specs.Schedule.{IsFlown, fleet_by, fleets_in, last_of, leg_of, period_of, stations_in}
+use Rattle.fleet_model.specs.Times.{departure, ready_minute}
 use Rattle.fleet_model.specs.declared.parts.Pair.{Pair}
 use Rattle.fleet_model.specs.declared.tables.Tables.{Tables}
 use Rattle.dual_bound.specs.Prices.{price_of, rent_of}
 use Rattle.dual_bound.specs.declared.prices.Prices.{Prices}
-use Rattle.island_cut.specs.IslandLaws.{AreFleetsFor, left_by, ready_by}
-use Rattle.island_cut.specs.Spare.{aircraft_in}
+use Rattle.island_cut.specs.IslandLaws.{AreChoicesFor, IsPaidBack}
 use Rattle.island_prices.specs.Rises.{is_of, rise_in, shift_by}
 use Rattle.island_prices.specs.declared.rises.Rise.{Rise}
 use Rattle.island_prices.specs.declared.rises.Shift.{Shift}
 use Rattle.island_prices.specs.declared.rises.Shift.TheVariants.{Lowered, Raised}
 
 -- the minute at whose end a price rose before its rise went to a moment
-abbrev pub end_of : Shift → ℕ
-end_of (Raised last) = last
-end_of Lowered = last_minute
+abbrev pub end_of : Tables → Shift → ℕ
+end_of t (Raised last) = last
+end_of t Lowered = last_of t
 
 -- by how much the prices of a fleet at a station rose at the end of a minute, by their rises
-abbrev pub ends_at : List Rise → ℕ → ℕ → ℕ → ℕ → ℤ
-ends_at rises f s m i = if is_of (rise_in rises i) f s && (end_of (rise_in rises i).shift == m) then (rise_in rises i).amount else pos 0
+abbrev pub ends_at : Tables → List Rise → ℕ → ℕ → ℕ → ℕ → ℤ
+ends_at t rises f s m i = if is_of (rise_in rises i) f s && (end_of t (rise_in rises i).shift == m) then (rise_in rises i).amount else pos 0
 
-unfoldable pub ends_by : List Rise → ℕ → ℕ → ℕ → ℤ
-ends_by rises f s m = sum_below_ℤ (ends_at rises f s m) (length rises)
+unfoldable pub ends_by : Tables → List Rise → ℕ → ℕ → ℕ → ℤ
+ends_by t rises f s m = sum_below_ℤ (ends_at t rises f s m) (length rises)
 
 -- from one minute to the next prices rise by their rises at most, and over the end of the period by the rent besides
 pub record AreCovered (t : Tables) (prices : Prices) (rises : List Rise) : Type 0 where
-  pub within_period : (f s m : ℕ) → f < fleets_in t → s < stations_in t → m + 1 < MINUTES_PER_PERIOD
-      → price_of prices f s (m + 1) ≤ℤ (price_of prices f s m +ℤ ends_by rises f s m)
+  pub within_period : (f s m : ℕ) → f < fleets_in t → s < stations_in t → m + 1 < period_of t
+      → price_of prices f s (m + 1) ≤ℤ (price_of prices f s m +ℤ ends_by t rises f s m)
   pub over_end : (f s : ℕ) → f < fleets_in t → s < stations_in t
-      → price_of prices f s 0 ≤ℤ (price_of prices f s last_minute +ℤ rent_of prices f +ℤ ends_by rises f s last_minute)
+      → price_of prices f s 0 ≤ℤ (price_of prices f s (last_of t) +ℤ rent_of prices f +ℤ ends_by t rises f s (last_of t))
 
 -- no two rises of a fleet at a station have the same moment
 pub record SameMoment (a b : Rise) : Type 0 where
@@ -47,11 +44,10 @@ pub record AreApart (rises : List Rise) : Type 0 where
 
 -- no rise changes the price where and when a kept pair departs or is ready
 pub record AreQuiet (t : Tables) (keeps : Domains) (rises : List Rise) : Type 0 where
-  pub departs : (p : Pair) → IsPair t p → keeps p ≡ true → shift_by rises p.choice (leg_of t p.leg).from (departure t p) ≡ pos 0
-  pub lands : (p : Pair) → IsPair t p → keeps p ≡ true → shift_by rises p.choice (leg_of t p.leg).to (ready_minute t p) ≡ pos 0
+  pub departs : (p : Pair) → IsFlown t p → keeps p ≡ true → shift_by rises (fleet_by t p) (leg_of t p.leg).from (departure t p) ≡ pos 0
+  pub lands : (p : Pair) → IsFlown t p → keeps p ≡ true → shift_by rises (fleet_by t p) (leg_of t p.leg).to (ready_minute t p) ≡ pos 0
 
 -- a minute of each station such that a rent and prices up to and with it may grow by the same: whichever fleets fly the
 -- legs, the laps and the legs that have left come to all aircraft and the legs that are ready at least
 pub record PaysBack (t : Tables) (at : ℕ → ℕ) : Type 0 where
-  pub each : (fleets : ℕ → ℕ) → AreFleetsFor t fleets
-      → aircraft_in t + sum_below (ready_by t at fleets) (legs_in t) ≤ sum_below (λ l. laps_of t (leg_on l (fleets l))) (legs_in t) + sum_below (left_by t at) (legs_in t)
+  pub each : (choices : ℕ → ℕ) → AreChoicesFor t choices → IsPaidBack t at choices

@@ -1,8 +1,7 @@
 -- Rises of prices that go to the end of another minute, and the prices after they went.
 use Rattle.std.specs.Prelude.{ℕ, ◌<◌, ◌≤◌, ◌*◌, ◌==◌, ◌&&◌, nat_le, nat_lt, Bool, if◌then◌else◌, List, length, slice_index_or, ℤ, pos, neg_ℤ, ◌+ℤ◌, ◌≤ℤ◌, ◌<ℤ◌, ⊤}
 use Rattle.sums.specs.Below.{sum_below_ℤ}
-use Rattle.fleet_model.specs.Schedule.{fleets_in, stations_in}
-use Rattle.fleet_model.specs.declared.limits.TheConstants.{MINUTES_PER_PERIOD}
+use Rattle.fleet_model.specs.Schedule.{fleets_in, period_of, stations_in}
 use Rattle.fleet_model.specs.declared.tables.Tables.{Tables}
 use Rattle.dual_bound.specs.Prices.{max_price, price_of}
 use Rattle.dual_bound.specs.declared.prices.Prices.{Prices}
@@ -48,16 +47,16 @@ pub record IsAmount (amount : ℤ) : Type 0 where
   pub small : amount ≤ℤ pos (3 * max_price)
 
 -- the minutes of a rise: its moment, and behind it the last one that is raised
-abbrev pub IsShift : Shift → ℕ → Type 0
-IsShift (Raised last) moment = (moment ≤ last) × (last < MINUTES_PER_PERIOD)
-IsShift Lowered moment = ⊤
+abbrev pub IsShift : ℕ → Shift → ℕ → Type 0
+IsShift minutes (Raised last) moment = (moment ≤ last) × (last < minutes)
+IsShift minutes Lowered moment = ⊤
 
 -- a rise of a fleet at a station of the tables
 pub record IsRise (t : Tables) (rise : Rise) : Type 0 where
   pub fleet : rise.fleet < fleets_in t
   pub station : rise.station < stations_in t
-  pub moment : rise.moment < MINUTES_PER_PERIOD
-  pub shift : IsShift rise.shift rise.moment
+  pub moment : rise.moment < period_of t
+  pub shift : IsShift (period_of t) rise.shift rise.moment
   pub amount : IsAmount rise.amount
 
 -- .. and all are

@@ -1,10 +1,10 @@
 -- Rounds, in which rents and prices grow so that no price rises at a moment.
-use Rattle.std.specs.Prelude.{◌≡◌, ℕ, zero, suc, ◌<◌, ◌≤◌, ◌==◌, ◌&&◌, nat_le, nat_lt, Bool, if◌then◌else◌, List, [], length, filter, slice_index_or, ℤ, pos, int_lt}
+use Rattle.std.specs.Prelude.{◌≡◌, ℕ, zero, suc, ◌*◌, ◌<◌, ◌≤◌, ◌==◌, ◌&&◌, nat_le, nat_lt, Bool, if◌then◌else◌, List, [], length, filter, slice_index_or, ℤ, pos, int_lt}
 use Rattle.std.specs.Int.{int_max}
 use Rattle.sums.specs.Below.{max_below, sum_below_ℤ}
 use Rattle.sums.specs.Places.{list_below}
-use Rattle.fleet_model.specs.Schedule.{stations_in}
-use Rattle.fleet_model.specs.declared.limits.TheConstants.{MINUTES_PER_PERIOD}
+use Rattle.fleet_model.specs.Schedule.{period_of, stations_in}
+use Rattle.fleet_model.specs.declared.limits.TheConstants.{MINUTES_PER_DAY}
 use Rattle.fleet_model.specs.declared.tables.Tables.{Tables}
 use Rattle.dual_bound.specs.Sizes.{IsUpTo}
 use Rattle.island_prices.specs.Rises.{rise_in}
@@ -31,8 +31,8 @@ has_rise rises s m = int_lt (pos 0) (greatest_rise rises s m)
 unfoldable pub moments_below : List Rise → ℕ → ℕ → List ℕ
 moments_below rises s n = filter (has_rise rises s) (list_below (λ m. m) n)
 
-abbrev pub moments_of : List Rise → ℕ → List ℕ
-moments_of rises s = moments_below rises s MINUTES_PER_PERIOD
+abbrev pub moments_of : Tables → List Rise → ℕ → List ℕ
+moments_of t rises s = moments_below rises s (period_of t)
 
 -- the moments of a station in rounds, and the minute that a round takes of it: its moment of that number, or where there
 -- are no more the station's least idle minute
@@ -63,7 +63,7 @@ rounds_by rises moments least stations = record {
 }
 
 abbrev pub rounds_of : Tables → List Rise → List ℕ → Rounds
-rounds_of t rises least = rounds_by rises (list_below (moments_of rises) (stations_in t)) least (stations_in t)
+rounds_of t rises least = rounds_by rises (list_below (moments_of t rises) (stations_in t)) least (stations_in t)
 
 -- what rents have grown by after some rounds
 abbrev pub number_in : Rounds → ℕ → ℤ
@@ -82,8 +82,8 @@ grown_in rounds s m j = if nat_le m (minute_in rounds s j) then number_in rounds
 unfoldable pub price_grown : Rounds → ℕ → ℕ → ℕ → ℤ
 price_grown rounds s m n = sum_below_ℤ (grown_in rounds s m) n
 
--- no more rounds than minutes, none with a greater number than a rise, and a least idle minute of each station
+-- no more rounds than a week has minutes, none with a greater number than a rise, and a least idle minute of each station
 pub record AreSmall (rounds : Rounds) : Type 0 where
-  pub few : length rounds.numbers ≤ MINUTES_PER_PERIOD
+  pub few : length rounds.numbers ≤ 7 * MINUTES_PER_DAY
   pub each : (j : ℕ) → j < length rounds.numbers → IsUpTo 3 (number_in rounds j)
   pub stations : length rounds.least ≡ length rounds.moments

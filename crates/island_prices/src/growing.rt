@@ -1,6 +1,5 @@
 //! What rents and prices have grown by when all rounds are over.
 ghost use Rattle.std.specs.Prelude.{◌≡◌, ◌<◌, ◌≤◌, ◌*◌, length, pos, ◌≤ℤ◌};
-ghost use Rattle.fleet_model.specs.declared.limits.TheConstants.{MINUTES_PER_PERIOD};
 ghost use Rattle.dual_bound.specs.Sizes.{IsUpTo};
 ghost use Rattle.island_prices.specs.Rounds.{AreSmall, grown_in, minute_in, number_in, price_grown, rent_grown};
 

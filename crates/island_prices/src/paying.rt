@@ -1,8 +1,7 @@
 //! Prices after rises went to their moments and were paid back.
 ghost use Rattle.std.specs.Prelude.{◌≡◌, ◌<◌, ◌≤◌, ◌*◌, ◌++◌, length, slice_index_or, pos, false, true, None, Some, IfErr, IfOk, MatchResult};
 ghost use Rattle.sums.specs.Places.{list_below};
-ghost use Rattle.fleet_model.specs.Schedule.{fleets_in, stations_in};
-ghost use Rattle.fleet_model.specs.declared.limits.TheConstants.{MINUTES_PER_PERIOD};
+ghost use Rattle.fleet_model.specs.Schedule.{fleets_in, period_of, stations_in};
 ghost use Rattle.dual_bound.specs.Prices.{AreWithin};
 ghost use Rattle.island_prices.specs.Paid.{HasBeyond, IsPaybackError, IsWantedBehind, beyond_at, first_beyond, has_beyond, is_beyond, paid_price, paid_prices, paid_rent};
 ghost use Rattle.island_prices.specs.Rises.{AreRises};
@@ -19,7 +18,6 @@ use dual_bound::prices::MAX_PRICE;
 use dual_bound::{PriceFinder, PriceStep, Prices};
 use entries::{Entries, NoMemory as OutOfMemory};
 use fleet_model::Tables;
-use fleet_model::limits::MINUTES_PER_PERIOD;
 use std::alloc::{AllocError, AllocFailed, Global};
 use thiserror::Error;
 
@@ -136,7 +134,7 @@ fn push_fleet(
     requires fleet { fleet < fleets_in tables.now }
     ensures pushed { MatchResult result
         (λ _. (has_beyond tables.now (paid_rent paid.now.before paid.now.rounds.now) (paid_price paid.now.before paid.now.rises.now paid.now.rounds.now) fleet ≡ false)
-        × (steps.new.items ≡ steps.old.items ++ station_steps (paid_price paid.now.before paid.now.rises.now paid.now.rounds.now fleet) fleet (stations_in tables.now)))
+        × (steps.new.items ≡ steps.old.items ++ station_steps (period_of tables.now) (paid_price paid.now.before paid.now.rises.now paid.now.rounds.now fleet) fleet (stations_in tables.now)))
         (HasBeyond (has_beyond tables.now (paid_rent paid.now.before paid.now.rounds.now) (paid_price paid.now.before paid.now.rises.now paid.now.rounds.now) fleet) fleet) }
     ensures memory { IfErr result (IsWantedBehind (is_beyond (paid_rent paid.now.before paid.now.rounds.now fleet))) }
 {
@@ -160,10 +158,10 @@ fn push_row(
     fleet: u32,
     station: u32,
 ) -> Result<(), PaybackError>
-    requires { length row.now ≡ MINUTES_PER_PERIOD }
+    requires { length row.now ≤ 10080 }
     ensures pushed { MatchResult result
         (λ _. (beyond_at (λ m. slice_index_or row.now m (pos 0)) (length row.now) ≡ false)
-        × (steps.new.items ≡ steps.old.items ++ steps_below (λ m. slice_index_or row.now m (pos 0)) fleet station MINUTES_PER_PERIOD))
+        × (steps.new.items ≡ steps.old.items ++ steps_below (length row.now) (λ m. slice_index_or row.now m (pos 0)) fleet station (length row.now)))
         (HasBeyond (beyond_at (λ m. slice_index_or row.now m (pos 0)) (length row.now)) fleet) }
     ensures memory { IfErr result (IsWantedBehind (beyond_at (λ m. slice_index_or row.now m (pos 0)) (length row.now))) }
 {
@@ -188,10 +186,10 @@ fn row(
     requires fleet { fleet < fleets_in tables.now }
     requires station { station < stations_in tables.now }
     requires stations { length paid.now.rounds.now.moments ≡ stations_in tables.now }
-    ensures { IfOk result (λ row. row.items ≡ list_below (paid_price paid.now.before paid.now.rises.now paid.now.rounds.now fleet station) MINUTES_PER_PERIOD) }
+    ensures { IfOk result (λ row. row.items ≡ list_below (paid_price paid.now.before paid.now.rises.now paid.now.rounds.now fleet station) (period_of tables.now)) }
 {
     let mut row = Vec::new(alloc);
-    for minute in 0..MINUTES_PER_PERIOD {
+    for minute in 0..tables.period() {
         row.push(paid_price(tables, paid, fleet, station, minute))?;
     }
     Ok(row)
@@ -225,7 +223,7 @@ fn paid_price(tables: &Tables, paid: &Paid<'_>, fleet: u32, station: u32, minute
     requires fleet { fleet < fleets_in tables.now }
     requires station { station < stations_in tables.now }
     requires stations { length paid.now.rounds.now.moments ≡ stations_in tables.now }
-    requires minute { minute < MINUTES_PER_PERIOD }
+    requires minute { minute < period_of tables.now }
     ensures { result ≡ paid_price paid.now.before paid.now.rises.now paid.now.rounds.now fleet station minute }
 {
     price(tables, &paid.before, fleet, station, minute)

@@ -1,7 +1,6 @@
 //! Prices and rents with their sizes.
 ghost use Rattle.std.specs.Prelude.{◌≡◌, ◌<◌};
-ghost use Rattle.fleet_model.specs.Schedule.{fleets_in, stations_in};
-ghost use Rattle.fleet_model.specs.declared.limits.TheConstants.{MINUTES_PER_PERIOD};
+ghost use Rattle.fleet_model.specs.Schedule.{fleets_in, period_of, stations_in};
 ghost use Rattle.dual_bound.specs.Prices.{AreWithin, price_of, rent_of};
 ghost use Rattle.dual_bound.specs.Sizes.{IsUpTo};
 
@@ -19,7 +18,7 @@ pub(crate) fn price(
     requires within { AreWithin tables.now before.now }
     requires fleet { fleet < fleets_in tables.now }
     requires station { station < stations_in tables.now }
-    requires minute { minute < MINUTES_PER_PERIOD }
+    requires minute { minute < period_of tables.now }
     ensures value { result ≡ price_of before.now fleet station minute }
     ensures size { IsUpTo 1 result }
 {

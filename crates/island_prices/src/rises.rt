@@ -6,10 +6,11 @@ ghost use Rattle.island_prices.specs.Rises.{AreRises, IsAmount, IsRise, is_of, r
 ghost use Rattle.island_prices.specs.Rounds.{greatest_rise, rise_where};
 
 use fleet_model::Tables;
-use fleet_model::limits::{MAX_FLEETS, MAX_STATIONS, MINUTES_PER_PERIOD};
+use fleet_model::limits::{MAX_FLEETS, MAX_STATIONS, MINUTES_PER_DAY};
 
-/// The most rises that there are: one of each fleet at each station at each minute.
-pub const MAX_RISES: usize = MAX_FLEETS * MAX_STATIONS * MINUTES_PER_PERIOD as usize;
+/// The most rises that there are: one of each fleet at each station at each minute of the day. Arcs go where the period is one day
+/// alone.
+pub const MAX_RISES: usize = MAX_FLEETS * MAX_STATIONS * MINUTES_PER_DAY as usize;
 
 /// Which minutes take another price where a rise goes to its moment.
 #[derive(Clone, Copy, Debug, PartialEq, Eq)]

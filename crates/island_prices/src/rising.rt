@@ -1,10 +1,8 @@
 //! Rises of prices over ground arcs that went.
 ghost use Rattle.std.specs.Prelude.{◌≡◌, ◌<◌, ◌++◌, ℕ, length, slice_index, ◌-ℤ◌, OnErr, OnOk, Some};
 ghost use Rattle.fleet_model.specs.Schedule.{fleets_in, stations_in};
-ghost use Rattle.fleet_model.specs.declared.limits.TheConstants.{MINUTES_PER_PERIOD};
 ghost use Rattle.dual_bound.specs.Prices.{AreWithin, price_of, rent_of};
 ghost use Rattle.dual_bound.specs.Sizes.{IsUpTo};
-ghost use Rattle.node_aggregate.specs.Nodes.{node_end};
 ghost use Rattle.island_prices.specs.Arcs.{IsArc, rise_over, rise_where, shift_over};
 
 use crate::priced::{price, rent};
@@ -12,7 +10,7 @@ use crate::rises::{Rise, Shift};
 use dual_bound::PriceFinder;
 use entries::NoMemory;
 use fleet_model::Tables;
-use fleet_model::limits::MINUTES_PER_PERIOD;
+use node_aggregate::node_end;
 
 /// The ground arc from a node of a fleet at a station to the next one, or from the last to the first.
 #[derive(Clone, Copy)]
@@ -38,7 +36,7 @@ pub fn push_rise(
 ) -> Result<(), NoMemory>
     requires within { AreWithin tables.now prices.now }
     requires arc { IsArc tables.now arc.now.starts.now arc.now.fleet arc.now.station arc.now.place }
-    ensures pushed { OnOk result (rises.new.items ≡ rises.old.items ++ rise_where prices.now arc.now.starts.now arc.now.fleet arc.now.station arc.now.place moment) }
+    ensures pushed { OnOk result (rises.new.items ≡ rises.old.items ++ rise_where tables.now prices.now arc.now.starts.now arc.now.fleet arc.now.station arc.now.place moment) }
     ensures unchanged { OnErr result (rises.new.items ≡ rises.old.items) }
 {
     match moment {
@@ -57,7 +55,7 @@ fn push_over(
 ) -> Result<(), NoMemory>
     requires within { AreWithin tables.now prices.now }
     requires arc { IsArc tables.now arc.now.starts.now arc.now.fleet arc.now.station arc.now.place }
-    ensures pushed { OnOk result (rises.new.items ≡ rises.old.items ++ rise_where prices.now arc.now.starts.now arc.now.fleet arc.now.station arc.now.place (Some moment)) }
+    ensures pushed { OnOk result (rises.new.items ≡ rises.old.items ++ rise_where tables.now prices.now arc.now.starts.now arc.now.fleet arc.now.station arc.now.place (Some moment)) }
     ensures unchanged { OnErr result (rises.new.items ≡ rises.old.items) }
 {
     let amount = rise_over(tables, prices, arc);
@@ -68,7 +66,7 @@ fn push_over(
         fleet: arc.fleet,
         station: arc.station,
         moment,
-        shift: shift_over(arc, moment),
+        shift: shift_over(tables, arc, moment),
         amount,
     })?;
     Ok(())
@@ -114,28 +112,15 @@ fn inside(tables: &Tables, prices: &PriceFinder<'_>, arc: &Arc<'_>, next: usize)
 }
 
 // Which minutes take another price: where the moment lies in the arc's node, those of the node behind it.
-fn shift_over(arc: &Arc<'_>, moment: u16) -> Shift
+fn shift_over(tables: &Tables, arc: &Arc<'_>, moment: u16) -> Shift
     requires { arc.now.place < length arc.now.starts.now }
-    ensures { result ≡ shift_over arc.now.starts.now arc.now.place moment }
+    ensures { result ≡ shift_over tables.now arc.now.starts.now arc.now.place moment }
 {
     if arc.starts[arc.place as usize] <= moment {
         Shift::Raised {
-            last: node_end(arc),
+            last: node_end(tables, arc.starts, arc.place as usize),
         }
     } else {
         Shift::Lowered
-    }
-}
-
-// The last minute of the arc's node.
-fn node_end(arc: &Arc<'_>) -> u16
-    requires { arc.now.place < length arc.now.starts.now }
-    ensures { result ≡ node_end arc.now.starts.now arc.now.place }
-{
-    let next = arc.place as usize + 1;
-    if next < arc.starts.len() {
-        arc.starts[next].saturating_sub(1)
-    } else {
-        MINUTES_PER_PERIOD - 1
     }
 }

@@ -9,7 +9,6 @@ ghost use Rattle.island_prices.specs.Rounds.{has_rise, moments_of, number_of_rou
 use crate::rises::{Rise, greater, greatest_rise};
 use entries::{Entries, NoMemory};
 use fleet_model::Tables;
-use fleet_model::limits::MINUTES_PER_PERIOD;
 use std::alloc::Global;
 
 /// The rounds of rises: in each every rent grows by its number, and so do the prices at a station up to and with the
@@ -52,7 +51,7 @@ fn station_moments(
     rises: &[Rise],
 ) -> Result<Entries<Entries<u16>>, NoMemory>
     requires { AreRises tables.now rises.now }
-    ensures { IfOk result (λ moments. moments ≡ list_below (moments_of rises.now) (stations_in tables.now)) }
+    ensures { IfOk result (λ moments. moments ≡ list_below (moments_of tables.now rises.now) (stations_in tables.now)) }
 {
     let mut stations = Vec::new(alloc);
     for station in 0..tables.station_count() {
@@ -70,10 +69,10 @@ fn moments(
     station: u32,
 ) -> Result<Entries<u16>, NoMemory>
     requires { AreRises tables.now rises.now }
-    ensures { IfOk result (λ moments. moments ≡ moments_of rises.now station) }
+    ensures { IfOk result (λ moments. moments ≡ moments_of tables.now rises.now station) }
 {
     let mut moments = Vec::new(alloc);
-    for minute in 0..MINUTES_PER_PERIOD {
+    for minute in 0..tables.period() {
         let rises_there = has_rise(tables, rises, station, minute);
         push_where(&mut moments, minute, rises_there)?;
     }
@@ -106,7 +105,7 @@ fn numbers(
     moments: &[Entries<u16>],
 ) -> Result<Entries<i128>, NoMemory>
     requires rises { AreRises tables.now rises.now }
-    requires moments { moments.now ≡ list_below (moments_of rises.now) (stations_in tables.now) }
+    requires moments { moments.now ≡ list_below (moments_of tables.now rises.now) (stations_in tables.now) }
     ensures { IfOk result (λ numbers. numbers ≡ list_below (number_of_round rises.now moments.now (stations_in tables.now)) (round_count moments.now (stations_in tables.now))) }
 {
     let mut numbers = Vec::new(alloc);

@@ -1,23 +1,22 @@
 //! Prices as steps: at each minute whose price is another than the one before.
 ghost use Rattle.std.specs.Prelude.{◌≡◌, ◌≤◌, ◌<◌, ◌++◌, length, slice_index_or, pos, OnOk};
-ghost use Rattle.fleet_model.specs.declared.limits.TheConstants.{MINUTES_PER_PERIOD};
 ghost use Rattle.island_prices.specs.Steps.{all_zero, is_step, step_where, steps_below};
 
 use dual_bound::PriceStep;
 use entries::NoMemory;
-use fleet_model::limits::MINUTES_PER_PERIOD;
 
-/// Puts the steps of a fleet's prices at a station behind those so far. The row has the price of each minute of the period.
+/// Puts the steps of a fleet's prices at a station behind those so far. The row has the price of each minute of the period, which is a
+/// week at most.
 pub(crate) fn push_steps(
     steps: &mut Vec<PriceStep>,
     row: &[i128],
     fleet: u32,
     station: u32,
 ) -> Result<(), NoMemory>
-    requires { length row.now ≡ MINUTES_PER_PERIOD }
-    ensures { OnOk result (steps.new.items ≡ steps.old.items ++ steps_below (λ m. slice_index_or row.now m (pos 0)) fleet station MINUTES_PER_PERIOD) }
+    requires { length row.now ≤ 10080 }
+    ensures { OnOk result (steps.new.items ≡ steps.old.items ++ steps_below (length row.now) (λ m. slice_index_or row.now m (pos 0)) fleet station (length row.now)) }
 {
-    for minute in 0..MINUTES_PER_PERIOD {
+    for minute in 0..row.len() as u16 {
         push_step(steps, row, fleet, station, minute)?;
     }
     Ok(())
@@ -31,9 +30,8 @@ fn push_step(
     station: u32,
     minute: u16,
 ) -> Result<(), NoMemory>
-    requires row { length row.now ≡ MINUTES_PER_PERIOD }
-    requires minute { minute < MINUTES_PER_PERIOD }
-    ensures { OnOk result (steps.new.items ≡ steps.old.items ++ step_where (λ m. slice_index_or row.now m (pos 0)) fleet station minute) }
+    requires { minute < length row.now }
+    ensures { OnOk result (steps.new.items ≡ steps.old.items ++ step_where (length row.now) (λ m. slice_index_or row.now m (pos 0)) fleet station minute) }
 {
     if !is_step(row, minute) {
         return Ok(());
@@ -51,9 +49,8 @@ fn push_step(
 // the price is another than a minute before.
 #[tactic(auto, unfolding(crate::specs::Steps::is_step))]
 fn is_step(row: &[i128], minute: u16) -> bool
-    requires row { length row.now ≡ MINUTES_PER_PERIOD }
-    requires minute { minute < MINUTES_PER_PERIOD }
-    ensures { result ≡ is_step (λ m. slice_index_or row.now m (pos 0)) minute }
+    requires { minute < length row.now }
+    ensures { result ≡ is_step (length row.now) (λ m. slice_index_or row.now m (pos 0)) minute }
 {
     if minute == 0 {
         !are_zero(row)
@@ -65,8 +62,7 @@ fn is_step(row: &[i128], minute: u16) -> bool
 // Whether all prices of a row are 0.
 #[tactic(auto, unfolding(crate::specs::Steps::all_zero))]
 fn are_zero(row: &[i128]) -> bool
-    requires { length row.now ≡ MINUTES_PER_PERIOD }
-    ensures { result ≡ all_zero (λ m. slice_index_or row.now m (pos 0)) MINUTES_PER_PERIOD }
+    ensures { result ≡ all_zero (λ m. slice_index_or row.now m (pos 0)) (length row.now) }
 {
     for minute in 0..row.len() {
         if row[minute] != 0 {

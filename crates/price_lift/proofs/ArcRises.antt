@@ -61,7 +61,7 @@ module _ (t : Tables) (starts : Starts) (moment : ArcMoments) (prices : Prices) 
   there_at n = goes_up prices (starts n.fleet n.station) n.fleet n.station n.place (moment n.fleet n.station n.place)
 
   abbrev entry_at : Node → Rise
-  entry_at n = arc_rise prices (starts n.fleet n.station) n.fleet n.station n.place (unwrap_or (moment n.fleet n.station n.place) 0)
+  entry_at n = arc_rise t prices (starts n.fleet n.station) n.fleet n.station n.place (unwrap_or (moment n.fleet n.station n.place) 0)
 
   abbrev there : ℕ → Bool
   there k = there_at (node_of_number t starts k)
@@ -89,7 +89,7 @@ module _ (t : Tables) (starts : Starts) (moment : ArcMoments) (prices : Prices) 
     ranks : rank there entry number ≡ i
     went : moment fleet station place ≡ Some minute
     some : pos 0 <ℤ rise_over prices (starts fleet station) fleet station place
-    same : rise_in all i ≡ arc_rise prices (starts fleet station) fleet station place minute
+    same : rise_in all i ≡ arc_rise t prices (starts fleet station) fleet station place minute
 
   is_at : (i : ℕ) → i < length all → IsAt i
   is_at i below =
@@ -113,7 +113,7 @@ module _ (t : Tables) (starts : Starts) (moment : ArcMoments) (prices : Prices) 
         some = goes.some;
         same =
             ap (λ j. get_or all j no_rise) (sym at.3) ∙ stand.1 ∙ ap entry_at node
-            ∙ ap (λ o. arc_rise prices (starts n.fleet n.station) n.fleet n.station n.place (unwrap_or o 0)) goes.went;
+            ∙ ap (λ o. arc_rise t prices (starts n.fleet n.station) n.fleet n.station n.place (unwrap_or o 0)) goes.went;
       }
 
   of_arc : (i : ℕ) → i < length all → IsOfArc t prices starts moment (rise_in all i)
@@ -126,19 +126,19 @@ module _ (t : Tables) (starts : Starts) (moment : ArcMoments) (prices : Prices) 
         place = at.place;
         within = subst (λ r. at.place < length (starts r.fleet r.station)) back at.below;
         went = subst (λ r. moment r.fleet r.station at.place ≡ Some r.moment) back at.went;
-        shift = subst (λ r. r.shift ≡ shift_over (starts r.fleet r.station) at.place r.moment) back refl;
+        shift = subst (λ r. r.shift ≡ shift_over t (starts r.fleet r.station) at.place r.moment) back refl;
         amount = subst (λ r. r.amount ≡ rise_over prices (starts r.fleet r.station) r.fleet r.station at.place) back refl;
         some = subst (λ r. pos 0 <ℤ r.amount) back at.some;
       }
 
-  has_rise : (f s k m : ℕ) → f < fleets_in t → s < stations_in t → k < length (starts f s) → moment f s k ≡ Some m → pos 0 <ℤ rise_over prices (starts f s) f s k → HasRise prices (starts f s) f s k m all
+  has_rise : (f s k m : ℕ) → f < fleets_in t → s < stations_in t → k < length (starts f s) → moment f s k ≡ Some m → pos 0 <ℤ rise_over prices (starts f s) f s k → HasRise t prices (starts f s) f s k m all
   has_rise f s k m known within below went some =
       let number = before t starts f s + k in
       let inside : number < total = omega (arith, nodes_are t starts, node_within t starts f s k known within below) in
       let node = node_there t starts f s k (node_at 0 0 0) known within below in
       let here : there number ≡ true = ap there_at node ∙ up_there prices (starts f s) f s k m (moment f s k) went some in
       let stand = stands there entry total number no_rise inside here in
-      let same : rise_in all (rank there entry number) ≡ arc_rise prices (starts f s) f s k m = stand.1 ∙ ap entry_at node ∙ ap (λ o. arc_rise prices (starts f s) f s k (unwrap_or o 0)) went in
+      let same : rise_in all (rank there entry number) ≡ arc_rise t prices (starts f s) f s k m = stand.1 ∙ ap entry_at node ∙ ap (λ o. arc_rise t prices (starts f s) f s k (unwrap_or o 0)) went in
       record {
         at = rank there entry number;
         within = stand.0;

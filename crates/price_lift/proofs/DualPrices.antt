@@ -93,10 +93,10 @@ module _ (t : Tables) (keeps : Domains) (rows : Rows) (lines : AreLinesOf t keep
   -- ---- by the outline of the kept pairs
   module _ (o : Outline) (outline : IsOutline t keeps o) (before : Prices) (are : AreNodePrices t keeps (starts_in o.network) duals before) where
     -- what is first too large by the outline is so by the dual values
-    pub same_excess : payback_excess t before (outline_rises o before) ≡ payback_excess_by t keeps (starts_in o.network) duals
+    pub same_excess : payback_excess t before (outline_rises t o before) ≡ payback_excess_by t keeps (starts_in o.network) duals
     same_excess = ap (payback_excess t before) (outline_rises_are t keeps o outline before) ∙ excess_is (starts_in o.network) outline.network (few_there t keeps o outline before) before are
 
-    module _ (paid : Prices) (facts : (payback_excess t before (outline_rises o before) ≡ None) × (paid ≡ paid_back t before (outline_rises o before))) where
+    module _ (paid : Prices) (facts : (payback_excess t before (outline_rises t o before) ≡ None) × (paid ≡ paid_back t before (outline_rises t o before))) where
       pub small : payback_excess t before (rises (starts_in o.network) outline.network (few_there t keeps o outline before) before are) ≡ None
       small = sym (ap (payback_excess t before) (outline_rises_are t keeps o outline before)) ∙ facts.0
 

@@ -185,7 +185,7 @@ module _ (t : Tables) (keeps : Domains) (rows : Rows) (lines : AreLinesOf t keep
       of_parts : IsMixedOfParts (pair_parts t keeps hint) (all_kept t keeps) mixed
       of_parts = subst (λ ps. IsMixedOfParts (pair_parts t keeps hint) ps mixed) is.pairs (subst (λ p. IsMixedOfParts p o.pairs mixed) same_pairs made.1)
 
-      pub paying_fails : (e : LiftError) → IsLiftError (payback_excess t before (outline_rises o before)) e → IsLiftError (end_excess t keeps hint (starts_in o.network)) e
+      pub paying_fails : (e : LiftError) → IsLiftError (payback_excess t before (outline_rises t o before)) e → IsLiftError (end_excess t keeps hint (starts_in o.network)) e
       unfolding end_excess
       paying_fails e fails = then_fails _ _ e priced.0 (then_fails _ _ e fits (subst (λ x. IsLiftError x e) (same_excess t keeps rows lines 1 (value_in hint.duals) (end_duals t hint) point_row priced.0 o is before nodes_priced) fails))
 
@@ -208,7 +208,7 @@ module _ (t : Tables) (keeps : Domains) (rows : Rows) (lines : AreLinesOf t keep
       divides : (c : ℕ) → c < n → part_in hint.point c ≡ factor hint.point hint.scale n end.some * lowest_part hint.point hint.scale n end.some c
       divides c below = (part_is hint.point hint.scale n end.some c below).1
 
-      module _ (paid : Prices) (facts : (payback_excess t before (outline_rises o before) ≡ None) × (paid ≡ paid_back t before (outline_rises o before))) where
+      module _ (paid : Prices) (facts : (payback_excess t before (outline_rises t o before) ≡ None) × (paid ≡ paid_back t before (outline_rises t o before))) where
         lifted : AreLiftedPrices t keeps (end_duals t hint) paid
         lifted = prices_lifted t keeps rows lines 1 (value_in hint.duals) (end_duals t hint) point_row priced.0 o is before nodes_priced paid facts
 
@@ -261,11 +261,11 @@ module _ (t : Tables) (keeps : Domains) (rows : Rows) (lines : AreLinesOf t keep
     pub refusing_priced : AreNodePrices t keeps (starts_in o.network) (refusing_duals t hint) before
     refusing_priced = node_prices t keeps rows lines 0 (value_in hint.multipliers) (refusing_duals t hint) refusal_row priced.0 (starts_in o.network) is.network row before priced.1
 
-    pub refusing_fails : (e : LiftError) → IsLiftError (payback_excess t before (outline_rises o before)) e → IsLiftError (refusing_excess t keeps hint (starts_in o.network)) e
+    pub refusing_fails : (e : LiftError) → IsLiftError (payback_excess t before (outline_rises t o before)) e → IsLiftError (refusing_excess t keeps hint (starts_in o.network)) e
     unfolding refusing_excess
     refusing_fails e fails = then_fails _ _ e priced.0 (subst (λ x. IsLiftError x e) (same_excess t keeps rows lines 0 (value_in hint.multipliers) (refusing_duals t hint) refusal_row priced.0 o is before refusing_priced) fails)
 
-    pub refusing_lifted : (paid : Prices) → (payback_excess t before (outline_rises o before) ≡ None) × (paid ≡ paid_back t before (outline_rises o before))
+    pub refusing_lifted : (paid : Prices) → (payback_excess t before (outline_rises t o before) ≡ None) × (paid ≡ paid_back t before (outline_rises t o before))
         → (refusing_excess t keeps hint (starts_in o.network) ≡ None) × IsLiftOfRefusing t keeps hint (record { prices = paid; mixed = None })
     unfolding refusing_excess
     refusing_lifted paid facts =

@@ -1,17 +1,18 @@
 -- The moments of a network's arcs: where they lie, that no event lies between, and that they are idle minutes.
-use Rattle.std.proofs.Common.{◌≡◌, ℕ, ◌+◌, ◌<◌, ◌≤◌, true, ◌==◌, length, get_or, Some, IsSome, refl, subst, inl, inr, arith}
+use Rattle.std.proofs.Common.{◌≡◌, ℕ, ◌+◌, ◌<◌, ◌≤◌, true, ◌==◌, length, get_or, Some, IsSome, is_some, if◌then◌else◌, ap, subst, inl, inr, arith}
 use Rattle.std.proofs.lemmas.Bool.{cases_lt, eqb-true}
 use Rattle.sums.proofs.Tests.{no_both, parts_true}
 use Rattle.fleet_model.specs.Kept.{Domains}
 use Rattle.fleet_model.specs.Legal.{cost_of}
-use Rattle.fleet_model.specs.Schedule.{IsPair, fleets_in, leg_on, stations_in}
+use Rattle.fleet_model.specs.Schedule.{IsPair, days_in, fleets_in, pair_on, stations_in}
 use Rattle.fleet_model.specs.Times.{departure, ready_minute}
 use Rattle.fleet_model.specs.declared.parts.Pair.{Pair}
 use Rattle.fleet_model.specs.declared.tables.Tables.{Tables}
-use Rattle.node_aggregate.specs.Nodes.{node_end}
+use Rattle.node_aggregate.specs.Nodes.{days_at, node_end}
 use Rattle.node_aggregate.proofs.Starts.{starts_rise}
 use Rattle.island_cut.specs.IslandLaws.{IsIdle}
 use Rattle.island_cut.specs.Islands.{has_islands, is_idle}
+use Rattle.island_cut.proofs.IslandProofs.{islands_tested}
 use Rattle.island_arcs.specs.Waits.{is_among, is_quiet}
 use Rattle.island_arcs.proofs.AllowedPairs.{allowed_tested}
 use Rattle.island_arcs.proofs.EmptyArcs.{IsMoment, moment_is}
@@ -26,19 +27,28 @@ use Rattle.price_lift.specs.PaidBack.{moments_by}
 
 quiet_so : (t : Tables) (keeps : Domains) (f s low high : ℕ) → is_quiet t keeps f s low high ≡ true → IsQuiet t keeps f s low high
 quiet_so t keeps f s low high quiet = record {
-  departs = λ l below kept from first last. no_both (departs_elsewhere t keeps f s low high quiet l below kept from) (among_where low high (departure t (leg_on l f)) first last);
-  lands = λ l below kept to first last. no_both (ready_elsewhere t keeps f s low high quiet l below kept to) (among_where low high (ready_minute t (leg_on l f)) first last);
+  departs = λ d below kept from first last. no_both (departs_elsewhere t keeps f s low high quiet d below kept from) (among_where low high (departure t (pair_on t d f)) first last);
+  lands = λ d below kept to first last. no_both (ready_elsewhere t keeps f s low high quiet d below kept to) (among_where low high (ready_minute t (pair_on t d f)) first last);
 }
+
+-- where a minute is idle there are islands
+pub islands_there : (t : Tables) (s m : ℕ) → is_idle t s m ≡ true → has_islands t ≡ true
+unfolding is_idle
+islands_there t s m e = (parts_true (has_islands t) _ e).0
+
+-- .. and one day cuts the nodes of a station
+one_day_there : (t : Tables) (s m : ℕ) → s < stations_in t → is_idle t s m ≡ true → days_at t s ≡ 1
+one_day_there t s m within e = ap (λ o. if is_some o then days_in t else 1) ((islands_tested t (islands_there t s m e)).day.no_limit s within)
 
 module _ (t : Tables) (keeps : Domains) (starts : Starts) (network : IsNetwork t keeps starts) where
   moment_there : (f s k m : ℕ) → moments_by t keeps starts f s k ≡ Some m → IsMoment t keeps f s (starts f s) k m
   moment_there f s k m went = moment_is t keeps f s (starts f s) k m went
 
   -- of several nodes the first has an event, before the second starts
-  not_round : (f s k m : ℕ) → f < fleets_in t → s < stations_in t → k < length (starts f s) → 1 < length (starts f s) → get_or (starts f s) k 0 ≤ m → k + 1 ≡ length (starts f s) → IsQuiet t keeps f s 0 m → ⊥
-  not_round f s k m known within below several begun last quiet =
+  not_round : (f s k m : ℕ) → is_idle t s m ≡ true → f < fleets_in t → s < stations_in t → k < length (starts f s) → 1 < length (starts f s) → get_or (starts f s) k 0 ≤ m → k + 1 ≡ length (starts f s) → IsQuiet t keeps f s 0 m → ⊥
+  not_round f s k m idle known within below several begun last quiet =
       let at = network.each f s known within in
-      let event = first_departs t keeps f s (starts f s) at refl several in
+      let event = first_departs t keeps f s (starts f s) at (one_day_there t s m within idle) several in
       let rise = starts_rise t keeps f s (starts f s) at (omega arith) in
       quiet.departs event.0 event.1 event.2 event.3 (omega arith) (elim (cases_lt 1 k) [
         | inl more ↦ omega (arith, event.4, begun, rise.rise 1 k more below)
@@ -47,7 +57,7 @@ module _ (t : Tables) (keeps : Domains) (starts : Starts) (network : IsNetwork t
 
   pub are_moments : AreMoments t keeps starts (moments_by t keeps starts)
   are_moments = record {
-    one_day = λ f s k m known within below went. refl;
+    one_day = λ f s k m known within below went. one_day_there t s m within (moment_there f s k m went).idle;
     in_period = λ f s k m known within below went. (moment_there f s k m went).minute;
     in_node = λ f s k m known within below several went begun. elim (moment_there f s k m went).waits [
       | inl waits ↦
@@ -55,7 +65,7 @@ module _ (t : Tables) (keeps : Domains) (starts : Starts) (network : IsNetwork t
           ((among_ends (get_or (starts f s) k 0) (node_end (starts f s) k) m parts.0).1, quiet_so t keeps f s (m + 1) (node_end (starts f s) k) parts.1)
       | inr waits ↦
           let parts = parts_true (k + 1 == length (starts f s)) (is_quiet t keeps f s 0 m) waits in
-          absurd (not_round f s k m known within below several begun (eqb-true (k + 1) (length (starts f s)) parts.0) (quiet_so t keeps f s 0 m parts.1))
+          absurd (not_round f s k m (moment_there f s k m went).idle known within below several begun (eqb-true (k + 1) (length (starts f s)) parts.0) (quiet_so t keeps f s 0 m parts.1))
     ];
     round = λ f s k m known within below several went early. elim (moment_there f s k m went).waits [
       | inl waits ↦
@@ -73,8 +83,3 @@ module _ (t : Tables) (keeps : Domains) (starts : Starts) (network : IsNetwork t
 
   pub kept_allowed : (f s k m : ℕ) → moments_by t keeps starts f s k ≡ Some m → (p : Pair) → IsPair t p → keeps p ≡ true → IsSome (cost_of t p)
   kept_allowed f s k m went = (allowed_tested t keeps (moment_there f s k m went).allowed).each
-
--- .. so there are islands
-pub islands_there : (t : Tables) (s m : ℕ) → is_idle t s m ≡ true → has_islands t ≡ true
-unfolding is_idle
-islands_there t s m e = (parts_true (has_islands t) _ e).0

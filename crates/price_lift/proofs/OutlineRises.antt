@@ -23,16 +23,16 @@ module _ (t : Tables) (keeps : Domains) (o : Outline) (is : IsOutline t keeps o)
   moment_same : (k : ℕ) → k < length o.nodes → moment_in o k ≡ moment_at t keeps (starts_in o.network) (node_in o k)
   moment_same k below = ap (λ ms. get_or ms k None) is.moments ∙ get_or-map (moment_at t keeps (starts_in o.network)) o.nodes k (node_at 0 0 0) None below
 
-  one_same : (k : ℕ) → k < length o.nodes → rise_of_number o prices k ≡ rise_at t (starts_in o.network) (moments_by t keeps (starts_in o.network)) prices k
+  one_same : (k : ℕ) → k < length o.nodes → rise_of_number t o prices k ≡ rise_at t (starts_in o.network) (moments_by t keeps (starts_in o.network)) prices k
   one_same k below =
-      ap (λ m. rise_where prices (starts_in o.network (node_in o k).fleet (node_in o k).station) (node_in o k).fleet (node_in o k).station (node_in o k).place m) (moment_same k below)
-      ∙ ap (λ n. rise_where prices (starts_in o.network n.fleet n.station) n.fleet n.station n.place (moment_at t keeps (starts_in o.network) n)) (node_same k)
+      ap (λ m. rise_where t prices (starts_in o.network (node_in o k).fleet (node_in o k).station) (node_in o k).fleet (node_in o k).station (node_in o k).place m) (moment_same k below)
+      ∙ ap (λ n. rise_where t prices (starts_in o.network n.fleet n.station) n.fleet n.station n.place (moment_at t keeps (starts_in o.network) n)) (node_same k)
 
-  below_same : (n : ℕ) → n ≤ length o.nodes → concat_below (rise_of_number o prices) n ≡ concat_below (rise_at t (starts_in o.network) (moments_by t keeps (starts_in o.network)) prices) n
+  below_same : (n : ℕ) → n ≤ length o.nodes → concat_below (rise_of_number t o prices) n ≡ concat_below (rise_at t (starts_in o.network) (moments_by t keeps (starts_in o.network)) prices) n
   below_same zero within = refl
   below_same (suc n) within = ap₂ (λ xs ys. xs ++ ys) (below_same n (omega arith)) (one_same n (omega arith))
 
-  pub outline_rises_are : outline_rises o prices ≡ rises_by t (starts_in o.network) (moments_by t keeps (starts_in o.network)) prices
+  pub outline_rises_are : outline_rises t o prices ≡ rises_by t (starts_in o.network) (moments_by t keeps (starts_in o.network)) prices
   unfolding outline_rises
   outline_rises_are = below_same (length o.nodes) (omega arith) ∙ ap (λ ns. concat_below (rise_at t (starts_in o.network) (moments_by t keeps (starts_in o.network)) prices) (length ns)) is.over.nodes
 

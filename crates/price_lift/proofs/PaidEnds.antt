@@ -29,16 +29,16 @@ use Rattle.price_lift.proofs.Lifts.{dual_row, mixed_is, more, no_leg_bare, price
 module _ (t : Tables) (keeps : Domains) (table : List FracRow) (basis : List ℕ) (reading : Reading) (last : IsLastBy t keeps table basis reading) (o : Outline) (is : IsOutline t keeps o)
     (before : Prices) (are : AreNodePrices t keeps (starts_in o.network) (duals_by table reading (legs_in t)) before) (well : prices_excess_by t table reading ≡ None) where
   -- what is first too large by the outline is so by the dual values
-  pub same_there : payback_excess t before (outline_rises o before) ≡ payback_excess_by t keeps (starts_in o.network) (duals_by table reading (legs_in t))
+  pub same_there : payback_excess t before (outline_rises t o before) ≡ payback_excess_by t keeps (starts_in o.network) (duals_by table reading (legs_in t))
   same_there =
       same_excess t keeps last.rows last.lines (counts_costs reading) (value_by table reading) (duals_by table reading (legs_in t)) (dual_row t keeps table basis reading last) (prices_fit t keeps table basis reading last well) o is before are
 
   -- ---- where no point meets the lines
-  pub none_fails : (e : LiftError) → IsLiftError (payback_excess t before (outline_rises o before)) e → IsLiftError (none_excess t keeps table reading (starts_in o.network)) e
+  pub none_fails : (e : LiftError) → IsLiftError (payback_excess t before (outline_rises t o before)) e → IsLiftError (none_excess t keeps table reading (starts_in o.network)) e
   unfolding none_excess
   none_fails e fails = then_fails _ _ e well (subst (λ x. IsLiftError x e) same_there fails)
 
-  pub refusal_of : (paid : Prices) → (payback_excess t before (outline_rises o before) ≡ None) × (paid ≡ paid_back t before (outline_rises o before)) → counts_costs reading ≡ 0
+  pub refusal_of : (paid : Prices) → (payback_excess t before (outline_rises t o before) ≡ None) × (paid ≡ paid_back t before (outline_rises t o before)) → counts_costs reading ≡ 0
       → (none_excess t keeps table reading (starts_in o.network) ≡ None) × IsLiftedRefusal t keeps (duals_by table reading (legs_in t)) (record { prices = paid; mixed = None })
   unfolding none_excess
   refusal_of paid facts none = (
@@ -55,11 +55,11 @@ module _ (t : Tables) (keeps : Domains) (table : List FracRow) (basis : List ℕ
 module _ (t : Tables) (keeps : Domains) (table : List FracRow) (basis : List ℕ) (reading : Reading) (point : IsPointBy t keeps table basis reading) (o : Outline) (is : IsOutline t keeps o)
     (before : Prices) (are : AreNodePrices t keeps (starts_in o.network) (duals_by table reading (legs_in t)) before) (well : prices_excess_by t table reading ≡ None)
     (weighed : first_below (weights_excess table basis (pairs_kept t keeps)) (height_of table) ≡ None) where
-  pub point_fails : (e : LiftError) → IsLiftError (payback_excess t before (outline_rises o before)) e → IsLiftError (point_excess t keeps table basis reading (starts_in o.network)) e
+  pub point_fails : (e : LiftError) → IsLiftError (payback_excess t before (outline_rises t o before)) e → IsLiftError (point_excess t keeps table basis reading (starts_in o.network)) e
   unfolding point_excess
   point_fails e fails = then_fails _ _ e well (then_fails _ _ e weighed (subst (λ x. IsLiftError x e) (same_there t keeps table basis reading point.last o is before are well) fails))
 
-  pub point_of : (paid : Prices) → (payback_excess t before (outline_rises o before) ≡ None) × (paid ≡ paid_back t before (outline_rises o before)) → (mixed : Mixed) → IsBasicMixed table basis o.pairs mixed
+  pub point_of : (paid : Prices) → (payback_excess t before (outline_rises t o before) ≡ None) × (paid ≡ paid_back t before (outline_rises t o before)) → (mixed : Mixed) → IsBasicMixed table basis o.pairs mixed
       → (point_excess t keeps table basis reading (starts_in o.network) ≡ None) × IsLiftedPoint t keeps table basis (duals_by table reading (legs_in t)) (record { prices = paid; mixed = Some mixed })
   unfolding point_excess
   point_of paid facts mixed basic =

@@ -62,9 +62,9 @@ module _ (t : Tables) (keeps : Domains) (starts : Starts) (prices : Prices) (low
   covered = arcs.are_covered t keeps prices starts (moments_by t keeps starts) rises nodes moments are rents low.through low.stay_low
 
   -- ---- where no price rises
-  none_ends : rises ≡ [] → (f s m : ℕ) → ends_by rises f s m ≡ pos 0
+  none_ends : rises ≡ [] → (f s m : ℕ) → ends_by t rises f s m ≡ pos 0
   unfolding ends_by
-  none_ends none f s m = ap (λ xs. ends_by xs f s m) none
+  none_ends none f s m = ap (λ xs. ends_by t xs f s m) none
 
   stays_proper : rises ≡ [] → ArePrices t prices
   stays_proper none = record {

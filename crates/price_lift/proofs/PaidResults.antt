@@ -24,7 +24,7 @@ use Rattle.price_lift.proofs.IslandMoments.{are_moments}
 use Rattle.price_lift.proofs.OutlineRises.{few_there, outline_rises_are}
 
 -- the rises by an outline are rises of the tables
-pub rises_known : (t : Tables) (keeps : Domains) (o : Outline) → IsOutline t keeps o → (prices : Prices) → AreWithin t prices → AreRises t (outline_rises o prices)
+pub rises_known : (t : Tables) (keeps : Domains) (o : Outline) → IsOutline t keeps o → (prices : Prices) → AreWithin t prices → AreRises t (outline_rises t o prices)
 rises_known t keeps o is prices within =
     subst (AreRises t) (sym (outline_rises_are t keeps o is prices))
     (arcs.are_rises t keeps prices (starts_in o.network) (moments_by t keeps (starts_in o.network)) _ (record { each = is.network.each }) (are_moments t keeps (starts_in o.network) is.network)

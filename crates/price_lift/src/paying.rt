@@ -28,8 +28,8 @@ pub(crate) fn paid_back(
     requires outline { (keeps : Domains) × IsOutline tables.now keeps outline.now }
     requires within { AreWithin tables.now prices }
     ensures { MatchResult result
-        (λ paid. (payback_excess tables.now prices (outline_rises outline.now prices) ≡ None) × (paid ≡ paid_back tables.now prices (outline_rises outline.now prices)))
-        (IsLiftError (payback_excess tables.now prices (outline_rises outline.now prices))) }
+        (λ paid. (payback_excess tables.now prices (outline_rises tables.now outline.now prices) ≡ None) × (paid ≡ paid_back tables.now prices (outline_rises tables.now outline.now prices)))
+        (IsLiftError (payback_excess tables.now prices (outline_rises tables.now outline.now prices))) }
 {
     let rises = arc_rises(alloc, tables, outline, &prices)?;
     if rises.is_empty() {
@@ -72,7 +72,7 @@ fn arc_rises(
 ) -> Result<Vec<Rise>, NoMemory>
     requires outline { (keeps : Domains) × IsOutline tables.now keeps outline.now }
     requires within { AreWithin tables.now prices.now }
-    ensures { IfOk result (λ rises. rises.items ≡ outline_rises outline.now prices.now) }
+    ensures { IfOk result (λ rises. rises.items ≡ outline_rises tables.now outline.now prices.now) }
 {
     let finder = PriceFinder::new(prices);
     let mut rises = Vec::new(alloc);
@@ -93,7 +93,7 @@ fn push_number(
     requires outline { (keeps : Domains) × IsOutline tables.now keeps outline.now }
     requires within { AreWithin tables.now prices.now }
     requires number { number < length outline.now.nodes }
-    ensures { OnOk result (rises.new.items ≡ rises.old.items ++ rise_of_number outline.now prices.now number) }
+    ensures { OnOk result (rises.new.items ≡ rises.old.items ++ rise_of_number tables.now outline.now prices.now number) }
 {
     let node = outline.nodes.as_slice()[number];
     let arc = Arc {

@@ -1,7 +1,7 @@
 //! Minutes at which no aircraft stands at a station, and aircraft left over.
 use crate::assertions::assert_same;
-use fleet_model::{Kept, LoadError, Tables};
-use island_cut::{spare, zero_minutes};
+use fleet_model::{LoadError, Tables};
+use island_cut::{have_pairs, spare, zero_minutes};
 use std::alloc::Global;
 use std::process::Abort;
 use std::test::Fail;
@@ -106,9 +106,10 @@ fn at_the_hub_none_stands_for_1400_minutes(rt: HostRuntime) -> Result<(), Fail> 
 
 /// The aircraft left over; nothing where no fleet may fly some leg.
 fn left_over(tables: &Tables) -> Option<i64> {
-    match Kept::all(tables).bare_leg(tables) {
-        Some(_) => None,
-        None => Some(spare(tables)),
+    if have_pairs(tables) {
+        Some(spare(tables))
+    } else {
+        None
     }
 }
 

@@ -1,11 +1,15 @@
 use Rattle.std.proofs.Common.{◌≡◌, ◌+◌, length, slice_index, ap, ◌∙◌, sym, arith}
 use Rattle.fleet_model.specs.Schedule.{period_of}
+use Rattle.fleet_model.proofs.PeriodMinutes.{at_most_week}
 use Rattle.island_arcs.specs.EventMinutes.{IsLastAmong}
 use Rattle.island_arcs.specs.KeptIdles.{idle_in}
 use Rattle.island_arcs.specs.Moments.{moment_in_node}
 use Rattle.island_arcs.proofs.MomentsFound.{in_node_found, lists_station, moment_alone, moment_first, moment_second, round_found}
 use Rattle.island_arcs.proofs.arcs.moment.Goals as goal
 use Rattle.island_arcs.proofs.arcs.moment.Goals.{then-is_some-via-then-is_some, then-is_some-via-else-is_some+then-place-starts}
+
+pub overflow_add-until : goal.overflow_add-until
+overflow_add-until c = omega (arith, c.node_end-until.ensures, c.requires.end, at_most_week c.args.tables.now)
 
 pub returns-then-is_some : goal.returns-then-is_some
 returns-then-is_some c keeps f station are idle =

@@ -32,7 +32,7 @@ returns-then-uneven-eq0 c =
     ∙ islands_told t (fleet_at c.args.plan.now) c.requires.pairs c.requires.quickest c.loop-station.uneven c.loop-station.needed c.lapping.result c.aircraft.result
     (c.loop-station.invariant.uneven ∙ ap (count_below (is_uneven t (joined_legs t))) (omega (arith, c.loop-station-test.false, c.loop-station.auto.station-end, c.station_count-station-end.ensures)))
     (c.loop-station.invariant.needed ∙ ap (sum_below (need_by t (joined_legs t))) (omega (arith, c.loop-station-test.false, c.loop-station.auto.station-end, c.station_count-station-end.ensures)))
-    c.lapping.ensures.value c.aircraft.ensures.value
+    c.lapping.ensures.value c.aircraft.ensures.value c.requires.day
 
 pub returns-else-uneven-eq0 : goal.returns-else-uneven-eq0
 returns-else-uneven-eq0 c =
@@ -41,4 +41,4 @@ returns-else-uneven-eq0 c =
     ∙ islands_told t (fleet_at c.args.plan.now) c.requires.pairs c.requires.quickest c.loop-station.uneven c.loop-station.needed (laps_by t (joined c.args.tables.now (fleet_at c.args.plan.now))) (aircraft_in t)
     (c.loop-station.invariant.uneven ∙ ap (count_below (is_uneven t (joined_legs t))) (omega (arith, c.loop-station-test.false, c.loop-station.auto.station-end, c.station_count-station-end.ensures)))
     (c.loop-station.invariant.needed ∙ ap (sum_below (need_by t (joined_legs t))) (omega (arith, c.loop-station-test.false, c.loop-station.auto.station-end, c.station_count-station-end.ensures)))
-    refl refl
+    refl refl c.requires.day

@@ -1,17 +1,24 @@
-use Rattle.std.proofs.Common.{◌≡◌, ◌++◌, false, map, sym, ◌∙◌, ap, arith}
+use Rattle.std.proofs.Common.{◌≡◌, ◌++◌, true, false, map, sym, ◌∙◌, ap, arith}
 use Rattle.fleet_model.specs.Schedule.{stations_in}
 use Rattle.island_cut.specs.Islands.{has_islands, have_pairs, idle_at, idle_minutes, idles_below}
-use Rattle.island_cut.proofs.Listed.{first_station, no_idles, station_more, without_pairs}
+use Rattle.island_cut.specs.PlainDay.{is_plain_day}
+use Rattle.island_cut.proofs.Listed.{first_station, no_idles, on_other_days, station_more, without_pairs}
 use Rattle.island_cut.proofs.QuickestFleets.{pairs_tested}
 use Rattle.island_cut.proofs.idles.idle.Goals as goal
 
+pub returns-then-not-is_plain_day : goal.returns-then-not-is_plain_day
+returns-then-not-is_plain_day c =
+    let other : is_plain_day c.args.tables.now ≡ false = sym c.is_plain_day.ensures ∙ c.if-not-is_plain_day.true in
+    c.from_vec.ensures ∙ c.new.ensures.items ∙ sym (no_idles c.args.tables.now (stations_in c.args.tables.now) (on_other_days c.args.tables.now other))
+
 pub returns-then-not-have_pairs : goal.returns-then-not-have_pairs
 returns-then-not-have_pairs c =
-    let none : have_pairs c.args.tables.now ≡ false = sym c.have_pairs.ensures ∙ c.if-not-have_pairs.true in
-    c.from_vec.ensures ∙ c.new.ensures.items ∙ sym (no_idles c.args.tables.now (stations_in c.args.tables.now) (without_pairs c.args.tables.now none))
+    let day : is_plain_day c.args.tables.now ≡ true = sym c.is_plain_day.ensures ∙ c.if-not-is_plain_day.false in
+    let none : have_pairs c.args.tables.now ≡ false = sym c.have_pairs.ensures.value ∙ c.if-not-have_pairs.true in
+    c.from_vec-then-not-have_pairs.ensures ∙ c.new-then-not-have_pairs.ensures.items ∙ sym (no_idles c.args.tables.now (stations_in c.args.tables.now) (without_pairs c.args.tables.now day none))
 
 pub quickest-plan-requires : goal.quickest-plan-requires
-quickest-plan-requires c = pairs_tested c.args.tables.now (sym c.have_pairs.ensures ∙ c.if-not-have_pairs.false)
+quickest-plan-requires c = pairs_tested c.args.tables.now (sym c.have_pairs.ensures.value ∙ c.if-not-have_pairs.false)
 
 pub returns-then-not-branch : goal.returns-then-not-branch
 returns-then-not-branch c =

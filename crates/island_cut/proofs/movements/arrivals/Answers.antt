@@ -1,8 +1,8 @@
 use Rattle.std.proofs.Common.{◌==◌, if◌then◌else◌, refl, ◌∙◌, ap, arith}
 use Rattle.sums.specs.Below.{sum_below}
-use Rattle.fleet_model.specs.declared.limits.TheConstants.{MINUTES_PER_PERIOD}
 use Rattle.fleet_model.specs.Counts.{fleet_at}
-use Rattle.fleet_model.specs.Schedule.{leg_of, leg_on}
+use Rattle.fleet_model.specs.OwnTimes.{own_pair}
+use Rattle.fleet_model.specs.Schedule.{leg_of, period_of}
 use Rattle.fleet_model.specs.Times.{ready_minute}
 use Rattle.stand_counts.specs.Flights.{arrived_by, coming_by}
 use Rattle.island_cut.specs.Spare.{joined}
@@ -17,12 +17,12 @@ loop-leg-preserved c =
     let leg = leg_of c.args.tables.now c.loop-leg.leg in
     record {
       counts = c.raise_from.ensures.counts;
-      value = leg_more (coming_by c.args.tables.now (joined c.args.tables.now (fleet_at c.args.plan.now)) c.args.station) _ _ (leg.to == c.args.station) (ready_minute c.args.tables.now (leg_on c.loop-leg.leg (fleet_at c.args.plan.now c.loop-leg.leg))) c.there_from.result c.loop-leg.leg
-          (c.there_from.ensures.value ∙ ap (λ f. if leg.to == c.args.station then ready_minute c.args.tables.now (leg_on c.loop-leg.leg f) else MINUTES_PER_PERIOD) c.fleet.ensures) c.loop-leg.invariant.value (λ m. refl) c.raise_from.ensures.raised;
+      value = leg_more (period_of c.args.tables.now) (coming_by c.args.tables.now (joined c.args.tables.now (fleet_at c.args.plan.now)) c.args.station) _ _ (leg.to == c.args.station) (ready_minute c.args.tables.now (own_pair c.args.tables.now c.loop-leg.leg (fleet_at c.args.plan.now c.loop-leg.leg))) c.there_from-from.result c.loop-leg.leg
+          (c.there_from-from.ensures.value ∙ ap (λ f. if leg.to == c.args.station then ready_minute c.args.tables.now (own_pair c.args.tables.now c.loop-leg.leg f) else period_of c.args.tables.now) c.fleet.ensures) c.loop-leg.invariant.value (λ m. refl) c.raise_from.ensures.raised;
     }
 
 pub returns-clause-counts : goal.returns-clause-counts
-returns-clause-counts c = counts_at_end c.loop-leg.leg c.loop-leg.counts.items (omega (arith, c.loop-leg.auto.leg-end, c.leg_count-leg-end.ensures, c.args.tables.now.in_range.legs_fit.few)) c.loop-leg.invariant.counts
+returns-clause-counts c = counts_at_end (period_of c.args.tables.now) c.loop-leg.leg c.loop-leg.counts.items (omega (arith, c.loop-leg.auto.leg-end, c.leg_count-leg-end.ensures, c.args.tables.now.in_range.legs_fit.few)) c.loop-leg.invariant.counts
 
 pub returns-clause-value : goal.returns-clause-value
 unfolding arrived_by

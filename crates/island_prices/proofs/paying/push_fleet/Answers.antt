@@ -3,7 +3,7 @@ use Rattle.std.proofs.lemmas.Int.{to_z-of_z}
 use Rattle.std.proofs.lemmas.Result.{err_from_is_err_and}
 use mir.Val.{SFits}
 use mir.Syntax.{w128}
-use Rattle.fleet_model.specs.Schedule.{stations_in}
+use Rattle.fleet_model.specs.Schedule.{period_of, stations_in}
 use Rattle.island_prices.specs.Paid.{is_beyond, paid_price, paid_rent}
 use Rattle.island_prices.proofs.PaidRows.{behind_rent, fleet_done, no_station, one_station, rent_beyond, row_fails}
 use Rattle.island_prices.proofs.paying.push_fleet.Goals as goal
@@ -17,7 +17,7 @@ returns-then-is_beyond-clause-pushed c =
     )
 
 pub loop-station-init : goal.loop-station-init
-loop-station-init c = no_station (paid_price c.args.paid.now.before c.args.paid.now.rises.now c.args.paid.now.rounds.now c.args.fleet) c.args.fleet c.args.steps.now.items
+loop-station-init c = no_station (period_of c.args.tables.now) (paid_price c.args.paid.now.before c.args.paid.now.rises.now c.args.paid.now.rounds.now c.args.fleet) c.args.fleet c.args.steps.now.items
 
 pub returns-in_err-row-clause-memory : goal.returns-in_err-row-clause-memory
 returns-in_err-row-clause-memory c =
@@ -38,7 +38,7 @@ returns-in-Err-clause-memory c =
 
 pub loop-station-preserved : goal.loop-station-preserved
 loop-station-preserved c =
-    one_station (paid_price c.args.paid.now.before c.args.paid.now.rises.now c.args.paid.now.rounds.now c.args.fleet) c.args.fleet c.args.steps.now.items c.loop-station.steps.items _ c.loop-station.station c.deref.result.now
+    one_station (period_of c.args.tables.now) (paid_price c.args.paid.now.before c.args.paid.now.rises.now c.args.paid.now.rounds.now c.args.fleet) c.args.fleet c.args.steps.now.items c.loop-station.steps.items _ c.loop-station.station c.deref.result.now
     c.deref.result.now (c.deref.ensures.value ∙ c.in_ok-row.ensures) (c.deref.ensures.value ∙ c.in_ok-row.ensures) c.loop-station.invariant c.in-Ok.ensures.pushed.0 c.in-Ok.ensures.pushed.1
 
 pub returns-clause-pushed : goal.returns-clause-pushed

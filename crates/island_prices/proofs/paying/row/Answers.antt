@@ -4,7 +4,7 @@ use mir.Val.{SFits}
 use mir.Syntax.{w128}
 use Rattle.sums.specs.Places.{list_below}
 use Rattle.sums.proofs.Places.{list_below-push}
-use Rattle.fleet_model.specs.declared.limits.TheConstants.{MINUTES_PER_PERIOD}
+use Rattle.fleet_model.specs.Schedule.{period_of}
 use Rattle.island_prices.specs.Paid.{paid_price}
 use Rattle.island_prices.proofs.paying.row.Goals as goal
 
@@ -17,5 +17,5 @@ loop-minute-preserved c =
 
 pub returns : goal.returns
 returns c =
-    let all : c.loop-minute.minute ≡ MINUTES_PER_PERIOD = omega arith in
+    let all : c.loop-minute.minute ≡ period_of c.args.tables.now = omega (arith, c.loop-minute-test.false, c.loop-minute.auto.minute-end, c.period-minute-end.ensures.value) in
     subst (λ n. c.loop-minute.row.items ≡ list_below (paid_price c.args.paid.now.before c.args.paid.now.rises.now c.args.paid.now.rounds.now c.args.fleet c.args.station) n) all c.loop-minute.invariant

@@ -8,10 +8,10 @@ use Rattle.island_prices.specs.Rounds.{moments_of, number_of_round}
 use Rattle.island_prices.proofs.rounds.numbers.Goals as goal
 
 pub round_count-round-end-requires : goal.round_count-round-end-requires
-round_count-round-end-requires c = ap length c.requires.moments ∙ length-list_below (moments_of c.args.rises.now) (stations_in c.args.tables.now)
+round_count-round-end-requires c = ap length c.requires.moments ∙ length-list_below (moments_of c.args.tables.now c.args.rises.now) (stations_in c.args.tables.now)
 
 pub number-requires-clause-moments : goal.number-requires-clause-moments
-number-requires-clause-moments c = ap length c.requires.moments ∙ length-list_below (moments_of c.args.rises.now) (stations_in c.args.tables.now)
+number-requires-clause-moments c = ap length c.requires.moments ∙ length-list_below (moments_of c.args.tables.now c.args.rises.now) (stations_in c.args.tables.now)
 
 pub loop-round-preserved : goal.loop-round-preserved
 loop-round-preserved c =

@@ -4,4 +4,4 @@ use Rattle.island_prices.specs.Rounds.{moments_of}
 use Rattle.island_prices.proofs.rounds.station_moments.Given as goal
 
 abbrev pub invariant-loop-station : goal.invariant-loop-station
-invariant-loop-station l = l.stations.items ≡ list_below (moments_of l.rises) l.station
+invariant-loop-station l = l.stations.items ≡ list_below (moments_of l.tables l.rises) l.station

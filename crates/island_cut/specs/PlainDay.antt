@@ -1,0 +1,26 @@
+-- Tables that may have islands: of one day, without limits at night, whose legs depart once and are all flown.
+use Rattle.std.specs.Prelude.{ℕ, ◌==◌, ◌&&◌, not, nat_lt, Bool, is_some}
+use Rattle.sums.specs.Below.{count_below, sum_below}
+use Rattle.fleet_model.specs.declared.tables.Tables.{Tables}
+use Rattle.fleet_model.specs.Kept.{all_pairs}
+use Rattle.fleet_model.specs.Schedule.{choices_in, days_in, departures_in, fleet_by, fleets_in, leg_on, legs_in, parking_of, stations_in}
+
+-- at how many stations only so many aircraft may stand at a day's end
+unfoldable pub limits_in : Tables → ℕ
+limits_in t = count_below (λ s. is_some (parking_of t s)) (stations_in t)
+
+-- no fleet flies the leg by this choice, and it may be taken
+abbrev pub leaves_out : Tables → ℕ → ℕ → Bool
+leaves_out t l c = all_pairs t (leg_on l c) && not (nat_lt (fleet_by t (leg_on l c)) (fleets_in t))
+
+-- by how many choices the leg may be left out
+unfoldable pub left_out_on : Tables → ℕ → ℕ
+left_out_on t l = count_below (leaves_out t l) (choices_in t l)
+
+-- .. and all legs
+unfoldable pub left_out : Tables → ℕ
+left_out t = sum_below (left_out_on t) (legs_in t)
+
+-- the period is one day, each leg departs once, no station has a limit, and no leg may be left out
+unfoldable pub is_plain_day : Tables → Bool
+is_plain_day t = (days_in t == 1) && (departures_in t == legs_in t) && (limits_in t == 0) && (left_out t == 0)
