@@ -25,6 +25,7 @@ use Rattle.price_lift.specs.Steps.{prices_by}
 use Rattle.price_lift.specs.TooLarge.{prices_excess}
 use Rattle.price_lift.proofs.ArcRises.{are_arc_rises}
 use Rattle.price_lift.proofs.ByLines.{by_each_network}
+use Rattle.price_lift.proofs.IslandMoments.{one_day_where}
 use Rattle.price_lift.proofs.InOrder.{prices_in_order}
 use Rattle.price_lift.proofs.LastTables.{low, refutes}
 use Rattle.price_lift.proofs.OfTables.{steps_known}
@@ -69,7 +70,7 @@ module _ (t : Tables) (keeps : Domains) (rows : Rows) (lines : AreLinesOf t keep
     excess_is = ap (λ p. payback_excess t p (rises_by t starts (moments_by t keeps starts) p)) are.by
 
     pub well_paid : payback_excess t prices rises ≡ None → ArePaidWell t keeps starts prices low_there (paid_back t prices rises)
-    well_paid small = paid_well t keeps starts prices low_there are.in_order are.of_tables rises (are_arc_rises t starts (moments_by t keeps starts) prices few) small
+    well_paid small = paid_well t keeps starts prices low_there are.in_order are.of_tables rises (are_arc_rises t starts (moments_by t keeps starts) prices (one_day_where t keeps starts network) few) small
 
     pub lifted_are : payback_excess t prices rises ≡ None → AreLiftedPrices t keeps duals (paid_back t prices rises)
     lifted_are small =
