@@ -5,17 +5,18 @@ use std::alloc::Global;
 
 /// The places of the start on the lines of a subproblem, in their order. They make basic: the cheapest kept pair of each leg,
 /// at each station the ground arcs of a fleet from all nodes but the last, each in the line of the node that it leads to,
-/// and each fleet's slack. The first node's line of a station is left as it is, since the lines of its nodes sum to one without
+/// each fleet's slack, and each room of a day with a limit. The first node's line of a station is left as it is, since the lines of its nodes sum to one without
 /// arcs, and so is a line whose arc went. No real column then weighs more than it costs.
 ///
-/// A flight has numbers in no line of an earlier flight, an arc none in the line of a later node, and a slack in its own
-/// line alone.
+/// A flight has numbers in no line of an earlier flight, an arc none in the line of a later node, and a slack and a room in its
+/// own line alone.
 pub(crate) fn start_places(alloc: Global, program: &Program) -> Result<Vec<Place>, NoMemory> {
     let mut places = Vec::new(alloc);
     let cheapest = cheapest_pairs(alloc, &program.outline, program.rows.costs.as_slice())?;
     push_flights(&mut places, &program.outline, &cheapest)?;
     push_arcs(&mut places, &program.outline)?;
     push_slacks(&mut places, &program.outline)?;
+    push_rooms(&mut places, &program.outline)?;
     Ok(places)
 }
 
@@ -80,6 +81,17 @@ fn push_slacks(places: &mut Vec<Place>, outline: &Outline) -> Result<(), NoMemor
         places.push(Place {
             line: outline.count_line(fleet),
             column: outline.slack_column(fleet),
+        })?;
+    }
+    Ok(())
+}
+
+// Each room in its parking line.
+fn push_rooms(places: &mut Vec<Place>, outline: &Outline) -> Result<(), NoMemory> {
+    for number in 0..outline.parks.len() as u32 {
+        places.push(Place {
+            line: outline.parking_line(number),
+            column: outline.room_column(number),
         })?;
     }
     Ok(())

@@ -12,6 +12,7 @@ pub mod OwnPairs
 pub mod PeriodMinutes
 pub mod Periods
 pub mod PlainTables
+pub mod ParkingLimits
 pub mod SoleFleets
 pub mod UseLaws
 pub mod WholePlans

@@ -39,11 +39,11 @@ times_if false c v n e = omega arith
 
 -- ---- counts of weights that are so many times others
 module _ (t : Tables) (c : ℕ) (w u : Weights) (f : ℕ) (same : (d : ℕ) → d < departures_in t → w (pair_on t d f) ≡ c * u (pair_on t d f)) where
-  times_departed : (s m : ℕ) → departed t w f s m ≡ c * departed t u f s m
+  pub times_departed : (s m : ℕ) → departed t w f s m ≡ c * departed t u f s m
   unfolding departed
   times_departed s m = times_below c (leaving t w f s m) (leaving t u f s m) (departures_in t) (λ d below. times_if (has_left t (pair_on t d f) s m) c (u (pair_on t d f)) (w (pair_on t d f)) (same d below))
 
-  times_arrived : (s m : ℕ) → arrived t w f s m ≡ c * arrived t u f s m
+  pub times_arrived : (s m : ℕ) → arrived t w f s m ≡ c * arrived t u f s m
   unfolding arrived
   times_arrived s m = times_below c (coming t w f s m) (coming t u f s m) (departures_in t) (λ d below. times_if (has_come t (pair_on t d f) s m) c (u (pair_on t d f)) (w (pair_on t d f)) (same d below))
 
@@ -59,7 +59,7 @@ module _ (t : Tables) (c : ℕ) (w u : Weights) (f : ℕ) (same : (d : ℕ) → 
       regroup zero b d = omega arith
       regroup (suc a) b d = grind (arith, regroup a b d)
 
-  times_used : used_of t w f ≡ c * used_of t u f
+  pub times_used : used_of t w f ≡ c * used_of t u f
   unfolding used_of
   times_used = omega (arith, times_below c (need_of t w f) (need_of t u f) (stations_in t) (λ s within. times_need s), times_laps, mul-add c (sum_below (need_of t u f) (stations_in t)) (laps_flown t u f))
 
@@ -76,7 +76,7 @@ module _ (t : Tables) (c : ℕ) (w u : Weights) (same : (f d : ℕ) → f < flee
     mul-sub c (need_of t u f s + arrived t u f s m) (departed t u f s m),
   )
 
-  times_parked : (s d : ℕ) → parked t w s d ≡ c * parked t u s d
+  pub times_parked : (s d : ℕ) → parked t w s d ≡ c * parked t u s d
   unfolding parked
   times_parked s d = times_below c (λ f. stand_of t w f s (day_end d)) (λ f. stand_of t u f s (day_end d)) (fleets_in t) (λ f known. times_stand f s (day_end d) known)
 

@@ -2,10 +2,10 @@
 use Rattle.std.proofs.Common.{◌≡◌, ℕ, ◌+◌, ◌-◌, ◌<◌, ◌≤◌, List, [], ◌∷◌, ◌++◌, length, get_or, refl, ◌∙◌, inl, inr, arith}
 use Rattle.std.proofs.lemmas.Bool.{cases_lt}
 use Rattle.std.proofs.lemmas.List.{get_or_append_left, get_or_push, length_push}
-use Rattle.fleet_model.specs.declared.limits.TheConstants.{MINUTES_PER_PERIOD}
 use Rattle.fleet_model.specs.declared.tables.Tables.{Tables}
 use Rattle.fleet_model.specs.Kept.{Domains}
-use Rattle.fleet_model.specs.Schedule.{fleets_in, stations_in}
+use Rattle.fleet_model.specs.Schedule.{fleets_in, period_of, stations_in}
+use Rattle.fleet_model.proofs.PeriodMinutes.{some_minutes}
 use Rattle.node_aggregate.specs.Nodes.{AreNodesAt}
 use Rattle.node_aggregate.proofs.Rising.{place_low}
 use Rattle.node_aggregate.proofs.Starts.{start_within, starts_rise}
@@ -32,12 +32,12 @@ pub stations_built : (t : Tables) (keeps : Domains) (f n : ℕ) (stations : List
 stations_built t keeps f n stations e built = record { all = built.all ∙ e; each = λ s below. built.each s (omega arith) }
 
 -- the last start is a minute of the period, and each start is no less than its place
-few_nodes : (t : Tables) (keeps : Domains) (f s : ℕ) (starts : List ℕ) → AreNodesAt t keeps f s starts → length starts ≤ MINUTES_PER_PERIOD
+few_nodes : (t : Tables) (keeps : Domains) (f s : ℕ) (starts : List ℕ) → AreNodesAt t keeps f s starts → length starts ≤ period_of t
 few_nodes t keeps f s starts at = elim (cases_lt 1 (length starts)) [
   | inl more ↦
       let last = place_low starts (starts_rise t keeps f s starts at (omega arith)) (length starts - 1) (omega arith) in
       omega (arith, last, start_within t keeps f s starts at (length starts - 1) (omega arith))
-  | inr one ↦ omega arith
+  | inr one ↦ omega (arith, some_minutes t)
 ]
 
 pub shape_built : (t : Tables) (keeps : Domains) (n : ℕ) (fleets : List (List (List ℕ))) → n ≡ fleets_in t → AreBuilt (HaveNodes t keeps) [] fleets n → AreByStation t fleets

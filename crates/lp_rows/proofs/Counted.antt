@@ -7,13 +7,13 @@ use Rattle.std.proofs.Math.Numerals.{suc-eq-add-one}
 use Rattle.sums.specs.Below.{count_below, sum_below}
 use Rattle.fleet_model.specs.declared.tables.Tables.{Tables}
 use Rattle.fleet_model.specs.Kept.{Domains, kept_on, pairs_kept}
-use Rattle.fleet_model.specs.Schedule.{fleets_in, leg_on, legs_in, stations_in}
-use Rattle.lp_rows.specs.declared.kinds.Column.TheVariants.{Flight, Ground, Slack}
-use Rattle.lp_rows.specs.declared.kinds.Line.TheVariants.{Cover, Balance, Count}
+use Rattle.fleet_model.specs.Schedule.{choices_in, fleets_in, leg_on, legs_in, stations_in}
+use Rattle.lp_rows.specs.declared.kinds.Column.TheVariants.{Flight, Ground, Room, Slack}
 use Rattle.sums.specs.Places.{list_below}
-use Rattle.lp_rows.specs.Layout.{Starts, all_arcs, all_kept, all_nodes, arc_stays, concat_below, node_at, nodes_at, nodes_of, pair_of, pairs_of}
-use Rattle.lp_rows.specs.Points.{RowsAreCounted, arcs_at, arcs_in, node_count}
+use Rattle.lp_rows.specs.Layout.{Starts, all_arcs, all_kept, all_nodes, all_parks, arc_stays, concat_below, node_at, nodes_at, nodes_of, pair_of, pairs_of, park_at, parking_days, parks_at}
+use Rattle.lp_rows.specs.Points.{RowsAreCounted, arcs_at, arcs_in, node_count, park_count}
 use Rattle.lp_rows.proofs.LineNumbers.{line_count}
+use Rattle.lp_rows.proofs.Totals.{lines_long}
 use Rattle.sums.proofs.Places.{length-list_below}
 
 pub length-concat : {X : Type 0} (g : ℕ → List X) (count : ℕ → ℕ) (n : ℕ) → ((k : ℕ) → k < n → length (g k) ≡ count k) → length (concat_below g n) ≡ sum_below count n
@@ -27,12 +27,15 @@ length-one false x = refl
 pub pairs_are : (t : Tables) (keeps : Domains) → length (all_kept t keeps) ≡ pairs_kept t keeps
 pairs_are t keeps =
     length-concat (pairs_of t keeps) (kept_on t keeps) (legs_in t)
-    (λ l below. length-concat (pair_of keeps l) (λ f. if keeps (leg_on l f) then 1 else 0) (fleets_in t) (λ f known. length-one (keeps (leg_on l f)) (leg_on l f)))
+    (λ l below. length-concat (pair_of keeps l) (λ c. if keeps (leg_on l c) then 1 else 0) (choices_in t l) (λ c known. length-one (keeps (leg_on l c)) (leg_on l c)))
 
 pub nodes_are : (t : Tables) (starts : Starts) → length (all_nodes t starts) ≡ node_count t starts
 nodes_are t starts =
     length-concat (nodes_of t starts) (λ f. sum_below (λ s. length (starts f s)) (stations_in t)) (fleets_in t)
     (λ f known. length-concat (nodes_at starts f) (λ s. length (starts f s)) (stations_in t) (λ s within. length-list_below (node_at f s) (length (starts f s))))
+
+pub parks_are : (t : Tables) → length (all_parks t) ≡ park_count t
+parks_are t = length-concat (parks_at t) (parking_days t) (stations_in t) (λ s within. length-list_below (park_at s) (parking_days t s))
 
 -- .. and of their entries that pass a test
 filter-concat : {X : Type 0} (p : X → Bool) (g : ℕ → List X) (count : ℕ → ℕ) (n : ℕ) → ((k : ℕ) → k < n → length (filter p (g k)) ≡ count k) → length (filter p (concat_below g n)) ≡ sum_below count n
@@ -59,21 +62,16 @@ pub rows_are_counted : RowsAreCounted
 rows_are_counted t keeps starts rows are = record {
   columns = are.columns ∙ omega (
     arith,
+    length-append (map Flight (all_kept t keeps) ++ map Ground (all_arcs t keeps starts) ++ list_below Slack (fleets_in t)) (map Room (all_parks t)),
     length-append (map Flight (all_kept t keeps) ++ map Ground (all_arcs t keeps starts)) (list_below Slack (fleets_in t)),
     length-append (map Flight (all_kept t keeps)) (map Ground (all_arcs t keeps starts)),
     length-map (all_kept t keeps) Flight,
     length-map (all_arcs t keeps starts) Ground,
+    length-map (all_parks t) Room,
     length-list_below Slack (fleets_in t),
     pairs_are t keeps,
     arcs_are t keeps starts,
+    parks_are t,
   );
-  lines = line_count t keeps starts rows are ∙ omega (
-    arith,
-    length-append (list_below Cover (legs_in t) ++ map Balance (all_nodes t starts)) (list_below Count (fleets_in t)),
-    length-append (list_below Cover (legs_in t)) (map Balance (all_nodes t starts)),
-    length-map (all_nodes t starts) Balance,
-    length-list_below Cover (legs_in t),
-    length-list_below Count (fleets_in t),
-    nodes_are t starts,
-  );
+  lines = line_count t keeps starts rows are ∙ omega (arith, lines_long t starts, nodes_are t starts, parks_are t);
 }

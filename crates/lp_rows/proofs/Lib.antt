@@ -4,6 +4,7 @@ pub mod ListSums
 pub mod PassingNumbers
 pub mod ArcMoments
 pub mod Picks
+pub mod Rooms
 pub mod Places
 pub mod Totals
 pub mod LineSums
@@ -11,7 +12,9 @@ pub mod ListPlaces
 pub mod LinePlaces
 pub mod ColumnPlaces
 pub mod PairParts
+pub mod NodeEnds
 pub mod NodeCounts
+pub mod NightArcs
 pub mod Flows
 pub mod LineNumbers
 pub mod PointsToPlans

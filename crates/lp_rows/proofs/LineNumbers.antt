@@ -1,5 +1,5 @@
 -- The numbers of rows, by the kinds of their lines and columns.
-use Rattle.std.proofs.Common.{◌≡◌, ℕ, zero, suc, ◌<◌, List, [], ◌∷◌, ◌++◌, length, get_or, map, Contains, pos, ◌*ℤ◌, sym, ◌∙◌, ap, subst, inl, inr, arith}
+use Rattle.std.proofs.Common.{◌≡◌, ℕ, zero, suc, ◌-◌, ◌<◌, List, [], ◌∷◌, ◌++◌, length, get_or, map, Contains, pos, ◌*ℤ◌, sym, ◌∙◌, ap, subst, inl, inr, arith}
 use Rattle.std.proofs.lemmas.Bool.{cases_lt}
 use Rattle.std.proofs.lemmas.List.{get_or-map, get_or_append_left, get_or_default, get_or_push, length-map}
 use Rattle.std.proofs.lemmas.List.Elements.{Contains-append_left, Contains-append_right}
@@ -11,17 +11,19 @@ use Rattle.fleet_model.specs.Schedule.{fleets_in, legs_in, stations_in}
 use Rattle.row_store.specs.Problem.{MeetsRows, entry, point_cost}
 use Rattle.row_store.specs.declared.problem.Rows.{Rows}
 use Rattle.lp_rows.specs.declared.kinds.Node.{Node}
+use Rattle.lp_rows.specs.declared.kinds.Park.{Park}
 use Rattle.lp_rows.specs.declared.kinds.Column.{Column}
 use Rattle.lp_rows.specs.declared.kinds.Column.TheVariants.{Slack}
 use Rattle.lp_rows.specs.declared.kinds.Line.{Line}
-use Rattle.lp_rows.specs.declared.kinds.Line.TheVariants.{Cover, Balance, Count}
-use Rattle.lp_rows.specs.Entries.{IsLine, IsNode, column_cost, entry_of, right_side_of}
+use Rattle.lp_rows.specs.declared.kinds.Line.TheVariants.{Cover, Balance, Count, Parking}
+use Rattle.lp_rows.specs.Entries.{IsLine, IsNode, IsPark, column_cost, entry_of, right_side_of}
 use Rattle.sums.specs.Places.{list_below}
 use Rattle.sums.proofs.Places.{get_or-list_below, length-list_below}
-use Rattle.lp_rows.specs.Layout.{Starts, all_nodes, columns_of, concat_below, lines_of, node_at, nodes_at, nodes_of}
+use Rattle.lp_rows.specs.Layout.{Starts, all_nodes, all_parks, columns_of, concat_below, lines_of, node_at, nodes_at, nodes_of, park_at, parking_days, parks_at}
 use Rattle.lp_rows.specs.Points.{column_at}
 use Rattle.lp_rows.specs.Program.{AreRows, numbers_of}
 use Rattle.lp_rows.proofs.LineSums.{line_sum}
+use Rattle.lp_rows.proofs.Rooms.{by_number}
 use Rattle.lp_rows.proofs.Totals.{over_columns}
 
 -- ---- which lines there are
@@ -43,10 +45,19 @@ node_among t starts n node =
     among_concat (nodes_of t starts) n (fleets_in t) n.fleet node.fleet
     (among_concat (nodes_at starts n.fleet) n (stations_in t) n.station node.station (among_list (node_at n.fleet n.station) (length (starts n.fleet n.station)) n.place node.place))
 
+pub park_among : (t : Tables) (p : Park) → IsPark t p → Contains (all_parks t) p
+park_among t p known =
+    among_concat (parks_at t) p (stations_in t) p.station known.station
+    (subst (Contains (parks_at t p.station)) (by_number p known.some) (among_list (park_at p.station) (parking_days t p.station) (p.day - 1) (omega (arith, known.some, known.day))))
+
 pub line_among : (t : Tables) (starts : Starts) (line : Line) → IsLine t starts line → Contains (lines_of t starts) line
-line_among t starts (Cover l) below = Contains-append_left _ _ _ (Contains-append_left _ _ _ (among_list Cover (legs_in t) l below))
-line_among t starts (Balance n) node = Contains-append_left _ _ _ (Contains-append_right (list_below Cover (legs_in t)) (map Balance (all_nodes t starts)) (Balance n) (among_map Balance (all_nodes t starts) n (node_among t starts n node)))
-line_among t starts (Count f) known = Contains-append_right (list_below Cover (legs_in t) ++ map Balance (all_nodes t starts)) (list_below Count (fleets_in t)) (Count f) (among_list Count (fleets_in t) f known)
+line_among t starts (Cover l) below = Contains-append_left _ _ _ (Contains-append_left _ _ _ (Contains-append_left _ _ _ (among_list Cover (legs_in t) l below)))
+line_among t starts (Balance n) node =
+    Contains-append_left _ _ _ (Contains-append_left _ _ _ (Contains-append_right (list_below Cover (legs_in t)) (map Balance (all_nodes t starts)) (Balance n) (among_map Balance (all_nodes t starts) n (node_among t starts n node))))
+line_among t starts (Count f) known =
+    Contains-append_left _ _ _ (Contains-append_right (list_below Cover (legs_in t) ++ map Balance (all_nodes t starts)) (list_below Count (fleets_in t)) (Count f) (among_list Count (fleets_in t) f known))
+line_among t starts (Parking p) known =
+    Contains-append_right (list_below Cover (legs_in t) ++ map Balance (all_nodes t starts) ++ list_below Count (fleets_in t)) (map Parking (all_parks t)) (Parking p) (among_map Parking (all_parks t) p (park_among t p known))
 
 -- ---- the numbers
 module _ (t : Tables) (keeps : Domains) (starts : Starts) (rows : Rows) (are : AreRows t keeps starts rows) where

@@ -1,5 +1,5 @@
 -- At which number each line stands.
-use Rattle.std.proofs.Common.{◌≡◌, ℕ, ◌+◌, ◌<◌, ◌≤◌, ◌++◌, length, get_or, map, ℤ, ◌+ℤ◌, sym, ◌∙◌, ap, subst, append_assoc, arith}
+use Rattle.std.proofs.Common.{◌≡◌, ℕ, ◌+◌, ◌<◌, ◌≤◌, ◌++◌, List, length, get_or, map, ℤ, ◌+ℤ◌, sym, ◌∙◌, ap, subst, append_assoc, arith}
 use Rattle.std.proofs.lemmas.List.{get_or-map, get_or_append_left, get_or_past, length-map}
 use Rattle.sums.specs.Below.{sum_below, sum_below_ℤ}
 use Rattle.sums.proofs.WholeSums.{sum_below_ℤ-same}
@@ -7,12 +7,13 @@ use Rattle.sums.proofs.WholeTerms.{sum_below_ℤ-stretches}
 use Rattle.fleet_model.specs.declared.tables.Tables.{Tables}
 use Rattle.fleet_model.specs.Schedule.{fleets_in, legs_in, stations_in}
 use Rattle.lp_rows.specs.declared.kinds.Node.{Node}
-use Rattle.lp_rows.specs.declared.kinds.Line.TheVariants.{Balance, Count, Cover}
+use Rattle.lp_rows.specs.declared.kinds.Line.{Line}
+use Rattle.lp_rows.specs.declared.kinds.Line.TheVariants.{Balance, Count, Cover, Parking}
 use Rattle.lp_rows.specs.Entries.{IsNode}
 use Rattle.sums.specs.Places.{list_below}
-use Rattle.lp_rows.specs.Layout.{Starts, all_nodes, line_at, lines_of, node_at, node_of_number, nodes_at, nodes_of}
-use Rattle.lp_rows.specs.Points.{node_count}
-use Rattle.lp_rows.proofs.Counted.{length-concat, nodes_are}
+use Rattle.lp_rows.specs.Layout.{Starts, all_nodes, all_parks, line_at, lines_of, node_at, node_of_number, nodes_at, nodes_of, park_at, park_of_number}
+use Rattle.lp_rows.specs.Points.{node_count, park_count}
+use Rattle.lp_rows.proofs.Counted.{length-concat, nodes_are, parks_are}
 use Rattle.sums.proofs.Places.{get_or-list_below, length-list_below}
 use Rattle.lp_rows.proofs.ListPlaces.{at_concat, at_right_of, split, sum_parts, within_sum}
 
@@ -73,54 +74,80 @@ module _ (t : Tables) (starts : Starts) where
   balances_long : length (map Balance (all_nodes t starts)) ≡ node_count t starts
   balances_long = length-map (all_nodes t starts) Balance ∙ nodes_are t starts
 
-  in_parts : lines_of t starts ≡ list_below Cover (legs_in t) ++ (map Balance (all_nodes t starts) ++ list_below Count (fleets_in t))
-  in_parts = append_assoc (list_below Cover (legs_in t)) (map Balance (all_nodes t starts)) (list_below Count (fleets_in t))
+  counts_long : length (list_below Count (fleets_in t)) ≡ fleets_in t
+  counts_long = length-list_below Count (fleets_in t)
 
-  -- the lines behind the cover lines
-  behind_covers : (k : ℕ) → line_at t starts (legs_in t + k) ≡ get_or (map Balance (all_nodes t starts) ++ list_below Count (fleets_in t)) k (Cover 0)
-  behind_covers k = ap (λ ls. get_or ls (legs_in t + k) (Cover 0)) in_parts ∙ at_right_of (list_below Cover (legs_in t)) (map Balance (all_nodes t starts) ++ list_below Count (fleets_in t)) (Cover 0) (legs_in t) k covers_long
+  -- the count lines and the parking lines, and the balance lines before them
+  abbrev last_lines : List Line
+  last_lines = list_below Count (fleets_in t) ++ map Parking (all_parks t)
+
+  abbrev behind : List Line
+  behind = map Balance (all_nodes t starts) ++ last_lines
+
+  in_parts : lines_of t starts ≡ list_below Cover (legs_in t) ++ behind
+  in_parts =
+      append_assoc (list_below Cover (legs_in t) ++ map Balance (all_nodes t starts)) (list_below Count (fleets_in t)) (map Parking (all_parks t))
+      ∙ append_assoc (list_below Cover (legs_in t)) (map Balance (all_nodes t starts)) last_lines
+
+  -- the lines behind the cover lines, and those behind the balance lines
+  behind_covers : (k : ℕ) → line_at t starts (legs_in t + k) ≡ get_or behind k (Cover 0)
+  behind_covers k = ap (λ ls. get_or ls (legs_in t + k) (Cover 0)) in_parts ∙ at_right_of (list_below Cover (legs_in t)) behind (Cover 0) (legs_in t) k covers_long
+
+  behind_balances : (k : ℕ) → line_at t starts (legs_in t + (node_count t starts + k)) ≡ get_or last_lines k (Cover 0)
+  behind_balances k = behind_covers (node_count t starts + k) ∙ at_right_of (map Balance (all_nodes t starts)) last_lines (Cover 0) (node_count t starts) k balances_long
+
+  behind_counts : (k : ℕ) → line_at t starts (legs_in t + (node_count t starts + (fleets_in t + k))) ≡ get_or (map Parking (all_parks t)) k (Cover 0)
+  behind_counts k = behind_balances (fleets_in t + k) ∙ at_right_of (list_below Count (fleets_in t)) (map Parking (all_parks t)) (Cover 0) (fleets_in t) k counts_long
 
   pub cover_there : (l : ℕ) → l < legs_in t → line_at t starts l ≡ Cover l
   cover_there l below =
       ap (λ ls. get_or ls l (Cover 0)) in_parts
-      ∙ get_or_append_left (list_below Cover (legs_in t)) (map Balance (all_nodes t starts) ++ list_below Count (fleets_in t)) (Cover 0) l (omega (arith, below, covers_long))
+      ∙ get_or_append_left (list_below Cover (legs_in t)) behind (Cover 0) l (omega (arith, below, covers_long))
       ∙ get_or-list_below Cover (legs_in t) l (Cover 0) below
 
   pub balance_there : (k : ℕ) → k < node_count t starts → line_at t starts (legs_in t + k) ≡ Balance (node_of_number t starts k)
   balance_there k below =
       behind_covers k
-      ∙ get_or_append_left (map Balance (all_nodes t starts)) (list_below Count (fleets_in t)) (Cover 0) k (omega (arith, below, balances_long))
+      ∙ get_or_append_left (map Balance (all_nodes t starts)) last_lines (Cover 0) k (omega (arith, below, balances_long))
       ∙ get_or-map Balance (all_nodes t starts) k (node_at 0 0 0) (Cover 0) (omega (arith, below, nodes_are t starts))
 
   pub count_there : (f : ℕ) → f < fleets_in t → line_at t starts (legs_in t + (node_count t starts + f)) ≡ Count f
   count_there f known =
-      behind_covers (node_count t starts + f)
-      ∙ at_right_of (map Balance (all_nodes t starts)) (list_below Count (fleets_in t)) (Cover 0) (node_count t starts) f balances_long
+      behind_balances f
+      ∙ get_or_append_left (list_below Count (fleets_in t)) (map Parking (all_parks t)) (Cover 0) f (omega (arith, known, counts_long))
       ∙ get_or-list_below Count (fleets_in t) f (Cover 0) known
 
-  -- behind the last there is none
-  pub none_behind : (k : ℕ) → fleets_in t ≤ k → line_at t starts (legs_in t + (node_count t starts + k)) ≡ Cover 0
-  none_behind k past =
-      behind_covers (node_count t starts + k)
-      ∙ at_right_of (map Balance (all_nodes t starts)) (list_below Count (fleets_in t)) (Cover 0) (node_count t starts) k balances_long
-      ∙ get_or_past (list_below Count (fleets_in t)) k (Cover 0) (omega (arith, past, length-list_below Count (fleets_in t)))
+  pub parking_there : (k : ℕ) → k < park_count t → line_at t starts (legs_in t + (node_count t starts + (fleets_in t + k))) ≡ Parking (park_of_number t k)
+  parking_there k below = behind_counts k ∙ get_or-map Parking (all_parks t) k (park_at 0 0) (Cover 0) (omega (arith, below, parks_are t))
 
-  -- a sum over all lines, by their kinds
-  pub over_lines : (h : ℕ → ℤ) → sum_below_ℤ h (legs_in t + (node_count t starts + fleets_in t))
-      ≡ sum_below_ℤ h (legs_in t)
-      +ℤ (sum_below_ℤ (λ f. sum_below_ℤ (λ s. sum_below_ℤ (λ k. h (legs_in t + (before f s + k))) (length (starts f s))) (stations_in t)) (fleets_in t)
-      +ℤ sum_below_ℤ (λ f. h (legs_in t + (node_count t starts + f))) (fleets_in t))
-  over_lines h =
-      sum_below_ℤ-stretches h (legs_in t) (node_count t starts + fleets_in t)
-      ∙ ap (λ z. sum_below_ℤ h (legs_in t) +ℤ z)
-      (sum_below_ℤ-stretches (λ k. h (legs_in t + k)) (node_count t starts) (fleets_in t)
-      ∙ ap (λ z. z +ℤ sum_below_ℤ (λ f. h (legs_in t + (node_count t starts + f))) (fleets_in t))
-      (sum_parts (λ k. h (legs_in t + k)) nodes_in (fleets_in t)
+  -- behind the last there is none
+  pub none_behind : (k : ℕ) → park_count t ≤ k → line_at t starts (legs_in t + (node_count t starts + (fleets_in t + k))) ≡ Cover 0
+  none_behind k past = behind_counts k ∙ get_or_past (map Parking (all_parks t)) k (Cover 0) (omega (arith, past, length-map (all_parks t) Parking, parks_are t))
+
+  -- a sum over the balance lines, node by node
+  over_balances : (h : ℕ → ℤ) → sum_below_ℤ (λ k. h (legs_in t + k)) (node_count t starts)
+      ≡ sum_below_ℤ (λ f. sum_below_ℤ (λ s. sum_below_ℤ (λ k. h (legs_in t + (before f s + k))) (length (starts f s))) (stations_in t)) (fleets_in t)
+  over_balances h =
+      sum_parts (λ k. h (legs_in t + k)) nodes_in (fleets_in t)
       ∙ sum_below_ℤ-same (λ f. sum_below_ℤ (λ k. h (legs_in t + (sum_below nodes_in f + k))) (nodes_in f)) (λ f. sum_below_ℤ (λ s. sum_below_ℤ (λ k. h (legs_in t + (before f s + k))) (length (starts f s))) (stations_in t)) (fleets_in t)
       (λ f known. sum_parts (λ k. h (legs_in t + (sum_below nodes_in f + k))) (λ s. length (starts f s)) (stations_in t)
       ∙ sum_below_ℤ-same (λ s. sum_below_ℤ (λ k. h (legs_in t + (sum_below nodes_in f + (sum_below (λ r. length (starts f r)) s + k)))) (length (starts f s))) (λ s. sum_below_ℤ (λ k. h (legs_in t + (before f s + k))) (length (starts f s))) (stations_in t)
       (λ s within. sum_below_ℤ-same (λ k. h (legs_in t + (sum_below nodes_in f + (sum_below (λ r. length (starts f r)) s + k)))) (λ k. h (legs_in t + (before f s + k))) (length (starts f s))
-      (λ k below. ap (λ n. h (legs_in t + n)) (joined f s k))))))
+      (λ k below. ap (λ n. h (legs_in t + n)) (joined f s k))))
     where
       joined : (f s k : ℕ) → sum_below nodes_in f + (sum_below (λ r. length (starts f r)) s + k) ≡ before f s + k
       joined f s k = omega arith
+
+  -- a sum over all lines, by their kinds
+  pub over_lines : (h : ℕ → ℤ) → sum_below_ℤ h (legs_in t + (node_count t starts + (fleets_in t + park_count t)))
+      ≡ sum_below_ℤ h (legs_in t)
+      +ℤ (sum_below_ℤ (λ f. sum_below_ℤ (λ s. sum_below_ℤ (λ k. h (legs_in t + (before f s + k))) (length (starts f s))) (stations_in t)) (fleets_in t)
+      +ℤ (sum_below_ℤ (λ f. h (legs_in t + (node_count t starts + f))) (fleets_in t)
+      +ℤ sum_below_ℤ (λ k. h (legs_in t + (node_count t starts + (fleets_in t + k)))) (park_count t)))
+  over_lines h =
+      sum_below_ℤ-stretches h (legs_in t) (node_count t starts + (fleets_in t + park_count t))
+      ∙ ap (λ z. sum_below_ℤ h (legs_in t) +ℤ z)
+      (sum_below_ℤ-stretches (λ k. h (legs_in t + k)) (node_count t starts) (fleets_in t + park_count t)
+      ∙ ap (λ z. z +ℤ sum_below_ℤ (λ k. h (legs_in t + (node_count t starts + k))) (fleets_in t + park_count t)) (over_balances h)
+      ∙ ap (λ z. sum_below_ℤ (λ f. sum_below_ℤ (λ s. sum_below_ℤ (λ k. h (legs_in t + (before f s + k))) (length (starts f s))) (stations_in t)) (fleets_in t) +ℤ z)
+      (sum_below_ℤ-stretches (λ k. h (legs_in t + (node_count t starts + k))) (fleets_in t) (park_count t)))

@@ -66,30 +66,35 @@ pub sum_parts : (h : ℕ → ℤ) (count : ℕ → ℕ) (n : ℕ) → sum_below_
 sum_parts h count zero = refl
 sum_parts h count (suc n) = sum_below_ℤ-stretches h (sum_below count n) (count n) ∙ ap (λ z. z +ℤ sum_below_ℤ (λ k. h (sum_below count n + k)) (count n)) (sum_parts h count n)
 
--- ---- where entries stand in three lists one behind another
+-- ---- where entries stand in lists one behind another
 pub in_map : {X Y : Type 0} (f : X → Y) (xs : List X) (d : X) (k : ℕ) → k < length xs → StandsAt (map f xs) k (f (get_or xs k d))
 in_map f xs d k below = record { within = omega (arith, below, length-map xs f); there = λ e. get_or-map f xs k d e below }
 
 pub in_list_below : {X : Type 0} (f : ℕ → X) (n k : ℕ) → k < n → StandsAt (list_below f n) k (f k)
 in_list_below f n k below = record { within = omega (arith, below, length-list_below f n); there = λ d. get_or-list_below f n k d below }
 
-pub in_first : {X : Type 0} (xs ys zs : List X) (x : X) (k : ℕ) → StandsAt xs k x → StandsAt (xs ++ ys ++ zs) k x
-in_first xs ys zs x k stands = record {
-  within = omega (arith, stands.within, length-append (xs ++ ys) zs, length-append xs ys);
-  there = λ d.
-      get_or_append_left (xs ++ ys) zs d k (omega (arith, stands.within, length-append xs ys)) ∙ get_or_append_left xs ys d k stands.within ∙ stands.there d;
+pub in_front : {X : Type 0} (xs ys : List X) (x : X) (k : ℕ) → StandsAt xs k x → StandsAt (xs ++ ys) k x
+in_front xs ys x k stands = record {
+  within = omega (arith, stands.within, length-append xs ys);
+  there = λ d. get_or_append_left xs ys d k stands.within ∙ stands.there d;
 }
 
-pub in_second : {X : Type 0} (xs ys zs : List X) (x : X) (n k place : ℕ) → place ≡ n + k → length xs ≡ n → StandsAt ys k x → StandsAt (xs ++ ys ++ zs) place x
-in_second xs ys zs x n k place is long stands = record {
-  within = omega (arith, is, long, stands.within, length-append (xs ++ ys) zs, length-append xs ys);
-  there = λ d.
-      get_or_append_left (xs ++ ys) zs d place (omega (arith, is, long, stands.within, length-append xs ys)) ∙ ap (λ p. get_or (xs ++ ys) p d) is ∙ at_right_of xs ys d n k long ∙ stands.there d;
+pub in_back : {X : Type 0} (xs ys : List X) (x : X) (n k place : ℕ) → place ≡ n + k → length xs ≡ n → StandsAt ys k x → StandsAt (xs ++ ys) place x
+in_back xs ys x n k place is long stands = record {
+  within = omega (arith, is, long, stands.within, length-append xs ys);
+  there = λ d. ap (λ p. get_or (xs ++ ys) p d) is ∙ at_right_of xs ys d n k long ∙ stands.there d;
 }
 
-pub in_third : {X : Type 0} (xs ys zs : List X) (x : X) (n m k place : ℕ) → place ≡ n + m + k → length xs ≡ n → length ys ≡ m → StandsAt zs k x → StandsAt (xs ++ ys ++ zs) place x
-in_third xs ys zs x n m k place is long wide stands = record {
-  within = omega (arith, is, long, wide, stands.within, length-append (xs ++ ys) zs, length-append xs ys);
-  there = λ d.
-      ap (λ p. get_or (xs ++ ys ++ zs) p d) is ∙ at_right_of (xs ++ ys) zs d (n + m) k (omega (arith, long, wide, length-append xs ys)) ∙ stands.there d;
-}
+-- .. in four lists one behind another
+module _ {X : Type 0} (xs ys zs ws : List X) where
+  pub in_first : (x : X) (k : ℕ) → StandsAt xs k x → StandsAt (xs ++ ys ++ zs ++ ws) k x
+  in_first x k stands = in_front (xs ++ ys ++ zs) ws x k (in_front (xs ++ ys) zs x k (in_front xs ys x k stands))
+
+  pub in_second : (x : X) (n k place : ℕ) → place ≡ n + k → length xs ≡ n → StandsAt ys k x → StandsAt (xs ++ ys ++ zs ++ ws) place x
+  in_second x n k place is long stands = in_front (xs ++ ys ++ zs) ws x place (in_front (xs ++ ys) zs x place (in_back xs ys x n k place is long stands))
+
+  pub in_third : (x : X) (n m k place : ℕ) → place ≡ n + m + k → length xs ≡ n → length ys ≡ m → StandsAt zs k x → StandsAt (xs ++ ys ++ zs ++ ws) place x
+  in_third x n m k place is long wide stands = in_front (xs ++ ys ++ zs) ws x place (in_back (xs ++ ys) zs x (n + m) k place is (omega (arith, long, wide, length-append xs ys)) stands)
+
+  pub in_fourth : (x : X) (n m l k place : ℕ) → place ≡ n + m + l + k → length xs ≡ n → length ys ≡ m → length zs ≡ l → StandsAt ws k x → StandsAt (xs ++ ys ++ zs ++ ws) place x
+  in_fourth x n m l k place is long wide deep stands = in_back (xs ++ ys ++ zs) ws x (n + m + l) k place is (omega (arith, long, wide, deep, length-append (xs ++ ys) zs, length-append xs ys)) stands

@@ -6,30 +6,29 @@ use Rattle.std.specs.List.Sorted.{IsBinarySearchResult}
 use Rattle.sums.specs.Below.{count_below}
 use Rattle.sums.specs.Places.{list_below}
 use Rattle.sums.proofs.Places.{length-list_below}
-use Rattle.fleet_model.specs.declared.limits.TheConstants.{MINUTES_PER_PERIOD}
 use Rattle.fleet_model.specs.declared.tables.Tables.{Tables}
 use Rattle.fleet_model.specs.Kept.{Domains}
-use Rattle.fleet_model.specs.Schedule.{fleets_in, legs_in, stations_in}
+use Rattle.fleet_model.specs.Schedule.{fleets_in, legs_in}
 use Rattle.row_store.specs.declared.problem.Rows.{Rows}
-use Rattle.lp_rows.specs.declared.kinds.Column.TheVariants.{Flight, Ground, Slack}
-use Rattle.lp_rows.specs.declared.kinds.Line.TheVariants.{Cover, Balance, Count}
+use Rattle.lp_rows.specs.declared.kinds.Column.TheVariants.{Flight, Ground, Room, Slack}
+use Rattle.lp_rows.specs.declared.kinds.Line.TheVariants.{Cover, Balance, Count, Parking}
 use Rattle.lp_rows.specs.declared.kinds.Node.{Node}
 use Rattle.lp_rows.specs.declared.outline.Outline.{Outline}
 use Rattle.lp_rows.specs.Entries.{IsColumn, IsLine, column_cost}
-use Rattle.lp_rows.specs.Layout.{Starts, all_arcs, all_kept, all_nodes, arc_stays, columns_of, lines_of, moment_at, node_at, starts_in}
-use Rattle.lp_rows.specs.Outline.{IsOutline, StandsAt, arc_in, balance_line, column_count, columns_in, count_line, ground_column, line_count, lines_in, node_in, slack_column}
+use Rattle.lp_rows.specs.Layout.{Starts, all_arcs, all_kept, all_nodes, all_parks, arc_stays, columns_of, lines_of, moment_at, node_at, park_at, starts_in}
+use Rattle.lp_rows.specs.Outline.{IsOutline, StandsAt, arc_in, balance_line, column_count, columns_in, count_line, ground_column, line_count, lines_in, node_in, park_in, parking_line, room_column, slack_column}
 use Rattle.lp_rows.specs.Staying.{AreStaying, passing_below, stays_at}
 use Rattle.lp_rows.specs.Program.{AreOutlinedRows, AreRows, numbers_of}
-use Rattle.lp_rows.proofs.ListPlaces.{in_first, in_list_below, in_map, in_second, in_third}
+use Rattle.lp_rows.proofs.ListPlaces.{in_first, in_fourth, in_list_below, in_map, in_second, in_third}
 use Rattle.lp_rows.proofs.PassingNumbers.{IsFound, bisected, by_numbers, few_pass, passing_long, placed}
-use Rattle.lp_rows.proofs.Totals.{columns_are_known, few_lines, few_parts, lines_are_known}
+use Rattle.lp_rows.proofs.Totals.{AreFew, columns_are_known, few_lines, few_parts, lines_are_known, lines_long}
 
 module _ (o : Outline) where
   -- ---- columns
 
   pub ground_stands : (number k place : ℕ) → place ≡ length o.pairs + k → k < length o.arcs → get_or o.arcs k 0 ≡ number → StandsAt (columns_in o) place (arc_in o number)
   ground_stands number k place is below there =
-      in_second (map Flight o.pairs) (map (arc_in o) o.arcs) (list_below Slack o.fleets) _ (length o.pairs) k place is (length-map o.pairs Flight)
+      in_second (map Flight o.pairs) (map (arc_in o) o.arcs) (list_below Slack o.fleets) (map Room o.parks) _ (length o.pairs) k place is (length-map o.pairs Flight)
       (subst (λ n. StandsAt (map (arc_in o) o.arcs) k (arc_in o n)) there (in_map (arc_in o) o.arcs 0 k below))
 
   -- each number of an arc is that of a node
@@ -58,37 +57,51 @@ module _ (o : Outline) where
 
   pub slack_stands : (f place : ℕ) → place ≡ slack_column o f → f < o.fleets → StandsAt (columns_in o) place (Slack f)
   slack_stands f place is below =
-      in_third (map Flight o.pairs) (map (arc_in o) o.arcs) (list_below Slack o.fleets) _ (length o.pairs) (length o.arcs) f place is (length-map o.pairs Flight) (length-map o.arcs (arc_in o)) (in_list_below Slack o.fleets f below)
+      in_third (map Flight o.pairs) (map (arc_in o) o.arcs) (list_below Slack o.fleets) (map Room o.parks) _ (length o.pairs) (length o.arcs) f place is (length-map o.pairs Flight) (length-map o.arcs (arc_in o)) (in_list_below Slack o.fleets f below)
+
+  pub room_stands : (number place : ℕ) → place ≡ room_column o number → number < length o.parks → StandsAt (columns_in o) place (Room (park_in o number))
+  room_stands number place is below =
+      in_fourth (map Flight o.pairs) (map (arc_in o) o.arcs) (list_below Slack o.fleets) (map Room o.parks) _ (length o.pairs) (length o.arcs) o.fleets number place is (length-map o.pairs Flight) (length-map o.arcs (arc_in o))
+      (length-list_below Slack o.fleets) (in_map Room o.parks (park_at 0 0) number below)
 
   pub all_columns : length (columns_in o) ≡ column_count o
   all_columns = omega (
     arith,
+    length-append (map Flight o.pairs ++ map (arc_in o) o.arcs ++ list_below Slack o.fleets) (map Room o.parks),
     length-append (map Flight o.pairs ++ map (arc_in o) o.arcs) (list_below Slack o.fleets),
     length-append (map Flight o.pairs) (map (arc_in o) o.arcs),
     length-map o.pairs Flight,
     length-map o.arcs (arc_in o),
+    length-map o.parks Room,
     length-list_below Slack o.fleets,
   )
 
   -- ---- lines
   pub cover_stands : (l : ℕ) → l < o.legs → StandsAt (lines_in o) l (Cover l)
-  cover_stands l below = in_first (list_below Cover o.legs) (map Balance o.nodes) (list_below Count o.fleets) _ l (in_list_below Cover o.legs l below)
+  cover_stands l below = in_first (list_below Cover o.legs) (map Balance o.nodes) (list_below Count o.fleets) (map Parking o.parks) _ l (in_list_below Cover o.legs l below)
 
   pub balance_stands : (number place : ℕ) → place ≡ balance_line o number → number < length o.nodes → StandsAt (lines_in o) place (Balance (node_in o number))
   balance_stands number place is below =
-      in_second (list_below Cover o.legs) (map Balance o.nodes) (list_below Count o.fleets) _ o.legs number place is (length-list_below Cover o.legs) (in_map Balance o.nodes (node_at 0 0 0) number below)
+      in_second (list_below Cover o.legs) (map Balance o.nodes) (list_below Count o.fleets) (map Parking o.parks) _ o.legs number place is (length-list_below Cover o.legs) (in_map Balance o.nodes (node_at 0 0 0) number below)
 
   pub count_stands : (f place : ℕ) → place ≡ count_line o f → f < o.fleets → StandsAt (lines_in o) place (Count f)
   count_stands f place is below =
-      in_third (list_below Cover o.legs) (map Balance o.nodes) (list_below Count o.fleets) _ o.legs (length o.nodes) f place is (length-list_below Cover o.legs) (length-map o.nodes Balance) (in_list_below Count o.fleets f below)
+      in_third (list_below Cover o.legs) (map Balance o.nodes) (list_below Count o.fleets) (map Parking o.parks) _ o.legs (length o.nodes) f place is (length-list_below Cover o.legs) (length-map o.nodes Balance) (in_list_below Count o.fleets f below)
+
+  pub parking_stands : (number place : ℕ) → place ≡ parking_line o number → number < length o.parks → StandsAt (lines_in o) place (Parking (park_in o number))
+  parking_stands number place is below =
+      in_fourth (list_below Cover o.legs) (map Balance o.nodes) (list_below Count o.fleets) (map Parking o.parks) _ o.legs (length o.nodes) o.fleets number place is (length-list_below Cover o.legs) (length-map o.nodes Balance)
+      (length-list_below Count o.fleets) (in_map Parking o.parks (park_at 0 0) number below)
 
   pub all_lines : length (lines_in o) ≡ line_count o
   all_lines = omega (
     arith,
+    length-append (list_below Cover o.legs ++ map Balance o.nodes ++ list_below Count o.fleets) (map Parking o.parks),
     length-append (list_below Cover o.legs ++ map Balance o.nodes) (list_below Count o.fleets),
     length-append (list_below Cover o.legs) (map Balance o.nodes),
     length-list_below Cover o.legs,
     length-map o.nodes Balance,
+    length-map o.parks Parking,
     length-list_below Count o.fleets,
   )
 
@@ -102,23 +115,15 @@ pub few_arcs : (nodes : ℕ) (moments : List (Option ℕ)) (arcs : List ℕ) →
 few_arcs nodes moments arcs stay = omega (arith, ap length stay.staying, passing_long (stays_at moments) nodes, few_pass (stays_at moments) nodes)
 
 -- ---- the lists of a subproblem fit
-module _ (t : Tables) (keeps : Domains) (starts : Starts) (few : (f s : ℕ) → f < fleets_in t → s < stations_in t → length (starts f s) ≤ MINUTES_PER_PERIOD) where
-  pub columns_fit : length (all_kept t keeps) + length (all_nodes t starts) + fleets_in t < 2 ^ 32
+module _ (t : Tables) (keeps : Domains) (starts : Starts) (few : AreFew t starts) where
+  pub columns_fit : length (all_kept t keeps) + length (all_nodes t starts) + fleets_in t + length (all_parks t) < 2 ^ 32
   columns_fit = omega (arith, few_parts t keeps starts few)
 
   pub moments_fit : (moments : List (Option ℕ)) → moments ≡ map (moment_at t keeps starts) (all_nodes t starts) → length moments < 2 ^ 32
   moments_fit moments are = omega (arith, ap length are, length-map (all_nodes t starts) (moment_at t keeps starts), few_parts t keeps starts few)
 
-  pub lines_fit : legs_in t + length (all_nodes t starts) + fleets_in t < 2 ^ 32
-  lines_fit = omega (
-    arith,
-    few_lines t starts few,
-    length-append (list_below Cover (legs_in t) ++ map Balance (all_nodes t starts)) (list_below Count (fleets_in t)),
-    length-append (list_below Cover (legs_in t)) (map Balance (all_nodes t starts)),
-    length-list_below Cover (legs_in t),
-    length-map (all_nodes t starts) Balance,
-    length-list_below Count (fleets_in t),
-  )
+  pub lines_fit : legs_in t + length (all_nodes t starts) + fleets_in t + length (all_parks t) < 2 ^ 32
+  lines_fit = omega (arith, few_lines t starts few, lines_long t starts)
 
 -- ---- the lines by the outline of a subproblem
 module _ (t : Tables) (keeps : Domains) (o : Outline) (is : IsOutline t keeps o) where
@@ -133,15 +138,17 @@ module _ (t : Tables) (keeps : Domains) (o : Outline) (is : IsOutline t keeps o)
 
   pub columns_are : columns_in o ≡ columns_of t keeps (starts_in o.network)
   columns_are =
-      ap (λ ps. map Flight ps ++ map (arc_in o) o.arcs ++ list_below Slack o.fleets) is.pairs
-      ∙ ap (λ gs. map Flight (all_kept t keeps) ++ gs ++ list_below Slack o.fleets) arcs_are_those
-      ∙ ap (λ n. map Flight (all_kept t keeps) ++ map Ground (all_arcs t keeps (starts_in o.network)) ++ list_below Slack n) is.over.fleets
+      ap (λ ps. map Flight ps ++ map (arc_in o) o.arcs ++ list_below Slack o.fleets ++ map Room o.parks) is.pairs
+      ∙ ap (λ gs. map Flight (all_kept t keeps) ++ gs ++ list_below Slack o.fleets ++ map Room o.parks) arcs_are_those
+      ∙ ap (λ n. map Flight (all_kept t keeps) ++ map Ground (all_arcs t keeps (starts_in o.network)) ++ list_below Slack n ++ map Room o.parks) is.over.fleets
+      ∙ ap (λ ps. map Flight (all_kept t keeps) ++ map Ground (all_arcs t keeps (starts_in o.network)) ++ list_below Slack (fleets_in t) ++ map Room ps) is.over.parks
 
   pub lines_are : lines_in o ≡ lines_of t (starts_in o.network)
   lines_are =
-      ap (λ n. list_below Cover n ++ map Balance o.nodes ++ list_below Count o.fleets) is.over.legs
-      ∙ ap (λ ns. list_below Cover (legs_in t) ++ map Balance ns ++ list_below Count o.fleets) is.over.nodes
-      ∙ ap (λ n. list_below Cover (legs_in t) ++ map Balance (all_nodes t (starts_in o.network)) ++ list_below Count n) is.over.fleets
+      ap (λ n. list_below Cover n ++ map Balance o.nodes ++ list_below Count o.fleets ++ map Parking o.parks) is.over.legs
+      ∙ ap (λ ns. list_below Cover (legs_in t) ++ map Balance ns ++ list_below Count o.fleets ++ map Parking o.parks) is.over.nodes
+      ∙ ap (λ n. list_below Cover (legs_in t) ++ map Balance (all_nodes t (starts_in o.network)) ++ list_below Count n ++ map Parking o.parks) is.over.fleets
+      ∙ ap (λ ps. list_below Cover (legs_in t) ++ map Balance (all_nodes t (starts_in o.network)) ++ list_below Count (fleets_in t) ++ map Parking ps) is.over.parks
 
   pub columns_known : All (IsColumn t (starts_in o.network)) (columns_in o)
   columns_known = subst (All (IsColumn t (starts_in o.network))) (sym columns_are) (columns_are_known t keeps (starts_in o.network))

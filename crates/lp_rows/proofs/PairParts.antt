@@ -1,33 +1,38 @@
 -- The pair part of a point goes by the columns of pairs alone.
-use Rattle.std.proofs.Common.{◌≡◌, ℕ, zero, suc, ◌-◌, ◌*◌, ◌<◌, Bool, true, false, if◌then◌else◌, List, [], ◌∷◌, ◌++◌, length, get_or, map, refl, sym, ◌∙◌, ap, subst, inl, inr, arith}
+use Rattle.std.proofs.Common.{◌≡◌, ℕ, ◌-◌, ◌*◌, ◌<◌, Bool, true, false, if◌then◌else◌, List, length, get_or, All, refl, sym, ◌∙◌, ap, subst, inl, inr, arith}
 use Rattle.std.proofs.lemmas.Bool.{cases_lt}
 use Rattle.std.proofs.lemmas.List.{get_or_past}
-use Rattle.sums.specs.Places.{list_below}
+use Rattle.std.proofs.lemmas.List.Elements.{All-append, All-map}
+use Rattle.std.specs.List.{range_with_len}
 use Rattle.sums.proofs.Naturals.{as_a_sum, times_below}
-use Rattle.sums.proofs.Places.{get_or-list_below, length-list_below}
 use Rattle.fleet_model.specs.declared.parts.Pair.{Pair}
 use Rattle.fleet_model.specs.declared.tables.Tables.{Tables}
 use Rattle.fleet_model.specs.Kept.{Domains, pairs_kept}
 use Rattle.fleet_model.specs.Schedule.{IsPair, fleets_in}
-use Rattle.lp_rows.specs.declared.kinds.Node.{Node}
 use Rattle.lp_rows.specs.declared.kinds.Column.{Column}
-use Rattle.lp_rows.specs.declared.kinds.Column.TheVariants.{Flight, Ground, Slack}
-use Rattle.lp_rows.specs.Layout.{Starts, all_arcs, columns_of, pair_at_column}
+use Rattle.lp_rows.specs.declared.kinds.Column.TheVariants.{Flight, Ground, Room, Slack}
+use Rattle.lp_rows.specs.Layout.{Starts, all_arcs, all_parks, columns_of, pair_at_column}
 use Rattle.lp_rows.specs.Points.{column_at, pair_part, same_column, value_of}
-use Rattle.lp_rows.proofs.ColumnPlaces.{behind_pairs, flight_there, pairs_within}
+use Rattle.lp_rows.proofs.ColumnPlaces.{behind, behind_pairs, flight_there, pairs_within}
 use Rattle.lp_rows.proofs.Places.{IsKept, columns_are_kept, value_there}
 
 pub of_test : (k : ℕ) (b : Bool) (x w : ℕ) → x ≡ k * w → ◌≡◌ {A = ℕ} (if b then x else 0) (k * (if b then w else 0))
 of_test k true x w same = same
 of_test k false x w same = omega arith
 
-no_flight_behind : (p : Pair) (ns : List Node) (n k : ℕ) → same_column (Flight p) (get_or (map Ground ns ++ list_below Slack n) k (Slack 0)) ≡ false
-no_flight_behind p [] n k = elim (cases_lt k n) [
-  | inl below ↦ ap (same_column (Flight p)) (get_or-list_below Slack n k (Slack 0) below)
-  | inr past ↦ ap (same_column (Flight p)) (get_or_past (list_below Slack n) k (Slack 0) (omega (arith, past, length-list_below Slack n)))
+-- no entry of a list stands for the pair, nor what stands past its end
+no_flight : (p : Pair) (columns : List Column) (k : ℕ) → All (λ c. same_column (Flight p) c ≡ false) columns → same_column (Flight p) (get_or columns k (Slack 0)) ≡ false
+no_flight p columns k none = elim (cases_lt k (length columns)) [
+  | inl below ↦ none k (Slack 0) below
+  | inr past ↦ ap (same_column (Flight p)) (get_or_past columns k (Slack 0) past)
 ]
-no_flight_behind p (a ∷ ns) n zero = refl
-no_flight_behind p (a ∷ ns) n (suc k) = no_flight_behind p ns n k
+
+no_flight_behind : (t : Tables) (keeps : Domains) (starts : Starts) (p : Pair) (k : ℕ) → same_column (Flight p) (get_or (behind t keeps starts) k (Slack 0)) ≡ false
+no_flight_behind t keeps starts p k =
+    let P = λ (c : Column). same_column (Flight p) c ≡ false in
+    no_flight p (behind t keeps starts) k
+    (All-append P _ _ (All-map P Ground (all_arcs t keeps starts) (λ j d below. refl))
+    (All-append P _ _ (All-map P Slack (range_with_len 0 (fleets_in t)) (λ j d below. refl)) (All-map P Room (all_parks t) (λ j d below. refl))))
 
 module _ (t : Tables) (keeps : Domains) (starts : Starts) where
   abbrev cols : List Column
@@ -40,7 +45,7 @@ module _ (t : Tables) (keeps : Domains) (starts : Starts) where
       (λ c within. elim (cases_lt c (pairs_kept t keeps)) [
         | inl pair ↦ of_test k (same_column (Flight p) (column_at cols c)) (x c) (y c) (same c pair)
         | inr behind ↦ none (same_column (Flight p) (column_at cols c)) (x c) (y c)
-            (ap (λ j. same_column (Flight p) (column_at cols j)) (as_a_sum c (pairs_kept t keeps) behind) ∙ ap (same_column (Flight p)) (behind_pairs t keeps starts (c - pairs_kept t keeps)) ∙ no_flight_behind p (all_arcs t keeps starts) (fleets_in t) (c - pairs_kept t keeps))
+            (ap (λ j. same_column (Flight p) (column_at cols j)) (as_a_sum c (pairs_kept t keeps) behind) ∙ ap (same_column (Flight p)) (behind_pairs t keeps starts (c - pairs_kept t keeps)) ∙ no_flight_behind t keeps starts p (c - pairs_kept t keeps))
       ])
     where
       none : (b : Bool) (x y : ℕ) → b ≡ false → ◌≡◌ {A = ℕ} (if b then x else 0) (k * (if b then y else 0))

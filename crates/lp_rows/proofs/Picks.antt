@@ -11,12 +11,13 @@ use Rattle.sums.proofs.WholeSwaps.{sum_below_ℤ-one, where_true}
 use Rattle.lp_rows.specs.Entries.{one_if, place_after}
 use Rattle.lp_rows.proofs.ListSums.{test_out}
 
--- one of two numbers, twice
-pub pick_pair : (m n a b : ℕ) (v : ℕ → ℕ → ℤ) → a < m → b < n → sum_below_ℤ (λ l. sum_below_ℤ (λ f. where_true (a == l) (where_true (b == f) (v l f))) n) m ≡ v a b
-pick_pair m n a b v here there =
-    sum_below_ℤ-same (λ l. sum_below_ℤ (λ f. where_true (a == l) (where_true (b == f) (v l f))) n) (λ l. where_true (a == l) (v l b)) m
-    (λ l below. test_out (a == l) (λ f. where_true (b == f) (v l f)) n ∙ ap (where_true (a == l)) (sum_below_ℤ-one b (v l) n there))
-    ∙ sum_below_ℤ-one a (λ l. v l b) m here
+-- one of two numbers, twice, of which the second has a bound by the first
+pub pick_choice : (m : ℕ) (n : ℕ → ℕ) (a b : ℕ) (v : ℕ → ℕ → ℤ) → a < m → b < n a → sum_below_ℤ (λ l. sum_below_ℤ (λ c. where_true (a == l) (where_true (b == c) (v l c))) (n l)) m ≡ v a b
+pick_choice m n a b v here there =
+    sum_below_ℤ-same (λ l. sum_below_ℤ (λ c. where_true (a == l) (where_true (b == c) (v l c))) (n l)) (λ l. where_true (a == l) (sum_below_ℤ (λ c. where_true (b == c) (v l c)) (n l))) m
+    (λ l below. test_out (a == l) (λ c. where_true (b == c) (v l c)) (n l))
+    ∙ sum_below_ℤ-one a (λ l. sum_below_ℤ (λ c. where_true (b == c) (v l c)) (n l)) m here
+    ∙ sum_below_ℤ-one b (v a) (n a) there
 
 -- of the nodes of all fleets at all stations, those of one fleet at one station
 pub pick_nodes : (fleets stations a b : ℕ) (len : ℕ → ℕ → ℕ) (u : ℕ → ℕ → ℕ → ℤ) → a < fleets → b < stations
@@ -26,7 +27,7 @@ pick_nodes fleets stations a b len u here there =
     (λ f. sum_below_ℤ (λ s. where_true (a == f) (where_true (b == s) (sum_below_ℤ (u f s) (len f s)))) stations) fleets
     (λ f below. sum_below_ℤ-same (λ s. sum_below_ℤ (λ k. where_true (a == f) (where_true (b == s) (u f s k))) (len f s)) (λ s. where_true (a == f) (where_true (b == s) (sum_below_ℤ (u f s) (len f s)))) stations
     (λ s lt. test_out (a == f) (λ k. where_true (b == s) (u f s k)) (len f s) ∙ ap (where_true (a == f)) (test_out (b == s) (u f s) (len f s))))
-    ∙ pick_pair fleets stations a b (λ f s. sum_below_ℤ (u f s) (len f s)) here there
+    ∙ pick_choice fleets (λ f. stations) a b (λ f s. sum_below_ℤ (u f s) (len f s)) here there
 
 -- of the nodes of all fleets, those of one fleet
 pub pick_fleet : (fleets stations a : ℕ) (len : ℕ → ℕ → ℕ) (u : ℕ → ℕ → ℕ → ℤ) → a < fleets
@@ -36,6 +37,14 @@ pick_fleet fleets stations a len u here =
     (λ f below. sum_below_ℤ-same (λ s. sum_below_ℤ (λ k. where_true (a == f) (u f s k)) (len f s)) (λ s. where_true (a == f) (sum_below_ℤ (u f s) (len f s))) stations (λ s lt. test_out (a == f) (u f s) (len f s))
     ∙ test_out (a == f) (λ s. sum_below_ℤ (u f s) (len f s)) stations)
     ∙ sum_below_ℤ-one a (λ f. sum_below_ℤ (λ s. sum_below_ℤ (u f s) (len f s)) stations) fleets here
+
+-- .. and those at one station
+pub pick_station : (fleets stations b : ℕ) (len : ℕ → ℕ → ℕ) (u : ℕ → ℕ → ℕ → ℤ) → b < stations
+    → sum_below_ℤ (λ f. sum_below_ℤ (λ s. sum_below_ℤ (λ k. where_true (b == s) (u f s k)) (len f s)) stations) fleets ≡ sum_below_ℤ (λ f. sum_below_ℤ (u f b) (len f b)) fleets
+pick_station fleets stations b len u there =
+    sum_below_ℤ-same (λ f. sum_below_ℤ (λ s. sum_below_ℤ (λ k. where_true (b == s) (u f s k)) (len f s)) stations) (λ f. sum_below_ℤ (u f b) (len f b)) fleets
+    (λ f below. sum_below_ℤ-same (λ s. sum_below_ℤ (λ k. where_true (b == s) (u f s k)) (len f s)) (λ s. where_true (b == s) (sum_below_ℤ (u f s) (len f s))) stations (λ s lt. test_out (b == s) (u f s) (len f s))
+    ∙ sum_below_ℤ-one b (λ s. sum_below_ℤ (u f s) (len f s)) stations there)
 
 -- the place of the node before one
 abbrev pub place_before : ℕ → ℕ → ℕ

@@ -12,25 +12,28 @@ use Rattle.sums.proofs.Tests.{by_test}
 use Rattle.fleet_model.specs.declared.parts.Pair.{Pair}
 use Rattle.fleet_model.specs.declared.tables.Tables.{Tables}
 use Rattle.fleet_model.specs.Kept.{Domains}
-use Rattle.fleet_model.specs.Schedule.{IsPair, fleets_in, leg_on, legs_in, stations_in}
+use Rattle.fleet_model.specs.Schedule.{IsPair, choices_in, fleets_in, leg_on, legs_in, stations_in}
 use Rattle.lp_rows.specs.declared.kinds.Node.{Node}
+use Rattle.lp_rows.specs.declared.kinds.Park.{Park}
 use Rattle.lp_rows.specs.declared.kinds.Column.{Column}
-use Rattle.lp_rows.specs.declared.kinds.Column.TheVariants.{Flight, Ground, Slack}
-use Rattle.lp_rows.specs.Entries.{IsNode, one_if, same_node}
-use Rattle.lp_rows.specs.Layout.{Starts, arc_stays, columns_of, node_at}
+use Rattle.lp_rows.specs.declared.kinds.Column.TheVariants.{Flight, Ground, Room, Slack}
+use Rattle.lp_rows.specs.Entries.{IsNode, IsPark, one_if, same_node, same_park}
+use Rattle.lp_rows.specs.Layout.{Starts, arc_stays, columns_of, node_at, park_at, parking_days}
 use Rattle.lp_rows.specs.Points.{column_at, same_column, value_of}
 use Rattle.lp_rows.proofs.ListSums.{all_zero, of_tests}
-use Rattle.lp_rows.proofs.Picks.{pick_nodes, pick_pair}
-use Rattle.lp_rows.proofs.Totals.{all_columns, flights, grounds, on_arc, over_columns, slacks}
+use Rattle.lp_rows.proofs.Picks.{pick_choice, pick_nodes}
+use Rattle.lp_rows.proofs.Rooms.{as_mask, pick_room}
+use Rattle.lp_rows.proofs.Totals.{all_columns, flights, grounds, on_arc, over_columns, rooms, slacks}
 
 -- a column of the tables, kept where it is of a pair, and one that stays where it is of an arc
 abbrev pub IsKept : Tables → Domains → Starts → Column → Type 0
 IsKept t keeps starts (Flight p) = IsPair t p × (keeps p ≡ true)
 IsKept t keeps starts (Ground a) = IsNode t starts a × (arc_stays t keeps starts a ≡ true)
 IsKept t keeps starts (Slack f) = f < fleets_in t
+IsKept t keeps starts (Room p) = IsPark t p
 
 pub columns_are_kept : (t : Tables) (keeps : Domains) (starts : Starts) → All (IsKept t keeps starts) (columns_of t keeps starts)
-columns_are_kept t keeps starts = all_columns t keeps starts (IsKept t keeps starts) (λ l f below known kept. (record { leg = below; choice = known }, kept)) (λ n fits stays. (fits, stays)) (λ f known. known)
+columns_are_kept t keeps starts = all_columns t keeps starts (IsKept t keeps starts) (λ l c below known kept. (record { leg = below; choice = known }, kept)) (λ n fits stays. (fits, stays)) (λ f known. known) (λ p known. known)
 
 three_tests : (k a b : Bool) → where_true k (one_if (a && b)) ≡ where_true a (where_true b (where_true k (pos 1)))
 three_tests true true true = refl
@@ -51,9 +54,9 @@ three_places k true false c = masked_zero k
 three_places k false b c = masked_zero k
 
 module _ (t : Tables) (keeps : Domains) (starts : Starts) where
-  no_flights : (h : Column → ℤ) → ((p : Pair) → h (Flight p) ≡ pos 0) → flights t keeps h ≡ pos 0
-  no_flights h none = all_zero (λ l. sum_below_ℤ (λ f. where_true (keeps (leg_on l f)) (h (Flight (leg_on l f)))) (fleets_in t)) (legs_in t)
-      (λ l below. all_zero (λ f. where_true (keeps (leg_on l f)) (h (Flight (leg_on l f)))) (fleets_in t) (λ f known. ap (where_true (keeps (leg_on l f))) (none (leg_on l f)) ∙ masked_zero (keeps (leg_on l f))))
+  pub no_flights : (h : Column → ℤ) → ((p : Pair) → h (Flight p) ≡ pos 0) → flights t keeps h ≡ pos 0
+  no_flights h none = all_zero (λ l. sum_below_ℤ (λ c. where_true (keeps (leg_on l c)) (h (Flight (leg_on l c)))) (choices_in t l)) (legs_in t)
+      (λ l below. all_zero (λ c. where_true (keeps (leg_on l c)) (h (Flight (leg_on l c)))) (choices_in t l) (λ c known. ap (where_true (keeps (leg_on l c))) (none (leg_on l c)) ∙ masked_zero (keeps (leg_on l c))))
 
   pub no_grounds : (h : Column → ℤ) → ((n : Node) → h (Ground n) ≡ pos 0) → grounds t keeps starts h ≡ pos 0
   no_grounds h none = all_zero (λ f. sum_below_ℤ (λ s. sum_below_ℤ (on_arc t keeps starts h f s) (length (starts f s))) (stations_in t)) (fleets_in t)
@@ -63,16 +66,20 @@ module _ (t : Tables) (keeps : Domains) (starts : Starts) where
   pub no_slacks : (h : Column → ℤ) → ((f : ℕ) → h (Slack f) ≡ pos 0) → slacks t h ≡ pos 0
   no_slacks h none = all_zero (λ f. h (Slack f)) (fleets_in t) (λ f known. none f)
 
+  pub no_rooms : (h : Column → ℤ) → ((p : Park) → h (Room p) ≡ pos 0) → rooms t h ≡ pos 0
+  no_rooms h none = all_zero (λ s. sum_below_ℤ (λ k. h (Room (park_at s k))) (parking_days t s)) (stations_in t) (λ s within. all_zero (λ k. h (Room (park_at s k))) (parking_days t s) (λ k below. none (park_at s k)))
+
   -- a column stands once
-  once : (column : Column) → IsKept t keeps starts column → flights t keeps (λ k. one_if (same_column column k)) +ℤ grounds t keeps starts (λ k. one_if (same_column column k)) +ℤ slacks t (λ k. one_if (same_column column k)) ≡ pos 1
+  once : (column : Column) → IsKept t keeps starts column
+      → flights t keeps (λ k. one_if (same_column column k)) +ℤ grounds t keeps starts (λ k. one_if (same_column column k)) +ℤ slacks t (λ k. one_if (same_column column k)) +ℤ rooms t (λ k. one_if (same_column column k)) ≡ pos 1
   once (Flight p) kept =
-      let pairs = sum_below_ℤ-same (λ l. sum_below_ℤ (λ f. where_true (keeps (leg_on l f)) (one_if ((p.leg == l) && (p.choice == f)))) (fleets_in t))
-      (λ l. sum_below_ℤ (λ f. where_true (p.leg == l) (where_true (p.choice == f) (where_true (keeps (leg_on l f)) (pos 1)))) (fleets_in t)) (legs_in t)
-      (λ l below. sum_below_ℤ-same (λ f. where_true (keeps (leg_on l f)) (one_if ((p.leg == l) && (p.choice == f)))) (λ f. where_true (p.leg == l) (where_true (p.choice == f) (where_true (keeps (leg_on l f)) (pos 1)))) (fleets_in t)
-      (λ f known. three_tests (keeps (leg_on l f)) (p.leg == l) (p.choice == f)))
-      ∙ pick_pair (legs_in t) (fleets_in t) p.leg p.choice (λ l f. where_true (keeps (leg_on l f)) (pos 1)) kept.0.leg kept.0.choice
+      let pairs = sum_below_ℤ-same (λ l. sum_below_ℤ (λ c. where_true (keeps (leg_on l c)) (one_if ((p.leg == l) && (p.choice == c)))) (choices_in t l))
+      (λ l. sum_below_ℤ (λ c. where_true (p.leg == l) (where_true (p.choice == c) (where_true (keeps (leg_on l c)) (pos 1)))) (choices_in t l)) (legs_in t)
+      (λ l below. sum_below_ℤ-same (λ c. where_true (keeps (leg_on l c)) (one_if ((p.leg == l) && (p.choice == c)))) (λ c. where_true (p.leg == l) (where_true (p.choice == c) (where_true (keeps (leg_on l c)) (pos 1)))) (choices_in t l)
+      (λ c known. three_tests (keeps (leg_on l c)) (p.leg == l) (p.choice == c)))
+      ∙ pick_choice (legs_in t) (choices_in t) p.leg p.choice (λ l c. where_true (keeps (leg_on l c)) (pos 1)) kept.0.leg kept.0.choice
       ∙ ap (λ b. where_true b (pos 1)) kept.1 in
-      omega (arith, ints, pairs, no_grounds (λ k. one_if (same_column (Flight p) k)) (λ n. refl), no_slacks (λ k. one_if (same_column (Flight p) k)) (λ f. refl))
+      omega (arith, ints, pairs, no_grounds (λ k. one_if (same_column (Flight p) k)) (λ n. refl), no_slacks (λ k. one_if (same_column (Flight p) k)) (λ f. refl), no_rooms (λ k. one_if (same_column (Flight p) k)) (λ q. refl))
   once (Ground a) kept =
       let node = kept.0 in
       let stays = λ (f s k : ℕ). arc_stays t keeps starts (node_at f s k) in
@@ -86,10 +93,15 @@ module _ (t : Tables) (keeps : Domains) (starts : Starts) where
       ∙ pick_nodes (fleets_in t) (stations_in t) a.fleet a.station (λ f s. length (starts f s)) there node.fleet node.station
       ∙ sum_below_ℤ-one a.place (λ k. where_true (stays a.fleet a.station k) (pos 1)) (length (starts a.fleet a.station)) node.place
       ∙ ap (λ b. where_true b (pos 1)) kept.1 in
-      omega (arith, ints, nodes, no_flights (λ k. one_if (same_column (Ground a) k)) (λ p. refl), no_slacks (λ k. one_if (same_column (Ground a) k)) (λ f. refl))
+      omega (arith, ints, nodes, no_flights (λ k. one_if (same_column (Ground a) k)) (λ p. refl), no_slacks (λ k. one_if (same_column (Ground a) k)) (λ f. refl), no_rooms (λ k. one_if (same_column (Ground a) k)) (λ p. refl))
   once (Slack g) known =
       let fleets = sum_below_ℤ-one g (λ f. pos 1) (fleets_in t) known in
-      omega (arith, ints, fleets, no_flights (λ k. one_if (same_column (Slack g) k)) (λ p. refl), no_grounds (λ k. one_if (same_column (Slack g) k)) (λ n. refl))
+      omega (arith, ints, fleets, no_flights (λ k. one_if (same_column (Slack g) k)) (λ p. refl), no_grounds (λ k. one_if (same_column (Slack g) k)) (λ n. refl), no_rooms (λ k. one_if (same_column (Slack g) k)) (λ p. refl))
+  once (Room p) known =
+      let days = sum_below_ℤ-same (λ s. sum_below_ℤ (λ k. one_if (same_park p (park_at s k))) (parking_days t s)) (λ s. sum_below_ℤ (λ k. where_true (same_park p (park_at s k)) (pos 1)) (parking_days t s)) (stations_in t)
+      (λ s within. sum_below_ℤ-same (λ k. one_if (same_park p (park_at s k))) (λ k. where_true (same_park p (park_at s k)) (pos 1)) (parking_days t s) (λ k below. as_mask (same_park p (park_at s k))))
+      ∙ pick_room t p known (λ q. pos 1) in
+      omega (arith, ints, days, no_flights (λ k. one_if (same_column (Room p) k)) (λ q. refl), no_grounds (λ k. one_if (same_column (Room p) k)) (λ n. refl), no_slacks (λ k. one_if (same_column (Room p) k)) (λ f. refl))
 
   abbrev cols : List Column
   cols = columns_of t keeps starts
@@ -106,6 +118,7 @@ same_self : (column : Column) → same_column column column ≡ true
 same_self (Flight p) = grind (arith, nat_tests)
 same_self (Ground a) = grind (arith, nat_tests)
 same_self (Slack f) = grind (arith, nat_tests)
+same_self (Room p) = grind (arith, nat_tests)
 
 -- a point gives to the column at a place the number there
 pub value_there : (t : Tables) (keeps : Domains) (starts : Starts) (x : ℕ → ℕ) (c : ℕ) → c < length (columns_of t keeps starts)
@@ -144,6 +157,7 @@ nothing_there t keeps starts x p not_kept =
         (λ e. e)
     differs (Ground a) kept = refl
     differs (Slack f) kept = refl
+    differs (Room q) kept = refl
 
 -- nor to an arc that went
 pub nothing_on_ground : (t : Tables) (keeps : Domains) (starts : Starts) (x : ℕ → ℕ) (n : Node) → arc_stays t keeps starts n ≡ false → value_of (columns_of t keeps starts) x (Ground n) ≡ 0
@@ -163,3 +177,4 @@ nothing_on_ground t keeps starts x n went =
         (λ e. e)
     differs (Flight p) kept = refl
     differs (Slack f) kept = refl
+    differs (Room p) kept = refl

@@ -10,21 +10,21 @@ use Rattle.fleet_model.specs.declared.tables.Tables.{Tables}
 use Rattle.fleet_model.specs.Kept.{Domains}
 use Rattle.fleet_model.specs.Legal.{cost_of}
 use Rattle.fleet_model.specs.Mixed.{mixed_cost, weight_on, weighted_cost}
-use Rattle.fleet_model.specs.Schedule.{fleet_of, leg_on, legs_in, stations_in}
+use Rattle.fleet_model.specs.Schedule.{departures_in, fleet_of, fleets_in, stations_in}
 use Rattle.fleet_model.specs.Use.{laps_flown}
 use Rattle.node_aggregate.specs.Laws.{WeighKept}
 use Rattle.lp_rows.specs.declared.kinds.Column.{Column}
-use Rattle.lp_rows.specs.declared.kinds.Column.TheVariants.{Ground, Slack}
+use Rattle.lp_rows.specs.declared.kinds.Column.TheVariants.{Ground, Room, Slack}
 use Rattle.lp_rows.specs.declared.kinds.Line.{Line}
-use Rattle.lp_rows.specs.declared.kinds.Line.TheVariants.{Cover, Balance, Count}
-use Rattle.lp_rows.specs.Entries.{IsLine, column_cost, entry_of, right_side_of}
+use Rattle.lp_rows.specs.declared.kinds.Line.TheVariants.{Cover, Balance, Count, Parking}
+use Rattle.lp_rows.specs.Entries.{IsLine, column_cost, entry_of, limit_of, right_side_of}
 use Rattle.lp_rows.specs.Layout.{Starts, columns_of, node_at}
 use Rattle.lp_rows.specs.Points.{PointsArePlans, PointsCostAsPlans, value_of}
 use Rattle.lp_rows.proofs.Flows.{IsFlow, flow_is_plan, flown}
 use Rattle.lp_rows.proofs.LineNumbers.{cost_at, meets_line}
-use Rattle.lp_rows.proofs.LineSums.{StandOnArcs, balance_sum, coming_to, count_sum, cover_sum, last_arc, leaving_from, line_sum, over_flights}
+use Rattle.lp_rows.proofs.LineSums.{StandOnArcs, balance_sum, coming_to, count_sum, cover_sum, last_arc, leaving_from, line_sum, night_arc, over_flights, parking_sum}
 use Rattle.lp_rows.proofs.Picks.{place_before}
-use Rattle.lp_rows.proofs.Places.{no_grounds, no_slacks, nothing_on_ground, nothing_there, value_there}
+use Rattle.lp_rows.proofs.Places.{no_grounds, no_rooms, no_slacks, nothing_on_ground, nothing_there, value_there}
 
 -- each line of the tables comes to its right side
 pub record MeetsLines (t : Tables) (keeps : Domains) (starts : Starts) (q : ℕ) (v : Column → ℕ) : Type 0 where
@@ -42,11 +42,13 @@ as_product m a q e = omega (arith, ints, e, mul_comm a q)
 pub lines_are_flow : (t : Tables) (keeps : Domains) (starts : Starts) (q : ℕ) (v : Column → ℕ) → WeighKept t keeps (flown v) → StandOnArcs t keeps starts v → MeetsLines t keeps starts q v → IsFlow t starts q v
 lines_are_flow t keeps starts q v weigh stand meets = record {
   cover = λ l below. as_counts (weight_on t (flown v) l) q (sym (cover_sum t keeps starts v weigh l below) ∙ meets.each (Cover l) below);
-  balance = λ n node. as_balance (sum_below (coming_to t starts (flown v) n) (legs_in t)) (sum_below (leaving_from t starts (flown v) n) (legs_in t))
+  balance = λ n node. as_balance (sum_below (coming_to t starts (flown v) n) (departures_in t)) (sum_below (leaving_from t starts (flown v) n) (departures_in t))
       (v (Ground (node_at n.fleet n.station (place_before (length (starts n.fleet n.station)) n.place)))) (v (Ground n)) q
       (sym (balance_sum t keeps starts v weigh stand n node) ∙ meets.each (Balance n) node);
   count = λ f known. as_product (laps_flown t (flown v) f + sum_below (last_arc starts v f) (stations_in t) + v (Slack f)) (fleet_of t f).aircraft q
       (sym (count_sum t keeps starts v weigh stand f known) ∙ meets.each (Count f) known);
+  room = λ p known. as_product (sum_below (night_arc t starts v p.station p.day) (fleets_in t) + v (Room p)) (limit_of t p.station) q
+      (sym (parking_sum t keeps starts v weigh stand p known) ∙ meets.each (Parking p) known);
 }
 
 weighs_kept : (t : Tables) (keeps : Domains) (starts : Starts) (x : ℕ → ℕ) → WeighKept t keeps (flown (value_of (columns_of t keeps starts) x))
@@ -65,8 +67,9 @@ pub points_cost_as_plans : PointsCostAsPlans
 unfolding mixed_cost
 points_cost_as_plans t keeps starts rows x are =
     let v = value_of (columns_of t keeps starts) x in
-    let pairs = over_flights t keeps starts v (weighs_kept t keeps starts x) (column_cost t) (weighted_cost t (flown v))
-    (λ l f. *ℤ_comm (unwrap_or (cost_of t (leg_on l f)) (pos 0)) (pos (flown v (leg_on l f)))) in
+    let pairs = over_flights t keeps starts v (weighs_kept t keeps starts x) (column_cost t) (λ p. weighted_cost t (flown v) p.leg p.choice)
+    (λ p. *ℤ_comm (unwrap_or (cost_of t p) (pos 0)) (pos (flown v p))) in
     let arcs = no_grounds t keeps starts (λ k. column_cost t k *ℤ pos (v k)) (λ n. zero-*ℤ (pos (v (Ground n)))) in
     let spare = no_slacks t keeps starts (λ k. column_cost t k *ℤ pos (v k)) (λ f. zero-*ℤ (pos (v (Slack f)))) in
-    cost_at t keeps starts rows are x v (λ c below. sym (value_there t keeps starts x c below)) ∙ omega (arith, ints, pairs, arcs, spare)
+    let room = no_rooms t keeps starts (λ k. column_cost t k *ℤ pos (v k)) (λ p. zero-*ℤ (pos (v (Room p)))) in
+    cost_at t keeps starts rows are x v (λ c below. sym (value_there t keeps starts x c below)) ∙ omega (arith, ints, pairs, arcs, spare, room)

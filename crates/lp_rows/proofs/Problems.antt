@@ -1,5 +1,5 @@
 -- The rows are a problem for the simplex method: no number of theirs and no sum of a column is outgrown.
-use Rattle.std.proofs.Common.{◌≡◌, ℕ, ◌+◌, ◌<◌, ◌≤◌, Bool, true, false, if◌then◌else◌, ◌==◌, length, get_or, map, All, Option, Some, None, IfSome, ℤ, pos, ◌-ℤ◌, unsigned_abs, sym, ◌∙◌, ap, subst, inl, inr, arith}
+use Rattle.std.proofs.Common.{◌≡◌, ℕ, ◌+◌, ◌<◌, ◌≤◌, Bool, true, false, if◌then◌else◌, ◌==◌, length, get_or, map, All, Option, Some, None, IfSome, ℤ, pos, ◌-ℤ◌, unsigned_abs, refl, sym, ◌∙◌, ap, subst, inl, inr, arith}
 use Rattle.std.specs.Prelude.{unwrap_or}
 use Rattle.std.proofs.lemmas.Bool.{cases_lt}
 use Rattle.std.proofs.lemmas.Int.{ints}
@@ -7,27 +7,27 @@ use Rattle.std.proofs.lemmas.List.{length-map, length_push}
 use Rattle.std.proofs.lemmas.List.Elements.{All-map, recursion_from_All}
 use Rattle.sums.proofs.Sums.{sum_below-bound}
 use Rattle.frac_row.specs.Outgrown.{IsWithin}
-use Rattle.fleet_model.specs.declared.limits.TheConstants.{MINUTES_PER_PERIOD}
 use Rattle.fleet_model.specs.declared.tables.Tables.{Tables}
 use Rattle.fleet_model.specs.Kept.{Domains}
 use Rattle.fleet_model.specs.Legal.{cost_of}
 use Rattle.fleet_model.specs.Limits.{IsCost, IsFleet, IsPairCost}
-use Rattle.fleet_model.specs.Schedule.{fleet_of, fleets_in, legs_in, no_fleet, stations_in}
+use Rattle.fleet_model.specs.Schedule.{fleet_by, fleet_of, fleets_in, legs_in, no_fleet, parking_of}
 use Rattle.fleet_model.specs.Times.{laps_of}
 use Rattle.fleet_model.proofs.CostLookup.{found_fits}
-use Rattle.fleet_model.proofs.Minutes.{few_laps}
+use Rattle.fleet_model.proofs.PeriodMinutes.{few_laps}
+use Rattle.fleet_model.proofs.ParkingLimits.{few_parked}
 use Rattle.row_store.specs.Problem.{IsProblem, entry}
 use Rattle.row_store.specs.declared.problem.Rows.{Rows}
 use Rattle.lp_rows.specs.declared.kinds.Column.{Column}
-use Rattle.lp_rows.specs.declared.kinds.Column.TheVariants.{Flight, Ground, Slack}
+use Rattle.lp_rows.specs.declared.kinds.Column.TheVariants.{Flight, Ground, Room, Slack}
 use Rattle.lp_rows.specs.declared.kinds.Line.{Line}
-use Rattle.lp_rows.specs.declared.kinds.Line.TheVariants.{Cover, Balance, Count}
-use Rattle.lp_rows.specs.Entries.{IsColumn, IsLine, column_cost, comes_to_node, entry_of, gets_arc, leaves_node, one_if, passes_day_start, right_side_of, same_node}
+use Rattle.lp_rows.specs.declared.kinds.Line.TheVariants.{Cover, Balance, Count, Parking}
+use Rattle.lp_rows.specs.Entries.{IsColumn, IsLine, column_cost, comes_to_node, entry_of, gets_arc, leaves_node, one_if, passes_day_end, passes_start, right_side_of, same_node, same_park}
 use Rattle.lp_rows.specs.Layout.{Starts, columns_of, lines_of}
 use Rattle.lp_rows.specs.Points.{column_at}
 use Rattle.lp_rows.specs.Program.{AreRows, numbers_of}
 use Rattle.lp_rows.proofs.LineNumbers.{line_count, number_at_column, right_side_at}
-use Rattle.lp_rows.proofs.Totals.{columns_are_known, few_columns, few_lines, lines_are_known}
+use Rattle.lp_rows.proofs.Totals.{AreFew, columns_are_known, few_columns, few_lines, lines_are_known}
 
 small_one : (b : Bool) → unsigned_abs (one_if b) ≤ 2
 small_one true = omega arith
@@ -47,17 +47,29 @@ small_entry : (t : Tables) (starts : Starts) (line : Line) (column : Column) →
 small_entry t starts (Cover l) (Flight p) known = small_one (l == p.leg)
 small_entry t starts (Cover l) (Ground a) known = omega arith
 small_entry t starts (Cover l) (Slack f) known = omega arith
+small_entry t starts (Cover l) (Room p) known = omega arith
 small_entry t starts (Balance n) (Flight p) known = small_two (comes_to_node t starts n p) (leaves_node t starts n p)
 small_entry t starts (Balance n) (Ground a) known = small_two (gets_arc starts n a) (same_node n a)
 small_entry t starts (Balance n) (Slack f) known = omega arith
-small_entry t starts (Count f) (Flight p) known = small_laps (f == p.choice) (laps_of t p) (few_laps t p known)
-small_entry t starts (Count f) (Ground a) known = small_one (passes_day_start starts f a)
+small_entry t starts (Balance n) (Room p) known = omega arith
+small_entry t starts (Count f) (Flight p) known = small_laps (f == fleet_by t p) (laps_of t p) (few_laps t p known)
+small_entry t starts (Count f) (Ground a) known = small_one (passes_start starts f a)
 small_entry t starts (Count f) (Slack g) known = small_one (f == g)
+small_entry t starts (Count f) (Room p) known = omega arith
+small_entry t starts (Parking p) (Flight q) known = omega arith
+small_entry t starts (Parking p) (Ground a) known = small_one (passes_day_end t starts p a)
+small_entry t starts (Parking p) (Slack f) known = omega arith
+small_entry t starts (Parking p) (Room q) known = small_one (same_park p q)
 
-small_side : (t : Tables) (starts : Starts) (line : Line) → IsLine t starts line → unsigned_abs (right_side_of t line) ≤ 500
+small_side : (t : Tables) (starts : Starts) (line : Line) → IsLine t starts line → unsigned_abs (right_side_of t line) ≤ 10000
 small_side t starts (Cover l) known = omega arith
 small_side t starts (Balance n) known = omega arith
 small_side t starts (Count f) known = let fits : IsFleet (fleet_of t f) = t.in_range.fleets_fit.each f no_fleet known in omega (arith, fits.aircraft)
+small_side t starts (Parking p) known = small_limit (parking_of t p.station) (few_parked t p.station)
+  where
+    small_limit : (o : Option ℕ) → ((limit : ℕ) → o ≡ Some limit → limit ≤ 10000) → unwrap_or o 0 ≤ 10000
+    small_limit (Some limit) few = few limit refl
+    small_limit None few = omega arith
 
 within_of : (c : ℤ) → IsCost c → IsWithin c
 within_of c fits = omega (arith, ints, fits.no_less, fits.no_more)
@@ -71,9 +83,10 @@ small_cost t (Flight p) =
     cost_within (cost_of t p) (found_fits t.costs p (legs_in t) (fleets_in t) (recursion_from_All (IsPairCost (legs_in t) (fleets_in t)) t.costs t.in_range.costs_fit.each))
 small_cost t (Ground a) = omega arith
 small_cost t (Slack f) = omega arith
+small_cost t (Room p) = omega arith
 
-module _ (t : Tables) (keeps : Domains) (starts : Starts) (rows : Rows) (are : AreRows t keeps starts rows) (few : (f s : ℕ) → f < fleets_in t → s < stations_in t → length (starts f s) ≤ MINUTES_PER_PERIOD) where
-  small_number : (i c : ℕ) → i < length rows.lines → c ≤ rows.columns → unsigned_abs (entry rows i c) ≤ 500
+module _ (t : Tables) (keeps : Domains) (starts : Starts) (rows : Rows) (are : AreRows t keeps starts rows) (few : AreFew t starts) where
+  small_number : (i c : ℕ) → i < length rows.lines → c ≤ rows.columns → unsigned_abs (entry rows i c) ≤ 10000
   small_number i c within order =
       let place : i < length (lines_of t starts) = omega (arith, line_count t keeps starts rows are) in
       let line = get_or (lines_of t starts) i (Cover 0) in
@@ -106,7 +119,7 @@ module _ (t : Tables) (keeps : Domains) (starts : Starts) (rows : Rows) (are : A
     costs_within = subst (All IsWithin) (sym are.costs) (All-map IsWithin (column_cost t) (columns_of t keeps starts) (λ k d below. small_cost t (get_or (columns_of t keeps starts) k d)));
     sums_within = λ c order. omega (
       arith,
-      sum_below-bound (λ i. unsigned_abs (entry rows i c)) 500 (length rows.lines) (record { each = λ i below. small_number i c below order }),
+      sum_below-bound (λ i. unsigned_abs (entry rows i c)) 10000 (length rows.lines) (record { each = λ i below. small_number i c below order }),
       line_count t keeps starts rows are,
       few_lines t starts few,
     );

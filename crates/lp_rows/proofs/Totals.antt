@@ -1,27 +1,30 @@
 -- Sums over the columns, by their kinds.
-use Rattle.std.proofs.Common.{◌≡◌, ℕ, zero, suc, ◌+◌, ◌*◌, ◌^◌, ◌<◌, ◌≤◌, Bool, true, false, if◌then◌else◌, cond, List, [], ◌∷◌, ◌++◌, filter, length, get_or, map, All, ℤ, ◌+ℤ◌, refl, ◌∙◌, ap, arith, length-append}
+use Rattle.std.proofs.Common.{◌≡◌, ℕ, zero, suc, ◌+◌, ◌*◌, ◌^◌, ◌<◌, ◌≤◌, Bool, true, false, if◌then◌else◌, cond, List, [], ◌∷◌, ◌++◌, filter, length, get_or, map, All, is_some, ℤ, ◌+ℤ◌, refl, ◌∙◌, ap, arith, length-append}
 use Rattle.std.proofs.lemmas.List.{length-map}
 use Rattle.std.proofs.lemmas.List.Elements.{All-append, All-cons, All-head, All-map, All-nil, All-tail}
-use Rattle.fleet_model.specs.declared.limits.TheConstants.{MINUTES_PER_PERIOD}
+use Rattle.fleet_model.specs.declared.limits.TheConstants.{MAX_CHOICES}
 use Rattle.sums.specs.Below.{sum_below_ℤ}
 use Rattle.sums.proofs.Places.{get_or-list_below, length-list_below}
 use Rattle.sums.proofs.WholeSums.{sum_below_ℤ-same}
 use Rattle.sums.proofs.WholeSwaps.{where_true}
 use Rattle.fleet_model.specs.declared.tables.Tables.{Tables}
 use Rattle.fleet_model.specs.Kept.{Domains}
-use Rattle.fleet_model.specs.Schedule.{fleets_in, leg_on, legs_in, stations_in}
+use Rattle.fleet_model.specs.Schedule.{choices_in, days_in, fleets_in, leg_on, legs_in, parking_of, period_of, stations_in}
+use Rattle.fleet_model.proofs.PeriodMinutes.{at_most_week, few_days}
+use Rattle.fleet_model.proofs.FewChoices.{few_choices}
 use Rattle.lp_rows.specs.declared.kinds.Node.{Node}
+use Rattle.lp_rows.specs.declared.kinds.Park.{Park}
 use Rattle.lp_rows.specs.declared.kinds.Column.{Column}
-use Rattle.lp_rows.specs.declared.kinds.Column.TheVariants.{Flight, Ground, Slack}
-use Rattle.lp_rows.specs.declared.kinds.Line.TheVariants.{Cover, Balance, Count}
-use Rattle.lp_rows.specs.Entries.{IsColumn, IsLine, IsNode}
+use Rattle.lp_rows.specs.declared.kinds.Column.TheVariants.{Flight, Ground, Room, Slack}
+use Rattle.lp_rows.specs.declared.kinds.Line.TheVariants.{Cover, Balance, Count, Parking}
+use Rattle.lp_rows.specs.Entries.{IsColumn, IsLine, IsNode, IsPark}
 use Rattle.sums.specs.Places.{list_below}
-use Rattle.lp_rows.specs.Layout.{Starts, all_arcs, all_kept, all_nodes, arc_stays, columns_of, concat_below, lines_of, node_at, nodes_at, nodes_of, pair_of, pairs_of}
+use Rattle.lp_rows.specs.Layout.{Starts, all_arcs, all_kept, all_nodes, all_parks, arc_stays, columns_of, concat_below, lines_of, node_at, nodes_at, nodes_of, pair_of, pairs_of, park_at, parking_days, parks_at}
 use Rattle.lp_rows.proofs.ListSums.{by_places, of_append, of_concat, of_filter, of_list, of_map, of_one, sum_list}
 
 -- over the kept pairs
 abbrev pub flights : Tables → Domains → (Column → ℤ) → ℤ
-flights t keeps h = sum_below_ℤ (λ l. sum_below_ℤ (λ f. where_true (keeps (leg_on l f)) (h (Flight (leg_on l f)))) (fleets_in t)) (legs_in t)
+flights t keeps h = sum_below_ℤ (λ l. sum_below_ℤ (λ c. where_true (keeps (leg_on l c)) (h (Flight (leg_on l c)))) (choices_in t l)) (legs_in t)
 
 -- over the arcs that stay
 abbrev pub on_arc : Tables → Domains → Starts → (Column → ℤ) → ℕ → ℕ → ℕ → ℤ
@@ -34,14 +37,18 @@ grounds t keeps starts h = sum_below_ℤ (λ f. sum_below_ℤ (λ s. sum_below_�
 abbrev pub slacks : Tables → (Column → ℤ) → ℤ
 slacks t h = sum_below_ℤ (λ f. h (Slack f)) (fleets_in t)
 
+-- over the rooms
+abbrev pub rooms : Tables → (Column → ℤ) → ℤ
+rooms t h = sum_below_ℤ (λ s. sum_below_ℤ (λ k. h (Room (park_at s k))) (parking_days t s)) (stations_in t)
+
 module _ (t : Tables) (keeps : Domains) (starts : Starts) (h : Column → ℤ) where
   over_pairs : sum_list (λ p. h (Flight p)) (all_kept t keeps) ≡ flights t keeps h
   over_pairs =
       of_concat (λ p. h (Flight p)) (pairs_of t keeps) (legs_in t)
-      ∙ sum_below_ℤ-same (λ l. sum_list (λ p. h (Flight p)) (pairs_of t keeps l)) (λ l. sum_below_ℤ (λ f. where_true (keeps (leg_on l f)) (h (Flight (leg_on l f)))) (fleets_in t)) (legs_in t)
-      (λ l below. of_concat (λ p. h (Flight p)) (pair_of keeps l) (fleets_in t)
-      ∙ sum_below_ℤ-same (λ f. sum_list (λ p. h (Flight p)) (pair_of keeps l f)) (λ f. where_true (keeps (leg_on l f)) (h (Flight (leg_on l f)))) (fleets_in t)
-      (λ f lt. of_one (λ p. h (Flight p)) (keeps (leg_on l f)) (leg_on l f)))
+      ∙ sum_below_ℤ-same (λ l. sum_list (λ p. h (Flight p)) (pairs_of t keeps l)) (λ l. sum_below_ℤ (λ c. where_true (keeps (leg_on l c)) (h (Flight (leg_on l c)))) (choices_in t l)) (legs_in t)
+      (λ l below. of_concat (λ p. h (Flight p)) (pair_of keeps l) (choices_in t l)
+      ∙ sum_below_ℤ-same (λ c. sum_list (λ p. h (Flight p)) (pair_of keeps l c)) (λ c. where_true (keeps (leg_on l c)) (h (Flight (leg_on l c)))) (choices_in t l)
+      (λ c lt. of_one (λ p. h (Flight p)) (keeps (leg_on l c)) (leg_on l c)))
 
   over_nodes : (g : Node → ℤ) → sum_list g (all_nodes t starts) ≡ sum_below_ℤ (λ f. sum_below_ℤ (λ s. sum_below_ℤ (λ k. g (node_at f s k)) (length (starts f s))) (stations_in t)) (fleets_in t)
   over_nodes g =
@@ -54,15 +61,29 @@ module _ (t : Tables) (keeps : Domains) (starts : Starts) (h : Column → ℤ) w
   over_arcs : sum_list (λ n. h (Ground n)) (all_arcs t keeps starts) ≡ grounds t keeps starts h
   over_arcs = of_filter (λ n. h (Ground n)) (arc_stays t keeps starts) (all_nodes t starts) ∙ over_nodes (λ n. where_true (arc_stays t keeps starts n) (h (Ground n)))
 
-  -- over all columns by their places
-  pub over_columns : sum_below_ℤ (λ c. h (get_or (columns_of t keeps starts) c (Slack 0))) (length (columns_of t keeps starts)) ≡ flights t keeps h +ℤ grounds t keeps starts h +ℤ slacks t h
-  over_columns =
+  over_parks : sum_list (λ p. h (Room p)) (all_parks t) ≡ rooms t h
+  over_parks =
+      of_concat (λ p. h (Room p)) (parks_at t) (stations_in t)
+      ∙ sum_below_ℤ-same (λ s. sum_list (λ p. h (Room p)) (parks_at t s)) (λ s. sum_below_ℤ (λ k. h (Room (park_at s k))) (parking_days t s)) (stations_in t)
+      (λ s within. of_list (λ p. h (Room p)) (park_at s) (parking_days t s))
+
+  -- over all columns but the rooms
+  before_rooms : sum_list h (map Flight (all_kept t keeps) ++ map Ground (all_arcs t keeps starts) ++ list_below Slack (fleets_in t)) ≡ flights t keeps h +ℤ grounds t keeps starts h +ℤ slacks t h
+  before_rooms =
       let split = of_append h (map Flight (all_kept t keeps) ++ map Ground (all_arcs t keeps starts)) (list_below Slack (fleets_in t)) in
       let front = of_append h (map Flight (all_kept t keeps)) (map Ground (all_arcs t keeps starts)) in
       let pairs = of_map h Flight (all_kept t keeps) ∙ over_pairs in
       let arcs = of_map h Ground (all_arcs t keeps starts) ∙ over_arcs in
-      by_places h (columns_of t keeps starts) (Slack 0) ∙ split ∙ ap (λ z. z +ℤ sum_list h (list_below Slack (fleets_in t))) (front ∙ ap (λ z. z +ℤ sum_list h (map Ground (all_arcs t keeps starts))) pairs ∙ ap (λ z. flights t keeps h +ℤ z) arcs)
+      split ∙ ap (λ z. z +ℤ sum_list h (list_below Slack (fleets_in t))) (front ∙ ap (λ z. z +ℤ sum_list h (map Ground (all_arcs t keeps starts))) pairs ∙ ap (λ z. flights t keeps h +ℤ z) arcs)
       ∙ ap (λ z. flights t keeps h +ℤ grounds t keeps starts h +ℤ z) (of_list h Slack (fleets_in t))
+
+  -- over all columns by their places
+  pub over_columns : sum_below_ℤ (λ c. h (get_or (columns_of t keeps starts) c (Slack 0))) (length (columns_of t keeps starts)) ≡ flights t keeps h +ℤ grounds t keeps starts h +ℤ slacks t h +ℤ rooms t h
+  over_columns =
+      by_places h (columns_of t keeps starts) (Slack 0)
+      ∙ of_append h (map Flight (all_kept t keeps) ++ map Ground (all_arcs t keeps starts) ++ list_below Slack (fleets_in t)) (map Room (all_parks t))
+      ∙ ap (λ z. z +ℤ sum_list h (map Room (all_parks t))) before_rooms
+      ∙ ap (λ z. flights t keeps h +ℤ grounds t keeps starts h +ℤ slacks t h +ℤ z) (of_map h Room (all_parks t) ∙ over_parks)
 
 -- what holds of each entry of lists one behind another
 pub all_concat : {X : Type 0} (P : X → Type 0) (g : ℕ → List X) (n : ℕ) → ((k : ℕ) → k < n → All P (g k)) → All P (concat_below g n)
@@ -92,26 +113,35 @@ all_filter {X} P p (x ∷ xs) each = picked (p x) (filter p xs) (All-head (λ y.
     picked true ys here rest = All-cons P x ys (here refl) rest
     picked false ys here rest = rest
 
--- what holds of kept pairs, arcs that stay and slacks holds of all columns
+-- .. of the days with a limit
+pub all_of_parks : (t : Tables) (P : Park → Type 0) → ((p : Park) → IsPark t p → P p) → All P (all_parks t)
+all_of_parks t P each =
+    all_concat P (parks_at t) (stations_in t) (λ s within. all_list P (park_at s) (parking_days t s) (λ k below. each (park_at s k) (record { station = within; some = omega arith; day = omega (arith, below) })))
+
+-- what holds of kept pairs, arcs that stay, slacks and rooms holds of all columns
 pub all_columns : (t : Tables) (keeps : Domains) (starts : Starts) (P : Column → Type 0)
-    → ((l f : ℕ) → l < legs_in t → f < fleets_in t → keeps (leg_on l f) ≡ true → P (Flight (leg_on l f))) → ((n : Node) → IsNode t starts n → arc_stays t keeps starts n ≡ true → P (Ground n)) → ((f : ℕ) → f < fleets_in t → P (Slack f))
-    → All P (columns_of t keeps starts)
-all_columns t keeps starts P of_pairs of_arcs of_fleets =
+    → ((l c : ℕ) → l < legs_in t → c < choices_in t l → keeps (leg_on l c) ≡ true → P (Flight (leg_on l c))) → ((n : Node) → IsNode t starts n → arc_stays t keeps starts n ≡ true → P (Ground n)) → ((f : ℕ) → f < fleets_in t → P (Slack f))
+    → ((p : Park) → IsPark t p → P (Room p)) → All P (columns_of t keeps starts)
+all_columns t keeps starts P of_pairs of_arcs of_fleets of_parks =
     All-append P _ _
     (All-append P _ _
-    (All-map P Flight (all_kept t keeps) (all_concat (λ p. P (Flight p)) (pairs_of t keeps) (legs_in t) (λ l below. all_concat (λ p. P (Flight p)) (pair_of keeps l) (fleets_in t) (λ f known.
-    all_one (λ p. P (Flight p)) (keeps (leg_on l f)) (leg_on l f) (of_pairs l f below known)))))
+    (All-append P _ _
+    (All-map P Flight (all_kept t keeps) (all_concat (λ p. P (Flight p)) (pairs_of t keeps) (legs_in t) (λ l below. all_concat (λ p. P (Flight p)) (pair_of keeps l) (choices_in t l) (λ c known.
+    all_one (λ p. P (Flight p)) (keeps (leg_on l c)) (leg_on l c) (of_pairs l c below known)))))
     (All-map P Ground (all_arcs t keeps starts) (all_filter (λ n. P (Ground n)) (arc_stays t keeps starts) (all_nodes t starts) (all_of_nodes t starts (λ n. arc_stays t keeps starts n ≡ true → P (Ground n)) of_arcs))))
-    (all_list P Slack (fleets_in t) of_fleets)
+    (all_list P Slack (fleets_in t) of_fleets))
+    (All-map P Room (all_parks t) (all_of_parks t (λ p. P (Room p)) of_parks))
 
 pub columns_are_known : (t : Tables) (keeps : Domains) (starts : Starts) → All (IsColumn t starts) (columns_of t keeps starts)
-columns_are_known t keeps starts = all_columns t keeps starts (IsColumn t starts) (λ l f below known kept. record { leg = below; choice = known }) (λ n fits stays. fits) (λ f known. known)
+columns_are_known t keeps starts = all_columns t keeps starts (IsColumn t starts) (λ l c below known kept. record { leg = below; choice = known }) (λ n fits stays. fits) (λ f known. known) (λ p known. known)
 
 pub lines_are_known : (t : Tables) (starts : Starts) → All (IsLine t starts) (lines_of t starts)
 lines_are_known t starts =
     All-append (IsLine t starts) _ _
+    (All-append (IsLine t starts) _ _
     (All-append (IsLine t starts) _ _ (all_list (IsLine t starts) Cover (legs_in t) (λ l below. below)) (All-map (IsLine t starts) Balance (all_nodes t starts) (all_of_nodes t starts (λ n. IsLine t starts (Balance n)) (λ n fits. fits))))
-    (all_list (IsLine t starts) Count (fleets_in t) (λ f known. known))
+    (all_list (IsLine t starts) Count (fleets_in t) (λ f known. known)))
+    (All-map (IsLine t starts) Parking (all_parks t) (all_of_parks t (λ p. IsLine t starts (Parking p)) (λ p known. known)))
 
 -- how many columns there are, at most
 few_concat : {X : Type 0} (g : ℕ → List X) (n most : ℕ) → ((k : ℕ) → k < n → length (g k) ≤ most) → length (concat_below g n) ≤ n * most
@@ -122,12 +152,28 @@ few_one : {X : Type 0} (b : Bool) (x : X) → length (if b then x ∷ [] else []
 few_one true x = omega arith
 few_one false x = omega arith
 
-few_nodes : (t : Tables) (starts : Starts) → ((f s : ℕ) → f < fleets_in t → s < stations_in t → length (starts f s) ≤ MINUTES_PER_PERIOD) → length (all_nodes t starts) ≤ 5760000
+-- no more starts anywhere than there are minutes
+pub record AreFew (t : Tables) (starts : Starts) : Type 0 where
+  pub each : (f s : ℕ) → f < fleets_in t → s < stations_in t → length (starts f s) ≤ period_of t
+
+few_nodes : (t : Tables) (starts : Starts) → AreFew t starts → length (all_nodes t starts) ≤ 40320000
 few_nodes t starts few =
-    let nodes = few_concat (nodes_of t starts) (fleets_in t) (200 * MINUTES_PER_PERIOD) (λ f known.
-    let row = few_concat (nodes_at starts f) (stations_in t) MINUTES_PER_PERIOD (λ s within. omega (arith, length-list_below (node_at f s) (length (starts f s)), few f s known within)) in
+    let nodes = few_concat (nodes_of t starts) (fleets_in t) 2016000 (λ f known.
+    let row = few_concat (nodes_at starts f) (stations_in t) 10080 (λ s within. omega (arith, length-list_below (node_at f s) (length (starts f s)), few.each f s known within, at_most_week t)) in
     omega (arith, row, t.in_range.stations_fit.few)) in
     omega (arith, nodes, t.in_range.fleets_fit.few)
+
+all_or_none : (b : Bool) (n most : ℕ) → n ≤ most → (if b then n else 0) ≤ most
+all_or_none true n most few = few
+all_or_none false n most few = omega arith
+
+pub few_parking_days : (t : Tables) (s : ℕ) → parking_days t s ≤ 7
+few_parking_days t s = all_or_none (is_some (parking_of t s)) (days_in t) 7 (few_days t)
+
+pub few_parks : (t : Tables) → length (all_parks t) ≤ 1400
+few_parks t =
+    let days = few_concat (parks_at t) (stations_in t) 7 (λ s within. omega (arith, length-list_below (park_at s) (parking_days t s), few_parking_days t s)) in
+    omega (arith, days, t.in_range.stations_fit.few)
 
 pub few_filter : {X : Type 0} (p : X → Bool) (xs : List X) → length (filter p xs) ≤ length xs
 few_filter p [] = omega arith
@@ -137,43 +183,55 @@ few_filter {X} p (x ∷ xs) = picked (p x) (filter p xs) (few_filter p xs)
     picked true ys few = omega (arith, few)
     picked false ys few = omega (arith, few)
 
--- ten million at most, also with all arcs
-pub few_parts : (t : Tables) (keeps : Domains) (starts : Starts) → ((f s : ℕ) → f < fleets_in t → s < stations_in t → length (starts f s) ≤ MINUTES_PER_PERIOD)
-    → length (all_kept t keeps) + length (all_nodes t starts) + fleets_in t ≤ 10 ^ 7
+-- a hundred million at most, also with all arcs
+pub few_parts : (t : Tables) (keeps : Domains) (starts : Starts) → AreFew t starts → length (all_kept t keeps) + length (all_nodes t starts) + fleets_in t + length (all_parks t) ≤ 10 ^ 8
 few_parts t keeps starts few =
-    let pairs = few_concat (pairs_of t keeps) (legs_in t) 20 (λ l below.
-    let row = few_concat (pair_of keeps l) (fleets_in t) 1 (λ f known. few_one (keeps (leg_on l f)) (leg_on l f)) in omega (arith, row, t.in_range.fleets_fit.few)) in
+    let pairs = few_concat (pairs_of t keeps) (legs_in t) MAX_CHOICES (λ l below.
+    let row = few_concat (pair_of keeps l) (choices_in t l) 1 (λ c known. few_one (keeps (leg_on l c)) (leg_on l c)) in omega (arith, row, few_choices t l)) in
     omega (
       arith,
       pairs,
       few_nodes t starts few,
+      few_parks t,
       t.in_range.legs_fit.few,
       t.in_range.fleets_fit.few,
     )
 
-pub few_columns : (t : Tables) (keeps : Domains) (starts : Starts) → ((f s : ℕ) → f < fleets_in t → s < stations_in t → length (starts f s) ≤ MINUTES_PER_PERIOD) → length (columns_of t keeps starts) ≤ 10 ^ 7
+pub few_columns : (t : Tables) (keeps : Domains) (starts : Starts) → AreFew t starts → length (columns_of t keeps starts) ≤ 10 ^ 8
 few_columns t keeps starts few =
     omega (
       arith,
       few_parts t keeps starts few,
       few_filter (arc_stays t keeps starts) (all_nodes t starts),
+      length-append (map Flight (all_kept t keeps) ++ map Ground (all_arcs t keeps starts) ++ list_below Slack (fleets_in t)) (map Room (all_parks t)),
       length-append (map Flight (all_kept t keeps) ++ map Ground (all_arcs t keeps starts)) (list_below Slack (fleets_in t)),
       length-append (map Flight (all_kept t keeps)) (map Ground (all_arcs t keeps starts)),
       length-map (all_kept t keeps) Flight,
       length-map (all_arcs t keeps starts) Ground,
+      length-map (all_parks t) Room,
       length-list_below Slack (fleets_in t),
     )
 
-pub few_lines : (t : Tables) (starts : Starts) → ((f s : ℕ) → f < fleets_in t → s < stations_in t → length (starts f s) ≤ MINUTES_PER_PERIOD) → length (lines_of t starts) ≤ 10 ^ 7
-few_lines t starts few =
+pub lines_long : (t : Tables) (starts : Starts) → length (lines_of t starts) ≡ legs_in t + length (all_nodes t starts) + fleets_in t + length (all_parks t)
+lines_long t starts =
     omega (
       arith,
-      few_nodes t starts few,
-      t.in_range.legs_fit.few,
-      t.in_range.fleets_fit.few,
+      length-append (list_below Cover (legs_in t) ++ map Balance (all_nodes t starts) ++ list_below Count (fleets_in t)) (map Parking (all_parks t)),
       length-append (list_below Cover (legs_in t) ++ map Balance (all_nodes t starts)) (list_below Count (fleets_in t)),
       length-append (list_below Cover (legs_in t)) (map Balance (all_nodes t starts)),
       length-map (all_nodes t starts) Balance,
+      length-map (all_parks t) Parking,
       length-list_below Cover (legs_in t),
       length-list_below Count (fleets_in t),
+    )
+
+pub few_lines : (t : Tables) (starts : Starts) → AreFew t starts → length (lines_of t starts) ≤ 10 ^ 8
+few_lines t starts few =
+    omega (
+      arith,
+      lines_long t starts,
+      few_nodes t starts few,
+      few_parks t,
+      t.in_range.legs_fit.few,
+      t.in_range.fleets_fit.few,
     )

@@ -10,15 +10,16 @@ use Rattle.fleet_model.specs.Schedule.{IsPair, fleets_in, legs_in, stations_in}
 use Rattle.row_store.specs.Problem.{MeetsRows, point_cost}
 use Rattle.row_store.specs.declared.problem.Rows.{Rows}
 use Rattle.lp_rows.specs.declared.kinds.Column.{Column}
-use Rattle.lp_rows.specs.declared.kinds.Column.TheVariants.{Flight, Ground, Slack}
-use Rattle.lp_rows.specs.Entries.{same_node}
-use Rattle.lp_rows.specs.Layout.{Starts, arc_stays, columns_of, node_at}
+use Rattle.lp_rows.specs.declared.kinds.Column.TheVariants.{Flight, Ground, Room, Slack}
+use Rattle.lp_rows.specs.Entries.{same_node, same_park}
+use Rattle.lp_rows.specs.Layout.{Starts, arc_stays, columns_of, node_at, parking_days}
 use Rattle.lp_rows.specs.Program.{AreRows}
 
 abbrev pub same_column : Column → Column → Bool
 same_column (Flight p) (Flight q) = (p.leg == q.leg) && (p.choice == q.choice)
 same_column (Ground a) (Ground b) = same_node a b
 same_column (Slack f) (Slack g) = f == g
+same_column (Room p) (Room q) = same_park p q
 same_column a b = false
 
 -- the column at a place
@@ -64,10 +65,18 @@ arcs_at t keeps starts f s = count_below (λ k. arc_stays t keeps starts (node_a
 abbrev pub arcs_in : Tables → Domains → Starts → ℕ
 arcs_in t keeps starts = sum_below (λ f. sum_below (arcs_at t keeps starts f) (stations_in t)) (fleets_in t)
 
+-- how many days of stations have a limit
+abbrev pub park_count : Tables → ℕ
+park_count t = sum_below (parking_days t) (stations_in t)
+
+-- how many lines have a price: the balance lines, the count lines and the parking lines
+abbrev pub priced_count : Tables → Starts → ℕ
+priced_count t starts = node_count t starts + (fleets_in t + park_count t)
+
 -- as many columns and lines as there are of each kind
 pub record AreCounted (t : Tables) (keeps : Domains) (starts : Starts) (rows : Rows) : Type 0 where
-  pub columns : rows.columns ≡ pairs_kept t keeps + arcs_in t keeps starts + fleets_in t
-  pub lines : length rows.lines ≡ legs_in t + node_count t starts + fleets_in t
+  pub columns : rows.columns ≡ pairs_kept t keeps + arcs_in t keeps starts + fleets_in t + park_count t
+  pub lines : length rows.lines ≡ legs_in t + node_count t starts + fleets_in t + park_count t
 
 abbrev pub RowsAreCounted : Type 0
 RowsAreCounted = (t : Tables) (keeps : Domains) (starts : Starts) (rows : Rows) → AreRows t keeps starts rows → AreCounted t keeps starts rows

@@ -1,15 +1,14 @@
 //! The number of a line in a column, by their kinds.
 ghost use Rattle.std.specs.Prelude.{◌≡◌, ◌<◌, ◌≤◌, length};
-ghost use Rattle.fleet_model.specs.Schedule.{IsPair, fleets_in};
-ghost use Rattle.fleet_model.specs.declared.limits.TheConstants.{MINUTES_PER_PERIOD};
-ghost use Rattle.node_aggregate.specs.Nodes.{node_end};
-ghost use Rattle.lp_rows.specs.Entries.{IsColumn, IsLine, IsNode, balance_entry, column_cost, comes_to_node, count_entry, cover_entry, entry_of, gets_arc, is_in, leaves_node, one_if, passes_day_start, place_after, right_side_of, same_node};
+ghost use Rattle.fleet_model.specs.Schedule.{IsPair, day_end, fleets_in};
+ghost use Rattle.lp_rows.specs.Entries.{IsColumn, IsLine, IsNode, balance_entry, column_cost, comes_to_node, count_entry, cover_entry, entry_of, gets_arc, is_in, leaves_node, one_if, parking_entry, passes_day_end, passes_start, place_after, right_side_of, same_node, same_park};
 ghost use Rattle.lp_rows.specs.Layout.{AreByStation, starts_in};
 
-use crate::kinds::{Column, Line, Node};
+use crate::kinds::{Column, Line, Node, Park};
 use crate::network::Network;
-use fleet_model::limits::MINUTES_PER_PERIOD;
-use fleet_model::{Pair, Tables, laps, ready};
+use fleet_model::limits::MINUTES_PER_DAY;
+use fleet_model::{Pair, Tables};
+use node_aggregate::node_end;
 
 /// The number of a line in a column: from -1 to 2. Takes no memory.
 pub fn entry(tables: &Tables, network: &Network, line: Line, column: Column) -> i128
@@ -22,6 +21,7 @@ pub fn entry(tables: &Tables, network: &Network, line: Line, column: Column) -> 
         Line::Cover { leg } => cover_entry(leg, column),
         Line::Balance(node) => balance_entry(tables, network, node, column),
         Line::Count { fleet } => count_entry(tables, network, fleet, column),
+        Line::Parking(park) => parking_entry(tables, network, park, column),
     }
 }
 
@@ -34,6 +34,7 @@ pub fn right_side(tables: &Tables, network: &Network, line: Line) -> i128
         Line::Cover { .. } => 1,
         Line::Balance(_) => 0,
         Line::Count { fleet } => i128::from(tables.fleet(fleet).aircraft),
+        Line::Parking(park) => i128::from(tables.parking(park.station).unwrap_or(0)),
     }
 }
 
@@ -45,6 +46,7 @@ pub fn column_cost(tables: &Tables, column: Column) -> i128
         Column::Flight(pair) => tables.cost(pair).unwrap_or(0),
         Column::Ground(_) => 0,
         Column::Slack { .. } => 0,
+        Column::Room(_) => 0,
     }
 }
 
@@ -55,6 +57,7 @@ fn cover_entry(leg: u32, column: Column) -> i128
         Column::Flight(pair) => one_if(leg == pair.leg),
         Column::Ground(_) => 0,
         Column::Slack { .. } => 0,
+        Column::Room(_) => 0,
     }
 }
 
@@ -73,6 +76,7 @@ fn balance_entry(tables: &Tables, network: &Network, node: Node, column: Column)
             one_if(gets_arc(tables, network, node, arc)) - one_if(same_node(node, arc))
         }
         Column::Slack { .. } => 0,
+        Column::Room(_) => 0,
     }
 }
 
@@ -84,14 +88,30 @@ fn count_entry(tables: &Tables, network: &Network, fleet: u32, column: Column) -
 {
     match column {
         Column::Flight(pair) => {
-            if fleet == pair.choice {
-                i128::from(laps(tables, pair.leg, pair.choice))
+            if fleet == tables.fleet_by(pair) {
+                i128::from(tables.laps(pair))
             } else {
                 0
             }
         }
-        Column::Ground(arc) => one_if(passes_day_start(tables, network, fleet, arc)),
+        Column::Ground(arc) => one_if(passes_start(tables, network, fleet, arc)),
         Column::Slack { fleet: other } => one_if(fleet == other),
+        Column::Room(_) => 0,
+    }
+}
+
+fn parking_entry(tables: &Tables, network: &Network, park: Park, column: Column) -> i128
+    requires shape { AreByStation tables.now network.now }
+    requires some { 0 < park.day }
+    requires week { park.day ≤ 7 }
+    requires column { IsColumn tables.now (starts_in network.now) column }
+    ensures { result ≡ parking_entry tables.now (starts_in network.now) park column }
+{
+    match column {
+        Column::Flight(_) => 0,
+        Column::Ground(arc) => one_if(passes_day_end(tables, network, park, arc)),
+        Column::Slack { .. } => 0,
+        Column::Room(other) => one_if(same_park(park, other)),
     }
 }
 
@@ -108,12 +128,12 @@ fn leaves_node(tables: &Tables, network: &Network, node: Node, pair: Pair) -> bo
     requires pair { IsPair tables.now pair }
     ensures { result ≡ leaves_node tables.now (starts_in network.now) node pair }
 {
-    if node.fleet != pair.choice {
+    if node.fleet != tables.fleet_by(pair) {
         return false;
     }
     let flown = tables.leg(pair.leg);
     let starts = network.starts(tables, node.fleet, node.station);
-    flown.from == node.station && is_in(starts, node.place, flown.dep)
+    flown.from == node.station && is_in(tables, starts, node.place, tables.departure(pair))
 }
 
 // The aircraft of a pair is ready in a node.
@@ -123,12 +143,12 @@ fn comes_to_node(tables: &Tables, network: &Network, node: Node, pair: Pair) -> 
     requires pair { IsPair tables.now pair }
     ensures { result ≡ comes_to_node tables.now (starts_in network.now) node pair }
 {
-    if node.fleet != pair.choice {
+    if node.fleet != tables.fleet_by(pair) {
         return false;
     }
     let flown = tables.leg(pair.leg);
     let starts = network.starts(tables, node.fleet, node.station);
-    flown.to == node.station && is_in(starts, node.place, ready(tables, pair.leg, pair.choice))
+    flown.to == node.station && is_in(tables, starts, node.place, tables.ready(pair))
 }
 
 // The arc from another node leads to this one.
@@ -151,12 +171,18 @@ fn same_node(node: Node, other: Node) -> bool
     node.fleet == other.fleet && node.station == other.station && node.place == other.place
 }
 
-// The arc from a node of the fleet passes the day start.
-fn passes_day_start(tables: &Tables, network: &Network, fleet: u32, arc: Node) -> bool
+fn same_park(park: Park, other: Park) -> bool
+    ensures { result ≡ same_park park other }
+{
+    park.station == other.station && park.day == other.day
+}
+
+// The arc from a node of the fleet passes the start of the period.
+fn passes_start(tables: &Tables, network: &Network, fleet: u32, arc: Node) -> bool
     requires shape { AreByStation tables.now network.now }
     requires fleet { fleet < fleets_in tables.now }
     requires arc { IsNode tables.now (starts_in network.now) arc }
-    ensures { result ≡ passes_day_start (starts_in network.now) fleet arc }
+    ensures { result ≡ passes_start (starts_in network.now) fleet arc }
 {
     if fleet != arc.fleet {
         return false;
@@ -165,29 +191,41 @@ fn passes_day_start(tables: &Tables, network: &Network, fleet: u32, arc: Node) -
     starts.len() == arc.place as usize + 1
 }
 
-// A minute lies in a node.
-fn is_in(starts: &[u16], place: u32, minute: u16) -> bool
-    requires { place < length starts.now }
-    ensures { result ≡ is_in starts.now place minute }
+// The arc from a node passes the end of a day at a station.
+fn passes_day_end(tables: &Tables, network: &Network, park: Park, arc: Node) -> bool
+    requires shape { AreByStation tables.now network.now }
+    requires some { 0 < park.day }
+    requires week { park.day ≤ 7 }
+    requires arc { IsNode tables.now (starts_in network.now) arc }
+    ensures { result ≡ passes_day_end tables.now (starts_in network.now) park arc }
 {
-    starts[place as usize] <= minute && minute <= node_end(starts, place)
+    if park.station != arc.station {
+        return false;
+    }
+    let starts = network.starts(tables, arc.fleet, arc.station);
+    u32::from(node_end(tables, starts, arc.place as usize)) == day_end(park.day)
 }
 
-// The last minute of a node.
-fn node_end(starts: &[u16], place: u32) -> u16
-    ensures { result ≡ node_end starts.now place }
+// The last minute of a day.
+fn day_end(day: u32) -> u32
+    requires some { 0 < day }
+    requires week { day ≤ 7 }
+    ensures { result ≡ day_end day }
 {
-    let next = place as usize + 1;
-    if next < starts.len() {
-        starts[next].saturating_sub(1)
-    } else {
-        MINUTES_PER_PERIOD - 1
-    }
+    day * u32::from(MINUTES_PER_DAY) - 1
+}
+
+// A minute lies in a node.
+fn is_in(tables: &Tables, starts: &[u16], place: u32, minute: u16) -> bool
+    requires { place < length starts.now }
+    ensures { result ≡ is_in tables.now starts.now place minute }
+{
+    starts[place as usize] <= minute && minute <= node_end(tables, starts, place as usize)
 }
 
 // The place of the node after one.
 fn place_after(starts: &[u16], place: u32) -> u32
-    requires { length starts.now ≤ MINUTES_PER_PERIOD }
+    requires { length starts.now ≤ 10080 }
     ensures { result ≡ place_after (length starts.now) place }
 {
     if (place as usize) + 1 < starts.len() {

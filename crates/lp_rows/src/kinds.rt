@@ -9,15 +9,24 @@ pub struct Node {
     pub place: u32,
 }
 
+/// The end of a day at a station that has a limit: aircraft of all fleets on the ground are counted there. Days count from 1.
+#[derive(Clone, Copy, Debug, PartialEq, Eq)]
+pub struct Park {
+    pub station: u32,
+    pub day: u32,
+}
+
 /// What a column stands for.
 #[derive(Clone, Copy, Debug, PartialEq, Eq)]
 pub enum Column {
-    /// How much of a leg a fleet flies.
+    /// How much of a leg is flown by one of its choices.
     Flight(Pair),
     /// The aircraft on the ground from the end of a node to the next one.
     Ground(Node),
     /// The aircraft of a fleet that are not used.
     Slack { fleet: u32 },
+    /// How many more aircraft may stand at a station at the end of a day.
+    Room(Park),
 }
 
 /// What a line asks for.
@@ -27,6 +36,8 @@ pub enum Line {
     Cover { leg: u32 },
     /// As many aircraft come to a node as leave it.
     Balance(Node),
-    /// A fleet's aircraft at the day start are those that it has.
+    /// A fleet's aircraft at the start of the period are those that it has.
     Count { fleet: u32 },
+    /// No more aircraft than the limit stand at a station at the end of a day.
+    Parking(Park),
 }

@@ -17,8 +17,8 @@ pub fn points_cost_as_plans()
     ensures { PointsCostAsPlans }
 {}
 
-/// There are as many columns as kept pairs, ground arcs that stay and fleets, and as many lines as legs, nodes and
-/// fleets.
+/// There are as many columns as kept pairs, ground arcs that stay, fleets and days of stations with a limit, and as many lines
+/// as legs, nodes, fleets and such days.
 pub fn rows_are_counted()
     ensures { RowsAreCounted }
 {}

@@ -1,23 +1,23 @@
 //! The order of columns and of lines.
-ghost use Rattle.std.specs.Prelude.{◌≡◌, ◌<◌, ◌++◌, map, IfOk, OnOk};
-ghost use Rattle.fleet_model.specs.declared.limits.TheConstants.{MAX_FLEETS, MAX_LEGS};
+ghost use Rattle.std.specs.Prelude.{◌≡◌, ◌<◌, ◌≤◌, ◌++◌, map, IfOk, OnOk};
+ghost use Rattle.fleet_model.specs.declared.limits.TheConstants.{MAX_CHOICES, MAX_LEGS};
 ghost use Rattle.fleet_model.specs.Kept.{kept_by};
 ghost use Rattle.fleet_model.specs.Schedule.{fleets_in, legs_in, stations_in};
 ghost use Rattle.sums.specs.Places.{list_below};
-ghost use Rattle.lp_rows.specs.Layout.{AreByStation, all_kept, all_nodes, nodes_at, nodes_of, pair_of, pairs_of, starts_in};
+ghost use Rattle.lp_rows.specs.Layout.{AreByStation, all_kept, all_nodes, all_parks, nodes_at, nodes_of, pair_of, pairs_of, parking_days, parks_at, starts_in};
 ghost use Rattle.lp_rows.specs.Outline.{arc_in, columns_in, lines_in};
-ghost use Rattle.lp_rows.specs.declared.kinds.Column.TheVariants.{Flight, Slack};
-ghost use Rattle.lp_rows.specs.declared.kinds.Line.TheVariants.{Balance, Count, Cover};
+ghost use Rattle.lp_rows.specs.declared.kinds.Column.TheVariants.{Flight, Room, Slack};
+ghost use Rattle.lp_rows.specs.declared.kinds.Line.TheVariants.{Balance, Count, Cover, Parking};
 
-use crate::kinds::{Column, Line, Node};
+use crate::kinds::{Column, Line, Node, Park};
 use crate::network::Network;
 use crate::outline::Outline;
 use entries::NoMemory;
 use fleet_model::{Kept, Pair, Tables};
 use std::alloc::Global;
 
-/// The columns: the kept pairs by leg, then fleet; the ground arcs that stay by fleet, station and node; a slack for
-/// each fleet.
+/// The columns: the kept pairs by leg, then choice; the ground arcs that stay by fleet, station and node; a slack for
+/// each fleet; a room for each day of a station with a limit.
 pub fn columns(alloc: Global, outline: &Outline) -> Result<Vec<Column>, NoMemory>
     ensures { IfOk result (λ columns. columns.items ≡ columns_in outline.now) }
 {
@@ -25,11 +25,12 @@ pub fn columns(alloc: Global, outline: &Outline) -> Result<Vec<Column>, NoMemory
     push_flights(&mut columns, outline.pairs.as_slice())?;
     push_grounds(&mut columns, outline)?;
     push_slacks(&mut columns, outline.fleets)?;
+    push_rooms(&mut columns, outline.parks.as_slice())?;
     Ok(columns)
 }
 
 /// The lines: a cover line for each leg; a balance line for each node, by fleet, station and node; a count line for
-/// each fleet.
+/// each fleet; a parking line for each day of a station with a limit.
 pub fn lines(alloc: Global, outline: &Outline) -> Result<Vec<Line>, NoMemory>
     ensures { IfOk result (λ lines. lines.items ≡ lines_in outline.now) }
 {
@@ -37,6 +38,7 @@ pub fn lines(alloc: Global, outline: &Outline) -> Result<Vec<Line>, NoMemory>
     push_covers(&mut lines, outline.legs)?;
     push_balances(&mut lines, outline.nodes.as_slice())?;
     push_counts(&mut lines, outline.fleets)?;
+    push_parkings(&mut lines, outline.parks.as_slice())?;
     Ok(lines)
 }
 
@@ -63,6 +65,15 @@ fn push_slacks(columns: &mut Vec<Column>, fleets: u32) -> Result<(), NoMemory>
 {
     for fleet in 0..fleets {
         columns.push(Column::Slack { fleet })?;
+    }
+    Ok(())
+}
+
+fn push_rooms(columns: &mut Vec<Column>, parks: &[Park]) -> Result<(), NoMemory>
+    ensures { OnOk result (columns.new.items ≡ columns.old.items ++ map Room parks.now) }
+{
+    for park in parks {
+        columns.push(Column::Room(*park))?;
     }
     Ok(())
 }
@@ -94,7 +105,16 @@ fn push_counts(lines: &mut Vec<Line>, fleets: u32) -> Result<(), NoMemory>
     Ok(())
 }
 
-/// The kept pairs, by leg, then fleet: the columns begin with them.
+fn push_parkings(lines: &mut Vec<Line>, parks: &[Park]) -> Result<(), NoMemory>
+    ensures { OnOk result (lines.new.items ≡ lines.old.items ++ map Parking parks.now) }
+{
+    for park in parks {
+        lines.push(Line::Parking(*park))?;
+    }
+    Ok(())
+}
+
+/// The kept pairs, by leg, then choice: the columns begin with them.
 pub fn kept_pairs(alloc: Global, tables: &Tables, kept: &Kept) -> Result<Vec<Pair>, NoMemory>
     ensures { IfOk result (λ pairs. pairs.items ≡ all_kept tables.now (kept_by kept.now)) }
 {
@@ -110,8 +130,8 @@ fn push_pairs(pairs: &mut Vec<Pair>, tables: &Tables, kept: &Kept, leg: u32) -> 
     requires { leg < legs_in tables.now }
     ensures { OnOk result (pairs.new.items ≡ pairs.old.items ++ pairs_of tables.now (kept_by kept.now) leg) }
 {
-    for fleet in 0..tables.fleet_count() {
-        push_pair(pairs, kept, Pair { leg, choice: fleet })?;
+    for choice in 0..tables.choice_count(leg) {
+        push_pair(pairs, kept, Pair { leg, choice })?;
     }
     Ok(())
 }
@@ -119,7 +139,7 @@ fn push_pairs(pairs: &mut Vec<Pair>, tables: &Tables, kept: &Kept, leg: u32) -> 
 // Puts a pair behind those so far, where it is kept.
 fn push_pair(pairs: &mut Vec<Pair>, kept: &Kept, pair: Pair) -> Result<(), NoMemory>
     requires leg { pair.leg < MAX_LEGS }
-    requires fleet { pair.choice < MAX_FLEETS }
+    requires choice { pair.choice < MAX_CHOICES }
     ensures { OnOk result (pairs.new.items ≡ pairs.old.items ++ pair_of (kept_by kept.now) pair.leg pair.choice) }
 {
     if !kept.kept(pair.leg, pair.choice) {
@@ -183,4 +203,42 @@ fn push_station(
         })?;
     }
     Ok(())
+}
+
+/// The days of stations that have a limit, by station, then day.
+pub fn parks(alloc: Global, tables: &Tables) -> Result<Vec<Park>, NoMemory>
+    ensures { IfOk result (λ parks. parks.items ≡ all_parks tables.now) }
+{
+    let mut parks = Vec::new(alloc);
+    for station in 0..tables.station_count() {
+        push_parks(&mut parks, tables, station)?;
+    }
+    Ok(parks)
+}
+
+// Puts the days of a station that have a limit behind those so far.
+fn push_parks(parks: &mut Vec<Park>, tables: &Tables, station: u32) -> Result<(), NoMemory>
+    requires { station < stations_in tables.now }
+    ensures { OnOk result (parks.new.items ≡ parks.old.items ++ parks_at tables.now station) }
+{
+    for number in 0..parking_days(tables, station) {
+        parks.push(Park {
+            station,
+            day: number + 1,
+        })?;
+    }
+    Ok(())
+}
+
+// How many days of a station have a limit.
+fn parking_days(tables: &Tables, station: u32) -> u32
+    requires { station < stations_in tables.now }
+    ensures value { result ≡ parking_days tables.now station }
+    ensures week { result ≤ 7 }
+{
+    if tables.parking(station).is_some() {
+        tables.day_count()
+    } else {
+        0
+    }
 }

@@ -1,4 +1,5 @@
-//! The linear program of a subproblem over its time-line network: cover, balance and count lines.
+//! The linear program of a subproblem over its time-line network: cover, balance, count and
+//! parking lines.
 #![tactic(auto)]
 
 pub mod arcs;
@@ -13,8 +14,8 @@ pub mod positions;
 pub mod program;
 
 pub use arcs::{arc_moments, staying_arcs};
-pub use kinds::{Column, Line, Node};
-pub use layout::{columns, kept_pairs, lines, network_nodes};
+pub use kinds::{Column, Line, Node, Park};
+pub use layout::{columns, kept_pairs, lines, network_nodes, parks};
 pub use network::Network;
 pub use outline::Outline;
 pub use program::{Program, rows};

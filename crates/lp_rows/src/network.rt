@@ -1,5 +1,4 @@
 ghost use Rattle.std.specs.Prelude.{◌≡◌, ◌<◌, ◌≤◌, length, IfOk};
-ghost use Rattle.fleet_model.specs.declared.limits.TheConstants.{MINUTES_PER_PERIOD};
 ghost use Rattle.fleet_model.specs.Kept.{kept_by};
 ghost use Rattle.fleet_model.specs.Schedule.{fleets_in, stations_in};
 ghost use Rattle.node_aggregate.specs.Nodes.{AreNodesAt};
@@ -48,7 +47,7 @@ impl Network {
         requires fleet { fleet < fleets_in tables.now }
         requires station { station < stations_in tables.now }
         ensures value { result.now ≡ starts_in self.now fleet station }
-        ensures few { length result.now ≤ MINUTES_PER_PERIOD }
+        ensures few { length result.now ≤ 10080 }
     {
         self.starts.as_slice()[fleet as usize].as_slice()[station as usize].as_slice()
     }

@@ -1,12 +1,12 @@
 //! Where columns and lines stand.
 ghost use Rattle.std.specs.Prelude.{◌≡◌, ◌<◌, length, IfOk, IfSome};
 ghost use Rattle.fleet_model.specs.Kept.{kept_by};
-ghost use Rattle.lp_rows.specs.declared.kinds.Column.TheVariants.{Flight, Slack};
-ghost use Rattle.lp_rows.specs.declared.kinds.Line.TheVariants.{Balance, Count, Cover};
-ghost use Rattle.lp_rows.specs.Outline.{IsOutline, StandsAt, arc_in, balance_line, column_count, columns_in, count_line, cover_line, first_priced_line, flight_column, ground_column, line_count, lines_in, node_in, pair_in, slack_column};
+ghost use Rattle.lp_rows.specs.declared.kinds.Column.TheVariants.{Flight, Room, Slack};
+ghost use Rattle.lp_rows.specs.declared.kinds.Line.TheVariants.{Balance, Count, Cover, Parking};
+ghost use Rattle.lp_rows.specs.Outline.{IsOutline, StandsAt, arc_in, balance_line, column_count, columns_in, count_line, cover_line, first_priced_line, flight_column, ground_column, line_count, lines_in, node_in, pair_in, park_in, parking_line, room_column, slack_column};
 
 use crate::arcs::{arc_moments, staying_arcs};
-use crate::layout::{kept_pairs, network_nodes};
+use crate::layout::{kept_pairs, network_nodes, parks};
 use crate::network::Network;
 use crate::outline::Outline;
 use entries::{Entries, NoMemory};
@@ -23,12 +23,14 @@ impl Outline {
         let nodes = network_nodes(alloc, tables, &network)?;
         let moments = arc_moments(alloc, tables, kept, &network)?;
         let arcs = staying_arcs(alloc, &moments)?;
+        let parks = parks(alloc, tables)?;
         Ok(Outline {
             network,
             pairs: Entries::from_vec(pairs),
             nodes: Entries::from_vec(nodes),
             moments: Entries::from_vec(moments),
             arcs: Entries::from_vec(arcs),
+            parks: Entries::from_vec(parks),
             legs: tables.leg_count(),
             fleets: tables.fleet_count(),
         })
@@ -39,7 +41,7 @@ impl Outline {
         ensures value { result ≡ column_count self.now }
         ensures all { result ≡ length (columns_in self.now) }
     {
-        self.pairs.len() as u32 + self.arcs.len() as u32 + self.fleets
+        self.pairs.len() as u32 + self.arcs.len() as u32 + self.fleets + self.parks.len() as u32
     }
 
     /// How many lines there are.
@@ -47,7 +49,7 @@ impl Outline {
         ensures value { result ≡ line_count self.now }
         ensures all { result ≡ length (lines_in self.now) }
     {
-        self.legs + self.nodes.len() as u32 + self.fleets
+        self.legs + self.nodes.len() as u32 + self.fleets + self.parks.len() as u32
     }
 
     /// The column of the kept pair of this number.
@@ -80,6 +82,15 @@ impl Outline {
         self.pairs.len() as u32 + self.arcs.len() as u32 + fleet
     }
 
+    /// The column of the room at the end of the day of this number.
+    pub fn room_column(&self, number: u32) -> u32
+        requires { number < length self.now.parks }
+        ensures place { result ≡ room_column self.now number }
+        ensures stands { StandsAt (columns_in self.now) result (Room (park_in self.now number)) }
+    {
+        self.pairs.len() as u32 + self.arcs.len() as u32 + self.fleets + number
+    }
+
     /// The line that covers a leg.
     pub fn cover_line(&self, leg: u32) -> u32
         requires { leg < self.now.legs }
@@ -107,8 +118,17 @@ impl Outline {
         self.legs + self.nodes.len() as u32 + fleet
     }
 
-    /// The first of the lines whose dual values are prices: the balance lines and the count lines. A cover line has
-    /// none.
+    /// The parking line of the day of this number.
+    pub fn parking_line(&self, number: u32) -> u32
+        requires { number < length self.now.parks }
+        ensures place { result ≡ parking_line self.now number }
+        ensures stands { StandsAt (lines_in self.now) result (Parking (park_in self.now number)) }
+    {
+        self.legs + self.nodes.len() as u32 + self.fleets + number
+    }
+
+    /// The first of the lines whose dual values are prices: the balance lines, the count lines and the parking lines. A cover
+    /// line has none.
     pub fn first_priced_line(&self) -> u32
         ensures { result ≡ first_priced_line self.now }
     {

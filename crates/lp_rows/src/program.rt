@@ -21,7 +21,8 @@ use sparse_row::SparseRow;
 use std::alloc::Global;
 
 /// The linear program of a subproblem: what stands where, and the lines over its kept pairs, the ground arcs of its
-/// network and a slack for each fleet, with their right sides, and what the columns cost.
+/// network, a slack for each fleet and a room for each day of a station with a limit, with their right sides, and what the
+/// columns cost.
 #[derive(Debug, Drop)]
 pub struct Program {
     pub outline: Outline,
@@ -64,7 +65,7 @@ fn outlined_rows(alloc: Global, tables: &Tables, outline: &Outline) -> Result<Ro
 {
     let columns = columns(alloc, outline)?;
     let lines = lines(alloc, outline)?;
-    let fleets = column_fleets(alloc, &columns)?;
+    let fleets = column_fleets(alloc, tables, &columns)?;
     let numbers = all_numbers(alloc, tables, &outline.network, &columns, &fleets, &lines)?;
     let costs = all_costs(alloc, tables, &columns)?;
     Ok(Rows {
@@ -85,7 +86,7 @@ fn all_numbers(
 ) -> Result<Entries<row_store::Line>, NoMemory>
     requires shape { AreByStation tables.now network.now }
     requires columns { All (IsColumn tables.now (starts_in network.now)) columns.now }
-    requires fleets { fleets.now ≡ map column_fleet columns.now }
+    requires fleets { fleets.now ≡ map (column_fleet tables.now) columns.now }
     requires few { length columns.now + 1 < 2 ^ 32 }
     requires lines { All (IsLine tables.now (starts_in network.now)) lines.now }
     ensures { IfOk result (λ rows. rows ≡ map (numbers_of tables.now (starts_in network.now) columns.now) lines.now) }
@@ -110,7 +111,7 @@ fn line_numbers(
 ) -> Result<SparseRow, NoMemory>
     requires shape { AreByStation tables.now network.now }
     requires columns { All (IsColumn tables.now (starts_in network.now)) columns.now }
-    requires fleets { fleets.now ≡ map column_fleet columns.now }
+    requires fleets { fleets.now ≡ map (column_fleet tables.now) columns.now }
     requires few { length columns.now + 1 < 2 ^ 32 }
     requires line { IsLine tables.now (starts_in network.now) line }
     ensures { IfOk result (λ row. row.numbers ≡ numbers_of tables.now (starts_in network.now) columns.now line) }

@@ -1,12 +1,14 @@
 -- The rises by the numbers of nodes are those over all arcs that went, each once.
-use Rattle.std.proofs.Common.{◌≡◌, ◌≢◌, ℕ, ◌+◌, ◌*◌, ◌<◌, ◌≤◌, Bool, true, int_lt, List, length, get_or, Option, Some, None, unwrap_or, ℤ, pos, ◌<ℤ◌, refl, sym, ◌∙◌, ap, ap₂, subst, arith}
+use Rattle.std.proofs.Common.{◌≡◌, ◌≢◌, ℕ, ◌+◌, ◌*◌, ◌<◌, ◌≤◌, Bool, true, int_lt, List, length, get_or, Option, Some, None, unwrap_or, ℤ, pos, ◌<ℤ◌, refl, sym, ◌∙◌, ap, ap₂, subst, inl, inr, arith}
+use Rattle.std.proofs.lemmas.Bool.{cases_lt}
 use Rattle.std.proofs.lemmas.Int.{ints}
 use Rattle.std.proofs.Math.Nat.{mul-le-mul_right}
 use mathlib.Core.Bool.{false≢true}
 use Rattle.sums.proofs.Sums.{sum_below-bound}
 use Rattle.sums.proofs.Sizes.{above_tested}
-use Rattle.fleet_model.specs.Schedule.{fleets_in, stations_in}
-use Rattle.fleet_model.specs.declared.limits.TheConstants.{MAX_STATIONS, MINUTES_PER_PERIOD}
+use Rattle.fleet_model.specs.Schedule.{days_in, fleets_in, period_of, stations_in}
+use Rattle.fleet_model.proofs.PeriodMinutes.{days_are_period}
+use Rattle.fleet_model.specs.declared.limits.TheConstants.{MAX_STATIONS, MINUTES_PER_DAY}
 use Rattle.fleet_model.specs.declared.tables.Tables.{Tables}
 use Rattle.lp_rows.specs.Layout.{Starts, all_nodes, node_at, node_of_number}
 use Rattle.lp_rows.specs.Points.{node_count}
@@ -22,18 +24,21 @@ use Rattle.price_lift.specs.ArcRises.{rises_by}
 use Rattle.price_lift.proofs.OptionalEntries.{few_there, number_at, rank, stands}
 
 -- ---- numbers of nodes
-few_nodes : (t : Tables) (starts : Starts) → ((f s : ℕ) → f < fleets_in t → s < stations_in t → length (starts f s) ≤ MINUTES_PER_PERIOD) → node_count t starts ≤ MAX_RISES
-few_nodes t starts few = omega (
+few_nodes : (t : Tables) (starts : Starts) → days_in t ≡ 1 → ((f s : ℕ) → f < fleets_in t → s < stations_in t → length (starts f s) ≤ period_of t) → node_count t starts ≤ MAX_RISES
+few_nodes t starts one few = omega (
   arith,
-  sum_below-bound (nodes_in t starts) (MAX_STATIONS * MINUTES_PER_PERIOD) (fleets_in t) (record { each = in_fleet }),
-  mul-le-mul_right (MAX_STATIONS * MINUTES_PER_PERIOD) t.in_range.fleets_fit.few,
+  sum_below-bound (nodes_in t starts) (MAX_STATIONS * MINUTES_PER_DAY) (fleets_in t) (record { each = in_fleet }),
+  mul-le-mul_right (MAX_STATIONS * MINUTES_PER_DAY) t.in_range.fleets_fit.few,
 )
   where
-    in_fleet : (f : ℕ) → f < fleets_in t → nodes_in t starts f ≤ MAX_STATIONS * MINUTES_PER_PERIOD
+    one_day : period_of t ≡ MINUTES_PER_DAY
+    one_day = omega (arith, days_are_period t, one)
+
+    in_fleet : (f : ℕ) → f < fleets_in t → nodes_in t starts f ≤ MAX_STATIONS * MINUTES_PER_DAY
     in_fleet f known = omega (
       arith,
-      sum_below-bound (λ s. length (starts f s)) MINUTES_PER_PERIOD (stations_in t) (record { each = λ s within. few f s known within }),
-      mul-le-mul_right MINUTES_PER_PERIOD t.in_range.stations_fit.few,
+      sum_below-bound (λ s. length (starts f s)) MINUTES_PER_DAY (stations_in t) (record { each = λ s within. omega (arith, few f s known within, one_day) }),
+      mul-le-mul_right MINUTES_PER_DAY t.in_range.stations_fit.few,
     )
 
 -- ---- where a price rises over an arc
@@ -157,10 +162,19 @@ module _ (t : Tables) (starts : Starts) (moment : ArcMoments) (prices : Prices) 
       let numbers : one.number ≡ other.number = one.is ∙ ap₂ (λ f s. before t starts f s + one.place) fleets stations ∙ ap (λ p. before t starts other.fleet other.station + p) same ∙ sym other.is in
       omega (arith, order, one.ranks, other.ranks, ap (rank there entry) numbers)
 
-  pub are_arc_rises : ((f s : ℕ) → f < fleets_in t → s < stations_in t → length (starts f s) ≤ MINUTES_PER_PERIOD) → AreArcRises t prices starts moment all
+  -- an arc goes in a period of one day alone
+  few_rises : ((f s k m : ℕ) → moment f s k ≡ Some m → days_in t ≡ 1) → ((f s : ℕ) → f < fleets_in t → s < stations_in t → length (starts f s) ≤ period_of t) → length all ≤ MAX_RISES
+  few_rises one_day few = elim (cases_lt 0 (length all)) [
+    | inl some ↦
+        let first = is_at 0 some in
+        omega (arith, few_there there entry total, nodes_are t starts, few_nodes t starts (one_day first.fleet first.station first.place first.minute first.went) few)
+    | inr none ↦ omega (arith, none)
+  ]
+
+  pub are_arc_rises : ((f s k m : ℕ) → moment f s k ≡ Some m → days_in t ≡ 1) → ((f s : ℕ) → f < fleets_in t → s < stations_in t → length (starts f s) ≤ period_of t) → AreArcRises t prices starts moment all
   unfolding of_arc is_at
-  are_arc_rises few = record {
-    few = omega (arith, few_there there entry total, nodes_are t starts, few_nodes t starts few);
+  are_arc_rises one_day few = record {
+    few = few_rises one_day few;
     each = of_arc;
     all = has_rise;
     once = λ i j first below order fleet station. each_once i j first below order fleet station;

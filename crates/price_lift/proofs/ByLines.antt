@@ -8,16 +8,17 @@ use Rattle.frac_row.specs.declared.row.FracRow.{FracRow}
 use Rattle.fleet_model.specs.declared.tables.Tables.{Tables}
 use Rattle.fleet_model.specs.Kept.{Domains}
 use Rattle.fleet_model.specs.Schedule.{fleets_in, legs_in, stations_in}
-use Rattle.lp_rows.specs.declared.kinds.Line.TheVariants.{Balance, Count, Cover}
+use Rattle.lp_rows.specs.declared.kinds.Line.TheVariants.{Balance, Count, Cover, Parking}
 use Rattle.lp_rows.specs.declared.kinds.Node.{Node}
+use Rattle.lp_rows.specs.declared.kinds.Park.{Park}
 use Rattle.lp_rows.specs.Entries.{is_in}
-use Rattle.lp_rows.specs.Layout.{IsNetwork, Starts, all_nodes, node_at, line_at, node_of_number}
-use Rattle.lp_rows.specs.Points.{node_count}
+use Rattle.lp_rows.specs.Layout.{IsNetwork, Starts, all_nodes, node_at, line_at, node_of_number, park_of_number}
+use Rattle.lp_rows.specs.Points.{node_count, park_count}
 use Rattle.lp_rows.proofs.Counted.{nodes_are}
 use Rattle.price_lift.specs.Duals.{value_in}
 use Rattle.price_lift.specs.Prices.{AreByLines}
 use Rattle.price_lift.specs.Steps.{prices_by}
-use Rattle.lp_rows.proofs.LinePlaces.{balance_there, before, count_there, cover_there, node_number, node_there, none_behind}
+use Rattle.lp_rows.proofs.LinePlaces.{balance_there, before, count_there, cover_there, node_number, node_there, none_behind, parking_there}
 use Rattle.price_lift.proofs.Minutes.{Rise, at_place, nodes_rise}
 use Rattle.price_lift.proofs.Networks.{same_lines, same_starts}
 use Rattle.price_lift.proofs.StepPrices.{nowhere, through_node}
@@ -31,6 +32,12 @@ cover_count l f e = cc
 
 balance_count : (n : Node) (f : ℕ) → Balance n ≡ Count f → ⊥
 balance_count n f e = cc
+
+balance_parking : (n : Node) (p : Park) → Balance n ≡ Parking p → ⊥
+balance_parking n p e = cc
+
+count_parking : (f : ℕ) (p : Park) → Count f ≡ Parking p → ⊥
+count_parking f p e = cc
 
 same_node : (n m : Node) → Balance n ≡ Balance m → n ≡ m
 same_node n m e = cc
@@ -64,10 +71,16 @@ module _ (t : Tables) (starts : Starts) where
           ∙ ap (λ j. Balance (node_of_number t starts j)) number.is ∙ ap Balance (node_there t starts number.fleet number.station number.place (node_at 0 0 0) number.known number.within number.below)) in
           subst (IsOfNode line) (sym same) (record { fleet = number.known; station = number.within; place = number.below; is = is ∙ ap (λ j. legs_in t + j) number.is })
 
+      in_parks : (k : ℕ) → line ≡ legs_in t + (node_count t starts + (fleets_in t + k)) → IsOfNode line n
+      in_parks k is = elim (cases_lt k (park_count t)) [
+        | inl known ↦ absurd (balance_parking n (park_of_number t k) (sym e ∙ ap (line_at t starts) is ∙ parking_there t starts k known))
+        | inr past ↦ absurd (cover_balance 0 n (sym (none_behind t starts k past) ∙ ap (line_at t starts) (sym is) ∙ e))
+      ]
+
       in_fleets : (k : ℕ) → line ≡ legs_in t + (node_count t starts + k) → IsOfNode line n
       in_fleets k is = elim (cases_lt k (fleets_in t)) [
         | inl known ↦ absurd (balance_count n k (sym e ∙ ap (line_at t starts) is ∙ count_there t starts k known))
-        | inr past ↦ absurd (cover_balance 0 n (sym (none_behind t starts k past) ∙ ap (line_at t starts) (sym is) ∙ e))
+        | inr past ↦ in_parks (k - fleets_in t) (is ∙ ap (λ j. legs_in t + (node_count t starts + j)) (as_a_sum k (fleets_in t) past))
       ]
 
       by_rest : (k : ℕ) → line ≡ legs_in t + k → IsOfNode line n
@@ -82,12 +95,18 @@ module _ (t : Tables) (starts : Starts) where
     | inr behind ↦ by_rest (line - legs_in t) (as_a_sum line (legs_in t) behind)
   ]
     where
+      in_parks : (k : ℕ) → line ≡ legs_in t + (node_count t starts + (fleets_in t + k)) → IsOfFleet line f
+      in_parks k is = elim (cases_lt k (park_count t)) [
+        | inl known ↦ absurd (count_parking f (park_of_number t k) (sym e ∙ ap (line_at t starts) is ∙ parking_there t starts k known))
+        | inr past ↦ absurd (cover_count 0 f (sym (none_behind t starts k past) ∙ ap (line_at t starts) (sym is) ∙ e))
+      ]
+
       in_fleets : (k : ℕ) → line ≡ legs_in t + (node_count t starts + k) → IsOfFleet line f
       in_fleets k is = elim (cases_lt k (fleets_in t)) [
         | inl known ↦
             let same : k ≡ f = same_fleet k f (sym (count_there t starts k known) ∙ ap (line_at t starts) (sym is) ∙ e) in
             subst (IsOfFleet line) same (record { known = known; is = is })
-        | inr past ↦ absurd (cover_count 0 f (sym (none_behind t starts k past) ∙ ap (line_at t starts) (sym is) ∙ e))
+        | inr past ↦ in_parks (k - fleets_in t) (is ∙ ap (λ j. legs_in t + (node_count t starts + j)) (as_a_sum k (fleets_in t) past))
       ]
 
       by_rest : (k : ℕ) → line ≡ legs_in t + k → IsOfFleet line f
@@ -108,7 +127,7 @@ are_by_lines t keeps starts duals network = record {
   balance = λ line minute n e within.
       let at = of_node t starts line n e in
       let rise : Rise (starts n.fleet n.station) = nodes_rise t keeps n.fleet n.station (starts n.fleet n.station) (network.each n.fleet n.station at.fleet at.station) in
-      through_node t starts (number_of duals) n.fleet n.station minute at.fleet at.station n.place rise (at_place (starts n.fleet n.station) minute n.place rise at.place within)
+      through_node t starts (number_of duals) n.fleet n.station minute at.fleet at.station n.place rise (at_place t (starts n.fleet n.station) minute n.place rise at.place within)
       ∙ sym (value_there t duals line (before t starts n.fleet n.station + n.place) at.is);
   nowhere = λ f s minute known within none. nowhere t starts (number_of duals) f s minute known within (no_length (starts f s) none);
   count = λ line f e.
@@ -127,7 +146,7 @@ by_each_network t keeps starts other duals network second =
       balance = λ line minute n e within.
           let at = of_node t other line n e in
           by.balance line minute n (sym (ap (λ ls. get_or ls line (Cover 0)) lines) ∙ e)
-          (ap (λ xs. is_in xs n.place minute) (same_starts t keeps starts other network second n.fleet n.station at.fleet at.station) ∙ within);
+          (ap (λ xs. is_in t xs n.place minute) (same_starts t keeps starts other network second n.fleet n.station at.fleet at.station) ∙ within);
       nowhere = λ f s minute known within none. by.nowhere f s minute known within (same_starts t keeps starts other network second f s known within ∙ none);
       count = λ line f e. by.count line f (sym (ap (λ ls. get_or ls line (Cover 0)) lines) ∙ e);
     }

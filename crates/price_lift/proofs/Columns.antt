@@ -6,24 +6,24 @@ use Rattle.sums.specs.Below.{sum_below_ℤ}
 use Rattle.sums.proofs.WholeSums.{sum_below_ℤ-same}
 use Rattle.fleet_model.specs.declared.tables.Tables.{Tables}
 use Rattle.fleet_model.specs.Kept.{Domains}
-use Rattle.fleet_model.specs.Schedule.{fleets_in, legs_in}
+use Rattle.fleet_model.specs.Schedule.{legs_in}
 use Rattle.row_store.specs.Problem.{entry}
 use Rattle.row_store.specs.declared.problem.Rows.{Rows}
 use Rattle.simplex_frac.specs.Duality.{AreRightSidesAtLeast0}
 use Rattle.reached_tables.specs.Duality.{weighed}
 use Rattle.lp_rows.specs.declared.kinds.Column.TheVariants.{Slack}
 use Rattle.lp_rows.specs.declared.kinds.Line.{Line}
-use Rattle.lp_rows.specs.declared.kinds.Line.TheVariants.{Balance, Count, Cover}
+use Rattle.lp_rows.specs.declared.kinds.Line.TheVariants.{Balance, Count, Cover, Parking}
 use Rattle.lp_rows.specs.Entries.{column_cost, entry_of, right_side_of}
 use Rattle.lp_rows.specs.Layout.{Starts, columns_of, line_at}
-use Rattle.lp_rows.specs.Points.{AreCounted, column_at, node_count}
+use Rattle.lp_rows.specs.Points.{AreCounted, column_at, priced_count}
 use Rattle.lp_rows.specs.Program.{AreRows}
 use Rattle.lp_rows.proofs.LineNumbers.{line_count, number_at_column, right_side_at}
 use Rattle.price_lift.proofs.DownColumns.{down}
 
 -- ---- columns by their numbers
 module _ (t : Tables) (keeps : Domains) (starts : Starts) (rows : Rows) (are : AreRows t keeps starts rows) (counted : AreCounted t keeps starts rows) (y : ℕ → ℤ) where
-  lines_long : length rows.lines ≡ legs_in t + (node_count t starts + fleets_in t)
+  lines_long : length rows.lines ≡ legs_in t + priced_count t starts
   lines_long = omega (arith, counted.lines)
 
   pub weighed_column : (c : ℕ) → c < length (columns_of t keeps starts) → weighed rows y c ≡ down t starts y (λ line. entry_of t starts line (column_at (columns_of t keeps starts) c))
@@ -46,6 +46,7 @@ side_at_least : (t : Tables) (line : Line) → pos 0 ≤ℤ right_side_of t line
 side_at_least t (Cover l) = omega (arith, ints)
 side_at_least t (Balance n) = omega (arith, ints)
 side_at_least t (Count f) = omega (arith, ints)
+side_at_least t (Parking p) = omega (arith, ints)
 
 pub sides_at_least : (t : Tables) (keeps : Domains) (starts : Starts) (rows : Rows) → AreRows t keeps starts rows → AreRightSidesAtLeast0 rows
 sides_at_least t keeps starts rows are = record {

@@ -9,18 +9,20 @@ use Rattle.sums.proofs.WholeSums.{sum_below_ℤ-same, sum_below_ℤ--ℤ}
 use Rattle.sums.proofs.WholeSwaps.{sum_below_ℤ-one, where_true}
 use Rattle.fleet_model.specs.declared.parts.Pair.{Pair}
 use Rattle.fleet_model.specs.declared.tables.Tables.{Tables}
-use Rattle.fleet_model.specs.Schedule.{IsPair, fleet_of, fleets_in, leg_of, legs_in, stations_in}
+use Rattle.fleet_model.specs.Schedule.{IsFlown, fleet_by, fleet_of, fleets_in, leg_of, legs_in, stations_in}
 use Rattle.fleet_model.specs.Times.{departure, laps_of, ready_minute}
 use Rattle.lp_rows.specs.declared.kinds.Node.{Node}
+use Rattle.lp_rows.specs.declared.kinds.Park.{Park}
 use Rattle.lp_rows.specs.declared.kinds.Column.TheVariants.{Flight, Ground, Slack}
 use Rattle.lp_rows.specs.declared.kinds.Line.{Line}
-use Rattle.lp_rows.specs.declared.kinds.Line.TheVariants.{Balance, Count, Cover}
-use Rattle.lp_rows.specs.Entries.{IsNode, balance_entry, comes_to_node, count_entry, cover_entry, entry_of, gets_arc, is_in, leaves_node, one_if, passes_day_start, place_after, right_side_of, same_node}
-use Rattle.lp_rows.specs.Layout.{Starts, node_at, line_at}
-use Rattle.lp_rows.specs.Points.{node_count}
+use Rattle.lp_rows.specs.declared.kinds.Line.TheVariants.{Balance, Count, Cover, Parking}
+use Rattle.lp_rows.specs.Entries.{IsNode, balance_entry, comes_to_node, count_entry, cover_entry, entry_of, gets_arc, is_in, leaves_node, one_if, passes_start, place_after, right_side_of, same_node}
+use Rattle.lp_rows.specs.Layout.{Starts, node_at, line_at, park_of_number}
+use Rattle.lp_rows.specs.Points.{node_count, park_count, priced_count}
 use Rattle.lp_rows.proofs.ListSums.{all_zero}
 use Rattle.lp_rows.proofs.Picks.{pick_nodes}
-use Rattle.lp_rows.proofs.LinePlaces.{balance_there, before, count_there, cover_there, node_there, node_within, over_lines}
+use Rattle.lp_rows.proofs.LinePlaces.{balance_there, before, count_there, cover_there, node_there, node_within, over_lines, parking_there}
+use Rattle.price_lift.proofs.NoParking.{no_parking_lines}
 
 -- ---- tests
 flip : (a b : ℕ) → (a == b) ≡ (b == a)
@@ -43,12 +45,15 @@ three_tests true b c z = two_tests b c z
 three_tests false b c z = refl
 
 module _ (t : Tables) (starts : Starts) (y : ℕ → ℤ) where
-  -- the number of a node's balance line, and that of a count line
+  -- the number of a node's balance line, that of a count line, and that of a parking line
   abbrev pub of_node : ℕ → ℕ → ℕ → ℤ
   of_node f s k = y (legs_in t + (before t starts f s + k))
 
   abbrev pub of_fleet : ℕ → ℤ
   of_fleet f = y (legs_in t + (node_count t starts + f))
+
+  abbrev pub of_park : ℕ → ℤ
+  of_park k = y (legs_in t + (node_count t starts + (fleets_in t + k)))
 
   -- a sum over all nodes
   abbrev pub over_nodes : (ℕ → ℕ → ℕ → ℤ) → ℤ
@@ -71,17 +76,27 @@ module _ (t : Tables) (starts : Starts) (y : ℕ → ℤ) where
 
   -- by any numbers of lines
   abbrev pub down : (Line → ℤ) → ℤ
-  down e = sum_below_ℤ (λ i. y i *ℤ e (line_at t starts i)) (legs_in t + (node_count t starts + fleets_in t))
+  down e = sum_below_ℤ (λ i. y i *ℤ e (line_at t starts i)) (legs_in t + priced_count t starts)
 
   pub by_kinds : (e : Line → ℤ) → down e
-      ≡ sum_below_ℤ (λ l. y l *ℤ e (Cover l)) (legs_in t) +ℤ (over_nodes (λ f s k. of_node f s k *ℤ e (Balance (node_at f s k))) +ℤ sum_below_ℤ (λ f. of_fleet f *ℤ e (Count f)) (fleets_in t))
+      ≡ sum_below_ℤ (λ l. y l *ℤ e (Cover l)) (legs_in t) +ℤ (over_nodes (λ f s k. of_node f s k *ℤ e (Balance (node_at f s k)))
+      +ℤ (sum_below_ℤ (λ f. of_fleet f *ℤ e (Count f)) (fleets_in t) +ℤ sum_below_ℤ (λ k. of_park k *ℤ e (Parking (park_of_number t k))) (park_count t)))
   by_kinds e =
       let covers = sum_below_ℤ-same (λ l. y l *ℤ e (line_at t starts l)) (λ l. y l *ℤ e (Cover l)) (legs_in t) (λ l below. ap (λ k. y l *ℤ e k) (cover_there t starts l below)) in
       let balances = over_nodes-same (λ f s k. of_node f s k *ℤ e (line_at t starts (legs_in t + (before t starts f s + k)))) (λ f s k. of_node f s k *ℤ e (Balance (node_at f s k)))
       (λ f s k known within below. ap (λ j. of_node f s k *ℤ e j)
       (balance_there t starts (before t starts f s + k) (node_within t starts f s k known within below) ∙ ap Balance (node_there t starts f s k (node_at 0 0 0) known within below))) in
       let counts = sum_below_ℤ-same (λ f. of_fleet f *ℤ e (line_at t starts (legs_in t + (node_count t starts + f)))) (λ f. of_fleet f *ℤ e (Count f)) (fleets_in t) (λ f known. ap (λ k. of_fleet f *ℤ e k) (count_there t starts f known)) in
-      over_lines t starts (λ i. y i *ℤ e (line_at t starts i)) ∙ omega (arith, ints, covers, balances, counts)
+      let parkings = sum_below_ℤ-same (λ k. of_park k *ℤ e (line_at t starts (legs_in t + (node_count t starts + (fleets_in t + k))))) (λ k. of_park k *ℤ e (Parking (park_of_number t k))) (park_count t)
+      (λ k below. ap (λ line. of_park k *ℤ e line) (parking_there t starts k below)) in
+      over_lines t starts (λ i. y i *ℤ e (line_at t starts i)) ∙ omega (arith, ints, covers, balances, counts, parkings)
+
+  no_parkings : (e : Line → ℤ) → ((p : Park) → e (Parking p) ≡ pos 0) → sum_below_ℤ (λ k. of_park k *ℤ e (Parking (park_of_number t k))) (park_count t) ≡ pos 0
+  no_parkings e none = all_zero (λ k. of_park k *ℤ e (Parking (park_of_number t k))) (park_count t) (λ k below. ap (λ z. of_park k *ℤ z) (none (park_of_number t k)) ∙ *ℤ-zero (of_park k))
+
+  -- charges, which prices don't have yet, will say what parking lines come to
+  uncharged : (g : ℕ → ℤ) → sum_below_ℤ g (park_count t) ≡ pos 0
+  uncharged g = ap (sum_below_ℤ g) (no_parking_lines t)
 
   no_covers : (e : Line → ℤ) → ((l : ℕ) → e (Cover l) ≡ pos 0) → sum_below_ℤ (λ l. y l *ℤ e (Cover l)) (legs_in t) ≡ pos 0
   no_covers e none = all_zero (λ l. y l *ℤ e (Cover l)) (legs_in t) (λ l below. ap (λ z. y l *ℤ z) (none l) ∙ *ℤ-zero (y l))
@@ -95,45 +110,45 @@ module _ (t : Tables) (starts : Starts) (y : ℕ → ℤ) where
   -- ---- a pair
   -- the numbers of nodes of a fleet at a station that a minute lies in
   abbrev pub at_minute : ℕ → ℕ → ℕ → ℤ
-  at_minute f s m = sum_below_ℤ (λ k. where_true (is_in (starts f s) k m) (of_node f s k)) (length (starts f s))
+  at_minute f s m = sum_below_ℤ (λ k. where_true (is_in t (starts f s) k m) (of_node f s k)) (length (starts f s))
 
-  pick : (test : ℕ → ℕ → ℕ → Bool) (a b m : ℕ) → a < fleets_in t → b < stations_in t → ((f s k : ℕ) → test f s k ≡ ((f == a) && ((b == s) && is_in (starts f s) k m)))
+  pick : (test : ℕ → ℕ → ℕ → Bool) (a b m : ℕ) → a < fleets_in t → b < stations_in t → ((f s k : ℕ) → test f s k ≡ ((f == a) && ((b == s) && is_in t (starts f s) k m)))
       → over_nodes (λ f s k. of_node f s k *ℤ one_if (test f s k)) ≡ at_minute a b m
   pick test a b m here there is =
-      over_nodes-same (λ f s k. of_node f s k *ℤ one_if (test f s k)) (λ f s k. where_true (a == f) (where_true (b == s) (where_true (is_in (starts f s) k m) (of_node f s k))))
+      over_nodes-same (λ f s k. of_node f s k *ℤ one_if (test f s k)) (λ f s k. where_true (a == f) (where_true (b == s) (where_true (is_in t (starts f s) k m) (of_node f s k))))
       (λ f s k known within below.
       times_one_if (test f s k) (of_node f s k)
-      ∙ ap (λ c. where_true c (of_node f s k)) (is f s k ∙ ap (λ c. c && ((b == s) && is_in (starts f s) k m)) (flip f a))
-      ∙ three_tests (a == f) (b == s) (is_in (starts f s) k m) (of_node f s k))
-      ∙ pick_nodes (fleets_in t) (stations_in t) a b (λ f s. length (starts f s)) (λ f s k. where_true (is_in (starts f s) k m) (of_node f s k)) here there
+      ∙ ap (λ c. where_true c (of_node f s k)) (is f s k ∙ ap (λ c. c && ((b == s) && is_in t (starts f s) k m)) (flip f a))
+      ∙ three_tests (a == f) (b == s) (is_in t (starts f s) k m) (of_node f s k))
+      ∙ pick_nodes (fleets_in t) (stations_in t) a b (λ f s. length (starts f s)) (λ f s k. where_true (is_in t (starts f s) k m) (of_node f s k)) here there
 
-  module _ (p : Pair) (is_pair : IsPair t p) (from : (leg_of t p.leg).from < stations_in t) (to : (leg_of t p.leg).to < stations_in t) where
+  module _ (p : Pair) (flown : IsFlown t p) (from : (leg_of t p.leg).from < stations_in t) (to : (leg_of t p.leg).to < stations_in t) where
     flight_covers : sum_below_ℤ (λ l. y l *ℤ cover_entry l (Flight p)) (legs_in t) ≡ y p.leg
     flight_covers =
         sum_below_ℤ-same (λ l. y l *ℤ one_if (l == p.leg)) (λ l. where_true (p.leg == l) (y l)) (legs_in t)
         (λ l below. times_one_if (l == p.leg) (y l) ∙ ap (λ b. where_true b (y l)) (flip l p.leg))
-        ∙ sum_below_ℤ-one p.leg y (legs_in t) is_pair.leg
+        ∙ sum_below_ℤ-one p.leg y (legs_in t) flown.pair.leg
 
     flight_balances : over_nodes (λ f s k. of_node f s k *ℤ balance_entry t starts (node_at f s k) (Flight p))
-        ≡ at_minute p.choice (leg_of t p.leg).to (ready_minute t p) -ℤ at_minute p.choice (leg_of t p.leg).from (departure t p)
+        ≡ at_minute (fleet_by t p) (leg_of t p.leg).to (ready_minute t p) -ℤ at_minute (fleet_by t p) (leg_of t p.leg).from (departure t p)
     flight_balances =
         let come = λ (f s k : ℕ). comes_to_node t starts (node_at f s k) p in
         let leave = λ (f s k : ℕ). leaves_node t starts (node_at f s k) p in
         over_nodes-same (λ f s k. of_node f s k *ℤ (one_if (come f s k) -ℤ one_if (leave f s k))) (λ f s k. (of_node f s k *ℤ one_if (come f s k)) -ℤ (of_node f s k *ℤ one_if (leave f s k)))
         (λ f s k known within below. *ℤ--ℤ (of_node f s k) (one_if (come f s k)) (one_if (leave f s k)))
         ∙ over_nodes--ℤ (λ f s k. of_node f s k *ℤ one_if (come f s k)) (λ f s k. of_node f s k *ℤ one_if (leave f s k))
-        ∙ ap (λ z. z -ℤ over_nodes (λ f s k. of_node f s k *ℤ one_if (leave f s k))) (pick come p.choice (leg_of t p.leg).to (ready_minute t p) is_pair.choice to (λ f s k. refl))
-        ∙ ap (λ z. at_minute p.choice (leg_of t p.leg).to (ready_minute t p) -ℤ z) (pick leave p.choice (leg_of t p.leg).from (departure t p) is_pair.choice from (λ f s k. refl))
+        ∙ ap (λ z. z -ℤ over_nodes (λ f s k. of_node f s k *ℤ one_if (leave f s k))) (pick come (fleet_by t p) (leg_of t p.leg).to (ready_minute t p) flown.by to (λ f s k. refl))
+        ∙ ap (λ z. at_minute (fleet_by t p) (leg_of t p.leg).to (ready_minute t p) -ℤ z) (pick leave (fleet_by t p) (leg_of t p.leg).from (departure t p) flown.by from (λ f s k. refl))
 
-    flight_counts : sum_below_ℤ (λ f. of_fleet f *ℤ count_entry t starts f (Flight p)) (fleets_in t) ≡ of_fleet p.choice *ℤ pos (laps_of t p)
+    flight_counts : sum_below_ℤ (λ f. of_fleet f *ℤ count_entry t starts f (Flight p)) (fleets_in t) ≡ of_fleet (fleet_by t p) *ℤ pos (laps_of t p)
     flight_counts =
-        sum_below_ℤ-same (λ f. of_fleet f *ℤ (if f == p.choice then pos (laps_of t p) else pos 0)) (λ f. where_true (p.choice == f) (of_fleet f *ℤ pos (laps_of t p))) (fleets_in t)
-        (λ f known. times_test (f == p.choice) (of_fleet f) (pos (laps_of t p)) ∙ ap (λ b. where_true b (of_fleet f *ℤ pos (laps_of t p))) (flip f p.choice))
-        ∙ sum_below_ℤ-one p.choice (λ f. of_fleet f *ℤ pos (laps_of t p)) (fleets_in t) is_pair.choice
+        sum_below_ℤ-same (λ f. of_fleet f *ℤ (if f == fleet_by t p then pos (laps_of t p) else pos 0)) (λ f. where_true (fleet_by t p == f) (of_fleet f *ℤ pos (laps_of t p))) (fleets_in t)
+        (λ f known. times_test (f == fleet_by t p) (of_fleet f) (pos (laps_of t p)) ∙ ap (λ b. where_true b (of_fleet f *ℤ pos (laps_of t p))) (flip f (fleet_by t p)))
+        ∙ sum_below_ℤ-one (fleet_by t p) (λ f. of_fleet f *ℤ pos (laps_of t p)) (fleets_in t) flown.by
 
     pub down_flight : down (λ line. entry_of t starts line (Flight p))
-        ≡ y p.leg +ℤ ((at_minute p.choice (leg_of t p.leg).to (ready_minute t p) -ℤ at_minute p.choice (leg_of t p.leg).from (departure t p)) +ℤ (of_fleet p.choice *ℤ pos (laps_of t p)))
-    down_flight = by_kinds (λ line. entry_of t starts line (Flight p)) ∙ omega (arith, ints, flight_covers, flight_balances, flight_counts)
+        ≡ y p.leg +ℤ ((at_minute (fleet_by t p) (leg_of t p.leg).to (ready_minute t p) -ℤ at_minute (fleet_by t p) (leg_of t p.leg).from (departure t p)) +ℤ (of_fleet (fleet_by t p) *ℤ pos (laps_of t p)))
+    down_flight = by_kinds (λ line. entry_of t starts line (Flight p)) ∙ omega (arith, ints, flight_covers, flight_balances, flight_counts, no_parkings (λ line. entry_of t starts line (Flight p)) (λ q. refl))
 
   -- ---- a ground arc
   module _ (a : Node) (is_node : IsNode t starts a) where
@@ -171,24 +186,24 @@ module _ (t : Tables) (starts : Starts) (y : ℕ → ℤ) where
 
     ground_counts : sum_below_ℤ (λ f. of_fleet f *ℤ count_entry t starts f (Ground a)) (fleets_in t) ≡ where_true (length (starts a.fleet a.station) == a.place + 1) (of_fleet a.fleet)
     ground_counts =
-        sum_below_ℤ-same (λ f. of_fleet f *ℤ one_if (passes_day_start starts f a)) (λ f. where_true (a.fleet == f) (where_true (length (starts f a.station) == a.place + 1) (of_fleet f))) (fleets_in t)
-        (λ f known. times_one_if (passes_day_start starts f a) (of_fleet f) ∙ two_tests (f == a.fleet) (length (starts f a.station) == a.place + 1) (of_fleet f)
+        sum_below_ℤ-same (λ f. of_fleet f *ℤ one_if (passes_start starts f a)) (λ f. where_true (a.fleet == f) (where_true (length (starts f a.station) == a.place + 1) (of_fleet f))) (fleets_in t)
+        (λ f known. times_one_if (passes_start starts f a) (of_fleet f) ∙ two_tests (f == a.fleet) (length (starts f a.station) == a.place + 1) (of_fleet f)
         ∙ ap (λ c. where_true c (where_true (length (starts f a.station) == a.place + 1) (of_fleet f))) (flip f a.fleet))
         ∙ sum_below_ℤ-one a.fleet (λ f. where_true (length (starts f a.station) == a.place + 1) (of_fleet f)) (fleets_in t) is_node.fleet
 
     pub down_ground : down (λ line. entry_of t starts line (Ground a))
         ≡ (of_node a.fleet a.station next -ℤ of_node a.fleet a.station a.place) +ℤ where_true (length (starts a.fleet a.station) == a.place + 1) (of_fleet a.fleet)
-    down_ground = by_kinds (λ line. entry_of t starts line (Ground a)) ∙ omega (arith, ints, no_covers (λ line. entry_of t starts line (Ground a)) (λ l. refl), ground_balances, ground_counts)
+    down_ground = by_kinds (λ line. entry_of t starts line (Ground a)) ∙ omega (arith, ints, no_covers (λ line. entry_of t starts line (Ground a)) (λ l. refl), ground_balances, ground_counts, uncharged (λ k. of_park k *ℤ entry_of t starts (Parking (park_of_number t k)) (Ground a)))
 
   -- ---- a slack
   pub down_slack : (g : ℕ) → g < fleets_in t → down (λ line. entry_of t starts line (Slack g)) ≡ of_fleet g
   down_slack g known =
       let counts = sum_below_ℤ-same (λ f. of_fleet f *ℤ one_if (f == g)) (λ f. where_true (g == f) (of_fleet f)) (fleets_in t) (λ f less. times_one_if (f == g) (of_fleet f) ∙ ap (λ b. where_true b (of_fleet f)) (flip f g))
       ∙ sum_below_ℤ-one g of_fleet (fleets_in t) known in
-      by_kinds (λ line. entry_of t starts line (Slack g)) ∙ omega (arith, ints, no_covers (λ line. entry_of t starts line (Slack g)) (λ l. refl), no_balances (λ line. entry_of t starts line (Slack g)) (λ n. refl), counts)
+      by_kinds (λ line. entry_of t starts line (Slack g)) ∙ omega (arith, ints, no_covers (λ line. entry_of t starts line (Slack g)) (λ l. refl), no_balances (λ line. entry_of t starts line (Slack g)) (λ n. refl), counts, no_parkings (λ line. entry_of t starts line (Slack g)) (λ p. refl))
 
   -- ---- the right sides
   pub down_sides : down (λ line. right_side_of t line) ≡ sum_below_ℤ y (legs_in t) +ℤ sum_below_ℤ (λ f. of_fleet f *ℤ pos (fleet_of t f).aircraft) (fleets_in t)
   down_sides =
       let covers = sum_below_ℤ-same (λ l. y l *ℤ pos 1) y (legs_in t) (λ l below. times_one (y l)) in
-      by_kinds (λ line. right_side_of t line) ∙ omega (arith, ints, covers, no_balances (λ line. right_side_of t line) (λ n. refl))
+      by_kinds (λ line. right_side_of t line) ∙ omega (arith, ints, covers, no_balances (λ line. right_side_of t line) (λ n. refl), uncharged (λ k. of_park k *ℤ right_side_of t (Parking (park_of_number t k))))

@@ -3,15 +3,14 @@ use Rattle.std.proofs.Common.{◌≡◌, ℕ, ◌+◌, ◌<◌, ◌≤◌, List,
 use Rattle.std.proofs.lemmas.Int.{ints}
 use Rattle.frac_row.specs.Row.{IsRow, number_of, reduced, width_of}
 use Rattle.frac_row.specs.declared.row.FracRow.{FracRow}
-use Rattle.fleet_model.specs.declared.limits.TheConstants.{MINUTES_PER_PERIOD}
 use Rattle.fleet_model.specs.declared.tables.Tables.{Tables}
 use Rattle.fleet_model.specs.Kept.{Domains, IsBare}
-use Rattle.fleet_model.specs.Schedule.{fleets_in, legs_in, stations_in}
+use Rattle.fleet_model.specs.Schedule.{fleets_in, legs_in, period_of, stations_in}
 use Rattle.row_store.specs.DualValues.{AreDualValues, WeighMore}
 use Rattle.row_store.specs.declared.problem.Rows.{Rows}
 use Rattle.lp_rows.specs.Layout.{IsNetwork, Starts, starts_in}
 use Rattle.lp_rows.specs.Outline.{IsOutline}
-use Rattle.lp_rows.specs.Points.{AreLinesOf, node_count}
+use Rattle.lp_rows.specs.Points.{AreLinesOf, priced_count}
 use Rattle.lp_rows.specs.declared.outline.Outline.{Outline}
 use Rattle.dual_bound.specs.OfTables.{IsStepOf}
 use Rattle.dual_bound.specs.Worth.{worth_of}
@@ -26,6 +25,7 @@ use Rattle.price_lift.specs.Steps.{prices_by}
 use Rattle.price_lift.specs.TooLarge.{prices_excess}
 use Rattle.price_lift.proofs.ArcRises.{are_arc_rises}
 use Rattle.price_lift.proofs.ByLines.{by_each_network}
+use Rattle.price_lift.proofs.IslandMoments.{one_day_where}
 use Rattle.price_lift.proofs.InOrder.{prices_in_order}
 use Rattle.price_lift.proofs.LastTables.{low, refutes}
 use Rattle.price_lift.proofs.OfTables.{steps_known}
@@ -35,8 +35,8 @@ use Rattle.price_lift.proofs.PaidLifts.{ArePaidWell, ArePricesLow, low_by_other,
 -- a row has dual values of the lines with a price
 pub record IsDualRow (t : Tables) (rows : Rows) (starts : Starts) (counted : ℕ) (y : ℕ → ℤ) (duals : FracRow) : Type 0 where
   pub values : AreDualValues rows counted duals.den y
-  pub wide : width_of duals ≡ node_count t starts + fleets_in t
-  pub numbers : (k : ℕ) → k < node_count t starts + fleets_in t → number_of duals k ≡ y (legs_in t + k)
+  pub wide : width_of duals ≡ priced_count t starts
+  pub numbers : (k : ℕ) → k < priced_count t starts → number_of duals k ≡ y (legs_in t + k)
 
 module _ (t : Tables) (keeps : Domains) (rows : Rows) (lines : AreLinesOf t keeps rows) (counted : ℕ) (y : ℕ → ℤ) (duals : FracRow) (is : IsDualRow t rows lines.starts counted y duals)
     (fits : prices_excess (legs_in t) duals ≡ None) where
@@ -55,7 +55,7 @@ module _ (t : Tables) (keeps : Domains) (rows : Rows) (lines : AreLinesOf t keep
       by_lines other second = subst (AreByLines t other (value_in t (reduced duals))) (sym by) (by_each_network t keeps starts other (reduced duals) network second)
 
   -- ---- paid back
-  module _ (starts : Starts) (network : IsNetwork t keeps starts) (few : (f s : ℕ) → f < fleets_in t → s < stations_in t → length (starts f s) ≤ MINUTES_PER_PERIOD)
+  module _ (starts : Starts) (network : IsNetwork t keeps starts) (few : (f s : ℕ) → f < fleets_in t → s < stations_in t → length (starts f s) ≤ period_of t)
       (prices : Prices) (are : AreNodePrices t keeps starts duals prices) where
     pub low_there : ArePricesLow t keeps starts prices
     low_there =
@@ -70,7 +70,7 @@ module _ (t : Tables) (keeps : Domains) (rows : Rows) (lines : AreLinesOf t keep
     excess_is = ap (λ p. payback_excess t p (rises_by t starts (moments_by t keeps starts) p)) are.by
 
     pub well_paid : payback_excess t prices rises ≡ None → ArePaidWell t keeps starts prices low_there (paid_back t prices rises)
-    well_paid small = paid_well t keeps starts prices low_there are.in_order are.of_tables rises (are_arc_rises t starts (moments_by t keeps starts) prices few) small
+    well_paid small = paid_well t keeps starts prices low_there are.in_order are.of_tables rises (are_arc_rises t starts (moments_by t keeps starts) prices (one_day_where t keeps starts network) few) small
 
     pub lifted_are : payback_excess t prices rises ≡ None → AreLiftedPrices t keeps duals (paid_back t prices rises)
     lifted_are small =

@@ -14,7 +14,7 @@ use Rattle.frac_row.proofs.Rows.{common_divisor_positive, den_times, number_time
 use Rattle.entries.specs.declared.memory.NoMemory.{NoMemory}
 use Rattle.fleet_model.specs.declared.tables.Tables.{Tables}
 use Rattle.fleet_model.specs.Kept.{Domains, IsBare, pairs_kept}
-use Rattle.fleet_model.specs.Schedule.{fleets_in, legs_in}
+use Rattle.fleet_model.specs.Schedule.{legs_in}
 use Rattle.row_store.specs.DualValues.{AreDualValues, weighed}
 use Rattle.row_store.specs.Problem.{MeetsRows}
 use Rattle.row_store.specs.declared.problem.Rows.{Rows}
@@ -23,9 +23,9 @@ use Rattle.end_check.specs.declared.hint.PointHint.{PointHint}
 use Rattle.end_check.specs.declared.hint.RefusalHint.{RefusalHint}
 use Rattle.lp_rows.specs.Layout.{all_kept, concat_below, pair_at_column, starts_in}
 use Rattle.lp_rows.specs.Outline.{IsOutline}
-use Rattle.lp_rows.specs.Points.{AreLinesOf, node_count}
+use Rattle.lp_rows.specs.Points.{AreLinesOf, priced_count}
 use Rattle.lp_rows.specs.declared.outline.Outline.{Outline}
-use Rattle.lp_rows.proofs.Counted.{nodes_are, pairs_are}
+use Rattle.lp_rows.proofs.Counted.{nodes_are, pairs_are, parks_are}
 use Rattle.dual_lift.specs.Parts.{AreParts}
 use Rattle.dual_lift.specs.TooLarge.{IsLiftError}
 use Rattle.dual_lift.specs.declared.error.LiftError.{LiftError}
@@ -53,7 +53,7 @@ use Rattle.std.proofs.lemmas.Bool.{cases_lt}
 
 -- ---- the values of the lines with a price
 module _ (t : Tables) (keeps : Domains) (rows : Rows) (lines : AreLinesOf t keeps rows) (list : List ℤ) (by : AreByLine rows list) (scale : ℤ) where
-  pub values_wide : width_of (priced_values t list scale) ≡ node_count t lines.starts + fleets_in t
+  pub values_wide : width_of (priced_values t list scale) ≡ priced_count t lines.starts
   values_wide = omega (arith, length-drop (legs_in t) list, by.long, lines.counted.lines)
 
   pub values_there : (k : ℕ) → number_of (priced_values t list scale) k ≡ value_in list (legs_in t + k)
@@ -62,8 +62,8 @@ module _ (t : Tables) (keeps : Domains) (rows : Rows) (lines : AreLinesOf t keep
   pub values_row : (counted : ℕ) → AreDualValues rows counted scale (value_in list) → IsDualRow t rows lines.starts counted (value_in list) (priced_values t list scale)
   values_row counted values = record { values = values; wide = values_wide; numbers = λ k below. values_there k }
 
-  pub values_long : (o : Outline) → IsOutline t keeps o → length list ≡ legs_in t + (length o.nodes + o.fleets)
-  values_long o is = omega (arith, by.long, lines.counted.lines, nodes_are t lines.starts, ap length (same_nodes t keeps lines.starts (starts_in o.network) lines.lines.network is.network), ap length is.over.nodes, is.over.fleets)
+  pub values_long : (o : Outline) → IsOutline t keeps o → length list ≡ legs_in t + (length o.nodes + o.fleets + length o.parks)
+  values_long o is = omega (arith, by.long, lines.counted.lines, nodes_are t lines.starts, ap length (same_nodes t keeps lines.starts (starts_in o.network) lines.lines.network is.network), ap length is.over.nodes, is.over.fleets, ap length is.over.parks, parks_are t)
 
 pub priced_is_row : (t : Tables) (list : List ℤ) (scale : ℤ) → ((line : ℕ) → IsWithin (value_in list line)) → IsWithin scale → pos 0 <ℤ scale → IsRow (priced_values t list scale)
 priced_is_row t list scale within scale_within some = record {

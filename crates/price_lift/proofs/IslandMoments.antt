@@ -44,6 +44,10 @@ module _ (t : Tables) (keeps : Domains) (starts : Starts) (network : IsNetwork t
   moment_there : (f s k m : ℕ) → moments_by t keeps starts f s k ≡ Some m → IsMoment t keeps f s (starts f s) k m
   moment_there f s k m went = moment_is t keeps f s (starts f s) k m went
 
+  -- where an arc goes, the period is one day
+  pub one_day_where : (f s k m : ℕ) → moments_by t keeps starts f s k ≡ Some m → days_in t ≡ 1
+  one_day_where f s k m went = (islands_tested t (islands_there t s m (moment_there f s k m went).idle)).day.one_day
+
   -- of several nodes the first has an event, before the second starts
   not_round : (f s k m : ℕ) → is_idle t s m ≡ true → f < fleets_in t → s < stations_in t → k < length (starts f s) → 1 < length (starts f s) → get_or (starts f s) k 0 ≤ m → k + 1 ≡ length (starts f s) → IsQuiet t keeps f s 0 m → ⊥
   not_round f s k m idle known within below several begun last quiet =

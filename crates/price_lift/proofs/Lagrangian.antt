@@ -28,7 +28,7 @@ use Rattle.lp_rows.specs.declared.kinds.Column.TheVariants.{Flight, Ground, Slac
 use Rattle.lp_rows.specs.declared.kinds.Line.TheVariants.{Balance}
 use Rattle.lp_rows.specs.Entries.{IsNode, column_cost, entry_of, is_in, place_after, right_side_of}
 use Rattle.lp_rows.specs.Layout.{IsNetwork, Starts, arc_stays, moment_at, node_at}
-use Rattle.lp_rows.specs.Points.{node_count}
+use Rattle.lp_rows.specs.Points.{node_count, priced_count}
 use Rattle.lp_rows.proofs.Places.{IsKept}
 use Rattle.dual_bound.specs.Prices.{AreWithin, max_price, price_of, rent_of}
 use Rattle.dual_bound.specs.Worth.{cost_units, leg_worth, pair_worth, rents_of, worth_of}
@@ -59,7 +59,7 @@ unfolding arc_stays
 staying t keeps starts n none = ap is_none none
 
 module _ (t : Tables) (keeps : Domains) (starts : Starts) (network : IsNetwork t keeps starts) (prices : Prices) (value : ℕ → ℤ) (by : AreByLines t starts value prices)
-    (h : ℤ) (above : pos 0 <ℤ h) (y : ℕ → ℤ) (scaled : (j : ℕ) → j < node_count t starts + fleets_in t → y (legs_in t + j) ≡ h *ℤ value (legs_in t + j)) where
+    (h : ℤ) (above : pos 0 <ℤ h) (y : ℕ → ℤ) (scaled : (j : ℕ) → j < priced_count t starts → y (legs_in t + j) ≡ h *ℤ value (legs_in t + j)) where
   rise : (f s : ℕ) → f < fleets_in t → s < stations_in t → Rise (starts f s)
   rise f s known within = nodes_rise t keeps f s (starts f s) (network.each f s known within)
 
@@ -76,7 +76,7 @@ module _ (t : Tables) (keeps : Domains) (starts : Starts) (network : IsNetwork t
   price_is f s m p known within period at =
       by.balance (legs_in t + (before t starts f s + p)) m (node_at f s p)
       (balance_there t starts (before t starts f s + p) (node_within t starts f s p known within at.within) ∙ ap Balance (node_there t starts f s p (node_at 0 0 0) known within at.within))
-      (in_node (starts f s) m p period at)
+      (in_node t (starts f s) m p period at)
 
   node_is : (f s k : ℕ) → f < fleets_in t → s < stations_in t → k < length (starts f s) → of_node t starts y f s k ≡ h *ℤ value (legs_in t + (before t starts f s + k))
   node_is f s k known within below = scaled (before t starts f s + k) (omega (arith, node_within t starts f s k known within below))
@@ -84,10 +84,10 @@ module _ (t : Tables) (keeps : Domains) (starts : Starts) (network : IsNetwork t
   minute_is : (f s m : ℕ) → f < fleets_in t → s < stations_in t → m ≤ last_minute → 0 < length (starts f s) → at_minute t starts y f s m ≡ h *ℤ price_of prices f s m
   minute_is f s m known within period some =
       let p = some_place (starts f s) m (rise f s known within) some in
-      sum_below_ℤ-same (λ k. where_true (is_in (starts f s) k m) (of_node t starts y f s k)) (λ k. where_true (p.0 == k) (of_node t starts y f s k)) (length (starts f s))
-      (λ k below. ap (λ b. where_true b (of_node t starts y f s k)) (same_tests (is_in (starts f s) k m) (p.0 == k)
-      (λ e. equal_number p.0 k (one_place (starts f s) m p.0 k p.1 (at_place (starts f s) m k (rise f s known within) below e)))
-      (λ e. subst (λ j. is_in (starts f s) j m ≡ true) (eqb-true p.0 k e) (in_node (starts f s) m p.0 period p.1))))
+      sum_below_ℤ-same (λ k. where_true (is_in t (starts f s) k m) (of_node t starts y f s k)) (λ k. where_true (p.0 == k) (of_node t starts y f s k)) (length (starts f s))
+      (λ k below. ap (λ b. where_true b (of_node t starts y f s k)) (same_tests (is_in t (starts f s) k m) (p.0 == k)
+      (λ e. equal_number p.0 k (one_place (starts f s) m p.0 k p.1 (at_place t (starts f s) m k (rise f s known within) below e)))
+      (λ e. subst (λ j. is_in t (starts f s) j m ≡ true) (eqb-true p.0 k e) (in_node t (starts f s) m p.0 period p.1))))
       ∙ sum_below_ℤ-one p.0 (of_node t starts y f s) (length (starts f s)) p.1.within
       ∙ node_is f s p.0 known within p.1.within
       ∙ ap (λ z. h *ℤ z) (sym (price_is f s m p.0 known within period p.1))
@@ -112,7 +112,7 @@ module _ (t : Tables) (keeps : Domains) (starts : Starts) (network : IsNetwork t
         let departs_in : departure t p ≤ last_minute = omega (arith, leg.dep) in
         let one = minute_is f to (ready_minute t p) known leg.to ready_in (some_nodes f to true (ready_minute t p) known leg.to back) in
         let two = minute_is f from (departure t p) known leg.from departs_in (some_nodes f from false (departure t p) known leg.from out) in
-        let sum = down_flight t starts y p (record { leg = below; choice = known }) leg.from leg.to
+        let sum = down_flight t starts y p (record { pair = record { leg = below; choice = known }; by = known }) leg.from leg.to
         ∙ ap (λ z. y l +ℤ ((z -ℤ at_minute t starts y f from (departure t p)) +ℤ (of_fleet t starts y f *ℤ pos (laps_of t p)))) one
         ∙ ap (λ z. y l +ℤ (((h *ℤ price_of prices f to (ready_minute t p)) -ℤ z) +ℤ (of_fleet t starts y f *ℤ pos (laps_of t p)))) two
         ∙ ap (λ z. y l +ℤ (((h *ℤ price_of prices f to (ready_minute t p)) -ℤ (h *ℤ price_of prices f from (departure t p))) +ℤ (z *ℤ pos (laps_of t p)))) (fleet_is f known) in
@@ -201,7 +201,7 @@ module _ (t : Tables) (keeps : Domains) (starts : Starts) (network : IsNetwork t
     pub through_nodes : AreByNodes t prices starts
     through_nodes = record {
       through = λ f s j m known within below begun ended.
-          let at = at_place (starts f s) m j (rise f s known within) below (test_of (get_or (starts f s) j 0) m (node_end (starts f s) j) begun ended) in
+          let at = at_place t (starts f s) m j (rise f s known within) below (test_of (get_or (starts f s) j 0) m (node_end (starts f s) j) begun ended) in
           price_is f s m j known within (omega (arith, ended, end_in_period f s j known within below)) at ∙ sym (price_at_start f s j known within below);
       nowhere = λ f s m known within none. by.nowhere f s m known within (empty_is (starts f s) none);
     }
@@ -236,7 +236,7 @@ module _ (t : Tables) (keeps : Domains) (starts : Starts) (network : IsNetwork t
     }
 
     -- ---- rents and prices within their limits
-    module _ (small : (j : ℕ) → j < node_count t starts + fleets_in t → unsigned_abs (value (legs_in t + j)) ≤ max_price) where
+    module _ (small : (j : ℕ) → j < priced_count t starts → unsigned_abs (value (legs_in t + j)) ≤ max_price) where
       bounds : (z : ℤ) (n : ℕ) → unsigned_abs z ≤ n → (neg_ℤ (pos n) ≤ℤ z) × (z ≤ℤ pos n)
       bounds z n le = (omega (arith, ints), omega (arith, ints))
 

@@ -20,7 +20,7 @@ use Rattle.dual_lift.specs.LastTables.{AreDualValues, IsReachedTable, WeighMore}
 use Rattle.lp_rows.specs.declared.kinds.Column.{Column}
 use Rattle.lp_rows.specs.Entries.{column_cost, entry_of}
 use Rattle.lp_rows.specs.Layout.{IsNetwork, Starts, all_nodes, starts_in}
-use Rattle.lp_rows.specs.Points.{AreLinesOf, arcs_in, node_count}
+use Rattle.lp_rows.specs.Points.{AreLinesOf, arcs_in, node_count, park_count, priced_count}
 use Rattle.lp_rows.specs.Outline.{IsOutline, column_count}
 use Rattle.lp_rows.specs.declared.outline.Outline.{Outline}
 use Rattle.lp_rows.proofs.Counted.{nodes_are}
@@ -55,10 +55,10 @@ module _ (t : Tables) (keeps : Domains) (rows : Rows) (lines : AreLinesOf t keep
   pub basis_long : length basis ≡ height_of table
   basis_long = omega (arith, last.shape.basis_in, height_is)
 
-  pub priced_are : priced_lines t table ≡ node_count t lines.starts + fleets_in t
+  pub priced_are : priced_lines t table ≡ priced_count t lines.starts
   priced_are = omega (arith, height_is, lines.counted.lines)
 
-  pub has_columns : HasColumns table (pairs_kept t keeps + (arcs_in t keeps lines.starts + fleets_in t))
+  pub has_columns : HasColumns table (pairs_kept t keeps + (arcs_in t keeps lines.starts + (fleets_in t + park_count t)))
   has_columns = omega (arith, last.shape.columns_in, last.shape.rows_in, lines.counted.columns)
 
   pub all_long : (other : Starts) → IsNetwork t keeps other → length (all_nodes t other) ≡ node_count t lines.starts
@@ -122,8 +122,8 @@ module _ (t : Tables) (duals : FracRow) (some : pos 0 <ℤ duals.den) (fits : pr
 -- ---- dual values of the lines
 -- prices by dual values that weigh no column above its cost are proper, and their worth reaches what the right sides weigh
 module _ (t : Tables) (keeps : Domains) (rows : Rows) (lines : AreLinesOf t keeps rows) (counted : ℕ) (y : ℕ → ℤ) (duals : FracRow) (values : AreDualValues rows counted duals.den y)
-    (fits : prices_excess (legs_in t) duals ≡ None) (wide : width_of duals ≡ node_count t lines.starts + fleets_in t)
-    (are : (k : ℕ) → k < node_count t lines.starts + fleets_in t → number_of duals k ≡ y (legs_in t + k))
+    (fits : prices_excess (legs_in t) duals ≡ None) (wide : width_of duals ≡ priced_count t lines.starts)
+    (are : (k : ℕ) → k < priced_count t lines.starts → number_of duals k ≡ y (legs_in t + k))
     (prices : Prices) (scale_is : prices.scale ≡ (reduced duals).den) (by_lines : AreByLines t lines.starts (value_in t (reduced duals)) prices) where
   abbrev net : Starts
   net = lines.starts
@@ -134,7 +134,7 @@ module _ (t : Tables) (keeps : Domains) (rows : Rows) (lines : AreLinesOf t keep
   above : pos 0 <ℤ h
   above = divisor_above t duals values.some fits
 
-  scaled : (j : ℕ) → j < node_count t net + fleets_in t → y (legs_in t + j) ≡ h *ℤ value_in t (reduced duals) (legs_in t + j)
+  scaled : (j : ℕ) → j < priced_count t net → y (legs_in t + j) ≡ h *ℤ value_in t (reduced duals) (legs_in t + j)
   scaled j below = sym (are j below) ∙ sym (value_times t duals values.some fits (legs_in t + j) j refl)
 
   -- with the scale times the divisor
@@ -155,7 +155,7 @@ module _ (t : Tables) (keeps : Domains) (rows : Rows) (lines : AreLinesOf t keep
       subst (λ z. down t net y (λ line. entry_of t net line c) ≤ℤ z) (ap (λ z. (pos counted *ℤ duals.den) *ℤ z) paid ∙ factor (column_cost t c))
       (subst (λ z. z ≤ℤ ((pos counted *ℤ duals.den) *ℤ get_or rows.costs number.0 (pos 0))) at (values.under number.0 real))
 
-  small : (j : ℕ) → j < node_count t net + fleets_in t → unsigned_abs (value_in t (reduced duals) (legs_in t + j)) ≤ max_price
+  small : (j : ℕ) → j < priced_count t net → unsigned_abs (value_in t (reduced duals) (legs_in t + j)) ≤ max_price
   small j below = subst (λ z. unsigned_abs z ≤ max_price) (sym (at (legs_in t + j) j refl)) (values_small t duals values.some fits j (omega (arith, below, wide)))
     where
       at : (line j : ℕ) → line ≡ legs_in t + j → value_in t (reduced duals) line ≡ number_of (reduced duals) j

@@ -12,8 +12,10 @@ pub mod LastTables
 pub mod LeastBounds
 pub mod LiftResults
 pub mod Lifts
+pub mod MadePrices
 pub mod Minutes
 pub mod Networks
+pub mod NoParking
 pub mod OfTables
 pub mod Orders
 pub mod PointEnds

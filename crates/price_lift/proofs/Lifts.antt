@@ -5,14 +5,14 @@ use Rattle.frac_row.specs.declared.row.FracRow.{FracRow}
 use Rattle.fleet_model.specs.declared.parts.Pair.{Pair}
 use Rattle.fleet_model.specs.declared.tables.Tables.{Tables}
 use Rattle.fleet_model.specs.Kept.{Domains, IsBare, pairs_kept}
-use Rattle.fleet_model.specs.Schedule.{fleets_in, legs_in}
+use Rattle.fleet_model.specs.Schedule.{legs_in}
 use Rattle.row_store.specs.DualValues.{AreDualValues, WeighMore}
 use Rattle.row_store.specs.Table.{HasColumns, cost_row, height_of, right_side}
 use Rattle.lp_rows.specs.Layout.{IsNetwork, Starts, all_kept, concat_below, starts_in}
 use Rattle.lp_rows.specs.Outline.{IsOutline, column_count}
-use Rattle.lp_rows.specs.Points.{node_count}
+use Rattle.lp_rows.specs.Points.{priced_count}
 use Rattle.lp_rows.specs.declared.outline.Outline.{Outline}
-use Rattle.lp_rows.proofs.Counted.{pairs_are}
+use Rattle.lp_rows.proofs.Counted.{pairs_are, parks_are}
 use Rattle.dual_lift.specs.Duals.{cost_den}
 use Rattle.dual_lift.specs.LastTables.{IsEndBy, WeighTheCost, counts_costs}
 use Rattle.dual_lift.specs.Readings.{IsReadingOf, duals_by, duals_excess, scale_by, value_by}
@@ -67,12 +67,12 @@ module _ (t : Tables) (keeps : Domains) (table : List FracRow) (basis : List ℕ
   abbrev duals : FracRow
   duals = duals_by table reading (legs_in t)
 
-  wide : width_of duals ≡ node_count t last.lines.starts + fleets_in t
+  wide : width_of duals ≡ priced_count t last.lines.starts
   wide = duals_wide table reading (legs_in t) ∙ priced_are t keeps last.rows last.lines table basis last.reached
 
-  pub priced_wide : (outline : Outline) → IsOutline t keeps outline → width_of duals ≡ length outline.nodes + outline.fleets
+  pub priced_wide : (outline : Outline) → IsOutline t keeps outline → width_of duals ≡ length outline.nodes + outline.fleets + length outline.parks
   priced_wide outline is =
-      omega (arith, wide, ap length is.over.nodes, all_long t keeps last.rows last.lines table basis last.reached (starts_in outline.network) is.network, is.over.fleets)
+      omega (arith, wide, ap length is.over.nodes, all_long t keeps last.rows last.lines table basis last.reached (starts_in outline.network) is.network, is.over.fleets, ap length is.over.parks, parks_are t)
 
   pub dual_row : IsDualRow t last.rows last.lines.starts (counts_costs reading) (value_by table reading) duals
   dual_row = record {

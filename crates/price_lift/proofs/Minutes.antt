@@ -4,10 +4,9 @@ use Rattle.std.proofs.lemmas.Bool.{cases_lt, cases_order}
 use Rattle.std.proofs.lemmas.Bool.Decides.{nat_tests}
 use Rattle.fleet_model.specs.declared.tables.Tables.{Tables}
 use Rattle.fleet_model.specs.Kept.{Domains}
-use Rattle.fleet_model.specs.Use.{last_minute}
-use Rattle.node_aggregate.specs.Nodes.{AreNodesAt, node_end}
-use Rattle.node_aggregate.proofs.NodeEnds.{end_at_last, end_before}
-use Rattle.node_aggregate.proofs.Starts.{next_later}
+use Rattle.fleet_model.specs.Schedule.{last_of}
+use Rattle.node_aggregate.specs.Nodes.{AreNodesAt, end_in}
+use Rattle.node_aggregate.proofs.Starts.{end_last, end_next, next_later}
 use Rattle.lp_rows.specs.Entries.{is_in}
 
 -- each start is later than those before, and the first is 0
@@ -64,15 +63,15 @@ test_parts a m b h = (grind (arith, nat_tests), grind (arith, nat_tests))
 pub test_of : (a m b : ℕ) → a ≤ m → m ≤ b → (nat_le a m && nat_le m b) ≡ true
 test_of a m b low high = grind (arith, nat_tests)
 
-pub at_place : (starts : List ℕ) (minute place : ℕ) → Rise starts → place < length starts → is_in starts place minute ≡ true → IsAtPlace starts minute place
-at_place starts minute place rise within test =
-    let parts = test_parts (get_or starts place 0) minute (node_end starts place) test in
+pub at_place : (t : Tables) (starts : List ℕ) (minute place : ℕ) → Rise starts → place < length starts → is_in t starts place minute ≡ true → IsAtPlace starts minute place
+at_place t starts minute place rise within test =
+    let parts = test_parts (get_or starts place 0) minute (end_in t starts place) test in
     record {
       within = within;
       begun = parts.0;
       last = λ k above below.
           let next : place + 1 < length starts = omega arith in
-          let end = end_before starts place next in
+          let end = end_next t starts place next in
           let step = rise.next place next in
           elim (cases_lt (place + 1) k) [
             | inl more ↦ omega (arith, parts.1, end, step, later starts rise (place + 1) k more below)
@@ -80,10 +79,10 @@ at_place starts minute place rise within test =
           ];
     }
 
-pub in_node : (starts : List ℕ) (minute place : ℕ) → minute ≤ last_minute → IsAtPlace starts minute place → is_in starts place minute ≡ true
-in_node starts minute place period at = test_of (get_or starts place 0) minute (node_end starts place) at.begun (elim (cases_lt (place + 1) (length starts)) [
-  | inl more ↦ omega (arith, end_before starts place more, at.last (place + 1) (omega arith) more)
-  | inr none ↦ omega (arith, end_at_last starts place none)
+pub in_node : (t : Tables) (starts : List ℕ) (minute place : ℕ) → minute ≤ last_of t → IsAtPlace starts minute place → is_in t starts place minute ≡ true
+in_node t starts minute place period at = test_of (get_or starts place 0) minute (end_in t starts place) at.begun (elim (cases_lt (place + 1) (length starts)) [
+  | inl more ↦ omega (arith, end_next t starts place more, at.last (place + 1) (omega arith) more)
+  | inr none ↦ omega (arith, end_last t starts place none)
 ])
 
 pub one_place : (starts : List ℕ) (minute p q : ℕ) → IsAtPlace starts minute p → IsAtPlace starts minute q → p ≡ q

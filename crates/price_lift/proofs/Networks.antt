@@ -1,20 +1,17 @@
 -- A subproblem has one network.
-use Rattle.std.proofs.Common.{◌≡◌, ℕ, zero, suc, ◌<◌, List, ◌++◌, length, map, is_none, refl, ◌∙◌, ap, ◌+◌, length-append, arith}
+use Rattle.std.proofs.Common.{◌≡◌, ℕ, zero, suc, ◌<◌, List, ◌++◌, length, map, is_none, refl, ◌∙◌, ap, ◌+◌, arith}
 use Rattle.fleet_model.specs.declared.tables.Tables.{Tables}
 use Rattle.fleet_model.specs.Kept.{Domains, pairs_kept}
 use Rattle.fleet_model.specs.Schedule.{fleets_in, legs_in, stations_in}
 use Rattle.node_aggregate.proofs.OneList.{one_list}
-use Rattle.lp_rows.specs.declared.kinds.Column.TheVariants.{Flight, Ground, Slack}
-use Rattle.lp_rows.proofs.Counted.{arcs_are as counted_arcs, pairs_are}
-use Rattle.sums.proofs.Places.{length-list_below}
-use Rattle.std.proofs.lemmas.List.{length-map}
-use Rattle.lp_rows.specs.declared.kinds.Line.TheVariants.{Balance, Count, Cover}
+use Rattle.lp_rows.specs.declared.kinds.Line.TheVariants.{Balance, Count, Cover, Parking}
 use Rattle.sums.specs.Below.{count_below, sum_below}
 use Rattle.sums.specs.Places.{list_below}
 use Rattle.sums.proofs.Sums.{sum_below-agree}
 use Rattle.island_arcs.specs.Moments.{moment_of}
-use Rattle.lp_rows.specs.Points.{arcs_at, arcs_in}
-use Rattle.lp_rows.specs.Layout.{IsNetwork, Starts, all_arcs, all_kept, all_nodes, arc_stays, columns_of, concat_below, lines_of, node_at, nodes_at, nodes_of}
+use Rattle.lp_rows.specs.Points.{arcs_at, arcs_in, park_count}
+use Rattle.lp_rows.proofs.ColumnPlaces.{all_long}
+use Rattle.lp_rows.specs.Layout.{IsNetwork, Starts, all_nodes, all_parks, arc_stays, columns_of, concat_below, lines_of, node_at, nodes_at, nodes_of}
 
 -- ---- networks
 concat_same : {X : Type 0} (g h : ℕ → List X) (n : ℕ) → ((k : ℕ) → k < n → g k ≡ h k) → concat_below g n ≡ concat_below h n
@@ -39,17 +36,8 @@ module _ (t : Tables) (keeps : Domains) (starts other : Starts) (network : IsNet
   })
 
   pub same_lines : lines_of t starts ≡ lines_of t other
-  same_lines = ap (λ ns. list_below Cover (legs_in t) ++ map Balance ns ++ list_below Count (fleets_in t)) same_nodes
+  same_lines = ap (λ ns. list_below Cover (legs_in t) ++ map Balance ns ++ list_below Count (fleets_in t) ++ map Parking (all_parks t)) same_nodes
 
 -- how many columns there are
-pub columns_long : (t : Tables) (keeps : Domains) (starts : Starts) → length (columns_of t keeps starts) ≡ pairs_kept t keeps + (arcs_in t keeps starts + fleets_in t)
-columns_long t keeps starts = omega (
-  arith,
-  length-append (map Flight (all_kept t keeps) ++ map Ground (all_arcs t keeps starts)) (list_below Slack (fleets_in t)),
-  length-append (map Flight (all_kept t keeps)) (map Ground (all_arcs t keeps starts)),
-  length-map (all_kept t keeps) Flight,
-  length-map (all_arcs t keeps starts) Ground,
-  pairs_are t keeps,
-  counted_arcs t keeps starts,
-  length-list_below Slack (fleets_in t),
-)
+pub columns_long : (t : Tables) (keeps : Domains) (starts : Starts) → length (columns_of t keeps starts) ≡ pairs_kept t keeps + (arcs_in t keeps starts + (fleets_in t + park_count t))
+columns_long t keeps starts = all_long t keeps starts

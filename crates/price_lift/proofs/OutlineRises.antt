@@ -2,8 +2,7 @@
 use Rattle.std.proofs.Common.{◌≡◌, ℕ, zero, suc, ◌<◌, ◌≤◌, ◌++◌, length, get_or, None, refl, sym, ◌∙◌, ap, ap₂, subst, arith}
 use Rattle.std.proofs.lemmas.List.{get_or-map, length-map}
 use Rattle.fleet_model.specs.Kept.{Domains}
-use Rattle.fleet_model.specs.Schedule.{fleets_in, stations_in}
-use Rattle.fleet_model.specs.declared.limits.TheConstants.{MINUTES_PER_PERIOD}
+use Rattle.fleet_model.specs.Schedule.{fleets_in, period_of, stations_in}
 use Rattle.fleet_model.specs.declared.tables.Tables.{Tables}
 use Rattle.lp_rows.specs.Layout.{concat_below, moment_at, node_at, node_of_number, starts_in}
 use Rattle.lp_rows.specs.Entries.{IsNode}
@@ -37,7 +36,7 @@ module _ (t : Tables) (keeps : Domains) (o : Outline) (is : IsOutline t keeps o)
   unfolding outline_rises
   outline_rises_are = below_same (length o.nodes) (omega arith) ∙ ap (λ ns. concat_below (rise_at t (starts_in o.network) (moments_by t keeps (starts_in o.network)) prices) (length ns)) is.over.nodes
 
-  pub few_there : (f s : ℕ) → f < fleets_in t → s < stations_in t → length (starts_in o.network f s) ≤ MINUTES_PER_PERIOD
+  pub few_there : (f s : ℕ) → f < fleets_in t → s < stations_in t → length (starts_in o.network f s) ≤ period_of t
   few_there = is.over.shape.few
 
 -- ---- the arcs of an outline

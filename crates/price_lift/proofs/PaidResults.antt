@@ -20,7 +20,7 @@ use Rattle.island_prices.proofs.Arcs as arcs
 use Rattle.price_lift.specs.ArcRises.{outline_rises}
 use Rattle.price_lift.specs.PaidBack.{beyond_excess, lift_error, moments_by, paid_back, payback_excess}
 use Rattle.price_lift.proofs.ArcRises.{are_arc_rises}
-use Rattle.price_lift.proofs.IslandMoments.{are_moments}
+use Rattle.price_lift.proofs.IslandMoments.{are_moments, one_day_where}
 use Rattle.price_lift.proofs.OutlineRises.{few_there, outline_rises_are}
 
 -- the rises by an outline are rises of the tables
@@ -28,7 +28,7 @@ pub rises_known : (t : Tables) (keeps : Domains) (o : Outline) → IsOutline t k
 rises_known t keeps o is prices within =
     subst (AreRises t) (sym (outline_rises_are t keeps o is prices))
     (arcs.are_rises t keeps prices (starts_in o.network) (moments_by t keeps (starts_in o.network)) _ (record { each = is.network.each }) (are_moments t keeps (starts_in o.network) is.network)
-    (are_arc_rises t (starts_in o.network) (moments_by t keeps (starts_in o.network)) prices (few_there t keeps o is prices)) (λ f known. (within.rents f known).some) within)
+    (are_arc_rises t (starts_in o.network) (moments_by t keeps (starts_in o.network)) prices (one_day_where t keeps (starts_in o.network) is.network) (few_there t keeps o is prices)) (λ f known. (within.rents f known).some) within)
 
 module _ (t : Tables) (prices : Prices) where
   -- without a rise

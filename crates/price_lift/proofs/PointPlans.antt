@@ -16,7 +16,7 @@ use Rattle.fleet_model.specs.declared.tables.Tables.{Tables}
 use Rattle.fleet_model.specs.Counts.{Weights}
 use Rattle.fleet_model.specs.Kept.{Domains, IsBare, pairs_kept}
 use Rattle.fleet_model.specs.Mixed.{IsMixedPlan, mixed_cost, weight_on}
-use Rattle.fleet_model.specs.Schedule.{IsPair, fleets_in, leg_on, legs_in}
+use Rattle.fleet_model.specs.Schedule.{IsPair, choices_in, fleets_in, leg_on, legs_in}
 use Rattle.row_store.specs.DualValues.{weighed}
 use Rattle.row_store.specs.Problem.{MeetsRows, point_cost}
 use Rattle.row_store.specs.declared.problem.Rows.{Rows}
@@ -71,11 +71,11 @@ value_is_worth m s w q h D S Y C v above many more some scale reach weighs cost 
 pub no_bare : (t : Tables) (keeps : Domains) (scale : ℕ) (w : Weights) → 0 < scale → IsMixedPlan t keeps scale w → (l : ℕ) → ¬ (IsBare t keeps l)
 no_bare t keeps scale w some plan l bare = omega (arith, some, plan.cover l bare.within, nothing)
   where
-    not_kept : (f : ℕ) → f < fleets_in t → keeps (leg_on l f) ≡ false
-    not_kept f known = never_passes (keeps (leg_on l f)) (λ kept. omega (arith, bare.none, count_below-some (λ g. keeps (leg_on l g)) (fleets_in t) f known kept))
+    not_kept : (c : ℕ) → c < choices_in t l → keeps (leg_on l c) ≡ false
+    not_kept c known = never_passes (keeps (leg_on l c)) (λ kept. omega (arith, bare.none, count_below-some (λ d. keeps (leg_on l d)) (choices_in t l) c known kept))
 
     nothing : weight_on t w l ≡ 0
-    nothing = sum_below-agree (λ f. w (leg_on l f)) (λ f. 0) (fleets_in t) (record { each = λ f known. plan.kept (leg_on l f) (record { leg = bare.within; choice = known }) (not_kept f known) }) ∙ sum_below-zero (fleets_in t)
+    nothing = sum_below-agree (λ c. w (leg_on l c)) (λ c. 0) (choices_in t l) (record { each = λ c known. plan.kept (leg_on l c) (record { leg = bare.within; choice = known }) (not_kept c known) }) ∙ sum_below-zero (choices_in t l)
 
 -- ---- a point of a multiple of a scale, whose pairs have the same multiple of parts
 module _ (t : Tables) (keeps : Domains) (rows : Rows) (lines : AreLinesOf t keeps rows) (factor scale : ℕ) (many : 0 < factor) (scale_above : 0 < scale) (point parts : ℕ → ℕ)

@@ -13,7 +13,7 @@ use Rattle.fleet_model.specs.Counts.{Weights}
 use Rattle.fleet_model.specs.Kept.{Domains}
 use Rattle.fleet_model.specs.Legal.{cost_of}
 use Rattle.fleet_model.specs.Mixed.{IsMixedPlan, mixed_cost, weighted_cost}
-use Rattle.fleet_model.specs.Schedule.{fleets_in, leg_on, legs_in}
+use Rattle.fleet_model.specs.Schedule.{choices_in, fleets_in, leg_on, legs_in}
 use Rattle.row_store.specs.Table.{HasColumns, right_side}
 use Rattle.simplex_frac.specs.Duality.{IsReached}
 use Rattle.simplex_frac.specs.declared.turn.Turn.{Turn}
@@ -86,13 +86,13 @@ is_refusal t keeps table basis ends = record {
 free : (t : Tables) (keeps : Domains) (w : Weights) → IsMixedPlan t keeps 0 w → mixed_cost t w ≡ pos 0
 unfolding mixed_cost
 free t keeps w plan =
-    sum_below_ℤ-same (λ l. sum_below_ℤ (weighted_cost t w l) (fleets_in t)) (λ l. pos 0) (legs_in t)
-    (λ l below. sum_below_ℤ-same (weighted_cost t w l) (λ f. pos 0) (fleets_in t)
-    (λ f known.
-    let least = term_le (λ g. w (leg_on l g)) f (fleets_in t) known in
-    let nothing : w (leg_on l f) ≡ 0 = omega (arith, plan.cover l below, least) in
-    ap (λ n. pos n *ℤ unwrap_or (cost_of t (leg_on l f)) (pos 0)) nothing ∙ zero-*ℤ (unwrap_or (cost_of t (leg_on l f)) (pos 0)))
-    ∙ sum_below_ℤ-zero (fleets_in t))
+    sum_below_ℤ-same (λ l. sum_below_ℤ (weighted_cost t w l) (choices_in t l)) (λ l. pos 0) (legs_in t)
+    (λ l below. sum_below_ℤ-same (weighted_cost t w l) (λ c. pos 0) (choices_in t l)
+    (λ c known.
+    let least = term_le (λ d. w (leg_on l d)) c (choices_in t l) known in
+    let nothing : w (leg_on l c) ≡ 0 = omega (arith, plan.cover l below, least) in
+    ap (λ n. pos n *ℤ unwrap_or (cost_of t (leg_on l c)) (pos 0)) nothing ∙ zero-*ℤ (unwrap_or (cost_of t (leg_on l c)) (pos 0)))
+    ∙ sum_below_ℤ-zero (choices_in t l))
     ∙ sum_below_ℤ-zero (legs_in t)
 
 pub no_ray : (t : Tables) (keeps : Domains) (table : List FracRow) (basis : List ℕ) (column : ℕ) → ¬ (Ends t keeps (turns.Ray column) table basis)

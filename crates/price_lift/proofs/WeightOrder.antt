@@ -7,7 +7,7 @@ use Rattle.sums.proofs.Tests.{both_true}
 use Rattle.fleet_model.specs.declared.parts.Pair.{Pair}
 use Rattle.fleet_model.specs.declared.tables.Tables.{Tables}
 use Rattle.fleet_model.specs.Kept.{Domains, pairs_kept}
-use Rattle.fleet_model.specs.Schedule.{fleets_in, leg_on, legs_in}
+use Rattle.fleet_model.specs.Schedule.{choices_in, fleets_in, leg_on, legs_in}
 use Rattle.lp_rows.specs.Layout.{all_kept, concat_below, pair_of, pairs_of, Starts}
 use Rattle.lp_rows.proofs.Counted.{pairs_are}
 use Rattle.lp_rows.proofs.Totals.{all_concat}
@@ -18,7 +18,7 @@ use Rattle.price_lift.specs.Parts.{weights_at}
 use Rattle.lp_rows.proofs.PairParts.{is_pair}
 use Rattle.price_lift.proofs.Orders.{Follow, at_number, concat_same, follow_all, pairs_concat}
 
--- ---- pairs by leg, then fleet
+-- ---- pairs by leg, then choice
 abbrev pub PairBefore : Pair → Pair → Type 0
 PairBefore p q = (p.leg < q.leg) ⊎ ((p.leg ≡ q.leg) × (p.choice < q.choice))
 
@@ -43,9 +43,9 @@ is_on keeps l f = of_test (keeps (leg_on l f))
 kept_in_order : (t : Tables) (keeps : Domains) → AllPairs PairBefore (all_kept t keeps)
 kept_in_order t keeps =
     pairs_concat PairBefore (λ l p. p.leg ≡ l) (pairs_of t keeps) (legs_in t)
-    (λ l below. pairs_concat PairBefore (IsOn l) (pair_of keeps l) (fleets_in t) (λ f known. one_pair keeps l f) (λ f known. is_on keeps l f)
+    (λ l below. pairs_concat PairBefore (IsOn l) (pair_of keeps l) (choices_in t l) (λ c known. one_pair keeps l c) (λ c known. is_on keeps l c)
     (λ i k p q order here there. inr (omega (arith, here.leg, there.leg), omega (arith, order, here.choice, there.choice))))
-    (λ l below. all_concat (λ p. p.leg ≡ l) (pair_of keeps l) (fleets_in t) (λ f known k d there. (is_on keeps l f k d there).leg))
+    (λ l below. all_concat (λ p. p.leg ≡ l) (pair_of keeps l) (choices_in t l) (λ c known k d there. (is_on keeps l c k d there).leg))
     (λ i k p q order here there. inl (omega (arith, order, here, there)))
 
 -- ---- the weights

@@ -12,7 +12,7 @@ use Rattle.dual_bound.specs.declared.prices.Prices.{Prices}
 -- through a node the price is the value of its balance line, and 0 where a fleet has no node at a station; a rent is
 -- the value of the fleet's count line with the other sign
 pub record AreByLines (t : Tables) (starts : Starts) (value : ℕ → ℤ) (prices : Prices) : Type 0 where
-  pub balance : (line minute : ℕ) (n : Node) → line_at t starts line ≡ Balance n → is_in (starts n.fleet n.station) n.place minute ≡ true
+  pub balance : (line minute : ℕ) (n : Node) → line_at t starts line ≡ Balance n → is_in t (starts n.fleet n.station) n.place minute ≡ true
       → price_of prices n.fleet n.station minute ≡ value line
   pub nowhere : (f s minute : ℕ) → f < fleets_in t → s < stations_in t → starts f s ≡ [] → price_of prices f s minute ≡ pos 0
   pub count : (line f : ℕ) → line_at t starts line ≡ Count f → rent_of prices f ≡ neg_ℤ (value line)

@@ -140,7 +140,7 @@ fn end_prices(
     outline: &Outline,
 ) -> Result<Prices, LiftError>
     requires outline { IsOutlineOver tables.now outline.now }
-    requires long { length values.now ≡ legs_in tables.now + (length outline.now.nodes + outline.now.fleets) }
+    requires long { length values.now ≡ legs_in tables.now + (length outline.now.nodes + outline.now.fleets + length outline.now.parks) }
     requires within { (line : ℕ) → IsWithin (value_in values.now line) }
     requires scale { pos 0 <ℤ scale }
     ensures { MatchResult result

@@ -32,7 +32,7 @@ pub(crate) fn prices_of(
 ) -> Result<Prices, LiftError>
     requires outline { IsOutlineOver tables.now outline.now }
     requires row { IsRow duals }
-    requires width { width_of duals ≡ length outline.now.nodes + outline.now.fleets }
+    requires width { width_of duals ≡ length outline.now.nodes + outline.now.fleets + length outline.now.parks }
     ensures prices { MatchResult result
         (λ prices. (prices_excess (legs_in tables.now) duals ≡ None) × (prices ≡ prices_by tables.now (starts_in outline.now.network) (reduced duals)))
         (IsLiftError (prices_excess (legs_in tables.now) duals)) }
@@ -44,7 +44,7 @@ pub(crate) fn prices_of(
 }
 
 // The prices of dual values: through a node the value of its balance line, and as rent of a fleet that of its count
-// line with the other sign.
+// line with the other sign. Parking lines have values too, which no price tells yet.
 fn prices(
     alloc: Global,
     tables: &Tables,
@@ -53,7 +53,7 @@ fn prices(
 ) -> Result<Prices, NoMemory>
     requires outline { IsOutlineOver tables.now outline.now }
     requires row { IsRow duals.now }
-    requires width { width_of duals.now ≡ length outline.now.nodes + outline.now.fleets }
+    requires width { width_of duals.now ≡ length outline.now.nodes + outline.now.fleets + length outline.now.parks }
     ensures { IfOk result (λ prices. prices ≡ prices_by tables.now (starts_in outline.now.network) duals.now) }
 {
     let values = duals.numbers.as_slice();
@@ -79,7 +79,7 @@ fn node_values<'a>(outline: &Outline, values: &'a [i128]) -> &'a [i128]
 // The rents, fleet by fleet, by the values of the lines with a price.
 fn rents(alloc: Global, outline: &Outline, values: &[i128]) -> Result<Vec<i128>, NoMemory>
     requires within { (k : ℕ) → IsWithin (slice_index_or values.now k (pos 0)) }
-    requires width { length values.now ≡ length outline.now.nodes + outline.now.fleets }
+    requires width { length values.now ≡ length outline.now.nodes + outline.now.fleets + length outline.now.parks }
     ensures { IfOk result (λ rents. rents.items ≡ list_below (λ f. neg_ℤ (slice_index_or values.now (length outline.now.nodes + f) (pos 0))) outline.now.fleets) }
 {
     let mut rents = Vec::new(alloc);

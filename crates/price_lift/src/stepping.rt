@@ -1,6 +1,5 @@
 //! Prices as steps: from the start of each node on whose value is another than that of the node before.
 ghost use Rattle.std.specs.Prelude.{◌≡◌, ◌<◌, ◌≤◌, ◌++◌, length, slice_index_or, pos, IfOk, OnOk};
-ghost use Rattle.fleet_model.specs.declared.limits.TheConstants.{MINUTES_PER_PERIOD};
 ghost use Rattle.lp_rows.specs.Layout.{AreByStation, all_nodes, starts_in};
 ghost use Rattle.price_lift.specs.Steps.{all_steps, are_zero, is_step, step_where};
 
@@ -41,7 +40,7 @@ fn push_step(
     place: usize,
     node: Node,
 ) -> Result<(), NoMemory>
-    requires few { length starts.now ≤ MINUTES_PER_PERIOD }
+    requires few { length starts.now ≤ 10080 }
     requires node { node.place < length starts.now }
     requires within { place < length values.now }
     ensures { OnOk result (steps.new.items ≡ steps.old.items ++ step_where starts.now (λ k. slice_index_or values.now k (pos 0)) place node) }
@@ -63,7 +62,7 @@ fn push_step(
 #[tactic(auto, unfolding(crate::specs::Steps::is_step))]
 fn is_step(values: &[i128], place: usize, node: Node, starts: &[u16]) -> bool
     requires within { place < length values.now }
-    requires few { length starts.now ≤ MINUTES_PER_PERIOD }
+    requires few { length starts.now ≤ 10080 }
     ensures { result ≡ is_step (length starts.now) (λ k. slice_index_or values.now k (pos 0)) place node }
 {
     if node.place == 0 {
@@ -77,7 +76,7 @@ fn is_step(values: &[i128], place: usize, node: Node, starts: &[u16]) -> bool
 #[tactic(auto, unfolding(crate::specs::Steps::are_zero))]
 fn are_zero(values: &[i128], from: usize, count: usize) -> bool
     requires from { from < length values.now }
-    requires count { count ≤ MINUTES_PER_PERIOD }
+    requires count { count ≤ 10080 }
     ensures { result ≡ are_zero (λ k. slice_index_or values.now k (pos 0)) from count }
 {
     for past in 0..count {

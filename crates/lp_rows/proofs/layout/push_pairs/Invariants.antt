@@ -3,5 +3,5 @@ use Rattle.fleet_model.specs.Kept.{kept_by}
 use Rattle.lp_rows.specs.Layout.{concat_below, pair_of}
 use Rattle.lp_rows.proofs.layout.push_pairs.Given as goal
 
-abbrev pub invariant-loop-fleet : goal.invariant-loop-fleet
-invariant-loop-fleet l = l.pairs.items ≡ l.fn.pairs.items ++ concat_below (pair_of (kept_by l.kept) l.leg) l.fleet
+abbrev pub invariant-loop-choice : goal.invariant-loop-choice
+invariant-loop-choice l = l.pairs.items ≡ l.fn.pairs.items ++ concat_below (pair_of (kept_by l.kept) l.leg) l.choice

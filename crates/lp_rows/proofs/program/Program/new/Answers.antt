@@ -21,9 +21,9 @@ returns-clause-lines c = are_lines c.args.tables.now (kept_by c.args.kept.now) (
 
 pub returns-clause-problem : goal.returns-clause-problem
 returns-clause-problem c =
-    is_problem c.args.tables.now (kept_by c.args.kept.now) (starts_in c.in_ok-outline.outline.network) _ (returns-clause-rows c) c.in_ok-outline.ensures.over.shape.few
+    is_problem c.args.tables.now (kept_by c.args.kept.now) (starts_in c.in_ok-outline.outline.network) _ (returns-clause-rows c) (record { each = c.in_ok-outline.ensures.over.shape.few })
 
 pub outlined_rows-requires-clause-few : goal.outlined_rows-requires-clause-few
 outlined_rows-requires-clause-few c =
     let same = ap length (columns_are c.args.tables.now (kept_by c.args.kept.now) _ c.in_ok-outline.ensures) in
-    omega (arith, same, few_columns c.args.tables.now (kept_by c.args.kept.now) (starts_in c.in_ok-outline.outline.network) c.in_ok-outline.ensures.over.shape.few)
+    omega (arith, same, few_columns c.args.tables.now (kept_by c.args.kept.now) (starts_in c.in_ok-outline.outline.network) (record { each = c.in_ok-outline.ensures.over.shape.few }))
