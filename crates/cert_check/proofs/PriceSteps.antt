@@ -1,19 +1,20 @@
 -- Between two steps prices stay, so what holds where steps stand holds at every minute.
-use Rattle.std.proofs.Common.{◌≡◌, ℕ, zero, suc, ◌+◌, ◌-◌, ◌<◌, Bool, true, false, ◌&&◌, ◌==◌, nat_le, if◌then◌else◌, List, [], ◌∷◌, All, MatchBool, length, slice_index_or, ◌⊎◌, inl, inr, ℤ, pos, ◌+ℤ◌, ◌≤ℤ◌, ◌<ℤ◌, refl, subst, add-one, arith}
+use Rattle.std.proofs.Common.{◌≡◌, ℕ, zero, suc, ◌+◌, ◌-◌, ◌<◌, Bool, true, false, ◌&&◌, ◌==◌, nat_le, if◌then◌else◌, List, [], ◌∷◌, All, MatchBool, length, slice_index_or, ◌⊎◌, inl, inr, ℤ, pos, ◌+ℤ◌, ◌≤ℤ◌, ◌<ℤ◌, refl, sym, ◌∙◌, ap, subst, add-one, arith}
 use mathlib.Core.Bool.{false≢true}
 use Rattle.std.proofs.lemmas.List.{get_or_default}
-use Rattle.std.proofs.lemmas.Int.{ints}
+use Rattle.std.proofs.lemmas.Int.{ints, to_z-of_z}
+use mir.Syntax.{w128}
+use mir.Val.{SFits}
 use Rattle.std.proofs.lemmas.Bool.Decides.{nat_tests}
 use Rattle.std.proofs.lemmas.List.Elements.{All-head, All-tail}
-use Rattle.fleet_model.specs.Schedule.{fleets_in}
-use Rattle.fleet_model.specs.Use.{last_minute}
-use Rattle.fleet_model.specs.declared.limits.TheConstants.{MINUTES_PER_PERIOD}
+use Rattle.fleet_model.specs.Schedule.{fleets_in, last_of, period_of}
 use Rattle.fleet_model.specs.declared.tables.Tables.{Tables}
 use Rattle.dual_bound.specs.OfTables.{ArePricesOf}
-use Rattle.dual_bound.specs.Prices.{AreRents, AreWithin, IsPrice, IsRent, NeverRise, RiseByRent, RisesByRent, has_come, price_after, price_of, rent_of}
+use Rattle.dual_bound.specs.Prices.{AreRents, AreWithin, IsPrice, IsRent, NeverRise, RiseByRent, RisesOverEnd, has_come, price_after, price_of, rent_of, with_charge}
 use Rattle.dual_bound.specs.Rising.{no_step, step_at}
 use Rattle.dual_bound.specs.declared.prices.Prices.{Prices}
 use Rattle.dual_bound.specs.declared.prices.PriceStep.{PriceStep}
+use Rattle.dual_bound.proofs.Charges.{no_rise}
 use Rattle.dual_bound.proofs.Numbers.{held, is_held}
 use Rattle.cert_check.specs.PriceRules.{AreWithinAtSteps, FallAtSteps, FallsAt, IsWithinAt, RiseAtSteps, RiseBefore, RisesByRentAt, goes_on_at}
 
@@ -88,26 +89,27 @@ module _ (P : PriceStep → Type 0) (f s : ℕ) where
           inl (step, record { holds = All-head P step steps all; fleet = here.0; station = here.1 })
 
 -- limits at steps are limits at every minute
-here_within : (prices : Prices) (f s m : ℕ) (step : PriceStep) → IsAtMinute (IsWithinAt prices) f s m step → m < MINUTES_PER_PERIOD → IsPrice (price_of prices f s m)
-here_within prices f s m step there within =
+here_within : (t : Tables) (prices : Prices) (f s m : ℕ) (step : PriceStep) → IsAtMinute (IsWithinAt t prices) f s m step → m < period_of t → IsPrice (price_of prices f s m)
+here_within t prices f s m step there within =
     let small = there.at.holds.is (rw there.minute within) in
     rw (there.at.fleet, there.at.station, there.minute) at small
 
-within_everywhere : (prices : Prices) → All (IsWithinAt prices) prices.steps → (f s m : ℕ) → m < MINUTES_PER_PERIOD → IsPrice (price_of prices f s m)
-within_everywhere prices all f s zero within = elim (stands_or_begins (IsWithinAt prices) f s prices.steps (pos 0) all) [
-  | inl there ↦ here_within prices f s 0 there.0 there.1 within
+within_everywhere : (t : Tables) (prices : Prices) → All (IsWithinAt t prices) prices.steps → (f s m : ℕ) → m < period_of t → IsPrice (price_of prices f s m)
+within_everywhere t prices all f s zero within = elim (stands_or_begins (IsWithinAt t prices) f s prices.steps (pos 0) all) [
+  | inl there ↦ here_within t prices f s 0 there.0 there.1 within
   | inr none ↦ rw none (record { no_less = omega (arith, ints); no_more = omega (arith, ints) })
 ]
-within_everywhere prices all f s (suc m) within = elim (stands_or_stays (IsWithinAt prices) f s m prices.steps (pos 0) all) [
-  | inl there ↦ here_within prices f s (suc m) there.0 (rw (← add-one m) there.1) within
-  | inr same ↦ rw (← add-one m, same) (within_everywhere prices all f s m (omega arith))
+within_everywhere t prices all f s (suc m) within = elim (stands_or_stays (IsWithinAt t prices) f s m prices.steps (pos 0) all) [
+  | inl there ↦ here_within t prices f s (suc m) there.0 (rw (← add-one m) there.1) within
+  | inr same ↦ rw (← add-one m, same) (within_everywhere t prices all f s m (omega arith))
 ]
 
--- where no price rises at a step none rises at all
-falls_everywhere : (prices : Prices) → All (FallsAt prices) prices.steps → (f s m : ℕ) → m + 1 < MINUTES_PER_PERIOD → price_of prices f s (m + 1) ≤ℤ price_of prices f s m
-falls_everywhere prices all f s m within = elim (stands_or_stays (FallsAt prices) f s m prices.steps (pos 0) all) [
+-- where no price rises at a step, but by a charge, none rises at all
+falls_everywhere : (t : Tables) (prices : Prices) → All (FallsAt t prices) prices.steps → (f s m : ℕ) → m + 1 < period_of t
+    → price_of prices f s (m + 1) ≤ℤ with_charge prices s m (price_of prices f s m)
+falls_everywhere t prices all f s m within = elim (stands_or_stays (FallsAt t prices) f s m prices.steps (pos 0) all) [
   | inl there ↦ rw (there.1.at.fleet, there.1.at.station) at (there.1.at.holds.is m there.1.minute within)
-  | inr same ↦ omega (arith, ints, same)
+  | inr same ↦ no_rise t prices s m (price_of prices f s m) (price_of prices f s (m + 1)) (omega (arith, ints, same))
 ]
 
 -- what holds of the step at each place holds of all steps
@@ -116,59 +118,66 @@ each_step P steps all k d below = subst P (get_or_default steps k no_step d belo
 
 -- the answers of the tests, from those at steps
 pub within_by_steps : (t : Tables) (prices : Prices) (b : Bool) → ArePricesOf t prices → AreRents t prices
-    → MatchBool b (AreWithinAtSteps prices) (¬ (AreWithinAtSteps prices)) → MatchBool b (AreWithin t prices) (¬ (AreWithin t prices))
+    → MatchBool b (AreWithinAtSteps t prices) (¬ (AreWithinAtSteps t prices)) → MatchBool b (AreWithin t prices) (¬ (AreWithin t prices))
 within_by_steps t prices true known rents all =
-    record { rents = rents; each = λ f s m fleet station within. within_everywhere prices (each_step (IsWithinAt prices) prices.steps all) f s m within }
+    record { rents = rents; each = λ f s m fleet station within. within_everywhere t prices (each_step (IsWithinAt t prices) prices.steps all) f s m within }
 within_by_steps t prices false known rents none =
     λ within. none (λ k below. record { is = λ small. within.each _ _ _ (known k no_step below).fleet (known k no_step below).station small })
 
 pub falls_by_steps : (t : Tables) (prices : Prices) (b : Bool) → ArePricesOf t prices
-    → MatchBool b (FallAtSteps prices) (¬ (FallAtSteps prices)) → MatchBool b (NeverRise t prices) (¬ (NeverRise t prices))
-falls_by_steps t prices true known all = record { each = λ f s m fleet station within. falls_everywhere prices (each_step (FallsAt prices) prices.steps all) f s m within }
+    → MatchBool b (FallAtSteps t prices) (¬ (FallAtSteps t prices)) → MatchBool b (NeverRise t prices) (¬ (NeverRise t prices))
+falls_by_steps t prices true known all = record { each = λ f s m fleet station within. falls_everywhere t prices (each_step (FallsAt t prices) prices.steps all) f s m within }
 falls_by_steps t prices false known none =
     λ falls. none (λ k below. record { is = λ m minute within. falls.each _ _ m (known k no_step below).fleet (known k no_step below).station within })
 
 -- over the end of the period
-rises_everywhere : (t : Tables) (prices : Prices) → AreRents t prices → All (RisesByRentAt prices) prices.steps → (f s : ℕ) → f < fleets_in t → RisesByRent prices f s
-rises_everywhere t prices rents all f s fleet = elim (some_or_none (RisesByRentAt prices) f s 0 prices.steps (pos 0) all) [
+rises_everywhere : (t : Tables) (prices : Prices) → AreRents t prices → All (RisesByRentAt t prices) prices.steps → (f s : ℕ) → f < fleets_in t → RisesOverEnd t prices f s
+rises_everywhere t prices rents all f s fleet = elim (some_or_none (RisesByRentAt t prices) f s 0 prices.steps (pos 0) all) [
   | inl there ↦ rw (there.1.fleet, there.1.station) at there.1.holds.is
-  | inr first ↦ elim (some_or_none (RisesByRentAt prices) f s last_minute prices.steps (pos 0) all) [
+  | inr first ↦ elim (some_or_none (RisesByRentAt t prices) f s (last_of t) prices.steps (pos 0) all) [
     | inl there ↦ rw (there.1.fleet, there.1.station) at there.1.holds.is
-    | inr last ↦ omega (arith, ints, first, last, (rents f fleet).some)
+    | inr last ↦ no_rise t prices s (last_of t) (price_of prices f s (last_of t) +ℤ rent_of prices f) (price_of prices f s 0) (omega (arith, ints, first, last, (rents f fleet).some))
   ]
 ]
 
 pub rises_by_steps : (t : Tables) (prices : Prices) (b : Bool) → ArePricesOf t prices → AreRents t prices
-    → MatchBool b (RiseAtSteps prices) (¬ (RiseAtSteps prices)) → MatchBool b (RiseByRent t prices) (¬ (RiseByRent t prices))
-rises_by_steps t prices true known rents all = record { each = λ f s fleet station. rises_everywhere t prices rents (each_step (RisesByRentAt prices) prices.steps all) f s fleet }
+    → MatchBool b (RiseAtSteps t prices) (¬ (RiseAtSteps t prices)) → MatchBool b (RiseByRent t prices) (¬ (RiseByRent t prices))
+rises_by_steps t prices true known rents all = record { each = λ f s fleet station. rises_everywhere t prices rents (each_step (RisesByRentAt t prices) prices.steps all) f s fleet }
 rises_by_steps t prices false known rents none =
     λ rise. none (λ k below. record { is = rise.each _ _ (known k no_step below).fleet (known k no_step below).station })
 
 -- a step of the same fleet at the same station as one before it
-moved : (prices : Prices) (a b : PriceStep) → ((a.fleet == b.fleet) && (a.station == b.station)) ≡ true → RisesByRentAt prices a → RisesByRentAt prices b
-moved prices a b same rise = at_place (grind (arith, nat_tests)) (grind (arith, nat_tests))
+moved : (t : Tables) (prices : Prices) (a b : PriceStep) → ((a.fleet == b.fleet) && (a.station == b.station)) ≡ true → RisesByRentAt t prices a → RisesByRentAt t prices b
+moved t prices a b same rise = at_place (grind (arith, nat_tests)) (grind (arith, nat_tests))
   where
-    at_place : a.fleet ≡ b.fleet → a.station ≡ b.station → RisesByRentAt prices b
+    at_place : a.fleet ≡ b.fleet → a.station ≡ b.station → RisesByRentAt t prices b
     at_place p q = record { is = rw (p, q) at rise.is }
 
-pub risen_before : (prices : Prices) (place : ℕ) → goes_on_at prices place ≡ true → RiseBefore prices place → RisesByRentAt prices (step_at prices place)
-risen_before prices zero follows before = absurd (false≢true follows)
-risen_before prices (suc place) follows before =
+pub risen_before : (t : Tables) (prices : Prices) (place : ℕ) → goes_on_at prices place ≡ true → RiseBefore t prices place → RisesByRentAt t prices (step_at prices place)
+risen_before t prices zero follows before = absurd (false≢true follows)
+risen_before t prices (suc place) follows before =
     let some : (suc place == 0) ≡ false = grind (arith, nat_tests) in
     let earlier : suc place - 1 ≡ place = omega arith in
-    moved prices (step_at prices place) (step_at prices (suc place)) (rw (some, earlier) at follows) (before place (omega arith))
+    moved t prices (step_at prices place) (step_at prices (suc place)) (rw (some, earlier) at follows) (before place (omega arith))
 
 -- over the end of the period, of one step
-pub risen_at : (prices : Prices) (step : PriceStep) (b : Bool) (first last rent : ℤ) → first ≡ price_of prices step.fleet step.station 0
-    → last ≡ price_of prices step.fleet step.station last_minute → rent ≡ rent_of prices step.fleet → IsPrice first → IsPrice last → IsRent rent
-    → MatchBool b (held first ≤ℤ held (held last +ℤ held rent)) (held (held last +ℤ held rent) <ℤ held first) → MatchBool b (RisesByRentAt prices step) (¬ (RisesByRentAt prices step))
-risen_at prices step b first last rent p q r small_first small_last small_rent test =
+pub risen_at : (t : Tables) (prices : Prices) (step : PriceStep) (b : Bool) (end : ℕ) (first last rent after : ℤ) → end ≡ last_of t → first ≡ price_of prices step.fleet step.station 0
+    → last ≡ price_of prices step.fleet step.station end → rent ≡ rent_of prices step.fleet → after ≡ with_charge prices step.station end (held (held last +ℤ held rent))
+    → IsPrice first → IsPrice last → IsRent rent → SFits w128 after
+    → MatchBool b (held first ≤ℤ held after) (held after <ℤ held first) → MatchBool b (RisesByRentAt t prices step) (¬ (RisesByRentAt t prices step))
+risen_at t prices step b end first last rent after e p q r a small_first small_last small_rent fits test =
     let first_held = is_held 1 first (record { no_less = omega (arith, ints); no_more = omega (arith, ints) }) (omega arith) in
     let last_held = is_held 1 last (record { no_less = omega (arith, ints); no_more = omega (arith, ints) }) (omega arith) in
     let rent_held = is_held 1 rent (record { no_less = omega (arith, ints); no_more = omega (arith, ints) }) (omega arith) in
     let sum_held = is_held 2 (last +ℤ rent) (record { no_less = omega (arith, ints); no_more = omega (arith, ints) }) (omega arith) in
-    by_answer b (rw (first_held, last_held, rent_held, sum_held) at test)
+    let after_held : held after ≡ after = to_z-of_z w128 after fits in
+    let whole = a ∙ ap (λ z. with_charge prices step.station end z) (rw (last_held, rent_held, sum_held) refl) ∙ by_end e in
+    by_answer b whole (rw (first_held, after_held) at test)
   where
-    by_answer : (b : Bool) → MatchBool b (first ≤ℤ (last +ℤ rent)) ((last +ℤ rent) <ℤ first) → MatchBool b (RisesByRentAt prices step) (¬ (RisesByRentAt prices step))
-    by_answer true test = record { is = omega (arith, ints, p, q, r, test) }
-    by_answer false test = λ rise. absurd (omega (arith, ints, p, q, r, test, rise.is))
+    by_end : end ≡ last_of t → with_charge prices step.station end (last +ℤ rent) ≡ with_charge prices step.station (last_of t) (price_of prices step.fleet step.station (last_of t) +ℤ rent_of prices step.fleet)
+    by_end e = rw (q, r, e) refl
+
+    by_answer : (b : Bool) → after ≡ with_charge prices step.station (last_of t) (price_of prices step.fleet step.station (last_of t) +ℤ rent_of prices step.fleet)
+        → MatchBool b (first ≤ℤ after) (after <ℤ first) → MatchBool b (RisesByRentAt t prices step) (¬ (RisesByRentAt t prices step))
+    by_answer true whole test = record { is = subst (λ z. price_of prices step.fleet step.station 0 ≤ℤ z) whole (subst (λ z. z ≤ℤ after) p test) }
+    by_answer false whole test = λ rise. absurd (omega (arith, ints, test, subst (λ z. z ≤ℤ after) (sym p) (subst (λ z. price_of prices step.fleet step.station 0 ≤ℤ z) (sym whole) rise.is)))

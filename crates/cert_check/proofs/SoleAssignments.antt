@@ -1,10 +1,10 @@
--- Where each leg keeps one fleet, there is an assignment of kept pairs.
+-- Where each leg keeps one pair, there is an assignment of kept pairs.
 use Rattle.std.proofs.Common.{◌≡◌, ℕ, zero, suc, ◌<◌, Bool, true, if◌then◌else◌, List, [], ◌∷◌, ◌++◌, length, get_or, length-append, inl, inr, refl, ◌∙◌, ap, arith}
 use Rattle.std.proofs.lemmas.Bool.{cases_Bool, cases_lt}
 use Rattle.std.proofs.lemmas.List.{get_or_append_left, get_or_push}
 use Rattle.sums.specs.Below.{count_below}
 use Rattle.fleet_model.specs.Kept.{Domains, IsKeptAssignment, IsSole}
-use Rattle.fleet_model.specs.Schedule.{fleets_in, leg_on, legs_in}
+use Rattle.fleet_model.specs.Schedule.{choices_in, leg_on, legs_in}
 use Rattle.fleet_model.specs.declared.tables.Tables.{Tables}
 
 -- the last number below a bound that passes
@@ -45,18 +45,18 @@ value_at f (suc n) k below = elim (cases_lt k n) [
 
 pub sole_has_one : (t : Tables) (keeps : Domains) → IsSole t keeps → (a : List ℕ) × IsKeptAssignment t keeps a
 sole_has_one t keeps sole = (
-  values fleet (legs_in t),
+  values choice (legs_in t),
   record {
     assignment = record {
-      each_leg = values_length fleet (legs_in t);
-      known = λ l below. rw (value_at fleet (legs_in t) l below) (passes l below).0;
+      each_leg = values_length choice (legs_in t);
+      known = λ l below. rw (value_at choice (legs_in t) l below) (passes l below).0;
     };
-    kept = λ l below. rw (value_at fleet (legs_in t) l below) (passes l below).1;
+    kept = λ l below. rw (value_at choice (legs_in t) l below) (passes l below).1;
   },
 )
   where
-    fleet : ℕ → ℕ
-    fleet l = chosen (λ f. keeps (leg_on l f)) (fleets_in t)
+    choice : ℕ → ℕ
+    choice l = chosen (λ c. keeps (leg_on l c)) (choices_in t l)
 
-    passes : (l : ℕ) → l < legs_in t → (fleet l < fleets_in t) × (keeps (leg_on l (fleet l)) ≡ true)
-    passes l below = chosen_passes (λ f. keeps (leg_on l f)) (fleets_in t) (omega (arith, sole.each l below))
+    passes : (l : ℕ) → l < legs_in t → (choice l < choices_in t l) × (keeps (leg_on l (choice l)) ≡ true)
+    passes l below = chosen_passes (λ c. keeps (leg_on l c)) (choices_in t l) (omega (arith, sole.each l below))

@@ -1,10 +1,10 @@
 -- What is looked at of the fractional assignment of a node, one by one.
-use Rattle.std.specs.Prelude.{◌≡◌, ℕ, ◌*◌, ◌<◌, ◌≤◌, false, ℤ, pos, ◌≤ℤ◌}
+use Rattle.std.specs.Prelude.{◌≡◌, ℕ, ◌*◌, ◌<◌, ◌≤◌, false, Some, ℤ, pos, ◌≤ℤ◌}
 use Rattle.fleet_model.specs.Counts.{arrived, departed}
 use Rattle.fleet_model.specs.Kept.{Domains}
 use Rattle.fleet_model.specs.Mixed.{weight_on}
-use Rattle.fleet_model.specs.Schedule.{fleet_of, fleets_in, last_of, leg_on, legs_in, stations_in}
-use Rattle.fleet_model.specs.Use.{used_of}
+use Rattle.fleet_model.specs.Schedule.{choices_in, days_in, fleet_of, fleets_in, last_of, leg_on, legs_in, parking_of, stations_in}
+use Rattle.fleet_model.specs.Use.{parked, used_of}
 use Rattle.fleet_model.specs.declared.tables.Tables.{Tables}
 use Rattle.dual_bound.specs.Fractions.{parts_in, parts_of_leg}
 use Rattle.dual_bound.specs.Prices.{max_scale}
@@ -15,9 +15,9 @@ pub record IsSmallWeight (weight : ℤ) : Type 0 where
   pub some : pos 0 ≤ℤ weight
   pub small : weight ≤ℤ pos max_scale
 
--- what is looked at leg by leg and fleet by fleet: no part is flown of a pair that is not kept
+-- what is looked at leg by leg and choice by choice: no part is flown of a pair that is not kept
 abbrev pub FliesKeptOn : Tables → Domains → Mixed → ℕ → Type 0
-FliesKeptOn t keeps mixed l = (f : ℕ) → f < fleets_in t → keeps (leg_on l f) ≡ false → parts_in mixed (leg_on l f) ≡ 0
+FliesKeptOn t keeps mixed l = (c : ℕ) → c < choices_in t l → keeps (leg_on l c) ≡ false → parts_in mixed (leg_on l c) ≡ 0
 
 abbrev pub FliesKept : Tables → Domains → Mixed → Type 0
 FliesKept t keeps mixed = (l : ℕ) → l < legs_in t → FliesKeptOn t keeps mixed l
@@ -33,3 +33,15 @@ BalancesFleet t mixed f = (s : ℕ) → s < stations_in t → arrived t (parts_i
 -- no fleet uses more aircraft than it has, so many parts each
 abbrev pub UsesNoMore : Tables → Mixed → Type 0
 UsesNoMore t mixed = (f : ℕ) → f < fleets_in t → used_of t (parts_in mixed) f ≤ parts_of_leg mixed * (fleet_of t f).aircraft
+
+-- at the end of a day no more aircraft stand at a station than may, so many parts each
+abbrev pub HasRoomOn : Tables → Mixed → ℕ → ℕ → Type 0
+HasRoomOn t mixed s d = (limit : ℕ) → parking_of t s ≡ Some limit → parked t (parts_in mixed) s d ≤ parts_of_leg mixed * limit
+
+-- at the end of each of the first days no more than so many parts of aircraft stand there
+abbrev pub HasRoomUntil : Tables → Mixed → ℕ → ℕ → ℕ → Type 0
+HasRoomUntil t mixed s most days = (d : ℕ) → 0 < d → d ≤ days → parked t (parts_in mixed) s d ≤ most
+
+-- .. of each day
+abbrev pub HasRoomAt : Tables → Mixed → ℕ → ℕ → Type 0
+HasRoomAt t mixed s most = HasRoomUntil t mixed s most (days_in t)

@@ -1,37 +1,38 @@
 -- What is looked at of prices where a step stands, rule by rule.
 use Rattle.std.specs.Prelude.{◌≡◌, ℕ, ◌+◌, ◌-◌, ◌<◌, ◌==◌, Bool, false, if◌then◌else◌, length, ◌≤ℤ◌}
-use Rattle.fleet_model.specs.declared.limits.TheConstants.{MINUTES_PER_PERIOD}
+use Rattle.fleet_model.specs.Schedule.{period_of}
+use Rattle.fleet_model.specs.declared.tables.Tables.{Tables}
 use Rattle.dual_bound.specs.Order.{same_place}
 use Rattle.dual_bound.specs.Rising.{step_at}
-use Rattle.dual_bound.specs.Prices.{IsPrice, RisesByRent, price_of}
+use Rattle.dual_bound.specs.Prices.{IsPrice, RisesOverEnd, price_of, with_charge}
 use Rattle.dual_bound.specs.declared.prices.Prices.{Prices}
 use Rattle.dual_bound.specs.declared.prices.PriceStep.{PriceStep}
 
 -- a price within its limits
-pub record IsWithinAt (prices : Prices) (step : PriceStep) : Type 0 where
-  pub is : step.minute < MINUTES_PER_PERIOD → IsPrice (price_of prices step.fleet step.station step.minute)
+pub record IsWithinAt (t : Tables) (prices : Prices) (step : PriceStep) : Type 0 where
+  pub is : step.minute < period_of t → IsPrice (price_of prices step.fleet step.station step.minute)
 
--- a price no greater than a minute before
-pub record FallsAt (prices : Prices) (step : PriceStep) : Type 0 where
-  pub is : (m : ℕ) → step.minute ≡ m + 1 → m + 1 < MINUTES_PER_PERIOD
-      → price_of prices step.fleet step.station (m + 1) ≤ℤ price_of prices step.fleet step.station m
+-- a price no greater than a minute before, but for a charge
+pub record FallsAt (t : Tables) (prices : Prices) (step : PriceStep) : Type 0 where
+  pub is : (m : ℕ) → step.minute ≡ m + 1 → m + 1 < period_of t
+      → price_of prices step.fleet step.station (m + 1) ≤ℤ with_charge prices step.station m (price_of prices step.fleet step.station m)
 
--- a price that rises by the rent at most over the end of the period
-pub record RisesByRentAt (prices : Prices) (step : PriceStep) : Type 0 where
-  pub is : RisesByRent prices step.fleet step.station
+-- a price that rises by the rent at most over the end of the period, but for a charge
+pub record RisesByRentAt (t : Tables) (prices : Prices) (step : PriceStep) : Type 0 where
+  pub is : RisesOverEnd t prices step.fleet step.station
 
 -- what is looked at where each step stands, rule by rule
-abbrev pub AreWithinAtSteps : Prices → Type 0
-AreWithinAtSteps prices = (k : ℕ) → k < length prices.steps → IsWithinAt prices (step_at prices k)
+abbrev pub AreWithinAtSteps : Tables → Prices → Type 0
+AreWithinAtSteps t prices = (k : ℕ) → k < length prices.steps → IsWithinAt t prices (step_at prices k)
 
-abbrev pub FallAtSteps : Prices → Type 0
-FallAtSteps prices = (k : ℕ) → k < length prices.steps → FallsAt prices (step_at prices k)
+abbrev pub FallAtSteps : Tables → Prices → Type 0
+FallAtSteps t prices = (k : ℕ) → k < length prices.steps → FallsAt t prices (step_at prices k)
 
-abbrev pub RiseBefore : Prices → ℕ → Type 0
-RiseBefore prices place = (k : ℕ) → k < place → RisesByRentAt prices (step_at prices k)
+abbrev pub RiseBefore : Tables → Prices → ℕ → Type 0
+RiseBefore t prices place = (k : ℕ) → k < place → RisesByRentAt t prices (step_at prices k)
 
-abbrev pub RiseAtSteps : Prices → Type 0
-RiseAtSteps prices = RiseBefore prices (length prices.steps)
+abbrev pub RiseAtSteps : Tables → Prices → Type 0
+RiseAtSteps t prices = RiseBefore t prices (length prices.steps)
 
 -- the step before a place is of the same fleet at the same station
 abbrev pub goes_on_at : Prices → ℕ → Bool

@@ -4,8 +4,8 @@ ghost use Rattle.sums.specs.Below.{sum_below_ℤ};
 ghost use Rattle.fleet_model.specs.Kept.{kept_by};
 ghost use Rattle.fleet_model.specs.Limits.{IsCost};
 ghost use Rattle.fleet_model.specs.Mixed.{mixed_cost, weighted_cost};
-ghost use Rattle.fleet_model.specs.Schedule.{IsPair, fleets_in, leg_on, legs_in};
-ghost use Rattle.fleet_model.specs.declared.limits.TheConstants.{MAX_FLEETS};
+ghost use Rattle.fleet_model.specs.Schedule.{IsPair, choices_in, leg_on, legs_in};
+ghost use Rattle.fleet_model.specs.declared.limits.TheConstants.{MAX_CHOICES};
 ghost use Rattle.dual_bound.specs.Mixed.{weight_in};
 ghost use Rattle.dual_bound.specs.Prices.{ArePrices};
 ghost use Rattle.dual_bound.specs.Sizes.{IsUpTo};
@@ -30,10 +30,10 @@ pub(crate) fn is_fraction(tables: &Tables, kept: &Kept, prices: &Prices, mixed: 
 }
 
 /// Whether a pair is flown wholly or not at all. Takes no memory.
-pub(crate) fn is_whole_pair(mixed: &WeightFinder<'_>, leg: u32, fleet: u32) -> bool
-    ensures { MatchBool result (IsWholePair mixed.now leg fleet) (¬ (IsWholePair mixed.now leg fleet)) }
+pub(crate) fn is_whole_pair(mixed: &WeightFinder<'_>, leg: u32, choice: u32) -> bool
+    ensures { MatchBool result (IsWholePair mixed.now leg choice) (¬ (IsWholePair mixed.now leg choice)) }
 {
-    is_end(mixed.scale(), &mixed.weight(Pair { leg, choice: fleet }))
+    is_end(mixed.scale(), &mixed.weight(Pair { leg, choice }))
 }
 
 // Whether a weight is 0 or the scale.
@@ -57,10 +57,11 @@ fn is_whole(tables: &Tables, mixed: &WeightFinder<'_>) -> bool
 
 // Whether each pair of a leg is.
 fn is_whole_leg(tables: &Tables, mixed: &WeightFinder<'_>, leg: u32) -> bool
+    requires { leg < legs_in tables.now }
     ensures { MatchBool result (IsWholeLeg tables.now mixed.now leg) (¬ (IsWholeLeg tables.now mixed.now leg)) }
 {
-    for fleet in 0..tables.fleet_count() {
-        if !is_whole_pair(mixed, leg, fleet) {
+    for choice in 0..tables.choice_count(leg) {
+        if !is_whole_pair(mixed, leg, choice) {
             return false;
         }
     }
@@ -99,12 +100,12 @@ fn cost_of(tables: &Tables, mixed: &WeightFinder<'_>) -> i128
 fn leg_cost(tables: &Tables, mixed: &WeightFinder<'_>, leg: u32) -> i128
     requires parts { AreParts tables.now mixed.now }
     requires leg { leg < legs_in tables.now }
-    ensures value { result ≡ sum_below_ℤ (weighted_cost tables.now (parts_in mixed.now) leg) (fleets_in tables.now) }
-    ensures size { IsUpTo MAX_FLEETS result }
+    ensures value { result ≡ sum_below_ℤ (weighted_cost tables.now (parts_in mixed.now) leg) (choices_in tables.now leg) }
+    ensures size { IsUpTo MAX_CHOICES result }
 {
     let mut sum = 0;
-    for fleet in 0..tables.fleet_count() {
-        sum += weighted_cost(tables, mixed, Pair { leg, choice: fleet });
+    for choice in 0..tables.choice_count(leg) {
+        sum += weighted_cost(tables, mixed, Pair { leg, choice });
     }
     sum
 }

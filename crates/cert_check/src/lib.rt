@@ -6,6 +6,7 @@ pub mod checking;
 mod fraction_rules;
 mod leaves;
 mod mixed_counts;
+mod mixed_room;
 mod mixed_rules;
 mod node_rules;
 mod price_rules;

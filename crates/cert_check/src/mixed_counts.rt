@@ -3,14 +3,23 @@ ghost use Rattle.std.specs.Prelude.{◌≡◌, ◌<◌, ◌≤◌};
 ghost use Rattle.fleet_model.specs.Mixed.{weight_on};
 ghost use Rattle.fleet_model.specs.Schedule.{IsPair, fleets_in, legs_in};
 ghost use Rattle.dual_bound.specs.Prices.{max_scale};
-ghost use Rattle.dual_bound.specs.Fractions.{AreParts, parts_in};
+ghost use Rattle.dual_bound.specs.Fractions.{AreParts, parts_in, parts_of_leg};
 ghost use Rattle.stand_counts.specs.Flights.{of_fleet};
 
 use dual_bound::WeightFinder;
 use fleet_model::{Pair, Tables};
 use stand_counts::Flights;
 
-/// How many parts of a leg a fleet flies.
+/// How many parts a leg has.
+pub(crate) fn leg_parts(tables: &Tables, mixed: &WeightFinder<'_>) -> u128
+    requires { AreParts tables.now mixed.now }
+    ensures value { result ≡ parts_of_leg mixed.now }
+    ensures few { result ≤ max_scale }
+{
+    mixed.scale().unsigned_abs()
+}
+
+/// How many parts of its leg a pair has.
 pub(crate) fn parts(tables: &Tables, mixed: &WeightFinder<'_>, pair: Pair) -> u128
     requires parts { AreParts tables.now mixed.now }
     requires pair { IsPair tables.now pair }
@@ -20,15 +29,15 @@ pub(crate) fn parts(tables: &Tables, mixed: &WeightFinder<'_>, pair: Pair) -> u1
     mixed.weight(pair).unsigned_abs()
 }
 
-/// How many parts of a leg are flown.
+/// How many parts all pairs of a leg have.
 pub(crate) fn weight_on(tables: &Tables, mixed: &WeightFinder<'_>, leg: u32) -> u128
     requires parts { AreParts tables.now mixed.now }
     requires leg { leg < legs_in tables.now }
     ensures { result ≡ weight_on tables.now (parts_in mixed.now) leg }
 {
     let mut sum = 0;
-    for fleet in 0..tables.fleet_count() {
-        sum += parts(tables, mixed, Pair { leg, choice: fleet });
+    for choice in 0..tables.choice_count(leg) {
+        sum += parts(tables, mixed, Pair { leg, choice });
     }
     sum
 }

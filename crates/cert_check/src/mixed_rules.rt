@@ -2,23 +2,22 @@
 //!
 //! The most is taken by need: for each fleet and each two legs from one station it asks for a weight, which is found by
 //! bisection where the entries of the list rise, and else by a look at each.
-ghost use Rattle.std.specs.Prelude.{◌≡◌, ◌*◌, ◌<◌, ◌≤◌, MatchBool};
+ghost use Rattle.std.specs.Prelude.{◌≡◌, ◌*◌, ◌<◌, MatchBool};
 ghost use Rattle.fleet_model.specs.Kept.{kept_by};
 ghost use Rattle.fleet_model.specs.Schedule.{fleet_of, fleets_in, legs_in};
 ghost use Rattle.fleet_model.specs.Use.{IsBalanced};
-ghost use Rattle.dual_bound.specs.Prices.{max_scale};
 ghost use Rattle.dual_bound.specs.Fractions.{AreParts, HasAllWeights, HasWeights, IsMixedAt, IsWeight, parts_in, parts_of_leg};
 ghost use Rattle.cert_check.specs.MixedRules.{BalancesFleet, Covers, FliesKept, FliesKeptOn, UsesNoMore};
 
-use crate::mixed_counts::{Parted, parts, weight_on};
+use crate::mixed_counts::{Parted, leg_parts, parts, weight_on};
+use crate::mixed_room::has_room;
 use crate::price_rules::is_scale;
 use dual_bound::{Mixed, WeightFinder};
 use fleet_model::{Kept, Pair, Tables};
 use stand_counts::{arrivals, departures, used};
 
 /// Whether a fractional assignment is one of a subproblem: scale and weights within their limits, weights on kept
-/// pairs alone, which sum to the scale for each leg, balanced, and within the fleets. Takes no memory.
-#[tactic(auto, using(fleet_model::proofs::Choices::nothing_parked))]
+/// pairs alone, which sum to the scale for each leg, balanced, within the fleets, and with room at night. Takes no memory.
 pub(crate) fn is_mixed(tables: &Tables, kept: &Kept, mixed: &Mixed) -> bool
     ensures { MatchBool result (IsMixedAt tables.now (kept_by kept.now) mixed.now) (¬ (IsMixedAt tables.now (kept_by kept.now) mixed.now)) }
 {
@@ -28,6 +27,7 @@ pub(crate) fn is_mixed(tables: &Tables, kept: &Kept, mixed: &Mixed) -> bool
         && covers(tables, &mixed)
         && is_balanced(tables, &mixed)
         && uses_no_more(tables, &mixed)
+        && has_room(tables, &mixed)
 }
 
 // Whether the scale and all weights are within their limits.
@@ -51,10 +51,11 @@ fn have_weights(tables: &Tables, mixed: &WeightFinder<'_>) -> bool
 
 // Whether the weights of a leg's pairs are.
 fn has_weights(tables: &Tables, mixed: &WeightFinder<'_>, leg: u32) -> bool
+    requires { leg < legs_in tables.now }
     ensures { MatchBool result (HasWeights tables.now mixed.now leg) (¬ (HasWeights tables.now mixed.now leg)) }
 {
-    for fleet in 0..tables.fleet_count() {
-        if !is_weight(mixed.scale(), &mixed.weight(Pair { leg, choice: fleet })) {
+    for choice in 0..tables.choice_count(leg) {
+        if !is_weight(mixed.scale(), &mixed.weight(Pair { leg, choice })) {
             return false;
         }
     }
@@ -87,15 +88,15 @@ fn flies_kept_on(tables: &Tables, kept: &Kept, mixed: &WeightFinder<'_>, leg: u3
     requires leg { leg < legs_in tables.now }
     ensures { MatchBool result (FliesKeptOn tables.now (kept_by kept.now) mixed.now leg) (¬ (FliesKeptOn tables.now (kept_by kept.now) mixed.now leg)) }
 {
-    for fleet in 0..tables.fleet_count() {
-        if !kept.kept(leg, fleet) && parts(tables, mixed, Pair { leg, choice: fleet }) != 0 {
+    for choice in 0..tables.choice_count(leg) {
+        if !kept.kept(leg, choice) && parts(tables, mixed, Pair { leg, choice }) != 0 {
             return false;
         }
     }
     true
 }
 
-// Whether each leg is flown in all its parts.
+// Whether the weights of each leg sum to the scale.
 fn covers(tables: &Tables, mixed: &WeightFinder<'_>) -> bool
     requires { AreParts tables.now mixed.now }
     ensures { MatchBool result (Covers tables.now mixed.now) (¬ (Covers tables.now mixed.now)) }
@@ -161,13 +162,4 @@ fn aircraft_parts(tables: &Tables, mixed: &WeightFinder<'_>, fleet: u32) -> u128
     ensures { result ≡ parts_of_leg mixed.now * (fleet_of tables.now fleet).aircraft }
 {
     leg_parts(tables, mixed) * u128::from(tables.fleet(fleet).aircraft)
-}
-
-// How many parts a leg has.
-fn leg_parts(tables: &Tables, mixed: &WeightFinder<'_>) -> u128
-    requires { AreParts tables.now mixed.now }
-    ensures value { result ≡ parts_of_leg mixed.now }
-    ensures few { result ≤ max_scale }
-{
-    mixed.scale().unsigned_abs()
 }

@@ -3,18 +3,16 @@
 //! Between two steps a price stays, so it is looked at only where a step stands. Where the steps rise by fleet, station
 //! and minute, each rule is told in one pass; else each call takes a look at each step for each step at most.
 ghost use Rattle.std.specs.Prelude.{◌≡◌, ◌<◌, MatchBool, ◌≤ℤ◌, ◌<ℤ◌, length};
-ghost use Rattle.fleet_model.specs.Schedule.{fleets_in};
-ghost use Rattle.fleet_model.specs.declared.limits.TheConstants.{MINUTES_PER_PERIOD};
+ghost use Rattle.fleet_model.specs.Schedule.{fleets_in, period_of};
 ghost use Rattle.dual_bound.specs.Order.{same_place};
 ghost use Rattle.dual_bound.specs.Rising.{step_at};
 ghost use Rattle.dual_bound.specs.OfTables.{ArePricesOf, IsStepOf};
-ghost use Rattle.dual_bound.specs.Prices.{AreRents, AreWithin, IsPrice, IsRent, IsScale, NeverRise, RiseByRent, price_of, rent_of};
+ghost use Rattle.dual_bound.specs.Prices.{AreRents, AreWithin, IsPrice, IsRent, IsScale, NeverRise, RiseByRent, price_of, rent_of, with_charge};
 ghost use Rattle.cert_check.specs.PriceRules.{AreWithinAtSteps, FallAtSteps, FallsAt, IsWithinAt, RiseAtSteps, RiseBefore, RisesByRentAt, goes_on_at};
 
 use dual_bound::prices::{MAX_PRICE, MAX_SCALE};
 use dual_bound::{PriceFinder, PriceStep, Prices};
 use fleet_model::Tables;
-use fleet_model::limits::MINUTES_PER_PERIOD;
 
 /// Whether a scale is 1 or more and within its limit. Takes no memory.
 pub(crate) fn is_scale(scale: &i128) -> bool
@@ -29,19 +27,19 @@ pub(crate) fn are_within(tables: &Tables, prices: &Prices) -> bool
     requires { ArePricesOf tables.now prices.now }
     ensures { MatchBool result (AreWithin tables.now prices.now) (¬ (AreWithin tables.now prices.now)) }
 {
-    are_rents(tables, prices) && are_steps_within(&PriceFinder::new(prices))
+    are_rents(tables, prices) && are_steps_within(tables, &PriceFinder::new(prices))
 }
 
-/// Whether no price rises from one minute to the next. Takes no memory.
+/// Whether no price rises from one minute to the next, but by a charge. Takes no memory.
 #[tactic(auto, using(crate::proofs::PriceSteps::falls_by_steps))]
 pub(crate) fn never_rise(tables: &Tables, prices: &Prices) -> bool
     requires { ArePricesOf tables.now prices.now }
     ensures { MatchBool result (NeverRise tables.now prices.now) (¬ (NeverRise tables.now prices.now)) }
 {
-    steps_fall(&PriceFinder::new(prices))
+    steps_fall(tables, &PriceFinder::new(prices))
 }
 
-/// Whether no price rises by more than the rent over the end of the period. Takes no memory.
+/// Whether no price rises by more than the rent over the end of the period, but by a charge. Takes no memory.
 #[tactic(auto, using(crate::proofs::PriceSteps::rises_by_steps))]
 pub(crate) fn rise_by_rent(tables: &Tables, prices: &Prices) -> bool
     requires known { ArePricesOf tables.now prices.now }
@@ -71,11 +69,11 @@ fn is_rent(rent: &i128) -> bool
 }
 
 // Whether prices are within their limits wherever a step stands.
-fn are_steps_within(prices: &PriceFinder<'_>) -> bool
-    ensures { MatchBool result (AreWithinAtSteps prices.now) (¬ (AreWithinAtSteps prices.now)) }
+fn are_steps_within(tables: &Tables, prices: &PriceFinder<'_>) -> bool
+    ensures { MatchBool result (AreWithinAtSteps tables.now prices.now) (¬ (AreWithinAtSteps tables.now prices.now)) }
 {
     for place in 0..prices.step_count() {
-        if !is_within_at(prices, place) {
+        if !is_within_at(tables, prices, place) {
             return false;
         }
     }
@@ -83,11 +81,11 @@ fn are_steps_within(prices: &PriceFinder<'_>) -> bool
 }
 
 // Whether the price is within its limits where a step stands.
-fn is_within_at(prices: &PriceFinder<'_>, place: usize) -> bool
+fn is_within_at(tables: &Tables, prices: &PriceFinder<'_>, place: usize) -> bool
     requires { place < length prices.now.steps }
-    ensures { MatchBool result (IsWithinAt prices.now (step_at prices.now place)) (¬ (IsWithinAt prices.now (step_at prices.now place))) }
+    ensures { MatchBool result (IsWithinAt tables.now prices.now (step_at prices.now place)) (¬ (IsWithinAt tables.now prices.now (step_at prices.now place))) }
 {
-    prices.step(place).minute >= MINUTES_PER_PERIOD || is_price(&prices.price_at(place))
+    prices.step(place).minute >= tables.period() || is_price(&prices.price_at(place))
 }
 
 // Whether a price is within its limits.
@@ -97,28 +95,42 @@ fn is_price(price: &i128) -> bool
     -MAX_PRICE <= *price && *price <= MAX_PRICE
 }
 
-// Whether no price rises where a step stands.
-fn steps_fall(prices: &PriceFinder<'_>) -> bool
-    ensures { MatchBool result (FallAtSteps prices.now) (¬ (FallAtSteps prices.now)) }
+// Whether no price rises where a step stands, but by a charge.
+fn steps_fall(tables: &Tables, prices: &PriceFinder<'_>) -> bool
+    ensures { MatchBool result (FallAtSteps tables.now prices.now) (¬ (FallAtSteps tables.now prices.now)) }
 {
     for place in 0..prices.step_count() {
-        if !falls_at(prices, place) {
+        if !falls_at(tables, prices, place) {
             return false;
         }
     }
     true
 }
 
-// Whether the price does not rise where a step stands.
-fn falls_at(prices: &PriceFinder<'_>, place: usize) -> bool
+// Whether the price does not rise where a step stands, but by a charge.
+fn falls_at(tables: &Tables, prices: &PriceFinder<'_>, place: usize) -> bool
     requires { place < length prices.now.steps }
-    ensures { MatchBool result (FallsAt prices.now (step_at prices.now place)) (¬ (FallsAt prices.now (step_at prices.now place))) }
+    ensures { MatchBool result (FallsAt tables.now prices.now (step_at prices.now place)) (¬ (FallsAt tables.now prices.now (step_at prices.now place))) }
 {
     let step = prices.step(place);
-    if step.minute == 0 || step.minute >= MINUTES_PER_PERIOD {
+    if step.minute == 0 || step.minute >= tables.period() {
         return true;
     }
-    is_no_more(&prices.price_at(place), &prices.price_before(place))
+    let before = prices.price_before(place);
+    is_no_more(
+        &prices.price_at(place),
+        &with_charge(prices, step.station, step.minute - 1, &before),
+    )
+}
+
+// What a price at a minute may be a minute later: the price, and what the station charges where the minute ends a day.
+// Nothing is charged yet.
+#[tactic(auto, unfolding(dual_bound::specs::Prices::with_charge))]
+fn with_charge(prices: &PriceFinder<'_>, station: u32, minute: u16, price: &i128) -> i128
+    ensures { result ≡ with_charge prices.now station minute price.now }
+{
+    let (_prices, _station, _minute) = (prices, station, minute);
+    *price
 }
 
 /// Whether a number is no more than another.
@@ -128,11 +140,11 @@ pub(crate) fn is_no_more(first: &i128, second: &i128) -> bool
     *first <= *second
 }
 
-// Whether no price rises by more than the rent over the end of the period, of those with a step.
+// Whether no price rises by more than the rent over the end of the period, but by a charge, of those with a step.
 fn steps_rise_by_rent(tables: &Tables, prices: &PriceFinder<'_>) -> bool
     requires known { ArePricesOf tables.now prices.now }
     requires within { AreWithin tables.now prices.now }
-    ensures { MatchBool result (RiseAtSteps prices.now) (¬ (RiseAtSteps prices.now)) }
+    ensures { MatchBool result (RiseAtSteps tables.now prices.now) (¬ (RiseAtSteps tables.now prices.now)) }
 {
     for place in 0..prices.step_count() {
         if !rises_too(tables, prices, place) {
@@ -143,13 +155,14 @@ fn steps_rise_by_rent(tables: &Tables, prices: &PriceFinder<'_>) -> bool
 }
 
 // Whether the price of the fleet and station of the step at a place rises by the rent at most over the end of the
-// period, where those of the steps before it do. Where the one before it is of the same, there is nothing to look at.
+// period, but for a charge, where those of the steps before it do. Where the one before it is of the same, there is
+// nothing to look at.
 fn rises_too(tables: &Tables, prices: &PriceFinder<'_>, place: usize) -> bool
     requires known { ArePricesOf tables.now prices.now }
     requires within { AreWithin tables.now prices.now }
     requires place { place < length prices.now.steps }
-    requires before { RiseBefore prices.now place }
-    ensures { MatchBool result (RisesByRentAt prices.now (step_at prices.now place)) (¬ (RisesByRentAt prices.now (step_at prices.now place))) }
+    requires before { RiseBefore tables.now prices.now place }
+    ensures { MatchBool result (RisesByRentAt tables.now prices.now (step_at prices.now place)) (¬ (RisesByRentAt tables.now prices.now (step_at prices.now place))) }
 {
     if goes_on(prices, place) {
         return true;
@@ -175,23 +188,27 @@ fn is_same_place(a: &PriceStep, b: &PriceStep) -> bool
     a.fleet == b.fleet && a.station == b.station
 }
 
-// Whether the price of a step's fleet and station rises by the rent at most over the end of the period.
+// Whether the price of a step's fleet and station rises by the rent at most over the end of the period, but for a charge.
 fn rises_by_rent_at(tables: &Tables, prices: &PriceFinder<'_>, step: &PriceStep) -> bool
     requires known { IsStepOf tables.now step.now }
     requires within { AreWithin tables.now prices.now }
-    ensures { MatchBool result (RisesByRentAt prices.now step.now) (¬ (RisesByRentAt prices.now step.now)) }
+    ensures { MatchBool result (RisesByRentAt tables.now prices.now step.now) (¬ (RisesByRentAt tables.now prices.now step.now)) }
 {
+    let end = tables.period() - 1;
     let first = price_within(tables, prices, step, 0);
-    let last = price_within(tables, prices, step, MINUTES_PER_PERIOD - 1);
+    let last = price_within(tables, prices, step, end);
     let rent = rent_within(tables, prices, step.fleet);
-    is_no_more(&first, &(last + rent))
+    is_no_more(
+        &first,
+        &with_charge(prices, step.station, end, &(last + rent)),
+    )
 }
 
 // The price of a step's fleet and station, which is within its limits.
 fn price_within(tables: &Tables, prices: &PriceFinder<'_>, step: &PriceStep, minute: u16) -> i128
     requires known { IsStepOf tables.now step.now }
     requires within { AreWithin tables.now prices.now }
-    requires minute { minute < MINUTES_PER_PERIOD }
+    requires minute { minute < period_of tables.now }
     ensures value { result ≡ price_of prices.now step.now.fleet step.now.station minute }
     ensures size { IsPrice result }
 {

@@ -5,8 +5,8 @@ use Rattle.dual_bound.specs.Sizes.{IsUpTo}
 use Rattle.dual_bound.specs.Fractions.{parts_in}
 use Rattle.cert_check.proofs.fraction_rules.leg_cost.Given as goal
 
-abbrev pub invariant-loop-fleet : goal.invariant-loop-fleet
-invariant-loop-fleet l = record {
-  added : l.sum ≡ sum_below_ℤ (weighted_cost l.tables (parts_in l.mixed) l.leg) l.fleet;
-  size : IsUpTo l.fleet l.sum;
+abbrev pub invariant-loop-choice : goal.invariant-loop-choice
+invariant-loop-choice l = record {
+  added : l.sum ≡ sum_below_ℤ (weighted_cost l.tables (parts_in l.mixed) l.leg) l.choice;
+  size : IsUpTo l.choice l.sum;
 }

@@ -4,5 +4,5 @@ use Rattle.fleet_model.specs.Schedule.{leg_on}
 use Rattle.dual_bound.specs.Fractions.{parts_in}
 use Rattle.cert_check.proofs.mixed_rules.flies_kept_on.Given as goal
 
-abbrev pub invariant-loop-fleet : goal.invariant-loop-fleet
-invariant-loop-fleet l = (f : ℕ) → f < l.fleet → kept_by l.kept (leg_on l.leg f) ≡ false → parts_in l.mixed (leg_on l.leg f) ≡ 0
+abbrev pub invariant-loop-choice : goal.invariant-loop-choice
+invariant-loop-choice l = (c : ℕ) → c < l.choice → kept_by l.kept (leg_on l.leg c) ≡ false → parts_in l.mixed (leg_on l.leg c) ≡ 0

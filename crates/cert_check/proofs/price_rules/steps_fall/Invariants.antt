@@ -4,4 +4,4 @@ use Rattle.cert_check.specs.PriceRules.{FallsAt}
 use Rattle.cert_check.proofs.price_rules.steps_fall.Given as goal
 
 abbrev pub invariant-loop-place : goal.invariant-loop-place
-invariant-loop-place l = (k : ℕ) → k < l.place → FallsAt l.prices (step_at l.prices k)
+invariant-loop-place l = (k : ℕ) → k < l.place → FallsAt l.tables l.prices (step_at l.prices k)

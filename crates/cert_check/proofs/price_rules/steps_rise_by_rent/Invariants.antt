@@ -4,4 +4,4 @@ use Rattle.cert_check.specs.PriceRules.{RisesByRentAt}
 use Rattle.cert_check.proofs.price_rules.steps_rise_by_rent.Given as goal
 
 abbrev pub invariant-loop-place : goal.invariant-loop-place
-invariant-loop-place l = (k : ℕ) → k < l.place → RisesByRentAt l.prices (step_at l.prices k)
+invariant-loop-place l = (k : ℕ) → k < l.place → RisesByRentAt l.tables l.prices (step_at l.prices k)
