@@ -1,5 +1,5 @@
 -- Charges, and pairs that are flown. What the words for them stand for is looked at here alone.
-use Rattle.std.proofs.Common.{◌≡◌, ℕ, ◌+◌, ◌/◌, ◌%◌, ◌<◌, ◌==◌, Bool, true, false, nat_lt, None, ℤ, pos, ◌+ℤ◌, ◌-ℤ◌, ◌*ℤ◌, ◌≤ℤ◌, refl, sym, ◌∙◌, ap, arith}
+use Rattle.std.proofs.Common.{◌≡◌, ℕ, ◌+◌, ◌/◌, ◌%◌, ◌<◌, ◌==◌, Bool, true, false, nat_lt, None, ℤ, pos, ◌+ℤ◌, ◌-ℤ◌, ◌*ℤ◌, ◌≤ℤ◌, refl, sym, ◌∙◌, ap, ap₂, arith}
 use Rattle.std.specs.Prelude.{unwrap_or}
 use Rattle.std.proofs.lemmas.Int.{ints}
 use lib.IntN.{*ℤ-zero}
@@ -10,10 +10,11 @@ use Rattle.sums.proofs.WholeSwaps.{sum_below_ℤ-zero, where_true}
 use Rattle.fleet_model.specs.declared.limits.TheConstants.{MINUTES_PER_DAY}
 use Rattle.fleet_model.specs.declared.parts.Pair.{Pair}
 use Rattle.fleet_model.specs.declared.tables.Tables.{Tables}
-use Rattle.fleet_model.specs.Schedule.{IsPair, fleet_by, fleets_in, parking_of, period_of, stations_in}
+use Rattle.fleet_model.specs.Schedule.{IsPair, fleet_by, fleets_in, leg_of, parking_of, period_of, stations_in}
+use Rattle.fleet_model.specs.Times.{departure, laps_of, ready_minute}
 use Rattle.fleet_model.proofs.FlownPairs.{pairs_are_flown}
-use Rattle.dual_bound.specs.Prices.{charge_of, with_charge}
-use Rattle.dual_bound.specs.Worth.{less_charges, where_flown}
+use Rattle.dual_bound.specs.Prices.{charge_of, price_of, rent_of, with_charge}
+use Rattle.dual_bound.specs.Worth.{cost_units, less_charges, pair_worth, where_flown}
 use Rattle.dual_bound.specs.declared.prices.Prices.{Prices}
 
 -- ---- flown pairs
@@ -25,6 +26,12 @@ flown t p z pair by = where_flown_is t p z pair ∙ ap (λ b. where_true b z) (l
 
 pub not_flown : (t : Tables) (p : Pair) (z : ℤ) → IsPair t p → nat_lt (fleet_by t p) (fleets_in t) ≡ false → where_flown t p z ≡ pos 0
 not_flown t p z pair none = where_flown_is t p z pair ∙ ap (λ b. where_true b z) none
+
+-- what a flown pair is worth
+pub flown_worth : (t : Tables) (prices : Prices) (k : ℕ) (p : Pair) → IsPair t p → fleet_by t p < fleets_in t → pair_worth t prices k p
+    ≡ (pos k *ℤ prices.scale *ℤ cost_units t p)
+    +ℤ (price_of prices (fleet_by t p) (leg_of t p.leg).from (departure t p) -ℤ price_of prices (fleet_by t p) (leg_of t p.leg).to (ready_minute t p)) +ℤ (rent_of prices (fleet_by t p) *ℤ pos (laps_of t p))
+flown_worth t prices k p pair by = ap₂ (λ x y. (pos k *ℤ prices.scale *ℤ cost_units t p) +ℤ x +ℤ y) (flown t p _ pair by) (flown t p _ pair by)
 
 -- ---- charges
 -- the charge by the end of a minute, 0 where it ends no day
@@ -73,3 +80,7 @@ less_charges_is t prices z =
     let station = λ (s : ℕ). sum_below_ℤ-same (λ m. pos (limit_of t s) *ℤ where_true ((m + 1) % MINUTES_PER_DAY == 0) (pos 0)) (λ m. pos 0) (period_of t) (λ m below. each s m) ∙ sum_below_ℤ-zero (period_of t) in
     let all = sum_below_ℤ-same (λ s. sum_below_ℤ (λ m. pos (limit_of t s) *ℤ where_true ((m + 1) % MINUTES_PER_DAY == 0) (pos 0)) (period_of t)) (λ s. pos 0) (stations_in t) (λ s below. station s) ∙ sum_below_ℤ-zero (stations_in t) in
     omega (arith, ints, all)
+
+-- prices with the same charges leave as much of worth
+pub same_charges : (t : Tables) (prices other : Prices) (less more : ℤ) → less ≤ℤ more → less_charges t prices less ≤ℤ less_charges t other more
+same_charges t prices other less more le = le

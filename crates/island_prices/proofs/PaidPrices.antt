@@ -7,7 +7,7 @@ use Rattle.sums.proofs.Places.{get_or-list_below, length-list_below, nothing_at}
 use Rattle.sums.proofs.WholeTerms.{at_least_0}
 use Rattle.fleet_model.specs.Kept.{Domains, IsBare}
 use Rattle.fleet_model.specs.Legal.{cost_of}
-use Rattle.fleet_model.specs.Schedule.{IsFlown, IsPair, fleets_in, last_of, leg_of, leg_on, no_leg, period_of, stations_in}
+use Rattle.fleet_model.specs.Schedule.{IsFlown, IsPair, fleet_by, fleets_in, last_of, leg_of, leg_on, no_leg, period_of, stations_in}
 use Rattle.fleet_model.specs.Times.{busy_minutes, departure, laps_of, ready_minute}
 use Rattle.fleet_model.specs.declared.parts.Pair.{Pair}
 use Rattle.fleet_model.specs.declared.tables.Tables.{Tables}
@@ -17,6 +17,7 @@ use Rattle.dual_bound.specs.Prices.{ArePrices, IsPrice, IsScale, max_price, pric
 use Rattle.dual_bound.specs.Worth.{cost_units, worth_of}
 use Rattle.dual_bound.specs.WrittenOrder.{ArePricesInOrder, IsFigure}
 use Rattle.dual_bound.specs.declared.prices.Prices.{Prices}
+use Rattle.dual_bound.proofs.Charges.{flown_worth, no_rise}
 use Rattle.island_prices.specs.Paid.{any_below, beyond_at, beyond_of, first_beyond, fleet_if, has_beyond, is_beyond, paid_price, paid_prices, paid_rent}
 use Rattle.island_prices.specs.Payback.{AreApart, AreCovered, AreQuiet, PaysBack}
 use Rattle.island_prices.specs.Rises.{AreRises, moved_price}
@@ -155,10 +156,10 @@ module _ (t : Tables) (prices : Prices) (rises : List Rise) (least : List ℕ) (
         each = λ f s m known within period. subst IsPrice (sym (price_told f s m known within period)) (price_fits t (paid_rent prices rounds) (paid_price prices rises rounds) fits f s m known within period);
       };
       fall = record {
-        each = λ f s m known within period. omega (arith, ints, price_told f s (m + 1) known within period, price_told f s m known within (omega arith), falls f s m known within period);
+        each = λ f s m known within period. no_rise t (paid_prices t prices rises rounds) s m _ _ (omega (arith, ints, price_told f s (m + 1) known within period, price_told f s m known within (omega arith), falls f s m known within period));
       };
       rise = record {
-        each = λ f s known within. omega (arith, ints, price_told f s 0 known within (some_minutes t), price_told f s (last_of t) known within (last_in t), rent_told f known, over_end f s known within);
+        each = λ f s known within. no_rise t (paid_prices t prices rises rounds) s (last_of t) _ _ (omega (arith, ints, price_told f s 0 known within (some_minutes t), price_told f s (last_of t) known within (last_in t), rent_told f known, over_end f s known within));
       };
     }
 
@@ -178,7 +179,8 @@ module _ (t : Tables) (prices : Prices) (rises : List Rise) (least : List ℕ) (
     are_of_tables = λ k d below. let is = are_in_order.steps.each k d below in record { fleet = is.fleet; station = is.station }
 
   -- ---- worth no less
-  module _ (keeps : Domains) (k : ℕ) (some_pair : (l : ℕ) → ¬ (IsBare t keeps l)) (allowed : (p : Pair) → IsPair t p → keeps p ≡ true → IsSome (cost_of t p)) (quiet : AreQuiet t keeps rises)
+  module _ (keeps : Domains) (k : ℕ) (some_pair : (l : ℕ) → ¬ (IsBare t keeps l)) (allowed : (p : Pair) → IsPair t p → keeps p ≡ true → IsSome (cost_of t p))
+      (flies : (p : Pair) → IsPair t p → keeps p ≡ true → fleet_by t p < fleets_in t) (quiet : AreQuiet t keeps rises)
       (pays : (j : ℕ) → j < count → PaysBack t (λ s. minute_in rounds s j)) where
     not_grown : (s m : ℕ) → price_grown rounds s m 0 ≡ pos 0
     unfolding price_grown
@@ -190,16 +192,21 @@ module _ (t : Tables) (prices : Prices) (rises : List Rise) (least : List ℕ) (
 
     moves_stay : worth_of t keeps prices k ≤ℤ worth_of t keeps (prices_after 0) k
     moves_stay = same_worth t keeps k prices (prices_after 0) some_pair
-        (λ l f below known kept.
-        let p = leg_on l f in
+        (λ l c below known kept.
+        let p = leg_on l c in
+        let pair : IsPair t p = record { leg = below; choice = known } in
+        let f = fleet_by t p in
+        let by : f < fleets_in t = flies p pair kept in
         let leg = t.in_range.legs_fit.each l no_leg below in
-        let flown : IsFlown t p = record { pair = record { leg = below; choice = known }; by = known } in
+        let flown : IsFlown t p = record { pair = pair; by = by } in
         let out : price_of (prices_after 0) f (leg_of t l).from (departure t p) ≡ price_of prices f (leg_of t l).from (departure t p) =
-        omega (arith, ints, told_price 0 f (leg_of t l).from (departure t p) known leg.from (departs_always t p), quiet.departs p flown kept, not_grown (leg_of t l).from (departure t p)) in
+        omega (arith, ints, told_price 0 f (leg_of t l).from (departure t p) by leg.from (departs_always t p), quiet.departs p flown kept, not_grown (leg_of t l).from (departure t p)) in
         let back : price_of (prices_after 0) f (leg_of t l).to (ready_minute t p) ≡ price_of prices f (leg_of t l).to (ready_minute t p) =
-        omega (arith, ints, told_price 0 f (leg_of t l).to (ready_minute t p) known leg.to (in_period t (departure t p + busy_minutes t p)), quiet.lands p flown kept, not_grown (leg_of t l).to (ready_minute t p)) in
-        ap₂ (λ x y. (pos k *ℤ prices.scale *ℤ cost_units t p) +ℤ (x -ℤ y) +ℤ (rent_of (prices_after 0) f *ℤ pos (laps_of t p))) out back
-        ∙ ap (λ r. (pos k *ℤ prices.scale *ℤ cost_units t p) +ℤ (price_of prices f (leg_of t l).from (departure t p) -ℤ price_of prices f (leg_of t l).to (ready_minute t p)) +ℤ (r *ℤ pos (laps_of t p))) (rent_stays f known))
+        omega (arith, ints, told_price 0 f (leg_of t l).to (ready_minute t p) by leg.to (in_period t (departure t p + busy_minutes t p)), quiet.lands p flown kept, not_grown (leg_of t l).to (ready_minute t p)) in
+        flown_worth t (prices_after 0) k p pair by
+        ∙ ap₂ (λ x y. (pos k *ℤ prices.scale *ℤ cost_units t p) +ℤ (x -ℤ y) +ℤ (rent_of (prices_after 0) f *ℤ pos (laps_of t p))) out back
+        ∙ ap (λ r. (pos k *ℤ prices.scale *ℤ cost_units t p) +ℤ (price_of prices f (leg_of t l).from (departure t p) -ℤ price_of prices f (leg_of t l).to (ready_minute t p)) +ℤ (r *ℤ pos (laps_of t p))) (rent_stays f by)
+        ∙ sym (flown_worth t prices k p pair by))
         rent_stays
       where
         rent_stays : (f : ℕ) → f < fleets_in t → rent_of (prices_after 0) f ≡ rent_of prices f
@@ -207,7 +214,7 @@ module _ (t : Tables) (prices : Prices) (rises : List Rise) (least : List ℕ) (
 
     one_round : (n : ℕ) → n < count → worth_of t keeps (prices_after n) k ≤ℤ worth_of t keeps (prices_after (suc n)) k
     unfolding price_grown rent_grown
-    one_round n below = no_less t keeps k some_pair allowed (prices_after n) (prices_after (suc n)) (number_in rounds n) (number_at_least_0 t rises are least n below) (λ s. minute_in rounds s n) (pays n below) refl
+    one_round n below = no_less t keeps k some_pair allowed flies (prices_after n) (prices_after (suc n)) (number_in rounds n) (number_at_least_0 t rises are least n below) (λ s. minute_in rounds s n) (pays n below) refl
         (λ f s m known within period. omega (arith, ints, told_price n f s m known within period, told_price (suc n) f s m known within period, price_more s m n))
         (λ f known. omega (arith, ints, told_rent n f known, told_rent (suc n) f known, rent_more n))
       where

@@ -13,7 +13,7 @@ use Rattle.sums.proofs.WholeSums.{*ℤ-sum_below_ℤ, sum_below_ℤ--ℤ, sum_be
 use Rattle.sums.proofs.WholeSwaps.{sum_below_ℤ-+ℤ, sum_below_ℤ-zero}
 use Rattle.fleet_model.specs.Kept.{Domains, IsBare}
 use Rattle.fleet_model.specs.Legal.{cost_of}
-use Rattle.fleet_model.specs.Schedule.{IsPair, fleet_of, fleets_in, leg_of, leg_on, legs_in, no_leg, period_of, stations_in}
+use Rattle.fleet_model.specs.Schedule.{IsPair, choices_in, fleet_by, fleet_of, fleets_in, leg_of, leg_on, legs_in, no_leg, period_of, stations_in}
 use Rattle.fleet_model.specs.Times.{busy_minutes, departure, laps_of, ready_minute}
 use Rattle.fleet_model.specs.declared.parts.Pair.{Pair}
 use Rattle.fleet_model.specs.declared.tables.Tables.{Tables}
@@ -21,6 +21,7 @@ use Rattle.fleet_model.proofs.PeriodMinutes.{departs_always, in_period}
 use Rattle.dual_bound.specs.Prices.{price_of, rent_of}
 use Rattle.dual_bound.specs.Worth.{cost_units, least_below, leg_worth, lesser, pair_worth, rents_of, worth_of}
 use Rattle.dual_bound.specs.declared.prices.Prices.{Prices}
+use Rattle.dual_bound.proofs.Charges.{flown_worth, same_charges}
 use Rattle.dual_bound.proofs.Duality.{lesser_le}
 use Rattle.island_cut.specs.Spare.{aircraft_in}
 use Rattle.island_cut.specs.IslandLaws.{AreChoicesFor, left_by, ready_by}
@@ -91,31 +92,31 @@ no_more keeps f (suc n) k d below kept = by_test (keeps n)
 
 -- ---- two prices, where each kept pair is worth so much more by the second
 module _ (t : Tables) (keeps : Domains) (k : ℕ) (some_pair : (l : ℕ) → ¬ (IsBare t keeps l)) (prices other : Prices) (extra : ℕ → ℕ → ℤ)
-    (pairs : (l f : ℕ) → l < legs_in t → f < fleets_in t → keeps (leg_on l f) ≡ true → pair_worth t other k (leg_on l f) ≡ pair_worth t prices k (leg_on l f) +ℤ extra l f) where
+    (pairs : (l c : ℕ) → l < legs_in t → c < choices_in t l → keeps (leg_on l c) ≡ true → pair_worth t other k (leg_on l c) ≡ pair_worth t prices k (leg_on l c) +ℤ extra l c) where
   abbrev IsChosen : ℕ → ℕ → Type 0
-  IsChosen l f = IsLeastAt (λ g. keeps (leg_on l g)) (λ g. pair_worth t other k (leg_on l g)) (fleets_in t) f
+  IsChosen l c = IsLeastAt (λ g. keeps (leg_on l g)) (λ g. pair_worth t other k (leg_on l g)) (choices_in t l) c
 
-  choice : (l : ℕ) → l < legs_in t → (f : ℕ) × IsChosen l f
-  choice l below = by_least (least_below (λ g. keeps (leg_on l g)) (λ g. pair_worth t other k (leg_on l g)) (fleets_in t)) refl
+  choice : (l : ℕ) → l < legs_in t → (c : ℕ) × IsChosen l c
+  choice l below = by_least (least_below (λ g. keeps (leg_on l g)) (λ g. pair_worth t other k (leg_on l g)) (choices_in t l)) refl
     where
-      bare : least_below (λ g. keeps (leg_on l g)) (λ g. pair_worth t other k (leg_on l g)) (fleets_in t) ≡ None → IsBare t keeps l
+      bare : least_below (λ g. keeps (leg_on l g)) (λ g. pair_worth t other k (leg_on l g)) (choices_in t l) ≡ None → IsBare t keeps l
       bare none = record {
         within = below;
-        none = sum_below-agree (λ f. if keeps (leg_on l f) then 1 else 0) (λ f. 0) (fleets_in t) (record {
-          each = λ f known. ap (λ b. if b then 1 else 0) (none_kept (λ g. keeps (leg_on l g)) (λ g. pair_worth t other k (leg_on l g)) (fleets_in t) none f known);
+        none = sum_below-agree (λ c. if keeps (leg_on l c) then 1 else 0) (λ c. 0) (choices_in t l) (record {
+          each = λ c known. ap (λ b. if b then 1 else 0) (none_kept (λ g. keeps (leg_on l g)) (λ g. pair_worth t other k (leg_on l g)) (choices_in t l) none c known);
         })
-            ∙ sum_below-zero (fleets_in t);
+            ∙ sum_below-zero (choices_in t l);
       }
 
-      by_least : (o : Option ℤ) → least_below (λ g. keeps (leg_on l g)) (λ g. pair_worth t other k (leg_on l g)) (fleets_in t) ≡ o → (f : ℕ) × IsChosen l f
+      by_least : (o : Option ℤ) → least_below (λ g. keeps (leg_on l g)) (λ g. pair_worth t other k (leg_on l g)) (choices_in t l) ≡ o → (c : ℕ) × IsChosen l c
       by_least None none = absurd (some_pair l (bare none))
-      by_least (Some z) is = attained (λ g. keeps (leg_on l g)) (λ g. pair_worth t other k (leg_on l g)) (fleets_in t) z is
+      by_least (Some z) is = attained (λ g. keeps (leg_on l g)) (λ g. pair_worth t other k (leg_on l g)) (choices_in t l) z is
 
   chosen_by : (l : ℕ) → (l < legs_in t) ⊎ (legs_in t ≤ l) → ℕ
   chosen_by l (inl below) = (choice l below).0
   chosen_by l (inr past) = 0
 
-  -- of each leg the fleet that is worth least by the second
+  -- of each leg the choice that is worth least by the second
   pub chosen : ℕ → ℕ
   chosen l = chosen_by l (cases_lt l (legs_in t))
 
@@ -131,8 +132,8 @@ module _ (t : Tables) (keeps : Domains) (k : ℕ) (some_pair : (l : ℕ) → ¬ 
   unfolding leg_worth
   leg_gains l below =
       let at = is_chosen l below in
-      let first = no_more (λ g. keeps (leg_on l g)) (λ g. pair_worth t prices k (leg_on l g)) (fleets_in t) (chosen l) (pos 0) at.within at.kept in
-      let second : unwrap_or (least_below (λ g. keeps (leg_on l g)) (λ g. pair_worth t other k (leg_on l g)) (fleets_in t)) (pos 0) ≡ pair_worth t other k (leg_on l (chosen l)) = ap (λ o. unwrap_or o (pos 0)) at.is in
+      let first = no_more (λ g. keeps (leg_on l g)) (λ g. pair_worth t prices k (leg_on l g)) (choices_in t l) (chosen l) (pos 0) at.within at.kept in
+      let second : unwrap_or (least_below (λ g. keeps (leg_on l g)) (λ g. pair_worth t other k (leg_on l g)) (choices_in t l)) (pos 0) ≡ pair_worth t other k (leg_on l (chosen l)) = ap (λ o. unwrap_or o (pos 0)) at.is in
       omega (arith, ints, first, second, pairs l (chosen l) below at.within at.kept)
 
   pub legs_gain : (sum_below_ℤ (leg_worth t keeps prices k) (legs_in t) +ℤ sum_below_ℤ (λ l. extra l (chosen l)) (legs_in t)) ≤ℤ sum_below_ℤ (leg_worth t keeps other k) (legs_in t)
@@ -142,18 +143,18 @@ module _ (t : Tables) (keeps : Domains) (k : ℕ) (some_pair : (l : ℕ) → ¬ 
 
 -- ---- where each kept pair is worth the same
 pub same_worth : (t : Tables) (keeps : Domains) (k : ℕ) (prices other : Prices) → ((l : ℕ) → ¬ (IsBare t keeps l))
-    → ((l f : ℕ) → l < legs_in t → f < fleets_in t → keeps (leg_on l f) ≡ true → pair_worth t other k (leg_on l f) ≡ pair_worth t prices k (leg_on l f))
+    → ((l c : ℕ) → l < legs_in t → c < choices_in t l → keeps (leg_on l c) ≡ true → pair_worth t other k (leg_on l c) ≡ pair_worth t prices k (leg_on l c))
     → ((f : ℕ) → f < fleets_in t → rent_of other f ≡ rent_of prices f) → worth_of t keeps prices k ≤ℤ worth_of t keeps other k
 unfolding worth_of
 same_worth t keeps k prices other some pairs rents =
-    let none : (l f : ℕ) → l < legs_in t → f < fleets_in t → keeps (leg_on l f) ≡ true → pair_worth t other k (leg_on l f) ≡ pair_worth t prices k (leg_on l f) +ℤ pos 0 =
-    λ l f below known kept. omega (arith, ints, pairs l f below known kept) in
-    let legs = legs_gain t keeps k some prices other (λ l f. pos 0) none in
+    let none : (l c : ℕ) → l < legs_in t → c < choices_in t l → keeps (leg_on l c) ≡ true → pair_worth t other k (leg_on l c) ≡ pair_worth t prices k (leg_on l c) +ℤ pos 0 =
+    λ l c below known kept. omega (arith, ints, pairs l c below known kept) in
+    let legs = legs_gain t keeps k some prices other (λ l c. pos 0) none in
     let paid = sum_below_ℤ-same (rents_of t other) (rents_of t prices) (fleets_in t) (λ f known. ap (λ r. r *ℤ pos (fleet_of t f).aircraft) (rents f known)) in
-    omega (arith, ints, legs, sum_below_ℤ-zero (legs_in t), paid)
+    same_charges t prices other _ _ (omega (arith, ints, legs, sum_below_ℤ-zero (legs_in t), paid))
 
 -- ---- a round
-module _ (t : Tables) (keeps : Domains) (k : ℕ) (some_pair : (l : ℕ) → ¬ (IsBare t keeps l)) (allowed : (p : Pair) → IsPair t p → keeps p ≡ true → IsSome (cost_of t p)) (prices other : Prices)
+module _ (t : Tables) (keeps : Domains) (k : ℕ) (some_pair : (l : ℕ) → ¬ (IsBare t keeps l)) (allowed : (p : Pair) → IsPair t p → keeps p ≡ true → IsSome (cost_of t p)) (flies : (p : Pair) → IsPair t p → keeps p ≡ true → fleet_by t p < fleets_in t) (prices other : Prices)
     (number : ℤ) (at_least_0 : pos 0 ≤ℤ number) (at : ℕ → ℕ) (pays : PaysBack t at) (scale : other.scale ≡ prices.scale)
     (grown : (f s m : ℕ) → f < fleets_in t → s < stations_in t → m < period_of t → price_of other f s m ≡ price_of prices f s m +ℤ cond (nat_le m (at s)) number (pos 0))
     (rents : (f : ℕ) → f < fleets_in t → rent_of other f ≡ rent_of prices f +ℤ number) where
@@ -167,23 +168,28 @@ module _ (t : Tables) (keeps : Domains) (k : ℕ) (some_pair : (l : ℕ) → ¬ 
   parts : (c p q r l x y : ℤ) → c +ℤ ((p +ℤ x) -ℤ (q +ℤ y)) +ℤ ((r +ℤ number) *ℤ l) ≡ (c +ℤ (p -ℤ q) +ℤ (r *ℤ l)) +ℤ (((number *ℤ l) +ℤ x) -ℤ y)
   parts c p q r l x y = omega (arith, ints, +ℤ-*ℤ r number l)
 
-  pair_gains : (l f : ℕ) → l < legs_in t → f < fleets_in t → keeps (leg_on l f) ≡ true → pair_worth t other k (leg_on l f) ≡ pair_worth t prices k (leg_on l f) +ℤ extra l f
-  pair_gains l f below known kept =
-      let p = leg_on l f in
+  pair_gains : (l c : ℕ) → l < legs_in t → c < choices_in t l → keeps (leg_on l c) ≡ true → pair_worth t other k (leg_on l c) ≡ pair_worth t prices k (leg_on l c) +ℤ extra l c
+  pair_gains l c below known kept =
+      let p = leg_on l c in
+      let pair : IsPair t p = record { leg = below; choice = known } in
+      let f = fleet_by t p in
+      let by : f < fleets_in t = flies p pair kept in
       let leg = t.in_range.legs_fit.each l no_leg below in
-      let out = grown f (leg_of t l).from (departure t p) known leg.from (departs_always t p) ∙ ap (λ z. price_of prices f (leg_of t l).from (departure t p) +ℤ z) (times_number (nat_le (departure t p) (at (leg_of t l).from))) in
-      let back = grown f (leg_of t l).to (ready_minute t p) known leg.to (in_period t (departure t p + busy_minutes t p)) ∙ ap (λ z. price_of prices f (leg_of t l).to (ready_minute t p) +ℤ z) (times_number (nat_le (ready_minute t p) (at (leg_of t l).to))) in
-      ap₂ (λ s z. (pos k *ℤ s *ℤ cost_units t p) +ℤ (z -ℤ price_of other f (leg_of t l).to (ready_minute t p)) +ℤ (rent_of other f *ℤ pos (laps_of t p))) scale out
-      ∙ ap₂ (λ z r. (pos k *ℤ prices.scale *ℤ cost_units t p) +ℤ ((price_of prices f (leg_of t l).from (departure t p) +ℤ (number *ℤ pos (left_by t at p))) -ℤ z) +ℤ (r *ℤ pos (laps_of t p))) back (rents f known)
+      let out = grown f (leg_of t l).from (departure t p) by leg.from (departs_always t p) ∙ ap (λ z. price_of prices f (leg_of t l).from (departure t p) +ℤ z) (times_number (nat_le (departure t p) (at (leg_of t l).from))) in
+      let back = grown f (leg_of t l).to (ready_minute t p) by leg.to (in_period t (departure t p + busy_minutes t p)) ∙ ap (λ z. price_of prices f (leg_of t l).to (ready_minute t p) +ℤ z) (times_number (nat_le (ready_minute t p) (at (leg_of t l).to))) in
+      flown_worth t other k p pair by
+      ∙ ap₂ (λ s z. (pos k *ℤ s *ℤ cost_units t p) +ℤ (z -ℤ price_of other f (leg_of t l).to (ready_minute t p)) +ℤ (rent_of other f *ℤ pos (laps_of t p))) scale out
+      ∙ ap₂ (λ z r. (pos k *ℤ prices.scale *ℤ cost_units t p) +ℤ ((price_of prices f (leg_of t l).from (departure t p) +ℤ (number *ℤ pos (left_by t at p))) -ℤ z) +ℤ (r *ℤ pos (laps_of t p))) back (rents f by)
       ∙ parts (pos k *ℤ prices.scale *ℤ cost_units t p) (price_of prices f (leg_of t l).from (departure t p)) (price_of prices f (leg_of t l).to (ready_minute t p)) (rent_of prices f) (pos (laps_of t p))
       (number *ℤ pos (left_by t at p)) (number *ℤ pos (ready_by t at p))
+      ∙ ap (λ z. z +ℤ extra l c) (sym (flown_worth t prices k p pair by))
 
   abbrev fleets : ℕ → ℕ
   fleets = chosen t keeps k some_pair prices other extra pair_gains
 
   are_for : AreChoicesFor t fleets
   are_for = record {
-    known = λ l below. let is = is_chosen t keeps k some_pair prices other extra pair_gains l below in record { pair = record { leg = below; choice = is.within }; by = is.within };
+    known = λ l below. let is = is_chosen t keeps k some_pair prices other extra pair_gains l below in let pair : IsPair t (leg_on l (fleets l)) = record { leg = below; choice = is.within } in record { pair = pair; by = flies (leg_on l (fleets l)) pair is.kept };
     allowed = λ l below.
         let is = is_chosen t keeps k some_pair prices other extra pair_gains l below in
         allowed (leg_on l (fleets l)) (record { leg = below; choice = is.within }) is.kept;
@@ -218,7 +224,7 @@ module _ (t : Tables) (keeps : Domains) (k : ℕ) (some_pair : (l : ℕ) → ¬ 
   -- the worth is no less
   pub no_less : worth_of t keeps prices k ≤ℤ worth_of t keeps other k
   unfolding worth_of
-  no_less = omega (arith, ints, legs_gain t keeps k some_pair prices other extra pair_gains, all_extra, all_rents, law)
+  no_less = same_charges t prices other _ _ (omega (arith, ints, legs_gain t keeps k some_pair prices other extra pair_gains, all_extra, all_rents, law))
     where
       split : (a b : ℕ) → number *ℤ pos (a + b) ≡ (number *ℤ pos a) +ℤ (number *ℤ pos b)
       split a b = *ℤ-+ℤ number (pos a) (pos b)
