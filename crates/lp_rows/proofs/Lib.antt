@@ -23,5 +23,6 @@ pub mod Counted
 pub mod Problems
 pub mod Together
 pub mod Outlines
+pub mod HeldEntries
 pub mod HeldLines
 pub mod OtherFleets

@@ -42,6 +42,7 @@ impl Network {
     }
 
     /// The starts of the nodes of a fleet at a station.
+    #[tactic(auto, using(fleet_model::proofs::PeriodMinutes::at_most_week))]
     pub fn starts(&self, tables: &Tables, fleet: u32, station: u32) -> &[u16]
         requires shape { AreByStation tables.now self.now }
         requires fleet { fleet < fleets_in tables.now }

@@ -16,7 +16,7 @@ use Rattle.fleet_model.specs.declared.tables.Tables.{Tables}
 use Rattle.fleet_model.specs.Counts.{Weights}
 use Rattle.fleet_model.specs.Kept.{Domains, IsBare, pairs_kept}
 use Rattle.fleet_model.specs.Mixed.{IsMixedPlan, mixed_cost, weight_on}
-use Rattle.fleet_model.specs.Schedule.{IsPair, choices_in, fleets_in, leg_on, legs_in}
+use Rattle.fleet_model.specs.Schedule.{IsPair, choices_in, leg_on, legs_in}
 use Rattle.row_store.specs.DualValues.{weighed}
 use Rattle.row_store.specs.Problem.{MeetsRows, point_cost}
 use Rattle.row_store.specs.declared.problem.Rows.{Rows}

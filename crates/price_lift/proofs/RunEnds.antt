@@ -13,7 +13,7 @@ use Rattle.fleet_model.specs.Counts.{Weights}
 use Rattle.fleet_model.specs.Kept.{Domains}
 use Rattle.fleet_model.specs.Legal.{cost_of}
 use Rattle.fleet_model.specs.Mixed.{IsMixedPlan, mixed_cost, weighted_cost}
-use Rattle.fleet_model.specs.Schedule.{choices_in, fleets_in, leg_on, legs_in}
+use Rattle.fleet_model.specs.Schedule.{choices_in, leg_on, legs_in}
 use Rattle.row_store.specs.Table.{HasColumns, right_side}
 use Rattle.simplex_frac.specs.Duality.{IsReached}
 use Rattle.simplex_frac.specs.declared.turn.Turn.{Turn}

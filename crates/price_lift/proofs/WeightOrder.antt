@@ -7,7 +7,7 @@ use Rattle.sums.proofs.Tests.{both_true}
 use Rattle.fleet_model.specs.declared.parts.Pair.{Pair}
 use Rattle.fleet_model.specs.declared.tables.Tables.{Tables}
 use Rattle.fleet_model.specs.Kept.{Domains, pairs_kept}
-use Rattle.fleet_model.specs.Schedule.{choices_in, fleets_in, leg_on, legs_in}
+use Rattle.fleet_model.specs.Schedule.{choices_in, leg_on, legs_in}
 use Rattle.lp_rows.specs.Layout.{all_kept, concat_below, pair_of, pairs_of, Starts}
 use Rattle.lp_rows.proofs.Counted.{pairs_are}
 use Rattle.lp_rows.proofs.Totals.{all_concat}
