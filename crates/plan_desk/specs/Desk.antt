@@ -46,6 +46,10 @@ OnTooLong (Err Failed) P = Unit {0}
 OnTooLong (Err TooLong) P = P
 OnTooLong (Err NoMemory) P = Unit {0}
 
+-- P where it is any other
+abbrev pub OnNotTooLong : {T : Type 0} → Result T DeskError → Type 0 → Type 0
+OnNotTooLong result P = MatchAnswer result (λ x. P) P (Unit {0}) P
+
 -- P where the answer is want of memory
 abbrev pub OnNoMemory : {T : Type 0} → Result T DeskError → Type 0 → Type 0
 OnNoMemory (Ok _) P = Unit {0}

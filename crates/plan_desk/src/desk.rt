@@ -3,7 +3,7 @@ ghost use Rattle.plan_desk.specs.declared.file.DeskFile.{DeskFile};
 ghost use Rattle.plan_desk.specs.declared.desk.DeskError.TheVariants.{NoMemory};
 ghost use Rattle.plan_desk.specs.DeskFile.{path_of};
 ghost use Rattle.plan_desk.specs.Counts.{counted, once_more, RoseBy};
-ghost use Rattle.plan_desk.specs.Desk.{Files, held_with, ChangesOnly, MatchFailed, OnNoMemory, OnTooLong, IsFailed, IsNotFailed};
+ghost use Rattle.plan_desk.specs.Desk.{Files, held_with, ChangesOnly, MatchFailed, OnNoMemory, OnNotTooLong, OnTooLong, IsFailed, IsNotFailed};
 
 use crate::DeskFile;
 use std::alloc::{AllocError, AllocFailed, Global};
@@ -84,6 +84,7 @@ pub trait Desk {
         ensures too_long_limit { OnTooLong result (limit < 2 ^ 63 - 1) }
 
         ensures taken { IfOk result (λ bytes. taken self.new ≡ counted (taken self.old) (length bytes.items)) }
+        ensures taken_few { OnNotTooLong result (taken self.new ≤ taken self.old + (limit + 1)) }
         ensures taken_never_falls { taken self.old ≤ taken self.new }
         ensures calls { calls self.new ≡ once_more (calls self.old) }
 

@@ -2,7 +2,7 @@ ghost use Rattle.std.specs.Prelude.{◌≡◌, ◌+◌, ◌-◌, ◌<◌, ◌≤
 ghost use Rattle.std.specs.Io.KnownBytes.{Appends, ReadConsumes, WriteAppends};
 ghost use Rattle.std.specs.Io.{ReadsAtMost, WritesAtMost};
 ghost use Rattle.plan_desk.specs.Counts.{counted, RoseBy};
-ghost use Rattle.plan_desk.specs.Desk.{OnTooLong};
+ghost use Rattle.plan_desk.specs.Desk.{OnNotTooLong, OnTooLong};
 ghost use Rattle.plan_desk.specs.Sink.{TakesFront};
 
 use crate::DeskError;
@@ -25,6 +25,7 @@ pub(crate) fn read_whole<S: Read>(
     ensures within { IfOk result (λ bytes. length bytes.items ≤ limit) }
     ensures too_long { OnTooLong result (IfSome (S.remaining source.old) (λ all. limit < length all)) }
     ensures taken { IfOk result (λ bytes. taken.new ≡ counted taken.old (length bytes.items)) }
+    ensures taken_few { OnNotTooLong result (taken.new ≤ taken.old + (limit + 1)) }
     ensures too_long_taken { OnTooLong result (RoseBy (limit + 1) taken.old taken.new) }
     ensures too_long_limit { OnTooLong result (limit < 2 ^ 63 - 1) }
     ensures never_falls { taken.old ≤ taken.new }
