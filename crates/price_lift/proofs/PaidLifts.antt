@@ -14,6 +14,7 @@ use Rattle.dual_bound.specs.Worth.{worth_of}
 use Rattle.dual_bound.specs.WrittenOrder.{ArePricesInOrder}
 use Rattle.dual_bound.specs.declared.prices.Prices.{Prices}
 use Rattle.island_cut.specs.Islands.{has_islands}
+use Rattle.island_cut.proofs.IslandProofs.{islands_tested}
 use Rattle.island_prices.specs.Arcs.{AreAllNodes, AreArcRises, AreByNodes, AreMoments, DoStayLow, rise_over}
 use Rattle.island_prices.specs.Least.{least_idle}
 use Rattle.island_prices.specs.Paid.{first_beyond, paid_price, paid_prices, paid_rent}
@@ -92,7 +93,7 @@ module _ (t : Tables) (keeps : Domains) (starts : Starts) (prices : Prices) (low
 
     pub worth_grows : ((l : ℕ) → ¬ (IsBare t keeps l)) → (k : ℕ) → worth_of t keeps prices k ≤ℤ worth_of t keeps (paid_prices t prices rises (rounds_of t rises (least_idle t))) k
     worth_grows bare k =
-        worth_no_less t prices rises (least_idle t) rises_are keeps k bare allowed
+        worth_no_less t prices rises (least_idle t) rises_are keeps k bare allowed (λ p pair kept. (islands_tested t islands).day.flown p pair (allowed p pair kept))
         (arcs.are_quiet t keeps prices starts (moments_by t keeps starts) rises nodes moments are rents)
         (λ j below. rounds_pay t rises idles islands j)
 
