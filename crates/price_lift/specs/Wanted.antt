@@ -1,16 +1,11 @@
 -- Where memory is wanting in a lift.
-use Rattle.std.specs.Prelude.{◌≡◌, Option, None, Result, Ok, Err}
-use Rattle.dual_lift.specs.declared.error.Excess.{Excess}
+use Rattle.std.specs.Prelude.{Result, Ok, Err}
 use Rattle.dual_lift.specs.declared.error.LiftError.{LiftError}
-use Rattle.dual_lift.specs.declared.error.LiftError.TheVariants.{TooLarge, NoMemory}
 use Rattle.dual_bound.specs.declared.prices.Prices.{Prices}
 use Rattle.island_prices.specs.declared.paying.PaybackError.{PaybackError}
 use Rattle.price_lift.specs.PaidBack.{lift_error}
 
--- memory is wanting only where nothing is too large that is looked at before
-abbrev pub IsWantedBehind : Option Excess → LiftError → Type 0
-IsWantedBehind excess (TooLarge step at) = Unit {0}
-IsWantedBehind excess NoMemory = excess ≡ None
+pub use Rattle.dual_lift.specs.TooLarge.{IsWantedBehind}
 
 -- prices that are paid back, and else why they are not, are handed on
 abbrev pub handed_on : Result Prices PaybackError → Result Prices LiftError
