@@ -4,7 +4,6 @@ use Rattle.dual_lift.specs.declared.error.LiftError.{LiftError}
 use Rattle.dual_bound.specs.declared.prices.Prices.{Prices}
 use Rattle.island_prices.specs.declared.paying.PaybackError.{PaybackError}
 use Rattle.price_lift.specs.PaidBack.{lift_error}
-
 pub use Rattle.dual_lift.specs.TooLarge.{IsWantedBehind}
 
 -- prices that are paid back, and else why they are not, are handed on

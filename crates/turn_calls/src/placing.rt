@@ -100,14 +100,7 @@ fn places_in(
         return Ok(None);
     }
     match rotate(alloc, tables, plan, 0, &[], 3, 1000)? {
-        Rotation::Tour(tour) => Ok(Some(place(
-            alloc,
-            tables,
-            plan,
-            0,
-            tour.as_slice(),
-            tails,
-        )?)),
+        Rotation::Tour(tour) => Ok(Some(place(alloc, tables, plan, 0, tour.as_slice(), tails)?)),
         _ => Ok(None),
     }
 }
@@ -131,7 +124,11 @@ const ROWS: &[(Schedule, Left, Wanted)] = &[
         &[(0, 2), (0, 1), (0, 2), (0, 2)],
         Wanted::Late(2, 4, 3),
     ),
-    (ON_FOUR, &[(0, 3), (0, 1), (0, 2)], Wanted::WrongNumber(3, 4)),
+    (
+        ON_FOUR,
+        &[(0, 3), (0, 1), (0, 2)],
+        Wanted::WrongNumber(3, 4),
+    ),
     (
         ON_FOUR,
         &[(1, 1), (0, 30), (0, 30), (1, 1), (0, 30), (0, 30)],
