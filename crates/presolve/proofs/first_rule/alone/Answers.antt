@@ -7,4 +7,4 @@ use Rattle.presolve.proofs.first_rule.alone.Goals as goal
 pub returns-clause-few : goal.returns-clause-few
 returns-clause-few c =
     let value : c.cell.result ≡ all_busy_alone c.args.tables.now (kept_by c.args.choices.now.kept) c.args.fleet c.args.minute = search rules in
-    omega (arith, value, few_alone c.args.tables.now (kept_by c.args.choices.now.kept) c.args.fleet c.args.minute c.requires.fleet)
+    omega (arith, value, few_alone c.args.tables.now (kept_by c.args.choices.now.kept) c.args.fleet c.args.minute)
