@@ -16,7 +16,7 @@ NoneOn t keeps leg start = (c : ℕ) → start ≤ c → c < choices_in t leg �
 pub record IsFirstOn (t : Tables) (keeps : Domains) (leg start : ℕ) (found : Removable) : Type 0 where
   pub on_leg : found.pair.leg ≡ leg
   pub from_start : start ≤ found.pair.choice
-  pub known : found.pair.choice < choices_in t leg
+  pub known : found.pair.choice < choices_in t found.pair.leg
   pub by_rule : removed_by t keeps found.pair ≡ Some found.rule
   pub first : (c : ℕ) → start ≤ c → c < found.pair.choice → removed_by t keeps (leg_on leg c) ≡ None
 

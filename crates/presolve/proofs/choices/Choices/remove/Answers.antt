@@ -1,8 +1,12 @@
-use Rattle.std.proofs.Common.{sym, ap, ◌∙◌, rules}
+use Rattle.std.proofs.Common.{sym, ap, ◌∙◌, rules, arith}
 use Rattle.fleet_model.specs.Kept.{kept_by}
+use Rattle.fleet_model.proofs.FewChoices.{few_choices}
 use Rattle.presolve.proofs.Counted.{counted_without, some_there}
 use Rattle.presolve.proofs.Removed.{alone_after_more, alone_after_one, departures_after, few_there, landings_after, some_departure_there, some_landing_there}
 use Rattle.presolve.proofs.choices.Choices.remove.Goals as goal
+
+pub narrow-requires-clause-fleet : goal.narrow-requires-clause-fleet
+narrow-requires-clause-fleet c = omega (arith, few_choices c.args.tables.now c.args.pair.leg, c.requires.pair.choice)
 
 pub overflow_sub-self : goal.overflow_sub-self
 overflow_sub-self c =
