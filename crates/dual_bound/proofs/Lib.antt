@@ -2,6 +2,7 @@ pub mod Charges
 pub mod Duality
 pub mod Flows
 pub mod LeastWorth
+pub mod NoCharges
 pub mod Numbers
 pub mod Parking
 pub mod PriceLists

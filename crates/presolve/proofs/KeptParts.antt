@@ -5,10 +5,11 @@ use Rattle.sums.proofs.Counts.{count_below-some}
 use Rattle.sums.proofs.Sums.{count_below-le, sum_below-agree, sum_below-bound}
 use Rattle.sums.proofs.Tests.{first_true}
 use Rattle.fleet_model.specs.Kept.{Domains, kept_on, pairs_kept}
-use Rattle.fleet_model.specs.Schedule.{IsPair, fleets_in, leg_on, legs_in}
-use Rattle.fleet_model.specs.declared.limits.TheConstants.{MAX_FLEETS}
+use Rattle.fleet_model.specs.Schedule.{IsPair, choices_in, leg_on, legs_in}
+use Rattle.fleet_model.specs.declared.limits.TheConstants.{MAX_CHOICES}
 use Rattle.fleet_model.specs.declared.parts.Pair.{Pair}
 use Rattle.fleet_model.specs.declared.tables.Tables.{Tables}
+use Rattle.fleet_model.proofs.FewChoices.{few_choices}
 use Rattle.dual_bound.specs.Bound.{part}
 use Rattle.presolve.specs.Laws.{PairsAreFew}
 use Rattle.presolve.specs.Removals.{NoneBare}
@@ -23,9 +24,9 @@ on_others keeps leg fleet kept q other = by_test (keeps q) (q.leg == leg) _ (gri
     by_test false false x e = refl
     by_test k true x e = cc
 
--- of the leg itself the other fleets are kept as they were, where the pair is removed
-pub on_other_fleets : (keeps : Domains) (leg fleet f : ℕ) → f ≢ fleet → part keeps leg fleet false (leg_on leg f) ≡ keeps (leg_on leg f)
-on_other_fleets keeps leg fleet f other = by_test (keeps (leg_on leg f)) (leg == leg) (f == fleet) (grind (arith, nat_tests))
+-- of the leg itself the other choices are kept as they were, where the pair is removed
+pub on_other_choices : (keeps : Domains) (leg fleet f : ℕ) → f ≢ fleet → part keeps leg fleet false (leg_on leg f) ≡ keeps (leg_on leg f)
+on_other_choices keeps leg fleet f other = by_test (keeps (leg_on leg f)) (leg == leg) (f == fleet) (grind (arith, nat_tests))
   where
     by_test : (k same it : Bool) → it ≡ false → (k && (if same then not it else true)) ≡ k
     by_test true true false e = refl
@@ -53,8 +54,8 @@ is_flown keeps leg fleet kept = by_test (keeps (leg_on leg fleet)) (leg == leg) 
     by_test false same it e f = cc
     by_test true same false e f = cc
 
-pub is_own_fleet : (keeps : Domains) (leg fleet f : ℕ) → part keeps leg fleet true (leg_on leg f) ≡ true → f ≡ fleet
-is_own_fleet keeps leg fleet f kept = by_test (keeps (leg_on leg f)) (leg == leg) (f == fleet) (grind (arith, nat_tests)) kept (λ e. grind (arith, nat_tests))
+pub is_own_choice : (keeps : Domains) (leg fleet f : ℕ) → part keeps leg fleet true (leg_on leg f) ≡ true → f ≡ fleet
+is_own_choice keeps leg fleet f kept = by_test (keeps (leg_on leg f)) (leg == leg) (f == fleet) (grind (arith, nat_tests)) kept (λ e. grind (arith, nat_tests))
   where
     by_test : (k same it : Bool) → same ≡ true → (k && (if same then it else true)) ≡ true → (it ≡ true → f ≡ fleet) → f ≡ fleet
     by_test k true true e h g = g refl
@@ -69,26 +70,26 @@ was_kept keeps leg fleet kept q h = first_true (keeps q) _ h
 module _ (t : Tables) (keeps : Domains) (leg fleet : ℕ) where
   other_leg : (kept : Bool) (l : ℕ) → l ≢ leg → kept_on t (part keeps leg fleet kept) l ≡ kept_on t keeps l
   other_leg kept l other =
-      sum_below-agree (λ f. if part keeps leg fleet kept (leg_on l f) then 1 else 0) (λ f. if keeps (leg_on l f) then 1 else 0) (fleets_in t)
+      sum_below-agree (λ f. if part keeps leg fleet kept (leg_on l f) then 1 else 0) (λ f. if keeps (leg_on l f) then 1 else 0) (choices_in t l)
       (record { each = λ f below. ap (λ b. if b then 1 else 0) (on_others keeps leg fleet kept (leg_on l f) other) })
 
   -- without a kept pair its leg keeps one fewer
-  own_leg : fleet < fleets_in t → keeps (leg_on leg fleet) ≡ true → kept_on t keeps leg ≡ kept_on t (part keeps leg fleet false) leg + 1
+  own_leg : fleet < choices_in t leg → keeps (leg_on leg fleet) ≡ true → kept_on t keeps leg ≡ kept_on t (part keeps leg fleet false) leg + 1
   own_leg known kept =
-      count_below-fewer (λ f. keeps (leg_on leg f)) (λ f. part keeps leg fleet false (leg_on leg f)) (fleets_in t) fleet known kept
-      (is_removed keeps leg fleet) (λ f below other. sym (on_other_fleets keeps leg fleet f other))
+      count_below-fewer (λ f. keeps (leg_on leg f)) (λ f. part keeps leg fleet false (leg_on leg f)) (choices_in t leg) fleet known kept
+      (is_removed keeps leg fleet) (λ f below other. sym (on_other_choices keeps leg fleet f other))
 
   -- and so do all
-  fewer : leg < legs_in t → fleet < fleets_in t → keeps (leg_on leg fleet) ≡ true → pairs_kept t keeps ≡ pairs_kept t (part keeps leg fleet false) + 1
+  fewer : leg < legs_in t → fleet < choices_in t leg → keeps (leg_on leg fleet) ≡ true → pairs_kept t keeps ≡ pairs_kept t (part keeps leg fleet false) + 1
   fewer within known kept =
       sum_below-more (kept_on t keeps) (kept_on t (part keeps leg fleet false)) (legs_in t) leg 1 within (own_leg known kept)
       (record { each = λ l below other. sym (other_leg false l other) })
 
   -- where a kept pair is flown, each leg keeps a pair, as it did before
-  still_none_bare : fleet < fleets_in t → keeps (leg_on leg fleet) ≡ true → NoneBare t keeps → NoneBare t (part keeps leg fleet true)
+  still_none_bare : fleet < choices_in t leg → keeps (leg_on leg fleet) ≡ true → NoneBare t keeps → NoneBare t (part keeps leg fleet true)
   still_none_bare known kept none l bare = by_test (l == leg)
       (λ e. let same : l ≡ leg = grind (arith, nat_tests) in
-      let some = count_below-some (λ f. part keeps leg fleet true (leg_on leg f)) (fleets_in t) fleet known (is_flown keeps leg fleet kept) in
+      let some = count_below-some (λ f. part keeps leg fleet true (leg_on leg f)) (choices_in t leg) fleet known (is_flown keeps leg fleet kept) in
       let none_there : kept_on t (part keeps leg fleet true) leg ≡ 0 = rw same at bare.none in
       omega arith)
       (λ e. let other : l ≢ leg = grind (arith, nat_tests) in
@@ -110,10 +111,9 @@ one_fewer t keeps p pair kept = fewer t keeps p.leg p.choice pair.leg pair.choic
 pub flown_none_bare : (t : Tables) (keeps : Domains) (p : Pair) → IsPair t p → keeps p ≡ true → NoneBare t keeps → NoneBare t (part keeps p.leg p.choice true)
 flown_none_bare t keeps p pair kept none = still_none_bare t keeps p.leg p.choice pair.choice kept none
 
--- there are as many kept pairs as legs times fleets at most
+-- there are as many kept pairs as legs times choices at most
 pub pairs_are_few : PairsAreFew
 pairs_are_few t keeps =
-    let fleets = t.in_range.fleets_fit.few in
     let legs = t.in_range.legs_fit.few in
-    let each = sum_below-bound (kept_on t keeps) MAX_FLEETS (legs_in t) (record { each = λ l below. omega (arith, count_below-le (λ f. keeps (leg_on l f)) (fleets_in t), fleets) }) in
+    let each = sum_below-bound (kept_on t keeps) MAX_CHOICES (legs_in t) (record { each = λ l below. omega (arith, count_below-le (λ c. keeps (leg_on l c)) (choices_in t l), few_choices t l) }) in
     omega (arith, each, legs)

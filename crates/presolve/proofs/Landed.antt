@@ -1,91 +1,119 @@
--- Landings and departures without a pair.
-use Rattle.std.proofs.Common.{◌≡◌, ◌≢◌, ℕ, ◌+◌, ◌*◌, ◌<◌, Bool, true, false, ◌==◌, ◌&&◌, if◌then◌else◌, nat_lt, refl, ap, sym, arith}
+-- Landings and departures: at first, and without a pair.
+use Rattle.std.proofs.Common.{◌≡◌, ◌≢◌, ℕ, ◌+◌, ◌*◌, ◌≤◌, Bool, true, false, ◌==◌, ◌&&◌, if◌then◌else◌, refl, ap, sym, arith}
 use Rattle.std.proofs.lemmas.Bool.Decides.{nat_tests}
-use Rattle.sums.specs.Below.{count_below}
-use Rattle.sums.proofs.Sums.{sum_below-agree}
-use Rattle.sums.proofs.Tests.{never_passes}
+use Rattle.sums.specs.Below.{sum_below}
+use Rattle.sums.proofs.Naturals.{same_number}
+use Rattle.sums.proofs.NumberTests.{if_below}
+use Rattle.sums.proofs.OneChanged.{count_below-fewer, sum_below-more}
+use Rattle.sums.proofs.Sums.{count_below-le, sum_below-agree, sum_below-bound}
+use Rattle.sums.proofs.Tests.{by_test, both_true, never_passes}
 use Rattle.fleet_model.specs.Kept.{Domains}
-use Rattle.fleet_model.specs.Schedule.{IsPair, leg_of, leg_on, legs_in, stations_in}
+use Rattle.fleet_model.specs.Schedule.{IsPair, choices_in, fleet_by, leg_of, leg_on, legs_in}
+use Rattle.fleet_model.specs.declared.limits.TheConstants.{MAX_CHOICES, MAX_LEGS}
 use Rattle.fleet_model.specs.declared.parts.Pair.{Pair}
 use Rattle.fleet_model.specs.declared.tables.Tables.{Tables}
+use Rattle.fleet_model.proofs.FewChoices.{few_choices}
 use Rattle.dual_bound.specs.Bound.{part}
-use Rattle.presolve.specs.Choices.{departures_at, landings_at}
-use Rattle.presolve.specs.Rules.{departures, landings}
-use Rattle.presolve.specs.declared.cells.TheConstants.{CELL_WIDTH}
-use Rattle.presolve.proofs.CellLaws.{fleet_of_cell, place_of_cell}
-use Rattle.presolve.proofs.KeptParts.{is_removed, on_other_fleets, on_others}
-use Rattle.sums.proofs.OneChanged.{count_below-fewer}
+use Rattle.presolve.specs.Rules.{departures, flies, flown_on, landings}
+use Rattle.presolve.proofs.KeptParts.{is_removed, on_other_choices, on_others}
 
-module _ (keeps : Domains) (p : Pair) (place : ℕ → ℕ) where
-  abbrev counts : Domains → ℕ → ℕ → ℕ → Bool
-  counts keeps f s l = keeps (leg_on l f) && (place l == s)
+-- kept pairs of a fleet, counted where their legs have a place
+abbrev pub counted : Tables → Domains → (ℕ → ℕ) → ℕ → ℕ → ℕ → ℕ
+counted t keeps place f s l = if place l == s then flown_on t keeps f l else 0
 
+few_flown : (t : Tables) (keeps : Domains) (f l : ℕ) → flown_on t keeps f l ≤ MAX_CHOICES
+unfolding flown_on
+few_flown t keeps f l = omega (arith, count_below-le (flies t keeps f l) (choices_in t l), few_choices t l)
+
+-- no count is great
+pub few_counted : (t : Tables) (keeps : Domains) (place : ℕ → ℕ) (f s n : ℕ) → n ≤ legs_in t → sum_below (counted t keeps place f s) n ≤ MAX_LEGS * MAX_CHOICES
+few_counted t keeps place f s n within =
+    let bound = sum_below-bound (counted t keeps place f s) MAX_CHOICES n (record { each = λ l below. if_below (place l == s) (flown_on t keeps f l) MAX_CHOICES (few_flown t keeps f l) }) in
+    let legs = t.in_range.legs_fit.few in
+    omega (arith, bound, legs)
+
+module _ (t : Tables) (keeps : Domains) (p : Pair) where
   abbrev after : Domains
   after = part keeps p.leg p.choice false
 
-  other_leg : (f s l : ℕ) → l ≢ p.leg → counts keeps f s l ≡ counts after f s l
-  other_leg f s l other = ap (λ b. b && (place l == s)) (sym (on_others keeps p.leg p.choice false (leg_on l f) other))
+  -- of another leg as many are kept
+  other_leg : (f l : ℕ) → l ≢ p.leg → flown_on t keeps f l ≡ flown_on t after f l
+  unfolding flown_on
+  other_leg f l other = sum_below-agree (λ c. if flies t keeps f l c then 1 else 0) (λ c. if flies t after f l c then 1 else 0) (choices_in t l)
+      (record { each = λ c below. ap (λ b. if b && (fleet_by t (leg_on l c) == f) then 1 else 0) (sym (on_others keeps p.leg p.choice false (leg_on l c) other)) })
 
-  -- where its own leg is counted, it is so no longer
-  fewer : (n : ℕ) → p.leg < n → keeps p ≡ true → count_below (counts keeps p.choice (place p.leg)) n ≡ count_below (counts after p.choice (place p.leg)) n + 1
-  fewer n within kept =
-      count_below-fewer (counts keeps p.choice (place p.leg)) (counts after p.choice (place p.leg)) n p.leg within
-      (both (keeps p) (place p.leg) kept) (ap (λ b. b && (place p.leg == place p.leg)) (is_removed keeps p.leg p.choice)) (λ l below other. other_leg p.choice (place p.leg) l other)
+  -- of its own leg its fleet has one fewer
+  own_fewer : IsPair t p → keeps p ≡ true → flown_on t keeps (fleet_by t p) p.leg ≡ flown_on t after (fleet_by t p) p.leg + 1
+  unfolding flown_on
+  own_fewer pair kept =
+      count_below-fewer (flies t keeps (fleet_by t p) p.leg) (flies t after (fleet_by t p) p.leg) (choices_in t p.leg) p.choice pair.choice
+      (both_true (keeps p) (fleet_by t p == fleet_by t p) kept (same_number (fleet_by t p)))
+      (ap (λ b. b && (fleet_by t p == fleet_by t p)) (is_removed keeps p.leg p.choice))
+      (λ c below other. ap (λ b. b && (fleet_by t (leg_on p.leg c) == fleet_by t p)) (sym (on_other_choices keeps p.leg p.choice c other)))
+
+  -- and any other fleet as many
+  neither : (f : ℕ) (b c : Bool) → f ≢ fleet_by t p → (b && (fleet_by t p == f)) ≡ (c && (fleet_by t p == f))
+  neither f b c other = fails b c (fleet_by t p == f) (never_passes (fleet_by t p == f) (λ e. other (grind (arith, nat_tests))))
     where
-      both : (b : Bool) (s : ℕ) → b ≡ true → (b && (s == s)) ≡ true
-      both b s e = grind (arith, nat_tests)
+      fails : (b c d : Bool) → d ≡ false → (b && d) ≡ (c && d)
+      fails true true d e = refl
+      fails false false d e = refl
+      fails true false d e = e
+      fails false true d e = sym e
+
+  own_same : (f : ℕ) → f ≢ fleet_by t p → flown_on t keeps f p.leg ≡ flown_on t after f p.leg
+  unfolding flown_on
+  own_same f other = sum_below-agree (λ c. if flies t keeps f p.leg c then 1 else 0) (λ c. if flies t after f p.leg c then 1 else 0) (choices_in t p.leg)
+      (record { each = λ c below. ap (λ b. if b then 1 else 0) (each c (c == p.choice) refl) })
+    where
+      each : (c : ℕ) (b : Bool) → (c == p.choice) ≡ b → flies t keeps f p.leg c ≡ flies t after f p.leg c
+      each c true e = let same : c ≡ p.choice = grind (arith, nat_tests) in rw same (neither f (keeps p) (after p) other)
+      each c false e = let another : c ≢ p.choice = grind (arith, nat_tests) in ap (λ b. b && (fleet_by t (leg_on p.leg c) == f)) (sym (on_other_choices keeps p.leg p.choice c another))
+
+  -- where its own leg is counted, there is one fewer
+  fewer : (place : ℕ → ℕ) → IsPair t p → keeps p ≡ true
+      → sum_below (counted t keeps place (fleet_by t p) (place p.leg)) (legs_in t) ≡ sum_below (counted t after place (fleet_by t p) (place p.leg)) (legs_in t) + 1
+  fewer place pair kept =
+      sum_below-more (counted t keeps place (fleet_by t p) (place p.leg)) (counted t after place (fleet_by t p) (place p.leg)) (legs_in t) p.leg 1 pair.leg
+      (here (place p.leg == place p.leg) _ _ (same_number (place p.leg)) (own_fewer pair kept))
+      (record { each = λ l below other. ap (λ n. if place l == place p.leg then n else 0) (other_leg (fleet_by t p) l other) })
+    where
+      here : (b : Bool) (m n : ℕ) → b ≡ true → m ≡ n + 1 → ◌≡◌ {A = ℕ} (if b then m else 0) ((if b then n else 0) + 1)
+      here true m n e h = h
+      here false m n e h = cc
 
   -- and nothing else changes
-  own_leg : (f s : ℕ) → (f ≡ p.choice → s ≡ place p.leg → ⊥) → counts keeps f s p.leg ≡ counts after f s p.leg
-  own_leg f s other = by_fleet (f == p.choice) refl
+  same : (place : ℕ → ℕ) (f s : ℕ) → (f ≡ fleet_by t p → s ≡ place p.leg → ⊥) → sum_below (counted t keeps place f s) (legs_in t) ≡ sum_below (counted t after place f s) (legs_in t)
+  same place f s other = sum_below-agree (counted t keeps place f s) (counted t after place f s) (legs_in t) (record { each = λ l below. each l (l == p.leg) refl })
     where
-      no_place : (b c : Bool) (k : ℕ) → (k == s) ≡ false → (b && (k == s)) ≡ (c && (k == s))
-      no_place b c k e = rw e (none b c)
-        where
-          none : (b c : Bool) → (b && false) ≡ (c && false)
-          none true true = refl
-          none true false = refl
-          none false true = refl
-          none false false = refl
+      elsewhere : (b : Bool) (m n : ℕ) → b ≡ false → ◌≡◌ {A = ℕ} (if b then m else 0) (if b then n else 0)
+      elsewhere false m n e = refl
+      elsewhere true m n e = cc
 
-      by_fleet : (b : Bool) → (f == p.choice) ≡ b → counts keeps f s p.leg ≡ counts after f s p.leg
-      by_fleet true e =
-          let same : f ≡ p.choice = grind (arith, nat_tests) in
-          let elsewhere : (place p.leg == s) ≡ false = never_passes (place p.leg == s) (λ h. other same (grind (arith, nat_tests))) in
-          no_place (keeps (leg_on p.leg f)) (after (leg_on p.leg f)) (place p.leg) elsewhere
-      by_fleet false e = let another : f ≢ p.choice = grind (arith, nat_tests) in ap (λ b. b && (place p.leg == s)) (sym (on_other_fleets keeps p.leg p.choice f another))
+      own : counted t keeps place f s p.leg ≡ counted t after place f s p.leg
+      own = by_test (f == fleet_by t p)
+          (λ e. let fleet : f ≡ fleet_by t p = grind (arith, nat_tests) in
+          elsewhere (place p.leg == s) _ _ (never_passes (place p.leg == s) (λ h. other fleet (grind (arith, nat_tests)))))
+          (λ e. let another : f ≢ fleet_by t p = grind (arith, nat_tests) in ap (λ n. if place p.leg == s then n else 0) (own_same f another))
 
-  same : (f s n : ℕ) → (f ≡ p.choice → s ≡ place p.leg → ⊥) → count_below (counts keeps f s) n ≡ count_below (counts after f s) n
-  same f s n other = sum_below-agree (λ l. if counts keeps f s l then 1 else 0) (λ l. if counts after f s l then 1 else 0) n (record { each = λ l below. ap (λ b. if b then 1 else 0) (each l (l == p.leg) refl) })
-    where
-      each : (l : ℕ) (b : Bool) → (l == p.leg) ≡ b → counts keeps f s l ≡ counts after f s l
-      each l true e = let same : l ≡ p.leg = grind (arith, nat_tests) in rw same (own_leg f s other)
-      each l false e = other_leg f s l (grind (arith, nat_tests))
+      each : (l : ℕ) (b : Bool) → (l == p.leg) ≡ b → counted t keeps place f s l ≡ counted t after place f s l
+      each l true e = let leg : l ≡ p.leg = grind (arith, nat_tests) in rw leg own
+      each l false e = let another : l ≢ p.leg = grind (arith, nat_tests) in ap (λ n. if place l == s then n else 0) (other_leg f l another)
 
 pub landing_fewer : (t : Tables) (keeps : Domains) (p : Pair) → IsPair t p → keeps p ≡ true
-    → landings t keeps p.choice (leg_of t p.leg).to ≡ landings t (part keeps p.leg p.choice false) p.choice (leg_of t p.leg).to + 1
+    → landings t keeps (fleet_by t p) (leg_of t p.leg).to ≡ landings t (part keeps p.leg p.choice false) (fleet_by t p) (leg_of t p.leg).to + 1
 unfolding landings
-landing_fewer t keeps p pair kept = fewer keeps p (λ l. (leg_of t l).to) (legs_in t) pair.leg kept
+landing_fewer t keeps p pair kept = fewer t keeps p (λ l. (leg_of t l).to) pair kept
 
-pub landing_same : (t : Tables) (keeps : Domains) (p : Pair) (f s : ℕ) → (f ≡ p.choice → s ≡ (leg_of t p.leg).to → ⊥) → landings t keeps f s ≡ landings t (part keeps p.leg p.choice false) f s
+pub landing_same : (t : Tables) (keeps : Domains) (p : Pair) (f s : ℕ) → (f ≡ fleet_by t p → s ≡ (leg_of t p.leg).to → ⊥) → landings t keeps f s ≡ landings t (part keeps p.leg p.choice false) f s
 unfolding landings
-landing_same t keeps p f s other = same keeps p (λ l. (leg_of t l).to) f s (legs_in t) other
+landing_same t keeps p f s other = same t keeps p (λ l. (leg_of t l).to) f s other
 
 pub departure_fewer : (t : Tables) (keeps : Domains) (p : Pair) → IsPair t p → keeps p ≡ true
-    → departures t keeps p.choice (leg_of t p.leg).from ≡ departures t (part keeps p.leg p.choice false) p.choice (leg_of t p.leg).from + 1
+    → departures t keeps (fleet_by t p) (leg_of t p.leg).from ≡ departures t (part keeps p.leg p.choice false) (fleet_by t p) (leg_of t p.leg).from + 1
 unfolding departures
-departure_fewer t keeps p pair kept = fewer keeps p (λ l. (leg_of t l).from) (legs_in t) pair.leg kept
+departure_fewer t keeps p pair kept = fewer t keeps p (λ l. (leg_of t l).from) pair kept
 
-pub departure_same : (t : Tables) (keeps : Domains) (p : Pair) (f s : ℕ) → (f ≡ p.choice → s ≡ (leg_of t p.leg).from → ⊥) → departures t keeps f s ≡ departures t (part keeps p.leg p.choice false) f s
+pub departure_same : (t : Tables) (keeps : Domains) (p : Pair) (f s : ℕ) → (f ≡ fleet_by t p → s ≡ (leg_of t p.leg).from → ⊥) → departures t keeps f s ≡ departures t (part keeps p.leg p.choice false) f s
 unfolding departures
-departure_same t keeps p f s other = same keeps p (λ l. (leg_of t l).from) f s (legs_in t) other
-
--- what is counted in a cell
-passes : (a b : ℕ) (x : ℕ) → a < b → ◌≡◌ {A = ℕ} (if nat_lt a b then x else 0) x
-passes a b x less = grind (arith, nat_tests)
-
-pub landings_in_cell : (t : Tables) (keeps : Domains) (f s : ℕ) → s < stations_in t → s < CELL_WIDTH → landings_at t keeps (f * CELL_WIDTH + s) ≡ landings t keeps f s
-landings_in_cell t keeps f s there narrow = rw (fleet_of_cell f s narrow, place_of_cell f s narrow) (passes s (stations_in t) (landings t keeps f s) there)
-
-pub departures_in_cell : (t : Tables) (keeps : Domains) (f s : ℕ) → s < stations_in t → s < CELL_WIDTH → departures_at t keeps (f * CELL_WIDTH + s) ≡ departures t keeps f s
-departures_in_cell t keeps f s there narrow = rw (fleet_of_cell f s narrow, place_of_cell f s narrow) (passes s (stations_in t) (departures t keeps f s) there)
+departure_same t keeps p f s other = same t keeps p (λ l. (leg_of t l).from) f s other

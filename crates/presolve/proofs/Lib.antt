@@ -1,8 +1,8 @@
 pub mod AircraftRule
-pub mod AllCounted
 pub mod AloneLaws
 pub mod CellLaws
 pub mod Counted
+pub mod FirstCounts
 pub mod KeptParts
 pub mod Landed
 pub mod LeastBounds

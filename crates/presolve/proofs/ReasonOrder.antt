@@ -6,9 +6,8 @@ use Rattle.std.proofs.lemmas.Int.{ints}
 use Rattle.std.proofs.lemmas.List.Elements.{All-append, All-nil, All-from_recursion}
 use Rattle.sums.specs.Places.{list_below}
 use Rattle.sums.proofs.Places.{get_or-list_below, length-list_below}
-use Rattle.fleet_model.specs.Schedule.{IsPair, fleets_in, leg_of, no_leg, stations_in}
+use Rattle.fleet_model.specs.Schedule.{IsPair, fleet_by, fleets_in, last_of, leg_of, no_leg, stations_in}
 use Rattle.fleet_model.specs.Times.{departure}
-use Rattle.fleet_model.specs.Use.{last_minute}
 use Rattle.fleet_model.specs.declared.parts.Pair.{Pair}
 use Rattle.fleet_model.specs.declared.tables.Tables.{Tables}
 use Rattle.dual_bound.specs.Order.{step_follows}
@@ -23,10 +22,10 @@ use Rattle.presolve.specs.declared.rule.Rule.TheVariants as rule
 less_figure : IsFigure (negsuc 0)
 less_figure = record { no_less = omega (arith, ints); no_more = omega (arith, ints) }
 
-rent_figure : (why : Rule) (p : Pair) (f : ℕ) → IsFigure (reason_rent why p f)
-rent_figure rule.NoArrival p f = zero_figure
-rent_figure rule.NoDeparture p f = zero_figure
-rent_figure rule.TooFewAircraft p f = either (f == p.choice)
+rent_figure : (why : Rule) (own f : ℕ) → IsFigure (reason_rent why own f)
+rent_figure rule.NoArrival own f = zero_figure
+rent_figure rule.NoDeparture own f = zero_figure
+rent_figure rule.TooFewAircraft own f = either (f == own)
   where
     either : (b : Bool) → IsFigure (if b then pos 1 else pos 0)
     either true = one_figure
@@ -37,17 +36,17 @@ step_of f s m z = record { fleet = f; station = s; minute = m; value = z }
 
 -- ---- steps that follow
 -- the last of steps, or what stands before them
-last_of : Option PriceStep → List PriceStep → Option PriceStep
-last_of before [] = before
-last_of before (step ∷ steps) = last_of (Some step) steps
+last_step : Option PriceStep → List PriceStep → Option PriceStep
+last_step before [] = before
+last_step before (step ∷ steps) = last_step (Some step) steps
 
-last_append : (before : Option PriceStep) (xs ys : List PriceStep) → last_of before (xs ++ ys) ≡ last_of (last_of before xs) ys
-unfolding last_of
+last_append : (before : Option PriceStep) (xs ys : List PriceStep) → last_step before (xs ++ ys) ≡ last_step (last_step before xs) ys
+unfolding last_step
 last_append before [] ys = refl
 last_append before (x ∷ xs) ys = last_append (Some x) xs ys
 
-follow_append : (before : Option PriceStep) (xs ys : List PriceStep) → StepsFollow before xs → StepsFollow (last_of before xs) ys → StepsFollow before (xs ++ ys)
-unfolding last_of
+follow_append : (before : Option PriceStep) (xs ys : List PriceStep) → StepsFollow before xs → StepsFollow (last_step before xs) ys → StepsFollow before (xs ++ ys)
+unfolding last_step
 follow_append before [] ys left right = right
 follow_append before (x ∷ xs) ys left right = (left.0, follow_append (Some x) xs ys left.1 right)
 
@@ -75,7 +74,7 @@ later_minute fleet station minute =
     by_test true false later other e f g = cc
     by_test true true false other e f g = cc
 
-module _ (fleet minute : ℕ) where
+module _ (t : Tables) (fleet minute : ℕ) where
   -- at one station
   there_follow : (before : Option PriceStep) (station : ℕ) (b : Bool) → MayFollow fleet before station
       → StepsFollow before (step_of fleet station 0 (pos 1) ∷ (if b then step_of fleet station (minute + 1) (pos 0) ∷ [] else []))
@@ -83,23 +82,23 @@ module _ (fleet minute : ℕ) where
   there_follow before station false may = (may station (omega arith), tt)
 
   behind_there : (before : Option PriceStep) (station : ℕ) (b : Bool)
-      → MayFollow fleet (last_of before (step_of fleet station 0 (pos 1) ∷ (if b then step_of fleet station (minute + 1) (pos 0) ∷ [] else []))) (suc station)
-  unfolding last_of
+      → MayFollow fleet (last_step before (step_of fleet station 0 (pos 1) ∷ (if b then step_of fleet station (minute + 1) (pos 0) ∷ [] else []))) (suc station)
+  unfolding last_step
   behind_there before station true s later = next_place fleet station (minute + 1) s (pos 0) (omega arith)
   behind_there before station false s later = next_place fleet station 0 s (pos 1) (omega arith)
 
   -- at all stations below a number
-  behind_all : (n : ℕ) → MayFollow fleet (last_of None (steps_until fleet minute n)) n
-  unfolding last_of steps_until
+  behind_all : (n : ℕ) → MayFollow fleet (last_step None (steps_until t fleet minute n)) n
+  unfolding last_step steps_until
   behind_all zero s later = refl
   behind_all (suc n) s later =
-      subst (λ o. MayFollow fleet o (suc n)) (sym (last_append None (steps_until fleet minute n) (steps_at fleet minute n))) (behind_there (last_of None (steps_until fleet minute n)) n (nat_lt minute last_minute)) s later
+      subst (λ o. MayFollow fleet o (suc n)) (sym (last_append None (steps_until t fleet minute n) (steps_at t fleet minute n))) (behind_there (last_step None (steps_until t fleet minute n)) n (nat_lt minute (last_of t))) s later
 
-  all_follow : (n : ℕ) → StepsFollow None (steps_until fleet minute n)
+  all_follow : (n : ℕ) → StepsFollow None (steps_until t fleet minute n)
   unfolding steps_until
   all_follow zero = tt
   all_follow (suc n) =
-      follow_append None (steps_until fleet minute n) (steps_at fleet minute n) (all_follow n) (there_follow (last_of None (steps_until fleet minute n)) n (nat_lt minute last_minute) (behind_all n))
+      follow_append None (steps_until t fleet minute n) (steps_at t fleet minute n) (all_follow n) (there_follow (last_step None (steps_until t fleet minute n)) n (nat_lt minute (last_of t)) (behind_all n))
 
 -- ---- no lone step of 0
 -- no step says 0 at the first minute
@@ -120,10 +119,10 @@ none_alone (x ∷ xs) none = (whatever (x.minute == 0) (int_eq x.value (pos 0)) 
     whatever true false c e = refl
     whatever false b c e = refl
 
-none_zero : (fleet minute n : ℕ) → NoneZero (steps_until fleet minute n)
+none_zero : (t : Tables) (fleet minute n : ℕ) → NoneZero (steps_until t fleet minute n)
 unfolding steps_until
-none_zero fleet minute zero = tt
-none_zero fleet minute (suc n) = none_append (steps_until fleet minute n) (steps_at fleet minute n) (none_zero fleet minute n) (there (nat_lt minute last_minute))
+none_zero t fleet minute zero = tt
+none_zero t fleet minute (suc n) = none_append (steps_until t fleet minute n) (steps_at t fleet minute n) (none_zero t fleet minute n) (there (nat_lt minute (last_of t)))
   where
     no_minute : (b : Bool) → b ≡ false → (b && true) ≡ false
     no_minute false e = refl
@@ -134,21 +133,21 @@ none_zero fleet minute (suc n) = none_append (steps_until fleet minute n) (steps
     there false = (refl, tt)
 
 -- ---- each step
-each_in_order : (t : Tables) (fleet minute n : ℕ) → fleet < fleets_in t → n ≤ stations_in t → All (IsStepInOrder t) (steps_until fleet minute n)
+each_in_order : (t : Tables) (fleet minute n : ℕ) → fleet < fleets_in t → n ≤ stations_in t → All (IsStepInOrder t) (steps_until t fleet minute n)
 unfolding steps_until
 each_in_order t fleet minute zero known within = All-nil (IsStepInOrder t)
 each_in_order t fleet minute (suc n) known within =
-    All-append (IsStepInOrder t) (steps_until fleet minute n) (steps_at fleet minute n) (each_in_order t fleet minute n known (omega arith)) (there (nat_lt minute last_minute) (λ e. grind (arith, nat_tests)))
+    All-append (IsStepInOrder t) (steps_until t fleet minute n) (steps_at t fleet minute n) (each_in_order t fleet minute n known (omega arith)) (there (nat_lt minute (last_of t)) (λ e. grind (arith, nat_tests)))
   where
     first : IsStepInOrder t (step_of fleet n 0 (pos 1))
     first = record { fleet = known; station = omega arith; minute = omega arith; value = one_figure }
 
-    there : (b : Bool) → (b ≡ true → minute + 1 ≤ last_minute) → All (IsStepInOrder t) (step_of fleet n 0 (pos 1) ∷ (if b then step_of fleet n (minute + 1) (pos 0) ∷ [] else []))
+    there : (b : Bool) → (b ≡ true → minute + 1 ≤ last_of t) → All (IsStepInOrder t) (step_of fleet n 0 (pos 1) ∷ (if b then step_of fleet n (minute + 1) (pos 0) ∷ [] else []))
     there true early = All-from_recursion (IsStepInOrder t) (step_of fleet n 0 (pos 1) ∷ step_of fleet n (minute + 1) (pos 0) ∷ [])
         (first, (record { fleet = known; station = omega arith; minute = early refl; value = zero_figure }, tt))
     there false early = All-from_recursion (IsStepInOrder t) (step_of fleet n 0 (pos 1) ∷ []) (first, tt)
 
--- one step all day
+-- one step all period
 one_in_order : (t : Tables) (fleet station : ℕ) (z : ℤ) → fleet < fleets_in t → station < stations_in t → IsFigure z → int_eq z (pos 0) ≡ false → AreStepsInOrder t (step_of fleet station 0 z ∷ [])
 one_in_order t fleet station z known there figure some = record {
   each = All-from_recursion (IsStepInOrder t) (step_of fleet station 0 z ∷ []) (record { fleet = known; station = there; minute = omega arith; value = figure }, tt);
@@ -156,26 +155,26 @@ one_in_order t fleet station z known there figure some = record {
   no_lone_zero = none_alone (step_of fleet station 0 z ∷ []) (some, tt);
 }
 
-steps_in_order : (t : Tables) (why : Rule) (p : Pair) → IsPair t p → AreStepsInOrder t (reason_steps t why p)
-steps_in_order t rule.NoArrival p pair = one_in_order t p.choice (leg_of t p.leg).from (pos 1) pair.choice (t.in_range.legs_fit.each p.leg no_leg pair.leg).from one_figure refl
-steps_in_order t rule.NoDeparture p pair = one_in_order t p.choice (leg_of t p.leg).to (negsuc 0) pair.choice (t.in_range.legs_fit.each p.leg no_leg pair.leg).to less_figure refl
-steps_in_order t rule.TooFewAircraft p pair = record {
-  each = each_in_order t p.choice (departure t p) (stations_in t) pair.choice (omega arith);
-  follow = all_follow p.choice (departure t p) (stations_in t);
-  no_lone_zero = none_alone (steps_until p.choice (departure t p) (stations_in t)) (none_zero p.choice (departure t p) (stations_in t));
+steps_in_order : (t : Tables) (why : Rule) (p : Pair) → IsPair t p → fleet_by t p < fleets_in t → AreStepsInOrder t (reason_steps t why p)
+steps_in_order t rule.NoArrival p pair flies = one_in_order t (fleet_by t p) (leg_of t p.leg).from (pos 1) flies (t.in_range.legs_fit.each p.leg no_leg pair.leg).from one_figure refl
+steps_in_order t rule.NoDeparture p pair flies = one_in_order t (fleet_by t p) (leg_of t p.leg).to (negsuc 0) flies (t.in_range.legs_fit.each p.leg no_leg pair.leg).to less_figure refl
+steps_in_order t rule.TooFewAircraft p pair flies = record {
+  each = each_in_order t (fleet_by t p) (departure t p) (stations_in t) flies (omega arith);
+  follow = all_follow t (fleet_by t p) (departure t p) (stations_in t);
+  no_lone_zero = none_alone (steps_until t (fleet_by t p) (departure t p) (stations_in t)) (none_zero t (fleet_by t p) (departure t p) (stations_in t));
 }
 
-pub reason_in_order : (t : Tables) (why : Rule) (p : Pair) (prices : Prices) → IsPair t p → prices.scale ≡ pos 1 → prices.rents ≡ list_below (reason_rent why p) (fleets_in t)
+pub reason_in_order : (t : Tables) (why : Rule) (p : Pair) (prices : Prices) → IsPair t p → fleet_by t p < fleets_in t → prices.scale ≡ pos 1 → prices.rents ≡ list_below (reason_rent why (fleet_by t p)) (fleets_in t)
     → prices.steps ≡ reason_steps t why p → ArePricesInOrder t prices
-reason_in_order t why p prices pair one rents steps = record {
+reason_in_order t why p prices pair flies one rents steps = record {
   scale = subst IsFigure (sym one) one_figure;
-  one_each = ap length rents ∙ length-list_below (reason_rent why p) (fleets_in t);
+  one_each = ap length rents ∙ length-list_below (reason_rent why (fleet_by t p)) (fleets_in t);
   rents = subst (λ xs. All IsFigure xs) (sym rents) (λ k d below. figure_at k d (bound k below));
-  steps = subst (λ xs. AreStepsInOrder t xs) (sym steps) (steps_in_order t why p pair);
+  steps = subst (λ xs. AreStepsInOrder t xs) (sym steps) (steps_in_order t why p pair flies);
 }
   where
-    bound : (k : ℕ) → k < length (list_below (reason_rent why p) (fleets_in t)) → k < fleets_in t
-    bound k below = omega (arith, length-list_below (reason_rent why p) (fleets_in t))
+    bound : (k : ℕ) → k < length (list_below (reason_rent why (fleet_by t p)) (fleets_in t)) → k < fleets_in t
+    bound k below = omega (arith, length-list_below (reason_rent why (fleet_by t p)) (fleets_in t))
 
-    figure_at : (k : ℕ) (d : ℤ) → k < fleets_in t → IsFigure (get_or (list_below (reason_rent why p) (fleets_in t)) k d)
-    figure_at k d below = subst IsFigure (sym (get_or-list_below (reason_rent why p) (fleets_in t) k d below)) (rent_figure why p k)
+    figure_at : (k : ℕ) (d : ℤ) → k < fleets_in t → IsFigure (get_or (list_below (reason_rent why (fleet_by t p)) (fleets_in t)) k d)
+    figure_at k d below = subst IsFigure (sym (get_or-list_below (reason_rent why (fleet_by t p)) (fleets_in t) k d below)) (rent_figure why (fleet_by t p) k)

@@ -1,9 +1,9 @@
 -- What removals show, and how many there are.
-use Rattle.std.proofs.Common.{◌≡◌, ◌+◌, Bool, true, false, if◌then◌else◌, ◌==◌, nat_lt, Option, Some, None, List, [], ◌∷◌, length, pos, ◌<ℤ◌, refl, arith}
+use Rattle.std.proofs.Common.{◌≡◌, ◌+◌, ◌<◌, ◌&&◌, Bool, true, false, if◌then◌else◌, ◌==◌, nat_lt, Option, Some, None, List, [], ◌∷◌, length, pos, ◌<ℤ◌, refl, arith}
 use Rattle.std.proofs.lemmas.Bool.{ltb-true}
 use Rattle.sums.proofs.Naturals.{zero_number}
 use Rattle.fleet_model.specs.Kept.{Domains, pairs_kept}
-use Rattle.fleet_model.specs.Schedule.{IsPair, fleet_of, leg_of}
+use Rattle.fleet_model.specs.Schedule.{IsPair, fleet_by, fleet_of, fleets_in, leg_of}
 use Rattle.fleet_model.specs.Times.{departure}
 use Rattle.fleet_model.specs.declared.parts.Pair.{Pair}
 use Rattle.fleet_model.specs.declared.tables.Tables.{Tables}
@@ -43,34 +43,40 @@ passes false false true rule.NoArrival e = cc
 passes false false true rule.NoDeparture e = cc
 passes false false false why e = cc
 
--- a rule of a kept pair
-kept_rule : (b : Bool) (o : Option Rule) (why : Rule) → (if b then o else None) ≡ Some why → (b ≡ true) × (o ≡ Some why)
-kept_rule true o why e = (refl, e)
-kept_rule false o why e = cc
+-- what is removed is kept, a fleet flies it, and it meets the rule
+pub record IsRemovable (t : Tables) (keeps : Domains) (p : Pair) (why : Rule) : Type 0 where
+  pub kept : keeps p ≡ true
+  pub flown : fleet_by t p < fleets_in t
+  pub meets : rule_of t keeps p ≡ Some why
 
-pub is_kept : (t : Tables) (keeps : Domains) (p : Pair) (why : Rule) → removed_by t keeps p ≡ Some why → keeps p ≡ true
-is_kept t keeps p why e = (kept_rule (keeps p) (rule_of t keeps p) why e).0
+pub is_removable : (t : Tables) (keeps : Domains) (p : Pair) (why : Rule) → removed_by t keeps p ≡ Some why → IsRemovable t keeps p why
+is_removable t keeps p why e = by_tests (keeps p) (nat_lt (fleet_by t p) (fleets_in t)) (rule_of t keeps p) e (λ k l o. record { kept = k; flown = ltb-true (fleet_by t p) (fleets_in t) l; meets = o })
+  where
+    by_tests : {X : Type 0} (b c : Bool) (o : Option Rule) → (if b && c then o else None) ≡ Some why → (b ≡ true → c ≡ true → o ≡ Some why → X) → X
+    by_tests true true o e x = x refl refl e
+    by_tests true false o e x = cc
+    by_tests false c o e x = cc
 
 -- by the first rule that a pair meets, its reason shows that nothing legal is left where it is flown
-by_rule : (t : Tables) (keeps : Domains) (p : Pair) (why : Rule) (prices : Prices) → IsPair t p → keeps p ≡ true → IsReason t why p prices
-    → PassesAs (landings t keeps p.choice (leg_of t p.leg).from == 0) (departures t keeps p.choice (leg_of t p.leg).to == 0) (nat_lt (fleet_of t p.choice).aircraft (surely_busy t keeps p (departure t p))) why
+by_rule : (t : Tables) (keeps : Domains) (p : Pair) (why : Rule) (prices : Prices) → IsPair t p → fleet_by t p < fleets_in t → keeps p ≡ true → IsReason t why p prices
+    → PassesAs (landings t keeps (fleet_by t p) (leg_of t p.leg).from == 0) (departures t keeps (fleet_by t p) (leg_of t p.leg).to == 0) (nat_lt (fleet_of t (fleet_by t p)).aircraft (surely_busy t keeps p (departure t p))) why
     → pos 0 <ℤ worth_of t (part keeps p.leg p.choice true) prices 0
-by_rule t keeps p rule.NoArrival prices pair kept reason test = no_arrival_refutes t keeps p prices pair kept (zero_number (landings t keeps p.choice (leg_of t p.leg).from) test) reason
-by_rule t keeps p rule.NoDeparture prices pair kept reason test = no_departure_refutes t keeps p prices pair kept (zero_number (departures t keeps p.choice (leg_of t p.leg).to) test) reason
-by_rule t keeps p rule.TooFewAircraft prices pair kept reason test = too_few_refutes t keeps p prices pair kept (ltb-true (fleet_of t p.choice).aircraft (surely_busy t keeps p (departure t p)) test) reason
+by_rule t keeps p rule.NoArrival prices pair flies kept reason test = no_arrival_refutes t keeps p prices pair flies kept (zero_number (landings t keeps (fleet_by t p) (leg_of t p.leg).from) test) reason
+by_rule t keeps p rule.NoDeparture prices pair flies kept reason test = no_departure_refutes t keeps p prices pair flies kept (zero_number (departures t keeps (fleet_by t p) (leg_of t p.leg).to) test) reason
+by_rule t keeps p rule.TooFewAircraft prices pair flies kept reason test = too_few_refutes t keeps p prices pair flies kept (ltb-true (fleet_of t (fleet_by t p)).aircraft (surely_busy t keeps p (departure t p)) test) reason
 
 rule_refutes : (t : Tables) (keeps : Domains) (p : Pair) (why : Rule) (prices : Prices) → IsPair t p → removed_by t keeps p ≡ Some why → IsReason t why p prices
     → pos 0 <ℤ worth_of t (part keeps p.leg p.choice true) prices 0
 unfolding rule_of by_three
 rule_refutes t keeps p why prices pair e reason =
-    let parts = kept_rule (keeps p) (rule_of t keeps p) why e in
-    by_rule t keeps p why prices pair parts.0 reason (passes _ _ _ why parts.1)
+    let found = is_removable t keeps p why e in
+    by_rule t keeps p why prices pair found.flown found.kept reason (passes _ _ _ why found.meets)
 
 next_is_refuted : (t : Tables) (keeps : Domains) (place : Pair) (trim : Trim) → IsNext t keeps place trim → IsRefuted t keeps trim
 next_is_refuted t keeps place trim next = record {
   pair = next.pair;
-  kept = is_kept t keeps (pair_of trim) next.why next.first_rule;
-  none_bare = flown_none_bare t keeps (pair_of trim) next.pair (is_kept t keeps (pair_of trim) next.why next.first_rule) next.none_bare;
+  kept = (is_removable t keeps (pair_of trim) next.why next.first_rule).kept;
+  none_bare = flown_none_bare t keeps (pair_of trim) next.pair (is_removable t keeps (pair_of trim) next.why next.first_rule).kept next.none_bare;
   proper = reason_is_proper t next.why (pair_of trim) trim.reason next.reason;
   of_tables = next.reason.of_tables;
   in_order = next.reason.in_order;
@@ -92,5 +98,5 @@ pub are_fewer : (t : Tables) (keeps : Domains) (place : Pair) (trims : List Trim
 are_fewer t keeps place [] removals = omega arith
 are_fewer t keeps place (trim ∷ trims) removals =
     let next = removals.0 in
-    let fewer = one_fewer t keeps (pair_of trim) next.pair (is_kept t keeps (pair_of trim) next.why next.first_rule) in
+    let fewer = one_fewer t keeps (pair_of trim) next.pair (is_removable t keeps (pair_of trim) next.why next.first_rule).kept in
     omega (arith, fewer, are_fewer t (without keeps trim) (pair_of trim) trims removals.1)

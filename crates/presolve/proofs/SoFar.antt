@@ -11,7 +11,7 @@ use Rattle.presolve.specs.Search.{IsNextPair}
 use Rattle.presolve.specs.declared.trims.Trim.{Trim}
 use Rattle.presolve.specs.declared.search.Removable.{Removable}
 use Rattle.presolve.proofs.KeptParts.{one_fewer}
-use Rattle.presolve.proofs.RemovalLaws.{is_kept}
+use Rattle.presolve.proofs.RemovalLaws.{is_removable}
 
 -- the removal of a pair that was found, with its reason
 abbrev pub trim_of : Removable → Prices → Trim
@@ -43,7 +43,7 @@ one_more t start keeps after from place found prices so_far grown rest is before
 pub smaller : (t : Tables) (keeps after : Domains) (place : Pair) (found : Removable) → IsNextPair t keeps place found → after ≡ part keeps found.pair.leg found.pair.choice false
     → pairs_kept t after < pairs_kept t keeps
 smaller t keeps after place found next same =
-    let fewer = one_fewer t keeps found.pair next.pair (is_kept t keeps found.pair found.rule next.by_rule) in
+    let fewer = one_fewer t keeps found.pair next.pair (is_removable t keeps found.pair found.rule next.by_rule).kept in
     rw same (omega (arith, fewer))
 
 -- all, once nothing is left to remove

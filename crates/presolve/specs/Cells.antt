@@ -1,6 +1,5 @@
 -- Numbers for each fleet at each place, which is a station or a minute, in one list by fleet, then place.
 use Rattle.std.specs.Prelude.{◌≡◌, ℕ, ◌+◌, ◌*◌, ◌<◌, List, length, slice_index}
-use Rattle.fleet_model.specs.declared.limits.TheConstants.{MINUTES_PER_PERIOD}
 use Rattle.presolve.specs.declared.cells.TheConstants.{CELL_WIDTH}
 
 -- the number of a fleet at a place
@@ -12,7 +11,7 @@ pub record AreCells (cells : List ℕ) (value : ℕ → ℕ → ℕ) (fleets pla
   pub width : length cells ≡ fleets * CELL_WIDTH
   pub each : (f k : ℕ) → f < fleets → k < places → cell_of cells f k ≡ value f k
 
--- each is more than it was by such a number, of so many fleets at each minute
-pub record AreMore (more : ℕ → ℕ → ℕ) (fleets : ℕ) (old new : List ℕ) : Type 0 where
+-- each is more than it was by such a number, of so many fleets at so many places
+pub record AreMore (more : ℕ → ℕ → ℕ) (fleets places : ℕ) (old new : List ℕ) : Type 0 where
   pub width : length new ≡ length old
-  pub each : (f m : ℕ) → f < fleets → m < MINUTES_PER_PERIOD → cell_of new f m ≡ cell_of old f m + more f m
+  pub each : (f k : ℕ) → f < fleets → k < places → cell_of new f k ≡ cell_of old f k + more f k

@@ -2,8 +2,7 @@
 use Rattle.std.specs.Prelude.{◌≡◌, ℕ, ◌<◌, ◌≤◌, List, map}
 use Rattle.fleet_model.specs.Aloft.{aloft}
 use Rattle.fleet_model.specs.Kept.{Domains, pairs_kept}
-use Rattle.fleet_model.specs.Schedule.{IsPair}
-use Rattle.fleet_model.specs.declared.limits.TheConstants.{MINUTES_PER_PERIOD}
+use Rattle.fleet_model.specs.Schedule.{IsPair, period_of}
 use Rattle.fleet_model.specs.declared.parts.Pair.{Pair}
 use Rattle.fleet_model.specs.declared.tables.Tables.{Tables}
 use Rattle.presolve.specs.Removals.{AreRemovals, pair_of}
@@ -12,7 +11,7 @@ use Rattle.presolve.specs.declared.trims.Trim.{Trim}
 
 -- the aircraft that a pair keeps busy at the end of a minute are its flights under way
 abbrev pub BusyIsUnderWay : Type 0
-BusyIsUnderWay = (t : Tables) (p : Pair) (m : ℕ) → IsPair t p → m < MINUTES_PER_PERIOD → busy_at t p m ≡ aloft t p m
+BusyIsUnderWay = (t : Tables) (p : Pair) (m : ℕ) → IsPair t p → m < period_of t → busy_at t p m ≡ aloft t p m
 
 -- from a place on, the same pairs are removed in the same order
 abbrev pub RemovalsAreOne : Type 0

@@ -14,7 +14,7 @@ use Rattle.presolve.specs.Rules.{removed_by}
 use Rattle.presolve.specs.declared.trims.Trim.{Trim}
 use Rattle.presolve.specs.declared.rule.Rule.{Rule}
 
--- a pair comes before another, by leg, then fleet
+-- a pair comes before another, by leg, then choice
 abbrev pub before : Pair → Pair → Bool
 before p q = nat_lt p.leg q.leg || ((p.leg == q.leg) && nat_lt p.choice q.choice)
 
@@ -52,7 +52,7 @@ pub record IsNext (t : Tables) (keeps : Domains) (place : Pair) (trim : Trim) : 
   pub reason : IsReason t why (pair_of trim) trim.reason
   pub first_pair : (p : Pair) → IsPair t p → IsTrue (is_sooner place p (pair_of trim)) → removed_by t keeps p ≡ None
 
--- The removals, going on from a place. A pass goes over the pairs by leg, then fleet; what comes behind the last pair
+-- The removals, going on from a place. A pass goes over the pairs by leg, then choice; what comes behind the last pair
 -- is the next pass, and one that removes none is the last.
 abbrev pub AreRemovals : Tables → Domains → Pair → List Trim → Type 0
 AreRemovals t keeps place [] = IsDone t keeps

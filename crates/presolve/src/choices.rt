@@ -1,7 +1,7 @@
 //! The kept pairs, with what is counted of them, so that a rule is looked up and not counted anew.
 ghost use Rattle.std.specs.Prelude.{◌≡◌, ◌<◌, ◌==◌, MatchBool, IfOk, IsTrue, false};
 ghost use Rattle.fleet_model.specs.Kept.{all_pairs, kept_by, kept_on};
-ghost use Rattle.fleet_model.specs.Schedule.{IsPair, legs_in};
+ghost use Rattle.fleet_model.specs.Schedule.{IsPair, fleet_by, fleets_in, legs_in};
 ghost use Rattle.dual_bound.specs.Bound.{part};
 ghost use Rattle.presolve.specs.Choices.{AreChoices};
 ghost use Rattle.presolve.specs.Removals.{NoneBare};
@@ -24,7 +24,7 @@ pub(crate) struct Choices {
     pub landings: Vec<u32>,
     /// How many kept pairs of each fleet depart from each station.
     pub departures: Vec<u32>,
-    /// The aircraft of each fleet that legs which keep no other keep busy, by minutes.
+    /// The aircraft of each fleet that legs which keep one pair keep busy, by minutes.
     pub busy: Vec<u32>,
 }
 
@@ -70,24 +70,26 @@ impl Choices {
         self.counts[leg as usize] == 1
     }
 
-    /// Keeps a pair no longer.
+    /// Keeps a pair no longer that a fleet flies.
     pub(crate) fn remove(&mut self, tables: &Tables, pair: Pair)
         requires choices { AreChoices tables.now self.old }
         requires none_bare { NoneBare tables.now (kept_by self.old.kept) }
         requires pair { IsPair tables.now pair }
         requires kept { IsTrue (kept_by self.old.kept pair) }
+        requires flown { fleet_by tables.now pair < fleets_in tables.now }
         ensures choices { AreChoices tables.now self.new }
         ensures removed { kept_by self.new.kept ≡ part (kept_by self.old.kept) pair.leg pair.choice false }
     {
         let flown = tables.leg(pair.leg);
+        let fleet = tables.fleet_by(pair);
         self.kept.narrow(Step {
             leg: pair.leg,
             choice: pair.choice,
             yes: false,
         });
         self.counts[pair.leg as usize] -= 1;
-        take_one(&mut self.landings, pair.choice, flown.to);
-        take_one(&mut self.departures, pair.choice, flown.from);
+        take_one(&mut self.landings, fleet, flown.to);
+        take_one(&mut self.departures, fleet, flown.from);
         if self.counts[pair.leg as usize] == 1 {
             add_alone(&mut self.busy, tables, &self.kept, pair.leg);
         }

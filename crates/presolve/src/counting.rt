@@ -1,17 +1,16 @@
 //! Counts of kept pairs, made once.
-ghost use Rattle.std.specs.Prelude.{◌≡◌, ◌≤◌, ◌*◌, ◌<◌, IfOk, ℕ, slice_index};
-ghost use Rattle.sums.specs.Places.{list_below};
+ghost use Rattle.std.specs.Prelude.{◌≡◌, ◌≤◌, ◌*◌, ◌<◌, ◌==◌, ◌&&◌, if◌then◌else◌, IfOk, ℕ, length, slice_index};
 ghost use Rattle.fleet_model.specs.Kept.{kept_by, kept_on};
-ghost use Rattle.fleet_model.specs.Schedule.{fleets_in, legs_in};
-ghost use Rattle.fleet_model.specs.declared.limits.TheConstants.{MAX_FLEETS};
-ghost use Rattle.presolve.specs.Choices.{departures_at, landings_at};
-ghost use Rattle.presolve.specs.Rules.{departures, landings};
+ghost use Rattle.fleet_model.specs.Schedule.{IsPair, fleets_in, legs_in, stations_in};
+ghost use Rattle.fleet_model.specs.declared.limits.TheConstants.{MAX_CHOICES, MAX_LEGS};
+ghost use Rattle.presolve.specs.Cells.{AreCells, AreMore, cell_of};
+ghost use Rattle.presolve.specs.Rules.{departures, flies, flown_on, landings};
 ghost use Rattle.presolve.specs.declared.cells.TheConstants.{CELL_WIDTH};
 
-use crate::cells::CELL_WIDTH;
+use crate::cells::{add_one, zeros};
 use entries::NoMemory;
 use fleet_model::limits::MAX_LEGS;
-use fleet_model::{Kept, Tables};
+use fleet_model::{Kept, Pair, Tables};
 use std::alloc::Global;
 
 /// How many pairs each leg keeps.
@@ -31,11 +30,11 @@ pub(crate) fn all_landings(
     tables: &Tables,
     kept: &Kept,
 ) -> Result<Vec<u32>, NoMemory>
-    ensures { IfOk result (λ cells. cells.items ≡ list_below (landings_at tables.now (kept_by kept.now)) (fleets_in tables.now * CELL_WIDTH)) }
+    ensures { IfOk result (λ cells. AreCells cells.items (landings tables.now (kept_by kept.now)) (fleets_in tables.now) (stations_in tables.now)) }
 {
-    let mut cells = Vec::new(alloc);
-    for place in 0..tables.fleet_count() as usize * CELL_WIDTH {
-        cells.push(landings_at(tables, kept, place))?;
+    let mut cells = zeros(alloc, tables)?;
+    for leg in 0..tables.leg_count() {
+        add_leg(&mut cells, tables, kept, leg, tables.leg(leg).to);
     }
     Ok(cells)
 }
@@ -46,67 +45,39 @@ pub(crate) fn all_departures(
     tables: &Tables,
     kept: &Kept,
 ) -> Result<Vec<u32>, NoMemory>
-    ensures { IfOk result (λ cells. cells.items ≡ list_below (departures_at tables.now (kept_by kept.now)) (fleets_in tables.now * CELL_WIDTH)) }
+    ensures { IfOk result (λ cells. AreCells cells.items (departures tables.now (kept_by kept.now)) (fleets_in tables.now) (stations_in tables.now)) }
 {
-    let mut cells = Vec::new(alloc);
-    for place in 0..tables.fleet_count() as usize * CELL_WIDTH {
-        cells.push(departures_at(tables, kept, place))?;
+    let mut cells = zeros(alloc, tables)?;
+    for leg in 0..tables.leg_count() {
+        add_leg(&mut cells, tables, kept, leg, tables.leg(leg).from);
     }
     Ok(cells)
 }
 
-// What is counted of landings in a cell.
-fn landings_at(tables: &Tables, kept: &Kept, place: usize) -> u32
-    requires { place < fleets_in tables.now * CELL_WIDTH }
-    ensures { result ≡ landings_at tables.now (kept_by kept.now) place }
+// Adds the kept pairs of a leg to those of their fleets at a station.
+fn add_leg(cells: &mut Vec<u32>, tables: &Tables, kept: &Kept, leg: u32, station: u32)
+    requires width { length cells.old.items ≡ fleets_in tables.now * CELL_WIDTH }
+    requires leg { leg < legs_in tables.now }
+    requires station { station < stations_in tables.now }
+    requires small { (f s : ℕ) → f < fleets_in tables.now → s < stations_in tables.now → cell_of cells.old.items f s ≤ MAX_LEGS * MAX_CHOICES }
+    ensures { AreMore (λ f s. if station == s then flown_on tables.now (kept_by kept.now) f leg else 0) (fleets_in tables.now) (stations_in tables.now) cells.old.items cells.new.items }
 {
-    let station = (place % CELL_WIDTH) as u32;
-    if station < tables.station_count() {
-        landings(tables, kept, (place / CELL_WIDTH) as u32, station)
-    } else {
-        0
+    for choice in 0..tables.choice_count(leg) {
+        add_pair(cells, tables, kept, Pair { leg, choice }, station);
     }
 }
 
-// What is counted of departures in a cell.
-fn departures_at(tables: &Tables, kept: &Kept, place: usize) -> u32
-    requires { place < fleets_in tables.now * CELL_WIDTH }
-    ensures { result ≡ departures_at tables.now (kept_by kept.now) place }
+// Adds a pair to those of its fleet at a station, where it is kept and a fleet flies it.
+fn add_pair(cells: &mut Vec<u32>, tables: &Tables, kept: &Kept, pair: Pair, station: u32)
+    requires width { length cells.old.items ≡ fleets_in tables.now * CELL_WIDTH }
+    requires pair { IsPair tables.now pair }
+    requires few { pair.choice < MAX_CHOICES }
+    requires station { station < stations_in tables.now }
+    requires small { (f s : ℕ) → f < fleets_in tables.now → s < stations_in tables.now → cell_of cells.old.items f s < 1000000 }
+    ensures { AreMore (λ f s. if (station == s) && flies tables.now (kept_by kept.now) f pair.leg pair.choice then 1 else 0) (fleets_in tables.now) (stations_in tables.now) cells.old.items cells.new.items }
 {
-    let station = (place % CELL_WIDTH) as u32;
-    if station < tables.station_count() {
-        departures(tables, kept, (place / CELL_WIDTH) as u32, station)
-    } else {
-        0
+    let fleet = tables.fleet_by(pair);
+    if kept.kept(pair.leg, pair.choice) && fleet < tables.fleet_count() {
+        add_one(cells, fleet, station);
     }
-}
-
-// How many kept pairs of a fleet land at a station.
-#[tactic(auto, unfolding(crate::specs::Rules::landings))]
-fn landings(tables: &Tables, kept: &Kept, fleet: u32, station: u32) -> u32
-    requires { fleet < MAX_FLEETS }
-    ensures { result ≡ landings tables.now (kept_by kept.now) fleet station }
-{
-    let mut count = 0;
-    for leg in 0..tables.leg_count() {
-        if kept.kept(leg, fleet) && tables.leg(leg).to == station {
-            count += 1;
-        }
-    }
-    count
-}
-
-// How many kept pairs of a fleet depart from a station.
-#[tactic(auto, unfolding(crate::specs::Rules::departures))]
-fn departures(tables: &Tables, kept: &Kept, fleet: u32, station: u32) -> u32
-    requires { fleet < MAX_FLEETS }
-    ensures { result ≡ departures tables.now (kept_by kept.now) fleet station }
-{
-    let mut count = 0;
-    for leg in 0..tables.leg_count() {
-        if kept.kept(leg, fleet) && tables.leg(leg).from == station {
-            count += 1;
-        }
-    }
-    count
 }

@@ -1,9 +1,9 @@
 //! Which rule a pair meets among the kept pairs. Each test takes constant time.
 ghost use Rattle.std.specs.Prelude.{◌≡◌, ◌<◌, ◌≤◌, ◌*◌, IsTrue};
 ghost use Rattle.fleet_model.specs.Kept.{kept_by};
-ghost use Rattle.fleet_model.specs.Schedule.{IsPair, fleets_in, stations_in};
+ghost use Rattle.fleet_model.specs.Schedule.{IsPair, fleet_by, fleets_in, period_of, stations_in};
 ghost use Rattle.fleet_model.specs.Times.{departure};
-ghost use Rattle.fleet_model.specs.declared.limits.TheConstants.{MAX_LEGS, MINUTES_PER_PERIOD};
+ghost use Rattle.fleet_model.specs.declared.limits.TheConstants.{MAX_LEGS};
 ghost use Rattle.presolve.specs.Choices.{AreChoices, all_busy_alone};
 ghost use Rattle.presolve.specs.Removals.{NoneBare};
 ghost use Rattle.presolve.specs.Rules.{departures, landings, removed_by, rule_of, surely_busy};
@@ -14,14 +14,14 @@ use crate::choices::Choices;
 use crate::rule::Rule;
 use fleet_model::{Pair, Tables};
 
-/// The rule by which a kept pair may be removed, and none where it isn't kept or meets none.
+/// The rule by which a kept pair may be removed, and none where it isn't kept, no fleet flies it, or it meets none.
 pub(crate) fn removed_by(tables: &Tables, choices: &Choices, pair: Pair) -> Option<Rule>
     requires choices { AreChoices tables.now choices.now }
     requires none_bare { NoneBare tables.now (kept_by choices.now.kept) }
     requires pair { IsPair tables.now pair }
     ensures { result ≡ removed_by tables.now (kept_by choices.now.kept) pair }
 {
-    if choices.kept.kept(pair.leg, pair.choice) {
+    if choices.kept.kept(pair.leg, pair.choice) && tables.fleet_by(pair) < tables.fleet_count() {
         rule_of(tables, choices, pair)
     } else {
         None
@@ -35,16 +35,18 @@ fn rule_of(tables: &Tables, choices: &Choices, pair: Pair) -> Option<Rule>
     requires none_bare { NoneBare tables.now (kept_by choices.now.kept) }
     requires pair { IsPair tables.now pair }
     requires kept { IsTrue (kept_by choices.now.kept pair) }
+    requires flown { fleet_by tables.now pair < fleets_in tables.now }
     ensures { result ≡ rule_of tables.now (kept_by choices.now.kept) pair }
 {
     let flown = tables.leg(pair.leg);
-    if landings(tables, choices, pair.choice, flown.from) == 0 {
+    let fleet = tables.fleet_by(pair);
+    if landings(tables, choices, fleet, flown.from) == 0 {
         return Some(Rule::NoArrival);
     }
-    if departures(tables, choices, pair.choice, flown.to) == 0 {
+    if departures(tables, choices, fleet, flown.to) == 0 {
         return Some(Rule::NoDeparture);
     }
-    if surely_busy(tables, choices, pair) > tables.fleet(pair.choice).aircraft {
+    if surely_busy(tables, choices, pair, fleet) > tables.fleet(fleet).aircraft {
         return Some(Rule::TooFewAircraft);
     }
     None
@@ -71,15 +73,17 @@ fn departures(tables: &Tables, choices: &Choices, fleet: u32, station: u32) -> u
 }
 
 // The aircraft of a kept pair's fleet that are surely busy in the minute in which it departs, where it is flown.
-fn surely_busy(tables: &Tables, choices: &Choices, pair: Pair) -> u32
+fn surely_busy(tables: &Tables, choices: &Choices, pair: Pair, fleet: u32) -> u32
     requires choices { AreChoices tables.now choices.now }
     requires none_bare { NoneBare tables.now (kept_by choices.now.kept) }
     requires pair { IsPair tables.now pair }
     requires kept { IsTrue (kept_by choices.now.kept pair) }
+    requires by { fleet ≡ fleet_by tables.now pair }
+    requires flown { fleet < fleets_in tables.now }
     ensures { result ≡ surely_busy tables.now (kept_by choices.now.kept) pair (departure tables.now pair) }
 {
-    let minute = tables.leg(pair.leg).dep;
-    let alone = alone(tables, choices, pair.choice, minute);
+    let minute = tables.departure(pair);
+    let alone = alone(tables, choices, fleet, minute);
     if choices.has_one(tables, pair.leg) {
         alone
     } else {
@@ -87,12 +91,12 @@ fn surely_busy(tables: &Tables, choices: &Choices, pair: Pair) -> u32
     }
 }
 
-// The aircraft of a fleet that legs which keep no other keep busy at the end of a minute.
+// The aircraft of a fleet that legs which keep one pair keep busy at the end of a minute.
 fn alone(tables: &Tables, choices: &Choices, fleet: u32, minute: u16) -> u32
     requires choices { AreChoices tables.now choices.now }
     requires none_bare { NoneBare tables.now (kept_by choices.now.kept) }
     requires fleet { fleet < fleets_in tables.now }
-    requires minute { minute < MINUTES_PER_PERIOD }
+    requires minute { minute < period_of tables.now }
     ensures value { result ≡ all_busy_alone tables.now (kept_by choices.now.kept) fleet minute }
     ensures few { result ≤ 3 * MAX_LEGS }
 {

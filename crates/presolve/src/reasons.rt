@@ -1,14 +1,12 @@
 //! The prices by which a rule removes a pair.
 ghost use Rattle.std.specs.Prelude.{◌≡◌, ◌<◌, [], ◌∷◌, IfOk, ℤ, pos};
 ghost use Rattle.sums.specs.Places.{list_below};
-ghost use Rattle.fleet_model.specs.Schedule.{IsPair, fleets_in, stations_in};
-ghost use Rattle.fleet_model.specs.declared.limits.TheConstants.{MINUTES_PER_PERIOD};
+ghost use Rattle.fleet_model.specs.Schedule.{IsPair, fleet_by, fleets_in, period_of, stations_in};
 ghost use Rattle.presolve.specs.Reasons.{IsReason, reason_rent, reason_steps, steps_until};
 
 use crate::rule::Rule;
 use dual_bound::{PriceStep, Prices};
 use entries::{Entries, NoMemory};
-use fleet_model::limits::MINUTES_PER_PERIOD;
 use fleet_model::{Pair, Tables};
 use std::alloc::Global;
 
@@ -19,11 +17,12 @@ pub(crate) fn reason(
     rule: Rule,
     pair: Pair,
 ) -> Result<Prices, NoMemory>
-    requires { IsPair tables.now pair }
+    requires pair { IsPair tables.now pair }
+    requires flown { fleet_by tables.now pair < fleets_in tables.now }
     ensures { IfOk result (IsReason tables.now rule pair) }
 {
     let steps = steps(alloc, tables, rule, pair)?;
-    let rents = rents(alloc, tables, rule, pair)?;
+    let rents = rents(alloc, tables, rule, tables.fleet_by(pair))?;
     Ok(Prices {
         scale: 1,
         rents: Entries::from_vec(rents),
@@ -37,7 +36,7 @@ fn steps(alloc: Global, tables: &Tables, rule: Rule, pair: Pair) -> Result<Vec<P
     ensures { IfOk result (λ steps. steps.items ≡ reason_steps tables.now rule pair) }
 {
     let leg = tables.leg(pair.leg);
-    let fleet = pair.choice;
+    let fleet = tables.fleet_by(pair);
     let minute = 0;
     match rule {
         Rule::NoArrival => Ok(vec![in alloc;
@@ -56,7 +55,7 @@ fn steps(alloc: Global, tables: &Tables, rule: Rule, pair: Pair) -> Result<Vec<P
                 value: -1
             },
         ]?),
-        Rule::TooFewAircraft => steps_until(alloc, tables, fleet, leg.dep),
+        Rule::TooFewAircraft => steps_until(alloc, tables, fleet, tables.departure(pair)),
     }
 }
 
@@ -68,8 +67,8 @@ fn steps_until(
     fleet: u32,
     minute: u16,
 ) -> Result<Vec<PriceStep>, NoMemory>
-    requires { minute < MINUTES_PER_PERIOD }
-    ensures { IfOk result (λ steps. steps.items ≡ steps_until fleet minute (stations_in tables.now)) }
+    requires { minute < period_of tables.now }
+    ensures { IfOk result (λ steps. steps.items ≡ steps_until tables.now fleet minute (stations_in tables.now)) }
 {
     let mut steps = Vec::new(alloc);
     for station in 0..tables.station_count() {
@@ -80,7 +79,7 @@ fn steps_until(
             value: 1,
         };
         steps.push(first)?;
-        if minute < MINUTES_PER_PERIOD - 1 {
+        if minute < tables.period() - 1 {
             steps.push(PriceStep {
                 minute: minute + 1,
                 value: 0,
@@ -92,22 +91,22 @@ fn steps_until(
 }
 
 // The rent of each fleet's aircraft.
-fn rents(alloc: Global, tables: &Tables, rule: Rule, pair: Pair) -> Result<Vec<i128>, NoMemory>
-    ensures { IfOk result (λ rents. rents.items ≡ list_below (reason_rent rule pair) (fleets_in tables.now)) }
+fn rents(alloc: Global, tables: &Tables, rule: Rule, own: u32) -> Result<Vec<i128>, NoMemory>
+    ensures { IfOk result (λ rents. rents.items ≡ list_below (reason_rent rule own) (fleets_in tables.now)) }
 {
     let mut rents = Vec::new(alloc);
     for fleet in 0..tables.fleet_count() {
-        rents.push(rent(rule, pair, fleet))?;
+        rents.push(rent(rule, own, fleet))?;
     }
     Ok(rents)
 }
 
-// The rent of a fleet's aircraft: 1 of the pair's own where it has too few.
-fn rent(rule: Rule, pair: Pair, fleet: u32) -> i128
-    ensures { result ≡ reason_rent rule pair fleet }
+// The rent of a fleet's aircraft: 1 of the pair's own fleet where it has too few.
+fn rent(rule: Rule, own: u32, fleet: u32) -> i128
+    ensures { result ≡ reason_rent rule own fleet }
 {
     match rule {
-        Rule::TooFewAircraft if fleet == pair.choice => 1,
+        Rule::TooFewAircraft if fleet == own => 1,
         _ => 0,
     }
 }

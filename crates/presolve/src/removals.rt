@@ -10,7 +10,7 @@ use entries::{Entries, NoMemory};
 use fleet_model::{Pair, Tables};
 use std::alloc::Global;
 
-/// The pairs that can be removed before the search, in order: passes go over the kept pairs, by leg, then fleet, and
+/// The pairs that can be removed before the search, in order: passes go over the kept pairs, by leg, then choice, and
 /// remove those that meet a rule, until a whole pass removes none or some leg keeps no pair.
 ///
 /// A pass takes constant time for each pair, and a removal looks once at each leg and at most once at each minute
@@ -19,7 +19,7 @@ pub fn trim(alloc: Global, tables: &Tables) -> Result<Entries<Trim>, NoMemory>
     // These pairs and no others, in this order, each with the reason by the first rule that it meets.
     ensures removals { IfOk result (AreRemovals tables.now (all_pairs tables.now) first_place) }
 
-    // Each reason refutes what is left where its fleet flies its leg.
+    // Each reason refutes what is left where its pair is flown.
     ensures refuted { IfOk result (AreRefuted tables.now (all_pairs tables.now)) }
 
     // What is kept at the end.

@@ -47,15 +47,15 @@ fn first_from(tables: &Tables, choices: &Choices, place: Pair) -> Option<Removab
     None
 }
 
-// The first pair of a leg, from a fleet on, that may be removed.
+// The first pair of a leg, from a choice on, that may be removed.
 fn first_on(tables: &Tables, choices: &Choices, leg: u32, start: u32) -> Option<Removable>
     requires choices { AreChoices tables.now choices.now }
     requires none_bare { NoneBare tables.now (kept_by choices.now.kept) }
     requires leg { leg < legs_in tables.now }
     ensures { MatchOption result (NoneOn tables.now (kept_by choices.now.kept) leg start) (IsFirstOn tables.now (kept_by choices.now.kept) leg start) }
 {
-    for fleet in start..tables.fleet_count() {
-        let pair = Pair { leg, choice: fleet };
+    for choice in start..tables.choice_count(leg) {
+        let pair = Pair { leg, choice };
         if let Some(rule) = removed_by(tables, choices, pair) {
             return Some(Removable { pair, rule });
         }

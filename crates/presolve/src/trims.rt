@@ -5,8 +5,8 @@ use dual_bound::Prices;
 pub struct Trim {
     /// The leg, by its number.
     pub leg: u32,
-    /// The fleet, by its number.
+    /// The choice, by its number.
     pub choice: u32,
-    /// Prices which show that nothing legal is left where the fleet flies the leg, among the pairs kept before.
+    /// Prices which show that nothing legal is left where the pair is flown, among the pairs kept before.
     pub reason: Prices,
 }

@@ -1,17 +1,22 @@
-use Rattle.std.proofs.Common.{◌≡◌, ◌*◌, subst, arith, rules, ◌∙◌}
-use Rattle.sums.proofs.Places.{list_below-push}
-use Rattle.sums.specs.Places.{list_below}
+use Rattle.std.proofs.Common.{◌+◌, sym, subst, ◌∙◌, arith}
 use Rattle.fleet_model.specs.Kept.{kept_by}
-use Rattle.fleet_model.specs.Schedule.{fleets_in}
-use Rattle.presolve.specs.declared.cells.TheConstants.{CELL_WIDTH}
-use Rattle.presolve.specs.Choices.{busy_alone_at}
+use Rattle.presolve.proofs.FirstCounts.{AreAlone, all_alone, alone_leg_more, alone_leg_passed, few_alone_there, none_alone}
+use Rattle.presolve.proofs.alone.all_alone.Goals.{then-counts-leg-eq1, else-counts-leg-eq1}
 use Rattle.presolve.proofs.alone.all_alone.Goals as goal
 
-pub loop-place-preserved : goal.loop-place-preserved
-loop-place-preserved c =
-    c.in_ok-push.ensures.items ∙ list_below-push (busy_alone_at c.args.tables.now (kept_by c.args.kept.now)) c.loop-place.place c.loop-place.cells.items _ c.loop-place.invariant (search rules)
+pub loop-leg-init : goal.loop-leg-init
+loop-leg-init c = none_alone c.args.tables.now c.in_ok-cells.cells.items c.in_ok-cells.ensures
+
+pub add_alone-requires-clause-small : goal.add_alone-requires-clause-small
+add_alone-requires-clause-small c = few_alone_there c.args.tables.now (kept_by c.args.kept.now) c.loop-leg.leg c.loop-leg.cells.items (omega arith) c.loop-leg.invariant
+
+pub loop-leg-preserved : goal.loop-leg-preserved
+loop-leg-preserved c = elim c.if-counts-leg-eq1.branch [
+  | then-counts-leg-eq1 w ↦ subst (λ v. AreAlone c.args.tables.now (kept_by c.args.kept.now) c.loop-leg.leg v.items (c.loop-leg.leg + 1)) (sym w.cells-is)
+      (alone_leg_more c.args.tables.now (kept_by c.args.kept.now) c.loop-leg.leg _ _ c.loop-leg.invariant w.add_alone.ensures)
+  | else-counts-leg-eq1 w ↦ subst (λ v. AreAlone c.args.tables.now (kept_by c.args.kept.now) c.loop-leg.leg v.items (c.loop-leg.leg + 1)) (sym w.cells-is)
+      (alone_leg_passed c.args.tables.now (kept_by c.args.kept.now) c.loop-leg.leg _ (λ one. w.if-counts-leg-eq1.false (c.requires c.loop-leg.leg (omega arith) ∙ one)) c.loop-leg.invariant)
+]
 
 pub returns : goal.returns
-returns c =
-    let all : c.loop-place.place ≡ fleets_in c.args.tables.now * CELL_WIDTH = omega arith in
-    subst (λ n. c.loop-place.cells.items ≡ list_below (busy_alone_at c.args.tables.now (kept_by c.args.kept.now)) n) all c.loop-place.invariant
+returns c = all_alone c.args.tables.now (kept_by c.args.kept.now) c.loop-leg.leg c.loop-leg.cells.items (omega arith) c.loop-leg.invariant

@@ -1,17 +1,19 @@
-use Rattle.std.proofs.Common.{◌≡◌, ◌*◌, subst, arith, rules, ◌∙◌}
-use Rattle.sums.proofs.Places.{list_below-push}
-use Rattle.sums.specs.Places.{list_below}
+use Rattle.std.proofs.Common.{ap, arith}
 use Rattle.fleet_model.specs.Kept.{kept_by}
-use Rattle.fleet_model.specs.Schedule.{fleets_in}
-use Rattle.presolve.specs.declared.cells.TheConstants.{CELL_WIDTH}
-use Rattle.presolve.specs.Choices.{departures_at}
+use Rattle.fleet_model.specs.Schedule.{leg_of}
+use Rattle.presolve.proofs.FirstCounts.{all_departures, few_counted_there, none_counted, one_leg_more}
 use Rattle.presolve.proofs.counting.all_departures.Goals as goal
 
-pub loop-place-preserved : goal.loop-place-preserved
-loop-place-preserved c =
-    c.in_ok-push.ensures.items ∙ list_below-push (departures_at c.args.tables.now (kept_by c.args.kept.now)) c.loop-place.place c.loop-place.cells.items _ c.loop-place.invariant (search rules)
+pub loop-leg-init : goal.loop-leg-init
+loop-leg-init c = none_counted c.args.tables.now c.in_ok-cells.cells.items c.in_ok-cells.ensures
+
+pub add_leg-requires-clause-small : goal.add_leg-requires-clause-small
+add_leg-requires-clause-small c =
+    few_counted_there c.args.tables.now (kept_by c.args.kept.now) (λ l. (leg_of c.args.tables.now l).from) c.loop-leg.leg c.loop-leg.cells.items (omega arith) c.loop-leg.invariant
+
+pub loop-leg-preserved : goal.loop-leg-preserved
+loop-leg-preserved c =
+    one_leg_more c.args.tables.now (kept_by c.args.kept.now) (λ l. (leg_of c.args.tables.now l).from) c.loop-leg.leg c.leg.result.now.from c.loop-leg.cells.items _ (ap (λ leg. leg.from) c.leg.ensures.value) c.loop-leg.invariant c.add_leg.ensures
 
 pub returns : goal.returns
-returns c =
-    let all : c.loop-place.place ≡ fleets_in c.args.tables.now * CELL_WIDTH = omega arith in
-    subst (λ n. c.loop-place.cells.items ≡ list_below (departures_at c.args.tables.now (kept_by c.args.kept.now)) n) all c.loop-place.invariant
+returns c = all_departures c.args.tables.now (kept_by c.args.kept.now) c.loop-leg.leg c.loop-leg.cells.items (omega arith) c.loop-leg.invariant

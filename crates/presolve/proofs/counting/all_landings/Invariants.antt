@@ -1,8 +1,10 @@
-use Rattle.std.proofs.Common.{◌≡◌}
-use Rattle.sums.specs.Places.{list_below}
+use Rattle.sums.specs.Below.{sum_below}
 use Rattle.fleet_model.specs.Kept.{kept_by}
-use Rattle.presolve.specs.Choices.{landings_at}
+use Rattle.fleet_model.specs.Schedule.{fleets_in, stations_in}
+use Rattle.presolve.specs.Cells.{AreCells}
+use Rattle.presolve.specs.Rules.{landing}
 use Rattle.presolve.proofs.counting.all_landings.Given as goal
 
-abbrev pub invariant-loop-place : goal.invariant-loop-place
-invariant-loop-place l = l.cells.items ≡ list_below (landings_at l.tables (kept_by l.kept)) l.place
+-- what the legs so far have
+abbrev pub invariant-loop-leg : goal.invariant-loop-leg
+invariant-loop-leg l = AreCells l.cells.items (λ f s. sum_below (landing l.tables (kept_by l.kept) f s) l.leg) (fleets_in l.tables) (stations_in l.tables)

@@ -4,5 +4,5 @@ use Rattle.fleet_model.specs.Schedule.{leg_on}
 use Rattle.presolve.specs.Rules.{removed_by}
 use Rattle.presolve.proofs.search.first_on.Given as goal
 
-abbrev pub invariant-loop-fleet : goal.invariant-loop-fleet
-invariant-loop-fleet l = (f : ℕ) → l.start ≤ f → f < l.fleet → removed_by l.tables (kept_by l.choices.kept) (leg_on l.leg f) ≡ None
+abbrev pub invariant-loop-choice : goal.invariant-loop-choice
+invariant-loop-choice l = (c : ℕ) → l.start ≤ c → c < l.choice → removed_by l.tables (kept_by l.choices.kept) (leg_on l.leg c) ≡ None
