@@ -1,4 +1,5 @@
 use Rattle.std.proofs.Common.{false, arith}
+use Rattle.fleet_model.proofs.FewChoices.{few_choice}
 use Rattle.cert_check.proofs.SplitsAbove.{in_second, in_same, of_split, of_trim, sound_here, split_parts, trim_parts}
 use Rattle.cert_check.proofs.TreeSizes.{split_less, trim_less}
 use Rattle.cert_check.proofs.splits.+seek.Goals as goal
@@ -30,3 +31,6 @@ pub seek_both-returns-clause-sought : goal.seek_both-returns-clause-sought
 seek_both-returns-clause-sought t c =
     in_second _ _ _ _ _ _ _ _ c.if-seek_in_part.ensures.sought
     (in_same _ _ _ _ _ (record { leg = c.args.leg; choice = c.args.fleet; yes = false }) _ _ _ _ c.if-seek_in_part.ensures.kept c.if-seek_in_part.ensures.cost c.seek_in_part-2.ensures.sought)
+
+pub seek_in_part-narrow-undo-requires-clause-fleet : goal.seek_in_part-narrow-undo-requires-clause-fleet
+seek_in_part-narrow-undo-requires-clause-fleet t c = few_choice _ _ _ c.requires.pair

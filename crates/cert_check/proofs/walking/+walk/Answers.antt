@@ -1,4 +1,5 @@
 use Rattle.std.proofs.Common.{false, arith}
+use Rattle.fleet_model.proofs.FewChoices.{few_choice}
 use Rattle.cert_check.proofs.TreeSizes.{split_less, trim_less}
 use Rattle.cert_check.proofs.Walks.{both_same, both_walked, broken_first, broken_here, in_same, split, split_of, trim_of, trimmed}
 use Rattle.cert_check.proofs.walking.+walk.Goals as goal
@@ -38,3 +39,6 @@ pub walk_both-returns-in-None-clause-walked : goal.walk_both-returns-in-None-cla
 walk_both-returns-in-None-clause-walked t c =
     both_walked _ _ _ _ _ _ _ _ _ _ c.in-None.ensures.walked
     (in_same _ _ _ _ _ (record { leg = c.args.leg; choice = c.args.fleet; yes = false }) _ _ _ _ c.in-None.ensures.kept c.in-None.ensures.cost c.walk_part-in-None.ensures.walked)
+
+pub walk_part-narrow-undo-requires-clause-fleet : goal.walk_part-narrow-undo-requires-clause-fleet
+walk_part-narrow-undo-requires-clause-fleet t c = few_choice _ _ _ c.requires.pair
