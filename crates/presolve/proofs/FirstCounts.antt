@@ -30,8 +30,8 @@ module _ (t : Tables) (keeps : Domains) (place : ℕ → ℕ) (leg : ℕ) where
   abbrev AreCounted : List ℕ → ℕ → Type 0
   AreCounted cells n = AreCells cells (λ f s. sum_below (counted t keeps place f s) n) (fleets_in t) (stations_in t)
 
-  pub few_counted_there : (cells : List ℕ) → leg ≤ legs_in t → AreCounted cells leg → (f s : ℕ) → f < fleets_in t → s < stations_in t → cell_of cells f s ≤ MAX_LEGS * MAX_CHOICES
-  few_counted_there cells within are f s known there = omega (arith, are.each f s known there, few_counted t keeps place f s leg within)
+  pub few_counted_there : (cells : List ℕ) → AreCounted cells leg → (f s : ℕ) → f < fleets_in t → s < stations_in t → cell_of cells f s ≤ leg * MAX_CHOICES
+  few_counted_there cells are f s known there = omega (arith, are.each f s known there, few_counted t keeps place f s leg)
 
   pub one_leg_more : (station : ℕ) (cells new : List ℕ) → station ≡ place leg → AreCounted cells leg
       → AreMore (λ f s. if station == s then flown_on t keeps f leg else 0) (fleets_in t) (stations_in t) cells new → AreCounted new (leg + 1)
@@ -59,11 +59,12 @@ module _ (t : Tables) (keeps : Domains) (leg station : ℕ) where
       nothing true n = omega arith
       nothing false n = omega arith
 
-  pub few_added : (n : ℕ) (old new : List ℕ) → n < choices_in t leg → ((f s : ℕ) → f < fleets_in t → s < stations_in t → cell_of old f s ≤ MAX_LEGS * MAX_CHOICES)
-      → AreMore (added n) (fleets_in t) (stations_in t) old new → (f s : ℕ) → f < fleets_in t → s < stations_in t → cell_of new f s < 1000000
-  few_added n old new within few more f s known there =
+  pub few_added : (n : ℕ) (old new : List ℕ) → leg < legs_in t → n < choices_in t leg → ((f s : ℕ) → f < fleets_in t → s < stations_in t → cell_of old f s ≤ leg * MAX_CHOICES)
+      → AreMore (added n) (fleets_in t) (stations_in t) old new → (f s : ℕ) → f < fleets_in t → s < stations_in t → cell_of new f s < MAX_LEGS * MAX_CHOICES
+  few_added n old new leg_within within few more f s known there =
+      let legs = t.in_range.legs_fit.few in
       let some = if_below (station == s) (count_below (flies t keeps f leg) n) n (count_below-le (flies t keeps f leg) n) in
-      omega (arith, more.each f s known there, few f s known there, some, few_choices t leg)
+      omega (arith, more.each f s known there, few f s known there, some, few_choices t leg, legs)
 
   one_more : (n f s : ℕ) → ◌≡◌ {A = ℕ} (added (n + 1) f s) (added n f s + (if (station == s) && flies t keeps f leg n then 1 else 0))
   one_more n f s = by_tests (station == s) (flies t keeps f leg n) _ _ (next (λ c. if flies t keeps f leg c then 1 else 0) n)

@@ -9,7 +9,7 @@ use Rattle.sums.proofs.Sums.{count_below-le, sum_below-agree, sum_below-bound}
 use Rattle.sums.proofs.Tests.{by_test, both_true, never_passes}
 use Rattle.fleet_model.specs.Kept.{Domains}
 use Rattle.fleet_model.specs.Schedule.{IsPair, choices_in, fleet_by, leg_of, leg_on, legs_in}
-use Rattle.fleet_model.specs.declared.limits.TheConstants.{MAX_CHOICES, MAX_LEGS}
+use Rattle.fleet_model.specs.declared.limits.TheConstants.{MAX_CHOICES}
 use Rattle.fleet_model.specs.declared.parts.Pair.{Pair}
 use Rattle.fleet_model.specs.declared.tables.Tables.{Tables}
 use Rattle.fleet_model.proofs.FewChoices.{few_choices}
@@ -25,12 +25,9 @@ few_flown : (t : Tables) (keeps : Domains) (f l : ℕ) → flown_on t keeps f l 
 unfolding flown_on
 few_flown t keeps f l = omega (arith, count_below-le (flies t keeps f l) (choices_in t l), few_choices t l)
 
--- no count is great
-pub few_counted : (t : Tables) (keeps : Domains) (place : ℕ → ℕ) (f s n : ℕ) → n ≤ legs_in t → sum_below (counted t keeps place f s) n ≤ MAX_LEGS * MAX_CHOICES
-few_counted t keeps place f s n within =
-    let bound = sum_below-bound (counted t keeps place f s) MAX_CHOICES n (record { each = λ l below. if_below (place l == s) (flown_on t keeps f l) MAX_CHOICES (few_flown t keeps f l) }) in
-    let legs = t.in_range.legs_fit.few in
-    omega (arith, bound, legs)
+-- so many legs count no more than all their choices
+pub few_counted : (t : Tables) (keeps : Domains) (place : ℕ → ℕ) (f s n : ℕ) → sum_below (counted t keeps place f s) n ≤ n * MAX_CHOICES
+few_counted t keeps place f s n = sum_below-bound (counted t keeps place f s) MAX_CHOICES n (record { each = λ l below. if_below (place l == s) (flown_on t keeps f l) MAX_CHOICES (few_flown t keeps f l) })
 
 module _ (t : Tables) (keeps : Domains) (p : Pair) where
   abbrev after : Domains

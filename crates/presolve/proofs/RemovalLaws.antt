@@ -75,6 +75,7 @@ rule_refutes t keeps p why prices pair e reason =
 next_is_refuted : (t : Tables) (keeps : Domains) (place : Pair) (trim : Trim) → IsNext t keeps place trim → IsRefuted t keeps trim
 next_is_refuted t keeps place trim next = record {
   pair = next.pair;
+  by = (is_removable t keeps (pair_of trim) next.why next.first_rule).flown;
   kept = (is_removable t keeps (pair_of trim) next.why next.first_rule).kept;
   none_bare = flown_none_bare t keeps (pair_of trim) next.pair (is_removable t keeps (pair_of trim) next.why next.first_rule).kept next.none_bare;
   proper = reason_is_proper t next.why (pair_of trim) trim.reason next.reason;

@@ -1,7 +1,7 @@
 -- Which pairs presolve removes, in which order, and what their reasons show.
-use Rattle.std.specs.Prelude.{◌≡◌, ℕ, ◌==◌, ◌&&◌, ◌||◌, nat_lt, if◌then◌else◌, Bool, IsTrue, true, false, ⊤, List, [], ◌∷◌, Some, None, pos, ◌<ℤ◌}
+use Rattle.std.specs.Prelude.{◌≡◌, ℕ, ◌<◌, ◌==◌, ◌&&◌, ◌||◌, nat_lt, if◌then◌else◌, Bool, IsTrue, true, false, ⊤, List, [], ◌∷◌, Some, None, pos, ◌<ℤ◌}
 use Rattle.fleet_model.specs.Kept.{Domains, IsBare}
-use Rattle.fleet_model.specs.Schedule.{IsPair, leg_on}
+use Rattle.fleet_model.specs.Schedule.{IsPair, fleet_by, fleets_in, leg_on}
 use Rattle.fleet_model.specs.declared.parts.Pair.{Pair}
 use Rattle.fleet_model.specs.declared.tables.Tables.{Tables}
 use Rattle.dual_bound.specs.Bound.{part}
@@ -63,10 +63,11 @@ abbrev pub kept_after : Domains → List Trim → Domains
 kept_after keeps [] = keeps
 kept_after keeps (trim ∷ trims) = kept_after (without keeps trim) trims
 
--- A removal's reason refutes the part in which the pair is flown: the pair is kept, each leg keeps a pair there, and by
+-- A removal's reason refutes the part in which the pair is flown: a fleet flies it, it is kept, each leg keeps a pair there, and by
 -- proper prices that part is worth more than 0, no cost put in.
 pub record IsRefuted (t : Tables) (keeps : Domains) (trim : Trim) : Type 0 where
   pub pair : IsPair t (pair_of trim)
+  pub by : fleet_by t (pair_of trim) < fleets_in t
   pub kept : IsTrue (keeps (pair_of trim))
   pub none_bare : NoneBare t (part keeps trim.leg trim.choice true)
   pub proper : ArePrices t trim.reason

@@ -1,7 +1,7 @@
 //! Numbers for each fleet at each place, which is a station or a minute.
 ghost use Rattle.std.specs.Prelude.{◌≡◌, ◌+◌, ◌*◌, ◌-◌, ◌<◌, IfOk, length, slice_set};
 ghost use Rattle.fleet_model.specs.Schedule.{fleets_in};
-ghost use Rattle.fleet_model.specs.declared.limits.TheConstants.{MAX_FLEETS};
+ghost use Rattle.fleet_model.specs.declared.limits.TheConstants.{MAX_CHOICES, MAX_FLEETS, MAX_LEGS};
 ghost use Rattle.presolve.specs.Cells.{AreCells, cell_of};
 ghost use Rattle.presolve.specs.declared.cells.TheConstants.{CELL_WIDTH};
 
@@ -32,7 +32,7 @@ pub(crate) fn cell(cells: &[u32], fleet: u32, place: u32) -> u32
 pub(crate) fn add_one(cells: &mut Vec<u32>, fleet: u32, place: u32)
     requires fleet { fleet < MAX_FLEETS }
     requires within { fleet * CELL_WIDTH + place < length cells.old.items }
-    requires few { cell_of cells.old.items fleet place < 1000000 }
+    requires few { cell_of cells.old.items fleet place < MAX_LEGS * MAX_CHOICES }
     ensures { cells.new.items ≡ slice_set cells.old.items (fleet * CELL_WIDTH + place) (cell_of cells.old.items fleet place + 1) }
 {
     cells[fleet as usize * CELL_WIDTH + place as usize] += 1;

@@ -59,7 +59,7 @@ fn add_leg(cells: &mut Vec<u32>, tables: &Tables, kept: &Kept, leg: u32, station
     requires width { length cells.old.items ≡ fleets_in tables.now * CELL_WIDTH }
     requires leg { leg < legs_in tables.now }
     requires station { station < stations_in tables.now }
-    requires small { (f s : ℕ) → f < fleets_in tables.now → s < stations_in tables.now → cell_of cells.old.items f s ≤ MAX_LEGS * MAX_CHOICES }
+    requires small { (f s : ℕ) → f < fleets_in tables.now → s < stations_in tables.now → cell_of cells.old.items f s ≤ leg * MAX_CHOICES }
     ensures { AreMore (λ f s. if station == s then flown_on tables.now (kept_by kept.now) f leg else 0) (fleets_in tables.now) (stations_in tables.now) cells.old.items cells.new.items }
 {
     for choice in 0..tables.choice_count(leg) {
@@ -73,7 +73,7 @@ fn add_pair(cells: &mut Vec<u32>, tables: &Tables, kept: &Kept, pair: Pair, stat
     requires pair { IsPair tables.now pair }
     requires few { pair.choice < MAX_CHOICES }
     requires station { station < stations_in tables.now }
-    requires small { (f s : ℕ) → f < fleets_in tables.now → s < stations_in tables.now → cell_of cells.old.items f s < 1000000 }
+    requires small { (f s : ℕ) → f < fleets_in tables.now → s < stations_in tables.now → cell_of cells.old.items f s < MAX_LEGS * MAX_CHOICES }
     ensures { AreMore (λ f s. if (station == s) && flies tables.now (kept_by kept.now) f pair.leg pair.choice then 1 else 0) (fleets_in tables.now) (stations_in tables.now) cells.old.items cells.new.items }
 {
     let fleet = tables.fleet_by(pair);

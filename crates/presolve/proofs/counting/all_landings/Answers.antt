@@ -9,7 +9,7 @@ loop-leg-init c = none_counted c.args.tables.now c.in_ok-cells.cells.items c.in_
 
 pub add_leg-requires-clause-small : goal.add_leg-requires-clause-small
 add_leg-requires-clause-small c =
-    few_counted_there c.args.tables.now (kept_by c.args.kept.now) (λ l. (leg_of c.args.tables.now l).to) c.loop-leg.leg c.loop-leg.cells.items (omega arith) c.loop-leg.invariant
+    few_counted_there c.args.tables.now (kept_by c.args.kept.now) (λ l. (leg_of c.args.tables.now l).to) c.loop-leg.leg c.loop-leg.cells.items c.loop-leg.invariant
 
 pub loop-leg-preserved : goal.loop-leg-preserved
 loop-leg-preserved c =
