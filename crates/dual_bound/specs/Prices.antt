@@ -1,7 +1,6 @@
 -- What prices say at each minute, and when they are proper.
 use Rattle.std.specs.Prelude.{ℕ, ◌+◌, ◌<◌, ◌^◌, Bool, ◌==◌, ◌&&◌, nat_le, if◌then◌else◌, List, [], ◌∷◌, slice_index_or, ℤ, pos, neg_ℤ, ◌≤ℤ◌, ◌+ℤ◌}
 use Rattle.fleet_model.specs.Schedule.{fleets_in, last_of, period_of, stations_in}
-use Rattle.fleet_model.specs.Use.{last_minute}
 use Rattle.fleet_model.specs.declared.tables.Tables.{Tables}
 use Rattle.dual_bound.specs.declared.prices.Prices.{Prices}
 use Rattle.dual_bound.specs.declared.prices.PriceStep.{PriceStep}
@@ -73,11 +72,7 @@ pub record NeverRise (t : Tables) (prices : Prices) : Type 0 where
 abbrev pub RisesOverEnd : Tables → Prices → ℕ → ℕ → Type 0
 RisesOverEnd t prices f s = price_of prices f s 0 ≤ℤ with_charge prices s (last_of t) (price_of prices f s (last_of t) +ℤ rent_of prices f)
 
--- the same of a period of one day without charges, which some still say
-abbrev pub RisesByRent : Prices → ℕ → ℕ → Type 0
-RisesByRent prices f s = price_of prices f s 0 ≤ℤ (price_of prices f s last_minute +ℤ rent_of prices f)
-
--- and so does each
+-- .. of each fleet and station
 pub record RiseByRent (t : Tables) (prices : Prices) : Type 0 where
   pub each : (f s : ℕ) → f < fleets_in t → s < stations_in t → RisesOverEnd t prices f s
 
