@@ -9,7 +9,7 @@ use Rattle.ground_turns.specs.Parts.{KeepsPart}
 use Rattle.ground_turns.proofs.Rounds.{bit}
 use Rattle.ground_turns.proofs.Waits.{over_arrivals, over_departures}
 use Rattle.cycle_join.specs.Labels.{AreLinked, AreRelabelled, IsOfLabels, label_of}
-use Rattle.cycle_join.proofs.General.{same_bit, same_term}
+use Rattle.sums.proofs.Terms.{same_bit, same_term}
 use Rattle.cycle_join.proofs.Relabelling.{meets_now, of_labels_still, stays}
 
 -- two tests of two legs, where the second comes out the same

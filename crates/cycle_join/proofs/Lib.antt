@@ -1,4 +1,4 @@
-pub mod General
+pub mod Listed
 pub mod Relabelling
 pub mod Linking
 pub mod Exchanging

@@ -15,7 +15,7 @@ use Rattle.ground_turns.proofs.Totals.{some_counted}
 use Rattle.sums.proofs.Places.{get_or-list_below, length-list_below}
 use Rattle.cycle_join.specs.Joins.{Flies, IsAlwaysKept, IsApart, IsFirstLeg, is_listed}
 use Rattle.cycle_join.specs.Labels.{AreLinked, label_of, legs_of}
-use Rattle.cycle_join.proofs.General.{listed_at, where_listed}
+use Rattle.cycle_join.proofs.Listed.{listed_at, where_listed}
 use Rattle.cycle_join.proofs.Paths.{arrives_once}
 
 -- the legs below n that have a label, rising

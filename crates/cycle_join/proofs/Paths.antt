@@ -12,7 +12,7 @@ use Rattle.ground_turns.specs.Turns.{IsTurn}
 use Rattle.ground_turns.proofs.Rounds.{bit}
 use Rattle.cycle_join.specs.Joins.{Flies}
 use Rattle.cycle_join.specs.Rounds.{IsPath, last_of, turn_between}
-use Rattle.cycle_join.proofs.General.{few_places}
+use Rattle.sums.proofs.Terms.{few_apart}
 
 module _ (t : Tables) (a : List ℕ) (f : ℕ) (turns : List Connection) (map : IsSuccessorMap t a f turns) where
   pub its_turn : (turn : Connection) → HasTurn turns turn → IsTurn t a f turn
@@ -85,7 +85,7 @@ module _ (t : Tables) (a : List ℕ) (f : ℕ) (turns : List Connection) (map : 
 
     -- so there are no more of them than legs
     pub path_short : Flies t a f first → length legs ≤ legs_in t
-    path_short flies = few_places (slice_index legs) (length legs) (legs_in t) (λ k lt. (path_flies flies k lt).known) path.once
+    path_short flies = few_apart (slice_index legs) (length legs) (legs_in t) (λ k lt. (path_flies flies k lt).known) path.once
 
 -- a path that ends with a leg goes on with the one that follows, or has come round
 module _ (t : Tables) (a : List ℕ) (f : ℕ) (turns : List Connection) (map : IsSuccessorMap t a f turns) (first leg : ℕ) (legs : List ℕ) where

@@ -4,7 +4,7 @@ use Rattle.std.proofs.lemmas.Bool.{cases_eq}
 use Rattle.std.proofs.lemmas.Bool.Decides.{nat_tests}
 use Rattle.sums.specs.Below.{sum_below}
 use Rattle.cycle_join.specs.Labels.{AreLabels, AreRelabelled, IsOfLabels, label_of, relabelled, total_of}
-use Rattle.cycle_join.proofs.General.{less_sum}
+use Rattle.sums.proofs.Terms.{less_sum}
 
 pub is_to : (from to c : ℕ) → c ≡ from → relabelled from to c ≡ to
 is_to from to c e = grind (arith, nat_tests)

@@ -16,15 +16,10 @@ use Rattle.ground_turns.proofs.Fits.{fits_where_clean}
 use Rattle.cycle_join.specs.Joins.{Flies, IsFirstLeg, IsJoined, is_listed}
 use Rattle.cycle_join.specs.Labels.{IsOfLabels, label_of}
 use Rattle.cycle_join.specs.Rounds.{IsRound, turn_between}
-use Rattle.cycle_join.proofs.General.{counted_once, listed_at, where_listed}
+use Rattle.sums.proofs.Rounds.{all_round}
+use Rattle.sums.proofs.Terms.{counted_once}
+use Rattle.cycle_join.proofs.Listed.{listed_at, where_listed}
 use Rattle.cycle_join.proofs.Paths.{its_turn, path_flies, same_after, same_before}
-
--- once round
-all_round : (n : ℕ) → 0 < n → n % n ≡ 0
-all_round n some = ap (λ m. m % n) (once n) ∙ mod-mul-add 1 n 0 some
-  where
-    once : (n : ℕ) → n ≡ 1 * n + 0
-    once n = omega arith
 
 module _ (t : Tables) (a : List ℕ) (f : ℕ) (turns : List Connection) (map : IsSuccessorMap t a f turns) (first : ℕ) (flies : Flies t a f first) (legs : List ℕ)
     (round : IsRound turns first legs) where

@@ -32,7 +32,7 @@ use Rattle.euler_rotation.proofs.Gaps.{at, kept_round, some_place}
 use Rattle.euler_rotation.proofs.InPreorder.{reached}
 use Rattle.euler_rotation.proofs.Turning.{entry_turned, kept_turned}
 use Rattle.euler_rotation.proofs.TourTurns.{own_leg, tour_order}
-use Rattle.euler_rotation.proofs.General.{from_start}
+use Rattle.sums.proofs.Rounds.{from_start}
 
 module _ (t : Tables) (a : List ℕ) (f : ℕ) where
   -- the nights of a tour, and those at maintenance stations

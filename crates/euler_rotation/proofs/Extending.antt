@@ -11,7 +11,7 @@ use Rattle.euler_rotation.specs.declared.path.Level.{Level}
 use Rattle.euler_rotation.specs.Asked.{followers_of}
 use Rattle.euler_rotation.specs.Prefixes.{is_open, may_follow, may_turn, preorder, preorder_from}
 use Rattle.euler_rotation.specs.Walks.{extensions, legs_of, pending, top_of}
-use Rattle.euler_rotation.proofs.General.{filter_both}
+use Rattle.sums.proofs.Filters.{filter_both}
 
 module _ (t : Tables) (a : List ℕ) (f : ℕ) (pairs : List Connection) (days : ℕ) (order : List ℕ) where
   -- behind as many legs as the order has there is nothing

@@ -12,7 +12,7 @@ use Rattle.fleet_model.specs.declared.tables.Tables.{Tables}
 use Rattle.ground_turns.specs.Nights.{IsKeptFor, IsMaintainedFrom, can_maintain, night_round}
 use Rattle.ground_turns.specs.declared.nights.Night.{Night}
 use Rattle.ground_turns.specs.declared.nights.Night.TheVariants as night
-use Rattle.ground_turns.proofs.FirstOuts.{mod_cases}
+use Rattle.sums.proofs.Rounds.{mod_cases}
 use Rattle.euler_rotation.specs.Often.{MaintainedOften, OneMaintains, stays_below}
 
 -- the night at a place

@@ -17,7 +17,7 @@ use Rattle.euler_rotation.specs.Starts.{IsLeastPlace, LeastOrNone}
 use Rattle.euler_rotation.specs.Tours.{BeginsLeast, periods_before, turned}
 use Rattle.euler_rotation.proofs.Turning.{entry_turned, length_turned, turn_turned}
 use Rattle.euler_rotation.proofs.TourTurns.{length_round, turn_round}
-use Rattle.euler_rotation.proofs.General.{from_start}
+use Rattle.sums.proofs.Rounds.{from_start}
 
 module _ (t : Tables) (f : ℕ) (tour : List ℕ) where
   after_is : (legs : List ℕ) (k : ℕ) → periods_after t f legs k ≡ periods_in_turn t f (turn_after legs k)

@@ -1,4 +1,3 @@
-pub mod General
 pub mod Told
 pub mod NightsSince
 pub mod Gaps

@@ -16,43 +16,14 @@ use Rattle.ground_turns.specs.Maps.{HasTurn, turn_after, turn_at, turns_round}
 use Rattle.ground_turns.specs.Nights.{IsKeptFor, IsMaintainedFrom, can_maintain, night_round, nights_in_turn, nights_in_turns, nights_of_tour}
 use Rattle.ground_turns.specs.declared.nights.Night.{Night}
 use Rattle.ground_turns.specs.declared.nights.Night.TheVariants as night
-use Rattle.ground_turns.proofs.FirstOuts.{mod_cases}
 use Rattle.ground_turns.proofs.NightLists.{nights_append}
 use Rattle.euler_rotation.specs.Asked.{AreMet, is_met}
 use Rattle.euler_rotation.specs.Tours.{IsKeptTour, IsOrder, times_in, turned}
+use Rattle.sums.proofs.Rounds.{mod_cases, moved_entry}
 use Rattle.sums.proofs.Turned as round_sums
 use Rattle.euler_rotation.proofs.TourTurns.{length_round, tour_from, tour_met, tour_order, turn_round}
 
 -- ---- nights, begun later
--- the night at a place, going round, where the second part comes first
-moved_night : (xs ys : List Night) (k : ℕ) → k < length xs + length ys → slice_index_or (ys ++ xs) k night.Aloft ≡ slice_index_or (xs ++ ys) ((k + length xs) % (length xs + length ys)) night.Aloft
-moved_night xs ys k lt = elim (cases_lt k (length ys)) [
-  | inl less ↦
-      get_or_append_left ys xs night.Aloft k less
-      ∙ sym (ap (λ j. slice_index_or (xs ++ ys) j night.Aloft) (mod-eq_of_lt (below k (length xs) (length ys) less))
-      ∙ get_or-append_right xs ys (length xs) (k + length xs) night.Aloft refl (ahead k (length xs))
-      ∙ ap (λ j. slice_index_or ys j night.Aloft) (add-sub_cancel k (length xs)))
-  | inr ge ↦
-      get_or-append_right ys xs (length ys) k night.Aloft refl ge
-      ∙ sym (ap (λ j. slice_index_or (xs ++ ys) j night.Aloft) (once k (length xs) (length ys) lt ge)
-      ∙ get_or_append_left xs ys night.Aloft (k - length ys) (low k (length xs) (length ys) lt ge))
-]
-  where
-    below : (k m n : ℕ) → k < n → k + m < m + n
-    below k m n lt = omega arith
-
-    ahead : (k m : ℕ) → m ≤ k + m
-    ahead k m = omega arith
-
-    low : (k m n : ℕ) → k < m + n → n ≤ k → k - n < m
-    low k m n lt ge = omega arith
-
-    once : (k m n : ℕ) → k < m + n → n ≤ k → (k + m) % (m + n) ≡ k - n
-    once k m n lt ge = elim (mod_cases (k + m) (m + n) (omega arith)) [ inl less ↦ absurd (omega (arith, less.1)) | inr more ↦ more.0 ∙ same k m n ge ]
-      where
-        same : (k m n : ℕ) → n ≤ k → k + m - (m + n) ≡ k - n
-        same k m n ge = omega arith
-
 module _ (t : Tables) (days : ℕ) (xs ys : List Night) (kept : IsKeptFor t (xs ++ ys) days) where
   long : length (xs ++ ys) ≡ length xs + length ys
   long = length-append xs ys
@@ -66,7 +37,7 @@ module _ (t : Tables) (days : ℕ) (xs ys : List Night) (kept : IsKeptFor t (xs 
   moved_round : (k : ℕ) → night_round (ys ++ xs) k ≡ night_round (xs ++ ys) (k + length xs)
   moved_round k =
       ap (λ n. slice_index_or (ys ++ xs) (k % n) night.Aloft) long_moved
-      ∙ moved_night xs ys (k % (length xs + length ys)) (mod_below k (length xs + length ys) some)
+      ∙ moved_entry night.Aloft xs ys (k % (length xs + length ys)) (mod_below k (length xs + length ys) some)
       ∙ ap (λ j. slice_index_or (xs ++ ys) j night.Aloft) (mod-add-mod k (length xs + length ys) (length xs))
       ∙ ap (λ n. slice_index_or (xs ++ ys) ((k + length xs) % n) night.Aloft) (sym long)
 

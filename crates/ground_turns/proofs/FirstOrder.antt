@@ -13,7 +13,8 @@ use Rattle.ground_turns.specs.FirstOut.{AreFirstOut, departs_before, departure_p
 use Rattle.ground_turns.specs.Laws.{FreeTogether, ReadyFirstDepartsFirst}
 use Rattle.ground_turns.specs.Maps.{Holds, IsSuccessorMap, arrivals_of, turn_at}
 use Rattle.ground_turns.specs.Turns.{crosses, departs_at, ready_at, station_at}
-use Rattle.ground_turns.proofs.FirstOuts.{all_before, departs_free, few_cross, free_zero, lands_free, low_place, mod_cases, within_landings}
+use Rattle.sums.proofs.Rounds.{mod_cases}
+use Rattle.ground_turns.proofs.FirstOuts.{all_before, departs_free, few_cross, free_zero, lands_free, low_place, within_landings}
 use Rattle.ground_turns.proofs.FreeTurns.{all_departed, all_there, is_free, need_crosses, there}
 use Rattle.ground_turns.proofs.Rounds.{bit, part_at_most, until_later, until_next}
 use Rattle.ground_turns.proofs.Waits.{departs_within, ready_within}

@@ -5,6 +5,7 @@ use Rattle.std.proofs.lemmas.Nat.{mod-mul-add}
 use Rattle.std.proofs.lemmas.Bool.{cases_eq, cases_lt, and_from, and_parts, eqb-true, eq-eqb, ltb-true, lt-ltb}
 use Rattle.std.proofs.lemmas.Bool.Decides.{nat_tests}
 use Rattle.sums.specs.Below.{count_below}
+use Rattle.sums.proofs.Rounds.{mod_cases}
 use Rattle.sums.proofs.Maxima.{max_below-upper}
 use Rattle.sums.proofs.Sums.{sum_below-agree, sum_below-add, sum_below-le, sum_below-one, sum_below-zero}
 use Rattle.fleet_model.specs.declared.parts.Connection.{Connection}
@@ -22,16 +23,6 @@ use Rattle.ground_turns.proofs.Places.{departure_is, departure_key, departures_d
 use Rattle.ground_turns.proofs.Ranks.{few_places, keyed_below, place_within}
 use Rattle.ground_turns.proofs.Rounds.{bit, part_at_most}
 use Rattle.ground_turns.proofs.Waits.{crossings_suffice, departs_within, over_departures}
-
--- a number below twice the modulus
-pub mod_cases : (x n : ℕ) → x < n + n → ((x % n ≡ x) × (x < n)) ⊎ ((x % n ≡ x - n) × (n ≤ x))
-mod_cases x n h = elim (cases_lt x n) [
-  | inl less ↦ inl (mod-eq_of_lt less, less)
-  | inr more ↦ inr (ap (λ k. k % n) (turned x n more) ∙ mod-mul-add 1 n (x - n) (omega arith), more)
-]
-  where
-    turned : (x n : ℕ) → n ≤ x → x ≡ 1 * n + (x - n)
-    turned x n h = omega arith
 
 -- a number from another on
 last_before : (p : Bool) (x q d m : ℕ) → (m ≡ q → (p ≡ true) × (x ≡ d)) → bit (p && is_before x q d m) + bit (m == q) ≤ bit (p && nat_le x d)

@@ -21,7 +21,8 @@ use Rattle.ground_turns.specs.Laws.{SomeFits, surplus_at}
 use Rattle.ground_turns.specs.Maps.{Holds, IsFitting, IsHeld, IsNext, IsSuccessorMap, crossings_at, turn_by, turns_by}
 use Rattle.ground_turns.specs.Turns.{IsTurn}
 use Rattle.ground_turns.proofs.Fits.{periods_beyond_use}
-use Rattle.ground_turns.proofs.FirstOuts.{mod_cases, no_more_cross}
+use Rattle.sums.proofs.Rounds.{mod_cases}
+use Rattle.ground_turns.proofs.FirstOuts.{no_more_cross}
 use Rattle.ground_turns.proofs.FleetTurns.{each_turn, is_map, pick, picked}
 use Rattle.ground_turns.proofs.FreeTurns.{crosses_by_given, crossings_are, given_at}
 use Rattle.ground_turns.proofs.Places.{departure_is, departure_key, departures_differ, landing_is, landing_key, landings_differ}

@@ -4,7 +4,7 @@ use Rattle.std.proofs.lemmas.Bool.{cases_lt, le-leb, ltb-true}
 use Rattle.std.proofs.lemmas.Bool.Decides.{nat_tests}
 use Rattle.sums.proofs.Naturals.{sum_less_first}
 use Rattle.ground_turns.specs.Turns.{minutes_round}
-use Rattle.ground_turns.proofs.FirstOuts.{mod_cases}
+use Rattle.sums.proofs.Rounds.{mod_cases}
 use Rattle.ground_turns.proofs.Rounds.{until_later, until_next}
 
 -- one minute comes next after another

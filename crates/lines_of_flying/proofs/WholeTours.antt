@@ -8,6 +8,7 @@ use Rattle.std.proofs.lemmas.Nat.{mod-mul-add}
 use Rattle.std.proofs.Math.Nat.{mul-le-mul_left}
 use Rattle.sums.specs.Places.{list_below}
 use Rattle.sums.proofs.Places.{get_or-list_below, length-list_below, list_below-agree, list_below-more}
+use Rattle.sums.proofs.Rounds.{all_round}
 use Rattle.sums.proofs.SumBounds.{sum_below-le}
 use Rattle.sums.specs.Below.{sum_below}
 use Rattle.fleet_model.specs.declared.tables.Tables.{Tables}
@@ -55,12 +56,6 @@ early_enough nights dep next first days minutes periods law same whole within so
 all_but_one : (n : ℕ) → 0 < n → suc (n - 1) ≡ n
 all_but_one n some = omega arith
 
-none_left : (n : ℕ) → 0 < n → n % n ≡ 0
-none_left n some = ap (λ k. k % n) (once n) ∙ mod-mul-add 1 n 0 some
-  where
-    once : (n : ℕ) → n ≡ 1 * n + 0
-    once n = omega arith
-
 module _ (t : Tables) (f : ℕ) (tour : List ℕ) where
   none_first : (d : ℕ) → first_on t f tour 0 d ≡ []
   unfolding first_on
@@ -94,7 +89,7 @@ module _ (t : Tables) (f : ℕ) (tour : List ℕ) where
       let within : last < length (turns_round tour) = rw (length-list_below (turn_after tour) (length tour)) (omega (arith, is.some)) in
       let there : turn_at (turns_round tour) last ≡ turn_after tour last = get_or-list_below (turn_after tour) (length tour) last no_turn (omega (arith, is.some)) in
       let law = subst (TurnByDays t f) there (nights_by_days t a f (turns_round tour) last is.fitting.map within) in
-      let round : suc last % length tour ≡ 0 = ap (λ n. n % length tour) (all_but_one (length tour) is.some) ∙ none_left (length tour) is.some in
+      let round : suc last % length tour ≡ 0 = ap (λ n. n % length tour) (all_but_one (length tour) is.some) ∙ all_round (length tour) is.some in
       let first : departs_at t f (turn_after tour last) ≡ departure t (leg_on (slice_index tour 0) f) = ap (λ n. departure t (leg_on (slice_index tour n) f)) round in
       let first_within = subst (λ d. d < period_of t) first (subst (λ turn. departs_at t f turn < period_of t) there (departs_within t a f (turns_round tour) is.fitting.map last within)) in
       let arrives : departure t (leg_on (slice_index tour last) f) < period_of t = plain_departs t (slice_index tour last) f is.fitting.map.plain ((known_legs t a f tour is).each last (omega (arith, is.some))) in

@@ -10,7 +10,7 @@ use Rattle.fleet_model.specs.declared.tables.Tables.{Tables}
 use Rattle.fleet_model.specs.Schedule.{legs_in}
 use Rattle.ground_turns.specs.Maps.{IsTour}
 use Rattle.lines_of_flying.specs.Lines.{AreLegs}
-use Rattle.cycle_join.proofs.General.{few_places}
+use Rattle.sums.proofs.Terms.{few_apart}
 use Rattle.cycle_join.specs.Joins.{IsApart}
 use Rattle.euler_rotation.specs.Prefixes.{may_follow, numbered, preorder, preorder_from}
 use Rattle.euler_rotation.specs.Tours.{IsOrder, times_in}
@@ -20,7 +20,7 @@ use Rattle.fleet_rotations.specs.Rotations.{AreListed}
 pub apart_listed : (t : Tables) (a : List ℕ) (f : ℕ) (pairs : List Connection) (legs : List ℕ) → IsApart t a f pairs legs → AreListed t legs
 apart_listed t a f pairs legs is = record {
   known = record { each = λ k lt. (is.flies k lt).known };
-  few = few_places (slice_index legs) (length legs) (legs_in t) (λ k lt. (is.flies k lt).known) (λ j k before lt. differ (slice_index legs j) (slice_index legs k) (is.rise j k before lt));
+  few = few_apart (slice_index legs) (length legs) (legs_in t) (λ k lt. (is.flies k lt).known) (λ j k before lt. differ (slice_index legs j) (slice_index legs k) (is.rise j k before lt));
 }
   where
     differ : (m n : ℕ) → m < n → m ≢ n
@@ -29,7 +29,7 @@ apart_listed t a f pairs legs is = record {
 pub order_listed : (t : Tables) (a : List ℕ) (f : ℕ) (order : List ℕ) → IsOrder t a f order → AreListed t order
 order_listed t a f order is = record {
   known = record { each = is.known };
-  few = few_places (slice_index order) (length order) (legs_in t) is.known differ;
+  few = few_apart (slice_index order) (length order) (legs_in t) is.known differ;
 }
   where
     once : (j k : ℕ) → j < length order → k < length order → slice_index order j ≡ slice_index order k → j ≡ k

@@ -13,45 +13,16 @@ use Rattle.fleet_model.specs.Counts.{weights_of}
 use Rattle.fleet_model.specs.Use.{used_of}
 use Rattle.fleet_model.specs.Schedule.{days_in}
 use Rattle.ground_turns.specs.Maps.{IsTour}
-use Rattle.ground_turns.proofs.FirstOuts.{mod_cases}
 use Rattle.lines_of_flying.specs.Lines.{BeginsAfterStart, lines_of}
 use Rattle.lines_of_flying.proofs.TourLines.{days_are_use}
 use Rattle.lines_of_flying.proofs.WholeTours.{lines_are_tour}
 use Rattle.rotation_report.specs.TailLaws.{ComesToNextLine, EachAircraftFliesAll, EachLegEachDate, FollowsNextAircraft, flown_by, flown_on}
 use Rattle.rotation_report.specs.Tails.{line_on, lines_by}
 use Rattle.sums.specs.Places.{list_below}
+use Rattle.sums.proofs.Rounds.{all_round, moved_entry}
 use Rattle.sums.proofs.Places.{list_below-agree}
 
 -- ---- lists of lines, going round
-
--- the line at a place, where the second part comes first
-moved_line : (xs ys : List (List ℕ)) (k : ℕ) → k < length xs + length ys → get_or (ys ++ xs) k [] ≡ get_or (xs ++ ys) ((k + length xs) % (length xs + length ys)) []
-moved_line xs ys k lt = elim (cases_lt k (length ys)) [
-  | inl less ↦
-      get_or_append_left ys xs [] k less
-      ∙ sym (ap (λ j. get_or (xs ++ ys) j []) (mod-eq_of_lt (below k (length xs) (length ys) less))
-      ∙ get_or-append_right xs ys (length xs) (k + length xs) [] refl (ahead k (length xs))
-      ∙ ap (λ j. get_or ys j []) (add-sub_cancel k (length xs)))
-  | inr ge ↦
-      get_or-append_right ys xs (length ys) k [] refl ge
-      ∙ sym (ap (λ j. get_or (xs ++ ys) j []) (once k (length xs) (length ys) lt ge)
-      ∙ get_or_append_left xs ys [] (k - length ys) (low k (length xs) (length ys) lt ge))
-]
-  where
-    below : (k m n : ℕ) → k < n → k + m < m + n
-    below k m n lt = omega arith
-
-    ahead : (k m : ℕ) → m ≤ k + m
-    ahead k m = omega arith
-
-    low : (k m n : ℕ) → k < m + n → n ≤ k → k - n < m
-    low k m n lt ge = omega arith
-
-    once : (k m n : ℕ) → k < m + n → n ≤ k → (k + m) % (m + n) ≡ k - n
-    once k m n lt ge = elim (mod_cases (k + m) (m + n) (omega arith)) [ inl less ↦ absurd (omega (arith, less.1)) | inr more ↦ more.0 ∙ same k m n ge ]
-      where
-        same : (k m n : ℕ) → n ≤ k → k + m - (m + n) ≡ k - n
-        same k m n ge = omega arith
 
 -- the entries of a list from a place on, going round
 abbrev round_from : List (List ℕ) → ℕ → ℕ → List ℕ
@@ -61,7 +32,7 @@ parted : (xs ys : List (List ℕ)) → IsPermutation (concat (list_below (λ k. 
 parted xs ys =
     let moved : ys ++ xs ≡ list_below (λ k. get_or (xs ++ ys) ((k + length xs) % (length xs + length ys)) []) (length xs + length ys) =
     fill_by_all (λ k. get_or (xs ++ ys) ((k + length xs) % (length xs + length ys)) []) (ys ++ xs) (length xs + length ys) []
-    (length-append ys xs ∙ add_comm (length ys) (length xs)) (moved_line xs ys) in
+    (length-append ys xs ∙ add_comm (length ys) (length xs)) (moved_entry [] xs ys) in
     subst (λ list. IsPermutation (concat list) (concat (xs ++ ys))) moved
     (subst₂ IsPermutation (sym (concat-append ys xs)) (sym (concat-append xs ys)) (IsPermutation-append_comm (concat ys) (concat xs)))
 
@@ -180,16 +151,10 @@ follows_next_aircraft t flown d k below = elim (cases_lt (suc k) flown.used) [
     none : (days d : ℕ) → d ≡ 0 * days + d
     none days d = omega arith
 
-    zero_round : (n : ℕ) → 0 < n → n % n ≡ 0
-    zero_round n some = ap (λ m. m % n) (first n) ∙ add-mod_right 0 n ∙ mod-eq_of_lt some
-      where
-        first : (n : ℕ) → n ≡ 0 + n
-        first n = omega arith
-
     after : flown.used ≤ suc k → (k * days_in t + (d + days_in t)) % (flown.used * days_in t) ≡ ((suc k % flown.used) * days_in t + d) % (flown.used * days_in t)
     after last =
         let all : suc k ≡ flown.used = omega (arith, last, below) in
         let size : ℕ = flown.used * days_in t in
         ap (λ m. m % size) (moved k (days_in t) d ∙ ap (λ n. n * days_in t + d) all ∙ around (days_in t) flown.used d)
         ∙ add-mod_right d size
-        ∙ ap (λ m. m % size) (none (days_in t) d ∙ ap (λ n. n * days_in t + d) (sym (ap (λ n. n % flown.used) all ∙ zero_round flown.used (omega (arith, below)))))
+        ∙ ap (λ m. m % size) (none (days_in t) d ∙ ap (λ n. n * days_in t + d) (sym (ap (λ n. n % flown.used) all ∙ all_round flown.used (omega (arith, below)))))

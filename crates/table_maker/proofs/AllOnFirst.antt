@@ -31,7 +31,8 @@ use Rattle.table_maker.specs.Fields.{flight_name, is_out}
 use Rattle.table_maker.specs.Laws.{all_on_first}
 use Rattle.table_maker.specs.Trips.{trip_of}
 use Rattle.table_maker.specs.declared.trips.RoundTrip.{RoundTrip}
-use Rattle.table_maker.proofs.General.{one_each, zero_at}
+use Rattle.sums.proofs.Lists.{zero_at}
+use Rattle.sums.proofs.Terms.{one_each}
 use Rattle.table_maker.proofs.MadeEntries.{AreTrips, cost_entry, flown, leg_entry, station_entry}
 use Rattle.table_maker.proofs.MadeSchedule.{made_schedule, stations_for}
 use Rattle.table_maker.proofs.RoundTurns.{back_half, back_partner, back_way, later, one_period, out_half, out_partner, out_way, partner, partner_half, partner_once, partner_way, partner_within}

@@ -1,7 +1,6 @@
 pub mod AllOnFirst
 pub mod DrawnTrips
 pub mod FieldForms
-pub mod General
 pub mod Lines
 pub mod MadeEntries
 pub mod MadeRead

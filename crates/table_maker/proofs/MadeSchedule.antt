@@ -28,7 +28,7 @@ use Rattle.table_maker.specs.Trips.{spokes_for, trip_of}
 use Rattle.table_maker.specs.declared.trips.RoundTrip.{RoundTrip}
 use Rattle.table_maker.proofs.MadeEntries.{AreTrips, IsRoundTrip, cost_entry, fleet_entry, leg_entry, station_entry, through_entry}
 use Rattle.table_maker.proofs.MadeTexts.{costs_back, fleets_back, legs_back, stations_back, throughs_back}
-use Rattle.table_maker.proofs.General.{map-list_below}
+use Rattle.sums.proofs.Lists.{map-list_below}
 
 abbrev pub stations_for : List RoundTrip → ℕ
 stations_for trips = 1 + spokes_for (length trips)

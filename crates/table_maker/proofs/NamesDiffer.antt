@@ -9,7 +9,7 @@ use Rattle.std.proofs.lemmas.List.Elements.{All-cons, All-from_recursion}
 use Rattle.entries.specs.Names.{IsName, IsNameByte, IsStationCode}
 use Rattle.table_maker.specs.Fields.{fleet_name, flight_name, is_out, spoke_code, station_code}
 use Rattle.table_maker.proofs.FieldForms.{number_is_name}
-use Rattle.table_maker.proofs.General.{tail_is, unlike}
+use Rattle.sums.proofs.Lists.{tail_is, unlike}
 use Rattle.table_maker.proofs.NumberedNames.{Differ}
 
 -- flights

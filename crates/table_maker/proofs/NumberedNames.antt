@@ -11,7 +11,7 @@ use Rattle.table_rows.specs.Names.{is_among, number_of}
 use Rattle.table_rows.specs.Rows.{Fields, TableReads}
 use Rattle.table_rows.proofs.FrontReading.{bytes_eq-self}
 use Rattle.table_rows.proofs.Numbered.{bytes_eq-differ}
-use Rattle.table_maker.proofs.General.{map-list_below}
+use Rattle.sums.proofs.Lists.{map-list_below}
 
 -- no two of the first names are the same
 pub record Differ (name_at : ℕ → List ℕ) (n : ℕ) : Type 0 where

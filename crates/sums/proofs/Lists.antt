@@ -1,7 +1,6 @@
--- Facts on numbers and lists that have nothing to do with made tables.
-use Rattle.std.proofs.Common.{◌≡◌, ℕ, zero, suc, ◌+◌, ◌*◌, ◌<◌, List, [], ◌∷◌, map, replicate, slice_index, refl, arith}
+-- Lists by number, lists of zeros, and what they begin with.
+use Rattle.std.proofs.Common.{◌≡◌, ℕ, zero, suc, List, [], ◌∷◌, map, replicate, slice_index, refl}
 use Rattle.std.specs.List.{range_with_len}
-use Rattle.sums.specs.Below.{sum_below}
 use Rattle.sums.specs.Places.{list_below}
 
 pub map-list_below : {X Y : Type 0} (f : X → Y) (g : ℕ → X) (n : ℕ) → map f (list_below g n) ≡ list_below (λ k. f (g k)) n
@@ -10,16 +9,6 @@ map-list_below f g n = map-map (range_with_len 0 n)
     map-map : (ks : List ℕ) → map f (map g ks) ≡ map (λ k. f (g k)) ks
     map-map [] = refl
     map-map (k ∷ ks) = rw (map-map ks) refl
-
--- where each two terms, from an even place on, add up to 1, a sum is half of their number
-pub one_each : (add : ℕ → ℕ) (n : ℕ) → ((i : ℕ) → i < n → add (2 * i) + add (2 * i + 1) ≡ 1) → sum_below add (2 * n) ≡ n
-one_each add zero each = refl
-one_each add (suc n) each =
-    let before = one_each add n (λ i below. each i (omega arith)) in
-    let here = each n (omega arith) in
-    let twice : 2 * suc n ≡ suc (suc (2 * n)) = omega arith in
-    let next : suc (2 * n) ≡ 2 * n + 1 = omega arith in
-    rw twice (rw next (omega (arith, before, here)))
 
 -- a list of zeros has 0 at each place, and past its end
 pub zero_at : (n k : ℕ) → slice_index (replicate n 0) k ≡ 0

@@ -1,11 +1,6 @@
--- General laws of rounds and lists.
-use Rattle.std.proofs.Common.{◌≡◌, ℕ, ◌+◌, ◌%◌, ◌<◌, zero-add, Bool, true, false, ◌&&◌, if◌then◌else◌, List, [], ◌∷◌, refl, sym, ◌∙◌, ap}
+-- Lists of what passes two tests.
+use Rattle.std.proofs.Common.{◌≡◌, Bool, true, false, ◌&&◌, if◌then◌else◌, List, [], ◌∷◌, refl, sym, ◌∙◌, ap}
 use Rattle.std.specs.List.{filter}
-use Rattle.std.proofs.Math.Nat.{mod-eq_of_lt}
-
--- a round that begins at a place begins there
-pub from_start : (r n : ℕ) → r < n → (0 + r) % n ≡ r
-from_start r n lt = ap (λ k. k % n) (zero-add r) ∙ mod-eq_of_lt lt
 
 -- what passes two tests passes one and then the other
 both_first : {X : Type 0} (h p q : X → Bool) (x : X) (xs : List X) → h x ≡ (p x && q x) → filter h xs ≡ filter q (filter p xs)
