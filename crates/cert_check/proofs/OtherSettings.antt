@@ -1,9 +1,9 @@
 -- The checker looks at no settings: a tree that holds of tables holds of their lists by any other settings.
 use Rattle.std.proofs.Common.{ℕ, true, false, List, ℤ, Option, Some, None, IfSome, IsSomeAnd, get_or, inl, inr}
 use Rattle.fleet_model.specs.Kept.{Domains, IsBare, IsKeptAssignment, IsSole, all_pairs}
-use Rattle.fleet_model.specs.Legal.{IsAssignment, IsLegal, total_cost}
+use Rattle.fleet_model.specs.Legal.{HasRoom, IsAssignment, IsLegal, total_cost}
 use Rattle.fleet_model.specs.Mixed.{mixed_cost}
-use Rattle.fleet_model.specs.Use.{IsBalanced, excess, laps_flown, need_of, used_of}
+use Rattle.fleet_model.specs.Use.{IsBalanced, excess, laps_flown, need_of, parked, stand_of, used_of}
 use Rattle.fleet_model.specs.Counts.{Weights, arrived, departed, weights_of}
 use Rattle.fleet_model.specs.declared.parts.Fleet.{Fleet}
 use Rattle.fleet_model.specs.declared.parts.Leg.{Leg}
@@ -11,7 +11,6 @@ use Rattle.fleet_model.specs.declared.parts.PairCost.{PairCost}
 use Rattle.fleet_model.specs.declared.parts.Station.{Station}
 use Rattle.fleet_model.specs.declared.parts.Through.{Through}
 use Rattle.fleet_model.specs.declared.tables.Tables.{Tables}
-use Rattle.fleet_model.proofs.Choices.{nothing_parked}
 use Rattle.dual_bound.specs.Bound.{IsBoundIn, IsPriceBound, IsSoleBound, part}
 use Rattle.dual_bound.specs.Fractions.{IsFraction, IsMixedAt}
 use Rattle.dual_bound.specs.Prices.{AreWithin, NeverRise, RiseByRent}
@@ -52,6 +51,10 @@ module _ (s : List Station) (f : List Fleet) (l : List Leg) (c : List PairCost) 
   unfolding departed arrived
   balanced a b w is = record { each = is.each }
 
+  room : (a b : Settled) (scale : ℕ) (w : Weights) → HasRoom (by a) scale w → HasRoom (by b) scale w
+  unfolding departed arrived excess need_of stand_of parked
+  room a b scale w is = record { each = is.each }
+
   -- an assignment that is legal by some settings is legal by others
   pub legal_by : (a b : Settled) (plan : List ℕ) → IsLegal (by a) plan → IsLegal (by b) plan
   unfolding departed arrived excess need_of laps_flown used_of
@@ -60,7 +63,7 @@ module _ (s : List Station) (f : List Fleet) (l : List Leg) (c : List PairCost) 
     allowed = record { each = is.allowed.each };
     balanced = balanced a b (weights_of plan) is.balanced;
     within = record { each = is.within.each };
-    room = nothing_parked (by b) 1 (weights_of plan);
+    room = room a b 1 (weights_of plan) is.room;
   }
 
   kept_plan : (a b : Settled) (keeps : Domains) (plan : List ℕ) → IsKeptAssignment (by a) keeps plan → IsKeptAssignment (by b) keeps plan
@@ -104,7 +107,7 @@ module _ (s : List Station) (f : List Fleet) (l : List Leg) (c : List PairCost) 
       cover = is.plan.cover;
       balanced = balanced a b _ is.plan.balanced;
       within = is.plan.within;
-      room = nothing_parked (by b) _ _;
+      room = room a b _ _ is.plan.room;
     };
   }
 
