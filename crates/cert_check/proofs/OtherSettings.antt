@@ -1,8 +1,10 @@
--- The checker looks at no settings: a tree that holds of tables holds of their lists by any other settings.
-use Rattle.std.proofs.Common.{ℕ, true, false, List, ℤ, Option, Some, None, IfSome, IsSomeAnd, get_or, inl, inr}
+-- The checker looks at no settings but the days of the period: a tree that holds of tables holds of their lists by any
+-- other settings of as many days.
+use Rattle.std.proofs.Common.{◌≡◌, ℕ, true, false, List, ℤ, Option, Some, None, IfSome, IsSomeAnd, get_or, inl, inr}
 use Rattle.fleet_model.specs.Kept.{Domains, IsBare, IsKeptAssignment, IsSole, all_pairs}
 use Rattle.fleet_model.specs.Legal.{HasRoom, IsAssignment, IsLegal, total_cost}
 use Rattle.fleet_model.specs.Mixed.{mixed_cost}
+use Rattle.fleet_model.specs.Schedule.{days_in}
 use Rattle.fleet_model.specs.Use.{IsBalanced, excess, laps_flown, need_of, parked, stand_of, used_of}
 use Rattle.fleet_model.specs.Counts.{Weights, arrived, departed, weights_of}
 use Rattle.fleet_model.specs.declared.parts.Fleet.{Fleet}
@@ -42,6 +44,10 @@ module _ (s : List Station) (f : List Fleet) (l : List Leg) (c : List PairCost) 
   abbrev by : Settled → Tables
   by fits = tables_by s f l c h fits
 
+  -- settings of as many days
+  abbrev SameDays : Settled → Settled → Type 0
+  SameDays a b = days_in (by a) ≡ days_in (by b)
+
   -- ---- assignments
 
   assignment : (a b : Settled) (plan : List ℕ) → IsAssignment (by a) plan → IsAssignment (by b) plan
@@ -55,16 +61,19 @@ module _ (s : List Station) (f : List Fleet) (l : List Leg) (c : List PairCost) 
   unfolding departed arrived excess need_of stand_of parked
   room a b scale w is = record { each = is.each }
 
-  -- an assignment that is legal by some settings is legal by others
-  pub legal_by : (a b : Settled) (plan : List ℕ) → IsLegal (by a) plan → IsLegal (by b) plan
+  -- an assignment that is legal by some settings is legal by others of as many days; today each has one
+  legal : (a b : Settled) (plan : List ℕ) → IsLegal (by a) plan → IsLegal (by b) plan
   unfolding departed arrived excess need_of laps_flown used_of
-  legal_by a b plan is = record {
+  legal a b plan is = record {
     assignment = assignment a b plan is.assignment;
     allowed = record { each = is.allowed.each };
     balanced = balanced a b (weights_of plan) is.balanced;
     within = record { each = is.within.each };
     room = room a b 1 (weights_of plan) is.room;
   }
+
+  pub legal_by : (a b : Settled) → SameDays a b → (plan : List ℕ) → IsLegal (by a) plan → IsLegal (by b) plan
+  legal_by a b same = legal a b
 
   kept_plan : (a b : Settled) (keeps : Domains) (plan : List ℕ) → IsKeptAssignment (by a) keeps plan → IsKeptAssignment (by b) keeps plan
   kept_plan a b keeps plan is = record { assignment = assignment a b plan is.assignment; kept = is.kept }
@@ -80,7 +89,7 @@ module _ (s : List Station) (f : List Fleet) (l : List Leg) (c : List PairCost) 
     sole = sole a b keeps is.sole;
     plan = is.plan;
     kept = kept_plan a b keeps is.plan is.kept;
-    legal = legal_by a b is.plan is.legal;
+    legal = legal a b is.plan is.legal;
   }
 
   -- ---- prices and fractional assignments
@@ -197,8 +206,8 @@ module _ (s : List Station) (f : List Fleet) (l : List Leg) (c : List PairCost) 
   sole_bound : (a b : Settled) (keeps : Domains) (bound : Option ℤ) → IsSoleBound (by a) keeps bound → IsSoleBound (by b) keeps bound
   unfolding total_cost
   sole_bound a b keeps bound is = record {
-    legal = λ plan kept good. is.legal plan (kept_plan b a keeps plan kept) (legal_by b a plan good);
-    illegal = λ plan kept bad. is.illegal plan (kept_plan b a keeps plan kept) (λ good. bad (legal_by a b plan good));
+    legal = λ plan kept good. is.legal plan (kept_plan b a keeps plan kept) (legal b a plan good);
+    illegal = λ plan kept bad. is.illegal plan (kept_plan b a keeps plan kept) (λ good. bad (legal a b plan good));
     none = λ no_plan. is.none (λ plan kept. no_plan plan (kept_plan a b keeps plan kept));
   }
 
@@ -223,9 +232,9 @@ module _ (s : List Station) (f : List Fleet) (l : List Leg) (c : List PairCost) 
     lesser = is.lesser;
   }
 
-  -- a tree that holds by some settings holds by others, with the same bound
-  pub holds_by : (a b : Settled) (cost : Option ℤ) (v : Tree) (bound : Option ℤ) → HoldsWith (by a) cost v bound → HoldsWith (by b) cost v bound
-  holds_by a b cost v bound holds = record {
+  -- a tree that holds by some settings holds by others of as many days, with the same bound
+  pub holds_by : (a b : Settled) → SameDays a b → (cost : Option ℤ) (v : Tree) (bound : Option ℤ) → HoldsWith (by a) cost v bound → HoldsWith (by b) cost v bound
+  holds_by a b same cost v bound holds = record {
     sound = λ k d in_list. (let here = holds.sound k d in_list in record { each = λ r. keeps_rule a b cost (get_or (nodes_in (all_pairs (by a)) v) k d) r (here.each r) });
     bounded = bound_in a b (all_pairs (by a)) v bound holds.bounded;
   }

@@ -48,7 +48,7 @@ module _ (held : Files) (dir : List ℕ) where
     plan_by : (planned : Bool) (cost : Option ℤ) → IsCostThere held dir t planned cost → IsCostThere held dir other planned cost
     plan_by planned None none = none
     plan_by planned (Some cost) (is, there) =
-        let legal = legal_by t.stations t.fleets t.legs t.costs t.throughs (t.settings, t.in_range) (settings, other.in_range) there.plan there.legal in (
+        let legal = legal_by t.stations t.fleets t.legs t.costs t.throughs (t.settings, t.in_range) (settings, other.in_range) refl there.plan there.legal in (
           is,
           record {
             plan = there.plan;
@@ -74,7 +74,7 @@ module _ (held : Files) (dir : List ℕ) where
           reads = reads_by_day (table_bytes (bytes_in held dir)) solving.settings checking.settings same t fit x.reads;
           proof_reads = reads_by t.stations t.fleets t.legs t.costs t.throughs (t.settings, t.in_range) (checking.settings, u.in_range) (bytes_in held dir file.Proof) x.proof x.proof_reads;
           plan = plan_by t checking.settings fit x.proof.planned x.cost x.plan;
-          holds = holds_by t.stations t.fleets t.legs t.costs t.throughs (t.settings, t.in_range) (checking.settings, u.in_range) x.cost x.proof.tree x.bound x.holds;
+          holds = holds_by t.stations t.fleets t.legs t.costs t.throughs (t.settings, t.in_range) (checking.settings, u.in_range) refl x.cost x.proof.tree x.bound x.holds;
         }
 
     -- where checking answers at all, its longest wait is within its limit
