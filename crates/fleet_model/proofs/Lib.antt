@@ -8,6 +8,7 @@ pub mod Minutes
 pub mod MixedPlans
 pub mod NeedAtDepartures
 pub mod NightsUsed
+pub mod OneDay
 pub mod OwnPairs
 pub mod PeriodMinutes
 pub mod Periods

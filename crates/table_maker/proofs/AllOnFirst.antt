@@ -7,17 +7,18 @@ use Rattle.fleet_model.specs.Costs.{no_cost}
 use Rattle.fleet_model.specs.Counts.{arrived, departed, fleet_at, weights_of}
 use Rattle.fleet_model.specs.Legal.{IsAllowed, IsAssignment, IsLegal, cost_of}
 use Rattle.fleet_model.specs.Limits.{AreSettings}
-use Rattle.fleet_model.specs.Schedule.{fleet_of, leg_of, leg_on, legs_in, no_leg, no_station, station_of, stations_in}
-use Rattle.fleet_model.specs.Times.{busy_minutes, laps_of}
-use Rattle.fleet_model.specs.Use.{laps_at, laps_flown, last_minute, used_of}
-use Rattle.fleet_model.specs.declared.limits.TheConstants.{MINUTES_PER_DAY, MINUTES_PER_PERIOD}
+use Rattle.fleet_model.specs.Schedule.{fleet_of, last_of, leg_of, leg_on, legs_in, no_leg, no_station, station_of, stations_in}
+use Rattle.fleet_model.specs.Times.{busy_minutes, departure, laps_of}
+use Rattle.fleet_model.specs.Use.{laps_flown, used_of}
+use Rattle.fleet_model.specs.declared.limits.TheConstants.{MINUTES_PER_DAY}
 use Rattle.fleet_model.specs.declared.parts.Connection.{Connection}
 use Rattle.fleet_model.specs.declared.parts.Leg.{Leg}
 use Rattle.fleet_model.specs.declared.parts.Settings.{Settings}
 use Rattle.fleet_model.specs.declared.tables.Tables.{Tables}
 use Rattle.fleet_model.proofs.Choices.{nothing_parked}
 use Rattle.fleet_model.proofs.CostLookup.{cost_found}
-use Rattle.fleet_model.proofs.PlainTables.{are_plain}
+use Rattle.fleet_model.proofs.OneDay.{each_one_day, period_is_day, plain_departure}
+use Rattle.fleet_model.proofs.PlainTables.{are_plain, fleet_chooses, plain_laps}
 use Rattle.ground_turns.specs.Maps.{IsNext, IsSuccessorMap, crossings_of, no_turn, periods_of, turn_by, turns_by}
 use Rattle.ground_turns.specs.Turns.{crosses}
 use Rattle.ground_turns.proofs.FleetTurns.{next_is_map}
@@ -43,11 +44,11 @@ meet true other trip same way is = rw way (ap (λ (one : RoundTrip). suc one.spo
 meet false other trip same way is = rw way refl
 
 -- two legs of a round trip by what is said of each: one period passes
-adds : (out back next first busy_out busy_back dep block stay : ℕ) → out ≡ dep → first ≡ out → back ≡ (dep + (block + stay)) % MINUTES_PER_PERIOD → next ≡ back
+adds : (out back next first busy_out busy_back dep block stay : ℕ) → out ≡ dep → first ≡ out → back ≡ (dep + (block + stay)) % MINUTES_PER_DAY → next ≡ back
     → busy_out ≡ block + 30 → busy_back ≡ block + 30
-    → dep < MINUTES_PER_PERIOD → block ≤ 180 → 60 ≤ stay → stay ≤ 120
-    → ((out + busy_out) / MINUTES_PER_PERIOD + (if nat_lt next ((out + busy_out) % MINUTES_PER_PERIOD) then 1 else 0))
-    + ((back + busy_back) / MINUTES_PER_PERIOD + (if nat_lt first ((back + busy_back) % MINUTES_PER_PERIOD) then 1 else 0)) ≡ 1
+    → dep < MINUTES_PER_DAY → block ≤ 180 → 60 ≤ stay → stay ≤ 120
+    → ((out + busy_out) / MINUTES_PER_DAY + (if nat_lt next ((out + busy_out) % MINUTES_PER_DAY) then 1 else 0))
+    + ((back + busy_back) / MINUTES_PER_DAY + (if nat_lt first ((back + busy_back) % MINUTES_PER_DAY) then 1 else 0)) ≡ 1
 adds out back next first busy_out busy_back dep block stay out_is first_is back_is next_is busy_is busy_too within short least most =
     rw (next_is, first_is, busy_is, busy_too, back_is, out_is) (one_period dep block stay within short least most)
 
@@ -78,7 +79,7 @@ module _ (trips : List RoundTrip) (settings : Settings) (are : AreTrips trips) (
   on_first l = zero_at (2 * n) l
 
   assigned : IsAssignment t a
-  assigned = record { each_leg = length-replicate (2 * n) 0 ∙ sym legs_are; known = λ l within. rw (on_first l) (omega arith) }
+  assigned = record { each_leg = length-replicate (2 * n) 0 ∙ sym legs_are; known = λ l within. rw (on_first l) (fleet_chooses t l 0 (omega arith)) }
 
   -- each leg has a cost on the first fleet
   has_cost : (l : ℕ) → l < 2 * n → IsSome (cost_of t (leg_on l 0))
@@ -132,8 +133,9 @@ module _ (trips : List RoundTrip) (settings : Settings) (are : AreTrips trips) (
       ∙ rw (length-list_below (turn_by partner) m) (sum_below-agree _ crosses_after m (record { each = λ k below. rw (get_or-list_below (turn_by partner) m k no_turn below) refl }))
 
   laps_by_leg : laps_flown t (weights_of a) 0 ≡ sum_below (λ l. laps_of t (leg_on l 0)) (legs_in t)
-  unfolding laps_flown
-  laps_by_leg = sum_below-agree (laps_at t (weights_of a) 0) (λ l. laps_of t (leg_on l 0)) (legs_in t) (record { each = λ l below. rw (on_first l) (omega arith) })
+  laps_by_leg =
+      plain_laps t (weights_of a) 0 (are_plain t)
+      ∙ sum_below-agree (λ l. weights_of a (leg_on l 0) * laps_of t (leg_on l 0)) (λ l. laps_of t (leg_on l 0)) (legs_in t) (record { each = λ l below. rw (on_first l) (omega arith) })
 
   -- a leg is busy for its flight and the turn
   busy_is : (l : ℕ) → l < 2 * n → busy_minutes t (leg_on l 0) ≡ (leg_of t l).block + 30
@@ -153,18 +155,32 @@ module _ (trips : List RoundTrip) (settings : Settings) (are : AreTrips trips) (
       leg_is (2 * i + 1) (omega arith) ∙ ap (λ out. flown settings (flight_name (2 * i + 1)) out (trip_of trips ((2 * i + 1) / 2))) (back_way i)
       ∙ ap (λ k. flown settings (flight_name (2 * i + 1)) false (trip_of trips k)) (back_half i)
 
+  -- what a leg adds, on one day
+  adding : ℕ → ℕ → ℕ → ℕ → ℕ
+  adding out next busy minutes = (out + busy) / minutes + (if nat_lt next ((out + busy) % minutes) then 1 else 0)
+
+  adds_by_day : (l : ℕ) → add l ≡ adding (leg_of t l).dep (leg_of t (partner l)).dep (busy_minutes t (leg_on l 0)) MINUTES_PER_DAY
+  unfolding adding
+  adds_by_day l =
+      ap (λ minutes. adding (departure t (leg_on l 0)) (departure t (leg_on (partner l) 0)) (busy_minutes t (leg_on l 0)) minutes) (period_is_day t (each_one_day t))
+      ∙ ap (λ out. adding out (departure t (leg_on (partner l) 0)) (busy_minutes t (leg_on l 0)) MINUTES_PER_DAY) (plain_departure t l 0 (are_plain t))
+      ∙ ap (λ next. adding (leg_of t l).dep next (busy_minutes t (leg_on l 0)) MINUTES_PER_DAY) (plain_departure t (partner l) 0 (are_plain t))
+
   trip_adds : (i : ℕ) → i < n → add (2 * i) + add (2 * i + 1) ≡ 1
+  unfolding adding
   trip_adds i within =
       let trip = trip_of trips i in
       let fits = are.each i within in
       let dep = from_day_start settings (trip.departs % MINUTES_PER_DAY) in
-      let returns : (leg_of t (2 * i + 1)).dep ≡ (dep + (trip.block + trip.stay)) % MINUTES_PER_PERIOD =
+      let returns : (leg_of t (2 * i + 1)).dep ≡ (dep + (trip.block + trip.stay)) % MINUTES_PER_DAY =
       ap (λ (leg : Leg). leg.dep) (back_is i within)
       ∙ ap (λ m. from_day_start settings (m % MINUTES_PER_DAY)) (omega arith)
       ∙ later trip.departs (trip.block + trip.stay) settings.day_start settings_fit.day_start in
       let busy_out : busy_minutes t (leg_on (2 * i) 0) ≡ trip.block + 30 = busy_is (2 * i) (omega arith) ∙ ap (λ (leg : Leg). leg.block + 30) (out_is i within) in
       let busy_back : busy_minutes t (leg_on (2 * i + 1) 0) ≡ trip.block + 30 = busy_is (2 * i + 1) (omega arith) ∙ ap (λ (leg : Leg). leg.block + 30) (back_is i within) in
-      adds (leg_of t (2 * i)).dep (leg_of t (2 * i + 1)).dep (leg_of t (partner (2 * i))).dep (leg_of t (partner (2 * i + 1))).dep
+      ap (λ x. x + add (2 * i + 1)) (adds_by_day (2 * i))
+      ∙ ap (λ x. adding (leg_of t (2 * i)).dep (leg_of t (partner (2 * i))).dep (busy_minutes t (leg_on (2 * i) 0)) MINUTES_PER_DAY + x) (adds_by_day (2 * i + 1))
+      ∙ adds (leg_of t (2 * i)).dep (leg_of t (2 * i + 1)).dep (leg_of t (partner (2 * i))).dep (leg_of t (partner (2 * i + 1))).dep
       (busy_minutes t (leg_on (2 * i) 0)) (busy_minutes t (leg_on (2 * i + 1) 0)) dep trip.block trip.stay
       (ap (λ (leg : Leg). leg.dep) (out_is i within)) (ap (λ l. (leg_of t l).dep) (back_partner i)) returns (ap (λ l. (leg_of t l).dep) (out_partner i)) busy_out busy_back
       (omega arith) fits.block_most fits.stay_least fits.stay_most
@@ -189,16 +205,16 @@ module _ (trips : List RoundTrip) (settings : Settings) (are : AreTrips trips) (
   }
 
   no_laps : laps_flown t (weights_of a) 1 ≡ 0
-  unfolding laps_flown
   no_laps =
-      sum_below-agree (laps_at t (weights_of a) 1) (λ l. 0) (legs_in t) (record { each = λ l below. rw (on_first l) (omega arith) }) ∙ sum_below-zero (legs_in t)
+      plain_laps t (weights_of a) 1 (are_plain t)
+      ∙ sum_below-agree (λ l. weights_of a (leg_on l 1) * laps_of t (leg_on l 1)) (λ l. 0) (legs_in t) (record { each = λ l below. rw (on_first l) (omega arith) }) ∙ sum_below-zero (legs_in t)
 
   used_within : (f : ℕ) → f < 2 → used_of t (weights_of a) f ≤ (fleet_of t f).aircraft
   used_within zero known = (let law = periods_beyond_use t a 0 turns first_map in omega (arith, law, first_periods))
   used_within (suc zero) known = (let law = periods_beyond_use t a 1 [] second_map in omega (arith, law, no_laps))
   used_within (suc (suc f)) known = absurd (omega arith)
 
-  balanced_fleet : (f s : ℕ) → f < 2 → arrived t (weights_of a) f s last_minute ≡ departed t (weights_of a) f s last_minute
+  balanced_fleet : (f s : ℕ) → f < 2 → arrived t (weights_of a) f s (last_of t) ≡ departed t (weights_of a) f s (last_of t)
   balanced_fleet zero s known = balances t a 0 turns first_map s
   balanced_fleet (suc zero) s known = balances t a 1 [] second_map s
   balanced_fleet (suc (suc f)) s known = absurd (omega arith)
