@@ -7,6 +7,7 @@ use Rattle.std.proofs.lemmas.Bool.{lt-ltb}
 use Rattle.sums.specs.Below.{sum_below_ℤ}
 use Rattle.sums.proofs.WholeSums.{sum_below_ℤ-same}
 use Rattle.sums.proofs.WholeSwaps.{sum_below_ℤ-zero, where_true}
+use Rattle.sums.proofs.WholeTerms.{where_true-at_least_0}
 use Rattle.fleet_model.specs.declared.limits.TheConstants.{MINUTES_PER_DAY}
 use Rattle.fleet_model.specs.declared.parts.Pair.{Pair}
 use Rattle.fleet_model.specs.declared.tables.Tables.{Tables}
@@ -56,11 +57,7 @@ with_charge_is prices s m price = omega (arith, ints, no_charge ((m + 1) % MINUT
 
 some_after : (t : Tables) (prices : Prices) (s m : ℕ) → pos 0 ≤ℤ charge_after prices s m
 unfolding charge_after
-some_after t prices s m = by_end ((m + 1) % MINUTES_PER_DAY == 0) _ ((are_charges t prices).some s ((m + 1) / MINUTES_PER_DAY))
-  where
-    by_end : (b : Bool) (z : ℤ) → pos 0 ≤ℤ z → pos 0 ≤ℤ where_true b z
-    by_end true z some = some
-    by_end false z some = omega (arith, ints)
+some_after t prices s m = where_true-at_least_0 ((m + 1) % MINUTES_PER_DAY == 0) _ ((are_charges t prices).some s ((m + 1) / MINUTES_PER_DAY))
 
 -- a price that doesn't rise rises by a charge at most
 pub no_rise : (t : Tables) (prices : Prices) (s m : ℕ) (before after : ℤ) → after ≤ℤ before → after ≤ℤ with_charge prices s m before

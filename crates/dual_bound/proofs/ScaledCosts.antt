@@ -1,6 +1,5 @@
 -- What 128 bits hold of a cost over a scale, and what a pair is worth by prices that are all 0.
 use Rattle.std.proofs.Common.{◌≡◌, ℕ, ◌<◌, ◌≤◌, ℤ, pos, ◌+ℤ◌, ◌-ℤ◌, ◌*ℤ◌, sym, ◌∙◌, ap, subst, arith}
-use Rattle.std.proofs.lemmas.Bool.{le-ltb}
 use Rattle.std.proofs.lemmas.Int.{ints}
 use mir.Syntax.{w128}
 use mir.Val.{SFits}
@@ -16,7 +15,7 @@ use Rattle.dual_bound.specs.Prices.{IsScale, price_of, rent_of}
 use Rattle.dual_bound.specs.Rising.{IsIdle}
 use Rattle.dual_bound.specs.Sizes.{IsUpTo}
 use Rattle.dual_bound.specs.Worth.{cost_units, pair_worth, where_flown}
-use Rattle.dual_bound.proofs.Charges.{flown, not_flown}
+use Rattle.dual_bound.proofs.Charges.{flown}
 use Rattle.dual_bound.proofs.Numbers.{fits, held, is_held, many}
 use Rattle.dual_bound.proofs.Sizes.{cost_size, scaled}
 
@@ -71,12 +70,7 @@ cost_alone t prices k p s z fall rent e g scale is small =
     added : (cost fall rent : ℤ) → fall ≡ pos 0 → rent ≡ pos 0 → cost ≡ cost +ℤ fall +ℤ rent
     added cost fall rent e g = omega (arith, ints, e, g)
 
--- .. since no fleet flies the pair
-pub left_out_worth : (t : Tables) (prices : Prices) (k : ℕ) (p : Pair) (s z : ℤ) → IsPair t p → fleets_in t ≤ fleet_by t p → s ≡ prices.scale → z ≡ pos k *ℤ s *ℤ cost_units t p → IsUpTo 1 z → held z ≡ pair_worth t prices k p
-left_out_worth t prices k p s z pair none scale is small =
-    cost_alone t prices k p s z _ _ (not_flown t p _ pair (le-ltb _ _ none)) (not_flown t p _ pair (le-ltb _ _ none)) scale is small
-
--- .. or rent and prices are 0 of its fleet
+-- .. since rent and prices are 0 of its fleet
 pub idle_worth : (t : Tables) (prices : Prices) (k : ℕ) (p : Pair) (f : ℕ) (s z : ℤ) → IsPair t p → f ≡ fleet_by t p → f < fleets_in t → IsIdle prices f → s ≡ prices.scale → z ≡ pos k *ℤ s *ℤ cost_units t p → IsUpTo 1 z → held z ≡ pair_worth t prices k p
 idle_worth t prices k p f s z pair by known none scale is small =
     let flies : fleet_by t p < fleets_in t = subst (λ n. n < fleets_in t) by known in

@@ -77,15 +77,6 @@ linked_are_nodes events days starts start some links none = record {
 pub nothing : (events : List Event) → events ≡ [] → (ready : Bool) (m : ℕ) → ¬ (HappensAt events ready m)
 nothing events e ready m h = let none : length events ≡ 0 = ap length e in omega (arith, h.among.1)
 
-pub no_nodes : (events : List Event) (days : ℕ) → events ≡ [] → AreNodes events days []
-no_nodes events days e = record {
-  none = λ _. refl;
-  some = λ some. absurd (some e);
-  first = refl;
-  next = λ k within. absurd (omega arith);
-  last = λ some. absurd (omega (arith, some));
-}
-
 -- each start is later than the one before
 pub rise_next : (events : List Event) (days : ℕ) (starts : List ℕ) → AreNodes events days starts → (k : ℕ) → k + 1 < length starts → get_or starts k 0 < get_or starts (k + 1) 0
 rise_next events days starts nodes k within = follows_later events days (get_or starts k 0) (get_or starts (k + 1) 0) (nodes.next k within).is

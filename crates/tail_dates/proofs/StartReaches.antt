@@ -14,7 +14,6 @@ use Rattle.lines_of_flying.specs.Lines.{BeginsAfterStart, first_day, legs_on_day
 use Rattle.sums.proofs.Places.{length-list_below}
 use Rattle.sums.proofs.SumBounds.{term_le}
 use Rattle.sums.specs.Below.{sum_below}
-use Rattle.tail_dates.specs.Placing.{AreBytes}
 use Rattle.tail_dates.specs.Reaches.{AreReaches, HasReach, IsReach, maintenance_nights, night_ending, start_line}
 use Rattle.tail_dates.proofs.Nights.{all_nights}
 
@@ -56,12 +55,3 @@ pub reach_is : (t : Tables) (f : ℕ) (tour : List ℕ) (nights : List Bool) (li
     → first ≡ night_ending t f tour line → IsReach nights first reach → HasReach t f tour line reach
 reach_is t f tour nights line first reach same place is =
     subst (λ n. IsReach (maintenance_nights t f tour) n reach) place (subst (λ ns. IsReach ns first reach) same is)
-
--- one number more that is a byte's
-pub bytes_more : (lefts grown : List ℕ) (left : ℕ) → AreBytes lefts → left < 256 → grown ≡ lefts ++ left ∷ [] → AreBytes grown
-bytes_more lefts grown left are few pushed = subst AreBytes (sym pushed) (record {
-  each = λ k below. elim (cases_lt k (length lefts)) [
-    | inl less ↦ subst (λ n. n < 256) (sym (get_or_append_left lefts (left ∷ []) 0 k less)) (are.each k less)
-    | inr ge ↦ subst (λ n. n < 256) (sym (get_or_push lefts left 0 k (omega (arith, ge, below, length-append lefts (left ∷ []))))) few
-  ];
-})
