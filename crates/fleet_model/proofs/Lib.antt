@@ -4,7 +4,6 @@ pub mod FewChoices
 pub mod FlownPairs
 pub mod KeptLaws
 pub mod KeptRows
-pub mod Minutes
 pub mod MixedPlans
 pub mod NeedAtDepartures
 pub mod NightsUsed

@@ -1,5 +1,5 @@
--- Tables as they are today: the period is one day, and a leg departs at the minute of its entry. What the words for both stand
--- for is looked at here.
+-- Periods of one day, and legs that depart at the minute of their entry. What the word for that minute stands for is looked at
+-- here.
 use Rattle.std.proofs.Common.{◌≡◌, ℕ, ◌*◌, refl, ◌∙◌, ap}
 use Rattle.fleet_model.specs.declared.limits.TheConstants.{MINUTES_PER_DAY}
 use Rattle.fleet_model.specs.declared.tables.Tables.{Tables}
@@ -7,11 +7,6 @@ use Rattle.fleet_model.specs.Plain.{IsPlain}
 use Rattle.fleet_model.specs.Schedule.{days_in, leg_of, leg_on, period_of}
 use Rattle.fleet_model.specs.Times.{departure}
 use Rattle.fleet_model.proofs.PeriodMinutes.{days_are_period}
-
--- no tables have a longer period yet
-pub each_one_day : (t : Tables) → days_in t ≡ 1
-unfolding days_in
-each_one_day t = refl
 
 pub period_is_day : (t : Tables) → days_in t ≡ 1 → period_of t ≡ MINUTES_PER_DAY
 period_is_day t one = days_are_period t ∙ ap (λ days. days * MINUTES_PER_DAY) one

@@ -1,6 +1,6 @@
 -- Minutes and days of the period, and the times of a pair in it. What the words for them stand for is looked at here and in
 -- `Choices` alone; all else goes by these facts.
-use Rattle.std.proofs.Common.{◌≡◌, true, ℕ, ◌+◌, ◌-◌, ◌*◌, ◌/◌, ◌%◌, ◌<◌, ◌≤◌, nat_le, sym, ap, subst, inl, inr, arith}
+use Rattle.std.proofs.Common.{◌≡◌, true, ℕ, ◌+◌, ◌-◌, ◌*◌, ◌/◌, ◌%◌, ◌<◌, ◌≤◌, nat_le, refl, sym, ap, subst, inl, inr, arith}
 use Rattle.std.proofs.Math.Nat.{div-add-mod, mod-lt, mul-le-mul_left}
 use Rattle.std.proofs.lemmas.Bool.{cases_lt}
 use Rattle.std.proofs.lemmas.Bool.Decides.{nat_tests}
@@ -17,16 +17,16 @@ use Rattle.fleet_model.specs.Times.{busy_minutes, departure, laps_of, nights_of,
 -- ---- the period
 pub days_are_period : (t : Tables) → period_of t ≡ days_in t * MINUTES_PER_DAY
 unfolding period_of days_in
-days_are_period t = omega arith
+days_are_period t = refl
 
 pub some_days : (t : Tables) → 0 < days_in t
 unfolding days_in
-some_days t = omega arith
+some_days t = t.in_range.settings_fit.some_days
 
 -- a week at most
 pub few_days : (t : Tables) → days_in t ≤ 7
 unfolding days_in
-few_days t = omega arith
+few_days t = t.in_range.settings_fit.few_days
 
 pub day_or_more : (t : Tables) → MINUTES_PER_DAY ≤ period_of t
 day_or_more t = omega (arith, days_are_period t, some_days t)
@@ -80,7 +80,7 @@ few_turns t f = elim (cases_lt f (fleets_in t)) [
 
 pub few_minutes : (t : Tables) (p : Pair) → IsPair t p → busy_minutes t p < 2 * MINUTES_PER_DAY
 few_minutes t p known =
-    let leg : IsLeg (stations_in t) (leg_of t p.leg) = t.in_range.legs_fit.each p.leg no_leg known.leg in
+    let leg : IsLeg (stations_in t) t.settings.period (leg_of t p.leg) = t.in_range.legs_fit.each p.leg no_leg known.leg in
     let station : IsStation (station_of t (leg_of t p.leg).to) = t.in_range.stations_fit.each (leg_of t p.leg).to no_station leg.to in
     omega (arith, leg.block, few_turns t (fleet_by t p), station.extra)
 

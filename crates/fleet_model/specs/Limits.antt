@@ -1,5 +1,5 @@
 -- What tables keep: their limits, numbers in range, and names that differ.
-use Rattle.std.specs.Prelude.{◌≡◌, ◌≢◌, ℕ, ◌<◌, ◌≤◌, List, length, All, AllPairs, ℤ, pos, neg_ℤ, ◌≤ℤ◌}
+use Rattle.std.specs.Prelude.{◌≡◌, ◌≢◌, ℕ, ◌*◌, ◌<◌, ◌≤◌, List, length, All, AllPairs, ℤ, pos, neg_ℤ, ◌≤ℤ◌}
 use Rattle.entries.specs.Names.{IsName, IsStationCode}
 use Rattle.fleet_model.specs.declared.parts.Station.{Station}
 use Rattle.fleet_model.specs.declared.parts.Fleet.{Fleet}
@@ -7,7 +7,7 @@ use Rattle.fleet_model.specs.declared.parts.Leg.{Leg}
 use Rattle.fleet_model.specs.declared.parts.PairCost.{PairCost}
 use Rattle.fleet_model.specs.declared.parts.Through.{Through}
 use Rattle.fleet_model.specs.declared.parts.Settings.{Settings}
-use Rattle.fleet_model.specs.declared.limits.TheConstants.{MINUTES_PER_DAY, MINUTES_PER_PERIOD, MAX_STATIONS, MAX_FLEETS, MAX_LEGS, MAX_THROUGHS, MAX_AIRCRAFT, MAX_GROUND_MINUTES, MAX_COST}
+use Rattle.fleet_model.specs.declared.limits.TheConstants.{MINUTES_PER_DAY, MAX_DAYS, MAX_STATIONS, MAX_FLEETS, MAX_LEGS, MAX_THROUGHS, MAX_AIRCRAFT, MAX_GROUND_MINUTES, MAX_COST}
 
 pub record IsStation (station : Station) : Type 0 where
   pub code : IsStationCode station.code
@@ -18,12 +18,12 @@ pub record IsFleet (fleet : Fleet) : Type 0 where
   pub aircraft : fleet.aircraft ≤ MAX_AIRCRAFT
   pub turn : fleet.turn ≤ MAX_GROUND_MINUTES
 
--- a leg between two of so many stations
-pub record IsLeg (stations : ℕ) (leg : Leg) : Type 0 where
+-- a leg between two of so many stations, in a period of so many days
+pub record IsLeg (stations days : ℕ) (leg : Leg) : Type 0 where
   pub flight : IsName leg.flight
   pub from : leg.from < stations
   pub to : leg.to < stations
-  pub dep : leg.dep < MINUTES_PER_PERIOD
+  pub dep : leg.dep < days * MINUTES_PER_DAY
   pub some_block : 0 < leg.block
   pub block : leg.block < MINUTES_PER_DAY
 
@@ -46,6 +46,8 @@ pub record IsThrough (legs : ℕ) (entry : Through) : Type 0 where
 pub record AreSettings (settings : Settings) : Type 0 where
   pub day_start : settings.day_start < MINUTES_PER_DAY
   pub through_max : settings.through_max < MINUTES_PER_DAY
+  pub some_days : 1 ≤ settings.period
+  pub few_days : settings.period ≤ MAX_DAYS
 
 -- two costs are of one pair
 pub record SamePair (a b : PairCost) : Type 0 where
@@ -67,10 +69,10 @@ pub record AreFleets (fleets : List Fleet) : Type 0 where
   pub each : All IsFleet fleets
   pub differ : AllPairs (λ a b. a.name ≢ b.name) fleets
 
--- legs between so many stations
-pub record AreLegs (stations : ℕ) (legs : List Leg) : Type 0 where
+-- legs between so many stations, in a period of so many days
+pub record AreLegs (stations days : ℕ) (legs : List Leg) : Type 0 where
   pub few : length legs ≤ MAX_LEGS
-  pub each : All (IsLeg stations) legs
+  pub each : All (IsLeg stations days) legs
   pub differ : AllPairs (λ a b. a.flight ≢ b.flight) legs
 
 -- costs of pairs of so many legs and fleets
@@ -87,7 +89,7 @@ pub record AreThroughs (legs : ℕ) (throughs : List Through) : Type 0 where
 pub record AreTables (stations : List Station) (fleets : List Fleet) (legs : List Leg) (costs : List PairCost) (throughs : List Through) (settings : Settings) : Type 0 where
   pub stations_fit : AreStations stations
   pub fleets_fit : AreFleets fleets
-  pub legs_fit : AreLegs (length stations) legs
+  pub legs_fit : AreLegs (length stations) settings.period legs
   pub costs_fit : AreCosts (length legs) (length fleets) costs
   pub throughs_fit : AreThroughs (length legs) throughs
   pub settings_fit : AreSettings settings

@@ -3,7 +3,7 @@ use Rattle.std.specs.Prelude.{ℕ, ◌+◌, ◌-◌, ◌*◌, ◌<◌, [], lengt
 use Rattle.fleet_model.specs.declared.parts.Station.{Station}
 use Rattle.fleet_model.specs.declared.parts.Fleet.{Fleet}
 use Rattle.fleet_model.specs.declared.parts.Leg.{Leg}
-use Rattle.fleet_model.specs.declared.limits.TheConstants.{MINUTES_PER_DAY, MINUTES_PER_PERIOD}
+use Rattle.fleet_model.specs.declared.limits.TheConstants.{MINUTES_PER_DAY}
 use Rattle.fleet_model.specs.declared.parts.Pair.{Pair}
 use Rattle.fleet_model.specs.declared.tables.Tables.{Tables}
 
@@ -37,16 +37,16 @@ abbrev pub legs_in : Tables → ℕ
 legs_in t = length t.legs
 
 -- ---- the period
+-- how many days the period has
+unfoldable pub days_in : Tables → ℕ
+days_in t = t.settings.period
+
 -- the minutes of the period, and its last one
-abbrev pub period_of : Tables → ℕ
-period_of t = MINUTES_PER_PERIOD
+unfoldable pub period_of : Tables → ℕ
+period_of t = t.settings.period * MINUTES_PER_DAY
 
 abbrev pub last_of : Tables → ℕ
 last_of t = period_of t - 1
-
--- how many days the period has
-abbrev pub days_in : Tables → ℕ
-days_in t = 1
 
 -- the last minute of a day of the period, days counted from 1
 abbrev pub day_end : ℕ → ℕ

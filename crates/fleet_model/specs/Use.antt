@@ -2,14 +2,9 @@
 use Rattle.std.specs.Prelude.{◌≡◌, ℕ, ◌+◌, ◌-◌, ◌*◌, ◌<◌}
 use Rattle.sums.specs.Below.{sum_below, max_below}
 use Rattle.fleet_model.specs.declared.tables.Tables.{Tables}
-use Rattle.fleet_model.specs.declared.limits.TheConstants.{MINUTES_PER_PERIOD}
 use Rattle.fleet_model.specs.Schedule.{day_end, departures_in, fleets_in, last_of, pair_on, period_of, stations_in}
 use Rattle.fleet_model.specs.Times.{laps_of}
 use Rattle.fleet_model.specs.Counts.{Weights, departed, arrived}
-
--- the last minute of a period of one day
-abbrev pub last_minute : ℕ
-last_minute = MINUTES_PER_PERIOD - 1
 
 -- by how much departures from a station pass arrivals by the end of a minute
 unfoldable pub excess : Tables → Weights → ℕ → ℕ → ℕ → ℕ

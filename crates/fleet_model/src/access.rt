@@ -6,7 +6,7 @@ ghost use Rattle.fleet_model.specs.Limits.{IsCost, IsFleet, IsLeg, IsStation};
 ghost use Rattle.fleet_model.specs.OwnTimes.{own_pair};
 ghost use Rattle.fleet_model.specs.Schedule.{IsFlown, IsPair, choices_in, days_in, departures_in, fleet_by, fleet_of, fleets_in, leg_of, legs_in, pair_on, parking_of, period_of, station_of, stations_in};
 
-use crate::limits::MINUTES_PER_PERIOD;
+use crate::limits::MINUTES_PER_DAY;
 use crate::parts::{Fleet, Leg, Pair, Station};
 use crate::tables::Tables;
 
@@ -30,10 +30,11 @@ impl Tables {
     }
 
     /// The leg with this number.
+    #[tactic(auto, unfolding(crate::specs::Schedule::days_in))]
     pub fn leg(&self, leg: u32) -> &Leg
         requires { leg < legs_in self.now }
         ensures value { result.now ≡ leg_of self.now leg }
-        ensures fits { IsLeg (stations_in self.now) result.now }
+        ensures fits { IsLeg (stations_in self.now) (days_in self.now) result.now }
     {
         &self.legs.as_slice()[leg as usize]
     }
@@ -74,7 +75,7 @@ impl Tables {
         ensures some { 1440 ≤ result }
         ensures week { result ≤ 10080 }
     {
-        MINUTES_PER_PERIOD
+        self.settings.period * MINUTES_PER_DAY
     }
 
     /// How many days the period has.
@@ -84,7 +85,7 @@ impl Tables {
         ensures some { 1 ≤ result }
         ensures week { result ≤ 7 }
     {
-        1
+        u32::from(self.settings.period)
     }
 
     /// How many aircraft may stand at a station at the end of a day, where there is a limit.

@@ -1,9 +1,8 @@
 /// The minutes of a day. Clock times, blocks and nights are reckoned by the day.
 pub const MINUTES_PER_DAY: u16 = 1440;
 
-/// The minutes of the period after which the schedule repeats: one day. Ready minutes, balance and the
-/// minutes at which aircraft are counted are reckoned by the period.
-pub const MINUTES_PER_PERIOD: u16 = MINUTES_PER_DAY;
+/// The most days of a period.
+pub const MAX_DAYS: u16 = 7;
 
 /// The most stations that tables have.
 pub const MAX_STATIONS: usize = 200;

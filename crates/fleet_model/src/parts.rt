@@ -29,7 +29,7 @@ pub struct Leg {
     pub flight: Entries<u8>,
     /// The station of departure, by its number.
     pub from: u32,
-    /// The minute of departure, counted from the day start.
+    /// The minute of departure, counted from the start of the period.
     pub dep: u16,
     /// The station of arrival, by its number.
     pub to: u32,
@@ -77,4 +77,6 @@ pub struct Settings {
     pub day_start: u16,
     /// The longest wait between the two legs of a through pair, in minutes.
     pub through_max: u16,
+    /// The days after which the schedule repeats, 1 to 7.
+    pub period: u16,
 }

@@ -2,7 +2,6 @@
 ghost use Rattle.std.specs.Prelude.{◌≡◌, ◌<◌, ◌≤◌};
 ghost use Rattle.fleet_model.specs.Schedule.{IsPair, fleets_in, leg_on, legs_in, period_of};
 ghost use Rattle.fleet_model.specs.Times.{busy_minutes, departure, laps_of, nights_of, ready_minute};
-ghost use Rattle.fleet_model.specs.declared.limits.TheConstants.{MINUTES_PER_PERIOD};
 
 use crate::limits::MINUTES_PER_DAY;
 use crate::parts::Pair;
@@ -72,14 +71,14 @@ pub fn busy(tables: &Tables, leg: u32, fleet: u32) -> u16
     tables.busy(Pair { leg, choice: fleet })
 }
 
-/// The minute at which the aircraft of a leg, of this fleet, can depart again, counted from the day start.
+/// The minute at which the aircraft of a leg, of this fleet, can depart again, counted from the start of the period.
 /// Takes no memory.
-#[tactic(auto, unfolding(crate::specs::Schedule::choices_in, crate::specs::Schedule::period_of))]
+#[tactic(auto, unfolding(crate::specs::Schedule::choices_in))]
 pub fn ready(tables: &Tables, leg: u32, fleet: u32) -> u16
     requires leg { leg < legs_in tables.now }
     requires fleet { fleet < fleets_in tables.now }
     ensures value { result ≡ ready_minute tables.now (leg_on leg fleet) }
-    ensures within { result < MINUTES_PER_PERIOD }
+    ensures within { result < period_of tables.now }
 {
     tables.ready(Pair { leg, choice: fleet })
 }
