@@ -106,6 +106,6 @@ def aircraft_wanted(schedule):
         which = "" if is_all else f" that {listed(group)} alone may fly"
         have = f"and fleets.csv has {has} aircraft {'in all' if is_all else f'of {listed(group)}'}"
         if most > has:
-            yield f"at {schedule.clock(minutes.index(most))} {most} flights{which} are in the air or in their turn, {have}"
+            yield f"at {schedule.moment(minutes.index(most))} {most} flights{which} are in the air or in their turn, {have}"
         elif len(legs) == len(schedule.legs) and schedule.used(flown) > has:
             yield f"the flights need {schedule.used(flown)} aircraft, however they are shared out, {have}"

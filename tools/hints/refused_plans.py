@@ -94,8 +94,8 @@ def tell_balance(call, fleet, station, comes, goes):
     schedule, comes, goes = schedule_of(call), int(comes), int(goes)
     plan = schedule.plan()
     own = [it for it in schedule.legs.values() if plan[it.flight] == fleet]
-    into = [f"{it.flight} at {schedule.clock(it.departure + it.block)}" for it in own if it.end == station]
-    out = [f"{it.flight} at {schedule.clock(it.departure)}" for it in own if it.start == station]
+    into = [f"{it.flight} at {schedule.moment(it.departure + it.block)}" for it in own if it.end == station]
+    out = [f"{it.flight} at {schedule.moment(it.departure)}" for it in own if it.start == station]
     if (len(into), len(out)) != (comes, goes):
         return []
     arrive, depart = counted(comes, f"flight of {fleet} arrives", f"flights of {fleet} arrive"), counted(goes, "departs", "depart")
@@ -118,6 +118,6 @@ def tell_use(call, fleet, used, has):
     where += [f"{aloft} in flight or in a turn"] if aloft else []
     return [
         f"the plan needs {used} aircraft of {fleet}, and fleets.csv has {has}: {used - has} too few",
-        f"at the day start, {schedule.clock(0)}, they are: {listed(where)}",
+        f"at the day start, {schedule.moment(0)}, they are: {listed(where)}",
         f"give flights of {fleet} to other fleets, move flights apart, or raise its aircraft in fleets.csv",
     ]

@@ -51,15 +51,19 @@ class Schedule:
         return leg.block + self.turn[fleet] + self.extra[leg.end]
 
     def clock(self, minute):
+        """Returns the clock time of a minute counted from a day's start."""
+        at = (minute + self.day_start) % DAY
+        return f"{at // 60:02}:{at % 60:02}"
+
+    def moment(self, minute):
         """Returns the clock time of a minute counted from the first day's start, with its day where the period has several."""
-        day, at = divmod((minute + self.day_start) % self.minutes, DAY)
-        told = f"{at // 60:02}:{at % 60:02}"
-        return told if self.period == 1 else f"{told} on day {day + 1}"
+        day = (minute + self.day_start) % self.minutes // DAY + 1
+        return self.clock(minute) if self.period == 1 else f"{self.clock(minute)} on day {day}"
 
     @property
     def each(self):
         """The words for how often the schedule repeats."""
-        return "each day" if self.period == 1 else f"each {self.period} days"
+        return "each day" if self.period == 1 else f"every {self.period} days"
 
     def plan(self):
         """Returns the fleet of each flight that plan.csv tells, or raises Unread where it isn't a plan of these tables."""
