@@ -4,8 +4,8 @@
 usage: plan_by_cbc.py DIR [HH:MM]
 
 The day starts at the time of the second word, or else at 03:00. Where legs have a day, the schedule repeats after the last of these.
-The plan is written as DIR/plan.csv, and its cost is printed. Each fleet has a stock at each station at the first day's start, and its
-stand is at least 0 whenever one departs.
+The plan is written as DIR/plan.csv, and its cost is printed. Each fleet has a time line at each station: its aircraft wait on arcs
+from a node, which are some that become ready and then some that depart, to the next one, and from the last to the first.
 """
 import subprocess
 import sys
@@ -51,19 +51,30 @@ def program(legs, fleets, pairs):
         if crossed:
             laps[fleet].append(f"{crossed} {name[leg, fleet]}")
     lines += [" " + " + ".join(terms) + " = 1" for terms in cover.values()]
-    stocks = defaultdict(list)
-    for number, ((fleet, _), here) in enumerate(sorted(events.items())):
-        stocks[fleet].append(f"g{number}")
-        here.sort()
-        signed = [("- " if leaves else "+ ") + term for _, leaves, term in here]
-        lines.append(" " + " ".join(signed) + " = 0")
-        lines += [f" g{number} " + " ".join(signed[: at + 1]) + " >= 0" for at, (_, leaves, _) in enumerate(here)
-                  if leaves and (at + 1 == len(here) or not here[at + 1][1] or here[at + 1][0] != here[at][0])]
+    stocks, arcs = defaultdict(list), 0
+    for (fleet, _), here in sorted(events.items()):
+        nodes = nodes_of(here)
+        stocks[fleet].append(f"g{arcs}")
+        for at, signed in enumerate(nodes):
+            waits = [f"+ g{arcs + at}", f"- g{arcs + (at + 1) % len(nodes)}"] if len(nodes) > 1 else []
+            lines.append(" " + " ".join(waits + signed) + " = 0")
+        arcs += len(nodes)
     for fleet, aircraft, _ in fleets:
         terms = stocks[fleet] + laps[fleet]
         if terms:
             lines.append(" " + " + ".join(terms) + f" <= {aircraft}")
     return "\n".join(lines + ["Binaries", " " + " ".join(name.values()), "End", ""]), name
+
+
+def nodes_of(events):
+    """The nodes of a time line, each as the terms of what becomes ready there and then departs, in order of time."""
+    nodes, has_left = [[]], False
+    for _, leaves, term in sorted(events):
+        if has_left and not leaves:
+            nodes.append([])
+        nodes[-1].append(("- " if leaves else "+ ") + term)
+        has_left = leaves
+    return nodes
 
 
 def solve(text):

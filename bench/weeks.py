@@ -1,13 +1,13 @@
 #!/usr/bin/env python3
 """Writes a hub and spoke schedule of a week that differs at the weekend, always the same for a number.
 
-usage: weeks.py FOLDER LEGS FLEETS [NUMBER]
+usage: weeks.py FOLDER LEGS FLEETS [NUMBER [SPARE]]
 
 On each of seven days LEGS legs are flown in tours like those of hubs.py: 140 a day make 980. From Monday, day 1, to Friday there is
 one timetable. At the weekend some of its tours go, later in the day, and others in the place of the rest. Each day has a demand of
-its own, so that costs differ from day to day. A flight has a number and its day, as L12D3. Each fleet has the aircraft with which the
-tours are a legal plan, as judge_reference.py counts them, and at times one more. Some flights that follow each other at a hub are
-through pairs.
+its own, so that costs differ from day to day. A flight has a number and its day, as L12D3. The hubs maintain, and every third station.
+Each fleet has the aircraft with which the tours are a legal plan, as judge_reference.py counts them, and SPARE more, 1 where it isn't
+given; that plan is written too. Some flights that follow each other at a hub are through pairs.
 """
 import random
 import sys
@@ -87,12 +87,15 @@ class Week:
     def tables(self, aircraft):
         """The tables, where each kind has so many aircraft."""
         fleets = [(self.fleet(at), count, kind[1]) for at, (kind, count) in enumerate(zip(self.kinds, aircraft))]
+        hubs = self.network.hubs
+        stations = [(code, more, "yes" if at < hubs else flag) for at, (code, more, flag) in enumerate(places(self.network.stations, hubs))]
         return {
-            "stations.csv": [("code", "extra", "maintenance"), *places(self.network.stations, self.network.hubs)],
+            "stations.csv": [("code", "extra", "maintenance"), *stations],
             "fleets.csv": [("fleet", "aircraft", "turn"), *fleets],
             "legs.csv": [("flight", "day", "from", "dep", "to", "arr"), *self.legs],
             "costs.csv": [("flight", "fleet", "cost"), *self.costs],
             "throughs.csv": [("in", "out", "value"), *self.throughs],
+            "plan.csv": [("flight", "fleet"), *self.plan],
         }
 
     def used(self):
@@ -106,7 +109,7 @@ class Week:
         return [judge_reference.Movements(tables, flights, fleet).used for fleet, flights in flown.items()]
 
 
-def write(folder, legs, fleets, number=1):
+def write(folder, legs, fleets, number=1, spare=1):
     draw, kinds = random.Random(number), kinds_of(fleets)
     network = Network(draw, *sizes_of(legs))
     weekdays = timetable(draw, network, kinds, legs)
@@ -114,11 +117,11 @@ def write(folder, legs, fleets, number=1):
     week = Week(draw, network, kinds)
     for day in range(1, DAYS + 1):
         week.add(day, weekend if day in WEEKEND else weekdays)
-    put(folder, week.tables([it + draw.choice((0, 0, 1)) for it in week.used()]))
+    put(folder, week.tables([it + spare for it in week.used()]))
 
 
 def main():
-    if len(sys.argv) not in (4, 5):
+    if len(sys.argv) not in (4, 5, 6):
         sys.exit(__doc__)
     write(sys.argv[1], *map(int, sys.argv[2:]))
 
