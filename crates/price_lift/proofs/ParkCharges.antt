@@ -28,7 +28,7 @@ use Rattle.dual_bound.specs.declared.prices.Prices.{Prices}
 use Rattle.dual_bound.proofs.Charges.{charge_after, day_within, some_day}
 use Rattle.price_lift.specs.Prices.{AreByLines}
 use Rattle.price_lift.proofs.DownColumns.{of_park, of_passed}
-use Rattle.price_lift.proofs.Parks.{no_park, number_of_park, over_parks, park_is, park_number, park_within, pick_park}
+use Rattle.price_lift.proofs.Parks.{no_park, number_of_park, over_parks, park_is, park_number, park_within, pick_park, same_as}
 
 -- a factor of what is taken off so many times
 pub factor_out : (h r a : ℤ) → neg_ℤ (h *ℤ r) *ℤ a ≡ neg_ℤ h *ℤ (r *ℤ a)
@@ -61,9 +61,6 @@ ends_day m d some is = omega (arith, is)
 
 at_day_end : (m : ℕ) → (m + 1) % MINUTES_PER_DAY ≡ 0 → m ≡ day_end ((m + 1) / MINUTES_PER_DAY)
 at_day_end m ends = omega (arith, ends)
-
-same_park_by : (q : Park) (s d : ℕ) → q.station ≡ s → q.day ≡ d → q ≡ record { station = s; day = d }
-same_park_by q s d station day = ap (λ r. record { station = r; day = q.day }) station ∙ ap (λ k. record { station = s; day = k }) day
 
 module _ (t : Tables) (starts : Starts) (prices : Prices) (value : ℕ → ℤ) (by : AreByLines t starts value prices) (h : ℤ) (y : ℕ → ℤ)
     (scaled : (j : ℕ) → j < priced_count t starts → y (legs_in t + j) ≡ h *ℤ value (legs_in t + j)) where
@@ -105,7 +102,7 @@ module _ (t : Tables) (starts : Starts) (prices : Prices) (value : ℕ → ℤ) 
     at_limit ends limited =
         let known : IsPark t day_there = record { station = within; some = some_day m ends; day = omega (arith, day_within t m period ends, limited_days t n.station limited) } in
         pick_park t passes (of_park t starts y) day_there known (both_true (n.station == n.station) (m == day_end ((m + 1) / MINUTES_PER_DAY)) (equal_number n.station n.station refl) (equal_number m (day_end ((m + 1) / MINUTES_PER_DAY)) (at_day_end m ends)))
-        (λ q is e. let at = passed q e in same_park_by q n.station ((m + 1) / MINUTES_PER_DAY) at.0 (day_of m q.day is.some at.1))
+        (λ q is e. let at = passed q e in same_as q day_there (both_true (q.station == n.station) (q.day == (m + 1) / MINUTES_PER_DAY) (equal_number q.station n.station at.0) (equal_number q.day ((m + 1) / MINUTES_PER_DAY) (day_of m q.day is.some at.1))))
         ∙ number_is day_there known
 
     no_limit : parking_days t n.station ≡ 0 → (d : ℕ) → charge_of prices n.station d ≡ pos 0
