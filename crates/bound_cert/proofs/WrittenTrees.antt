@@ -12,8 +12,9 @@ use Rattle.bound_cert.specs.ProofText.{all_lines, proof_text, tree_lines}
 use Rattle.bound_cert.specs.Reading.{node_at}
 use Rattle.dual_bound.specs.Leaves.{depth_of}
 use Rattle.dual_bound.specs.Nodes.{nodes_of}
-use Rattle.dual_bound.specs.OfTables.{IsCauseOf, IsOfTables, IsWeightOf}
-use Rattle.dual_bound.specs.WrittenOrder.{InWrittenOrder, IsCauseInOrder, IsNodeInOrder, IsShallow, IsWeightInOrder}
+use Rattle.dual_bound.specs.OfTables.{ArePricesOf, IsCauseOf, IsChargeOf, IsOfTables, IsWeightOf}
+use Rattle.dual_bound.specs.WrittenOrder.{ArePricesInOrder, InWrittenOrder, IsCauseInOrder, IsNodeInOrder, IsShallow, IsWeightInOrder}
+use Rattle.dual_bound.specs.declared.prices.Prices.{Prices}
 use Rattle.dual_bound.specs.declared.nodes.Node.{Node}
 use Rattle.dual_bound.specs.declared.trees.Cause.{Cause}
 use Rattle.dual_bound.specs.declared.trees.TheConstants.{MAX_DEPTH}
@@ -26,7 +27,7 @@ use Rattle.proof_lines.specs.declared.line.Line.{Line}
 use Rattle.std.proofs.Common.{[], ◌++◌, ◌+◌, ◌-◌, ◌<◌, ◌==◌, ◌∙◌, ◌∷◌, ◌≡◌, ◌≤◌, Bool, List, Ok, ap, append-nil, append_assoc, arith, cond, false, length, refl, subst, suc, sym, true, ℕ}
 use Rattle.std.proofs.lemmas.Bool.Decides.{nat_tests}
 use Rattle.std.proofs.lemmas.Grind.{flat_map-append}
-use Rattle.std.proofs.lemmas.List.Elements.{All-head, All-tail, All-weaker}
+use Rattle.std.proofs.lemmas.List.Elements.{All-head, All-nil, All-tail, All-weaker}
 use Rattle.std.proofs.lemmas.List.{length-append, length-map}
 use Rattle.std.specs.List.{flat_map}
 use Rattle.std.specs.Prelude.{All, max}
@@ -226,15 +227,18 @@ cause_of t (cause.Pivots made) is = tt
 cause_of t (cause.Grew pivots row column) is = tt
 cause_of t (cause.Lift step at) is = tt
 
+prices_of : (t : Tables) (prices : Prices) → ArePricesInOrder t prices → ArePricesOf t prices
+prices_of t prices are = record { steps = steps_of t prices.steps are.steps.each; charges = rw are.no_charges (All-nil (IsChargeOf t)) }
+
 node_of : (t : Tables) (n : Node) → IsNodeInOrder t n → IsNodeOf t n
 node_of t (node.Bare leg) is = is
 node_of t node.Sole is = tt
-node_of t (node.Refuted prices) is = steps_of t prices.steps is.steps.each
-node_of t (node.Priced prices) is = steps_of t prices.steps is.steps.each
-node_of t (node.Open prices why) is = (steps_of t prices.steps is.0.steps.each, cause_of t why is.1)
+node_of t (node.Refuted prices) is = prices_of t prices is
+node_of t (node.Priced prices) is = prices_of t prices is
+node_of t (node.Open prices why) is = (prices_of t prices is.0, cause_of t why is.1)
 node_of t (node.Trim leg fleet) is = is
 node_of t (node.Split leg fleet prices mixed) is =
-    (is.0, steps_of t prices.steps is.1.steps.each, All-weaker (IsWeightInOrder t) (IsWeightOf t) (λ entry is. is.pair) mixed.weights is.2.each)
+    (is.0, prices_of t prices is.1, All-weaker (IsWeightInOrder t) (IsWeightOf t) (λ entry is. is.pair) mixed.weights is.2.each)
 
 -- a tree in written order is of the tables
 pub in_order_of_tables : (t : Tables) (whole : Tree) → InWrittenOrder t whole → IsOfTables t whole
