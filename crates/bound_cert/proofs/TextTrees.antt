@@ -7,7 +7,7 @@ use Rattle.bound_cert.proofs.WrittenTrees.{last}
 use Rattle.bound_cert.specs.Lines.{Left, Reading, left_of, line_due, may_stand}
 use Rattle.bound_cert.specs.Nodes.{Above, after_node, after_tree, end_at, head_is, nodes_from, nothing, plan_at, plan_of, proof_at, rest_at, tree_at}
 use Rattle.bound_cert.specs.ProofText.{all_lines, lines_of, proof_text, tree_lines, node_lines}
-use Rattle.bound_cert.specs.Reading.{node_at}
+use Rattle.bound_cert.specs.Reading.{node_at, said_at}
 use Rattle.bound_cert.specs.declared.faults.TheConstants.{BAD_LINE}
 use Rattle.dual_bound.specs.Leaves.{depth_of}
 use Rattle.dual_bound.specs.Nodes.{nodes_of}
@@ -119,7 +119,7 @@ plan_is (says.Plan b) left planned e = ap (λ b. says.Plan b) (ok_same b planned
 plan_is other left planned e = absurd (cc e)
 
 plan_was : (t : Tables) (left : Left) (planned : Bool) → plan_at (names t) left ≡ Ok planned → LineIs t left (says.Plan planned)
-unfolding plan_at
+unfolding said_at
 plan_was t left planned e =
     let line = goes (line_due (names t) due.Plan left) _ planned e in
     subst (LineIs t left) (plan_is line.value left planned line.on) (line_was t due.Plan left line.value line.is)

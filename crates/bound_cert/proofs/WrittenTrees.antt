@@ -9,7 +9,7 @@ use Rattle.bound_cert.proofs.WrittenPrices.{IsBehind, steps_of}
 use Rattle.bound_cert.specs.Lines.{Left, Reading, left_of, line_due, may_stand}
 use Rattle.bound_cert.specs.Nodes.{Above, after_node, after_tree, end_at, head_is, nodes_from, nothing, plan_at, proof_at, rest_at, tree_at}
 use Rattle.bound_cert.specs.ProofText.{all_lines, proof_text, tree_lines, node_lines}
-use Rattle.bound_cert.specs.Reading.{node_at}
+use Rattle.bound_cert.specs.Reading.{node_at, said_at}
 use Rattle.dual_bound.specs.Leaves.{depth_of}
 use Rattle.dual_bound.specs.Nodes.{nodes_of}
 use Rattle.dual_bound.specs.OfTables.{IsCauseOf, IsOfTables, IsWeightOf}
@@ -140,7 +140,7 @@ unfolding end_at nothing
 end_read t = bound (line_due (names t) due.End (last t)) says.End _ (line_read t due.End says.End ([] ∷ []) (record { named = tt; figures = tt }) refl (omega arith))
 
 pub plan_read : (t : Tables) (planned : Bool) (rest : Left) → 0 < length rest → plan_at (names t) (line_bytes t (says.Plan planned) ∷ rest) ≡ Ok planned
-unfolding plan_at
+unfolding said_at
 plan_read t planned rest some =
     bound (line_due (names t) due.Plan (line_bytes t (says.Plan planned) ∷ rest)) (says.Plan planned) _
     (line_read t due.Plan (says.Plan planned) rest (record { named = tt; figures = tt }) (plan_stands planned) some)
