@@ -78,7 +78,7 @@ class Date:
 # Of each option its placeholder, its form, its value where it isn't given, and what it means.
 OPTIONS = {
     "day-start": ("HH:MM", Time(), "03:00", "when a day begins, in UTC, 00:00 to 23:59"),
-    "period": ("P", Number(1, 7), "1", "after how many days the schedule repeats, 1 to 7"),
+    "period": ("P", Number(1, 7), "1", "the days after which the schedule repeats, 1 to 7"),
     "through-max": ("M", Number(0, 1439), "60", "the most minutes that a through flight may wait beyond the turn, 0 to 1439"),
     "days": ("D", Number(1, 30), "3", "an aircraft comes to maintenance every D days at least, 1 to 30"),
     "visits": ("V", Number(0, 1_000_000), "200000", "how long to search for one rotation, 0 to 1000000"),
@@ -86,15 +86,15 @@ OPTIONS = {
     "pivots": ("P", Number(0, 1_000_000), "20000", "how many pivots a subproblem may take in each run, 0 to 1000000"),
     "json": ("", None, "", "prints the summary as JSON"),
 }
+# The options by which the tables of a folder are read: those of one call belong to the next one over the same folder.
+READING = ("day-start", "period")
 OPTIONS_OF = {
-    "judge": ("day-start", "period"),
-    "check": ("day-start", "period"),
-    "solve": ("day-start", "period", "through-max", "days", "visits", "nodes", "pivots", "json"),
-    "tails": ("day-start", "period", "through-max", "days", "visits"),
+    "judge": READING,
+    "check": READING,
+    "solve": (*READING, "through-max", "days", "visits", "nodes", "pivots", "json"),
+    "tails": (*READING, "through-max", "days", "visits"),
     "make": (),
 }
-# The options that say how tables are read: those of one call belong to the next one over the same folder.
-READING = ("day-start", "period")
 # Of each word of a command, beside DIR: its form, and what it is.
 WORDS = {
     "DATE": (Date(), "the first date"),

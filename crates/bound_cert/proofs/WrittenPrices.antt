@@ -226,11 +226,12 @@ module _ (t : Tables) where
       (rents_read prices tail are.rents are.one_each some (steps_begin prices.steps behind due.Rent of refl ends.no_rent))
       ∙ bound (steps_from (names t) [] None tail) (prices.steps, behind) _
       (steps_read prices.steps [] None behind are.steps.each of are.steps.follow are.steps.no_lone_zero ends.some ends.no_step)
+      ∙ ap (λ charges. Ok (record { scale = prices.scale; rents = prices.rents; steps = prices.steps; charges = charges }, behind)) (sym are.no_charges)
 
   -- weights
 
   weight_named : (entry : Weight) → IsWeightInOrder t entry → IsLineOf t (weight_line entry)
-  weight_named entry is = record { named = (is.pair.leg, is.pair.choice); figures = is.weight }
+  weight_named entry is = record { named = is.pair; figures = is.weight }
 
   weight_read : (before : Option Weight) (entry : Weight) (rest : Left) → IsWeightInOrder t entry → weight_follows before entry ≡ true → 0 < length rest
       → weight_at (names t) before (line_bytes t (weight_line entry) ∷ rest) ≡ Ok entry

@@ -1,5 +1,5 @@
 -- What a column comes to when each line counts by a number, by the kinds of lines.
-use Rattle.std.proofs.Common.{◌≡◌, ℕ, ◌+◌, ◌<◌, Bool, true, false, if◌then◌else◌, ◌==◌, ◌&&◌, length, ℤ, pos, ◌+ℤ◌, ◌-ℤ◌, ◌*ℤ◌, refl, ◌∙◌, ap, arith}
+use Rattle.std.proofs.Common.{◌≡◌, ℕ, ◌+◌, ◌<◌, ◌≤◌, Bool, true, false, if◌then◌else◌, ◌==◌, ◌&&◌, length, ℤ, pos, ◌+ℤ◌, ◌-ℤ◌, ◌*ℤ◌, refl, ◌∙◌, ap, arith}
 use Rattle.std.proofs.lemmas.Bool.Decides.{nat_tests}
 use Rattle.std.proofs.lemmas.Int.{ints}
 use lib.IntN.{*ℤ-zero}
@@ -9,20 +9,20 @@ use Rattle.sums.proofs.WholeSums.{sum_below_ℤ-same, sum_below_ℤ--ℤ}
 use Rattle.sums.proofs.WholeSwaps.{sum_below_ℤ-one, where_true}
 use Rattle.fleet_model.specs.declared.parts.Pair.{Pair}
 use Rattle.fleet_model.specs.declared.tables.Tables.{Tables}
-use Rattle.fleet_model.specs.Schedule.{IsFlown, fleet_by, fleet_of, fleets_in, leg_of, legs_in, stations_in}
+use Rattle.fleet_model.specs.Schedule.{IsFlown, IsPair, fleet_by, fleet_of, fleets_in, leg_of, legs_in, stations_in}
 use Rattle.fleet_model.specs.Times.{departure, laps_of, ready_minute}
 use Rattle.lp_rows.specs.declared.kinds.Node.{Node}
 use Rattle.lp_rows.specs.declared.kinds.Park.{Park}
-use Rattle.lp_rows.specs.declared.kinds.Column.TheVariants.{Flight, Ground, Slack}
+use Rattle.lp_rows.specs.declared.kinds.Column.TheVariants.{Flight, Ground, Room, Slack}
 use Rattle.lp_rows.specs.declared.kinds.Line.{Line}
 use Rattle.lp_rows.specs.declared.kinds.Line.TheVariants.{Balance, Count, Cover, Parking}
-use Rattle.lp_rows.specs.Entries.{IsNode, balance_entry, comes_to_node, count_entry, cover_entry, entry_of, gets_arc, is_in, leaves_node, one_if, passes_start, place_after, right_side_of, same_node}
+use Rattle.lp_rows.specs.Entries.{IsNode, IsPark, balance_entry, comes_to_node, count_entry, cover_entry, entry_of, gets_arc, is_in, leaves_node, limit_of, one_if, passes_day_end, passes_start, place_after, right_side_of, same_node, same_park}
 use Rattle.lp_rows.specs.Layout.{Starts, node_at, line_at, park_of_number}
 use Rattle.lp_rows.specs.Points.{node_count, park_count, priced_count}
 use Rattle.lp_rows.proofs.ListSums.{all_zero}
 use Rattle.lp_rows.proofs.Picks.{pick_nodes}
 use Rattle.lp_rows.proofs.LinePlaces.{balance_there, before, count_there, cover_there, node_there, node_within, over_lines, parking_there}
-use Rattle.price_lift.proofs.NoParking.{no_parking_lines}
+use Rattle.price_lift.proofs.Parks.{number_of_park, pick_park}
 
 -- ---- tests
 flip : (a b : ℕ) → (a == b) ≡ (b == a)
@@ -43,6 +43,13 @@ two_tests false b z = refl
 three_tests : (a b c : Bool) (z : ℤ) → where_true (a && (b && c)) z ≡ where_true a (where_true b (where_true c z))
 three_tests true b c z = two_tests b c z
 three_tests false b c z = refl
+
+-- days of one station and of one number are one
+same_as : (p q : Park) → same_park p q ≡ true → p ≡ q
+same_as p q e =
+    let station : p.station ≡ q.station = grind (arith, nat_tests) in
+    let day : p.day ≡ q.day = grind (arith, nat_tests) in
+    ap (λ s. record { station = s; day = p.day }) station ∙ ap (λ d. record { station = q.station; day = d }) day
 
 module _ (t : Tables) (starts : Starts) (y : ℕ → ℤ) where
   -- the number of a node's balance line, that of a count line, and that of a parking line
@@ -74,6 +81,11 @@ module _ (t : Tables) (starts : Starts) (y : ℕ → ℤ) where
       ∙ sum_below_ℤ--ℤ (λ s. sum_below_ℤ (λ k. g f s k) (length (starts f s))) (λ s. sum_below_ℤ (λ k. h f s k) (length (starts f s))) (stations_in t))
       ∙ sum_below_ℤ--ℤ (λ f. sum_below_ℤ (λ s. sum_below_ℤ (λ k. g f s k) (length (starts f s))) (stations_in t)) (λ f. sum_below_ℤ (λ s. sum_below_ℤ (λ k. h f s k) (length (starts f s))) (stations_in t)) (fleets_in t)
 
+  over_nodes-zero : (g : ℕ → ℕ → ℕ → ℤ) → ((f s k : ℕ) → f < fleets_in t → g f s k ≡ pos 0) → over_nodes g ≡ pos 0
+  over_nodes-zero g zero =
+      all_zero (λ f. sum_below_ℤ (λ s. sum_below_ℤ (λ k. g f s k) (length (starts f s))) (stations_in t)) (fleets_in t)
+      (λ f known. all_zero (λ s. sum_below_ℤ (λ k. g f s k) (length (starts f s))) (stations_in t) (λ s within. all_zero (λ k. g f s k) (length (starts f s)) (λ k below. zero f s k known)))
+
   -- by any numbers of lines
   abbrev pub down : (Line → ℤ) → ℤ
   down e = sum_below_ℤ (λ i. y i *ℤ e (line_at t starts i)) (legs_in t + priced_count t starts)
@@ -94,18 +106,14 @@ module _ (t : Tables) (starts : Starts) (y : ℕ → ℤ) where
   no_parkings : (e : Line → ℤ) → ((p : Park) → e (Parking p) ≡ pos 0) → sum_below_ℤ (λ k. of_park k *ℤ e (Parking (park_of_number t k))) (park_count t) ≡ pos 0
   no_parkings e none = all_zero (λ k. of_park k *ℤ e (Parking (park_of_number t k))) (park_count t) (λ k below. ap (λ z. of_park k *ℤ z) (none (park_of_number t k)) ∙ *ℤ-zero (of_park k))
 
-  -- charges, which prices don't have yet, will say what parking lines come to
-  uncharged : (g : ℕ → ℤ) → sum_below_ℤ g (park_count t) ≡ pos 0
-  uncharged g = ap (sum_below_ℤ g) (no_parking_lines t)
+  no_counts : (e : Line → ℤ) → ((f : ℕ) → e (Count f) ≡ pos 0) → sum_below_ℤ (λ f. of_fleet f *ℤ e (Count f)) (fleets_in t) ≡ pos 0
+  no_counts e none = all_zero (λ f. of_fleet f *ℤ e (Count f)) (fleets_in t) (λ f known. ap (λ z. of_fleet f *ℤ z) (none f) ∙ *ℤ-zero (of_fleet f))
 
   no_covers : (e : Line → ℤ) → ((l : ℕ) → e (Cover l) ≡ pos 0) → sum_below_ℤ (λ l. y l *ℤ e (Cover l)) (legs_in t) ≡ pos 0
   no_covers e none = all_zero (λ l. y l *ℤ e (Cover l)) (legs_in t) (λ l below. ap (λ z. y l *ℤ z) (none l) ∙ *ℤ-zero (y l))
 
   no_balances : (e : Line → ℤ) → ((n : Node) → e (Balance n) ≡ pos 0) → over_nodes (λ f s k. of_node f s k *ℤ e (Balance (node_at f s k))) ≡ pos 0
-  no_balances e none =
-      all_zero (λ f. sum_below_ℤ (λ s. sum_below_ℤ (λ k. of_node f s k *ℤ e (Balance (node_at f s k))) (length (starts f s))) (stations_in t)) (fleets_in t)
-      (λ f known. all_zero (λ s. sum_below_ℤ (λ k. of_node f s k *ℤ e (Balance (node_at f s k))) (length (starts f s))) (stations_in t)
-      (λ s within. all_zero (λ k. of_node f s k *ℤ e (Balance (node_at f s k))) (length (starts f s)) (λ k below. ap (λ z. of_node f s k *ℤ z) (none (node_at f s k)) ∙ *ℤ-zero (of_node f s k))))
+  no_balances e none = over_nodes-zero (λ f s k. of_node f s k *ℤ e (Balance (node_at f s k))) (λ f s k known. ap (λ z. of_node f s k *ℤ z) (none (node_at f s k)) ∙ *ℤ-zero (of_node f s k))
 
   -- ---- a pair
   -- the numbers of nodes of a fleet at a station that a minute lies in
@@ -122,13 +130,16 @@ module _ (t : Tables) (starts : Starts) (y : ℕ → ℤ) where
       ∙ three_tests (a == f) (b == s) (is_in t (starts f s) k m) (of_node f s k))
       ∙ pick_nodes (fleets_in t) (stations_in t) a b (λ f s. length (starts f s)) (λ f s k. where_true (is_in t (starts f s) k m) (of_node f s k)) here there
 
-  module _ (p : Pair) (flown : IsFlown t p) (from : (leg_of t p.leg).from < stations_in t) (to : (leg_of t p.leg).to < stations_in t) where
-    flight_covers : sum_below_ℤ (λ l. y l *ℤ cover_entry l (Flight p)) (legs_in t) ≡ y p.leg
-    flight_covers =
-        sum_below_ℤ-same (λ l. y l *ℤ one_if (l == p.leg)) (λ l. where_true (p.leg == l) (y l)) (legs_in t)
-        (λ l below. times_one_if (l == p.leg) (y l) ∙ ap (λ b. where_true b (y l)) (flip l p.leg))
-        ∙ sum_below_ℤ-one p.leg y (legs_in t) flown.pair.leg
+  flight_covers : (p : Pair) → IsPair t p → sum_below_ℤ (λ l. y l *ℤ cover_entry l (Flight p)) (legs_in t) ≡ y p.leg
+  flight_covers p pair =
+      sum_below_ℤ-same (λ l. y l *ℤ one_if (l == p.leg)) (λ l. where_true (p.leg == l) (y l)) (legs_in t)
+      (λ l below. times_one_if (l == p.leg) (y l) ∙ ap (λ b. where_true b (y l)) (flip l p.leg))
+      ∙ sum_below_ℤ-one p.leg y (legs_in t) pair.leg
 
+  flight_parkings : (p : Pair) → sum_below_ℤ (λ k. of_park k *ℤ entry_of t starts (Parking (park_of_number t k)) (Flight p)) (park_count t) ≡ pos 0
+  flight_parkings p = no_parkings (λ line. entry_of t starts line (Flight p)) (λ q. refl)
+
+  module _ (p : Pair) (flown : IsFlown t p) (from : (leg_of t p.leg).from < stations_in t) (to : (leg_of t p.leg).to < stations_in t) where
     flight_balances : over_nodes (λ f s k. of_node f s k *ℤ balance_entry t starts (node_at f s k) (Flight p))
         ≡ at_minute (fleet_by t p) (leg_of t p.leg).to (ready_minute t p) -ℤ at_minute (fleet_by t p) (leg_of t p.leg).from (departure t p)
     flight_balances =
@@ -148,9 +159,32 @@ module _ (t : Tables) (starts : Starts) (y : ℕ → ℤ) where
 
     pub down_flight : down (λ line. entry_of t starts line (Flight p))
         ≡ y p.leg +ℤ ((at_minute (fleet_by t p) (leg_of t p.leg).to (ready_minute t p) -ℤ at_minute (fleet_by t p) (leg_of t p.leg).from (departure t p)) +ℤ (of_fleet (fleet_by t p) *ℤ pos (laps_of t p)))
-    down_flight = by_kinds (λ line. entry_of t starts line (Flight p)) ∙ omega (arith, ints, flight_covers, flight_balances, flight_counts, no_parkings (λ line. entry_of t starts line (Flight p)) (λ q. refl))
+    down_flight = by_kinds (λ line. entry_of t starts line (Flight p)) ∙ omega (arith, ints, flight_covers p flown.pair, flight_balances, flight_counts, flight_parkings p)
+
+  -- one that leaves its leg out stands in the leg's cover line alone
+  module _ (p : Pair) (pair : IsPair t p) (out : fleets_in t ≤ fleet_by t p) where
+    other_fleet : (f : ℕ) → f < fleets_in t → (f == fleet_by t p) ≡ false
+    other_fleet f known = grind (arith, nat_tests)
+
+    not_balanced : (f s k : ℕ) → f < fleets_in t → of_node f s k *ℤ balance_entry t starts (node_at f s k) (Flight p) ≡ pos 0
+    not_balanced f s k known =
+        ap (λ b. of_node f s k *ℤ (one_if (b && (((leg_of t p.leg).to == s) && is_in t (starts f s) k (ready_minute t p))) -ℤ one_if (b && (((leg_of t p.leg).from == s) && is_in t (starts f s) k (departure t p))))) (other_fleet f known)
+        ∙ *ℤ-zero (of_node f s k)
+
+    not_counted : (f : ℕ) → f < fleets_in t → of_fleet f *ℤ count_entry t starts f (Flight p) ≡ pos 0
+    not_counted f known = ap (λ b. of_fleet f *ℤ (if b then pos (laps_of t p) else pos 0)) (other_fleet f known) ∙ *ℤ-zero (of_fleet f)
+
+    pub down_left_out : down (λ line. entry_of t starts line (Flight p)) ≡ y p.leg
+    down_left_out =
+        let balances = over_nodes-zero (λ f s k. of_node f s k *ℤ balance_entry t starts (node_at f s k) (Flight p)) not_balanced in
+        let counts = all_zero (λ f. of_fleet f *ℤ count_entry t starts f (Flight p)) (fleets_in t) not_counted in
+        by_kinds (λ line. entry_of t starts line (Flight p)) ∙ omega (arith, ints, flight_covers p pair, balances, counts, flight_parkings p)
 
   -- ---- a ground arc
+  -- the numbers of the days whose end it passes
+  abbrev pub of_passed : Node → ℤ
+  of_passed a = sum_below_ℤ (λ k. where_true (passes_day_end t starts (park_of_number t k) a) (of_park k)) (park_count t)
+
   module _ (a : Node) (is_node : IsNode t starts a) where
     abbrev next : ℕ
     next = place_after (length (starts a.fleet a.station)) a.place
@@ -192,8 +226,11 @@ module _ (t : Tables) (starts : Starts) (y : ℕ → ℤ) where
         ∙ sum_below_ℤ-one a.fleet (λ f. where_true (length (starts f a.station) == a.place + 1) (of_fleet f)) (fleets_in t) is_node.fleet
 
     pub down_ground : down (λ line. entry_of t starts line (Ground a))
-        ≡ (of_node a.fleet a.station next -ℤ of_node a.fleet a.station a.place) +ℤ where_true (length (starts a.fleet a.station) == a.place + 1) (of_fleet a.fleet)
-    down_ground = by_kinds (λ line. entry_of t starts line (Ground a)) ∙ omega (arith, ints, no_covers (λ line. entry_of t starts line (Ground a)) (λ l. refl), ground_balances, ground_counts, uncharged (λ k. of_park k *ℤ entry_of t starts (Parking (park_of_number t k)) (Ground a)))
+        ≡ (of_node a.fleet a.station next -ℤ of_node a.fleet a.station a.place) +ℤ where_true (length (starts a.fleet a.station) == a.place + 1) (of_fleet a.fleet) +ℤ of_passed a
+    down_ground =
+        let parkings = sum_below_ℤ-same (λ k. of_park k *ℤ one_if (passes_day_end t starts (park_of_number t k) a)) (λ k. where_true (passes_day_end t starts (park_of_number t k) a) (of_park k)) (park_count t)
+        (λ k below. times_one_if (passes_day_end t starts (park_of_number t k) a) (of_park k)) in
+        by_kinds (λ line. entry_of t starts line (Ground a)) ∙ omega (arith, ints, no_covers (λ line. entry_of t starts line (Ground a)) (λ l. refl), ground_balances, ground_counts, parkings)
 
   -- ---- a slack
   pub down_slack : (g : ℕ) → g < fleets_in t → down (λ line. entry_of t starts line (Slack g)) ≡ of_fleet g
@@ -202,8 +239,16 @@ module _ (t : Tables) (starts : Starts) (y : ℕ → ℤ) where
       ∙ sum_below_ℤ-one g of_fleet (fleets_in t) known in
       by_kinds (λ line. entry_of t starts line (Slack g)) ∙ omega (arith, ints, no_covers (λ line. entry_of t starts line (Slack g)) (λ l. refl), no_balances (λ line. entry_of t starts line (Slack g)) (λ n. refl), counts, no_parkings (λ line. entry_of t starts line (Slack g)) (λ p. refl))
 
+  -- ---- the room at the end of a day
+  pub down_room : (p : Park) → IsPark t p → down (λ line. entry_of t starts line (Room p)) ≡ of_park (number_of_park t p)
+  down_room p known =
+      let parkings = sum_below_ℤ-same (λ k. of_park k *ℤ one_if (same_park (park_of_number t k) p)) (λ k. where_true (same_park (park_of_number t k) p) (of_park k)) (park_count t) (λ k below. times_one_if (same_park (park_of_number t k) p) (of_park k))
+      ∙ pick_park t (λ q. same_park q p) of_park p known (grind (arith, nat_tests)) (λ q within. same_as q p) in
+      by_kinds (λ line. entry_of t starts line (Room p)) ∙ omega (arith, ints, no_covers (λ line. entry_of t starts line (Room p)) (λ l. refl), no_balances (λ line. entry_of t starts line (Room p)) (λ n. refl), no_counts (λ line. entry_of t starts line (Room p)) (λ f. refl), parkings)
+
   -- ---- the right sides
-  pub down_sides : down (λ line. right_side_of t line) ≡ sum_below_ℤ y (legs_in t) +ℤ sum_below_ℤ (λ f. of_fleet f *ℤ pos (fleet_of t f).aircraft) (fleets_in t)
+  pub down_sides : down (λ line. right_side_of t line)
+      ≡ sum_below_ℤ y (legs_in t) +ℤ sum_below_ℤ (λ f. of_fleet f *ℤ pos (fleet_of t f).aircraft) (fleets_in t) +ℤ sum_below_ℤ (λ k. of_park k *ℤ pos (limit_of t (park_of_number t k).station)) (park_count t)
   down_sides =
       let covers = sum_below_ℤ-same (λ l. y l *ℤ pos 1) y (legs_in t) (λ l below. times_one (y l)) in
-      by_kinds (λ line. right_side_of t line) ∙ omega (arith, ints, covers, no_balances (λ line. right_side_of t line) (λ n. refl), uncharged (λ k. of_park k *ℤ right_side_of t (Parking (park_of_number t k))))
+      by_kinds (λ line. right_side_of t line) ∙ omega (arith, ints, covers, no_balances (λ line. right_side_of t line) (λ n. refl))

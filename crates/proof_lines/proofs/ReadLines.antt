@@ -3,14 +3,15 @@ use Rattle.std.proofs.Common.{◌≡◌, ℕ, ◌==◌, ◌&&◌, ◌||◌, Bool
 use Rattle.std.specs.Fmt.{decimal}
 use Rattle.std.proofs.lemmas.Bool.Decides.{nat_tests}
 use Rattle.sums.proofs.Tests.{first_true, second_true}
-use Rattle.fleet_model.specs.Use.{last_minute}
+use Rattle.fleet_model.specs.Schedule.{last_of}
 use Rattle.fleet_model.specs.declared.tables.Tables.{Tables}
 use Rattle.proof_lines.specs.Figures.{count_in, minute_in, natural_in, number_in, signed_in, version_in, version_word}
 use Rattle.proof_lines.specs.Forms.{all_forms, first_form, form_in, keywords, opens, width}
-use Rattle.proof_lines.specs.Known.{names_in, choice_in, fleet_in, leg_in, station_in}
+use Rattle.proof_lines.specs.Flaws.{both}
+use Rattle.proof_lines.specs.Known.{fleet_in, leg_in, names_in, pair_in, station_in}
 use Rattle.proof_lines.specs.Laws.{AreBytesOf, IsLineOf}
 use Rattle.proof_lines.specs.LineText.{IsCount, line_words}
-use Rattle.proof_lines.specs.Reading.{both, fields_in, line_in, of_form}
+use Rattle.proof_lines.specs.Reading.{fields_in, line_in, of_form}
 use Rattle.proof_lines.specs.Words.{Word, is_plain, is_word, joined, parts_of, stands, word_at, words_of}
 use Rattle.proof_lines.specs.declared.flaws.Flaw.TheVariants as flaw
 use Rattle.proof_lines.specs.declared.forms.Form.{Form}
@@ -21,7 +22,7 @@ use Rattle.proof_lines.specs.declared.line.Version.{Version}
 use Rattle.proof_lines.specs.declared.line.Version.TheVariants as version
 use Rattle.proof_lines.proofs.Choosing.{both_read, chose, figure_some, made_by}
 use Rattle.proof_lines.proofs.FigureWords.{same_bytes}
-use Rattle.proof_lines.proofs.Naming.{fleet_read, leg_read, station_read}
+use Rattle.proof_lines.proofs.Naming.{fleet_read, leg_read, pair_read, station_read}
 use Rattle.proof_lines.proofs.Shapes.{five_words, four_words, one_word, three_words, two_words}
 use Rattle.proof_lines.proofs.Spaces.{line_back}
 use Rattle.proof_lines.proofs.WrittenNumbers.{IsNumberWritten, IsWritten, natural_read, number_read}
@@ -55,8 +56,8 @@ second_is words form some e =
 number_was : (word : Word) (z : ℤ) → number_in word ≡ Ok z → IsNumberWritten z word
 number_was word z e = number_read z word (figure_some (signed_in word) z e)
 
-minute_was : (word : Word) (n : ℕ) → minute_in word ≡ Ok n → IsWritten last_minute n word
-minute_was word n e = natural_read last_minute n word (figure_some (natural_in last_minute word) n e)
+minute_was : (last : ℕ) (word : Word) (n : ℕ) → minute_in last word ≡ Ok n → IsWritten last n word
+minute_was last word n e = natural_read last n word (figure_some (natural_in last word) n e)
 
 pub record CountWas (n : ℕ) (word : Word) : Type 0 where
   pub word_is : word ≡ decimal n
@@ -159,20 +160,16 @@ module _ (v : Version) (t : Tables) (words : List Word) (it : Line) where
   trim_was : opens words form.Trim ≡ true → length words ≡ 3 → fields_in (names_in v t) form.Trim words ≡ Ok it → AreWordsOf t words it
   unfolding fields_in
   trim_was told many e =
-      let made = made_by _ (both (leg_in (names_in v t) (word_at words 1)) (choice_in (names_in v t) (word_at words 2))) it e in
-      let pair = both_read (leg_in (names_in v t) (word_at words 1)) (choice_in (names_in v t) (word_at words 2)) made.value made.is in
-      let leg = leg_read v t (word_at words 1) made.value.0 pair.first in
-      let choice = fleet_read v t (word_at words 2) made.value.1 pair.second in
-      subst (AreWordsOf t words) made.line_is (record { is = three_words words many ∙ (λ i. first_is words form.Trim told i ∷ leg.is i ∷ choice.is i ∷ []); of_tables = record { named = (leg.known, choice.known); figures = tt } })
+      let made = made_by _ (pair_in (names_in v t) (word_at words 1) (word_at words 2)) it e in
+      let pair = pair_read v t (word_at words 1) (word_at words 2) made.value made.is in
+      subst (AreWordsOf t words) made.line_is (record { is = three_words words many ∙ (λ i. first_is words form.Trim told i ∷ pair.leg_is i ∷ pair.choice_is i ∷ []); of_tables = record { named = pair.known; figures = tt } })
 
   split_was : opens words form.Split ≡ true → length words ≡ 3 → fields_in (names_in v t) form.Split words ≡ Ok it → AreWordsOf t words it
   unfolding fields_in
   split_was told many e =
-      let made = made_by _ (both (leg_in (names_in v t) (word_at words 1)) (choice_in (names_in v t) (word_at words 2))) it e in
-      let pair = both_read (leg_in (names_in v t) (word_at words 1)) (choice_in (names_in v t) (word_at words 2)) made.value made.is in
-      let leg = leg_read v t (word_at words 1) made.value.0 pair.first in
-      let choice = fleet_read v t (word_at words 2) made.value.1 pair.second in
-      subst (AreWordsOf t words) made.line_is (record { is = three_words words many ∙ (λ i. first_is words form.Split told i ∷ leg.is i ∷ choice.is i ∷ []); of_tables = record { named = (leg.known, choice.known); figures = tt } })
+      let made = made_by _ (pair_in (names_in v t) (word_at words 1) (word_at words 2)) it e in
+      let pair = pair_read v t (word_at words 1) (word_at words 2) made.value made.is in
+      subst (AreWordsOf t words) made.line_is (record { is = three_words words many ∙ (λ i. first_is words form.Split told i ∷ pair.leg_is i ∷ pair.choice_is i ∷ []); of_tables = record { named = pair.known; figures = tt } })
 
   scale_was : opens words form.Scale ≡ true → length words ≡ 2 → fields_in (names_in v t) form.Scale words ≡ Ok it → AreWordsOf t words it
   unfolding fields_in
@@ -200,26 +197,24 @@ module _ (v : Version) (t : Tables) (words : List Word) (it : Line) where
   at_was : opens words form.At ≡ true → length words ≡ 5 → fields_in (names_in v t) form.At words ≡ Ok it → AreWordsOf t words it
   unfolding fields_in
   at_was told many e =
-      let made = made_by _ (both (both (fleet_in (names_in v t) (word_at words 1)) (station_in (names_in v t) (word_at words 2))) (both (minute_in (word_at words 3)) (number_in (word_at words 4)))) it e in
-      let read = both_read (both (fleet_in (names_in v t) (word_at words 1)) (station_in (names_in v t) (word_at words 2))) (both (minute_in (word_at words 3)) (number_in (word_at words 4))) made.value made.is in
+      let made = made_by _ (both (both (fleet_in (names_in v t) (word_at words 1)) (station_in (names_in v t) (word_at words 2))) (both (minute_in (last_of t) (word_at words 3)) (number_in (word_at words 4)))) it e in
+      let read = both_read (both (fleet_in (names_in v t) (word_at words 1)) (station_in (names_in v t) (word_at words 2))) (both (minute_in (last_of t) (word_at words 3)) (number_in (word_at words 4))) made.value made.is in
       let place = both_read (fleet_in (names_in v t) (word_at words 1)) (station_in (names_in v t) (word_at words 2)) made.value.0 read.first in
-      let figures = both_read (minute_in (word_at words 3)) (number_in (word_at words 4)) made.value.1 read.second in
+      let figures = both_read (minute_in (last_of t) (word_at words 3)) (number_in (word_at words 4)) made.value.1 read.second in
       let fleet = fleet_read v t (word_at words 1) made.value.0.0 place.first in
       let station = station_read v t (word_at words 2) made.value.0.1 place.second in
-      let minute = minute_was (word_at words 3) made.value.1.0 figures.first in
+      let minute = minute_was (last_of t) (word_at words 3) made.value.1.0 figures.first in
       let number = number_was (word_at words 4) made.value.1.1 figures.second in
       subst (AreWordsOf t words) made.line_is (record { is = five_words words many ∙ (λ i. first_is words form.At told i ∷ fleet.is i ∷ station.is i ∷ minute.word_is i ∷ number.word_is i ∷ []); of_tables = record { named = (fleet.known, station.known); figures = (minute.within, number.figure) } })
 
   weight_was : opens words form.Weight ≡ true → length words ≡ 4 → fields_in (names_in v t) form.Weight words ≡ Ok it → AreWordsOf t words it
   unfolding fields_in
   weight_was told many e =
-      let made = made_by _ (both (both (leg_in (names_in v t) (word_at words 1)) (choice_in (names_in v t) (word_at words 2))) (number_in (word_at words 3))) it e in
-      let read = both_read (both (leg_in (names_in v t) (word_at words 1)) (choice_in (names_in v t) (word_at words 2))) (number_in (word_at words 3)) made.value made.is in
-      let pair = both_read (leg_in (names_in v t) (word_at words 1)) (choice_in (names_in v t) (word_at words 2)) made.value.0 read.first in
-      let leg = leg_read v t (word_at words 1) made.value.0.0 pair.first in
-      let choice = fleet_read v t (word_at words 2) made.value.0.1 pair.second in
+      let made = made_by _ (both (pair_in (names_in v t) (word_at words 1) (word_at words 2)) (number_in (word_at words 3))) it e in
+      let read = both_read (pair_in (names_in v t) (word_at words 1) (word_at words 2)) (number_in (word_at words 3)) made.value made.is in
+      let pair = pair_read v t (word_at words 1) (word_at words 2) made.value.0 read.first in
       let number = number_was (word_at words 3) made.value.1 read.second in
-      subst (AreWordsOf t words) made.line_is (record { is = four_words words many ∙ (λ i. first_is words form.Weight told i ∷ leg.is i ∷ choice.is i ∷ number.word_is i ∷ []); of_tables = record { named = (leg.known, choice.known); figures = number.figure } })
+      subst (AreWordsOf t words) made.line_is (record { is = four_words words many ∙ (λ i. first_is words form.Weight told i ∷ pair.leg_is i ∷ pair.choice_is i ∷ number.word_is i ∷ []); of_tables = record { named = pair.known; figures = number.figure } })
 
   end_was : opens words form.End ≡ true → length words ≡ 1 → fields_in (names_in v t) form.End words ≡ Ok it → AreWordsOf t words it
   unfolding fields_in
