@@ -1,6 +1,6 @@
 -- A proof whose tree is in written order is what its text reads as.
 use Rattle.bound_cert.proofs.LinesOfWords.{lines_named}
-use Rattle.bound_cert.proofs.NodesOfTables.{IsNodeOf, left_part, right_part, tree_of}
+use Rattle.bound_cert.proofs.NodesOfTables.{IsNodeOf, tree_of}
 use Rattle.bound_cert.proofs.ReadBack.{ok_same}
 use Rattle.bound_cert.proofs.ReadOn.{bound, refused}
 use Rattle.bound_cert.proofs.WrittenLines.{left_of_lines, line_read, names, texts, texts_append}
@@ -21,11 +21,8 @@ use Rattle.dual_bound.specs.declared.trees.Tree.{Tree}
 use Rattle.fleet_model.specs.declared.tables.Tables.{Tables}
 use Rattle.proof_lines.specs.Forms.{form_of}
 use Rattle.proof_lines.specs.LineText.{line_bytes}
-use Rattle.proof_lines.specs.Reading.{made}
-use Rattle.proof_lines.specs.declared.line.Line.{Line}
-use Rattle.std.proofs.Common.{[], ◌++◌, ◌+◌, ◌-◌, ◌<◌, ◌==◌, ◌∙◌, ◌∷◌, ◌≡◌, ◌≤◌, Bool, List, Ok, ap, append-nil, append_assoc, arith, cond, false, length, refl, subst, suc, sym, true, zero, ℕ}
+use Rattle.std.proofs.Common.{[], ◌++◌, ◌+◌, ◌<◌, ◌==◌, ◌∙◌, ◌∷◌, ◌≡◌, ◌≤◌, Bool, List, Ok, ap, append-nil, append_assoc, arith, cond, false, length, refl, subst, suc, sym, true, zero, ℕ}
 use Rattle.std.proofs.lemmas.Bool.Decides.{nat_tests}
-use Rattle.std.proofs.lemmas.Grind.{flat_map-append}
 use Rattle.std.proofs.lemmas.List.Elements.{All-head, All-tail, All-weaker}
 use Rattle.std.proofs.lemmas.List.{length-append, length-map}
 use Rattle.std.specs.List.{flat_map}
