@@ -15,7 +15,7 @@ use Rattle.proof_lines.specs.Forms.{form_in}
 use Rattle.proof_lines.specs.Known.{names_in}
 use Rattle.proof_lines.specs.Words.{words_of}
 use Rattle.proof_lines.specs.declared.line.Version.{Version}
-use Rattle.std.proofs.Common.{[], ◌++◌, ◌<◌, ◌==◌, ◌∙◌, ◌∷◌, ◌≡◌, ◌≤◌, ◌⊎◌, Bool, Err, List, None, Ok, Option, Some, ap, arith, cond, drop, false, inl, inr, length, length-append, refl, subst, suc, sym, true, zero, ℕ, ℤ}
+use Rattle.std.proofs.Common.{[], ◌++◌, ◌<◌, ◌==◌, ◌∙◌, ◌∷◌, ◌≡◌, ◌≤◌, ◌⊎◌, Bool, Err, List, None, Ok, Option, ap, arith, cond, drop, false, inl, inr, length, length-append, refl, subst, suc, sym, true, zero, ℕ, ℤ}
 use Rattle.std.specs.Prelude.{⊤}
 use Rattle.bound_cert.specs.declared.nodes.Head.TheVariants as head
 use Rattle.bound_cert.specs.declared.reading_lines.Due.TheVariants as due

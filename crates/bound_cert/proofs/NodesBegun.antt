@@ -9,7 +9,7 @@ use Rattle.bound_cert.proofs.WrittenNodes.{behind_line, node_read}
 use Rattle.bound_cert.proofs.WrittenPrices.{IsBehind}
 use Rattle.bound_cert.specs.FirstFault.{is_inner_line}
 use Rattle.bound_cert.specs.Lines.{◌>>=◌, Left, Reading}
-use Rattle.bound_cert.specs.Nodes.{Above, after_node, after_tree, nodes_from}
+use Rattle.bound_cert.specs.Nodes.{Above, after_node, after_tree, is_inner, nodes_from}
 use Rattle.bound_cert.specs.ProofText.{mixed_lines, price_lines, node_lines}
 use Rattle.bound_cert.specs.Reading.{body_at, head_at, mixed_at, mixed_node, node_at, priced_node, prices_at}
 use Rattle.bound_cert.specs.declared.nodes.Head.{Head}
@@ -31,22 +31,16 @@ use Rattle.bound_cert.specs.declared.nodes.Head.TheVariants as head
 use Rattle.dual_bound.specs.declared.nodes.Node.TheVariants as node
 use Rattle.proof_lines.specs.declared.line.Line.TheVariants as says
 
--- a trim or a split, which stands above other nodes
+-- how many trims and splits a node is
 abbrev inner_of : Node → ℕ
-inner_of (node.Trim leg fleet) = 1
-inner_of (node.Split leg fleet prices mixed) = 1
-inner_of (node.Bare leg) = 0
-inner_of node.Sole = 0
-inner_of (node.Refuted prices) = 0
-inner_of (node.Priced prices) = 0
-inner_of (node.Open prices why) = 0
+inner_of n = if is_inner n then 1 else 0
 
 module _ (t : Tables) where
   -- ---- what closes a proof: a sole leaf for each child that is missing
-  record Closes (above : Above) (nodes : List Node) : Type 0 where
+  record Closes (after : Above) (nodes : List Node) : Type 0 where
     more : Left
     value : List Node
-    reads : (z : Left) (k : ℕ) → IsBehind z → length (more ++ z) ≤ k → cond (length (after_tree above) == 0) (Ok (nodes, more ++ z)) (nodes_from (names t) k nodes (after_tree above) (more ++ z)) ≡ Ok (value, z)
+    reads : (z : Left) (k : ℕ) → IsBehind z → length (more ++ z) ≤ k → cond (length after == 0) (Ok (nodes, more ++ z)) (nodes_from (names t) k nodes after (more ++ z)) ≡ Ok (value, z)
     behind : (z : Left) → IsBehind z → IsBehind (more ++ z)
 
   -- behind a sole leaf
@@ -64,61 +58,28 @@ module _ (t : Tables) where
   not_empty : (b : Bool) (above : Above) → (length (b ∷ above) == 0) ≡ false
   not_empty b above = grind (arith, nat_tests)
 
-  closes : (above : Above) (nodes : List Node) → length above ≤ MAX_DEPTH → Closes above nodes
+  sole_closes : (first : Bool) (above : Above) (nodes : List Node) → length (first ∷ above) ≤ MAX_DEPTH → Closes (after_tree (first ∷ above)) (nodes ++ node.Sole ∷ []) → Closes (first ∷ above) nodes
+  sole_closes first above nodes few inner = record {
+    more = line_bytes t says.Sole ∷ inner.more;
+    value = inner.value;
+    reads = λ z k ends fuel.
+        refused (length (first ∷ above) == 0) _ _ (not_empty first above)
+        ∙ sole_then (first ∷ above) nodes inner.more z inner.value k few (inner.behind z ends) fuel (λ k fuel. inner.reads z k ends fuel);
+    behind = λ z ends. sole_behind (inner.more ++ z);
+  }
+
+  closes : (above : Above) (nodes : List Node) → length above ≤ MAX_DEPTH → Closes (after_tree above) nodes
   closes [] nodes few = record { more = []; value = nodes; reads = λ z k ends fuel. refl; behind = λ z ends. ends }
-  closes (true ∷ above) nodes few =
-      let inner = closes above nodes (omega (arith, few)) in
-      record { more = inner.more; value = inner.value; reads = inner.reads; behind = inner.behind }
-  closes (false ∷ above) nodes few =
-      let inner = closes above (nodes ++ node.Sole ∷ []) (omega (arith, few)) in
-      record {
-        more = line_bytes t says.Sole ∷ inner.more;
-        value = inner.value;
-        reads = λ z k ends fuel.
-            refused (length (true ∷ above) == 0) _ _ (not_empty true above)
-            ∙ sole_then (true ∷ above) nodes inner.more z inner.value k few (inner.behind z ends) fuel (λ k fuel. inner.reads z k ends fuel);
-        behind = λ z ends. sole_behind (inner.more ++ z);
-      }
+  closes (true ∷ above) nodes few = closes above nodes (omega (arith, few))
+  closes (false ∷ above) nodes few = sole_closes true above nodes few (closes above (nodes ++ node.Sole ∷ []) (omega (arith, few)))
 
   -- behind any node
-  record ClosesNode (n : Node) (above : Above) (nodes : List Node) : Type 0 where
-    more : Left
-    value : List Node
-    reads : (z : Left) (k : ℕ) → IsBehind z → length (more ++ z) ≤ k → cond (length (after_node n above) == 0) (Ok (nodes, more ++ z)) (nodes_from (names t) k nodes (after_node n above) (more ++ z)) ≡ Ok (value, z)
-    behind : (z : Left) → IsBehind z → IsBehind (more ++ z)
-
-  leaf_closes : (n : Node) (above : Above) (nodes : List Node) → after_node n above ≡ after_tree above → length above ≤ MAX_DEPTH → ClosesNode n above nodes
-  leaf_closes n above nodes same few =
-      let done = closes above nodes few in
-      record {
-        more = done.more;
-        value = done.value;
-        reads = λ z k ends fuel.
-            subst (λ s. cond (length s == 0) (Ok (nodes, done.more ++ z)) (nodes_from (names t) k nodes s (done.more ++ z)) ≡ Ok (done.value, z)) (sym same) (done.reads z k ends fuel);
-        behind = done.behind;
-      }
-
-  inner_closes : (n : Node) (above : Above) (nodes : List Node) → after_node n above ≡ false ∷ above → suc (length above) ≤ MAX_DEPTH → ClosesNode n above nodes
-  inner_closes n above nodes same few =
-      let done = closes (false ∷ above) (nodes ++ node.Sole ∷ []) few in
-      record {
-        more = line_bytes t says.Sole ∷ done.more;
-        value = done.value;
-        reads = λ z k ends fuel.
-            subst (λ s. cond (length s == 0) (Ok (nodes, line_bytes t says.Sole ∷ (done.more ++ z))) (nodes_from (names t) k nodes s (line_bytes t says.Sole ∷ (done.more ++ z))) ≡ Ok (done.value, z)) (sym same)
-            (refused (length (false ∷ above) == 0) _ _ (not_empty false above)
-            ∙ sole_then (false ∷ above) nodes done.more z done.value k few (done.behind z ends) fuel (λ k fuel. done.reads z k ends fuel));
-        behind = λ z ends. sole_behind (done.more ++ z);
-      }
-
-  node_closes : (n : Node) (above : Above) (nodes : List Node) → length above + inner_of n ≤ MAX_DEPTH → ClosesNode n above nodes
-  node_closes (node.Bare leg) above nodes few = leaf_closes (node.Bare leg) above nodes refl (omega (arith, few))
-  node_closes node.Sole above nodes few = leaf_closes node.Sole above nodes refl (omega (arith, few))
-  node_closes (node.Refuted prices) above nodes few = leaf_closes (node.Refuted prices) above nodes refl (omega (arith, few))
-  node_closes (node.Priced prices) above nodes few = leaf_closes (node.Priced prices) above nodes refl (omega (arith, few))
-  node_closes (node.Open prices why) above nodes few = leaf_closes (node.Open prices why) above nodes refl (omega (arith, few))
-  node_closes (node.Trim leg fleet) above nodes few = inner_closes (node.Trim leg fleet) above nodes refl (omega (arith, few))
-  node_closes (node.Split leg fleet prices mixed) above nodes few = inner_closes (node.Split leg fleet prices mixed) above nodes refl (omega (arith, few))
+  node_closes : (n : Node) (above : Above) (nodes : List Node) → length above + inner_of n ≤ MAX_DEPTH → Closes (after_node n above) nodes
+  node_closes n above nodes few = by_kind (is_inner n) few
+    where
+      by_kind : (b : Bool) → length above + (if b then 1 else 0) ≤ MAX_DEPTH → Closes (if b then false ∷ above else after_tree above) nodes
+      by_kind true few = sole_closes false above nodes (omega (arith, few)) (closes (false ∷ above) (nodes ++ node.Sole ∷ []) (omega (arith, few)))
+      by_kind false few = closes above nodes (omega (arith, few))
 
   -- ---- how deep it goes on
   after_tree_less : (above : Above) → length (after_tree above) ≤ length above
@@ -127,13 +88,11 @@ module _ (t : Tables) where
   after_tree_less (false ∷ above) = omega arith
 
   after_node_less : (n : Node) (above : Above) → length (after_node n above) ≤ length above + inner_of n
-  after_node_less (node.Bare leg) above = omega (arith, after_tree_less above)
-  after_node_less node.Sole above = omega (arith, after_tree_less above)
-  after_node_less (node.Refuted prices) above = omega (arith, after_tree_less above)
-  after_node_less (node.Priced prices) above = omega (arith, after_tree_less above)
-  after_node_less (node.Open prices why) above = omega (arith, after_tree_less above)
-  after_node_less (node.Trim leg fleet) above = omega arith
-  after_node_less (node.Split leg fleet prices mixed) above = omega arith
+  after_node_less n above = by_kind (is_inner n)
+    where
+      by_kind : (b : Bool) → length (if b then false ∷ above else after_tree above) ≤ length above + (if b then 1 else 0)
+      by_kind true = omega arith
+      by_kind false = omega (arith, after_tree_less above)
 
   count_is : (x : List ℕ) (p : Left) → count_by is_inner_line (x ∷ p) ≡ (if is_inner_line x then 1 else 0) + count_by is_inner_line p
   count_is x p = sum_by-cons (λ x. if is_inner_line x then 1 else 0) x p
@@ -157,41 +116,28 @@ module _ (t : Tables) where
   inner_first above x a read e = by_node read.0 (node_was t above (x ∷ a) read e).order (node_was t above (x ∷ a) read e).text
     where
       by_node : (n : Node) → IsNodeInOrder t n → x ∷ a ≡ texts t (node_lines t n) ++ read.1 → 0 < inner_of n → is_inner_line x ≡ true
-      by_node (node.Bare leg) order text some = absurd (omega (arith, some))
-      by_node node.Sole order text some = absurd (omega (arith, some))
-      by_node (node.Refuted prices) order text some = absurd (omega (arith, some))
-      by_node (node.Priced prices) order text some = absurd (omega (arith, some))
-      by_node (node.Open prices why) order text some = absurd (omega (arith, some))
       by_node (node.Trim leg fleet) order text some =
           ap (λ y. is_inner_line y) (first_same x (line_bytes t (says.Trim leg fleet)) _ _ text) ∙ inner_line (says.Trim leg fleet) order refl
       by_node (node.Split leg fleet prices mixed) order text some =
           ap (λ y. is_inner_line y) (first_same x (line_bytes t (says.Split leg fleet)) _ _ text) ∙ inner_line (says.Split leg fleet) order.0 refl
+      by_node other order text some = absurd (omega (arith, some))
 
   inner_counts : (above : ℕ) (x : List ℕ) (p a : Left) (read : Node × Left) → node_at (names t) above (x ∷ a) ≡ Ok read → inner_of read.0 + count_by is_inner_line p ≤ count_by is_inner_line (x ∷ p)
   inner_counts above x p a read e = by_size (inner_of read.0) refl
     where
-      one : (n : Node) → inner_of n ≤ 1
-      one (node.Bare leg) = omega arith
-      one node.Sole = omega arith
-      one (node.Refuted prices) = omega arith
-      one (node.Priced prices) = omega arith
-      one (node.Open prices why) = omega arith
-      one (node.Trim leg fleet) = omega arith
-      one (node.Split leg fleet prices mixed) = omega arith
+      one : (b : Bool) → (if b then 1 else 0) ≤ 1
+      one true = omega arith
+      one false = omega arith
 
       by_size : (k : ℕ) → inner_of read.0 ≡ k → inner_of read.0 + count_by is_inner_line p ≤ count_by is_inner_line (x ∷ p)
       by_size zero none = omega (arith, none, count_cons x p)
-      by_size (suc k) some = omega (arith, one read.0, count_inner x p (inner_first above x a read e (omega (arith, some))))
+      by_size (suc k) some = omega (arith, one (is_inner read.0), count_inner x p (inner_first above x a read e (omega (arith, some))))
 
   lines_count : (n : Node) → IsNodeInOrder t n → inner_of n ≤ count_by is_inner_line (texts t (node_lines t n))
-  lines_count (node.Bare leg) order = omega arith
-  lines_count node.Sole order = omega arith
-  lines_count (node.Refuted prices) order = omega arith
-  lines_count (node.Priced prices) order = omega arith
-  lines_count (node.Open prices why) order = omega arith
   lines_count (node.Trim leg fleet) order = omega (arith, count_inner (line_bytes t (says.Trim leg fleet)) [] (inner_line (says.Trim leg fleet) order refl))
   lines_count (node.Split leg fleet prices mixed) order =
       omega (arith, count_inner (line_bytes t (says.Split leg fleet)) (texts t (price_lines t prices ++ mixed_lines mixed)) (inner_line (says.Split leg fleet) order.0 refl))
+  lines_count other order = omega arith
 
   node_counts : (above : ℕ) (n : Node) (p rest end : Left) → node_at (names t) above (p ++ end) ≡ Ok (n, rest ++ end) → inner_of n + count_by is_inner_line rest ≤ count_by is_inner_line p
   node_counts above n p rest end e =
@@ -284,7 +230,7 @@ module _ (t : Tables) where
           need = λ z ends. tt;
         }
       where
-        by_fuel : (nodes : List Node) (above : Above) (x : List ℕ) (p : Left) (done : Completes (λ m. ⊤) (node_at (names t) (length above)) (x ∷ p)) (closed : ClosesNode done.value above (nodes ++ done.value ∷ [])) (z : Left) (k : ℕ)
+        by_fuel : (nodes : List Node) (above : Above) (x : List ℕ) (p : Left) (done : Completes (λ m. ⊤) (node_at (names t) (length above)) (x ∷ p)) (closed : Closes (after_node done.value above) (nodes ++ done.value ∷ [])) (z : Left) (k : ℕ)
             → IsBehind z → length (x ∷ (p ++ ((done.more ++ closed.more) ++ z))) ≤ k → nodes_from (names t) k nodes above (x ∷ (p ++ ((done.more ++ closed.more) ++ z))) ≡ Ok (closed.value, z)
         by_fuel nodes above x p done closed z k ends fuel =
             let lines : (done.more ++ closed.more) ++ z ≡ done.more ++ (closed.more ++ z) = append_assoc done.more closed.more z in

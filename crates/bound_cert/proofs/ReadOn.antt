@@ -9,7 +9,6 @@ use Rattle.proof_lines.specs.declared.line.Line.{Line}
 use Rattle.proof_lines.specs.Words.{seen, words_of}
 use Rattle.std.proofs.Common.{[], ◌++◌, ◌+◌, ◌<◌, ◌∙◌, ◌∷◌, ◌≡◌, Bool, Bor, Err, List, None, Ok, Option, Some, add-one, ap, append_assoc, arith, cond, drop, false, length, pos, refl, replicate, suc, sym, true, zero, ℕ, ℤ}
 use Rattle.bound_cert.specs.declared.faults.Stop.TheVariants as stop
-use Rattle.bound_cert.specs.declared.reading_lines.Due.TheVariants as due
 
 -- a line begins as one that may stand where one of this kind is due
 abbrev pub begins : Left → Due → Bool

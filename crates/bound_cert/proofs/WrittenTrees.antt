@@ -1,6 +1,6 @@
 -- A proof whose tree is in written order is what its text reads as.
 use Rattle.bound_cert.proofs.LinesOfWords.{lines_named}
-use Rattle.bound_cert.proofs.NodesOfTables.{IsNodeOf, left_part, right_part, tree_of}
+use Rattle.bound_cert.proofs.NodesOfTables.{IsNodeOf, tree_of}
 use Rattle.bound_cert.proofs.ReadBack.{ok_same}
 use Rattle.bound_cert.proofs.ReadOn.{bound, refused}
 use Rattle.bound_cert.proofs.WrittenLines.{left_of_lines, line_read, names, texts, texts_append}
@@ -22,11 +22,8 @@ use Rattle.dual_bound.specs.declared.trees.Tree.{Tree}
 use Rattle.fleet_model.specs.declared.tables.Tables.{Tables}
 use Rattle.proof_lines.specs.Forms.{form_of}
 use Rattle.proof_lines.specs.LineText.{line_bytes}
-use Rattle.proof_lines.specs.Reading.{made}
-use Rattle.proof_lines.specs.declared.line.Line.{Line}
-use Rattle.std.proofs.Common.{[], ◌++◌, ◌+◌, ◌-◌, ◌<◌, ◌==◌, ◌∙◌, ◌∷◌, ◌≡◌, ◌≤◌, Bool, List, Ok, ap, append-nil, append_assoc, arith, cond, false, length, refl, subst, suc, sym, true, zero, ℕ}
+use Rattle.std.proofs.Common.{[], ◌++◌, ◌+◌, ◌<◌, ◌==◌, ◌∙◌, ◌∷◌, ◌≡◌, ◌≤◌, Bool, List, Ok, ap, append-nil, append_assoc, arith, cond, false, length, refl, subst, suc, sym, true, zero, ℕ}
 use Rattle.std.proofs.lemmas.Bool.Decides.{nat_tests}
-use Rattle.std.proofs.lemmas.Grind.{flat_map-append}
 use Rattle.std.proofs.lemmas.List.Elements.{All-head, All-nil, All-tail, All-weaker}
 use Rattle.std.proofs.lemmas.List.{length-append, length-map}
 use Rattle.std.specs.List.{flat_map}
@@ -39,13 +36,8 @@ use Rattle.proof_lines.specs.declared.line.Line.TheVariants as says
 use Rattle.proof_lines.specs.declared.line.Version.TheVariants as version
 
 some_line : (t : Tables) (n : Node) → 1 ≤ length (node_lines t n)
-some_line t (node.Bare leg) = omega arith
 some_line t node.Sole = omega arith
-some_line t (node.Refuted prices) = omega arith
-some_line t (node.Priced prices) = omega arith
-some_line t (node.Open prices why) = omega arith
-some_line t (node.Trim leg fleet) = omega arith
-some_line t (node.Split leg fleet prices mixed) = omega arith
+some_line t other = omega arith
 
 no_more_nodes : (t : Tables) (nodes : List Node) → length nodes ≤ length (flat_map (node_lines t) nodes)
 no_more_nodes t [] = omega arith
@@ -117,11 +109,6 @@ below first above [] begins = begins
 below first above (n ∷ nodes) begins = begins
 
 tree_begins : (whole : Tree) (above : Above) (more : List Node) → length above + depth_of whole ≤ MAX_DEPTH → Goes (after_tree above) more → Begins above (nodes_of whole ++ more)
-tree_begins (tree.Bare leg) above more shallow goes = (omega (arith, shallow), goes)
-tree_begins tree.Sole above more shallow goes = (omega (arith, shallow), goes)
-tree_begins (tree.Refuted prices) above more shallow goes = (omega (arith, shallow), goes)
-tree_begins (tree.Priced prices) above more shallow goes = (omega (arith, shallow), goes)
-tree_begins (tree.Open prices why) above more shallow goes = (omega (arith, shallow), goes)
 tree_begins (tree.Trim' leg fleet p with_pair q without) above more shallow goes =
     let second = tree_begins without (true ∷ above) more (right_depth (length above) MAX_DEPTH (depth_of with_pair) (depth_of without) shallow) goes in
     let first = tree_begins with_pair (false ∷ above) (nodes_of without ++ more) (left_depth (length above) MAX_DEPTH (depth_of with_pair) (depth_of without) shallow) (below true above (nodes_of without ++ more) second) in
@@ -130,6 +117,7 @@ tree_begins (tree.Split' leg fleet prices mixed p with_pair q without) above mor
     let second = tree_begins without (true ∷ above) more (right_depth (length above) MAX_DEPTH (depth_of with_pair) (depth_of without) shallow) goes in
     let first = tree_begins with_pair (false ∷ above) (nodes_of without ++ more) (left_depth (length above) MAX_DEPTH (depth_of with_pair) (depth_of without) shallow) (below true above (nodes_of without ++ more) second) in
     (omega (arith, shallow), subst (Goes (false ∷ above)) (sym (append_assoc (nodes_of with_pair) (nodes_of without) more)) (below false above (nodes_of with_pair ++ (nodes_of without ++ more)) first))
+tree_begins other above more shallow goes = (omega (arith, shallow), goes)
 
 -- the end, the plan, and all
 
@@ -166,9 +154,7 @@ whole_read t whole are shallow =
 
 cause_of : (t : Tables) (why : Cause) → IsCauseInOrder t why → IsCauseOf t why
 cause_of t (cause.Nodes mixed) is = All-weaker (IsWeightInOrder t) (IsWeightOf t) (λ entry is. is.pair) mixed.weights is.each
-cause_of t (cause.Pivots made) is = tt
-cause_of t (cause.Grew pivots row column) is = tt
-cause_of t (cause.Lift step at) is = tt
+cause_of t other is = tt
 
 prices_of : (t : Tables) (prices : Prices) → ArePricesInOrder t prices → ArePricesOf t prices
 prices_of t prices are = record { steps = steps_of t prices.steps are.steps.each; charges = rw are.no_charges (All-nil (IsChargeOf t)) }

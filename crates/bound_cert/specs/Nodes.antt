@@ -30,15 +30,15 @@ after_tree [] = []
 after_tree (true ∷ above) = after_tree above
 after_tree (false ∷ above) = true ∷ above
 
+-- the node is a trim or a split, below which two trees stand
+abbrev pub is_inner : Node → Bool
+is_inner (node.Trim leg choice) = true
+is_inner (node.Split leg choice prices mixed) = true
+is_inner other = false
+
 -- what stands above the next node behind a node
 abbrev pub after_node : Node → Above → Above
-after_node (node.Bare leg) above = after_tree above
-after_node node.Sole above = after_tree above
-after_node (node.Refuted prices) above = after_tree above
-after_node (node.Priced prices) above = after_tree above
-after_node (node.Open prices why) above = after_tree above
-after_node (node.Trim leg fleet) above = false ∷ above
-after_node (node.Split leg fleet prices mixed) above = false ∷ above
+after_node n above = if is_inner n then false ∷ above else after_tree above
 
 -- the nodes of a tree, from those that are read so far, and what is left behind their lines; at most so many
 unfoldable pub nodes_from : Naming → ℕ → List Node → Above → Left → Reading (List Node × Left)

@@ -14,3 +14,8 @@ own_fleet t l f leg fleet = refl
 pub pairs_are_own : (t : Tables) (p : Pair) → IsPair t p → own_pair t p.leg (fleet_by t p) ≡ p
 unfolding own_choice fleet_by
 pairs_are_own t p pair = refl
+
+-- a fleet flies a leg at its own time by one choice, whichever tables they are of
+pub own_alike : (t u : Tables) → own_choice t ≡ own_choice u
+unfolding own_choice
+own_alike t u = refl

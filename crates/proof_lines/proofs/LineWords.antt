@@ -29,22 +29,11 @@ keywords_are : (form : Form) → All IsWord (keywords form)
 keywords_are form.Head = two _ _ (written _ _ refl) (written _ _ refl)
 keywords_are form.PlanYes = two _ _ (written _ _ refl) (written _ _ refl)
 keywords_are form.PlanNo = two _ _ (written _ _ refl) (written _ _ refl)
-keywords_are form.Bare = one _ (written _ _ refl)
-keywords_are form.Sole = one _ (written _ _ refl)
-keywords_are form.Refuted = one _ (written _ _ refl)
-keywords_are form.Priced = one _ (written _ _ refl)
 keywords_are form.OpenNodes = two _ _ (written _ _ refl) (written _ _ refl)
 keywords_are form.OpenPivots = two _ _ (written _ _ refl) (written _ _ refl)
 keywords_are form.OpenGrew = two _ _ (written _ _ refl) (written _ _ refl)
 keywords_are form.OpenLift = two _ _ (written _ _ refl) (written _ _ refl)
-keywords_are form.Trim = one _ (written _ _ refl)
-keywords_are form.Split = one _ (written _ _ refl)
-keywords_are form.Scale = one _ (written _ _ refl)
-keywords_are form.Rent = one _ (written _ _ refl)
-keywords_are form.At = one _ (written _ _ refl)
-keywords_are form.Mixed = one _ (written _ _ refl)
-keywords_are form.Weight = one _ (written _ _ refl)
-keywords_are form.End = one _ (written _ _ refl)
+keywords_are other = one _ (written _ _ refl)
 
 version_is : (v : Version) → IsWord (version_word v)
 version_is version.One = written _ _ refl
@@ -82,24 +71,7 @@ fields_are t line is = All-append IsWord (names_of t line) (figures_of line) (na
 
 some_words : (form : Form) (fields : List Word) → 1 ≤ length (keywords form ++ fields)
 some_words form.Head fields = omega arith
-some_words form.PlanYes fields = omega arith
-some_words form.PlanNo fields = omega arith
-some_words form.Bare fields = omega arith
-some_words form.Sole fields = omega arith
-some_words form.Refuted fields = omega arith
-some_words form.Priced fields = omega arith
-some_words form.OpenNodes fields = omega arith
-some_words form.OpenPivots fields = omega arith
-some_words form.OpenGrew fields = omega arith
-some_words form.OpenLift fields = omega arith
-some_words form.Trim fields = omega arith
-some_words form.Split fields = omega arith
-some_words form.Scale fields = omega arith
-some_words form.Rent fields = omega arith
-some_words form.At fields = omega arith
-some_words form.Mixed fields = omega arith
-some_words form.Weight fields = omega arith
-some_words form.End fields = omega arith
+some_words other fields = omega arith
 
 pub of_words : (t : Tables) (line : Line) → IsNamed t line → IsOfWords (line_words t line)
 of_words t line is =
@@ -111,41 +83,11 @@ pub as_many : (t : Tables) (line : Line) → length (line_words t line) ≡ widt
 as_many t (line.Head v) = refl
 as_many t (line.Plan true) = refl
 as_many t (line.Plan false) = refl
-as_many t (line.Bare leg) = refl
-as_many t line.Sole = refl
-as_many t line.Refuted = refl
-as_many t line.Priced = refl
-as_many t line.OpenNodes = refl
-as_many t (line.OpenPivots made) = refl
-as_many t (line.OpenGrew pivots row column) = refl
-as_many t (line.OpenLift step at) = refl
-as_many t (line.Trim leg choice) = refl
-as_many t (line.Split leg choice) = refl
-as_many t (line.Scale scale) = refl
-as_many t (line.Rent fleet rent) = refl
-as_many t (line.At fleet station minute value) = refl
-as_many t (line.Mixed scale) = refl
-as_many t (line.Weight leg choice weight) = refl
-as_many t line.End = refl
+as_many t other = refl
 
 pub form_told : (t : Tables) (line : Line) → form_in (line_words t line) ≡ Some (form_of line)
 unfolding all_forms
 form_told t (line.Head v) = refl
 form_told t (line.Plan true) = refl
 form_told t (line.Plan false) = refl
-form_told t (line.Bare leg) = refl
-form_told t line.Sole = refl
-form_told t line.Refuted = refl
-form_told t line.Priced = refl
-form_told t line.OpenNodes = refl
-form_told t (line.OpenPivots made) = refl
-form_told t (line.OpenGrew pivots row column) = refl
-form_told t (line.OpenLift step at) = refl
-form_told t (line.Trim leg choice) = refl
-form_told t (line.Split leg choice) = refl
-form_told t (line.Scale scale) = refl
-form_told t (line.Rent fleet rent) = refl
-form_told t (line.At fleet station minute value) = refl
-form_told t (line.Mixed scale) = refl
-form_told t (line.Weight leg choice weight) = refl
-form_told t line.End = refl
+form_told t other = refl
