@@ -1,5 +1,6 @@
 -- Records that read as legs keep what legs keep.
-use Rattle.std.proofs.Common.{◌≡◌, ◌≢◌, ◌<◌, ◌&&◌, ◌==◌, ℕ, ℤ, pos, false, not, nat_le, List, length, map, Result, Ok, Err, refl, ap, subst, arith, pos_of_ne-zero}
+use Rattle.std.proofs.Common.{◌≡◌, ◌≢◌, ◌<◌, ◌==◌, ℕ, ℤ, pos, false, not, nat_le, List, length, map, Result, Ok, Err, refl, ap, subst, arith, pos_of_ne-zero}
+use Rattle.std.specs.List.{list_all}
 use Rattle.std.specs.Str.{is_utf8}
 use Rattle.std.proofs.lemmas.Bool.{eqb-false}
 use Rattle.std.proofs.lemmas.Int.{ints}
@@ -58,7 +59,7 @@ new_leg : (stations : List (List ℕ)) (settings : Settings) (found : Form) (ear
 unfolding leg_read
 new_leg stations settings found earlier fields leg reads =
     let wide = width_ok (leg_fields found fields) _ leg reads in
-    let text = not_refused (not (is_utf8 wide.0.0 && is_utf8 wide.0.1 && is_utf8 wide.0.2 && is_utf8 wide.0.3 && is_utf8 wide.0.4 && is_utf8 wide.0.5)) NOT_TEXT _ leg wide.2 in
+    let text = not_refused (not (list_all is_utf8 fields)) NOT_TEXT _ leg wide.2 in
     let flight = form_ok (name_of wide.0.0) _ leg text.1 in
     let day = form_ok (day_of settings wide.0.1) _ leg flight.2 in
     let from = form_ok (station_code_of wide.0.2) _ leg day.2 in

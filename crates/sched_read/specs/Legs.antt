@@ -1,5 +1,6 @@
 -- What a file of legs reads as.
-use Rattle.std.specs.Prelude.{ℕ, pos, ◌+◌, ◌-◌, ◌*◌, ◌%◌, not, ◌==◌, ◌&&◌, nat_le, List, ◌∷◌, [], length, codes, Option, None, option_map, Result, Ok}
+use Rattle.std.specs.Prelude.{ℕ, pos, ◌+◌, ◌-◌, ◌*◌, ◌%◌, not, ◌==◌, nat_le, List, ◌∷◌, [], length, codes, Option, None, option_map, Result, Ok}
+use Rattle.std.specs.List.{list_all}
 use Rattle.std.specs.Str.{is_utf8}
 use Rattle.csv_fields.specs.declared.fault.FieldFault.{FieldFault}
 use Rattle.csv_fields.specs.Name.{name_of, station_code_of}
@@ -64,7 +65,7 @@ from_day_start settings minute = (minute + MINUTES_PER_DAY - settings.day_start)
 unfoldable pub leg_read : List (List ℕ) → Settings → Form → List (List ℕ) → Fields → Result Leg ℕ
 leg_read stations settings found earlier fields =
     of_width (leg_fields found fields) (λ (flight, day, from, dep, to, arr).
-    refused_where (not (is_utf8 flight && is_utf8 day && is_utf8 from && is_utf8 dep && is_utf8 to && is_utf8 arr)) NOT_TEXT
+    refused_where (not (list_all is_utf8 fields)) NOT_TEXT
     (well_formed (name_of flight) (λ _.
     well_formed (day_of settings day) (λ on.
     well_formed (station_code_of from) (λ _.

@@ -1,4 +1,6 @@
 ghost use Rattle.std.specs.Prelude.{◌≡◌, ◌≢◌, ◌≤◌, ◌<◌, [], AllPairs, IfOk, MatchResult, length, map, option_map};
+ghost use Rattle.std.specs.List.{list_all};
+ghost use Rattle.std.specs.Str.{is_utf8};
 ghost use Rattle.csv_fields.specs.Record.{records_of};
 ghost use Rattle.fleet_model.specs.Limits.{AreLegs, AreSettings};
 ghost use Rattle.fleet_model.specs.declared.limits.TheConstants.{MAX_STATIONS, MINUTES_PER_DAY};
@@ -122,13 +124,7 @@ impl RowReader for LegReader {
         let Some((flight, day, from, dep, to, arr)) = leg_fields(self.form, row) else {
             return Err(RecordError::Bad { kind: WRONG_WIDTH });
         };
-        if !(is_text(flight)
-            && is_text(day)
-            && is_text(from)
-            && is_text(dep)
-            && is_text(to)
-            && is_text(arr))
-        {
+        if !are_text(row) {
             return Err(RecordError::Bad { kind: NOT_TEXT });
         }
         flight_name(flight)?;
@@ -163,6 +159,16 @@ impl RowReader for LegReader {
             to: to as u32,
             block,
         })
+    }
+}
+
+/// Whether all fields of a record are UTF-8.
+fn are_text(row: &[Vec<u8>]) -> bool
+    ensures { result ≡ list_all is_utf8 (fields_in row.now) }
+{
+    match row.split_first() {
+        Some((field, rest)) => is_text(field) && are_text(rest),
+        None => true,
     }
 }
 

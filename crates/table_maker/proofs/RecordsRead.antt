@@ -52,10 +52,9 @@ pub leg_one : (stations : List (List ℕ)) (settings : Settings) (earlier : List
 unfolding leg_read digits
 leg_one stations settings earlier flight from to a b leaves lands block one form from_form to_form from_is to_is away fresh few is some =
     let text = (name_kept flight form).text in
-    let day_text = (name_kept (codes "1") (number_is_name 1 (omega arith))).text in
     let from_text = (name_kept from (code_is_name from from_form)).text in
     let to_text = (name_kept to (code_is_name to to_form)).text in
-    rw (text, day_text, from_text, (clock_kept leaves).text, to_text, (clock_kept lands).text)
+    rw (text, from_text, (clock_kept leaves).text, to_text, (clock_kept lands).text)
     (rw (name_reads flight form, first_day settings one, code_reads from from_form, clock_reads leaves, code_reads to to_form, clock_reads lands)
     (rw (fresh, from_is, to_is, is, some, away, lt-leb MAX_LEGS (length earlier) few, one_day settings (leaves % MINUTES_PER_DAY) one) refl))
 
