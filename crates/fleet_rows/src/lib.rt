@@ -27,6 +27,8 @@ mod made;
 #[cfg(test)]
 mod making;
 #[cfg(test)]
+mod outgrown;
+#[cfg(test)]
 mod outside;
 #[cfg(test)]
 mod periods;

@@ -35,3 +35,4 @@ pub mod PaidLifts
 pub mod OutlineRises
 pub mod PaidEnds
 pub mod PaidResults
+pub mod PartScales

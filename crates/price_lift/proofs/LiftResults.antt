@@ -1,5 +1,5 @@
 -- What calls give on, by their results.
-use Rattle.std.proofs.Common.{◌≡◌, ℕ, List, Option, Some, None, Result, Ok, Err, IfOk, IfErr, MatchResult, refl, subst}
+use Rattle.std.proofs.Common.{◌≡◌, ℕ, List, Option, Some, None, Result, Ok, Err, IfOk, IfErr, MatchResult, refl, sym, ap, subst}
 use Rattle.sums.specs.Places.{first_below, or_else}
 use Rattle.frac_row.specs.declared.row.FracRow.{FracRow}
 use Rattle.fleet_model.specs.declared.tables.Tables.{Tables}
@@ -11,13 +11,15 @@ use Rattle.dual_lift.specs.TooLarge.{IsLiftError, best_value_excess, phases_exce
 use Rattle.dual_lift.specs.declared.error.Excess.{Excess}
 use Rattle.dual_lift.specs.declared.error.LiftError.{LiftError}
 use Rattle.dual_lift.specs.declared.mixture.Mixture.{Mixture}
+use Rattle.dual_lift.specs.declared.reading.Reading.{Reading}
 use Rattle.dual_lift.specs.declared.reading.Reading.TheVariants.{BothRows, PhaseRow}
 use Rattle.dual_lift.specs.declared.error.LiftError.TheVariants.{NoMemory, TooLarge}
+use Rattle.dual_lift.proofs.Excesses.{first_none}
 use Rattle.lp_rows.specs.Layout.{IsNetwork, Starts}
 use Rattle.price_lift.specs.PaidBack.{FitsBy, IsLiftErrorBy, payback_excess_by}
 use Rattle.price_lift.specs.Duals.{best_duals, refusal_duals}
 use Rattle.price_lift.specs.LastTables.{none_excess, point_excess, prices_excess_by}
-use Rattle.price_lift.specs.TooLarge.{best_excess, first_priced, point_ends, prices_excess, refusal_excess}
+use Rattle.price_lift.specs.TooLarge.{best_duals_excess, best_excess, first_priced, point_ends, prices_excess, refusal_excess}
 use Rattle.price_lift.specs.Wanted.{IsWantedBehind}
 use Rattle.price_lift.specs.declared.lift.Lifted.{Lifted}
 
@@ -50,8 +52,8 @@ module _ (P : Lifted → Type 0) (o : Option Excess) (r : Result Lifted LiftErro
       by_result (Err e) is = subst (λ q. IsLiftError q e) same is
 
 -- memory may be wanting behind what fits
-pub behind : (o : Option Excess) (r : Result Lifted LiftError) → o ≡ None → IfErr r (IsWantedBehind o)
-behind o (Ok lifted) fits = tt
+pub behind : {X : Type 0} (o : Option Excess) (r : Result X LiftError) → o ≡ None → IfErr r (IsWantedBehind o)
+behind o (Ok value) fits = tt
 behind o (Err (TooLarge step at)) fits = tt
 behind o (Err NoMemory) fits = fits
 
@@ -75,6 +77,21 @@ best_excess_is t keeps table basis mixture starts fits =
     shift a None None d e none = rw none refl
     shift a None (Some x) d e none = rw none refl
     shift a (Some x) c d e none = rw none refl
+
+-- dual values that fit, by prices that do, and in the words of each end
+pub duals_fit : (t : Tables) (table : List FracRow) (reading : Reading) → prices_excess_by t table reading ≡ None → duals_excess table reading (legs_in t) ≡ None
+unfolding prices_excess_by
+duals_fit t table reading fits = first_none _ _ fits
+
+pub best_duals_behind : (t : Tables) (table : List FracRow) (mixture : Mixture) (r : Result Lifted LiftError) → first_below (phases_excess table) (real_columns table) ≡ None → IfErr r (IsWantedBehind (duals_excess table (BothRows mixture) (legs_in t)))
+    → IfErr r (IsWantedBehind (best_duals_excess t table))
+unfolding duals_excess
+best_duals_behind t table mixture r fits wanted =
+    subst (λ o. IfErr r (IsWantedBehind o)) (ap (λ o. or_else o (or_else (scale_excess table) (first_priced t table (best_value_excess table)))) (sym fits)) wanted
+
+pub refusal_duals_behind : (t : Tables) (table : List FracRow) (r : Result Lifted LiftError) → IfErr r (IsWantedBehind (duals_excess table PhaseRow (legs_in t))) → IfErr r (IsWantedBehind (first_priced t table (refusal_value_excess table)))
+unfolding duals_excess
+refusal_duals_behind t table r wanted = wanted
 
 nested : (a b c : Option Excess) → or_else (or_else a b) c ≡ or_else a (or_else b c)
 nested None b c = refl

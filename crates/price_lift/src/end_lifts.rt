@@ -1,7 +1,8 @@
 //! Prices and fractional assignments from ends that were checked.
-ghost use Rattle.std.specs.Prelude.{◌≡◌, ◌+◌, ◌<◌, ◌≤◌, ℕ, pos, int_lt, ◌<ℤ◌, drop, length, IfOk, IfErr, IsSomeAnd, None, MatchResult};
+ghost use Rattle.std.specs.Prelude.{◌≡◌, ◌+◌, ◌<◌, ◌≤◌, ℕ, pos, int_lt, ◌<ℤ◌, drop, length, IfOk, IfErr, IsSomeAnd, None, Some, MatchResult, unsigned_abs};
 ghost use Rattle.frac_row.specs.Outgrown.{IsWithin};
-ghost use Rattle.frac_row.specs.Row.{IsRow, reduced, width_of};
+ghost use Rattle.sums.specs.Divisors.{gcd};
+ghost use Rattle.frac_row.specs.Row.{IsRow, common_divisor, reduced, width_of};
 ghost use Rattle.fleet_model.specs.Kept.{kept_by};
 ghost use Rattle.fleet_model.specs.Schedule.{legs_in};
 ghost use Rattle.row_store.specs.declared.problem.Rows.{Rows};
@@ -19,13 +20,15 @@ ghost use Rattle.price_lift.specs.TooLarge.{prices_excess};
 ghost use Rattle.price_lift.specs.Wanted.{IsWantedBehind};
 
 use crate::lift::Lifted;
+use crate::lowest::fits;
 use crate::paying::paid_back;
 use crate::pricing::prices_of;
 use crate::weighing::{pair_count, weights};
 use dual_bound::prices::MAX_SCALE;
 use dual_bound::{Mixed, Prices};
-use dual_lift::LiftError;
 use dual_lift::error::WEIGHTS_STEP;
+use dual_lift::numbers::quotient;
+use dual_lift::{Excess, LiftError};
 use end_check::{PointHint, RefusalHint};
 use entries::{Entries, NoMemory};
 use fleet_model::{Kept, Tables};
@@ -54,6 +57,7 @@ pub fn lift_end(
     ensures weights { IfOk result (λ lifted. IsSomeAnd lifted.mixed (IsMixedOfParts (pair_parts tables.now (kept_by kept.now) hint.now) (all_kept tables.now (kept_by kept.now)))) }
     ensures fits { IfOk result (λ _. FitsBy tables.now (kept_by kept.now) (end_excess tables.now (kept_by kept.now) hint.now)) }
     ensures too_large { IfErr result (IsLiftErrorBy tables.now (kept_by kept.now) (end_excess tables.now (kept_by kept.now) hint.now)) }
+    ensures memory { IfErr result (IsWantedBehind (prices_excess (legs_in tables.now) (end_duals tables.now hint.now))) }
 {
     lifted_end(alloc, hint, tables, kept, outline)
 }
@@ -76,6 +80,7 @@ pub fn lift_refusing_end(
     ensures prices { IfOk result (λ lifted. AreLiftedPrices tables.now (kept_by kept.now) (refusing_duals tables.now hint.now) lifted.prices) }
     ensures fits { IfOk result (λ _. FitsBy tables.now (kept_by kept.now) (refusing_excess tables.now (kept_by kept.now) hint.now)) }
     ensures too_large { IfErr result (IsLiftErrorBy tables.now (kept_by kept.now) (refusing_excess tables.now (kept_by kept.now) hint.now)) }
+    ensures memory { IfErr result (IsWantedBehind (prices_excess (legs_in tables.now) (refusing_duals tables.now hint.now))) }
 {
     lifted_refusing(alloc, hint, tables, kept, outline)
 }
@@ -90,9 +95,10 @@ fn lifted_end(
 ) -> Result<Lifted, LiftError>
     requires outline { IsOutline tables.now (kept_by kept.now) outline.now }
     requires ends { (rows : Rows) × AreLinesOf tables.now (kept_by kept.now) rows × IsPricedEnd rows hint.now }
-    ensures { MatchResult result
+    ensures lifted { MatchResult result
         (λ lifted. (end_excess tables.now (kept_by kept.now) hint.now (starts_in outline.now.network) ≡ None) × IsLiftOf tables.now (kept_by kept.now) hint.now lifted)
         (IsLiftError (end_excess tables.now (kept_by kept.now) hint.now (starts_in outline.now.network))) }
+    ensures memory { IfErr result (IsWantedBehind (prices_excess (legs_in tables.now) (end_duals tables.now hint.now))) }
 {
     let before = end_prices(
         alloc,
@@ -119,9 +125,10 @@ fn lifted_refusing(
 ) -> Result<Lifted, LiftError>
     requires outline { IsOutline tables.now (kept_by kept.now) outline.now }
     requires ends { (rows : Rows) × AreLinesOf tables.now (kept_by kept.now) rows × IsRefusedEnd rows hint.now }
-    ensures { MatchResult result
+    ensures lifted { MatchResult result
         (λ lifted. (refusing_excess tables.now (kept_by kept.now) hint.now (starts_in outline.now.network) ≡ None) × IsLiftOfRefusing tables.now (kept_by kept.now) hint.now lifted)
         (IsLiftError (refusing_excess tables.now (kept_by kept.now) hint.now (starts_in outline.now.network))) }
+    ensures memory { IfErr result (IsWantedBehind (prices_excess (legs_in tables.now) (refusing_duals tables.now hint.now))) }
 {
     let before = end_prices(alloc, hint.multipliers.as_slice(), 1, tables, outline)?;
     let prices = paid_back(alloc, tables, outline, before)?;
@@ -131,7 +138,8 @@ fn lifted_refusing(
     })
 }
 
-// The prices by the nodes of values of the lines, over their scale.
+// The prices by the nodes of values of the lines, over their scale. That they are within their limits is found before memory
+// is taken.
 fn end_prices(
     alloc: Global,
     values: &[i128],
@@ -143,12 +151,15 @@ fn end_prices(
     requires long { length values.now ≡ legs_in tables.now + (length outline.now.nodes + outline.now.fleets + length outline.now.parks) }
     requires within { (line : ℕ) → IsWithin (value_in values.now line) }
     requires scale { pos 0 <ℤ scale }
-    ensures { MatchResult result
+    ensures prices { MatchResult result
         (λ prices. (prices_excess (legs_in tables.now) (priced_values tables.now values.now scale) ≡ None)
         × (prices ≡ prices_by tables.now (starts_in outline.now.network) (reduced (priced_values tables.now values.now scale))))
         (IsLiftError (prices_excess (legs_in tables.now) (priced_values tables.now values.now scale))) }
+    ensures memory { IfErr result (IsWantedBehind (prices_excess (legs_in tables.now) (priced_values tables.now values.now scale))) }
 {
-    let duals = priced_row(alloc, values, scale, outline.first_priced_line())?;
+    let first = outline.first_priced_line();
+    fits(first, &values[first as usize..], &scale)?;
+    let duals = priced_row(alloc, values, scale, first)?;
     prices_of(alloc, tables, outline, duals)
 }
 
@@ -164,16 +175,20 @@ fn priced_row(alloc: Global, values: &[i128], scale: i128, first: u32) -> Result
     })
 }
 
-// The weights of the pairs: their parts of the point, in lowest terms.
+// The weights of the pairs: their parts of the point, in lowest terms. That their scale is within its limit is found before
+// memory is taken.
 fn end_mixed(alloc: Global, hint: &PointHint, outline: &Outline) -> Result<Mixed, LiftError>
     requires some { 0 < hint.now.scale }
     requires long { length outline.now.pairs ≤ length hint.now.point }
-    ensures { MatchResult result
+    ensures mixed { MatchResult result
         (λ mixed. (parts_excess (first_parts hint.now.point hint.now.scale (length outline.now.pairs)) ≡ None) × IsMixedOfParts (first_parts hint.now.point hint.now.scale (length outline.now.pairs)) outline.now.pairs mixed)
         (IsLiftError (parts_excess (first_parts hint.now.point hint.now.scale (length outline.now.pairs)))) }
+    ensures memory { IfErr result (IsWantedBehind (parts_excess (first_parts hint.now.point hint.now.scale (length outline.now.pairs)))) }
 {
     let count = pair_count(outline);
-    let parts = row_of_parts(alloc, hint.point.as_slice(), hint.scale, count)?;
+    let point = hint.point.as_slice();
+    parts_fit(point, hint.scale, count)?;
+    let parts = row_of_parts(alloc, point, hint.scale, count)?;
     mixed_of(alloc, outline, parts)
 }
 
@@ -199,6 +214,46 @@ fn mixed_of(alloc: Global, outline: &Outline, parts: FracRow) -> Result<Mixed, L
         scale: lowest.den,
         weights: Entries::from_vec(weights),
     })
+}
+
+// That the scale of the parts of the first columns, in lowest terms, is within its limit. Takes no memory.
+fn parts_fit(point: &[u64], scale: u64, count: u32) -> Result<(), Excess>
+    requires some { 0 < scale }
+    requires long { count ≤ length point.now }
+    ensures { MatchResult result
+        (λ _. parts_excess (first_parts point.now scale count) ≡ None)
+        (λ excess. parts_excess (first_parts point.now scale count) ≡ Some excess) }
+{
+    let divisor = parts_divisor(point, scale, count);
+    if is_past_scale(&quotient(&whole(scale), &divisor)) {
+        return Err(Excess {
+            step: WEIGHTS_STEP,
+            at: 0,
+        });
+    }
+    Ok(())
+}
+
+// The greatest common divisor of those parts and their scale.
+fn parts_divisor(point: &[u64], scale: u64, count: u32) -> i128
+    requires some { 0 < scale }
+    requires long { count ≤ length point.now }
+    ensures value { result ≡ pos (common_divisor (first_parts point.now scale count)) }
+    ensures positive { pos 0 <ℤ result }
+{
+    let mut divisor = whole(scale);
+    for column in 0..count {
+        divisor = divisor_with(&divisor, point[column as usize]);
+    }
+    divisor
+}
+
+// The greatest common divisor of one so far and a part.
+fn divisor_with(divisor: &i128, part: u64) -> i128
+    requires { IsWithin divisor.now }
+    ensures { result ≡ pos (gcd (unsigned_abs divisor.now) part) }
+{
+    frac_row::gcd(*divisor, whole(part))
 }
 
 // Whether a scale is past the limit of scales.

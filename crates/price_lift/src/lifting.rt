@@ -1,20 +1,18 @@
 //! Prices and fractional assignments from last tables, by the outline of the subproblem's linear program.
 ghost use Rattle.std.specs.Prelude.{◌≡◌, ℕ, List, None, IfOk, IfErr, MatchResult};
-ghost use Rattle.sums.specs.Places.{first_below};
 ghost use Rattle.fleet_model.specs.Kept.{kept_by};
 ghost use Rattle.fleet_model.specs.Schedule.{legs_in};
 ghost use Rattle.simplex_frac.specs.declared.turn.Turn.TheVariants as turns;
 ghost use Rattle.lp_rows.specs.Layout.{starts_in};
 ghost use Rattle.lp_rows.specs.Outline.{IsOutline};
-ghost use Rattle.dual_lift.specs.Duals.{real_columns};
-ghost use Rattle.dual_lift.specs.Readings.{duals_by};
-ghost use Rattle.dual_lift.specs.TooLarge.{IsLiftError, phases_excess};
+ghost use Rattle.dual_lift.specs.Readings.{duals_by, duals_excess};
+ghost use Rattle.dual_lift.specs.TooLarge.{IsLiftError, refusal_value_excess};
 ghost use Rattle.price_lift.specs.Duals.{best_duals, refusal_duals};
 ghost use Rattle.price_lift.specs.Ends.{Ends};
 ghost use Rattle.price_lift.specs.LastTables.{IsLastBy, IsPointBy, IsRefusalBy, none_excess, point_excess, prices_excess_by};
 ghost use Rattle.price_lift.specs.Lifted.{AreNodePrices, IsLiftedPoint, IsLiftedRefusal};
 ghost use Rattle.price_lift.specs.PaidBack.{FitsBy, IsLiftErrorBy};
-ghost use Rattle.price_lift.specs.TooLarge.{best_excess, refusal_excess};
+ghost use Rattle.price_lift.specs.TooLarge.{best_duals_excess, best_excess, first_priced, refusal_excess};
 ghost use Rattle.price_lift.specs.Wanted.{IsWantedBehind};
 
 use crate::lift::Lifted;
@@ -42,7 +40,7 @@ pub fn lift_best_with<R: RowStore>(
     ensures lifted { IfOk result (IsLiftedPoint tables.now (kept_by kept.now) (R.content table.now) basis.now (best_duals tables.now (R.content table.now))) }
     ensures fits { IfOk result (λ _. FitsBy tables.now (kept_by kept.now) (best_excess tables.now (kept_by kept.now) (R.content table.now) basis.now)) }
     ensures too_large { IfErr result (IsLiftErrorBy tables.now (kept_by kept.now) (best_excess tables.now (kept_by kept.now) (R.content table.now) basis.now)) }
-    ensures memory { IfErr result (IsWantedBehind (first_below (phases_excess (R.content table.now)) (real_columns (R.content table.now)))) }
+    ensures memory { IfErr result (IsWantedBehind (best_duals_excess tables.now (R.content table.now))) }
 {
     let mixture = Mixture::of(table, outline.column_count())?;
     let reading = Reading::BothRows(mixture);
@@ -63,6 +61,7 @@ pub fn lift_refusal_with<R: RowStore>(
     ensures lifted { IfOk result (IsLiftedRefusal tables.now (kept_by kept.now) (refusal_duals tables.now (R.content table.now))) }
     ensures fits { IfOk result (λ _. FitsBy tables.now (kept_by kept.now) (refusal_excess tables.now (kept_by kept.now) (R.content table.now))) }
     ensures too_large { IfErr result (IsLiftErrorBy tables.now (kept_by kept.now) (refusal_excess tables.now (kept_by kept.now) (R.content table.now))) }
+    ensures memory { IfErr result (IsWantedBehind (first_priced tables.now (R.content table.now) (refusal_value_excess (R.content table.now)))) }
 {
     lift_none(alloc, table, &Reading::PhaseRow, tables, kept, outline)
 }
@@ -79,10 +78,11 @@ fn lift_point<R: RowStore>(
 ) -> Result<Lifted, LiftError>
     requires outline { IsOutline tables.now (kept_by kept.now) outline.now }
     requires ends { IsPointBy tables.now (kept_by kept.now) (R.content table.now) basis.now reading.now }
-    ensures { MatchResult result
+    ensures lifted { MatchResult result
         (λ lifted. (point_excess tables.now (kept_by kept.now) (R.content table.now) basis.now reading.now (starts_in outline.now.network) ≡ None)
         × IsLiftedPoint tables.now (kept_by kept.now) (R.content table.now) basis.now (duals_by (R.content table.now) reading.now (legs_in tables.now)) lifted)
         (IsLiftError (point_excess tables.now (kept_by kept.now) (R.content table.now) basis.now reading.now (starts_in outline.now.network))) }
+    ensures memory { IfErr result (IsWantedBehind (duals_excess (R.content table.now) reading.now (legs_in tables.now))) }
 {
     let before = lift_prices(alloc, table, reading, tables, kept, outline)?;
     let mixed = basic_mixed(alloc, table, basis, outline)?;
@@ -104,10 +104,11 @@ fn lift_none<R: RowStore>(
 ) -> Result<Lifted, LiftError>
     requires outline { IsOutline tables.now (kept_by kept.now) outline.now }
     requires ends { (basis : List ℕ) × IsRefusalBy tables.now (kept_by kept.now) (R.content table.now) basis reading.now }
-    ensures { MatchResult result
+    ensures lifted { MatchResult result
         (λ lifted. (none_excess tables.now (kept_by kept.now) (R.content table.now) reading.now (starts_in outline.now.network) ≡ None)
         × IsLiftedRefusal tables.now (kept_by kept.now) (duals_by (R.content table.now) reading.now (legs_in tables.now)) lifted)
         (IsLiftError (none_excess tables.now (kept_by kept.now) (R.content table.now) reading.now (starts_in outline.now.network))) }
+    ensures memory { IfErr result (IsWantedBehind (duals_excess (R.content table.now) reading.now (legs_in tables.now))) }
 {
     let before = lift_prices(alloc, table, reading, tables, kept, outline)?;
     let prices = paid_back(alloc, tables, outline, before)?;
@@ -128,10 +129,11 @@ fn lift_prices<R: RowStore>(
 ) -> Result<Prices, LiftError>
     requires outline { IsOutline tables.now (kept_by kept.now) outline.now }
     requires ends { (basis : List ℕ) × IsLastBy tables.now (kept_by kept.now) (R.content table.now) basis reading.now }
-    ensures { MatchResult result
+    ensures prices { MatchResult result
         (λ prices. (prices_excess_by tables.now (R.content table.now) reading.now ≡ None)
         × AreNodePrices tables.now (kept_by kept.now) (starts_in outline.now.network) (duals_by (R.content table.now) reading.now (legs_in tables.now)) prices)
         (IsLiftError (prices_excess_by tables.now (R.content table.now) reading.now)) }
+    ensures memory { IfErr result (IsWantedBehind (duals_excess (R.content table.now) reading.now (legs_in tables.now))) }
 {
     let columns = outline.column_count();
     let duals = duals(alloc, table, reading, columns, outline.first_priced_line())?;

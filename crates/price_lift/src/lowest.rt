@@ -1,5 +1,5 @@
 //! Dual values in lowest terms, within the limits of prices.
-ghost use Rattle.std.specs.Prelude.{◌≡◌, ◌<◌, ◌^◌, None, Some, MatchResult};
+ghost use Rattle.std.specs.Prelude.{◌≡◌, ◌<◌, ◌^◌, length, None, Some, MatchResult};
 ghost use Rattle.frac_row.specs.Row.{IsRow, reduced, width_of};
 ghost use Rattle.dual_bound.specs.Prices.{max_price, max_scale};
 ghost use Rattle.price_lift.specs.TooLarge.{prices_excess};
@@ -18,6 +18,17 @@ pub(crate) fn lowest(first: u32, duals: FracRow) -> Result<FracRow, Excess>
         (λ excess. prices_excess first duals ≡ Some excess) }
 {
     dual_lift::lowest(first, duals, &price_limits())
+}
+
+/// Whether values over a scale are within the limits of prices in lowest terms. Takes no memory.
+pub(crate) fn fits(first: u32, values: &[i128], scale: &i128) -> Result<(), Excess>
+    requires row { IsRow (record { numbers = values.now; den = scale.now }) }
+    requires few { length values.now < 2 ^ 32 }
+    ensures { MatchResult result
+        (λ _. prices_excess first (record { numbers = values.now; den = scale.now }) ≡ None)
+        (λ excess. prices_excess first (record { numbers = values.now; den = scale.now }) ≡ Some excess) }
+{
+    dual_lift::fits(first, values, scale, &price_limits())
 }
 
 // The limits of prices.

@@ -3,16 +3,16 @@ use Rattle.price_lift.proofs.LiftResults.{fails_by, fails_so, fits_by, well_fits
 use Rattle.price_lift.proofs.end_lifts.lift_end.Goals as goal
 
 pub returns-clause-lifted : goal.returns-clause-lifted
-returns-clause-lifted c = well_lifted _ _ c.lifted_end.result c.lifted_end.ensures _ (λ lifted is. is.end)
+returns-clause-lifted c = well_lifted _ _ c.lifted_end.result c.lifted_end.ensures.lifted _ (λ lifted is. is.end)
 
 pub returns-clause-prices : goal.returns-clause-prices
-returns-clause-prices c = well_lifted _ _ c.lifted_end.result c.lifted_end.ensures _ (λ lifted is. is.prices)
+returns-clause-prices c = well_lifted _ _ c.lifted_end.result c.lifted_end.ensures.lifted _ (λ lifted is. is.prices)
 
 pub returns-clause-weights : goal.returns-clause-weights
-returns-clause-weights c = well_lifted _ _ c.lifted_end.result c.lifted_end.ensures _ (λ lifted is. is.weights)
+returns-clause-weights c = well_lifted _ _ c.lifted_end.result c.lifted_end.ensures.lifted _ (λ lifted is. is.weights)
 
 pub returns-clause-fits : goal.returns-clause-fits
-returns-clause-fits c = fits_by _ _ _ _ c.requires.outline.network c.lifted_end.result (well_fits _ _ c.lifted_end.result c.lifted_end.ensures _ refl)
+returns-clause-fits c = fits_by _ _ _ _ c.requires.outline.network c.lifted_end.result (well_fits _ _ c.lifted_end.result c.lifted_end.ensures.lifted _ refl)
 
 pub returns-clause-too_large : goal.returns-clause-too_large
-returns-clause-too_large c = fails_by _ _ _ _ c.requires.outline.network c.lifted_end.result (fails_so _ _ c.lifted_end.result c.lifted_end.ensures _ refl)
+returns-clause-too_large c = fails_by _ _ _ _ c.requires.outline.network c.lifted_end.result (fails_so _ _ c.lifted_end.result c.lifted_end.ensures.lifted _ refl)

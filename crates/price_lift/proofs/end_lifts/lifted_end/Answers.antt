@@ -7,8 +7,8 @@ use Rattle.frac_row.specs.Outgrown.{IsWithin}
 use Rattle.frac_row.specs.Row.{IsRow}
 use Rattle.fleet_model.specs.Kept.{kept_by}
 use Rattle.fleet_model.specs.Schedule.{legs_in}
-use Rattle.dual_lift.specs.TooLarge.{IsLiftError}
-use Rattle.dual_lift.proofs.Excesses.{first_fails}
+use Rattle.dual_lift.specs.TooLarge.{IsLiftError, IsWantedBehind}
+use Rattle.dual_lift.proofs.Excesses.{first_fails, wanted_behind}
 use Rattle.price_lift.specs.EndLifts.{end_duals, end_excess, priced_values}
 use Rattle.price_lift.specs.TooLarge.{prices_excess}
 use Rattle.price_lift.proofs.EndLifts.{end_lifted, mixed_fails, nodes_priced, pairs_within, paying_fails, priced_by, priced_is_row, values_long}
@@ -18,48 +18,71 @@ pub end_prices-requires-clause-long : goal.end_prices-requires-clause-long
 end_prices-requires-clause-long c =
     ap length c.as_slice.ensures ∙ values_long c.args.tables.now (kept_by c.args.kept.now) c.requires.ends.0 c.requires.ends.1 c.args.hint.now.duals c.requires.ends.2.duals c.args.hint.now.dual_scale c.args.outline.now c.requires.outline
 
-pub returns-in_err-before : goal.returns-in_err-before
+pub returns-in_err-before-clause-lifted : goal.returns-in_err-before-clause-lifted
 unfolding end_excess
-returns-in_err-before c =
+returns-in_err-before-clause-lifted c =
     let f : SFits w128 c.args.hint.now.dual_scale = search rules in
     let p = err_from_is_err_and c.from_residual.result c.from_residual.ensures.1 in
     rw (p.1, p.2)
     (first_fails _ _ c.in_err-before.field-0.0 (subst (λ s. IsLiftError (prices_excess (legs_in c.args.tables.now) (priced_values c.args.tables.now c.args.hint.now.duals s)) c.in_err-before.field-0.0) (to_z-of_z w128 c.args.hint.now.dual_scale f)
-    (subst (λ values. IsLiftError (prices_excess (legs_in c.args.tables.now) (priced_values c.args.tables.now values (to_z w128 (of_z w128 c.args.hint.now.dual_scale)))) c.in_err-before.field-0.0) c.as_slice.ensures c.in_err-before.ensures)))
+    (subst (λ values. IsLiftError (prices_excess (legs_in c.args.tables.now) (priced_values c.args.tables.now values (to_z w128 (of_z w128 c.args.hint.now.dual_scale)))) c.in_err-before.field-0.0) c.as_slice.ensures c.in_err-before.ensures.prices)))
 
 pub end_mixed-requires-clause-long : goal.end_mixed-requires-clause-long
 end_mixed-requires-clause-long c = pairs_within c.args.tables.now (kept_by c.args.kept.now) c.requires.ends.0 c.requires.ends.1 c.args.hint.now c.requires.ends.2 c.args.outline.now c.requires.outline
 
-pub returns-in_err-mixed : goal.returns-in_err-mixed
-returns-in_err-mixed c =
+pub returns-in_err-mixed-clause-lifted : goal.returns-in_err-mixed-clause-lifted
+returns-in_err-mixed-clause-lifted c =
     let f : SFits w128 c.args.hint.now.dual_scale = search rules in
     let fits : IsWithin c.args.hint.now.dual_scale = omega (arith, ints, f.sfits, c.requires.ends.2.values.some) in
     let row : IsRow (end_duals c.args.tables.now c.args.hint.now) = priced_is_row c.args.tables.now c.args.hint.now.duals c.args.hint.now.dual_scale c.requires.ends.2.duals.within fits c.requires.ends.2.values.some in
-    let priced = priced_by c.args.tables.now c.args.outline.now c.in_ok-before.before _ _ _ _ c.as_slice.ensures (to_z-of_z w128 c.args.hint.now.dual_scale f) c.in_ok-before.ensures in
+    let priced = priced_by c.args.tables.now c.args.outline.now c.in_ok-before.before _ _ _ _ c.as_slice.ensures (to_z-of_z w128 c.args.hint.now.dual_scale f) c.in_ok-before.ensures.prices in
     let p = err_from_is_err_and c.from_residual-in_err-mixed.result c.from_residual-in_err-mixed.ensures.1 in
-    rw (p.1, p.2) (mixed_fails c.args.tables.now (kept_by c.args.kept.now) c.requires.ends.0 c.requires.ends.1 c.args.hint.now c.requires.ends.2 c.args.outline.now c.requires.outline c.in_ok-before.before priced row c.in_err-mixed.field-0.0 c.in_err-mixed.ensures)
+    rw (p.1, p.2) (mixed_fails c.args.tables.now (kept_by c.args.kept.now) c.requires.ends.0 c.requires.ends.1 c.args.hint.now c.requires.ends.2 c.args.outline.now c.requires.outline c.in_ok-before.before priced row c.in_err-mixed.field-0.0 c.in_err-mixed.ensures.mixed)
 
 pub paid_back-requires-clause-within : goal.paid_back-requires-clause-within
 paid_back-requires-clause-within c =
     let f : SFits w128 c.args.hint.now.dual_scale = search rules in
     let fits : IsWithin c.args.hint.now.dual_scale = omega (arith, ints, f.sfits, c.requires.ends.2.values.some) in
     let row : IsRow (end_duals c.args.tables.now c.args.hint.now) = priced_is_row c.args.tables.now c.args.hint.now.duals c.args.hint.now.dual_scale c.requires.ends.2.duals.within fits c.requires.ends.2.values.some in
-    let priced = priced_by c.args.tables.now c.args.outline.now c.in_ok-before.before _ _ _ _ c.as_slice.ensures (to_z-of_z w128 c.args.hint.now.dual_scale f) c.in_ok-before.ensures in
+    let priced = priced_by c.args.tables.now c.args.outline.now c.in_ok-before.before _ _ _ _ c.as_slice.ensures (to_z-of_z w128 c.args.hint.now.dual_scale f) c.in_ok-before.ensures.prices in
     (nodes_priced c.args.tables.now (kept_by c.args.kept.now) c.requires.ends.0 c.requires.ends.1 c.args.hint.now c.requires.ends.2 c.args.outline.now c.requires.outline c.in_ok-before.before priced row).limits
 
-pub returns-in_err-prices : goal.returns-in_err-prices
-returns-in_err-prices c =
+pub returns-in_err-prices-clause-lifted : goal.returns-in_err-prices-clause-lifted
+returns-in_err-prices-clause-lifted c =
     let f : SFits w128 c.args.hint.now.dual_scale = search rules in
     let fits : IsWithin c.args.hint.now.dual_scale = omega (arith, ints, f.sfits, c.requires.ends.2.values.some) in
     let row : IsRow (end_duals c.args.tables.now c.args.hint.now) = priced_is_row c.args.tables.now c.args.hint.now.duals c.args.hint.now.dual_scale c.requires.ends.2.duals.within fits c.requires.ends.2.values.some in
-    let priced = priced_by c.args.tables.now c.args.outline.now c.in_ok-before.before _ _ _ _ c.as_slice.ensures (to_z-of_z w128 c.args.hint.now.dual_scale f) c.in_ok-before.ensures in
+    let priced = priced_by c.args.tables.now c.args.outline.now c.in_ok-before.before _ _ _ _ c.as_slice.ensures (to_z-of_z w128 c.args.hint.now.dual_scale f) c.in_ok-before.ensures.prices in
     let p = err_from_is_err_and c.from_residual-in_err-prices.result c.from_residual-in_err-prices.ensures.1 in
-    rw (p.1, p.2) (paying_fails c.args.tables.now (kept_by c.args.kept.now) c.requires.ends.0 c.requires.ends.1 c.args.hint.now c.requires.ends.2 c.args.outline.now c.requires.outline c.in_ok-before.before priced row c.in_ok-mixed.mixed c.in_ok-mixed.ensures c.in_err-prices.field-0.0 c.in_err-prices.ensures)
+    rw (p.1, p.2) (paying_fails c.args.tables.now (kept_by c.args.kept.now) c.requires.ends.0 c.requires.ends.1 c.args.hint.now c.requires.ends.2 c.args.outline.now c.requires.outline c.in_ok-before.before priced row c.in_ok-mixed.mixed c.in_ok-mixed.ensures.mixed c.in_err-prices.field-0.0 c.in_err-prices.ensures)
 
-pub returns : goal.returns
-returns c =
+pub returns-clause-lifted : goal.returns-clause-lifted
+returns-clause-lifted c =
     let f : SFits w128 c.args.hint.now.dual_scale = search rules in
     let fits : IsWithin c.args.hint.now.dual_scale = omega (arith, ints, f.sfits, c.requires.ends.2.values.some) in
     let row : IsRow (end_duals c.args.tables.now c.args.hint.now) = priced_is_row c.args.tables.now c.args.hint.now.duals c.args.hint.now.dual_scale c.requires.ends.2.duals.within fits c.requires.ends.2.values.some in
-    let priced = priced_by c.args.tables.now c.args.outline.now c.in_ok-before.before _ _ _ _ c.as_slice.ensures (to_z-of_z w128 c.args.hint.now.dual_scale f) c.in_ok-before.ensures in
-    end_lifted c.args.tables.now (kept_by c.args.kept.now) c.requires.ends.0 c.requires.ends.1 c.args.hint.now c.requires.ends.2 c.args.outline.now c.requires.outline c.in_ok-before.before priced row c.in_ok-mixed.mixed c.in_ok-mixed.ensures c.in_ok-prices.prices c.in_ok-prices.ensures
+    let priced = priced_by c.args.tables.now c.args.outline.now c.in_ok-before.before _ _ _ _ c.as_slice.ensures (to_z-of_z w128 c.args.hint.now.dual_scale f) c.in_ok-before.ensures.prices in
+    end_lifted c.args.tables.now (kept_by c.args.kept.now) c.requires.ends.0 c.requires.ends.1 c.args.hint.now c.requires.ends.2 c.args.outline.now c.requires.outline c.in_ok-before.before priced row c.in_ok-mixed.mixed c.in_ok-mixed.ensures.mixed c.in_ok-prices.prices c.in_ok-prices.ensures
+
+-- ---- where memory is wanting
+pub returns-in_err-before-clause-memory : goal.returns-in_err-before-clause-memory
+returns-in_err-before-clause-memory c =
+    let f : SFits w128 c.args.hint.now.dual_scale = search rules in
+    let p = err_from_is_err_and c.from_residual.result c.from_residual.ensures.1 in
+    rw (p.1, p.2)
+    (subst (λ s. IsWantedBehind (prices_excess (legs_in c.args.tables.now) (priced_values c.args.tables.now c.args.hint.now.duals s)) c.in_err-before.field-0.0) (to_z-of_z w128 c.args.hint.now.dual_scale f)
+    (subst (λ values. IsWantedBehind (prices_excess (legs_in c.args.tables.now) (priced_values c.args.tables.now values (to_z w128 (of_z w128 c.args.hint.now.dual_scale)))) c.in_err-before.field-0.0) c.as_slice.ensures c.in_err-before.ensures.memory))
+
+pub returns-in_err-mixed-clause-memory : goal.returns-in_err-mixed-clause-memory
+returns-in_err-mixed-clause-memory c =
+    let f : SFits w128 c.args.hint.now.dual_scale = search rules in
+    let priced = priced_by c.args.tables.now c.args.outline.now c.in_ok-before.before _ _ _ _ c.as_slice.ensures (to_z-of_z w128 c.args.hint.now.dual_scale f) c.in_ok-before.ensures.prices in
+    let p = err_from_is_err_and c.from_residual-in_err-mixed.result c.from_residual-in_err-mixed.ensures.1 in
+    rw (p.1, p.2) (wanted_behind _ c.in_err-mixed.field-0.0 priced.0)
+
+pub returns-in_err-prices-clause-memory : goal.returns-in_err-prices-clause-memory
+returns-in_err-prices-clause-memory c =
+    let f : SFits w128 c.args.hint.now.dual_scale = search rules in
+    let priced = priced_by c.args.tables.now c.args.outline.now c.in_ok-before.before _ _ _ _ c.as_slice.ensures (to_z-of_z w128 c.args.hint.now.dual_scale f) c.in_ok-before.ensures.prices in
+    let p = err_from_is_err_and c.from_residual-in_err-prices.result c.from_residual-in_err-prices.ensures.1 in
+    rw (p.1, p.2) (wanted_behind _ c.in_err-prices.field-0.0 priced.0)

@@ -4,8 +4,8 @@ use Rattle.frac_row.specs.Row.{IsRow, reduced}
 use Rattle.fleet_model.specs.Kept.{kept_by}
 use Rattle.fleet_model.specs.Schedule.{legs_in}
 use Rattle.lp_rows.specs.Layout.{starts_in}
-use Rattle.dual_lift.specs.TooLarge.{IsLiftError}
-use Rattle.dual_lift.proofs.Excesses.{first_fails}
+use Rattle.dual_lift.specs.TooLarge.{IsLiftError, IsWantedBehind}
+use Rattle.dual_lift.proofs.Excesses.{first_fails, wanted_behind}
 use Rattle.price_lift.specs.EndLifts.{refusing_duals, refusing_excess, priced_values}
 use Rattle.price_lift.specs.Steps.{prices_by}
 use Rattle.price_lift.specs.TooLarge.{prices_excess}
@@ -16,31 +16,44 @@ pub end_prices-requires-clause-long : goal.end_prices-requires-clause-long
 end_prices-requires-clause-long c =
     ap length c.as_slice.ensures ∙ values_long c.args.tables.now (kept_by c.args.kept.now) c.requires.ends.0 c.requires.ends.1 c.args.hint.now.multipliers c.requires.ends.2.multipliers (pos 1) c.args.outline.now c.requires.outline
 
-pub returns-in_err-before : goal.returns-in_err-before
+pub returns-in_err-before-clause-lifted : goal.returns-in_err-before-clause-lifted
 unfolding refusing_excess
-returns-in_err-before c =
+returns-in_err-before-clause-lifted c =
     let p = err_from_is_err_and c.from_residual.result c.from_residual.ensures.1 in
     rw (p.1, p.2)
-    (first_fails _ _ c.in_err-before.field-0.0 (subst (λ values. IsLiftError (prices_excess (legs_in c.args.tables.now) (priced_values c.args.tables.now values (pos 1))) c.in_err-before.field-0.0) c.as_slice.ensures c.in_err-before.ensures))
+    (first_fails _ _ c.in_err-before.field-0.0 (subst (λ values. IsLiftError (prices_excess (legs_in c.args.tables.now) (priced_values c.args.tables.now values (pos 1))) c.in_err-before.field-0.0) c.as_slice.ensures c.in_err-before.ensures.prices))
 
 pub paid_back-requires-clause-within : goal.paid_back-requires-clause-within
 paid_back-requires-clause-within c =
     let row : IsRow (refusing_duals c.args.tables.now c.args.hint.now) = priced_is_row c.args.tables.now c.args.hint.now.multipliers (pos 1) c.requires.ends.2.multipliers.within (omega arith) c.requires.ends.2.values.some in
     let priced = subst (λ values. (prices_excess (legs_in c.args.tables.now) (priced_values c.args.tables.now values (pos 1)) ≡ None)
-    × (c.in_ok-before.before ≡ prices_by c.args.tables.now (starts_in c.args.outline.now.network) (reduced (priced_values c.args.tables.now values (pos 1))))) c.as_slice.ensures c.in_ok-before.ensures in
+    × (c.in_ok-before.before ≡ prices_by c.args.tables.now (starts_in c.args.outline.now.network) (reduced (priced_values c.args.tables.now values (pos 1))))) c.as_slice.ensures c.in_ok-before.ensures.prices in
     (refusing_priced c.args.tables.now (kept_by c.args.kept.now) c.requires.ends.0 c.requires.ends.1 c.args.hint.now c.requires.ends.2 c.args.outline.now c.requires.outline c.in_ok-before.before priced row).limits
 
-pub returns-in_err-prices : goal.returns-in_err-prices
-returns-in_err-prices c =
+pub returns-in_err-prices-clause-lifted : goal.returns-in_err-prices-clause-lifted
+returns-in_err-prices-clause-lifted c =
     let row : IsRow (refusing_duals c.args.tables.now c.args.hint.now) = priced_is_row c.args.tables.now c.args.hint.now.multipliers (pos 1) c.requires.ends.2.multipliers.within (omega arith) c.requires.ends.2.values.some in
     let priced = subst (λ values. (prices_excess (legs_in c.args.tables.now) (priced_values c.args.tables.now values (pos 1)) ≡ None)
-    × (c.in_ok-before.before ≡ prices_by c.args.tables.now (starts_in c.args.outline.now.network) (reduced (priced_values c.args.tables.now values (pos 1))))) c.as_slice.ensures c.in_ok-before.ensures in
+    × (c.in_ok-before.before ≡ prices_by c.args.tables.now (starts_in c.args.outline.now.network) (reduced (priced_values c.args.tables.now values (pos 1))))) c.as_slice.ensures c.in_ok-before.ensures.prices in
     let p = err_from_is_err_and c.from_residual-in_err-prices.result c.from_residual-in_err-prices.ensures.1 in
     rw (p.1, p.2) (refusing_fails c.args.tables.now (kept_by c.args.kept.now) c.requires.ends.0 c.requires.ends.1 c.args.hint.now c.requires.ends.2 c.args.outline.now c.requires.outline c.in_ok-before.before priced row c.in_err-prices.field-0.0 c.in_err-prices.ensures)
 
-pub returns : goal.returns
-returns c =
+pub returns-clause-lifted : goal.returns-clause-lifted
+returns-clause-lifted c =
     let row : IsRow (refusing_duals c.args.tables.now c.args.hint.now) = priced_is_row c.args.tables.now c.args.hint.now.multipliers (pos 1) c.requires.ends.2.multipliers.within (omega arith) c.requires.ends.2.values.some in
     let priced = subst (λ values. (prices_excess (legs_in c.args.tables.now) (priced_values c.args.tables.now values (pos 1)) ≡ None)
-    × (c.in_ok-before.before ≡ prices_by c.args.tables.now (starts_in c.args.outline.now.network) (reduced (priced_values c.args.tables.now values (pos 1))))) c.as_slice.ensures c.in_ok-before.ensures in
+    × (c.in_ok-before.before ≡ prices_by c.args.tables.now (starts_in c.args.outline.now.network) (reduced (priced_values c.args.tables.now values (pos 1))))) c.as_slice.ensures c.in_ok-before.ensures.prices in
     refusing_lifted c.args.tables.now (kept_by c.args.kept.now) c.requires.ends.0 c.requires.ends.1 c.args.hint.now c.requires.ends.2 c.args.outline.now c.requires.outline c.in_ok-before.before priced row c.in_ok-prices.prices c.in_ok-prices.ensures
+
+-- ---- where memory is wanting
+pub returns-in_err-before-clause-memory : goal.returns-in_err-before-clause-memory
+returns-in_err-before-clause-memory c =
+    let p = err_from_is_err_and c.from_residual.result c.from_residual.ensures.1 in
+    rw (p.1, p.2)
+    (subst (λ values. IsWantedBehind (prices_excess (legs_in c.args.tables.now) (priced_values c.args.tables.now values (pos 1))) c.in_err-before.field-0.0) c.as_slice.ensures c.in_err-before.ensures.memory)
+
+pub returns-in_err-prices-clause-memory : goal.returns-in_err-prices-clause-memory
+returns-in_err-prices-clause-memory c =
+    let well = subst (λ values. prices_excess (legs_in c.args.tables.now) (priced_values c.args.tables.now values (pos 1)) ≡ None) c.as_slice.ensures c.in_ok-before.ensures.prices.0 in
+    let p = err_from_is_err_and c.from_residual-in_err-prices.result c.from_residual-in_err-prices.ensures.1 in
+    rw (p.1, p.2) (wanted_behind _ c.in_err-prices.field-0.0 well)

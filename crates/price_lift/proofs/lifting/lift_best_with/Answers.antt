@@ -7,7 +7,7 @@ use Rattle.dual_lift.proofs.Excesses.{first_fails}
 use Rattle.price_lift.specs.TooLarge.{best_excess}
 use Rattle.price_lift.proofs.RunEnds.{best_columns, has_phases, is_best}
 use Rattle.price_lift.specs.Lifted.{IsLiftedPoint}
-use Rattle.price_lift.proofs.LiftResults.{behind, fails_by, fails_so, fits_by, same_best, best_excess_is, well_fits, well_lifted}
+use Rattle.price_lift.proofs.LiftResults.{best_duals_behind, fails_by, fails_so, fits_by, same_best, best_excess_is, well_fits, well_lifted}
 use Rattle.price_lift.proofs.lifting.lift_best_with.Goals as goal
 
 pub of-requires-clause-columns : goal.of-requires-clause-columns
@@ -27,13 +27,13 @@ pub lift_point-requires-clause-ends : goal.lift_point-requires-clause-ends
 lift_point-requires-clause-ends g c = is_best _ _ _ _ c.requires.ends c.in_ok-mixture.mixture c.in_ok-mixture.ensures.1
 
 pub returns-clause-lifted : goal.returns-clause-lifted
-returns-clause-lifted g c = well_lifted _ _ c.lift_point.result c.lift_point.ensures _ (λ lifted is. subst (λ d. IsLiftedPoint c.args.tables.now (kept_by c.args.kept.now) (g.R.RowStore.content c.args.table.now) c.args.basis.now d lifted) (same_best c.args.tables.now (g.R.RowStore.content c.args.table.now) c.in_ok-mixture.mixture) is)
+returns-clause-lifted g c = well_lifted _ _ c.lift_point.result c.lift_point.ensures.lifted _ (λ lifted is. subst (λ d. IsLiftedPoint c.args.tables.now (kept_by c.args.kept.now) (g.R.RowStore.content c.args.table.now) c.args.basis.now d lifted) (same_best c.args.tables.now (g.R.RowStore.content c.args.table.now) c.in_ok-mixture.mixture) is)
 
 pub returns-clause-fits : goal.returns-clause-fits
-returns-clause-fits g c = fits_by _ _ _ _ c.requires.outline.network c.lift_point.result (well_fits _ _ c.lift_point.result c.lift_point.ensures _ (best_excess_is c.args.tables.now (kept_by c.args.kept.now) (g.R.RowStore.content c.args.table.now) c.args.basis.now c.in_ok-mixture.mixture (starts_in c.args.outline.now.network) c.in_ok-mixture.ensures.0))
+returns-clause-fits g c = fits_by _ _ _ _ c.requires.outline.network c.lift_point.result (well_fits _ _ c.lift_point.result c.lift_point.ensures.lifted _ (best_excess_is c.args.tables.now (kept_by c.args.kept.now) (g.R.RowStore.content c.args.table.now) c.args.basis.now c.in_ok-mixture.mixture (starts_in c.args.outline.now.network) c.in_ok-mixture.ensures.0))
 
 pub returns-clause-too_large : goal.returns-clause-too_large
-returns-clause-too_large g c = fails_by _ _ _ _ c.requires.outline.network c.lift_point.result (fails_so _ _ c.lift_point.result c.lift_point.ensures _ (best_excess_is c.args.tables.now (kept_by c.args.kept.now) (g.R.RowStore.content c.args.table.now) c.args.basis.now c.in_ok-mixture.mixture (starts_in c.args.outline.now.network) c.in_ok-mixture.ensures.0))
+returns-clause-too_large g c = fails_by _ _ _ _ c.requires.outline.network c.lift_point.result (fails_so _ _ c.lift_point.result c.lift_point.ensures.lifted _ (best_excess_is c.args.tables.now (kept_by c.args.kept.now) (g.R.RowStore.content c.args.table.now) c.args.basis.now c.in_ok-mixture.mixture (starts_in c.args.outline.now.network) c.in_ok-mixture.ensures.0))
 
 pub returns-clause-memory : goal.returns-clause-memory
-returns-clause-memory g c = behind _ c.lift_point.result c.in_ok-mixture.ensures.0
+returns-clause-memory g c = best_duals_behind c.args.tables.now (g.R.RowStore.content c.args.table.now) c.in_ok-mixture.mixture c.lift_point.result c.in_ok-mixture.ensures.0 c.lift_point.ensures.memory
