@@ -53,7 +53,7 @@ def parts_by_date(legs, changes):
 
 
 def weeks_of(dates):
-    """Yields the first and the last one of dates, a week after the other where they are more than a week apart."""
+    """Yields the first and the last one of dates that lie within seven days, and then of those that are left."""
     while dates:
         within = [it for it in dates if it < dates[0] + WEEK]
         yield within[0], within[-1]

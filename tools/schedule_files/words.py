@@ -66,10 +66,10 @@ def given(words, options):
 
 def dates(found):
     """Returns the days that are asked for, by the one option that says them."""
-    given = [it for it in DAYS if it in found]
-    if len(given) != 1:
-        raise Usage("--date and --week stand both" if given else "")
-    return Dates(day(given[0], found[given[0]]), DAYS[given[0]])
+    options = [it for it in DAYS if it in found]
+    if len(options) != 1:
+        raise Usage("--date and --week stand both" if options else "")
+    return Dates(day(options[0], found[options[0]]), DAYS[options[0]])
 
 
 def day(option, text):
