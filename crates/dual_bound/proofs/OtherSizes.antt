@@ -14,11 +14,11 @@ use Rattle.fleet_model.specs.declared.parts.Pair.{Pair}
 use Rattle.fleet_model.specs.declared.tables.Tables.{Tables}
 use Rattle.fleet_model.specs.Kept.{Domains}
 use Rattle.fleet_model.specs.OtherSizes.{IsOtherSize}
-use Rattle.fleet_model.specs.Schedule.{choices_in, fleets_in, leg_on, legs_in, no_leg, period_of, stations_in}
-use Rattle.fleet_model.proofs.OtherSizes.{aircraft_elsewhere, aircraft_there, choices_same, cost_same, departure_same, fleet_by_same, fleets_same, laps_same, legs_same, period_same, ready_same, stations_same}
-use Rattle.dual_bound.specs.Prices.{ArePrices, price_of, rent_of, with_charge}
+use Rattle.fleet_model.specs.Schedule.{choices_in, days_in, fleets_in, leg_on, legs_in, no_leg, period_of, stations_in}
+use Rattle.fleet_model.proofs.OtherSizes.{aircraft_elsewhere, aircraft_there, choices_same, cost_same, days_same, departure_same, fleet_by_same, fleets_same, laps_same, legs_same, parking_same, period_same, ready_same, stations_same}
+use Rattle.dual_bound.specs.Prices.{ArePrices, charge_of, price_of, rent_of, with_charge}
 use Rattle.dual_bound.specs.Sizes.{IsUpTo}
-use Rattle.dual_bound.specs.Worth.{least_below, leg_worth, pair_worth, rents_of, worth_of}
+use Rattle.dual_bound.specs.Worth.{charges_of, least_below, leg_worth, less_charges, limit_of, pair_worth, rents_of, worth_of}
 use Rattle.dual_bound.specs.declared.prices.Prices.{Prices}
 use Rattle.dual_bound.proofs.Numbers.{held, is_held, many, taken}
 
@@ -43,6 +43,9 @@ module _ (t : Tables) (fleet count : ℕ) (u : Tables) (is : IsOtherSize t fleet
     within = record {
       rents = λ f below. was.within.rents f (known f below);
       each = λ f s m below there early. was.within.each f s m (known f below) (at s there) (subst (λ n. m < n) minutes early);
+      charges = λ s d there some within.
+          let charge = was.within.charges s d (at s there) some (subst (λ n. d ≤ n) (days_same t fleet count u is) within) in
+          record { some = charge.some; within = charge.within; only_limited = λ none. charge.only_limited (sym (parking_same t fleet count u is s) ∙ none) };
     };
     fall = record { each = λ f s m below there early. was.fall.each f s m (known f below) (at s there) (subst (λ n. m + 1 < n) minutes early) };
     rise = record { each = λ f s below there. subst (λ n. price_of prices f s 0 ≤ℤ with_charge prices s (n - 1) (price_of prices f s (n - 1) +ℤ rent_of prices f)) (sym minutes) (was.rise.each f s (known f below) (at s there)) };
@@ -91,20 +94,31 @@ module _ (t : Tables) (fleet count : ℕ) (u : Tables) (is : IsOtherSize t fleet
         elsewhere : (f : ℕ) → f < fleets_in t → f ≢ fleet → rents_of t prices f ≡ rents_of u prices f
         elsewhere f below other = ap (λ (x : Fleet). rent_of prices f *ℤ pos x.aircraft) (sym (aircraft_elsewhere t fleet count u is f other))
 
+    charges_same : sum_below_ℤ (charges_of u prices) (stations_in u) ≡ sum_below_ℤ (charges_of t prices) (stations_in t)
+    charges_same =
+        ap (sum_below_ℤ (charges_of u prices)) (stations_same t fleet count u is)
+        ∙ sum_below_ℤ-same (charges_of u prices) (charges_of t prices) (stations_in t) (λ s below. station s)
+      where
+        station : (s : ℕ) → charges_of u prices s ≡ charges_of t prices s
+        station s =
+            ap (λ o. sum_below_ℤ (λ d. charge_of prices s (d + 1) *ℤ pos (unwrap_or o 0)) (days_in u)) (parking_same t fleet count u is s)
+            ∙ ap (sum_below_ℤ (λ d. charge_of prices s (d + 1) *ℤ pos (limit_of t s))) (days_same t fleet count u is)
+
     -- the fleet's rents are for so many aircraft in the place of its own
     pub worth_other : fleet < fleets_in t → worth_of u keeps prices k ≡ (worth_of t keeps prices k +ℤ rents_of t prices fleet) -ℤ (rent_of prices fleet *ℤ pos count)
-    unfolding worth_of
-    worth_other known = omega (arith, ints, legs_worth_same, rents_other known)
+    unfolding worth_of less_charges
+    worth_other known = omega (arith, ints, legs_worth_same, rents_other known, charges_same)
 
     -- .. as they are added up
-    pub worth_sum : fleet < fleets_in t → (worth own rents : ℤ) → IsUpTo (5 * legs_in t + MAX_AIRCRAFT * fleets_in t) worth → IsUpTo MAX_AIRCRAFT own → IsUpTo MAX_AIRCRAFT rents
+    pub worth_sum : fleet < fleets_in t → (worth own rents : ℤ) → IsUpTo (5 * legs_in t + MAX_AIRCRAFT * fleets_in t + 70000 * stations_in t) worth → IsUpTo MAX_AIRCRAFT own → IsUpTo MAX_AIRCRAFT rents
         → worth ≡ worth_of t keeps prices k → own ≡ rents_of t prices fleet → rents ≡ rent_of prices fleet *ℤ pos count
         → held (held (held worth +ℤ held own) -ℤ held rents) ≡ worth_of u keeps prices k
     worth_sum known worth own rents small_worth small_own small_rents worth_is own_is rents_is =
         let legs = t.in_range.legs_fit.few in
         let fleets = t.in_range.fleets_fit.few in
-        let few : (5 * legs_in t + MAX_AIRCRAFT * fleets_in t) + MAX_AIRCRAFT + MAX_AIRCRAFT ≤ many = omega (arith, legs, fleets) in
-        let both : IsUpTo ((5 * legs_in t + MAX_AIRCRAFT * fleets_in t) + MAX_AIRCRAFT) (worth +ℤ own) = record { no_less = omega (arith, ints, small_worth, small_own); no_more = omega (arith, ints, small_worth, small_own) } in
+        let stations = t.in_range.stations_fit.few in
+        let few : (5 * legs_in t + MAX_AIRCRAFT * fleets_in t + 70000 * stations_in t) + MAX_AIRCRAFT + MAX_AIRCRAFT ≤ many = omega (arith, legs, fleets, stations) in
+        let both : IsUpTo ((5 * legs_in t + MAX_AIRCRAFT * fleets_in t + 70000 * stations_in t) + MAX_AIRCRAFT) (worth +ℤ own) = record { no_less = omega (arith, ints, small_worth, small_own); no_more = omega (arith, ints, small_worth, small_own) } in
         ap₂ (λ x y. held (held (x +ℤ y) -ℤ held rents)) (is_held _ worth small_worth (omega (arith, few))) (is_held MAX_AIRCRAFT own small_own (omega arith))
         ∙ taken _ MAX_AIRCRAFT (worth +ℤ own) rents _ _ both small_rents few (ap₂ (λ x y. x +ℤ y) worth_is own_is) rents_is
         ∙ sym (worth_other known)
