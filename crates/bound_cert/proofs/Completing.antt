@@ -16,6 +16,7 @@ use Rattle.dual_bound.specs.Order.{same_place, step_follows}
 use Rattle.dual_bound.specs.WrittenOrder.{IsStepInOrder, goes_on}
 use Rattle.dual_bound.specs.declared.mixed.Weight.{Weight}
 use Rattle.dual_bound.specs.declared.prices.PriceStep.{PriceStep}
+use Rattle.fleet_model.proofs.PeriodMinutes.{day_or_more}
 use Rattle.fleet_model.specs.declared.tables.Tables.{Tables}
 use Rattle.proof_lines.specs.Forms.{form_in}
 use Rattle.proof_lines.specs.LineText.{line_bytes}
@@ -279,7 +280,7 @@ module _ (t : Tables) (line : List ℕ) (after : Left) where
         by_zero true true minute value =
             let none : step.minute ≡ 0 = grind (arith, nat_tests, minute) in
             let zero : step.value ≡ pos 0 = (Decides-int_eq step.value (pos 0)).0 value in
-            let order : IsStepInOrder t next = record { fleet = was.order.fleet; station = was.order.station; minute = omega arith; value = one_figure } in
+            let order : IsStepInOrder t next = record { fleet = was.order.fleet; station = was.order.station; minute = omega (arith, day_or_more t); value = one_figure } in
             let place : same_place step next ≡ true = same_place_by step next refl refl in
             let follows : step_follows (Some step) next ≡ true = rw place (rw (none, zero) refl) in
             let each : All (IsStepInOrder t) (next ∷ []) = All-cons (IsStepInOrder t) next [] order (All-nil (IsStepInOrder t)) in

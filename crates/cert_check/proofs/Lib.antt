@@ -1,4 +1,5 @@
 pub mod Asks
+pub mod ChargeEntries
 pub mod MixedCosts
 pub mod NodeRules
 pub mod OneVerdict

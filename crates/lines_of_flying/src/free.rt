@@ -1,9 +1,9 @@
 //! Free landings and free departures at a station: those that no given pair has.
 ghost use Rattle.std.specs.Prelude.{◌≡◌, ◌<◌, ◌≤◌};
 ghost use Rattle.fleet_model.specs.Schedule.{leg_on, legs_in};
-ghost use Rattle.fleet_model.specs.Times.{ready_minute};
+ghost use Rattle.fleet_model.specs.Times.{departure, ready_minute};
 ghost use Rattle.ground_turns.specs.FirstOut.{is_before};
-ghost use Rattle.lines_of_flying.specs.Grounds.{IsGround, comes_before, departs_free, lands_free, landings_at, place_of_departure, place_of_landing};
+ghost use Rattle.lines_of_flying.specs.Grounds.{IsGround, comes_before, departs_free, lands_free, leaves_first, landings_at, place_of_departure, place_of_landing};
 
 use crate::ground::{Ground, departure, ready};
 
@@ -82,6 +82,18 @@ pub(crate) fn landing_place(ground: &Ground<'_>, leg: u32) -> u32
     count
 }
 
+// Whether another leg's departure is free where a leg departs, and comes before it, whose minute is this.
+fn leaves_before(ground: &Ground<'_>, leg: u32, minute: u16, other: u32) -> bool
+    requires ground { IsGround ground.now }
+    requires leg { leg < legs_in ground.now.tables.now }
+    requires other { other < legs_in ground.now.tables.now }
+    requires minute { minute ≡ departure ground.now.tables.now (leg_on leg ground.now.fleet) }
+    ensures { result ≡ leaves_first ground.now leg other }
+{
+    let station = ground.tables.leg(leg).from;
+    departs_free(ground, station, other) && is_before(departure(ground, other), other, minute, leg)
+}
+
 /// How many free departures come before that of a leg where it departs, by minute and leg.
 #[tactic(auto, unfolding(ground_turns::specs::FirstOut::departure_place))]
 pub(crate) fn departure_place(ground: &Ground<'_>, leg: u32) -> u32
@@ -90,13 +102,10 @@ pub(crate) fn departure_place(ground: &Ground<'_>, leg: u32) -> u32
     ensures value { result ≡ place_of_departure ground.now leg }
     ensures few { result ≤ legs_in ground.now.tables.now }
 {
-    let station = ground.tables.leg(leg).from;
     let minute = departure(ground, leg);
     let mut count = 0;
     for other in 0..ground.tables.leg_count() {
-        if departs_free(ground, station, other)
-            && is_before(departure(ground, other), other, minute, leg)
-        {
+        if leaves_before(ground, leg, minute, other) {
             count += 1;
         }
     }
