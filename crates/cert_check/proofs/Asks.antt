@@ -138,16 +138,16 @@ is_leaf whole (inr (inr (inl (prices, e)))) = subst IsLeaf (sym e) tt
 is_leaf whole (inr (inr (inr (inl (prices, e))))) = subst IsLeaf (sym e) tt
 is_leaf whole (inr (inr (inr (inr (prices, why, e))))) = subst IsLeaf (sym e) tt
 
--- a leaf that stands
-pub leaf_found : (u : Tables) (keeps : Domains) (whole : Tree) (before after : Reached) → IsLeaf whole → ArePassedOn u (node keeps whole ∷ []) (IsOwnBound u keeps whole) before after
-    → ArePassedOn u (nodes_in keeps whole) (IsBoundIn u keeps whole) before after
-leaf_found u keeps (tree.Bare leg) before after leaf entered = entered
-leaf_found u keeps tree.Sole before after leaf entered = entered
-leaf_found u keeps (tree.Refuted prices) before after leaf entered = entered
-leaf_found u keeps (tree.Priced prices) before after leaf entered = entered
-leaf_found u keeps (tree.Open prices why) before after leaf entered = entered
-leaf_found u keeps (tree.Trim' leg fleet p with_pair q without) before after leaf entered = absurd leaf
-leaf_found u keeps (tree.Split' leg fleet prices mixed p with_pair q without) before after leaf entered = absurd leaf
+-- a leaf is all of its tree
+pub leaf_found : (u : Tables) (keeps : Domains) (whole : Tree) (before after : Reached) (fallen : Bool) → IsLeaf whole
+    → AreFound u (node keeps whole ∷ []) (IsOwnBound u keeps whole) before after fallen → AreFound u (nodes_in keeps whole) (IsBoundIn u keeps whole) before after fallen
+leaf_found u keeps (tree.Bare leg) before after b leaf found = found
+leaf_found u keeps tree.Sole before after b leaf found = found
+leaf_found u keeps (tree.Refuted prices) before after b leaf found = found
+leaf_found u keeps (tree.Priced prices) before after b leaf found = found
+leaf_found u keeps (tree.Open prices why) before after b leaf found = found
+leaf_found u keeps (tree.Trim' leg fleet p with_pair q without) before after b leaf found = absurd leaf
+leaf_found u keeps (tree.Split' leg fleet prices mixed p with_pair q without) before after b leaf found = absurd leaf
 
 -- ---- behind a node: the subproblem and the number of aircraft are as before it
 -- the number

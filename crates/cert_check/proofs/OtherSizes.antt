@@ -1,5 +1,5 @@
 -- A tree whose nodes keep all rules but the one on priced leaves, on tables with another number of aircraft of one fleet.
-use Rattle.std.proofs.Common.{◌≡◌, ℕ, ◌<◌, Bool, true, false, not, MatchBool, MatchOption, List, All, Option, Some, None, IfSome, ℤ, pos, ◌<ℤ◌, refl, sym, subst}
+use Rattle.std.proofs.Common.{◌≡◌, ℕ, MatchOption, List, All, Option, Some, None, IfSome, ℤ, refl, sym, subst}
 use Rattle.fleet_model.specs.declared.tables.Tables.{Tables}
 use Rattle.fleet_model.specs.Kept.{Domains, IsKeptAssignment, IsSole, all_pairs}
 use Rattle.fleet_model.specs.Legal.{IsLegal}
@@ -7,7 +7,6 @@ use Rattle.fleet_model.specs.OtherSizes.{IsOtherSize}
 use Rattle.fleet_model.proofs.OtherSizes.{all_pairs_same, bare_same, kept_same, sole_same}
 use Rattle.dual_bound.specs.Bound.{IsBound, IsSoleBound}
 use Rattle.dual_bound.specs.Prices.{ArePrices}
-use Rattle.dual_bound.specs.Worth.{worth_of}
 use Rattle.dual_bound.specs.declared.prices.Prices.{Prices}
 use Rattle.dual_bound.specs.declared.trees.Tree.{Tree}
 use Rattle.dual_bound.specs.declared.trees.Tree.TheVariants as tree

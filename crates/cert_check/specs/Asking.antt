@@ -1,5 +1,5 @@
 -- What a walk finds that asks a tree of tables with another number of aircraft of one fleet.
-use Rattle.std.specs.Prelude.{◌≡◌, ℕ, ◌+◌, ◌<◌, ◌≤◌, Bool, true, false, List, All, length, Option, None, Some, ℤ}
+use Rattle.std.specs.Prelude.{◌≡◌, ◌+◌, ◌<◌, ◌≤◌, Bool, true, false, List, All, length, Option, None, Some, ℤ}
 use Rattle.fleet_model.specs.declared.limits.TheConstants.{MAX_AIRCRAFT}
 use Rattle.fleet_model.specs.declared.tables.Tables.{Tables}
 use Rattle.fleet_model.specs.OtherSizes.{IsOtherSize}

@@ -84,25 +84,32 @@ fn ask(tables: &Tables, asker: &mut Asker, tree: &Tree) -> bool
     ensures size { asker.new.size ≡ asker.old.size }
     ensures found { OnEach tables.now asker.old.size (λ u. AreFound u (nodes_in (kept_by asker.old.kept) tree.now) (IsBoundIn u (kept_by asker.old.kept) tree.now) asker.old.reached asker.new.reached result) }
 {
-    if enter(tables, asker, tree) {
-        return true;
-    }
     match tree {
         Tree::Trim {
             leg,
             choice: fleet,
             yes,
             no,
-        } => ask_both(tables, asker, *leg, *fleet, yes, no),
+        } => {
+            if enter(tables, asker, tree) {
+                return true;
+            }
+            ask_both(tables, asker, *leg, *fleet, yes, no)
+        }
         Tree::Split {
             leg,
             choice: fleet,
             yes,
             no,
             ..
-        } => ask_both(tables, asker, *leg, *fleet, yes, no),
+        } => {
+            if enter(tables, asker, tree) {
+                return true;
+            }
+            ask_both(tables, asker, *leg, *fleet, yes, no)
+        }
         Tree::Bare { .. } | Tree::Sole | Tree::Refuted(_) | Tree::Priced(_) | Tree::Open(..) => {
-            false
+            enter(tables, asker, tree)
         }
     }
 }

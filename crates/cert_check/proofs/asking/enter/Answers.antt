@@ -1,5 +1,5 @@
 use Rattle.std.proofs.Common.{◌<◌, ◌^◌, arith}
-use Rattle.cert_check.proofs.Asks.{fallen_here, passed_here}
+use Rattle.cert_check.proofs.Asks.{fallen_here}
 use Rattle.cert_check.proofs.asking.enter.Goals as goal
 
 pub returns-then-has_fallen-clause-found : goal.returns-then-has_fallen-clause-found
