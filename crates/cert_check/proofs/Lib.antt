@@ -1,8 +1,10 @@
+pub mod Asks
 pub mod ChargeEntries
 pub mod MixedCosts
 pub mod NodeRules
 pub mod OneVerdict
 pub mod OtherSettings
+pub mod OtherSizes
 pub mod PriceSteps
 pub mod SameTrees
 pub mod SoleAssignments

@@ -21,14 +21,15 @@ use Rattle.cert_check.specs.declared.rules.Rule.TheVariants as rule
 pub are_prices : (t : Tables) (prices : Prices) → HasScale prices → AreWithin t prices → NeverRise t prices → RiseByRent t prices → ArePrices t prices
 are_prices t prices scale within fall rent = record { scale = scale; within = within; fall = fall; rise = rent }
 
+-- .. where there are prices
+pub if_prices : (t : Tables) (o : Option Prices) → IfSome o HasScale → IfSome o (AreWithin t) → IfSome o (NeverRise t) → IfSome o (RiseByRent t) → IfSome o (ArePrices t)
+if_prices t None scale within fall rent = tt
+if_prices t (Some prices) scale within fall rent = are_prices t prices scale within fall rent
+
 -- the prices of a node that keeps them
 pub prices_proper : (t : Tables) (cost : Option ℤ) (node : Node) (bound : ℕ) → KeepsBefore t cost node bound → 4 < bound → IfSome (prices_at node.tree) (ArePrices t)
 prices_proper t cost node bound before below =
-    of_prices (prices_at node.tree) (before.each rule.Scale (omega arith)) (before.each rule.Limits (omega arith)) (before.each rule.Fall (omega arith)) (before.each rule.Rent (omega arith))
-  where
-    of_prices : (o : Option Prices) → IfSome o HasScale → IfSome o (AreWithin t) → IfSome o (NeverRise t) → IfSome o (RiseByRent t) → IfSome o (ArePrices t)
-    of_prices None scale within fall rent = tt
-    of_prices (Some prices) scale within fall rent = are_prices t prices scale within fall rent
+    if_prices t (prices_at node.tree) (before.each rule.Scale (omega arith)) (before.each rule.Limits (omega arith)) (before.each rule.Fall (omega arith)) (before.each rule.Rent (omega arith))
 
 -- each leg before a place keeps one fleet, and so does that at the place
 pub one_on_more : (count : ℕ → ℕ) (n : ℕ) → ((m : ℕ) → m < n → count m ≡ 1) → count n ≡ 1 → (m : ℕ) → m < n + 1 → count m ≡ 1

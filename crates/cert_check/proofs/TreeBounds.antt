@@ -1,13 +1,14 @@
--- Weak duality over a tree whose nodes keep all rules: its bound is no more than the cost of any legal assignment.
-use Rattle.std.proofs.Common.{◌≡◌, ℕ, Bool, true, false, not, ◌==◌, if◌then◌else◌, List, [], ◌∷◌, ◌++◌, All, length-append, Option, Some, None, MatchOption, ℤ, ◌≤ℤ◌, refl, sym, ◌∙◌, ap, subst, arith}
+-- Weak duality over a tree, of whose nodes three rules alone are asked: its bound is no more than the cost of any legal
+-- assignment.
+use Rattle.std.proofs.Common.{◌≡◌, ℕ, Bool, true, false, not, ◌==◌, if◌then◌else◌, List, [], ◌∷◌, ◌++◌, All, length-append, Option, Some, None, IfSome, MatchOption, ℤ, ◌≤ℤ◌, refl, sym, ◌∙◌, ap, subst, arith}
 use Rattle.std.proofs.lemmas.Int.{ints}
 use Rattle.std.proofs.lemmas.Bool.Decides.{nat_tests}
-use Rattle.std.proofs.lemmas.List.Elements.{All-head, All-tail}
+use Rattle.std.proofs.lemmas.List.Elements.{All-head, All-tail, All-weaker}
 use Rattle.std.proofs.lemmas.List.{get_or_append_left}
-use Rattle.std.specs.Prelude.{int_le}
+use Rattle.std.specs.Prelude.{int_le, ⊤}
 use Rattle.sums.proofs.Tests.{both_true}
 use Rattle.fleet_model.specs.Counts.{fleet_at, pair_at}
-use Rattle.fleet_model.specs.Kept.{Domains, IsKeptAssignment, all_pairs, leaves}
+use Rattle.fleet_model.specs.Kept.{Domains, IsBare, IsKeptAssignment, all_pairs, leaves}
 use Rattle.fleet_model.specs.Legal.{IsLegal, total_cost}
 use Rattle.fleet_model.specs.declared.tables.Tables.{Tables}
 use Rattle.fleet_model.proofs.KeptLaws.{allowed_is_kept, bare_has_none}
@@ -18,11 +19,35 @@ use Rattle.dual_bound.specs.declared.trees.Tree.{Tree}
 use Rattle.dual_bound.specs.declared.trees.Tree.TheVariants as tree
 use Rattle.dual_bound.proofs.Duality.{ceiling_is_lower_bound, worth_refutes}
 use Rattle.cert_check.specs.Nodes.{Node, nodes_in, prices_at}
-use Rattle.cert_check.specs.Rules.{IsSound}
+use Rattle.cert_check.specs.Rules.{HasItsPairs, IsRefutedAt, IsSound}
 use Rattle.cert_check.specs.Verdicts.{AreSound, BoundsAll}
 use Rattle.cert_check.specs.declared.rules.Rule.TheVariants as rule
-use Rattle.cert_check.proofs.NodeRules.{prices_known}
+use Rattle.cert_check.proofs.NodeRules.{sound_proper}
 use Rattle.cert_check.proofs.Walks.{node}
+
+-- a bare leaf keeps no pair on its leg
+abbrev pub IsBareAt : Tables → Domains → Tree → Type 0
+IsBareAt t keeps (tree.Bare leg) = IsBare t keeps leg
+IsBareAt t keeps other = ⊤
+
+-- what weak duality asks of a node
+pub record Bounds (t : Tables) (node : Node) : Type 0 where
+  pub proper : IfSome (prices_at node.tree) (ArePrices t)
+  pub bare : IsBareAt t node.keeps node.tree
+  pub refuted : IsRefutedAt t node.keeps node.tree
+
+-- .. on tables on which legs are as bare as on others
+pub bare_at : (t u : Tables) → ((keeps : Domains) (leg : ℕ) → IsBare t keeps leg → IsBare u keeps leg) → (keeps : Domains) (whole : Tree) → HasItsPairs t keeps whole → IsBareAt u keeps whole
+bare_at t u as_bare keeps (tree.Bare leg) pairs = as_bare keeps leg pairs
+bare_at t u as_bare keeps tree.Sole pairs = tt
+bare_at t u as_bare keeps (tree.Refuted prices) pairs = tt
+bare_at t u as_bare keeps (tree.Priced prices) pairs = tt
+bare_at t u as_bare keeps (tree.Open prices why) pairs = tt
+bare_at t u as_bare keeps (tree.Trim' leg fleet p with_pair q without) pairs = tt
+bare_at t u as_bare keeps (tree.Split' leg fleet prices mixed p with_pair q without) pairs = tt
+
+sound_bounds : (t : Tables) (cost : Option ℤ) (one : Node) → IsSound t cost one → Bounds t one
+sound_bounds t cost one sound = record { proper = sound_proper t cost one sound; bare = bare_at t t (λ keeps leg bare. bare) one.keeps one.tree (sound.each rule.Pairs); refuted = sound.each rule.Refuted }
 
 -- a bound is there, and it is no more than a cost
 abbrev IsBelow : Option ℤ → ℤ → Type 0
@@ -74,7 +99,7 @@ pub second_all : (P : Node → Type 0) (xs ys : List Node) → All P (xs ++ ys) 
 second_all P [] ys all = all
 second_all P (x ∷ xs) ys all = second_all P xs ys (All-tail P x (xs ++ ys) all)
 
-module _ (t : Tables) (cost : Option ℤ) (a : List ℕ) (legal : IsLegal t a) where
+module _ (t : Tables) (a : List ℕ) (legal : IsLegal t a) where
   -- a leaf with prices
   by_prices : (keeps : Domains) (prices : Prices) (bound : Option ℤ) → ArePrices t prices → IsPriceBound t keeps prices bound → IsKeptAssignment t keeps a → IsBelow bound (total_cost t a)
   by_prices keeps prices bound proper is kept =
@@ -91,31 +116,33 @@ module _ (t : Tables) (cost : Option ℤ) (a : List ℕ) (legal : IsLegal t a) w
       by_taken true e = subst (λ b. IsBelow b (total_cost t a)) (sym is.lesser) (below_first is.with_pair is.without (total_cost t a) (first is.with_pair is.yes_is (in_part t a keeps leg fleet true (sym e) kept)))
       by_taken false e = subst (λ b. IsBelow b (total_cost t a)) (sym is.lesser) (below_second is.with_pair is.without (total_cost t a) (second is.without is.no_is (in_part t a keeps leg fleet false (sym e) kept)))
 
-  proper : (keeps : Domains) (whole : Tree) (rest : List Node) (prices : Prices) → All (IsSound t cost) (node keeps whole ∷ rest) → prices_at whole ≡ Some prices → ArePrices t prices
-  proper keeps whole rest prices all e = prices_known t cost (node keeps whole) prices (All-head (IsSound t cost) (node keeps whole) rest all) e
-
-  pub tree_bound : (keeps : Domains) (whole : Tree) (bound : Option ℤ) → AreSound t cost keeps whole → IsBoundIn t keeps whole bound → IsKeptAssignment t keeps a → IsBelow bound (total_cost t a)
-  tree_bound keeps (tree.Bare leg) bound sound is kept = absurd (bare_has_none t keeps leg a ((All-head (IsSound t cost) (node keeps (tree.Bare leg)) [] sound).each rule.Pairs) kept)
-  tree_bound keeps tree.Sole bound sound is kept = rw (is.legal a kept legal) (omega (arith, ints))
-  tree_bound keeps (tree.Refuted prices) bound sound is kept =
-      absurd (worth_refutes t keeps prices a (proper keeps (tree.Refuted prices) [] prices sound refl) ((All-head (IsSound t cost) (node keeps (tree.Refuted prices)) [] sound).each rule.Refuted) kept legal)
-  tree_bound keeps (tree.Priced prices) bound sound is kept = by_prices keeps prices bound (proper keeps (tree.Priced prices) [] prices sound refl) is kept
-  tree_bound keeps (tree.Open prices why) bound sound is kept = by_prices keeps prices bound (proper keeps (tree.Open prices why) [] prices sound refl) is kept
-  tree_bound keeps (tree.Trim' leg fleet p with_pair q without) bound sound is kept =
-      let below = All-tail (IsSound t cost) _ _ sound in
+  pub tree_bound : (keeps : Domains) (whole : Tree) (bound : Option ℤ) → All (Bounds t) (nodes_in keeps whole) → IsBoundIn t keeps whole bound → IsKeptAssignment t keeps a → IsBelow bound (total_cost t a)
+  tree_bound keeps (tree.Bare leg) bound all is kept = absurd (bare_has_none t keeps leg a (All-head (Bounds t) (node keeps (tree.Bare leg)) [] all).bare kept)
+  tree_bound keeps tree.Sole bound all is kept = rw (is.legal a kept legal) (omega (arith, ints))
+  tree_bound keeps (tree.Refuted prices) bound all is kept =
+      let here = All-head (Bounds t) (node keeps (tree.Refuted prices)) [] all in
+      absurd (worth_refutes t keeps prices a here.proper here.refuted kept legal)
+  tree_bound keeps (tree.Priced prices) bound all is kept = by_prices keeps prices bound (All-head (Bounds t) (node keeps (tree.Priced prices)) [] all).proper is kept
+  tree_bound keeps (tree.Open prices why) bound all is kept = by_prices keeps prices bound (All-head (Bounds t) (node keeps (tree.Open prices why)) [] all).proper is kept
+  tree_bound keeps (tree.Trim' leg fleet p with_pair q without) bound all is kept =
+      let below = All-tail (Bounds t) _ _ all in
       by_parts keeps leg fleet _ _ bound is
-      (λ b has here. tree_bound (part keeps leg fleet true) with_pair b (first_all (IsSound t cost) _ _ below) has here)
-      (λ b has here. tree_bound (part keeps leg fleet false) without b (second_all (IsSound t cost) (nodes_in (part keeps leg fleet true) with_pair) _ below) has here) kept
-  tree_bound keeps (tree.Split' leg fleet prices mixed p with_pair q without) bound sound is kept =
-      let below = All-tail (IsSound t cost) _ _ sound in
+      (λ b has here. tree_bound (part keeps leg fleet true) with_pair b (first_all (Bounds t) _ _ below) has here)
+      (λ b has here. tree_bound (part keeps leg fleet false) without b (second_all (Bounds t) (nodes_in (part keeps leg fleet true) with_pair) _ below) has here) kept
+  tree_bound keeps (tree.Split' leg fleet prices mixed p with_pair q without) bound all is kept =
+      let below = All-tail (Bounds t) _ _ all in
       by_parts keeps leg fleet _ _ bound is
-      (λ b has here. tree_bound (part keeps leg fleet true) with_pair b (first_all (IsSound t cost) _ _ below) has here)
-      (λ b has here. tree_bound (part keeps leg fleet false) without b (second_all (IsSound t cost) (nodes_in (part keeps leg fleet true) with_pair) _ below) has here) kept
+      (λ b has here. tree_bound (part keeps leg fleet true) with_pair b (first_all (Bounds t) _ _ below) has here)
+      (λ b has here. tree_bound (part keeps leg fleet false) without b (second_all (Bounds t) (nodes_in (part keeps leg fleet true) with_pair) _ below) has here) kept
 
 -- over all pairs that may be flown
-pub bounds_all : (t : Tables) (cost : Option ℤ) (keeps : Domains) (whole : Tree) (bound : Option ℤ) → keeps ≡ all_pairs t → AreSound t cost keeps whole → IsBoundIn t keeps whole bound → BoundsAll t bound
-bounds_all t cost keeps whole bound e sound is = by_bound bound (λ a legal. tree_bound t cost a legal keeps whole bound sound is (rw e (allowed_is_kept t a legal.assignment legal.allowed)))
+pub bounds_by : (t : Tables) (keeps : Domains) (whole : Tree) (bound : Option ℤ) → keeps ≡ all_pairs t → All (Bounds t) (nodes_in keeps whole) → IsBoundIn t keeps whole bound → BoundsAll t bound
+bounds_by t keeps whole bound e all is = by_bound bound (λ a legal. tree_bound t a legal keeps whole bound all is (rw e (allowed_is_kept t a legal.assignment legal.allowed)))
   where
     by_bound : (b : Option ℤ) → ((a : List ℕ) → IsLegal t a → IsBelow b (total_cost t a)) → BoundsAll t b
     by_bound None below = record { none = λ a legal. below a legal }
     by_bound (Some least) below = record { each = below }
+
+-- .. where all nodes keep all rules
+pub bounds_all : (t : Tables) (cost : Option ℤ) (keeps : Domains) (whole : Tree) (bound : Option ℤ) → keeps ≡ all_pairs t → AreSound t cost keeps whole → IsBoundIn t keeps whole bound → BoundsAll t bound
+bounds_all t cost keeps whole bound e sound is = bounds_by t keeps whole bound e (All-weaker (IsSound t cost) (Bounds t) (sound_bounds t cost) (nodes_in keeps whole) sound) is

@@ -39,7 +39,7 @@ its_own keeps (tree.Split' leg fleet prices mixed p with_pair q without) = (node
 
 -- ---- bounds
 -- of three bounds it is one which two are compared first
-lesser_of_three : (x y z : Option ℤ) → lesser_bound (lesser_bound x y) z ≡ lesser_bound x (lesser_bound y z)
+pub lesser_of_three : (x y z : Option ℤ) → lesser_bound (lesser_bound x y) z ≡ lesser_bound x (lesser_bound y z)
 lesser_of_three x y None = refl
 lesser_of_three x None (Some c) = refl
 lesser_of_three None (Some b) (Some c) = refl
@@ -49,7 +49,7 @@ lesser_of_three (Some a) (Some b) (Some c) = ap Some (by_order (int_le a b) (int
     by_order ab bc ac p q r = grind (arith, ints)
 
 -- beside no bound so far
-from_none : (b : Option ℤ) → lesser_bound None b ≡ b
+pub from_none : (b : Option ℤ) → lesser_bound None b ≡ b
 from_none None = refl
 from_none (Some x) = refl
 

@@ -1,5 +1,7 @@
+pub mod Asking
 pub mod MixedRules
 pub mod Nodes
+pub mod OtherSizes
 pub mod PriceRules
 pub mod Rules
 pub mod Splits

@@ -1,6 +1,7 @@
 //! The checker of proofs: whether a tree of subproblems proves the bound that it claims, whoever made it.
 #![tactic(auto)]
 
+pub mod asking;
 pub mod checked;
 pub mod checking;
 mod fraction_rules;
@@ -9,13 +10,17 @@ mod mixed_counts;
 mod mixed_room;
 mod mixed_rules;
 mod node_rules;
+mod other_leaves;
 mod price_rules;
 mod reached;
 pub mod rules;
 pub mod splits;
 mod walking;
+pub mod what_if;
 
+pub use asking::whatif;
 pub use checked::Checked;
 pub use checking::{check, check_with_cost};
 pub use rules::Rule;
 pub use splits::split_above;
+pub use what_if::WhatIf;

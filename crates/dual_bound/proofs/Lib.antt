@@ -5,6 +5,7 @@ pub mod Flows
 pub mod LeastWorth
 pub mod NoCharges
 pub mod Numbers
+pub mod OtherSizes
 pub mod Parking
 pub mod PriceLists
 pub mod RisingSteps

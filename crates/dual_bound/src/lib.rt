@@ -6,6 +6,7 @@ pub mod counting;
 pub mod laws;
 pub mod mixed;
 pub mod nodes;
+pub mod other_worth;
 pub mod price_at;
 pub mod price_finder;
 pub mod prices;

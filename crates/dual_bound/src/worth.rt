@@ -1,5 +1,5 @@
 //! The bound that prices give in a subproblem.
-ghost use Rattle.std.specs.Prelude.{◌≡◌, ◌<◌, ◌≤◌, ◌*◌, ◌-ℤ◌, ◌*ℤ◌, pos};
+ghost use Rattle.std.specs.Prelude.{◌≡◌, ◌<◌, ◌≤◌, ◌+◌, ◌*◌, ◌-ℤ◌, ◌*ℤ◌, pos};
 ghost use Rattle.sums.specs.Below.{sum_below_ℤ};
 ghost use Rattle.fleet_model.specs.declared.limits.TheConstants.{MAX_AIRCRAFT};
 ghost use Rattle.fleet_model.specs.Kept.{kept_by};
@@ -28,8 +28,18 @@ pub fn worth(tables: &Tables, kept: &Kept, prices: &Prices, k: u8) -> i128
     requires k { k ≤ 1 }
     ensures { result ≡ worth_of tables.now (kept_by kept.now) prices.now k }
 {
-    let prices = PriceFinder::new(prices);
-    legs_worth(tables, kept, &prices, k) - all_rents(tables, &prices) - all_charges(tables, &prices)
+    total_worth(tables, kept, &PriceFinder::new(prices), k)
+}
+
+/// The worth of prices, with its size.
+pub(crate) fn total_worth(tables: &Tables, kept: &Kept, prices: &PriceFinder<'_>, k: u8) -> i128
+    requires scale { IsScale prices.now.scale }
+    requires within { AreWithin tables.now prices.now }
+    requires k { k ≤ 1 }
+    ensures value { result ≡ worth_of tables.now (kept_by kept.now) prices.now k }
+    ensures size { IsUpTo (5 * legs_in tables.now + MAX_AIRCRAFT * fleets_in tables.now + 70000 * stations_in tables.now) result }
+{
+    legs_worth(tables, kept, prices, k) - all_rents(tables, prices) - all_charges(tables, prices)
 }
 
 // What the legs are worth, added up.
@@ -173,8 +183,8 @@ fn price(tables: &Tables, prices: &PriceFinder<'_>, fleet: u32, station: u32, mi
     prices.price(fleet, station, minute)
 }
 
-// The rent of an aircraft of a fleet, with its size.
-fn rent(tables: &Tables, prices: &PriceFinder<'_>, fleet: u32) -> i128
+/// The rent of an aircraft of a fleet, with its size.
+pub(crate) fn rent(tables: &Tables, prices: &PriceFinder<'_>, fleet: u32) -> i128
     requires within { AreWithin tables.now prices.now }
     requires fleet { fleet < fleets_in tables.now }
     ensures value { result ≡ rent_of prices.now fleet }
@@ -207,8 +217,8 @@ fn all_rents(tables: &Tables, prices: &PriceFinder<'_>) -> i128
     sum
 }
 
-// The rents of a fleet's aircraft.
-fn fleet_rents(tables: &Tables, prices: &PriceFinder<'_>, fleet: u32) -> i128
+/// The rents of a fleet's aircraft.
+pub(crate) fn fleet_rents(tables: &Tables, prices: &PriceFinder<'_>, fleet: u32) -> i128
     requires within { AreWithin tables.now prices.now }
     requires fleet { fleet < fleets_in tables.now }
     ensures value { result ≡ rents_of tables.now prices.now fleet }

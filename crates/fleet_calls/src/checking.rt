@@ -173,10 +173,10 @@ const TWO_FLEETS: Files = Files {
 };
 
 /// From a minute on a fleet is worth so much at the first station.
-type Worth = (u32, u16, i128);
+pub type Worth = (u32, u16, i128);
 
 /// Prices of scale 1.
-fn prices(alloc: Global, rents: &[i128], worths: &[Worth]) -> Result<Prices, NoMemory> {
+pub fn prices(alloc: Global, rents: &[i128], worths: &[Worth]) -> Result<Prices, NoMemory> {
     let mut steps = Vec::new(alloc);
     for (fleet, minute, value) in worths {
         steps.push(PriceStep {

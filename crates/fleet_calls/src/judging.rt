@@ -1,7 +1,8 @@
 //! Assignments, judged, with the aircraft that they need and use.
 use crate::assertions::assert_same;
 use fleet_model::Tables;
-use plan_judge::{Verdict, judge, need, used};
+use fleet_model::limits::MAX_AIRCRAFT;
+use plan_judge::{Verdict, judge, judge_as, need, used};
 use std::alloc::Global;
 use std::process::Abort;
 use std::test::Fail;
@@ -81,6 +82,37 @@ fn refused_assignments_have_their_first_reason(rt: HostRuntime) -> Result<(), Fa
         &[1, 1],
         Verdict::NotAllowed { leg: 1 },
     )
+}
+
+/// The verdict on an assignment where a fleet has another number of aircraft.
+fn other_verdict(tables: &Tables, fleet: u32, count: u32, fleets: &[u32]) -> Option<Verdict> {
+    if fleet >= tables.fleet_count() || count > MAX_AIRCRAFT {
+        return None;
+    }
+    let plan = assignment(tables, fleets)?;
+    Some(judge_as(tables, fleet, count, &plan))
+}
+
+/// The round trip by the first fleet, of which the tables have one aircraft: a fleet, how many it has, and the verdict.
+const OTHER_SIZES: &[(u32, u32, Verdict)] = &[
+    (0, 0, TOO_MANY),
+    (0, 1, Verdict::Legal { cost: 200 }),
+    (0, 500, Verdict::Legal { cost: 200 }),
+    (1, 0, Verdict::Legal { cost: 200 }),
+];
+
+#[test]
+fn other_numbers_of_aircraft(rt: HostRuntime) -> Result<(), Fail> {
+    let tables = read(rt.alloc(), &ROUND_TRIP)?;
+    for (fleet, count, wanted) in OTHER_SIZES {
+        let seen = other_verdict(&tables, *fleet, *count, &[0, 0]);
+        assert_same(&rt, seen, Some(*wanted));
+    }
+    let idle = read(rt.alloc(), &WITHOUT_AIRCRAFT)?;
+    let legal = Verdict::Legal { cost: 200 };
+    assert_same(&rt, other_verdict(&idle, 0, 1, &[0, 0]), Some(legal));
+    assert_same(&rt, other_verdict(&idle, 1, 2, &[0, 0]), Some(TOO_MANY));
+    Ok(())
 }
 
 /// What a fleet uses, and what it needs at a station.

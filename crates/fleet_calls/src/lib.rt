@@ -35,4 +35,6 @@ mod reading;
 #[cfg(test)]
 mod subproblems;
 #[cfg(test)]
+mod what_if;
+#[cfg(test)]
 mod worths;

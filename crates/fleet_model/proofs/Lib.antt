@@ -8,6 +8,7 @@ pub mod MixedPlans
 pub mod NeedAtDepartures
 pub mod NightsUsed
 pub mod OneDay
+pub mod OtherSizes
 pub mod OwnPairs
 pub mod OwnTimesOnly
 pub mod PeriodMinutes

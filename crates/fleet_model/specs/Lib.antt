@@ -6,6 +6,7 @@ pub mod Laws
 pub mod Legal
 pub mod Limits
 pub mod Mixed
+pub mod OtherSizes
 pub mod OwnTimes
 pub mod Plain
 pub mod Schedule

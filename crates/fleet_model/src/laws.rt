@@ -8,6 +8,7 @@ ghost use Rattle.fleet_model.specs.Legal.{IsAssignment};
 ghost use Rattle.fleet_model.specs.Schedule.{fleets_in};
 ghost use Rattle.fleet_model.specs.Laws.{AllowedIsKept, BareHasNone, CountsAreLegs, KeptIsAllowed, NeedIsAtDepartures, NeedIsLeast, NeedSuffices, LapsAreNights, SoleIsOne, UseIsConstant, UseIsNeedAndNights};
 ghost use Rattle.fleet_model.specs.Mixed.{LegalIsMixed};
+ghost use Rattle.fleet_model.specs.OtherSizes.{OtherSizeStands};
 ghost use Rattle.fleet_model.specs.Whole.{WholeIsLegal};
 
 /// With `need` aircraft at the day start a fleet never lacks one at the station.
@@ -75,6 +76,11 @@ pub fn legal_is_mixed()
 /// A mixed plan in which each pair has all of its leg or nothing is a legal assignment of kept pairs.
 pub fn whole_is_legal()
     ensures { WholeIsLegal }
+{}
+
+/// There are tables with another number of aircraft of one fleet, for each number that a fleet may have.
+pub fn other_size_stands()
+    ensures { OtherSizeStands }
 {}
 
 /// The limits of tables in numbers, how long the day is, and how many days a period has at most.

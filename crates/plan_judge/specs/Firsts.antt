@@ -4,8 +4,7 @@ use Rattle.fleet_model.specs.declared.tables.Tables.{Tables}
 use Rattle.fleet_model.specs.Counts.{arrived, departed, weights_of}
 use Rattle.fleet_model.specs.Schedule.{last_of, stations_in}
 use Rattle.plan_judge.specs.declared.balance.Imbalance.{Imbalance}
-use Rattle.plan_judge.specs.declared.limits.Overuse.{Overuse}
-use Rattle.plan_judge.specs.Verdicts.{Balances, FirstUnbalanced, FirstTooMany}
+use Rattle.plan_judge.specs.Verdicts.{Balances, FirstUnbalanced}
 
 abbrev pub IsFirstUnbalanced : Tables → List ℕ → Imbalance → Type 0
 IsFirstUnbalanced t a found = FirstUnbalanced t a found.fleet found.station found.came found.left
@@ -18,6 +17,3 @@ pub record FirstAtFleet (t : Tables) (a : List ℕ) (fleet : ℕ) (found : Imbal
   pub left_there : found.left ≡ departed t (weights_of a) fleet found.station (last_of t)
   pub differ : found.came ≢ found.left
   pub first : (s : ℕ) → s < found.station → Balances t a fleet s
-
-abbrev pub IsFirstTooMany : Tables → List ℕ → Overuse → Type 0
-IsFirstTooMany t a found = FirstTooMany t a found.fleet found.used found.has

@@ -1,4 +1,5 @@
 pub mod Crowds
 pub mod Firsts
 pub mod Laws
+pub mod Sizes
 pub mod Verdicts

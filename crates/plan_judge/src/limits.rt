@@ -1,9 +1,10 @@
 //! Where an assignment uses more aircraft than there are.
 ghost use Rattle.std.specs.Prelude.{MatchOption};
-ghost use Rattle.fleet_model.specs.Legal.{IsAssignment, IsWithinFleets};
-ghost use Rattle.plan_judge.specs.Firsts.{IsFirstTooMany};
+ghost use Rattle.fleet_model.specs.Legal.{IsAssignment};
+ghost use Rattle.plan_judge.specs.Sizes.{IsFirstTooManyBy, IsWithinBy};
 
 use crate::counting::used;
+use crate::sizes::Sizes;
 use fleet_model::{Assignment, Tables};
 
 /// A fleet that uses more aircraft than it has.
@@ -15,13 +16,13 @@ pub(crate) struct Overuse {
 }
 
 /// The first fleet that uses more aircraft than it has.
-pub(crate) fn first_too_many(tables: &Tables, plan: &Assignment) -> Option<Overuse>
+pub(crate) fn first_too_many(tables: &Tables, sizes: Sizes, plan: &Assignment) -> Option<Overuse>
     requires { IsAssignment tables.now plan.now }
-    ensures { MatchOption result (IsWithinFleets tables.now plan.now) (IsFirstTooMany tables.now plan.now) }
+    ensures { MatchOption result (IsWithinBy tables.now sizes plan.now) (IsFirstTooManyBy tables.now sizes plan.now) }
 {
     for fleet in 0..tables.fleet_count() {
         let used = used(tables, plan, fleet);
-        let has = tables.fleet(fleet).aircraft;
+        let has = sizes.aircraft(tables, fleet);
         if used > has {
             return Some(Overuse { fleet, used, has });
         }

@@ -1,11 +1,17 @@
-ghost use Rattle.std.specs.Prelude.{◌≡◌};
+ghost use Rattle.std.specs.Prelude.{◌≡◌, ◌<◌, ◌≤◌};
+ghost use Rattle.fleet_model.specs.declared.limits.TheConstants.{MAX_AIRCRAFT};
+ghost use Rattle.fleet_model.specs.declared.tables.Tables.{Tables};
 ghost use Rattle.fleet_model.specs.Legal.{IsAssignment, IsLegal, total_cost};
+ghost use Rattle.fleet_model.specs.OtherSizes.{IsOtherSize};
+ghost use Rattle.fleet_model.specs.Schedule.{fleets_in};
+ghost use Rattle.plan_judge.specs.Sizes.{IsVerdictBy};
 ghost use Rattle.plan_judge.specs.Verdicts.{IsVerdict};
 
 use crate::balance::first_unbalanced;
 use crate::cost::{cost, first_not_allowed};
 use crate::crowds::first_crowded;
 use crate::limits::first_too_many;
+use crate::sizes::Sizes;
 use fleet_model::{Assignment, Tables};
 
 /// What an assignment is worth: legal, or the first reason why it is not.
@@ -43,13 +49,34 @@ pub enum Verdict {
     },
 }
 
-/// Judges an assignment, which has a known fleet for each leg. Takes no memory.
+/// Judges an assignment, which has a known choice for each leg. Takes no memory.
 pub fn judge(tables: &Tables, plan: &Assignment) -> Verdict
     requires { IsAssignment tables.now plan.now }
 
     // The first refusal in the order of the variants, with its true numbers, or legal with the exact cost.
     ensures verdict { IsVerdict tables.now plan.now result }
     ensures legal { IsLegal tables.now plan.now → result ≡ Verdict.Legal (total_cost tables.now plan.now) }
+{
+    judge_by(tables, Sizes::Own, plan)
+}
+
+/// Judges an assignment as `judge` does, on the tables with another number of aircraft of one fleet. Takes no memory.
+pub fn judge_as(tables: &Tables, fleet: u32, count: u32, plan: &Assignment) -> Verdict
+    requires fleet { fleet < fleets_in tables.now }
+    requires count { count ≤ MAX_AIRCRAFT }
+    requires plan { IsAssignment tables.now plan.now }
+
+    // As of `judge`, on whichever tables have that number.
+    ensures verdict { (u : Tables) → IsOtherSize tables.now fleet count u → IsVerdict u plan.now result }
+    ensures legal { (u : Tables) → IsOtherSize tables.now fleet count u → IsLegal u plan.now → result ≡ Verdict.Legal (total_cost u plan.now) }
+{
+    judge_by(tables, Sizes::Other { fleet, count }, plan)
+}
+
+// Judges an assignment where fleets have so many aircraft.
+fn judge_by(tables: &Tables, sizes: Sizes, plan: &Assignment) -> Verdict
+    requires { IsAssignment tables.now plan.now }
+    ensures { IsVerdictBy tables.now sizes plan.now result }
 {
     if let Some(leg) = first_not_allowed(tables, plan) {
         return Verdict::NotAllowed { leg };
@@ -62,7 +89,7 @@ pub fn judge(tables: &Tables, plan: &Assignment) -> Verdict
             left: found.left,
         };
     }
-    if let Some(found) = first_too_many(tables, plan) {
+    if let Some(found) = first_too_many(tables, sizes, plan) {
         return Verdict::TooMany {
             fleet: found.fleet,
             used: found.used,

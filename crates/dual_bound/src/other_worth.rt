@@ -1,0 +1,48 @@
+//! The worth of prices where a fleet has another number of aircraft.
+ghost use Rattle.std.specs.Prelude.{◌≡◌, ◌<◌, ◌≤◌, ◌*ℤ◌, pos};
+ghost use Rattle.fleet_model.specs.declared.limits.TheConstants.{MAX_AIRCRAFT};
+ghost use Rattle.fleet_model.specs.declared.tables.Tables.{Tables};
+ghost use Rattle.fleet_model.specs.Kept.{kept_by};
+ghost use Rattle.fleet_model.specs.OtherSizes.{IsOtherSize};
+ghost use Rattle.fleet_model.specs.Schedule.{fleets_in};
+ghost use Rattle.dual_bound.specs.Prices.{AreWithin, IsScale, rent_of};
+ghost use Rattle.dual_bound.specs.Sizes.{IsUpTo};
+ghost use Rattle.dual_bound.specs.Worth.{worth_of};
+
+use crate::price_finder::PriceFinder;
+use crate::prices::Prices;
+use crate::worth::{fleet_rents, rent, total_worth};
+use fleet_model::{Kept, Tables};
+
+/// The worth of prices in a subproblem, as `worth` has it, of the tables with another number of aircraft of one fleet.
+/// Takes no memory.
+pub fn worth_as(
+    tables: &Tables,
+    fleet: u32,
+    count: u32,
+    kept: &Kept,
+    prices: &Prices,
+    k: u8,
+) -> i128
+    requires fleet { fleet < fleets_in tables.now }
+    requires count { count ≤ MAX_AIRCRAFT }
+    requires scale { IsScale prices.now.scale }
+    requires within { AreWithin tables.now prices.now }
+    requires k { k ≤ 1 }
+    ensures { (u : Tables) → IsOtherSize tables.now fleet count u → result ≡ worth_of u (kept_by kept.now) prices.now k }
+{
+    let prices = PriceFinder::new(prices);
+    total_worth(tables, kept, &prices, k) + fleet_rents(tables, &prices, fleet)
+        - rents_for(tables, &prices, fleet, count)
+}
+
+// The rents of so many aircraft of a fleet.
+fn rents_for(tables: &Tables, prices: &PriceFinder<'_>, fleet: u32, count: u32) -> i128
+    requires within { AreWithin tables.now prices.now }
+    requires fleet { fleet < fleets_in tables.now }
+    requires count { count ≤ MAX_AIRCRAFT }
+    ensures value { result ≡ rent_of prices.now fleet *ℤ pos count }
+    ensures size { IsUpTo MAX_AIRCRAFT result }
+{
+    rent(tables, prices, fleet) * i128::from(count)
+}
