@@ -13,12 +13,12 @@ use Rattle.fleet_model.specs.Kept.{Domains}
 use Rattle.fleet_model.specs.Laws.{PassesDepartures, excess_at_departure}
 use Rattle.fleet_model.specs.Schedule.{departures_in, fleets_in, leg_at, leg_of, pair_on, period_of}
 use Rattle.fleet_model.specs.Times.{departure, ready_minute}
-use Rattle.fleet_model.specs.Use.{excess, last_minute, need_of}
+use Rattle.fleet_model.specs.Use.{excess, need_of}
 use Rattle.fleet_model.proofs.Choices.{on_departure}
 use Rattle.fleet_model.proofs.NeedAtDepartures.{need_is_at_departures}
 use Rattle.fleet_model.proofs.PeriodMinutes.{departs_always}
 use Rattle.node_aggregate.specs.Laws.{NeedIsAtNodeEnds, WeighKept, excess_at_end}
-use Rattle.node_aggregate.specs.Nodes.{AreNodesAt, HappensAt, MayStart, end_in, node_end}
+use Rattle.node_aggregate.specs.Nodes.{AreNodesAt, HappensAt, MayStart, end_in}
 use Rattle.node_aggregate.proofs.EventsAmong.{departs_at, ready_at}
 use Rattle.node_aggregate.proofs.Links.{nothing}
 use Rattle.node_aggregate.proofs.Starts.{end_last, end_next, end_within}
@@ -28,13 +28,6 @@ pub record Holds (starts : List ℕ) (minute place : ℕ) : Type 0 where
   pub within : place < length starts
   pub started : get_or starts place 0 ≤ minute
   pub before : place + 1 < length starts → minute < get_or starts (place + 1) 0
-
--- the end of a node that another follows, and of the last one, in a period of one day
-pub end_before : (starts : List ℕ) (k : ℕ) → k + 1 < length starts → node_end starts k ≡ get_or starts (k + 1) 0 - 1
-end_before starts k within = grind (arith, nat_tests)
-
-pub end_at_last : (starts : List ℕ) (k : ℕ) → length starts ≤ k + 1 → node_end starts k ≡ last_minute
-end_at_last starts k past = grind (arith, nat_tests)
 
 -- of the first n nodes one holds the minute, or the next has started by then
 find_node : (starts : List ℕ) (minute n : ℕ) → get_or starts 0 0 ≡ 0 → n < length starts → ((k : ℕ) × Holds starts minute k) ⊎ (get_or starts n 0 ≤ minute)

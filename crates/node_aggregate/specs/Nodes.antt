@@ -5,7 +5,6 @@ use Rattle.fleet_model.specs.declared.limits.TheConstants.{MINUTES_PER_DAY}
 use Rattle.fleet_model.specs.declared.tables.Tables.{Tables}
 use Rattle.fleet_model.specs.Kept.{Domains}
 use Rattle.fleet_model.specs.Schedule.{days_in, last_of, parking_of}
-use Rattle.fleet_model.specs.Use.{last_minute}
 use Rattle.timeline_net.specs.declared.timeline.Event.{Event}
 use Rattle.timeline_net.specs.Events.{AreEvents}
 
@@ -86,7 +85,3 @@ pub record IsNodeOf (starts : List ℕ) (minute place : ℕ) : Type 0 where
 -- the last minute of a node: the one before the next start, and of the last node the last of the period
 abbrev pub end_in : Tables → List ℕ → ℕ → ℕ
 end_in t starts k = if nat_lt (k + 1) (length starts) then slice_index starts (k + 1) - 1 else last_of t
-
--- .. of a period of one day
-abbrev pub node_end : List ℕ → ℕ → ℕ
-node_end starts k = if nat_lt (k + 1) (length starts) then slice_index starts (k + 1) - 1 else last_minute

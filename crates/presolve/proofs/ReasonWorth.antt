@@ -8,8 +8,7 @@ use Rattle.sums.specs.Below.{sum_below_ℤ}
 use Rattle.sums.proofs.Tests.{by_test}
 use Rattle.sums.proofs.WholeSums.{sum_below_ℤ-same}
 use Rattle.fleet_model.specs.Kept.{Domains}
-use Rattle.fleet_model.specs.Limits.{IsLeg}
-use Rattle.fleet_model.specs.Schedule.{IsPair, choices_in, fleet_by, fleet_of, fleets_in, leg_of, leg_on, legs_in, no_leg, stations_in}
+use Rattle.fleet_model.specs.Schedule.{IsPair, choices_in, fleet_by, fleet_of, fleets_in, leg_of, leg_on, legs_in, no_leg}
 use Rattle.fleet_model.specs.Times.{busy_minutes, departure, laps_of, ready_minute}
 use Rattle.fleet_model.specs.declared.parts.Pair.{Pair}
 use Rattle.fleet_model.specs.declared.tables.Tables.{Tables}
@@ -38,7 +37,7 @@ no_cost s c d r e f g h = let none : (pos 0 *ℤ s) *ℤ c ≡ pos 0 = ap (λ z.
 -- a pair that a fleet flies adds what the prices say
 flown_flow : (t : Tables) (why : Rule) (p q : Pair) (prices : Prices) → IsReason t why p prices → IsPair t q → fleet_by t q < fleets_in t → pair_worth t prices 0 q ≡ reason_flow t why p q
 flown_flow t why p q prices reason pair flies =
-    let fits : IsLeg (stations_in t) (leg_of t q.leg) = t.in_range.legs_fit.each q.leg no_leg pair.leg in
+    let fits = t.in_range.legs_fit.each q.leg no_leg pair.leg in
     no_cost prices.scale (cost_units t q) _ _ _ _
     (flown t q _ pair flies
     ∙ less (reason.each_price (fleet_by t q) (leg_of t q.leg).from (departure t q) flies fits.from (departs_in t q pair))

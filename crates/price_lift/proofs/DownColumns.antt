@@ -1,5 +1,5 @@
 -- What a column comes to when each line counts by a number, by the kinds of lines.
-use Rattle.std.proofs.Common.{◌≡◌, ℕ, ◌+◌, ◌<◌, Bool, true, false, if◌then◌else◌, ◌==◌, ◌&&◌, length, ℤ, pos, ◌+ℤ◌, ◌-ℤ◌, ◌*ℤ◌, refl, ◌∙◌, ap, arith}
+use Rattle.std.proofs.Common.{◌≡◌, ℕ, ◌+◌, ◌<◌, ◌≤◌, Bool, true, false, if◌then◌else◌, ◌==◌, ◌&&◌, length, ℤ, pos, ◌+ℤ◌, ◌-ℤ◌, ◌*ℤ◌, refl, ◌∙◌, ap, arith}
 use Rattle.std.proofs.lemmas.Bool.Decides.{nat_tests}
 use Rattle.std.proofs.lemmas.Int.{ints}
 use lib.IntN.{*ℤ-zero}
@@ -9,7 +9,7 @@ use Rattle.sums.proofs.WholeSums.{sum_below_ℤ-same, sum_below_ℤ--ℤ}
 use Rattle.sums.proofs.WholeSwaps.{sum_below_ℤ-one, where_true}
 use Rattle.fleet_model.specs.declared.parts.Pair.{Pair}
 use Rattle.fleet_model.specs.declared.tables.Tables.{Tables}
-use Rattle.fleet_model.specs.Schedule.{IsFlown, fleet_by, fleet_of, fleets_in, leg_of, legs_in, stations_in}
+use Rattle.fleet_model.specs.Schedule.{IsFlown, IsPair, fleet_by, fleet_of, fleets_in, leg_of, legs_in, stations_in}
 use Rattle.fleet_model.specs.Times.{departure, laps_of, ready_minute}
 use Rattle.lp_rows.specs.declared.kinds.Node.{Node}
 use Rattle.lp_rows.specs.declared.kinds.Park.{Park}
@@ -74,6 +74,11 @@ module _ (t : Tables) (starts : Starts) (y : ℕ → ℤ) where
       ∙ sum_below_ℤ--ℤ (λ s. sum_below_ℤ (λ k. g f s k) (length (starts f s))) (λ s. sum_below_ℤ (λ k. h f s k) (length (starts f s))) (stations_in t))
       ∙ sum_below_ℤ--ℤ (λ f. sum_below_ℤ (λ s. sum_below_ℤ (λ k. g f s k) (length (starts f s))) (stations_in t)) (λ f. sum_below_ℤ (λ s. sum_below_ℤ (λ k. h f s k) (length (starts f s))) (stations_in t)) (fleets_in t)
 
+  over_nodes-zero : (g : ℕ → ℕ → ℕ → ℤ) → ((f s k : ℕ) → f < fleets_in t → g f s k ≡ pos 0) → over_nodes g ≡ pos 0
+  over_nodes-zero g zero =
+      all_zero (λ f. sum_below_ℤ (λ s. sum_below_ℤ (λ k. g f s k) (length (starts f s))) (stations_in t)) (fleets_in t)
+      (λ f known. all_zero (λ s. sum_below_ℤ (λ k. g f s k) (length (starts f s))) (stations_in t) (λ s within. all_zero (λ k. g f s k) (length (starts f s)) (λ k below. zero f s k known)))
+
   -- by any numbers of lines
   abbrev pub down : (Line → ℤ) → ℤ
   down e = sum_below_ℤ (λ i. y i *ℤ e (line_at t starts i)) (legs_in t + priced_count t starts)
@@ -102,10 +107,7 @@ module _ (t : Tables) (starts : Starts) (y : ℕ → ℤ) where
   no_covers e none = all_zero (λ l. y l *ℤ e (Cover l)) (legs_in t) (λ l below. ap (λ z. y l *ℤ z) (none l) ∙ *ℤ-zero (y l))
 
   no_balances : (e : Line → ℤ) → ((n : Node) → e (Balance n) ≡ pos 0) → over_nodes (λ f s k. of_node f s k *ℤ e (Balance (node_at f s k))) ≡ pos 0
-  no_balances e none =
-      all_zero (λ f. sum_below_ℤ (λ s. sum_below_ℤ (λ k. of_node f s k *ℤ e (Balance (node_at f s k))) (length (starts f s))) (stations_in t)) (fleets_in t)
-      (λ f known. all_zero (λ s. sum_below_ℤ (λ k. of_node f s k *ℤ e (Balance (node_at f s k))) (length (starts f s))) (stations_in t)
-      (λ s within. all_zero (λ k. of_node f s k *ℤ e (Balance (node_at f s k))) (length (starts f s)) (λ k below. ap (λ z. of_node f s k *ℤ z) (none (node_at f s k)) ∙ *ℤ-zero (of_node f s k))))
+  no_balances e none = over_nodes-zero (λ f s k. of_node f s k *ℤ e (Balance (node_at f s k))) (λ f s k known. ap (λ z. of_node f s k *ℤ z) (none (node_at f s k)) ∙ *ℤ-zero (of_node f s k))
 
   -- ---- a pair
   -- the numbers of nodes of a fleet at a station that a minute lies in
@@ -122,13 +124,16 @@ module _ (t : Tables) (starts : Starts) (y : ℕ → ℤ) where
       ∙ three_tests (a == f) (b == s) (is_in t (starts f s) k m) (of_node f s k))
       ∙ pick_nodes (fleets_in t) (stations_in t) a b (λ f s. length (starts f s)) (λ f s k. where_true (is_in t (starts f s) k m) (of_node f s k)) here there
 
-  module _ (p : Pair) (flown : IsFlown t p) (from : (leg_of t p.leg).from < stations_in t) (to : (leg_of t p.leg).to < stations_in t) where
-    flight_covers : sum_below_ℤ (λ l. y l *ℤ cover_entry l (Flight p)) (legs_in t) ≡ y p.leg
-    flight_covers =
-        sum_below_ℤ-same (λ l. y l *ℤ one_if (l == p.leg)) (λ l. where_true (p.leg == l) (y l)) (legs_in t)
-        (λ l below. times_one_if (l == p.leg) (y l) ∙ ap (λ b. where_true b (y l)) (flip l p.leg))
-        ∙ sum_below_ℤ-one p.leg y (legs_in t) flown.pair.leg
+  flight_covers : (p : Pair) → IsPair t p → sum_below_ℤ (λ l. y l *ℤ cover_entry l (Flight p)) (legs_in t) ≡ y p.leg
+  flight_covers p pair =
+      sum_below_ℤ-same (λ l. y l *ℤ one_if (l == p.leg)) (λ l. where_true (p.leg == l) (y l)) (legs_in t)
+      (λ l below. times_one_if (l == p.leg) (y l) ∙ ap (λ b. where_true b (y l)) (flip l p.leg))
+      ∙ sum_below_ℤ-one p.leg y (legs_in t) pair.leg
 
+  flight_parkings : (p : Pair) → sum_below_ℤ (λ k. of_park k *ℤ entry_of t starts (Parking (park_of_number t k)) (Flight p)) (park_count t) ≡ pos 0
+  flight_parkings p = no_parkings (λ line. entry_of t starts line (Flight p)) (λ q. refl)
+
+  module _ (p : Pair) (flown : IsFlown t p) (from : (leg_of t p.leg).from < stations_in t) (to : (leg_of t p.leg).to < stations_in t) where
     flight_balances : over_nodes (λ f s k. of_node f s k *ℤ balance_entry t starts (node_at f s k) (Flight p))
         ≡ at_minute (fleet_by t p) (leg_of t p.leg).to (ready_minute t p) -ℤ at_minute (fleet_by t p) (leg_of t p.leg).from (departure t p)
     flight_balances =
@@ -148,7 +153,26 @@ module _ (t : Tables) (starts : Starts) (y : ℕ → ℤ) where
 
     pub down_flight : down (λ line. entry_of t starts line (Flight p))
         ≡ y p.leg +ℤ ((at_minute (fleet_by t p) (leg_of t p.leg).to (ready_minute t p) -ℤ at_minute (fleet_by t p) (leg_of t p.leg).from (departure t p)) +ℤ (of_fleet (fleet_by t p) *ℤ pos (laps_of t p)))
-    down_flight = by_kinds (λ line. entry_of t starts line (Flight p)) ∙ omega (arith, ints, flight_covers, flight_balances, flight_counts, no_parkings (λ line. entry_of t starts line (Flight p)) (λ q. refl))
+    down_flight = by_kinds (λ line. entry_of t starts line (Flight p)) ∙ omega (arith, ints, flight_covers p flown.pair, flight_balances, flight_counts, flight_parkings p)
+
+  -- one that leaves its leg out stands in the leg's cover line alone
+  module _ (p : Pair) (pair : IsPair t p) (out : fleets_in t ≤ fleet_by t p) where
+    other_fleet : (f : ℕ) → f < fleets_in t → (f == fleet_by t p) ≡ false
+    other_fleet f known = grind (arith, nat_tests)
+
+    not_balanced : (f s k : ℕ) → f < fleets_in t → of_node f s k *ℤ balance_entry t starts (node_at f s k) (Flight p) ≡ pos 0
+    not_balanced f s k known =
+        ap (λ b. of_node f s k *ℤ (one_if (b && (((leg_of t p.leg).to == s) && is_in t (starts f s) k (ready_minute t p))) -ℤ one_if (b && (((leg_of t p.leg).from == s) && is_in t (starts f s) k (departure t p))))) (other_fleet f known)
+        ∙ *ℤ-zero (of_node f s k)
+
+    not_counted : (f : ℕ) → f < fleets_in t → of_fleet f *ℤ count_entry t starts f (Flight p) ≡ pos 0
+    not_counted f known = ap (λ b. of_fleet f *ℤ (if b then pos (laps_of t p) else pos 0)) (other_fleet f known) ∙ *ℤ-zero (of_fleet f)
+
+    pub down_left_out : down (λ line. entry_of t starts line (Flight p)) ≡ y p.leg
+    down_left_out =
+        let balances = over_nodes-zero (λ f s k. of_node f s k *ℤ balance_entry t starts (node_at f s k) (Flight p)) not_balanced in
+        let counts = all_zero (λ f. of_fleet f *ℤ count_entry t starts f (Flight p)) (fleets_in t) not_counted in
+        by_kinds (λ line. entry_of t starts line (Flight p)) ∙ omega (arith, ints, flight_covers p pair, balances, counts, flight_parkings p)
 
   -- ---- a ground arc
   module _ (a : Node) (is_node : IsNode t starts a) where

@@ -9,8 +9,7 @@ use Rattle.frac_row.proofs.Rows.{reduced_is_row}
 use Rattle.frac_row.proofs.Combinations.{opposite_within}
 use Rattle.fleet_model.specs.declared.tables.Tables.{Tables}
 use Rattle.fleet_model.specs.Kept.{Domains, pairs_kept}
-use Rattle.fleet_model.specs.Schedule.{fleets_in}
-use Rattle.fleet_model.specs.Use.{last_minute}
+use Rattle.fleet_model.specs.Schedule.{fleets_in, last_of}
 use Rattle.node_aggregate.specs.Nodes.{AreNodesAt}
 use Rattle.node_aggregate.proofs.Starts.{start_within}
 use Rattle.dual_lift.specs.Parts.{AreParts}
@@ -33,7 +32,7 @@ small_figure : (n : ℕ) → n ≤ max_scale → IsFigure (pos n)
 small_figure n small = figure (pos n) (omega (arith, ints))
 
 -- ---- prices
-pub early : (t : Tables) (keeps : Domains) (f s : ℕ) (starts : List ℕ) → AreNodesAt t keeps f s starts → (p : ℕ) → p < length starts → get_or starts p 0 ≤ last_minute
+early : (t : Tables) (keeps : Domains) (f s : ℕ) (starts : List ℕ) → AreNodesAt t keeps f s starts → (p : ℕ) → p < length starts → get_or starts p 0 ≤ last_of t
 early t keeps f s starts nodes p below = omega (arith, start_within t keeps f s starts nodes p below)
 
 pub prices_in_order : (t : Tables) (keeps : Domains) (duals : FracRow) (prices : Prices) → IsRow duals → ArePricesBy t keeps duals prices → ArePricesInOrder t prices

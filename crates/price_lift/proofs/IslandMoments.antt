@@ -8,7 +8,7 @@ use Rattle.fleet_model.specs.Schedule.{IsPair, days_in, fleets_in, pair_on, stat
 use Rattle.fleet_model.specs.Times.{departure, ready_minute}
 use Rattle.fleet_model.specs.declared.parts.Pair.{Pair}
 use Rattle.fleet_model.specs.declared.tables.Tables.{Tables}
-use Rattle.node_aggregate.specs.Nodes.{days_at, node_end}
+use Rattle.node_aggregate.specs.Nodes.{days_at, end_in}
 use Rattle.node_aggregate.proofs.Starts.{starts_rise}
 use Rattle.island_cut.specs.IslandLaws.{IsIdle}
 use Rattle.island_cut.specs.Islands.{has_islands, is_idle}
@@ -65,16 +65,16 @@ module _ (t : Tables) (keeps : Domains) (starts : Starts) (network : IsNetwork t
     in_period = λ f s k m known within below went. (moment_there f s k m went).minute;
     in_node = λ f s k m known within below several went begun. elim (moment_there f s k m went).waits [
       | inl waits ↦
-          let parts = parts_true (is_among (get_or (starts f s) k 0) (node_end (starts f s) k) m) (is_quiet t keeps f s (m + 1) (node_end (starts f s) k)) waits in
-          ((among_ends (get_or (starts f s) k 0) (node_end (starts f s) k) m parts.0).1, quiet_so t keeps f s (m + 1) (node_end (starts f s) k) parts.1)
+          let parts = parts_true (is_among (get_or (starts f s) k 0) (end_in t (starts f s) k) m) (is_quiet t keeps f s (m + 1) (end_in t (starts f s) k)) waits in
+          ((among_ends (get_or (starts f s) k 0) (end_in t (starts f s) k) m parts.0).1, quiet_so t keeps f s (m + 1) (end_in t (starts f s) k) parts.1)
       | inr waits ↦
           let parts = parts_true (k + 1 == length (starts f s)) (is_quiet t keeps f s 0 m) waits in
           absurd (not_round f s k m (moment_there f s k m went).idle known within below several begun (eqb-true (k + 1) (length (starts f s)) parts.0) (quiet_so t keeps f s 0 m parts.1))
     ];
     round = λ f s k m known within below several went early. elim (moment_there f s k m went).waits [
       | inl waits ↦
-          let parts = parts_true (is_among (get_or (starts f s) k 0) (node_end (starts f s) k) m) (is_quiet t keeps f s (m + 1) (node_end (starts f s) k)) waits in
-          absurd (omega (arith, early, (among_ends (get_or (starts f s) k 0) (node_end (starts f s) k) m parts.0).0))
+          let parts = parts_true (is_among (get_or (starts f s) k 0) (end_in t (starts f s) k) m) (is_quiet t keeps f s (m + 1) (end_in t (starts f s) k)) waits in
+          absurd (omega (arith, early, (among_ends (get_or (starts f s) k 0) (end_in t (starts f s) k) m parts.0).0))
       | inr waits ↦
           let parts = parts_true (k + 1 == length (starts f s)) (is_quiet t keeps f s 0 m) waits in
           (eqb-true (k + 1) (length (starts f s)) parts.0, quiet_so t keeps f s 0 m parts.1)

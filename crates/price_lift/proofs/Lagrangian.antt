@@ -1,7 +1,7 @@
 -- Prices by the nodes whose lines weigh no column above its cost rise over no arc that stays, and are worth what the right sides
 -- come to.
 use Rattle.std.proofs.Common.{◌≡◌, ◌≢◌, ℕ, ◌+◌, ◌<◌, ◌≤◌, Bool, true, false, ◌==◌, length, get_or, None, is_none, ℤ, pos, neg_ℤ, ◌+ℤ◌, ◌-ℤ◌, ◌*ℤ◌, ◌<ℤ◌, ◌≤ℤ◌, unsigned_abs, refl, sym, ◌∙◌, ap, subst, inl, inr, arith, pos_of_ne-zero}
-use Rattle.std.proofs.lemmas.Bool.{cases_lt, eqb-true, ne_eqb}
+use Rattle.std.proofs.lemmas.Bool.{cases_lt, eqb-true, le-ltb, ne_eqb}
 use Rattle.std.proofs.lemmas.Bool.Decides.{nat_tests}
 use Rattle.std.proofs.lemmas.Int.{ints}
 use lib.IntN.{*ℤ-zero}
@@ -15,13 +15,14 @@ use Rattle.sums.proofs.Naturals.{empty_is, equal_number}
 use Rattle.sums.proofs.Tests.{same_tests}
 use Rattle.fleet_model.specs.declared.tables.Tables.{Tables}
 use Rattle.fleet_model.specs.Kept.{Domains, IsBare}
-use Rattle.fleet_model.specs.Schedule.{fleet_of, fleets_in, leg_of, leg_on, legs_in, no_leg, stations_in}
-use Rattle.fleet_model.specs.Times.{departure, laps_of, ready_minute}
-use Rattle.fleet_model.specs.Use.{last_minute}
-use Rattle.node_aggregate.specs.Nodes.{HappensAt, node_end}
-use Rattle.node_aggregate.proofs.EventsAmong.{departs_at, happens_within, ready_at}
-use Rattle.node_aggregate.proofs.NodeEnds.{end_at_last, end_before}
-use Rattle.node_aggregate.proofs.Starts.{start_within}
+use Rattle.fleet_model.specs.Schedule.{IsFlown, IsPair, choices_in, fleet_by, fleet_of, fleets_in, last_of, leg_of, leg_on, legs_in, no_leg, stations_in}
+use Rattle.fleet_model.specs.Times.{busy_minutes, departure, laps_of, ready_minute}
+use Rattle.fleet_model.specs.declared.parts.Pair.{Pair}
+use Rattle.fleet_model.proofs.Choices.{of_flown}
+use Rattle.fleet_model.proofs.PeriodMinutes.{departs_in, in_period}
+use Rattle.node_aggregate.specs.Nodes.{HappensAt, end_in}
+use Rattle.node_aggregate.proofs.EventsAmong.{departs_at, ready_at}
+use Rattle.node_aggregate.proofs.Starts.{end_within, start_within}
 use Rattle.lp_rows.specs.declared.kinds.Column.{Column}
 use Rattle.lp_rows.specs.declared.kinds.Node.{Node}
 use Rattle.lp_rows.specs.declared.kinds.Column.TheVariants.{Flight, Ground, Slack}
@@ -33,10 +34,11 @@ use Rattle.lp_rows.proofs.Places.{IsKept}
 use Rattle.dual_bound.specs.Prices.{AreWithin, max_price, price_of, rent_of}
 use Rattle.dual_bound.specs.Worth.{cost_units, leg_worth, pair_worth, rents_of, worth_of}
 use Rattle.dual_bound.specs.declared.prices.Prices.{Prices}
+use Rattle.dual_bound.proofs.Charges.{flown_worth, not_flown}
 use Rattle.island_prices.specs.Arcs.{AreByNodes, DoStayLow}
 use Rattle.island_prices.proofs.Arcs.{rise_at_last, rise_inside}
 use Rattle.price_lift.specs.Prices.{AreByLines}
-use Rattle.price_lift.proofs.DownColumns.{at_minute, down, down_flight, down_ground, down_sides, down_slack, of_fleet, of_node}
+use Rattle.price_lift.proofs.DownColumns.{at_minute, down, down_flight, down_ground, down_left_out, down_sides, down_slack, of_fleet, of_node}
 use Rattle.price_lift.proofs.LeastBounds.{below_unwrapped}
 use Rattle.lp_rows.proofs.LinePlaces.{balance_there, before, count_there, node_there, node_within}
 use Rattle.price_lift.proofs.Minutes.{IsAtPlace, Rise, at_place, in_node, later, nodes_rise, one_place, some_place, test_of}
@@ -52,6 +54,12 @@ gather h c a b r l y s e le =
     let fall = *ℤ--ℤ h a b in
     let rent = neg_ℤ-*ℤ (h *ℤ r) l ∙ ap neg_ℤ (*ℤ_assoc h r l) in
     omega (arith, ints, e, le, all, front, fall, rent)
+
+-- what a pair is worth that leaves its leg out
+left_out_worth : (t : Tables) (prices : Prices) (k : ℕ) (p : Pair) → IsPair t p → fleets_in t ≤ fleet_by t p → pair_worth t prices k p ≡ pos k *ℤ prices.scale *ℤ cost_units t p
+left_out_worth t prices k p pair out =
+    let none = le-ltb (fleet_by t p) (fleets_in t) out in
+    omega (arith, ints, not_flown t p (price_of prices (fleet_by t p) (leg_of t p.leg).from (departure t p) -ℤ price_of prices (fleet_by t p) (leg_of t p.leg).to (ready_minute t p)) pair none, not_flown t p (rent_of prices (fleet_by t p) *ℤ pos (laps_of t p)) pair none)
 
 -- an arc without a moment stays
 staying : (t : Tables) (keeps : Domains) (starts : Starts) (n : Node) → moment_at t keeps starts n ≡ None → arc_stays t keeps starts n ≡ true
@@ -72,7 +80,7 @@ module _ (t : Tables) (keeps : Domains) (starts : Starts) (network : IsNetwork t
       omega (arith, ints, rent, scaled (node_count t starts + f) (omega arith))
 
   -- the price through a node
-  price_is : (f s m p : ℕ) → f < fleets_in t → s < stations_in t → m ≤ last_minute → IsAtPlace (starts f s) m p → price_of prices f s m ≡ value (legs_in t + (before t starts f s + p))
+  price_is : (f s m p : ℕ) → f < fleets_in t → s < stations_in t → m ≤ last_of t → IsAtPlace (starts f s) m p → price_of prices f s m ≡ value (legs_in t + (before t starts f s + p))
   price_is f s m p known within period at =
       by.balance (legs_in t + (before t starts f s + p)) m (node_at f s p)
       (balance_there t starts (before t starts f s + p) (node_within t starts f s p known within at.within) ∙ ap Balance (node_there t starts f s p (node_at 0 0 0) known within at.within))
@@ -81,7 +89,7 @@ module _ (t : Tables) (keeps : Domains) (starts : Starts) (network : IsNetwork t
   node_is : (f s k : ℕ) → f < fleets_in t → s < stations_in t → k < length (starts f s) → of_node t starts y f s k ≡ h *ℤ value (legs_in t + (before t starts f s + k))
   node_is f s k known within below = scaled (before t starts f s + k) (omega (arith, node_within t starts f s k known within below))
 
-  minute_is : (f s m : ℕ) → f < fleets_in t → s < stations_in t → m ≤ last_minute → 0 < length (starts f s) → at_minute t starts y f s m ≡ h *ℤ price_of prices f s m
+  minute_is : (f s m : ℕ) → f < fleets_in t → s < stations_in t → m ≤ last_of t → 0 < length (starts f s) → at_minute t starts y f s m ≡ h *ℤ price_of prices f s m
   minute_is f s m known within period some =
       let p = some_place (starts f s) m (rise f s known within) some in
       sum_below_ℤ-same (λ k. where_true (is_in t (starts f s) k m) (of_node t starts y f s k)) (λ k. where_true (p.0 == k) (of_node t starts y f s k)) (length (starts f s))
@@ -98,31 +106,43 @@ module _ (t : Tables) (keeps : Domains) (starts : Starts) (network : IsNetwork t
     some_nodes : (f s : ℕ) (ready : Bool) (m : ℕ) (known : f < fleets_in t) (within : s < stations_in t) → HappensAt (network.each f s known within).events ready m → 0 < length (starts f s)
     some_nodes f s ready m known within happens = (network.each f s known within).nodes.some (λ none. let empty_is : length (network.each f s known within).events ≡ 0 = ap length none in omega (arith, happens.among.1))
 
-    pair_reaches : (l f : ℕ) → l < legs_in t → f < fleets_in t → keeps (leg_on l f) ≡ true → y l ≤ℤ (h *ℤ pair_worth t prices k (leg_on l f))
-    pair_reaches l f below known kept =
-        let p = leg_on l f in
-        let leg = t.in_range.legs_fit.each l no_leg below in
-        let from = (leg_of t l).from in
-        let to = (leg_of t l).to in
-        let departs = (network.each f from known leg.from) in
-        let lands = (network.each f to known leg.to) in
-        let out = departs_at t keeps f from departs.events departs.happen l below kept refl in
-        let back = ready_at t keeps f to lands.events lands.happen l below kept refl in
-        let ready_in : ready_minute t p ≤ last_minute = omega (arith, happens_within t keeps f to lands.events lands.happen true (ready_minute t p) back) in
-        let departs_in : departure t p ≤ last_minute = omega (arith, leg.dep) in
-        let one = minute_is f to (ready_minute t p) known leg.to ready_in (some_nodes f to true (ready_minute t p) known leg.to back) in
-        let two = minute_is f from (departure t p) known leg.from departs_in (some_nodes f from false (departure t p) known leg.from out) in
-        let sum = down_flight t starts y p (record { pair = record { leg = below; choice = known }; by = known }) leg.from leg.to
-        ∙ ap (λ z. y l +ℤ ((z -ℤ at_minute t starts y f from (departure t p)) +ℤ (of_fleet t starts y f *ℤ pos (laps_of t p)))) one
-        ∙ ap (λ z. y l +ℤ (((h *ℤ price_of prices f to (ready_minute t p)) -ℤ z) +ℤ (of_fleet t starts y f *ℤ pos (laps_of t p)))) two
-        ∙ ap (λ z. y l +ℤ (((h *ℤ price_of prices f to (ready_minute t p)) -ℤ (h *ℤ price_of prices f from (departure t p))) +ℤ (z *ℤ pos (laps_of t p)))) (fleet_is f known) in
-        gather h (pos k *ℤ prices.scale *ℤ cost_units t p) (price_of prices f from (departure t p)) (price_of prices f to (ready_minute t p)) (rent_of prices f) (pos (laps_of t p)) (y l)
-        (down t starts y (λ line. entry_of t starts line (Flight p))) sum (dual (Flight p) (record { leg = below; choice = known }, kept))
+    flown_reaches : (p : Pair) → IsFlown t p → keeps p ≡ true → y p.leg ≤ℤ (h *ℤ pair_worth t prices k p)
+    flown_reaches p flown kept =
+        let f = fleet_by t p in
+        let leg = t.in_range.legs_fit.each p.leg no_leg flown.pair.leg in
+        let from = (leg_of t p.leg).from in
+        let to = (leg_of t p.leg).to in
+        let departs = network.each f from flown.by leg.from in
+        let lands = network.each f to flown.by leg.to in
+        let at = of_flown t p flown in
+        let out = subst (λ q. keeps q ≡ true → (leg_of t q.leg).from ≡ from → HappensAt departs.events false (departure t q)) at.1.pair (departs_at t keeps f from departs.events departs.happen at.0 at.1.within) kept refl in
+        let back = subst (λ q. keeps q ≡ true → (leg_of t q.leg).to ≡ to → HappensAt lands.events true (ready_minute t q)) at.1.pair (ready_at t keeps f to lands.events lands.happen at.0 at.1.within) kept refl in
+        let one = minute_is f to (ready_minute t p) flown.by leg.to (omega (arith, in_period t (departure t p + busy_minutes t p))) (some_nodes f to true (ready_minute t p) flown.by leg.to back) in
+        let two = minute_is f from (departure t p) flown.by leg.from (omega (arith, departs_in t p flown.pair)) (some_nodes f from false (departure t p) flown.by leg.from out) in
+        let sum = down_flight t starts y p flown leg.from leg.to
+        ∙ ap (λ z. y p.leg +ℤ ((z -ℤ at_minute t starts y f from (departure t p)) +ℤ (of_fleet t starts y f *ℤ pos (laps_of t p)))) one
+        ∙ ap (λ z. y p.leg +ℤ (((h *ℤ price_of prices f to (ready_minute t p)) -ℤ z) +ℤ (of_fleet t starts y f *ℤ pos (laps_of t p)))) two
+        ∙ ap (λ z. y p.leg +ℤ (((h *ℤ price_of prices f to (ready_minute t p)) -ℤ (h *ℤ price_of prices f from (departure t p))) +ℤ (z *ℤ pos (laps_of t p)))) (fleet_is f flown.by) in
+        subst (λ z. y p.leg ≤ℤ (h *ℤ z)) (sym (flown_worth t prices k p flown.pair flown.by))
+        (gather h (pos k *ℤ prices.scale *ℤ cost_units t p) (price_of prices f from (departure t p)) (price_of prices f to (ready_minute t p)) (rent_of prices f) (pos (laps_of t p)) (y p.leg)
+        (down t starts y (λ line. entry_of t starts line (Flight p))) sum (dual (Flight p) (flown.pair, kept)))
+
+    -- one that leaves its leg out has the leg's cover line alone
+    left_out_reaches : (p : Pair) → IsPair t p → fleets_in t ≤ fleet_by t p → keeps p ≡ true → y p.leg ≤ℤ (h *ℤ pair_worth t prices k p)
+    left_out_reaches p pair out kept =
+        subst (λ z. y p.leg ≤ℤ (h *ℤ z)) (sym (left_out_worth t prices k p pair out))
+        (subst (λ z. z ≤ℤ (h *ℤ (pos k *ℤ prices.scale *ℤ cost_units t p))) (down_left_out t starts y p pair out) (dual (Flight p) (pair, kept)))
+
+    pair_reaches : (p : Pair) → IsPair t p → keeps p ≡ true → y p.leg ≤ℤ (h *ℤ pair_worth t prices k p)
+    pair_reaches p pair kept = elim (cases_lt (fleet_by t p) (fleets_in t)) [
+      | inl by ↦ flown_reaches p (record { pair = pair; by = by }) kept
+      | inr out ↦ left_out_reaches p pair out kept
+    ]
 
     leg_reaches : (l : ℕ) → l < legs_in t → ¬ (IsBare t keeps l) → y l ≤ℤ (h *ℤ leg_worth t keeps prices k l)
     unfolding leg_worth
     leg_reaches l below some =
-        below_unwrapped h (y l) (λ f. keeps (leg_on l f)) (λ f. pair_worth t prices k (leg_on l f)) (fleets_in t) (λ f known kept. pair_reaches l f below known kept)
+        below_unwrapped h (y l) (λ c. keeps (leg_on l c)) (λ c. pair_worth t prices k (leg_on l c)) (choices_in t l) (λ c known kept. pair_reaches (leg_on l c) (record { leg = below; choice = known }) kept)
         (pos_of_ne-zero (λ none. some (record { within = below; none = none })))
 
     -- what the right sides come to is no more than the worth
@@ -192,7 +212,7 @@ module _ (t : Tables) (keeps : Domains) (starts : Starts) (network : IsNetwork t
     starts_there : (f s j : ℕ) → f < fleets_in t → s < stations_in t → j < length (starts f s) → IsAtPlace (starts f s) (get_or (starts f s) j 0) j
     starts_there f s j known within below = record { within = below; begun = omega arith; last = λ i past inside. later (starts f s) (rise f s known within) j i past inside }
 
-    start_in_period : (f s j : ℕ) → f < fleets_in t → s < stations_in t → j < length (starts f s) → get_or (starts f s) j 0 ≤ last_minute
+    start_in_period : (f s j : ℕ) → f < fleets_in t → s < stations_in t → j < length (starts f s) → get_or (starts f s) j 0 ≤ last_of t
     start_in_period f s j known within below = omega (arith, start_within t keeps f s (starts f s) (network.each f s known within) j below)
 
     price_at_start : (f s j : ℕ) → f < fleets_in t → s < stations_in t → j < length (starts f s) → price_of prices f s (get_or (starts f s) j 0) ≡ value (legs_in t + (before t starts f s + j))
@@ -201,16 +221,10 @@ module _ (t : Tables) (keeps : Domains) (starts : Starts) (network : IsNetwork t
     pub through_nodes : AreByNodes t prices starts
     through_nodes = record {
       through = λ f s j m known within below begun ended.
-          let at = at_place t (starts f s) m j (rise f s known within) below (test_of (get_or (starts f s) j 0) m (node_end (starts f s) j) begun ended) in
-          price_is f s m j known within (omega (arith, ended, end_in_period f s j known within below)) at ∙ sym (price_at_start f s j known within below);
+          let at = at_place t (starts f s) m j (rise f s known within) below (test_of (get_or (starts f s) j 0) m (end_in t (starts f s) j) begun ended) in
+          price_is f s m j known within (omega (arith, ended, end_within t keeps f s (starts f s) (network.each f s known within) j)) at ∙ sym (price_at_start f s j known within below);
       nowhere = λ f s m known within none. by.nowhere f s m known within (empty_is (starts f s) none);
     }
-      where
-        end_in_period : (f s j : ℕ) → f < fleets_in t → s < stations_in t → j < length (starts f s) → node_end (starts f s) j ≤ last_minute
-        end_in_period f s j known within below = elim (cases_lt (j + 1) (length (starts f s))) [
-          | inl more ↦ omega (arith, end_before (starts f s) j more, start_in_period f s (j + 1) known within more)
-          | inr last ↦ omega (arith, end_at_last (starts f s) j last)
-        ]
 
     pub stay_low : DoStayLow t prices starts (λ f s j. moment_at t keeps starts (node_at f s j))
     stay_low = record {
@@ -240,7 +254,7 @@ module _ (t : Tables) (keeps : Domains) (starts : Starts) (network : IsNetwork t
       bounds : (z : ℤ) (n : ℕ) → unsigned_abs z ≤ n → (neg_ℤ (pos n) ≤ℤ z) × (z ≤ℤ pos n)
       bounds z n le = (omega (arith, ints), omega (arith, ints))
 
-      price_bounds : (f s m : ℕ) → f < fleets_in t → s < stations_in t → m ≤ last_minute → (neg_ℤ (pos max_price) ≤ℤ price_of prices f s m) × (price_of prices f s m ≤ℤ pos max_price)
+      price_bounds : (f s m : ℕ) → f < fleets_in t → s < stations_in t → m ≤ last_of t → (neg_ℤ (pos max_price) ≤ℤ price_of prices f s m) × (price_of prices f s m ≤ℤ pos max_price)
       price_bounds f s m known within period = elim (cases_lt 0 (length (starts f s))) [
         | inl some ↦
             let p = some_place (starts f s) m (rise f s known within) some in
@@ -254,5 +268,5 @@ module _ (t : Tables) (keeps : Domains) (starts : Starts) (network : IsNetwork t
         rents = λ f known.
             let size = bounds (value (legs_in t + (node_count t starts + f))) max_price (small (node_count t starts + f) (omega arith)) in
             record { some = rent_some f known; within = omega (arith, ints, rent_is f known, size.0, size.1) };
-        each = λ f s m known within period. let ends = price_bounds f s m known within (omega arith) in record { no_less = ends.0; no_more = ends.1 };
+        each = λ f s m known within period. let ends = price_bounds f s m known within (omega (arith, period)) in record { no_less = ends.0; no_more = ends.1 };
       }

@@ -4,13 +4,13 @@ use Rattle.std.proofs.lemmas.List.{get_or-map, length-map}
 use Rattle.fleet_model.specs.Kept.{Domains}
 use Rattle.fleet_model.specs.Schedule.{fleets_in, period_of, stations_in}
 use Rattle.fleet_model.specs.declared.tables.Tables.{Tables}
+use Rattle.node_aggregate.proofs.Starts.{start_within}
 use Rattle.lp_rows.specs.Layout.{concat_below, moment_at, node_at, node_of_number, starts_in}
 use Rattle.lp_rows.specs.Entries.{IsNode}
 use Rattle.lp_rows.specs.Outline.{IsOutline, moment_in, node_in}
 use Rattle.lp_rows.specs.declared.outline.Outline.{Outline}
 use Rattle.lp_rows.proofs.Counted.{nodes_are}
 use Rattle.lp_rows.proofs.LinePlaces.{node_is}
-use Rattle.price_lift.proofs.InOrder.{early}
 use Rattle.dual_bound.specs.declared.prices.Prices.{Prices}
 use Rattle.island_prices.specs.Arcs.{IsArc, rise_where}
 use Rattle.price_lift.specs.ArcRises.{outline_rises, rise_at, rise_of_number, rises_by}
@@ -51,7 +51,7 @@ module _ (t : Tables) (keeps : Domains) (o : Outline) (is : IsOutline t keeps o)
     fleet = node_known.fleet;
     station = node_known.station;
     place = node_known.place;
-    early = λ j inside. omega (arith, early t keeps (node_in o k).fleet (node_in o k).station (starts_in o.network (node_in o k).fleet (node_in o k).station) (is.network.each (node_in o k).fleet (node_in o k).station node_known.fleet node_known.station) j inside);
+    early = start_within t keeps (node_in o k).fleet (node_in o k).station (starts_in o.network (node_in o k).fleet (node_in o k).station) (is.network.each (node_in o k).fleet (node_in o k).station node_known.fleet node_known.station);
   }
 
   pub moments_long : length o.moments ≡ length o.nodes

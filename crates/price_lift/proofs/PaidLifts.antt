@@ -3,8 +3,7 @@ use Rattle.std.proofs.Common.{◌≡◌, ℕ, ◌<◌, ◌≤◌, true, List, []
 use Rattle.std.proofs.lemmas.Int.{ints}
 use Rattle.fleet_model.specs.Kept.{Domains, IsBare}
 use Rattle.fleet_model.specs.Legal.{cost_of}
-use Rattle.fleet_model.specs.Schedule.{IsPair, fleets_in}
-use Rattle.fleet_model.specs.Use.{last_minute}
+use Rattle.fleet_model.specs.Schedule.{IsPair, fleets_in, last_of}
 use Rattle.fleet_model.specs.declared.parts.Pair.{Pair}
 use Rattle.fleet_model.specs.declared.tables.Tables.{Tables}
 use Rattle.lp_rows.specs.Layout.{IsNetwork, Starts}
@@ -25,7 +24,7 @@ use Rattle.island_prices.specs.declared.rises.Rise.{Rise}
 use Rattle.island_prices.proofs.Arcs as arcs
 use Rattle.island_prices.proofs.PaidPrices.{are_in_order, are_of_tables, are_proper, scale_stays, worth_no_less}
 use Rattle.island_prices.proofs.RoundsPay.{AreAtIdles, rounds_pay}
-use Rattle.node_aggregate.specs.Nodes.{node_end}
+use Rattle.node_aggregate.specs.Nodes.{end_in}
 use Rattle.island_arcs.specs.Moments.{moment_of}
 use Rattle.price_lift.proofs.Networks.{same_starts}
 use Rattle.price_lift.specs.PaidBack.{beyond_excess, moments_by, paid_back, payback_excess}
@@ -72,7 +71,7 @@ module _ (t : Tables) (keeps : Domains) (starts : Starts) (prices : Prices) (low
     scale = low.scale;
     within = low.limits;
     fall = record { each = λ f s m known within period. omega (arith, ints, covered.within_period f s m known within period, none_ends none f s m) };
-    rise = record { each = λ f s known within. omega (arith, ints, covered.over_end f s known within, none_ends none f s last_minute) };
+    rise = record { each = λ f s known within. omega (arith, ints, covered.over_end f s known within, none_ends none f s (last_of t)) };
   }
 
   -- ---- where some do
@@ -142,7 +141,7 @@ low_by_other t keeps starts other network second prices low = record {
   limits = low.limits;
   through = record {
     through = λ f s k m known within.
-        subst (λ xs. k < length xs → get_or xs k 0 ≤ m → m ≤ node_end xs k → price_of prices f s m ≡ price_of prices f s (get_or xs k 0)) (same_starts t keeps starts other network second f s known within)
+        subst (λ xs. k < length xs → get_or xs k 0 ≤ m → m ≤ end_in t xs k → price_of prices f s m ≡ price_of prices f s (get_or xs k 0)) (same_starts t keeps starts other network second f s known within)
         (low.through.through f s k m known within);
     nowhere = λ f s m known within.
         subst (λ xs. length xs ≡ 0 → price_of prices f s m ≡ pos 0) (same_starts t keeps starts other network second f s known within) (low.through.nowhere f s m known within);

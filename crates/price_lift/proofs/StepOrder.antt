@@ -9,8 +9,7 @@ use Rattle.sums.proofs.Naturals.{above_zero_tested, plus_0, zero_number}
 use Rattle.sums.proofs.Sizes.{size_of_zero}
 use Rattle.sums.proofs.Tests.{both_true, first_true, not_false, not_true, second_true, by_test}
 use Rattle.fleet_model.specs.declared.tables.Tables.{Tables}
-use Rattle.fleet_model.specs.Schedule.{fleets_in, stations_in}
-use Rattle.fleet_model.specs.Use.{last_minute}
+use Rattle.fleet_model.specs.Schedule.{fleets_in, last_of, stations_in}
 use Rattle.lp_rows.specs.declared.kinds.Node.{Node}
 use Rattle.lp_rows.specs.Layout.{Starts, all_nodes, concat_below, node_at, node_of_number}
 use Rattle.lp_rows.specs.Points.{node_count}
@@ -256,7 +255,7 @@ module _ (t : Tables) (starts : Starts) (value : ℕ → ℤ) (rise : (f s : ℕ
   all_one P true x holds = λ k d below. let first : 0 ≡ k = omega arith in subst (λ j. P (get_or (x ∷ []) j d)) first holds
   all_one P false x holds = λ k d below. absurd (omega arith)
 
-  pub steps_in_order : ((f s p : ℕ) → f < fleets_in t → s < stations_in t → p < length (starts f s) → get_or (starts f s) p 0 ≤ last_minute) → ((k : ℕ) → IsFigure (value k)) → AreStepsInOrder t (all_steps t starts value)
+  pub steps_in_order : ((f s p : ℕ) → f < fleets_in t → s < stations_in t → p < length (starts f s) → get_or (starts f s) p 0 ≤ last_of t) → ((k : ℕ) → IsFigure (value k)) → AreStepsInOrder t (all_steps t starts value)
   steps_in_order early figures = record {
     each = all_concat (IsStepInOrder t) (steps_at t starts value) (length (all_nodes t starts)) (λ k below.
         let n = node_is t starts k (omega (arith, below, nodes_are t starts)) in
