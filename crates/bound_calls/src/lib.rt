@@ -29,4 +29,6 @@ mod pivoting;
 #[cfg(test)]
 mod presolving;
 #[cfg(test)]
+mod run_duals;
+#[cfg(test)]
 mod solving;

@@ -16,6 +16,7 @@ use Rattle.dual_bound.specs.Order.{same_place, step_follows}
 use Rattle.dual_bound.specs.WrittenOrder.{IsStepInOrder, goes_on}
 use Rattle.dual_bound.specs.declared.mixed.Weight.{Weight}
 use Rattle.dual_bound.specs.declared.prices.PriceStep.{PriceStep}
+use Rattle.fleet_model.proofs.PeriodMinutes.{day_or_more}
 use Rattle.fleet_model.specs.declared.tables.Tables.{Tables}
 use Rattle.proof_lines.specs.Forms.{form_in}
 use Rattle.proof_lines.specs.LineText.{line_bytes}
@@ -279,7 +280,7 @@ module _ (t : Tables) (line : List ℕ) (after : Left) where
         by_zero true true minute value =
             let none : step.minute ≡ 0 = grind (arith, nat_tests, minute) in
             let zero : step.value ≡ pos 0 = (Decides-int_eq step.value (pos 0)).0 value in
-            let order : IsStepInOrder t next = record { fleet = was.order.fleet; station = was.order.station; minute = omega arith; value = one_figure } in
+            let order : IsStepInOrder t next = record { fleet = was.order.fleet; station = was.order.station; minute = omega (arith, day_or_more t); value = one_figure } in
             let place : same_place step next ≡ true = same_place_by step next refl refl in
             let follows : step_follows (Some step) next ≡ true = rw place (rw (none, zero) refl) in
             let each : All (IsStepInOrder t) (next ∷ []) = All-cons (IsStepInOrder t) next [] order (All-nil (IsStepInOrder t)) in
@@ -335,7 +336,7 @@ module _ (t : Tables) (line : List ℕ) (after : Left) where
       ends_read _ _ end _ [] (scale_at (names t) end) _
       (λ e failed there. record {
         more = line_bytes t (says.Scale (pos 1)) ∷ [];
-        value = record { scale = pos 1; rents = padded [] (length (names t).fleets); steps = [] };
+        value = record { scale = pos 1; rents = padded [] (length (names t).fleets); steps = []; charges = [] };
         reads = λ z ends.
             bound (scale_at (names t) (line_bytes t (says.Scale (pos 1)) ∷ z)) (pos 1) _ (scale_read t (pos 1) z one_figure ends.some)
             ∙ bound (rents_from (names t) [] z) (padded [] (length (names t).fleets), z) _ (rents_end (names t) [] z ends.no_rent)
@@ -347,7 +348,7 @@ module _ (t : Tables) (line : List ℕ) (after : Left) where
   prices_go (x ∷ p) =
       ends_read _ _ end _ (x ∷ p) (scale_at (names t) (x ∷ (p ++ end))) _
       (λ e failed there. not_there x p end (scale_at (names t) (x ∷ (p ++ end))) e (scale_twin t (x ∷ (p ++ end)) (x ∷ (p ++ end)) (alike_self (x ∷ (p ++ end)))) failed there)
-      (λ scale read. ends_then (MayFollow due.Rent) IsBehind (MayFollow due.Step) end (rents_from (names t) []) (λ rents. steps_from (names t) [] None) (λ rents steps. record { scale = scale; rents = rents; steps = steps }) (prices_at (names t)) (x ∷ p) p
+      (λ scale read. ends_then (MayFollow due.Rent) IsBehind (MayFollow due.Step) end (rents_from (names t) []) (λ rents. steps_from (names t) [] None) (λ rents steps. record { scale = scale; rents = rents; steps = steps; charges = [] }) (prices_at (names t)) (x ∷ p) p
       no_rent no_step
       (λ m some. bound (scale_at (names t) (x ∷ (p ++ m))) scale _
       (value_of (x ∷ (p ++ end)) (x ∷ (p ++ m)) (scale_at (names t) (x ∷ (p ++ end))) (scale_at (names t) (x ∷ (p ++ m))) scale (scale_twin t (x ∷ (p ++ end)) (x ∷ (p ++ m)) (alike_after x line p after m some)) read))

@@ -46,7 +46,7 @@ prices_are : (t : Tables) (prices : Prices) → ArePricesOf t prices → All (Is
 prices_are t prices is =
     All-cons (IsNamed t) (says.Scale prices.scale) _ tt
     (All-append (IsNamed t) (rent_lines prices (fleets_in t)) (map at_line prices.steps) (rents_are t prices (fleets_in t) 0 (omega arith))
-    (All-map (IsNamed t) at_line prices.steps (All-weaker (IsStepOf t) (λ step. IsNamed t (at_line step)) (λ step is. (is.fleet, is.station)) prices.steps is)))
+    (All-map (IsNamed t) at_line prices.steps (All-weaker (IsStepOf t) (λ step. IsNamed t (at_line step)) (λ step is. (is.fleet, is.station)) prices.steps is.steps)))
 
 mixed_are : (t : Tables) (mixed : Mixed) → IsMixedOf t mixed → All (IsNamed t) (mixed_lines mixed)
 mixed_are t mixed is =

@@ -282,7 +282,7 @@ module _ (t : Tables) where
       let scale_is = scale_was t left scale.value scale.is in
       let rents_are = rents_were (drop 1 left) [] rents.value rents.is (All-nil IsFigure) (omega arith) in
       let steps_are = steps_were rents.value.1 [] None steps.value steps.is in
-      let prices : Prices = record { scale = scale.value; rents = rents.value.0; steps = steps.value.0 } in
+      let prices : Prices = record { scale = scale.value; rents = rents.value.0; steps = steps.value.0; charges = [] } in
       let same : steps_are.new ≡ steps.value.0 = sym steps_are.list in
       subst (λ r. PricesWere left r) (ok_same (prices, steps.value.1) read steps.on)
       (record {
@@ -295,6 +295,7 @@ module _ (t : Tables) where
             follow = subst (λ steps. StepsFollow None steps) same steps_are.follow;
             no_lone_zero = subst (λ steps. NoLoneZero steps) same steps_are.no_lone_zero;
           };
+          no_charges = refl;
         };
         text = prices_text prices left rents.value.1 steps.value.1 scale_is (rents_are.text prices refl) (steps_are.text ∙ ap (λ list. texts t (map at_line list) ++ steps.value.1) same);
       })

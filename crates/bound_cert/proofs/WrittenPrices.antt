@@ -226,6 +226,7 @@ module _ (t : Tables) where
       (rents_read prices tail are.rents are.one_each some (steps_begin prices.steps behind due.Rent of refl ends.no_rent))
       ∙ bound (steps_from (names t) [] None tail) (prices.steps, behind) _
       (steps_read prices.steps [] None behind are.steps.each of are.steps.follow are.steps.no_lone_zero ends.some ends.no_step)
+      ∙ ap (λ charges. Ok (record { scale = prices.scale; rents = prices.rents; steps = prices.steps; charges = charges }, behind)) (sym are.no_charges)
 
   -- weights
 

@@ -111,7 +111,7 @@ prices_at n left = do
   scale ← scale_at n left
   rents ← rents_from n [] (drop 1 left)
   steps ← steps_from n [] None rents.1
-  Ok (record { scale = scale; rents = rents.0; steps = steps.0 }, steps.1)
+  Ok (record { scale = scale; rents = rents.0; steps = steps.0; charges = [] }, steps.1)
 
 -- the weight that a line says in its order, behind the weight before
 abbrev pub weight_in_order : Option Weight → Weight → Left → Reading Weight

@@ -29,6 +29,7 @@ pub fn prices_at<'a, 'b>(
         scale,
         rents,
         steps,
+        charges: Entries::from_vec(Vec::new(alloc)),
     };
     Ok((prices, rest))
 }

@@ -11,8 +11,11 @@ pub(crate) struct CommandRow<'a> {
 /// `DIR`: a folder.
 const FOLDER: &[Argument<'static>] = &[Argument::Word("dir")];
 
-/// `[--day-start HH:MM]`: how the tables of a folder are read.
-const TABLE_OPTIONS: &[Argument<'static>] = &[Argument::Option("day-start")];
+/// `[--day-start HH:MM] [--period P]`: how the tables of a folder are read.
+const TABLE_OPTIONS: &[Argument<'static>] = &[
+    Argument::Option("day-start"),
+    Argument::Option("period"),
+];
 
 /// `[--through-max M] [--days D] [--visits V]`: which rotations are looked for.
 const ROTATION_OPTIONS: &[Argument<'static>] = &[

@@ -12,7 +12,7 @@ use Rattle.command_words.specs.declared.command.Dates.{Dates}
 use Rattle.command_words.specs.declared.command.RotationLimits.{RotationLimits}
 use Rattle.command_words.specs.declared.command.SearchLimits.{SearchLimits}
 use Rattle.command_words.specs.declared.command.SolveOptions.{SolveOptions}
-use Rattle.command_words.specs.declared.command.TheConstants.{DEFAULT_DAY_START, DEFAULT_DAYS, DEFAULT_NODES, DEFAULT_PIVOTS, DEFAULT_THROUGH_MAX, DEFAULT_VISITS, MAX_DATES, MAX_DAYS, MAX_MADE_LEGS, MAX_NODES, MAX_NUMBER, MAX_PIVOTS, MAX_THROUGH_MAX, MAX_VISITS, MIN_DATES, MIN_DAYS}
+use Rattle.command_words.specs.declared.command.TheConstants.{DEFAULT_DAY_START, DEFAULT_DAYS, DEFAULT_NODES, DEFAULT_PERIOD, DEFAULT_PIVOTS, DEFAULT_THROUGH_MAX, DEFAULT_VISITS, MAX_DATES, MAX_DAYS, MAX_MADE_LEGS, MAX_NODES, MAX_NUMBER, MAX_PERIOD, MAX_PIVOTS, MAX_THROUGH_MAX, MAX_VISITS, MIN_DATES, MIN_DAYS, MIN_PERIOD}
 
 -- what was found for the arguments
 abbrev pub rows_in : ArgMatches → List Row
@@ -36,15 +36,20 @@ day_start_in found = value_or DEFAULT_DAY_START minute_read (first_of (codes "da
 abbrev pub through_max_in : List Row → Option ℕ
 through_max_in found = value_or DEFAULT_THROUGH_MAX (number_read 0 MAX_THROUGH_MAX) (first_of (codes "through-max") found)
 
--- the settings of a day start and a longest wait, where both are there
-abbrev pub settings_at : Option ℕ → Option ℕ → Option Settings
-settings_at (Some minute) (Some wait) = Some (record { day_start = minute; through_max = wait })
-settings_at (Some minute) None = None
-settings_at None wait = None
+-- the days of the period, where they read
+abbrev pub period_in : List Row → Option ℕ
+period_in found = value_or DEFAULT_PERIOD (number_read MIN_PERIOD MAX_PERIOD) (first_of (codes "period") found)
 
--- the settings, where both values read
+-- the settings of a day start, a longest wait and a period of so many days, where all are there
+abbrev pub settings_at : Option ℕ → Option ℕ → Option ℕ → Option Settings
+settings_at (Some minute) (Some wait) (Some days) = Some (record { day_start = minute; through_max = wait; period = days })
+settings_at (Some minute) (Some wait) None = None
+settings_at (Some minute) None days = None
+settings_at None wait days = None
+
+-- the settings, where all values read
 abbrev pub settings_in : List Row → Option Settings
-settings_in found = settings_at (day_start_in found) (through_max_in found)
+settings_in found = settings_at (day_start_in found) (through_max_in found) (period_in found)
 
 -- how the tables are read by settings, where these are there
 abbrev pub reading_at : Option Settings → Option TableOptions

@@ -1,16 +1,17 @@
 //! The values of a command's arguments, by what clap found for them.
 ghost use Rattle.std.specs.Prelude.{◌≡◌, ◌≤◌, ◌<◌, IfSome, option_map};
 ghost use Rattle.clap.specs.Words.{first_of};
-ghost use Rattle.command_words.specs.Arguments.{AreDates, AreLimits, AreOptions, AreRotationLimits, IsLegCount, dates_in, day_start_in, is_given, legs_in, legs_read, number_in, options_in, reading_in, rotations_in, rows_in, search_in, settings_in, through_max_in};
+ghost use Rattle.command_words.specs.Arguments.{AreDates, AreLimits, AreOptions, AreRotationLimits, IsLegCount, dates_in, day_start_in, is_given, legs_in, legs_read, number_in, options_in, period_in, reading_in, rotations_in, rows_in, search_in, settings_in, through_max_in};
 ghost use Rattle.command_words.specs.Values.{number_read, value_or};
 ghost use Rattle.command_words.specs.Words.{dates_by};
 ghost use Rattle.fleet_model.specs.Limits.{AreSettings};
 ghost use Rattle.fleet_model.specs.declared.limits.TheConstants.{MINUTES_PER_DAY};
 
 use crate::command::{
-    DEFAULT_DAY_START, DEFAULT_DAYS, DEFAULT_NODES, DEFAULT_PIVOTS, DEFAULT_THROUGH_MAX,
-    DEFAULT_VISITS, Dates, MAX_DATES, MAX_DAYS, MAX_MADE_LEGS, MAX_NODES, MAX_NUMBER, MAX_PIVOTS,
-    MAX_THROUGH_MAX, MAX_VISITS, MIN_DATES, MIN_DAYS, RotationLimits, SearchLimits, SolveOptions,
+    DEFAULT_DAY_START, DEFAULT_DAYS, DEFAULT_NODES, DEFAULT_PERIOD, DEFAULT_PIVOTS,
+    DEFAULT_THROUGH_MAX, DEFAULT_VISITS, Dates, MAX_DATES, MAX_DAYS, MAX_MADE_LEGS, MAX_NODES,
+    MAX_NUMBER, MAX_PERIOD, MAX_PIVOTS, MAX_THROUGH_MAX, MAX_VISITS, MIN_DATES, MIN_DAYS,
+    MIN_PERIOD, RotationLimits, SearchLimits, SolveOptions,
 };
 use crate::values::{minute_of_day, number_between};
 use calendar_dates::{civil_date, ends_in_calendar};
@@ -33,9 +34,11 @@ fn settings_of(found: &ArgMatches<'_>) -> Option<Settings>
 {
     let day_start = day_start_of(found)?;
     let through_max = through_max_of(found)?;
+    let period = period_of(found)?;
     Some(Settings {
         day_start,
         through_max,
+        period,
     })
 }
 
@@ -58,6 +61,23 @@ fn through_max_of(found: &ArgMatches<'_>) -> Option<u16>
     let default = u64::from(DEFAULT_THROUGH_MAX);
     let wait = number_of(found, "through-max", default, 0, u64::from(MAX_THROUGH_MAX))?;
     Some(wait as u16)
+}
+
+/// The days of the period that an option gives, or their default.
+fn period_of(found: &ArgMatches<'_>) -> Option<u16>
+    ensures read { result ≡ period_in (rows_in found.now) }
+    ensures some { IfSome result (λ days. MIN_PERIOD ≤ days) }
+    ensures few { IfSome result (λ days. days ≤ MAX_PERIOD) }
+{
+    let default = u64::from(DEFAULT_PERIOD);
+    let days = number_of(
+        found,
+        "period",
+        default,
+        u64::from(MIN_PERIOD),
+        u64::from(MAX_PERIOD),
+    )?;
+    Some(days as u16)
 }
 
 /// How a plan is searched for, as the options say.

@@ -1,4 +1,4 @@
-use fleet_model::limits::MINUTES_PER_DAY;
+use fleet_model::limits::{MAX_DAYS as LONGEST_PERIOD, MINUTES_PER_DAY};
 use fleet_model::{Settings, TableOptions};
 use jiff::civil::Date;
 
@@ -10,6 +10,15 @@ pub const DEFAULT_THROUGH_MAX: u16 = 60;
 
 /// The greatest longest wait of a through pair that an option may set, in minutes: it ends within a day.
 pub const MAX_THROUGH_MAX: u16 = MINUTES_PER_DAY - 1;
+
+/// The days of the period where no option sets them.
+pub const DEFAULT_PERIOD: u16 = 1;
+
+/// The fewest days of the period that an option may set.
+pub const MIN_PERIOD: u16 = 1;
+
+/// The most days of the period that an option may set.
+pub const MAX_PERIOD: u16 = LONGEST_PERIOD;
 
 /// How often a search may split where no option sets it.
 pub const DEFAULT_NODES: u64 = 1000;
@@ -84,6 +93,7 @@ pub const DEFAULT_READING: TableOptions = TableOptions {
     settings: Settings {
         day_start: DEFAULT_DAY_START,
         through_max: DEFAULT_THROUGH_MAX,
+        period: DEFAULT_PERIOD,
     },
 };
 

@@ -1,21 +1,22 @@
--- Charges, and pairs that are flown. What the words for them stand for is looked at here alone.
-use Rattle.std.proofs.Common.{◌≡◌, ℕ, ◌+◌, ◌/◌, ◌%◌, ◌<◌, ◌==◌, Bool, true, false, nat_lt, None, ℤ, pos, ◌+ℤ◌, ◌-ℤ◌, ◌*ℤ◌, ◌≤ℤ◌, refl, sym, ◌∙◌, ap, ap₂, arith}
-use Rattle.std.specs.Prelude.{unwrap_or}
+-- Charges, and pairs that are flown. What the words for them stand for is looked at here and in `NoCharges` alone.
+use Rattle.std.proofs.Common.{◌≡◌, ℕ, ◌+◌, ◌-◌, ◌*◌, ◌/◌, ◌%◌, ◌<◌, ◌≤◌, ◌==◌, Bool, true, false, if◌then◌else◌, nat_lt, ℤ, pos, ◌+ℤ◌, ◌-ℤ◌, ◌*ℤ◌, ◌≤ℤ◌, refl, sym, ◌∙◌, ap, ap₂, arith}
 use Rattle.std.proofs.lemmas.Int.{ints}
-use lib.IntN.{*ℤ-zero}
-use Rattle.std.proofs.lemmas.Bool.{lt-ltb}
+use lib.IntN.{*ℤ_comm}
+use Rattle.std.proofs.lemmas.Bool.{eqb-true, lt-ltb}
 use Rattle.sums.specs.Below.{sum_below_ℤ}
+use Rattle.sums.proofs.Blocks.{blocks_ℤ}
 use Rattle.sums.proofs.WholeSums.{sum_below_ℤ-same}
-use Rattle.sums.proofs.WholeSwaps.{sum_below_ℤ-zero, where_true}
-use Rattle.sums.proofs.WholeTerms.{where_true-at_least_0}
+use Rattle.sums.proofs.WholeSwaps.{sum_below_ℤ-one, where_true}
+use Rattle.sums.proofs.WholeTerms.{*ℤ-where_true}
 use Rattle.fleet_model.specs.declared.limits.TheConstants.{MINUTES_PER_DAY}
 use Rattle.fleet_model.specs.declared.parts.Pair.{Pair}
 use Rattle.fleet_model.specs.declared.tables.Tables.{Tables}
-use Rattle.fleet_model.specs.Schedule.{IsPair, fleet_by, fleets_in, leg_of, parking_of, period_of, stations_in}
+use Rattle.fleet_model.specs.Schedule.{IsPair, days_in, fleet_by, fleets_in, leg_of, period_of, stations_in}
 use Rattle.fleet_model.specs.Times.{departure, laps_of, ready_minute}
 use Rattle.fleet_model.proofs.FlownPairs.{pairs_are_flown}
-use Rattle.dual_bound.specs.Prices.{charge_of, price_of, rent_of, with_charge}
-use Rattle.dual_bound.specs.Worth.{cost_units, less_charges, pair_worth, where_flown}
+use Rattle.fleet_model.proofs.PeriodMinutes.{days_are_period}
+use Rattle.dual_bound.specs.Prices.{AreCharges, charge_of, price_of, rent_of, with_charge}
+use Rattle.dual_bound.specs.Worth.{charges_of, cost_units, less_charges, limit_of, pair_worth, where_flown}
 use Rattle.dual_bound.specs.declared.prices.Prices.{Prices}
 
 -- ---- flown pairs
@@ -34,50 +35,75 @@ pub flown_worth : (t : Tables) (prices : Prices) (k : ℕ) (p : Pair) → IsPair
     +ℤ (price_of prices (fleet_by t p) (leg_of t p.leg).from (departure t p) -ℤ price_of prices (fleet_by t p) (leg_of t p.leg).to (ready_minute t p)) +ℤ (rent_of prices (fleet_by t p) *ℤ pos (laps_of t p))
 flown_worth t prices k p pair by = ap₂ (λ x y. (pos k *ℤ prices.scale *ℤ cost_units t p) +ℤ x +ℤ y) (flown t p _ pair by) (flown t p _ pair by)
 
--- ---- charges
+-- ---- days and the minutes that end them
+-- a minute that ends a day ends one of the period
+pub some_day : (m : ℕ) → (m + 1) % MINUTES_PER_DAY ≡ 0 → 0 < (m + 1) / MINUTES_PER_DAY
+some_day m e = omega (arith, e)
+
+pub day_within : (t : Tables) (m : ℕ) → m < period_of t → (m + 1) % MINUTES_PER_DAY ≡ 0 → (m + 1) / MINUTES_PER_DAY ≤ days_in t
+day_within t m below ends = last_day m (days_in t) (period_of t) (days_are_period t) below ends
+  where
+    last_day : (m days minutes : ℕ) → minutes ≡ days * MINUTES_PER_DAY → m < minutes → (m + 1) % MINUTES_PER_DAY ≡ 0 → (m + 1) / MINUTES_PER_DAY ≤ days
+    last_day m days minutes e below ends = omega (arith, e, below, ends)
+
+-- ---- charges by minutes
 -- the charge by the end of a minute, 0 where it ends no day
 unfoldable pub charge_after : Prices → ℕ → ℕ → ℤ
 charge_after prices s m = where_true ((m + 1) % MINUTES_PER_DAY == 0) (charge_of prices s ((m + 1) / MINUTES_PER_DAY))
 
--- a charge is 0 or more, and 0 where the station has no limit
-pub record AreCharges (t : Tables) (prices : Prices) : Type 0 where
-  pub some : (s d : ℕ) → pos 0 ≤ℤ charge_of prices s d
-  pub none : (s d : ℕ) → parking_of t s ≡ None → charge_of prices s d ≡ pos 0
-
-pub are_charges : (t : Tables) (prices : Prices) → AreCharges t prices
-are_charges t prices = record { some = λ s d. omega (arith, ints); none = λ s d no_limit. refl }
-
-no_charge : (b : Bool) → where_true b (pos 0) ≡ pos 0
-no_charge true = refl
-no_charge false = refl
-
 pub with_charge_is : (prices : Prices) (s m : ℕ) (price : ℤ) → with_charge prices s m price ≡ price +ℤ charge_after prices s m
-unfolding charge_after
-with_charge_is prices s m price = omega (arith, ints, no_charge ((m + 1) % MINUTES_PER_DAY == 0))
+unfolding charge_after with_charge
+with_charge_is prices s m price = by_case ((m + 1) % MINUTES_PER_DAY == 0) (charge_of prices s ((m + 1) / MINUTES_PER_DAY))
+  where
+    by_case : (b : Bool) (charge : ℤ) → (if b then price +ℤ charge else price) ≡ price +ℤ where_true b charge
+    by_case true charge = refl
+    by_case false charge = omega (arith, ints)
 
-some_after : (t : Tables) (prices : Prices) (s m : ℕ) → pos 0 ≤ℤ charge_after prices s m
+pub some_after : (t : Tables) (prices : Prices) → AreCharges t prices → (s m : ℕ) → s < stations_in t → m < period_of t → pos 0 ≤ℤ charge_after prices s m
 unfolding charge_after
-some_after t prices s m = where_true-at_least_0 ((m + 1) % MINUTES_PER_DAY == 0) _ ((are_charges t prices).some s ((m + 1) / MINUTES_PER_DAY))
+some_after t prices charges s m there within = by_case ((m + 1) % MINUTES_PER_DAY == 0) (λ e. (charges s _ there (some_day m (eqb-true _ _ e)) (day_within t m within (eqb-true _ _ e))).some)
+  where
+    by_case : (b : Bool) → (b ≡ true → pos 0 ≤ℤ charge_of prices s ((m + 1) / MINUTES_PER_DAY)) → pos 0 ≤ℤ where_true b (charge_of prices s ((m + 1) / MINUTES_PER_DAY))
+    by_case true some = some refl
+    by_case false some = omega (arith, ints)
 
 -- a price that doesn't rise rises by a charge at most
-pub no_rise : (t : Tables) (prices : Prices) (s m : ℕ) (before after : ℤ) → after ≤ℤ before → after ≤ℤ with_charge prices s m before
-no_rise t prices s m before after le = omega (arith, ints, le, with_charge_is prices s m before, some_after t prices s m)
+pub no_rise : (t : Tables) (prices : Prices) → AreCharges t prices → (s m : ℕ) → s < stations_in t → m < period_of t → (before after : ℤ) → after ≤ℤ before → after ≤ℤ with_charge prices s m before
+no_rise t prices charges s m there within before after le = omega (arith, ints, le, with_charge_is prices s m before, some_after t prices charges s m there within)
 
--- the limit of a station, and what it is charged by the end of a minute
-abbrev pub limit_of : Tables → ℕ → ℕ
-limit_of t s = unwrap_or (parking_of t s) 0
-
+-- what a station is charged by the end of a minute for as many as may stand there
 unfoldable pub charges_at : Tables → Prices → ℕ → ℤ
 charges_at t prices s = sum_below_ℤ (λ m. pos (limit_of t s) *ℤ charge_after prices s m) (period_of t)
 
-pub less_charges_is : (t : Tables) (prices : Prices) (z : ℤ) → less_charges t prices z ≡ z -ℤ sum_below_ℤ (charges_at t prices) (stations_in t)
-unfolding charges_at charge_after
-less_charges_is t prices z =
-    let each = λ (s m : ℕ). ap (λ x. pos (limit_of t s) *ℤ x) (no_charge ((m + 1) % MINUTES_PER_DAY == 0)) ∙ *ℤ-zero (pos (limit_of t s)) in
-    let station = λ (s : ℕ). sum_below_ℤ-same (λ m. pos (limit_of t s) *ℤ where_true ((m + 1) % MINUTES_PER_DAY == 0) (pos 0)) (λ m. pos 0) (period_of t) (λ m below. each s m) ∙ sum_below_ℤ-zero (period_of t) in
-    let all = sum_below_ℤ-same (λ s. sum_below_ℤ (λ m. pos (limit_of t s) *ℤ where_true ((m + 1) % MINUTES_PER_DAY == 0) (pos 0)) (period_of t)) (λ s. pos 0) (stations_in t) (λ s below. station s) ∙ sum_below_ℤ-zero (stations_in t) in
-    omega (arith, ints, all)
+-- of the minutes of a day the last alone ends it
+ends_last : (d i : ℕ) → i < MINUTES_PER_DAY → ((d * MINUTES_PER_DAY + i + 1) % MINUTES_PER_DAY == 0) ≡ (MINUTES_PER_DAY - 1 == i)
+ends_last d i below = grind arith
 
--- prices with the same charges leave as much of worth
-pub same_charges : (t : Tables) (prices other : Prices) (less more : ℤ) → less ≤ℤ more → less_charges t prices less ≤ℤ less_charges t other more
-same_charges t prices other less more le = le
+-- a sum over days is one over minutes of what stands at the end of each
+over_days : (f : ℕ → ℤ) (n : ℕ) → sum_below_ℤ (λ m. where_true ((m + 1) % MINUTES_PER_DAY == 0) (f ((m + 1) / MINUTES_PER_DAY))) (n * MINUTES_PER_DAY) ≡ sum_below_ℤ (λ d. f (d + 1)) n
+over_days f n =
+    blocks_ℤ (λ m. where_true ((m + 1) % MINUTES_PER_DAY == 0) (f ((m + 1) / MINUTES_PER_DAY))) n MINUTES_PER_DAY
+    ∙ sum_below_ℤ-same _ (λ d. f (d + 1)) n (λ d below. one_day d)
+  where
+    at_end : (d : ℕ) → (d * MINUTES_PER_DAY + (MINUTES_PER_DAY - 1) + 1) / MINUTES_PER_DAY ≡ d + 1
+    at_end d = omega arith
+
+    one_day : (d : ℕ) → sum_below_ℤ (λ i. where_true ((d * MINUTES_PER_DAY + i + 1) % MINUTES_PER_DAY == 0) (f ((d * MINUTES_PER_DAY + i + 1) / MINUTES_PER_DAY))) MINUTES_PER_DAY ≡ f (d + 1)
+    one_day d =
+        sum_below_ℤ-same _ (λ i. where_true (MINUTES_PER_DAY - 1 == i) (f ((d * MINUTES_PER_DAY + i + 1) / MINUTES_PER_DAY))) MINUTES_PER_DAY
+        (λ i below. ap (λ b. where_true b (f ((d * MINUTES_PER_DAY + i + 1) / MINUTES_PER_DAY))) (ends_last d i below))
+        ∙ sum_below_ℤ-one (MINUTES_PER_DAY - 1) (λ i. f ((d * MINUTES_PER_DAY + i + 1) / MINUTES_PER_DAY)) MINUTES_PER_DAY (omega arith)
+        ∙ ap f (at_end d)
+
+charges_by_minutes : (t : Tables) (prices : Prices) (s : ℕ) → charges_of t prices s ≡ charges_at t prices s
+unfolding charges_at charge_after
+charges_by_minutes t prices s =
+    sym (over_days (λ d. charge_of prices s d *ℤ pos (limit_of t s)) (days_in t))
+    ∙ ap (sum_below_ℤ (λ m. where_true ((m + 1) % MINUTES_PER_DAY == 0) (charge_of prices s ((m + 1) / MINUTES_PER_DAY) *ℤ pos (limit_of t s)))) (sym (days_are_period t))
+    ∙ sum_below_ℤ-same _ (λ m. pos (limit_of t s) *ℤ where_true ((m + 1) % MINUTES_PER_DAY == 0) (charge_of prices s ((m + 1) / MINUTES_PER_DAY))) (period_of t) (λ m below.
+    ap (where_true ((m + 1) % MINUTES_PER_DAY == 0)) (*ℤ_comm (charge_of prices s ((m + 1) / MINUTES_PER_DAY)) (pos (limit_of t s)))
+    ∙ sym (*ℤ-where_true (pos (limit_of t s)) ((m + 1) % MINUTES_PER_DAY == 0) (charge_of prices s ((m + 1) / MINUTES_PER_DAY))))
+
+pub less_charges_is : (t : Tables) (prices : Prices) (z : ℤ) → less_charges t prices z ≡ z -ℤ sum_below_ℤ (charges_at t prices) (stations_in t)
+unfolding less_charges
+less_charges_is t prices z = ap (λ x. z -ℤ x) (sum_below_ℤ-same (charges_of t prices) (charges_at t prices) (stations_in t) (λ s below. charges_by_minutes t prices s))

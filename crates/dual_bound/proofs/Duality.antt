@@ -116,7 +116,7 @@ module _ (t : Tables) (keeps : Domains) (prices : Prices) (q k : ℕ) (w : Weigh
       let by_fleets = exchange_ℤ t (λ p. pos (w p) *ℤ flow_worth t prices p) in
       let each = sum_below_ℤ-le (λ f. sum_below_ℤ (λ d. pos (w (pair_on t d f)) *ℤ flow_worth t prices (pair_on t d f)) (departures_in t)) (λ f. (pos q *ℤ rents_of t prices f) +ℤ charges_for t prices w f) (fleets_in t) at_fleet in
       let added = sum_below_ℤ-+ℤ (λ f. pos q *ℤ rents_of t prices f) (charges_for t prices w) (fleets_in t) in
-      omega (arith, ints, by_fleets, each, added, *ℤ-sum_below_ℤ (pos q) (rents_of t prices) (fleets_in t), all_charges t prices q w plan.room)
+      omega (arith, ints, by_fleets, each, added, *ℤ-sum_below_ℤ (pos q) (rents_of t prices) (fleets_in t), all_charges t prices proper.within.charges q w plan.room)
 
   duality : (pos q *ℤ worth_of t keeps prices k) ≤ℤ (pos k *ℤ prices.scale *ℤ mixed_cost t w)
   unfolding worth_of

@@ -12,4 +12,5 @@ pub mod ScaledCosts
 pub mod Sizes
 pub mod StepOrder
 pub mod TablesBy
+pub mod WorthParts
 pub mod ZeroPrices

@@ -1,5 +1,5 @@
 -- What arithmetic on signed numbers of 128 bits gives on the way to a worth, where sizes are known, for the crates above.
-use Rattle.std.proofs.Common.{◌≡◌, ℕ, ◌+◌, ◌≤◌, ℤ, pos, negsuc, ◌+ℤ◌, ◌-ℤ◌, ◌*ℤ◌, to_z, of_z, add-one, refl, ◌∙◌, ap, subst, arith}
+use Rattle.std.proofs.Common.{◌≡◌, ℕ, ◌+◌, ◌≤◌, ℤ, pos, negsuc, ◌+ℤ◌, ◌-ℤ◌, ◌*ℤ◌, to_z, of_z, add-one, refl, sym, ◌∙◌, ap, subst, arith}
 use Rattle.std.proofs.lemmas.Int.{ints, to_z-of_z}
 use mir.Syntax.{w128}
 use mir.Val.{SFits}
@@ -26,7 +26,7 @@ is_held n z small few = to_z-of_z w128 z (fits n z small few)
 up_to_sum : (m n : ℕ) (a b : ℤ) → IsUpTo m a → IsUpTo n b → IsUpTo (m + n) (a +ℤ b)
 up_to_sum m n a b p q = record { no_less = omega (arith, ints); no_more = omega (arith, ints) }
 
--- a sum, a difference, and a sum of three
+-- a sum, a difference, a difference of three, and a sum of three
 pub added : (m n : ℕ) (a b x y : ℤ) → IsUpTo m a → IsUpTo n b → m + n ≤ many → a ≡ x → b ≡ y → held (a +ℤ held b) ≡ x +ℤ y
 added m n a b x y small_a small_b few p q =
     ap (λ z. held (a +ℤ z)) (is_held n b small_b (omega arith)) ∙ is_held (m + n) (a +ℤ b) (up_to_sum m n a b small_a small_b) few
@@ -37,6 +37,18 @@ taken m n a b x y small_a small_b few p q =
     ap (λ z. held (z -ℤ held b)) (is_held m a small_a (omega arith)) ∙ ap (λ z. held (a -ℤ z)) (is_held n b small_b (omega arith))
     ∙ is_held (m + n) (a -ℤ b) (record { no_less = omega (arith, ints); no_more = omega (arith, ints) }) few
     ∙ ap (λ z. z -ℤ b) p ∙ ap (λ z. x -ℤ z) q
+
+pub two_taken : (l m n : ℕ) (a b c x y z : ℤ) → IsUpTo l a → IsUpTo m b → IsUpTo n c → l + m + n ≤ many → a ≡ x → b ≡ y → c ≡ z
+    → held (held (held a -ℤ held b) -ℤ held c) ≡ x -ℤ y -ℤ z
+two_taken l m n a b c x y z small_a small_b small_c few p q r =
+    ap (λ u. held (u -ℤ held c)) (taken l m a b x y small_a small_b (omega arith) p q ∙ sym (is_held (l + m) (x -ℤ y) small (omega arith)))
+    ∙ taken (l + m) n (x -ℤ y) c (x -ℤ y) z small small_c few refl r
+  where
+    less : IsUpTo l x → IsUpTo m y → IsUpTo (l + m) (x -ℤ y)
+    less small_x small_y = record { no_less = omega (arith, ints); no_more = omega (arith, ints) }
+
+    small : IsUpTo (l + m) (x -ℤ y)
+    small = less (subst (IsUpTo l) p small_a) (subst (IsUpTo m) q small_b)
 
 pub three_added : (l m n : ℕ) (a b c x y z : ℤ) → IsUpTo l a → IsUpTo m b → IsUpTo n c → l + m + n ≤ many → a ≡ x → b ≡ y → c ≡ z
     → held (held (held a +ℤ held b) +ℤ held c) ≡ x +ℤ y +ℤ z

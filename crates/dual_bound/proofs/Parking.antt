@@ -1,5 +1,5 @@
 -- Charges for the aircraft of all fleets: no more than the limits allow.
-use Rattle.std.proofs.Common.{◌≡◌, ℕ, ◌+◌, ◌*◌, ◌/◌, ◌%◌, ◌<◌, ◌≤◌, ◌==◌, true, false, Option, Some, None, pos, ◌*ℤ◌, ◌≤ℤ◌, refl, sym, ◌∙◌, ap, subst, arith}
+use Rattle.std.proofs.Common.{◌≡◌, ℕ, ◌+◌, ◌*◌, ◌/◌, ◌%◌, ◌<◌, ◌==◌, true, false, Option, Some, None, pos, ◌*ℤ◌, ◌≤ℤ◌, refl, sym, ◌∙◌, ap, subst, arith}
 use Rattle.std.specs.Prelude.{unwrap_or}
 use Rattle.std.proofs.lemmas.Bool.{eqb-true}
 use Rattle.std.proofs.lemmas.Int.{ints}
@@ -14,25 +14,19 @@ use Rattle.fleet_model.specs.declared.limits.TheConstants.{MINUTES_PER_DAY}
 use Rattle.fleet_model.specs.declared.tables.Tables.{Tables}
 use Rattle.fleet_model.specs.Counts.{Weights}
 use Rattle.fleet_model.specs.Legal.{HasRoom}
-use Rattle.fleet_model.specs.Schedule.{day_end, days_in, fleets_in, parking_of, period_of, stations_in}
+use Rattle.fleet_model.specs.Schedule.{day_end, fleets_in, parking_of, period_of, stations_in}
 use Rattle.fleet_model.specs.Use.{parked, stand_of}
-use Rattle.fleet_model.proofs.PeriodMinutes.{days_are_period}
-use Rattle.dual_bound.specs.Prices.{charge_of}
+use Rattle.dual_bound.specs.Prices.{AreCharges, IsCharge, charge_of}
+use Rattle.dual_bound.specs.Worth.{limit_of}
 use Rattle.dual_bound.specs.declared.prices.Prices.{Prices}
-use Rattle.dual_bound.proofs.Charges.{are_charges, charge_after, charges_at, limit_of}
+use Rattle.dual_bound.proofs.Charges.{charge_after, charges_at, day_within, some_day}
 use Rattle.dual_bound.proofs.Flows.{charges_for}
 
 -- a minute that ends a day is the last of that day
 ends_day : (m : ℕ) → (m + 1) % MINUTES_PER_DAY ≡ 0 → m ≡ day_end ((m + 1) / MINUTES_PER_DAY)
 ends_day m e = omega (arith, e)
 
-some_day : (m : ℕ) → (m + 1) % MINUTES_PER_DAY ≡ 0 → 0 < (m + 1) / MINUTES_PER_DAY
-some_day m e = omega (arith, e)
-
-last_day : (m days minutes : ℕ) → minutes ≡ days * MINUTES_PER_DAY → m < minutes → (m + 1) % MINUTES_PER_DAY ≡ 0 → (m + 1) / MINUTES_PER_DAY ≤ days
-last_day m days minutes e below ends = omega (arith, e, below, ends)
-
-module _ (t : Tables) (prices : Prices) (q : ℕ) (w : Weights) (room : HasRoom t q w) where
+module _ (t : Tables) (prices : Prices) (charges : AreCharges t prices) (q : ℕ) (w : Weights) (room : HasRoom t q w) where
   -- aircraft of all fleets at the end of a minute
   all_stand : ℕ → ℕ → ℕ
   all_stand s m = sum_below (λ f. stand_of t w f s m) (fleets_in t)
@@ -56,16 +50,19 @@ module _ (t : Tables) (prices : Prices) (q : ℕ) (w : Weights) (room : HasRoom 
           d : ℕ
           d = (m + 1) / MINUTES_PER_DAY
 
+          charge : IsCharge t prices s ((m + 1) / MINUTES_PER_DAY)
+          charge = charges s ((m + 1) / MINUTES_PER_DAY) there (some_day m (eqb-true _ _ e)) (day_within t m below (eqb-true _ _ e))
+
           by_limit : (o : Option ℕ) → parking_of t s ≡ o → (pos (all_stand s m) *ℤ charge_of prices s ((m + 1) / MINUTES_PER_DAY)) ≤ℤ (pos q *ℤ (pos (limit_of t s) *ℤ charge_of prices s ((m + 1) / MINUTES_PER_DAY)))
           by_limit None is =
-              let free : charge_of prices s ((m + 1) / MINUTES_PER_DAY) ≡ pos 0 = (are_charges t prices).none s ((m + 1) / MINUTES_PER_DAY) is in
+              let free : charge_of prices s ((m + 1) / MINUTES_PER_DAY) ≡ pos 0 = charge.only_limited is in
               let left = ap (λ z. pos (all_stand s m) *ℤ z) free ∙ *ℤ-zero (pos (all_stand s m)) in
               let right = ap (λ z. pos q *ℤ (pos (limit_of t s) *ℤ z)) free ∙ ap (λ z. pos q *ℤ z) (*ℤ-zero (pos (limit_of t s))) ∙ *ℤ-zero (pos q) in
               omega (arith, ints, left, right)
           by_limit (Some limit) is =
-              let few = room.each s d limit there (some_day m (eqb-true _ _ e)) (last_day m (days_in t) (period_of t) (days_are_period t) below (eqb-true _ _ e)) is in
+              let few = room.each s d limit there (some_day m (eqb-true _ _ e)) (day_within t m below (eqb-true _ _ e)) is in
               let stand = standing_then s m (eqb-true _ _ e) in
-              let more = more_times (all_stand s m) (q * limit) (charge_of prices s d) (omega (arith, few, stand)) ((are_charges t prices).some s d) in
+              let more = more_times (all_stand s m) (q * limit) (charge_of prices s d) (omega (arith, few, stand)) charge.some in
               let same = ap (λ n. pos q *ℤ (pos n *ℤ charge_of prices s d)) (limit_is is) ∙ sym (*ℤ_assoc (pos q) (pos limit) (charge_of prices s d)) in
               omega (arith, ints, more, same)
             where

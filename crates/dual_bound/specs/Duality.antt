@@ -30,6 +30,6 @@ CeilingIsLowerBound = (t : Tables) (keeps : Domains) (prices : Prices) (bound : 
 abbrev pub WorthRefutes : Type 0
 WorthRefutes = (t : Tables) (keeps : Domains) (prices : Prices) (a : List ℕ) → ArePrices t prices → pos 0 <ℤ worth_of t keeps prices 0 → IsKeptAssignment t keeps a → ¬ (IsLegal t a)
 
--- prices that are all 0, over the scale 1 and with no rents, are proper
+-- prices that are all 0, over the scale 1 and with no rents and no charges, are proper
 abbrev pub ZeroIsProper : Type 0
-ZeroIsProper = (t : Tables) (prices : Prices) → prices.scale ≡ pos 1 → prices.rents ≡ [] → prices.steps ≡ [] → ArePrices t prices
+ZeroIsProper = (t : Tables) (prices : Prices) → prices.scale ≡ pos 1 → prices.rents ≡ [] → prices.steps ≡ [] → prices.charges ≡ [] → ArePrices t prices

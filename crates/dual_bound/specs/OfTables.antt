@@ -4,6 +4,7 @@ use Rattle.fleet_model.specs.Schedule.{IsPair, fleets_in, leg_on, legs_in, stati
 use Rattle.fleet_model.specs.declared.tables.Tables.{Tables}
 use Rattle.dual_bound.specs.declared.mixed.Mixed.{Mixed}
 use Rattle.dual_bound.specs.declared.mixed.Weight.{Weight}
+use Rattle.dual_bound.specs.declared.prices.Charge.{Charge}
 use Rattle.dual_bound.specs.declared.prices.Prices.{Prices}
 use Rattle.dual_bound.specs.declared.prices.PriceStep.{PriceStep}
 use Rattle.dual_bound.specs.declared.trees.Cause.{Cause}
@@ -16,9 +17,14 @@ pub record IsStepOf (t : Tables) (step : PriceStep) : Type 0 where
   pub fleet : step.fleet < fleets_in t
   pub station : step.station < stations_in t
 
--- all steps of prices are of the tables
-abbrev pub ArePricesOf : Tables → Prices → Type 0
-ArePricesOf t prices = All (IsStepOf t) prices.steps
+-- a charge at a station of the tables
+abbrev pub IsChargeOf : Tables → Charge → Type 0
+IsChargeOf t charge = charge.station < stations_in t
+
+-- all steps and charges of prices are of the tables
+pub record ArePricesOf (t : Tables) (prices : Prices) : Type 0 where
+  pub steps : All (IsStepOf t) prices.steps
+  pub charges : All (IsChargeOf t) prices.charges
 
 -- a weight of a leg on a fleet of the tables
 abbrev pub IsWeightOf : Tables → Weight → Type 0

@@ -1,7 +1,9 @@
 -- What prices say at each minute, and when they are proper.
-use Rattle.std.specs.Prelude.{ℕ, ◌+◌, ◌<◌, ◌^◌, Bool, ◌==◌, ◌&&◌, nat_le, if◌then◌else◌, List, [], ◌∷◌, slice_index_or, ℤ, pos, neg_ℤ, ◌≤ℤ◌, ◌+ℤ◌}
-use Rattle.fleet_model.specs.Schedule.{fleets_in, last_of, period_of, stations_in}
+use Rattle.std.specs.Prelude.{◌≡◌, ℕ, ◌+◌, ◌/◌, ◌%◌, ◌<◌, ◌≤◌, ◌^◌, Bool, ◌==◌, ◌&&◌, nat_le, if◌then◌else◌, List, [], ◌∷◌, slice_index_or, None, ℤ, pos, neg_ℤ, ◌≤ℤ◌, ◌+ℤ◌}
+use Rattle.fleet_model.specs.Schedule.{days_in, fleets_in, last_of, parking_of, period_of, stations_in}
+use Rattle.fleet_model.specs.declared.limits.TheConstants.{MINUTES_PER_DAY}
 use Rattle.fleet_model.specs.declared.tables.Tables.{Tables}
+use Rattle.dual_bound.specs.declared.prices.Charge.{Charge}
 use Rattle.dual_bound.specs.declared.prices.Prices.{Prices}
 use Rattle.dual_bound.specs.declared.prices.PriceStep.{PriceStep}
 
@@ -23,16 +25,26 @@ abbrev pub rent_of : Prices → ℕ → ℤ
 rent_of prices f = slice_index_or prices.rents f (pos 0)
 
 -- ---- charges
--- what it costs that an aircraft stands at a station at the end of a day, days counted from 1; none is made yet
+-- an entry is one of the station and the day
+abbrev pub is_charge_of : ℕ → ℕ → Charge → Bool
+is_charge_of s d entry = (entry.station == s) && (entry.day == d)
+
+-- the charge after entries, from a charge before them: what the last entry of the station and the day says
+unfoldable pub last_charge : ℤ → List Charge → ℕ → ℕ → ℤ
+last_charge charge [] s d = charge
+last_charge charge (entry ∷ entries) s d = last_charge (if is_charge_of s d entry then entry.charge else charge) entries s d
+
+-- what it costs that an aircraft stands at a station at the end of a day, days counted from 1
 abbrev pub charge_of : Prices → ℕ → ℕ → ℤ
-charge_of prices s d = pos 0
+charge_of prices s d = last_charge (pos 0) prices.charges s d
 
 -- what a price at a minute may be a minute later: itself, and the station's charge where the minute ends a day
-abbrev pub with_charge : Prices → ℕ → ℕ → ℤ → ℤ
-with_charge prices s m price = price
+unfoldable pub with_charge : Prices → ℕ → ℕ → ℤ → ℤ
+with_charge prices s m price =
+    if (m + 1) % MINUTES_PER_DAY == 0 then price +ℤ charge_of prices s ((m + 1) / MINUTES_PER_DAY) else price
 
 -- ---- limits
--- the greatest scale of prices, and the greatest size of a rent and of a price
+-- the greatest scale of prices, and the greatest size of a rent, of a price and of a charge
 abbrev pub max_scale : ℕ
 max_scale = 10 ^ 18
 
@@ -58,10 +70,21 @@ pub record IsPrice (price : ℤ) : Type 0 where
 abbrev pub AreRents : Tables → Prices → Type 0
 AreRents t prices = (f : ℕ) → f < fleets_in t → IsRent (rent_of prices f)
 
--- rents and prices are within their limits
+-- a charge is 0 or more, within its limit, and 0 where any number of aircraft may stand at the station
+pub record IsCharge (t : Tables) (prices : Prices) (s d : ℕ) : Type 0 where
+  pub some : pos 0 ≤ℤ charge_of prices s d
+  pub within : charge_of prices s d ≤ℤ pos max_price
+  pub only_limited : parking_of t s ≡ None → charge_of prices s d ≡ pos 0
+
+-- the charges of all stations and days are
+abbrev pub AreCharges : Tables → Prices → Type 0
+AreCharges t prices = (s d : ℕ) → s < stations_in t → 0 < d → d ≤ days_in t → IsCharge t prices s d
+
+-- rents, prices and charges are within their limits
 pub record AreWithin (t : Tables) (prices : Prices) : Type 0 where
   pub rents : AreRents t prices
   pub each : (f s m : ℕ) → f < fleets_in t → s < stations_in t → m < period_of t → IsPrice (price_of prices f s m)
+  pub charges : AreCharges t prices
 
 -- ---- rises
 -- from one minute to the next no price rises, but by a charge

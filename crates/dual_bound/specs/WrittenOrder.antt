@@ -55,12 +55,13 @@ pub record AreStepsInOrder (t : Tables) (steps : List PriceStep) : Type 0 where
   pub follow : StepsFollow None steps
   pub no_lone_zero : NoLoneZero steps
 
--- prices: one rent for each fleet, and the steps in their order
+-- prices: one rent for each fleet, the steps in their order, and no charges, for which a text has no line
 pub record ArePricesInOrder (t : Tables) (prices : Prices) : Type 0 where
   pub scale : IsFigure prices.scale
   pub one_each : length prices.rents ≡ fleets_in t
   pub rents : All IsFigure prices.rents
   pub steps : AreStepsInOrder t prices.steps
+  pub no_charges : prices.charges ≡ []
 
 -- a weight of a leg on a fleet of the tables
 pub record IsWeightInOrder (t : Tables) (entry : Weight) : Type 0 where

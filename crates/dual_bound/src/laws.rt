@@ -5,7 +5,7 @@ ghost use Rattle.dual_bound.specs.Duality.{CeilingIsLowerBound, WeakDuality, Wor
 ghost use Rattle.dual_bound.specs.declared.prices.TheConstants.{MAX_PRICE, MAX_SCALE, MAX_SIZE};
 ghost use Rattle.dual_bound.specs.declared.trees.TheConstants.{MAX_DEPTH};
 
-/// Prices that are all 0, over the scale 1 and with no rents, are proper.
+/// Prices that are all 0, over the scale 1 and with no rents and no charges, are proper.
 pub fn zero_is_proper()
     ensures { ZeroIsProper }
 {}
@@ -31,7 +31,7 @@ pub fn worth_refutes()
     ensures { WorthRefutes }
 {}
 
-/// The limits of proofs in numbers: of levels, of the numbers of a text, of scales, and of rents and prices.
+/// The limits of proofs in numbers: of levels, of the numbers of a text, of scales, and of rents, prices and charges.
 pub fn limits_in_numbers()
     ensures depth { MAX_DEPTH ≡ 20000 }
     ensures size { MAX_SIZE ≡ 2 ^ 127 - 1 }

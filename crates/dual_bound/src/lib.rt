@@ -1,6 +1,7 @@
 //! Dual prices, the bound that they give, and trees of subproblems with the prices that prove one.
 #![tactic(auto)]
 
+pub mod charge_at;
 pub mod counting;
 pub mod laws;
 pub mod mixed;
@@ -13,9 +14,10 @@ mod rising_weights;
 pub mod trees;
 pub mod weight_finder;
 pub mod worth;
+mod worth_less;
 
 pub use mixed::{Mixed, Weight};
 pub use price_finder::PriceFinder;
-pub use prices::{PriceStep, Prices};
+pub use prices::{Charge, PriceStep, Prices};
 pub use trees::{Cause, Tree, TreeCounts};
 pub use weight_finder::WeightFinder;

@@ -1,10 +1,10 @@
 //! Prices that are asked for often.
 ghost use Rattle.std.specs.Prelude.{◌≡◌, ◌<◌, IsTrue, length};
-ghost use Rattle.dual_bound.specs.Prices.{price_of, rent_of};
+ghost use Rattle.dual_bound.specs.Prices.{charge_of, price_of, rent_of};
 ghost use Rattle.dual_bound.specs.Rising.{IsIdle, StepsRise, price_at, price_before, step_at};
 
 use crate::price_at::last_come;
-use crate::prices::{PriceStep, Prices};
+use crate::prices::{Charge, PriceStep, Prices};
 use crate::rising::{bisect, earlier_price, lack, own_price, rise, step_at};
 use std::marker::Model;
 
@@ -65,6 +65,20 @@ impl<'a> PriceFinder<'a> {
         ensures { result ≡ rent_of self.now fleet }
     {
         self.prices.rent(fleet)
+    }
+
+    /// The entries of charges.
+    pub fn charges(&self) -> &[Charge]
+        ensures { result.now ≡ self.now.charges }
+    {
+        self.prices.charges.as_slice()
+    }
+
+    /// The charge at a station at the end of a day, in cost units over the scale. Takes no memory.
+    pub fn charge(&self, station: u32, day: u32) -> i128
+        ensures { result ≡ charge_of self.now station day }
+    {
+        self.prices.charge(station, day)
     }
 
     /// The price of a fleet at a station at a minute, in cost units over the scale. Takes no memory.

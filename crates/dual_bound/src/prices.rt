@@ -7,7 +7,7 @@ use std::alloc::Global;
 /// The greatest scale of prices and of fractional assignments.
 pub const MAX_SCALE: i128 = 1_000_000_000_000_000_000;
 
-/// The greatest rent, and the greatest size of a price.
+/// The greatest rent and charge, and the greatest size of a price.
 pub const MAX_PRICE: i128 = 1_000_000_000_000_000_000_000_000_000_000;
 
 /// The greatest size of a number of a proof, 2^127 - 1.
@@ -26,8 +26,20 @@ pub struct PriceStep {
     pub value: i128,
 }
 
+/// What it costs that an aircraft of any fleet stands at a station at the end of a day.
+#[derive(Clone, Copy, Debug, PartialEq, Eq)]
+pub struct Charge {
+    /// The station, by its number.
+    pub station: u32,
+    /// The day of the period, counted from 1.
+    pub day: u32,
+    /// The charge, in cost units over the scale.
+    pub charge: i128,
+}
+
 /// Dual prices of a subproblem's constraints: for each fleet what an aircraft at a station is worth, minute by
-/// minute, and what the use of an aircraft costs (Hane and others 1995: balance and count).
+/// minute, and what the use of an aircraft costs (Hane and others 1995: balance and count); and what it costs that an
+/// aircraft stands overnight at a station where only so many may.
 #[derive(Debug, Drop)]
 pub struct Prices {
     /// What all numbers here are over, 1 or more.
@@ -36,19 +48,23 @@ pub struct Prices {
     pub rents: Entries<i128>,
     /// The steps of the prices; a price is 0 before the first step of its fleet and station.
     pub steps: Entries<PriceStep>,
+    /// The charges of stations and days, of which the last entry counts; 0 where there is none.
+    pub charges: Entries<Charge>,
 }
 
 impl Prices {
-    /// No price and no rent, over the scale 1. Takes no memory.
+    /// No price, no rent and no charge, over the scale 1. Takes no memory.
     pub fn zero(alloc: Global) -> Prices
         ensures scale { result.scale ≡ pos 1 }
         ensures rents { result.rents ≡ [] }
         ensures steps { result.steps ≡ [] }
+        ensures charges { result.charges ≡ [] }
     {
         Prices {
             scale: 1,
             rents: Entries::from_vec(Vec::new(alloc)),
             steps: Entries::from_vec(Vec::new(alloc)),
+            charges: Entries::from_vec(Vec::new(alloc)),
         }
     }
 

@@ -12,15 +12,16 @@ ghost use Rattle.dual_bound.specs.Worth.{cost_units, leg_worth, lesser, pair_wor
 
 use crate::price_finder::PriceFinder;
 use crate::prices::Prices;
+use crate::worth_less::all_charges;
 use fleet_model::{Kept, Pair, Tables};
 
 /// The worth of prices in a subproblem, over their scale: with `k` = 1 a bound on what each legal assignment of
 /// kept pairs costs; with `k` = 0, where it is above 0, a proof that there is none. A leg that keeps no pair adds 0.
 ///
-/// It asks for the limits of the scale, the rents and the prices alone. It looks at each kept pair. Where the steps of
-/// the prices rise by fleet, station and minute, it finds two prices there by bisection, and none where the fleet has
-/// neither rent nor step; else it looks twice at each step. Takes no memory.
-#[tactic(auto, unfolding(crate::specs::Worth::worth_of))]
+/// It asks for the limits of the scale, the rents, the prices and the charges alone. It looks at each kept pair. Where
+/// the steps of the prices rise by fleet, station and minute, it finds two prices there by bisection, and none where the
+/// fleet has neither rent nor step; else it looks twice at each step. For each day of each station with a limit it looks
+/// at each charge. Takes no memory.
 pub fn worth(tables: &Tables, kept: &Kept, prices: &Prices, k: u8) -> i128
     requires scale { IsScale prices.now.scale }
     requires within { AreWithin tables.now prices.now }
@@ -28,7 +29,7 @@ pub fn worth(tables: &Tables, kept: &Kept, prices: &Prices, k: u8) -> i128
     ensures { result ≡ worth_of tables.now (kept_by kept.now) prices.now k }
 {
     let prices = PriceFinder::new(prices);
-    legs_worth(tables, kept, &prices, k) - all_rents(tables, &prices)
+    legs_worth(tables, kept, &prices, k) - all_rents(tables, &prices) - all_charges(tables, &prices)
 }
 
 // What the legs are worth, added up.

@@ -1,10 +1,11 @@
 -- What is first too large of dual values in lowest terms.
-use Rattle.std.proofs.Common.{◌≡◌, ℕ, ◌+◌, ◌<◌, Bool, true, false, nat_lt, Option, Some, None, ℤ, pos, ◌<ℤ◌, ◌≤ℤ◌, unsigned_abs, ◌∙◌, ap, subst, arith}
-use Rattle.std.specs.Prelude.{int_lt}
+use Rattle.std.proofs.Common.{◌≡◌, ℕ, ◌+◌, ◌<◌, Bool, true, false, nat_lt, Option, Some, None, ℤ, pos, ◌<ℤ◌, ◌≤ℤ◌, unsigned_abs, sym, ◌∙◌, ap, subst, arith}
+use Rattle.std.specs.Prelude.{int_div, int_lt}
 use Rattle.std.proofs.lemmas.Int.{ints}
 use Rattle.sums.specs.Places.{first_below, or_else}
-use Rattle.frac_row.specs.Row.{number_of, reduced, width_of}
+use Rattle.frac_row.specs.Row.{common_divisor, divided, number_of, reduced, width_of}
 use Rattle.frac_row.specs.declared.row.FracRow.{FracRow}
+use Rattle.frac_row.proofs.Rows.{number_of-reduced}
 use Rattle.dual_lift.specs.TooLarge.{excess_if, lowest_excess, lowest_scale_excess, lowest_value_excess}
 use Rattle.dual_lift.specs.declared.error.Excess.{Excess}
 use Rattle.dual_lift.proofs.Excesses.{found_behind, place_well, well}
@@ -14,6 +15,14 @@ past_test a b h = grind (arith, ints)
 
 fit_test : (a b : ℤ) → b ≤ℤ a → int_lt a b ≡ false
 fit_test a b h = grind (arith, ints)
+
+-- the denominator and a number over the common divisor are those in lowest terms
+pub den_over : (row : FracRow) (d : ℤ) → d ≡ pos (common_divisor row) → int_div row.den d ≡ (reduced row).den
+unfolding reduced divided
+den_over row d same = ap (int_div row.den) same
+
+pub number_over : (row : FracRow) (k : ℕ) (d : ℤ) → d ≡ pos (common_divisor row) → k < width_of row → int_div (number_of row k) d ≡ number_of (reduced row) k
+number_over row k d same below = ap (int_div (number_of row k)) same ∙ sym (number_of-reduced row k below)
 
 module _ (most_scale most_value first : ℕ) (duals : FracRow) where
   abbrev values_excess : Option Excess

@@ -13,7 +13,7 @@ pub mod scales;
 pub mod values;
 
 pub use error::{Excess, LiftError};
-pub use lowest_terms::{Limits, lowest};
+pub use lowest_terms::{Limits, fits, lowest};
 pub use mixture::Mixture;
 pub use parts::column_parts;
 pub use reading::Reading;

@@ -164,6 +164,7 @@ fn prices(alloc: Global, rents: &[i128], worths: &[Worth]) -> Result<Prices, NoM
         scale: 1,
         rents: Entries::from_vec(rents.to_vec(alloc)?),
         steps: Entries::from_vec(steps),
+        charges: Entries::from_vec(Vec::new(alloc)),
     })
 }
 

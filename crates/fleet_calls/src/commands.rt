@@ -6,33 +6,41 @@ use std::alloc::Global;
 use std::process::Abort;
 use std::test::Fail;
 
-/// A line of words that single spaces part, the folder, and the day start.
-type DayLine = (&'static str, &'static str, u16);
+/// A line of words that single spaces part, the folder, the day start, and the days of the period.
+type DayLine = (&'static str, &'static str, u16, u16);
 
 /// The same with the longest wait of a through pair, the most days between maintenance, and the most prefixes visited.
-pub type RotationLine = (&'static str, &'static str, u16, u16, u32, u32);
+pub type RotationLine = (&'static str, &'static str, u16, u16, u16, u32, u32);
 
 /// A line that solves with the most splits and pivots, and whether the summary is JSON.
 type SolveLine = (RotationLine, u64, u64, bool);
 
 const JUDGE: &[DayLine] = &[
-    ("fleetplan judge d", "d", 180),
-    ("fleetplan judge d --day-start 00:00", "d", 0),
-    ("fleetplan judge --day-start=23:59 d", "d", 1439),
-    ("fleetplan judge --day-start 00:00 -- -d", "-d", 0),
-    ("fleetplan judge -", "-", 180),
-    ("fleetplan judge help", "help", 180),
+    ("fleetplan judge d", "d", 180, 1),
+    ("fleetplan judge d --day-start 00:00", "d", 0, 1),
+    ("fleetplan judge --day-start=23:59 d", "d", 1439, 1),
+    ("fleetplan judge --day-start 00:00 -- -d", "-d", 0, 1),
+    ("fleetplan judge -", "-", 180, 1),
+    ("fleetplan judge help", "help", 180, 1),
+    ("fleetplan judge d --period 7", "d", 180, 7),
+    ("fleetplan judge --period=1 d", "d", 180, 1),
 ];
 
 const CHECK: &[DayLine] = &[
-    ("fleetplan check d", "d", 180),
-    ("fleetplan check --day-start=00:00 -- -d", "-d", 0),
-    ("fleetplan check judge --day-start 23:59", "judge", 1439),
+    ("fleetplan check d", "d", 180, 1),
+    ("fleetplan check --day-start=00:00 -- -d", "-d", 0, 1),
+    ("fleetplan check judge --day-start 23:59", "judge", 1439, 1),
+    (
+        "fleetplan check --period=007 d --day-start 00:00",
+        "d",
+        0,
+        7,
+    ),
 ];
 
 const SOLVE: &[SolveLine] = &[
     (
-        ("fleetplan solve d", "d", 180, 60, 3, 200_000),
+        ("fleetplan solve d", "d", 180, 1, 60, 3, 200_000),
         1000,
         20_000,
         false,
@@ -42,6 +50,7 @@ const SOLVE: &[SolveLine] = &[
             "fleetplan solve d --nodes=0000000000000000005 --day-start 00:00",
             "d",
             0,
+            1,
             60,
             3,
             200_000,
@@ -55,6 +64,7 @@ const SOLVE: &[SolveLine] = &[
             "fleetplan solve d --nodes 1000000",
             "d",
             180,
+            1,
             60,
             3,
             200_000,
@@ -68,6 +78,7 @@ const SOLVE: &[SolveLine] = &[
             "fleetplan solve --pivots 0 d --nodes 0",
             "d",
             180,
+            1,
             60,
             3,
             200_000,
@@ -81,6 +92,7 @@ const SOLVE: &[SolveLine] = &[
             "fleetplan solve d --pivots 1000000",
             "d",
             180,
+            1,
             60,
             3,
             200_000,
@@ -90,7 +102,15 @@ const SOLVE: &[SolveLine] = &[
         false,
     ),
     (
-        ("fleetplan solve d --through-max 0", "d", 180, 0, 3, 200_000),
+        (
+            "fleetplan solve d --through-max 0",
+            "d",
+            180,
+            1,
+            0,
+            3,
+            200_000,
+        ),
         1000,
         20_000,
         false,
@@ -100,6 +120,7 @@ const SOLVE: &[SolveLine] = &[
             "fleetplan solve d --through-max=1439",
             "d",
             180,
+            1,
             1439,
             3,
             200_000,
@@ -109,7 +130,13 @@ const SOLVE: &[SolveLine] = &[
         false,
     ),
     (
-        ("fleetplan solve --days 1 d", "d", 180, 60, 1, 200_000),
+        ("fleetplan solve --period 2 d", "d", 180, 2, 60, 3, 200_000),
+        1000,
+        20_000,
+        false,
+    ),
+    (
+        ("fleetplan solve --days 1 d", "d", 180, 1, 60, 1, 200_000),
         1000,
         20_000,
         false,
@@ -119,6 +146,7 @@ const SOLVE: &[SolveLine] = &[
             "fleetplan solve d --days 30 --visits 0",
             "d",
             180,
+            1,
             60,
             30,
             0,
@@ -132,6 +160,7 @@ const SOLVE: &[SolveLine] = &[
             "fleetplan solve d --visits=1000000",
             "d",
             180,
+            1,
             60,
             3,
             1_000_000,
@@ -141,7 +170,7 @@ const SOLVE: &[SolveLine] = &[
         false,
     ),
     (
-        ("fleetplan solve d --json", "d", 180, 60, 3, 200_000),
+        ("fleetplan solve d --json", "d", 180, 1, 60, 3, 200_000),
         1000,
         20_000,
         true,
@@ -151,6 +180,7 @@ const SOLVE: &[SolveLine] = &[
             "fleetplan solve --json --days 2 --visits 1 d",
             "d",
             180,
+            1,
             60,
             2,
             1,
@@ -164,6 +194,7 @@ const SOLVE: &[SolveLine] = &[
             "fleetplan solve --json -- --json",
             "--json",
             180,
+            1,
             60,
             3,
             200_000,
@@ -177,6 +208,17 @@ const SOLVE: &[SolveLine] = &[
 const NOTHING: &[&str] = &[
     "fleetplan solve d --through-max 1440",
     "fleetplan solve d --through-max 60 --through-max 60",
+    "fleetplan judge d --period 0",
+    "fleetplan judge d --period 8",
+    "fleetplan judge d --period -1",
+    "fleetplan judge d --period +1",
+    "fleetplan judge d --period",
+    "fleetplan judge d --period=",
+    "fleetplan judge d --period 1 --period 1",
+    "fleetplan check d --period 8",
+    "fleetplan solve d --period 0",
+    "fleetplan tails d 2025-02-28 2 --period 8",
+    "fleetplan make d 1 2 --period 1",
     "fleetplan solve d --days 0",
     "fleetplan solve d --days 31",
     "fleetplan solve d --days +3",
@@ -244,18 +286,19 @@ pub fn assert_asks<R: Abort + Alloc<A = Global>>(
     }
 }
 
-pub fn reading(day_start: u16, through_max: u16) -> TableOptions {
+pub fn reading(day_start: u16, through_max: u16, period: u16) -> TableOptions {
     let settings = Settings {
         day_start,
         through_max,
+        period,
     };
     TableOptions { settings }
 }
 
 #[test]
 fn lines_that_judge(rt: HostRuntime) -> Result<(), Fail> {
-    for (line, dir, day_start) in JUDGE {
-        let reading = reading(*day_start, 60);
+    for (line, dir, day_start, period) in JUDGE {
+        let reading = reading(*day_start, 60, *period);
         assert_asks(&rt, line, &Some(Command::Judge { dir, reading }))?;
     }
     Ok(())
@@ -263,8 +306,8 @@ fn lines_that_judge(rt: HostRuntime) -> Result<(), Fail> {
 
 #[test]
 fn lines_that_check(rt: HostRuntime) -> Result<(), Fail> {
-    for (line, dir, day_start) in CHECK {
-        let reading = reading(*day_start, 60);
+    for (line, dir, day_start, period) in CHECK {
+        let reading = reading(*day_start, 60, *period);
         assert_asks(&rt, line, &Some(Command::Check { dir, reading }))?;
     }
     Ok(())
@@ -272,10 +315,10 @@ fn lines_that_check(rt: HostRuntime) -> Result<(), Fail> {
 
 #[test]
 fn lines_that_solve(rt: HostRuntime) -> Result<(), Fail> {
-    for ((line, dir, day_start, through_max, days, visits), nodes, pivots, json) in SOLVE {
+    for ((line, dir, day_start, period, through_max, days, visits), nodes, pivots, json) in SOLVE {
         let wanted = Command::Solve {
             dir,
-            reading: reading(*day_start, *through_max),
+            reading: reading(*day_start, *through_max, *period),
             options: SolveOptions {
                 search: SearchLimits {
                     nodes: *nodes,

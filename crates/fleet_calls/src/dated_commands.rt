@@ -9,42 +9,90 @@ type TailsLine = (RotationLine, i16, i8, i8, u32);
 
 const TAILS: &[TailsLine] = &[
     (
-        ("fleetplan tails d 2025-02-28 2", "d", 180, 60, 3, 200_000),
+        (
+            "fleetplan tails d 2025-02-28 2",
+            "d",
+            180,
+            1,
+            60,
+            3,
+            200_000,
+        ),
         2025,
         2,
         28,
         2,
     ),
     (
-        ("fleetplan tails d 2024-02-29 1", "d", 180, 60, 3, 200_000),
+        (
+            "fleetplan tails d 2024-02-29 1",
+            "d",
+            180,
+            1,
+            60,
+            3,
+            200_000,
+        ),
         2024,
         2,
         29,
         1,
     ),
     (
-        ("fleetplan tails d 2000-02-29 366", "d", 180, 60, 3, 200_000),
+        (
+            "fleetplan tails d 2000-02-29 366",
+            "d",
+            180,
+            1,
+            60,
+            3,
+            200_000,
+        ),
         2000,
         2,
         29,
         366,
     ),
     (
-        ("fleetplan tails d 0001-01-01 366", "d", 180, 60, 3, 200_000),
+        (
+            "fleetplan tails d 0001-01-01 366",
+            "d",
+            180,
+            1,
+            60,
+            3,
+            200_000,
+        ),
         1,
         1,
         1,
         366,
     ),
     (
-        ("fleetplan tails d 9999-12-31 1", "d", 180, 60, 3, 200_000),
+        (
+            "fleetplan tails d 9999-12-31 1",
+            "d",
+            180,
+            1,
+            60,
+            3,
+            200_000,
+        ),
         9999,
         12,
         31,
         1,
     ),
     (
-        ("fleetplan tails d 9998-12-31 366", "d", 180, 60, 3, 200_000),
+        (
+            "fleetplan tails d 9998-12-31 366",
+            "d",
+            180,
+            1,
+            60,
+            3,
+            200_000,
+        ),
         9998,
         12,
         31,
@@ -55,6 +103,7 @@ const TAILS: &[TailsLine] = &[
             "fleetplan tails d 2025-02-28 00000000000000000366",
             "d",
             180,
+            1,
             60,
             3,
             200_000,
@@ -69,6 +118,7 @@ const TAILS: &[TailsLine] = &[
             "fleetplan tails d 2025-02-28 2 --days 30 --visits 0",
             "d",
             180,
+            1,
             60,
             30,
             0,
@@ -80,9 +130,10 @@ const TAILS: &[TailsLine] = &[
     ),
     (
         (
-            "fleetplan tails --through-max 1439 --day-start=00:00 d 2025-02-28 2",
+            "fleetplan tails --through-max 1439 --day-start=00:00 d --period=2 2025-02-28 2",
             "d",
             0,
+            2,
             1439,
             3,
             200_000,
@@ -97,6 +148,7 @@ const TAILS: &[TailsLine] = &[
             "fleetplan tails d --visits 1000000 2025-02-28 --days 1 2",
             "d",
             180,
+            1,
             60,
             1,
             1_000_000,
@@ -111,6 +163,7 @@ const TAILS: &[TailsLine] = &[
             "fleetplan tails -- -d 2025-02-28 2",
             "-d",
             180,
+            1,
             60,
             3,
             200_000,
@@ -131,12 +184,18 @@ fn dates(year: i16, month: i8, day: i8, count: u32) -> Option<Dates> {
 
 #[test]
 fn lines_that_print_tails(rt: HostRuntime) -> Result<(), Fail> {
-    for ((line, dir, day_start, through_max, days, visits), year, month, day, count) in TAILS {
+    for (
+        (line, dir, day_start, period, through_max, days, visits),
+        year,
+        month,
+        day,
+        count,
+    ) in TAILS {
         let rotations = RotationLimits {
             days: *days,
             visits: *visits,
         };
-        let reading = reading(*day_start, *through_max);
+        let reading = reading(*day_start, *through_max, *period);
         let wanted = match dates(*year, *month, *day, *count) {
             Some(dates) => Some(Command::Tails {
                 dir,

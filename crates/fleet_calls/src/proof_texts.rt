@@ -44,6 +44,7 @@ fn prices(alloc: Global, rents: &[i128], value: i128) -> Result<Prices, NoMemory
         scale: 1,
         rents: Entries::from_vec(rents.to_vec(alloc)?),
         steps: Entries::from_vec(vec![in alloc; at_start, departed]?),
+        charges: Entries::from_vec(Vec::new(alloc)),
     })
 }
 

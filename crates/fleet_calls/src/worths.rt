@@ -32,6 +32,7 @@ fn worth_20_all_day(alloc: Global, tables: &Tables) -> Result<Prices, NoMemory>
         scale: 1,
         rents: Entries::from_vec(Vec::new(alloc)),
         steps: Entries::from_vec(vec![in alloc; step]?),
+        charges: Entries::from_vec(Vec::new(alloc)),
     })
 }
 
@@ -59,6 +60,7 @@ fn worth_1_until_departure(alloc: Global, tables: &Tables) -> Result<Prices, NoM
         scale: 1,
         rents: Entries::from_vec(vec![in alloc; 1, 1]?),
         steps: Entries::from_vec(vec![in alloc; first, first_departed, second, second_departed]?),
+        charges: Entries::from_vec(Vec::new(alloc)),
     })
 }
 

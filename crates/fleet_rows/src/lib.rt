@@ -29,6 +29,8 @@ mod making;
 #[cfg(test)]
 mod outside;
 #[cfg(test)]
+mod periods;
+#[cfg(test)]
 mod plans;
 #[cfg(test)]
 mod proofs;

@@ -1,5 +1,5 @@
 -- Rises over arcs that went: prices rise by them alone, no two have the same moment, and no event takes another price.
-use Rattle.std.proofs.Common.{◌≡◌, ◌≢◌, ℕ, zero, suc, ◌+◌, ◌-◌, ◌*◌, ◌<◌, ◌≤◌, Bool, true, false, cond, ◌==◌, ◌&&◌, nat_le, nat_lt, if◌then◌else◌, List, [], ◌∷◌, length, get_or, All, ℤ, pos, neg_ℤ, ◌+ℤ◌, ◌-ℤ◌, ◌≤ℤ◌, ◌<ℤ◌, int_lt, Option, Some, None, ◌⊎◌, refl, sym, ◌∙◌, ap, ap₂, subst, inl, inr, arith, true≢false}
+use Rattle.std.proofs.Common.{◌≡◌, ◌≢◌, ℕ, zero, suc, ◌+◌, ◌*◌, ◌<◌, ◌≤◌, Bool, true, false, cond, ◌==◌, ◌&&◌, nat_le, nat_lt, if◌then◌else◌, List, [], ◌∷◌, length, get_or, All, ℤ, pos, neg_ℤ, ◌-ℤ◌, ◌≤ℤ◌, ◌<ℤ◌, int_lt, Option, Some, None, ◌⊎◌, refl, sym, ◌∙◌, ap, ap₂, subst, inl, inr, arith, true≢false}
 use Rattle.std.proofs.lemmas.Bool.{cases_lt, cases_order, eqb-true, le-leb, le-ltb, lt-leb, lt-ltb, ltb-true}
 use Rattle.std.proofs.lemmas.Bool.Decides.{nat_tests}
 use Rattle.std.proofs.lemmas.Int.{ints}
@@ -21,7 +21,6 @@ use Rattle.fleet_model.proofs.PeriodMinutes.{some_minutes}
 use Rattle.timeline_net.specs.Events.{departure_event, departures_of, events_below, readies_of, ready_event}
 use Rattle.timeline_net.specs.declared.timeline.Event.{Event}
 use Rattle.node_aggregate.specs.Nodes.{AreNodesAt, MayFollow, MayStart, RiseFromZero, days_at, end_in}
-use Rattle.node_aggregate.proofs.NodeEnds.{Holds, node_that_holds}
 use Rattle.node_aggregate.proofs.Starts.{end_last, end_next, start_within, starts_rise}
 use Rattle.dual_bound.specs.Prices.{AreWithin, max_price, price_of, rent_of}
 use Rattle.dual_bound.specs.declared.prices.Prices.{Prices}
@@ -30,6 +29,7 @@ use Rattle.island_prices.specs.Payback.{AreApart, AreCovered, AreQuiet, end_of, 
 use Rattle.island_prices.specs.Rises.{AreRises, IsShift, is_of, rise_in, shift_at, shift_by, shift_of, shifted}
 use Rattle.island_prices.specs.declared.rises.Rise.{Rise}
 use Rattle.island_prices.specs.declared.rises.Shift.TheVariants.{Lowered, Raised}
+use Rattle.island_prices.proofs.ArcSteps.{over_end, over_minute}
 
 -- ---- a departure among the events is that of a kept pair
 pub record IsKeptDeparture (t : Tables) (keeps : Domains) (f s : ℕ) (e : Event) : Type 0 where
@@ -74,13 +74,6 @@ module _ (t : Tables) (keeps : Domains) (f s : ℕ) where
       ready_start : (start minute : ℕ) → MayFollow nodes.events (days_at t s) start minute → MayStart nodes.events start minute
       ready_start start minute (inl may) = may
       ready_start start minute (inr day) = absurd (omega (arith, day.at, day.later, day.within, one))
-
--- ---- by how much prices rise over an arc: to a next node, and from the last one
-pub rise_inside : (prices : Prices) (xs : List ℕ) (f s k : ℕ) → k + 1 < length xs → rise_over prices xs f s k ≡ price_of prices f s (get_or xs (k + 1) 0) -ℤ price_of prices f s (get_or xs k 0)
-rise_inside prices xs f s k more = ap (λ b. cond b (price_of prices f s (get_or xs (k + 1) 0) -ℤ price_of prices f s (get_or xs k 0)) (price_of prices f s 0 -ℤ price_of prices f s (get_or xs k 0) -ℤ rent_of prices f)) (lt-ltb (k + 1) (length xs) more)
-
-pub rise_at_last : (prices : Prices) (xs : List ℕ) (f s k : ℕ) → length xs ≤ k + 1 → rise_over prices xs f s k ≡ price_of prices f s 0 -ℤ price_of prices f s (get_or xs k 0) -ℤ rent_of prices f
-rise_at_last prices xs f s k last = ap (λ b. cond b (price_of prices f s (get_or xs (k + 1) 0) -ℤ price_of prices f s (get_or xs k 0)) (price_of prices f s 0 -ℤ price_of prices f s (get_or xs k 0) -ℤ rent_of prices f)) (le-ltb (k + 1) (length xs) last)
 
 -- ---- rises over arcs
 module _ (t : Tables) (keeps : Domains) (prices : Prices) (starts : NodeStarts) (moment : ArcMoments) (rises : List Rise) (nodes : AreAllNodes t keeps starts) (moments : AreMoments t keeps starts moment)
@@ -280,56 +273,14 @@ module _ (t : Tables) (keeps : Domains) (prices : Prices) (starts : NodeStarts) 
           omega (arith, ints, term, term_within (ends_at t rises f s m) (length rises) has.at has.within (ends_some f s m)))
           (λ e. omega (arith, ints, not_above_tested (rise_over prices (starts f s) f s k) e, at_least_0 (ends_at t rises f s m) (length rises) (ends_some f s m)))
 
-  module _ (by_nodes : AreByNodes t prices starts) (low : DoStayLow t prices starts moment) where
-    in_its_node : (f s k m : ℕ) → m ≤ last_of t → Holds (starts f s) m k → m ≤ end_in t (starts f s) k
-    in_its_node f s k m period holds = elim (cases_lt (k + 1) (length (starts f s))) [
-      | inl more ↦ omega (arith, holds.before more, end_next t (starts f s) k more)
-      | inr last ↦ omega (arith, end_last t (starts f s) k last)
-    ]
-
-    next_covered : (f s m : ℕ) → f < fleets_in t → s < stations_in t → m + 1 < period_of t → price_of prices f s (m + 1) ≤ℤ (price_of prices f s m +ℤ ends_by t rises f s m)
-    next_covered f s m known within period = elim (cases_lt 0 (length (starts f s))) [
-      | inl some ↦
-          let at = node_that_holds (starts f s) m (rise_from f s known within some).first some in
-          let k = at.0 in
-          let here = by_nodes.through f s k m known within at.1.within at.1.started (in_its_node f s k m (omega arith) at.1) in
-          elim (cases_lt m (end_in t (starts f s) k)) [
-            | inl inside ↦
-                let next = by_nodes.through f s k (m + 1) known within at.1.within (omega (arith, at.1.started)) (omega (arith, inside)) in
-                omega (arith, ints, here, next, ends_at_least_0 f s m)
-            | inr outside ↦
-                let ends : end_in t (starts f s) k ≡ m = omega (arith, outside, in_its_node f s k m (omega arith) at.1) in
-                elim (cases_lt (k + 1) (length (starts f s))) [
-                  | inl more ↦
-                      let next : get_or (starts f s) (k + 1) 0 ≡ m + 1 = omega (arith, ends, at.1.before more, end_next t (starts f s) k more) in
-                      omega (arith, ints, here, ap (price_of prices f s) next, rise_inside prices (starts f s) f s k more, arc_covered low f s k m known within at.1.within ends)
-                  | inr last ↦ absurd (omega (arith, ends, end_last t (starts f s) k last))
-                ]
-          ]
-      | inr none ↦ omega (arith, ints, by_nodes.nowhere f s m known within (omega arith), by_nodes.nowhere f s (m + 1) known within (omega arith), ends_at_least_0 f s m)
-    ]
-
-    over_end_covered : (f s : ℕ) → f < fleets_in t → s < stations_in t → price_of prices f s 0 ≤ℤ (price_of prices f s (last_of t) +ℤ rent_of prices f +ℤ ends_by t rises f s (last_of t))
-    over_end_covered f s known within = elim (cases_lt 0 (length (starts f s))) [
-      | inl some ↦
-          let k = length (starts f s) - 1 in
-          let below : k < length (starts f s) = omega arith in
-          let ends = end_last t (starts f s) k (omega arith) in
-          let at = node_that_holds (starts f s) (last_of t) (rise_from f s known within some).first some in
-          let last_place : at.0 ≡ k = only_last at.0 at.1 in
-          let here = by_nodes.through f s k (last_of t) known within below (subst (λ j. get_or (starts f s) j 0 ≤ (last_of t)) last_place at.1.started) (omega (arith, ends)) in
-          omega (arith, ints, here, rise_at_last prices (starts f s) f s k (omega arith), arc_covered low f s k (last_of t) known within below ends)
-      | inr none ↦ omega (arith, ints, by_nodes.nowhere f s 0 known within (omega arith), by_nodes.nowhere f s (last_of t) known within (omega arith), ends_at_least_0 f s (last_of t), rents f known)
-    ]
-      where
-        only_last : (k : ℕ) → Holds (starts f s) (last_of t) k → k ≡ length (starts f s) - 1
-        only_last k holds = elim (cases_lt (k + 1) (length (starts f s))) [
-          | inl more ↦ absurd (omega (arith, holds.before more, start_in_period f s (k + 1) known within more))
-          | inr last ↦ omega (arith, holds.within)
-        ]
-
-    pub are_covered : AreCovered t prices rises
-    are_covered = record { within_period = next_covered; over_end = over_end_covered }
+  pub are_covered : AreByNodes t prices starts → DoStayLow t prices starts moment → AreCovered t prices rises
+  are_covered by_nodes low =
+      let some = λ (f s m : ℕ) (known : f < fleets_in t) (within : s < stations_in t) (period : m < period_of t). ends_at_least_0 f s m in
+      let over = λ (f s k : ℕ) (known : f < fleets_in t) (within : s < stations_in t) (below : k < length (starts f s)). arc_covered low f s k (end_in t (starts f s) k) known within below refl in
+      record {
+        within_period = over_minute t keeps prices starts nodes by_nodes rents (ends_by t rises) some over;
+        over_end = over_end t keeps prices starts nodes by_nodes rents (ends_by t rises) some over;
+      }
 
   -- ---- no event takes another price
   module _ (f s m : ℕ) (no_event : (low high : ℕ) → IsQuiet t keeps f s low high → low ≤ m → m ≤ high → ⊥) where

@@ -7,5 +7,6 @@ pub mod Numbers
 pub mod PaidPrices
 pub mod PaidRows
 pub mod Arcs
+pub mod ArcSteps
 pub mod LeastMinutes
 pub mod RoundsPay

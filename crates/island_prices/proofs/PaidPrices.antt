@@ -1,7 +1,8 @@
 -- Prices that are paid back are proper, in written order, and worth no less.
-use Rattle.std.proofs.Common.{◌≡◌, ℕ, zero, suc, ◌+◌, ◌<◌, ◌≤◌, Bool, true, false, cond, nat_le, List, length, None, IsSome, ℤ, pos, ◌+ℤ◌, ◌-ℤ◌, ◌*ℤ◌, ◌≤ℤ◌, unsigned_abs, refl, sym, ◌∙◌, ap, ap₂, subst, inl, inr, arith}
+use Rattle.std.proofs.Common.{◌≡◌, ℕ, zero, suc, ◌+◌, ◌<◌, ◌≤◌, Bool, true, false, cond, nat_le, List, [], All, length, None, IsSome, ℤ, pos, ◌+ℤ◌, ◌-ℤ◌, ◌*ℤ◌, ◌≤ℤ◌, unsigned_abs, refl, sym, ◌∙◌, ap, ap₂, subst, inl, inr, arith}
 use Rattle.std.proofs.lemmas.Bool.{cases_lt, ltb-false, or_parts}
 use Rattle.std.proofs.lemmas.Int.{ints}
+use Rattle.std.proofs.lemmas.List.Elements.{All-nil}
 use Rattle.sums.specs.Places.{list_below}
 use Rattle.sums.proofs.Places.{get_or-list_below, length-list_below, nothing_at}
 use Rattle.sums.proofs.WholeTerms.{at_least_0}
@@ -12,12 +13,13 @@ use Rattle.fleet_model.specs.Times.{busy_minutes, departure, laps_of, ready_minu
 use Rattle.fleet_model.specs.declared.parts.Pair.{Pair}
 use Rattle.fleet_model.specs.declared.tables.Tables.{Tables}
 use Rattle.fleet_model.proofs.PeriodMinutes.{departs_always, in_period, last_in, some_minutes}
-use Rattle.dual_bound.specs.OfTables.{ArePricesOf}
-use Rattle.dual_bound.specs.Prices.{ArePrices, IsPrice, IsScale, max_price, price_of, rent_of}
+use Rattle.dual_bound.specs.OfTables.{ArePricesOf, IsChargeOf}
+use Rattle.dual_bound.specs.Prices.{AreCharges, ArePrices, IsPrice, IsScale, max_price, price_of, rent_of}
 use Rattle.dual_bound.specs.Worth.{cost_units, worth_of}
 use Rattle.dual_bound.specs.WrittenOrder.{ArePricesInOrder, IsFigure}
 use Rattle.dual_bound.specs.declared.prices.Prices.{Prices}
 use Rattle.dual_bound.proofs.Charges.{flown_worth, no_rise}
+use Rattle.dual_bound.proofs.NoCharges.{none_proper}
 use Rattle.island_prices.specs.Paid.{any_below, beyond_at, beyond_of, first_beyond, fleet_if, has_beyond, is_beyond, paid_price, paid_prices, paid_rent}
 use Rattle.island_prices.specs.Payback.{AreApart, AreCovered, AreQuiet, PaysBack}
 use Rattle.island_prices.specs.Rises.{AreRises, moved_price}
@@ -84,7 +86,7 @@ module _ (t : Tables) (prices : Prices) (rises : List Rise) (least : List ℕ) (
   rent_after_rounds n f = rent_of prices f +ℤ rent_grown rounds n
 
   abbrev prices_after : ℕ → Prices
-  prices_after n = record { scale = prices.scale; rents = list_below (rent_after_rounds n) (fleets_in t); steps = steps_of t (price_after_rounds n) }
+  prices_after n = record { scale = prices.scale; rents = list_below (rent_after_rounds n) (fleets_in t); steps = steps_of t (price_after_rounds n); charges = [] }
 
   told_price : (n f s m : ℕ) → f < fleets_in t → s < stations_in t → m < period_of t → price_of (prices_after n) f s m ≡ moved_price prices rises f s m +ℤ price_grown rounds s m n
   unfolding price_after_rounds
@@ -114,6 +116,9 @@ module _ (t : Tables) (prices : Prices) (rises : List Rise) (least : List ℕ) (
 
   pub scale_stays : (paid_prices t prices rises rounds).scale ≡ prices.scale
   scale_stays = ap (λ p. p.scale) all_rounds_are
+
+  uncharged : (paid_prices t prices rises rounds).charges ≡ []
+  uncharged = ap (λ p. p.charges) all_rounds_are
 
   -- ---- proper
   rents_grow : pos 0 ≤ℤ rent_grown rounds count
@@ -154,12 +159,13 @@ module _ (t : Tables) (prices : Prices) (rises : List Rise) (least : List ℕ) (
             let size = rent_fits t (paid_rent prices rounds) (paid_price prices rises rounds) fits f known in
             record { some = omega (arith, ints, rent_told f known, paid_rent_is f, rents f known, rents_grow); within = omega (arith, ints, rent_told f known, size.no_more) };
         each = λ f s m known within period. subst IsPrice (sym (price_told f s m known within period)) (price_fits t (paid_rent prices rounds) (paid_price prices rises rounds) fits f s m known within period);
+        charges = none_proper t (paid_prices t prices rises rounds) uncharged;
       };
       fall = record {
-        each = λ f s m known within period. no_rise t (paid_prices t prices rises rounds) s m _ _ (omega (arith, ints, price_told f s (m + 1) known within period, price_told f s m known within (omega arith), falls f s m known within period));
+        each = λ f s m known within period. no_rise t (paid_prices t prices rises rounds) (none_proper t _ uncharged) s m within (omega arith) _ _ (omega (arith, ints, price_told f s (m + 1) known within period, price_told f s m known within (omega arith), falls f s m known within period));
       };
       rise = record {
-        each = λ f s known within. no_rise t (paid_prices t prices rises rounds) s (last_of t) _ _ (omega (arith, ints, price_told f s 0 known within (some_minutes t), price_told f s (last_of t) known within (last_in t), rent_told f known, over_end f s known within));
+        each = λ f s known within. no_rise t (paid_prices t prices rises rounds) (none_proper t _ uncharged) s (last_of t) within (last_in t) _ _ (omega (arith, ints, price_told f s 0 known within (some_minutes t), price_told f s (last_of t) known within (last_in t), rent_told f known, over_end f s known within));
       };
     }
 
@@ -173,13 +179,17 @@ module _ (t : Tables) (prices : Prices) (rises : List Rise) (least : List ℕ) (
           subst IsFigure (sym (get_or-list_below (paid_rent prices rounds) (fleets_in t) k d known)) (figure (paid_rent prices rounds k) (rent_fits t (paid_rent prices rounds) (paid_price prices rises rounds) fits k known));
       steps = steps_in_order t (paid_price prices rises rounds)
           (λ f s m known within period. figure (paid_price prices rises rounds f s m) (price_fits t (paid_rent prices rounds) (paid_price prices rises rounds) fits f s m known within period));
+      no_charges = refl;
     }
 
     pub are_of_tables : ArePricesOf t (paid_prices t prices rises rounds)
-    are_of_tables = λ k d below. let is = are_in_order.steps.each k d below in record { fleet = is.fleet; station = is.station }
+    are_of_tables = record {
+      steps = λ k d below. let is = are_in_order.steps.each k d below in record { fleet = is.fleet; station = is.station };
+      charges = subst (All (IsChargeOf t)) (sym uncharged) (All-nil (IsChargeOf t));
+    }
 
   -- ---- worth no less
-  module _ (keeps : Domains) (k : ℕ) (some_pair : (l : ℕ) → ¬ (IsBare t keeps l)) (allowed : (p : Pair) → IsPair t p → keeps p ≡ true → IsSome (cost_of t p))
+  module _ (charged : AreCharges t prices) (keeps : Domains) (k : ℕ) (some_pair : (l : ℕ) → ¬ (IsBare t keeps l)) (allowed : (p : Pair) → IsPair t p → keeps p ≡ true → IsSome (cost_of t p))
       (flies : (p : Pair) → IsPair t p → keeps p ≡ true → fleet_by t p < fleets_in t) (quiet : AreQuiet t keeps rises)
       (pays : (j : ℕ) → j < count → PaysBack t (λ s. minute_in rounds s j)) where
     not_grown : (s m : ℕ) → price_grown rounds s m 0 ≡ pos 0
@@ -191,7 +201,7 @@ module _ (t : Tables) (prices : Prices) (rises : List Rise) (least : List ℕ) (
     rent_not_grown = refl
 
     moves_stay : worth_of t keeps prices k ≤ℤ worth_of t keeps (prices_after 0) k
-    moves_stay = same_worth t keeps k prices (prices_after 0) some_pair
+    moves_stay = same_worth t keeps k prices (prices_after 0) charged refl some_pair
         (λ l c below known kept.
         let p = leg_on l c in
         let pair : IsPair t p = record { leg = below; choice = known } in
@@ -214,7 +224,7 @@ module _ (t : Tables) (prices : Prices) (rises : List Rise) (least : List ℕ) (
 
     one_round : (n : ℕ) → n < count → worth_of t keeps (prices_after n) k ≤ℤ worth_of t keeps (prices_after (suc n)) k
     unfolding price_grown rent_grown
-    one_round n below = no_less t keeps k some_pair allowed flies (prices_after n) (prices_after (suc n)) (number_in rounds n) (number_at_least_0 t rises are least n below) (λ s. minute_in rounds s n) (pays n below) refl
+    one_round n below = no_less t keeps k some_pair allowed flies (prices_after n) (prices_after (suc n)) (none_proper t (prices_after n) refl) refl (number_in rounds n) (number_at_least_0 t rises are least n below) (λ s. minute_in rounds s n) (pays n below) refl
         (λ f s m known within period. omega (arith, ints, told_price n f s m known within period, told_price (suc n) f s m known within period, price_more s m n))
         (λ f known. omega (arith, ints, told_rent n f known, told_rent (suc n) f known, rent_more n))
       where

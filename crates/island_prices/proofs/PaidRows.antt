@@ -195,13 +195,13 @@ pub paid_from : (t : Tables) (prices before : Prices) (rises : List Rise) (least
     → before ≡ prices → rounds ≡ rounds_of t rises least → scale ≡ prices.scale → rents ≡ list_below (paid_rent before rounds) (fleets_in t)
     → (first_beyond t (paid_rent before rounds) (paid_price before rises rounds) (fleets_in t) ≡ None) × (steps ≡ steps_of t (paid_price before rises rounds))
     → (first_beyond t (paid_rent prices (rounds_of t rises least)) (paid_price prices rises (rounds_of t rises least)) (fleets_in t) ≡ None)
-    × (◌≡◌ {A = Prices} (record { scale = scale; rents = rents; steps = steps }) (paid_prices t prices rises (rounds_of t rises least)))
+    × (◌≡◌ {A = Prices} (record { scale = scale; rents = rents; steps = steps; charges = [] }) (paid_prices t prices rises (rounds_of t rises least)))
 unfolding paid_prices
 paid_from t prices before rises least rounds scale rents steps is same scaled rented facts = (
   subst (λ r. first_beyond t (paid_rent prices r) (paid_price prices rises r) (fleets_in t) ≡ None) same
       (subst (λ b. first_beyond t (paid_rent b rounds) (paid_price b rises rounds) (fleets_in t) ≡ None) is facts.0),
-  ap (λ z. record { scale = z; rents = rents; steps = steps }) scaled
-      ∙ ap (λ xs. record { scale = prices.scale; rents = xs; steps = steps }) (rented ∙ ap (λ b. list_below (paid_rent b rounds) (fleets_in t)) is ∙ ap (λ r. list_below (paid_rent prices r) (fleets_in t)) same)
-      ∙ ap (λ xs. record { scale = prices.scale; rents = list_below (paid_rent prices (rounds_of t rises least)) (fleets_in t); steps = xs })
+  ap (λ z. record { scale = z; rents = rents; steps = steps; charges = [] }) scaled
+      ∙ ap (λ xs. record { scale = prices.scale; rents = xs; steps = steps; charges = [] }) (rented ∙ ap (λ b. list_below (paid_rent b rounds) (fleets_in t)) is ∙ ap (λ r. list_below (paid_rent prices r) (fleets_in t)) same)
+      ∙ ap (λ xs. record { scale = prices.scale; rents = list_below (paid_rent prices (rounds_of t rises least)) (fleets_in t); steps = xs; charges = [] })
       (facts.1 ∙ ap (λ b. steps_of t (paid_price b rises rounds)) is ∙ ap (λ r. steps_of t (paid_price prices rises r)) same),
 )

@@ -1,5 +1,5 @@
 -- A round lowers no worth, and where no kept pair's price changes, the worth stays.
-use Rattle.std.proofs.Common.{◌≡◌, ℕ, zero, suc, ◌+◌, ◌<◌, ◌≤◌, Bool, true, false, cond, nat_le, if◌then◌else◌, ℤ, pos, ◌+ℤ◌, ◌-ℤ◌, ◌*ℤ◌, ◌≤ℤ◌, Option, Some, None, IsSome, unwrap_or, ◌⊎◌, refl, sym, ◌∙◌, ap, ap₂, subst, arith, inl, inr}
+use Rattle.std.proofs.Common.{◌≡◌, ℕ, zero, suc, ◌+◌, ◌<◌, ◌≤◌, Bool, true, false, cond, nat_le, if◌then◌else◌, ℤ, pos, ◌+ℤ◌, ◌-ℤ◌, ◌*ℤ◌, ◌≤ℤ◌, Option, Some, None, IsSome, unwrap_or, ◌⊎◌, [], refl, sym, ◌∙◌, ap, ap₂, subst, arith, inl, inr}
 use Rattle.std.specs.Prelude.{int_le}
 use Rattle.std.proofs.lemmas.Bool.{cases_lt}
 use Rattle.std.proofs.lemmas.Int.{ints}
@@ -18,10 +18,11 @@ use Rattle.fleet_model.specs.Times.{busy_minutes, departure, laps_of, ready_minu
 use Rattle.fleet_model.specs.declared.parts.Pair.{Pair}
 use Rattle.fleet_model.specs.declared.tables.Tables.{Tables}
 use Rattle.fleet_model.proofs.PeriodMinutes.{departs_always, in_period}
-use Rattle.dual_bound.specs.Prices.{price_of, rent_of}
+use Rattle.dual_bound.specs.Prices.{AreCharges, price_of, rent_of}
 use Rattle.dual_bound.specs.Worth.{cost_units, least_below, leg_worth, lesser, pair_worth, rents_of, worth_of}
 use Rattle.dual_bound.specs.declared.prices.Prices.{Prices}
-use Rattle.dual_bound.proofs.Charges.{flown_worth, same_charges}
+use Rattle.dual_bound.proofs.Charges.{flown_worth}
+use Rattle.dual_bound.proofs.NoCharges.{uncharged_more}
 use Rattle.dual_bound.proofs.Duality.{lesser_le}
 use Rattle.island_cut.specs.Spare.{aircraft_in}
 use Rattle.island_cut.specs.IslandLaws.{AreChoicesFor, left_by, ready_by}
@@ -142,19 +143,19 @@ module _ (t : Tables) (keeps : Domains) (k : ℕ) (some_pair : (l : ℕ) → ¬ 
       (sum_below_ℤ-le (λ l. leg_worth t keeps prices k l +ℤ extra l (chosen l)) (leg_worth t keeps other k) (legs_in t) leg_gains)
 
 -- ---- where each kept pair is worth the same
-pub same_worth : (t : Tables) (keeps : Domains) (k : ℕ) (prices other : Prices) → ((l : ℕ) → ¬ (IsBare t keeps l))
+pub same_worth : (t : Tables) (keeps : Domains) (k : ℕ) (prices other : Prices) → AreCharges t prices → other.charges ≡ [] → ((l : ℕ) → ¬ (IsBare t keeps l))
     → ((l c : ℕ) → l < legs_in t → c < choices_in t l → keeps (leg_on l c) ≡ true → pair_worth t other k (leg_on l c) ≡ pair_worth t prices k (leg_on l c))
     → ((f : ℕ) → f < fleets_in t → rent_of other f ≡ rent_of prices f) → worth_of t keeps prices k ≤ℤ worth_of t keeps other k
 unfolding worth_of
-same_worth t keeps k prices other some pairs rents =
+same_worth t keeps k prices other charged none_charged some pairs rents =
     let none : (l c : ℕ) → l < legs_in t → c < choices_in t l → keeps (leg_on l c) ≡ true → pair_worth t other k (leg_on l c) ≡ pair_worth t prices k (leg_on l c) +ℤ pos 0 =
     λ l c below known kept. omega (arith, ints, pairs l c below known kept) in
     let legs = legs_gain t keeps k some prices other (λ l c. pos 0) none in
     let paid = sum_below_ℤ-same (rents_of t other) (rents_of t prices) (fleets_in t) (λ f known. ap (λ r. r *ℤ pos (fleet_of t f).aircraft) (rents f known)) in
-    same_charges t prices other _ _ (omega (arith, ints, legs, sum_below_ℤ-zero (legs_in t), paid))
+    uncharged_more t prices other _ _ charged none_charged (omega (arith, ints, legs, sum_below_ℤ-zero (legs_in t), paid))
 
 -- ---- a round
-module _ (t : Tables) (keeps : Domains) (k : ℕ) (some_pair : (l : ℕ) → ¬ (IsBare t keeps l)) (allowed : (p : Pair) → IsPair t p → keeps p ≡ true → IsSome (cost_of t p)) (flies : (p : Pair) → IsPair t p → keeps p ≡ true → fleet_by t p < fleets_in t) (prices other : Prices)
+module _ (t : Tables) (keeps : Domains) (k : ℕ) (some_pair : (l : ℕ) → ¬ (IsBare t keeps l)) (allowed : (p : Pair) → IsPair t p → keeps p ≡ true → IsSome (cost_of t p)) (flies : (p : Pair) → IsPair t p → keeps p ≡ true → fleet_by t p < fleets_in t) (prices other : Prices) (charged : AreCharges t prices) (none_charged : other.charges ≡ [])
     (number : ℤ) (at_least_0 : pos 0 ≤ℤ number) (at : ℕ → ℕ) (pays : PaysBack t at) (scale : other.scale ≡ prices.scale)
     (grown : (f s m : ℕ) → f < fleets_in t → s < stations_in t → m < period_of t → price_of other f s m ≡ price_of prices f s m +ℤ cond (nat_le m (at s)) number (pos 0))
     (rents : (f : ℕ) → f < fleets_in t → rent_of other f ≡ rent_of prices f +ℤ number) where
@@ -224,7 +225,7 @@ module _ (t : Tables) (keeps : Domains) (k : ℕ) (some_pair : (l : ℕ) → ¬ 
   -- the worth is no less
   pub no_less : worth_of t keeps prices k ≤ℤ worth_of t keeps other k
   unfolding worth_of
-  no_less = same_charges t prices other _ _ (omega (arith, ints, legs_gain t keeps k some_pair prices other extra pair_gains, all_extra, all_rents, law))
+  no_less = uncharged_more t prices other _ _ charged none_charged (omega (arith, ints, legs_gain t keeps k some_pair prices other extra pair_gains, all_extra, all_rents, law))
     where
       split : (a b : ℕ) → number *ℤ pos (a + b) ≡ (number *ℤ pos a) +ℤ (number *ℤ pos b)
       split a b = *ℤ-+ℤ number (pos a) (pos b)

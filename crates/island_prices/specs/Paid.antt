@@ -1,5 +1,5 @@
 -- Prices after rises went to their moments and all rounds are over.
-use Rattle.std.specs.Prelude.{◌≡◌, ℕ, zero, suc, Bool, true, false, ◌||◌, nat_lt, if◌then◌else◌, List, length, ℤ, ◌+ℤ◌, unsigned_abs, Option, Some, None}
+use Rattle.std.specs.Prelude.{◌≡◌, ℕ, zero, suc, Bool, true, false, ◌||◌, nat_lt, if◌then◌else◌, List, [], length, ℤ, ◌+ℤ◌, unsigned_abs, Option, Some, None}
 use Rattle.sums.specs.Places.{first_below, list_below}
 use Rattle.fleet_model.specs.Schedule.{fleets_in, period_of, stations_in}
 use Rattle.fleet_model.specs.declared.tables.Tables.{Tables}
@@ -25,6 +25,7 @@ paid_prices t prices rises rounds = record {
   scale = prices.scale;
   rents = list_below (paid_rent prices rounds) (fleets_in t);
   steps = steps_of t (paid_price prices rises rounds);
+  charges = [];
 }
 
 -- a number is greater in size than a price may be

@@ -94,6 +94,7 @@ pub fn pay_back(
         scale: prices.scale,
         rents: Entries::from_vec(rents),
         steps: Entries::from_vec(steps),
+        charges: Entries::from_vec(Vec::new(alloc)),
     })
 }
 

@@ -27,19 +27,19 @@ use Rattle.ground_turns.proofs.TourNights.{nights_by_days}
 use Rattle.ground_turns.proofs.Waits.{departs_within}
 
 -- one list more
-joined_more : (f : ℕ → List ℕ) (n : ℕ) → concat (list_below f (suc n)) ≡ concat (list_below f n) ++ f n
+pub joined_more : (f : ℕ → List ℕ) (n : ℕ) → concat (list_below f (suc n)) ≡ concat (list_below f n) ++ f n
 joined_more f n =
     ap (λ k. concat (list_below f k)) (sym (add-one n)) ∙ ap concat (list_below-more f n) ∙ concat-append (list_below f n) (f n ∷ [])
     ∙ ap (λ xs. concat (list_below f n) ++ xs) (append-nil (f n))
 
 -- lists of nothing add nothing
-joined_all : (f : ℕ → List ℕ) (n more : ℕ) → ((d : ℕ) → n ≤ d → f d ≡ []) → concat (list_below f (n + more)) ≡ concat (list_below f n)
+pub joined_all : (f : ℕ → List ℕ) (n more : ℕ) → ((k : ℕ) → k < more → f (n + k) ≡ []) → concat (list_below f (n + more)) ≡ concat (list_below f n)
 joined_all f n zero none = let same : n + 0 ≡ n = omega arith in ap (λ k. concat (list_below f k)) same
 joined_all f n (suc more) none =
     let next : n + suc more ≡ suc (n + more) = omega arith in
     ap (λ k. concat (list_below f k)) next ∙ joined_more f (n + more)
-    ∙ ap (λ xs. concat (list_below f (n + more)) ++ xs) (none (n + more) (omega arith))
-    ∙ append-nil (concat (list_below f (n + more))) ∙ joined_all f n more none
+    ∙ ap (λ xs. concat (list_below f (n + more)) ++ xs) (none more (omega arith))
+    ∙ append-nil (concat (list_below f (n + more))) ∙ joined_all f n more (λ k below. none k (omega arith))
 
 -- what the law of nights by days says of a turn
 abbrev TurnByDays : Tables → ℕ → Connection → Type 0
@@ -65,7 +65,7 @@ module _ (t : Tables) (f : ℕ) (tour : List ℕ) where
   first_legs : (n days : ℕ) → n ≤ length tour → ((k : ℕ) → k < n → day_of t f tour k < days) → concat (list_below (first_on t f tour n) days) ≡ take n tour
   first_legs zero days few early =
       let all : 0 + days ≡ days = omega arith in
-      ap (λ k. concat (list_below (first_on t f tour 0) k)) (sym all) ∙ joined_all (first_on t f tour 0) 0 days (λ d after. none_first d)
+      ap (λ k. concat (list_below (first_on t f tour 0) k)) (sym all) ∙ joined_all (first_on t f tour 0) 0 days (λ k below. none_first (0 + k))
   first_legs (suc n) days few early =
       let today = day_of t f tour n in
       let late : today < days = early n (omega arith) in
@@ -73,7 +73,7 @@ module _ (t : Tables) (f : ℕ) (tour : List ℕ) where
       let before = list_below-agree (first_on t f tour (suc n)) (first_on t f tour n) today (λ d less. other_early_day t f tour n d less) in
       let earlier = first_legs n (suc today) (omega arith) (λ k below. omega (arith, sum_below-le (nights_after t f tour) k n (omega arith))) in
       ap (λ k. concat (list_below (first_on t f tour (suc n)) k)) (sym split)
-      ∙ joined_all (first_on t f tour (suc n)) (suc today) (days - suc today) (λ d after. later_day t f tour n d (omega arith))
+      ∙ joined_all (first_on t f tour (suc n)) (suc today) (days - suc today) (λ k below. later_day t f tour n (suc today + k) (omega arith))
       ∙ joined_more (first_on t f tour (suc n)) today
       ∙ ap (λ xs. concat xs ++ first_on t f tour (suc n) today) before
       ∙ ap (λ xs. concat (list_below (first_on t f tour n) today) ++ xs) (its_day t f tour n)

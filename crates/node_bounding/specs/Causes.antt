@@ -60,4 +60,4 @@ AreCaused t pivots keeps above (tree.Split' leg fleet prices mixed p with_pair q
 
 -- prices of 0 throughout, over 1, with a rent for each fleet
 abbrev pub zero_prices : Tables → Prices
-zero_prices t = record { scale = pos 1; rents = list_below (λ f. pos 0) (fleets_in t); steps = [] }
+zero_prices t = record { scale = pos 1; rents = list_below (λ f. pos 0) (fleets_in t); steps = []; charges = [] }

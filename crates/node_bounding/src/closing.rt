@@ -102,5 +102,6 @@ fn no_prices(alloc: Global) -> Prices {
         scale: 1,
         rents: Entries::from_vec(Vec::new(alloc)),
         steps: Entries::from_vec(Vec::new(alloc)),
+        charges: Entries::from_vec(Vec::new(alloc)),
     }
 }

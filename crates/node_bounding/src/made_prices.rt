@@ -4,7 +4,7 @@ ghost use Rattle.sums.specs.Places.{list_below};
 ghost use Rattle.fleet_model.specs.Schedule.{fleets_in};
 ghost use Rattle.node_bounding.specs.Causes.{zero_prices};
 
-use dual_bound::{PriceStep, Prices};
+use dual_bound::{Charge, PriceStep, Prices};
 use entries::{Entries, NoMemory};
 use fleet_model::Tables;
 use std::alloc::Global;
@@ -17,6 +17,7 @@ pub(crate) fn copied(alloc: Global, prices: &Prices) -> Result<Prices, NoMemory>
         scale: prices.scale,
         rents: copied_rents(alloc, prices.rents.as_slice())?,
         steps: copied_steps(alloc, prices.steps.as_slice())?,
+        charges: copied_charges(alloc, prices.charges.as_slice())?,
     })
 }
 
@@ -32,6 +33,12 @@ fn copied_steps(alloc: Global, steps: &[PriceStep]) -> Result<Entries<PriceStep>
     Ok(Entries::from_vec(Vec::from_slice(alloc, steps)?))
 }
 
+fn copied_charges(alloc: Global, charges: &[Charge]) -> Result<Entries<Charge>, NoMemory>
+    ensures { IfOk result (λ copy. copy ≡ charges.now) }
+{
+    Ok(Entries::from_vec(Vec::from_slice(alloc, charges)?))
+}
+
 /// Prices of 0 throughout, over the scale 1, with a rent for each fleet.
 pub fn zeros(alloc: Global, tables: &Tables) -> Result<Prices, NoMemory>
     ensures { IfOk result (λ prices. prices ≡ zero_prices tables.now) }
@@ -40,6 +47,7 @@ pub fn zeros(alloc: Global, tables: &Tables) -> Result<Prices, NoMemory>
         scale: 1,
         rents: zero_rents(alloc, tables)?,
         steps: Entries::from_vec(Vec::new(alloc)),
+        charges: Entries::from_vec(Vec::new(alloc)),
     })
 }
 

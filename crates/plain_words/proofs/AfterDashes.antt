@@ -12,7 +12,7 @@ judges_by_default program dir = refl
 
 pub judges_from : JudgesFrom
 unfolding asked found our_app clap_on_literals
-judges_from program time dir = refl
+judges_from program time period dir = refl
 
 pub solves_by_default : SolvesByDefault
 unfolding asked found our_app clap_on_literals
@@ -20,7 +20,7 @@ solves_by_default program dir = refl
 
 pub solves_within : SolvesWithin
 unfolding asked found our_app clap_on_literals
-solves_within program time wait days visits nodes pivots dir = refl
+solves_within program time period wait days visits nodes pivots dir = refl
 
 pub checks_by_default : ChecksByDefault
 unfolding asked found our_app clap_on_literals
@@ -28,7 +28,7 @@ checks_by_default program dir = refl
 
 pub checks_from : ChecksFrom
 unfolding asked found our_app clap_on_literals
-checks_from program time dir = refl
+checks_from program time period dir = refl
 
 pub tails_by_default : TailsByDefault
 unfolding asked found our_app clap_on_literals
@@ -36,7 +36,7 @@ tails_by_default program dir date count = refl
 
 pub tails_within : TailsWithin
 unfolding asked found our_app clap_on_literals
-tails_within program time wait days visits dir date count = refl
+tails_within program time period wait days visits dir date count = refl
 
 pub makes_by_default : MakesByDefault
 unfolding asked found our_app clap_on_literals
@@ -46,6 +46,7 @@ pub makes_without_options : MakesWithoutOptions
 unfolding asked found our_app clap_on_literals
 makes_without_options = record {
   day_start = λ program text dir number legs. refl;
+  period = λ program text dir number legs. refl;
   through_max = λ program text dir number legs. refl;
   days = λ program text dir number legs. refl;
   visits = λ program text dir number legs. refl;

@@ -146,19 +146,19 @@ flag_gives shape name is =
 
 judge_has : HasAll (built_command judge_app) table_options
 unfolding our_app clap_on_literals
-judge_has = record { untrailed = refl; once = refl; named = refl; found = (refl, tt) }
+judge_has = record { untrailed = refl; once = refl; named = refl; found = (refl, (refl, tt)) }
 
 solve_has : HasAll (built_command solve_app) solve_options
 unfolding our_app clap_on_literals
-solve_has = record { untrailed = refl; once = refl; named = refl; found = (refl, (refl, (refl, (refl, (refl, (refl, tt)))))) }
+solve_has = record { untrailed = refl; once = refl; named = refl; found = (refl, (refl, (refl, (refl, (refl, (refl, (refl, tt))))))) }
 
 check_has : HasAll (built_command check_app) table_options
 unfolding our_app clap_on_literals
-check_has = record { untrailed = refl; once = refl; named = refl; found = (refl, tt) }
+check_has = record { untrailed = refl; once = refl; named = refl; found = (refl, (refl, tt)) }
 
 tails_has : HasAll (built_command tails_app) tails_options
 unfolding our_app clap_on_literals
-tails_has = record { untrailed = refl; once = refl; named = refl; found = (refl, (refl, (refl, (refl, tt)))) }
+tails_has = record { untrailed = refl; once = refl; named = refl; found = (refl, (refl, (refl, (refl, (refl, tt))))) }
 
 json_is : IsFlag (built_command solve_app) (codes "json")
 unfolding our_app clap_on_literals

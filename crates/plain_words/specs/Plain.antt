@@ -9,7 +9,7 @@ use Rattle.command_words.specs.Values.{minute_read, number_read}
 use Rattle.command_words.specs.Words.{asked, check_at, judge_at, make_at, solve_at, tails_at}
 use Rattle.command_words.specs.declared.command.RotationLimits.{RotationLimits}
 use Rattle.command_words.specs.declared.command.SolveOptions.{SolveOptions}
-use Rattle.command_words.specs.declared.command.TheConstants.{DEFAULT_OPTIONS, DEFAULT_READING, DEFAULT_THROUGH_MAX, MAX_DAYS, MAX_NODES, MAX_PIVOTS, MAX_THROUGH_MAX, MAX_VISITS, MIN_DAYS}
+use Rattle.command_words.specs.declared.command.TheConstants.{DEFAULT_OPTIONS, DEFAULT_READING, DEFAULT_THROUGH_MAX, MAX_DAYS, MAX_NODES, MAX_PERIOD, MAX_PIVOTS, MAX_THROUGH_MAX, MAX_VISITS, MIN_DAYS, MIN_PERIOD}
 
 -- nothing follows
 abbrev pub is_alone : Text → Bool
@@ -34,13 +34,13 @@ default_options = Some DEFAULT_OPTIONS
 
 -- ---- what options give
 
--- how tables are read with a day start alone
-abbrev pub reading_from : Text → Option TableOptions
-reading_from time = reading_at (settings_at (minute_read time) (Some DEFAULT_THROUGH_MAX))
+-- how tables are read with a day start and a period
+abbrev pub reading_from : Text → Text → Option TableOptions
+reading_from time period = reading_at (settings_at (minute_read time) (Some DEFAULT_THROUGH_MAX) (number_read MIN_PERIOD MAX_PERIOD period))
 
 -- with a longest wait too
-abbrev pub reading_with : Text → Text → Option TableOptions
-reading_with time wait = reading_at (settings_at (minute_read time) (number_read 0 MAX_THROUGH_MAX wait))
+abbrev pub reading_with : Text → Text → Text → Option TableOptions
+reading_with time period wait = reading_at (settings_at (minute_read time) (number_read 0 MAX_THROUGH_MAX wait) (number_read MIN_PERIOD MAX_PERIOD period))
 
 abbrev pub rotations_with : Text → Text → Option RotationLimits
 rotations_with days visits = rotations_at (number_read MIN_DAYS MAX_DAYS days) (number_read 0 MAX_VISITS visits)
@@ -80,22 +80,23 @@ abbrev pub JudgesByDefault : Type 0
 JudgesByDefault = (program dir : Text) → asked (program ∷ codes "judge" ∷ codes "--" ∷ dir ∷ [])
     ≡ judge_at default_reading dir
 
--- judge --day-start=HH:MM -- DIR
+-- judge --day-start=HH:MM --period=P -- DIR
 abbrev pub JudgesFrom : Type 0
-JudgesFrom = (program time dir : Text) → asked (program ∷ codes "judge" ∷ (codes "--day-start=" ++ time) ∷ codes "--" ∷ dir ∷ [])
-    ≡ judge_at (reading_from time) dir
+JudgesFrom = (program time period dir : Text)
+    → asked (program ∷ codes "judge" ∷ (codes "--day-start=" ++ time) ∷ (codes "--period=" ++ period) ∷ codes "--" ∷ dir ∷ [])
+    ≡ judge_at (reading_from time period) dir
 
 -- solve -- DIR
 abbrev pub SolvesByDefault : Type 0
 SolvesByDefault = (program dir : Text) → asked (program ∷ codes "solve" ∷ codes "--" ∷ dir ∷ [])
     ≡ solve_at default_reading default_options dir
 
--- solve --day-start=HH:MM --through-max=M --days=D --visits=V --nodes=N --pivots=P --json -- DIR
+-- solve --day-start=HH:MM --period=P --through-max=M --days=D --visits=V --nodes=N --pivots=P --json -- DIR
 abbrev pub SolvesWithin : Type 0
-SolvesWithin = (program time wait days visits nodes pivots dir : Text)
-    → asked (program ∷ codes "solve" ∷ (codes "--day-start=" ++ time) ∷ (codes "--through-max=" ++ wait) ∷ (codes "--days=" ++ days) ∷ (codes "--visits=" ++ visits)
-    ∷ (codes "--nodes=" ++ nodes) ∷ (codes "--pivots=" ++ pivots) ∷ codes "--json" ∷ codes "--" ∷ dir ∷ [])
-    ≡ solve_at (reading_with time wait)
+SolvesWithin = (program time period wait days visits nodes pivots dir : Text)
+    → asked (program ∷ codes "solve" ∷ (codes "--day-start=" ++ time) ∷ (codes "--period=" ++ period) ∷ (codes "--through-max=" ++ wait) ∷ (codes "--days=" ++ days)
+    ∷ (codes "--visits=" ++ visits) ∷ (codes "--nodes=" ++ nodes) ∷ (codes "--pivots=" ++ pivots) ∷ codes "--json" ∷ codes "--" ∷ dir ∷ [])
+    ≡ solve_at (reading_with time period wait)
     (options_at (search_at (number_read 0 MAX_NODES nodes) (number_read 0 MAX_PIVOTS pivots)) (rotations_with days visits) true) dir
 
 -- check -- DIR
@@ -103,35 +104,37 @@ abbrev pub ChecksByDefault : Type 0
 ChecksByDefault = (program dir : Text) → asked (program ∷ codes "check" ∷ codes "--" ∷ dir ∷ [])
     ≡ check_at default_reading dir
 
--- check --day-start=HH:MM -- DIR
+-- check --day-start=HH:MM --period=P -- DIR
 abbrev pub ChecksFrom : Type 0
-ChecksFrom = (program time dir : Text) → asked (program ∷ codes "check" ∷ (codes "--day-start=" ++ time) ∷ codes "--" ∷ dir ∷ [])
-    ≡ check_at (reading_from time) dir
+ChecksFrom = (program time period dir : Text)
+    → asked (program ∷ codes "check" ∷ (codes "--day-start=" ++ time) ∷ (codes "--period=" ++ period) ∷ codes "--" ∷ dir ∷ [])
+    ≡ check_at (reading_from time period) dir
 
 -- tails -- DIR DATE COUNT
 abbrev pub TailsByDefault : Type 0
 TailsByDefault = (program dir date count : Text) → asked (program ∷ codes "tails" ∷ codes "--" ∷ dir ∷ date ∷ count ∷ [])
     ≡ tails_at default_reading default_rotations (dates_at (date_read date) (count_read count)) dir
 
--- tails --day-start=HH:MM --through-max=M --days=D --visits=V -- DIR DATE COUNT
+-- tails --day-start=HH:MM --period=P --through-max=M --days=D --visits=V -- DIR DATE COUNT
 abbrev pub TailsWithin : Type 0
-TailsWithin = (program time wait days visits dir date count : Text)
-    → asked (program ∷ codes "tails" ∷ (codes "--day-start=" ++ time) ∷ (codes "--through-max=" ++ wait) ∷ (codes "--days=" ++ days) ∷ (codes "--visits=" ++ visits)
-    ∷ codes "--" ∷ dir ∷ date ∷ count ∷ [])
-    ≡ tails_at (reading_with time wait) (rotations_with days visits) (dates_at (date_read date) (count_read count)) dir
+TailsWithin = (program time period wait days visits dir date count : Text)
+    → asked (program ∷ codes "tails" ∷ (codes "--day-start=" ++ time) ∷ (codes "--period=" ++ period) ∷ (codes "--through-max=" ++ wait) ∷ (codes "--days=" ++ days)
+    ∷ (codes "--visits=" ++ visits) ∷ codes "--" ∷ dir ∷ date ∷ count ∷ [])
+    ≡ tails_at (reading_with time period wait) (rotations_with days visits) (dates_at (date_read date) (count_read count)) dir
 
 -- make -- DIR NUMBER LEGS
 abbrev pub MakesByDefault : Type 0
 MakesByDefault = (program dir number legs : Text) → asked (program ∷ codes "make" ∷ codes "--" ∷ dir ∷ number ∷ legs ∷ [])
     ≡ make_at (made_number_read number) (legs_read legs) dir
 
--- make takes none of the other commands' options: --day-start=HH:MM, --through-max=M, --days=D, --visits=V, --nodes=N, --pivots=P
+-- make takes none of the other commands' options: --day-start=HH:MM, --period=P, --through-max=M, --days=D, --visits=V, --nodes=N, --pivots=P
 abbrev pub MakesWithoutOption : Text → Type 0
 MakesWithoutOption option = (program text dir number legs : Text)
     → asked (program ∷ codes "make" ∷ (option ++ text) ∷ codes "--" ∷ dir ∷ number ∷ legs ∷ []) ≡ None
 
 pub record MakesWithoutOptions : Type 0 where
   pub day_start : MakesWithoutOption (codes "--day-start=")
+  pub period : MakesWithoutOption (codes "--period=")
   pub through_max : MakesWithoutOption (codes "--through-max=")
   pub days : MakesWithoutOption (codes "--days=")
   pub visits : MakesWithoutOption (codes "--visits=")

@@ -71,7 +71,7 @@ TakesFlagOnce command flag = (program : Text) (before between after : List Text)
 
 -- by which the tables of a folder are read
 abbrev pub table_options : List Text
-table_options = codes "day-start" ∷ []
+table_options = codes "day-start" ∷ codes "period" ∷ []
 
 -- by which rotations are looked for
 abbrev pub rotation_options : List Text

@@ -126,7 +126,7 @@ module _ (t : Tables) (keeps : Domains) (p : Pair) (pair : IsPair t p) (flies : 
   unfolding surely_busy
   refuted prices reason too_few =
       let each = sum_below_ℤ-le (λ l. pos (busy_on t keeps p minute l)) (leg_worth t flown prices 0) (legs_in t) (leg_bound prices reason) in
-      above_zero t flown prices reason.no_charge (omega (arith, ints, each, sum_below_ℤ-pos (busy_on t keeps p minute) (legs_in t), rents_are t rule.TooFewAircraft p prices reason, all_rents, too_few))
+      above_zero t flown prices reason.no_charges (omega (arith, ints, each, sum_below_ℤ-pos (busy_on t keeps p minute) (legs_in t), rents_are t rule.TooFewAircraft p prices reason, all_rents, too_few))
 
 pub too_few_refutes : (t : Tables) (keeps : Domains) (p : Pair) (prices : Prices) → IsPair t p → fleet_by t p < fleets_in t → keeps p ≡ true
     → (fleet_of t (fleet_by t p)).aircraft < surely_busy t keeps p (departure t p) → IsReason t rule.TooFewAircraft p prices → pos 0 <ℤ worth_of t (part keeps p.leg p.choice true) prices 0

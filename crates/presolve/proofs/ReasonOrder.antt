@@ -165,12 +165,13 @@ steps_in_order t rule.TooFewAircraft p pair flies = record {
 }
 
 pub reason_in_order : (t : Tables) (why : Rule) (p : Pair) (prices : Prices) → IsPair t p → fleet_by t p < fleets_in t → prices.scale ≡ pos 1 → prices.rents ≡ list_below (reason_rent why (fleet_by t p)) (fleets_in t)
-    → prices.steps ≡ reason_steps t why p → ArePricesInOrder t prices
-reason_in_order t why p prices pair flies one rents steps = record {
+    → prices.steps ≡ reason_steps t why p → prices.charges ≡ [] → ArePricesInOrder t prices
+reason_in_order t why p prices pair flies one rents steps none = record {
   scale = subst IsFigure (sym one) one_figure;
   one_each = ap length rents ∙ length-list_below (reason_rent why (fleet_by t p)) (fleets_in t);
   rents = subst (λ xs. All IsFigure xs) (sym rents) (λ k d below. figure_at k d (bound k below));
   steps = subst (λ xs. AreStepsInOrder t xs) (sym steps) (steps_in_order t why p pair flies);
+  no_charges = none;
 }
   where
     bound : (k : ℕ) → k < length (list_below (reason_rent why (fleet_by t p)) (fleets_in t)) → k < fleets_in t

@@ -7,11 +7,10 @@ use Rattle.fleet_model.specs.Schedule.{IsPair, fleet_by, fleets_in, last_of, leg
 use Rattle.fleet_model.specs.Times.{departure}
 use Rattle.fleet_model.specs.declared.parts.Pair.{Pair}
 use Rattle.fleet_model.specs.declared.tables.Tables.{Tables}
-use Rattle.dual_bound.specs.OfTables.{IsStepOf}
+use Rattle.dual_bound.specs.OfTables.{IsChargeOf, IsStepOf}
 use Rattle.dual_bound.specs.Prices.{has_come, price_after}
 use Rattle.dual_bound.specs.declared.prices.Prices.{Prices}
 use Rattle.dual_bound.specs.declared.prices.PriceStep.{PriceStep}
-use Rattle.dual_bound.proofs.NoCharges.{none_charged}
 use Rattle.dual_bound.proofs.PriceLists.{price_after-append}
 use Rattle.presolve.specs.Reasons.{IsReason, reason_price, reason_rent, reason_steps, steps_at, steps_until}
 use Rattle.presolve.specs.declared.rule.Rule.{Rule}
@@ -83,12 +82,12 @@ steps_say t rule.TooFewAircraft p f s m there within =
 
 -- prices of these rents and steps are the reason
 pub reason_is : (t : Tables) (why : Rule) (p : Pair) (prices : Prices) → IsPair t p → fleet_by t p < fleets_in t → prices.scale ≡ pos 1 → prices.rents ≡ list_below (reason_rent why (fleet_by t p)) (fleets_in t)
-    → prices.steps ≡ reason_steps t why p → IsReason t why p prices
-reason_is t why p prices pair flies one rents steps = record {
+    → prices.steps ≡ reason_steps t why p → prices.charges ≡ [] → IsReason t why p prices
+reason_is t why p prices pair flies one rents steps none = record {
   scale = one;
   rents = rents;
   each_price = λ f s m known there within. rw steps (steps_say t why p f s m there within);
-  no_charge = none_charged prices;
-  of_tables = rw steps (steps_of_tables t why p pair flies);
-  in_order = reason_in_order t why p prices pair flies one rents steps;
+  no_charges = none;
+  of_tables = record { steps = rw steps (steps_of_tables t why p pair flies); charges = rw none (All-nil (IsChargeOf t)) };
+  in_order = reason_in_order t why p prices pair flies one rents steps none;
 }

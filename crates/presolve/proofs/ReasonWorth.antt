@@ -13,7 +13,6 @@ use Rattle.fleet_model.specs.Times.{busy_minutes, departure, laps_of, ready_minu
 use Rattle.fleet_model.specs.declared.parts.Pair.{Pair}
 use Rattle.fleet_model.specs.declared.tables.Tables.{Tables}
 use Rattle.fleet_model.proofs.PeriodMinutes.{departs_in, in_period}
-use Rattle.dual_bound.specs.Prices.{charge_of}
 use Rattle.dual_bound.specs.Worth.{cost_units, leg_worth, pair_worth, rents_of, worth_of}
 use Rattle.dual_bound.specs.declared.prices.Prices.{Prices}
 use Rattle.dual_bound.proofs.Charges.{flown, not_flown}
@@ -94,6 +93,6 @@ rents_are t why p prices reason =
     sum_below_ℤ-same (rents_of t prices) (reason_rents t why p) (fleets_in t) (λ f known. ap (λ z. z *ℤ pos (fleet_of t f).aircraft) (rent_is t why p prices reason f known))
 
 -- a part whose legs are worth more than the rents is worth more than 0
-pub above_zero : (t : Tables) (keeps : Domains) (prices : Prices) → ((s d : ℕ) → charge_of prices s d ≡ pos 0) → sum_below_ℤ (rents_of t prices) (fleets_in t) <ℤ sum_below_ℤ (leg_worth t keeps prices 0) (legs_in t) → pos 0 <ℤ worth_of t keeps prices 0
+pub above_zero : (t : Tables) (keeps : Domains) (prices : Prices) → prices.charges ≡ [] → sum_below_ℤ (rents_of t prices) (fleets_in t) <ℤ sum_below_ℤ (leg_worth t keeps prices 0) (legs_in t) → pos 0 <ℤ worth_of t keeps prices 0
 unfolding worth_of
 above_zero t keeps prices none more = omega (arith, ints, more, no_charges t prices (sum_below_ℤ (leg_worth t keeps prices 0) (legs_in t) -ℤ sum_below_ℤ (rents_of t prices) (fleets_in t)) none)

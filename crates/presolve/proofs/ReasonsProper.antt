@@ -8,9 +8,10 @@ use Rattle.fleet_model.specs.Times.{departure}
 use Rattle.fleet_model.specs.declared.parts.Pair.{Pair}
 use Rattle.fleet_model.specs.declared.tables.Tables.{Tables}
 use Rattle.fleet_model.proofs.PeriodMinutes.{last_in, some_minutes}
-use Rattle.dual_bound.specs.Prices.{ArePrices, rent_of}
+use Rattle.dual_bound.specs.Prices.{AreCharges, ArePrices, rent_of}
 use Rattle.dual_bound.specs.declared.prices.Prices.{Prices}
 use Rattle.dual_bound.proofs.Charges.{no_rise}
+use Rattle.dual_bound.proofs.NoCharges.{none_proper}
 use Rattle.presolve.specs.Reasons.{IsReason, reason_price, reason_rent}
 use Rattle.presolve.specs.declared.rule.Rule.{Rule}
 use Rattle.presolve.specs.declared.rule.Rule.TheVariants as rule
@@ -78,14 +79,18 @@ reason_is_proper t why p prices reason = record {
       no_less = omega (arith, ints, reason.each_price f s m known there early, (price_small t why p f s m).0);
       no_more = omega (arith, ints, reason.each_price f s m known there early, (price_small t why p f s m).1);
     };
+    charges = charges;
   };
   fall = record {
     each = λ f s m known there early.
-        no_rise t prices s m _ _ (omega (arith, ints, reason.each_price f s (m + 1) known there early, reason.each_price f s m known there (omega arith), never_rises t why p f s m));
+        no_rise t prices charges s m there (omega (arith, early)) _ _ (omega (arith, ints, reason.each_price f s (m + 1) known there early, reason.each_price f s m known there (omega arith), never_rises t why p f s m));
   };
   rise = record {
     each = λ f s known there.
-        no_rise t prices s (last_of t) _ _
+        no_rise t prices charges s (last_of t) there (last_in t) _ _
         (omega (arith, ints, reason.each_price f s 0 known there (some_minutes t), reason.each_price f s (last_of t) known there (last_in t), rent_is t why p prices reason f known, overnight t why p f s));
   };
 }
+  where
+    charges : AreCharges t prices
+    charges = none_proper t prices reason.no_charges

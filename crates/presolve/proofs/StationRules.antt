@@ -121,7 +121,7 @@ module _ (t : Tables) (keeps : Domains) (p : Pair) (pair : IsPair t p) (flies : 
       (λ l within. at_leg l (p.leg == l) (leg_low t flown why p prices l flies reason within (others l within)) (λ e. let same : l ≡ p.leg = grind (arith, nat_tests) in rw same own_worth)) in
       let one = sum_below_ℤ-one p.leg (λ l. pos 1) (legs_in t) pair.leg in
       let nothing = sum_below_ℤ-same (reason_rents t why p) (λ f. pos 0) (fleets_in t) (λ f known. ap (λ z. z *ℤ pos (fleet_of t f).aircraft) (free f) ∙ zero-*ℤ (pos (fleet_of t f).aircraft)) in
-      above_zero t flown prices reason.no_charge (omega (arith, ints, each, one, nothing, rents_are t why p prices reason, sum_below_ℤ-zero (fleets_in t)))
+      above_zero t flown prices reason.no_charges (omega (arith, ints, each, one, nothing, rents_are t why p prices reason, sum_below_ℤ-zero (fleets_in t)))
     where
       at_leg : (l : ℕ) (b : Bool) → pos 0 ≤ℤ leg_worth t flown prices 0 l → (b ≡ true → pos 1 ≤ℤ leg_worth t flown prices 0 l) → where_true b (pos 1) ≤ℤ leg_worth t flown prices 0 l
       at_leg l true low high = high refl

@@ -6,7 +6,7 @@ use Rattle.fleet_model.specs.Times.{departure}
 use Rattle.fleet_model.specs.declared.parts.Pair.{Pair}
 use Rattle.fleet_model.specs.declared.tables.Tables.{Tables}
 use Rattle.dual_bound.specs.OfTables.{ArePricesOf}
-use Rattle.dual_bound.specs.Prices.{charge_of, price_of}
+use Rattle.dual_bound.specs.Prices.{price_of}
 use Rattle.dual_bound.specs.WrittenOrder.{ArePricesInOrder}
 use Rattle.dual_bound.specs.declared.prices.Prices.{Prices}
 use Rattle.dual_bound.specs.declared.prices.PriceStep.{PriceStep}
@@ -31,7 +31,7 @@ pub record IsReason (t : Tables) (why : Rule) (p : Pair) (prices : Prices) : Typ
   pub scale : prices.scale ≡ pos 1
   pub rents : prices.rents ≡ list_below (reason_rent why (fleet_by t p)) (fleets_in t)
   pub each_price : (f s m : ℕ) → f < fleets_in t → s < stations_in t → m < period_of t → price_of prices f s m ≡ reason_price t why p f s m
-  pub no_charge : (s d : ℕ) → charge_of prices s d ≡ pos 0
+  pub no_charges : prices.charges ≡ []
   pub of_tables : ArePricesOf t prices
   pub in_order : ArePricesInOrder t prices
 

@@ -27,6 +27,7 @@ pub(crate) fn reason(
         scale: 1,
         rents: Entries::from_vec(rents),
         steps: Entries::from_vec(steps),
+        charges: Entries::from_vec(Vec::new(alloc)),
     })
 }
 

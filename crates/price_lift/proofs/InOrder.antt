@@ -58,6 +58,7 @@ prices_in_order t keeps duals prices row by = subst (ArePricesInOrder t) (sym by
           (λ f s known within some. nodes_rise t keeps f s (by.starts f s) (by.network.each f s known within))
           (λ f s p known within below. early t keeps f s (by.starts f s) (by.network.each f s known within) p below)
           (λ k. figure (number_of (reduced duals) k) (is_row.within k));
+      no_charges = refl;
     }
 
 -- ---- weights

@@ -36,7 +36,7 @@ use Rattle.dual_bound.specs.Worth.{cost_units, leg_worth, pair_worth, rents_of, 
 use Rattle.dual_bound.specs.declared.prices.Prices.{Prices}
 use Rattle.dual_bound.proofs.Charges.{flown_worth, not_flown}
 use Rattle.island_prices.specs.Arcs.{AreByNodes, DoStayLow}
-use Rattle.island_prices.proofs.Arcs.{rise_at_last, rise_inside}
+use Rattle.island_prices.proofs.ArcSteps.{rise_at_last, rise_inside}
 use Rattle.price_lift.specs.Prices.{AreByLines}
 use Rattle.price_lift.proofs.DownColumns.{at_minute, down, down_flight, down_ground, down_left_out, down_sides, down_slack, of_fleet, of_node}
 use Rattle.price_lift.proofs.LeastBounds.{below_unwrapped}

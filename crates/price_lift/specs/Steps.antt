@@ -47,6 +47,7 @@ prices_by t starts duals = record {
   scale = duals.den;
   rents = list_below (λ f. neg_ℤ (number_of duals (length (all_nodes t starts) + f))) (fleets_in t);
   steps = all_steps t starts (number_of duals);
+  charges = [];
 }
 
 -- the prices of dual values in lowest terms, by a network of the subproblem

@@ -65,6 +65,7 @@ fn prices(
         scale: duals.den,
         rents: Entries::from_vec(rents),
         steps: Entries::from_vec(steps),
+        charges: Entries::from_vec(Vec::new(alloc)),
     })
 }
 

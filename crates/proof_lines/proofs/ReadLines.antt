@@ -3,7 +3,7 @@ use Rattle.std.proofs.Common.{◌≡◌, ℕ, ◌==◌, ◌&&◌, ◌||◌, Bool
 use Rattle.std.specs.Fmt.{decimal}
 use Rattle.std.proofs.lemmas.Bool.Decides.{nat_tests}
 use Rattle.sums.proofs.Tests.{first_true, second_true}
-use Rattle.fleet_model.specs.Use.{last_minute}
+use Rattle.fleet_model.specs.Schedule.{last_of}
 use Rattle.fleet_model.specs.declared.tables.Tables.{Tables}
 use Rattle.proof_lines.specs.Figures.{count_in, minute_in, natural_in, number_in, signed_in, version_in, version_word}
 use Rattle.proof_lines.specs.Forms.{all_forms, first_form, form_in, keywords, opens, width}
@@ -55,8 +55,8 @@ second_is words form some e =
 number_was : (word : Word) (z : ℤ) → number_in word ≡ Ok z → IsNumberWritten z word
 number_was word z e = number_read z word (figure_some (signed_in word) z e)
 
-minute_was : (word : Word) (n : ℕ) → minute_in word ≡ Ok n → IsWritten last_minute n word
-minute_was word n e = natural_read last_minute n word (figure_some (natural_in last_minute word) n e)
+minute_was : (last : ℕ) (word : Word) (n : ℕ) → minute_in last word ≡ Ok n → IsWritten last n word
+minute_was last word n e = natural_read last n word (figure_some (natural_in last word) n e)
 
 pub record CountWas (n : ℕ) (word : Word) : Type 0 where
   pub word_is : word ≡ decimal n
@@ -200,13 +200,13 @@ module _ (v : Version) (t : Tables) (words : List Word) (it : Line) where
   at_was : opens words form.At ≡ true → length words ≡ 5 → fields_in (names_in v t) form.At words ≡ Ok it → AreWordsOf t words it
   unfolding fields_in
   at_was told many e =
-      let made = made_by _ (both (both (fleet_in (names_in v t) (word_at words 1)) (station_in (names_in v t) (word_at words 2))) (both (minute_in (word_at words 3)) (number_in (word_at words 4)))) it e in
-      let read = both_read (both (fleet_in (names_in v t) (word_at words 1)) (station_in (names_in v t) (word_at words 2))) (both (minute_in (word_at words 3)) (number_in (word_at words 4))) made.value made.is in
+      let made = made_by _ (both (both (fleet_in (names_in v t) (word_at words 1)) (station_in (names_in v t) (word_at words 2))) (both (minute_in (last_of t) (word_at words 3)) (number_in (word_at words 4)))) it e in
+      let read = both_read (both (fleet_in (names_in v t) (word_at words 1)) (station_in (names_in v t) (word_at words 2))) (both (minute_in (last_of t) (word_at words 3)) (number_in (word_at words 4))) made.value made.is in
       let place = both_read (fleet_in (names_in v t) (word_at words 1)) (station_in (names_in v t) (word_at words 2)) made.value.0 read.first in
-      let figures = both_read (minute_in (word_at words 3)) (number_in (word_at words 4)) made.value.1 read.second in
+      let figures = both_read (minute_in (last_of t) (word_at words 3)) (number_in (word_at words 4)) made.value.1 read.second in
       let fleet = fleet_read v t (word_at words 1) made.value.0.0 place.first in
       let station = station_read v t (word_at words 2) made.value.0.1 place.second in
-      let minute = minute_was (word_at words 3) made.value.1.0 figures.first in
+      let minute = minute_was (last_of t) (word_at words 3) made.value.1.0 figures.first in
       let number = number_was (word_at words 4) made.value.1.1 figures.second in
       subst (AreWordsOf t words) made.line_is (record { is = five_words words many ∙ (λ i. first_is words form.At told i ∷ fleet.is i ∷ station.is i ∷ minute.word_is i ∷ number.word_is i ∷ []); of_tables = record { named = (fleet.known, station.known); figures = (minute.within, number.figure) } })
 

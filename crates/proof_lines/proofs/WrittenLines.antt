@@ -3,8 +3,10 @@ use Rattle.std.proofs.Common.{◌≡◌, ℕ, ◌≤◌, ◌==◌, ◌&&◌, tru
 use Rattle.std.specs.Fmt.{decimal, signed_decimal}
 use Rattle.std.proofs.lemmas.Bool.Decides.{nat_tests}
 use Rattle.sums.proofs.Tests.{both_true}
-use Rattle.fleet_model.specs.Use.{last_minute}
+use Rattle.fleet_model.specs.Schedule.{last_of}
 use Rattle.fleet_model.specs.declared.tables.Tables.{Tables}
+use Rattle.fleet_model.proofs.PeriodMinutes.{at_most_week}
+use Rattle.dual_bound.specs.declared.prices.TheConstants.{MAX_SIZE}
 use Rattle.dual_bound.specs.WrittenOrder.{IsFigure}
 use Rattle.proof_lines.specs.Figures.{count_in, figure, minute_in, number_in, version_in, version_word}
 use Rattle.proof_lines.specs.Forms.{form_in, form_of, width}
@@ -43,14 +45,14 @@ number_is z is = ap figure (number_written z is)
 count_is : (n : ℕ) → IsCount n → count_in (decimal n) ≡ Ok n
 count_is n is = ap figure (natural_written 18446744073709551615 n (omega arith) (omega (arith, is)))
 
-minute_is : (n : ℕ) → n ≤ last_minute → minute_in (decimal n) ≡ Ok n
-minute_is n is = ap figure (natural_written last_minute n (omega arith) is)
+minute_is : (last n : ℕ) → last ≤ MAX_SIZE → n ≤ last → minute_in last (decimal n) ≡ Ok n
+minute_is last n few is = ap figure (natural_written last n few is)
 
 version_is : (v : Version) → version_in (version_word v) ≡ Ok v
 version_is version.One = refl
 
 module _ (v : Version) (t : Tables) where
-  fields_read : (line : Line) → IsNamed t line → HasFigures line → fields_in (names_in v t) (form_of line) (line_words t line) ≡ Ok line
+  fields_read : (line : Line) → IsNamed t line → HasFigures t line → fields_in (names_in v t) (form_of line) (line_words t line) ≡ Ok line
   unfolding fields_in
   fields_read (line.Head version) is has = ap (λ r. made (λ version. line.Head version) r) (version_is version)
   fields_read (line.Plan true) is has = refl
@@ -68,7 +70,7 @@ module _ (v : Version) (t : Tables) where
   fields_read (line.Scale scale) is has = rw (number_is scale has) refl
   fields_read (line.Rent fleet rent) is has = rw (fleet_written v t fleet is, number_is rent has) refl
   fields_read (line.At fleet station minute value) is has =
-      rw (fleet_written v t fleet is.0, station_written v t station is.1, minute_is minute has.0, number_is value has.1) refl
+      rw (fleet_written v t fleet is.0, station_written v t station is.1, minute_is (last_of t) minute (omega (arith, at_most_week t)) has.0, number_is value has.1) refl
   fields_read (line.Mixed scale) is has = rw (number_is scale has) refl
   fields_read (line.Weight leg choice weight) is has =
       rw (leg_written v t leg is.0, fleet_written v t choice is.1, number_is weight has) refl

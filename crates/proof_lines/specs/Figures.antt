@@ -2,7 +2,6 @@
 use Rattle.std.specs.Prelude.{ℕ, zero, suc, ◌==◌, ◌&&◌, nat_le, Bool, true, false, if◌then◌else◌, List, [], ◌∷◌, length, codes, bytes_eq, ℤ, pos, negsuc, Option, Some, None, option_map, Result, Ok, Err}
 use Rattle.std.specs.Fmt.{decimal}
 use Rattle.std.specs.Str.Parse.{digits_value}
-use Rattle.fleet_model.specs.Use.{last_minute}
 use Rattle.dual_bound.specs.declared.prices.TheConstants.{MAX_SIZE}
 use Rattle.proof_lines.specs.declared.flaws.Flaw.{Flaw}
 use Rattle.proof_lines.specs.declared.flaws.Flaw.TheVariants as flaw
@@ -36,15 +35,15 @@ abbrev pub figure : {A : Type 0} → Option A → Result A Flaw
 figure (Some n) = Ok n
 figure None = Err flaw.Number
 
--- the signed number of a word, its count of 64 bits, and its minute of the period
+-- the signed number of a word, its count of 64 bits, and its minute of a period with this last one
 abbrev pub number_in : List ℕ → Result ℤ Flaw
 number_in word = figure (signed_in word)
 
 abbrev pub count_in : List ℕ → Result ℕ Flaw
 count_in word = figure (natural_in 18446744073709551615 word)
 
-abbrev pub minute_in : List ℕ → Result ℕ Flaw
-minute_in word = figure (natural_in last_minute word)
+abbrev pub minute_in : ℕ → List ℕ → Result ℕ Flaw
+minute_in last word = figure (natural_in last word)
 
 -- the word of a version, and the version of a word
 abbrev pub version_word : Version → List ℕ

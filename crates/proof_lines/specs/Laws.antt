@@ -11,7 +11,7 @@ use Rattle.proof_lines.specs.declared.line.Version.{Version}
 -- a line that a text of the tables may hold
 pub record IsLineOf (t : Tables) (line : Line) : Type 0 where
   pub named : IsNamed t line
-  pub figures : HasFigures line
+  pub figures : HasFigures t line
 
 -- the bytes are those of a line
 pub record AreBytesOf (t : Tables) (bytes : List ℕ) (line : Line) : Type 0 where

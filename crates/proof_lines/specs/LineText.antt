@@ -1,8 +1,7 @@
 -- The text of a line: its words.
 use Rattle.std.specs.Prelude.{ℕ, ◌<◌, ◌≤◌, ◌^◌, ⊤, List, [], ◌∷◌, ◌++◌}
 use Rattle.std.specs.Fmt.{decimal, signed_decimal}
-use Rattle.fleet_model.specs.Schedule.{fleet_of, fleets_in, leg_of, legs_in, station_of, stations_in}
-use Rattle.fleet_model.specs.Use.{last_minute}
+use Rattle.fleet_model.specs.Schedule.{fleet_of, fleets_in, last_of, leg_of, legs_in, station_of, stations_in}
 use Rattle.fleet_model.specs.declared.tables.Tables.{Tables}
 use Rattle.dual_bound.specs.WrittenOrder.{IsFigure}
 use Rattle.proof_lines.specs.Figures.{version_word}
@@ -74,14 +73,14 @@ IsNamed t other = ⊤
 abbrev pub IsCount : ℕ → Type 0
 IsCount n = n < 2 ^ 64
 
--- all numbers of a line are such as a text may hold
-abbrev pub HasFigures : Line → Type 0
-HasFigures (line.OpenPivots made) = IsCount made
-HasFigures (line.OpenGrew pivots row column) = IsCount pivots × IsCount row × IsCount column
-HasFigures (line.OpenLift step at) = IsCount step × IsCount at
-HasFigures (line.Scale scale) = IsFigure scale
-HasFigures (line.Rent fleet rent) = IsFigure rent
-HasFigures (line.At fleet station minute value) = (minute ≤ last_minute) × IsFigure value
-HasFigures (line.Mixed scale) = IsFigure scale
-HasFigures (line.Weight leg choice weight) = IsFigure weight
-HasFigures other = ⊤
+-- all numbers of a line are such as a text may hold, and its minute is of the period
+abbrev pub HasFigures : Tables → Line → Type 0
+HasFigures t (line.OpenPivots made) = IsCount made
+HasFigures t (line.OpenGrew pivots row column) = IsCount pivots × IsCount row × IsCount column
+HasFigures t (line.OpenLift step at) = IsCount step × IsCount at
+HasFigures t (line.Scale scale) = IsFigure scale
+HasFigures t (line.Rent fleet rent) = IsFigure rent
+HasFigures t (line.At fleet station minute value) = (minute ≤ last_of t) × IsFigure value
+HasFigures t (line.Mixed scale) = IsFigure scale
+HasFigures t (line.Weight leg choice weight) = IsFigure weight
+HasFigures t other = ⊤

@@ -63,7 +63,7 @@ fields_in n form.Scale words = scale_in words
 fields_in n form.Rent words = made (λ entry. line.Rent entry.0 entry.1) (both (fleet_in n (word_at words 1)) (number_in (word_at words 2)))
 fields_in n form.At words =
     made (λ step. line.At step.0.0 step.0.1 step.1.0 step.1.1)
-    (both (both (fleet_in n (word_at words 1)) (station_in n (word_at words 2))) (both (minute_in (word_at words 3)) (number_in (word_at words 4))))
+    (both (both (fleet_in n (word_at words 1)) (station_in n (word_at words 2))) (both (minute_in n.last (word_at words 3)) (number_in (word_at words 4))))
 fields_in n form.Mixed words = mixed_in words
 fields_in n form.Weight words =
     made (λ entry. line.Weight entry.0.0 entry.0.1 entry.1)

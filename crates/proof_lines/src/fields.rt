@@ -157,7 +157,10 @@ fn at(grammar: &Grammar, words: &[&[u8]]) -> Result<Line, Flaw>
             grammar.fleet(word_at(words, 1)),
             grammar.station(word_at(words, 2)),
         ),
-        both(minute(word_at(words, 3)), number(word_at(words, 4))),
+        both(
+            minute(grammar.last, word_at(words, 3)),
+            number(word_at(words, 4)),
+        ),
     ) {
         Ok(((fleet, station), (minute, value))) => Ok(Line::At {
             fleet,

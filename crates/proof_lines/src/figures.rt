@@ -1,6 +1,5 @@
 //! The numbers that words write. Takes no memory.
 ghost use Rattle.std.specs.Prelude.{◌≡◌, ◌≤◌, IfSome, option_map, pos};
-ghost use Rattle.fleet_model.specs.Use.{last_minute};
 ghost use Rattle.proof_lines.specs.Figures.{count_in, figure, minute_in, natural_in, negative, number_in, signed_in, version_in};
 ghost use Rattle.dual_bound.specs.declared.prices.TheConstants.{MAX_SIZE};
 
@@ -8,7 +7,6 @@ use crate::flaws::Flaw;
 use crate::line::Version;
 use crate::numerals::natural;
 use dual_bound::prices::MAX_SIZE;
-use fleet_model::limits::MINUTES_PER_PERIOD;
 
 /// The version that a word writes.
 pub fn version(word: &[u8]) -> Result<Version, Flaw>
@@ -31,11 +29,11 @@ pub fn count(word: &[u8]) -> Result<u64, Flaw>
     }
 }
 
-/// The minute of the period that a word writes.
-pub fn minute(word: &[u8]) -> Result<u16, Flaw>
-    ensures { result ≡ minute_in word.now }
+/// The minute that a word writes, of a period with this last one.
+pub fn minute(last: u16, word: &[u8]) -> Result<u16, Flaw>
+    ensures { result ≡ minute_in last word.now }
 {
-    match natural(u128::from(MINUTES_PER_PERIOD) - 1, word) {
+    match natural(u128::from(last), word) {
         Some(n) => Ok(n as u16),
         None => Err(Flaw::Number),
     }

@@ -1,4 +1,4 @@
-//! The names of tables, found by their bytes.
+//! The names of tables, found by their bytes, and their period.
 ghost use Rattle.std.specs.Prelude.{◌≡◌, ◌<◌, ◌^◌, length, IfOk, IfSome};
 ghost use Rattle.fleet_model.specs.Schedule.{fleets_in, legs_in, stations_in};
 ghost use Rattle.proof_lines.specs.Known.{choice_in, codes_of, fleet_in, fleet_names, flights_of, leg_in, named, names_in, naming, station_in};
@@ -24,6 +24,7 @@ impl Grammar {
             legs,
             fleets,
             stations,
+            last: tables.period() - 1,
         })
     }
 

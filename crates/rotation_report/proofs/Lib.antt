@@ -1,3 +1,4 @@
+pub mod DatedLegs
 pub mod Pieces
 pub mod PlainText
 pub mod RoundLines

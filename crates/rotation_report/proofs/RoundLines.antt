@@ -16,7 +16,7 @@ use Rattle.ground_turns.specs.Maps.{IsTour}
 use Rattle.lines_of_flying.specs.Lines.{BeginsAfterStart, lines_of}
 use Rattle.lines_of_flying.proofs.TourLines.{days_are_use}
 use Rattle.lines_of_flying.proofs.WholeTours.{lines_are_tour}
-use Rattle.rotation_report.specs.TailLaws.{ComesToNextLine, EachAircraftFliesAll, EachLegEachDate, FollowsNextAircraft, flown_by, flown_on}
+use Rattle.rotation_report.specs.TailLaws.{ComesToNextLine, EachAircraftFliesAll, FollowsNextAircraft, flown_by}
 use Rattle.rotation_report.specs.Tails.{line_on, lines_by}
 use Rattle.sums.specs.Places.{list_below}
 use Rattle.sums.proofs.Rounds.{all_round, moved_entry}
@@ -25,7 +25,7 @@ use Rattle.sums.proofs.Places.{list_below-agree}
 -- ---- lists of lines, going round
 
 -- the entries of a list from a place on, going round
-abbrev round_from : List (List ℕ) → ℕ → ℕ → List ℕ
+abbrev pub round_from : List (List ℕ) → ℕ → ℕ → List ℕ
 round_from lines start k = get_or lines ((k + start) % length lines) []
 
 parted : (xs ys : List (List ℕ)) → IsPermutation (concat (list_below (λ k. get_or (xs ++ ys) ((k + length xs) % (length xs + length ys)) []) (length xs + length ys))) (concat (xs ++ ys))
@@ -37,7 +37,7 @@ parted xs ys =
     (subst₂ IsPermutation (sym (concat-append ys xs)) (sym (concat-append xs ys)) (IsPermutation-append_comm (concat ys) (concat xs)))
 
 -- the lines from any place on are all of them
-all_once : (lines : List (List ℕ)) (start : ℕ) → 0 < length lines → IsPermutation (concat (list_below (round_from lines start) (length lines))) (concat lines)
+pub all_once : (lines : List (List ℕ)) (start : ℕ) → 0 < length lines → IsPermutation (concat (list_below (round_from lines start) (length lines))) (concat lines)
 all_once lines start some =
     let n = length lines in
     let r = start % n in
@@ -76,25 +76,12 @@ module _ (t : Tables) (a : List ℕ) (f : ℕ) (tour : List ℕ) (is : IsTour t 
   unfolding lines
   whole = lines_are_tour t f tour a is begins
 
-  some : 0 < length lines
+  pub some : 0 < length lines
   some = some_lines lines tour whole is.some
 
   line_is : (d k : ℕ) → line_on t (lines_by t a f tour) d k ≡ get_or lines ((k * days_in t + d) % length lines) []
   unfolding lines used
   line_is d k = ap (λ n. get_or lines ((k * days_in t + d) % n) []) (sym count)
-
-  each_date : (d : ℕ) → days_in t ≡ 1 → IsPermutation (flown_on t (lines_by t a f tour) d) tour
-  unfolding used
-  each_date d one =
-      let all : used ≡ length lines = once used ∙ ap (λ days. used * days) (sym one) ∙ sym count in
-      let same : list_below (line_on t (lines_by t a f tour) d) used ≡ list_below (round_from lines d) (length lines) =
-      list_below-agree (line_on t (lines_by t a f tour) d) (round_from lines d) used (λ k lt.
-      line_is d k ∙ ap (λ days. get_or lines ((k * days + d) % length lines) []) one ∙ ap (λ j. get_or lines ((j + d) % length lines) []) (sym (once k)))
-      ∙ ap (list_below (round_from lines d)) all in
-      subst₂ (λ list legs. IsPermutation (concat list) legs) (sym same) whole (all_once lines d some)
-    where
-      once : (n : ℕ) → n ≡ n * 1
-      once n = omega arith
 
   each_aircraft : (k : ℕ) → IsPermutation (flown_by t (lines_by t a f tour) k (used * days_in t)) tour
   each_aircraft k =
@@ -116,9 +103,6 @@ module _ (t : Tables) (a : List ℕ) (f : ℕ) (tour : List ℕ) (is : IsTour t 
 
       next : (m d : ℕ) → m + d + 1 ≡ m + suc d
       next m d = omega arith
-
-pub each_leg_each_date : EachLegEachDate
-each_leg_each_date t a f tour d is begins one = each_date t a f tour is begins d one
 
 pub each_aircraft_flies_all : EachAircraftFliesAll
 unfolding used

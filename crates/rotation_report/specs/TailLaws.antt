@@ -1,10 +1,12 @@
 -- What the lines of tails come to: which legs are flown on a date, and which by an aircraft.
-use Rattle.std.specs.Prelude.{ℕ, suc, ◌+◌, ◌*◌, ◌%◌, ◌<◌, ◌≡◌, IsPermutation, List, [], length, slice_index_or}
-use Rattle.std.specs.List.{concat}
+use Rattle.std.specs.Prelude.{ℕ, suc, ◌+◌, ◌*◌, ◌/◌, ◌%◌, ◌<◌, ◌≡◌, ◌==◌, Bool, IsPermutation, List, [], length, slice_index_or}
+use Rattle.std.specs.List.{concat, filter}
 use Rattle.fleet_model.specs.declared.tables.Tables.{Tables}
 use Rattle.fleet_model.specs.Counts.{weights_of}
 use Rattle.fleet_model.specs.Use.{used_of}
-use Rattle.fleet_model.specs.Schedule.{days_in}
+use Rattle.fleet_model.specs.Schedule.{days_in, leg_on}
+use Rattle.fleet_model.specs.Times.{departure}
+use Rattle.fleet_model.specs.declared.limits.TheConstants.{MINUTES_PER_DAY}
 use Rattle.ground_turns.specs.Maps.{IsTour}
 use Rattle.lines_of_flying.specs.Lines.{BeginsAfterStart, lines_of}
 use Rattle.rotation_report.specs.Tails.{line_on, lines_by}
@@ -19,10 +21,15 @@ flown_on t flown d = concat (list_below (line_on t flown d) flown.used)
 abbrev pub flown_by : Tables → FleetLines → ℕ → ℕ → List ℕ
 flown_by t flown k days = concat (list_below (λ d. line_on t flown d k) days)
 
--- where the period is a day, each leg of a fleet's tour is flown on each date, by one aircraft
-abbrev pub EachLegEachDate : Type 0
-EachLegEachDate = (t : Tables) (a : List ℕ) (f : ℕ) (tour : List ℕ) (d : ℕ) → IsTour t a f tour → BeginsAfterStart t f tour → days_in t ≡ 1
-    → IsPermutation (flown_on t (lines_by t a f tour) d) tour
+-- a leg departs on this day of the period, days counted from 0
+abbrev pub departs_on : Tables → ℕ → ℕ → ℕ → Bool
+departs_on t f day l = departure t (leg_on l f) / MINUTES_PER_DAY == day
+
+-- the first date is the period's first day: on each date those legs of a fleet's tour are flown that depart on its day of the
+-- period, each by one aircraft
+abbrev pub EachLegOnItsDay : Type 0
+EachLegOnItsDay = (t : Tables) (a : List ℕ) (f : ℕ) (tour : List ℕ) (d : ℕ) → IsTour t a f tour → BeginsAfterStart t f tour
+    → IsPermutation (flown_on t (lines_by t a f tour) d) (filter (departs_on t f (d % days_in t)) tour)
 
 -- each aircraft flies each leg of the tour once, in as many days as the tour has
 abbrev pub EachAircraftFliesAll : Type 0

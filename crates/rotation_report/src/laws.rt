@@ -9,7 +9,7 @@ ghost use Rattle.fleet_rotations.specs.Rotations.{AreRotations};
 ghost use Rattle.fleet_rotations.specs.declared.made.FleetRotation.{FleetRotation};
 ghost use Rattle.rotation_report.specs.RotationRecords.{rotation_records, rotation_text};
 ghost use Rattle.rotation_report.specs.RotationWords.{days_used};
-ghost use Rattle.rotation_report.specs.TailLaws.{ComesToNextLine, EachAircraftFliesAll, EachLegEachDate, FollowsNextAircraft};
+ghost use Rattle.rotation_report.specs.TailLaws.{ComesToNextLine, EachAircraftFliesAll, EachLegOnItsDay, FollowsNextAircraft};
 
 /// The days that records say of a tour are those that words say of it.
 pub fn tour_days_are_use()
@@ -22,10 +22,10 @@ pub fn rotations_are_written_as_csv()
         → rotation_text t rotations visits ≡ flat_map (row_text default_writer) (rotation_records t rotations visits) }
 {}
 
-/// The lines of tails, over the tour. On each date its legs are flown once each, each aircraft comes to the next line
-/// each day and so flies the whole tour, and a period later it flies what the next aircraft flew.
+/// The lines of tails, over the tour. On each date its legs of that day of the period are flown once each, each aircraft
+/// comes to the next line each day and so flies the whole tour, and a period later it flies what the next aircraft flew.
 pub fn tails_fly_the_tour()
-    ensures each_date { EachLegEachDate }
+    ensures each_date { EachLegOnItsDay }
     ensures each_aircraft { EachAircraftFliesAll }
     ensures next_line { ComesToNextLine }
     ensures next_aircraft { FollowsNextAircraft }

@@ -56,6 +56,7 @@ fn tables_of(alloc: Global, bytes: &[u8]) -> Result<Tables> {
     let settings = Settings {
         day_start: 180,
         through_max: 60,
+        period: 1,
     };
     let tables = load(
         alloc,

@@ -1,6 +1,5 @@
 -- Five files read as tables, or they have a first fault.
-use Rattle.std.proofs.Common.{◌⊎◌, ℕ, List, [], ◌∷◌, length, map, refl, subst, inl, inr}
-use Rattle.std.proofs.lemmas.List.{length-map}
+use Rattle.std.proofs.Common.{◌==◌, ◌⊎◌, ℕ, List, [], ◌∷◌, map, refl, inl, inr}
 use Rattle.csv_fields.specs.Record.{records_of}
 use Rattle.fleet_model.specs.Limits.{AreSettings}
 use Rattle.fleet_model.specs.declared.parts.Fleet.{Fleet}
@@ -15,13 +14,14 @@ use Rattle.fleet_tables.specs.Fleets.{fleet_header, fleet_name_of, fleet_read}
 use Rattle.fleet_tables.proofs.CostsFit.{costs_keep}
 use Rattle.fleet_tables.proofs.FleetsFit.{fleets_keep}
 use Rattle.sched_read.specs.Laws.{HaveFirstFault, ReadAsTables}
-use Rattle.sched_read.specs.Legs.{flight_of, leg_header, leg_read}
+use Rattle.sched_read.specs.Legs.{flight_of, leg_headers, leg_read}
 use Rattle.sched_read.specs.Reading.{ReadCosts, TableBytes}
 use Rattle.sched_read.specs.Throughs.{ThroughsBad, ThroughsRead, connection_of, through_header, through_read}
-use Rattle.sched_read.proofs.LegsFit.{legs_keep}
+use Rattle.sched_read.proofs.LegsFit.{headers_differ, legs_keep}
 use Rattle.sched_read.proofs.ThroughsFit.{throughs_keep}
 use Rattle.station_table.specs.Stations.{code_of, station_header, station_read}
 use Rattle.station_table.proofs.StationsFit.{stations_keep}
+use Rattle.table_rows.proofs.FormReading.{form_end_exists}
 use Rattle.table_rows.proofs.OneReading.{table_end_exists}
 
 abbrev End : TableBytes → Settings → Type 0
@@ -62,7 +62,7 @@ read_or_fault bytes settings fit = elim (table_end_exists code_of station_read s
   | inr bad ↦ inr (record { file = file.Stations; row = bad.0; kind = bad.1; bad = bad.2 })
   | inl s ↦ elim (table_end_exists fleet_name_of fleet_read fleet_header (records_of bytes.fleets)) [
     | inr bad ↦ inr (record { file = file.Fleets; row = bad.0; kind = bad.1; bad = (s.0, s.1, bad.2) })
-    | inl f ↦ elim (table_end_exists flight_of (leg_read (map code_of s.0) settings) leg_header (records_of bytes.legs)) [
+    | inl f ↦ elim (form_end_exists flight_of (leg_read (map code_of s.0) settings) leg_headers (settings.period == 1) headers_differ (records_of bytes.legs)) [
       | inr bad ↦ inr (record { file = file.Legs; row = bad.0; kind = bad.1; bad = (s.0, f.0, record { stations = s.1; fleets = f.1 }, bad.2) })
       | inl l ↦ elim (table_end_exists pair_of (cost_read (map flight_of l.0) (map fleet_name_of f.0)) cost_header (records_of bytes.costs)) [
         | inr bad ↦ inr (record { file = file.Costs; row = bad.0; kind = bad.1; bad = (s.0, f.0, l.0, record { stations = s.1; fleets = f.1; legs = l.1 }, bad.2) })

@@ -1,5 +1,5 @@
 -- Five files read in one way at most, or have one first fault at most, and not both.
-use Rattle.std.proofs.Common.{◌≡◌, ℕ, List, [], map, refl, sym, ap, subst, ◌∙◌, inl, inr}
+use Rattle.std.proofs.Common.{◌≡◌, ◌==◌, ℕ, List, [], map, refl, sym, ap, subst, ◌∙◌, inl, inr}
 use Rattle.csv_fields.proofs.NoBytes.{no_bytes_no_record}
 use Rattle.csv_fields.specs.Record.{records_of}
 use Rattle.fleet_model.specs.declared.parts.Fleet.{Fleet}
@@ -14,11 +14,13 @@ use Rattle.fleet_model.specs.declared.tables.Tables.{Tables}
 use Rattle.fleet_tables.specs.Costs.{CostsBad, CostsRead, cost_header, cost_read, pair_of}
 use Rattle.fleet_tables.specs.Fleets.{FleetsBad, FleetsRead, fleet_header, fleet_name_of, fleet_read}
 use Rattle.sched_read.specs.Laws.{SameFault}
-use Rattle.sched_read.specs.Legs.{LegsBad, LegsRead, flight_of, leg_header, leg_read}
+use Rattle.sched_read.specs.Legs.{LegsBad, LegsRead, flight_of, leg_headers, leg_read}
 use Rattle.sched_read.specs.Reading.{BadAt, ReadCosts, ReadFleets, ReadLegs, Reads, TableBytes}
 use Rattle.sched_read.specs.Throughs.{ThroughTableBad, ThroughTableReads, ThroughsBad, ThroughsRead, connection_of, through_header, through_read}
+use Rattle.sched_read.proofs.LegsFit.{headers_differ}
 use Rattle.sched_read.proofs.TablesSame.{tables_same}
 use Rattle.station_table.specs.Stations.{StationsBad, StationsRead, code_of, station_header, station_read}
+use Rattle.table_rows.proofs.FormReading.{form_bad_same, form_reads_no_fault, form_reads_same}
 use Rattle.table_rows.proofs.OneReading.{table_bad_same, table_reads_no_fault, table_reads_same}
 
 -- files of stations and fleets read as one list each
@@ -32,7 +34,7 @@ fleets_same bytes a b = table_reads_same fleet_name_of fleet_read fleet_header (
 legs_same : (bytes : TableBytes) (settings : Settings) (s s' : List Station) (a b : List Leg) → s ≡ s'
     → LegsRead (map code_of s) settings (records_of bytes.legs) a → LegsRead (map code_of s') settings (records_of bytes.legs) b → a ≡ b
 legs_same bytes settings s s' a b same reads_a reads_b =
-    table_reads_same flight_of (leg_read (map code_of s') settings) leg_header (records_of bytes.legs) a b (subst (λ stations. LegsRead (map code_of stations) settings (records_of bytes.legs) a) same reads_a) reads_b
+    form_reads_same flight_of (leg_read (map code_of s') settings) leg_headers (settings.period == 1) headers_differ (records_of bytes.legs) a b (subst (λ stations. LegsRead (map code_of stations) settings (records_of bytes.legs) a) same reads_a) reads_b
 
 costs_same : (bytes : TableBytes) (l l' : List Leg) (f f' : List Fleet) (a b : List PairCost) → l ≡ l' → f ≡ f'
     → CostsRead (map flight_of l) (map fleet_name_of f) (records_of bytes.costs) a → CostsRead (map flight_of l') (map fleet_name_of f') (records_of bytes.costs) b → a ≡ b
@@ -66,7 +68,7 @@ fleets_sound bytes a row kind = table_reads_no_fault fleet_name_of fleet_read fl
 legs_sound : (bytes : TableBytes) (settings : Settings) (s s' : List Station) (a : List Leg) (row kind : ℕ) → s ≡ s'
     → LegsRead (map code_of s) settings (records_of bytes.legs) a → LegsBad (map code_of s') settings (records_of bytes.legs) row kind → ⊥
 legs_sound bytes settings s s' a row kind same reads =
-    table_reads_no_fault flight_of (leg_read (map code_of s') settings) leg_header (records_of bytes.legs) a row kind
+    form_reads_no_fault flight_of (leg_read (map code_of s') settings) leg_headers (settings.period == 1) headers_differ (records_of bytes.legs) a row kind
     (subst (λ stations. LegsRead (map code_of stations) settings (records_of bytes.legs) a) same reads)
 
 costs_sound : (bytes : TableBytes) (l l' : List Leg) (f f' : List Fleet) (a : List PairCost) (row kind : ℕ) → l ≡ l' → f ≡ f'
@@ -137,7 +139,7 @@ legs_first : (bytes : TableBytes) (settings : Settings) (at : TableFile) (row ot
 legs_first bytes settings file.Stations row other kind other_kind s f reads bad found = absurd (stations_sound bytes s other other_kind reads.stations found)
 legs_first bytes settings file.Fleets row other kind other_kind s f reads bad (z, again, found) = absurd (fleets_sound bytes f other other_kind reads.fleets found)
 legs_first bytes settings file.Legs row other kind other_kind s f reads bad (z, g, before, found) =
-    same_fault file.Legs row other kind other_kind (table_bad_same flight_of (leg_read (map code_of z) settings) leg_header (records_of bytes.legs) row other kind other_kind
+    same_fault file.Legs row other kind other_kind (form_bad_same flight_of (leg_read (map code_of z) settings) leg_headers (settings.period == 1) headers_differ (records_of bytes.legs) row other kind other_kind
     (subst (λ stations. LegsBad (map code_of stations) settings (records_of bytes.legs) row kind) (stations_same bytes s z reads.stations before.stations) bad) found)
 legs_first bytes settings file.Costs row other kind other_kind s f reads bad (z, g, l, before, found) =
     absurd (legs_sound bytes settings z s l row kind (stations_same bytes z s before.stations reads.stations) before.legs bad)

@@ -1,19 +1,38 @@
 -- What a file of legs reads as.
-use Rattle.std.specs.Prelude.{ℕ, ◌+◌, ◌-◌, ◌%◌, not, ◌==◌, ◌&&◌, nat_le, List, ◌∷◌, [], length, codes, Result, Ok}
+use Rattle.std.specs.Prelude.{ℕ, pos, ◌+◌, ◌-◌, ◌*◌, ◌%◌, not, ◌==◌, ◌&&◌, nat_le, List, ◌∷◌, [], length, codes, Option, None, option_map, Result, Ok}
 use Rattle.std.specs.Str.{is_utf8}
+use Rattle.csv_fields.specs.declared.fault.FieldFault.{FieldFault}
 use Rattle.csv_fields.specs.Name.{name_of, station_code_of}
+use Rattle.csv_fields.specs.Number.{whole_of}
 use Rattle.csv_fields.specs.Time.{clock_time_of}
-use Rattle.fleet_model.specs.declared.limits.TheConstants.{MAX_LEGS, MINUTES_PER_DAY, MINUTES_PER_PERIOD}
+use Rattle.fleet_model.specs.declared.limits.TheConstants.{MAX_LEGS, MINUTES_PER_DAY}
 use Rattle.fleet_model.specs.declared.parts.Leg.{Leg}
 use Rattle.fleet_model.specs.declared.parts.Settings.{Settings}
 use Rattle.fleet_model.specs.declared.refusals.TheConstants.{DUPLICATE, NOT_TEXT, TOO_MANY, TO_ITSELF, UNKNOWN_STATION, ZERO_BLOCK}
-use Rattle.table_rows.specs.Fields.{five_of, known, of_width, refused_where, well_formed}
+use Rattle.table_rows.specs.Fields.{as_natural, five_of, known, of_width, refused_where, well_formed}
+use Rattle.table_rows.specs.Forms.{FormBad, FormReads, header_in}
 use Rattle.table_rows.specs.Names.{is_among, number_of}
-use Rattle.table_rows.specs.Rows.{Fields, TableBad, TableReads}
+use Rattle.table_rows.specs.Rows.{Fields}
+use Rattle.table_rows.specs.declared.forms.Form.{Form}
+use Rattle.table_rows.specs.declared.forms.Form.TheVariants as form
 
 -- flight,from,dep,to,arr
 abbrev pub leg_header : Fields
 leg_header = codes "flight" ∷ codes "from" ∷ codes "dep" ∷ codes "to" ∷ codes "arr" ∷ []
+
+-- flight,day,from,dep,to,arr
+abbrev pub dated_header : Fields
+dated_header = codes "flight" ∷ codes "day" ∷ codes "from" ∷ codes "dep" ∷ codes "to" ∷ codes "arr" ∷ []
+
+-- the old header has no days, the new one has
+abbrev pub leg_headers : Form → Fields
+leg_headers = header_in leg_header dated_header
+
+-- the fields below either header, as flight, day, from, dep, to, arr: a record without a day is one of day 1
+abbrev pub leg_fields : Form → Fields → Option (List ℕ × List ℕ × List ℕ × List ℕ × List ℕ × List ℕ)
+leg_fields form.Old fields = option_map (λ f. (f.0, codes "1", f.1, f.2, f.3, f.4)) (five_of fields)
+leg_fields form.New [] = None
+leg_fields form.New (flight ∷ rest) = option_map (λ f. (flight, f.0, f.1, f.2, f.3, f.4)) (five_of rest)
 
 -- the flight of a leg, which no other has
 abbrev pub flight_of : Leg → List ℕ
@@ -23,17 +42,27 @@ flight_of leg = leg.flight
 abbrev pub block_between : ℕ → ℕ → ℕ
 block_between dep arr = (arr + MINUTES_PER_DAY - dep) % MINUTES_PER_DAY
 
--- a clock minute, counted from the day start
-abbrev pub from_day_start : Settings → ℕ → ℕ
-from_day_start settings minute = (minute + MINUTES_PER_PERIOD - settings.day_start) % MINUTES_PER_PERIOD
+-- the minutes of the period
+abbrev pub minutes_in : Settings → ℕ
+minutes_in settings = settings.period * MINUTES_PER_DAY
 
--- A record read as a leg, by the codes of the stations, below legs with these flights, or the least kind of its
--- faults.
-unfoldable pub leg_read : List (List ℕ) → Settings → List (List ℕ) → Fields → Result Leg ℕ
-leg_read stations settings earlier fields =
-    of_width (five_of fields) (λ (flight, from, dep, to, arr).
-    refused_where (not (is_utf8 flight && is_utf8 from && is_utf8 dep && is_utf8 to && is_utf8 arr)) NOT_TEXT
+-- a field read as a day of the period, counted from 1
+abbrev pub day_of : Settings → List ℕ → Result ℕ FieldFault
+day_of settings field = as_natural (whole_of field (pos 1) (pos settings.period))
+
+-- A clock minute of a day, counted from the start of the period, which is the day start on day 1. Before it lies the
+-- period's end.
+abbrev pub from_period_start : Settings → ℕ → ℕ → ℕ
+from_period_start settings day minute = ((day - 1) * MINUTES_PER_DAY + minute + minutes_in settings - settings.day_start) % minutes_in settings
+
+-- A record of either form read as a leg, by the codes of the stations, below legs with these flights, or the least kind
+-- of its faults.
+unfoldable pub leg_read : List (List ℕ) → Settings → Form → List (List ℕ) → Fields → Result Leg ℕ
+leg_read stations settings found earlier fields =
+    of_width (leg_fields found fields) (λ (flight, day, from, dep, to, arr).
+    refused_where (not (is_utf8 flight && is_utf8 day && is_utf8 from && is_utf8 dep && is_utf8 to && is_utf8 arr)) NOT_TEXT
     (well_formed (name_of flight) (λ _.
+    well_formed (day_of settings day) (λ on.
     well_formed (station_code_of from) (λ _.
     well_formed (clock_time_of dep) (λ leaves.
     well_formed (station_code_of to) (λ _.
@@ -44,12 +73,12 @@ leg_read stations settings earlier fields =
     refused_where (block_between leaves lands == 0) ZERO_BLOCK
     (refused_where (a == b) TO_ITSELF
     (refused_where (nat_le MAX_LEGS (length earlier)) TOO_MANY
-    (Ok (record { flight = flight; from = a; dep = from_day_start settings leaves; to = b; block = block_between leaves lands }))))))))))))))
+    (Ok (record { flight = flight; from = a; dep = from_period_start settings on leaves; to = b; block = block_between leaves lands })))))))))))))))
 
--- the records of a file are the header and these legs
+-- the records of a file are a header, which may be the old one where the period has one day, and these legs
 abbrev pub LegsRead : List (List ℕ) → Settings → List Fields → List Leg → Type 0
-LegsRead stations settings = TableReads flight_of (leg_read stations settings) leg_header
+LegsRead stations settings = FormReads flight_of (leg_read stations settings) leg_headers (settings.period == 1)
 
 -- the first fault of a file of legs
 abbrev pub LegsBad : List (List ℕ) → Settings → List Fields → ℕ → ℕ → Type 0
-LegsBad stations settings = TableBad flight_of (leg_read stations settings) leg_header
+LegsBad stations settings = FormBad flight_of (leg_read stations settings) leg_headers (settings.period == 1)

@@ -1,27 +1,37 @@
-ghost use Rattle.std.specs.Prelude.{◌≡◌, ◌≢◌, ◌≤◌, ◌<◌, [], AllPairs, IfOk, MatchResult, length, map};
+ghost use Rattle.std.specs.Prelude.{◌≡◌, ◌≢◌, ◌≤◌, ◌<◌, [], AllPairs, IfOk, MatchResult, length, map, option_map};
 ghost use Rattle.csv_fields.specs.Record.{records_of};
 ghost use Rattle.fleet_model.specs.Limits.{AreLegs, AreSettings};
-ghost use Rattle.fleet_model.specs.declared.limits.TheConstants.{MAX_STATIONS, MINUTES_PER_DAY, MINUTES_PER_PERIOD};
+ghost use Rattle.fleet_model.specs.declared.limits.TheConstants.{MAX_STATIONS, MINUTES_PER_DAY};
 ghost use Rattle.fleet_model.specs.declared.refusals.TableFile.TheVariants as file;
-ghost use Rattle.sched_read.specs.Legs.{LegsBad, LegsRead, block_between, flight_of, from_day_start, leg_read};
+ghost use Rattle.sched_read.specs.Legs.{LegsBad, LegsRead, block_between, day_of, flight_of, from_period_start, leg_fields, leg_read};
 ghost use Rattle.station_table.specs.Stations.{code_of};
 ghost use Rattle.table_rows.specs.Outcome.{IsFirstFault};
+ghost use Rattle.table_rows.specs.Rows.{RowsBad, RowsRead, fields_in, rows_in};
 
-use csv_fields::{clock_time, flight_name, station_code};
+use csv_fields::{FieldFault, clock_time, flight_name, records, station_code, whole};
 use entries::{Entries, NoMemory};
-use fleet_model::limits::{MAX_LEGS, MINUTES_PER_DAY, MINUTES_PER_PERIOD};
+use fleet_model::limits::{MAX_LEGS, MINUTES_PER_DAY};
 use fleet_model::refusals::{
     DUPLICATE, NOT_TEXT, TO_ITSELF, TOO_MANY, UNKNOWN_STATION, WRONG_WIDTH, ZERO_BLOCK,
 };
 use fleet_model::{Leg, LoadError, Settings, Station, TableFile};
 use std::alloc::Global;
-use table_rows::{Names, RecordError, RowReader, five_fields, is_text, numbers_of, read_table};
+use table_rows::{
+    Form, Names, RecordError, RowReader, below_either, five_fields, is_text, numbers_of, read_rows,
+    without_header,
+};
 
-/// The header of `legs.csv`.
+/// The header of `legs.csv` for a period of one day.
 const HEADER: [&[u8]; 5] = [b"flight", b"from", b"dep", b"to", b"arr"];
 
+/// Its header for a period of any length.
+const DATED_HEADER: [&[u8]; 6] = [b"flight", b"day", b"from", b"dep", b"to", b"arr"];
+
+/// The day of a record that has none.
+const FIRST_DAY: &[u8] = b"1";
+
 /// The legs of `legs.csv`, in the order of its records, by the numbers of stations, or the first fault of the
-/// file. The stations' codes differ from one another.
+/// file. The stations' codes differ from one another. A header without days is one of a period of one day.
 pub fn read_legs(
     alloc: Global,
     bytes: &[u8],
@@ -33,15 +43,39 @@ pub fn read_legs(
     requires settings { AreSettings settings }
     ensures reads { MatchResult result (λ legs. LegsRead (map code_of stations.now) settings (records_of bytes.now) legs.items)
         (IsFirstFault file.Legs (LegsBad (map code_of stations.now) settings (records_of bytes.now))) }
-    ensures kept { IfOk result (λ legs. AreLegs (length stations.now) legs.items) }
+    ensures kept { IfOk result (λ legs. AreLegs (length stations.now) settings.period legs.items) }
 {
-    let mut reader = LegReader::new(alloc, stations, settings)?;
-    read_table(alloc, TableFile::Legs, &HEADER, &mut reader, bytes)
+    let records = records(alloc, bytes)?;
+    match below_either(&records, &HEADER, &DATED_HEADER, settings.period == 1) {
+        Some((form, rows)) => legs_below(alloc, form, rows, stations, settings),
+        None => Err(without_header(TableFile::Legs)),
+    }
 }
 
-/// Reads the records of `legs.csv`, by the codes of stations.
+/// The legs of the records below a header of this form, or the first fault of these.
+fn legs_below(
+    alloc: Global,
+    form: Form,
+    rows: &[Vec<Vec<u8>>],
+    stations: &[Station],
+    settings: Settings,
+) -> Result<Vec<Leg>, LoadError>
+    requires few { length stations.now ≤ MAX_STATIONS }
+    requires stations { AllPairs (λ a b. a.code ≢ b.code) stations.now }
+    requires settings { AreSettings settings }
+    ensures reads { let read = leg_read (map code_of stations.now) settings form in
+        MatchResult result (λ legs. RowsRead flight_of read (rows_in rows.now) legs.items)
+        (IsFirstFault file.Legs (RowsBad flight_of read (rows_in rows.now))) }
+    ensures kept { IfOk result (λ legs. AreLegs (length stations.now) settings.period legs.items) }
+{
+    let mut reader = LegReader::new(alloc, form, stations, settings)?;
+    read_rows(alloc, TableFile::Legs, &mut reader, rows)
+}
+
+/// Reads the records of `legs.csv` below its header, by the codes of stations.
 #[derive(Drop)]
 struct LegReader {
+    form: Form,
     codes: Names,
     settings: Settings,
     flights: Names,
@@ -51,15 +85,22 @@ struct LegReader {
 
 impl LegReader {
     /// No leg yet.
-    fn new(alloc: Global, stations: &[Station], settings: Settings) -> Result<Self, NoMemory>
+    fn new(
+        alloc: Global,
+        form: Form,
+        stations: &[Station],
+        settings: Settings,
+    ) -> Result<Self, NoMemory>
         requires few { length stations.now ≤ MAX_STATIONS }
         requires stations { AllPairs (λ a b. a.code ≢ b.code) stations.now }
         requires settings { AreSettings settings }
+        ensures form { IfOk result (λ reader. reader.form ≡ form) }
         ensures codes { IfOk result (λ reader. reader.codes ≡ map code_of stations.now) }
         ensures settings { IfOk result (λ reader. reader.settings ≡ settings) }
         ensures none { IfOk result (λ reader. reader.flights ≡ []) }
     {
         Ok(LegReader {
+            form,
             codes: numbers_of(alloc, stations)?,
             settings,
             flights: Names::new(alloc),
@@ -74,17 +115,24 @@ impl RowReader for LegReader {
 
     ghost keys = { λ reader. reader.flights };
 
-    ghost read = { λ reader. leg_read reader.codes reader.settings };
+    ghost read = { λ reader. leg_read reader.codes reader.settings reader.form };
 
     #[tactic(auto, unfolding(crate::specs::Legs::leg_read))]
     fn read_row(&mut self, alloc: Global, row: &[Vec<u8>]) -> Result<Leg, RecordError> {
-        let Some((flight, from, dep, to, arr)) = five_fields(row) else {
+        let Some((flight, day, from, dep, to, arr)) = leg_fields(self.form, row) else {
             return Err(RecordError::Bad { kind: WRONG_WIDTH });
         };
-        if !(is_text(flight) && is_text(from) && is_text(dep) && is_text(to) && is_text(arr)) {
+        if !(is_text(flight)
+            && is_text(day)
+            && is_text(from)
+            && is_text(dep)
+            && is_text(to)
+            && is_text(arr))
+        {
             return Err(RecordError::Bad { kind: NOT_TEXT });
         }
         flight_name(flight)?;
+        let day = day_in(self.settings, day)?;
         station_code(from)?;
         let leaves = clock_time(dep)?;
         station_code(to)?;
@@ -111,11 +159,38 @@ impl RowReader for LegReader {
         Ok(Leg {
             flight: Entries::from_vec(Vec::from_slice(alloc, flight)?),
             from: from as u32,
-            dep: minute(self.settings, leaves),
+            dep: minute(self.settings, day, leaves),
             to: to as u32,
             block,
         })
     }
+}
+
+/// The fields of a record in this form: flight, day, from, dep, to and arr.
+fn leg_fields(form: Form, row: &[Vec<u8>]) -> Option<(&[u8], &[u8], &[u8], &[u8], &[u8], &[u8])>
+    ensures { option_map (λ f. (f.0.now, f.1.now, f.2.now, f.3.now, f.4.now, f.5.now)) result ≡ leg_fields form (fields_in row.now) }
+{
+    match form {
+        Form::Old => {
+            let (flight, from, dep, to, arr) = five_fields(row)?;
+            Some((flight, FIRST_DAY, from, dep, to, arr))
+        }
+        Form::New => {
+            let (flight, rest) = row.split_first()?;
+            let (day, from, dep, to, arr) = five_fields(rest)?;
+            Some((flight.as_slice(), day, from, dep, to, arr))
+        }
+    }
+}
+
+/// The day of the period that a field writes, counted from 1.
+fn day_in(settings: Settings, field: &[u8]) -> Result<u16, FieldFault>
+    requires { AreSettings settings }
+    ensures reads { result ≡ day_of settings field.now }
+    ensures within { IfOk result (λ day. (1 ≤ day) × (day ≤ settings.period)) }
+{
+    let day = whole(field, 1, i128::from(settings.period))?;
+    Ok(day as u16)
 }
 
 /// The minutes from a departure to an arrival, both by the clock.
@@ -128,12 +203,14 @@ fn block(dep: u16, arr: u16) -> u16
     (arr + MINUTES_PER_DAY - dep) % MINUTES_PER_DAY
 }
 
-/// A clock minute, counted from the day start.
-fn minute(settings: Settings, minute: u16) -> u16
+/// A clock minute of a day of the period, counted from the period's start.
+fn minute(settings: Settings, day: u16, minute: u16) -> u16
     requires settings { AreSettings settings }
+    requires some_day { 1 ≤ day }
+    requires day { day ≤ settings.period }
     requires minute { minute < MINUTES_PER_DAY }
-    ensures value { result ≡ from_day_start settings minute }
-    ensures within { result < MINUTES_PER_PERIOD }
+    ensures { result ≡ from_period_start settings day minute }
 {
-    (minute + MINUTES_PER_PERIOD - settings.day_start) % MINUTES_PER_PERIOD
+    let period = settings.period * MINUTES_PER_DAY;
+    ((day - 1) * MINUTES_PER_DAY + minute + period - settings.day_start) % period
 }

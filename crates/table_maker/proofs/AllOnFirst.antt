@@ -7,7 +7,7 @@ use Rattle.fleet_model.specs.Costs.{no_cost}
 use Rattle.fleet_model.specs.Counts.{arrived, departed, fleet_at, weights_of}
 use Rattle.fleet_model.specs.Legal.{IsAllowed, IsAssignment, IsLegal, cost_of}
 use Rattle.fleet_model.specs.Limits.{AreSettings}
-use Rattle.fleet_model.specs.Schedule.{fleet_of, last_of, leg_of, leg_on, legs_in, no_leg, no_station, station_of, stations_in}
+use Rattle.fleet_model.specs.Schedule.{days_in, fleet_of, last_of, leg_of, leg_on, legs_in, no_leg, no_station, station_of, stations_in}
 use Rattle.fleet_model.specs.Times.{busy_minutes, departure, laps_of}
 use Rattle.fleet_model.specs.Use.{laps_flown, used_of}
 use Rattle.fleet_model.specs.declared.limits.TheConstants.{MINUTES_PER_DAY}
@@ -17,13 +17,12 @@ use Rattle.fleet_model.specs.declared.parts.Settings.{Settings}
 use Rattle.fleet_model.specs.declared.tables.Tables.{Tables}
 use Rattle.fleet_model.proofs.Choices.{nothing_parked}
 use Rattle.fleet_model.proofs.CostLookup.{cost_found}
-use Rattle.fleet_model.proofs.OneDay.{each_one_day, period_is_day, plain_departure}
+use Rattle.fleet_model.proofs.OneDay.{period_is_day, plain_departure}
 use Rattle.fleet_model.proofs.PlainTables.{are_plain, fleet_chooses, plain_laps}
 use Rattle.ground_turns.specs.Maps.{IsNext, IsSuccessorMap, crossings_of, no_turn, periods_of, turn_by, turns_by}
 use Rattle.ground_turns.specs.Turns.{crosses}
 use Rattle.ground_turns.proofs.FleetTurns.{next_is_map}
 use Rattle.ground_turns.proofs.Fits.{balances, periods_beyond_use}
-use Rattle.sched_read.specs.Legs.{from_day_start}
 use Rattle.sums.specs.Below.{sum_below}
 use Rattle.sums.specs.Places.{list_below}
 use Rattle.sums.proofs.Places.{get_or-list_below, length-list_below, list_below-more}
@@ -36,6 +35,7 @@ use Rattle.sums.proofs.Lists.{zero_at}
 use Rattle.sums.proofs.Terms.{one_each}
 use Rattle.table_maker.proofs.MadeEntries.{AreTrips, cost_entry, flown, leg_entry, station_entry}
 use Rattle.table_maker.proofs.MadeSchedule.{made_schedule, stations_for}
+use Rattle.table_maker.proofs.RecordsRead.{from_day_start}
 use Rattle.table_maker.proofs.RoundTurns.{back_half, back_partner, back_way, later, one_period, out_half, out_partner, out_way, partner, partner_half, partner_once, partner_way, partner_within}
 
 -- where a leg of a round trip lands, the other leaves
@@ -59,9 +59,13 @@ not_before l k before = grind (arith, nat_tests)
 there : (l : ℕ) → ((2 * l / 2 == l) && (2 * l % 2 == 0)) ≡ true
 there l = grind (arith, nat_tests)
 
-module _ (trips : List RoundTrip) (settings : Settings) (are : AreTrips trips) (settings_fit : AreSettings settings) where
+module _ (trips : List RoundTrip) (settings : Settings) (one : settings.period ≡ 1) (are : AreTrips trips) (settings_fit : AreSettings settings) where
   abbrev t : Tables
-  t = made_schedule trips settings are settings_fit
+  t = made_schedule trips settings one are settings_fit
+
+  one_day : days_in t ≡ 1
+  unfolding days_in
+  one_day = one
 
   abbrev n : ℕ
   n = length trips
@@ -162,7 +166,7 @@ module _ (trips : List RoundTrip) (settings : Settings) (are : AreTrips trips) (
   adds_by_day : (l : ℕ) → add l ≡ adding (leg_of t l).dep (leg_of t (partner l)).dep (busy_minutes t (leg_on l 0)) MINUTES_PER_DAY
   unfolding adding
   adds_by_day l =
-      ap (λ minutes. adding (departure t (leg_on l 0)) (departure t (leg_on (partner l) 0)) (busy_minutes t (leg_on l 0)) minutes) (period_is_day t (each_one_day t))
+      ap (λ minutes. adding (departure t (leg_on l 0)) (departure t (leg_on (partner l) 0)) (busy_minutes t (leg_on l 0)) minutes) (period_is_day t one_day)
       ∙ ap (λ out. adding out (departure t (leg_on (partner l) 0)) (busy_minutes t (leg_on l 0)) MINUTES_PER_DAY) (plain_departure t l 0 (are_plain t))
       ∙ ap (λ next. adding (leg_of t l).dep next (busy_minutes t (leg_on l 0)) MINUTES_PER_DAY) (plain_departure t (partner l) 0 (are_plain t))
 

@@ -13,12 +13,13 @@ use Rattle.fleet_model.specs.declared.parts.Station.{Station}
 use Rattle.fleet_model.specs.declared.parts.Through.{Through}
 use Rattle.fleet_tables.specs.Costs.{cost_read, pair_of}
 use Rattle.fleet_tables.specs.Fleets.{fleet_name_of, fleet_read}
-use Rattle.sched_read.specs.Legs.{block_between, flight_of, from_day_start, leg_read}
+use Rattle.sched_read.specs.Legs.{block_between, flight_of, leg_read}
 use Rattle.sched_read.specs.Throughs.{connection_of, through_read}
 use Rattle.station_table.specs.Stations.{code_of, station_read}
 use Rattle.sums.specs.Places.{list_below}
 use Rattle.sums.proofs.Places.{get_or-list_below, length-list_below}
 use Rattle.table_rows.specs.Names.{is_among}
+use Rattle.table_rows.specs.declared.forms.Form.TheVariants as form
 use Rattle.entries.specs.Names.{IsName}
 use Rattle.table_maker.specs.Fields.{fleet_name, flight_name, is_out, maintains, station_code}
 use Rattle.table_maker.specs.Records.{back_fields, cost_fields, fleet_fields, leg_fields, out_fields, station_fields, through_fields}
@@ -26,7 +27,7 @@ use Rattle.table_maker.specs.Trips.{spokes_for, trip_of}
 use Rattle.table_maker.specs.declared.trips.RoundTrip.{RoundTrip}
 use Rattle.table_maker.proofs.NamesDiffer.{code_is_code, fleet_is_name, fleets_differ, flight_is_name, flights_differ, stations_differ}
 use Rattle.table_maker.proofs.NumberedNames.{fresh, numbered}
-use Rattle.table_maker.proofs.RecordsRead.{cost_one, fleet_one, leg_one, station_one, through_one}
+use Rattle.table_maker.proofs.RecordsRead.{cost_one, fleet_one, from_day_start, leg_one, station_one, through_one}
 
 -- a round trip to one of so many spokes, in the ranges of its draws
 pub record IsRoundTrip (spokes : ℕ) (trip : RoundTrip) : Type 0 where
@@ -94,22 +95,23 @@ not_hub spoke = grind (arith, nat_tests)
 hub_not : (spoke : ℕ) → (0 == suc spoke) ≡ false
 hub_not spoke = grind (arith, nat_tests)
 
-flown_reads : (settings : Settings) (stations : ℕ) (earlier : List (List ℕ)) (flight : List ℕ) (out : Bool) (trip : RoundTrip) → stations ≤ 200 → IsRoundTrip (stations - 1) trip
+flown_reads : (settings : Settings) (stations : ℕ) (earlier : List (List ℕ)) (flight : List ℕ) (out : Bool) (trip : RoundTrip) → settings.period ≡ 1 → stations ≤ 200
+    → IsRoundTrip (stations - 1) trip
     → IsName flight → is_among flight earlier ≡ false → length earlier < 1000
-    → leg_read (list_below station_code stations) settings earlier (flight ∷ (if out then out_fields trip else back_fields trip)) ≡ Ok (flown settings flight out trip)
-flown_reads settings stations earlier flight true trip few is form new room =
+    → leg_read (list_below station_code stations) settings form.Old earlier (flight ∷ (if out then out_fields trip else back_fields trip)) ≡ Ok (flown settings flight out trip)
+flown_reads settings stations earlier flight true trip one few is form new room =
     let hub = numbered station_code stations 0 (stations_differ stations) (omega (arith, is.there)) in
     let spoke = numbered station_code stations (suc trip.spoke) (stations_differ stations) (omega (arith, is.there)) in
     leg_one (list_below station_code stations) settings earlier flight (station_code 0) (station_code (suc trip.spoke)) 0 (suc trip.spoke) trip.departs (trip.departs + trip.block) trip.block
-    form (code_is_code 0 (omega arith)) (code_is_code (suc trip.spoke) (omega (arith, is.there))) hub spoke (hub_not trip.spoke) new room
+    one form (code_is_code 0 (omega arith)) (code_is_code (suc trip.spoke) (omega (arith, is.there))) hub spoke (hub_not trip.spoke) new room
     (between trip.departs (trip.departs + trip.block) trip.block refl (omega (arith, is.block_most))) (some_minutes trip.block is.block_least)
-flown_reads settings stations earlier flight false trip few is form new room =
+flown_reads settings stations earlier flight false trip one few is form new room =
     let hub = numbered station_code stations 0 (stations_differ stations) (omega (arith, is.there)) in
     let spoke = numbered station_code stations (suc trip.spoke) (stations_differ stations) (omega (arith, is.there)) in
     let leaves = trip.departs + trip.block + trip.stay in
     let lands = trip.departs + 2 * trip.block + trip.stay in
     leg_one (list_below station_code stations) settings earlier flight (station_code (suc trip.spoke)) (station_code 0) (suc trip.spoke) 0 leaves lands trip.block
-    form (code_is_code (suc trip.spoke) (omega (arith, is.there))) (code_is_code 0 (omega arith)) spoke hub (not_hub trip.spoke) new room
+    one form (code_is_code (suc trip.spoke) (omega (arith, is.there))) (code_is_code 0 (omega arith)) spoke hub (not_hub trip.spoke) new room
     (between leaves lands trip.block (omega arith) (omega (arith, is.block_most))) (some_minutes trip.block is.block_least)
 
 another_pair : (p q : ℕ) → q < p → bytes_eq ((p / 2) ∷ (p % 2) ∷ []) ((q / 2) ∷ (q % 2) ∷ []) ≡ false
@@ -120,10 +122,10 @@ another_trip i j before = grind (arith, nat_tests)
 
 -- round trips of a list, each to one of the spokes
 module _ (trips : List RoundTrip) (n stations : ℕ) (few : n ≤ 500) (there : stations ≤ 200) (fit : (i : ℕ) → i < n → IsRoundTrip (stations - 1) (trip_of trips i)) where
-  pub leg_reads : (settings : Settings) (l : ℕ) → l < 2 * n
-      → leg_read (list_below station_code stations) settings (list_below (λ j. flight_of (leg_entry settings trips j)) l) (leg_fields trips l) ≡ Ok (leg_entry settings trips l)
-  leg_reads settings l within =
-      flown_reads settings stations (list_below flight_name l) (flight_name l) (is_out l) (trip_of trips (l / 2)) there (fit (l / 2) (omega arith)) (flight_is_name l (omega arith))
+  pub leg_reads : (settings : Settings) → settings.period ≡ 1 → (l : ℕ) → l < 2 * n
+      → leg_read (list_below station_code stations) settings form.Old (list_below (λ j. flight_of (leg_entry settings trips j)) l) (leg_fields trips l) ≡ Ok (leg_entry settings trips l)
+  leg_reads settings one l within =
+      flown_reads settings stations (list_below flight_name l) (flight_name l) (is_out l) (trip_of trips (l / 2)) one there (fit (l / 2) (omega arith)) (flight_is_name l (omega arith))
       (fresh flight_name (2 * n) l (flights_differ (2 * n) (omega arith)) within) (omega (arith, length-list_below flight_name l))
 
   pub cost_reads : (p : ℕ) → p < 4 * n

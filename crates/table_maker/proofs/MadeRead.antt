@@ -11,14 +11,14 @@ use Rattle.table_maker.proofs.MadeSchedule.{made_schedule, schedule_reads}
 
 pub made_read : MadeRead
 unfolding made_tables
-made_read number legs settings can settings_fit =
+made_read number legs settings can settings_fit one =
     let count = legs / 2 in
     let trips = trips_drawn number count in
     let are = trips_fit number count (omega (arith, can.legs_few)) in
     let long : length trips ≡ count = length-list_below (trip_drawn number (spokes_for count)) count in
     let all : 2 * length trips ≡ legs = omega (arith, long, can.legs_even) in
     record {
-      tables = made_schedule trips settings are settings_fit;
-      reads = schedule_reads trips settings are settings_fit;
-      legal = subst (λ m. IsLegal (made_schedule trips settings are settings_fit) (all_on_first m)) all (all_legal trips settings are settings_fit);
+      tables = made_schedule trips settings one are settings_fit;
+      reads = schedule_reads trips settings one are settings_fit;
+      legal = subst (λ m. IsLegal (made_schedule trips settings one are settings_fit) (all_on_first m)) all (all_legal trips settings one are settings_fit);
     }

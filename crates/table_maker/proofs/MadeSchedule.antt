@@ -51,7 +51,7 @@ through_list trips = list_below (through_entry trips) (length trips - 1)
 abbrev bytes : List RoundTrip → TableBytes
 bytes trips = bytes_of (tables_of trips)
 
-module _ (trips : List RoundTrip) (settings : Settings) (are : AreTrips trips) where
+module _ (trips : List RoundTrip) (settings : Settings) (one : settings.period ≡ 1) (are : AreTrips trips) where
   each_fits : (i : ℕ) → i < length trips → IsRoundTrip (stations_for trips - 1) (trip_of trips i)
   each_fits i within = subst (λ spokes. IsRoundTrip spokes (trip_of trips i)) (omega arith) (are.each i within)
 
@@ -62,7 +62,7 @@ module _ (trips : List RoundTrip) (settings : Settings) (are : AreTrips trips) w
   unfolding tables_of
   legs_read =
       subst (λ names. LegsRead names settings (records_of (bytes trips).legs) (leg_list settings trips)) (sym (map-list_below code_of station_entry (stations_for trips)))
-      (legs_back trips (length trips) (stations_for trips) are.few stations_few each_fits settings)
+      (legs_back trips (length trips) (stations_for trips) are.few stations_few each_fits settings one)
 
   flights_are : map flight_of (leg_list settings trips) ≡ list_below flight_name (2 * length trips)
   flights_are = map-list_below flight_of (leg_entry settings trips) (2 * length trips)
@@ -80,7 +80,7 @@ module _ (trips : List RoundTrip) (settings : Settings) (are : AreTrips trips) w
       (throughs_back trips (length trips) (stations_for trips) are.few stations_few each_fits)
 
   module _ (settings_fit : AreSettings settings) where
-    pub legs_fit : AreLegs (length (station_list trips)) (leg_list settings trips)
+    pub legs_fit : AreLegs (length (station_list trips)) settings.period (leg_list settings trips)
     legs_fit = legs_keep (station_list trips) settings (records_of (bytes trips).legs) (leg_list settings trips) legs_read
 
     pub costs_fit : AreCosts (length (leg_list settings trips)) (length (fleet_list trips)) (cost_list trips)

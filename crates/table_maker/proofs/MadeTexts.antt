@@ -21,6 +21,7 @@ use Rattle.table_maker.proofs.NamesDiffer.{code_is_code, code_is_name, fleet_is_
 use Rattle.table_maker.proofs.NumberedNames.{rows_read}
 use Rattle.table_maker.proofs.PlainRows.{IsPlain, IsPlainRow, table_back}
 use Rattle.table_rows.specs.Rows.{Fields}
+use Rattle.table_rows.specs.declared.forms.Form.TheVariants as form
 
 code_plain : (station : ℕ) → station ≤ 676 → IsPlain (station_code station)
 code_plain station few = (name_kept (station_code station) (code_is_name (station_code station) (code_is_code station few))).plain
@@ -90,12 +91,17 @@ module _ (trips : List RoundTrip) (n stations : ℕ) (few : n ≤ 500) (there : 
       let small = (fit i (omega arith)).value_fits in
       (flight_plain (2 * i + 1) (omega arith), (flight_plain (2 * i + 2) (omega arith), (number_plain (trip_of trips i).value (omega (arith, small)), tt)))
 
-  pub legs_back : (settings : Settings)
+  -- by the header without days, which a period of one day allows
+  pub legs_back : (settings : Settings) → settings.period ≡ 1
       → LegsRead (list_below station_code stations) settings (records_of (table_text leg_header (leg_fields trips) (2 * n))) (list_below (leg_entry settings trips) (2 * n))
-  legs_back settings =
+  legs_back settings one =
       let back = table_back (leg_fields trips) leg_header (2 * n) (no_mark_legs (leg_fields trips) (2 * n)) (refl, (refl, (refl, (refl, (refl, tt))))) leg_plain in
-      rows_read flight_of (leg_read (list_below station_code stations) settings) leg_header _ (leg_fields trips) (leg_entry settings trips) (2 * n) back
-      (leg_reads trips n stations few there fit settings)
+      record {
+        found = form.Old;
+        allowed = rw one refl;
+        table = rows_read flight_of (leg_read (list_below station_code stations) settings form.Old) leg_header _ (leg_fields trips) (leg_entry settings trips) (2 * n) back
+            (leg_reads trips n stations few there fit settings one);
+      }
 
   pub costs_back
       : CostsRead (list_below flight_name (2 * n)) (list_below fleet_name 2) (records_of (table_text cost_header (cost_fields trips) (4 * n))) (list_below (cost_entry trips) (4 * n))

@@ -1,5 +1,5 @@
 -- What holds of the tables that are made: they read, and the first fleet may fly all their legs.
-use Rattle.std.specs.Prelude.{ℕ, ◌≤◌, List, length, replicate}
+use Rattle.std.specs.Prelude.{◌≡◌, ℕ, ◌≤◌, List, length, replicate}
 use Rattle.fleet_model.specs.Legal.{IsLegal}
 use Rattle.fleet_model.specs.Limits.{AreSettings}
 use Rattle.fleet_model.specs.declared.parts.Settings.{Settings}
@@ -22,8 +22,9 @@ pub record AreFlyable (made : MadeTables) (legs : ℕ) (settings : Settings) : T
   pub reads : Reads (bytes_of made) settings tables
   pub legal : IsLegal tables (all_on_first legs)
 
+-- by any settings of a period of one day
 abbrev pub MadeRead : Type 0
-MadeRead = (number legs : ℕ) (settings : Settings) → CanBeMade number legs → AreSettings settings → AreFlyable (made_tables number legs) legs settings
+MadeRead = (number legs : ℕ) (settings : Settings) → CanBeMade number legs → AreSettings settings → settings.period ≡ 1 → AreFlyable (made_tables number legs) legs settings
 
 -- no text is longer than a file of tables may be
 pub record AreShort (made : MadeTables) : Type 0 where

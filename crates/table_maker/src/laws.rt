@@ -2,7 +2,7 @@
 //! and it does nothing.
 ghost use Rattle.table_maker.specs.Laws.{MadeRead, MadeShort};
 
-/// Made tables read, by any settings, and all their legs on the first fleet are a legal assignment.
+/// Made tables read, by any settings of a period of one day, and all their legs on the first fleet are a legal assignment.
 pub fn made_read()
     ensures { MadeRead }
 {}

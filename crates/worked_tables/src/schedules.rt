@@ -1,7 +1,7 @@
 //! Sets of tables, as the bytes of their files.
-ghost use Rattle.std.specs.Prelude.{◌<◌};
+ghost use Rattle.std.specs.Prelude.{◌<◌, ◌≤◌};
 ghost use Rattle.fleet_model.specs.Limits.{AreSettings};
-ghost use Rattle.fleet_model.specs.declared.limits.TheConstants.{MINUTES_PER_DAY};
+ghost use Rattle.fleet_model.specs.declared.limits.TheConstants.{MAX_DAYS, MINUTES_PER_DAY};
 
 use fleet_model::{LoadError, Settings, Tables};
 use sched_read::load;
@@ -108,6 +108,14 @@ pub const MEETING_TRIPS: Files = Files {
     throughs: NO_THROUGHS,
 };
 
+/// The round trip of one fleet, there on the first day of two and back on the second.
+pub const OVER_TWO_DAYS: Files = Files {
+    fleets: b"fleet,aircraft,turn\nF1,1,30\n",
+    legs: b"flight,day,from,dep,to,arr\nX1,1,AAA,08:00,BBB,09:00\nX2,2,BBB,10:00,AAA,11:00\n",
+    costs: b"flight,fleet,cost\nX1,F1,100\nX2,F1,100\n",
+    ..ROUND_TRIP
+};
+
 /// A station and fleets, and no leg.
 pub const NO_LEGS: Files = Files {
     stations: b"code,extra,maintenance\nAAA,0,yes\n",
@@ -117,25 +125,43 @@ pub const NO_LEGS: Files = Files {
     throughs: NO_THROUGHS,
 };
 
-/// Settings with this day start.
+/// Settings with this day start and a period of one day.
 pub fn starting(day_start: u16) -> Settings
     requires { day_start < MINUTES_PER_DAY }
+    ensures { AreSettings result }
+{
+    repeating(day_start, 1)
+}
+
+/// Settings with this day start and a period of so many days.
+pub fn repeating(day_start: u16, period: u16) -> Settings
+    requires day_start { day_start < MINUTES_PER_DAY }
+    requires some_days { 1 ≤ period }
+    requires few_days { period ≤ MAX_DAYS }
     ensures { AreSettings result }
 {
     Settings {
         day_start,
         through_max: 60,
+        period,
     }
 }
 
-/// The tables of five files, with the day start at midnight.
+/// The tables of five files, with the day start at midnight and a period of one day.
 pub fn read(alloc: Global, files: &Files) -> Result<Tables, LoadError> {
     read_from(alloc, files, 0)
 }
 
-/// The tables of five files, with this day start.
+/// The tables of five files, with this day start and a period of one day.
 pub fn read_from(alloc: Global, files: &Files, day_start: u16) -> Result<Tables, LoadError>
     requires { day_start < MINUTES_PER_DAY }
+{
+    read_by(alloc, files, starting(day_start))
+}
+
+/// The tables of five files, by these settings.
+pub fn read_by(alloc: Global, files: &Files, settings: Settings) -> Result<Tables, LoadError>
+    requires { AreSettings settings }
 {
     load(
         alloc,
@@ -144,6 +170,6 @@ pub fn read_from(alloc: Global, files: &Files, day_start: u16) -> Result<Tables,
         files.legs,
         files.costs,
         files.throughs,
-        starting(day_start),
+        settings,
     )
 }

@@ -1,6 +1,6 @@
-use Rattle.std.proofs.Common.{◌≡◌, ◌∙◌, sym, subst, length, rules}
+use Rattle.std.proofs.Common.{◌≡◌, ◌∙◌, [], ap, sym, subst, length, rules}
 use Rattle.std.proofs.lemmas.Int.{to_z-of_z}
-use mir.Val.{SFits}
+use mir.Val.{SFits, of_z, to_z}
 use mir.Syntax.{w128}
 use Rattle.fleet_model.specs.Schedule.{stations_in}
 use Rattle.island_prices.specs.Rounds.{AreSmall}
@@ -20,5 +20,8 @@ rents-requires-clause-rounds c = subst AreSmall (sym c.in_ok-rounds.ensures) (ar
 pub returns : goal.returns
 returns c =
     let fs : SFits w128 c.args.prices.now.scale = search rules in
+    let empty : c.from_vec-3.result ≡ [] = c.from_vec-3.ensures ∙ c.new-3.ensures.items in
+    let paid =
     paid_from c.args.tables.now c.args.prices.now c.new-2.result c.args.rises.now c.args.least c.in_ok-rounds.rounds _ _ _ c.new-2.ensures c.in_ok-rounds.ensures (to_z-of_z w128 c.args.prices.now.scale fs)
-    (c.from_vec.ensures ∙ c.in_ok-rents.ensures) (c.in_ok-steps.ensures.steps.0, c.from_vec-2.ensures ∙ c.in_ok-steps.ensures.steps.1)
+    (c.from_vec.ensures ∙ c.in_ok-rents.ensures) (c.in_ok-steps.ensures.steps.0, c.from_vec-2.ensures ∙ c.in_ok-steps.ensures.steps.1) in
+    (paid.0, ap (λ charges. record { scale = to_z w128 (of_z w128 c.args.prices.now.scale); rents = c.from_vec.result; steps = c.from_vec-2.result; charges = charges }) empty ∙ paid.1)

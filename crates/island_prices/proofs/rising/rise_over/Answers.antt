@@ -1,5 +1,5 @@
 use Rattle.std.proofs.Common.{◌≤◌, ◌+◌, length, sym, ◌∙◌, arith}
-use Rattle.island_prices.proofs.Arcs.{rise_at_last}
+use Rattle.island_prices.proofs.ArcSteps.{rise_at_last}
 use Rattle.island_prices.proofs.Numbers.{three_taken}
 use Rattle.island_prices.proofs.rising.rise_over.Goals as goal
 

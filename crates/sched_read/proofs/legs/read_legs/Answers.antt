@@ -1,8 +1,11 @@
-use Rattle.std.proofs.lemmas.Result.{MatchResult-weaker}
-use Rattle.sched_read.proofs.LegsFit.{legs_keep}
+use Rattle.std.specs.Prelude.{◌==◌, map}
+use Rattle.fleet_model.specs.declared.refusals.TableFile.TheVariants as file
+use Rattle.sched_read.specs.Legs.{flight_of, leg_headers, leg_read}
+use Rattle.station_table.specs.Stations.{code_of}
+use Rattle.table_rows.proofs.FormReading.{formless_refused}
 use Rattle.sched_read.proofs.legs.read_legs.Goals as goal
 
-pub returns-clause-kept : goal.returns-clause-kept
-returns-clause-kept c =
-    let reads = rw (c.in_ok-reader.ensures.codes, c.in_ok-reader.ensures.settings) at c.read_table.ensures in
-    MatchResult-weaker c.read_table.result reads (λ legs reads. legs_keep c.args.stations.now c.args.settings _ legs.items reads) (λ _ _. tt)
+pub returns-clause-reads : goal.returns-clause-reads
+returns-clause-reads c =
+    formless_refused flight_of (leg_read (map code_of c.args.stations.now) c.args.settings) leg_headers (c.args.settings.period == 1) file.Legs _ _
+    (rw (← c.in_ok-records.ensures, ← c.deref.ensures.value) c.in-None.ensures) c.without_header.ensures

@@ -1,0 +1,225 @@
+-- On a date fly the legs of its day of the period, each once.
+use Rattle.std.proofs.Common.{◌≡◌, ℕ, zero, suc, ◌+◌, ◌-◌, ◌*◌, ◌/◌, ◌%◌, ◌<◌, ◌≤◌, ◌==◌, Bool, true, false, if◌then◌else◌, IsPermutation, List, [], ◌∷◌, ◌++◌, length, slice_index, get_or, refl, sym, ◌∙◌, ap, subst, subst₂, inl, inr, arith, mod-eq_of_lt}
+use Rattle.std.specs.List.{concat, filter}
+use Rattle.std.proofs.Math.Nat.{div-add-mod, mod-lt, mul-le-mul_left}
+use Rattle.std.proofs.lemmas.Bool.{cases_Bool}
+use Rattle.std.proofs.lemmas.Bool.Decides.{nat_tests}
+use Rattle.std.proofs.lemmas.List.{append-nil}
+use Rattle.std.proofs.lemmas.List.Elements.{filter-append}
+use Rattle.std.proofs.lemmas.Nat.{mod-mul-add, mod_below}
+use Rattle.fleet_model.specs.declared.limits.TheConstants.{MINUTES_PER_DAY}
+use Rattle.fleet_model.specs.declared.parts.Connection.{Connection}
+use Rattle.fleet_model.specs.declared.tables.Tables.{Tables}
+use Rattle.fleet_model.specs.Counts.{weights_of}
+use Rattle.fleet_model.specs.Schedule.{days_in, leg_on, period_of}
+use Rattle.fleet_model.specs.Times.{departure}
+use Rattle.fleet_model.specs.Use.{used_of}
+use Rattle.fleet_model.proofs.PeriodMinutes.{days_are_period, some_days}
+use Rattle.fleet_model.proofs.PlainTables.{plain_departs}
+use Rattle.ground_turns.specs.Maps.{IsTour, no_turn, periods_in_turn, turn_after, turn_at, turns_round}
+use Rattle.ground_turns.specs.Nights.{nights_in}
+use Rattle.ground_turns.specs.Turns.{departs_at}
+use Rattle.ground_turns.proofs.TourNights.{nights_by_days}
+use Rattle.lines_of_flying.specs.Lines.{BeginsAfterStart, day_of, days_of_tour, legs_on_day, lines_of, nights_after, periods_after}
+use Rattle.lines_of_flying.proofs.TourLines.{days_are_use, known_legs}
+use Rattle.lines_of_flying.proofs.WholeTours.{joined_all, joined_more, lines_are_tour}
+use Rattle.rotation_report.specs.TailLaws.{EachLegOnItsDay, departs_on, flown_on}
+use Rattle.rotation_report.specs.Tails.{line_on, lines_by}
+use Rattle.rotation_report.proofs.RoundLines.{all_once, round_from, some}
+use Rattle.sums.specs.Below.{sum_below}
+use Rattle.sums.specs.Places.{list_below}
+use Rattle.sums.proofs.Naturals.{equal_number}
+use Rattle.sums.proofs.NumberTests.{greater_differs, less_differs}
+use Rattle.sums.proofs.Places.{get_or-list_below, length-list_below, list_below-agree}
+
+-- ---- one list in each block of as many
+
+-- a list where a test holds
+abbrev where_so : Bool → List ℕ → List ℕ
+where_so true xs = xs
+where_so false xs = []
+
+where_so-append : (b : Bool) (xs ys : List ℕ) → where_so b xs ++ where_so b ys ≡ where_so b (xs ++ ys)
+where_so-append true xs ys = refl
+where_so-append false xs ys = refl
+
+where_so-nil : (b : Bool) → [] ≡ where_so b []
+where_so-nil true = refl
+where_so-nil false = refl
+
+-- the lists at one place of each block
+module _ (g : ℕ → List ℕ) (place size : ℕ) (within : place < size) where
+  at_place : ℕ → List ℕ
+  at_place n = where_so (n % size == place) (g n)
+
+  rest_of : (m i : ℕ) → i < size → (m * size + i) % size ≡ i
+  rest_of m i below = mod-mul-add m size i below
+
+  at_other : (m i : ℕ) → i < size → (i == place) ≡ false → at_place (m * size + i) ≡ []
+  unfolding at_place
+  at_other m i below other = ap (λ r. where_so (r == place) (g (m * size + i))) (rest_of m i below) ∙ ap (λ b. where_so b (g (m * size + i))) other
+
+  one_block : (m : ℕ) → concat (list_below at_place (suc m * size)) ≡ concat (list_below at_place (m * size)) ++ g (m * size + place)
+  unfolding at_place
+  one_block m =
+      let whole : suc m * size ≡ suc (m * size + place) + (size - suc place) = parted m size place within in
+      ap (λ n. concat (list_below at_place n)) whole
+      ∙ joined_all at_place (suc (m * size + place)) (size - suc place) (λ k below. later k below)
+      ∙ joined_more at_place (m * size + place)
+      ∙ ap (λ xs. xs ++ at_place (m * size + place)) (joined_all at_place (m * size) place (λ k below. at_other m k (omega (arith, below, within)) (less_differs k place below)))
+      ∙ ap (λ xs. concat (list_below at_place (m * size)) ++ xs) here
+    where
+      parted : (m size place : ℕ) → place < size → suc m * size ≡ suc (m * size + place) + (size - suc place)
+      parted m size place within = omega (arith, within, next m size)
+        where
+          next : (m size : ℕ) → suc m * size ≡ m * size + size
+          next m size = grind arith
+
+      moved : (k : ℕ) → suc (m * size + place) + k ≡ m * size + (suc place + k)
+      moved k = omega arith
+
+      later : (k : ℕ) → k < size - suc place → at_place (suc (m * size + place) + k) ≡ []
+      later k below = ap at_place (moved k) ∙ at_other m (suc place + k) (omega (arith, below, within)) (greater_differs (suc place + k) place (omega arith))
+
+      here : at_place (m * size + place) ≡ g (m * size + place)
+      here = ap (λ r. where_so (r == place) (g (m * size + place))) (rest_of m place within) ∙ ap (λ b. where_so b (g (m * size + place))) (equal_number place place refl)
+
+  pub one_each_block : (n : ℕ) → concat (list_below at_place (n * size)) ≡ concat (list_below (λ m. g (m * size + place)) n)
+  one_each_block zero = ap (λ n. concat (list_below at_place n)) (none size)
+    where
+      none : (size : ℕ) → 0 * size ≡ 0
+      none size = omega arith
+  one_each_block (suc n) =
+      one_block n ∙ ap (λ xs. xs ++ g (n * size + place)) (one_each_block n) ∙ sym (joined_more (λ m. g (m * size + place)) n)
+
+filter-joined : (q : ℕ → Bool) (g : ℕ → List ℕ) (n : ℕ) → filter q (concat (list_below g n)) ≡ concat (list_below (λ k. filter q (g k)) n)
+filter-joined q g zero = refl
+filter-joined q g (suc n) =
+    ap (filter q) (joined_more g n) ∙ filter-append q (concat (list_below g n)) (g n)
+    ∙ ap (λ xs. xs ++ filter q (g n)) (filter-joined q g n) ∙ sym (joined_more (λ k. filter q (g k)) n)
+
+-- so many blocks further, going round
+turned_block : (blocks size place x : ℕ) → place < size → 0 < blocks → (x * size + place) % (blocks * size) ≡ (x % blocks) * size + place
+turned_block blocks size place x within some =
+    let rounds = x / blocks in
+    let rest = x % blocks in
+    let less : rest < blocks = mod-lt x blocks some in
+    let room : suc rest * size ≤ blocks * size = mul-le-mul_right rest blocks size less in
+    let small : rest * size + place < blocks * size = omega (arith, room, next rest size, within) in
+    ap (λ n. n % (blocks * size)) (ap (λ y. y * size + place) (sym (div-add-mod x blocks)) ∙ apart rounds rest blocks size place)
+    ∙ mod-mul-add rounds (blocks * size) (rest * size + place) small
+  where
+    next : (rest size : ℕ) → suc rest * size ≡ rest * size + size
+    next rest size = grind arith
+
+    apart : (rounds rest blocks size place : ℕ) → (rounds * blocks + rest) * size + place ≡ rounds * (blocks * size) + (rest * size + place)
+    apart rounds rest blocks size place = grind arith
+
+    mul-le-mul_right : (a b c : ℕ) → a < b → suc a * c ≤ b * c
+    mul-le-mul_right a b c less = subst₂ (λ m n. m ≤ n) (swapped c (suc a)) (swapped c b) (mul-le-mul_left c less)
+
+    swapped : (m n : ℕ) → m * n ≡ n * m
+    swapped m n = grind arith
+
+-- ---- the days of a tour's legs
+
+-- what the law of nights by days says of a turn
+abbrev TurnByDays : Tables → ℕ → Connection → Type 0
+TurnByDays t f turn = nights_in t f turn + departure t (leg_on turn.arriving f) / MINUTES_PER_DAY ≡ days_in t * periods_in_turn t f turn + departs_at t f turn / MINUTES_PER_DAY
+
+stepped : (days day dep nights periods next before : ℕ) → day ≡ dep + days * before → nights + dep ≡ days * periods + next → day + nights ≡ next + days * (before + periods)
+stepped days day dep nights periods next before is law = grind arith
+
+in_days : (dep minutes days : ℕ) → minutes ≡ days * MINUTES_PER_DAY → dep < minutes → dep / MINUTES_PER_DAY < days
+in_days dep minutes days whole within = omega (arith, whole, within)
+
+module _ (t : Tables) (a : List ℕ) (f : ℕ) (tour : List ℕ) (is : IsTour t a f tour) (begins : BeginsAfterStart t f tour) where
+  days : ℕ
+  days = days_in t
+
+  used : ℕ
+  used = used_of t (weights_of a) f
+
+  -- the day of the period on which a leg departs
+  own_day : ℕ → ℕ
+  own_day k = departure t (leg_on (slice_index tour k) f) / MINUTES_PER_DAY
+
+  own_day_within : (k : ℕ) → k < length tour → own_day k < days
+  unfolding days own_day
+  own_day_within k below =
+      in_days (departure t (leg_on (slice_index tour k) f)) (period_of t) (days_in t) (days_are_period t)
+      (plain_departs t (slice_index tour k) f is.fitting.map.plain ((known_legs t a f tour is).each k below))
+
+  -- a leg's day, counted from the period's start before the first leg, is its own in a later period
+  day_is : (k : ℕ) → k < length tour → day_of t f tour k ≡ own_day k + days * sum_below (periods_after t f tour) k
+  unfolding nights_after periods_after days own_day
+  day_is zero below = omega arith
+  day_is (suc k) below =
+      let within : k < length (turns_round tour) = rw (length-list_below (turn_after tour) (length tour)) (omega (arith, below)) in
+      let there : turn_at (turns_round tour) k ≡ turn_after tour k = get_or-list_below (turn_after tour) (length tour) k no_turn (omega (arith, below)) in
+      let law = subst (TurnByDays t f) there (nights_by_days t a f (turns_round tour) k is.fitting.map within) in
+      let next : departs_at t f (turn_after tour k) ≡ departure t (leg_on (slice_index tour (suc k)) f) = ap (λ n. departure t (leg_on (slice_index tour n) f)) (mod-eq_of_lt below) in
+      let turned = law ∙ ap (λ dep. days_in t * periods_in_turn t f (turn_after tour k) + dep / MINUTES_PER_DAY) next in
+      after k ∙ stepped (days_in t) (day_of t f tour k) (own_day k) (nights_in t f (turn_after tour k)) (periods_in_turn t f (turn_after tour k)) (own_day (suc k))
+      (sum_below (periods_after t f tour) k) (day_is k (omega (arith, below))) turned
+    where
+      after : (k : ℕ) → day_of t f tour (suc k) ≡ day_of t f tour k + nights_after t f tour k
+      after k = omega arith
+
+  day_in_period : (k : ℕ) → k < length tour → day_of t f tour k % days ≡ own_day k
+  day_in_period k below = ap (λ d. d % days) (day_is k below ∙ turned (own_day k) days (sum_below (periods_after t f tour) k)) ∙ mod-mul-add (sum_below (periods_after t f tour) k) days (own_day k) (own_day_within k below)
+    where
+      turned : (own days more : ℕ) → own + days * more ≡ more * days + own
+      turned own days more = grind arith
+
+  -- of the first legs of a line those that depart on a day of the period: all or none
+  own_legs : (day n : ℕ) → n ≤ length tour → (d : ℕ) → filter (departs_on t f day) (legs_on_day t f tour d n) ≡ where_so (d % days == day) (legs_on_day t f tour d n)
+  own_legs day zero few d = where_so-nil (d % days == day)
+  own_legs day (suc n) few d =
+      filter-append (departs_on t f day) (legs_on_day t f tour d n) (if day_of t f tour n == d then slice_index tour n ∷ [] else [])
+      ∙ ap (λ xs. xs ++ filter (departs_on t f day) (if day_of t f tour n == d then slice_index tour n ∷ [] else [])) (own_legs day n (omega (arith, few)) d)
+      ∙ ap (λ xs. where_so (d % days == day) (legs_on_day t f tour d n) ++ xs) (elim (cases_Bool (day_of t f tour n == d)) [
+        | inl same ↦ rw same (its_own (same_day same))
+        | inr other ↦ rw other (where_so-nil (d % days == day))
+      ])
+      ∙ where_so-append (d % days == day) (legs_on_day t f tour d n) (if day_of t f tour n == d then slice_index tour n ∷ [] else [])
+    where
+      same_day : (day_of t f tour n == d) ≡ true → departs_on t f day (slice_index tour n) ≡ (d % days == day)
+      unfolding own_day
+      same_day same =
+          let is_day : day_of t f tour n ≡ d = eqb-true same in
+          ap (λ own. own == day) (sym (day_in_period n few)) ∙ ap (λ m. m % days == day) is_day
+
+      kept : (b : Bool) (l : ℕ) → (if b then l ∷ [] else []) ≡ where_so b (l ∷ [])
+      kept true l = refl
+      kept false l = refl
+
+      its_own : departs_on t f day (slice_index tour n) ≡ (d % days == day) → filter (departs_on t f day) (slice_index tour n ∷ []) ≡ where_so (d % days == day) (slice_index tour n ∷ [])
+      its_own own = kept (departs_on t f day (slice_index tour n)) (slice_index tour n) ∙ ap (λ b. where_so b (slice_index tour n ∷ [])) own
+
+  line : ℕ → List ℕ
+  line d = legs_on_day t f tour d (length tour)
+
+  all_days : days_of_tour t f tour ≡ used * days
+  unfolding used days
+  all_days = sym (length-list_below (λ d. legs_on_day t f tour d (length tour)) (days_of_tour t f tour)) ∙ days_are_use t a f tour is
+
+  -- the legs of a day of the period stand in one line of each period
+  legs_by_lines : (day : ℕ) → day < days → concat (list_below (λ m. line (m * days + day)) used) ≡ filter (departs_on t f day) tour
+  unfolding line
+  legs_by_lines day within =
+      sym (ap (filter (departs_on t f day)) (sym (lines_are_tour t f tour a is begins))
+      ∙ filter-joined (departs_on t f day) line (days_of_tour t f tour)
+      ∙ ap concat (list_below-agree (λ d. filter (departs_on t f day) (line d)) (λ d. where_so (d % days == day) (line d)) (days_of_tour t f tour) (λ d below. own_legs day (length tour) (omega arith) d))
+      ∙ ap (λ n. concat (list_below (λ d. where_so (d % days == day) (line d)) n)) all_days
+      ∙ one_each_block line day days within used)
+
+  some_used : 0 < used
+  unfolding used
+  some_used = elim (cases_lt 0 used) [
+    | inl aircraft ↦ aircraft
+    | inr none ↦ absurd (omega (arith, some t a f tour is begins, none_at_all used days (omega (arith, none)), days_are_use t a f tour is))
+  ]
+
+pub each_leg_on_its_day : EachLegOnItsDay
+each_leg_on_its_day t a f tour d is begins = ?
