@@ -49,9 +49,8 @@ def explain(hint, command, call, said):
 
 def tell_solve(hint, command, call):
     """Shows the words that find a legal plan."""
-    start = ["--day-start", call.given["day-start"][0]] if "day-start" in call.given else []
     hint.say("solve looks for a legal plan, which takes the place of this one:")
-    hint.show(typed([command, "solve", call.folder, *start]))
+    hint.show(typed([command, "solve", call.folder, *call.reading()]))
 
 
 def schedule_of(call):

@@ -51,7 +51,7 @@ prices_are t prices is =
 mixed_are : (t : Tables) (mixed : Mixed) → IsMixedOf t mixed → All (IsNamed t) (mixed_lines mixed)
 mixed_are t mixed is =
     All-cons (IsNamed t) (says.Mixed mixed.scale) (map weight_line mixed.weights) tt
-    (All-map (IsNamed t) weight_line mixed.weights (All-weaker (IsWeightOf t) (λ entry. IsNamed t (weight_line entry)) (λ entry is. (is.leg, is.choice)) mixed.weights is))
+    (All-map (IsNamed t) weight_line mixed.weights (All-weaker (IsWeightOf t) (λ entry. IsNamed t (weight_line entry)) (λ entry is. is) mixed.weights is))
 
 cause_are : (t : Tables) (why : Cause) → IsCauseOf t why → All (IsNamed t) (open_line why ∷ cause_lines why)
 cause_are t (cause.Nodes mixed) is = All-cons (IsNamed t) says.OpenNodes (mixed_lines mixed) tt (mixed_are t mixed is)
@@ -68,9 +68,9 @@ node_is t (tree.Open prices why) is =
     let of_cause = cause_are t why is.1 in
     All-cons (IsNamed t) (open_line why) (price_lines t prices ++ cause_lines why) (All-head (IsNamed t) (open_line why) (cause_lines why) of_cause)
     (All-append (IsNamed t) (price_lines t prices) (cause_lines why) (prices_are t prices is.0) (All-tail (IsNamed t) (open_line why) (cause_lines why) of_cause))
-node_is t (tree.Trim' leg fleet p with_pair q without) is = one_line t (says.Trim leg fleet) (is.0.leg, is.0.choice)
+node_is t (tree.Trim' leg fleet p with_pair q without) is = one_line t (says.Trim leg fleet) is.0
 node_is t (tree.Split' leg fleet prices mixed p with_pair q without) is =
-    All-cons (IsNamed t) (says.Split leg fleet) (price_lines t prices ++ mixed_lines mixed) (is.0.leg, is.0.choice)
+    All-cons (IsNamed t) (says.Split leg fleet) (price_lines t prices ++ mixed_lines mixed) is.0
     (All-append (IsNamed t) (price_lines t prices) (mixed_lines mixed) (prices_are t prices is.1) (mixed_are t mixed is.2))
 
 three : (t : Tables) (xs ys zs : List Line) → All (IsNamed t) xs → All (IsNamed t) ys → All (IsNamed t) zs → All (IsNamed t) (xs ++ (ys ++ zs))

@@ -163,9 +163,9 @@ module _ (t : Tables) where
       by_node (node.Priced prices) order text some = absurd (omega (arith, some))
       by_node (node.Open prices why) order text some = absurd (omega (arith, some))
       by_node (node.Trim leg fleet) order text some =
-          ap (λ y. is_inner_line y) (first_same x (line_bytes t (says.Trim leg fleet)) _ _ text) ∙ inner_line (says.Trim leg fleet) (order.leg, order.choice) refl
+          ap (λ y. is_inner_line y) (first_same x (line_bytes t (says.Trim leg fleet)) _ _ text) ∙ inner_line (says.Trim leg fleet) order refl
       by_node (node.Split leg fleet prices mixed) order text some =
-          ap (λ y. is_inner_line y) (first_same x (line_bytes t (says.Split leg fleet)) _ _ text) ∙ inner_line (says.Split leg fleet) (order.0.leg, order.0.choice) refl
+          ap (λ y. is_inner_line y) (first_same x (line_bytes t (says.Split leg fleet)) _ _ text) ∙ inner_line (says.Split leg fleet) order.0 refl
 
   inner_counts : (above : ℕ) (x : List ℕ) (p a : Left) (read : Node × Left) → node_at (names t) above (x ∷ a) ≡ Ok read → inner_of read.0 + count_by is_inner_line p ≤ count_by is_inner_line (x ∷ p)
   inner_counts above x p a read e = by_size (inner_of read.0) refl
@@ -189,9 +189,9 @@ module _ (t : Tables) where
   lines_count (node.Refuted prices) order = omega arith
   lines_count (node.Priced prices) order = omega arith
   lines_count (node.Open prices why) order = omega arith
-  lines_count (node.Trim leg fleet) order = omega (arith, count_inner (line_bytes t (says.Trim leg fleet)) [] (inner_line (says.Trim leg fleet) (order.leg, order.choice) refl))
+  lines_count (node.Trim leg fleet) order = omega (arith, count_inner (line_bytes t (says.Trim leg fleet)) [] (inner_line (says.Trim leg fleet) order refl))
   lines_count (node.Split leg fleet prices mixed) order =
-      omega (arith, count_inner (line_bytes t (says.Split leg fleet)) (texts t (price_lines t prices ++ mixed_lines mixed)) (inner_line (says.Split leg fleet) (order.0.leg, order.0.choice) refl))
+      omega (arith, count_inner (line_bytes t (says.Split leg fleet)) (texts t (price_lines t prices ++ mixed_lines mixed)) (inner_line (says.Split leg fleet) order.0 refl))
 
   node_counts : (above : ℕ) (n : Node) (p rest end : Left) → node_at (names t) above (p ++ end) ≡ Ok (n, rest ++ end) → inner_of n + count_by is_inner_line rest ≤ count_by is_inner_line p
   node_counts above n p rest end e =

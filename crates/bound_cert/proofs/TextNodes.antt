@@ -84,14 +84,14 @@ module _ (t : Tables) where
   mixed_node_was fraction.Nodes prices mixed rest middle behind order other e f is =
       record { order = (order, (other)); text = prices_and_mixed says.OpenNodes prices mixed rest middle behind e f }
   mixed_node_was (fraction.Split leg fleet) prices mixed rest middle behind order other e f is =
-      record { order = (record { leg = is.named.0; choice = is.named.1 }, order, other); text = prices_and_mixed (says.Split leg fleet) prices mixed rest middle behind e f }
+      record { order = (is.named, order, other); text = prices_and_mixed (says.Split leg fleet) prices mixed rest middle behind e f }
 
   body_was : (h : Head) (rest : Left) (read : Node × Left) → body_at (names t) h rest ≡ Ok read → IsLineOf t (first_line h) → BodyWas t h rest read
   unfolding body_at
   body_was (head.Alone (alone.Bare leg)) rest read e is = subst (λ r. BodyWas t (head.Alone (alone.Bare leg)) rest r) (ok_same (node.Bare leg, rest) read e) (record { order = is.named; text = refl })
   body_was (head.Alone alone.Sole) rest read e is = subst (λ r. BodyWas t (head.Alone alone.Sole) rest r) (ok_same (node.Sole, rest) read e) (record { order = tt; text = refl })
   body_was (head.Alone (alone.Trim leg fleet)) rest read e is =
-      subst (λ r. BodyWas t (head.Alone (alone.Trim leg fleet)) rest r) (ok_same (node.Trim leg fleet, rest) read e) (record { order = record { leg = is.named.0; choice = is.named.1 }; text = refl })
+      subst (λ r. BodyWas t (head.Alone (alone.Trim leg fleet)) rest r) (ok_same (node.Trim leg fleet, rest) read e) (record { order = is.named; text = refl })
   body_was (head.Priced h) rest read e is =
       let prices = goes (prices_at (names t) rest) _ read e in
       let was = prices_were t rest prices.value prices.is in

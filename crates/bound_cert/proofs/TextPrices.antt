@@ -129,6 +129,6 @@ module _ (t : Tables) where
       let was = subst (LineIs t left) is.line_is (line_was t due.Weight left line.value line.is) in
       record {
         line_is = was;
-        order = record { pair = record { leg = was.of_tables.named.0; choice = was.of_tables.named.1 }; weight = was.of_tables.figures };
+        order = record { pair = was.of_tables.named; weight = was.of_tables.figures };
         follows = is.follows;
       }

@@ -158,7 +158,7 @@ module _ (t : Tables) where
   pub node_reads : (n : Node) → IsNodeInOrder t n → NodeReads n
   node_reads (node.Bare leg) is = alone_reads (alone.Bare leg) refl (record { named = is; figures = tt })
   node_reads node.Sole is = alone_reads alone.Sole refl (record { named = tt; figures = tt })
-  node_reads (node.Trim leg fleet) is = alone_reads (alone.Trim leg fleet) refl (record { named = (is.leg, is.choice); figures = tt })
+  node_reads (node.Trim leg fleet) is = alone_reads (alone.Trim leg fleet) refl (record { named = is; figures = tt })
   node_reads (node.Refuted prices) is = priced_reads priced.Refuted prices (ap (λ lines. says.Refuted ∷ lines) (sym (append-nil (price_lines t prices)))) (record { named = tt; figures = tt }) is
   node_reads (node.Priced prices) is = priced_reads priced.Closed prices (ap (λ lines. says.Priced ∷ lines) (sym (append-nil (price_lines t prices)))) (record { named = tt; figures = tt }) is
   node_reads (node.Open prices (cause.Nodes mixed)) is = mixed_reads fraction.Nodes prices mixed refl (record { named = tt; figures = tt }) is.0 is.1
@@ -166,7 +166,7 @@ module _ (t : Tables) where
   node_reads (node.Open prices (cause.Grew pivots row column)) is =
       priced_reads (priced.Grew pivots row column) prices refl (record { named = tt; figures = (is.1.0.held, is.1.1.held, is.1.2.held) }) is.0
   node_reads (node.Open prices (cause.Lift step at)) is = priced_reads (priced.Lift step at) prices refl (record { named = tt; figures = (is.1.0.held, is.1.1.held) }) is.0
-  node_reads (node.Split leg fleet prices mixed) is = mixed_reads (fraction.Split leg fleet) prices mixed refl (record { named = (is.0.leg, is.0.choice); figures = tt }) is.1 is.2
+  node_reads (node.Split leg fleet prices mixed) is = mixed_reads (fraction.Split leg fleet) prices mixed refl (record { named = is.0; figures = tt }) is.1 is.2
 
   pub node_read : (above : ℕ) (n : Node) (behind : Left) → IsNodeInOrder t n → above ≤ MAX_DEPTH → IsBehind behind → node_at (names t) above (texts t (lines_at t n) ++ behind) ≡ Ok (n, behind)
   unfolding node_at head_at

@@ -231,7 +231,7 @@ module _ (t : Tables) where
   -- weights
 
   weight_named : (entry : Weight) → IsWeightInOrder t entry → IsLineOf t (weight_line entry)
-  weight_named entry is = record { named = (is.pair.leg, is.pair.choice); figures = is.weight }
+  weight_named entry is = record { named = is.pair; figures = is.weight }
 
   weight_read : (before : Option Weight) (entry : Weight) (rest : Left) → IsWeightInOrder t entry → weight_follows before entry ≡ true → 0 < length rest
       → weight_at (names t) before (line_bytes t (weight_line entry) ∷ rest) ≡ Ok entry

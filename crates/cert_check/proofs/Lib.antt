@@ -1,3 +1,4 @@
+pub mod ChargeEntries
 pub mod MixedCosts
 pub mod NodeRules
 pub mod OneVerdict

@@ -1,22 +1,24 @@
 -- The checker looks at no settings but the days of the period: a tree that holds of tables holds of their lists by any
 -- other settings of as many days.
-use Rattle.std.proofs.Common.{◌≡◌, ℕ, true, false, List, ℤ, Option, Some, None, IfSome, IsSomeAnd, get_or, inl, inr}
+use Rattle.std.proofs.Common.{◌≡◌, ℕ, true, false, List, ℤ, Option, Some, None, IfSome, IsSomeAnd, get_or, subst, inl, inr}
 use Rattle.fleet_model.specs.Kept.{Domains, IsBare, IsKeptAssignment, IsSole, all_pairs}
 use Rattle.fleet_model.specs.Legal.{HasRoom, IsAssignment, IsLegal, total_cost}
 use Rattle.fleet_model.specs.Mixed.{mixed_cost}
-use Rattle.fleet_model.specs.Schedule.{days_in}
+use Rattle.fleet_model.specs.Limits.{AreTables}
+use Rattle.fleet_model.specs.Schedule.{days_in, period_of}
 use Rattle.fleet_model.specs.Use.{IsBalanced, excess, laps_flown, need_of, parked, stand_of, used_of}
 use Rattle.fleet_model.specs.Counts.{Weights, arrived, departed, weights_of}
 use Rattle.fleet_model.specs.declared.parts.Fleet.{Fleet}
 use Rattle.fleet_model.specs.declared.parts.Leg.{Leg}
 use Rattle.fleet_model.specs.declared.parts.PairCost.{PairCost}
+use Rattle.fleet_model.specs.declared.parts.Settings.{Settings}
 use Rattle.fleet_model.specs.declared.parts.Station.{Station}
 use Rattle.fleet_model.specs.declared.parts.Through.{Through}
 use Rattle.fleet_model.specs.declared.tables.Tables.{Tables}
 use Rattle.dual_bound.specs.Bound.{IsBoundIn, IsPriceBound, IsSoleBound, part}
 use Rattle.dual_bound.specs.Fractions.{IsFraction, IsMixedAt}
 use Rattle.dual_bound.specs.Prices.{AreWithin, NeverRise, RiseByRent}
-use Rattle.dual_bound.specs.Worth.{leg_worth, worth_of}
+use Rattle.dual_bound.specs.Worth.{leg_worth, less_charges, worth_of}
 use Rattle.dual_bound.specs.declared.mixed.Mixed.{Mixed}
 use Rattle.dual_bound.specs.declared.prices.Prices.{Prices}
 use Rattle.dual_bound.specs.declared.trees.Tree.{Tree}
@@ -37,16 +39,18 @@ some_and : {A : Type 0} (o : Option A) (P Q : A → Type 0) → ((x : A) → P x
 some_and None P Q each holds = holds
 some_and (Some x) P Q each holds = each x holds
 
-module _ (s : List Station) (f : List Fleet) (l : List Leg) (c : List PairCost) (h : List Through) where
+-- settings with so many days
+abbrev with_days : ℕ → Settings → Settings
+with_days days settings = record { day_start = settings.day_start; through_max = settings.through_max; period = days }
+
+-- ---- between settings of as many days
+module _ (s : List Station) (f : List Fleet) (l : List Leg) (c : List PairCost) (h : List Through) (days : ℕ) where
+  -- settings with these days by which the lists keep their limits
   abbrev Settled : Type 0
-  Settled = Fits s f l c h
+  Settled = (settings : Settings) × AreTables s f l c h (with_days days settings)
 
   abbrev by : Settled → Tables
-  by fits = tables_by s f l c h fits
-
-  -- settings of as many days
-  abbrev SameDays : Settled → Settled → Type 0
-  SameDays a b = days_in (by a) ≡ days_in (by b)
+  by fits = tables_by s f l c h (with_days days fits.0, fits.1)
 
   -- ---- assignments
 
@@ -54,16 +58,16 @@ module _ (s : List Station) (f : List Fleet) (l : List Leg) (c : List PairCost) 
   assignment a b plan is = record { each_leg = is.each_leg; known = is.known }
 
   balanced : (a b : Settled) (w : Weights) → IsBalanced (by a) w → IsBalanced (by b) w
-  unfolding departed arrived
+  unfolding departed arrived period_of
   balanced a b w is = record { each = is.each }
 
   room : (a b : Settled) (scale : ℕ) (w : Weights) → HasRoom (by a) scale w → HasRoom (by b) scale w
-  unfolding departed arrived excess need_of stand_of parked
+  unfolding departed arrived excess need_of stand_of parked period_of days_in
   room a b scale w is = record { each = is.each }
 
-  -- an assignment that is legal by some settings is legal by others of as many days; today each has one
+  -- an assignment that is legal by some settings is legal by others of as many days
   legal : (a b : Settled) (plan : List ℕ) → IsLegal (by a) plan → IsLegal (by b) plan
-  unfolding departed arrived excess need_of laps_flown used_of
+  unfolding departed arrived excess need_of laps_flown used_of period_of
   legal a b plan is = record {
     assignment = assignment a b plan is.assignment;
     allowed = record { each = is.allowed.each };
@@ -71,9 +75,6 @@ module _ (s : List Station) (f : List Fleet) (l : List Leg) (c : List PairCost) 
     within = record { each = is.within.each };
     room = room a b 1 (weights_of plan) is.room;
   }
-
-  pub legal_by : (a b : Settled) → SameDays a b → (plan : List ℕ) → IsLegal (by a) plan → IsLegal (by b) plan
-  legal_by a b same = legal a b
 
   kept_plan : (a b : Settled) (keeps : Domains) (plan : List ℕ) → IsKeptAssignment (by a) keeps plan → IsKeptAssignment (by b) keeps plan
   kept_plan a b keeps plan is = record { assignment = assignment a b plan is.assignment; kept = is.kept }
@@ -95,20 +96,27 @@ module _ (s : List Station) (f : List Fleet) (l : List Leg) (c : List PairCost) 
   -- ---- prices and fractional assignments
 
   within : (a b : Settled) (prices : Prices) → AreWithin (by a) prices → AreWithin (by b) prices
-  within a b prices are = record { rents = are.rents; each = are.each }
+  unfolding period_of days_in
+  within a b prices are = record {
+    rents = are.rents;
+    each = are.each;
+    charges = λ r d there some day. let is = are.charges r d there some day in record { some = is.some; within = is.within; only_limited = is.only_limited };
+  }
 
   fall : (a b : Settled) (prices : Prices) → NeverRise (by a) prices → NeverRise (by b) prices
+  unfolding period_of
   fall a b prices are = record { each = are.each }
 
   rise : (a b : Settled) (prices : Prices) → RiseByRent (by a) prices → RiseByRent (by b) prices
+  unfolding period_of
   rise a b prices are = record { each = are.each }
 
   reaches : (a b : Settled) (keeps : Domains) (prices : Prices) (cost : ℤ) → Reaches (by a) keeps prices cost → Reaches (by b) keeps prices cost
-  unfolding leg_worth worth_of
+  unfolding leg_worth worth_of less_charges period_of days_in
   reaches a b keeps prices cost is = record { least = is.least; rounded = is.rounded; reaches = is.reaches }
 
   mixed : (a b : Settled) (keeps : Domains) (m : Mixed) → IsMixedAt (by a) keeps m → IsMixedAt (by b) keeps m
-  unfolding departed arrived excess need_of laps_flown used_of
+  unfolding departed arrived excess need_of laps_flown used_of period_of
   mixed a b keeps m is = record {
     parts = record { scale = is.parts.scale; each = is.parts.each };
     plan = record {
@@ -121,7 +129,7 @@ module _ (s : List Station) (f : List Fleet) (l : List Leg) (c : List PairCost) 
   }
 
   fraction : (a b : Settled) (keeps : Domains) (prices : Prices) (m : Mixed) → IsFraction (by a) keeps prices m → IsFraction (by b) keeps prices m
-  unfolding leg_worth worth_of mixed_cost
+  unfolding leg_worth worth_of less_charges mixed_cost period_of days_in
   fraction a b keeps prices m is = record { partial = is.partial; value = is.value }
 
   -- ---- rules
@@ -136,7 +144,7 @@ module _ (s : List Station) (f : List Fleet) (l : List Leg) (c : List PairCost) 
   own_pairs a b keeps (tree.Split' leg fleet prices m p with_pair q without) has = λ leg is. has leg (bare b a keeps leg is)
 
   refuted : (a b : Settled) (keeps : Domains) (v : Tree) → IsRefutedAt (by a) keeps v → IsRefutedAt (by b) keeps v
-  unfolding leg_worth worth_of
+  unfolding leg_worth worth_of less_charges period_of days_in
   refuted a b keeps (tree.Refuted prices) is = is
   refuted a b keeps (tree.Bare leg) is = is
   refuted a b keeps tree.Sole is = is
@@ -200,7 +208,7 @@ module _ (s : List Station) (f : List Fleet) (l : List Leg) (c : List PairCost) 
   -- ---- bounds
 
   price_bound : (a b : Settled) (keeps : Domains) (prices : Prices) (bound : Option ℤ) → IsPriceBound (by a) keeps prices bound → IsPriceBound (by b) keeps prices bound
-  unfolding leg_worth worth_of
+  unfolding leg_worth worth_of less_charges period_of days_in
   price_bound a b keeps prices bound is = record { least = is.least; is = is.is; rounded = is.rounded }
 
   sole_bound : (a b : Settled) (keeps : Domains) (bound : Option ℤ) → IsSoleBound (by a) keeps bound → IsSoleBound (by b) keeps bound
@@ -232,9 +240,28 @@ module _ (s : List Station) (f : List Fleet) (l : List Leg) (c : List PairCost) 
     lesser = is.lesser;
   }
 
-  -- a tree that holds by some settings holds by others of as many days, with the same bound
-  pub holds_by : (a b : Settled) → SameDays a b → (cost : Option ℤ) (v : Tree) (bound : Option ℤ) → HoldsWith (by a) cost v bound → HoldsWith (by b) cost v bound
-  holds_by a b same cost v bound holds = record {
-    sound = λ k d in_list. (let here = holds.sound k d in_list in record { each = λ r. keeps_rule a b cost (get_or (nodes_in (all_pairs (by a)) v) k d) r (here.each r) });
-    bounded = bound_in a b (all_pairs (by a)) v bound holds.bounded;
+  holds : (a b : Settled) (cost : Option ℤ) (v : Tree) (bound : Option ℤ) → HoldsWith (by a) cost v bound → HoldsWith (by b) cost v bound
+  holds a b cost v bound is = record {
+    sound = λ k d in_list. (let here = is.sound k d in_list in record { each = λ r. keeps_rule a b cost (get_or (nodes_in (all_pairs (by a)) v) k d) r (here.each r) });
+    bounded = bound_in a b (all_pairs (by a)) v bound is.bounded;
   }
+
+-- ---- between any settings
+module _ (s : List Station) (f : List Fleet) (l : List Leg) (c : List PairCost) (h : List Through) where
+  -- settings of as many days
+  abbrev SameDays : Fits s f l c h → Fits s f l c h → Type 0
+  SameDays a b = days_in (tables_by s f l c h a) ≡ days_in (tables_by s f l c h b)
+
+  -- an assignment that is legal by some settings is legal by others of as many days
+  pub legal_by : (a b : Fits s f l c h) → SameDays a b → (plan : List ℕ) → IsLegal (tables_by s f l c h a) plan → IsLegal (tables_by s f l c h b) plan
+  unfolding days_in
+  legal_by a b same plan is =
+      subst (λ n. (fits : AreTables s f l c h (with_days n b.0)) → IsLegal (tables_by s f l c h (with_days n b.0, fits)) plan) same
+      (λ fits. legal s f l c h a.0.period (a.0, a.1) (b.0, fits) plan is) b.1
+
+  -- a tree that holds by some settings holds by others of as many days, with the same bound
+  pub holds_by : (a b : Fits s f l c h) → SameDays a b → (cost : Option ℤ) (v : Tree) (bound : Option ℤ) → HoldsWith (tables_by s f l c h a) cost v bound → HoldsWith (tables_by s f l c h b) cost v bound
+  unfolding days_in
+  holds_by a b same cost v bound is =
+      subst (λ n. (fits : AreTables s f l c h (with_days n b.0)) → HoldsWith (tables_by s f l c h (with_days n b.0, fits)) cost v bound) same
+      (λ fits. holds s f l c h a.0.period (a.0, a.1) (b.0, fits) cost v bound is) b.1

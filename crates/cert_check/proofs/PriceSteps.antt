@@ -7,10 +7,11 @@ use mir.Syntax.{w128}
 use mir.Val.{SFits}
 use Rattle.std.proofs.lemmas.Bool.Decides.{nat_tests}
 use Rattle.std.proofs.lemmas.List.Elements.{All-head, All-tail}
-use Rattle.fleet_model.specs.Schedule.{fleets_in, last_of, period_of}
+use Rattle.fleet_model.specs.Schedule.{fleets_in, last_of, period_of, stations_in}
 use Rattle.fleet_model.specs.declared.tables.Tables.{Tables}
+use Rattle.fleet_model.proofs.PeriodMinutes.{last_in}
 use Rattle.dual_bound.specs.OfTables.{ArePricesOf}
-use Rattle.dual_bound.specs.Prices.{AreRents, AreWithin, IsPrice, IsRent, NeverRise, RiseByRent, RisesOverEnd, has_come, price_after, price_of, rent_of, with_charge}
+use Rattle.dual_bound.specs.Prices.{AreCharges, AreRents, AreWithin, IsPrice, IsRent, NeverRise, RiseByRent, RisesOverEnd, has_come, price_after, price_of, rent_of, with_charge}
 use Rattle.dual_bound.specs.Rising.{no_step, step_at}
 use Rattle.dual_bound.specs.declared.prices.Prices.{Prices}
 use Rattle.dual_bound.specs.declared.prices.PriceStep.{PriceStep}
@@ -105,11 +106,11 @@ within_everywhere t prices all f s (suc m) within = elim (stands_or_stays (IsWit
 ]
 
 -- where no price rises at a step, but by a charge, none rises at all
-falls_everywhere : (t : Tables) (prices : Prices) → All (FallsAt t prices) prices.steps → (f s m : ℕ) → m + 1 < period_of t
+falls_everywhere : (t : Tables) (prices : Prices) → AreCharges t prices → All (FallsAt t prices) prices.steps → (f s m : ℕ) → s < stations_in t → m + 1 < period_of t
     → price_of prices f s (m + 1) ≤ℤ with_charge prices s m (price_of prices f s m)
-falls_everywhere t prices all f s m within = elim (stands_or_stays (FallsAt t prices) f s m prices.steps (pos 0) all) [
+falls_everywhere t prices charges all f s m station within = elim (stands_or_stays (FallsAt t prices) f s m prices.steps (pos 0) all) [
   | inl there ↦ rw (there.1.at.fleet, there.1.at.station) at (there.1.at.holds.is m there.1.minute within)
-  | inr same ↦ no_rise t prices s m (price_of prices f s m) (price_of prices f s (m + 1)) (omega (arith, ints, same))
+  | inr same ↦ no_rise t prices charges s m station (omega (arith, within)) (price_of prices f s m) (price_of prices f s (m + 1)) (omega (arith, ints, same))
 ]
 
 -- what holds of the step at each place holds of all steps
@@ -117,34 +118,34 @@ each_step : (P : PriceStep → Type 0) (steps : List PriceStep) → ((k : ℕ) �
 each_step P steps all k d below = subst P (get_or_default steps k no_step d below) (all k below)
 
 -- the answers of the tests, from those at steps
-pub within_by_steps : (t : Tables) (prices : Prices) (b : Bool) → ArePricesOf t prices → AreRents t prices
+pub within_by_steps : (t : Tables) (prices : Prices) (b : Bool) → ArePricesOf t prices → AreCharges t prices → AreRents t prices
     → MatchBool b (AreWithinAtSteps t prices) (¬ (AreWithinAtSteps t prices)) → MatchBool b (AreWithin t prices) (¬ (AreWithin t prices))
-within_by_steps t prices true known rents all =
-    record { rents = rents; each = λ f s m fleet station within. within_everywhere t prices (each_step (IsWithinAt t prices) prices.steps all) f s m within }
-within_by_steps t prices false known rents none =
-    λ within. none (λ k below. record { is = λ small. within.each _ _ _ (known k no_step below).fleet (known k no_step below).station small })
+within_by_steps t prices true known charges rents all =
+    record { rents = rents; each = λ f s m fleet station within. within_everywhere t prices (each_step (IsWithinAt t prices) prices.steps all) f s m within; charges = charges }
+within_by_steps t prices false known charges rents none =
+    λ within. none (λ k below. record { is = λ small. within.each _ _ _ (known.steps k no_step below).fleet (known.steps k no_step below).station small })
 
-pub falls_by_steps : (t : Tables) (prices : Prices) (b : Bool) → ArePricesOf t prices
+pub falls_by_steps : (t : Tables) (prices : Prices) (b : Bool) → ArePricesOf t prices → AreWithin t prices
     → MatchBool b (FallAtSteps t prices) (¬ (FallAtSteps t prices)) → MatchBool b (NeverRise t prices) (¬ (NeverRise t prices))
-falls_by_steps t prices true known all = record { each = λ f s m fleet station within. falls_everywhere t prices (each_step (FallsAt t prices) prices.steps all) f s m within }
-falls_by_steps t prices false known none =
-    λ falls. none (λ k below. record { is = λ m minute within. falls.each _ _ m (known k no_step below).fleet (known k no_step below).station within })
+falls_by_steps t prices true known limits all = record { each = λ f s m fleet station within. falls_everywhere t prices limits.charges (each_step (FallsAt t prices) prices.steps all) f s m station within }
+falls_by_steps t prices false known limits none =
+    λ falls. none (λ k below. record { is = λ m minute within. falls.each _ _ m (known.steps k no_step below).fleet (known.steps k no_step below).station within })
 
 -- over the end of the period
-rises_everywhere : (t : Tables) (prices : Prices) → AreRents t prices → All (RisesByRentAt t prices) prices.steps → (f s : ℕ) → f < fleets_in t → RisesOverEnd t prices f s
-rises_everywhere t prices rents all f s fleet = elim (some_or_none (RisesByRentAt t prices) f s 0 prices.steps (pos 0) all) [
+rises_everywhere : (t : Tables) (prices : Prices) → AreWithin t prices → All (RisesByRentAt t prices) prices.steps → (f s : ℕ) → f < fleets_in t → s < stations_in t → RisesOverEnd t prices f s
+rises_everywhere t prices limits all f s fleet station = elim (some_or_none (RisesByRentAt t prices) f s 0 prices.steps (pos 0) all) [
   | inl there ↦ rw (there.1.fleet, there.1.station) at there.1.holds.is
   | inr first ↦ elim (some_or_none (RisesByRentAt t prices) f s (last_of t) prices.steps (pos 0) all) [
     | inl there ↦ rw (there.1.fleet, there.1.station) at there.1.holds.is
-    | inr last ↦ no_rise t prices s (last_of t) (price_of prices f s (last_of t) +ℤ rent_of prices f) (price_of prices f s 0) (omega (arith, ints, first, last, (rents f fleet).some))
+    | inr last ↦ no_rise t prices limits.charges s (last_of t) station (last_in t) (price_of prices f s (last_of t) +ℤ rent_of prices f) (price_of prices f s 0) (omega (arith, ints, first, last, (limits.rents f fleet).some))
   ]
 ]
 
-pub rises_by_steps : (t : Tables) (prices : Prices) (b : Bool) → ArePricesOf t prices → AreRents t prices
+pub rises_by_steps : (t : Tables) (prices : Prices) (b : Bool) → ArePricesOf t prices → AreWithin t prices
     → MatchBool b (RiseAtSteps t prices) (¬ (RiseAtSteps t prices)) → MatchBool b (RiseByRent t prices) (¬ (RiseByRent t prices))
-rises_by_steps t prices true known rents all = record { each = λ f s fleet station. rises_everywhere t prices rents (each_step (RisesByRentAt t prices) prices.steps all) f s fleet }
-rises_by_steps t prices false known rents none =
-    λ rise. none (λ k below. record { is = rise.each _ _ (known k no_step below).fleet (known k no_step below).station })
+rises_by_steps t prices true known limits all = record { each = λ f s fleet station. rises_everywhere t prices limits (each_step (RisesByRentAt t prices) prices.steps all) f s fleet station }
+rises_by_steps t prices false known limits none =
+    λ rise. none (λ k below. record { is = rise.each _ _ (known.steps k no_step below).fleet (known.steps k no_step below).station })
 
 -- a step of the same fleet at the same station as one before it
 moved : (t : Tables) (prices : Prices) (a b : PriceStep) → ((a.fleet == b.fleet) && (a.station == b.station)) ≡ true → RisesByRentAt t prices a → RisesByRentAt t prices b

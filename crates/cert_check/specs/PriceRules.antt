@@ -1,16 +1,28 @@
 -- What is looked at of prices where a step stands, rule by rule.
-use Rattle.std.specs.Prelude.{◌≡◌, ℕ, ◌+◌, ◌-◌, ◌<◌, ◌==◌, Bool, false, if◌then◌else◌, length, ◌≤ℤ◌}
-use Rattle.fleet_model.specs.Schedule.{period_of}
+use Rattle.std.specs.Prelude.{◌≡◌, ℕ, ◌+◌, ◌-◌, ◌<◌, ◌==◌, Bool, false, if◌then◌else◌, length, slice_index_or, ◌≤◌, pos, ◌≤ℤ◌}
+use Rattle.fleet_model.specs.Schedule.{days_in, period_of}
 use Rattle.fleet_model.specs.declared.tables.Tables.{Tables}
 use Rattle.dual_bound.specs.Order.{same_place}
 use Rattle.dual_bound.specs.Rising.{step_at}
-use Rattle.dual_bound.specs.Prices.{IsPrice, RisesOverEnd, price_of, with_charge}
+use Rattle.dual_bound.specs.Prices.{IsCharge, IsPrice, RisesOverEnd, price_of, with_charge}
+use Rattle.dual_bound.specs.declared.prices.Charge.{Charge}
 use Rattle.dual_bound.specs.declared.prices.Prices.{Prices}
 use Rattle.dual_bound.specs.declared.prices.PriceStep.{PriceStep}
 
 -- a price within its limits
 pub record IsWithinAt (t : Tables) (prices : Prices) (step : PriceStep) : Type 0 where
   pub is : step.minute < period_of t → IsPrice (price_of prices step.fleet step.station step.minute)
+
+-- what stands where there is no entry of charges, and the entry at a place
+abbrev pub no_entry : Charge
+no_entry = record { station = 0; day = 0; charge = pos 0 }
+
+abbrev pub entry_at : Prices → ℕ → Charge
+entry_at prices place = slice_index_or prices.charges place no_entry
+
+-- a charge of a day of the period within its limits, by what the last entry of its station and day says
+pub record IsChargeAt (t : Tables) (prices : Prices) (entry : Charge) : Type 0 where
+  pub is : 0 < entry.day → entry.day ≤ days_in t → IsCharge t prices entry.station entry.day
 
 -- a price no greater than a minute before, but for a charge
 pub record FallsAt (t : Tables) (prices : Prices) (step : PriceStep) : Type 0 where
@@ -21,9 +33,12 @@ pub record FallsAt (t : Tables) (prices : Prices) (step : PriceStep) : Type 0 wh
 pub record RisesByRentAt (t : Tables) (prices : Prices) (step : PriceStep) : Type 0 where
   pub is : RisesOverEnd t prices step.fleet step.station
 
--- what is looked at where each step stands, rule by rule
+-- what is looked at where each step stands and of each entry of charges, rule by rule
 abbrev pub AreWithinAtSteps : Tables → Prices → Type 0
 AreWithinAtSteps t prices = (k : ℕ) → k < length prices.steps → IsWithinAt t prices (step_at prices k)
+
+abbrev pub AreChargesAt : Tables → Prices → Type 0
+AreChargesAt t prices = (k : ℕ) → k < length prices.charges → IsChargeAt t prices (entry_at prices k)
 
 abbrev pub FallAtSteps : Tables → Prices → Type 0
 FallAtSteps t prices = (k : ℕ) → k < length prices.steps → FallsAt t prices (step_at prices k)

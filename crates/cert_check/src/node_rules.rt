@@ -95,7 +95,7 @@ fn has_scale(tables: &Tables, node: &Tree) -> bool
     }
 }
 
-// Whether a node's rents and prices are within their limits.
+// Whether a node's rents, prices and charges are within their limits.
 fn has_limits(tables: &Tables, node: &Tree) -> bool
     requires { IsOfTables tables.now node.now }
     ensures { MatchBool result (IfSome (prices_at node.now) (AreWithin tables.now)) (¬ (IfSome (prices_at node.now) (AreWithin tables.now))) }
@@ -108,7 +108,8 @@ fn has_limits(tables: &Tables, node: &Tree) -> bool
 
 // Whether none of a node's prices rises through the period.
 fn has_falls(tables: &Tables, node: &Tree) -> bool
-    requires { IsOfTables tables.now node.now }
+    requires known { IsOfTables tables.now node.now }
+    requires within { IfSome (prices_at node.now) (AreWithin tables.now) }
     ensures { MatchBool result (IfSome (prices_at node.now) (NeverRise tables.now)) (¬ (IfSome (prices_at node.now) (NeverRise tables.now))) }
 {
     match prices_of(tables, node) {

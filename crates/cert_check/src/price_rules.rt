@@ -1,18 +1,21 @@
 //! Whether prices are proper, rule by rule.
 //!
 //! Between two steps a price stays, so it is looked at only where a step stands. Where the steps rise by fleet, station
-//! and minute, each rule is told in one pass; else each call takes a look at each step for each step at most.
-ghost use Rattle.std.specs.Prelude.{◌≡◌, ◌<◌, MatchBool, ◌≤ℤ◌, ◌<ℤ◌, length};
-ghost use Rattle.fleet_model.specs.Schedule.{fleets_in, period_of};
+//! and minute, each rule is told in one pass; else each call takes a look at each step for each step at most. For each
+//! charge, and for each step at the beginning of a day, it looks at each charge.
+ghost use Rattle.std.specs.Prelude.{◌≡◌, ◌<◌, ◌≤◌, MatchBool, ◌≤ℤ◌, ◌<ℤ◌, length};
+ghost use Rattle.fleet_model.specs.Schedule.{days_in, fleets_in, period_of, stations_in};
 ghost use Rattle.dual_bound.specs.Order.{same_place};
 ghost use Rattle.dual_bound.specs.Rising.{step_at};
-ghost use Rattle.dual_bound.specs.OfTables.{ArePricesOf, IsStepOf};
-ghost use Rattle.dual_bound.specs.Prices.{AreRents, AreWithin, IsPrice, IsRent, IsScale, NeverRise, RiseByRent, price_of, rent_of, with_charge};
-ghost use Rattle.cert_check.specs.PriceRules.{AreWithinAtSteps, FallAtSteps, FallsAt, IsWithinAt, RiseAtSteps, RiseBefore, RisesByRentAt, goes_on_at};
+ghost use Rattle.dual_bound.specs.OfTables.{ArePricesOf, IsChargeOf, IsStepOf};
+ghost use Rattle.dual_bound.specs.Sizes.{IsUpTo};
+ghost use Rattle.dual_bound.specs.Prices.{AreCharges, AreRents, AreWithin, IsCharge, IsPrice, IsRent, IsScale, NeverRise, RiseByRent, charge_of, price_of, rent_of, with_charge};
+ghost use Rattle.cert_check.specs.PriceRules.{AreChargesAt, AreWithinAtSteps, FallAtSteps, FallsAt, IsChargeAt, IsWithinAt, RiseAtSteps, RiseBefore, RisesByRentAt, entry_at, goes_on_at};
 
 use dual_bound::prices::{MAX_PRICE, MAX_SCALE};
-use dual_bound::{PriceFinder, PriceStep, Prices};
+use dual_bound::{Charge, PriceFinder, PriceStep, Prices};
 use fleet_model::Tables;
+use fleet_model::limits::MINUTES_PER_DAY;
 
 /// Whether a scale is 1 or more and within its limit. Takes no memory.
 pub(crate) fn is_scale(scale: &i128) -> bool
@@ -21,19 +24,22 @@ pub(crate) fn is_scale(scale: &i128) -> bool
     1 <= *scale && *scale <= MAX_SCALE
 }
 
-/// Whether rents and prices are within their limits. Takes no memory.
+/// Whether rents, prices and charges are within their limits. Takes no memory.
 #[tactic(auto, using(crate::proofs::PriceSteps::within_by_steps))]
 pub(crate) fn are_within(tables: &Tables, prices: &Prices) -> bool
     requires { ArePricesOf tables.now prices.now }
     ensures { MatchBool result (AreWithin tables.now prices.now) (¬ (AreWithin tables.now prices.now)) }
 {
-    are_rents(tables, prices) && are_steps_within(tables, &PriceFinder::new(prices))
+    are_charges(tables, prices)
+        && are_rents(tables, prices)
+        && are_steps_within(tables, &PriceFinder::new(prices))
 }
 
 /// Whether no price rises from one minute to the next, but by a charge. Takes no memory.
 #[tactic(auto, using(crate::proofs::PriceSteps::falls_by_steps))]
 pub(crate) fn never_rise(tables: &Tables, prices: &Prices) -> bool
-    requires { ArePricesOf tables.now prices.now }
+    requires known { ArePricesOf tables.now prices.now }
+    requires within { AreWithin tables.now prices.now }
     ensures { MatchBool result (NeverRise tables.now prices.now) (¬ (NeverRise tables.now prices.now)) }
 {
     steps_fall(tables, &PriceFinder::new(prices))
@@ -95,8 +101,63 @@ fn is_price(price: &i128) -> bool
     -MAX_PRICE <= *price && *price <= MAX_PRICE
 }
 
+// Whether the charges of all stations and days are within their limits.
+#[tactic(auto, using(crate::proofs::ChargeEntries::charged_by_entries))]
+fn are_charges(tables: &Tables, prices: &Prices) -> bool
+    requires { ArePricesOf tables.now prices.now }
+    ensures { MatchBool result (AreCharges tables.now prices.now) (¬ (AreCharges tables.now prices.now)) }
+{
+    are_entries_within(tables, prices)
+}
+
+// Whether charges are within their limits wherever an entry tells one.
+fn are_entries_within(tables: &Tables, prices: &Prices) -> bool
+    requires { ArePricesOf tables.now prices.now }
+    ensures { MatchBool result (AreChargesAt tables.now prices.now) (¬ (AreChargesAt tables.now prices.now)) }
+{
+    for place in 0..prices.charges.len() {
+        if !is_charge_at(tables, prices, entry_at(prices, place)) {
+            return false;
+        }
+    }
+    true
+}
+
+// The entry of charges at a place.
+fn entry_at(prices: &Prices, place: usize) -> &Charge
+    requires { place < length prices.now.charges }
+    ensures { result.now ≡ entry_at prices.now place }
+{
+    &prices.charges.as_slice()[place]
+}
+
+// Whether the charge of an entry's station and day is within its limits, where the period has the day.
+fn is_charge_at(tables: &Tables, prices: &Prices, entry: &Charge) -> bool
+    requires { IsChargeOf tables.now entry.now }
+    ensures { MatchBool result (IsChargeAt tables.now prices.now entry.now) (¬ (IsChargeAt tables.now prices.now entry.now)) }
+{
+    if entry.day == 0 || entry.day > tables.day_count() {
+        return true;
+    }
+    is_charge(tables, prices, entry.station, entry.day)
+}
+
+// Whether a charge is 0 or more, within its limit, and 0 where any number of aircraft may stand at the station.
+fn is_charge(tables: &Tables, prices: &Prices, station: u32, day: u32) -> bool
+    requires { station < stations_in tables.now }
+    ensures { MatchBool result (IsCharge tables.now prices.now station day) (¬ (IsCharge tables.now prices.now station day)) }
+{
+    let charge = prices.charge(station, day);
+    match tables.parking(station) {
+        Some(_) => is_rent(&charge),
+        None => charge == 0,
+    }
+}
+
 // Whether no price rises where a step stands, but by a charge.
 fn steps_fall(tables: &Tables, prices: &PriceFinder<'_>) -> bool
+    requires known { ArePricesOf tables.now prices.now }
+    requires within { AreWithin tables.now prices.now }
     ensures { MatchBool result (FallAtSteps tables.now prices.now) (¬ (FallAtSteps tables.now prices.now)) }
 {
     for place in 0..prices.step_count() {
@@ -109,7 +170,9 @@ fn steps_fall(tables: &Tables, prices: &PriceFinder<'_>) -> bool
 
 // Whether the price does not rise where a step stands, but by a charge.
 fn falls_at(tables: &Tables, prices: &PriceFinder<'_>, place: usize) -> bool
-    requires { place < length prices.now.steps }
+    requires place { place < length prices.now.steps }
+    requires known { IsStepOf tables.now (step_at prices.now place) }
+    requires within { AreWithin tables.now prices.now }
     ensures { MatchBool result (FallsAt tables.now prices.now (step_at prices.now place)) (¬ (FallsAt tables.now prices.now (step_at prices.now place))) }
 {
     let step = prices.step(place);
@@ -119,18 +182,42 @@ fn falls_at(tables: &Tables, prices: &PriceFinder<'_>, place: usize) -> bool
     let before = prices.price_before(place);
     is_no_more(
         &prices.price_at(place),
-        &with_charge(prices, step.station, step.minute - 1, &before),
+        &with_charge(tables, prices, step.station, step.minute - 1, &before),
     )
 }
 
 // What a price at a minute may be a minute later: the price, and what the station charges where the minute ends a day.
-// Nothing is charged yet.
 #[tactic(auto, unfolding(dual_bound::specs::Prices::with_charge))]
-fn with_charge(prices: &PriceFinder<'_>, station: u32, minute: u16, price: &i128) -> i128
+fn with_charge(
+    tables: &Tables,
+    prices: &PriceFinder<'_>,
+    station: u32,
+    minute: u16,
+    price: &i128,
+) -> i128
+    requires within { AreWithin tables.now prices.now }
+    requires station { station < stations_in tables.now }
+    requires minute { minute < period_of tables.now }
+    requires price { IsUpTo 2 price.now }
     ensures { result ≡ with_charge prices.now station minute price.now }
 {
-    let (_prices, _station, _minute) = (prices, station, minute);
-    *price
+    let next = minute + 1;
+    if next % MINUTES_PER_DAY != 0 {
+        return *price;
+    }
+    *price + charge_within(tables, prices, station, u32::from(next / MINUTES_PER_DAY))
+}
+
+// A charge, which is within its limits.
+fn charge_within(tables: &Tables, prices: &PriceFinder<'_>, station: u32, day: u32) -> i128
+    requires within { AreWithin tables.now prices.now }
+    requires station { station < stations_in tables.now }
+    requires first { 0 < day }
+    requires last { day ≤ days_in tables.now }
+    ensures value { result ≡ charge_of prices.now station day }
+    ensures size { IsRent result }
+{
+    prices.charge(station, day)
 }
 
 /// Whether a number is no more than another.
@@ -200,7 +287,7 @@ fn rises_by_rent_at(tables: &Tables, prices: &PriceFinder<'_>, step: &PriceStep)
     let rent = rent_within(tables, prices, step.fleet);
     is_no_more(
         &first,
-        &with_charge(prices, step.station, end, &(last + rent)),
+        &with_charge(tables, prices, step.station, end, &(last + rent)),
     )
 }
 

@@ -6,11 +6,12 @@ ghost use Rattle.cert_check.specs.Rules.{number_of};
 pub enum Rule {
     /// The scale of prices is 1 or more and within its limit.
     Scale,
-    /// Rents are 0 or more; rents and prices are within their limits.
+    /// Rents and charges are 0 or more; rents, prices and charges are within their limits; where any number of aircraft may
+    /// stand at a station overnight, nothing is charged.
     Limits,
-    /// No price rises from one minute to the next.
+    /// No price rises from one minute to the next, but by a charge at the end of a day.
     Fall,
-    /// Over the end of the period no price rises by more than the rent.
+    /// Over the end of the period no price rises by more than the rent and the charge of the last day.
     Rent,
     /// A bare leg keeps no pair, at a sole assignment each leg keeps one, and where there are prices each keeps some.
     Pairs,

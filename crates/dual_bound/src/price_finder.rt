@@ -4,7 +4,7 @@ ghost use Rattle.dual_bound.specs.Prices.{charge_of, price_of, rent_of};
 ghost use Rattle.dual_bound.specs.Rising.{IsIdle, StepsRise, price_at, price_before, step_at};
 
 use crate::price_at::last_come;
-use crate::prices::{Charge, PriceStep, Prices};
+use crate::prices::{PriceStep, Prices};
 use crate::rising::{bisect, earlier_price, lack, own_price, rise, step_at};
 use std::marker::Model;
 
@@ -65,13 +65,6 @@ impl<'a> PriceFinder<'a> {
         ensures { result ≡ rent_of self.now fleet }
     {
         self.prices.rent(fleet)
-    }
-
-    /// The entries of charges.
-    pub fn charges(&self) -> &[Charge]
-        ensures { result.now ≡ self.now.charges }
-    {
-        self.prices.charges.as_slice()
     }
 
     /// The charge at a station at the end of a day, in cost units over the scale. Takes no memory.

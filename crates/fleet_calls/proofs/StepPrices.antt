@@ -2,11 +2,14 @@
 use Rattle.std.proofs.Common.{◌≡◌, ℕ, zero, suc, ◌+◌, ◌<◌, Bool, true, false, if◌then◌else◌, ◌==◌, ◌&&◌, nat_le, List, [], ◌∷◌, ℤ, pos, ◌≤ℤ◌, refl, arith}
 use Rattle.std.proofs.lemmas.Bool.Decides.{nat_tests}
 use Rattle.std.proofs.lemmas.Int.{ints}
-use Rattle.fleet_model.specs.Use.{last_minute}
+use Rattle.fleet_model.specs.Schedule.{last_of}
 use Rattle.fleet_model.specs.declared.tables.Tables.{Tables}
+use Rattle.fleet_model.proofs.PeriodMinutes.{last_in}
 use Rattle.dual_bound.specs.Prices.{ArePrices, price_after, price_of, rent_of}
 use Rattle.dual_bound.specs.declared.prices.Prices.{Prices}
 use Rattle.dual_bound.specs.declared.prices.PriceStep.{PriceStep}
+use Rattle.dual_bound.proofs.Charges.{no_rise}
+use Rattle.dual_bound.proofs.NoCharges.{none_proper}
 use Rattle.dual_bound.proofs.ZeroPrices.{rent_zero}
 
 -- a step at the first station
@@ -22,8 +25,8 @@ between : (b : Bool) → (pos 0 ≤ℤ (if b then pos 20 else pos 0)) × ((if b 
 between true = (omega (arith, ints), omega (arith, ints))
 between false = (omega (arith, ints), omega (arith, ints))
 
-pub proper_all_day : (t : Tables) (prices : Prices) → prices.scale ≡ pos 1 → prices.rents ≡ [] → prices.steps ≡ step_at 1 0 (pos 20) ∷ [] → ArePrices t prices
-proper_all_day t prices one none e = record {
+pub proper_all_day : (t : Tables) (prices : Prices) → prices.scale ≡ pos 1 → prices.rents ≡ [] → prices.steps ≡ step_at 1 0 (pos 20) ∷ [] → prices.charges ≡ [] → ArePrices t prices
+proper_all_day t prices one none e free = record {
   scale = record { some = omega (arith, ints, one); within = omega (arith, ints, one) };
   within = record {
     rents = λ f below. record { some = omega (arith, ints, rent_zero prices none f); within = omega (arith, ints, rent_zero prices none f) };
@@ -31,9 +34,12 @@ proper_all_day t prices one none e = record {
       no_less = rw (all_day prices e f s m) (omega (arith, ints, between ((1 == f) && (0 == s))));
       no_more = rw (all_day prices e f s m) (omega (arith, ints, between ((1 == f) && (0 == s))));
     };
+    charges = none_proper t prices free;
   };
-  fall = record { each = λ f s m known there early. rw (all_day prices e f s m, all_day prices e f s (m + 1)) (omega (arith, ints)) };
-  rise = record { each = λ f s known there. rw (all_day prices e f s 0, all_day prices e f s last_minute) (omega (arith, ints, rent_zero prices none f)) };
+  fall = record { each = λ f s m known there early. no_rise t prices (none_proper t prices free) s m there (omega (arith, early)) _ _ (rw (all_day prices e f s m, all_day prices e f s (m + 1)) (omega (arith, ints))) };
+  rise = record {
+    each = λ f s known there. no_rise t prices (none_proper t prices free) s (last_of t) there (last_in t) _ _ (rw (all_day prices e f s 0, all_day prices e f s (last_of t)) (omega (arith, ints, rent_zero prices none f)));
+  };
 }
 
 -- what four steps of 1, 0, 1 and 0 say, of which some have come
@@ -110,15 +116,20 @@ some_rent prices e zero = rw e (omega (arith, ints), omega (arith, ints))
 some_rent prices e (suc zero) = rw e (omega (arith, ints), omega (arith, ints))
 some_rent prices e (suc (suc f)) = rw e (omega (arith, ints), omega (arith, ints))
 
-pub proper_until_departure : (t : Tables) (prices : Prices) → prices.scale ≡ pos 1 → prices.rents ≡ pos 1 ∷ pos 1 ∷ [] → prices.steps ≡ until_departure → ArePrices t prices
-proper_until_departure t prices one rents e = record {
+pub proper_until_departure : (t : Tables) (prices : Prices) → prices.scale ≡ pos 1 → prices.rents ≡ pos 1 ∷ pos 1 ∷ [] → prices.steps ≡ until_departure → prices.charges ≡ [] → ArePrices t prices
+proper_until_departure t prices one rents e free = record {
   scale = record { some = omega (arith, ints, one); within = omega (arith, ints, one) };
   within = record {
     rents = λ f below. record { some = (some_rent prices rents f).0; within = omega (arith, ints, (some_rent prices rents f).1) };
     each = λ f s m known there early. record { no_less = omega (arith, ints, low prices e f s m); no_more = omega (arith, ints, high prices e f s m) };
+    charges = none_proper t prices free;
   };
   fall = record {
-    each = λ f s m known there early. rw (price_is prices e f s m, price_is prices e f s (m + 1)) (falls (is_at 0 f s) _ (is_at 1 f s) _ _ _ (stays (is_at 0 f s) m) (stays (is_at 1 f s) m));
+    each = λ f s m known there early.
+        no_rise t prices (none_proper t prices free) s m there (omega (arith, early)) _ _
+        (rw (price_is prices e f s m, price_is prices e f s (m + 1)) (falls (is_at 0 f s) _ (is_at 1 f s) _ _ _ (stays (is_at 0 f s) m) (stays (is_at 1 f s) m)));
   };
-  rise = record { each = λ f s known there. omega (arith, ints, covered prices rents e f s 0, low prices e f s last_minute) };
+  rise = record {
+    each = λ f s known there. no_rise t prices (none_proper t prices free) s (last_of t) there (last_in t) _ _ (omega (arith, ints, covered prices rents e f s 0, low prices e f s (last_of t)));
+  };
 }

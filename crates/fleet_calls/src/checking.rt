@@ -1,10 +1,10 @@
 //! Trees, checked.
-ghost use Rattle.std.specs.Prelude.{◌<◌, MatchBool, ⊤};
-ghost use Rattle.dual_bound.specs.OfTables.{ArePricesOf, IsCauseOf, IsMixedOf, IsOfTables, IsStepOf, IsWeightOf};
+ghost use Rattle.std.specs.Prelude.{◌<◌, All, MatchBool, ⊤};
+ghost use Rattle.dual_bound.specs.OfTables.{ArePricesOf, IsCauseOf, IsChargeOf, IsMixedOf, IsOfTables, IsStepOf, IsWeightOf};
 
 use crate::assertions::assert_same;
 use cert_check::{Checked, check};
-use dual_bound::{Cause, Mixed, PriceStep, Prices, Tree, Weight};
+use dual_bound::{Cause, Charge, Mixed, PriceStep, Prices, Tree, Weight};
 use entries::{Entries, NoMemory};
 use fleet_model::{LoadError, Tables};
 use plan_judge::{Verdict, judge};
@@ -82,9 +82,16 @@ fn is_of_tables(tables: &Tables, tree: &Tree) -> bool
     }
 }
 
-/// Whether all steps of prices are of the tables.
+/// Whether all steps and charges of prices are of the tables.
 fn are_prices_of(tables: &Tables, prices: &Prices) -> bool
     ensures { MatchBool result (ArePricesOf tables.now prices.now) ⊤ }
+{
+    are_steps_of(tables, prices) && are_charges_of(tables, prices)
+}
+
+/// Whether all steps of prices are of the tables.
+fn are_steps_of(tables: &Tables, prices: &Prices) -> bool
+    ensures { MatchBool result (All (IsStepOf tables.now) prices.now.steps) ⊤ }
 {
     for step in prices.steps.as_slice() {
         if !is_step_of(tables, step) {
@@ -99,6 +106,25 @@ fn is_step_of(tables: &Tables, step: &PriceStep) -> bool
     ensures { MatchBool result (IsStepOf tables.now step.now) (¬ (IsStepOf tables.now step.now)) }
 {
     step.fleet < tables.fleet_count() && step.station < tables.station_count()
+}
+
+/// Whether all charges of prices are of the tables.
+fn are_charges_of(tables: &Tables, prices: &Prices) -> bool
+    ensures { MatchBool result (All (IsChargeOf tables.now) prices.now.charges) ⊤ }
+{
+    for charge in prices.charges.as_slice() {
+        if !is_charge_of(tables, charge) {
+            return false;
+        }
+    }
+    true
+}
+
+/// Whether a charge is of the tables.
+fn is_charge_of(tables: &Tables, charge: &Charge) -> bool
+    ensures { MatchBool result (IsChargeOf tables.now charge.now) (¬ (IsChargeOf tables.now charge.now)) }
+{
+    charge.station < tables.station_count()
 }
 
 /// Whether all weights of a fractional assignment are of the tables.

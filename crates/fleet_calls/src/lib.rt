@@ -5,11 +5,15 @@
 #[cfg(test)]
 mod assertions;
 #[cfg(test)]
+mod charges;
+#[cfg(test)]
 mod checking;
 #[cfg(test)]
 mod commands;
 #[cfg(test)]
 mod dated_commands;
+#[cfg(test)]
+mod dated_legs;
 #[cfg(test)]
 mod deep_trees;
 #[cfg(test)]

@@ -5,12 +5,12 @@ use Rattle.std.proofs.lemmas.List.Elements.{All-cons, All-nil}
 use Rattle.sums.proofs.Places.{get_or-list_below, length-list_below}
 use Rattle.fleet_model.specs.Kept.{Domains, all_pairs}
 use Rattle.fleet_model.specs.LeftOut.{KeepLeftOut}
-use Rattle.fleet_model.specs.Schedule.{fleets_in}
-use Rattle.fleet_model.specs.Use.{last_minute}
+use Rattle.fleet_model.specs.Schedule.{fleets_in, last_of}
 use Rattle.fleet_model.specs.Whole.{KeepAllowed}
 use Rattle.fleet_model.specs.declared.tables.Tables.{Tables}
 use Rattle.fleet_model.proofs.FewChoices.{few_choices}
-use Rattle.dual_bound.specs.OfTables.{IsStepOf}
+use Rattle.fleet_model.proofs.PeriodMinutes.{last_in}
+use Rattle.dual_bound.specs.OfTables.{IsChargeOf, IsStepOf}
 use Rattle.dual_bound.specs.Prices.{ArePrices, price_after, price_of, rent_of}
 use Rattle.dual_bound.specs.WrittenOrder.{IsStepInOrder}
 use Rattle.dual_bound.specs.declared.prices.Prices.{Prices}
@@ -69,25 +69,30 @@ zero_price : (t : Tables) (f s m : ℕ) → price_of (zero_prices t) f s m ≡ p
 unfolding price_after
 zero_price t f s m = refl
 
+zero_charges : (t : Tables) → AreCharges t (zero_prices t)
+zero_charges t = none_proper t (zero_prices t) refl
+
 zero_proper : (t : Tables) → ArePrices t (zero_prices t)
 zero_proper t = record {
   scale = record { some = omega (arith, ints); within = omega (arith, ints) };
   within = record {
     rents = λ f known. record { some = omega (arith, ints, zero_rent t f known); within = omega (arith, ints, zero_rent t f known) };
     each = λ f s m known there early. record { no_less = omega (arith, ints, zero_price t f s m); no_more = omega (arith, ints, zero_price t f s m) };
+    charges = zero_charges t;
   };
-  fall = record { each = λ f s m known there early. omega (arith, ints, zero_price t f s m, zero_price t f s (m + 1)) };
-  rise = record { each = λ f s known there. omega (arith, ints, zero_price t f s 0, zero_price t f s last_minute, zero_rent t f known) };
+  fall = record { each = λ f s m known there early. no_rise t (zero_prices t) (zero_charges t) s m there (omega (arith, early)) _ _ (omega (arith, ints, zero_price t f s m, zero_price t f s (m + 1))) };
+  rise = record { each = λ f s known there. no_rise t (zero_prices t) (zero_charges t) s (last_of t) there (last_in t) _ _ (omega (arith, ints, zero_price t f s 0, zero_price t f s (last_of t), zero_rent t f known)) };
 }
 
 pub zero_good : (t : Tables) → AreGood t (zero_prices t)
 zero_good t = record {
   proper = zero_proper t;
-  known = All-nil (IsStepOf t);
+  known = record { steps = All-nil (IsStepOf t); charges = All-nil (IsChargeOf t) };
   in_order = record {
     scale = record { no_less = omega (arith, ints); no_more = omega (arith, ints) };
     one_each = length-list_below (λ f. pos 0) (fleets_in t);
     rents = λ k d within. rw (get_or-list_below (λ f. pos 0) (fleets_in t) k d (omega (arith, within, length-list_below (λ f. pos 0) (fleets_in t)))) zero_figure;
     steps = record { each = All-nil (IsStepInOrder t); follow = tt; no_lone_zero = tt };
+    no_charges = refl;
   };
 }

@@ -13,16 +13,16 @@ use Rattle.fleet_model.specs.Schedule.{IsFlown, IsPair, fleet_by, fleet_of, flee
 use Rattle.fleet_model.specs.Times.{departure, laps_of, ready_minute}
 use Rattle.lp_rows.specs.declared.kinds.Node.{Node}
 use Rattle.lp_rows.specs.declared.kinds.Park.{Park}
-use Rattle.lp_rows.specs.declared.kinds.Column.TheVariants.{Flight, Ground, Slack}
+use Rattle.lp_rows.specs.declared.kinds.Column.TheVariants.{Flight, Ground, Room, Slack}
 use Rattle.lp_rows.specs.declared.kinds.Line.{Line}
 use Rattle.lp_rows.specs.declared.kinds.Line.TheVariants.{Balance, Count, Cover, Parking}
-use Rattle.lp_rows.specs.Entries.{IsNode, balance_entry, comes_to_node, count_entry, cover_entry, entry_of, gets_arc, is_in, leaves_node, one_if, passes_start, place_after, right_side_of, same_node}
+use Rattle.lp_rows.specs.Entries.{IsNode, IsPark, balance_entry, comes_to_node, count_entry, cover_entry, entry_of, gets_arc, is_in, leaves_node, limit_of, one_if, passes_day_end, passes_start, place_after, right_side_of, same_node, same_park}
 use Rattle.lp_rows.specs.Layout.{Starts, node_at, line_at, park_of_number}
 use Rattle.lp_rows.specs.Points.{node_count, park_count, priced_count}
 use Rattle.lp_rows.proofs.ListSums.{all_zero}
 use Rattle.lp_rows.proofs.Picks.{pick_nodes}
 use Rattle.lp_rows.proofs.LinePlaces.{balance_there, before, count_there, cover_there, node_there, node_within, over_lines, parking_there}
-use Rattle.price_lift.proofs.NoParking.{no_parking_lines}
+use Rattle.price_lift.proofs.Parks.{number_of_park, pick_park}
 
 -- ---- tests
 flip : (a b : ℕ) → (a == b) ≡ (b == a)
@@ -43,6 +43,13 @@ two_tests false b z = refl
 three_tests : (a b c : Bool) (z : ℤ) → where_true (a && (b && c)) z ≡ where_true a (where_true b (where_true c z))
 three_tests true b c z = two_tests b c z
 three_tests false b c z = refl
+
+-- days of one station and of one number are one
+same_as : (p q : Park) → same_park p q ≡ true → p ≡ q
+same_as p q e =
+    let station : p.station ≡ q.station = grind (arith, nat_tests) in
+    let day : p.day ≡ q.day = grind (arith, nat_tests) in
+    ap (λ s. record { station = s; day = p.day }) station ∙ ap (λ d. record { station = q.station; day = d }) day
 
 module _ (t : Tables) (starts : Starts) (y : ℕ → ℤ) where
   -- the number of a node's balance line, that of a count line, and that of a parking line
@@ -99,9 +106,8 @@ module _ (t : Tables) (starts : Starts) (y : ℕ → ℤ) where
   no_parkings : (e : Line → ℤ) → ((p : Park) → e (Parking p) ≡ pos 0) → sum_below_ℤ (λ k. of_park k *ℤ e (Parking (park_of_number t k))) (park_count t) ≡ pos 0
   no_parkings e none = all_zero (λ k. of_park k *ℤ e (Parking (park_of_number t k))) (park_count t) (λ k below. ap (λ z. of_park k *ℤ z) (none (park_of_number t k)) ∙ *ℤ-zero (of_park k))
 
-  -- charges, which prices don't have yet, will say what parking lines come to
-  uncharged : (g : ℕ → ℤ) → sum_below_ℤ g (park_count t) ≡ pos 0
-  uncharged g = ap (sum_below_ℤ g) (no_parking_lines t)
+  no_counts : (e : Line → ℤ) → ((f : ℕ) → e (Count f) ≡ pos 0) → sum_below_ℤ (λ f. of_fleet f *ℤ e (Count f)) (fleets_in t) ≡ pos 0
+  no_counts e none = all_zero (λ f. of_fleet f *ℤ e (Count f)) (fleets_in t) (λ f known. ap (λ z. of_fleet f *ℤ z) (none f) ∙ *ℤ-zero (of_fleet f))
 
   no_covers : (e : Line → ℤ) → ((l : ℕ) → e (Cover l) ≡ pos 0) → sum_below_ℤ (λ l. y l *ℤ e (Cover l)) (legs_in t) ≡ pos 0
   no_covers e none = all_zero (λ l. y l *ℤ e (Cover l)) (legs_in t) (λ l below. ap (λ z. y l *ℤ z) (none l) ∙ *ℤ-zero (y l))
@@ -175,6 +181,10 @@ module _ (t : Tables) (starts : Starts) (y : ℕ → ℤ) where
         by_kinds (λ line. entry_of t starts line (Flight p)) ∙ omega (arith, ints, flight_covers p pair, balances, counts, flight_parkings p)
 
   -- ---- a ground arc
+  -- the numbers of the days whose end it passes
+  abbrev pub of_passed : Node → ℤ
+  of_passed a = sum_below_ℤ (λ k. where_true (passes_day_end t starts (park_of_number t k) a) (of_park k)) (park_count t)
+
   module _ (a : Node) (is_node : IsNode t starts a) where
     abbrev next : ℕ
     next = place_after (length (starts a.fleet a.station)) a.place
@@ -216,8 +226,11 @@ module _ (t : Tables) (starts : Starts) (y : ℕ → ℤ) where
         ∙ sum_below_ℤ-one a.fleet (λ f. where_true (length (starts f a.station) == a.place + 1) (of_fleet f)) (fleets_in t) is_node.fleet
 
     pub down_ground : down (λ line. entry_of t starts line (Ground a))
-        ≡ (of_node a.fleet a.station next -ℤ of_node a.fleet a.station a.place) +ℤ where_true (length (starts a.fleet a.station) == a.place + 1) (of_fleet a.fleet)
-    down_ground = by_kinds (λ line. entry_of t starts line (Ground a)) ∙ omega (arith, ints, no_covers (λ line. entry_of t starts line (Ground a)) (λ l. refl), ground_balances, ground_counts, uncharged (λ k. of_park k *ℤ entry_of t starts (Parking (park_of_number t k)) (Ground a)))
+        ≡ (of_node a.fleet a.station next -ℤ of_node a.fleet a.station a.place) +ℤ where_true (length (starts a.fleet a.station) == a.place + 1) (of_fleet a.fleet) +ℤ of_passed a
+    down_ground =
+        let parkings = sum_below_ℤ-same (λ k. of_park k *ℤ one_if (passes_day_end t starts (park_of_number t k) a)) (λ k. where_true (passes_day_end t starts (park_of_number t k) a) (of_park k)) (park_count t)
+        (λ k below. times_one_if (passes_day_end t starts (park_of_number t k) a) (of_park k)) in
+        by_kinds (λ line. entry_of t starts line (Ground a)) ∙ omega (arith, ints, no_covers (λ line. entry_of t starts line (Ground a)) (λ l. refl), ground_balances, ground_counts, parkings)
 
   -- ---- a slack
   pub down_slack : (g : ℕ) → g < fleets_in t → down (λ line. entry_of t starts line (Slack g)) ≡ of_fleet g
@@ -226,8 +239,16 @@ module _ (t : Tables) (starts : Starts) (y : ℕ → ℤ) where
       ∙ sum_below_ℤ-one g of_fleet (fleets_in t) known in
       by_kinds (λ line. entry_of t starts line (Slack g)) ∙ omega (arith, ints, no_covers (λ line. entry_of t starts line (Slack g)) (λ l. refl), no_balances (λ line. entry_of t starts line (Slack g)) (λ n. refl), counts, no_parkings (λ line. entry_of t starts line (Slack g)) (λ p. refl))
 
+  -- ---- the room at the end of a day
+  pub down_room : (p : Park) → IsPark t p → down (λ line. entry_of t starts line (Room p)) ≡ of_park (number_of_park t p)
+  down_room p known =
+      let parkings = sum_below_ℤ-same (λ k. of_park k *ℤ one_if (same_park (park_of_number t k) p)) (λ k. where_true (same_park (park_of_number t k) p) (of_park k)) (park_count t) (λ k below. times_one_if (same_park (park_of_number t k) p) (of_park k))
+      ∙ pick_park t (λ q. same_park q p) of_park p known (grind (arith, nat_tests)) (λ q within. same_as q p) in
+      by_kinds (λ line. entry_of t starts line (Room p)) ∙ omega (arith, ints, no_covers (λ line. entry_of t starts line (Room p)) (λ l. refl), no_balances (λ line. entry_of t starts line (Room p)) (λ n. refl), no_counts (λ line. entry_of t starts line (Room p)) (λ f. refl), parkings)
+
   -- ---- the right sides
-  pub down_sides : down (λ line. right_side_of t line) ≡ sum_below_ℤ y (legs_in t) +ℤ sum_below_ℤ (λ f. of_fleet f *ℤ pos (fleet_of t f).aircraft) (fleets_in t)
+  pub down_sides : down (λ line. right_side_of t line)
+      ≡ sum_below_ℤ y (legs_in t) +ℤ sum_below_ℤ (λ f. of_fleet f *ℤ pos (fleet_of t f).aircraft) (fleets_in t) +ℤ sum_below_ℤ (λ k. of_park k *ℤ pos (limit_of t (park_of_number t k).station)) (park_count t)
   down_sides =
       let covers = sum_below_ℤ-same (λ l. y l *ℤ pos 1) y (legs_in t) (λ l below. times_one (y l)) in
-      by_kinds (λ line. right_side_of t line) ∙ omega (arith, ints, covers, no_balances (λ line. right_side_of t line) (λ n. refl), uncharged (λ k. of_park k *ℤ right_side_of t (Parking (park_of_number t k))))
+      by_kinds (λ line. right_side_of t line) ∙ omega (arith, ints, covers, no_balances (λ line. right_side_of t line) (λ n. refl))

@@ -1,5 +1,5 @@
 -- Prices of dual values of a subproblem's lines: by the nodes, and paid back.
-use Rattle.std.proofs.Common.{◌≡◌, ℕ, ◌+◌, ◌<◌, ◌≤◌, List, length, All, None, ℤ, pos, ◌<ℤ◌, ◌≤ℤ◌, refl, sym, ◌∙◌, ap, subst, arith}
+use Rattle.std.proofs.Common.{◌≡◌, ℕ, ◌+◌, ◌<◌, ◌≤◌, List, length, None, ℤ, pos, ◌<ℤ◌, ◌≤ℤ◌, refl, sym, ◌∙◌, ap, subst, arith}
 use Rattle.std.proofs.lemmas.Int.{ints}
 use Rattle.frac_row.specs.Row.{IsRow, number_of, reduced, width_of}
 use Rattle.frac_row.specs.declared.row.FracRow.{FracRow}
@@ -12,7 +12,7 @@ use Rattle.lp_rows.specs.Layout.{IsNetwork, Starts, starts_in}
 use Rattle.lp_rows.specs.Outline.{IsOutline}
 use Rattle.lp_rows.specs.Points.{AreLinesOf, priced_count}
 use Rattle.lp_rows.specs.declared.outline.Outline.{Outline}
-use Rattle.dual_bound.specs.OfTables.{IsStepOf}
+use Rattle.dual_bound.specs.OfTables.{ArePricesOf}
 use Rattle.dual_bound.specs.Worth.{worth_of}
 use Rattle.dual_bound.specs.declared.prices.Prices.{Prices}
 use Rattle.island_prices.specs.declared.rises.Rise.{Rise}
@@ -28,7 +28,7 @@ use Rattle.price_lift.proofs.ByLines.{by_each_network}
 use Rattle.price_lift.proofs.IslandMoments.{one_day_where}
 use Rattle.price_lift.proofs.InOrder.{prices_in_order}
 use Rattle.price_lift.proofs.LastTables.{low, refutes}
-use Rattle.price_lift.proofs.OfTables.{steps_known}
+use Rattle.price_lift.proofs.OfTables.{charges_known, steps_known}
 use Rattle.price_lift.proofs.OutlineRises.{few_there, outline_rises_are}
 use Rattle.price_lift.proofs.PaidLifts.{ArePaidWell, ArePricesLow, low_by_other, paid_well}
 
@@ -46,7 +46,7 @@ module _ (t : Tables) (keeps : Domains) (rows : Rows) (lines : AreLinesOf t keep
     scale = ap (λ p. p.scale) by;
     by = by;
     by_lines = by_lines;
-    of_tables = subst (λ p. All (IsStepOf t) p.steps) (sym by) (steps_known t starts _);
+    of_tables = subst (ArePricesOf t) (sym by) (record { steps = steps_known t starts _; charges = charges_known t _ });
     limits = (low t keeps rows lines counted y duals is.values fits is.wide is.numbers prices (ap (λ p. p.scale) by) (by_lines lines.starts lines.lines.network)).limits;
     in_order = prices_in_order t keeps duals prices row (record { starts = starts; network = network; is = by });
   }

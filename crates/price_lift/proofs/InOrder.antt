@@ -21,6 +21,7 @@ use Rattle.dual_bound.specs.declared.prices.Prices.{Prices}
 use Rattle.price_lift.specs.Parts.{weights_at}
 use Rattle.price_lift.specs.Steps.{ArePricesBy, prices_by}
 use Rattle.price_lift.proofs.Minutes.{nodes_rise}
+use Rattle.price_lift.proofs.NoParking.{no_charges_yet}
 use Rattle.price_lift.proofs.StepOrder.{steps_in_order}
 use Rattle.price_lift.proofs.WeightOrder.{weights_follow, weights_in_order}
 
@@ -58,7 +59,7 @@ prices_in_order t keeps duals prices row by = subst (ArePricesInOrder t) (sym by
           (λ f s known within some. nodes_rise t keeps f s (by.starts f s) (by.network.each f s known within))
           (λ f s p known within below. early t keeps f s (by.starts f s) (by.network.each f s known within) p below)
           (λ k. figure (number_of (reduced duals) k) (is_row.within k));
-      no_charges = refl;
+      no_charges = no_charges_yet t (λ k. number_of (reduced duals) (length (all_nodes t by.starts) + fleets_in t + k));
     }
 
 -- ---- weights

@@ -1,6 +1,6 @@
--- Prices by the nodes whose lines weigh no column above its cost rise over no arc that stays, and are worth what the right sides
--- come to.
-use Rattle.std.proofs.Common.{◌≡◌, ◌≢◌, ℕ, ◌+◌, ◌<◌, ◌≤◌, Bool, true, false, ◌==◌, length, get_or, None, is_none, ℤ, pos, neg_ℤ, ◌+ℤ◌, ◌-ℤ◌, ◌*ℤ◌, ◌<ℤ◌, ◌≤ℤ◌, unsigned_abs, refl, sym, ◌∙◌, ap, subst, inl, inr, arith, pos_of_ne-zero}
+-- Prices by the nodes whose lines weigh no column above its cost rise over arcs that stay by charges at most, and are worth what
+-- the right sides come to.
+use Rattle.std.proofs.Common.{◌≡◌, ◌≢◌, ℕ, ◌+◌, ◌<◌, ◌≤◌, Bool, true, false, ◌==◌, length, get_or, None, is_none, is_some, if◌then◌else◌, ℤ, pos, neg_ℤ, ◌+ℤ◌, ◌-ℤ◌, ◌*ℤ◌, ◌<ℤ◌, ◌≤ℤ◌, unsigned_abs, refl, sym, ◌∙◌, ap, subst, inl, inr, arith, pos_of_ne-zero}
 use Rattle.std.proofs.lemmas.Bool.{cases_lt, eqb-true, le-ltb, ne_eqb}
 use Rattle.std.proofs.lemmas.Bool.Decides.{nat_tests}
 use Rattle.std.proofs.lemmas.Int.{ints}
@@ -15,7 +15,7 @@ use Rattle.sums.proofs.Naturals.{empty_is, equal_number}
 use Rattle.sums.proofs.Tests.{same_tests}
 use Rattle.fleet_model.specs.declared.tables.Tables.{Tables}
 use Rattle.fleet_model.specs.Kept.{Domains, IsBare}
-use Rattle.fleet_model.specs.Schedule.{IsFlown, IsPair, choices_in, fleet_by, fleet_of, fleets_in, last_of, leg_of, leg_on, legs_in, no_leg, stations_in}
+use Rattle.fleet_model.specs.Schedule.{IsFlown, IsPair, choices_in, days_in, fleet_by, fleet_of, fleets_in, last_of, leg_of, leg_on, legs_in, no_leg, stations_in}
 use Rattle.fleet_model.specs.Times.{busy_minutes, departure, laps_of, ready_minute}
 use Rattle.fleet_model.specs.declared.parts.Pair.{Pair}
 use Rattle.fleet_model.proofs.Choices.{of_flown}
@@ -25,21 +25,25 @@ use Rattle.node_aggregate.proofs.EventsAmong.{departs_at, ready_at}
 use Rattle.node_aggregate.proofs.Starts.{end_within, start_within}
 use Rattle.lp_rows.specs.declared.kinds.Column.{Column}
 use Rattle.lp_rows.specs.declared.kinds.Node.{Node}
-use Rattle.lp_rows.specs.declared.kinds.Column.TheVariants.{Flight, Ground, Slack}
+use Rattle.lp_rows.specs.declared.kinds.Park.{Park}
+use Rattle.lp_rows.specs.declared.kinds.Column.TheVariants.{Flight, Ground, Room, Slack}
 use Rattle.lp_rows.specs.declared.kinds.Line.TheVariants.{Balance}
-use Rattle.lp_rows.specs.Entries.{IsNode, column_cost, entry_of, is_in, place_after, right_side_of}
-use Rattle.lp_rows.specs.Layout.{IsNetwork, Starts, arc_stays, moment_at, node_at}
+use Rattle.lp_rows.specs.Entries.{IsNode, IsPark, column_cost, entry_of, is_in, place_after, right_side_of}
+use Rattle.lp_rows.specs.Layout.{IsNetwork, Starts, arc_stays, moment_at, node_at, parking_days}
 use Rattle.lp_rows.specs.Points.{node_count, priced_count}
 use Rattle.lp_rows.proofs.Places.{IsKept}
-use Rattle.dual_bound.specs.Prices.{AreWithin, max_price, price_of, rent_of}
-use Rattle.dual_bound.specs.Worth.{cost_units, leg_worth, pair_worth, rents_of, worth_of}
+use Rattle.dual_bound.specs.Prices.{AreWithin, IsCharge, charge_of, max_price, price_of, rent_of}
+use Rattle.dual_bound.specs.Worth.{charges_of, cost_units, leg_worth, less_charges, pair_worth, rents_of, worth_of}
 use Rattle.dual_bound.specs.declared.prices.Prices.{Prices}
-use Rattle.dual_bound.proofs.Charges.{flown_worth, not_flown}
-use Rattle.island_prices.specs.Arcs.{AreByNodes, DoStayLow}
+use Rattle.dual_bound.proofs.Charges.{charge_after, flown_worth, not_flown}
+use Rattle.island_prices.specs.Arcs.{AreByNodes}
 use Rattle.island_prices.proofs.ArcSteps.{rise_at_last, rise_inside}
 use Rattle.price_lift.specs.Prices.{AreByLines}
-use Rattle.price_lift.proofs.DownColumns.{at_minute, down, down_flight, down_ground, down_left_out, down_sides, down_slack, of_fleet, of_node}
+use Rattle.price_lift.proofs.DownColumns.{at_minute, down, down_flight, down_ground, down_left_out, down_room, down_sides, down_slack, of_fleet, of_node}
+use Rattle.price_lift.proofs.ChargedArcs.{DoRiseByCharges}
 use Rattle.price_lift.proofs.LeastBounds.{below_unwrapped}
+use Rattle.price_lift.proofs.ParkCharges.{charge_is, limited_days, limits_charged, number_is, passed_charge}
+use Rattle.price_lift.proofs.Parks.{number_of_park, park_within}
 use Rattle.lp_rows.proofs.LinePlaces.{balance_there, before, count_there, node_there, node_within}
 use Rattle.price_lift.proofs.Minutes.{IsAtPlace, Rise, at_place, in_node, later, nodes_rise, one_place, some_place, test_of}
 
@@ -147,46 +151,60 @@ module _ (t : Tables) (keeps : Domains) (starts : Starts) (network : IsNetwork t
 
     -- what the right sides come to is no more than the worth
     pub worth_reaches : ((l : ℕ) → ¬ (IsBare t keeps l)) → down t starts y (λ line. right_side_of t line) ≤ℤ (h *ℤ worth_of t keeps prices k)
-    unfolding worth_of
+    unfolding worth_of less_charges
     worth_reaches some =
         let legs = sum_below_ℤ-le y (λ l. h *ℤ leg_worth t keeps prices k l) (legs_in t) (λ l below. leg_reaches l below (some l)) in
         let all_legs = *ℤ-sum_below_ℤ h (leg_worth t keeps prices k) (legs_in t) in
+        let charges = limits_charged t starts prices value by h y scaled in
+        let no_more = neg_ℤ-*ℤ h (sum_below_ℤ (charges_of t prices) (stations_in t)) in
         let rents = sum_below_ℤ-same (λ f. of_fleet t starts y f *ℤ pos (fleet_of t f).aircraft) (λ f. neg_ℤ h *ℤ rents_of t prices f) (fleets_in t)
         (λ f known. ap (λ z. z *ℤ pos (fleet_of t f).aircraft) (fleet_is f known) ∙ moved (rent_of prices f) (pos (fleet_of t f).aircraft)) in
         let all_rents = *ℤ-sum_below_ℤ (neg_ℤ h) (rents_of t prices) (fleets_in t) in
         let sign = neg_ℤ-*ℤ h (sum_below_ℤ (rents_of t prices) (fleets_in t)) in
         let apart = *ℤ--ℤ h (sum_below_ℤ (leg_worth t keeps prices k) (legs_in t)) (sum_below_ℤ (rents_of t prices) (fleets_in t)) in
-        omega (arith, ints, down_sides t starts y, legs, all_legs, rents, all_rents, sign, apart)
+        let less = *ℤ--ℤ h (sum_below_ℤ (leg_worth t keeps prices k) (legs_in t) -ℤ sum_below_ℤ (rents_of t prices) (fleets_in t)) (sum_below_ℤ (charges_of t prices) (stations_in t)) in
+        omega (arith, ints, down_sides t starts y, legs, all_legs, rents, all_rents, sign, apart, charges, no_more, less)
       where
         moved : (r a : ℤ) → neg_ℤ (h *ℤ r) *ℤ a ≡ neg_ℤ h *ℤ (r *ℤ a)
         moved r a = neg_ℤ-*ℤ (h *ℤ r) a ∙ ap neg_ℤ (*ℤ_assoc h r a) ∙ sym (neg_ℤ-*ℤ h (r *ℤ a))
 
-    -- ---- rents and falls
+    -- ---- rents, charges and rises
     rent_some : (f : ℕ) → f < fleets_in t → pos 0 ≤ℤ rent_of prices f
     rent_some f known =
         let weigh = dual (Slack f) known in
         let sum = down_slack t starts y f known in
         factor_at_least_0 h (rent_of prices f) above (omega (arith, ints, weigh, sum, times_zero h prices.scale k, fleet_is f known))
 
-    -- over an arc that stays
+    charge_some : (p : Park) → IsPark t p → pos 0 ≤ℤ charge_of prices p.station p.day
+    charge_some p known =
+        let weigh = dual (Room p) known in
+        let sum = down_room t starts y p known in
+        factor_at_least_0 h (charge_of prices p.station p.day) above (omega (arith, ints, weigh, sum, times_zero h prices.scale k, number_is t starts prices value by h y scaled p known))
+
+    -- over an arc that stays, by the charge at its end
+    abbrev charge_at : ℕ → ℕ → ℕ → ℤ
+    charge_at f s j = charge_after prices s (end_in t (starts f s) j)
+
     arc_falls : (f s j : ℕ) → f < fleets_in t → s < stations_in t → j < length (starts f s) → moment_at t keeps starts (node_at f s j) ≡ None
-        → ((of_node t starts y f s (place_after (length (starts f s)) j) -ℤ of_node t starts y f s j) +ℤ where_true (length (starts f s) == j + 1) (of_fleet t starts y f)) ≤ℤ pos 0
+        → ((of_node t starts y f s (place_after (length (starts f s)) j) -ℤ of_node t starts y f s j) +ℤ where_true (length (starts f s) == j + 1) (of_fleet t starts y f)) ≤ℤ (h *ℤ charge_at f s j)
     arc_falls f s j known within below none =
         let node : IsNode t starts (node_at f s j) = record { fleet = known; station = within; place = below } in
-        omega (arith, ints, dual (Ground (node_at f s j)) (node, stays none), down_ground t starts y (node_at f s j) node, times_zero h prices.scale k)
+        let charge = passed_charge t starts prices value by h y scaled (node_at f s j) within (end_within t keeps f s (starts f s) (network.each f s known within) j) in
+        omega (arith, ints, dual (Ground (node_at f s j)) (node, stays none), down_ground t starts y (node_at f s j) node, times_zero h prices.scale k, charge)
       where
         stays : moment_at t keeps starts (node_at f s j) ≡ None → arc_stays t keeps starts (node_at f s j) ≡ true
         stays none = staying t keeps starts (node_at f s j) none
 
     falls_next : (f s j : ℕ) → f < fleets_in t → s < stations_in t → j + 1 < length (starts f s) → moment_at t keeps starts (node_at f s j) ≡ None
-        → value (legs_in t + (before t starts f s + (j + 1))) ≤ℤ value (legs_in t + (before t starts f s + j))
+        → value (legs_in t + (before t starts f s + (j + 1))) ≤ℤ (value (legs_in t + (before t starts f s + j)) +ℤ charge_at f s j)
     falls_next f s j known within below none =
         let law = arc_falls f s j known within (omega arith) none in
         let next : place_after (length (starts f s)) j ≡ j + 1 = after (length (starts f s)) j below in
         let no_start = ap (λ b. where_true b (of_fleet t starts y f)) (ne_eqb (length (starts f s)) (j + 1) (not_last (length (starts f s)) j below)) in
         let there = ap (of_node t starts y f s) next in
-        factor_le_cancel h (value (legs_in t + (before t starts f s + (j + 1)))) (value (legs_in t + (before t starts f s + j))) above
-        (omega (arith, ints, law, no_start, there, node_is f s j known within (omega arith), node_is f s (j + 1) known within below))
+        let sum = *ℤ-+ℤ h (value (legs_in t + (before t starts f s + j))) (charge_at f s j) in
+        factor_le_cancel h (value (legs_in t + (before t starts f s + (j + 1)))) (value (legs_in t + (before t starts f s + j)) +ℤ charge_at f s j) above
+        (omega (arith, ints, law, no_start, there, sum, node_is f s j known within (omega arith), node_is f s (j + 1) known within below))
       where
         after : (n j : ℕ) → j + 1 < n → place_after n j ≡ j + 1
         after n j less = grind (arith, nat_tests)
@@ -195,15 +213,16 @@ module _ (t : Tables) (keeps : Domains) (starts : Starts) (network : IsNetwork t
         not_last n j less = omega arith
 
     over_end : (f s last : ℕ) → f < fleets_in t → s < stations_in t → last + 1 ≡ length (starts f s) → moment_at t keeps starts (node_at f s last) ≡ None
-        → value (legs_in t + (before t starts f s + 0)) ≤ℤ (value (legs_in t + (before t starts f s + last)) +ℤ rent_of prices f)
+        → value (legs_in t + (before t starts f s + 0)) ≤ℤ (value (legs_in t + (before t starts f s + last)) +ℤ rent_of prices f +ℤ charge_at f s last)
     over_end f s last known within ends none =
         let law = arc_falls f s last known within (omega arith) none in
         let next : place_after (length (starts f s)) last ≡ 0 = first (length (starts f s)) last ends in
         let start = ap (λ b. where_true b (of_fleet t starts y f)) (equal_number (length (starts f s)) (last + 1) (sym ends)) in
         let there = ap (of_node t starts y f s) next in
         let sum = *ℤ-+ℤ h (value (legs_in t + (before t starts f s + last))) (rent_of prices f) in
-        factor_le_cancel h (value (legs_in t + (before t starts f s + 0))) (value (legs_in t + (before t starts f s + last)) +ℤ rent_of prices f) above
-        (omega (arith, ints, law, start, there, sum, fleet_is f known, node_is f s 0 known within (omega arith), node_is f s last known within (omega arith)))
+        let charged = *ℤ-+ℤ h (value (legs_in t + (before t starts f s + last)) +ℤ rent_of prices f) (charge_at f s last) in
+        factor_le_cancel h (value (legs_in t + (before t starts f s + 0))) (value (legs_in t + (before t starts f s + last)) +ℤ rent_of prices f +ℤ charge_at f s last) above
+        (omega (arith, ints, law, start, there, sum, charged, fleet_is f known, node_is f s 0 known within (omega arith), node_is f s last known within (omega arith)))
       where
         first : (n j : ℕ) → j + 1 ≡ n → place_after n j ≡ 0
         first n j ends = grind (arith, nat_tests)
@@ -226,8 +245,8 @@ module _ (t : Tables) (keeps : Domains) (starts : Starts) (network : IsNetwork t
       nowhere = λ f s m known within none. by.nowhere f s m known within (empty_is (starts f s) none);
     }
 
-    pub stay_low : DoStayLow t prices starts (λ f s j. moment_at t keeps starts (node_at f s j))
-    stay_low = record {
+    pub rise_by_charges : DoRiseByCharges t prices starts (λ f s j. moment_at t keeps starts (node_at f s j))
+    rise_by_charges = record {
       each = λ f s j known within below none. elim (cases_lt (j + 1) (length (starts f s))) [
         | inl more ↦ omega (
           arith,
@@ -249,7 +268,7 @@ module _ (t : Tables) (keeps : Domains) (starts : Starts) (network : IsNetwork t
       ];
     }
 
-    -- ---- rents and prices within their limits
+    -- ---- rents, prices and charges within their limits
     module _ (small : (j : ℕ) → j < priced_count t starts → unsigned_abs (value (legs_in t + j)) ≤ max_price) where
       bounds : (z : ℤ) (n : ℕ) → unsigned_abs z ≤ n → (neg_ℤ (pos n) ≤ℤ z) × (z ≤ℤ pos n)
       bounds z n le = (omega (arith, ints), omega (arith, ints))
@@ -263,10 +282,28 @@ module _ (t : Tables) (keeps : Domains) (starts : Starts) (network : IsNetwork t
         | inr none ↦ subst (λ z. (neg_ℤ (pos max_price) ≤ℤ z) × (z ≤ℤ pos max_price)) (sym (by.nowhere f s m known within (empty_is (starts f s) (omega arith)))) (omega (arith, ints), omega (arith, ints))
       ]
 
+      charge_bounds : (s d : ℕ) → s < stations_in t → 0 < d → d ≤ days_in t → IsCharge t prices s d
+      charge_bounds s d within some inside = elim (cases_lt 0 (parking_days t s)) [
+        | inl limited ↦
+            let p : Park = record { station = s; day = d } in
+            let known : IsPark t (record { station = s; day = d }) = record { station = within; some = some; day = omega (arith, inside, limited_days t s limited) } in
+            let n = node_count t starts + (fleets_in t + number_of_park t (record { station = s; day = d })) in
+            let size = bounds (value (legs_in t + n)) max_price (small n (omega (arith, park_within t (record { station = s; day = d }) known))) in
+            record {
+              some = charge_some (record { station = s; day = d }) known;
+              within = omega (arith, ints, charge_is t starts prices value by h y scaled (record { station = s; day = d }) known, size.0);
+              only_limited = λ no_limit. absurd (omega (arith, limited, ap (λ o. if is_some o then days_in t else 0) no_limit));
+            }
+        | inr free ↦
+            let none = by.uncharged s d (λ known. omega (arith, known.day, some, free)) in
+            record { some = omega (arith, ints, none); within = omega (arith, ints, none); only_limited = λ no_limit. none }
+      ]
+
       pub are_within : AreWithin t prices
       are_within = record {
         rents = λ f known.
             let size = bounds (value (legs_in t + (node_count t starts + f))) max_price (small (node_count t starts + f) (omega arith)) in
             record { some = rent_some f known; within = omega (arith, ints, rent_is f known, size.0, size.1) };
+        charges = λ s d within some inside. charge_bounds s d within some inside;
         each = λ f s m known within period. let ends = price_bounds f s m known within (omega (arith, period)) in record { no_less = ends.0; no_more = ends.1 };
       }

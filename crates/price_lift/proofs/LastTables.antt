@@ -40,7 +40,7 @@ use Rattle.price_lift.proofs.Columns.{cost_of_column, weighed_column, weighed_si
 use Rattle.lp_rows.proofs.ColumnPlaces.{column_number}
 use Rattle.price_lift.proofs.DownColumns.{down}
 use Rattle.dual_lift.proofs.Excesses.{first_none, not_excess, second_none}
-use Rattle.price_lift.proofs.Lagrangian.{are_within, stay_low, through_nodes, worth_reaches}
+use Rattle.price_lift.proofs.Lagrangian.{are_within, rise_by_charges, through_nodes, worth_reaches}
 use Rattle.price_lift.proofs.Networks.{columns_long, same_arcs, same_nodes}
 use Rattle.price_lift.proofs.PaidLifts.{ArePricesLow}
 
@@ -167,7 +167,7 @@ module _ (t : Tables) (keeps : Domains) (rows : Rows) (lines : AreLinesOf t keep
     scale = record { some = subst (λ z. pos 1 ≤ℤ z) (sym scale_is) (scale_low t duals values.some fits); within = subst (λ z. z ≤ℤ pos max_scale) (sym scale_is) (scale_high t duals values.some fits) };
     limits = are_within t keeps net lines.lines.network prices (value_in t (reduced duals)) by_lines h above y scaled counted weighs small;
     through = through_nodes t keeps net lines.lines.network prices (value_in t (reduced duals)) by_lines h above y scaled counted weighs;
-    stay_low = stay_low t keeps net lines.lines.network prices (value_in t (reduced duals)) by_lines h above y scaled counted weighs;
+    stay = rise_by_charges t keeps net lines.lines.network prices (value_in t (reduced duals)) by_lines h above y scaled counted weighs;
   }
 
   pub reaches : ((l : ℕ) → ¬ (IsBare t keeps l)) → weighed rows y rows.columns ≤ℤ (divisor t duals values.some fits *ℤ worth_of t keeps prices counted)

@@ -1,6 +1,8 @@
 pub mod ArcRises
 pub mod BasicWeights
 pub mod ByLines
+pub mod ChargeLists
+pub mod ChargedArcs
 pub mod Columns
 pub mod DownColumns
 pub mod DualPrices
@@ -17,6 +19,8 @@ pub mod Minutes
 pub mod Networks
 pub mod NoParking
 pub mod OfTables
+pub mod ParkCharges
+pub mod Parks
 pub mod Orders
 pub mod PointEnds
 pub mod PointPlans

@@ -1,9 +1,9 @@
 -- Prices by the nodes of last tables, paid back: proper, of the tables, in written order, and worth no less.
-use Rattle.std.proofs.Common.{◌≡◌, ℕ, ◌<◌, ◌≤◌, true, List, [], ◌∷◌, length, get_or, Option, Some, None, IsSome, pos, ◌≤ℤ◌, refl, ap, subst, arith}
+use Rattle.std.proofs.Common.{◌≡◌, ℕ, ◌<◌, ◌≤◌, true, int_lt, List, [], ◌∷◌, length, get_or, Option, Some, None, IsSome, pos, ◌≤ℤ◌, refl, ap, subst, arith}
 use Rattle.std.proofs.lemmas.Int.{ints}
 use Rattle.fleet_model.specs.Kept.{Domains, IsBare}
 use Rattle.fleet_model.specs.Legal.{cost_of}
-use Rattle.fleet_model.specs.Schedule.{IsPair, fleets_in, last_of}
+use Rattle.fleet_model.specs.Schedule.{IsPair, fleets_in, period_of, stations_in}
 use Rattle.fleet_model.specs.declared.parts.Pair.{Pair}
 use Rattle.fleet_model.specs.declared.tables.Tables.{Tables}
 use Rattle.lp_rows.specs.Layout.{IsNetwork, Starts}
@@ -17,26 +17,33 @@ use Rattle.island_cut.proofs.IslandProofs.{islands_tested}
 use Rattle.island_prices.specs.Arcs.{AreAllNodes, AreArcRises, AreByNodes, AreMoments, DoStayLow, rise_over}
 use Rattle.island_prices.specs.Least.{least_idle}
 use Rattle.island_prices.specs.Paid.{first_beyond, paid_price, paid_prices, paid_rent}
-use Rattle.island_prices.specs.Payback.{AreApart, AreCovered, ends_by}
+use Rattle.island_prices.specs.Payback.{AreApart, AreCovered}
 use Rattle.island_prices.specs.Rises.{AreRises, rise_in}
 use Rattle.island_prices.specs.Rounds.{rounds_of}
 use Rattle.island_prices.specs.declared.rises.Rise.{Rise}
 use Rattle.island_prices.proofs.Arcs as arcs
 use Rattle.island_prices.proofs.PaidPrices.{are_in_order, are_of_tables, are_proper, scale_stays, worth_no_less}
 use Rattle.island_prices.proofs.RoundsPay.{AreAtIdles, rounds_pay}
+use Rattle.sums.proofs.Sizes.{above_tested, not_above_tested}
+use Rattle.sums.proofs.Tests.{by_test}
+use Rattle.dual_bound.proofs.Charges.{charge_after, some_after}
 use Rattle.node_aggregate.specs.Nodes.{end_in}
+use Rattle.node_aggregate.proofs.Starts.{end_within}
+use Rattle.price_lift.proofs.ParkCharges.{none_after}
+use Rattle.price_lift.proofs.ChargedArcs.{DoRiseByCharges, RisesByCharge, charged_falls, charged_rises}
 use Rattle.island_arcs.specs.Moments.{moment_of}
 use Rattle.price_lift.proofs.Networks.{same_starts}
 use Rattle.price_lift.specs.PaidBack.{beyond_excess, moments_by, paid_back, payback_excess}
 use Rattle.price_lift.proofs.IslandMoments.{are_moments, at_idle, islands_there, kept_allowed}
 
--- prices by the nodes of a network: within their limits, one through each node, and they rise over no arc that stays
+-- prices by the nodes of a network: within their limits, one through each node, and over arcs that stay they rise by charges at
+-- most
 pub record ArePricesLow (t : Tables) (keeps : Domains) (starts : Starts) (prices : Prices) : Type 0 where
   pub network : IsNetwork t keeps starts
   pub scale : IsScale prices.scale
   pub limits : AreWithin t prices
   pub through : AreByNodes t prices starts
-  pub stay_low : DoStayLow t prices starts (moments_by t keeps starts)
+  pub stay : DoRiseByCharges t prices starts (moments_by t keeps starts)
 
 not_beyond : (o : Option ℕ) → beyond_excess o ≡ None → o ≡ None
 not_beyond None e = refl
@@ -58,20 +65,25 @@ module _ (t : Tables) (keeps : Domains) (starts : Starts) (prices : Prices) (low
   pub rises_are : AreRises t rises
   rises_are = arcs.are_rises t keeps prices starts (moments_by t keeps starts) rises nodes moments are rents low.limits
 
-  covered : AreCovered t prices rises
-  covered = arcs.are_covered t keeps prices starts (moments_by t keeps starts) rises nodes moments are rents low.through low.stay_low
-
   -- ---- where no price rises
-  none_ends : rises ≡ [] → (f s m : ℕ) → ends_by t rises f s m ≡ pos 0
-  unfolding ends_by
-  none_ends none f s m = ap (λ xs. ends_by t xs f s m) none
+  over_each : rises ≡ [] → (f s k : ℕ) → f < fleets_in t → s < stations_in t → k < length (starts f s) → RisesByCharge t prices starts f s k
+  over_each none f s k known within below = by_moment (moments_by t keeps starts f s k) refl
+    where
+      some : pos 0 ≤ℤ charge_after prices s (end_in t (starts f s) k)
+      some = some_after t prices low.limits.charges s (end_in t (starts f s) k) within (end_within t keeps f s (starts f s) (low.network.each f s known within) k)
+
+      by_moment : (o : Option ℕ) → moments_by t keeps starts f s k ≡ o → RisesByCharge t prices starts f s k
+      by_moment None stays = low.stay.each f s k known within below stays
+      by_moment (Some m) went = by_test (int_lt (pos 0) (rise_over prices (starts f s) f s k))
+          (λ e. let has = are.all f s k m known within below went (above_tested (rise_over prices (starts f s) f s k) e) in absurd (omega (arith, has.within, ap length none)))
+          (λ e. omega (arith, ints, not_above_tested (rise_over prices (starts f s) f s k) e, some))
 
   stays_proper : rises ≡ [] → ArePrices t prices
   stays_proper none = record {
     scale = low.scale;
     within = low.limits;
-    fall = record { each = λ f s m known within period. omega (arith, ints, covered.within_period f s m known within period, none_ends none f s m) };
-    rise = record { each = λ f s known within. omega (arith, ints, covered.over_end f s known within, none_ends none f s (last_of t)) };
+    fall = charged_falls t keeps prices starts nodes low.through low.limits (over_each none);
+    rise = charged_rises t keeps prices starts nodes low.through low.limits (over_each none);
   }
 
   -- ---- where some do
@@ -87,12 +99,25 @@ module _ (t : Tables) (keeps : Domains) (starts : Starts) (prices : Prices) (low
     islands : has_islands t ≡ true
     islands = islands_there t (rise_in rises 0).station (rise_in rises 0).moment (idles.each 0 some).idle
 
+    -- then no station has a limit, so nothing is charged
+    free : (s m : ℕ) → s < stations_in t → m < period_of t → charge_after prices s m ≡ pos 0
+    free s m within period = none_after t prices low.limits.charges s m within period ((islands_tested t islands).day.no_limit s within)
+
+    stay_low : DoStayLow t prices starts (moments_by t keeps starts)
+    stay_low = record {
+      each = λ f s k known within below stays.
+          omega (arith, ints, low.stay.each f s k known within below stays, free s (end_in t (starts f s) k) within (end_within t keeps f s (starts f s) (low.network.each f s known within) k));
+    }
+
+    covered : AreCovered t prices rises
+    covered = arcs.are_covered t keeps prices starts (moments_by t keeps starts) rises nodes moments are rents low.through stay_low
+
     allowed : (p : Pair) → IsPair t p → keeps p ≡ true → IsSome (cost_of t p)
     allowed = kept_allowed t keeps starts low.network (rise_in rises 0).fleet (rise_in rises 0).station (are.each 0 some).place (rise_in rises 0).moment first_went
 
     pub worth_grows : ((l : ℕ) → ¬ (IsBare t keeps l)) → (k : ℕ) → worth_of t keeps prices k ≤ℤ worth_of t keeps (paid_prices t prices rises (rounds_of t rises (least_idle t))) k
     worth_grows bare k =
-        worth_no_less t prices rises (least_idle t) rises_are keeps k bare allowed (λ p pair kept. (islands_tested t islands).day.flown p pair (allowed p pair kept))
+        worth_no_less t prices rises (least_idle t) rises_are low.limits.charges keeps k bare allowed (λ p pair kept. (islands_tested t islands).day.flown p pair (allowed p pair kept))
         (arcs.are_quiet t keeps prices starts (moments_by t keeps starts) rises nodes moments are rents)
         (λ j below. rounds_pay t rises idles islands j)
 
@@ -146,8 +171,8 @@ low_by_other t keeps starts other network second prices low = record {
     nowhere = λ f s m known within.
         subst (λ xs. length xs ≡ 0 → price_of prices f s m ≡ pos 0) (same_starts t keeps starts other network second f s known within) (low.through.nowhere f s m known within);
   };
-  stay_low = record {
+  stay = record {
     each = λ f s k known within.
-        subst (λ xs. k < length xs → moment_of t keeps f s xs k ≡ None → rise_over prices xs f s k ≤ℤ pos 0) (same_starts t keeps starts other network second f s known within) (low.stay_low.each f s k known within);
+        subst (λ xs. k < length xs → moment_of t keeps f s xs k ≡ None → rise_over prices xs f s k ≤ℤ charge_after prices s (end_in t xs k)) (same_starts t keeps starts other network second f s known within) (low.stay.each f s k known within);
   };
 }

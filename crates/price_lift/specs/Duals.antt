@@ -1,5 +1,5 @@
--- The dual values of the lines with a price, over their scale: the balance lines and the count lines, which come after
--- the cover lines, one of each leg.
+-- The dual values of the lines with a price, over their scale: the balance lines, the count lines and the parking lines, which
+-- come after the cover lines, one of each leg.
 use Rattle.std.specs.Prelude.{ℕ, ◌+◌, ◌-◌, List, ℤ}
 use Rattle.sums.specs.Places.{list_below}
 use Rattle.frac_row.specs.Row.{number_of}

@@ -18,12 +18,12 @@ use Rattle.price_lift.specs.Duals.{best_duals, priced_lines, refusal_duals}
 abbrev pub weights_excess : List FracRow → List ℕ → ℕ → ℕ → Option Excess
 weights_excess table basis pairs line = least_scale_excess max_scale table basis pairs line
 
--- the first of the balance lines and the count lines
+-- the first of the balance lines, the count lines and the parking lines
 abbrev pub first_priced : Tables → List FracRow → (ℕ → Option Excess) → Option Excess
 first_priced t table excess = first_below (λ k. excess (legs_in t + k)) (priced_lines t table)
 
 -- steps 4 and 5: what is first too large of prices in lowest terms, their scale or, line by line from the first with a
--- price on, a price or a rent
+-- price on, a price, a rent or a charge
 abbrev pub prices_excess : ℕ → FracRow → Option Excess
 prices_excess first duals = lowest_excess max_scale max_price first duals
 

@@ -39,7 +39,7 @@ def refusal_of(tables):
 
 
 def answer_of(program, folder, words, limits):
-    """Returns the answer of `solve` in a folder, with the day start for which it holds."""
+    """Returns the answer of `solve` in a folder, with the day start and the days of the period for which it holds."""
     call = Call(["solve", folder, *words])
     as_json = [] if "json" in call.given else ["--json"]
     ran = run(program, ["solve", *as_json, folder, *words], limits)
@@ -47,6 +47,7 @@ def answer_of(program, folder, words, limits):
     if ran.status in PROVED:
         answer["solved"] = json.loads(ran.told)
         answer["day_start"] = call.given["day-start"][0] if "day-start" in call.given else "03:00"
+        answer["period"] = call.given["period"][0] if "period" in call.given else "1"
     return answer
 
 
@@ -55,13 +56,13 @@ def check(program, solved, place, limits, is_last):
     answer = read_json(os.path.join(solved, ANSWER))
     checked = {}
     if "solved" in answer:
-        checked = answer_or_fault(lambda: checked_of(program, solved, answer["day_start"], limits), is_last)
+        checked = answer_or_fault(lambda: checked_of(program, solved, answer, limits), is_last)
     write_json(place, checked)
 
 
-def checked_of(program, solved, day_start, limits):
+def checked_of(program, solved, answer, limits):
     sums = sums_of(solved)
-    ran = run(program, ["check", "--day-start", day_start, solved], limits)
+    ran = run(program, ["check", "--day-start", answer["day_start"], "--period", answer["period"], solved], limits)
     return {"told": ran.told, "seconds": ran.seconds, "memory": ran.memory, "sums": sums}
 
 

@@ -4,6 +4,9 @@ use Rattle.cert_check.specs.declared.rules.Rule.TheVariants as rule
 use Rattle.cert_check.proofs.NodeRules.{parts_within, prices_proper}
 use Rattle.cert_check.proofs.node_rules.keeps.Goals as goal
 
+pub has_falls-requires-clause-within : goal.has_falls-requires-clause-within
+has_falls-requires-clause-within c = c.requires.before.each rule.Limits (omega (arith, ap number_of c.in-Fall.is))
+
 pub has_rents-requires-clause-within : goal.has_rents-requires-clause-within
 has_rents-requires-clause-within c = c.requires.before.each rule.Limits (omega (arith, ap number_of c.in-Rent.is))
 

@@ -1,6 +1,6 @@
 use Rattle.dual_bound.specs.OfTables.{IsStepOf}
 use Rattle.fleet_calls.proofs.EachTested.{all_tested, one_more}
-use Rattle.fleet_calls.proofs.checking.are_prices_of.Goals as goal
+use Rattle.fleet_calls.proofs.checking.are_steps_of.Goals as goal
 
 pub loop-step-preserved : goal.loop-step-preserved
 loop-step-preserved c =

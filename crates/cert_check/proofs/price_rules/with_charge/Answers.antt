@@ -1,0 +1,14 @@
+use Rattle.std.proofs.Common.{rules, ◌≡◌, ◌+◌, ◌≤◌, ◌%◌, sym, subst, arith}
+use Rattle.fleet_model.specs.Schedule.{days_in}
+use Rattle.fleet_model.specs.declared.limits.TheConstants.{MINUTES_PER_DAY}
+use Rattle.fleet_model.proofs.PeriodMinutes.{at_most_week}
+use Rattle.dual_bound.proofs.Charges.{day_within}
+use Rattle.cert_check.proofs.price_rules.with_charge.Goals as goal
+
+pub overflow_add-next : goal.overflow_add-next
+overflow_add-next c = omega (arith, at_most_week c.args.tables.now, c.requires.minute)
+
+pub charge_within-requires-clause-last : goal.charge_within-requires-clause-last
+charge_within-requires-clause-last c =
+    let ends : (c.args.minute + 1) % MINUTES_PER_DAY ≡ 0 = search rules in
+    subst (λ d. d ≤ days_in c.args.tables.now) (sym c.from.ensures) (day_within c.args.tables.now c.args.minute c.requires.minute ends)
