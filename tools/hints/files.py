@@ -138,7 +138,7 @@ def tell_missing(hint, command, call, name):
         hint.show(typed(["touch", os.path.join(call.folder, name)]))
     elif name in ("plan.csv", "proof.txt"):
         hint.say("solve writes it, where it has a plan:" if name == "plan.csv" else "solve writes it:")
-        hint.show(typed([command, "solve", call.folder, *call.reading()]))
+        hint.show(typed([command, "solve", call.folder, *call.reading]))
 
 
 def tell_writes(hint, call):

@@ -86,7 +86,7 @@ OPTIONS = {
     "pivots": ("P", Number(0, 1_000_000), "20000", "how many pivots a subproblem may take in each run, 0 to 1000000"),
     "json": ("", None, "", "prints the summary as JSON"),
 }
-# By which the tables of a folder are read.
+# The options by which the tables of a folder are read: those of one call belong to the next one over the same folder.
 READING = ("day-start", "period")
 OPTIONS_OF = {
     "judge": READING,
@@ -140,15 +140,16 @@ class Call:
         """The names of the command's words."""
         return COMMANDS[self.command][0].split()[1:]
 
+    @property
+    def reading(self):
+        """The words of the options that say how tables are read, as far as they are given."""
+        return [word for it in READING if it in self.given for word in (f"--{it}", self.given[it][0])]
+
     def value(self, option):
         """Returns what an option is read as, also where it isn't given; None where its text doesn't read."""
         _, form, default, _ = OPTIONS[option]
         text = self.given[option][0] if option in self.given else default
         return form.read(text)
-
-    def reading(self):
-        """Returns the words of the call that say how tables are read."""
-        return [word for it in READING if it in self.given for word in (f"--{it}", self.given[it][0])]
 
     def with_option(self, option, text):
         """Returns the words of the same call with another value of an option."""

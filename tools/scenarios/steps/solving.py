@@ -98,7 +98,7 @@ def draw(solved, name, place):
         os.mkdir(own)
         for it in (*CLAIMED, "rotation.csv"):
             shutil.copyfile(os.path.join(solved, it), os.path.join(own, it))
-        words = [os.path.join(TOP, "tools", "draw"), own, "--day-start", answer["day_start"]]
+        words = [os.path.join(TOP, "tools", "draw"), own, *answer["reading"]]
         if subprocess.run([sys.executable, *words], stdin=subprocess.DEVNULL, check=False).returncode:
             raise Fault("tools/draw couldn't draw it")
         os.rename(os.path.join(own, "plan.html"), os.path.join(beside, "plan.html"))
