@@ -23,7 +23,6 @@ class Made:
     def __init__(self, schedule, dates, choice, sources):
         self.schedule, self.dates, self.sources = schedule, dates, sources
         self.flown, self.left_out = selecting.flown_on(schedule, dates, choice)
-        selecting.check_size(schedule.path, dates, self.flown)
         naming.name_all(schedule, self.flown, dates)
         self.stations = costing.stations_of(sources.stations, schedule, self.flown)
         self.fleets = costing.fleets_of(sources.fleets, schedule, self.flown)

@@ -28,7 +28,7 @@ fn in_order(is: bool, left: &[&[u8]]) -> Result<(), Stop>
 }
 
 /// The scale of prices that the first line says.
-#[tactic(auto, unfolding(crate::specs::Reading::scale_at))]
+#[tactic(auto, unfolding(crate::specs::Reading::said_at))]
 pub fn scale_at(alloc: Global, grammar: &Grammar<'_>, left: &[&[u8]]) -> Result<i128, Stop>
     ensures { Gives (λ scale. scale) result (scale_at (naming grammar.now) (seen left.now)) }
 {
@@ -48,7 +48,7 @@ fn scale_of(line: Line, left: &[&[u8]]) -> Result<i128, Stop>
 }
 
 /// The scale of a fractional assignment that the first line says.
-#[tactic(auto, unfolding(crate::specs::Reading::mixed_scale_at))]
+#[tactic(auto, unfolding(crate::specs::Reading::said_at))]
 pub fn mixed_scale_at(alloc: Global, grammar: &Grammar<'_>, left: &[&[u8]]) -> Result<i128, Stop>
     ensures { Gives (λ scale. scale) result (mixed_scale_at (naming grammar.now) (seen left.now)) }
 {

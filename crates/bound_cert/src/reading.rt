@@ -124,7 +124,7 @@ fn rest_at(alloc: Global, grammar: &Grammar<'_>, left: &[&[u8]]) -> Result<Proof
 }
 
 /// Whether a plan comes with the proof.
-#[tactic(auto, unfolding(crate::specs::Nodes::plan_at))]
+#[tactic(auto, unfolding(crate::specs::Reading::said_at))]
 fn plan_at(alloc: Global, grammar: &Grammar<'_>, left: &[&[u8]]) -> Result<bool, Stop>
     ensures { Gives (λ planned. planned) result (plan_at (naming grammar.now) (seen left.now)) }
 {

@@ -44,7 +44,7 @@ pub fn checked_with(tables: &Tables, fleets: &[u32], tree: &Tree) -> Option<Chec
 }
 
 /// Whether all that a tree names is of the tables.
-fn is_of_tables(tables: &Tables, tree: &Tree) -> bool
+pub fn is_of_tables(tables: &Tables, tree: &Tree) -> bool
     ensures { MatchBool result (IsOfTables tables.now tree.now) ⊤ }
 {
     match tree {

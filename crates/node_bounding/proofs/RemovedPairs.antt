@@ -11,10 +11,12 @@ use Rattle.fleet_model.specs.declared.tables.Tables.{Tables}
 use Rattle.fleet_model.proofs.FewChoices.{few_choices}
 use Rattle.fleet_model.proofs.PeriodMinutes.{last_in}
 use Rattle.dual_bound.specs.OfTables.{IsChargeOf, IsStepOf}
-use Rattle.dual_bound.specs.Prices.{ArePrices, price_after, price_of, rent_of}
+use Rattle.dual_bound.specs.Prices.{AreCharges, ArePrices, price_after, price_of, rent_of}
 use Rattle.dual_bound.specs.WrittenOrder.{IsStepInOrder}
 use Rattle.dual_bound.specs.declared.prices.Prices.{Prices}
 use Rattle.dual_bound.specs.declared.trees.Tree.{Tree}
+use Rattle.dual_bound.proofs.Charges.{no_rise}
+use Rattle.dual_bound.proofs.NoCharges.{none_proper}
 use Rattle.dual_bound.proofs.StepOrder.{zero_figure}
 use Rattle.presolve.specs.Removals.{AreRefuted, kept_after, pair_of, without}
 use Rattle.presolve.specs.declared.trims.Trim.{Trim as Removal}

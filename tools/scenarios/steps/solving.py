@@ -39,15 +39,14 @@ def refusal_of(tables):
 
 
 def answer_of(program, folder, words, limits):
-    """Returns the answer of `solve` in a folder, with the day start and the days of the period for which it holds."""
+    """Returns the answer of `solve` in a folder, with the words by which its tables are read."""
     call = Call(["solve", folder, *words])
     as_json = [] if "json" in call.given else ["--json"]
     ran = run(program, ["solve", *as_json, folder, *words], limits)
     answer = {"status": ran.status, "told": ran.told, "seconds": ran.seconds, "memory": ran.memory}
     if ran.status in PROVED:
         answer["solved"] = json.loads(ran.told)
-        answer["day_start"] = call.given["day-start"][0] if "day-start" in call.given else "03:00"
-        answer["period"] = call.given["period"][0] if "period" in call.given else "1"
+        answer["reading"] = call.reading
     return answer
 
 
@@ -56,13 +55,13 @@ def check(program, solved, place, limits, is_last):
     answer = read_json(os.path.join(solved, ANSWER))
     checked = {}
     if "solved" in answer:
-        checked = answer_or_fault(lambda: checked_of(program, solved, answer, limits), is_last)
+        checked = answer_or_fault(lambda: checked_of(program, solved, answer["reading"], limits), is_last)
     write_json(place, checked)
 
 
-def checked_of(program, solved, answer, limits):
+def checked_of(program, solved, reading, limits):
     sums = sums_of(solved)
-    ran = run(program, ["check", "--day-start", answer["day_start"], "--period", answer["period"], solved], limits)
+    ran = run(program, ["check", *reading, solved], limits)
     return {"told": ran.told, "seconds": ran.seconds, "memory": ran.memory, "sums": sums}
 
 
