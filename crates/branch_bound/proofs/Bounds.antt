@@ -11,7 +11,7 @@ use Rattle.frac_row.proofs.Ceilings.{same_ceiling}
 use Rattle.fleet_model.specs.Counts.{fleet_at}
 use Rattle.fleet_model.specs.Kept.{Domains, IsKeptAssignment, IsSole}
 use Rattle.fleet_model.specs.Legal.{IsLegal, total_cost}
-use Rattle.fleet_model.specs.Schedule.{fleets_in, leg_on, legs_in}
+use Rattle.fleet_model.specs.Schedule.{choices_in, leg_on, legs_in}
 use Rattle.fleet_model.specs.declared.tables.Tables.{Tables}
 use Rattle.dual_bound.specs.Bound.{IsBoundIn, IsPriceBound, IsSoleBound, lesser_bound, part}
 use Rattle.dual_bound.specs.Leaves.{has_open}
@@ -51,12 +51,12 @@ is_chosen p (suc n) some = by_test (p n) refl (is_chosen p n)
 
 module _ (t : Tables) (keeps : Domains) (sole : IsSole t keeps) where
   sole_fleets : List ℕ
-  sole_fleets = list_below (λ l. chosen (λ f. keeps (leg_on l f)) (fleets_in t)) (legs_in t)
+  sole_fleets = list_below (λ l. chosen (λ f. keeps (leg_on l f)) (choices_in t l)) (legs_in t)
 
-  found_on : (l : ℕ) → l < legs_in t → IsChosen (λ f. keeps (leg_on l f)) (fleets_in t) (fleet_at sole_fleets l)
+  found_on : (l : ℕ) → l < legs_in t → IsChosen (λ f. keeps (leg_on l f)) (choices_in t l) (fleet_at sole_fleets l)
   unfolding sole_fleets
   found_on l below =
-      rw (get_or-list_below (λ k. chosen (λ f. keeps (leg_on k f)) (fleets_in t)) (legs_in t) l 0 below) (is_chosen (λ f. keeps (leg_on l f)) (fleets_in t) (omega (arith, sole.each l below)))
+      rw (get_or-list_below (λ k. chosen (λ f. keeps (leg_on k f)) (choices_in t k)) (legs_in t) l 0 below) (is_chosen (λ f. keeps (leg_on l f)) (choices_in t l) (omega (arith, sole.each l below)))
 
   sole_kept : IsKeptAssignment t keeps sole_fleets
   unfolding sole_fleets

@@ -7,6 +7,7 @@ use Rattle.std.proofs.lemmas.List.Elements.{All-contains}
 use Rattle.sums.specs.Places.{list_below}
 use Rattle.fleet_model.specs.Kept.{Domains, all_pairs}
 use Rattle.fleet_model.specs.declared.tables.Tables.{Tables}
+use Rattle.fleet_model.proofs.LeftOut.{all_keep_left_out, steps_are_few}
 use Rattle.dual_bound.specs.Leaves.{depth_of, open_nodes, splits_in}
 use Rattle.dual_bound.specs.declared.trees.TheConstants.{MAX_DEPTH}
 use Rattle.dual_bound.specs.OfTables.{IsOfTables}
@@ -34,7 +35,6 @@ use Rattle.branch_bound.specs.declared.solved.Solved.TheVariants as solved
 use Rattle.branch_bound.proofs.AllNodes.{all_below, all_closed, any_below, at_node, at_nodes, nodes_twice, none_open, searched_below, split_level, splits_below, waiting_level}
 use Rattle.node_bounding.proofs.Closings.{closed_caused, closed_depth, closed_gaps, closed_known, closed_order, closed_soles, closed_sound, closed_splits, closed_trimmed, found_closed}
 use Rattle.node_bounding.proofs.Orders.{no_more_same}
-use Rattle.node_bounding.proofs.PairsKept.{few_pairs}
 use Rattle.node_bounding.proofs.RemovedPairs.{below_part, on_top}
 
 -- without a plan nothing is below a cost
@@ -69,7 +69,7 @@ module _ (t : Tables) (nodes pivots : ℕ) (best : Option Plan) (whole : Tree) (
 
   -- ---- the tree before it is closed
   all_part : IsPart t pivots (cost_of best) (all_pairs t) (zero_prices t) whole
-  all_part = below_part t pivots (cost_of best) (all_pairs t) (zero_prices t) is.removals is.rest whole is.refuted is.below grown.part
+  all_part = below_part t pivots (cost_of best) (all_pairs t) (zero_prices t) is.removals is.rest whole (all_keep_left_out t) is.refuted is.below grown.part
 
   pub sound : AreSound t (cost_of best) (all_pairs t) whole
   sound = all_part.sound
@@ -81,7 +81,7 @@ module _ (t : Tables) (nodes pivots : ℕ) (best : Option Plan) (whole : Tree) (
   trimmed = record { removals = is.removals; given = is.given; on_top = on_top t (all_pairs t) is.removals is.rest whole is.below grown.searched }
 
   shallow : depth_of whole ≤ MAX_DEPTH
-  shallow = omega (arith, all_part.shallow, few_pairs t (all_pairs t))
+  shallow = omega (arith, all_part.shallow, steps_are_few t)
 
   splits_are : splits_in whole ≡ is.comes.splits
   splits_are =

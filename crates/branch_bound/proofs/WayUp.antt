@@ -2,8 +2,9 @@
 use Rattle.std.proofs.Common.{◌≡◌, ℕ, ◌<◌, Bool, true, false, ◌&&◌, List, length, Some, None, IfSome, refl, sym, ◌∙◌, ap, subst, arith}
 use mathlib.Core.Path.{fun_ext}
 use Rattle.fleet_model.specs.Kept.{Domains, leaves, narrowed}
-use Rattle.fleet_model.specs.declared.limits.TheConstants.{MAX_FLEETS, MAX_LEGS}
+use Rattle.fleet_model.specs.declared.limits.TheConstants.{MAX_CHOICES, MAX_LEGS}
 use Rattle.fleet_model.specs.declared.tables.Tables.{Tables}
+use Rattle.fleet_model.proofs.FewChoices.{few_choices}
 use Rattle.branch_bound.specs.History.{KeepsBy}
 use Rattle.branch_bound.specs.Search.{HaveOrigins, IsLater, at}
 use Rattle.node_bounding.specs.Worked.{Worked}
@@ -68,5 +69,5 @@ later_at t all here origin have within from = subst (λ o. IfSome o (IsLater t h
 pub leg_fits : (t : Tables) (here : ℕ) (origin : Origin) → IsLater t here origin → origin.step.leg < MAX_LEGS
 leg_fits t here origin later = omega (arith, later.pair.leg, t.in_range.legs_fit.few)
 
-pub fleet_fits : (t : Tables) (here : ℕ) (origin : Origin) → IsLater t here origin → origin.step.choice < MAX_FLEETS
-fleet_fits t here origin later = omega (arith, later.pair.choice, t.in_range.fleets_fit.few)
+pub choice_fits : (t : Tables) (here : ℕ) (origin : Origin) → IsLater t here origin → origin.step.choice < MAX_CHOICES
+choice_fits t here origin later = omega (arith, later.pair.choice, few_choices t origin.step.leg)

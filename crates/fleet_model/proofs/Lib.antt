@@ -4,6 +4,7 @@ pub mod FewChoices
 pub mod FlownPairs
 pub mod KeptLaws
 pub mod KeptRows
+pub mod LeftOut
 pub mod MixedPlans
 pub mod NeedAtDepartures
 pub mod NightsUsed

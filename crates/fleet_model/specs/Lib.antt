@@ -3,6 +3,7 @@ pub mod Costs
 pub mod Counts
 pub mod Kept
 pub mod Laws
+pub mod LeftOut
 pub mod Legal
 pub mod Limits
 pub mod Mixed

@@ -7,6 +7,7 @@ ghost use Rattle.fleet_model.specs.declared.tables.Tables.{Tables};
 ghost use Rattle.fleet_model.specs.Legal.{IsAssignment};
 ghost use Rattle.fleet_model.specs.Schedule.{fleets_in};
 ghost use Rattle.fleet_model.specs.Laws.{AllowedIsKept, BareHasNone, CountsAreLegs, KeptIsAllowed, NeedIsAtDepartures, NeedIsLeast, NeedSuffices, LapsAreNights, SoleIsOne, UseIsConstant, UseIsNeedAndNights};
+ghost use Rattle.fleet_model.specs.LeftOut.{StepsAreFew};
 ghost use Rattle.fleet_model.specs.Mixed.{LegalIsMixed};
 ghost use Rattle.fleet_model.specs.OtherSizes.{OtherSizeStands};
 ghost use Rattle.fleet_model.specs.Whole.{WholeIsLegal};
@@ -66,6 +67,11 @@ pub fn bare_has_none()
 /// Where each leg keeps one choice, any two assignments of kept pairs are equal.
 pub fn sole_is_one()
     ensures { SoleIsOne }
+{}
+
+/// Where all pairs are kept, no more is left to step than there are pairs of 1,000 legs and 20 fleets.
+pub fn steps_are_few()
+    ensures { StepsAreFew }
 {}
 
 /// A legal assignment of kept pairs is a mixed plan of scale 1, of the same cost.

@@ -8,9 +8,10 @@ use Rattle.sums.proofs.SumBounds.{term_le}
 use Rattle.sums.proofs.Tests.{both_true, no_both, parts_true}
 use Rattle.fleet_model.specs.declared.parts.Pair.{Pair}
 use Rattle.fleet_model.specs.declared.tables.Tables.{Tables}
+use Rattle.fleet_model.specs.LeftOut.{leaves_out, left_out_on}
 use Rattle.fleet_model.specs.Legal.{cost_of}
 use Rattle.fleet_model.specs.Schedule.{IsPair, choices_in, days_in, departures_in, fleet_by, fleets_in, legs_in, parking_of, stations_in}
-use Rattle.island_cut.specs.PlainDay.{is_plain_day, leaves_out, left_out, left_out_on, limits_in}
+use Rattle.island_cut.specs.PlainDay.{is_plain_day, left_out, limits_in}
 use Rattle.island_cut.proofs.Counted.{none_counted}
 
 pub record IsPlainDay (t : Tables) : Type 0 where

@@ -1,23 +1,15 @@
 -- Tables that may have islands: of one day, without limits at night, whose legs depart once and are all flown.
-use Rattle.std.specs.Prelude.{ℕ, ◌==◌, ◌&&◌, not, nat_lt, Bool, is_some}
+use Rattle.std.specs.Prelude.{ℕ, ◌==◌, ◌&&◌, Bool, is_some}
 use Rattle.sums.specs.Below.{count_below, sum_below}
 use Rattle.fleet_model.specs.declared.tables.Tables.{Tables}
-use Rattle.fleet_model.specs.Kept.{all_pairs}
-use Rattle.fleet_model.specs.Schedule.{choices_in, days_in, departures_in, fleet_by, fleets_in, leg_on, legs_in, parking_of, stations_in}
+use Rattle.fleet_model.specs.LeftOut.{left_out_on}
+use Rattle.fleet_model.specs.Schedule.{days_in, departures_in, legs_in, parking_of, stations_in}
 
 -- at how many stations only so many aircraft may stand at a day's end
 unfoldable pub limits_in : Tables → ℕ
 limits_in t = count_below (λ s. is_some (parking_of t s)) (stations_in t)
 
--- no fleet flies the leg by this choice, and it may be taken
-abbrev pub leaves_out : Tables → ℕ → ℕ → Bool
-leaves_out t l c = not (nat_lt (fleet_by t (leg_on l c)) (fleets_in t)) && all_pairs t (leg_on l c)
-
--- by how many choices the leg may be left out
-unfoldable pub left_out_on : Tables → ℕ → ℕ
-left_out_on t l = count_below (leaves_out t l) (choices_in t l)
-
--- .. and all legs
+-- by how many choices all legs may be left out
 unfoldable pub left_out : Tables → ℕ
 left_out t = sum_below (left_out_on t) (legs_in t)
 

@@ -2,7 +2,8 @@
 ghost use Rattle.std.specs.Prelude.{◌≡◌, ◌<◌, ◌≤◌};
 ghost use Rattle.fleet_model.specs.Schedule.{legs_in};
 ghost use Rattle.fleet_model.specs.declared.limits.TheConstants.{MAX_CHOICES};
-ghost use Rattle.island_cut.specs.PlainDay.{is_plain_day, left_out, left_out_on, limits_in};
+ghost use Rattle.fleet_model.specs.LeftOut.{left_out_on};
+ghost use Rattle.island_cut.specs.PlainDay.{is_plain_day, left_out, limits_in};
 
 use fleet_model::{Pair, Tables};
 
@@ -45,7 +46,7 @@ fn left_out(tables: &Tables) -> u32
 }
 
 // By how many choices a leg may be left out.
-#[tactic(auto, unfolding(crate::specs::PlainDay::left_out_on))]
+#[tactic(auto, unfolding(fleet_model::specs::LeftOut::left_out_on))]
 fn left_out_on(tables: &Tables, leg: u32) -> u32
     requires { leg < legs_in tables.now }
     ensures value { result ≡ left_out_on tables.now leg }

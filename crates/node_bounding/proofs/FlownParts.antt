@@ -3,7 +3,7 @@
 use Rattle.std.proofs.Common.{◌≡◌, ℕ, ◌<◌, ◌++◌, List, [], ◌∷◌, length, length-append, inl, inr, arith}
 use Rattle.std.proofs.lemmas.Bool.{cases_lt}
 use Rattle.fleet_model.specs.Counts.{fleet_at}
-use Rattle.fleet_model.specs.Schedule.{fleets_in, legs_in}
+use Rattle.fleet_model.specs.Schedule.{choices_in, legs_in}
 use Rattle.fleet_model.specs.declared.tables.Tables.{Tables}
 use Rattle.fleet_model.proofs.SoleFleets.{earlier_fleet, last_fleet}
 use Rattle.dual_bound.specs.Fractions.{IsWholeLeg, IsWholePair}
@@ -31,6 +31,6 @@ first_of_all t mixed leg fleet within before here = record {
   first = record { some = here.partial.some; not_all = here.partial.not_all; first = each };
 }
   where
-    each : (l f : ℕ) → f < fleets_in t → ComesBefore l f leg fleet → IsWholePair mixed l f
+    each : (l f : ℕ) → f < choices_in t l → ComesBefore l f leg fleet → IsWholePair mixed l f
     each l f known (inl earlier) = before l earlier f known
     each l f known (inr same) = rw same.0 (here.first f same.1)

@@ -19,7 +19,7 @@ use Rattle.node_bounding.specs.Causes.{IsFirstPartial}
 use Rattle.node_bounding.specs.Splits.{IsSplit}
 use Rattle.node_bounding.specs.Found.{AnswersSole}
 use Rattle.node_bounding.proofs.Nodes.{node}
-use Rattle.node_bounding.proofs.PairsKept.{not_one}
+use Rattle.node_bounding.proofs.StepsLeft.{not_one}
 
 -- a node that is no leaf of one assignment answers nothing
 pub answers_none : (t : Tables) (cost : Option ℤ) (keeps : Domains) (whole : Tree) → whole ≢ tree.Sole → AnswersSole t cost (node keeps whole)
@@ -121,6 +121,6 @@ module _ (t : Tables) (cost : Option ℤ) (keeps : Domains) (leg fleet : ℕ) (y
       each rule.Pairs = is.searched.some_pair
       each rule.Refuted = tt
       each rule.Priced = tt
-      each rule.Parts = (is.kept, not_one t keeps leg fleet is.pair.choice is.kept is.other)
+      each rule.Parts = (is.kept, not_one t keeps leg fleet is.pair is.kept is.other)
       each rule.Mixed = is.best.mixed_at
       each rule.Fraction = (is.fraction, is_partial mixed is.first)

@@ -8,8 +8,8 @@ pub mod Leaves
 pub mod Lifts
 pub mod Nodes
 pub mod Orders
-pub mod PairsKept
 pub mod Parts
 pub mod RemovedPairs
 pub mod SplitPairs
+pub mod StepsLeft
 pub mod WholePlans

@@ -1,6 +1,7 @@
 -- The tree of a part of a search, of the trees of its own parts.
 use Rattle.std.proofs.Common.{Box, Global, ◌≡◌, ℕ, true, false, [], ◌∷◌, All, Option, ℤ, sym, ap, subst, arith}
 use Rattle.fleet_model.specs.Kept.{Domains}
+use Rattle.fleet_model.specs.LeftOut.{KeepLeftOut}
 use Rattle.fleet_model.specs.declared.tables.Tables.{Tables}
 use Rattle.dual_bound.specs.Bound.{part}
 use Rattle.dual_bound.specs.Leaves.{depth_of}
@@ -13,15 +14,16 @@ use Rattle.dual_bound.specs.declared.trees.Tree.{Split, Tree, Trim}
 use Rattle.dual_bound.specs.declared.trees.Tree.TheVariants as tree
 use Rattle.cert_check.specs.Nodes.{Node, nodes_in}
 use Rattle.cert_check.specs.Rules.{IsSound}
-use Rattle.presolve.specs.Removals.{IsRefuted}
+use Rattle.presolve.specs.Removals.{IsRefuted, pair_of}
 use Rattle.presolve.specs.declared.trims.Trim.{Trim as Trimmed}
+use Rattle.presolve.proofs.StepsLeft.{one_step}
 use Rattle.node_bounding.specs.Causes.{AreCaused}
 use Rattle.node_bounding.specs.Found.{AnswersSole}
 use Rattle.node_bounding.specs.Subproblems.{IsPart}
 use Rattle.node_bounding.specs.Splits.{IsSplit}
 use Rattle.node_bounding.proofs.Leaves.{answers_none, refuted_sound, split_sound, trim_sound}
 use Rattle.node_bounding.proofs.Nodes.{all_more, all_one, node}
-use Rattle.node_bounding.proofs.PairsKept.{fewer_with, fewer_without}
+use Rattle.node_bounding.proofs.StepsLeft.{fewer_with, fewer_without}
 
 -- a leaf
 pub leaf_part : (t : Tables) (pivots : ℕ) (final : Option ℤ) (keeps : Domains) (above : Prices) (leaf : Tree) → nodes_in keeps leaf ≡ node keeps leaf ∷ [] → depth_of leaf ≡ 0 → IsOfTables t leaf → InWrittenOrder t leaf
@@ -41,7 +43,7 @@ pub split_part : (t : Tables) (pivots : ℕ) (final : Option ℤ) (keeps : Domai
 split_part t pivots final keeps above leg fleet prices mixed first second is with_pair without = record {
   of_tables = (is.pair, is.best.good.known, is.best.known, with_pair.of_tables, without.of_tables);
   in_order = all_more (IsNodeInOrder t) _ _ _ (is.pair, is.best.good.in_order, is.best.in_order) with_pair.in_order without.in_order;
-  shallow = omega (arith, with_pair.shallow, without.shallow, fewer_with t keeps leg fleet is.pair.leg is.other, fewer_without t keeps leg fleet is.pair is.kept);
+  shallow = omega (arith, with_pair.shallow, without.shallow, fewer_with t keeps leg fleet is.pair is.kept is.other, fewer_without t keeps leg fleet is.pair is.kept is.other);
   sound = all_more (IsSound t final) _ _ _ (split_sound t final keeps leg fleet first second prices mixed is) with_pair.sound without.sound;
   soles = all_more (AnswersSole t final) _ _ _ (answers_none t final keeps (Split leg fleet prices mixed first second) (λ e. cc)) with_pair.soles without.soles;
   caused = (is.first, with_pair.caused, without.caused);
@@ -49,7 +51,7 @@ split_part t pivots final keeps above leg fleet prices mixed first second is wit
 
 -- a trim whose part with the pair is refuted, of the other part
 module _ (t : Tables) (pivots : ℕ) (final : Option ℤ) (keeps : Domains) (above : Prices) (trim : Trimmed) (first second : Box Tree Global)
-    (refuted : IsRefuted t keeps trim) (is : first.value ≡ tree.Refuted trim.reason)
+    (out : KeepLeftOut t keeps) (refuted : IsRefuted t keeps trim) (is : first.value ≡ tree.Refuted trim.reason)
     (without : IsPart t pivots final (part keeps trim.leg trim.choice false) above second.value) where
   abbrev whole : Tree
   whole = Trim trim.leg trim.choice first second
@@ -64,7 +66,7 @@ module _ (t : Tables) (pivots : ℕ) (final : Option ℤ) (keeps : Domains) (abo
   trim_part = record {
     of_tables = (refuted.pair, subst (IsOfTables t) (sym is) refuted.of_tables, without.of_tables);
     in_order = all_more (IsNodeInOrder t) _ _ _ refuted.pair (subst (InWrittenOrder t) (sym is) (all_one (IsNodeInOrder t) (ordered.Refuted trim.reason) refuted.in_order)) without.in_order;
-    shallow = omega (arith, ap depth_of is, without.shallow, fewer_without t keeps trim.leg trim.choice refuted.pair refuted.kept);
+    shallow = omega (arith, ap depth_of is, without.shallow, one_step t keeps (pair_of trim) refuted.pair refuted.by refuted.kept out);
     sound = at_all (IsSound t final) (trim_sound t final keeps trim.leg trim.choice first second trim.reason is refuted.kept)
         (refuted_sound t final (part keeps trim.leg trim.choice true) trim.reason refuted.proper refuted.none_bare refuted.above) without.sound;
     soles = at_all (AnswersSole t final) (answers_none t final keeps whole (λ e. cc)) (answers_none t final _ (tree.Refuted trim.reason) (λ e. cc)) without.soles;

@@ -4,9 +4,11 @@ use Rattle.std.proofs.lemmas.Int.{ints}
 use Rattle.std.proofs.lemmas.List.Elements.{All-cons, All-nil}
 use Rattle.sums.proofs.Places.{get_or-list_below, length-list_below}
 use Rattle.fleet_model.specs.Kept.{Domains, all_pairs}
+use Rattle.fleet_model.specs.LeftOut.{KeepLeftOut}
 use Rattle.fleet_model.specs.Schedule.{fleets_in, last_of}
 use Rattle.fleet_model.specs.Whole.{KeepAllowed}
 use Rattle.fleet_model.specs.declared.tables.Tables.{Tables}
+use Rattle.fleet_model.proofs.FewChoices.{few_choices}
 use Rattle.fleet_model.proofs.PeriodMinutes.{last_in}
 use Rattle.dual_bound.specs.OfTables.{IsChargeOf, IsStepOf}
 use Rattle.dual_bound.specs.Prices.{AreCharges, ArePrices, price_after, price_of, rent_of}
@@ -16,8 +18,9 @@ use Rattle.dual_bound.specs.declared.trees.Tree.{Tree}
 use Rattle.dual_bound.proofs.Charges.{no_rise}
 use Rattle.dual_bound.proofs.NoCharges.{none_proper}
 use Rattle.dual_bound.proofs.StepOrder.{zero_figure}
-use Rattle.presolve.specs.Removals.{AreRefuted, kept_after, without}
+use Rattle.presolve.specs.Removals.{AreRefuted, kept_after, pair_of, without}
 use Rattle.presolve.specs.declared.trims.Trim.{Trim as Removal}
+use Rattle.presolve.proofs.StepsLeft.{keep_left_out}
 use Rattle.node_bounding.specs.Causes.{zero_prices}
 use Rattle.node_bounding.specs.Relaxed.{AreGood}
 use Rattle.node_bounding.specs.Subproblems.{IsPart}
@@ -30,7 +33,7 @@ pub removals_within : (t : Tables) (keeps : Domains) (removals : List Removal) �
 removals_within t keeps [] refuted = All-nil IsWithin
 removals_within t keeps (removal ∷ removals) refuted =
     All-cons IsWithin removal removals
-    (record { leg = omega (arith, refuted.0.pair.leg, t.in_range.legs_fit.few); choice = omega (arith, refuted.0.pair.choice, t.in_range.fleets_fit.few) })
+    (record { leg = omega (arith, refuted.0.pair.leg, t.in_range.legs_fit.few); choice = omega (arith, refuted.0.pair.choice, few_choices t removal.leg) })
     (removals_within t (without keeps removal) removals refuted.1)
 
 pub allowed_after : (t : Tables) (keeps : Domains) (removals : List Removal) → KeepAllowed t keeps → KeepAllowed t (kept_after keeps removals)
@@ -41,13 +44,13 @@ pub allowed_all : (t : Tables) → KeepAllowed t (all_pairs t)
 allowed_all t = record { each = λ p pair kept. kept }
 
 -- the tree of a subproblem, of that of the pairs that are kept after removals
-pub below_part : (t : Tables) (pivots : ℕ) (final : Option ℤ) (keeps : Domains) (above : Prices) (removals : List Removal) (rest whole : Tree) → AreRefuted t keeps removals → AreBelow removals rest whole
+pub below_part : (t : Tables) (pivots : ℕ) (final : Option ℤ) (keeps : Domains) (above : Prices) (removals : List Removal) (rest whole : Tree) → KeepLeftOut t keeps → AreRefuted t keeps removals → AreBelow removals rest whole
     → IsPart t pivots final (kept_after keeps removals) above rest → IsPart t pivots final keeps above whole
-below_part t pivots final keeps above [] rest whole refuted same is = subst (IsPart t pivots final keeps above) (sym same) is
-below_part t pivots final keeps above (removal ∷ removals) rest whole refuted (inner, below, here) is =
+below_part t pivots final keeps above [] rest whole out refuted same is = subst (IsPart t pivots final keeps above) (sym same) is
+below_part t pivots final keeps above (removal ∷ removals) rest whole out refuted (inner, below, here) is =
     subst (IsPart t pivots final keeps above) (sym here.is)
-    (trim_part t pivots final keeps above removal here.with_pair here.without refuted.0 here.yes_is
-    (subst (IsPart t pivots final (without keeps removal) above) (sym here.no_is) (below_part t pivots final (without keeps removal) above removals rest inner refuted.1 below is)))
+    (trim_part t pivots final keeps above removal here.with_pair here.without out refuted.0 here.yes_is
+    (subst (IsPart t pivots final (without keeps removal) above) (sym here.no_is) (below_part t pivots final (without keeps removal) above removals rest inner (keep_left_out t keeps (pair_of removal) refuted.0.pair refuted.0.by refuted.0.kept out) refuted.1 below is)))
 
 -- the pairs that are kept once the removals were taken away, as the code does it
 pub kept_now : (t : Tables) (start keeps : Domains) (removals slice : List Removal) → start ≡ all_pairs t → slice ≡ removals → keeps ≡ kept_after start slice → keeps ≡ kept_after (all_pairs t) removals

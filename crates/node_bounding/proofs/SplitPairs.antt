@@ -6,7 +6,7 @@ use Rattle.sums.specs.Below.{sum_below}
 use Rattle.sums.proofs.Naturals.{by_number}
 use Rattle.sums.proofs.Tests.{by_test}
 use Rattle.fleet_model.specs.Kept.{Domains}
-use Rattle.fleet_model.specs.Schedule.{IsPair, fleets_in, leg_on}
+use Rattle.fleet_model.specs.Schedule.{IsPair, choices_in, leg_on}
 use Rattle.fleet_model.specs.declared.parts.Pair.{Pair}
 use Rattle.fleet_model.specs.declared.tables.Tables.{Tables}
 use Rattle.dual_bound.specs.Mixed.{weight_in}
@@ -64,7 +64,7 @@ module _ (t : Tables) (keeps : Domains) (mixed : Mixed) (is : IsMixedAt t keeps 
     pub split_other : KeepsOther t keeps pair.leg pair.choice
     split_other =
         let less : parts_in mixed pair < parts_of_leg mixed = omega (arith, ints, first.some, first.not_all) in
-        let found = other_term (λ f. parts_in mixed (leg_on pair.leg f)) (fleets_in t) pair.choice (λ past. absurd (omega (arith, past, known.choice))) (λ there. omega (arith, less, is.plan.cover pair.leg known.leg)) in
+        let found = other_term (λ f. parts_in mixed (leg_on pair.leg f)) (choices_in t pair.leg) pair.choice (λ past. absurd (omega (arith, past, known.choice))) (λ there. omega (arith, less, is.plan.cover pair.leg known.leg)) in
         record {
           other = found.place;
           known = found.within;

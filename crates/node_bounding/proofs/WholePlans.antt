@@ -14,7 +14,7 @@ use Rattle.fleet_model.specs.Counts.{Weights, fleet_at, weights_of}
 use Rattle.fleet_model.specs.Kept.{Domains, IsKeptAssignment}
 use Rattle.fleet_model.specs.Legal.{IsLegal, cost_of, total_cost}
 use Rattle.fleet_model.specs.Mixed.{mixed_cost, weighted_cost}
-use Rattle.fleet_model.specs.Schedule.{IsPair, fleets_in, leg_on, legs_in}
+use Rattle.fleet_model.specs.Schedule.{IsPair, choices_in, leg_on, legs_in}
 use Rattle.fleet_model.specs.Whole.{IsLegalBy, KeepAllowed}
 use Rattle.fleet_model.specs.Whole as whole
 use Rattle.fleet_model.specs.declared.parts.Pair.{Pair}
@@ -26,7 +26,7 @@ use Rattle.dual_bound.specs.Worth.{worth_of}
 use Rattle.dual_bound.specs.declared.mixed.Mixed.{Mixed}
 use Rattle.dual_bound.specs.declared.prices.Prices.{Prices}
 use Rattle.dual_bound.specs.Fractions.{IsEnd, IsMixedAt, IsWhole, IsWorth, parts_in, parts_of_leg}
-use Rattle.node_bounding.specs.Wholes.{FliesParts, HasFleets}
+use Rattle.node_bounding.specs.Wholes.{FliesParts, HasChoices}
 use Rattle.node_bounding.proofs.Orders.{ceiling_exact}
 
 -- ---- weights that are so many times others
@@ -37,10 +37,10 @@ times_cost : (t : Tables) (c : ℕ) (w u : Weights) → ((p : Pair) → IsPair t
 unfolding mixed_cost
 times_cost t c w u same =
     sum_below_ℤ-same _ _ (legs_in t) (λ l leg.
-    sum_below_ℤ-same _ _ (fleets_in t) (λ f fleet. ap (λ n. pos n *ℤ unwrap_or (cost_of t (leg_on l f)) (pos 0)) (same (leg_on l f) (record { leg = leg; choice = fleet }))
+    sum_below_ℤ-same _ _ (choices_in t l) (λ f fleet. ap (λ n. pos n *ℤ unwrap_or (cost_of t (leg_on l f)) (pos 0)) (same (leg_on l f) (record { leg = leg; choice = fleet }))
     ∙ regroup c (u (leg_on l f)) (unwrap_or (cost_of t (leg_on l f)) (pos 0)))
-    ∙ sym (*ℤ-sum_below_ℤ (pos c) (weighted_cost t u l) (fleets_in t)))
-    ∙ sym (*ℤ-sum_below_ℤ (pos c) (λ l. sum_below_ℤ (weighted_cost t u l) (fleets_in t)) (legs_in t))
+    ∙ sym (*ℤ-sum_below_ℤ (pos c) (weighted_cost t u l) (choices_in t l)))
+    ∙ sym (*ℤ-sum_below_ℤ (pos c) (λ l. sum_below_ℤ (weighted_cost t u l) (choices_in t l)) (legs_in t))
 
 -- ---- a fractional assignment
 
@@ -49,10 +49,10 @@ module _ (t : Tables) (keeps : Domains) (mixed : Mixed) (is : IsMixedAt t keeps 
   some_parts : 0 < parts_of_leg mixed
   some_parts = omega (arith, ints, is.parts.scale.some)
 
-  pub has_fleets : HasFleets t mixed
+  pub has_fleets : HasChoices t mixed
   has_fleets = record {
     each = λ l below none.
-        let all : sum_below (λ f. parts_in mixed (leg_on l f)) (fleets_in t) ≡ 0 = no_parts (λ f. parts_in mixed (leg_on l f)) (fleets_in t) (λ f known. size_of_zero (weight_in mixed (leg_on l f)) (none f known)) in
+        let all : sum_below (λ f. parts_in mixed (leg_on l f)) (choices_in t l) ≡ 0 = no_parts (λ f. parts_in mixed (leg_on l f)) (choices_in t l) (λ f known. size_of_zero (weight_in mixed (leg_on l f)) (none f known)) in
         absurd (omega (arith, all, is.plan.cover l below, some_parts));
   }
     where

@@ -2,7 +2,7 @@
 use Rattle.std.specs.Prelude.{◌≡◌, ℕ, ◌<◌, ◌⊎◌, ⊤, true, false, [], pos, ◌<ℤ◌}
 use Rattle.sums.specs.Places.{list_below}
 use Rattle.fleet_model.specs.Kept.{Domains, IsFirstBare}
-use Rattle.fleet_model.specs.Schedule.{fleets_in, leg_on}
+use Rattle.fleet_model.specs.Schedule.{choices_in, fleets_in, leg_on}
 use Rattle.fleet_model.specs.declared.tables.Tables.{Tables}
 use Rattle.dual_bound.specs.Bound.{part}
 use Rattle.dual_bound.specs.Mixed.{weight_in}
@@ -35,15 +35,15 @@ IsOpenBy t keeps pivots above prices (cause.Pivots made) = IsLeftOpen t keeps pi
 IsOpenBy t keeps pivots above prices (cause.Grew made row column) = IsLeftOpen t keeps pivots above prices (cause.Grew made row column)
 IsOpenBy t keeps pivots above prices (cause.Lift step at) = IsLeftOpen t keeps pivots above prices (cause.Lift step at)
 
--- a pair comes before another: by leg, then by fleet
+-- a pair comes before another: by leg, then by choice
 abbrev pub ComesBefore : ℕ → ℕ → ℕ → ℕ → Type 0
-ComesBefore l f leg fleet = (l < leg) ⊎ ((l ≡ leg) × (f < fleet))
+ComesBefore l c leg choice = (l < leg) ⊎ ((l ≡ leg) × (c < choice))
 
--- the first pair, by leg and then by fleet, that is flown in part
-pub record IsFirstPartial (t : Tables) (mixed : Mixed) (leg fleet : ℕ) : Type 0 where
-  pub some : pos 0 <ℤ weight_in mixed (leg_on leg fleet)
-  pub not_all : weight_in mixed (leg_on leg fleet) <ℤ mixed.scale
-  pub first : (l f : ℕ) → f < fleets_in t → ComesBefore l f leg fleet → IsWholePair mixed l f
+-- the first pair, by leg and then by choice, that is flown in part
+pub record IsFirstPartial (t : Tables) (mixed : Mixed) (leg choice : ℕ) : Type 0 where
+  pub some : pos 0 <ℤ weight_in mixed (leg_on leg choice)
+  pub not_all : weight_in mixed (leg_on leg choice) <ℤ mixed.scale
+  pub first : (l c : ℕ) → c < choices_in t l → ComesBefore l c leg choice → IsWholePair mixed l c
 
 -- The cause of each leaf and each split of a part of a tree, with so many pivots allowed for each subproblem; `above`
 -- are the prices of the nearest split.

@@ -1,7 +1,7 @@
 -- Subproblems that may be split by a pair.
 use Rattle.std.specs.Prelude.{◌≢◌, ℕ, ◌<◌}
 use Rattle.fleet_model.specs.Kept.{Domains}
-use Rattle.fleet_model.specs.Schedule.{IsPair, fleets_in, leg_on}
+use Rattle.fleet_model.specs.Schedule.{IsPair, choices_in, leg_on}
 use Rattle.fleet_model.specs.declared.tables.Tables.{Tables}
 use Rattle.dual_bound.specs.Fractions.{IsFraction}
 use Rattle.dual_bound.specs.declared.mixed.Mixed.{Mixed}
@@ -11,12 +11,12 @@ use Rattle.node_bounding.specs.Causes.{IsFirstPartial}
 use Rattle.node_bounding.specs.Relaxed.{AreBest}
 use Rattle.node_bounding.specs.Runs.{IsSearched}
 
--- a leg keeps another fleet beside this one
-pub record KeepsOther (t : Tables) (keeps : Domains) (leg fleet : ℕ) : Type 0 where
+-- a leg keeps another choice beside this one
+pub record KeepsOther (t : Tables) (keeps : Domains) (leg choice : ℕ) : Type 0 where
   pub other : ℕ
-  pub known : other < fleets_in t
+  pub known : other < choices_in t leg
   pub kept : IsKeptPair keeps leg other
-  pub differs : other ≢ fleet
+  pub differs : other ≢ choice
 
 -- a subproblem that may be split by a pair
 pub record IsSplit (t : Tables) (keeps : Domains) (leg fleet : ℕ) (prices : Prices) (mixed : Mixed) : Type 0 where

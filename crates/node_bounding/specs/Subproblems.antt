@@ -1,7 +1,8 @@
 -- Plans, and what is known of a subproblem.
 use Rattle.std.specs.Prelude.{◌≡◌, ℕ, ◌≤◌, All, ⊤, Option, Some, None, IfSome, IsSomeAnd, ℤ, ◌≤ℤ◌, ◌<ℤ◌}
 use Rattle.frac_row.specs.Ratio.{IsCeiling}
-use Rattle.fleet_model.specs.Kept.{Domains, pairs_kept}
+use Rattle.fleet_model.specs.Kept.{Domains}
+use Rattle.fleet_model.specs.LeftOut.{steps_left}
 use Rattle.fleet_model.specs.Legal.{IsLegal, total_cost}
 use Rattle.fleet_model.specs.declared.tables.Tables.{Tables}
 use Rattle.dual_bound.specs.Leaves.{depth_of}
@@ -60,7 +61,7 @@ pub record IsFractional (t : Tables) (keeps : Domains) (f : Fraction) : Type 0 w
 pub record IsPart (t : Tables) (pivots : ℕ) (final : Option ℤ) (keeps : Domains) (above : Prices) (tree : Tree) : Type 0 where
   pub of_tables : IsOfTables t tree
   pub in_order : InWrittenOrder t tree
-  pub shallow : depth_of tree ≤ pairs_kept t keeps
+  pub shallow : depth_of tree ≤ steps_left t keeps
   pub sound : AreSound t final keeps tree
   pub soles : All (AnswersSole t final) (nodes_in keeps tree)
   pub caused : AreCaused t pivots keeps above tree

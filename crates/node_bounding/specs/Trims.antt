@@ -1,7 +1,7 @@
 -- The removals of presolve, put above a tree, and what stands below them.
 use Rattle.std.specs.Prelude.{Box, ◌≡◌, ◌<◌, true, false, List, [], ◌∷◌, ⊤}
 use Rattle.std.specs.declared.alloc.Global.{Global}
-use Rattle.fleet_model.specs.declared.limits.TheConstants.{MAX_FLEETS, MAX_LEGS}
+use Rattle.fleet_model.specs.declared.limits.TheConstants.{MAX_CHOICES, MAX_LEGS}
 use Rattle.fleet_model.specs.Kept.{Domains, all_pairs}
 use Rattle.fleet_model.specs.declared.tables.Tables.{Tables}
 use Rattle.dual_bound.specs.Bound.{part}
@@ -14,7 +14,7 @@ use Rattle.node_bounding.specs.Runs.{IsSearched}
 -- a removal of a pair that there may be
 pub record IsWithin (removal : Removal) : Type 0 where
   pub leg : removal.leg < MAX_LEGS
-  pub choice : removal.choice < MAX_FLEETS
+  pub choice : removal.choice < MAX_CHOICES
 
 -- a tree below a removal: the part with the pair is refuted by its reason, and the tree is that of the other part
 pub record IsBelow (removal : Removal) (rest whole : Tree) : Type 0 where

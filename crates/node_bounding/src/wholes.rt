@@ -1,20 +1,20 @@
 //! Fractional assignments: the first pair that is flown in part, and where there is none the assignment that is flown.
 ghost use Rattle.std.specs.Prelude.{◌≡◌, ◌<◌, MatchBool, MatchOption};
-ghost use Rattle.fleet_model.specs.Schedule.{IsPair, fleets_in, leg_on, legs_in};
+ghost use Rattle.fleet_model.specs.Schedule.{IsPair, legs_in};
 ghost use Rattle.dual_bound.specs.Fractions.{AreParts, IsWhole, IsWholeLeg, IsWholePair};
-ghost use Rattle.node_bounding.specs.Wholes.{FliesPart, FliesParts, HasFleets, IsFirstPartialOn, IsPartial, IsSplitPair};
+ghost use Rattle.node_bounding.specs.Wholes.{FliesPart, FliesParts, HasChoices, IsFirstPartialOn, IsPartial, IsSplitPair};
 
 use dual_bound::Mixed;
 use fleet_model::{Assignment, Pair, Tables};
 
-/// The first pair, by leg and then by fleet, that is flown in part. Takes no memory.
+/// The first pair, by leg and then by choice, that is flown in part. Takes no memory.
 pub(crate) fn first_partial(tables: &Tables, mixed: &Mixed) -> Option<Pair>
     requires { AreParts tables.now mixed.now }
     ensures { MatchOption result (IsWhole tables.now mixed.now) (IsSplitPair tables.now mixed.now) }
 {
     for leg in 0..tables.leg_count() {
-        if let Some(fleet) = first_partial_on(tables, mixed, leg) {
-            return Some(Pair { leg, choice: fleet });
+        if let Some(choice) = first_partial_on(tables, mixed, leg) {
+            return Some(Pair { leg, choice });
         }
     }
     None
@@ -26,9 +26,9 @@ fn first_partial_on(tables: &Tables, mixed: &Mixed, leg: u32) -> Option<u32>
     requires leg { leg < legs_in tables.now }
     ensures { MatchOption result (IsWholeLeg tables.now mixed.now leg) (IsFirstPartialOn tables.now mixed.now leg) }
 {
-    for fleet in 0..tables.fleet_count() {
-        if is_partial(tables, mixed, Pair { leg, choice: fleet }) {
-            return Some(fleet);
+    for choice in 0..tables.choice_count(leg) {
+        if is_partial(tables, mixed, Pair { leg, choice }) {
+            return Some(choice);
         }
     }
     None
@@ -44,9 +44,9 @@ fn is_partial(tables: &Tables, mixed: &Mixed, pair: Pair) -> bool
     0 < weight && weight < mixed.scale
 }
 
-/// The assignment that flies each leg by the first fleet that flies a part of it. Takes no memory.
+/// The assignment that has for each leg the first choice by which a part of it is flown. Takes no memory.
 pub(crate) fn flown_parts(tables: &Tables, mixed: &Mixed) -> Assignment
-    requires { HasFleets tables.now mixed.now }
+    requires { HasChoices tables.now mixed.now }
     ensures { FliesParts tables.now mixed.now result }
 {
     let mut plan = Assignment::empty();
@@ -56,15 +56,15 @@ pub(crate) fn flown_parts(tables: &Tables, mixed: &Mixed) -> Assignment
     plan
 }
 
-// The first fleet that flies a part of a leg.
+// The first choice by which a part of a leg is flown.
 fn flown_part(tables: &Tables, mixed: &Mixed, leg: u32) -> u32
-    requires some { HasFleets tables.now mixed.now }
+    requires some { HasChoices tables.now mixed.now }
     requires leg { leg < legs_in tables.now }
     ensures { FliesPart tables.now mixed.now leg result }
 {
-    for fleet in 0..tables.fleet_count() {
-        if mixed.weight(Pair { leg, choice: fleet }) != 0 {
-            return fleet;
+    for choice in 0..tables.choice_count(leg) {
+        if mixed.weight(Pair { leg, choice }) != 0 {
+            return choice;
         }
     }
     unreachable!()

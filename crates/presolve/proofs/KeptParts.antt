@@ -2,16 +2,13 @@
 use Rattle.std.proofs.Common.{◌≡◌, ◌≢◌, ℕ, ◌+◌, ◌<◌, Bool, true, false, not, ◌==◌, ◌&&◌, if◌then◌else◌, refl, ap, sym, ◌∙◌, arith}
 use Rattle.std.proofs.lemmas.Bool.Decides.{nat_tests}
 use Rattle.sums.proofs.Counts.{count_below-some}
-use Rattle.sums.proofs.Sums.{count_below-le, sum_below-agree, sum_below-bound}
+use Rattle.sums.proofs.Sums.{sum_below-agree}
 use Rattle.sums.proofs.Tests.{first_true}
 use Rattle.fleet_model.specs.Kept.{Domains, kept_on, pairs_kept}
 use Rattle.fleet_model.specs.Schedule.{IsPair, choices_in, leg_on, legs_in}
-use Rattle.fleet_model.specs.declared.limits.TheConstants.{MAX_CHOICES}
 use Rattle.fleet_model.specs.declared.parts.Pair.{Pair}
 use Rattle.fleet_model.specs.declared.tables.Tables.{Tables}
-use Rattle.fleet_model.proofs.FewChoices.{few_choices}
 use Rattle.dual_bound.specs.Bound.{part}
-use Rattle.presolve.specs.Laws.{PairsAreFew}
 use Rattle.presolve.specs.Removals.{NoneBare}
 use Rattle.sums.proofs.OneChanged.{count_below-fewer, sum_below-more}
 
@@ -110,10 +107,3 @@ one_fewer t keeps p pair kept = fewer t keeps p.leg p.choice pair.leg pair.choic
 
 pub flown_none_bare : (t : Tables) (keeps : Domains) (p : Pair) → IsPair t p → keeps p ≡ true → NoneBare t keeps → NoneBare t (part keeps p.leg p.choice true)
 flown_none_bare t keeps p pair kept none = still_none_bare t keeps p.leg p.choice pair.choice kept none
-
--- there are as many kept pairs as legs times choices at most
-pub pairs_are_few : PairsAreFew
-pairs_are_few t keeps =
-    let legs = t.in_range.legs_fit.few in
-    let each = sum_below-bound (kept_on t keeps) MAX_CHOICES (legs_in t) (record { each = λ l below. omega (arith, count_below-le (λ c. keeps (leg_on l c)) (choices_in t l), few_choices t l) }) in
-    omega (arith, each, legs)

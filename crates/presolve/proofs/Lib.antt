@@ -15,4 +15,5 @@ pub mod RemovalLaws
 pub mod Removed
 pub mod SoFar
 pub mod StationRules
+pub mod StepsLeft
 pub mod UnderWay

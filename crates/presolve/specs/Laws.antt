@@ -1,11 +1,11 @@
 -- The laws of presolve, as statements.
-use Rattle.std.specs.Prelude.{◌≡◌, ℕ, ◌<◌, ◌≤◌, List, map}
+use Rattle.std.specs.Prelude.{◌≡◌, ℕ, ◌<◌, ◌≤◌, List, length, map}
 use Rattle.fleet_model.specs.Aloft.{aloft}
-use Rattle.fleet_model.specs.Kept.{Domains, pairs_kept}
+use Rattle.fleet_model.specs.Kept.{Domains, all_pairs}
 use Rattle.fleet_model.specs.Schedule.{IsPair, period_of}
 use Rattle.fleet_model.specs.declared.parts.Pair.{Pair}
 use Rattle.fleet_model.specs.declared.tables.Tables.{Tables}
-use Rattle.presolve.specs.Removals.{AreRemovals, pair_of}
+use Rattle.presolve.specs.Removals.{AreRemovals, first_place, pair_of}
 use Rattle.presolve.specs.Rules.{busy_at}
 use Rattle.presolve.specs.declared.trims.Trim.{Trim}
 
@@ -17,6 +17,6 @@ BusyIsUnderWay = (t : Tables) (p : Pair) (m : ℕ) → IsPair t p → m < period
 abbrev pub RemovalsAreOne : Type 0
 RemovalsAreOne = (t : Tables) (keeps : Domains) (place : Pair) (xs ys : List Trim) → AreRemovals t keeps place xs → AreRemovals t keeps place ys → map pair_of xs ≡ map pair_of ys
 
--- no more pairs are kept than tables may have: those of 1,000 legs and 20 fleets
-abbrev pub PairsAreFew : Type 0
-PairsAreFew = (t : Tables) (keeps : Domains) → pairs_kept t keeps ≤ 20000
+-- no more pairs are removed than tables may have: those of 1,000 legs and 20 fleets
+abbrev pub RemovalsAreFew : Type 0
+RemovalsAreFew = (t : Tables) (trims : List Trim) → AreRemovals t (all_pairs t) first_place trims → length trims ≤ 20000

@@ -1,6 +1,6 @@
 //! The laws of presolve, over all tables, kept pairs and removals. Each function is a law: its contract is the
 //! statement, and it does nothing.
-ghost use Rattle.presolve.specs.Laws.{BusyIsUnderWay, PairsAreFew, RemovalsAreOne};
+ghost use Rattle.presolve.specs.Laws.{BusyIsUnderWay, RemovalsAreFew, RemovalsAreOne};
 
 /// The aircraft that a pair keeps busy at the end of a minute are its flights under way then.
 pub fn busy_is_under_way()
@@ -12,7 +12,7 @@ pub fn removals_are_one()
     ensures { RemovalsAreOne }
 {}
 
-/// No more pairs are kept than tables may have, so there are no more removals.
-pub fn pairs_are_few()
-    ensures { PairsAreFew }
+/// There are no more removals than pairs that tables may have.
+pub fn removals_are_few()
+    ensures { RemovalsAreFew }
 {}

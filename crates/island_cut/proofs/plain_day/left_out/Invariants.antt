@@ -1,7 +1,7 @@
 use Rattle.std.proofs.Common.{◌≡◌, ◌≤◌, ◌*◌}
 use Rattle.sums.specs.Below.{sum_below}
 use Rattle.fleet_model.specs.declared.limits.TheConstants.{MAX_CHOICES}
-use Rattle.island_cut.specs.PlainDay.{left_out_on}
+use Rattle.fleet_model.specs.LeftOut.{left_out_on}
 use Rattle.island_cut.proofs.plain_day.left_out.Given as goal
 
 abbrev pub invariant-loop-leg : goal.invariant-loop-leg

@@ -1,6 +1,6 @@
 use Rattle.std.proofs.Common.{◌≡◌, ◌≤◌}
 use Rattle.sums.specs.Below.{count_below}
-use Rattle.island_cut.specs.PlainDay.{leaves_out}
+use Rattle.fleet_model.specs.LeftOut.{leaves_out}
 use Rattle.island_cut.proofs.plain_day.left_out_on.Given as goal
 
 abbrev pub invariant-loop-choice : goal.invariant-loop-choice
