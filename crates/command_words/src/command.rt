@@ -1,4 +1,4 @@
-use fleet_model::limits::{MAX_DAYS as LONGEST_PERIOD, MINUTES_PER_DAY};
+use fleet_model::limits::MINUTES_PER_DAY;
 use fleet_model::{Settings, TableOptions};
 use jiff::civil::Date;
 
@@ -18,7 +18,7 @@ pub const DEFAULT_PERIOD: u16 = 1;
 pub const MIN_PERIOD: u16 = 1;
 
 /// The most days of the period that an option may set.
-pub const MAX_PERIOD: u16 = LONGEST_PERIOD;
+pub const MAX_PERIOD: u16 = fleet_model::limits::MAX_PERIOD;
 
 /// How often a search may split where no option sets it.
 pub const DEFAULT_NODES: u64 = 1000;

@@ -9,6 +9,7 @@ pub mod Limits
 pub mod Mixed
 pub mod OtherSizes
 pub mod OwnTimes
+pub mod Period
 pub mod Plain
 pub mod Schedule
 pub mod Times

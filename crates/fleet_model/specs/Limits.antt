@@ -1,13 +1,14 @@
 -- What tables keep: their limits, numbers in range, and names that differ.
-use Rattle.std.specs.Prelude.{◌≡◌, ◌≢◌, ℕ, ◌*◌, ◌<◌, ◌≤◌, List, length, All, AllPairs, ℤ, pos, neg_ℤ, ◌≤ℤ◌}
+use Rattle.std.specs.Prelude.{◌≡◌, ◌≢◌, ℕ, ◌<◌, ◌≤◌, List, length, All, AllPairs, ℤ, pos, neg_ℤ, ◌≤ℤ◌}
 use Rattle.entries.specs.Names.{IsName, IsStationCode}
+use Rattle.fleet_model.specs.Period.{minutes_of}
 use Rattle.fleet_model.specs.declared.parts.Station.{Station}
 use Rattle.fleet_model.specs.declared.parts.Fleet.{Fleet}
 use Rattle.fleet_model.specs.declared.parts.Leg.{Leg}
 use Rattle.fleet_model.specs.declared.parts.PairCost.{PairCost}
 use Rattle.fleet_model.specs.declared.parts.Through.{Through}
 use Rattle.fleet_model.specs.declared.parts.Settings.{Settings}
-use Rattle.fleet_model.specs.declared.limits.TheConstants.{MINUTES_PER_DAY, MAX_DAYS, MAX_STATIONS, MAX_FLEETS, MAX_LEGS, MAX_THROUGHS, MAX_AIRCRAFT, MAX_GROUND_MINUTES, MAX_COST}
+use Rattle.fleet_model.specs.declared.limits.TheConstants.{MINUTES_PER_DAY, MAX_PERIOD, MAX_STATIONS, MAX_FLEETS, MAX_LEGS, MAX_THROUGHS, MAX_AIRCRAFT, MAX_GROUND_MINUTES, MAX_COST}
 
 pub record IsStation (station : Station) : Type 0 where
   pub code : IsStationCode station.code
@@ -23,7 +24,7 @@ pub record IsLeg (stations days : ℕ) (leg : Leg) : Type 0 where
   pub flight : IsName leg.flight
   pub from : leg.from < stations
   pub to : leg.to < stations
-  pub dep : leg.dep < days * MINUTES_PER_DAY
+  pub dep : leg.dep < minutes_of days
   pub some_block : 0 < leg.block
   pub block : leg.block < MINUTES_PER_DAY
 
@@ -47,7 +48,7 @@ pub record AreSettings (settings : Settings) : Type 0 where
   pub day_start : settings.day_start < MINUTES_PER_DAY
   pub through_max : settings.through_max < MINUTES_PER_DAY
   pub some_days : 1 ≤ settings.period
-  pub few_days : settings.period ≤ MAX_DAYS
+  pub few_days : settings.period ≤ MAX_PERIOD
 
 -- two costs are of one pair
 pub record SamePair (a b : PairCost) : Type 0 where

@@ -1,5 +1,6 @@
 -- The parts of tables by their numbers, the period, and the words in which a leg's choices and departures are told.
 use Rattle.std.specs.Prelude.{ℕ, ◌+◌, ◌-◌, ◌*◌, ◌<◌, [], length, slice_index_or, false, Option, None}
+use Rattle.fleet_model.specs.Period.{minutes_of}
 use Rattle.fleet_model.specs.declared.parts.Station.{Station}
 use Rattle.fleet_model.specs.declared.parts.Fleet.{Fleet}
 use Rattle.fleet_model.specs.declared.parts.Leg.{Leg}
@@ -43,7 +44,7 @@ days_in t = t.settings.period
 
 -- the minutes of the period, and its last one
 unfoldable pub period_of : Tables → ℕ
-period_of t = t.settings.period * MINUTES_PER_DAY
+period_of t = minutes_of t.settings.period
 
 abbrev pub last_of : Tables → ℕ
 last_of t = period_of t - 1

@@ -2,13 +2,24 @@
 ghost use Rattle.std.specs.Prelude.{◌≡◌, ◌<◌, ◌≤◌, IfSome};
 ghost use Rattle.fleet_model.specs.declared.limits.TheConstants.{MAX_CHOICES, MAX_DEPARTURES};
 ghost use Rattle.fleet_model.specs.Legal.{cost_of};
-ghost use Rattle.fleet_model.specs.Limits.{IsCost, IsFleet, IsLeg, IsStation};
+ghost use Rattle.fleet_model.specs.Limits.{AreSettings, IsCost, IsFleet, IsLeg, IsStation};
 ghost use Rattle.fleet_model.specs.OwnTimes.{own_pair};
+ghost use Rattle.fleet_model.specs.Period.{minutes_of};
 ghost use Rattle.fleet_model.specs.Schedule.{IsFlown, IsPair, choices_in, days_in, departures_in, fleet_by, fleet_of, fleets_in, leg_of, legs_in, pair_on, parking_of, period_of, station_of, stations_in};
 
 use crate::limits::MINUTES_PER_DAY;
-use crate::parts::{Fleet, Leg, Pair, Station};
+use crate::parts::{Fleet, Leg, Pair, Settings, Station};
 use crate::tables::Tables;
+
+impl Settings {
+    /// The minutes of the period after which the schedule repeats.
+    pub fn minutes(&self) -> u16
+        requires { AreSettings self.now }
+        ensures { result ≡ minutes_of self.now.period }
+    {
+        self.period * MINUTES_PER_DAY
+    }
+}
 
 impl Tables {
     /// The station with this number.
@@ -75,7 +86,7 @@ impl Tables {
         ensures some { 1440 ≤ result }
         ensures week { result ≤ 10080 }
     {
-        self.settings.period * MINUTES_PER_DAY
+        self.settings.minutes()
     }
 
     /// How many days the period has.

@@ -2,7 +2,7 @@
 pub const MINUTES_PER_DAY: u16 = 1440;
 
 /// The most days of a period.
-pub const MAX_DAYS: u16 = 7;
+pub const MAX_PERIOD: u16 = 7;
 
 /// The most stations that tables have.
 pub const MAX_STATIONS: usize = 200;

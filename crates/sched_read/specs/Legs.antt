@@ -7,6 +7,7 @@ use Rattle.csv_fields.specs.Name.{name_of, station_code_of}
 use Rattle.csv_fields.specs.Number.{whole_of}
 use Rattle.csv_fields.specs.Time.{clock_time_of}
 use Rattle.fleet_model.specs.declared.limits.TheConstants.{MAX_LEGS, MINUTES_PER_DAY}
+use Rattle.fleet_model.specs.Period.{minutes_of}
 use Rattle.fleet_model.specs.declared.parts.Leg.{Leg}
 use Rattle.fleet_model.specs.declared.parts.Settings.{Settings}
 use Rattle.fleet_model.specs.declared.refusals.TheConstants.{DUPLICATE, NOT_TEXT, TOO_MANY, TO_ITSELF, UNKNOWN_STATION, ZERO_BLOCK}
@@ -45,7 +46,7 @@ block_between dep arr = (arr + MINUTES_PER_DAY - dep) % MINUTES_PER_DAY
 
 -- the minutes of the period
 abbrev pub minutes_in : Settings → ℕ
-minutes_in settings = settings.period * MINUTES_PER_DAY
+minutes_in settings = minutes_of settings.period
 
 -- a field read as a day of the period, counted from 1
 abbrev pub day_of : Settings → List ℕ → Result ℕ FieldFault

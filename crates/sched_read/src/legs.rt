@@ -217,6 +217,6 @@ fn minute(settings: Settings, day: u16, minute: u16) -> u16
     requires minute { minute < MINUTES_PER_DAY }
     ensures { result ≡ from_period_start settings day minute }
 {
-    let period = settings.period * MINUTES_PER_DAY;
+    let period = settings.minutes();
     ((day - 1) * MINUTES_PER_DAY + minute + period - settings.day_start) % period
 }
