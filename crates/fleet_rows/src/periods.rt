@@ -7,8 +7,10 @@ use std::test::Fail;
 
 const ONE_FLEET: Laid<'static> = Laid::Bytes(Fleets, b"fleet,aircraft,turn\nF1,1,30\n");
 
-const ONE_FLEET_COSTS: Laid<'static> =
-    Laid::Bytes(Costs, b"flight,fleet,cost\nX1,F1,100\nX2,F1,100\n");
+const ONE_FLEET_COSTS: Laid<'static> = Laid::Bytes(
+    Costs,
+    b"flight,fleet,cost\nX1,F1,100\nX2,F1,100\n",
+);
 
 const THERE_AND_BACK: Laid<'static> = Laid::Bytes(
     Legs,

@@ -71,15 +71,15 @@ module _ (t : Tables) (keeps : Domains) (leg choice : ℕ) (pair : IsPair t (leg
   -- the part in which the leg takes the choice
   pub fewer_with : steps_left t (part keeps leg choice true) < steps_left t keeps
   fewer_with = fewer_by t keeps (record { leg = leg; choice = choice; yes = true }) leg other.other (record {
-      pair = record { leg = pair.leg; choice = other.known };
-      kept = other.kept;
-      dropped = grind (arith, nat_tests, other.differs);
-    }) more
+    pair = record { leg = pair.leg; choice = other.known };
+    kept = other.kept;
+    dropped = grind (arith, nat_tests, other.differs);
+  }) more
 
   -- .. and that in which it doesn't
   pub fewer_without : steps_left t (part keeps leg choice false) < steps_left t keeps
   fewer_without = fewer_by t keeps (record { leg = leg; choice = choice; yes = false }) leg choice (record {
-      pair = pair;
-      kept = kept;
-      dropped = grind (arith, nat_tests);
-    }) more
+    pair = pair;
+    kept = kept;
+    dropped = grind (arith, nat_tests);
+  }) more

@@ -62,8 +62,11 @@ steps_taken t keeps place [] out removals = omega arith
 steps_taken t keeps place (trim ∷ trims) out removals =
     let next = removals.0 in
     let its = is_removable t keeps (pair_of trim) next.why next.first_rule in
-    omega (arith, one_step t keeps (pair_of trim) next.pair its.flown its.kept out,
-      steps_taken t (without keeps trim) (pair_of trim) trims (keep_left_out t keeps (pair_of trim) next.pair its.flown its.kept out) removals.1)
+    omega (
+      arith,
+      one_step t keeps (pair_of trim) next.pair its.flown its.kept out,
+      steps_taken t (without keeps trim) (pair_of trim) trims (keep_left_out t keeps (pair_of trim) next.pair its.flown its.kept out) removals.1,
+    )
 
 pub removals_are_few : RemovalsAreFew
 removals_are_few t trims removals = omega (arith, steps_taken t (all_pairs t) first_place trims (all_keep_left_out t) removals, steps_are_few t)

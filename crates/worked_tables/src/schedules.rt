@@ -1,7 +1,7 @@
 //! Sets of tables, as the bytes of their files.
 ghost use Rattle.std.specs.Prelude.{◌<◌, ◌≤◌};
 ghost use Rattle.fleet_model.specs.Limits.{AreSettings};
-ghost use Rattle.fleet_model.specs.declared.limits.TheConstants.{MAX_DAYS, MINUTES_PER_DAY};
+ghost use Rattle.fleet_model.specs.declared.limits.TheConstants.{MAX_PERIOD, MINUTES_PER_DAY};
 
 use fleet_model::{LoadError, Settings, Tables};
 use sched_read::load;
@@ -137,7 +137,7 @@ pub fn starting(day_start: u16) -> Settings
 pub fn repeating(day_start: u16, period: u16) -> Settings
     requires day_start { day_start < MINUTES_PER_DAY }
     requires some_days { 1 ≤ period }
-    requires few_days { period ≤ MAX_DAYS }
+    requires few_days { period ≤ MAX_PERIOD }
     ensures { AreSettings result }
 {
     Settings {
