@@ -1,9 +1,9 @@
 -- What a lift of an end that was checked comes to, from the parts that the calls give.
-use Rattle.std.proofs.Common.{◌≡◌, ℕ, zero, suc, ◌+◌, ◌*◌, ◌^◌, ◌<◌, ◌≤◌, false, List, length, All, Some, None, Result, Ok, Err, IfOk, ℤ, pos, ◌*ℤ◌, ◌<ℤ◌, ◌≤ℤ◌, unsigned_abs, refl, sym, ◌∙◌, ap, subst, inl, inr, arith}
+use Rattle.std.proofs.Common.{◌≡◌, ℕ, zero, suc, ◌+◌, ◌*◌, ◌^◌, ◌<◌, ◌≤◌, false, List, length, All, Option, Some, None, Result, Ok, Err, IfOk, ℤ, pos, ◌*ℤ◌, ◌<ℤ◌, ◌≤ℤ◌, unsigned_abs, refl, sym, ◌∙◌, ap, subst, inl, inr, arith}
 use Rattle.std.specs.Prelude.{int_lt}
 use Rattle.std.proofs.lemmas.Int.{ints}
 use Rattle.std.proofs.lemmas.List.{get_or-drop, get_or_past, length-drop}
-use Rattle.sums.specs.Places.{list_below}
+use Rattle.sums.specs.Places.{list_below, or_else}
 use Rattle.sums.proofs.Places.{get_or-list_below, length-list_below}
 use Rattle.sums.proofs.Signs.{factor_le_cancel}
 use Rattle.sums.proofs.Sizes.{pos_above, size_is}
@@ -28,7 +28,9 @@ use Rattle.lp_rows.specs.declared.outline.Outline.{Outline}
 use Rattle.lp_rows.proofs.Counted.{nodes_are, pairs_are, parks_are}
 use Rattle.dual_lift.specs.Parts.{AreParts}
 use Rattle.dual_lift.specs.TooLarge.{IsLiftError}
+use Rattle.dual_lift.specs.declared.error.Excess.{Excess}
 use Rattle.dual_lift.specs.declared.error.LiftError.{LiftError}
+use Rattle.dual_lift.specs.declared.error.LiftError.TheVariants.{TooLarge}
 use Rattle.dual_lift.proofs.Excesses.{both_well, first_fails, not_excess, then_fails}
 use Rattle.dual_bound.specs.Fractions.{IsMixedAt, IsWorth}
 use Rattle.dual_bound.specs.OfTables.{IsWeightOf}
@@ -36,9 +38,9 @@ use Rattle.dual_bound.specs.Prices.{max_scale}
 use Rattle.dual_bound.specs.declared.mixed.Mixed.{Mixed}
 use Rattle.dual_bound.specs.declared.prices.Prices.{Prices}
 use Rattle.price_lift.specs.ArcRises.{outline_rises}
-use Rattle.price_lift.specs.EndLifts.{IsLiftOf, IsLiftOfRefusing, IsMixedOfParts, end_duals, end_excess, first_parts, pair_parts, parts_excess, priced_values, refusing_duals, refusing_excess}
+use Rattle.price_lift.specs.EndLifts.{IsLiftOf, IsLiftOfRefusing, IsMixedOfParts, end_duals, end_excess, first_parts, lowest_end_excess, pair_parts, parts_excess, priced_values, refusing_duals, refusing_excess}
 use Rattle.price_lift.specs.Lifted.{AreLiftedPrices, AreNodePrices}
-use Rattle.price_lift.specs.PaidBack.{paid_back, payback_excess}
+use Rattle.price_lift.specs.PaidBack.{paid_back, payback_excess, payback_excess_by}
 use Rattle.price_lift.specs.Parts.{weights_at}
 use Rattle.price_lift.specs.Steps.{prices_by}
 use Rattle.price_lift.specs.TooLarge.{prices_excess}
@@ -169,6 +171,22 @@ module _ (t : Tables) (keeps : Domains) (rows : Rows) (lines : AreLinesOf t keep
 
   same_pairs : first_parts hint.point hint.scale (length o.pairs) ≡ pair_parts t keeps hint
   same_pairs = ap (first_parts hint.point hint.scale) (ap length is.pairs ∙ pairs_are t keeps)
+
+  -- in lowest terms, by the pairs of the outline
+  abbrev pub lowest_by_outline : Option Excess
+  lowest_by_outline = or_else (prices_excess (legs_in t) (end_duals t hint)) (parts_excess (first_parts hint.point hint.scale (length o.pairs)))
+
+  pub lowest_is : lowest_by_outline ≡ lowest_end_excess t keeps hint
+  lowest_is = ap (λ parts. or_else (prices_excess (legs_in t) (end_duals t hint)) (parts_excess parts)) same_pairs
+
+  pub lowest_fails : (excess : Excess) → lowest_by_outline ≡ Some excess → IsLiftError (end_excess t keeps hint (starts_in o.network)) (TooLarge excess.step excess.at)
+  unfolding end_excess
+  lowest_fails excess first = in_front (prices_excess (legs_in t) (end_duals t hint)) (parts_excess (pair_parts t keeps hint)) (payback_excess_by t keeps (starts_in o.network) (end_duals t hint)) excess (sym lowest_is ∙ first)
+    where
+      in_front : (a b c : Option Excess) (x : Excess) → or_else a b ≡ Some x → or_else a (or_else b c) ≡ Some x
+      in_front (Some y) b c x e = e
+      in_front None (Some y) c x e = e
+      in_front None None c x e = cc
 
   module _ (before : Prices) (priced : (prices_excess (legs_in t) (end_duals t hint) ≡ None) × (before ≡ prices_by t (starts_in o.network) (reduced (end_duals t hint)))) (row : IsRow (end_duals t hint)) where
     pub nodes_priced : AreNodePrices t keeps (starts_in o.network) (end_duals t hint) before

@@ -52,6 +52,10 @@ pub record IsMixedOfParts (parts : FracRow) (pairs : List Pair) (mixed : Mixed) 
 abbrev pub parts_excess : FracRow → Option Excess
 parts_excess parts = excess_if (int_lt (pos max_scale) (reduced parts).den) 6 0
 
+-- what is first too large in lowest terms: of the prices, of the weights
+abbrev pub lowest_end_excess : Tables → Domains → PointHint → Option Excess
+lowest_end_excess t keeps hint = or_else (prices_excess (legs_in t) (end_duals t hint)) (parts_excess (pair_parts t keeps hint))
+
 -- what is first too large: of the prices, of the weights, of the prices that are paid back
 unfoldable pub end_excess : Tables → Domains → PointHint → Starts → Option Excess
 end_excess t keeps hint starts =

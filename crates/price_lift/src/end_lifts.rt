@@ -2,6 +2,7 @@
 ghost use Rattle.std.specs.Prelude.{◌≡◌, ◌+◌, ◌<◌, ◌≤◌, ℕ, pos, int_lt, ◌<ℤ◌, drop, length, IfOk, IfErr, IsSomeAnd, None, Some, MatchResult, unsigned_abs};
 ghost use Rattle.frac_row.specs.Outgrown.{IsWithin};
 ghost use Rattle.sums.specs.Divisors.{gcd};
+ghost use Rattle.sums.specs.Places.{or_else};
 ghost use Rattle.frac_row.specs.Row.{IsRow, common_divisor, reduced, width_of};
 ghost use Rattle.fleet_model.specs.Kept.{kept_by};
 ghost use Rattle.fleet_model.specs.Schedule.{legs_in};
@@ -12,7 +13,7 @@ ghost use Rattle.lp_rows.specs.Outline.{IsOutline, IsOutlineOver};
 ghost use Rattle.lp_rows.specs.Points.{AreLinesOf};
 ghost use Rattle.dual_bound.specs.Prices.{max_scale};
 ghost use Rattle.dual_lift.specs.TooLarge.{IsLiftError};
-ghost use Rattle.price_lift.specs.EndLifts.{IsLiftOf, IsLiftOfRefusing, IsLiftedEnd, IsLiftedRefusingEnd, IsMixedOfParts, end_duals, end_excess, first_parts, pair_parts, parts_excess, priced_values, refusing_duals, refusing_excess};
+ghost use Rattle.price_lift.specs.EndLifts.{IsLiftOf, IsLiftOfRefusing, IsLiftedEnd, IsLiftedRefusingEnd, IsMixedOfParts, end_duals, end_excess, first_parts, lowest_end_excess, pair_parts, parts_excess, priced_values, refusing_duals, refusing_excess};
 ghost use Rattle.price_lift.specs.Lifted.{AreLiftedPrices};
 ghost use Rattle.price_lift.specs.PaidBack.{FitsBy, IsLiftErrorBy};
 ghost use Rattle.price_lift.specs.Steps.{prices_by};
@@ -57,7 +58,7 @@ pub fn lift_end(
     ensures weights { IfOk result (λ lifted. IsSomeAnd lifted.mixed (IsMixedOfParts (pair_parts tables.now (kept_by kept.now) hint.now) (all_kept tables.now (kept_by kept.now)))) }
     ensures fits { IfOk result (λ _. FitsBy tables.now (kept_by kept.now) (end_excess tables.now (kept_by kept.now) hint.now)) }
     ensures too_large { IfErr result (IsLiftErrorBy tables.now (kept_by kept.now) (end_excess tables.now (kept_by kept.now) hint.now)) }
-    ensures memory { IfErr result (IsWantedBehind (prices_excess (legs_in tables.now) (end_duals tables.now hint.now))) }
+    ensures memory { IfErr result (IsWantedBehind (lowest_end_excess tables.now (kept_by kept.now) hint.now)) }
 {
     lifted_end(alloc, hint, tables, kept, outline)
 }
@@ -98,8 +99,9 @@ fn lifted_end(
     ensures lifted { MatchResult result
         (λ lifted. (end_excess tables.now (kept_by kept.now) hint.now (starts_in outline.now.network) ≡ None) × IsLiftOf tables.now (kept_by kept.now) hint.now lifted)
         (IsLiftError (end_excess tables.now (kept_by kept.now) hint.now (starts_in outline.now.network))) }
-    ensures memory { IfErr result (IsWantedBehind (prices_excess (legs_in tables.now) (end_duals tables.now hint.now))) }
+    ensures memory { IfErr result (IsWantedBehind (lowest_end_excess tables.now (kept_by kept.now) hint.now)) }
 {
+    end_fits(hint, tables, outline)?;
     let before = end_prices(
         alloc,
         hint.duals.as_slice(),
@@ -113,6 +115,22 @@ fn lifted_end(
         prices,
         mixed: Some(mixed),
     })
+}
+
+// That prices and the scale of the weights are within their limits in lowest terms. Takes no memory.
+fn end_fits(hint: &PointHint, tables: &Tables, outline: &Outline) -> Result<(), Excess>
+    requires outline { IsOutlineOver tables.now outline.now }
+    requires long { length hint.now.duals ≡ legs_in tables.now + (length outline.now.nodes + outline.now.fleets + length outline.now.parks) }
+    requires within { (line : ℕ) → IsWithin (value_in hint.now.duals line) }
+    requires scale { pos 0 <ℤ hint.now.dual_scale }
+    requires some { 0 < hint.now.scale }
+    requires pairs { length outline.now.pairs ≤ length hint.now.point }
+    ensures { MatchResult result
+        (λ _. or_else (prices_excess (legs_in tables.now) (end_duals tables.now hint.now)) (parts_excess (first_parts hint.now.point hint.now.scale (length outline.now.pairs))) ≡ None)
+        (λ excess. or_else (prices_excess (legs_in tables.now) (end_duals tables.now hint.now)) (parts_excess (first_parts hint.now.point hint.now.scale (length outline.now.pairs))) ≡ Some excess) }
+{
+    prices_fit(hint.duals.as_slice(), hint.dual_scale, tables, outline)?;
+    parts_fit(hint.point.as_slice(), hint.scale, pair_count(outline))
 }
 
 // Prices alone, where no point meets the lines.
@@ -157,10 +175,28 @@ fn end_prices(
         (IsLiftError (prices_excess (legs_in tables.now) (priced_values tables.now values.now scale))) }
     ensures memory { IfErr result (IsWantedBehind (prices_excess (legs_in tables.now) (priced_values tables.now values.now scale))) }
 {
-    let first = outline.first_priced_line();
-    fits(first, &values[first as usize..], &scale)?;
-    let duals = priced_row(alloc, values, scale, first)?;
+    prices_fit(values, scale, tables, outline)?;
+    let duals = priced_row(alloc, values, scale, outline.first_priced_line())?;
     prices_of(alloc, tables, outline, duals)
+}
+
+// That the values of the lines with a price are within the limits of prices in lowest terms. Takes no memory.
+fn prices_fit(
+    values: &[i128],
+    scale: i128,
+    tables: &Tables,
+    outline: &Outline,
+) -> Result<(), Excess>
+    requires outline { IsOutlineOver tables.now outline.now }
+    requires long { length values.now ≡ legs_in tables.now + (length outline.now.nodes + outline.now.fleets + length outline.now.parks) }
+    requires within { (line : ℕ) → IsWithin (value_in values.now line) }
+    requires scale { pos 0 <ℤ scale }
+    ensures { MatchResult result
+        (λ _. prices_excess (legs_in tables.now) (priced_values tables.now values.now scale) ≡ None)
+        (λ excess. prices_excess (legs_in tables.now) (priced_values tables.now values.now scale) ≡ Some excess) }
+{
+    let first = tables.leg_count();
+    fits(first, &values[first as usize..], &scale)
 }
 
 // The values from a line on, over a scale.
