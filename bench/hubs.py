@@ -31,15 +31,19 @@ def name(place, hubs):
     return f"HU{chr(65 + place)}" if place < hubs else f"S{chr(65 + (place - hubs) // 26)}{chr(65 + (place - hubs) % 26)}"
 
 
-def tours_of(draw, legs, stations, hubs):
-    """Tours of legs (from, departure, to, block, demand)."""
-    block = {}
-    for hub in range(hubs):
-        for other in range(stations):
-            block[hub, other] = block[other, hub] = 5 * draw.randrange(9, 27 if other < hubs else 46)
-    weight = [draw.choice((1, 1, 2, 3, 5)) for _ in range(stations)]
-    tours, flown = [], 0
-    while flown < legs:
+class Network:
+    """Stations, of which the first are hubs, with how often tours go there, and the blocks between hubs and all others."""
+
+    def __init__(self, draw, stations, hubs):
+        self.stations, self.hubs, self.block = stations, hubs, {}
+        for hub in range(hubs):
+            for other in range(stations):
+                self.block[hub, other] = self.block[other, hub] = 5 * draw.randrange(9, 27 if other < hubs else 46)
+        self.weight = [draw.choice((1, 1, 2, 3, 5)) for _ in range(stations)]
+
+    def tour(self, draw):
+        """A tour of legs (from, departure, to, block, demand), or none where it took too long."""
+        stations, hubs, block, weight = self.stations, self.hubs, self.block, self.weight
         at = home = draw.choices(range(stations), weight)[0]
         minute, tour = START + 5 * draw.randrange(24, 70), []
         while True:
@@ -57,9 +61,16 @@ def tours_of(draw, legs, stations, hubs):
             if at == home and (minute > START + 1000 or draw.random() < 0.3) or len(tour) > 8 and at == home:
                 break
             if minute > START + DAY + 300:
-                tour = []
-                break
-        if tour and minute <= START + DAY + 200:
+                return []
+        return tour if minute <= START + DAY + 200 else []
+
+
+def tours_of(draw, legs, stations, hubs):
+    """Tours of so many legs, or a few more."""
+    network, tours, flown = Network(draw, stations, hubs), [], 0
+    while flown < legs:
+        tour = network.tour(draw)
+        if tour:
             tours.append(tour)
             flown += len(tour)
     return tours
@@ -72,11 +83,34 @@ def cost(leg, kind):
     return block * minute + 30 * seats + 190 * max(0, demand - seats) if block <= reach else None
 
 
+def kinds_of(fleets):
+    """The kinds of so many fleets."""
+    if fleets > 6:
+        return KINDS[len(KINDS) - fleets :]
+    return KINDS[:2] + KINDS[-(fleets - 2) :] if fleets > 4 else KINDS[1 : fleets + 1]
+
+
+def sizes_of(legs):
+    """How many stations a day of so many legs has, and how many hubs."""
+    return max(6, legs // LEGS_A_STATION), 2 if legs < 150 else 3
+
+
+def places(stations, hubs):
+    """The records of the stations."""
+    return [(name(s, hubs), 5 if s < hubs else 0, "yes" if s % 3 == 0 else "no") for s in range(stations)]
+
+
+def put(folder, tables):
+    """Writes tables, each with its header and its records."""
+    Path(folder).mkdir(parents=True, exist_ok=True)
+    for file, rows in tables.items():
+        with open(Path(folder, file), "w", newline="") as out:
+            csv.writer(out, lineterminator="\n").writerows(rows)
+
+
 def write(folder, legs, fleets, number=1, most=None):
     draw = random.Random(number)
-    stations, kinds = max(6, legs // LEGS_A_STATION), KINDS[:2] + KINDS[-(fleets - 2):] if fleets > 4 else KINDS[1 : fleets + 1]
-    kinds = KINDS[len(KINDS) - fleets :] if fleets > 6 else kinds
-    hubs = 2 if legs < 150 else 3
+    (stations, hubs), kinds = sizes_of(legs), kinds_of(fleets)
     tours, aircraft = tours_of(draw, legs, stations, hubs), [2] * fleets
     kept = []
     for tour in tours:
@@ -87,16 +121,13 @@ def write(folder, legs, fleets, number=1, most=None):
     flown = [leg for tour in kept for leg in tour]
     pairs = [(f"L{at}", f"F{kind[0]}", paid) for at, leg in enumerate(flown) for kind in kinds if (paid := cost(leg, kind)) is not None]
     tables = {
-        "stations.csv": [("code", "extra", "maintenance"), *((name(s, hubs), 5 if s < hubs else 0, "yes" if s % 3 == 0 else "no") for s in range(stations))],
+        "stations.csv": [("code", "extra", "maintenance"), *places(stations, hubs)],
         "fleets.csv": [("fleet", "aircraft", "turn"), *((f"F{kind[0]}", count, kind[1]) for kind, count in zip(kinds, aircraft))],
         "legs.csv": [("flight", "from", "dep", "to", "arr"), *((f"L{at}", name(a, hubs), clock(dep), name(b, hubs), clock(dep + block)) for at, (a, dep, b, block, _) in enumerate(flown))],
         "costs.csv": [("flight", "fleet", "cost"), *((leg, fleet, draw.randint(1, most) if most else paid) for leg, fleet, paid in pairs)],
         "throughs.csv": [("in", "out", "value")],
     }
-    Path(folder).mkdir(parents=True, exist_ok=True)
-    for file, rows in tables.items():
-        with open(Path(folder, file), "w", newline="") as out:
-            csv.writer(out, lineterminator="\n").writerows(rows)
+    put(folder, tables)
 
 
 def main():

@@ -1,9 +1,9 @@
 #!/usr/bin/env python3
-"""Judges a plan apart from the program, and prints what `fleetplan judge DIR --day-start HH:MM` must print.
+"""Judges a plan apart from the program, and prints what `fleetplan judge DIR --day-start HH:MM --period P` must print.
 
-usage: judge_reference.py DIR HH:MM
+usage: judge_reference.py DIR HH:MM [P]      (without a P: a period of 1 day)
 
-It takes tables that read, and stops with an error where they don't. It counts aircraft at every minute of the day,
+It takes tables that read, and stops with an error where they don't. It counts aircraft at every minute of the period,
 and stops with an error where flights under way and aircraft on the ground don't sum to the aircraft used.
 """
 import csv
@@ -22,7 +22,7 @@ FLAG = "yes|no"
 FILES = {
     "stations.csv": {"code": CODE, "extra": WHOLE, "maintenance": FLAG},
     "fleets.csv": {"fleet": NAME, "aircraft": WHOLE, "turn": WHOLE},
-    "legs.csv": {"flight": NAME, "from": CODE, "dep": TIME, "to": CODE, "arr": TIME},
+    "legs.csv": {"flight": NAME, "day": WHOLE, "from": CODE, "dep": TIME, "to": CODE, "arr": TIME},
     "costs.csv": {"flight": NAME, "fleet": NAME, "cost": WHOLE},
     "throughs.csv": {"in": NAME, "out": NAME, "value": WHOLE},
     "plan.csv": {"flight": NAME, "fleet": NAME},
@@ -34,13 +34,16 @@ def wanted(holds, what):
         sys.exit(f"judge_reference: {what}")
 
 
-def records(folder, name):
-    """The records of a file below its header, each field in its form."""
+def records(folder, name, period=1):
+    """The records of a file below its header, each field in its form. Where the period is a day legs may have none."""
     if name == "throughs.csv" and (folder / name).stat().st_size == 0:
         return []
     with open(folder / name, newline="", encoding="utf-8-sig") as file:
         header, *rows = [row for row in csv.reader(file) if row]
     forms = FILES[name]
+    if name == "legs.csv" and period == 1 and "day" not in header:
+        header.insert(1, "day")
+        rows = [[*row[:1], "1", *row[1:]] for row in rows]
     wanted(header == list(forms), f"{name}: the header is wrong")
     for row in rows:
         wanted(len(row) == len(forms), f"{name}: {row} has another number of fields")
@@ -67,10 +70,11 @@ def minute(text):
 
 
 class Tables:
-    def __init__(self, folder, day_start):
+    def __init__(self, folder, day_start, period=1):
+        self.minutes = DAY * period
         stations = table(records(folder, "stations.csv"), 1, 200, "stations.csv")
         fleets = table(records(folder, "fleets.csv"), 1, 20, "fleets.csv")
-        legs = table(records(folder, "legs.csv"), 1, 1000, "legs.csv")
+        legs = table(records(folder, "legs.csv", period), 1, 1000, "legs.csv")
         costs = table(records(folder, "costs.csv"), 2, len(legs) * len(fleets), "costs.csv")
         throughs = table(records(folder, "throughs.csv"), 2, 2000, "throughs.csv")
         self.extra = {code: number(row[0], 0, 600) for code, row in stations.items()}
@@ -78,11 +82,12 @@ class Tables:
         self.turn = {fleet: number(row[1], 0, 600) for fleet, row in fleets.items()}
         self.costs = {pair: number(row[0], -MOST_COST, MOST_COST) for pair, row in costs.items()}
         self.legs = {}
-        for flight, (origin, dep, target, arr) in legs.items():
+        for flight, (day, origin, dep, target, arr) in legs.items():
             block = (minute(arr) - minute(dep)) % DAY
+            departs = DAY * (number(day, 1, period) - 1) + minute(dep)
             known = origin in self.extra and target in self.extra
             wanted(known and origin != target and block > 0, f"legs.csv: {flight} cannot be flown")
-            self.legs[flight] = origin, (minute(dep) - day_start) % DAY, target, block
+            self.legs[flight] = origin, (departs - day_start) % self.minutes, target, block
         wanted(all(flight in legs and fleet in fleets for flight, fleet in costs), "costs.csv: an unknown name")
         for (arriving, departing), row in throughs.items():
             wanted(arriving in legs and departing in legs, "throughs.csv: an unknown flight")
@@ -90,24 +95,25 @@ class Tables:
 
 
 class Movements:
-    """What the aircraft of one fleet do through the day."""
+    """What the aircraft of one fleet do through the period."""
 
     def __init__(self, tables, flights, fleet):
-        self.out = {code: [0] * DAY for code in tables.extra}
-        self.ready = {code: [0] * DAY for code in tables.extra}
-        self.under_way = [0] * DAY
-        self.nights = 0
+        self.minutes = minutes = tables.minutes
+        self.out = {code: [0] * minutes for code in tables.extra}
+        self.ready = {code: [0] * minutes for code in tables.extra}
+        self.under_way = [0] * minutes
+        self.laps = 0
         for flight in flights:
             origin, dep, target, block = tables.legs[flight]
             free = dep + block + tables.turn[fleet] + tables.extra[target]
             self.out[origin][dep] += 1
-            self.ready[target][free % DAY] += 1
-            self.nights += free // DAY
-            for days_ago in range(free // DAY + 1):
-                for now in range(max(0, dep - DAY * days_ago), min(DAY, free - DAY * days_ago)):
+            self.ready[target][free % minutes] += 1
+            self.laps += free // minutes
+            for ago in range(0, free + 1, minutes):
+                for now in range(max(0, dep - ago), min(minutes, free - ago)):
                     self.under_way[now] += 1
         self.need = {code: self.least_stock(code) for code in tables.extra}
-        self.used = sum(self.need.values()) + self.nights
+        self.used = sum(self.need.values()) + self.laps
         self.add_up()
 
     def least_stock(self, code):
@@ -119,7 +125,7 @@ class Movements:
 
     def add_up(self):
         ground = sum(self.need.values())
-        for now in range(DAY):
+        for now in range(self.minutes):
             ground += sum(self.ready[code][now] - self.out[code][now] for code in self.need)
             wanted(ground + self.under_way[now] == self.used, f"at minute {now} the aircraft don't add up")
 
@@ -147,10 +153,11 @@ def verdict(tables, plan):
 
 
 def main():
-    if len(sys.argv) != 3 or not re.fullmatch(TIME, sys.argv[2]):
+    given = dict(enumerate(sys.argv))
+    if len(sys.argv) not in (3, 4) or not re.fullmatch(TIME, given[2]) or not re.fullmatch("[1-7]", given.get(3, "1")):
         sys.exit(__doc__)
-    folder = Path(sys.argv[1])
-    tables = Tables(folder, minute(sys.argv[2]))
+    folder = Path(given[1])
+    tables = Tables(folder, minute(given[2]), int(given.get(3, "1")))
     rows = records(folder, "plan.csv")
     wanted([row[0] for row in rows] == list(tables.legs), "plan.csv: not one record a leg, in schedule order")
     wanted(all(row[1] in tables.aircraft for row in rows), "plan.csv: an unknown fleet")

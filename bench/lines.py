@@ -1,11 +1,13 @@
 #!/usr/bin/env python3
-"""Prints the lines of a made schedule's fleet assignment for the program `run_lines`.
+"""Prints the lines of a schedule's fleet assignment for the program `run_lines`.
 
 usage: lines.py NUMBER LEGS PIVOTS
+       lines.py FOLDER PIVOTS
 
-A made schedule is that of `fleetplan make`: LEGS legs, flown out of one hub and back by two fleets, drawn
-from NUMBER. Its lines are those of daily fleet assignment: each leg is flown once, aircraft that come
-to a node of the time line leave it again, and a fleet uses no more aircraft than it has.
+A schedule of NUMBER is that of `fleetplan make`: LEGS legs, flown out of one hub and back by two fleets, drawn
+from NUMBER. One of a FOLDER has its day start at 03:00, and all fleets may fly each leg; where legs have a day it repeats after the
+last of these. Its lines are those of fleet assignment: each leg is flown once, aircraft that come to a node of the time line leave
+it again, and a fleet uses no more aircraft than it has.
 """
 
 import sys
@@ -30,7 +32,8 @@ def schedule(number, legs):
 
 def read(folder):
     """The fleets (aircraft, turn), the legs (from, departure, to, minutes without the turn, costs by fleet), each of which all
-    fleets may fly, and the number of stations of a folder's tables."""
+    fleets may fly, and the number of stations of a folder's tables. The schedule repeats after `schedules.period_of` days."""
+    period = DAY * schedules.period_of(folder)
     stations, fleets, flights, pairs = (
         schedules.rows(folder, name) for name in ("stations.csv", "fleets.csv", "legs.csv", "costs.csv")
     )
@@ -41,7 +44,7 @@ def read(folder):
     made = [
         (
             place[row["from"]],
-            (minute(row["dep"]) - DAY_START) % DAY,
+            (DAY * (int(row.get("day", 1)) - 1) + minute(row["dep"]) - DAY_START) % period,
             place[row["to"]],
             (minute(row["arr"]) - minute(row["dep"])) % DAY + int(stations[place[row["to"]]]["extra"]),
             costs[row["flight"]],
@@ -66,13 +69,13 @@ def node_at(starts, minute):
     return max(k for k, start in enumerate(starts) if start <= minute)
 
 
-def lines_of(fleets, legs, stations, goes=lambda nodes, node, departures, readies, station: False):
-    """The lines, each with its right side last, and the costs; without the ground arcs that go."""
+def lines_of(fleets, legs, stations, goes=lambda nodes, node, departures, readies, station: False, period=DAY):
+    """The lines, each with its right side last, and the costs; without the ground arcs that go. `period` is in minutes."""
     pairs = []
     for leg, (origin, departure, target, block, costs) in enumerate(legs):
         for fleet, (_, turn) in enumerate(fleets):
-            ready, nights = (departure + block + turn) % DAY, (departure + block + turn) // DAY
-            pairs.append((leg, fleet, origin, departure, target, ready, nights, costs[fleet]))
+            laps, ready = divmod(departure + block + turn, period)
+            pairs.append((leg, fleet, origin, departure, target, ready, laps, costs[fleet]))
     starts, arcs = {}, []
     for fleet in range(len(fleets)):
         for station in range(stations):
@@ -116,9 +119,11 @@ def lines_of(fleets, legs, stations, goes=lambda nodes, node, departures, readie
 
 
 def main():
-    number, legs, pivots = map(int, sys.argv[1:])
-    lines, costs = lines_of(*schedule(number, legs))
-    print(pivots)
+    if len(sys.argv) == 3:
+        lines, costs = lines_of(*read(sys.argv[1]), period=DAY * schedules.period_of(sys.argv[1]))
+    else:
+        lines, costs = lines_of(*schedule(*map(int, sys.argv[1:3])))
+    print(sys.argv[-1])
     print(*costs)
     for line in lines:
         print(*line)

@@ -3,15 +3,17 @@
 
 usage: plan_by_cbc.py DIR [HH:MM]
 
-The day starts at the time of the second word, or else at 03:00. The plan is written as DIR/plan.csv, and its cost is
-printed. Each fleet has a stock at each station at the day start, and its stand is at least 0 whenever one departs.
+The day starts at the time of the second word, or else at 03:00. Where legs have a day, the schedule repeats after the last of these.
+The plan is written as DIR/plan.csv, and its cost is printed. Each fleet has a time line at each station: its aircraft wait on arcs
+from a node, which are some that become ready and then some that depart, to the next one, and from the last to the first.
 """
-import csv
 import subprocess
 import sys
 import tempfile
 from collections import defaultdict
 from pathlib import Path
+
+from schedules import period_of, rows
 
 DAY = 1440
 
@@ -20,25 +22,20 @@ def minute(text):
     return int(text[:2]) * 60 + int(text[3:])
 
 
-def rows(folder, name):
-    with open(Path(folder, name), newline="") as lines:
-        return list(csv.reader(lines))[1:]
-
-
 def pairs_of(folder, start):
     """The legs, the fleets, and of each pair its departure, ready minute, laps and cost."""
-    extra = {code: int(more) for code, more, _ in rows(folder, "stations.csv")}
-    fleets = [(name, int(aircraft), int(turn)) for name, aircraft, turn in rows(folder, "fleets.csv")]
-    legs = rows(folder, "legs.csv")
-    place = {leg[0]: number for number, leg in enumerate(legs)}
+    extra = {row["code"]: int(row["extra"]) for row in rows(folder, "stations.csv")}
+    fleets = [(row["fleet"], int(row["aircraft"]), int(row["turn"])) for row in rows(folder, "fleets.csv")]
+    legs, period = rows(folder, "legs.csv"), DAY * period_of(folder)
+    place = {leg["flight"]: number for number, leg in enumerate(legs)}
     turns = {name: turn for name, _, turn in fleets}
     pairs = {}
-    for flight, fleet, cost in rows(folder, "costs.csv"):
-        _, _, dep, to, arr = legs[place[flight]]
-        departs = (minute(dep) - start) % DAY
-        block = (minute(arr) - minute(dep)) % DAY
-        ready = departs + block + turns[fleet] + extra[to]
-        pairs[place[flight], fleet] = (departs, ready % DAY, ready // DAY, int(cost))
+    for row in rows(folder, "costs.csv"):
+        leg = legs[place[row["flight"]]]
+        departs = (DAY * (int(leg.get("day", 1)) - 1) + minute(leg["dep"]) - start) % period
+        block = (minute(leg["arr"]) - minute(leg["dep"])) % DAY
+        ready = departs + block + turns[row["fleet"]] + extra[leg["to"]]
+        pairs[place[row["flight"]], row["fleet"]] = (departs, ready % period, ready // period, int(row["cost"]))
     return legs, fleets, pairs
 
 
@@ -49,24 +46,35 @@ def program(legs, fleets, pairs):
     cover, events, laps = defaultdict(list), defaultdict(list), defaultdict(list)
     for (leg, fleet), (departs, ready, crossed, _) in pairs.items():
         cover[leg].append(name[leg, fleet])
-        events[fleet, legs[leg][1]].append((departs, 1, name[leg, fleet]))
-        events[fleet, legs[leg][3]].append((ready, 0, name[leg, fleet]))
+        events[fleet, legs[leg]["from"]].append((departs, 1, name[leg, fleet]))
+        events[fleet, legs[leg]["to"]].append((ready, 0, name[leg, fleet]))
         if crossed:
             laps[fleet].append(f"{crossed} {name[leg, fleet]}")
     lines += [" " + " + ".join(terms) + " = 1" for terms in cover.values()]
-    stocks = defaultdict(list)
-    for number, ((fleet, _), here) in enumerate(sorted(events.items())):
-        stocks[fleet].append(f"g{number}")
-        here.sort()
-        signed = [("- " if leaves else "+ ") + term for _, leaves, term in here]
-        lines.append(" " + " ".join(signed) + " = 0")
-        lines += [f" g{number} " + " ".join(signed[: at + 1]) + " >= 0" for at, (_, leaves, _) in enumerate(here)
-                  if leaves and (at + 1 == len(here) or not here[at + 1][1] or here[at + 1][0] != here[at][0])]
+    stocks, arcs = defaultdict(list), 0
+    for (fleet, _), here in sorted(events.items()):
+        nodes = nodes_of(here)
+        stocks[fleet].append(f"g{arcs}")
+        for at, signed in enumerate(nodes):
+            waits = [f"+ g{arcs + at}", f"- g{arcs + (at + 1) % len(nodes)}"] if len(nodes) > 1 else []
+            lines.append(" " + " ".join(waits + signed) + " = 0")
+        arcs += len(nodes)
     for fleet, aircraft, _ in fleets:
         terms = stocks[fleet] + laps[fleet]
         if terms:
             lines.append(" " + " + ".join(terms) + f" <= {aircraft}")
     return "\n".join(lines + ["Binaries", " " + " ".join(name.values()), "End", ""]), name
+
+
+def nodes_of(events):
+    """The nodes of a time line, each as the terms of what becomes ready there and then departs, in order of time."""
+    nodes, has_left = [[]], False
+    for _, leaves, term in sorted(events):
+        if has_left and not leaves:
+            nodes.append([])
+        nodes[-1].append(("- " if leaves else "+ ") + term)
+        has_left = leaves
+    return nodes
 
 
 def solve(text):
@@ -86,7 +94,7 @@ def write(folder, day_start):
     chosen = solve(text)
     flown = {leg: fleet for (leg, fleet), it in name.items() if it in chosen}
     with open(Path(folder, "plan.csv"), "w") as plan:
-        plan.write("flight,fleet\n" + "".join(f"{leg[0]},{flown[number]}\n" for number, leg in enumerate(legs)))
+        plan.write("flight,fleet\n" + "".join(f"{leg['flight']},{flown[number]}\n" for number, leg in enumerate(legs)))
     return sum(pairs[key][3] for key, it in name.items() if it in chosen)
 
 

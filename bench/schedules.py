@@ -21,6 +21,23 @@ def make(folder, number, legs, program=BUILT):
         sys.exit(f"make {folder} {number} {legs} ended with {made.returncode}: {made.stdout}")
 
 
+def period_of(folder):
+    """After how many days the schedule of a folder repeats: the last day of its legs, and 1 where legs have none."""
+    return max((int(row.get("day", 1)) for row in rows(folder, "legs.csv")), default=1)
+
+
+def period_words(folder):
+    """The words by which the program reads the tables of a folder, none where it repeats each day."""
+    period = period_of(folder)
+    return ["--period", str(period)] if period > 1 else []
+
+
+def want_one_day(folder, what):
+    """Ends where the schedule of a folder has several days, of which a script knows nothing."""
+    if period_of(folder) > 1:
+        sys.exit(f"{folder}: {what} knows schedules of one day alone")
+
+
 def rows(folder, name):
     """The records of a table, by the names of its columns."""
     with open(Path(folder, name), newline="") as file:

@@ -13,6 +13,8 @@ import random
 import sys
 from pathlib import Path
 
+import schedules
+
 DAY = 1440
 
 
@@ -126,6 +128,7 @@ def main():
     if len(sys.argv) not in (4, 5):
         sys.exit(__doc__)
     folder, to, start = sys.argv[1:4]
+    schedules.want_one_day(folder, "tight.py")
     write(folder, to, minute_of(start), int(sys.argv[4]) if len(sys.argv) == 5 else 1)
 
 

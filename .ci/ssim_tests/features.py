@@ -139,6 +139,51 @@ TABLES = {
         {"costs.csv": ["ZZ1,E90,13900", "ZZ1,320,9500", "ZZ3,E90,5150", "ZZ2,E90,5500", "ZZ2,320,3500"]},
     ),
 }  # fmt: skip
+# The same of a week, which begins on the Monday.
+WEEKS = {
+    "two flights on some days of a week": ([out(days="14"), back(days="15")], {
+        "legs.csv": ["ZZ1D1,1,ZRH,07:00,LHR,09:50", "ZZ2D1,1,LHR,11:00,ZRH,11:50", "ZZ1D4,4,ZRH,07:00,LHR,09:50", "ZZ2D5,5,LHR,11:00,ZRH,11:50"],
+        "stations.csv": ["LHR,0,no", "ZRH,0,no"],
+        "fleets.csv": ["320,1,30"],
+        "costs.csv": ["ZZ1D1,320,0", "ZZ2D1,320,0", "ZZ1D4,320,0", "ZZ2D5,320,0"],
+        "throughs.csv": [],
+        "plan.csv": ["ZZ1D1,320", "ZZ2D1,320", "ZZ1D4,320", "ZZ2D5,320"],
+        "names.csv": [
+            f"ZZ1D1,ZZ,1,,01,1,3,{DATE}", f"ZZ2D1,ZZ,2,,01,1,4,{DATE}", "ZZ1D4,ZZ,1,,01,1,3,2026-12-03", "ZZ2D5,ZZ,2,,01,1,4,2026-12-04",
+        ],
+    }),
+    "Mondays' legs that depart on Sundays in UTC": ([out(1, "ZRH 0030 +0100 LHR 0220 +0000", days="1")], {
+        "legs.csv": ["ZZ1D7,7,ZRH,23:30,LHR,02:20"], "names.csv": ["ZZ1D7,ZZ,1,,01,1,3,2026-12-07"],
+    }),
+    "Sundays' legs that depart on Mondays in UTC": ([out(1, "YYT 2330 -0330 ZRH 1030 +0100", days="7", shifts="01")], {
+        "legs.csv": ["ZZ1D1,1,YYT,03:00,ZRH,09:30"], "names.csv": ["ZZ1D1,ZZ,1,,01,1,3,2026-11-29"],
+    }),
+    "a weekend that differs": ([out(days="45"), out(kind="E90", way="ZRH 1000 +0100 LHR 1150 +0000", days="6", variation=2)], {
+        "legs.csv": ["ZZ1D4,4,ZRH,07:00,LHR,09:50", "ZZ1D5,5,ZRH,07:00,LHR,09:50", "ZZ1D6,6,ZRH,09:00,LHR,11:50"],
+        "plan.csv": ["ZZ1D4,320", "ZZ1D5,320", "ZZ1D6,E90"],
+    }),
+    "every second week, of which a week has parts of two": (
+        [out(b36="2", days="123", period=("27OCT26", "22MAR27")), out(3, b36="2", days="123", period=("20OCT26", "22MAR27"))],
+        {"plan.csv": ["ZZ1D1,320", "ZZ3D2,320", "ZZ3D3,320"]},
+    ),
+    "a period that ends in the week": ([out(period=("25OCT26", "01DEC26")), back(period=("06DEC26", "00XXX00"))], {
+        "plan.csv": ["ZZ1D1,320", "ZZ1D2,320", "ZZ2D7,320"],
+    }),
+    "a flight that is cut by midnight, and by the week's end": (
+        [out(7, "ZRH 2230 +0100 GVA 2315 +0100", days="67"), out(7, "GVA 0130 +0100 LIS 0310 +0000", days="67", sequence=2, shifts="11")],
+        {
+            "legs.csv": ["ZZ7BD1,1,GVA,00:30,LIS,03:10", "ZZ7AD6,6,ZRH,21:30,GVA,22:15", "ZZ7BD7,7,GVA,00:30,LIS,03:10", "ZZ7AD7,7,ZRH,21:30,GVA,22:15"],
+            "throughs.csv": ["ZZ7AD6,ZZ7BD7,0", "ZZ7AD7,ZZ7BD1,0"],
+        },
+    ),
+    "names of 8 bytes and longer ones in a week": (
+        [leg("XYZ", 1234, "ZRH 0800 +0100 LHR 0950 +0000", "320", "12"), leg("XYZ", 123, "ZRH 0900 +0100 LHR 1050 +0000", "320", "2")],
+        {"plan.csv": ["N1,320", "N2,320", "XYZ123D2,320"]},
+    ),
+    "aircraft as the busiest day of the week uses": (
+        [*LOCAL, out(3, days="7"), back(4, days="7"), out(5, kind="E90", days="1"), back(6, kind="E90", days="6")], {"fleets.csv": ["320,2,30", "E90,1,30"]},
+    ),
+}  # fmt: skip
 CALLERS = {
     "stations": "code,extra,maintenance\nZRH,5,yes\nDUB,0,no\nLHR,0,no\n",
     "fleets": "fleet,aircraft,turn\nE90,3,25\n320,2,35\n",
@@ -155,16 +200,18 @@ TOLD = {
     "aircraft as the plan as filed uses": "aircraft that the plan as filed uses: 320 2, E90 1",
     "a plan as filed that isn't balanced": "arrivals less departures: 320 at LHR +1, 320 at ZRH -1",
     "the caller's costs": "1 legs may not be flown by their filed type by costs, the first is ZZ3",
+    "two flights on some days of a week": f"4 legs depart in the 7 days from {DATE} in UTC: 2 stations, 1 aircraft types",
+    "aircraft as the busiest day of the week uses": "aircraft that the plan as filed uses: 320 2, E90 1",
 }
 
 
-def make(folder, lines, words):
-    """Calls `tables` on lines in a folder, where the caller's files stand too."""
+def make(folder, lines, words, option="--date"):
+    """Calls `tables` on lines in a folder, where the caller's files stand too, for a date or a week."""
     (folder / "season").write_bytes(text(lines).encode("ascii"))
     for name, data in CALLERS.items():
         (folder / name).write_text(data, encoding="ascii")
     words = [str(folder / it) if it in CALLERS else it for it in words.split()]
-    return call("tables", folder / "season", folder / "day", "--date", DATE, *words)
+    return call("tables", folder / "season", folder / "day", option, DATE, *words)
 
 
 def wrong(folder, wanted, status, told, line):
@@ -186,11 +233,12 @@ def by_season(winter, summer):
 
 
 def try_all(tally):
-    for name, (legs, mode, words, wanted) in TABLES.items():
+    weeks = {name: (legs, "L", "", wanted) for name, (legs, wanted) in WEEKS.items()}
+    for name, (legs, mode, words, wanted) in {**TABLES, **weeks}.items():
         airline = legs[0][2:5].strip()
         with scratch() as folder:
             lines = [it for it in whole(airline, legs, mode) if it.strip("0")]
-            status, told = make(folder, lines, words)
+            status, told = make(folder, lines, words, "--week" if name in weeks else "--date")
             tally.note(name, wrong(folder, wanted, status, told, TOLD.get(name)))
     with scratch() as folder:
         status, told = make(folder, by_season([out(1)], [out(2), back(3)]), "")
@@ -214,3 +262,7 @@ def try_limits(tally):
             status, told = make(folder, whole("ZZ", legs), "")
             told = told.replace(f"{folder}/", "")
             tally.equal(f"the limit of {name}", (6, f"ssim: season: {line}\n", None), (status, told, standing(folder / "day")))
+    with scratch() as folder:
+        status, told = make(folder, whole("ZZ", [out(it) for it in range(1, 144)]), "", "--week")
+        is_told = f": 1,001 legs in the 7 days from {DATE}, and tables have 1,000 at most: ask for fewer (" in told
+        tally.equal("the limit of legs in a week", (6, True, None), (status, is_told, standing(folder / "day")))

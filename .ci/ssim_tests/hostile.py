@@ -11,7 +11,7 @@ from ssim_tests.trying import call, scratch, standing
 LINES = 2000
 DATE = "2026-11-30"
 REFUSED = re.compile(r"ssim: \S+/season line [1-9][0-9]*: .+ \(bytes? \d[\d, toand]*\), it should be .+\n")
-LIMIT = re.compile(r"ssim: \S+/season: [0-9,]+ [a-z ]+ on 2026-11-30, and tables have .+\n")
+LIMIT = re.compile(r"ssim: \S+/season: [0-9,]+ [a-z ]+ (on|in the 7 days from) 2026-11-30, and tables have .+\n")
 TYPES = ("320", "E90", "333", "BUS")
 # Values of a form that may stand at some first bytes of a leg, with which its meaning changes.
 VALUES = (
@@ -81,8 +81,9 @@ class Hostile:
         data = text(lines).encode("latin-1")
         (folder / "season").write_bytes(data)
         words = ["--fleets", folder / "fleets", *(["--surface"] if number % 3 == 0 else [])]
+        option = "--week" if number % 2 else "--date"
         before = standing(folder / "day")
-        status, told = call("tables", folder / "season", folder / "day", "--date", DATE, *words)
+        status, told = call("tables", folder / "season", folder / "day", option, DATE, *words)
         after = standing(folder / "day")
         if status == 6 and (REFUSED.fullmatch(told) or LIMIT.fullmatch(told)):
             self.refused += 1
@@ -91,7 +92,7 @@ class Hostile:
         elif status:
             self.wrong.append(f"run {number}: status {status}: {told}")
         else:
-            self.judge(number, after)
+            self.judge(number, after, ["--period", "7"] if number % 2 else [])
             status, told = call("plan", folder / "season", folder / "day", folder / "new")
             if status or (folder / "new").read_bytes() != data:
                 self.wrong.append(f"run {number}: the plan as filed changes the file, status {status}: {told}")
@@ -99,13 +100,13 @@ class Hostile:
         if beside:
             self.wrong.append(f"run {number} leaves {beside}")
 
-    def judge(self, number, held):
+    def judge(self, number, held, period):
         """Has the program read tables that it hasn't read yet."""
         tables = tuple(held[it] for it in sorted(held) if it != "names.csv")
         if tables in self.known:
             return
         self.known.add(tables)
-        words = [os.environ["FLEETPLAN"], "judge", str(self.folder / "day")]
+        words = [os.environ["FLEETPLAN"], "judge", str(self.folder / "day"), *period]
         ran = subprocess.run(words, stdin=subprocess.DEVNULL, stdout=subprocess.PIPE, stderr=subprocess.STDOUT, check=False)
         said = ran.stdout.decode("utf-8", "replace")
         if ran.returncode not in (0, 9) or said.startswith("plan refused"):

@@ -19,12 +19,12 @@ def short(line):
     return line[5:13] + line[127] + " " + line[14:35].rstrip() + " " + line[72:75] if line[0] == "3" else f"{line[5:13]}{line[27]} {line[30:33]}"
 
 
-def planned(folder, lines, changes, words=()):
-    """Writes a plan with some fleets changed, and returns the lines of legs and segments of the new file."""
+def planned(folder, lines, changes, words=(), option="--date"):
+    """Writes a plan of a date or a week with some fleets changed, and returns the lines of legs and segments of the new file."""
     (folder / "season").write_bytes(text(lines).encode("ascii"))
     fleets = "".join(f"{it},9,30\n" for it in sorted({it[72:75] for it in lines if it[0] == "3"}))
     (folder / "fleets").write_text(f"fleet,aircraft,turn\n{fleets}", encoding="ascii")
-    made = call("tables", folder / "season", folder / "day", "--date", DATE, "--fleets", folder / "fleets")
+    made = call("tables", folder / "season", folder / "day", option, DATE, "--fleets", folder / "fleets")
     rows = dict(it.split(",") for it in records(folder / "day", "plan.csv"))
     rows.update(changes)
     (folder / "day" / "plan.csv").write_text("flight,fleet\n" + "".join(f"{it},{to}\n" for it, to in rows.items()), encoding="ascii")
@@ -91,11 +91,54 @@ CASES = {
 }  # fmt: skip
 
 
+def every_day(changes):
+    """The fleets of names of a week, each of which ends with its days."""
+    return {f"{name}D{day}": fleet for (name, days), fleet in changes.items() for day in days}
+
+
+# The same of a week: of each flight and its days the fleet of the plan.
+WEEKS = {
+    "days of a week alike": ([ONE, TWO, LATER], {("ZZ1", "12345"): "E90"}, (), [
+        "00010101  25OCT2627NOV2612345 320", "00010201  30NOV2604DEC2612345 E90", "00010301  07DEC2627MAR2712345 320",
+        "00020101  25OCT2627MAR2712345 320", "00010401  25OCT2627MAR27     67 320",
+    ]),
+    "days of a week that differ": ([ONE], {("ZZ1", "124"): "E90", ("ZZ1", "3"): "333"}, (), [
+        "00010101  25OCT2627NOV2612345 320", "00010201  30NOV2603DEC2612 4 E90", "00010301  02DEC2602DEC26  3 333",
+        "00010401  04DEC2627MAR2712345 320",
+    ]),
+    "days between that stay": ([ONE], {("ZZ1", "15"): "E90"}, (), [
+        "00010101  25OCT2627NOV2612345 320", "00010201  30NOV2604DEC261   5 E90", "00010301  01DEC2603DEC26 234 320",
+        "00010401  07DEC2627MAR2712345 320",
+    ]),
+    "a week by days of operation": ([ONE, LATER], {("ZZ1", "12"): "E90", ("ZZ1", "4"): "333", ("ZZ1", "7"): "E90"}, ("--whole-season",), [
+        "00010101  25OCT2627MAR2712 E90", "00010201  25OCT2627MAR27  3 5 320", "00010301  25OCT2627MAR27   4 333",
+        "00010401  25OCT2627MAR27     6 320", "00010501  25OCT2627MAR27      7 E90",
+    ]),
+    "a record of that week alone": ([leg("ZZ", 1, WAY, "320", "123", ("30NOV26", "06DEC26"), 7)], {("ZZ1", "13"): "E90"}, (), [
+        "00010101  30NOV2602DEC261 3 E90", "00010201  30NOV2601DEC26 2 320",
+    ]),
+    "a week of every second one": ([leg("ZZ", 1, WAY, "320", "136", ("30NOV26", "22MAR27"), b36="2")], {("ZZ1", "13"): "E90"}, (), [
+        "00010101  30NOV2602DEC261 3 E90", "00010201  05DEC2605DEC26     6 320", "00010301  14DEC2622MAR271 3  6 320",
+    ]),
+    "a week of two legs, of eight dates": (THREE, {("ZZ7A", "1234567"): "E90", ("ZZ7B", "1234567"): "E90"}, (), [
+        "00070101  25OCT2628NOV261234567 320", "00070102  25OCT2628NOV261234567 320",
+        "00070201  29NOV2629NOV26      7 320", "00070202  29NOV2629NOV26      7 E90",
+        "00070301  30NOV2605DEC26123456 E90", "00070302  30NOV2605DEC26123456 E90",
+        "00070401  06DEC2606DEC26      7 E90", "00070402  06DEC2606DEC26      7 320",
+        "00070501  07DEC2627MAR271234567 320", "00070502  07DEC2627MAR271234567 320",
+    ]),
+    "a week of two legs by days of operation": (THREE, {("ZZ7A", "1234567"): "E90", ("ZZ7B", "1234567"): "E90"}, ("--whole-season",), [
+        "00070101  25OCT2627MAR271234567 E90", "00070102  25OCT2627MAR271234567 E90",
+    ]),
+}  # fmt: skip
+
+
 def try_cases(tally):
-    for name, (legs, changes, words, wanted) in CASES.items():
+    weeks = {name: (legs, every_day(changes), words, wanted) for name, (legs, changes, words, wanted) in WEEKS.items()}
+    for name, (legs, changes, words, wanted) in {**CASES, **weeks}.items():
         with scratch() as folder:
             lines = file_of(*legs, leg("ZZ", 99, WAY, "E90", "7"))
-            lines = planned(folder, lines, changes, words)
+            lines = planned(folder, lines, changes, words, "--week" if name in weeks else "--date")
             tally.equal(f"a plan: {name}", [*wanted, "00990101  25OCT2627MAR27      7 E90"], body(lines))
             tally.equal(f"a plan: {name}, counted", numbered([f"{it[:194]}000000" for it in lines]), lines)
 
@@ -171,25 +214,33 @@ def try_draws(tally):
             chance = random.Random(draw)
             first = datetime.date(2026, 11, chance.randrange(20, 30))
             words = ["--whole-season"] if draw % 2 else []
+            option, count = ("--week", 7) if draw % 4 > 1 else ("--date", 1)
             file, day, new = EXAMPLE / "season.ssim", folder / "day", folder / f"new{draw}"
-            call("tables", file, day, "--date", first.isoformat(), "--fleets", fleets)
+            call("tables", file, day, option, first.isoformat(), "--fleets", fleets)
             rows = [it.split(",") for it in records(day, "plan.csv")]
             rows = [(it, chance.choice(types) if chance.random() < 0.4 else kind) for it, kind in rows]
             plan = "flight,fleet\n" + "".join(f"{it},{kind}\n" for it, kind in rows)
             (day / "plan.csv").write_text(plan, encoding="ascii")
             status, told = call("plan", file, day, new, *words)
-            again = call("tables", new, folder / "again", "--date", first.isoformat(), "--fleets", fleets)
+            again = call("tables", new, folder / "again", option, first.isoformat(), "--fleets", fleets)
             why = told if status else again[1] if again[0] else None
             tally.note(f"plan {draw} is written and read", why)
             came = (folder / "again" / "plan.csv").read_text(encoding="ascii")
-            tally.equal(f"plan {draw} of {first} {words} is that plan again", plan, came)
-            tally.note(f"plan {draw} of {first} {words} leaves other dates", others(folder, file, new, first, bool(words), fleets))
+            tally.equal(f"plan {draw} {option} {first} {words} is that plan again", plan, came)
+            why = others(folder, file, new, first, count, bool(words), fleets)
+            tally.note(f"plan {draw} {option} {first} {words} leaves other dates", why)
+            if words:
+                # All flights of the example go again after two weeks.
+                later = first + datetime.timedelta(14)
+                call("tables", new, folder / "later", option, later.isoformat(), "--fleets", fleets)
+                came = (folder / "later" / "plan.csv").read_text(encoding="ascii")
+                tally.equal(f"plan {draw} {option} {first} {words} is that of {later}", plan, came)
 
 
-def others(folder, file, new, first, is_whole_season, fleets):
+def others(folder, file, new, first, count, is_whole_season, fleets):
     """Returns on which near date the legs of two files differ that may not, or None."""
     for shift in NEAR:
-        if not shift % 7 and (is_whole_season or not shift):
+        if shift in range(count) or is_whole_season and shift % 7 < count:
             continue
         day = first + datetime.timedelta(shift)
         before, after = (tables_on(it, folder / "other", day, fleets) for it in (file, new))
@@ -223,7 +274,8 @@ def try_refusals(tally):
             told = told.replace(f"{folder}/", "")
             came = status, told, standing(folder) == before
             tally.equal(f"plan: {line}", (7 if put is None else 6, f"ssim: day/{line}\n", True), came)
-    tally.equal("plan --week", (2, "ssim: --week: periods of several days are not there yet\n"), call("plan", "a", "b", "c", "--week"))
+    status, told = call("plan", "a", "b", "c", "--week", DATE)
+    tally.equal("plan --week", (2, "ssim: --week is no option"), (status, told.splitlines()[0]))
 
 
 def try_all(tally):

@@ -86,8 +86,8 @@ WHOLES = {
 # Of each case the words behind FILE DIR, the status, and the first line that is told.
 WORDS = (
     ("", 2, "usage: tools/ssim tables FILE DIR --date YYYY-MM-DD"),
-    ("--week 2026-11-30", 2, "ssim: --week: periods of several days are not there yet"),
-    ("--week=2026-11-30 --date 2026-11-30", 2, "ssim: --week: periods of several days are not there yet"),
+    (f"--week={DATE} --date {DATE}", 2, "ssim: --date and --week stand both"),
+    ("--week 30.11.2026", 2, "ssim: --week 30.11.2026: a day as 2026-11-30 is wanted, of the years 2000 to 2099"),
     ("--date 2026-11-31", 2, "ssim: --date 2026-11-31: a day as 2026-11-30 is wanted, of the years 2000 to 2099"),
     (f"--date {DATE} --date {DATE}", 2, "ssim: --date stands twice"),
     (f"--date {DATE} --surface=yes", 2, "ssim: --surface takes no value"),

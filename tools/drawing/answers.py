@@ -9,7 +9,7 @@ from hints.schedule import DAY
 
 
 class Flown:
-    """A flight of a tour: the day on which it departs, from 0, and the nights after it, each a station (None aloft) and whether
+    """A flight of a tour: the tour's day on which it departs, from 0, and the nights after it, each a station (None aloft) and whether
     it maintains."""
 
     def __init__(self, leg, busy):
@@ -76,11 +76,13 @@ def check(path, schedule, plan, rotation):
     own = sorted(flight for flight, fleet in plan.items() if fleet == rotation.fleet)
     if bool(own) == (rotation.words == "unused") or (rotation.days and own != sorted(it.leg.flight for it in rotation.tour)):
         refuse(path, f"isn't of this plan.csv: the flights of {rotation.fleet} are others")
+    first = rotation.tour[0].leg.departure // DAY if rotation.tour else 0
     day = 0
     for flown, following in zip(rotation.tour, rotation.tour[1:] + rotation.tour[:1]):
-        flown.day = day
+        flown.day = (first + day) % rotation.days
         if flown.leg.end != following.leg.start or flown.nights != nights_between(schedule, flown, following):
-            refuse(path, f"isn't by this day start: the nights of {rotation.fleet} are others. Give the --day-start of solve")
+            why = f"isn't by this day start: the nights of {rotation.fleet} are others. Give the --day-start of solve"
+            refuse(path, why if schedule.period == 1 else f"{why}, and its --period")
         day += len(flown.nights)
     if day != rotation.days:
         refuse(path, f"has {day} nights for the {rotation.days} days of {rotation.fleet}")
@@ -89,5 +91,6 @@ def check(path, schedule, plan, rotation):
 def nights_between(schedule, flown, following):
     """Returns the nights between two departures of one aircraft: aloft until it is ready, then at the station where it landed."""
     ready, station = flown.leg.departure + flown.busy, flown.leg.end
-    number = (ready + (following.leg.departure - ready) % DAY) // DAY
-    return [(None, False) if it < ready // DAY else (station, schedule.maintains[station]) for it in range(number)]
+    departs = ready + (following.leg.departure - ready) % schedule.minutes
+    nights = range(flown.leg.departure // DAY, departs // DAY)
+    return [(None, False) if it < ready // DAY else (station, schedule.maintains[station]) for it in nights]

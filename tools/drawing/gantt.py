@@ -9,16 +9,18 @@ NIGHT_AT = LEFT + DAY_WIDTH + 12
 
 
 class Bar:
-    """A flight in its row, with its minutes until the aircraft is ready, and the nights after it."""
+    """A flight with the nights after it. It begins in a row of the tour, or in a lane where there is none. Its minutes are counted from
+    the start of the day on which it departs."""
 
     def __init__(self, leg, busy, row, nights=()):
-        self.leg, self.busy, self.row, self.nights = leg, busy, row, nights
-        self.lands = leg.departure + leg.block
+        self.leg, self.row, self.nights = leg, row, nights
+        self.day, self.departs = divmod(leg.departure, MINUTES)
+        self.lands, self.ready = self.departs + leg.block, self.departs + busy
 
 
 class Chart:
-    """The chart of a fleet. The rows of a tour follow each other, and after the last one comes the first; other rows stand by
-    themselves, and a flight over the day's end goes on in the same row."""
+    """The chart of a fleet. The rows of a tour follow each other, and after the last one comes the first. Else each day has lanes that
+    stand by themselves, and a flight over the day's end goes on in the same lane of the next day."""
 
     def __init__(self, schedule, rotation, plan, palette):
         self.schedule, self.rotation, self.palette = schedule, rotation, palette
@@ -27,7 +29,8 @@ class Chart:
             self.bars = [Bar(it.leg, it.busy, it.day, it.nights) for it in rotation.tour]
             self.rows = rotation.days
         else:
-            self.bars, self.rows = packed(schedule.flown_by(plan, self.fleet))
+            self.bars, self.lanes = packed(schedule.flown_by(plan, self.fleet), schedule.period)
+            self.rows = len(self.lanes)
         self.labels = {}
 
     def drawn(self):
@@ -37,8 +40,9 @@ class Chart:
         for row in range(self.rows):
             bottom = TOP + ROW * (row + 1)
             parts.append(line(LEFT, bottom, LEFT + DAY_WIDTH, bottom, "#c3c9d2"))
-            label = f"day {row + 1}" if self.has_tour else f"row {row + 1}"
+            label, below = self.label(row)
             parts.append(words(LEFT - 10, bottom - 19, label, 12, "end", "strong" if self.has_tour else "faint"))
+            parts += [words(LEFT - 10, bottom - 6, below, 10, "end", "faint")] if below else []
         if self.has_tour:
             parts += [part for it in zip(self.bars, self.bars[1:] + self.bars[:1]) for part in self.ground(*it)]
         parts += [self.flight(it) for it in sorted(self.bars, key=lambda it: (it.row, it.leg.departure))]
@@ -47,9 +51,21 @@ class Chart:
         parts += [part for it in self.bars for part in self.nights(it)]
         return picture(height, f"{self.fleet}: {self.rotation.words}", parts)
 
+    def label(self, row):
+        """Returns what stands left of a row, and below that, or None."""
+        period = self.schedule.period
+        if period == 1:
+            return f"day {row + 1}" if self.has_tour else f"row {row + 1}", None
+        if self.has_tour:
+            return f"day {row % period + 1}", f"period {row // period + 1}"
+        day, lane = list(self.lanes)[row]
+        return f"day {day + 1}", f"row {lane + 1}"
+
     def row_at(self, bar, minute):
         """Returns the row of a minute that is counted from the start of the flight's own day."""
-        return (bar.row + minute // MINUTES) % self.rows if self.has_tour else bar.row
+        if self.has_tour:
+            return (bar.row + minute // MINUTES) % self.rows
+        return self.lanes[(bar.day + minute // MINUTES) % self.schedule.period, bar.row]
 
     def pieces(self, bar, start, end):
         """Yields a span of minutes, counted from the start of the flight's own day, as rows with their first and last minute."""
@@ -61,9 +77,9 @@ class Chart:
     def flight(self, bar):
         """Returns a flight with its number, its stations, and its turn."""
         leg, parts = bar.leg, []
-        for row, start, end in self.pieces(bar, bar.lands, leg.departure + bar.busy):
+        for row, start, end in self.pieces(bar, bar.lands, bar.ready):
             parts.append(box(x_of(start), y_of(row) + BAR - 5, x_of(end) - x_of(start), 5, self.palette.pale(self.fleet)))
-        spans = list(self.pieces(bar, leg.departure, bar.lands))
+        spans = list(self.pieces(bar, bar.departs, bar.lands))
         for at, (row, start, end) in enumerate(spans):
             x, y, width = x_of(start), y_of(row), x_of(end) - x_of(start)
             parts.append(box(x, y, width, BAR, self.palette.fill(self.fleet), 'rx="2"'))
@@ -73,8 +89,9 @@ class Chart:
         for it in spans:
             if it == longest or width_of(leg.flight, 9) + 3 <= x_of(it[2]) - x_of(it[1]):
                 parts += self.number(leg.flight, x_of(it[1]), x_of(it[2]), it[0])
-        schedule = self.schedule
-        title = f"{leg.flight}: {leg.start} {leg.dep} to {leg.end} {leg.arr}, ready {schedule.clock(leg.departure + bar.busy)}"
+        start = bar.day * MINUTES
+        departs, lands, ready = (self.schedule.moment(start + it) for it in (bar.departs, bar.lands, bar.ready))
+        title = f"{leg.flight}: {leg.start} {departs} to {leg.end} {lands}, ready {ready}"
         return group("leg", leg.flight, title, parts)
 
     def number(self, flight, left, right, row):
@@ -96,7 +113,7 @@ class Chart:
 
     def ground(self, bar, following):
         """Yields the time on the ground from a flight to the next as a thin line."""
-        end = len(bar.nights) * MINUTES + following.leg.departure
+        end = len(bar.nights) * MINUTES + following.departs
         for row, first, last in self.pieces(bar, bar.lands, end):
             y = y_of(row) + BAR / 2
             yield line(x_of(first), y, x_of(last), y, GROUND, 1.4)
@@ -106,7 +123,7 @@ class Chart:
         at = {it.leg.flight: it for it in self.bars}
         for into, out in self.rotation.pairs:
             first, second = at[into], at[out]
-            spans = list(self.pieces(first, first.lands, len(first.nights) * MINUTES + second.leg.departure))
+            spans = list(self.pieces(first, first.lands, len(first.nights) * MINUTES + second.departs))
             parts = []
             for row, start, end in spans:
                 parts.append(line(x_of(start), y_of(row) + BAR / 2, x_of(end), y_of(row) + BAR / 2, TIE, 3.6))
@@ -119,7 +136,7 @@ class Chart:
     def nights(self, bar):
         """Yields the nights after a flight, each at the end of its day: filled where the aircraft can be maintained."""
         for at, (station, maintains) in enumerate(bar.nights):
-            y, width = y_of((bar.row + at) % self.rows) - 1, 100 if maintains else 58
+            y, width = y_of(self.row_at(bar, at * MINUTES)) - 1, 100 if maintains else 58
             if station is None:
                 title, fill, more, text = "a night aloft or in its turn", "#ffffff", f'stroke="{INK}" stroke-dasharray="3 3"', "aloft"
             elif maintains:
@@ -144,18 +161,20 @@ def codes(leg, x, y, width, is_first, is_last):
     return parts
 
 
-def packed(flown):
-    """Returns flights in rows in which no two are in the air at once, each in the first row where it fits."""
-    rows, bars = [], []
+def packed(flown, period):
+    """Returns flights in lanes in which no two are in the air at once, each in the first lane where it fits; and of each day (from 0) and
+    lane that is wanted its row."""
+    minutes, lanes, bars, wanted = period * MINUTES, [], [], set()
     for leg, busy in sorted(flown, key=lambda it: it[0].departure):
         lands = leg.departure + leg.block
-        spans = [(leg.departure, min(lands, MINUTES))] + ([(0, lands - MINUTES)] if lands > MINUTES else [])
-        row = next((at for at, taken in enumerate(rows) if all(is_apart(it, other) for it in spans for other in taken)), len(rows))
-        if row == len(rows):
-            rows.append([])
-        rows[row] += spans
-        bars.append(Bar(leg, busy, row))
-    return bars, len(rows)
+        spans = [(leg.departure, min(lands, minutes))] + ([(0, lands - minutes)] if lands > minutes else [])
+        lane = next((at for at, taken in enumerate(lanes) if all(is_apart(it, other) for it in spans for other in taken)), len(lanes))
+        if lane == len(lanes):
+            lanes.append([])
+        lanes[lane] += spans
+        bars.append(Bar(leg, busy, lane))
+        wanted.update((day % period, lane) for day in range(leg.departure // MINUTES, (leg.departure + busy - 1) // MINUTES + 1))
+    return bars, {it: row for row, it in enumerate(sorted(wanted))}
 
 
 def is_apart(one, other):

@@ -1,12 +1,13 @@
-"""The aircraft on the ground at a station through the day: a lane for each fleet that comes there, as high as they are many."""
+"""The aircraft on the ground at a station through the day or the period: a lane for each fleet that comes there, as high as they are
+many."""
 
-from drawing.svg import DAY_WIDTH, FAINT, LEFT, MINUTES, box, grid, group, line, picture, width_of, words, x_of
+from drawing.svg import DAY_WIDTH, FAINT, LEFT, box, days, grid, group, line, picture, width_of, words, x_of
 
 TOP, LANE, HIGH = 22, 24, 17
 
 
 class Grounds:
-    """The aircraft of each fleet on the ground at each station, at the end of each minute of the day."""
+    """The aircraft of each fleet on the ground at each station, at the end of each minute of the period."""
 
     def __init__(self, schedule, plan):
         self.schedule = schedule
@@ -25,14 +26,15 @@ class Grounds:
             return None
         most = max(max(it) for it in lanes.values())
         height = TOP + LANE * len(lanes) + 6
-        parts = grid(self.schedule, TOP, height - 6)
+        period = self.schedule.period
+        parts = grid(self.schedule, TOP, height - 6) if period == 1 else days(period, TOP, height - 6)
         for at, (fleet, minutes) in enumerate(lanes.items()):
             parts += lane(fleet, minutes, most, TOP + LANE * (at + 1), palette)
         return picture(height, f"aircraft on the ground at {station}", parts)
 
 
 def stands_from(need, goes, comes):
-    """Returns the aircraft on the ground at the end of each minute: those at the day start, and what came less what went."""
+    """Returns the aircraft on the ground at the end of each minute: those at the first day's start, and what came less what went."""
     stand, minutes = need, []
     for gone, come in zip(goes, comes):
         stand += come - gone
@@ -43,8 +45,8 @@ def stands_from(need, goes, comes):
 def steps(minutes):
     """Yields the spans of minutes in which the number stays the same."""
     start = 0
-    for at in range(1, MINUTES + 1):
-        if at == MINUTES or minutes[at] != minutes[start]:
+    for at in range(1, len(minutes) + 1):
+        if at == len(minutes) or minutes[at] != minutes[start]:
             yield start, at, minutes[start]
             start = at
 
@@ -56,7 +58,8 @@ def lane(fleet, minutes, most, bottom, palette):
     for start, end, number in steps(minutes):
         if not number:
             continue
-        x, width, high = x_of(start), x_of(end) - x_of(start), HIGH * number / max(most, 1)
+        x = x_of(start, len(minutes))
+        width, high = x_of(end, len(minutes)) - x, HIGH * number / max(most, 1)
         spans.append(box(x, bottom - high, width, high, palette.pale(fleet)))
         spans.append(line(x, bottom - high, x + width, bottom - high, palette.fill(fleet), 2))
         if width >= width_of(str(number), 10) + 2:

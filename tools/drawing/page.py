@@ -27,7 +27,7 @@ LEGEND = (
     "night: filled where the aircraft can be maintained, dashed where it is aloft."
 )
 LANES = (
-    "At each station through the day, a lane for each fleet: the number stands in it, and the step is as high. An aircraft in its turn "
+    "At each station through the {span}, a lane for each fleet: the number stands in it, and the step is as high. An aircraft in its turn "
     "isn't on the ground yet."
 )
 
@@ -53,13 +53,13 @@ def page(plan):
     parts = [f"<h1>{escape(plan.name)}</h1>", summary(plan), "<h2>Rotations</h2>", f'<p class="note">{LEGEND}</p>']
     for rotation, drawn in plan.charts():
         kind = ' class="long"' if rotation.days > 12 or not rotation.days else ""
-        head = f"<h3>{key(plan, rotation.fleet)}{rotation.fleet}: {told(rotation)}</h3>"
+        head = f"<h3>{key(plan, rotation.fleet)}{rotation.fleet}: {told(rotation, plan.schedule.period)}</h3>"
         parts.append(f'<section{kind} data-fleet="{rotation.fleet}">{head}{drawn}</section>')
     unused = [it.fleet for it in plan.rotations if it.words == "unused"]
     if unused:
         parts.append(f"<p>Without a flight: {', '.join(unused)}.</p>")
     parts.append("<h2>Aircraft on the ground</h2>")
-    parts.append(f'<p class="note">{LANES}</p>')
+    parts.append(f'<p class="note">{LANES.format(span="day" if plan.schedule.period == 1 else "period")}</p>')
     grounds = Grounds(plan.schedule, plan.plan)
     for station in plan.schedule.extra:
         drawn = grounds.chart(station, plan.palette)
@@ -77,12 +77,13 @@ def key(plan, fleet):
     return f'<span class="key{hatched}" style="background-color:{plan.palette.fill(fleet)}"></span>'
 
 
-def told(rotation):
+def told(rotation, period):
     """Returns what became of a rotation, with what its chart shows."""
     if rotation.days:
         days = "a day" if rotation.days == 1 else f"{rotation.days} days"
         more = " (without its chosen through flights, with which there was none)" if not rotation.keeps else ""
-        aircraft = "one aircraft comes" if rotation.days == 1 else f"each of {rotation.days} aircraft, a day apart, comes"
+        count, apart = rotation.days // period, "a day" if period == 1 else f"{period} days"
+        aircraft = "one aircraft comes" if count == 1 else f"each of {count} aircraft, {apart} apart, comes"
         return f"{aircraft} round {len(rotation.tour)} flights in {days}{more}"
     return f"{escape(rotation.words)}: no tour. Its flights, in rows in which no two overlap (a row isn't one aircraft)"
 
@@ -91,6 +92,7 @@ def summary(plan):
     """Returns the numbers of the summary."""
     schedule = plan.schedule
     rows = [("cost", f"{plan.cost:,}"), *plan.proved, ("flights", f"{len(schedule.legs):,}"), ("day start", f"{schedule.clock(0)} UTC")]
+    rows += [("period", f"{schedule.period} days")] if schedule.period > 1 else []
     head = "".join(f'<tr><th>{name}</th><td class="n">{value}</td></tr>' for name, value in rows)
     fleets = "".join(
         f"<tr><td>{key(plan, it.fleet)}{it.fleet}</td><td class='n'>{plan.used[it.fleet]} of {schedule.aircraft[it.fleet]}</td>"

@@ -15,9 +15,9 @@ STYLE = (
 )
 
 
-def x_of(minute):
-    """Returns where a minute from the day start stands."""
-    return LEFT + minute * DAY_WIDTH / MINUTES
+def x_of(minute, minutes=MINUTES):
+    """Returns where a minute from the day start stands, or from the start of a period of so many minutes."""
+    return LEFT + minute * DAY_WIDTH / minutes
 
 
 def box(x, y, width, height, fill, more=""):
@@ -61,6 +61,17 @@ def grid(schedule, top, bottom, every=120):
         parts.append(line(x_of(minute), top, x_of(minute), bottom, "#c3c9d2" if strong else RULE))
         if strong:
             parts.append(words(x_of(minute), top - 5, schedule.clock(minute), 10, "middle", "faint"))
+    return parts
+
+
+def days(count, top, bottom):
+    """Returns the days of a period as lines, with their numbers above them."""
+    parts = []
+    for quarter in range(4 * count + 1):
+        x = x_of(quarter, 4 * count)
+        parts.append(line(x, top, x, bottom, RULE if quarter % 4 else "#c3c9d2"))
+        if quarter % 4 == 2:
+            parts.append(words(x, top - 5, f"day {quarter // 4 + 1}", 10, "middle", "faint"))
     return parts
 
 

@@ -68,7 +68,7 @@ def tell_refusal(hint, command, call, said):
     from hints import refused_plans, refused_proofs, refused_tables
 
     line = said.strip()
-    refused_tables.explain(hint, call.folder, line)
+    refused_tables.explain(hint, call.folder, line, call.value("period"))
     refused_plans.explain(hint, command, call, line)
     refused_proofs.explain(hint, call.folder, line, call)
 

@@ -138,8 +138,7 @@ def tell_missing(hint, command, call, name):
         hint.show(typed(["touch", os.path.join(call.folder, name)]))
     elif name in ("plan.csv", "proof.txt"):
         hint.say("solve writes it, where it has a plan:" if name == "plan.csv" else "solve writes it:")
-        start = ["--day-start", call.given["day-start"][0]] if "day-start" in call.given else []
-        hint.show(typed([command, "solve", call.folder, *start]))
+        hint.show(typed([command, "solve", call.folder, *call.reading]))
 
 
 def tell_writes(hint, call):

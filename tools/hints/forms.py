@@ -3,6 +3,7 @@
 import re
 import unicodedata
 
+from hints.records import DATED
 from hints.saying import plain
 from hints.words import Time
 
@@ -90,3 +91,9 @@ FIELDS = {
     "costs.csv": (name, name, whole(-TRILLION, TRILLION)),
     "throughs.csv": (name, name, whole(0, TRILLION)),
 }
+
+
+def fields_of(table, header, period=1):
+    """Returns the same of a table with this header, where the schedule repeats after so many days."""
+    first, *rest = FIELDS[table]
+    return (first, whole(1, period), *rest) if header == DATED else (first, *rest)

@@ -1,7 +1,7 @@
 """What is wrong with the first record of a table."""
 
-from hints.forms import FIELDS
-from hints.records import HEADERS, MARK, bytes_of, records_in
+from hints.forms import fields_of
+from hints.records import HEADERS, MARK, bytes_of, headers_of, records_in
 from hints.saying import plain
 
 # How a file begins that is no table.
@@ -16,11 +16,12 @@ KINDS = (
 OTHERS = ((";", "semicolons"), ("\t", "tabs"), ("|", "bars"))
 
 
-def explain_header(path, name):
-    """Returns what is wrong with the header of a table, in sentences."""
+def explain_header(path, name, period):
+    """Returns what is wrong with the header of a table, in sentences, where the schedule repeats after so many days."""
     data = bytes_of(path)
-    wanted = HEADERS[name]
-    begins = f"its first line has to be {','.join(wanted)}"
+    wanted = headers_of(name, period)[0]
+    with_period = f" with --period {period}" if name == "legs.csv" and period > 1 else ""
+    begins = f"its first line has to be {','.join(wanted)}{with_period}"
     if not data:
         return [f"{path} is empty", begins]
     for start, told in KINDS:
@@ -30,7 +31,7 @@ def explain_header(path, name):
     if first is None:
         return [f"{path} has blank lines alone", begins]
     has = tuple(first.texts)
-    if has == wanted:
+    if has in headers_of(name, period):
         return []
     why = difference(has, wanted, name)
     return [f"{path} begins with {plain(str(first))}", *([why] if why else []), begins]
@@ -56,9 +57,16 @@ def difference(has, wanted, name):
         return "its columns stand in another order: bring them into this one, in each line"
     if has[0].lower().startswith("sep="):
         return "take this line away: the header comes first"
+    if with_day(has, wanted):
+        return "it tells no day of its flights"
     others = [it for it, header in HEADERS.items() if header == has and it != name]
     if others:
         return f"that is the header of {others[0]}"
-    if len(has) == len(wanted) and not any(wrong(text) for wrong, text in zip(FIELDS[name], has)):
+    if len(has) == len(wanted) and not any(wrong(text) for wrong, text in zip(fields_of(name, wanted), has)):
         return "that is a good record: write the header above it"
     return None
+
+
+def with_day(has, wanted):
+    """Returns whether a header is the one that is wanted but for the day."""
+    return "day" in wanted and has == tuple(it for it in wanted if it != "day")

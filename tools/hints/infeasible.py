@@ -16,7 +16,7 @@ MOST_CAUSES = 3
 def explain(hint, call):
     """Says why no plan is legal, as far as it is plain, and what to try."""
     try:
-        causes = list(causes_of(Schedule(call.folder, call.value("day-start"))))
+        causes = list(causes_of(Schedule(call.folder, call.value("day-start"), call.value("period"))))
     except Unread:
         causes = []
     for text in causes:
@@ -47,13 +47,13 @@ def legs_without_pair(schedule):
 
 
 def legs_out_of_balance(schedule):
-    """A station at which more legs arrive each day than depart, or fewer."""
+    """A station at which more legs arrive than depart, or fewer."""
     for station in schedule.extra:
         comes = [it.flight for it in schedule.legs.values() if it.end == station]
         goes = [it.flight for it in schedule.legs.values() if it.start == station]
         if len(comes) != len(goes):
             yield (
-                f"each day {counted(len(comes), 'flight')} arrive{'s' if len(comes) == 1 else ''} at {station} and {len(goes)} "
+                f"{schedule.each} {counted(len(comes), 'flight')} arrive{'s' if len(comes) == 1 else ''} at {station} and {len(goes)} "
                 f"depart{'s' if len(goes) == 1 else ''}, and as many have to depart as arrive"
                 f" (arriving {listed(comes) or 'none'}; departing {listed(goes) or 'none'})"
             )
@@ -100,12 +100,12 @@ def aircraft_wanted(schedule):
         own, has = set(group), sum(schedule.aircraft[it] for it in group)
         legs = [leg for leg in schedule.legs.values() if schedule.fleets_of[leg.flight] and own.issuperset(schedule.fleets_of[leg.flight])]
         flown = [(leg, min(schedule.busy(leg, it) for it in schedule.fleets_of[leg.flight])) for leg in legs]
-        minutes = under_way(flown)
+        minutes = under_way(flown, schedule.minutes)
         most = max(minutes)
         is_all = len(group) == len(schedule.aircraft)
         which = "" if is_all else f" that {listed(group)} alone may fly"
         have = f"and fleets.csv has {has} aircraft {'in all' if is_all else f'of {listed(group)}'}"
         if most > has:
-            yield f"at {schedule.clock(minutes.index(most))} {most} flights{which} are in the air or in their turn, {have}"
+            yield f"at {schedule.moment(minutes.index(most))} {most} flights{which} are in the air or in their turn, {have}"
         elif len(legs) == len(schedule.legs) and schedule.used(flown) > has:
             yield f"the flights need {schedule.used(flown)} aircraft, however they are shared out, {have}"

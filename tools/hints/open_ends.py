@@ -51,8 +51,7 @@ def counts_of(path):
 
 def tell_gap(hint, call, program):
     """Says how far cost and bound are apart, as the program's own check of the proof tells them."""
-    start = ["--day-start", call.given["day-start"][0]] if "day-start" in call.given else []
-    words = [program, "check", *start, "--", call.folder]
+    words = [program, "check", *call.reading, "--", call.folder]
     ran = subprocess.run(words, stdin=subprocess.DEVNULL, stdout=subprocess.PIPE, stderr=subprocess.DEVNULL, timeout=SECONDS, check=False)
     found = HOLDS.fullmatch(ran.stdout.decode("ascii", "replace").strip())
     if ran.returncode or not found:

@@ -18,6 +18,8 @@ HEADERS = {
     "rotation.csv": ("fleet", "round", "kind", "a", "b"),
 }
 TABLES = tuple(HEADERS)[:5]
+# The header of a legs.csv that tells the day of each flight. The one above is read too where the period is one day.
+DATED = ("flight", "day", "from", "dep", "to", "arr")
 
 
 class Unread(Exception):
@@ -75,18 +77,31 @@ def record_of(path, number):
     return next((it for it in records_in(bytes_of(path)) if it.number == number), None)
 
 
+def headers_of(name, period=1):
+    """Returns the headers that a file may have where the schedule repeats after so many days."""
+    if name != "legs.csv":
+        return (HEADERS[name],)
+    return (HEADERS[name], DATED) if period == 1 else (DATED,)
+
+
 def rows_of(folder, name):
     """Returns the records of a file below its header as lists of texts, or raises Unread."""
+    return table_of(folder, name, headers_of(name))[1]
+
+
+def table_of(folder, name, headers):
+    """Returns which of its headers a file has, and the records below it as lists of texts, or raises Unread."""
     path = os.path.join(folder, name)
-    header, rows = HEADERS[name], []
+    header, rows = headers[0], []
     data = bytes_of(path)
     if name == "throughs.csv" and not data:
-        return []
+        return header, []
     try:
         for it in records_in(data):
             fields = [field.decode("utf-8") for field in it.fields]
-            if it.number == 1 and tuple(fields) != header:
-                raise Unread(f"{path} doesn't begin with {','.join(header)}")
+            if it.number == 1 and tuple(fields) not in headers:
+                raise Unread(f"{path} doesn't begin with {' or '.join(','.join(it) for it in headers)}")
+            header = tuple(fields) if it.number == 1 else header
             if len(fields) != len(header):
                 raise Unread(f"{path} record {it.number} hasn't {len(header)} fields")
             rows.append(fields)
@@ -94,4 +109,4 @@ def rows_of(folder, name):
         raise Unread(f"{path} isn't a table in UTF-8") from error
     if not rows:
         raise Unread(f"{path} is empty")
-    return rows[1:]
+    return header, rows[1:]

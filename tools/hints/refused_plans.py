@@ -6,7 +6,7 @@ import re
 from hints.records import record_of
 from hints.refused_tables import names_in, show, unknown
 from hints.saying import counted, listed, quietly, typed
-from hints.schedule import DAY, Schedule
+from hints.schedule import Schedule
 
 PLAN = "the-plan-and-its-kinds-1-to-5"
 JUDGE = "what-judge-prints"
@@ -26,7 +26,7 @@ MEANS = {
 # What the other lines mean, where the tables don't tell more.
 OTHERS = {
     NOT_ALLOWED: "costs.csv has no cost for this flight with its fleet in plan.csv",
-    UNBALANCED: "each day more or fewer aircraft of this fleet come to the station than leave it",
+    UNBALANCED: "each day, or in the period, more or fewer aircraft of this fleet come to the station than leave it",
     TOO_MANY: "the plan needs more aircraft of this fleet than fleets.csv has",
 }
 
@@ -49,13 +49,12 @@ def explain(hint, command, call, said):
 
 def tell_solve(hint, command, call):
     """Shows the words that find a legal plan."""
-    start = ["--day-start", call.given["day-start"][0]] if "day-start" in call.given else []
     hint.say("solve looks for a legal plan, which takes the place of this one:")
-    hint.show(typed([command, "solve", call.folder, *start]))
+    hint.show(typed([command, "solve", call.folder, *call.reading]))
 
 
 def schedule_of(call):
-    return Schedule(call.folder, call.value("day-start"))
+    return Schedule(call.folder, call.value("day-start"), call.value("period"))
 
 
 def look(folder, number, kind):
@@ -95,14 +94,14 @@ def tell_balance(call, fleet, station, comes, goes):
     schedule, comes, goes = schedule_of(call), int(comes), int(goes)
     plan = schedule.plan()
     own = [it for it in schedule.legs.values() if plan[it.flight] == fleet]
-    into = [f"{it.flight} at {it.arr}" for it in own if it.end == station]
-    out = [f"{it.flight} at {it.dep}" for it in own if it.start == station]
+    into = [f"{it.flight} at {schedule.moment(it.departure + it.block)}" for it in own if it.end == station]
+    out = [f"{it.flight} at {schedule.moment(it.departure)}" for it in own if it.start == station]
     if (len(into), len(out)) != (comes, goes):
         return []
     arrive, depart = counted(comes, f"flight of {fleet} arrives", f"flights of {fleet} arrive"), counted(goes, "departs", "depart")
     more, fewer = ("arrives", "departs") if comes > goes else ("departs", "arrives")
     return [
-        f"each day {arrive} at {station}, and {depart}",
+        f"{schedule.each} {arrive} at {station}, and {depart}",
         f"arriving: {listed(into) or 'none'}; departing: {listed(out) or 'none'}",
         f"give another fleet one that {more}, or {fleet} one more that {fewer}",
     ]
@@ -112,13 +111,13 @@ def tell_use(call, fleet, used, has):
     schedule, used, has = schedule_of(call), int(used), int(has)
     flown = schedule.flown_by(schedule.plan(), fleet)
     need, _, _ = schedule.needs(flown)
-    aloft = sum((leg.departure + busy) // DAY for leg, busy in flown)
+    aloft = sum((leg.departure + busy) // schedule.minutes for leg, busy in flown)
     if sum(need.values()) + aloft != used or schedule.aircraft[fleet] != has:
         return []
     where = [f"{number} at {station}" for station, number in need.items() if number]
     where += [f"{aloft} in flight or in a turn"] if aloft else []
     return [
         f"the plan needs {used} aircraft of {fleet}, and fleets.csv has {has}: {used - has} too few",
-        f"at the day start, {schedule.clock(0)}, they are: {listed(where)}",
+        f"at the day start, {schedule.moment(0)}, they are: {listed(where)}",
         f"give flights of {fleet} to other fleets, move flights apart, or raise its aircraft in fleets.csv",
     ]

@@ -24,8 +24,8 @@ KINDS = {
 RULE = {
     1: "the scale of this node's prices is out of its range",
     2: "a rent or a price of this node is out of its range",
-    3: "a price of this node rises in the course of the day",
-    4: "a price at the day start is above the day's last one and the rent",
+    3: "a price of this node rises in the course of the day, or of the period",
+    4: "a price at the day start is above the last one of the day, or of the period, and the rent",
     5: "legs of this node keep more or fewer fleets than its line claims",
     6: "the prices of this node don't refute it",
     7: "the bound of this node is below the plan's cost, or there is no plan",
@@ -48,6 +48,8 @@ def explain(hint, folder, said, call):
         hint.say(RULE[int(broken[2])])
         start = call.given["day-start"][0] if "day-start" in call.given else "03:00, where none is given"
         hint.say(f"a proof counts minutes from the day start that it was made for, and these words say {start}")
+        if call.value("period") != 1:
+            hint.say(f"it is a proof of as many days, and these words say --period {call.value('period')}")
         hint.see(RULES)
 
 

@@ -4,9 +4,9 @@ import difflib
 import os
 import re
 
-from hints.forms import FIELDS
+from hints.forms import fields_of, whole
 from hints.headers import explain_header
-from hints.records import HEADERS, MOST_BYTES, bytes_of, record_of, records_in
+from hints.records import DATED, HEADERS, MOST_BYTES, bytes_of, headers_of, record_of, records_in
 from hints.saying import listed, plain, quietly
 
 SECTION = "what-is-wrong-with-a-table-kinds-1-to-12"
@@ -27,23 +27,25 @@ MEANS = {
 }
 # Of each table the most records, where there is a limit, and how many of its first fields may stand there once.
 LIMITS = {"stations.csv": 200, "fleets.csv": 20, "legs.csv": 1000, "throughs.csv": 2000}
+# The column that a period says more of, and the most days of one.
+DAY, MOST_DAYS = DATED[1], 7
 KEYS = {"stations.csv": 1, "fleets.csv": 1, "legs.csv": 1, "costs.csv": 2, "throughs.csv": 2}
 # Of each kind that looks a name up, where, and the fields of each table that hold such names.
 LOOKUPS = {
-    6: ("stations.csv", {"legs.csv": (1, 3)}),
-    7: ("legs.csv", {"costs.csv": (0,), "throughs.csv": (0, 1)}),
-    8: ("fleets.csv", {"costs.csv": (1,)}),
+    6: ("stations.csv", {"legs.csv": ("from", "to")}),
+    7: ("legs.csv", {"costs.csv": ("flight",), "throughs.csv": ("in", "out")}),
+    8: ("fleets.csv", {"costs.csv": ("fleet",)}),
 }
 
 
-def explain(hint, folder, said):
+def explain(hint, folder, said, period):
     """Says what the line of a refused table means, with what stands there."""
     found = REFUSAL.fullmatch(said)
     if not found or int(found[3]) not in MEANS:
         return
     name, number, kind = found[1], int(found[2]), int(found[3])
     path = os.path.join(folder, name)
-    record, told = quietly(look, path, name, number, kind) or (None, [])
+    record, told = quietly(look, path, name, number, kind, period) or (None, [])
     show(hint, path, record, told or [MEANS[kind]])
     hint.see("limits" if kind in (11, 12) else SECTION)
 
@@ -58,16 +60,30 @@ def show(hint, path, record, told):
         hint.say(text)
 
 
-def look(path, name, number, kind):
+def look(path, name, number, kind, period):
     """Returns the record and what is wrong with it, or nothing where the file doesn't show this fault (any more)."""
     if kind == 12:
         size = os.stat(path).st_size
         return None, [f"{path} has {size:,} bytes, and may have {MOST_BYTES:,}"] if size > MOST_BYTES else []
     if kind == 1:
-        return None, explain_header(path, name)
-    record = record_of(path, number)
-    told = TELLERS[kind](path, name, record) if record else []
+        return None, explain_header(path, name, period)
+    record, form = record_of(path, number), Form(path, name, period)
+    told = TELLERS[kind](path, form, record) if record else []
     return (record, told) if told else None
+
+
+class Form:
+    """A table by its name: its header and what its fields have to be, where the schedule repeats after so many days."""
+
+    def __init__(self, path, name, period):
+        first = record_of(path, 1)
+        self.name = name
+        self.header = next((it for it in headers_of(name, period) if first and it == tuple(first.texts)), HEADERS[name])
+        self.fields = fields_of(name, self.header, period)
+
+    def of(self, record, column):
+        """Returns a field of a record by its column."""
+        return record.texts[self.header.index(column)]
 
 
 def place(record):
@@ -77,11 +93,11 @@ def place(record):
     return f"line {record.line}" + (f" (record {record.number})" if record.number != record.line else "")
 
 
-def tell_width(path, name, record):
-    wanted, has = len(HEADERS[name]), len(record.fields)
+def tell_width(path, form, record):
+    wanted, has = len(form.header), len(record.fields)
     if has == wanted:
         return None
-    told = [f"it has {has} field{'' if has == 1 else 's'}, and {wanted} are wanted: {','.join(HEADERS[name])}"]
+    told = [f"it has {has} field{'' if has == 1 else 's'}, and {wanted} are wanted: {','.join(form.header)}"]
     if record.last > record.line:
         told.append(f"a quote is opened in line {record.line}, and the record goes on to line {record.last}: is a quote missing?")
     elif has == 1 and not record.fields[0].strip():
@@ -93,8 +109,8 @@ def tell_width(path, name, record):
     return told
 
 
-def tell_text(path, name, record):
-    for heading, field in zip(HEADERS[name], record.fields):
+def tell_text(path, form, record):
+    for heading, field in zip(form.header, record.fields):
         try:
             field.decode("utf-8")
         except UnicodeDecodeError as error:
@@ -103,10 +119,12 @@ def tell_text(path, name, record):
     return None
 
 
-def tell_form(path, name, record):
+def tell_form(path, form, record):
     told = []
-    for heading, text, wrong in zip(HEADERS[name], record.texts, FIELDS[name]):
+    for heading, text, wrong in zip(form.header, record.texts, form.fields):
         why = wrong(text)
+        if why and heading == DAY and not whole(1, MOST_DAYS)(text):
+            why = f"{why} (--period says after how many days the schedule repeats)"
         if why:
             shown = plain(text) if text == text.strip() else f"'{plain(text)}'"
             told.append(f"{heading} is {shown}, and {why}" if text else f"{heading} is empty")
@@ -117,7 +135,8 @@ def key_of(name, record):
     return tuple(record.fields[: KEYS[name]])
 
 
-def tell_twice(path, name, record):
+def tell_twice(path, form, record):
+    name = form.name
     key = key_of(name, record)
     for it in records_in(bytes_of(path)):
         if it.number >= record.number:
@@ -132,9 +151,9 @@ def teller_of_names(kind):
     """Returns what tells which name of a record another table doesn't have."""
     table, columns = LOOKUPS[kind]
 
-    def tell(path, name, record):
+    def tell(path, form, record):
         has = names_in(os.path.join(os.path.dirname(path), table))
-        wrong = [record.texts[it] for it in columns[name] if record.texts[it] not in has]
+        wrong = [it for it in (form.of(record, column) for column in columns[form.name]) if it not in has]
         return [unknown(it, table, has) for it in dict.fromkeys(wrong)]
 
     return tell
@@ -153,18 +172,18 @@ def unknown(text, table, has):
     return f"{text} isn't in {table}, which has {listed(has)}" if has else f"{text} isn't in {table}, which has no record"
 
 
-def tell_block(path, name, record):
-    flight, _, dep, _, arr = record.texts
+def tell_block(path, form, record):
+    flight, dep, arr = (form.of(record, it) for it in ("flight", "dep", "arr"))
     return [f"{flight} departs and arrives at {dep}: a flight takes 1 to 1439 minutes"] if dep == arr else []
 
 
-def tell_station(path, name, record):
-    flight, start, _, end, _ = record.texts
+def tell_station(path, form, record):
+    flight, start, end = (form.of(record, it) for it in ("flight", "from", "to"))
     return [f"{flight} departs from {start} and arrives there: write another station"] if start == end else []
 
 
-def tell_many(path, name, record):
-    number, limit = sum(1 for _ in records_in(bytes_of(path))) - 1, LIMITS[name]
+def tell_many(path, form, record):
+    number, limit = sum(1 for _ in records_in(bytes_of(path))) - 1, LIMITS[form.name]
     return [f"the file has {number:,} records below its header, and may have {limit:,}"] if number > limit else []
 
 

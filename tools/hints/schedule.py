@@ -1,37 +1,38 @@
-"""A schedule as its tables tell it, in minutes from the day start, and what a plan of it uses."""
+"""A schedule as its tables tell it, in minutes from the day start of its first day, and what a plan of it uses."""
 
 import os
 
-from hints.forms import FIELDS
-from hints.records import TABLES, Unread, rows_of
+from hints.forms import fields_of
+from hints.records import DATED, TABLES, Unread, headers_of, rows_of, table_of
 from hints.words import Time
 
 DAY = 1440
 
 
 class Leg:
-    """A flight: from where to where, its minute of departure from the day start, and its minutes in the air."""
+    """A flight: from where to where, its minute of departure from the first day's start, and its minutes in the air. A departure on
+    the first day before its start is one at the end of the period."""
 
-    def __init__(self, row, day_start):
+    def __init__(self, row, day_start, period):
         clock = Time()
-        self.flight, self.start, self.dep, self.end, self.arr = row
+        self.flight, day, self.start, self.dep, self.end, self.arr = row
         dep, arr = clock.read(self.dep), clock.read(self.arr)
-        self.departure = (dep - day_start) % DAY
+        self.departure = (DAY * (int(day) - 1) + dep - day_start) % (DAY * period)
         self.block = (arr - dep) % DAY
 
 
 class Schedule:
     """The tables of a folder. Each name is a key: `extra` and `maintains` of stations, `aircraft` and `turn` of fleets, `legs` of
-    flights, `cost` of pairs of flight and fleet, `fleets_of` of flights."""
+    flights, `cost` of pairs of flight and fleet, `fleets_of` of flights. It repeats after `period` days of so many `minutes`."""
 
-    def __init__(self, folder, day_start):
-        rows = {it: checked(folder, it) for it in TABLES}
-        self.folder, self.day_start = folder, day_start
+    def __init__(self, folder, day_start, period=1):
+        rows = {it: checked(folder, it, period) for it in TABLES}
+        self.folder, self.day_start, self.period, self.minutes = folder, day_start, period, DAY * period
         self.extra = {code: int(extra) for code, extra, _ in rows["stations.csv"]}
         self.maintains = {code: flag == "yes" for code, _, flag in rows["stations.csv"]}
         self.aircraft = {name: int(number) for name, number, _ in rows["fleets.csv"]}
         self.turn = {name: int(minutes) for name, _, minutes in rows["fleets.csv"]}
-        self.legs = {row[0]: Leg(row, day_start) for row in rows["legs.csv"]}
+        self.legs = {row[0]: Leg(row, day_start, period) for row in rows["legs.csv"]}
         self.cost = {(flight, fleet): int(cost) for flight, fleet, cost in rows["costs.csv"]}
         self.fleets_of = {it: [] for it in self.legs}
         for flight, fleet in self.cost:
@@ -50,9 +51,19 @@ class Schedule:
         return leg.block + self.turn[fleet] + self.extra[leg.end]
 
     def clock(self, minute):
-        """Returns the clock time of a minute counted from the day start."""
+        """Returns the clock time of a minute counted from a day's start."""
         at = (minute + self.day_start) % DAY
         return f"{at // 60:02}:{at % 60:02}"
+
+    def moment(self, minute):
+        """Returns the clock time of a minute counted from the first day's start, with its day where the period has several."""
+        day = (minute + self.day_start) % self.minutes // DAY + 1
+        return self.clock(minute) if self.period == 1 else f"{self.clock(minute)} on day {day}"
+
+    @property
+    def each(self):
+        """The words for how often the schedule repeats."""
+        return "each day" if self.period == 1 else f"every {self.period} days"
 
     def plan(self):
         """Returns the fleet of each flight that plan.csv tells, or raises Unread where it isn't a plan of these tables."""
@@ -68,11 +79,11 @@ class Schedule:
     def needs(self, flown):
         """Returns how many aircraft these flights want at the day start at each station, and the minutes of their departures and
         readiness there, as ones. `flown` are pairs of a leg and its minutes until the aircraft is ready."""
-        goes = {it: [0] * DAY for it in self.extra}
-        comes = {it: [0] * DAY for it in self.extra}
+        goes = {it: [0] * self.minutes for it in self.extra}
+        comes = {it: [0] * self.minutes for it in self.extra}
         for leg, busy in flown:
             goes[leg.start][leg.departure] += 1
-            comes[leg.end][(leg.departure + busy) % DAY] += 1
+            comes[leg.end][(leg.departure + busy) % self.minutes] += 1
         need = {}
         for station in self.extra:
             lacking = most = 0
@@ -83,43 +94,43 @@ class Schedule:
         return need, goes, comes
 
     def used(self, flown):
-        """Returns how many aircraft these flights use: those at stations at the day start, and those aloft or in a turn then."""
+        """Returns how many aircraft these flights use: those at stations at the first day's start, and those aloft or in a turn then."""
         flown = list(flown)
         need, _, _ = self.needs(flown)
-        return sum(need.values()) + sum((leg.departure + busy) // DAY for leg, busy in flown)
+        return sum(need.values()) + sum((leg.departure + busy) // self.minutes for leg, busy in flown)
 
     def flown_by(self, plan, fleet):
         """Returns the fleet's flights by a plan, each with its minutes until the aircraft is ready."""
         return [(leg, self.busy(leg, fleet)) for leg in self.legs.values() if plan[leg.flight] == fleet]
 
 
-def checked(folder, name):
-    """Returns the records of a table whose fields all have their form."""
-    rows = rows_of(folder, name)
+def checked(folder, name, period):
+    """Returns the records of a table whose fields all have their form, each flight with its day."""
+    header, rows = table_of(folder, name, headers_of(name, period))
     for row in rows:
-        for text, wrong in zip(row, FIELDS[name]):
+        for text, wrong in zip(row, fields_of(name, header, period)):
             if wrong(text):
                 raise Unread(f"{os.path.join(folder, name)}: {','.join(row)}: {wrong(text)}")
     keys = 2 if name in ("costs.csv", "throughs.csv") else 1
     if len({tuple(it[:keys]) for it in rows}) != len(rows):
         raise Unread(f"{os.path.join(folder, name)} has a record twice")
-    return rows
+    return rows if name != "legs.csv" or header == DATED else [[row[0], "1", *row[1:]] for row in rows]
 
 
-def under_way(flown):
-    """Returns of each minute of the day how many of these flights are in the air or in their turn, each flown once a day."""
-    changes = [0] * (DAY + 1)
+def under_way(flown, period):
+    """Returns of each minute of a period of so many how many of these flights are in the air or in their turn, each flown once in it."""
+    changes = [0] * (period + 1)
     always = 0
     for leg, busy in flown:
-        always += busy // DAY
-        start, end = leg.departure, leg.departure + busy % DAY
+        always += busy // period
+        start, end = leg.departure, leg.departure + busy % period
         changes[start] += 1
-        changes[min(end, DAY)] -= 1
-        if end > DAY:
+        changes[min(end, period)] -= 1
+        if end > period:
             changes[0] += 1
-            changes[end - DAY] -= 1
+            changes[end - period] -= 1
     total, minutes = always, []
-    for change in changes[:DAY]:
+    for change in changes[:period]:
         total += change
         minutes.append(total)
     return minutes

@@ -13,7 +13,7 @@ SECTION = "the-words-of-a-call"
 FILES = (
     ("stations.csv", "stations: code, extra minutes of a turn there, maintenance yes or no"),
     ("fleets.csv", "fleets: name, aircraft, minutes of a turn"),
-    ("legs.csv", "the flights of a day: from, departure, to, arrival, in UTC"),
+    ("legs.csv", "the flights of a day, or of some days (--period): from, departure, to, arrival, in UTC"),
     ("costs.csv", "which fleet may fly which flight, and what it costs"),
     ("throughs.csv", "pairs of flights that one aircraft should fly in turn; an empty file will do"),
     ("plan.csv", "a fleet for each flight: solve writes it"),

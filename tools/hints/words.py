@@ -78,6 +78,7 @@ class Date:
 # Of each option its placeholder, its form, its value where it isn't given, and what it means.
 OPTIONS = {
     "day-start": ("HH:MM", Time(), "03:00", "when a day begins, in UTC, 00:00 to 23:59"),
+    "period": ("P", Number(1, 7), "1", "the days after which the schedule repeats, 1 to 7"),
     "through-max": ("M", Number(0, 1439), "60", "the most minutes that a through flight may wait beyond the turn, 0 to 1439"),
     "days": ("D", Number(1, 30), "3", "an aircraft comes to maintenance every D days at least, 1 to 30"),
     "visits": ("V", Number(0, 1_000_000), "200000", "how long to search for one rotation, 0 to 1000000"),
@@ -85,11 +86,13 @@ OPTIONS = {
     "pivots": ("P", Number(0, 1_000_000), "20000", "how many pivots a subproblem may take in each run, 0 to 1000000"),
     "json": ("", None, "", "prints the summary as JSON"),
 }
+# The options by which the tables of a folder are read: those of one call belong to the next one over the same folder.
+READING = ("day-start", "period")
 OPTIONS_OF = {
-    "judge": ("day-start",),
-    "check": ("day-start",),
-    "solve": ("day-start", "through-max", "days", "visits", "nodes", "pivots", "json"),
-    "tails": ("day-start", "through-max", "days", "visits"),
+    "judge": READING,
+    "check": READING,
+    "solve": (*READING, "through-max", "days", "visits", "nodes", "pivots", "json"),
+    "tails": (*READING, "through-max", "days", "visits"),
     "make": (),
 }
 # Of each word of a command, beside DIR: its form, and what it is.
@@ -136,6 +139,11 @@ class Call:
     def names(self):
         """The names of the command's words."""
         return COMMANDS[self.command][0].split()[1:]
+
+    @property
+    def reading(self):
+        """The words of the options that say how tables are read, as far as they are given."""
+        return [word for it in READING if it in self.given for word in (f"--{it}", self.given[it][0])]
 
     def value(self, option):
         """Returns what an option is read as, also where it isn't given; None where its text doesn't read."""

@@ -3,7 +3,7 @@
 layout      which bytes of a line are what, and their forms
 days        dates, times and variations from UTC as the lines write them
 reading     a whole file, each line judged
-selecting   the legs of a date
+selecting   the legs of a date or a week
 naming      their names, and which follow each other as one flight
 costing     what a plan may use, and what it costs, by files of the caller's
 tables      the tables of a folder

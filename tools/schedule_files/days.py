@@ -45,6 +45,16 @@ def iso(day):
     return datetime.date.fromordinal(day).isoformat()
 
 
+class Dates:
+    """The days that tables are of: the first one, and how many."""
+
+    def __init__(self, first, count=1):
+        self.first, self.count = first, count
+
+    def __str__(self):
+        return f"on {iso(self.first)}" if self.count == 1 else f"in the {self.count} days from {iso(self.first)}"
+
+
 def clock(minute):
     """Returns a minute of the day as HH:MM."""
     return f"{minute // 60:02}:{minute % 60:02}"

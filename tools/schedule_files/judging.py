@@ -17,12 +17,13 @@ def program():
     return os.environ.get("FLEETPLAN") or os.path.join(TOP, "fleetplan")
 
 
-def used_by(texts, fleets):
-    """Returns how many aircraft each of the fleets uses by the plan of tables, and None; or None, and the program's reason why not."""
+def used_by(texts, fleets, days):
+    """Returns how many aircraft each of the fleets uses by the plan of tables of so many days, and None; or None, and the program's
+    reason why not."""
     with tempfile.TemporaryDirectory(prefix="ssim-") as scratch:
         folder = os.path.join(scratch, "filed")
         write_all(folder, texts)
-        status, said = run([program(), "judge", folder])
+        status, said = run([program(), "judge", folder, *(["--period", str(days)] if days > 1 else [])])
     lines = said.splitlines()
     if status == 0 and lines and lines[0].startswith("legal: "):
         found = [re.fullmatch(r"fleet (\w+): used (\d+) of \d+", it) for it in lines[1:]]

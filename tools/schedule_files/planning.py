@@ -1,4 +1,4 @@
-"""A plan written back into the schedule file: the aircraft types of the legs of its date."""
+"""A plan written back into the schedule file: the aircraft types of the legs of its dates."""
 
 import datetime
 import os

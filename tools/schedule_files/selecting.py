@@ -1,9 +1,9 @@
-"""The legs that depart on a date in UTC, and how many are left out for which reason."""
+"""The legs that depart on some dates in UTC, and how many are left out for which reason."""
 
 from collections import Counter
 
 from hints.records import Unread
-from schedule_files.days import DAY, iso
+from schedule_files.days import DAY
 
 # Service types of surface vehicles, and the codes of such vehicles where aircraft types stand.
 SURFACE_SERVICES = frozenset("UV")
@@ -21,10 +21,13 @@ TOLD = 6
 
 
 class Flown:
-    """A leg on one of its dates of operation: the minute of the day in UTC at which it departs, and its block in minutes."""
+    """A leg on one of its dates of operation: the day in UTC on which it departs, counted from 1, the minute of that day, and its block
+    in minutes."""
 
-    def __init__(self, leg, operates):
-        self.leg, self.operates = leg, operates
+    __slots__ = ("leg", "operates", "day", "minute", "block", "name")
+
+    def __init__(self, leg, operates, day):
+        self.leg, self.operates, self.day = leg, operates, day
         self.minute, self.block = leg.departure % DAY, leg.arrival - leg.departure
         self.name = None
 
@@ -52,32 +55,44 @@ class Choice:
         return None
 
 
-def flown_on(schedule, day, choice):
-    """Returns the legs that depart on a day in UTC, in order of departure, and the counts of those that are left out."""
-    flown, left_out = [], Counter()
+def flown_on(schedule, dates, choice):
+    """Returns the legs that depart on some days in UTC, in order of departure, and the counts of those that are left out; or refuses more
+    than tables may have."""
+    chosen, left_out = [], Counter()
     for leg in schedule.legs:
-        operates = day - leg.departure // DAY
-        if not leg.operates(operates):
+        before = dates.first - leg.departure // DAY - 1
+        days = [day for day in range(1, dates.count + 1) if leg.operates(before + day)]
+        if not days:
             continue
-        why = choice.refused(leg) if leg.carrier.is_valid(operates) else SEASON
-        if why:
-            left_out[why] += 1
-        else:
-            flown.append(Flown(leg, operates))
-    flown.sort(key=lambda it: (it.minute, it.leg.number))
+        why = choice.refused(leg)
+        valid = [day for day in days if leg.carrier.is_valid(before + day)]
+        if len(valid) < len(days):
+            left_out[SEASON] += len(days) - len(valid)
+        if why and valid:
+            left_out[why] += len(valid)
+        elif valid:
+            chosen.append((leg, before, valid))
+    check_size(schedule.path, dates, chosen)
+    flown = [Flown(leg, before + day, day) for leg, before, days in chosen for day in days]
+    flown.sort(key=lambda it: (it.day, it.minute, it.leg.number))
     return flown, left_out
 
 
-def check_size(path, day, flown):
-    """Refuses more legs, stations or fleets than tables may have, with the counts that help to ask for fewer."""
-    stations = Counter(code for it in flown for code in (it.leg.origin, it.leg.destination))
-    counts = (("legs", len(flown), MOST_LEGS), ("stations", len(stations), MOST_STATIONS))
-    for what, count, most in (*counts, ("aircraft types", len({it.leg.type for it in flown}), MOST_FLEETS)):
+def check_size(path, dates, chosen):
+    """Refuses more legs, stations or fleets than tables may have, with the counts that help to ask for fewer. Of each leg that is chosen
+    its days stand last."""
+    stations, types, services = Counter(), Counter(), Counter()
+    for leg, _, days in chosen:
+        for code in (leg.origin, leg.destination):
+            stations[code] += len(days)
+        types[leg.type] += len(days)
+        services[leg.service] += len(days)
+    counts = (("legs", sum(types.values()), MOST_LEGS), ("stations", len(stations), MOST_STATIONS))
+    for what, count, most in (*counts, ("aircraft types", len(types), MOST_FLEETS)):
         if count > most:
-            types, services = (Counter(it) for it in zip(*((it.leg.type, it.leg.service) for it in flown)))
             ways = (("types", types), ("stations-only", stations), ("service", services))
             told = "; ".join(f"--{option}: {listed(counter)}" for option, counter in ways)
-            raise Unread(f"{path}: {count:,} {what} on {iso(day)}, and tables have {most:,} at most: ask for fewer ({told})")
+            raise Unread(f"{path}: {count:,} {what} {dates}, and tables have {most:,} at most: ask for fewer ({told})")
 
 
 def listed(counter):

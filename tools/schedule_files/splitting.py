@@ -3,6 +3,7 @@
 from schedule_files.days import OPEN, weekday_of
 
 ALL_DAYS = "1234567"
+WEEK = 7
 # In so many days a leg operates once at least, where its period reaches so far.
 FORTNIGHT = 14
 
@@ -18,9 +19,9 @@ class Part:
         start, end = max(self.start, leg.start), min(self.end, leg.end)
         days = "".join(it if it in self.days else " " for it in leg.days)
         if start > leg.start:
-            start = next((it for it in range(start, min(end, start + 2 * FORTNIGHT) + 1) if leg.operates(it)), end + 1)
+            start = next((it for it in range(start, min(end, start + 2 * FORTNIGHT) + 1) if self.has(leg, it)), end + 1)
         if end < leg.end:
-            end = next((it for it in range(end, max(start, end - 2 * FORTNIGHT) - 1, -1) if leg.operates(it)), start - 1)
+            end = next((it for it in range(end, max(start, end - 2 * FORTNIGHT) - 1, -1) if self.has(leg, it)), start - 1)
         if end - start < FORTNIGHT:
             flown = {str(weekday_of(it)) for it in range(start, end + 1) if leg.operates(it)}
             is_cut = start > leg.start or end < leg.end
@@ -29,16 +30,46 @@ class Part:
                 return None
         return (start, end, days) if days.strip() else None
 
+    def has(self, leg, date):
+        """Returns whether a date is one of operation on a day of this part."""
+        return leg.operates(date) and str(weekday_of(date)) in self.days
+
 
 def parts_by_date(legs, changes):
-    """Cuts an itinerary at the dates of changes: a date has the types of that date, and all other dates keep theirs."""
-    start, end = min(it.start for it in legs), max(it.end for it in legs)
-    cuts = {start, *changes, *(it + 1 for it in changes)}
+    """Cuts an itinerary before the first date of changes and behind the last: between them a date has the types of that date, and those
+    that are alike are one part; all other dates keep theirs."""
+    at, end = min(it.start for it in legs), max(it.end for it in legs)
+    parts = []
+    for first, last in weeks_of(sorted(changes)):
+        parts.append(Part(at, first - 1, ALL_DAYS, {}))
+        dates = [(str(weekday_of(it)), changes.get(it, {})) for it in range(first, last + 1)]
+        parts.extend(Part(first, last, days, types) for days, types in alike(dates))
+        at = last + 1
     # The rest of a week of a fortnight is cut off, so that later weeks are counted from one that operates.
-    cuts.update(it + 7 - (it - leg.start) % 7 for leg in legs if leg.rate == "2" for it in changes)
-    cuts = sorted(it for it in cuts if start <= it <= end)
-    ends = [it - 1 for it in cuts[1:]] + [end]
-    return [Part(first, last, ALL_DAYS, changes.get(first, {})) for first, last in zip(cuts, ends)]
+    for cut in sorted({at + 6 - (at - 1 - it.start) % WEEK for it in legs if it.rate == "2"}):
+        parts.append(Part(at, cut - 1, ALL_DAYS, {}))
+        at = cut
+    return [*parts, Part(at, end, ALL_DAYS, {})]
+
+
+def weeks_of(dates):
+    """Yields the first and the last one of dates, a week after the other where they are more than a week apart."""
+    while dates:
+        within = [it for it in dates if it < dates[0] + WEEK]
+        yield within[0], within[-1]
+        dates = dates[len(within) :]
+
+
+def alike(days):
+    """Returns days of the week with their types, those together that have the same."""
+    groups = []
+    for day, types in days:
+        group = next((it for it in groups if it[1] == types), None)
+        if group:
+            group[0].append(day)
+        else:
+            groups.append(([day], types))
+    return groups
 
 
 def parts_by_weekday(_, changes):
@@ -47,12 +78,4 @@ def parts_by_weekday(_, changes):
     types = {}
     for date, changed in sorted(changes.items()):
         types.setdefault(str(weekday_of(date)), {}).update(changed)
-    alike = []
-    for day in ALL_DAYS:
-        own = types.get(day, {})
-        group = next((it for it in alike if it[1] == own), None)
-        if group:
-            group[0].append(day)
-        else:
-            alike.append(([day], own))
-    return [Part(0, OPEN, days, own) for days, own in alike]
+    return [Part(0, OPEN, days, own) for days, own in alike((it, types.get(it, {})) for it in ALL_DAYS)]

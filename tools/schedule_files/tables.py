@@ -1,8 +1,8 @@
-"""The tables of a folder, made of the legs of a date, and what is told of them."""
+"""The tables of a folder, made of the legs of a date or a week, and what is told of them."""
 
 from collections import Counter
 
-from hints.records import HEADERS
+from hints.records import DATED, HEADERS
 from schedule_files import costing, judging, naming, selecting
 from schedule_files.days import clock, iso
 from schedule_files.files import table, write_all
@@ -17,18 +17,17 @@ class Sources:
         self.stations, self.fleets, self.costs, self.through_value = stations, fleets, costs, through_value
 
 
-class Day:
-    """The legs of a date with their stations and fleets. Everything that can be refused is judged here, before anything is written."""
+class Made:
+    """The legs of some dates with their stations and fleets. Everything that can be refused is judged here, before anything is written."""
 
-    def __init__(self, schedule, day, choice, sources):
-        self.schedule, self.day, self.sources = schedule, day, sources
-        self.flown, self.left_out = selecting.flown_on(schedule, day, choice)
-        selecting.check_size(schedule.path, day, self.flown)
-        naming.name_all(schedule, self.flown)
+    def __init__(self, schedule, dates, choice, sources):
+        self.schedule, self.dates, self.sources = schedule, dates, sources
+        self.flown, self.left_out = selecting.flown_on(schedule, dates, choice)
+        naming.name_all(schedule, self.flown, dates)
         self.stations = costing.stations_of(sources.stations, schedule, self.flown)
         self.fleets = costing.fleets_of(sources.fleets, schedule, self.flown)
         self.costs = costing.costs_of(sources.costs, schedule, self.flown, self.fleets)
-        self.throughs = naming.throughs(self.flown)
+        self.throughs = naming.throughs(self.flown, dates)
         self.unjudged = None
         if sources.fleets is None:
             self.count_aircraft()
@@ -38,7 +37,7 @@ class Day:
         most = [(fleet, costing.MOST_AIRCRAFT, turn) for fleet, _, turn in self.fleets]
         asked = {**self.texts(), "fleets.csv": encoded("fleets.csv", most)}
         asked["costs.csv"] = encoded("costs.csv", costing.costs_of(None, self.schedule, self.flown, most))
-        used, self.unjudged = judging.used_by(asked, [fleet for fleet, *_ in most])
+        used, self.unjudged = judging.used_by(asked, [fleet for fleet, *_ in most], self.dates.count)
         self.fleets = most if used is None else [(fleet, used[fleet], turn) for fleet, _, turn in most]
 
     def texts(self):
@@ -46,20 +45,25 @@ class Day:
         records = {
             "stations.csv": self.stations,
             "fleets.csv": self.fleets,
-            "legs.csv": [
-                (it.name, it.leg.origin, clock(it.minute), it.leg.destination, clock((it.minute + it.block) % 1440)) for it in self.flown
-            ],
+            "legs.csv": [self.leg(it) for it in self.flown],
             "costs.csv": self.costs,
             "throughs.csv": [(it.name, to.name, self.sources.through_value) for it, to in self.throughs],
             "plan.csv": [(it.name, it.leg.type) for it in self.flown],
         }
         texts = {name: encoded(name, records[name]) for name in records}
+        if self.dates.count > 1:
+            texts["legs.csv"] = table(DATED, records["legs.csv"]).encode("ascii")
         return {**texts, "names.csv": table(NAMES, [named(it) for it in self.flown]).encode("ascii")}
+
+    def leg(self, it):
+        """Returns the record of a leg, with its day where there are several."""
+        day = [it.day] if self.dates.count > 1 else []
+        return it.name, *day, it.leg.origin, clock(it.minute), it.leg.destination, clock((it.minute + it.block) % 1440)
 
     def told(self):
         """Returns what standard error is told, in lines."""
         stations, types = len(self.stations), len({it.leg.type for it in self.flown})
-        yield f"{len(self.flown)} legs depart on {iso(self.day)} in UTC: {stations} stations, {types} aircraft types"
+        yield f"{len(self.flown)} legs depart {self.dates} in UTC: {stations} stations, {types} aircraft types"
         if self.left_out:
             yield "left out: " + ", ".join(f"{count} {why}" for why, count in self.left_out.items())
         if self.unjudged:
@@ -96,8 +100,8 @@ def named(it):
     return it.name, leg.airline.strip(), leg.flight, leg.suffix.strip(), leg.variation, leg.sequence, leg.number, iso(it.operates)
 
 
-def make_tables(schedule, folder, day, choice, sources):
-    """Writes the tables of a date into a folder, and returns what is told of them."""
-    made = Day(schedule, day, choice, sources)
+def make_tables(schedule, folder, dates, choice, sources):
+    """Writes the tables of some dates into a folder, and returns what is told of them."""
+    made = Made(schedule, dates, choice, sources)
     write_all(folder, made.texts())
     return list(made.told())

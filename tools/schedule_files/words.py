@@ -4,11 +4,13 @@ import datetime
 import re
 
 from hints.forms import TRILLION
+from schedule_files.days import Dates
 from schedule_files.selecting import Choice
 from schedule_files.tables import Sources
 
 TABLES = {
     "date": "YYYY-MM-DD",
+    "week": "YYYY-MM-DD",
     "stations": "FILE",
     "fleets": "FILE",
     "costs": "FILE",
@@ -19,21 +21,23 @@ TABLES = {
     "surface": None,
 }
 PLAN = {"whole-season": None}
+# How many days tables are of, by the option that says the first one.
+DAYS = {"date": 1, "week": 7}
 
 
 def shown(options):
-    return " ".join(f"[--{name}{f' {form}' if form else ''}]" for name, form in options.items() if name != "date")
+    return " ".join(f"[--{name}{f' {form}' if form else ''}]" for name, form in options.items() if name not in DAYS)
 
 
-USAGE = f"""usage: tools/ssim tables FILE DIR --date {TABLES["date"]} {shown(TABLES)}
+USAGE = f"""usage: tools/ssim tables FILE DIR {" | ".join(f"--{it} {TABLES[it]}" for it in DAYS)} {shown(TABLES)}
        tools/ssim plan FILE DIR NEW {shown(PLAN)}"""
 
 
 class Usage(Exception):
-    """Words that are no call, with what is wrong with them, and what a call looks like where that helps."""
+    """Words that are no call, with what is wrong with them, and what a call looks like."""
 
-    def __init__(self, text="", has_usage=True):
-        super().__init__("\n".join(([f"ssim: {text}"] if text else []) + ([USAGE] if has_usage else [])))
+    def __init__(self, text=""):
+        super().__init__("\n".join(([f"ssim: {text}"] if text else []) + [USAGE]))
 
 
 def given(words, options):
@@ -45,8 +49,6 @@ def given(words, options):
             rest.extend(words)
         elif not word.startswith("-") or word == "-":
             rest.append(word)
-        elif word.startswith("--week"):
-            raise Usage("--week: periods of several days are not there yet", has_usage=False)
         elif not word.startswith("--") or name not in options:
             raise Usage(f"{word.partition('=')[0]} is no option")
         elif name in found:
@@ -62,14 +64,22 @@ def given(words, options):
     return rest, found
 
 
-def day(text):
+def dates(found):
+    """Returns the days that are asked for, by the one option that says them."""
+    given = [it for it in DAYS if it in found]
+    if len(given) != 1:
+        raise Usage("--date and --week stand both" if given else "")
+    return Dates(day(given[0], found[given[0]]), DAYS[given[0]])
+
+
+def day(option, text):
     """Returns the day of YYYY-MM-DD, within the century that schedule files know."""
     if re.fullmatch(r"20[0-9]{2}-[0-9]{2}-[0-9]{2}", text):
         try:
             return datetime.date.fromisoformat(text).toordinal()
         except ValueError:
             pass
-    raise Usage(f"--date {text}: a day as 2026-11-30 is wanted, of the years 2000 to 2099")
+    raise Usage(f"--{option} {text}: a day as 2026-11-30 is wanted, of the years 2000 to 2099")
 
 
 def listed(found, name, form):
@@ -84,14 +94,14 @@ def listed(found, name, form):
 
 
 class TablesCall:
-    """A call of `tables`: its file, its folder, the day, the choice of legs and the caller's files."""
+    """A call of `tables`: its file, its folder, the days, the choice of legs and the caller's files."""
 
     def __init__(self, words):
         rest, found = given(words, TABLES)
-        if len(rest) != 2 or "date" not in found:
+        if len(rest) != 2:
             raise Usage
         self.path, self.folder = rest
-        self.day = day(found["date"])
+        self.dates = dates(found)
         services = listed(found, "service", "[A-Z]+")
         services = services and frozenset("".join(services))
         types, stations = listed(found, "types", "[A-Z0-9]{3}"), listed(found, "stations-only", "[A-Z]{3}")

@@ -1,14 +1,14 @@
 -- Prices and fractional assignments of which a first part was read go on to whole ones.
 use Rattle.bound_cert.proofs.LineTwins.{Alike, Twin, alike_first, alike_self, mixed_scale_twin, rent_twin, scale_twin, step_twin, weight_twin}
-use Rattle.bound_cert.proofs.ReadOn.{begins, bound, rents_end, rents_more, steps_end, steps_more, weights_end, weights_more}
-use Rattle.bound_cert.proofs.Shrinking.{Shrinks, rents_shrink, shrinks_bind, steps_shrink, weights_shrink}
+use Rattle.bound_cert.proofs.ReadOn.{begins, bound, entries_end, entries_more}
+use Rattle.bound_cert.proofs.Shrinking.{Shrinks, entries_shrink, rents_shrink, shrinks_bind, steps_shrink, weights_shrink}
 use Rattle.bound_cert.proofs.TextPrices.{StepWas, step_was}
 use Rattle.bound_cert.proofs.WrittenLines.{names, other_words}
 use Rattle.bound_cert.proofs.WrittenNodes.{behind_line}
 use Rattle.bound_cert.proofs.WrittenPrices.{IsBehind, mixed_scale_read, needed_by, next_begins, of_step, scale_read, step_read, steps_read}
 use Rattle.bound_cert.specs.Lines.{◌>>=◌, Left, Reading, Stopped, fits}
 use Rattle.bound_cert.specs.ProofText.{at_line}
-use Rattle.bound_cert.specs.Reading.{first_words, is_needless, mixed_at, mixed_scale_at, padded, prices_at, rent_at, rents_from, scale_at, step_at, steps_from, weight_at, weights_from}
+use Rattle.bound_cert.specs.Reading.{Series, entries_from, entry_at, first_words, is_needless, mixed_at, mixed_scale_at, padded, prices_at, rent_series, rents_from, scale_at, step_at, step_series, steps_from, weight_series, weights_from}
 use Rattle.bound_cert.specs.declared.reading_lines.Due.{Due}
 use Rattle.dual_bound.proofs.StepOrder.{one_figure, same_place_by}
 use Rattle.dual_bound.specs.OfTables.{IsStepOf}
@@ -200,50 +200,38 @@ module _ (t : Tables) (line : List ℕ) (after : Left) where
   abbrev end : Left
   end = line ∷ after
 
+  entries_go : {S A B : Type 0} (s : Series S A B) (May Need : Left → Type 0) → ((so_far : S) (a b : Left) → Alike a b → Twin a b (entry_at s so_far a) (entry_at s so_far b)) → ((m : Left) → May m → begins m s.kind ≡ false)
+      → ((m : Left) → IsBehind m → begins m s.kind ≡ false) → ((m : Left) → IsBehind m → Need m) → (so_far : S) (p : Left) → EndsBy May Need end (entries_from s so_far) p (entries_from s so_far (p ++ end))
+  unfolding entries_from
+  entries_go s May Need twin may_end behind_ends need so_far [] =
+      ends_if _ _ end _ [] (fits s.kind (form_in (words_of line))) _ _
+      (λ is. ends_read _ _ end _ [] (entry_at s so_far end) _
+      (λ e failed there. record { more = []; value = s.all so_far; reads = λ z ends. entries_end s so_far z (behind_ends z ends); need = need })
+      (λ entry read. beyond _ _ end _ [] (length after) _ (entries_shrink s (λ so_far a. twin so_far a a (alike_self a)) (s.grow so_far entry) after) (omega arith)))
+      (λ is. inl (record { rest = []; left_is = refl; stays = λ m some may. entries_end s so_far m (may_end m may) }))
+  entries_go s May Need twin may_end behind_ends need so_far (x ∷ p) =
+      ends_if _ _ end _ (x ∷ p) (fits s.kind (form_in (words_of x))) _ _
+      (λ is. ends_read _ _ end _ (x ∷ p) (entry_at s so_far (x ∷ (p ++ end))) _
+      (λ e failed there. not_there x p end (entry_at s so_far (x ∷ (p ++ end))) e (twin so_far (x ∷ (p ++ end)) (x ∷ (p ++ end)) (alike_self (x ∷ (p ++ end)))) failed there)
+      (λ entry read. ends_lift _ _ end (entries_from s so_far) (x ∷ p) (entries_from s (s.grow so_far entry)) p _ (λ m may. tt)
+      (λ m some. entries_more s so_far (x ∷ (p ++ m)) entry is
+      (value_of (x ∷ (p ++ end)) (x ∷ (p ++ m)) (entry_at s so_far (x ∷ (p ++ end))) (entry_at s so_far (x ∷ (p ++ m))) entry (twin so_far (x ∷ (p ++ end)) (x ∷ (p ++ m)) (alike_after x line p after m some)) read))
+      (entries_go s May Need twin may_end behind_ends need (s.grow so_far entry) p)))
+      (λ is. inl (record { rest = x ∷ p; left_is = refl; stays = λ m some may. entries_end s so_far (x ∷ (p ++ m)) is }))
+
   rents_go : (rents : List ℤ) (p : Left) → EndsBy (MayFollow due.Rent) IsBehind end (rents_from (names t) rents) p (rents_from (names t) rents (p ++ end))
-  unfolding rents_from
-  rents_go rents [] =
-      ends_if _ _ end _ [] (fits due.Rent (form_in (words_of line))) _ _
-      (λ is. ends_read _ _ end _ [] (rent_at (names t) (length rents) end) _
-      (λ e failed there. record { more = []; value = padded rents (length (names t).fleets); reads = λ z ends. rents_end (names t) rents z ends.no_rent; need = λ z ends. ends })
-      (λ entry read. beyond _ _ end _ [] (length after) _ (rents_shrink t (padded rents entry.0 ++ entry.1 ∷ []) after) (omega arith)))
-      (λ is. inl (record { rest = []; left_is = refl; stays = λ m some may. rents_end (names t) rents m may.other }))
-  rents_go rents (x ∷ p) =
-      ends_if _ _ end _ (x ∷ p) (fits due.Rent (form_in (words_of x))) _ _
-      (λ is. ends_read _ _ end _ (x ∷ p) (rent_at (names t) (length rents) (x ∷ (p ++ end))) _
-      (λ e failed there. not_there x p end (rent_at (names t) (length rents) (x ∷ (p ++ end))) e (rent_twin t (x ∷ (p ++ end)) (x ∷ (p ++ end)) (alike_self (x ∷ (p ++ end))) (length rents)) failed there)
-      (λ entry read. ends_lift _ _ end (rents_from (names t) rents) (x ∷ p) (rents_from (names t) (padded rents entry.0 ++ entry.1 ∷ [])) p _ (λ m may. tt)
-      (λ m some. rents_more (names t) rents (x ∷ (p ++ m)) entry is
-      (value_of (x ∷ (p ++ end)) (x ∷ (p ++ m)) (rent_at (names t) (length rents) (x ∷ (p ++ end))) (rent_at (names t) (length rents) (x ∷ (p ++ m))) entry
-      (rent_twin t (x ∷ (p ++ end)) (x ∷ (p ++ m)) (alike_after x line p after m some) (length rents)) read))
-      (rents_go (padded rents entry.0 ++ entry.1 ∷ []) p)))
-      (λ is. inl (record { rest = x ∷ p; left_is = refl; stays = λ m some may. rents_end (names t) rents (x ∷ (p ++ m)) is }))
+  rents_go = entries_go (rent_series (names t)) (MayFollow due.Rent) IsBehind (λ rents a b alike. rent_twin t a b alike (length rents)) (λ m may. may.other) (λ m ends. ends.no_rent) (λ m ends. ends)
 
   weights_go : (weights : List Weight) (before : Option Weight) (p : Left) → EndsBy IsBehind IsBehind end (weights_from (names t) weights before) p (weights_from (names t) weights before (p ++ end))
-  unfolding weights_from
-  weights_go weights before [] =
-      ends_if _ _ end _ [] (fits due.Weight (form_in (words_of line))) _ _
-      (λ is. ends_read _ _ end _ [] (weight_at (names t) before end) _
-      (λ e failed there. record { more = []; value = weights; reads = λ z ends. weights_end (names t) weights before z ends.no_weight; need = λ z ends. ends })
-      (λ entry read. beyond _ _ end _ [] (length after) _ (weights_shrink t (weights ++ entry ∷ []) (Some entry) after) (omega arith)))
-      (λ is. inl (record { rest = []; left_is = refl; stays = λ m some may. weights_end (names t) weights before m may.no_weight }))
-  weights_go weights before (x ∷ p) =
-      ends_if _ _ end _ (x ∷ p) (fits due.Weight (form_in (words_of x))) _ _
-      (λ is. ends_read _ _ end _ (x ∷ p) (weight_at (names t) before (x ∷ (p ++ end))) _
-      (λ e failed there. not_there x p end (weight_at (names t) before (x ∷ (p ++ end))) e (weight_twin t (x ∷ (p ++ end)) (x ∷ (p ++ end)) (alike_self (x ∷ (p ++ end))) before) failed there)
-      (λ entry read. ends_lift _ _ end (weights_from (names t) weights before) (x ∷ p) (weights_from (names t) (weights ++ entry ∷ []) (Some entry)) p _ (λ m may. tt)
-      (λ m some. weights_more (names t) weights before (x ∷ (p ++ m)) entry is
-      (value_of (x ∷ (p ++ end)) (x ∷ (p ++ m)) (weight_at (names t) before (x ∷ (p ++ end))) (weight_at (names t) before (x ∷ (p ++ m))) entry
-      (weight_twin t (x ∷ (p ++ end)) (x ∷ (p ++ m)) (alike_after x line p after m some) before) read))
-      (weights_go (weights ++ entry ∷ []) (Some entry) p)))
-      (λ is. inl (record { rest = x ∷ p; left_is = refl; stays = λ m some may. weights_end (names t) weights before (x ∷ (p ++ m)) is }))
+  weights_go weights before =
+      entries_go (weight_series (names t)) IsBehind IsBehind (λ so_far a b alike. weight_twin t a b alike so_far.1) (λ m may. may.no_weight) (λ m ends. ends.no_weight) (λ m ends. ends) (weights, before)
 
   -- a step that other lines may follow: it needs no other step of its place, or has one
   module _ (steps : List PriceStep) (before : Option PriceStep) (x : List ℕ) (is : begins (x ∷ []) due.Step ≡ true) (step : PriceStep) (was : StepWas t before (x ∷ end) step) where
     onward : (m : Left) → 0 < length m → is_needless (names t) step m ≡ false → steps_from (names t) steps before (x ∷ m) ≡ steps_from (names t) (steps ++ step ∷ []) (Some step) m
     onward m some needed =
         let first : x ≡ line_bytes t (at_line step) = first_same x (line_bytes t (at_line step)) end end was.line_is.is in
-        steps_more (names t) steps before (x ∷ m) step is (ap (λ y. step_at (names t) before (y ∷ m)) first ∙ step_read t before step m was.order was.follows needed some)
+        entries_more (step_series (names t)) (steps, before) (x ∷ m) step is (ap (λ y. step_at (names t) before (y ∷ m)) first ∙ step_read t before step m was.order was.follows needed some)
 
     -- behind lines of another kind it is needed as little as behind such
     stays_needed : (m : Left) → begins end due.Step ≡ false → begins m due.Step ≡ false → is_needless (names t) step m ≡ false
@@ -265,7 +253,7 @@ module _ (t : Tables) (line : List ℕ) (after : Left) where
         plain c d minute value off = record {
           more = [];
           value = steps ++ step ∷ [];
-          reads = λ z ends. onward z ends.some (rw (minute, value) (needless_off c d (is_step_of (names t) step.fleet step.station (first_words z)) off)) ∙ steps_end (names t) (steps ++ step ∷ []) (Some step) z ends.no_step;
+          reads = λ z ends. onward z ends.some (rw (minute, value) (needless_off c d (is_step_of (names t) step.fleet step.station (first_words z)) off)) ∙ entries_end (step_series (names t)) (steps ++ step ∷ [], Some step) z ends.no_step;
           need = λ z ends. tt;
         }
           where
@@ -297,13 +285,13 @@ module _ (t : Tables) (line : List ℕ) (after : Left) where
             }
 
   steps_go : (steps : List PriceStep) (before : Option PriceStep) (p : Left) → EndsBy (MayFollow due.Step) (MayFollow due.Rent) end (steps_from (names t) steps before) p (steps_from (names t) steps before (p ++ end))
-  unfolding steps_from
+  unfolding entries_from
   steps_go steps before [] =
       ends_if _ _ end _ [] (fits due.Step (form_in (words_of line))) _ _
       (λ is. ends_read _ _ end _ [] (step_at (names t) before end) _
-      (λ e failed there. record { more = []; value = steps; reads = λ z ends. steps_end (names t) steps before z ends.no_step; need = λ z ends. no_rent z ends })
+      (λ e failed there. record { more = []; value = steps; reads = λ z ends. entries_end (step_series (names t)) (steps, before) z ends.no_step; need = λ z ends. no_rent z ends })
       (λ step read. beyond _ _ end _ [] (length after) _ (steps_shrink t (steps ++ step ∷ []) (Some step) after) (omega arith)))
-      (λ is. inl (record { rest = []; left_is = refl; stays = λ m some may. steps_end (names t) steps before m may.other }))
+      (λ is. inl (record { rest = []; left_is = refl; stays = λ m some may. entries_end (step_series (names t)) (steps, before) m may.other }))
   steps_go steps before (x ∷ []) =
       ends_if _ _ end _ (x ∷ []) (fits due.Step (form_in (words_of x))) _ _
       (λ is. ends_read _ _ end _ (x ∷ []) (step_at (names t) before (x ∷ end)) _
@@ -316,19 +304,19 @@ module _ (t : Tables) (line : List ℕ) (after : Left) where
       (λ off. inl (record {
         rest = [];
         left_is = refl;
-        stays = λ m some may. onward steps before x is step was m some (stays_needed steps before x is step was m off may.other) ∙ steps_end (names t) (steps ++ step ∷ []) (Some step) m may.other;
+        stays = λ m some may. onward steps before x is step was m some (stays_needed steps before x is step was m off may.other) ∙ entries_end (step_series (names t)) (steps ++ step ∷ [], Some step) m may.other;
       }))))
-      (λ is. inl (record { rest = x ∷ []; left_is = refl; stays = λ m some may. steps_end (names t) steps before (x ∷ m) is }))
+      (λ is. inl (record { rest = x ∷ []; left_is = refl; stays = λ m some may. entries_end (step_series (names t)) (steps, before) (x ∷ m) is }))
   steps_go steps before (x ∷ y ∷ p) =
       ends_if _ _ end _ (x ∷ y ∷ p) (fits due.Step (form_in (words_of x))) _ _
       (λ is. ends_read _ _ end _ (x ∷ y ∷ p) (step_at (names t) before (x ∷ y ∷ (p ++ end))) _
       (λ e failed there. not_there x (y ∷ p) end (step_at (names t) before (x ∷ y ∷ (p ++ end))) e (step_twin t (x ∷ y ∷ (p ++ end)) (x ∷ y ∷ (p ++ end)) (alike_self (x ∷ y ∷ (p ++ end))) before (λ zero_step. refl)) failed there)
       (λ step read. ends_lift _ _ end (steps_from (names t) steps before) (x ∷ y ∷ p) (steps_from (names t) (steps ++ step ∷ []) (Some step)) (y ∷ p) _ (λ m may. tt)
-      (λ m some. steps_more (names t) steps before (x ∷ y ∷ (p ++ m)) step is
+      (λ m some. entries_more (step_series (names t)) (steps, before) (x ∷ y ∷ (p ++ m)) step is
       (value_of (x ∷ y ∷ (p ++ end)) (x ∷ y ∷ (p ++ m)) (step_at (names t) before (x ∷ y ∷ (p ++ end))) (step_at (names t) before (x ∷ y ∷ (p ++ m))) step
       (step_twin t (x ∷ y ∷ (p ++ end)) (x ∷ y ∷ (p ++ m)) (alike_first x y y (p ++ end) (p ++ m)) before (λ zero_step. refl)) read))
       (steps_go (steps ++ step ∷ []) (Some step) (y ∷ p))))
-      (λ is. inl (record { rest = x ∷ y ∷ p; left_is = refl; stays = λ m some may. steps_end (names t) steps before (x ∷ y ∷ (p ++ m)) is }))
+      (λ is. inl (record { rest = x ∷ y ∷ p; left_is = refl; stays = λ m some may. entries_end (step_series (names t)) (steps, before) (x ∷ y ∷ (p ++ m)) is }))
 
   pub prices_go : (p : Left) → EndsBy IsBehind (λ m. ⊤) end (prices_at (names t)) p (prices_at (names t) (p ++ end))
   unfolding prices_at
@@ -339,8 +327,8 @@ module _ (t : Tables) (line : List ℕ) (after : Left) where
         value = record { scale = pos 1; rents = padded [] (length (names t).fleets); steps = []; charges = [] };
         reads = λ z ends.
             bound (scale_at (names t) (line_bytes t (says.Scale (pos 1)) ∷ z)) (pos 1) _ (scale_read t (pos 1) z one_figure ends.some)
-            ∙ bound (rents_from (names t) [] z) (padded [] (length (names t).fleets), z) _ (rents_end (names t) [] z ends.no_rent)
-            ∙ bound (steps_from (names t) [] None z) ([], z) _ (steps_end (names t) [] None z ends.no_step);
+            ∙ bound (rents_from (names t) [] z) (padded [] (length (names t).fleets), z) _ (entries_end (rent_series (names t)) [] z ends.no_rent)
+            ∙ bound (steps_from (names t) [] None z) ([], z) _ (entries_end (step_series (names t)) ([], None) z ends.no_step);
         need = λ z ends. tt;
       })
       (λ scale read. beyond _ _ end _ [] (length after) _
@@ -352,7 +340,7 @@ module _ (t : Tables) (line : List ℕ) (after : Left) where
       no_rent no_step
       (λ m some. bound (scale_at (names t) (x ∷ (p ++ m))) scale _
       (value_of (x ∷ (p ++ end)) (x ∷ (p ++ m)) (scale_at (names t) (x ∷ (p ++ end))) (scale_at (names t) (x ∷ (p ++ m))) scale (scale_twin t (x ∷ (p ++ end)) (x ∷ (p ++ m)) (alike_after x line p after m some)) read))
-      (λ rents. record { more = []; value = []; reads = λ z ends. steps_end (names t) [] None z ends.no_step; need = λ z ends. ends })
+      (λ rents. record { more = []; value = []; reads = λ z ends. entries_end (step_series (names t)) ([], None) z ends.no_step; need = λ z ends. ends })
       (λ rents. steps_shrink t [] None)
       (λ rents. steps_go [] None) (rents_from (names t) [] (p ++ end)) (rents_go [] p))
 
@@ -363,7 +351,7 @@ module _ (t : Tables) (line : List ℕ) (after : Left) where
     value = record { scale = pos 1; weights = [] };
     reads = λ z ends.
         bound (mixed_scale_at (names t) (line_bytes t (says.Mixed (pos 1)) ∷ z)) (pos 1) _ (mixed_scale_read t (pos 1) z one_figure ends.some)
-        ∙ bound (weights_from (names t) [] None z) ([], z) _ (weights_end (names t) [] None z ends.no_weight);
+        ∙ bound (weights_from (names t) [] None z) ([], z) _ (entries_end (weight_series (names t)) ([], None) z ends.no_weight);
     need = λ z ends. behind_line t (says.Mixed (pos 1)) z tt refl refl refl;
   }
 

@@ -5,7 +5,7 @@ use Rattle.bound_cert.proofs.WrittenLines.{names}
 use Rattle.bound_cert.specs.FirstFault.{FirstFaultIsFixed, is_zero_step}
 use Rattle.bound_cert.specs.Lines.{◌>>=◌, Left, Reading, fits, line_due, stopped}
 use Rattle.bound_cert.specs.Nodes.{Above, after_node, end_at, head_is, nodes_from, nothing, plan_at, proof_at, rest_at, tree_at}
-use Rattle.bound_cert.specs.Reading.{body_at, first_words, head_at, mixed_at, mixed_scale_at, node_at, padded, prices_at, rent_at, rents_from, scale_at, step_at, steps_from, weight_at, weights_from}
+use Rattle.bound_cert.specs.Reading.{Series, body_at, entries_from, entry_at, first_words, head_at, mixed_at, mixed_scale_at, node_at, prices_at, rent_series, rents_from, scale_at, step_series, steps_from, weight_series, weights_from}
 use Rattle.bound_cert.specs.declared.nodes.Head.{Head}
 use Rattle.dual_bound.specs.declared.mixed.Weight.{Weight}
 use Rattle.dual_bound.specs.declared.nodes.Node.{Node}
@@ -109,47 +109,30 @@ module _ (t : Tables) (line next other : List ℕ) (rest others : Left) (look : 
   follows_behind h [] on shrinks = passed end other_end (length (next ∷ rest)) (h (next ∷ rest)) (h (other ∷ others)) (shrinks (next ∷ rest)) (omega arith)
   follows_behind h (x ∷ p) on shrinks = on p
 
-  rents_follow : (rents : List ℤ) (p : Left) → Follows end other_end (rents_from (names t) rents (p ++ end)) (rents_from (names t) rents (p ++ other_end))
-  unfolding rents_from
-  rents_follow rents [] =
-      follows_if end other_end (fits due.Rent (form_in (words_of line))) _ _ _ _
-      (follows_line end other_end [] (rent_at (names t) (length rents) end) (rent_at (names t) (length rents) other_end) _ _ (rent_twin t end other_end (alike []) (length rents))
-      (λ entry. passed end other_end (length (next ∷ rest)) _ _ (rents_shrink t (padded rents entry.0 ++ entry.1 ∷ []) (next ∷ rest)) (omega arith)))
+  entries_follow : {S A B : Type 0} (s : Series S A B) → ((so_far : S) (p : Left) → Twin (p ++ end) (p ++ other_end) (entry_at s so_far (p ++ end)) (entry_at s so_far (p ++ other_end)))
+      → ((so_far : S) (a : Left) → Shrinks (length a) (entries_from s so_far a)) → (so_far : S) (p : Left) → Follows end other_end (entries_from s so_far (p ++ end)) (entries_from s so_far (p ++ other_end))
+  unfolding entries_from
+  entries_follow s twin shrinks so_far [] =
+      follows_if end other_end (fits s.kind (form_in (words_of line))) _ _ _ _
+      (follows_line end other_end [] (entry_at s so_far end) (entry_at s so_far other_end) _ _ (twin so_far [])
+      (λ entry. passed end other_end (length (next ∷ rest)) _ _ (shrinks (s.grow so_far entry) (next ∷ rest)) (omega arith)))
       (same_end end other_end _ [])
-  rents_follow rents (x ∷ p) =
-      follows_if end other_end (fits due.Rent (form_in (words_of x))) _ _ _ _
-      (follows_line end other_end (x ∷ p) (rent_at (names t) (length rents) (x ∷ (p ++ end))) (rent_at (names t) (length rents) (x ∷ (p ++ other_end))) _ _
-      (rent_twin t (x ∷ (p ++ end)) (x ∷ (p ++ other_end)) (alike (x ∷ p)) (length rents))
-      (λ entry. rents_follow (padded rents entry.0 ++ entry.1 ∷ []) p))
+  entries_follow s twin shrinks so_far (x ∷ p) =
+      follows_if end other_end (fits s.kind (form_in (words_of x))) _ _ _ _
+      (follows_line end other_end (x ∷ p) (entry_at s so_far (x ∷ (p ++ end))) (entry_at s so_far (x ∷ (p ++ other_end))) _ _ (twin so_far (x ∷ p))
+      (λ entry. entries_follow s twin shrinks (s.grow so_far entry) p))
       (same_end end other_end _ (x ∷ p))
+
+  rents_follow : (rents : List ℤ) (p : Left) → Follows end other_end (rents_from (names t) rents (p ++ end)) (rents_from (names t) rents (p ++ other_end))
+  rents_follow = entries_follow (rent_series (names t)) (λ rents p. rent_twin t (p ++ end) (p ++ other_end) (alike p) (length rents)) (rents_shrink t)
 
   steps_follow : (steps : List PriceStep) (before : Option PriceStep) (p : Left) → Follows end other_end (steps_from (names t) steps before (p ++ end)) (steps_from (names t) steps before (p ++ other_end))
-  unfolding steps_from
-  steps_follow steps before [] =
-      follows_if end other_end (fits due.Step (form_in (words_of line))) _ _ _ _
-      (follows_line end other_end [] (step_at (names t) before end) (step_at (names t) before other_end) _ _ (step_twin t end other_end (alike []) before (looks []))
-      (λ step. passed end other_end (length (next ∷ rest)) _ _ (steps_shrink t (steps ++ step ∷ []) (Some step) (next ∷ rest)) (omega arith)))
-      (same_end end other_end _ [])
-  steps_follow steps before (x ∷ p) =
-      follows_if end other_end (fits due.Step (form_in (words_of x))) _ _ _ _
-      (follows_line end other_end (x ∷ p) (step_at (names t) before (x ∷ (p ++ end))) (step_at (names t) before (x ∷ (p ++ other_end))) _ _
-      (step_twin t (x ∷ (p ++ end)) (x ∷ (p ++ other_end)) (alike (x ∷ p)) before (looks (x ∷ p)))
-      (λ step. steps_follow (steps ++ step ∷ []) (Some step) p))
-      (same_end end other_end _ (x ∷ p))
+  steps_follow steps before =
+      entries_follow (step_series (names t)) (λ so_far p. step_twin t (p ++ end) (p ++ other_end) (alike p) so_far.1 (looks p)) (λ so_far. steps_shrink t so_far.0 so_far.1) (steps, before)
 
   weights_follow : (weights : List Weight) (before : Option Weight) (p : Left) → Follows end other_end (weights_from (names t) weights before (p ++ end)) (weights_from (names t) weights before (p ++ other_end))
-  unfolding weights_from
-  weights_follow weights before [] =
-      follows_if end other_end (fits due.Weight (form_in (words_of line))) _ _ _ _
-      (follows_line end other_end [] (weight_at (names t) before end) (weight_at (names t) before other_end) _ _ (weight_twin t end other_end (alike []) before)
-      (λ entry. passed end other_end (length (next ∷ rest)) _ _ (weights_shrink t (weights ++ entry ∷ []) (Some entry) (next ∷ rest)) (omega arith)))
-      (same_end end other_end _ [])
-  weights_follow weights before (x ∷ p) =
-      follows_if end other_end (fits due.Weight (form_in (words_of x))) _ _ _ _
-      (follows_line end other_end (x ∷ p) (weight_at (names t) before (x ∷ (p ++ end))) (weight_at (names t) before (x ∷ (p ++ other_end))) _ _
-      (weight_twin t (x ∷ (p ++ end)) (x ∷ (p ++ other_end)) (alike (x ∷ p)) before)
-      (λ entry. weights_follow (weights ++ entry ∷ []) (Some entry) p))
-      (same_end end other_end _ (x ∷ p))
+  weights_follow weights before =
+      entries_follow (weight_series (names t)) (λ so_far p. weight_twin t (p ++ end) (p ++ other_end) (alike p) so_far.1) (λ so_far. weights_shrink t so_far.0 so_far.1) (weights, before)
 
   prices_follow : (p : Left) → Follows end other_end (prices_at (names t) (p ++ end)) (prices_at (names t) (p ++ other_end))
   unfolding prices_at

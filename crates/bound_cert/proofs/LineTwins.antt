@@ -5,7 +5,7 @@ use Rattle.bound_cert.specs.FirstFault.{is_zero_step}
 use Rattle.bound_cert.specs.Lines.{◌>>=◌, Left, Reading, fits, line_due, of_seen, stopped}
 use Rattle.bound_cert.specs.Nodes.{plan_at, plan_of}
 use Rattle.bound_cert.specs.ProofText.{at_line}
-use Rattle.bound_cert.specs.Reading.{first_words, head_at, head_of, in_order, is_needless, mixed_scale_at, mixed_scale_of, rent_at, rent_follows, rent_of, scale_at, scale_of, step_at, step_of, weight_at, weight_of}
+use Rattle.bound_cert.specs.Reading.{first_words, head_at, head_of, in_order, is_needless, mixed_scale_at, mixed_scale_of, rent_at, rent_follows, rent_of, said_at, scale_at, scale_of, step_at, step_of, weight_at, weight_of}
 use Rattle.bound_cert.specs.declared.reading_lines.Due.{Due}
 use Rattle.dual_bound.specs.Order.{step_follows, weight_follows}
 use Rattle.dual_bound.specs.declared.mixed.Weight.{Weight}
@@ -152,22 +152,21 @@ module _ (a b : Left) where
 
 -- single lines of texts that are alike
 module _ (t : Tables) (a b : Left) (alike : Alike a b) where
+  said_twin : {A : Type 0} (kind : Due) (say : Line → Left → Reading A) → ((line : Line) → line_due (names t) kind a ≡ Ok line → Twin a b (say line a) (say line b)) → Twin a b (said_at (names t) kind say a) (said_at (names t) kind say b)
+  unfolding said_at
+  said_twin kind say each = twin_bind a b (line_due (names t) kind a) (line_due (names t) kind b) _ _ (line_twin (names t) kind a b alike) each
+
   pub scale_twin : Twin a b (scale_at (names t) a) (scale_at (names t) b)
-  unfolding scale_at
-  scale_twin = twin_bind a b (line_due (names t) due.Scale a) (line_due (names t) due.Scale b) _ _ (line_twin (names t) due.Scale a b alike) (λ line is. scale_of_twin a b line)
+  scale_twin = said_twin due.Scale scale_of (λ line is. scale_of_twin a b line)
 
   pub mixed_scale_twin : Twin a b (mixed_scale_at (names t) a) (mixed_scale_at (names t) b)
-  unfolding mixed_scale_at
-  mixed_scale_twin = twin_bind a b (line_due (names t) due.Mixed a) (line_due (names t) due.Mixed b) _ _ (line_twin (names t) due.Mixed a b alike) (λ line is. mixed_scale_of_twin a b line)
+  mixed_scale_twin = said_twin due.Mixed mixed_scale_of (λ line is. mixed_scale_of_twin a b line)
 
   pub rent_twin : (least : ℕ) → Twin a b (rent_at (names t) least a) (rent_at (names t) least b)
-  unfolding rent_at
-  rent_twin least = twin_bind a b (line_due (names t) due.Rent a) (line_due (names t) due.Rent b) _ _ (line_twin (names t) due.Rent a b alike) (λ line is. rent_of_twin a b least line)
+  rent_twin least = said_twin due.Rent (reading.rent_of least) (λ line is. rent_of_twin a b least line)
 
   pub weight_twin : (before : Option Weight) → Twin a b (weight_at (names t) before a) (weight_at (names t) before b)
-  unfolding weight_at
-  weight_twin before =
-      twin_bind a b (line_due (names t) due.Weight a) (line_due (names t) due.Weight b) _ _ (line_twin (names t) due.Weight a b alike) (λ line is. weight_of_twin a b before line)
+  weight_twin before = said_twin due.Weight (weight_of before) (λ line is. weight_of_twin a b before line)
 
   step_of_twin : (before : Option PriceStep) (line : Line) → line_due (names t) due.Step a ≡ Ok line → (is_zero_step (first_words a) ≡ true → first_words (drop 1 a) ≡ first_words (drop 1 b))
       → Twin a b (step_of (names t) before line a) (step_of (names t) before line b)
@@ -181,9 +180,7 @@ module _ (t : Tables) (a b : Left) (alike : Alike a b) where
   step_of_twin before other is next = (refl, refl)
 
   pub step_twin : (before : Option PriceStep) → (is_zero_step (first_words a) ≡ true → first_words (drop 1 a) ≡ first_words (drop 1 b)) → Twin a b (step_at (names t) before a) (step_at (names t) before b)
-  unfolding step_at
-  step_twin before next =
-      twin_bind a b (line_due (names t) due.Step a) (line_due (names t) due.Step b) _ _ (line_twin (names t) due.Step a b alike) (λ line is. step_of_twin before line is next)
+  step_twin before next = said_twin due.Step (step_of (names t) before) (λ line is. step_of_twin before line is next)
 
   pub head_twin : (above : ℕ) → Twin a b (head_at (names t) above a) (head_at (names t) above b)
   unfolding head_at
@@ -193,5 +190,4 @@ module _ (t : Tables) (a b : Left) (alike : Alike a b) where
       twin_if a b (nat_le above MAX_DEPTH) _ _ _ _ refl (refl, refl)))
 
   pub plan_twin : Twin a b (plan_at (names t) a) (plan_at (names t) b)
-  unfolding plan_at
-  plan_twin = twin_bind a b (line_due (names t) due.Plan a) (line_due (names t) due.Plan b) _ _ (line_twin (names t) due.Plan a b alike) (λ line is. plan_of_twin a b line)
+  plan_twin = said_twin due.Plan plan_of (λ line is. plan_of_twin a b line)

@@ -1,9 +1,13 @@
 -- The lines of a proof name what the tables have, so they are of words, and plain.
+use Rattle.bound_cert.proofs.NodesOfTables.{IsNodeOf, nodes_are}
 use Rattle.bound_cert.specs.ProofText.{all_lines, at_line, cause_lines, mixed_lines, node_lines, open_line, price_lines, proof_lines, rent_lines, rent_lines_at, tree_lines, weight_line}
 use Rattle.bound_cert.specs.Words.{IsPlainLine}
 use Rattle.dual_bound.specs.OfTables.{ArePricesOf, IsCauseOf, IsMixedOf, IsOfTables, IsStepOf, IsWeightOf}
 use Rattle.dual_bound.specs.Prices.{rent_of}
 use Rattle.dual_bound.specs.declared.mixed.Mixed.{Mixed}
+use Rattle.dual_bound.specs.Nodes.{nodes_of}
+use Rattle.dual_bound.specs.declared.nodes.Node.{Node}
+use Rattle.dual_bound.specs.declared.nodes.Node.TheVariants as node
 use Rattle.dual_bound.specs.declared.prices.Prices.{Prices}
 use Rattle.dual_bound.specs.declared.trees.Cause.{Cause}
 use Rattle.dual_bound.specs.declared.trees.Tree.{Tree}
@@ -21,7 +25,6 @@ use Rattle.std.specs.List.{flat_map, range_with_len}
 use Rattle.std.specs.Ordering.{int_eq}
 use Rattle.std.specs.Prelude.{All}
 use Rattle.dual_bound.specs.declared.trees.Cause.TheVariants as cause
-use Rattle.dual_bound.specs.declared.trees.Tree.TheVariants as tree
 use Rattle.proof_lines.specs.declared.line.Line.TheVariants as says
 use Rattle.proof_lines.specs.declared.line.Version.TheVariants as version
 
@@ -51,7 +54,7 @@ prices_are t prices is =
 mixed_are : (t : Tables) (mixed : Mixed) → IsMixedOf t mixed → All (IsNamed t) (mixed_lines mixed)
 mixed_are t mixed is =
     All-cons (IsNamed t) (says.Mixed mixed.scale) (map weight_line mixed.weights) tt
-    (All-map (IsNamed t) weight_line mixed.weights (All-weaker (IsWeightOf t) (λ entry. IsNamed t (weight_line entry)) (λ entry is. (is.leg, is.choice)) mixed.weights is))
+    (All-map (IsNamed t) weight_line mixed.weights (All-weaker (IsWeightOf t) (λ entry. IsNamed t (weight_line entry)) (λ entry is. is) mixed.weights is))
 
 cause_are : (t : Tables) (why : Cause) → IsCauseOf t why → All (IsNamed t) (open_line why ∷ cause_lines why)
 cause_are t (cause.Nodes mixed) is = All-cons (IsNamed t) says.OpenNodes (mixed_lines mixed) tt (mixed_are t mixed is)
@@ -59,41 +62,30 @@ cause_are t (cause.Pivots made) is = one_line t (says.OpenPivots made) tt
 cause_are t (cause.Grew pivots row column) is = one_line t (says.OpenGrew pivots row column) tt
 cause_are t (cause.Lift step at) is = one_line t (says.OpenLift step at) tt
 
-node_is : (t : Tables) (tree : Tree) → IsOfTables t tree → All (IsNamed t) (node_lines t tree)
-node_is t (tree.Bare leg) is = one_line t (says.Bare leg) is
-node_is t tree.Sole is = one_line t says.Sole tt
-node_is t (tree.Refuted prices) is = All-cons (IsNamed t) says.Refuted (price_lines t prices) tt (prices_are t prices is)
-node_is t (tree.Priced prices) is = All-cons (IsNamed t) says.Priced (price_lines t prices) tt (prices_are t prices is)
-node_is t (tree.Open prices why) is =
+node_is : (t : Tables) (n : Node) → IsNodeOf t n → All (IsNamed t) (node_lines t n)
+node_is t (node.Bare leg) is = one_line t (says.Bare leg) is
+node_is t node.Sole is = one_line t says.Sole tt
+node_is t (node.Refuted prices) is = All-cons (IsNamed t) says.Refuted (price_lines t prices) tt (prices_are t prices is)
+node_is t (node.Priced prices) is = All-cons (IsNamed t) says.Priced (price_lines t prices) tt (prices_are t prices is)
+node_is t (node.Open prices why) is =
     let of_cause = cause_are t why is.1 in
     All-cons (IsNamed t) (open_line why) (price_lines t prices ++ cause_lines why) (All-head (IsNamed t) (open_line why) (cause_lines why) of_cause)
     (All-append (IsNamed t) (price_lines t prices) (cause_lines why) (prices_are t prices is.0) (All-tail (IsNamed t) (open_line why) (cause_lines why) of_cause))
-node_is t (tree.Trim' leg fleet p with_pair q without) is = one_line t (says.Trim leg fleet) (is.0.leg, is.0.choice)
-node_is t (tree.Split' leg fleet prices mixed p with_pair q without) is =
-    All-cons (IsNamed t) (says.Split leg fleet) (price_lines t prices ++ mixed_lines mixed) (is.0.leg, is.0.choice)
+node_is t (node.Trim leg choice) is = one_line t (says.Trim leg choice) is
+node_is t (node.Split leg choice prices mixed) is =
+    All-cons (IsNamed t) (says.Split leg choice) (price_lines t prices ++ mixed_lines mixed) is.0
     (All-append (IsNamed t) (price_lines t prices) (mixed_lines mixed) (prices_are t prices is.1) (mixed_are t mixed is.2))
 
-three : (t : Tables) (xs ys zs : List Line) → All (IsNamed t) xs → All (IsNamed t) ys → All (IsNamed t) zs → All (IsNamed t) (xs ++ (ys ++ zs))
-three t xs ys zs first second third = All-append (IsNamed t) xs (ys ++ zs) first (All-append (IsNamed t) ys zs second third)
-
-tree_is : (t : Tables) (tree : Tree) → IsOfTables t tree → All (IsNamed t) (tree_lines t tree)
-tree_is t (tree.Bare leg) is = node_is t (tree.Bare leg) is
-tree_is t tree.Sole is = node_is t tree.Sole is
-tree_is t (tree.Refuted prices) is = node_is t (tree.Refuted prices) is
-tree_is t (tree.Priced prices) is = node_is t (tree.Priced prices) is
-tree_is t (tree.Open prices why) is = node_is t (tree.Open prices why) is
-tree_is t (tree.Trim' leg fleet p with_pair q without) is =
-    three t (node_lines t (tree.Trim' leg fleet p with_pair q without)) (tree_lines t with_pair) (tree_lines t without)
-    (node_is t (tree.Trim' leg fleet p with_pair q without) is) (tree_is t with_pair is.1) (tree_is t without is.2)
-tree_is t (tree.Split' leg fleet prices mixed p with_pair q without) is =
-    three t (node_lines t (tree.Split' leg fleet prices mixed p with_pair q without)) (tree_lines t with_pair) (tree_lines t without)
-    (node_is t (tree.Split' leg fleet prices mixed p with_pair q without) is) (tree_is t with_pair is.3) (tree_is t without is.4)
+nodes_named : (t : Tables) (nodes : List Node) → All (IsNodeOf t) nodes → All (IsNamed t) (flat_map (node_lines t) nodes)
+nodes_named t [] are = All-nil (IsNamed t)
+nodes_named t (n ∷ nodes) are =
+    All-append (IsNamed t) (node_lines t n) (flat_map (node_lines t) nodes) (node_is t n (All-head (IsNodeOf t) n nodes are)) (nodes_named t nodes (All-tail (IsNodeOf t) n nodes are))
 
 pub lines_named : (t : Tables) (planned : Bool) (tree : Tree) → IsOfTables t tree → All (IsNamed t) (all_lines t planned tree)
 lines_named t planned tree is =
     let rest : List Line = tree_lines t tree ++ says.End ∷ [] in
     All-cons (IsNamed t) (says.Head version.One) (says.Plan planned ∷ rest) tt
-    (All-cons (IsNamed t) (says.Plan planned) rest tt (All-append (IsNamed t) (tree_lines t tree) (says.End ∷ []) (tree_is t tree is) (one_line t says.End tt)))
+    (All-cons (IsNamed t) (says.Plan planned) rest tt (All-append (IsNamed t) (tree_lines t tree) (says.End ∷ []) (nodes_named t (nodes_of tree) (nodes_are t tree is)) (one_line t says.End tt)))
 
 pub lines_are_of_words : (t : Tables) (planned : Bool) (tree : Tree) → IsOfTables t tree → All IsOfWords (proof_lines t planned tree)
 lines_are_of_words t planned tree is =

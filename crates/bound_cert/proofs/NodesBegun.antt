@@ -5,12 +5,12 @@ use Rattle.bound_cert.proofs.ReadOn.{bound, chosen, refused}
 use Rattle.bound_cert.proofs.Shrinking.{Shrinks, mixed_shrinks, node_takes, nodes_shrink, shrinks_if}
 use Rattle.bound_cert.proofs.TextNodes.{node_was}
 use Rattle.bound_cert.proofs.WrittenLines.{names, texts}
-use Rattle.bound_cert.proofs.WrittenNodes.{behind_line, lines_at, node_read}
+use Rattle.bound_cert.proofs.WrittenNodes.{behind_line, node_read}
 use Rattle.bound_cert.proofs.WrittenPrices.{IsBehind}
 use Rattle.bound_cert.specs.FirstFault.{is_inner_line}
 use Rattle.bound_cert.specs.Lines.{◌>>=◌, Left, Reading}
 use Rattle.bound_cert.specs.Nodes.{Above, after_node, after_tree, nodes_from}
-use Rattle.bound_cert.specs.ProofText.{mixed_lines, price_lines}
+use Rattle.bound_cert.specs.ProofText.{mixed_lines, price_lines, node_lines}
 use Rattle.bound_cert.specs.Reading.{body_at, head_at, mixed_at, mixed_node, node_at, priced_node, prices_at}
 use Rattle.bound_cert.specs.declared.nodes.Head.{Head}
 use Rattle.dual_bound.specs.WrittenOrder.{IsNodeInOrder}
@@ -156,16 +156,16 @@ module _ (t : Tables) where
   inner_first : (above : ℕ) (x : List ℕ) (a : Left) (read : Node × Left) → node_at (names t) above (x ∷ a) ≡ Ok read → 0 < inner_of read.0 → is_inner_line x ≡ true
   inner_first above x a read e = by_node read.0 (node_was t above (x ∷ a) read e).order (node_was t above (x ∷ a) read e).text
     where
-      by_node : (n : Node) → IsNodeInOrder t n → x ∷ a ≡ texts t (lines_at t n) ++ read.1 → 0 < inner_of n → is_inner_line x ≡ true
+      by_node : (n : Node) → IsNodeInOrder t n → x ∷ a ≡ texts t (node_lines t n) ++ read.1 → 0 < inner_of n → is_inner_line x ≡ true
       by_node (node.Bare leg) order text some = absurd (omega (arith, some))
       by_node node.Sole order text some = absurd (omega (arith, some))
       by_node (node.Refuted prices) order text some = absurd (omega (arith, some))
       by_node (node.Priced prices) order text some = absurd (omega (arith, some))
       by_node (node.Open prices why) order text some = absurd (omega (arith, some))
       by_node (node.Trim leg fleet) order text some =
-          ap (λ y. is_inner_line y) (first_same x (line_bytes t (says.Trim leg fleet)) _ _ text) ∙ inner_line (says.Trim leg fleet) (order.leg, order.choice) refl
+          ap (λ y. is_inner_line y) (first_same x (line_bytes t (says.Trim leg fleet)) _ _ text) ∙ inner_line (says.Trim leg fleet) order refl
       by_node (node.Split leg fleet prices mixed) order text some =
-          ap (λ y. is_inner_line y) (first_same x (line_bytes t (says.Split leg fleet)) _ _ text) ∙ inner_line (says.Split leg fleet) (order.0.leg, order.0.choice) refl
+          ap (λ y. is_inner_line y) (first_same x (line_bytes t (says.Split leg fleet)) _ _ text) ∙ inner_line (says.Split leg fleet) order.0 refl
 
   inner_counts : (above : ℕ) (x : List ℕ) (p a : Left) (read : Node × Left) → node_at (names t) above (x ∷ a) ≡ Ok read → inner_of read.0 + count_by is_inner_line p ≤ count_by is_inner_line (x ∷ p)
   inner_counts above x p a read e = by_size (inner_of read.0) refl
@@ -183,15 +183,15 @@ module _ (t : Tables) where
       by_size zero none = omega (arith, none, count_cons x p)
       by_size (suc k) some = omega (arith, one read.0, count_inner x p (inner_first above x a read e (omega (arith, some))))
 
-  lines_count : (n : Node) → IsNodeInOrder t n → inner_of n ≤ count_by is_inner_line (texts t (lines_at t n))
+  lines_count : (n : Node) → IsNodeInOrder t n → inner_of n ≤ count_by is_inner_line (texts t (node_lines t n))
   lines_count (node.Bare leg) order = omega arith
   lines_count node.Sole order = omega arith
   lines_count (node.Refuted prices) order = omega arith
   lines_count (node.Priced prices) order = omega arith
   lines_count (node.Open prices why) order = omega arith
-  lines_count (node.Trim leg fleet) order = omega (arith, count_inner (line_bytes t (says.Trim leg fleet)) [] (inner_line (says.Trim leg fleet) (order.leg, order.choice) refl))
+  lines_count (node.Trim leg fleet) order = omega (arith, count_inner (line_bytes t (says.Trim leg fleet)) [] (inner_line (says.Trim leg fleet) order refl))
   lines_count (node.Split leg fleet prices mixed) order =
-      omega (arith, count_inner (line_bytes t (says.Split leg fleet)) (texts t (price_lines t prices ++ mixed_lines mixed)) (inner_line (says.Split leg fleet) (order.0.leg, order.0.choice) refl))
+      omega (arith, count_inner (line_bytes t (says.Split leg fleet)) (texts t (price_lines t prices ++ mixed_lines mixed)) (inner_line (says.Split leg fleet) order.0 refl))
 
   node_counts : (above : ℕ) (n : Node) (p rest end : Left) → node_at (names t) above (p ++ end) ≡ Ok (n, rest ++ end) → inner_of n + count_by is_inner_line rest ≤ count_by is_inner_line p
   node_counts above n p rest end e =
@@ -201,7 +201,7 @@ module _ (t : Tables) where
         lines_count n was.order,
         ap (count_by is_inner_line) was.text,
         count_append p end,
-        count_append (texts t (lines_at t n)) (rest ++ end),
+        count_append (texts t (node_lines t n)) (rest ++ end),
         count_append rest end,
       )
 

@@ -1,4 +1,4 @@
--- A tree whose nodes are of the tables is so itself.
+-- A tree is of the tables where its nodes are.
 use Rattle.dual_bound.specs.Nodes.{nodes_of}
 use Rattle.dual_bound.specs.OfTables.{ArePricesOf, IsCauseOf, IsMixedOf, IsOfTables}
 use Rattle.dual_bound.specs.declared.nodes.Node.{Node}
@@ -6,7 +6,7 @@ use Rattle.dual_bound.specs.declared.trees.Tree.{Tree}
 use Rattle.fleet_model.specs.Schedule.{IsPair, leg_on, legs_in}
 use Rattle.fleet_model.specs.declared.tables.Tables.{Tables}
 use Rattle.std.proofs.Common.{[], ◌++◌, ◌<◌, ◌∷◌, List}
-use Rattle.std.proofs.lemmas.List.Elements.{All-cons, All-head, All-nil, All-tail}
+use Rattle.std.proofs.lemmas.List.Elements.{All-append, All-cons, All-head, All-nil, All-tail}
 use Rattle.std.specs.Prelude.{⊤, All}
 use Rattle.dual_bound.specs.declared.nodes.Node.TheVariants as node
 use Rattle.dual_bound.specs.declared.trees.Tree.TheVariants as tree
@@ -46,3 +46,20 @@ tree_of t (tree.Split' leg fleet prices mixed p with_pair q without) are =
     let first = All-head (IsNodeOf t) (node.Split leg fleet prices mixed) nodes are in
     let others = All-tail (IsNodeOf t) (node.Split leg fleet prices mixed) nodes are in
     (first.0, first.1, first.2, tree_of t with_pair (left_part (IsNodeOf t) (nodes_of with_pair) (nodes_of without) others), tree_of t without (right_part (IsNodeOf t) (nodes_of with_pair) (nodes_of without) others))
+
+-- .. and its nodes are where it is
+one_node : (t : Tables) (n : Node) → IsNodeOf t n → All (IsNodeOf t) (n ∷ [])
+one_node t n is = All-cons (IsNodeOf t) n [] is (All-nil (IsNodeOf t))
+
+pub nodes_are : (t : Tables) (whole : Tree) → IsOfTables t whole → All (IsNodeOf t) (nodes_of whole)
+nodes_are t (tree.Bare leg) is = one_node t (node.Bare leg) is
+nodes_are t tree.Sole is = one_node t node.Sole tt
+nodes_are t (tree.Refuted prices) is = one_node t (node.Refuted prices) is
+nodes_are t (tree.Priced prices) is = one_node t (node.Priced prices) is
+nodes_are t (tree.Open prices why) is = one_node t (node.Open prices why) is
+nodes_are t (tree.Trim' leg fleet p with_pair q without) is =
+    All-cons (IsNodeOf t) (node.Trim leg fleet) (nodes_of with_pair ++ nodes_of without) is.0
+    (All-append (IsNodeOf t) (nodes_of with_pair) (nodes_of without) (nodes_are t with_pair is.1) (nodes_are t without is.2))
+nodes_are t (tree.Split' leg fleet prices mixed p with_pair q without) is =
+    All-cons (IsNodeOf t) (node.Split leg fleet prices mixed) (nodes_of with_pair ++ nodes_of without) (is.0, is.1, is.2)
+    (All-append (IsNodeOf t) (nodes_of with_pair) (nodes_of without) (nodes_are t with_pair is.3) (nodes_are t without is.4))

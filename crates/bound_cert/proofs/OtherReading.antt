@@ -7,6 +7,7 @@ use Rattle.bound_cert.specs.declared.reading.Proof.{Proof}
 use Rattle.dual_bound.proofs.TablesBy.{Fits, tables_by}
 use Rattle.dual_bound.specs.declared.nodes.Node.{Node}
 use Rattle.fleet_model.proofs.PeriodMinutes.{days_are_period}
+use Rattle.fleet_model.specs.OwnTimes.{own_choice}
 use Rattle.fleet_model.specs.Schedule.{days_in, last_of}
 use Rattle.fleet_model.specs.declared.parts.Fleet.{Fleet}
 use Rattle.fleet_model.specs.declared.parts.Leg.{Leg}
@@ -21,7 +22,7 @@ module _ (s : List Station) (f : List Fleet) (l : List Leg) (c : List PairCost) 
   read_to : Left → ℕ → Reading (Bool × List Node)
   read_to left last =
       let t = tables_by s f l c h a in
-      head_is left >>= λ version. rest_at (record { version = version; legs = flights_of t; fleets = fleet_names t; stations = codes_of t; last = last }) (drop 1 left)
+      head_is left >>= λ version. rest_at (record { version = version; legs = flights_of t; fleets = fleet_names t; stations = codes_of t; last = last; own = own_choice t }) (drop 1 left)
 
   alike : days_in (tables_by s f l c h a) ≡ days_in (tables_by s f l c h b) → (left : Left) → proof_at (tables_by s f l c h a) left ≡ proof_at (tables_by s f l c h b) left
   unfolding proof_at read_to

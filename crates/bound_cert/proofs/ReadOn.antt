@@ -1,11 +1,8 @@
--- One line more of rents, steps and weights.
+-- One line more of a series.
 use Rattle.bound_cert.specs.Lines.{◌>>=◌, Fails, Left, Reading, Stopped, first_form, fits, line_due, next_line}
-use Rattle.bound_cert.specs.Reading.{padded, rent_at, rents_from, step_at, step_of, steps_from, weight_at, weight_of, weights_from}
-use Rattle.bound_cert.specs.Reading as reading
+use Rattle.bound_cert.specs.Reading.{Series, entries_from, entry_at, said_at, with_last}
 use Rattle.bound_cert.specs.declared.faults.Stop.{Stop}
 use Rattle.bound_cert.specs.declared.reading_lines.Due.{Due}
-use Rattle.dual_bound.specs.declared.mixed.Weight.{Weight}
-use Rattle.dual_bound.specs.declared.prices.PriceStep.{PriceStep}
 use Rattle.proof_lines.specs.Forms.{form_in}
 use Rattle.proof_lines.specs.Known.{Naming}
 use Rattle.proof_lines.specs.declared.line.Line.{Line}
@@ -80,98 +77,56 @@ module _ (n : Naming) where
       told true (Err s) e = let same : s ≡ f = cc e in (refl, ap (λ s. Err s) same)
       told false r e = absurd (cc e)
 
-  pub rent_said : (least : ℕ) (left : Left) (line : Line) (r : Reading (ℕ × ℤ)) → line_due n due.Rent left ≡ Ok line → reading.rent_of least line left ≡ r → rent_at n least left ≡ r
-  unfolding rent_at
-  rent_said least left line r is said = bound (line_due n due.Rent left) line _ is ∙ said
+pub said_by : {A : Type 0} (n : Naming) (kind : Due) (say : Line → Left → Reading A) (left : Left) (line : Line) (r : Reading A) → line_due n kind left ≡ Ok line → say line left ≡ r → said_at n kind say left ≡ r
+unfolding said_at
+said_by n kind say left line r is said = bound (line_due n kind left) line _ is ∙ said
 
-  pub rent_fails : (least : ℕ) (left : Left) (f : Stopped) → line_due n due.Rent left ≡ Err f → rent_at n least left ≡ Err f
-  unfolding rent_at
-  rent_fails least left f is = failed (line_due n due.Rent left) f _ is
+pub none_said : {A : Type 0} (n : Naming) (kind : Due) (say : Line → Left → Reading A) (left : Left) (f : Stopped) → line_due n kind left ≡ Err f → said_at n kind say left ≡ Err f
+unfolding said_at
+none_said n kind say left f is = failed (line_due n kind left) f _ is
 
-  pub step_said : (before : Option PriceStep) (left : Left) (line : Line) (r : Reading PriceStep) → line_due n due.Step left ≡ Ok line → step_of n before line left ≡ r → step_at n before left ≡ r
-  unfolding step_at
-  step_said before left line r is said = bound (line_due n due.Step left) line _ is ∙ said
+module _ {S A B : Type 0} (s : Series S A B) where
+  pub entries_more : (so_far : S) (left : Left) (entry : A) → begins left s.kind ≡ true → entry_at s so_far left ≡ Ok entry → entries_from s so_far left ≡ entries_from s (s.grow so_far entry) (drop 1 left)
+  unfolding entries_from
+  entries_more so_far [] entry is read = absurd (cc is)
+  entries_more so_far (line ∷ rest) entry is read = chosen (fits s.kind (form_in (words_of line))) _ _ is ∙ bound (entry_at s so_far (line ∷ rest)) entry _ read
 
-  pub step_fails : (before : Option PriceStep) (left : Left) (f : Stopped) → line_due n due.Step left ≡ Err f → step_at n before left ≡ Err f
-  unfolding step_at
-  step_fails before left f is = failed (line_due n due.Step left) f _ is
+  pub entries_stop : (so_far : S) (left : Left) (e : Stopped) → begins left s.kind ≡ true → entry_at s so_far left ≡ Err e → entries_from s so_far left ≡ Err e
+  unfolding entries_from
+  entries_stop so_far [] e is read = absurd (cc is)
+  entries_stop so_far (line ∷ rest) e is read = chosen (fits s.kind (form_in (words_of line))) _ _ is ∙ failed (entry_at s so_far (line ∷ rest)) e _ read
 
-  pub weight_said : (before : Option Weight) (left : Left) (line : Line) (r : Reading Weight) → line_due n due.Weight left ≡ Ok line → weight_of before line left ≡ r → weight_at n before left ≡ r
-  unfolding weight_at
-  weight_said before left line r is said = bound (line_due n due.Weight left) line _ is ∙ said
+  pub entries_end : (so_far : S) (left : Left) → begins left s.kind ≡ false → entries_from s so_far left ≡ Ok (s.all so_far, left)
+  unfolding entries_from
+  entries_end so_far [] is = refl
+  entries_end so_far (line ∷ rest) is = refused (fits s.kind (form_in (words_of line))) _ _ is
 
-  pub weight_fails : (before : Option Weight) (left : Left) (f : Stopped) → line_due n due.Weight left ≡ Err f → weight_at n before left ≡ Err f
-  unfolding weight_at
-  weight_fails before left f is = failed (line_due n due.Weight left) f _ is
+  -- a loop that reads a series: its ends, and a turn
+  module _ (whole : Reading (B × Left)) (so_far : S) (rest : List (Bor (List ℕ))) (invariant : entries_from s so_far (seen rest) ≡ whole) where
+    pub line_stops : (e : Stop) → Fails e (next_line s.names s.kind (seen rest)) → Fails e whole
+    line_stops e =
+        fails_by e (next_line s.names s.kind (seen rest)) whole
+        (λ f is.
+        let told = next_fails s.names s.kind (seen rest) f is in
+        sym invariant ∙ entries_stop so_far (seen rest) f told.0 (none_said s.names s.kind (s.say so_far) (seen rest) f told.1))
 
-  pub rents_more : (rents : List ℤ) (left : Left) (entry : ℕ × ℤ) → begins left due.Rent ≡ true → rent_at n (length rents) left ≡ Ok entry
-      → rents_from n rents left ≡ rents_from n (padded rents entry.0 ++ entry.1 ∷ []) (drop 1 left)
-  unfolding rents_from
-  rents_more rents [] entry is read = absurd (cc is)
-  rents_more rents (line ∷ rest) entry is read =
-      chosen (fits due.Rent (form_in (words_of line))) _ _ is ∙ bound (rent_at n (length rents) (line ∷ rest)) entry _ read
+    pub series_ends : (o : Option Line) → next_line s.names s.kind (seen rest) ≡ Ok o → o ≡ None → whole ≡ Ok (s.all so_far, seen rest)
+    series_ends o is none = sym invariant ∙ entries_end so_far (seen rest) (next_none s.names s.kind (seen rest) o is none)
 
-  pub rents_stop : (rents : List ℤ) (left : Left) (e : Stopped) → begins left due.Rent ≡ true → rent_at n (length rents) left ≡ Err e → rents_from n rents left ≡ Err e
-  unfolding rents_from
-  rents_stop rents [] e is read = absurd (cc is)
-  rents_stop rents (line ∷ rest) e is read =
-      chosen (fits due.Rent (form_in (words_of line))) _ _ is ∙ failed (rent_at n (length rents) (line ∷ rest)) e _ read
+    module _ (o : Option Line) (line : Line) (is : next_line s.names s.kind (seen rest) ≡ Ok o) (some : o ≡ Some line) where
+      pub entry_stops : (e : Stop) → Fails e (s.say so_far line (seen rest)) → Fails e whole
+      entry_stops e =
+          fails_by e (s.say so_far line (seen rest)) whole
+          (λ f fails.
+          let told = next_some s.names s.kind (seen rest) o line is some in
+          sym invariant ∙ entries_stop so_far (seen rest) f told.0 (said_by s.names s.kind (s.say so_far) (seen rest) line (Err f) told.1 fails))
 
-  pub rents_end : (rents : List ℤ) (left : Left) → begins left due.Rent ≡ false → rents_from n rents left ≡ Ok (padded rents (length n.fleets), left)
-  unfolding rents_from
-  rents_end rents [] is = refl
-  rents_end rents (line ∷ rest) is = refused (fits due.Rent (form_in (words_of line))) _ _ is
+      pub series_goes_on : (grown : S) (after : List (Bor (List ℕ))) (entry : A) → s.say so_far line (seen rest) ≡ Ok entry → grown ≡ s.grow so_far entry → after ≡ drop 1 rest → entries_from s grown (seen after) ≡ whole
+      series_goes_on grown after entry said grew gone =
+          let told = next_some s.names s.kind (seen rest) o line is some in
+          rw (grew, gone, seen_behind rest)
+          (sym (entries_more so_far (seen rest) entry told.0 (said_by s.names s.kind (s.say so_far) (seen rest) line (Ok entry) told.1 said)) ∙ invariant)
 
-  pub steps_more : (steps : List PriceStep) (before : Option PriceStep) (left : Left) (step : PriceStep) → begins left due.Step ≡ true → step_at n before left ≡ Ok step
-      → steps_from n steps before left ≡ steps_from n (steps ++ step ∷ []) (Some step) (drop 1 left)
-  unfolding steps_from
-  steps_more steps before [] step is read = absurd (cc is)
-  steps_more steps before (line ∷ rest) step is read =
-      chosen (fits due.Step (form_in (words_of line))) _ _ is ∙ bound (step_at n before (line ∷ rest)) step _ read
-
-  pub steps_stop : (steps : List PriceStep) (before : Option PriceStep) (left : Left) (e : Stopped) → begins left due.Step ≡ true → step_at n before left ≡ Err e
-      → steps_from n steps before left ≡ Err e
-  unfolding steps_from
-  steps_stop steps before [] e is read = absurd (cc is)
-  steps_stop steps before (line ∷ rest) e is read =
-      chosen (fits due.Step (form_in (words_of line))) _ _ is ∙ failed (step_at n before (line ∷ rest)) e _ read
-
-  pub steps_end : (steps : List PriceStep) (before : Option PriceStep) (left : Left) → begins left due.Step ≡ false → steps_from n steps before left ≡ Ok (steps, left)
-  unfolding steps_from
-  steps_end steps before [] is = refl
-  steps_end steps before (line ∷ rest) is = refused (fits due.Step (form_in (words_of line))) _ _ is
-
-  pub weights_more : (weights : List Weight) (before : Option Weight) (left : Left) (entry : Weight) → begins left due.Weight ≡ true → weight_at n before left ≡ Ok entry
-      → weights_from n weights before left ≡ weights_from n (weights ++ entry ∷ []) (Some entry) (drop 1 left)
-  unfolding weights_from
-  weights_more weights before [] entry is read = absurd (cc is)
-  weights_more weights before (line ∷ rest) entry is read =
-      chosen (fits due.Weight (form_in (words_of line))) _ _ is ∙ bound (weight_at n before (line ∷ rest)) entry _ read
-
-  pub weights_stop : (weights : List Weight) (before : Option Weight) (left : Left) (e : Stopped) → begins left due.Weight ≡ true → weight_at n before left ≡ Err e
-      → weights_from n weights before left ≡ Err e
-  unfolding weights_from
-  weights_stop weights before [] e is read = absurd (cc is)
-  weights_stop weights before (line ∷ rest) e is read =
-      chosen (fits due.Weight (form_in (words_of line))) _ _ is ∙ failed (weight_at n before (line ∷ rest)) e _ read
-
-  pub weights_end : (weights : List Weight) (before : Option Weight) (left : Left) → begins left due.Weight ≡ false → weights_from n weights before left ≡ Ok (weights, left)
-  unfolding weights_from
-  weights_end weights before [] is = refl
-  weights_end weights before (line ∷ rest) is = refused (fits due.Weight (form_in (words_of line))) _ _ is
-
-  -- a turn of each loop
-  pub rents_on : (rents grown : List ℤ) (rest after : List (Bor (List ℕ))) (all : Left) (entry : ℕ × ℤ) → begins (seen rest) due.Rent ≡ true → rent_at n (length rents) (seen rest) ≡ Ok entry
-      → grown ≡ padded rents entry.0 ++ entry.1 ∷ [] → after ≡ drop 1 rest → rents_from n rents (seen rest) ≡ rents_from n [] all → rents_from n grown (seen after) ≡ rents_from n [] all
-  rents_on rents grown rest after all entry is read grew gone so_far =
-      rw (grew, gone, seen_behind rest) (sym (rents_more rents (seen rest) entry is read) ∙ so_far)
-
-  pub steps_on : (steps grown : List PriceStep) (before : Option PriceStep) (rest after : List (Bor (List ℕ))) (all : Left) (step : PriceStep) → begins (seen rest) due.Step ≡ true → step_at n before (seen rest) ≡ Ok step
-      → grown ≡ steps ++ step ∷ [] → after ≡ drop 1 rest → steps_from n steps before (seen rest) ≡ steps_from n [] None all → steps_from n grown (Some step) (seen after) ≡ steps_from n [] None all
-  steps_on steps grown before rest after all step is read grew gone so_far =
-      rw (grew, gone, seen_behind rest) (sym (steps_more steps before (seen rest) step is read) ∙ so_far)
-
-  pub weights_on : (weights grown : List Weight) (before : Option Weight) (rest after : List (Bor (List ℕ))) (all : Left) (entry : Weight) → begins (seen rest) due.Weight ≡ true → weight_at n before (seen rest) ≡ Ok entry
-      → grown ≡ weights ++ entry ∷ [] → after ≡ drop 1 rest → weights_from n weights before (seen rest) ≡ weights_from n [] None all → weights_from n grown (Some entry) (seen after) ≡ weights_from n [] None all
-  weights_on weights grown before rest after all entry is read grew gone so_far =
-      rw (grew, gone, seen_behind rest) (sym (weights_more weights before (seen rest) entry is read) ∙ so_far)
+-- an entry more is the last
+pub last_grown : {A : Type 0} (entries grown : List A) (before : Option A) (entry : A) → grown ≡ entries ++ entry ∷ [] → (grown, Some entry) ≡ with_last (entries, before) entry
+last_grown entries grown before entry e = ap (λ list. (list, Some entry)) e

@@ -4,7 +4,7 @@ use Rattle.bound_cert.proofs.ReadBack.{goes}
 use Rattle.bound_cert.proofs.WrittenLines.{names}
 use Rattle.bound_cert.specs.Lines.{◌>>=◌, Left, Reading, fits, line_due, stopped}
 use Rattle.bound_cert.specs.Nodes.{Above, after_node, end_at, head_is, nodes_from, nothing, plan_at, proof_at, rest_at, tree_at}
-use Rattle.bound_cert.specs.Reading.{body_at, head_at, mixed_at, mixed_scale_at, node_at, padded, prices_at, rent_at, rents_from, scale_at, step_at, steps_from, weight_at, weights_from}
+use Rattle.bound_cert.specs.Reading.{Series, body_at, entries_from, entry_at, head_at, mixed_at, mixed_scale_at, node_at, prices_at, rent_series, rents_from, scale_at, step_series, steps_from, weight_series, weights_from}
 use Rattle.bound_cert.specs.declared.faults.TheConstants.{BAD_LINE}
 use Rattle.bound_cert.specs.declared.nodes.Head.{Head}
 use Rattle.dual_bound.specs.declared.mixed.Weight.{Weight}
@@ -49,33 +49,23 @@ behind_first (line ∷ a) = omega arith
 pub shrinks_behind : {A : Type 0} (a : Left) (r : Reading (A × Left)) → Shrinks (length (drop 1 a)) r → Shrinks (length a) r
 shrinks_behind a r is = shrinks_less (length (drop 1 a)) (length a) r (behind_first a) is
 
+pub entries_shrink : {S A B : Type 0} (s : Series S A B) → ((so_far : S) (a : Left) → Twin a a (entry_at s so_far a) (entry_at s so_far a)) → (so_far : S) (a : Left) → Shrinks (length a) (entries_from s so_far a)
+unfolding entries_from
+entries_shrink s twin so_far [] = omega arith
+entries_shrink s twin so_far (line ∷ a) =
+    shrinks_if (length (line ∷ a)) (fits s.kind (form_in (words_of line))) _ _
+    (shrinks_line (line ∷ a) (entry_at s so_far (line ∷ a)) _ (twin so_far (line ∷ a)) (λ entry. shrinks_behind (line ∷ a) _ (entries_shrink s twin (s.grow so_far entry) a)))
+    (omega arith)
+
 module _ (t : Tables) where
   pub rents_shrink : (rents : List ℤ) (a : Left) → Shrinks (length a) (rents_from (names t) rents a)
-  unfolding rents_from
-  rents_shrink rents [] = omega arith
-  rents_shrink rents (line ∷ a) =
-      shrinks_if (length (line ∷ a)) (fits due.Rent (form_in (words_of line))) _ _
-      (shrinks_line (line ∷ a) (rent_at (names t) (length rents) (line ∷ a)) _ (rent_twin t (line ∷ a) (line ∷ a) (alike_self (line ∷ a)) (length rents))
-      (λ entry. shrinks_behind (line ∷ a) _ (rents_shrink (padded rents entry.0 ++ entry.1 ∷ []) a)))
-      (omega arith)
+  rents_shrink = entries_shrink (rent_series (names t)) (λ rents a. rent_twin t a a (alike_self a) (length rents))
 
   pub steps_shrink : (steps : List PriceStep) (before : Option PriceStep) (a : Left) → Shrinks (length a) (steps_from (names t) steps before a)
-  unfolding steps_from
-  steps_shrink steps before [] = omega arith
-  steps_shrink steps before (line ∷ a) =
-      shrinks_if (length (line ∷ a)) (fits due.Step (form_in (words_of line))) _ _
-      (shrinks_line (line ∷ a) (step_at (names t) before (line ∷ a)) _ (step_twin t (line ∷ a) (line ∷ a) (alike_self (line ∷ a)) before (λ zero. refl))
-      (λ step. shrinks_behind (line ∷ a) _ (steps_shrink (steps ++ step ∷ []) (Some step) a)))
-      (omega arith)
+  steps_shrink steps before = entries_shrink (step_series (names t)) (λ so_far a. step_twin t a a (alike_self a) so_far.1 (λ zero. refl)) (steps, before)
 
   pub weights_shrink : (weights : List Weight) (before : Option Weight) (a : Left) → Shrinks (length a) (weights_from (names t) weights before a)
-  unfolding weights_from
-  weights_shrink weights before [] = omega arith
-  weights_shrink weights before (line ∷ a) =
-      shrinks_if (length (line ∷ a)) (fits due.Weight (form_in (words_of line))) _ _
-      (shrinks_line (line ∷ a) (weight_at (names t) before (line ∷ a)) _ (weight_twin t (line ∷ a) (line ∷ a) (alike_self (line ∷ a)) before)
-      (λ entry. shrinks_behind (line ∷ a) _ (weights_shrink (weights ++ entry ∷ []) (Some entry) a)))
-      (omega arith)
+  weights_shrink weights before = entries_shrink (weight_series (names t)) (λ so_far a. weight_twin t a a (alike_self a) so_far.1) (weights, before)
 
   pub prices_shrink : (a : Left) → Shrinks (length a) (prices_at (names t) a)
   unfolding prices_at

@@ -7,7 +7,7 @@ use Rattle.bound_cert.proofs.WrittenLines.{names, other_words, texts, texts_appe
 use Rattle.bound_cert.proofs.WrittenPrices.{fleet_count, lines_from, lines_with, lines_without, needed_by, of_step}
 use Rattle.bound_cert.specs.Lines.{Left, fits}
 use Rattle.bound_cert.specs.ProofText.{at_line, mixed_lines, price_lines, rent_lines, weight_line}
-use Rattle.bound_cert.specs.Reading.{first_words, mixed_at, mixed_scale_at, padded, prices_at, rent_at, rents_from, scale_at, step_at, steps_from, weight_at, weights_from}
+use Rattle.bound_cert.specs.Reading.{entries_from, first_words, mixed_at, mixed_scale_at, padded, prices_at, rent_at, rents_from, scale_at, step_at, steps_from, weight_at, weights_from}
 use Rattle.dual_bound.proofs.StepOrder.{same_place_by, zero_figure}
 use Rattle.dual_bound.specs.Prices.{rent_of}
 use Rattle.dual_bound.specs.WrittenOrder.{ArePricesInOrder, IsFigure, IsMixedInOrder, IsStepInOrder, IsWeightInOrder, NoLoneZero, StepsFollow, WeightsFollow, goes_on}
@@ -70,7 +70,7 @@ module _ (t : Tables) where
       same_place_by step next (grind (arith, nat_tests, fleet)) (grind (arith, nat_tests, station))
 
   pub steps_were : (left : Left) (done : List PriceStep) (before : Option PriceStep) (read : List PriceStep × Left) → steps_from (names t) done before left ≡ Ok read → StepsWere done before left read
-  unfolding steps_from
+  unfolding entries_from
   steps_were [] done before read e =
       subst (λ r. StepsWere done before [] r) (ok_same (done, []) read e)
       (record { new = []; list = sym (append-nil done); text = refl; each = All-nil (IsStepInOrder t); follow = tt; no_lone_zero = tt; ends = λ none. refl })
@@ -107,7 +107,7 @@ module _ (t : Tables) where
     pub follow : WeightsFollow before new
 
   pub weights_were : (left : Left) (done : List Weight) (before : Option Weight) (read : List Weight × Left) → weights_from (names t) done before left ≡ Ok read → WeightsWere done before left read
-  unfolding weights_from
+  unfolding entries_from
   weights_were [] done before read e =
       subst (λ r. WeightsWere done before [] r) (ok_same (done, []) read e)
       (record { new = []; list = sym (append-nil done); text = refl; each = All-nil (IsWeightInOrder t); follow = tt })
@@ -241,7 +241,7 @@ module _ (t : Tables) where
       }
 
   pub rents_were : (left : Left) (done : List ℤ) (read : List ℤ × Left) → rents_from (names t) done left ≡ Ok read → All IsFigure done → length done ≤ fleets_in t → RentsWere done left read
-  unfolding rents_from
+  unfolding entries_from
   rents_were [] done read e are few = subst (λ r. RentsWere done [] r) (ok_same (padded done (fleets_in t), []) read (ap (λ n. Ok (padded done n, [])) (sym (fleet_count t)) ∙ e)) (none_more done [] are few)
   rents_were (line ∷ rest) done read e are few =
       either_way (fits due.Rent (form_in (words_of line))) _ _ read e

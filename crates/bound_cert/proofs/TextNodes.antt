@@ -3,9 +3,9 @@ use Rattle.bound_cert.proofs.ReadBack.{either_way, goes, ok_same}
 use Rattle.bound_cert.proofs.TextLines.{LineIs, line_was}
 use Rattle.bound_cert.proofs.TextLists.{mixed_was, prices_were}
 use Rattle.bound_cert.proofs.WrittenLines.{names, texts, texts_append}
-use Rattle.bound_cert.proofs.WrittenNodes.{first_line, lines_at}
+use Rattle.bound_cert.proofs.WrittenNodes.{first_line}
 use Rattle.bound_cert.specs.Lines.{Left, line_due}
-use Rattle.bound_cert.specs.ProofText.{mixed_lines, price_lines}
+use Rattle.bound_cert.specs.ProofText.{mixed_lines, price_lines, node_lines}
 use Rattle.bound_cert.specs.Reading.{body_at, head_at, head_of, mixed_at, mixed_node, node_at, priced_node, prices_at}
 use Rattle.bound_cert.specs.declared.nodes.Fraction.{Fraction}
 use Rattle.bound_cert.specs.declared.nodes.Head.{Head}
@@ -47,12 +47,12 @@ head_is other left h e = absurd (cc e)
 -- a node that was read: it is in order, its lines are those that are read, and it isn't too deep
 pub record NodeWas (t : Tables) (above : ℕ) (left : Left) (read : Node × Left) : Type 0 where
   pub order : IsNodeInOrder t read.0
-  pub text : left ≡ texts t (lines_at t read.0) ++ read.1
+  pub text : left ≡ texts t (node_lines t read.0) ++ read.1
   pub deep : above ≤ MAX_DEPTH
 
 record BodyWas (t : Tables) (h : Head) (rest : Left) (read : Node × Left) : Type 0 where
   order : IsNodeInOrder t read.0
-  text : line_bytes t (first_line h) ∷ rest ≡ texts t (lines_at t read.0) ++ read.1
+  text : line_bytes t (first_line h) ∷ rest ≡ texts t (node_lines t read.0) ++ read.1
 
 module _ (t : Tables) where
   -- prices behind a first line, alone and with a fractional assignment
@@ -84,14 +84,14 @@ module _ (t : Tables) where
   mixed_node_was fraction.Nodes prices mixed rest middle behind order other e f is =
       record { order = (order, (other)); text = prices_and_mixed says.OpenNodes prices mixed rest middle behind e f }
   mixed_node_was (fraction.Split leg fleet) prices mixed rest middle behind order other e f is =
-      record { order = (record { leg = is.named.0; choice = is.named.1 }, order, other); text = prices_and_mixed (says.Split leg fleet) prices mixed rest middle behind e f }
+      record { order = (is.named, order, other); text = prices_and_mixed (says.Split leg fleet) prices mixed rest middle behind e f }
 
   body_was : (h : Head) (rest : Left) (read : Node × Left) → body_at (names t) h rest ≡ Ok read → IsLineOf t (first_line h) → BodyWas t h rest read
   unfolding body_at
   body_was (head.Alone (alone.Bare leg)) rest read e is = subst (λ r. BodyWas t (head.Alone (alone.Bare leg)) rest r) (ok_same (node.Bare leg, rest) read e) (record { order = is.named; text = refl })
   body_was (head.Alone alone.Sole) rest read e is = subst (λ r. BodyWas t (head.Alone alone.Sole) rest r) (ok_same (node.Sole, rest) read e) (record { order = tt; text = refl })
   body_was (head.Alone (alone.Trim leg fleet)) rest read e is =
-      subst (λ r. BodyWas t (head.Alone (alone.Trim leg fleet)) rest r) (ok_same (node.Trim leg fleet, rest) read e) (record { order = record { leg = is.named.0; choice = is.named.1 }; text = refl })
+      subst (λ r. BodyWas t (head.Alone (alone.Trim leg fleet)) rest r) (ok_same (node.Trim leg fleet, rest) read e) (record { order = is.named; text = refl })
   body_was (head.Priced h) rest read e is =
       let prices = goes (prices_at (names t) rest) _ read e in
       let was = prices_were t rest prices.value prices.is in

@@ -4,7 +4,7 @@ use Rattle.bound_cert.proofs.TextLines.{LineIs, line_was}
 use Rattle.bound_cert.proofs.WrittenLines.{names}
 use Rattle.bound_cert.specs.Lines.{Left, line_due}
 use Rattle.bound_cert.specs.ProofText.{at_line, weight_line}
-use Rattle.bound_cert.specs.Reading.{in_order, is_needless, mixed_scale_at, mixed_scale_of, rent_at, rent_follows, rent_of, scale_at, scale_of, step_at, step_of, weight_at, weight_of}
+use Rattle.bound_cert.specs.Reading.{in_order, is_needless, mixed_scale_at, mixed_scale_of, rent_at, rent_follows, rent_of, said_at, scale_at, scale_of, step_at, step_of, weight_at, weight_of}
 use Rattle.dual_bound.specs.Order.{step_follows, weight_follows}
 use Rattle.dual_bound.specs.WrittenOrder.{IsStepInOrder, IsWeightInOrder}
 use Rattle.dual_bound.specs.declared.mixed.Weight.{Weight}
@@ -64,13 +64,13 @@ weight_is before other left entry e = absurd (cc e)
 
 module _ (t : Tables) where
   pub scale_was : (left : Left) (z : ℤ) → scale_at (names t) left ≡ Ok z → LineIs t left (says.Scale z)
-  unfolding scale_at
+  unfolding said_at
   scale_was left z e =
       let line = goes (line_due (names t) due.Scale left) _ z e in
       subst (LineIs t left) (scale_is line.value left z line.on) (line_was t due.Scale left line.value line.is)
 
   pub mixed_scale_was : (left : Left) (z : ℤ) → mixed_scale_at (names t) left ≡ Ok z → LineIs t left (says.Mixed z)
-  unfolding mixed_scale_at
+  unfolding said_at
   mixed_scale_was left z e =
       let line = goes (line_due (names t) due.Mixed left) _ z e in
       subst (LineIs t left) (mixed_scale_is line.value left z line.on) (line_was t due.Mixed left line.value line.is)
@@ -83,7 +83,7 @@ module _ (t : Tables) where
     pub not_0 : int_eq z (pos 0) ≡ false
 
   pub rent_was : (least : ℕ) (left : Left) (entry : ℕ × ℤ) → rent_at (names t) least left ≡ Ok entry → RentWas least left entry.0 entry.1
-  unfolding rent_at
+  unfolding said_at
   rent_was least left entry e =
       let line = goes (line_due (names t) due.Rent left) _ entry e in
       let is = rent_is least line.value left entry line.on in
@@ -102,7 +102,7 @@ module _ (t : Tables) where
     pub needed : is_needless (names t) step (drop 1 left) ≡ false
 
   pub step_was : (before : Option PriceStep) (left : Left) (step : PriceStep) → step_at (names t) before left ≡ Ok step → StepWas before left step
-  unfolding step_at
+  unfolding said_at
   step_was before left step e =
       let line = goes (line_due (names t) due.Step left) _ step e in
       let is = step_is (names t) before line.value left step line.on in
@@ -122,13 +122,13 @@ module _ (t : Tables) where
     pub follows : weight_follows before entry ≡ true
 
   pub weight_was : (before : Option Weight) (left : Left) (entry : Weight) → weight_at (names t) before left ≡ Ok entry → WeightWas before left entry
-  unfolding weight_at
+  unfolding said_at
   weight_was before left entry e =
       let line = goes (line_due (names t) due.Weight left) _ entry e in
       let is = weight_is before line.value left entry line.on in
       let was = subst (LineIs t left) is.line_is (line_was t due.Weight left line.value line.is) in
       record {
         line_is = was;
-        order = record { pair = record { leg = was.of_tables.named.0; choice = was.of_tables.named.1 }; weight = was.of_tables.figures };
+        order = record { pair = was.of_tables.named; weight = was.of_tables.figures };
         follows = is.follows;
       }

@@ -3,12 +3,11 @@ use Rattle.bound_cert.proofs.ReadBack.{either_way, goes, ok_same}
 use Rattle.bound_cert.proofs.TextLines.{LineIs, line_may, line_was}
 use Rattle.bound_cert.proofs.TextNodes.{node_was}
 use Rattle.bound_cert.proofs.WrittenLines.{names, texts, texts_append}
-use Rattle.bound_cert.proofs.WrittenNodes.{lines_at}
-use Rattle.bound_cert.proofs.WrittenTrees.{last, lines_of_nodes}
+use Rattle.bound_cert.proofs.WrittenTrees.{last}
 use Rattle.bound_cert.specs.Lines.{Left, Reading, left_of, line_due, may_stand}
 use Rattle.bound_cert.specs.Nodes.{Above, after_node, after_tree, end_at, head_is, nodes_from, nothing, plan_at, plan_of, proof_at, rest_at, tree_at}
-use Rattle.bound_cert.specs.ProofText.{all_lines, lines_of, proof_text, tree_lines}
-use Rattle.bound_cert.specs.Reading.{node_at}
+use Rattle.bound_cert.specs.ProofText.{all_lines, lines_of, proof_text, tree_lines, node_lines}
+use Rattle.bound_cert.specs.Reading.{node_at, said_at}
 use Rattle.bound_cert.specs.declared.faults.TheConstants.{BAD_LINE}
 use Rattle.dual_bound.specs.Leaves.{depth_of}
 use Rattle.dual_bound.specs.Nodes.{nodes_of}
@@ -43,7 +42,7 @@ Within above (n ∷ nodes) = (length above ≤ MAX_DEPTH) × Within (after_node 
 record NodesWere (t : Tables) (nodes : List Node) (above : Above) (left : Left) (read : List Node × Left) : Type 0 where
   new : List Node
   list : read.0 ≡ nodes ++ new
-  text : left ≡ texts t (flat_map (lines_at t) new) ++ read.1
+  text : left ≡ texts t (flat_map (node_lines t) new) ++ read.1
   each : All (IsNodeInOrder t) new
   deep : Within above new
 
@@ -60,7 +59,7 @@ nodes_were t (suc most) nodes above left read e =
     (record {
       new = n ∷ [];
       list = refl;
-      text = was.text ∙ ap (λ lines. texts t lines ++ next.value.1) (sym (append-nil (lines_at t n)));
+      text = was.text ∙ ap (λ lines. texts t lines ++ next.value.1) (sym (append-nil (node_lines t n)));
       each = All-cons (IsNodeInOrder t) n [] was.order (All-nil (IsNodeInOrder t));
       deep = (was.deep, tt);
     }))
@@ -69,7 +68,7 @@ nodes_were t (suc most) nodes above left read e =
     record {
       new = n ∷ more.new;
       list = more.list ∙ append_assoc nodes (n ∷ []) more.new;
-      text = was.text ∙ ap (λ rest. texts t (lines_at t n) ++ rest) more.text ∙ sym (texts_append t (lines_at t n) (flat_map (lines_at t) more.new) read.1);
+      text = was.text ∙ ap (λ rest. texts t (node_lines t n) ++ rest) more.text ∙ sym (texts_append t (node_lines t n) (flat_map (node_lines t) more.new) read.1);
       each = All-cons (IsNodeInOrder t) n more.new was.order more.each;
       deep = (was.deep, more.deep);
     })
@@ -120,7 +119,7 @@ plan_is (says.Plan b) left planned e = ap (λ b. says.Plan b) (ok_same b planned
 plan_is other left planned e = absurd (cc e)
 
 plan_was : (t : Tables) (left : Left) (planned : Bool) → plan_at (names t) left ≡ Ok planned → LineIs t left (says.Plan planned)
-unfolding plan_at
+unfolding said_at
 plan_was t left planned e =
     let line = goes (line_due (names t) due.Plan left) _ planned e in
     subst (LineIs t left) (plan_is line.value left planned line.on) (line_was t due.Plan left line.value line.is)
@@ -184,7 +183,7 @@ text_of_reading t bytes planned whole e =
     let plan_line_is = plan_was t (drop 1 left) answer.value answer.is in
     let deep = depth_is whole [] [] (subst (λ nodes. Within [] nodes) (nodes_are ∙ sym (append-nil (nodes_of whole))) were.deep) in
     let tree_text : third ≡ texts t (tree_lines t whole) ++ last t =
-    were.text ∙ ap (λ nodes. texts t (flat_map (lines_at t) nodes) ++ all.value.1) nodes_are ∙ ap (λ lines. texts t lines ++ all.value.1) (sym (lines_of_nodes t whole))
+    were.text ∙ ap (λ nodes. texts t (flat_map (node_lines t) nodes) ++ all.value.1) nodes_are
     ∙ ap (λ rest. texts t (tree_lines t whole) ++ rest) (end_was t all.value.1 ended.value ended.is) in
     let lines : left ≡ texts t (all_lines t planned whole) ++ [] ∷ [] =
     head_line_is

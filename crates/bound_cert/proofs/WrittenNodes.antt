@@ -3,7 +3,7 @@ use Rattle.bound_cert.proofs.ReadOn.{bound, chosen}
 use Rattle.bound_cert.proofs.WrittenLines.{begins_as, line_read, names, texts, texts_append}
 use Rattle.bound_cert.proofs.WrittenPrices.{IsBehind, mixed_read, prices_read, some_behind}
 use Rattle.bound_cert.specs.Lines.{Left, line_due, may_stand}
-use Rattle.bound_cert.specs.ProofText.{cause_lines, mixed_lines, open_line, price_lines, weight_line}
+use Rattle.bound_cert.specs.ProofText.{mixed_lines, node_lines, price_lines, weight_line}
 use Rattle.bound_cert.specs.Reading.{alone_node, body_at, deep_at, head_at, head_of, mixed_at, mixed_node, node_at, priced_node, prices_at}
 use Rattle.bound_cert.specs.declared.nodes.Alone.{Alone}
 use Rattle.bound_cert.specs.declared.nodes.Fraction.{Fraction}
@@ -32,16 +32,6 @@ use Rattle.bound_cert.specs.declared.reading_lines.Due.TheVariants as due
 use Rattle.dual_bound.specs.declared.nodes.Node.TheVariants as node
 use Rattle.dual_bound.specs.declared.trees.Cause.TheVariants as cause
 use Rattle.proof_lines.specs.declared.line.Line.TheVariants as says
-
--- the lines of a node without its children
-abbrev pub lines_at : Tables → Node → List Line
-lines_at t (node.Bare leg) = says.Bare leg ∷ []
-lines_at t node.Sole = says.Sole ∷ []
-lines_at t (node.Refuted prices) = says.Refuted ∷ price_lines t prices
-lines_at t (node.Priced prices) = says.Priced ∷ price_lines t prices
-lines_at t (node.Open prices why) = open_line why ∷ (price_lines t prices ++ cause_lines why)
-lines_at t (node.Trim leg fleet) = says.Trim leg fleet ∷ []
-lines_at t (node.Split leg fleet prices mixed) = says.Split leg fleet ∷ (price_lines t prices ++ mixed_lines mixed)
 
 -- the first line of a node, by what it says
 abbrev pub first_line : Head → Line
@@ -92,7 +82,7 @@ module _ (t : Tables) where
   pub record NodeReads (n : Node) : Type 0 where
     pub first : Head
     pub others : List Line
-    pub lines : lines_at t n ≡ first_line first ∷ others
+    pub lines : node_lines t n ≡ first_line first ∷ others
     pub of_tables : IsLineOf t (first_line first)
     pub body : (behind : Left) → IsBehind behind → body_at (names t) first (texts t others ++ behind) ≡ Ok (n, behind)
 
@@ -131,7 +121,7 @@ module _ (t : Tables) where
       bound (prices_at (names t) (texts t (price_lines t prices ++ mixed_lines mixed) ++ behind)) (prices, texts t (mixed_lines mixed) ++ behind) _ (prices_then prices mixed behind are)
       ∙ bound (mixed_at (names t) (texts t (mixed_lines mixed) ++ behind)) (mixed, behind) _ (mixed_read t mixed behind is ends)
 
-  priced_reads : (said : Priced) (prices : Prices) → lines_at t (priced_node said prices) ≡ first_line (head.Priced said) ∷ (price_lines t prices ++ []) → IsLineOf t (first_line (head.Priced said)) → ArePricesInOrder t prices
+  priced_reads : (said : Priced) (prices : Prices) → node_lines t (priced_node said prices) ≡ first_line (head.Priced said) ∷ (price_lines t prices ++ []) → IsLineOf t (first_line (head.Priced said)) → ArePricesInOrder t prices
       → NodeReads (priced_node said prices)
   priced_reads said prices lines is are = record {
     first = head.Priced said;
@@ -141,7 +131,7 @@ module _ (t : Tables) where
     body = λ behind ends. priced_body said prices behind are ends;
   }
 
-  mixed_reads : (said : Fraction) (prices : Prices) (mixed : Mixed) → lines_at t (mixed_node said prices mixed) ≡ first_line (head.Mixed said) ∷ (price_lines t prices ++ mixed_lines mixed) → IsLineOf t (first_line (head.Mixed said))
+  mixed_reads : (said : Fraction) (prices : Prices) (mixed : Mixed) → node_lines t (mixed_node said prices mixed) ≡ first_line (head.Mixed said) ∷ (price_lines t prices ++ mixed_lines mixed) → IsLineOf t (first_line (head.Mixed said))
       → ArePricesInOrder t prices → IsMixedInOrder t mixed → NodeReads (mixed_node said prices mixed)
   mixed_reads said prices mixed lines is are of_mixed = record {
     first = head.Mixed said;
@@ -151,14 +141,14 @@ module _ (t : Tables) where
     body = λ behind ends. mixed_body said prices mixed behind are of_mixed ends;
   }
 
-  alone_reads : (said : Alone) → lines_at t (alone_node said) ≡ first_line (head.Alone said) ∷ [] → IsLineOf t (first_line (head.Alone said)) → NodeReads (alone_node said)
+  alone_reads : (said : Alone) → node_lines t (alone_node said) ≡ first_line (head.Alone said) ∷ [] → IsLineOf t (first_line (head.Alone said)) → NodeReads (alone_node said)
   unfolding body_at
   alone_reads said lines is = record { first = head.Alone said; others = []; lines = lines; of_tables = is; body = λ behind ends. refl }
 
   pub node_reads : (n : Node) → IsNodeInOrder t n → NodeReads n
   node_reads (node.Bare leg) is = alone_reads (alone.Bare leg) refl (record { named = is; figures = tt })
   node_reads node.Sole is = alone_reads alone.Sole refl (record { named = tt; figures = tt })
-  node_reads (node.Trim leg fleet) is = alone_reads (alone.Trim leg fleet) refl (record { named = (is.leg, is.choice); figures = tt })
+  node_reads (node.Trim leg fleet) is = alone_reads (alone.Trim leg fleet) refl (record { named = is; figures = tt })
   node_reads (node.Refuted prices) is = priced_reads priced.Refuted prices (ap (λ lines. says.Refuted ∷ lines) (sym (append-nil (price_lines t prices)))) (record { named = tt; figures = tt }) is
   node_reads (node.Priced prices) is = priced_reads priced.Closed prices (ap (λ lines. says.Priced ∷ lines) (sym (append-nil (price_lines t prices)))) (record { named = tt; figures = tt }) is
   node_reads (node.Open prices (cause.Nodes mixed)) is = mixed_reads fraction.Nodes prices mixed refl (record { named = tt; figures = tt }) is.0 is.1
@@ -166,16 +156,16 @@ module _ (t : Tables) where
   node_reads (node.Open prices (cause.Grew pivots row column)) is =
       priced_reads (priced.Grew pivots row column) prices refl (record { named = tt; figures = (is.1.0.held, is.1.1.held, is.1.2.held) }) is.0
   node_reads (node.Open prices (cause.Lift step at)) is = priced_reads (priced.Lift step at) prices refl (record { named = tt; figures = (is.1.0.held, is.1.1.held) }) is.0
-  node_reads (node.Split leg fleet prices mixed) is = mixed_reads (fraction.Split leg fleet) prices mixed refl (record { named = (is.0.leg, is.0.choice); figures = tt }) is.1 is.2
+  node_reads (node.Split leg fleet prices mixed) is = mixed_reads (fraction.Split leg fleet) prices mixed refl (record { named = is.0; figures = tt }) is.1 is.2
 
-  pub node_read : (above : ℕ) (n : Node) (behind : Left) → IsNodeInOrder t n → above ≤ MAX_DEPTH → IsBehind behind → node_at (names t) above (texts t (lines_at t n) ++ behind) ≡ Ok (n, behind)
+  pub node_read : (above : ℕ) (n : Node) (behind : Left) → IsNodeInOrder t n → above ≤ MAX_DEPTH → IsBehind behind → node_at (names t) above (texts t (node_lines t n) ++ behind) ≡ Ok (n, behind)
   unfolding node_at head_at
   node_read above n behind is shallow ends =
       let reads = node_reads n is in
       let line = first_line reads.first in
       let rest : Left = texts t reads.others ++ behind in
       let left : Left = line_bytes t line ∷ rest in
-      let whole : texts t (lines_at t n) ++ behind ≡ left = ap (λ lines. texts t lines ++ behind) reads.lines in
+      let whole : texts t (node_lines t n) ++ behind ≡ left = ap (λ lines. texts t lines ++ behind) reads.lines in
       let deep : deep_at above reads.first left ≡ Ok reads.first = chosen (nat_le above MAX_DEPTH) _ _ (grind (arith, nat_tests, shallow)) in
       let first : head_at (names t) above left ≡ Ok reads.first =
       bound (line_due (names t) due.Node left) line _ (line_read t due.Node line rest reads.of_tables (begins_node reads.first).node (some_behind t reads.others behind ends.some))
@@ -183,7 +173,7 @@ module _ (t : Tables) where
       ap (node_at (names t) above) whole ∙ bound (head_at (names t) above left) reads.first _ first ∙ reads.body behind ends
 
   -- a node's line is of another kind than a rent, a step or a weight
-  pub before_node : (n : Node) (more : List Line) (behind : Left) → IsNodeInOrder t n → IsBehind (texts t (lines_at t n ++ more) ++ behind)
+  pub before_node : (n : Node) (more : List Line) (behind : Left) → IsNodeInOrder t n → IsBehind (texts t (node_lines t n ++ more) ++ behind)
   before_node n more behind is =
       let reads = node_reads n is in
       let begins = begins_node reads.first in

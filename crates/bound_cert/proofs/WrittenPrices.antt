@@ -1,9 +1,9 @@
 -- Prices and fractional assignments in written order are what their lines read as.
-use Rattle.bound_cert.proofs.ReadOn.{begins, bound, chosen, padded_more, refused, rents_end, rents_more, steps_end, steps_more, weights_end, weights_more}
+use Rattle.bound_cert.proofs.ReadOn.{begins, bound, chosen, entries_end, entries_more, padded_more, refused}
 use Rattle.bound_cert.proofs.WrittenLines.{begins_as, line_read, names, texts}
 use Rattle.bound_cert.specs.Lines.{Left, line_due, may_stand}
 use Rattle.bound_cert.specs.ProofText.{at_line, mixed_lines, price_lines, rent_lines, rent_lines_at, weight_line}
-use Rattle.bound_cert.specs.Reading.{first_words, in_order, is_needless, mixed_at, mixed_scale_at, padded, prices_at, rent_at, rent_follows, rents_from, scale_at, step_at, steps_from, weight_at, weights_from}
+use Rattle.bound_cert.specs.Reading.{first_words, in_order, is_needless, mixed_at, mixed_scale_at, padded, prices_at, rent_at, rent_follows, rent_series, rents_from, said_at, scale_at, step_at, step_series, steps_from, weight_at, weight_series, weights_from}
 use Rattle.bound_cert.specs.declared.reading_lines.Due.{Due}
 use Rattle.dual_bound.specs.OfTables.{IsStepOf}
 use Rattle.dual_bound.specs.Order.{same_place, step_follows, weight_follows}
@@ -59,12 +59,12 @@ module _ (t : Tables) where
   -- scales
 
   pub scale_read : (z : ℤ) (rest : Left) → IsFigure z → 0 < length rest → scale_at (names t) (line_bytes t (says.Scale z) ∷ rest) ≡ Ok z
-  unfolding scale_at
+  unfolding said_at
   scale_read z rest is some =
       bound (line_due (names t) due.Scale (line_bytes t (says.Scale z) ∷ rest)) (says.Scale z) _ (line_read t due.Scale (says.Scale z) rest (record { named = tt; figures = is }) refl some)
 
   pub mixed_scale_read : (z : ℤ) (rest : Left) → IsFigure z → 0 < length rest → mixed_scale_at (names t) (line_bytes t (says.Mixed z) ∷ rest) ≡ Ok z
-  unfolding mixed_scale_at
+  unfolding said_at
   mixed_scale_read z rest is some =
       bound (line_due (names t) due.Mixed (line_bytes t (says.Mixed z) ∷ rest)) (says.Mixed z) _ (line_read t due.Mixed (says.Mixed z) rest (record { named = tt; figures = is }) refl some)
 
@@ -72,7 +72,7 @@ module _ (t : Tables) where
 
   rent_read : (least f : ℕ) (z : ℤ) (rest : Left) → f < fleets_in t → least ≤ f → IsFigure z → int_eq z (pos 0) ≡ false → 0 < length rest
       → rent_at (names t) least (line_bytes t (says.Rent f z) ∷ rest) ≡ Ok (f, z)
-  unfolding rent_at
+  unfolding said_at
   rent_read least f z rest fleet later is not_0 some =
       let left : Left = line_bytes t (says.Rent f z) ∷ rest in
       let follows : rent_follows least f z ≡ true = rw not_0 (rw (in_range later) refl) in
@@ -112,7 +112,7 @@ module _ (t : Tables) where
   unfolding lines_from
   rents_so_far prices zero first done behind figures one_each all few so_far some ends =
       let last : fleets_in t ≡ first = omega (arith, all) in
-      rents_end (names t) done behind ends
+      entries_end (rent_series (names t)) done behind ends
       ∙ ap (λ rents. Ok (rents, behind)) (ap (padded done) (fleet_count t ∙ last) ∙ so_far ∙ take_all first prices.rents (omega (arith, all, one_each)))
   rents_so_far prices (suc n) first done behind figures one_each all few so_far some ends =
       by_rent (λ grown short is. rents_so_far prices n (first + 1) grown behind figures one_each (omega (arith, all)) short is some ends) (int_eq (rent_of prices first) (pos 0)) refl
@@ -138,7 +138,7 @@ module _ (t : Tables) where
           let grown_len : length grown ≡ first + 1 = ap length grown_is ∙ length-take-le (first + 1) prices.rents (omega (arith, within)) in
           let fleet : first < fleets_in t = omega (arith, all) in
           ap (λ lines. rents_from (names t) done (texts t lines ++ behind)) (lines_with prices first n not_0)
-          ∙ rents_more (names t) done (line_bytes t line ∷ rest) (first, rent) (begins_as t line rest due.Rent true fleet refl)
+          ∙ entries_more (rent_series (names t)) done (line_bytes t line ∷ rest) (first, rent) (begins_as t line rest due.Rent true fleet refl)
           (rent_read (length done) first rent rest fleet few (figures first (pos 0) within) not_0 (some_behind t (lines_from prices (first + 1) n) behind some))
           ∙ on grown (omega (arith, grown_len)) (pad_none grown (first + 1) grown_len ∙ grown_is)
 
@@ -154,7 +154,7 @@ module _ (t : Tables) where
 
   pub step_read : (before : Option PriceStep) (step : PriceStep) (rest : Left) → IsStepInOrder t step → step_follows before step ≡ true → is_needless (names t) step rest ≡ false → 0 < length rest
       → step_at (names t) before (line_bytes t (at_line step) ∷ rest) ≡ Ok step
-  unfolding step_at
+  unfolding said_at
   step_read before step rest is follows needed some =
       let left : Left = line_bytes t (at_line step) ∷ rest in
       let fit : (step_follows before step && not (is_needless (names t) step rest)) ≡ true = rw (follows, needed) refl in
@@ -185,12 +185,12 @@ module _ (t : Tables) where
   pub steps_read : (steps done : List PriceStep) (before : Option PriceStep) (behind : Left) → All (IsStepInOrder t) steps → All (IsStepOf t) steps → StepsFollow before steps → NoLoneZero steps
       → 0 < length behind → begins behind due.Step ≡ false → steps_from (names t) done before (texts t (map at_line steps) ++ behind) ≡ Ok (done ++ steps, behind)
   steps_read [] done before behind are of follow no_lone some ends =
-      steps_end (names t) done before behind ends ∙ ap (λ steps. Ok (steps, behind)) (sym (append-nil done))
+      entries_end (step_series (names t)) (done, before) behind ends ∙ ap (λ steps. Ok (steps, behind)) (sym (append-nil done))
   steps_read (step ∷ steps) done before behind are of follow no_lone some ends =
       let rest : Left = texts t (map at_line steps) ++ behind in
       let needed = needed_by (step.minute == 0) (int_eq step.value (pos 0)) (goes_on step steps) (is_step_of (names t) step.fleet step.station (first_words rest)) no_lone.0
       (next_begins step steps behind (All-tail (IsStepOf t) step steps of)) in
-      steps_more (names t) done before (line_bytes t (at_line step) ∷ rest) step (begins_as t (at_line step) rest due.Step true (step_line step (All-head (IsStepInOrder t) step steps are)).named refl)
+      entries_more (step_series (names t)) (done, before) (line_bytes t (at_line step) ∷ rest) step (begins_as t (at_line step) rest due.Step true (step_line step (All-head (IsStepInOrder t) step steps are)).named refl)
       (step_read before step rest (All-head (IsStepInOrder t) step steps are) (true_is (step_follows before step) follow.0) needed (some_behind t (map at_line steps) behind some))
       ∙ steps_read steps (done ++ step ∷ []) (Some step) behind (All-tail (IsStepInOrder t) step steps are) (All-tail (IsStepOf t) step steps of) follow.1 no_lone.1 some ends
       ∙ ap (λ steps. Ok (steps, behind)) (append_assoc done (step ∷ []) steps)
@@ -231,11 +231,11 @@ module _ (t : Tables) where
   -- weights
 
   weight_named : (entry : Weight) → IsWeightInOrder t entry → IsLineOf t (weight_line entry)
-  weight_named entry is = record { named = (is.pair.leg, is.pair.choice); figures = is.weight }
+  weight_named entry is = record { named = is.pair; figures = is.weight }
 
   weight_read : (before : Option Weight) (entry : Weight) (rest : Left) → IsWeightInOrder t entry → weight_follows before entry ≡ true → 0 < length rest
       → weight_at (names t) before (line_bytes t (weight_line entry) ∷ rest) ≡ Ok entry
-  unfolding weight_at
+  unfolding said_at
   weight_read before entry rest is follows some =
       let left : Left = line_bytes t (weight_line entry) ∷ rest in
       bound (line_due (names t) due.Weight left) (weight_line entry) _ (line_read t due.Weight (weight_line entry) rest (weight_named entry is) refl some)
@@ -244,11 +244,11 @@ module _ (t : Tables) where
   weights_read : (weights done : List Weight) (before : Option Weight) (behind : Left) → All (IsWeightInOrder t) weights → WeightsFollow before weights → 0 < length behind
       → begins behind due.Weight ≡ false → weights_from (names t) done before (texts t (map weight_line weights) ++ behind) ≡ Ok (done ++ weights, behind)
   weights_read [] done before behind are follow some ends =
-      weights_end (names t) done before behind ends ∙ ap (λ weights. Ok (weights, behind)) (sym (append-nil done))
+      entries_end (weight_series (names t)) (done, before) behind ends ∙ ap (λ weights. Ok (weights, behind)) (sym (append-nil done))
   weights_read (entry ∷ weights) done before behind are follow some ends =
       let rest : Left = texts t (map weight_line weights) ++ behind in
       let is = All-head (IsWeightInOrder t) entry weights are in
-      weights_more (names t) done before (line_bytes t (weight_line entry) ∷ rest) entry (begins_as t (weight_line entry) rest due.Weight true (weight_named entry is).named refl)
+      entries_more (weight_series (names t)) (done, before) (line_bytes t (weight_line entry) ∷ rest) entry (begins_as t (weight_line entry) rest due.Weight true (weight_named entry is).named refl)
       (weight_read before entry rest is (true_is (weight_follows before entry) follow.0) (some_behind t (map weight_line weights) behind some))
       ∙ weights_read weights (done ++ entry ∷ []) (Some entry) behind (All-tail (IsWeightInOrder t) entry weights are) follow.1 some ends
       ∙ ap (λ weights. Ok (weights, behind)) (append_assoc done (entry ∷ []) weights)

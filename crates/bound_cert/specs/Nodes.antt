@@ -9,7 +9,7 @@ use Rattle.proof_lines.specs.declared.line.Line.TheVariants as line
 use Rattle.proof_lines.specs.declared.line.Version.{Version}
 use Rattle.proof_lines.specs.declared.line.Version.TheVariants as version
 use Rattle.bound_cert.specs.Lines.{Left, Reading, ◌>>=◌, line_due, stopped}
-use Rattle.bound_cert.specs.Reading.{node_at, other_line}
+use Rattle.bound_cert.specs.Reading.{node_at, other_line, said_at}
 use Rattle.bound_cert.specs.declared.faults.TheConstants.{BAD_LINE, TEXT_ENDS, WRONG_HEAD, WRONG_WORD}
 use Rattle.bound_cert.specs.declared.nodes.Inner.{Inner}
 use Rattle.bound_cert.specs.declared.nodes.Inner.TheVariants as inner
@@ -59,8 +59,8 @@ abbrev pub plan_of : Line → Left → Reading Bool
 plan_of (line.Plan planned) left = Ok planned
 plan_of other left = other_line left
 
-unfoldable pub plan_at : Naming → Left → Reading Bool
-plan_at n left = line_due n due.Plan left >>= λ line. plan_of line left
+abbrev pub plan_at : Naming → Left → Reading Bool
+plan_at n = said_at n due.Plan plan_of
 
 -- nothing is left
 unfoldable pub nothing : Left → Reading ⊤

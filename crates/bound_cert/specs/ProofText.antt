@@ -1,18 +1,20 @@
 -- The text of a proof of a bound: its lines, as they are written and read.
-use Rattle.std.specs.Prelude.{ℕ, Bool, if◌then◌else◌, List, [], ◌∷◌, ◌++◌, map, pos}
+use Rattle.std.specs.Prelude.{ℕ, Bool, if◌then◌else◌, List, [], ◌∷◌, ◌++◌, map, pos, slice_index_or}
 use Rattle.std.specs.List.{flat_map, range_with_len}
 use Rattle.std.specs.Ordering.{int_eq}
 use Rattle.fleet_model.specs.Schedule.{fleets_in}
 use Rattle.fleet_model.specs.declared.tables.Tables.{Tables}
+use Rattle.dual_bound.specs.Nodes.{nodes_of}
 use Rattle.dual_bound.specs.Prices.{rent_of}
 use Rattle.dual_bound.specs.declared.mixed.Mixed.{Mixed}
 use Rattle.dual_bound.specs.declared.mixed.Weight.{Weight}
+use Rattle.dual_bound.specs.declared.nodes.Node.{Node}
+use Rattle.dual_bound.specs.declared.nodes.Node.TheVariants as node
 use Rattle.dual_bound.specs.declared.prices.Prices.{Prices}
 use Rattle.dual_bound.specs.declared.prices.PriceStep.{PriceStep}
 use Rattle.dual_bound.specs.declared.trees.Cause.{Cause}
 use Rattle.dual_bound.specs.declared.trees.Cause.TheVariants as cause
 use Rattle.dual_bound.specs.declared.trees.Tree.{Tree}
-use Rattle.dual_bound.specs.declared.trees.Tree.TheVariants as tree
 use Rattle.proof_lines.specs.LineText.{line_words, text_of}
 use Rattle.proof_lines.specs.Words.{Word}
 use Rattle.proof_lines.specs.declared.line.Line.{Line}
@@ -61,26 +63,22 @@ cause_lines (cause.Grew pivots row column) = []
 cause_lines (cause.Lift step at) = []
 
 -- the lines of a node itself, without those of its children
-abbrev pub node_lines : Tables → Tree → List Line
-node_lines t (tree.Bare leg) = line.Bare leg ∷ []
-node_lines t tree.Sole = line.Sole ∷ []
-node_lines t (tree.Refuted prices) = line.Refuted ∷ price_lines t prices
-node_lines t (tree.Priced prices) = line.Priced ∷ price_lines t prices
-node_lines t (tree.Open prices why) = open_line why ∷ (price_lines t prices ++ cause_lines why)
-node_lines t (tree.Trim' leg fleet p with_pair q without) = line.Trim leg fleet ∷ []
-node_lines t (tree.Split' leg fleet prices mixed p with_pair q without) = line.Split leg fleet ∷ (price_lines t prices ++ mixed_lines mixed)
+abbrev pub node_lines : Tables → Node → List Line
+node_lines t (node.Bare leg) = line.Bare leg ∷ []
+node_lines t node.Sole = line.Sole ∷ []
+node_lines t (node.Refuted prices) = line.Refuted ∷ price_lines t prices
+node_lines t (node.Priced prices) = line.Priced ∷ price_lines t prices
+node_lines t (node.Open prices why) = open_line why ∷ (price_lines t prices ++ cause_lines why)
+node_lines t (node.Trim leg choice) = line.Trim leg choice ∷ []
+node_lines t (node.Split leg choice prices mixed) = line.Split leg choice ∷ (price_lines t prices ++ mixed_lines mixed)
 
--- the lines of a tree: each node's before those of its children, and of these those of `yes` first
+-- the node at the top of a tree
+abbrev pub root_of : Tree → Node
+root_of tree = slice_index_or (nodes_of tree) 0 node.Sole
+
+-- the lines of a tree: those of its nodes, each before its children, and of these those of `yes` first
 abbrev pub tree_lines : Tables → Tree → List Line
-tree_lines t (tree.Bare leg) = node_lines t (tree.Bare leg)
-tree_lines t tree.Sole = node_lines t tree.Sole
-tree_lines t (tree.Refuted prices) = node_lines t (tree.Refuted prices)
-tree_lines t (tree.Priced prices) = node_lines t (tree.Priced prices)
-tree_lines t (tree.Open prices why) = node_lines t (tree.Open prices why)
-tree_lines t (tree.Trim' leg fleet p with_pair q without) =
-    node_lines t (tree.Trim' leg fleet p with_pair q without) ++ (tree_lines t with_pair ++ tree_lines t without)
-tree_lines t (tree.Split' leg fleet prices mixed p with_pair q without) =
-    node_lines t (tree.Split' leg fleet prices mixed p with_pair q without) ++ (tree_lines t with_pair ++ tree_lines t without)
+tree_lines t tree = flat_map (node_lines t) (nodes_of tree)
 
 -- the lines of a proof: the head, whether a plan comes with it, the tree, the end; and each as its words
 abbrev pub all_lines : Tables → Bool → Tree → List Line

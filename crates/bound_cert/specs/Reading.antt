@@ -25,6 +25,7 @@ use Rattle.bound_cert.specs.declared.nodes.Priced.{Priced}
 use Rattle.bound_cert.specs.declared.nodes.Priced.TheVariants as priced
 use Rattle.dual_bound.specs.declared.prices.Prices.{Prices}
 use Rattle.dual_bound.specs.declared.prices.PriceStep.{PriceStep}
+use Rattle.bound_cert.specs.declared.reading_lines.Due.{Due}
 use Rattle.bound_cert.specs.declared.reading_lines.Due.TheVariants as due
 use Rattle.dual_bound.specs.declared.trees.Cause.TheVariants as cause
 
@@ -37,6 +38,29 @@ in_order false left = stopped left WRONG_ORDER
 abbrev pub other_line : {A : Type 0} → Left → Reading A
 other_line left = stopped left WRONG_WORD
 
+-- what the first line that is left says, which is due to be of a kind
+unfoldable pub said_at : {A : Type 0} → Naming → Due → (Line → Left → Reading A) → Left → Reading A
+said_at n kind say left = line_due n kind left >>= λ line. say line left
+
+-- a series of lines of one kind: what the next line says behind what is read so far, what is read with that, and what all of
+-- it makes
+pub record Series (S A B : Type 0) : Type 0 where
+  pub names : Naming
+  pub kind : Due
+  pub say : S → Line → Left → Reading A
+  pub grow : S → A → S
+  pub all : S → B
+
+abbrev pub entry_at : {S A B : Type 0} → Series S A B → S → Left → Reading A
+entry_at s so_far = said_at s.names s.kind (s.say so_far)
+
+-- what a series makes, from what is read so far, and what is left behind its lines
+unfoldable pub entries_from : {S A B : Type 0} → Series S A B → S → Left → Reading (B × Left)
+entries_from s so_far [] = Ok (s.all so_far, [])
+entries_from s so_far (line ∷ rest) =
+    if fits s.kind (form_in (words_of line)) then (entry_at s so_far (line ∷ rest) >>= λ entry. entries_from s (s.grow so_far entry) rest)
+    else Ok (s.all so_far, line ∷ rest)
+
 -- the scale that a line of prices or of a fractional assignment says
 abbrev pub scale_of : Line → Left → Reading ℤ
 scale_of (line.Scale scale) left = Ok scale
@@ -46,12 +70,11 @@ abbrev pub mixed_scale_of : Line → Left → Reading ℤ
 mixed_scale_of (line.Mixed scale) left = Ok scale
 mixed_scale_of other left = other_line left
 
--- the same of the first line that is left
-unfoldable pub scale_at : Naming → Left → Reading ℤ
-scale_at n left = line_due n due.Scale left >>= λ line. scale_of line left
+abbrev pub scale_at : Naming → Left → Reading ℤ
+scale_at n = said_at n due.Scale scale_of
 
-unfoldable pub mixed_scale_at : Naming → Left → Reading ℤ
-mixed_scale_at n left = line_due n due.Mixed left >>= λ line. mixed_scale_of line left
+abbrev pub mixed_scale_at : Naming → Left → Reading ℤ
+mixed_scale_at n = said_at n due.Mixed mixed_scale_of
 
 -- a rent may follow: it isn't 0, and its fleet is no less than this one
 abbrev pub rent_follows : ℕ → ℕ → ℤ → Bool
@@ -62,20 +85,25 @@ abbrev pub rent_of : ℕ → Line → Left → Reading (ℕ × ℤ)
 rent_of least (line.Rent fleet rent) left = in_order (rent_follows least fleet rent) left >>= λ order. Ok (fleet, rent)
 rent_of least other left = other_line left
 
-unfoldable pub rent_at : Naming → ℕ → Left → Reading (ℕ × ℤ)
-rent_at n least left = line_due n due.Rent left >>= λ line. rent_of least line left
+abbrev pub rent_at : Naming → ℕ → Left → Reading (ℕ × ℤ)
+rent_at n least = said_at n due.Rent (rent_of least)
 
 -- rents of so many fleets: those that are known, and 0 for the others
 abbrev pub padded : List ℤ → ℕ → List ℤ
 padded rents fleets = rents ++ replicate (fleets - length rents) (pos 0)
 
 -- the rents of all fleets, from those that are read so far, and what is left behind their lines
-unfoldable pub rents_from : Naming → List ℤ → Left → Reading (List ℤ × Left)
-rents_from n rents [] = Ok (padded rents (length n.fleets), [])
-rents_from n rents (line ∷ rest) =
-    if fits due.Rent (form_in (words_of line))
-    then (rent_at n (length rents) (line ∷ rest) >>= λ entry. rents_from n (padded rents entry.0 ++ entry.1 ∷ []) rest)
-    else Ok (padded rents (length n.fleets), line ∷ rest)
+abbrev pub rent_series : Naming → Series (List ℤ) (ℕ × ℤ) (List ℤ)
+rent_series n = record {
+  names = n;
+  kind = due.Rent;
+  say = λ rents. rent_of (length rents);
+  grow = λ rents entry. padded rents entry.0 ++ entry.1 ∷ [];
+  all = λ rents. padded rents (length n.fleets);
+}
+
+abbrev pub rents_from : Naming → List ℤ → Left → Reading (List ℤ × Left)
+rents_from n = entries_from (rent_series n)
 
 -- the words of the first line that is left
 abbrev pub first_words : Left → List Word
@@ -94,16 +122,19 @@ abbrev pub step_of : Naming → Option PriceStep → Line → Left → Reading P
 step_of n before (line.At fleet station minute value) left = step_in_order n before (record { fleet = fleet; station = station; minute = minute; value = value }) left
 step_of n before other left = other_line left
 
-unfoldable pub step_at : Naming → Option PriceStep → Left → Reading PriceStep
-step_at n before left = line_due n due.Step left >>= λ line. step_of n before line left
+abbrev pub step_at : Naming → Option PriceStep → Left → Reading PriceStep
+step_at n before = said_at n due.Step (step_of n before)
+
+-- entries that are read so far, with one more, and the last of them
+abbrev pub with_last : {A : Type 0} → List A × Option A → A → List A × Option A
+with_last so_far entry = (so_far.0 ++ entry ∷ [], Some entry)
 
 -- the steps, from those that are read so far and the last of them, and what is left behind their lines
-unfoldable pub steps_from : Naming → List PriceStep → Option PriceStep → Left → Reading (List PriceStep × Left)
-steps_from n steps before [] = Ok (steps, [])
-steps_from n steps before (line ∷ rest) =
-    if fits due.Step (form_in (words_of line))
-    then (step_at n before (line ∷ rest) >>= λ step. steps_from n (steps ++ step ∷ []) (Some step) rest)
-    else Ok (steps, line ∷ rest)
+abbrev pub step_series : Naming → Series (List PriceStep × Option PriceStep) PriceStep (List PriceStep)
+step_series n = record { names = n; kind = due.Step; say = λ so_far. step_of n so_far.1; grow = with_last; all = λ so_far. so_far.0 }
+
+abbrev pub steps_from : Naming → List PriceStep → Option PriceStep → Left → Reading (List PriceStep × Left)
+steps_from n steps before = entries_from (step_series n) (steps, before)
 
 -- the prices that the next lines say, and what is left behind them
 unfoldable pub prices_at : Naming → Left → Reading (Prices × Left)
@@ -121,16 +152,15 @@ abbrev pub weight_of : Option Weight → Line → Left → Reading Weight
 weight_of before (line.Weight leg choice weight) left = weight_in_order before (record { leg = leg; choice = choice; weight = weight }) left
 weight_of before other left = other_line left
 
-unfoldable pub weight_at : Naming → Option Weight → Left → Reading Weight
-weight_at n before left = line_due n due.Weight left >>= λ line. weight_of before line left
+abbrev pub weight_at : Naming → Option Weight → Left → Reading Weight
+weight_at n before = said_at n due.Weight (weight_of before)
 
 -- the weights, from those that are read so far and the last of them, and what is left behind their lines
-unfoldable pub weights_from : Naming → List Weight → Option Weight → Left → Reading (List Weight × Left)
-weights_from n weights before [] = Ok (weights, [])
-weights_from n weights before (line ∷ rest) =
-    if fits due.Weight (form_in (words_of line))
-    then (weight_at n before (line ∷ rest) >>= λ entry. weights_from n (weights ++ entry ∷ []) (Some entry) rest)
-    else Ok (weights, line ∷ rest)
+abbrev pub weight_series : Naming → Series (List Weight × Option Weight) Weight (List Weight)
+weight_series n = record { names = n; kind = due.Weight; say = λ so_far. weight_of so_far.1; grow = with_last; all = λ so_far. so_far.0 }
+
+abbrev pub weights_from : Naming → List Weight → Option Weight → Left → Reading (List Weight × Left)
+weights_from n weights before = entries_from (weight_series n) (weights, before)
 
 -- the fractional assignment that the next lines say, and what is left behind them
 unfoldable pub mixed_at : Naming → Left → Reading (Mixed × Left)

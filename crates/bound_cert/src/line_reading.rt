@@ -1,9 +1,10 @@
 //! Single lines of prices and fractional assignments, read.
 ghost use Rattle.std.specs.Prelude.{◌≡◌, drop, IfOk};
 ghost use Rattle.proof_lines.specs.Known.{naming};
+ghost use Rattle.proof_lines.specs.Reading.{is_step_of};
 ghost use Rattle.proof_lines.specs.Words.{seen};
 ghost use Rattle.bound_cert.specs.Lines.{Gives};
-ghost use Rattle.bound_cert.specs.Reading.{in_order, is_needless, mixed_scale_at, mixed_scale_of, rent_follows, rent_of, scale_at, scale_of, step_in_order, step_of, weight_in_order, weight_of};
+ghost use Rattle.bound_cert.specs.Reading.{first_words, in_order, is_needless, mixed_scale_at, mixed_scale_of, rent_follows, rent_of, scale_at, scale_of, step_in_order, step_of, weight_in_order, weight_of};
 ghost use Rattle.bound_cert.specs.Wants.{WantsNone};
 ghost use Rattle.dual_bound.specs.Order.{place_before, same_place, step_follows, weight_follows};
 
@@ -27,8 +28,8 @@ fn in_order(is: bool, left: &[&[u8]]) -> Result<(), Stop>
 }
 
 /// The scale of prices that the first line says.
-#[tactic(auto, unfolding(crate::specs::Reading::scale_at))]
-pub fn scale_at(alloc: Global, grammar: &Grammar, left: &[&[u8]]) -> Result<i128, Stop>
+#[tactic(auto, unfolding(crate::specs::Reading::said_at))]
+pub fn scale_at(alloc: Global, grammar: &Grammar<'_>, left: &[&[u8]]) -> Result<i128, Stop>
     ensures { Gives (λ scale. scale) result (scale_at (naming grammar.now) (seen left.now)) }
 {
     let line = line_due(alloc, grammar, Due::Scale, left)?;
@@ -47,8 +48,8 @@ fn scale_of(line: Line, left: &[&[u8]]) -> Result<i128, Stop>
 }
 
 /// The scale of a fractional assignment that the first line says.
-#[tactic(auto, unfolding(crate::specs::Reading::mixed_scale_at))]
-pub fn mixed_scale_at(alloc: Global, grammar: &Grammar, left: &[&[u8]]) -> Result<i128, Stop>
+#[tactic(auto, unfolding(crate::specs::Reading::said_at))]
+pub fn mixed_scale_at(alloc: Global, grammar: &Grammar<'_>, left: &[&[u8]]) -> Result<i128, Stop>
     ensures { Gives (λ scale. scale) result (mixed_scale_at (naming grammar.now) (seen left.now)) }
 {
     let line = line_due(alloc, grammar, Due::Mixed, left)?;
@@ -90,7 +91,7 @@ fn rent_follows(least: usize, entry: &(u32, i128)) -> bool
 /// The step that a line says in its order, behind the step before.
 pub fn step_of(
     alloc: Global,
-    grammar: &Grammar,
+    grammar: &Grammar<'_>,
     before: &Option<PriceStep>,
     line: Line,
     left: &[&[u8]],
@@ -119,7 +120,7 @@ pub fn step_of(
 /// A step that is in its order behind the step before.
 fn step_in_order(
     alloc: Global,
-    grammar: &Grammar,
+    grammar: &Grammar<'_>,
     before: &Option<PriceStep>,
     step: PriceStep,
     left: &[&[u8]],
@@ -165,7 +166,7 @@ fn place_before(a: &PriceStep, b: &PriceStep) -> bool
 /// left, not even a bad one.
 fn is_needless(
     alloc: Global,
-    grammar: &Grammar,
+    grammar: &Grammar<'_>,
     step: &PriceStep,
     left: &[&[u8]],
 ) -> Result<bool, NoMemory>
@@ -174,12 +175,22 @@ fn is_needless(
     if step.minute != 0 || step.value != 0 {
         return Ok(false);
     }
+    let goes_on = goes_on(alloc, grammar, step, left)?;
+    Ok(!goes_on)
+}
+
+/// Whether another step of a step's place comes behind its line, the first that is left, if only a bad one.
+fn goes_on(
+    alloc: Global,
+    grammar: &Grammar<'_>,
+    step: &PriceStep,
+    left: &[&[u8]],
+) -> Result<bool, NoMemory>
+    ensures { IfOk result (λ goes_on. goes_on ≡ is_step_of (naming grammar.now) step.now.fleet step.now.station (first_words (drop 1 (seen left.now)))) }
+{
     match left.get(1) {
-        None => Ok(true),
-        Some(next) => {
-            let goes_on = is_step_of(alloc, grammar, step.fleet, step.station, next)?;
-            Ok(!goes_on)
-        }
+        None => Ok(false),
+        Some(next) => is_step_of(alloc, grammar, step.fleet, step.station, next),
     }
 }
 

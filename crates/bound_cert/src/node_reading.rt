@@ -20,7 +20,7 @@ use std::alloc::Global;
 #[tactic(auto, unfolding(crate::specs::Reading::node_at))]
 pub fn node_at<'a, 'b>(
     alloc: Global,
-    grammar: &Grammar,
+    grammar: &Grammar<'_>,
     above: usize,
     left: &'b [&'a [u8]],
 ) -> Result<(Node, &'b [&'a [u8]]), Stop>
@@ -32,7 +32,7 @@ pub fn node_at<'a, 'b>(
 
 /// What the first line of a node says, below so many trims and splits.
 #[tactic(auto, unfolding(crate::specs::Reading::head_at))]
-fn head_at(alloc: Global, grammar: &Grammar, above: usize, left: &[&[u8]]) -> Result<Head, Stop>
+fn head_at(alloc: Global, grammar: &Grammar<'_>, above: usize, left: &[&[u8]]) -> Result<Head, Stop>
     ensures { Gives (λ head. head) result (head_at (naming grammar.now) above (seen left.now)) }
 {
     let line = line_due(alloc, grammar, Due::Node, left)?;
@@ -84,7 +84,7 @@ fn head_of(line: Line, left: &[&[u8]]) -> Result<Head, Stop>
 #[tactic(auto, unfolding(crate::specs::Reading::body_at))]
 fn body_at<'a, 'b>(
     alloc: Global,
-    grammar: &Grammar,
+    grammar: &Grammar<'_>,
     head: Head,
     rest: &'b [&'a [u8]],
 ) -> Result<(Node, &'b [&'a [u8]]), Stop>

@@ -17,7 +17,7 @@ use std::alloc::Global;
 #[tactic(auto, unfolding(crate::specs::Reading::prices_at))]
 pub fn prices_at<'a, 'b>(
     alloc: Global,
-    grammar: &Grammar,
+    grammar: &Grammar<'_>,
     left: &'b [&'a [u8]],
 ) -> Result<(Prices, &'b [&'a [u8]]), Stop>
     ensures { Gives (λ r. (r.0, seen r.1.now)) result (prices_at (naming grammar.now) (seen left.now)) }
@@ -38,7 +38,7 @@ pub fn prices_at<'a, 'b>(
 #[tactic(auto, unfolding(crate::specs::Reading::mixed_at))]
 pub fn mixed_at<'a, 'b>(
     alloc: Global,
-    grammar: &Grammar,
+    grammar: &Grammar<'_>,
     left: &'b [&'a [u8]],
 ) -> Result<(Mixed, &'b [&'a [u8]]), Stop>
     ensures { Gives (λ r. (r.0, seen r.1.now)) result (mixed_at (naming grammar.now) (seen left.now)) }
@@ -51,7 +51,7 @@ pub fn mixed_at<'a, 'b>(
 /// The rents of all fleets, and what is left behind their lines.
 fn rents_from<'a, 'b>(
     alloc: Global,
-    grammar: &Grammar,
+    grammar: &Grammar<'_>,
     left: &'b [&'a [u8]],
 ) -> Result<(Entries<i128>, &'b [&'a [u8]]), Stop>
     ensures { Gives (λ r. (r.0, seen r.1.now)) result (rents_from (naming grammar.now) [] (seen left.now)) }
@@ -93,7 +93,7 @@ fn pad(rents: &mut Vec<i128>, fleets: usize) -> Result<(), NoMemory>
 /// The steps, and what is left behind their lines.
 fn steps_from<'a, 'b>(
     alloc: Global,
-    grammar: &Grammar,
+    grammar: &Grammar<'_>,
     left: &'b [&'a [u8]],
 ) -> Result<(Entries<PriceStep>, &'b [&'a [u8]]), Stop>
     ensures { Gives (λ r. (r.0, seen r.1.now)) result (steps_from (naming grammar.now) [] None (seen left.now)) }
@@ -116,7 +116,7 @@ fn steps_from<'a, 'b>(
 /// The weights, and what is left behind their lines.
 fn weights_from<'a, 'b>(
     alloc: Global,
-    grammar: &Grammar,
+    grammar: &Grammar<'_>,
     left: &'b [&'a [u8]],
 ) -> Result<(Entries<Weight>, &'b [&'a [u8]]), Stop>
     ensures { Gives (λ r. (r.0, seen r.1.now)) result (weights_from (naming grammar.now) [] None (seen left.now)) }

@@ -115,7 +115,7 @@ fn of_version(
 
 /// Whether a plan comes, and the tree.
 #[tactic(auto, unfolding(crate::specs::Nodes::rest_at))]
-fn rest_at(alloc: Global, grammar: &Grammar, left: &[&[u8]]) -> Result<Proof, Stop>
+fn rest_at(alloc: Global, grammar: &Grammar<'_>, left: &[&[u8]]) -> Result<Proof, Stop>
     ensures { Gives (λ proof. (proof.planned, nodes_of proof.tree)) result (rest_at (naming grammar.now) (seen left.now)) }
 {
     let planned = plan_at(alloc, grammar, left)?;
@@ -124,8 +124,8 @@ fn rest_at(alloc: Global, grammar: &Grammar, left: &[&[u8]]) -> Result<Proof, St
 }
 
 /// Whether a plan comes with the proof.
-#[tactic(auto, unfolding(crate::specs::Nodes::plan_at))]
-fn plan_at(alloc: Global, grammar: &Grammar, left: &[&[u8]]) -> Result<bool, Stop>
+#[tactic(auto, unfolding(crate::specs::Reading::said_at))]
+fn plan_at(alloc: Global, grammar: &Grammar<'_>, left: &[&[u8]]) -> Result<bool, Stop>
     ensures { Gives (λ planned. planned) result (plan_at (naming grammar.now) (seen left.now)) }
 {
     let line = line_due(alloc, grammar, Due::Plan, left)?;
@@ -145,7 +145,7 @@ fn plan_of(line: Line, left: &[&[u8]]) -> Result<bool, Stop>
 
 /// The tree, and the end behind it.
 #[tactic(auto, unfolding(crate::specs::Nodes::tree_at))]
-fn tree_at(alloc: Global, grammar: &Grammar, left: &[&[u8]]) -> Result<Tree, Stop>
+fn tree_at(alloc: Global, grammar: &Grammar<'_>, left: &[&[u8]]) -> Result<Tree, Stop>
     ensures { Gives (λ tree. nodes_of tree) result (tree_at (naming grammar.now) (seen left.now)) }
 {
     let (tree, rest) = tree_from(alloc, grammar, left)?;
@@ -155,7 +155,7 @@ fn tree_at(alloc: Global, grammar: &Grammar, left: &[&[u8]]) -> Result<Tree, Sto
 
 /// Goes on where the first line is the end and nothing stands behind it.
 #[tactic(auto, unfolding(crate::specs::Nodes::end_at))]
-fn end_at(alloc: Global, grammar: &Grammar, left: &[&[u8]]) -> Result<(), Stop>
+fn end_at(alloc: Global, grammar: &Grammar<'_>, left: &[&[u8]]) -> Result<(), Stop>
     ensures { Gives (λ _. tt) result (end_at (naming grammar.now) (seen left.now)) }
 {
     line_due(alloc, grammar, Due::End, left)?;

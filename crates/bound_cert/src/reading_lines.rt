@@ -43,7 +43,12 @@ pub fn left_of(alloc: Global, text: &[u8]) -> Result<Vec<&[u8]>, AllocError>
 
 /// The first line that is left, which is due to be of a kind.
 #[tactic(auto, unfolding(crate::specs::Lines::line_due))]
-pub fn line_due(alloc: Global, grammar: &Grammar, due: Due, left: &[&[u8]]) -> Result<Line, Stop>
+pub fn line_due(
+    alloc: Global,
+    grammar: &Grammar<'_>,
+    due: Due,
+    left: &[&[u8]],
+) -> Result<Line, Stop>
     ensures { Gives (λ line. line) result (line_due (naming grammar.now) due (seen left.now)) }
 {
     let Some((line, rest)) = left.split_first() else {
@@ -125,7 +130,7 @@ fn begins_node(form: Form) -> bool
 #[tactic(auto, unfolding(crate::specs::Lines::line_due))]
 pub fn next_line(
     alloc: Global,
-    grammar: &Grammar,
+    grammar: &Grammar<'_>,
     due: Due,
     left: &[&[u8]],
 ) -> Result<Option<Line>, Stop>

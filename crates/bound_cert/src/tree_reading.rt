@@ -22,7 +22,7 @@ use std::alloc::Global;
 /// The next tree, and what is left behind its lines.
 pub fn tree_from<'a, 'b>(
     alloc: Global,
-    grammar: &Grammar,
+    grammar: &Grammar<'_>,
     left: &'b [&'a [u8]],
 ) -> Result<(Tree, &'b [&'a [u8]]), Stop>
     ensures { Gives (λ r. (nodes_of r.0, seen r.1.now)) result (nodes_from (naming grammar.now) (length left.now) [] [] (seen left.now)) }
@@ -56,7 +56,7 @@ fn goes_on(reached: &Result<Option<Tree>, Stop>, most: usize) -> bool
 /// where that is complete now.
 fn next_node<'a, 'b>(
     alloc: Global,
-    grammar: &Grammar,
+    grammar: &Grammar<'_>,
     waiting: &mut Vec<Parent>,
     reached: &mut Result<Option<Tree>, Stop>,
     left: &'b [&'a [u8]],
@@ -71,7 +71,7 @@ fn next_node<'a, 'b>(
 /// Reads a node, and answers what is left behind it; all, where it isn't read.
 fn read_node<'a, 'b>(
     alloc: Global,
-    grammar: &Grammar,
+    grammar: &Grammar<'_>,
     above: usize,
     left: &'b [&'a [u8]],
 ) -> (Result<Node, Stop>, &'b [&'a [u8]])

@@ -4,7 +4,7 @@ ghost use Rattle.fleet_model.specs.Schedule.{fleets_in};
 ghost use Rattle.dual_bound.specs.OfTables.{ArePricesOf, IsCauseOf, IsMixedOf, IsOfTables, IsStepOf, IsWeightOf};
 ghost use Rattle.proof_lines.specs.LineText.{IsNamed, text_of};
 ghost use Rattle.proof_lines.specs.declared.line.Line.TheVariants as line;
-ghost use Rattle.bound_cert.specs.ProofText.{at_line, cause_lines, lines_of, mixed_lines, node_lines, open_line, price_lines, proof_text, rent_lines, rent_lines_at, tree_lines, weight_line};
+ghost use Rattle.bound_cert.specs.ProofText.{at_line, cause_lines, lines_of, mixed_lines, node_lines, open_line, price_lines, proof_text, rent_lines, rent_lines_at, root_of, tree_lines, weight_line};
 
 use dual_bound::{Cause, Mixed, PriceStep, Prices, Tree, Weight};
 use entries::NoMemory;
@@ -61,7 +61,7 @@ fn push_node(
     tree: &Tree,
 ) -> Result<(), NoMemory>
     requires { IsOfTables tables.now tree.now }
-    ensures { OnOk result (text.new.items ≡ text.old.items ++ lines_of tables.now (node_lines tables.now tree.now)) }
+    ensures { OnOk result (text.new.items ≡ text.old.items ++ lines_of tables.now (node_lines tables.now (root_of tree.now))) }
 {
     match tree {
         Tree::Bare { leg } => push_line(alloc, text, tables, &Line::Bare { leg: *leg }),

@@ -1,5 +1,6 @@
 pub mod Charges
 pub mod Duality
+pub mod FewParked
 pub mod Flows
 pub mod LeastWorth
 pub mod NoCharges

@@ -7,6 +7,7 @@ use lib.IntN.{*ℤ-zero}
 use Rattle.sums.specs.Places.{list_below}
 use Rattle.sums.proofs.Places.{get_or-list_below, length-list_below}
 use Rattle.sums.proofs.NumberTests.{if_apart, if_same}
+use Rattle.sums.proofs.Sizes.{nothing_added}
 use Rattle.frac_row.specs.Outgrown.{IsWithin}
 use Rattle.sparse_row.specs.declared.entry.Entry.{Entry}
 use Rattle.sparse_row.specs.Content.{number_in, AreRising}
@@ -31,11 +32,8 @@ no_product value z e = ap (λ y. value *ℤ y) e ∙ *ℤ-zero value
 adds_nothing : (sum value z : ℤ) → z ≡ pos 0 → IsWithin sum → AddsWithin sum value z
 adds_nothing sum value z e within = record {
   product = subst IsWithin (sym (no_product value z e)) (omega arith);
-  total = subst IsWithin (nothing sum (value *ℤ z) (no_product value z e)) within;
+  total = subst IsWithin (nothing_added sum (value *ℤ z) (no_product value z e)) within;
 }
-  where
-    nothing : (a b : ℤ) → b ≡ pos 0 → a ≡ a +ℤ b
-    nothing a b e = omega (arith, ints)
 
 pub times_begun : (sums : List ℤ) (value : ℤ) (line : List ℤ) (left : List Entry) → length line ≡ length sums → AreRising 0 (length line) left → ((c : ℕ) → number_in left c ≡ value_in line c) → IsAddingTimes sums value line sums left
 times_begun sums value line left same rising is = record {
@@ -113,8 +111,5 @@ times_done sums value line now left h e within = (
   ext_get_or (pos 0) now (list_below (λ c. value_in sums c +ℤ (value *ℤ value_in line c)) (length sums)) (h.same_length ∙ sym (length-list_below _ (length sums)))
       (λ c below.
       let inside : c < length sums = omega (arith, below, h.same_length) in
-      nothing (value_in now c) (value *ℤ number_in left c) (no_product value _ (ap (λ es. number_in es c) e)) ∙ h.each c inside ∙ sym (get_or-list_below _ (length sums) c (pos 0) inside)),
+      nothing_added (value_in now c) (value *ℤ number_in left c) (no_product value _ (ap (λ es. number_in es c) e)) ∙ h.each c inside ∙ sym (get_or-list_below _ (length sums) c (pos 0) inside)),
 )
-  where
-    nothing : (a b : ℤ) → b ≡ pos 0 → a ≡ a +ℤ b
-    nothing a b e = omega (arith, ints)

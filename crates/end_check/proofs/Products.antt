@@ -1,10 +1,10 @@
 -- Sums of products, and those along the numbers of a line.
 use Rattle.std.proofs.Common.{◌≡◌, ◌≢◌, ℕ, zero, suc, ◌+◌, ◌<◌, ◌≤◌, ℤ, pos, ◌+ℤ◌, ◌*ℤ◌, List, [], ◌∷◌, length, refl, sym, ◌∙◌, ap, subst, arith, inl, inr}
 use Rattle.std.proofs.lemmas.Bool.{cases_eq}
-use Rattle.std.proofs.lemmas.Int.{ints}
 use lib.IntN.{zero-*ℤ}
 use Rattle.sums.specs.Below.{sum_below_ℤ}
 use Rattle.sums.proofs.NumberTests.{if_apart, if_same}
+use Rattle.sums.proofs.Sizes.{nothing_added}
 use Rattle.frac_row.specs.Outgrown.{IsWithin}
 use Rattle.sparse_row.specs.declared.entry.Entry.{Entry}
 use Rattle.sparse_row.specs.Content.{number_in, AreRising}
@@ -52,11 +52,8 @@ sum_past_zeros f g total from (suc m) before fits le zeros =
           let less : from ≤ m = omega (arith, le, apart) in
           let there = sum_past_zeros f g total from m before fits less (λ k ge below. zeros k ge (omega (arith, below))) in
           let none : f m *ℤ g m ≡ pos 0 = ap (λ z. z *ℤ g m) (zeros m less (omega arith)) ∙ zero-*ℤ (g m) in
-          sum_more f g m total (f m) (g m) total there refl refl (record { product = zero_within (f m *ℤ g m) none; total = subst IsWithin (nothing total (f m *ℤ g m) none) fits }) (nothing total (f m *ℤ g m) none)
+          sum_more f g m total (f m) (g m) total there refl refl (record { product = zero_within (f m *ℤ g m) none; total = subst IsWithin (nothing_added total (f m *ℤ g m) none) fits }) (nothing_added total (f m *ℤ g m) none)
     ]
-  where
-    nothing : (a b : ℤ) → b ≡ pos 0 → a ≡ a +ℤ b
-    nothing a b e = omega (arith, ints)
 
 -- ---- along the numbers of a line, of which some that are 0 may be left out
 -- the column of the next number, and the bound of all where none is left

@@ -5,9 +5,9 @@ use Rattle.std.proofs.lemmas.Bool.{cases_lt}
 use Rattle.std.proofs.lemmas.Bool.Decides.{nat_tests}
 use Rattle.std.proofs.lemmas.Int.{ints}
 use Rattle.std.proofs.lemmas.List.{get_or_default, get_or_past}
-use lib.IntN.{*ℤ_comm, zero-*ℤ}
+use lib.IntN.{zero-*ℤ}
 use Rattle.sums.specs.Below.{sum_below_ℤ}
-use Rattle.sums.proofs.Integers.{neg_ℤ-*ℤ, one-*ℤ}
+use Rattle.sums.proofs.Integers.{one-*ℤ, *ℤ-neg_ℤ}
 use Rattle.sums.proofs.Tests.{unlike}
 use Rattle.sums.proofs.WholeSums.{sum_below_ℤ-same}
 use Rattle.frac_row.specs.Outgrown.{IsWithin}
@@ -80,13 +80,10 @@ module _ (rows : Rows) (problem : IsProblem rows) (point : List ℕ) (long : len
   surplus_is line =
       ap (sum_below_ℤ (λ column. entry rows line column *ℤ share_in point scale column)) (one_more rows.columns)
       ∙ ap (λ z. z +ℤ (entry rows line rows.columns *ℤ share_in point scale rows.columns)) (sum_below_ℤ-same _ _ rows.columns (λ c below. ap (λ z. entry rows line c *ℤ z) (share_of_column point scale c (omega (arith, below, long)))))
-      ∙ ap (λ z. sum_below_ℤ (λ c. entry rows line c *ℤ pos (part_in point c)) rows.columns +ℤ z) (ap (λ z. entry rows line rows.columns *ℤ z) (share_of_side point scale rows.columns (omega (arith, long))) ∙ turned (entry rows line rows.columns) (pos scale))
+      ∙ ap (λ z. sum_below_ℤ (λ c. entry rows line c *ℤ pos (part_in point c)) rows.columns +ℤ z) (ap (λ z. entry rows line rows.columns *ℤ z) (share_of_side point scale rows.columns (omega (arith, long))) ∙ *ℤ-neg_ℤ (entry rows line rows.columns) (pos scale))
     where
       one_more : (n : ℕ) → n + 1 ≡ suc n
       one_more n = omega arith
-
-      turned : (a b : ℤ) → a *ℤ neg_ℤ b ≡ neg_ℤ (a *ℤ b)
-      turned a b = *ℤ_comm a (neg_ℤ b) ∙ neg_ℤ-*ℤ b a ∙ ap neg_ℤ (*ℤ_comm b a)
 
   pub lines_meet : ((line : ℕ) → line < length rows.lines → MeetsLine rows point scale line) → MeetsRows rows scale (part_in point)
   lines_meet all = record { each = λ line below. no_more _ _ (sym (surplus_is line) ∙ (all line below).nothing) }

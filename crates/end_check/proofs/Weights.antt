@@ -1,8 +1,8 @@
 -- What columns and right sides weigh, line by line.
-use Rattle.std.proofs.Common.{◌≡◌, ℕ, zero, suc, ◌+◌, ◌<◌, ◌≤◌, ℤ, pos, ◌+ℤ◌, ◌*ℤ◌, List, [], length, get_or, refl, sym, ◌∙◌, ap, subst, arith, inl, inr}
+use Rattle.std.proofs.Common.{◌≡◌, ℕ, zero, suc, ◌+◌, ◌<◌, ◌≤◌, ℤ, pos, ◌+ℤ◌, ◌*ℤ◌, List, [], length, get_or, sym, ◌∙◌, ap, subst, arith, inl, inr}
 use Rattle.std.specs.Prelude.{replicate}
 use Rattle.std.proofs.lemmas.Bool.{cases_lt}
-use Rattle.std.proofs.lemmas.List.{ext_get_or, get_or_past}
+use Rattle.std.proofs.lemmas.List.{ext_get_or, get_or_past, get_or-replicate, length-replicate}
 use Rattle.sums.specs.Below.{sum_below_ℤ}
 use Rattle.sums.specs.Places.{list_below}
 use Rattle.sums.proofs.Places.{get_or-list_below, length-list_below, list_below-agree}
@@ -42,17 +42,12 @@ weighing_begun rows y weights zeros = record {
   within = λ column le. record { each = λ k below. absurd (omega (arith, below)) };
 }
   where
-    zeros_long : (n : ℕ) → length (replicate n (pos 0)) ≡ n
-    zeros_long zero = refl
-    zeros_long (suc n) = ap suc (zeros_long n)
-
-    zero_there : (n k : ℕ) → get_or (replicate n (pos 0)) k (pos 0) ≡ pos 0
-    zero_there zero k = refl
-    zero_there (suc n) zero = refl
-    zero_there (suc n) (suc k) = zero_there n k
-
     zeros_are : (n : ℕ) → replicate n (pos 0) ≡ list_below (λ column. pos 0) n
-    zeros_are n = ext_get_or (pos 0) (replicate n (pos 0)) (list_below (λ column. pos 0) n) (zeros_long n ∙ sym (length-list_below _ n)) (λ k below. zero_there n k ∙ sym (get_or-list_below _ n k (pos 0) (omega (arith, below, zeros_long n))))
+    zeros_are n =
+        ext_get_or (pos 0) (replicate n (pos 0)) (list_below (λ column. pos 0) n) (length-replicate n (pos 0) ∙ sym (length-list_below _ n))
+        (λ k below.
+        let within : k < n = omega (arith, below, length-replicate n (pos 0)) in
+        get_or-replicate n k (pos 0) (pos 0) within ∙ sym (get_or-list_below _ n k (pos 0) within))
 
 module _ (rows : Rows) (y : ℕ → ℤ) (count : ℕ) (weights : List ℤ) (h : IsWeighing rows y count weights) (value : ℤ) (line : List ℤ) (value_is : value ≡ y count) (line_is : line ≡ get_or rows.lines count []) where
   long : length weights ≡ rows.columns + 1

@@ -5,6 +5,7 @@ use Rattle.std.proofs.Math.Seq.{take-suc}
 use Rattle.std.proofs.lemmas.Bool.{cases_lt, eq-eqb, eqb-true}
 use Rattle.std.proofs.lemmas.List.{get_or_append_left, get_or-append-add, get_or-take, get_or_default, length-take-le, take_all}
 use mathlib.Core.Bool.{false≢true}
+use Rattle.sums.proofs.Naturals.{one_behind}
 use Rattle.sums.proofs.Ranks.{numbers_few}
 use Rattle.sums.proofs.Tests.{both_true, by_test}
 use Rattle.fleet_model.specs.declared.parts.Connection.{Connection}
@@ -128,10 +129,7 @@ module _ (t : Tables) (a : List ℕ) (f : ℕ) (pairs : List Connection) (days :
   holds_there P all =
       reached_from P (length legs - 1) (length order - 1) 0 (omega (arith, is.some)) (omega (arith, no_more))
       (subst (λ (l : ℕ). All P (preorder_from t a f pairs days order (suc (length order - 1)) [] l)) (sym is.begins)
-      (subst (λ (n : ℕ). All P (preorder_from t a f pairs days order n [] (slice_index order 0))) (as_suc (length order) (omega (arith, is.some, no_more))) all))
-    where
-      as_suc : (n : ℕ) → 0 < n → n ≡ suc (n - 1)
-      as_suc n some = omega arith
+      (subst (λ (n : ℕ). All P (preorder_from t a f pairs days order n [] (slice_index order 0))) (one_behind (length order) (omega (arith, is.some, no_more))) all))
 
 pub each_prefix_is_entry : EachPrefixIsEntry
 each_prefix_is_entry t a f pairs days order legs some is =

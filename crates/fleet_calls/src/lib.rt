@@ -13,6 +13,8 @@ mod commands;
 #[cfg(test)]
 mod dated_commands;
 #[cfg(test)]
+mod dated_legs;
+#[cfg(test)]
 mod deep_trees;
 #[cfg(test)]
 mod fields;

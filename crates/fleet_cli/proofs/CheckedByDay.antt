@@ -6,6 +6,7 @@ use Rattle.cert_check.proofs.OtherSettings.{holds_by, legal_by}
 use Rattle.command_words.specs.Words.{check}
 use Rattle.fleet_model.specs.Legal.{total_cost}
 use Rattle.fleet_model.specs.Limits.{AreSettings}
+use Rattle.fleet_model.specs.Schedule.{days_in}
 use Rattle.fleet_model.specs.declared.limits.TheConstants.{MINUTES_PER_DAY}
 use Rattle.fleet_model.specs.declared.options.TableOptions.{TableOptions}
 use Rattle.fleet_model.specs.declared.parts.Settings.{Settings}
@@ -20,6 +21,7 @@ use Rattle.fleet_cli.proofs.OneReading.{within_or_long}
 use Rattle.fleet_cli.specs.Answer.{Answers, Checks}
 use Rattle.fleet_cli.specs.Contents.{bytes_in, table_bytes}
 use Rattle.fleet_cli.specs.Run.{IsCostThere, ProofThere}
+use Rattle.fleet_cli.specs.SolvedChecked.{CountAlike}
 use Rattle.fleet_cli.specs.declared.answer.Answer.{Answer}
 
 -- files read by settings that are within their limits
@@ -29,6 +31,9 @@ wait_in_day bytes settings t reads =
     let same : t.settings.through_max ≡ settings.through_max = ap (λ (s : Settings). s.through_max) reads.settings_are in
     omega (arith, fits, same)
 
+days_are : (bytes : TableBytes) (settings : Settings) (t : Tables) → Reads bytes settings t → t.settings.period ≡ settings.period
+days_are bytes settings t reads = ap (λ (s : Settings). s.period) reads.settings_are
+
 day_in_day : (bytes : TableBytes) (settings : Settings) (t : Tables) → Reads bytes settings t → settings.day_start < MINUTES_PER_DAY
 day_in_day bytes settings t reads =
     let fits = t.in_range.settings_fit.day_start in
@@ -36,9 +41,9 @@ day_in_day bytes settings t reads =
     omega (arith, fits, same)
 
 module _ (held : Files) (dir : List ℕ) where
-  module _ (t : Tables) (settings : Settings) (fit : AreSettings settings) where
+  module _ (t : Tables) (settings : Settings) (fit : AreSettings settings) (as_long : t.settings.period ≡ settings.period) where
     abbrev other : Tables
-    other = with_settings t settings fit
+    other = with_settings t settings fit as_long
 
     same_total : (plan : List ℕ) → total_cost t plan ≡ total_cost other plan
     unfolding total_cost
@@ -46,9 +51,10 @@ module _ (held : Files) (dir : List ℕ) where
 
     -- the plan that stands there
     plan_by : (planned : Bool) (cost : Option ℤ) → IsCostThere held dir t planned cost → IsCostThere held dir other planned cost
+    unfolding days_in
     plan_by planned None none = none
     plan_by planned (Some cost) (is, there) =
-        let legal = legal_by t.stations t.fleets t.legs t.costs t.throughs (t.settings, t.in_range) (settings, other.in_range) refl there.plan there.legal in (
+        let legal = legal_by t.stations t.fleets t.legs t.costs t.throughs (t.settings, t.in_range) (settings, other.in_range) as_long there.plan there.legal in (
           is,
           record {
             plan = there.plan;
@@ -59,22 +65,24 @@ module _ (held : Files) (dir : List ℕ) where
           },
         )
 
-  module _ (solving checking : TableOptions) (same : solving.settings.day_start ≡ checking.settings.day_start) where
-    -- a proof that stands there stands there by other settings with the same day start
+  module _ (solving checking : TableOptions) (alike : CountAlike solving checking) where
+    -- a proof that stands there stands there by other settings that count minutes alike
     proof_by : AreSettings checking.settings → ProofThere held dir solving → ProofThere held dir checking
+    unfolding days_in
     proof_by fit x =
         let t = x.tables in
-        let u = with_settings t checking.settings fit in
+        let as_long = days_are (table_bytes (bytes_in held dir)) solving.settings t x.reads ∙ alike.days in
+        let u = with_settings t checking.settings fit as_long in
         record {
           tables = u;
           proof = x.proof;
           cost = x.cost;
           bound = x.bound;
           there = x.there;
-          reads = reads_by_day (table_bytes (bytes_in held dir)) solving.settings checking.settings same t fit x.reads;
-          proof_reads = reads_by t.stations t.fleets t.legs t.costs t.throughs (t.settings, t.in_range) (checking.settings, u.in_range) (bytes_in held dir file.Proof) x.proof x.proof_reads;
-          plan = plan_by t checking.settings fit x.proof.planned x.cost x.plan;
-          holds = holds_by t.stations t.fleets t.legs t.costs t.throughs (t.settings, t.in_range) (checking.settings, u.in_range) refl x.cost x.proof.tree x.bound x.holds;
+          reads = reads_by_day (table_bytes (bytes_in held dir)) solving.settings checking.settings alike.day_start alike.days t fit as_long x.reads;
+          proof_reads = reads_by t.stations t.fleets t.legs t.costs t.throughs (t.settings, t.in_range) (checking.settings, u.in_range) as_long (bytes_in held dir file.Proof) x.proof x.proof_reads;
+          plan = plan_by t checking.settings fit as_long x.proof.planned x.cost x.plan;
+          holds = holds_by t.stations t.fleets t.legs t.costs t.throughs (t.settings, t.in_range) (checking.settings, u.in_range) as_long x.cost x.proof.tree x.bound x.holds;
         }
 
     -- where checking answers at all, its longest wait is within its limit
@@ -90,13 +98,24 @@ module _ (held : Files) (dir : List ℕ) where
         by_tables : Checks checking (table_bytes (bytes_in held dir)) (bytes_in held dir file.Proof) (bytes_in held dir file.Plan) answer → ⊥
         by_tables (inl refused) =
             reads_no_fault (table_bytes (bytes_in held dir)) solving.settings x.tables refused.file refused.row refused.kind x.reads
-            (bad_by_day (table_bytes (bytes_in held dir)) checking.settings solving.settings (sym same) refused.file refused.row refused.kind refused.bad)
+            (bad_by_day (table_bytes (bytes_in held dir)) checking.settings solving.settings (sym alike.day_start) (sym alike.days) refused.file refused.row refused.kind refused.bad)
         by_tables (inr answers) = let small = wait_in_day (table_bytes (bytes_in held dir)) checking.settings answers.tables answers.reads in omega (arith, great, small)
 
-    -- so a proof that stands there by some settings is one by those of an answer to checking with the same day start
+    -- so a proof that stands there by some settings is one by those of an answer to checking that counts minutes alike
     pub proof_by_day : (answer : Answer) → ProofThere held dir solving → Answers held (Some (check dir checking)) answer → ProofThere held dir checking
     proof_by_day answer x answers = by_wait (cases_lt checking.settings.through_max MINUTES_PER_DAY)
       where
+        days : x.tables.settings.period ≡ checking.settings.period
+        days = days_are (table_bytes (bytes_in held dir)) solving.settings x.tables x.reads ∙ alike.days
+
+        settings_fit : checking.settings.through_max < MINUTES_PER_DAY → AreSettings checking.settings
+        settings_fit small = record {
+          day_start = rw (← alike.day_start) (day_in_day (table_bytes (bytes_in held dir)) solving.settings x.tables x.reads);
+          through_max = small;
+          some_days = rw (← days) x.tables.in_range.settings_fit.some_days;
+          few_days = rw (← days) x.tables.in_range.settings_fit.few_days;
+        }
+
         by_wait : (checking.settings.through_max < MINUTES_PER_DAY) ⊎ (MINUTES_PER_DAY ≤ checking.settings.through_max) → ProofThere held dir checking
-        by_wait (inl small) = proof_by (record { day_start = rw (← same) (day_in_day (table_bytes (bytes_in held dir)) solving.settings x.tables x.reads); through_max = small }) x
+        by_wait (inl small) = proof_by (settings_fit small) x
         by_wait (inr great) = absurd (never_answered answer x great answers)

@@ -169,19 +169,19 @@ by_plan t plan (solved.Infeasible tree) legal right = absurd (right.none.none pl
 by_plan t plan (solved.Unsettled bound tree) legal right = inr (inr refl)
 
 defaults_fit : AreSettings DEFAULT_READING.settings
-defaults_fit = record { day_start = omega arith; through_max = omega arith }
+defaults_fit = record { day_start = omega arith; through_max = omega arith; some_days = omega arith; few_days = omega arith }
 
 -- made tables have no fault
 pub never_bad : (number legs : ℕ) (made : MadeTables) (loaded : Result Tables LoadError) (error : LoadError) (bad : BadInput) → CanBeMade number legs → made ≡ made_tables number legs
     → MatchResult loaded (Reads (bytes_of made) DEFAULT_READING.settings) (IsFirstBad (bytes_of made) DEFAULT_READING.settings) → loaded ≡ Err error → error ≡ load.Bad bad → ⊥
 never_bad number legs made loaded error bad can are told failed same =
-    let read = made_read number legs DEFAULT_READING.settings can defaults_fit in
+    let read = made_read number legs DEFAULT_READING.settings can defaults_fit refl in
     let first = rw (failed, same, are) at told in
     tables.reads_no_fault (bytes_of (made_tables number legs)) DEFAULT_READING.settings read.tables bad.file bad.row bad.kind read.reads first
 
 pub flyable : (number legs : ℕ) (answer : Answer) → Makes number legs answer → IsFlyable answer.status.code
 flyable number legs answer x =
-    let made = made_read number legs DEFAULT_READING.settings x.can defaults_fit in
+    let made = made_read number legs DEFAULT_READING.settings x.can defaults_fit refl in
     let same = tables.one_reading (bytes_of (made_tables number legs)) DEFAULT_READING.settings made.tables x.solves.tables made.reads x.solves.reads in
     let legal = subst (λ t. IsLegal t (all_on_first legs)) same made.legal in
     rw (ap (λ (a : Answer). a.status.code) x.is ∙ ap (λ (a : Answer). a.status.code) x.solves.finishes.is)

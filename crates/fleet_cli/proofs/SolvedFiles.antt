@@ -35,7 +35,7 @@ use Rattle.fleet_cli.specs.Gathered.{AllStand, IsHeld, limit_of}
 use Rattle.fleet_cli.specs.Headline.{is_planned}
 use Rattle.fleet_cli.specs.Reading.{proof_files, table_files}
 use Rattle.fleet_cli.specs.Run.{IsCostThere, IsSolution, ProofThere}
-use Rattle.fleet_cli.specs.SolvedChecked.{ReadsAndHolds, SolvedIsChecked}
+use Rattle.fleet_cli.specs.SolvedChecked.{CountAlike, ReadsAndHolds, SolvedIsChecked}
 use Rattle.fleet_cli.specs.Solution.{solved_files}
 use Rattle.fleet_cli.specs.Written.{HaveLengths, no_text, with_texts}
 use Rattle.fleet_cli.specs.declared.answer.Answer.{Answer}
@@ -143,7 +143,7 @@ module _ (t : Tables) (rotations : List FleetRotation) (visits : ℕ) where
   }
 
 -- the answer to solving, with its files as they were written
-module _ (held : Files) (dir : List ℕ) (solving checking : TableOptions) (same : solving.settings.day_start ≡ checking.settings.day_start) (options : SolveOptions) (solved_as checked_as : Answer)
+module _ (held : Files) (dir : List ℕ) (solving checking : TableOptions) (alike : CountAlike solving checking) (options : SolveOptions) (solved_as checked_as : Answer)
     (solution : IsSolution solved_as.status.code) (lengths : HaveLengths solved_as.files) (checks : Answers (with_texts held dir solved_as.files) (Some (check dir checking)) checked_as) where
   answered : Answers held (Some (solve dir solving options)) solved_as → checked_as.status.code ≡ 0
   answered (inl long) = absurd (not_refused _ solution (ap (λ (a : Answer). a.status.code) long.is))
@@ -157,9 +157,9 @@ module _ (held : Files) (dir : List ℕ) (solving checking : TableOptions) (same
           let stands = with_texts held dir (solved_files solves.tables given.solution given.rotations options.rotations.visits) in
           let there = proof_stays solves.tables given.rotations options.rotations.visits held dir solving given.solution read.within.first solves.reads given.solves.right
           (solved_holds solves.tables options.search.nodes options.search.pivots given.solution given.solves) (rw files at lengths) in
-          complete_there stands (Some (check dir checking)) checked_as (rw files at checks) (proof_by_day stands dir solving checking same checked_as there (rw files at checks))
+          complete_there stands (Some (check dir checking)) checked_as (rw files at checks) (proof_by_day stands dir solving checking alike checked_as there (rw files at checks))
 
 pub solved_is_checked : SolvedIsChecked
-solved_is_checked held stands dir solving checking options code before after answer same run solution checks =
+solved_is_checked held stands dir solving checking options code before after answer alike run solution checks =
     let written : stands ≡ with_texts held dir run.answer.files = same_Some stands (with_texts held dir run.answer.files) run.written in
-    answered held dir solving checking same options run.answer answer (rw run.code_is at solution) run.lengths (rw written at checks) run.answers
+    answered held dir solving checking alike options run.answer answer (rw run.code_is at solution) run.lengths (rw written at checks) run.answers

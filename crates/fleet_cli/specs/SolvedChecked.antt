@@ -26,9 +26,14 @@ pub record ReadsAndHolds (t : Tables) (s : Solved) : Type 0 where
   pub says : proof.planned ≡ is_planned s
   pub holds : HoldsWith t (plan_cost s) proof.tree (printed_bound s)
 
--- Where a run gave a solution, and checking by the same day start, whatever the longest wait of a through pair, reads what
--- then stands, it answers that the proof holds.
+-- minutes are counted from the same day start, in periods of as many days
+pub record CountAlike (a b : TableOptions) : Type 0 where
+  pub day_start : a.settings.day_start ≡ b.settings.day_start
+  pub days : a.settings.period ≡ b.settings.period
+
+-- Where a run gave a solution, and checking by the same day start and days of the period, whatever the longest wait of a
+-- through pair, reads what then stands, it answers that the proof holds.
 abbrev pub SolvedIsChecked : Type 0
 SolvedIsChecked = (held stands : Files) (dir : List ℕ) (solving checking : TableOptions) (options : SolveOptions) (code : ℕ) (before after : Option (List ℕ)) (answer : Answer)
-    → solving.settings.day_start ≡ checking.settings.day_start → AnswersInFull held (Some (solve dir solving options)) code (Some stands) before after → IsSolution code
+    → CountAlike solving checking → AnswersInFull held (Some (solve dir solving options)) code (Some stands) before after → IsSolution code
     → Answers stands (Some (check dir checking)) answer → answer.status.code ≡ DONE

@@ -16,9 +16,9 @@ pub fn made_is_solved()
     ensures { MadeIsSolved }
 {}
 
-/// Where a run gave a solution, checking the same folder by the same day start answers that the proof holds, whatever the
-/// longest wait of a through pair was or is. The premise is what `run` ensures of solving (`answer`); nothing is asked of
-/// the lengths of the files.
+/// Where a run gave a solution, checking the same folder by the same day start and days of the period answers that the
+/// proof holds, whatever the longest wait of a through pair was or is. The premise is what `run` ensures of solving
+/// (`answer`); nothing is asked of the lengths of the files.
 pub fn solved_is_checked()
     ensures { SolvedIsChecked }
 {}

@@ -9,6 +9,7 @@ pub mod NeedAtDepartures
 pub mod NightsUsed
 pub mod OneDay
 pub mod OwnPairs
+pub mod OwnTimesOnly
 pub mod PeriodMinutes
 pub mod Periods
 pub mod PlainTables

@@ -5,6 +5,7 @@ use Rattle.std.proofs.Math.Nat.{mod-eq_of_lt}
 use Rattle.std.proofs.lemmas.Bool.{and_from, and_parts, cases_Bool, eq-eqb, eqb-true, lt-ltb}
 use Rattle.sums.proofs.Places.{get_or-list_below, length-list_below}
 use Rattle.sums.proofs.Counts.{count_below-some}
+use Rattle.sums.proofs.Naturals.{plus_0}
 use Rattle.sums.proofs.NumberTests.{some_tested}
 use Rattle.fleet_model.specs.declared.parts.Connection.{Connection}
 use Rattle.fleet_model.specs.declared.tables.Tables.{Tables}
@@ -104,11 +105,8 @@ module _ (t : Tables) (a : List ℕ) (f : ℕ) (given turns other : List Connect
           ap inside found.2,
         )
       where
-        none_more : (r : ℕ) → r + 0 ≡ r
-        none_more r = omega arith
-
         at_first : (r : ℕ) → r < period_of t → r ≡ (r + 0) % period_of t
-        at_first r ready = sym (ap (λ n. n % period_of t) (none_more r) ∙ mod-eq_of_lt ready)
+        at_first r ready = sym (ap (λ n. n % period_of t) (plus_0 r) ∙ mod-eq_of_lt ready)
     reaches k (suc j) lt free steps =
         let before = reaches k j lt free (omega arith) in
         let few = wait_within (turn_at other k) in

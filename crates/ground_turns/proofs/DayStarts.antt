@@ -5,6 +5,7 @@ use Rattle.std.proofs.lemmas.Nat.{div-add-mod', div-mul-add, div_below, mod_belo
 use Rattle.std.proofs.lemmas.Bool.{cases_lt}
 use Rattle.std.proofs.lemmas.Bool.Decides.{nat_tests}
 use Rattle.sums.specs.Below.{sum_below, count_below}
+use Rattle.sums.proofs.Blocks.{one_block_more}
 use Rattle.sums.proofs.Sums.{sum_below-agree, sum_below-add}
 use Rattle.ground_turns.proofs.Rounds.{bit, moment_law, until_later, until_next}
 
@@ -55,10 +56,7 @@ div-more x d n some = ap (λ k. k / d) (turned x d n) ∙ div-mul-add (x / d + n
 
 repeated : (b : Bool) (n : ℕ) → sum_below (λ j. bit b) n ≡ n * bit b
 repeated b zero = omega arith
-repeated b (suc n) = let before = repeated b n in let one : suc n * bit b ≡ n * bit b + bit b = more n (bit b) in omega (arith, before, one)
-  where
-    more : (n k : ℕ) → suc n * k ≡ n * k + k
-    more n k = grind arith
+repeated b (suc n) = let before = repeated b n in let one : suc n * bit b ≡ n * bit b + bit b = one_block_more n (bit b) in omega (arith, before, one)
 
 -- the wait ends so many periods and so many minutes after its period's start
 pub wait_end : (w r d : ℕ) → r < w → d < w → r + (d + w - r) % w ≡ d + bit (nat_lt d r) * w

@@ -1,5 +1,5 @@
 -- Where aircraft depart first in, first out, one that becomes ready after another one departs no sooner.
-use Rattle.std.proofs.Common.{◌≡◌, ℕ, zero, suc, ◌+◌, ◌-◌, ◌%◌, ◌<◌, ◌≤◌, ◌⊎◌, inl, inr, Bool, true, ◌==◌, ◌&&◌, nat_le, List, length, refl, sym, ◌∙◌, ap, subst, arith}
+use Rattle.std.proofs.Common.{◌≡◌, ℕ, zero, suc, ◌+◌, ◌-◌, ◌%◌, ◌<◌, ◌≤◌, inl, inr, Bool, true, ◌==◌, ◌&&◌, nat_le, List, length, sym, ap, subst, arith}
 use Rattle.std.proofs.lemmas.Bool.{cases_eq, cases_lt, cases_order, eq-eqb, lt-ltb}
 use Rattle.std.proofs.lemmas.Bool.Decides.{nat_tests}
 use Rattle.sums.specs.Below.{max_below}
@@ -11,8 +11,8 @@ use Rattle.fleet_model.specs.Schedule.{leg_on, legs_in, period_of}
 use Rattle.fleet_model.specs.Times.{departure, ready_minute}
 use Rattle.ground_turns.specs.FirstOut.{AreFirstOut, departs_before, departure_place, free_departed, free_excess, free_landed, free_landings, free_need, is_before, is_free_departure, is_free_landing, landing_place, lands_before}
 use Rattle.ground_turns.specs.Laws.{FreeTogether, ReadyFirstDepartsFirst}
-use Rattle.ground_turns.specs.Maps.{Holds, IsSuccessorMap, arrivals_of, turn_at}
-use Rattle.ground_turns.specs.Turns.{crosses, departs_at, ready_at, station_at}
+use Rattle.ground_turns.specs.Maps.{Holds, IsSuccessorMap, turn_at}
+use Rattle.ground_turns.specs.Turns.{departs_at, ready_at, station_at}
 use Rattle.sums.proofs.Rounds.{mod_cases}
 use Rattle.ground_turns.proofs.FirstOuts.{all_before, departs_free, few_cross, free_zero, lands_free, low_place, within_landings}
 use Rattle.ground_turns.proofs.FreeTurns.{all_departed, all_there, is_free, need_crosses, there}

@@ -1,7 +1,6 @@
 -- A map fits exactly where its turns are clean: at each station a moment has stand 0.
 use Rattle.std.proofs.Common.{◌≡◌, ◌+◌, ◌<◌, ◌==◌, ◌&&◌, ◌∙◌, Bool, List, ℕ, ap, arith, false, inl, inr, length, nat_le, nat_lt, refl, subst, sym, true}
 use Rattle.std.proofs.lemmas.Bool.{cases_lt, and_from, and_parts, eqb-true, eq-eqb}
-use Rattle.std.proofs.lemmas.Bool.Decides.{nat_tests}
 use Rattle.sums.specs.Below.{sum_below}
 use Rattle.sums.proofs.Counts.{count_below-some}
 use Rattle.sums.proofs.Sums.{sum_below-agree, sum_below-add, sum_below-zero}

@@ -1,5 +1,6 @@
 -- The turns of a map beside given pairs: how many of them cross the period's start.
 use Rattle.std.proofs.Common.{◌≡◌, ℕ, ◌+◌, ◌*◌, ◌<◌, ◌≤◌, Bool, true, false, not, ◌==◌, ◌&&◌, nat_le, List, length, refl, sym, ◌∙◌, ap, subst, inl, inr, arith}
+use mathlib.Core.Bool.{false≢true}
 use Rattle.std.proofs.lemmas.Bool.{cases_order, and_from, and_parts, eqb-true, eq-eqb}
 use Rattle.std.proofs.lemmas.Bool.Decides.{nat_tests}
 use Rattle.sums.specs.Below.{sum_below, count_below}
@@ -39,9 +40,6 @@ some_test n h = grind (arith, nat_tests)
 both_ways : (b : Bool) → (b ≡ false → ⊥) → b ≡ true
 both_ways true h = refl
 both_ways false h = absurd (h refl)
-
-clash : (b : Bool) → b ≡ true → b ≡ false → ⊥
-clash b e g = cc
 
 pub landed_part : (w b r c : Bool) → bit w * bit ((b && c) && r) ≡ bit (((w && b) && c) && r)
 landed_part true b r c = omega arith
@@ -106,12 +104,12 @@ module _ (t : Tables) (a : List ℕ) (f : ℕ) (given turns : List Connection) (
       let found = some_counted (λ g. (turn_at given g).departing == (turn_at turns k).departing) (length given) (some_tested _ none) in
       let same = by_departing found.0 k found.1 lt (eqb-true _ _ found.2) in
       let some = count_below-some (λ g. (turn_at given g).arriving == (turn_at turns k).arriving) (length given) found.0 found.1 (eq-eqb _ _ (ap (λ turn. turn.arriving) (sym same))) in
-      clash _ e (some_test _ some)))
+      absurd (false≢true (sym (some_test _ some) ∙ e))))
       (λ e. both_ways _ (λ none.
       let found = some_counted (λ g. (turn_at given g).arriving == (turn_at turns k).arriving) (length given) (some_tested _ none) in
       let same = by_arriving found.0 k found.1 lt (eqb-true _ _ found.2) in
       let some = count_below-some (λ g. (turn_at given g).departing == (turn_at turns k).departing) (length given) found.0 found.1 (eq-eqb _ _ (ap (λ turn. turn.departing) (sym same))) in
-      clash _ e (some_test _ some)))
+      absurd (false≢true (sym (some_test _ some) ∙ e))))
 
   -- a free turn at a station
   unfoldable pub there : ℕ → ℕ → Bool

@@ -4,16 +4,8 @@ use Rattle.std.proofs.lemmas.Bool.{cases_lt, eqb-false, eqb-true}
 use Rattle.std.proofs.lemmas.Bool.Decides.{nat_tests}
 use Rattle.sums.specs.Below.{sum_below, count_below, max_below}
 use Rattle.sums.proofs.Sums.{sum_below-add, sum_below-agree, sum_below-one, sum_below-swap, sum_below-zero}
+pub use Rattle.sums.proofs.Terms.{some_counted}
 use Rattle.ground_turns.proofs.Rounds.{bit}
-
--- where numbers are counted, one passes
-pub some_counted : (p : ℕ → Bool) (n : ℕ) → 0 < count_below p n → (k : ℕ) × (k < n) × (p k ≡ true)
-some_counted p zero h = absurd (omega arith)
-some_counted p (suc n) h = by_last (p n) refl h (λ some. some_counted p n some)
-  where
-    by_last : (b : Bool) → p n ≡ b → 0 < count_below p n + bit b → (0 < count_below p n → (k : ℕ) × (k < n) × (p k ≡ true)) → (k : ℕ) × (k < suc n) × (p k ≡ true)
-    by_last true e some before = (n, omega arith, e)
-    by_last false e some before = let found = before (omega arith) in (found.0, omega (arith, found.1), found.2)
 
 -- a maximum above 0 is a term
 pub some_greatest : (f : ℕ → ℕ) (n : ℕ) → 0 < max_below f n → (k : ℕ) × (k < n) × (f k ≡ max_below f n)

@@ -1,5 +1,5 @@
 -- The nights of a fitting map, all in all.
-use Rattle.std.proofs.Common.{◌≡◌, ◌+◌, ◌-◌, ◌*◌, ◌/◌, ◌<◌, [], ◌∷◌, ◌∙◌, ◌≤◌, Bool, List, ℕ, ap, arith, length, length-append, refl, replicate, suc, sym, zero}
+use Rattle.std.proofs.Common.{◌≡◌, ◌+◌, ◌-◌, ◌*◌, ◌/◌, ◌<◌, [], ◌∷◌, ◌∙◌, ◌≤◌, List, ℕ, ap, arith, length, length-append, refl, replicate, suc, sym, zero}
 use Rattle.std.proofs.lemmas.List.{length-replicate}
 use Rattle.std.proofs.Math.Nat.{mul_comm}
 use Rattle.sums.specs.Below.{sum_below}

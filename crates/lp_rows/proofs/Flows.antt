@@ -26,7 +26,7 @@ use Rattle.lp_rows.specs.Layout.{IsNetwork, Starts, node_at, parking_days}
 use Rattle.lp_rows.proofs.LineSums.{coming_to, last_arc, leaving_from, night_arc}
 use Rattle.lp_rows.proofs.NightArcs.{night_arc_is, night_node}
 use Rattle.lp_rows.proofs.NodeCounts.{come_first, come_next, left_first, left_next, no_need, none_move, none_stand}
-use Rattle.lp_rows.proofs.Picks.{place_before}
+use Rattle.lp_rows.proofs.Picks.{one_before, place_before}
 
 abbrev pub flown : (Column → ℕ) → Weights
 flown v p = v (Flight p)
@@ -45,11 +45,8 @@ pub record IsFlow (t : Tables) (starts : Starts) (q : ℕ) (v : Column → ℕ) 
 pub last_is : (starts : Starts) (v : Column → ℕ) (f s : ℕ) → 0 < length (starts f s) → last_arc starts v f s ≡ v (Ground (node_at f s (length (starts f s) - 1)))
 last_is starts v f s some =
     sum_below-agree (λ k. if length (starts f s) == k + 1 then v (Ground (node_at f s k)) else 0) (λ k. if length (starts f s) - 1 == k then v (Ground (node_at f s k)) else 0) (length (starts f s))
-    (record { each = λ k below. ap (λ b. if b then v (Ground (node_at f s k)) else 0) (same_test (length (starts f s)) k some) })
+    (record { each = λ k below. ap (λ b. if b then v (Ground (node_at f s k)) else 0) (one_before (length (starts f s)) k some) })
     ∙ sum_below-at (length (starts f s) - 1) (length (starts f s)) (λ k. v (Ground (node_at f s k))) (omega arith)
-  where
-    same_test : (n k : ℕ) → 0 < n → (n == k + 1) ≡ (n - 1 == k)
-    same_test n k some = grind (arith, nat_tests)
 
 pub no_last : (starts : Starts) (v : Column → ℕ) (f s : ℕ) → length (starts f s) ≡ 0 → last_arc starts v f s ≡ 0
 no_last starts v f s none = ap (sum_below (λ k. if length (starts f s) == k + 1 then v (Ground (node_at f s k)) else 0)) none

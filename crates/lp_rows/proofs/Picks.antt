@@ -1,5 +1,5 @@
 -- Sums in which tests leave one term of many.
-use Rattle.std.proofs.Common.{◌≡◌, ℕ, ◌-◌, ◌<◌, Bool, true, false, if◌then◌else◌, ◌==◌, ◌&&◌, ℤ, pos, ◌-ℤ◌, ◌*ℤ◌, refl, ◌∙◌, ap, arith}
+use Rattle.std.proofs.Common.{◌≡◌, ℕ, ◌+◌, ◌-◌, ◌<◌, Bool, true, false, if◌then◌else◌, ◌==◌, ◌&&◌, ℤ, pos, ◌-ℤ◌, ◌*ℤ◌, refl, ◌∙◌, ap, arith}
 use Rattle.std.proofs.lemmas.Bool.Decides.{nat_tests}
 use Rattle.std.proofs.lemmas.Int.{ints}
 use lib.IntN.{zero-*ℤ}
@@ -45,6 +45,10 @@ pick_station fleets stations b len u there =
     sum_below_ℤ-same (λ f. sum_below_ℤ (λ s. sum_below_ℤ (λ k. where_true (b == s) (u f s k)) (len f s)) stations) (λ f. sum_below_ℤ (u f b) (len f b)) fleets
     (λ f below. sum_below_ℤ-same (λ s. sum_below_ℤ (λ k. where_true (b == s) (u f s k)) (len f s)) (λ s. where_true (b == s) (sum_below_ℤ (u f s) (len f s))) stations (λ s lt. test_out (b == s) (u f s) (len f s))
     ∙ sum_below_ℤ-one b (λ s. sum_below_ℤ (u f s) (len f s)) stations there)
+
+-- numbers from 1 and from 0
+pub one_before : (n k : ℕ) → 0 < n → (n == k + 1) ≡ (n - 1 == k)
+one_before n k some = grind (arith, nat_tests)
 
 -- the place of the node before one
 abbrev pub place_before : ℕ → ℕ → ℕ

@@ -1,6 +1,5 @@
 -- The room of a day of a station, among all.
-use Rattle.std.proofs.Common.{◌≡◌, ℕ, ◌+◌, ◌-◌, ◌<◌, Bool, true, false, ◌==◌, ◌&&◌, ℤ, pos, refl, ◌∙◌, ap, arith}
-use Rattle.std.proofs.lemmas.Bool.Decides.{nat_tests}
+use Rattle.std.proofs.Common.{◌≡◌, ◌+◌, ◌-◌, ◌<◌, Bool, true, false, ◌==◌, ◌&&◌, ℤ, pos, refl, ◌∙◌, ap, arith}
 use Rattle.sums.specs.Below.{sum_below_ℤ}
 use Rattle.sums.proofs.WholeSums.{sum_below_ℤ-same}
 use Rattle.sums.proofs.WholeSwaps.{sum_below_ℤ-one, where_true}
@@ -10,10 +9,7 @@ use Rattle.lp_rows.specs.declared.kinds.Park.{Park}
 use Rattle.lp_rows.specs.Entries.{IsPark, one_if, same_park}
 use Rattle.lp_rows.specs.Layout.{park_at, parking_days}
 use Rattle.lp_rows.proofs.ListSums.{test_out}
-
--- days count from 1, their numbers from 0
-same_test : (day k : ℕ) → 0 < day → (day == k + 1) ≡ (day - 1 == k)
-same_test day k some = grind (arith, nat_tests)
+use Rattle.lp_rows.proofs.Picks.{one_before}
 
 two_deep : (a b : Bool) (z : ℤ) → where_true (a && b) z ≡ where_true a (where_true b z)
 two_deep true b z = refl
@@ -35,7 +31,7 @@ pick_room t p known u =
     (λ s. where_true (p.station == s) (sum_below_ℤ (λ k. where_true (p.day - 1 == k) (u (park_at s k))) (parking_days t s))) (stations_in t)
     (λ s within.
     sum_below_ℤ-same (λ k. where_true (same_park p (park_at s k)) (u (park_at s k))) (λ k. where_true (p.station == s) (where_true (p.day - 1 == k) (u (park_at s k)))) (parking_days t s)
-    (λ k below. two_deep (p.station == s) (p.day == k + 1) (u (park_at s k)) ∙ ap (λ b. where_true (p.station == s) (where_true b (u (park_at s k)))) (same_test p.day k known.some))
+    (λ k below. two_deep (p.station == s) (p.day == k + 1) (u (park_at s k)) ∙ ap (λ b. where_true (p.station == s) (where_true b (u (park_at s k)))) (one_before p.day k known.some))
     ∙ test_out (p.station == s) (λ k. where_true (p.day - 1 == k) (u (park_at s k))) (parking_days t s))
     ∙ sum_below_ℤ-one p.station (λ s. sum_below_ℤ (λ k. where_true (p.day - 1 == k) (u (park_at s k))) (parking_days t s)) (stations_in t) known.station
     ∙ sum_below_ℤ-one (p.day - 1) (λ k. u (park_at p.station k)) (parking_days t p.station) (omega (arith, known.some, known.day))

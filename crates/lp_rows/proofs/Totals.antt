@@ -4,6 +4,7 @@ use Rattle.std.proofs.lemmas.List.{length-map}
 use Rattle.std.proofs.lemmas.List.Elements.{All-append, All-cons, All-head, All-map, All-nil, All-tail}
 use Rattle.fleet_model.specs.declared.limits.TheConstants.{MAX_CHOICES}
 use Rattle.sums.specs.Below.{sum_below_ℤ}
+use Rattle.sums.proofs.NumberTests.{if_below}
 use Rattle.sums.proofs.Places.{get_or-list_below, length-list_below}
 use Rattle.sums.proofs.WholeSums.{sum_below_ℤ-same}
 use Rattle.sums.proofs.WholeSwaps.{where_true}
@@ -163,12 +164,8 @@ few_nodes t starts few =
     omega (arith, row, t.in_range.stations_fit.few)) in
     omega (arith, nodes, t.in_range.fleets_fit.few)
 
-all_or_none : (b : Bool) (n most : ℕ) → n ≤ most → (if b then n else 0) ≤ most
-all_or_none true n most few = few
-all_or_none false n most few = omega arith
-
 pub few_parking_days : (t : Tables) (s : ℕ) → parking_days t s ≤ 7
-few_parking_days t s = all_or_none (is_some (parking_of t s)) (days_in t) 7 (few_days t)
+few_parking_days t s = if_below (is_some (parking_of t s)) (days_in t) 7 (few_days t)
 
 pub few_parks : (t : Tables) → length (all_parks t) ≤ 1400
 few_parks t =

@@ -1,9 +1,9 @@
 -- What charges say that are written day by day.
 use Rattle.std.proofs.Common.{◌≡◌, ℕ, zero, suc, ◌<◌, Bool, true, false, cond, ◌==◌, ◌&&◌, if◌then◌else◌, List, [], ◌∷◌, ◌++◌, ℤ, pos, neg_ℤ, unsigned_abs, refl, sym, ◌∙◌, ap, subst, inl, inr, arith}
-use Rattle.std.proofs.lemmas.Bool.{cases_lt, eqb-true}
+use Rattle.std.proofs.lemmas.Bool.{cases_lt}
 use Rattle.sums.proofs.Naturals.{equal_number, zero_number}
 use Rattle.sums.proofs.Sizes.{zero_size}
-use Rattle.sums.proofs.Tests.{both_true, by_test, parts_true}
+use Rattle.sums.proofs.Tests.{both_true, by_test}
 use Rattle.fleet_model.specs.declared.tables.Tables.{Tables}
 use Rattle.lp_rows.specs.declared.kinds.Park.{Park}
 use Rattle.lp_rows.specs.Entries.{IsPark}
@@ -13,7 +13,7 @@ use Rattle.lp_rows.proofs.Counted.{parks_are}
 use Rattle.dual_bound.specs.Prices.{is_charge_of, last_charge}
 use Rattle.dual_bound.specs.declared.prices.Charge.{Charge}
 use Rattle.price_lift.specs.Steps.{all_charges, charge_where, charges_at}
-use Rattle.price_lift.proofs.Parks.{number_of_park, park_is, park_number, park_within}
+use Rattle.price_lift.proofs.Parks.{number_of_park, park_is, park_number, park_within, same_as}
 
 last_charge-append : (c : ℤ) (xs ys : List Charge) (s d : ℕ) → last_charge c (xs ++ ys) s d ≡ last_charge (last_charge c xs s d) ys s d
 unfolding last_charge
@@ -66,20 +66,15 @@ module _ (t : Tables) (value : ℕ → ℤ) (s d : ℕ) where
         ∙ ap (λ k. neg_ℤ (value k)) same
   ]
 
-  same_here : (p : Park) → is_here p ≡ true → p ≡ record { station = s; day = d }
-  same_here p e =
-      let both = parts_true (p.station == s) (p.day == d) e in
-      ap (λ r. record { station = r; day = p.day }) (eqb-true p.station s both.0) ∙ ap (λ k. record { station = s; day = k }) (eqb-true p.day d both.1)
-
   -- of a day with a limit the charge is its value with the other sign, of any other 0
   pub charged : IsPark t (record { station = s; day = d }) → last_charge (pos 0) (all_charges t value) s d ≡ neg_ℤ (value (number_of_park t (record { station = s; day = d })))
   charged known =
       let own : is_here (record { station = s; day = d }) ≡ true = both_true (s == s) (d == d) (equal_number s s refl) (equal_number d d refl) in
       ap below (parks_are t)
       ∙ found (number_of_park t (record { station = s; day = d })) (park_count t) (park_within t (record { station = s; day = d }) known) (ap is_here (park_is t (record { station = s; day = d }) known) ∙ own)
-      (λ k less e. sym (park_number t k less).is ∙ ap (number_of_park t) (same_here (park_of_number t k) e))
+      (λ k less e. sym (park_number t k less).is ∙ ap (number_of_park t) (same_as (park_of_number t k) (record { station = s; day = d }) e))
 
   pub not_charged : ¬ (IsPark t (record { station = s; day = d })) → last_charge (pos 0) (all_charges t value) s d ≡ pos 0
   not_charged none =
       ap below (parks_are t)
-      ∙ missing (park_count t) (λ k less. by_test (is_here (park_of_number t k)) (λ e. absurd (none (subst (IsPark t) (same_here (park_of_number t k) e) (park_number t k less).known))) (λ e. e))
+      ∙ missing (park_count t) (λ k less. by_test (is_here (park_of_number t k)) (λ e. absurd (none (subst (IsPark t) (same_as (park_of_number t k) (record { station = s; day = d }) e) (park_number t k less).known))) (λ e. e))

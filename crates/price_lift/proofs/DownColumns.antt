@@ -22,7 +22,7 @@ use Rattle.lp_rows.specs.Points.{node_count, park_count, priced_count}
 use Rattle.lp_rows.proofs.ListSums.{all_zero}
 use Rattle.lp_rows.proofs.Picks.{pick_nodes}
 use Rattle.lp_rows.proofs.LinePlaces.{balance_there, before, count_there, cover_there, node_there, node_within, over_lines, parking_there}
-use Rattle.price_lift.proofs.Parks.{number_of_park, pick_park}
+use Rattle.price_lift.proofs.Parks.{number_of_park, pick_park, same_as}
 
 -- ---- tests
 flip : (a b : ℕ) → (a == b) ≡ (b == a)
@@ -43,13 +43,6 @@ two_tests false b z = refl
 three_tests : (a b c : Bool) (z : ℤ) → where_true (a && (b && c)) z ≡ where_true a (where_true b (where_true c z))
 three_tests true b c z = two_tests b c z
 three_tests false b c z = refl
-
--- days of one station and of one number are one
-same_as : (p q : Park) → same_park p q ≡ true → p ≡ q
-same_as p q e =
-    let station : p.station ≡ q.station = grind (arith, nat_tests) in
-    let day : p.day ≡ q.day = grind (arith, nat_tests) in
-    ap (λ s. record { station = s; day = p.day }) station ∙ ap (λ d. record { station = q.station; day = d }) day
 
 module _ (t : Tables) (starts : Starts) (y : ℕ → ℤ) where
   -- the number of a node's balance line, that of a count line, and that of a parking line

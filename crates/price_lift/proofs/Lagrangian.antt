@@ -42,7 +42,7 @@ use Rattle.price_lift.specs.Prices.{AreByLines}
 use Rattle.price_lift.proofs.DownColumns.{at_minute, down, down_flight, down_ground, down_left_out, down_room, down_sides, down_slack, of_fleet, of_node}
 use Rattle.price_lift.proofs.ChargedArcs.{DoRiseByCharges}
 use Rattle.price_lift.proofs.LeastBounds.{below_unwrapped}
-use Rattle.price_lift.proofs.ParkCharges.{charge_is, limited_days, limits_charged, number_is, passed_charge}
+use Rattle.price_lift.proofs.ParkCharges.{charge_is, factor_out, limited_days, limits_charged, number_is, passed_charge}
 use Rattle.price_lift.proofs.Parks.{number_of_park, park_within}
 use Rattle.lp_rows.proofs.LinePlaces.{balance_there, before, count_there, node_there, node_within}
 use Rattle.price_lift.proofs.Minutes.{IsAtPlace, Rise, at_place, in_node, later, nodes_rise, one_place, some_place, test_of}
@@ -158,15 +158,12 @@ module _ (t : Tables) (keeps : Domains) (starts : Starts) (network : IsNetwork t
         let charges = limits_charged t starts prices value by h y scaled in
         let no_more = neg_ℤ-*ℤ h (sum_below_ℤ (charges_of t prices) (stations_in t)) in
         let rents = sum_below_ℤ-same (λ f. of_fleet t starts y f *ℤ pos (fleet_of t f).aircraft) (λ f. neg_ℤ h *ℤ rents_of t prices f) (fleets_in t)
-        (λ f known. ap (λ z. z *ℤ pos (fleet_of t f).aircraft) (fleet_is f known) ∙ moved (rent_of prices f) (pos (fleet_of t f).aircraft)) in
+        (λ f known. ap (λ z. z *ℤ pos (fleet_of t f).aircraft) (fleet_is f known) ∙ factor_out h (rent_of prices f) (pos (fleet_of t f).aircraft)) in
         let all_rents = *ℤ-sum_below_ℤ (neg_ℤ h) (rents_of t prices) (fleets_in t) in
         let sign = neg_ℤ-*ℤ h (sum_below_ℤ (rents_of t prices) (fleets_in t)) in
         let apart = *ℤ--ℤ h (sum_below_ℤ (leg_worth t keeps prices k) (legs_in t)) (sum_below_ℤ (rents_of t prices) (fleets_in t)) in
         let less = *ℤ--ℤ h (sum_below_ℤ (leg_worth t keeps prices k) (legs_in t) -ℤ sum_below_ℤ (rents_of t prices) (fleets_in t)) (sum_below_ℤ (charges_of t prices) (stations_in t)) in
         omega (arith, ints, down_sides t starts y, legs, all_legs, rents, all_rents, sign, apart, charges, no_more, less)
-      where
-        moved : (r a : ℤ) → neg_ℤ (h *ℤ r) *ℤ a ≡ neg_ℤ h *ℤ (r *ℤ a)
-        moved r a = neg_ℤ-*ℤ (h *ℤ r) a ∙ ap neg_ℤ (*ℤ_assoc h r a) ∙ sym (neg_ℤ-*ℤ h (r *ℤ a))
 
     -- ---- rents, charges and rises
     rent_some : (f : ℕ) → f < fleets_in t → pos 0 ≤ℤ rent_of prices f

@@ -28,7 +28,11 @@ use Rattle.dual_bound.specs.declared.prices.Prices.{Prices}
 use Rattle.dual_bound.proofs.Charges.{charge_after, day_within, some_day}
 use Rattle.price_lift.specs.Prices.{AreByLines}
 use Rattle.price_lift.proofs.DownColumns.{of_park, of_passed}
-use Rattle.price_lift.proofs.Parks.{no_park, number_of_park, over_parks, park_is, park_number, park_within, pick_park}
+use Rattle.price_lift.proofs.Parks.{no_park, number_of_park, over_parks, park_is, park_number, park_within, pick_park, same_as}
+
+-- a factor of what is taken off so many times
+pub factor_out : (h r a : ℤ) → neg_ℤ (h *ℤ r) *ℤ a ≡ neg_ℤ h *ℤ (r *ℤ a)
+factor_out h r a = neg_ℤ-*ℤ (h *ℤ r) a ∙ ap neg_ℤ (*ℤ_assoc h r a) ∙ sym (neg_ℤ-*ℤ h (r *ℤ a))
 
 -- a station with a limit has one at the end of each day
 pub limited_days : (t : Tables) (s : ℕ) → 0 < parking_days t s → parking_days t s ≡ days_in t
@@ -58,9 +62,6 @@ ends_day m d some is = omega (arith, is)
 at_day_end : (m : ℕ) → (m + 1) % MINUTES_PER_DAY ≡ 0 → m ≡ day_end ((m + 1) / MINUTES_PER_DAY)
 at_day_end m ends = omega (arith, ends)
 
-same_park_by : (q : Park) (s d : ℕ) → q.station ≡ s → q.day ≡ d → q ≡ record { station = s; day = d }
-same_park_by q s d station day = ap (λ r. record { station = r; day = q.day }) station ∙ ap (λ k. record { station = s; day = k }) day
-
 module _ (t : Tables) (starts : Starts) (prices : Prices) (value : ℕ → ℤ) (by : AreByLines t starts value prices) (h : ℤ) (y : ℕ → ℤ)
     (scaled : (j : ℕ) → j < priced_count t starts → y (legs_in t + j) ≡ h *ℤ value (legs_in t + j)) where
   abbrev line_of : ℕ → ℕ
@@ -84,8 +85,9 @@ module _ (t : Tables) (starts : Starts) (prices : Prices) (value : ℕ → ℤ) 
     abbrev m : ℕ
     m = end_in t (starts n.fleet n.station) n.place
 
-    abbrev d : ℕ
-    d = (m + 1) / MINUTES_PER_DAY
+    -- the day that the minute ends, where it ends one
+    abbrev day_there : Park
+    day_there = record { station = n.station; day = (m + 1) / MINUTES_PER_DAY }
 
     abbrev passes : Park → Bool
     passes q = passes_day_end t starts q n
@@ -98,13 +100,12 @@ module _ (t : Tables) (starts : Starts) (prices : Prices) (value : ℕ → ℤ) 
 
     at_limit : (m + 1) % MINUTES_PER_DAY ≡ 0 → 0 < parking_days t n.station → of_passed t starts y n ≡ neg_ℤ (h *ℤ charge_of prices n.station ((m + 1) / MINUTES_PER_DAY))
     at_limit ends limited =
-        let known : IsPark t (record { station = n.station; day = (m + 1) / MINUTES_PER_DAY }) = record { station = within; some = some_day m ends; day = omega (arith, day_within t m period ends, limited_days t n.station limited) } in
-        pick_park t passes (of_park t starts y) (record { station = n.station; day = (m + 1) / MINUTES_PER_DAY }) known
-        (both_true (n.station == n.station) (m == day_end ((m + 1) / MINUTES_PER_DAY)) (equal_number n.station n.station refl) (equal_number m (day_end ((m + 1) / MINUTES_PER_DAY)) (at_day_end m ends)))
-        (λ q is e. let at = passed q e in same_park_by q n.station ((m + 1) / MINUTES_PER_DAY) at.0 (day_of m q.day is.some at.1))
-        ∙ number_is (record { station = n.station; day = (m + 1) / MINUTES_PER_DAY }) known
+        let known : IsPark t day_there = record { station = within; some = some_day m ends; day = omega (arith, day_within t m period ends, limited_days t n.station limited) } in
+        pick_park t passes (of_park t starts y) day_there known (both_true (n.station == n.station) (m == day_end ((m + 1) / MINUTES_PER_DAY)) (equal_number n.station n.station refl) (equal_number m (day_end ((m + 1) / MINUTES_PER_DAY)) (at_day_end m ends)))
+        (λ q is e. let at = passed q e in same_as q day_there (both_true (q.station == n.station) (q.day == (m + 1) / MINUTES_PER_DAY) (equal_number q.station n.station at.0) (equal_number q.day ((m + 1) / MINUTES_PER_DAY) (day_of m q.day is.some at.1))))
+        ∙ number_is day_there known
 
-    no_limit : (limited : parking_days t n.station ≡ 0) (d : ℕ) → charge_of prices n.station d ≡ pos 0
+    no_limit : parking_days t n.station ≡ 0 → (d : ℕ) → charge_of prices n.station d ≡ pos 0
     no_limit none d = by.uncharged n.station d (λ known. omega (arith, known.some, known.day, none))
 
     pub passed_charge : of_passed t starts y n ≡ neg_ℤ (h *ℤ charge_after prices n.station (end_in t (starts n.fleet n.station) n.place))
@@ -133,9 +134,6 @@ module _ (t : Tables) (starts : Starts) (prices : Prices) (value : ℕ → ℤ) 
   abbrev for_limit : ℕ → ℕ → ℤ
   for_limit s d = neg_ℤ (h *ℤ charge_of prices s d) *ℤ pos (limit_of t s)
 
-  moved : (c a : ℤ) → neg_ℤ (h *ℤ c) *ℤ a ≡ neg_ℤ h *ℤ (c *ℤ a)
-  moved c a = neg_ℤ-*ℤ (h *ℤ c) a ∙ ap neg_ℤ (*ℤ_assoc h c a) ∙ sym (neg_ℤ-*ℤ h (c *ℤ a))
-
   at_station : (s : ℕ) → s < stations_in t → sum_below_ℤ (λ k. for_limit s (k + 1)) (parking_days t s) ≡ neg_ℤ h *ℤ charges_of t prices s
   at_station s within = elim (cases_lt 0 (parking_days t s)) [
     | inl limited ↦ ap (sum_below_ℤ (λ k. for_limit s (k + 1))) (limited_days t s limited) ∙ in_days
@@ -147,7 +145,7 @@ module _ (t : Tables) (starts : Starts) (prices : Prices) (value : ℕ → ℤ) 
     where
       in_days : sum_below_ℤ (λ k. for_limit s (k + 1)) (days_in t) ≡ neg_ℤ h *ℤ charges_of t prices s
       in_days =
-          sum_below_ℤ-same (λ k. for_limit s (k + 1)) (λ k. neg_ℤ h *ℤ (charge_of prices s (k + 1) *ℤ pos (limit_of t s))) (days_in t) (λ k below. moved (charge_of prices s (k + 1)) (pos (limit_of t s)))
+          sum_below_ℤ-same (λ k. for_limit s (k + 1)) (λ k. neg_ℤ h *ℤ (charge_of prices s (k + 1) *ℤ pos (limit_of t s))) (days_in t) (λ k below. factor_out h (charge_of prices s (k + 1)) (pos (limit_of t s)))
           ∙ sym (*ℤ-sum_below_ℤ (neg_ℤ h) (λ k. charge_of prices s (k + 1) *ℤ pos (limit_of t s)) (days_in t))
 
   pub limits_charged : sum_below_ℤ (λ k. of_park t starts y k *ℤ pos (limit_of t (park_of_number t k).station)) (park_count t) ≡ neg_ℤ h *ℤ sum_below_ℤ (charges_of t prices) (stations_in t)

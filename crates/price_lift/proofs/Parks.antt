@@ -4,18 +4,24 @@ use Rattle.std.proofs.lemmas.Bool.{eqb-true}
 use Rattle.sums.specs.Below.{sum_below, sum_below_ℤ}
 use Rattle.sums.proofs.Naturals.{equal_number}
 use Rattle.sums.proofs.Places.{get_or-list_below, length-list_below}
-use Rattle.sums.proofs.Tests.{same_tests}
+use Rattle.sums.proofs.Tests.{parts_true, same_tests}
 use Rattle.sums.proofs.WholeSums.{sum_below_ℤ-same}
 use Rattle.sums.proofs.WholeSwaps.{sum_below_ℤ-one, where_true}
 use Rattle.fleet_model.specs.declared.tables.Tables.{Tables}
 use Rattle.fleet_model.specs.Schedule.{stations_in}
 use Rattle.lp_rows.specs.declared.kinds.Park.{Park}
-use Rattle.lp_rows.specs.Entries.{IsPark}
+use Rattle.lp_rows.specs.Entries.{IsPark, same_park}
 use Rattle.lp_rows.specs.Layout.{park_at, park_of_number, parking_days, parks_at}
 use Rattle.lp_rows.specs.Points.{park_count}
 use Rattle.lp_rows.proofs.ListPlaces.{at_concat, split, sum_parts, within_sum}
 use Rattle.lp_rows.proofs.ListSums.{all_zero}
 use Rattle.lp_rows.proofs.Rooms.{by_number}
+
+-- days of one station and of one number are one
+pub same_as : (p q : Park) → same_park p q ≡ true → p ≡ q
+same_as p q e =
+    let both = parts_true (p.station == q.station) (p.day == q.day) e in
+    ap (λ s. record { station = s; day = p.day }) (eqb-true p.station q.station both.0) ∙ ap (λ d. record { station = q.station; day = d }) (eqb-true p.day q.day both.1)
 
 module _ (t : Tables) where
   -- the number of a day: how many stand before those of its station, and the day's own

@@ -31,7 +31,7 @@ pub struct Lifted {
 }
 
 /// Prices and a cheapest fractional assignment from the table and the basis with which the run over a subproblem's
-/// lines ended at a cheapest point. The prices are the dual values of balance and count lines in lowest terms, and
+/// lines ended at a cheapest point. The prices are the dual values of balance, count and parking lines in lowest terms, and
 /// their worth is the cost of the fractional assignment, both over their scales (linear duality). Where they rise over an
 /// arc that went, the rise goes to the arc's moment and is paid back.
 ///

@@ -2,7 +2,8 @@
 use Rattle.std.proofs.Common.{◌≡◌, ℕ, Bool, true, false, cond, Option, Some, None, Result, Ok, Err, refl}
 use Rattle.proof_lines.specs.Figures.{figure}
 use Rattle.proof_lines.specs.Known.{named}
-use Rattle.proof_lines.specs.Reading.{both, made}
+use Rattle.proof_lines.specs.Flaws.{both}
+use Rattle.proof_lines.specs.Reading.{made}
 use Rattle.proof_lines.specs.declared.flaws.Flaw.{Flaw}
 use Rattle.proof_lines.specs.declared.line.Line.{Line}
 

@@ -14,7 +14,7 @@ use Rattle.proof_lines.specs.declared.line.Line.{Line}
 use Rattle.proof_lines.specs.declared.line.Line.TheVariants as line
 use Rattle.proof_lines.specs.declared.line.Version.{Version}
 use Rattle.proof_lines.specs.declared.line.Version.TheVariants as version
-use Rattle.proof_lines.proofs.WordForms.{fleet_is, leg_is, number_word, signed_word, station_is, written}
+use Rattle.proof_lines.proofs.WordForms.{choice_is, fleet_is, leg_is, number_word, signed_word, station_is, written}
 
 one : (a : Word) → IsWord a → All IsWord (a ∷ [])
 one a p = All-from_recursion IsWord (a ∷ []) (p, tt)
@@ -51,11 +51,11 @@ version_is version.One = written _ _ refl
 
 names_are : (t : Tables) (line : Line) → IsNamed t line → All IsWord (names_of t line)
 names_are t (line.Bare leg) is = one _ (leg_is t leg is)
-names_are t (line.Trim leg choice) is = two _ _ (leg_is t leg is.0) (fleet_is t choice is.1)
-names_are t (line.Split leg choice) is = two _ _ (leg_is t leg is.0) (fleet_is t choice is.1)
+names_are t (line.Trim leg choice) is = two _ _ (leg_is t leg is.leg) (choice_is t leg choice is)
+names_are t (line.Split leg choice) is = two _ _ (leg_is t leg is.leg) (choice_is t leg choice is)
 names_are t (line.Rent fleet rent) is = one _ (fleet_is t fleet is)
 names_are t (line.At fleet station minute value) is = two _ _ (fleet_is t fleet is.0) (station_is t station is.1)
-names_are t (line.Weight leg choice weight) is = two _ _ (leg_is t leg is.0) (fleet_is t choice is.1)
+names_are t (line.Weight leg choice weight) is = two _ _ (leg_is t leg is.leg) (choice_is t leg choice is)
 names_are t other is = All-nil IsWord
 
 figures_are : (line : Line) → All IsWord (figures_of line)

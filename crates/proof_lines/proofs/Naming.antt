@@ -1,17 +1,24 @@
--- The numbers of names, and the names of numbers.
-use Rattle.std.proofs.Common.{◌≡◌, ◌≢◌, ℕ, zero, suc, ◌+◌, ◌<◌, Bool, true, false, cond, List, [], ◌∷◌, length, map, slice_index_or, bytes_eq, nat_lt, Some, None, Ok, AllPairs, refl, sym, ap, subst, ◌∙◌, arith}
+-- The numbers of names, and the names of numbers; and the pairs that are told by a flight and a fleet.
+use Rattle.std.proofs.Common.{◌≡◌, ◌≢◌, ℕ, zero, suc, ◌+◌, ◌<◌, Bool, true, false, cond, List, [], ◌∷◌, length, map, slice_index_or, bytes_eq, nat_lt, Some, None, Result, Ok, Err, AllPairs, refl, sym, ap, subst, ◌∙◌, arith}
 use Rattle.std.specs.List.{position, position_or_len}
 use Rattle.std.proofs.lemmas.Bool.Decides.{nat_tests}
 use Rattle.std.proofs.lemmas.List.{get_or-map, length-map}
 use Rattle.std.proofs.lemmas.List.Quantifiers.{position-Some}
-use Rattle.fleet_model.specs.Schedule.{fleets_in, legs_in, no_fleet, no_leg, no_station, stations_in}
+use Rattle.fleet_model.specs.OwnTimes.{own_pair}
+use Rattle.fleet_model.specs.Schedule.{IsPair, fleet_by, fleets_in, leg_on, legs_in, no_fleet, no_leg, no_station, stations_in}
+use Rattle.fleet_model.specs.declared.parts.Pair.{Pair}
 use Rattle.fleet_model.specs.declared.tables.Tables.{Tables}
+use Rattle.fleet_model.proofs.FlownPairs.{pairs_are_flown}
+use Rattle.fleet_model.proofs.OwnPairs.{own_flown}
+use Rattle.fleet_model.proofs.OwnTimesOnly.{own_fleet, pairs_are_own}
 use Rattle.table_rows.specs.Names.{number_of}
 use Rattle.table_rows.proofs.Numbered.{bytes_eq-differ}
-use Rattle.proof_lines.specs.Known.{codes_of, fleet_in, fleet_names, flights_of, leg_in, named, names_in, station_in}
-use Rattle.proof_lines.specs.LineText.{fleet_word, leg_word, station_word}
+use Rattle.proof_lines.specs.Known.{codes_of, fleet_in, fleet_names, flights_of, leg_in, named, names_in, pair_in, pair_of, station_in}
+use Rattle.proof_lines.specs.Flaws.{both}
+use Rattle.proof_lines.specs.LineText.{choice_word, fleet_word, leg_word, station_word}
+use Rattle.proof_lines.specs.declared.flaws.Flaw.{Flaw}
 use Rattle.proof_lines.specs.declared.line.Version.{Version}
-use Rattle.proof_lines.proofs.Choosing.{named_some}
+use Rattle.proof_lines.proofs.Choosing.{both_read, named_some}
 use Rattle.proof_lines.proofs.FigureWords.{bytes_same, same_bytes}
 
 place_is : {E : Type 0} (name_of : E → List ℕ) (entries : List E) (d : E) (k : ℕ) → AllPairs (λ a b. name_of a ≢ name_of b) entries → k < length entries
@@ -61,3 +68,34 @@ module _ (v : Version) (t : Tables) where
 
   pub station_read : (word : List ℕ) (s : ℕ) → station_in (names_in v t) word ≡ Ok s → NameOf word (station_word t s) s (stations_in t)
   station_read word s is = name_of_number (λ station. station.code) t.stations no_station word s (named_some (number_of word (codes_of t)) s is)
+
+  -- ---- pairs, each at its leg's own time
+  pub pair_written : (l c : ℕ) → IsPair t (leg_on l c) → pair_in (names_in v t) (leg_word t l) (choice_word t l c) ≡ Ok (leg_on l c)
+  pair_written l c is =
+      let pair = leg_on l c in
+      let flown = pairs_are_flown t pair is in
+      rw (leg_written l is.leg, fleet_written (fleet_by t pair) flown)
+      (ap (λ p. Ok p) (pairs_are_own t pair is))
+
+  -- the words are those of a pair of the tables
+  pub record PairWas (flight name : List ℕ) (pair : Pair) : Type 0 where
+    pub leg_is : flight ≡ leg_word t pair.leg
+    pub choice_is : name ≡ choice_word t pair.leg pair.choice
+    pub known : IsPair t (leg_on pair.leg pair.choice)
+
+  pair_told : (flight name : List ℕ) (pair : Pair) (r : Result (ℕ × ℕ) Flaw) → both (leg_in (names_in v t) flight) (fleet_in (names_in v t) name) ≡ r → pair_of (names_in v t) r ≡ Ok pair → PairWas flight name pair
+  pair_told flight name pair (Ok told) is e =
+      let read = both_read (leg_in (names_in v t) flight) (fleet_in (names_in v t) name) told is in
+      let leg = leg_read flight told.0 read.first in
+      let fleet = fleet_read name told.1 read.second in
+      let same : own_pair t told.0 told.1 ≡ pair = cc e in
+      subst (PairWas flight name) same
+      (record {
+        leg_is = leg.is;
+        choice_is = fleet.is ∙ ap (fleet_word t) (sym (own_fleet t told.0 told.1 leg.known fleet.known));
+        known = (own_flown t told.0 told.1 leg.known fleet.known).pair;
+      })
+  pair_told flight name pair (Err flaw) is e = absurd (cc e)
+
+  pub pair_read : (flight name : List ℕ) (pair : Pair) → pair_in (names_in v t) flight name ≡ Ok pair → PairWas flight name pair
+  pair_read flight name pair e = pair_told flight name pair (both (leg_in (names_in v t) flight) (fleet_in (names_in v t) name)) refl e

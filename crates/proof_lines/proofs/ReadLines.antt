@@ -7,10 +7,11 @@ use Rattle.fleet_model.specs.Schedule.{last_of}
 use Rattle.fleet_model.specs.declared.tables.Tables.{Tables}
 use Rattle.proof_lines.specs.Figures.{count_in, minute_in, natural_in, number_in, signed_in, version_in, version_word}
 use Rattle.proof_lines.specs.Forms.{all_forms, first_form, form_in, keywords, opens, width}
-use Rattle.proof_lines.specs.Known.{names_in, choice_in, fleet_in, leg_in, station_in}
+use Rattle.proof_lines.specs.Flaws.{both}
+use Rattle.proof_lines.specs.Known.{fleet_in, leg_in, names_in, pair_in, station_in}
 use Rattle.proof_lines.specs.Laws.{AreBytesOf, IsLineOf}
 use Rattle.proof_lines.specs.LineText.{IsCount, line_words}
-use Rattle.proof_lines.specs.Reading.{both, fields_in, line_in, of_form}
+use Rattle.proof_lines.specs.Reading.{fields_in, line_in, of_form}
 use Rattle.proof_lines.specs.Words.{Word, is_plain, is_word, joined, parts_of, stands, word_at, words_of}
 use Rattle.proof_lines.specs.declared.flaws.Flaw.TheVariants as flaw
 use Rattle.proof_lines.specs.declared.forms.Form.{Form}
@@ -21,7 +22,7 @@ use Rattle.proof_lines.specs.declared.line.Version.{Version}
 use Rattle.proof_lines.specs.declared.line.Version.TheVariants as version
 use Rattle.proof_lines.proofs.Choosing.{both_read, chose, figure_some, made_by}
 use Rattle.proof_lines.proofs.FigureWords.{same_bytes}
-use Rattle.proof_lines.proofs.Naming.{fleet_read, leg_read, station_read}
+use Rattle.proof_lines.proofs.Naming.{fleet_read, leg_read, pair_read, station_read}
 use Rattle.proof_lines.proofs.Shapes.{five_words, four_words, one_word, three_words, two_words}
 use Rattle.proof_lines.proofs.Spaces.{line_back}
 use Rattle.proof_lines.proofs.WrittenNumbers.{IsNumberWritten, IsWritten, natural_read, number_read}
@@ -159,20 +160,16 @@ module _ (v : Version) (t : Tables) (words : List Word) (it : Line) where
   trim_was : opens words form.Trim ≡ true → length words ≡ 3 → fields_in (names_in v t) form.Trim words ≡ Ok it → AreWordsOf t words it
   unfolding fields_in
   trim_was told many e =
-      let made = made_by _ (both (leg_in (names_in v t) (word_at words 1)) (choice_in (names_in v t) (word_at words 2))) it e in
-      let pair = both_read (leg_in (names_in v t) (word_at words 1)) (choice_in (names_in v t) (word_at words 2)) made.value made.is in
-      let leg = leg_read v t (word_at words 1) made.value.0 pair.first in
-      let choice = fleet_read v t (word_at words 2) made.value.1 pair.second in
-      subst (AreWordsOf t words) made.line_is (record { is = three_words words many ∙ (λ i. first_is words form.Trim told i ∷ leg.is i ∷ choice.is i ∷ []); of_tables = record { named = (leg.known, choice.known); figures = tt } })
+      let made = made_by _ (pair_in (names_in v t) (word_at words 1) (word_at words 2)) it e in
+      let pair = pair_read v t (word_at words 1) (word_at words 2) made.value made.is in
+      subst (AreWordsOf t words) made.line_is (record { is = three_words words many ∙ (λ i. first_is words form.Trim told i ∷ pair.leg_is i ∷ pair.choice_is i ∷ []); of_tables = record { named = pair.known; figures = tt } })
 
   split_was : opens words form.Split ≡ true → length words ≡ 3 → fields_in (names_in v t) form.Split words ≡ Ok it → AreWordsOf t words it
   unfolding fields_in
   split_was told many e =
-      let made = made_by _ (both (leg_in (names_in v t) (word_at words 1)) (choice_in (names_in v t) (word_at words 2))) it e in
-      let pair = both_read (leg_in (names_in v t) (word_at words 1)) (choice_in (names_in v t) (word_at words 2)) made.value made.is in
-      let leg = leg_read v t (word_at words 1) made.value.0 pair.first in
-      let choice = fleet_read v t (word_at words 2) made.value.1 pair.second in
-      subst (AreWordsOf t words) made.line_is (record { is = three_words words many ∙ (λ i. first_is words form.Split told i ∷ leg.is i ∷ choice.is i ∷ []); of_tables = record { named = (leg.known, choice.known); figures = tt } })
+      let made = made_by _ (pair_in (names_in v t) (word_at words 1) (word_at words 2)) it e in
+      let pair = pair_read v t (word_at words 1) (word_at words 2) made.value made.is in
+      subst (AreWordsOf t words) made.line_is (record { is = three_words words many ∙ (λ i. first_is words form.Split told i ∷ pair.leg_is i ∷ pair.choice_is i ∷ []); of_tables = record { named = pair.known; figures = tt } })
 
   scale_was : opens words form.Scale ≡ true → length words ≡ 2 → fields_in (names_in v t) form.Scale words ≡ Ok it → AreWordsOf t words it
   unfolding fields_in
@@ -213,13 +210,11 @@ module _ (v : Version) (t : Tables) (words : List Word) (it : Line) where
   weight_was : opens words form.Weight ≡ true → length words ≡ 4 → fields_in (names_in v t) form.Weight words ≡ Ok it → AreWordsOf t words it
   unfolding fields_in
   weight_was told many e =
-      let made = made_by _ (both (both (leg_in (names_in v t) (word_at words 1)) (choice_in (names_in v t) (word_at words 2))) (number_in (word_at words 3))) it e in
-      let read = both_read (both (leg_in (names_in v t) (word_at words 1)) (choice_in (names_in v t) (word_at words 2))) (number_in (word_at words 3)) made.value made.is in
-      let pair = both_read (leg_in (names_in v t) (word_at words 1)) (choice_in (names_in v t) (word_at words 2)) made.value.0 read.first in
-      let leg = leg_read v t (word_at words 1) made.value.0.0 pair.first in
-      let choice = fleet_read v t (word_at words 2) made.value.0.1 pair.second in
+      let made = made_by _ (both (pair_in (names_in v t) (word_at words 1) (word_at words 2)) (number_in (word_at words 3))) it e in
+      let read = both_read (pair_in (names_in v t) (word_at words 1) (word_at words 2)) (number_in (word_at words 3)) made.value made.is in
+      let pair = pair_read v t (word_at words 1) (word_at words 2) made.value.0 read.first in
       let number = number_was (word_at words 3) made.value.1 read.second in
-      subst (AreWordsOf t words) made.line_is (record { is = four_words words many ∙ (λ i. first_is words form.Weight told i ∷ leg.is i ∷ choice.is i ∷ number.word_is i ∷ []); of_tables = record { named = (leg.known, choice.known); figures = number.figure } })
+      subst (AreWordsOf t words) made.line_is (record { is = four_words words many ∙ (λ i. first_is words form.Weight told i ∷ pair.leg_is i ∷ pair.choice_is i ∷ number.word_is i ∷ []); of_tables = record { named = pair.known; figures = number.figure } })
 
   end_was : opens words form.End ≡ true → length words ≡ 1 → fields_in (names_in v t) form.End words ≡ Ok it → AreWordsOf t words it
   unfolding fields_in

@@ -22,7 +22,7 @@ use Rattle.proof_lines.specs.declared.line.Version.{Version}
 use Rattle.proof_lines.specs.declared.line.Version.TheVariants as version
 use Rattle.proof_lines.proofs.Choosing.{chosen}
 use Rattle.proof_lines.proofs.LineWords.{as_many, form_told, of_words}
-use Rattle.proof_lines.proofs.Naming.{fleet_written, leg_written, station_written}
+use Rattle.proof_lines.proofs.Naming.{fleet_written, leg_written, pair_written, station_written}
 use Rattle.proof_lines.proofs.Spaces.{joined_plain, parts_back, plain_all, words_back}
 use Rattle.proof_lines.proofs.WrittenNumbers.{natural_written, number_written}
 
@@ -65,15 +65,15 @@ module _ (v : Version) (t : Tables) where
   fields_read (line.OpenPivots made) is has = rw (count_is made has) refl
   fields_read (line.OpenGrew pivots row column) is has = rw (count_is pivots has.0, count_is row has.1, count_is column has.2) refl
   fields_read (line.OpenLift step at) is has = rw (count_is step has.0, count_is at has.1) refl
-  fields_read (line.Trim leg choice) is has = rw (leg_written v t leg is.0, fleet_written v t choice is.1) refl
-  fields_read (line.Split leg choice) is has = rw (leg_written v t leg is.0, fleet_written v t choice is.1) refl
+  fields_read (line.Trim leg choice) is has = rw (pair_written v t leg choice is) refl
+  fields_read (line.Split leg choice) is has = rw (pair_written v t leg choice is) refl
   fields_read (line.Scale scale) is has = rw (number_is scale has) refl
   fields_read (line.Rent fleet rent) is has = rw (fleet_written v t fleet is, number_is rent has) refl
   fields_read (line.At fleet station minute value) is has =
       rw (fleet_written v t fleet is.0, station_written v t station is.1, minute_is (last_of t) minute (omega (arith, at_most_week t)) has.0, number_is value has.1) refl
   fields_read (line.Mixed scale) is has = rw (number_is scale has) refl
   fields_read (line.Weight leg choice weight) is has =
-      rw (leg_written v t leg is.0, fleet_written v t choice is.1, number_is weight has) refl
+      rw (pair_written v t leg choice is, number_is weight has) refl
   fields_read line.End is has = refl
 
 pub reads_as_written : (v : Version) (t : Tables) (line : Line) → IsLineOf t line → line_in (names_in v t) (line_bytes t line) ≡ Ok line

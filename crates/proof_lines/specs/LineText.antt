@@ -1,7 +1,7 @@
 -- The text of a line: its words.
 use Rattle.std.specs.Prelude.{ℕ, ◌<◌, ◌≤◌, ◌^◌, ⊤, List, [], ◌∷◌, ◌++◌}
 use Rattle.std.specs.Fmt.{decimal, signed_decimal}
-use Rattle.fleet_model.specs.Schedule.{fleet_of, fleets_in, last_of, leg_of, legs_in, station_of, stations_in}
+use Rattle.fleet_model.specs.Schedule.{IsPair, fleet_by, fleet_of, fleets_in, last_of, leg_of, leg_on, legs_in, station_of, stations_in}
 use Rattle.fleet_model.specs.declared.tables.Tables.{Tables}
 use Rattle.dual_bound.specs.WrittenOrder.{IsFigure}
 use Rattle.proof_lines.specs.Figures.{version_word}
@@ -10,15 +10,15 @@ use Rattle.proof_lines.specs.Words.{Word, joined, line_feed}
 use Rattle.proof_lines.specs.declared.line.Line.{Line}
 use Rattle.proof_lines.specs.declared.line.Line.TheVariants as line
 
--- the word of a leg, a fleet, a choice and a station
+-- the word of a leg, of a fleet, of a leg's choice, which is its fleet's, and of a station
 abbrev pub leg_word : Tables → ℕ → Word
 leg_word t leg = (leg_of t leg).flight
 
 abbrev pub fleet_word : Tables → ℕ → Word
 fleet_word t fleet = (fleet_of t fleet).name
 
-abbrev pub choice_word : Tables → ℕ → Word
-choice_word t choice = fleet_word t choice
+abbrev pub choice_word : Tables → ℕ → ℕ → Word
+choice_word t leg choice = fleet_word t (fleet_by t (leg_on leg choice))
 
 abbrev pub station_word : Tables → ℕ → Word
 station_word t station = (station_of t station).code
@@ -26,11 +26,11 @@ station_word t station = (station_of t station).code
 -- the words behind those with which a line begins: what it names, and then its figures
 abbrev pub names_of : Tables → Line → List Word
 names_of t (line.Bare leg) = leg_word t leg ∷ []
-names_of t (line.Trim leg choice) = leg_word t leg ∷ choice_word t choice ∷ []
-names_of t (line.Split leg choice) = leg_word t leg ∷ choice_word t choice ∷ []
+names_of t (line.Trim leg choice) = leg_word t leg ∷ choice_word t leg choice ∷ []
+names_of t (line.Split leg choice) = leg_word t leg ∷ choice_word t leg choice ∷ []
 names_of t (line.Rent fleet rent) = fleet_word t fleet ∷ []
 names_of t (line.At fleet station minute value) = fleet_word t fleet ∷ station_word t station ∷ []
-names_of t (line.Weight leg choice weight) = leg_word t leg ∷ choice_word t choice ∷ []
+names_of t (line.Weight leg choice weight) = leg_word t leg ∷ choice_word t leg choice ∷ []
 names_of t other = []
 
 abbrev pub figures_of : Line → List Word
@@ -62,11 +62,11 @@ text_of t line = line_bytes t line ++ line_feed ∷ []
 -- all that a line names is of the tables
 abbrev pub IsNamed : Tables → Line → Type 0
 IsNamed t (line.Bare leg) = leg < legs_in t
-IsNamed t (line.Trim leg choice) = (leg < legs_in t) × (choice < fleets_in t)
-IsNamed t (line.Split leg choice) = (leg < legs_in t) × (choice < fleets_in t)
+IsNamed t (line.Trim leg choice) = IsPair t (leg_on leg choice)
+IsNamed t (line.Split leg choice) = IsPair t (leg_on leg choice)
 IsNamed t (line.Rent fleet rent) = fleet < fleets_in t
 IsNamed t (line.At fleet station minute value) = (fleet < fleets_in t) × (station < stations_in t)
-IsNamed t (line.Weight leg choice weight) = (leg < legs_in t) × (choice < fleets_in t)
+IsNamed t (line.Weight leg choice weight) = IsPair t (leg_on leg choice)
 IsNamed t other = ⊤
 
 -- a count of 64 bits

@@ -1,9 +1,9 @@
 -- The line that bytes are, or its flaw of the least kind.
 use Rattle.std.specs.Prelude.{ℕ, ◌==◌, ◌&&◌, Bool, true, false, if◌then◌else◌, List, length, codes, Option, Some, None, Result, Ok, Err}
 use Rattle.proof_lines.specs.Figures.{count_in, minute_in, number_in, version_in}
-use Rattle.proof_lines.specs.Flaws.{least}
+use Rattle.proof_lines.specs.Flaws.{both}
 use Rattle.proof_lines.specs.Forms.{form_in, width}
-use Rattle.proof_lines.specs.Known.{Naming, choice_in, fleet_in, leg_in, station_in}
+use Rattle.proof_lines.specs.Known.{Naming, fleet_in, leg_in, pair_in, station_in}
 use Rattle.proof_lines.specs.Words.{Word, is_plain, parts_of, stands, word_at, words_of}
 use Rattle.proof_lines.specs.declared.flaws.Flaw.{Flaw}
 use Rattle.proof_lines.specs.declared.flaws.Flaw.TheVariants as flaw
@@ -12,13 +12,6 @@ use Rattle.proof_lines.specs.declared.forms.Form.TheVariants as form
 use Rattle.proof_lines.specs.declared.line.Line.{Line}
 use Rattle.proof_lines.specs.declared.line.Line.TheVariants as line
 use Rattle.proof_lines.specs.declared.reading.Seen.{Seen}
-
--- two readings of one line, or the least of their flaws
-abbrev pub both : {A B : Type 0} → Result A Flaw → Result B Flaw → Result (A × B) Flaw
-both (Ok a) (Ok b) = Ok (a, b)
-both (Ok a) (Err flaw) = Err flaw
-both (Err flaw) (Ok b) = Err flaw
-both (Err flaw) (Err other) = Err (least flaw other)
 
 -- the line that what was read makes
 abbrev pub made : {A : Type 0} → (A → Line) → Result A Flaw → Result Line Flaw
@@ -57,8 +50,8 @@ fields_in n form.OpenNodes words = Ok line.OpenNodes
 fields_in n form.OpenPivots words = pivots_in words
 fields_in n form.OpenGrew words = grew_in words
 fields_in n form.OpenLift words = lift_in words
-fields_in n form.Trim words = made (λ pair. line.Trim pair.0 pair.1) (both (leg_in n (word_at words 1)) (choice_in n (word_at words 2)))
-fields_in n form.Split words = made (λ pair. line.Split pair.0 pair.1) (both (leg_in n (word_at words 1)) (choice_in n (word_at words 2)))
+fields_in n form.Trim words = made (λ pair. line.Trim pair.leg pair.choice) (pair_in n (word_at words 1) (word_at words 2))
+fields_in n form.Split words = made (λ pair. line.Split pair.leg pair.choice) (pair_in n (word_at words 1) (word_at words 2))
 fields_in n form.Scale words = scale_in words
 fields_in n form.Rent words = made (λ entry. line.Rent entry.0 entry.1) (both (fleet_in n (word_at words 1)) (number_in (word_at words 2)))
 fields_in n form.At words =
@@ -66,8 +59,7 @@ fields_in n form.At words =
     (both (both (fleet_in n (word_at words 1)) (station_in n (word_at words 2))) (both (minute_in n.last (word_at words 3)) (number_in (word_at words 4))))
 fields_in n form.Mixed words = mixed_in words
 fields_in n form.Weight words =
-    made (λ entry. line.Weight entry.0.0 entry.0.1 entry.1)
-    (both (both (leg_in n (word_at words 1)) (choice_in n (word_at words 2))) (number_in (word_at words 3)))
+    made (λ entry. line.Weight entry.0.leg entry.0.choice entry.1) (both (pair_in n (word_at words 1) (word_at words 2)) (number_in (word_at words 3)))
 fields_in n form.End words = Ok line.End
 
 -- the line that words are, of a form that their first words say, where they stand as so many parts between spaces

@@ -1,12 +1,12 @@
 //! What stands behind the first words of a line, read. Of several flaws of a line the one of the least kind is told.
 ghost use Rattle.std.specs.Prelude.{◌≡◌};
 ghost use Rattle.proof_lines.specs.Known.{naming};
-ghost use Rattle.proof_lines.specs.Reading.{both, fields_in, grew_in, head_in, lift_in, mixed_in, pivots_in, scale_in};
+ghost use Rattle.proof_lines.specs.Reading.{fields_in, grew_in, head_in, lift_in, mixed_in, pivots_in, scale_in};
 ghost use Rattle.proof_lines.specs.Words.{seen};
 ghost use Rattle.proof_lines.specs.declared.forms.Form.TheVariants as form;
 
 use crate::figures::{count, minute, number, version};
-use crate::flaws::{Flaw, least};
+use crate::flaws::{Flaw, both};
 use crate::forms::Form;
 use crate::grammar::Grammar;
 use crate::line::Line;
@@ -14,7 +14,7 @@ use crate::words::word_at;
 
 /// The line of a form by its words, of which there are as many as the form has. Takes no memory.
 #[tactic(auto, unfolding(crate::specs::Reading::fields_in))]
-pub fn fields(grammar: &Grammar, form: Form, words: &[&[u8]]) -> Result<Line, Flaw>
+pub fn fields(grammar: &Grammar<'_>, form: Form, words: &[&[u8]]) -> Result<Line, Flaw>
     ensures { result ≡ fields_in (naming grammar.now) form (seen words.now) }
 {
     match form {
@@ -52,7 +52,7 @@ fn head(words: &[&[u8]]) -> Result<Line, Flaw>
 
 /// `bare FLIGHT`.
 #[tactic(auto, unfolding(crate::specs::Reading::fields_in))]
-fn bare(grammar: &Grammar, words: &[&[u8]]) -> Result<Line, Flaw>
+fn bare(grammar: &Grammar<'_>, words: &[&[u8]]) -> Result<Line, Flaw>
     ensures { result ≡ fields_in (naming grammar.now) form.Bare (seen words.now) }
 {
     match grammar.leg(word_at(words, 1)) {
@@ -100,28 +100,28 @@ fn lift(words: &[&[u8]]) -> Result<Line, Flaw>
 
 /// `trim FLIGHT FLEET`.
 #[tactic(auto, unfolding(crate::specs::Reading::fields_in))]
-fn trim(grammar: &Grammar, words: &[&[u8]]) -> Result<Line, Flaw>
+fn trim(grammar: &Grammar<'_>, words: &[&[u8]]) -> Result<Line, Flaw>
     ensures { result ≡ fields_in (naming grammar.now) form.Trim (seen words.now) }
 {
-    match both(
-        grammar.leg(word_at(words, 1)),
-        grammar.choice(word_at(words, 2)),
-    ) {
-        Ok((leg, choice)) => Ok(Line::Trim { leg, choice }),
+    match grammar.pair(word_at(words, 1), word_at(words, 2)) {
+        Ok(pair) => Ok(Line::Trim {
+            leg: pair.leg,
+            choice: pair.choice,
+        }),
         Err(flaw) => Err(flaw),
     }
 }
 
 /// `split FLIGHT FLEET`.
 #[tactic(auto, unfolding(crate::specs::Reading::fields_in))]
-fn split(grammar: &Grammar, words: &[&[u8]]) -> Result<Line, Flaw>
+fn split(grammar: &Grammar<'_>, words: &[&[u8]]) -> Result<Line, Flaw>
     ensures { result ≡ fields_in (naming grammar.now) form.Split (seen words.now) }
 {
-    match both(
-        grammar.leg(word_at(words, 1)),
-        grammar.choice(word_at(words, 2)),
-    ) {
-        Ok((leg, choice)) => Ok(Line::Split { leg, choice }),
+    match grammar.pair(word_at(words, 1), word_at(words, 2)) {
+        Ok(pair) => Ok(Line::Split {
+            leg: pair.leg,
+            choice: pair.choice,
+        }),
         Err(flaw) => Err(flaw),
     }
 }
@@ -138,7 +138,7 @@ fn scale(words: &[&[u8]]) -> Result<Line, Flaw>
 
 /// `rent FLEET R`.
 #[tactic(auto, unfolding(crate::specs::Reading::fields_in))]
-fn rent(grammar: &Grammar, words: &[&[u8]]) -> Result<Line, Flaw>
+fn rent(grammar: &Grammar<'_>, words: &[&[u8]]) -> Result<Line, Flaw>
     ensures { result ≡ fields_in (naming grammar.now) form.Rent (seen words.now) }
 {
     match both(grammar.fleet(word_at(words, 1)), number(word_at(words, 2))) {
@@ -149,7 +149,7 @@ fn rent(grammar: &Grammar, words: &[&[u8]]) -> Result<Line, Flaw>
 
 /// `at FLEET STATION MINUTE VALUE`.
 #[tactic(auto, unfolding(crate::specs::Reading::fields_in))]
-fn at(grammar: &Grammar, words: &[&[u8]]) -> Result<Line, Flaw>
+fn at(grammar: &Grammar<'_>, words: &[&[u8]]) -> Result<Line, Flaw>
     ensures { result ≡ fields_in (naming grammar.now) form.At (seen words.now) }
 {
     match both(
@@ -158,7 +158,7 @@ fn at(grammar: &Grammar, words: &[&[u8]]) -> Result<Line, Flaw>
             grammar.station(word_at(words, 2)),
         ),
         both(
-            minute(grammar.last, word_at(words, 3)),
+            minute(grammar.last(), word_at(words, 3)),
             number(word_at(words, 4)),
         ),
     ) {
@@ -184,37 +184,18 @@ fn mixed(words: &[&[u8]]) -> Result<Line, Flaw>
 
 /// `weight FLIGHT FLEET W`.
 #[tactic(auto, unfolding(crate::specs::Reading::fields_in))]
-fn weight(grammar: &Grammar, words: &[&[u8]]) -> Result<Line, Flaw>
+fn weight(grammar: &Grammar<'_>, words: &[&[u8]]) -> Result<Line, Flaw>
     ensures { result ≡ fields_in (naming grammar.now) form.Weight (seen words.now) }
 {
     match both(
-        both(
-            grammar.leg(word_at(words, 1)),
-            grammar.choice(word_at(words, 2)),
-        ),
+        grammar.pair(word_at(words, 1), word_at(words, 2)),
         number(word_at(words, 3)),
     ) {
-        Ok(((leg, choice), weight)) => Ok(Line::Weight {
-            leg,
-            choice,
+        Ok((pair, weight)) => Ok(Line::Weight {
+            leg: pair.leg,
+            choice: pair.choice,
             weight,
         }),
         Err(flaw) => Err(flaw),
-    }
-}
-
-/// Two readings of one line, or the least of their flaws.
-fn both<A: Copy, B: Copy>(a: Result<A, Flaw>, b: Result<B, Flaw>) -> Result<(A, B), Flaw>
-    ensures { result ≡ both a b }
-{
-    match a {
-        Ok(a) => match b {
-            Ok(b) => Ok((a, b)),
-            Err(flaw) => Err(flaw),
-        },
-        Err(flaw) => match b {
-            Ok(_) => Err(flaw),
-            Err(other) => Err(least(flaw, other)),
-        },
     }
 }

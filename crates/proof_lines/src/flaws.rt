@@ -1,5 +1,5 @@
 ghost use Rattle.std.specs.Prelude.{◌≡◌};
-ghost use Rattle.proof_lines.specs.Flaws.{kind_of, least};
+ghost use Rattle.proof_lines.specs.Flaws.{both, kind_of, least};
 
 /// What is wrong with a line, wherever it stands.
 #[derive(Clone, Copy, Debug, PartialEq, Eq)]
@@ -36,4 +36,20 @@ pub fn least(a: Flaw, b: Flaw) -> Flaw
     ensures { result ≡ least a b }
 {
     if a.kind() <= b.kind() { a } else { b }
+}
+
+/// Two readings of one line, or the least of their flaws.
+pub fn both<A: Copy, B: Copy>(a: Result<A, Flaw>, b: Result<B, Flaw>) -> Result<(A, B), Flaw>
+    ensures { result ≡ both a b }
+{
+    match a {
+        Ok(a) => match b {
+            Ok(b) => Ok((a, b)),
+            Err(flaw) => Err(flaw),
+        },
+        Err(flaw) => match b {
+            Ok(_) => Err(flaw),
+            Err(other) => Err(least(flaw, other)),
+        },
+    }
 }

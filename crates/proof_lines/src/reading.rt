@@ -25,7 +25,7 @@ pub struct Seen {
 
 /// What bytes without a line feed are as a line. The error is want of memory alone.
 #[tactic(auto, unfolding(crate::specs::Reading::line_in))]
-pub fn read_line(alloc: Global, grammar: &Grammar, bytes: &[u8]) -> Result<Seen, NoMemory>
+pub fn read_line(alloc: Global, grammar: &Grammar<'_>, bytes: &[u8]) -> Result<Seen, NoMemory>
     ensures { IfOk result (λ line. line ≡ seen_in (naming grammar.now) bytes.now) }
 {
     let parts = parts_of(alloc, bytes)?;
@@ -34,7 +34,7 @@ pub fn read_line(alloc: Global, grammar: &Grammar, bytes: &[u8]) -> Result<Seen,
 }
 
 /// What words are as a line, which stand as so many parts between spaces. Takes no memory.
-fn of_words(grammar: &Grammar, plain: bool, parts: usize, words: &[&[u8]]) -> Seen
+fn of_words(grammar: &Grammar<'_>, plain: bool, parts: usize, words: &[&[u8]]) -> Seen
     ensures { result ≡ of_words (naming grammar.now) plain parts (seen words.now) }
 {
     let form = form_in(words);
@@ -48,7 +48,7 @@ fn of_words(grammar: &Grammar, plain: bool, parts: usize, words: &[&[u8]]) -> Se
 
 /// The line that plain words are, of a form that their first words say. Takes no memory.
 fn of_form(
-    grammar: &Grammar,
+    grammar: &Grammar<'_>,
     parts: usize,
     words: &[&[u8]],
     form: Option<Form>,
@@ -70,7 +70,7 @@ fn of_form(
 /// Whether bytes begin as a step of this fleet at this station, whatever stands behind.
 pub fn is_step_of(
     alloc: Global,
-    grammar: &Grammar,
+    grammar: &Grammar<'_>,
     fleet: u32,
     station: u32,
     bytes: &[u8],
@@ -83,7 +83,7 @@ pub fn is_step_of(
 }
 
 /// The same of its words. Takes no memory.
-fn names_step(grammar: &Grammar, fleet: u32, station: u32, words: &[&[u8]]) -> bool
+fn names_step(grammar: &Grammar<'_>, fleet: u32, station: u32, words: &[&[u8]]) -> bool
     ensures { result ≡ is_step_of (naming grammar.now) fleet station (seen words.now) }
 {
     stands(words, 0, b"at")

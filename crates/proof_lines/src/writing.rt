@@ -1,7 +1,7 @@
 //! A line, written.
 ghost use Rattle.std.specs.Prelude.{◌≡◌, ◌++◌, ◌∷◌, ◌<◌, OnOk};
 ghost use Rattle.std.specs.Fmt.{decimal, signed_decimal};
-ghost use Rattle.fleet_model.specs.Schedule.{fleet_of, fleets_in, leg_of, legs_in, station_of, stations_in};
+ghost use Rattle.fleet_model.specs.Schedule.{IsPair, fleet_of, fleets_in, leg_of, leg_on, legs_in, station_of, stations_in};
 ghost use Rattle.proof_lines.specs.Forms.{form_of, keywords};
 ghost use Rattle.proof_lines.specs.LineText.{IsNamed, choice_word, fields_of, figures_of, fleet_word, leg_word, names_of, station_word, text_of};
 ghost use Rattle.proof_lines.specs.Words.{joined, spaced, spaced_words};
@@ -10,7 +10,7 @@ ghost use Rattle.proof_lines.specs.declared.line.Line.TheVariants as line;
 use crate::forms::Form;
 use crate::line::{Line, Version};
 use entries::NoMemory;
-use fleet_model::Tables;
+use fleet_model::{Pair, Tables};
 use std::alloc::Global;
 
 /// Appends a line with its line feed. The one error is want of memory.
@@ -111,14 +111,14 @@ fn push_figures(alloc: Global, text: &mut Vec<u8>, line: &Line) -> Result<(), No
     }
 }
 
-/// Appends a flight and a choice.
+/// Appends the flight of a leg and the fleet of one of its choices.
 fn push_pair(text: &mut Vec<u8>, tables: &Tables, leg: u32, choice: u32) -> Result<(), NoMemory>
-    requires leg { leg < legs_in tables.now }
-    requires choice { choice < fleets_in tables.now }
-    ensures { OnOk result (text.new.items ≡ text.old.items ++ spaced (leg_word tables.now leg) ++ spaced (choice_word tables.now choice)) }
+    requires { IsPair tables.now (leg_on leg choice) }
+    ensures { OnOk result (text.new.items ≡ text.old.items ++ spaced (leg_word tables.now leg) ++ spaced (choice_word tables.now leg choice)) }
 {
+    let fleet = tables.fleet_by(Pair { leg, choice });
     push_word(text, tables.leg(leg).flight.as_slice())?;
-    push_word(text, tables.fleet(choice).name.as_slice())
+    push_word(text, tables.fleet(fleet).name.as_slice())
 }
 
 /// Appends a fleet and a station.

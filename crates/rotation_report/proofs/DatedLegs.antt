@@ -1,12 +1,10 @@
 -- On a date fly the legs of its day of the period, each once.
 use Rattle.std.proofs.Common.{◌≡◌, ℕ, zero, suc, ◌+◌, ◌-◌, ◌*◌, ◌/◌, ◌%◌, ◌<◌, ◌≤◌, ◌==◌, Bool, true, false, if◌then◌else◌, IsPermutation, List, [], ◌∷◌, ◌++◌, length, slice_index, get_or, refl, sym, ◌∙◌, ap, subst, subst₂, inl, inr, arith, mod-eq_of_lt}
 use Rattle.std.specs.List.{concat, filter}
-use Rattle.std.proofs.Math.Nat.{div-add-mod, mod-lt, mul-le-mul_left}
-use Rattle.std.proofs.lemmas.Bool.{cases_Bool}
-use Rattle.std.proofs.lemmas.Bool.Decides.{nat_tests}
-use Rattle.std.proofs.lemmas.List.{append-nil}
+use Rattle.std.proofs.Math.Nat.{mod-lt, mul-le-mul_left}
+use Rattle.std.proofs.lemmas.Bool.{cases_Bool, cases_lt, eqb-true}
 use Rattle.std.proofs.lemmas.List.Elements.{filter-append}
-use Rattle.std.proofs.lemmas.Nat.{mod-mul-add, mod_below}
+use Rattle.std.proofs.lemmas.Nat.{div-add-mod', mod-mul-add}
 use Rattle.fleet_model.specs.declared.limits.TheConstants.{MINUTES_PER_DAY}
 use Rattle.fleet_model.specs.declared.parts.Connection.{Connection}
 use Rattle.fleet_model.specs.declared.tables.Tables.{Tables}
@@ -25,7 +23,7 @@ use Rattle.lines_of_flying.proofs.TourLines.{days_are_use, known_legs}
 use Rattle.lines_of_flying.proofs.WholeTours.{joined_all, joined_more, lines_are_tour}
 use Rattle.rotation_report.specs.TailLaws.{EachLegOnItsDay, departs_on, flown_on}
 use Rattle.rotation_report.specs.Tails.{line_on, lines_by}
-use Rattle.rotation_report.proofs.RoundLines.{all_once, round_from, some}
+use Rattle.rotation_report.proofs.RoundLines.{all_once, has_lines, round_from}
 use Rattle.sums.specs.Below.{sum_below}
 use Rattle.sums.specs.Places.{list_below}
 use Rattle.sums.proofs.Naturals.{equal_number}
@@ -49,18 +47,16 @@ where_so-nil false = refl
 
 -- the lists at one place of each block
 module _ (g : ℕ → List ℕ) (place size : ℕ) (within : place < size) where
-  at_place : ℕ → List ℕ
+  abbrev at_place : ℕ → List ℕ
   at_place n = where_so (n % size == place) (g n)
 
   rest_of : (m i : ℕ) → i < size → (m * size + i) % size ≡ i
   rest_of m i below = mod-mul-add m size i below
 
   at_other : (m i : ℕ) → i < size → (i == place) ≡ false → at_place (m * size + i) ≡ []
-  unfolding at_place
   at_other m i below other = ap (λ r. where_so (r == place) (g (m * size + i))) (rest_of m i below) ∙ ap (λ b. where_so b (g (m * size + i))) other
 
   one_block : (m : ℕ) → concat (list_below at_place (suc m * size)) ≡ concat (list_below at_place (m * size)) ++ g (m * size + place)
-  unfolding at_place
   one_block m =
       let whole : suc m * size ≡ suc (m * size + place) + (size - suc place) = parted m size place within in
       ap (λ n. concat (list_below at_place n)) whole
@@ -98,28 +94,30 @@ filter-joined q g (suc n) =
     ap (filter q) (joined_more g n) ∙ filter-append q (concat (list_below g n)) (g n)
     ∙ ap (λ xs. xs ++ filter q (g n)) (filter-joined q g n) ∙ sym (joined_more (λ k. filter q (g k)) n)
 
+-- a place of a block lies within all blocks
+in_blocks : (block blocks size place : ℕ) → block < blocks → place < size → block * size + place < blocks * size
+in_blocks block blocks size place less within =
+    let room : size * suc block ≤ size * blocks = mul-le-mul_left size less in
+    omega (arith, room, within, turned block size, turned (suc block) size, turned blocks size, next block size)
+  where
+    turned : (m n : ℕ) → m * n ≡ n * m
+    turned m n = grind arith
+
+    next : (m n : ℕ) → suc m * n ≡ m * n + n
+    next m n = grind arith
+
 -- so many blocks further, going round
 turned_block : (blocks size place x : ℕ) → place < size → 0 < blocks → (x * size + place) % (blocks * size) ≡ (x % blocks) * size + place
 turned_block blocks size place x within some =
     let rounds = x / blocks in
     let rest = x % blocks in
-    let less : rest < blocks = mod-lt x blocks some in
-    let room : suc rest * size ≤ blocks * size = mul-le-mul_right rest blocks size less in
-    let small : rest * size + place < blocks * size = omega (arith, room, next rest size, within) in
-    ap (λ n. n % (blocks * size)) (ap (λ y. y * size + place) (sym (div-add-mod x blocks)) ∙ apart rounds rest blocks size place)
+    let less : rest < blocks = mod-lt x some in
+    let small : rest * size + place < blocks * size = in_blocks rest blocks size place less within in
+    ap (λ n. n % (blocks * size)) (ap (λ y. y * size + place) (sym (div-add-mod' x blocks)) ∙ apart rounds rest blocks size place)
     ∙ mod-mul-add rounds (blocks * size) (rest * size + place) small
   where
-    next : (rest size : ℕ) → suc rest * size ≡ rest * size + size
-    next rest size = grind arith
-
     apart : (rounds rest blocks size place : ℕ) → (rounds * blocks + rest) * size + place ≡ rounds * (blocks * size) + (rest * size + place)
     apart rounds rest blocks size place = grind arith
-
-    mul-le-mul_right : (a b c : ℕ) → a < b → suc a * c ≤ b * c
-    mul-le-mul_right a b c less = subst₂ (λ m n. m ≤ n) (swapped c (suc a)) (swapped c b) (mul-le-mul_left c less)
-
-    swapped : (m n : ℕ) → m * n ≡ n * m
-    swapped m n = grind arith
 
 -- ---- the days of a tour's legs
 
@@ -174,6 +172,7 @@ module _ (t : Tables) (a : List ℕ) (f : ℕ) (tour : List ℕ) (is : IsTour t 
 
   -- of the first legs of a line those that depart on a day of the period: all or none
   own_legs : (day n : ℕ) → n ≤ length tour → (d : ℕ) → filter (departs_on t f day) (legs_on_day t f tour d n) ≡ where_so (d % days == day) (legs_on_day t f tour d n)
+  unfolding own_day
   own_legs day zero few d = where_so-nil (d % days == day)
   own_legs day (suc n) few d =
       filter-append (departs_on t f day) (legs_on_day t f tour d n) (if day_of t f tour n == d then slice_index tour n ∷ [] else [])
@@ -185,9 +184,8 @@ module _ (t : Tables) (a : List ℕ) (f : ℕ) (tour : List ℕ) (is : IsTour t 
       ∙ where_so-append (d % days == day) (legs_on_day t f tour d n) (if day_of t f tour n == d then slice_index tour n ∷ [] else [])
     where
       same_day : (day_of t f tour n == d) ≡ true → departs_on t f day (slice_index tour n) ≡ (d % days == day)
-      unfolding own_day
       same_day same =
-          let is_day : day_of t f tour n ≡ d = eqb-true same in
+          let is_day : day_of t f tour n ≡ d = eqb-true (day_of t f tour n) d same in
           ap (λ own. own == day) (sym (day_in_period n few)) ∙ ap (λ m. m % days == day) is_day
 
       kept : (b : Bool) (l : ℕ) → (if b then l ∷ [] else []) ≡ where_so b (l ∷ [])
@@ -218,8 +216,44 @@ module _ (t : Tables) (a : List ℕ) (f : ℕ) (tour : List ℕ) (is : IsTour t 
   unfolding used
   some_used = elim (cases_lt 0 used) [
     | inl aircraft ↦ aircraft
-    | inr none ↦ absurd (omega (arith, some t a f tour is begins, none_at_all used days (omega (arith, none)), days_are_use t a f tour is))
+    | inr none ↦ absurd (omega (arith, has_lines t a f tour is begins, none_flown (used_of t (weights_of a) f) (days_in t) (omega (arith, none)), days_are_use t a f tour is))
   ]
+    where
+      none_flown : (used days : ℕ) → used ≤ 0 → used * days ≡ 0
+      none_flown used days none = (let zero_is : used ≡ 0 = omega (arith, none) in rw zero_is (omega arith))
+
+  -- a date's lines are those of its day of the period, from one of them on
+  on_date : (d : ℕ) → IsPermutation (flown_on t (lines_by t a f tour) d) (filter (departs_on t f (d % days)) tour)
+  unfolding days used line
+  on_date d =
+      let day = d % days in
+      let within : day < days = mod-lt d (some_days t) in
+      let own : List (List ℕ) = list_below (λ m. line (m * days + day)) used in
+      let long : length own ≡ used = length-list_below (λ m. line (m * days + day)) used in
+      let same : list_below (line_on t (lines_by t a f tour) d) used ≡ list_below (round_from own (d / days)) (length own) =
+      list_below-agree (line_on t (lines_by t a f tour) d) (round_from own (d / days)) used (λ k below. line_is d k) ∙ ap (list_below (round_from own (d / days))) (sym long) in
+      subst₂ (λ lines legs. IsPermutation (concat lines) legs) (sym same) (legs_by_lines day within) (all_once own (d / days) (rw long some_used))
+    where
+      moved : (k whole rest n d : ℕ) → d ≡ whole * n + rest → k * n + d ≡ (k + whole) * n + rest
+      moved k whole rest n d is = rw is (grind arith)
+
+      split : (k d n : ℕ) → k * n + d ≡ (k + d / n) * n + d % n
+      split k d n = moved k (d / n) (d % n) n d (sym (div-add-mod' d n))
+
+      line_is : (d k : ℕ) → line_on t (lines_by t a f tour) d k ≡ round_from (list_below (λ m. line (m * days + d % days)) used) (d / days) k
+      line_is d k =
+          let day = d % days in
+          let within : day < days = mod-lt d (some_days t) in
+          let block = (k + d / days) % used in
+          let least : block < used = mod-lt (k + d / days) some_used in
+          let place : (k * days_in t + d) % (used * days) ≡ block * days + day =
+          ap (λ n. n % (used * days)) (split k d days) ∙ turned_block used days day (k + d / days) within some_used in
+          let inside : block * days + day < days_of_tour t f tour = subst (λ n. block * days + day < n) (sym all_days) (in_blocks block used days day least within) in
+          ap (λ n. get_or (lines_of t f tour) n []) place
+          ∙ get_or-list_below line (days_of_tour t f tour) (block * days + day) [] inside
+          ∙ sym (get_or-list_below (λ m. line (m * days + day)) used block [] least)
+          ∙ sym (ap (λ n. get_or (list_below (λ m. line (m * days + day)) used) ((k + d / days) % n) []) (length-list_below (λ m. line (m * days + day)) used))
 
 pub each_leg_on_its_day : EachLegOnItsDay
-each_leg_on_its_day t a f tour d is begins = ?
+unfolding days
+each_leg_on_its_day t a f tour d is begins = on_date t a f tour is begins d

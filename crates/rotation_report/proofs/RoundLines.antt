@@ -1,9 +1,9 @@
 -- The lines of a tour, begun at any of them, are its legs.
-use Rattle.std.proofs.Common.{◌≡◌, ℕ, suc, ◌+◌, ◌-◌, ◌*◌, ◌%◌, ◌<◌, ◌≤◌, IsPermutation, List, [], ◌∷◌, ◌++◌, length, slice_index_or, get_or, take, drop, refl, sym, ◌∙◌, ap, subst, subst₂, inl, inr, arith, length-append, add_comm, add-sub_cancel, mod-eq_of_lt}
+use Rattle.std.proofs.Common.{◌≡◌, ℕ, suc, ◌+◌, ◌*◌, ◌%◌, ◌<◌, ◌≤◌, IsPermutation, List, [], ◌∷◌, ◌++◌, length, slice_index_or, get_or, take, drop, sym, ◌∙◌, ap, subst, subst₂, inl, inr, arith, length-append, add_comm, mod-eq_of_lt}
 use Rattle.std.specs.List.{concat}
 use Rattle.std.proofs.Math.Nat.{add-mod_right, mod-add-mod}
 use Rattle.std.proofs.lemmas.Bool.{cases_lt}
-use Rattle.std.proofs.lemmas.List.{get_or_append_left, get_or-append_right, length-take-le, take-append-drop}
+use Rattle.std.proofs.lemmas.List.{length-take-le, take-append-drop}
 use Rattle.std.proofs.lemmas.List.Folds.{concat-append}
 use Rattle.std.proofs.lemmas.List.FromFn.{fill_by_all}
 use Rattle.std.proofs.lemmas.List.Sorted.{IsPermutation-append_comm}
@@ -76,8 +76,12 @@ module _ (t : Tables) (a : List ℕ) (f : ℕ) (tour : List ℕ) (is : IsTour t 
   unfolding lines
   whole = lines_are_tour t f tour a is begins
 
-  pub some : 0 < length lines
+  some : 0 < length lines
   some = some_lines lines tour whole is.some
+
+  pub has_lines : 0 < length (lines_of t f tour)
+  unfolding lines
+  has_lines = some
 
   line_is : (d k : ℕ) → line_on t (lines_by t a f tour) d k ≡ get_or lines ((k * days_in t + d) % length lines) []
   unfolding lines used

@@ -1,4 +1,5 @@
 pub mod LegsFit
+pub mod OneDay
 pub mod OtherSettings
 pub mod ReadEnds
 pub mod ReadLaws

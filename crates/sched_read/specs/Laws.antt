@@ -1,9 +1,11 @@
--- Of every five files one thing holds and no more: they read as one set of tables, or they have one first fault.
+-- Of every five files one thing holds and no more: they read as one set of tables, or they have one first fault. And what
+-- departures are in a period of one day.
 use Rattle.std.specs.Prelude.{◌≡◌, ◌⊎◌, ℕ}
 use Rattle.fleet_model.specs.Limits.{AreSettings}
 use Rattle.fleet_model.specs.declared.parts.Settings.{Settings}
 use Rattle.fleet_model.specs.declared.refusals.TableFile.{TableFile}
 use Rattle.fleet_model.specs.declared.tables.Tables.{Tables}
+use Rattle.sched_read.specs.Legs.{from_day_start, from_period_start}
 use Rattle.sched_read.specs.Reading.{BadAt, Reads, TableBytes}
 
 -- the files read as some tables
@@ -40,3 +42,7 @@ pub record SameFault (file other : TableFile) (row other_row kind other_kind : �
 abbrev pub OneFirstFault : Type 0
 OneFirstFault = (bytes : TableBytes) (settings : Settings) (file other : TableFile) (row other_row kind other_kind : ℕ)
     → BadAt bytes settings file row kind → BadAt bytes settings other other_row other_kind → SameFault file other row other_row kind other_kind
+
+-- where the period is one day, it starts with the day
+abbrev pub OneDay : Type 0
+OneDay = (settings : Settings) (minute : ℕ) → settings.period ≡ 1 → from_period_start settings 1 minute ≡ from_day_start settings minute

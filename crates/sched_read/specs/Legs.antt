@@ -55,6 +55,10 @@ day_of settings field = as_natural (whole_of field (pos 1) (pos settings.period)
 abbrev pub from_period_start : Settings → ℕ → ℕ → ℕ
 from_period_start settings day minute = ((day - 1) * MINUTES_PER_DAY + minute + minutes_in settings - settings.day_start) % minutes_in settings
 
+-- a clock minute, counted from the day start
+abbrev pub from_day_start : Settings → ℕ → ℕ
+from_day_start settings minute = (minute + MINUTES_PER_DAY - settings.day_start) % MINUTES_PER_DAY
+
 -- A record of either form read as a leg, by the codes of the stations, below legs with these flights, or the least kind
 -- of its faults.
 unfoldable pub leg_read : List (List ℕ) → Settings → Form → List (List ℕ) → Fields → Result Leg ℕ

@@ -1,6 +1,6 @@
-//! The laws of reading: of every five files one thing holds and no more. Each function is a law: its contract is
-//! the statement, and it does nothing.
-ghost use Rattle.sched_read.specs.Laws.{OneFirstFault, OneReading, ReadOrFault, ReadOrFaultNotBoth};
+//! The laws of reading: of every five files one thing holds and no more, and a period of one day starts with the day.
+//! Each function is a law: its contract is the statement, and it does nothing.
+ghost use Rattle.sched_read.specs.Laws.{OneDay, OneFirstFault, OneReading, ReadOrFault, ReadOrFaultNotBoth};
 
 /// Five files read as some tables, or they have a first fault.
 pub fn read_or_fault()
@@ -20,4 +20,9 @@ pub fn one_reading()
 /// Files have one first fault at most.
 pub fn one_first_fault()
     ensures { OneFirstFault }
+{}
+
+/// Departures of a period of one day count from the day start.
+pub fn one_day()
+    ensures { OneDay }
 {}

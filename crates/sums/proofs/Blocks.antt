@@ -1,54 +1,33 @@
 -- Sums over blocks of equal length, one after another, and over a list that is appended to another.
-use Rattle.std.proofs.Common.{◌≡◌, ℕ, zero, suc, ◌+◌, ◌*◌, ◌<◌, ◌/◌, ◌%◌, List, ◌++◌, length, slice_index_or, ℤ, pos, ◌+ℤ◌, refl, sym, ◌∙◌, ap, inl, inr, arith}
+use Rattle.std.proofs.Common.{◌≡◌, ℕ, zero, suc, ◌+◌, ◌*◌, ◌<◌, List, ◌++◌, length, slice_index_or, ℤ, ◌+ℤ◌, ◌∙◌, ap, arith}
 use Rattle.std.proofs.lemmas.Int.{ints}
 use Rattle.std.proofs.lemmas.Grind.{common_steps}
 use Rattle.std.proofs.Common.{length-append}
-use Rattle.std.proofs.Math.Nat.{mul-suc}
 use Rattle.sums.specs.Below.{sum_below, sum_below_ℤ}
+use Rattle.sums.proofs.Naturals.{plus_0, plus_suc}
 use Rattle.sums.proofs.Sums.{sum_below-agree}
 use Rattle.sums.proofs.WholeSums.{sum_below_ℤ-same}
+use Rattle.sums.proofs.WholeTerms.{sum_below_ℤ-stretches}
 
 -- ---- a sum in two parts
 pub sum_below-more : (f : ℕ → ℕ) (m n : ℕ) → sum_below f (m + n) ≡ sum_below f m + sum_below (λ k. f (m + k)) n
-sum_below-more f m zero = ap (sum_below f) (none m) ∙ omega arith
-  where
-    none : (m : ℕ) → m + 0 ≡ m
-    none m = omega arith
-sum_below-more f m (suc n) = ap (sum_below f) (next m n) ∙ omega (arith, sum_below-more f m n)
-  where
-    next : (m n : ℕ) → m + suc n ≡ suc (m + n)
-    next m n = omega arith
-
-pub sum_below_ℤ-more : (f : ℕ → ℤ) (m n : ℕ) → sum_below_ℤ f (m + n) ≡ sum_below_ℤ f m +ℤ sum_below_ℤ (λ k. f (m + k)) n
-sum_below_ℤ-more f m zero = ap (sum_below_ℤ f) (none m) ∙ omega (arith, ints)
-  where
-    none : (m : ℕ) → m + 0 ≡ m
-    none m = omega arith
-sum_below_ℤ-more f m (suc n) = ap (sum_below_ℤ f) (next m n) ∙ omega (arith, ints, sum_below_ℤ-more f m n)
-  where
-    next : (m n : ℕ) → m + suc n ≡ suc (m + n)
-    next m n = omega arith
+sum_below-more f m zero = ap (sum_below f) (plus_0 m) ∙ omega arith
+sum_below-more f m (suc n) = ap (sum_below f) (plus_suc m n) ∙ omega (arith, sum_below-more f m n)
 
 -- ---- blocks of k numbers: the number i of block b is b * k + i
+pub no_block : (k : ℕ) → 0 * k ≡ 0
+no_block k = omega arith
+
+pub one_block_more : (n k : ℕ) → suc n * k ≡ n * k + k
+one_block_more n k = omega arith
+
 pub blocks : (f : ℕ → ℕ) (n k : ℕ) → sum_below f (n * k) ≡ sum_below (λ b. sum_below (λ i. f (b * k + i)) k) n
-blocks f zero k = ap (sum_below f) (none k)
-  where
-    none : (k : ℕ) → 0 * k ≡ 0
-    none k = omega arith
-blocks f (suc n) k = ap (sum_below f) (next n k) ∙ omega (arith, sum_below-more f (n * k) k, blocks f n k)
-  where
-    next : (n k : ℕ) → suc n * k ≡ n * k + k
-    next n k = omega arith
+blocks f zero k = ap (sum_below f) (no_block k)
+blocks f (suc n) k = ap (sum_below f) (one_block_more n k) ∙ omega (arith, sum_below-more f (n * k) k, blocks f n k)
 
 pub blocks_ℤ : (f : ℕ → ℤ) (n k : ℕ) → sum_below_ℤ f (n * k) ≡ sum_below_ℤ (λ b. sum_below_ℤ (λ i. f (b * k + i)) k) n
-blocks_ℤ f zero k = ap (sum_below_ℤ f) (none k)
-  where
-    none : (k : ℕ) → 0 * k ≡ 0
-    none k = omega arith
-blocks_ℤ f (suc n) k = ap (sum_below_ℤ f) (next n k) ∙ omega (arith, ints, sum_below_ℤ-more f (n * k) k, blocks_ℤ f n k)
-  where
-    next : (n k : ℕ) → suc n * k ≡ n * k + k
-    next n k = omega arith
+blocks_ℤ f zero k = ap (sum_below_ℤ f) (no_block k)
+blocks_ℤ f (suc n) k = ap (sum_below_ℤ f) (one_block_more n k) ∙ omega (arith, ints, sum_below_ℤ-stretches f (n * k) k, blocks_ℤ f n k)
 
 -- ---- a list that is appended to another
 in_front : {X : Type 0} (xs ys : List X) (d : X) (k : ℕ) → k < length xs → slice_index_or (xs ++ ys) k d ≡ slice_index_or xs k d
@@ -72,7 +51,7 @@ pub appended_ℤ : {X : Type 0} (f : X → ℤ) (d : X) (xs ys : List X)
     → sum_below_ℤ (λ k. f (slice_index_or (xs ++ ys) k d)) (length (xs ++ ys)) ≡ sum_below_ℤ (λ k. f (slice_index_or xs k d)) (length xs) +ℤ sum_below_ℤ (λ k. f (slice_index_or ys k d)) (length ys)
 appended_ℤ f d xs ys =
     ap (sum_below_ℤ (λ k. f (slice_index_or (xs ++ ys) k d))) (length-append xs ys)
-    ∙ sum_below_ℤ-more (λ k. f (slice_index_or (xs ++ ys) k d)) (length xs) (length ys)
+    ∙ sum_below_ℤ-stretches (λ k. f (slice_index_or (xs ++ ys) k d)) (length xs) (length ys)
     ∙ ap (λ n. n +ℤ sum_below_ℤ (λ k. f (slice_index_or (xs ++ ys) (length xs + k) d)) (length ys))
     (sum_below_ℤ-same (λ k. f (slice_index_or (xs ++ ys) k d)) (λ k. f (slice_index_or xs k d)) (length xs) (λ k below. ap f (in_front xs ys d k below)))
     ∙ ap (λ n. sum_below_ℤ (λ k. f (slice_index_or xs k d)) (length xs) +ℤ n)

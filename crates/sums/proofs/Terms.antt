@@ -40,8 +40,8 @@ less_sum f g (suc n) place within each less = elim (cases_lt place n) [
     last_less last front = let here : f n < g n = rw (← last) less in omega (arith, front, here)
 
 -- where some are counted, there is one
-find_counted : (p : ℕ → Bool) (n : ℕ) → 0 < count_below p n → (k : ℕ) × (k < n) × (p k ≡ true)
-find_counted p n some = elim (find_below p n) [
+pub some_counted : (p : ℕ → Bool) (n : ℕ) → 0 < count_below p n → (k : ℕ) × (k < n) × (p k ≡ true)
+some_counted p n some = elim (find_below p n) [
   | inl found ↦ found
   | inr none ↦ absurd (omega (arith, some, count_below-none p n none))
 ]
@@ -54,7 +54,7 @@ counted_once p n true one some only =
     let least = count_below-some p n found.0 found.1 found.2 in
     omega (arith, least, count_below-no_two p n one)
 counted_once p n false one some only = elim (cases_lt 0 (count_below p n)) [
-  | inl more ↦ let found = find_counted p n more in absurd (false≢true (only found.0 found.1 found.2))
+  | inl more ↦ let found = some_counted p n more in absurd (false≢true (only found.0 found.1 found.2))
   | inr none ↦ omega arith
 ]
 

@@ -23,6 +23,7 @@ use Rattle.ground_turns.specs.Maps.{IsNext, IsSuccessorMap, crossings_of, no_tur
 use Rattle.ground_turns.specs.Turns.{crosses}
 use Rattle.ground_turns.proofs.FleetTurns.{next_is_map}
 use Rattle.ground_turns.proofs.Fits.{balances, periods_beyond_use}
+use Rattle.sched_read.specs.Legs.{from_day_start}
 use Rattle.sums.specs.Below.{sum_below}
 use Rattle.sums.specs.Places.{list_below}
 use Rattle.sums.proofs.Places.{get_or-list_below, length-list_below, list_below-more}
@@ -35,7 +36,6 @@ use Rattle.sums.proofs.Lists.{zero_at}
 use Rattle.sums.proofs.Terms.{one_each}
 use Rattle.table_maker.proofs.MadeEntries.{AreTrips, cost_entry, flown, leg_entry, station_entry}
 use Rattle.table_maker.proofs.MadeSchedule.{made_schedule, stations_for}
-use Rattle.table_maker.proofs.RecordsRead.{from_day_start}
 use Rattle.table_maker.proofs.RoundTurns.{back_half, back_partner, back_way, later, one_period, out_half, out_partner, out_way, partner, partner_half, partner_once, partner_way, partner_within}
 
 -- where a leg of a round trip lands, the other leaves

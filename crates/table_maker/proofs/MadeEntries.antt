@@ -13,7 +13,7 @@ use Rattle.fleet_model.specs.declared.parts.Station.{Station}
 use Rattle.fleet_model.specs.declared.parts.Through.{Through}
 use Rattle.fleet_tables.specs.Costs.{cost_read, pair_of}
 use Rattle.fleet_tables.specs.Fleets.{fleet_name_of, fleet_read}
-use Rattle.sched_read.specs.Legs.{block_between, flight_of, leg_read}
+use Rattle.sched_read.specs.Legs.{block_between, flight_of, from_day_start, leg_read}
 use Rattle.sched_read.specs.Throughs.{connection_of, through_read}
 use Rattle.station_table.specs.Stations.{code_of, station_read}
 use Rattle.sums.specs.Places.{list_below}
@@ -27,7 +27,7 @@ use Rattle.table_maker.specs.Trips.{spokes_for, trip_of}
 use Rattle.table_maker.specs.declared.trips.RoundTrip.{RoundTrip}
 use Rattle.table_maker.proofs.NamesDiffer.{code_is_code, fleet_is_name, fleets_differ, flight_is_name, flights_differ, stations_differ}
 use Rattle.table_maker.proofs.NumberedNames.{fresh, numbered}
-use Rattle.table_maker.proofs.RecordsRead.{cost_one, fleet_one, from_day_start, leg_one, station_one, through_one}
+use Rattle.table_maker.proofs.RecordsRead.{cost_one, fleet_one, leg_one, station_one, through_one}
 
 -- a round trip to one of so many spokes, in the ranges of its draws
 pub record IsRoundTrip (spokes : ℕ) (trip : RoundTrip) : Type 0 where

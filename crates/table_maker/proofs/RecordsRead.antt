@@ -1,5 +1,5 @@
 -- A record whose fields have their forms reads as its entry, below entries with other names.
-use Rattle.std.proofs.Common.{◌≡◌, ◌==◌, ℕ, ◌+◌, ◌-◌, ◌*◌, ◌%◌, ◌<◌, ◌≤◌, pos, neg_ℤ, Bool, false, List, [], ◌∷◌, length, codes, Some, Ok, refl, ap, ◌∙◌, arith}
+use Rattle.std.proofs.Common.{◌≡◌, ◌==◌, ℕ, ◌%◌, ◌<◌, ◌≤◌, pos, neg_ℤ, Bool, false, List, [], ◌∷◌, length, codes, Some, Ok, refl, ap, arith}
 use Rattle.std.specs.Fmt.{decimal, digits}
 use Rattle.std.proofs.lemmas.Int.{ints}
 use Rattle.std.proofs.lemmas.Bool.{lt-leb}
@@ -9,8 +9,9 @@ use Rattle.fleet_model.specs.declared.limits.TheConstants.{MAX_AIRCRAFT, MAX_COS
 use Rattle.fleet_model.specs.declared.parts.Settings.{Settings}
 use Rattle.fleet_tables.specs.Costs.{cost_read}
 use Rattle.fleet_tables.specs.Fleets.{fleet_read}
-use Rattle.sched_read.specs.Legs.{block_between, day_of, from_period_start, leg_read}
+use Rattle.sched_read.specs.Legs.{block_between, day_of, from_day_start, leg_read}
 use Rattle.sched_read.specs.Throughs.{through_read}
+use Rattle.sched_read.proofs.OneDay.{one_day}
 use Rattle.station_table.specs.Stations.{station_read}
 use Rattle.table_rows.specs.Fields.{as_natural, natural_of}
 use Rattle.table_rows.specs.Names.{is_among, number_of}
@@ -38,14 +39,7 @@ fleet_one earlier name aircraft turn form enough short fresh few =
     rw (text, count_text, turn_text, name_reads name form, natural_reads aircraft MAX_AIRCRAFT (omega arith) (omega arith))
     (rw (natural_reads turn MAX_GROUND_MINUTES (omega arith) (omega arith), fresh, lt-leb MAX_FLEETS (length earlier) few) refl)
 
--- a clock minute, counted from the day start
-abbrev pub from_day_start : Settings → ℕ → ℕ
-from_day_start settings minute = (minute + MINUTES_PER_DAY - settings.day_start) % MINUTES_PER_DAY
-
--- where the period is one day, it starts with the day
-on_day_one : (settings : Settings) (minute : ℕ) → settings.period ≡ 1 → from_period_start settings 1 minute ≡ from_day_start settings minute
-on_day_one settings minute one = ap (λ days. (0 + minute + days * MINUTES_PER_DAY - settings.day_start) % (days * MINUTES_PER_DAY)) one ∙ omega arith
-
+-- the day of a record that has none
 first_day : (settings : Settings) → settings.period ≡ 1 → day_of settings (codes "1") ≡ Ok 1
 unfolding digits
 first_day settings one = ap as_natural (whole_reads 1 (pos 1) (pos settings.period) (omega arith) (omega (arith, ints)) (omega (arith, ints, one)))
@@ -63,7 +57,7 @@ leg_one stations settings earlier flight from to a b leaves lands block one form
     let to_text = (name_kept to (code_is_name to to_form)).text in
     rw (text, day_text, from_text, (clock_kept leaves).text, to_text, (clock_kept lands).text)
     (rw (name_reads flight form, first_day settings one, code_reads from from_form, clock_reads leaves, code_reads to to_form, clock_reads lands)
-    (rw (fresh, from_is, to_is, is, some, away, lt-leb MAX_LEGS (length earlier) few, on_day_one settings (leaves % MINUTES_PER_DAY) one) refl))
+    (rw (fresh, from_is, to_is, is, some, away, lt-leb MAX_LEGS (length earlier) few, one_day settings (leaves % MINUTES_PER_DAY) one) refl))
 
 pub cost_one : (flights fleets earlier : List (List ℕ)) (flight fleet : List ℕ) (l f cost : ℕ) → IsName flight → IsName fleet
     → number_of flight flights ≡ Some l → number_of fleet fleets ≡ Some f → cost < 10000 → is_among (l ∷ f ∷ []) earlier ≡ false

@@ -4,7 +4,7 @@ import re
 from fractions import Fraction
 
 from hints.forms import TRILLION
-from hints.records import Unread
+from hints.records import DATED, Unread
 
 MOST_AIRCRAFT = 500
 
@@ -66,11 +66,33 @@ def drop_leg(words):
 
     def change(tables):
         record_of(tables, "legs.csv", flight)
-        tables["legs.csv"][:] = [it for it in tables["legs.csv"] if it[0] != flight]
-        tables["costs.csv"][:] = [it for it in tables["costs.csv"] if it[0] != flight]
-        tables["throughs.csv"][:] = [it for it in tables["throughs.csv"] if flight not in it[:2]]
+        drop(tables, {flight})
 
     return change
+
+
+def only_day(words):
+    """The legs of one day of a period alone, as a schedule of one day."""
+    if len(words) != 1 or not re.fullmatch("[1-7]", words[0]):
+        return None
+    day = int(words[0])
+
+    def change(tables):
+        legs = tables["legs.csv"]
+        if any(len(it) != len(DATED) for it in legs):
+            raise Unread("legs.csv tells no day of its flights")
+        drop(tables, {it[0] for it in legs if int(it[1]) != day})
+        for it in legs:
+            it[1] = "1"
+
+    return change
+
+
+def drop(tables, flights):
+    """Takes flights away, with all that speaks of them."""
+    tables["legs.csv"][:] = [it for it in tables["legs.csv"] if it[0] not in flights]
+    tables["costs.csv"][:] = [it for it in tables["costs.csv"] if it[0] not in flights]
+    tables["throughs.csv"][:] = [it for it in tables["throughs.csv"] if flights.isdisjoint(it[:2])]
 
 
 # Of each change the form that is told, and what reads its words.
@@ -78,6 +100,7 @@ CHANGES = {
     "aircraft": ("aircraft FLEET -1 (or +1, or 5)", aircraft),
     "cost": ("cost FLEET *1.1", cost),
     "drop-leg": ("drop-leg FLIGHT", drop_leg),
+    "only-day": ("only-day DAY", only_day),
 }
 
 

@@ -3,7 +3,7 @@
 import os
 import shutil
 
-from hints.records import TABLES, Unread, rows_of, HEADERS
+from hints.records import TABLES, Unread, headers_of, table_of
 from schedule_files.files import table
 from steps import whole
 from steps.changes import read_change
@@ -13,22 +13,22 @@ from steps.running import run
 REFUSED = "refused.txt"
 
 
-def lay(program, files, texts, place, limits):
-    """Makes the folder of the tables, from these files and with these changes."""
+def lay(program, files, texts, period, place, limits):
+    """Makes the folder of the tables, from these files and with these changes. Before they are changed their period has so many days."""
     with whole.folder(place) as beside:
         for name, path in zip(TABLES, files):
             shutil.copyfile(path, os.path.join(beside, name))
-        refusal = refused(program, beside, limits) or changed(beside, texts)
+        refusal = refused(program, beside, period, limits) or changed(beside, texts)
         if refusal:
             whole.write(os.path.join(beside, REFUSED), refusal)
 
 
-def refused(program, folder, limits):
+def refused(program, folder, period, limits):
     """Returns why the program refuses the tables of a folder, or None where they read. It judges an empty plan, of which it tells
     a fault only where all tables read."""
     plan = os.path.join(folder, "plan.csv")
     whole.write(plan, "")
-    ran = run(program, ["judge", folder], limits)
+    ran = run(program, ["judge", folder, *(["--period", str(period)] if period > 1 else [])], limits)
     os.remove(plan)
     return ran.told if ran.status == 6 else None
 
@@ -37,12 +37,13 @@ def changed(folder, texts):
     """Changes the tables of a folder, and returns why that can't be done, or None."""
     if not texts:
         return None
-    tables = {it: rows_of(folder, it) for it in TABLES}
+    read = {it: table_of(folder, it, headers_of(it)) for it in TABLES}
+    tables = {it: rows for it, (_, rows) in read.items()}
     for text in texts:
         try:
             read_change(text)(tables)
         except Unread as error:
             return f"{text}: {error}"
     for name, rows in tables.items():
-        whole.write(os.path.join(folder, name), table(HEADERS[name], rows))
+        whole.write(os.path.join(folder, name), table(read[name][0], rows))
     return None

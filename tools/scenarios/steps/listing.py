@@ -5,10 +5,12 @@ import re
 import shlex
 
 from hints.records import TABLES, Unread, bytes_of, records_in
+from hints.words import Call
 from steps.changes import read_change
 
 HEADER = ("scenario", "words", "folder", "changes")
 NAME = re.compile(r"[A-Za-z0-9][A-Za-z0-9_.+-]{0,63}")
+MOST_DAYS = 7
 
 
 class Scenario:
@@ -20,6 +22,13 @@ class Scenario:
     def files(self, base):
         """Returns the five files that its tables come from: those of its own folder, and for the others those of the base."""
         return [self.own(it) or os.path.join(base, it) for it in TABLES]
+
+    @property
+    def period(self):
+        """After how many days the schedule repeats before it is changed, by the words, or where one of its days alone is wanted the most."""
+        if any(it.startswith("only-day ") for it in self.changes):
+            return MOST_DAYS
+        return Call(["solve", ".", *self.words]).value("period") or 1
 
     def own(self, table):
         """Returns the path of a table in its own folder, or None where none stands there."""

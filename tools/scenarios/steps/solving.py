@@ -39,14 +39,14 @@ def refusal_of(tables):
 
 
 def answer_of(program, folder, words, limits):
-    """Returns the answer of `solve` in a folder, with the day start for which it holds."""
+    """Returns the answer of `solve` in a folder, with the words by which its tables are read."""
     call = Call(["solve", folder, *words])
     as_json = [] if "json" in call.given else ["--json"]
     ran = run(program, ["solve", *as_json, folder, *words], limits)
     answer = {"status": ran.status, "told": ran.told, "seconds": ran.seconds, "memory": ran.memory}
     if ran.status in PROVED:
         answer["solved"] = json.loads(ran.told)
-        answer["day_start"] = call.given["day-start"][0] if "day-start" in call.given else "03:00"
+        answer["reading"] = call.reading
     return answer
 
 
@@ -55,13 +55,13 @@ def check(program, solved, place, limits, is_last):
     answer = read_json(os.path.join(solved, ANSWER))
     checked = {}
     if "solved" in answer:
-        checked = answer_or_fault(lambda: checked_of(program, solved, answer["day_start"], limits), is_last)
+        checked = answer_or_fault(lambda: checked_of(program, solved, answer["reading"], limits), is_last)
     write_json(place, checked)
 
 
-def checked_of(program, solved, day_start, limits):
+def checked_of(program, solved, reading, limits):
     sums = sums_of(solved)
-    ran = run(program, ["check", "--day-start", day_start, solved], limits)
+    ran = run(program, ["check", *reading, solved], limits)
     return {"told": ran.told, "seconds": ran.seconds, "memory": ran.memory, "sums": sums}
 
 
@@ -97,7 +97,7 @@ def draw(solved, name, place):
         os.mkdir(own)
         for it in (*CLAIMED, "rotation.csv"):
             shutil.copyfile(os.path.join(solved, it), os.path.join(own, it))
-        words = [os.path.join(TOP, "tools", "draw"), own, "--day-start", answer["day_start"]]
+        words = [os.path.join(TOP, "tools", "draw"), own, *answer["reading"]]
         if subprocess.run([sys.executable, *words], stdin=subprocess.DEVNULL, check=False).returncode:
             raise Fault("tools/draw couldn't draw it")
         os.rename(os.path.join(own, "plan.html"), os.path.join(beside, "plan.html"))
