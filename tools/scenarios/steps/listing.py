@@ -25,7 +25,7 @@ class Scenario:
 
     @property
     def period(self):
-        """After how many days the schedule repeats before it is changed, by the words, or where one of its days alone is wanted the most."""
+        """After how many days the schedule repeats before it is changed: as the words say, or 7 at most where a day alone is wanted."""
         if any(it.startswith("only-day ") for it in self.changes):
             return MOST_DAYS
         return Call(["solve", ".", *self.words]).value("period") or 1
