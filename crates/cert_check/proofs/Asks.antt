@@ -15,9 +15,9 @@ use Rattle.dual_bound.specs.declared.prices.Prices.{Prices}
 use Rattle.dual_bound.specs.declared.trees.Cause.{Cause}
 use Rattle.dual_bound.specs.declared.trees.Tree.{Split, Tree, Trim}
 use Rattle.dual_bound.specs.declared.trees.Tree.TheVariants as tree
-use Rattle.cert_check.specs.Asking.{AreFound, ArePassedOn, IsSize, answer_of}
+use Rattle.cert_check.specs.Asking.{AreFound, ArePassedOn, IsSize}
 use Rattle.cert_check.specs.Nodes.{Node, nodes_below, nodes_in}
-use Rattle.cert_check.specs.OtherSizes.{IsAsked, IsFallenAt, IsProofOf, Stands, StandsWith}
+use Rattle.cert_check.specs.OtherSizes.{IsAsked, IsFallenAt, IsProofOf, Stands, StandsWith, answer_of}
 use Rattle.cert_check.specs.Splits.{AreSoundButPriced}
 use Rattle.cert_check.specs.Verdicts.{BoundsAll}
 use Rattle.cert_check.specs.Walking.{IsBoundBelow, IsOwnBound}

@@ -5,6 +5,7 @@ pub mod NodeRules
 pub mod OneVerdict
 pub mod OtherSettings
 pub mod OtherSizes
+pub mod OwnNumbers
 pub mod PriceSteps
 pub mod SameTrees
 pub mod SoleAssignments

@@ -67,7 +67,7 @@ one_lesser yes_has no_has b c one_yes one_no x y =
     x.lesser ∙ rw (one_yes x.with_pair y.with_pair x.yes_is y.yes_is, one_no x.without y.without x.no_is y.no_is) refl ∙ sym y.lesser
 
 module _ (t : Tables) (cost : Option ℤ) where
-  one_bound : (keeps : Domains) (whole : Tree) (b c : Option ℤ) → AreSound t cost keeps whole → IsBoundIn t keeps whole b → IsBoundIn t keeps whole c → b ≡ c
+  pub one_bound : (keeps : Domains) (whole : Tree) (b c : Option ℤ) → AreSound t cost keeps whole → IsBoundIn t keeps whole b → IsBoundIn t keeps whole c → b ≡ c
   one_bound keeps (tree.Bare leg) b c sound x y = x ∙ sym y
   one_bound keeps tree.Sole b c sound x y =
       let one = sole_has_one t keeps ((All-head (IsSound t cost) (node keeps tree.Sole) [] sound).each rule.Pairs) in

@@ -1,5 +1,5 @@
 -- What a walk finds that asks a tree of tables with another number of aircraft of one fleet.
-use Rattle.std.specs.Prelude.{◌≡◌, ◌+◌, ◌<◌, ◌≤◌, Bool, true, false, List, All, length, Option, None, Some, ℤ}
+use Rattle.std.specs.Prelude.{◌≡◌, ◌+◌, ◌<◌, ◌≤◌, Bool, true, false, List, All, length, Option, ℤ}
 use Rattle.fleet_model.specs.declared.limits.TheConstants.{MAX_AIRCRAFT}
 use Rattle.fleet_model.specs.declared.tables.Tables.{Tables}
 use Rattle.fleet_model.specs.OtherSizes.{IsOtherSize}
@@ -10,8 +10,6 @@ use Rattle.cert_check.specs.OtherSizes.{IsFallenAt, Stands}
 use Rattle.cert_check.specs.Walking.{IsLesserSoFar}
 use Rattle.cert_check.specs.declared.other_leaves.Size.{Size}
 use Rattle.cert_check.specs.declared.reached.Reached.{Reached}
-use Rattle.cert_check.specs.declared.what_if.WhatIf.{WhatIf}
-use Rattle.cert_check.specs.declared.what_if.WhatIf.TheVariants as what
 
 -- a fleet of the tables, and a number of aircraft that it may have
 pub record IsSize (t : Tables) (size : Size) : Type 0 where
@@ -32,8 +30,3 @@ pub record ArePassedOn (u : Tables) (nodes : List Node) (has : Option ℤ → Ty
 abbrev pub AreFound : Tables → List Node → (Option ℤ → Type 0) → Reached → Reached → Bool → Type 0
 AreFound u nodes has before after true = IsFallenAt u nodes before.number after.number
 AreFound u nodes has before after false = ArePassedOn u nodes has before after
-
--- the answer where all nodes stand and the tree has this bound
-abbrev pub answer_of : Option ℤ → WhatIf
-answer_of None = what.NoPlan
-answer_of (Some bound) = what.Bound bound

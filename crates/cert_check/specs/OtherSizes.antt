@@ -1,11 +1,14 @@
 -- What a tree proves of tables with another number of aircraft of one fleet.
 use Rattle.std.specs.Prelude.{◌≡◌, ℕ, ◌+◌, List, ◌∷◌, ◌++◌, All, length, ⊤, Option, Some, None, ℤ}
 use Rattle.fleet_model.specs.declared.tables.Tables.{Tables}
+use Rattle.fleet_model.specs.OtherSizes.{IsOtherSize}
+use Rattle.fleet_model.specs.Schedule.{fleet_of}
 use Rattle.dual_bound.specs.Bound.{IsBound, IsInfeasible, IsLowerBound}
 use Rattle.dual_bound.specs.Leaves.{held_count}
 use Rattle.dual_bound.specs.declared.trees.Tree.{Tree}
 use Rattle.cert_check.specs.Nodes.{Node, nodes_of}
 use Rattle.cert_check.specs.Rules.{IsRefutedAt}
+use Rattle.cert_check.specs.Verdicts.{HoldsWith}
 use Rattle.cert_check.specs.declared.what_if.WhatIf.{WhatIf}
 use Rattle.cert_check.specs.declared.what_if.WhatIf.TheVariants as what
 
@@ -45,3 +48,13 @@ abbrev pub IsProofOf : Tables → WhatIf → Type 0
 IsProofOf u (what.Fallen node) = ⊤
 IsProofOf u what.NoPlan = IsInfeasible u
 IsProofOf u (what.Bound bound) = IsLowerBound u bound
+
+-- the answer where all nodes stand and a tree has this bound
+abbrev pub answer_of : Option ℤ → WhatIf
+answer_of None = what.NoPlan
+answer_of (Some bound) = what.Bound bound
+
+-- asked by a fleet's own number of aircraft, a tree that holds has the bound with which it holds
+abbrev pub OwnNumberIsChecked : Type 0
+OwnNumberIsChecked = (t : Tables) (cost bound : Option ℤ) (fleet : ℕ) (tree : Tree) (answer : WhatIf) → HoldsWith t cost tree bound
+    → ((u : Tables) → IsOtherSize t fleet (fleet_of t fleet).aircraft u → IsAsked u tree answer) → answer ≡ answer_of bound

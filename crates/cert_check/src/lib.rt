@@ -5,6 +5,7 @@ pub mod asking;
 pub mod checked;
 pub mod checking;
 mod fraction_rules;
+pub mod laws;
 mod leaves;
 mod mixed_counts;
 mod mixed_room;
