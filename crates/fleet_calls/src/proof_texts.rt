@@ -1,5 +1,5 @@
 //! Texts of proofs, and what trees count.
-ghost use Rattle.std.specs.Prelude.{◌≡◌, ◌<◌, All, IfOk};
+ghost use Rattle.std.specs.Prelude.{◌≡◌, ◌<◌, [], All, IfOk};
 ghost use Rattle.fleet_model.specs.Schedule.{fleets_in, legs_in, stations_in};
 ghost use Rattle.fleet_model.specs.declared.tables.Tables.{Tables};
 ghost use Rattle.dual_bound.specs.OfTables.{IsOfTables};
@@ -27,7 +27,8 @@ fn written(alloc: Global, planned: bool, tree: &Tree) -> Result<Option<Vec<u8>>,
 
 /// The first fleet at the first station is worth `value` until 08:00 and nothing after; rents of the first fleets.
 fn prices(alloc: Global, rents: &[i128], value: i128) -> Result<Prices, NoMemory>
-    ensures { IfOk result (λ prices. All (λ step. (step.fleet ≡ 0) × (step.station ≡ 0)) prices.steps) }
+    ensures steps { IfOk result (λ prices. All (λ step. (step.fleet ≡ 0) × (step.station ≡ 0)) prices.steps) }
+    ensures charges { IfOk result (λ prices. prices.charges ≡ []) }
 {
     let at_start = PriceStep {
         fleet: 0,
