@@ -12,15 +12,6 @@ use Rattle.table_rows.specs.declared.forms.Form.TheVariants as form
 use Rattle.table_rows.proofs.OneReading.{header_or_not, rows_end_exists, table_bad_same, table_reads_no_fault, table_reads_same}
 
 module _ {E : Type 0} (key : E → List ℕ) (read : Form → List (List ℕ) → Fields → Result E ℕ) (header : Form → Fields) (old_allowed : Bool) where
-  -- what reading the records below an allowed header answers is what the file reads as, or its first fault
-  pub form_answer : (file : TableFile) (records rest : List Fields) (found : Form) (answer : Result (Vec E Global) LoadError) → IsInForm header old_allowed records found rest
-      → MatchResult answer (λ entries. RowsRead key (read found) rest entries.items) (IsFirstFault file (RowsBad key (read found) rest))
-      → MatchResult answer (λ entries. FormReads key read header old_allowed records entries.items) (IsFirstFault file (FormBad key read header old_allowed records))
-  form_answer file records rest found (Ok entries) form reads = record { found = found; allowed = form.allowed; table = record { rest = rest; under = form.under; rows = reads } }
-  form_answer file records rest found (Err (load.Bad bad)) form fault =
-      (fault.0, inr (record { found = found; allowed = form.allowed; below = record { rest = rest; under = form.under; rows = fault.1 } }))
-  form_answer file records rest found (Err load.NoMemory) form fault = tt
-
   -- the refusal of a file that lacks an allowed header is its first fault
   pub formless_refused : (file : TableFile) (records : List Fields) (error : LoadError) → LacksForm header old_allowed records → error ≡ headless file
       → IsFirstFault file (FormBad key read header old_allowed records) error
