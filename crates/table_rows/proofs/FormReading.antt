@@ -1,12 +1,11 @@
 -- A file with an old or a new header reads in one way at most, has one first fault at most, and one of the two.
-use Rattle.std.proofs.Common.{◌≡◌, ◌≢◌, ◌⊎◌, ℕ, Bool, true, false, List, Vec, Global, Result, Ok, Err, MatchResult, refl, sym, subst, ◌∙◌, inl, inr}
+use Rattle.std.proofs.Common.{◌≡◌, ◌≢◌, ◌⊎◌, ℕ, Bool, true, false, List, Result, refl, sym, subst, ◌∙◌, inl, inr}
 use Rattle.fleet_model.specs.declared.refusals.LoadError.{LoadError}
-use Rattle.fleet_model.specs.declared.refusals.LoadError.TheVariants as load
 use Rattle.fleet_model.specs.declared.refusals.TableFile.{TableFile}
 use Rattle.fleet_model.specs.declared.refusals.TheConstants.{WRONG_HEADER}
-use Rattle.table_rows.specs.Forms.{FormBad, FormReads, IsAllowed, IsInForm, LacksForm}
+use Rattle.table_rows.specs.Forms.{FormBad, FormReads, IsAllowed, LacksForm}
 use Rattle.table_rows.specs.Outcome.{IsFirstFault, headless}
-use Rattle.table_rows.specs.Rows.{Fields, IsUnder, LacksHeader, RowsBad, RowsRead, TableBad, TableReads}
+use Rattle.table_rows.specs.Rows.{Fields, IsUnder, LacksHeader, TableBad, TableReads}
 use Rattle.table_rows.specs.declared.forms.Form.{Form}
 use Rattle.table_rows.specs.declared.forms.Form.TheVariants as form
 use Rattle.table_rows.proofs.OneReading.{header_or_not, rows_end_exists, table_bad_same, table_reads_no_fault, table_reads_same}
