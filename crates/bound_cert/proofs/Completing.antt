@@ -18,6 +18,7 @@ use Rattle.dual_bound.specs.declared.mixed.Weight.{Weight}
 use Rattle.dual_bound.specs.declared.prices.PriceStep.{PriceStep}
 use Rattle.fleet_model.proofs.PeriodMinutes.{day_or_more}
 use Rattle.fleet_model.specs.declared.tables.Tables.{Tables}
+use Rattle.proof_lines.specs.declared.line.Version.{Version}
 use Rattle.proof_lines.specs.Forms.{form_in}
 use Rattle.proof_lines.specs.LineText.{line_bytes}
 use Rattle.proof_lines.specs.Reading.{is_step_of}
@@ -196,7 +197,7 @@ no_rent m behind = record { some = behind.some; other = behind.no_rent }
 no_step : (m : Left) → IsBehind m → MayFollow due.Step m
 no_step m behind = record { some = behind.some; other = behind.no_step }
 
-module _ (t : Tables) (line : List ℕ) (after : Left) where
+module _ (v : Version) (t : Tables) (line : List ℕ) (after : Left) where
   abbrev end : Left
   end = line ∷ after
 
@@ -219,23 +220,23 @@ module _ (t : Tables) (line : List ℕ) (after : Left) where
       (entries_go s May Need twin may_end behind_ends need (s.grow so_far entry) p)))
       (λ is. inl (record { rest = x ∷ p; left_is = refl; stays = λ m some may. entries_end s so_far (x ∷ (p ++ m)) is }))
 
-  rents_go : (rents : List ℤ) (p : Left) → EndsBy (MayFollow due.Rent) IsBehind end (rents_from (names t) rents) p (rents_from (names t) rents (p ++ end))
-  rents_go = entries_go (rent_series (names t)) (MayFollow due.Rent) IsBehind (λ rents a b alike. rent_twin t a b alike (length rents)) (λ m may. may.other) (λ m ends. ends.no_rent) (λ m ends. ends)
+  rents_go : (rents : List ℤ) (p : Left) → EndsBy (MayFollow due.Rent) IsBehind end (rents_from (names v t) rents) p (rents_from (names v t) rents (p ++ end))
+  rents_go = entries_go (rent_series (names v t)) (MayFollow due.Rent) IsBehind (λ rents a b alike. rent_twin v t a b alike (length rents)) (λ m may. may.other) (λ m ends. ends.no_rent) (λ m ends. ends)
 
-  weights_go : (weights : List Weight) (before : Option Weight) (p : Left) → EndsBy IsBehind IsBehind end (weights_from (names t) weights before) p (weights_from (names t) weights before (p ++ end))
+  weights_go : (weights : List Weight) (before : Option Weight) (p : Left) → EndsBy IsBehind IsBehind end (weights_from (names v t) weights before) p (weights_from (names v t) weights before (p ++ end))
   weights_go weights before =
-      entries_go (weight_series (names t)) IsBehind IsBehind (λ so_far a b alike. weight_twin t a b alike so_far.1) (λ m may. may.no_weight) (λ m ends. ends.no_weight) (λ m ends. ends) (weights, before)
+      entries_go (weight_series (names v t)) IsBehind IsBehind (λ so_far a b alike. weight_twin v t a b alike so_far.1) (λ m may. may.no_weight) (λ m ends. ends.no_weight) (λ m ends. ends) (weights, before)
 
   -- a step that other lines may follow: it needs no other step of its place, or has one
-  module _ (steps : List PriceStep) (before : Option PriceStep) (x : List ℕ) (is : begins (x ∷ []) due.Step ≡ true) (step : PriceStep) (was : StepWas t before (x ∷ end) step) where
-    onward : (m : Left) → 0 < length m → is_needless (names t) step m ≡ false → steps_from (names t) steps before (x ∷ m) ≡ steps_from (names t) (steps ++ step ∷ []) (Some step) m
+  module _ (steps : List PriceStep) (before : Option PriceStep) (x : List ℕ) (is : begins (x ∷ []) due.Step ≡ true) (step : PriceStep) (was : StepWas v t before (x ∷ end) step) where
+    onward : (m : Left) → 0 < length m → is_needless (names v t) step m ≡ false → steps_from (names v t) steps before (x ∷ m) ≡ steps_from (names v t) (steps ++ step ∷ []) (Some step) m
     onward m some needed =
         let first : x ≡ line_bytes t (at_line step) = first_same x (line_bytes t (at_line step)) end end was.line_is.is in
-        entries_more (step_series (names t)) (steps, before) (x ∷ m) step is (ap (λ y. step_at (names t) before (y ∷ m)) first ∙ step_read t before step m was.order was.follows needed some)
+        entries_more (step_series (names v t)) (steps, before) (x ∷ m) step is (ap (λ y. step_at (names v t) before (y ∷ m)) first ∙ step_read v t before step m was.order was.follows needed some)
 
     -- behind lines of another kind it is needed as little as behind such
-    stays_needed : (m : Left) → begins end due.Step ≡ false → begins m due.Step ≡ false → is_needless (names t) step m ≡ false
-    stays_needed m here there = by_zero (step.minute == 0) (int_eq step.value (pos 0)) (is_step_of (names t) step.fleet step.station (first_words end)) (is_step_of (names t) step.fleet step.station (first_words m)) (rw (other_words end here) refl) was.needed
+    stays_needed : (m : Left) → begins end due.Step ≡ false → begins m due.Step ≡ false → is_needless (names v t) step m ≡ false
+    stays_needed m here there = by_zero (step.minute == 0) (int_eq step.value (pos 0)) (is_step_of (names v t) step.fleet step.station (first_words end)) (is_step_of (names v t) step.fleet step.station (first_words m)) (rw (other_words end here) refl) was.needed
       where
         by_zero : (c d g h : Bool) → g ≡ false → (c && d && not g) ≡ false → (c && d && not h) ≡ false
         by_zero false d g h off needed = refl
@@ -245,15 +246,15 @@ module _ (t : Tables) (line : List ℕ) (after : Left) where
     next : PriceStep
     next = record { fleet = step.fleet; station = step.station; minute = 1; value = pos 1 }
 
-    completed : Completes (MayFollow due.Rent) (steps_from (names t) steps before) (x ∷ [])
+    completed : Completes (MayFollow due.Rent) (steps_from (names v t) steps before) (x ∷ [])
     unfolding next
     completed = by_zero (step.minute == 0) (int_eq step.value (pos 0)) refl refl
       where
-        plain : (c d : Bool) → (step.minute == 0) ≡ c → int_eq step.value (pos 0) ≡ d → (c && d) ≡ false → Completes (MayFollow due.Rent) (steps_from (names t) steps before) (x ∷ [])
+        plain : (c d : Bool) → (step.minute == 0) ≡ c → int_eq step.value (pos 0) ≡ d → (c && d) ≡ false → Completes (MayFollow due.Rent) (steps_from (names v t) steps before) (x ∷ [])
         plain c d minute value off = record {
           more = [];
           value = steps ++ step ∷ [];
-          reads = λ z ends. onward z ends.some (rw (minute, value) (needless_off c d (is_step_of (names t) step.fleet step.station (first_words z)) off)) ∙ entries_end (step_series (names t)) (steps ++ step ∷ [], Some step) z ends.no_step;
+          reads = λ z ends. onward z ends.some (rw (minute, value) (needless_off c d (is_step_of (names v t) step.fleet step.station (first_words z)) off)) ∙ entries_end (step_series (names v t)) (steps ++ step ∷ [], Some step) z ends.no_step;
           need = λ z ends. tt;
         }
           where
@@ -262,7 +263,7 @@ module _ (t : Tables) (line : List ℕ) (after : Left) where
             needless_off true false g off = refl
             needless_off true true g off = absurd (cc off)
 
-        by_zero : (c d : Bool) → (step.minute == 0) ≡ c → int_eq step.value (pos 0) ≡ d → Completes (MayFollow due.Rent) (steps_from (names t) steps before) (x ∷ [])
+        by_zero : (c d : Bool) → (step.minute == 0) ≡ c → int_eq step.value (pos 0) ≡ d → Completes (MayFollow due.Rent) (steps_from (names v t) steps before) (x ∷ [])
         by_zero false d minute value = plain false d minute value refl
         by_zero true false minute value = plain true false minute value refl
         by_zero true true minute value =
@@ -272,99 +273,99 @@ module _ (t : Tables) (line : List ℕ) (after : Left) where
             let place : same_place step next ≡ true = same_place_by step next refl refl in
             let follows : step_follows (Some step) next ≡ true = rw place (rw (none, zero) refl) in
             let each : All (IsStepInOrder t) (next ∷ []) = All-cons (IsStepInOrder t) next [] order (All-nil (IsStepInOrder t)) in
-            let of : All (IsStepOf t) (next ∷ []) = All-cons (IsStepOf t) next [] (of_step t next order) (All-nil (IsStepOf t)) in
+            let of : All (IsStepOf t) (next ∷ []) = All-cons (IsStepOf t) next [] (of_step v t next order) (All-nil (IsStepOf t)) in
             record {
               more = line_bytes t (at_line next) ∷ [];
               value = (steps ++ step ∷ []) ++ next ∷ [];
               reads = λ z ends.
                   onward (line_bytes t (at_line next) ∷ z) (omega arith)
-                  (needed_by t (step.minute == 0) (int_eq step.value (pos 0)) (goes_on step (next ∷ [])) (is_step_of (names t) step.fleet step.station (first_words (line_bytes t (at_line next) ∷ z))) (rw (place, minute, value) refl)
-                  (next_begins t step (next ∷ []) z of))
-                  ∙ steps_read t (next ∷ []) (steps ++ step ∷ []) (Some step) z each of (rw follows refl, tt) (refl, tt) ends.some ends.no_step;
+                  (needed_by v t (step.minute == 0) (int_eq step.value (pos 0)) (goes_on step (next ∷ [])) (is_step_of (names v t) step.fleet step.station (first_words (line_bytes t (at_line next) ∷ z))) (rw (place, minute, value) refl)
+                  (next_begins v t step (next ∷ []) z of))
+                  ∙ steps_read v t (next ∷ []) (steps ++ step ∷ []) (Some step) z each of (rw follows refl, tt) (refl, tt) ends.some ends.no_step;
               need = λ z ends. tt;
             }
 
-  steps_go : (steps : List PriceStep) (before : Option PriceStep) (p : Left) → EndsBy (MayFollow due.Step) (MayFollow due.Rent) end (steps_from (names t) steps before) p (steps_from (names t) steps before (p ++ end))
+  steps_go : (steps : List PriceStep) (before : Option PriceStep) (p : Left) → EndsBy (MayFollow due.Step) (MayFollow due.Rent) end (steps_from (names v t) steps before) p (steps_from (names v t) steps before (p ++ end))
   unfolding entries_from
   steps_go steps before [] =
       ends_if _ _ end _ [] (fits due.Step (form_in (words_of line))) _ _
-      (λ is. ends_read _ _ end _ [] (step_at (names t) before end) _
-      (λ e failed there. record { more = []; value = steps; reads = λ z ends. entries_end (step_series (names t)) (steps, before) z ends.no_step; need = λ z ends. no_rent z ends })
-      (λ step read. beyond _ _ end _ [] (length after) _ (steps_shrink t (steps ++ step ∷ []) (Some step) after) (omega arith)))
-      (λ is. inl (record { rest = []; left_is = refl; stays = λ m some may. entries_end (step_series (names t)) (steps, before) m may.other }))
+      (λ is. ends_read _ _ end _ [] (step_at (names v t) before end) _
+      (λ e failed there. record { more = []; value = steps; reads = λ z ends. entries_end (step_series (names v t)) (steps, before) z ends.no_step; need = λ z ends. no_rent z ends })
+      (λ step read. beyond _ _ end _ [] (length after) _ (steps_shrink v t (steps ++ step ∷ []) (Some step) after) (omega arith)))
+      (λ is. inl (record { rest = []; left_is = refl; stays = λ m some may. entries_end (step_series (names v t)) (steps, before) m may.other }))
   steps_go steps before (x ∷ []) =
       ends_if _ _ end _ (x ∷ []) (fits due.Step (form_in (words_of x))) _ _
-      (λ is. ends_read _ _ end _ (x ∷ []) (step_at (names t) before (x ∷ end)) _
-      (λ e failed there. not_there x [] end (step_at (names t) before (x ∷ end)) e (step_twin t (x ∷ end) (x ∷ end) (alike_self (x ∷ end)) before (λ zero_step. refl)) failed there)
+      (λ is. ends_read _ _ end _ (x ∷ []) (step_at (names v t) before (x ∷ end)) _
+      (λ e failed there. not_there x [] end (step_at (names v t) before (x ∷ end)) e (step_twin v t (x ∷ end) (x ∷ end) (alike_self (x ∷ end)) before (λ zero_step. refl)) failed there)
       (λ step read.
-      let was = step_was t before (x ∷ end) step read in
+      let was = step_was v t before (x ∷ end) step read in
       ends_if _ _ end _ (x ∷ []) (fits due.Step (form_in (words_of line))) _ _
-      (λ on. ends_read _ _ end _ (x ∷ []) (step_at (names t) (Some step) end) _ (λ e failed there. completed steps before x is step was)
-      (λ other read. beyond _ _ end _ (x ∷ []) (length after) _ (steps_shrink t ((steps ++ step ∷ []) ++ other ∷ []) (Some other) after) (omega arith)))
+      (λ on. ends_read _ _ end _ (x ∷ []) (step_at (names v t) (Some step) end) _ (λ e failed there. completed steps before x is step was)
+      (λ other read. beyond _ _ end _ (x ∷ []) (length after) _ (steps_shrink v t ((steps ++ step ∷ []) ++ other ∷ []) (Some other) after) (omega arith)))
       (λ off. inl (record {
         rest = [];
         left_is = refl;
-        stays = λ m some may. onward steps before x is step was m some (stays_needed steps before x is step was m off may.other) ∙ entries_end (step_series (names t)) (steps ++ step ∷ [], Some step) m may.other;
+        stays = λ m some may. onward steps before x is step was m some (stays_needed steps before x is step was m off may.other) ∙ entries_end (step_series (names v t)) (steps ++ step ∷ [], Some step) m may.other;
       }))))
-      (λ is. inl (record { rest = x ∷ []; left_is = refl; stays = λ m some may. entries_end (step_series (names t)) (steps, before) (x ∷ m) is }))
+      (λ is. inl (record { rest = x ∷ []; left_is = refl; stays = λ m some may. entries_end (step_series (names v t)) (steps, before) (x ∷ m) is }))
   steps_go steps before (x ∷ y ∷ p) =
       ends_if _ _ end _ (x ∷ y ∷ p) (fits due.Step (form_in (words_of x))) _ _
-      (λ is. ends_read _ _ end _ (x ∷ y ∷ p) (step_at (names t) before (x ∷ y ∷ (p ++ end))) _
-      (λ e failed there. not_there x (y ∷ p) end (step_at (names t) before (x ∷ y ∷ (p ++ end))) e (step_twin t (x ∷ y ∷ (p ++ end)) (x ∷ y ∷ (p ++ end)) (alike_self (x ∷ y ∷ (p ++ end))) before (λ zero_step. refl)) failed there)
-      (λ step read. ends_lift _ _ end (steps_from (names t) steps before) (x ∷ y ∷ p) (steps_from (names t) (steps ++ step ∷ []) (Some step)) (y ∷ p) _ (λ m may. tt)
-      (λ m some. entries_more (step_series (names t)) (steps, before) (x ∷ y ∷ (p ++ m)) step is
-      (value_of (x ∷ y ∷ (p ++ end)) (x ∷ y ∷ (p ++ m)) (step_at (names t) before (x ∷ y ∷ (p ++ end))) (step_at (names t) before (x ∷ y ∷ (p ++ m))) step
-      (step_twin t (x ∷ y ∷ (p ++ end)) (x ∷ y ∷ (p ++ m)) (alike_first x y y (p ++ end) (p ++ m)) before (λ zero_step. refl)) read))
+      (λ is. ends_read _ _ end _ (x ∷ y ∷ p) (step_at (names v t) before (x ∷ y ∷ (p ++ end))) _
+      (λ e failed there. not_there x (y ∷ p) end (step_at (names v t) before (x ∷ y ∷ (p ++ end))) e (step_twin v t (x ∷ y ∷ (p ++ end)) (x ∷ y ∷ (p ++ end)) (alike_self (x ∷ y ∷ (p ++ end))) before (λ zero_step. refl)) failed there)
+      (λ step read. ends_lift _ _ end (steps_from (names v t) steps before) (x ∷ y ∷ p) (steps_from (names v t) (steps ++ step ∷ []) (Some step)) (y ∷ p) _ (λ m may. tt)
+      (λ m some. entries_more (step_series (names v t)) (steps, before) (x ∷ y ∷ (p ++ m)) step is
+      (value_of (x ∷ y ∷ (p ++ end)) (x ∷ y ∷ (p ++ m)) (step_at (names v t) before (x ∷ y ∷ (p ++ end))) (step_at (names v t) before (x ∷ y ∷ (p ++ m))) step
+      (step_twin v t (x ∷ y ∷ (p ++ end)) (x ∷ y ∷ (p ++ m)) (alike_first x y y (p ++ end) (p ++ m)) before (λ zero_step. refl)) read))
       (steps_go (steps ++ step ∷ []) (Some step) (y ∷ p))))
-      (λ is. inl (record { rest = x ∷ y ∷ p; left_is = refl; stays = λ m some may. entries_end (step_series (names t)) (steps, before) (x ∷ y ∷ (p ++ m)) is }))
+      (λ is. inl (record { rest = x ∷ y ∷ p; left_is = refl; stays = λ m some may. entries_end (step_series (names v t)) (steps, before) (x ∷ y ∷ (p ++ m)) is }))
 
-  pub prices_go : (p : Left) → EndsBy IsBehind (λ m. ⊤) end (prices_at (names t)) p (prices_at (names t) (p ++ end))
+  pub prices_go : (p : Left) → EndsBy IsBehind (λ m. ⊤) end (prices_at (names v t)) p (prices_at (names v t) (p ++ end))
   unfolding prices_at
   prices_go [] =
-      ends_read _ _ end _ [] (scale_at (names t) end) _
+      ends_read _ _ end _ [] (scale_at (names v t) end) _
       (λ e failed there. record {
         more = line_bytes t (says.Scale (pos 1)) ∷ [];
-        value = record { scale = pos 1; rents = padded [] (length (names t).fleets); steps = []; charges = [] };
+        value = record { scale = pos 1; rents = padded [] (length (names v t).fleets); steps = []; charges = [] };
         reads = λ z ends.
-            bound (scale_at (names t) (line_bytes t (says.Scale (pos 1)) ∷ z)) (pos 1) _ (scale_read t (pos 1) z one_figure ends.some)
-            ∙ bound (rents_from (names t) [] z) (padded [] (length (names t).fleets), z) _ (entries_end (rent_series (names t)) [] z ends.no_rent)
-            ∙ bound (steps_from (names t) [] None z) ([], z) _ (entries_end (step_series (names t)) ([], None) z ends.no_step);
+            bound (scale_at (names v t) (line_bytes t (says.Scale (pos 1)) ∷ z)) (pos 1) _ (scale_read v t (pos 1) z one_figure ends.some)
+            ∙ bound (rents_from (names v t) [] z) (padded [] (length (names v t).fleets), z) _ (entries_end (rent_series (names v t)) [] z ends.no_rent)
+            ∙ bound (steps_from (names v t) [] None z) ([], z) _ (entries_end (step_series (names v t)) ([], None) z ends.no_step);
         need = λ z ends. tt;
       })
       (λ scale read. beyond _ _ end _ [] (length after) _
-      (shrinks_bind (length after) (rents_from (names t) [] after) _ (rents_shrink t [] after) (λ rents b. shrinks_bind (length b) (steps_from (names t) [] None b) _ (steps_shrink t [] None b) (λ steps c. omega arith))) (omega arith))
+      (shrinks_bind (length after) (rents_from (names v t) [] after) _ (rents_shrink v t [] after) (λ rents b. shrinks_bind (length b) (steps_from (names v t) [] None b) _ (steps_shrink v t [] None b) (λ steps c. omega arith))) (omega arith))
   prices_go (x ∷ p) =
-      ends_read _ _ end _ (x ∷ p) (scale_at (names t) (x ∷ (p ++ end))) _
-      (λ e failed there. not_there x p end (scale_at (names t) (x ∷ (p ++ end))) e (scale_twin t (x ∷ (p ++ end)) (x ∷ (p ++ end)) (alike_self (x ∷ (p ++ end)))) failed there)
-      (λ scale read. ends_then (MayFollow due.Rent) IsBehind (MayFollow due.Step) end (rents_from (names t) []) (λ rents. steps_from (names t) [] None) (λ rents steps. record { scale = scale; rents = rents; steps = steps; charges = [] }) (prices_at (names t)) (x ∷ p) p
+      ends_read _ _ end _ (x ∷ p) (scale_at (names v t) (x ∷ (p ++ end))) _
+      (λ e failed there. not_there x p end (scale_at (names v t) (x ∷ (p ++ end))) e (scale_twin v t (x ∷ (p ++ end)) (x ∷ (p ++ end)) (alike_self (x ∷ (p ++ end)))) failed there)
+      (λ scale read. ends_then (MayFollow due.Rent) IsBehind (MayFollow due.Step) end (rents_from (names v t) []) (λ rents. steps_from (names v t) [] None) (λ rents steps. record { scale = scale; rents = rents; steps = steps; charges = [] }) (prices_at (names v t)) (x ∷ p) p
       no_rent no_step
-      (λ m some. bound (scale_at (names t) (x ∷ (p ++ m))) scale _
-      (value_of (x ∷ (p ++ end)) (x ∷ (p ++ m)) (scale_at (names t) (x ∷ (p ++ end))) (scale_at (names t) (x ∷ (p ++ m))) scale (scale_twin t (x ∷ (p ++ end)) (x ∷ (p ++ m)) (alike_after x line p after m some)) read))
-      (λ rents. record { more = []; value = []; reads = λ z ends. entries_end (step_series (names t)) ([], None) z ends.no_step; need = λ z ends. ends })
-      (λ rents. steps_shrink t [] None)
-      (λ rents. steps_go [] None) (rents_from (names t) [] (p ++ end)) (rents_go [] p))
+      (λ m some. bound (scale_at (names v t) (x ∷ (p ++ m))) scale _
+      (value_of (x ∷ (p ++ end)) (x ∷ (p ++ m)) (scale_at (names v t) (x ∷ (p ++ end))) (scale_at (names v t) (x ∷ (p ++ m))) scale (scale_twin v t (x ∷ (p ++ end)) (x ∷ (p ++ m)) (alike_after x line p after m some)) read))
+      (λ rents. record { more = []; value = []; reads = λ z ends. entries_end (step_series (names v t)) ([], None) z ends.no_step; need = λ z ends. ends })
+      (λ rents. steps_shrink v t [] None)
+      (λ rents. steps_go [] None) (rents_from (names v t) [] (p ++ end)) (rents_go [] p))
 
-  pub one_mixed : Completes IsBehind (mixed_at (names t)) []
+  pub one_mixed : Completes IsBehind (mixed_at (names v t)) []
   unfolding mixed_at
   one_mixed = record {
     more = line_bytes t (says.Mixed (pos 1)) ∷ [];
     value = record { scale = pos 1; weights = [] };
     reads = λ z ends.
-        bound (mixed_scale_at (names t) (line_bytes t (says.Mixed (pos 1)) ∷ z)) (pos 1) _ (mixed_scale_read t (pos 1) z one_figure ends.some)
-        ∙ bound (weights_from (names t) [] None z) ([], z) _ (entries_end (weight_series (names t)) ([], None) z ends.no_weight);
-    need = λ z ends. behind_line t (says.Mixed (pos 1)) z tt refl refl refl;
+        bound (mixed_scale_at (names v t) (line_bytes t (says.Mixed (pos 1)) ∷ z)) (pos 1) _ (mixed_scale_read v t (pos 1) z one_figure ends.some)
+        ∙ bound (weights_from (names v t) [] None z) ([], z) _ (entries_end (weight_series (names v t)) ([], None) z ends.no_weight);
+    need = λ z ends. behind_line v t (says.Mixed (pos 1)) z tt refl refl refl;
   }
 
-  pub mixed_goes : (p : Left) → EndsBy IsBehind IsBehind end (mixed_at (names t)) p (mixed_at (names t) (p ++ end))
+  pub mixed_goes : (p : Left) → EndsBy IsBehind IsBehind end (mixed_at (names v t)) p (mixed_at (names v t) (p ++ end))
   unfolding mixed_at
   mixed_goes [] =
-      ends_read _ _ end _ [] (mixed_scale_at (names t) end) _
+      ends_read _ _ end _ [] (mixed_scale_at (names v t) end) _
       (λ e failed there. one_mixed)
-      (λ scale read. beyond _ _ end _ [] (length after) _ (shrinks_bind (length after) (weights_from (names t) [] None after) _ (weights_shrink t [] None after) (λ weights b. omega arith)) (omega arith))
+      (λ scale read. beyond _ _ end _ [] (length after) _ (shrinks_bind (length after) (weights_from (names v t) [] None after) _ (weights_shrink v t [] None after) (λ weights b. omega arith)) (omega arith))
   mixed_goes (x ∷ p) =
-      ends_read _ _ end _ (x ∷ p) (mixed_scale_at (names t) (x ∷ (p ++ end))) _
-      (λ e failed there. not_there x p end (mixed_scale_at (names t) (x ∷ (p ++ end))) e (mixed_scale_twin t (x ∷ (p ++ end)) (x ∷ (p ++ end)) (alike_self (x ∷ (p ++ end)))) failed there)
-      (λ scale read. ends_map IsBehind IsBehind end (weights_from (names t) [] None) (λ weights. record { scale = scale; weights = weights }) (mixed_at (names t)) (x ∷ p) p (weights_from (names t) [] None (p ++ end)) (λ m may. tt)
-      (λ m some. bound (mixed_scale_at (names t) (x ∷ (p ++ m))) scale _
-      (value_of (x ∷ (p ++ end)) (x ∷ (p ++ m)) (mixed_scale_at (names t) (x ∷ (p ++ end))) (mixed_scale_at (names t) (x ∷ (p ++ m))) scale (mixed_scale_twin t (x ∷ (p ++ end)) (x ∷ (p ++ m)) (alike_after x line p after m some)) read))
+      ends_read _ _ end _ (x ∷ p) (mixed_scale_at (names v t) (x ∷ (p ++ end))) _
+      (λ e failed there. not_there x p end (mixed_scale_at (names v t) (x ∷ (p ++ end))) e (mixed_scale_twin v t (x ∷ (p ++ end)) (x ∷ (p ++ end)) (alike_self (x ∷ (p ++ end)))) failed there)
+      (λ scale read. ends_map IsBehind IsBehind end (weights_from (names v t) [] None) (λ weights. record { scale = scale; weights = weights }) (mixed_at (names v t)) (x ∷ p) p (weights_from (names v t) [] None (p ++ end)) (λ m may. tt)
+      (λ m some. bound (mixed_scale_at (names v t) (x ∷ (p ++ m))) scale _
+      (value_of (x ∷ (p ++ end)) (x ∷ (p ++ m)) (mixed_scale_at (names v t) (x ∷ (p ++ end))) (mixed_scale_at (names v t) (x ∷ (p ++ m))) scale (mixed_scale_twin v t (x ∷ (p ++ end)) (x ∷ (p ++ m)) (alike_after x line p after m some)) read))
       (weights_go [] None p))

@@ -13,6 +13,7 @@ use Rattle.dual_bound.specs.declared.trees.Cause.{Cause}
 use Rattle.dual_bound.specs.declared.trees.Tree.{Tree}
 use Rattle.fleet_model.specs.Schedule.{fleets_in}
 use Rattle.fleet_model.specs.declared.tables.Tables.{Tables}
+use Rattle.proof_lines.specs.declared.line.Version.{Version}
 use Rattle.proof_lines.proofs.LineWords.{of_words}
 use Rattle.proof_lines.proofs.Spaces.{joined_plain}
 use Rattle.proof_lines.specs.LineText.{IsNamed, line_words}
@@ -81,8 +82,8 @@ nodes_named t [] are = All-nil (IsNamed t)
 nodes_named t (n ∷ nodes) are =
     All-append (IsNamed t) (node_lines t n) (flat_map (node_lines t) nodes) (node_is t n (All-head (IsNodeOf t) n nodes are)) (nodes_named t nodes (All-tail (IsNodeOf t) n nodes are))
 
-pub lines_named : (t : Tables) (planned : Bool) (tree : Tree) → IsOfTables t tree → All (IsNamed t) (all_lines t planned tree)
-lines_named t planned tree is =
+pub lines_named : (v : Version) (t : Tables) (planned : Bool) (tree : Tree) → IsOfTables t tree → All (IsNamed t) (all_lines t planned tree)
+lines_named v t planned tree is =
     let rest : List Line = tree_lines t tree ++ says.End ∷ [] in
     All-cons (IsNamed t) (says.Head version.One) (says.Plan planned ∷ rest) tt
     (All-cons (IsNamed t) (says.Plan planned) rest tt (All-append (IsNamed t) (tree_lines t tree) (says.End ∷ []) (nodes_named t (nodes_of tree) (nodes_are t tree is)) (one_line t says.End tt)))
@@ -90,7 +91,7 @@ lines_named t planned tree is =
 pub lines_are_of_words : (t : Tables) (planned : Bool) (tree : Tree) → IsOfTables t tree → All IsOfWords (proof_lines t planned tree)
 lines_are_of_words t planned tree is =
     let lines = all_lines t planned tree in
-    All-map IsOfWords (line_words t) lines (All-weaker (IsNamed t) (λ line. IsOfWords (line_words t line)) (of_words t) lines (lines_named t planned tree is))
+    All-map IsOfWords (line_words t) lines (All-weaker (IsNamed t) (λ line. IsOfWords (line_words t line)) (of_words t) lines (lines_named v t planned tree is))
 
 pub lines_are_plain : (t : Tables) (planned : Bool) (tree : Tree) → IsOfTables t tree → All IsPlainLine (proof_lines t planned tree)
 lines_are_plain t planned tree is =

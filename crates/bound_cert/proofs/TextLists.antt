@@ -17,6 +17,7 @@ use Rattle.dual_bound.specs.declared.prices.PriceStep.{PriceStep}
 use Rattle.dual_bound.specs.declared.prices.Prices.{Prices}
 use Rattle.fleet_model.specs.Schedule.{fleets_in}
 use Rattle.fleet_model.specs.declared.tables.Tables.{Tables}
+use Rattle.proof_lines.specs.declared.line.Version.{Version}
 use Rattle.proof_lines.proofs.LineWords.{of_words}
 use Rattle.proof_lines.proofs.Naming.{fleet_written, station_written}
 use Rattle.proof_lines.proofs.Spaces.{words_back}
@@ -34,7 +35,7 @@ use Rattle.bound_cert.specs.declared.reading_lines.Due.TheVariants as due
 use Rattle.proof_lines.specs.declared.line.Line.TheVariants as says
 use Rattle.proof_lines.specs.declared.line.Version.TheVariants as version
 
-module _ (t : Tables) where
+module _ (v : Version) (t : Tables) where
   -- steps
 
   pub record StepsWere (done : List PriceStep) (before : Option PriceStep) (left : Left) (read : List PriceStep × Left) : Type 0 where
@@ -54,7 +55,7 @@ module _ (t : Tables) where
 
   -- where the next line goes on at the place of a step, so does the next step
   goes_on_by : (step : PriceStep) (new : List PriceStep) (rest behind : Left) → IsStepInOrder t step → All (IsStepInOrder t) new → rest ≡ texts t (map at_line new) ++ behind
-      → (new ≡ [] → begins rest due.Step ≡ false) → is_step_of (names t) step.fleet step.station (first_words rest) ≡ true → goes_on step new ≡ true
+      → (new ≡ [] → begins rest due.Step ≡ false) → is_step_of (names v t) step.fleet step.station (first_words rest) ≡ true → goes_on step new ≡ true
   goes_on_by step [] rest behind is are text ends on =
       absurd (by_test (stands (first_words rest) 0 (codes "at")) _ _ on (other_words rest (ends refl)))
     where
@@ -62,14 +63,14 @@ module _ (t : Tables) where
       by_test true b c e off = cc off
       by_test false b c e off = cc e
   goes_on_by step (next ∷ new) rest behind is are text ends on =
-      let of = of_step t next (All-head (IsStepInOrder t) next new are) in
+      let of = of_step v t next (All-head (IsStepInOrder t) next new are) in
       let words : first_words rest ≡ line_words t (at_line next) = ap first_words text ∙ words_back (line_words t (at_line next)) (of_words t (at_line next) (of.fleet, of.station)) in
-      let tests = three_tests (stands (line_words t (at_line next)) 0 (codes "at")) _ _ (ap (λ w. is_step_of (names t) step.fleet step.station w) (sym words) ∙ on) in
-      let fleet : (next.fleet == step.fleet) ≡ true = ap (λ r. is_number r step.fleet) (sym (fleet_written version.One t next.fleet of.fleet)) ∙ tests.0 in
-      let station : (next.station == step.station) ≡ true = ap (λ r. is_number r step.station) (sym (station_written version.One t next.station of.station)) ∙ tests.1 in
+      let tests = three_tests (stands (line_words t (at_line next)) 0 (codes "at")) _ _ (ap (λ w. is_step_of (names v t) step.fleet step.station w) (sym words) ∙ on) in
+      let fleet : (next.fleet == step.fleet) ≡ true = ap (λ r. is_number r step.fleet) (sym (fleet_written v t next.fleet of.fleet)) ∙ tests.0 in
+      let station : (next.station == step.station) ≡ true = ap (λ r. is_number r step.station) (sym (station_written v t next.station of.station)) ∙ tests.1 in
       same_place_by step next (grind (arith, nat_tests, fleet)) (grind (arith, nat_tests, station))
 
-  pub steps_were : (left : Left) (done : List PriceStep) (before : Option PriceStep) (read : List PriceStep × Left) → steps_from (names t) done before left ≡ Ok read → StepsWere done before left read
+  pub steps_were : (left : Left) (done : List PriceStep) (before : Option PriceStep) (read : List PriceStep × Left) → steps_from (names v t) done before left ≡ Ok read → StepsWere done before left read
   unfolding entries_from
   steps_were [] done before read e =
       subst (λ r. StepsWere done before [] r) (ok_same (done, []) read e)
@@ -77,8 +78,8 @@ module _ (t : Tables) where
   steps_were (line ∷ rest) done before read e =
       either_way (fits due.Step (form_in (words_of line))) _ _ read e
       (λ at e.
-      let step = goes (step_at (names t) before (line ∷ rest)) _ read e in
-      let was = step_was t before (line ∷ rest) step.value step.is in
+      let step = goes (step_at (names v t) before (line ∷ rest)) _ read e in
+      let was = step_was v t before (line ∷ rest) step.value step.is in
       let more = steps_were rest (done ++ step.value ∷ []) (Some step.value) read step.on in
       record {
         new = step.value ∷ more.new;
@@ -87,7 +88,7 @@ module _ (t : Tables) where
         each = All-cons (IsStepInOrder t) step.value more.new was.order more.each;
         follow = (was.follows, more.follow);
         no_lone_zero = (
-          needed_by t (step.value.minute == 0) (int_eq step.value.value (pos 0)) (is_step_of (names t) step.value.fleet step.value.station (first_words rest)) (goes_on step.value more.new) was.needed
+          needed_by v t (step.value.minute == 0) (int_eq step.value.value (pos 0)) (is_step_of (names v t) step.value.fleet step.value.station (first_words rest)) (goes_on step.value more.new) was.needed
               (goes_on_by step.value more.new rest read.1 was.order more.each more.text more.ends),
           more.no_lone_zero,
         );
@@ -106,7 +107,7 @@ module _ (t : Tables) where
     pub each : All (IsWeightInOrder t) new
     pub follow : WeightsFollow before new
 
-  pub weights_were : (left : Left) (done : List Weight) (before : Option Weight) (read : List Weight × Left) → weights_from (names t) done before left ≡ Ok read → WeightsWere done before left read
+  pub weights_were : (left : Left) (done : List Weight) (before : Option Weight) (read : List Weight × Left) → weights_from (names v t) done before left ≡ Ok read → WeightsWere done before left read
   unfolding entries_from
   weights_were [] done before read e =
       subst (λ r. WeightsWere done before [] r) (ok_same (done, []) read e)
@@ -114,8 +115,8 @@ module _ (t : Tables) where
   weights_were (line ∷ rest) done before read e =
       either_way (fits due.Weight (form_in (words_of line))) _ _ read e
       (λ at e.
-      let entry = goes (weight_at (names t) before (line ∷ rest)) _ read e in
-      let was = weight_was t before (line ∷ rest) entry.value entry.is in
+      let entry = goes (weight_at (names v t) before (line ∷ rest)) _ read e in
+      let was = weight_was v t before (line ∷ rest) entry.value entry.is in
       let more = weights_were rest (done ++ entry.value ∷ []) (Some entry.value) read entry.on in
       record {
         new = entry.value ∷ more.new;
@@ -158,31 +159,31 @@ module _ (t : Tables) where
       replicate_len (suc k) = ap suc (replicate_len k)
 
   -- the fleets from a first one on up to another have no lines, where their rents are 0
-  no_lines : (prices : Prices) (k first n : ℕ) → ((f : ℕ) → first ≤ f → f < first + k → rent_of prices f ≡ pos 0) → lines_from t prices first (k + n) ≡ lines_from t prices (first + k) n
+  no_lines : (prices : Prices) (k first n : ℕ) → ((f : ℕ) → first ≤ f → f < first + k → rent_of prices f ≡ pos 0) → lines_from v t prices first (k + n) ≡ lines_from v t prices (first + k) n
   no_lines prices zero first n zeros =
       let all : zero + n ≡ n = omega arith in
       let here : first ≡ first + 0 = omega arith in
-      ap (λ m. lines_from t prices first m) all ∙ ap (λ f. lines_from t prices f n) here
+      ap (λ m. lines_from v t prices first m) all ∙ ap (λ f. lines_from v t prices f n) here
   no_lines prices (suc k) first n zeros =
       let all : suc k + n ≡ suc (k + n) = omega arith in
       let there : first + 1 + k ≡ first + suc k = omega arith in
-      ap (λ m. lines_from t prices first m) all
-      ∙ lines_without t prices first (k + n) ((Decides-int_eq (rent_of prices first) (pos 0)).1 (zeros first (omega arith) (omega arith)))
+      ap (λ m. lines_from v t prices first m) all
+      ∙ lines_without v t prices first (k + n) ((Decides-int_eq (rent_of prices first) (pos 0)).1 (zeros first (omega arith) (omega arith)))
       ∙ no_lines prices k (first + 1) n (λ f later before. zeros f (omega (arith, later)) (omega (arith, before)))
-      ∙ ap (λ f. lines_from t prices f n) there
+      ∙ ap (λ f. lines_from v t prices f n) there
 
-  no_lines_at_all : (prices : Prices) (first k : ℕ) → ((f : ℕ) → first ≤ f → f < first + k → rent_of prices f ≡ pos 0) → lines_from t prices first k ≡ []
+  no_lines_at_all : (prices : Prices) (first k : ℕ) → ((f : ℕ) → first ≤ f → f < first + k → rent_of prices f ≡ pos 0) → lines_from v t prices first k ≡ []
   unfolding lines_from
   no_lines_at_all prices first k zeros =
       let all : k ≡ k + 0 = omega arith in
-      ap (λ m. lines_from t prices first m) all ∙ no_lines prices k first 0 zeros
+      ap (λ m. lines_from v t prices first m) all ∙ no_lines prices k first 0 zeros
 
   -- what is read behind rents that are known: the rents begin with these, and the others' lines are those that are read
   pub record RentsWere (done : List ℤ) (left : Left) (read : List ℤ × Left) : Type 0 where
     pub one_each : length read.0 ≡ fleets_in t
     pub figures : All IsFigure read.0
     pub begun : (i : ℕ) → i < length done → get_or read.0 i (pos 0) ≡ get_or done i (pos 0)
-    pub text : (prices : Prices) → prices.rents ≡ read.0 → left ≡ texts t (lines_from t prices (length done) (fleets_in t - length done)) ++ read.1
+    pub text : (prices : Prices) → prices.rents ≡ read.0 → left ≡ texts t (lines_from v t prices (length done) (fleets_in t - length done)) ++ read.1
 
   padded_figures : (done : List ℤ) (n : ℕ) → All IsFigure done → All IsFigure (padded done n)
   padded_figures done n are = All-append IsFigure done (replicate (n - length done) (pos 0)) are (zeros_are (n - length done))
@@ -232,22 +233,22 @@ module _ (t : Tables) where
             ∙ behind_zeros done missing i from in
             let all : fleets_in t - length done ≡ missing + suc behind = omega (arith, later, fleet) in
             let there : length done + missing ≡ f = omega (arith, later) in
-            let lines : lines_from t prices (length done) (fleets_in t - length done) ≡ says.Rent f z ∷ lines_from t prices (f + 1) behind =
-            ap (λ n. lines_from t prices (length done) n) all ∙ no_lines prices missing (length done) (suc behind) zeros_are ∙ ap (λ g. lines_from t prices g (suc behind)) there
-            ∙ lines_with t prices f behind (ap (λ y. int_eq y (pos 0)) rent_is ∙ not_0) ∙ ap (λ y. says.Rent f y ∷ lines_from t prices (f + 1) behind) rent_is in
-            let others : rest ≡ texts t (lines_from t prices (f + 1) behind) ++ read.1 =
-            more.text prices is ∙ ap (λ n. texts t (lines_from t prices n (fleets_in t - n)) ++ read.1) grown_len in
+            let lines : lines_from v t prices (length done) (fleets_in t - length done) ≡ says.Rent f z ∷ lines_from v t prices (f + 1) behind =
+            ap (λ n. lines_from v t prices (length done) n) all ∙ no_lines prices missing (length done) (suc behind) zeros_are ∙ ap (λ g. lines_from v t prices g (suc behind)) there
+            ∙ lines_with v t prices f behind (ap (λ y. int_eq y (pos 0)) rent_is ∙ not_0) ∙ ap (λ y. says.Rent f y ∷ lines_from v t prices (f + 1) behind) rent_is in
+            let others : rest ≡ texts t (lines_from v t prices (f + 1) behind) ++ read.1 =
+            more.text prices is ∙ ap (λ n. texts t (lines_from v t prices n (fleets_in t - n)) ++ read.1) grown_len in
             line ∙ ap (λ rest. line_bytes t (says.Rent f z) ∷ rest) others ∙ ap (λ lines. texts t lines ++ read.1) (sym lines);
       }
 
-  pub rents_were : (left : Left) (done : List ℤ) (read : List ℤ × Left) → rents_from (names t) done left ≡ Ok read → All IsFigure done → length done ≤ fleets_in t → RentsWere done left read
+  pub rents_were : (left : Left) (done : List ℤ) (read : List ℤ × Left) → rents_from (names v t) done left ≡ Ok read → All IsFigure done → length done ≤ fleets_in t → RentsWere done left read
   unfolding entries_from
-  rents_were [] done read e are few = subst (λ r. RentsWere done [] r) (ok_same (padded done (fleets_in t), []) read (ap (λ n. Ok (padded done n, [])) (sym (fleet_count t)) ∙ e)) (none_more done [] are few)
+  rents_were [] done read e are few = subst (λ r. RentsWere done [] r) (ok_same (padded done (fleets_in t), []) read (ap (λ n. Ok (padded done n, [])) (sym (fleet_count v t)) ∙ e)) (none_more done [] are few)
   rents_were (line ∷ rest) done read e are few =
       either_way (fits due.Rent (form_in (words_of line))) _ _ read e
       (λ at e.
-      let entry = goes (rent_at (names t) (length done) (line ∷ rest)) _ read e in
-      let was = rent_was t (length done) (line ∷ rest) entry.value entry.is in
+      let entry = goes (rent_at (names v t) (length done) (line ∷ rest)) _ read e in
+      let was = rent_was v t (length done) (line ∷ rest) entry.value entry.is in
       let f = entry.value.0 in
       let z = entry.value.1 in
       let grown : List ℤ = padded done f ++ z ∷ [] in
@@ -255,7 +256,7 @@ module _ (t : Tables) where
       let grown_len : length grown ≡ f + 1 = length-append (padded done f) (z ∷ []) ∙ ap (λ n. n + 1) (padded_len done f was.later) in
       one_more done (line ∷ rest) rest f z read was.later was.line_is.of_tables.named was.not_0 was.line_is.is
       (rents_were rest grown read entry.on figures (omega (arith, grown_len, was.line_is.of_tables.named))))
-      (λ at e. subst (λ r. RentsWere done (line ∷ rest) r) (ok_same (padded done (fleets_in t), line ∷ rest) read (ap (λ n. Ok (padded done n, line ∷ rest)) (sym (fleet_count t)) ∙ e)) (none_more done (line ∷ rest) are few))
+      (λ at e. subst (λ r. RentsWere done (line ∷ rest) r) (ok_same (padded done (fleets_in t), line ∷ rest) read (ap (λ n. Ok (padded done n, line ∷ rest)) (sym (fleet_count v t)) ∙ e)) (none_more done (line ∷ rest) are few))
 
   -- prices, and a fractional assignment
 
@@ -263,23 +264,23 @@ module _ (t : Tables) where
     pub order : ArePricesInOrder t read.0
     pub text : left ≡ texts t (price_lines t read.0) ++ read.1
 
-  prices_text : (prices : Prices) (left middle behind : Left) → LineIs t left (says.Scale prices.scale) → drop 1 left ≡ texts t (lines_from t prices 0 (fleets_in t - 0)) ++ middle
+  prices_text : (prices : Prices) (left middle behind : Left) → LineIs v t left (says.Scale prices.scale) → drop 1 left ≡ texts t (lines_from v t prices 0 (fleets_in t - 0)) ++ middle
       → middle ≡ texts t (map at_line prices.steps) ++ behind → left ≡ texts t (price_lines t prices) ++ behind
   unfolding lines_from
   prices_text prices left middle behind first rents steps =
       let all : fleets_in t - 0 ≡ fleets_in t = omega arith in
       first.is
       ∙ ap (λ rest. line_bytes t (says.Scale prices.scale) ∷ rest)
-      (rents ∙ ap (λ n. texts t (lines_from t prices 0 n) ++ middle) all ∙ ap (λ rest. texts t (rent_lines prices (fleets_in t)) ++ rest) steps
+      (rents ∙ ap (λ n. texts t (lines_from v t prices 0 n) ++ middle) all ∙ ap (λ rest. texts t (rent_lines prices (fleets_in t)) ++ rest) steps
       ∙ sym (texts_append t (rent_lines prices (fleets_in t)) (map at_line prices.steps) behind))
 
-  pub prices_were : (left : Left) (read : Prices × Left) → prices_at (names t) left ≡ Ok read → PricesWere left read
+  pub prices_were : (left : Left) (read : Prices × Left) → prices_at (names v t) left ≡ Ok read → PricesWere left read
   unfolding prices_at
   prices_were left read e =
-      let scale = goes (scale_at (names t) left) _ read e in
-      let rents = goes (rents_from (names t) [] (drop 1 left)) _ read scale.on in
-      let steps = goes (steps_from (names t) [] None rents.value.1) _ read rents.on in
-      let scale_is = scale_was t left scale.value scale.is in
+      let scale = goes (scale_at (names v t) left) _ read e in
+      let rents = goes (rents_from (names v t) [] (drop 1 left)) _ read scale.on in
+      let steps = goes (steps_from (names v t) [] None rents.value.1) _ read rents.on in
+      let scale_is = scale_was v t left scale.value scale.is in
       let rents_are = rents_were (drop 1 left) [] rents.value rents.is (All-nil IsFigure) (omega arith) in
       let steps_are = steps_were rents.value.1 [] None steps.value steps.is in
       let prices : Prices = record { scale = scale.value; rents = rents.value.0; steps = steps.value.0; charges = [] } in
@@ -304,12 +305,12 @@ module _ (t : Tables) where
     pub order : IsMixedInOrder t read.0
     pub text : left ≡ texts t (mixed_lines read.0) ++ read.1
 
-  pub mixed_was : (left : Left) (read : Mixed × Left) → mixed_at (names t) left ≡ Ok read → MixedWas left read
+  pub mixed_was : (left : Left) (read : Mixed × Left) → mixed_at (names v t) left ≡ Ok read → MixedWas left read
   unfolding mixed_at
   mixed_was left read e =
-      let scale = goes (mixed_scale_at (names t) left) _ read e in
-      let weights = goes (weights_from (names t) [] None (drop 1 left)) _ read scale.on in
-      let scale_is = mixed_scale_was t left scale.value scale.is in
+      let scale = goes (mixed_scale_at (names v t) left) _ read e in
+      let weights = goes (weights_from (names v t) [] None (drop 1 left)) _ read scale.on in
+      let scale_is = mixed_scale_was v t left scale.value scale.is in
       let weights_are = weights_were (drop 1 left) [] None weights.value weights.is in
       let mixed : Mixed = record { scale = scale.value; weights = weights.value.0 } in
       let same : weights_are.new ≡ weights.value.0 = sym weights_are.list in

@@ -39,23 +39,23 @@ abbrev Within : Above → List Node → Type 0
 Within above [] = ⊤
 Within above (n ∷ nodes) = (length above ≤ MAX_DEPTH) × Within (after_node n above) nodes
 
-record NodesWere (t : Tables) (nodes : List Node) (above : Above) (left : Left) (read : List Node × Left) : Type 0 where
+record NodesWere (v : Version) (t : Tables) (nodes : List Node) (above : Above) (left : Left) (read : List Node × Left) : Type 0 where
   new : List Node
   list : read.0 ≡ nodes ++ new
   text : left ≡ texts t (flat_map (node_lines t) new) ++ read.1
   each : All (IsNodeInOrder t) new
   deep : Within above new
 
-nodes_were : (t : Tables) (most : ℕ) (nodes : List Node) (above : Above) (left : Left) (read : List Node × Left) → nodes_from (names t) most nodes above left ≡ Ok read → NodesWere t nodes above left read
+nodes_were : (v : Version) (t : Tables) (most : ℕ) (nodes : List Node) (above : Above) (left : Left) (read : List Node × Left) → nodes_from (names v t) most nodes above left ≡ Ok read → NodesWere v t nodes above left read
 unfolding nodes_from
-nodes_were t zero nodes above left read e = absurd (cc e)
-nodes_were t (suc most) nodes above left read e =
-    let next = goes (node_at (names t) (length above) left) _ read e in
+nodes_were v t zero nodes above left read e = absurd (cc e)
+nodes_were v t (suc most) nodes above left read e =
+    let next = goes (node_at (names v t) (length above) left) _ read e in
     let n = next.value.0 in
-    let was = node_was t (length above) left next.value next.is in
+    let was = node_was v t (length above) left next.value next.is in
     either_way (length (after_node n above) == 0) _ _ read next.on
     (λ is e.
-    subst (λ r. NodesWere t nodes above left r) (ok_same (nodes ++ n ∷ [], next.value.1) read e)
+    subst (λ r. NodesWere v t nodes above left r) (ok_same (nodes ++ n ∷ [], next.value.1) read e)
     (record {
       new = n ∷ [];
       list = refl;
@@ -64,7 +64,7 @@ nodes_were t (suc most) nodes above left read e =
       deep = (was.deep, tt);
     }))
     (λ is e.
-    let more = nodes_were t most (nodes ++ n ∷ []) (after_node n above) next.value.1 read e in
+    let more = nodes_were v t most (nodes ++ n ∷ []) (after_node n above) next.value.1 read e in
     record {
       new = n ∷ more.new;
       list = more.list ∙ append_assoc nodes (n ∷ []) more.new;
@@ -107,18 +107,18 @@ head_was t (line ∷ []) v e = absurd (cc e)
 head_was t (line ∷ next ∷ rest) v e =
     either_way (bytes_eq line (codes "fleet proof 1")) _ _ v e (λ is e. ap (λ l. l ∷ next ∷ rest) (same_bytes line (codes "fleet proof 1") is)) (λ is e. absurd (cc e))
 
-of_version : (t : Tables) (left : Left) (read : Bool × List Node) (v : Version) → rest_at (names_in v t) left ≡ Ok read → rest_at (names t) left ≡ Ok read
+of_version : (t : Tables) (left : Left) (read : Bool × List Node) (v : Version) → rest_at (names_in v t) left ≡ Ok read → rest_at (names v t) left ≡ Ok read
 of_version t left read version.One e = e
 
 plan_is : (line : Line) (left : Left) (planned : Bool) → plan_of line left ≡ Ok planned → line ≡ says.Plan planned
 plan_is (says.Plan b) left planned e = ap (λ b. says.Plan b) (ok_same b planned e)
 plan_is other left planned e = absurd (cc e)
 
-plan_was : (t : Tables) (left : Left) (planned : Bool) → plan_at (names t) left ≡ Ok planned → LineIs t left (says.Plan planned)
+plan_was : (v : Version) (t : Tables) (left : Left) (planned : Bool) → plan_at (names v t) left ≡ Ok planned → LineIs v t left (says.Plan planned)
 unfolding said_at
-plan_was t left planned e =
-    let line = goes (line_due (names t) due.Plan left) _ planned e in
-    subst (LineIs t left) (plan_is line.value left planned line.on) (line_was t due.Plan left line.value line.is)
+plan_was v t left planned e =
+    let line = goes (line_due (names v t) due.Plan left) _ planned e in
+    subst (LineIs v t left) (plan_is line.value left planned line.on) (line_was v t due.Plan left line.value line.is)
 
 nothing_was : (left : Left) (x : ⊤) → nothing left ≡ Ok x → 0 < length left → left ≡ [] ∷ []
 unfolding nothing
@@ -137,12 +137,12 @@ end_is (says.Plan true) e = absurd (cc e)
 end_is (says.Plan false) e = absurd (cc e)
 end_is other e = absurd (cc e)
 
-end_was : (t : Tables) (left : Left) (x : ⊤) → end_at (names t) left ≡ Ok x → left ≡ last t
+end_was : (v : Version) (t : Tables) (left : Left) (x : ⊤) → end_at (names v t) left ≡ Ok x → left ≡ last t
 unfolding end_at
-end_was t left x e =
-    let line = goes (line_due (names t) due.End left) _ x e in
-    let was = line_was t due.End left line.value line.is in
-    let first = subst (LineIs t left) (end_is line.value (line_may t due.End left line.value line.is)) was in
+end_was v t left x e =
+    let line = goes (line_due (names v t) due.End left) _ x e in
+    let was = line_was v t due.End left line.value line.is in
+    let first = subst (LineIs v t left) (end_is line.value (line_may v t due.End left line.value line.is)) was in
     first.is ∙ ap (λ rest. line_bytes t says.End ∷ rest) (nothing_was (drop 1 left) x line.on first.some)
 
 -- a text is its lines, joined
@@ -167,20 +167,20 @@ unfolding proof_at rest_at tree_at proof_text
 text_of_reading t bytes planned whole e =
     let left = left_of bytes in
     let headed = goes (head_is left) _ (planned, nodes_of whole) e in
-    let answer = goes (plan_at (names t) (drop 1 left)) _ (planned, nodes_of whole) (of_version t (drop 1 left) _ headed.value headed.on) in
+    let answer = goes (plan_at (names v t) (drop 1 left)) _ (planned, nodes_of whole) (of_version t (drop 1 left) _ headed.value headed.on) in
     let third : Left = drop 1 (drop 1 left) in
-    let read = goes (tree_at (names t) third) _ (planned, nodes_of whole) answer.on in
-    let all = goes (nodes_from (names t) (length third) [] [] third) _ read.value read.is in
-    let ended = goes (end_at (names t) all.value.1) _ read.value all.on in
+    let read = goes (tree_at (names v t) third) _ (planned, nodes_of whole) answer.on in
+    let all = goes (nodes_from (names v t) (length third) [] [] third) _ read.value read.is in
+    let ended = goes (end_at (names v t) all.value.1) _ read.value all.on in
     let same : (answer.value, read.value) ≡ (planned, nodes_of whole) = ok_same (answer.value, read.value) (planned, nodes_of whole) read.on in
-    let were = nodes_were t (length third) [] [] third all.value all.is in
+    let were = nodes_were v t (length third) [] [] third all.value all.is in
     let nodes_are : were.new ≡ nodes_of whole = sym were.list ∙ ok_same all.value.0 read.value ended.on ∙ ap (λ p. p.1) same in
     let head_line_is = head_was t left headed.value headed.is in
-    let plan_line_is = plan_was t (drop 1 left) answer.value answer.is in
+    let plan_line_is = plan_was v t (drop 1 left) answer.value answer.is in
     let deep = depth_is whole [] [] (subst (λ nodes. Within [] nodes) (nodes_are ∙ sym (append-nil (nodes_of whole))) were.deep) in
     let tree_text : third ≡ texts t (tree_lines t whole) ++ last t =
     were.text ∙ ap (λ nodes. texts t (flat_map (node_lines t) nodes) ++ all.value.1) nodes_are
-    ∙ ap (λ rest. texts t (tree_lines t whole) ++ rest) (end_was t all.value.1 ended.value ended.is) in
+    ∙ ap (λ rest. texts t (tree_lines t whole) ++ rest) (end_was v t all.value.1 ended.value ended.is) in
     let lines : left ≡ texts t (all_lines t planned whole) ++ [] ∷ [] =
     head_line_is
     ∙ ap (λ rest. line_bytes t (says.Head version.One) ∷ rest)

@@ -15,6 +15,7 @@ use Rattle.dual_bound.specs.declared.nodes.Node.{Node}
 use Rattle.dual_bound.specs.declared.prices.Prices.{Prices}
 use Rattle.dual_bound.specs.declared.trees.TheConstants.{MAX_DEPTH}
 use Rattle.fleet_model.specs.declared.tables.Tables.{Tables}
+use Rattle.proof_lines.specs.declared.line.Version.{Version}
 use Rattle.proof_lines.specs.Forms.{form_of}
 use Rattle.proof_lines.specs.Known.{named}
 use Rattle.proof_lines.specs.Laws.{IsLineOf}
@@ -77,49 +78,49 @@ begins_node (head.Priced (priced.Lift step at)) = record { node = refl; no_rent 
 begins_node (head.Mixed fraction.Nodes) = record { node = refl; no_rent = refl; no_step = refl; no_weight = refl }
 begins_node (head.Mixed (fraction.Split leg fleet)) = record { node = refl; no_rent = refl; no_step = refl; no_weight = refl }
 
-module _ (t : Tables) where
+module _ (v : Version) (t : Tables) where
   -- what the first line of a node says, and how its other lines read
   pub record NodeReads (n : Node) : Type 0 where
     pub first : Head
     pub others : List Line
     pub lines : node_lines t n ≡ first_line first ∷ others
     pub of_tables : IsLineOf t (first_line first)
-    pub body : (behind : Left) → IsBehind behind → body_at (names t) first (texts t others ++ behind) ≡ Ok (n, behind)
+    pub body : (behind : Left) → IsBehind behind → body_at (names v t) first (texts t others ++ behind) ≡ Ok (n, behind)
 
   pub behind_line : (line : Line) (rest : Left) → IsNamed t line → may_stand due.Rent (form_of line) ≡ false → may_stand due.Step (form_of line) ≡ false → may_stand due.Weight (form_of line) ≡ false
       → IsBehind (line_bytes t line ∷ rest)
   behind_line line rest named no_rent no_step no_weight = record {
     some = omega arith;
-    no_rent = begins_as t line rest due.Rent false named no_rent;
-    no_step = begins_as t line rest due.Step false named no_step;
-    no_weight = begins_as t line rest due.Weight false named no_weight;
+    no_rent = begins_as v t line rest due.Rent false named no_rent;
+    no_step = begins_as v t line rest due.Step false named no_step;
+    no_weight = begins_as v t line rest due.Weight false named no_weight;
   }
 
   -- prices that nothing of a cause follows
-  prices_alone : (prices : Prices) (behind : Left) → ArePricesInOrder t prices → IsBehind behind → prices_at (names t) (texts t (price_lines t prices ++ []) ++ behind) ≡ Ok (prices, behind)
-  prices_alone prices behind are ends = ap (λ lines. prices_at (names t) (texts t lines ++ behind)) (append-nil (price_lines t prices)) ∙ prices_read t prices behind are ends
+  prices_alone : (prices : Prices) (behind : Left) → ArePricesInOrder t prices → IsBehind behind → prices_at (names v t) (texts t (price_lines t prices ++ []) ++ behind) ≡ Ok (prices, behind)
+  prices_alone prices behind are ends = ap (λ lines. prices_at (names v t) (texts t lines ++ behind)) (append-nil (price_lines t prices)) ∙ prices_read v t prices behind are ends
 
   before_mixed : (mixed : Mixed) (behind : Left) → IsBehind (texts t (mixed_lines mixed) ++ behind)
   before_mixed mixed behind = behind_line (says.Mixed mixed.scale) (texts t (map weight_line mixed.weights) ++ behind) tt refl refl refl
 
   prices_then : (prices : Prices) (mixed : Mixed) (behind : Left) → ArePricesInOrder t prices
-      → prices_at (names t) (texts t (price_lines t prices ++ mixed_lines mixed) ++ behind) ≡ Ok (prices, texts t (mixed_lines mixed) ++ behind)
+      → prices_at (names v t) (texts t (price_lines t prices ++ mixed_lines mixed) ++ behind) ≡ Ok (prices, texts t (mixed_lines mixed) ++ behind)
   prices_then prices mixed behind are =
-      ap (prices_at (names t)) (texts_append t (price_lines t prices) (mixed_lines mixed) behind)
-      ∙ prices_read t prices (texts t (mixed_lines mixed) ++ behind) are (before_mixed mixed behind)
+      ap (prices_at (names v t)) (texts_append t (price_lines t prices) (mixed_lines mixed) behind)
+      ∙ prices_read v t prices (texts t (mixed_lines mixed) ++ behind) are (before_mixed mixed behind)
 
   -- a leaf of which prices follow, and a node of which prices and a fractional assignment do
   priced_body : (said : Priced) (prices : Prices) (behind : Left) → ArePricesInOrder t prices → IsBehind behind
-      → body_at (names t) (head.Priced said) (texts t (price_lines t prices ++ []) ++ behind) ≡ Ok (priced_node said prices, behind)
+      → body_at (names v t) (head.Priced said) (texts t (price_lines t prices ++ []) ++ behind) ≡ Ok (priced_node said prices, behind)
   unfolding body_at
-  priced_body said prices behind are ends = bound (prices_at (names t) (texts t (price_lines t prices ++ []) ++ behind)) (prices, behind) _ (prices_alone prices behind are ends)
+  priced_body said prices behind are ends = bound (prices_at (names v t) (texts t (price_lines t prices ++ []) ++ behind)) (prices, behind) _ (prices_alone prices behind are ends)
 
   mixed_body : (said : Fraction) (prices : Prices) (mixed : Mixed) (behind : Left) → ArePricesInOrder t prices → IsMixedInOrder t mixed → IsBehind behind
-      → body_at (names t) (head.Mixed said) (texts t (price_lines t prices ++ mixed_lines mixed) ++ behind) ≡ Ok (mixed_node said prices mixed, behind)
+      → body_at (names v t) (head.Mixed said) (texts t (price_lines t prices ++ mixed_lines mixed) ++ behind) ≡ Ok (mixed_node said prices mixed, behind)
   unfolding body_at
   mixed_body said prices mixed behind are is ends =
-      bound (prices_at (names t) (texts t (price_lines t prices ++ mixed_lines mixed) ++ behind)) (prices, texts t (mixed_lines mixed) ++ behind) _ (prices_then prices mixed behind are)
-      ∙ bound (mixed_at (names t) (texts t (mixed_lines mixed) ++ behind)) (mixed, behind) _ (mixed_read t mixed behind is ends)
+      bound (prices_at (names v t) (texts t (price_lines t prices ++ mixed_lines mixed) ++ behind)) (prices, texts t (mixed_lines mixed) ++ behind) _ (prices_then prices mixed behind are)
+      ∙ bound (mixed_at (names v t) (texts t (mixed_lines mixed) ++ behind)) (mixed, behind) _ (mixed_read v t mixed behind is ends)
 
   priced_reads : (said : Priced) (prices : Prices) → node_lines t (priced_node said prices) ≡ first_line (head.Priced said) ∷ (price_lines t prices ++ []) → IsLineOf t (first_line (head.Priced said)) → ArePricesInOrder t prices
       → NodeReads (priced_node said prices)
@@ -158,7 +159,7 @@ module _ (t : Tables) where
   node_reads (node.Open prices (cause.Lift step at)) is = priced_reads (priced.Lift step at) prices refl (record { named = tt; figures = (is.1.0.held, is.1.1.held) }) is.0
   node_reads (node.Split leg fleet prices mixed) is = mixed_reads (fraction.Split leg fleet) prices mixed refl (record { named = is.0; figures = tt }) is.1 is.2
 
-  pub node_read : (above : ℕ) (n : Node) (behind : Left) → IsNodeInOrder t n → above ≤ MAX_DEPTH → IsBehind behind → node_at (names t) above (texts t (node_lines t n) ++ behind) ≡ Ok (n, behind)
+  pub node_read : (above : ℕ) (n : Node) (behind : Left) → IsNodeInOrder t n → above ≤ MAX_DEPTH → IsBehind behind → node_at (names v t) above (texts t (node_lines t n) ++ behind) ≡ Ok (n, behind)
   unfolding node_at head_at
   node_read above n behind is shallow ends =
       let reads = node_reads n is in
@@ -167,10 +168,10 @@ module _ (t : Tables) where
       let left : Left = line_bytes t line ∷ rest in
       let whole : texts t (node_lines t n) ++ behind ≡ left = ap (λ lines. texts t lines ++ behind) reads.lines in
       let deep : deep_at above reads.first left ≡ Ok reads.first = chosen (nat_le above MAX_DEPTH) _ _ (grind (arith, nat_tests, shallow)) in
-      let first : head_at (names t) above left ≡ Ok reads.first =
-      bound (line_due (names t) due.Node left) line _ (line_read t due.Node line rest reads.of_tables (begins_node reads.first).node (some_behind t reads.others behind ends.some))
+      let first : head_at (names v t) above left ≡ Ok reads.first =
+      bound (line_due (names v t) due.Node left) line _ (line_read v t due.Node line rest reads.of_tables (begins_node reads.first).node (some_behind t reads.others behind ends.some))
       ∙ bound (head_of line left) reads.first _ (head_read reads.first left) ∙ deep in
-      ap (node_at (names t) above) whole ∙ bound (head_at (names t) above left) reads.first _ first ∙ reads.body behind ends
+      ap (node_at (names v t) above) whole ∙ bound (head_at (names v t) above left) reads.first _ first ∙ reads.body behind ends
 
   -- a node's line is of another kind than a rent, a step or a weight
   pub before_node : (n : Node) (more : List Line) (behind : Left) → IsNodeInOrder t n → IsBehind (texts t (node_lines t n ++ more) ++ behind)

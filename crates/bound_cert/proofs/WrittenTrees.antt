@@ -20,6 +20,7 @@ use Rattle.dual_bound.specs.declared.trees.Cause.{Cause}
 use Rattle.dual_bound.specs.declared.trees.TheConstants.{MAX_DEPTH}
 use Rattle.dual_bound.specs.declared.trees.Tree.{Tree}
 use Rattle.fleet_model.specs.declared.tables.Tables.{Tables}
+use Rattle.proof_lines.specs.declared.line.Version.{Version}
 use Rattle.proof_lines.specs.Forms.{form_of}
 use Rattle.proof_lines.specs.LineText.{line_bytes}
 use Rattle.std.proofs.Common.{[], ◌++◌, ◌+◌, ◌<◌, ◌==◌, ◌∙◌, ◌∷◌, ◌≡◌, ◌≤◌, Bool, List, Ok, ap, append-nil, append_assoc, arith, cond, false, length, refl, subst, suc, sym, true, zero, ℕ}
@@ -45,16 +46,16 @@ no_more_nodes t (n ∷ nodes) = omega (arith, some_line t n, no_more_nodes t nod
 
 -- where a tree ends: the whole is read, or reading goes on
 abbrev onward : Tables → ℕ → List Node → Above → Left → Reading (List Node × Left)
-onward t most nodes above left = cond (length above == 0) (Ok (nodes, left)) (nodes_from (names t) most nodes above left)
+onward v t most nodes above left = cond (length above == 0) (Ok (nodes, left)) (nodes_from (names v t) most nodes above left)
 
-goes_on : (t : Tables) (most : ℕ) (nodes : List Node) (first : Bool) (above : Above) (left : Left) → onward t most nodes (first ∷ above) left ≡ nodes_from (names t) most nodes (first ∷ above) left
-goes_on t most nodes first above left = refused (length (first ∷ above) == 0) _ _ (grind (arith, nat_tests))
+goes_on : (v : Version) (t : Tables) (most : ℕ) (nodes : List Node) (first : Bool) (above : Above) (left : Left) → onward v t most nodes (first ∷ above) left ≡ nodes_from (names v t) most nodes (first ∷ above) left
+goes_on v t most nodes first above left = refused (length (first ∷ above) == 0) _ _ (grind (arith, nat_tests))
 
-one_node : (t : Tables) (most : ℕ) (nodes : List Node) (above : Above) (n : Node) (behind : Left) → IsNodeInOrder t n → length above ≤ MAX_DEPTH → IsBehind behind
-    → nodes_from (names t) (suc most) nodes above (texts t (node_lines t n) ++ behind) ≡ onward t most (nodes ++ n ∷ []) (after_node n above) behind
+one_node : (v : Version) (t : Tables) (most : ℕ) (nodes : List Node) (above : Above) (n : Node) (behind : Left) → IsNodeInOrder t n → length above ≤ MAX_DEPTH → IsBehind behind
+    → nodes_from (names v t) (suc most) nodes above (texts t (node_lines t n) ++ behind) ≡ onward v t most (nodes ++ n ∷ []) (after_node n above) behind
 unfolding nodes_from
-one_node t most nodes above n behind is shallow ends =
-    bound (node_at (names t) (length above) (texts t (node_lines t n) ++ behind)) (n, behind) _ (node_read t (length above) n behind is shallow ends)
+one_node v t most nodes above n behind is shallow ends =
+    bound (node_at (names v t) (length above) (texts t (node_lines t n) ++ behind)) (n, behind) _ (node_read v t (length above) n behind is shallow ends)
 
 -- nodes go on where they do below what stands above: none is too deep, and with the last nothing waits any more
 abbrev Goes : Above → List Node → Type 0
@@ -67,28 +68,28 @@ abbrev Begins : Above → List Node → Type 0
 Begins above [] = ⊥
 Begins above (n ∷ more) = (length above ≤ MAX_DEPTH) × Goes (after_node n above) more
 
-behind_nodes : (t : Tables) (nodes : List Node) (behind : Left) → All (IsNodeInOrder t) nodes → IsBehind behind → IsBehind (texts t (flat_map (node_lines t) nodes) ++ behind)
-behind_nodes t [] behind are ends = ends
-behind_nodes t (n ∷ nodes) behind are ends = before_node t n (flat_map (node_lines t) nodes) behind (All-head (IsNodeInOrder t) n nodes are)
+behind_nodes : (v : Version) (t : Tables) (nodes : List Node) (behind : Left) → All (IsNodeInOrder t) nodes → IsBehind behind → IsBehind (texts t (flat_map (node_lines t) nodes) ++ behind)
+behind_nodes v t [] behind are ends = ends
+behind_nodes v t (n ∷ nodes) behind are ends = before_node v t n (flat_map (node_lines t) nodes) behind (All-head (IsNodeInOrder t) n nodes are)
 
-onward_read : (t : Tables) (nodes : List Node) (most : ℕ) (done : List Node) (above : Above) (behind : Left) → Goes above nodes
-    → (Begins above nodes → nodes_from (names t) most done above (texts t (flat_map (node_lines t) nodes) ++ behind) ≡ Ok (done ++ nodes, behind))
-    → onward t most done above (texts t (flat_map (node_lines t) nodes) ++ behind) ≡ Ok (done ++ nodes, behind)
-onward_read t [] most done [] behind goes on = ap (λ nodes. Ok (nodes, behind)) (sym (append-nil done))
-onward_read t [] most done (first ∷ above) behind goes on = absurd goes
-onward_read t (n ∷ nodes) most done [] behind goes on = absurd (cc goes)
-onward_read t (n ∷ nodes) most done (first ∷ above) behind goes on = goes_on t most done first above (texts t (flat_map (node_lines t) (n ∷ nodes)) ++ behind) ∙ on goes
+onward_read : (v : Version) (t : Tables) (nodes : List Node) (most : ℕ) (done : List Node) (above : Above) (behind : Left) → Goes above nodes
+    → (Begins above nodes → nodes_from (names v t) most done above (texts t (flat_map (node_lines t) nodes) ++ behind) ≡ Ok (done ++ nodes, behind))
+    → onward v t most done above (texts t (flat_map (node_lines t) nodes) ++ behind) ≡ Ok (done ++ nodes, behind)
+onward_read v t [] most done [] behind goes on = ap (λ nodes. Ok (nodes, behind)) (sym (append-nil done))
+onward_read v t [] most done (first ∷ above) behind goes on = absurd goes
+onward_read v t (n ∷ nodes) most done [] behind goes on = absurd (cc goes)
+onward_read v t (n ∷ nodes) most done (first ∷ above) behind goes on = goes_on v t most done first above (texts t (flat_map (node_lines t) (n ∷ nodes)) ++ behind) ∙ on goes
 
-nodes_read : (t : Tables) (nodes : List Node) (most : ℕ) (done : List Node) (above : Above) (behind : Left) → Begins above nodes → All (IsNodeInOrder t) nodes → length nodes ≤ most → IsBehind behind
-    → nodes_from (names t) most done above (texts t (flat_map (node_lines t) nodes) ++ behind) ≡ Ok (done ++ nodes, behind)
-nodes_read t [] most done above behind begins are few ends = absurd begins
-nodes_read t (n ∷ nodes) zero done above behind begins are few ends = absurd (omega (arith, few))
-nodes_read t (n ∷ nodes) (suc most) done above behind begins are few ends =
+nodes_read : (v : Version) (t : Tables) (nodes : List Node) (most : ℕ) (done : List Node) (above : Above) (behind : Left) → Begins above nodes → All (IsNodeInOrder t) nodes → length nodes ≤ most → IsBehind behind
+    → nodes_from (names v t) most done above (texts t (flat_map (node_lines t) nodes) ++ behind) ≡ Ok (done ++ nodes, behind)
+nodes_read v t [] most done above behind begins are few ends = absurd begins
+nodes_read v t (n ∷ nodes) zero done above behind begins are few ends = absurd (omega (arith, few))
+nodes_read v t (n ∷ nodes) (suc most) done above behind begins are few ends =
     let others = All-tail (IsNodeInOrder t) n nodes are in
-    ap (nodes_from (names t) (suc most) done above) (texts_append t (node_lines t n) (flat_map (node_lines t) nodes) behind)
-    ∙ one_node t most done above n (texts t (flat_map (node_lines t) nodes) ++ behind) (All-head (IsNodeInOrder t) n nodes are) begins.0 (behind_nodes t nodes behind others ends)
-    ∙ onward_read t nodes most (done ++ n ∷ []) (after_node n above) behind begins.1
-    (λ more. nodes_read t nodes most (done ++ n ∷ []) (after_node n above) behind more others (omega (arith, few)) ends)
+    ap (nodes_from (names v t) (suc most) done above) (texts_append t (node_lines t n) (flat_map (node_lines t) nodes) behind)
+    ∙ one_node v t most done above n (texts t (flat_map (node_lines t) nodes) ++ behind) (All-head (IsNodeInOrder t) n nodes are) begins.0 (behind_nodes v t nodes behind others ends)
+    ∙ onward_read v t nodes most (done ++ n ∷ []) (after_node n above) behind begins.1
+    (λ more. nodes_read v t nodes most (done ++ n ∷ []) (after_node n above) behind more others (omega (arith, few)) ends)
     ∙ ap (λ nodes. Ok (nodes, behind)) (append_assoc done (n ∷ []) nodes)
 
 left_depth : (above most a b : ℕ) → above + suc (max a b) ≤ most → suc above + a ≤ most
@@ -124,40 +125,40 @@ tree_begins other above more shallow goes = (omega (arith, shallow), goes)
 abbrev pub last : Tables → Left
 last t = line_bytes t says.End ∷ [] ∷ []
 
-pub end_read : (t : Tables) → end_at (names t) (last t) ≡ Ok tt
+pub end_read : (v : Version) (t : Tables) → end_at (names v t) (last t) ≡ Ok tt
 unfolding end_at nothing
-end_read t = bound (line_due (names t) due.End (last t)) says.End _ (line_read t due.End says.End ([] ∷ []) (record { named = tt; figures = tt }) refl (omega arith))
+end_read v t = bound (line_due (names v t) due.End (last t)) says.End _ (line_read v t due.End says.End ([] ∷ []) (record { named = tt; figures = tt }) refl (omega arith))
 
-pub plan_read : (t : Tables) (planned : Bool) (rest : Left) → 0 < length rest → plan_at (names t) (line_bytes t (says.Plan planned) ∷ rest) ≡ Ok planned
+pub plan_read : (v : Version) (t : Tables) (planned : Bool) (rest : Left) → 0 < length rest → plan_at (names v t) (line_bytes t (says.Plan planned) ∷ rest) ≡ Ok planned
 unfolding said_at
-plan_read t planned rest some =
-    bound (line_due (names t) due.Plan (line_bytes t (says.Plan planned) ∷ rest)) (says.Plan planned) _
-    (line_read t due.Plan (says.Plan planned) rest (record { named = tt; figures = tt }) (plan_stands planned) some)
+plan_read v t planned rest some =
+    bound (line_due (names v t) due.Plan (line_bytes t (says.Plan planned) ∷ rest)) (says.Plan planned) _
+    (line_read v t due.Plan (says.Plan planned) rest (record { named = tt; figures = tt }) (plan_stands planned) some)
   where
     plan_stands : (planned : Bool) → may_stand due.Plan (form_of (says.Plan planned)) ≡ true
     plan_stands true = refl
     plan_stands false = refl
 
 pub last_is : (t : Tables) → IsBehind (last t)
-last_is t = behind_line t says.End ([] ∷ []) tt refl refl refl
+last_is t = behind_line v t says.End ([] ∷ []) tt refl refl refl
 
-pub whole_read : (t : Tables) (whole : Tree) → InWrittenOrder t whole → IsShallow whole → tree_at (names t) (texts t (tree_lines t whole) ++ (last t)) ≡ Ok (nodes_of whole)
+pub whole_read : (v : Version) (t : Tables) (whole : Tree) → InWrittenOrder t whole → IsShallow whole → tree_at (names v t) (texts t (tree_lines t whole) ++ (last t)) ≡ Ok (nodes_of whole)
 unfolding tree_at
-whole_read t whole are shallow =
+whole_read v t whole are shallow =
     let left : Left = texts t (tree_lines t whole) ++ (last t) in
     let nodes = nodes_of whole in
     let few : length nodes ≤ length left =
     omega (arith, no_more_nodes t nodes, length-append (texts t (tree_lines t whole)) (last t), length-map (tree_lines t whole) (line_bytes t)) in
     let begins : Begins [] nodes = subst (Begins []) (append-nil nodes) (tree_begins whole [] [] (omega (arith, shallow)) refl) in
-    bound (nodes_from (names t) (length left) [] [] left) (nodes, (last t)) _ (nodes_read t nodes (length left) [] [] (last t) begins are few (last_is t))
-    ∙ bound (end_at (names t) (last t)) tt _ (end_read t)
+    bound (nodes_from (names v t) (length left) [] [] left) (nodes, (last t)) _ (nodes_read v t nodes (length left) [] [] (last t) begins are few (last_is t))
+    ∙ bound (end_at (names v t) (last t)) tt _ (end_read v t)
 
 cause_of : (t : Tables) (why : Cause) → IsCauseInOrder t why → IsCauseOf t why
 cause_of t (cause.Nodes mixed) is = All-weaker (IsWeightInOrder t) (IsWeightOf t) (λ entry is. is.pair) mixed.weights is.each
 cause_of t other is = tt
 
 prices_of : (t : Tables) (prices : Prices) → ArePricesInOrder t prices → ArePricesOf t prices
-prices_of t prices are = record { steps = steps_of t prices.steps are.steps.each; charges = rw are.no_charges (All-nil (IsChargeOf t)) }
+prices_of t prices are = record { steps = steps_of v t prices.steps are.steps.each; charges = rw are.no_charges (All-nil (IsChargeOf t)) }
 
 node_of : (t : Tables) (n : Node) → IsNodeInOrder t n → IsNodeOf t n
 node_of t (node.Bare leg) is = is
@@ -178,12 +179,12 @@ unfolding proof_at rest_at head_is proof_text
 reads_what_was_written t planned whole are shallow =
     let rest : Left = texts t (tree_lines t whole) ++ (last t) in
     let all : left_of (proof_text t planned whole) ≡ line_bytes t (says.Head version.One) ∷ line_bytes t (says.Plan planned) ∷ rest =
-    left_of_lines t (all_lines t planned whole) (lines_named t planned whole (in_order_of_tables t whole are))
+    left_of_lines t (all_lines t planned whole) (lines_named v t planned whole (in_order_of_tables t whole are))
     ∙ ap (λ rest. line_bytes t (says.Head version.One) ∷ line_bytes t (says.Plan planned) ∷ rest) (texts_append t (tree_lines t whole) (says.End ∷ []) ([] ∷ [])) in
-    let some : 0 < length rest = (behind_nodes t (nodes_of whole) (last t) are (last_is t)).some in
+    let some : 0 < length rest = (behind_nodes v t (nodes_of whole) (last t) are (last_is t)).some in
     ap (proof_at t) all
-    ∙ bound (plan_at (names t) (line_bytes t (says.Plan planned) ∷ rest)) planned _ (plan_read t planned rest some)
-    ∙ bound (tree_at (names t) rest) (nodes_of whole) _ (whole_read t whole are shallow)
+    ∙ bound (plan_at (names v t) (line_bytes t (says.Plan planned) ∷ rest)) planned _ (plan_read v t planned rest some)
+    ∙ bound (tree_at (names v t) rest) (nodes_of whole) _ (whole_read v t whole are shallow)
 
 -- proofs of one text are one
 pub one_text : (t : Tables) (a b : Bool) (x y : Tree) → InWrittenOrder t x → IsShallow x → InWrittenOrder t y → IsShallow y → proof_text t a x ≡ proof_text t b y
