@@ -51,10 +51,10 @@ module _ (v : Version) (t : Tables) where
   unfolding nodes_from
   sole_then s nodes more z value zero few behind fuel on = absurd (omega (arith, fuel))
   sole_then s nodes more z value (suc k) few behind fuel on =
-      bound (node_at (names v t) (length s) (line_bytes t says.Sole ∷ (more ++ z))) (node.Sole, more ++ z) _ (node_read v t (length s) node.Sole (more ++ z) tt few behind) ∙ on k (omega (arith, fuel))
+      bound (node_at (names v t) (length s) (line_bytes t says.Sole ∷ (more ++ z))) (node.Sole, more ++ z) _ (node_read v t (length s) node.Sole (more ++ z) tt tt few behind) ∙ on k (omega (arith, fuel))
 
   sole_behind : (rest : Left) → IsBehind (line_bytes t says.Sole ∷ rest)
-  sole_behind rest = behind_line v t says.Sole rest tt refl refl refl
+  sole_behind rest = behind_line v t says.Sole rest tt refl refl refl refl
 
   not_empty : (b : Bool) (above : Above) → (length (b ∷ above) == 0) ≡ false
   not_empty b above = grind (arith, nat_tests)
@@ -163,7 +163,7 @@ module _ (v : Version) (t : Tables) where
     body_goes (head.Priced said) p =
         ends_map IsBehind (λ m. ⊤) end (prices_at (names v t)) (λ prices. priced_node said prices) (body_at (names v t) (head.Priced said)) p p (prices_at (names v t) (p ++ end)) (λ m may. may) (λ m some. refl) (prices_go v t line after p)
     body_goes (head.Mixed said) p =
-        ends_then IsBehind (λ m. ⊤) IsBehind end (prices_at (names v t)) (λ prices. mixed_at (names v t)) (λ prices mixed. mixed_node said prices mixed) (body_at (names v t) (head.Mixed said)) p p (λ m behind. behind) (λ m behind. behind) (λ m some. refl)
+        ends_then IsBehind (λ m. ⊤) IsBehind IsBehind end (prices_at (names v t)) (λ prices. mixed_at (names v t)) (λ prices mixed. mixed_node said prices mixed) (body_at (names v t) (head.Mixed said)) p p (λ m behind. behind) (λ m behind. behind) (λ m some. refl)
         (λ prices. one_mixed v t line after) (λ prices. mixed_shrinks v t) (λ prices. mixed_goes v t line after) (prices_at (names v t) (p ++ end)) (prices_go v t line after p)
 
     node_goes : (above : ℕ) (x : List ℕ) (p : Left) → EndsBy IsBehind (λ m. ⊤) end (node_at (names v t) above) (x ∷ p) (node_at (names v t) above (x ∷ (p ++ end)))

@@ -7,10 +7,11 @@ use Rattle.bound_cert.proofs.ReadOn.{bound}
 use Rattle.bound_cert.proofs.Shrinking.{Stops, end_stops, headed_twin, proof_stops, stops_then}
 use Rattle.bound_cert.proofs.WrittenLines.{names}
 use Rattle.bound_cert.proofs.WrittenPrices.{IsBehind}
-use Rattle.bound_cert.proofs.WrittenTrees.{end_read, last, last_is, plan_read, whole_read}
+use Rattle.bound_cert.proofs.WrittenTrees.{end_read, head_read, last, last_is, plan_read, whole_read}
 use Rattle.bound_cert.specs.FirstFault.{LinesBeforeBeginProof, is_inner_line}
 use Rattle.bound_cert.specs.Lines.{◌>>=◌, Left, Reading, Stopped, line_due}
 use Rattle.bound_cert.specs.Nodes.{end_at, head_is, nodes_from, nothing, plan_at, proof_at, rest_at, tree_at}
+use Rattle.bound_cert.specs.ProofText.{IsNodeIn}
 use Rattle.dual_bound.specs.WrittenOrder.{IsNodeInOrder}
 use Rattle.dual_bound.specs.declared.nodes.Node.{Node}
 use Rattle.dual_bound.specs.declared.trees.TheConstants.{MAX_DEPTH}
@@ -27,15 +28,16 @@ use Rattle.dual_bound.specs.declared.trees.Tree.TheVariants as tree
 use Rattle.proof_lines.specs.declared.line.Line.TheVariants as says
 use Rattle.proof_lines.specs.declared.line.Version.TheVariants as version
 
+-- lines go on to such that read
+record Begun {A : Type 0} (f : Left → Reading A) (p : Left) : Type 0 where
+  more : Left
+  value : A
+  reads : f (p ++ more) ≡ Ok value
+  some : 0 < length more
+
 module _ (v : Version) (t : Tables) (line : List ℕ) (after : Left) where
   abbrev end : Left
   end = line ∷ after
-
-  record Begun {A : Type 0} (f : Left → Reading A) (p : Left) : Type 0 where
-    more : Left
-    value : A
-    reads : f (p ++ more) ≡ Ok value
-    some : 0 < length more
 
   err_then : {A B : Type 0} (r : Reading A) (f : A → B) (e : Stopped) → (r >>= λ x. Ok (f x)) ≡ Err e → r ≡ Err e
   err_then (Ok x) f e failed = absurd (cc failed)
@@ -97,15 +99,11 @@ module _ (v : Version) (t : Tables) (line : List ℕ) (after : Left) where
           }
 
   sole_tree : tree_at (names v t) (line_bytes t says.Sole ∷ (last t)) ≡ Ok (node.Sole ∷ [])
-  sole_tree = whole_read v t tree.Sole (All-cons (IsNodeInOrder t) node.Sole [] tt (All-nil (IsNodeInOrder t))) (omega arith)
+  sole_tree = whole_read v t tree.Sole (All-cons (IsNodeIn v) node.Sole [] tt (All-nil (IsNodeIn v))) (All-cons (IsNodeInOrder t) node.Sole [] tt (All-nil (IsNodeInOrder t))) (omega arith)
 
   sole_rest : rest_at (names v t) (line_bytes t (says.Plan false) ∷ line_bytes t says.Sole ∷ (last t)) ≡ Ok (false, node.Sole ∷ [])
   unfolding rest_at
   sole_rest = bound (plan_at (names v t) (line_bytes t (says.Plan false) ∷ line_bytes t says.Sole ∷ (last t))) false _ (plan_read v t false (line_bytes t says.Sole ∷ (last t)) (omega arith)) ∙ bound (tree_at (names v t) (line_bytes t says.Sole ∷ (last t))) (node.Sole ∷ []) _ sole_tree
-
-  headed : (next : List ℕ) (rest : Left) → head_is (line_bytes t (says.Head version.One) ∷ next ∷ rest) ≡ Ok version.One
-  unfolding head_is
-  headed next rest = refl
 
   abbrev with_plan : Left → Bool → Reading (Bool × List Node)
   with_plan rest planned = tree_at (names v t) rest >>= λ nodes. Ok (planned, nodes)
@@ -133,25 +131,28 @@ module _ (v : Version) (t : Tables) (line : List ℕ) (after : Left) where
             some = done.some;
           }
 
-  all_begun : (p : Left) → count_by is_inner_line p ≤ MAX_DEPTH → (e : Stopped) → proof_at t (p ++ end) ≡ Err e → e.left ≡ length end → Begun (proof_at t) p
+module _ (t : Tables) (line : List ℕ) (after : Left) where
+  -- all of a text, which may begin as one of version 2
+  all_begun : (p : Left) → count_by is_inner_line p ≤ MAX_DEPTH → (e : Stopped) → proof_at t (p ++ line ∷ after) ≡ Err e → e.left ≡ length (line ∷ after) → Begun (proof_at t) p
   unfolding proof_at
   all_begun [] few e failed there = record {
-    more = line_bytes t (says.Head version.One) ∷ line_bytes t (says.Plan false) ∷ line_bytes t says.Sole ∷ (last t);
+    more = line_bytes t (says.Head version.Two) ∷ line_bytes t (says.Plan false) ∷ line_bytes t says.Sole ∷ (last t);
     value = (false, node.Sole ∷ []);
-    reads = bound (head_is (line_bytes t (says.Head version.One) ∷ line_bytes t (says.Plan false) ∷ line_bytes t says.Sole ∷ (last t))) version.One _ (headed (line_bytes t (says.Plan false)) (line_bytes t says.Sole ∷ (last t))) ∙ sole_rest;
+    reads = bound (head_is (line_bytes t (says.Head version.Two) ∷ line_bytes t (says.Plan false) ∷ line_bytes t says.Sole ∷ (last t))) version.Two _ (head_read version.Two t (line_bytes t (says.Plan false)) (line_bytes t says.Sole ∷ (last t)))
+        ∙ sole_rest version.Two t line after;
     some = omega arith;
   }
-  all_begun (x ∷ p) few e failed there = by_head (head_is (x ∷ (p ++ end))) refl failed
+  all_begun (x ∷ p) few e failed there = by_head (head_is (x ∷ (p ++ line ∷ after))) refl failed
     where
-      by_head : (r : Reading Version) → head_is (x ∷ (p ++ end)) ≡ r → (r >>= λ version. rest_at (names_in version t) (p ++ end)) ≡ Err e → Begun (proof_at t) (x ∷ p)
-      by_head (Err d) is failed = not_there x p end (head_is (x ∷ (p ++ end))) d (headed_twin (x ∷ (p ++ end)) (x ∷ (p ++ end)) (alike_self (x ∷ (p ++ end)))) is (ap (λ s. s.left) (err_same d e failed) ∙ there)
-      by_head (Ok version.One) is failed =
-          let done = rest_begun p (omega (arith, few, count_cons v t x p)) e failed there in
+      by_head : (r : Reading Version) → head_is (x ∷ (p ++ line ∷ after)) ≡ r → (r >>= λ version. rest_at (names_in version t) (p ++ line ∷ after)) ≡ Err e → Begun (proof_at t) (x ∷ p)
+      by_head (Err d) is failed = not_there x p (line ∷ after) (head_is (x ∷ (p ++ line ∷ after))) d (headed_twin (x ∷ (p ++ line ∷ after)) (x ∷ (p ++ line ∷ after)) (alike_self (x ∷ (p ++ line ∷ after)))) is (ap (λ s. s.left) (err_same d e failed) ∙ there)
+      by_head (Ok v) is failed =
+          let done = rest_begun v t line after p (omega (arith, few, count_cons v t x p)) e failed there in
           record {
             more = done.more;
             value = done.value;
-            reads = bound (head_is (x ∷ (p ++ done.more))) version.One _
-                (value_of (x ∷ (p ++ end)) (x ∷ (p ++ done.more)) (head_is (x ∷ (p ++ end))) (head_is (x ∷ (p ++ done.more))) version.One (headed_twin (x ∷ (p ++ end)) (x ∷ (p ++ done.more)) (alike_after x line p after done.more done.some)) is)
+            reads = bound (head_is (x ∷ (p ++ done.more))) v _
+                (value_of (x ∷ (p ++ line ∷ after)) (x ∷ (p ++ done.more)) (head_is (x ∷ (p ++ line ∷ after))) (head_is (x ∷ (p ++ done.more))) v (headed_twin (x ∷ (p ++ line ∷ after)) (x ∷ (p ++ done.more)) (alike_after x line p after done.more done.some)) is)
                 ∙ done.reads;
             some = done.some;
           }

@@ -1,14 +1,15 @@
 -- What reading leaves, and where it stops, is no more than there was.
-use Rattle.bound_cert.proofs.LineTwins.{Alike, Twin, alike_self, head_twin, line_twin, mixed_scale_twin, plan_twin, rent_twin, scale_twin, step_twin, twin_if, weight_twin}
+use Rattle.bound_cert.proofs.LineTwins.{Alike, Twin, alike_self, charge_twin, head_twin, line_twin, mixed_scale_twin, plan_twin, rent_twin, scale_twin, step_twin, twin_if, weight_twin}
 use Rattle.bound_cert.proofs.ReadBack.{goes}
 use Rattle.bound_cert.proofs.WrittenLines.{names}
 use Rattle.bound_cert.specs.Lines.{◌>>=◌, Left, Reading, fits, line_due, stopped}
 use Rattle.bound_cert.specs.Nodes.{Above, after_node, end_at, head_is, nodes_from, nothing, plan_at, proof_at, rest_at, tree_at}
-use Rattle.bound_cert.specs.Reading.{Series, body_at, entries_from, entry_at, head_at, mixed_at, mixed_scale_at, node_at, prices_at, rent_series, rents_from, scale_at, step_series, steps_from, weight_series, weights_from}
+use Rattle.bound_cert.specs.Reading.{Series, body_at, charge_series, charges_from, entries_from, entry_at, head_at, mixed_at, mixed_scale_at, node_at, prices_at, rent_series, rents_from, scale_at, step_series, steps_from, weight_series, weights_from}
 use Rattle.bound_cert.specs.declared.faults.TheConstants.{BAD_LINE}
 use Rattle.bound_cert.specs.declared.nodes.Head.{Head}
 use Rattle.dual_bound.specs.declared.mixed.Weight.{Weight}
 use Rattle.dual_bound.specs.declared.nodes.Node.{Node}
+use Rattle.dual_bound.specs.declared.prices.Charge.{Charge}
 use Rattle.dual_bound.specs.declared.prices.PriceStep.{PriceStep}
 use Rattle.fleet_model.specs.declared.tables.Tables.{Tables}
 use Rattle.proof_lines.specs.Forms.{form_in}
@@ -53,13 +54,16 @@ pub entries_shrink : {S A B : Type 0} (s : Series S A B) → ((so_far : S) (a : 
 unfolding entries_from
 entries_shrink s twin so_far [] = omega arith
 entries_shrink s twin so_far (line ∷ a) =
-    shrinks_if (length (line ∷ a)) (fits s.kind (form_in (words_of line))) _ _
+    shrinks_if (length (line ∷ a)) (fits s.kind (form_in s.names.version (words_of line))) _ _
     (shrinks_line (line ∷ a) (entry_at s so_far (line ∷ a)) _ (twin so_far (line ∷ a)) (λ entry. shrinks_behind (line ∷ a) _ (entries_shrink s twin (s.grow so_far entry) a)))
     (omega arith)
 
 module _ (v : Version) (t : Tables) where
   pub rents_shrink : (rents : List ℤ) (a : Left) → Shrinks (length a) (rents_from (names v t) rents a)
   rents_shrink = entries_shrink (rent_series (names v t)) (λ rents a. rent_twin v t a a (alike_self a) (length rents))
+
+  pub charges_shrink : (charges : List Charge) (before : Option Charge) (a : Left) → Shrinks (length a) (charges_from (names v t) charges before a)
+  charges_shrink charges before = entries_shrink (charge_series (names v t)) (λ so_far a. charge_twin v t a a (alike_self a) so_far.1) (charges, before)
 
   pub steps_shrink : (steps : List PriceStep) (before : Option PriceStep) (a : Left) → Shrinks (length a) (steps_from (names v t) steps before a)
   steps_shrink steps before = entries_shrink (step_series (names v t)) (λ so_far a. step_twin v t a a (alike_self a) so_far.1 (λ zero. refl)) (steps, before)
@@ -72,7 +76,8 @@ module _ (v : Version) (t : Tables) where
   prices_shrink a =
       shrinks_line a (scale_at (names v t) a) _ (scale_twin v t a a (alike_self a)) (λ scale. shrinks_behind a _
       (shrinks_bind (length (drop 1 a)) (rents_from (names v t) [] (drop 1 a)) _ (rents_shrink [] (drop 1 a)) (λ rents b.
-      shrinks_bind (length b) (steps_from (names v t) [] None b) _ (steps_shrink [] None b) (λ steps c. omega arith))))
+      shrinks_bind (length b) (charges_from (names v t) [] None b) _ (charges_shrink [] None b) (λ charges c.
+      shrinks_bind (length c) (steps_from (names v t) [] None c) _ (steps_shrink [] None c) (λ steps d. omega arith)))))
 
   pub mixed_shrinks : (a : Left) → Shrinks (length a) (mixed_at (names v t) a)
   unfolding mixed_at
@@ -148,7 +153,8 @@ headed_twin [] b same = subst (λ b. Twin [] b (head_is []) (head_is b)) (sym sa
 headed_twin (line ∷ []) b same = subst (λ b. Twin (line ∷ []) b (head_is (line ∷ [])) (head_is b)) (sym same) (refl, refl)
 headed_twin (line ∷ second ∷ rest) b same =
     subst (λ b. Twin (line ∷ second ∷ rest) b (head_is (line ∷ second ∷ rest)) (head_is b)) (sym same.is)
-    (twin_if (line ∷ second ∷ rest) (line ∷ same.second ∷ same.rest) (bytes_eq line (codes "fleet proof 1")) _ _ _ _ refl (refl, refl))
+    (twin_if (line ∷ second ∷ rest) (line ∷ same.second ∷ same.rest) (bytes_eq line (codes "fleet proof 1")) _ _ _ _ refl
+    (twin_if (line ∷ second ∷ rest) (line ∷ same.second ∷ same.rest) (bytes_eq line (codes "fleet proof 2")) _ _ _ _ refl (refl, refl)))
 
 module _ (v : Version) (t : Tables) where
   pub tree_stops : (a : Left) → Stops (length a) (tree_at (names v t) a)
@@ -160,9 +166,6 @@ module _ (v : Version) (t : Tables) where
   unfolding rest_at
   rest_stops a = stops_line a (plan_at (names v t) a) _ (plan_twin v t a a (alike_self a)) (λ planned. stops_then (length (drop 1 a)) (tree_at (names v t) (drop 1 a)) (λ nodes. (planned, nodes)) (tree_stops (drop 1 a)))
 
-  pub version_stops : (version : Version) (a : Left) → Stops (length a) (rest_at (names_in version t) a)
-  version_stops version.One a = rest_stops a
-
-  pub proof_stops : (a : Left) → Stops (length a) (proof_at t a)
-  unfolding proof_at
-  proof_stops a = stops_line a (head_is a) _ (headed_twin a a (alike_self a)) (λ version. version_stops version (drop 1 a))
+pub proof_stops : (t : Tables) (a : Left) → Stops (length a) (proof_at t a)
+unfolding proof_at
+proof_stops t a = stops_line a (head_is a) _ (headed_twin a a (alike_self a)) (λ version. rest_stops version t (drop 1 a))

@@ -2,17 +2,18 @@
 use Rattle.bound_cert.proofs.ReadBack.{either_way, goes, ok_same}
 use Rattle.bound_cert.proofs.ReadOn.{begins}
 use Rattle.bound_cert.proofs.TextLines.{LineIs}
-use Rattle.bound_cert.proofs.TextPrices.{mixed_scale_was, rent_was, scale_was, step_was, weight_was}
+use Rattle.bound_cert.proofs.TextPrices.{charge_was, mixed_scale_was, rent_was, scale_was, step_was, weight_was}
 use Rattle.bound_cert.proofs.WrittenLines.{names, other_words, texts, texts_append}
 use Rattle.bound_cert.proofs.WrittenPrices.{fleet_count, lines_from, lines_with, lines_without, needed_by, of_step}
 use Rattle.bound_cert.specs.Lines.{Left, fits}
-use Rattle.bound_cert.specs.ProofText.{at_line, mixed_lines, price_lines, rent_lines, weight_line}
-use Rattle.bound_cert.specs.Reading.{entries_from, first_words, mixed_at, mixed_scale_at, padded, prices_at, rent_at, rents_from, scale_at, step_at, steps_from, weight_at, weights_from}
+use Rattle.bound_cert.specs.ProofText.{ArePricesIn, at_line, charge_line, mixed_lines, price_lines, rent_lines, weight_line}
+use Rattle.bound_cert.specs.Reading.{charge_at, charges_from, entries_from, first_words, mixed_at, mixed_scale_at, padded, prices_at, rent_at, rents_from, scale_at, step_at, steps_from, weight_at, weights_from}
 use Rattle.dual_bound.proofs.StepOrder.{same_place_by, zero_figure}
 use Rattle.dual_bound.specs.Prices.{rent_of}
-use Rattle.dual_bound.specs.WrittenOrder.{ArePricesInOrder, IsFigure, IsMixedInOrder, IsStepInOrder, IsWeightInOrder, NoLoneZero, StepsFollow, WeightsFollow, goes_on}
+use Rattle.dual_bound.specs.WrittenOrder.{ArePricesInOrder, ChargesFollow, IsChargeInOrder, IsFigure, IsMixedInOrder, IsStepInOrder, IsWeightInOrder, NoLoneZero, StepsFollow, WeightsFollow, goes_on}
 use Rattle.dual_bound.specs.declared.mixed.Mixed.{Mixed}
 use Rattle.dual_bound.specs.declared.mixed.Weight.{Weight}
+use Rattle.dual_bound.specs.declared.prices.Charge.{Charge}
 use Rattle.dual_bound.specs.declared.prices.PriceStep.{PriceStep}
 use Rattle.dual_bound.specs.declared.prices.Prices.{Prices}
 use Rattle.fleet_model.specs.Schedule.{fleets_in}
@@ -21,11 +22,12 @@ use Rattle.proof_lines.specs.declared.line.Version.{Version}
 use Rattle.proof_lines.proofs.LineWords.{of_words}
 use Rattle.proof_lines.proofs.Naming.{fleet_written, station_written}
 use Rattle.proof_lines.proofs.Spaces.{words_back}
-use Rattle.proof_lines.specs.Forms.{form_in}
+use Rattle.proof_lines.specs.Forms.{form_in, has_charges}
 use Rattle.proof_lines.specs.LineText.{line_bytes, line_words}
 use Rattle.proof_lines.specs.Reading.{is_number, is_step_of}
 use Rattle.proof_lines.specs.Words.{stands, words_of}
 use Rattle.std.proofs.Common.{[], ◌&&◌, ◌++◌, ◌+◌, ◌-◌, ◌<◌, ◌==◌, ◌∙◌, ◌∷◌, ◌≡◌, ◌≤◌, Bool, List, None, Ok, Option, Some, ap, append-nil, append_assoc, arith, codes, drop, false, get_or, length, map, pos, refl, replicate, subst, suc, sym, true, zero, ℕ, ℤ}
+use mathlib.Core.Bool.{false≢true}
 use Rattle.std.proofs.lemmas.Bool.Decides.{Decides-int_eq, nat_tests}
 use Rattle.std.proofs.lemmas.List.Elements.{All-append, All-cons, All-head, All-nil}
 use Rattle.std.proofs.lemmas.List.{length-append}
@@ -45,7 +47,7 @@ module _ (v : Version) (t : Tables) where
     pub each : All (IsStepInOrder t) new
     pub follow : StepsFollow before new
     pub no_lone_zero : NoLoneZero new
-    pub ends : new ≡ [] → begins left due.Step ≡ false
+    pub ends : new ≡ [] → begins v left due.Step ≡ false
 
   three_tests : (a b c : Bool) → (a && b && c) ≡ true → (b ≡ true) × (c ≡ true)
   three_tests true true true e = (refl, refl)
@@ -55,9 +57,9 @@ module _ (v : Version) (t : Tables) where
 
   -- where the next line goes on at the place of a step, so does the next step
   goes_on_by : (step : PriceStep) (new : List PriceStep) (rest behind : Left) → IsStepInOrder t step → All (IsStepInOrder t) new → rest ≡ texts t (map at_line new) ++ behind
-      → (new ≡ [] → begins rest due.Step ≡ false) → is_step_of (names v t) step.fleet step.station (first_words rest) ≡ true → goes_on step new ≡ true
+      → (new ≡ [] → begins v rest due.Step ≡ false) → is_step_of (names v t) step.fleet step.station (first_words rest) ≡ true → goes_on step new ≡ true
   goes_on_by step [] rest behind is are text ends on =
-      absurd (by_test (stands (first_words rest) 0 (codes "at")) _ _ on (other_words rest (ends refl)))
+      absurd (by_test (stands (first_words rest) 0 (codes "at")) _ _ on (other_words v rest (ends refl)))
     where
       by_test : (a b c : Bool) → (a && b && c) ≡ true → a ≡ false → ⊥
       by_test true b c e off = cc off
@@ -76,7 +78,7 @@ module _ (v : Version) (t : Tables) where
       subst (λ r. StepsWere done before [] r) (ok_same (done, []) read e)
       (record { new = []; list = sym (append-nil done); text = refl; each = All-nil (IsStepInOrder t); follow = tt; no_lone_zero = tt; ends = λ none. refl })
   steps_were (line ∷ rest) done before read e =
-      either_way (fits due.Step (form_in (words_of line))) _ _ read e
+      either_way (fits due.Step (form_in v (words_of line))) _ _ read e
       (λ at e.
       let step = goes (step_at (names v t) before (line ∷ rest)) _ read e in
       let was = step_was v t before (line ∷ rest) step.value step.is in
@@ -98,6 +100,39 @@ module _ (v : Version) (t : Tables) where
       subst (λ r. StepsWere done before (line ∷ rest) r) (ok_same (done, line ∷ rest) read e)
       (record { new = []; list = sym (append-nil done); text = refl; each = All-nil (IsStepInOrder t); follow = tt; no_lone_zero = tt; ends = λ none. at }))
 
+  -- charges, of which there are none in a version without lines for them
+
+  pub record ChargesWere (done : List Charge) (before : Option Charge) (left : Left) (read : List Charge × Left) : Type 0 where
+    pub new : List Charge
+    pub list : read.0 ≡ done ++ new
+    pub text : left ≡ texts t (map charge_line new) ++ read.1
+    pub each : All (IsChargeInOrder t) new
+    pub follow : ChargesFollow before new
+    pub tells : has_charges v ≡ false → new ≡ []
+
+  pub charges_were : (left : Left) (done : List Charge) (before : Option Charge) (read : List Charge × Left) → charges_from (names v t) done before left ≡ Ok read → ChargesWere done before left read
+  unfolding entries_from
+  charges_were [] done before read e =
+      subst (λ r. ChargesWere done before [] r) (ok_same (done, []) read e)
+      (record { new = []; list = sym (append-nil done); text = refl; each = All-nil (IsChargeInOrder t); follow = tt; tells = λ off. refl })
+  charges_were (line ∷ rest) done before read e =
+      either_way (fits due.Charge (form_in v (words_of line))) _ _ read e
+      (λ at e.
+      let entry = goes (charge_at (names v t) before (line ∷ rest)) _ read e in
+      let was = charge_was v t before (line ∷ rest) entry.value entry.is in
+      let more = charges_were rest (done ++ entry.value ∷ []) (Some entry.value) read entry.on in
+      record {
+        new = entry.value ∷ more.new;
+        list = more.list ∙ append_assoc done (entry.value ∷ []) more.new;
+        text = was.line_is.is ∙ ap (λ rest. line_bytes t (charge_line entry.value) ∷ rest) more.text;
+        each = All-cons (IsChargeInOrder t) entry.value more.new was.order more.each;
+        follow = (was.follows, more.follow);
+        tells = λ off. absurd (false≢true (sym off ∙ was.line_is.of_version));
+      })
+      (λ at e.
+      subst (λ r. ChargesWere done before (line ∷ rest) r) (ok_same (done, line ∷ rest) read e)
+      (record { new = []; list = sym (append-nil done); text = refl; each = All-nil (IsChargeInOrder t); follow = tt; tells = λ off. refl }))
+
   -- weights
 
   pub record WeightsWere (done : List Weight) (before : Option Weight) (left : Left) (read : List Weight × Left) : Type 0 where
@@ -113,7 +148,7 @@ module _ (v : Version) (t : Tables) where
       subst (λ r. WeightsWere done before [] r) (ok_same (done, []) read e)
       (record { new = []; list = sym (append-nil done); text = refl; each = All-nil (IsWeightInOrder t); follow = tt })
   weights_were (line ∷ rest) done before read e =
-      either_way (fits due.Weight (form_in (words_of line))) _ _ read e
+      either_way (fits due.Weight (form_in v (words_of line))) _ _ read e
       (λ at e.
       let entry = goes (weight_at (names v t) before (line ∷ rest)) _ read e in
       let was = weight_was v t before (line ∷ rest) entry.value entry.is in
@@ -245,7 +280,7 @@ module _ (v : Version) (t : Tables) where
   unfolding entries_from
   rents_were [] done read e are few = subst (λ r. RentsWere done [] r) (ok_same (padded done (fleets_in t), []) read (ap (λ n. Ok (padded done n, [])) (sym (fleet_count v t)) ∙ e)) (none_more done [] are few)
   rents_were (line ∷ rest) done read e are few =
-      either_way (fits due.Rent (form_in (words_of line))) _ _ read e
+      either_way (fits due.Rent (form_in v (words_of line))) _ _ read e
       (λ at e.
       let entry = goes (rent_at (names v t) (length done) (line ∷ rest)) _ read e in
       let was = rent_was v t (length done) (line ∷ rest) entry.value entry.is in
@@ -262,28 +297,33 @@ module _ (v : Version) (t : Tables) where
 
   pub record PricesWere (left : Left) (read : Prices × Left) : Type 0 where
     pub order : ArePricesInOrder t read.0
+    pub tells : ArePricesIn v read.0
     pub text : left ≡ texts t (price_lines t read.0) ++ read.1
 
-  prices_text : (prices : Prices) (left middle behind : Left) → LineIs v t left (says.Scale prices.scale) → drop 1 left ≡ texts t (lines_from v t prices 0 (fleets_in t - 0)) ++ middle
-      → middle ≡ texts t (map at_line prices.steps) ++ behind → left ≡ texts t (price_lines t prices) ++ behind
+  prices_text : (prices : Prices) (left middle last behind : Left) → LineIs v t left (says.Scale prices.scale) → drop 1 left ≡ texts t (lines_from v t prices 0 (fleets_in t - 0)) ++ middle
+      → middle ≡ texts t (map charge_line prices.charges) ++ last → last ≡ texts t (map at_line prices.steps) ++ behind → left ≡ texts t (price_lines t prices) ++ behind
   unfolding lines_from
-  prices_text prices left middle behind first rents steps =
+  prices_text prices left middle last behind first rents charges steps =
       let all : fleets_in t - 0 ≡ fleets_in t = omega arith in
       first.is
       ∙ ap (λ rest. line_bytes t (says.Scale prices.scale) ∷ rest)
-      (rents ∙ ap (λ n. texts t (lines_from v t prices 0 n) ++ middle) all ∙ ap (λ rest. texts t (rent_lines prices (fleets_in t)) ++ rest) steps
-      ∙ sym (texts_append t (rent_lines prices (fleets_in t)) (map at_line prices.steps) behind))
+      (rents ∙ ap (λ n. texts t (lines_from v t prices 0 n) ++ middle) all
+      ∙ ap (λ rest. texts t (rent_lines prices (fleets_in t)) ++ rest) (charges ∙ ap (λ rest. texts t (map charge_line prices.charges) ++ rest) steps ∙ sym (texts_append t (map charge_line prices.charges) (map at_line prices.steps) behind))
+      ∙ sym (texts_append t (rent_lines prices (fleets_in t)) (map charge_line prices.charges ++ map at_line prices.steps) behind))
 
   pub prices_were : (left : Left) (read : Prices × Left) → prices_at (names v t) left ≡ Ok read → PricesWere left read
   unfolding prices_at
   prices_were left read e =
       let scale = goes (scale_at (names v t) left) _ read e in
       let rents = goes (rents_from (names v t) [] (drop 1 left)) _ read scale.on in
-      let steps = goes (steps_from (names v t) [] None rents.value.1) _ read rents.on in
+      let charges = goes (charges_from (names v t) [] None rents.value.1) _ read rents.on in
+      let steps = goes (steps_from (names v t) [] None charges.value.1) _ read charges.on in
       let scale_is = scale_was v t left scale.value scale.is in
       let rents_are = rents_were (drop 1 left) [] rents.value rents.is (All-nil IsFigure) (omega arith) in
-      let steps_are = steps_were rents.value.1 [] None steps.value steps.is in
-      let prices : Prices = record { scale = scale.value; rents = rents.value.0; steps = steps.value.0; charges = [] } in
+      let charges_are = charges_were rents.value.1 [] None charges.value charges.is in
+      let steps_are = steps_were charges.value.1 [] None steps.value steps.is in
+      let prices : Prices = record { scale = scale.value; rents = rents.value.0; steps = steps.value.0; charges = charges.value.0 } in
+      let charges_same : charges_are.new ≡ charges.value.0 = sym charges_are.list in
       let same : steps_are.new ≡ steps.value.0 = sym steps_are.list in
       subst (λ r. PricesWere left r) (ok_same (prices, steps.value.1) read steps.on)
       (record {
@@ -291,14 +331,19 @@ module _ (v : Version) (t : Tables) where
           scale = scale_is.of_tables.figures;
           one_each = rents_are.one_each;
           rents = rents_are.figures;
+          charges = record {
+            each = subst (λ charges. All (IsChargeInOrder t) charges) charges_same charges_are.each;
+            follow = subst (λ charges. ChargesFollow None charges) charges_same charges_are.follow;
+          };
           steps = record {
             each = subst (λ steps. All (IsStepInOrder t) steps) same steps_are.each;
             follow = subst (λ steps. StepsFollow None steps) same steps_are.follow;
             no_lone_zero = subst (λ steps. NoLoneZero steps) same steps_are.no_lone_zero;
           };
-          no_charges = refl;
         };
-        text = prices_text prices left rents.value.1 steps.value.1 scale_is (rents_are.text prices refl) (steps_are.text ∙ ap (λ list. texts t (map at_line list) ++ steps.value.1) same);
+        tells = λ off. sym charges_same ∙ charges_are.tells off;
+        text = prices_text prices left rents.value.1 charges.value.1 steps.value.1 scale_is (rents_are.text prices refl)
+            (charges_are.text ∙ ap (λ list. texts t (map charge_line list) ++ charges.value.1) charges_same) (steps_are.text ∙ ap (λ list. texts t (map at_line list) ++ steps.value.1) same);
       })
 
   pub record MixedWas (left : Left) (read : Mixed × Left) : Type 0 where

@@ -6,7 +6,8 @@ use Rattle.bound_cert.proofs.WrittenLines.{names, texts, texts_append}
 use Rattle.bound_cert.proofs.WrittenTrees.{last}
 use Rattle.bound_cert.specs.Lines.{Left, Reading, left_of, line_due, may_stand}
 use Rattle.bound_cert.specs.Nodes.{Above, after_node, after_tree, end_at, head_is, nodes_from, nothing, plan_at, plan_of, proof_at, rest_at, tree_at}
-use Rattle.bound_cert.specs.ProofText.{all_lines, lines_of, proof_text, tree_lines, node_lines}
+use Rattle.bound_cert.specs.ProofText.{IsNodeIn, lines_in, lines_of, node_lines, text_in, tree_lines}
+use Rattle.bound_cert.specs.ReadProof.{IsTextOf}
 use Rattle.bound_cert.specs.Reading.{node_at, said_at}
 use Rattle.bound_cert.specs.declared.faults.TheConstants.{BAD_LINE}
 use Rattle.dual_bound.specs.Leaves.{depth_of}
@@ -18,7 +19,6 @@ use Rattle.dual_bound.specs.declared.trees.Tree.{Tree}
 use Rattle.fleet_model.specs.declared.tables.Tables.{Tables}
 use Rattle.proof_lines.proofs.FigureWords.{same_bytes}
 use Rattle.proof_lines.specs.Forms.{form_of}
-use Rattle.proof_lines.specs.Known.{names_in}
 use Rattle.proof_lines.specs.LineText.{line_bytes}
 use Rattle.proof_lines.specs.Words.{is_word, line_feed}
 use Rattle.proof_lines.specs.declared.line.Line.{Line}
@@ -44,6 +44,7 @@ record NodesWere (v : Version) (t : Tables) (nodes : List Node) (above : Above) 
   list : read.0 ≡ nodes ++ new
   text : left ≡ texts t (flat_map (node_lines t) new) ++ read.1
   each : All (IsNodeInOrder t) new
+  tell : All (IsNodeIn v) new
   deep : Within above new
 
 nodes_were : (v : Version) (t : Tables) (most : ℕ) (nodes : List Node) (above : Above) (left : Left) (read : List Node × Left) → nodes_from (names v t) most nodes above left ≡ Ok read → NodesWere v t nodes above left read
@@ -61,6 +62,7 @@ nodes_were v t (suc most) nodes above left read e =
       list = refl;
       text = was.text ∙ ap (λ lines. texts t lines ++ next.value.1) (sym (append-nil (node_lines t n)));
       each = All-cons (IsNodeInOrder t) n [] was.order (All-nil (IsNodeInOrder t));
+      tell = All-cons (IsNodeIn v) n [] was.tells (All-nil (IsNodeIn v));
       deep = (was.deep, tt);
     }))
     (λ is e.
@@ -70,6 +72,7 @@ nodes_were v t (suc most) nodes above left read e =
       list = more.list ∙ append_assoc nodes (n ∷ []) more.new;
       text = was.text ∙ ap (λ rest. texts t (node_lines t n) ++ rest) more.text ∙ sym (texts_append t (node_lines t n) (flat_map (node_lines t) more.new) read.1);
       each = All-cons (IsNodeInOrder t) n more.new was.order more.each;
+      tell = All-cons (IsNodeIn v) n more.new was.tells more.tell;
       deep = (was.deep, more.deep);
     })
 
@@ -100,15 +103,16 @@ depth_is other above more within = record { depth = leaf_depth (length above) wi
 
 -- the head, the plan and the end
 
-head_was : (t : Tables) (left : Left) (v : Version) → head_is left ≡ Ok v → left ≡ line_bytes t (says.Head version.One) ∷ drop 1 left
+head_was : (t : Tables) (left : Left) (v : Version) → head_is left ≡ Ok v → left ≡ line_bytes t (says.Head v) ∷ drop 1 left
 unfolding head_is
 head_was t [] v e = absurd (cc e)
 head_was t (line ∷ []) v e = absurd (cc e)
 head_was t (line ∷ next ∷ rest) v e =
-    either_way (bytes_eq line (codes "fleet proof 1")) _ _ v e (λ is e. ap (λ l. l ∷ next ∷ rest) (same_bytes line (codes "fleet proof 1") is)) (λ is e. absurd (cc e))
-
-of_version : (t : Tables) (left : Left) (read : Bool × List Node) (v : Version) → rest_at (names_in v t) left ≡ Ok read → rest_at (names v t) left ≡ Ok read
-of_version t left read version.One e = e
+    either_way (bytes_eq line (codes "fleet proof 1")) _ _ v e (by_head version.One (codes "fleet proof 1") refl)
+    (λ other e. either_way (bytes_eq line (codes "fleet proof 2")) _ _ v e (by_head version.Two (codes "fleet proof 2") refl) (λ is e. absurd (cc e)))
+  where
+    by_head : (w : Version) (bytes : List ℕ) → bytes ≡ line_bytes t (says.Head w) → bytes_eq line bytes ≡ true → ◌≡◌ {A = Reading Version} (Ok w) (Ok v) → line ∷ next ∷ rest ≡ line_bytes t (says.Head v) ∷ next ∷ rest
+    by_head w bytes head is e = ap (λ l. l ∷ next ∷ rest) (same_bytes line bytes is ∙ head ∙ ap (λ x. line_bytes t (says.Head x)) (ok_same w v e))
 
 plan_is : (line : Line) (left : Left) (planned : Bool) → plan_of line left ≡ Ok planned → line ≡ says.Plan planned
 plan_is (says.Plan b) left planned e = ap (λ b. says.Plan b) (ok_same b planned e)
@@ -161,13 +165,13 @@ join_lines t (line ∷ lines) =
     some_last [] = omega arith
     some_last (line ∷ lines) = omega arith
 
-pub text_of_reading : (t : Tables) (bytes : List ℕ) (planned : Bool) (whole : Tree) → proof_at t (left_of bytes) ≡ Ok (planned, nodes_of whole)
-    → (bytes ≡ proof_text t planned whole) × InWrittenOrder t whole × IsShallow whole
-unfolding proof_at rest_at tree_at proof_text
+pub text_of_reading : (t : Tables) (bytes : List ℕ) (planned : Bool) (whole : Tree) → proof_at t (left_of bytes) ≡ Ok (planned, nodes_of whole) → IsTextOf t bytes planned whole
+unfolding proof_at rest_at tree_at text_in
 text_of_reading t bytes planned whole e =
     let left = left_of bytes in
     let headed = goes (head_is left) _ (planned, nodes_of whole) e in
-    let answer = goes (plan_at (names v t) (drop 1 left)) _ (planned, nodes_of whole) (of_version t (drop 1 left) _ headed.value headed.on) in
+    let v = headed.value in
+    let answer = goes (plan_at (names v t) (drop 1 left)) _ (planned, nodes_of whole) headed.on in
     let third : Left = drop 1 (drop 1 left) in
     let read = goes (tree_at (names v t) third) _ (planned, nodes_of whole) answer.on in
     let all = goes (nodes_from (names v t) (length third) [] [] third) _ read.value read.is in
@@ -175,18 +179,21 @@ text_of_reading t bytes planned whole e =
     let same : (answer.value, read.value) ≡ (planned, nodes_of whole) = ok_same (answer.value, read.value) (planned, nodes_of whole) read.on in
     let were = nodes_were v t (length third) [] [] third all.value all.is in
     let nodes_are : were.new ≡ nodes_of whole = sym were.list ∙ ok_same all.value.0 read.value ended.on ∙ ap (λ p. p.1) same in
-    let head_line_is = head_was t left headed.value headed.is in
+    let head_line_is = head_was t left v headed.is in
     let plan_line_is = plan_was v t (drop 1 left) answer.value answer.is in
     let deep = depth_is whole [] [] (subst (λ nodes. Within [] nodes) (nodes_are ∙ sym (append-nil (nodes_of whole))) were.deep) in
     let tree_text : third ≡ texts t (tree_lines t whole) ++ last t =
     were.text ∙ ap (λ nodes. texts t (flat_map (node_lines t) nodes) ++ all.value.1) nodes_are
     ∙ ap (λ rest. texts t (tree_lines t whole) ++ rest) (end_was v t all.value.1 ended.value ended.is) in
-    let lines : left ≡ texts t (all_lines t planned whole) ++ [] ∷ [] =
+    let lines : left ≡ texts t (lines_in v t planned whole) ++ [] ∷ [] =
     head_line_is
-    ∙ ap (λ rest. line_bytes t (says.Head version.One) ∷ rest)
+    ∙ ap (λ rest. line_bytes t (says.Head v) ∷ rest)
     (plan_line_is.is ∙ ap (λ p. line_bytes t (says.Plan p) ∷ third) (ap (λ p. p.0) same)
-    ∙ ap (λ rest. line_bytes t (says.Plan planned) ∷ rest) (tree_text ∙ sym (texts_append t (tree_lines t whole) (says.End ∷ []) ([] ∷ [])))) in (
-      sym (join_with_byte-slice_split line_feed bytes) ∙ ap (join_with_byte line_feed) lines ∙ join_lines t (all_lines t planned whole),
-      subst (λ nodes. All (IsNodeInOrder t) nodes) nodes_are were.each,
-      omega (arith, deep.depth),
-    )
+    ∙ ap (λ rest. line_bytes t (says.Plan planned) ∷ rest) (tree_text ∙ sym (texts_append t (tree_lines t whole) (says.End ∷ []) ([] ∷ [])))) in
+    record {
+      version = v;
+      tells = subst (λ nodes. All (IsNodeIn v) nodes) nodes_are were.tell;
+      is = sym (join_with_byte-slice_split line_feed bytes) ∙ ap (join_with_byte line_feed) lines ∙ join_lines t (lines_in v t planned whole);
+      order = subst (λ nodes. All (IsNodeInOrder t) nodes) nodes_are were.each;
+      shallow = omega (arith, deep.depth);
+    }
