@@ -210,12 +210,22 @@ no_step m behind = record { some = behind.some; other = behind.no_step }
 may_be_step : (m : Left) → IsBehind m → MayBeStep m
 may_be_step m behind = record { no_rent = no_rent m behind; no_charge = no_charge m behind }
 
+-- what is needed with no other step behind it is needed whatever is behind it
+needless_either : (c d g h : Bool) → g ≡ false → (c && d && not g) ≡ false → (c && d && not h) ≡ false
+needless_either false d g h off needed = refl
+needless_either true false g h off needed = refl
+needless_either true true true h off needed = absurd (cc off)
+needless_either true true false h off needed = absurd (cc needed)
+
 -- two parts that are read, and what goes on from them
-regroup : {A B C : Type 0} (r : Reading (A × Left)) (g : Left → Reading (B × Left)) (on : A × B → Left → Reading C)
-    → ((r >>= λ x. g x.1 >>= λ y. Ok ((x.0, y.0), y.1)) >>= λ z. on z.0 z.1) ≡ (r >>= λ x. g x.1 >>= λ y. on (x.0, y.0) y.1)
-regroup (Ok x) g on = second (g x.1)
+abbrev both_parts : {A B : Type 0} → A → B × Left → Reading ((A × B) × Left)
+both_parts first second = Ok ((first, second.0), second.1)
+
+regroup : {A B C : Type 0} (r : Reading (A × Left)) (g : Left → Reading (B × Left)) (on : (A × B) × Left → Reading C)
+    → ((r >>= λ x. g x.1 >>= both_parts x.0) >>= on) ≡ (r >>= λ x. g x.1 >>= λ y. on ((x.0, y.0), y.1))
+regroup {A = A} {B = B} (Ok x) g on = second (g x.1)
   where
-    second : (s : Reading (B × Left)) → ((s >>= λ y. Ok ((x.0, y.0), y.1)) >>= λ z. on z.0 z.1) ≡ (s >>= λ y. on (x.0, y.0) y.1)
+    second : (s : Reading (B × Left)) → ((s >>= both_parts x.0) >>= on) ≡ (s >>= λ y. on ((x.0, y.0), y.1))
     second (Ok y) = refl
     second (Err e) = refl
 regroup (Err e) g on = refl
@@ -263,12 +273,7 @@ module _ (v : Version) (t : Tables) (line : List ℕ) (after : Left) where
 
     -- behind lines of another kind it is needed as little as behind such
     stays_needed : (m : Left) → begins v end due.Step ≡ false → begins v m due.Step ≡ false → is_needless (names v t) step m ≡ false
-    stays_needed m here there = by_zero (step.minute == 0) (int_eq step.value (pos 0)) (is_step_of (names v t) step.fleet step.station (first_words end)) (is_step_of (names v t) step.fleet step.station (first_words m)) (rw (other_words v end here) refl) was.needed
-      where
-        by_zero : (c d g h : Bool) → g ≡ false → (c && d && not g) ≡ false → (c && d && not h) ≡ false
-        by_zero false d g h off needed = refl
-        by_zero true false g h off needed = refl
-        by_zero true true g h off needed = absurd (cc (off, needed))
+    stays_needed m here there = needless_either (step.minute == 0) (int_eq step.value (pos 0)) (is_step_of (names v t) step.fleet step.station (first_words end)) (is_step_of (names v t) step.fleet step.station (first_words m)) (rw (other_words v end here) refl) was.needed
 
     next : PriceStep
     next = record { fleet = step.fleet; station = step.station; minute = 1; value = pos 1 }
@@ -300,7 +305,7 @@ module _ (v : Version) (t : Tables) (line : List ℕ) (after : Left) where
             let place : same_place step next ≡ true = same_place_by step next refl refl in
             let follows : step_follows (Some step) next ≡ true = rw place (rw (none, zero) refl) in
             let each : All (IsStepInOrder t) (next ∷ []) = All-cons (IsStepInOrder t) next [] order (All-nil (IsStepInOrder t)) in
-            let of : All (IsStepOf t) (next ∷ []) = All-cons (IsStepOf t) next [] (of_step v t next order) (All-nil (IsStepOf t)) in
+            let of : All (IsStepOf t) (next ∷ []) = All-cons (IsStepOf t) next [] (of_step t next order) (All-nil (IsStepOf t)) in
             record {
               more = line_bytes t (at_line next) ∷ [];
               value = (steps ++ step ∷ []) ++ next ∷ [];
@@ -348,7 +353,7 @@ module _ (v : Version) (t : Tables) (line : List ℕ) (after : Left) where
 
   -- rents and charges, and with them steps
   two_parts : Left → Reading ((List ℤ × List Charge) × Left)
-  two_parts left = rents_from (names v t) [] left >>= λ rents. charges_from (names v t) [] None rents.1 >>= λ charges. Ok ((rents.0, charges.0), charges.1)
+  two_parts left = rents_from (names v t) [] left >>= λ rents. charges_from (names v t) [] None rents.1 >>= both_parts rents.0
 
   three_parts : ℤ → List ℤ × List Charge → List PriceStep → Prices
   three_parts scale two steps = record { scale = scale; rents = two.0; steps = steps; charges = two.1 }
@@ -363,14 +368,14 @@ module _ (v : Version) (t : Tables) (line : List ℕ) (after : Left) where
       (λ rents. charges_go [] None) (rents_from (names v t) [] (p ++ end)) (rents_go [] p)
 
   of_three : (scale : ℤ) (left : Left)
-      → (two_parts left >>= λ two. steps_from (names v t) [] None two.1 >>= λ steps. Ok (three_parts scale two.0 steps.0, steps.1))
-      ≡ (rents_from (names v t) [] left >>= λ rents. charges_from (names v t) [] None rents.1 >>= λ charges. steps_from (names v t) [] None charges.1
+      → ◌≡◌ {A = Reading (Prices × Left)} (two_parts left >>= λ two. steps_from (names v t) [] None two.1 >>= λ steps. Ok (three_parts scale two.0 steps.0, steps.1))
+      (rents_from (names v t) [] left >>= λ rents. charges_from (names v t) [] None rents.1 >>= λ charges. steps_from (names v t) [] None charges.1
       >>= λ steps. Ok (record { scale = scale; rents = rents.0; steps = steps.0; charges = charges.0 }, steps.1))
   unfolding two_parts three_parts
-  of_three scale left = regroup (rents_from (names v t) [] left) (charges_from (names v t) [] None) (λ two rest. steps_from (names v t) [] None rest >>= λ steps. Ok (three_parts scale two steps.0, steps.1))
+  of_three scale left = regroup (rents_from (names v t) [] left) (charges_from (names v t) [] None) (λ two. steps_from (names v t) [] None two.1 >>= λ steps. Ok (three_parts scale two.0 steps.0, steps.1))
 
   pub prices_go : (p : Left) → EndsBy IsBehind (λ m. ⊤) end (prices_at (names v t)) p (prices_at (names v t) (p ++ end))
-  unfolding prices_at
+  unfolding prices_at three_parts
   prices_go [] =
       ends_read _ _ end _ [] (scale_at (names v t) end) _
       (λ e failed there. record {

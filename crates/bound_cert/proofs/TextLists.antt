@@ -65,7 +65,7 @@ module _ (v : Version) (t : Tables) where
       by_test true b c e off = cc off
       by_test false b c e off = cc e
   goes_on_by step (next ∷ new) rest behind is are text ends on =
-      let of = of_step v t next (All-head (IsStepInOrder t) next new are) in
+      let of = of_step t next (All-head (IsStepInOrder t) next new are) in
       let words : first_words rest ≡ line_words t (at_line next) = ap first_words text ∙ words_back (line_words t (at_line next)) (of_words t (at_line next) (of.fleet, of.station)) in
       let tests = three_tests (stands (line_words t (at_line next)) 0 (codes "at")) _ _ (ap (λ w. is_step_of (names v t) step.fleet step.station w) (sym words) ∙ on) in
       let fleet : (next.fleet == step.fleet) ≡ true = ap (λ r. is_number r step.fleet) (sym (fleet_written v t next.fleet of.fleet)) ∙ tests.0 in

@@ -149,6 +149,9 @@ end_was v t left x e =
     let first = subst (LineIs v t left) (end_is line.value (line_may v t due.End left line.value line.is)) was in
     first.is ∙ ap (λ rest. line_bytes t says.End ∷ rest) (nothing_was (drop 1 left) x line.on first.some)
 
+below_none : (n : ℕ) → 0 + n ≤ MAX_DEPTH → n ≤ MAX_DEPTH
+below_none n le = omega (arith, le)
+
 -- a text is its lines, joined
 
 join_more : (first : List ℕ) (others : Left) → 0 < length others → join_with_byte line_feed (first ∷ others) ≡ first ++ line_feed ∷ join_with_byte line_feed others
@@ -195,5 +198,5 @@ text_of_reading t bytes planned whole e =
       tells = subst (λ nodes. All (IsNodeIn v) nodes) nodes_are were.tell;
       is = sym (join_with_byte-slice_split line_feed bytes) ∙ ap (join_with_byte line_feed) lines ∙ join_lines t (lines_in v t planned whole);
       order = subst (λ nodes. All (IsNodeInOrder t) nodes) nodes_are were.each;
-      shallow = omega (arith, deep.depth);
+      shallow = below_none (depth_of whole) deep.depth;
     }

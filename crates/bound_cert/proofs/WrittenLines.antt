@@ -16,7 +16,7 @@ use Rattle.proof_lines.specs.Laws.{IsLineOf, IsOfVersion}
 use Rattle.proof_lines.specs.LineText.{IsNamed, line_bytes, line_words}
 use Rattle.proof_lines.specs.Words.{line_feed, stands, words_of}
 use Rattle.proof_lines.specs.declared.line.Line.{Line}
-use Rattle.std.proofs.Common.{[], ◌&&◌, ◌++◌, ◌<◌, ◌==◌, ◌∙◌, ◌∷◌, ◌≡◌, Bool, List, Ok, Some, ap, append_assoc, arith, codes, false, length, map, refl, sym, true}
+use Rattle.std.proofs.Common.{[], ◌&&◌, ◌++◌, ◌<◌, ◌==◌, ◌∙◌, ◌∷◌, ◌≡◌, Bool, List, None, Ok, Some, ap, append_assoc, arith, codes, false, if◌then◌else◌, length, map, refl, sym, true}
 use Rattle.std.proofs.lemmas.List.Elements.{All-head, All-tail}
 use Rattle.std.proofs.lemmas.List.Splits.{slice_split_at}
 use Rattle.std.proofs.lemmas.List.{map-append}
@@ -64,8 +64,8 @@ begins_as v t line rest kind may named e = ap (fits kind) (form_is v t line may 
 
 -- a line of another kind, whether a text of the version may have it or not
 pub begins_else : (v : Version) (t : Tables) (line : Line) (rest : Left) (kind : Due) → IsNamed t line → may_stand kind (form_of line) ≡ false → begins v (line_bytes t line ∷ rest) kind ≡ false
-begins_else v t line rest kind named e =
-    ap (λ words. fits kind (form_in v words)) (words_back (line_words t line) (of_words t line named)) ∙ ap (λ o. fits kind (of_version v o)) (first_told t line) ∙ by_test (has_form v (form_of line))
+begins_else v t line rest kind is e =
+    ap (λ words. fits kind (form_in v words)) (words_back (line_words t line) (of_words t line is)) ∙ ap (λ o. fits kind (of_version v o)) (first_told t line) ∙ by_test (has_form v (form_of line))
   where
     by_test : (b : Bool) → fits kind (if b then Some (form_of line) else None) ≡ false
     by_test true = e

@@ -60,6 +60,13 @@ some_behind t (line ∷ lines) behind some = omega arith
 pub fleet_count : (v : Version) (t : Tables) → length (names v t).fleets ≡ fleets_in t
 fleet_count v t = length-map t.fleets (λ fleet. fleet.name)
 
+-- a step in its order is of the tables
+pub of_step : (t : Tables) (step : PriceStep) → IsStepInOrder t step → IsStepOf t step
+of_step t step is = record { fleet = is.fleet; station = is.station }
+
+pub steps_of : (t : Tables) (steps : List PriceStep) → All (IsStepInOrder t) steps → All (IsStepOf t) steps
+steps_of t steps are = All-weaker (IsStepInOrder t) (IsStepOf t) (of_step t) steps are
+
 module _ (v : Version) (t : Tables) where
   -- scales
 
@@ -241,12 +248,6 @@ module _ (v : Version) (t : Tables) where
       ∙ steps_read steps (done ++ step ∷ []) (Some step) behind (All-tail (IsStepInOrder t) step steps are) (All-tail (IsStepOf t) step steps of) follow.1 no_lone.1 some ends
       ∙ ap (λ steps. Ok (steps, behind)) (append_assoc done (step ∷ []) steps)
 
-  pub of_step : (step : PriceStep) → IsStepInOrder t step → IsStepOf t step
-  of_step step is = record { fleet = is.fleet; station = is.station }
-
-  pub steps_of : (steps : List PriceStep) → All (IsStepInOrder t) steps → All (IsStepOf t) steps
-  steps_of steps are = All-weaker (IsStepInOrder t) (IsStepOf t) of_step steps are
-
   step_named : (step : PriceStep) → IsStepOf t step → IsNamed t (at_line step)
   step_named step is = (is.fleet, is.station)
 
@@ -265,7 +266,7 @@ module _ (v : Version) (t : Tables) where
       let steps = map at_line prices.steps in
       let last : Left = texts t steps ++ behind in
       let tail : Left = texts t charges ++ last in
-      let of = steps_of prices.steps are.steps.each in
+      let of = steps_of t prices.steps are.steps.each in
       let parts : texts t (rents ++ (charges ++ steps)) ++ behind ≡ texts t rents ++ tail = texts_append t rents (charges ++ steps) behind ∙ ap (λ lines. texts t rents ++ lines) (texts_append t charges steps behind) in
       let some_last : 0 < length last = some_behind t steps behind ends.some in
       let some : 0 < length tail = some_behind t charges last some_last in

@@ -163,7 +163,7 @@ cause_of t (cause.Nodes mixed) is = All-weaker (IsWeightInOrder t) (IsWeightOf t
 cause_of t other is = tt
 
 prices_of : (t : Tables) (prices : Prices) → ArePricesInOrder t prices → ArePricesOf t prices
-prices_of t prices are = record { steps = steps_of v t prices.steps are.steps.each; charges = All-weaker (IsChargeInOrder t) (IsChargeOf t) (λ entry is. is.station) prices.charges are.charges.each }
+prices_of t prices are = record { steps = steps_of t prices.steps are.steps.each; charges = All-weaker (IsChargeInOrder t) (IsChargeOf t) (λ entry is. is.station) prices.charges are.charges.each }
 
 node_of : (t : Tables) (n : Node) → IsNodeInOrder t n → IsNodeOf t n
 node_of t (node.Bare leg) is = is
