@@ -22,12 +22,6 @@ pub const MAX_DEPARTURES: usize = MAX_LEGS;
 /// The most through pairs that tables have.
 pub const MAX_THROUGHS: usize = 2000;
 
-/// The most tails that a table of tails has.
-pub const MAX_TAILS: usize = 10_000;
-
-/// The most nights that a tail may have left.
-pub const MAX_NIGHTS_LEFT: u8 = 30;
-
 /// The most aircraft of a fleet.
 pub const MAX_AIRCRAFT: u32 = 500;
 
