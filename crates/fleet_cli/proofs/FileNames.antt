@@ -14,8 +14,9 @@ file_at n =
     else if n == 2 then file.Legs
     else if n == 3 then file.Costs
     else if n == 4 then file.Throughs
-    else if n == 5 then file.Plan
-    else if n == 6 then file.Proof
+    else if n == 5 then file.Tails
+    else if n == 6 then file.Plan
+    else if n == 7 then file.Proof
     else file.Rotation
 
 at_number : (f : DeskFile) → file_at (number_of f) ≡ f
@@ -25,6 +26,7 @@ at_number file.Fleets = refl
 at_number file.Legs = refl
 at_number file.Costs = refl
 at_number file.Throughs = refl
+at_number file.Tails = refl
 at_number file.Plan = refl
 at_number file.Proof = refl
 at_number file.Rotation = refl
@@ -39,6 +41,7 @@ self_file file.Fleets = refl
 self_file file.Legs = refl
 self_file file.Costs = refl
 self_file file.Throughs = refl
+self_file file.Tails = refl
 self_file file.Plan = refl
 self_file file.Proof = refl
 self_file file.Rotation = refl
@@ -50,6 +53,7 @@ looked_up c f bytes file.Fleets = refl
 looked_up c f bytes file.Legs = refl
 looked_up c f bytes file.Costs = refl
 looked_up c f bytes file.Throughs = refl
+looked_up c f bytes file.Tails = refl
 looked_up c f bytes file.Plan = refl
 looked_up c f bytes file.Proof = refl
 looked_up c f bytes file.Rotation = refl
