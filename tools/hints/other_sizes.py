@@ -5,8 +5,8 @@ import difflib
 import os
 import re
 
-from hints.refused_tables import names_in
-from hints.saying import listed, quietly, typed
+from hints.refused_tables import names_in, unknown
+from hints.saying import quietly, typed
 
 SECTION = "what-whatif-prints"
 UNKNOWN = re.compile(r"unknown fleet: (.*)", re.DOTALL)
@@ -19,8 +19,7 @@ def tell_unknown(hint, command, call, said):
     if not found:
         return
     fleets = quietly(names_in, os.path.join(call.folder, "fleets.csv")) or []
-    if fleets:
-        hint.say(f"the fleets of fleets.csv are {listed(fleets)}: names are taken letter by letter")
+    hint.say(unknown(found[1], "fleets.csv", fleets))
     near = difflib.get_close_matches(found[1].upper(), fleets, 1, 0.6)
     if near:
         hint.show(typed([command, *call.with_word(call.words[1][0], near[0])]))

@@ -12,14 +12,14 @@ const NO_AIRCRAFT: Laid<'static> = Laid::Bytes(Fleets, b"fleet,aircraft,turn\nF1
 // Prices and rents that refute all assignments where there are no aircraft. With one they are worth 0.
 const REFUTED: Laid<'static> = Laid::Bytes(
     Proof,
-    b"fleet proof 1\nplan no\nrefuted\nscale 1\nrent F1 1\nrent F2 1\n\
+    b"fleet proof 2\nplan no\nrefuted\nscale 1\nrent F1 1\nrent F2 1\n\
         at F1 AAA 0 1\nat F1 AAA 481 0\nat F2 AAA 0 1\nat F2 AAA 481 0\nend\n",
 );
 
 // Two such leaves.
 const REFUTED_TWICE: Laid<'static> = Laid::Bytes(
     Proof,
-    b"fleet proof 1\nplan no\ntrim X1 F1\n\
+    b"fleet proof 2\nplan no\ntrim X1 F1\n\
         refuted\nscale 1\nrent F1 1\nrent F2 1\n\
         at F1 AAA 0 1\nat F1 AAA 481 0\nat F2 AAA 0 1\nat F2 AAA 481 0\n\
         refuted\nscale 1\nrent F1 1\nrent F2 1\n\
@@ -29,19 +29,19 @@ const REFUTED_TWICE: Laid<'static> = Laid::Bytes(
 // Rents of 5 and 7, which each fleet pays once on the tables: 180 less 12.
 const RENTED: Laid<'static> = Laid::Bytes(
     Proof,
-    b"fleet proof 1\nplan no\nopen pivots 0\nscale 1\nrent F1 5\nrent F2 7\nend\n",
+    b"fleet proof 2\nplan no\nopen pivots 0\nscale 1\nrent F1 5\nrent F2 7\nend\n",
 );
 
 const ONE_FLEET: Laid<'static> = Laid::Bytes(Costs, b"flight,fleet,cost\nX1,F1,100\nX2,F1,100\n");
 
-const SOLE: Laid<'static> = Laid::Bytes(Proof, b"fleet proof 1\nplan yes\nsole\nend\n");
+const SOLE: Laid<'static> = Laid::Bytes(Proof, b"fleet proof 2\nplan yes\nsole\nend\n");
 
-const SOLE_ALONE: Laid<'static> = Laid::Bytes(Proof, b"fleet proof 1\nplan no\nsole\nend\n");
+const SOLE_ALONE: Laid<'static> = Laid::Bytes(Proof, b"fleet proof 2\nplan no\nsole\nend\n");
 
-const BROKEN: Laid<'static> = Laid::Bytes(Proof, b"fleet proof 1\nplan yes\nbare X1\nend\n");
+const BROKEN: Laid<'static> = Laid::Bytes(Proof, b"fleet proof 2\nplan yes\nbare X1\nend\n");
 
 // A bound of 180, below the plan's cost.
-const BELOW: Laid<'static> = Laid::Bytes(Proof, b"fleet proof 1\nplan yes\npriced\nscale 1\nend\n");
+const BELOW: Laid<'static> = Laid::Bytes(Proof, b"fleet proof 2\nplan yes\npriced\nscale 1\nend\n");
 
 const BAD_LEGS: Laid<'static> = Laid::Bytes(Legs, b"nonsense");
 
