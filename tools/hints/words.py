@@ -97,6 +97,7 @@ OPTIONS = {
     "visits": ("V", Number(0, 1_000_000), "200000", "how long to search for one rotation, 0 to 1000000"),
     "nodes": ("N", Number(0, 1_000_000), "1000", "how often the search may split, 0 to 1000000"),
     "pivots": ("P", Number(0, 1_000_000), "20000", "how many pivots a subproblem may take in each run, 0 to 1000000"),
+    "all-pivots": ("", None, "", "lets each subproblem take all pivots that it needs, whatever --pivots says"),
     "json": ("", None, "", "prints the summary as JSON"),
 }
 # The options by which the tables of a folder are read: those of one call belong to the next one over the same folder.
@@ -104,7 +105,7 @@ READING = ("day-start", "period")
 OPTIONS_OF = {
     "judge": READING,
     "check": READING,
-    "solve": (*READING, "through-max", "days", "visits", "nodes", "pivots", "json"),
+    "solve": (*READING, "through-max", "days", "visits", "nodes", "pivots", "all-pivots", "json"),
     "tails": (*READING, "through-max", "days", "visits"),
     "make": (),
     "whatif": READING,

@@ -5,11 +5,14 @@ ghost use Rattle.simplex_frac.specs.Duality.{AreRightSidesAtLeast0};
 use crate::assertions::assert_same;
 use crate::pivoting::{Told, rows_of, told};
 use entries::NoMemory;
+use fleet_model::{Kept, LoadError, Tables};
+use lp_rows::Program;
 use row_store::{Dense, RowStore, Rows, is_problem};
-use simplex_frac::{Outcome, are_right_sides_at_least_0, bases, finish};
+use simplex_frac::{Outcome, are_right_sides_at_least_0, bases, finish, solve};
 use sparse_store::Sparse;
 use std::alloc::Global;
 use std::test::Fail;
+use worked_tables::schedules::{Files, OVERLAPPING_TRIPS, TWO_FLEETS, read};
 
 /// Lines, and the end that is wanted.
 #[derive(Clone, Copy)]
@@ -76,6 +79,42 @@ fn runs_without_a_budget(rt: HostRuntime) -> Result<(), Fail> {
         let dense = end_over::<Dense>(rt.alloc(), &rows)?;
         let sparse = end_over::<Sparse>(rt.alloc(), &rows)?;
         assert_same(&rt, (told(&dense), told(&sparse)), (run.end, run.end));
+    }
+    Ok(())
+}
+
+/// Schedules, and the pivots by which the prescribed run over their lines ends at a cheapest point.
+const SCHEDULES: &[(Files, u64)] = &[(OVERLAPPING_TRIPS, 31), (TWO_FLEETS, 13)];
+
+/// How many pivots a run makes over the lines of a schedule: with one too few, which it spends, and with no budget, where it
+/// ends.
+fn pivots_of(alloc: Global, tables: &Tables, few: u64) -> Result<(u64, u64), NoMemory> {
+    let program = Program::new(alloc, tables, &Kept::all(tables))?;
+    if !are_right_sides_at_least_0(&program.rows) {
+        return Ok((0, 0));
+    }
+    let mut store = Sparse::start(alloc, &program.rows)?;
+    let spent = match solve(alloc, &mut store, program.rows.columns, few)? {
+        Outcome::Spent { pivots } => pivots,
+        _ => 0,
+    };
+    let made = match end_over::<Sparse>(alloc, &program.rows)? {
+        Outcome::Best { made, .. } => made,
+        _ => 0,
+    };
+    Ok((spent, made))
+}
+
+fn pivots_in(alloc: Global, files: &Files, few: u64) -> Result<(u64, u64), LoadError> {
+    let tables = read(alloc, files)?;
+    Ok(pivots_of(alloc, &tables, few)?)
+}
+
+#[test]
+fn schedules_that_a_budget_leaves_open(rt: HostRuntime) -> Result<(), Fail> {
+    for (files, wanted) in SCHEDULES {
+        let seen = pivots_in(rt.alloc(), files, *wanted - 1)?;
+        assert_same(&rt, seen, (*wanted - 1, *wanted));
     }
     Ok(())
 }

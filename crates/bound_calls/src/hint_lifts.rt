@@ -1,5 +1,5 @@
 //! Prices and fractional assignments from ends that are found and checked, and by outlines from the prescribed run.
-ghost use Rattle.std.specs.Prelude.{ℕ, IfOk, IfSome};
+ghost use Rattle.std.specs.Prelude.{ℕ, Option, IfOk, IfSome};
 ghost use Rattle.dual_bound.specs.Prices.{ArePrices};
 ghost use Rattle.fleet_model.specs.Kept.{kept_by};
 ghost use Rattle.row_store.specs.Problem.{IsProblem};
@@ -94,7 +94,7 @@ fn lifted_from_prescribed<R: RowStore>(
     outline: &Outline,
 ) -> Result<Option<Lifted>, LiftError>
     requires outline { IsOutline tables.now (kept_by kept.now) outline.now }
-    requires ended { (pivots : ℕ) × HasEnded tables.now (kept_by kept.now) pivots (R.content table.now) outcome.now }
+    requires ended { (pivots : Option ℕ) × HasEnded tables.now (kept_by kept.now) pivots (R.content table.now) outcome.now }
     ensures { IfOk result (λ found. IfSome found (λ lifted. ArePrices tables.now lifted.prices)) }
 {
     let lifted = match outcome {

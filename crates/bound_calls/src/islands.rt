@@ -96,7 +96,7 @@ fn checked_with_cheapest(tables: &Tables, tree: &Tree) -> Option<Checked>
 
 /// What the checker says of the tree of a solution without splits; nothing where it isn't a leaf that is paid back.
 fn checked_solution(alloc: Global, tables: &Tables) -> Result<Option<Checked>, NoMemory> {
-    let solved = solve(alloc, tables, 0, 1_000)?;
+    let solved = solve(alloc, tables, 0, Some(1_000))?;
     let tree = solved.tree();
     if is_paid_back_leaf(tree) {
         Ok(checked_with_cheapest(tables, tree))

@@ -73,6 +73,15 @@ struct Answer {
 }
 
 fn solution(alloc: Global, files: &Files, nodes: u64, pivots: u64) -> Result<Solved, LoadError> {
+    solution_within(alloc, files, nodes, Some(pivots))
+}
+
+fn solution_within(
+    alloc: Global,
+    files: &Files,
+    nodes: u64,
+    pivots: Option<u64>,
+) -> Result<Solved, LoadError> {
     let tables = read(alloc, files)?;
     Ok(solve(alloc, &tables, nodes, pivots)?)
 }
@@ -225,6 +234,39 @@ fn a_third_fleet_flies_what_is_left(rt: HostRuntime) -> Result<(), Fail> {
     assert_answer(&rt, &OVERLAPPING_TRIPS, 0, unsettled(60, 0))
 }
 
+/// Tables, the most splits, and the answer where there is no budget of pivots.
+type Row = (Files, u64, Answer);
+
+const WITHOUT_A_BUDGET: &[Row] = &[
+    (ROUND_TRIP, ENOUGH, planned(200, 200, 0)),
+    (ROUND_TRIP, 0, planned(200, 200, 0)),
+    (NO_AIRCRAFT, ENOUGH, infeasible(0)),
+    (TWO_FLEETS, ENOUGH, infeasible(1)),
+    (TWO_FLEETS, 0, unsettled(60, 0)),
+    (OVERLAPPING_TRIPS, ENOUGH, planned(140, 140, 2)),
+    (OVERLAPPING_TRIPS, 1, planned(140, 100, 1)),
+    (AT_ONCE, 0, infeasible(0)),
+];
+
+/// What the solver says of tables with no budget of pivots, and how many leaves are open for pivots.
+fn answer_without_budget(
+    alloc: Global,
+    files: &Files,
+    nodes: u64,
+) -> Result<(Answer, u64), LoadError> {
+    let solved = solution_within(alloc, files, nodes, None)?;
+    Ok((told(&solved), solved.tree().counts().open_pivots))
+}
+
+#[test]
+fn without_a_budget_no_leaf_is_open_for_pivots(rt: HostRuntime) -> Result<(), Fail> {
+    for (files, nodes, wanted) in WITHOUT_A_BUDGET {
+        let seen = answer_without_budget(rt.alloc(), files, *nodes)?;
+        assert_same(&rt, seen, (*wanted, 0));
+    }
+    Ok(())
+}
+
 /// The first split of a solution's tree whose rounded worth is above a cost.
 fn first_split_above(alloc: Global, files: &Files, cost: i128) -> Result<Option<u64>, LoadError> {
     let tables = read(alloc, files)?;
@@ -233,7 +275,7 @@ fn first_split_above(alloc: Global, files: &Files, cost: i128) -> Result<Option<
 
 /// The same in tables.
 fn first_split_in(alloc: Global, tables: &Tables, cost: i128) -> Result<Option<u64>, NoMemory> {
-    let solved = solve(alloc, tables, ENOUGH, ENOUGH)?;
+    let solved = solve(alloc, tables, ENOUGH, Some(ENOUGH))?;
     Ok(split_above(tables, solved.tree(), cost))
 }
 

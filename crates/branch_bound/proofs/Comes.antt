@@ -50,7 +50,7 @@ all_gathered made all (suc n) singles nodes =
     one_more : suc n ≡ n + 1
     one_more = omega arith
 
-module _ (t : Tables) (nodes pivots : ℕ) (root : Domains) (s : Search) (done : IsDone t nodes pivots root s) where
+module _ (t : Tables) (nodes : ℕ) (pivots : Option ℕ) (root : Domains) (s : Search) (done : IsDone t nodes pivots root s) where
   abbrev all : List Subproblem
   all = s.made.items
 

@@ -33,13 +33,13 @@ use Rattle.node_bounding.proofs.Nodes.{all_one}
 use Rattle.node_bounding.proofs.Parts.{leaf_part, split_part}
 
 -- ---- the tree of a subproblem that was not split
-waiting_part : (t : Tables) (pivots : ℕ) (final : Option ℤ) (keeps : Domains) (above : Prices) (f : Fraction) → IsFractional t keeps f → IsPart t pivots final keeps above (tree.Open f.prices (cause.Nodes f.mixed))
+waiting_part : (t : Tables) (pivots : Option ℕ) (final : Option ℤ) (keeps : Domains) (above : Prices) (f : Fraction) → IsFractional t keeps f → IsPart t pivots final keeps above (tree.Open f.prices (cause.Nodes f.mixed))
 waiting_part t pivots final keeps above f is =
     let best = is.split.best in
     leaf_part t pivots final keeps above (tree.Open f.prices (cause.Nodes f.mixed)) refl refl (best.good.known, best.known) (all_one (IsNodeInOrder t) (ordered.Open f.prices (cause.Nodes f.mixed)) (best.good.in_order, best.in_order))
     (open_sound t final keeps f.prices (cause.Nodes f.mixed) best.good.proper is.split.searched.some_pair best.mixed_at is.split.fraction) (answers_none t final keeps (tree.Open f.prices (cause.Nodes f.mixed)) (λ e. cc)) tt
 
-state_part : (t : Tables) (pivots : ℕ) (final : Option ℤ) (keeps : Domains) (above : Prices) (s : State) → IsRight t pivots final keeps above s → IsPart t pivots final keeps above (tree_of_state s) × AreSearched t keeps (tree_of_state s)
+state_part : (t : Tables) (pivots : Option ℕ) (final : Option ℤ) (keeps : Domains) (above : Prices) (s : State) → IsRight t pivots final keeps above s → IsPart t pivots final keeps above (tree_of_state s) × AreSearched t keeps (tree_of_state s)
 state_part t pivots final keeps above (state.Leaf leaf) is = (is.0, is.1)
 state_part t pivots final keeps above (state.Waiting f) is = (waiting_part t pivots final keeps above f is, is.split.searched)
 state_part t pivots final keeps above (state.Split f) is = (waiting_part t pivots final keeps above f is, is.split.searched)
@@ -235,7 +235,7 @@ module _ (all rest : List Subproblem) (last : Subproblem) (origin : Origin) (par
         absurd (omega (arith, its.within, from.earlier, late, count, is.shorter))
 
 -- ---- what is gathered stays gathered
-module _ (t : Tables) (root : Domains) (pivots : ℕ) (final : Option ℤ) (total : ℕ) (c : Chronicle) (all rest : List Subproblem) (last : Subproblem) (origin : Origin) (all_is : all ≡ rest ++ last ∷ []) (from_is : last.origin ≡ Some origin)
+module _ (t : Tables) (root : Domains) (pivots : Option ℕ) (final : Option ℤ) (total : ℕ) (c : Chronicle) (all rest : List Subproblem) (last : Subproblem) (origin : Origin) (all_is : all ≡ rest ++ last ∷ []) (from_is : last.origin ≡ Some origin)
     (are : AreGathered t root pivots final total c all) (after : List Subproblem) (is : IsFolded rest after origin.parent last.state) where
   abbrev own_links : (k : ℕ) → k < length all → IsLinked all c.parts k
   own_links k below = (are.numbered k below).linked
@@ -362,7 +362,7 @@ module _ (t : Tables) (root : Domains) (pivots : ℕ) (final : Option ℤ) (tota
   }
 
 -- ---- the first of all
-pub first_of_all : (t : Tables) (root : Domains) (pivots : ℕ) (final : Option ℤ) (total : ℕ) (c : Chronicle) (all rest : List Subproblem) (last : Subproblem) (whole : Tree) → all ≡ rest ++ last ∷ [] → last.origin ≡ None → whole ≡ tree_of_state last.state
+pub first_of_all : (t : Tables) (root : Domains) (pivots : Option ℕ) (final : Option ℤ) (total : ℕ) (c : Chronicle) (all rest : List Subproblem) (last : Subproblem) (whole : Tree) → all ≡ rest ++ last ∷ [] → last.origin ≡ None → whole ≡ tree_of_state last.state
     → AreGathered t root pivots final total c all → IsGrownTree t root pivots final total c whole
 first_of_all t root pivots final total c all rest last whole all_is from_is whole_is are =
     let long : length all ≡ suc (length rest) = omega (arith, ap length all_is, length-append rest (last ∷ [])) in

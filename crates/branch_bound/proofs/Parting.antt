@@ -80,7 +80,7 @@ found_no_less t keeps step prices worth node (Some best) proper rounded plan fou
     subst (λ c. worth ≤ℤ c) (sym plan.exact) (ceiling_is_lower_bound t keeps prices worth best.assignment proper rounded (whole_assignment t keeps step best.assignment found.kept) plan.legal)
 
 -- so the cheapest plan costs no less once a part was made, where it did before
-pub cost_no_less : (t : Tables) (pivots : ℕ) (keeps : Domains) (step : Step) (prices above : Prices) (worth : ℤ) (before after : Option Plan) (made : State) → ArePrices t prices → IsCeiling (worth_of t keeps prices 1) prices.scale worth
+pub cost_no_less : (t : Tables) (pivots : Option ℕ) (keeps : Domains) (step : Step) (prices above : Prices) (worth : ℤ) (before after : Option Plan) (made : State) → ArePrices t prices → IsCeiling (worth_of t keeps prices 1) prices.scale worth
     → IfSome (cost_of before) (λ c. worth ≤ℤ c) → IsExamined t pivots before after (narrowed keeps step) above made → IfSome (cost_of after) (λ c. worth ≤ℤ c)
 cost_no_less t pivots keeps step prices above worth before after made proper rounded below is = by_place is.place
   where

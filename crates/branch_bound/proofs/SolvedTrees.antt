@@ -8,7 +8,7 @@ use Rattle.sums.specs.Places.{list_below}
 use Rattle.fleet_model.specs.Kept.{Domains, all_pairs}
 use Rattle.fleet_model.specs.declared.tables.Tables.{Tables}
 use Rattle.fleet_model.proofs.LeftOut.{all_keep_left_out, steps_are_few}
-use Rattle.dual_bound.specs.Leaves.{depth_of, open_nodes, splits_in}
+use Rattle.dual_bound.specs.Leaves.{depth_of, open_nodes, open_pivots, splits_in}
 use Rattle.dual_bound.specs.declared.trees.TheConstants.{MAX_DEPTH}
 use Rattle.dual_bound.specs.OfTables.{IsOfTables}
 use Rattle.dual_bound.specs.declared.nodes.Node.{Node}
@@ -19,7 +19,8 @@ use Rattle.dual_bound.specs.declared.trees.Tree.TheVariants as tree
 use Rattle.cert_check.specs.Nodes.{Node as TreeNode, nodes_in, nodes_of}
 use Rattle.cert_check.specs.Verdicts.{AreSound}
 use Rattle.presolve.specs.Removals.{kept_after}
-use Rattle.node_bounding.specs.Causes.{zero_prices}
+use Rattle.node_bounding.proofs.NoBudget.{none_spent}
+use Rattle.node_bounding.specs.Causes.{AreCaused, zero_prices}
 use Rattle.node_bounding.specs.Closing.{closed, closed_by}
 use Rattle.node_bounding.specs.Found.{AnswersSole, IsEndOf, IsFoundAt, LeavesGap}
 use Rattle.branch_bound.specs.History.{IsAtLevel, IsGrownTree, IsPlaced, IsReachedNode}
@@ -60,7 +61,7 @@ least_first t level cost whole low all = record {
       level_cost worth level cost (split_level t level split.keeps split.tree worth (All-contains (λ x. IsAtLevel t level x.keeps (own_node x.tree)) (nodes_of t whole) split all in_split) its) low;
 }
 
-module _ (t : Tables) (nodes pivots : ℕ) (best : Option Plan) (whole : Tree) (is : IsAllFound t nodes pivots best whole) where
+module _ (t : Tables) (nodes : ℕ) (pivots : Option ℕ) (best : Option Plan) (whole : Tree) (is : IsAllFound t nodes pivots best whole) where
   abbrev root : Domains
   root = kept_after (all_pairs t) is.removals
 
@@ -128,6 +129,10 @@ module _ (t : Tables) (nodes pivots : ℕ) (best : Option Plan) (whole : Tree) (
           let before : All (λ x. IsReachedNode t cost x.keeps (own_node x.tree)) (nodes_of t whole) = at_all (IsReachedNode t cost) (λ d prices. tt) (λ d leg fleet. tt) (subst (λ c. (k : ℕ) → k < is.comes.count → IsReachedNode t c (is.comes.chronicle.made k).keeps (is.comes.chronicle.made k).node) (sym same) reached) in
           absurd (omega (arith, some, none_open t cost (all_pairs t) done fine gaps (carry before)))
 
+  -- with no budget
+  none_for_pivots : (done : Tree) → AreCaused t pivots (all_pairs t) (zero_prices t) done → pivots ≡ None → open_pivots done ≡ 0
+  none_for_pivots done caused none = none_spent t (all_pairs t) (zero_prices t) done (subst (λ p. AreCaused t p (all_pairs t) (zero_prices t) done) none caused)
+
   pub tree_by : (own : Option Plan) → best ≡ own → IsTreeOf t nodes pivots (cost_of own) (closed_by t (cost_of own) whole)
   tree_by None same =
       let cost : None ≡ cost_of best = sym (ap cost_of same) in
@@ -140,6 +145,7 @@ module _ (t : Tables) (nodes pivots : ℕ) (best : Option Plan) (whole : Tree) (
         few_splits = few;
         all_spent = spent_or_closed None cost whole fine (no_gaps t (nodes_of t whole)) (λ all. all) refl;
         caused = all_part.caused;
+        no_budget = none_for_pivots whole all_part.caused;
         soles = subst (λ c. All (AnswersSole t c) (nodes_of t whole)) (sym cost) all_part.soles;
         gaps = no_gaps t (nodes_of t whole);
         trimmed = trimmed;
@@ -160,6 +166,7 @@ module _ (t : Tables) (nodes pivots : ℕ) (best : Option Plan) (whole : Tree) (
         few_splits = omega (arith, few, splits);
         all_spent = spent_or_closed (Some plan.cost) cost (closed t plan.cost (all_pairs t) whole) shut gaps (all_closed t plan.cost (IsReachedNode t (Some plan.cost)) (λ d prices why reached. tt) (all_pairs t) whole) splits;
         caused = closed_caused t plan.cost pivots (all_pairs t) (zero_prices t) whole all_part.caused;
+        no_budget = none_for_pivots (closed t plan.cost (all_pairs t) whole) (closed_caused t plan.cost pivots (all_pairs t) (zero_prices t) whole all_part.caused);
         soles = closed_soles t plan.cost (all_pairs t) whole (subst (λ c. All (AnswersSole t c) (nodes_of t whole)) (sym cost) all_part.soles);
         gaps = gaps;
         trimmed = closed_trimmed t plan.cost whole trimmed;

@@ -37,14 +37,14 @@ use Rattle.branch_bound.proofs.Updates.{As, by_new, each_three, moved, put_at, p
 use Rattle.branch_bound.proofs.Numbering.{no_parent, numbered_grown as numbers_grown}
 
 -- a list of so many subproblems of a search, whose cheapest plan this is
-pub record HasGrown (t : Tables) (root : Domains) (pivots : ℕ) (best : Option Plan) (count : ℕ) (all : List Subproblem) : Type 0 where
+pub record HasGrown (t : Tables) (root : Domains) (pivots : Option ℕ) (best : Option Plan) (count : ℕ) (all : List Subproblem) : Type 0 where
   pub chronicle : Chronicle
   pub told : IsTold t best count chronicle
   pub numbered : (k : ℕ) → k < count → IsNumbered t root all chronicle k
   pub right : (final : Option ℤ) → IsNoMore (cost_of best) final → (k : ℕ) → k < count → IsRightAt t pivots final all chronicle k
   pub singles : (k : ℕ) → k < count → IsSingle (at all k).state
 
-module _ (t : Tables) (root : Domains) (pivots : ℕ) (best mid after : Option Plan) (all grown : List Subproblem) (c : Chronicle) (rank : Rank) (ranks : List Rank) (f : Fraction) (pair : Pair) (yes no : State)
+module _ (t : Tables) (root : Domains) (pivots : Option ℕ) (best mid after : Option Plan) (all grown : List Subproblem) (c : Chronicle) (rank : Rank) (ranks : List Rank) (f : Fraction) (pair : Pair) (yes no : State)
     (told : IsTold t best (length all) c) (numbered : (k : ℕ) → k < length all → IsNumbered t root all c k)
     (right : (final : Option ℤ) → IsNoMore (cost_of best) final → (k : ℕ) → k < length all → IsRightAt t pivots final all c k) (singles : (k : ℕ) → k < length all → IsSingle (at all k).state)
     (ranked : AreRanks all ranks) (least : All (IsNoLater rank) ranks) (below : IfSome (cost_of best) (λ cost. rank.worth <ℤ cost)) (within : rank.number < length all)

@@ -117,7 +117,7 @@ prices_above t made None = zero_prices t
 prices_above t made (Some origin) = prices_in t (made origin.parent).node
 
 -- what is known of the subproblem with a number, where the plan in the end has this cost
-abbrev pub IsRightAt : Tables → ℕ → Option ℤ → List Subproblem → Chronicle → ℕ → Type 0
+abbrev pub IsRightAt : Tables → Option ℕ → Option ℤ → List Subproblem → Chronicle → ℕ → Type 0
 IsRightAt t pivots final all c k = IsRight t pivots final (c.made k).keeps (prices_above t c.made (at all k).origin) (at all k).state
 
 -- while a search goes on, its leaves are of one node each
@@ -139,7 +139,7 @@ pub record IsSearch (t : Tables) (root : Domains) (s : Search) : Type 0 where
   pub ranks : AreRanks s.made.items s.waiting.keys
 
 -- a search of which nothing more is split
-pub record IsDone (t : Tables) (nodes pivots : ℕ) (root : Domains) (s : Search) : Type 0 where
+pub record IsDone (t : Tables) (nodes : ℕ) (pivots : Option ℕ) (root : Domains) (s : Search) : Type 0 where
   pub search : IsSearch t root s
   pub splits_allowed : s.nodes ≡ nodes
   pub pivots_allowed : s.pivots ≡ pivots
@@ -232,7 +232,7 @@ gathered made all zero = []
 gathered made all (suc k) = gathered made all k ++ gathered_at (made k).keeps (at all k).state
 
 -- a list in which the parts of some splits are put together to trees, and taken from its end
-pub record AreGathered (t : Tables) (root : Domains) (pivots : ℕ) (final : Option ℤ) (count : ℕ) (c : Chronicle) (all : List Subproblem) : Type 0 where
+pub record AreGathered (t : Tables) (root : Domains) (pivots : Option ℕ) (final : Option ℤ) (count : ℕ) (c : Chronicle) (all : List Subproblem) : Type 0 where
   pub numbered : (k : ℕ) → k < length all → IsNumbered t root all c k
   pub right : (k : ℕ) → k < length all → IsRightAt t pivots final all c k
   pub same : IsPermutation (list_below c.made count) (gathered c.made all (length all))
@@ -244,7 +244,7 @@ pub record AreLinked (all : List Subproblem) : Type 0 where
   pub each : (k : ℕ) → k < length all → IsLinked all parts k
 
 -- the tree of the first subproblem
-pub record IsGrownTree (t : Tables) (root : Domains) (pivots : ℕ) (final : Option ℤ) (count : ℕ) (c : Chronicle) (tree : Tree) : Type 0 where
+pub record IsGrownTree (t : Tables) (root : Domains) (pivots : Option ℕ) (final : Option ℤ) (count : ℕ) (c : Chronicle) (tree : Tree) : Type 0 where
   pub part : IsPart t pivots final root (zero_prices t) tree
   pub searched : AreSearched t root tree
   pub all : IsPermutation (list_below c.made count) (worked_in root tree)
@@ -255,7 +255,7 @@ IsReachedNode t cost keeps (node.Open prices why) = (worth : ℤ) → IsOpenWort
 IsReachedNode t cost keeps other = ⊤
 
 -- what a search comes to: its tree, and its cheapest plan
-pub record ComesTo (t : Tables) (nodes pivots : ℕ) (root : Domains) (best : Option Plan) (tree : Tree) : Type 0 where
+pub record ComesTo (t : Tables) (nodes : ℕ) (pivots : Option ℕ) (root : Domains) (best : Option Plan) (tree : Tree) : Type 0 where
   pub plan : IfSome best (IsPlan t)
   pub splits : ℕ
   pub few : splits ≤ nodes

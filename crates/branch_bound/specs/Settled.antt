@@ -32,7 +32,7 @@ pub record IsProvedBy (t : Tables) (best : Option Plan) (tree : Tree) : Type 0 w
 
 -- The tree of all pairs before its open leaves are closed, and the cheapest plan: below the removals it is that of a
 -- search with at most so many splits, and so many pivots for each subproblem.
-pub record IsAllFound (t : Tables) (nodes pivots : ℕ) (best : Option Plan) (whole : Tree) : Type 0 where
+pub record IsAllFound (t : Tables) (nodes : ℕ) (pivots : Option ℕ) (best : Option Plan) (whole : Tree) : Type 0 where
   pub removals : List Removal
   pub given : AreRemovals t (all_pairs t) first_place removals
   pub rest : Tree

@@ -6,7 +6,7 @@ use Rattle.fleet_model.specs.Kept.{all_pairs}
 use Rattle.fleet_model.specs.Legal.{IsAssignment, IsLegal, total_cost}
 use Rattle.fleet_model.specs.declared.tables.Tables.{Tables}
 use Rattle.dual_bound.specs.Bound.{IsBound, IsInfeasible, IsLowerBound}
-use Rattle.dual_bound.specs.Leaves.{has_open, open_nodes, splits_in}
+use Rattle.dual_bound.specs.Leaves.{has_open, open_nodes, open_pivots, splits_in}
 use Rattle.dual_bound.specs.OfTables.{IsOfTables}
 use Rattle.dual_bound.specs.WrittenOrder.{InWrittenOrder, IsShallow}
 use Rattle.dual_bound.specs.declared.trees.Tree.{Tree}
@@ -71,7 +71,7 @@ IsFound t (solved.Unsettled bound tree) = ⊤
 -- The tree as the search left it, with so many pivots allowed for each subproblem, whose cheapest plan has this cost. Its
 -- nodes keep all rules, its leaves and splits have their causes, its subproblems were made one by one, and in the end open
 -- leaves were closed whose rounded worth reaches the cost.
-pub record IsLeft (t : Tables) (pivots : ℕ) (cost : Option ℤ) (tree : Tree) : Type 0 where
+pub record IsLeft (t : Tables) (pivots : Option ℕ) (cost : Option ℤ) (tree : Tree) : Type 0 where
   pub left : Tree
   pub sound : AreSound t cost (all_pairs t) left
   pub caused : AreCaused t pivots (all_pairs t) (zero_prices t) left
@@ -86,10 +86,10 @@ pub record IsLeastFirst (t : Tables) (cost : Option ℤ) (tree : Tree) : Type 0 
 
 -- A tree whose plan, if any, has this cost. It is of the tables, in written order and no deeper than a reader takes,
 -- and its nodes keep all rules. It has at most so many splits, and just so many where a leaf is open for them. Leaves
--- and splits have their causes, with so many pivots allowed for each subproblem. Where the one assignment of a leaf is
--- legal, there is a plan that costs no more. The rounded worth of each open leaf is below the plan's cost. The trims are
+-- and splits have their causes, with so many pivots allowed for each subproblem, or with no budget: then none is open for
+-- pivots. Where the one assignment of a leaf is legal, there is a plan that costs no more. The rounded worth of each open leaf is below the plan's cost. The trims are
 -- presolve's removals, and below them the subproblem of the least rounded worth is split first.
-pub record IsTreeOf (t : Tables) (nodes pivots : ℕ) (cost : Option ℤ) (tree : Tree) : Type 0 where
+pub record IsTreeOf (t : Tables) (nodes : ℕ) (pivots : Option ℕ) (cost : Option ℤ) (tree : Tree) : Type 0 where
   pub of_tables : IsOfTables t tree
   pub in_order : InWrittenOrder t tree
   pub shallow : IsShallow tree
@@ -97,14 +97,15 @@ pub record IsTreeOf (t : Tables) (nodes pivots : ℕ) (cost : Option ℤ) (tree 
   pub few_splits : splits_in tree ≤ nodes
   pub all_spent : 0 < open_nodes tree → splits_in tree ≡ nodes
   pub caused : AreCaused t pivots (all_pairs t) (zero_prices t) tree
+  pub no_budget : pivots ≡ None → open_pivots tree ≡ 0
   pub soles : All (AnswersSole t cost) (nodes_of t tree)
   pub gaps : All (LeavesGap t cost) (nodes_of t tree)
   pub trimmed : IsTrimmed t tree
   pub left : IsLeft t pivots cost tree
   pub least_first : IsLeastFirst t cost tree
 
--- a solution of tables, found with at most so many splits, and so many pivots for each subproblem
-pub record IsSolved (t : Tables) (nodes pivots : ℕ) (s : Solved) : Type 0 where
+-- a solution of tables, found with at most so many splits, and so many pivots for each subproblem or with no budget of them
+pub record IsSolved (t : Tables) (nodes : ℕ) (pivots : Option ℕ) (s : Solved) : Type 0 where
   pub right : IsRight t s
   pub proved : IsTreeOf t nodes pivots (plan_cost s) (tree_of s)
   pub found : IsFound t s

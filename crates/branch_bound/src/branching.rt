@@ -20,12 +20,13 @@ use node_bounding::{State, examine, is_reached, zeros};
 use std::alloc::Global;
 use std::collections::BTreeSet;
 
-/// Searches the pairs that are kept, with at most so many splits and so many pivots for each subproblem.
+/// Searches the pairs that are kept, with at most so many splits, and so many pivots for each subproblem or no
+/// budget of them.
 pub(crate) fn branch(
     alloc: Global,
     tables: &Tables,
     nodes: u64,
-    pivots: u64,
+    pivots: Option<u64>,
     first: &Kept,
 ) -> Result<Search, NoMemory>
     requires { KeepAllowed tables.now (kept_by first.now) }
@@ -43,7 +44,7 @@ fn begun(
     alloc: Global,
     tables: &Tables,
     nodes: u64,
-    pivots: u64,
+    pivots: Option<u64>,
     first: &Kept,
 ) -> Result<Search, NoMemory>
     requires { KeepAllowed tables.now (kept_by first.now) }

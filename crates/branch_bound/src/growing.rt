@@ -17,7 +17,7 @@ use std::mem;
 /// put into the one that it is a part of.
 pub(crate) fn grown(alloc: Global, made: Vec<Subproblem>) -> Result<Tree, NoMemory>
     requires { AreLinked made.items }
-    ensures { IfOk result (λ tree. (t : Tables) (root : Domains) (pivots : ℕ) (final : Option ℤ) (count : ℕ) (c : Chronicle) → AreGathered t root pivots final count c made.items → IsGrownTree t root pivots final count c tree) }
+    ensures { IfOk result (λ tree. (t : Tables) (root : Domains) (pivots : Option ℕ) (final : Option ℤ) (count : ℕ) (c : Chronicle) → AreGathered t root pivots final count c made.items → IsGrownTree t root pivots final count c tree) }
 {
     let mut rest = made;
     while let Some(last) = rest.pop() {

@@ -8,8 +8,8 @@ use std::collections::BTreeSet;
 pub(crate) struct Search {
     /// How many splits are allowed.
     pub(crate) nodes: u64,
-    /// How many pivots are allowed in each subproblem.
-    pub(crate) pivots: u64,
+    /// How many pivots are allowed in each subproblem; none where there is no budget of them.
+    pub(crate) pivots: Option<u64>,
     /// How many splits were made.
     pub(crate) splits: u64,
     /// The cheapest plan so far.

@@ -21,12 +21,17 @@ use node_bounding::{Plan, close};
 use presolve::trim;
 use std::alloc::Global;
 
-/// Solves tables, with at most so many splits, and at most so many pivots for each subproblem (Hane and others 1995:
-/// presolve, linear relaxations, branch and bound).
+/// Solves tables, with at most so many splits, and at most so many pivots for each subproblem, or with no budget of them
+/// (Hane and others 1995: presolve, linear relaxations, branch and bound).
 ///
 /// A subproblem is solved when it is made. The next to be split is the one of the least rounded worth, and at a tie the
 /// one that was made first, so the bound never falls from split to split (best-first search: Lawler and Wood 1966).
-pub fn solve(alloc: Global, tables: &Tables, nodes: u64, pivots: u64) -> Result<Solved, NoMemory>
+pub fn solve(
+    alloc: Global,
+    tables: &Tables,
+    nodes: u64,
+    pivots: Option<u64>,
+) -> Result<Solved, NoMemory>
     ensures { IfOk result (IsSolved tables.now nodes pivots) }
 {
     let Found { best, mut tree } = searched(alloc, tables, nodes, pivots)?;
@@ -42,7 +47,12 @@ pub(crate) struct Found {
 }
 
 // Searches all pairs.
-fn searched(alloc: Global, tables: &Tables, nodes: u64, pivots: u64) -> Result<Found, NoMemory>
+fn searched(
+    alloc: Global,
+    tables: &Tables,
+    nodes: u64,
+    pivots: Option<u64>,
+) -> Result<Found, NoMemory>
     ensures { IfOk result (λ f. IsAllFound tables.now nodes pivots f.best f.tree) }
 {
     let removals = trim(alloc, tables)?;

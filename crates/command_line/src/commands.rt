@@ -24,10 +24,11 @@ const ROTATION_OPTIONS: &[Argument<'static>] = &[
     Argument::Option("visits"),
 ];
 
-/// `[--nodes N] [--pivots P] [--json]`: how a plan is looked for, and how it is told.
+/// `[--nodes N] [--pivots P] [--all-pivots] [--json]`: how a plan is looked for, and how it is told.
 const SEARCH_OPTIONS: &[Argument<'static>] = &[
     Argument::Option("nodes"),
     Argument::Option("pivots"),
+    Argument::Flag("all-pivots"),
     Argument::Flag("json"),
 ];
 

@@ -1,5 +1,5 @@
 -- The values of a command's arguments, by what clap found for them.
-use Rattle.std.specs.Prelude.{◌≡◌, ◌≤◌, ◌%◌, ◌==◌, ℕ, Bool, false, if◌then◌else◌, List, codes, bytes_eq, Option, Some, None, option_and_then, pos, ◌≤ℤ◌}
+use Rattle.std.specs.Prelude.{◌≡◌, ◌≤◌, ◌%◌, ◌==◌, ℕ, Bool, true, false, if◌then◌else◌, List, codes, bytes_eq, Option, Some, None, IfSome, option_and_then, pos, ◌≤ℤ◌}
 use Rattle.std.specs.Option.{option_map_or}
 use Rattle.clap.specs.Words.{Row, Text, first_of, found_of, rows_of}
 use Rattle.clap.specs.declared.parser.matches.ArgMatches.{ArgMatches}
@@ -71,15 +71,20 @@ nodes_in found = value_or DEFAULT_NODES (number_read 0 MAX_NODES) (first_of (cod
 abbrev pub pivots_in : List Row → Option ℕ
 pivots_in found = value_or DEFAULT_PIVOTS (number_read 0 MAX_PIVOTS) (first_of (codes "pivots") found)
 
--- the limits of a search, where both are there
-abbrev pub search_at : Option ℕ → Option ℕ → Option SearchLimits
-search_at (Some n) (Some p) = Some (record { nodes = n; pivots = p })
-search_at (Some n) None = None
-search_at None p = None
+-- the limit of pivots: none where all are allowed, whatever number is given
+abbrev pub budget_of : Bool → ℕ → Option ℕ
+budget_of true p = None
+budget_of false p = Some p
+
+-- the limits of a search, where both are there, and all pivots may be allowed
+abbrev pub search_at : Option ℕ → Option ℕ → Bool → Option SearchLimits
+search_at (Some n) (Some p) all = Some (record { nodes = n; pivots = budget_of all p })
+search_at (Some n) None all = None
+search_at None p all = None
 
 -- the limits of a search, where both read
 abbrev pub search_in : List Row → Option SearchLimits
-search_in found = search_at (nodes_in found) (pivots_in found)
+search_in found = search_at (nodes_in found) (pivots_in found) (is_given (codes "all-pivots") found)
 
 -- the most days between maintenance, where they read
 abbrev pub days_in : List Row → Option ℕ
@@ -169,10 +174,10 @@ aircraft_in found = option_and_then aircraft_read (first_of (codes "count") foun
 
 -- ---- what holds of values that read
 
--- a search of so many splits and pivots may be asked for
+-- a search of so many splits, and so many pivots where they have a limit, may be asked for
 pub record AreLimits (limits : SearchLimits) : Type 0 where
   pub few_nodes : limits.nodes ≤ MAX_NODES
-  pub few_pivots : limits.pivots ≤ MAX_PIVOTS
+  pub few_pivots : IfSome limits.pivots (λ p. p ≤ MAX_PIVOTS)
 
 -- rotations of so many days may be asked for, by so many visits
 pub record AreRotationLimits (limits : RotationLimits) : Type 0 where

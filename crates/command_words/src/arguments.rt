@@ -1,7 +1,7 @@
 //! The values of a command's arguments, by what clap found for them.
 ghost use Rattle.std.specs.Prelude.{◌≡◌, ◌≤◌, ◌<◌, IfSome, option_map};
 ghost use Rattle.clap.specs.Words.{first_of};
-ghost use Rattle.command_words.specs.Arguments.{AreDates, AreLimits, AreOptions, AreRotationLimits, IsLegCount, aircraft_in, dates_in, day_start_in, is_given, legs_in, legs_read, number_in, options_in, period_in, reading_in, rotations_in, rows_in, search_in, settings_in, through_max_in};
+ghost use Rattle.command_words.specs.Arguments.{AreDates, AreLimits, AreOptions, AreRotationLimits, IsLegCount, aircraft_in, budget_of, dates_in, day_start_in, is_given, legs_in, legs_read, number_in, options_in, period_in, reading_in, rotations_in, rows_in, search_in, settings_in, through_max_in};
 ghost use Rattle.command_words.specs.Values.{number_read, value_or};
 ghost use Rattle.command_words.specs.Words.{dates_by};
 ghost use Rattle.fleet_model.specs.Limits.{AreSettings};
@@ -103,7 +103,15 @@ fn search_of(found: &ArgMatches<'_>) -> Option<SearchLimits>
 {
     let nodes = number_of(found, "nodes", DEFAULT_NODES, 0, MAX_NODES)?;
     let pivots = number_of(found, "pivots", DEFAULT_PIVOTS, 0, MAX_PIVOTS)?;
+    let pivots = budget_of(is_given(found, "all-pivots"), pivots);
     Some(SearchLimits { nodes, pivots })
+}
+
+/// The limit of pivots: none where all are allowed, whatever number is given.
+fn budget_of(all: bool, pivots: u64) -> Option<u64>
+    ensures { result ≡ budget_of all pivots }
+{
+    if all { None } else { Some(pivots) }
 }
 
 /// The limits of rotations that the options give.

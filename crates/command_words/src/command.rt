@@ -64,8 +64,8 @@ pub const MAX_MADE_LEGS: u32 = 1000;
 pub struct SearchLimits {
     /// The most splits of its tree.
     pub nodes: u64,
-    /// The most pivots of one subproblem.
-    pub pivots: u64,
+    /// The most pivots of one subproblem; none where all are allowed.
+    pub pivots: Option<u64>,
 }
 
 /// What a fleet's rotation has to keep, and how long one is searched for.
@@ -101,7 +101,7 @@ pub const DEFAULT_READING: TableOptions = TableOptions {
 pub const DEFAULT_OPTIONS: SolveOptions = SolveOptions {
     search: SearchLimits {
         nodes: DEFAULT_NODES,
-        pivots: DEFAULT_PIVOTS,
+        pivots: Some(DEFAULT_PIVOTS),
     },
     rotations: RotationLimits {
         days: DEFAULT_DAYS,

@@ -12,8 +12,8 @@ type DayLine = (&'static str, &'static str, u16, u16);
 /// The same with the longest wait of a through pair, the most days between maintenance, and the most prefixes visited.
 pub type RotationLine = (&'static str, &'static str, u16, u16, u16, u32, u32);
 
-/// A line that solves with the most splits and pivots, and whether the summary is JSON.
-type SolveLine = (RotationLine, u64, u64, bool);
+/// A line that solves with the most splits and pivots, none where all pivots are allowed, and whether the summary is JSON.
+type SolveLine = (RotationLine, u64, Option<u64>, bool);
 
 const JUDGE: &[DayLine] = &[
     ("fleetplan judge d", "d", 180, 1),
@@ -38,28 +38,11 @@ const CHECK: &[DayLine] = &[
     ),
 ];
 
-/// A line that asks about another size of a fleet, the folder, the day start, the days of the period, the fleet, and how many aircraft.
-type SizeLine = (&'static str, &'static str, u16, u16, &'static str, u32);
-
-const ASK: &[SizeLine] = &[
-    ("fleetplan whatif d F1 0", "d", 180, 1, "F1", 0),
-    ("fleetplan whatif d 1 500", "d", 180, 1, "1", 500),
-    ("fleetplan whatif d - 1", "d", 180, 1, "-", 1),
-    (
-        "fleetplan whatif --day-start=00:00 --period 7 -- -d -5 00000000000000000007",
-        "-d",
-        0,
-        7,
-        "-5",
-        7,
-    ),
-];
-
 const SOLVE: &[SolveLine] = &[
     (
         ("fleetplan solve d", "d", 180, 1, 60, 3, 200_000),
         1000,
-        20_000,
+        Some(20_000),
         false,
     ),
     (
@@ -73,7 +56,7 @@ const SOLVE: &[SolveLine] = &[
             200_000,
         ),
         5,
-        20_000,
+        Some(20_000),
         false,
     ),
     (
@@ -87,7 +70,7 @@ const SOLVE: &[SolveLine] = &[
             200_000,
         ),
         1_000_000,
-        20_000,
+        Some(20_000),
         false,
     ),
     (
@@ -101,7 +84,7 @@ const SOLVE: &[SolveLine] = &[
             200_000,
         ),
         0,
-        0,
+        Some(0),
         false,
     ),
     (
@@ -115,7 +98,7 @@ const SOLVE: &[SolveLine] = &[
             200_000,
         ),
         1000,
-        1_000_000,
+        Some(1_000_000),
         false,
     ),
     (
@@ -129,7 +112,7 @@ const SOLVE: &[SolveLine] = &[
             200_000,
         ),
         1000,
-        20_000,
+        Some(20_000),
         false,
     ),
     (
@@ -143,19 +126,19 @@ const SOLVE: &[SolveLine] = &[
             200_000,
         ),
         1000,
-        20_000,
+        Some(20_000),
         false,
     ),
     (
         ("fleetplan solve --period 2 d", "d", 180, 2, 60, 3, 200_000),
         1000,
-        20_000,
+        Some(20_000),
         false,
     ),
     (
         ("fleetplan solve --days 1 d", "d", 180, 1, 60, 1, 200_000),
         1000,
-        20_000,
+        Some(20_000),
         false,
     ),
     (
@@ -169,7 +152,7 @@ const SOLVE: &[SolveLine] = &[
             0,
         ),
         1000,
-        20_000,
+        Some(20_000),
         false,
     ),
     (
@@ -183,13 +166,13 @@ const SOLVE: &[SolveLine] = &[
             1_000_000,
         ),
         1000,
-        20_000,
+        Some(20_000),
         false,
     ),
     (
         ("fleetplan solve d --json", "d", 180, 1, 60, 3, 200_000),
         1000,
-        20_000,
+        Some(20_000),
         true,
     ),
     (
@@ -203,7 +186,7 @@ const SOLVE: &[SolveLine] = &[
             1,
         ),
         1000,
-        20_000,
+        Some(20_000),
         true,
     ),
     (
@@ -217,12 +200,48 @@ const SOLVE: &[SolveLine] = &[
             200_000,
         ),
         1000,
-        20_000,
+        Some(20_000),
+        true,
+    ),
+    (
+        (
+            "fleetplan solve --all-pivots d",
+            "d",
+            180,
+            1,
+            60,
+            3,
+            200_000,
+        ),
+        1000,
+        None,
+        false,
+    ),
+    (
+        (
+            "fleetplan solve d --pivots 0 --json --all-pivots",
+            "d",
+            180,
+            1,
+            60,
+            3,
+            200_000,
+        ),
+        1000,
+        None,
         true,
     ),
 ];
 
 const NOTHING: &[&str] = &[
+    "fleetplan solve d --all-pivots --all-pivots",
+    "fleetplan solve d --all-pivots=x",
+    "fleetplan solve d --all-pivots --pivots 1000001",
+    "fleetplan check d --all-pivots",
+    "fleetplan judge d --all-pivots",
+    "fleetplan whatif d F1 1 --all-pivots",
+    "fleetplan tails d 2025-02-28 2 --all-pivots",
+    "fleetplan make d 1 2 --all-pivots",
     "fleetplan solve d --through-max 1440",
     "fleetplan solve d --through-max 60 --through-max 60",
     "fleetplan judge d --period 0",
@@ -331,20 +350,6 @@ fn lines_that_check(rt: HostRuntime) -> Result<(), Fail> {
     for (line, dir, day_start, period) in CHECK {
         let reading = reading(*day_start, 60, *period);
         assert_asks(&rt, line, &Some(Command::Check { dir, reading }))?;
-    }
-    Ok(())
-}
-
-#[test]
-fn lines_that_ask(rt: HostRuntime) -> Result<(), Fail> {
-    for (line, dir, day_start, period, fleet, count) in ASK {
-        let wanted = Command::Whatif {
-            dir,
-            reading: reading(*day_start, 60, *period),
-            fleet,
-            count: *count,
-        };
-        assert_asks(&rt, line, &Some(wanted))?;
     }
     Ok(())
 }

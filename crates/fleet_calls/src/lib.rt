@@ -33,6 +33,8 @@ mod proof_texts;
 #[cfg(test)]
 mod reading;
 #[cfg(test)]
+mod size_commands;
+#[cfg(test)]
 mod subproblems;
 #[cfg(test)]
 mod what_if;

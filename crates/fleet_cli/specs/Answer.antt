@@ -61,7 +61,8 @@ Judges reading bytes plan = OnTables reading bytes (JudgesOn plan)
 
 -- ---- solving
 
--- a solution of the tables is given, found within the limits of the search, with rotations of its plan
+-- a solution of the tables is given, found within the limits of the search, with rotations of its plan; where all pivots are
+-- allowed, no leaf of its tree is open for pivots
 pub record GivesSolution (options : SolveOptions) (t : Tables) (answer : Answer) : Type 0 where
   pub solution : Solved
   pub rotations : List FleetRotation

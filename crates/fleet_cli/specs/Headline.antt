@@ -50,8 +50,8 @@ plan_there t (solved.Unsettled bound tree) before = before
 
 -- The five files read as tables. Under the plan's name stands the text of one legal plan, under the proof's name
 -- the text of one tree, and the summary with the plan's exact cost, the tree's bound and the status was put. No
--- legal assignment undercuts that bound; it is the cost where no leaf is open, each open leaf has its cause, and where
--- it says infeasible, none is legal. Under the rotations' name stands the text of what becomes of each fleet's rotation by
+-- legal assignment undercuts that bound; it is the cost where no leaf is open, each open leaf has its cause, which isn't
+-- spent pivots where all are allowed, and where it says infeasible, none is legal. Under the rotations' name stands the text of what becomes of each fleet's rotation by
 -- that plan, and the summary tells it: each tour is one of the fleet and is kept, each that is refused has its cause, and
 -- the pairs of the first round are a through set that is worth most. Without a plan there are no rotations.
 pub record LeavesSolution (held stands : Files) (dir : List ℕ) (reading : TableOptions) (options : SolveOptions) (code : ℕ) (before after : Option (List ℕ)) : Type 0 where

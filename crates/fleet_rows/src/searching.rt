@@ -145,6 +145,12 @@ const NO_PIVOTS: Search = Search {
     checked: b"holds: bound 180\n",
 };
 
+// All pivots are allowed, whatever their limit.
+const ALL_PIVOTS: Search = Search {
+    line: "fleetplan solve d --day-start 00:00 --pivots 0 --all-pivots",
+    ..ROUND_TRIP
+};
+
 // No aircraft: both fleets are removed from the first leg, each for want of aircraft.
 const NO_AIRCRAFT: Search = Search {
     laid: &[
@@ -317,6 +323,7 @@ const ROUND_TRIPS: &[Search] = &[
     BACK_AT_ONCE,
     NO_THROUGHS,
     NO_PIVOTS,
+    ALL_PIVOTS,
     NO_AIRCRAFT,
 ];
 

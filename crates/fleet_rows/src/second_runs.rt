@@ -29,6 +29,11 @@ const TWO_WITH_5_PIVOTS: Search = Search {
     ..TWO_UNSPLIT
 };
 
+const TWO_WITH_ALL_PIVOTS: Search = Search {
+    line: "fleetplan solve d --all-pivots --day-start 00:00 --nodes 0 --pivots 5",
+    ..TWO_UNSPLIT
+};
+
 // Three round trips at once: an aircraft of each of two fleets isn't enough, not even in parts, and presolve doesn't see it.
 const THREE_AT_ONCE: Search = Search {
     laid: &[
@@ -62,7 +67,7 @@ fn halves_within_six_pivots(rt: HostRuntime) -> Result<(), Fail> {
 
 #[test]
 fn halves_within_five_pivots(rt: HostRuntime) -> Result<(), Fail> {
-    run_searches(&rt, &[TWO_WITH_5_PIVOTS])
+    run_searches(&rt, &[TWO_WITH_5_PIVOTS, TWO_WITH_ALL_PIVOTS])
 }
 
 #[test]

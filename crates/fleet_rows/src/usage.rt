@@ -76,6 +76,7 @@ const NOTHING_TO_CHECK: &[&str] = &[
     "fleetplan check d --pivots 0",
     "fleetplan check d --json",
     "fleetplan check d --visits 0",
+    "fleetplan check d --all-pivots",
     "fleetplan check d -- --day-start 00:00",
     "fleetplan check --help",
 ];
@@ -96,6 +97,9 @@ const NOTHING_TO_SOLVE: &[&str] = &[
     "fleetplan solve d --pivots 1000001",
     "fleetplan solve d --pivots",
     "fleetplan solve d --pivots 0 --pivots 0",
+    "fleetplan solve d --all-pivots --all-pivots",
+    "fleetplan solve d --all-pivots=0",
+    "fleetplan solve d --all-pivots --pivots 1000001",
     "fleetplan solve d --day-start 24:00",
     "fleetplan solve d --period 2 --period 2",
     "fleetplan solve d --day-start",

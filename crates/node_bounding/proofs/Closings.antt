@@ -115,7 +115,7 @@ module _ (t : Tables) (cost : ℤ) where
   pub closed_trimmed : (whole : Tree) → IsTrimmed t whole → IsTrimmed t (closed t cost (all_pairs t) whole)
   closed_trimmed whole is = record { removals = is.removals; given = is.given; on_top = closed_top (all_pairs t) is.removals whole is.on_top }
 
-  pub closed_caused : (pivots : ℕ) (keeps : Domains) (above : Prices) (whole : Tree) → AreCaused t pivots keeps above whole → AreCaused t pivots keeps above (closed t cost keeps whole)
+  pub closed_caused : (pivots : Option ℕ) (keeps : Domains) (above : Prices) (whole : Tree) → AreCaused t pivots keeps above whole → AreCaused t pivots keeps above (closed t cost keeps whole)
   closed_caused pivots keeps above (tree.Bare leg) is = is
   closed_caused pivots keeps above tree.Sole is = is
   closed_caused pivots keeps above (tree.Refuted prices) is = is

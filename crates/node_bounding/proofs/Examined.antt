@@ -42,7 +42,7 @@ use Rattle.node_bounding.proofs.Parts.{leaf_part}
 use Rattle.node_bounding.proofs.WholePlans.{whole_kept, whole_legal, whole_worth}
 
 -- ---- nothing was found
-module _ (t : Tables) (pivots : ℕ) (best : Option Plan) (plan : IfSome best (IsPlan t)) (keeps : Domains) (above : Prices) where
+module _ (t : Tables) (pivots : Option ℕ) (best : Option Plan) (plan : IfSome best (IsPlan t)) (keeps : Domains) (above : Prices) where
   -- a leaf
   at_leaf : (leaf : Tree) → IsDoneLeaf leaf → IsMadeAs t (cost_of best) keeps (own_node leaf) None → AreSearched t keeps leaf
       → ((final : Option ℤ) → IsNoMore (cost_of best) final → IsPart t pivots final keeps above leaf) → IsExamined t pivots best best keeps above (state.Leaf leaf)
@@ -111,7 +111,7 @@ reaches_by t keeps prices worth None rounded reached = absurd reached
 reaches_by t keeps prices worth (Some c) rounded reached = record { least = worth; rounded = rounded; reaches = reached }
 
 -- ---- an assignment was offered
-module _ (t : Tables) (pivots : ℕ) (before after : Option Plan) (keeps : Domains) (above : Prices) where
+module _ (t : Tables) (pivots : Option ℕ) (before after : Option Plan) (keeps : Domains) (above : Prices) where
   -- where it was taken, it is found here
   placed : (a : List ℕ) (node : Node) → IsKeptAssignment t keeps a → EndsAt t keeps (total_cost t a) node → (after ≡ before) ⊎ IsTaken t a before after → (after ≡ before) ⊎ IsFoundHere t keeps node after
   placed a node kept ends (inl same) = inl same
@@ -194,8 +194,8 @@ whole_offered t keeps prices mixed a before after allowed best whole flies offer
 }
 
 -- where nothing was offered, the best plan is that from before
-pub after_no_sole : (t : Tables) (pivots : ℕ) (before after : Option Plan) (keeps : Domains) (above : Prices) (made : State) → IsNoSole t keeps before after → IsExamined t pivots before before keeps above made → IsExamined t pivots before after keeps above made
+pub after_no_sole : (t : Tables) (pivots : Option ℕ) (before after : Option Plan) (keeps : Domains) (above : Prices) (made : State) → IsNoSole t keeps before after → IsExamined t pivots before before keeps above made → IsExamined t pivots before after keeps above made
 after_no_sole t pivots before after keeps above made none is = subst (λ s. IsExamined t pivots before s keeps above made) (sym none.same) is
 
-pub before_no_sole : (t : Tables) (pivots : ℕ) (before between after : Option Plan) (keeps : Domains) (above : Prices) (made : State) → IsNoSole t keeps before between → IsExamined t pivots between after keeps above made → IsExamined t pivots before after keeps above made
+pub before_no_sole : (t : Tables) (pivots : Option ℕ) (before between after : Option Plan) (keeps : Domains) (above : Prices) (made : State) → IsNoSole t keeps before between → IsExamined t pivots between after keeps above made → IsExamined t pivots before after keeps above made
 before_no_sole t pivots before between after keeps above made none is = subst (λ s. IsExamined t pivots s after keeps above made) none.same is

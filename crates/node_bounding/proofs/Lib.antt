@@ -6,6 +6,7 @@ pub mod Examined
 pub mod FlownParts
 pub mod Leaves
 pub mod Lifts
+pub mod NoBudget
 pub mod Nodes
 pub mod Orders
 pub mod Parts

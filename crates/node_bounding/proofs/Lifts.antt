@@ -1,5 +1,5 @@
 -- What the run over the lines of a subproblem, and the lift of its last table, say of the relaxation.
-use Rattle.std.proofs.Common.{◌≡◌, ℕ, List, Option, Some, None, Result, Ok, Err, IfOk, IfErr, IsOkAnd, IsSomeAnd, pos, ◌<ℤ◌, inl, inr, sym, subst}
+use Rattle.std.proofs.Common.{◌≡◌, ℕ, List, Option, Some, None, Result, Ok, Err, IfOk, IfErr, IsOkAnd, IsSomeAnd, pos, ◌<ℤ◌, inl, inr, refl, sym, subst}
 use mathlib.Core.Bool.{false≢true}
 use Rattle.std.specs.Prelude.{IsErr}
 use Rattle.entries.specs.declared.memory.NoMemory.{NoMemory}
@@ -9,7 +9,11 @@ use Rattle.fleet_model.specs.declared.tables.Tables.{Tables}
 use Rattle.row_store.specs.Problem.{IsProblem, first_table}
 use Rattle.row_store.specs.declared.problem.Rows.{Rows}
 use Rattle.lp_rows.specs.Points.{AreLinesOf}
-use Rattle.simplex_frac.specs.Outcomes.{IsOutcome}
+use Rattle.simplex_frac.specs.Finished.{IsFinished, IsStarted}
+use Rattle.simplex_frac.specs.Outcomes.{TurnsAt}
+use Rattle.simplex_frac.specs.declared.outcome.End.{End}
+use Rattle.simplex_frac.specs.declared.outcome.End.TheVariants as end
+use Rattle.simplex_frac.specs.Ends.{outcome_of}
 use Rattle.simplex_frac.specs.declared.outcome.Outcome.{Outcome}
 use Rattle.simplex_frac.specs.declared.outcome.Outcome.TheVariants as outcome
 use Rattle.simplex_frac.specs.declared.turn.Turn.TheVariants as turns
@@ -28,18 +32,44 @@ use Rattle.dual_lift.specs.declared.error.LiftError.{LiftError}
 use Rattle.dual_lift.specs.declared.error.LiftError.TheVariants as lift
 use Rattle.price_lift.specs.declared.lift.Lifted.{Lifted}
 use Rattle.node_bounding.specs.Relaxed.{AreGood, IsAtBest, IsAtNoPoint, IsLiftStopped, IsRelaxed}
-use Rattle.node_bounding.specs.Runs.{HasEnded, RunEnds}
+use Rattle.price_lift.proofs.Columns.{sides_at_least}
+use Rattle.node_bounding.specs.Runs.{HasEnded, IsOutcomeWithin, RunEnds}
 use Rattle.node_bounding.specs.declared.relaxing.Relaxed.{Relaxed}
 use Rattle.node_bounding.specs.declared.relaxing.Relaxed.TheVariants as relaxed
 
 -- how a run has ended, from the first table as a store holds it
-pub has_ended : (t : Tables) (keeps : Domains) (pivots : ℕ) (rows : Rows) (first table : List FracRow) (found : Outcome) → AreLinesOf t keeps rows → IsProblem rows → first ≡ first_table rows → IsOutcome first rows.columns pivots table found
+pub has_ended : (t : Tables) (keeps : Domains) (pivots : Option ℕ) (rows : Rows) (first table : List FracRow) (found : Outcome) → AreLinesOf t keeps rows → IsProblem rows → first ≡ first_table rows → IsOutcomeWithin first rows.columns pivots table found
     → HasEnded t keeps pivots table found
 has_ended t keeps pivots rows first table found lines problem is ends = record {
   rows = rows;
   problem = problem;
-  run = record { lines = lines; ends = subst (λ f. IsOutcome f rows.columns pivots table found) is ends };
+  run = record { lines = lines; ends = subst (λ f. IsOutcomeWithin f rows.columns pivots table found) is ends };
 }
+
+-- the first table of a subproblem's lines, whose right sides are at least 0
+pub is_started : (t : Tables) (keeps : Domains) (rows : Rows) (first : List FracRow) → AreLinesOf t keeps rows → IsProblem rows → first ≡ first_table rows → IsStarted first rows.columns
+is_started t keeps rows first lines problem is = (rows, record { problem = problem; is = is; columns_in = refl; right_sides = sides_at_least t keeps lines.starts rows lines.lines })
+
+-- an end of a run without a budget is one of its outcomes
+pub last_outcome : (first : List FracRow) (columns : ℕ) (table : List FracRow) (e : End) → IsFinished first columns table e → IsOutcomeWithin first columns None table (outcome_of e)
+last_outcome first columns table (end.Best basis made) is = is
+last_outcome first columns table (end.NoPoint basis made) is = is
+last_outcome first columns table (end.Ray column) is = is
+last_outcome first columns table (end.Grew made row column) is = is
+
+-- after some pivots the run does this, with a budget or without
+module _ (first : List FracRow) (columns : ℕ) (table : List FracRow) where
+  turns_best : (pivots : Option ℕ) (basis : List ℕ) (made : ℕ) → IsOutcomeWithin first columns pivots table (outcome.Best basis made) → (k : ℕ) × TurnsAt first columns k table basis turns.Best
+  turns_best (Some budget) basis made ends = (made, ends.1)
+  turns_best None basis made ends = (ends.0, ends.2)
+
+  turns_no_point : (pivots : Option ℕ) (basis : List ℕ) (made : ℕ) → IsOutcomeWithin first columns pivots table (outcome.NoPoint basis made) → (k : ℕ) × TurnsAt first columns k table basis turns.NoPoint
+  turns_no_point (Some budget) basis made ends = (made, ends.1)
+  turns_no_point None basis made ends = (ends.0, ends.2)
+
+  turns_ray : (pivots : Option ℕ) (column : ℕ) → IsOutcomeWithin first columns pivots table (outcome.Ray column) → (k : ℕ) × (basis : List ℕ) × TurnsAt first columns k table basis (turns.Ray column)
+  turns_ray (Some budget) column ends = (ends.0, ends.1, ends.3)
+  turns_ray None column ends = (ends.0, ends.1, ends.2)
 
 -- the prices of a lift, by its clauses
 pub as_good : (t : Tables) (lifted : Result Lifted LiftError) → IfOk lifted (λ l. ArePricesOf t l.prices) → IfOk lifted (λ l. ArePrices t l.prices) → IfOk lifted (λ l. ArePricesInOrder t l.prices) → IfOk lifted (λ l. AreGood t l.prices)
@@ -47,7 +77,7 @@ as_good t (Ok l) known proper in_order = record { proper = proper; known = known
 as_good t (Err error) known proper in_order = tt
 
 -- the lift of the last table
-module _ (t : Tables) (keeps : Domains) (pivots : ℕ) (table : List FracRow) (basis : List ℕ) (made : ℕ) where
+module _ (t : Tables) (keeps : Domains) (pivots : Option ℕ) (table : List FracRow) (basis : List ℕ) (made : ℕ) where
   abbrev Relaxes : Result Relaxed NoMemory → Type 0
   Relaxes r = IfOk r (IsRelaxed t keeps pivots)
 
@@ -92,16 +122,18 @@ module _ (t : Tables) (keeps : Domains) (pivots : ℕ) (table : List FracRow) (b
   no_point_relaxed (Err lift.NoMemory) r has pairs prices refutes excess is = none_relaxes r is
 
 -- what a run has ended in, and what becomes of it
-module _ (t : Tables) (keeps : Domains) (pivots : ℕ) (table : List FracRow) (found : Outcome) (has : HasEnded t keeps pivots table found) where
+module _ (t : Tables) (keeps : Domains) (pivots : Option ℕ) (table : List FracRow) (found : Outcome) (has : HasEnded t keeps pivots table found) where
   pub ends_at_best : (basis slice : List ℕ) (made : ℕ) → found ≡ outcome.Best basis made → slice ≡ basis → Ends t keeps turns.Best table slice
   ends_at_best basis slice made e same =
       let run = subst (RunEnds t keeps pivots has.rows table) e has.run in
-      subst (Ends t keeps turns.Best table) (sym same) (record { rows = has.rows; lines = run.lines; made = made; turn = record { problem = has.problem; turns = run.ends.1 } })
+      let at = turns_best (first_table has.rows) has.rows.columns table pivots basis made run.ends in
+      subst (Ends t keeps turns.Best table) (sym same) (record { rows = has.rows; lines = run.lines; made = at.0; turn = record { problem = has.problem; turns = at.1 } })
 
   pub ends_at_no_point : (basis slice : List ℕ) (made : ℕ) → found ≡ outcome.NoPoint basis made → slice ≡ basis → Ends t keeps turns.NoPoint table slice
   ends_at_no_point basis slice made e same =
       let run = subst (RunEnds t keeps pivots has.rows table) e has.run in
-      subst (Ends t keeps turns.NoPoint table) (sym same) (record { rows = has.rows; lines = run.lines; made = made; turn = record { problem = has.problem; turns = run.ends.1 } })
+      let at = turns_no_point (first_table has.rows) has.rows.columns table pivots basis made run.ends in
+      subst (Ends t keeps turns.NoPoint table) (sym same) (record { rows = has.rows; lines = run.lines; made = at.0; turn = record { problem = has.problem; turns = at.1 } })
 
   -- no table of the run is a ray
   pub no_ray : (column : ℕ) → NoRays → found ≡ outcome.Ray column → ⊥
@@ -109,8 +141,8 @@ module _ (t : Tables) (keeps : Domains) (pivots : ℕ) (table : List FracRow) (f
     where
       by_ray : RunEnds t keeps pivots has.rows table (outcome.Ray column) → ⊥
       by_ray run =
-          let at = run.ends in
-          never t keeps table at.1 column (record { rows = has.rows; lines = run.lines; made = at.0; turn = record { problem = has.problem; turns = at.3 } })
+          let at = turns_ray (first_table has.rows) has.rows.columns table pivots column run.ends in
+          never t keeps table at.1 column (record { rows = has.rows; lines = run.lines; made = at.0; turn = record { problem = has.problem; turns = at.2 } })
 
   pub after_best : (lifted : Result Lifted LiftError) (basis slice : List ℕ) (made : ℕ) (r : Result Relaxed NoMemory) → found ≡ outcome.Best basis made → slice ≡ basis
       → IfOk lifted (λ l. AreGood t l.prices)

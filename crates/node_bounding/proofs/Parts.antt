@@ -26,7 +26,7 @@ use Rattle.node_bounding.proofs.Nodes.{all_more, all_one, node}
 use Rattle.node_bounding.proofs.StepsLeft.{fewer_with, fewer_without}
 
 -- a leaf
-pub leaf_part : (t : Tables) (pivots : ℕ) (final : Option ℤ) (keeps : Domains) (above : Prices) (leaf : Tree) → nodes_in keeps leaf ≡ node keeps leaf ∷ [] → depth_of leaf ≡ 0 → IsOfTables t leaf → InWrittenOrder t leaf
+pub leaf_part : (t : Tables) (pivots : Option ℕ) (final : Option ℤ) (keeps : Domains) (above : Prices) (leaf : Tree) → nodes_in keeps leaf ≡ node keeps leaf ∷ [] → depth_of leaf ≡ 0 → IsOfTables t leaf → InWrittenOrder t leaf
     → IsSound t final (node keeps leaf) → AnswersSole t final (node keeps leaf) → AreCaused t pivots keeps above leaf → IsPart t pivots final keeps above leaf
 leaf_part t pivots final keeps above leaf one flat known in_order sound answers caused = record {
   of_tables = known;
@@ -38,7 +38,7 @@ leaf_part t pivots final keeps above leaf one flat known in_order sound answers 
 }
 
 -- a split, of its two parts
-pub split_part : (t : Tables) (pivots : ℕ) (final : Option ℤ) (keeps : Domains) (above : Prices) (leg fleet : ℕ) (prices : Prices) (mixed : Mixed) (first second : Box Tree Global) → IsSplit t keeps leg fleet prices mixed
+pub split_part : (t : Tables) (pivots : Option ℕ) (final : Option ℤ) (keeps : Domains) (above : Prices) (leg fleet : ℕ) (prices : Prices) (mixed : Mixed) (first second : Box Tree Global) → IsSplit t keeps leg fleet prices mixed
     → IsPart t pivots final (part keeps leg fleet true) prices first.value → IsPart t pivots final (part keeps leg fleet false) prices second.value → IsPart t pivots final keeps above (Split leg fleet prices mixed first second)
 split_part t pivots final keeps above leg fleet prices mixed first second is with_pair without = record {
   of_tables = (is.pair, is.best.good.known, is.best.known, with_pair.of_tables, without.of_tables);
@@ -50,7 +50,7 @@ split_part t pivots final keeps above leg fleet prices mixed first second is wit
 }
 
 -- a trim whose part with the pair is refuted, of the other part
-module _ (t : Tables) (pivots : ℕ) (final : Option ℤ) (keeps : Domains) (above : Prices) (trim : Trimmed) (first second : Box Tree Global)
+module _ (t : Tables) (pivots : Option ℕ) (final : Option ℤ) (keeps : Domains) (above : Prices) (trim : Trimmed) (first second : Box Tree Global)
     (out : KeepLeftOut t keeps) (refuted : IsRefuted t keeps trim) (is : first.value ≡ tree.Refuted trim.reason)
     (without : IsPart t pivots final (part keeps trim.leg trim.choice false) above second.value) where
   abbrev whole : Tree

@@ -44,7 +44,7 @@ pub allowed_all : (t : Tables) → KeepAllowed t (all_pairs t)
 allowed_all t = record { each = λ p pair kept. kept }
 
 -- the tree of a subproblem, of that of the pairs that are kept after removals
-pub below_part : (t : Tables) (pivots : ℕ) (final : Option ℤ) (keeps : Domains) (above : Prices) (removals : List Removal) (rest whole : Tree) → KeepLeftOut t keeps → AreRefuted t keeps removals → AreBelow removals rest whole
+pub below_part : (t : Tables) (pivots : Option ℕ) (final : Option ℤ) (keeps : Domains) (above : Prices) (removals : List Removal) (rest whole : Tree) → KeepLeftOut t keeps → AreRefuted t keeps removals → AreBelow removals rest whole
     → IsPart t pivots final (kept_after keeps removals) above rest → IsPart t pivots final keeps above whole
 below_part t pivots final keeps above [] rest whole out refuted same is = subst (IsPart t pivots final keeps above) (sym same) is
 below_part t pivots final keeps above (removal ∷ removals) rest whole out refuted (inner, below, here) is =

@@ -1,5 +1,5 @@
 -- Why the leaves of a tree are open, and why its subproblems were split.
-use Rattle.std.specs.Prelude.{◌≡◌, ℕ, ◌<◌, ◌⊎◌, ⊤, true, false, [], pos, ◌<ℤ◌}
+use Rattle.std.specs.Prelude.{◌≡◌, ℕ, ◌<◌, ◌⊎◌, ⊤, true, false, [], Option, pos, ◌<ℤ◌}
 use Rattle.sums.specs.Places.{list_below}
 use Rattle.fleet_model.specs.Kept.{Domains, IsFirstBare}
 use Rattle.fleet_model.specs.Schedule.{choices_in, fleets_in, leg_on}
@@ -15,21 +15,21 @@ use Rattle.dual_bound.specs.declared.trees.Tree.TheVariants as tree
 use Rattle.dual_bound.specs.Fractions.{IsWholePair}
 use Rattle.node_bounding.specs.Runs.{IsSearched, IsTooLarge, OutgrowsRun, SpendsPivots}
 
--- why the run of a subproblem, with so many pivots allowed, gave no prices
-abbrev pub IsStopped : Tables → Domains → ℕ → Cause → Type 0
+-- why the run of a subproblem, with so many pivots allowed or with no budget, gave no prices; with none none are spent
+abbrev pub IsStopped : Tables → Domains → Option ℕ → Cause → Type 0
 IsStopped t keeps pivots (cause.Pivots made) = SpendsPivots t keeps pivots made
 IsStopped t keeps pivots (cause.Grew made row column) = OutgrowsRun t keeps pivots made row column
 IsStopped t keeps pivots (cause.Lift step at) = IsTooLarge t keeps pivots step at
 IsStopped t keeps pivots (cause.Nodes mixed) = ⊥
 
 -- a leaf stays open without prices of its own, and takes the nearest above
-pub record IsLeftOpen (t : Tables) (keeps : Domains) (pivots : ℕ) (above prices : Prices) (why : Cause) : Type 0 where
+pub record IsLeftOpen (t : Tables) (keeps : Domains) (pivots : Option ℕ) (above prices : Prices) (why : Cause) : Type 0 where
   pub searched : IsSearched t keeps
   pub stopped : IsStopped t keeps pivots why
   pub nearest : prices ≡ above
 
 -- why a leaf is open; the rules of the tree say the rest of one that has a fractional assignment
-abbrev pub IsOpenBy : Tables → Domains → ℕ → Prices → Prices → Cause → Type 0
+abbrev pub IsOpenBy : Tables → Domains → Option ℕ → Prices → Prices → Cause → Type 0
 IsOpenBy t keeps pivots above prices (cause.Nodes mixed) = ⊤
 IsOpenBy t keeps pivots above prices (cause.Pivots made) = IsLeftOpen t keeps pivots above prices (cause.Pivots made)
 IsOpenBy t keeps pivots above prices (cause.Grew made row column) = IsLeftOpen t keeps pivots above prices (cause.Grew made row column)
@@ -45,9 +45,9 @@ pub record IsFirstPartial (t : Tables) (mixed : Mixed) (leg choice : ℕ) : Type
   pub not_all : weight_in mixed (leg_on leg choice) <ℤ mixed.scale
   pub first : (l c : ℕ) → c < choices_in t l → ComesBefore l c leg choice → IsWholePair mixed l c
 
--- The cause of each leaf and each split of a part of a tree, with so many pivots allowed for each subproblem; `above`
+-- The cause of each leaf and each split of a part of a tree, with so many pivots allowed for each subproblem, or with no budget; `above`
 -- are the prices of the nearest split.
-abbrev pub AreCaused : Tables → ℕ → Domains → Prices → Tree → Type 0
+abbrev pub AreCaused : Tables → Option ℕ → Domains → Prices → Tree → Type 0
 AreCaused t pivots keeps above (tree.Bare leg) = IsFirstBare t keeps leg
 AreCaused t pivots keeps above tree.Sole = ⊤
 AreCaused t pivots keeps above (tree.Refuted prices) = ⊤

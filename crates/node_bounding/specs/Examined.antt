@@ -48,7 +48,7 @@ IsFoundHere t keeps node best = IsSomeAnd best (λ plan. IsEndOf t plan.assignme
 
 -- A subproblem was made, with so many pivots allowed, whose nearest split above has these prices. Before and after it
 -- this is the cheapest plan, which another one replaces only where it is strictly cheaper.
-pub record IsExamined (t : Tables) (pivots : ℕ) (before after : Option Plan) (keeps : Domains) (above : Prices) (made : State) : Type 0 where
+pub record IsExamined (t : Tables) (pivots : Option ℕ) (before after : Option Plan) (keeps : Domains) (above : Prices) (made : State) : Type 0 where
   pub found : Option ℤ
   pub fresh : IsFresh made
   pub plan : IfSome after (IsPlan t)
@@ -61,7 +61,7 @@ pub record IsExamined (t : Tables) (pivots : ℕ) (before after : Option Plan) (
 -- The same of a subproblem whose best fractional assignment is known, and prices that are worth as much: for any pivots,
 -- whatever the prices above.
 abbrev pub IsBounded : Tables → Option Plan → Option Plan → Domains → State → Type 0
-IsBounded t before after keeps made = (pivots : ℕ) (above : Prices) → IsExamined t pivots before after keeps above made
+IsBounded t before after keeps made = (pivots : Option ℕ) (above : Prices) → IsExamined t pivots before after keeps above made
 
 -- a legal assignment of kept pairs that costs what prices are worth was offered
 pub record IsWholeOffered (t : Tables) (keeps : Domains) (prices : Prices) (before after : Option Plan) : Type 0 where

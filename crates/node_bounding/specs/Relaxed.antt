@@ -1,5 +1,5 @@
 -- What the linear relaxation of a subproblem comes to.
-use Rattle.std.specs.Prelude.{◌≡◌, ℕ, IsSomeAnd, Result, Ok, Err, IsOkAnd, IsErr, pos, ◌<ℤ◌, ⊤}
+use Rattle.std.specs.Prelude.{◌≡◌, ℕ, Option, IsSomeAnd, Result, Ok, Err, IsOkAnd, IsErr, pos, ◌<ℤ◌, ⊤}
 use Rattle.entries.specs.declared.memory.NoMemory.{NoMemory}
 use Rattle.fleet_model.specs.Kept.{Domains}
 use Rattle.fleet_model.specs.declared.tables.Tables.{Tables}
@@ -41,13 +41,13 @@ pub record AreBest (t : Tables) (keeps : Domains) (prices : Prices) (mixed : Mix
   pub value : IsWorth t keeps prices mixed
 
 -- why there are no prices, in counts that 64 bits hold
-pub record IsWhyStopped (t : Tables) (keeps : Domains) (pivots : ℕ) (why : Cause) : Type 0 where
+pub record IsWhyStopped (t : Tables) (keeps : Domains) (pivots : Option ℕ) (why : Cause) : Type 0 where
   pub stopped : IsStopped t keeps pivots why
   pub in_order : IsCauseInOrder t why
 
 -- prices that refute the subproblem; or its best fractional assignment, with prices that are worth as much; or why there is
 -- neither
-abbrev pub IsRelaxed : Tables → Domains → ℕ → Relaxed → Type 0
+abbrev pub IsRelaxed : Tables → Domains → Option ℕ → Relaxed → Type 0
 IsRelaxed t keeps pivots (relaxed.Refuted prices) = AreRefuting t keeps prices
 IsRelaxed t keeps pivots (relaxed.Bounded prices mixed) = AreBest t keeps prices mixed
 IsRelaxed t keeps pivots (relaxed.Stopped why) = IsWhyStopped t keeps pivots why

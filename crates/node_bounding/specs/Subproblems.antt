@@ -58,7 +58,7 @@ pub record IsFractional (t : Tables) (keeps : Domains) (f : Fraction) : Type 0 w
 
 -- the tree of a part of a search, over the pairs that its subproblem keeps, where the plan in the end has this cost;
 -- `above` are the prices of the nearest split
-pub record IsPart (t : Tables) (pivots : ℕ) (final : Option ℤ) (keeps : Domains) (above : Prices) (tree : Tree) : Type 0 where
+pub record IsPart (t : Tables) (pivots : Option ℕ) (final : Option ℤ) (keeps : Domains) (above : Prices) (tree : Tree) : Type 0 where
   pub of_tables : IsOfTables t tree
   pub in_order : InWrittenOrder t tree
   pub shallow : depth_of tree ≤ steps_left t keeps
@@ -67,7 +67,7 @@ pub record IsPart (t : Tables) (pivots : ℕ) (final : Option ℤ) (keeps : Doma
   pub caused : AreCaused t pivots keeps above tree
 
 -- what is known of a subproblem
-abbrev pub IsRight : Tables → ℕ → Option ℤ → Domains → Prices → State → Type 0
+abbrev pub IsRight : Tables → Option ℕ → Option ℤ → Domains → Prices → State → Type 0
 IsRight t pivots final keeps above (state.Leaf leaf) = IsPart t pivots final keeps above leaf × AreSearched t keeps leaf
 IsRight t pivots final keeps above (state.Waiting f) = IsFractional t keeps f
 IsRight t pivots final keeps above (state.Split f) = IsFractional t keeps f

@@ -25,13 +25,14 @@ use fleet_model::{Kept, Pair, Tables};
 use frac_row::ceil_div;
 use std::alloc::Global;
 
-/// Examines a subproblem, whose nearest split above has these prices, with at most so many pivots. A plan that is found
+/// Examines a subproblem, whose nearest split above has these prices, with at most so many pivots or no budget of
+/// them. A plan that is found
 /// at it takes the place of the best one where it is cheaper, and where memory is wanting the best one is as it was. A
 /// subproblem with a bare leg, or with one assignment, takes no memory.
 pub fn examine(
     alloc: Global,
     tables: &Tables,
-    pivots: u64,
+    pivots: Option<u64>,
     best: &mut Option<Plan>,
     kept: &Kept,
     above: &Prices,

@@ -1,8 +1,10 @@
 //! The linear relaxation of a subproblem.
-ghost use Rattle.std.specs.Prelude.{◌≡◌, ℕ, IfOk, IsSome};
+ghost use Rattle.std.specs.Prelude.{◌≡◌, ℕ, Option, IfOk, IsSome};
 ghost use Rattle.fleet_model.specs.Kept.{IsBare, kept_by};
 ghost use Rattle.node_bounding.specs.Relaxed.{IsAtBest, IsAtNoPoint, IsRelaxed, IsTold};
-ghost use Rattle.node_bounding.specs.Runs.{HasEnded};
+ghost use Rattle.node_bounding.specs.Runs.{HasEnded, IsOutcomeWithin};
+ghost use Rattle.row_store.specs.Table.{HasColumns};
+ghost use Rattle.simplex_frac.specs.Finished.{IsStarted};
 
 use crate::second_run::second_run;
 use dual_bound::{Cause, Mixed, Prices};
@@ -11,9 +13,12 @@ use fleet_model::{Kept, Tables};
 use lp_rows::rows;
 use price_lift::{LiftError, Lifted, lift_best, lift_refusal};
 use row_store::RowStore;
-use simplex_frac::{Outcome, solve};
+use simplex_frac::{Outcome, finish, solve};
 use sparse_store::Sparse;
 use std::alloc::Global;
+
+/// How many steps the second run may take after its start where the prescribed run has no budget: nothing says that it ends.
+const SECOND_STEPS: u64 = 1_000_000;
 
 /// What the linear relaxation of a subproblem comes to.
 #[derive(Debug, Drop)]
@@ -26,19 +31,20 @@ pub(crate) enum Relaxed {
     Stopped(Cause),
 }
 
-/// Solves the linear relaxation of a subproblem, with at most so many pivots in each of two runs. The second one is a hint
-/// that is checked, and is tried first, since it is mostly the sooner one; where it settles nothing, the prescribed run
-/// decides, from the first table on. So why a subproblem is left open is told by the prescribed run alone.
+/// Solves the linear relaxation of a subproblem, with at most so many pivots in each of two runs, or with no budget
+/// for the prescribed one. The second one is a hint that is checked, and is tried first, since it is mostly the sooner one;
+/// where it settles nothing, the prescribed run decides, from the first table on. So why a subproblem is left open is told by
+/// the prescribed run alone.
 pub(crate) fn relax(
     alloc: Global,
     tables: &Tables,
     kept: &Kept,
-    pivots: u64,
+    pivots: Option<u64>,
 ) -> Result<Relaxed, NoMemory>
     requires { (leg : ℕ) → ¬ (IsBare tables.now (kept_by kept.now) leg) }
     ensures { IfOk result (IsRelaxed tables.now (kept_by kept.now) pivots) }
 {
-    match second_run(alloc, tables, kept, pivots)? {
+    match second_run(alloc, tables, kept, pivots.unwrap_or(SECOND_STEPS))? {
         Some(settled) => Ok(settled),
         None => prescribed_run::<Sparse>(alloc, tables, kept, pivots),
     }
@@ -49,7 +55,7 @@ fn prescribed_run<R: RowStore + Drop>(
     alloc: Global,
     tables: &Tables,
     kept: &Kept,
-    pivots: u64,
+    pivots: Option<u64>,
 ) -> Result<Relaxed, NoMemory>
     requires { (leg : ℕ) → ¬ (IsBare tables.now (kept_by kept.now) leg) }
     ensures { IfOk result (IsRelaxed tables.now (kept_by kept.now) pivots) }
@@ -58,8 +64,25 @@ fn prescribed_run<R: RowStore + Drop>(
     let columns = rows.columns;
     let mut table = R::start(alloc, &rows)?;
     drop(rows);
-    let outcome = solve(alloc, &mut table, columns, pivots)?;
+    let outcome = run_within(alloc, &mut table, columns, pivots)?;
     ended(alloc, &table, outcome, tables, kept)
+}
+
+/// Runs the simplex method from a first table, with at most so many pivots, or with no budget.
+fn run_within<R: RowStore>(
+    alloc: Global,
+    store: &mut R,
+    columns: u32,
+    pivots: Option<u64>,
+) -> Result<Outcome, NoMemory>
+    requires shape { HasColumns (R.content store.old) columns }
+    requires started { IsStarted (R.content store.old) columns }
+    ensures { IfOk result (IsOutcomeWithin (R.content store.old) columns pivots (R.content store.new)) }
+{
+    match pivots {
+        Some(budget) => solve(alloc, store, columns, budget),
+        None => Ok(Outcome::from(finish(alloc, store, columns)?)),
+    }
 }
 
 // What the end of a run comes to.
@@ -71,8 +94,8 @@ fn ended<R: RowStore>(
     kept: &Kept,
 ) -> Result<Relaxed, NoMemory>
     requires pairs { (leg : ℕ) → ¬ (IsBare tables.now (kept_by kept.now) leg) }
-    requires ended { (pivots : ℕ) × HasEnded tables.now (kept_by kept.now) pivots (R.content table.now) outcome }
-    ensures relaxed { (pivots : ℕ) → HasEnded tables.now (kept_by kept.now) pivots (R.content table.now) outcome → IfOk result (IsRelaxed tables.now (kept_by kept.now) pivots) }
+    requires ended { (pivots : Option ℕ) × HasEnded tables.now (kept_by kept.now) pivots (R.content table.now) outcome }
+    ensures relaxed { (pivots : Option ℕ) → HasEnded tables.now (kept_by kept.now) pivots (R.content table.now) outcome → IfOk result (IsRelaxed tables.now (kept_by kept.now) pivots) }
     ensures told { IsTold outcome result }
 {
     match outcome {

@@ -1,7 +1,7 @@
 -- What words ask for, computed by clap's definition.
 use Rattle.std.proofs.Common.{refl}
 use Rattle.clap.proofs.OnLiterals.{clap_on_literals}
-use Rattle.plain_words.specs.Plain.{AsksByDefault, AsksFrom, ChecksByDefault, ChecksFrom, JudgesByDefault, JudgesFrom, MakesByDefault, MakesWithoutOptions, SolvesByDefault, SolvesWithin, TailsByDefault, TailsWithin}
+use Rattle.plain_words.specs.Plain.{AsksByDefault, AsksFrom, ChecksByDefault, ChecksFrom, JudgesByDefault, JudgesFrom, MakesByDefault, MakesWithoutOptions, SolvesByDefault, SolvesWithin, SolvesWithoutBudget, TailsByDefault, TailsWithin}
 use Rattle.command_line.specs.Found.{found}
 use Rattle.command_line.specs.Program.{our_app}
 use Rattle.command_words.specs.Words.{asked}
@@ -21,6 +21,10 @@ solves_by_default program dir = refl
 pub solves_within : SolvesWithin
 unfolding asked found our_app clap_on_literals
 solves_within program time period wait days visits nodes pivots dir = refl
+
+pub solves_without_budget : SolvesWithoutBudget
+unfolding asked found our_app clap_on_literals
+solves_without_budget program pivots dir = refl
 
 pub checks_by_default : ChecksByDefault
 unfolding asked found our_app clap_on_literals
@@ -52,6 +56,7 @@ makes_without_options = record {
   visits = λ program text dir number legs. refl;
   nodes = λ program text dir number legs. refl;
   pivots = λ program text dir number legs. refl;
+  all_pivots = λ program dir number legs. refl;
   json = λ program dir number legs. refl;
 }
 

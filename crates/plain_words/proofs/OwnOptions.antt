@@ -170,3 +170,15 @@ json_without_value program text before after no_dashes =
     (reaches (built_command solve_app) GoesOn before ((codes "--json=" ++ text) ∷ after) (walk_from nothing_held)
     (λ w one other. stays_on (built_command solve_app).rules w one solve_has.untrailed other) no_dashes
     (record { no_dashes = refl; on = refl }) (λ w goes. word_refused (built_command solve_app) w (codes "--json=" ++ text) after refl goes (json_fails text w.held)))
+
+all_pivots_fails : (text : Text) (h : Held) → Fails (flag_word_fault (built_command solve_app).rules (built_command solve_app).args_override_self
+    (long_of (codes "--all-pivots=" ++ text)) (codes "--all-pivots=" ++ text) h)
+unfolding our_app clap_on_literals
+all_pivots_fails text h = tt
+
+pub all_pivots_without_value : TakesNoValue (codes "solve") (codes "all-pivots")
+all_pivots_without_value program text before after no_dashes =
+    fails_within (codes "solve") (built_command solve_app) program (before ++ (codes "--all-pivots=" ++ text) ∷ after) solve_entered
+    (reaches (built_command solve_app) GoesOn before ((codes "--all-pivots=" ++ text) ∷ after) (walk_from nothing_held)
+    (λ w one other. stays_on (built_command solve_app).rules w one solve_has.untrailed other) no_dashes
+    (record { no_dashes = refl; on = refl }) (λ w goes. word_refused (built_command solve_app) w (codes "--all-pivots=" ++ text) after refl goes (all_pivots_fails text w.held)))

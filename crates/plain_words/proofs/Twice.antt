@@ -168,10 +168,15 @@ json_is : IsFlag (built_command solve_app) (codes "json")
 unfolding our_app clap_on_literals
 json_is = record { found = refl; reads = refl; no_dashes = refl; once = refl }
 
-json_once : TakesFlagOnce (codes "solve") (codes "json")
-json_once program before between after none_before none_between =
-    let gives : Gives (built_command solve_app) (codes "json") (flag_word (codes "json")) = flag_gives (built_command solve_app) (codes "json") json_is in
-    given_twice (codes "solve") (built_command solve_app) (codes "json") (flag_word (codes "json")) (flag_word (codes "json")) program before between after solve_entered
+all_pivots_is : IsFlag (built_command solve_app) (codes "all-pivots")
+unfolding our_app clap_on_literals
+all_pivots_is = record { found = refl; reads = refl; no_dashes = refl; once = refl }
+
+-- a flag of solving
+flag_once : (name : Text) → IsFlag (built_command solve_app) name → TakesFlagOnce (codes "solve") name
+flag_once name is program before between after none_before none_between =
+    let gives : Gives (built_command solve_app) name (flag_word name) = flag_gives (built_command solve_app) name is in
+    given_twice (codes "solve") (built_command solve_app) name (flag_word name) (flag_word name) program before between after solve_entered
     solve_has.untrailed gives gives none_before none_between
 
 pub options_once : TakeOptionsOnce
@@ -181,5 +186,6 @@ options_once = record {
   check = takes_each_once (codes "check") (built_command check_app) table_options check_entered check_has;
   tails = takes_each_once (codes "tails") (built_command tails_app) tails_options tails_entered tails_has;
   whatif = takes_each_once (codes "whatif") (built_command whatif_app) table_options whatif_entered whatif_has;
-  json = json_once;
+  json = flag_once (codes "json") json_is;
+  all_pivots = flag_once (codes "all-pivots") all_pivots_is;
 }

@@ -9,7 +9,7 @@ use Rattle.command_words.specs.Values.{minute_read, number_read}
 use Rattle.command_words.specs.Words.{asked, check_at, judge_at, make_at, solve_at, tails_at, whatif_at}
 use Rattle.command_words.specs.declared.command.RotationLimits.{RotationLimits}
 use Rattle.command_words.specs.declared.command.SolveOptions.{SolveOptions}
-use Rattle.command_words.specs.declared.command.TheConstants.{DEFAULT_OPTIONS, DEFAULT_READING, DEFAULT_THROUGH_MAX, MAX_DAYS, MAX_NODES, MAX_PERIOD, MAX_PIVOTS, MAX_THROUGH_MAX, MAX_VISITS, MIN_DAYS, MIN_PERIOD}
+use Rattle.command_words.specs.declared.command.TheConstants.{DEFAULT_NODES, DEFAULT_OPTIONS, DEFAULT_READING, DEFAULT_THROUGH_MAX, MAX_DAYS, MAX_NODES, MAX_PERIOD, MAX_PIVOTS, MAX_THROUGH_MAX, MAX_VISITS, MIN_DAYS, MIN_PERIOD}
 
 -- nothing follows
 abbrev pub is_alone : Text → Bool
@@ -102,7 +102,13 @@ SolvesWithin = (program time period wait days visits nodes pivots dir : Text)
     → asked (program ∷ codes "solve" ∷ (codes "--day-start=" ++ time) ∷ (codes "--period=" ++ period) ∷ (codes "--through-max=" ++ wait) ∷ (codes "--days=" ++ days)
     ∷ (codes "--visits=" ++ visits) ∷ (codes "--nodes=" ++ nodes) ∷ (codes "--pivots=" ++ pivots) ∷ codes "--json" ∷ codes "--" ∷ dir ∷ [])
     ≡ solve_at (reading_with time period wait)
-    (options_at (search_at (number_read 0 MAX_NODES nodes) (number_read 0 MAX_PIVOTS pivots)) (rotations_with days visits) true) dir
+    (options_at (search_at (number_read 0 MAX_NODES nodes) (number_read 0 MAX_PIVOTS pivots) false) (rotations_with days visits) true) dir
+
+-- solve --pivots=P --all-pivots -- DIR
+abbrev pub SolvesWithoutBudget : Type 0
+SolvesWithoutBudget = (program pivots dir : Text)
+    → asked (program ∷ codes "solve" ∷ (codes "--pivots=" ++ pivots) ∷ codes "--all-pivots" ∷ codes "--" ∷ dir ∷ [])
+    ≡ solve_at default_reading (options_at (search_at (Some DEFAULT_NODES) (number_read 0 MAX_PIVOTS pivots) true) default_rotations false) dir
 
 -- check -- DIR
 abbrev pub ChecksByDefault : Type 0
@@ -143,7 +149,7 @@ AsksFrom = (program time period dir fleet count : Text)
     → asked (program ∷ codes "whatif" ∷ (codes "--day-start=" ++ time) ∷ (codes "--period=" ++ period) ∷ codes "--" ∷ dir ∷ fleet ∷ count ∷ [])
     ≡ whatif_at (reading_from time period) (Some fleet) (aircraft_read count) dir
 
--- make takes none of the other commands' options: --day-start=HH:MM, --period=P, --through-max=M, --days=D, --visits=V, --nodes=N, --pivots=P
+-- make takes none of the other commands' options: --day-start=HH:MM, --period=P, --through-max=M, --days=D, --visits=V, --nodes=N, --pivots=P, --all-pivots, --json
 abbrev pub MakesWithoutOption : Text → Type 0
 MakesWithoutOption option = (program text dir number legs : Text)
     → asked (program ∷ codes "make" ∷ (option ++ text) ∷ codes "--" ∷ dir ∷ number ∷ legs ∷ []) ≡ None
@@ -156,4 +162,5 @@ pub record MakesWithoutOptions : Type 0 where
   pub visits : MakesWithoutOption (codes "--visits=")
   pub nodes : MakesWithoutOption (codes "--nodes=")
   pub pivots : MakesWithoutOption (codes "--pivots=")
+  pub all_pivots : (program dir number legs : Text) → asked (program ∷ codes "make" ∷ codes "--all-pivots" ∷ codes "--" ∷ dir ∷ number ∷ legs ∷ []) ≡ None
   pub json : (program dir number legs : Text) → asked (program ∷ codes "make" ∷ codes "--json" ∷ codes "--" ∷ dir ∷ number ∷ legs ∷ []) ≡ None

@@ -88,7 +88,7 @@ abbrev pub solve_options : List Text
 solve_options = table_options ++ rotation_options ++ search_options
 
 abbrev pub solve_flags : List Text
-solve_flags = codes "json" ∷ []
+solve_flags = codes "json" ∷ codes "all-pivots" ∷ []
 
 -- each command takes its own options alone, so it refuses those of the others, `--help`, and what is misspelt
 pub record TakeOwnOptions : Type 0 where
@@ -107,3 +107,4 @@ pub record TakeOptionsOnce : Type 0 where
   pub tails : TakesEachOnce (codes "tails") tails_options
   pub whatif : TakesEachOnce (codes "whatif") table_options
   pub json : TakesFlagOnce (codes "solve") (codes "json")
+  pub all_pivots : TakesFlagOnce (codes "solve") (codes "all-pivots")

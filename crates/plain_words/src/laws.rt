@@ -1,6 +1,6 @@
 //! The laws of words: each contract is the statement, and the functions do nothing.
 ghost use Rattle.std.specs.Prelude.{codes};
-ghost use Rattle.plain_words.specs.Plain.{AsksByDefault, AsksFrom, AsksPlainly, ChecksByDefault, ChecksFrom, ChecksPlainly, JudgesByDefault, JudgesFrom, JudgesPlainly, MakesByDefault, MakesPlainly, MakesWithoutOptions, SolvesByDefault, SolvesPlainly, SolvesWithin, TailsByDefault, TailsPlainly, TailsWithin};
+ghost use Rattle.plain_words.specs.Plain.{AsksByDefault, AsksFrom, AsksPlainly, ChecksByDefault, ChecksFrom, ChecksPlainly, JudgesByDefault, JudgesFrom, JudgesPlainly, MakesByDefault, MakesPlainly, MakesWithoutOptions, SolvesByDefault, SolvesPlainly, SolvesWithin, SolvesWithoutBudget, TailsByDefault, TailsPlainly, TailsWithin};
 ghost use Rattle.plain_words.specs.Refusals.{NameAloneAsksNothing, NoWordsAskNothing, OtherWordsAskNothing, TakeOptionsOnce, TakeOwnOptions, TakesNoValue};
 
 /// What the definition of a match comes to, for words that don't begin with a dash, or are a dash alone; for
@@ -16,6 +16,7 @@ pub fn plain_reading()
     ensures judges_from { JudgesFrom }
     ensures solves_by_default { SolvesByDefault }
     ensures solves_within { SolvesWithin }
+    ensures solves_without_budget { SolvesWithoutBudget }
     ensures checks_by_default { ChecksByDefault }
     ensures checks_from { ChecksFrom }
     ensures tails_by_default { TailsByDefault }
@@ -27,7 +28,7 @@ pub fn plain_reading()
 {}
 
 /// What asks for nothing, whatever other words stand there: no command, another option than the command's own, one
-/// that is given twice, and a value for `--json`.
+/// that is given twice, and a value for `--json` or `--all-pivots`.
 pub fn plain_refusals()
     ensures no_words { NoWordsAskNothing }
     ensures name_alone { NameAloneAsksNothing }
@@ -35,4 +36,5 @@ pub fn plain_refusals()
     ensures own_options { TakeOwnOptions }
     ensures options_once { TakeOptionsOnce }
     ensures json_without_value { TakesNoValue (codes "solve") (codes "json") }
+    ensures all_pivots_without_value { TakesNoValue (codes "solve") (codes "all-pivots") }
 {}

@@ -1,4 +1,4 @@
-use Rattle.plain_words.proofs.AfterDashes.{asks_by_default, asks_from, checks_by_default, checks_from, judges_by_default, judges_from, makes_by_default, makes_without_options, solves_by_default, solves_within, tails_by_default, tails_within}
+use Rattle.plain_words.proofs.AfterDashes.{asks_by_default, asks_from, checks_by_default, checks_from, judges_by_default, judges_from, makes_by_default, makes_without_options, solves_by_default, solves_within, solves_without_budget, tails_by_default, tails_within}
 use Rattle.plain_words.proofs.PlainFolder.{checks_plainly, judges_plainly, solves_plainly}
 use Rattle.plain_words.proofs.PlainMake.{makes_plainly}
 use Rattle.plain_words.proofs.PlainTails.{tails_plainly}
@@ -18,6 +18,7 @@ returns c = record {
   judges_from = judges_from;
   solves_by_default = solves_by_default;
   solves_within = solves_within;
+  solves_without_budget = solves_without_budget;
   checks_by_default = checks_by_default;
   checks_from = checks_from;
   tails_by_default = tails_by_default;

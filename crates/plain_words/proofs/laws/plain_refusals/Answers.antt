@@ -1,5 +1,5 @@
 use Rattle.plain_words.proofs.OtherWords.{name_alone, no_words, other_words}
-use Rattle.plain_words.proofs.OwnOptions.{json_without_value, own_options}
+use Rattle.plain_words.proofs.OwnOptions.{all_pivots_without_value, json_without_value, own_options}
 use Rattle.plain_words.proofs.Twice.{options_once}
 use Rattle.plain_words.proofs.laws.plain_refusals.Goals as goal
 
@@ -11,4 +11,5 @@ returns c = record {
   own_options = own_options;
   options_once = options_once;
   json_without_value = json_without_value;
+  all_pivots_without_value = all_pivots_without_value;
 }

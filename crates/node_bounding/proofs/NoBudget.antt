@@ -1,0 +1,34 @@
+-- Without a budget of pivots no leaf is open for them.
+use Rattle.std.proofs.Common.{◌≡◌, ◌+◌, ℕ, true, false, None, refl, arith}
+use Rattle.dual_bound.specs.Bound.{part}
+use Rattle.dual_bound.specs.Leaves.{by_pivots, open_pivots}
+use Rattle.dual_bound.specs.declared.prices.Prices.{Prices}
+use Rattle.dual_bound.specs.declared.trees.Cause.{Cause}
+use Rattle.dual_bound.specs.declared.trees.Cause.TheVariants as cause
+use Rattle.dual_bound.specs.declared.trees.Tree.{Tree}
+use Rattle.dual_bound.specs.declared.trees.Tree.TheVariants as tree
+use Rattle.fleet_model.specs.Kept.{Domains}
+use Rattle.fleet_model.specs.declared.tables.Tables.{Tables}
+use Rattle.node_bounding.specs.Causes.{AreCaused, IsOpenBy}
+
+module _ (t : Tables) where
+  never_spent : (keeps : Domains) (above prices : Prices) (why : Cause) → IsOpenBy t keeps None above prices why → by_pivots why ≡ 0
+  never_spent keeps above prices (cause.Nodes mixed) is = refl
+  never_spent keeps above prices (cause.Pivots made) is = absurd is.stopped.run.ends
+  never_spent keeps above prices (cause.Grew made row column) is = refl
+  never_spent keeps above prices (cause.Lift step at) is = refl
+
+  pub none_spent : (keeps : Domains) (above : Prices) (whole : Tree) → AreCaused t None keeps above whole → open_pivots whole ≡ 0
+  none_spent keeps above (tree.Bare leg) is = refl
+  none_spent keeps above tree.Sole is = refl
+  none_spent keeps above (tree.Refuted prices) is = refl
+  none_spent keeps above (tree.Priced prices) is = refl
+  none_spent keeps above (tree.Open prices why) is = never_spent keeps above prices why is
+  none_spent keeps above (tree.Trim' leg fleet p with_pair q without) is =
+      let first = none_spent (part keeps leg fleet true) above with_pair is.0 in
+      let second = none_spent (part keeps leg fleet false) above without is.1 in
+      omega (arith, first, second)
+  none_spent keeps above (tree.Split' leg fleet prices mixed p with_pair q without) is =
+      let first = none_spent (part keeps leg fleet true) prices with_pair is.1 in
+      let second = none_spent (part keeps leg fleet false) prices without is.2 in
+      omega (arith, first, second)
