@@ -25,7 +25,7 @@ def explain(hint, command, call, program):
     if counts["nodes"]:
         told.append(f"{counted(counts['nodes'], 'subproblem')} stayed open since the search might split no more (--nodes)")
     if counts["pivots"]:
-        told.append(f"{counted(counts['pivots'], 'subproblem')} stayed open since it might take no more pivots (--all-pivots lets it)")
+        told.append(f"{counted(counts['pivots'], 'subproblem')} stayed open since it might take no more pivots (--pivots, or --all-pivots)")
     if counts["grew"]:
         why = "an exact number outgrew its limit, and no option helps there"
         told.append(f"{counted(counts['grew'], 'subproblem')} stayed open since {why}")
