@@ -87,7 +87,7 @@ class Run:
 
     def done(self):
         """Returns of each output that stands there which file it is, and its time."""
-        outputs = [it for name in ("tables", "solved", "check.json", "drawn") for it in self.folder.glob(f"scenarios/*/{name}")]
+        outputs = [it for name in ("tables", "solved", "check.json", "sizes.json", "drawn") for it in self.folder.glob(f"scenarios/*/{name}")]
         return {it: (it.stat().st_ino, (it / ".snakemake_timestamp" if it.is_dir() else it).stat().st_mtime_ns) for it in finished(outputs)}
 
     def wait_until_done(self, number, engine, output="check.json"):
@@ -130,6 +130,7 @@ def without_engine(run):
             ["tables", BUILT, place / "tables", *limits, str(it.period), *it.files(base), *it.changes],
             ["solve", BUILT, place / "solved", *limits, "0", place / "tables", *it.words],
             ["check", BUILT, place / "check.json", *limits, "0", place / "solved"],
+            ["sizes", BUILT, place / "sizes.json", *limits, "0", place / "solved"],
             ["draw", place / "drawn", place / "solved", name],
         ):
             subprocess.run([*step, *words], stdin=subprocess.DEVNULL, check=True)

@@ -6,7 +6,7 @@ import subprocess
 import tempfile
 
 # What the program ends with where it answers; all else is a fault of the machine, which another try may not meet.
-ANSWERS = (0, 2, 3, 4, 5, 6, 9)
+ANSWERS = (0, 2, 3, 4, 5, 6, 9, 11)
 WHY = {7: "a file couldn't be read or written", 8: "memory ran out", 152: "the time ran out"}
 # Limits hold for the program alone, and no process of ours.
 WITHIN = 'ulimit -S -v "$1" && ulimit -S -t "$2" && shift 2 && exec "$@"'

@@ -9,9 +9,11 @@ from collections import Counter
 
 from steps import whole
 from steps.page import page
+from steps.sizes import CHANGES, bound_in
 from steps.solving import ANSWER, read_json, sums_of
 
 CHECK = "check.json"
+SIZES = "sizes.json"
 UNSOLVED, UNPROVED, REFUSED = "NOT SOLVED", "NOT PROVED", "refused"
 RULE = "*" * 78
 MOST_TOLD = 20
@@ -19,11 +21,13 @@ MOST_TOLD = 20
 
 class Row:
     """A scenario in the summary: `outcome`; `solved`, what `solve` answered, where its proof holds; `told`, what else is said of it;
-    `check`, what the check said; seconds of the processor and the most memory in kB, None where it wasn't solved."""
+    `check`, what the check said; `asked`, what the proof says of other numbers of aircraft, fleet by fleet; seconds of the
+    processor and the most memory in kB, None where it wasn't solved."""
 
     def __init__(self, name, outcome, told="", check="", solved=None):
         self.name, self.outcome, self.told, self.check, self.solved = name, outcome, told, check, solved
         self.seconds = self.memory = None
+        self.asked = {}
 
     @property
     def is_sound(self):
@@ -66,6 +70,9 @@ def row_of(name, folder):
         wrong = wrong_with(answer["solved"], check, solved)
         said = check.get("told", "")
         row = Row(name, UNPROVED, wrong, said) if wrong else Row(name, answer["solved"]["outcome"], "", said, answer["solved"])
+    sizes = os.path.join(folder, SIZES)
+    if row.solved and os.path.exists(sizes):
+        row.asked = dict(read_json(sizes).get("asked", []))
     row.seconds = answer["seconds"] + check.get("seconds", 0)
     row.memory = max(answer["memory"], check.get("memory", 0))
     return row
@@ -100,14 +107,17 @@ def claim(solved):
 def text_of(rows):
     """Returns the summary as a table."""
     fleets = list(dict.fromkeys(fleet for it in rows for fleet in it.used))
-    head = ["scenario", "outcome", "cost", "bound", "gap", "splits", *(f"used {it}" for it in fleets), "rotations", "check", "told"]
+    asked = [(change, fleet) for fleet in dict.fromkeys(fleet for it in rows for fleet in it.asked) for change in CHANGES]
+    head = ["scenario", "outcome", "cost", "bound", "gap", "splits", *(f"used {it}" for it in fleets)]
+    head += [*(f"one {change} {fleet}" for change, fleet in asked), "rotations", "check", "told"]
     text = io.StringIO()
     out = csv.writer(text, lineterminator="\n")
     out.writerow([*head, "seconds", "memory MB"])
     for it in rows:
         numbers = [it.cost, it.bound, it.gap, it.solved["splits"] if it.solved else None, *(it.used.get(fleet) for fleet in fleets)]
+        bounds = [bound_in(it.asked.get(fleet, {}).get(change, "")) for change, fleet in asked]
         took = ["", ""] if it.seconds is None else [f"{it.seconds:.2f}", f"{it.memory / 1000:.1f}"]
-        out.writerow([it.name, it.outcome, *("" if at is None else at for at in numbers), it.rotations, it.check, it.told, *took])
+        out.writerow([it.name, it.outcome, *("" if at is None else at for at in numbers), *bounds, it.rotations, it.check, it.told, *took])
     return text.getvalue()
 
 
@@ -130,8 +140,9 @@ def forget_faults(folder):
     solved, check = os.path.join(folder, "solved"), os.path.join(folder, CHECK)
     if "fault" in answer_in(os.path.join(solved, ANSWER)):
         shutil.rmtree(solved, ignore_errors=True)
-    if "fault" in answer_in(check) and os.path.exists(check):
-        os.remove(check)
+    for path in (check, os.path.join(folder, SIZES)):
+        if os.path.exists(path) and "fault" in answer_in(path):
+            os.remove(path)
 
 
 def warning(unsound):

@@ -1,0 +1,45 @@
+"""What the proof of a scenario says of one aircraft less and of one more, fleet by fleet. Nothing is solved."""
+
+import os
+import re
+
+from hints.records import bytes_of, records_in
+from steps.running import run
+from steps.solving import ANSWER, answer_or_fault, read_json, write_json
+
+CHANGES = {"less": -1, "more": 1}
+MOST_AIRCRAFT = 500
+BOUND = re.compile(r"whatif \S+ \d+: (?:bound (-?\d+)|(infeasible))")
+
+
+def ask(program, solved, place, limits, is_last):
+    """Asks the proof that stands in a folder, and notes what it says."""
+    answer = read_json(os.path.join(solved, ANSWER))
+    asked = {}
+    if "solved" in answer:
+        asked = answer_or_fault(lambda: {"asked": asked_of(program, solved, answer["reading"], limits)}, is_last)
+    write_json(place, asked)
+
+
+def asked_of(program, solved, reading, limits):
+    """Returns, fleet by fleet in their order, what the program says of each number of aircraft that it may have."""
+    asked = []
+    for fleet, aircraft in fleets_of(solved):
+        told = {}
+        for name, change in CHANGES.items():
+            if 0 <= aircraft + change <= MOST_AIRCRAFT:
+                told[name] = run(program, ["whatif", *reading, solved, fleet, str(aircraft + change)], limits).told
+        asked.append([fleet, told])
+    return asked
+
+
+def fleets_of(folder):
+    """Returns each fleet of a folder with its number of aircraft."""
+    rows = [it.texts for it in records_in(bytes_of(os.path.join(folder, "fleets.csv"))) if it.number > 1]
+    return [(fleet, int(aircraft)) for fleet, aircraft, _ in rows]
+
+
+def bound_in(told):
+    """Returns the bound that was told, or `infeasible`; nothing where the proof says nothing of that number."""
+    found = BOUND.fullmatch(told)
+    return (found[1] or found[2]) if found else ""
