@@ -33,6 +33,8 @@ mod outgrown;
 #[cfg(test)]
 mod outside;
 #[cfg(test)]
+mod parking;
+#[cfg(test)]
 mod periods;
 #[cfg(test)]
 mod plans;
