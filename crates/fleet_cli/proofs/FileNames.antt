@@ -1,6 +1,6 @@
 -- Files by number, and what was read of each.
 use Rattle.std.proofs.Common.{◌≡◌, ◌==◌, ℕ, true, List, if◌then◌else◌, refl, sym, ap, ◌∙◌, arith}
-use Rattle.std.proofs.lemmas.Bool.Decides.{nat_tests}
+use Rattle.std.proofs.lemmas.Bool.{eqb-true}
 use Rattle.plan_desk.specs.declared.file.DeskFile.{DeskFile}
 use Rattle.plan_desk.specs.declared.file.DeskFile.TheVariants as file
 use Rattle.fleet_cli.specs.Contents.{content_of, number_of, same_file, with_content}
@@ -14,8 +14,9 @@ file_at n =
     else if n == 2 then file.Legs
     else if n == 3 then file.Costs
     else if n == 4 then file.Throughs
-    else if n == 5 then file.Plan
-    else if n == 6 then file.Proof
+    else if n == 5 then file.Tails
+    else if n == 6 then file.Plan
+    else if n == 7 then file.Proof
     else file.Rotation
 
 at_number : (f : DeskFile) → file_at (number_of f) ≡ f
@@ -25,16 +26,14 @@ at_number file.Fleets = refl
 at_number file.Legs = refl
 at_number file.Costs = refl
 at_number file.Throughs = refl
+at_number file.Tails = refl
 at_number file.Plan = refl
 at_number file.Proof = refl
 at_number file.Rotation = refl
 
-same_number : (a b : ℕ) → (a == b) ≡ true → a ≡ b
-same_number a b e = grind (arith, nat_tests)
-
 -- files of one number are one
 pub one_file : (f g : DeskFile) → same_file f g ≡ true → f ≡ g
-one_file f g same = sym (at_number f) ∙ ap file_at (same_number (number_of f) (number_of g) same) ∙ at_number g
+one_file f g same = sym (at_number f) ∙ ap file_at (eqb-true (number_of f) (number_of g) same) ∙ at_number g
 
 pub self_file : (f : DeskFile) → same_file f f ≡ true
 self_file file.Stations = refl
@@ -42,6 +41,7 @@ self_file file.Fleets = refl
 self_file file.Legs = refl
 self_file file.Costs = refl
 self_file file.Throughs = refl
+self_file file.Tails = refl
 self_file file.Plan = refl
 self_file file.Proof = refl
 self_file file.Rotation = refl
@@ -53,6 +53,7 @@ looked_up c f bytes file.Fleets = refl
 looked_up c f bytes file.Legs = refl
 looked_up c f bytes file.Costs = refl
 looked_up c f bytes file.Throughs = refl
+looked_up c f bytes file.Tails = refl
 looked_up c f bytes file.Plan = refl
 looked_up c f bytes file.Proof = refl
 looked_up c f bytes file.Rotation = refl

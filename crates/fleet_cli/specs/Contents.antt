@@ -32,9 +32,10 @@ number_of file.Fleets = 1
 number_of file.Legs = 2
 number_of file.Costs = 3
 number_of file.Throughs = 4
-number_of file.Plan = 5
-number_of file.Proof = 6
-number_of file.Rotation = 7
+number_of file.Tails = 5
+number_of file.Plan = 6
+number_of file.Proof = 7
+number_of file.Rotation = 8
 
 -- the two files are one
 abbrev pub same_file : DeskFile → DeskFile → Bool
@@ -53,13 +54,14 @@ content_of c file.Fleets = c.fleets
 content_of c file.Legs = c.legs
 content_of c file.Costs = c.costs
 content_of c file.Throughs = c.throughs
+content_of c file.Tails = c.tails
 content_of c file.Plan = c.plan
 content_of c file.Proof = c.proof
 content_of c file.Rotation = c.rotation
 
 -- nothing was read
 abbrev pub no_contents : Contents
-no_contents = record { stations = []; fleets = []; legs = []; costs = []; throughs = []; plan = []; proof = []; rotation = [] }
+no_contents = record { stations = []; fleets = []; legs = []; costs = []; throughs = []; tails = []; plan = []; proof = []; rotation = [] }
 
 -- what was read, with the bytes of one file more
 abbrev pub with_content : Contents → DeskFile → List ℕ → Contents
@@ -69,6 +71,7 @@ with_content c f bytes = record {
   legs = if same_file file.Legs f then bytes else c.legs;
   costs = if same_file file.Costs f then bytes else c.costs;
   throughs = if same_file file.Throughs f then bytes else c.throughs;
+  tails = if same_file file.Tails f then bytes else c.tails;
   plan = if same_file file.Plan f then bytes else c.plan;
   proof = if same_file file.Proof f then bytes else c.proof;
   rotation = if same_file file.Rotation f then bytes else c.rotation;

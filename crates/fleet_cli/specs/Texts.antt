@@ -21,6 +21,7 @@ desk_file_of table.Fleets = file.Fleets
 desk_file_of table.Legs = file.Legs
 desk_file_of table.Costs = file.Costs
 desk_file_of table.Throughs = file.Throughs
+desk_file_of table.Tails = file.Tails
 
 abbrev pub usage_text : List ℕ
 usage_text = line_of (codes "usage: fleetplan judge|solve|check|make|tails DIR [options]" ∷ [])

@@ -94,6 +94,7 @@ fn limit_of(file: DeskFile) -> u64
         | DeskFile::Legs
         | DeskFile::Costs
         | DeskFile::Throughs
+        | DeskFile::Tails
         | DeskFile::Plan
         | DeskFile::Rotation => TABLE_LIMIT,
     }

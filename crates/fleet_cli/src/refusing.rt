@@ -58,5 +58,6 @@ fn desk_file(table: TableFile) -> DeskFile
         TableFile::Legs => DeskFile::Legs,
         TableFile::Costs => DeskFile::Costs,
         TableFile::Throughs => DeskFile::Throughs,
+        TableFile::Tails => DeskFile::Tails,
     }
 }

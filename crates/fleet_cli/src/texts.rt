@@ -85,6 +85,7 @@ pub fn fault_line(file: DeskFile) -> &'static [u8]
         DeskFile::Legs => b"fault: legs.csv\n",
         DeskFile::Costs => b"fault: costs.csv\n",
         DeskFile::Throughs => b"fault: throughs.csv\n",
+        DeskFile::Tails => b"fault: tails.csv\n",
         DeskFile::Plan => b"fault: plan.csv\n",
         DeskFile::Proof => b"fault: proof.txt\n",
         DeskFile::Rotation => b"fault: rotation.csv\n",

@@ -5,7 +5,8 @@ use entries::NoMemory as OutOfMemory;
 use std::alloc::{AllocError, AllocFailed};
 use thiserror::Error;
 
-/// The tables of a schedule, by their files, in the order in which they are read and judged.
+/// The tables of a schedule, by their files, in the order in which they are read and judged. Tails are named beside a plan:
+/// no schedule has them.
 #[derive(Clone, Copy, Debug, PartialEq, Eq)]
 pub enum TableFile {
     Stations,
@@ -13,6 +14,7 @@ pub enum TableFile {
     Legs,
     Costs,
     Throughs,
+    Tails,
 }
 
 /// The first fault of a table's file.

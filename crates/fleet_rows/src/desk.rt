@@ -141,9 +141,10 @@ const PATHS: &[(DeskFile, &str, u8, u8)] = &[
     (DeskFile::Legs, "edge/legs.csv", b'c', b'C'),
     (DeskFile::Costs, "edge/costs.csv", b'd', b'D'),
     (DeskFile::Throughs, "edge/throughs.csv", b'e', b'E'),
-    (DeskFile::Plan, "edge/plan.csv", b'f', b'F'),
-    (DeskFile::Proof, "edge/proof.txt", b'g', b'G'),
-    (DeskFile::Rotation, "edge/rotation.csv", b'h', b'H'),
+    (DeskFile::Tails, "edge/tails.csv", b'f', b'F'),
+    (DeskFile::Plan, "edge/plan.csv", b'g', b'G'),
+    (DeskFile::Proof, "edge/proof.txt", b'h', b'H'),
+    (DeskFile::Rotation, "edge/rotation.csv", b'i', b'I'),
 ];
 
 /// More than a megabyte, and no whole number of pieces.

@@ -5,6 +5,8 @@
 #[cfg(test)]
 mod assertions;
 #[cfg(test)]
+mod charges;
+#[cfg(test)]
 mod checking;
 #[cfg(test)]
 mod costs;

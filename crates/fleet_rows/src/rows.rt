@@ -58,12 +58,13 @@ pub type Asked = (&'static str, Writing);
 pub type Text = (&'static [u8], &'static [u8]);
 
 /// All files of a folder.
-const FOLDER: [DeskFile; 8] = [
+const FOLDER: [DeskFile; 9] = [
     DeskFile::Stations,
     DeskFile::Fleets,
     DeskFile::Legs,
     DeskFile::Costs,
     DeskFile::Throughs,
+    DeskFile::Tails,
     DeskFile::Plan,
     DeskFile::Proof,
     DeskFile::Rotation,

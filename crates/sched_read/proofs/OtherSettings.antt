@@ -83,3 +83,4 @@ module _ (bytes : TableBytes) (a b : Settings) (same : a.day_start ≡ b.day_sta
   bad_by_day file.Legs row kind (s, f, before, bad) = (s, f, before, legs_bad a b same as_long (map code_of s) (records_of bytes.legs) row kind bad)
   bad_by_day file.Costs row kind (s, f, l, before, bad) = (s, f, l, read_legs s f l before, bad)
   bad_by_day file.Throughs row kind (s, f, l, c, before, bad) = (s, f, l, c, read_costs s f l c before, bad)
+  bad_by_day file.Tails row kind bad = bad

@@ -101,6 +101,7 @@ reads_no_fault bytes settings t file.Costs row kind reads (s, f, l, before, bad)
     (fleets_same bytes t.fleets f reads.fleets before.fleets) reads.costs bad
 reads_no_fault bytes settings t file.Throughs row kind reads (s, f, l, c, before, bad) =
     throughs_sound bytes t.legs l t.throughs row kind (legs_same bytes settings t.stations s t.legs l (stations_same bytes t.stations s reads.stations before.stations) reads.legs before.legs) reads.throughs bad
+reads_no_fault bytes settings t file.Tails row kind reads bad = bad
 
 -- files read as one set of tables at most
 pub one_reading : (bytes : TableBytes) (settings : Settings) (a b : Tables) → Reads bytes settings a → Reads bytes settings b → a ≡ b
@@ -125,6 +126,7 @@ stations_first bytes settings file.Fleets row other kind other_kind bad (s, read
 stations_first bytes settings file.Legs row other kind other_kind bad (s, f, before, found) = absurd (stations_sound bytes s row kind before.stations bad)
 stations_first bytes settings file.Costs row other kind other_kind bad (s, f, l, before, found) = absurd (stations_sound bytes s row kind before.stations bad)
 stations_first bytes settings file.Throughs row other kind other_kind bad (s, f, l, c, before, found) = absurd (stations_sound bytes s row kind before.stations bad)
+stations_first bytes settings file.Tails row other kind other_kind bad found = absurd found
 
 fleets_first : (bytes : TableBytes) (settings : Settings) (at : TableFile) (row other kind other_kind : ℕ) (s : List Station) → StationsRead (records_of bytes.stations) s
     → FleetsBad (records_of bytes.fleets) row kind → BadAt bytes settings at other other_kind → SameFault file.Fleets at row other kind other_kind
@@ -134,6 +136,7 @@ fleets_first bytes settings file.Fleets row other kind other_kind s reads bad (z
 fleets_first bytes settings file.Legs row other kind other_kind s reads bad (z, f, before, found) = absurd (fleets_sound bytes f row kind before.fleets bad)
 fleets_first bytes settings file.Costs row other kind other_kind s reads bad (z, f, l, before, found) = absurd (fleets_sound bytes f row kind before.fleets bad)
 fleets_first bytes settings file.Throughs row other kind other_kind s reads bad (z, f, l, c, before, found) = absurd (fleets_sound bytes f row kind before.fleets bad)
+fleets_first bytes settings file.Tails row other kind other_kind s reads bad found = absurd found
 
 legs_first : (bytes : TableBytes) (settings : Settings) (at : TableFile) (row other kind other_kind : ℕ) (s : List Station) (f : List Fleet) → ReadFleets bytes s f
     → LegsBad (map code_of s) settings (records_of bytes.legs) row kind → BadAt bytes settings at other other_kind → SameFault file.Legs at row other kind other_kind
@@ -146,6 +149,7 @@ legs_first bytes settings file.Costs row other kind other_kind s f reads bad (z,
     absurd (legs_sound bytes settings z s l row kind (stations_same bytes z s before.stations reads.stations) before.legs bad)
 legs_first bytes settings file.Throughs row other kind other_kind s f reads bad (z, g, l, c, before, found) =
     absurd (legs_sound bytes settings z s l row kind (stations_same bytes z s before.stations reads.stations) before.legs bad)
+legs_first bytes settings file.Tails row other kind other_kind s f reads bad found = absurd found
 
 costs_first : (bytes : TableBytes) (settings : Settings) (at : TableFile) (row other kind other_kind : ℕ) (s : List Station) (f : List Fleet) (l : List Leg) → ReadLegs bytes settings s f l
     → CostsBad (map flight_of l) (map fleet_name_of f) (records_of bytes.costs) row kind → BadAt bytes settings at other other_kind → SameFault file.Costs at row other kind other_kind
@@ -161,6 +165,7 @@ costs_first bytes settings file.Costs row other kind other_kind s f l reads bad 
 costs_first bytes settings file.Throughs row other kind other_kind s f l reads bad (z, g, m, c, before, found) =
     let legs = legs_same bytes settings z s m l (stations_same bytes z s before.stations reads.stations) before.legs reads.legs in
     absurd (costs_sound bytes m l g f c row kind legs (fleets_same bytes g f before.fleets reads.fleets) before.costs bad)
+costs_first bytes settings file.Tails row other kind other_kind s f l reads bad found = absurd found
 
 throughs_first : (bytes : TableBytes) (settings : Settings) (at : TableFile) (row other kind other_kind : ℕ) (s : List Station) (f : List Fleet) (l : List Leg) (c : List PairCost) → ReadCosts bytes settings s f l c
     → ThroughsBad (map flight_of l) bytes.throughs row kind → BadAt bytes settings at other other_kind → SameFault file.Throughs at row other kind other_kind
@@ -175,6 +180,7 @@ throughs_first bytes settings file.Throughs row other kind other_kind s f l c re
     let legs = legs_same bytes settings s z l m (stations_same bytes s z reads.stations before.stations) reads.legs before.legs in
     same_fault file.Throughs row other kind other_kind (table_bad_same connection_of (through_read (map flight_of m)) through_header (records_of bytes.throughs) row other kind other_kind
     (subst (λ k. ThroughTableBad (map flight_of k) (records_of bytes.throughs) row kind) legs bad.1) found.1)
+throughs_first bytes settings file.Tails row other kind other_kind s f l c reads bad found = absurd found
 
 pub one_first_fault : (bytes : TableBytes) (settings : Settings) (at again : TableFile) (row other kind other_kind : ℕ) → BadAt bytes settings at row kind → BadAt bytes settings again other other_kind
     → SameFault at again row other kind other_kind
@@ -183,3 +189,4 @@ one_first_fault bytes settings file.Fleets again row other kind other_kind (s, r
 one_first_fault bytes settings file.Legs again row other kind other_kind (s, f, reads, bad) found = legs_first bytes settings again row other kind other_kind s f reads bad found
 one_first_fault bytes settings file.Costs again row other kind other_kind (s, f, l, reads, bad) found = costs_first bytes settings again row other kind other_kind s f l reads bad found
 one_first_fault bytes settings file.Throughs again row other kind other_kind (s, f, l, c, reads, bad) found = throughs_first bytes settings again row other kind other_kind s f l c reads bad found
+one_first_fault bytes settings file.Tails again row other kind other_kind bad found = absurd bad

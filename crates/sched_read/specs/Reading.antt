@@ -52,7 +52,7 @@ pub record Reads (bytes : TableBytes) (settings : Settings) (t : Tables) : Type 
   pub throughs : ThroughsRead (map flight_of t.legs) bytes.throughs t.throughs
   pub settings_are : t.settings ≡ settings
 
--- The first fault of the five files: the files before it read.
+-- The first fault of the five files: the files before it read. Another file has none here.
 abbrev pub BadAt : TableBytes → Settings → TableFile → ℕ → ℕ → Type 0
 BadAt bytes settings file.Stations row kind = StationsBad (records_of bytes.stations) row kind
 BadAt bytes settings file.Fleets row kind =
@@ -65,6 +65,7 @@ BadAt bytes settings file.Costs row kind =
 BadAt bytes settings file.Throughs row kind =
     (s : List Station) × (f : List Fleet) × (l : List Leg) × (c : List PairCost) × ReadCosts bytes settings s f l c
     × ThroughsBad (map flight_of l) bytes.throughs row kind
+BadAt bytes settings file.Tails row kind = ⊥
 
 -- the error is the first fault of the five files, unless memory ran out
 abbrev pub IsFirstBad : TableBytes → Settings → LoadError → Type 0

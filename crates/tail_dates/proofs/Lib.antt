@@ -5,3 +5,4 @@ pub mod Rounds
 pub mod StartRanks
 pub mod StartReaches
 pub mod InTime
+pub mod TailsFit

@@ -3,3 +3,4 @@ pub mod Placing
 pub mod Ranked
 pub mod Reaches
 pub mod Rounds
+pub mod TailTable

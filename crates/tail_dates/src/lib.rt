@@ -1,11 +1,14 @@
 //! With which line of a tour each of a fleet's tails begins, so that each comes to maintenance in time.
 #![tactic(auto)]
 
+pub mod laws;
 mod late;
 pub mod placing;
 mod ranks;
 mod reaches;
+pub mod tail_table;
 pub mod tails;
 
 pub use placing::{Placed, place};
+pub use tail_table::read_tails;
 pub use tails::TailState;
