@@ -4,7 +4,8 @@ ghost use Rattle.command_words.specs.Arguments.{rows_in};
 ghost use Rattle.command_words.specs.Words.{HasDates, HasLimits, HasSettings, IsInRange, asked, asked_by, check_in, command_in, judge_in, make_in, solve_in, tails_in, whatif_in};
 
 use crate::arguments::{
-    aircraft_of, dates_of, made_legs_of, made_number_of, options_of, reading_of, rotations_of, value_of,
+    aircraft_of, dates_of, made_legs_of, made_number_of, options_of, reading_of, rotations_of,
+    value_of,
 };
 use crate::command::Command;
 use clap::ArgMatches;

@@ -103,10 +103,13 @@ module _ (dir : List ℕ) (reading : TableOptions) (name : List ℕ) (count : �
       });
     }
     of_fleet fleet known (opened.WantsPlan checking) by = record {
-      wanted = (refl, record {
-        wants = wants_plan reading (table_bytes bytes) (bytes file.Proof) t (question.OtherSize fleet count) checking reads by;
-        known = subst IsSome (sym known) tt;
-      });
+      wanted = (
+        refl,
+        record {
+          wants = wants_plan reading (table_bytes bytes) (bytes file.Proof) t (question.OtherSize fleet count) checking reads by;
+          known = subst IsSome (sym known) tt;
+        },
+      );
       ready = by.ready;
       answers = λ plan answer tells. inr (record {
         tables = t;

@@ -95,11 +95,7 @@ pub fn answered(answer: Result<Answer, NoMemory>) -> Result<Opened, NoMemory>
 }
 
 /// Tells what is asked of a proof that comes with a plan, by the plan's bytes. The plan is judged before the tree.
-pub fn tell_with_plan(
-    alloc: Global,
-    checking: &Checking,
-    bytes: &[u8],
-) -> Result<Answer, NoMemory>
+pub fn tell_with_plan(alloc: Global, checking: &Checking, bytes: &[u8]) -> Result<Answer, NoMemory>
     requires { IsReady checking.now }
     ensures { IfOk result (TellsProof checking.now.tables checking.now.asks true checking.now.proof.tree bytes.now) }
 {

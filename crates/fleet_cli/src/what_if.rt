@@ -62,9 +62,7 @@ fn open_of_fleet(
     ensures { IfOk result (IsOpenedOn tables name.now count bytes.now) }
 {
     match fleet_named(alloc, &tables, name)? {
-        Some(fleet) => {
-            open_proof(alloc, tables, Question::OtherSize { fleet, count }, bytes)
-        }
+        Some(fleet) => { open_proof(alloc, tables, Question::OtherSize { fleet, count }, bytes) }
         None => answered(fleet_refused(alloc, name)),
     }
 }

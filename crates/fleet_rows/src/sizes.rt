@@ -136,12 +136,7 @@ const REFUTED_LEAVES: &[Asked] = &[
     ),
     (
         ONE_OF_F1,
-        (
-            &[NO_AIRCRAFT, REFUTED],
-            FALLEN,
-            b"fallen: node 1\n",
-            &[],
-        ),
+        (&[NO_AIRCRAFT, REFUTED], FALLEN, b"fallen: node 1\n", &[]),
     ),
     (
         NONE_OF_F2,
@@ -174,18 +169,10 @@ const FLEETS: &[Asked] = &[
             &[],
         ),
     ),
+    (ONE_OF_F9, (&[PRICED], REFUSED, b"unknown fleet: F9\n", &[])),
     (
         ONE_OF_F9,
-        (&[PRICED], REFUSED, b"unknown fleet: F9\n", &[]),
-    ),
-    (
-        ONE_OF_F9,
-        (
-            &[BAD_PROOF, BAD_PLAN],
-            REFUSED,
-            b"unknown fleet: F9\n",
-            &[],
-        ),
+        (&[BAD_PROOF, BAD_PLAN], REFUSED, b"unknown fleet: F9\n", &[]),
     ),
     (
         ONE_OF_F9,
