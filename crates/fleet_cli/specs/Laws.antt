@@ -2,7 +2,7 @@
 use Rattle.std.specs.Prelude.{◌≡◌, ◌≢◌, Option, Some, None, ⊤}
 use Rattle.plan_desk.specs.Desk.{Files}
 use Rattle.fleet_cli.specs.Answer.{Answers}
-use Rattle.command_words.specs.Words.{Asked, check, judge, make, solve, tails}
+use Rattle.command_words.specs.Words.{Asked, check, judge, make, solve, tails, whatif}
 use Rattle.fleet_cli.specs.declared.answer.Answer.{Answer}
 use Rattle.fleet_cli.specs.declared.status.TheConstants.{BAD_INPUT, DONE}
 
@@ -14,6 +14,7 @@ IsFixed (Some (solve dir reading options)) answer = answer.status.code ≡ BAD_I
 IsFixed (Some (check dir reading)) answer = ⊤
 IsFixed (Some (tails dir reading limits dates)) answer = answer.status.code ≢ DONE
 IsFixed (Some (make dir number legs)) answer = ⊥
+IsFixed (Some (whatif dir reading name count)) answer = ⊤
 
 -- what is held and what is asked fix the answer
 abbrev pub OneAnswer : Type 0

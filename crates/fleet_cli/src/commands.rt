@@ -13,6 +13,7 @@ use crate::making::make_and_solve;
 use crate::opened::Opened;
 use crate::solving::solve_contents;
 use crate::telling::tails_of_contents;
+use crate::what_if::open_whatif;
 use command_words::Command;
 use entries::NoMemory;
 use plan_desk::DeskFile;
@@ -27,7 +28,8 @@ pub fn folder<'a>(command: &Command<'a>) -> &'a str
         | Command::Solve { dir, .. }
         | Command::Check { dir, .. }
         | Command::Tails { dir, .. }
-        | Command::Make { dir, .. } => *dir,
+        | Command::Make { dir, .. }
+        | Command::Whatif { dir, .. } => *dir,
     }
 }
 
@@ -38,7 +40,7 @@ pub fn first_files(command: &Command<'_>) -> FileList
     match command {
         Command::Judge { .. } | Command::Tails { .. } => FileList::tables_and(DeskFile::Plan),
         Command::Solve { .. } => FileList::tables(),
-        Command::Check { .. } => FileList::tables_and(DeskFile::Proof),
+        Command::Check { .. } | Command::Whatif { .. } => FileList::tables_and(DeskFile::Proof),
         Command::Make { .. } => FileList::empty(),
     }
 }
@@ -87,5 +89,11 @@ fn outcome_of(alloc: Global, command: &Command<'_>, contents: &Contents) -> Resu
             let answer = make_and_solve(alloc, *number, *legs)?;
             Ok(Opened::Answered(answer))
         }
+        Command::Whatif {
+            reading,
+            fleet,
+            count,
+            ..
+        } => open_whatif(alloc, *reading, *fleet, *count, contents),
     }
 }

@@ -21,11 +21,12 @@ mod solving;
 mod status;
 mod telling;
 mod texts;
+mod what_if;
 mod writing;
 
 pub use calling::program;
 pub use running::run;
 pub use status::{
-    BAD_INPUT, DONE, FAULT, GAP, INFEASIBLE, NO_MEMORY, REFUSED, Status, UNSETTLED, USAGE,
+    BAD_INPUT, DONE, FALLEN, FAULT, GAP, INFEASIBLE, NO_MEMORY, REFUSED, Status, UNSETTLED, USAGE,
 };
 pub use texts::USAGE_LINE;

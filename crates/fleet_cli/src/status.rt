@@ -29,5 +29,8 @@ pub const FAULT: u8 = 7;
 /// Want of memory.
 pub const NO_MEMORY: u8 = 8;
 
-/// A plan is refused.
+/// A plan or a proof is refused, or a fleet is unknown.
 pub const REFUSED: u8 = 9;
+
+/// A proof says nothing of another number of aircraft: a leaf that it refutes isn't refuted there.
+pub const FALLEN: u8 = 11;

@@ -7,5 +7,6 @@ pub mod OwnOptions
 pub mod PlainFolder
 pub mod PlainMake
 pub mod PlainTails
+pub mod PlainWhatIf
 pub mod PlainWords
 pub mod Twice

@@ -1,7 +1,8 @@
-use Rattle.plain_words.proofs.AfterDashes.{checks_by_default, checks_from, judges_by_default, judges_from, makes_by_default, makes_without_options, solves_by_default, solves_within, tails_by_default, tails_within}
+use Rattle.plain_words.proofs.AfterDashes.{asks_by_default, asks_from, checks_by_default, checks_from, judges_by_default, judges_from, makes_by_default, makes_without_options, solves_by_default, solves_within, tails_by_default, tails_within}
 use Rattle.plain_words.proofs.PlainFolder.{checks_plainly, judges_plainly, solves_plainly}
 use Rattle.plain_words.proofs.PlainMake.{makes_plainly}
 use Rattle.plain_words.proofs.PlainTails.{tails_plainly}
+use Rattle.plain_words.proofs.PlainWhatIf.{asks_plainly}
 use Rattle.plain_words.proofs.laws.plain_reading.Goals as goal
 
 -- src/laws.rt:14:1
@@ -12,6 +13,7 @@ returns c = record {
   checks_plainly = checks_plainly;
   tails_plainly = tails_plainly;
   makes_plainly = makes_plainly;
+  asks_plainly = asks_plainly;
   judges_by_default = judges_by_default;
   judges_from = judges_from;
   solves_by_default = solves_by_default;
@@ -22,4 +24,6 @@ returns c = record {
   tails_within = tails_within;
   makes_by_default = makes_by_default;
   makes_without_options = makes_without_options;
+  asks_by_default = asks_by_default;
+  asks_from = asks_from;
 }
