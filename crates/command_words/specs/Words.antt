@@ -18,6 +18,7 @@ pub data Asked : Type 0 where
   solve : List ℕ → TableOptions → SolveOptions → Asked
   check : List ℕ → TableOptions → Asked
   tails : List ℕ → TableOptions → RotationLimits → AskedDates → Asked
+  due : List ℕ → TableOptions → RotationLimits → AskedDates → Asked
   make : List ℕ → ℕ → ℕ → Asked
 
 -- ---- the commands
@@ -55,6 +56,15 @@ tails_at reading rotations dates dir =
 abbrev pub tails_in : List Row → Option Asked
 tails_in found = option_and_then (tails_at (reading_in found) (rotations_in found) (dates_in found)) (dir_in found)
 
+-- printing what a folder's named tails fly, by the same limits and dates, where all are there
+abbrev pub due_at : Option TableOptions → Option RotationLimits → Option AskedDates → Text → Option Asked
+due_at reading rotations dates dir =
+    option_and_then (λ how. option_and_then (λ limits. option_map (due dir how limits) dates) rotations) reading
+
+-- printing that, where all values read
+abbrev pub due_in : List Row → Option Asked
+due_in found = option_and_then (due_at (reading_in found) (rotations_in found) (dates_in found)) (dir_in found)
+
 -- making tables of a number and of so many legs in a folder, where both are there
 abbrev pub make_at : Option ℕ → Option ℕ → Text → Option Asked
 make_at number legs dir = option_and_then (λ n. option_map (make dir n) legs) number
@@ -70,6 +80,7 @@ command_in (name, found) =
     else if bytes_eq name (codes "solve") then solve_in found
     else if bytes_eq name (codes "check") then check_in found
     else if bytes_eq name (codes "tails") then tails_in found
+    else if bytes_eq name (codes "due") then due_in found
     else if bytes_eq name (codes "make") then make_in found
     else None
 
@@ -90,6 +101,7 @@ asked_by (command.Judge dir reading) = judge dir.now reading
 asked_by (command.Solve dir reading options) = solve dir.now reading options
 asked_by (command.Check dir reading) = check dir.now reading
 asked_by (command.Tails dir reading rotations dates) = tails dir.now reading rotations (dates_by dates)
+asked_by (command.Due dir reading rotations dates) = due dir.now reading rotations (dates_by dates)
 asked_by (command.Make dir number legs) = make dir.now number legs
 
 -- the settings of a command are within their limits, where it has some
@@ -98,6 +110,7 @@ HasSettings (command.Judge dir reading) = AreSettings reading.settings
 HasSettings (command.Solve dir reading options) = AreSettings reading.settings
 HasSettings (command.Check dir reading) = AreSettings reading.settings
 HasSettings (command.Tails dir reading rotations dates) = AreSettings reading.settings
+HasSettings (command.Due dir reading rotations dates) = AreSettings reading.settings
 HasSettings (command.Make dir number legs) = ⊤
 
 -- so are the limits of a search and of rotations, and what tables are made of
@@ -106,6 +119,7 @@ HasLimits (command.Judge dir reading) = ⊤
 HasLimits (command.Solve dir reading options) = AreOptions options
 HasLimits (command.Check dir reading) = ⊤
 HasLimits (command.Tails dir reading rotations dates) = AreRotationLimits rotations
+HasLimits (command.Due dir reading rotations dates) = AreRotationLimits rotations
 HasLimits (command.Make dir number legs) = CanBeAsked number legs
 
 -- and the dates
@@ -114,6 +128,7 @@ HasDates (command.Judge dir reading) = ⊤
 HasDates (command.Solve dir reading options) = ⊤
 HasDates (command.Check dir reading) = ⊤
 HasDates (command.Tails dir reading rotations dates) = AreDates dates
+HasDates (command.Due dir reading rotations dates) = AreDates dates
 HasDates (command.Make dir number legs) = ⊤
 
 -- all that a command holds is within its limits

@@ -2,7 +2,7 @@
 use Rattle.std.specs.Prelude.{◌≡◌, ◌⊎◌, ℕ, ◌+◌, true, List, [], ◌∷◌, ◌++◌, length, Option, Some, None, IsSome}
 use Rattle.bound_cert.specs.ReadProof.{ReadsAs}
 use Rattle.bound_cert.specs.declared.reading.Proof.{Proof}
-use Rattle.command_words.specs.Words.{Asked, check, judge, make, solve, tails}
+use Rattle.command_words.specs.Words.{Asked, check, due, judge, make, solve, tails}
 use Rattle.fleet_model.specs.declared.options.TableOptions.{TableOptions}
 use Rattle.fleet_model.specs.declared.tables.Tables.{Tables}
 use Rattle.plan_desk.specs.Desk.{Files}
@@ -21,9 +21,12 @@ table_files = file.Stations ∷ file.Fleets ∷ file.Legs ∷ file.Costs ∷ fil
 abbrev pub tables_and : List DeskFile → List DeskFile
 tables_and more = table_files ++ more
 
--- the files that judging (and telling tails) and checking read first, in their order
+-- the files that judging (and telling tails), telling named tails, and checking read first, in their order
 abbrev pub judge_files : List DeskFile
 judge_files = tables_and (file.Plan ∷ [])
+
+abbrev pub due_files : List DeskFile
+due_files = tables_and (file.Tails ∷ file.Plan ∷ [])
 
 abbrev pub proof_files : List DeskFile
 proof_files = tables_and (file.Proof ∷ [])
@@ -35,6 +38,7 @@ folder_of (Some (judge dir reading)) = dir
 folder_of (Some (solve dir reading options)) = dir
 folder_of (Some (check dir reading)) = dir
 folder_of (Some (tails dir reading limits dates)) = dir
+folder_of (Some (due dir reading limits dates)) = dir
 folder_of (Some (make dir number legs)) = dir
 
 -- the files that are read first, in their order
@@ -44,6 +48,7 @@ first_files (Some (judge dir reading)) = judge_files
 first_files (Some (solve dir reading options)) = table_files
 first_files (Some (check dir reading)) = proof_files
 first_files (Some (tails dir reading limits dates)) = judge_files
+first_files (Some (due dir reading limits dates)) = due_files
 first_files (Some (make dir number legs)) = []
 
 -- the tables and the proof read, and the proof says that a plan comes with it
@@ -61,6 +66,7 @@ Follows (Some (judge dir reading)) bytes f = ⊥
 Follows (Some (solve dir reading options)) bytes f = ⊥
 Follows (Some (check dir reading)) bytes f = (f ≡ file.Plan) × WantsPlan reading (table_bytes bytes) (bytes file.Proof)
 Follows (Some (tails dir reading limits dates)) bytes f = ⊥
+Follows (Some (due dir reading limits dates)) bytes f = ⊥
 Follows (Some (make dir number legs)) bytes f = ⊥
 
 -- the files that solving may write
@@ -74,6 +80,7 @@ written_files (Some (judge dir reading)) = []
 written_files (Some (solve dir reading options)) = solution_files
 written_files (Some (check dir reading)) = []
 written_files (Some (tails dir reading limits dates)) = []
+written_files (Some (due dir reading limits dates)) = []
 written_files (Some (make dir number legs)) = tables_and solution_files
 
 -- how many files the first ones may ask for
@@ -83,6 +90,7 @@ most_further (Some (judge dir reading)) = 0
 most_further (Some (solve dir reading options)) = 0
 most_further (Some (check dir reading)) = 1
 most_further (Some (tails dir reading limits dates)) = 0
+most_further (Some (due dir reading limits dates)) = 0
 most_further (Some (make dir number legs)) = 0
 
 -- ---- what follows of each command

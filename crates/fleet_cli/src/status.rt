@@ -31,3 +31,6 @@ pub const NO_MEMORY: u8 = 8;
 
 /// A plan is refused.
 pub const REFUSED: u8 = 9;
+
+/// A fleet's tails are not as many as its aircraft, or can't all come to maintenance in time.
+pub const UNPLACED: u8 = 10;

@@ -16,7 +16,7 @@ use rotation_report::text_lines::{push_fleets, push_line};
 use std::alloc::Global;
 
 /// The line of a call whose words match no command.
-pub const USAGE_LINE: &[u8] = b"usage: fleetplan judge|solve|check|make|tails DIR [options]\n";
+pub const USAGE_LINE: &[u8] = b"usage: fleetplan judge|solve|check|make|tails|due DIR [options]\n";
 
 /// The line of pieces.
 fn line(alloc: Global, pieces: &[&[u8]]) -> Result<Vec<u8>, NoMemory>

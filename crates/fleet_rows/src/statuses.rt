@@ -15,3 +15,5 @@ pub const BAD_INPUT: u8 = 6;
 pub const FAULT: u8 = 7;
 
 pub const REFUSED: u8 = 9;
+
+pub const UNPLACED: u8 = 10;
