@@ -8,7 +8,7 @@ below `yes` alone, and `zigzag.txt` below each in turn, with prices and a fracti
 import pathlib
 import sys
 
-HEAD = "fleet proof 1\nplan no\n"
+HEAD = "fleet proof 2\nplan no\n"
 SPLIT = "split X1 F1\nscale 1\nmixed 1\nweight X1 F1 1\n"
 
 

@@ -18,9 +18,10 @@ NAME = "[A-Z0-9]{1,8}"
 TIME = "([01][0-9]|2[0-3]):[0-5][0-9]"
 WHOLE = "-?[0-9]{1,20}"
 FLAG = "yes|no"
+LIMIT = f"-|{WHOLE}"
 # The header and the forms of each file's fields.
 FILES = {
-    "stations.csv": {"code": CODE, "extra": WHOLE, "maintenance": FLAG},
+    "stations.csv": {"code": CODE, "extra": WHOLE, "maintenance": FLAG, "parking": LIMIT},
     "fleets.csv": {"fleet": NAME, "aircraft": WHOLE, "turn": WHOLE},
     "legs.csv": {"flight": NAME, "day": WHOLE, "from": CODE, "dep": TIME, "to": CODE, "arr": TIME},
     "costs.csv": {"flight": NAME, "fleet": NAME, "cost": WHOLE},
@@ -35,7 +36,8 @@ def wanted(holds, what):
 
 
 def records(folder, name, period=1):
-    """The records of a file below its header, each field in its form. Where the period is a day legs may have none."""
+    """The records of a file below its header, each field in its form. Where the period is a day legs may have none, and stations may
+    have no limits."""
     if name == "throughs.csv" and (folder / name).stat().st_size == 0:
         return []
     with open(folder / name, newline="", encoding="utf-8-sig") as file:
@@ -44,6 +46,9 @@ def records(folder, name, period=1):
     if name == "legs.csv" and period == 1 and "day" not in header:
         header.insert(1, "day")
         rows = [[*row[:1], "1", *row[1:]] for row in rows]
+    if name == "stations.csv" and "parking" not in header:
+        header.append("parking")
+        rows = [[*row, "-"] for row in rows]
     wanted(header == list(forms), f"{name}: the header is wrong")
     for row in rows:
         wanted(len(row) == len(forms), f"{name}: {row} has another number of fields")
@@ -78,6 +83,7 @@ class Tables:
         costs = table(records(folder, "costs.csv"), 2, len(legs) * len(fleets), "costs.csv")
         throughs = table(records(folder, "throughs.csv"), 2, 2000, "throughs.csv")
         self.extra = {code: number(row[0], 0, 600) for code, row in stations.items()}
+        self.parking = {code: number(row[2], 0, 10_000) for code, row in stations.items() if row[2] != "-"}
         self.aircraft = {fleet: number(row[0], 0, 500) for fleet, row in fleets.items()}
         self.turn = {fleet: number(row[1], 0, 600) for fleet, row in fleets.items()}
         self.costs = {pair: number(row[0], -MOST_COST, MOST_COST) for pair, row in costs.items()}
@@ -123,6 +129,10 @@ class Movements:
             lowest = min(lowest, stock)
         return -lowest
 
+    def stands(self, code, end):
+        """How many aircraft are on the ground before the minute at which a day ends."""
+        return self.need[code] + sum(self.ready[code][:end]) - sum(self.out[code][:end])
+
     def add_up(self):
         ground = sum(self.need.values())
         for now in range(self.minutes):
@@ -146,6 +156,11 @@ def verdict(tables, plan):
     for fleet, move in moves.items():
         if move.used > tables.aircraft[fleet]:
             return [f"too many: {fleet} used {move.used} of {tables.aircraft[fleet]}"], 9
+    for code, limit in tables.parking.items():
+        for end in range(DAY, tables.minutes + 1, DAY):
+            parked = sum(move.stands(code, end) for move in moves.values())
+            if parked > limit:
+                return [f"crowded: {code} day {end // DAY} parked {parked} of {limit}"], 9
     lines = [f"legal: cost {sum(tables.costs[pair] for pair in plan.items())}"]
     for fleet, move in moves.items():
         lines.append(f"fleet {fleet}: used {move.used} of {tables.aircraft[fleet]}")

@@ -32,18 +32,19 @@ def slips(tries, scratch):
     lines = (HUB_DAY / "costs.csv").read_text(encoding="utf-8").splitlines()
     (bad / "costs.csv").write_text("\n".join([*lines[:3], "FP999,A320,1", *lines[3:]]) + "\n", encoding="utf-8")
     rows = [AS_IS, ("bad", "", "bad", ""), ("many", "", "", "aircraft A320 -7"), ("who", "", "", "cost B747 *1.1")]
-    rows += [("words", "--days 31", "", ""), ("week", "--period 7", "", ""), ("day", "", "", "only-day 3"), ("none", "", "", "aircraft A320 0; aircraft A220 0; aircraft E190 0")]
+    rows += [("words", "--days 31", "", ""), ("week", "--period 7", "", ""), ("day", "", "", "only-day 3"), ("where", "", "", "parking ZZZ 2"), ("none", "", "", "aircraft A320 0; aircraft A220 0; aircraft E190 0")]
     run = Run(scratch / "slips", HUB_DAY, rows)
     tries("slips are rows, and the run ends well", run.on(2) == 0)
     told = {it["scenario"]: (it["outcome"], it["told"]) for it in run.summary()}
     tries("a bad table", told["bad"] == ("refused", "bad input: costs.csv record 4 kind 7"), told["bad"][1])
     tries("fewer aircraft than none", told["many"][0] == "refused", told["many"][1])
     tries("a fleet that isn't there", told["who"] == ("refused", "cost B747 *1.1: fleets.csv has no B747"), told["who"][1])
+    tries("a station that isn't there", told["where"] == ("refused", "parking ZZZ 2: stations.csv has no ZZZ"), told["where"][1])
     tries("words that are no call", told["words"][0] == "refused" and "usage" in told["words"][1], told["words"][1])
     for name in ("week", "day"):
         tries("a period of days that legs don't tell", told[name] == ("refused", "bad input: legs.csv record 1 kind 1"), told[name][1])
     tries("no aircraft at all", told["none"] == ("infeasible", "") and run.row("none")["check"] == "holds: infeasible")
-    for change in ("parking ZRH 2", "aircraft A320", "cost A320 1.1", "turn A320 +5", "only-day 8"):
+    for change in ("parking ZRH +2", "aircraft A320", "cost A320 1.1", "turn A320 +5", "only-day 8"):
         other = Run(scratch / "slips", HUB_DAY, [AS_IS, ("new", "", "", change)])
         status, told = other.on(1), (other.folder / "engine").read_text(encoding="utf-8").rsplit("WorkflowError", 1)[-1]
         tries(f"a change that doesn't read ends the run before it begins: {change}", status != 0 and change.split()[0] in told)

@@ -134,6 +134,9 @@ TABLES = {
         LOCAL, "L", "--stations stations --fleets fleets",
         {"stations.csv": ["ZRH,5,yes", "LHR,0,no"], "fleets.csv": ["E90,3,25", "320,2,35"], "costs.csv": ["ZZ1,320,0", "ZZ2,320,0"]},
     ),
+    "the caller's stations with room for some aircraft at night": (
+        LOCAL, "L", "--stations limited", {"stations.csv": ["ZRH,5,yes,0", "LHR,0,no,-"], "fleets.csv": ["320,1,30"]},
+    ),
     "the caller's costs": (
         [*LOCAL, out(3, "ZRH 0900 +0100 LUG 0945 +0100")], "L", "--fleets fleets --costs costs",
         {"costs.csv": ["ZZ1,E90,13900", "ZZ1,320,9500", "ZZ3,E90,5150", "ZZ2,E90,5500", "ZZ2,320,3500"]},
@@ -186,6 +189,7 @@ WEEKS = {
 }  # fmt: skip
 CALLERS = {
     "stations": "code,extra,maintenance\nZRH,5,yes\nDUB,0,no\nLHR,0,no\n",
+    "limited": "code,extra,maintenance,parking\nZRH,5,yes,0\nDUB,0,no,1\nLHR,0,no,-\n",
     "fleets": "fleet,aircraft,turn\nE90,3,25\n320,2,35\n",
     "costs": "fleet,departure,minute,longest,closed\n320,1000,50,170,LUG LCY\nE90,2000,70,,\n",
 }

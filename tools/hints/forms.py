@@ -3,11 +3,12 @@
 import re
 import unicodedata
 
-from hints.records import DATED
+from hints.records import DATED, LIMITED
 from hints.saying import plain
 from hints.words import Time
 
 MOST_DIGITS = 20
+MOST_PARKED = 10_000
 
 
 def code(text):
@@ -62,6 +63,12 @@ def whole(least, most):
     return number
 
 
+def limit(text):
+    """Says what is wrong with how many aircraft may stay for a night, or returns None."""
+    wrong = None if text == "-" else whole(0, MOST_PARKED)(text)
+    return f"{wrong}; - stands for any number" if wrong else None
+
+
 def case(text, form):
     """Returns what is said of a name that would do in capital letters, or None."""
     if re.fullmatch(form, text) and text != text.upper():
@@ -97,4 +104,6 @@ FIELDS = {
 def fields_of(table, header, period=1):
     """Returns the same of a table with this header, where the schedule repeats after so many days."""
     first, *rest = FIELDS[table]
+    if header == LIMITED:
+        return (first, *rest, limit)
     return (first, whole(1, period), *rest) if header == DATED else (first, *rest)

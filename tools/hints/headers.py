@@ -1,5 +1,7 @@
 """What is wrong with the first record of a table."""
 
+import re
+
 from hints.forms import fields_of
 from hints.records import HEADERS, MARK, bytes_of, headers_of, records_in
 from hints.saying import plain
@@ -19,7 +21,7 @@ OTHERS = ((";", "semicolons"), ("\t", "tabs"), ("|", "bars"))
 def explain_header(path, name, period):
     """Returns what is wrong with the header of a table, in sentences, where the schedule repeats after so many days."""
     data = bytes_of(path)
-    wanted = headers_of(name, period)[0]
+    wanted = meant(data, headers_of(name, period))
     with_period = f" with --period {period}" if name == "legs.csv" and period > 1 else ""
     begins = f"its first line has to be {','.join(wanted)}{with_period}"
     if not data:
@@ -35,6 +37,12 @@ def explain_header(path, name, period):
         return []
     why = difference(has, wanted, name)
     return [f"{path} begins with {plain(str(first))}", *([why] if why else []), begins]
+
+
+def meant(data, headers):
+    """Returns the header that a file is meant to have: the longest one whose words stand in its first line, or else the first."""
+    words = set(re.findall("[a-z]+", data[:200].decode("latin-1").lower().split("\n")[0]))
+    return max((it for it in headers if words.issuperset(it)), key=len, default=headers[0])
 
 
 def difference(has, wanted, name):

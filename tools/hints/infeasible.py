@@ -4,7 +4,7 @@ import os
 
 from hints.records import Unread
 from hints.saying import counted, listed
-from hints.schedule import Schedule, under_way
+from hints.schedule import DAY, Schedule, under_way
 
 SECTION = "what-solve-prints-and-writes"
 # The most groups of fleets that are counted one by one.
@@ -31,7 +31,7 @@ def explain(hint, call):
 
 def causes_of(schedule):
     """Returns the causes that hold for certain, those of the first kind that has any."""
-    for find in (legs_without_pair, legs_out_of_balance, legs_without_aircraft, pairs_out_of_balance, aircraft_wanted):
+    for find in (legs_without_pair, legs_out_of_balance, legs_without_aircraft, pairs_out_of_balance, aircraft_wanted, nights_without_room):
         causes = list(find(schedule))
         if causes:
             more = [f"and {len(causes) - MOST_CAUSES} more of this kind"] if len(causes) > MOST_CAUSES else []
@@ -109,3 +109,29 @@ def aircraft_wanted(schedule):
             yield f"at {schedule.moment(minutes.index(most))} {most} flights{which} are in the air or in their turn, {have}"
         elif len(legs) == len(schedule.legs) and schedule.used(flown) > has:
             yield f"the flights need {schedule.used(flown)} aircraft, however they are shared out, {have}"
+
+
+def nights_without_room(schedule):
+    """A station with a limit at which more aircraft have to stay for a night."""
+    for station, limit in schedule.parking.items():
+        for day in range(1, schedule.period + 1):
+            stay = least_stay(schedule, station, DAY * day)
+            if stay > limit:
+                night = "for the night" if schedule.period == 1 else f"when day {day} ends, at {schedule.clock(0)}"
+                yield f"{stay} aircraft at least must stay at {station} {night}, and stations.csv has room for {limit} there"
+                break
+
+
+def least_stay(schedule, station, end):
+    """Returns how many aircraft at least stand at a station when a day ends, whichever fleets fly: those that depart from then on before
+    another one can be ready."""
+    moves = [((leg.departure - end) % schedule.minutes, 1) for leg in schedule.legs.values() if leg.start == station]
+    for flight, leg in schedule.legs.items():
+        if leg.end == station:
+            ready = (leg.departure + schedule.busy(leg, fleet) - end for fleet in schedule.fleets_of[flight])
+            moves.append((min(it % schedule.minutes for it in ready), -1))
+    lacking = most = 0
+    for _, change in sorted(moves):
+        lacking += change
+        most = max(most, lacking)
+    return most

@@ -21,6 +21,8 @@ HEADERS = {
 TABLES = tuple(HEADERS)[:5]
 # The header of a legs.csv that tells the day of each flight. The one above is read too where the period is one day.
 DATED = ("flight", "day", "from", "dep", "to", "arr")
+# The header of a stations.csv that tells how many aircraft may stay at a station for a night.
+LIMITED = (*HEADERS["stations.csv"], "parking")
 
 
 class Unread(Exception):
@@ -80,6 +82,8 @@ def record_of(path, number):
 
 def headers_of(name, period=1):
     """Returns the headers that a file may have where the schedule repeats after so many days."""
+    if name == "stations.csv":
+        return HEADERS[name], LIMITED
     if name != "legs.csv":
         return (HEADERS[name],)
     return (HEADERS[name], DATED) if period == 1 else (DATED,)

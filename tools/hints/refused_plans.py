@@ -14,6 +14,7 @@ UNREAD = re.compile(r"plan refused: record (\d+) kind (\d+)")
 NOT_ALLOWED = re.compile(r"not allowed: (\w+)")
 UNBALANCED = re.compile(r"unbalanced: (\w+) at (\w+), in (\d+), out (\d+)")
 TOO_MANY = re.compile(r"too many: (\w+) used (\d+) of (\d+)")
+CROWDED = re.compile(r"crowded: (\w+) day (\d+) parked (\d+) of (\d+)")
 MEANS = {
     1: "the first record of plan.csv isn't its header, flight,fleet",
     2: "this record of plan.csv isn't two fields of UTF-8",
@@ -28,6 +29,7 @@ OTHERS = {
     NOT_ALLOWED: "costs.csv has no cost for this flight with its fleet in plan.csv",
     UNBALANCED: "each day, or in the period, more or fewer aircraft of this fleet come to the station than leave it",
     TOO_MANY: "the plan needs more aircraft of this fleet than fleets.csv has",
+    CROWDED: "more aircraft stay at this station for the night than stations.csv lets (its column parking)",
 }
 
 
@@ -38,7 +40,7 @@ def explain(hint, command, call, said):
         record, told = quietly(look, call.folder, *map(int, unread.groups())) or (None, None)
         show(hint, os.path.join(call.folder, "plan.csv"), record, [told or MEANS[int(unread[2])]])
         hint.see(PLAN)
-    for form, tell in ((NOT_ALLOWED, tell_pair), (UNBALANCED, tell_balance), (TOO_MANY, tell_use)):
+    for form, tell in ((NOT_ALLOWED, tell_pair), (UNBALANCED, tell_balance), (TOO_MANY, tell_use), (CROWDED, tell_crowd)):
         found = form.fullmatch(said)
         if found:
             for text in quietly(tell, call, *found.groups()) or [OTHERS[form]]:
@@ -120,4 +122,18 @@ def tell_use(call, fleet, used, has):
         f"the plan needs {used} aircraft of {fleet}, and fleets.csv has {has}: {used - has} too few",
         f"at the day start, {schedule.moment(0)}, they are: {listed(where)}",
         f"give flights of {fleet} to other fleets, move flights apart, or raise its aircraft in fleets.csv",
+    ]
+
+
+def tell_crowd(call, station, day, parked, cap):
+    schedule, day, parked, cap = schedule_of(call), int(day), int(parked), int(cap)
+    plan = schedule.plan()
+    stay = {fleet: schedule.stands(schedule.flown_by(plan, fleet), station, day) for fleet in schedule.aircraft}
+    if sum(stay.values()) != parked or schedule.parking.get(station) != cap:
+        return []
+    night = f"at the day start, {schedule.clock(0)}," if schedule.period == 1 else f"when day {day} ends, at {schedule.clock(0)},"
+    return [
+        f"{night} {counted(parked, 'aircraft stands', 'aircraft stand')} at {station}, and stations.csv has room for {cap}: {parked - cap} too many",
+        f"they are: {listed([f'{number} of {fleet}' for fleet, number in stay.items() if number])}",
+        "fly one away in the evening, or raise the limit (parking) in stations.csv",
     ]

@@ -11,7 +11,7 @@ RULES = "what-check-prints"
 UNREAD = re.compile(r"proof refused: line (\d+) kind (\d+)")
 BROKEN = re.compile(r"broken: node (\d+) rule (\d+)")
 KINDS = {
-    1: "the first line of proof.txt isn't its head",
+    1: "the first line of proof.txt isn't its head, fleet proof 2 or, without charges, fleet proof 1",
     2: "this line has no line feed, or a byte that no proof has",
     3: "proof.txt ends where this line is due",
     4: "this line may not stand here",
@@ -23,9 +23,9 @@ KINDS = {
 }
 RULE = {
     1: "the scale of this node's prices is out of its range",
-    2: "a rent or a price of this node is out of its range",
-    3: "a price of this node rises in the course of the day, or of the period",
-    4: "a price at the day start is above the last one of the day, or of the period, and the rent",
+    2: "a rent, price or charge of this node is out of its range, or a charge is at a station without a limit of parking",
+    3: "a price of this node rises in the course of the day, or of the period, by more than a charge allows",
+    4: "a price at the day start is above the last one of the day, or of the period, with the rent and the charge",
     5: "legs of this node keep more or fewer fleets than its line claims",
     6: "the prices of this node don't refute it",
     7: "the bound of this node is below the plan's cost, or there is no plan",
@@ -33,6 +33,8 @@ RULE = {
     9: "the fractional assignment isn't one of this node",
     10: "the fractional assignment is whole, or doesn't cost what the prices are worth, or doesn't part the pair",
 }
+# The head of a text that has no lines of charges.
+OLD_HEAD = b"fleet proof 1\n"
 # Proofs have no limit of their length; this many lines are looked through for the one that is told.
 MOST_LINES = 1_000_000
 
@@ -60,6 +62,9 @@ def show_line(hint, path, number):
     with open(path, "rb") as lines:
         for at in range(1, number + 1):
             line = lines.readline(1 << 20)
+            has_charges = line != OLD_HEAD if at == 1 else has_charges
             if at == number and line:
                 hint.say(f"{path}, line {number}:")
                 hint.show(plain(line.rstrip(b"\n").decode("latin-1")))
+                if not has_charges and line.split(b" ", 1)[0].rstrip(b"\n") == b"charge":
+                    hint.say("a proof that begins with fleet proof 1 has no charges; one with charges begins with fleet proof 2")

@@ -6,7 +6,7 @@ import re
 
 from hints.forms import fields_of, whole
 from hints.headers import explain_header
-from hints.records import DATED, HEADERS, MOST_BYTES, bytes_of, headers_of, record_of, records_in
+from hints.records import DATED, HEADERS, LIMITED, MOST_BYTES, bytes_of, headers_of, record_of, records_in
 from hints.saying import listed, plain, quietly
 
 SECTION = "what-is-wrong-with-a-table-kinds-1-to-12"
@@ -127,7 +127,8 @@ def tell_form(path, form, record):
             why = f"{why} (--period says after how many days the schedule repeats)"
         if why:
             shown = plain(text) if text == text.strip() else f"'{plain(text)}'"
-            told.append(f"{heading} is {shown}, and {why}" if text else f"{heading} is empty")
+            empty = f"{heading} is empty{': write - for any number' if heading == LIMITED[-1] else ''}"
+            told.append(f"{heading} is {shown}, and {why}" if text else empty)
     return told
 
 

@@ -22,14 +22,15 @@ class Leg:
 
 
 class Schedule:
-    """The tables of a folder. Each name is a key: `extra` and `maintains` of stations, `aircraft` and `turn` of fleets, `legs` of
+    """The tables of a folder. Each name is a key: `extra`, `maintains` and `parking` of stations, `aircraft` and `turn` of fleets, `legs` of
     flights, `cost` of pairs of flight and fleet, `fleets_of` of flights. It repeats after `period` days of so many `minutes`."""
 
     def __init__(self, folder, day_start, period=1):
         rows = {it: checked(folder, it, period) for it in TABLES}
         self.folder, self.day_start, self.period, self.minutes = folder, day_start, period, DAY * period
-        self.extra = {code: int(extra) for code, extra, _ in rows["stations.csv"]}
-        self.maintains = {code: flag == "yes" for code, _, flag in rows["stations.csv"]}
+        self.extra = {code: int(extra) for code, extra, *_ in rows["stations.csv"]}
+        self.maintains = {code: flag == "yes" for code, _, flag, *_ in rows["stations.csv"]}
+        self.parking = {code: int(limit) for code, _, _, *limits in rows["stations.csv"] for limit in limits if limit != "-"}
         self.aircraft = {name: int(number) for name, number, _ in rows["fleets.csv"]}
         self.turn = {name: int(minutes) for name, _, minutes in rows["fleets.csv"]}
         self.legs = {row[0]: Leg(row, day_start, period) for row in rows["legs.csv"]}
@@ -92,6 +93,11 @@ class Schedule:
                 most = max(most, lacking)
             need[station] = most
         return need, goes, comes
+
+    def stands(self, flown, station, day):
+        """Returns how many aircraft of these flights are on the ground at a station at the end of a day."""
+        need, goes, comes = self.needs(flown)
+        return need[station] + sum(comes[station][: DAY * day]) - sum(goes[station][: DAY * day])
 
     def used(self, flown):
         """Returns how many aircraft these flights use: those at stations at the first day's start, and those aloft or in a turn then."""

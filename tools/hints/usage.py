@@ -11,7 +11,7 @@ TOP = os.path.dirname(os.path.dirname(os.path.dirname(os.path.realpath(__file__)
 KIT = os.path.join(TOP, "crates", "fleetplan", "out", "kit")
 SECTION = "the-words-of-a-call"
 FILES = (
-    ("stations.csv", "stations: code, extra minutes of a turn there, maintenance yes or no"),
+    ("stations.csv", "stations: code, extra minutes of a turn there, maintenance yes or no, room at night if limited"),
     ("fleets.csv", "fleets: name, aircraft, minutes of a turn"),
     ("legs.csv", "the flights of a day, or of some days (--period): from, departure, to, arrival, in UTC"),
     ("costs.csv", "which fleet may fly which flight, and what it costs"),

@@ -1,7 +1,7 @@
 """Stations, fleets and costs of the tables, as files of the caller's say or as the schedule file has them."""
 
-from hints.forms import FIELDS, TRILLION, code, name, whole
-from hints.records import HEADERS, Unread
+from hints.forms import FIELDS, TRILLION, code, fields_of, name, whole
+from hints.records import HEADERS, Unread, headers_of, record_of
 from schedule_files.files import judged
 from schedule_files.layout import LEG, BadLine
 
@@ -19,9 +19,17 @@ def stations_of(path, schedule, flown):
         occurs.setdefault(it.leg.destination, (it.leg, "arrival station"))
     if path is None:
         return [(it, 0, "no") for it in sorted(occurs)]
-    found = judged(path, HEADERS["stations.csv"], FIELDS["stations.csv"])
+    header = station_header(path)
+    found = judged(path, header, fields_of("stations.csv", header))
     check_all(path, schedule, occurs, {it[0] for it in found})
     return [it for it in found if it[0] in occurs]
+
+
+def station_header(path):
+    """Returns which of its headers a caller's file of stations has, or the first."""
+    first = record_of(path, 1)
+    has = tuple(first.texts) if first else ()
+    return has if has in headers_of("stations.csv") else HEADERS["stations.csv"]
 
 
 def fleets_of(path, schedule, flown):

@@ -2,7 +2,7 @@
 
 from collections import Counter
 
-from hints.records import DATED, HEADERS
+from hints.records import DATED, HEADERS, LIMITED
 from schedule_files import costing, judging, naming, selecting
 from schedule_files.days import clock, iso
 from schedule_files.files import table, write_all
@@ -35,7 +35,8 @@ class Made:
     def count_aircraft(self):
         """Gives each fleet as many aircraft as the plan as filed uses, by the program; or as many as a fleet may have."""
         most = [(fleet, costing.MOST_AIRCRAFT, turn) for fleet, _, turn in self.fleets]
-        asked = {**self.texts(), "fleets.csv": encoded("fleets.csv", most)}
+        anywhere = [it[: len(HEADERS["stations.csv"])] for it in self.stations]
+        asked = {**self.texts(), "stations.csv": encoded("stations.csv", anywhere), "fleets.csv": encoded("fleets.csv", most)}
         asked["costs.csv"] = encoded("costs.csv", costing.costs_of(None, self.schedule, self.flown, most))
         used, self.unjudged = judging.used_by(asked, [fleet for fleet, *_ in most], self.dates.count)
         self.fleets = most if used is None else [(fleet, used[fleet], turn) for fleet, _, turn in most]
@@ -51,6 +52,8 @@ class Made:
             "plan.csv": [(it.name, it.leg.type) for it in self.flown],
         }
         texts = {name: encoded(name, records[name]) for name in records}
+        if any(len(it) == len(LIMITED) for it in self.stations):
+            texts["stations.csv"] = table(LIMITED, self.stations).encode("ascii")
         if self.dates.count > 1:
             texts["legs.csv"] = table(DATED, records["legs.csv"]).encode("ascii")
         return {**texts, "names.csv": table(NAMES, [named(it) for it in self.flown]).encode("ascii")}

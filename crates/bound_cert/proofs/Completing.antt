@@ -1,23 +1,26 @@
 -- Prices and fractional assignments of which a first part was read go on to whole ones.
-use Rattle.bound_cert.proofs.LineTwins.{Alike, Twin, alike_first, alike_self, mixed_scale_twin, rent_twin, scale_twin, step_twin, weight_twin}
+use Rattle.bound_cert.proofs.LineTwins.{Alike, Twin, alike_first, alike_self, charge_twin, mixed_scale_twin, rent_twin, scale_twin, step_twin, weight_twin}
 use Rattle.bound_cert.proofs.ReadOn.{begins, bound, entries_end, entries_more}
-use Rattle.bound_cert.proofs.Shrinking.{Shrinks, entries_shrink, rents_shrink, shrinks_bind, steps_shrink, weights_shrink}
+use Rattle.bound_cert.proofs.Shrinking.{Shrinks, charges_shrink, entries_shrink, rents_shrink, shrinks_bind, steps_shrink, weights_shrink}
 use Rattle.bound_cert.proofs.TextPrices.{StepWas, step_was}
 use Rattle.bound_cert.proofs.WrittenLines.{names, other_words}
 use Rattle.bound_cert.proofs.WrittenNodes.{behind_line}
 use Rattle.bound_cert.proofs.WrittenPrices.{IsBehind, mixed_scale_read, needed_by, next_begins, of_step, scale_read, step_read, steps_read}
 use Rattle.bound_cert.specs.Lines.{◌>>=◌, Left, Reading, Stopped, fits}
 use Rattle.bound_cert.specs.ProofText.{at_line}
-use Rattle.bound_cert.specs.Reading.{Series, entries_from, entry_at, first_words, is_needless, mixed_at, mixed_scale_at, padded, prices_at, rent_series, rents_from, scale_at, step_at, step_series, steps_from, weight_series, weights_from}
+use Rattle.bound_cert.specs.Reading.{Series, charge_series, charges_from, entries_from, entry_at, first_words, is_needless, mixed_at, mixed_scale_at, padded, prices_at, rent_series, rents_from, scale_at, step_at, step_series, steps_from, weight_series, weights_from}
 use Rattle.bound_cert.specs.declared.reading_lines.Due.{Due}
 use Rattle.dual_bound.proofs.StepOrder.{one_figure, same_place_by}
 use Rattle.dual_bound.specs.OfTables.{IsStepOf}
 use Rattle.dual_bound.specs.Order.{same_place, step_follows}
 use Rattle.dual_bound.specs.WrittenOrder.{IsStepInOrder, goes_on}
 use Rattle.dual_bound.specs.declared.mixed.Weight.{Weight}
+use Rattle.dual_bound.specs.declared.prices.Charge.{Charge}
 use Rattle.dual_bound.specs.declared.prices.PriceStep.{PriceStep}
+use Rattle.dual_bound.specs.declared.prices.Prices.{Prices}
 use Rattle.fleet_model.proofs.PeriodMinutes.{day_or_more}
 use Rattle.fleet_model.specs.declared.tables.Tables.{Tables}
+use Rattle.proof_lines.specs.declared.line.Version.{Version}
 use Rattle.proof_lines.specs.Forms.{form_in}
 use Rattle.proof_lines.specs.LineText.{line_bytes}
 use Rattle.proof_lines.specs.Reading.{is_step_of}
@@ -31,10 +34,15 @@ use Rattle.sums.proofs.Naturals.{first_same}
 use Rattle.bound_cert.specs.declared.reading_lines.Due.TheVariants as due
 use Rattle.proof_lines.specs.declared.line.Line.TheVariants as says
 
--- some line, which doesn't begin as one of this kind
+-- some line, which doesn't begin as one of this kind in any version
 pub record MayFollow (kind : Due) (left : Left) : Type 0 where
   pub some : 0 < length left
-  pub other : begins left kind ≡ false
+  pub other : (v : Version) → begins v left kind ≡ false
+
+-- some line, which begins neither as a rent nor as a charge
+record MayBeStep (left : Left) : Type 0 where
+  no_rent : MayFollow due.Rent left
+  no_charge : MayFollow due.Charge left
 
 -- where nothing of the lines before is left, these may stand
 abbrev pub MayAt : (Left → Type 0) → Left → Left → Type 0
@@ -129,24 +137,24 @@ ends_map May Need end f h g p q (Err e) wider onward is = λ there.
       need = λ z ends. wider (done.more ++ z) (done.need z ends);
     }
 
--- one part read behind another
-module _ {A B C : Type 0} (MayFirst NeedFirst May : Left → Type 0) (end : Left) (f : Left → Reading (A × Left)) (g : A → Left → Reading (B × Left)) (h : A → B → C) (whole : Left → Reading (C × Left)) (p q : Left)
-    (weaker : (m : Left) → IsBehind m → MayFirst m) (last : (m : Left) → IsBehind m → May m)
+-- one part read behind another, and behind both what may stand there
+module _ {A B C : Type 0} (MayFirst NeedFirst May Last : Left → Type 0) (end : Left) (f : Left → Reading (A × Left)) (g : A → Left → Reading (B × Left)) (h : A → B → C) (whole : Left → Reading (C × Left)) (p q : Left)
+    (weaker : (m : Left) → Last m → MayFirst m) (last : (m : Left) → Last m → May m)
     (onward : (m : Left) → 0 < length m → whole (p ++ m) ≡ (f (q ++ m) >>= λ x. g x.0 x.1 >>= λ y. Ok (h x.0 y.0, y.1)))
     (empty : (a : A) → Completes IsBehind (g a) [])
     (shrinks : (a : A) (b : Left) → Shrinks (length b) (g a b)) where
   -- what may follow the second part may follow the first
-  may_first : (rest left m : Left) (read : Left) → read ≡ left ++ end → length read ≤ length (rest ++ end) → MayAt IsBehind left m → MayAt MayFirst rest m
+  may_first : (rest left m : Left) (read : Left) → read ≡ left ++ end → length read ≤ length (rest ++ end) → MayAt Last left m → MayAt MayFirst rest m
   may_first [] [] m read is less may = weaker m may
   may_first [] (x ∷ left) m read is less may = absurd (omega (arith, ap length is, less, length-append left end))
   may_first (x ∷ rest) left m read is less may = tt
 
-  may_last : (left m : Left) → MayAt IsBehind left m → MayAt May left m
+  may_last : (left m : Left) → MayAt Last left m → MayAt May left m
   may_last [] m may = last m may
   may_last (x ∷ left) m may = tt
 
   second_ends : (a : A) (rest : Left) → ((m : Left) → 0 < length m → MayAt MayFirst rest m → f (q ++ m) ≡ Ok (a, rest ++ m)) → (r : Reading (B × Left)) → Shrinks (length (rest ++ end)) r
-      → EndsBy May MayFirst end (g a) rest r → EndsBy IsBehind (λ m. ⊤) end whole p (r >>= λ y. Ok (h a y.0, y.1))
+      → EndsBy May MayFirst end (g a) rest r → EndsBy Last (λ m. ⊤) end whole p (r >>= λ y. Ok (h a y.0, y.1))
   second_ends a rest stays (Ok read) less (inl is) = inl (record {
     rest = is.rest;
     left_is = is.left_is;
@@ -169,12 +177,12 @@ module _ {A B C : Type 0} (MayFirst NeedFirst May : Left → Type 0) (end : Left
       }
 
   pub ends_then : ((a : A) (rest : Left) → EndsBy May MayFirst end (g a) rest (g a (rest ++ end))) → (r : Reading (A × Left)) → EndsBy MayFirst NeedFirst end f q r
-      → EndsBy IsBehind (λ m. ⊤) end whole p (r >>= λ x. g x.0 x.1 >>= λ y. Ok (h x.0 y.0, y.1))
+      → EndsBy Last (λ m. ⊤) end whole p (r >>= λ x. g x.0 x.1 >>= λ y. Ok (h x.0 y.0, y.1))
   ends_then second (Ok read) (inl is) =
-      subst (λ b. EndsBy IsBehind (λ m. ⊤) end whole p (g read.0 b >>= λ y. Ok (h read.0 y.0, y.1))) (sym is.left_is)
+      subst (λ b. EndsBy Last (λ m. ⊤) end whole p (g read.0 b >>= λ y. Ok (h read.0 y.0, y.1))) (sym is.left_is)
       (second_ends read.0 is.rest is.stays (g read.0 (is.rest ++ end)) (shrinks read.0 (is.rest ++ end)) (second read.0 is.rest))
   ends_then second (Ok read) (inr short) =
-      beyond IsBehind (λ m. ⊤) end whole p (length read.1) _ (shrinks_bind (length read.1) (g read.0 read.1) _ (shrinks read.0 read.1) (λ b rest. omega arith)) short
+      beyond Last (λ m. ⊤) end whole p (length read.1) _ (shrinks_bind (length read.1) (g read.0 read.1) _ (shrinks read.0 read.1) (λ b rest. omega arith)) short
   ends_then second (Err e) is = λ there.
       let done = is there in
       let behind = (empty done.value) in
@@ -193,24 +201,50 @@ module _ {A B C : Type 0} (MayFirst NeedFirst May : Left → Type 0) (end : Left
 no_rent : (m : Left) → IsBehind m → MayFollow due.Rent m
 no_rent m behind = record { some = behind.some; other = behind.no_rent }
 
+no_charge : (m : Left) → IsBehind m → MayFollow due.Charge m
+no_charge m behind = record { some = behind.some; other = behind.no_charge }
+
 no_step : (m : Left) → IsBehind m → MayFollow due.Step m
 no_step m behind = record { some = behind.some; other = behind.no_step }
 
-module _ (t : Tables) (line : List ℕ) (after : Left) where
+may_be_step : (m : Left) → IsBehind m → MayBeStep m
+may_be_step m behind = record { no_rent = no_rent m behind; no_charge = no_charge m behind }
+
+-- what is needed with no other step behind it is needed whatever is behind it
+needless_either : (c d g h : Bool) → g ≡ false → (c && d && not g) ≡ false → (c && d && not h) ≡ false
+needless_either false d g h off needed = refl
+needless_either true false g h off needed = refl
+needless_either true true true h off needed = absurd (cc off)
+needless_either true true false h off needed = absurd (cc needed)
+
+-- two parts that are read, and what goes on from them
+abbrev both_parts : {A B : Type 0} → A → B × Left → Reading ((A × B) × Left)
+both_parts first second = Ok ((first, second.0), second.1)
+
+regroup : {A B C : Type 0} (r : Reading (A × Left)) (g : Left → Reading (B × Left)) (on : (A × B) × Left → Reading C)
+    → ((r >>= λ x. g x.1 >>= both_parts x.0) >>= on) ≡ (r >>= λ x. g x.1 >>= λ y. on ((x.0, y.0), y.1))
+regroup {A = A} {B = B} (Ok x) g on = second (g x.1)
+  where
+    second : (s : Reading (B × Left)) → ((s >>= both_parts x.0) >>= on) ≡ (s >>= λ y. on ((x.0, y.0), y.1))
+    second (Ok y) = refl
+    second (Err e) = refl
+regroup (Err e) g on = refl
+
+module _ (v : Version) (t : Tables) (line : List ℕ) (after : Left) where
   abbrev end : Left
   end = line ∷ after
 
-  entries_go : {S A B : Type 0} (s : Series S A B) (May Need : Left → Type 0) → ((so_far : S) (a b : Left) → Alike a b → Twin a b (entry_at s so_far a) (entry_at s so_far b)) → ((m : Left) → May m → begins m s.kind ≡ false)
-      → ((m : Left) → IsBehind m → begins m s.kind ≡ false) → ((m : Left) → IsBehind m → Need m) → (so_far : S) (p : Left) → EndsBy May Need end (entries_from s so_far) p (entries_from s so_far (p ++ end))
+  entries_go : {S A B : Type 0} (s : Series S A B) (May Need : Left → Type 0) → ((so_far : S) (a b : Left) → Alike a b → Twin a b (entry_at s so_far a) (entry_at s so_far b)) → ((m : Left) → May m → begins s.names.version m s.kind ≡ false)
+      → ((m : Left) → IsBehind m → begins s.names.version m s.kind ≡ false) → ((m : Left) → IsBehind m → Need m) → (so_far : S) (p : Left) → EndsBy May Need end (entries_from s so_far) p (entries_from s so_far (p ++ end))
   unfolding entries_from
   entries_go s May Need twin may_end behind_ends need so_far [] =
-      ends_if _ _ end _ [] (fits s.kind (form_in (words_of line))) _ _
+      ends_if _ _ end _ [] (fits s.kind (form_in s.names.version (words_of line))) _ _
       (λ is. ends_read _ _ end _ [] (entry_at s so_far end) _
       (λ e failed there. record { more = []; value = s.all so_far; reads = λ z ends. entries_end s so_far z (behind_ends z ends); need = need })
       (λ entry read. beyond _ _ end _ [] (length after) _ (entries_shrink s (λ so_far a. twin so_far a a (alike_self a)) (s.grow so_far entry) after) (omega arith)))
       (λ is. inl (record { rest = []; left_is = refl; stays = λ m some may. entries_end s so_far m (may_end m may) }))
   entries_go s May Need twin may_end behind_ends need so_far (x ∷ p) =
-      ends_if _ _ end _ (x ∷ p) (fits s.kind (form_in (words_of x))) _ _
+      ends_if _ _ end _ (x ∷ p) (fits s.kind (form_in s.names.version (words_of x))) _ _
       (λ is. ends_read _ _ end _ (x ∷ p) (entry_at s so_far (x ∷ (p ++ end))) _
       (λ e failed there. not_there x p end (entry_at s so_far (x ∷ (p ++ end))) e (twin so_far (x ∷ (p ++ end)) (x ∷ (p ++ end)) (alike_self (x ∷ (p ++ end)))) failed there)
       (λ entry read. ends_lift _ _ end (entries_from s so_far) (x ∷ p) (entries_from s (s.grow so_far entry)) p _ (λ m may. tt)
@@ -219,41 +253,40 @@ module _ (t : Tables) (line : List ℕ) (after : Left) where
       (entries_go s May Need twin may_end behind_ends need (s.grow so_far entry) p)))
       (λ is. inl (record { rest = x ∷ p; left_is = refl; stays = λ m some may. entries_end s so_far (x ∷ (p ++ m)) is }))
 
-  rents_go : (rents : List ℤ) (p : Left) → EndsBy (MayFollow due.Rent) IsBehind end (rents_from (names t) rents) p (rents_from (names t) rents (p ++ end))
-  rents_go = entries_go (rent_series (names t)) (MayFollow due.Rent) IsBehind (λ rents a b alike. rent_twin t a b alike (length rents)) (λ m may. may.other) (λ m ends. ends.no_rent) (λ m ends. ends)
+  rents_go : (rents : List ℤ) (p : Left) → EndsBy (MayFollow due.Rent) IsBehind end (rents_from (names v t) rents) p (rents_from (names v t) rents (p ++ end))
+  rents_go = entries_go (rent_series (names v t)) (MayFollow due.Rent) IsBehind (λ rents a b alike. rent_twin v t a b alike (length rents)) (λ m may. may.other v) (λ m ends. ends.no_rent v) (λ m ends. ends)
 
-  weights_go : (weights : List Weight) (before : Option Weight) (p : Left) → EndsBy IsBehind IsBehind end (weights_from (names t) weights before) p (weights_from (names t) weights before (p ++ end))
+  charges_go : (charges : List Charge) (before : Option Charge) (p : Left) → EndsBy (MayFollow due.Charge) (MayFollow due.Rent) end (charges_from (names v t) charges before) p (charges_from (names v t) charges before (p ++ end))
+  charges_go charges before =
+      entries_go (charge_series (names v t)) (MayFollow due.Charge) (MayFollow due.Rent) (λ so_far a b alike. charge_twin v t a b alike so_far.1) (λ m may. may.other v) (λ m ends. ends.no_charge v) no_rent (charges, before)
+
+  weights_go : (weights : List Weight) (before : Option Weight) (p : Left) → EndsBy IsBehind IsBehind end (weights_from (names v t) weights before) p (weights_from (names v t) weights before (p ++ end))
   weights_go weights before =
-      entries_go (weight_series (names t)) IsBehind IsBehind (λ so_far a b alike. weight_twin t a b alike so_far.1) (λ m may. may.no_weight) (λ m ends. ends.no_weight) (λ m ends. ends) (weights, before)
+      entries_go (weight_series (names v t)) IsBehind IsBehind (λ so_far a b alike. weight_twin v t a b alike so_far.1) (λ m may. may.no_weight v) (λ m ends. ends.no_weight v) (λ m ends. ends) (weights, before)
 
   -- a step that other lines may follow: it needs no other step of its place, or has one
-  module _ (steps : List PriceStep) (before : Option PriceStep) (x : List ℕ) (is : begins (x ∷ []) due.Step ≡ true) (step : PriceStep) (was : StepWas t before (x ∷ end) step) where
-    onward : (m : Left) → 0 < length m → is_needless (names t) step m ≡ false → steps_from (names t) steps before (x ∷ m) ≡ steps_from (names t) (steps ++ step ∷ []) (Some step) m
+  module _ (steps : List PriceStep) (before : Option PriceStep) (x : List ℕ) (is : begins v (x ∷ []) due.Step ≡ true) (step : PriceStep) (was : StepWas v t before (x ∷ end) step) where
+    onward : (m : Left) → 0 < length m → is_needless (names v t) step m ≡ false → steps_from (names v t) steps before (x ∷ m) ≡ steps_from (names v t) (steps ++ step ∷ []) (Some step) m
     onward m some needed =
         let first : x ≡ line_bytes t (at_line step) = first_same x (line_bytes t (at_line step)) end end was.line_is.is in
-        entries_more (step_series (names t)) (steps, before) (x ∷ m) step is (ap (λ y. step_at (names t) before (y ∷ m)) first ∙ step_read t before step m was.order was.follows needed some)
+        entries_more (step_series (names v t)) (steps, before) (x ∷ m) step is (ap (λ y. step_at (names v t) before (y ∷ m)) first ∙ step_read v t before step m was.order was.follows needed some)
 
     -- behind lines of another kind it is needed as little as behind such
-    stays_needed : (m : Left) → begins end due.Step ≡ false → begins m due.Step ≡ false → is_needless (names t) step m ≡ false
-    stays_needed m here there = by_zero (step.minute == 0) (int_eq step.value (pos 0)) (is_step_of (names t) step.fleet step.station (first_words end)) (is_step_of (names t) step.fleet step.station (first_words m)) (rw (other_words end here) refl) was.needed
-      where
-        by_zero : (c d g h : Bool) → g ≡ false → (c && d && not g) ≡ false → (c && d && not h) ≡ false
-        by_zero false d g h off needed = refl
-        by_zero true false g h off needed = refl
-        by_zero true true g h off needed = absurd (cc (off, needed))
+    stays_needed : (m : Left) → begins v end due.Step ≡ false → begins v m due.Step ≡ false → is_needless (names v t) step m ≡ false
+    stays_needed m here there = needless_either (step.minute == 0) (int_eq step.value (pos 0)) (is_step_of (names v t) step.fleet step.station (first_words end)) (is_step_of (names v t) step.fleet step.station (first_words m)) (rw (other_words v end here) refl) was.needed
 
     next : PriceStep
     next = record { fleet = step.fleet; station = step.station; minute = 1; value = pos 1 }
 
-    completed : Completes (MayFollow due.Rent) (steps_from (names t) steps before) (x ∷ [])
+    completed : Completes MayBeStep (steps_from (names v t) steps before) (x ∷ [])
     unfolding next
     completed = by_zero (step.minute == 0) (int_eq step.value (pos 0)) refl refl
       where
-        plain : (c d : Bool) → (step.minute == 0) ≡ c → int_eq step.value (pos 0) ≡ d → (c && d) ≡ false → Completes (MayFollow due.Rent) (steps_from (names t) steps before) (x ∷ [])
+        plain : (c d : Bool) → (step.minute == 0) ≡ c → int_eq step.value (pos 0) ≡ d → (c && d) ≡ false → Completes MayBeStep (steps_from (names v t) steps before) (x ∷ [])
         plain c d minute value off = record {
           more = [];
           value = steps ++ step ∷ [];
-          reads = λ z ends. onward z ends.some (rw (minute, value) (needless_off c d (is_step_of (names t) step.fleet step.station (first_words z)) off)) ∙ entries_end (step_series (names t)) (steps ++ step ∷ [], Some step) z ends.no_step;
+          reads = λ z ends. onward z ends.some (rw (minute, value) (needless_off c d (is_step_of (names v t) step.fleet step.station (first_words z)) off)) ∙ entries_end (step_series (names v t)) (steps ++ step ∷ [], Some step) z (ends.no_step v);
           need = λ z ends. tt;
         }
           where
@@ -262,7 +295,7 @@ module _ (t : Tables) (line : List ℕ) (after : Left) where
             needless_off true false g off = refl
             needless_off true true g off = absurd (cc off)
 
-        by_zero : (c d : Bool) → (step.minute == 0) ≡ c → int_eq step.value (pos 0) ≡ d → Completes (MayFollow due.Rent) (steps_from (names t) steps before) (x ∷ [])
+        by_zero : (c d : Bool) → (step.minute == 0) ≡ c → int_eq step.value (pos 0) ≡ d → Completes MayBeStep (steps_from (names v t) steps before) (x ∷ [])
         by_zero false d minute value = plain false d minute value refl
         by_zero true false minute value = plain true false minute value refl
         by_zero true true minute value =
@@ -278,93 +311,120 @@ module _ (t : Tables) (line : List ℕ) (after : Left) where
               value = (steps ++ step ∷ []) ++ next ∷ [];
               reads = λ z ends.
                   onward (line_bytes t (at_line next) ∷ z) (omega arith)
-                  (needed_by t (step.minute == 0) (int_eq step.value (pos 0)) (goes_on step (next ∷ [])) (is_step_of (names t) step.fleet step.station (first_words (line_bytes t (at_line next) ∷ z))) (rw (place, minute, value) refl)
-                  (next_begins t step (next ∷ []) z of))
-                  ∙ steps_read t (next ∷ []) (steps ++ step ∷ []) (Some step) z each of (rw follows refl, tt) (refl, tt) ends.some ends.no_step;
+                  (needed_by v t (step.minute == 0) (int_eq step.value (pos 0)) (goes_on step (next ∷ [])) (is_step_of (names v t) step.fleet step.station (first_words (line_bytes t (at_line next) ∷ z))) (rw (place, minute, value) refl)
+                  (next_begins v t step (next ∷ []) z of))
+                  ∙ steps_read v t (next ∷ []) (steps ++ step ∷ []) (Some step) z each of (rw follows refl, tt) (refl, tt) ends.some (ends.no_step v);
               need = λ z ends. tt;
             }
 
-  steps_go : (steps : List PriceStep) (before : Option PriceStep) (p : Left) → EndsBy (MayFollow due.Step) (MayFollow due.Rent) end (steps_from (names t) steps before) p (steps_from (names t) steps before (p ++ end))
+  steps_go : (steps : List PriceStep) (before : Option PriceStep) (p : Left) → EndsBy (MayFollow due.Step) MayBeStep end (steps_from (names v t) steps before) p (steps_from (names v t) steps before (p ++ end))
   unfolding entries_from
   steps_go steps before [] =
-      ends_if _ _ end _ [] (fits due.Step (form_in (words_of line))) _ _
-      (λ is. ends_read _ _ end _ [] (step_at (names t) before end) _
-      (λ e failed there. record { more = []; value = steps; reads = λ z ends. entries_end (step_series (names t)) (steps, before) z ends.no_step; need = λ z ends. no_rent z ends })
-      (λ step read. beyond _ _ end _ [] (length after) _ (steps_shrink t (steps ++ step ∷ []) (Some step) after) (omega arith)))
-      (λ is. inl (record { rest = []; left_is = refl; stays = λ m some may. entries_end (step_series (names t)) (steps, before) m may.other }))
+      ends_if _ _ end _ [] (fits due.Step (form_in v (words_of line))) _ _
+      (λ is. ends_read _ _ end _ [] (step_at (names v t) before end) _
+      (λ e failed there. record { more = []; value = steps; reads = λ z ends. entries_end (step_series (names v t)) (steps, before) z (ends.no_step v); need = may_be_step })
+      (λ step read. beyond _ _ end _ [] (length after) _ (steps_shrink v t (steps ++ step ∷ []) (Some step) after) (omega arith)))
+      (λ is. inl (record { rest = []; left_is = refl; stays = λ m some may. entries_end (step_series (names v t)) (steps, before) m (may.other v) }))
   steps_go steps before (x ∷ []) =
-      ends_if _ _ end _ (x ∷ []) (fits due.Step (form_in (words_of x))) _ _
-      (λ is. ends_read _ _ end _ (x ∷ []) (step_at (names t) before (x ∷ end)) _
-      (λ e failed there. not_there x [] end (step_at (names t) before (x ∷ end)) e (step_twin t (x ∷ end) (x ∷ end) (alike_self (x ∷ end)) before (λ zero_step. refl)) failed there)
+      ends_if _ _ end _ (x ∷ []) (fits due.Step (form_in v (words_of x))) _ _
+      (λ is. ends_read _ _ end _ (x ∷ []) (step_at (names v t) before (x ∷ end)) _
+      (λ e failed there. not_there x [] end (step_at (names v t) before (x ∷ end)) e (step_twin v t (x ∷ end) (x ∷ end) (alike_self (x ∷ end)) before (λ zero_step. refl)) failed there)
       (λ step read.
-      let was = step_was t before (x ∷ end) step read in
-      ends_if _ _ end _ (x ∷ []) (fits due.Step (form_in (words_of line))) _ _
-      (λ on. ends_read _ _ end _ (x ∷ []) (step_at (names t) (Some step) end) _ (λ e failed there. completed steps before x is step was)
-      (λ other read. beyond _ _ end _ (x ∷ []) (length after) _ (steps_shrink t ((steps ++ step ∷ []) ++ other ∷ []) (Some other) after) (omega arith)))
+      let was = step_was v t before (x ∷ end) step read in
+      ends_if _ _ end _ (x ∷ []) (fits due.Step (form_in v (words_of line))) _ _
+      (λ on. ends_read _ _ end _ (x ∷ []) (step_at (names v t) (Some step) end) _ (λ e failed there. completed steps before x is step was)
+      (λ other read. beyond _ _ end _ (x ∷ []) (length after) _ (steps_shrink v t ((steps ++ step ∷ []) ++ other ∷ []) (Some other) after) (omega arith)))
       (λ off. inl (record {
         rest = [];
         left_is = refl;
-        stays = λ m some may. onward steps before x is step was m some (stays_needed steps before x is step was m off may.other) ∙ entries_end (step_series (names t)) (steps ++ step ∷ [], Some step) m may.other;
+        stays = λ m some may. onward steps before x is step was m some (stays_needed steps before x is step was m off (may.other v)) ∙ entries_end (step_series (names v t)) (steps ++ step ∷ [], Some step) m (may.other v);
       }))))
-      (λ is. inl (record { rest = x ∷ []; left_is = refl; stays = λ m some may. entries_end (step_series (names t)) (steps, before) (x ∷ m) is }))
+      (λ is. inl (record { rest = x ∷ []; left_is = refl; stays = λ m some may. entries_end (step_series (names v t)) (steps, before) (x ∷ m) is }))
   steps_go steps before (x ∷ y ∷ p) =
-      ends_if _ _ end _ (x ∷ y ∷ p) (fits due.Step (form_in (words_of x))) _ _
-      (λ is. ends_read _ _ end _ (x ∷ y ∷ p) (step_at (names t) before (x ∷ y ∷ (p ++ end))) _
-      (λ e failed there. not_there x (y ∷ p) end (step_at (names t) before (x ∷ y ∷ (p ++ end))) e (step_twin t (x ∷ y ∷ (p ++ end)) (x ∷ y ∷ (p ++ end)) (alike_self (x ∷ y ∷ (p ++ end))) before (λ zero_step. refl)) failed there)
-      (λ step read. ends_lift _ _ end (steps_from (names t) steps before) (x ∷ y ∷ p) (steps_from (names t) (steps ++ step ∷ []) (Some step)) (y ∷ p) _ (λ m may. tt)
-      (λ m some. entries_more (step_series (names t)) (steps, before) (x ∷ y ∷ (p ++ m)) step is
-      (value_of (x ∷ y ∷ (p ++ end)) (x ∷ y ∷ (p ++ m)) (step_at (names t) before (x ∷ y ∷ (p ++ end))) (step_at (names t) before (x ∷ y ∷ (p ++ m))) step
-      (step_twin t (x ∷ y ∷ (p ++ end)) (x ∷ y ∷ (p ++ m)) (alike_first x y y (p ++ end) (p ++ m)) before (λ zero_step. refl)) read))
+      ends_if _ _ end _ (x ∷ y ∷ p) (fits due.Step (form_in v (words_of x))) _ _
+      (λ is. ends_read _ _ end _ (x ∷ y ∷ p) (step_at (names v t) before (x ∷ y ∷ (p ++ end))) _
+      (λ e failed there. not_there x (y ∷ p) end (step_at (names v t) before (x ∷ y ∷ (p ++ end))) e (step_twin v t (x ∷ y ∷ (p ++ end)) (x ∷ y ∷ (p ++ end)) (alike_self (x ∷ y ∷ (p ++ end))) before (λ zero_step. refl)) failed there)
+      (λ step read. ends_lift _ _ end (steps_from (names v t) steps before) (x ∷ y ∷ p) (steps_from (names v t) (steps ++ step ∷ []) (Some step)) (y ∷ p) _ (λ m may. tt)
+      (λ m some. entries_more (step_series (names v t)) (steps, before) (x ∷ y ∷ (p ++ m)) step is
+      (value_of (x ∷ y ∷ (p ++ end)) (x ∷ y ∷ (p ++ m)) (step_at (names v t) before (x ∷ y ∷ (p ++ end))) (step_at (names v t) before (x ∷ y ∷ (p ++ m))) step
+      (step_twin v t (x ∷ y ∷ (p ++ end)) (x ∷ y ∷ (p ++ m)) (alike_first x y y (p ++ end) (p ++ m)) before (λ zero_step. refl)) read))
       (steps_go (steps ++ step ∷ []) (Some step) (y ∷ p))))
-      (λ is. inl (record { rest = x ∷ y ∷ p; left_is = refl; stays = λ m some may. entries_end (step_series (names t)) (steps, before) (x ∷ y ∷ (p ++ m)) is }))
+      (λ is. inl (record { rest = x ∷ y ∷ p; left_is = refl; stays = λ m some may. entries_end (step_series (names v t)) (steps, before) (x ∷ y ∷ (p ++ m)) is }))
 
-  pub prices_go : (p : Left) → EndsBy IsBehind (λ m. ⊤) end (prices_at (names t)) p (prices_at (names t) (p ++ end))
-  unfolding prices_at
+  -- rents and charges, and with them steps
+  two_parts : Left → Reading ((List ℤ × List Charge) × Left)
+  two_parts left = rents_from (names v t) [] left >>= λ rents. charges_from (names v t) [] None rents.1 >>= both_parts rents.0
+
+  three_parts : ℤ → List ℤ × List Charge → List PriceStep → Prices
+  three_parts scale two steps = record { scale = scale; rents = two.0; steps = steps; charges = two.1 }
+
+  two_parts_go : (p : Left) → EndsBy MayBeStep (λ m. ⊤) end two_parts p (two_parts (p ++ end))
+  unfolding two_parts
+  two_parts_go p =
+      ends_then (MayFollow due.Rent) IsBehind (MayFollow due.Charge) MayBeStep end (rents_from (names v t) []) (λ rents. charges_from (names v t) [] None) (λ rents charges. (rents, charges)) two_parts p p
+      (λ m may. may.no_rent) (λ m may. may.no_charge) (λ m some. refl)
+      (λ rents. record { more = []; value = []; reads = λ z ends. entries_end (charge_series (names v t)) ([], None) z (ends.no_charge v); need = λ z ends. ends })
+      (λ rents. charges_shrink v t [] None)
+      (λ rents. charges_go [] None) (rents_from (names v t) [] (p ++ end)) (rents_go [] p)
+
+  of_three : (scale : ℤ) (left : Left)
+      → ◌≡◌ {A = Reading (Prices × Left)} (two_parts left >>= λ two. steps_from (names v t) [] None two.1 >>= λ steps. Ok (three_parts scale two.0 steps.0, steps.1))
+      (rents_from (names v t) [] left >>= λ rents. charges_from (names v t) [] None rents.1 >>= λ charges. steps_from (names v t) [] None charges.1
+      >>= λ steps. Ok (record { scale = scale; rents = rents.0; steps = steps.0; charges = charges.0 }, steps.1))
+  unfolding two_parts three_parts
+  of_three scale left = regroup (rents_from (names v t) [] left) (charges_from (names v t) [] None) (λ two. steps_from (names v t) [] None two.1 >>= λ steps. Ok (three_parts scale two.0 steps.0, steps.1))
+
+  pub prices_go : (p : Left) → EndsBy IsBehind (λ m. ⊤) end (prices_at (names v t)) p (prices_at (names v t) (p ++ end))
+  unfolding prices_at three_parts
   prices_go [] =
-      ends_read _ _ end _ [] (scale_at (names t) end) _
+      ends_read _ _ end _ [] (scale_at (names v t) end) _
       (λ e failed there. record {
         more = line_bytes t (says.Scale (pos 1)) ∷ [];
-        value = record { scale = pos 1; rents = padded [] (length (names t).fleets); steps = []; charges = [] };
+        value = record { scale = pos 1; rents = padded [] (length (names v t).fleets); steps = []; charges = [] };
         reads = λ z ends.
-            bound (scale_at (names t) (line_bytes t (says.Scale (pos 1)) ∷ z)) (pos 1) _ (scale_read t (pos 1) z one_figure ends.some)
-            ∙ bound (rents_from (names t) [] z) (padded [] (length (names t).fleets), z) _ (entries_end (rent_series (names t)) [] z ends.no_rent)
-            ∙ bound (steps_from (names t) [] None z) ([], z) _ (entries_end (step_series (names t)) ([], None) z ends.no_step);
+            bound (scale_at (names v t) (line_bytes t (says.Scale (pos 1)) ∷ z)) (pos 1) _ (scale_read v t (pos 1) z one_figure ends.some)
+            ∙ bound (rents_from (names v t) [] z) (padded [] (length (names v t).fleets), z) _ (entries_end (rent_series (names v t)) [] z (ends.no_rent v))
+            ∙ bound (charges_from (names v t) [] None z) ([], z) _ (entries_end (charge_series (names v t)) ([], None) z (ends.no_charge v))
+            ∙ bound (steps_from (names v t) [] None z) ([], z) _ (entries_end (step_series (names v t)) ([], None) z (ends.no_step v));
         need = λ z ends. tt;
       })
       (λ scale read. beyond _ _ end _ [] (length after) _
-      (shrinks_bind (length after) (rents_from (names t) [] after) _ (rents_shrink t [] after) (λ rents b. shrinks_bind (length b) (steps_from (names t) [] None b) _ (steps_shrink t [] None b) (λ steps c. omega arith))) (omega arith))
+      (shrinks_bind (length after) (rents_from (names v t) [] after) _ (rents_shrink v t [] after) (λ rents b.
+      shrinks_bind (length b) (charges_from (names v t) [] None b) _ (charges_shrink v t [] None b) (λ charges c. shrinks_bind (length c) (steps_from (names v t) [] None c) _ (steps_shrink v t [] None c) (λ steps d. omega arith)))) (omega arith))
   prices_go (x ∷ p) =
-      ends_read _ _ end _ (x ∷ p) (scale_at (names t) (x ∷ (p ++ end))) _
-      (λ e failed there. not_there x p end (scale_at (names t) (x ∷ (p ++ end))) e (scale_twin t (x ∷ (p ++ end)) (x ∷ (p ++ end)) (alike_self (x ∷ (p ++ end)))) failed there)
-      (λ scale read. ends_then (MayFollow due.Rent) IsBehind (MayFollow due.Step) end (rents_from (names t) []) (λ rents. steps_from (names t) [] None) (λ rents steps. record { scale = scale; rents = rents; steps = steps; charges = [] }) (prices_at (names t)) (x ∷ p) p
-      no_rent no_step
-      (λ m some. bound (scale_at (names t) (x ∷ (p ++ m))) scale _
-      (value_of (x ∷ (p ++ end)) (x ∷ (p ++ m)) (scale_at (names t) (x ∷ (p ++ end))) (scale_at (names t) (x ∷ (p ++ m))) scale (scale_twin t (x ∷ (p ++ end)) (x ∷ (p ++ m)) (alike_after x line p after m some)) read))
-      (λ rents. record { more = []; value = []; reads = λ z ends. entries_end (step_series (names t)) ([], None) z ends.no_step; need = λ z ends. ends })
-      (λ rents. steps_shrink t [] None)
-      (λ rents. steps_go [] None) (rents_from (names t) [] (p ++ end)) (rents_go [] p))
+      ends_read _ _ end _ (x ∷ p) (scale_at (names v t) (x ∷ (p ++ end))) _
+      (λ e failed there. not_there x p end (scale_at (names v t) (x ∷ (p ++ end))) e (scale_twin v t (x ∷ (p ++ end)) (x ∷ (p ++ end)) (alike_self (x ∷ (p ++ end)))) failed there)
+      (λ scale read. subst (λ r. EndsBy IsBehind (λ m. ⊤) end (prices_at (names v t)) (x ∷ p) r) (of_three scale (p ++ end))
+      (ends_then MayBeStep (λ m. ⊤) (MayFollow due.Step) IsBehind end two_parts (λ two. steps_from (names v t) [] None) (three_parts scale) (prices_at (names v t)) (x ∷ p) p
+      may_be_step no_step
+      (λ m some. bound (scale_at (names v t) (x ∷ (p ++ m))) scale _
+      (value_of (x ∷ (p ++ end)) (x ∷ (p ++ m)) (scale_at (names v t) (x ∷ (p ++ end))) (scale_at (names v t) (x ∷ (p ++ m))) scale (scale_twin v t (x ∷ (p ++ end)) (x ∷ (p ++ m)) (alike_after x line p after m some)) read)
+      ∙ sym (of_three scale (p ++ m)))
+      (λ two. record { more = []; value = []; reads = λ z ends. entries_end (step_series (names v t)) ([], None) z (ends.no_step v); need = λ z ends. ends })
+      (λ two. steps_shrink v t [] None)
+      (λ two. steps_go [] None) (two_parts (p ++ end)) (two_parts_go p)))
 
-  pub one_mixed : Completes IsBehind (mixed_at (names t)) []
+  pub one_mixed : Completes IsBehind (mixed_at (names v t)) []
   unfolding mixed_at
   one_mixed = record {
     more = line_bytes t (says.Mixed (pos 1)) ∷ [];
     value = record { scale = pos 1; weights = [] };
     reads = λ z ends.
-        bound (mixed_scale_at (names t) (line_bytes t (says.Mixed (pos 1)) ∷ z)) (pos 1) _ (mixed_scale_read t (pos 1) z one_figure ends.some)
-        ∙ bound (weights_from (names t) [] None z) ([], z) _ (entries_end (weight_series (names t)) ([], None) z ends.no_weight);
-    need = λ z ends. behind_line t (says.Mixed (pos 1)) z tt refl refl refl;
+        bound (mixed_scale_at (names v t) (line_bytes t (says.Mixed (pos 1)) ∷ z)) (pos 1) _ (mixed_scale_read v t (pos 1) z one_figure ends.some)
+        ∙ bound (weights_from (names v t) [] None z) ([], z) _ (entries_end (weight_series (names v t)) ([], None) z (ends.no_weight v));
+    need = λ z ends. behind_line v t (says.Mixed (pos 1)) z tt refl refl refl refl;
   }
 
-  pub mixed_goes : (p : Left) → EndsBy IsBehind IsBehind end (mixed_at (names t)) p (mixed_at (names t) (p ++ end))
+  pub mixed_goes : (p : Left) → EndsBy IsBehind IsBehind end (mixed_at (names v t)) p (mixed_at (names v t) (p ++ end))
   unfolding mixed_at
   mixed_goes [] =
-      ends_read _ _ end _ [] (mixed_scale_at (names t) end) _
+      ends_read _ _ end _ [] (mixed_scale_at (names v t) end) _
       (λ e failed there. one_mixed)
-      (λ scale read. beyond _ _ end _ [] (length after) _ (shrinks_bind (length after) (weights_from (names t) [] None after) _ (weights_shrink t [] None after) (λ weights b. omega arith)) (omega arith))
+      (λ scale read. beyond _ _ end _ [] (length after) _ (shrinks_bind (length after) (weights_from (names v t) [] None after) _ (weights_shrink v t [] None after) (λ weights b. omega arith)) (omega arith))
   mixed_goes (x ∷ p) =
-      ends_read _ _ end _ (x ∷ p) (mixed_scale_at (names t) (x ∷ (p ++ end))) _
-      (λ e failed there. not_there x p end (mixed_scale_at (names t) (x ∷ (p ++ end))) e (mixed_scale_twin t (x ∷ (p ++ end)) (x ∷ (p ++ end)) (alike_self (x ∷ (p ++ end)))) failed there)
-      (λ scale read. ends_map IsBehind IsBehind end (weights_from (names t) [] None) (λ weights. record { scale = scale; weights = weights }) (mixed_at (names t)) (x ∷ p) p (weights_from (names t) [] None (p ++ end)) (λ m may. tt)
-      (λ m some. bound (mixed_scale_at (names t) (x ∷ (p ++ m))) scale _
-      (value_of (x ∷ (p ++ end)) (x ∷ (p ++ m)) (mixed_scale_at (names t) (x ∷ (p ++ end))) (mixed_scale_at (names t) (x ∷ (p ++ m))) scale (mixed_scale_twin t (x ∷ (p ++ end)) (x ∷ (p ++ m)) (alike_after x line p after m some)) read))
+      ends_read _ _ end _ (x ∷ p) (mixed_scale_at (names v t) (x ∷ (p ++ end))) _
+      (λ e failed there. not_there x p end (mixed_scale_at (names v t) (x ∷ (p ++ end))) e (mixed_scale_twin v t (x ∷ (p ++ end)) (x ∷ (p ++ end)) (alike_self (x ∷ (p ++ end)))) failed there)
+      (λ scale read. ends_map IsBehind IsBehind end (weights_from (names v t) [] None) (λ weights. record { scale = scale; weights = weights }) (mixed_at (names v t)) (x ∷ p) p (weights_from (names v t) [] None (p ++ end)) (λ m may. tt)
+      (λ m some. bound (mixed_scale_at (names v t) (x ∷ (p ++ m))) scale _
+      (value_of (x ∷ (p ++ end)) (x ∷ (p ++ m)) (mixed_scale_at (names v t) (x ∷ (p ++ end))) (mixed_scale_at (names v t) (x ∷ (p ++ m))) scale (mixed_scale_twin v t (x ∷ (p ++ end)) (x ∷ (p ++ m)) (alike_after x line p after m some)) read))
       (weights_go [] None p))

@@ -1,14 +1,15 @@
 -- The first fault of a text rests on the lines up to its own, and behind a step of 0 at minute 0 on the next one.
-use Rattle.bound_cert.proofs.LineTwins.{Alike, Twin, alike_first, head_twin, line_twin, mixed_scale_twin, plan_twin, rent_twin, scale_twin, step_twin, weight_twin}
-use Rattle.bound_cert.proofs.Shrinking.{Shrinks, Stops, body_shrinks, end_stops, headed_twin, mixed_shrinks, node_takes, nodes_shrink, nothing_stops, proof_stops, rents_shrink, shrinks_bind, shrinks_if, steps_shrink, stops_then, tree_stops, version_stops, weights_shrink}
+use Rattle.bound_cert.proofs.LineTwins.{Alike, Twin, alike_first, charge_twin, head_twin, line_twin, mixed_scale_twin, plan_twin, rent_twin, scale_twin, step_twin, weight_twin}
+use Rattle.bound_cert.proofs.Shrinking.{Shrinks, Stops, body_shrinks, charges_shrink, end_stops, headed_twin, mixed_shrinks, node_takes, nodes_shrink, nothing_stops, proof_stops, rents_shrink, rest_stops, shrinks_bind, shrinks_if, steps_shrink, stops_then, tree_stops, weights_shrink}
 use Rattle.bound_cert.proofs.WrittenLines.{names}
 use Rattle.bound_cert.specs.FirstFault.{FirstFaultIsFixed, is_zero_step}
 use Rattle.bound_cert.specs.Lines.{◌>>=◌, Left, Reading, fits, line_due, stopped}
 use Rattle.bound_cert.specs.Nodes.{Above, after_node, end_at, head_is, nodes_from, nothing, plan_at, proof_at, rest_at, tree_at}
-use Rattle.bound_cert.specs.Reading.{Series, body_at, entries_from, entry_at, first_words, head_at, mixed_at, mixed_scale_at, node_at, prices_at, rent_series, rents_from, scale_at, step_series, steps_from, weight_series, weights_from}
+use Rattle.bound_cert.specs.Reading.{Series, body_at, charge_series, charges_from, entries_from, entry_at, first_words, head_at, mixed_at, mixed_scale_at, node_at, prices_at, rent_series, rents_from, scale_at, step_series, steps_from, weight_series, weights_from}
 use Rattle.bound_cert.specs.declared.nodes.Head.{Head}
 use Rattle.dual_bound.specs.declared.mixed.Weight.{Weight}
 use Rattle.dual_bound.specs.declared.nodes.Node.{Node}
+use Rattle.dual_bound.specs.declared.prices.Charge.{Charge}
 use Rattle.dual_bound.specs.declared.prices.PriceStep.{PriceStep}
 use Rattle.fleet_model.specs.declared.tables.Tables.{Tables}
 use Rattle.proof_lines.specs.Forms.{form_in}
@@ -19,7 +20,6 @@ use Rattle.std.proofs.Common.{[], ◌++◌, ◌<◌, ◌==◌, ◌∙◌, ◌∷
 use Rattle.std.specs.Prelude.{⊤}
 use Rattle.bound_cert.specs.declared.nodes.Head.TheVariants as head
 use Rattle.bound_cert.specs.declared.reading_lines.Due.TheVariants as due
-use Rattle.proof_lines.specs.declared.line.Version.TheVariants as version
 
 -- what is read before the line is read of both; what stops at it stops both, for one reason; else the line is passed
 record Ahead {A : Type 0} (end other_end : Left) (read : A × Left) (other : Reading (A × Left)) : Type 0 where
@@ -86,7 +86,12 @@ module _ (end other_end : Left) where
   ends_bind (Ok read) s f (inr short) on stops = over (length read.1) (f read) (s >>= f) (stops read.0 read.1) short
   ends_bind (Err e) s f follows on stops = λ there. ap (λ s. s >>= f) (follows there)
 
-module _ (t : Tables) (line next other : List ℕ) (rest others : Left) (look : is_zero_step (words_of line) ≡ true → next ≡ other) where
+alike_before : (line next other : List ℕ) (rest others p : Left) → Alike (p ++ line ∷ next ∷ rest) (p ++ line ∷ other ∷ others)
+alike_before line next other rest others [] = alike_first line next other rest others
+alike_before line next other rest others (x ∷ []) = alike_first x line line (next ∷ rest) (other ∷ others)
+alike_before line next other rest others (x ∷ y ∷ p) = alike_first x y y (p ++ line ∷ next ∷ rest) (p ++ line ∷ other ∷ others)
+
+module _ (v : Version) (t : Tables) (line next other : List ℕ) (rest others : Left) (look : is_zero_step (words_of line) ≡ true → next ≡ other) where
   abbrev end : Left
   end = line ∷ next ∷ rest
 
@@ -94,9 +99,7 @@ module _ (t : Tables) (line next other : List ℕ) (rest others : Left) (look : 
   other_end = line ∷ other ∷ others
 
   alike : (p : Left) → Alike (p ++ end) (p ++ other_end)
-  alike [] = alike_first line next other rest others
-  alike (x ∷ []) = alike_first x line line (next ∷ rest) (other ∷ others)
-  alike (x ∷ y ∷ p) = alike_first x y y (p ++ end) (p ++ other_end)
+  alike p = alike_before line next other rest others p
 
   looks : (p : Left) → is_zero_step (first_words (p ++ end)) ≡ true → first_words (drop 1 (p ++ end)) ≡ first_words (drop 1 (p ++ other_end))
   looks [] is = ap words_of (look is)
@@ -113,80 +116,87 @@ module _ (t : Tables) (line next other : List ℕ) (rest others : Left) (look : 
       → ((so_far : S) (a : Left) → Shrinks (length a) (entries_from s so_far a)) → (so_far : S) (p : Left) → Follows end other_end (entries_from s so_far (p ++ end)) (entries_from s so_far (p ++ other_end))
   unfolding entries_from
   entries_follow s twin shrinks so_far [] =
-      follows_if end other_end (fits s.kind (form_in (words_of line))) _ _ _ _
+      follows_if end other_end (fits s.kind (form_in s.names.version (words_of line))) _ _ _ _
       (follows_line end other_end [] (entry_at s so_far end) (entry_at s so_far other_end) _ _ (twin so_far [])
       (λ entry. passed end other_end (length (next ∷ rest)) _ _ (shrinks (s.grow so_far entry) (next ∷ rest)) (omega arith)))
       (same_end end other_end _ [])
   entries_follow s twin shrinks so_far (x ∷ p) =
-      follows_if end other_end (fits s.kind (form_in (words_of x))) _ _ _ _
+      follows_if end other_end (fits s.kind (form_in s.names.version (words_of x))) _ _ _ _
       (follows_line end other_end (x ∷ p) (entry_at s so_far (x ∷ (p ++ end))) (entry_at s so_far (x ∷ (p ++ other_end))) _ _ (twin so_far (x ∷ p))
       (λ entry. entries_follow s twin shrinks (s.grow so_far entry) p))
       (same_end end other_end _ (x ∷ p))
 
-  rents_follow : (rents : List ℤ) (p : Left) → Follows end other_end (rents_from (names t) rents (p ++ end)) (rents_from (names t) rents (p ++ other_end))
-  rents_follow = entries_follow (rent_series (names t)) (λ rents p. rent_twin t (p ++ end) (p ++ other_end) (alike p) (length rents)) (rents_shrink t)
+  rents_follow : (rents : List ℤ) (p : Left) → Follows end other_end (rents_from (names v t) rents (p ++ end)) (rents_from (names v t) rents (p ++ other_end))
+  rents_follow = entries_follow (rent_series (names v t)) (λ rents p. rent_twin v t (p ++ end) (p ++ other_end) (alike p) (length rents)) (rents_shrink v t)
 
-  steps_follow : (steps : List PriceStep) (before : Option PriceStep) (p : Left) → Follows end other_end (steps_from (names t) steps before (p ++ end)) (steps_from (names t) steps before (p ++ other_end))
+  charges_follow : (charges : List Charge) (before : Option Charge) (p : Left) → Follows end other_end (charges_from (names v t) charges before (p ++ end)) (charges_from (names v t) charges before (p ++ other_end))
+  charges_follow charges before =
+      entries_follow (charge_series (names v t)) (λ so_far p. charge_twin v t (p ++ end) (p ++ other_end) (alike p) so_far.1) (λ so_far. charges_shrink v t so_far.0 so_far.1) (charges, before)
+
+  steps_follow : (steps : List PriceStep) (before : Option PriceStep) (p : Left) → Follows end other_end (steps_from (names v t) steps before (p ++ end)) (steps_from (names v t) steps before (p ++ other_end))
   steps_follow steps before =
-      entries_follow (step_series (names t)) (λ so_far p. step_twin t (p ++ end) (p ++ other_end) (alike p) so_far.1 (looks p)) (λ so_far. steps_shrink t so_far.0 so_far.1) (steps, before)
+      entries_follow (step_series (names v t)) (λ so_far p. step_twin v t (p ++ end) (p ++ other_end) (alike p) so_far.1 (looks p)) (λ so_far. steps_shrink v t so_far.0 so_far.1) (steps, before)
 
-  weights_follow : (weights : List Weight) (before : Option Weight) (p : Left) → Follows end other_end (weights_from (names t) weights before (p ++ end)) (weights_from (names t) weights before (p ++ other_end))
+  weights_follow : (weights : List Weight) (before : Option Weight) (p : Left) → Follows end other_end (weights_from (names v t) weights before (p ++ end)) (weights_from (names v t) weights before (p ++ other_end))
   weights_follow weights before =
-      entries_follow (weight_series (names t)) (λ so_far p. weight_twin t (p ++ end) (p ++ other_end) (alike p) so_far.1) (λ so_far. weights_shrink t so_far.0 so_far.1) (weights, before)
+      entries_follow (weight_series (names v t)) (λ so_far p. weight_twin v t (p ++ end) (p ++ other_end) (alike p) so_far.1) (λ so_far. weights_shrink v t so_far.0 so_far.1) (weights, before)
 
-  prices_follow : (p : Left) → Follows end other_end (prices_at (names t) (p ++ end)) (prices_at (names t) (p ++ other_end))
+  prices_follow : (p : Left) → Follows end other_end (prices_at (names v t) (p ++ end)) (prices_at (names v t) (p ++ other_end))
   unfolding prices_at
   prices_follow p =
-      follows_line end other_end p (scale_at (names t) (p ++ end)) (scale_at (names t) (p ++ other_end)) _ _ (scale_twin t (p ++ end) (p ++ other_end) (alike p)) (λ scale.
-      follows_bind end other_end (rents_from (names t) [] (drop 1 (p ++ end))) (rents_from (names t) [] (drop 1 (p ++ other_end))) _ (follows_behind (rents_from (names t) []) p (rents_follow []) (rents_shrink t []))
-      (λ rents q. follows_bind end other_end (steps_from (names t) [] None (q ++ end)) (steps_from (names t) [] None (q ++ other_end)) _ (steps_follow [] None q) (λ steps. same_end end other_end _) (λ steps a. omega arith))
-      (λ rents a. shrinks_bind (length a) (steps_from (names t) [] None a) _ (steps_shrink t [] None a) (λ steps b. omega arith)))
+      follows_line end other_end p (scale_at (names v t) (p ++ end)) (scale_at (names v t) (p ++ other_end)) _ _ (scale_twin v t (p ++ end) (p ++ other_end) (alike p)) (λ scale.
+      follows_bind end other_end (rents_from (names v t) [] (drop 1 (p ++ end))) (rents_from (names v t) [] (drop 1 (p ++ other_end))) _ (follows_behind (rents_from (names v t) []) p (rents_follow []) (rents_shrink v t []))
+      (λ rents q. follows_bind end other_end (charges_from (names v t) [] None (q ++ end)) (charges_from (names v t) [] None (q ++ other_end)) _ (charges_follow [] None q)
+      (λ charges o. follows_bind end other_end (steps_from (names v t) [] None (o ++ end)) (steps_from (names v t) [] None (o ++ other_end)) _ (steps_follow [] None o) (λ steps. same_end end other_end _) (λ steps a. omega arith))
+      (λ charges a. shrinks_bind (length a) (steps_from (names v t) [] None a) _ (steps_shrink v t [] None a) (λ steps b. omega arith)))
+      (λ rents a. shrinks_bind (length a) (charges_from (names v t) [] None a) _ (charges_shrink v t [] None a) (λ charges b.
+      shrinks_bind (length b) (steps_from (names v t) [] None b) _ (steps_shrink v t [] None b) (λ steps c. omega arith))))
 
-  mixed_follows : (p : Left) → Follows end other_end (mixed_at (names t) (p ++ end)) (mixed_at (names t) (p ++ other_end))
+  mixed_follows : (p : Left) → Follows end other_end (mixed_at (names v t) (p ++ end)) (mixed_at (names v t) (p ++ other_end))
   unfolding mixed_at
   mixed_follows p =
-      follows_line end other_end p (mixed_scale_at (names t) (p ++ end)) (mixed_scale_at (names t) (p ++ other_end)) _ _ (mixed_scale_twin t (p ++ end) (p ++ other_end) (alike p)) (λ scale.
-      follows_bind end other_end (weights_from (names t) [] None (drop 1 (p ++ end))) (weights_from (names t) [] None (drop 1 (p ++ other_end))) _ (follows_behind (weights_from (names t) [] None) p (weights_follow [] None) (weights_shrink t [] None))
+      follows_line end other_end p (mixed_scale_at (names v t) (p ++ end)) (mixed_scale_at (names v t) (p ++ other_end)) _ _ (mixed_scale_twin v t (p ++ end) (p ++ other_end) (alike p)) (λ scale.
+      follows_bind end other_end (weights_from (names v t) [] None (drop 1 (p ++ end))) (weights_from (names v t) [] None (drop 1 (p ++ other_end))) _ (follows_behind (weights_from (names v t) [] None) p (weights_follow [] None) (weights_shrink v t [] None))
       (λ weights. same_end end other_end _) (λ weights a. omega arith))
 
-  body_follows : (h : Head) (p : Left) → Follows end other_end (body_at (names t) h (p ++ end)) (body_at (names t) h (p ++ other_end))
+  body_follows : (h : Head) (p : Left) → Follows end other_end (body_at (names v t) h (p ++ end)) (body_at (names v t) h (p ++ other_end))
   unfolding body_at
   body_follows (head.Alone h) p = same_end end other_end _ p
-  body_follows (head.Priced h) p = follows_bind end other_end (prices_at (names t) (p ++ end)) (prices_at (names t) (p ++ other_end)) _ (prices_follow p) (λ prices. same_end end other_end _) (λ prices a. omega arith)
+  body_follows (head.Priced h) p = follows_bind end other_end (prices_at (names v t) (p ++ end)) (prices_at (names v t) (p ++ other_end)) _ (prices_follow p) (λ prices. same_end end other_end _) (λ prices a. omega arith)
   body_follows (head.Mixed h) p =
-      follows_bind end other_end (prices_at (names t) (p ++ end)) (prices_at (names t) (p ++ other_end)) _ (prices_follow p)
-      (λ prices q. follows_bind end other_end (mixed_at (names t) (q ++ end)) (mixed_at (names t) (q ++ other_end)) _ (mixed_follows q) (λ mixed. same_end end other_end _) (λ mixed a. omega arith))
-      (λ prices a. shrinks_bind (length a) (mixed_at (names t) a) _ (mixed_shrinks t a) (λ mixed b. omega arith))
+      follows_bind end other_end (prices_at (names v t) (p ++ end)) (prices_at (names v t) (p ++ other_end)) _ (prices_follow p)
+      (λ prices q. follows_bind end other_end (mixed_at (names v t) (q ++ end)) (mixed_at (names v t) (q ++ other_end)) _ (mixed_follows q) (λ mixed. same_end end other_end _) (λ mixed a. omega arith))
+      (λ prices a. shrinks_bind (length a) (mixed_at (names v t) a) _ (mixed_shrinks v t a) (λ mixed b. omega arith))
 
-  node_follows : (above : ℕ) (p : Left) → Follows end other_end (node_at (names t) above (p ++ end)) (node_at (names t) above (p ++ other_end))
+  node_follows : (above : ℕ) (p : Left) → Follows end other_end (node_at (names v t) above (p ++ end)) (node_at (names v t) above (p ++ other_end))
   unfolding node_at
   node_follows above p =
-      follows_line end other_end p (head_at (names t) above (p ++ end)) (head_at (names t) above (p ++ other_end)) _ _ (head_twin t (p ++ end) (p ++ other_end) (alike p) above) (λ h.
-      follows_behind (body_at (names t) h) p (body_follows h) (body_shrinks t h))
+      follows_line end other_end p (head_at (names v t) above (p ++ end)) (head_at (names v t) above (p ++ other_end)) _ _ (head_twin v t (p ++ end) (p ++ other_end) (alike p) above) (λ h.
+      follows_behind (body_at (names v t) h) p (body_follows h) (body_shrinks v t h))
 
   node_then : (m k : ℕ) (nodes : List Node) (above : Above) (p : Left)
-      → ((n : Node) (q : Left) → length q < length p → Follows end other_end (nodes_from (names t) m (nodes ++ n ∷ []) (after_node n above) (q ++ end)) (nodes_from (names t) k (nodes ++ n ∷ []) (after_node n above) (q ++ other_end)))
-      → (r s : Reading (Node × Left)) → node_at (names t) (length above) (p ++ end) ≡ r → Follows end other_end r s
+      → ((n : Node) (q : Left) → length q < length p → Follows end other_end (nodes_from (names v t) m (nodes ++ n ∷ []) (after_node n above) (q ++ end)) (nodes_from (names v t) k (nodes ++ n ∷ []) (after_node n above) (q ++ other_end)))
+      → (r s : Reading (Node × Left)) → node_at (names v t) (length above) (p ++ end) ≡ r → Follows end other_end r s
       → Follows end other_end
-      (r >>= λ read. cond (length (after_node read.0 above) == 0) (Ok (nodes ++ read.0 ∷ [], read.1)) (nodes_from (names t) m (nodes ++ read.0 ∷ []) (after_node read.0 above) read.1))
-      (s >>= λ read. cond (length (after_node read.0 above) == 0) (Ok (nodes ++ read.0 ∷ [], read.1)) (nodes_from (names t) k (nodes ++ read.0 ∷ []) (after_node read.0 above) read.1))
+      (r >>= λ read. cond (length (after_node read.0 above) == 0) (Ok (nodes ++ read.0 ∷ [], read.1)) (nodes_from (names v t) m (nodes ++ read.0 ∷ []) (after_node read.0 above) read.1))
+      (s >>= λ read. cond (length (after_node read.0 above) == 0) (Ok (nodes ++ read.0 ∷ [], read.1)) (nodes_from (names v t) k (nodes ++ read.0 ∷ []) (after_node read.0 above) read.1))
   node_then m k nodes above p on (Ok read) s e (inl ahead) =
-      let taken = node_takes t (length above) (p ++ end) read e in
+      let taken = node_takes v t (length above) (p ++ end) read e in
       let shorter : length ahead.before < length p = omega (arith, taken, ap length ahead.left_is, length-append ahead.before end, length-append p end) in
       subst (λ s. Follows end other_end (f m read) (s >>= f k)) (sym ahead.other_is)
       (subst (λ a. Follows end other_end (f m (read.0, a)) (f k (read.0, ahead.before ++ other_end))) (sym ahead.left_is)
       (follows_if end other_end (length (after_node read.0 above) == 0) _ _ _ _ (same_end end other_end _ ahead.before) (on read.0 ahead.before shorter)))
     where
       f : ℕ → Node × Left → Reading (List Node × Left)
-      f n read = cond (length (after_node read.0 above) == 0) (Ok (nodes ++ read.0 ∷ [], read.1)) (nodes_from (names t) n (nodes ++ read.0 ∷ []) (after_node read.0 above) read.1)
+      f n read = cond (length (after_node read.0 above) == 0) (Ok (nodes ++ read.0 ∷ [], read.1)) (nodes_from (names v t) n (nodes ++ read.0 ∷ []) (after_node read.0 above) read.1)
   node_then m k nodes above p on (Ok read) s e (inr short) =
       passed end other_end (length read.1) _ _
-      (shrinks_if (length read.1) (length (after_node read.0 above) == 0) _ _ (omega arith) (nodes_shrink t m (nodes ++ read.0 ∷ []) (after_node read.0 above) read.1)) short
+      (shrinks_if (length read.1) (length (after_node read.0 above) == 0) _ _ (omega arith) (nodes_shrink v t m (nodes ++ read.0 ∷ []) (after_node read.0 above) read.1)) short
   node_then m k nodes above p on (Err e) s same follows = λ there.
-      ap (λ s. s >>= λ read. cond (length (after_node read.0 above) == 0) (Ok (nodes ++ read.0 ∷ [], read.1)) (nodes_from (names t) k (nodes ++ read.0 ∷ []) (after_node read.0 above) read.1)) (follows there)
+      ap (λ s. s >>= λ read. cond (length (after_node read.0 above) == 0) (Ok (nodes ++ read.0 ∷ [], read.1)) (nodes_from (names v t) k (nodes ++ read.0 ∷ []) (after_node read.0 above) read.1)) (follows there)
 
   nodes_follow : (m k : ℕ) (nodes : List Node) (above : Above) (p : Left) → length (p ++ end) ≤ m → length (p ++ other_end) ≤ k
-      → Follows end other_end (nodes_from (names t) m nodes above (p ++ end)) (nodes_from (names t) k nodes above (p ++ other_end))
+      → Follows end other_end (nodes_from (names v t) m nodes above (p ++ end)) (nodes_from (names v t) k nodes above (p ++ other_end))
   unfolding nodes_from
   nodes_follow zero k nodes above p few other_few = absurd (omega (arith, few, length-append p end))
   nodes_follow (suc m) zero nodes above p few other_few = absurd (omega (arith, other_few, length-append p other_end))
@@ -194,7 +204,7 @@ module _ (t : Tables) (line next other : List ℕ) (rest others : Left) (look : 
       node_then m k nodes above p
       (λ n q shorter.
       nodes_follow m k (nodes ++ n ∷ []) (after_node n above) q (omega (arith, few, shorter, length-append p end, length-append q end)) (omega (arith, other_few, shorter, length-append p other_end, length-append q other_end)))
-      (node_at (names t) (length above) (p ++ end)) (node_at (names t) (length above) (p ++ other_end)) refl (node_follows (length above) p)
+      (node_at (names v t) (length above) (p ++ end)) (node_at (names v t) (length above) (p ++ other_end)) refl (node_follows (length above) p)
 
   -- ---- the end of a text, and all of it
   nothing_ends : (p : Left) → Ends end other_end (nothing (p ++ end)) (nothing (p ++ other_end))
@@ -203,38 +213,42 @@ module _ (t : Tables) (line next other : List ℕ) (rest others : Left) (look : 
   nothing_ends (x ∷ []) = λ there. absurd (omega (arith, there))
   nothing_ends (x ∷ y ∷ p) = λ there. absurd (omega (arith, there, length-append p end))
 
-  end_ends : (p : Left) → Ends end other_end (end_at (names t) (p ++ end)) (end_at (names t) (p ++ other_end))
+  end_ends : (p : Left) → Ends end other_end (end_at (names v t) (p ++ end)) (end_at (names v t) (p ++ other_end))
   unfolding end_at
-  end_ends p = ends_line end other_end p (line_due (names t) due.End (p ++ end)) (line_due (names t) due.End (p ++ other_end)) _ _ (line_twin (names t) due.End (p ++ end) (p ++ other_end) (alike p)) (λ words. behind p)
+  end_ends p = ends_line end other_end p (line_due (names v t) due.End (p ++ end)) (line_due (names v t) due.End (p ++ other_end)) _ _ (line_twin (names v t) due.End (p ++ end) (p ++ other_end) (alike p)) (λ words. behind p)
     where
       behind : (p : Left) → Ends end other_end (nothing (drop 1 (p ++ end))) (nothing (drop 1 (p ++ other_end)))
       behind [] = over end other_end (length (next ∷ rest)) (nothing (next ∷ rest)) (nothing (other ∷ others)) (nothing_stops (next ∷ rest)) (omega arith)
       behind (x ∷ p) = nothing_ends p
 
-  tree_ends : (p : Left) → Ends end other_end (tree_at (names t) (p ++ end)) (tree_at (names t) (p ++ other_end))
+  tree_ends : (p : Left) → Ends end other_end (tree_at (names v t) (p ++ end)) (tree_at (names v t) (p ++ other_end))
   unfolding tree_at
   tree_ends p =
-      ends_bind end other_end (nodes_from (names t) (length (p ++ end)) [] [] (p ++ end)) (nodes_from (names t) (length (p ++ other_end)) [] [] (p ++ other_end)) _
+      ends_bind end other_end (nodes_from (names v t) (length (p ++ end)) [] [] (p ++ end)) (nodes_from (names v t) (length (p ++ other_end)) [] [] (p ++ other_end)) _
       (nodes_follow (length (p ++ end)) (length (p ++ other_end)) [] [] p (omega arith) (omega arith))
-      (λ nodes q. ends_then end other_end (end_at (names t) (q ++ end)) (end_at (names t) (q ++ other_end)) (λ ended. nodes) (end_ends q))
-      (λ nodes a. stops_then (length a) (end_at (names t) a) (λ ended. nodes) (end_stops t a))
+      (λ nodes q. ends_then end other_end (end_at (names v t) (q ++ end)) (end_at (names v t) (q ++ other_end)) (λ ended. nodes) (end_ends q))
+      (λ nodes a. stops_then (length a) (end_at (names v t) a) (λ ended. nodes) (end_stops v t a))
 
-  rest_ends : (p : Left) → Ends end other_end (rest_at (names t) (p ++ end)) (rest_at (names t) (p ++ other_end))
+  rest_ends : (p : Left) → Ends end other_end (rest_at (names v t) (p ++ end)) (rest_at (names v t) (p ++ other_end))
   unfolding rest_at
-  rest_ends p = ends_line end other_end p (plan_at (names t) (p ++ end)) (plan_at (names t) (p ++ other_end)) _ _ (plan_twin t (p ++ end) (p ++ other_end) (alike p)) (λ planned. behind planned p)
+  rest_ends p = ends_line end other_end p (plan_at (names v t) (p ++ end)) (plan_at (names v t) (p ++ other_end)) _ _ (plan_twin v t (p ++ end) (p ++ other_end) (alike p)) (λ planned. behind planned p)
     where
-      behind : (planned : Bool) (p : Left) → Ends {A = Bool × List Node} end other_end (tree_at (names t) (drop 1 (p ++ end)) >>= λ nodes. Ok (planned, nodes)) (tree_at (names t) (drop 1 (p ++ other_end)) >>= λ nodes. Ok (planned, nodes))
+      behind : (planned : Bool) (p : Left) → Ends {A = Bool × List Node} end other_end (tree_at (names v t) (drop 1 (p ++ end)) >>= λ nodes. Ok (planned, nodes)) (tree_at (names v t) (drop 1 (p ++ other_end)) >>= λ nodes. Ok (planned, nodes))
       behind planned [] =
-          over end other_end (length (next ∷ rest)) _ _ (stops_then (length (next ∷ rest)) (tree_at (names t) (next ∷ rest)) (λ nodes. (planned, nodes)) (tree_stops t (next ∷ rest))) (omega arith)
-      behind planned (x ∷ p) = ends_then end other_end (tree_at (names t) (p ++ end)) (tree_at (names t) (p ++ other_end)) (λ nodes. (planned, nodes)) (tree_ends p)
+          over end other_end (length (next ∷ rest)) _ _ (stops_then (length (next ∷ rest)) (tree_at (names v t) (next ∷ rest)) (λ nodes. (planned, nodes)) (tree_stops v t (next ∷ rest))) (omega arith)
+      behind planned (x ∷ p) = ends_then end other_end (tree_at (names v t) (p ++ end)) (tree_at (names v t) (p ++ other_end)) (λ nodes. (planned, nodes)) (tree_ends p)
 
-  all_ends : (p : Left) → Ends end other_end (proof_at t (p ++ end)) (proof_at t (p ++ other_end))
+module _ (t : Tables) (line next other : List ℕ) (rest others : Left) (look : is_zero_step (words_of line) ≡ true → next ≡ other) where
+  all_ends : (p : Left) → Ends (line ∷ next ∷ rest) (line ∷ other ∷ others) (proof_at t (p ++ line ∷ next ∷ rest)) (proof_at t (p ++ line ∷ other ∷ others))
   unfolding proof_at
-  all_ends p = ends_line end other_end p (head_is (p ++ end)) (head_is (p ++ other_end)) _ _ (headed_twin (p ++ end) (p ++ other_end) (alike p)) (λ version. behind version p)
+  all_ends p =
+      let end : Left = line ∷ next ∷ rest in
+      let other_end : Left = line ∷ other ∷ others in
+      ends_line end other_end p (head_is (p ++ end)) (head_is (p ++ other_end)) _ _ (headed_twin (p ++ end) (p ++ other_end) (alike_before line next other rest others p)) (λ version. behind version p)
     where
-      behind : (version : Version) (p : Left) → Ends end other_end (rest_at (names_in version t) (drop 1 (p ++ end))) (rest_at (names_in version t) (drop 1 (p ++ other_end)))
-      behind version [] = over end other_end (length (next ∷ rest)) _ _ (version_stops t version (next ∷ rest)) (omega arith)
-      behind version.One (x ∷ p) = rest_ends p
+      behind : (version : Version) (p : Left) → Ends (line ∷ next ∷ rest) (line ∷ other ∷ others) (rest_at (names_in version t) (drop 1 (p ++ line ∷ next ∷ rest))) (rest_at (names_in version t) (drop 1 (p ++ line ∷ other ∷ others)))
+      behind version [] = over (line ∷ next ∷ rest) (line ∷ other ∷ others) (length (next ∷ rest)) _ _ (rest_stops version t (next ∷ rest)) (omega arith)
+      behind version (x ∷ p) = rest_ends version t line next other rest others look p
 
 pub first_fault_is_fixed : FirstFaultIsFixed
 first_fault_is_fixed t before line next other rest others fault look here is =

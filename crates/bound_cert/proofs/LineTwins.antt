@@ -5,13 +5,15 @@ use Rattle.bound_cert.specs.FirstFault.{is_zero_step}
 use Rattle.bound_cert.specs.Lines.{◌>>=◌, Left, Reading, fits, line_due, of_seen, stopped}
 use Rattle.bound_cert.specs.Nodes.{plan_at, plan_of}
 use Rattle.bound_cert.specs.ProofText.{at_line}
-use Rattle.bound_cert.specs.Reading.{first_words, head_at, head_of, in_order, is_needless, mixed_scale_at, mixed_scale_of, rent_at, rent_follows, rent_of, said_at, scale_at, scale_of, step_at, step_of, weight_at, weight_of}
+use Rattle.bound_cert.specs.Reading.{charge_at, charge_of, first_words, head_at, head_of, in_order, is_needless, mixed_scale_at, mixed_scale_of, rent_at, rent_follows, rent_of, said_at, scale_at, scale_of, step_at, step_of, weight_at, weight_of}
 use Rattle.bound_cert.specs.declared.reading_lines.Due.{Due}
-use Rattle.dual_bound.specs.Order.{step_follows, weight_follows}
+use Rattle.dual_bound.specs.Order.{charge_follows, step_follows, weight_follows}
 use Rattle.dual_bound.specs.declared.mixed.Weight.{Weight}
+use Rattle.dual_bound.specs.declared.prices.Charge.{Charge}
 use Rattle.dual_bound.specs.declared.prices.PriceStep.{PriceStep}
 use Rattle.dual_bound.specs.declared.trees.TheConstants.{MAX_DEPTH}
 use Rattle.fleet_model.specs.declared.tables.Tables.{Tables}
+use Rattle.proof_lines.specs.declared.line.Version.{Version}
 use Rattle.proof_lines.proofs.FigureWords.{bytes_same}
 use Rattle.proof_lines.proofs.LineWords.{of_words}
 use Rattle.proof_lines.proofs.Spaces.{words_back}
@@ -77,7 +79,7 @@ line_twin n kind [] b same = subst (λ b. Twin [] b (line_due n kind []) (line_d
 line_twin n kind (line ∷ []) b same = subst (λ b. Twin (line ∷ []) b (line_due n kind (line ∷ [])) (line_due n kind b)) (sym same) (refl, refl)
 line_twin n kind (line ∷ second ∷ rest) b same =
     subst (λ b. Twin (line ∷ second ∷ rest) b (line_due n kind (line ∷ second ∷ rest)) (line_due n kind b)) (sym same.is)
-    (by_seen (fits kind (form_in (words_of line))) (line_in n line))
+    (by_seen (fits kind (form_in n.version (words_of line))) (line_in n line))
   where
     by_seen : (fit : Bool) (r : Result Line Flaw) → Twin (line ∷ second ∷ rest) (line ∷ same.second ∷ same.rest) (of_seen fit r (line ∷ second ∷ rest)) (of_seen fit r (line ∷ same.second ∷ same.rest))
     by_seen true (Ok it) = refl
@@ -93,14 +95,14 @@ unfolding digits
 zero_signed = refl
 
 -- whether a step is needless is seen from its line, unless that is of 0 at minute 0
-needless_alike : (t : Tables) (step : PriceStep) (line : List ℕ) (x y : Left) → line ≡ line_bytes t (at_line step) → IsNamed t (at_line step) → (is_zero_step (words_of line) ≡ true → first_words x ≡ first_words y)
-    → is_needless (names t) step x ≡ is_needless (names t) step y
-needless_alike t step line x y is named next = by_minute (step.minute == 0) (int_eq step.value (pos 0)) refl refl
+needless_alike : (v : Version) (t : Tables) (step : PriceStep) (line : List ℕ) (x y : Left) → line ≡ line_bytes t (at_line step) → IsNamed t (at_line step) → (is_zero_step (words_of line) ≡ true → first_words x ≡ first_words y)
+    → is_needless (names v t) step x ≡ is_needless (names v t) step y
+needless_alike v t step line x y is named next = by_minute (step.minute == 0) (int_eq step.value (pos 0)) refl refl
   where
     of_zero : (step.minute == 0) ≡ true → int_eq step.value (pos 0) ≡ true → is_zero_step (words_of line) ≡ true
-    of_zero m v =
+    of_zero m z =
         let none : step.minute ≡ 0 = grind (arith, nat_tests, m) in
-        let zero : step.value ≡ pos 0 = (Decides-int_eq step.value (pos 0)).0 v in
+        let zero : step.value ≡ pos 0 = (Decides-int_eq step.value (pos 0)).0 z in
         ap (λ bytes. is_zero_step (words_of bytes)) is ∙ ap (λ words. is_zero_step words) (words_back (line_words t (at_line step)) (of_words t (at_line step) named))
         ∙ rw (
           bytes_same (decimal step.minute) (codes "0") (ap (λ n. decimal n) none ∙ zero_text),
@@ -108,10 +110,10 @@ needless_alike t step line x y is named next = by_minute (step.minute == 0) (int
         ) refl
 
     by_minute : (c d : Bool) → (step.minute == 0) ≡ c → int_eq step.value (pos 0) ≡ d
-        → (c && d && not (is_step_of (names t) step.fleet step.station (first_words x))) ≡ (c && d && not (is_step_of (names t) step.fleet step.station (first_words y)))
-    by_minute true true m v = ap (λ w. not (is_step_of (names t) step.fleet step.station w)) (next (of_zero m v))
-    by_minute true false m v = refl
-    by_minute false d m v = refl
+        → (c && d && not (is_step_of (names v t) step.fleet step.station (first_words x))) ≡ (c && d && not (is_step_of (names v t) step.fleet step.station (first_words y)))
+    by_minute true true m z = ap (λ w. not (is_step_of (names v t) step.fleet step.station w)) (next (of_zero m z))
+    by_minute true false m z = refl
+    by_minute false d m z = refl
 
 -- what a line says, taken alike of both
 module _ (a b : Left) where
@@ -126,6 +128,12 @@ module _ (a b : Left) where
   rent_of_twin : (least : ℕ) (line : Line) → Twin a b (reading.rent_of least line a) (reading.rent_of least line b)
   rent_of_twin least (says.Rent f z) = twin_ordered a b (rent_follows least f z) (rent_follows least f z) (f, z) refl
   rent_of_twin least other = (refl, refl)
+
+  charge_of_twin : (before : Option Charge) (line : Line) → Twin a b (charge_of before line a) (charge_of before line b)
+  charge_of_twin before (says.Charge station day charge) =
+      let entry : Charge = record { station = station; day = day; charge = charge } in
+      twin_ordered a b (charge_follows before entry) (charge_follows before entry) entry refl
+  charge_of_twin before other = (refl, refl)
 
   weight_of_twin : (before : Option Weight) (line : Line) → Twin a b (weight_of before line a) (weight_of before line b)
   weight_of_twin before (says.Weight leg choice weight) =
@@ -151,43 +159,46 @@ module _ (a b : Left) where
   head_of_twin other = (refl, refl)
 
 -- single lines of texts that are alike
-module _ (t : Tables) (a b : Left) (alike : Alike a b) where
-  said_twin : {A : Type 0} (kind : Due) (say : Line → Left → Reading A) → ((line : Line) → line_due (names t) kind a ≡ Ok line → Twin a b (say line a) (say line b)) → Twin a b (said_at (names t) kind say a) (said_at (names t) kind say b)
+module _ (v : Version) (t : Tables) (a b : Left) (alike : Alike a b) where
+  said_twin : {A : Type 0} (kind : Due) (say : Line → Left → Reading A) → ((line : Line) → line_due (names v t) kind a ≡ Ok line → Twin a b (say line a) (say line b)) → Twin a b (said_at (names v t) kind say a) (said_at (names v t) kind say b)
   unfolding said_at
-  said_twin kind say each = twin_bind a b (line_due (names t) kind a) (line_due (names t) kind b) _ _ (line_twin (names t) kind a b alike) each
+  said_twin kind say each = twin_bind a b (line_due (names v t) kind a) (line_due (names v t) kind b) _ _ (line_twin (names v t) kind a b alike) each
 
-  pub scale_twin : Twin a b (scale_at (names t) a) (scale_at (names t) b)
+  pub scale_twin : Twin a b (scale_at (names v t) a) (scale_at (names v t) b)
   scale_twin = said_twin due.Scale scale_of (λ line is. scale_of_twin a b line)
 
-  pub mixed_scale_twin : Twin a b (mixed_scale_at (names t) a) (mixed_scale_at (names t) b)
+  pub mixed_scale_twin : Twin a b (mixed_scale_at (names v t) a) (mixed_scale_at (names v t) b)
   mixed_scale_twin = said_twin due.Mixed mixed_scale_of (λ line is. mixed_scale_of_twin a b line)
 
-  pub rent_twin : (least : ℕ) → Twin a b (rent_at (names t) least a) (rent_at (names t) least b)
+  pub rent_twin : (least : ℕ) → Twin a b (rent_at (names v t) least a) (rent_at (names v t) least b)
   rent_twin least = said_twin due.Rent (reading.rent_of least) (λ line is. rent_of_twin a b least line)
 
-  pub weight_twin : (before : Option Weight) → Twin a b (weight_at (names t) before a) (weight_at (names t) before b)
+  pub charge_twin : (before : Option Charge) → Twin a b (charge_at (names v t) before a) (charge_at (names v t) before b)
+  charge_twin before = said_twin due.Charge (charge_of before) (λ line is. charge_of_twin a b before line)
+
+  pub weight_twin : (before : Option Weight) → Twin a b (weight_at (names v t) before a) (weight_at (names v t) before b)
   weight_twin before = said_twin due.Weight (weight_of before) (λ line is. weight_of_twin a b before line)
 
-  step_of_twin : (before : Option PriceStep) (line : Line) → line_due (names t) due.Step a ≡ Ok line → (is_zero_step (first_words a) ≡ true → first_words (drop 1 a) ≡ first_words (drop 1 b))
-      → Twin a b (step_of (names t) before line a) (step_of (names t) before line b)
+  step_of_twin : (before : Option PriceStep) (line : Line) → line_due (names v t) due.Step a ≡ Ok line → (is_zero_step (first_words a) ≡ true → first_words (drop 1 a) ≡ first_words (drop 1 b))
+      → Twin a b (step_of (names v t) before line a) (step_of (names v t) before line b)
   step_of_twin before (says.At fleet station minute value) is next =
       let step : PriceStep = record { fleet = fleet; station = station; minute = minute; value = value } in
-      let was = line_was t due.Step a (at_line step) is in
+      let was = line_was v t due.Step a (at_line step) is in
       let bytes = line_bytes t (at_line step) in
-      let same = needless_alike t step bytes (drop 1 a) (drop 1 b) refl was.of_tables.named (λ zero. next (ap (λ left. is_zero_step (first_words left)) was.is ∙ zero)) in
-      twin_ordered a b (step_follows before step && not (is_needless (names t) step (drop 1 a))) (step_follows before step && not (is_needless (names t) step (drop 1 b))) step
+      let same = needless_alike v t step bytes (drop 1 a) (drop 1 b) refl was.of_tables.named (λ zero. next (ap (λ left. is_zero_step (first_words left)) was.is ∙ zero)) in
+      twin_ordered a b (step_follows before step && not (is_needless (names v t) step (drop 1 a))) (step_follows before step && not (is_needless (names v t) step (drop 1 b))) step
       (ap (λ c. step_follows before step && not c) same)
   step_of_twin before other is next = (refl, refl)
 
-  pub step_twin : (before : Option PriceStep) → (is_zero_step (first_words a) ≡ true → first_words (drop 1 a) ≡ first_words (drop 1 b)) → Twin a b (step_at (names t) before a) (step_at (names t) before b)
-  step_twin before next = said_twin due.Step (step_of (names t) before) (λ line is. step_of_twin before line is next)
+  pub step_twin : (before : Option PriceStep) → (is_zero_step (first_words a) ≡ true → first_words (drop 1 a) ≡ first_words (drop 1 b)) → Twin a b (step_at (names v t) before a) (step_at (names v t) before b)
+  step_twin before next = said_twin due.Step (step_of (names v t) before) (λ line is. step_of_twin before line is next)
 
-  pub head_twin : (above : ℕ) → Twin a b (head_at (names t) above a) (head_at (names t) above b)
+  pub head_twin : (above : ℕ) → Twin a b (head_at (names v t) above a) (head_at (names v t) above b)
   unfolding head_at
   head_twin above =
-      twin_bind a b (line_due (names t) due.Node a) (line_due (names t) due.Node b) _ _ (line_twin (names t) due.Node a b alike) (λ line is.
+      twin_bind a b (line_due (names v t) due.Node a) (line_due (names v t) due.Node b) _ _ (line_twin (names v t) due.Node a b alike) (λ line is.
       twin_bind a b (head_of line a) (head_of line b) _ _ (head_of_twin a b line) (λ head is.
       twin_if a b (nat_le above MAX_DEPTH) _ _ _ _ refl (refl, refl)))
 
-  pub plan_twin : Twin a b (plan_at (names t) a) (plan_at (names t) b)
+  pub plan_twin : Twin a b (plan_at (names v t) a) (plan_at (names v t) b)
   plan_twin = said_twin due.Plan plan_of (λ line is. plan_of_twin a b line)

@@ -1,8 +1,8 @@
 -- The lines of a proof name what the tables have, so they are of words, and plain.
 use Rattle.bound_cert.proofs.NodesOfTables.{IsNodeOf, nodes_are}
-use Rattle.bound_cert.specs.ProofText.{all_lines, at_line, cause_lines, mixed_lines, node_lines, open_line, price_lines, proof_lines, rent_lines, rent_lines_at, tree_lines, weight_line}
+use Rattle.bound_cert.specs.ProofText.{all_lines, at_line, cause_lines, charge_line, lines_in, mixed_lines, node_lines, open_line, price_lines, proof_lines, rent_lines, rent_lines_at, tree_lines, weight_line}
 use Rattle.bound_cert.specs.Words.{IsPlainLine}
-use Rattle.dual_bound.specs.OfTables.{ArePricesOf, IsCauseOf, IsMixedOf, IsOfTables, IsStepOf, IsWeightOf}
+use Rattle.dual_bound.specs.OfTables.{ArePricesOf, IsCauseOf, IsChargeOf, IsMixedOf, IsOfTables, IsStepOf, IsWeightOf}
 use Rattle.dual_bound.specs.Prices.{rent_of}
 use Rattle.dual_bound.specs.declared.mixed.Mixed.{Mixed}
 use Rattle.dual_bound.specs.Nodes.{nodes_of}
@@ -13,6 +13,7 @@ use Rattle.dual_bound.specs.declared.trees.Cause.{Cause}
 use Rattle.dual_bound.specs.declared.trees.Tree.{Tree}
 use Rattle.fleet_model.specs.Schedule.{fleets_in}
 use Rattle.fleet_model.specs.declared.tables.Tables.{Tables}
+use Rattle.proof_lines.specs.declared.line.Version.{Version}
 use Rattle.proof_lines.proofs.LineWords.{of_words}
 use Rattle.proof_lines.proofs.Spaces.{joined_plain}
 use Rattle.proof_lines.specs.LineText.{IsNamed, line_words}
@@ -48,8 +49,10 @@ rents_are t prices (suc n) first within =
 prices_are : (t : Tables) (prices : Prices) → ArePricesOf t prices → All (IsNamed t) (price_lines t prices)
 prices_are t prices is =
     All-cons (IsNamed t) (says.Scale prices.scale) _ tt
-    (All-append (IsNamed t) (rent_lines prices (fleets_in t)) (map at_line prices.steps) (rents_are t prices (fleets_in t) 0 (omega arith))
-    (All-map (IsNamed t) at_line prices.steps (All-weaker (IsStepOf t) (λ step. IsNamed t (at_line step)) (λ step is. (is.fleet, is.station)) prices.steps is.steps)))
+    (All-append (IsNamed t) (rent_lines prices (fleets_in t)) (map charge_line prices.charges ++ map at_line prices.steps) (rents_are t prices (fleets_in t) 0 (omega arith))
+    (All-append (IsNamed t) (map charge_line prices.charges) (map at_line prices.steps)
+    (All-map (IsNamed t) charge_line prices.charges (All-weaker (IsChargeOf t) (λ entry. IsNamed t (charge_line entry)) (λ entry is. is) prices.charges is.charges))
+    (All-map (IsNamed t) at_line prices.steps (All-weaker (IsStepOf t) (λ step. IsNamed t (at_line step)) (λ step is. (is.fleet, is.station)) prices.steps is.steps))))
 
 mixed_are : (t : Tables) (mixed : Mixed) → IsMixedOf t mixed → All (IsNamed t) (mixed_lines mixed)
 mixed_are t mixed is =
@@ -81,16 +84,16 @@ nodes_named t [] are = All-nil (IsNamed t)
 nodes_named t (n ∷ nodes) are =
     All-append (IsNamed t) (node_lines t n) (flat_map (node_lines t) nodes) (node_is t n (All-head (IsNodeOf t) n nodes are)) (nodes_named t nodes (All-tail (IsNodeOf t) n nodes are))
 
-pub lines_named : (t : Tables) (planned : Bool) (tree : Tree) → IsOfTables t tree → All (IsNamed t) (all_lines t planned tree)
-lines_named t planned tree is =
+pub lines_named : (v : Version) (t : Tables) (planned : Bool) (tree : Tree) → IsOfTables t tree → All (IsNamed t) (lines_in v t planned tree)
+lines_named v t planned tree is =
     let rest : List Line = tree_lines t tree ++ says.End ∷ [] in
-    All-cons (IsNamed t) (says.Head version.One) (says.Plan planned ∷ rest) tt
+    All-cons (IsNamed t) (says.Head v) (says.Plan planned ∷ rest) tt
     (All-cons (IsNamed t) (says.Plan planned) rest tt (All-append (IsNamed t) (tree_lines t tree) (says.End ∷ []) (nodes_named t (nodes_of tree) (nodes_are t tree is)) (one_line t says.End tt)))
 
 pub lines_are_of_words : (t : Tables) (planned : Bool) (tree : Tree) → IsOfTables t tree → All IsOfWords (proof_lines t planned tree)
 lines_are_of_words t planned tree is =
     let lines = all_lines t planned tree in
-    All-map IsOfWords (line_words t) lines (All-weaker (IsNamed t) (λ line. IsOfWords (line_words t line)) (of_words t) lines (lines_named t planned tree is))
+    All-map IsOfWords (line_words t) lines (All-weaker (IsNamed t) (λ line. IsOfWords (line_words t line)) (of_words t) lines (lines_named version.Two t planned tree is))
 
 pub lines_are_plain : (t : Tables) (planned : Bool) (tree : Tree) → IsOfTables t tree → All IsPlainLine (proof_lines t planned tree)
 lines_are_plain t planned tree is =

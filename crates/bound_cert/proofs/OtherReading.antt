@@ -19,11 +19,12 @@ use Rattle.proof_lines.specs.Known.{codes_of, fleet_names, flights_of}
 use Rattle.std.proofs.Common.{◌≡◌, ◌∙◌, Bool, List, ap, arith, drop, sym, ℕ}
 
 module _ (s : List Station) (f : List Fleet) (l : List Leg) (c : List PairCost) (h : List Through) (a b : Fits s f l c h) where
-  -- what lines read as, where this is the last minute of the period, and fleets fly legs by these choices
-  read_by : Left → ℕ → (ℕ → ℕ → ℕ) → Reading (Bool × List Node)
-  read_by left last own =
+  -- what lines read as, where this is the last minute of the period and how many days it has, and fleets fly legs by these
+  -- choices
+  read_by : Left → ℕ → ℕ → (ℕ → ℕ → ℕ) → Reading (Bool × List Node)
+  read_by left last days own =
       let t = tables_by s f l c h a in
-      head_is left >>= λ version. rest_at (record { version = version; legs = flights_of t; fleets = fleet_names t; stations = codes_of t; last = last; own = own }) (drop 1 left)
+      head_is left >>= λ version. rest_at (record { version = version; legs = flights_of t; fleets = fleet_names t; stations = codes_of t; last = last; days = days; own = own }) (drop 1 left)
 
   alike : days_in (tables_by s f l c h a) ≡ days_in (tables_by s f l c h b) → (left : Left) → proof_at (tables_by s f l c h a) left ≡ proof_at (tables_by s f l c h b) left
   unfolding proof_at read_by
@@ -31,7 +32,7 @@ module _ (s : List Station) (f : List Fleet) (l : List Leg) (c : List PairCost) 
       let t = tables_by s f l c h a in
       let u = tables_by s f l c h b in
       let last : last_of t ≡ last_of u = omega (arith, days_are_period t, days_are_period u, same) in
-      ap (λ minute. read_by left minute (own_choice t)) last ∙ ap (read_by left (last_of u)) (own_alike t u)
+      ap (λ minute. read_by left minute (days_in t) (own_choice t)) last ∙ ap (λ days. read_by left (last_of u) days (own_choice t)) same ∙ ap (read_by left (last_of u) (days_in u)) (own_alike t u)
 
   -- a text that reads by some settings reads as the same proof by others of as many days
   pub reads_by : days_in (tables_by s f l c h a) ≡ days_in (tables_by s f l c h b)

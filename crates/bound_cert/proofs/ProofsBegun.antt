@@ -7,10 +7,11 @@ use Rattle.bound_cert.proofs.ReadOn.{bound}
 use Rattle.bound_cert.proofs.Shrinking.{Stops, end_stops, headed_twin, proof_stops, stops_then}
 use Rattle.bound_cert.proofs.WrittenLines.{names}
 use Rattle.bound_cert.proofs.WrittenPrices.{IsBehind}
-use Rattle.bound_cert.proofs.WrittenTrees.{end_read, last, last_is, plan_read, whole_read}
+use Rattle.bound_cert.proofs.WrittenTrees.{end_read, head_read, last, last_is, plan_read, whole_read}
 use Rattle.bound_cert.specs.FirstFault.{LinesBeforeBeginProof, is_inner_line}
 use Rattle.bound_cert.specs.Lines.{◌>>=◌, Left, Reading, Stopped, line_due}
 use Rattle.bound_cert.specs.Nodes.{end_at, head_is, nodes_from, nothing, plan_at, proof_at, rest_at, tree_at}
+use Rattle.bound_cert.specs.ProofText.{IsNodeIn}
 use Rattle.dual_bound.specs.WrittenOrder.{IsNodeInOrder}
 use Rattle.dual_bound.specs.declared.nodes.Node.{Node}
 use Rattle.dual_bound.specs.declared.trees.TheConstants.{MAX_DEPTH}
@@ -27,15 +28,16 @@ use Rattle.dual_bound.specs.declared.trees.Tree.TheVariants as tree
 use Rattle.proof_lines.specs.declared.line.Line.TheVariants as says
 use Rattle.proof_lines.specs.declared.line.Version.TheVariants as version
 
-module _ (t : Tables) (line : List ℕ) (after : Left) where
+-- lines go on to such that read
+record Begun {A : Type 0} (f : Left → Reading A) (p : Left) : Type 0 where
+  more : Left
+  value : A
+  reads : f (p ++ more) ≡ Ok value
+  some : 0 < length more
+
+module _ (v : Version) (t : Tables) (line : List ℕ) (after : Left) where
   abbrev end : Left
   end = line ∷ after
-
-  record Begun {A : Type 0} (f : Left → Reading A) (p : Left) : Type 0 where
-    more : Left
-    value : A
-    reads : f (p ++ more) ≡ Ok value
-    some : 0 < length more
 
   err_then : {A B : Type 0} (r : Reading A) (f : A → B) (e : Stopped) → (r >>= λ x. Ok (f x)) ≡ Err e → r ≡ Err e
   err_then (Ok x) f e failed = absurd (cc failed)
@@ -43,21 +45,21 @@ module _ (t : Tables) (line : List ℕ) (after : Left) where
 
   record EndBegun (rest : Left) : Type 0 where
     more : Left
-    reads : end_at (names t) (rest ++ more) ≡ Ok tt
+    reads : end_at (names v t) (rest ++ more) ≡ Ok tt
     some : 0 < length more
     may : MayAt IsBehind rest more
 
-  end_begun : (rest : Left) (e : Stopped) → end_at (names t) (rest ++ end) ≡ Err e → e.left ≡ length end → EndBegun rest
+  end_begun : (rest : Left) (e : Stopped) → end_at (names v t) (rest ++ end) ≡ Err e → e.left ≡ length end → EndBegun rest
   unfolding end_at nothing
-  end_begun [] e failed there = record { more = (last t); reads = end_read t; some = omega arith; may = last_is t }
-  end_begun (x ∷ p) e failed there = by_line p (line_due (names t) due.End (x ∷ (p ++ end))) refl failed
+  end_begun [] e failed there = record { more = (last t); reads = end_read v t; some = omega arith; may = last_is t }
+  end_begun (x ∷ p) e failed there = by_line p (line_due (names v t) due.End (x ∷ (p ++ end))) refl failed
     where
-      by_line : (p : Left) (r : Reading Line) → line_due (names t) due.End (x ∷ (p ++ end)) ≡ r → (r >>= λ it. nothing (p ++ end)) ≡ Err e → EndBegun (x ∷ p)
-      by_line p (Err d) is failed = not_there x p end (line_due (names t) due.End (x ∷ (p ++ end))) d (line_twin (names t) due.End (x ∷ (p ++ end)) (x ∷ (p ++ end)) (alike_self (x ∷ (p ++ end)))) is (ap (λ s. s.left) (err_same d e failed) ∙ there)
+      by_line : (p : Left) (r : Reading Line) → line_due (names v t) due.End (x ∷ (p ++ end)) ≡ r → (r >>= λ it. nothing (p ++ end)) ≡ Err e → EndBegun (x ∷ p)
+      by_line p (Err d) is failed = not_there x p end (line_due (names v t) due.End (x ∷ (p ++ end))) d (line_twin (names v t) due.End (x ∷ (p ++ end)) (x ∷ (p ++ end)) (alike_self (x ∷ (p ++ end)))) is (ap (λ s. s.left) (err_same d e failed) ∙ there)
       by_line [] (Ok it) is failed = record {
         more = [] ∷ [];
-        reads = bound (line_due (names t) due.End (x ∷ [] ∷ [])) it _
-            (value_of (x ∷ end) (x ∷ [] ∷ []) (line_due (names t) due.End (x ∷ end)) (line_due (names t) due.End (x ∷ [] ∷ [])) it (line_twin (names t) due.End (x ∷ end) (x ∷ [] ∷ []) (alike_after x line [] after ([] ∷ []) (omega arith))) is);
+        reads = bound (line_due (names v t) due.End (x ∷ [] ∷ [])) it _
+            (value_of (x ∷ end) (x ∷ [] ∷ []) (line_due (names v t) due.End (x ∷ end)) (line_due (names v t) due.End (x ∷ [] ∷ [])) it (line_twin (names v t) due.End (x ∷ end) (x ∷ [] ∷ []) (alike_after x line [] after ([] ∷ []) (omega arith))) is);
         some = omega arith;
         may = tt;
       }
@@ -68,49 +70,45 @@ module _ (t : Tables) (line : List ℕ) (after : Left) where
           let one : record { left = length (y ∷ z ∷ (p ++ end)); kind = _ } ≡ e = err_same _ e failed in
           absurd (omega (arith, ap (λ s. s.left) one, there, length-append p end))
 
-  tree_begun : (p : Left) → count_by is_inner_line p ≤ MAX_DEPTH → (e : Stopped) → tree_at (names t) (p ++ end) ≡ Err e → e.left ≡ length end → Begun (tree_at (names t)) p
+  tree_begun : (p : Left) → count_by is_inner_line p ≤ MAX_DEPTH → (e : Stopped) → tree_at (names v t) (p ++ end) ≡ Err e → e.left ≡ length end → Begun (tree_at (names v t)) p
   unfolding tree_at
-  tree_begun p few e failed there = by_nodes (nodes_from (names t) (length (p ++ end)) [] [] (p ++ end)) (nodes_go t line after (length (p ++ end)) [] [] p (omega arith) (omega (arith, few))) failed
+  tree_begun p few e failed there = by_nodes (nodes_from (names v t) (length (p ++ end)) [] [] (p ++ end)) (nodes_go v t line after (length (p ++ end)) [] [] p (omega arith) (omega (arith, few))) failed
     where
-      by_nodes : (r : Reading (List Node × Left)) → EndsNodes t line after [] [] p r → (r >>= λ read. end_at (names t) read.1 >>= λ ended. Ok read.0) ≡ Err e → Begun (tree_at (names t)) p
+      by_nodes : (r : Reading (List Node × Left)) → EndsNodes v t line after [] [] p r → (r >>= λ read. end_at (names v t) read.1 >>= λ ended. Ok read.0) ≡ Err e → Begun (tree_at (names v t)) p
       by_nodes (Err d) ends failed =
           let done = ends (ap (λ s. s.left) (err_same d e failed) ∙ there) in
           record {
             more = done.more ++ (last t);
             value = done.value;
-            reads = bound (nodes_from (names t) (length (p ++ (done.more ++ (last t)))) [] [] (p ++ (done.more ++ (last t)))) (done.value, (last t)) _ (done.reads (last t) (length (p ++ (done.more ++ (last t)))) (last_is t) (omega arith))
-                ∙ bound (end_at (names t) (last t)) tt _ (end_read t);
+            reads = bound (nodes_from (names v t) (length (p ++ (done.more ++ (last t)))) [] [] (p ++ (done.more ++ (last t)))) (done.value, (last t)) _ (done.reads (last t) (length (p ++ (done.more ++ (last t)))) (last_is t) (omega arith))
+                ∙ bound (end_at (names v t) (last t)) tt _ (end_read v t);
             some = some_more done.more (last t) (omega arith);
           }
       by_nodes (Ok read) (inr short) failed =
-          let small : e.left ≤ length read.1 = subst (Stops (length read.1)) failed (stops_then (length read.1) (end_at (names t) read.1) (λ ended. read.0) (end_stops t read.1)) in
+          let small : e.left ≤ length read.1 = subst (Stops (length read.1)) failed (stops_then (length read.1) (end_at (names v t) read.1) (λ ended. read.0) (end_stops v t read.1)) in
           absurd (omega (arith, small, short, there))
       by_nodes (Ok read) (inl stays) failed =
-          let last_one = end_begun stays.rest e (ap (end_at (names t)) (sym stays.left_is) ∙ err_then (end_at (names t) read.1) (λ ended. read.0) e failed) there in
+          let last_one = end_begun stays.rest e (ap (end_at (names v t)) (sym stays.left_is) ∙ err_then (end_at (names v t) read.1) (λ ended. read.0) e failed) there in
           record {
             more = last_one.more;
             value = read.0;
-            reads = bound (nodes_from (names t) (length (p ++ last_one.more)) [] [] (p ++ last_one.more)) (read.0, stays.rest ++ last_one.more) _
+            reads = bound (nodes_from (names v t) (length (p ++ last_one.more)) [] [] (p ++ last_one.more)) (read.0, stays.rest ++ last_one.more) _
                 (stays.stays last_one.more (length (p ++ last_one.more)) last_one.some last_one.may (omega arith))
-                ∙ bound (end_at (names t) (stays.rest ++ last_one.more)) tt _ last_one.reads;
+                ∙ bound (end_at (names v t) (stays.rest ++ last_one.more)) tt _ last_one.reads;
             some = last_one.some;
           }
 
-  sole_tree : tree_at (names t) (line_bytes t says.Sole ∷ (last t)) ≡ Ok (node.Sole ∷ [])
-  sole_tree = whole_read t tree.Sole (All-cons (IsNodeInOrder t) node.Sole [] tt (All-nil (IsNodeInOrder t))) (omega arith)
+  sole_tree : tree_at (names v t) (line_bytes t says.Sole ∷ (last t)) ≡ Ok (node.Sole ∷ [])
+  sole_tree = whole_read v t tree.Sole (All-cons (IsNodeIn v) node.Sole [] tt (All-nil (IsNodeIn v))) (All-cons (IsNodeInOrder t) node.Sole [] tt (All-nil (IsNodeInOrder t))) (omega arith)
 
-  sole_rest : rest_at (names t) (line_bytes t (says.Plan false) ∷ line_bytes t says.Sole ∷ (last t)) ≡ Ok (false, node.Sole ∷ [])
+  sole_rest : rest_at (names v t) (line_bytes t (says.Plan false) ∷ line_bytes t says.Sole ∷ (last t)) ≡ Ok (false, node.Sole ∷ [])
   unfolding rest_at
-  sole_rest = bound (plan_at (names t) (line_bytes t (says.Plan false) ∷ line_bytes t says.Sole ∷ (last t))) false _ (plan_read t false (line_bytes t says.Sole ∷ (last t)) (omega arith)) ∙ bound (tree_at (names t) (line_bytes t says.Sole ∷ (last t))) (node.Sole ∷ []) _ sole_tree
-
-  headed : (next : List ℕ) (rest : Left) → head_is (line_bytes t (says.Head version.One) ∷ next ∷ rest) ≡ Ok version.One
-  unfolding head_is
-  headed next rest = refl
+  sole_rest = bound (plan_at (names v t) (line_bytes t (says.Plan false) ∷ line_bytes t says.Sole ∷ (last t))) false _ (plan_read v t false (line_bytes t says.Sole ∷ (last t)) (omega arith)) ∙ bound (tree_at (names v t) (line_bytes t says.Sole ∷ (last t))) (node.Sole ∷ []) _ sole_tree
 
   abbrev with_plan : Left → Bool → Reading (Bool × List Node)
-  with_plan rest planned = tree_at (names t) rest >>= λ nodes. Ok (planned, nodes)
+  with_plan rest planned = tree_at (names v t) rest >>= λ nodes. Ok (planned, nodes)
 
-  rest_begun : (p : Left) → count_by is_inner_line p ≤ MAX_DEPTH → (e : Stopped) → rest_at (names t) (p ++ end) ≡ Err e → e.left ≡ length end → Begun (rest_at (names t)) p
+  rest_begun : (p : Left) → count_by is_inner_line p ≤ MAX_DEPTH → (e : Stopped) → rest_at (names v t) (p ++ end) ≡ Err e → e.left ≡ length end → Begun (rest_at (names v t)) p
   unfolding rest_at
   rest_begun [] few e failed there = record {
     more = line_bytes t (says.Plan false) ∷ line_bytes t says.Sole ∷ (last t);
@@ -118,40 +116,43 @@ module _ (t : Tables) (line : List ℕ) (after : Left) where
     reads = sole_rest;
     some = omega arith;
   }
-  rest_begun (x ∷ p) few e failed there = by_plan (plan_at (names t) (x ∷ (p ++ end))) refl failed
+  rest_begun (x ∷ p) few e failed there = by_plan (plan_at (names v t) (x ∷ (p ++ end))) refl failed
     where
-      by_plan : (r : Reading Bool) → plan_at (names t) (x ∷ (p ++ end)) ≡ r → (r >>= with_plan (p ++ end)) ≡ Err e → Begun (rest_at (names t)) (x ∷ p)
-      by_plan (Err d) is failed = not_there x p end (plan_at (names t) (x ∷ (p ++ end))) d (plan_twin t (x ∷ (p ++ end)) (x ∷ (p ++ end)) (alike_self (x ∷ (p ++ end)))) is (ap (λ s. s.left) (err_same d e failed) ∙ there)
+      by_plan : (r : Reading Bool) → plan_at (names v t) (x ∷ (p ++ end)) ≡ r → (r >>= with_plan (p ++ end)) ≡ Err e → Begun (rest_at (names v t)) (x ∷ p)
+      by_plan (Err d) is failed = not_there x p end (plan_at (names v t) (x ∷ (p ++ end))) d (plan_twin v t (x ∷ (p ++ end)) (x ∷ (p ++ end)) (alike_self (x ∷ (p ++ end)))) is (ap (λ s. s.left) (err_same d e failed) ∙ there)
       by_plan (Ok planned) is failed =
-          let done = tree_begun p (omega (arith, few, count_cons t x p)) e (err_then (tree_at (names t) (p ++ end)) (λ nodes. (planned, nodes)) e failed) there in
+          let done = tree_begun p (omega (arith, few, count_cons v t x p)) e (err_then (tree_at (names v t) (p ++ end)) (λ nodes. (planned, nodes)) e failed) there in
           record {
             more = done.more;
             value = (planned, done.value);
-            reads = bound (plan_at (names t) (x ∷ (p ++ done.more))) planned _
-                (value_of (x ∷ (p ++ end)) (x ∷ (p ++ done.more)) (plan_at (names t) (x ∷ (p ++ end))) (plan_at (names t) (x ∷ (p ++ done.more))) planned (plan_twin t (x ∷ (p ++ end)) (x ∷ (p ++ done.more)) (alike_after x line p after done.more done.some)) is)
-                ∙ bound (tree_at (names t) (p ++ done.more)) done.value _ done.reads;
+            reads = bound (plan_at (names v t) (x ∷ (p ++ done.more))) planned _
+                (value_of (x ∷ (p ++ end)) (x ∷ (p ++ done.more)) (plan_at (names v t) (x ∷ (p ++ end))) (plan_at (names v t) (x ∷ (p ++ done.more))) planned (plan_twin v t (x ∷ (p ++ end)) (x ∷ (p ++ done.more)) (alike_after x line p after done.more done.some)) is)
+                ∙ bound (tree_at (names v t) (p ++ done.more)) done.value _ done.reads;
             some = done.some;
           }
 
-  all_begun : (p : Left) → count_by is_inner_line p ≤ MAX_DEPTH → (e : Stopped) → proof_at t (p ++ end) ≡ Err e → e.left ≡ length end → Begun (proof_at t) p
+module _ (t : Tables) (line : List ℕ) (after : Left) where
+  -- all of a text, which may begin as one of version 2
+  all_begun : (p : Left) → count_by is_inner_line p ≤ MAX_DEPTH → (e : Stopped) → proof_at t (p ++ line ∷ after) ≡ Err e → e.left ≡ length (line ∷ after) → Begun (proof_at t) p
   unfolding proof_at
   all_begun [] few e failed there = record {
-    more = line_bytes t (says.Head version.One) ∷ line_bytes t (says.Plan false) ∷ line_bytes t says.Sole ∷ (last t);
+    more = line_bytes t (says.Head version.Two) ∷ line_bytes t (says.Plan false) ∷ line_bytes t says.Sole ∷ (last t);
     value = (false, node.Sole ∷ []);
-    reads = bound (head_is (line_bytes t (says.Head version.One) ∷ line_bytes t (says.Plan false) ∷ line_bytes t says.Sole ∷ (last t))) version.One _ (headed (line_bytes t (says.Plan false)) (line_bytes t says.Sole ∷ (last t))) ∙ sole_rest;
+    reads = bound (head_is (line_bytes t (says.Head version.Two) ∷ line_bytes t (says.Plan false) ∷ line_bytes t says.Sole ∷ (last t))) version.Two _ (head_read version.Two t (line_bytes t (says.Plan false)) (line_bytes t says.Sole ∷ (last t)))
+        ∙ sole_rest version.Two t line after;
     some = omega arith;
   }
-  all_begun (x ∷ p) few e failed there = by_head (head_is (x ∷ (p ++ end))) refl failed
+  all_begun (x ∷ p) few e failed there = by_head (head_is (x ∷ (p ++ line ∷ after))) refl failed
     where
-      by_head : (r : Reading Version) → head_is (x ∷ (p ++ end)) ≡ r → (r >>= λ version. rest_at (names_in version t) (p ++ end)) ≡ Err e → Begun (proof_at t) (x ∷ p)
-      by_head (Err d) is failed = not_there x p end (head_is (x ∷ (p ++ end))) d (headed_twin (x ∷ (p ++ end)) (x ∷ (p ++ end)) (alike_self (x ∷ (p ++ end)))) is (ap (λ s. s.left) (err_same d e failed) ∙ there)
-      by_head (Ok version.One) is failed =
-          let done = rest_begun p (omega (arith, few, count_cons t x p)) e failed there in
+      by_head : (r : Reading Version) → head_is (x ∷ (p ++ line ∷ after)) ≡ r → (r >>= λ version. rest_at (names_in version t) (p ++ line ∷ after)) ≡ Err e → Begun (proof_at t) (x ∷ p)
+      by_head (Err d) is failed = not_there x p (line ∷ after) (head_is (x ∷ (p ++ line ∷ after))) d (headed_twin (x ∷ (p ++ line ∷ after)) (x ∷ (p ++ line ∷ after)) (alike_self (x ∷ (p ++ line ∷ after)))) is (ap (λ s. s.left) (err_same d e failed) ∙ there)
+      by_head (Ok v) is failed =
+          let done = rest_begun v t line after p (omega (arith, few, count_cons v t x p)) e failed there in
           record {
             more = done.more;
             value = done.value;
-            reads = bound (head_is (x ∷ (p ++ done.more))) version.One _
-                (value_of (x ∷ (p ++ end)) (x ∷ (p ++ done.more)) (head_is (x ∷ (p ++ end))) (head_is (x ∷ (p ++ done.more))) version.One (headed_twin (x ∷ (p ++ end)) (x ∷ (p ++ done.more)) (alike_after x line p after done.more done.some)) is)
+            reads = bound (head_is (x ∷ (p ++ done.more))) v _
+                (value_of (x ∷ (p ++ line ∷ after)) (x ∷ (p ++ done.more)) (head_is (x ∷ (p ++ line ∷ after))) (head_is (x ∷ (p ++ done.more))) v (headed_twin (x ∷ (p ++ line ∷ after)) (x ∷ (p ++ done.more)) (alike_after x line p after done.more done.some)) is)
                 ∙ done.reads;
             some = done.some;
           }

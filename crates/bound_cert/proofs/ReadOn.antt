@@ -6,17 +6,18 @@ use Rattle.bound_cert.specs.declared.reading_lines.Due.{Due}
 use Rattle.proof_lines.specs.Forms.{form_in}
 use Rattle.proof_lines.specs.Known.{Naming}
 use Rattle.proof_lines.specs.declared.line.Line.{Line}
+use Rattle.proof_lines.specs.declared.line.Version.{Version}
 use Rattle.proof_lines.specs.Words.{seen, words_of}
 use Rattle.std.proofs.Common.{[], ◌++◌, ◌+◌, ◌<◌, ◌∙◌, ◌∷◌, ◌≡◌, Bool, Bor, Err, List, None, Ok, Option, Some, add-one, ap, append_assoc, arith, cond, drop, false, length, pos, refl, replicate, suc, sym, true, zero, ℕ, ℤ}
 use Rattle.bound_cert.specs.declared.faults.Stop.TheVariants as stop
 
--- a line begins as one that may stand where one of this kind is due
-abbrev pub begins : Left → Due → Bool
-begins left kind = fits kind (first_form left)
+-- in a text of this version a line begins as one that may stand where one of this kind is due
+abbrev pub begins : Version → Left → Due → Bool
+begins v left kind = fits kind (first_form v left)
 
-pub some_left : (left : Left) (kind : Due) → begins left kind ≡ true → 0 < length left
-some_left [] kind is = absurd (cc is)
-some_left (line ∷ rest) kind is = omega arith
+pub some_left : (v : Version) (left : Left) (kind : Due) → begins v left kind ≡ true → 0 < length left
+some_left v [] kind is = absurd (cc is)
+some_left v (line ∷ rest) kind is = omega arith
 
 pub chosen : {A : Type 0} (b : Bool) (x y : A) → b ≡ true → cond b x y ≡ x
 chosen true x y is = refl
@@ -52,24 +53,24 @@ padded_more old now grown k so_far added =
 
 module _ (n : Naming) where
   -- what the next line tells, if it begins as one that is due
-  pub next_some : (kind : Due) (left : Left) (o : Option Line) (line : Line) → next_line n kind left ≡ Ok o → o ≡ Some line → (begins left kind ≡ true) × (line_due n kind left ≡ Ok line)
-  next_some kind left o line e some = told (begins left kind) (line_due n kind left) (e ∙ ap (λ o. Ok o) some)
+  pub next_some : (kind : Due) (left : Left) (o : Option Line) (line : Line) → next_line n kind left ≡ Ok o → o ≡ Some line → (begins n.version left kind ≡ true) × (line_due n kind left ≡ Ok line)
+  next_some kind left o line e some = told (begins n.version left kind) (line_due n kind left) (e ∙ ap (λ o. Ok o) some)
     where
       told : (b : Bool) (r : Reading Line) → cond b (r >>= λ line. Ok (Some line)) (Ok None) ≡ Ok (Some line) → (b ≡ true) × (r ≡ Ok line)
       told true (Ok it) e = let same : it ≡ line = cc e in (refl, ap (λ l. Ok l) same)
       told true (Err s) e = absurd (cc e)
       told false r e = absurd (cc e)
 
-  pub next_none : (kind : Due) (left : Left) (o : Option Line) → next_line n kind left ≡ Ok o → o ≡ None → begins left kind ≡ false
-  next_none kind left o e none = told (begins left kind) (line_due n kind left) (e ∙ ap (λ o. Ok o) none)
+  pub next_none : (kind : Due) (left : Left) (o : Option Line) → next_line n kind left ≡ Ok o → o ≡ None → begins n.version left kind ≡ false
+  next_none kind left o e none = told (begins n.version left kind) (line_due n kind left) (e ∙ ap (λ o. Ok o) none)
     where
       told : (b : Bool) (r : Reading Line) → cond b (r >>= λ line. Ok (Some line)) (Ok None) ≡ Ok None → b ≡ false
       told true (Ok it) e = absurd (cc e)
       told true (Err s) e = absurd (cc e)
       told false r e = refl
 
-  pub next_fails : (kind : Due) (left : Left) (f : Stopped) → next_line n kind left ≡ Err f → (begins left kind ≡ true) × (line_due n kind left ≡ Err f)
-  next_fails kind left f e = told (begins left kind) (line_due n kind left) e
+  pub next_fails : (kind : Due) (left : Left) (f : Stopped) → next_line n kind left ≡ Err f → (begins n.version left kind ≡ true) × (line_due n kind left ≡ Err f)
+  next_fails kind left f e = told (begins n.version left kind) (line_due n kind left) e
     where
       told : (b : Bool) (r : Reading Line) → cond b (r >>= λ line. Ok (Some line)) (Ok None) ≡ Err f → (b ≡ true) × (r ≡ Err f)
       told true (Ok it) e = absurd (cc e)
@@ -85,20 +86,20 @@ unfolding said_at
 none_said n kind say left f is = failed (line_due n kind left) f _ is
 
 module _ {S A B : Type 0} (s : Series S A B) where
-  pub entries_more : (so_far : S) (left : Left) (entry : A) → begins left s.kind ≡ true → entry_at s so_far left ≡ Ok entry → entries_from s so_far left ≡ entries_from s (s.grow so_far entry) (drop 1 left)
+  pub entries_more : (so_far : S) (left : Left) (entry : A) → begins s.names.version left s.kind ≡ true → entry_at s so_far left ≡ Ok entry → entries_from s so_far left ≡ entries_from s (s.grow so_far entry) (drop 1 left)
   unfolding entries_from
   entries_more so_far [] entry is read = absurd (cc is)
-  entries_more so_far (line ∷ rest) entry is read = chosen (fits s.kind (form_in (words_of line))) _ _ is ∙ bound (entry_at s so_far (line ∷ rest)) entry _ read
+  entries_more so_far (line ∷ rest) entry is read = chosen (fits s.kind (form_in s.names.version (words_of line))) _ _ is ∙ bound (entry_at s so_far (line ∷ rest)) entry _ read
 
-  pub entries_stop : (so_far : S) (left : Left) (e : Stopped) → begins left s.kind ≡ true → entry_at s so_far left ≡ Err e → entries_from s so_far left ≡ Err e
+  pub entries_stop : (so_far : S) (left : Left) (e : Stopped) → begins s.names.version left s.kind ≡ true → entry_at s so_far left ≡ Err e → entries_from s so_far left ≡ Err e
   unfolding entries_from
   entries_stop so_far [] e is read = absurd (cc is)
-  entries_stop so_far (line ∷ rest) e is read = chosen (fits s.kind (form_in (words_of line))) _ _ is ∙ failed (entry_at s so_far (line ∷ rest)) e _ read
+  entries_stop so_far (line ∷ rest) e is read = chosen (fits s.kind (form_in s.names.version (words_of line))) _ _ is ∙ failed (entry_at s so_far (line ∷ rest)) e _ read
 
-  pub entries_end : (so_far : S) (left : Left) → begins left s.kind ≡ false → entries_from s so_far left ≡ Ok (s.all so_far, left)
+  pub entries_end : (so_far : S) (left : Left) → begins s.names.version left s.kind ≡ false → entries_from s so_far left ≡ Ok (s.all so_far, left)
   unfolding entries_from
   entries_end so_far [] is = refl
-  entries_end so_far (line ∷ rest) is = refused (fits s.kind (form_in (words_of line))) _ _ is
+  entries_end so_far (line ∷ rest) is = refused (fits s.kind (form_in s.names.version (words_of line))) _ _ is
 
   -- a loop that reads a series: its ends, and a turn
   module _ (whole : Reading (B × Left)) (so_far : S) (rest : List (Bor (List ℕ))) (invariant : entries_from s so_far (seen rest) ≡ whole) where

@@ -1,7 +1,7 @@
 -- What reading by the definition says of the answer.
 use Rattle.bound_cert.proofs.ReadBack.{ok_same}
 use Rattle.bound_cert.proofs.TextTrees.{text_of_reading}
-use Rattle.bound_cert.proofs.WrittenTrees.{in_order_of_tables, reads_what_was_written}
+use Rattle.bound_cert.proofs.WrittenTrees.{in_order_of_tables, reads_in}
 use Rattle.bound_cert.specs.Lines.{Gives, left_of}
 use Rattle.bound_cert.specs.Nodes.{proof_at}
 use Rattle.bound_cert.specs.ReadProof.{AnswersProof, FaultIn, FaultOf, IsTextOf, LinesRead, ReadsAs, answer_of}
@@ -31,23 +31,25 @@ answered t lines read result gives is = subst (λ r. MatchResult r (LinesRead t 
     by_read (Err (stop.Fault left kind)) gives = record { left = left; stops = gives; line = ap (λ n. n - left + 1) (sym (length-map lines (λ (slice : Bor (List ℕ)). slice.now))) }
 
 pub of_tables : (t : Tables) (text : List ℕ) (result : Result Proof CertError) → MatchResult result (ReadsAs t text) (FaultOf t text) → IfOk result (λ proof. IsOfTables t proof.tree)
-of_tables t text (Ok proof) reads = in_order_of_tables t proof.tree (text_of_reading t text proof.planned proof.tree reads).1
+of_tables t text (Ok proof) reads = in_order_of_tables t proof.tree (text_of_reading t text proof.planned proof.tree reads).order
 of_tables t text (Err error) reads = tt
 
 pub exactly : (t : Tables) (text : List ℕ) (result : Result Proof CertError) → MatchResult result (ReadsAs t text) (FaultOf t text) → IfOk result (λ proof. IsTextOf t text proof.planned proof.tree)
-exactly t text (Ok proof) reads =
-    let told = text_of_reading t text proof.planned proof.tree reads in
-    record { is = told.0; order = told.1; shallow = told.2 }
+exactly t text (Ok proof) reads = text_of_reading t text proof.planned proof.tree reads
 exactly t text (Err error) reads = tt
+
+-- a text of a proof reads as that proof
+pub reads_each_version : (t : Tables) (bytes : List ℕ) (planned : Bool) (whole : Tree) → IsTextOf t bytes planned whole → proof_at t (left_of bytes) ≡ Ok (planned, nodes_of whole)
+reads_each_version t bytes planned whole text = ap (λ text. proof_at t (left_of text)) text.is ∙ reads_in text.version t planned whole text.tells text.order text.shallow
 
 pub complete : (t : Tables) (text : List ℕ) (result : Result Proof CertError) → MatchResult result (ReadsAs t text) (FaultOf t text) → (planned : Bool) (whole : Tree) → IsTextOf t text planned whole
     → AnswersProof planned whole result
 complete t text (Ok proof) reads planned whole is =
     let one : (proof.planned, nodes_of proof.tree) ≡ (planned, nodes_of whole) =
     ok_same (proof.planned, nodes_of proof.tree) (planned, nodes_of whole)
-    (sym reads ∙ ap (λ text. proof_at t (left_of text)) is.is ∙ reads_what_was_written t planned whole is.order is.shallow) in
+    (sym reads ∙ reads_each_version t text planned whole is) in
     (ap (λ p. p.0) one, ap (λ p. p.1) one)
 complete t text (Err (cert.Fault fault)) reads planned whole is =
-    let stopped = sym reads.stops ∙ ap (λ text. proof_at t (left_of text)) is.is ∙ reads_what_was_written t planned whole is.order is.shallow in
+    let stopped = sym reads.stops ∙ reads_each_version t text planned whole is in
     absurd (cc stopped)
 complete t text (Err cert.NoMemory) reads planned whole is = tt

@@ -1,14 +1,15 @@
 -- What reading leaves, and where it stops, is no more than there was.
-use Rattle.bound_cert.proofs.LineTwins.{Alike, Twin, alike_self, head_twin, line_twin, mixed_scale_twin, plan_twin, rent_twin, scale_twin, step_twin, twin_if, weight_twin}
+use Rattle.bound_cert.proofs.LineTwins.{Alike, Twin, alike_self, charge_twin, head_twin, line_twin, mixed_scale_twin, plan_twin, rent_twin, scale_twin, step_twin, twin_if, weight_twin}
 use Rattle.bound_cert.proofs.ReadBack.{goes}
 use Rattle.bound_cert.proofs.WrittenLines.{names}
 use Rattle.bound_cert.specs.Lines.{◌>>=◌, Left, Reading, fits, line_due, stopped}
 use Rattle.bound_cert.specs.Nodes.{Above, after_node, end_at, head_is, nodes_from, nothing, plan_at, proof_at, rest_at, tree_at}
-use Rattle.bound_cert.specs.Reading.{Series, body_at, entries_from, entry_at, head_at, mixed_at, mixed_scale_at, node_at, prices_at, rent_series, rents_from, scale_at, step_series, steps_from, weight_series, weights_from}
+use Rattle.bound_cert.specs.Reading.{Series, body_at, charge_series, charges_from, entries_from, entry_at, head_at, mixed_at, mixed_scale_at, node_at, prices_at, rent_series, rents_from, scale_at, step_series, steps_from, weight_series, weights_from}
 use Rattle.bound_cert.specs.declared.faults.TheConstants.{BAD_LINE}
 use Rattle.bound_cert.specs.declared.nodes.Head.{Head}
 use Rattle.dual_bound.specs.declared.mixed.Weight.{Weight}
 use Rattle.dual_bound.specs.declared.nodes.Node.{Node}
+use Rattle.dual_bound.specs.declared.prices.Charge.{Charge}
 use Rattle.dual_bound.specs.declared.prices.PriceStep.{PriceStep}
 use Rattle.fleet_model.specs.declared.tables.Tables.{Tables}
 use Rattle.proof_lines.specs.Forms.{form_in}
@@ -53,58 +54,62 @@ pub entries_shrink : {S A B : Type 0} (s : Series S A B) → ((so_far : S) (a : 
 unfolding entries_from
 entries_shrink s twin so_far [] = omega arith
 entries_shrink s twin so_far (line ∷ a) =
-    shrinks_if (length (line ∷ a)) (fits s.kind (form_in (words_of line))) _ _
+    shrinks_if (length (line ∷ a)) (fits s.kind (form_in s.names.version (words_of line))) _ _
     (shrinks_line (line ∷ a) (entry_at s so_far (line ∷ a)) _ (twin so_far (line ∷ a)) (λ entry. shrinks_behind (line ∷ a) _ (entries_shrink s twin (s.grow so_far entry) a)))
     (omega arith)
 
-module _ (t : Tables) where
-  pub rents_shrink : (rents : List ℤ) (a : Left) → Shrinks (length a) (rents_from (names t) rents a)
-  rents_shrink = entries_shrink (rent_series (names t)) (λ rents a. rent_twin t a a (alike_self a) (length rents))
+module _ (v : Version) (t : Tables) where
+  pub rents_shrink : (rents : List ℤ) (a : Left) → Shrinks (length a) (rents_from (names v t) rents a)
+  rents_shrink = entries_shrink (rent_series (names v t)) (λ rents a. rent_twin v t a a (alike_self a) (length rents))
 
-  pub steps_shrink : (steps : List PriceStep) (before : Option PriceStep) (a : Left) → Shrinks (length a) (steps_from (names t) steps before a)
-  steps_shrink steps before = entries_shrink (step_series (names t)) (λ so_far a. step_twin t a a (alike_self a) so_far.1 (λ zero. refl)) (steps, before)
+  pub charges_shrink : (charges : List Charge) (before : Option Charge) (a : Left) → Shrinks (length a) (charges_from (names v t) charges before a)
+  charges_shrink charges before = entries_shrink (charge_series (names v t)) (λ so_far a. charge_twin v t a a (alike_self a) so_far.1) (charges, before)
 
-  pub weights_shrink : (weights : List Weight) (before : Option Weight) (a : Left) → Shrinks (length a) (weights_from (names t) weights before a)
-  weights_shrink weights before = entries_shrink (weight_series (names t)) (λ so_far a. weight_twin t a a (alike_self a) so_far.1) (weights, before)
+  pub steps_shrink : (steps : List PriceStep) (before : Option PriceStep) (a : Left) → Shrinks (length a) (steps_from (names v t) steps before a)
+  steps_shrink steps before = entries_shrink (step_series (names v t)) (λ so_far a. step_twin v t a a (alike_self a) so_far.1 (λ zero. refl)) (steps, before)
 
-  pub prices_shrink : (a : Left) → Shrinks (length a) (prices_at (names t) a)
+  pub weights_shrink : (weights : List Weight) (before : Option Weight) (a : Left) → Shrinks (length a) (weights_from (names v t) weights before a)
+  weights_shrink weights before = entries_shrink (weight_series (names v t)) (λ so_far a. weight_twin v t a a (alike_self a) so_far.1) (weights, before)
+
+  pub prices_shrink : (a : Left) → Shrinks (length a) (prices_at (names v t) a)
   unfolding prices_at
   prices_shrink a =
-      shrinks_line a (scale_at (names t) a) _ (scale_twin t a a (alike_self a)) (λ scale. shrinks_behind a _
-      (shrinks_bind (length (drop 1 a)) (rents_from (names t) [] (drop 1 a)) _ (rents_shrink [] (drop 1 a)) (λ rents b.
-      shrinks_bind (length b) (steps_from (names t) [] None b) _ (steps_shrink [] None b) (λ steps c. omega arith))))
+      shrinks_line a (scale_at (names v t) a) _ (scale_twin v t a a (alike_self a)) (λ scale. shrinks_behind a _
+      (shrinks_bind (length (drop 1 a)) (rents_from (names v t) [] (drop 1 a)) _ (rents_shrink [] (drop 1 a)) (λ rents b.
+      shrinks_bind (length b) (charges_from (names v t) [] None b) _ (charges_shrink [] None b) (λ charges c.
+      shrinks_bind (length c) (steps_from (names v t) [] None c) _ (steps_shrink [] None c) (λ steps d. omega arith)))))
 
-  pub mixed_shrinks : (a : Left) → Shrinks (length a) (mixed_at (names t) a)
+  pub mixed_shrinks : (a : Left) → Shrinks (length a) (mixed_at (names v t) a)
   unfolding mixed_at
   mixed_shrinks a =
-      shrinks_line a (mixed_scale_at (names t) a) _ (mixed_scale_twin t a a (alike_self a)) (λ scale. shrinks_behind a _
-      (shrinks_bind (length (drop 1 a)) (weights_from (names t) [] None (drop 1 a)) _ (weights_shrink [] None (drop 1 a)) (λ weights b. omega arith)))
+      shrinks_line a (mixed_scale_at (names v t) a) _ (mixed_scale_twin v t a a (alike_self a)) (λ scale. shrinks_behind a _
+      (shrinks_bind (length (drop 1 a)) (weights_from (names v t) [] None (drop 1 a)) _ (weights_shrink [] None (drop 1 a)) (λ weights b. omega arith)))
 
-  pub body_shrinks : (h : Head) (a : Left) → Shrinks (length a) (body_at (names t) h a)
+  pub body_shrinks : (h : Head) (a : Left) → Shrinks (length a) (body_at (names v t) h a)
   unfolding body_at
   body_shrinks (head.Alone h) a = omega arith
-  body_shrinks (head.Priced h) a = shrinks_bind (length a) (prices_at (names t) a) _ (prices_shrink a) (λ prices b. omega arith)
+  body_shrinks (head.Priced h) a = shrinks_bind (length a) (prices_at (names v t) a) _ (prices_shrink a) (λ prices b. omega arith)
   body_shrinks (head.Mixed h) a =
-      shrinks_bind (length a) (prices_at (names t) a) _ (prices_shrink a) (λ prices b. shrinks_bind (length b) (mixed_at (names t) b) _ (mixed_shrinks b) (λ mixed c. omega arith))
+      shrinks_bind (length a) (prices_at (names v t) a) _ (prices_shrink a) (λ prices b. shrinks_bind (length b) (mixed_at (names v t) b) _ (mixed_shrinks b) (λ mixed c. omega arith))
 
-  pub node_shrinks : (above : ℕ) (a : Left) → Shrinks (length a) (node_at (names t) above a)
+  pub node_shrinks : (above : ℕ) (a : Left) → Shrinks (length a) (node_at (names v t) above a)
   unfolding node_at
-  node_shrinks above a = shrinks_line a (head_at (names t) above a) _ (head_twin t a a (alike_self a) above) (λ h. shrinks_behind a _ (body_shrinks h (drop 1 a)))
+  node_shrinks above a = shrinks_line a (head_at (names v t) above a) _ (head_twin v t a a (alike_self a) above) (λ h. shrinks_behind a _ (body_shrinks h (drop 1 a)))
 
   -- a node takes a line at least
-  pub node_takes : (above : ℕ) (a : Left) (read : Node × Left) → node_at (names t) above a ≡ Ok read → length read.1 < length a
+  pub node_takes : (above : ℕ) (a : Left) (read : Node × Left) → node_at (names v t) above a ≡ Ok read → length read.1 < length a
   unfolding node_at head_at line_due
   node_takes above [] read e = absurd (cc e)
   node_takes above (x ∷ a) read e =
-      let h = goes (head_at (names t) above (x ∷ a)) _ read e in
+      let h = goes (head_at (names v t) above (x ∷ a)) _ read e in
       let less : length read.1 ≤ length a = subst (Shrinks (length a)) h.on (body_shrinks h.value a) in
       omega (arith, less)
 
-  pub nodes_shrink : (most : ℕ) (nodes : List Node) (above : Above) (a : Left) → Shrinks (length a) (nodes_from (names t) most nodes above a)
+  pub nodes_shrink : (most : ℕ) (nodes : List Node) (above : Above) (a : Left) → Shrinks (length a) (nodes_from (names v t) most nodes above a)
   unfolding nodes_from
   nodes_shrink zero nodes above a = omega arith
   nodes_shrink (suc most) nodes above a =
-      shrinks_bind (length a) (node_at (names t) (length above) a) _ (node_shrinks (length above) a) (λ n b.
+      shrinks_bind (length a) (node_at (names v t) (length above) a) _ (node_shrinks (length above) a) (λ n b.
       shrinks_if (length b) (length (after_node n above) == 0) _ _ (omega arith) (nodes_shrink most (nodes ++ n ∷ []) (after_node n above) b))
 
 -- where reading stops is no more than there was
@@ -138,9 +143,9 @@ nothing_stops (line ∷ []) = by_word (is_word line)
     by_word false = tt
 nothing_stops (line ∷ next ∷ rest) = omega arith
 
-pub end_stops : (t : Tables) (a : Left) → Stops (length a) (end_at (names t) a)
+pub end_stops : (v : Version) (t : Tables) (a : Left) → Stops (length a) (end_at (names v t) a)
 unfolding end_at
-end_stops t a = stops_line a (line_due (names t) due.End a) _ (line_twin (names t) due.End a a (alike_self a)) (λ words. nothing_stops (drop 1 a))
+end_stops v t a = stops_line a (line_due (names v t) due.End a) _ (line_twin (names v t) due.End a a (alike_self a)) (λ words. nothing_stops (drop 1 a))
 
 pub headed_twin : (a b : Left) → Alike a b → Twin a b (head_is a) (head_is b)
 unfolding head_is
@@ -148,21 +153,19 @@ headed_twin [] b same = subst (λ b. Twin [] b (head_is []) (head_is b)) (sym sa
 headed_twin (line ∷ []) b same = subst (λ b. Twin (line ∷ []) b (head_is (line ∷ [])) (head_is b)) (sym same) (refl, refl)
 headed_twin (line ∷ second ∷ rest) b same =
     subst (λ b. Twin (line ∷ second ∷ rest) b (head_is (line ∷ second ∷ rest)) (head_is b)) (sym same.is)
-    (twin_if (line ∷ second ∷ rest) (line ∷ same.second ∷ same.rest) (bytes_eq line (codes "fleet proof 1")) _ _ _ _ refl (refl, refl))
+    (twin_if (line ∷ second ∷ rest) (line ∷ same.second ∷ same.rest) (bytes_eq line (codes "fleet proof 1")) _ _ _ _ refl
+    (twin_if (line ∷ second ∷ rest) (line ∷ same.second ∷ same.rest) (bytes_eq line (codes "fleet proof 2")) _ _ _ _ refl (refl, refl)))
 
-module _ (t : Tables) where
-  pub tree_stops : (a : Left) → Stops (length a) (tree_at (names t) a)
+module _ (v : Version) (t : Tables) where
+  pub tree_stops : (a : Left) → Stops (length a) (tree_at (names v t) a)
   unfolding tree_at
   tree_stops a =
-      stops_bind (length a) (nodes_from (names t) (length a) [] [] a) _ (nodes_shrink t (length a) [] [] a) (λ nodes b. stops_then (length b) (end_at (names t) b) (λ ended. nodes) (end_stops t b))
+      stops_bind (length a) (nodes_from (names v t) (length a) [] [] a) _ (nodes_shrink v t (length a) [] [] a) (λ nodes b. stops_then (length b) (end_at (names v t) b) (λ ended. nodes) (end_stops v t b))
 
-  pub rest_stops : (a : Left) → Stops (length a) (rest_at (names t) a)
+  pub rest_stops : (a : Left) → Stops (length a) (rest_at (names v t) a)
   unfolding rest_at
-  rest_stops a = stops_line a (plan_at (names t) a) _ (plan_twin t a a (alike_self a)) (λ planned. stops_then (length (drop 1 a)) (tree_at (names t) (drop 1 a)) (λ nodes. (planned, nodes)) (tree_stops (drop 1 a)))
+  rest_stops a = stops_line a (plan_at (names v t) a) _ (plan_twin v t a a (alike_self a)) (λ planned. stops_then (length (drop 1 a)) (tree_at (names v t) (drop 1 a)) (λ nodes. (planned, nodes)) (tree_stops (drop 1 a)))
 
-  pub version_stops : (version : Version) (a : Left) → Stops (length a) (rest_at (names_in version t) a)
-  version_stops version.One a = rest_stops a
-
-  pub proof_stops : (a : Left) → Stops (length a) (proof_at t a)
-  unfolding proof_at
-  proof_stops a = stops_line a (head_is a) _ (headed_twin a a (alike_self a)) (λ version. version_stops version (drop 1 a))
+pub proof_stops : (t : Tables) (a : Left) → Stops (length a) (proof_at t a)
+unfolding proof_at
+proof_stops t a = stops_line a (head_is a) _ (headed_twin a a (alike_self a)) (λ version. rest_stops version t (drop 1 a))

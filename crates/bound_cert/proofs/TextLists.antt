@@ -2,29 +2,32 @@
 use Rattle.bound_cert.proofs.ReadBack.{either_way, goes, ok_same}
 use Rattle.bound_cert.proofs.ReadOn.{begins}
 use Rattle.bound_cert.proofs.TextLines.{LineIs}
-use Rattle.bound_cert.proofs.TextPrices.{mixed_scale_was, rent_was, scale_was, step_was, weight_was}
+use Rattle.bound_cert.proofs.TextPrices.{charge_was, mixed_scale_was, rent_was, scale_was, step_was, weight_was}
 use Rattle.bound_cert.proofs.WrittenLines.{names, other_words, texts, texts_append}
 use Rattle.bound_cert.proofs.WrittenPrices.{fleet_count, lines_from, lines_with, lines_without, needed_by, of_step}
 use Rattle.bound_cert.specs.Lines.{Left, fits}
-use Rattle.bound_cert.specs.ProofText.{at_line, mixed_lines, price_lines, rent_lines, weight_line}
-use Rattle.bound_cert.specs.Reading.{entries_from, first_words, mixed_at, mixed_scale_at, padded, prices_at, rent_at, rents_from, scale_at, step_at, steps_from, weight_at, weights_from}
+use Rattle.bound_cert.specs.ProofText.{ArePricesIn, at_line, charge_line, mixed_lines, price_lines, rent_lines, weight_line}
+use Rattle.bound_cert.specs.Reading.{charge_at, charges_from, entries_from, first_words, mixed_at, mixed_scale_at, padded, prices_at, rent_at, rents_from, scale_at, step_at, steps_from, weight_at, weights_from}
 use Rattle.dual_bound.proofs.StepOrder.{same_place_by, zero_figure}
 use Rattle.dual_bound.specs.Prices.{rent_of}
-use Rattle.dual_bound.specs.WrittenOrder.{ArePricesInOrder, IsFigure, IsMixedInOrder, IsStepInOrder, IsWeightInOrder, NoLoneZero, StepsFollow, WeightsFollow, goes_on}
+use Rattle.dual_bound.specs.WrittenOrder.{ArePricesInOrder, ChargesFollow, IsChargeInOrder, IsFigure, IsMixedInOrder, IsStepInOrder, IsWeightInOrder, NoLoneZero, StepsFollow, WeightsFollow, goes_on}
 use Rattle.dual_bound.specs.declared.mixed.Mixed.{Mixed}
 use Rattle.dual_bound.specs.declared.mixed.Weight.{Weight}
+use Rattle.dual_bound.specs.declared.prices.Charge.{Charge}
 use Rattle.dual_bound.specs.declared.prices.PriceStep.{PriceStep}
 use Rattle.dual_bound.specs.declared.prices.Prices.{Prices}
 use Rattle.fleet_model.specs.Schedule.{fleets_in}
 use Rattle.fleet_model.specs.declared.tables.Tables.{Tables}
+use Rattle.proof_lines.specs.declared.line.Version.{Version}
 use Rattle.proof_lines.proofs.LineWords.{of_words}
 use Rattle.proof_lines.proofs.Naming.{fleet_written, station_written}
 use Rattle.proof_lines.proofs.Spaces.{words_back}
-use Rattle.proof_lines.specs.Forms.{form_in}
+use Rattle.proof_lines.specs.Forms.{form_in, has_charges}
 use Rattle.proof_lines.specs.LineText.{line_bytes, line_words}
 use Rattle.proof_lines.specs.Reading.{is_number, is_step_of}
 use Rattle.proof_lines.specs.Words.{stands, words_of}
 use Rattle.std.proofs.Common.{[], ◌&&◌, ◌++◌, ◌+◌, ◌-◌, ◌<◌, ◌==◌, ◌∙◌, ◌∷◌, ◌≡◌, ◌≤◌, Bool, List, None, Ok, Option, Some, ap, append-nil, append_assoc, arith, codes, drop, false, get_or, length, map, pos, refl, replicate, subst, suc, sym, true, zero, ℕ, ℤ}
+use mathlib.Core.Bool.{false≢true}
 use Rattle.std.proofs.lemmas.Bool.Decides.{Decides-int_eq, nat_tests}
 use Rattle.std.proofs.lemmas.List.Elements.{All-append, All-cons, All-head, All-nil}
 use Rattle.std.proofs.lemmas.List.{length-append}
@@ -34,7 +37,7 @@ use Rattle.bound_cert.specs.declared.reading_lines.Due.TheVariants as due
 use Rattle.proof_lines.specs.declared.line.Line.TheVariants as says
 use Rattle.proof_lines.specs.declared.line.Version.TheVariants as version
 
-module _ (t : Tables) where
+module _ (v : Version) (t : Tables) where
   -- steps
 
   pub record StepsWere (done : List PriceStep) (before : Option PriceStep) (left : Left) (read : List PriceStep × Left) : Type 0 where
@@ -44,7 +47,7 @@ module _ (t : Tables) where
     pub each : All (IsStepInOrder t) new
     pub follow : StepsFollow before new
     pub no_lone_zero : NoLoneZero new
-    pub ends : new ≡ [] → begins left due.Step ≡ false
+    pub ends : new ≡ [] → begins v left due.Step ≡ false
 
   three_tests : (a b c : Bool) → (a && b && c) ≡ true → (b ≡ true) × (c ≡ true)
   three_tests true true true e = (refl, refl)
@@ -54,9 +57,9 @@ module _ (t : Tables) where
 
   -- where the next line goes on at the place of a step, so does the next step
   goes_on_by : (step : PriceStep) (new : List PriceStep) (rest behind : Left) → IsStepInOrder t step → All (IsStepInOrder t) new → rest ≡ texts t (map at_line new) ++ behind
-      → (new ≡ [] → begins rest due.Step ≡ false) → is_step_of (names t) step.fleet step.station (first_words rest) ≡ true → goes_on step new ≡ true
+      → (new ≡ [] → begins v rest due.Step ≡ false) → is_step_of (names v t) step.fleet step.station (first_words rest) ≡ true → goes_on step new ≡ true
   goes_on_by step [] rest behind is are text ends on =
-      absurd (by_test (stands (first_words rest) 0 (codes "at")) _ _ on (other_words rest (ends refl)))
+      absurd (by_test (stands (first_words rest) 0 (codes "at")) _ _ on (other_words v rest (ends refl)))
     where
       by_test : (a b c : Bool) → (a && b && c) ≡ true → a ≡ false → ⊥
       by_test true b c e off = cc off
@@ -64,21 +67,21 @@ module _ (t : Tables) where
   goes_on_by step (next ∷ new) rest behind is are text ends on =
       let of = of_step t next (All-head (IsStepInOrder t) next new are) in
       let words : first_words rest ≡ line_words t (at_line next) = ap first_words text ∙ words_back (line_words t (at_line next)) (of_words t (at_line next) (of.fleet, of.station)) in
-      let tests = three_tests (stands (line_words t (at_line next)) 0 (codes "at")) _ _ (ap (λ w. is_step_of (names t) step.fleet step.station w) (sym words) ∙ on) in
-      let fleet : (next.fleet == step.fleet) ≡ true = ap (λ r. is_number r step.fleet) (sym (fleet_written version.One t next.fleet of.fleet)) ∙ tests.0 in
-      let station : (next.station == step.station) ≡ true = ap (λ r. is_number r step.station) (sym (station_written version.One t next.station of.station)) ∙ tests.1 in
+      let tests = three_tests (stands (line_words t (at_line next)) 0 (codes "at")) _ _ (ap (λ w. is_step_of (names v t) step.fleet step.station w) (sym words) ∙ on) in
+      let fleet : (next.fleet == step.fleet) ≡ true = ap (λ r. is_number r step.fleet) (sym (fleet_written v t next.fleet of.fleet)) ∙ tests.0 in
+      let station : (next.station == step.station) ≡ true = ap (λ r. is_number r step.station) (sym (station_written v t next.station of.station)) ∙ tests.1 in
       same_place_by step next (grind (arith, nat_tests, fleet)) (grind (arith, nat_tests, station))
 
-  pub steps_were : (left : Left) (done : List PriceStep) (before : Option PriceStep) (read : List PriceStep × Left) → steps_from (names t) done before left ≡ Ok read → StepsWere done before left read
+  pub steps_were : (left : Left) (done : List PriceStep) (before : Option PriceStep) (read : List PriceStep × Left) → steps_from (names v t) done before left ≡ Ok read → StepsWere done before left read
   unfolding entries_from
   steps_were [] done before read e =
       subst (λ r. StepsWere done before [] r) (ok_same (done, []) read e)
       (record { new = []; list = sym (append-nil done); text = refl; each = All-nil (IsStepInOrder t); follow = tt; no_lone_zero = tt; ends = λ none. refl })
   steps_were (line ∷ rest) done before read e =
-      either_way (fits due.Step (form_in (words_of line))) _ _ read e
+      either_way (fits due.Step (form_in v (words_of line))) _ _ read e
       (λ at e.
-      let step = goes (step_at (names t) before (line ∷ rest)) _ read e in
-      let was = step_was t before (line ∷ rest) step.value step.is in
+      let step = goes (step_at (names v t) before (line ∷ rest)) _ read e in
+      let was = step_was v t before (line ∷ rest) step.value step.is in
       let more = steps_were rest (done ++ step.value ∷ []) (Some step.value) read step.on in
       record {
         new = step.value ∷ more.new;
@@ -87,7 +90,7 @@ module _ (t : Tables) where
         each = All-cons (IsStepInOrder t) step.value more.new was.order more.each;
         follow = (was.follows, more.follow);
         no_lone_zero = (
-          needed_by t (step.value.minute == 0) (int_eq step.value.value (pos 0)) (is_step_of (names t) step.value.fleet step.value.station (first_words rest)) (goes_on step.value more.new) was.needed
+          needed_by v t (step.value.minute == 0) (int_eq step.value.value (pos 0)) (is_step_of (names v t) step.value.fleet step.value.station (first_words rest)) (goes_on step.value more.new) was.needed
               (goes_on_by step.value more.new rest read.1 was.order more.each more.text more.ends),
           more.no_lone_zero,
         );
@@ -96,6 +99,39 @@ module _ (t : Tables) where
       (λ at e.
       subst (λ r. StepsWere done before (line ∷ rest) r) (ok_same (done, line ∷ rest) read e)
       (record { new = []; list = sym (append-nil done); text = refl; each = All-nil (IsStepInOrder t); follow = tt; no_lone_zero = tt; ends = λ none. at }))
+
+  -- charges, of which there are none in a version without lines for them
+
+  pub record ChargesWere (done : List Charge) (before : Option Charge) (left : Left) (read : List Charge × Left) : Type 0 where
+    pub new : List Charge
+    pub list : read.0 ≡ done ++ new
+    pub text : left ≡ texts t (map charge_line new) ++ read.1
+    pub each : All (IsChargeInOrder t) new
+    pub follow : ChargesFollow before new
+    pub tells : has_charges v ≡ false → new ≡ []
+
+  pub charges_were : (left : Left) (done : List Charge) (before : Option Charge) (read : List Charge × Left) → charges_from (names v t) done before left ≡ Ok read → ChargesWere done before left read
+  unfolding entries_from
+  charges_were [] done before read e =
+      subst (λ r. ChargesWere done before [] r) (ok_same (done, []) read e)
+      (record { new = []; list = sym (append-nil done); text = refl; each = All-nil (IsChargeInOrder t); follow = tt; tells = λ off. refl })
+  charges_were (line ∷ rest) done before read e =
+      either_way (fits due.Charge (form_in v (words_of line))) _ _ read e
+      (λ at e.
+      let entry = goes (charge_at (names v t) before (line ∷ rest)) _ read e in
+      let was = charge_was v t before (line ∷ rest) entry.value entry.is in
+      let more = charges_were rest (done ++ entry.value ∷ []) (Some entry.value) read entry.on in
+      record {
+        new = entry.value ∷ more.new;
+        list = more.list ∙ append_assoc done (entry.value ∷ []) more.new;
+        text = was.line_is.is ∙ ap (λ rest. line_bytes t (charge_line entry.value) ∷ rest) more.text;
+        each = All-cons (IsChargeInOrder t) entry.value more.new was.order more.each;
+        follow = (was.follows, more.follow);
+        tells = λ off. absurd (false≢true (sym off ∙ was.line_is.of_version));
+      })
+      (λ at e.
+      subst (λ r. ChargesWere done before (line ∷ rest) r) (ok_same (done, line ∷ rest) read e)
+      (record { new = []; list = sym (append-nil done); text = refl; each = All-nil (IsChargeInOrder t); follow = tt; tells = λ off. refl }))
 
   -- weights
 
@@ -106,16 +142,16 @@ module _ (t : Tables) where
     pub each : All (IsWeightInOrder t) new
     pub follow : WeightsFollow before new
 
-  pub weights_were : (left : Left) (done : List Weight) (before : Option Weight) (read : List Weight × Left) → weights_from (names t) done before left ≡ Ok read → WeightsWere done before left read
+  pub weights_were : (left : Left) (done : List Weight) (before : Option Weight) (read : List Weight × Left) → weights_from (names v t) done before left ≡ Ok read → WeightsWere done before left read
   unfolding entries_from
   weights_were [] done before read e =
       subst (λ r. WeightsWere done before [] r) (ok_same (done, []) read e)
       (record { new = []; list = sym (append-nil done); text = refl; each = All-nil (IsWeightInOrder t); follow = tt })
   weights_were (line ∷ rest) done before read e =
-      either_way (fits due.Weight (form_in (words_of line))) _ _ read e
+      either_way (fits due.Weight (form_in v (words_of line))) _ _ read e
       (λ at e.
-      let entry = goes (weight_at (names t) before (line ∷ rest)) _ read e in
-      let was = weight_was t before (line ∷ rest) entry.value entry.is in
+      let entry = goes (weight_at (names v t) before (line ∷ rest)) _ read e in
+      let was = weight_was v t before (line ∷ rest) entry.value entry.is in
       let more = weights_were rest (done ++ entry.value ∷ []) (Some entry.value) read entry.on in
       record {
         new = entry.value ∷ more.new;
@@ -158,31 +194,31 @@ module _ (t : Tables) where
       replicate_len (suc k) = ap suc (replicate_len k)
 
   -- the fleets from a first one on up to another have no lines, where their rents are 0
-  no_lines : (prices : Prices) (k first n : ℕ) → ((f : ℕ) → first ≤ f → f < first + k → rent_of prices f ≡ pos 0) → lines_from t prices first (k + n) ≡ lines_from t prices (first + k) n
+  no_lines : (prices : Prices) (k first n : ℕ) → ((f : ℕ) → first ≤ f → f < first + k → rent_of prices f ≡ pos 0) → lines_from v t prices first (k + n) ≡ lines_from v t prices (first + k) n
   no_lines prices zero first n zeros =
       let all : zero + n ≡ n = omega arith in
       let here : first ≡ first + 0 = omega arith in
-      ap (λ m. lines_from t prices first m) all ∙ ap (λ f. lines_from t prices f n) here
+      ap (λ m. lines_from v t prices first m) all ∙ ap (λ f. lines_from v t prices f n) here
   no_lines prices (suc k) first n zeros =
       let all : suc k + n ≡ suc (k + n) = omega arith in
       let there : first + 1 + k ≡ first + suc k = omega arith in
-      ap (λ m. lines_from t prices first m) all
-      ∙ lines_without t prices first (k + n) ((Decides-int_eq (rent_of prices first) (pos 0)).1 (zeros first (omega arith) (omega arith)))
+      ap (λ m. lines_from v t prices first m) all
+      ∙ lines_without v t prices first (k + n) ((Decides-int_eq (rent_of prices first) (pos 0)).1 (zeros first (omega arith) (omega arith)))
       ∙ no_lines prices k (first + 1) n (λ f later before. zeros f (omega (arith, later)) (omega (arith, before)))
-      ∙ ap (λ f. lines_from t prices f n) there
+      ∙ ap (λ f. lines_from v t prices f n) there
 
-  no_lines_at_all : (prices : Prices) (first k : ℕ) → ((f : ℕ) → first ≤ f → f < first + k → rent_of prices f ≡ pos 0) → lines_from t prices first k ≡ []
+  no_lines_at_all : (prices : Prices) (first k : ℕ) → ((f : ℕ) → first ≤ f → f < first + k → rent_of prices f ≡ pos 0) → lines_from v t prices first k ≡ []
   unfolding lines_from
   no_lines_at_all prices first k zeros =
       let all : k ≡ k + 0 = omega arith in
-      ap (λ m. lines_from t prices first m) all ∙ no_lines prices k first 0 zeros
+      ap (λ m. lines_from v t prices first m) all ∙ no_lines prices k first 0 zeros
 
   -- what is read behind rents that are known: the rents begin with these, and the others' lines are those that are read
   pub record RentsWere (done : List ℤ) (left : Left) (read : List ℤ × Left) : Type 0 where
     pub one_each : length read.0 ≡ fleets_in t
     pub figures : All IsFigure read.0
     pub begun : (i : ℕ) → i < length done → get_or read.0 i (pos 0) ≡ get_or done i (pos 0)
-    pub text : (prices : Prices) → prices.rents ≡ read.0 → left ≡ texts t (lines_from t prices (length done) (fleets_in t - length done)) ++ read.1
+    pub text : (prices : Prices) → prices.rents ≡ read.0 → left ≡ texts t (lines_from v t prices (length done) (fleets_in t - length done)) ++ read.1
 
   padded_figures : (done : List ℤ) (n : ℕ) → All IsFigure done → All IsFigure (padded done n)
   padded_figures done n are = All-append IsFigure done (replicate (n - length done) (pos 0)) are (zeros_are (n - length done))
@@ -232,22 +268,22 @@ module _ (t : Tables) where
             ∙ behind_zeros done missing i from in
             let all : fleets_in t - length done ≡ missing + suc behind = omega (arith, later, fleet) in
             let there : length done + missing ≡ f = omega (arith, later) in
-            let lines : lines_from t prices (length done) (fleets_in t - length done) ≡ says.Rent f z ∷ lines_from t prices (f + 1) behind =
-            ap (λ n. lines_from t prices (length done) n) all ∙ no_lines prices missing (length done) (suc behind) zeros_are ∙ ap (λ g. lines_from t prices g (suc behind)) there
-            ∙ lines_with t prices f behind (ap (λ y. int_eq y (pos 0)) rent_is ∙ not_0) ∙ ap (λ y. says.Rent f y ∷ lines_from t prices (f + 1) behind) rent_is in
-            let others : rest ≡ texts t (lines_from t prices (f + 1) behind) ++ read.1 =
-            more.text prices is ∙ ap (λ n. texts t (lines_from t prices n (fleets_in t - n)) ++ read.1) grown_len in
+            let lines : lines_from v t prices (length done) (fleets_in t - length done) ≡ says.Rent f z ∷ lines_from v t prices (f + 1) behind =
+            ap (λ n. lines_from v t prices (length done) n) all ∙ no_lines prices missing (length done) (suc behind) zeros_are ∙ ap (λ g. lines_from v t prices g (suc behind)) there
+            ∙ lines_with v t prices f behind (ap (λ y. int_eq y (pos 0)) rent_is ∙ not_0) ∙ ap (λ y. says.Rent f y ∷ lines_from v t prices (f + 1) behind) rent_is in
+            let others : rest ≡ texts t (lines_from v t prices (f + 1) behind) ++ read.1 =
+            more.text prices is ∙ ap (λ n. texts t (lines_from v t prices n (fleets_in t - n)) ++ read.1) grown_len in
             line ∙ ap (λ rest. line_bytes t (says.Rent f z) ∷ rest) others ∙ ap (λ lines. texts t lines ++ read.1) (sym lines);
       }
 
-  pub rents_were : (left : Left) (done : List ℤ) (read : List ℤ × Left) → rents_from (names t) done left ≡ Ok read → All IsFigure done → length done ≤ fleets_in t → RentsWere done left read
+  pub rents_were : (left : Left) (done : List ℤ) (read : List ℤ × Left) → rents_from (names v t) done left ≡ Ok read → All IsFigure done → length done ≤ fleets_in t → RentsWere done left read
   unfolding entries_from
-  rents_were [] done read e are few = subst (λ r. RentsWere done [] r) (ok_same (padded done (fleets_in t), []) read (ap (λ n. Ok (padded done n, [])) (sym (fleet_count t)) ∙ e)) (none_more done [] are few)
+  rents_were [] done read e are few = subst (λ r. RentsWere done [] r) (ok_same (padded done (fleets_in t), []) read (ap (λ n. Ok (padded done n, [])) (sym (fleet_count v t)) ∙ e)) (none_more done [] are few)
   rents_were (line ∷ rest) done read e are few =
-      either_way (fits due.Rent (form_in (words_of line))) _ _ read e
+      either_way (fits due.Rent (form_in v (words_of line))) _ _ read e
       (λ at e.
-      let entry = goes (rent_at (names t) (length done) (line ∷ rest)) _ read e in
-      let was = rent_was t (length done) (line ∷ rest) entry.value entry.is in
+      let entry = goes (rent_at (names v t) (length done) (line ∷ rest)) _ read e in
+      let was = rent_was v t (length done) (line ∷ rest) entry.value entry.is in
       let f = entry.value.0 in
       let z = entry.value.1 in
       let grown : List ℤ = padded done f ++ z ∷ [] in
@@ -255,34 +291,39 @@ module _ (t : Tables) where
       let grown_len : length grown ≡ f + 1 = length-append (padded done f) (z ∷ []) ∙ ap (λ n. n + 1) (padded_len done f was.later) in
       one_more done (line ∷ rest) rest f z read was.later was.line_is.of_tables.named was.not_0 was.line_is.is
       (rents_were rest grown read entry.on figures (omega (arith, grown_len, was.line_is.of_tables.named))))
-      (λ at e. subst (λ r. RentsWere done (line ∷ rest) r) (ok_same (padded done (fleets_in t), line ∷ rest) read (ap (λ n. Ok (padded done n, line ∷ rest)) (sym (fleet_count t)) ∙ e)) (none_more done (line ∷ rest) are few))
+      (λ at e. subst (λ r. RentsWere done (line ∷ rest) r) (ok_same (padded done (fleets_in t), line ∷ rest) read (ap (λ n. Ok (padded done n, line ∷ rest)) (sym (fleet_count v t)) ∙ e)) (none_more done (line ∷ rest) are few))
 
   -- prices, and a fractional assignment
 
   pub record PricesWere (left : Left) (read : Prices × Left) : Type 0 where
     pub order : ArePricesInOrder t read.0
+    pub tells : ArePricesIn v read.0
     pub text : left ≡ texts t (price_lines t read.0) ++ read.1
 
-  prices_text : (prices : Prices) (left middle behind : Left) → LineIs t left (says.Scale prices.scale) → drop 1 left ≡ texts t (lines_from t prices 0 (fleets_in t - 0)) ++ middle
-      → middle ≡ texts t (map at_line prices.steps) ++ behind → left ≡ texts t (price_lines t prices) ++ behind
+  prices_text : (prices : Prices) (left middle last behind : Left) → LineIs v t left (says.Scale prices.scale) → drop 1 left ≡ texts t (lines_from v t prices 0 (fleets_in t - 0)) ++ middle
+      → middle ≡ texts t (map charge_line prices.charges) ++ last → last ≡ texts t (map at_line prices.steps) ++ behind → left ≡ texts t (price_lines t prices) ++ behind
   unfolding lines_from
-  prices_text prices left middle behind first rents steps =
+  prices_text prices left middle last behind first rents charges steps =
       let all : fleets_in t - 0 ≡ fleets_in t = omega arith in
       first.is
       ∙ ap (λ rest. line_bytes t (says.Scale prices.scale) ∷ rest)
-      (rents ∙ ap (λ n. texts t (lines_from t prices 0 n) ++ middle) all ∙ ap (λ rest. texts t (rent_lines prices (fleets_in t)) ++ rest) steps
-      ∙ sym (texts_append t (rent_lines prices (fleets_in t)) (map at_line prices.steps) behind))
+      (rents ∙ ap (λ n. texts t (lines_from v t prices 0 n) ++ middle) all
+      ∙ ap (λ rest. texts t (rent_lines prices (fleets_in t)) ++ rest) (charges ∙ ap (λ rest. texts t (map charge_line prices.charges) ++ rest) steps ∙ sym (texts_append t (map charge_line prices.charges) (map at_line prices.steps) behind))
+      ∙ sym (texts_append t (rent_lines prices (fleets_in t)) (map charge_line prices.charges ++ map at_line prices.steps) behind))
 
-  pub prices_were : (left : Left) (read : Prices × Left) → prices_at (names t) left ≡ Ok read → PricesWere left read
+  pub prices_were : (left : Left) (read : Prices × Left) → prices_at (names v t) left ≡ Ok read → PricesWere left read
   unfolding prices_at
   prices_were left read e =
-      let scale = goes (scale_at (names t) left) _ read e in
-      let rents = goes (rents_from (names t) [] (drop 1 left)) _ read scale.on in
-      let steps = goes (steps_from (names t) [] None rents.value.1) _ read rents.on in
-      let scale_is = scale_was t left scale.value scale.is in
+      let scale = goes (scale_at (names v t) left) _ read e in
+      let rents = goes (rents_from (names v t) [] (drop 1 left)) _ read scale.on in
+      let charges = goes (charges_from (names v t) [] None rents.value.1) _ read rents.on in
+      let steps = goes (steps_from (names v t) [] None charges.value.1) _ read charges.on in
+      let scale_is = scale_was v t left scale.value scale.is in
       let rents_are = rents_were (drop 1 left) [] rents.value rents.is (All-nil IsFigure) (omega arith) in
-      let steps_are = steps_were rents.value.1 [] None steps.value steps.is in
-      let prices : Prices = record { scale = scale.value; rents = rents.value.0; steps = steps.value.0; charges = [] } in
+      let charges_are = charges_were rents.value.1 [] None charges.value charges.is in
+      let steps_are = steps_were charges.value.1 [] None steps.value steps.is in
+      let prices : Prices = record { scale = scale.value; rents = rents.value.0; steps = steps.value.0; charges = charges.value.0 } in
+      let charges_same : charges_are.new ≡ charges.value.0 = sym charges_are.list in
       let same : steps_are.new ≡ steps.value.0 = sym steps_are.list in
       subst (λ r. PricesWere left r) (ok_same (prices, steps.value.1) read steps.on)
       (record {
@@ -290,26 +331,31 @@ module _ (t : Tables) where
           scale = scale_is.of_tables.figures;
           one_each = rents_are.one_each;
           rents = rents_are.figures;
+          charges = record {
+            each = subst (λ charges. All (IsChargeInOrder t) charges) charges_same charges_are.each;
+            follow = subst (λ charges. ChargesFollow None charges) charges_same charges_are.follow;
+          };
           steps = record {
             each = subst (λ steps. All (IsStepInOrder t) steps) same steps_are.each;
             follow = subst (λ steps. StepsFollow None steps) same steps_are.follow;
             no_lone_zero = subst (λ steps. NoLoneZero steps) same steps_are.no_lone_zero;
           };
-          no_charges = refl;
         };
-        text = prices_text prices left rents.value.1 steps.value.1 scale_is (rents_are.text prices refl) (steps_are.text ∙ ap (λ list. texts t (map at_line list) ++ steps.value.1) same);
+        tells = λ off. sym charges_same ∙ charges_are.tells off;
+        text = prices_text prices left rents.value.1 charges.value.1 steps.value.1 scale_is (rents_are.text prices refl)
+            (charges_are.text ∙ ap (λ list. texts t (map charge_line list) ++ charges.value.1) charges_same) (steps_are.text ∙ ap (λ list. texts t (map at_line list) ++ steps.value.1) same);
       })
 
   pub record MixedWas (left : Left) (read : Mixed × Left) : Type 0 where
     pub order : IsMixedInOrder t read.0
     pub text : left ≡ texts t (mixed_lines read.0) ++ read.1
 
-  pub mixed_was : (left : Left) (read : Mixed × Left) → mixed_at (names t) left ≡ Ok read → MixedWas left read
+  pub mixed_was : (left : Left) (read : Mixed × Left) → mixed_at (names v t) left ≡ Ok read → MixedWas left read
   unfolding mixed_at
   mixed_was left read e =
-      let scale = goes (mixed_scale_at (names t) left) _ read e in
-      let weights = goes (weights_from (names t) [] None (drop 1 left)) _ read scale.on in
-      let scale_is = mixed_scale_was t left scale.value scale.is in
+      let scale = goes (mixed_scale_at (names v t) left) _ read e in
+      let weights = goes (weights_from (names v t) [] None (drop 1 left)) _ read scale.on in
+      let scale_is = mixed_scale_was v t left scale.value scale.is in
       let weights_are = weights_were (drop 1 left) [] None weights.value weights.is in
       let mixed : Mixed = record { scale = scale.value; weights = weights.value.0 } in
       let same : weights_are.new ≡ weights.value.0 = sym weights_are.list in

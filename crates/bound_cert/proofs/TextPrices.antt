@@ -3,13 +3,15 @@ use Rattle.bound_cert.proofs.ReadBack.{goes, ok_same, ordered}
 use Rattle.bound_cert.proofs.TextLines.{LineIs, line_was}
 use Rattle.bound_cert.proofs.WrittenLines.{names}
 use Rattle.bound_cert.specs.Lines.{Left, line_due}
-use Rattle.bound_cert.specs.ProofText.{at_line, weight_line}
-use Rattle.bound_cert.specs.Reading.{in_order, is_needless, mixed_scale_at, mixed_scale_of, rent_at, rent_follows, rent_of, said_at, scale_at, scale_of, step_at, step_of, weight_at, weight_of}
-use Rattle.dual_bound.specs.Order.{step_follows, weight_follows}
-use Rattle.dual_bound.specs.WrittenOrder.{IsStepInOrder, IsWeightInOrder}
+use Rattle.bound_cert.specs.ProofText.{at_line, charge_line, weight_line}
+use Rattle.bound_cert.specs.Reading.{charge_at, charge_of, in_order, is_needless, mixed_scale_at, mixed_scale_of, rent_at, rent_follows, rent_of, said_at, scale_at, scale_of, step_at, step_of, weight_at, weight_of}
+use Rattle.dual_bound.specs.Order.{charge_follows, step_follows, weight_follows}
+use Rattle.dual_bound.specs.WrittenOrder.{IsChargeInOrder, IsStepInOrder, IsWeightInOrder}
 use Rattle.dual_bound.specs.declared.mixed.Weight.{Weight}
+use Rattle.dual_bound.specs.declared.prices.Charge.{Charge}
 use Rattle.dual_bound.specs.declared.prices.PriceStep.{PriceStep}
 use Rattle.fleet_model.specs.declared.tables.Tables.{Tables}
+use Rattle.proof_lines.specs.declared.line.Version.{Version}
 use Rattle.proof_lines.specs.Flaws.{least}
 use Rattle.proof_lines.specs.Known.{Naming}
 use Rattle.proof_lines.specs.declared.line.Line.{Line}
@@ -39,6 +41,17 @@ rent_is least (says.Rent f z) left entry e =
     subst (λ p. RentIs least (says.Rent f z) p) (ok_same (f, z) entry order.on) (record { line_is = refl; follows = ordered (rent_follows least f z) left order.value order.is })
 rent_is least other left entry e = absurd (cc e)
 
+record ChargeIs (before : Option Charge) (line : Line) (entry : Charge) : Type 0 where
+  line_is : line ≡ charge_line entry
+  follows : charge_follows before entry ≡ true
+
+charge_is : (before : Option Charge) (line : Line) (left : Left) (entry : Charge) → charge_of before line left ≡ Ok entry → ChargeIs before line entry
+charge_is before (says.Charge station day charge) left entry e =
+    let it : Charge = record { station = station; day = day; charge = charge } in
+    let order = goes (in_order (charge_follows before it) left) _ entry e in
+    subst (λ c. ChargeIs before (charge_line it) c) (ok_same it entry order.on) (record { line_is = refl; follows = ordered (charge_follows before it) left order.value order.is })
+charge_is before other left entry e = absurd (cc e)
+
 record StepIs (n : Naming) (before : Option PriceStep) (line : Line) (left : Left) (step : PriceStep) : Type 0 where
   line_is : line ≡ at_line step
   passes : (step_follows before step && not (is_needless n step (drop 1 left))) ≡ true
@@ -62,71 +75,90 @@ weight_is before (says.Weight leg choice weight) left entry e =
     subst (λ w. WeightIs before (weight_line it) w) (ok_same it entry order.on) (record { line_is = refl; follows = ordered (weight_follows before it) left order.value order.is })
 weight_is before other left entry e = absurd (cc e)
 
-module _ (t : Tables) where
-  pub scale_was : (left : Left) (z : ℤ) → scale_at (names t) left ≡ Ok z → LineIs t left (says.Scale z)
+module _ (v : Version) (t : Tables) where
+  pub scale_was : (left : Left) (z : ℤ) → scale_at (names v t) left ≡ Ok z → LineIs v t left (says.Scale z)
   unfolding said_at
   scale_was left z e =
-      let line = goes (line_due (names t) due.Scale left) _ z e in
-      subst (LineIs t left) (scale_is line.value left z line.on) (line_was t due.Scale left line.value line.is)
+      let line = goes (line_due (names v t) due.Scale left) _ z e in
+      subst (LineIs v t left) (scale_is line.value left z line.on) (line_was v t due.Scale left line.value line.is)
 
-  pub mixed_scale_was : (left : Left) (z : ℤ) → mixed_scale_at (names t) left ≡ Ok z → LineIs t left (says.Mixed z)
+  pub mixed_scale_was : (left : Left) (z : ℤ) → mixed_scale_at (names v t) left ≡ Ok z → LineIs v t left (says.Mixed z)
   unfolding said_at
   mixed_scale_was left z e =
-      let line = goes (line_due (names t) due.Mixed left) _ z e in
-      subst (LineIs t left) (mixed_scale_is line.value left z line.on) (line_was t due.Mixed left line.value line.is)
+      let line = goes (line_due (names v t) due.Mixed left) _ z e in
+      subst (LineIs v t left) (mixed_scale_is line.value left z line.on) (line_was v t due.Mixed left line.value line.is)
 
   -- a rent
 
   pub record RentWas (least : ℕ) (left : Left) (f : ℕ) (z : ℤ) : Type 0 where
-    pub line_is : LineIs t left (says.Rent f z)
+    pub line_is : LineIs v t left (says.Rent f z)
     pub later : least ≤ f
     pub not_0 : int_eq z (pos 0) ≡ false
 
-  pub rent_was : (least : ℕ) (left : Left) (entry : ℕ × ℤ) → rent_at (names t) least left ≡ Ok entry → RentWas least left entry.0 entry.1
+  pub rent_was : (least : ℕ) (left : Left) (entry : ℕ × ℤ) → rent_at (names v t) least left ≡ Ok entry → RentWas least left entry.0 entry.1
   unfolding said_at
   rent_was least left entry e =
-      let line = goes (line_due (names t) due.Rent left) _ entry e in
+      let line = goes (line_due (names v t) due.Rent left) _ entry e in
       let is = rent_is least line.value left entry line.on in
       record {
-        line_is = subst (LineIs t left) is.line_is (line_was t due.Rent left line.value line.is);
+        line_is = subst (LineIs v t left) is.line_is (line_was v t due.Rent left line.value line.is);
         later = grind (arith, nat_tests, first_true (nat_le least entry.0) (not (int_eq entry.1 (pos 0))) is.follows);
         not_0 = not_true (int_eq entry.1 (pos 0)) (second_true (nat_le least entry.0) (not (int_eq entry.1 (pos 0))) is.follows);
+      }
+
+  -- a charge
+
+  pub record ChargeWas (before : Option Charge) (left : Left) (entry : Charge) : Type 0 where
+    pub line_is : LineIs v t left (charge_line entry)
+    pub order : IsChargeInOrder t entry
+    pub follows : charge_follows before entry ≡ true
+
+  pub charge_was : (before : Option Charge) (left : Left) (entry : Charge) → charge_at (names v t) before left ≡ Ok entry → ChargeWas before left entry
+  unfolding said_at
+  charge_was before left entry e =
+      let line = goes (line_due (names v t) due.Charge left) _ entry e in
+      let is = charge_is before line.value left entry line.on in
+      let was = subst (LineIs v t left) is.line_is (line_was v t due.Charge left line.value line.is) in
+      record {
+        line_is = was;
+        order = record { station = was.of_tables.named; some = was.of_tables.figures.0; day = was.of_tables.figures.1; charge = was.of_tables.figures.2 };
+        follows = is.follows;
       }
 
   -- a step
 
   pub record StepWas (before : Option PriceStep) (left : Left) (step : PriceStep) : Type 0 where
-    pub line_is : LineIs t left (at_line step)
+    pub line_is : LineIs v t left (at_line step)
     pub order : IsStepInOrder t step
     pub follows : step_follows before step ≡ true
-    pub needed : is_needless (names t) step (drop 1 left) ≡ false
+    pub needed : is_needless (names v t) step (drop 1 left) ≡ false
 
-  pub step_was : (before : Option PriceStep) (left : Left) (step : PriceStep) → step_at (names t) before left ≡ Ok step → StepWas before left step
+  pub step_was : (before : Option PriceStep) (left : Left) (step : PriceStep) → step_at (names v t) before left ≡ Ok step → StepWas before left step
   unfolding said_at
   step_was before left step e =
-      let line = goes (line_due (names t) due.Step left) _ step e in
-      let is = step_is (names t) before line.value left step line.on in
-      let was = subst (LineIs t left) is.line_is (line_was t due.Step left line.value line.is) in
+      let line = goes (line_due (names v t) due.Step left) _ step e in
+      let is = step_is (names v t) before line.value left step line.on in
+      let was = subst (LineIs v t left) is.line_is (line_was v t due.Step left line.value line.is) in
       record {
         line_is = was;
         order = record { fleet = was.of_tables.named.0; station = was.of_tables.named.1; minute = was.of_tables.figures.0; value = was.of_tables.figures.1 };
-        follows = first_true (step_follows before step) (not (is_needless (names t) step (drop 1 left))) is.passes;
-        needed = not_true (is_needless (names t) step (drop 1 left)) (second_true (step_follows before step) (not (is_needless (names t) step (drop 1 left))) is.passes);
+        follows = first_true (step_follows before step) (not (is_needless (names v t) step (drop 1 left))) is.passes;
+        needed = not_true (is_needless (names v t) step (drop 1 left)) (second_true (step_follows before step) (not (is_needless (names v t) step (drop 1 left))) is.passes);
       }
 
   -- a weight
 
   pub record WeightWas (before : Option Weight) (left : Left) (entry : Weight) : Type 0 where
-    pub line_is : LineIs t left (weight_line entry)
+    pub line_is : LineIs v t left (weight_line entry)
     pub order : IsWeightInOrder t entry
     pub follows : weight_follows before entry ≡ true
 
-  pub weight_was : (before : Option Weight) (left : Left) (entry : Weight) → weight_at (names t) before left ≡ Ok entry → WeightWas before left entry
+  pub weight_was : (before : Option Weight) (left : Left) (entry : Weight) → weight_at (names v t) before left ≡ Ok entry → WeightWas before left entry
   unfolding said_at
   weight_was before left entry e =
-      let line = goes (line_due (names t) due.Weight left) _ entry e in
+      let line = goes (line_due (names v t) due.Weight left) _ entry e in
       let is = weight_is before line.value left entry line.on in
-      let was = subst (LineIs t left) is.line_is (line_was t due.Weight left line.value line.is) in
+      let was = subst (LineIs v t left) is.line_is (line_was v t due.Weight left line.value line.is) in
       record {
         line_is = was;
         order = record { pair = was.of_tables.named; weight = was.of_tables.figures };

@@ -6,7 +6,8 @@ use Rattle.bound_cert.proofs.WrittenLines.{names, texts, texts_append}
 use Rattle.bound_cert.proofs.WrittenTrees.{last}
 use Rattle.bound_cert.specs.Lines.{Left, Reading, left_of, line_due, may_stand}
 use Rattle.bound_cert.specs.Nodes.{Above, after_node, after_tree, end_at, head_is, nodes_from, nothing, plan_at, plan_of, proof_at, rest_at, tree_at}
-use Rattle.bound_cert.specs.ProofText.{all_lines, lines_of, proof_text, tree_lines, node_lines}
+use Rattle.bound_cert.specs.ProofText.{IsNodeIn, lines_in, lines_of, node_lines, text_in, tree_lines}
+use Rattle.bound_cert.specs.ReadProof.{IsTextOf}
 use Rattle.bound_cert.specs.Reading.{node_at, said_at}
 use Rattle.bound_cert.specs.declared.faults.TheConstants.{BAD_LINE}
 use Rattle.dual_bound.specs.Leaves.{depth_of}
@@ -18,7 +19,6 @@ use Rattle.dual_bound.specs.declared.trees.Tree.{Tree}
 use Rattle.fleet_model.specs.declared.tables.Tables.{Tables}
 use Rattle.proof_lines.proofs.FigureWords.{same_bytes}
 use Rattle.proof_lines.specs.Forms.{form_of}
-use Rattle.proof_lines.specs.Known.{names_in}
 use Rattle.proof_lines.specs.LineText.{line_bytes}
 use Rattle.proof_lines.specs.Words.{is_word, line_feed}
 use Rattle.proof_lines.specs.declared.line.Line.{Line}
@@ -39,37 +39,40 @@ abbrev Within : Above → List Node → Type 0
 Within above [] = ⊤
 Within above (n ∷ nodes) = (length above ≤ MAX_DEPTH) × Within (after_node n above) nodes
 
-record NodesWere (t : Tables) (nodes : List Node) (above : Above) (left : Left) (read : List Node × Left) : Type 0 where
+record NodesWere (v : Version) (t : Tables) (nodes : List Node) (above : Above) (left : Left) (read : List Node × Left) : Type 0 where
   new : List Node
   list : read.0 ≡ nodes ++ new
   text : left ≡ texts t (flat_map (node_lines t) new) ++ read.1
   each : All (IsNodeInOrder t) new
+  tell : All (IsNodeIn v) new
   deep : Within above new
 
-nodes_were : (t : Tables) (most : ℕ) (nodes : List Node) (above : Above) (left : Left) (read : List Node × Left) → nodes_from (names t) most nodes above left ≡ Ok read → NodesWere t nodes above left read
+nodes_were : (v : Version) (t : Tables) (most : ℕ) (nodes : List Node) (above : Above) (left : Left) (read : List Node × Left) → nodes_from (names v t) most nodes above left ≡ Ok read → NodesWere v t nodes above left read
 unfolding nodes_from
-nodes_were t zero nodes above left read e = absurd (cc e)
-nodes_were t (suc most) nodes above left read e =
-    let next = goes (node_at (names t) (length above) left) _ read e in
+nodes_were v t zero nodes above left read e = absurd (cc e)
+nodes_were v t (suc most) nodes above left read e =
+    let next = goes (node_at (names v t) (length above) left) _ read e in
     let n = next.value.0 in
-    let was = node_was t (length above) left next.value next.is in
+    let was = node_was v t (length above) left next.value next.is in
     either_way (length (after_node n above) == 0) _ _ read next.on
     (λ is e.
-    subst (λ r. NodesWere t nodes above left r) (ok_same (nodes ++ n ∷ [], next.value.1) read e)
+    subst (λ r. NodesWere v t nodes above left r) (ok_same (nodes ++ n ∷ [], next.value.1) read e)
     (record {
       new = n ∷ [];
       list = refl;
       text = was.text ∙ ap (λ lines. texts t lines ++ next.value.1) (sym (append-nil (node_lines t n)));
       each = All-cons (IsNodeInOrder t) n [] was.order (All-nil (IsNodeInOrder t));
+      tell = All-cons (IsNodeIn v) n [] was.tells (All-nil (IsNodeIn v));
       deep = (was.deep, tt);
     }))
     (λ is e.
-    let more = nodes_were t most (nodes ++ n ∷ []) (after_node n above) next.value.1 read e in
+    let more = nodes_were v t most (nodes ++ n ∷ []) (after_node n above) next.value.1 read e in
     record {
       new = n ∷ more.new;
       list = more.list ∙ append_assoc nodes (n ∷ []) more.new;
       text = was.text ∙ ap (λ rest. texts t (node_lines t n) ++ rest) more.text ∙ sym (texts_append t (node_lines t n) (flat_map (node_lines t) more.new) read.1);
       each = All-cons (IsNodeInOrder t) n more.new was.order more.each;
+      tell = All-cons (IsNodeIn v) n more.new was.tells more.tell;
       deep = (was.deep, more.deep);
     })
 
@@ -100,25 +103,26 @@ depth_is other above more within = record { depth = leaf_depth (length above) wi
 
 -- the head, the plan and the end
 
-head_was : (t : Tables) (left : Left) (v : Version) → head_is left ≡ Ok v → left ≡ line_bytes t (says.Head version.One) ∷ drop 1 left
+head_was : (t : Tables) (left : Left) (v : Version) → head_is left ≡ Ok v → left ≡ line_bytes t (says.Head v) ∷ drop 1 left
 unfolding head_is
 head_was t [] v e = absurd (cc e)
 head_was t (line ∷ []) v e = absurd (cc e)
 head_was t (line ∷ next ∷ rest) v e =
-    either_way (bytes_eq line (codes "fleet proof 1")) _ _ v e (λ is e. ap (λ l. l ∷ next ∷ rest) (same_bytes line (codes "fleet proof 1") is)) (λ is e. absurd (cc e))
-
-of_version : (t : Tables) (left : Left) (read : Bool × List Node) (v : Version) → rest_at (names_in v t) left ≡ Ok read → rest_at (names t) left ≡ Ok read
-of_version t left read version.One e = e
+    either_way (bytes_eq line (codes "fleet proof 1")) _ _ v e (by_head version.One (codes "fleet proof 1") refl)
+    (λ other e. either_way (bytes_eq line (codes "fleet proof 2")) _ _ v e (by_head version.Two (codes "fleet proof 2") refl) (λ is e. absurd (cc e)))
+  where
+    by_head : (w : Version) (bytes : List ℕ) → bytes ≡ line_bytes t (says.Head w) → bytes_eq line bytes ≡ true → ◌≡◌ {A = Reading Version} (Ok w) (Ok v) → line ∷ next ∷ rest ≡ line_bytes t (says.Head v) ∷ next ∷ rest
+    by_head w bytes head is e = ap (λ l. l ∷ next ∷ rest) (same_bytes line bytes is ∙ head ∙ ap (λ x. line_bytes t (says.Head x)) (ok_same w v e))
 
 plan_is : (line : Line) (left : Left) (planned : Bool) → plan_of line left ≡ Ok planned → line ≡ says.Plan planned
 plan_is (says.Plan b) left planned e = ap (λ b. says.Plan b) (ok_same b planned e)
 plan_is other left planned e = absurd (cc e)
 
-plan_was : (t : Tables) (left : Left) (planned : Bool) → plan_at (names t) left ≡ Ok planned → LineIs t left (says.Plan planned)
+plan_was : (v : Version) (t : Tables) (left : Left) (planned : Bool) → plan_at (names v t) left ≡ Ok planned → LineIs v t left (says.Plan planned)
 unfolding said_at
-plan_was t left planned e =
-    let line = goes (line_due (names t) due.Plan left) _ planned e in
-    subst (LineIs t left) (plan_is line.value left planned line.on) (line_was t due.Plan left line.value line.is)
+plan_was v t left planned e =
+    let line = goes (line_due (names v t) due.Plan left) _ planned e in
+    subst (LineIs v t left) (plan_is line.value left planned line.on) (line_was v t due.Plan left line.value line.is)
 
 nothing_was : (left : Left) (x : ⊤) → nothing left ≡ Ok x → 0 < length left → left ≡ [] ∷ []
 unfolding nothing
@@ -137,13 +141,16 @@ end_is (says.Plan true) e = absurd (cc e)
 end_is (says.Plan false) e = absurd (cc e)
 end_is other e = absurd (cc e)
 
-end_was : (t : Tables) (left : Left) (x : ⊤) → end_at (names t) left ≡ Ok x → left ≡ last t
+end_was : (v : Version) (t : Tables) (left : Left) (x : ⊤) → end_at (names v t) left ≡ Ok x → left ≡ last t
 unfolding end_at
-end_was t left x e =
-    let line = goes (line_due (names t) due.End left) _ x e in
-    let was = line_was t due.End left line.value line.is in
-    let first = subst (LineIs t left) (end_is line.value (line_may t due.End left line.value line.is)) was in
+end_was v t left x e =
+    let line = goes (line_due (names v t) due.End left) _ x e in
+    let was = line_was v t due.End left line.value line.is in
+    let first = subst (LineIs v t left) (end_is line.value (line_may v t due.End left line.value line.is)) was in
     first.is ∙ ap (λ rest. line_bytes t says.End ∷ rest) (nothing_was (drop 1 left) x line.on first.some)
+
+below_none : (n : ℕ) → 0 + n ≤ MAX_DEPTH → n ≤ MAX_DEPTH
+below_none n le = omega (arith, le)
 
 -- a text is its lines, joined
 
@@ -161,32 +168,35 @@ join_lines t (line ∷ lines) =
     some_last [] = omega arith
     some_last (line ∷ lines) = omega arith
 
-pub text_of_reading : (t : Tables) (bytes : List ℕ) (planned : Bool) (whole : Tree) → proof_at t (left_of bytes) ≡ Ok (planned, nodes_of whole)
-    → (bytes ≡ proof_text t planned whole) × InWrittenOrder t whole × IsShallow whole
-unfolding proof_at rest_at tree_at proof_text
+pub text_of_reading : (t : Tables) (bytes : List ℕ) (planned : Bool) (whole : Tree) → proof_at t (left_of bytes) ≡ Ok (planned, nodes_of whole) → IsTextOf t bytes planned whole
+unfolding proof_at rest_at tree_at text_in
 text_of_reading t bytes planned whole e =
     let left = left_of bytes in
     let headed = goes (head_is left) _ (planned, nodes_of whole) e in
-    let answer = goes (plan_at (names t) (drop 1 left)) _ (planned, nodes_of whole) (of_version t (drop 1 left) _ headed.value headed.on) in
+    let v = headed.value in
+    let answer = goes (plan_at (names v t) (drop 1 left)) _ (planned, nodes_of whole) headed.on in
     let third : Left = drop 1 (drop 1 left) in
-    let read = goes (tree_at (names t) third) _ (planned, nodes_of whole) answer.on in
-    let all = goes (nodes_from (names t) (length third) [] [] third) _ read.value read.is in
-    let ended = goes (end_at (names t) all.value.1) _ read.value all.on in
+    let read = goes (tree_at (names v t) third) _ (planned, nodes_of whole) answer.on in
+    let all = goes (nodes_from (names v t) (length third) [] [] third) _ read.value read.is in
+    let ended = goes (end_at (names v t) all.value.1) _ read.value all.on in
     let same : (answer.value, read.value) ≡ (planned, nodes_of whole) = ok_same (answer.value, read.value) (planned, nodes_of whole) read.on in
-    let were = nodes_were t (length third) [] [] third all.value all.is in
+    let were = nodes_were v t (length third) [] [] third all.value all.is in
     let nodes_are : were.new ≡ nodes_of whole = sym were.list ∙ ok_same all.value.0 read.value ended.on ∙ ap (λ p. p.1) same in
-    let head_line_is = head_was t left headed.value headed.is in
-    let plan_line_is = plan_was t (drop 1 left) answer.value answer.is in
+    let head_line_is = head_was t left v headed.is in
+    let plan_line_is = plan_was v t (drop 1 left) answer.value answer.is in
     let deep = depth_is whole [] [] (subst (λ nodes. Within [] nodes) (nodes_are ∙ sym (append-nil (nodes_of whole))) were.deep) in
     let tree_text : third ≡ texts t (tree_lines t whole) ++ last t =
     were.text ∙ ap (λ nodes. texts t (flat_map (node_lines t) nodes) ++ all.value.1) nodes_are
-    ∙ ap (λ rest. texts t (tree_lines t whole) ++ rest) (end_was t all.value.1 ended.value ended.is) in
-    let lines : left ≡ texts t (all_lines t planned whole) ++ [] ∷ [] =
+    ∙ ap (λ rest. texts t (tree_lines t whole) ++ rest) (end_was v t all.value.1 ended.value ended.is) in
+    let lines : left ≡ texts t (lines_in v t planned whole) ++ [] ∷ [] =
     head_line_is
-    ∙ ap (λ rest. line_bytes t (says.Head version.One) ∷ rest)
+    ∙ ap (λ rest. line_bytes t (says.Head v) ∷ rest)
     (plan_line_is.is ∙ ap (λ p. line_bytes t (says.Plan p) ∷ third) (ap (λ p. p.0) same)
-    ∙ ap (λ rest. line_bytes t (says.Plan planned) ∷ rest) (tree_text ∙ sym (texts_append t (tree_lines t whole) (says.End ∷ []) ([] ∷ [])))) in (
-      sym (join_with_byte-slice_split line_feed bytes) ∙ ap (join_with_byte line_feed) lines ∙ join_lines t (all_lines t planned whole),
-      subst (λ nodes. All (IsNodeInOrder t) nodes) nodes_are were.each,
-      omega (arith, deep.depth),
-    )
+    ∙ ap (λ rest. line_bytes t (says.Plan planned) ∷ rest) (tree_text ∙ sym (texts_append t (tree_lines t whole) (says.End ∷ []) ([] ∷ [])))) in
+    record {
+      version = v;
+      tells = subst (λ nodes. All (IsNodeIn v) nodes) nodes_are were.tell;
+      is = sym (join_with_byte-slice_split line_feed bytes) ∙ ap (join_with_byte line_feed) lines ∙ join_lines t (lines_in v t planned whole);
+      order = subst (λ nodes. All (IsNodeInOrder t) nodes) nodes_are were.each;
+      shallow = below_none (depth_of whole) deep.depth;
+    }

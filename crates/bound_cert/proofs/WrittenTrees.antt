@@ -8,21 +8,22 @@ use Rattle.bound_cert.proofs.WrittenNodes.{before_node, behind_line, node_read}
 use Rattle.bound_cert.proofs.WrittenPrices.{IsBehind, steps_of}
 use Rattle.bound_cert.specs.Lines.{Left, Reading, left_of, line_due, may_stand}
 use Rattle.bound_cert.specs.Nodes.{Above, after_node, after_tree, end_at, head_is, nodes_from, nothing, plan_at, proof_at, rest_at, tree_at}
-use Rattle.bound_cert.specs.ProofText.{all_lines, proof_text, tree_lines, node_lines}
+use Rattle.bound_cert.specs.ProofText.{CanTell, IsNodeIn, lines_in, node_lines, proof_text, text_in, tree_lines}
 use Rattle.bound_cert.specs.Reading.{node_at, said_at}
 use Rattle.dual_bound.specs.Leaves.{depth_of}
 use Rattle.dual_bound.specs.Nodes.{nodes_of}
 use Rattle.dual_bound.specs.OfTables.{ArePricesOf, IsCauseOf, IsChargeOf, IsOfTables, IsWeightOf}
-use Rattle.dual_bound.specs.WrittenOrder.{ArePricesInOrder, InWrittenOrder, IsCauseInOrder, IsNodeInOrder, IsShallow, IsWeightInOrder}
+use Rattle.dual_bound.specs.WrittenOrder.{ArePricesInOrder, InWrittenOrder, IsCauseInOrder, IsChargeInOrder, IsNodeInOrder, IsShallow, IsWeightInOrder}
 use Rattle.dual_bound.specs.declared.prices.Prices.{Prices}
 use Rattle.dual_bound.specs.declared.nodes.Node.{Node}
 use Rattle.dual_bound.specs.declared.trees.Cause.{Cause}
 use Rattle.dual_bound.specs.declared.trees.TheConstants.{MAX_DEPTH}
 use Rattle.dual_bound.specs.declared.trees.Tree.{Tree}
 use Rattle.fleet_model.specs.declared.tables.Tables.{Tables}
-use Rattle.proof_lines.specs.Forms.{form_of}
+use Rattle.proof_lines.specs.declared.line.Version.{Version}
+use Rattle.proof_lines.specs.Forms.{form_of, has_form}
 use Rattle.proof_lines.specs.LineText.{line_bytes}
-use Rattle.std.proofs.Common.{[], ◌++◌, ◌+◌, ◌<◌, ◌==◌, ◌∙◌, ◌∷◌, ◌≡◌, ◌≤◌, Bool, List, Ok, ap, append-nil, append_assoc, arith, cond, false, length, refl, subst, suc, sym, true, zero, ℕ}
+use Rattle.std.proofs.Common.{[], ◌++◌, ◌+◌, ◌<◌, ◌==◌, ◌∙◌, ◌∷◌, ◌≡◌, ◌≤◌, Bool, List, Ok, ap, append-nil, append_assoc, arith, cond, false, get_or, length, refl, subst, suc, sym, true, zero, ℕ}
 use Rattle.std.proofs.lemmas.Bool.Decides.{nat_tests}
 use Rattle.std.proofs.lemmas.List.Elements.{All-head, All-nil, All-tail, All-weaker}
 use Rattle.std.proofs.lemmas.List.{length-append, length-map}
@@ -44,17 +45,17 @@ no_more_nodes t [] = omega arith
 no_more_nodes t (n ∷ nodes) = omega (arith, some_line t n, no_more_nodes t nodes, length-append (node_lines t n) (flat_map (node_lines t) nodes))
 
 -- where a tree ends: the whole is read, or reading goes on
-abbrev onward : Tables → ℕ → List Node → Above → Left → Reading (List Node × Left)
-onward t most nodes above left = cond (length above == 0) (Ok (nodes, left)) (nodes_from (names t) most nodes above left)
+abbrev onward : Version → Tables → ℕ → List Node → Above → Left → Reading (List Node × Left)
+onward v t most nodes above left = cond (length above == 0) (Ok (nodes, left)) (nodes_from (names v t) most nodes above left)
 
-goes_on : (t : Tables) (most : ℕ) (nodes : List Node) (first : Bool) (above : Above) (left : Left) → onward t most nodes (first ∷ above) left ≡ nodes_from (names t) most nodes (first ∷ above) left
-goes_on t most nodes first above left = refused (length (first ∷ above) == 0) _ _ (grind (arith, nat_tests))
+goes_on : (v : Version) (t : Tables) (most : ℕ) (nodes : List Node) (first : Bool) (above : Above) (left : Left) → onward v t most nodes (first ∷ above) left ≡ nodes_from (names v t) most nodes (first ∷ above) left
+goes_on v t most nodes first above left = refused (length (first ∷ above) == 0) _ _ (grind (arith, nat_tests))
 
-one_node : (t : Tables) (most : ℕ) (nodes : List Node) (above : Above) (n : Node) (behind : Left) → IsNodeInOrder t n → length above ≤ MAX_DEPTH → IsBehind behind
-    → nodes_from (names t) (suc most) nodes above (texts t (node_lines t n) ++ behind) ≡ onward t most (nodes ++ n ∷ []) (after_node n above) behind
+one_node : (v : Version) (t : Tables) (most : ℕ) (nodes : List Node) (above : Above) (n : Node) (behind : Left) → IsNodeInOrder t n → IsNodeIn v n → length above ≤ MAX_DEPTH → IsBehind behind
+    → nodes_from (names v t) (suc most) nodes above (texts t (node_lines t n) ++ behind) ≡ onward v t most (nodes ++ n ∷ []) (after_node n above) behind
 unfolding nodes_from
-one_node t most nodes above n behind is shallow ends =
-    bound (node_at (names t) (length above) (texts t (node_lines t n) ++ behind)) (n, behind) _ (node_read t (length above) n behind is shallow ends)
+one_node v t most nodes above n behind is tells shallow ends =
+    bound (node_at (names v t) (length above) (texts t (node_lines t n) ++ behind)) (n, behind) _ (node_read v t (length above) n behind is tells shallow ends)
 
 -- nodes go on where they do below what stands above: none is too deep, and with the last nothing waits any more
 abbrev Goes : Above → List Node → Type 0
@@ -67,28 +68,29 @@ abbrev Begins : Above → List Node → Type 0
 Begins above [] = ⊥
 Begins above (n ∷ more) = (length above ≤ MAX_DEPTH) × Goes (after_node n above) more
 
-behind_nodes : (t : Tables) (nodes : List Node) (behind : Left) → All (IsNodeInOrder t) nodes → IsBehind behind → IsBehind (texts t (flat_map (node_lines t) nodes) ++ behind)
-behind_nodes t [] behind are ends = ends
-behind_nodes t (n ∷ nodes) behind are ends = before_node t n (flat_map (node_lines t) nodes) behind (All-head (IsNodeInOrder t) n nodes are)
+behind_nodes : (v : Version) (t : Tables) (nodes : List Node) (behind : Left) → All (IsNodeInOrder t) nodes → All (IsNodeIn v) nodes → IsBehind behind → IsBehind (texts t (flat_map (node_lines t) nodes) ++ behind)
+behind_nodes v t [] behind are tell ends = ends
+behind_nodes v t (n ∷ nodes) behind are tell ends = before_node v t n (flat_map (node_lines t) nodes) behind (All-head (IsNodeInOrder t) n nodes are) (All-head (IsNodeIn v) n nodes tell)
 
-onward_read : (t : Tables) (nodes : List Node) (most : ℕ) (done : List Node) (above : Above) (behind : Left) → Goes above nodes
-    → (Begins above nodes → nodes_from (names t) most done above (texts t (flat_map (node_lines t) nodes) ++ behind) ≡ Ok (done ++ nodes, behind))
-    → onward t most done above (texts t (flat_map (node_lines t) nodes) ++ behind) ≡ Ok (done ++ nodes, behind)
-onward_read t [] most done [] behind goes on = ap (λ nodes. Ok (nodes, behind)) (sym (append-nil done))
-onward_read t [] most done (first ∷ above) behind goes on = absurd goes
-onward_read t (n ∷ nodes) most done [] behind goes on = absurd (cc goes)
-onward_read t (n ∷ nodes) most done (first ∷ above) behind goes on = goes_on t most done first above (texts t (flat_map (node_lines t) (n ∷ nodes)) ++ behind) ∙ on goes
+onward_read : (v : Version) (t : Tables) (nodes : List Node) (most : ℕ) (done : List Node) (above : Above) (behind : Left) → Goes above nodes
+    → (Begins above nodes → nodes_from (names v t) most done above (texts t (flat_map (node_lines t) nodes) ++ behind) ≡ Ok (done ++ nodes, behind))
+    → onward v t most done above (texts t (flat_map (node_lines t) nodes) ++ behind) ≡ Ok (done ++ nodes, behind)
+onward_read v t [] most done [] behind goes on = ap (λ nodes. Ok (nodes, behind)) (sym (append-nil done))
+onward_read v t [] most done (first ∷ above) behind goes on = absurd goes
+onward_read v t (n ∷ nodes) most done [] behind goes on = absurd (cc goes)
+onward_read v t (n ∷ nodes) most done (first ∷ above) behind goes on = goes_on v t most done first above (texts t (flat_map (node_lines t) (n ∷ nodes)) ++ behind) ∙ on goes
 
-nodes_read : (t : Tables) (nodes : List Node) (most : ℕ) (done : List Node) (above : Above) (behind : Left) → Begins above nodes → All (IsNodeInOrder t) nodes → length nodes ≤ most → IsBehind behind
-    → nodes_from (names t) most done above (texts t (flat_map (node_lines t) nodes) ++ behind) ≡ Ok (done ++ nodes, behind)
-nodes_read t [] most done above behind begins are few ends = absurd begins
-nodes_read t (n ∷ nodes) zero done above behind begins are few ends = absurd (omega (arith, few))
-nodes_read t (n ∷ nodes) (suc most) done above behind begins are few ends =
+nodes_read : (v : Version) (t : Tables) (nodes : List Node) (most : ℕ) (done : List Node) (above : Above) (behind : Left) → Begins above nodes → All (IsNodeInOrder t) nodes → All (IsNodeIn v) nodes → length nodes ≤ most → IsBehind behind
+    → nodes_from (names v t) most done above (texts t (flat_map (node_lines t) nodes) ++ behind) ≡ Ok (done ++ nodes, behind)
+nodes_read v t [] most done above behind begins are tell few ends = absurd begins
+nodes_read v t (n ∷ nodes) zero done above behind begins are tell few ends = absurd (omega (arith, few))
+nodes_read v t (n ∷ nodes) (suc most) done above behind begins are tell few ends =
     let others = All-tail (IsNodeInOrder t) n nodes are in
-    ap (nodes_from (names t) (suc most) done above) (texts_append t (node_lines t n) (flat_map (node_lines t) nodes) behind)
-    ∙ one_node t most done above n (texts t (flat_map (node_lines t) nodes) ++ behind) (All-head (IsNodeInOrder t) n nodes are) begins.0 (behind_nodes t nodes behind others ends)
-    ∙ onward_read t nodes most (done ++ n ∷ []) (after_node n above) behind begins.1
-    (λ more. nodes_read t nodes most (done ++ n ∷ []) (after_node n above) behind more others (omega (arith, few)) ends)
+    let others_tell = All-tail (IsNodeIn v) n nodes tell in
+    ap (nodes_from (names v t) (suc most) done above) (texts_append t (node_lines t n) (flat_map (node_lines t) nodes) behind)
+    ∙ one_node v t most done above n (texts t (flat_map (node_lines t) nodes) ++ behind) (All-head (IsNodeInOrder t) n nodes are) (All-head (IsNodeIn v) n nodes tell) begins.0 (behind_nodes v t nodes behind others others_tell ends)
+    ∙ onward_read v t nodes most (done ++ n ∷ []) (after_node n above) behind begins.1
+    (λ more. nodes_read v t nodes most (done ++ n ∷ []) (after_node n above) behind more others others_tell (omega (arith, few)) ends)
     ∙ ap (λ nodes. Ok (nodes, behind)) (append_assoc done (n ∷ []) nodes)
 
 left_depth : (above most a b : ℕ) → above + suc (max a b) ≤ most → suc above + a ≤ most
@@ -124,40 +126,44 @@ tree_begins other above more shallow goes = (omega (arith, shallow), goes)
 abbrev pub last : Tables → Left
 last t = line_bytes t says.End ∷ [] ∷ []
 
-pub end_read : (t : Tables) → end_at (names t) (last t) ≡ Ok tt
+pub end_read : (v : Version) (t : Tables) → end_at (names v t) (last t) ≡ Ok tt
 unfolding end_at nothing
-end_read t = bound (line_due (names t) due.End (last t)) says.End _ (line_read t due.End says.End ([] ∷ []) (record { named = tt; figures = tt }) refl (omega arith))
+end_read v t = bound (line_due (names v t) due.End (last t)) says.End _ (line_read v t due.End says.End ([] ∷ []) refl (record { named = tt; figures = tt }) refl (omega arith))
 
-pub plan_read : (t : Tables) (planned : Bool) (rest : Left) → 0 < length rest → plan_at (names t) (line_bytes t (says.Plan planned) ∷ rest) ≡ Ok planned
+pub plan_read : (v : Version) (t : Tables) (planned : Bool) (rest : Left) → 0 < length rest → plan_at (names v t) (line_bytes t (says.Plan planned) ∷ rest) ≡ Ok planned
 unfolding said_at
-plan_read t planned rest some =
-    bound (line_due (names t) due.Plan (line_bytes t (says.Plan planned) ∷ rest)) (says.Plan planned) _
-    (line_read t due.Plan (says.Plan planned) rest (record { named = tt; figures = tt }) (plan_stands planned) some)
+plan_read v t planned rest some =
+    bound (line_due (names v t) due.Plan (line_bytes t (says.Plan planned) ∷ rest)) (says.Plan planned) _
+    (line_read v t due.Plan (says.Plan planned) rest (plan_is planned) (record { named = tt; figures = tt }) (plan_stands planned) some)
   where
     plan_stands : (planned : Bool) → may_stand due.Plan (form_of (says.Plan planned)) ≡ true
     plan_stands true = refl
     plan_stands false = refl
 
-pub last_is : (t : Tables) → IsBehind (last t)
-last_is t = behind_line t says.End ([] ∷ []) tt refl refl refl
+    plan_is : (planned : Bool) → has_form v (form_of (says.Plan planned)) ≡ true
+    plan_is true = refl
+    plan_is false = refl
 
-pub whole_read : (t : Tables) (whole : Tree) → InWrittenOrder t whole → IsShallow whole → tree_at (names t) (texts t (tree_lines t whole) ++ (last t)) ≡ Ok (nodes_of whole)
+pub last_is : (t : Tables) → IsBehind (last t)
+last_is t = behind_line version.Two t says.End ([] ∷ []) tt refl refl refl refl
+
+pub whole_read : (v : Version) (t : Tables) (whole : Tree) → CanTell v whole → InWrittenOrder t whole → IsShallow whole → tree_at (names v t) (texts t (tree_lines t whole) ++ (last t)) ≡ Ok (nodes_of whole)
 unfolding tree_at
-whole_read t whole are shallow =
+whole_read v t whole tells are shallow =
     let left : Left = texts t (tree_lines t whole) ++ (last t) in
     let nodes = nodes_of whole in
     let few : length nodes ≤ length left =
     omega (arith, no_more_nodes t nodes, length-append (texts t (tree_lines t whole)) (last t), length-map (tree_lines t whole) (line_bytes t)) in
     let begins : Begins [] nodes = subst (Begins []) (append-nil nodes) (tree_begins whole [] [] (omega (arith, shallow)) refl) in
-    bound (nodes_from (names t) (length left) [] [] left) (nodes, (last t)) _ (nodes_read t nodes (length left) [] [] (last t) begins are few (last_is t))
-    ∙ bound (end_at (names t) (last t)) tt _ (end_read t)
+    bound (nodes_from (names v t) (length left) [] [] left) (nodes, (last t)) _ (nodes_read v t nodes (length left) [] [] (last t) begins are tells few (last_is t))
+    ∙ bound (end_at (names v t) (last t)) tt _ (end_read v t)
 
 cause_of : (t : Tables) (why : Cause) → IsCauseInOrder t why → IsCauseOf t why
 cause_of t (cause.Nodes mixed) is = All-weaker (IsWeightInOrder t) (IsWeightOf t) (λ entry is. is.pair) mixed.weights is.each
 cause_of t other is = tt
 
 prices_of : (t : Tables) (prices : Prices) → ArePricesInOrder t prices → ArePricesOf t prices
-prices_of t prices are = record { steps = steps_of t prices.steps are.steps.each; charges = rw are.no_charges (All-nil (IsChargeOf t)) }
+prices_of t prices are = record { steps = steps_of t prices.steps are.steps.each; charges = All-weaker (IsChargeInOrder t) (IsChargeOf t) (λ entry is. is.station) prices.charges are.charges.each }
 
 node_of : (t : Tables) (n : Node) → IsNodeInOrder t n → IsNodeOf t n
 node_of t (node.Bare leg) is = is
@@ -173,17 +179,39 @@ node_of t (node.Split leg fleet prices mixed) is =
 pub in_order_of_tables : (t : Tables) (whole : Tree) → InWrittenOrder t whole → IsOfTables t whole
 in_order_of_tables t whole are = tree_of t whole (All-weaker (IsNodeInOrder t) (IsNodeOf t) (node_of t) (nodes_of whole) are)
 
-pub reads_what_was_written : (t : Tables) (planned : Bool) (whole : Tree) → InWrittenOrder t whole → IsShallow whole → proof_at t (left_of (proof_text t planned whole)) ≡ Ok (planned, nodes_of whole)
-unfolding proof_at rest_at head_is proof_text
-reads_what_was_written t planned whole are shallow =
+-- the head that is written says the version
+pub head_read : (v : Version) (t : Tables) (next : List ℕ) (rest : Left) → head_is (line_bytes t (says.Head v) ∷ next ∷ rest) ≡ Ok v
+unfolding head_is
+head_read version.One t next rest = refl
+head_read version.Two t next rest = refl
+
+-- a text reads as the proof that it is written of, in each version
+pub reads_in : (v : Version) (t : Tables) (planned : Bool) (whole : Tree) → CanTell v whole → InWrittenOrder t whole → IsShallow whole → proof_at t (left_of (text_in v t planned whole)) ≡ Ok (planned, nodes_of whole)
+unfolding proof_at rest_at text_in
+reads_in v t planned whole tells are shallow =
     let rest : Left = texts t (tree_lines t whole) ++ (last t) in
-    let all : left_of (proof_text t planned whole) ≡ line_bytes t (says.Head version.One) ∷ line_bytes t (says.Plan planned) ∷ rest =
-    left_of_lines t (all_lines t planned whole) (lines_named t planned whole (in_order_of_tables t whole are))
-    ∙ ap (λ rest. line_bytes t (says.Head version.One) ∷ line_bytes t (says.Plan planned) ∷ rest) (texts_append t (tree_lines t whole) (says.End ∷ []) ([] ∷ [])) in
-    let some : 0 < length rest = (behind_nodes t (nodes_of whole) (last t) are (last_is t)).some in
+    let all : left_of (text_in v t planned whole) ≡ line_bytes t (says.Head v) ∷ line_bytes t (says.Plan planned) ∷ rest =
+    left_of_lines t (lines_in v t planned whole) (lines_named v t planned whole (in_order_of_tables t whole are))
+    ∙ ap (λ rest. line_bytes t (says.Head v) ∷ line_bytes t (says.Plan planned) ∷ rest) (texts_append t (tree_lines t whole) (says.End ∷ []) ([] ∷ [])) in
+    let some : 0 < length rest = (behind_nodes v t (nodes_of whole) (last t) are tells (last_is t)).some in
     ap (proof_at t) all
-    ∙ bound (plan_at (names t) (line_bytes t (says.Plan planned) ∷ rest)) planned _ (plan_read t planned rest some)
-    ∙ bound (tree_at (names t) rest) (nodes_of whole) _ (whole_read t whole are shallow)
+    ∙ bound (head_is (line_bytes t (says.Head v) ∷ line_bytes t (says.Plan planned) ∷ rest)) v _ (head_read v t (line_bytes t (says.Plan planned)) rest)
+    ∙ bound (plan_at (names v t) (line_bytes t (says.Plan planned) ∷ rest)) planned _ (plan_read v t planned rest some)
+    ∙ bound (tree_at (names v t) rest) (nodes_of whole) _ (whole_read v t whole tells are shallow)
+
+-- a text of version 2 can tell each tree
+node_tells : (n : Node) → IsNodeIn version.Two n
+node_tells (node.Refuted prices) = λ off. absurd (cc off)
+node_tells (node.Priced prices) = λ off. absurd (cc off)
+node_tells (node.Open prices why) = λ off. absurd (cc off)
+node_tells (node.Split leg choice prices mixed) = λ off. absurd (cc off)
+node_tells other = tt
+
+tells_all : (whole : Tree) → CanTell version.Two whole
+tells_all whole = λ k d below. node_tells (get_or (nodes_of whole) k d)
+
+pub reads_what_was_written : (t : Tables) (planned : Bool) (whole : Tree) → InWrittenOrder t whole → IsShallow whole → proof_at t (left_of (proof_text t planned whole)) ≡ Ok (planned, nodes_of whole)
+reads_what_was_written t planned whole = reads_in version.Two t planned whole (tells_all whole)
 
 -- proofs of one text are one
 pub one_text : (t : Tables) (a b : Bool) (x y : Tree) → InWrittenOrder t x → IsShallow x → InWrittenOrder t y → IsShallow y → proof_text t a x ≡ proof_text t b y

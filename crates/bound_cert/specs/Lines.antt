@@ -11,6 +11,7 @@ use Rattle.proof_lines.specs.declared.flaws.Flaw.TheVariants as flaw
 use Rattle.proof_lines.specs.declared.forms.Form.{Form}
 use Rattle.proof_lines.specs.declared.forms.Form.TheVariants as form
 use Rattle.proof_lines.specs.declared.line.Line.{Line}
+use Rattle.proof_lines.specs.declared.line.Version.{Version}
 use Rattle.bound_cert.specs.declared.faults.Stop.{Stop}
 use Rattle.bound_cert.specs.declared.faults.Stop.TheVariants as stop
 use Rattle.bound_cert.specs.declared.faults.TheConstants.{BAD_LINE, TEXT_ENDS, WRONG_WORD}
@@ -60,6 +61,7 @@ may_stand due.Node form.Split = true
 may_stand due.Scale form.Scale = true
 may_stand due.Mixed form.Mixed = true
 may_stand due.Rent form.Rent = true
+may_stand due.Charge form.Charge = true
 may_stand due.Step form.At = true
 may_stand due.Weight form.Weight = true
 may_stand due.End form.End = true
@@ -70,10 +72,10 @@ abbrev pub fits : Due → Option Form → Bool
 fits kind None = false
 fits kind (Some form) = may_stand kind form
 
--- the form of the first line that is left
-abbrev pub first_form : Left → Option Form
-first_form [] = None
-first_form (line ∷ rest) = form_in (words_of line)
+-- the form of the first line that is left of a text of this version
+abbrev pub first_form : Version → Left → Option Form
+first_form v [] = None
+first_form v (line ∷ rest) = form_in v (words_of line)
 
 -- a line that may stand here, or its flaw; one that may not has at least the flaw of its first word
 abbrev pub of_seen : Bool → Result Line Flaw → Left → Reading Line
@@ -88,7 +90,7 @@ line_due n kind (line ∷ next ∷ rest) = of_seen (fits kind (seen_in n line).f
 
 -- the same, if it begins as one that may stand here
 abbrev pub next_line : Naming → Due → Left → Reading (Option Line)
-next_line n kind left = if fits kind (first_form left) then (line_due n kind left >>= λ line. Ok (Some line)) else Ok None
+next_line n kind left = if fits kind (first_form n.version left) then (line_due n kind left >>= λ line. Ok (Some line)) else Ok None
 
 -- what an error says of what is read
 abbrev pub Fails : {Y : Type 0} → Stop → Reading Y → Type 0

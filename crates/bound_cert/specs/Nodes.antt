@@ -52,7 +52,10 @@ nodes_from n (suc most) nodes above left =
 unfoldable pub head_is : Left → Reading Version
 head_is [] = stopped [] WRONG_HEAD
 head_is (line ∷ []) = stopped (line ∷ []) WRONG_HEAD
-head_is (line ∷ next ∷ rest) = if bytes_eq line (codes "fleet proof 1") then Ok version.One else stopped (line ∷ next ∷ rest) WRONG_HEAD
+head_is (line ∷ next ∷ rest) =
+    if bytes_eq line (codes "fleet proof 1") then Ok version.One
+    else if bytes_eq line (codes "fleet proof 2") then Ok version.Two
+    else stopped (line ∷ next ∷ rest) WRONG_HEAD
 
 -- whether a plan comes with the proof
 abbrev pub plan_of : Line → Left → Reading Bool

@@ -1,5 +1,5 @@
 -- The text of a proof of a bound: its lines, as they are written and read.
-use Rattle.std.specs.Prelude.{ℕ, Bool, if◌then◌else◌, List, [], ◌∷◌, ◌++◌, map, pos, slice_index_or}
+use Rattle.std.specs.Prelude.{◌≡◌, ℕ, Bool, false, if◌then◌else◌, List, [], ◌∷◌, ◌++◌, map, pos, slice_index_or, All, ⊤}
 use Rattle.std.specs.List.{flat_map, range_with_len}
 use Rattle.std.specs.Ordering.{int_eq}
 use Rattle.fleet_model.specs.Schedule.{fleets_in}
@@ -10,22 +10,28 @@ use Rattle.dual_bound.specs.declared.mixed.Mixed.{Mixed}
 use Rattle.dual_bound.specs.declared.mixed.Weight.{Weight}
 use Rattle.dual_bound.specs.declared.nodes.Node.{Node}
 use Rattle.dual_bound.specs.declared.nodes.Node.TheVariants as node
+use Rattle.dual_bound.specs.declared.prices.Charge.{Charge}
 use Rattle.dual_bound.specs.declared.prices.Prices.{Prices}
 use Rattle.dual_bound.specs.declared.prices.PriceStep.{PriceStep}
 use Rattle.dual_bound.specs.declared.trees.Cause.{Cause}
 use Rattle.dual_bound.specs.declared.trees.Cause.TheVariants as cause
 use Rattle.dual_bound.specs.declared.trees.Tree.{Tree}
+use Rattle.proof_lines.specs.Forms.{has_charges}
 use Rattle.proof_lines.specs.LineText.{line_words, text_of}
 use Rattle.proof_lines.specs.Words.{Word}
 use Rattle.proof_lines.specs.declared.line.Line.{Line}
 use Rattle.proof_lines.specs.declared.line.Line.TheVariants as line
+use Rattle.proof_lines.specs.declared.line.Version.{Version}
 use Rattle.proof_lines.specs.declared.line.Version.TheVariants as version
 
 -- the bytes of lines
 abbrev pub lines_of : Tables → List Line → List ℕ
 lines_of t = flat_map (text_of t)
 
--- the line of a step, and of a weight
+-- the line of a charge, of a step, and of a weight
+abbrev pub charge_line : Charge → Line
+charge_line entry = line.Charge entry.station entry.day entry.charge
+
 abbrev pub at_line : PriceStep → Line
 at_line step = line.At step.fleet step.station step.minute step.value
 
@@ -47,9 +53,9 @@ rent_lines_at prices f = if int_eq (rent_of prices f) (pos 0) then [] else (line
 abbrev pub rent_lines : Prices → ℕ → List Line
 rent_lines prices fleets = flat_map (rent_lines_at prices) (range_with_len 0 fleets)
 
--- the lines of prices: the scale, the rents in the order of the fleets, the steps in their order
+-- the lines of prices: the scale, the rents in the order of the fleets, the charges and the steps in their order
 abbrev pub price_lines : Tables → Prices → List Line
-price_lines t prices = line.Scale prices.scale ∷ (rent_lines prices (fleets_in t) ++ map at_line prices.steps)
+price_lines t prices = line.Scale prices.scale ∷ (rent_lines prices (fleets_in t) ++ (map charge_line prices.charges ++ map at_line prices.steps))
 
 -- the lines of a fractional assignment: the scale, the weights in their order
 abbrev pub mixed_lines : Mixed → List Line
@@ -80,13 +86,36 @@ root_of tree = slice_index_or (nodes_of tree) 0 node.Sole
 abbrev pub tree_lines : Tables → Tree → List Line
 tree_lines t tree = flat_map (node_lines t) (nodes_of tree)
 
--- the lines of a proof: the head, whether a plan comes with it, the tree, the end; and each as its words
+-- the lines of a proof in a version: the head, whether a plan comes with it, the tree, the end
+abbrev pub lines_in : Version → Tables → Bool → Tree → List Line
+lines_in v t planned tree = line.Head v ∷ line.Plan planned ∷ (tree_lines t tree ++ line.End ∷ [])
+
+-- .. in the version that is written; and each as its words
 abbrev pub all_lines : Tables → Bool → Tree → List Line
-all_lines t planned tree = line.Head version.One ∷ line.Plan planned ∷ (tree_lines t tree ++ line.End ∷ [])
+all_lines = lines_in version.Two
 
 abbrev pub proof_lines : Tables → Bool → Tree → List (List Word)
 proof_lines t planned tree = map (line_words t) (all_lines t planned tree)
 
--- the text of a proof
-unfoldable pub proof_text : Tables → Bool → Tree → List ℕ
-proof_text t planned tree = lines_of t (all_lines t planned tree)
+-- the text of a proof in a version
+unfoldable pub text_in : Version → Tables → Bool → Tree → List ℕ
+text_in v t planned tree = lines_of t (lines_in v t planned tree)
+
+-- the text of a proof, as it is written
+abbrev pub proof_text : Tables → Bool → Tree → List ℕ
+proof_text = text_in version.Two
+
+-- a text of version 1 has no line for charges, so of prices with charges there is none
+abbrev pub ArePricesIn : Version → Prices → Type 0
+ArePricesIn v prices = has_charges v ≡ false → prices.charges ≡ []
+
+abbrev pub IsNodeIn : Version → Node → Type 0
+IsNodeIn v (node.Refuted prices) = ArePricesIn v prices
+IsNodeIn v (node.Priced prices) = ArePricesIn v prices
+IsNodeIn v (node.Open prices why) = ArePricesIn v prices
+IsNodeIn v (node.Split leg choice prices mixed) = ArePricesIn v prices
+IsNodeIn v other = ⊤
+
+-- a text of this version can tell the tree
+abbrev pub CanTell : Version → Tree → Type 0
+CanTell v tree = All (IsNodeIn v) (nodes_of tree)

@@ -4,7 +4,7 @@ use Rattle.fleet_model.specs.declared.tables.Tables.{Tables}
 use Rattle.bound_cert.specs.Lines.{Left, left_of}
 use Rattle.bound_cert.specs.Nodes.{proof_at}
 use Rattle.dual_bound.specs.Nodes.{nodes_of}
-use Rattle.bound_cert.specs.ProofText.{proof_text}
+use Rattle.bound_cert.specs.ProofText.{CanTell, text_in}
 use Rattle.dual_bound.specs.WrittenOrder.{InWrittenOrder, IsShallow}
 use Rattle.bound_cert.specs.declared.faults.CertError.{CertError}
 use Rattle.bound_cert.specs.declared.faults.CertError.TheVariants as cert
@@ -13,6 +13,7 @@ use Rattle.bound_cert.specs.declared.faults.Stop.{Stop}
 use Rattle.bound_cert.specs.declared.faults.Stop.TheVariants as stop
 use Rattle.bound_cert.specs.declared.reading.Proof.{Proof}
 use Rattle.dual_bound.specs.declared.trees.Tree.{Tree}
+use Rattle.proof_lines.specs.declared.line.Version.{Version}
 
 -- the fault comes where reading stops: its line is the first that is left there
 pub record IsFirstFault (t : Tables) (all : Left) (fault : CertFault) : Type 0 where
@@ -43,9 +44,11 @@ answer_of lines (Ok proof) = Ok proof
 answer_of lines (Err stop.NoMemory) = Err cert.NoMemory
 answer_of lines (Err (stop.Fault left kind)) = Err (cert.Fault (record { line = lines - left + 1; kind = kind }))
 
--- the text is that of a proof whose tree is in written order and no deeper than a reader takes
+-- the text is that of a proof in some version, whose tree is in written order and no deeper than a reader takes
 pub record IsTextOf (t : Tables) (text : List ℕ) (planned : Bool) (tree : Tree) : Type 0 where
-  pub is : text ≡ proof_text t planned tree
+  pub version : Version
+  pub tells : CanTell version tree
+  pub is : text ≡ text_in version t planned tree
   pub order : InWrittenOrder t tree
   pub shallow : IsShallow tree
 

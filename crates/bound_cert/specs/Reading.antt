@@ -9,7 +9,7 @@ use Rattle.proof_lines.specs.declared.line.Line.{Line}
 use Rattle.proof_lines.specs.declared.line.Line.TheVariants as line
 use Rattle.bound_cert.specs.Lines.{Left, Reading, ◌>>=◌, fits, line_due, stopped}
 use Rattle.bound_cert.specs.declared.faults.TheConstants.{TOO_DEEP, WRONG_ORDER, WRONG_WORD}
-use Rattle.dual_bound.specs.Order.{step_follows, weight_follows}
+use Rattle.dual_bound.specs.Order.{charge_follows, step_follows, weight_follows}
 use Rattle.dual_bound.specs.declared.trees.TheConstants.{MAX_DEPTH}
 use Rattle.dual_bound.specs.declared.mixed.Mixed.{Mixed}
 use Rattle.dual_bound.specs.declared.mixed.Weight.{Weight}
@@ -23,6 +23,7 @@ use Rattle.dual_bound.specs.declared.nodes.Node.{Node}
 use Rattle.dual_bound.specs.declared.nodes.Node.TheVariants as node
 use Rattle.bound_cert.specs.declared.nodes.Priced.{Priced}
 use Rattle.bound_cert.specs.declared.nodes.Priced.TheVariants as priced
+use Rattle.dual_bound.specs.declared.prices.Charge.{Charge}
 use Rattle.dual_bound.specs.declared.prices.Prices.{Prices}
 use Rattle.dual_bound.specs.declared.prices.PriceStep.{PriceStep}
 use Rattle.bound_cert.specs.declared.reading_lines.Due.{Due}
@@ -58,7 +59,7 @@ entry_at s so_far = said_at s.names s.kind (s.say so_far)
 unfoldable pub entries_from : {S A B : Type 0} → Series S A B → S → Left → Reading (B × Left)
 entries_from s so_far [] = Ok (s.all so_far, [])
 entries_from s so_far (line ∷ rest) =
-    if fits s.kind (form_in (words_of line)) then (entry_at s so_far (line ∷ rest) >>= λ entry. entries_from s (s.grow so_far entry) rest)
+    if fits s.kind (form_in s.names.version (words_of line)) then (entry_at s so_far (line ∷ rest) >>= λ entry. entries_from s (s.grow so_far entry) rest)
     else Ok (s.all so_far, line ∷ rest)
 
 -- the scale that a line of prices or of a fractional assignment says
@@ -105,6 +106,28 @@ rent_series n = record {
 abbrev pub rents_from : Naming → List ℤ → Left → Reading (List ℤ × Left)
 rents_from n = entries_from (rent_series n)
 
+-- entries that are read so far, with one more, and the last of them
+abbrev pub with_last : {A : Type 0} → List A × Option A → A → List A × Option A
+with_last so_far entry = (so_far.0 ++ entry ∷ [], Some entry)
+
+-- the charge that a line says in its order, behind the charge before
+abbrev pub charge_in_order : Option Charge → Charge → Left → Reading Charge
+charge_in_order before entry left = in_order (charge_follows before entry) left >>= λ order. Ok entry
+
+abbrev pub charge_of : Option Charge → Line → Left → Reading Charge
+charge_of before (line.Charge station day charge) left = charge_in_order before (record { station = station; day = day; charge = charge }) left
+charge_of before other left = other_line left
+
+abbrev pub charge_at : Naming → Option Charge → Left → Reading Charge
+charge_at n before = said_at n due.Charge (charge_of before)
+
+-- the charges, from those that are read so far and the last of them, and what is left behind their lines
+abbrev pub charge_series : Naming → Series (List Charge × Option Charge) Charge (List Charge)
+charge_series n = record { names = n; kind = due.Charge; say = λ so_far. charge_of so_far.1; grow = with_last; all = λ so_far. so_far.0 }
+
+abbrev pub charges_from : Naming → List Charge → Option Charge → Left → Reading (List Charge × Left)
+charges_from n charges before = entries_from (charge_series n) (charges, before)
+
 -- the words of the first line that is left
 abbrev pub first_words : Left → List Word
 first_words [] = []
@@ -125,10 +148,6 @@ step_of n before other left = other_line left
 abbrev pub step_at : Naming → Option PriceStep → Left → Reading PriceStep
 step_at n before = said_at n due.Step (step_of n before)
 
--- entries that are read so far, with one more, and the last of them
-abbrev pub with_last : {A : Type 0} → List A × Option A → A → List A × Option A
-with_last so_far entry = (so_far.0 ++ entry ∷ [], Some entry)
-
 -- the steps, from those that are read so far and the last of them, and what is left behind their lines
 abbrev pub step_series : Naming → Series (List PriceStep × Option PriceStep) PriceStep (List PriceStep)
 step_series n = record { names = n; kind = due.Step; say = λ so_far. step_of n so_far.1; grow = with_last; all = λ so_far. so_far.0 }
@@ -141,8 +160,9 @@ unfoldable pub prices_at : Naming → Left → Reading (Prices × Left)
 prices_at n left = do
   scale ← scale_at n left
   rents ← rents_from n [] (drop 1 left)
-  steps ← steps_from n [] None rents.1
-  Ok (record { scale = scale; rents = rents.0; steps = steps.0; charges = [] }, steps.1)
+  charges ← charges_from n [] None rents.1
+  steps ← steps_from n [] None charges.1
+  Ok (record { scale = scale; rents = rents.0; steps = steps.0; charges = charges.0 }, steps.1)
 
 -- the weight that a line says in its order, behind the weight before
 abbrev pub weight_in_order : Option Weight → Weight → Left → Reading Weight

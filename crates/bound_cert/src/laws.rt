@@ -9,6 +9,7 @@ ghost use Rattle.bound_cert.specs.Nodes.{proof_at};
 ghost use Rattle.dual_bound.specs.Nodes.{nodes_of};
 ghost use Rattle.dual_bound.specs.OfTables.{IsOfTables};
 ghost use Rattle.bound_cert.specs.ProofText.{proof_lines, proof_text};
+ghost use Rattle.bound_cert.specs.ReadProof.{IsTextOf};
 ghost use Rattle.bound_cert.specs.Words.{IsOfWords, IsPlainLine};
 ghost use Rattle.dual_bound.specs.WrittenOrder.{InWrittenOrder, IsShallow};
 ghost use Rattle.bound_cert.specs.declared.faults.TheConstants.{BAD_LINE, TEXT_ENDS, TOO_DEEP, UNKNOWN_NAME, WRONG_HEAD, WRONG_NUMBER, WRONG_ORDER, WRONG_WIDTH, WRONG_WORD};
@@ -45,11 +46,17 @@ pub fn one_text()
         → (a ≡ b) × (nodes_of x ≡ nodes_of y) }
 {}
 
-/// A text that reads as a proof is the text of that proof, whose tree is in written order and no deeper than a reader
-/// takes.
+/// A text that reads as a proof is the text of that proof in some version, and its tree is in written order and no
+/// deeper than a reader takes.
 pub fn text_of_reading()
     ensures { (t : Tables) (bytes : List ℕ) (planned : Bool) (tree : Tree) → proof_at t (left_of bytes) ≡ Ok (planned, nodes_of tree)
-        → (bytes ≡ proof_text t planned tree) × InWrittenOrder t tree × IsShallow tree }
+        → IsTextOf t bytes planned tree }
+{}
+
+/// Such a text reads as that proof, in whichever version it is.
+pub fn reads_each_version()
+    ensures { (t : Tables) (bytes : List ℕ) (planned : Bool) (tree : Tree) → IsTextOf t bytes planned tree
+        → proof_at t (left_of bytes) ≡ Ok (planned, nodes_of tree) }
 {}
 
 /// The first fault of a text rests on the lines up to and with its own, and behind a step of value 0 at minute 0 on the

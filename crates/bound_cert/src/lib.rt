@@ -13,7 +13,7 @@ pub mod tree_reading;
 pub mod writing;
 
 pub use dual_bound::worth::worth;
-pub use dual_bound::{Cause, Mixed, PriceStep, Prices, Tree, TreeCounts, Weight};
+pub use dual_bound::{Cause, Charge, Mixed, PriceStep, Prices, Tree, TreeCounts, Weight};
 pub use faults::{CertError, CertFault};
 pub use reading::{Proof, read_proof};
 pub use writing::write_proof;

@@ -4,13 +4,13 @@ ghost use Rattle.proof_lines.specs.Known.{naming};
 ghost use Rattle.proof_lines.specs.Reading.{is_step_of};
 ghost use Rattle.proof_lines.specs.Words.{seen};
 ghost use Rattle.bound_cert.specs.Lines.{Gives};
-ghost use Rattle.bound_cert.specs.Reading.{first_words, in_order, is_needless, mixed_scale_at, mixed_scale_of, rent_follows, rent_of, scale_at, scale_of, step_in_order, step_of, weight_in_order, weight_of};
+ghost use Rattle.bound_cert.specs.Reading.{charge_in_order, charge_of, first_words, in_order, is_needless, mixed_scale_at, mixed_scale_of, rent_follows, rent_of, scale_at, scale_of, step_in_order, step_of, weight_in_order, weight_of};
 ghost use Rattle.bound_cert.specs.Wants.{WantsNone};
-ghost use Rattle.dual_bound.specs.Order.{place_before, same_place, step_follows, weight_follows};
+ghost use Rattle.dual_bound.specs.Order.{charge_follows, place_before, same_place, step_follows, weight_follows};
 
 use crate::faults::{Stop, WRONG_ORDER, WRONG_WORD};
 use crate::reading_lines::{Due, line_due, stopped};
-use dual_bound::{PriceStep, Weight};
+use dual_bound::{Charge, PriceStep, Weight};
 use entries::NoMemory;
 use proof_lines::{Grammar, Line, is_step_of};
 use std::alloc::Global;
@@ -86,6 +86,51 @@ fn rent_follows(least: usize, entry: &(u32, i128)) -> bool
     ensures { result ≡ rent_follows least entry.now.0 entry.now.1 }
 {
     least <= entry.0 as usize && entry.1 != 0
+}
+
+/// The charge that a line says in its order, behind the charge before. Takes no memory.
+pub fn charge_of(before: &Option<Charge>, line: Line, left: &[&[u8]]) -> Result<Charge, Stop>
+    ensures gives { Gives (λ entry. entry) result (charge_of before.now line (seen left.now)) }
+    ensures wants_none { WantsNone result }
+{
+    match line {
+        Line::Charge {
+            station,
+            day,
+            charge,
+        } => {
+            let entry = Charge {
+                station,
+                day,
+                charge,
+            };
+            charge_in_order(before, entry, left)
+        }
+        _ => stopped(left, WRONG_WORD),
+    }
+}
+
+/// A charge that is in its order behind the charge before. Takes no memory.
+fn charge_in_order(before: &Option<Charge>, entry: Charge, left: &[&[u8]]) -> Result<Charge, Stop>
+    ensures gives { Gives (λ entry. entry) result (charge_in_order before.now entry (seen left.now)) }
+    ensures wants_none { WantsNone result }
+{
+    in_order(charge_follows(before, &entry), left)?;
+    Ok(entry)
+}
+
+/// Whether a charge may follow: it isn't 0, and it is of a later station, or of a later day there.
+fn charge_follows(before: &Option<Charge>, entry: &Charge) -> bool
+    ensures { result ≡ charge_follows before.now entry.now }
+{
+    match before {
+        None => entry.charge != 0,
+        Some(before) => {
+            (before.station < entry.station
+                || (before.station == entry.station && before.day < entry.day))
+                && entry.charge != 0
+        }
+    }
 }
 
 /// The step that a line says in its order, behind the step before.

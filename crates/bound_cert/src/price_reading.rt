@@ -3,12 +3,12 @@ ghost use Rattle.std.specs.Prelude.{◌≡◌, ◌++◌, ◌∷◌, [], None, On
 ghost use Rattle.proof_lines.specs.Known.{naming};
 ghost use Rattle.proof_lines.specs.Words.{seen};
 ghost use Rattle.bound_cert.specs.Lines.{Gives};
-ghost use Rattle.bound_cert.specs.Reading.{mixed_at, padded, prices_at, rents_from, steps_from, weights_from};
+ghost use Rattle.bound_cert.specs.Reading.{charges_from, mixed_at, padded, prices_at, rents_from, steps_from, weights_from};
 
 use crate::faults::Stop;
-use crate::line_reading::{mixed_scale_at, rent_of, scale_at, step_of, weight_of};
+use crate::line_reading::{charge_of, mixed_scale_at, rent_of, scale_at, step_of, weight_of};
 use crate::reading_lines::{Due, behind, next_line};
-use dual_bound::{Mixed, PriceStep, Prices, Weight};
+use dual_bound::{Charge, Mixed, PriceStep, Prices, Weight};
 use entries::{Entries, NoMemory};
 use proof_lines::Grammar;
 use std::alloc::Global;
@@ -24,12 +24,13 @@ pub fn prices_at<'a, 'b>(
 {
     let scale = scale_at(alloc, grammar, left)?;
     let (rents, rest) = rents_from(alloc, grammar, behind(left))?;
+    let (charges, rest) = charges_from(alloc, grammar, rest)?;
     let (steps, rest) = steps_from(alloc, grammar, rest)?;
     let prices = Prices {
         scale,
         rents,
         steps,
-        charges: Entries::from_vec(Vec::new(alloc)),
+        charges,
     };
     Ok((prices, rest))
 }
@@ -88,6 +89,29 @@ fn pad(rents: &mut Vec<i128>, fleets: usize) -> Result<(), NoMemory>
         rents.push(0)?;
     }
     Ok(())
+}
+
+/// The charges, and what is left behind their lines.
+fn charges_from<'a, 'b>(
+    alloc: Global,
+    grammar: &Grammar<'_>,
+    left: &'b [&'a [u8]],
+) -> Result<(Entries<Charge>, &'b [&'a [u8]]), Stop>
+    ensures { Gives (λ r. (r.0, seen r.1.now)) result (charges_from (naming grammar.now) [] None (seen left.now)) }
+{
+    let mut charges = Vec::new(alloc);
+    let mut before = None;
+    let mut rest = left;
+    while let Some(line) = next_line(alloc, grammar, Due::Charge, rest)? {
+        let entry = match charge_of(&before, line, rest) {
+            Ok(entry) => entry,
+            Err(stop) => return Err(stop),
+        };
+        charges.push(entry)?;
+        before = Some(entry);
+        rest = behind(rest);
+    }
+    Ok((Entries::from_vec(charges), rest))
 }
 
 /// The steps, and what is left behind their lines.

@@ -29,7 +29,7 @@ pub struct Proof {
 }
 
 /// The proof that a text says, else the first fault of the text: its first bad line, and there the least kind. So it
-/// answers a proof just where the text is that of a proof whose tree is in written order and no deeper than
+/// answers a proof just where the text is that of a proof, in either version, whose tree is in written order and no deeper than
 /// `MAX_DEPTH`, and that proof.
 pub fn read_proof(alloc: Global, tables: &Tables, bytes: &[u8]) -> Result<Proof, CertError>
     ensures reads { MatchResult result (ReadsAs tables.now bytes.now) (FaultOf tables.now bytes.now) }
@@ -95,6 +95,8 @@ fn head_is(left: &[&[u8]]) -> Result<Version, Stop>
     }
     if *line == b"fleet proof 1".as_slice() {
         Ok(Version::One)
+    } else if *line == b"fleet proof 2".as_slice() {
+        Ok(Version::Two)
     } else {
         stopped(left, WRONG_HEAD)
     }

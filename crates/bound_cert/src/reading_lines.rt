@@ -26,6 +26,8 @@ pub enum Due {
     Mixed,
     /// A rent.
     Rent,
+    /// A charge.
+    Charge,
     /// A step of a price.
     Step,
     /// A weight.
@@ -101,6 +103,7 @@ fn may_stand(due: Due, form: Form) -> bool
         Due::Scale => matches!(form, Form::Scale),
         Due::Mixed => matches!(form, Form::Mixed),
         Due::Rent => matches!(form, Form::Rent),
+        Due::Charge => matches!(form, Form::Charge),
         Due::Step => matches!(form, Form::At),
         Due::Weight => matches!(form, Form::Weight),
         Due::End => matches!(form, Form::End),

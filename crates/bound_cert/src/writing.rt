@@ -1,19 +1,19 @@
 //! The text of a proof, written.
 ghost use Rattle.std.specs.Prelude.{◌≡◌, ◌++◌, ◌<◌, All, IfOk, OnOk, map};
 ghost use Rattle.fleet_model.specs.Schedule.{fleets_in};
-ghost use Rattle.dual_bound.specs.OfTables.{ArePricesOf, IsCauseOf, IsMixedOf, IsOfTables, IsStepOf, IsWeightOf};
+ghost use Rattle.dual_bound.specs.OfTables.{ArePricesOf, IsCauseOf, IsChargeOf, IsMixedOf, IsOfTables, IsStepOf, IsWeightOf};
 ghost use Rattle.proof_lines.specs.LineText.{IsNamed, text_of};
 ghost use Rattle.proof_lines.specs.declared.line.Line.TheVariants as line;
-ghost use Rattle.bound_cert.specs.ProofText.{at_line, cause_lines, lines_of, mixed_lines, node_lines, open_line, price_lines, proof_text, rent_lines, rent_lines_at, root_of, tree_lines, weight_line};
+ghost use Rattle.bound_cert.specs.ProofText.{at_line, cause_lines, charge_line, lines_of, mixed_lines, node_lines, open_line, price_lines, proof_text, rent_lines, rent_lines_at, root_of, tree_lines, weight_line};
 
-use dual_bound::{Cause, Mixed, PriceStep, Prices, Tree, Weight};
+use dual_bound::{Cause, Charge, Mixed, PriceStep, Prices, Tree, Weight};
 use entries::NoMemory;
 use fleet_model::Tables;
 use proof_lines::{Line, Version, push_line};
 use std::alloc::Global;
 
-/// The text of a proof, as `proof.txt` holds it: the head, whether a plan comes with it, the tree, and the end. Its
-/// one error is want of memory.
+/// The text of a proof, as `proof.txt` holds it: the head, whether a plan comes with it, the tree, and the end, in
+/// version 2. Its one error is want of memory.
 pub fn write_proof(
     alloc: Global,
     tables: &Tables,
@@ -24,7 +24,7 @@ pub fn write_proof(
     ensures { IfOk result (λ text. text.items ≡ proof_text tables.now planned tree.now) }
 {
     let mut text = Vec::new(alloc);
-    push_line(alloc, &mut text, tables, &Line::Head(Version::One))?;
+    push_line(alloc, &mut text, tables, &Line::Head(Version::Two))?;
     push_line(alloc, &mut text, tables, &Line::Plan { planned })?;
     push_tree(alloc, &mut text, tables, tree)?;
     push_line(alloc, &mut text, tables, &Line::End)?;
@@ -226,6 +226,7 @@ fn push_prices(
         },
     )?;
     push_rents(alloc, text, tables, prices)?;
+    push_charges(alloc, text, tables, prices.charges.as_slice())?;
     push_steps(alloc, text, tables, prices.steps.as_slice())
 }
 
@@ -260,6 +261,40 @@ fn push_rent(
         return Ok(());
     }
     push_line(alloc, text, tables, &Line::Rent { fleet, rent })
+}
+
+/// Appends the lines of charges.
+fn push_charges(
+    alloc: Global,
+    text: &mut Vec<u8>,
+    tables: &Tables,
+    charges: &[Charge],
+) -> Result<(), NoMemory>
+    requires { All (IsChargeOf tables.now) charges.now }
+    ensures { OnOk result (text.new.items ≡ text.old.items ++ lines_of tables.now (map charge_line charges.now)) }
+{
+    for charge in charges {
+        push_charge(alloc, text, tables, charge)?;
+    }
+    Ok(())
+}
+
+/// Appends the line of a charge.
+fn push_charge(
+    alloc: Global,
+    text: &mut Vec<u8>,
+    tables: &Tables,
+    charge: &Charge,
+) -> Result<(), NoMemory>
+    requires { IsChargeOf tables.now charge.now }
+    ensures { OnOk result (text.new.items ≡ text.old.items ++ text_of tables.now (charge_line charge.now)) }
+{
+    let line = Line::Charge {
+        station: charge.station,
+        day: charge.day,
+        charge: charge.charge,
+    };
+    push_line(alloc, text, tables, &line)
 }
 
 /// Appends the lines of steps.

@@ -34,14 +34,6 @@ fallen_here u one number few fallen = record {
   found_is = omega arith;
 }
 
-pub passed_here : (u : Tables) (one : Node) (before after : Reached) (own : Option ℤ) → Stands u one → IsOwnBound u one.keeps one.tree own
-    → after.number ≡ held_count (before.number + 1) → after.bound ≡ lesser_bound before.bound own → ArePassedOn u (one ∷ []) (IsOwnBound u one.keeps one.tree) before after
-passed_here u one before after own stands is follows lesser = record {
-  stand = All-cons (Stands u) one [] stands (All-nil (Stands u));
-  follows = follows;
-  bounded = record { found = own; is = is; lesser = lesser };
-}
-
 -- ---- two lists of nodes, one after the other
 module _ (u : Tables) (first second : List Node) where
   pub fallen_first : (number at : ℕ) → IsFallenAt u first number at → IsFallenAt u (first ++ second) number at

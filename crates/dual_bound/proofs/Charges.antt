@@ -1,4 +1,4 @@
--- Charges, and pairs that are flown. What the words for them stand for is looked at here and in `NoCharges` alone.
+-- Charges, and pairs that are flown. What the words for them stand for is looked at here, in `NoCharges`, and by the rules of `cert_check`.
 use Rattle.std.proofs.Common.{◌≡◌, ℕ, ◌+◌, ◌-◌, ◌*◌, ◌/◌, ◌%◌, ◌<◌, ◌≤◌, ◌==◌, Bool, true, false, if◌then◌else◌, nat_lt, ℤ, pos, ◌+ℤ◌, ◌-ℤ◌, ◌*ℤ◌, ◌≤ℤ◌, refl, sym, ◌∙◌, ap, ap₂, arith}
 use Rattle.std.proofs.lemmas.Int.{ints}
 use lib.IntN.{*ℤ_comm}

@@ -1,6 +1,5 @@
 pub mod Charges
 pub mod Duality
-pub mod FewParked
 pub mod Flows
 pub mod LeastWorth
 pub mod NoCharges

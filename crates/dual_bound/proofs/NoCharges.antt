@@ -1,6 +1,7 @@
 -- Prices without charges, and charges that are taken off.
-use Rattle.std.proofs.Common.{◌≡◌, ℕ, ◌+◌, [], ℤ, pos, ◌*ℤ◌, ◌≤ℤ◌, refl, ◌∙◌, ap, arith}
+use Rattle.std.proofs.Common.{◌≡◌, ℕ, ◌+◌, [], ℤ, pos, ◌*ℤ◌, ◌≤ℤ◌, refl, sym, ◌∙◌, ap, subst, arith}
 use Rattle.std.proofs.lemmas.Int.{ints}
+use Rattle.std.proofs.lemmas.List.Elements.{All-nil}
 use lib.IntN.{*ℤ-zero, *ℤ_comm, zero-*ℤ}
 use Rattle.sums.proofs.Orders.{times_le}
 use Rattle.sums.proofs.WholeSums.{sum_below_ℤ-same}
@@ -10,6 +11,7 @@ use Rattle.fleet_model.specs.declared.tables.Tables.{Tables}
 use Rattle.fleet_model.specs.Schedule.{days_in, stations_in}
 use Rattle.dual_bound.specs.Prices.{AreCharges, charge_of, last_charge}
 use Rattle.dual_bound.specs.Worth.{charges_of, less_charges, limit_of}
+use Rattle.dual_bound.specs.WrittenOrder.{AreChargesInOrder, IsChargeInOrder}
 use Rattle.dual_bound.specs.declared.prices.Prices.{Prices}
 
 -- where there is no entry, nothing is charged
@@ -24,6 +26,10 @@ none_proper t prices none = λ s d there some within. record {
   within = omega (arith, ints, none_charged prices none s d);
   only_limited = λ no_limit. none_charged prices none s d;
 }
+
+-- .. in written order
+pub none_in_order : (t : Tables) (prices : Prices) → prices.charges ≡ [] → AreChargesInOrder t prices.charges
+none_in_order t prices none = subst (AreChargesInOrder t) (sym none) (record { each = All-nil (IsChargeInOrder t); follow = tt })
 
 -- .. and takes nothing off
 pub no_charges : (t : Tables) (prices : Prices) (z : ℤ) → prices.charges ≡ [] → less_charges t prices z ≡ z

@@ -23,8 +23,8 @@ use Rattle.dual_bound.proofs.Charges.{charge_after, charges_at, day_within, some
 use Rattle.dual_bound.proofs.Flows.{charges_for}
 
 -- a minute that ends a day is the last of that day
-ends_day : (m : ℕ) → (m + 1) % MINUTES_PER_DAY ≡ 0 → m ≡ day_end ((m + 1) / MINUTES_PER_DAY)
-ends_day m e = omega (arith, e)
+pub last_of_day : (m : ℕ) → (m + 1) % MINUTES_PER_DAY ≡ 0 → m ≡ day_end ((m + 1) / MINUTES_PER_DAY)
+last_of_day m e = omega (arith, e)
 
 module _ (t : Tables) (prices : Prices) (charges : AreCharges t prices) (q : ℕ) (w : Weights) (room : HasRoom t q w) where
   -- aircraft of all fleets at the end of a minute
@@ -33,7 +33,7 @@ module _ (t : Tables) (prices : Prices) (charges : AreCharges t prices) (q : ℕ
 
   standing_then : (s m : ℕ) → (m + 1) % MINUTES_PER_DAY ≡ 0 → all_stand s m ≡ parked t w s ((m + 1) / MINUTES_PER_DAY)
   unfolding all_stand parked
-  standing_then s m ends = ap (λ n. sum_below (λ f. stand_of t w f s n) (fleets_in t)) (ends_day m ends)
+  standing_then s m ends = ap (λ n. sum_below (λ f. stand_of t w f s n) (fleets_in t)) (last_of_day m ends)
 
   at_minute : (s m : ℕ) → s < stations_in t → m < period_of t → (pos (all_stand s m) *ℤ charge_after prices s m) ≤ℤ (pos q *ℤ (pos (limit_of t s) *ℤ charge_after prices s m))
   unfolding charge_after

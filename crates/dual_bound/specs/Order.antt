@@ -1,7 +1,8 @@
--- What may follow what in a list of steps, and in one of weights.
+-- What may follow what in a list of steps, in one of charges, and in one of weights.
 use Rattle.std.specs.Prelude.{◌==◌, ◌&&◌, ◌||◌, nat_lt, Bool, not, if◌then◌else◌, Option, Some, None, pos}
 use Rattle.std.specs.Ordering.{int_eq}
 use Rattle.dual_bound.specs.declared.mixed.Weight.{Weight}
+use Rattle.dual_bound.specs.declared.prices.Charge.{Charge}
 use Rattle.dual_bound.specs.declared.prices.PriceStep.{PriceStep}
 
 -- steps are of one fleet at one station
@@ -18,6 +19,12 @@ step_follows None step = step.minute == 0
 step_follows (Some before) step =
     if same_place before step then nat_lt before.minute step.minute && not (int_eq before.value step.value)
     else place_before before step && (step.minute == 0)
+
+-- a charge may follow: it isn't 0, and it is of a later station, or of a later day there
+abbrev pub charge_follows : Option Charge → Charge → Bool
+charge_follows None entry = not (int_eq entry.charge (pos 0))
+charge_follows (Some before) entry =
+    (nat_lt before.station entry.station || ((before.station == entry.station) && nat_lt before.day entry.day)) && not (int_eq entry.charge (pos 0))
 
 -- a weight may follow: it isn't 0, and its pair comes later, by leg and then by fleet
 abbrev pub weight_follows : Option Weight → Weight → Bool

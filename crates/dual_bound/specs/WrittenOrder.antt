@@ -1,17 +1,18 @@
 -- Trees in written order: those that the text of a proof tells, each by one text alone.
 use Rattle.std.specs.Prelude.{◌≡◌, ℕ, ◌<◌, ◌≤◌, ◌^◌, ◌==◌, ◌&&◌, Bool, false, not, List, [], ◌∷◌, length, All, ℤ, pos, neg_ℤ, ◌≤ℤ◌, Option, Some, None, IsTrue, ⊤}
 use Rattle.std.specs.Ordering.{int_eq}
-use Rattle.fleet_model.specs.Schedule.{IsPair, fleets_in, last_of, leg_on, legs_in, stations_in}
+use Rattle.fleet_model.specs.Schedule.{IsPair, days_in, fleets_in, last_of, leg_on, legs_in, stations_in}
 use Rattle.fleet_model.specs.declared.tables.Tables.{Tables}
 use Rattle.dual_bound.specs.Leaves.{depth_of}
 use Rattle.dual_bound.specs.Nodes.{nodes_of}
-use Rattle.dual_bound.specs.Order.{same_place, step_follows, weight_follows}
+use Rattle.dual_bound.specs.Order.{charge_follows, same_place, step_follows, weight_follows}
 use Rattle.dual_bound.specs.declared.trees.TheConstants.{MAX_DEPTH}
 use Rattle.dual_bound.specs.declared.prices.TheConstants.{MAX_SIZE}
 use Rattle.dual_bound.specs.declared.mixed.Mixed.{Mixed}
 use Rattle.dual_bound.specs.declared.mixed.Weight.{Weight}
 use Rattle.dual_bound.specs.declared.nodes.Node.{Node}
 use Rattle.dual_bound.specs.declared.nodes.Node.TheVariants as node
+use Rattle.dual_bound.specs.declared.prices.Charge.{Charge}
 use Rattle.dual_bound.specs.declared.prices.Prices.{Prices}
 use Rattle.dual_bound.specs.declared.prices.PriceStep.{PriceStep}
 use Rattle.dual_bound.specs.declared.trees.Cause.{Cause}
@@ -55,13 +56,30 @@ pub record AreStepsInOrder (t : Tables) (steps : List PriceStep) : Type 0 where
   pub follow : StepsFollow None steps
   pub no_lone_zero : NoLoneZero steps
 
--- prices: one rent for each fleet, the steps in their order, and no charges, for which a text has no line
+-- a charge of a station and a day of the tables, days counted from 1
+pub record IsChargeInOrder (t : Tables) (entry : Charge) : Type 0 where
+  pub station : entry.station < stations_in t
+  pub some : 0 < entry.day
+  pub day : entry.day ≤ days_in t
+  pub charge : IsFigure entry.charge
+
+-- each charge may follow the one before it: it isn't 0, and it is of a later station, or of a later day there
+abbrev pub ChargesFollow : Option Charge → List Charge → Type 0
+ChargesFollow before [] = ⊤
+ChargesFollow before (entry ∷ entries) = IsTrue (charge_follows before entry) × ChargesFollow (Some entry) entries
+
+-- charges rise by station and day, and none is 0
+pub record AreChargesInOrder (t : Tables) (charges : List Charge) : Type 0 where
+  pub each : All (IsChargeInOrder t) charges
+  pub follow : ChargesFollow None charges
+
+-- prices: one rent for each fleet, and the charges and the steps in their order
 pub record ArePricesInOrder (t : Tables) (prices : Prices) : Type 0 where
   pub scale : IsFigure prices.scale
   pub one_each : length prices.rents ≡ fleets_in t
   pub rents : All IsFigure prices.rents
+  pub charges : AreChargesInOrder t prices.charges
   pub steps : AreStepsInOrder t prices.steps
-  pub no_charges : prices.charges ≡ []
 
 -- a weight of a leg on a fleet of the tables
 pub record IsWeightInOrder (t : Tables) (entry : Weight) : Type 0 where

@@ -35,14 +35,6 @@ adds_nothing sum value z e within = record {
   total = subst IsWithin (nothing_added sum (value *ℤ z) (no_product value z e)) within;
 }
 
-pub times_begun : (sums : List ℤ) (value : ℤ) (line : List ℤ) (left : List Entry) → length line ≡ length sums → AreRising 0 (length line) left → ((c : ℕ) → number_in left c ≡ value_in line c) → IsAddingTimes sums value line sums left
-times_begun sums value line left same rising is = record {
-  same_length = refl;
-  rising = subst (λ n. AreRising 0 n left) same rising;
-  each = λ c below. ap (λ z. value_in sums c +ℤ (value *ℤ z)) (is c);
-  done = λ c below. inl (is c);
-}
-
 module _ (sums : List ℤ) (value : ℤ) (line now : List ℤ) (entry : Entry) (left all : List Entry) (h : IsAddingTimes sums value line now all) (e : all ≡ entry ∷ left) where
   here : AreRising 0 (length sums) (entry ∷ left)
   here = subst (AreRising 0 (length sums)) e h.rising

@@ -37,11 +37,6 @@ sum_more f g n total one other more before e o adds is = record {
   sum = is ∙ ap (λ z. total +ℤ (z *ℤ other)) e ∙ ap (λ z. total +ℤ (f n *ℤ z)) o ∙ ap (λ z. z +ℤ (f n *ℤ g n)) before.sum;
 }
 
--- where the next product can't be added, not all can
-pub sum_fails : (f g : ℕ → ℤ) (n count : ℕ) (total one other : ℤ) → IsSumUpTo f g n total → one ≡ f n → other ≡ g n → ¬ (AddsWithin total one other) → n < count → ¬ (SumsWithin f g count)
-sum_fails f g n count total one other before e o fails below all =
-    fails (subst (λ z. AddsWithin z one other) (sym before.sum) (subst (λ z. AddsWithin (sum_below_ℤ (λ k. f k *ℤ g k) n) z other) (sym e) (subst (AddsWithin (sum_below_ℤ (λ k. f k *ℤ g k) n) (f n)) (sym o) (all.each n below))))
-
 -- zeros add nothing
 pub sum_past_zeros : (f g : ℕ → ℤ) (total : ℤ) (from n : ℕ) → IsSumUpTo f g from total → IsWithin total → from ≤ n → ((k : ℕ) → from ≤ k → k < n → f k ≡ pos 0) → IsSumUpTo f g n total
 sum_past_zeros f g total from zero before fits le zeros = subst (λ m. IsSumUpTo f g m total) (omega (arith, le)) before
@@ -128,12 +123,3 @@ summing_more line share total other more entry left all h e o adds is = record {
 
     zeros : (k : ℕ) → suc entry.column ≤ k → k < next_column (length line) left → value_in line k ≡ pos 0
     zeros k ge below = sym (same k ge) ∙ none_yet (length line) left k (entry.column + 1) here.2 below
-
-pub summing_done : (line : List ℤ) (share : ℕ → ℤ) (total : ℤ) (left : List Entry) → IsSumming line share total left → left ≡ [] → IsSumUpTo (value_in line) share (length line) total
-summing_done line share total left h e = subst (λ es. IsSumUpTo (value_in line) share (next_column (length line) es) total) e h.sum
-
-pub summing_fails : (line : List ℤ) (share : ℕ → ℤ) (total other : ℤ) (entry : Entry) (left all : List Entry) → IsSumming line share total all → all ≡ entry ∷ left → other ≡ share entry.column
-    → ¬ (AddsWithin total entry.number other) → ¬ (SumsWithin (value_in line) share (length line))
-summing_fails line share total other entry left all h e o fails =
-    let here = number_there line share total entry left all h e in
-    sum_fails (value_in line) share entry.column (length line) total entry.number other (subst (λ es. IsSumUpTo (value_in line) share (next_column (length line) es) total) e h.sum) here.0 o fails here.1

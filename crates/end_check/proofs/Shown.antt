@@ -130,9 +130,6 @@ module _ (rows : Rows) (problem : IsProblem rows) (hint : PointHint) (weights : 
     };
   }
 
-pub end_has_shape : (rows : Rows) (hint : PointHint) → IsPricedEnd rows hint → HasShape rows hint
-end_has_shape rows hint end = record { some = end.some; dual_scale = end.values.some; long = end.long; duals = end.duals }
-
 -- ---- a refusal
 module _ (rows : Rows) (hint : RefusalHint) (weights : List ℤ) (is : weights ≡ weights_of rows (value_in hint.multipliers) (length rows.lines)) where
   weight_of : (column : ℕ) → column ≤ rows.columns → value_in weights column ≡ weighed rows (value_in hint.multipliers) column

@@ -87,7 +87,7 @@ fn costs(alloc: Global) -> Result<Vec<u8>, AllocError> {
 
 /// A proof that sets each pair of the last two fleets aside. What is left is one assignment.
 fn trips_proof(alloc: Global) -> Result<Vec<u8>, AllocError> {
-    let mut text = b"fleet proof 1\nplan yes\n".to_vec(alloc)?;
+    let mut text = b"fleet proof 2\nplan yes\n".to_vec(alloc)?;
     for trip in 0..TRIPS {
         let trip = digits(alloc, trip)?;
         push_pairs(&mut text, b"trim ", trip.as_bytes(), SET_ASIDE)?;
@@ -147,7 +147,7 @@ fn a_tree_of_two_thousand_levels_that_holds(rt: HostRuntime) -> Result<(), Fail>
 
 /// Trims of one pair, each the first child of the one before, and below the last one leaf for each child that is left.
 fn nested_trims(alloc: Global, levels: u32) -> Result<Vec<u8>, AllocError> {
-    let mut text = b"fleet proof 1\nplan no\n".to_vec(alloc)?;
+    let mut text = b"fleet proof 2\nplan no\n".to_vec(alloc)?;
     for _ in 0..levels {
         text.extend_from_slice(b"trim X1 F1\n")?;
     }

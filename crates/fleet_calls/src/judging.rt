@@ -59,6 +59,11 @@ const WITHOUT_A_COST: Files = Files {
     ..ROUND_TRIP
 };
 
+const WITHOUT_ROOM: Files = Files {
+    stations: b"code,extra,maintenance,parking\nAAA,0,yes,0\nBBB,0,no,-\n",
+    ..ROUND_TRIP
+};
+
 const UNBALANCED: Verdict = Verdict::Unbalanced {
     fleet: 0,
     station: 0,
@@ -72,10 +77,18 @@ const TOO_MANY: Verdict = Verdict::TooMany {
     has: 0,
 };
 
+const CROWDED: Verdict = Verdict::Crowded {
+    station: 0,
+    day: 1,
+    parked: 1,
+    cap: 0,
+};
+
 #[test]
 fn refused_assignments_have_their_first_reason(rt: HostRuntime) -> Result<(), Fail> {
     assert_judged(&rt, &ROUND_TRIP, &[0, 1], UNBALANCED)?;
     assert_judged(&rt, &WITHOUT_AIRCRAFT, &[0, 0], TOO_MANY)?;
+    assert_judged(&rt, &WITHOUT_ROOM, &[0, 0], CROWDED)?;
     assert_judged(
         &rt,
         &WITHOUT_A_COST,

@@ -34,9 +34,42 @@ fn written_again(alloc: Global, text: &[u8]) -> Result<Option<Vec<u8>>, LoadErro
 #[test]
 fn a_split_is_written_as_it_was_read(rt: HostRuntime) -> Result<(), Fail> {
     let text: &[u8] =
-        b"fleet proof 1\nplan no\nsplit X1 F1\nscale 3\nmixed 2\nweight X1 F1 1\nweight X1 F2 1\nsole\nbare X2\nend\n";
+        b"fleet proof 2\nplan no\nsplit X1 F1\nscale 3\nmixed 2\nweight X1 F1 1\nweight X1 F2 1\nsole\nbare X2\nend\n";
     let again = written_again(rt.alloc(), text)?;
     assert_same(&rt, again.as_deref(), Some(text));
+    Ok(())
+}
+
+#[test]
+fn charges_are_written_as_they_were_read(rt: HostRuntime) -> Result<(), Fail> {
+    let text: &[u8] =
+        b"fleet proof 2\nplan no\nrefuted\nscale 1\nrent F2 1\ncharge AAA 1 5\ncharge BBB 1 -7\nat F1 AAA 0 1\nat F1 AAA 481 0\nend\n";
+    let again = written_again(rt.alloc(), text)?;
+    assert_same(&rt, again.as_deref(), Some(text));
+    Ok(())
+}
+
+#[test]
+fn a_text_of_the_first_version_is_written_in_the_second(rt: HostRuntime) -> Result<(), Fail> {
+    let again = written_again(rt.alloc(), b"fleet proof 1\nplan yes\nsole\nend\n")?;
+    let want: &[u8] = b"fleet proof 2\nplan yes\nsole\nend\n";
+    assert_same(&rt, again.as_deref(), Some(want));
+    Ok(())
+}
+
+#[test]
+fn a_leaf_with_charges(rt: HostRuntime) -> Result<(), Fail> {
+    let text: &[u8] =
+        b"fleet proof 2\nplan no\nrefuted\nscale 1\ncharge AAA 1 5\ncharge BBB 1 -7\nend\n";
+    let proof = proof_of(rt.alloc(), text)?.expect(&rt, "the text is a proof");
+    match &proof.tree {
+        Tree::Refuted(prices) => {
+            assert_same(&rt, prices.charge(0, 1), 5);
+            assert_same(&rt, prices.charge(1, 1), -7);
+            assert_same(&rt, prices.charge(0, 2), 0);
+        }
+        _ => assert!(rt; false),
+    }
     Ok(())
 }
 
@@ -92,7 +125,9 @@ fn trees_of_all_nodes(rt: HostRuntime) -> Result<(), Fail> {
 const FIRST_FAULTS: &[(&[u8], Option<(u64, u8)>)] = &[
     (b"", Some((1, 1))),
     (b"fleet proof 1", Some((1, 1))),
-    (b"fleet proof 2\n", Some((1, 1))),
+    (b"fleet proof 3\n", Some((1, 1))),
+    (b"fleet proof 22\n", Some((1, 1))),
+    (b"fleet proof 2\n", Some((2, 3))),
     (b"fleet proof 1\n", Some((2, 3))),
     (b"fleet proof 1\nplan yes", Some((2, 2))),
     (b"fleet proof 1\nplan\tyes\n", Some((2, 2))),
@@ -136,6 +171,26 @@ const FIRST_FAULTS: &[(&[u8], Option<(u64, u8)>)] = &[
     (
         b"fleet proof 1\nplan yes\npriced\nscale 1\nrent F2 1\nrent F1 1\n",
         Some((6, 8)),
+    ),
+    (
+        b"fleet proof 1\nplan yes\npriced\nscale 1\ncharge AAA 1 1\n",
+        Some((5, 4)),
+    ),
+    (
+        b"fleet proof 2\nplan yes\npriced\nscale 1\ncharge AAA 0 1\n",
+        Some((5, 6)),
+    ),
+    (
+        b"fleet proof 2\nplan yes\npriced\nscale 1\ncharge ZZZ 1 1\n",
+        Some((5, 7)),
+    ),
+    (
+        b"fleet proof 2\nplan yes\npriced\nscale 1\ncharge AAA 1 0\n",
+        Some((5, 8)),
+    ),
+    (
+        b"fleet proof 2\nplan yes\npriced\nscale 1\ncharge AAA 1 1\nrent F1 1\n",
+        Some((6, 4)),
     ),
     (
         b"fleet proof 1\nplan yes\npriced\nscale 1\nat F1 AAA 0 1\nrent F1 1\n",

@@ -51,7 +51,7 @@ fn prices(alloc: Global, rents: &[i128], value: i128) -> Result<Prices, NoMemory
 
 #[test]
 fn a_leg_without_a_fleet(rt: HostRuntime) -> Result<(), Fail> {
-    let want: &[u8] = b"fleet proof 1\nplan no\nbare X2\nend\n";
+    let want: &[u8] = b"fleet proof 2\nplan no\nbare X2\nend\n";
     let text = written(rt.alloc(), false, &Tree::Bare { leg: 1 })?;
     assert_same(&rt, text.as_deref(), Some(want));
     Ok(())
@@ -59,7 +59,7 @@ fn a_leg_without_a_fleet(rt: HostRuntime) -> Result<(), Fail> {
 
 #[test]
 fn one_assignment_alone(rt: HostRuntime) -> Result<(), Fail> {
-    let want: &[u8] = b"fleet proof 1\nplan yes\nsole\nend\n";
+    let want: &[u8] = b"fleet proof 2\nplan yes\nsole\nend\n";
     let text = written(rt.alloc(), true, &Tree::Sole)?;
     assert_same(&rt, text.as_deref(), Some(want));
     Ok(())
@@ -67,7 +67,7 @@ fn one_assignment_alone(rt: HostRuntime) -> Result<(), Fail> {
 
 #[test]
 fn an_open_leaf_of_no_prices(rt: HostRuntime) -> Result<(), Fail> {
-    let want: &[u8] = b"fleet proof 1\nplan no\nopen pivots 0\nscale 1\nend\n";
+    let want: &[u8] = b"fleet proof 2\nplan no\nopen pivots 0\nscale 1\nend\n";
     let tree = Tree::Open(Prices::zero(rt.alloc()), Cause::Pivots { made: 0 });
     let text = written(rt.alloc(), false, &tree)?;
     assert_same(&rt, text.as_deref(), Some(want));
@@ -80,22 +80,22 @@ fn open_leaves_of_prices(rt: HostRuntime) -> Result<(), Fail> {
         (
             &[1, 1],
             1,
-            b"fleet proof 1\nplan yes\nopen pivots 12\nscale 1\nrent F1 1\nrent F2 1\nat F1 AAA 0 1\nat F1 AAA 481 0\nend\n",
+            b"fleet proof 2\nplan yes\nopen pivots 12\nscale 1\nrent F1 1\nrent F2 1\nat F1 AAA 0 1\nat F1 AAA 481 0\nend\n",
         ),
         (
             &[0, 70],
             -5,
-            b"fleet proof 1\nplan yes\nopen pivots 12\nscale 1\nrent F2 70\nat F1 AAA 0 -5\nat F1 AAA 481 0\nend\n",
+            b"fleet proof 2\nplan yes\nopen pivots 12\nscale 1\nrent F2 70\nat F1 AAA 0 -5\nat F1 AAA 481 0\nend\n",
         ),
         (
             &[30],
             1_000_000_000_000_000_000_000_000_000_000,
-            b"fleet proof 1\nplan yes\nopen pivots 12\nscale 1\nrent F1 30\nat F1 AAA 0 1000000000000000000000000000000\nat F1 AAA 481 0\nend\n",
+            b"fleet proof 2\nplan yes\nopen pivots 12\nscale 1\nrent F1 30\nat F1 AAA 0 1000000000000000000000000000000\nat F1 AAA 481 0\nend\n",
         ),
         (
             &[],
             0,
-            b"fleet proof 1\nplan yes\nopen pivots 12\nscale 1\nat F1 AAA 0 0\nat F1 AAA 481 0\nend\n",
+            b"fleet proof 2\nplan yes\nopen pivots 12\nscale 1\nat F1 AAA 0 0\nat F1 AAA 481 0\nend\n",
         ),
     ];
     for (rents, value, want) in cases {

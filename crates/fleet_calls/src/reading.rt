@@ -13,13 +13,20 @@ use worked_tables::schedules::{
     Files, OVER_THE_DAY_START, ROUND_TRIP, THROUGH_THE_HUB, read, read_from, starting,
 };
 
-/// A station's code, the minutes that a turn takes there, and whether aircraft are maintained there.
-fn station_of(tables: &Tables, station: u32) -> Option<(&[u8], u16, bool)> {
+/// A station's code, the minutes that a turn takes there, whether aircraft are maintained there, and how many may stay
+/// there for a night.
+fn station_of(tables: &Tables, station: u32) -> Option<(&[u8], u16, bool, Option<u32>)> {
     if station >= tables.station_count() {
         return None;
     }
+    let limit = tables.parking(station);
     let station = tables.station(station);
-    Some((station.code.as_slice(), station.extra, station.maintenance))
+    Some((
+        station.code.as_slice(),
+        station.extra,
+        station.maintenance,
+        limit,
+    ))
 }
 
 /// A fleet's name, its aircraft, and its turn.
@@ -52,7 +59,7 @@ fn a_round_trip_reads_as_its_parts(rt: HostRuntime) -> Result<(), Fail> {
     assert_same(
         &rt,
         station_of(&tables, 0),
-        Some((b"AAA".as_slice(), 0, true)),
+        Some((b"AAA".as_slice(), 0, true, None)),
     );
     assert_same(&rt, fleet_of(&tables, 1), Some((b"F2".as_slice(), 1, 30)));
     assert_same(
@@ -85,6 +92,24 @@ fn stations_are_read(rt: HostRuntime) -> Result<(), Fail> {
         (stations[0].maintenance, stations[1].maintenance),
         (false, true),
     );
+    Ok(())
+}
+
+const LIMITED: &[u8] = b"code,extra,maintenance,parking\nAAA,15,yes,10000\nBBB,0,no,-\n";
+
+#[test]
+fn limits_of_parking_are_read(rt: HostRuntime) -> Result<(), Fail> {
+    let tables = read(
+        rt.alloc(),
+        &Files {
+            stations: LIMITED,
+            ..ROUND_TRIP
+        },
+    )?;
+    let wanted = (b"AAA".as_slice(), 15, true, Some(10_000));
+    assert_same(&rt, station_of(&tables, 0), Some(wanted));
+    let wanted = (b"BBB".as_slice(), 0, false, None);
+    assert_same(&rt, station_of(&tables, 1), Some(wanted));
     Ok(())
 }
 

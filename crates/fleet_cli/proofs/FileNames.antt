@@ -1,6 +1,6 @@
 -- Files by number, and what was read of each.
 use Rattle.std.proofs.Common.{◌≡◌, ◌==◌, ℕ, true, List, if◌then◌else◌, refl, sym, ap, ◌∙◌, arith}
-use Rattle.std.proofs.lemmas.Bool.Decides.{nat_tests}
+use Rattle.std.proofs.lemmas.Bool.{eqb-true}
 use Rattle.plan_desk.specs.declared.file.DeskFile.{DeskFile}
 use Rattle.plan_desk.specs.declared.file.DeskFile.TheVariants as file
 use Rattle.fleet_cli.specs.Contents.{content_of, number_of, same_file, with_content}
@@ -31,12 +31,9 @@ at_number file.Plan = refl
 at_number file.Proof = refl
 at_number file.Rotation = refl
 
-same_number : (a b : ℕ) → (a == b) ≡ true → a ≡ b
-same_number a b e = grind (arith, nat_tests)
-
 -- files of one number are one
 pub one_file : (f g : DeskFile) → same_file f g ≡ true → f ≡ g
-one_file f g same = sym (at_number f) ∙ ap file_at (same_number (number_of f) (number_of g) same) ∙ at_number g
+one_file f g same = sym (at_number f) ∙ ap file_at (eqb-true (number_of f) (number_of g) same) ∙ at_number g
 
 pub self_file : (f : DeskFile) → same_file f f ≡ true
 self_file file.Stations = refl

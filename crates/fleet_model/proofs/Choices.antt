@@ -1,19 +1,18 @@
 -- What is added up over the choices of legs, and what over the departures of fleets. What the words for them stand for is
 -- looked at here and in `PeriodMinutes` alone.
-use Rattle.std.proofs.Common.{◌≡◌, ℕ, ◌*◌, ◌<◌, Bool, true, false, if◌then◌else◌, ◌==◌, ◌&&◌, nat_lt, List, ℤ, pos, refl, sym, ◌∙◌, inl, inr, arith}
+use Rattle.std.proofs.Common.{◌≡◌, ℕ, ◌*◌, ◌<◌, Bool, true, false, if◌then◌else◌, ◌==◌, ◌&&◌, nat_lt, List, None, ℤ, pos, refl, sym, ◌∙◌, inl, inr, arith}
 use Rattle.std.proofs.lemmas.Bool.{cases_lt}
 use Rattle.std.proofs.lemmas.Bool.Decides.{nat_tests}
 use Rattle.sums.specs.Below.{count_below, sum_below, sum_below_ℤ}
 use Rattle.sums.proofs.Sums.{sum_below-agree, sum_below-at, sum_below-one, sum_below-swap, sum_below-zero}
+use Rattle.sums.proofs.Tests.{none_some}
 use Rattle.sums.proofs.WholeSums.{sum_below_ℤ-same}
 use Rattle.sums.proofs.WholeSwaps.{sum_below_ℤ-one, sum_below_ℤ-swap, sum_below_ℤ-zero, where_true}
 use Rattle.fleet_model.specs.declared.parts.Pair.{Pair}
 use Rattle.fleet_model.specs.declared.tables.Tables.{Tables}
-use Rattle.fleet_model.specs.Counts.{arrived, departed, fleet_at, has_come, has_left, pair_at, weights_of}
+use Rattle.fleet_model.specs.Counts.{fleet_at, pair_at, weights_of}
 use Rattle.fleet_model.specs.Legal.{HasRoom, IsAssignment}
-use Rattle.fleet_model.specs.Schedule.{IsFlown, IsPair, choice_on, choices_in, departures_in, fleet_by, fleets_in, leg_at, leg_on, legs_in, pair_on, parking_of}
-use Rattle.fleet_model.specs.Times.{laps_of}
-use Rattle.fleet_model.specs.Use.{laps_flown}
+use Rattle.fleet_model.specs.Schedule.{IsFlown, choice_on, choices_in, departures_in, fleet_by, fleets_in, leg_at, leg_on, legs_in, pair_on, parking_of, stations_in}
 
 -- ---- departures
 pub of_departure : (t : Tables) (d : ℕ) → d < departures_in t → leg_at t d < legs_in t
@@ -136,7 +135,6 @@ planned_where t a f assignment known test =
     both false c = refl
 
 -- ---- parking
--- no station has a limit yet
-pub nothing_parked : (t : Tables) (scale : ℕ) (w : Pair → ℕ) → HasRoom t scale w
-unfolding parking_of
-nothing_parked t scale w = record { each = λ s d limit known some within is. absurd (cc is) }
+-- where no station has a limit, there is room
+pub nothing_parked : (t : Tables) (scale : ℕ) (w : Pair → ℕ) → ((s : ℕ) → s < stations_in t → parking_of t s ≡ None) → HasRoom t scale w
+nothing_parked t scale w none = record { each = λ s d limit known some within is. absurd (none_some (sym (none s known) ∙ is)) }

@@ -1,12 +1,12 @@
 -- How far a subproblem can still be narrowed. That no leg may be left out yet is looked at here.
-use Rattle.std.proofs.Common.{◌≡◌, ℕ, ◌≤◌, ◌&&◌, not, nat_lt, if◌then◌else◌, Bool, true, ◌∙◌, ap, arith}
+use Rattle.std.proofs.Common.{ℕ, ◌≤◌, ◌&&◌, not, nat_lt, if◌then◌else◌, ◌∙◌, ap, arith}
 use Rattle.std.proofs.lemmas.Bool.{lt-ltb}
 use Rattle.sums.proofs.Sums.{count_below-le, sum_below-agree, sum_below-bound, sum_below-zero}
 use Rattle.sums.proofs.Tests.{parts_true}
 use Rattle.fleet_model.specs.declared.limits.TheConstants.{MAX_CHOICES}
 use Rattle.fleet_model.specs.declared.tables.Tables.{Tables}
-use Rattle.fleet_model.specs.Kept.{all_pairs, kept_on}
-use Rattle.fleet_model.specs.LeftOut.{KeepLeftOut, StepsAreFew, leaves_out, left_out_on, steps_on}
+use Rattle.fleet_model.specs.Kept.{all_pairs}
+use Rattle.fleet_model.specs.LeftOut.{KeepLeftOut, StepsAreFew, left_out_on, steps_on}
 use Rattle.fleet_model.specs.Schedule.{choices_in, fleet_by, fleets_in, leg_on, legs_in}
 use Rattle.fleet_model.proofs.FewChoices.{few_choices}
 

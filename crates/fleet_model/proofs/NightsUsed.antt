@@ -1,11 +1,11 @@
 -- A period of one day: the aircraft that a fleet uses by its needs and its legs' nights.
-use Rattle.std.proofs.Common.{◌≡◌, ℕ, ◌+◌, Bool, true, false, if◌then◌else◌, ◌==◌, refl, sym, ◌∙◌, ap}
+use Rattle.std.proofs.Common.{◌+◌, if◌then◌else◌, ◌==◌, sym, ◌∙◌, ap}
 use Rattle.sums.specs.Below.{sum_below}
 use Rattle.sums.proofs.Sums.{sum_below-agree}
 use Rattle.fleet_model.specs.Counts.{pair_at, weights_of}
 use Rattle.fleet_model.specs.Laws.{LapsAreNights, UseIsNeedAndNights, night_of_fleet}
 use Rattle.fleet_model.specs.Schedule.{fleet_by, legs_in, stations_in}
-use Rattle.fleet_model.specs.Times.{laps_of, nights_of}
+use Rattle.fleet_model.specs.Times.{laps_of}
 use Rattle.fleet_model.specs.Use.{laps_flown, need_of, used_of}
 use Rattle.fleet_model.proofs.Choices.{planned}
 use Rattle.fleet_model.proofs.PeriodMinutes.{departs_in, nights_are_laps}

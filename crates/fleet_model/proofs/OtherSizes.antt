@@ -232,6 +232,7 @@ module _ (t : Tables) (fleet count : ℕ) (u : Tables) (is : IsOtherSize t fleet
   }
 
   pub parking_same : (s : ℕ) → parking_of u s ≡ parking_of t s
+  unfolding parking_of
   parking_same s = of_sized t fleet count (λ x. parking_of x s ≡ parking_of t s) (λ fits. refl) u is
 
   pub room_same : (scale : ℕ) (w : Weights) → HasRoom t scale w → HasRoom u scale w

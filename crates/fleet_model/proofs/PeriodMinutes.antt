@@ -4,13 +4,12 @@ use Rattle.std.proofs.Common.{◌≡◌, true, ℕ, ◌+◌, ◌-◌, ◌*◌, �
 use Rattle.std.proofs.Math.Nat.{div-add-mod, mod-lt, mul-le-mul_left}
 use Rattle.std.proofs.lemmas.Bool.{cases_lt}
 use Rattle.std.proofs.lemmas.Bool.Decides.{nat_tests}
-use Rattle.std.proofs.lemmas.Grind.{common_steps}
 use Rattle.std.proofs.lemmas.List.{get_or_past}
 use Rattle.fleet_model.specs.declared.limits.TheConstants.{MAX_GROUND_MINUTES, MINUTES_PER_DAY}
 use Rattle.fleet_model.specs.declared.parts.Leg.{Leg}
 use Rattle.fleet_model.specs.declared.parts.Pair.{Pair}
 use Rattle.fleet_model.specs.declared.tables.Tables.{Tables}
-use Rattle.fleet_model.specs.Limits.{IsFleet, IsLeg, IsStation}
+use Rattle.fleet_model.specs.Limits.{IsLeg, IsStation}
 use Rattle.fleet_model.specs.Schedule.{IsPair, day_end, days_in, departures_in, fleet_by, fleet_of, fleets_in, last_of, leg_at, leg_of, legs_in, no_fleet, no_leg, no_station, pair_on, period_of, station_of, stations_in}
 use Rattle.fleet_model.specs.Times.{busy_minutes, departure, laps_of, nights_of, ready_minute}
 
@@ -46,10 +45,7 @@ in_period t n = mod-lt n (some_minutes t)
 pub by_last : (t : Tables) (m : ℕ) → m < period_of t → nat_le m (last_of t) ≡ true
 by_last t m below = grind (arith, nat_tests)
 
--- each day ends within the period, and the last one with it
-pub day_ends : (t : Tables) (d : ℕ) → 0 < d → d ≤ days_in t → day_end d < period_of t
-day_ends t d some within = omega (arith, days_are_period t)
-
+-- the last day ends with the period
 pub last_day_ends : (t : Tables) → day_end (days_in t) ≡ last_of t
 last_day_ends t = ap (λ n. n - 1) (sym (days_are_period t))
 
@@ -96,10 +92,6 @@ few_laps t p known = elim (cases_lt 2 (laps_of t p)) [
       absurd (omega (arith, three, lap_split t p, few_minutes t p known, departs_in t p known, day_or_more t))
   | inr few ↦ few
 ]
-
--- .. and less than three nights
-pub few_nights : (t : Tables) (p : Pair) → IsPair t p → nights_of t p ≤ 2
-few_nights t p known = omega (arith, few_minutes t p known)
 
 -- where the period is one day, laps are nights
 pub nights_are_laps : (t : Tables) (p : Pair) → days_in t ≡ 1 → departure t p < period_of t → nights_of t p ≡ laps_of t p

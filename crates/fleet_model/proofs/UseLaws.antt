@@ -1,11 +1,11 @@
 -- Need is the least stock that suffices, and use is the same at each minute.
-use Rattle.std.proofs.Common.{◌≡◌, ℕ, ◌+◌, ◌*◌, ◌<◌, Bool, true, false, if◌then◌else◌, ◌==◌, ◌&&◌, nat_le, List, refl, ap, ◌∙◌, arith}
+use Rattle.std.proofs.Common.{◌≡◌, ℕ, ◌+◌, ◌*◌, ◌<◌, Bool, true, false, if◌then◌else◌, ◌==◌, ◌&&◌, nat_le, List, ap, ◌∙◌, arith}
 use Rattle.std.proofs.lemmas.Bool.Decides.{nat_tests}
 use Rattle.sums.specs.Below.{sum_below}
 use Rattle.sums.proofs.Sums.{sum_below-agree, sum_below-add, sum_below-swap, sum_below-one, sum_below-zero}
 use Rattle.sums.proofs.Maxima.{max_below-upper, max_below-least}
 use Rattle.fleet_model.specs.declared.tables.Tables.{Tables}
-use Rattle.fleet_model.specs.Schedule.{departures_in, fleet_by, fleets_in, leg_at, leg_of, no_leg, pair_on, period_of, stations_in}
+use Rattle.fleet_model.specs.Schedule.{departures_in, fleets_in, leg_at, leg_of, no_leg, pair_on, period_of, stations_in}
 use Rattle.fleet_model.specs.Times.{departure, busy_minutes, ready_minute, laps_of}
 use Rattle.fleet_model.specs.Counts.{Weights, has_left, has_come, departed, arrived}
 use Rattle.fleet_model.specs.Use.{excess, need_of, stand_of, laps_flown, used_of}

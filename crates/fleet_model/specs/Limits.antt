@@ -1,5 +1,6 @@
 -- What tables keep: their limits, numbers in range, and names that differ.
 use Rattle.std.specs.Prelude.{◌≡◌, ◌≢◌, ℕ, ◌<◌, ◌≤◌, List, length, All, AllPairs, ℤ, pos, neg_ℤ, ◌≤ℤ◌}
+use Rattle.std.specs.Option.{ForSome}
 use Rattle.entries.specs.Names.{IsName, IsStationCode}
 use Rattle.fleet_model.specs.Period.{minutes_of}
 use Rattle.fleet_model.specs.declared.parts.Station.{Station}
@@ -8,11 +9,12 @@ use Rattle.fleet_model.specs.declared.parts.Leg.{Leg}
 use Rattle.fleet_model.specs.declared.parts.PairCost.{PairCost}
 use Rattle.fleet_model.specs.declared.parts.Through.{Through}
 use Rattle.fleet_model.specs.declared.parts.Settings.{Settings}
-use Rattle.fleet_model.specs.declared.limits.TheConstants.{MINUTES_PER_DAY, MAX_PERIOD, MAX_STATIONS, MAX_FLEETS, MAX_LEGS, MAX_THROUGHS, MAX_AIRCRAFT, MAX_GROUND_MINUTES, MAX_COST}
+use Rattle.fleet_model.specs.declared.limits.TheConstants.{MINUTES_PER_DAY, MAX_PERIOD, MAX_STATIONS, MAX_FLEETS, MAX_LEGS, MAX_THROUGHS, MAX_AIRCRAFT, MAX_GROUND_MINUTES, MAX_PARKING, MAX_COST}
 
 pub record IsStation (station : Station) : Type 0 where
   pub code : IsStationCode station.code
   pub extra : station.extra ≤ MAX_GROUND_MINUTES
+  pub parking : ForSome station.parking (λ limit. limit ≤ MAX_PARKING)
 
 pub record IsFleet (fleet : Fleet) : Type 0 where
   pub name : IsName fleet.name

@@ -1,5 +1,5 @@
 -- The parts of tables by their numbers, the period, and the words in which a leg's choices and departures are told.
-use Rattle.std.specs.Prelude.{ℕ, ◌+◌, ◌-◌, ◌*◌, ◌<◌, [], length, slice_index_or, false, Option, None}
+use Rattle.std.specs.Prelude.{ℕ, ◌-◌, ◌*◌, ◌<◌, [], length, slice_index_or, false, Option, None}
 use Rattle.fleet_model.specs.Period.{minutes_of}
 use Rattle.fleet_model.specs.declared.parts.Station.{Station}
 use Rattle.fleet_model.specs.declared.parts.Fleet.{Fleet}
@@ -10,7 +10,7 @@ use Rattle.fleet_model.specs.declared.tables.Tables.{Tables}
 
 -- what stands where the number is of no station, fleet or leg
 abbrev pub no_station : Station
-no_station = record { code = []; extra = 0; maintenance = false }
+no_station = record { code = []; extra = 0; maintenance = false; parking = None }
 
 abbrev pub no_fleet : Fleet
 no_fleet = record { name = []; aircraft = 0; turn = 0 }
@@ -54,8 +54,8 @@ abbrev pub day_end : ℕ → ℕ
 day_end d = d * MINUTES_PER_DAY - 1
 
 -- how many aircraft may stand at a station at the end of a day, where there is a limit
-abbrev pub parking_of : Tables → ℕ → Option ℕ
-parking_of t s = None
+unfoldable pub parking_of : Tables → ℕ → Option ℕ
+parking_of t s = (station_of t s).parking
 
 -- ---- choices: what an assignment chooses of for each leg
 -- how many choices a leg has

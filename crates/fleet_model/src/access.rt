@@ -105,8 +105,7 @@ impl Tables {
         requires { station < stations_in self.now }
         ensures { result ≡ parking_of self.now station }
     {
-        let _station = station;
-        None
+        self.station(station).parking
     }
 
     /// How many choices a leg has: the fleets that may fly it, each at each of its times.

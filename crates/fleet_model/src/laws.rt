@@ -1,7 +1,7 @@
 //! The laws of need and use, over all tables and weights, of kept pairs and of mixed plans. Each function is a law:
 //! its contract is the statement, and it does nothing.
 ghost use Rattle.std.specs.Prelude.{◌≡◌, ◌<◌, ℕ, List, pos};
-ghost use Rattle.fleet_model.specs.declared.limits.TheConstants.{MAX_AIRCRAFT, MAX_CHOICES, MAX_COST, MAX_DEPARTURES, MAX_FLEETS, MAX_GROUND_MINUTES, MAX_LEGS, MAX_PERIOD, MAX_STATIONS, MAX_THROUGHS, MINUTES_PER_DAY};
+ghost use Rattle.fleet_model.specs.declared.limits.TheConstants.{MAX_AIRCRAFT, MAX_CHOICES, MAX_COST, MAX_DEPARTURES, MAX_FLEETS, MAX_GROUND_MINUTES, MAX_LEGS, MAX_PARKING, MAX_PERIOD, MAX_STATIONS, MAX_THROUGHS, MINUTES_PER_DAY};
 ghost use Rattle.fleet_model.specs.declared.refusals.TheConstants.{BAD_FIELD, DUPLICATE, NOT_TEXT, TOO_LONG, TOO_MANY, TO_ITSELF, UNKNOWN_FLEET, UNKNOWN_FLIGHT, UNKNOWN_STATION, WRONG_HEADER, WRONG_WIDTH, ZERO_BLOCK};
 ghost use Rattle.fleet_model.specs.declared.tables.Tables.{Tables};
 ghost use Rattle.fleet_model.specs.Legal.{IsAssignment};
@@ -99,6 +99,7 @@ pub fn limits_in_numbers()
     ensures throughs { MAX_THROUGHS ≡ 2000 }
     ensures aircraft { MAX_AIRCRAFT ≡ 500 }
     ensures ground_minutes { MAX_GROUND_MINUTES ≡ 600 }
+    ensures parking { MAX_PARKING ≡ 10000 }
     ensures cost { MAX_COST ≡ pos 1000000000000 }
     ensures day { MINUTES_PER_DAY ≡ 1440 }
     ensures period { MAX_PERIOD ≡ 7 }

@@ -28,5 +28,8 @@ pub const MAX_AIRCRAFT: u32 = 500;
 /// The longest turn of a fleet and the longest extra time of a station, in minutes.
 pub const MAX_GROUND_MINUTES: u16 = 600;
 
+/// The greatest limit of parking at a station.
+pub const MAX_PARKING: u32 = 10_000;
+
 /// The greatest size of a cost, and the greatest value of a through pair, in cost units.
 pub const MAX_COST: i128 = 1_000_000_000_000;

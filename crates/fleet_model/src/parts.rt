@@ -9,6 +9,8 @@ pub struct Station {
     pub extra: u16,
     /// Whether an aircraft can be maintained here at night.
     pub maintenance: bool,
+    /// How many aircraft may stand here at the end of a day, all fleets together, and none where there is no limit.
+    pub parking: Option<u32>,
 }
 
 /// A fleet: the aircraft of one type.

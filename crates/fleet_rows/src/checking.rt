@@ -1,10 +1,13 @@
 //! What `check` answers of a folder whose proof holds, and in what order it reads and refuses.
 use crate::rows::{Case, Failing, Laid};
 use crate::statuses::{BAD_INPUT, DONE, FAULT, REFUSED};
-use crate::tables::{OPEN_PROOF, PRICED_PROOF};
+use crate::tables::{OLD_PRICED_PROOF, OPEN_PROOF, PRICED_PROOF};
 use plan_desk::DeskFile::{Costs, Fleets, Legs, Plan, Proof, Stations};
 
 const PRICED: Laid<'static> = Laid::Bytes(Proof, PRICED_PROOF);
+
+// A proof of the first version, which is read as before.
+const OLD_PRICED: Laid<'static> = Laid::Bytes(Proof, OLD_PRICED_PROOF);
 
 const OPEN: Laid<'static> = Laid::Bytes(Proof, OPEN_PROOF);
 
@@ -13,12 +16,18 @@ const NO_AIRCRAFT: Laid<'static> = Laid::Bytes(Fleets, b"fleet,aircraft,turn\nF1
 // Prices and rents that refute all assignments where there are no aircraft.
 const REFUTED: Laid<'static> = Laid::Bytes(
     Proof,
+    b"fleet proof 2\nplan no\nrefuted\nscale 1\nrent F1 1\nrent F2 1\n\
+        at F1 AAA 0 1\nat F1 AAA 481 0\nat F2 AAA 0 1\nat F2 AAA 481 0\nend\n",
+);
+
+const OLD_REFUTED: Laid<'static> = Laid::Bytes(
+    Proof,
     b"fleet proof 1\nplan no\nrefuted\nscale 1\nrent F1 1\nrent F2 1\n\
         at F1 AAA 0 1\nat F1 AAA 481 0\nat F2 AAA 0 1\nat F2 AAA 481 0\nend\n",
 );
 
 // The one node is bare where its leg isn't.
-const BROKEN: Laid<'static> = Laid::Bytes(Proof, b"fleet proof 1\nplan yes\nbare X1\nend\n");
+const BROKEN: Laid<'static> = Laid::Bytes(Proof, b"fleet proof 2\nplan yes\nbare X1\nend\n");
 
 const NO_LEGS: Laid<'static> = Laid::Bytes(Legs, b"flight,from,dep,to,arr\n");
 
@@ -36,14 +45,16 @@ const PRICED_LINE: &[u8] = b"holds: cost 200 bound 200\n";
 /// no plan comes with it, the one that stands there isn't looked at.
 pub const HOLDING: &[Case] = &[
     (&[PRICED], DONE, PRICED_LINE),
+    (&[OLD_PRICED], DONE, PRICED_LINE),
     (&[NO_AIRCRAFT, REFUTED], DONE, INFEASIBLE),
+    (&[NO_AIRCRAFT, OLD_REFUTED], DONE, INFEASIBLE),
     (&[NO_AIRCRAFT, REFUTED, Laid::Away(Plan)], DONE, INFEASIBLE),
     (&[NO_AIRCRAFT, REFUTED, BAD_PLAN], DONE, INFEASIBLE),
     // The plan costs more than the bound.
     (
         &[Laid::Bytes(
             Proof,
-            b"fleet proof 1\nplan yes\nopen pivots 0\nscale 1\nend\n",
+            b"fleet proof 2\nplan yes\nopen pivots 0\nscale 1\nend\n",
         )],
         DONE,
         b"holds: cost 200 bound 180\n",
@@ -53,7 +64,7 @@ pub const HOLDING: &[Case] = &[
             NO_LEGS,
             Laid::Bytes(Costs, b"flight,fleet,cost\n"),
             Laid::Bytes(Plan, b"flight,fleet\n"),
-            Laid::Bytes(Proof, b"fleet proof 1\nplan yes\nsole\nend\n"),
+            Laid::Bytes(Proof, b"fleet proof 2\nplan yes\nsole\nend\n"),
         ],
         DONE,
         b"holds: cost 0 bound 0\n",
@@ -66,7 +77,7 @@ pub const SOLVED: &[Case] = &[
     (
         &[
             Laid::Bytes(Costs, b"flight,fleet,cost\nX1,F1,100\nX2,F1,100\n"),
-            Laid::Bytes(Proof, b"fleet proof 1\nplan yes\nsole\nend\n"),
+            Laid::Bytes(Proof, b"fleet proof 2\nplan yes\nsole\nend\n"),
         ],
         DONE,
         PRICED_LINE,
@@ -76,7 +87,7 @@ pub const SOLVED: &[Case] = &[
             Laid::Bytes(Costs, b"flight,fleet,cost\nX1,F1,100\nX2,F2,130\n"),
             Laid::Bytes(
                 Proof,
-                b"fleet proof 1\nplan no\ntrim X1 F1\nrefuted\nscale 1\nat F1 AAA 0 1\nbare X1\nend\n",
+                b"fleet proof 2\nplan no\ntrim X1 F1\nrefuted\nscale 1\nat F1 AAA 0 1\nbare X1\nend\n",
             ),
         ],
         DONE,
@@ -85,7 +96,7 @@ pub const SOLVED: &[Case] = &[
     (
         &[
             Laid::Bytes(Costs, b"flight,fleet,cost\nX1,F1,100\nX1,F2,80\n"),
-            Laid::Bytes(Proof, b"fleet proof 1\nplan no\nbare X2\nend\n"),
+            Laid::Bytes(Proof, b"fleet proof 2\nplan no\nbare X2\nend\n"),
         ],
         DONE,
         INFEASIBLE,

@@ -7,10 +7,14 @@ use plan_desk::DeskFile::{Costs, Fleets, Legs, Plan, Stations};
 // Both legs with the second fleet.
 const SECOND_FLEET: Laid<'static> = Laid::Bytes(Plan, b"flight,fleet\nX1,F2\nX2,F2\n");
 
-const NO_AIRCRAFT: Laid<'static> = Laid::Bytes(Fleets, b"fleet,aircraft,turn\nF1,0,30\nF2,0,30\n");
+/// Fleets without aircraft.
+pub const NO_AIRCRAFT: Laid<'static> = Laid::Bytes(
+    Fleets,
+    b"fleet,aircraft,turn\nF1,0,30\nF2,0,30\n",
+);
 
-// The second leg with the second fleet.
-const THERE: Laid<'static> = Laid::Bytes(Plan, b"flight,fleet\nX1,F1\nX2,F2\n");
+/// The second leg with the second fleet.
+pub const THERE: Laid<'static> = Laid::Bytes(Plan, b"flight,fleet\nX1,F1\nX2,F2\n");
 
 // All pairs but the second leg with the second fleet.
 const THREE_COSTS: Laid<'static> = Laid::Bytes(
@@ -65,20 +69,21 @@ pub const PLANS: &[Case] = &[
     ),
 ];
 
-// Two legs there and two legs back.
-const FOUR_LEGS: Laid<'static> = Laid::Bytes(
+/// Two legs there and two legs back.
+pub const FOUR_LEGS: Laid<'static> = Laid::Bytes(
     Legs,
     b"flight,from,dep,to,arr\nX1,AAA,08:00,BBB,09:00\nY1,AAA,08:00,BBB,09:00\n\
         X2,BBB,10:00,AAA,11:00\nY2,BBB,10:00,AAA,11:00\n",
 );
 
-// Of each of them with the second fleet, and of two with the first.
-const FOUR_COSTS: Laid<'static> = Laid::Bytes(
+/// Of each of them with the second fleet, and of two with the first.
+pub const FOUR_COSTS: Laid<'static> = Laid::Bytes(
     Costs,
     b"flight,fleet,cost\nX1,F1,100\nX2,F1,100\nY1,F2,7\nY2,F2,-9\nX1,F2,1\nX2,F2,1\n",
 );
 
-const BOTH: Laid<'static> = Laid::Bytes(Plan, b"flight,fleet\nX1,F1\nY1,F2\nX2,F1\nY2,F2\n");
+/// A leg there and a leg back with each fleet.
+pub const BOTH: Laid<'static> = Laid::Bytes(Plan, b"flight,fleet\nX1,F1\nY1,F2\nX2,F1\nY2,F2\n");
 
 const SECOND: Laid<'static> = Laid::Bytes(Plan, b"flight,fleet\nX1,F2\nY1,F2\nX2,F2\nY2,F2\n");
 

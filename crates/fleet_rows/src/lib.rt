@@ -5,6 +5,8 @@
 #[cfg(test)]
 mod assertions;
 #[cfg(test)]
+mod charges;
+#[cfg(test)]
 mod checking;
 #[cfg(test)]
 mod costs;
@@ -32,6 +34,8 @@ mod making;
 mod outgrown;
 #[cfg(test)]
 mod outside;
+#[cfg(test)]
+mod parking;
 #[cfg(test)]
 mod periods;
 #[cfg(test)]

@@ -27,7 +27,7 @@ const ON_FIRST: Laid<'static> = Laid::Bytes(Plan, b"flight,fleet\nO0,F1\nR0,F1\n
 // The second fleet has no aircraft, and then lacks the leg out.
 const TRIMMED: Laid<'static> = Laid::Bytes(
     Proof,
-    b"fleet proof 1\nplan yes\ntrim O0 F2\nrefuted\nscale 1\nrent F2 1\n\
+    b"fleet proof 2\nplan yes\ntrim O0 F2\nrefuted\nscale 1\nrent F2 1\n\
         at F2 HUB 0 1\nat F2 HUB 1251 0\nat F2 SAA 0 1\nat F2 SAA 1251 0\n\
         trim R0 F2\nrefuted\nscale 1\nat F2 SAA 0 1\nsole\nend\n",
 );
@@ -68,7 +68,7 @@ const NO_LEGS: Writing = (
         Laid::Bytes(Costs, b"flight,fleet,cost\n"),
         NO_PAIRS,
         Laid::Bytes(Plan, b"flight,fleet\n"),
-        Laid::Bytes(Proof, b"fleet proof 1\nplan yes\nsole\nend\n"),
+        Laid::Bytes(Proof, b"fleet proof 2\nplan yes\nsole\nend\n"),
         Laid::Bytes(
             Rotation,
             b"fleet,round,kind,a,b\nF1,1,unused,0,0\nF2,1,unused,0,0\n",

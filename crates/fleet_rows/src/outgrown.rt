@@ -107,14 +107,14 @@ const RINGS: &[Rings] = &[
         &[],
         NO_NODES,
         b"outcome: unsettled\ncost: none\nbound: 9\nsplits: 0\nopen: 1 nodes, 0 pivots, 0 grew\n",
-        Begin(b"fleet proof 1\nplan no\nopen nodes\nscale 505447028499293771\n"),
+        Begin(b"fleet proof 2\nplan no\nopen nodes\nscale 505447028499293771\n"),
         b"holds: bound 9\n",
     ),
     (
         &[EIGHTEENTH],
         SOLVE,
         b"outcome: unsettled\ncost: none\nbound: 0\nsplits: 0\nopen: 0 nodes, 0 pivots, 1 grew\n",
-        Whole(b"fleet proof 1\nplan no\nopen lift 4 0\nscale 1\nend\n"),
+        Whole(b"fleet proof 2\nplan no\nopen lift 4 0\nscale 1\nend\n"),
         b"holds: bound 0\n",
     ),
 ];

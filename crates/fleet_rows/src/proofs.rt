@@ -10,10 +10,6 @@ use std::test::Fail;
 pub const REFUSALS: &[Text] = &[
     (b"", b"proof refused: line 1 kind 1\n"),
     (b"fleet proof 1", b"proof refused: line 1 kind 1\n"),
-    (
-        b"fleet proof 2\nplan no\nsole\nend\n",
-        b"proof refused: line 1 kind 1\n",
-    ),
     // The last line without its line feed.
     (
         b"fleet proof 1\nplan yes\npriced\nscale 1\nat F2 AAA 0 20\nen",

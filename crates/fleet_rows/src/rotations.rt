@@ -333,7 +333,7 @@ pub const AS_JSON: &[Asked] = &[
             b"{\"bound\":null,\"cost\":null,\"fleets\":[],\"open\":{\"grew\":0,\"nodes\":0,\"pivots\":0},\
                 \"outcome\":\"infeasible\",\"rotations\":[],\"splits\":0}\n",
             &[
-                Laid::Bytes(Proof, b"fleet proof 1\nplan no\nbare X2\nend\n"),
+                Laid::Bytes(Proof, b"fleet proof 2\nplan no\nbare X2\nend\n"),
                 UNROTATED,
             ],
         ),

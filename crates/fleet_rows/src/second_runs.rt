@@ -50,7 +50,7 @@ const THREE_AT_ONCE: Search = Search {
             open: 0 nodes, 0 pivots, 0 grew\n",
     ),
     plan: Whole(OLD_PLAN),
-    proof: Begin(b"fleet proof 1\nplan no\nrefuted\n"),
+    proof: Begin(b"fleet proof 2\nplan no\nrefuted\n"),
     rotation: Whole(NO_ROTATION),
     checked: b"holds: infeasible\n",
 };

@@ -78,7 +78,7 @@ pub const SOLVED: &[Writing] = &[
         INFEASIBLE,
         NONE_LEGAL,
         &[
-            Laid::Bytes(Proof, b"fleet proof 1\nplan no\nbare X2\nend\n"),
+            Laid::Bytes(Proof, b"fleet proof 2\nplan no\nbare X2\nend\n"),
             UNROTATED,
         ],
     ),
@@ -90,7 +90,7 @@ pub const SOLVED: &[Writing] = &[
         INFEASIBLE,
         NONE_LEGAL,
         &[
-            Laid::Bytes(Proof, b"fleet proof 1\nplan no\nbare X1\nend\n"),
+            Laid::Bytes(Proof, b"fleet proof 2\nplan no\nbare X1\nend\n"),
             UNROTATED,
         ],
     ),
@@ -99,7 +99,7 @@ pub const SOLVED: &[Writing] = &[
         INFEASIBLE,
         NONE_LEGAL,
         &[
-            Laid::Bytes(Proof, b"fleet proof 1\nplan no\nbare X1\nend\n"),
+            Laid::Bytes(Proof, b"fleet proof 2\nplan no\nbare X1\nend\n"),
             UNROTATED,
         ],
     ),
@@ -115,7 +115,7 @@ pub const UNSOLVED: &[Writing] = &[
         &[
             Laid::Bytes(
                 Proof,
-                b"fleet proof 1\nplan no\ntrim X1 F1\nrefuted\nscale 1\nat F1 AAA 0 1\nbare X1\nend\n",
+                b"fleet proof 2\nplan no\ntrim X1 F1\nrefuted\nscale 1\nat F1 AAA 0 1\nbare X1\nend\n",
             ),
             UNROTATED,
         ],
@@ -127,7 +127,7 @@ pub const UNSOLVED: &[Writing] = &[
         &[
             Laid::Bytes(
                 Proof,
-                b"fleet proof 1\nplan no\ntrim X1 F1\nrefuted\nscale 1\nrent F1 1\nat F1 AAA 0 1\n\
+                b"fleet proof 2\nplan no\ntrim X1 F1\nrefuted\nscale 1\nrent F1 1\nat F1 AAA 0 1\n\
                     at F1 AAA 481 0\nat F1 BBB 0 1\nat F1 BBB 481 0\nbare X1\nend\n",
             ),
             UNROTATED,
@@ -172,7 +172,7 @@ pub const CALLS: &[Failing] = &[
             &[OLD],
             FAULT,
             b"fault: proof.txt\n",
-            &[NEW_PLAN, Laid::Bytes(Proof, b"fleet proof 1\nplan yes\n")],
+            &[NEW_PLAN, Laid::Bytes(Proof, b"fleet proof 2\nplan yes\n")],
         ),
         &[(7, 23)],
         &[],

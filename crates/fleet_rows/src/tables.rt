@@ -35,17 +35,21 @@ pub const ROTATION: &[u8] = b"fleet,round,kind,a,b\nF1,1,tour,1,2\nF1,1,leg,X1,0
 pub const NO_ROTATION: &[u8] = b"fleet,round,kind,a,b\n";
 
 /// The proof of a solve in which each leg has one choice, and these are legal.
-pub const SOLE_PROOF: &[u8] = b"fleet proof 1\nplan yes\nsole\nend\n";
+pub const SOLE_PROOF: &[u8] = b"fleet proof 2\nplan yes\nsole\nend\n";
 
 /// What a solve of the first run without pivots prints.
 pub const OPEN: &[u8] = b"outcome: unsettled\ncost: none\nbound: 180\nsplits: 0\n\
     open: 0 nodes, 1 pivots, 0 grew\n";
 
 /// The proof that it writes.
-pub const OPEN_PROOF: &[u8] = b"fleet proof 1\nplan no\nopen pivots 0\nscale 1\nend\n";
+pub const OPEN_PROOF: &[u8] = b"fleet proof 2\nplan no\nopen pivots 0\nscale 1\nend\n";
 
 /// A proof that comes with the plan of the first run: its prices bound each assignment by the plan's cost.
-pub const PRICED_PROOF: &[u8] = b"fleet proof 1\nplan yes\npriced\nscale 1\nat F2 AAA 0 20\nend\n";
+pub const PRICED_PROOF: &[u8] = b"fleet proof 2\nplan yes\npriced\nscale 1\nat F2 AAA 0 20\nend\n";
+
+/// The same in a text of the first version.
+pub const OLD_PRICED_PROOF: &[u8] =
+    b"fleet proof 1\nplan yes\npriced\nscale 1\nat F2 AAA 0 20\nend\n";
 
 /// The files of the first run, in the order in which `judge` reads them.
 pub const FIRST_RUN: [(DeskFile, &[u8]); 6] = [

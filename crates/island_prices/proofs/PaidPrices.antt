@@ -19,7 +19,7 @@ use Rattle.dual_bound.specs.Worth.{cost_units, worth_of}
 use Rattle.dual_bound.specs.WrittenOrder.{ArePricesInOrder, IsFigure}
 use Rattle.dual_bound.specs.declared.prices.Prices.{Prices}
 use Rattle.dual_bound.proofs.Charges.{flown_worth, no_rise}
-use Rattle.dual_bound.proofs.NoCharges.{none_proper}
+use Rattle.dual_bound.proofs.NoCharges.{none_in_order, none_proper}
 use Rattle.island_prices.specs.Paid.{any_below, beyond_at, beyond_of, first_beyond, fleet_if, has_beyond, is_beyond, paid_price, paid_prices, paid_rent}
 use Rattle.island_prices.specs.Payback.{AreApart, AreCovered, AreQuiet, PaysBack}
 use Rattle.island_prices.specs.Rises.{AreRises, moved_price}
@@ -179,7 +179,7 @@ module _ (t : Tables) (prices : Prices) (rises : List Rise) (least : List ℕ) (
           subst IsFigure (sym (get_or-list_below (paid_rent prices rounds) (fleets_in t) k d known)) (figure (paid_rent prices rounds k) (rent_fits t (paid_rent prices rounds) (paid_price prices rises rounds) fits k known));
       steps = steps_in_order t (paid_price prices rises rounds)
           (λ f s m known within period. figure (paid_price prices rises rounds f s m) (price_fits t (paid_rent prices rounds) (paid_price prices rises rounds) fits f s m known within period));
-      no_charges = refl;
+      charges = none_in_order t (paid_prices t prices rises rounds) refl;
     }
 
     pub are_of_tables : ArePricesOf t (paid_prices t prices rises rounds)

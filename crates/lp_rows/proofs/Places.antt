@@ -43,7 +43,7 @@ three_tests false true true = refl
 three_tests false true false = refl
 three_tests false false b = refl
 
-masked_zero : (b : Bool) → where_true b (pos 0) ≡ pos 0
+pub masked_zero : (b : Bool) → where_true b (pos 0) ≡ pos 0
 masked_zero true = refl
 masked_zero false = refl
 

@@ -15,7 +15,7 @@ use Rattle.fleet_model.specs.Schedule.{fleet_by, fleet_of, fleets_in, legs_in, n
 use Rattle.fleet_model.specs.Times.{laps_of}
 use Rattle.fleet_model.proofs.CostLookup.{found_fits}
 use Rattle.fleet_model.proofs.PeriodMinutes.{few_laps}
-use Rattle.fleet_model.proofs.ParkingLimits.{few_parked}
+use Rattle.fleet_model.proofs.ParkingLimits.{few_at}
 use Rattle.row_store.specs.Problem.{IsProblem, entry}
 use Rattle.row_store.specs.declared.problem.Rows.{Rows}
 use Rattle.lp_rows.specs.declared.kinds.Column.{Column}
@@ -65,11 +65,7 @@ small_side : (t : Tables) (starts : Starts) (line : Line) → IsLine t starts li
 small_side t starts (Cover l) known = omega arith
 small_side t starts (Balance n) known = omega arith
 small_side t starts (Count f) known = let fits : IsFleet (fleet_of t f) = t.in_range.fleets_fit.each f no_fleet known in omega (arith, fits.aircraft)
-small_side t starts (Parking p) known = small_limit (parking_of t p.station) (few_parked t p.station)
-  where
-    small_limit : (o : Option ℕ) → ((limit : ℕ) → o ≡ Some limit → limit ≤ 10000) → unwrap_or o 0 ≤ 10000
-    small_limit (Some limit) few = few limit refl
-    small_limit None few = omega arith
+small_side t starts (Parking p) known = few_at t p.station
 
 within_of : (c : ℤ) → IsCost c → IsWithin c
 within_of c fits = omega (arith, ints, fits.no_less, fits.no_more)

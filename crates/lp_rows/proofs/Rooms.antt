@@ -11,7 +11,7 @@ use Rattle.lp_rows.specs.Layout.{park_at, parking_days}
 use Rattle.lp_rows.proofs.ListSums.{test_out}
 use Rattle.lp_rows.proofs.Picks.{one_before}
 
-two_deep : (a b : Bool) (z : ℤ) → where_true (a && b) z ≡ where_true a (where_true b z)
+pub two_deep : (a b : Bool) (z : ℤ) → where_true (a && b) z ≡ where_true a (where_true b z)
 two_deep true b z = refl
 two_deep false b z = refl
 

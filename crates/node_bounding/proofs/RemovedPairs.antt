@@ -16,7 +16,7 @@ use Rattle.dual_bound.specs.WrittenOrder.{IsStepInOrder}
 use Rattle.dual_bound.specs.declared.prices.Prices.{Prices}
 use Rattle.dual_bound.specs.declared.trees.Tree.{Tree}
 use Rattle.dual_bound.proofs.Charges.{no_rise}
-use Rattle.dual_bound.proofs.NoCharges.{none_proper}
+use Rattle.dual_bound.proofs.NoCharges.{none_in_order, none_proper}
 use Rattle.dual_bound.proofs.StepOrder.{zero_figure}
 use Rattle.presolve.specs.Removals.{AreRefuted, kept_after, pair_of, without}
 use Rattle.presolve.specs.declared.trims.Trim.{Trim as Removal}
@@ -95,6 +95,6 @@ zero_good t = record {
     one_each = length-list_below (λ f. pos 0) (fleets_in t);
     rents = λ k d within. rw (get_or-list_below (λ f. pos 0) (fleets_in t) k d (omega (arith, within, length-list_below (λ f. pos 0) (fleets_in t)))) zero_figure;
     steps = record { each = All-nil (IsStepInOrder t); follow = tt; no_lone_zero = tt };
-    no_charges = refl;
+    charges = none_in_order t (zero_prices t) refl;
   };
 }

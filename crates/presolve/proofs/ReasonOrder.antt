@@ -14,6 +14,7 @@ use Rattle.dual_bound.specs.Order.{step_follows}
 use Rattle.dual_bound.specs.WrittenOrder.{ArePricesInOrder, AreStepsInOrder, IsFigure, IsStepInOrder, NoLoneZero, StepsFollow, goes_on}
 use Rattle.dual_bound.specs.declared.prices.Prices.{Prices}
 use Rattle.dual_bound.specs.declared.prices.PriceStep.{PriceStep}
+use Rattle.dual_bound.proofs.NoCharges.{none_in_order}
 use Rattle.dual_bound.proofs.StepOrder.{one_figure, zero_figure}
 use Rattle.presolve.specs.Reasons.{reason_rent, reason_steps, steps_at, steps_until}
 use Rattle.presolve.specs.declared.rule.Rule.{Rule}
@@ -171,7 +172,7 @@ reason_in_order t why p prices pair flies one rents steps none = record {
   one_each = ap length rents ∙ length-list_below (reason_rent why (fleet_by t p)) (fleets_in t);
   rents = subst (λ xs. All IsFigure xs) (sym rents) (λ k d below. figure_at k d (bound k below));
   steps = subst (λ xs. AreStepsInOrder t xs) (sym steps) (steps_in_order t why p pair flies);
-  no_charges = none;
+  charges = none_in_order t prices none;
 }
   where
     bound : (k : ℕ) → k < length (list_below (reason_rent why (fleet_by t p)) (fleets_in t)) → k < fleets_in t

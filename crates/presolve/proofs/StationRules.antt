@@ -1,5 +1,6 @@
 -- Where no kept pair of a fleet lands where a pair of it departs, or departs where it lands, the pair can't be flown.
 use Rattle.std.proofs.Common.{◌≡◌, ℕ, ◌<◌, Bool, true, false, if◌then◌else◌, ◌==◌, ◌&&◌, pos, negsuc, ◌+ℤ◌, ◌-ℤ◌, ◌*ℤ◌, ◌≤ℤ◌, ◌<ℤ◌, refl, ◌∙◌, ap, arith}
+use Rattle.std.proofs.lemmas.Bool.{eqb-true}
 use Rattle.std.proofs.lemmas.Bool.Decides.{nat_tests}
 use Rattle.std.proofs.lemmas.Int.{ints}
 use lib.IntN.{zero-*ℤ}
@@ -77,9 +78,6 @@ own_departure false here there laps e f g = cc
 own_departure true true there laps e f g = cc
 own_departure true false false laps e f g = cc
 
-fleets_same : (f g : ℕ) → (f == g) ≡ true → f ≡ g
-fleets_same f g e = grind (arith, nat_tests)
-
 module _ (t : Tables) (keeps : Domains) (p : Pair) (pair : IsPair t p) (flies : fleet_by t p < fleets_in t) where
   -- by the first rule
   abbrev flown : Domains
@@ -88,7 +86,7 @@ module _ (t : Tables) (keeps : Domains) (p : Pair) (pair : IsPair t p) (flies : 
   arrival_adds : landings t keeps (fleet_by t p) (leg_of t p.leg).from ≡ 0 → (l : ℕ) → l < legs_in t → NoneAddsLess t flown rule.NoArrival p l (pos 0)
   arrival_adds none l within = record {
     each = λ c known kept. of_arrival (fleet_by t (leg_on l c) == fleet_by t p) ((leg_of t l).from == (leg_of t p.leg).from) ((leg_of t l).to == (leg_of t p.leg).from) (laps_of t (leg_on l c))
-        (λ own. lands_not t keeps (fleet_by t p) (leg_of t p.leg).from l c none within known (was_kept keeps p.leg p.choice true (leg_on l c) kept) (fleets_same _ _ own));
+        (λ own. lands_not t keeps (fleet_by t p) (leg_of t p.leg).from l c none within known (was_kept keeps p.leg p.choice true (leg_on l c) kept) (eqb-true _ _ own));
   }
 
   own_arrival_adds : keeps p ≡ true → landings t keeps (fleet_by t p) (leg_of t p.leg).from ≡ 0 → NoneAddsLess t flown rule.NoArrival p p.leg (pos 1)
@@ -102,7 +100,7 @@ module _ (t : Tables) (keeps : Domains) (p : Pair) (pair : IsPair t p) (flies : 
   departure_adds : departures t keeps (fleet_by t p) (leg_of t p.leg).to ≡ 0 → (l : ℕ) → l < legs_in t → NoneAddsLess t flown rule.NoDeparture p l (pos 0)
   departure_adds none l within = record {
     each = λ c known kept. of_departure (fleet_by t (leg_on l c) == fleet_by t p) ((leg_of t l).from == (leg_of t p.leg).to) ((leg_of t l).to == (leg_of t p.leg).to) (laps_of t (leg_on l c))
-        (λ own. departs_not t keeps (fleet_by t p) (leg_of t p.leg).to l c none within known (was_kept keeps p.leg p.choice true (leg_on l c) kept) (fleets_same _ _ own));
+        (λ own. departs_not t keeps (fleet_by t p) (leg_of t p.leg).to l c none within known (was_kept keeps p.leg p.choice true (leg_on l c) kept) (eqb-true _ _ own));
   }
 
   own_departure_adds : keeps p ≡ true → departures t keeps (fleet_by t p) (leg_of t p.leg).to ≡ 0 → NoneAddsLess t flown rule.NoDeparture p p.leg (pos 1)

@@ -22,6 +22,7 @@ use Rattle.lp_rows.specs.Points.{node_count, park_count, priced_count}
 use Rattle.lp_rows.proofs.ListSums.{all_zero}
 use Rattle.lp_rows.proofs.Picks.{pick_nodes}
 use Rattle.lp_rows.proofs.LinePlaces.{balance_there, before, count_there, cover_there, node_there, node_within, over_lines, parking_there}
+use Rattle.lp_rows.proofs.Rooms.{two_deep}
 use Rattle.price_lift.proofs.Parks.{number_of_park, pick_park, same_as}
 
 -- ---- tests
@@ -36,12 +37,8 @@ times_test : (b : Bool) (z w : ℤ) → z *ℤ (if b then w else pos 0) ≡ wher
 times_test true z w = refl
 times_test false z w = *ℤ-zero z
 
-two_tests : (a b : Bool) (z : ℤ) → where_true (a && b) z ≡ where_true a (where_true b z)
-two_tests true b z = refl
-two_tests false b z = refl
-
 three_tests : (a b c : Bool) (z : ℤ) → where_true (a && (b && c)) z ≡ where_true a (where_true b (where_true c z))
-three_tests true b c z = two_tests b c z
+three_tests true b c z = two_deep b c z
 three_tests false b c z = refl
 
 module _ (t : Tables) (starts : Starts) (y : ℕ → ℤ) where
@@ -214,7 +211,7 @@ module _ (t : Tables) (starts : Starts) (y : ℕ → ℤ) where
     ground_counts : sum_below_ℤ (λ f. of_fleet f *ℤ count_entry t starts f (Ground a)) (fleets_in t) ≡ where_true (length (starts a.fleet a.station) == a.place + 1) (of_fleet a.fleet)
     ground_counts =
         sum_below_ℤ-same (λ f. of_fleet f *ℤ one_if (passes_start starts f a)) (λ f. where_true (a.fleet == f) (where_true (length (starts f a.station) == a.place + 1) (of_fleet f))) (fleets_in t)
-        (λ f known. times_one_if (passes_start starts f a) (of_fleet f) ∙ two_tests (f == a.fleet) (length (starts f a.station) == a.place + 1) (of_fleet f)
+        (λ f known. times_one_if (passes_start starts f a) (of_fleet f) ∙ two_deep (f == a.fleet) (length (starts f a.station) == a.place + 1) (of_fleet f)
         ∙ ap (λ c. where_true c (where_true (length (starts f a.station) == a.place + 1) (of_fleet f))) (flip f a.fleet))
         ∙ sum_below_ℤ-one a.fleet (λ f. where_true (length (starts f a.station) == a.place + 1) (of_fleet f)) (fleets_in t) is_node.fleet
 

@@ -20,8 +20,8 @@ use Rattle.dual_bound.specs.declared.mixed.Mixed.{Mixed}
 use Rattle.dual_bound.specs.declared.prices.Prices.{Prices}
 use Rattle.price_lift.specs.Parts.{weights_at}
 use Rattle.price_lift.specs.Steps.{ArePricesBy, prices_by}
+use Rattle.price_lift.proofs.ChargeOrder.{charges_in_order}
 use Rattle.price_lift.proofs.Minutes.{nodes_rise}
-use Rattle.price_lift.proofs.NoParking.{no_charges_yet}
 use Rattle.price_lift.proofs.StepOrder.{steps_in_order}
 use Rattle.price_lift.proofs.WeightOrder.{weights_follow, weights_in_order}
 
@@ -48,18 +48,21 @@ prices_in_order t keeps duals prices row by = subst (ArePricesInOrder t) (sym by
     rent : ℕ → ℤ
     rent f = neg_ℤ (number_of (reduced duals) (length (all_nodes t by.starts) + f))
 
+    opposite_figure : (k : ℕ) → IsFigure (neg_ℤ (number_of (reduced duals) k))
+    opposite_figure k = figure (neg_ℤ (number_of (reduced duals) k)) (opposite_within (number_of (reduced duals) k) (is_row.within k))
+
     in_order : ArePricesInOrder t (prices_by t by.starts (reduced duals))
     in_order = record {
       scale = figure (reduced duals).den is_row.den_within;
       one_each = length-list_below (λ f. neg_ℤ (number_of (reduced duals) (length (all_nodes t by.starts) + f))) (fleets_in t);
       rents = λ k d below.
           subst IsFigure (sym (get_or-list_below (λ f. neg_ℤ (number_of (reduced duals) (length (all_nodes t by.starts) + f))) (fleets_in t) k d (omega (arith, below, length-list_below (λ f. neg_ℤ (number_of (reduced duals) (length (all_nodes t by.starts) + f))) (fleets_in t)))))
-          (figure (neg_ℤ (number_of (reduced duals) (length (all_nodes t by.starts) + k))) (opposite_within (number_of (reduced duals) (length (all_nodes t by.starts) + k)) (is_row.within (length (all_nodes t by.starts) + k))));
+          (opposite_figure (length (all_nodes t by.starts) + k));
       steps = steps_in_order t by.starts (number_of (reduced duals))
           (λ f s known within some. nodes_rise t keeps f s (by.starts f s) (by.network.each f s known within))
           (λ f s p known within below. early t keeps f s (by.starts f s) (by.network.each f s known within) p below)
           (λ k. figure (number_of (reduced duals) k) (is_row.within k));
-      no_charges = no_charges_yet t (λ k. number_of (reduced duals) (length (all_nodes t by.starts) + fleets_in t + k));
+      charges = charges_in_order t (λ k. number_of (reduced duals) (length (all_nodes t by.starts) + fleets_in t + k)) (λ k. opposite_figure (length (all_nodes t by.starts) + fleets_in t + k));
     }
 
 -- ---- weights

@@ -42,7 +42,7 @@ use Rattle.price_lift.specs.Prices.{AreByLines}
 use Rattle.price_lift.proofs.DownColumns.{at_minute, down, down_flight, down_ground, down_left_out, down_room, down_sides, down_slack, of_fleet, of_node}
 use Rattle.price_lift.proofs.ChargedArcs.{DoRiseByCharges}
 use Rattle.price_lift.proofs.LeastBounds.{below_unwrapped}
-use Rattle.price_lift.proofs.ParkCharges.{charge_is, factor_out, limited_days, limits_charged, number_is, passed_charge}
+use Rattle.price_lift.proofs.ParkCharges.{charge_is, factor_out, limits_charged, number_is, passed_charge}
 use Rattle.price_lift.proofs.Parks.{number_of_park, park_within}
 use Rattle.lp_rows.proofs.LinePlaces.{balance_there, before, count_there, node_there, node_within}
 use Rattle.price_lift.proofs.Minutes.{IsAtPlace, Rise, at_place, in_node, later, nodes_rise, one_place, some_place, test_of}

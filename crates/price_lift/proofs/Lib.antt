@@ -2,6 +2,7 @@ pub mod ArcRises
 pub mod BasicWeights
 pub mod ByLines
 pub mod ChargeLists
+pub mod ChargeOrder
 pub mod ChargedArcs
 pub mod Columns
 pub mod DownColumns
@@ -17,7 +18,6 @@ pub mod Lifts
 pub mod MadePrices
 pub mod Minutes
 pub mod Networks
-pub mod NoParking
 pub mod OfTables
 pub mod ParkCharges
 pub mod Parks

@@ -22,25 +22,19 @@ use Rattle.lp_rows.specs.Layout.{Starts, park_of_number, parking_days}
 use Rattle.lp_rows.specs.Points.{node_count, park_count, priced_count}
 use Rattle.lp_rows.proofs.LinePlaces.{parking_there}
 use Rattle.lp_rows.proofs.ListSums.{all_zero}
+use Rattle.lp_rows.proofs.Places.{masked_zero}
 use Rattle.dual_bound.specs.Prices.{AreCharges, charge_of}
 use Rattle.dual_bound.specs.Worth.{charges_of}
 use Rattle.dual_bound.specs.declared.prices.Prices.{Prices}
 use Rattle.dual_bound.proofs.Charges.{charge_after, day_within, some_day}
+use Rattle.dual_bound.proofs.Parking.{last_of_day}
 use Rattle.price_lift.specs.Prices.{AreByLines}
 use Rattle.price_lift.proofs.DownColumns.{of_park, of_passed}
-use Rattle.price_lift.proofs.Parks.{no_park, number_of_park, over_parks, park_is, park_number, park_within, pick_park, same_as}
+use Rattle.price_lift.proofs.Parks.{limited_days, no_park, number_of_park, over_parks, park_is, park_number, park_within, pick_park, same_as}
 
 -- a factor of what is taken off so many times
 pub factor_out : (h r a : ℤ) → neg_ℤ (h *ℤ r) *ℤ a ≡ neg_ℤ h *ℤ (r *ℤ a)
 factor_out h r a = neg_ℤ-*ℤ (h *ℤ r) a ∙ ap neg_ℤ (*ℤ_assoc h r a) ∙ sym (neg_ℤ-*ℤ h (r *ℤ a))
-
--- a station with a limit has one at the end of each day
-pub limited_days : (t : Tables) (s : ℕ) → 0 < parking_days t s → parking_days t s ≡ days_in t
-limited_days t s some = all_or_none (is_some (parking_of t s)) some
-  where
-    all_or_none : (b : Bool) → 0 < (if b then days_in t else 0) → (if b then days_in t else 0) ≡ days_in t
-    all_or_none true some = refl
-    all_or_none false some = absurd (omega (arith, some))
 
 -- where there is no limit, nothing is charged
 pub none_after : (t : Tables) (prices : Prices) → AreCharges t prices → (s m : ℕ) → s < stations_in t → m < period_of t → parking_of t s ≡ None → charge_after prices s m ≡ pos 0
@@ -58,9 +52,6 @@ day_of m d some is = omega (arith, is)
 
 ends_day : (m d : ℕ) → 0 < d → m ≡ day_end d → (m + 1) % MINUTES_PER_DAY ≡ 0
 ends_day m d some is = omega (arith, is)
-
-at_day_end : (m : ℕ) → (m + 1) % MINUTES_PER_DAY ≡ 0 → m ≡ day_end ((m + 1) / MINUTES_PER_DAY)
-at_day_end m ends = omega (arith, ends)
 
 module _ (t : Tables) (starts : Starts) (prices : Prices) (value : ℕ → ℤ) (by : AreByLines t starts value prices) (h : ℤ) (y : ℕ → ℤ)
     (scaled : (j : ℕ) → j < priced_count t starts → y (legs_in t + j) ≡ h *ℤ value (legs_in t + j)) where
@@ -101,7 +92,7 @@ module _ (t : Tables) (starts : Starts) (prices : Prices) (value : ℕ → ℤ) 
     at_limit : (m + 1) % MINUTES_PER_DAY ≡ 0 → 0 < parking_days t n.station → of_passed t starts y n ≡ neg_ℤ (h *ℤ charge_of prices n.station ((m + 1) / MINUTES_PER_DAY))
     at_limit ends limited =
         let known : IsPark t day_there = record { station = within; some = some_day m ends; day = omega (arith, day_within t m period ends, limited_days t n.station limited) } in
-        pick_park t passes (of_park t starts y) day_there known (both_true (n.station == n.station) (m == day_end ((m + 1) / MINUTES_PER_DAY)) (equal_number n.station n.station refl) (equal_number m (day_end ((m + 1) / MINUTES_PER_DAY)) (at_day_end m ends)))
+        pick_park t passes (of_park t starts y) day_there known (both_true (n.station == n.station) (m == day_end ((m + 1) / MINUTES_PER_DAY)) (equal_number n.station n.station refl) (equal_number m (day_end ((m + 1) / MINUTES_PER_DAY)) (last_of_day m ends)))
         (λ q is e. let at = passed q e in same_as q day_there (both_true (q.station == n.station) (q.day == (m + 1) / MINUTES_PER_DAY) (equal_number q.station n.station at.0) (equal_number q.day ((m + 1) / MINUTES_PER_DAY) (day_of m q.day is.some at.1))))
         ∙ number_is day_there known
 
@@ -117,16 +108,12 @@ module _ (t : Tables) (starts : Starts) (prices : Prices) (value : ℕ → ℤ) 
               let none : parking_days t n.station ≡ 0 = omega arith in
               none_passed (λ q known station ends. omega (arith, known.some, known.day, ap (parking_days t) station, none))
               ∙ nothing (where_true ((m + 1) % MINUTES_PER_DAY == 0) (charge_of prices n.station ((m + 1) / MINUTES_PER_DAY)))
-              (ap (where_true ((m + 1) % MINUTES_PER_DAY == 0)) (no_limit none ((m + 1) / MINUTES_PER_DAY)) ∙ of_zero ((m + 1) % MINUTES_PER_DAY == 0))
+              (ap (where_true ((m + 1) % MINUTES_PER_DAY == 0)) (no_limit none ((m + 1) / MINUTES_PER_DAY)) ∙ masked_zero ((m + 1) % MINUTES_PER_DAY == 0))
         ])
         (λ e.
         none_passed (λ q known station ends. false≢true (sym e ∙ equal_number _ _ (ends_day m q.day known.some ends)))
         ∙ nothing (where_true ((m + 1) % MINUTES_PER_DAY == 0) (charge_of prices n.station ((m + 1) / MINUTES_PER_DAY))) (ap (λ b. where_true b (charge_of prices n.station ((m + 1) / MINUTES_PER_DAY))) e))
       where
-        of_zero : (b : Bool) → where_true b (pos 0) ≡ pos 0
-        of_zero true = refl
-        of_zero false = refl
-
         nothing : (z : ℤ) → z ≡ pos 0 → pos 0 ≡ neg_ℤ (h *ℤ z)
         nothing z none = sym (ap (λ w. neg_ℤ (h *ℤ w)) none ∙ ap neg_ℤ (*ℤ-zero h))
 

@@ -1,6 +1,6 @@
--- At which number each day of a station with a limit stands, and sums over all of them.
-use Rattle.std.proofs.Common.{◌≡◌, ℕ, ◌+◌, ◌-◌, ◌<◌, Bool, true, false, ◌==◌, ℤ, pos, sym, ◌∙◌, ap, subst, arith}
-use Rattle.std.proofs.lemmas.Bool.{eqb-true}
+-- At which number each day of a station with a limit stands, in which order, and sums over all of them.
+use Rattle.std.proofs.Common.{◌≡◌, ℕ, ◌+◌, ◌-◌, ◌<◌, Bool, true, false, if◌then◌else◌, ◌==◌, is_some, ℤ, pos, refl, sym, ◌∙◌, ap, subst, ◌⊎◌, inl, inr, arith}
+use Rattle.std.proofs.lemmas.Bool.{cases_order, eqb-true}
 use Rattle.sums.specs.Below.{sum_below, sum_below_ℤ}
 use Rattle.sums.proofs.Naturals.{equal_number}
 use Rattle.sums.proofs.Places.{get_or-list_below, length-list_below}
@@ -8,7 +8,7 @@ use Rattle.sums.proofs.Tests.{parts_true, same_tests}
 use Rattle.sums.proofs.WholeSums.{sum_below_ℤ-same}
 use Rattle.sums.proofs.WholeSwaps.{sum_below_ℤ-one, where_true}
 use Rattle.fleet_model.specs.declared.tables.Tables.{Tables}
-use Rattle.fleet_model.specs.Schedule.{stations_in}
+use Rattle.fleet_model.specs.Schedule.{days_in, parking_of, stations_in}
 use Rattle.lp_rows.specs.declared.kinds.Park.{Park}
 use Rattle.lp_rows.specs.Entries.{IsPark, same_park}
 use Rattle.lp_rows.specs.Layout.{park_at, park_of_number, parking_days, parks_at}
@@ -22,6 +22,18 @@ pub same_as : (p q : Park) → same_park p q ≡ true → p ≡ q
 same_as p q e =
     let both = parts_true (p.station == q.station) (p.day == q.day) e in
     ap (λ s. record { station = s; day = p.day }) (eqb-true p.station q.station both.0) ∙ ap (λ d. record { station = q.station; day = d }) (eqb-true p.day q.day both.1)
+
+-- a station with a limit has one at the end of each day
+pub limited_days : (t : Tables) (s : ℕ) → 0 < parking_days t s → parking_days t s ≡ days_in t
+limited_days t s some = all_or_none (is_some (parking_of t s)) some
+  where
+    all_or_none : (b : Bool) → 0 < (if b then days_in t else 0) → (if b then days_in t else 0) ≡ days_in t
+    all_or_none true some = refl
+    all_or_none false some = absurd (omega (arith, some))
+
+-- a day comes before another: its station does, or it is an earlier day there
+abbrev pub ParkBefore : Park → Park → Type 0
+ParkBefore p q = (p.station < q.station) ⊎ ((p.station ≡ q.station) × (p.day < q.day))
 
 module _ (t : Tables) where
   -- the number of a day: how many stand before those of its station, and the day's own
@@ -52,6 +64,20 @@ module _ (t : Tables) where
         known = subst (IsPark t) there (record { station = at.known; some = omega arith; day = omega (arith, at.within) });
         is = subst (λ p. number_of_park p ≡ k) there (omega (arith, at.is));
       }
+
+  -- days of lower numbers come before
+  in_order : (p q : Park) → IsPark t p → IsPark t q → number_of_park p < number_of_park q → ParkBefore p q
+  in_order p q known there less = elim (cases_order p.station q.station) [
+    | inl before ↦ inl before
+    | inr (inl same) ↦ inr (same, omega (arith, known.some, there.some, less, ap (sum_below (parking_days t)) same))
+    | inr (inr after) ↦ absurd (omega (arith, less, within_sum (parking_days t) p.station q.station (q.day - 1) after (omega (arith, there.some, there.day))))
+  ]
+
+  pub park_order : (j k : ℕ) → j < k → k < park_count t → ParkBefore (park_of_number t j) (park_of_number t k)
+  park_order j k order below =
+      let first = park_number j (omega (arith, order, below)) in
+      let second = park_number k below in
+      in_order (park_of_number t j) (park_of_number t k) first.known second.known (omega (arith, order, first.is, second.is))
 
   -- ---- sums
   pub over_parks : (g : Park → ℤ) → sum_below_ℤ (λ k. g (park_of_number t k)) (park_count t) ≡ sum_below_ℤ (λ s. sum_below_ℤ (λ k. g (park_at s k)) (parking_days t s)) (stations_in t)

@@ -55,11 +55,11 @@ weight_at pairs parts c = record { leg = (get_or pairs c (leg_on 0 0)).leg; choi
 abbrev some_at : List ℤ → ℕ → Bool
 some_at parts c = not (unsigned_abs (get_or parts c (pos 0)) == 0)
 
-turned : {X : Type 0} (b : Bool) (x : X) → ◌≡◌ {A = List X} (if b then [] else x ∷ []) (if not b then x ∷ [] else [])
+pub turned : {X : Type 0} (b : Bool) (x : X) → ◌≡◌ {A = List X} (if b then [] else x ∷ []) (if not b then x ∷ [] else [])
 turned true x = refl
 turned false x = refl
 
-not_zero : (z : ℤ) → not (unsigned_abs z == 0) ≡ true → not (int_eq z (pos 0)) ≡ true
+pub not_zero : (z : ℤ) → not (unsigned_abs z == 0) ≡ true → not (int_eq z (pos 0)) ≡ true
 not_zero z e = by (int_eq z (pos 0)) refl
   where
     clash : (n : ℕ) → n ≡ 0 → not (n == 0) ≡ true → ⊥
@@ -92,7 +92,7 @@ weights_follow t keeps parts =
           follows (get_or pairs b (leg_on 0 0)) (get_or pairs c (leg_on 0 0)) (get_or parts b (pos 0)) (get_or parts c (pos 0)) (kept_in_order t keeps b c (leg_on 0 0) order (omega (arith, below, pairs_are t keeps))) (not_zero (get_or parts c (pos 0)) some);
     })))
 
-all_other : {X : Type 0} (P : X → Type 0) (b : Bool) (x : X) → P x → All P (if b then [] else x ∷ [])
+pub all_other : {X : Type 0} (P : X → Type 0) (b : Bool) (x : X) → P x → All P (if b then [] else x ∷ [])
 all_other P true x holds = λ k d below. absurd (omega arith)
 all_other P false x holds = λ k d below. let first : 0 ≡ k = omega arith in subst (λ j. P (get_or (x ∷ []) j d)) first holds
 

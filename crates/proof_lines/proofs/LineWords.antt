@@ -1,11 +1,12 @@
 -- The words of a line: none is broken by a space, and the first tell its form.
-use Rattle.std.proofs.Common.{◌≡◌, ℕ, true, false, List, [], ◌∷◌, ◌++◌, length, ◌≤◌, Some, Result, Ok, Err, refl, ◌∙◌, append_assoc, arith}
+use Rattle.std.proofs.Common.{◌≡◌, ℕ, true, false, List, [], ◌∷◌, ◌++◌, length, ◌≤◌, Some, None, Result, Ok, Err, refl, ap, ◌∙◌, append_assoc, arith}
 use Rattle.std.specs.Prelude.{All, OnOk}
 use Rattle.std.proofs.lemmas.Grind.{flat_map-append}
 use Rattle.std.proofs.lemmas.List.Elements.{All-append, All-from_recursion, All-nil}
 use Rattle.fleet_model.specs.declared.tables.Tables.{Tables}
 use Rattle.proof_lines.specs.Figures.{version_word}
-use Rattle.proof_lines.specs.Forms.{all_forms, form_in, form_of, keywords, width}
+use Rattle.proof_lines.specs.Forms.{all_forms, first_form, form_in, form_of, has_form, keywords, of_version, width}
+use Rattle.proof_lines.specs.Laws.{IsOfVersion}
 use Rattle.proof_lines.specs.LineText.{IsNamed, fields_of, figures_of, line_words, names_of}
 use Rattle.proof_lines.specs.Words.{IsOfWords, IsWord, Word, spaced, spaced_words}
 use Rattle.proof_lines.specs.declared.forms.Form.{Form}
@@ -14,6 +15,7 @@ use Rattle.proof_lines.specs.declared.line.Line.{Line}
 use Rattle.proof_lines.specs.declared.line.Line.TheVariants as line
 use Rattle.proof_lines.specs.declared.line.Version.{Version}
 use Rattle.proof_lines.specs.declared.line.Version.TheVariants as version
+use Rattle.proof_lines.proofs.Choosing.{chosen}
 use Rattle.proof_lines.proofs.WordForms.{choice_is, fleet_is, leg_is, number_word, signed_word, station_is, written}
 
 one : (a : Word) → IsWord a → All IsWord (a ∷ [])
@@ -37,12 +39,14 @@ keywords_are other = one _ (written _ _ refl)
 
 version_is : (v : Version) → IsWord (version_word v)
 version_is version.One = written _ _ refl
+version_is version.Two = written _ _ refl
 
 names_are : (t : Tables) (line : Line) → IsNamed t line → All IsWord (names_of t line)
 names_are t (line.Bare leg) is = one _ (leg_is t leg is)
 names_are t (line.Trim leg choice) is = two _ _ (leg_is t leg is.leg) (choice_is t leg choice is)
 names_are t (line.Split leg choice) is = two _ _ (leg_is t leg is.leg) (choice_is t leg choice is)
 names_are t (line.Rent fleet rent) is = one _ (fleet_is t fleet is)
+names_are t (line.Charge station day charge) is = one _ (station_is t station is)
 names_are t (line.At fleet station minute value) is = two _ _ (fleet_is t fleet is.0) (station_is t station is.1)
 names_are t (line.Weight leg choice weight) is = two _ _ (leg_is t leg is.leg) (choice_is t leg choice is)
 names_are t other is = All-nil IsWord
@@ -54,6 +58,7 @@ figures_are (line.OpenGrew pivots row column) = three _ _ _ (number_word pivots)
 figures_are (line.OpenLift step at) = two _ _ (number_word step) (number_word at)
 figures_are (line.Scale scale) = one _ (signed_word scale)
 figures_are (line.Rent fleet rent) = one _ (signed_word rent)
+figures_are (line.Charge station day charge) = two _ _ (number_word day) (signed_word charge)
 figures_are (line.At fleet station minute value) = two _ _ (number_word minute) (signed_word value)
 figures_are (line.Mixed scale) = one _ (signed_word scale)
 figures_are (line.Weight leg choice weight) = one _ (signed_word weight)
@@ -85,9 +90,12 @@ as_many t (line.Plan true) = refl
 as_many t (line.Plan false) = refl
 as_many t other = refl
 
-pub form_told : (t : Tables) (line : Line) → form_in (line_words t line) ≡ Some (form_of line)
+pub first_told : (t : Tables) (line : Line) → first_form (line_words t line) all_forms ≡ Some (form_of line)
 unfolding all_forms
-form_told t (line.Head v) = refl
-form_told t (line.Plan true) = refl
-form_told t (line.Plan false) = refl
-form_told t other = refl
+first_told t (line.Head v) = refl
+first_told t (line.Plan true) = refl
+first_told t (line.Plan false) = refl
+first_told t other = refl
+
+pub form_told : (v : Version) (t : Tables) (line : Line) → IsOfVersion v line → form_in v (line_words t line) ≡ Some (form_of line)
+form_told v t line has = ap (of_version v) (first_told t line) ∙ chosen (has_form v (form_of line)) (Some (form_of line)) None has

@@ -1,12 +1,12 @@
 -- What reads as a line is what that line is written as.
-use Rattle.std.proofs.Common.{◌≡◌, ℕ, ◌==◌, ◌&&◌, ◌||◌, Bool, true, false, cond, not, List, [], ◌∷◌, length, ℤ, Option, Some, None, Ok, bytes_eq, refl, ap, subst, ◌∙◌, arith}
+use Rattle.std.proofs.Common.{◌≡◌, ℕ, zero, suc, ◌≤◌, ◌==◌, ◌&&◌, ◌||◌, Bool, true, false, cond, not, List, [], ◌∷◌, length, ℤ, Option, Some, None, Ok, Err, bytes_eq, refl, sym, ap, subst, ◌∙◌, arith}
 use Rattle.std.specs.Fmt.{decimal}
 use Rattle.std.proofs.lemmas.Bool.Decides.{nat_tests}
 use Rattle.sums.proofs.Tests.{first_true, second_true}
-use Rattle.fleet_model.specs.Schedule.{last_of}
+use Rattle.fleet_model.specs.Schedule.{days_in, last_of}
 use Rattle.fleet_model.specs.declared.tables.Tables.{Tables}
-use Rattle.proof_lines.specs.Figures.{count_in, minute_in, natural_in, number_in, signed_in, version_in, version_word}
-use Rattle.proof_lines.specs.Forms.{all_forms, first_form, form_in, keywords, opens, width}
+use Rattle.proof_lines.specs.Figures.{count_in, day_in, minute_in, natural_in, number_in, signed_in, some_day, version_in, version_word}
+use Rattle.proof_lines.specs.Forms.{all_forms, first_form, form_in, form_of, has_form, keywords, of_version, opens, width}
 use Rattle.proof_lines.specs.Flaws.{both}
 use Rattle.proof_lines.specs.Known.{fleet_in, leg_in, names_in, pair_in, station_in}
 use Rattle.proof_lines.specs.Laws.{AreBytesOf, IsLineOf}
@@ -22,6 +22,7 @@ use Rattle.proof_lines.specs.declared.line.Version.{Version}
 use Rattle.proof_lines.specs.declared.line.Version.TheVariants as version
 use Rattle.proof_lines.proofs.Choosing.{both_read, chose, figure_some, made_by}
 use Rattle.proof_lines.proofs.FigureWords.{same_bytes}
+use Rattle.proof_lines.proofs.LineWords.{first_told}
 use Rattle.proof_lines.proofs.Naming.{fleet_read, leg_read, pair_read, station_read}
 use Rattle.proof_lines.proofs.Shapes.{five_words, four_words, one_word, three_words, two_words}
 use Rattle.proof_lines.proofs.Spaces.{line_back}
@@ -36,6 +37,25 @@ found words (other ∷ others) form e = by_test (opens words other) refl (found 
         → opens words form ≡ true
     by_test true is on e = let same : other ≡ form = cc e in subst (λ f. opens words f ≡ true) same is
     by_test false is on e = on e
+
+-- and one of the version of the text
+record WasFound (v : Version) (words : List Word) (form : Form) : Type 0 where
+  first : first_form words all_forms ≡ Some form
+  of_version : has_form v form ≡ true
+
+was_found : (v : Version) (words : List Word) (form : Form) → form_in v words ≡ Some form → WasFound v words form
+was_found v words form e = by_first (first_form words all_forms) refl e
+  where
+    by_version : (b : Bool) (other : Form) → first_form words all_forms ≡ Some other → has_form v other ≡ b → cond b (Some other) None ≡ Some form → WasFound v words form
+    by_version true other is has e = let same : other ≡ form = cc e in subst (WasFound v words) same (record { first = is; of_version = has })
+    by_version false other is has e = absurd (cc e)
+
+    by_first : (o : Option Form) → first_form words all_forms ≡ o → of_version v o ≡ Some form → WasFound v words form
+    by_first None is e = absurd (cc e)
+    by_first (Some other) is e = by_version (has_form v other) other is refl e
+
+some_form : (a b : Form) → ◌≡◌ {A = Option Form} (Some a) (Some b) → a ≡ b
+some_form a b e = cc e
 
 -- so the first word is the form's, and the second where the form has two
 
@@ -68,8 +88,33 @@ count_was word n e =
     let was = natural_read 18446744073709551615 n word (figure_some (natural_in 18446744073709551615 word) n e) in
     record { word_is = was.word_is; count = omega (arith, was.within) }
 
+record DayWas (days n : ℕ) (word : Word) : Type 0 where
+  some : 1 ≤ n
+  within : n ≤ days
+  word_is : word ≡ decimal n
+
+some_was : (days : ℕ) (word : Word) (o : Option ℕ) (n : ℕ) → natural_in days word ≡ o → some_day o ≡ Some n → DayWas days n word
+some_was days word None n is e = absurd (cc e)
+some_was days word (Some zero) n is e = absurd (cc e)
+some_was days word (Some (suc m)) n is e =
+    let was = natural_read days (suc m) word is in
+    let same : suc m ≡ n = cc e in
+    subst (λ n. DayWas days n word) same (record { some = omega arith; within = was.within; word_is = was.word_is })
+
+day_was : (days : ℕ) (word : Word) (n : ℕ) → day_in days word ≡ Ok n → DayWas days n word
+day_was days word n e = some_was days word (natural_in days word) n refl (figure_some (some_day (natural_in days word)) n e)
+
 version_was : (word : Word) (v : Version) → version_in word ≡ Ok v → word ≡ version_word v
-version_was word version.One e = same_bytes word (version_word version.One) (chose (bytes_eq word (version_word version.One)) _ flaw.Number version.One e).test
+version_was word v e = by_one (bytes_eq word (version_word version.One)) refl e
+  where
+    by_two : (b : Bool) → bytes_eq word (version_word version.Two) ≡ b → cond b (Ok version.Two) (Err flaw.Number) ≡ Ok v → word ≡ version_word v
+    by_two true is e = let same : version.Two ≡ v = cc e in subst (λ v. word ≡ version_word v) same (same_bytes word (version_word version.Two) is)
+    by_two false is e = absurd (cc e)
+
+    by_one : (b : Bool) → bytes_eq word (version_word version.One) ≡ b
+        → cond b (Ok version.One) (cond (bytes_eq word (version_word version.Two)) (Ok version.Two) (Err flaw.Number)) ≡ Ok v → word ≡ version_word v
+    by_one true is e = let same : version.One ≡ v = cc e in subst (λ v. word ≡ version_word v) same (same_bytes word (version_word version.One) is)
+    by_one false is e = by_two (bytes_eq word (version_word version.Two)) refl e
 
 -- the words are those of a line of the tables
 pub record AreWordsOf (t : Tables) (words : List Word) (line : Line) : Type 0 where
@@ -194,6 +239,17 @@ module _ (v : Version) (t : Tables) (words : List Word) (it : Line) where
       let rent = number_was (word_at words 2) made.value.1 entry.second in
       subst (AreWordsOf t words) made.line_is (record { is = three_words words many ∙ (λ i. first_is words form.Rent told i ∷ fleet.is i ∷ rent.word_is i ∷ []); of_tables = record { named = fleet.known; figures = rent.figure } })
 
+  charge_was : opens words form.Charge ≡ true → length words ≡ 4 → fields_in (names_in v t) form.Charge words ≡ Ok it → AreWordsOf t words it
+  unfolding fields_in
+  charge_was told many e =
+      let made = made_by _ (both (station_in (names_in v t) (word_at words 1)) (both (day_in (days_in t) (word_at words 2)) (number_in (word_at words 3)))) it e in
+      let read = both_read (station_in (names_in v t) (word_at words 1)) (both (day_in (days_in t) (word_at words 2)) (number_in (word_at words 3))) made.value made.is in
+      let figures = both_read (day_in (days_in t) (word_at words 2)) (number_in (word_at words 3)) made.value.1 read.second in
+      let station = station_read v t (word_at words 1) made.value.0 read.first in
+      let day = day_was (days_in t) (word_at words 2) made.value.1.0 figures.first in
+      let number = number_was (word_at words 3) made.value.1.1 figures.second in
+      subst (AreWordsOf t words) made.line_is (record { is = four_words words many ∙ (λ i. first_is words form.Charge told i ∷ station.is i ∷ day.word_is i ∷ number.word_is i ∷ []); of_tables = record { named = station.known; figures = (day.some, day.within, number.figure) } })
+
   at_was : opens words form.At ≡ true → length words ≡ 5 → fields_in (names_in v t) form.At words ≡ Ok it → AreWordsOf t words it
   unfolding fields_in
   at_was told many e =
@@ -238,14 +294,15 @@ module _ (v : Version) (t : Tables) (words : List Word) (it : Line) where
   words_were form.Split = split_was
   words_were form.Scale = scale_was
   words_were form.Rent = rent_was
+  words_were form.Charge = charge_was
   words_were form.At = at_was
   words_were form.Mixed = mixed_was
   words_were form.Weight = weight_was
   words_were form.End = end_was
 
-pub written_as_read : (v : Version) (t : Tables) (bytes : List ℕ) (line : Line) → line_in (names_in v t) bytes ≡ Ok line → AreBytesOf t bytes line
+pub written_as_read : (v : Version) (t : Tables) (bytes : List ℕ) (line : Line) → line_in (names_in v t) bytes ≡ Ok line → AreBytesOf v t bytes line
 unfolding line_in
-written_as_read v t bytes line e = by_form (form_in words) refl (chose (is_plain bytes) _ flaw.Byte line e).is
+written_as_read v t bytes line e = by_form (form_in v words) refl (chose (is_plain bytes) _ flaw.Byte line e).is
   where
     words : List Word
     words = words_of bytes
@@ -253,11 +310,17 @@ written_as_read v t bytes line e = by_form (form_in words) refl (chose (is_plain
     parts : ℕ
     parts = length (parts_of bytes)
 
-    by_form : (o : Option Form) → form_in words ≡ o → of_form (names_in v t) parts words o ≡ Ok line → AreBytesOf t bytes line
+    by_form : (o : Option Form) → form_in v words ≡ o → of_form (names_in v t) parts words o ≡ Ok line → AreBytesOf v t bytes line
     by_form None told e = absurd (cc e)
     by_form (Some form) told e =
         let wide = chose ((length words == parts) && (length words == width form)) _ flaw.Width line e in
         let spaced = first_true (length words == parts) (length words == width form) wide.test in
         let many : length words ≡ width form = grind (arith, nat_tests, second_true (length words == parts) (length words == width form) wide.test) in
-        let were = words_were v t words line form (found words all_forms form told) many wide.is in
-        record { is = line_back bytes spaced ∙ ap joined were.is; of_tables = were.of_tables }
+        let first = was_found v words form told in
+        let were = words_were v t words line form (found words all_forms form first.first) many wide.is in
+        let same : form ≡ form_of line = some_form form (form_of line) (sym first.first ∙ ap (λ words. first_form words all_forms) were.is ∙ first_told t line) in
+        record {
+          is = line_back bytes spaced ∙ ap joined were.is;
+          of_tables = were.of_tables;
+          of_version = subst (λ f. has_form v f ≡ true) same first.of_version;
+        }

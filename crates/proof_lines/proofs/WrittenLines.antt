@@ -1,17 +1,17 @@
 -- What is written reads as itself.
-use Rattle.std.proofs.Common.{◌≡◌, ℕ, ◌≤◌, ◌==◌, ◌&&◌, true, false, List, length, ℤ, Some, Ok, refl, ap, ◌∙◌, arith}
+use Rattle.std.proofs.Common.{◌≡◌, ℕ, zero, suc, ◌≤◌, ◌==◌, ◌&&◌, true, false, List, length, ℤ, Some, Ok, refl, ap, ◌∙◌, arith}
 use Rattle.std.specs.Fmt.{decimal, signed_decimal}
 use Rattle.std.proofs.lemmas.Bool.Decides.{nat_tests}
 use Rattle.sums.proofs.Tests.{both_true}
-use Rattle.fleet_model.specs.Schedule.{last_of}
+use Rattle.fleet_model.specs.Schedule.{days_in, last_of}
 use Rattle.fleet_model.specs.declared.tables.Tables.{Tables}
-use Rattle.fleet_model.proofs.PeriodMinutes.{at_most_week}
+use Rattle.fleet_model.proofs.PeriodMinutes.{at_most_week, few_days}
 use Rattle.dual_bound.specs.declared.prices.TheConstants.{MAX_SIZE}
 use Rattle.dual_bound.specs.WrittenOrder.{IsFigure}
-use Rattle.proof_lines.specs.Figures.{count_in, figure, minute_in, number_in, version_in, version_word}
+use Rattle.proof_lines.specs.Figures.{count_in, day_in, figure, minute_in, number_in, some_day, version_in, version_word}
 use Rattle.proof_lines.specs.Forms.{form_in, form_of, width}
 use Rattle.proof_lines.specs.Known.{Naming, names_in}
-use Rattle.proof_lines.specs.Laws.{IsLineOf}
+use Rattle.proof_lines.specs.Laws.{IsLineOf, IsOfVersion}
 use Rattle.proof_lines.specs.LineText.{HasFigures, IsCount, IsNamed, line_bytes, line_words}
 use Rattle.proof_lines.specs.Reading.{fields_in, line_in, made, of_form}
 use Rattle.proof_lines.specs.Words.{IsOfWords, Word, is_plain, joined, words_of}
@@ -27,12 +27,12 @@ use Rattle.proof_lines.proofs.Spaces.{joined_plain, parts_back, plain_all, words
 use Rattle.proof_lines.proofs.WrittenNumbers.{natural_written, number_written}
 
 -- words of a form read by what is behind its first words
-words_read : (n : Naming) (words : List Word) (form : Form) → IsOfWords words → form_in words ≡ Some form → length words ≡ width form → line_in n (joined words) ≡ fields_in n form words
+words_read : (n : Naming) (words : List Word) (form : Form) → IsOfWords words → form_in n.version words ≡ Some form → length words ≡ width form → line_in n (joined words) ≡ fields_in n form words
 unfolding line_in
 words_read n words form is told many =
     chosen (is_plain (joined words)) _ _ (plain_all (joined words) (joined_plain words is.words))
-    ∙ ap (λ parts. of_form n (length parts) (words_of (joined words)) (form_in (words_of (joined words)))) (parts_back words is)
-    ∙ ap (λ read. of_form n (length words) read (form_in read)) (words_back words is)
+    ∙ ap (λ parts. of_form n (length parts) (words_of (joined words)) (form_in n.version (words_of (joined words)))) (parts_back words is)
+    ∙ ap (λ read. of_form n (length words) read (form_in n.version read)) (words_back words is)
     ∙ ap (λ form. of_form n (length words) words form) told
     ∙ chosen ((length words == length words) && (length words == width form)) _ _
     (both_true (length words == length words) (length words == width form) (grind (arith, nat_tests)) (grind (arith, nat_tests, many)))
@@ -48,8 +48,13 @@ count_is n is = ap figure (natural_written 18446744073709551615 n (omega arith) 
 minute_is : (last n : ℕ) → last ≤ MAX_SIZE → n ≤ last → minute_in last (decimal n) ≡ Ok n
 minute_is last n few is = ap figure (natural_written last n few is)
 
+day_is : (days n : ℕ) → days ≤ MAX_SIZE → 1 ≤ n → n ≤ days → day_in days (decimal n) ≡ Ok n
+day_is days zero few some is = absurd (omega (arith, some))
+day_is days (suc n) few some is = ap (λ o. figure (some_day o)) (natural_written days (suc n) few is)
+
 version_is : (v : Version) → version_in (version_word v) ≡ Ok v
 version_is version.One = refl
+version_is version.Two = refl
 
 module _ (v : Version) (t : Tables) where
   fields_read : (line : Line) → IsNamed t line → HasFigures t line → fields_in (names_in v t) (form_of line) (line_words t line) ≡ Ok line
@@ -69,6 +74,8 @@ module _ (v : Version) (t : Tables) where
   fields_read (line.Split leg choice) is has = rw (pair_written v t leg choice is) refl
   fields_read (line.Scale scale) is has = rw (number_is scale has) refl
   fields_read (line.Rent fleet rent) is has = rw (fleet_written v t fleet is, number_is rent has) refl
+  fields_read (line.Charge station day charge) is has =
+      rw (station_written v t station is, day_is (days_in t) day (omega (arith, few_days t)) has.0 has.1, number_is charge has.2) refl
   fields_read (line.At fleet station minute value) is has =
       rw (fleet_written v t fleet is.0, station_written v t station is.1, minute_is (last_of t) minute (omega (arith, at_most_week t)) has.0, number_is value has.1) refl
   fields_read (line.Mixed scale) is has = rw (number_is scale has) refl
@@ -76,7 +83,7 @@ module _ (v : Version) (t : Tables) where
       rw (pair_written v t leg choice is, number_is weight has) refl
   fields_read line.End is has = refl
 
-pub reads_as_written : (v : Version) (t : Tables) (line : Line) → IsLineOf t line → line_in (names_in v t) (line_bytes t line) ≡ Ok line
-reads_as_written v t line is =
-    words_read (names_in v t) (line_words t line) (form_of line) (of_words t line is.named) (form_told t line) (as_many t line)
+pub reads_as_written : (v : Version) (t : Tables) (line : Line) → IsOfVersion v line → IsLineOf t line → line_in (names_in v t) (line_bytes t line) ≡ Ok line
+reads_as_written v t line has is =
+    words_read (names_in v t) (line_words t line) (form_of line) (of_words t line is.named) (form_told v t line has) (as_many t line)
     ∙ fields_read v t line is.named is.figures

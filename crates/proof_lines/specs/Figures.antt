@@ -45,9 +45,23 @@ count_in word = figure (natural_in 18446744073709551615 word)
 abbrev pub minute_in : ℕ → List ℕ → Result ℕ Flaw
 minute_in last word = figure (natural_in last word)
 
+-- a day that is there, days counted from 1
+abbrev pub some_day : Option ℕ → Option ℕ
+some_day None = None
+some_day (Some zero) = None
+some_day (Some (suc n)) = Some (suc n)
+
+-- the day of a word, of a period of so many
+abbrev pub day_in : ℕ → List ℕ → Result ℕ Flaw
+day_in days word = figure (some_day (natural_in days word))
+
 -- the word of a version, and the version of a word
 abbrev pub version_word : Version → List ℕ
 version_word version.One = codes "1"
+version_word version.Two = codes "2"
 
 abbrev pub version_in : List ℕ → Result Version Flaw
-version_in word = if bytes_eq word (version_word version.One) then Ok version.One else Err flaw.Number
+version_in word =
+    if bytes_eq word (version_word version.One) then Ok version.One
+    else if bytes_eq word (version_word version.Two) then Ok version.Two
+    else Err flaw.Number

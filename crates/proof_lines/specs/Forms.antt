@@ -1,10 +1,12 @@
--- The forms of lines: the words with which a line of each begins, and how many it has.
+-- The forms of lines: the words with which a line of each begins, how many it has, and which versions of the text have it.
 use Rattle.std.specs.Prelude.{ℕ, ◌&&◌, ◌||◌, Bool, true, false, not, if◌then◌else◌, List, [], ◌∷◌, codes, Option, Some, None}
 use Rattle.proof_lines.specs.Words.{Word, is_word, stands, word_at}
 use Rattle.proof_lines.specs.declared.forms.Form.{Form}
 use Rattle.proof_lines.specs.declared.forms.Form.TheVariants as form
 use Rattle.proof_lines.specs.declared.line.Line.{Line}
 use Rattle.proof_lines.specs.declared.line.Line.TheVariants as line
+use Rattle.proof_lines.specs.declared.line.Version.{Version}
+use Rattle.proof_lines.specs.declared.line.Version.TheVariants as version
 
 -- the words with which a line begins
 abbrev pub keywords : Form → List Word
@@ -23,6 +25,7 @@ keywords form.Trim = codes "trim" ∷ []
 keywords form.Split = codes "split" ∷ []
 keywords form.Scale = codes "scale" ∷ []
 keywords form.Rent = codes "rent" ∷ []
+keywords form.Charge = codes "charge" ∷ []
 keywords form.At = codes "at" ∷ []
 keywords form.Mixed = codes "mixed" ∷ []
 keywords form.Weight = codes "weight" ∷ []
@@ -45,6 +48,7 @@ width form.Trim = 3
 width form.Split = 3
 width form.Scale = 2
 width form.Rent = 3
+width form.Charge = 4
 width form.At = 5
 width form.Mixed = 2
 width form.Weight = 4
@@ -62,12 +66,26 @@ first_form words (form ∷ forms) = if opens words form then Some form else firs
 -- all forms: words begin as those of one at most
 unfoldable pub all_forms : List Form
 all_forms =
-    form.At ∷ form.Weight ∷ form.Rent ∷ form.Scale ∷ form.Mixed ∷ form.Split ∷ form.Trim ∷ form.Bare ∷ form.Sole ∷ form.Refuted ∷ form.Priced
+    form.At ∷ form.Weight ∷ form.Rent ∷ form.Charge ∷ form.Scale ∷ form.Mixed ∷ form.Split ∷ form.Trim ∷ form.Bare ∷ form.Sole ∷ form.Refuted ∷ form.Priced
     ∷ form.OpenNodes ∷ form.OpenPivots ∷ form.OpenGrew ∷ form.OpenLift ∷ form.Head ∷ form.PlanYes ∷ form.PlanNo ∷ form.End ∷ []
 
--- the form that the first words say, where they begin one
-abbrev pub form_in : List Word → Option Form
-form_in words = first_form words all_forms
+-- a text of this version may have lines of charges, and lines of a form
+abbrev pub has_charges : Version → Bool
+has_charges version.One = false
+has_charges version.Two = true
+
+abbrev pub has_form : Version → Form → Bool
+has_form v form.Charge = has_charges v
+has_form v other = true
+
+-- a form that was found, where a text of this version may have lines of it
+abbrev pub of_version : Version → Option Form → Option Form
+of_version v None = None
+of_version v (Some form) = if has_form v form then Some form else None
+
+-- the form that the first words say, where they begin one of this version
+abbrev pub form_in : Version → List Word → Option Form
+form_in v words = of_version v (first_form words all_forms)
 
 -- the form of a line
 abbrev pub form_of : Line → Form
@@ -86,6 +104,7 @@ form_of (line.Trim leg choice) = form.Trim
 form_of (line.Split leg choice) = form.Split
 form_of (line.Scale scale) = form.Scale
 form_of (line.Rent fleet rent) = form.Rent
+form_of (line.Charge station day charge) = form.Charge
 form_of (line.At fleet station minute value) = form.At
 form_of (line.Mixed scale) = form.Mixed
 form_of (line.Weight leg choice weight) = form.Weight

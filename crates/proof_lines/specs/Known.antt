@@ -1,7 +1,7 @@
 -- The names of tables, by their numbers, and the pairs that they tell.
 use Rattle.std.specs.Prelude.{ℕ, List, Option, Some, None, Result, Ok, Err, map}
 use Rattle.fleet_model.specs.OwnTimes.{own_choice}
-use Rattle.fleet_model.specs.Schedule.{last_of, leg_on}
+use Rattle.fleet_model.specs.Schedule.{days_in, last_of, leg_on}
 use Rattle.fleet_model.specs.declared.parts.Pair.{Pair}
 use Rattle.fleet_model.specs.declared.tables.Tables.{Tables}
 use Rattle.table_rows.specs.Names.{number_of}
@@ -22,21 +22,22 @@ abbrev pub codes_of : Tables → List (List ℕ)
 codes_of t = map (λ station. station.code) t.stations
 
 -- what lines are read by, without what is known of it: the version of the text, the names of legs, fleets and stations,
--- the last minute of the period, and by which choice a fleet flies a leg
+-- the last minute of the period and how many days it has, and by which choice a fleet flies a leg
 pub record Naming : Type 0 where
   pub version : Version
   pub legs : List (List ℕ)
   pub fleets : List (List ℕ)
   pub stations : List (List ℕ)
   pub last : ℕ
+  pub days : ℕ
   pub own : ℕ → ℕ → ℕ
 
 abbrev pub naming : Grammar → Naming
-naming grammar = record { version = grammar.version; legs = grammar.legs; fleets = grammar.fleets; stations = grammar.stations; last = last_of grammar.tables.now; own = own_choice grammar.tables.now }
+naming grammar = record { version = grammar.version; legs = grammar.legs; fleets = grammar.fleets; stations = grammar.stations; last = last_of grammar.tables.now; days = days_in grammar.tables.now; own = own_choice grammar.tables.now }
 
 -- what the lines of a text of this version are read by
 abbrev pub names_in : Version → Tables → Naming
-names_in version t = record { version = version; legs = flights_of t; fleets = fleet_names t; stations = codes_of t; last = last_of t; own = own_choice t }
+names_in version t = record { version = version; legs = flights_of t; fleets = fleet_names t; stations = codes_of t; last = last_of t; days = days_in t; own = own_choice t }
 
 -- the number of a name that is known
 abbrev pub named : Option ℕ → Result ℕ Flaw

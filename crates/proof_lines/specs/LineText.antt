@@ -1,7 +1,7 @@
 -- The text of a line: its words.
 use Rattle.std.specs.Prelude.{ℕ, ◌<◌, ◌≤◌, ◌^◌, ⊤, List, [], ◌∷◌, ◌++◌}
 use Rattle.std.specs.Fmt.{decimal, signed_decimal}
-use Rattle.fleet_model.specs.Schedule.{IsPair, fleet_by, fleet_of, fleets_in, last_of, leg_of, leg_on, legs_in, station_of, stations_in}
+use Rattle.fleet_model.specs.Schedule.{IsPair, days_in, fleet_by, fleet_of, fleets_in, last_of, leg_of, leg_on, legs_in, station_of, stations_in}
 use Rattle.fleet_model.specs.declared.tables.Tables.{Tables}
 use Rattle.dual_bound.specs.WrittenOrder.{IsFigure}
 use Rattle.proof_lines.specs.Figures.{version_word}
@@ -29,6 +29,7 @@ names_of t (line.Bare leg) = leg_word t leg ∷ []
 names_of t (line.Trim leg choice) = leg_word t leg ∷ choice_word t leg choice ∷ []
 names_of t (line.Split leg choice) = leg_word t leg ∷ choice_word t leg choice ∷ []
 names_of t (line.Rent fleet rent) = fleet_word t fleet ∷ []
+names_of t (line.Charge station day charge) = station_word t station ∷ []
 names_of t (line.At fleet station minute value) = fleet_word t fleet ∷ station_word t station ∷ []
 names_of t (line.Weight leg choice weight) = leg_word t leg ∷ choice_word t leg choice ∷ []
 names_of t other = []
@@ -40,6 +41,7 @@ figures_of (line.OpenGrew pivots row column) = decimal pivots ∷ decimal row �
 figures_of (line.OpenLift step at) = decimal step ∷ decimal at ∷ []
 figures_of (line.Scale scale) = signed_decimal scale ∷ []
 figures_of (line.Rent fleet rent) = signed_decimal rent ∷ []
+figures_of (line.Charge station day charge) = decimal day ∷ signed_decimal charge ∷ []
 figures_of (line.At fleet station minute value) = decimal minute ∷ signed_decimal value ∷ []
 figures_of (line.Mixed scale) = signed_decimal scale ∷ []
 figures_of (line.Weight leg choice weight) = signed_decimal weight ∷ []
@@ -65,6 +67,7 @@ IsNamed t (line.Bare leg) = leg < legs_in t
 IsNamed t (line.Trim leg choice) = IsPair t (leg_on leg choice)
 IsNamed t (line.Split leg choice) = IsPair t (leg_on leg choice)
 IsNamed t (line.Rent fleet rent) = fleet < fleets_in t
+IsNamed t (line.Charge station day charge) = station < stations_in t
 IsNamed t (line.At fleet station minute value) = (fleet < fleets_in t) × (station < stations_in t)
 IsNamed t (line.Weight leg choice weight) = IsPair t (leg_on leg choice)
 IsNamed t other = ⊤
@@ -73,13 +76,14 @@ IsNamed t other = ⊤
 abbrev pub IsCount : ℕ → Type 0
 IsCount n = n < 2 ^ 64
 
--- all numbers of a line are such as a text may hold, and its minute is of the period
+-- all numbers of a line are such as a text may hold, and its minute or its day is of the period
 abbrev pub HasFigures : Tables → Line → Type 0
 HasFigures t (line.OpenPivots made) = IsCount made
 HasFigures t (line.OpenGrew pivots row column) = IsCount pivots × IsCount row × IsCount column
 HasFigures t (line.OpenLift step at) = IsCount step × IsCount at
 HasFigures t (line.Scale scale) = IsFigure scale
 HasFigures t (line.Rent fleet rent) = IsFigure rent
+HasFigures t (line.Charge station day charge) = (1 ≤ day) × (day ≤ days_in t) × IsFigure charge
 HasFigures t (line.At fleet station minute value) = (minute ≤ last_of t) × IsFigure value
 HasFigures t (line.Mixed scale) = IsFigure scale
 HasFigures t (line.Weight leg choice weight) = IsFigure weight

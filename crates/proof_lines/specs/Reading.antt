@@ -1,6 +1,6 @@
 -- The line that bytes are, or its flaw of the least kind.
 use Rattle.std.specs.Prelude.{ℕ, ◌==◌, ◌&&◌, Bool, true, false, if◌then◌else◌, List, length, codes, Option, Some, None, Result, Ok, Err}
-use Rattle.proof_lines.specs.Figures.{count_in, minute_in, number_in, version_in}
+use Rattle.proof_lines.specs.Figures.{count_in, day_in, minute_in, number_in, version_in}
 use Rattle.proof_lines.specs.Flaws.{both}
 use Rattle.proof_lines.specs.Forms.{form_in, width}
 use Rattle.proof_lines.specs.Known.{Naming, fleet_in, leg_in, pair_in, station_in}
@@ -54,6 +54,8 @@ fields_in n form.Trim words = made (λ pair. line.Trim pair.leg pair.choice) (pa
 fields_in n form.Split words = made (λ pair. line.Split pair.leg pair.choice) (pair_in n (word_at words 1) (word_at words 2))
 fields_in n form.Scale words = scale_in words
 fields_in n form.Rent words = made (λ entry. line.Rent entry.0 entry.1) (both (fleet_in n (word_at words 1)) (number_in (word_at words 2)))
+fields_in n form.Charge words =
+    made (λ entry. line.Charge entry.0 entry.1.0 entry.1.1) (both (station_in n (word_at words 1)) (both (day_in n.days (word_at words 2)) (number_in (word_at words 3))))
 fields_in n form.At words =
     made (λ step. line.At step.0.0 step.0.1 step.1.0 step.1.1)
     (both (both (fleet_in n (word_at words 1)) (station_in n (word_at words 2))) (both (minute_in n.last (word_at words 3)) (number_in (word_at words 4))))
@@ -69,14 +71,14 @@ of_form n parts words (Some form) = if (length words == parts) && (length words 
 
 -- the line that bytes without a line feed are
 unfoldable pub line_in : Naming → List ℕ → Result Line Flaw
-line_in n bytes = if is_plain bytes then of_form n (length (parts_of bytes)) (words_of bytes) (form_in (words_of bytes)) else Err flaw.Byte
+line_in n bytes = if is_plain bytes then of_form n (length (parts_of bytes)) (words_of bytes) (form_in n.version (words_of bytes)) else Err flaw.Byte
 
 -- a line as it stands in a text: its form, and what it reads as; by its words and its bytes
 abbrev pub of_words : Naming → Bool → ℕ → List Word → Seen
-of_words n plain parts words = record { form = form_in words; line = if plain then of_form n parts words (form_in words) else Err flaw.Byte }
+of_words n plain parts words = record { form = form_in n.version words; line = if plain then of_form n parts words (form_in n.version words) else Err flaw.Byte }
 
 abbrev pub seen_in : Naming → List ℕ → Seen
-seen_in n bytes = record { form = form_in (words_of bytes); line = line_in n bytes }
+seen_in n bytes = record { form = form_in n.version (words_of bytes); line = line_in n bytes }
 
 -- the number that a word names
 abbrev pub is_number : Result ℕ Flaw → ℕ → Bool

@@ -5,7 +5,7 @@ ghost use Rattle.proof_lines.specs.Reading.{fields_in, grew_in, head_in, lift_in
 ghost use Rattle.proof_lines.specs.Words.{seen};
 ghost use Rattle.proof_lines.specs.declared.forms.Form.TheVariants as form;
 
-use crate::figures::{count, minute, number, version};
+use crate::figures::{count, day, minute, number, version};
 use crate::flaws::{Flaw, both};
 use crate::forms::Form;
 use crate::grammar::Grammar;
@@ -33,6 +33,7 @@ pub fn fields(grammar: &Grammar<'_>, form: Form, words: &[&[u8]]) -> Result<Line
         Form::Split => split(grammar, words),
         Form::Scale => scale(words),
         Form::Rent => rent(grammar, words),
+        Form::Charge => charge(grammar, words),
         Form::At => at(grammar, words),
         Form::Mixed => mixed(words),
         Form::Weight => weight(grammar, words),
@@ -143,6 +144,27 @@ fn rent(grammar: &Grammar<'_>, words: &[&[u8]]) -> Result<Line, Flaw>
 {
     match both(grammar.fleet(word_at(words, 1)), number(word_at(words, 2))) {
         Ok((fleet, rent)) => Ok(Line::Rent { fleet, rent }),
+        Err(flaw) => Err(flaw),
+    }
+}
+
+/// `charge STATION DAY R`.
+#[tactic(auto, unfolding(crate::specs::Reading::fields_in))]
+fn charge(grammar: &Grammar<'_>, words: &[&[u8]]) -> Result<Line, Flaw>
+    ensures { result ≡ fields_in (naming grammar.now) form.Charge (seen words.now) }
+{
+    match both(
+        grammar.station(word_at(words, 1)),
+        both(
+            day(grammar.days(), word_at(words, 2)),
+            number(word_at(words, 3)),
+        ),
+    ) {
+        Ok((station, (day, charge))) => Ok(Line::Charge {
+            station,
+            day,
+            charge,
+        }),
         Err(flaw) => Err(flaw),
     }
 }

@@ -1,6 +1,6 @@
 //! The numbers that words write. Takes no memory.
 ghost use Rattle.std.specs.Prelude.{◌≡◌, ◌≤◌, IfSome, option_map, pos};
-ghost use Rattle.proof_lines.specs.Figures.{count_in, figure, minute_in, natural_in, negative, number_in, signed_in, version_in};
+ghost use Rattle.proof_lines.specs.Figures.{count_in, day_in, figure, minute_in, natural_in, negative, number_in, signed_in, version_in};
 ghost use Rattle.dual_bound.specs.declared.prices.TheConstants.{MAX_SIZE};
 
 use crate::flaws::Flaw;
@@ -14,6 +14,8 @@ pub fn version(word: &[u8]) -> Result<Version, Flaw>
 {
     if word == b"1".as_slice() {
         Ok(Version::One)
+    } else if word == b"2".as_slice() {
+        Ok(Version::Two)
     } else {
         Err(Flaw::Number)
     }
@@ -36,6 +38,16 @@ pub fn minute(last: u16, word: &[u8]) -> Result<u16, Flaw>
     match natural(u128::from(last), word) {
         Some(n) => Ok(n as u16),
         None => Err(Flaw::Number),
+    }
+}
+
+/// The day that a word writes, of a period of so many, days counted from 1.
+pub fn day(days: u32, word: &[u8]) -> Result<u32, Flaw>
+    ensures { result ≡ day_in days word.now }
+{
+    match natural(u128::from(days), word) {
+        None | Some(0) => Err(Flaw::Number),
+        Some(n) => Ok(n as u32),
     }
 }
 

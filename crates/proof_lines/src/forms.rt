@@ -3,6 +3,7 @@ ghost use Rattle.std.specs.Prelude.{◌≡◌};
 ghost use Rattle.proof_lines.specs.Forms.{all_forms, first_form, form_in, keywords, opens, width};
 ghost use Rattle.proof_lines.specs.Words.{seen, stands, word_at};
 
+use crate::line::Version;
 use crate::words::stands;
 
 /// The form of a line: what its first words say.
@@ -23,6 +24,7 @@ pub enum Form {
     Split,
     Scale,
     Rent,
+    Charge,
     At,
     Mixed,
     Weight,
@@ -46,6 +48,7 @@ impl Form {
             Form::Split => b"split",
             Form::Scale => b"scale",
             Form::Rent => b"rent",
+            Form::Charge => b"charge",
             Form::At => b"at",
             Form::Mixed => b"mixed",
             Form::Weight => b"weight",
@@ -82,28 +85,30 @@ impl Form {
             | Form::Scale
             | Form::Mixed => 2,
             Form::Head | Form::OpenPivots | Form::Trim | Form::Split | Form::Rent => 3,
-            Form::OpenLift | Form::Weight => 4,
+            Form::OpenLift | Form::Charge | Form::Weight => 4,
             Form::OpenGrew | Form::At => 5,
         }
     }
 }
 
-/// The form that the first words of a line say, where they begin one. Takes no memory.
-pub fn form_in(words: &[&[u8]]) -> Option<Form>
-    ensures { result ≡ form_in (seen words.now) }
+/// The form that the first words of a line say, where they begin one of this version. Takes no memory.
+pub fn form_in(version: Version, words: &[&[u8]]) -> Option<Form>
+    ensures { result ≡ form_in version (seen words.now) }
 {
-    first_form(words, &all_forms())
+    let form = first_form(words, &all_forms())?;
+    if version.has(form) { Some(form) } else { None }
 }
 
 /// All forms. Those of which a proof has most lines stand first, since they are tried in this order.
 #[tactic(auto, unfolding(crate::specs::Forms::all_forms))]
-fn all_forms() -> [Form; 19]
+fn all_forms() -> [Form; 20]
     ensures { result ≡ all_forms }
 {
     [
         Form::At,
         Form::Weight,
         Form::Rent,
+        Form::Charge,
         Form::Scale,
         Form::Mixed,
         Form::Split,

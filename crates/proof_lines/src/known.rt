@@ -1,6 +1,6 @@
 //! The names of tables, found by their bytes, and the pairs that they tell.
 ghost use Rattle.std.specs.Prelude.{◌≡◌, ◌<◌, ◌^◌, length, IfOk};
-ghost use Rattle.fleet_model.specs.Schedule.{fleets_in, last_of, legs_in, stations_in};
+ghost use Rattle.fleet_model.specs.Schedule.{days_in, fleets_in, last_of, legs_in, stations_in};
 ghost use Rattle.proof_lines.specs.Known.{codes_of, fleet_in, fleet_names, flights_of, leg_in, names_in, naming, pair_in, station_in};
 
 use crate::flaws::{Flaw, both};
@@ -33,6 +33,13 @@ impl<'a> Grammar<'a> {
         ensures { result ≡ last_of self.now.tables.now }
     {
         self.tables.period() - 1
+    }
+
+    /// How many days the period has. Takes no memory.
+    pub fn days(&self) -> u32
+        ensures { result ≡ days_in self.now.tables.now }
+    {
+        self.tables.day_count()
     }
 
     /// The leg of a flight. Takes no memory.

@@ -1,19 +1,33 @@
 ghost use Rattle.std.specs.Prelude.{◌≡◌};
-ghost use Rattle.proof_lines.specs.Forms.{form_of};
+ghost use Rattle.proof_lines.specs.Forms.{form_of, has_form};
 
 use crate::forms::Form;
 
 /// A version of the text of a proof.
 #[derive(Clone, Copy, Debug, PartialEq, Eq)]
 pub enum Version {
-    /// `1`.
+    /// `1`: without charges.
     One,
+    /// `2`: with charges.
+    Two,
+}
+
+impl Version {
+    /// Whether a text of this version may have lines of a form. Takes no memory.
+    pub fn has(self, form: Form) -> bool
+        ensures { result ≡ has_form self form }
+    {
+        match form {
+            Form::Charge => matches!(self, Version::Two),
+            _ => true,
+        }
+    }
 }
 
 /// What a line of the text of a proof says.
 #[derive(Clone, Copy, Debug, PartialEq, Eq)]
 pub enum Line {
-    /// `fleet proof 1`: the first line, with the version of the text.
+    /// `fleet proof V`: the first line, with the version of the text.
     Head(Version),
     /// `plan yes` or `plan no`: whether a plan comes with the proof.
     Plan {
@@ -65,6 +79,12 @@ pub enum Line {
         fleet: u32,
         rent: i128,
     },
+    /// `charge STATION DAY R`: the charge of an aircraft that stands at a station at the end of a day.
+    Charge {
+        station: u32,
+        day: u32,
+        charge: i128,
+    },
     /// `at FLEET STATION MINUTE VALUE`: a step of a price.
     At {
         fleet: u32,
@@ -107,6 +127,7 @@ impl Line {
             Line::Split { .. } => Form::Split,
             Line::Scale { .. } => Form::Scale,
             Line::Rent { .. } => Form::Rent,
+            Line::Charge { .. } => Form::Charge,
             Line::At { .. } => Form::At,
             Line::Mixed { .. } => Form::Mixed,
             Line::Weight { .. } => Form::Weight,

@@ -37,7 +37,7 @@ pub fn read_line(alloc: Global, grammar: &Grammar<'_>, bytes: &[u8]) -> Result<S
 fn of_words(grammar: &Grammar<'_>, plain: bool, parts: usize, words: &[&[u8]]) -> Seen
     ensures { result ≡ of_words (naming grammar.now) plain parts (seen words.now) }
 {
-    let form = form_in(words);
+    let form = form_in(grammar.version, words);
     let line = if plain {
         of_form(grammar, parts, words, form)
     } else {

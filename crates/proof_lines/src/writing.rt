@@ -75,6 +75,9 @@ fn push_names(text: &mut Vec<u8>, tables: &Tables, line: &Line) -> Result<(), No
         | Line::Split { leg, choice }
         | Line::Weight { leg, choice, .. } => push_pair(text, tables, *leg, *choice),
         Line::Rent { fleet, .. } => push_word(text, tables.fleet(*fleet).name.as_slice()),
+        Line::Charge { station, .. } => {
+            push_word(text, tables.station(*station).code.as_slice())
+        }
         Line::At { fleet, station, .. } => push_place(text, tables, *fleet, *station),
         _ => Ok(()),
     }
@@ -86,6 +89,7 @@ fn push_figures(alloc: Global, text: &mut Vec<u8>, line: &Line) -> Result<(), No
 {
     match line {
         Line::Head(Version::One) => push_word(text, b"1"),
+        Line::Head(Version::Two) => push_word(text, b"2"),
         Line::OpenPivots { made } => push_count(alloc, text, *made),
         Line::OpenGrew {
             pivots,
@@ -102,6 +106,10 @@ fn push_figures(alloc: Global, text: &mut Vec<u8>, line: &Line) -> Result<(), No
         }
         Line::Scale { scale } | Line::Mixed { scale } => push_number(alloc, text, *scale),
         Line::Rent { rent, .. } => push_number(alloc, text, *rent),
+        Line::Charge { day, charge, .. } => {
+            push_count(alloc, text, u64::from(*day))?;
+            push_number(alloc, text, *charge)
+        }
         Line::At { minute, value, .. } => {
             push_count(alloc, text, u64::from(*minute))?;
             push_number(alloc, text, *value)

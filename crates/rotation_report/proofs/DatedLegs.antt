@@ -26,6 +26,7 @@ use Rattle.rotation_report.specs.Tails.{line_on, lines_by}
 use Rattle.rotation_report.proofs.RoundLines.{all_once, has_lines, round_from}
 use Rattle.sums.specs.Below.{sum_below}
 use Rattle.sums.specs.Places.{list_below}
+use Rattle.sums.proofs.Blocks.{one_block_more}
 use Rattle.sums.proofs.Naturals.{equal_number}
 use Rattle.sums.proofs.NumberTests.{greater_differs, less_differs}
 use Rattle.sums.proofs.Places.{get_or-list_below, length-list_below, list_below-agree}
@@ -66,10 +67,7 @@ module _ (g : ℕ → List ℕ) (place size : ℕ) (within : place < size) where
       ∙ ap (λ xs. concat (list_below at_place (m * size)) ++ xs) here
     where
       parted : (m size place : ℕ) → place < size → suc m * size ≡ suc (m * size + place) + (size - suc place)
-      parted m size place within = omega (arith, within, next m size)
-        where
-          next : (m size : ℕ) → suc m * size ≡ m * size + size
-          next m size = grind arith
+      parted m size place within = omega (arith, within, one_block_more m size)
 
       moved : (k : ℕ) → suc (m * size + place) + k ≡ m * size + (suc place + k)
       moved k = omega arith
@@ -98,13 +96,10 @@ filter-joined q g (suc n) =
 in_blocks : (block blocks size place : ℕ) → block < blocks → place < size → block * size + place < blocks * size
 in_blocks block blocks size place less within =
     let room : size * suc block ≤ size * blocks = mul-le-mul_left size less in
-    omega (arith, room, within, turned block size, turned (suc block) size, turned blocks size, next block size)
+    omega (arith, room, within, turned block size, turned (suc block) size, turned blocks size, one_block_more block size)
   where
     turned : (m n : ℕ) → m * n ≡ n * m
     turned m n = grind arith
-
-    next : (m n : ℕ) → suc m * n ≡ m * n + n
-    next m n = grind arith
 
 -- so many blocks further, going round
 turned_block : (blocks size place x : ℕ) → place < size → 0 < blocks → (x * size + place) % (blocks * size) ≡ (x % blocks) * size + place

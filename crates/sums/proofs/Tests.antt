@@ -1,5 +1,5 @@
 -- Tests that pass or don't, for the crates above.
-use Rattle.std.proofs.Common.{◌≡◌, Bool, true, false, cond, not, ◌&&◌, ◌||◌, Some, None, refl, sym, ◌∙◌}
+use Rattle.std.proofs.Common.{◌≡◌, ◌≤◌, Bool, true, false, cond, if◌then◌else◌, not, ◌&&◌, ◌||◌, Some, None, refl, sym, ◌∙◌, arith}
 use mathlib.Core.Bool.{false≢true}
 
 -- by whether a test passes
@@ -82,3 +82,8 @@ some_is x y e = cc
 
 pub none_some : {X : Type 0} {x : X} → None ≡ Some x → ⊥
 none_some e = cc
+
+-- what a test counts
+pub at_most_one : (b : Bool) → (if b then 1 else 0) ≤ 1
+at_most_one true = omega arith
+at_most_one false = omega arith

@@ -1,26 +1,16 @@
 -- A file with an old or a new header reads in one way at most, has one first fault at most, and one of the two.
-use Rattle.std.proofs.Common.{◌≡◌, ◌≢◌, ◌⊎◌, ℕ, Bool, true, false, List, Vec, Global, Result, Ok, Err, MatchResult, refl, sym, subst, ◌∙◌, inl, inr}
+use Rattle.std.proofs.Common.{◌≡◌, ◌≢◌, ◌⊎◌, ℕ, Bool, true, false, List, Result, refl, sym, subst, ◌∙◌, inl, inr}
 use Rattle.fleet_model.specs.declared.refusals.LoadError.{LoadError}
-use Rattle.fleet_model.specs.declared.refusals.LoadError.TheVariants as load
 use Rattle.fleet_model.specs.declared.refusals.TableFile.{TableFile}
 use Rattle.fleet_model.specs.declared.refusals.TheConstants.{WRONG_HEADER}
-use Rattle.table_rows.specs.Forms.{FormBad, FormReads, IsAllowed, IsInForm, LacksForm}
+use Rattle.table_rows.specs.Forms.{FormBad, FormReads, IsAllowed, LacksForm}
 use Rattle.table_rows.specs.Outcome.{IsFirstFault, headless}
-use Rattle.table_rows.specs.Rows.{Fields, IsUnder, LacksHeader, RowsBad, RowsRead, TableBad, TableReads}
+use Rattle.table_rows.specs.Rows.{Fields, IsUnder, LacksHeader, TableBad, TableReads}
 use Rattle.table_rows.specs.declared.forms.Form.{Form}
 use Rattle.table_rows.specs.declared.forms.Form.TheVariants as form
 use Rattle.table_rows.proofs.OneReading.{header_or_not, rows_end_exists, table_bad_same, table_reads_no_fault, table_reads_same}
 
 module _ {E : Type 0} (key : E → List ℕ) (read : Form → List (List ℕ) → Fields → Result E ℕ) (header : Form → Fields) (old_allowed : Bool) where
-  -- what reading the records below an allowed header answers is what the file reads as, or its first fault
-  pub form_answer : (file : TableFile) (records rest : List Fields) (found : Form) (answer : Result (Vec E Global) LoadError) → IsInForm header old_allowed records found rest
-      → MatchResult answer (λ entries. RowsRead key (read found) rest entries.items) (IsFirstFault file (RowsBad key (read found) rest))
-      → MatchResult answer (λ entries. FormReads key read header old_allowed records entries.items) (IsFirstFault file (FormBad key read header old_allowed records))
-  form_answer file records rest found (Ok entries) form reads = record { found = found; allowed = form.allowed; table = record { rest = rest; under = form.under; rows = reads } }
-  form_answer file records rest found (Err (load.Bad bad)) form fault =
-      (fault.0, inr (record { found = found; allowed = form.allowed; below = record { rest = rest; under = form.under; rows = fault.1 } }))
-  form_answer file records rest found (Err load.NoMemory) form fault = tt
-
   -- the refusal of a file that lacks an allowed header is its first fault
   pub formless_refused : (file : TableFile) (records : List Fields) (error : LoadError) → LacksForm header old_allowed records → error ≡ headless file
       → IsFirstFault file (FormBad key read header old_allowed records) error

@@ -35,7 +35,8 @@ pub fn five_fields(row: &[Vec<u8>]) -> Option<(&[u8], &[u8], &[u8], &[u8], &[u8]
     Some((first.as_slice(), second, third, fourth, fifth))
 }
 
-fn four_fields(row: &[Vec<u8>]) -> Option<(&[u8], &[u8], &[u8], &[u8])>
+/// The fields of a record that has four.
+pub fn four_fields(row: &[Vec<u8>]) -> Option<(&[u8], &[u8], &[u8], &[u8])>
     ensures { option_map (λ f. (f.0.now, f.1.now, f.2.now, f.3.now)) result ≡ four_of (fields_in row.now) }
 {
     let (first, rest) = row.split_first()?;

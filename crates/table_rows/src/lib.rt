@@ -13,7 +13,7 @@ pub mod reading;
 pub mod rows;
 
 pub use faults::{RecordError, at_record, without_header};
-pub use fields::{five_fields, is_text, three_fields, two_fields};
+pub use fields::{five_fields, four_fields, is_text, three_fields, two_fields};
 pub use forms::{Form, below_either};
 pub use named::{Named, numbers_of};
 pub use names::Names;

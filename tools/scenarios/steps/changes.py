@@ -3,10 +3,12 @@
 import re
 from fractions import Fraction
 
-from hints.forms import TRILLION
-from hints.records import DATED, Unread
+from hints.forms import MOST_PARKED, TRILLION
+from hints.records import DATED, HEADERS, Unread
 
 MOST_AIRCRAFT = 500
+# Where a record of a station has its limit, if it has one.
+PARKING = len(HEADERS["stations.csv"])
 
 
 def read_change(text):
@@ -71,6 +73,23 @@ def drop_leg(words):
     return change
 
 
+def parking(words):
+    """Another limit of how many aircraft may stay at a station for a night, or `-` for any number."""
+    if len(words) != 2 or not re.fullmatch("-|[0-9]{1,5}", words[1]):
+        return None
+    station, limit = words
+
+    def change(tables):
+        if limit != "-" and int(limit) > MOST_PARKED:
+            raise Unread(f"{station} would have room for {limit} aircraft, and a limit is {MOST_PARKED} at most")
+        row = record_of(tables, "stations.csv", station)
+        for it in tables["stations.csv"]:
+            it[PARKING:] = it[PARKING:] or ["-"]
+        row[PARKING] = limit
+
+    return change
+
+
 def only_day(words):
     """The legs of one day of a period alone, as a schedule of one day."""
     if len(words) != 1 or not re.fullmatch("[1-7]", words[0]):
@@ -100,6 +119,7 @@ CHANGES = {
     "aircraft": ("aircraft FLEET -1 (or +1, or 5)", aircraft),
     "cost": ("cost FLEET *1.1", cost),
     "drop-leg": ("drop-leg FLIGHT", drop_leg),
+    "parking": ("parking STATION 2 (or -)", parking),
     "only-day": ("only-day DAY", only_day),
 }
 
@@ -112,7 +132,7 @@ def times(price, factor):
 
 
 def record_of(tables, name, key):
-    """Returns the record of a fleet or a flight, or raises Unread."""
+    """Returns the record of a station, a fleet or a flight, or raises Unread."""
     found = next((it for it in tables[name] if it[0] == key), None)
     if found is None:
         raise Unread(f"{name} has no {key}")

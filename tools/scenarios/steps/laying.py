@@ -3,7 +3,7 @@
 import os
 import shutil
 
-from hints.records import TABLES, Unread, headers_of, table_of
+from hints.records import LIMITED, TABLES, Unread, headers_of, table_of
 from schedule_files.files import table
 from steps import whole
 from steps.changes import read_change
@@ -45,5 +45,6 @@ def changed(folder, texts):
         except Unread as error:
             return f"{text}: {error}"
     for name, rows in tables.items():
-        whole.write(os.path.join(folder, name), table(read[name][0], rows))
+        header = LIMITED if name == "stations.csv" and len(rows[0] if rows else ()) == len(LIMITED) else read[name][0]
+        whole.write(os.path.join(folder, name), table(header, rows))
     return None

@@ -1,6 +1,10 @@
-use Rattle.std.proofs.lemmas.Result.{MatchResult-weaker}
-use Rattle.station_table.proofs.StationsFit.{stations_keep}
+use Rattle.std.specs.Prelude.{true}
+use Rattle.fleet_model.specs.declared.refusals.TableFile.TheVariants as file
+use Rattle.station_table.specs.Stations.{code_of, station_headers, station_read}
+use Rattle.table_rows.proofs.FormReading.{formless_refused}
 use Rattle.station_table.proofs.read_stations.Goals as goal
 
-pub returns-clause-kept : goal.returns-clause-kept
-returns-clause-kept c = MatchResult-weaker c.read_table.result c.read_table.ensures (λ stations reads. stations_keep _ stations.items reads) (λ _ _. tt)
+pub returns-clause-reads : goal.returns-clause-reads
+returns-clause-reads c =
+    formless_refused code_of station_read station_headers true file.Stations _ _
+    (rw (← c.in_ok-records.ensures, ← c.deref.ensures.value) c.in-None.ensures) c.without_header.ensures
