@@ -50,11 +50,15 @@ abbrev pub late_line : Tables → ℕ → ℕ → ℕ → ℕ → List ℕ
 late_line t f within tails starts =
     line_of ((fleet_of t f).name ∷ codes ": late within " ∷ decimal within ∷ codes ", tails " ∷ decimal tails ∷ codes ", starts " ∷ decimal starts ∷ [])
 
+-- those of a fleet, whose tails begin with these lines of its tour
+abbrev pub begun_lines : Tables → List ℕ → ℕ → List ℕ → List TailState → List Day → List ℕ → List ℕ
+begun_lines t a f tour tails days starts = days_tails t (lines_by t a f tour) (names_of f tails) starts days (length days)
+
 -- the lines of a fleet with a tour, on some days
 abbrev pub placed_lines : Tables → List ℕ → ℕ → List ℕ → List TailState → List Day → Placed → List ℕ
 placed_lines t a f tour tails days (placed.WrongNumber all used) = number_line t f all used
 placed_lines t a f tour tails days (placed.Late within all starts) = late_line t f within all starts
-placed_lines t a f tour tails days (placed.Lines starts) = days_tails t (lines_by t a f tour) (names_of f tails) starts days (length days)
+placed_lines t a f tour tails days (placed.Lines starts) = begun_lines t a f tour tails days starts
 
 -- those of a fleet on some days
 abbrev pub rotation_due : Tables → List ℕ → ℕ → FleetRotation → List TailState → List Day → Option Placed → Rotation → List ℕ

@@ -1,14 +1,14 @@
 //! What each named tail flies on each date.
 ghost use Rattle.std.specs.Prelude.{◌≡◌, ◌++◌, ◌*◌, ◌<◌, ◌^◌, IfOk, OnOk, length, map};
 ghost use Rattle.calendar_dates.specs.Days.{HasDays, day_on};
-ghost use Rattle.due_report.specs.Lines.{AreBegun, days_tails, due_text, fleet_due, fleets_due, late_line, names_of, number_line, placed_lines, tail_line, tails_on};
+ghost use Rattle.due_report.specs.Lines.{AreBegun, begun_lines, days_tails, due_text, fleet_due, fleets_due, late_line, names_of, number_line, placed_lines, tail_line, tails_on};
 ghost use Rattle.due_report.specs.Placings.{ArePlacings, IsPlacing};
 ghost use Rattle.fleet_model.specs.Legal.{IsAssignment};
 ghost use Rattle.fleet_model.specs.Schedule.{days_in, fleets_in};
 ghost use Rattle.fleet_rotations.specs.Rotations.{AreFlown, AreRotations, IsFleetRotation, IsFlown, last_made};
 ghost use Rattle.ground_turns.specs.Maps.{IsTour};
 ghost use Rattle.lines_of_flying.specs.Lines.{BeginsAfterStart};
-ghost use Rattle.rotation_report.specs.Tails.{AreLinesOf};
+ghost use Rattle.rotation_report.specs.Tails.{AreLinesOf, lines_by};
 ghost use Rattle.tail_dates.specs.Placing.{IsPlaced};
 
 use calendar_dates::dates_from;
@@ -68,7 +68,9 @@ fn due_on(
     for fleet in 0..rotations.len() as u32 {
         let made = &rotations[fleet as usize];
         let placing = &placings[fleet as usize];
-        push_due(alloc, &mut text, tables, plan, fleet, made, tails, placing, dates)?;
+        push_due(
+            alloc, &mut text, tables, plan, fleet, made, tails, placing, dates,
+        )?;
     }
     Ok(text)
 }
@@ -135,11 +137,35 @@ fn push_placed(
             starts,
         } => push_late(alloc, text, tables, fleet, *within, *tails, *starts),
         Placed::Lines(starts) => {
-            let flown = lines_by(alloc, tables, plan, fleet, tour)?;
-            let names = names_of(alloc, tails, fleet)?;
-            push_days(alloc, text, tables, &flown, &names, starts.as_slice(), dates)
+            let starts = starts.as_slice();
+            push_begun(alloc, text, tables, plan, fleet, tour, tails, starts, dates)
         }
     }
+}
+
+/// Appends the lines of a fleet's tails, by the lines of its tour with which they begin.
+fn push_begun(
+    alloc: Global,
+    text: &mut Vec<u8>,
+    tables: &Tables,
+    plan: &Assignment,
+    fleet: u32,
+    tour: &[u32],
+    tails: &[TailState],
+    starts: &[u64],
+    dates: &[Date],
+) -> Result<(), NoMemory>
+    requires plan { IsAssignment tables.now plan.now }
+    requires fleet { fleet < fleets_in tables.now }
+    requires tour { IsTour tables.now plan.now fleet tour.now }
+    requires begins { BeginsAfterStart tables.now fleet tour.now }
+    requires begun { AreBegun tables.now (lines_by tables.now plan.now fleet tour.now) (names_of fleet tails.now) starts.now }
+    requires few { length dates.now < 2 ^ 32 }
+    ensures { OnOk result (text.new.items ≡ text.old.items ++ begun_lines tables.now plan.now fleet tour.now tails.now (map day_on dates.now) starts.now) }
+{
+    let flown = lines_by(alloc, tables, plan, fleet, tour)?;
+    let names = names_of(alloc, tails, fleet)?;
+    push_days(alloc, text, tables, &flown, &names, starts, dates)
 }
 
 /// Appends `F: tails N of M`.
@@ -199,11 +225,7 @@ fn push_late(
 }
 
 /// The names of a fleet's tails, in their order.
-fn names_of(
-    alloc: Global,
-    tails: &[TailState],
-    fleet: u32,
-) -> Result<Vec<Entries<u8>>, NoMemory>
+fn names_of(alloc: Global, tails: &[TailState], fleet: u32) -> Result<Vec<Entries<u8>>, NoMemory>
     ensures { IfOk result (λ names. names.items ≡ names_of fleet tails.now) }
 {
     let mut names = Vec::new(alloc);

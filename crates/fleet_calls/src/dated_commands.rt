@@ -178,15 +178,7 @@ const TAILS: &[TailsLine] = &[
 /// The same of named tails.
 const DUE: &[TailsLine] = &[
     (
-        (
-            "fleetplan due d 2025-02-28 2",
-            "d",
-            180,
-            1,
-            60,
-            3,
-            200_000,
-        ),
+        ("fleetplan due d 2025-02-28 2", "d", 180, 1, 60, 3, 200_000),
         2025,
         2,
         28,

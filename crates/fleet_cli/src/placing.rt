@@ -41,7 +41,14 @@ pub fn due_of_contents(
         Loaded::Refused(answer) => Ok(answer),
         Loaded::Read(tables) => {
             let tails = contents.tails.as_slice();
-            due_of_tables(alloc, &tables, limits, dates, tails, contents.plan.as_slice())
+            due_of_tables(
+                alloc,
+                &tables,
+                limits,
+                dates,
+                tails,
+                contents.plan.as_slice(),
+            )
         }
     }
 }
