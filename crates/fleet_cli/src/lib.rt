@@ -28,7 +28,7 @@ mod writing;
 pub use calling::program;
 pub use running::run;
 pub use status::{
-    BAD_INPUT, DONE, FALLEN, FAULT, GAP, INFEASIBLE, NO_MEMORY, REFUSED, Status, UNPLACED, UNSETTLED,
-    USAGE,
+    BAD_INPUT, DONE, FALLEN, FAULT, GAP, INFEASIBLE, NO_MEMORY, REFUSED, Status, UNPLACED,
+    UNSETTLED, USAGE,
 };
 pub use texts::USAGE_LINE;
