@@ -1,6 +1,6 @@
 -- How often the desk is called.
 use Rattle.std.proofs.Common.{◌≡◌, ℕ, zero, suc, ◌+◌, ◌<◌, ◌≤◌, length, Option, Some, None, refl, ap, ◌∙◌, arith}
-use Rattle.command_words.specs.Words.{Asked, check, judge, make, solve, tails, whatif, due}
+use Rattle.command_words.specs.Words.{Asked, check, due, judge, make, solve, tails, whatif}
 use Rattle.plan_desk.specs.Counts.{CallsAtMost, more_times, once_more}
 use Rattle.plan_desk.specs.declared.file.DeskFile.TheVariants as file
 use Rattle.fleet_cli.specs.Contents.{FileBytes}

@@ -1,7 +1,7 @@
 -- The headline of each command, from the answer that was given.
 use Rattle.std.proofs.Common.{◌≡◌, ℕ, List, ◌++◌, Option, Some, None, IfSome, inl, inr, sym, ap, subst, ◌∙◌}
 use Rattle.std.proofs.lemmas.Option.{same_Some}
-use Rattle.command_words.specs.Words.{Asked, check, judge, make, solve, tails, whatif, due}
+use Rattle.command_words.specs.Words.{Asked, check, due, judge, make, solve, tails, whatif}
 use Rattle.command_words.specs.declared.command.TheConstants.{DEFAULT_OPTIONS, DEFAULT_READING}
 use Rattle.plan_desk.specs.Desk.{Files}
 use Rattle.plan_desk.specs.Sink.{output_with}

@@ -11,7 +11,7 @@ use Rattle.cert_check.proofs.OneVerdict as tree
 use Rattle.cert_check.specs.Verdicts.{HoldsWith}
 use Rattle.cert_check.specs.declared.checked.Checked.TheVariants as checked
 use Rattle.command_words.specs.Arguments.{AskedDates}
-use Rattle.command_words.specs.Words.{Asked, check, judge, make, solve, tails, whatif, due}
+use Rattle.command_words.specs.Words.{Asked, check, due, judge, make, solve, tails, whatif}
 use Rattle.command_words.specs.declared.command.RotationLimits.{RotationLimits}
 use Rattle.command_words.specs.declared.command.SolveOptions.{SolveOptions}
 use Rattle.fleet_model.specs.Legal.{total_cost}
@@ -30,14 +30,14 @@ use Rattle.fleet_cli.proofs.OneReading.{one_too_long, within_or_long}
 use Rattle.fleet_cli.proofs.AskedTrees.{asked_of, one_told}
 use Rattle.fleet_cli.proofs.OpenFacts.{no_plan_alone}
 use Rattle.fleet_cli.proofs.SameBytes.{follows_plan}
-use Rattle.fleet_cli.proofs.Skeletons.{one_fleet, one_legal, one_plan, one_proof, one_tables, there_fleet, there_legal, there_plan, there_proof, there_tables, one_tails, there_tails}
-use Rattle.fleet_cli.specs.Answer.{Answers, AnswersOf, AnswersSome, Asks, AsksOn, AsksTree, Checks, ChecksTree, GivesSolution, Judges, JudgesOn, JudgesPlan, Solves, TailsOf, TailsOn, TellsOn, TellsProof, TellsRead, TellsTails, TellsTree, TellsWith, checked_status, ChecksOn, ChecksProof, ChecksRead, ChecksWith, DueOf, DueOn, DueWith, TellsDue, due_status}
+use Rattle.fleet_cli.proofs.Skeletons.{one_fleet, one_legal, one_plan, one_proof, one_tables, one_tails, there_fleet, there_legal, there_plan, there_proof, there_tables, there_tails}
+use Rattle.fleet_cli.specs.Answer.{Answers, AnswersOf, AnswersSome, Asks, AsksOn, AsksTree, Checks, ChecksTree, DueOf, DueOn, DueWith, GivesSolution, Judges, JudgesOn, JudgesPlan, Solves, TailsOf, TailsOn, TellsDue, TellsOn, TellsProof, TellsRead, TellsTails, TellsTree, TellsWith, checked_status, due_status}
 use Rattle.fleet_cli.specs.Contents.{FileBytes, bytes_in, table_bytes}
 use Rattle.fleet_cli.specs.Gathered.{AllStand, IsHeld}
 use Rattle.fleet_cli.specs.Laws.{IsFixed}
 use Rattle.fleet_cli.specs.Reading.{AllWithin, Follows, WantsPlan, first_files, folder_of}
 use Rattle.fleet_cli.specs.Refusals.{says, verdict_status}
-use Rattle.fleet_cli.specs.Run.{AnswersExactly, FleetProofThere, IsAskedOf, IsComplete, IsCostThere, IsSolution, LegalThere, ProofThere, TablesThere, DueThere, IsTold}
+use Rattle.fleet_cli.specs.Run.{AnswersExactly, DueThere, FleetProofThere, IsAskedOf, IsComplete, IsCostThere, IsSolution, IsTold, LegalThere, ProofThere, TablesThere}
 use Rattle.fleet_cli.specs.Skeletons.{OnLegal}
 use Rattle.fleet_cli.specs.Solution.{solved_status}
 use Rattle.fleet_cli.specs.Texts.{bad_input_text, checked_text, verdict_text}

@@ -2,7 +2,7 @@
 use Rattle.std.proofs.Common.{◌≡◌, ℕ, Bool, true, false, List, [], ◌∷◌, Option, Some, None, refl, sym, subst, arith}
 use Rattle.std.specs.Prelude.{IsSome}
 use Rattle.bound_cert.specs.declared.reading.Proof.{Proof}
-use Rattle.command_words.specs.Words.{Asked, check, judge, make, solve, tails, whatif, due}
+use Rattle.command_words.specs.Words.{Asked, check, due, judge, make, solve, tails, whatif}
 use Rattle.fleet_model.specs.declared.options.TableOptions.{TableOptions}
 use Rattle.fleet_model.specs.declared.tables.Tables.{Tables}
 use Rattle.plan_desk.specs.declared.file.DeskFile.{DeskFile}
@@ -11,7 +11,7 @@ use Rattle.bound_cert.specs.ReadProof.{ReadsAs}
 use Rattle.sched_read.specs.Reading.{Reads, TableBytes}
 use Rattle.fleet_cli.proofs.Members.{among_left, among_right}
 use Rattle.fleet_cli.proofs.Skeletons.{map_fleet, map_proof, map_tables}
-use Rattle.fleet_cli.specs.Answer.{AnswersOf, Asks, AsksOn, Checks, Judges, Solves, TailsOf, TellsOn, TellsProof, TellsRead, ChecksOn, ChecksProof, ChecksRead, DueOf}
+use Rattle.fleet_cli.specs.Answer.{AnswersOf, Asks, AsksOn, Checks, DueOf, Judges, Solves, TailsOf, TellsOn, TellsProof, TellsRead}
 use Rattle.fleet_cli.specs.Contents.{FileBytes, table_bytes}
 use Rattle.fleet_cli.specs.Gathered.{IsAmong}
 use Rattle.fleet_cli.specs.Reading.{Follows, WantsPlan, WantsPlanOf, first_files, table_files, tables_and}

@@ -20,7 +20,7 @@ use Rattle.plan_text.proofs.ReadOrNot.{reads_or_not}
 use Rattle.plan_text.specs.Reading.{PlanReads}
 use Rattle.sched_read.proofs.ReadLaws as tables
 use Rattle.sched_read.specs.Reading.{Reads, TableBytes}
-use Rattle.fleet_cli.specs.Refusals.{RefusesFleet, RefusesPlan, RefusesProof, RefusesTables, RefusesVerdict, fleet_named, says, verdict_status, RefusesTails}
+use Rattle.fleet_cli.specs.Refusals.{RefusesFleet, RefusesPlan, RefusesProof, RefusesTables, RefusesTails, RefusesVerdict, fleet_named, says, verdict_status}
 use Rattle.fleet_cli.specs.Skeletons.{OnFleet, OnLegal, OnPlan, OnProof, OnTables, OnTails}
 use Rattle.table_rows.proofs.OneReading.{table_bad_same, table_reads_no_fault, table_reads_same}
 use Rattle.tail_dates.specs.TailTable.{TailsRead, tail_header, tail_name_of, tail_read}

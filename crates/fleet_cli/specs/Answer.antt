@@ -13,7 +13,7 @@ use Rattle.cert_check.specs.OtherSizes.{IsAsked}
 use Rattle.cert_check.specs.declared.what_if.WhatIf.{WhatIf}
 use Rattle.cert_check.specs.declared.what_if.WhatIf.TheVariants as what
 use Rattle.command_words.specs.Arguments.{AskedDates}
-use Rattle.command_words.specs.Words.{Asked, check, judge, make, solve, tails, whatif, due}
+use Rattle.command_words.specs.Words.{Asked, check, due, judge, make, solve, tails, whatif}
 use Rattle.command_words.specs.declared.command.RotationLimits.{RotationLimits}
 use Rattle.command_words.specs.declared.command.SolveOptions.{SolveOptions}
 use Rattle.command_words.specs.declared.command.TheConstants.{DEFAULT_OPTIONS, DEFAULT_READING}
@@ -39,13 +39,13 @@ use Rattle.fleet_cli.specs.Gathered.{CalledTooLong}
 use Rattle.fleet_cli.specs.Making.{after_files, made_files}
 use Rattle.fleet_cli.specs.Reading.{AllWithin, IsRead, IsTooLong, folder_of}
 use Rattle.fleet_cli.specs.Refusals.{RefusesLength, says, verdict_status}
-use Rattle.fleet_cli.specs.Skeletons.{OnFleet, OnLegal, OnPlan, OnProof, OnTables, TablesRead, OnTails}
+use Rattle.fleet_cli.specs.Skeletons.{OnFleet, OnLegal, OnPlan, OnProof, OnTables, OnTails, TablesRead}
 use Rattle.fleet_cli.specs.Solution.{AreRotationsOf, solved_answer}
 use Rattle.fleet_cli.specs.Texts.{broken_text, checked_text, usage_text, verdict_text, what_if_text}
 use Rattle.fleet_cli.specs.declared.answer.Answer.{Answer}
 use Rattle.fleet_cli.specs.declared.opened.Question.{Question}
 use Rattle.fleet_cli.specs.declared.opened.Question.TheVariants as question
-use Rattle.fleet_cli.specs.declared.status.TheConstants.{DONE, FALLEN, REFUSED, USAGE, UNPLACED}
+use Rattle.fleet_cli.specs.declared.status.TheConstants.{DONE, FALLEN, REFUSED, UNPLACED, USAGE}
 
 -- ---- judging
 

@@ -1,7 +1,7 @@
 -- What words ask for, computed by clap's definition.
 use Rattle.std.proofs.Common.{refl}
 use Rattle.clap.proofs.OnLiterals.{clap_on_literals}
-use Rattle.plain_words.specs.Plain.{AsksByDefault, AsksFrom, ChecksByDefault, ChecksFrom, JudgesByDefault, JudgesFrom, MakesByDefault, MakesWithoutOptions, SolvesByDefault, SolvesWithin, TailsByDefault, TailsWithin, DueByDefault, DueWithin}
+use Rattle.plain_words.specs.Plain.{AsksByDefault, AsksFrom, ChecksByDefault, ChecksFrom, DueByDefault, DueWithin, JudgesByDefault, JudgesFrom, MakesByDefault, MakesWithoutOptions, SolvesByDefault, SolvesWithin, TailsByDefault, TailsWithin}
 use Rattle.command_line.specs.Found.{found}
 use Rattle.command_line.specs.Program.{our_app}
 use Rattle.command_words.specs.Words.{asked}

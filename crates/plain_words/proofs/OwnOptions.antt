@@ -10,9 +10,9 @@ use Rattle.clap.specs.Faults.{flag_word_fault, long_fault, settle_fault}
 use Rattle.clap.specs.Lexer.{has_byte, long_of}
 use Rattle.clap.specs.Simple.{Shape, filled, filled_from, help_rule}
 use Rattle.clap.specs.Walk.{Held, Rule, Text, arg_by_long, has_long, nothing_held, walk_from}
-use Rattle.command_line.specs.Program.{check_app, judge_app, make_app, our_app, solve_app, tails_app, whatif_app, due_app}
+use Rattle.command_line.specs.Program.{check_app, due_app, judge_app, make_app, our_app, solve_app, tails_app, whatif_app}
 use Rattle.plain_words.specs.Refusals.{TakeOwnOptions, TakesNoValue, TakesOnly, ends_name, is_one_of, is_option_name, solve_flags, solve_options, table_options, tails_options}
-use Rattle.plain_words.proofs.Entered.{IsEntered, check_entered, fails_within, judge_entered, make_entered, solve_entered, tails_entered, whatif_entered, due_entered}
+use Rattle.plain_words.proofs.Entered.{IsEntered, check_entered, due_entered, fails_within, judge_entered, make_entered, solve_entered, tails_entered, whatif_entered}
 use Rattle.plain_words.proofs.Fails.{Fails, GoesOn, is_untrailed, not_false, reaches, second_fails, stays_on, word_refused}
 use Rattle.plain_words.proofs.PlainFolder.{built_command}
 

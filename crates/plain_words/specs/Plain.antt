@@ -6,7 +6,7 @@ use Rattle.fleet_model.specs.declared.options.TableOptions.{TableOptions}
 use Rattle.command_words.specs.Arguments.{aircraft_read, count_read, dates_at, legs_read, made_number_read, options_at, reading_at, rotations_at, search_at, settings_at}
 use Rattle.calendar_dates.specs.Reading.{date_read}
 use Rattle.command_words.specs.Values.{minute_read, number_read}
-use Rattle.command_words.specs.Words.{asked, check_at, judge_at, make_at, solve_at, tails_at, whatif_at, due_at}
+use Rattle.command_words.specs.Words.{asked, check_at, due_at, judge_at, make_at, solve_at, tails_at, whatif_at}
 use Rattle.command_words.specs.declared.command.RotationLimits.{RotationLimits}
 use Rattle.command_words.specs.declared.command.SolveOptions.{SolveOptions}
 use Rattle.command_words.specs.declared.command.TheConstants.{DEFAULT_OPTIONS, DEFAULT_READING, DEFAULT_THROUGH_MAX, MAX_DAYS, MAX_NODES, MAX_PERIOD, MAX_PIVOTS, MAX_THROUGH_MAX, MAX_VISITS, MIN_DAYS, MIN_PERIOD}

@@ -1,4 +1,4 @@
-use Rattle.plain_words.proofs.AfterDashes.{asks_by_default, asks_from, checks_by_default, checks_from, judges_by_default, judges_from, makes_by_default, makes_without_options, solves_by_default, solves_within, tails_by_default, tails_within, due_by_default, due_within}
+use Rattle.plain_words.proofs.AfterDashes.{asks_by_default, asks_from, checks_by_default, checks_from, due_by_default, due_within, judges_by_default, judges_from, makes_by_default, makes_without_options, solves_by_default, solves_within, tails_by_default, tails_within}
 use Rattle.plain_words.proofs.PlainDue.{due_plainly}
 use Rattle.plain_words.proofs.PlainFolder.{checks_plainly, judges_plainly, solves_plainly}
 use Rattle.plain_words.proofs.PlainMake.{makes_plainly}
