@@ -11,7 +11,7 @@ TOP = os.path.dirname(os.path.dirname(os.path.dirname(os.path.realpath(__file__)
 PROGRAM = os.path.join(TOP, "crates", "fleetplan", "out", "fleetplan")
 # What one more run of the program may take.
 SECONDS = 5
-# What an answer of `tails` may hold that is looked through.
+# What an answer of `tails` or `due` may hold that is looked through.
 MOST_LETTERS = 1 << 22
 
 
@@ -52,6 +52,10 @@ def tell(hint, status, said, command, call):
         from hints import infeasible
 
         infeasible.explain(hint, call)
+    elif status == "10":
+        from hints import unplaced
+
+        unplaced.explain(hint, call, said or once_more(call))
     elif status == "11":
         from hints import other_sizes
 
@@ -84,10 +88,10 @@ def tell_answer(hint, status, said, command, call):
         from hints import open_ends
 
         quietly(open_ends.explain, hint, command, call, PROGRAM)
-    if call.command in ("solve", "make", "tails"):
+    if call.command in ("solve", "make", "tails", "due"):
         from hints import rotations
 
-        if call.command == "tails":
+        if call.command in ("tails", "due"):
             answers = rotations.of_summary(said or once_more(call))
         else:
             answers = rotations.of_file(call.folder)

@@ -10,6 +10,7 @@ COMMANDS = {
     "solve": ("solve DIR", "finds a cheapest plan, or that there is none, with a proof of it and with rotations"),
     "check": ("check DIR", "checks the proof in proof.txt, and the plan that comes with it"),
     "tails": ("tails DIR DATE COUNT", "says which aircraft flies what, on COUNT dates from DATE on"),
+    "due": ("due DIR DATE COUNT", "says which named aircraft flies what, so that each comes to maintenance by its own date"),
     "make": ("make DIR NUMBER LEGS", "makes a schedule of LEGS flights to play with, drawn from a number, and solves it"),
     "whatif": ("whatif DIR FLEET COUNT", "says what the proof in proof.txt bounds where FLEET has COUNT aircraft; nothing is solved"),
 }
@@ -107,6 +108,7 @@ OPTIONS_OF = {
     "check": READING,
     "solve": (*READING, "through-max", "days", "visits", "nodes", "pivots", "all-pivots", "json"),
     "tails": (*READING, "through-max", "days", "visits"),
+    "due": (*READING, "through-max", "days", "visits"),
     "make": (),
     "whatif": READING,
 }
@@ -298,7 +300,7 @@ class Call:
                 better = form.mended(text)
                 mended = better and self.with_word(place, better)
                 self.faults.append(Fault(f"{name} is {text or 'empty'}: {means} is {form.form}", mended))
-        if self.command == "tails" and not self.faults:
+        if self.command in ("tails", "due") and not self.faults:
             first, count = (WORDS[it][0].read(word) for it, (_, word) in zip(("DATE", "COUNT"), self.words[1:]))
             if first.toordinal() + count - 1 > datetime.date.max.toordinal():
                 self.faults.append(Fault(f"{count} dates from {first} on go beyond 9999-12-31"))

@@ -74,6 +74,9 @@ check_app = command_on_tables (codes "check") []
 abbrev pub tails_app : App
 tails_app = command_on_tables (codes "tails") (dates ++ rotation_options)
 
+abbrev pub due_app : App
+due_app = command_on_tables (codes "due") (dates ++ rotation_options)
+
 abbrev pub make_app : App
 make_app = command_named (codes "make") (folder ++ made)
 
@@ -90,7 +93,7 @@ with_command program command = with_subcommand program command.top
 
 -- fleetplan COMMAND
 unfoldable pub our_app : App
-our_app = fold with_command bare_app (judge_app ∷ solve_app ∷ check_app ∷ tails_app ∷ make_app ∷ whatif_app ∷ [])
+our_app = fold with_command bare_app (judge_app ∷ solve_app ∷ check_app ∷ tails_app ∷ due_app ∷ make_app ∷ whatif_app ∷ [])
 
 -- ---- the code's parts
 

@@ -60,6 +60,10 @@ pub(crate) const COMMANDS: &[CommandRow<'static>] = &[
         groups: &[FOLDER, TABLE_OPTIONS, DATES, ROTATION_OPTIONS],
     },
     CommandRow {
+        name: "due",
+        groups: &[FOLDER, TABLE_OPTIONS, DATES, ROTATION_OPTIONS],
+    },
+    CommandRow {
         name: "make",
         groups: &[FOLDER, MADE],
     },

@@ -20,6 +20,7 @@ pub data Asked : Type 0 where
   solve : List ℕ → TableOptions → SolveOptions → Asked
   check : List ℕ → TableOptions → Asked
   tails : List ℕ → TableOptions → RotationLimits → AskedDates → Asked
+  due : List ℕ → TableOptions → RotationLimits → AskedDates → Asked
   make : List ℕ → ℕ → ℕ → Asked
   whatif : List ℕ → TableOptions → List ℕ → ℕ → Asked
 
@@ -58,6 +59,15 @@ tails_at reading rotations dates dir =
 abbrev pub tails_in : List Row → Option Asked
 tails_in found = option_and_then (tails_at (reading_in found) (rotations_in found) (dates_in found)) (dir_in found)
 
+-- printing what a folder's named tails fly, by the same limits and dates, where all are there
+abbrev pub due_at : Option TableOptions → Option RotationLimits → Option AskedDates → Text → Option Asked
+due_at reading rotations dates dir =
+    option_and_then (λ how. option_and_then (λ limits. option_map (due dir how limits) dates) rotations) reading
+
+-- printing that, where all values read
+abbrev pub due_in : List Row → Option Asked
+due_in found = option_and_then (due_at (reading_in found) (rotations_in found) (dates_in found)) (dir_in found)
+
 -- making tables of a number and of so many legs in a folder, where both are there
 abbrev pub make_at : Option ℕ → Option ℕ → Text → Option Asked
 make_at number legs dir = option_and_then (λ n. option_map (make dir n) legs) number
@@ -82,6 +92,7 @@ command_in (name, found) =
     else if bytes_eq name (codes "solve") then solve_in found
     else if bytes_eq name (codes "check") then check_in found
     else if bytes_eq name (codes "tails") then tails_in found
+    else if bytes_eq name (codes "due") then due_in found
     else if bytes_eq name (codes "make") then make_in found
     else if bytes_eq name (codes "whatif") then whatif_in found
     else None
@@ -103,6 +114,7 @@ asked_by (command.Judge dir reading) = judge dir.now reading
 asked_by (command.Solve dir reading options) = solve dir.now reading options
 asked_by (command.Check dir reading) = check dir.now reading
 asked_by (command.Tails dir reading rotations dates) = tails dir.now reading rotations (dates_by dates)
+asked_by (command.Due dir reading rotations dates) = due dir.now reading rotations (dates_by dates)
 asked_by (command.Make dir number legs) = make dir.now number legs
 asked_by (command.Whatif dir reading fleet count) = whatif dir.now reading fleet.now count
 
@@ -112,6 +124,7 @@ HasSettings (command.Judge dir reading) = AreSettings reading.settings
 HasSettings (command.Solve dir reading options) = AreSettings reading.settings
 HasSettings (command.Check dir reading) = AreSettings reading.settings
 HasSettings (command.Tails dir reading rotations dates) = AreSettings reading.settings
+HasSettings (command.Due dir reading rotations dates) = AreSettings reading.settings
 HasSettings (command.Make dir number legs) = ⊤
 HasSettings (command.Whatif dir reading fleet count) = AreSettings reading.settings
 
@@ -121,6 +134,7 @@ HasLimits (command.Judge dir reading) = ⊤
 HasLimits (command.Solve dir reading options) = AreOptions options
 HasLimits (command.Check dir reading) = ⊤
 HasLimits (command.Tails dir reading rotations dates) = AreRotationLimits rotations
+HasLimits (command.Due dir reading rotations dates) = AreRotationLimits rotations
 HasLimits (command.Make dir number legs) = CanBeAsked number legs
 HasLimits (command.Whatif dir reading fleet count) = count ≤ MAX_AIRCRAFT
 
@@ -130,6 +144,7 @@ HasDates (command.Judge dir reading) = ⊤
 HasDates (command.Solve dir reading options) = ⊤
 HasDates (command.Check dir reading) = ⊤
 HasDates (command.Tails dir reading rotations dates) = AreDates dates
+HasDates (command.Due dir reading rotations dates) = AreDates dates
 HasDates (command.Make dir number legs) = ⊤
 HasDates (command.Whatif dir reading fleet count) = ⊤
 

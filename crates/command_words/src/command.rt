@@ -145,6 +145,13 @@ pub enum Command<'a> {
         rotations: RotationLimits,
         dates: Dates,
     },
+    /// Print what each named tail of a folder's plan flies on some dates.
+    Due {
+        dir: &'a str,
+        reading: TableOptions,
+        rotations: RotationLimits,
+        dates: Dates,
+    },
     /// Make tables of a number and of so many legs in a folder, and find a plan for them by the defaults.
     Make {
         dir: &'a str,

@@ -1,7 +1,7 @@
 ghost use Rattle.std.specs.Prelude.{◌≡◌, IfOk, IfSome, map, option_and_then, option_map, string_bytes};
 ghost use Rattle.clap.specs.Words.{subcommand_rows_of};
 ghost use Rattle.command_words.specs.Arguments.{rows_in};
-ghost use Rattle.command_words.specs.Words.{HasDates, HasLimits, HasSettings, IsInRange, asked, asked_by, check_in, command_in, judge_in, make_in, solve_in, tails_in, whatif_in};
+ghost use Rattle.command_words.specs.Words.{HasDates, HasLimits, HasSettings, IsInRange, asked, asked_by, check_in, command_in, judge_in, make_in, solve_in, tails_in, whatif_in, due_in};
 
 use crate::arguments::{
     aircraft_of, dates_of, made_legs_of, made_number_of, options_of, reading_of, rotations_of,
@@ -39,6 +39,7 @@ fn command_met<'a>(matches: &ArgMatches<'a>) -> Option<Command<'a>>
         "solve" => solve_of(found),
         "check" => check_of(found),
         "tails" => tails_of(found),
+        "due" => due_of(found),
         "make" => make_of(found),
         "whatif" => whatif_of(found),
         _ => None,
@@ -97,6 +98,23 @@ fn tails_of<'a>(found: &ArgMatches<'a>) -> Option<Command<'a>>
     let rotations = rotations_of(found)?;
     let dates = dates_of(found)?;
     Some(Command::Tails {
+        dir,
+        reading,
+        rotations,
+        dates,
+    })
+}
+
+/// Printing what named tails fly, with what was found for it.
+fn due_of<'a>(found: &ArgMatches<'a>) -> Option<Command<'a>>
+    ensures asked { option_map asked_by result ≡ due_in (rows_in found.now) }
+    ensures fit { IfSome result IsInRange }
+{
+    let dir = value_of(found, "dir")?;
+    let reading = reading_of(found)?;
+    let rotations = rotations_of(found)?;
+    let dates = dates_of(found)?;
+    Some(Command::Due {
         dir,
         reading,
         rotations,

@@ -1,5 +1,5 @@
 -- What is held and what is asked fix the answer, and what is good is answered as such.
-use Rattle.std.proofs.Common.{◌≡◌, ℕ, Bool, true, false, List, Option, Some, None, IfSome, ℤ, refl, sym, ap, subst, ◌∙◌, inl, inr, arith}
+use Rattle.std.proofs.Common.{◌≡◌, ◌≢◌, ℕ, Bool, true, false, List, Option, Some, None, IfSome, ℤ, refl, sym, ap, subst, ◌∙◌, inl, inr, arith}
 use Rattle.std.proofs.lemmas.Bool.{cases_Bool}
 use Rattle.bound_cert.specs.declared.reading.Proof.{Proof}
 use Rattle.dual_bound.specs.Leaves.{has_open}
@@ -11,7 +11,7 @@ use Rattle.cert_check.proofs.OneVerdict as tree
 use Rattle.cert_check.specs.Verdicts.{HoldsWith}
 use Rattle.cert_check.specs.declared.checked.Checked.TheVariants as checked
 use Rattle.command_words.specs.Arguments.{AskedDates}
-use Rattle.command_words.specs.Words.{Asked, check, judge, make, solve, tails, whatif}
+use Rattle.command_words.specs.Words.{Asked, check, due, judge, make, solve, tails, whatif}
 use Rattle.command_words.specs.declared.command.RotationLimits.{RotationLimits}
 use Rattle.command_words.specs.declared.command.SolveOptions.{SolveOptions}
 use Rattle.fleet_model.specs.Legal.{total_cost}
@@ -23,26 +23,28 @@ use Rattle.plan_desk.specs.Sink.{output_with}
 use Rattle.plan_desk.specs.declared.file.DeskFile.TheVariants as file
 use Rattle.plan_judge.proofs.OneVerdict.{one_verdict}
 use Rattle.plan_judge.specs.declared.verdicts.Verdict.TheVariants as verdict
+use Rattle.due_report.specs.Placings.{are_unplaced}
+use Rattle.tail_dates.specs.declared.placing.Placed.{Placed}
 use Rattle.fleet_cli.proofs.MadeFolder.{flyable, none_reached, none_read}
 use Rattle.fleet_cli.proofs.OneReading.{one_too_long, within_or_long}
 use Rattle.fleet_cli.proofs.AskedTrees.{asked_of, one_told}
 use Rattle.fleet_cli.proofs.OpenFacts.{no_plan_alone}
 use Rattle.fleet_cli.proofs.SameBytes.{follows_plan}
-use Rattle.fleet_cli.proofs.Skeletons.{one_fleet, one_legal, one_plan, one_proof, one_tables, there_fleet, there_legal, there_plan, there_proof, there_tables}
-use Rattle.fleet_cli.specs.Answer.{Answers, AnswersOf, AnswersSome, Asks, AsksOn, AsksTree, Checks, ChecksTree, GivesSolution, Judges, JudgesOn, JudgesPlan, Solves, TailsOf, TailsOn, TellsOn, TellsProof, TellsRead, TellsTails, TellsTree, TellsWith, checked_status}
+use Rattle.fleet_cli.proofs.Skeletons.{one_fleet, one_legal, one_plan, one_proof, one_tables, one_tails, there_fleet, there_legal, there_plan, there_proof, there_tables, there_tails}
+use Rattle.fleet_cli.specs.Answer.{Answers, AnswersOf, AnswersSome, Asks, AsksOn, AsksTree, Checks, ChecksTree, DueOf, DueOn, DueWith, GivesSolution, Judges, JudgesOn, JudgesPlan, Solves, TailsOf, TailsOn, TellsDue, TellsOn, TellsProof, TellsRead, TellsTails, TellsTree, TellsWith, checked_status, due_status}
 use Rattle.fleet_cli.specs.Contents.{FileBytes, bytes_in, table_bytes}
 use Rattle.fleet_cli.specs.Gathered.{AllStand, IsHeld}
 use Rattle.fleet_cli.specs.Laws.{IsFixed}
 use Rattle.fleet_cli.specs.Reading.{AllWithin, Follows, WantsPlan, first_files, folder_of}
 use Rattle.fleet_cli.specs.Refusals.{says, verdict_status}
-use Rattle.fleet_cli.specs.Run.{AnswersExactly, FleetProofThere, IsAskedOf, IsComplete, IsCostThere, IsSolution, LegalThere, ProofThere, TablesThere}
+use Rattle.fleet_cli.specs.Run.{AnswersExactly, DueThere, FleetProofThere, IsAskedOf, IsComplete, IsCostThere, IsSolution, IsTold, LegalThere, ProofThere, TablesThere}
 use Rattle.fleet_cli.specs.Skeletons.{OnLegal}
 use Rattle.fleet_cli.specs.Solution.{solved_status}
 use Rattle.fleet_cli.specs.Texts.{bad_input_text, checked_text, verdict_text}
 use Rattle.fleet_cli.specs.declared.answer.Answer.{Answer}
 use Rattle.fleet_cli.specs.declared.opened.Question.{Question}
 use Rattle.fleet_cli.specs.declared.opened.Question.TheVariants as question
-use Rattle.fleet_cli.specs.declared.status.TheConstants.{BAD_INPUT, DONE}
+use Rattle.fleet_cli.specs.declared.status.TheConstants.{BAD_INPUT, DONE, UNPLACED}
 
 -- a solution has a status that tells of one
 pub solution_status : (s : Solved) → IsSolution (solved_status s)
@@ -61,6 +63,17 @@ not_refused code (inr (inr (inr is))) refused = let bad : ◌≡◌ {A = ℕ} 5 
 
 never_refused : (s : Solved) → ¬ (solved_status s ≡ BAD_INPUT)
 never_refused s refused = not_refused (solved_status s) (solution_status s) refused
+
+-- tails are placed, or those of some fleet can't be
+due_told : (placings : List (Option Placed)) → IsTold (due_status placings)
+due_told placings = elim (cases_Bool (are_unplaced placings)) [
+  | inl unplaced ↦ rw unplaced (inr refl)
+  | inr placed ↦ rw placed (inl refl)
+]
+
+never_told : (answer : Answer) (code : ℕ) → code ≡ answer.status.code → IsTold code → (answer.status.code ≢ DONE) × (answer.status.code ≢ UNPLACED) → ⊥
+never_told answer code is (inl done) fixed = fixed.0 (sym is ∙ done)
+never_told answer code is (inr unplaced) fixed = fixed.1 (sym is ∙ unplaced)
 
 -- the bytes that are read fix the answer
 module _ (answer other : Answer) where
@@ -104,6 +117,12 @@ module _ (answer other : Answer) where
       one_tables answer other reading (table_bytes bytes) (TailsOn limits dates (bytes file.Plan))
       (λ t. one_plan answer other t (bytes file.Plan) (OnLegal t (TellsTails t limits dates)) (OnLegal t (TellsTails t limits dates))
       (λ p. one_legal answer other t (TellsTails t limits dates) (TellsTails t limits dates) p (λ a b. absurd (fixed (ap (λ (a : Answer). a.status.code) b.is))))) x y
+  one_of (Some (due dir reading limits dates)) bytes x y fixed =
+      one_tables answer other reading (table_bytes bytes) (DueOn limits dates (bytes file.Tails) (bytes file.Plan))
+      (λ t. one_tails answer other t (bytes file.Tails) (DueWith limits dates (bytes file.Plan) t)
+      (λ s. one_plan answer other t (bytes file.Plan) (OnLegal t (TellsDue t limits dates s)) (OnLegal t (TellsDue t limits dates s))
+      (λ p. one_legal answer other t (TellsDue t limits dates s) (TellsDue t limits dates s) p
+      (λ a b. absurd (never_told other (due_status b.placings) (sym (ap (λ (a : Answer). a.status.code) b.is)) (due_told b.placings) fixed))))) x y
   one_of (Some (make dir number legs)) bytes x y fixed = absurd fixed
   one_of (Some (whatif dir reading name count)) bytes x y fixed =
       one_tables answer other reading (table_bytes bytes) (AsksOn name count (bytes file.Proof) (bytes file.Plan))
@@ -159,6 +178,16 @@ module _ (held : Files) (dir : List ℕ) (reading : TableOptions) (answer : Answ
       let judged = there_plan answer x.tables (bytes_in held dir file.Plan) (OnLegal x.tables (TellsTails x.tables limits dates)) x.plan x.plan_reads read in
       let told = there_legal answer x.tables (TellsTails x.tables limits dates) x.plan x.legal judged in
       ap (λ (a : Answer). a.status.code) told.is
+
+  -- so is what named tails fly, where their table reads
+  due_there : (limits : RotationLimits) (dates : AskedDates) (x : DueThere held dir reading)
+      → DueOf reading limits dates (table_bytes (bytes_in held dir)) (bytes_in held dir file.Tails) (bytes_in held dir file.Plan) answer → IsTold answer.status.code
+  due_there limits dates x answers =
+      let read = there_tables answer reading (table_bytes (bytes_in held dir)) (DueOn limits dates (bytes_in held dir file.Tails) (bytes_in held dir file.Plan)) x.tables x.reads answers in
+      let listed = there_tails answer x.tables (bytes_in held dir file.Tails) (DueWith limits dates (bytes_in held dir file.Plan) x.tables) x.tails x.tails_read read in
+      let judged = there_plan answer x.tables (bytes_in held dir file.Plan) (OnLegal x.tables (TellsDue x.tables limits dates x.tails)) x.plan x.plan_reads listed in
+      let told = there_legal answer x.tables (TellsDue x.tables limits dates x.tails) x.plan x.legal judged in
+      rw (ap (λ (a : Answer). a.status.code) told.is) (due_told told.placings)
 
   -- tables that read are solved
   solved_there : (options : SolveOptions) (x : TablesThere held dir reading) → Solves reading options (table_bytes (bytes_in held dir)) answer → IsSolution answer.status.code
@@ -221,6 +250,8 @@ complete_there held (Some (check dir reading)) answer answers =
     λ there. proof_there held dir reading answer there (read_there held (Some (check dir reading)) answer answers there.there (λ follows. plan_further held dir reading there there.cost there.plan follows.1))
 complete_there held (Some (tails dir reading limits dates)) answer answers =
     λ legal. tails_there held dir reading answer limits dates legal (read_there held (Some (tails dir reading limits dates)) answer answers legal.there (λ follows. absurd follows))
+complete_there held (Some (due dir reading limits dates)) answer answers =
+    λ legal. due_there held dir reading answer limits dates legal (read_there held (Some (due dir reading limits dates)) answer answers legal.there (λ follows. absurd follows))
 complete_there held (Some (make dir number legs)) answer (inl long) = absurd (none_reached held dir number legs long.file long.longer.reached)
 complete_there held (Some (make dir number legs)) answer (inr read) = flyable number legs answer read.answers
 complete_there held (Some (whatif dir reading name count)) answer answers =
@@ -235,6 +266,7 @@ complete_by None (Some (judge dir reading)) longer answer answers some = λ none
 complete_by None (Some (solve dir reading options)) longer answer answers some = λ none. absurd none
 complete_by None (Some (check dir reading)) longer answer answers some = λ none. absurd none
 complete_by None (Some (tails dir reading limits dates)) longer answer answers some = λ none. absurd none
+complete_by None (Some (due dir reading limits dates)) longer answer answers some = λ none. absurd none
 complete_by None (Some (make dir number legs)) longer answer answers (inl long) = absurd (none_read dir number legs long.file long.longer.read)
 complete_by None (Some (make dir number legs)) longer answer answers (inr some) = flyable number legs answer some.1
 complete_by None (Some (whatif dir reading name count)) longer answer answers some = λ none. absurd none

@@ -2,7 +2,7 @@
 use Rattle.std.proofs.Common.{◌≡◌, ℕ, Bool, true, false, List, [], ◌∷◌, Option, Some, None, refl, sym, subst, arith}
 use Rattle.std.specs.Prelude.{IsSome}
 use Rattle.bound_cert.specs.declared.reading.Proof.{Proof}
-use Rattle.command_words.specs.Words.{Asked, check, judge, make, solve, tails, whatif}
+use Rattle.command_words.specs.Words.{Asked, check, due, judge, make, solve, tails, whatif}
 use Rattle.fleet_model.specs.declared.options.TableOptions.{TableOptions}
 use Rattle.fleet_model.specs.declared.tables.Tables.{Tables}
 use Rattle.plan_desk.specs.declared.file.DeskFile.{DeskFile}
@@ -11,7 +11,7 @@ use Rattle.bound_cert.specs.ReadProof.{ReadsAs}
 use Rattle.sched_read.specs.Reading.{Reads, TableBytes}
 use Rattle.fleet_cli.proofs.Members.{among_left, among_right}
 use Rattle.fleet_cli.proofs.Skeletons.{map_fleet, map_proof, map_tables}
-use Rattle.fleet_cli.specs.Answer.{AnswersOf, Asks, AsksOn, Checks, Judges, Solves, TailsOf, TellsOn, TellsProof, TellsRead}
+use Rattle.fleet_cli.specs.Answer.{AnswersOf, Asks, AsksOn, Checks, DueOf, Judges, Solves, TailsOf, TellsOn, TellsProof, TellsRead}
 use Rattle.fleet_cli.specs.Contents.{FileBytes, table_bytes}
 use Rattle.fleet_cli.specs.Gathered.{IsAmong}
 use Rattle.fleet_cli.specs.Reading.{Follows, WantsPlan, WantsPlanOf, first_files, table_files, tables_and}
@@ -69,6 +69,7 @@ same_follows (Some (check dir reading)) bytes other same f follows = (
   subst (λ t. WantsPlan reading t (other file.Proof)) (front_same bytes other file.Proof same) (subst (λ p. WantsPlan reading (table_bytes bytes) p) (last_same bytes other file.Proof same) follows.1),
 )
 same_follows (Some (tails dir reading limits dates)) bytes other same f follows = follows
+same_follows (Some (due dir reading limits dates)) bytes other same f follows = follows
 same_follows (Some (make dir number legs)) bytes other same f follows = follows
 same_follows (Some (whatif dir reading name count)) bytes other same f follows = (
   follows.0,
@@ -82,6 +83,7 @@ follows_plan (Some (judge dir reading)) bytes f follows = absurd follows
 follows_plan (Some (solve dir reading options)) bytes f follows = absurd follows
 follows_plan (Some (check dir reading)) bytes f follows = follows.0
 follows_plan (Some (tails dir reading limits dates)) bytes f follows = absurd follows
+follows_plan (Some (due dir reading limits dates)) bytes f follows = absurd follows
 follows_plan (Some (make dir number legs)) bytes f follows = absurd follows
 follows_plan (Some (whatif dir reading name count)) bytes f follows = follows.0
 
@@ -98,6 +100,10 @@ same_answer (Some (check dir reading)) bytes other first further answer x =
 same_answer (Some (tails dir reading limits dates)) bytes other first further answer x =
     subst (λ t. TailsOf reading limits dates t (other file.Plan) answer) (front_same bytes other file.Plan first)
     (subst (λ p. TailsOf reading limits dates (table_bytes bytes) p answer) (last_same bytes other file.Plan first) x)
+same_answer (Some (due dir reading limits dates)) bytes other first further answer x =
+    subst (λ t. DueOf reading limits dates t (other file.Tails) (other file.Plan) answer) (tables_same bytes other (λ f among. first f (among_left table_files (file.Tails ∷ file.Plan ∷ []) f among)))
+    (subst (λ s. DueOf reading limits dates (table_bytes bytes) s (other file.Plan) answer) (first file.Tails (record { place = 5; within = omega arith; is = λ d. refl }))
+    (subst (λ p. DueOf reading limits dates (table_bytes bytes) (bytes file.Tails) p answer) (first file.Plan (record { place = 6; within = omega arith; is = λ d. refl })) x))
 same_answer (Some (make dir number legs)) bytes other first further answer x = x
 same_answer (Some (whatif dir reading name count)) bytes other first further answer x =
     subst (λ t. Asks reading name count t (other file.Proof) (other file.Plan) answer) (front_same bytes other file.Proof first)

@@ -1,7 +1,9 @@
 -- The program's answer to its words, by what files hold. One case for each command.
-use Rattle.std.specs.Prelude.{◌≡◌, ◌⊎◌, ℕ, Bool, true, false, List, ℤ, Option, Some, None}
+use Rattle.std.specs.Prelude.{◌≡◌, ◌⊎◌, ℕ, Bool, true, false, if◌then◌else◌, List, ℤ, Option, Some, None}
 use Rattle.bound_cert.specs.declared.reading.Proof.{Proof}
 use Rattle.dual_bound.specs.declared.trees.Tree.{Tree}
+use Rattle.due_report.specs.Lines.{due_text}
+use Rattle.due_report.specs.Placings.{ArePlacings, are_unplaced}
 use Rattle.branch_bound.specs.Solved.{IsSolved}
 use Rattle.branch_bound.specs.declared.solved.Solved.{Solved}
 use Rattle.cert_check.specs.Verdicts.{IsChecked}
@@ -11,7 +13,7 @@ use Rattle.cert_check.specs.OtherSizes.{IsAsked}
 use Rattle.cert_check.specs.declared.what_if.WhatIf.{WhatIf}
 use Rattle.cert_check.specs.declared.what_if.WhatIf.TheVariants as what
 use Rattle.command_words.specs.Arguments.{AskedDates}
-use Rattle.command_words.specs.Words.{Asked, check, judge, make, solve, tails, whatif}
+use Rattle.command_words.specs.Words.{Asked, check, due, judge, make, solve, tails, whatif}
 use Rattle.command_words.specs.declared.command.RotationLimits.{RotationLimits}
 use Rattle.command_words.specs.declared.command.SolveOptions.{SolveOptions}
 use Rattle.command_words.specs.declared.command.TheConstants.{DEFAULT_OPTIONS, DEFAULT_READING}
@@ -30,18 +32,20 @@ use Rattle.rotation_report.specs.Tails.{tails_text}
 use Rattle.sched_read.specs.Reading.{TableBytes}
 use Rattle.table_maker.specs.Laws.{bytes_of}
 use Rattle.table_maker.specs.Made.{CanBeMade, made_tables}
+use Rattle.tail_dates.specs.declared.placing.Placed.{Placed}
+use Rattle.tail_dates.specs.declared.tails.TailState.{TailState}
 use Rattle.fleet_cli.specs.Contents.{FileBytes, bytes_in, table_bytes}
 use Rattle.fleet_cli.specs.Gathered.{CalledTooLong}
 use Rattle.fleet_cli.specs.Making.{after_files, made_files}
 use Rattle.fleet_cli.specs.Reading.{AllWithin, IsRead, IsTooLong, folder_of}
 use Rattle.fleet_cli.specs.Refusals.{RefusesLength, says, verdict_status}
-use Rattle.fleet_cli.specs.Skeletons.{OnFleet, OnLegal, OnPlan, OnProof, OnTables, TablesRead}
+use Rattle.fleet_cli.specs.Skeletons.{OnFleet, OnLegal, OnPlan, OnProof, OnTables, OnTails, TablesRead}
 use Rattle.fleet_cli.specs.Solution.{AreRotationsOf, solved_answer}
 use Rattle.fleet_cli.specs.Texts.{broken_text, checked_text, usage_text, verdict_text, what_if_text}
 use Rattle.fleet_cli.specs.declared.answer.Answer.{Answer}
 use Rattle.fleet_cli.specs.declared.opened.Question.{Question}
 use Rattle.fleet_cli.specs.declared.opened.Question.TheVariants as question
-use Rattle.fleet_cli.specs.declared.status.TheConstants.{DONE, FALLEN, REFUSED, USAGE}
+use Rattle.fleet_cli.specs.declared.status.TheConstants.{DONE, FALLEN, REFUSED, UNPLACED, USAGE}
 
 -- ---- judging
 
@@ -176,6 +180,32 @@ TailsOn limits dates plan t = OnPlan t plan (OnLegal t (TellsTails t limits date
 abbrev pub TailsOf : TableOptions → RotationLimits → AskedDates → TableBytes → List ℕ → Answer → Type 0
 TailsOf reading limits dates bytes plan = OnTables reading bytes (TailsOn limits dates plan)
 
+-- ---- named tails
+
+-- the status that tells whether tails are placed
+abbrev pub due_status : List (Option Placed) → ℕ
+due_status placings = if are_unplaced placings then UNPLACED else DONE
+
+-- by the plan's rotations the tails of each fleet take starts, or can't, and what they fly on the dates is told
+pub record TellsDue (t : Tables) (limits : RotationLimits) (dates : AskedDates) (tails : List TailState) (plan : List ℕ) (answer : Answer) : Type 0 where
+  pub rotations : List FleetRotation
+  pub placings : List (Option Placed)
+  pub rotates : ArePlanRotations t plan limits.days limits.visits rotations
+  pub places : ArePlacings t plan rotations tails placings
+  pub is : answer ≡ says (due_status placings) (due_text t plan rotations tails placings dates.first dates.count)
+
+-- telling named tails, by the bytes of the plan
+abbrev pub DueWith : RotationLimits → AskedDates → List ℕ → Tables → List TailState → Answer → Type 0
+DueWith limits dates plan t tails = OnPlan t plan (OnLegal t (TellsDue t limits dates tails))
+
+-- telling them on tables, by the bytes of the table of tails too
+abbrev pub DueOn : RotationLimits → AskedDates → List ℕ → List ℕ → Tables → Answer → Type 0
+DueOn limits dates tails plan t = OnTails t tails (DueWith limits dates plan t)
+
+-- telling them by the bytes of the tables, of the table of tails and of the plan
+abbrev pub DueOf : TableOptions → RotationLimits → AskedDates → TableBytes → List ℕ → List ℕ → Answer → Type 0
+DueOf reading limits dates bytes tails plan = OnTables reading bytes (DueOn limits dates tails plan)
+
 -- ---- what the program answers
 
 -- The answer to what words ask, where the files that are read hold these bytes, none too long.
@@ -185,6 +215,7 @@ AnswersOf (Some (judge dir reading)) bytes answer = Judges reading (table_bytes 
 AnswersOf (Some (solve dir reading options)) bytes answer = Solves reading options (table_bytes bytes) answer
 AnswersOf (Some (check dir reading)) bytes answer = Checks reading (table_bytes bytes) (bytes file.Proof) (bytes file.Plan) answer
 AnswersOf (Some (tails dir reading limits dates)) bytes answer = TailsOf reading limits dates (table_bytes bytes) (bytes file.Plan) answer
+AnswersOf (Some (due dir reading limits dates)) bytes answer = DueOf reading limits dates (table_bytes bytes) (bytes file.Tails) (bytes file.Plan) answer
 AnswersOf (Some (make dir number legs)) bytes answer = Makes number legs answer
 AnswersOf (Some (whatif dir reading name count)) bytes answer = Asks reading name count (table_bytes bytes) (bytes file.Proof) (bytes file.Plan) answer
 

@@ -4,7 +4,7 @@ use Rattle.std.specs.Prelude.{◌≡◌, ℕ, List, Bool, true, false, Option, S
 use Rattle.cert_check.specs.OtherSizes.{answer_of}
 use Rattle.cert_check.specs.Verdicts.{BoundsAll}
 use Rattle.cert_check.specs.declared.checked.Checked.TheVariants as checked
-use Rattle.command_words.specs.Words.{Asked, check, judge, make, solve, tails, whatif}
+use Rattle.command_words.specs.Words.{Asked, check, due, judge, make, solve, tails, whatif}
 use Rattle.command_words.specs.declared.command.SolveOptions.{SolveOptions}
 use Rattle.command_words.specs.declared.command.TheConstants.{DEFAULT_OPTIONS, DEFAULT_READING}
 use Rattle.fleet_model.specs.OtherSizes.{IsOtherSize}
@@ -124,6 +124,7 @@ Headline held None code told before after = ⊤
 Headline held (Some (judge dir reading)) code told before after = ⊤
 Headline held (Some (check dir reading)) code told before after = code ≡ DONE → TellsBound held dir reading before after
 Headline held (Some (tails dir reading limits dates)) code told before after = ⊤
+Headline held (Some (due dir reading limits dates)) code told before after = ⊤
 Headline held (Some (solve dir reading options)) code told before after = IsSolution code → TellsSolution held told dir reading options code before after
 Headline held (Some (make dir number legs)) code told before after = TellsMade held told dir number legs code before after
 Headline held (Some (whatif dir reading name count)) code told before after = code ≡ DONE → TellsOther held dir reading name count before after

@@ -2,7 +2,7 @@
 use Rattle.std.specs.Prelude.{◌≡◌, ◌⊎◌, ℕ, ◌+◌, true, List, [], ◌∷◌, ◌++◌, length, Option, Some, None, IsSome}
 use Rattle.bound_cert.specs.ReadProof.{ReadsAs}
 use Rattle.bound_cert.specs.declared.reading.Proof.{Proof}
-use Rattle.command_words.specs.Words.{Asked, check, judge, make, solve, tails, whatif}
+use Rattle.command_words.specs.Words.{Asked, check, due, judge, make, solve, tails, whatif}
 use Rattle.fleet_model.specs.declared.options.TableOptions.{TableOptions}
 use Rattle.fleet_model.specs.declared.tables.Tables.{Tables}
 use Rattle.plan_desk.specs.Desk.{Files}
@@ -22,9 +22,13 @@ table_files = file.Stations ∷ file.Fleets ∷ file.Legs ∷ file.Costs ∷ fil
 abbrev pub tables_and : List DeskFile → List DeskFile
 tables_and more = table_files ++ more
 
--- the files that judging (and telling tails) and checking (and asking about another size) read first, in their order
+-- the files that judging (and telling tails), telling named tails, and checking (and asking about another size) read first,
+-- in their order
 abbrev pub judge_files : List DeskFile
 judge_files = tables_and (file.Plan ∷ [])
+
+abbrev pub due_files : List DeskFile
+due_files = tables_and (file.Tails ∷ file.Plan ∷ [])
 
 abbrev pub proof_files : List DeskFile
 proof_files = tables_and (file.Proof ∷ [])
@@ -36,6 +40,7 @@ folder_of (Some (judge dir reading)) = dir
 folder_of (Some (solve dir reading options)) = dir
 folder_of (Some (check dir reading)) = dir
 folder_of (Some (tails dir reading limits dates)) = dir
+folder_of (Some (due dir reading limits dates)) = dir
 folder_of (Some (make dir number legs)) = dir
 folder_of (Some (whatif dir reading name count)) = dir
 
@@ -46,6 +51,7 @@ first_files (Some (judge dir reading)) = judge_files
 first_files (Some (solve dir reading options)) = table_files
 first_files (Some (check dir reading)) = proof_files
 first_files (Some (tails dir reading limits dates)) = judge_files
+first_files (Some (due dir reading limits dates)) = due_files
 first_files (Some (make dir number legs)) = []
 first_files (Some (whatif dir reading name count)) = proof_files
 
@@ -69,6 +75,7 @@ Follows (Some (judge dir reading)) bytes f = ⊥
 Follows (Some (solve dir reading options)) bytes f = ⊥
 Follows (Some (check dir reading)) bytes f = (f ≡ file.Plan) × WantsPlan reading (table_bytes bytes) (bytes file.Proof)
 Follows (Some (tails dir reading limits dates)) bytes f = ⊥
+Follows (Some (due dir reading limits dates)) bytes f = ⊥
 Follows (Some (make dir number legs)) bytes f = ⊥
 Follows (Some (whatif dir reading name count)) bytes f = (f ≡ file.Plan) × WantsPlanOf name reading (table_bytes bytes) (bytes file.Proof)
 
@@ -83,6 +90,7 @@ written_files (Some (judge dir reading)) = []
 written_files (Some (solve dir reading options)) = solution_files
 written_files (Some (check dir reading)) = []
 written_files (Some (tails dir reading limits dates)) = []
+written_files (Some (due dir reading limits dates)) = []
 written_files (Some (make dir number legs)) = tables_and solution_files
 written_files (Some (whatif dir reading name count)) = []
 
@@ -93,6 +101,7 @@ most_further (Some (judge dir reading)) = 0
 most_further (Some (solve dir reading options)) = 0
 most_further (Some (check dir reading)) = 1
 most_further (Some (tails dir reading limits dates)) = 0
+most_further (Some (due dir reading limits dates)) = 0
 most_further (Some (make dir number legs)) = 0
 most_further (Some (whatif dir reading name count)) = 1
 

@@ -26,7 +26,7 @@ desk_file_of table.Throughs = file.Throughs
 desk_file_of table.Tails = file.Tails
 
 abbrev pub usage_text : List ℕ
-usage_text = line_of (codes "usage: fleetplan judge|solve|check|make|tails|whatif DIR [options]" ∷ [])
+usage_text = line_of (codes "usage: fleetplan judge|solve|check|make|tails|due|whatif DIR [options]" ∷ [])
 
 abbrev pub fault_text : DeskFile → List ℕ
 fault_text f = line_of (codes "fault: " ∷ file_name f ∷ [])

@@ -11,6 +11,7 @@ use crate::files::FileList;
 use crate::judging::judge_contents;
 use crate::making::make_and_solve;
 use crate::opened::Opened;
+use crate::placing::due_of_contents;
 use crate::solving::solve_contents;
 use crate::telling::tails_of_contents;
 use crate::what_if::open_whatif;
@@ -28,6 +29,7 @@ pub fn folder<'a>(command: &Command<'a>) -> &'a str
         | Command::Solve { dir, .. }
         | Command::Check { dir, .. }
         | Command::Tails { dir, .. }
+        | Command::Due { dir, .. }
         | Command::Make { dir, .. }
         | Command::Whatif { dir, .. } => *dir,
     }
@@ -39,6 +41,7 @@ pub fn first_files(command: &Command<'_>) -> FileList
 {
     match command {
         Command::Judge { .. } | Command::Tails { .. } => FileList::tables_and(DeskFile::Plan),
+        Command::Due { .. } => FileList::tables_and_tails(),
         Command::Solve { .. } => FileList::tables(),
         Command::Check { .. } | Command::Whatif { .. } => FileList::tables_and(DeskFile::Proof),
         Command::Make { .. } => FileList::empty(),
@@ -83,6 +86,15 @@ fn outcome_of(alloc: Global, command: &Command<'_>, contents: &Contents) -> Resu
             ..
         } => {
             let answer = tails_of_contents(alloc, *reading, *rotations, dates, contents)?;
+            Ok(Opened::Answered(answer))
+        }
+        Command::Due {
+            reading,
+            rotations,
+            dates,
+            ..
+        } => {
+            let answer = due_of_contents(alloc, *reading, *rotations, dates, contents)?;
             Ok(Opened::Answered(answer))
         }
         Command::Make { number, legs, .. } => {

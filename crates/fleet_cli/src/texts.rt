@@ -17,7 +17,7 @@ use std::alloc::Global;
 
 /// The line of a call whose words match no command.
 pub const USAGE_LINE: &[u8] =
-    b"usage: fleetplan judge|solve|check|make|tails|whatif DIR [options]\n";
+    b"usage: fleetplan judge|solve|check|make|tails|due|whatif DIR [options]\n";
 
 /// The line of pieces.
 fn line(alloc: Global, pieces: &[&[u8]]) -> Result<Vec<u8>, NoMemory>

@@ -10,7 +10,7 @@ use std::test::Fail;
 const REFUSED_WORDS: Writing = (
     &[],
     USAGE,
-    b"usage: fleetplan judge|solve|check|make|tails|whatif DIR [options]\n",
+    b"usage: fleetplan judge|solve|check|make|tails|due|whatif DIR [options]\n",
     &[],
 );
 
@@ -266,6 +266,7 @@ const FOLDERS_WITH_A_DASH: &[&str] = &[
     "fleetplan solve --nodes 5 -- -d",
     "fleetplan solve -- --help",
     "fleetplan tails - 2025-02-28 1",
+    "fleetplan due - 2025-02-28 1",
     "fleetplan tails -- -d 2025-02-28 1",
     "fleetplan whatif - F1 1",
     "fleetplan whatif -- -d F1 1",

@@ -4,6 +4,7 @@ pub mod Fails
 pub mod GivenRows
 pub mod OtherWords
 pub mod OwnOptions
+pub mod PlainDue
 pub mod PlainFolder
 pub mod PlainMake
 pub mod PlainTails

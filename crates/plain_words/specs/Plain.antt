@@ -6,7 +6,7 @@ use Rattle.fleet_model.specs.declared.options.TableOptions.{TableOptions}
 use Rattle.command_words.specs.Arguments.{aircraft_read, count_read, dates_at, legs_read, made_number_read, options_at, reading_at, rotations_at, search_at, settings_at}
 use Rattle.calendar_dates.specs.Reading.{date_read}
 use Rattle.command_words.specs.Values.{minute_read, number_read}
-use Rattle.command_words.specs.Words.{asked, check_at, judge_at, make_at, solve_at, tails_at, whatif_at}
+use Rattle.command_words.specs.Words.{asked, check_at, due_at, judge_at, make_at, solve_at, tails_at, whatif_at}
 use Rattle.command_words.specs.declared.command.RotationLimits.{RotationLimits}
 use Rattle.command_words.specs.declared.command.SolveOptions.{SolveOptions}
 use Rattle.command_words.specs.declared.command.TheConstants.{DEFAULT_NODES, DEFAULT_OPTIONS, DEFAULT_READING, DEFAULT_THROUGH_MAX, MAX_DAYS, MAX_NODES, MAX_PERIOD, MAX_PIVOTS, MAX_THROUGH_MAX, MAX_VISITS, MIN_DAYS, MIN_PERIOD}
@@ -67,6 +67,12 @@ abbrev pub TailsPlainly : Type 0
 TailsPlainly = (program dir date count : Text) → is_plain_name dir ≡ true → is_plain_name date ≡ true → is_plain_name count ≡ true
     → asked (program ∷ codes "tails" ∷ dir ∷ date ∷ count ∷ [])
     ≡ tails_at default_reading default_rotations (dates_at (date_read date) (count_read count)) dir
+
+-- due DIR DATE COUNT
+abbrev pub DuePlainly : Type 0
+DuePlainly = (program dir date count : Text) → is_plain_name dir ≡ true → is_plain_name date ≡ true → is_plain_name count ≡ true
+    → asked (program ∷ codes "due" ∷ dir ∷ date ∷ count ∷ [])
+    ≡ due_at default_reading default_rotations (dates_at (date_read date) (count_read count)) dir
 
 -- make DIR NUMBER LEGS
 abbrev pub MakesPlainly : Type 0
@@ -132,6 +138,18 @@ TailsWithin = (program time period wait days visits dir date count : Text)
     → asked (program ∷ codes "tails" ∷ (codes "--day-start=" ++ time) ∷ (codes "--period=" ++ period) ∷ (codes "--through-max=" ++ wait) ∷ (codes "--days=" ++ days)
     ∷ (codes "--visits=" ++ visits) ∷ codes "--" ∷ dir ∷ date ∷ count ∷ [])
     ≡ tails_at (reading_with time period wait) (rotations_with days visits) (dates_at (date_read date) (count_read count)) dir
+
+-- due -- DIR DATE COUNT
+abbrev pub DueByDefault : Type 0
+DueByDefault = (program dir date count : Text) → asked (program ∷ codes "due" ∷ codes "--" ∷ dir ∷ date ∷ count ∷ [])
+    ≡ due_at default_reading default_rotations (dates_at (date_read date) (count_read count)) dir
+
+-- due --day-start=HH:MM --period=P --through-max=M --days=D --visits=V -- DIR DATE COUNT
+abbrev pub DueWithin : Type 0
+DueWithin = (program time period wait days visits dir date count : Text)
+    → asked (program ∷ codes "due" ∷ (codes "--day-start=" ++ time) ∷ (codes "--period=" ++ period) ∷ (codes "--through-max=" ++ wait) ∷ (codes "--days=" ++ days)
+    ∷ (codes "--visits=" ++ visits) ∷ codes "--" ∷ dir ∷ date ∷ count ∷ [])
+    ≡ due_at (reading_with time period wait) (rotations_with days visits) (dates_at (date_read date) (count_read count)) dir
 
 -- make -- DIR NUMBER LEGS
 abbrev pub MakesByDefault : Type 0

@@ -1,4 +1,5 @@
-use Rattle.plain_words.proofs.AfterDashes.{asks_by_default, asks_from, checks_by_default, checks_from, judges_by_default, judges_from, makes_by_default, makes_without_options, solves_by_default, solves_within, solves_without_budget, tails_by_default, tails_within}
+use Rattle.plain_words.proofs.AfterDashes.{asks_by_default, asks_from, checks_by_default, checks_from, due_by_default, due_within, judges_by_default, judges_from, makes_by_default, makes_without_options, solves_by_default, solves_within, solves_without_budget, tails_by_default, tails_within}
+use Rattle.plain_words.proofs.PlainDue.{due_plainly}
 use Rattle.plain_words.proofs.PlainFolder.{checks_plainly, judges_plainly, solves_plainly}
 use Rattle.plain_words.proofs.PlainMake.{makes_plainly}
 use Rattle.plain_words.proofs.PlainTails.{tails_plainly}
@@ -12,6 +13,7 @@ returns c = record {
   solves_plainly = solves_plainly;
   checks_plainly = checks_plainly;
   tails_plainly = tails_plainly;
+  due_plainly = due_plainly;
   makes_plainly = makes_plainly;
   asks_plainly = asks_plainly;
   judges_by_default = judges_by_default;
@@ -23,6 +25,8 @@ returns c = record {
   checks_from = checks_from;
   tails_by_default = tails_by_default;
   tails_within = tails_within;
+  due_by_default = due_by_default;
+  due_within = due_within;
   makes_by_default = makes_by_default;
   makes_without_options = makes_without_options;
   asks_by_default = asks_by_default;
