@@ -51,11 +51,15 @@ pub is_started : (t : Tables) (keeps : Domains) (rows : Rows) (first : List Frac
 is_started t keeps rows first lines problem is = (rows, record { problem = problem; is = is; columns_in = refl; right_sides = sides_at_least t keeps lines.starts rows lines.lines })
 
 -- an end of a run without a budget is one of its outcomes
-pub last_outcome : (first : List FracRow) (columns : ℕ) (table : List FracRow) (e : End) → IsFinished first columns table e → IsOutcomeWithin first columns None table (outcome_of e)
+last_outcome : (first : List FracRow) (columns : ℕ) (table : List FracRow) (e : End) → IsFinished first columns table e → IsOutcomeWithin first columns None table (outcome_of e)
 last_outcome first columns table (end.Best basis made) is = is
 last_outcome first columns table (end.NoPoint basis made) is = is
 last_outcome first columns table (end.Ray column) is = is
 last_outcome first columns table (end.Grew made row column) is = is
+
+pub finished_within : (first : List FracRow) (columns : ℕ) (pivots : Option ℕ) (table : List FracRow) (e : End) (found : Outcome) → pivots ≡ None → IsFinished first columns table e → found ≡ outcome_of e → IsOutcomeWithin first columns pivots table found
+finished_within first columns pivots table e found without is of =
+    subst (λ p. IsOutcomeWithin first columns p table found) (sym without) (subst (IsOutcomeWithin first columns None table) (sym of) (last_outcome first columns table e is))
 
 -- after some pivots the run does this, with a budget or without
 module _ (first : List FracRow) (columns : ℕ) (table : List FracRow) where
