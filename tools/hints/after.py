@@ -11,7 +11,7 @@ TOP = os.path.dirname(os.path.dirname(os.path.dirname(os.path.realpath(__file__)
 PROGRAM = os.path.join(TOP, "crates", "fleetplan", "out", "fleetplan")
 # What one more run of the program may take.
 SECONDS = 5
-# What an answer of `tails` may hold that is looked through.
+# What an answer of `tails` or `due` may hold that is looked through.
 MOST_LETTERS = 1 << 22
 
 
@@ -52,6 +52,14 @@ def tell(hint, status, said, command, call):
         from hints import infeasible
 
         infeasible.explain(hint, call)
+    elif status == "10":
+        from hints import unplaced
+
+        unplaced.explain(hint, call, said or once_more(call))
+    elif status == "11":
+        from hints import other_sizes
+
+        other_sizes.tell_fallen(hint, command, call, said or once_more(call))
     elif status in ("0", "3", "5"):
         tell_answer(hint, status, said, command, call)
 
@@ -65,9 +73,10 @@ def once_more(call):
 
 
 def tell_refusal(hint, command, call, said):
-    from hints import refused_plans, refused_proofs, refused_tables
+    from hints import other_sizes, refused_plans, refused_proofs, refused_tables
 
     line = said.strip()
+    other_sizes.tell_unknown(hint, command, call, line)
     refused_tables.explain(hint, call.folder, line, call.value("period"))
     refused_plans.explain(hint, command, call, line)
     refused_proofs.explain(hint, call.folder, line, call)
@@ -79,10 +88,10 @@ def tell_answer(hint, status, said, command, call):
         from hints import open_ends
 
         quietly(open_ends.explain, hint, command, call, PROGRAM)
-    if call.command in ("solve", "make", "tails"):
+    if call.command in ("solve", "make", "tails", "due"):
         from hints import rotations
 
-        if call.command == "tails":
+        if call.command in ("tails", "due"):
             answers = rotations.of_summary(said or once_more(call))
         else:
             answers = rotations.of_file(call.folder)

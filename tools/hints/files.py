@@ -12,9 +12,11 @@ SECTION = "the-files-of-a-folder"
 READS = {
     "judge": (*TABLES, "plan.csv"),
     "tails": (*TABLES, "plan.csv"),
+    "due": (*TABLES, "tails.csv", "plan.csv"),
     "solve": TABLES,
     "check": (*TABLES, "proof.txt", "plan.csv"),
     "make": (),
+    "whatif": (*TABLES, "proof.txt", "plan.csv"),
 }
 WRITES = {"solve": ("plan.csv", "proof.txt", "rotation.csv"), "make": (*TABLES, "plan.csv", "proof.txt", "rotation.csv")}
 # How many names of a folder are looked through.
@@ -70,7 +72,7 @@ def tell_folder(hint, folder, call):
         hint.say(f"you may not look at {folder}")
     else:
         hint.say(f"{folder} is a file, and DIR is the folder that holds the tables")
-        if os.path.basename(folder) in (*TABLES, "plan.csv", "proof.txt"):
+        if os.path.basename(folder) in (*TABLES, "tails.csv", "plan.csv", "proof.txt"):
             hint.say(f"give its folder: {os.path.dirname(folder) or '.'}")
     return True
 
@@ -79,7 +81,7 @@ def tell_reads(hint, command, call):
     """Says which file can't be read, the first in the order of reading, and returns whether one can't."""
     folder = call.folder
     bad = [it for it in READS[call.command] if wrong_to_read(os.path.join(folder, it))]
-    if call.command == "check" and bad == ["plan.csv"] and not says_plan(os.path.join(folder, "proof.txt")):
+    if call.command in ("check", "whatif") and bad == ["plan.csv"] and not says_plan(os.path.join(folder, "proof.txt")):
         bad = []
     if not bad:
         return False
@@ -128,7 +130,7 @@ def tell_missing(hint, command, call, name):
     """Says what may stand for a missing file, and how to come by it."""
     has = names_in(call.folder)
     like = [it for it in has if it.lower() == name]
-    near = like or [it for it in difflib.get_close_matches(name, has, 3, 0.75) if it not in READS["check"] + ("rotation.csv",)]
+    near = like or [it for it in difflib.get_close_matches(name, has, 3, 0.75) if it not in READS["check"] + ("tails.csv", "rotation.csv")]
     if near:
         why = "in other letters" if like else "with a name like it"
         hint.say(f"there is {near[0]}, {why}: names are taken letter by letter")
@@ -136,6 +138,10 @@ def tell_missing(hint, command, call, name):
     elif name == "throughs.csv":
         hint.say("where there are no through pairs an empty file will do:")
         hint.show(typed(["touch", os.path.join(call.folder, name)]))
+    elif name == "tails.csv":
+        hint.say("it names the aircraft of each fleet, with the nights left to each until it has to come to maintenance, such as:")
+        for line in ("tail,fleet,left", "DAFPA,A320,3"):
+            hint.show(line)
     elif name in ("plan.csv", "proof.txt"):
         hint.say("solve writes it, where it has a plan:" if name == "plan.csv" else "solve writes it:")
         hint.show(typed([command, "solve", call.folder, *call.reading]))

@@ -19,7 +19,7 @@ def code(text):
 
 
 def name(text):
-    """Says what is wrong with the name of a flight or a fleet, or returns None."""
+    """Says what is wrong with the name of a flight, a fleet or a tail, or returns None."""
     if re.fullmatch(r"[A-Z0-9]{1,8}", text):
         return None
     if re.fullmatch(r"[A-Z0-9]{9,}", text):
@@ -97,6 +97,7 @@ FIELDS = {
     "legs.csv": (name, code, time, code, time),
     "costs.csv": (name, name, whole(-TRILLION, TRILLION)),
     "throughs.csv": (name, name, whole(0, TRILLION)),
+    "tails.csv": (name, name, whole(1, 30)),
 }
 
 

@@ -15,6 +15,7 @@ HEADERS = {
     "costs.csv": ("flight", "fleet", "cost"),
     "throughs.csv": ("in", "out", "value"),
     "plan.csv": ("flight", "fleet"),
+    "tails.csv": ("tail", "fleet", "left"),
     "rotation.csv": ("fleet", "round", "kind", "a", "b"),
 }
 TABLES = tuple(HEADERS)[:5]

@@ -26,15 +26,15 @@ MEANS = {
     12: "the file is too long",
 }
 # Of each table the most records, where there is a limit, and how many of its first fields may stand there once.
-LIMITS = {"stations.csv": 200, "fleets.csv": 20, "legs.csv": 1000, "throughs.csv": 2000}
+LIMITS = {"stations.csv": 200, "fleets.csv": 20, "legs.csv": 1000, "throughs.csv": 2000, "tails.csv": 10000}
 # The column that a period says more of, and the most days of one.
 DAY, MOST_DAYS = DATED[1], 7
-KEYS = {"stations.csv": 1, "fleets.csv": 1, "legs.csv": 1, "costs.csv": 2, "throughs.csv": 2}
+KEYS = {"stations.csv": 1, "fleets.csv": 1, "legs.csv": 1, "costs.csv": 2, "throughs.csv": 2, "tails.csv": 1}
 # Of each kind that looks a name up, where, and the fields of each table that hold such names.
 LOOKUPS = {
     6: ("stations.csv", {"legs.csv": ("from", "to")}),
     7: ("legs.csv", {"costs.csv": ("flight",), "throughs.csv": ("in", "out")}),
-    8: ("fleets.csv", {"costs.csv": ("fleet",)}),
+    8: ("fleets.csv", {"costs.csv": ("fleet",), "tails.csv": ("fleet",)}),
 }
 
 

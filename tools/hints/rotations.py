@@ -26,7 +26,7 @@ def explain(hint, command, call, answers):
     for text, fleets in told.items():
         hint.say(f"{listed(fleets)}: {text}")
     days = more_days(answers, call)
-    if days and call.command in ("solve", "tails"):
+    if days and call.command in ("solve", "tails", "due"):
         hint.show(typed([command, *call.with_option("days", str(days))]))
     if told:
         hint.see(SECTION)
@@ -80,7 +80,7 @@ def plain_advice(found, days, visits):
 
 
 def of_summary(text):
-    """Returns the fleets and what became of their rotations, as a summary or tails tell it, in lines."""
+    """Returns the fleets and what became of their rotations, as a summary, tails or due tell it, in lines."""
     return [(it[1], it[0].partition(": ")[2]) for it in map(REFUSED.fullmatch, text.splitlines()) if it]
 
 

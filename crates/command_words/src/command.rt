@@ -145,10 +145,24 @@ pub enum Command<'a> {
         rotations: RotationLimits,
         dates: Dates,
     },
+    /// Print what each named tail of a folder's plan flies on some dates.
+    Due {
+        dir: &'a str,
+        reading: TableOptions,
+        rotations: RotationLimits,
+        dates: Dates,
+    },
     /// Make tables of a number and of so many legs in a folder, and find a plan for them by the defaults.
     Make {
         dir: &'a str,
         number: u32,
         legs: u32,
+    },
+    /// Ask what the proof of a folder says where a fleet has so many aircraft.
+    Whatif {
+        dir: &'a str,
+        reading: TableOptions,
+        fleet: &'a str,
+        count: u32,
     },
 }

@@ -1,5 +1,5 @@
 -- What a run leaves.
-use Rattle.std.specs.Prelude.{◌≡◌, ◌≢◌, ◌⊎◌, ℕ, All, Bool, true, false, List, [], ◌∷◌, ℤ, Option, Some, None, IfSome, IsSomeAnd, ⊤}
+use Rattle.std.specs.Prelude.{◌≡◌, ◌≢◌, ◌⊎◌, ℕ, All, Bool, true, false, List, [], ◌∷◌, ℤ, Option, Some, None, IfSome, IsSome, IsSomeAnd, ⊤, map}
 use Rattle.bound_cert.specs.ReadProof.{ReadsAs}
 use Rattle.bound_cert.specs.declared.reading.Proof.{Proof}
 use Rattle.cert_check.specs.Verdicts.{HoldsWith}
@@ -7,6 +7,7 @@ use Rattle.csv_fields.specs.Record.{records_of}
 use Rattle.fleet_model.specs.Legal.{IsLegal, total_cost}
 use Rattle.fleet_model.specs.declared.options.TableOptions.{TableOptions}
 use Rattle.fleet_model.specs.declared.tables.Tables.{Tables}
+use Rattle.fleet_tables.specs.Fleets.{fleet_name_of}
 use Rattle.plan_desk.specs.Counts.{IsOneMoreAtMost, counted}
 use Rattle.plan_desk.specs.Desk.{Files}
 use Rattle.plan_desk.specs.Sink.{AppendsPrefix, handed_with, output_with}
@@ -15,16 +16,19 @@ use Rattle.plan_desk.specs.declared.file.DeskFile.{DeskFile}
 use Rattle.plan_desk.specs.declared.file.DeskFile.TheVariants as desk_file
 use Rattle.plan_text.specs.Reading.{PlanReads}
 use Rattle.sched_read.specs.Reading.{Reads}
+use Rattle.tail_dates.specs.TailTable.{TailsRead}
+use Rattle.tail_dates.specs.declared.tails.TailState.{TailState}
 use Rattle.fleet_cli.specs.Answer.{Answers, AnswersSome}
 use Rattle.fleet_cli.specs.Contents.{bytes_in, table_bytes}
 use Rattle.fleet_cli.specs.Gathered.{AllStand, IsHeld, ReadFails}
 use Rattle.fleet_cli.specs.Laws.{IsFixed}
-use Rattle.fleet_cli.specs.Reading.{IsMissing, IsRead, folder_of, judge_files, proof_files, table_files, written_files}
+use Rattle.fleet_cli.specs.Reading.{IsMissing, IsRead, due_files, folder_of, judge_files, proof_files, table_files, written_files}
+use Rattle.fleet_cli.specs.Refusals.{fleet_named}
 use Rattle.fleet_cli.specs.Texts.{fault_text}
-use Rattle.command_words.specs.Words.{Asked, check, judge, make, solve, tails}
+use Rattle.command_words.specs.Words.{Asked, check, due, judge, make, solve, tails, whatif}
 use Rattle.fleet_cli.specs.Written.{HaveLengths, WriteFails, WritesFirst, held_with_texts, under}
 use Rattle.fleet_cli.specs.declared.answer.Answer.{Answer}
-use Rattle.fleet_cli.specs.declared.status.TheConstants.{BAD_INPUT, DONE, FAULT, GAP, INFEASIBLE, NO_MEMORY, REFUSED, UNSETTLED, USAGE}
+use Rattle.fleet_cli.specs.declared.status.TheConstants.{BAD_INPUT, DONE, FALLEN, FAULT, GAP, INFEASIBLE, NO_MEMORY, REFUSED, UNPLACED, UNSETTLED, USAGE}
 
 -- a fact of every status but a fault and want of memory
 abbrev pub IsAnswered : ℕ → Type 0 → Type 0
@@ -61,6 +65,17 @@ pub record LegalThere (held : Files) (dir : List ℕ) (reading : TableOptions) :
   pub plan_reads : PlanReads tables (records_of (bytes_in held dir desk_file.Plan)) plan
   pub legal : IsLegal tables plan
 
+-- so they are, and tails that read on these tables
+pub record DueThere (held : Files) (dir : List ℕ) (reading : TableOptions) : Type 0 where
+  pub tables : Tables
+  pub tails : List TailState
+  pub plan : List ℕ
+  pub there : AllStand held dir due_files
+  pub reads : Reads (table_bytes (bytes_in held dir)) reading.settings tables
+  pub tails_read : TailsRead (map fleet_name_of tables.fleets) (records_of (bytes_in held dir desk_file.Tails)) tails
+  pub plan_reads : PlanReads tables (records_of (bytes_in held dir desk_file.Plan)) plan
+  pub legal : IsLegal tables plan
+
 -- the files of a folder are tables that read
 pub record TablesThere (held : Files) (dir : List ℕ) (reading : TableOptions) : Type 0 where
   pub tables : Tables
@@ -93,6 +108,15 @@ pub record ProofThere (held : Files) (dir : List ℕ) (reading : TableOptions) :
   pub plan : IsCostThere held dir tables proof.planned cost
   pub holds : HoldsWith tables cost proof.tree bound
 
+-- .. and the tables have a fleet of this name
+pub record FleetProofThere (held : Files) (dir : List ℕ) (reading : TableOptions) (name : List ℕ) : Type 0 where
+  pub proof : ProofThere held dir reading
+  pub known : IsSome (fleet_named proof.tables name)
+
+-- a status that tells what a proof says of tables of another size
+abbrev pub IsAskedOf : ℕ → Type 0
+IsAskedOf code = (code ≡ DONE) ⊎ (code ≡ FALLEN)
+
 -- a status that tells of a solution
 abbrev pub IsSolution : ℕ → Type 0
 IsSolution code = (code ≡ DONE) ⊎ (code ≡ GAP) ⊎ (code ≡ INFEASIBLE) ⊎ (code ≡ UNSETTLED)
@@ -101,15 +125,22 @@ IsSolution code = (code ≡ DONE) ⊎ (code ≡ GAP) ⊎ (code ≡ INFEASIBLE) �
 abbrev pub IsFlyable : ℕ → Type 0
 IsFlyable code = (code ≡ DONE) ⊎ (code ≡ GAP) ⊎ (code ≡ UNSETTLED)
 
--- What is good is never refused: a legal plan on tables that read is judged so and its tails are told, tables that read
--- are solved, and a proof that holds is said to hold. Tables that are made are solved whatever is held, and have a plan.
+-- a status that tells of tails: they are placed, or those of some fleet can't be
+abbrev pub IsTold : ℕ → Type 0
+IsTold code = (code ≡ DONE) ⊎ (code ≡ UNPLACED)
+
+-- What is good is never refused: a legal plan on tables that read is judged so and its tails are told, with their names
+-- where a table of tails reads; tables that read are solved, a proof that holds is said to hold, and is asked about a fleet
+-- that there is. Tables that are made are solved whatever is held, and have a plan.
 abbrev pub IsComplete : Option Files → Option Asked → ℕ → Type 0
 IsComplete told None code = ⊤
 IsComplete told (Some (judge dir reading)) code = IsSomeAnd told (λ held. LegalThere held dir reading) → code ≡ DONE
 IsComplete told (Some (solve dir reading options)) code = IsSomeAnd told (λ held. TablesThere held dir reading) → IsSolution code
 IsComplete told (Some (check dir reading)) code = IsSomeAnd told (λ held. ProofThere held dir reading) → code ≡ DONE
 IsComplete told (Some (tails dir reading limits dates)) code = IsSomeAnd told (λ held. LegalThere held dir reading) → code ≡ DONE
+IsComplete told (Some (due dir reading limits dates)) code = IsSomeAnd told (λ held. DueThere held dir reading) → IsTold code
 IsComplete told (Some (make dir number legs)) code = IsFlyable code
+IsComplete told (Some (whatif dir reading name count)) code = IsSomeAnd told (λ held. FleetProofThere held dir reading name) → IsAskedOf code
 
 -- an answer that is right of some contents, all of which was put, and the sink was handed nothing else
 pub record SomeInFull (longer : Type 0) (asked : Option Asked) (code : ℕ) (before after : Option (List ℕ)) (handed_before handed_after : Option ℕ) : Type 0 where

@@ -11,8 +11,10 @@ use crate::files::FileList;
 use crate::judging::judge_contents;
 use crate::making::make_and_solve;
 use crate::opened::Opened;
+use crate::placing::due_of_contents;
 use crate::solving::solve_contents;
 use crate::telling::tails_of_contents;
+use crate::what_if::open_whatif;
 use command_words::Command;
 use entries::NoMemory;
 use plan_desk::DeskFile;
@@ -27,7 +29,9 @@ pub fn folder<'a>(command: &Command<'a>) -> &'a str
         | Command::Solve { dir, .. }
         | Command::Check { dir, .. }
         | Command::Tails { dir, .. }
-        | Command::Make { dir, .. } => *dir,
+        | Command::Due { dir, .. }
+        | Command::Make { dir, .. }
+        | Command::Whatif { dir, .. } => *dir,
     }
 }
 
@@ -37,8 +41,9 @@ pub fn first_files(command: &Command<'_>) -> FileList
 {
     match command {
         Command::Judge { .. } | Command::Tails { .. } => FileList::tables_and(DeskFile::Plan),
+        Command::Due { .. } => FileList::tables_and_tails(),
         Command::Solve { .. } => FileList::tables(),
-        Command::Check { .. } => FileList::tables_and(DeskFile::Proof),
+        Command::Check { .. } | Command::Whatif { .. } => FileList::tables_and(DeskFile::Proof),
         Command::Make { .. } => FileList::empty(),
     }
 }
@@ -83,9 +88,24 @@ fn outcome_of(alloc: Global, command: &Command<'_>, contents: &Contents) -> Resu
             let answer = tails_of_contents(alloc, *reading, *rotations, dates, contents)?;
             Ok(Opened::Answered(answer))
         }
+        Command::Due {
+            reading,
+            rotations,
+            dates,
+            ..
+        } => {
+            let answer = due_of_contents(alloc, *reading, *rotations, dates, contents)?;
+            Ok(Opened::Answered(answer))
+        }
         Command::Make { number, legs, .. } => {
             let answer = make_and_solve(alloc, *number, *legs)?;
             Ok(Opened::Answered(answer))
         }
+        Command::Whatif {
+            reading,
+            fleet,
+            count,
+            ..
+        } => open_whatif(alloc, *reading, *fleet, *count, contents),
     }
 }

@@ -2,7 +2,7 @@
 ghost use Rattle.std.specs.Prelude.{◌≡◌, ◌<◌, ◌≤◌, ◌++◌, [], ◌∷◌, List, length, take};
 ghost use Rattle.plan_desk.specs.declared.file.DeskFile.{DeskFile};
 ghost use Rattle.fleet_cli.specs.declared.files.TheConstants.{MOST_FILES};
-ghost use Rattle.fleet_cli.specs.Reading.{table_files, tables_and};
+ghost use Rattle.fleet_cli.specs.Reading.{due_files, table_files, tables_and};
 
 use plan_desk::DeskFile;
 use std::marker::Model;
@@ -57,6 +57,15 @@ impl FileList {
     {
         let mut files = FileList::tables();
         files.push(last);
+        files
+    }
+
+    /// The five tables, the table of tails, and the plan.
+    pub fn tables_and_tails() -> Self
+        ensures { result ≡ due_files }
+    {
+        let mut files = FileList::tables_and(DeskFile::Tails);
+        files.push(DeskFile::Plan);
         files
     }
 

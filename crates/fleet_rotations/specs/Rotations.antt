@@ -6,6 +6,7 @@ use Rattle.fleet_model.specs.declared.parts.Connection.{Connection}
 use Rattle.fleet_model.specs.declared.tables.Tables.{Tables}
 use Rattle.fleet_model.specs.Schedule.{fleets_in, legs_in}
 use Rattle.ground_turns.specs.Maps.{IsTour, turn_at}
+use Rattle.ground_turns.specs.Nights.{IsKeptFor, nights_of_tour}
 use Rattle.lines_of_flying.specs.Lines.{AreLegs, BeginsAfterStart}
 use Rattle.fleet_rotations.specs.declared.made.FleetRotation.{FleetRotation}
 
@@ -63,3 +64,15 @@ IsFlown t a f (rotation.Spent order prefix) = ⊤
 
 pub record AreFlown (t : Tables) (a : List ℕ) (rotations : List FleetRotation) : Type 0 where
   pub each : (f : ℕ) → f < length rotations → IsFlown t a f (last_made (rotation_of rotations f))
+
+-- a tour comes to maintenance, again and again
+abbrev pub IsKept : Tables → ℕ → Rotation → Type 0
+IsKept t f rotation.Unused = ⊤
+IsKept t f (rotation.TooFewNights have used) = ⊤
+IsKept t f (rotation.Apart legs) = ⊤
+IsKept t f (rotation.Tour tour) = (days : ℕ) × IsKeptFor t (nights_of_tour t f tour) days
+IsKept t f rotation.None = ⊤
+IsKept t f (rotation.Spent order prefix) = ⊤
+
+pub record AreKept (t : Tables) (rotations : List FleetRotation) : Type 0 where
+  pub each : (f : ℕ) → f < length rotations → IsKept t f (last_made (rotation_of rotations f))

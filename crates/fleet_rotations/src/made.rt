@@ -1,3 +1,6 @@
+ghost use Rattle.std.specs.Prelude.{◌≡◌};
+ghost use Rattle.fleet_rotations.specs.Rotations.{last_made};
+
 use entries::Entries;
 use euler_rotation::Rotation;
 use fleet_model::Connection;
@@ -12,4 +15,16 @@ pub struct FleetRotation {
     pub first: Rotation,
     /// The rotation without them, where they were given up for it.
     pub second: Option<Rotation>,
+}
+
+impl FleetRotation {
+    /// The rotation that was made last: without through pairs, where these were given up.
+    pub fn last(&self) -> &Rotation
+        ensures { result.now ≡ last_made self.now }
+    {
+        match &self.second {
+            Some(second) => second,
+            None => &self.first,
+        }
+    }
 }

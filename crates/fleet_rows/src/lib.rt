@@ -13,6 +13,8 @@ mod costs;
 #[cfg(test)]
 mod desk;
 #[cfg(test)]
+mod due;
+#[cfg(test)]
 mod faults;
 #[cfg(test)]
 mod files;
@@ -56,6 +58,8 @@ mod searches;
 mod searching;
 #[cfg(test)]
 mod second_runs;
+#[cfg(test)]
+mod sizes;
 #[cfg(test)]
 mod solving;
 #[cfg(test)]

@@ -1,9 +1,10 @@
 //! Tables at their limits, and one record or one byte past them.
+use crate::due::DUE;
 use crate::rows::{CHECK, JUDGE, Laid, SOLVE, run_case, run_texts};
-use crate::statuses::{BAD_INPUT, DONE, FAULT, REFUSED};
+use crate::statuses::{BAD_INPUT, DONE, FAULT, REFUSED, UNPLACED};
 use crate::tables::{FLEETS, LEGAL, OPEN_PROOF, PRICED_PROOF, STATIONS, THROUGHS};
 use crate::tails::TAILS;
-use plan_desk::DeskFile::{self, Costs, Fleets, Legs, Plan, Proof, Stations, Throughs};
+use plan_desk::DeskFile::{self, Costs, Fleets, Legs, Plan, Proof, Stations, Tails, Throughs};
 use std::alloc::Global;
 use std::process::Abort;
 use std::test::Fail;
@@ -150,6 +151,36 @@ fn throughs_at_the_limit(rt: HostRuntime) -> Result<(), Fail> {
     Ok(())
 }
 
+// Tails T1, T2 and so on of the second fleet.
+fn tails(alloc: Global, count: u32) -> Result<Vec<u8>, Fail> {
+    let mut text = b"tail,fleet,left\n".to_vec(alloc)?;
+    for number in 1..=count {
+        text.push(b'T')?;
+        push_number(alloc, &mut text, number)?;
+        text.extend_from_slice(b",F2,1\n")?;
+    }
+    Ok(text)
+}
+
+/// How many tails, the status, and the lines.
+const ALL_TAILS: &[(u32, u8, &[u8])] = &[
+    (10_000, UNPLACED, b"F1: tails 0 of 1\nF2: unused\n"),
+    (
+        10_001,
+        BAD_INPUT,
+        b"bad input: tails.csv record 10002 kind 11\n",
+    ),
+];
+
+#[test]
+fn tails_at_the_limit(rt: HostRuntime) -> Result<(), Fail> {
+    for (count, status, lines) in ALL_TAILS {
+        let tails = tails(rt.alloc(), *count)?;
+        run_texts(&rt, DUE, Tails, *status, &[(tails.as_slice(), lines)])?;
+    }
+    Ok(())
+}
+
 // A text, and behind it as many line feeds as make it this long.
 fn filled(alloc: Global, text: &[u8], size: usize) -> Result<Vec<u8>, Fail> {
     let mut text = text.to_vec(alloc)?;
@@ -237,6 +268,13 @@ const LONG_TO_OTHERS: &[Long] = &[
         &[],
         BAD_INPUT,
         b"bad input: plan.csv record 0 kind 12\n",
+    ),
+    (
+        DUE,
+        Tails,
+        &[],
+        BAD_INPUT,
+        b"bad input: tails.csv record 0 kind 12\n",
     ),
 ];
 

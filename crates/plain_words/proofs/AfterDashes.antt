@@ -1,7 +1,7 @@
 -- What words ask for, computed by clap's definition.
 use Rattle.std.proofs.Common.{refl}
 use Rattle.clap.proofs.OnLiterals.{clap_on_literals}
-use Rattle.plain_words.specs.Plain.{ChecksByDefault, ChecksFrom, JudgesByDefault, JudgesFrom, MakesByDefault, MakesWithoutOptions, SolvesByDefault, SolvesWithin, TailsByDefault, TailsWithin}
+use Rattle.plain_words.specs.Plain.{AsksByDefault, AsksFrom, ChecksByDefault, ChecksFrom, DueByDefault, DueWithin, JudgesByDefault, JudgesFrom, MakesByDefault, MakesWithoutOptions, SolvesByDefault, SolvesWithin, TailsByDefault, TailsWithin}
 use Rattle.command_line.specs.Found.{found}
 use Rattle.command_line.specs.Program.{our_app}
 use Rattle.command_words.specs.Words.{asked}
@@ -38,6 +38,14 @@ pub tails_within : TailsWithin
 unfolding asked found our_app clap_on_literals
 tails_within program time period wait days visits dir date count = refl
 
+pub due_by_default : DueByDefault
+unfolding asked found our_app clap_on_literals
+due_by_default program dir date count = refl
+
+pub due_within : DueWithin
+unfolding asked found our_app clap_on_literals
+due_within program time period wait days visits dir date count = refl
+
 pub makes_by_default : MakesByDefault
 unfolding asked found our_app clap_on_literals
 makes_by_default program dir number legs = refl
@@ -54,3 +62,11 @@ makes_without_options = record {
   pivots = λ program text dir number legs. refl;
   json = λ program dir number legs. refl;
 }
+
+pub asks_by_default : AsksByDefault
+unfolding asked found our_app clap_on_literals
+asks_by_default program dir fleet count = refl
+
+pub asks_from : AsksFrom
+unfolding asked found our_app clap_on_literals
+asks_from program time period dir fleet count = refl

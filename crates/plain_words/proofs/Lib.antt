@@ -4,8 +4,10 @@ pub mod Fails
 pub mod GivenRows
 pub mod OtherWords
 pub mod OwnOptions
+pub mod PlainDue
 pub mod PlainFolder
 pub mod PlainMake
 pub mod PlainTails
+pub mod PlainWhatIf
 pub mod PlainWords
 pub mod Twice

@@ -5,7 +5,7 @@ use Rattle.fleet_model.specs.declared.tables.Tables.{Tables}
 use Rattle.euler_rotation.specs.Answers.{IsRotation}
 use Rattle.euler_rotation.specs.declared.rotation.Rotation.{Rotation}
 use Rattle.euler_rotation.specs.declared.rotation.Rotation.TheVariants as rotation
-use Rattle.fleet_rotations.specs.Rotations.{AreFlown, AreRotations, IsFleetRotation, IsFlown, IsOfLegs, rotation_of}
+use Rattle.fleet_rotations.specs.Rotations.{AreFlown, AreKept, AreRotations, IsFleetRotation, IsFlown, IsKept, IsOfLegs, rotation_of}
 use Rattle.fleet_rotations.specs.declared.made.FleetRotation.{FleetRotation}
 use Rattle.plan_rotations.specs.Rotations.{ArePlanRotations, IsMadeRotation, IsRotationWith, are_some, is_given_up}
 use Rattle.plan_rotations.proofs.Listed.{apart_listed, order_listed, prefix_listed, tour_listed}
@@ -27,6 +27,14 @@ flown t a f pairs days visits (rotation.Tour legs) is = (is.tour.tour, is.begins
 flown t a f pairs days visits rotation.None is = tt
 flown t a f pairs days visits (rotation.Spent order prefix) is = tt
 
+kept : (t : Tables) (a : List ℕ) (f : ℕ) (pairs : List Connection) (days visits : ℕ) (answer : Rotation) → IsRotation t a f pairs days visits answer → IsKept t f answer
+kept t a f pairs days visits rotation.Unused is = tt
+kept t a f pairs days visits (rotation.TooFewNights have used) is = tt
+kept t a f pairs days visits (rotation.Apart legs) is = tt
+kept t a f pairs days visits (rotation.Tour legs) is = (days, is.tour.kept)
+kept t a f pairs days visits rotation.None is = tt
+kept t a f pairs days visits (rotation.Spent order prefix) is = tt
+
 second_of_legs : (t : Tables) (a : List ℕ) (f days visits : ℕ) (b : Bool) (second : Option Rotation)
     → MatchBool b (IsSomeAnd second (IsRotationWith t a f [] days visits)) (second ≡ None) → IfSome second (IsOfLegs t)
 second_of_legs t a f days visits true (Some answer) is = of_legs t a f [] days visits answer is.right
@@ -34,12 +42,14 @@ second_of_legs t a f days visits true None is = tt
 second_of_legs t a f days visits false (Some answer) is = absurd (cc is)
 second_of_legs t a f days visits false None is = tt
 
-last_flown : (t : Tables) (a : List ℕ) (f days visits : ℕ) (b : Bool) (first : Rotation) (second : Option Rotation) → IsFlown t a f first
-    → MatchBool b (IsSomeAnd second (IsRotationWith t a f [] days visits)) (second ≡ None) → IsFlown t a f (unwrap_or second first)
-last_flown t a f days visits true first (Some answer) one is = flown t a f [] days visits answer is.right
-last_flown t a f days visits true first None one is = one
-last_flown t a f days visits false first (Some answer) one is = absurd (cc is)
-last_flown t a f days visits false first None one is = one
+-- what is so of each rotation with or without pairs is so of the one that was made last
+last_is : (t : Tables) (a : List ℕ) (f days visits : ℕ) (P : Rotation → Type 0) (b : Bool) (first : Rotation) (second : Option Rotation)
+    → ((answer : Rotation) → IsRotation t a f [] days visits answer → P answer) → P first
+    → MatchBool b (IsSomeAnd second (IsRotationWith t a f [] days visits)) (second ≡ None) → P (unwrap_or second first)
+last_is t a f days visits P true first (Some answer) each one is = each answer is.right
+last_is t a f days visits P true first None each one is = one
+last_is t a f days visits P false first (Some answer) each one is = absurd (cc is)
+last_is t a f days visits P false first None each one is = one
 
 module _ (t : Tables) (a : List ℕ) (days visits : ℕ) where
   made_of_legs : (f : ℕ) (made : FleetRotation) → IsMadeRotation t a f days visits made → IsFleetRotation t made
@@ -60,5 +70,15 @@ module _ (t : Tables) (a : List ℕ) (days visits : ℕ) where
     each = λ f lt.
         let made = is.each f (omega (arith, lt, is.each_fleet)) in
         let all_of = rotation_of all f in
-        last_flown t a f days visits (are_some all_of.pairs && is_given_up all_of.first) all_of.first all_of.second (flown t a f all_of.pairs days visits all_of.first made.first.right) made.second;
+        last_is t a f days visits (IsFlown t a f) (are_some all_of.pairs && is_given_up all_of.first) all_of.first all_of.second (flown t a f [] days visits)
+        (flown t a f all_of.pairs days visits all_of.first made.first.right) made.second;
+  }
+
+  pub are_kept : (all : List FleetRotation) → ArePlanRotations t a days visits all → AreKept t all
+  are_kept all is = record {
+    each = λ f lt.
+        let made = is.each f (omega (arith, lt, is.each_fleet)) in
+        let all_of = rotation_of all f in
+        last_is t a f days visits (IsKept t f) (are_some all_of.pairs && is_given_up all_of.first) all_of.first all_of.second (kept t a f [] days visits)
+        (kept t a f all_of.pairs days visits all_of.first made.first.right) made.second;
   }

@@ -3,7 +3,7 @@ ghost use Rattle.fleet_model.specs.Legal.{IsLegal};
 ghost use Rattle.fleet_model.specs.Schedule.{fleets_in};
 ghost use Rattle.fleet_model.specs.Plain.{IsPlain};
 ghost use Rattle.ground_turns.specs.Maps.{IsHeld};
-ghost use Rattle.fleet_rotations.specs.Rotations.{AreFlown, AreRotations, rotation_of};
+ghost use Rattle.fleet_rotations.specs.Rotations.{AreFlown, AreKept, AreRotations, rotation_of};
 ghost use Rattle.plan_rotations.specs.Rotations.{ArePlanRotations, AreWorthMost, IsMadeRotation, IsRotationWith, IsSecond, are_some, is_given_up};
 
 use entries::{Entries, NoMemory};
@@ -31,6 +31,7 @@ pub fn rotations(
     ensures made { IfOk result (ArePlanRotations tables.now plan.now days visits) }
     ensures known { IfOk result (AreRotations tables.now) }
     ensures flown { IfOk result (AreFlown tables.now plan.now) }
+    ensures kept { IfOk result (AreKept tables.now) }
 {
     Ok(of_fleets(alloc, tables, plan, days, visits)?)
 }

@@ -26,10 +26,14 @@ pub record AreLinesOf (t : Tables) (flown : FleetLines) : Type 0 where
   pub each_day : length flown.lines ≡ flown.used * days_in t
   pub legs : (k : ℕ) → k < length flown.lines → AreLegs t (slice_index_or flown.lines k [])
 
--- the line that an aircraft flies so many days after the first date: it begins a period after the one before it, and
--- comes to the next line each day
+-- the line that an aircraft flies so many days after the first date, where it begins with the line after so many: it comes
+-- to the next line each day
+abbrev pub line_from : Tables → FleetLines → ℕ → ℕ → List ℕ
+line_from t flown d first = slice_index_or flown.lines ((first + d) % (flown.used * days_in t)) []
+
+-- where it begins a period after the aircraft before it
 abbrev pub line_on : Tables → FleetLines → ℕ → ℕ → List ℕ
-line_on t flown d k = slice_index_or flown.lines ((k * days_in t + d) % (flown.used * days_in t)) []
+line_on t flown d k = line_from t flown d (k * days_in t)
 
 -- a flight, with a space before it
 abbrev pub spaced_flight : Tables → ℕ → List ℕ

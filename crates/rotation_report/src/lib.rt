@@ -2,7 +2,7 @@
 //! tails.
 #![tactic(auto)]
 
-mod flying;
+pub mod flying;
 pub mod laws;
 mod record_writer;
 pub mod records;
@@ -12,6 +12,7 @@ mod tour_records;
 pub mod words;
 
 pub use fleet_rotations::FleetRotation;
+pub use flying::FleetLines;
 pub use records::rotation_csv;
 pub use tails::tail_lines;
 pub use words::rotation_words;

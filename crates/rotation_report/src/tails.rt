@@ -1,13 +1,13 @@
 //! What each aircraft of a fleet, by its tail, flies on each date.
-ghost use Rattle.std.specs.Prelude.{◌≡◌, ◌++◌, ◌<◌, ◌^◌, IfOk, OnOk, length, map};
+ghost use Rattle.std.specs.Prelude.{◌≡◌, ◌++◌, ◌*◌, ◌<◌, ◌^◌, IfOk, OnOk, length, map};
 ghost use Rattle.std.specs.List.{flat_map};
 ghost use Rattle.fleet_model.specs.Legal.{IsAssignment};
-ghost use Rattle.fleet_model.specs.Schedule.{fleets_in};
+ghost use Rattle.fleet_model.specs.Schedule.{days_in, fleets_in};
 ghost use Rattle.ground_turns.specs.Maps.{IsTour};
 ghost use Rattle.lines_of_flying.specs.Lines.{AreLegs, BeginsAfterStart};
 ghost use Rattle.calendar_dates.specs.Days.{HasDays, day_on};
 ghost use Rattle.fleet_rotations.specs.Rotations.{AreFlown, AreRotations, IsFleetRotation, IsFlown, last_made};
-ghost use Rattle.rotation_report.specs.Tails.{AreLinesOf, dated_line, day_lines, days_lines, fleet_tails, fleets_tails, flights_text, line_on, lines_by, no_tour_line, spaced_flight, tails_text};
+ghost use Rattle.rotation_report.specs.Tails.{AreLinesOf, dated_line, day_lines, days_lines, fleet_tails, fleets_tails, flights_text, line_from, line_on, lines_by, no_tour_line, spaced_flight, tails_text};
 
 use crate::flying::FleetLines;
 use crate::text_lines::push_line;
@@ -82,7 +82,7 @@ fn push_tails(
     requires few { length dates.now < 2 ^ 32 }
     ensures { OnOk result (text.new.items ≡ text.old.items ++ fleet_tails tables.now plan.now fleet made.now (map day_on dates.now)) }
 {
-    match last_made(made) {
+    match made.last() {
         Rotation::Tour(tour) => {
             push_tour(alloc, text, tables, plan, fleet, tour.as_slice(), dates)
         }
@@ -111,18 +111,8 @@ fn push_tour(
     push_days(alloc, text, tables, &flown, dates)
 }
 
-/// The rotation that was made last: without through pairs, where these were given up.
-fn last_made(made: &FleetRotation) -> &Rotation
-    ensures { result.now ≡ last_made made.now }
-{
-    match &made.second {
-        Some(second) => second,
-        None => &made.first,
-    }
-}
-
 /// Appends `F: A` of a fleet that has no tour.
-fn push_no_tour(
+pub fn push_no_tour(
     alloc: Global,
     text: &mut Vec<u8>,
     tables: &Tables,
@@ -147,7 +137,7 @@ fn push_no_tour(
 }
 
 /// The lines of a tour, and the aircraft that fly them.
-fn lines_by(
+pub fn lines_by(
     alloc: Global,
     tables: &Tables,
     plan: &Assignment,
@@ -243,13 +233,25 @@ fn line_on<'a>(tables: &Tables, flown: &'a FleetLines, day: u32, aircraft: u32) 
     ensures value { result.now ≡ line_on tables.now flown.now day aircraft }
     ensures legs { AreLegs tables.now result.now }
 {
-    let days = tables.day_count() as usize;
-    let place = (aircraft as usize * days + day as usize) % (flown.used as usize * days);
+    let first = u64::from(aircraft) * u64::from(tables.day_count());
+    line_from(tables, flown, day, first)
+}
+
+/// The line that an aircraft flies so many days after the first date, where it begins with the line after so many: it
+/// comes to the next line each day. Takes no memory.
+pub fn line_from<'a>(tables: &Tables, flown: &'a FleetLines, day: u32, first: u64) -> &'a [u32]
+    requires flown { AreLinesOf tables.now flown.now }
+    requires first { first < flown.now.used * days_in tables.now }
+    ensures value { result.now ≡ line_from tables.now flown.now day first }
+    ensures legs { AreLegs tables.now result.now }
+{
+    let count = u64::from(flown.used) * u64::from(tables.day_count());
+    let place = ((first + u64::from(day)) % count) as usize;
     flown.lines.as_slice()[place].as_slice()
 }
 
 /// The flights of a line, each after a space, and a dash where it has none.
-fn flights_text(alloc: Global, tables: &Tables, legs: &[u32]) -> Result<Vec<u8>, NoMemory>
+pub fn flights_text(alloc: Global, tables: &Tables, legs: &[u32]) -> Result<Vec<u8>, NoMemory>
     requires { AreLegs tables.now legs.now }
     ensures { IfOk result (λ text. text.items ≡ flights_text tables.now legs.now) }
 {

@@ -1,8 +1,8 @@
 //! With which line of a tour each of a fleet's tails begins, so that each comes to maintenance in time.
 #![tactic(auto)]
 
-pub mod laws;
 mod late;
+pub mod laws;
 pub mod placing;
 mod ranks;
 mod reaches;

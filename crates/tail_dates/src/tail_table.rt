@@ -15,9 +15,7 @@ use entries::{Entries, NoMemory};
 use fleet_model::refusals::{DUPLICATE, NOT_TEXT, TOO_MANY, UNKNOWN_FLEET, WRONG_WIDTH};
 use fleet_model::{LoadError, TableFile, Tables};
 use std::alloc::Global;
-use table_rows::{
-    Names, RecordError, RowReader, is_text, numbers_of, read_table, three_fields,
-};
+use table_rows::{Names, RecordError, RowReader, is_text, numbers_of, read_table, three_fields};
 
 /// The most tails of `tails.csv`.
 pub const MAX_TAILS: usize = 10_000;
@@ -29,11 +27,7 @@ pub const MAX_NIGHTS_LEFT: u8 = 30;
 const HEADER: [&[u8]; 3] = [b"tail", b"fleet", b"left"];
 
 /// The tails of `tails.csv`, in the order of its records, or the first fault of the file.
-pub fn read_tails(
-    alloc: Global,
-    tables: &Tables,
-    bytes: &[u8],
-) -> Result<Vec<TailState>, LoadError>
+pub fn read_tails(alloc: Global, tables: &Tables, bytes: &[u8]) -> Result<Vec<TailState>, LoadError>
     ensures reads { MatchResult result (λ tails. TailsRead (map fleet_name_of tables.now.fleets) (records_of bytes.now) tails.items)
         (IsFirstFault file.Tails (TailsBad (map fleet_name_of tables.now.fleets) (records_of bytes.now))) }
     ensures kept { IfOk result (λ tails. AreTailStates (fleets_in tables.now) tails.items) }

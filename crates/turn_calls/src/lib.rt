@@ -19,6 +19,8 @@ mod standing;
 #[cfg(test)]
 mod succeeding;
 #[cfg(test)]
+mod tail_tables;
+#[cfg(test)]
 mod throughs;
 #[cfg(test)]
 mod turns;

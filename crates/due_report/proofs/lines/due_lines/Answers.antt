@@ -1,0 +1,12 @@
+use Rattle.std.proofs.Common.{◌≡◌, length, sym, ap, ◌∙◌, arith}
+use Rattle.std.proofs.lemmas.List.{length-map}
+use Rattle.sums.proofs.Places.{length-list_below}
+use Rattle.calendar_dates.specs.Days.{day_after, day_on}
+use Rattle.due_report.proofs.lines.due_lines.Goals as goal
+
+pub due_on-requires-clause-few : goal.due_on-requires-clause-few
+due_on-requires-clause-few c =
+    let many : length c.deref.result.now ≡ c.args.count =
+    ap length c.deref.ensures.value ∙ sym (length-map c.in_ok-dates.dates.items day_on) ∙ ap length c.in_ok-dates.ensures
+    ∙ length-list_below (day_after (day_on c.args.date)) c.args.count in
+    omega arith

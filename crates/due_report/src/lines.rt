@@ -1,0 +1,312 @@
+//! What each named tail flies on each date.
+ghost use Rattle.std.specs.Prelude.{◌≡◌, ◌++◌, ◌*◌, ◌<◌, ◌^◌, IfOk, OnOk, length, map};
+ghost use Rattle.calendar_dates.specs.Days.{HasDays, day_on};
+ghost use Rattle.due_report.specs.Lines.{AreBegun, begun_lines, days_tails, due_text, fleet_due, fleets_due, late_line, names_of, number_line, placed_lines, tail_line, tails_on};
+ghost use Rattle.due_report.specs.Placings.{ArePlacings, IsPlacing};
+ghost use Rattle.fleet_model.specs.Legal.{IsAssignment};
+ghost use Rattle.fleet_model.specs.Schedule.{days_in, fleets_in};
+ghost use Rattle.fleet_rotations.specs.Rotations.{AreFlown, AreRotations, IsFleetRotation, IsFlown, last_made};
+ghost use Rattle.ground_turns.specs.Maps.{IsTour};
+ghost use Rattle.lines_of_flying.specs.Lines.{BeginsAfterStart};
+ghost use Rattle.rotation_report.specs.Tails.{AreLinesOf, lines_by};
+ghost use Rattle.tail_dates.specs.Placing.{IsPlaced};
+
+use calendar_dates::dates_from;
+use entries::{Entries, NoMemory};
+use euler_rotation::Rotation;
+use fleet_model::{Assignment, Tables};
+use fleet_rotations::FleetRotation;
+use jiff::civil::Date;
+use rotation_report::FleetLines;
+use rotation_report::tails::{flights_text, line_from, lines_by, push_no_tour};
+use rotation_report::text_lines::push_line;
+use std::alloc::Global;
+use tail_dates::{Placed, TailState};
+
+/// The lines of named tails for so many dates, from the first on: of each fleet with a tour what each of its tails flies on
+/// each date, or why they can't all come to maintenance in time; of each other fleet what became of its rotation.
+#[tactic(auto, unfolding(crate::specs::Lines::due_text))]
+pub fn due_lines(
+    alloc: Global,
+    tables: &Tables,
+    plan: &Assignment,
+    rotations: &[FleetRotation],
+    tails: &[TailState],
+    placings: &[Option<Placed>],
+    date: Date,
+    count: u32,
+) -> Result<Vec<u8>, NoMemory>
+    requires plan { IsAssignment tables.now plan.now }
+    requires rotations { AreRotations tables.now rotations.now }
+    requires tours { AreFlown tables.now plan.now rotations.now }
+    requires placings { ArePlacings tables.now plan.now rotations.now tails.now placings.now }
+    requires dates { HasDays date count }
+    ensures { IfOk result (λ text. text.items ≡ due_text tables.now plan.now rotations.now tails.now placings.now (day_on date) count) }
+{
+    let dates = dates_from(alloc, date, count)?;
+    due_on(alloc, tables, plan, rotations, tails, placings, &dates)
+}
+
+/// The lines of named tails on some dates.
+fn due_on(
+    alloc: Global,
+    tables: &Tables,
+    plan: &Assignment,
+    rotations: &[FleetRotation],
+    tails: &[TailState],
+    placings: &[Option<Placed>],
+    dates: &[Date],
+) -> Result<Vec<u8>, NoMemory>
+    requires plan { IsAssignment tables.now plan.now }
+    requires rotations { AreRotations tables.now rotations.now }
+    requires tours { AreFlown tables.now plan.now rotations.now }
+    requires placings { ArePlacings tables.now plan.now rotations.now tails.now placings.now }
+    requires few { length dates.now < 2 ^ 32 }
+    ensures { IfOk result (λ text. text.items ≡ fleets_due tables.now plan.now rotations.now tails.now placings.now (map day_on dates.now) (length rotations.now)) }
+{
+    let mut text = Vec::new(alloc);
+    for fleet in 0..rotations.len() as u32 {
+        let made = &rotations[fleet as usize];
+        let placing = &placings[fleet as usize];
+        push_due(
+            alloc, &mut text, tables, plan, fleet, made, tails, placing, dates,
+        )?;
+    }
+    Ok(text)
+}
+
+/// Appends the lines of a fleet.
+fn push_due(
+    alloc: Global,
+    text: &mut Vec<u8>,
+    tables: &Tables,
+    plan: &Assignment,
+    fleet: u32,
+    made: &FleetRotation,
+    tails: &[TailState],
+    placing: &Option<Placed>,
+    dates: &[Date],
+) -> Result<(), NoMemory>
+    requires plan { IsAssignment tables.now plan.now }
+    requires fleet { fleet < fleets_in tables.now }
+    requires made { IsFleetRotation tables.now made.now }
+    requires tour { IsFlown tables.now plan.now fleet (last_made made.now) }
+    requires placing { IsPlacing tables.now plan.now fleet tails.now (last_made made.now) placing.now }
+    requires few { length dates.now < 2 ^ 32 }
+    ensures { OnOk result (text.new.items ≡ text.old.items ++ fleet_due tables.now plan.now fleet made.now tails.now placing.now (map day_on dates.now)) }
+{
+    let Some(placed) = placing else {
+        return push_no_tour(alloc, text, tables, plan, fleet, made);
+    };
+    match made.last() {
+        Rotation::Tour(tour) => {
+            let tour = tour.as_slice();
+            push_placed(alloc, text, tables, plan, fleet, tour, tails, placed, dates)
+        }
+        _ => push_no_tour(alloc, text, tables, plan, fleet, made),
+    }
+}
+
+/// Appends the lines of a fleet that has a tour.
+fn push_placed(
+    alloc: Global,
+    text: &mut Vec<u8>,
+    tables: &Tables,
+    plan: &Assignment,
+    fleet: u32,
+    tour: &[u32],
+    tails: &[TailState],
+    placed: &Placed,
+    dates: &[Date],
+) -> Result<(), NoMemory>
+    requires plan { IsAssignment tables.now plan.now }
+    requires fleet { fleet < fleets_in tables.now }
+    requires tour { IsTour tables.now plan.now fleet tour.now }
+    requires begins { BeginsAfterStart tables.now fleet tour.now }
+    requires placed { IsPlaced tables.now plan.now fleet tour.now tails.now placed.now }
+    requires few { length dates.now < 2 ^ 32 }
+    ensures { OnOk result (text.new.items ≡ text.old.items ++ placed_lines tables.now plan.now fleet tour.now tails.now (map day_on dates.now) placed.now) }
+{
+    match placed {
+        Placed::WrongNumber { tails, used } => {
+            push_number(alloc, text, tables, fleet, *tails, *used)
+        }
+        Placed::Late {
+            within,
+            tails,
+            starts,
+        } => push_late(alloc, text, tables, fleet, *within, *tails, *starts),
+        Placed::Lines(starts) => {
+            let starts = starts.as_slice();
+            push_begun(alloc, text, tables, plan, fleet, tour, tails, starts, dates)
+        }
+    }
+}
+
+/// Appends the lines of a fleet's tails, by the lines of its tour with which they begin.
+fn push_begun(
+    alloc: Global,
+    text: &mut Vec<u8>,
+    tables: &Tables,
+    plan: &Assignment,
+    fleet: u32,
+    tour: &[u32],
+    tails: &[TailState],
+    starts: &[u64],
+    dates: &[Date],
+) -> Result<(), NoMemory>
+    requires plan { IsAssignment tables.now plan.now }
+    requires fleet { fleet < fleets_in tables.now }
+    requires tour { IsTour tables.now plan.now fleet tour.now }
+    requires begins { BeginsAfterStart tables.now fleet tour.now }
+    requires begun { AreBegun tables.now (lines_by tables.now plan.now fleet tour.now) (names_of fleet tails.now) starts.now }
+    requires few { length dates.now < 2 ^ 32 }
+    ensures { OnOk result (text.new.items ≡ text.old.items ++ begun_lines tables.now plan.now fleet tour.now tails.now (map day_on dates.now) starts.now) }
+{
+    let flown = lines_by(alloc, tables, plan, fleet, tour)?;
+    let names = names_of(alloc, tails, fleet)?;
+    push_days(alloc, text, tables, &flown, &names, starts, dates)
+}
+
+/// Appends `F: tails N of M`.
+fn push_number(
+    alloc: Global,
+    text: &mut Vec<u8>,
+    tables: &Tables,
+    fleet: u32,
+    tails: u64,
+    used: u32,
+) -> Result<(), NoMemory>
+    requires { fleet < fleets_in tables.now }
+    ensures { OnOk result (text.new.items ≡ text.old.items ++ number_line tables.now fleet tails used) }
+{
+    let tails = tails.to_string(alloc)?;
+    let used = used.to_string(alloc)?;
+    push_line(
+        text,
+        &[
+            tables.fleet(fleet).name.as_slice(),
+            b": tails ".as_slice(),
+            tails.as_bytes(),
+            b" of ".as_slice(),
+            used.as_bytes(),
+        ],
+    )
+}
+
+/// Appends `F: late within V, tails N, starts M`.
+fn push_late(
+    alloc: Global,
+    text: &mut Vec<u8>,
+    tables: &Tables,
+    fleet: u32,
+    within: u64,
+    tails: u64,
+    starts: u64,
+) -> Result<(), NoMemory>
+    requires { fleet < fleets_in tables.now }
+    ensures { OnOk result (text.new.items ≡ text.old.items ++ late_line tables.now fleet within tails starts) }
+{
+    let within = within.to_string(alloc)?;
+    let tails = tails.to_string(alloc)?;
+    let starts = starts.to_string(alloc)?;
+    push_line(
+        text,
+        &[
+            tables.fleet(fleet).name.as_slice(),
+            b": late within ".as_slice(),
+            within.as_bytes(),
+            b", tails ".as_slice(),
+            tails.as_bytes(),
+            b", starts ".as_slice(),
+            starts.as_bytes(),
+        ],
+    )
+}
+
+/// The names of a fleet's tails, in their order.
+fn names_of(alloc: Global, tails: &[TailState], fleet: u32) -> Result<Vec<Entries<u8>>, NoMemory>
+    ensures { IfOk result (λ names. names.items ≡ names_of fleet tails.now) }
+{
+    let mut names = Vec::new(alloc);
+    for place in 0..tails.len() {
+        if tails[place].fleet == fleet {
+            let name = Vec::from_slice(alloc, tails[place].name.as_slice())?;
+            names.push(Entries::from_vec(name))?;
+        }
+    }
+    Ok(names)
+}
+
+/// Appends the lines of tails on some dates, by the lines with which they begin.
+fn push_days(
+    alloc: Global,
+    text: &mut Vec<u8>,
+    tables: &Tables,
+    flown: &FleetLines,
+    names: &[Entries<u8>],
+    starts: &[u64],
+    dates: &[Date],
+) -> Result<(), NoMemory>
+    requires flown { AreLinesOf tables.now flown.now }
+    requires begun { AreBegun tables.now flown.now names.now starts.now }
+    requires few { length dates.now < 2 ^ 32 }
+    ensures { OnOk result (text.new.items ≡ text.old.items ++ days_tails tables.now flown.now names.now starts.now (map day_on dates.now) (length dates.now)) }
+{
+    for day in 0..dates.len() as u32 {
+        let date = dates[day as usize];
+        push_day(alloc, text, tables, flown, names, starts, date, day)?;
+    }
+    Ok(())
+}
+
+/// Appends the lines of tails on a date, so many days after the first one.
+fn push_day(
+    alloc: Global,
+    text: &mut Vec<u8>,
+    tables: &Tables,
+    flown: &FleetLines,
+    names: &[Entries<u8>],
+    starts: &[u64],
+    date: Date,
+    day: u32,
+) -> Result<(), NoMemory>
+    requires flown { AreLinesOf tables.now flown.now }
+    requires begun { AreBegun tables.now flown.now names.now starts.now }
+    ensures { OnOk result (text.new.items ≡ text.old.items ++ tails_on tables.now flown.now names.now starts.now (day_on date) day (length names.now)) }
+{
+    let date = date.to_string(alloc)?;
+    for tail in 0..names.len() {
+        let name = names[tail].as_slice();
+        push_tail(alloc, text, tables, flown, &date, day, name, starts[tail])?;
+    }
+    Ok(())
+}
+
+/// Appends `DATE TAIL: FLIGHTS` of a tail that begins with a line, so many days after the first date.
+fn push_tail(
+    alloc: Global,
+    text: &mut Vec<u8>,
+    tables: &Tables,
+    flown: &FleetLines,
+    date: &str,
+    day: u32,
+    name: &[u8],
+    first: u64,
+) -> Result<(), NoMemory>
+    requires flown { AreLinesOf tables.now flown.now }
+    requires first { first < flown.now.used * days_in tables.now }
+    ensures { OnOk result (text.new.items ≡ text.old.items ++ tail_line tables.now flown.now date.now day name.now first) }
+{
+    let flights = flights_text(alloc, tables, line_from(tables, flown, day, first))?;
+    push_line(
+        text,
+        &[
+            date.as_bytes(),
+            b" ".as_slice(),
+            name,
+            b":".as_slice(),
+            flights.as_slice(),
+        ],
+    )
+}
