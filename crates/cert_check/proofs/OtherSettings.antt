@@ -5,7 +5,7 @@ use Rattle.fleet_model.specs.Kept.{Domains, IsBare, IsKeptAssignment, IsSole, al
 use Rattle.fleet_model.specs.Legal.{HasRoom, IsAssignment, IsLegal, total_cost}
 use Rattle.fleet_model.specs.Mixed.{mixed_cost}
 use Rattle.fleet_model.specs.Limits.{AreTables}
-use Rattle.fleet_model.specs.Schedule.{days_in, period_of}
+use Rattle.fleet_model.specs.Schedule.{days_in, parking_of, period_of}
 use Rattle.fleet_model.specs.Use.{IsBalanced, excess, laps_flown, need_of, parked, stand_of, used_of}
 use Rattle.fleet_model.specs.Counts.{Weights, arrived, departed, weights_of}
 use Rattle.fleet_model.specs.declared.parts.Fleet.{Fleet}
@@ -62,7 +62,7 @@ module _ (s : List Station) (f : List Fleet) (l : List Leg) (c : List PairCost) 
   balanced a b w is = record { each = is.each }
 
   room : (a b : Settled) (scale : ℕ) (w : Weights) → HasRoom (by a) scale w → HasRoom (by b) scale w
-  unfolding departed arrived excess need_of stand_of parked period_of days_in
+  unfolding departed arrived excess need_of stand_of parked period_of days_in parking_of
   room a b scale w is = record { each = is.each }
 
   -- an assignment that is legal by some settings is legal by others of as many days
@@ -96,7 +96,7 @@ module _ (s : List Station) (f : List Fleet) (l : List Leg) (c : List PairCost) 
   -- ---- prices and fractional assignments
 
   within : (a b : Settled) (prices : Prices) → AreWithin (by a) prices → AreWithin (by b) prices
-  unfolding period_of days_in
+  unfolding period_of days_in parking_of
   within a b prices are = record {
     rents = are.rents;
     each = are.each;
@@ -112,7 +112,7 @@ module _ (s : List Station) (f : List Fleet) (l : List Leg) (c : List PairCost) 
   rise a b prices are = record { each = are.each }
 
   reaches : (a b : Settled) (keeps : Domains) (prices : Prices) (cost : ℤ) → Reaches (by a) keeps prices cost → Reaches (by b) keeps prices cost
-  unfolding leg_worth worth_of less_charges period_of days_in
+  unfolding leg_worth worth_of less_charges period_of days_in parking_of
   reaches a b keeps prices cost is = record { least = is.least; rounded = is.rounded; reaches = is.reaches }
 
   mixed : (a b : Settled) (keeps : Domains) (m : Mixed) → IsMixedAt (by a) keeps m → IsMixedAt (by b) keeps m
@@ -129,7 +129,7 @@ module _ (s : List Station) (f : List Fleet) (l : List Leg) (c : List PairCost) 
   }
 
   fraction : (a b : Settled) (keeps : Domains) (prices : Prices) (m : Mixed) → IsFraction (by a) keeps prices m → IsFraction (by b) keeps prices m
-  unfolding leg_worth worth_of less_charges mixed_cost period_of days_in
+  unfolding leg_worth worth_of less_charges mixed_cost period_of days_in parking_of
   fraction a b keeps prices m is = record { partial = is.partial; value = is.value }
 
   -- ---- rules
@@ -144,7 +144,7 @@ module _ (s : List Station) (f : List Fleet) (l : List Leg) (c : List PairCost) 
   own_pairs a b keeps (tree.Split' leg fleet prices m p with_pair q without) has = λ leg is. has leg (bare b a keeps leg is)
 
   refuted : (a b : Settled) (keeps : Domains) (v : Tree) → IsRefutedAt (by a) keeps v → IsRefutedAt (by b) keeps v
-  unfolding leg_worth worth_of less_charges period_of days_in
+  unfolding leg_worth worth_of less_charges period_of days_in parking_of
   refuted a b keeps (tree.Refuted prices) is = is
   refuted a b keeps (tree.Bare leg) is = is
   refuted a b keeps tree.Sole is = is
@@ -208,7 +208,7 @@ module _ (s : List Station) (f : List Fleet) (l : List Leg) (c : List PairCost) 
   -- ---- bounds
 
   price_bound : (a b : Settled) (keeps : Domains) (prices : Prices) (bound : Option ℤ) → IsPriceBound (by a) keeps prices bound → IsPriceBound (by b) keeps prices bound
-  unfolding leg_worth worth_of less_charges period_of days_in
+  unfolding leg_worth worth_of less_charges period_of days_in parking_of
   price_bound a b keeps prices bound is = record { least = is.least; is = is.is; rounded = is.rounded }
 
   sole_bound : (a b : Settled) (keeps : Domains) (bound : Option ℤ) → IsSoleBound (by a) keeps bound → IsSoleBound (by b) keeps bound

@@ -1,4 +1,4 @@
-//! Charges, checked over tables where any number of aircraft may stand overnight.
+//! Charges, checked over tables where any number of aircraft may stand overnight, or one at a station.
 use crate::assertions::assert_same;
 use crate::checking::{checked, is_of_tables};
 use cert_check::{Checked, check};
@@ -7,7 +7,7 @@ use entries::{Entries, NoMemory};
 use fleet_model::LoadError;
 use std::alloc::Global;
 use std::test::Fail;
-use worked_tables::schedules::{OVER_TWO_DAYS, ROUND_TRIP, read_by, repeating};
+use worked_tables::schedules::{Files, OVER_TWO_DAYS, ROUND_TRIP, read_by, repeating};
 
 /// A charge at the first station: its day, and the number.
 type DayCharge = (u32, i128);
@@ -82,6 +82,34 @@ fn charges_where_any_number_may_stand(rt: HostRuntime) -> Result<(), Fail> {
         assert_same(
             &rt,
             checked(rt.alloc(), &ROUND_TRIP, None, &leaf)?,
+            Some(*wanted),
+        );
+    }
+    Ok(())
+}
+
+/// The round trip, where one aircraft may stand overnight at the first station.
+const ROOM_FOR_ONE: Files = Files {
+    stations: b"code,extra,maintenance,parking\nAAA,0,yes,1\nBBB,0,no,-\n",
+    ..ROUND_TRIP
+};
+
+/// Charges over one day where one aircraft may stand, and what the checker says of a leaf with them: the last of a day
+/// counts, and the bound is less by it.
+const CHARGED_FOR_ONE: &[(&[DayCharge], Checked)] = &[
+    (&[(1, 2), (1, 5)], Checked::Holds { bound: Some(175) }),
+    (&[(1, 5), (1, 2)], Checked::Holds { bound: Some(178) }),
+    (&[(1, -1), (1, 0)], BOUND_OF_180),
+    (&[(1, 0), (1, -1)], BREAKS_LIMITS),
+];
+
+#[test]
+fn charges_where_one_may_stand(rt: HostRuntime) -> Result<(), Fail> {
+    for (charges, wanted) in CHARGED_FOR_ONE {
+        let leaf = leaf(rt.alloc(), &[], *charges)?;
+        assert_same(
+            &rt,
+            checked(rt.alloc(), &ROOM_FOR_ONE, None, &leaf)?,
             Some(*wanted),
         );
     }

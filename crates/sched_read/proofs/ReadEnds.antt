@@ -1,5 +1,5 @@
 -- Five files read as tables, or they have a first fault.
-use Rattle.std.proofs.Common.{◌==◌, ◌⊎◌, ℕ, List, [], ◌∷◌, map, refl, inl, inr}
+use Rattle.std.proofs.Common.{◌==◌, ◌⊎◌, ℕ, true, List, [], ◌∷◌, map, refl, inl, inr}
 use Rattle.csv_fields.specs.Record.{records_of}
 use Rattle.fleet_model.specs.Limits.{AreSettings}
 use Rattle.fleet_model.specs.declared.parts.Fleet.{Fleet}
@@ -19,8 +19,8 @@ use Rattle.sched_read.specs.Reading.{ReadCosts, TableBytes}
 use Rattle.sched_read.specs.Throughs.{ThroughsBad, ThroughsRead, connection_of, through_header, through_read}
 use Rattle.sched_read.proofs.LegsFit.{headers_differ, legs_keep}
 use Rattle.sched_read.proofs.ThroughsFit.{throughs_keep}
-use Rattle.station_table.specs.Stations.{code_of, station_header, station_read}
-use Rattle.station_table.proofs.StationsFit.{stations_keep}
+use Rattle.station_table.specs.Stations.{code_of, station_headers, station_read}
+use Rattle.station_table.proofs.StationsFit.{stations_differ, stations_keep}
 use Rattle.table_rows.proofs.FormReading.{form_end_exists}
 use Rattle.table_rows.proofs.OneReading.{table_end_exists}
 
@@ -58,7 +58,7 @@ tables_of bytes settings fit s f l c h reads throughs = record {
 }
 
 pub read_or_fault : (bytes : TableBytes) (settings : Settings) → AreSettings settings → End bytes settings
-read_or_fault bytes settings fit = elim (table_end_exists code_of station_read station_header (records_of bytes.stations)) [
+read_or_fault bytes settings fit = elim (form_end_exists code_of station_read station_headers true stations_differ (records_of bytes.stations)) [
   | inr bad ↦ inr (record { file = file.Stations; row = bad.0; kind = bad.1; bad = bad.2 })
   | inl s ↦ elim (table_end_exists fleet_name_of fleet_read fleet_header (records_of bytes.fleets)) [
     | inr bad ↦ inr (record { file = file.Fleets; row = bad.0; kind = bad.1; bad = (s.0, s.1, bad.2) })

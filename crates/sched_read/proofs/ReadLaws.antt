@@ -1,5 +1,5 @@
 -- Five files read in one way at most, or have one first fault at most, and not both.
-use Rattle.std.proofs.Common.{◌≡◌, ◌==◌, ℕ, List, [], map, refl, sym, ap, subst, ◌∙◌, inl, inr}
+use Rattle.std.proofs.Common.{◌≡◌, ◌==◌, ℕ, true, List, [], map, refl, sym, ap, subst, ◌∙◌, inl, inr}
 use Rattle.csv_fields.proofs.NoBytes.{no_bytes_no_record}
 use Rattle.csv_fields.specs.Record.{records_of}
 use Rattle.fleet_model.specs.declared.parts.Fleet.{Fleet}
@@ -19,13 +19,14 @@ use Rattle.sched_read.specs.Reading.{BadAt, ReadCosts, ReadFleets, ReadLegs, Rea
 use Rattle.sched_read.specs.Throughs.{ThroughTableBad, ThroughTableReads, ThroughsBad, ThroughsRead, connection_of, through_header, through_read}
 use Rattle.sched_read.proofs.LegsFit.{headers_differ}
 use Rattle.sched_read.proofs.TablesSame.{tables_same}
-use Rattle.station_table.specs.Stations.{StationsBad, StationsRead, code_of, station_header, station_read}
+use Rattle.station_table.specs.Stations.{StationsBad, StationsRead, code_of, station_headers, station_read}
+use Rattle.station_table.proofs.StationsFit.{stations_differ}
 use Rattle.table_rows.proofs.FormReading.{form_bad_same, form_reads_no_fault, form_reads_same}
 use Rattle.table_rows.proofs.OneReading.{table_bad_same, table_reads_no_fault, table_reads_same}
 
 -- files of stations and fleets read as one list each
 stations_same : (bytes : TableBytes) (a b : List Station) → StationsRead (records_of bytes.stations) a → StationsRead (records_of bytes.stations) b → a ≡ b
-stations_same bytes a b = table_reads_same code_of station_read station_header (records_of bytes.stations) a b
+stations_same bytes a b = form_reads_same code_of station_read station_headers true stations_differ (records_of bytes.stations) a b
 
 fleets_same : (bytes : TableBytes) (a b : List Fleet) → FleetsRead (records_of bytes.fleets) a → FleetsRead (records_of bytes.fleets) b → a ≡ b
 fleets_same bytes a b = table_reads_same fleet_name_of fleet_read fleet_header (records_of bytes.fleets) a b
@@ -60,7 +61,7 @@ throughs_same bytes l l' a b same (inr reads_a) (inr reads_b) =
 
 -- a file that reads has no fault
 stations_sound : (bytes : TableBytes) (a : List Station) (row kind : ℕ) → StationsRead (records_of bytes.stations) a → StationsBad (records_of bytes.stations) row kind → ⊥
-stations_sound bytes a row kind = table_reads_no_fault code_of station_read station_header (records_of bytes.stations) a row kind
+stations_sound bytes a row kind = form_reads_no_fault code_of station_read station_headers true stations_differ (records_of bytes.stations) a row kind
 
 fleets_sound : (bytes : TableBytes) (a : List Fleet) (row kind : ℕ) → FleetsRead (records_of bytes.fleets) a → FleetsBad (records_of bytes.fleets) row kind → ⊥
 fleets_sound bytes a row kind = table_reads_no_fault fleet_name_of fleet_read fleet_header (records_of bytes.fleets) a row kind
@@ -120,7 +121,7 @@ same_fault at row other kind other_kind same = record { file_is = refl; row_is =
 stations_first : (bytes : TableBytes) (settings : Settings) (at : TableFile) (row other kind other_kind : ℕ) → StationsBad (records_of bytes.stations) row kind → BadAt bytes settings at other other_kind
     → SameFault file.Stations at row other kind other_kind
 stations_first bytes settings file.Stations row other kind other_kind bad found =
-    same_fault file.Stations row other kind other_kind (table_bad_same code_of station_read station_header (records_of bytes.stations) row other kind other_kind bad found)
+    same_fault file.Stations row other kind other_kind (form_bad_same code_of station_read station_headers true stations_differ (records_of bytes.stations) row other kind other_kind bad found)
 stations_first bytes settings file.Fleets row other kind other_kind bad (s, reads, found) = absurd (stations_sound bytes s row kind reads bad)
 stations_first bytes settings file.Legs row other kind other_kind bad (s, f, before, found) = absurd (stations_sound bytes s row kind before.stations bad)
 stations_first bytes settings file.Costs row other kind other_kind bad (s, f, l, before, found) = absurd (stations_sound bytes s row kind before.stations bad)

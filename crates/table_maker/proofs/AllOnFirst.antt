@@ -1,5 +1,5 @@
 -- All legs of made tables on the first fleet are a legal assignment.
-use Rattle.std.proofs.Common.{◌≡◌, ◌==◌, ℕ, zero, suc, ◌+◌, ◌*◌, ◌/◌, ◌%◌, ◌<◌, ◌≤◌, Bool, true, false, not, nat_lt, List, [], length, IsSome, refl, sym, ap, ◌∙◌, add-one, arith}
+use Rattle.std.proofs.Common.{◌≡◌, ◌==◌, ℕ, zero, suc, ◌+◌, ◌*◌, ◌/◌, ◌%◌, ◌<◌, ◌≤◌, Bool, true, false, not, nat_lt, List, [], length, IsSome, None, refl, sym, ap, ◌∙◌, add-one, arith}
 use Rattle.std.specs.Prelude.{◌&&◌, if◌then◌else◌}
 use Rattle.std.proofs.lemmas.Bool.Decides.{nat_tests}
 use Rattle.std.proofs.lemmas.List.{length-replicate}
@@ -7,13 +7,14 @@ use Rattle.fleet_model.specs.Costs.{no_cost}
 use Rattle.fleet_model.specs.Counts.{arrived, departed, fleet_at, weights_of}
 use Rattle.fleet_model.specs.Legal.{IsAllowed, IsAssignment, IsLegal, cost_of}
 use Rattle.fleet_model.specs.Limits.{AreSettings}
-use Rattle.fleet_model.specs.Schedule.{days_in, fleet_of, last_of, leg_of, leg_on, legs_in, no_leg, no_station, station_of, stations_in}
+use Rattle.fleet_model.specs.Schedule.{days_in, fleet_of, last_of, leg_of, leg_on, legs_in, no_leg, no_station, parking_of, station_of, stations_in}
 use Rattle.fleet_model.specs.Times.{busy_minutes, departure, laps_of}
 use Rattle.fleet_model.specs.Use.{laps_flown, used_of}
 use Rattle.fleet_model.specs.declared.limits.TheConstants.{MINUTES_PER_DAY}
 use Rattle.fleet_model.specs.declared.parts.Connection.{Connection}
 use Rattle.fleet_model.specs.declared.parts.Leg.{Leg}
 use Rattle.fleet_model.specs.declared.parts.Settings.{Settings}
+use Rattle.fleet_model.specs.declared.parts.Station.{Station}
 use Rattle.fleet_model.specs.declared.tables.Tables.{Tables}
 use Rattle.fleet_model.proofs.Choices.{nothing_parked}
 use Rattle.fleet_model.proofs.CostLookup.{cost_found}
@@ -223,11 +224,15 @@ module _ (trips : List RoundTrip) (settings : Settings) (one : settings.period �
   balanced_fleet (suc zero) s known = balances t a 1 [] second_map s
   balanced_fleet (suc (suc f)) s known = absurd (omega arith)
 
+  no_limit : (s : ℕ) → s < stations_in t → parking_of t s ≡ None
+  unfolding parking_of
+  no_limit s known = ap (λ (x : Station). x.parking) (get_or-list_below station_entry (stations_for trips) s no_station (omega (arith, known, length-list_below station_entry (stations_for trips))))
+
   pub all_legal : IsLegal t a
   all_legal = record {
     assignment = assigned;
     allowed = allowed;
     balanced = record { each = λ f s known station. balanced_fleet f s known };
     within = record { each = λ f known. used_within f known };
-    room = nothing_parked t 1 (weights_of a);
+    room = nothing_parked t 1 (weights_of a) no_limit;
   }

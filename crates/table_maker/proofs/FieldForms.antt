@@ -95,6 +95,11 @@ unfolding IsLow
 flag_kept true = record { plain = refl; text = low_is_text (codes "yes") (All-from_recursion IsLow (codes "yes") (omega arith, (omega arith, (omega arith, tt)))) }
 flag_kept false = record { plain = refl; text = low_is_text (codes "no") (All-from_recursion IsLow (codes "no") (omega arith, (omega arith, tt))) }
 
+-- what stands for a limit of parking where there is none
+pub hyphen_is_text : is_utf8 (codes "-") ≡ true
+unfolding IsLow
+hyphen_is_text = low_is_text (codes "-") (All-from_recursion IsLow (codes "-") (omega arith, tt))
+
 pub flag_reads : (flag : Bool) → yes_no_of (flag_text flag) ≡ Ok flag
 unfolding yes_no_of
 flag_reads true = refl

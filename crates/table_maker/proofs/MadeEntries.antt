@@ -1,5 +1,5 @@
 -- The entries that the records of made tables read as.
-use Rattle.std.proofs.Common.{◌≡◌, ◌==◌, bytes_eq, ℕ, zero, suc, ◌+◌, ◌-◌, ◌*◌, ◌/◌, ◌%◌, ◌<◌, ◌≤◌, pos, Bool, true, false, List, [], ◌∷◌, length, codes, slice_index, Ok, refl, arith}
+use Rattle.std.proofs.Common.{◌≡◌, ◌==◌, bytes_eq, ℕ, zero, suc, ◌+◌, ◌-◌, ◌*◌, ◌/◌, ◌%◌, ◌<◌, ◌≤◌, pos, Bool, true, false, List, [], ◌∷◌, length, codes, slice_index, None, Ok, refl, arith}
 use Rattle.std.specs.Prelude.{if◌then◌else◌}
 use Rattle.std.specs.Fmt.{digits}
 use Rattle.std.proofs.lemmas.Bool.Decides.{nat_tests}
@@ -46,7 +46,7 @@ pub record AreTrips (trips : List RoundTrip) : Type 0 where
   pub each : (i : ℕ) → i < length trips → IsRoundTrip (spokes_for (length trips)) (trip_of trips i)
 
 abbrev pub station_entry : ℕ → Station
-station_entry station = record { code = station_code station; extra = 0; maintenance = maintains station }
+station_entry station = record { code = station_code station; extra = 0; maintenance = maintains station; parking = None }
 
 abbrev pub fleet_entry : ℕ → ℕ → Fleet
 fleet_entry trips zero = record { name = fleet_name 0; aircraft = trips; turn = 30 }
@@ -71,7 +71,7 @@ cost_entry trips pair = record { leg = pair / 2; fleet = pair % 2; cost = pos (s
 abbrev pub through_entry : List RoundTrip → ℕ → Through
 through_entry trips trip = record { arriving = 2 * trip + 1; departing = 2 * trip + 2; value = pos (trip_of trips trip).value }
 
-pub station_reads : (k : ℕ) → k < 200 → station_read (list_below (λ j. code_of (station_entry j)) k) (station_fields k) ≡ Ok (station_entry k)
+pub station_reads : (k : ℕ) → k < 200 → station_read form.Old (list_below (λ j. code_of (station_entry j)) k) (station_fields k) ≡ Ok (station_entry k)
 station_reads k few =
     station_one (list_below station_code k) (station_code k) (maintains k) (code_is_code k (omega arith)) (fresh station_code 200 k (stations_differ 200) few)
     (omega (arith, length-list_below station_code k))

@@ -65,10 +65,15 @@ no_mark_throughs : (fields_at : ℕ → Fields) (n : ℕ) → strip_bom (table_t
 unfolding strip_bom table_text
 no_mark_throughs fields_at n = refl
 
+-- by the header without limits of parking
 pub stations_back : (stations : ℕ) → stations ≤ 200 → StationsRead (records_of (table_text station_header station_fields stations)) (list_below station_entry stations)
 stations_back stations few =
     let back = table_back station_fields station_header stations (no_mark_stations station_fields stations) (refl, (refl, (refl, tt))) (λ k below. station_plain k (omega arith)) in
-    rows_read code_of station_read station_header _ station_fields station_entry stations back (λ k below. station_reads k (omega arith))
+    record {
+      found = form.Old;
+      allowed = refl;
+      table = rows_read code_of (station_read form.Old) station_header _ station_fields station_entry stations back (λ k below. station_reads k (omega arith));
+    }
 
 pub fleets_back : (trips : ℕ) → trips ≤ 500 → FleetsRead (records_of (table_text fleet_header (fleet_fields trips) 2)) (list_below (fleet_entry trips) 2)
 fleets_back trips few =

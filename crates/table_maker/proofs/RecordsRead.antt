@@ -1,5 +1,5 @@
 -- A record whose fields have their forms reads as its entry, below entries with other names.
-use Rattle.std.proofs.Common.{◌≡◌, ◌==◌, ℕ, ◌%◌, ◌<◌, ◌≤◌, pos, neg_ℤ, Bool, false, List, [], ◌∷◌, length, codes, Some, Ok, refl, ap, arith}
+use Rattle.std.proofs.Common.{◌≡◌, ◌==◌, ℕ, ◌%◌, ◌<◌, ◌≤◌, pos, neg_ℤ, Bool, false, List, [], ◌∷◌, length, codes, Some, None, Ok, refl, ap, arith}
 use Rattle.std.specs.Fmt.{decimal, digits}
 use Rattle.std.proofs.lemmas.Int.{ints}
 use Rattle.std.proofs.lemmas.Bool.{lt-leb}
@@ -17,17 +17,17 @@ use Rattle.table_rows.specs.Fields.{as_natural, natural_of}
 use Rattle.table_rows.specs.Names.{is_among, number_of}
 use Rattle.table_rows.specs.declared.forms.Form.TheVariants as form
 use Rattle.table_maker.specs.Fields.{clock_text}
-use Rattle.table_maker.proofs.FieldForms.{clock_kept, clock_reads, code_reads, flag_kept, flag_reads, name_kept, name_reads, natural_reads, number_is_name, whole_reads}
+use Rattle.table_maker.proofs.FieldForms.{clock_kept, clock_reads, code_reads, flag_kept, flag_reads, hyphen_is_text, name_kept, name_reads, natural_reads, number_is_name, whole_reads}
 use Rattle.table_maker.proofs.NamesDiffer.{code_is_name}
 
 pub station_one : (earlier : List (List ℕ)) (code : List ℕ) (maintenance : Bool) → IsStationCode code → is_among code earlier ≡ false → length earlier < 200
-    → station_read earlier (code ∷ codes "0" ∷ flag_text maintenance ∷ []) ≡ Ok (record { code = code; extra = 0; maintenance = maintenance })
+    → station_read form.Old earlier (code ∷ codes "0" ∷ flag_text maintenance ∷ []) ≡ Ok (record { code = code; extra = 0; maintenance = maintenance; parking = None })
 unfolding station_read digits
 station_one earlier code maintenance form fresh few =
     let zero_is : natural_of (codes "0") MAX_GROUND_MINUTES ≡ Ok 0 = natural_reads 0 MAX_GROUND_MINUTES (omega arith) (omega arith) in
     let zero_text = (name_kept (codes "0") (number_is_name 0 (omega arith))).text in
     let text = (name_kept code (code_is_name code form)).text in
-    rw (text, zero_text, (flag_kept maintenance).text, code_reads code form, zero_is, flag_reads maintenance, fresh, lt-leb MAX_STATIONS (length earlier) few) refl
+    rw (text, zero_text, (flag_kept maintenance).text, hyphen_is_text, code_reads code form, zero_is, flag_reads maintenance, fresh, lt-leb MAX_STATIONS (length earlier) few) refl
 
 pub fleet_one : (earlier : List (List ℕ)) (name : List ℕ) (aircraft turn : ℕ) → IsName name → aircraft ≤ 500 → turn ≤ 600 → is_among name earlier ≡ false → length earlier < 20
     → fleet_read earlier (name ∷ decimal aircraft ∷ decimal turn ∷ []) ≡ Ok (record { name = name; aircraft = aircraft; turn = turn })
