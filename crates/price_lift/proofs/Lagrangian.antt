@@ -43,7 +43,7 @@ use Rattle.price_lift.proofs.DownColumns.{at_minute, down, down_flight, down_gro
 use Rattle.price_lift.proofs.ChargedArcs.{DoRiseByCharges}
 use Rattle.price_lift.proofs.LeastBounds.{below_unwrapped}
 use Rattle.price_lift.proofs.ParkCharges.{charge_is, factor_out, limits_charged, number_is, passed_charge}
-use Rattle.price_lift.proofs.Parks.{number_of_park, park_within}
+use Rattle.price_lift.proofs.Parks.{limited_days, number_of_park, park_within}
 use Rattle.lp_rows.proofs.LinePlaces.{balance_there, before, count_there, node_there, node_within}
 use Rattle.price_lift.proofs.Minutes.{IsAtPlace, Rise, at_place, in_node, later, nodes_rise, one_place, some_place, test_of}
 

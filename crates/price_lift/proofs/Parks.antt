@@ -68,8 +68,8 @@ module _ (t : Tables) where
   -- days of lower numbers come before
   in_order : (p q : Park) → IsPark t p → IsPark t q → number_of_park p < number_of_park q → ParkBefore p q
   in_order p q known there less = elim (cases_order p.station q.station) [
-    | inl before ↦ inl before
-    | inr (inl same) ↦ inr (same, omega (arith, known.some, there.some, less, ap (sum_below (parking_days t)) same))
+    | inl same ↦ inr (same, omega (arith, known.some, there.some, less, ap (sum_below (parking_days t)) same))
+    | inr (inl before) ↦ inl before
     | inr (inr after) ↦ absurd (omega (arith, less, within_sum (parking_days t) p.station q.station (q.day - 1) after (omega (arith, there.some, there.day))))
   ]
 
