@@ -1,13 +1,13 @@
 -- Prices and fractional assignments of which a first part was read go on to whole ones.
-use Rattle.bound_cert.proofs.Endings.{Completes, EndsBy, MayAt, alike_after, beyond, ends_if, ends_lift, ends_map, ends_read, ends_then, not_there, value_of}
+use Rattle.bound_cert.proofs.Endings.{Completes, EndsBy, alike_after, beyond, ends_if, ends_lift, ends_map, ends_read, ends_then, not_there, value_of}
 use Rattle.bound_cert.proofs.LineTwins.{Alike, Twin, alike_first, alike_self, charge_twin, mixed_scale_twin, rent_twin, scale_twin, step_twin, weight_twin}
 use Rattle.bound_cert.proofs.ReadOn.{begins, bound, entries_end, entries_more}
-use Rattle.bound_cert.proofs.Shrinking.{Shrinks, charges_shrink, entries_shrink, rents_shrink, shrinks_bind, steps_shrink, weights_shrink}
+use Rattle.bound_cert.proofs.Shrinking.{charges_shrink, entries_shrink, rents_shrink, shrinks_bind, steps_shrink, weights_shrink}
 use Rattle.bound_cert.proofs.TextPrices.{StepWas, step_was}
 use Rattle.bound_cert.proofs.WrittenLines.{names, other_words}
 use Rattle.bound_cert.proofs.WrittenNodes.{behind_line}
 use Rattle.bound_cert.proofs.WrittenPrices.{IsBehind, mixed_scale_read, needed_by, next_begins, of_step, scale_read, step_read, steps_read}
-use Rattle.bound_cert.specs.Lines.{◌>>=◌, Left, Reading, Stopped, fits}
+use Rattle.bound_cert.specs.Lines.{◌>>=◌, Left, Reading, fits}
 use Rattle.bound_cert.specs.ProofText.{at_line}
 use Rattle.bound_cert.specs.Reading.{Series, charge_series, charges_from, entries_from, entry_at, first_words, is_needless, mixed_at, mixed_scale_at, padded, prices_at, rent_series, rents_from, scale_at, step_at, step_series, steps_from, weight_series, weights_from}
 use Rattle.bound_cert.specs.declared.reading_lines.Due.{Due}
@@ -26,7 +26,7 @@ use Rattle.proof_lines.specs.Forms.{form_in}
 use Rattle.proof_lines.specs.LineText.{line_bytes}
 use Rattle.proof_lines.specs.Reading.{is_step_of}
 use Rattle.proof_lines.specs.Words.{words_of}
-use Rattle.std.proofs.Common.{[], ◌&&◌, ◌++◌, ◌<◌, ◌==◌, ◌∙◌, ◌∷◌, ◌≡◌, ◌≤◌, ◌⊎◌, Bool, Err, List, None, Ok, Option, Some, ap, append_assoc, arith, cond, false, inl, inr, length, length-append, not, pos, refl, subst, sym, true, ℕ, ℤ}
+use Rattle.std.proofs.Common.{[], ◌&&◌, ◌++◌, ◌<◌, ◌==◌, ◌∙◌, ◌∷◌, ◌≡◌, Bool, Err, List, None, Ok, Option, Some, ap, arith, false, inl, length, not, pos, refl, subst, sym, true, ℕ, ℤ}
 use Rattle.std.proofs.lemmas.Bool.Decides.{Decides-int_eq, nat_tests}
 use Rattle.std.proofs.lemmas.List.Elements.{All-cons, All-nil}
 use Rattle.std.specs.Ordering.{int_eq}
@@ -34,6 +34,7 @@ use Rattle.std.specs.Prelude.{⊤, All}
 use Rattle.sums.proofs.Naturals.{first_same}
 use Rattle.bound_cert.specs.declared.reading_lines.Due.TheVariants as due
 use Rattle.proof_lines.specs.declared.line.Line.TheVariants as says
+
 -- some line, which doesn't begin as one of this kind in any version
 pub record MayFollow (kind : Due) (left : Left) : Type 0 where
   pub some : 0 < length left

@@ -1,38 +1,11 @@
 -- What is read of the lines before an end: it stays, or goes on to a whole.
-use Rattle.bound_cert.proofs.LineTwins.{Alike, Twin, alike_first, alike_self, charge_twin, mixed_scale_twin, rent_twin, scale_twin, step_twin, weight_twin}
-use Rattle.bound_cert.proofs.ReadOn.{begins, bound, entries_end, entries_more}
-use Rattle.bound_cert.proofs.Shrinking.{Shrinks, charges_shrink, entries_shrink, rents_shrink, shrinks_bind, steps_shrink, weights_shrink}
-use Rattle.bound_cert.proofs.TextPrices.{StepWas, step_was}
-use Rattle.bound_cert.proofs.WrittenLines.{names, other_words}
-use Rattle.bound_cert.proofs.WrittenNodes.{behind_line}
-use Rattle.bound_cert.proofs.WrittenPrices.{IsBehind, mixed_scale_read, needed_by, next_begins, of_step, scale_read, step_read, steps_read}
-use Rattle.bound_cert.specs.Lines.{◌>>=◌, Left, Reading, Stopped, fits}
-use Rattle.bound_cert.specs.ProofText.{at_line}
-use Rattle.bound_cert.specs.Reading.{Series, charge_series, charges_from, entries_from, entry_at, first_words, is_needless, mixed_at, mixed_scale_at, padded, prices_at, rent_series, rents_from, scale_at, step_at, step_series, steps_from, weight_series, weights_from}
-use Rattle.bound_cert.specs.declared.reading_lines.Due.{Due}
-use Rattle.dual_bound.proofs.StepOrder.{one_figure, same_place_by}
-use Rattle.dual_bound.specs.OfTables.{IsStepOf}
-use Rattle.dual_bound.specs.Order.{same_place, step_follows}
-use Rattle.dual_bound.specs.WrittenOrder.{IsStepInOrder, goes_on}
-use Rattle.dual_bound.specs.declared.mixed.Weight.{Weight}
-use Rattle.dual_bound.specs.declared.prices.Charge.{Charge}
-use Rattle.dual_bound.specs.declared.prices.PriceStep.{PriceStep}
-use Rattle.dual_bound.specs.declared.prices.Prices.{Prices}
-use Rattle.fleet_model.proofs.PeriodMinutes.{day_or_more}
-use Rattle.fleet_model.specs.declared.tables.Tables.{Tables}
-use Rattle.proof_lines.specs.declared.line.Version.{Version}
-use Rattle.proof_lines.specs.Forms.{form_in}
-use Rattle.proof_lines.specs.LineText.{line_bytes}
-use Rattle.proof_lines.specs.Reading.{is_step_of}
-use Rattle.proof_lines.specs.Words.{words_of}
-use Rattle.std.proofs.Common.{[], ◌&&◌, ◌++◌, ◌<◌, ◌==◌, ◌∙◌, ◌∷◌, ◌≡◌, ◌≤◌, ◌⊎◌, Bool, Err, List, None, Ok, Option, Some, ap, append_assoc, arith, cond, false, inl, inr, length, length-append, not, pos, refl, subst, sym, true, ℕ, ℤ}
-use Rattle.std.proofs.lemmas.Bool.Decides.{Decides-int_eq, nat_tests}
-use Rattle.std.proofs.lemmas.List.Elements.{All-cons, All-nil}
-use Rattle.std.specs.Ordering.{int_eq}
-use Rattle.std.specs.Prelude.{⊤, All}
-use Rattle.sums.proofs.Naturals.{first_same}
-use Rattle.bound_cert.specs.declared.reading_lines.Due.TheVariants as due
-use Rattle.proof_lines.specs.declared.line.Line.TheVariants as says
+use Rattle.bound_cert.proofs.LineTwins.{Alike, Twin, alike_first}
+use Rattle.bound_cert.proofs.ReadOn.{bound}
+use Rattle.bound_cert.proofs.Shrinking.{Shrinks, shrinks_bind}
+use Rattle.bound_cert.proofs.WrittenPrices.{IsBehind}
+use Rattle.bound_cert.specs.Lines.{◌>>=◌, Left, Reading, Stopped}
+use Rattle.std.proofs.Common.{[], ◌++◌, ◌<◌, ◌∙◌, ◌∷◌, ◌≡◌, ◌≤◌, ◌⊎◌, Bool, Err, List, Ok, ap, append_assoc, arith, cond, false, inl, inr, length, length-append, refl, subst, sym, true, ℕ}
+use Rattle.std.specs.Prelude.{⊤}
 
 -- where nothing of the lines before is left, these may stand
 abbrev pub MayAt : (Left → Type 0) → Left → Left → Type 0

@@ -1,5 +1,5 @@
 -- What reading leaves, and where it stops, is no more than there was.
-use Rattle.bound_cert.proofs.LineTwins.{Alike, Twin, alike_self, charge_twin, head_twin, line_twin, mixed_scale_twin, plan_twin, rent_twin, scale_twin, step_twin, twin_if, weight_twin}
+use Rattle.bound_cert.proofs.LineTwins.{Alike, Twin, alike_self, charge_twin, head_twin, line_twin, mixed_scale_twin, plan_twin, rent_twin, scale_twin, step_twin, weight_twin}
 use Rattle.bound_cert.proofs.ReadBack.{goes}
 use Rattle.bound_cert.proofs.WrittenLines.{names}
 use Rattle.bound_cert.specs.Lines.{◌>>=◌, Left, Reading, fits, line_due, stopped}
@@ -13,14 +13,12 @@ use Rattle.dual_bound.specs.declared.prices.Charge.{Charge}
 use Rattle.dual_bound.specs.declared.prices.PriceStep.{PriceStep}
 use Rattle.fleet_model.specs.declared.tables.Tables.{Tables}
 use Rattle.proof_lines.specs.Forms.{form_in}
-use Rattle.proof_lines.specs.Known.{names_in}
 use Rattle.proof_lines.specs.Words.{is_word, words_of}
 use Rattle.proof_lines.specs.declared.line.Version.{Version}
-use Rattle.std.proofs.Common.{[], ◌++◌, ◌<◌, ◌==◌, ◌∷◌, ◌≡◌, ◌≤◌, Bool, Err, List, None, Ok, Option, arith, codes, cond, drop, false, length, refl, subst, suc, sym, true, zero, ℕ, ℤ, Some}
-use Rattle.std.specs.Prelude.{⊤, bytes_eq}
+use Rattle.std.proofs.Common.{[], ◌++◌, ◌<◌, ◌==◌, ◌∷◌, ◌≡◌, ◌≤◌, Bool, Err, List, None, Ok, Option, arith, cond, drop, false, length, refl, subst, suc, sym, true, zero, ℕ, ℤ, Some}
+use Rattle.std.specs.Prelude.{⊤}
 use Rattle.bound_cert.specs.declared.nodes.Head.TheVariants as head
 use Rattle.bound_cert.specs.declared.reading_lines.Due.TheVariants as due
-use Rattle.proof_lines.specs.declared.line.Version.TheVariants as version
 
 -- what reading leaves, or where it stops, is no more than there was
 abbrev pub Shrinks : {A : Type 0} → ℕ → Reading (A × Left) → Type 0

@@ -12,7 +12,7 @@ use Rattle.bound_cert.specs.Reading.{node_at, said_at}
 use Rattle.bound_cert.specs.declared.faults.TheConstants.{BAD_LINE}
 use Rattle.dual_bound.specs.Leaves.{depth_of}
 use Rattle.dual_bound.specs.Nodes.{nodes_of}
-use Rattle.dual_bound.specs.WrittenOrder.{InWrittenOrder, IsNodeInOrder, IsShallow}
+use Rattle.dual_bound.specs.WrittenOrder.{IsNodeInOrder}
 use Rattle.dual_bound.specs.declared.nodes.Node.{Node}
 use Rattle.dual_bound.specs.declared.trees.TheConstants.{MAX_DEPTH}
 use Rattle.dual_bound.specs.declared.trees.Tree.{Tree}

@@ -2,7 +2,7 @@
 #![tactic(auto)]
 
 pub mod lines;
-pub mod placings;
+pub mod placing;
 
 pub use lines::due_lines;
-pub use placings::{are_unplaced, placings};
+pub use placing::{are_unplaced, placings};

@@ -245,9 +245,10 @@ pub fn line_from<'a>(tables: &Tables, flown: &'a FleetLines, day: u32, first: u6
     ensures value { result.now ≡ line_from tables.now flown.now day first }
     ensures legs { AreLegs tables.now result.now }
 {
+    let lines = flown.lines.as_slice();
     let count = u64::from(flown.used) * u64::from(tables.day_count());
     let place = ((first + u64::from(day)) % count) as usize;
-    flown.lines.as_slice()[place].as_slice()
+    lines[place].as_slice()
 }
 
 /// The flights of a line, each after a space, and a dash where it has none.

@@ -1,5 +1,17 @@
+use Rattle.std.proofs.Common.{sym, subst}
+use Rattle.rotation_report.specs.Tails.{lines_by}
+use Rattle.tail_dates.specs.Placing.{IsPlaced}
+use Rattle.tail_dates.specs.declared.placing.Placed.TheVariants as placed
+use Rattle.due_report.specs.Lines.{AreBegun, names_of}
 use Rattle.due_report.proofs.Begun.{placed_begin}
 use Rattle.due_report.proofs.lines.push_placed.Goals as goal
 
 pub push_begun-requires-clause-begun : goal.push_begun-requires-clause-begun
-push_begun-requires-clause-begun c = ?
+push_begun-requires-clause-begun c =
+    let t = c.args.tables.now in
+    let a = c.args.plan.now in
+    let f = c.args.fleet in
+    let tour = c.args.tour.now in
+    let tails = c.args.tails.now in
+    let is : IsPlaced t a f tour tails (placed.Lines c.in-Lines.starts) = subst (IsPlaced t a f tour tails) c.in-Lines.is c.requires.placed in
+    subst (AreBegun t (lines_by t a f tour) (names_of f tails)) (sym c.as_slice-starts.ensures) (placed_begin t f tails a tour c.in-Lines.starts is)

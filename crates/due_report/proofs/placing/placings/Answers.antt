@@ -3,7 +3,7 @@ use Rattle.std.proofs.lemmas.List.{get_or_default}
 use Rattle.fleet_rotations.specs.Rotations.{IsFlown, IsKept, last_made, no_rotation, rotation_of}
 use Rattle.due_report.specs.Placings.{IsPlacing}
 use Rattle.due_report.proofs.Pushed.{placing_pushed}
-use Rattle.due_report.proofs.placings.placings.Goals as goal
+use Rattle.due_report.proofs.placing.placings.Goals as goal
 
 pub loop-fleet-preserved : goal.loop-fleet-preserved
 loop-fleet-preserved c =

@@ -1,5 +1,5 @@
 use Rattle.due_report.specs.Placings.{ArePlacedBelow}
-use Rattle.due_report.proofs.placings.placings.Given as goal
+use Rattle.due_report.proofs.placing.placings.Given as goal
 
 abbrev pub invariant-loop-fleet : goal.invariant-loop-fleet
 invariant-loop-fleet l = ArePlacedBelow l.tables l.plan l.rotations l.tails l.placings.items l.fleet
