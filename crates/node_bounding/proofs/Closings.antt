@@ -1,5 +1,5 @@
 -- A tree whose open leaves are closed by their prices where these reach the cost of the plan.
-use Rattle.std.proofs.Common.{◌≡◌, ◌≢◌, ℕ, Bool, true, false, if◌then◌else◌, List, [], ◌∷◌, All, Some, IfSome, ℤ, inl, inr, refl, ap, subst, arith}
+use Rattle.std.proofs.Common.{◌≡◌, ◌≢◌, ℕ, Bool, true, false, if◌then◌else◌, List, [], ◌∷◌, All, Some, IfSome, ℤ, inl, inr, refl, ap, subst, arith, Option}
 use Rattle.std.specs.List.{Any}
 use Rattle.std.proofs.lemmas.List.Elements.{All-head, All-tail}
 use Rattle.fleet_model.specs.Kept.{Domains, all_pairs}
