@@ -1,5 +1,6 @@
 -- What the tables and the proof of a folder come to, by what is asked of it.
 use Rattle.std.proofs.Common.{◌≡◌, ◌⊎◌, ℕ, Bool, true, false, List, Some, None, Result, Ok, Err, IfOk, IsOkAnd, refl, sym, subst, ◌∙◌, inl, inr}
+use mathlib.Core.Bool.{false≢true}
 use Rattle.entries.specs.declared.memory.NoMemory.{NoMemory}
 use Rattle.std.specs.Prelude.{IsSome}
 use Rattle.bound_cert.specs.ReadProof.{ReadsAs}
@@ -106,7 +107,7 @@ module _ (dir : List ℕ) (reading : TableOptions) (name : List ℕ) (count : �
     -- the tables are those that want a plan
     unknown_there : (u : Tables) → Reads (table_bytes bytes) reading.settings u → fleet_named t name ≡ None → ¬ (IsSome (fleet_named u name))
     unknown_there u others unknown known =
-        subst IsSome unknown (subst (λ v. IsSome (fleet_named v name)) (tables.one_reading (table_bytes bytes) reading.settings u t others reads) known)
+        false≢true (subst IsSome unknown (subst (λ v. IsSome (fleet_named v name)) (tables.one_reading (table_bytes bytes) reading.settings u t others reads) known))
 
     of_fleet : (fleet : ℕ) → fleet_named t name ≡ Some fleet → (o : Opened) → IsOpenedBy t (question.OtherSize fleet count) (bytes file.Proof) o → IsOpened (Some (whatif dir reading name count)) bytes o
     of_fleet fleet known (opened.Answered answer) by = record {
@@ -122,7 +123,7 @@ module _ (dir : List ℕ) (reading : TableOptions) (name : List ℕ) (count : �
         refl,
         record {
           wants = wants_plan reading (table_bytes bytes) (bytes file.Proof) t (question.OtherSize fleet count) checking reads by;
-          known = subst IsSome (sym known) tt;
+          known = subst IsSome (sym known) refl;
         },
       );
       ready = by.ready;
