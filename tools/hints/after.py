@@ -56,6 +56,10 @@ def tell(hint, status, said, command, call):
         from hints import unplaced
 
         unplaced.explain(hint, call, said or once_more(call))
+    elif status == "11":
+        from hints import other_sizes
+
+        other_sizes.tell_fallen(hint, command, call, said or once_more(call))
     elif status in ("0", "3", "5"):
         tell_answer(hint, status, said, command, call)
 
@@ -69,9 +73,10 @@ def once_more(call):
 
 
 def tell_refusal(hint, command, call, said):
-    from hints import refused_plans, refused_proofs, refused_tables
+    from hints import other_sizes, refused_plans, refused_proofs, refused_tables
 
     line = said.strip()
+    other_sizes.tell_unknown(hint, command, call, line)
     refused_tables.explain(hint, call.folder, line, call.value("period"))
     refused_plans.explain(hint, command, call, line)
     refused_proofs.explain(hint, call.folder, line, call)

@@ -16,6 +16,7 @@ READS = {
     "solve": TABLES,
     "check": (*TABLES, "proof.txt", "plan.csv"),
     "make": (),
+    "whatif": (*TABLES, "proof.txt", "plan.csv"),
 }
 WRITES = {"solve": ("plan.csv", "proof.txt", "rotation.csv"), "make": (*TABLES, "plan.csv", "proof.txt", "rotation.csv")}
 # How many names of a folder are looked through.
@@ -80,7 +81,7 @@ def tell_reads(hint, command, call):
     """Says which file can't be read, the first in the order of reading, and returns whether one can't."""
     folder = call.folder
     bad = [it for it in READS[call.command] if wrong_to_read(os.path.join(folder, it))]
-    if call.command == "check" and bad == ["plan.csv"] and not says_plan(os.path.join(folder, "proof.txt")):
+    if call.command in ("check", "whatif") and bad == ["plan.csv"] and not says_plan(os.path.join(folder, "proof.txt")):
         bad = []
     if not bad:
         return False

@@ -1,4 +1,4 @@
-"""What is said of a proof that is refused (status 9 of check)."""
+"""What is said of a proof that is refused (status 9 of check and whatif)."""
 
 import os
 import re

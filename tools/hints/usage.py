@@ -4,7 +4,7 @@ import os
 import re
 
 from hints.saying import typed
-from hints.words import COMMANDS, OPTIONS, OPTIONS_OF, WORDS, Call
+from hints.words import COMMANDS, OPTIONS, OPTIONS_OF, Call, word_of
 
 TOP = os.path.dirname(os.path.dirname(os.path.dirname(os.path.realpath(__file__))))
 # What tools/build notes of the kit beside the program that it builds.
@@ -58,7 +58,8 @@ def show_command(hint, command, name):
     form, does = COMMANDS[name]
     hint.say(f"{typed([command])} {form} {does}.")
     for word in form.split()[2:]:
-        hint.show(f"{word:<18} {WORDS[word][1]}: {WORDS[word][0].form}")
+        form_of, means = word_of(name, word)
+        hint.show(f"{word:<18} {means}: {form_of.form}")
     for option in OPTIONS_OF[name]:
         placeholder, _, default, means = OPTIONS[option]
         without = f" (without it {default})" if default else ""

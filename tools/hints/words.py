@@ -12,6 +12,7 @@ COMMANDS = {
     "tails": ("tails DIR DATE COUNT", "says which aircraft flies what, on COUNT dates from DATE on"),
     "due": ("due DIR DATE COUNT", "says which named aircraft flies what, so that each comes to maintenance by its own date"),
     "make": ("make DIR NUMBER LEGS", "makes a schedule of LEGS flights to play with, drawn from a number, and solves it"),
+    "whatif": ("whatif DIR FLEET COUNT", "says what the proof in proof.txt bounds where FLEET has COUNT aircraft; nothing is solved"),
 }
 HELP = ("help", "-h", "--help")
 VERSION = ("--version", "-V", "version")
@@ -76,6 +77,18 @@ class Date:
         return plain if plain != text and self.read(plain) is not None else None
 
 
+class Name:
+    """A name of the tables: any word, since only they tell which there are."""
+
+    form = "a name of fleets.csv"
+
+    def read(self, text):
+        return text
+
+    def mended(self, _):
+        return None
+
+
 # Of each option its placeholder, its form, its value where it isn't given, and what it means.
 OPTIONS = {
     "day-start": ("HH:MM", Time(), "03:00", "when a day begins, in UTC, 00:00 to 23:59"),
@@ -96,6 +109,7 @@ OPTIONS_OF = {
     "tails": (*READING, "through-max", "days", "visits"),
     "due": (*READING, "through-max", "days", "visits"),
     "make": (),
+    "whatif": READING,
 }
 # Of each word of a command, beside DIR: its form, and what it is.
 WORDS = {
@@ -104,9 +118,18 @@ WORDS = {
     "NUMBER": (Number(0, 2_147_483_647), "the number that a schedule is drawn from"),
     "LEGS": (Number(0, 1000, is_even=True), "the number of flights"),
 }
+WORDS_OF_WHATIF = {
+    "FLEET": (Name(), "the fleet"),
+    "COUNT": (Number(0, 500), "the number of its aircraft"),
+}
 
 # What stands for a word that is missing, where a call is shown.
-EXAMPLES = {"DIR": "DIR", "DATE": "2026-11-27", "COUNT": "7", "NUMBER": "7", "LEGS": "40"}
+EXAMPLES = {"DIR": "DIR", "DATE": "2026-11-27", "COUNT": "7", "NUMBER": "7", "LEGS": "40", "FLEET": "F1"}
+
+
+def word_of(command, name):
+    """Returns of a word of a command, beside DIR: its form, and what it is."""
+    return (WORDS_OF_WHATIF if command == "whatif" else WORDS)[name]
 
 
 class Fault:
@@ -258,7 +281,10 @@ class Call:
 
     def told(self, name):
         """Returns a word of the command with what it is."""
-        return "DIR, the folder of the tables" if name == "DIR" else f"{name}, {WORDS[name][1]}: {WORDS[name][0].form}"
+        if name == "DIR":
+            return "DIR, the folder of the tables"
+        form, means = word_of(self.command, name)
+        return f"{name}, {means}: {form.form}"
 
     def read_values(self):
         for option, (text, place) in self.given.items():
@@ -268,7 +294,7 @@ class Call:
                 mended = better and self.with_option(option, better)
                 self.faults.append(Fault(f"--{option} {text or 'without a value'}: it wants {form.form}", mended))
         for name, (place, text) in zip(self.names[1:], self.words[1:]):
-            form, means = WORDS[name]
+            form, means = word_of(self.command, name)
             if form.read(text) is None:
                 better = form.mended(text)
                 mended = better and self.with_word(place, better)

@@ -1,5 +1,6 @@
 pub mod Completing
 pub mod Cut
+pub mod Endings
 pub mod FixedFaults
 pub mod LineTwins
 pub mod Lines

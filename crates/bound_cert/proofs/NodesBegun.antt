@@ -1,5 +1,6 @@
 -- Nodes of which a first part was read go on to those of a whole tree.
-use Rattle.bound_cert.proofs.Completing.{Completes, EndsBy, MayAt, Stays, alike_after, ends_lift, ends_map, ends_read, ends_then, mixed_goes, not_there, one_mixed, prices_go, some_more, value_of}
+use Rattle.bound_cert.proofs.Completing.{mixed_goes, one_mixed, prices_go}
+use Rattle.bound_cert.proofs.Endings.{Completes, EndsBy, MayAt, Stays, alike_after, ends_lift, ends_map, ends_read, ends_then, not_there, some_more, value_of}
 use Rattle.bound_cert.proofs.LineTwins.{alike_self, head_twin}
 use Rattle.bound_cert.proofs.ReadOn.{bound, chosen, refused}
 use Rattle.bound_cert.proofs.Shrinking.{Shrinks, mixed_shrinks, node_takes, nodes_shrink, shrinks_if}

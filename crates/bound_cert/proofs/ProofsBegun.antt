@@ -1,5 +1,5 @@
 -- The lines before a first fault begin a proof.
-use Rattle.bound_cert.proofs.Completing.{MayAt, alike_after, not_there, some_more, value_of}
+use Rattle.bound_cert.proofs.Endings.{MayAt, alike_after, not_there, some_more, value_of}
 use Rattle.bound_cert.proofs.LineTwins.{alike_self, line_twin, plan_twin}
 use Rattle.bound_cert.proofs.NodesBegun.{EndsNodes, count_cons, nodes_go}
 use Rattle.bound_cert.proofs.ReadBack.{err_same}

@@ -1,9 +1,9 @@
 -- What reading leaves, and where it stops, is no more than there was.
-use Rattle.bound_cert.proofs.LineTwins.{Alike, Twin, alike_self, charge_twin, head_twin, line_twin, mixed_scale_twin, plan_twin, rent_twin, scale_twin, step_twin, twin_if, weight_twin}
+use Rattle.bound_cert.proofs.LineTwins.{Alike, Twin, alike_self, charge_twin, head_twin, line_twin, mixed_scale_twin, plan_twin, rent_twin, scale_twin, step_twin, weight_twin}
 use Rattle.bound_cert.proofs.ReadBack.{goes}
 use Rattle.bound_cert.proofs.WrittenLines.{names}
 use Rattle.bound_cert.specs.Lines.{◌>>=◌, Left, Reading, fits, line_due, stopped}
-use Rattle.bound_cert.specs.Nodes.{Above, after_node, end_at, head_is, nodes_from, nothing, plan_at, proof_at, rest_at, tree_at}
+use Rattle.bound_cert.specs.Nodes.{Above, after_node, end_at, head_is, headed, nodes_from, nothing, plan_at, proof_at, rest_at, tree_at, version_of}
 use Rattle.bound_cert.specs.Reading.{Series, body_at, charge_series, charges_from, entries_from, entry_at, head_at, mixed_at, mixed_scale_at, node_at, prices_at, rent_series, rents_from, scale_at, step_series, steps_from, weight_series, weights_from}
 use Rattle.bound_cert.specs.declared.faults.TheConstants.{BAD_LINE}
 use Rattle.bound_cert.specs.declared.nodes.Head.{Head}
@@ -13,14 +13,12 @@ use Rattle.dual_bound.specs.declared.prices.Charge.{Charge}
 use Rattle.dual_bound.specs.declared.prices.PriceStep.{PriceStep}
 use Rattle.fleet_model.specs.declared.tables.Tables.{Tables}
 use Rattle.proof_lines.specs.Forms.{form_in}
-use Rattle.proof_lines.specs.Known.{names_in}
 use Rattle.proof_lines.specs.Words.{is_word, words_of}
 use Rattle.proof_lines.specs.declared.line.Version.{Version}
-use Rattle.std.proofs.Common.{[], ◌++◌, ◌<◌, ◌==◌, ◌∷◌, ◌≡◌, ◌≤◌, Bool, Err, List, None, Ok, Option, arith, codes, cond, drop, false, length, refl, subst, suc, sym, true, zero, ℕ, ℤ}
-use Rattle.std.specs.Prelude.{⊤, bytes_eq}
+use Rattle.std.proofs.Common.{[], ◌++◌, ◌<◌, ◌==◌, ◌∷◌, ◌≡◌, ◌≤◌, Bool, Err, List, None, Ok, Option, arith, cond, drop, false, length, refl, subst, suc, sym, true, zero, ℕ, ℤ, Some}
+use Rattle.std.specs.Prelude.{⊤}
 use Rattle.bound_cert.specs.declared.nodes.Head.TheVariants as head
 use Rattle.bound_cert.specs.declared.reading_lines.Due.TheVariants as due
-use Rattle.proof_lines.specs.declared.line.Version.TheVariants as version
 
 -- what reading leaves, or where it stops, is no more than there was
 abbrev pub Shrinks : {A : Type 0} → ℕ → Reading (A × Left) → Type 0
@@ -153,8 +151,11 @@ headed_twin [] b same = subst (λ b. Twin [] b (head_is []) (head_is b)) (sym sa
 headed_twin (line ∷ []) b same = subst (λ b. Twin (line ∷ []) b (head_is (line ∷ [])) (head_is b)) (sym same) (refl, refl)
 headed_twin (line ∷ second ∷ rest) b same =
     subst (λ b. Twin (line ∷ second ∷ rest) b (head_is (line ∷ second ∷ rest)) (head_is b)) (sym same.is)
-    (twin_if (line ∷ second ∷ rest) (line ∷ same.second ∷ same.rest) (bytes_eq line (codes "fleet proof 1")) _ _ _ _ refl
-    (twin_if (line ∷ second ∷ rest) (line ∷ same.second ∷ same.rest) (bytes_eq line (codes "fleet proof 2")) _ _ _ _ refl (refl, refl)))
+    (by_version (version_of line))
+  where
+    by_version : (o : Option Version) → Twin (line ∷ second ∷ rest) (line ∷ same.second ∷ same.rest) (headed o (line ∷ second ∷ rest)) (headed o (line ∷ same.second ∷ same.rest))
+    by_version None = (refl, refl)
+    by_version (Some version) = refl
 
 module _ (v : Version) (t : Tables) where
   pub tree_stops : (a : Left) → Stops (length a) (tree_at (names v t) a)

@@ -14,7 +14,6 @@ use Rattle.proof_lines.specs.Words.{words_of}
 use Rattle.proof_lines.specs.declared.flaws.Flaw.{Flaw}
 use Rattle.proof_lines.specs.declared.line.Line.{Line}
 use Rattle.std.proofs.Common.{[], ◌<◌, ◌∙◌, ◌∷◌, ◌≡◌, Bool, Err, Ok, Result, ap, arith, drop, false, length, refl, sym, true}
-use Rattle.proof_lines.specs.declared.line.Version.TheVariants as version
 
 -- the first line that is left is this one, and something stands behind it
 pub record LineIs (v : Version) (t : Tables) (left : Left) (line : Line) : Type 0 where

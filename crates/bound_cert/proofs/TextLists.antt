@@ -35,7 +35,6 @@ use Rattle.std.specs.Ordering.{int_eq}
 use Rattle.std.specs.Prelude.{All}
 use Rattle.bound_cert.specs.declared.reading_lines.Due.TheVariants as due
 use Rattle.proof_lines.specs.declared.line.Line.TheVariants as says
-use Rattle.proof_lines.specs.declared.line.Version.TheVariants as version
 
 module _ (v : Version) (t : Tables) where
   -- steps

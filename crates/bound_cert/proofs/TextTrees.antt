@@ -5,14 +5,14 @@ use Rattle.bound_cert.proofs.TextNodes.{node_was}
 use Rattle.bound_cert.proofs.WrittenLines.{names, texts, texts_append}
 use Rattle.bound_cert.proofs.WrittenTrees.{last}
 use Rattle.bound_cert.specs.Lines.{Left, Reading, left_of, line_due, may_stand}
-use Rattle.bound_cert.specs.Nodes.{Above, after_node, after_tree, end_at, head_is, nodes_from, nothing, plan_at, plan_of, proof_at, rest_at, tree_at}
+use Rattle.bound_cert.specs.Nodes.{Above, after_node, after_tree, end_at, head_is, headed, nodes_from, nothing, plan_at, plan_of, proof_at, rest_at, tree_at, version_of}
 use Rattle.bound_cert.specs.ProofText.{IsNodeIn, lines_in, lines_of, node_lines, text_in, tree_lines}
 use Rattle.bound_cert.specs.ReadProof.{IsTextOf}
 use Rattle.bound_cert.specs.Reading.{node_at, said_at}
 use Rattle.bound_cert.specs.declared.faults.TheConstants.{BAD_LINE}
 use Rattle.dual_bound.specs.Leaves.{depth_of}
 use Rattle.dual_bound.specs.Nodes.{nodes_of}
-use Rattle.dual_bound.specs.WrittenOrder.{InWrittenOrder, IsNodeInOrder, IsShallow}
+use Rattle.dual_bound.specs.WrittenOrder.{IsNodeInOrder}
 use Rattle.dual_bound.specs.declared.nodes.Node.{Node}
 use Rattle.dual_bound.specs.declared.trees.TheConstants.{MAX_DEPTH}
 use Rattle.dual_bound.specs.declared.trees.Tree.{Tree}
@@ -23,7 +23,7 @@ use Rattle.proof_lines.specs.LineText.{line_bytes}
 use Rattle.proof_lines.specs.Words.{is_word, line_feed}
 use Rattle.proof_lines.specs.declared.line.Line.{Line}
 use Rattle.proof_lines.specs.declared.line.Version.{Version}
-use Rattle.std.proofs.Common.{[], ◌++◌, ◌+◌, ◌<◌, ◌==◌, ◌∙◌, ◌∷◌, ◌≡◌, ◌≤◌, Bool, Err, List, Ok, ap, append-nil, append_assoc, arith, bytes_eq, codes, cond, drop, false, length, refl, subst, suc, sym, true, zero, ℕ}
+use Rattle.std.proofs.Common.{[], ◌++◌, ◌+◌, ◌<◌, ◌==◌, ◌∙◌, ◌∷◌, ◌≡◌, ◌≤◌, Bool, Err, List, Ok, ap, append-nil, append_assoc, arith, bytes_eq, codes, cond, drop, false, length, refl, subst, suc, sym, true, zero, ℕ, None, Option, Some}
 use Rattle.std.proofs.lemmas.Bool.Decides.{nat_tests}
 use Rattle.std.proofs.lemmas.List.Elements.{All-cons, All-nil}
 use Rattle.std.proofs.lemmas.List.Splits.{join_with_byte-slice_split}
@@ -103,16 +103,26 @@ depth_is other above more within = record { depth = leaf_depth (length above) wi
 
 -- the head, the plan and the end
 
+head_line : (t : Tables) (line : List ℕ) (v : Version) → version_of line ≡ Some v → line ≡ line_bytes t (says.Head v)
+head_line t line v e = by_one (bytes_eq line (codes "fleet proof 1")) refl e
+  where
+    by_two : (b : Bool) → bytes_eq line (codes "fleet proof 2") ≡ b → cond b (Some version.Two) None ≡ Some v → line ≡ line_bytes t (says.Head v)
+    by_two true is e = let same : version.Two ≡ v = cc e in subst (λ v. line ≡ line_bytes t (says.Head v)) same (same_bytes line (codes "fleet proof 2") is)
+    by_two false is e = absurd (cc e)
+
+    by_one : (b : Bool) → bytes_eq line (codes "fleet proof 1") ≡ b → cond b (Some version.One) (cond (bytes_eq line (codes "fleet proof 2")) (Some version.Two) None) ≡ Some v → line ≡ line_bytes t (says.Head v)
+    by_one true is e = let same : version.One ≡ v = cc e in subst (λ v. line ≡ line_bytes t (says.Head v)) same (same_bytes line (codes "fleet proof 1") is)
+    by_one false is e = by_two (bytes_eq line (codes "fleet proof 2")) refl e
+
 head_was : (t : Tables) (left : Left) (v : Version) → head_is left ≡ Ok v → left ≡ line_bytes t (says.Head v) ∷ drop 1 left
 unfolding head_is
 head_was t [] v e = absurd (cc e)
 head_was t (line ∷ []) v e = absurd (cc e)
-head_was t (line ∷ next ∷ rest) v e =
-    either_way (bytes_eq line (codes "fleet proof 1")) _ _ v e (by_head version.One (codes "fleet proof 1") refl)
-    (λ other e. either_way (bytes_eq line (codes "fleet proof 2")) _ _ v e (by_head version.Two (codes "fleet proof 2") refl) (λ is e. absurd (cc e)))
+head_was t (line ∷ next ∷ rest) v e = by_version (version_of line) refl e
   where
-    by_head : (w : Version) (bytes : List ℕ) → bytes ≡ line_bytes t (says.Head w) → bytes_eq line bytes ≡ true → ◌≡◌ {A = Reading Version} (Ok w) (Ok v) → line ∷ next ∷ rest ≡ line_bytes t (says.Head v) ∷ next ∷ rest
-    by_head w bytes head is e = ap (λ l. l ∷ next ∷ rest) (same_bytes line bytes is ∙ head ∙ ap (λ x. line_bytes t (says.Head x)) (ok_same w v e))
+    by_version : (o : Option Version) → version_of line ≡ o → headed o (line ∷ next ∷ rest) ≡ Ok v → line ∷ next ∷ rest ≡ line_bytes t (says.Head v) ∷ next ∷ rest
+    by_version None is e = absurd (cc e)
+    by_version (Some w) is e = ap (λ l. l ∷ next ∷ rest) (head_line t line w is ∙ ap (λ x. line_bytes t (says.Head x)) (ok_same w v e))
 
 plan_is : (line : Line) (left : Left) (planned : Bool) → plan_of line left ≡ Ok planned → line ≡ says.Plan planned
 plan_is (says.Plan b) left planned e = ap (λ b. says.Plan b) (ok_same b planned e)

@@ -23,7 +23,6 @@ use Rattle.std.proofs.lemmas.List.{map-append}
 use Rattle.std.specs.Prelude.{All}
 use Rattle.bound_cert.specs.declared.reading_lines.Due.TheVariants as due
 use Rattle.proof_lines.specs.declared.forms.Form.TheVariants as form
-use Rattle.proof_lines.specs.declared.line.Version.TheVariants as version
 
 -- what the lines of a text of a version are read by
 abbrev pub names : Version → Tables → Naming

@@ -30,7 +30,7 @@ use Rattle.proof_lines.specs.declared.line.Line.{Line}
 use Rattle.std.proofs.Common.{[], ◌&&◌, ◌++◌, ◌+◌, ◌-◌, ◌<◌, ◌==◌, ◌∙◌, ◌∷◌, ◌≡◌, ◌≤◌, Bool, List, None, Ok, Option, Some, ap, append-nil, append_assoc, arith, false, length, map, nat_le, not, pos, refl, replicate, suc, sym, take, true, zero, ℕ, ℤ}
 use Rattle.std.proofs.lemmas.Bool.Decides.{Decides-int_eq, nat_tests}
 use Rattle.std.proofs.lemmas.List.Elements.{All-head, All-tail, All-weaker}
-use Rattle.std.proofs.lemmas.List.{length-map, length-take-le, map-append, take_all, take_more}
+use Rattle.std.proofs.lemmas.List.{length-map, length-take-le, take_all, take_more}
 use Rattle.std.specs.List.{flat_map, range_with_len}
 use Rattle.std.specs.Ordering.{int_eq}
 use Rattle.std.specs.Prelude.{All, IsTrue}
@@ -38,7 +38,6 @@ use Rattle.sums.proofs.Tests.{by_test}
 use Rattle.bound_cert.specs.declared.reading_lines.Due.TheVariants as due
 use Rattle.proof_lines.specs.declared.forms.Form.TheVariants as form
 use Rattle.proof_lines.specs.declared.line.Line.TheVariants as says
-use Rattle.proof_lines.specs.declared.line.Version.TheVariants as version
 
 -- what stands behind prices or a fractional assignment: some line, of another kind in each version
 pub record IsBehind (left : Left) : Type 0 where

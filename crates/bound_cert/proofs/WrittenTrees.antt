@@ -25,7 +25,7 @@ use Rattle.proof_lines.specs.Forms.{form_of, has_form}
 use Rattle.proof_lines.specs.LineText.{line_bytes}
 use Rattle.std.proofs.Common.{[], ◌++◌, ◌+◌, ◌<◌, ◌==◌, ◌∙◌, ◌∷◌, ◌≡◌, ◌≤◌, Bool, List, Ok, ap, append-nil, append_assoc, arith, cond, false, get_or, length, refl, subst, suc, sym, true, zero, ℕ}
 use Rattle.std.proofs.lemmas.Bool.Decides.{nat_tests}
-use Rattle.std.proofs.lemmas.List.Elements.{All-head, All-nil, All-tail, All-weaker}
+use Rattle.std.proofs.lemmas.List.Elements.{All-head, All-tail, All-weaker}
 use Rattle.std.proofs.lemmas.List.{length-append, length-map}
 use Rattle.std.specs.List.{flat_map}
 use Rattle.std.specs.Prelude.{All, max}

@@ -48,14 +48,23 @@ nodes_from n (suc most) nodes above left =
     if length (after_node read.0 above) == 0 then Ok (nodes ++ read.0 ∷ [], read.1)
     else nodes_from n most (nodes ++ read.0 ∷ []) (after_node read.0 above) read.1
 
+-- the version that the head of a text says
+abbrev pub version_of : List ℕ → Option Version
+version_of line =
+    if bytes_eq line (codes "fleet proof 1") then Some version.One
+    else if bytes_eq line (codes "fleet proof 2") then Some version.Two
+    else None
+
+-- .. or its fault
+abbrev pub headed : Option Version → Left → Reading Version
+headed None left = stopped left WRONG_HEAD
+headed (Some version) left = Ok version
+
 -- the head, which says the version of the text
 unfoldable pub head_is : Left → Reading Version
 head_is [] = stopped [] WRONG_HEAD
 head_is (line ∷ []) = stopped (line ∷ []) WRONG_HEAD
-head_is (line ∷ next ∷ rest) =
-    if bytes_eq line (codes "fleet proof 1") then Ok version.One
-    else if bytes_eq line (codes "fleet proof 2") then Ok version.Two
-    else stopped (line ∷ next ∷ rest) WRONG_HEAD
+head_is (line ∷ next ∷ rest) = headed (version_of line) (line ∷ next ∷ rest)
 
 -- whether a plan comes with the proof
 abbrev pub plan_of : Line → Left → Reading Bool

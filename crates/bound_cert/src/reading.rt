@@ -3,7 +3,7 @@ ghost use Rattle.std.specs.Prelude.{◌≡◌, Bool, drop, length, IfOk, MatchRe
 ghost use Rattle.proof_lines.specs.Known.{names_in, naming};
 ghost use Rattle.proof_lines.specs.Words.{seen};
 ghost use Rattle.bound_cert.specs.Lines.{Gives, left_of};
-ghost use Rattle.bound_cert.specs.Nodes.{end_at, head_is, nothing, plan_at, plan_of, proof_at, rest_at, tree_at};
+ghost use Rattle.bound_cert.specs.Nodes.{end_at, head_is, nothing, plan_at, plan_of, proof_at, rest_at, tree_at, version_of};
 ghost use Rattle.dual_bound.specs.Nodes.{nodes_of};
 ghost use Rattle.dual_bound.specs.OfTables.{IsOfTables};
 ghost use Rattle.bound_cert.specs.Wants.{WantsNone};
@@ -93,12 +93,22 @@ fn head_is(left: &[&[u8]]) -> Result<Version, Stop>
     if rest.is_empty() {
         return stopped(left, WRONG_HEAD);
     }
-    if *line == b"fleet proof 1".as_slice() {
-        Ok(Version::One)
-    } else if *line == b"fleet proof 2".as_slice() {
-        Ok(Version::Two)
+    match version_of(line) {
+        Some(version) => Ok(version),
+        None => stopped(left, WRONG_HEAD),
+    }
+}
+
+/// The version that the head of a text says.
+fn version_of(line: &[u8]) -> Option<Version>
+    ensures { result ≡ version_of line.now }
+{
+    if line == b"fleet proof 1".as_slice() {
+        Some(Version::One)
+    } else if line == b"fleet proof 2".as_slice() {
+        Some(Version::Two)
     } else {
-        stopped(left, WRONG_HEAD)
+        None
     }
 }
 

@@ -2,6 +2,7 @@ pub mod Asks
 pub mod ChargeEntries
 pub mod MixedCosts
 pub mod NodeRules
+pub mod OneAsked
 pub mod OneVerdict
 pub mod OtherSettings
 pub mod OtherSizes

@@ -1,12 +1,12 @@
 -- A tree has one verdict at most, and so have all trees of its nodes.
-use Rattle.std.proofs.Common.{◌≡◌, ℕ, suc, ◌+◌, true, false, List, [], ◌∷◌, ◌++◌, length, Option, Some, None, ℤ, refl, sym, ◌∙◌, ap, inl, inr, arith}
+use Rattle.std.proofs.Common.{◌≡◌, ℕ, suc, ◌+◌, true, false, List, [], ◌∷◌, ◌++◌, length, Option, Some, None, IfSome, ℤ, refl, sym, ◌∙◌, ap, subst, inl, inr, arith}
 use Rattle.std.specs.Prelude.{All}
 use Rattle.std.specs.List.{AllZip}
 use Rattle.std.proofs.lemmas.Bool.{cases_order}
 use Rattle.std.proofs.lemmas.Int.{by_lt_z, ints}
-use Rattle.std.proofs.lemmas.List.Elements.{All-head, All-tail}
+use Rattle.std.proofs.lemmas.List.Elements.{All-head, All-tail, All-weaker}
 use Rattle.frac_row.proofs.Ceilings.{same_ceiling}
-use Rattle.fleet_model.specs.Kept.{Domains, IsKeptAssignment, all_pairs}
+use Rattle.fleet_model.specs.Kept.{Domains, IsKeptAssignment, IsSole, all_pairs}
 use Rattle.fleet_model.specs.Legal.{IsLegal}
 use Rattle.fleet_model.specs.declared.tables.Tables.{Tables}
 use Rattle.dual_bound.specs.Bound.{IsBoundIn, IsLesserBound, IsPriceBound, IsSoleBound, part}
@@ -15,9 +15,9 @@ use Rattle.dual_bound.specs.Nodes.{nodes_of}
 use Rattle.dual_bound.specs.declared.prices.Prices.{Prices}
 use Rattle.dual_bound.specs.declared.trees.Tree.{Tree}
 use Rattle.dual_bound.specs.declared.trees.Tree.TheVariants as tree
-use Rattle.cert_check.specs.Nodes.{Node, nodes_in}
+use Rattle.cert_check.specs.Nodes.{Node, nodes_in, prices_at}
 use Rattle.dual_bound.specs.Prices.{IsScale}
-use Rattle.cert_check.specs.Rules.{IsFirstBroken, IsFirstFault, IsSound, number_of}
+use Rattle.cert_check.specs.Rules.{HasScale, IsFirstBroken, IsFirstFault, IsSound, number_of}
 use Rattle.cert_check.specs.Verdicts.{AreSound, BreaksAt, HoldsWith, IsChecked}
 use Rattle.cert_check.specs.declared.checked.Checked.{Checked}
 use Rattle.cert_check.specs.declared.checked.Checked.TheVariants as checked
@@ -66,25 +66,40 @@ one_lesser : (yes_has no_has : Option ℤ → Type 0) (b c : Option ℤ) → ((x
 one_lesser yes_has no_has b c one_yes one_no x y =
     x.lesser ∙ rw (one_yes x.with_pair y.with_pair x.yes_is y.yes_is, one_no x.without y.without x.no_is y.no_is) refl ∙ sym y.lesser
 
+-- what leaves a node no choice of its bound: a scale above 0, and one assignment where one is left
+pub record IsSingle (t : Tables) (one : Node) : Type 0 where
+  pub scale : IfSome (prices_at one.tree) HasScale
+  pub sole : one.tree ≡ tree.Sole → IsSole t one.keeps
+
+pub bound_once : (t : Tables) (keeps : Domains) (whole : Tree) (b c : Option ℤ) → All (IsSingle t) (nodes_in keeps whole) → IsBoundIn t keeps whole b → IsBoundIn t keeps whole c → b ≡ c
+bound_once t keeps (tree.Bare leg) b c single x y = x ∙ sym y
+bound_once t keeps tree.Sole b c single x y =
+    let one = sole_has_one t keeps ((All-head (IsSingle t) (node keeps tree.Sole) [] single).sole refl) in
+    one_sole t keeps one.0 one.1 b c x y
+bound_once t keeps (tree.Refuted prices) b c single x y = x ∙ sym y
+bound_once t keeps (tree.Priced prices) b c single x y = one_ceiling t keeps prices b c (All-head (IsSingle t) (node keeps (tree.Priced prices)) [] single).scale x y
+bound_once t keeps (tree.Open prices why) b c single x y = one_ceiling t keeps prices b c (All-head (IsSingle t) (node keeps (tree.Open prices why)) [] single).scale x y
+bound_once t keeps (tree.Trim' leg fleet p with_pair q without) b c single x y =
+    let below = All-tail (IsSingle t) _ _ single in
+    one_lesser _ _ b c
+    (λ m n. bound_once t (part keeps leg fleet true) with_pair m n (first_all (IsSingle t) _ _ below))
+    (λ m n. bound_once t (part keeps leg fleet false) without m n (second_all (IsSingle t) (nodes_in (part keeps leg fleet true) with_pair) _ below)) x y
+bound_once t keeps (tree.Split' leg fleet prices mixed p with_pair q without) b c single x y =
+    let below = All-tail (IsSingle t) _ _ single in
+    one_lesser _ _ b c
+    (λ m n. bound_once t (part keeps leg fleet true) with_pair m n (first_all (IsSingle t) _ _ below))
+    (λ m n. bound_once t (part keeps leg fleet false) without m n (second_all (IsSingle t) (nodes_in (part keeps leg fleet true) with_pair) _ below)) x y
+
 module _ (t : Tables) (cost : Option ℤ) where
+  -- where all rules are kept
+  sound_single : (one : Node) → IsSound t cost one → IsSingle t one
+  sound_single one sound = record {
+    scale = sound.each rule.Scale;
+    sole = λ e. (let here = subst (λ x. IsSound t cost (node one.keeps x)) e sound in here.each rule.Pairs);
+  }
+
   pub one_bound : (keeps : Domains) (whole : Tree) (b c : Option ℤ) → AreSound t cost keeps whole → IsBoundIn t keeps whole b → IsBoundIn t keeps whole c → b ≡ c
-  one_bound keeps (tree.Bare leg) b c sound x y = x ∙ sym y
-  one_bound keeps tree.Sole b c sound x y =
-      let one = sole_has_one t keeps ((All-head (IsSound t cost) (node keeps tree.Sole) [] sound).each rule.Pairs) in
-      one_sole t keeps one.0 one.1 b c x y
-  one_bound keeps (tree.Refuted prices) b c sound x y = x ∙ sym y
-  one_bound keeps (tree.Priced prices) b c sound x y = one_ceiling t keeps prices b c ((All-head (IsSound t cost) (node keeps (tree.Priced prices)) [] sound).each rule.Scale) x y
-  one_bound keeps (tree.Open prices why) b c sound x y = one_ceiling t keeps prices b c ((All-head (IsSound t cost) (node keeps (tree.Open prices why)) [] sound).each rule.Scale) x y
-  one_bound keeps (tree.Trim' leg fleet p with_pair q without) b c sound x y =
-      let below = All-tail (IsSound t cost) _ _ sound in
-      one_lesser _ _ b c
-      (λ m n. one_bound (part keeps leg fleet true) with_pair m n (first_all (IsSound t cost) _ _ below))
-      (λ m n. one_bound (part keeps leg fleet false) without m n (second_all (IsSound t cost) (nodes_in (part keeps leg fleet true) with_pair) _ below)) x y
-  one_bound keeps (tree.Split' leg fleet prices mixed p with_pair q without) b c sound x y =
-      let below = All-tail (IsSound t cost) _ _ sound in
-      one_lesser _ _ b c
-      (λ m n. one_bound (part keeps leg fleet true) with_pair m n (first_all (IsSound t cost) _ _ below))
-      (λ m n. one_bound (part keeps leg fleet false) without m n (second_all (IsSound t cost) (nodes_in (part keeps leg fleet true) with_pair) _ below)) x y
+  one_bound keeps whole b c sound x y = bound_once t keeps whole b c (All-weaker (IsSound t cost) (IsSingle t) sound_single (nodes_in keeps whole) sound) x y
 
   -- ---- one first fault
 

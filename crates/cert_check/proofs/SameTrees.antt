@@ -124,12 +124,12 @@ module _ (t : Tables) (cost : Option ℤ) where
   pub same_sound : (n m : Node) → SameNode n m → IsSound t cost n → IsSound t cost m
   same_sound n m same sound = record { each = λ one. same_keeps n m same one (sound.each one) }
 
-  all_sound : (ns ms : List Node) → AllZip SameNode ns ms → All (IsSound t cost) ns → All (IsSound t cost) ms
-  all_sound [] [] same sound = sound
-  all_sound [] (m ∷ ms) same sound = absurd same
-  all_sound (n ∷ ns) [] same sound = absurd same
-  all_sound (n ∷ ns) (m ∷ ms) same sound =
-      All-cons (IsSound t cost) m ms (same_sound n m same.0 (All-head (IsSound t cost) n ns sound)) (all_sound ns ms same.1 (All-tail (IsSound t cost) n ns sound))
+  -- what holds of a node and of the same one elsewhere
+  pub all_same : (P : Node → Type 0) → ((n m : Node) → SameNode n m → P n → P m) → (ns ms : List Node) → AllZip SameNode ns ms → All P ns → All P ms
+  all_same P too [] [] same all = all
+  all_same P too [] (m ∷ ms) same all = absurd same
+  all_same P too (n ∷ ns) [] same all = absurd same
+  all_same P too (n ∷ ns) (m ∷ ms) same all = All-cons P m ms (too n m same.0 (All-head P n ns all)) (all_same P too ns ms same.1 (All-tail P n ns all))
 
   joined : (ns ms more others : List Node) → AllZip SameNode ns ms → AllZip SameNode more others → AllZip SameNode (ns ++ more) (ms ++ others)
   joined [] [] more others first second = second
@@ -158,7 +158,7 @@ module _ (t : Tables) (cost : Option ℤ) where
   same_nodes keeps _ _ same = absurd same
 
   pub sound_too : (keeps : Domains) (x y : Tree) → Same x y → AreSound t cost keeps x → AreSound t cost keeps y
-  sound_too keeps x y same sound = all_sound (nodes_in keeps x) (nodes_in keeps y) (same_nodes keeps x y same) sound
+  sound_too keeps x y same sound = all_same (IsSound t cost) same_sound (nodes_in keeps x) (nodes_in keeps y) (same_nodes keeps x y same) sound
 
 -- the bound of a tree and of the same one elsewhere
 pub bound_too : (t : Tables) (keeps : Domains) (x y : Tree) (bound : Option ℤ) → Same x y → IsBoundIn t keeps x bound → IsBoundIn t keeps y bound

@@ -48,6 +48,10 @@ dates = word_named (codes "date") ∷ word_named (codes "count") ∷ []
 abbrev pub made : List Rule
 made = word_named (codes "number") ∷ word_named (codes "legs") ∷ []
 
+-- FLEET COUNT
+abbrev pub other_size : List Rule
+other_size = word_named (codes "fleet") ∷ word_named (codes "count") ∷ []
+
 -- ---- the commands
 
 -- a command of this name that takes these
@@ -76,6 +80,9 @@ due_app = command_on_tables (codes "due") (dates ++ rotation_options)
 abbrev pub make_app : App
 make_app = command_named (codes "make") (folder ++ made)
 
+abbrev pub whatif_app : App
+whatif_app = command_on_tables (codes "whatif") other_size
+
 -- a program that does nothing without a command
 abbrev pub bare_app : App
 bare_app = on_top (λ shape. record shape { subcommand_required = true }) (new_app (codes "fleetplan"))
@@ -86,7 +93,7 @@ with_command program command = with_subcommand program command.top
 
 -- fleetplan COMMAND
 unfoldable pub our_app : App
-our_app = fold with_command bare_app (judge_app ∷ solve_app ∷ check_app ∷ tails_app ∷ due_app ∷ make_app ∷ [])
+our_app = fold with_command bare_app (judge_app ∷ solve_app ∷ check_app ∷ tails_app ∷ due_app ∷ make_app ∷ whatif_app ∷ [])
 
 -- ---- the code's parts
 

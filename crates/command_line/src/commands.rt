@@ -37,6 +37,9 @@ const DATES: &[Argument<'static>] = &[Argument::Word("date"), Argument::Word("co
 /// `NUMBER LEGS`: what tables are made of.
 const MADE: &[Argument<'static>] = &[Argument::Word("number"), Argument::Word("legs")];
 
+/// `FLEET COUNT`: another number of aircraft of a fleet.
+const OTHER_SIZE: &[Argument<'static>] = &[Argument::Word("fleet"), Argument::Word("count")];
+
 /// The commands in the order in which they are told.
 pub(crate) const COMMANDS: &[CommandRow<'static>] = &[
     CommandRow {
@@ -62,5 +65,9 @@ pub(crate) const COMMANDS: &[CommandRow<'static>] = &[
     CommandRow {
         name: "make",
         groups: &[FOLDER, MADE],
+    },
+    CommandRow {
+        name: "whatif",
+        groups: &[FOLDER, TABLE_OPTIONS, OTHER_SIZE],
     },
 ];

@@ -4,6 +4,7 @@ use Rattle.std.specs.Option.{option_map_or}
 use Rattle.clap.specs.Words.{Row, Text, first_of, found_of, rows_of}
 use Rattle.clap.specs.declared.parser.matches.ArgMatches.{ArgMatches}
 use Rattle.calendar_dates.specs.Days.{Day, HasDays}
+use Rattle.fleet_model.specs.declared.limits.TheConstants.{MAX_AIRCRAFT}
 use Rattle.fleet_model.specs.declared.options.TableOptions.{TableOptions}
 use Rattle.fleet_model.specs.declared.parts.Settings.{Settings}
 use Rattle.calendar_dates.specs.Reading.{date_read, ends_in_calendar}
@@ -12,7 +13,7 @@ use Rattle.command_words.specs.declared.command.Dates.{Dates}
 use Rattle.command_words.specs.declared.command.RotationLimits.{RotationLimits}
 use Rattle.command_words.specs.declared.command.SearchLimits.{SearchLimits}
 use Rattle.command_words.specs.declared.command.SolveOptions.{SolveOptions}
-use Rattle.command_words.specs.declared.command.TheConstants.{DEFAULT_DAY_START, DEFAULT_DAYS, DEFAULT_NODES, DEFAULT_PERIOD, DEFAULT_PIVOTS, DEFAULT_THROUGH_MAX, DEFAULT_VISITS, MAX_DATES, MAX_DAYS, MAX_MADE_LEGS, MAX_NODES, MAX_NUMBER, MAX_PERIOD, MAX_PIVOTS, MAX_THROUGH_MAX, MAX_VISITS, MIN_DATES, MIN_DAYS, MIN_PERIOD}
+use Rattle.command_words.specs.declared.command.TheConstants.{DEFAULT_DAYS, DEFAULT_DAY_START, DEFAULT_NODES, DEFAULT_PERIOD, DEFAULT_PIVOTS, DEFAULT_THROUGH_MAX, DEFAULT_VISITS, MAX_DATES, MAX_DAYS, MAX_MADE_LEGS, MAX_NODES, MAX_NUMBER, MAX_PERIOD, MAX_PIVOTS, MAX_THROUGH_MAX, MAX_VISITS, MIN_DATES, MIN_DAYS, MIN_PERIOD}
 
 -- what was found for the arguments
 abbrev pub rows_in : ArgMatches → List Row
@@ -151,6 +152,20 @@ legs_read text = option_and_then where_even (number_read 0 MAX_MADE_LEGS text)
 -- the number of legs, where it reads
 abbrev pub legs_in : List Row → Option ℕ
 legs_in found = option_and_then legs_read (first_of (codes "legs") found)
+
+-- ---- another size of a fleet
+
+-- the fleet
+abbrev pub fleet_in : List Row → Option Text
+fleet_in found = first_of (codes "fleet") found
+
+-- the number of aircraft that a text writes
+abbrev pub aircraft_read : Text → Option ℕ
+aircraft_read text = number_read 0 MAX_AIRCRAFT text
+
+-- the number of aircraft, where it reads
+abbrev pub aircraft_in : List Row → Option ℕ
+aircraft_in found = option_and_then aircraft_read (first_of (codes "count") found)
 
 -- ---- what holds of values that read
 

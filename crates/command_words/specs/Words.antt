@@ -1,10 +1,11 @@
 -- What the words of a call ask for.
-use Rattle.std.specs.Prelude.{⊤, if◌then◌else◌, List, ℕ, codes, bytes_eq, Option, None, option_and_then, option_map}
+use Rattle.std.specs.Prelude.{◌≤◌, ⊤, if◌then◌else◌, List, ℕ, codes, bytes_eq, Option, None, option_and_then, option_map}
 use Rattle.clap.specs.Words.{Row, Text}
 use Rattle.calendar_dates.specs.Days.{day_on}
 use Rattle.fleet_model.specs.Limits.{AreSettings}
+use Rattle.fleet_model.specs.declared.limits.TheConstants.{MAX_AIRCRAFT}
 use Rattle.fleet_model.specs.declared.options.TableOptions.{TableOptions}
-use Rattle.command_words.specs.Arguments.{AreDates, AreOptions, AreRotationLimits, AskedDates, CanBeAsked, dates_in, dir_in, legs_in, number_in, options_in, reading_in, rotations_in}
+use Rattle.command_words.specs.Arguments.{AreDates, AreOptions, AreRotationLimits, AskedDates, CanBeAsked, aircraft_in, dates_in, dir_in, fleet_in, legs_in, number_in, options_in, reading_in, rotations_in}
 use Rattle.command_line.specs.Found.{found}
 use Rattle.command_words.specs.declared.command.Command.{Command}
 use Rattle.command_words.specs.declared.command.Command.TheVariants as command
@@ -12,7 +13,8 @@ use Rattle.command_words.specs.declared.command.Dates.{Dates}
 use Rattle.command_words.specs.declared.command.RotationLimits.{RotationLimits}
 use Rattle.command_words.specs.declared.command.SolveOptions.{SolveOptions}
 
--- a command with its folder, how its tables are read, and what else it takes; making takes a number and a count of legs
+-- A command with its folder, how its tables are read, and what else it takes. Making takes a number and a count of legs, and
+-- asking about another size a fleet's name and a count of aircraft.
 pub data Asked : Type 0 where
   judge : List ℕ → TableOptions → Asked
   solve : List ℕ → TableOptions → SolveOptions → Asked
@@ -20,6 +22,7 @@ pub data Asked : Type 0 where
   tails : List ℕ → TableOptions → RotationLimits → AskedDates → Asked
   due : List ℕ → TableOptions → RotationLimits → AskedDates → Asked
   make : List ℕ → ℕ → ℕ → Asked
+  whatif : List ℕ → TableOptions → List ℕ → ℕ → Asked
 
 -- ---- the commands
 
@@ -73,6 +76,15 @@ make_at number legs dir = option_and_then (λ n. option_map (make dir n) legs) n
 abbrev pub make_in : List Row → Option Asked
 make_in found = option_and_then (make_at (number_in found) (legs_in found)) (dir_in found)
 
+-- asking of a folder's proof what it says of so many aircraft of a fleet, where all are there
+abbrev pub whatif_at : Option TableOptions → Option Text → Option ℕ → Text → Option Asked
+whatif_at reading fleet count dir =
+    option_and_then (λ how. option_and_then (λ name. option_map (whatif dir how name) count) fleet) reading
+
+-- asking about another size, where all values read
+abbrev pub whatif_in : List Row → Option Asked
+whatif_in found = option_and_then (whatif_at (reading_in found) (fleet_in found) (aircraft_in found)) (dir_in found)
+
 -- the command of a subcommand's name and what was found for its arguments
 abbrev pub command_in : Text × List Row → Option Asked
 command_in (name, found) =
@@ -82,6 +94,7 @@ command_in (name, found) =
     else if bytes_eq name (codes "tails") then tails_in found
     else if bytes_eq name (codes "due") then due_in found
     else if bytes_eq name (codes "make") then make_in found
+    else if bytes_eq name (codes "whatif") then whatif_in found
     else None
 
 -- what words ask for, the first of them the program's name: nothing where clap finds a fault, as it does where they
@@ -103,6 +116,7 @@ asked_by (command.Check dir reading) = check dir.now reading
 asked_by (command.Tails dir reading rotations dates) = tails dir.now reading rotations (dates_by dates)
 asked_by (command.Due dir reading rotations dates) = due dir.now reading rotations (dates_by dates)
 asked_by (command.Make dir number legs) = make dir.now number legs
+asked_by (command.Whatif dir reading fleet count) = whatif dir.now reading fleet.now count
 
 -- the settings of a command are within their limits, where it has some
 abbrev pub HasSettings : Command → Type 0
@@ -112,8 +126,9 @@ HasSettings (command.Check dir reading) = AreSettings reading.settings
 HasSettings (command.Tails dir reading rotations dates) = AreSettings reading.settings
 HasSettings (command.Due dir reading rotations dates) = AreSettings reading.settings
 HasSettings (command.Make dir number legs) = ⊤
+HasSettings (command.Whatif dir reading fleet count) = AreSettings reading.settings
 
--- so are the limits of a search and of rotations, and what tables are made of
+-- so are the limits of a search and of rotations, what tables are made of, and a number of aircraft
 abbrev pub HasLimits : Command → Type 0
 HasLimits (command.Judge dir reading) = ⊤
 HasLimits (command.Solve dir reading options) = AreOptions options
@@ -121,6 +136,7 @@ HasLimits (command.Check dir reading) = ⊤
 HasLimits (command.Tails dir reading rotations dates) = AreRotationLimits rotations
 HasLimits (command.Due dir reading rotations dates) = AreRotationLimits rotations
 HasLimits (command.Make dir number legs) = CanBeAsked number legs
+HasLimits (command.Whatif dir reading fleet count) = count ≤ MAX_AIRCRAFT
 
 -- and the dates
 abbrev pub HasDates : Command → Type 0
@@ -130,6 +146,7 @@ HasDates (command.Check dir reading) = ⊤
 HasDates (command.Tails dir reading rotations dates) = AreDates dates
 HasDates (command.Due dir reading rotations dates) = AreDates dates
 HasDates (command.Make dir number legs) = ⊤
+HasDates (command.Whatif dir reading fleet count) = ⊤
 
 -- all that a command holds is within its limits
 pub record IsInRange (c : Command) : Type 0 where

@@ -1,11 +1,11 @@
 //! The values of a command's arguments, by what clap found for them.
 ghost use Rattle.std.specs.Prelude.{◌≡◌, ◌≤◌, ◌<◌, IfSome, option_map};
 ghost use Rattle.clap.specs.Words.{first_of};
-ghost use Rattle.command_words.specs.Arguments.{AreDates, AreLimits, AreOptions, AreRotationLimits, IsLegCount, dates_in, day_start_in, is_given, legs_in, legs_read, number_in, options_in, period_in, reading_in, rotations_in, rows_in, search_in, settings_in, through_max_in};
+ghost use Rattle.command_words.specs.Arguments.{AreDates, AreLimits, AreOptions, AreRotationLimits, IsLegCount, aircraft_in, dates_in, day_start_in, is_given, legs_in, legs_read, number_in, options_in, period_in, reading_in, rotations_in, rows_in, search_in, settings_in, through_max_in};
 ghost use Rattle.command_words.specs.Values.{number_read, value_or};
 ghost use Rattle.command_words.specs.Words.{dates_by};
 ghost use Rattle.fleet_model.specs.Limits.{AreSettings};
-ghost use Rattle.fleet_model.specs.declared.limits.TheConstants.{MINUTES_PER_DAY};
+ghost use Rattle.fleet_model.specs.declared.limits.TheConstants.{MAX_AIRCRAFT, MINUTES_PER_DAY};
 
 use crate::command::{
     DEFAULT_DAY_START, DEFAULT_DAYS, DEFAULT_NODES, DEFAULT_PERIOD, DEFAULT_PIVOTS,
@@ -16,6 +16,7 @@ use crate::command::{
 use crate::values::{minute_of_day, number_between};
 use calendar_dates::{civil_date, ends_in_calendar};
 use clap::ArgMatches;
+use fleet_model::limits::MAX_AIRCRAFT;
 use fleet_model::{Settings, TableOptions};
 
 /// How the tables are read, as the options say.
@@ -166,6 +167,15 @@ fn made_legs(text: &str) -> Option<u32>
     } else {
         None
     }
+}
+
+/// The number of aircraft that a word gives.
+pub(crate) fn aircraft_of(found: &ArgMatches<'_>) -> Option<u32>
+    ensures read { result ≡ aircraft_in (rows_in found.now) }
+    ensures fits { IfSome result (λ count. count ≤ MAX_AIRCRAFT) }
+{
+    let count = number_between(value_of(found, "count")?, 0, u64::from(MAX_AIRCRAFT))?;
+    Some(count as u32)
 }
 
 /// The number of 32 bits that an option gives, or its default.

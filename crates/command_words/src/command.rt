@@ -158,4 +158,11 @@ pub enum Command<'a> {
         number: u32,
         legs: u32,
     },
+    /// Ask what the proof of a folder says where a fleet has so many aircraft.
+    Whatif {
+        dir: &'a str,
+        reading: TableOptions,
+        fleet: &'a str,
+        count: u32,
+    },
 }

@@ -1,10 +1,11 @@
 ghost use Rattle.std.specs.Prelude.{◌≡◌, IfOk, IfSome, map, option_and_then, option_map, string_bytes};
 ghost use Rattle.clap.specs.Words.{subcommand_rows_of};
 ghost use Rattle.command_words.specs.Arguments.{rows_in};
-ghost use Rattle.command_words.specs.Words.{HasDates, HasLimits, HasSettings, IsInRange, asked, asked_by, check_in, command_in, due_in, judge_in, make_in, solve_in, tails_in};
+ghost use Rattle.command_words.specs.Words.{HasDates, HasLimits, HasSettings, IsInRange, asked, asked_by, check_in, command_in, judge_in, make_in, solve_in, tails_in, whatif_in, due_in};
 
 use crate::arguments::{
-    dates_of, made_legs_of, made_number_of, options_of, reading_of, rotations_of, value_of,
+    aircraft_of, dates_of, made_legs_of, made_number_of, options_of, reading_of, rotations_of,
+    value_of,
 };
 use crate::command::Command;
 use clap::ArgMatches;
@@ -40,6 +41,7 @@ fn command_met<'a>(matches: &ArgMatches<'a>) -> Option<Command<'a>>
         "tails" => tails_of(found),
         "due" => due_of(found),
         "make" => make_of(found),
+        "whatif" => whatif_of(found),
         _ => None,
     }
 }
@@ -129,4 +131,21 @@ fn make_of<'a>(found: &ArgMatches<'a>) -> Option<Command<'a>>
     let number = made_number_of(found)?;
     let legs = made_legs_of(found)?;
     Some(Command::Make { dir, number, legs })
+}
+
+/// Asking about another size of a fleet, with what was found for it.
+fn whatif_of<'a>(found: &ArgMatches<'a>) -> Option<Command<'a>>
+    ensures asked { option_map asked_by result ≡ whatif_in (rows_in found.now) }
+    ensures fit { IfSome result IsInRange }
+{
+    let dir = value_of(found, "dir")?;
+    let reading = reading_of(found)?;
+    let fleet = value_of(found, "fleet")?;
+    let count = aircraft_of(found)?;
+    Some(Command::Whatif {
+        dir,
+        reading,
+        fleet,
+        count,
+    })
 }

@@ -38,6 +38,23 @@ const CHECK: &[DayLine] = &[
     ),
 ];
 
+/// A line that asks about another size of a fleet, the folder, the day start, the days of the period, the fleet, and how many aircraft.
+type SizeLine = (&'static str, &'static str, u16, u16, &'static str, u32);
+
+const ASK: &[SizeLine] = &[
+    ("fleetplan whatif d F1 0", "d", 180, 1, "F1", 0),
+    ("fleetplan whatif d 1 500", "d", 180, 1, "1", 500),
+    ("fleetplan whatif d - 1", "d", 180, 1, "-", 1),
+    (
+        "fleetplan whatif --day-start=00:00 --period 7 -- -d -5 00000000000000000007",
+        "-d",
+        0,
+        7,
+        "-5",
+        7,
+    ),
+];
+
 const SOLVE: &[SolveLine] = &[
     (
         ("fleetplan solve d", "d", 180, 1, 60, 3, 200_000),
@@ -236,6 +253,11 @@ const NOTHING: &[&str] = &[
     "fleetplan tails d",
     "fleetplan tails d 2025-02-28",
     "fleetplan tails d 2025-02-28 2 3",
+    "fleetplan whatif d F1",
+    "fleetplan whatif d F1 501",
+    "fleetplan whatif d F1 -- -1",
+    "fleetplan whatif d F1 1 2",
+    "fleetplan whatif d F1 1 --nodes 5",
     "fleetplan tails d 2025-02-28 2 --json",
     "fleetplan tails d 2025-02-28 2 --nodes 5",
     "fleetplan tails d 2025-02-28 2 --days 31",
@@ -316,6 +338,20 @@ fn lines_that_check(rt: HostRuntime) -> Result<(), Fail> {
     for (line, dir, day_start, period) in CHECK {
         let reading = reading(*day_start, 60, *period);
         assert_asks(&rt, line, &Some(Command::Check { dir, reading }))?;
+    }
+    Ok(())
+}
+
+#[test]
+fn lines_that_ask(rt: HostRuntime) -> Result<(), Fail> {
+    for (line, dir, day_start, period, fleet, count) in ASK {
+        let wanted = Command::Whatif {
+            dir,
+            reading: reading(*day_start, 60, *period),
+            fleet,
+            count: *count,
+        };
+        assert_asks(&rt, line, &Some(wanted))?;
     }
     Ok(())
 }

@@ -8,7 +8,7 @@ use Rattle.plan_desk.specs.declared.file.DeskFile.TheVariants as file
 use Rattle.fleet_cli.proofs.FileNames.{one_file}
 use Rattle.fleet_cli.proofs.FrontFacts.{front_in, held_in, stands_in}
 use Rattle.fleet_cli.proofs.SameBytes.{follows_plan, same_answer, same_follows}
-use Rattle.fleet_cli.specs.Answer.{Answers, ChecksProof}
+use Rattle.fleet_cli.specs.Answer.{Answers, TellsProof}
 use Rattle.fleet_cli.specs.Contents.{FileBytes, bytes_in, same_file, with_plan}
 use Rattle.fleet_cli.specs.Gathered.{AllHeld, IsAmong, IsHeld}
 use Rattle.fleet_cli.specs.Opened.{Awaits, Settles}
@@ -51,7 +51,7 @@ module _ (held : Files) (asked : Option Asked) (bytes : FileBytes) (first : AllH
       further : (f : DeskFile) → f ≡ file.Plan → with_plan bytes plan f ≡ there f
       further f same = subst (λ g. with_plan bytes plan g ≡ there g) (sym same) (stands_in held (folder_of asked) file.Plan plan is.stands)
 
-      pub awaited : (answer : Answer) → ChecksProof checking.tables true checking.proof.tree plan answer → Answers held asked answer
+      pub awaited : (answer : Answer) → TellsProof checking.tables checking.asks true checking.proof.tree plan answer → Answers held asked answer
       awaited answer checks = inr (record {
         within = record {
           first = all_there;
@@ -78,7 +78,7 @@ module _ (told : Option Files) (asked : Option Asked) (bytes : FileBytes) (first
         by_told None f = tt
         by_told (Some held) f = reached held asked bytes f checking awaits
 
-    pub told_awaited : (plan : List ℕ) (answer : Answer) → IfSome told (λ held. IsHeld held (folder_of asked) file.Plan plan) → ChecksProof checking.tables true checking.proof.tree plan answer
+    pub told_awaited : (plan : List ℕ) (answer : Answer) → IfSome told (λ held. IsHeld held (folder_of asked) file.Plan plan) → TellsProof checking.tables checking.asks true checking.proof.tree plan answer
         → IfSome told (λ held. Answers held asked answer)
     told_awaited plan answer is checks = by_told told first is
       where

@@ -17,7 +17,7 @@ use Rattle.plan_desk.specs.Sink.{output_with}
 use Rattle.plan_desk.specs.declared.file.DeskFile.TheVariants as file
 use Rattle.sched_read.specs.Reading.{Reads}
 use Rattle.fleet_cli.proofs.Skeletons.{either_legal, either_plan, either_proof, either_tables}
-use Rattle.fleet_cli.specs.Answer.{Answers, ChecksOn, ChecksProof, ChecksRead, ChecksTree, ChecksWith, checked_status}
+use Rattle.fleet_cli.specs.Answer.{Answers, ChecksTree, TellsOn, TellsProof, TellsRead, TellsWith, checked_status}
 use Rattle.fleet_cli.specs.Contents.{bytes_in, table_bytes}
 use Rattle.fleet_cli.specs.Gathered.{AllStand, IsHeld}
 use Rattle.fleet_cli.specs.Headline.{IsUnder, TellsBound}
@@ -26,6 +26,7 @@ use Rattle.fleet_cli.specs.Refusals.{says}
 use Rattle.fleet_cli.specs.Skeletons.{OnLegal, OnPlan, OnProof}
 use Rattle.fleet_cli.specs.Texts.{checked_text}
 use Rattle.fleet_cli.specs.declared.answer.Answer.{Answer}
+use Rattle.fleet_cli.specs.declared.opened.Question.TheVariants as question
 use Rattle.fleet_cli.specs.declared.status.TheConstants.{DONE}
 
 -- a bound that is proved is no more than the cost of a legal plan
@@ -41,7 +42,7 @@ record HoldsAs (t : Tables) (cost : Option ℤ) (answer : Answer) : Type 0 where
 
 module _ (answer : Answer) (done : answer.status.code ≡ DONE) where
   -- another status
-  other : (code : ℕ) (text : List ℕ) → answer ≡ says code text → ¬ (code ≡ 0) → ⊥
+  pub other : (code : ℕ) (text : List ℕ) → answer ≡ says code text → ¬ (code ≡ 0) → ⊥
   other code text is differs = differs (sym (ap (λ (a : Answer). a.status.code) is) ∙ done)
 
   tree_holds : (t : Tables) (cost : Option ℤ) (whole : Tree) → ChecksTree t cost whole answer → HoldsAs t cost answer
@@ -67,10 +68,10 @@ module _ (answer : Answer) (done : answer.status.code ≡ DONE) where
       put = put ∙ ap (output_with before) holds.text_is;
     }
 
-    with_plan : (whole : Tree) → IsHeld held dir file.Plan (bytes_in held dir file.Plan) → OnPlan t (bytes_in held dir file.Plan) (OnLegal t (ChecksWith t whole)) answer → TellsBound held dir reading before after
+    with_plan : (whole : Tree) → IsHeld held dir file.Plan (bytes_in held dir file.Plan) → OnPlan t (bytes_in held dir file.Plan) (OnLegal t (TellsWith t question.Holds whole)) answer → TellsBound held dir reading before after
     with_plan whole stands =
-        either_plan answer (TellsBound held dir reading before after) t (bytes_in held dir file.Plan) (OnLegal t (ChecksWith t whole)) (λ refused. absurd (other 9 _ refused.is (λ e. omega arith)))
-        (λ plan plan_reads. either_legal answer (TellsBound held dir reading before after) t (ChecksWith t whole) plan
+        either_plan answer (TellsBound held dir reading before after) t (bytes_in held dir file.Plan) (OnLegal t (TellsWith t question.Holds whole)) (λ refused. absurd (other 9 _ refused.is (λ e. omega arith)))
+        (λ plan plan_reads. either_legal answer (TellsBound held dir reading before after) t (TellsWith t question.Holds whole) plan
         (λ refused. absurd (other _ _ refused.is (λ e. let bad : ◌≡◌ {A = ℕ} 9 0 = sym refused.refused ∙ e in omega arith)))
         (λ legal checks. let holds = tree_holds t (Some (total_cost t plan)) whole checks in record {
           tables = t;
@@ -84,19 +85,19 @@ module _ (answer : Answer) (done : answer.status.code ≡ DONE) where
           put = put ∙ ap (output_with before) holds.text_is;
         }))
 
-    by_plan : (proof : Proof) (planned : Bool) → ReadsAs t (bytes_in held dir file.Proof) proof → proof.planned ≡ planned → ChecksProof t planned proof.tree (bytes_in held dir file.Plan) answer → TellsBound held dir reading before after
+    by_plan : (proof : Proof) (planned : Bool) → ReadsAs t (bytes_in held dir file.Proof) proof → proof.planned ≡ planned → TellsProof t question.Holds planned proof.tree (bytes_in held dir file.Plan) answer → TellsBound held dir reading before after
     by_plan proof false text_reads says checks = alone (tree_holds t None proof.tree checks)
     by_plan proof true text_reads says checks =
         with_plan proof.tree (within.further file.Plan (refl, record { tables = t; proof = proof; reads = reads; proof_reads = text_reads; planned = says })) checks
 
-    by_proof : OnProof t (bytes_in held dir file.Proof) (ChecksRead t (bytes_in held dir file.Plan)) answer → TellsBound held dir reading before after
+    by_proof : OnProof t (bytes_in held dir file.Proof) (TellsRead t question.Holds (bytes_in held dir file.Plan)) answer → TellsBound held dir reading before after
     by_proof =
-        either_proof answer (TellsBound held dir reading before after) t (bytes_in held dir file.Proof) (ChecksRead t (bytes_in held dir file.Plan))
+        either_proof answer (TellsBound held dir reading before after) t (bytes_in held dir file.Proof) (TellsRead t question.Holds (bytes_in held dir file.Plan))
         (λ refused. absurd (other 9 _ refused.is (λ e. omega arith))) (λ proof text_reads. by_plan proof proof.planned text_reads refl)
 
   pub checked_tells : (held : Files) (dir : List ℕ) (reading : TableOptions) (before after : Option (List ℕ)) → Answers held (Some (check dir reading)) answer → after ≡ output_with before answer.text
       → TellsBound held dir reading before after
   checked_tells held dir reading before after (inl long) put = absurd (other 6 _ long.is (λ e. omega arith))
   checked_tells held dir reading before after (inr read) put =
-      either_tables answer (TellsBound held dir reading before after) reading (table_bytes (bytes_in held dir)) (ChecksOn (bytes_in held dir file.Proof) (bytes_in held dir file.Plan))
+      either_tables answer (TellsBound held dir reading before after) reading (table_bytes (bytes_in held dir)) (TellsOn question.Holds (bytes_in held dir file.Proof) (bytes_in held dir file.Plan))
       (λ refused. absurd (other 6 _ refused.is (λ e. omega arith))) (by_proof held dir reading before after put read.within read.within.first) read.answers

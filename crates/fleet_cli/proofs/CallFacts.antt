@@ -1,6 +1,6 @@
 -- How often the desk is called.
 use Rattle.std.proofs.Common.{◌≡◌, ℕ, zero, suc, ◌+◌, ◌<◌, ◌≤◌, length, Option, Some, None, refl, ap, ◌∙◌, arith}
-use Rattle.command_words.specs.Words.{Asked, check, due, judge, make, solve, tails}
+use Rattle.command_words.specs.Words.{Asked, check, due, judge, make, solve, tails, whatif}
 use Rattle.plan_desk.specs.Counts.{CallsAtMost, more_times, once_more}
 use Rattle.plan_desk.specs.declared.file.DeskFile.TheVariants as file
 use Rattle.fleet_cli.specs.Contents.{FileBytes}
@@ -48,6 +48,8 @@ reads_plan (Some (check dir reading)) bytes before mid now follows first one =
 reads_plan (Some (tails dir reading limits dates)) bytes before mid now follows first one = absurd follows
 reads_plan (Some (due dir reading limits dates)) bytes before mid now follows first one = absurd follows
 reads_plan (Some (make dir number legs)) bytes before mid now follows first one = absurd follows
+reads_plan (Some (whatif dir reading name count)) bytes before mid now follows first one =
+    then_one before mid now (length (first_files (Some (whatif dir reading name count)))) (most_reads (Some (whatif dir reading name count))) (omega arith) first one
 
 -- no file is written
 pub reads_alone : (asked : Option Asked) (before now : Option ℕ) → CallsAtMost (most_reads asked) before now → CallsAtMost (most_calls asked) before now

@@ -1,7 +1,7 @@
 -- The headline of each command, from the answer that was given.
 use Rattle.std.proofs.Common.{◌≡◌, ℕ, List, ◌++◌, Option, Some, None, IfSome, inl, inr, sym, ap, subst, ◌∙◌}
 use Rattle.std.proofs.lemmas.Option.{same_Some}
-use Rattle.command_words.specs.Words.{Asked, check, due, judge, make, solve, tails}
+use Rattle.command_words.specs.Words.{Asked, check, due, judge, make, solve, tails, whatif}
 use Rattle.command_words.specs.declared.command.TheConstants.{DEFAULT_OPTIONS, DEFAULT_READING}
 use Rattle.plan_desk.specs.Desk.{Files}
 use Rattle.plan_desk.specs.Sink.{output_with}
@@ -10,6 +10,7 @@ use Rattle.table_maker.specs.Made.{made_tables}
 use Rattle.fleet_cli.proofs.BoundFacts.{checked_tells}
 use Rattle.fleet_cli.proofs.HeadlineFacts.{solved_leaves}
 use Rattle.fleet_cli.proofs.MadeFolder.{TablesStand, all_stand, flyable, none_reached, solving_answers, still_stand, tables_are, written_over}
+use Rattle.fleet_cli.proofs.OtherFacts.{asked_tells}
 use Rattle.fleet_cli.specs.Answer.{Answers, Makes}
 use Rattle.fleet_cli.specs.Headline.{Headline, TellsMade}
 use Rattle.fleet_cli.specs.Making.{made_files}
@@ -61,3 +62,4 @@ headline (Some held) stands (Some (tails dir reading limits dates)) answer code 
 headline (Some held) stands (Some (due dir reading limits dates)) answer code before after answers is written put = tt
 headline (Some held) stands (Some (make dir number legs)) answer code before after answers is written put = made_leaves held dir number legs answer code stands before after answers is written put
 headline (Some held) stands (Some (check dir reading)) answer code before after answers is written put = λ done. checked_tells answer (sym is ∙ done) held dir reading before after answers put
+headline (Some held) stands (Some (whatif dir reading name count)) answer code before after answers is written put = λ done. asked_tells answer (sym is ∙ done) held dir reading name count before after put answers

@@ -1,4 +1,5 @@
 pub mod AnswerFacts
+pub mod AskedTrees
 pub mod BoundFacts
 pub mod CallFacts
 pub mod CheckedByDay
@@ -12,6 +13,7 @@ pub mod Members
 pub mod OneAnswer
 pub mod OneReading
 pub mod OpenFacts
+pub mod OtherFacts
 pub mod Others
 pub mod Parts
 pub mod PlanLength

@@ -11,7 +11,7 @@ use Rattle.cert_check.proofs.OneVerdict as tree
 use Rattle.cert_check.specs.Verdicts.{HoldsWith}
 use Rattle.cert_check.specs.declared.checked.Checked.TheVariants as checked
 use Rattle.command_words.specs.Arguments.{AskedDates}
-use Rattle.command_words.specs.Words.{Asked, check, due, judge, make, solve, tails}
+use Rattle.command_words.specs.Words.{Asked, check, due, judge, make, solve, tails, whatif}
 use Rattle.command_words.specs.declared.command.RotationLimits.{RotationLimits}
 use Rattle.command_words.specs.declared.command.SolveOptions.{SolveOptions}
 use Rattle.fleet_model.specs.Legal.{total_cost}
@@ -27,20 +27,23 @@ use Rattle.due_report.specs.Placings.{are_unplaced}
 use Rattle.tail_dates.specs.declared.placing.Placed.{Placed}
 use Rattle.fleet_cli.proofs.MadeFolder.{flyable, none_reached, none_read}
 use Rattle.fleet_cli.proofs.OneReading.{one_too_long, within_or_long}
+use Rattle.fleet_cli.proofs.AskedTrees.{asked_of, one_told}
 use Rattle.fleet_cli.proofs.OpenFacts.{no_plan_alone}
 use Rattle.fleet_cli.proofs.SameBytes.{follows_plan}
-use Rattle.fleet_cli.proofs.Skeletons.{one_legal, one_plan, one_proof, one_tables, one_tails, there_legal, there_plan, there_proof, there_tables, there_tails}
-use Rattle.fleet_cli.specs.Answer.{Answers, AnswersOf, AnswersSome, Checks, ChecksOn, ChecksProof, ChecksRead, ChecksTree, ChecksWith, DueOf, DueOn, DueWith, GivesSolution, Judges, JudgesOn, JudgesPlan, Solves, TailsOf, TailsOn, TellsDue, TellsTails, checked_status, due_status}
+use Rattle.fleet_cli.proofs.Skeletons.{one_fleet, one_legal, one_plan, one_proof, one_tables, one_tails, there_fleet, there_legal, there_plan, there_proof, there_tables, there_tails}
+use Rattle.fleet_cli.specs.Answer.{Answers, AnswersOf, AnswersSome, Asks, AsksOn, AsksTree, Checks, ChecksTree, DueOf, DueOn, DueWith, GivesSolution, Judges, JudgesOn, JudgesPlan, Solves, TailsOf, TailsOn, TellsDue, TellsOn, TellsProof, TellsRead, TellsTails, TellsTree, TellsWith, checked_status, due_status}
 use Rattle.fleet_cli.specs.Contents.{FileBytes, bytes_in, table_bytes}
 use Rattle.fleet_cli.specs.Gathered.{AllStand, IsHeld}
 use Rattle.fleet_cli.specs.Laws.{IsFixed}
-use Rattle.fleet_cli.specs.Reading.{AllWithin, Follows, first_files, folder_of}
+use Rattle.fleet_cli.specs.Reading.{AllWithin, Follows, WantsPlan, first_files, folder_of}
 use Rattle.fleet_cli.specs.Refusals.{says, verdict_status}
-use Rattle.fleet_cli.specs.Run.{AnswersExactly, DueThere, IsComplete, IsCostThere, IsSolution, IsTold, LegalThere, ProofThere, TablesThere}
+use Rattle.fleet_cli.specs.Run.{AnswersExactly, DueThere, FleetProofThere, IsAskedOf, IsComplete, IsCostThere, IsSolution, IsTold, LegalThere, ProofThere, TablesThere}
 use Rattle.fleet_cli.specs.Skeletons.{OnLegal}
 use Rattle.fleet_cli.specs.Solution.{solved_status}
 use Rattle.fleet_cli.specs.Texts.{bad_input_text, checked_text, verdict_text}
 use Rattle.fleet_cli.specs.declared.answer.Answer.{Answer}
+use Rattle.fleet_cli.specs.declared.opened.Question.{Question}
+use Rattle.fleet_cli.specs.declared.opened.Question.TheVariants as question
 use Rattle.fleet_cli.specs.declared.status.TheConstants.{BAD_INPUT, DONE, UNPLACED}
 
 -- a solution has a status that tells of one
@@ -84,14 +87,21 @@ module _ (answer other : Answer) where
       checks_tree cost x y =
           x.is ∙ ap (λ v. says (checked_status v) (checked_text cost v)) (tree.one_verdict t cost one two x.verdict y.verdict nodes x.checked y.checked) ∙ sym y.is
 
-      checks_proof : (planned : Bool) (plan : List ℕ) → ChecksProof t planned one plan answer → ChecksProof t planned two plan other → answer ≡ other
-      checks_proof false plan x y = checks_tree None x y
-      checks_proof true plan x y =
-          one_plan answer other t plan (OnLegal t (ChecksWith t one)) (OnLegal t (ChecksWith t two))
-          (λ p. one_legal answer other t (ChecksWith t one) (ChecksWith t two) p (checks_tree (Some (total_cost t p)))) x y
+      tells_tree : (asks : Question) (cost : Option ℤ) → TellsTree t asks cost one answer → TellsTree t asks cost two other → answer ≡ other
+      tells_tree question.Holds cost x y = checks_tree cost x y
+      tells_tree (question.OtherSize fleet count) cost x y = one_told t fleet count cost one two nodes answer other x y
 
-    checks_read : (plan : List ℕ) (p q : Proof) → p.planned ≡ q.planned → nodes_of p.tree ≡ nodes_of q.tree → ChecksRead t plan p answer → ChecksRead t plan q other → answer ≡ other
-    checks_read plan p q same nodes x y = checks_proof p.tree q.tree nodes q.planned plan (subst (λ planned. ChecksProof t planned p.tree plan answer) same x) y
+      tells_proof : (asks : Question) (planned : Bool) (plan : List ℕ) → TellsProof t asks planned one plan answer → TellsProof t asks planned two plan other → answer ≡ other
+      tells_proof asks false plan x y = tells_tree asks None x y
+      tells_proof asks true plan x y =
+          one_plan answer other t plan (OnLegal t (TellsWith t asks one)) (OnLegal t (TellsWith t asks two))
+          (λ p. one_legal answer other t (TellsWith t asks one) (TellsWith t asks two) p (tells_tree asks (Some (total_cost t p)))) x y
+
+    tells_read : (asks : Question) (plan : List ℕ) (p q : Proof) → p.planned ≡ q.planned → nodes_of p.tree ≡ nodes_of q.tree → TellsRead t asks plan p answer → TellsRead t asks plan q other → answer ≡ other
+    tells_read asks plan p q same nodes x y = tells_proof p.tree q.tree nodes asks q.planned plan (subst (λ planned. TellsProof t asks planned p.tree plan answer) same x) y
+
+    tells_on : (asks : Question) (text plan : List ℕ) → TellsOn asks text plan t answer → TellsOn asks text plan t other → answer ≡ other
+    tells_on asks text plan = one_proof answer other t text (TellsRead t asks plan) (tells_read asks plan)
 
   one_of : (asked : Option Asked) (bytes : FileBytes) → AnswersOf asked bytes answer → AnswersOf asked bytes other → IsFixed asked other → answer ≡ other
   one_of None bytes x y fixed = x ∙ sym y
@@ -101,8 +111,8 @@ module _ (answer other : Answer) where
   one_of (Some (solve dir reading options)) bytes x y fixed =
       one_tables answer other reading (table_bytes bytes) (GivesSolution options) (λ t a b. absurd (never_refused b.solution (sym (ap (λ (a : Answer). a.status.code) b.is) ∙ fixed))) x y
   one_of (Some (check dir reading)) bytes x y fixed =
-      one_tables answer other reading (table_bytes bytes) (ChecksOn (bytes file.Proof) (bytes file.Plan))
-      (λ t. one_proof answer other t (bytes file.Proof) (ChecksRead t (bytes file.Plan)) (checks_read t (bytes file.Plan))) x y
+      one_tables answer other reading (table_bytes bytes) (TellsOn question.Holds (bytes file.Proof) (bytes file.Plan))
+      (λ t. tells_on t question.Holds (bytes file.Proof) (bytes file.Plan)) x y
   one_of (Some (tails dir reading limits dates)) bytes x y fixed =
       one_tables answer other reading (table_bytes bytes) (TailsOn limits dates (bytes file.Plan))
       (λ t. one_plan answer other t (bytes file.Plan) (OnLegal t (TellsTails t limits dates)) (OnLegal t (TellsTails t limits dates))
@@ -114,6 +124,10 @@ module _ (answer other : Answer) where
       (λ p. one_legal answer other t (TellsDue t limits dates s) (TellsDue t limits dates s) p
       (λ a b. absurd (never_told other (due_status b.placings) (sym (ap (λ (a : Answer). a.status.code) b.is)) (due_told b.placings) fixed))))) x y
   one_of (Some (make dir number legs)) bytes x y fixed = absurd fixed
+  one_of (Some (whatif dir reading name count)) bytes x y fixed =
+      one_tables answer other reading (table_bytes bytes) (AsksOn name count (bytes file.Proof) (bytes file.Plan))
+      (λ t. one_fleet answer other t name (λ fleet. TellsOn (question.OtherSize fleet count) (bytes file.Proof) (bytes file.Plan) t)
+      (λ fleet known. tells_on t (question.OtherSize fleet count) (bytes file.Proof) (bytes file.Plan))) x y
 
 pub one_answer : (held : Files) (asked : Option Asked) (answer other : Answer) → Answers held asked answer → Answers held asked other → IsFixed asked other → answer ≡ other
 one_answer held asked answer other (inl x) (inl y) fixed = x.is ∙ ap (λ f. says BAD_INPUT (bad_input_text f 0 TOO_LONG)) (one_too_long asked held x.file y.file x.longer y.longer) ∙ sym y.is
@@ -181,32 +195,50 @@ module _ (held : Files) (dir : List ℕ) (reading : TableOptions) (answer : Answ
       let gives = there_tables answer reading (table_bytes (bytes_in held dir)) (GivesSolution options) x.tables x.reads answers in
       rw (ap (λ (a : Answer). a.status.code) gives.is) (solution_status gives.solution)
 
-  -- a proof that holds is said to hold
-  module _ (t : Tables) (one two : Tree) (nodes : nodes_of two ≡ nodes_of one) where
-    tree_there : (cost : Option ℤ) (bound : Option ℤ) → HoldsWith t cost one bound → ChecksTree t cost two answer → answer.status.code ≡ DONE
-    tree_there cost bound holds x =
-        ap (λ (a : Answer). a.status.code) x.is ∙ ap checked_status (tree.one_verdict t cost two one x.verdict (checked.Holds bound) nodes x.checked holds)
+  -- of a proof that holds it is told what is asked
+  abbrev told_status : Question → ℕ → Type 0
+  told_status question.Holds code = code ≡ DONE
+  told_status (question.OtherSize fleet count) code = IsAskedOf code
 
-    cost_there : (planned : Bool) (cost bound : Option ℤ) → IsCostThere held dir t planned cost → HoldsWith t cost one bound → ChecksProof t planned two (bytes_in held dir file.Plan) answer
-        → answer.status.code ≡ DONE
-    cost_there planned None bound none holds answers = tree_there None bound holds (subst (λ p. ChecksProof t p two (bytes_in held dir file.Plan) answer) none answers)
+  module _ (t : Tables) (asks : Question) (one two : Tree) (nodes : nodes_of two ≡ nodes_of one) where
+    tree_there : (q : Question) (cost : Option ℤ) (bound : Option ℤ) → HoldsWith t cost one bound → TellsTree t q cost two answer → told_status q answer.status.code
+    tree_there question.Holds cost bound holds x =
+        ap (λ (a : Answer). a.status.code) x.is ∙ ap checked_status (tree.one_verdict t cost two one x.verdict (checked.Holds bound) nodes x.checked holds)
+    tree_there (question.OtherSize fleet count) cost bound holds x =
+        asked_of t fleet count two answer bound x.verdict (tree.one_verdict t cost two one x.verdict (checked.Holds bound) nodes x.checked holds) x.asks
+
+    cost_there : (planned : Bool) (cost bound : Option ℤ) → IsCostThere held dir t planned cost → HoldsWith t cost one bound → TellsProof t asks planned two (bytes_in held dir file.Plan) answer
+        → told_status asks answer.status.code
+    cost_there planned None bound none holds answers = tree_there asks None bound holds (subst (λ p. TellsProof t asks p two (bytes_in held dir file.Plan) answer) none answers)
     cost_there planned (Some cost) bound some holds answers =
-        let with_plan = subst (λ p. ChecksProof t p two (bytes_in held dir file.Plan) answer) some.0 answers in
-        let judged = there_plan answer t (bytes_in held dir file.Plan) (OnLegal t (ChecksWith t two)) some.1.plan some.1.reads with_plan in
-        tree_there (Some (total_cost t some.1.plan)) bound (rw some.1.costs at holds) (there_legal answer t (ChecksWith t two) some.1.plan some.1.legal judged)
+        let with_plan = subst (λ p. TellsProof t asks p two (bytes_in held dir file.Plan) answer) some.0 answers in
+        let judged = there_plan answer t (bytes_in held dir file.Plan) (OnLegal t (TellsWith t asks two)) some.1.plan some.1.reads with_plan in
+        tree_there asks (Some (total_cost t some.1.plan)) bound (rw some.1.costs at holds) (there_legal answer t (TellsWith t asks two) some.1.plan some.1.legal judged)
+
+  told_there : (x : ProofThere held dir reading) (asks : Question) → TellsOn asks (bytes_in held dir file.Proof) (bytes_in held dir file.Plan) x.tables answer → told_status asks answer.status.code
+  told_there x asks read =
+      let own = there_proof answer x.tables (bytes_in held dir file.Proof) (TellsRead x.tables asks (bytes_in held dir file.Plan)) x.proof x.proof_reads read in
+      cost_there x.tables asks x.proof.tree own.0.tree own.2 x.proof.planned x.cost x.bound x.plan x.holds
+      (subst (λ p. TellsProof x.tables asks p own.0.tree (bytes_in held dir file.Plan) answer) own.1 own.3)
 
   proof_there : (x : ProofThere held dir reading) → Checks reading (table_bytes (bytes_in held dir)) (bytes_in held dir file.Proof) (bytes_in held dir file.Plan) answer → answer.status.code ≡ DONE
   proof_there x answers =
-      let read = there_tables answer reading (table_bytes (bytes_in held dir)) (ChecksOn (bytes_in held dir file.Proof) (bytes_in held dir file.Plan)) x.tables x.reads answers in
-      let own = there_proof answer x.tables (bytes_in held dir file.Proof) (ChecksRead x.tables (bytes_in held dir file.Plan)) x.proof x.proof_reads read in
-      cost_there x.tables x.proof.tree own.0.tree own.2 x.proof.planned x.cost x.bound x.plan x.holds
-      (subst (λ p. ChecksProof x.tables p own.0.tree (bytes_in held dir file.Plan) answer) own.1 own.3)
+      told_there x question.Holds (there_tables answer reading (table_bytes (bytes_in held dir)) (TellsOn question.Holds (bytes_in held dir file.Proof) (bytes_in held dir file.Plan)) x.tables x.reads answers)
+
+  -- and where there is such a fleet, it is asked
+  fleet_there : (name : List ℕ) (count : ℕ) (x : FleetProofThere held dir reading name)
+      → Asks reading name count (table_bytes (bytes_in held dir)) (bytes_in held dir file.Proof) (bytes_in held dir file.Plan) answer → IsAskedOf answer.status.code
+  fleet_there name count x answers =
+      let t = x.proof.tables in
+      let read = there_tables answer reading (table_bytes (bytes_in held dir)) (AsksOn name count (bytes_in held dir file.Proof) (bytes_in held dir file.Plan)) t x.proof.reads answers in
+      let own = there_fleet answer t name (λ fleet. TellsOn (question.OtherSize fleet count) (bytes_in held dir file.Proof) (bytes_in held dir file.Plan) t) x.known read in
+      told_there x.proof (question.OtherSize own.0 count) own.1
 
 -- the plan stands there where the proof asks for it
 plan_further : (held : Files) (dir : List ℕ) (reading : TableOptions) (x : ProofThere held dir reading) → (cost : Option ℤ) → IsCostThere held dir x.tables x.proof.planned cost
-    → Follows (Some (check dir reading)) (bytes_in held dir) file.Plan → IsHeld held dir file.Plan (bytes_in held dir file.Plan)
-plan_further held dir reading x None none follows = absurd (no_plan_alone reading (table_bytes (bytes_in held dir)) (bytes_in held dir file.Proof) x.tables x.reads x.proof x.proof_reads none follows.1)
-plan_further held dir reading x (Some cost) some follows = some.1.there
+    → WantsPlan reading (table_bytes (bytes_in held dir)) (bytes_in held dir file.Proof) → IsHeld held dir file.Plan (bytes_in held dir file.Plan)
+plan_further held dir reading x None none wants = absurd (no_plan_alone reading (table_bytes (bytes_in held dir)) (bytes_in held dir file.Proof) x.tables x.reads x.proof x.proof_reads none wants)
+plan_further held dir reading x (Some cost) some wants = some.1.there
 
 pub complete_there : (held : Files) (asked : Option Asked) (answer : Answer) → Answers held asked answer → IsComplete (Some held) asked answer.status.code
 complete_there held None answer answers = tt
@@ -215,13 +247,16 @@ complete_there held (Some (judge dir reading)) answer answers =
 complete_there held (Some (solve dir reading options)) answer answers =
     λ there. solved_there held dir reading answer options there (read_there held (Some (solve dir reading options)) answer answers there.there (λ follows. absurd follows))
 complete_there held (Some (check dir reading)) answer answers =
-    λ there. proof_there held dir reading answer there (read_there held (Some (check dir reading)) answer answers there.there (plan_further held dir reading there there.cost there.plan))
+    λ there. proof_there held dir reading answer there (read_there held (Some (check dir reading)) answer answers there.there (λ follows. plan_further held dir reading there there.cost there.plan follows.1))
 complete_there held (Some (tails dir reading limits dates)) answer answers =
     λ legal. tails_there held dir reading answer limits dates legal (read_there held (Some (tails dir reading limits dates)) answer answers legal.there (λ follows. absurd follows))
 complete_there held (Some (due dir reading limits dates)) answer answers =
     λ legal. due_there held dir reading answer limits dates legal (read_there held (Some (due dir reading limits dates)) answer answers legal.there (λ follows. absurd follows))
 complete_there held (Some (make dir number legs)) answer (inl long) = absurd (none_reached held dir number legs long.file long.longer.reached)
 complete_there held (Some (make dir number legs)) answer (inr read) = flyable number legs answer read.answers
+complete_there held (Some (whatif dir reading name count)) answer answers =
+    λ there. fleet_there held dir reading answer name count there (read_there held (Some (whatif dir reading name count)) answer answers there.proof.there
+    (λ follows. plan_further held dir reading there.proof there.proof.cost there.proof.plan follows.1.wants))
 
 -- the same of a desk that may not tell: what is made rests on nothing that is held
 complete_by : (told : Option Files) (asked : Option Asked) (longer : Type 0) (answer : Answer) → IfSome told (λ held. Answers held asked answer) → AnswersSome longer asked answer → IsComplete told asked answer.status.code
@@ -234,6 +269,7 @@ complete_by None (Some (tails dir reading limits dates)) longer answer answers s
 complete_by None (Some (due dir reading limits dates)) longer answer answers some = λ none. absurd none
 complete_by None (Some (make dir number legs)) longer answer answers (inl long) = absurd (none_read dir number legs long.file long.longer.read)
 complete_by None (Some (make dir number legs)) longer answer answers (inr some) = flyable number legs answer some.1
+complete_by None (Some (whatif dir reading name count)) longer answer answers some = λ none. absurd none
 
 pub complete : (told : Option Files) (asked : Option Asked) (longer : Type 0) (answer : Answer) (code : ℕ) → IfSome told (λ held. Answers held asked answer) → AnswersSome longer asked answer
     → code ≡ answer.status.code → IsComplete told asked code

@@ -1,22 +1,25 @@
--- What the tables and the proof of a folder come to.
-use Rattle.std.proofs.Common.{◌≡◌, ◌⊎◌, ℕ, Bool, true, false, List, Some, None, Result, Ok, Err, IfOk, IsOkAnd, refl, sym, subst, ◌∙◌, inl, inr}
+-- What the tables and the proof of a folder come to, by what is asked of it.
+use Rattle.std.proofs.Common.{◌≡◌, ◌⊎◌, ℕ, Bool, true, false, List, Some, None, refl, sym, subst, ◌∙◌, inl, inr}
+use Rattle.std.specs.Prelude.{IsSome}
 use Rattle.bound_cert.specs.ReadProof.{ReadsAs}
 use Rattle.bound_cert.specs.declared.reading.Proof.{Proof}
-use Rattle.command_words.specs.Words.{check}
+use Rattle.command_words.specs.Words.{check, whatif}
 use Rattle.fleet_model.specs.declared.options.TableOptions.{TableOptions}
 use Rattle.fleet_model.specs.declared.tables.Tables.{Tables}
 use Rattle.plan_desk.specs.declared.file.DeskFile.TheVariants as file
 use Rattle.sched_read.proofs.ReadLaws as tables
 use Rattle.sched_read.specs.Reading.{Reads, TableBytes}
-use Rattle.entries.specs.declared.memory.NoMemory.{NoMemory}
 use Rattle.fleet_cli.proofs.Skeletons.{never_read, says_one}
-use Rattle.fleet_cli.specs.Answer.{ChecksProof, ChecksTree}
-use Rattle.fleet_cli.specs.Refusals.{RefusesProof, RefusesTables}
+use Rattle.fleet_cli.specs.Answer.{TellsOn, TellsProof}
+use Rattle.fleet_cli.specs.Refusals.{RefusesProof, RefusesTables, fleet_named}
 use Rattle.fleet_cli.specs.Contents.{FileBytes, table_bytes}
-use Rattle.fleet_cli.specs.Opened.{ChecksAlone, IsOpened, IsOpenedBy, Settles}
+use Rattle.fleet_cli.specs.Opened.{IsOpened, IsOpenedBy, IsOpenedOn, OpensProof, Settles, TellsAlone}
 use Rattle.fleet_cli.specs.Reading.{WantsPlan}
 use Rattle.fleet_cli.specs.declared.answer.Answer.{Answer}
+use Rattle.fleet_cli.specs.declared.opened.Checking.{Checking}
 use Rattle.fleet_cli.specs.declared.opened.Opened.{Opened}
+use Rattle.fleet_cli.specs.declared.opened.Question.{Question}
+use Rattle.fleet_cli.specs.declared.opened.Question.TheVariants as question
 use Rattle.fleet_cli.specs.declared.opened.Opened.TheVariants as opened
 
 -- where the proof says that no plan comes with it, none is wanted
@@ -31,6 +34,32 @@ module _ (reading : TableOptions) (bytes : TableBytes) (text : List ℕ) (t : Ta
       let never : ◌≡◌ {A = Bool} true false = sym wants.planned ∙ same.0 ∙ alone in
       let bad : ⊥ = cc in bad
 
+-- what is told of a proof
+module _ (t : Tables) (asks : Question) (text plan : List ℕ) (answer : Answer) where
+  told_alone : RefusesProof t text answer ⊎ TellsAlone t asks text answer → TellsOn asks text plan t answer
+  told_alone (inl refused) = inl refused
+  told_alone (inr x) = inr (record { proof = x.proof; reads = x.reads; finishes = subst (λ p. TellsProof t asks p x.proof.tree plan answer) (sym x.alone) x.tells })
+
+  told_with : (checking : Checking) → OpensProof t asks text checking → TellsProof checking.tables checking.asks true checking.proof.tree plan answer → TellsOn asks text plan t answer
+  told_with checking by tells = inr (record {
+    proof = checking.proof;
+    reads = by.reads;
+    finishes = subst (λ p. TellsProof t asks p checking.proof.tree plan answer) (sym by.planned)
+        (subst (λ q. TellsProof t q true checking.proof.tree plan answer) by.asks_are (subst (λ u. TellsProof u checking.asks true checking.proof.tree plan answer) by.tables_are tells));
+  })
+
+-- no plan is wanted where the proof is told without one
+never_wanted : (reading : TableOptions) (bytes : TableBytes) (text : List ℕ) (t : Tables) (asks : Question) (answer : Answer) → Reads bytes reading.settings t
+    → RefusesProof t text answer ⊎ TellsAlone t asks text answer → ¬ (WantsPlan reading bytes text)
+never_wanted reading bytes text t asks answer reads (inl refused) = no_plan_of_fault reading bytes text t reads answer refused
+never_wanted reading bytes text t asks answer reads (inr x) = no_plan_alone reading bytes text t reads x.proof x.reads x.alone
+
+wants_plan : (reading : TableOptions) (bytes : TableBytes) (text : List ℕ) (t : Tables) (asks : Question) (checking : Checking) → Reads bytes reading.settings t
+    → OpensProof t asks text checking → WantsPlan reading bytes text
+wants_plan reading bytes text t asks checking reads by = record { tables = t; proof = checking.proof; reads = reads; proof_reads = by.reads; planned = by.planned }
+
+-- ---- checking
+
 module _ (dir : List ℕ) (reading : TableOptions) (bytes : FileBytes) where
   pub refused_settles : (answer : Answer) → RefusesTables (table_bytes bytes) reading answer → Settles (Some (check dir reading)) bytes answer
   refused_settles answer x = record {
@@ -38,50 +67,60 @@ module _ (dir : List ℕ) (reading : TableOptions) (bytes : FileBytes) where
     answers = inl x;
   }
 
+  pub is_opened : (t : Tables) → Reads (table_bytes bytes) reading.settings t → (o : Opened) → IsOpenedBy t question.Holds (bytes file.Proof) o → IsOpened (Some (check dir reading)) bytes o
+  is_opened t reads (opened.Answered answer) by = record {
+    no_more = λ f follows. never_wanted reading (table_bytes bytes) (bytes file.Proof) t question.Holds answer reads by follows.1;
+    answers = inr (record { tables = t; reads = reads; finishes = told_alone t question.Holds (bytes file.Proof) (bytes file.Plan) answer by });
+  }
+  is_opened t reads (opened.WantsPlan checking) by = record {
+    wanted = (refl, wants_plan reading (table_bytes bytes) (bytes file.Proof) t question.Holds checking reads by);
+    ready = by.ready;
+    answers = λ plan answer tells. inr (record { tables = t; reads = reads; finishes = told_with t question.Holds (bytes file.Proof) plan answer checking by tells });
+  }
+
+-- ---- asking about another size
+
+module _ (dir : List ℕ) (reading : TableOptions) (name : List ℕ) (count : ℕ) (bytes : FileBytes) where
+  pub refused_unasked : (answer : Answer) → RefusesTables (table_bytes bytes) reading answer → Settles (Some (whatif dir reading name count)) bytes answer
+  refused_unasked answer x = record {
+    no_more = λ f follows. tables.reads_no_fault (table_bytes bytes) reading.settings follows.1.wants.tables x.file x.row x.kind follows.1.wants.reads x.bad;
+    answers = inl x;
+  }
+
   module _ (t : Tables) (reads : Reads (table_bytes bytes) reading.settings t) where
-    answered : (answer : Answer) → RefusesProof t (bytes file.Proof) answer ⊎ ChecksAlone t (bytes file.Proof) answer → Settles (Some (check dir reading)) bytes answer
-    answered answer (inl refused) = record {
-      no_more = λ f follows. no_plan_of_fault reading (table_bytes bytes) (bytes file.Proof) t reads answer refused follows.1;
-      answers = inr (record { tables = t; reads = reads; finishes = inl refused });
-    }
-    answered answer (inr x) = record {
-      no_more = λ f follows. no_plan_alone reading (table_bytes bytes) (bytes file.Proof) t reads x.proof x.reads x.alone follows.1;
+    -- the tables are those that want a plan
+    unknown_there : (u : Tables) → Reads (table_bytes bytes) reading.settings u → fleet_named t name ≡ None → ¬ (IsSome (fleet_named u name))
+    unknown_there u others unknown known =
+        subst IsSome unknown (subst (λ v. IsSome (fleet_named v name)) (tables.one_reading (table_bytes bytes) reading.settings u t others reads) known)
+
+    of_fleet : (fleet : ℕ) → fleet_named t name ≡ Some fleet → (o : Opened) → IsOpenedBy t (question.OtherSize fleet count) (bytes file.Proof) o → IsOpened (Some (whatif dir reading name count)) bytes o
+    of_fleet fleet known (opened.Answered answer) by = record {
+      no_more = λ f follows. never_wanted reading (table_bytes bytes) (bytes file.Proof) t (question.OtherSize fleet count) answer reads by follows.1.wants;
       answers = inr (record {
         tables = t;
         reads = reads;
-        finishes = inr (record { proof = x.proof; reads = x.reads; finishes = subst (λ p. ChecksProof t p x.proof.tree (bytes file.Plan) answer) (sym x.alone) x.checks });
+        finishes = inr (record { fleet = fleet; known = known; finishes = told_alone t (question.OtherSize fleet count) (bytes file.Proof) (bytes file.Plan) answer by });
       });
     }
-
-    pub is_opened : (o : Opened) → IsOpenedBy t (bytes file.Proof) o → IsOpened (Some (check dir reading)) bytes o
-    is_opened (opened.Answered answer) by = answered answer by
-    is_opened (opened.WantsPlan checking) by = record {
-      wanted = (refl, record { tables = t; proof = checking.proof; reads = reads; proof_reads = by.reads; planned = by.planned });
-      of_tables = rw by.tables_are by.of_tables;
-      answers = λ plan answer checks. inr (record {
+    of_fleet fleet known (opened.WantsPlan checking) by = record {
+      wanted = (
+        refl,
+        record {
+          wants = wants_plan reading (table_bytes bytes) (bytes file.Proof) t (question.OtherSize fleet count) checking reads by;
+          known = subst IsSome (sym known) tt;
+        },
+      );
+      ready = by.ready;
+      answers = λ plan answer tells. inr (record {
         tables = t;
         reads = reads;
-        finishes = inr (record {
-          proof = checking.proof;
-          reads = by.reads;
-          finishes = subst (λ p. ChecksProof t p checking.proof.tree plan answer) (sym by.planned) (subst (λ u. ChecksProof u true checking.proof.tree plan answer) by.tables_are checks);
-        });
+        finishes = inr (record { fleet = fleet; known = known; finishes = told_with t (question.OtherSize fleet count) (bytes file.Proof) plan answer checking by tells });
       });
     }
 
--- ---- an answer as what a proof comes to
-unfoldable comes_to : Tables → List ℕ → Opened → Type 0
-comes_to t text o = IsOpenedBy t text o
-
-pub opens_answer : (t : Tables) (text : List ℕ) (given : Result Answer NoMemory) (result : Result Opened NoMemory) → IfOk given (λ answer. RefusesProof t text answer ⊎ ChecksAlone t text answer)
-    → IfOk result (λ o. IsOkAnd given (λ answer. o ≡ opened.Answered answer)) → IfOk result (IsOpenedBy t text)
-unfolding comes_to
-opens_answer t text (Ok answer) (Ok o) by is = subst (comes_to t text) (sym is) by
-opens_answer t text (Err error) (Ok o) by is = absurd is
-opens_answer t text given (Err other) by is = tt
-
--- a proof that reads, and says that no plan comes with it
-pub opens_alone : (t : Tables) (text : List ℕ) (proof : Proof) (given : Result Answer NoMemory) → ReadsAs t text proof → proof.planned ≡ false → IfOk given (ChecksTree t None proof.tree)
-    → IfOk given (λ answer. RefusesProof t text answer ⊎ ChecksAlone t text answer)
-opens_alone t text proof (Ok answer) reads alone checks = inr (record { proof = proof; reads = reads; alone = alone; checks = checks })
-opens_alone t text proof (Err error) reads alone checks = tt
+    pub is_opened_on : (o : Opened) → IsOpenedOn t name count (bytes file.Proof) o → IsOpened (Some (whatif dir reading name count)) bytes o
+    is_opened_on o (inl x) = subst (IsOpened (Some (whatif dir reading name count)) bytes) (sym x.is) (record {
+      no_more = λ f follows. unknown_there follows.1.wants.tables follows.1.wants.reads x.refuses.unknown follows.1.known;
+      answers = inr (record { tables = t; reads = reads; finishes = inl x.refuses });
+    })
+    is_opened_on o (inr x) = of_fleet x.fleet x.known o x.opens

@@ -11,6 +11,9 @@ use Rattle.branch_bound.specs.declared.solved.Solved.TheVariants as solved
 use Rattle.cert_check.specs.declared.checked.Checked.{Checked}
 use Rattle.cert_check.specs.declared.checked.Checked.TheVariants as checked
 use Rattle.command_words.specs.Words.{Asked, check, due, judge, make, solve, tails}
+use Rattle.cert_check.specs.declared.what_if.WhatIf.{WhatIf}
+use Rattle.cert_check.specs.declared.what_if.WhatIf.TheVariants as what
+use Rattle.command_words.specs.Words.{Asked, check, judge, make, solve, tails, whatif}
 use Rattle.command_words.specs.Arguments.{AskedDates}
 use Rattle.command_words.specs.declared.command.RotationLimits.{RotationLimits}
 use Rattle.command_words.specs.declared.command.SolveOptions.{SolveOptions}
@@ -32,18 +35,24 @@ use Rattle.fleet_cli.proofs.OneAnswer.{solution_status}
 use Rattle.due_report.specs.Placings.{are_unplaced}
 use Rattle.tail_dates.specs.declared.tails.TailState.{TailState}
 use Rattle.fleet_cli.proofs.Skeletons.{either_legal, either_plan, either_proof, either_tables, either_tails}
-use Rattle.fleet_cli.specs.Answer.{Answers, AnswersOf, AnswersSome, ChecksOn, ChecksProof, ChecksRead, ChecksTree, ChecksWith, DueOn, DueWith, GivesSolution, JudgesOn, JudgesPlan, Makes, TailsOn, TellsDue, TellsTails, checked_status, due_status}
+use Rattle.fleet_cli.specs.Answer.{Answers, AnswersOf, AnswersSome, ChecksTree, DueOn, DueWith, GivesSolution, JudgesOn, JudgesPlan, Makes, TailsOn, TellsDue, TellsTails, checked_status, due_status}
+use Rattle.fleet_cli.proofs.Skeletons.{either_fleet, either_legal, either_plan, either_proof, either_tables}
+use Rattle.fleet_cli.specs.Answer.{Answers, AnswersOf, AnswersSome, AsksChecked, AsksOn, AsksTree, ChecksTree, GivesSolution, JudgesOn, JudgesPlan, Makes, TailsOn, TellsOn, TellsProof, TellsRead, TellsTails, TellsTree, TellsWith, checked_status, what_if_status}
 use Rattle.fleet_cli.specs.Contents.{FileBytes, table_bytes}
 use Rattle.fleet_cli.specs.Making.{after_files, made_files}
 use Rattle.fleet_cli.specs.Reading.{folder_of, solution_files, tables_and, written_files}
 use Rattle.fleet_cli.specs.Refusals.{says, verdict_status}
 use Rattle.fleet_cli.specs.Run.{IsEnd, IsRefusal, IsSolution, KeepsAllBut, KeepsOthers}
 use Rattle.fleet_cli.specs.Skeletons.{OnLegal, OnPlan, OnProof, OnTables, OnTails, TablesRead}
+use Rattle.fleet_cli.specs.Skeletons.{OnFleet, OnLegal, OnPlan, OnProof, OnTables, TablesRead}
 use Rattle.fleet_cli.specs.Solution.{solved_answer, solved_files, solved_status}
 use Rattle.fleet_cli.specs.Written.{StandsAfter, no_text, text_name, under, with_texts}
 use Rattle.fleet_cli.specs.declared.answer.Answer.{Answer}
 use Rattle.fleet_cli.specs.declared.answer.FileText.{FileText}
 use Rattle.fleet_cli.specs.declared.status.TheConstants.{BAD_INPUT, DONE, FAULT, NO_MEMORY, REFUSED, UNPLACED, USAGE}
+use Rattle.fleet_cli.specs.declared.opened.Question.{Question}
+use Rattle.fleet_cli.specs.declared.opened.Question.TheVariants as question
+use Rattle.fleet_cli.specs.declared.status.TheConstants.{BAD_INPUT, DONE, FALLEN, FAULT, NO_MEMORY, REFUSED, USAGE}
 
 -- ---- texts under other names
 
@@ -161,6 +170,9 @@ done_ends asked = record { ends = (λ e. omega arith, λ e. omega arith); usage 
 refused_ends : (asked : Option Asked) → Ends asked REFUSED
 refused_ends asked = record { ends = (λ e. omega arith, λ e. omega arith); usage = λ e. absurd (omega arith) }
 
+fallen_ends : (asked : Option Asked) → Ends asked FALLEN
+fallen_ends asked = record { ends = (λ e. omega arith, λ e. omega arith); usage = λ e. absurd (omega arith) }
+
 bad_ends : (asked : Option Asked) → Ends asked BAD_INPUT
 bad_ends asked = record { ends = (λ e. omega arith, λ e. omega arith); usage = λ e. absurd (omega arith) }
 
@@ -188,6 +200,11 @@ checked_ends : (asked : Option Asked) (v : Checked) → Ends asked (checked_stat
 checked_ends asked (checked.Holds bound) = done_ends asked
 checked_ends asked (checked.Broken node rule) = refused_ends asked
 
+what_if_ends : (asked : Option Asked) (w : WhatIf) → Ends asked (what_if_status w)
+what_if_ends asked (what.Fallen node) = fallen_ends asked
+what_if_ends asked what.NoPlan = done_ends asked
+what_if_ends asked (what.Bound bound) = done_ends asked
+
 solution_ends : (code : ℕ) → IsSolution code → IsEnd code
 solution_ends code (inl is) = (λ e. let bad : ◌≡◌ {A = ℕ} 0 7 = sym is ∙ e in omega arith, λ e. let bad : ◌≡◌ {A = ℕ} 0 8 = sym is ∙ e in omega arith)
 solution_ends code (inr (inl is)) = (λ e. let bad : ◌≡◌ {A = ℕ} 3 7 = sym is ∙ e in omega arith, λ e. let bad : ◌≡◌ {A = ℕ} 3 8 = sym is ∙ e in omega arith)
@@ -200,6 +217,9 @@ module _ (asked : Option Asked) (answer : Answer) where
   said_tables reading bytes finish more = either_tables answer (IsSaid asked answer) reading bytes finish (λ x. bad asked answer _ x.is) (λ t reads. more t)
 
   module _ (t : Tables) where
+    said_fleet : (name : List ℕ) (finish : ℕ → Answer → Type 0) → ((fleet : ℕ) → finish fleet answer → IsSaid asked answer) → OnFleet t name finish answer → IsSaid asked answer
+    said_fleet name finish more = either_fleet answer (IsSaid asked answer) t name finish (λ x. refused asked answer _ x.is) (λ fleet known. more fleet)
+
     said_plan : (bytes : List ℕ) (finish : List ℕ → Answer → Type 0) → ((plan : List ℕ) → finish plan answer → IsSaid asked answer) → OnPlan t bytes finish answer → IsSaid asked answer
     said_plan bytes finish more = either_plan answer (IsSaid asked answer) t bytes finish (λ x. refused asked answer _ x.is) (λ plan reads. more plan)
 
@@ -222,12 +242,20 @@ module _ (asked : Option Asked) (answer : Answer) where
     due_said : (limits : RotationLimits) (dates : AskedDates) (tails : List TailState) (plan : List ℕ) → TellsDue t limits dates tails plan answer → IsSaid asked answer
     due_said limits dates tails plan x = record { code = due_status x.placings; text = _; is = x.is; ends = due_ends asked (are_unplaced x.placings) }
 
-    tree_said : (cost : Option ℤ) (tree : Tree) → ChecksTree t cost tree answer → IsSaid asked answer
-    tree_said cost tree x = record { code = checked_status x.verdict; text = _; is = x.is; ends = checked_ends asked x.verdict }
+    asked_said : (fleet count : ℕ) (tree : Tree) (v : Checked) → AsksChecked t fleet count tree v answer → IsSaid asked answer
+    asked_said fleet count tree (checked.Holds bound) x = record { code = what_if_status x.what; text = _; is = x.is; ends = what_if_ends asked x.what }
+    asked_said fleet count tree (checked.Broken node rule) x = refused asked answer _ x
 
-    proof_said : (plan : List ℕ) (planned : Bool) (tree : Tree) → ChecksProof t planned tree plan answer → IsSaid asked answer
-    proof_said plan false tree = tree_said None tree
-    proof_said plan true tree = said_plan plan (OnLegal t (ChecksWith t tree)) (λ p. said_legal (ChecksWith t tree) p (tree_said (Some (total_cost t p)) tree))
+    tree_said : (asks : Question) (cost : Option ℤ) (tree : Tree) → TellsTree t asks cost tree answer → IsSaid asked answer
+    tree_said question.Holds cost tree x = record { code = checked_status x.verdict; text = _; is = x.is; ends = checked_ends asked x.verdict }
+    tree_said (question.OtherSize fleet count) cost tree x = asked_said fleet count tree x.verdict x.asks
+
+    proof_said : (asks : Question) (plan : List ℕ) (planned : Bool) (tree : Tree) → TellsProof t asks planned tree plan answer → IsSaid asked answer
+    proof_said asks plan false tree = tree_said asks None tree
+    proof_said asks plan true tree = said_plan plan (OnLegal t (TellsWith t asks tree)) (λ p. said_legal (TellsWith t asks tree) p (tree_said asks (Some (total_cost t p)) tree))
+
+    told_said : (asks : Question) (text plan : List ℕ) → TellsOn asks text plan t answer → IsSaid asked answer
+    told_said asks text plan = said_proof text (TellsRead t asks plan) (λ proof. proof_said asks plan proof.planned proof.tree)
 
 module _ (answer : Answer) where
   kind_of : (asked : Option Asked) (bytes : FileBytes) → AnswersOf asked bytes answer → IsSaid asked answer ⊎ IsSolved asked answer
@@ -240,8 +268,8 @@ module _ (answer : Answer) where
   kind_of (Some (solve dir reading options)) bytes (inr x) = inr (solved_kind dir reading options (table_bytes bytes) answer x)
   kind_of (Some (check dir reading)) bytes x = inl (
       let asked = Some (check dir reading) in
-      said_tables asked answer reading (table_bytes bytes) (ChecksOn (bytes desk_file.Proof) (bytes desk_file.Plan))
-      (λ t. said_proof asked answer t (bytes desk_file.Proof) (ChecksRead t (bytes desk_file.Plan)) (λ proof. proof_said asked answer t (bytes desk_file.Plan) proof.planned proof.tree)) x
+      said_tables asked answer reading (table_bytes bytes) (TellsOn question.Holds (bytes desk_file.Proof) (bytes desk_file.Plan))
+      (λ t. told_said asked answer t question.Holds (bytes desk_file.Proof) (bytes desk_file.Plan)) x
       )
   kind_of (Some (tails dir reading limits dates)) bytes x = inl (
       let asked = Some (tails dir reading limits dates) in
@@ -255,6 +283,12 @@ module _ (answer : Answer) where
       (λ s. said_plan asked answer t (bytes desk_file.Plan) (OnLegal t (TellsDue t limits dates s)) (λ p. said_legal asked answer t (TellsDue t limits dates s) p (due_said asked answer t limits dates s p)))) x
       )
   kind_of (Some (make dir number legs)) bytes x = inr (made_kind dir number legs answer x)
+  kind_of (Some (whatif dir reading name count)) bytes x = inl (
+      let asked = Some (whatif dir reading name count) in
+      said_tables asked answer reading (table_bytes bytes) (AsksOn name count (bytes desk_file.Proof) (bytes desk_file.Plan))
+      (λ t. said_fleet asked answer t name (λ fleet. TellsOn (question.OtherSize fleet count) (bytes desk_file.Proof) (bytes desk_file.Plan) t)
+      (λ fleet. told_said asked answer t (question.OtherSize fleet count) (bytes desk_file.Proof) (bytes desk_file.Plan))) x
+      )
 
   kind : (held : Files) (asked : Option Asked) → Answers held asked answer → IsSaid asked answer ⊎ IsSolved asked answer
   kind held asked (inl long) = inl (bad asked answer _ long.is)

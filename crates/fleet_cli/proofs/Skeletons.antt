@@ -1,6 +1,8 @@
 -- What is read one after the other: one answer, what follows of it, and that what is good is not refused. Each of these
 -- once, for whatever is answered on what was read.
-use Rattle.std.proofs.Common.{◌≡◌, ℕ, ◌+◌, ◌-◌, Bool, List, length, map, Err, Ok, refl, sym, ap, subst, ◌∙◌, inl, inr, arith}
+use Rattle.std.proofs.Common.{◌≡◌, ℕ, ◌+◌, ◌-◌, Bool, List, length, Option, Some, None, Err, Ok, refl, sym, ap, subst, ◌∙◌, inl, inr, arith, map}
+use Rattle.std.specs.Prelude.{IsSome}
+use Rattle.std.proofs.lemmas.Option.{same_Some}
 use Rattle.bound_cert.specs.Lines.{Reading, Stopped, left_of}
 use Rattle.bound_cert.specs.ReadProof.{IsFirstFault, ReadsAs}
 use Rattle.bound_cert.specs.declared.faults.CertFault.{CertFault}
@@ -18,11 +20,11 @@ use Rattle.plan_text.proofs.ReadOrNot.{reads_or_not}
 use Rattle.plan_text.specs.Reading.{PlanReads}
 use Rattle.sched_read.proofs.ReadLaws as tables
 use Rattle.sched_read.specs.Reading.{Reads, TableBytes}
+use Rattle.fleet_cli.specs.Refusals.{RefusesFleet, RefusesPlan, RefusesProof, RefusesTables, RefusesTails, RefusesVerdict, fleet_named, says, verdict_status}
+use Rattle.fleet_cli.specs.Skeletons.{OnFleet, OnLegal, OnPlan, OnProof, OnTables, OnTails}
 use Rattle.table_rows.proofs.OneReading.{table_bad_same, table_reads_no_fault, table_reads_same}
 use Rattle.tail_dates.specs.TailTable.{TailsRead, tail_header, tail_name_of, tail_read}
 use Rattle.tail_dates.specs.declared.tails.TailState.{TailState}
-use Rattle.fleet_cli.specs.Refusals.{RefusesPlan, RefusesProof, RefusesTables, RefusesTails, RefusesVerdict, says, verdict_status}
-use Rattle.fleet_cli.specs.Skeletons.{OnLegal, OnPlan, OnProof, OnTables, OnTails}
 use Rattle.fleet_cli.specs.Texts.{verdict_text}
 use Rattle.fleet_cli.specs.declared.answer.Answer.{Answer}
 
@@ -69,6 +71,14 @@ module _ (t : Tables) (bytes : List ℕ) where
   never_listed : (answer : Answer) (tails : List TailState) → RefusesTails t bytes answer → TailsRead (map fleet_name_of t.fleets) (records_of bytes) tails → ⊥
   never_listed answer tails x reads = table_reads_no_fault tail_name_of (tail_read (map fleet_name_of t.fleets)) tail_header (records_of bytes) tails x.row x.kind reads x.bad
 
+-- a name is that of a fleet, or of none
+pub never_named : (t : Tables) (name : List ℕ) (fleet : ℕ) → fleet_named t name ≡ None → fleet_named t name ≡ Some fleet → ⊥
+never_named t name fleet unknown known = let both = sym unknown ∙ known in let never : ⊥ = cc in never
+
+-- .. and of one at most
+one_named : (t : Tables) (name : List ℕ) (one two : ℕ) → fleet_named t name ≡ Some one → fleet_named t name ≡ Some two → one ≡ two
+one_named t name one two x y = same_Some one two (sym x ∙ y)
+
 -- ---- one answer
 
 module _ (answer other : Answer) where
@@ -113,6 +123,14 @@ module _ (answer other : Answer) where
     one_tails bytes finish one (inr x) (inl y) = absurd (never_listed t bytes other x.tails y x.reads)
     one_tails bytes finish one (inr x) (inr y) = one y.tails (subst (λ tails. finish tails answer) (one_list t bytes x.tails y.tails x.reads y.reads) x.finishes) y.finishes
 
+    pub one_fleet : (name : List ℕ) (finish : ℕ → Answer → Type 0) → ((fleet : ℕ) → fleet_named t name ≡ Some fleet → finish fleet answer → finish fleet other → answer ≡ other)
+        → OnFleet t name finish answer → OnFleet t name finish other → answer ≡ other
+    one_fleet name finish one (inl x) (inl y) = x.is ∙ sym y.is
+    one_fleet name finish one (inl x) (inr y) = absurd (never_named t name y.fleet x.unknown y.known)
+    one_fleet name finish one (inr x) (inl y) = absurd (never_named t name x.fleet y.unknown x.known)
+    one_fleet name finish one (inr x) (inr y) =
+        one y.fleet y.known (subst (λ f. finish f answer) (one_named t name x.fleet y.fleet x.known y.known) x.finishes) y.finishes
+
     pub one_plan : (bytes : List ℕ) (first second : List ℕ → Answer → Type 0) → ((plan : List ℕ) → first plan answer → second plan other → answer ≡ other)
         → OnPlan t bytes first answer → OnPlan t bytes second other → answer ≡ other
     one_plan bytes first second one (inl x) (inl y) = refuses_plan t bytes x y
@@ -152,6 +170,11 @@ module _ (answer : Answer) (K : Type 0) where
     either_tails bytes finish refused read (inl x) = refused x
     either_tails bytes finish refused read (inr x) = read x.tails x.finishes
 
+    pub either_fleet : (name : List ℕ) (finish : ℕ → Answer → Type 0) → (RefusesFleet t name answer → K) → ((fleet : ℕ) → fleet_named t name ≡ Some fleet → finish fleet answer → K)
+        → OnFleet t name finish answer → K
+    either_fleet name finish refused read (inl x) = refused x
+    either_fleet name finish refused read (inr x) = read x.fleet x.known x.finishes
+
     pub either_plan : (bytes : List ℕ) (finish : List ℕ → Answer → Type 0) → (RefusesPlan t bytes answer → K)
         → ((plan : List ℕ) → PlanReads t (records_of bytes) plan → finish plan answer → K) → OnPlan t bytes finish answer → K
     either_plan bytes finish refused read (inl x) = refused x
@@ -179,6 +202,11 @@ module _ (answer : Answer) where
     there_tails bytes finish tails reads (inl x) = absurd (never_listed t bytes answer tails x reads)
     there_tails bytes finish tails reads (inr x) = subst (λ s. finish s answer) (one_list t bytes x.tails tails x.reads reads) x.finishes
 
+    -- the fleet that is there is some fleet
+    pub there_fleet : (name : List ℕ) (finish : ℕ → Answer → Type 0) → IsSome (fleet_named t name) → OnFleet t name finish answer → (fleet : ℕ) × finish fleet answer
+    there_fleet name finish known (inl x) = absurd (subst IsSome x.unknown known)
+    there_fleet name finish known (inr x) = (x.fleet, x.finishes)
+
     pub there_plan : (bytes : List ℕ) (finish : List ℕ → Answer → Type 0) (plan : List ℕ) → PlanReads t (records_of bytes) plan → OnPlan t bytes finish answer → finish plan answer
     there_plan bytes finish plan reads (inl x) = absurd ((reads_or_not t (records_of bytes)).not_both plan x.row x.kind reads x.bad)
     there_plan bytes finish plan reads (inr x) = subst (λ p. finish p answer) ((reads_or_not t (records_of bytes)).one_plan x.plan plan x.reads reads) x.finishes
@@ -200,6 +228,11 @@ module _ (answer : Answer) where
       → OnTables reading bytes finish answer → OnTables reading bytes other answer
   map_tables reading bytes finish other more (inl x) = inl x
   map_tables reading bytes finish other more (inr x) = inr (record { tables = x.tables; reads = x.reads; finishes = more x.tables x.reads x.finishes })
+
+  pub map_fleet : (t : Tables) (name : List ℕ) (finish other : ℕ → Answer → Type 0) → ((fleet : ℕ) → fleet_named t name ≡ Some fleet → finish fleet answer → other fleet answer)
+      → OnFleet t name finish answer → OnFleet t name other answer
+  map_fleet t name finish other more (inl x) = inl x
+  map_fleet t name finish other more (inr x) = inr (record { fleet = x.fleet; known = x.known; finishes = more x.fleet x.known x.finishes })
 
   pub map_proof : (t : Tables) (bytes : List ℕ) (finish other : Proof → Answer → Type 0) → ((proof : Proof) → ReadsAs t bytes proof → finish proof answer → other proof answer)
       → OnProof t bytes finish answer → OnProof t bytes other answer

@@ -9,12 +9,17 @@ use Rattle.branch_bound.specs.declared.solved.Solved.{Solved}
 use Rattle.cert_check.specs.Verdicts.{IsChecked}
 use Rattle.cert_check.specs.declared.checked.Checked.{Checked}
 use Rattle.cert_check.specs.declared.checked.Checked.TheVariants as checked
+use Rattle.cert_check.specs.OtherSizes.{IsAsked}
+use Rattle.cert_check.specs.declared.what_if.WhatIf.{WhatIf}
+use Rattle.cert_check.specs.declared.what_if.WhatIf.TheVariants as what
 use Rattle.command_words.specs.Arguments.{AskedDates}
-use Rattle.command_words.specs.Words.{Asked, check, due, judge, make, solve, tails}
+use Rattle.command_words.specs.Words.{Asked, check, due, judge, make, solve, tails, whatif}
 use Rattle.command_words.specs.declared.command.RotationLimits.{RotationLimits}
 use Rattle.command_words.specs.declared.command.SolveOptions.{SolveOptions}
 use Rattle.command_words.specs.declared.command.TheConstants.{DEFAULT_OPTIONS, DEFAULT_READING}
 use Rattle.fleet_model.specs.Legal.{total_cost}
+use Rattle.fleet_model.specs.OtherSizes.{IsOtherSize}
+use Rattle.fleet_model.specs.Schedule.{fleet_of}
 use Rattle.fleet_model.specs.declared.options.TableOptions.{TableOptions}
 use Rattle.fleet_model.specs.declared.tables.Tables.{Tables}
 use Rattle.fleet_rotations.specs.declared.made.FleetRotation.{FleetRotation}
@@ -34,11 +39,13 @@ use Rattle.fleet_cli.specs.Gathered.{CalledTooLong}
 use Rattle.fleet_cli.specs.Making.{after_files, made_files}
 use Rattle.fleet_cli.specs.Reading.{AllWithin, IsRead, IsTooLong, folder_of}
 use Rattle.fleet_cli.specs.Refusals.{RefusesLength, says, verdict_status}
-use Rattle.fleet_cli.specs.Skeletons.{OnLegal, OnPlan, OnProof, OnTables, OnTails, TablesRead}
+use Rattle.fleet_cli.specs.Skeletons.{OnFleet, OnLegal, OnPlan, OnProof, OnTables, OnTails, TablesRead}
 use Rattle.fleet_cli.specs.Solution.{AreRotationsOf, solved_answer}
-use Rattle.fleet_cli.specs.Texts.{checked_text, usage_text, verdict_text}
+use Rattle.fleet_cli.specs.Texts.{broken_text, checked_text, usage_text, verdict_text, what_if_text}
 use Rattle.fleet_cli.specs.declared.answer.Answer.{Answer}
-use Rattle.fleet_cli.specs.declared.status.TheConstants.{DONE, REFUSED, UNPLACED, USAGE}
+use Rattle.fleet_cli.specs.declared.opened.Question.{Question}
+use Rattle.fleet_cli.specs.declared.opened.Question.TheVariants as question
+use Rattle.fleet_cli.specs.declared.status.TheConstants.{DONE, FALLEN, REFUSED, UNPLACED, USAGE}
 
 -- ---- judging
 
@@ -82,6 +89,7 @@ pub record Makes (number legs : ℕ) (answer : Answer) : Type 0 where
 
 -- ---- checking
 
+-- the status that tells a verdict on a tree
 abbrev pub checked_status : Checked → ℕ
 checked_status (checked.Holds bound) = DONE
 checked_status (checked.Broken node rule) = REFUSED
@@ -92,26 +100,68 @@ pub record ChecksTree (t : Tables) (cost : Option ℤ) (tree : Tree) (answer : A
   pub checked : IsChecked t cost tree verdict
   pub is : answer ≡ says (checked_status verdict) (checked_text cost verdict)
 
--- the tree is checked with a plan's cost
-abbrev pub ChecksWith : Tables → Tree → List ℕ → Answer → Type 0
-ChecksWith t tree plan = ChecksTree t (Some (total_cost t plan)) tree
+-- ---- another size
 
--- checking a tree, with the plan of these bytes where one comes with it
-abbrev pub ChecksProof : Tables → Bool → Tree → List ℕ → Answer → Type 0
-ChecksProof t false tree plan = ChecksTree t None tree
-ChecksProof t true tree plan = OnPlan t plan (OnLegal t (ChecksWith t tree))
+-- the status that tells what a tree says of tables of another size
+abbrev pub what_if_status : WhatIf → ℕ
+what_if_status (what.Fallen node) = FALLEN
+what_if_status what.NoPlan = DONE
+what_if_status (what.Bound bound) = DONE
 
--- checking a proof, which says whether a plan comes with it
-abbrev pub ChecksRead : Tables → List ℕ → Proof → Answer → Type 0
-ChecksRead t plan proof = ChecksProof t proof.planned proof.tree plan
+-- it is told what a tree says of the tables in which a fleet has so many aircraft
+pub record SaysOfOther (t : Tables) (fleet count : ℕ) (tree : Tree) (answer : Answer) : Type 0 where
+  pub other : Tables
+  pub sized : IsOtherSize t fleet count other
+  pub what : WhatIf
+  pub asked : IsAsked other tree what
+  pub is : answer ≡ says (what_if_status what) (what_if_text (fleet_of t fleet).name count what)
 
--- checking on tables, by the bytes of the proof and of the plan
-abbrev pub ChecksOn : List ℕ → List ℕ → Tables → Answer → Type 0
-ChecksOn proof plan t = OnProof t proof (ChecksRead t plan)
+-- a tree that holds is asked, and of one that doesn't the first broken rule is told
+abbrev pub AsksChecked : Tables → ℕ → ℕ → Tree → Checked → Answer → Type 0
+AsksChecked t fleet count tree (checked.Holds bound) answer = SaysOfOther t fleet count tree answer
+AsksChecked t fleet count tree (checked.Broken node rule) answer = answer ≡ says REFUSED (broken_text node rule)
+
+-- .. by the verdict on a tree that comes with a plan of this cost, or with none
+pub record AsksTree (t : Tables) (fleet count : ℕ) (cost : Option ℤ) (tree : Tree) (answer : Answer) : Type 0 where
+  pub verdict : Checked
+  pub checked : IsChecked t cost tree verdict
+  pub asks : AsksChecked t fleet count tree verdict answer
+
+-- ---- what is asked of a proof
+
+-- what is answered of a tree that comes with a plan of this cost, or with none, by what is asked of it
+abbrev pub TellsTree : Tables → Question → Option ℤ → Tree → Answer → Type 0
+TellsTree t question.Holds cost tree = ChecksTree t cost tree
+TellsTree t (question.OtherSize fleet count) cost tree = AsksTree t fleet count cost tree
+
+-- .. with a plan's cost
+abbrev pub TellsWith : Tables → Question → Tree → List ℕ → Answer → Type 0
+TellsWith t asks tree plan = TellsTree t asks (Some (total_cost t plan)) tree
+
+-- .. with the plan of these bytes where one comes with it
+abbrev pub TellsProof : Tables → Question → Bool → Tree → List ℕ → Answer → Type 0
+TellsProof t asks false tree plan = TellsTree t asks None tree
+TellsProof t asks true tree plan = OnPlan t plan (OnLegal t (TellsWith t asks tree))
+
+-- .. of a proof, which says whether a plan comes with it
+abbrev pub TellsRead : Tables → Question → List ℕ → Proof → Answer → Type 0
+TellsRead t asks plan proof = TellsProof t asks proof.planned proof.tree plan
+
+-- .. on tables, by the bytes of the proof and of the plan
+abbrev pub TellsOn : Question → List ℕ → List ℕ → Tables → Answer → Type 0
+TellsOn asks proof plan t = OnProof t proof (TellsRead t asks plan)
 
 -- checking by the bytes of the tables, of the proof and of the plan
 abbrev pub Checks : TableOptions → TableBytes → List ℕ → List ℕ → Answer → Type 0
-Checks reading bytes proof plan = OnTables reading bytes (ChecksOn proof plan)
+Checks reading bytes proof plan = OnTables reading bytes (TellsOn question.Holds proof plan)
+
+-- asking about so many aircraft of the fleet of this name, on tables
+abbrev pub AsksOn : List ℕ → ℕ → List ℕ → List ℕ → Tables → Answer → Type 0
+AsksOn name count proof plan t = OnFleet t name (λ fleet. TellsOn (question.OtherSize fleet count) proof plan t)
+
+-- .. by the bytes of the tables, of the proof and of the plan
+abbrev pub Asks : TableOptions → List ℕ → ℕ → TableBytes → List ℕ → List ℕ → Answer → Type 0
+Asks reading name count bytes proof plan = OnTables reading bytes (AsksOn name count proof plan)
 
 -- ---- tails
 
@@ -166,6 +216,7 @@ AnswersOf (Some (check dir reading)) bytes answer = Checks reading (table_bytes 
 AnswersOf (Some (tails dir reading limits dates)) bytes answer = TailsOf reading limits dates (table_bytes bytes) (bytes file.Plan) answer
 AnswersOf (Some (due dir reading limits dates)) bytes answer = DueOf reading limits dates (table_bytes bytes) (bytes file.Tails) (bytes file.Plan) answer
 AnswersOf (Some (make dir number legs)) bytes answer = Makes number legs answer
+AnswersOf (Some (whatif dir reading name count)) bytes answer = Asks reading name count (table_bytes bytes) (bytes file.Proof) (bytes file.Plan) answer
 
 -- all files that are read are within their limits, and the answer is by what they hold
 pub record AnswersRead (held : Files) (asked : Option Asked) (answer : Answer) : Type 0 where

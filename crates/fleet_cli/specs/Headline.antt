@@ -1,11 +1,14 @@
 -- What solving leaves: the plan and its cost, its rotations, the bound, or that nothing is legal, over what the files held
--- and hold. And what it means where checking says that a proof holds.
+-- and hold. And what it means where checking says that a proof holds, and what it says of tables of another size.
 use Rattle.std.specs.Prelude.{◌≡◌, ℕ, List, Bool, true, false, Option, Some, None, IfSome, IsSomeAnd, ⊤, ℤ, ◌≤ℤ◌}
+use Rattle.cert_check.specs.OtherSizes.{answer_of}
 use Rattle.cert_check.specs.Verdicts.{BoundsAll}
 use Rattle.cert_check.specs.declared.checked.Checked.TheVariants as checked
-use Rattle.command_words.specs.Words.{Asked, check, due, judge, make, solve, tails}
+use Rattle.command_words.specs.Words.{Asked, check, due, judge, make, solve, tails, whatif}
 use Rattle.command_words.specs.declared.command.SolveOptions.{SolveOptions}
 use Rattle.command_words.specs.declared.command.TheConstants.{DEFAULT_OPTIONS, DEFAULT_READING}
+use Rattle.fleet_model.specs.OtherSizes.{IsOtherSize}
+use Rattle.fleet_model.specs.Schedule.{fleet_of}
 use Rattle.fleet_model.specs.declared.options.TableOptions.{TableOptions}
 use Rattle.fleet_model.specs.declared.tables.Tables.{Tables}
 use Rattle.bound_cert.specs.ProofText.{proof_text}
@@ -23,10 +26,11 @@ use Rattle.fleet_cli.specs.Contents.{bytes_in, table_bytes}
 use Rattle.fleet_cli.specs.Gathered.{AllStand}
 use Rattle.fleet_cli.specs.Making.{made_files}
 use Rattle.fleet_cli.specs.Reading.{proof_files, table_files}
+use Rattle.fleet_cli.specs.Refusals.{fleet_named}
 use Rattle.fleet_cli.specs.Run.{IsSolution, PlanThere}
 use Rattle.branch_bound.specs.Solved.{IsSolved, tree_of}
 use Rattle.fleet_cli.specs.Solution.{AreRotationsOf, printed_text, solved_status}
-use Rattle.fleet_cli.specs.Texts.{checked_text}
+use Rattle.fleet_cli.specs.Texts.{checked_text, what_if_text}
 use Rattle.fleet_cli.specs.Written.{with_texts}
 use Rattle.branch_bound.specs.declared.solved.Solved.{Solved}
 use Rattle.branch_bound.specs.declared.solved.Solved.TheVariants as solved
@@ -97,8 +101,24 @@ pub record TellsBound (held : Files) (dir : List ℕ) (reading : TableOptions) (
   pub under : IfSome cost (IsUnder bound)
   pub put : after ≡ output_with before (checked_text cost (checked.Holds bound))
 
+-- The five files read as tables, and a fleet of theirs has the name. What was put is a bound for the tables in which that
+-- fleet has so many aircraft, and is else like them: each assignment that is legal there costs at least the bound, and with no bound
+-- none is legal there.
+pub record TellsOther (held : Files) (dir : List ℕ) (reading : TableOptions) (name : List ℕ) (count : ℕ) (before after : Option (List ℕ)) : Type 0 where
+  pub tables : Tables
+  pub fleet : ℕ
+  pub other : Tables
+  pub bound : Option ℤ
+  pub there : AllStand held dir proof_files
+  pub reads : Reads (table_bytes (bytes_in held dir)) reading.settings tables
+  pub known : fleet_named tables name ≡ Some fleet
+  pub sized : IsOtherSize tables fleet count other
+  pub proven : BoundsAll other bound
+  pub put : after ≡ output_with before (what_if_text (fleet_of tables fleet).name count (answer_of bound))
+
 -- the headline: a run that solves leaves a solution, where its status tells of one, and one that makes tables leaves one of
--- them; one that checks tells a bound that is proved, where it says that a proof holds
+-- them; one that checks tells a bound that is proved, where it says that a proof holds, and so does one that asks about
+-- another size, where it tells a bound or that there is no plan
 abbrev pub Headline : Files → Option Asked → ℕ → Option Files → Option (List ℕ) → Option (List ℕ) → Type 0
 Headline held None code told before after = ⊤
 Headline held (Some (judge dir reading)) code told before after = ⊤
@@ -107,3 +127,4 @@ Headline held (Some (tails dir reading limits dates)) code told before after = �
 Headline held (Some (due dir reading limits dates)) code told before after = ⊤
 Headline held (Some (solve dir reading options)) code told before after = IsSolution code → TellsSolution held told dir reading options code before after
 Headline held (Some (make dir number legs)) code told before after = TellsMade held told dir number legs code before after
+Headline held (Some (whatif dir reading name count)) code told before after = code ≡ DONE → TellsOther held dir reading name count before after

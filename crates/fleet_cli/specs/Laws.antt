@@ -2,7 +2,7 @@
 use Rattle.std.specs.Prelude.{◌≡◌, ◌≢◌, Option, Some, None, ⊤}
 use Rattle.plan_desk.specs.Desk.{Files}
 use Rattle.fleet_cli.specs.Answer.{Answers}
-use Rattle.command_words.specs.Words.{Asked, check, due, judge, make, solve, tails}
+use Rattle.command_words.specs.Words.{Asked, check, due, judge, make, solve, tails, whatif}
 use Rattle.fleet_cli.specs.declared.answer.Answer.{Answer}
 use Rattle.fleet_cli.specs.declared.status.TheConstants.{BAD_INPUT, DONE, UNPLACED}
 
@@ -15,6 +15,7 @@ IsFixed (Some (check dir reading)) answer = ⊤
 IsFixed (Some (tails dir reading limits dates)) answer = answer.status.code ≢ DONE
 IsFixed (Some (due dir reading limits dates)) answer = (answer.status.code ≢ DONE) × (answer.status.code ≢ UNPLACED)
 IsFixed (Some (make dir number legs)) answer = ⊥
+IsFixed (Some (whatif dir reading name count)) answer = ⊤
 
 -- what is held and what is asked fix the answer
 abbrev pub OneAnswer : Type 0

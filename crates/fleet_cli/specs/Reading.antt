@@ -2,7 +2,7 @@
 use Rattle.std.specs.Prelude.{◌≡◌, ◌⊎◌, ℕ, ◌+◌, true, List, [], ◌∷◌, ◌++◌, length, Option, Some, None, IsSome}
 use Rattle.bound_cert.specs.ReadProof.{ReadsAs}
 use Rattle.bound_cert.specs.declared.reading.Proof.{Proof}
-use Rattle.command_words.specs.Words.{Asked, check, due, judge, make, solve, tails}
+use Rattle.command_words.specs.Words.{Asked, check, due, judge, make, solve, tails, whatif}
 use Rattle.fleet_model.specs.declared.options.TableOptions.{TableOptions}
 use Rattle.fleet_model.specs.declared.tables.Tables.{Tables}
 use Rattle.plan_desk.specs.Desk.{Files}
@@ -12,6 +12,7 @@ use Rattle.plan_desk.specs.declared.file.DeskFile.TheVariants as file
 use Rattle.sched_read.specs.Reading.{Reads, TableBytes}
 use Rattle.fleet_cli.specs.Contents.{FileBytes, bytes_in, table_bytes}
 use Rattle.fleet_cli.specs.Gathered.{AllStand, ComesTo, IsAmong, IsFirstMissing, IsFirstTooLong, IsHeld}
+use Rattle.fleet_cli.specs.Refusals.{fleet_named}
 
 -- the five tables, in the order in which they are read
 abbrev pub table_files : List DeskFile
@@ -21,7 +22,8 @@ table_files = file.Stations ∷ file.Fleets ∷ file.Legs ∷ file.Costs ∷ fil
 abbrev pub tables_and : List DeskFile → List DeskFile
 tables_and more = table_files ++ more
 
--- the files that judging (and telling tails), telling named tails, and checking read first, in their order
+-- the files that judging (and telling tails), telling named tails, and checking (and asking about another size) read first,
+-- in their order
 abbrev pub judge_files : List DeskFile
 judge_files = tables_and (file.Plan ∷ [])
 
@@ -40,6 +42,7 @@ folder_of (Some (check dir reading)) = dir
 folder_of (Some (tails dir reading limits dates)) = dir
 folder_of (Some (due dir reading limits dates)) = dir
 folder_of (Some (make dir number legs)) = dir
+folder_of (Some (whatif dir reading name count)) = dir
 
 -- the files that are read first, in their order
 abbrev pub first_files : Option Asked → List DeskFile
@@ -50,6 +53,7 @@ first_files (Some (check dir reading)) = proof_files
 first_files (Some (tails dir reading limits dates)) = judge_files
 first_files (Some (due dir reading limits dates)) = due_files
 first_files (Some (make dir number legs)) = []
+first_files (Some (whatif dir reading name count)) = proof_files
 
 -- the tables and the proof read, and the proof says that a plan comes with it
 pub record WantsPlan (reading : TableOptions) (bytes : TableBytes) (text : List ℕ) : Type 0 where
@@ -58,6 +62,11 @@ pub record WantsPlan (reading : TableOptions) (bytes : TableBytes) (text : List 
   pub reads : Reads bytes reading.settings tables
   pub proof_reads : ReadsAs tables text proof
   pub planned : proof.planned ≡ true
+
+-- .. and the tables have a fleet of this name
+pub record WantsPlanOf (name : List ℕ) (reading : TableOptions) (bytes : TableBytes) (text : List ℕ) : Type 0 where
+  pub wants : WantsPlan reading bytes text
+  pub known : IsSome (fleet_named wants.tables name)
 
 -- the file is read after the first ones, where they hold these bytes
 abbrev pub Follows : Option Asked → FileBytes → DeskFile → Type 0
@@ -68,6 +77,7 @@ Follows (Some (check dir reading)) bytes f = (f ≡ file.Plan) × WantsPlan read
 Follows (Some (tails dir reading limits dates)) bytes f = ⊥
 Follows (Some (due dir reading limits dates)) bytes f = ⊥
 Follows (Some (make dir number legs)) bytes f = ⊥
+Follows (Some (whatif dir reading name count)) bytes f = (f ≡ file.Plan) × WantsPlanOf name reading (table_bytes bytes) (bytes file.Proof)
 
 -- the files that solving may write
 abbrev pub solution_files : List DeskFile
@@ -82,6 +92,7 @@ written_files (Some (check dir reading)) = []
 written_files (Some (tails dir reading limits dates)) = []
 written_files (Some (due dir reading limits dates)) = []
 written_files (Some (make dir number legs)) = tables_and solution_files
+written_files (Some (whatif dir reading name count)) = []
 
 -- how many files the first ones may ask for
 abbrev pub most_further : Option Asked → ℕ
@@ -92,6 +103,7 @@ most_further (Some (check dir reading)) = 1
 most_further (Some (tails dir reading limits dates)) = 0
 most_further (Some (due dir reading limits dates)) = 0
 most_further (Some (make dir number legs)) = 0
+most_further (Some (whatif dir reading name count)) = 1
 
 -- ---- what follows of each command
 

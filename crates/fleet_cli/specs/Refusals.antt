@@ -1,5 +1,5 @@
 -- What the program answers where it refuses what it reads.
-use Rattle.std.specs.Prelude.{◌≡◌, ℕ, List, [], map}
+use Rattle.std.specs.Prelude.{◌≡◌, ℕ, List, [], Option, None, map}
 use Rattle.bound_cert.specs.Lines.{left_of}
 use Rattle.bound_cert.specs.ReadProof.{IsFirstFault}
 use Rattle.bound_cert.specs.declared.faults.CertFault.{CertFault}
@@ -14,10 +14,11 @@ use Rattle.plan_desk.specs.declared.file.DeskFile.TheVariants as desk_file
 use Rattle.plan_judge.specs.Verdicts.{IsVerdict}
 use Rattle.plan_judge.specs.declared.verdicts.Verdict.{Verdict}
 use Rattle.plan_judge.specs.declared.verdicts.Verdict.TheVariants as verdict
-use Rattle.plan_text.specs.Reading.{PlanBad}
+use Rattle.plan_text.specs.Reading.{PlanBad, fleet_names}
 use Rattle.sched_read.specs.Reading.{BadAt, TableBytes}
+use Rattle.table_rows.specs.Names.{number_of}
+use Rattle.fleet_cli.specs.Texts.{bad_input_text, desk_file_of, plan_refused_text, proof_refused_text, unknown_fleet_text, verdict_text}
 use Rattle.tail_dates.specs.TailTable.{TailsBad}
-use Rattle.fleet_cli.specs.Texts.{bad_input_text, desk_file_of, plan_refused_text, proof_refused_text, verdict_text}
 use Rattle.fleet_cli.specs.declared.answer.Answer.{Answer}
 use Rattle.fleet_cli.specs.declared.status.TheConstants.{BAD_INPUT, DONE, REFUSED}
 
@@ -45,6 +46,15 @@ pub record RefusesTails (t : Tables) (bytes : List ℕ) (answer : Answer) : Type
   pub kind : ℕ
   pub bad : TailsBad (map fleet_name_of t.fleets) (records_of bytes) row kind
   pub is : answer ≡ says BAD_INPUT (bad_input_text desk_file.Tails row kind)
+
+-- the number of the fleet of this name, where the tables have one
+abbrev pub fleet_named : Tables → List ℕ → Option ℕ
+fleet_named t name = number_of name (fleet_names t)
+
+-- the tables have no fleet of this name
+pub record RefusesFleet (t : Tables) (name : List ℕ) (answer : Answer) : Type 0 where
+  pub unknown : fleet_named t name ≡ None
+  pub is : answer ≡ says REFUSED (unknown_fleet_text name)
 
 -- the plan's text has a first fault
 pub record RefusesPlan (t : Tables) (bytes : List ℕ) (answer : Answer) : Type 0 where

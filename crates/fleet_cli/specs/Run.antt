@@ -1,5 +1,5 @@
 -- What a run leaves.
-use Rattle.std.specs.Prelude.{◌≡◌, ◌≢◌, ◌⊎◌, ℕ, All, Bool, true, false, List, [], ◌∷◌, map, ℤ, Option, Some, None, IfSome, IsSomeAnd, ⊤}
+use Rattle.std.specs.Prelude.{◌≡◌, ◌≢◌, ◌⊎◌, ℕ, All, Bool, true, false, List, [], ◌∷◌, ℤ, Option, Some, None, IfSome, IsSome, IsSomeAnd, ⊤, map}
 use Rattle.bound_cert.specs.ReadProof.{ReadsAs}
 use Rattle.bound_cert.specs.declared.reading.Proof.{Proof}
 use Rattle.cert_check.specs.Verdicts.{HoldsWith}
@@ -23,11 +23,12 @@ use Rattle.fleet_cli.specs.Contents.{bytes_in, table_bytes}
 use Rattle.fleet_cli.specs.Gathered.{AllStand, IsHeld, ReadFails}
 use Rattle.fleet_cli.specs.Laws.{IsFixed}
 use Rattle.fleet_cli.specs.Reading.{IsMissing, IsRead, due_files, folder_of, judge_files, proof_files, table_files, written_files}
+use Rattle.fleet_cli.specs.Refusals.{fleet_named}
 use Rattle.fleet_cli.specs.Texts.{fault_text}
-use Rattle.command_words.specs.Words.{Asked, check, due, judge, make, solve, tails}
+use Rattle.command_words.specs.Words.{Asked, check, due, judge, make, solve, tails, whatif}
 use Rattle.fleet_cli.specs.Written.{HaveLengths, WriteFails, WritesFirst, held_with_texts, under}
 use Rattle.fleet_cli.specs.declared.answer.Answer.{Answer}
-use Rattle.fleet_cli.specs.declared.status.TheConstants.{BAD_INPUT, DONE, FAULT, GAP, INFEASIBLE, NO_MEMORY, REFUSED, UNPLACED, UNSETTLED, USAGE}
+use Rattle.fleet_cli.specs.declared.status.TheConstants.{BAD_INPUT, DONE, FALLEN, FAULT, GAP, INFEASIBLE, NO_MEMORY, REFUSED, UNPLACED, UNSETTLED, USAGE}
 
 -- a fact of every status but a fault and want of memory
 abbrev pub IsAnswered : ℕ → Type 0 → Type 0
@@ -107,6 +108,15 @@ pub record ProofThere (held : Files) (dir : List ℕ) (reading : TableOptions) :
   pub plan : IsCostThere held dir tables proof.planned cost
   pub holds : HoldsWith tables cost proof.tree bound
 
+-- .. and the tables have a fleet of this name
+pub record FleetProofThere (held : Files) (dir : List ℕ) (reading : TableOptions) (name : List ℕ) : Type 0 where
+  pub proof : ProofThere held dir reading
+  pub known : IsSome (fleet_named proof.tables name)
+
+-- a status that tells what a proof says of tables of another size
+abbrev pub IsAskedOf : ℕ → Type 0
+IsAskedOf code = (code ≡ DONE) ⊎ (code ≡ FALLEN)
+
 -- a status that tells of a solution
 abbrev pub IsSolution : ℕ → Type 0
 IsSolution code = (code ≡ DONE) ⊎ (code ≡ GAP) ⊎ (code ≡ INFEASIBLE) ⊎ (code ≡ UNSETTLED)
@@ -120,8 +130,8 @@ abbrev pub IsTold : ℕ → Type 0
 IsTold code = (code ≡ DONE) ⊎ (code ≡ UNPLACED)
 
 -- What is good is never refused: a legal plan on tables that read is judged so and its tails are told, with their names
--- where a table of tails reads; tables that read are solved, and a proof that holds is said to hold. Tables that are made
--- are solved whatever is held, and have a plan.
+-- where a table of tails reads; tables that read are solved, a proof that holds is said to hold, and is asked about a fleet
+-- that there is. Tables that are made are solved whatever is held, and have a plan.
 abbrev pub IsComplete : Option Files → Option Asked → ℕ → Type 0
 IsComplete told None code = ⊤
 IsComplete told (Some (judge dir reading)) code = IsSomeAnd told (λ held. LegalThere held dir reading) → code ≡ DONE
@@ -130,6 +140,7 @@ IsComplete told (Some (check dir reading)) code = IsSomeAnd told (λ held. Proof
 IsComplete told (Some (tails dir reading limits dates)) code = IsSomeAnd told (λ held. LegalThere held dir reading) → code ≡ DONE
 IsComplete told (Some (due dir reading limits dates)) code = IsSomeAnd told (λ held. DueThere held dir reading) → IsTold code
 IsComplete told (Some (make dir number legs)) code = IsFlyable code
+IsComplete told (Some (whatif dir reading name count)) code = IsSomeAnd told (λ held. FleetProofThere held dir reading name) → IsAskedOf code
 
 -- an answer that is right of some contents, all of which was put, and the sink was handed nothing else
 pub record SomeInFull (longer : Type 0) (asked : Option Asked) (code : ℕ) (before after : Option (List ℕ)) (handed_before handed_after : Option ℕ) : Type 0 where

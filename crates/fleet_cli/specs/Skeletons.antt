@@ -1,6 +1,6 @@
--- What commands have in common: tables are read, tails, a plan, a verdict on it, a proof. Each of these is refused, or the rest is
--- answered on what it comes to. So the order of the refusals is the order in which a command names them.
-use Rattle.std.specs.Prelude.{◌⊎◌, ℕ, List, map}
+-- What commands have in common: tables are read, tails, a fleet's name, a plan, a verdict on it, a proof. Each of these is
+-- refused, or the rest is answered on what it comes to. So the order of the refusals is the order in which a command names them.
+use Rattle.std.specs.Prelude.{◌≡◌, ◌⊎◌, ℕ, List, Some, map}
 use Rattle.bound_cert.specs.ReadProof.{ReadsAs}
 use Rattle.bound_cert.specs.declared.reading.Proof.{Proof}
 use Rattle.csv_fields.specs.Record.{records_of}
@@ -10,9 +10,9 @@ use Rattle.fleet_model.specs.declared.tables.Tables.{Tables}
 use Rattle.fleet_tables.specs.Fleets.{fleet_name_of}
 use Rattle.plan_text.specs.Reading.{PlanReads}
 use Rattle.sched_read.specs.Reading.{Reads, TableBytes}
+use Rattle.fleet_cli.specs.Refusals.{RefusesFleet, RefusesPlan, RefusesProof, RefusesTables, RefusesTails, RefusesVerdict, fleet_named}
 use Rattle.tail_dates.specs.TailTable.{TailsRead}
 use Rattle.tail_dates.specs.declared.tails.TailState.{TailState}
-use Rattle.fleet_cli.specs.Refusals.{RefusesPlan, RefusesProof, RefusesTables, RefusesTails, RefusesVerdict}
 use Rattle.fleet_cli.specs.declared.answer.Answer.{Answer}
 
 -- the tables read, and the rest is answered on them
@@ -32,6 +32,15 @@ pub record TailsListed (t : Tables) (bytes : List ℕ) (finish : List TailState 
 
 abbrev pub OnTails : Tables → List ℕ → (List TailState → Answer → Type 0) → Answer → Type 0
 OnTails t bytes finish answer = RefusesTails t bytes answer ⊎ TailsListed t bytes finish answer
+
+-- the tables have a fleet of this name, and the rest is answered of it
+pub record FleetKnown (t : Tables) (name : List ℕ) (finish : ℕ → Answer → Type 0) (answer : Answer) : Type 0 where
+  pub fleet : ℕ
+  pub known : fleet_named t name ≡ Some fleet
+  pub finishes : finish fleet answer
+
+abbrev pub OnFleet : Tables → List ℕ → (ℕ → Answer → Type 0) → Answer → Type 0
+OnFleet t name finish answer = RefusesFleet t name answer ⊎ FleetKnown t name finish answer
 
 -- the plan's text reads, and the rest is answered on the plan
 pub record PlanRead (t : Tables) (bytes : List ℕ) (finish : List ℕ → Answer → Type 0) (answer : Answer) : Type 0 where

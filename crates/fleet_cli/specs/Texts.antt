@@ -3,6 +3,8 @@ use Rattle.std.specs.Prelude.{ℕ, List, [], ◌∷◌, ◌++◌, codes, ℤ, Op
 use Rattle.std.specs.Fmt.{decimal, signed_decimal}
 use Rattle.cert_check.specs.declared.checked.Checked.{Checked}
 use Rattle.cert_check.specs.declared.checked.Checked.TheVariants as checked
+use Rattle.cert_check.specs.declared.what_if.WhatIf.{WhatIf}
+use Rattle.cert_check.specs.declared.what_if.WhatIf.TheVariants as what
 use Rattle.fleet_model.specs.declared.tables.Tables.{Tables}
 use Rattle.fleet_model.specs.declared.refusals.TableFile.{TableFile}
 use Rattle.fleet_model.specs.declared.refusals.TableFile.TheVariants as table
@@ -24,7 +26,7 @@ desk_file_of table.Throughs = file.Throughs
 desk_file_of table.Tails = file.Tails
 
 abbrev pub usage_text : List ℕ
-usage_text = line_of (codes "usage: fleetplan judge|solve|check|make|tails|due DIR [options]" ∷ [])
+usage_text = line_of (codes "usage: fleetplan judge|solve|check|make|tails|due|whatif DIR [options]" ∷ [])
 
 abbrev pub fault_text : DeskFile → List ℕ
 fault_text f = line_of (codes "fault: " ∷ file_name f ∷ [])
@@ -54,9 +56,24 @@ abbrev pub bound_text : Option ℤ → ℤ → List ℕ
 bound_text (Some cost) bound = line_of (codes "holds: cost " ∷ signed_decimal cost ∷ codes " bound " ∷ signed_decimal bound ∷ [])
 bound_text None bound = line_of (codes "holds: bound " ∷ signed_decimal bound ∷ [])
 
+-- the first broken node, and the first rule that it breaks
+abbrev pub broken_text : ℕ → ℕ → List ℕ
+broken_text node rule = line_of (codes "broken: node " ∷ decimal node ∷ codes " rule " ∷ decimal rule ∷ [])
+
 -- what is printed of a tree that comes with a plan of this cost, or with none; where it holds without a bound, no plan
 -- can come with it, for nothing is legal
 abbrev pub checked_text : Option ℤ → Checked → List ℕ
 checked_text cost (checked.Holds (Some bound)) = bound_text cost bound
 checked_text cost (checked.Holds None) = line_of (codes "holds: infeasible" ∷ [])
-checked_text cost (checked.Broken node rule) = line_of (codes "broken: node " ∷ decimal node ∷ codes " rule " ∷ decimal rule ∷ [])
+checked_text cost (checked.Broken node rule) = broken_text node rule
+
+-- a name that no fleet of the tables has
+abbrev pub unknown_fleet_text : List ℕ → List ℕ
+unknown_fleet_text name = line_of (codes "unknown fleet: " ∷ name ∷ [])
+
+-- what is printed of the tables with so many aircraft of the fleet of this name
+abbrev pub what_if_text : List ℕ → ℕ → WhatIf → List ℕ
+what_if_text name count (what.Fallen node) = line_of (codes "fallen: node " ∷ decimal node ∷ [])
+what_if_text name count what.NoPlan = line_of (codes "whatif " ∷ name ∷ codes " " ∷ decimal count ∷ codes ": infeasible" ∷ [])
+what_if_text name count (what.Bound bound) =
+    line_of (codes "whatif " ∷ name ∷ codes " " ∷ decimal count ∷ codes ": bound " ∷ signed_decimal bound ∷ [])

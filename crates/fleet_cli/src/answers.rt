@@ -3,12 +3,11 @@ ghost use Rattle.std.specs.Prelude.{◌≡◌, ◌+◌, Option, Some, IfOk, IfSo
 ghost use Rattle.command_words.specs.Words.{Asked, HasDates, HasLimits, HasSettings, asked, asked_by};
 ghost use Rattle.fleet_cli.specs.Answer.{Answers, AnswersSome};
 ghost use Rattle.fleet_cli.specs.Refusals.{says};
-ghost use Rattle.dual_bound.specs.OfTables.{IsOfTables};
 ghost use Rattle.fleet_cli.specs.Awaited.{AwaitsThere};
 ghost use Rattle.fleet_cli.specs.Contents.{FileBytes};
 ghost use Rattle.fleet_cli.specs.Failed.{MatchFailure, StopsAs};
 ghost use Rattle.fleet_cli.specs.Gathered.{ReadFails};
-ghost use Rattle.fleet_cli.specs.Opened.{Awaits};
+ghost use Rattle.fleet_cli.specs.Opened.{Awaits, IsReady};
 ghost use Rattle.fleet_cli.specs.Reading.{IsMissing, IsRead, folder_of, most_reads};
 ghost use Rattle.fleet_cli.specs.Texts.{usage_text};
 ghost use Rattle.fleet_cli.specs.declared.status.TheConstants.{USAGE};
@@ -16,7 +15,7 @@ ghost use Rattle.plan_desk.specs.Counts.{CallsAtMost, RoseBy, counted, once_more
 ghost use Rattle.plan_desk.specs.declared.file.TheConstants.{TABLE_LIMIT};
 
 use crate::answer::{Answer, Failure};
-use crate::checking::check_plan;
+use crate::checking::tell_with_plan;
 use crate::commands::{first_files, folder, open};
 use crate::gathering::{Stop, read_file, read_files};
 use crate::opened::{Checking, Opened};
@@ -98,7 +97,7 @@ fn answer_with_plan<D: Desk>(
     desk: &mut D,
     dir: &str,
 ) -> Result<Answer, Failure>
-    requires { IsOfTables checking.now.tables checking.now.proof.tree }
+    requires { IsReady checking.now }
     ensures told { (call : Option Asked) → (bytes : FileBytes) → AwaitsThere (D.holds desk.old) dir.now call bytes checking.now → IfSome (D.holds desk.old) (λ held. IfOk result (Answers held call)) }
     ensures some { (call : Option Asked) → (bytes : FileBytes) → Awaits call bytes checking.now → IfOk result (AnswersSome (RoseBy (TABLE_LIMIT + 1) (D.taken desk.old) (D.taken desk.new)) call) }
     ensures holds { D.holds desk.new ≡ D.holds desk.old }
@@ -109,12 +108,7 @@ fn answer_with_plan<D: Desk>(
     ensures stays_steady { D.is_steady desk.old → D.is_steady desk.new }
 {
     match read_file(alloc, desk, dir, DeskFile::Plan) {
-        Ok(plan) => Ok(check_plan(
-            alloc,
-            &checking.tables,
-            &checking.proof.tree,
-            plan.as_slice(),
-        )?),
+        Ok(plan) => Ok(tell_with_plan(alloc, checking, plan.as_slice())?),
         Err(stop) => stopped(alloc, stop),
     }
 }

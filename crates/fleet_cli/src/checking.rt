@@ -1,12 +1,13 @@
-//! The command `check`: whether the proof of a folder proves its bound, and whether the plan that comes with it is legal.
-ghost use Rattle.std.specs.Prelude.{◌≡◌, ℕ, List, Some, IfOk, IsOkAnd, true};
+//! What is asked of the proof of a folder, and the command `check`: whether the proof proves its bound, and whether the plan
+//! that comes with it is legal.
+ghost use Rattle.std.specs.Prelude.{◌≡◌, ℕ, List, Option, Some, IfOk, IsOkAnd, true};
 ghost use Rattle.dual_bound.specs.OfTables.{IsOfTables};
 ghost use Rattle.bound_cert.specs.ReadProof.{ReadsAs};
 ghost use Rattle.command_words.specs.Words.{check};
-ghost use Rattle.fleet_cli.specs.Answer.{ChecksProof, ChecksTree, ChecksWith, checked_status};
+ghost use Rattle.fleet_cli.specs.Answer.{ChecksTree, TellsProof, TellsTree, TellsWith, checked_status};
 ghost use Rattle.fleet_cli.specs.Skeletons.{OnLegal};
 ghost use Rattle.fleet_cli.specs.Contents.{content_of};
-ghost use Rattle.fleet_cli.specs.Opened.{IsOpened, IsOpenedBy};
+ghost use Rattle.fleet_cli.specs.Opened.{CanAsk, IsOpened, IsOpenedBy, IsReady};
 ghost use Rattle.fleet_cli.specs.declared.opened.Opened.TheVariants.{Answered};
 ghost use Rattle.fleet_model.specs.Legal.{IsAssignment};
 ghost use Rattle.fleet_model.specs.Limits.{AreSettings};
@@ -15,10 +16,11 @@ use crate::answer::Answer;
 use crate::contents::Contents;
 use crate::judging::tell_verdict;
 use crate::loading::{Loaded, load_tables};
-use crate::opened::{Checking, Opened};
+use crate::opened::{Checking, Opened, Question};
 use crate::refusing::{plan_fault, proof_fault};
 use crate::status::{DONE, REFUSED};
 use crate::texts::checked_line;
+use crate::what_if::ask_tree;
 use bound_cert::{CertError, Proof, read_proof};
 use cert_check::{Checked, check_with_cost};
 use dual_bound::Tree;
@@ -40,71 +42,112 @@ pub fn open_check(
 {
     match load_tables(alloc, reading, contents)? {
         Loaded::Refused(answer) => Ok(Opened::Answered(answer)),
-        Loaded::Read(tables) => open_proof(alloc, tables, contents.proof.as_slice()),
+        Loaded::Read(tables) => {
+            open_proof(alloc, tables, Question::Holds, contents.proof.as_slice())
+        }
     }
 }
 
-/// What a proof comes to, by its bytes.
-fn open_proof(alloc: Global, tables: Tables, bytes: &[u8]) -> Result<Opened, NoMemory>
-    ensures { IfOk result (IsOpenedBy tables bytes.now) }
+/// What a proof comes to, by its bytes and by what is asked of its tree.
+pub fn open_proof(
+    alloc: Global,
+    tables: Tables,
+    asks: Question,
+    bytes: &[u8],
+) -> Result<Opened, NoMemory>
+    requires { CanAsk tables asks }
+    ensures { IfOk result (IsOpenedBy tables asks bytes.now) }
 {
     match read_proof(alloc, &tables, bytes) {
-        Ok(proof) => open_read(alloc, tables, proof),
+        Ok(proof) => open_read(alloc, tables, asks, proof),
         Err(CertError::Fault(fault)) => answered(proof_fault(alloc, fault)),
         Err(CertError::NoMemory) => Err(NoMemory),
     }
 }
 
 /// What a proof that reads comes to.
-fn open_read(alloc: Global, tables: Tables, proof: Proof) -> Result<Opened, NoMemory>
-    requires { IsOfTables tables proof.tree }
-    ensures { (text : List ℕ) → ReadsAs tables text proof → IfOk result (IsOpenedBy tables text) }
+fn open_read(
+    alloc: Global,
+    tables: Tables,
+    asks: Question,
+    proof: Proof,
+) -> Result<Opened, NoMemory>
+    requires known { IsOfTables tables proof.tree }
+    requires can { CanAsk tables asks }
+    ensures { (text : List ℕ) → ReadsAs tables text proof → IfOk result (IsOpenedBy tables asks text) }
 {
     if proof.planned {
-        Ok(Opened::WantsPlan(Checking { tables, proof }))
+        Ok(Opened::WantsPlan(Checking {
+            tables,
+            proof,
+            asks,
+        }))
     } else {
-        answered(check_tree(alloc, &tables, None, &proof.tree))
+        answered(tell_tree(alloc, &tables, asks, None, &proof.tree))
     }
 }
 
 /// An answer, where there was memory for it, as what the first files come to.
-fn answered(answer: Result<Answer, NoMemory>) -> Result<Opened, NoMemory>
+pub fn answered(answer: Result<Answer, NoMemory>) -> Result<Opened, NoMemory>
     ensures { IfOk result (λ opened. IsOkAnd answer (λ given. opened ≡ Answered given)) }
 {
     Ok(Opened::Answered(answer?))
 }
 
-/// Checks a tree with a plan, by the plan's bytes. The plan is judged before the tree.
-pub fn check_plan(
-    alloc: Global,
-    tables: &Tables,
-    tree: &Tree,
-    bytes: &[u8],
-) -> Result<Answer, NoMemory>
-    requires { IsOfTables tables.now tree.now }
-    ensures { IfOk result (ChecksProof tables.now true tree.now bytes.now) }
+/// Tells what is asked of a proof that comes with a plan, by the plan's bytes. The plan is judged before the tree.
+pub fn tell_with_plan(alloc: Global, checking: &Checking, bytes: &[u8]) -> Result<Answer, NoMemory>
+    requires { IsReady checking.now }
+    ensures { IfOk result (TellsProof checking.now.tables checking.now.asks true checking.now.proof.tree bytes.now) }
 {
-    match read_plan(alloc, tables, bytes) {
-        Ok(plan) => check_judged(alloc, tables, tree, &plan),
+    match read_plan(alloc, &checking.tables, bytes) {
+        Ok(plan) => tell_judged(
+            alloc,
+            &checking.tables,
+            checking.asks,
+            &checking.proof.tree,
+            &plan,
+        ),
         Err(PlanError::Fault(fault)) => plan_fault(alloc, fault),
         Err(PlanError::NoMemory) => Err(NoMemory),
     }
 }
 
-/// Checks a tree with a plan where the plan is legal; else tells its verdict.
-fn check_judged(
+/// Tells what is asked of a tree with a plan where the plan is legal; else tells its verdict.
+fn tell_judged(
     alloc: Global,
     tables: &Tables,
+    asks: Question,
     tree: &Tree,
     plan: &Assignment,
 ) -> Result<Answer, NoMemory>
-    requires tree { IsOfTables tables.now tree.now }
+    requires known { IsOfTables tables.now tree.now }
+    requires can { CanAsk tables.now asks }
     requires plan { IsAssignment tables.now plan.now }
-    ensures { IfOk result (OnLegal tables.now (ChecksWith tables.now tree.now) plan.now) }
+    ensures { IfOk result (OnLegal tables.now (TellsWith tables.now asks tree.now) plan.now) }
 {
     match judge(tables, plan) {
-        Verdict::Legal { cost } => check_tree(alloc, tables, Some(cost), tree),
+        Verdict::Legal { cost } => tell_tree(alloc, tables, asks, Some(cost), tree),
         verdict => tell_verdict(alloc, tables, plan, verdict),
+    }
+}
+
+/// Tells what is asked of a tree with the cost of the legal plan that comes with it, if any.
+fn tell_tree(
+    alloc: Global,
+    tables: &Tables,
+    asks: Question,
+    cost: Option<i128>,
+    tree: &Tree,
+) -> Result<Answer, NoMemory>
+    requires known { IsOfTables tables.now tree.now }
+    requires can { CanAsk tables.now asks }
+    ensures { IfOk result (TellsTree tables.now asks cost tree.now) }
+{
+    match asks {
+        Question::Holds => check_tree(alloc, tables, cost, tree),
+        Question::OtherSize { fleet, count } => {
+            ask_tree(alloc, tables, fleet, count, cost, tree)
+        }
     }
 }
 

@@ -14,6 +14,7 @@ use crate::opened::Opened;
 use crate::placing::due_of_contents;
 use crate::solving::solve_contents;
 use crate::telling::tails_of_contents;
+use crate::what_if::open_whatif;
 use command_words::Command;
 use entries::NoMemory;
 use plan_desk::DeskFile;
@@ -29,7 +30,8 @@ pub fn folder<'a>(command: &Command<'a>) -> &'a str
         | Command::Check { dir, .. }
         | Command::Tails { dir, .. }
         | Command::Due { dir, .. }
-        | Command::Make { dir, .. } => *dir,
+        | Command::Make { dir, .. }
+        | Command::Whatif { dir, .. } => *dir,
     }
 }
 
@@ -41,7 +43,7 @@ pub fn first_files(command: &Command<'_>) -> FileList
         Command::Judge { .. } | Command::Tails { .. } => FileList::tables_and(DeskFile::Plan),
         Command::Due { .. } => FileList::tables_and_tails(),
         Command::Solve { .. } => FileList::tables(),
-        Command::Check { .. } => FileList::tables_and(DeskFile::Proof),
+        Command::Check { .. } | Command::Whatif { .. } => FileList::tables_and(DeskFile::Proof),
         Command::Make { .. } => FileList::empty(),
     }
 }
@@ -99,5 +101,11 @@ fn outcome_of(alloc: Global, command: &Command<'_>, contents: &Contents) -> Resu
             let answer = make_and_solve(alloc, *number, *legs)?;
             Ok(Opened::Answered(answer))
         }
+        Command::Whatif {
+            reading,
+            fleet,
+            count,
+            ..
+        } => open_whatif(alloc, *reading, *fleet, *count, contents),
     }
 }

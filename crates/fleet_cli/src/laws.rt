@@ -4,6 +4,7 @@ ghost use Rattle.fleet_cli.specs.Laws.{OneAnswer};
 ghost use Rattle.fleet_cli.specs.MadeSolved.{MadeIsSolved};
 ghost use Rattle.fleet_cli.specs.SolvedChecked.{SolvedIsChecked};
 ghost use Rattle.fleet_cli.specs.declared.status.TheConstants.{BAD_INPUT, DONE, FAULT, GAP, INFEASIBLE, NO_MEMORY, REFUSED, UNPLACED, UNSETTLED, USAGE};
+ghost use Rattle.fleet_cli.specs.declared.status.TheConstants.{BAD_INPUT, DONE, FALLEN, FAULT, GAP, INFEASIBLE, NO_MEMORY, REFUSED, UNSETTLED, USAGE};
 
 /// What is held and what is asked fix the status and the text, so that each status comes exactly by its cause.
 pub fn one_answer()
@@ -35,4 +36,5 @@ pub fn statuses_in_numbers()
     ensures no_memory { NO_MEMORY ≡ 8 }
     ensures refused { REFUSED ≡ 9 }
     ensures unplaced { UNPLACED ≡ 10 }
+    ensures fallen { FALLEN ≡ 11 }
 {}

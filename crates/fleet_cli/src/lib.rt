@@ -22,11 +22,13 @@ mod solving;
 mod status;
 mod telling;
 mod texts;
+mod what_if;
 mod writing;
 
 pub use calling::program;
 pub use running::run;
 pub use status::{
-    BAD_INPUT, DONE, FAULT, GAP, INFEASIBLE, NO_MEMORY, REFUSED, Status, UNPLACED, UNSETTLED, USAGE,
+    BAD_INPUT, DONE, FALLEN, FAULT, GAP, INFEASIBLE, NO_MEMORY, REFUSED, Status, UNPLACED,
+    UNSETTLED, USAGE,
 };
 pub use texts::USAGE_LINE;

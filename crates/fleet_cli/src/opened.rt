@@ -7,13 +7,23 @@ use fleet_model::Tables;
 pub enum Opened {
     /// The answer.
     Answered(Answer),
-    /// A proof that is to be checked with a plan, whose file is still to be read.
+    /// A proof that comes with a plan, whose file is still to be read.
     WantsPlan(Checking),
 }
 
-/// A proof, and the tables that it is of.
+/// What is asked of the tree of a proof.
+#[derive(Clone, Copy)]
+pub enum Question {
+    /// Whether it holds.
+    Holds,
+    /// What it says of the tables in which this fleet has so many aircraft.
+    OtherSize { fleet: u32, count: u32 },
+}
+
+/// A proof, the tables that it is of, and what is asked of it.
 #[derive(Drop)]
 pub struct Checking {
     pub tables: Tables,
     pub proof: Proof,
+    pub asks: Question,
 }

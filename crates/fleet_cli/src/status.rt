@@ -29,8 +29,11 @@ pub const FAULT: u8 = 7;
 /// Want of memory.
 pub const NO_MEMORY: u8 = 8;
 
-/// A plan is refused.
+/// A plan or a proof is refused, or a fleet is unknown.
 pub const REFUSED: u8 = 9;
 
 /// A fleet's tails are not as many as its aircraft, or can't all come to maintenance in time.
 pub const UNPLACED: u8 = 10;
+
+/// A proof says nothing of another number of aircraft: a leaf that it refutes isn't refuted there.
+pub const FALLEN: u8 = 11;

@@ -1,13 +1,13 @@
 //! What a run prints.
 ghost use Rattle.std.specs.Prelude.{◌≡◌, ◌++◌, ◌<◌, [], ◌∷◌, IfOk, codes, map};
 ghost use Rattle.std.specs.Fmt.{decimal, signed_decimal};
-ghost use Rattle.fleet_cli.specs.Texts.{bad_input_text, bound_text, checked_text, fault_text, plan_refused_text, proof_refused_text, verdict_text};
+ghost use Rattle.fleet_cli.specs.Texts.{bad_input_text, bound_text, broken_text, checked_text, fault_text, plan_refused_text, proof_refused_text, unknown_fleet_text, verdict_text, what_if_text};
 ghost use Rattle.fleet_model.specs.Legal.{IsAssignment};
 ghost use Rattle.fleet_model.specs.Schedule.{fleet_of, fleets_in, station_of, stations_in};
 ghost use Rattle.plan_judge.specs.Verdicts.{IsVerdict};
 ghost use Rattle.rotation_report.specs.TextLines.{fleet_lines, line_of};
 
-use cert_check::Checked;
+use cert_check::{Checked, WhatIf};
 use entries::NoMemory;
 use fleet_model::{Assignment, Tables};
 use plan_desk::DeskFile;
@@ -16,7 +16,8 @@ use rotation_report::text_lines::{push_fleets, push_line};
 use std::alloc::Global;
 
 /// The line of a call whose words match no command.
-pub const USAGE_LINE: &[u8] = b"usage: fleetplan judge|solve|check|make|tails|due DIR [options]\n";
+pub const USAGE_LINE: &[u8] =
+    b"usage: fleetplan judge|solve|check|make|tails|due|whatif DIR [options]\n";
 
 /// The line of pieces.
 fn line(alloc: Global, pieces: &[&[u8]]) -> Result<Vec<u8>, NoMemory>
@@ -263,8 +264,78 @@ fn bound_line(alloc: Global, cost: Option<i128>, bound: i128) -> Result<Vec<u8>,
 }
 
 /// `broken: node N rule R`.
-fn broken(alloc: Global, node: u64, rule: u8) -> Result<Vec<u8>, NoMemory>
-    ensures { IfOk result (λ text. text.items ≡ line_of (codes "broken: node " ∷ decimal node ∷ codes " rule " ∷ decimal rule ∷ [])) }
+pub fn broken(alloc: Global, node: u64, rule: u8) -> Result<Vec<u8>, NoMemory>
+    ensures { IfOk result (λ text. text.items ≡ broken_text node rule) }
 {
     two_numbers(alloc, b"broken: node ", node, b" rule ", rule)
+}
+
+/// `unknown fleet: FLEET`.
+pub fn unknown_fleet(alloc: Global, name: &str) -> Result<Vec<u8>, NoMemory>
+    ensures { IfOk result (λ text. text.items ≡ unknown_fleet_text name.now) }
+{
+    line(alloc, &[b"unknown fleet: ".as_slice(), name.as_bytes()])
+}
+
+/// What is printed of the tables with so many aircraft of a fleet.
+pub fn what_if_line(
+    alloc: Global,
+    tables: &Tables,
+    fleet: u32,
+    count: u32,
+    what: WhatIf,
+) -> Result<Vec<u8>, NoMemory>
+    requires { fleet < fleets_in tables.now }
+    ensures { IfOk result (λ text. text.items ≡ what_if_text (fleet_of tables.now fleet).name count what) }
+{
+    let name = tables.fleet(fleet).name.as_slice();
+    match what {
+        WhatIf::Fallen { node } => fallen(alloc, node),
+        WhatIf::NoPlan => none_there(alloc, name, count),
+        WhatIf::Bound(bound) => bound_there(alloc, name, count, bound),
+    }
+}
+
+/// `fallen: node N`.
+fn fallen(alloc: Global, node: u64) -> Result<Vec<u8>, NoMemory>
+    ensures { IfOk result (λ text. text.items ≡ line_of (codes "fallen: node " ∷ decimal node ∷ [])) }
+{
+    let node = node.to_string(alloc)?;
+    line(alloc, &[b"fallen: node ".as_slice(), node.as_bytes()])
+}
+
+/// `whatif FLEET COUNT: infeasible`.
+fn none_there(alloc: Global, name: &[u8], count: u32) -> Result<Vec<u8>, NoMemory>
+    ensures { IfOk result (λ text. text.items ≡ line_of (codes "whatif " ∷ name.now ∷ codes " " ∷ decimal count ∷ codes ": infeasible" ∷ [])) }
+{
+    let count = count.to_string(alloc)?;
+    line(
+        alloc,
+        &[
+            b"whatif ".as_slice(),
+            name,
+            b" ".as_slice(),
+            count.as_bytes(),
+            b": infeasible".as_slice(),
+        ],
+    )
+}
+
+/// `whatif FLEET COUNT: bound B`.
+fn bound_there(alloc: Global, name: &[u8], count: u32, bound: i128) -> Result<Vec<u8>, NoMemory>
+    ensures { IfOk result (λ text. text.items ≡ line_of (codes "whatif " ∷ name.now ∷ codes " " ∷ decimal count ∷ codes ": bound " ∷ signed_decimal bound ∷ [])) }
+{
+    let count = count.to_string(alloc)?;
+    let bound = bound.to_string(alloc)?;
+    line(
+        alloc,
+        &[
+            b"whatif ".as_slice(),
+            name,
+            b" ".as_slice(),
+            count.as_bytes(),
+            b": bound ".as_slice(),
+            bound.as_bytes(),
+        ],
+    )
 }

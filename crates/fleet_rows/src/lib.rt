@@ -59,6 +59,8 @@ mod searching;
 #[cfg(test)]
 mod second_runs;
 #[cfg(test)]
+mod sizes;
+#[cfg(test)]
 mod solving;
 #[cfg(test)]
 mod stations;

@@ -17,3 +17,5 @@ pub const FAULT: u8 = 7;
 pub const REFUSED: u8 = 9;
 
 pub const UNPLACED: u8 = 10;
+
+pub const FALLEN: u8 = 11;

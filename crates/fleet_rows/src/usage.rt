@@ -10,7 +10,7 @@ use std::test::Fail;
 const REFUSED_WORDS: Writing = (
     &[],
     USAGE,
-    b"usage: fleetplan judge|solve|check|make|tails|due DIR [options]\n",
+    b"usage: fleetplan judge|solve|check|make|tails|due|whatif DIR [options]\n",
     &[],
 );
 
@@ -164,6 +164,29 @@ const NOTHING_TO_MAKE: &[&str] = &[
     "fleetplan make d 1 2 --help",
 ];
 
+// No number of aircraft up to 500, and no option but those of reading.
+const NOTHING_TO_ASK: &[&str] = &[
+    "fleetplan whatif",
+    "fleetplan whatif d",
+    "fleetplan whatif d F1",
+    "fleetplan whatif d F1 1 more",
+    "fleetplan whatif d 1 F1",
+    "fleetplan whatif d F1 501",
+    "fleetplan whatif d F1 -1",
+    "fleetplan whatif d F1 +1",
+    "fleetplan whatif d F1 one",
+    "fleetplan whatif d F1 000000000000000000001",
+    "fleetplan whatif d --fleet F1 1",
+    "fleetplan whatif d F1 1 --day-start 24:00",
+    "fleetplan whatif d F1 1 --period 8",
+    "fleetplan whatif d F1 1 --through-max 60",
+    "fleetplan whatif d F1 1 --days 3",
+    "fleetplan whatif d F1 1 --nodes 1",
+    "fleetplan whatif d F1 1 --json",
+    "fleetplan whatif d F1 1 --help",
+    "fleetplan what-if d F1 1",
+];
+
 // No number of dates, no day of the calendar, and dates that end after it does.
 const NO_DATES: &[&str] = &[
     "fleetplan tails d 2025-02-28 0",
@@ -241,6 +264,8 @@ const FOLDERS_WITH_A_DASH: &[&str] = &[
     "fleetplan tails - 2025-02-28 1",
     "fleetplan due - 2025-02-28 1",
     "fleetplan tails -- -d 2025-02-28 1",
+    "fleetplan whatif - F1 1",
+    "fleetplan whatif -- -d F1 1",
 ];
 
 // Runs the words of each line.
@@ -277,6 +302,11 @@ fn lines_without_rotations(rt: HostRuntime) -> Result<(), Fail> {
 fn lines_without_dates(rt: HostRuntime) -> Result<(), Fail> {
     run_lines(&rt, NOTHING_TO_FLY, REFUSED_WORDS)?;
     run_lines(&rt, NO_DATES, REFUSED_WORDS)
+}
+
+#[test]
+fn lines_without_another_size(rt: HostRuntime) -> Result<(), Fail> {
+    run_lines(&rt, NOTHING_TO_ASK, REFUSED_WORDS)
 }
 
 #[test]

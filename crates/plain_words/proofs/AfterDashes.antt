@@ -1,7 +1,7 @@
 -- What words ask for, computed by clap's definition.
 use Rattle.std.proofs.Common.{refl}
 use Rattle.clap.proofs.OnLiterals.{clap_on_literals}
-use Rattle.plain_words.specs.Plain.{ChecksByDefault, ChecksFrom, DueByDefault, DueWithin, JudgesByDefault, JudgesFrom, MakesByDefault, MakesWithoutOptions, SolvesByDefault, SolvesWithin, TailsByDefault, TailsWithin}
+use Rattle.plain_words.specs.Plain.{AsksByDefault, AsksFrom, ChecksByDefault, ChecksFrom, DueByDefault, DueWithin, JudgesByDefault, JudgesFrom, MakesByDefault, MakesWithoutOptions, SolvesByDefault, SolvesWithin, TailsByDefault, TailsWithin}
 use Rattle.command_line.specs.Found.{found}
 use Rattle.command_line.specs.Program.{our_app}
 use Rattle.command_words.specs.Words.{asked}
@@ -62,3 +62,11 @@ makes_without_options = record {
   pivots = λ program text dir number legs. refl;
   json = λ program dir number legs. refl;
 }
+
+pub asks_by_default : AsksByDefault
+unfolding asked found our_app clap_on_literals
+asks_by_default program dir fleet count = refl
+
+pub asks_from : AsksFrom
+unfolding asked found our_app clap_on_literals
+asks_from program time period dir fleet count = refl

@@ -7,7 +7,7 @@ use Rattle.clap.specs.Kinds.{Kinds, or_else}
 use Rattle.clap.specs.Simple.{App, Shape, built, entered, names_of, subcommand_of}
 use Rattle.clap.specs.Walk.{Names, Rule, Text, Walk, finished, nothing_held, settled, walk_from, walked}
 use Rattle.command_line.specs.Found.{found}
-use Rattle.command_line.specs.Program.{check_app, due_app, judge_app, make_app, our_app, solve_app, tails_app}
+use Rattle.command_line.specs.Program.{check_app, due_app, judge_app, make_app, our_app, solve_app, tails_app, whatif_app}
 use Rattle.command_words.specs.Words.{asked}
 use Rattle.plain_words.proofs.Fails.{Fails, asks_nothing, first_fails}
 use Rattle.plain_words.proofs.PlainFolder.{built_command}
@@ -77,3 +77,7 @@ due_entered = record { starts = λ program words. refl; enters = λ words. refl 
 pub make_entered : IsEntered (codes "make") (built_command make_app)
 unfolding our_app clap_on_literals
 make_entered = record { starts = λ program words. refl; enters = λ words. refl }
+
+pub whatif_entered : IsEntered (codes "whatif") (built_command whatif_app)
+unfolding our_app clap_on_literals
+whatif_entered = record { starts = λ program words. refl; enters = λ words. refl }

@@ -8,5 +8,6 @@ pub mod PlainDue
 pub mod PlainFolder
 pub mod PlainMake
 pub mod PlainTails
+pub mod PlainWhatIf
 pub mod PlainWords
 pub mod Twice

@@ -10,9 +10,9 @@ use Rattle.clap.specs.Faults.{flag_word_fault, long_fault, settle_fault}
 use Rattle.clap.specs.Lexer.{has_byte, long_of}
 use Rattle.clap.specs.Simple.{Shape, filled, filled_from, help_rule}
 use Rattle.clap.specs.Walk.{Held, Rule, Text, arg_by_long, has_long, nothing_held, walk_from}
-use Rattle.command_line.specs.Program.{check_app, due_app, judge_app, make_app, our_app, solve_app, tails_app}
+use Rattle.command_line.specs.Program.{check_app, due_app, judge_app, make_app, our_app, solve_app, tails_app, whatif_app}
 use Rattle.plain_words.specs.Refusals.{TakeOwnOptions, TakesNoValue, TakesOnly, ends_name, is_one_of, is_option_name, solve_flags, solve_options, table_options, tails_options}
-use Rattle.plain_words.proofs.Entered.{IsEntered, check_entered, due_entered, fails_within, judge_entered, make_entered, solve_entered, tails_entered}
+use Rattle.plain_words.proofs.Entered.{IsEntered, check_entered, due_entered, fails_within, judge_entered, make_entered, solve_entered, tails_entered, whatif_entered}
 use Rattle.plain_words.proofs.Fails.{Fails, GoesOn, is_untrailed, not_false, reaches, second_fails, stays_on, word_refused}
 use Rattle.plain_words.proofs.PlainFolder.{built_command}
 
@@ -147,6 +147,10 @@ make_has : HasOptions [] (built_command make_app)
 unfolding our_app clap_on_literals
 make_has = record { own = filled_from 1 make_app.top.rules; rules = refl; all = refl; untrailed = refl }
 
+whatif_has : HasOptions table_options (built_command whatif_app)
+unfolding our_app clap_on_literals
+whatif_has = record { own = filled_from 1 whatif_app.top.rules; rules = refl; all = refl; untrailed = refl }
+
 pub own_options : TakeOwnOptions
 own_options = record {
   judge = takes_only (codes "judge") table_options (built_command judge_app) judge_entered judge_has;
@@ -155,6 +159,7 @@ own_options = record {
   tails = takes_only (codes "tails") tails_options (built_command tails_app) tails_entered tails_has;
   due = takes_only (codes "due") tails_options (built_command due_app) due_entered due_has;
   make = takes_only (codes "make") [] (built_command make_app) make_entered make_has;
+  whatif = takes_only (codes "whatif") table_options (built_command whatif_app) whatif_entered whatif_has;
 }
 
 -- ---- a flag with a value

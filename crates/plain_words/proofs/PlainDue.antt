@@ -5,7 +5,7 @@ use Rattle.clap.specs.Simple.{Shape}
 use Rattle.clap.specs.Walk.{Text, nothing_held, walk}
 use Rattle.command_words.specs.Arguments.{count_read, dates_at}
 use Rattle.calendar_dates.specs.Reading.{date_read}
-use Rattle.plain_words.specs.Plain.{DuePlainly, default_rotations, default_reading}
+use Rattle.plain_words.specs.Plain.{DuePlainly, default_reading, default_rotations}
 use Rattle.command_line.specs.Found.{found}
 use Rattle.command_line.specs.Program.{due_app, our_app}
 use Rattle.command_words.specs.Words.{asked, due_at}

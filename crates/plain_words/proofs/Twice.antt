@@ -9,13 +9,13 @@ use Rattle.clap.specs.Faults.{flag_word_fault, long_fault, settle_fault, turn_fa
 use Rattle.clap.specs.Kinds.{Kinds, or_else, range_kinds}
 use Rattle.clap.specs.Lexer.{long_of}
 use Rattle.clap.specs.Simple.{Shape, filled}
-use Rattle.clap.specs.Walk.{Held, Rule, Text, Walk, after_flag, after_step, arg_by_long, has_row, idle, long_met, long_or_other, most_values, values_or_missing, nothing_held, reacted, settled, walk_from, walked, without}
+use Rattle.clap.specs.Walk.{Held, Rule, Text, Walk, after_flag, after_step, arg_by_long, has_row, idle, long_met, long_or_other, most_values, nothing_held, reacted, settled, values_or_missing, walk_from, walked, without}
 use Rattle.clap.specs.declared.error.kind.ErrorKind.TheVariants as kind
-use Rattle.command_line.specs.Program.{check_app, due_app, flag_named, judge_app, option_named, our_app, solve_app, tails_app}
+use Rattle.command_line.specs.Program.{check_app, due_app, flag_named, judge_app, option_named, our_app, solve_app, tails_app, whatif_app}
 use Rattle.plain_words.specs.Refusals.{TakeOptionsOnce, TakesEachOnce, TakesFlagOnce, has_dashes, is_one_of, is_option_name, solve_options, table_options, tails_options}
 use Rattle.command_words.specs.Words.{asked}
 use Rattle.std.proofs.lemmas.Bool.{and_parts, or_cases, true≢false}
-use Rattle.plain_words.proofs.Entered.{IsEntered, check_entered, due_entered, fails_within, judge_entered, solve_entered, tails_entered}
+use Rattle.plain_words.proofs.Entered.{IsEntered, check_entered, due_entered, fails_within, judge_entered, solve_entered, tails_entered, whatif_entered}
 use Rattle.plain_words.proofs.Fails.{Fails, GoesOn, first_fails, is_untrailed, reaches, second_fails, stays_on, walked_is, word_refused}
 use Rattle.plain_words.proofs.GivenRows.{IsGiven, settled_has, stays_given, values_come}
 use Rattle.plain_words.proofs.OwnOptions.{option_is_on, option_reads, option_word}
@@ -164,6 +164,10 @@ due_has : HasAll (built_command due_app) tails_options
 unfolding our_app clap_on_literals
 due_has = record { untrailed = refl; once = refl; named = refl; found = (refl, (refl, (refl, (refl, (refl, tt))))) }
 
+whatif_has : HasAll (built_command whatif_app) table_options
+unfolding our_app clap_on_literals
+whatif_has = record { untrailed = refl; once = refl; named = refl; found = (refl, (refl, tt)) }
+
 json_is : IsFlag (built_command solve_app) (codes "json")
 unfolding our_app clap_on_literals
 json_is = record { found = refl; reads = refl; no_dashes = refl; once = refl }
@@ -181,5 +185,6 @@ options_once = record {
   check = takes_each_once (codes "check") (built_command check_app) table_options check_entered check_has;
   tails = takes_each_once (codes "tails") (built_command tails_app) tails_options tails_entered tails_has;
   due = takes_each_once (codes "due") (built_command due_app) tails_options due_entered due_has;
+  whatif = takes_each_once (codes "whatif") (built_command whatif_app) table_options whatif_entered whatif_has;
   json = json_once;
 }

@@ -3,10 +3,10 @@
 use Rattle.std.specs.Prelude.{◌≡◌, ◌==◌, ◌||◌, Bool, true, false, not, [], ◌∷◌, ◌++◌, Option, Some, None, codes}
 use Rattle.clap.specs.Words.{Text}
 use Rattle.fleet_model.specs.declared.options.TableOptions.{TableOptions}
-use Rattle.command_words.specs.Arguments.{count_read, dates_at, legs_read, made_number_read, options_at, reading_at, rotations_at, search_at, settings_at}
+use Rattle.command_words.specs.Arguments.{aircraft_read, count_read, dates_at, legs_read, made_number_read, options_at, reading_at, rotations_at, search_at, settings_at}
 use Rattle.calendar_dates.specs.Reading.{date_read}
 use Rattle.command_words.specs.Values.{minute_read, number_read}
-use Rattle.command_words.specs.Words.{asked, check_at, due_at, judge_at, make_at, solve_at, tails_at}
+use Rattle.command_words.specs.Words.{asked, check_at, due_at, judge_at, make_at, solve_at, tails_at, whatif_at}
 use Rattle.command_words.specs.declared.command.RotationLimits.{RotationLimits}
 use Rattle.command_words.specs.declared.command.SolveOptions.{SolveOptions}
 use Rattle.command_words.specs.declared.command.TheConstants.{DEFAULT_OPTIONS, DEFAULT_READING, DEFAULT_THROUGH_MAX, MAX_DAYS, MAX_NODES, MAX_PERIOD, MAX_PIVOTS, MAX_THROUGH_MAX, MAX_VISITS, MIN_DAYS, MIN_PERIOD}
@@ -79,6 +79,11 @@ abbrev pub MakesPlainly : Type 0
 MakesPlainly = (program dir number legs : Text) → is_plain_name dir ≡ true → is_plain_name number ≡ true → is_plain_name legs ≡ true
     → asked (program ∷ codes "make" ∷ dir ∷ number ∷ legs ∷ []) ≡ make_at (made_number_read number) (legs_read legs) dir
 
+-- whatif DIR FLEET COUNT
+abbrev pub AsksPlainly : Type 0
+AsksPlainly = (program dir fleet count : Text) → is_plain_name dir ≡ true → is_plain_name fleet ≡ true → is_plain_name count ≡ true
+    → asked (program ∷ codes "whatif" ∷ dir ∷ fleet ∷ count ∷ []) ≡ whatif_at default_reading (Some fleet) (aircraft_read count) dir
+
 -- ---- words behind `--`
 
 -- judge -- DIR
@@ -144,6 +149,17 @@ DueWithin = (program time period wait days visits dir date count : Text)
 abbrev pub MakesByDefault : Type 0
 MakesByDefault = (program dir number legs : Text) → asked (program ∷ codes "make" ∷ codes "--" ∷ dir ∷ number ∷ legs ∷ [])
     ≡ make_at (made_number_read number) (legs_read legs) dir
+
+-- whatif -- DIR FLEET COUNT
+abbrev pub AsksByDefault : Type 0
+AsksByDefault = (program dir fleet count : Text) → asked (program ∷ codes "whatif" ∷ codes "--" ∷ dir ∷ fleet ∷ count ∷ [])
+    ≡ whatif_at default_reading (Some fleet) (aircraft_read count) dir
+
+-- whatif --day-start=HH:MM --period=P -- DIR FLEET COUNT
+abbrev pub AsksFrom : Type 0
+AsksFrom = (program time period dir fleet count : Text)
+    → asked (program ∷ codes "whatif" ∷ (codes "--day-start=" ++ time) ∷ (codes "--period=" ++ period) ∷ codes "--" ∷ dir ∷ fleet ∷ count ∷ [])
+    ≡ whatif_at (reading_from time period) (Some fleet) (aircraft_read count) dir
 
 -- make takes none of the other commands' options: --day-start=HH:MM, --period=P, --through-max=M, --days=D, --visits=V, --nodes=N, --pivots=P
 abbrev pub MakesWithoutOption : Text → Type 0

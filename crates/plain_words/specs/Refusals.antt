@@ -20,7 +20,7 @@ is_one_of name names = list_any (λ other. bytes_eq other name) names
 
 -- the commands' names
 abbrev pub commands : List Text
-commands = codes "judge" ∷ codes "solve" ∷ codes "check" ∷ codes "tails" ∷ codes "due" ∷ codes "make" ∷ []
+commands = codes "judge" ∷ codes "solve" ∷ codes "check" ∷ codes "tails" ∷ codes "due" ∷ codes "make" ∷ codes "whatif" ∷ []
 
 -- a first word that is no command's name, as `help`, `--help` or `--`, whatever follows
 abbrev pub OtherWordsAskNothing : Type 0
@@ -98,6 +98,7 @@ pub record TakeOwnOptions : Type 0 where
   pub tails : TakesOnly (codes "tails") tails_options
   pub due : TakesOnly (codes "due") tails_options
   pub make : TakesOnly (codes "make") []
+  pub whatif : TakesOnly (codes "whatif") table_options
 
 -- each command takes each of its options once at most
 pub record TakeOptionsOnce : Type 0 where
@@ -106,4 +107,5 @@ pub record TakeOptionsOnce : Type 0 where
   pub check : TakesEachOnce (codes "check") table_options
   pub tails : TakesEachOnce (codes "tails") tails_options
   pub due : TakesEachOnce (codes "due") tails_options
+  pub whatif : TakesEachOnce (codes "whatif") table_options
   pub json : TakesFlagOnce (codes "solve") (codes "json")

@@ -1,6 +1,6 @@
 //! The laws of words: each contract is the statement, and the functions do nothing.
 ghost use Rattle.std.specs.Prelude.{codes};
-ghost use Rattle.plain_words.specs.Plain.{ChecksByDefault, ChecksFrom, ChecksPlainly, DueByDefault, DuePlainly, DueWithin, JudgesByDefault, JudgesFrom, JudgesPlainly, MakesByDefault, MakesPlainly, MakesWithoutOptions, SolvesByDefault, SolvesPlainly, SolvesWithin, TailsByDefault, TailsPlainly, TailsWithin};
+ghost use Rattle.plain_words.specs.Plain.{AsksByDefault, AsksFrom, AsksPlainly, ChecksByDefault, ChecksFrom, ChecksPlainly, JudgesByDefault, JudgesFrom, JudgesPlainly, MakesByDefault, MakesPlainly, MakesWithoutOptions, SolvesByDefault, SolvesPlainly, SolvesWithin, TailsByDefault, TailsPlainly, TailsWithin, DueByDefault, DuePlainly, DueWithin};
 ghost use Rattle.plain_words.specs.Refusals.{NameAloneAsksNothing, NoWordsAskNothing, OtherWordsAskNothing, TakeOptionsOnce, TakeOwnOptions, TakesNoValue};
 
 /// What the definition of a match comes to, for words that don't begin with a dash, or are a dash alone; for
@@ -12,6 +12,7 @@ pub fn plain_reading()
     ensures tails_plainly { TailsPlainly }
     ensures due_plainly { DuePlainly }
     ensures makes_plainly { MakesPlainly }
+    ensures asks_plainly { AsksPlainly }
     ensures judges_by_default { JudgesByDefault }
     ensures judges_from { JudgesFrom }
     ensures solves_by_default { SolvesByDefault }
@@ -24,6 +25,8 @@ pub fn plain_reading()
     ensures due_within { DueWithin }
     ensures makes_by_default { MakesByDefault }
     ensures makes_without_options { MakesWithoutOptions }
+    ensures asks_by_default { AsksByDefault }
+    ensures asks_from { AsksFrom }
 {}
 
 /// What asks for nothing, whatever other words stand there: no command, another option than the command's own, one

@@ -38,7 +38,7 @@ returns-in-Answered-clause-stays_steady g c = c.in-Ok.ensures.stays_steady
 -- ---- they ask for the plan
 
 pub answer_with_plan-requires : goal.answer_with_plan-requires
-answer_with_plan-requires g c = let awaits = rw c.in-WantsPlan.is at c.in_ok-answer-in-Ok.ensures in awaits.of_tables
+answer_with_plan-requires g c = let awaits = rw c.in-WantsPlan.is at c.in_ok-answer-in-Ok.ensures in awaits.ready
 
 pub returns-in-WantsPlan-clause-told : goal.returns-in-WantsPlan-clause-told
 returns-in-WantsPlan-clause-told g c =

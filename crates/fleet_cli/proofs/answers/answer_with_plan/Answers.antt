@@ -12,30 +12,30 @@ use Rattle.fleet_cli.proofs.answers.answer_with_plan.Goals as goal
 
 -- ---- the plan was read
 
-pub check_plan-requires : goal.check_plan-requires
-check_plan-requires g c = c.requires
+pub tell_with_plan-requires : goal.tell_with_plan-requires
+tell_with_plan-requires g c = c.requires
 
-pub returns-in_ok-check_plan-in-Ok-clause-told : goal.returns-in_ok-check_plan-in-Ok-clause-told
-returns-in_ok-check_plan-in-Ok-clause-told g c = λ call bytes there.
-    told_awaited _ call bytes there.first c.args.checking.now there.awaits c.in-Ok.plan _ (held_if _ _ file.Plan c.in-Ok.plan (rw there.folder at c.in-Ok.ensures.told) c.in-Ok.ensures.within) (rw c.as_slice.ensures at c.in_ok-check_plan-in-Ok.ensures)
+pub returns-in_ok-tell_with_plan-in-Ok-clause-told : goal.returns-in_ok-tell_with_plan-in-Ok-clause-told
+returns-in_ok-tell_with_plan-in-Ok-clause-told g c = λ call bytes there.
+    told_awaited _ call bytes there.first c.args.checking.now there.awaits c.in-Ok.plan _ (held_if _ _ file.Plan c.in-Ok.plan (rw there.folder at c.in-Ok.ensures.told) c.in-Ok.ensures.within) (rw c.as_slice.ensures at c.in_ok-tell_with_plan-in-Ok.ensures)
 
-pub returns-in_ok-check_plan-in-Ok-clause-some : goal.returns-in_ok-check_plan-in-Ok-clause-some
-returns-in_ok-check_plan-in-Ok-clause-some g c = λ call bytes awaits. inr (with_plan bytes c.in-Ok.plan, awaits.answers c.in-Ok.plan _ (rw c.as_slice.ensures at c.in_ok-check_plan-in-Ok.ensures))
+pub returns-in_ok-tell_with_plan-in-Ok-clause-some : goal.returns-in_ok-tell_with_plan-in-Ok-clause-some
+returns-in_ok-tell_with_plan-in-Ok-clause-some g c = λ call bytes awaits. inr (with_plan bytes c.in-Ok.plan, awaits.answers c.in-Ok.plan _ (rw c.as_slice.ensures at c.in_ok-tell_with_plan-in-Ok.ensures))
 
-pub returns-in_ok-check_plan-in-Ok-clause-holds : goal.returns-in_ok-check_plan-in-Ok-clause-holds
-returns-in_ok-check_plan-in-Ok-clause-holds g c = c.in-Ok.ensures.holds
+pub returns-in_ok-tell_with_plan-in-Ok-clause-holds : goal.returns-in_ok-tell_with_plan-in-Ok-clause-holds
+returns-in_ok-tell_with_plan-in-Ok-clause-holds g c = c.in-Ok.ensures.holds
 
-pub returns-in_ok-check_plan-in-Ok-clause-calls : goal.returns-in_ok-check_plan-in-Ok-clause-calls
-returns-in_ok-check_plan-in-Ok-clause-calls g c = c.in-Ok.ensures.calls
+pub returns-in_ok-tell_with_plan-in-Ok-clause-calls : goal.returns-in_ok-tell_with_plan-in-Ok-clause-calls
+returns-in_ok-tell_with_plan-in-Ok-clause-calls g c = c.in-Ok.ensures.calls
 
-pub returns-in_ok-check_plan-in-Ok-clause-faults : goal.returns-in_ok-check_plan-in-Ok-clause-faults
-returns-in_ok-check_plan-in-Ok-clause-faults g c = c.in-Ok.ensures.faults
+pub returns-in_ok-tell_with_plan-in-Ok-clause-faults : goal.returns-in_ok-tell_with_plan-in-Ok-clause-faults
+returns-in_ok-tell_with_plan-in-Ok-clause-faults g c = c.in-Ok.ensures.faults
 
-pub returns-in_ok-check_plan-in-Ok-clause-blamed : goal.returns-in_ok-check_plan-in-Ok-clause-blamed
-returns-in_ok-check_plan-in-Ok-clause-blamed g c = λ call bytes there. tt
+pub returns-in_ok-tell_with_plan-in-Ok-clause-blamed : goal.returns-in_ok-tell_with_plan-in-Ok-clause-blamed
+returns-in_ok-tell_with_plan-in-Ok-clause-blamed g c = λ call bytes there. tt
 
-pub returns-in_ok-check_plan-in-Ok-clause-stays_steady : goal.returns-in_ok-check_plan-in-Ok-clause-stays_steady
-returns-in_ok-check_plan-in-Ok-clause-stays_steady g c = c.in-Ok.ensures.stays_steady
+pub returns-in_ok-tell_with_plan-in-Ok-clause-stays_steady : goal.returns-in_ok-tell_with_plan-in-Ok-clause-stays_steady
+returns-in_ok-tell_with_plan-in-Ok-clause-stays_steady g c = c.in-Ok.ensures.stays_steady
 
 -- ---- reading it stopped
 
@@ -69,23 +69,23 @@ returns-in-Err-clause-stays_steady g c = c.in-Err.ensures.stays_steady
 
 -- ---- want of memory
 
-pub returns-in_err-check_plan-in-Ok-clause-told : goal.returns-in_err-check_plan-in-Ok-clause-told
-returns-in_err-check_plan-in-Ok-clause-told g c = λ call bytes there. let p = err_from_is_err_and c.from_residual.result c.from_residual.ensures.1 in lacking_told c.from_residual.result p.0 p.1 p.2 _ call
+pub returns-in_err-tell_with_plan-in-Ok-clause-told : goal.returns-in_err-tell_with_plan-in-Ok-clause-told
+returns-in_err-tell_with_plan-in-Ok-clause-told g c = λ call bytes there. let p = err_from_is_err_and c.from_residual.result c.from_residual.ensures.1 in lacking_told c.from_residual.result p.0 p.1 p.2 _ call
 
-pub returns-in_err-check_plan-in-Ok-clause-some : goal.returns-in_err-check_plan-in-Ok-clause-some
-returns-in_err-check_plan-in-Ok-clause-some g c = λ call bytes awaits. let p = err_from_is_err_and c.from_residual.result c.from_residual.ensures.1 in lacking_some c.from_residual.result p.0 p.1 p.2 _ call
+pub returns-in_err-tell_with_plan-in-Ok-clause-some : goal.returns-in_err-tell_with_plan-in-Ok-clause-some
+returns-in_err-tell_with_plan-in-Ok-clause-some g c = λ call bytes awaits. let p = err_from_is_err_and c.from_residual.result c.from_residual.ensures.1 in lacking_some c.from_residual.result p.0 p.1 p.2 _ call
 
-pub returns-in_err-check_plan-in-Ok-clause-holds : goal.returns-in_err-check_plan-in-Ok-clause-holds
-returns-in_err-check_plan-in-Ok-clause-holds g c = c.in-Ok.ensures.holds
+pub returns-in_err-tell_with_plan-in-Ok-clause-holds : goal.returns-in_err-tell_with_plan-in-Ok-clause-holds
+returns-in_err-tell_with_plan-in-Ok-clause-holds g c = c.in-Ok.ensures.holds
 
-pub returns-in_err-check_plan-in-Ok-clause-calls : goal.returns-in_err-check_plan-in-Ok-clause-calls
-returns-in_err-check_plan-in-Ok-clause-calls g c = c.in-Ok.ensures.calls
+pub returns-in_err-tell_with_plan-in-Ok-clause-calls : goal.returns-in_err-tell_with_plan-in-Ok-clause-calls
+returns-in_err-tell_with_plan-in-Ok-clause-calls g c = c.in-Ok.ensures.calls
 
-pub returns-in_err-check_plan-in-Ok-clause-faults : goal.returns-in_err-check_plan-in-Ok-clause-faults
-returns-in_err-check_plan-in-Ok-clause-faults g c = let p = err_from_is_err_and c.from_residual.result c.from_residual.ensures.1 in lacking c.from_residual.result p.0 p.1 p.2 _ _ _ c.in-Ok.ensures.faults
+pub returns-in_err-tell_with_plan-in-Ok-clause-faults : goal.returns-in_err-tell_with_plan-in-Ok-clause-faults
+returns-in_err-tell_with_plan-in-Ok-clause-faults g c = let p = err_from_is_err_and c.from_residual.result c.from_residual.ensures.1 in lacking c.from_residual.result p.0 p.1 p.2 _ _ _ c.in-Ok.ensures.faults
 
-pub returns-in_err-check_plan-in-Ok-clause-blamed : goal.returns-in_err-check_plan-in-Ok-clause-blamed
-returns-in_err-check_plan-in-Ok-clause-blamed g c = λ call bytes there. let p = err_from_is_err_and c.from_residual.result c.from_residual.ensures.1 in lacking c.from_residual.result p.0 p.1 p.2 ⊤ _ ⊤ tt
+pub returns-in_err-tell_with_plan-in-Ok-clause-blamed : goal.returns-in_err-tell_with_plan-in-Ok-clause-blamed
+returns-in_err-tell_with_plan-in-Ok-clause-blamed g c = λ call bytes there. let p = err_from_is_err_and c.from_residual.result c.from_residual.ensures.1 in lacking c.from_residual.result p.0 p.1 p.2 ⊤ _ ⊤ tt
 
-pub returns-in_err-check_plan-in-Ok-clause-stays_steady : goal.returns-in_err-check_plan-in-Ok-clause-stays_steady
-returns-in_err-check_plan-in-Ok-clause-stays_steady g c = c.in-Ok.ensures.stays_steady
+pub returns-in_err-tell_with_plan-in-Ok-clause-stays_steady : goal.returns-in_err-tell_with_plan-in-Ok-clause-stays_steady
+returns-in_err-tell_with_plan-in-Ok-clause-stays_steady g c = c.in-Ok.ensures.stays_steady
