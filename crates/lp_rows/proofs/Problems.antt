@@ -1,5 +1,5 @@
 -- The rows are a problem for the simplex method: no number of theirs and no sum of a column is outgrown.
-use Rattle.std.proofs.Common.{◌≡◌, ℕ, ◌+◌, ◌<◌, ◌≤◌, Bool, true, false, if◌then◌else◌, ◌==◌, length, get_or, map, All, Option, Some, None, IfSome, ℤ, pos, ◌-ℤ◌, unsigned_abs, refl, sym, ◌∙◌, ap, subst, inl, inr, arith}
+use Rattle.std.proofs.Common.{◌≡◌, ℕ, ◌+◌, ◌<◌, ◌≤◌, Bool, true, false, if◌then◌else◌, ◌==◌, length, get_or, map, All, Option, Some, None, IfSome, ℤ, pos, ◌-ℤ◌, unsigned_abs, sym, ◌∙◌, ap, subst, inl, inr, arith}
 use Rattle.std.specs.Prelude.{unwrap_or}
 use Rattle.std.proofs.lemmas.Bool.{cases_lt}
 use Rattle.std.proofs.lemmas.Int.{ints}
@@ -11,7 +11,7 @@ use Rattle.fleet_model.specs.declared.tables.Tables.{Tables}
 use Rattle.fleet_model.specs.Kept.{Domains}
 use Rattle.fleet_model.specs.Legal.{cost_of}
 use Rattle.fleet_model.specs.Limits.{IsCost, IsFleet, IsPairCost}
-use Rattle.fleet_model.specs.Schedule.{fleet_by, fleet_of, fleets_in, legs_in, no_fleet, parking_of}
+use Rattle.fleet_model.specs.Schedule.{fleet_by, fleet_of, fleets_in, legs_in, no_fleet}
 use Rattle.fleet_model.specs.Times.{laps_of}
 use Rattle.fleet_model.proofs.CostLookup.{found_fits}
 use Rattle.fleet_model.proofs.PeriodMinutes.{few_laps}
