@@ -1,6 +1,6 @@
 -- What is found of a node and of its children on other tables is what is found of the whole.
 use Rattle.std.proofs.Common.{Box, Global, ◌≡◌, ℕ, ◌+◌, ◌<◌, ◌^◌, ◌⊎◌, Bool, true, false, List, [], ◌∷◌, ◌++◌, length, Option, None, Some, ℤ, append_assoc, length-append, refl, sym, ◌∙◌, ap, subst, inl, inr, arith}
-use Rattle.std.proofs.lemmas.List.Elements.{All-append, All-cons, All-nil}
+use Rattle.std.proofs.lemmas.List.Elements.{All-append, All-nil}
 use Rattle.fleet_model.specs.Kept.{Domains, all_pairs, kept_by}
 use Rattle.fleet_model.specs.OtherSizes.{IsOtherSize}
 use Rattle.fleet_model.specs.Schedule.{IsPair, leg_on}
@@ -8,7 +8,6 @@ use Rattle.fleet_model.specs.declared.parts.Pair.{Pair}
 use Rattle.fleet_model.specs.declared.tables.Tables.{Tables}
 use Rattle.dual_bound.specs.Bound.{IsBoundIn, lesser_bound, part}
 use Rattle.dual_bound.specs.Dropping.{IsLeaf}
-use Rattle.dual_bound.specs.Leaves.{held_count}
 use Rattle.dual_bound.specs.OfTables.{IsOfTables}
 use Rattle.dual_bound.specs.declared.mixed.Mixed.{Mixed}
 use Rattle.dual_bound.specs.declared.prices.Prices.{Prices}

@@ -13,12 +13,14 @@ use Rattle.cert_check.specs.declared.what_if.WhatIf.{WhatIf}
 use Rattle.cert_check.specs.declared.what_if.WhatIf.TheVariants as what
 use Rattle.dual_bound.specs.Nodes.{nodes_of}
 use Rattle.dual_bound.specs.declared.trees.Tree.{Tree}
+use Rattle.fleet_model.proofs.OtherSizes.{other_size_stands}
 use Rattle.fleet_model.specs.Kept.{all_pairs}
 use Rattle.fleet_model.specs.OtherSizes.{IsOtherSize}
 use Rattle.fleet_model.specs.Schedule.{fleet_of}
 use Rattle.fleet_model.specs.declared.tables.Tables.{Tables}
 use Rattle.sched_read.proofs.TablesSame.{tables_same}
 use Rattle.fleet_cli.specs.Answer.{AsksChecked, AsksTree, SaysOfOther, what_if_status}
+use Rattle.fleet_cli.specs.Opened.{CanHave}
 use Rattle.fleet_cli.specs.Refusals.{says}
 use Rattle.fleet_cli.specs.Run.{IsAskedOf}
 use Rattle.fleet_cli.specs.Texts.{broken_text, what_if_text}
@@ -31,6 +33,13 @@ one_size t fleet count u v x y =
     tables_same u v (x.stations ∙ sym y.stations) (x.fleets ∙ sym y.fleets) (x.legs ∙ sym y.legs) (x.costs ∙ sym y.costs) (x.throughs ∙ sym y.throughs) (x.settings ∙ sym y.settings)
 
 module _ (t : Tables) (fleet count : ℕ) where
+  -- what is answered on whichever tables have that number is told of those that have it
+  pub says_of : CanHave t fleet count → (tree : Tree) (w : WhatIf) → ((u : Tables) → IsOtherSize t fleet count u → IsAsked u tree w)
+      → (answer : Answer) → answer ≡ says (what_if_status w) (what_if_text (fleet_of t fleet).name count w) → SaysOfOther t fleet count tree answer
+  says_of can tree w asked answer is =
+      let there = other_size_stands t fleet count can.fleet_fits can.count_fits in
+      record { other = there.0; sized = there.1; what = w; asked = asked there.0 there.1; is = is }
+
   -- ---- one answer
 
   module _ (one two : Tree) (nodes : nodes_of one ≡ nodes_of two) (answer other : Answer) where

@@ -1,5 +1,7 @@
 -- What the tables and the proof of a folder come to, by what is asked of it.
-use Rattle.std.proofs.Common.{◌≡◌, ◌⊎◌, ℕ, Bool, true, false, List, Some, None, refl, sym, subst, ◌∙◌, inl, inr}
+use Rattle.std.proofs.Common.{◌≡◌, ◌⊎◌, ℕ, Bool, true, false, List, Some, None, Result, Ok, Err, IfOk, IsOkAnd, refl, sym, subst, ◌∙◌, inl, inr}
+use mathlib.Core.Bool.{false≢true}
+use Rattle.entries.specs.declared.memory.NoMemory.{NoMemory}
 use Rattle.std.specs.Prelude.{IsSome}
 use Rattle.bound_cert.specs.ReadProof.{ReadsAs}
 use Rattle.bound_cert.specs.declared.reading.Proof.{Proof}
@@ -11,10 +13,12 @@ use Rattle.sched_read.proofs.ReadLaws as tables
 use Rattle.sched_read.specs.Reading.{Reads, TableBytes}
 use Rattle.fleet_cli.proofs.Skeletons.{never_read, says_one}
 use Rattle.fleet_cli.specs.Answer.{TellsOn, TellsProof}
-use Rattle.fleet_cli.specs.Refusals.{RefusesProof, RefusesTables, fleet_named}
+use Rattle.fleet_cli.specs.Refusals.{RefusesProof, RefusesTables, fleet_named, says}
 use Rattle.fleet_cli.specs.Contents.{FileBytes, table_bytes}
 use Rattle.fleet_cli.specs.Opened.{IsOpened, IsOpenedBy, IsOpenedOn, OpensProof, Settles, TellsAlone}
 use Rattle.fleet_cli.specs.Reading.{WantsPlan}
+use Rattle.fleet_cli.specs.Texts.{unknown_fleet_text}
+use Rattle.fleet_cli.specs.declared.status.TheConstants.{REFUSED}
 use Rattle.fleet_cli.specs.declared.answer.Answer.{Answer}
 use Rattle.fleet_cli.specs.declared.opened.Checking.{Checking}
 use Rattle.fleet_cli.specs.declared.opened.Opened.{Opened}
@@ -80,6 +84,18 @@ module _ (dir : List ℕ) (reading : TableOptions) (bytes : FileBytes) where
 
 -- ---- asking about another size
 
+-- by what a name comes to
+module _ (t : Tables) (name : List ℕ) (count : ℕ) (text : List ℕ) where
+  pub opens_unknown : fleet_named t name ≡ None → (made : Result Answer NoMemory) → IfOk made (λ answer. answer ≡ says REFUSED (unknown_fleet_text name))
+      → (o : Opened) → IsOkAnd made (λ given. o ≡ opened.Answered given) → IsOpenedOn t name count text o
+  opens_unknown unknown (Ok answer) is o given = inl (record { answer = answer; refuses = record { unknown = unknown; is = is }; is = given })
+  opens_unknown unknown (Err error) is o given = absurd given
+
+  pub opens_known : (fleet : ℕ) → fleet_named t name ≡ Some fleet → (o : Opened) → IsOpenedBy t (question.OtherSize fleet count) text o → IsOpenedOn t name count text o
+  opens_known fleet known o opens = inr (record { fleet = fleet; known = known; opens = opens })
+
+-- by the tables
+
 module _ (dir : List ℕ) (reading : TableOptions) (name : List ℕ) (count : ℕ) (bytes : FileBytes) where
   pub refused_unasked : (answer : Answer) → RefusesTables (table_bytes bytes) reading answer → Settles (Some (whatif dir reading name count)) bytes answer
   refused_unasked answer x = record {
@@ -91,7 +107,7 @@ module _ (dir : List ℕ) (reading : TableOptions) (name : List ℕ) (count : �
     -- the tables are those that want a plan
     unknown_there : (u : Tables) → Reads (table_bytes bytes) reading.settings u → fleet_named t name ≡ None → ¬ (IsSome (fleet_named u name))
     unknown_there u others unknown known =
-        subst IsSome unknown (subst (λ v. IsSome (fleet_named v name)) (tables.one_reading (table_bytes bytes) reading.settings u t others reads) known)
+        false≢true (subst IsSome unknown (subst (λ v. IsSome (fleet_named v name)) (tables.one_reading (table_bytes bytes) reading.settings u t others reads) known))
 
     of_fleet : (fleet : ℕ) → fleet_named t name ≡ Some fleet → (o : Opened) → IsOpenedBy t (question.OtherSize fleet count) (bytes file.Proof) o → IsOpened (Some (whatif dir reading name count)) bytes o
     of_fleet fleet known (opened.Answered answer) by = record {
@@ -107,7 +123,7 @@ module _ (dir : List ℕ) (reading : TableOptions) (name : List ℕ) (count : �
         refl,
         record {
           wants = wants_plan reading (table_bytes bytes) (bytes file.Proof) t (question.OtherSize fleet count) checking reads by;
-          known = subst IsSome (sym known) tt;
+          known = subst IsSome (sym known) refl;
         },
       );
       ready = by.ready;

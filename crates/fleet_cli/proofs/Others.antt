@@ -240,7 +240,7 @@ module _ (asked : Option Asked) (answer : Answer) where
     tails_said limits dates plan x = record { code = DONE; text = _; is = x.is; ends = done_ends asked }
 
     due_said : (limits : RotationLimits) (dates : AskedDates) (tails : List TailState) (plan : List ℕ) → TellsDue t limits dates tails plan answer → IsSaid asked answer
-    due_said limits dates tails plan x = record { code = due_status x.placings; text = _; is = x.is; ends = due_ends asked (are_unplaced x.placings) }
+    due_said limits dates named plan x = record { code = due_status x.placings; text = _; is = x.is; ends = due_ends asked (are_unplaced x.placings) }
 
     asked_said : (fleet count : ℕ) (tree : Tree) (v : Checked) → AsksChecked t fleet count tree v answer → IsSaid asked answer
     asked_said fleet count tree (checked.Holds bound) x = record { code = what_if_status x.what; text = _; is = x.is; ends = what_if_ends asked x.what }

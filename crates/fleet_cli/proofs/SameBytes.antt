@@ -58,7 +58,7 @@ module _ (reading : TableOptions) (bytes : TableBytes) (text plan other : List �
       map_tables answer reading bytes (AsksOn name count text plan) (AsksOn name count text other)
       (λ t reads. map_fleet answer t name (λ fleet. TellsOn (question.OtherSize fleet count) text plan t) (λ fleet. TellsOn (question.OtherSize fleet count) text other t)
       (λ fleet known. on_proof t (question.OtherSize fleet count) reads
-      (λ wants is. same (record { wants = wants; known = subst (λ u. IsSome (fleet_named u name)) (sym is) (subst IsSome (sym known) tt) }))))
+      (λ wants is. same (record { wants = wants; known = subst (λ u. IsSome (fleet_named u name)) (sym is) (subst IsSome (sym known) refl) }))))
 
 pub same_follows : (asked : Option Asked) (bytes other : FileBytes) → ((f : DeskFile) → IsAmong (first_files asked) f → bytes f ≡ other f) → (f : DeskFile) → Follows asked bytes f → Follows asked other f
 same_follows None bytes other same f follows = follows

@@ -1,6 +1,7 @@
 -- What is read one after the other: one answer, what follows of it, and that what is good is not refused. Each of these
 -- once, for whatever is answered on what was read.
 use Rattle.std.proofs.Common.{◌≡◌, ℕ, ◌+◌, ◌-◌, Bool, List, length, Option, Some, None, Err, Ok, refl, sym, ap, subst, ◌∙◌, inl, inr, arith, map}
+use mathlib.Core.Bool.{false≢true}
 use Rattle.std.specs.Prelude.{IsSome}
 use Rattle.std.proofs.lemmas.Option.{same_Some}
 use Rattle.bound_cert.specs.Lines.{Reading, Stopped, left_of}
@@ -204,7 +205,7 @@ module _ (answer : Answer) where
 
     -- the fleet that is there is some fleet
     pub there_fleet : (name : List ℕ) (finish : ℕ → Answer → Type 0) → IsSome (fleet_named t name) → OnFleet t name finish answer → (fleet : ℕ) × finish fleet answer
-    there_fleet name finish known (inl x) = absurd (subst IsSome x.unknown known)
+    there_fleet name finish known (inl x) = absurd (false≢true (subst IsSome x.unknown known))
     there_fleet name finish known (inr x) = (x.fleet, x.finishes)
 
     pub there_plan : (bytes : List ℕ) (finish : List ℕ → Answer → Type 0) (plan : List ℕ) → PlanReads t (records_of bytes) plan → OnPlan t bytes finish answer → finish plan answer

@@ -196,15 +196,15 @@ pub record TellsDue (t : Tables) (limits : RotationLimits) (dates : AskedDates) 
 
 -- telling named tails, by the bytes of the plan
 abbrev pub DueWith : RotationLimits → AskedDates → List ℕ → Tables → List TailState → Answer → Type 0
-DueWith limits dates plan t tails = OnPlan t plan (OnLegal t (TellsDue t limits dates tails))
+DueWith limits dates plan t named = OnPlan t plan (OnLegal t (TellsDue t limits dates named))
 
 -- telling them on tables, by the bytes of the table of tails too
 abbrev pub DueOn : RotationLimits → AskedDates → List ℕ → List ℕ → Tables → Answer → Type 0
-DueOn limits dates tails plan t = OnTails t tails (DueWith limits dates plan t)
+DueOn limits dates named plan t = OnTails t named (DueWith limits dates plan t)
 
 -- telling them by the bytes of the tables, of the table of tails and of the plan
 abbrev pub DueOf : TableOptions → RotationLimits → AskedDates → TableBytes → List ℕ → List ℕ → Answer → Type 0
-DueOf reading limits dates bytes tails plan = OnTables reading bytes (DueOn limits dates tails plan)
+DueOf reading limits dates bytes named plan = OnTables reading bytes (DueOn limits dates named plan)
 
 -- ---- what the program answers
 
