@@ -110,6 +110,7 @@ module _ (dir : List ℕ) (reading : TableOptions) (name : List ℕ) (count : �
         false≢true (subst IsSome unknown (subst (λ v. IsSome (fleet_named v name)) (tables.one_reading (table_bytes bytes) reading.settings u t others reads) known))
 
     of_fleet : (fleet : ℕ) → fleet_named t name ≡ Some fleet → (o : Opened) → IsOpenedBy t (question.OtherSize fleet count) (bytes file.Proof) o → IsOpened (Some (whatif dir reading name count)) bytes o
+    unfolding wants_plan
     of_fleet fleet known (opened.Answered answer) by = record {
       no_more = λ f follows. never_wanted reading (table_bytes bytes) (bytes file.Proof) t (question.OtherSize fleet count) answer reads by follows.1.wants;
       answers = inr (record {
