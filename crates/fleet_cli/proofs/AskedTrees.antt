@@ -1,12 +1,11 @@
 -- What is told of a tree that is asked about another number of aircraft: one answer, and what it means.
-use Rattle.std.proofs.Common.{◌≡◌, ℕ, List, Option, Some, None, ℤ, refl, sym, ap, subst, ◌∙◌, inl, inr}
+use Rattle.std.proofs.Common.{◌≡◌, ℕ, Option, ℤ, refl, sym, ap, subst, ◌∙◌, inl, inr}
 use Rattle.cert_check.proofs.OneAsked.{one_asked}
 use Rattle.cert_check.proofs.OneVerdict.{one_verdict}
-use Rattle.cert_check.proofs.OtherSizes.{bounds_there}
 use Rattle.cert_check.proofs.SplitsAbove.{are_sound_but_priced}
-use Rattle.cert_check.specs.OtherSizes.{IsAsked, StandsWith, answer_of}
+use Rattle.cert_check.specs.OtherSizes.{IsAsked}
 use Rattle.cert_check.specs.Splits.{AreSoundButPriced}
-use Rattle.cert_check.specs.Verdicts.{BoundsAll, IsChecked}
+use Rattle.cert_check.specs.Verdicts.{IsChecked}
 use Rattle.cert_check.specs.declared.checked.Checked.{Checked}
 use Rattle.cert_check.specs.declared.checked.Checked.TheVariants as checked
 use Rattle.cert_check.specs.declared.what_if.WhatIf.{WhatIf}
@@ -23,9 +22,8 @@ use Rattle.fleet_cli.specs.Answer.{AsksChecked, AsksTree, SaysOfOther, what_if_s
 use Rattle.fleet_cli.specs.Opened.{CanHave}
 use Rattle.fleet_cli.specs.Refusals.{says}
 use Rattle.fleet_cli.specs.Run.{IsAskedOf}
-use Rattle.fleet_cli.specs.Texts.{broken_text, what_if_text}
+use Rattle.fleet_cli.specs.Texts.{what_if_text}
 use Rattle.fleet_cli.specs.declared.answer.Answer.{Answer}
-use Rattle.fleet_cli.specs.declared.status.TheConstants.{DONE}
 
 -- the tables of another size are one
 one_size : (t : Tables) (fleet count : ℕ) (u v : Tables) → IsOtherSize t fleet count u → IsOtherSize t fleet count v → u ≡ v

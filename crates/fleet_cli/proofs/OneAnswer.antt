@@ -31,7 +31,7 @@ use Rattle.fleet_cli.proofs.AskedTrees.{asked_of, one_told}
 use Rattle.fleet_cli.proofs.OpenFacts.{no_plan_alone}
 use Rattle.fleet_cli.proofs.SameBytes.{follows_plan}
 use Rattle.fleet_cli.proofs.Skeletons.{one_fleet, one_legal, one_plan, one_proof, one_tables, one_tails, there_fleet, there_legal, there_plan, there_proof, there_tables, there_tails}
-use Rattle.fleet_cli.specs.Answer.{Answers, AnswersOf, AnswersSome, Asks, AsksOn, AsksTree, Checks, ChecksTree, DueOf, DueOn, DueWith, GivesSolution, Judges, JudgesOn, JudgesPlan, Solves, TailsOf, TailsOn, TellsDue, TellsOn, TellsProof, TellsRead, TellsTails, TellsTree, TellsWith, checked_status, due_status}
+use Rattle.fleet_cli.specs.Answer.{Answers, AnswersOf, AnswersSome, Asks, AsksOn, Checks, ChecksTree, DueOf, DueOn, DueWith, GivesSolution, Judges, JudgesOn, JudgesPlan, Solves, TailsOf, TailsOn, TellsDue, TellsOn, TellsProof, TellsRead, TellsTails, TellsTree, TellsWith, checked_status, due_status}
 use Rattle.fleet_cli.specs.Contents.{FileBytes, bytes_in, table_bytes}
 use Rattle.fleet_cli.specs.Gathered.{AllStand, IsHeld}
 use Rattle.fleet_cli.specs.Laws.{IsFixed}

@@ -1,6 +1,5 @@
 -- What it means where a proof is asked about another number of aircraft, and a bound is told or that there is no plan.
-use Rattle.std.proofs.Common.{◌≡◌, ℕ, Bool, true, false, List, Option, Some, None, ℤ, refl, sym, ap, ◌∙◌, inl, inr, arith}
-use Rattle.bound_cert.specs.declared.reading.Proof.{Proof}
+use Rattle.std.proofs.Common.{◌≡◌, ℕ, Bool, true, false, List, Option, Some, None, ℤ, sym, ap, ◌∙◌, inl, inr, arith}
 use Rattle.dual_bound.specs.declared.trees.Tree.{Tree}
 use Rattle.cert_check.proofs.OtherSizes.{bounds_there}
 use Rattle.cert_check.proofs.SplitsAbove.{are_sound_but_priced}
@@ -29,9 +28,9 @@ use Rattle.fleet_cli.specs.Contents.{bytes_in, table_bytes}
 use Rattle.fleet_cli.specs.Gathered.{AllStand}
 use Rattle.fleet_cli.specs.Headline.{TellsOther}
 use Rattle.fleet_cli.specs.Reading.{proof_files}
-use Rattle.fleet_cli.specs.Refusals.{fleet_named, says}
-use Rattle.fleet_cli.specs.Skeletons.{OnFleet, OnLegal}
-use Rattle.fleet_cli.specs.Texts.{broken_text, what_if_text}
+use Rattle.fleet_cli.specs.Refusals.{says}
+use Rattle.fleet_cli.specs.Skeletons.{OnLegal}
+use Rattle.fleet_cli.specs.Texts.{what_if_text}
 use Rattle.fleet_cli.specs.declared.answer.Answer.{Answer}
 use Rattle.fleet_cli.specs.declared.opened.Question.TheVariants as question
 use Rattle.fleet_cli.specs.declared.status.TheConstants.{DONE}

@@ -35,9 +35,9 @@ use Rattle.fleet_cli.proofs.OneAnswer.{solution_status}
 use Rattle.due_report.specs.Placings.{are_unplaced}
 use Rattle.tail_dates.specs.declared.tails.TailState.{TailState}
 use Rattle.fleet_cli.proofs.Skeletons.{either_legal, either_plan, either_proof, either_tables, either_tails}
-use Rattle.fleet_cli.specs.Answer.{Answers, AnswersOf, AnswersSome, ChecksTree, DueOn, DueWith, GivesSolution, JudgesOn, JudgesPlan, Makes, TailsOn, TellsDue, TellsTails, checked_status, due_status}
+use Rattle.fleet_cli.specs.Answer.{Answers, AnswersOf, AnswersSome, DueOn, DueWith, GivesSolution, JudgesOn, JudgesPlan, Makes, TailsOn, TellsDue, TellsTails, checked_status, due_status}
 use Rattle.fleet_cli.proofs.Skeletons.{either_fleet, either_legal, either_plan, either_proof, either_tables}
-use Rattle.fleet_cli.specs.Answer.{Answers, AnswersOf, AnswersSome, AsksChecked, AsksOn, AsksTree, ChecksTree, GivesSolution, JudgesOn, JudgesPlan, Makes, TailsOn, TellsOn, TellsProof, TellsRead, TellsTails, TellsTree, TellsWith, checked_status, what_if_status}
+use Rattle.fleet_cli.specs.Answer.{Answers, AnswersOf, AnswersSome, AsksChecked, AsksOn, GivesSolution, JudgesOn, JudgesPlan, Makes, TailsOn, TellsOn, TellsProof, TellsRead, TellsTails, TellsTree, TellsWith, checked_status, what_if_status}
 use Rattle.fleet_cli.specs.Contents.{FileBytes, table_bytes}
 use Rattle.fleet_cli.specs.Making.{after_files, made_files}
 use Rattle.fleet_cli.specs.Reading.{folder_of, solution_files, tables_and, written_files}

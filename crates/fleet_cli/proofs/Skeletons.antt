@@ -1,6 +1,6 @@
 -- What is read one after the other: one answer, what follows of it, and that what is good is not refused. Each of these
 -- once, for whatever is answered on what was read.
-use Rattle.std.proofs.Common.{◌≡◌, ℕ, ◌+◌, ◌-◌, Bool, List, length, Option, Some, None, Err, Ok, refl, sym, ap, subst, ◌∙◌, inl, inr, arith, map}
+use Rattle.std.proofs.Common.{◌≡◌, ℕ, ◌+◌, ◌-◌, Bool, List, length, Some, None, Err, Ok, refl, sym, ap, subst, ◌∙◌, inl, inr, arith, map}
 use mathlib.Core.Bool.{false≢true}
 use Rattle.std.specs.Prelude.{IsSome}
 use Rattle.std.proofs.lemmas.Option.{same_Some}
