@@ -28,8 +28,11 @@ pub overflow_add-place : goal.overflow_add-place
 overflow_add-place c =
     let day : c.from-3.result < 4294967296 = omega (arith, c.from-3.ensures, c.ranges.day.fits) in
     let few : length c.as_slice-lines.result.now * 24 < 9223372036854775808 = c.as_slice-lines.type_inv.1 in
-    omega (arith, few_lines c.as_slice-lines.result.now c.args.flown.now.lines c.args.first c.from-3.result (c.args.flown.now.used * days_in c.args.tables.now)
-    c.as_slice-lines.ensures c.requires.flown.each_day c.requires.first few day)
+    omega (
+      arith,
+      few_lines c.as_slice-lines.result.now c.args.flown.now.lines c.args.first c.from-3.result (c.args.flown.now.used * days_in c.args.tables.now)
+          c.as_slice-lines.ensures c.requires.flown.each_day c.requires.first few day,
+    )
 
 pub returns-clause-value : goal.returns-clause-value
 returns-clause-value c =
