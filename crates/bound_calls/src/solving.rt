@@ -101,7 +101,7 @@ fn told(solved: &Solved) -> Answer {
     }
 }
 
-const fn planned(cost: i128, bound: i128, splits: u64) -> Answer {
+fn planned(cost: i128, bound: i128, splits: u64) -> Answer {
     Answer {
         cost: Some(cost),
         bound: Some(bound),
@@ -109,7 +109,7 @@ const fn planned(cost: i128, bound: i128, splits: u64) -> Answer {
     }
 }
 
-const fn infeasible(splits: u64) -> Answer {
+fn infeasible(splits: u64) -> Answer {
     Answer {
         cost: None,
         bound: None,
@@ -117,7 +117,7 @@ const fn infeasible(splits: u64) -> Answer {
     }
 }
 
-const fn unsettled(bound: i128, splits: u64) -> Answer {
+fn unsettled(bound: i128, splits: u64) -> Answer {
     Answer {
         cost: None,
         bound: Some(bound),
@@ -234,18 +234,18 @@ fn a_third_fleet_flies_what_is_left(rt: HostRuntime) -> Result<(), Fail> {
     assert_answer(&rt, &OVERLAPPING_TRIPS, 0, unsettled(60, 0))
 }
 
-/// Tables, the most splits, and the answer where there is no budget of pivots.
-type Row = (Files, u64, Answer);
+/// Tables, the most splits, and the cost, the bound and the splits where there is no budget of pivots.
+type Row = (Files, u64, Option<i128>, Option<i128>, u64);
 
 const WITHOUT_A_BUDGET: &[Row] = &[
-    (ROUND_TRIP, ENOUGH, planned(200, 200, 0)),
-    (ROUND_TRIP, 0, planned(200, 200, 0)),
-    (NO_AIRCRAFT, ENOUGH, infeasible(0)),
-    (TWO_FLEETS, ENOUGH, infeasible(1)),
-    (TWO_FLEETS, 0, unsettled(60, 0)),
-    (OVERLAPPING_TRIPS, ENOUGH, planned(140, 140, 2)),
-    (OVERLAPPING_TRIPS, 1, planned(140, 100, 1)),
-    (AT_ONCE, 0, infeasible(0)),
+    (ROUND_TRIP, ENOUGH, Some(200), Some(200), 0),
+    (ROUND_TRIP, 0, Some(200), Some(200), 0),
+    (NO_AIRCRAFT, ENOUGH, None, None, 0),
+    (TWO_FLEETS, ENOUGH, None, None, 1),
+    (TWO_FLEETS, 0, None, Some(60), 0),
+    (OVERLAPPING_TRIPS, ENOUGH, Some(140), Some(140), 2),
+    (OVERLAPPING_TRIPS, 1, Some(140), Some(100), 1),
+    (AT_ONCE, 0, None, None, 0),
 ];
 
 /// What the solver says of tables with no budget of pivots, and how many leaves are open for pivots.
@@ -260,9 +260,14 @@ fn answer_without_budget(
 
 #[test]
 fn without_a_budget_no_leaf_is_open_for_pivots(rt: HostRuntime) -> Result<(), Fail> {
-    for (files, nodes, wanted) in WITHOUT_A_BUDGET {
+    for (files, nodes, cost, bound, splits) in WITHOUT_A_BUDGET {
         let seen = answer_without_budget(rt.alloc(), files, *nodes)?;
-        assert_same(&rt, seen, (*wanted, 0));
+        let wanted = Answer {
+            cost: *cost,
+            bound: *bound,
+            splits: *splits,
+        };
+        assert_same(&rt, seen, (wanted, 0));
     }
     Ok(())
 }
