@@ -101,7 +101,7 @@ fn told(solved: &Solved) -> Answer {
     }
 }
 
-fn planned(cost: i128, bound: i128, splits: u64) -> Answer {
+const fn planned(cost: i128, bound: i128, splits: u64) -> Answer {
     Answer {
         cost: Some(cost),
         bound: Some(bound),
@@ -109,7 +109,7 @@ fn planned(cost: i128, bound: i128, splits: u64) -> Answer {
     }
 }
 
-fn infeasible(splits: u64) -> Answer {
+const fn infeasible(splits: u64) -> Answer {
     Answer {
         cost: None,
         bound: None,
@@ -117,7 +117,7 @@ fn infeasible(splits: u64) -> Answer {
     }
 }
 
-fn unsettled(bound: i128, splits: u64) -> Answer {
+const fn unsettled(bound: i128, splits: u64) -> Answer {
     Answer {
         cost: None,
         bound: Some(bound),
