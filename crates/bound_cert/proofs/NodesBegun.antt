@@ -32,6 +32,7 @@ use Rattle.sums.proofs.Naturals.{first_same}
 use Rattle.bound_cert.specs.declared.nodes.Head.TheVariants as head
 use Rattle.dual_bound.specs.declared.nodes.Node.TheVariants as node
 use Rattle.proof_lines.specs.declared.line.Line.TheVariants as says
+use Rattle.sums.proofs.Tests.{at_most_one}
 
 -- how many trims and splits a node is
 abbrev inner_of : Node → ℕ
@@ -127,13 +128,9 @@ module _ (v : Version) (t : Tables) where
   inner_counts : (above : ℕ) (x : List ℕ) (p a : Left) (read : Node × Left) → node_at (names v t) above (x ∷ a) ≡ Ok read → inner_of read.0 + count_by is_inner_line p ≤ count_by is_inner_line (x ∷ p)
   inner_counts above x p a read e = by_size (inner_of read.0) refl
     where
-      one : (b : Bool) → (if b then 1 else 0) ≤ 1
-      one true = omega arith
-      one false = omega arith
-
       by_size : (k : ℕ) → inner_of read.0 ≡ k → inner_of read.0 + count_by is_inner_line p ≤ count_by is_inner_line (x ∷ p)
       by_size zero none = omega (arith, none, count_cons x p)
-      by_size (suc k) some = omega (arith, one (is_inner read.0), count_inner x p (inner_first above x a read e (omega (arith, some))))
+      by_size (suc k) some = omega (arith, at_most_one (is_inner read.0), count_inner x p (inner_first above x a read e (omega (arith, some))))
 
   lines_count : (n : Node) → IsNodeInOrder t n → inner_of n ≤ count_by is_inner_line (texts t (node_lines t n))
   lines_count (node.Trim leg fleet) order = omega (arith, count_inner (line_bytes t (says.Trim leg fleet)) [] (inner_line (says.Trim leg fleet) order refl))

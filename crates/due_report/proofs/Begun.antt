@@ -1,5 +1,5 @@
 -- Tails that are placed begin with lines of the tour.
-use Rattle.std.proofs.Common.{◌≡◌, ◌==◌, ℕ, ◌*◌, ◌<◌, List, filter, length, slice_index, sym, subst, ap, ◌∙◌, mul-lt-mul_of_pos_right, arith}
+use Rattle.std.proofs.Common.{◌≡◌, ◌==◌, ℕ, ◌*◌, ◌<◌, List, filter, length, sym, subst, ◌∙◌, mul-lt-mul_of_pos_right, arith}
 use Rattle.std.proofs.lemmas.List.{length-map}
 use Rattle.fleet_model.proofs.PeriodMinutes.{some_days}
 use Rattle.fleet_model.specs.Counts.{weights_of}

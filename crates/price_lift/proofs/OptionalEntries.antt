@@ -2,7 +2,7 @@
 use Rattle.std.proofs.Common.{◌≡◌, ℕ, zero, suc, ◌+◌, ◌<◌, ◌≤◌, Bool, true, false, if◌then◌else◌, List, [], ◌∷◌, ◌++◌, length, get_or, sym, ◌∙◌, ap, subst, inl, inr, length-append, arith}
 use Rattle.std.proofs.lemmas.Bool.{cases_lt}
 use Rattle.std.proofs.lemmas.List.{get_or_append_left}
-use Rattle.sums.proofs.Tests.{by_test}
+use Rattle.sums.proofs.Tests.{at_most_one, by_test}
 use Rattle.sums.proofs.Naturals.{plus_0}
 use Rattle.lp_rows.specs.Layout.{concat_below}
 use Rattle.lp_rows.proofs.ListPlaces.{at_right}
@@ -22,13 +22,9 @@ module _ {X : Type 0} (there : ℕ → Bool) (entry : ℕ → X) where
   rank_there : (n : ℕ) → there n ≡ true → rank (suc n) ≡ rank n + 1
   rank_there n e = next_rank n ∙ ap (λ b. rank n + (if b then 1 else 0)) e
 
-  at_most : (b : Bool) → (if b then 1 else 0) ≤ 1
-  at_most true = omega arith
-  at_most false = omega arith
-
   pub few_there : (n : ℕ) → rank n ≤ n
   few_there zero = omega arith
-  few_there (suc n) = omega (arith, few_there n, next_rank n, at_most (there n))
+  few_there (suc n) = omega (arith, few_there n, next_rank n, at_most_one (there n))
 
   -- an entry that is there stands at its rank
   pub stands : (n k : ℕ) (d : X) → k < n → there k ≡ true → (rank k < rank n) × (get_or (concat_below where_there n) (rank k) d ≡ entry k)

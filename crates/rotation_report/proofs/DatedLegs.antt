@@ -26,7 +26,7 @@ use Rattle.rotation_report.specs.Tails.{line_on, lines_by}
 use Rattle.rotation_report.proofs.RoundLines.{all_once, has_lines, round_from}
 use Rattle.sums.specs.Below.{sum_below}
 use Rattle.sums.specs.Places.{list_below}
-use Rattle.sums.proofs.Blocks.{one_block_more}
+use Rattle.sums.proofs.Blocks.{no_block, one_block_more}
 use Rattle.sums.proofs.Naturals.{equal_number}
 use Rattle.sums.proofs.NumberTests.{greater_differs, less_differs}
 use Rattle.sums.proofs.Places.{get_or-list_below, length-list_below, list_below-agree}
@@ -79,10 +79,7 @@ module _ (g : ℕ → List ℕ) (place size : ℕ) (within : place < size) where
       here = ap (λ r. where_so (r == place) (g (m * size + place))) (rest_of m place within) ∙ ap (λ b. where_so b (g (m * size + place))) (equal_number place place refl)
 
   pub one_each_block : (n : ℕ) → concat (list_below at_place (n * size)) ≡ concat (list_below (λ m. g (m * size + place)) n)
-  one_each_block zero = ap (λ n. concat (list_below at_place n)) (none size)
-    where
-      none : (size : ℕ) → 0 * size ≡ 0
-      none size = omega arith
+  one_each_block zero = ap (λ n. concat (list_below at_place n)) (no_block size)
   one_each_block (suc n) =
       one_block n ∙ ap (λ xs. xs ++ g (n * size + place)) (one_each_block n) ∙ sym (joined_more (λ m. g (m * size + place)) n)
 
